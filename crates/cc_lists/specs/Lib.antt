@@ -1,0 +1,4 @@
+pub mod Members
+pub mod Counts
+pub mod Least
+pub mod Faults

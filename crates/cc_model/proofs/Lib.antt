@@ -1,0 +1,5 @@
+pub mod Tellings
+pub mod Reaching
+pub mod Draining
+pub mod Rounds
+pub mod UnitsEnd

@@ -1,0 +1,124 @@
+-- What a graph reaches, by its own rules, is the least set of its list of rules.
+use Rattle.std.specs.List.{flat_map}
+use Rattle.std.proofs.Common.{◌≡◌, ℕ, zero, suc, ◌+◌, List, [], ◌∷◌, ◌++◌, map, Option, Some, None, refl, sym, ap, subst, inl, inr, ⊎_elim, slice_index_or, slice_get, option_map, arith}
+use Rattle.std.specs.Option.{option_and_then}
+use Rattle.cc_lists.specs.Members.{Among}
+use Rattle.cc_lists.specs.Least.{Least}
+use Rattle.cc_lists.proofs.Members.{Among-map, Among-map_cases, Among-left, Among-right, Among-append, Among-flat_map, Among-flat_map_cases}
+use Rattle.cc_lists.proofs.Least.{derive-root, derive-along, derive-jointly, derived-within}
+use Rattle.cc_names.specs.declared.name.Name.{Name}
+use Rattle.cc_names.specs.declared.name.Name.TheVariants.{Native, Script, Reflector}
+use Rattle.cc_names.specs.declared.register.Reg.{Reg}
+use Rattle.cc_names.specs.declared.register.Reg.TheVariants.{N, S}
+use Rattle.cc_names.specs.Names.{native, object, reflector}
+use Rattle.cc_model.specs.Slots.{Slots, contents, from_to}
+use Rattle.cc_model.specs.Entries.{Entry, joint, joints}
+use Rattle.cc_model.specs.Checks.{slots_or_none}
+use Rattle.cc_model.specs.Graph.{Graph, GraphNative, GraphScript, numbered, native_in, script_in, slots_of_script, register}
+use Rattle.cc_model.specs.Reached.{Reached, held, edge, value, edges_of, kept_reflector, native_behind, edges_from, all_edges, names_of, numbers_from, with_reflector, roots_of, reach_rules}
+
+-- what stands at a place of the registers is among their contents
+content-at : (x : Name) (slots : Slots) (r : ℕ) → slice_index_or slots r None ≡ Some x → Among x (contents slots)
+content-at x [] r e = let bad : None ≡ Some x = e in cc
+content-at x (o ∷ slots) zero e = at o e
+  where
+    at : (p : Option Name) → p ≡ Some x → Among x (contents (p ∷ slots))
+    at None q = cc
+    at (Some y) q = inl cc
+content-at x (o ∷ slots) (suc r) e = later o (content-at x slots r e)
+  where
+    later : (p : Option Name) → Among x (contents slots) → Among x (contents (p ∷ slots))
+    later None m = m
+    later (Some y) m = inr m
+
+-- and what is among the contents stands at a place
+content-place : (x : Name) (slots : Slots) → Among x (contents slots) → (r : ℕ) × (slice_index_or slots r None ≡ Some x)
+content-place x [] m = absurd m
+content-place x (None ∷ slots) m = let k = content-place x slots m in (suc k.0, k.1)
+content-place x (Some y ∷ slots) m =
+    ⊎_elim (λ e. (0, ap (λ z. Some z) e)) (λ t. let k = content-place x slots t in (suc k.0, k.1)) m
+
+-- a number at which a member stands is one of the numbers of the members
+numbers-get : {X : Type 0} (xs : List X) (k i : ℕ) (x : X) → slice_get xs i ≡ Some x → Among (k + i) (numbers_from k xs)
+numbers-get [] k i x e = let bad : None ≡ Some x = e in cc
+numbers-get (y ∷ ys) k zero x e = inl (omega arith)
+numbers-get (y ∷ ys) k (suc i) x e = inr (subst (λ n. Among n (numbers_from (k + 1) ys)) (omega arith) (numbers-get ys (k + 1) i x e))
+
+numbers-of : {X : Type 0} (xs : List X) (k : ℕ) (x : X) → numbered xs k ≡ Some x → Among k (numbers_from 1 xs)
+numbers-of xs zero x e = let bad : None ≡ Some x = e in cc
+numbers-of xs (suc i) x e = subst (λ n. Among n (numbers_from 1 xs)) (omega arith) (numbers-get xs 1 i x e)
+
+-- the slots of what may be there
+abbrev slots_of : Option GraphNative → Option Slots
+slots_of o = option_map (λ n. n.slots) o
+
+abbrev slots_of_object : Option GraphScript → Option Slots
+slots_of_object o = option_and_then slots_of_script o
+
+abbrev slots_of_reflector : Option GraphNative → Option Slots
+slots_of_reflector o = option_and_then (λ n. n.reflector) o
+
+-- an object that has an edge stands among the names of all objects
+with-edge-named : (g : Graph) (x y : Name) → Among y (edges_of g x) → Among x (names_of g)
+with-edge-named g (Native k) y m = go (native_in g k.0) refl m
+  where
+    go : (o : Option GraphNative) → native_in g k.0 ≡ o → Among y (contents (slots_or_none (slots_of o)) ++ kept_reflector k.0 o) → Among (native k.0) (names_of g)
+    go None e i = absurd i
+    go (Some n) e i = Among-left (native k.0) (flat_map with_reflector (numbers_from 1 g.natives)) (map object (numbers_from 1 g.scripts))
+        (Among-flat_map with_reflector k.0 (native k.0) (numbers_from 1 g.natives) (numbers-of g.natives k.0 n e) (inl refl))
+with-edge-named g (Script k) y m = go (script_in g k.0) refl m
+  where
+    go : (o : Option GraphScript) → script_in g k.0 ≡ o → Among y (contents (slots_or_none (slots_of_object o)) ++ []) → Among (object k.0) (names_of g)
+    go None e i = absurd i
+    go (Some n) e i = Among-right (object k.0) (flat_map with_reflector (numbers_from 1 g.natives)) (map object (numbers_from 1 g.scripts))
+        (Among-map object k.0 (numbers_from 1 g.scripts) (numbers-of g.scripts k.0 n e))
+with-edge-named g (Reflector k) y m = go (native_in g k.0) refl m
+  where
+    go : (o : Option GraphNative) → native_in g k.0 ≡ o → Among y (contents (slots_or_none (slots_of_reflector o)) ++ native_behind k.0 o) → Among (reflector k.0) (names_of g)
+    go None e i = absurd i
+    go (Some n) e i = Among-left (reflector k.0) (flat_map with_reflector (numbers_from 1 g.natives)) (map object (numbers_from 1 g.scripts))
+        (Among-flat_map with_reflector k.0 (reflector k.0) (numbers_from 1 g.natives) (numbers-of g.natives k.0 n e) (inr (inl refl)))
+
+root-among : (g : Graph) (r : Reg) (x : Name) → register g r ≡ Some x → Among x (roots_of g)
+root-among g (N r) x e = Among-left x (contents g.native_registers) (contents g.script_registers) (content-at x g.native_registers r e)
+root-among g (S r) x e = Among-right x (contents g.native_registers) (contents g.script_registers) (content-at x g.script_registers r e)
+
+-- what is reached is derived
+pub reached-derived : (g : Graph) (x : Name) → Reached g x → Least (reach_rules g) x
+reached-derived g _ (held r x e) = derive-root (roots_of g) (all_edges g) (joints g.entries) x (root-among g r x e)
+reached-derived g _ (edge x y d m) = derive-along (roots_of g) (all_edges g) (joints g.entries) x y
+    (Among-flat_map (edges_from g) x (from_to x y) (names_of g) (with-edge-named g x y m) (Among-map (from_to x) y (edges_of g x) m))
+    (reached-derived g x d)
+reached-derived g _ (value e m a b) = derive-jointly (roots_of g) (all_edges g) (joints g.entries) (e.the_map ∷ e.key ∷ []) e.value
+    (Among-map joint e g.entries m)
+    (λ z i. ⊎_elim
+    (λ p. subst (Least (reach_rules g)) p (reached-derived g e.the_map a))
+    (λ t. ⊎_elim (λ p. subst (Least (reach_rules g)) p (reached-derived g e.key b)) (λ n. absurd n) t) i)
+
+root-reached : (g : Graph) (x : Name) → Among x (roots_of g) → Reached g x
+root-reached g x m = ⊎_elim
+    (λ l. let k = content-place x g.native_registers l in held (N k.0) x k.1)
+    (λ r. let k = content-place x g.script_registers r in held (S k.0) x k.1)
+    (Among-append x (contents g.native_registers) (contents g.script_registers) m)
+
+edge-reached : (g : Graph) (x y : Name) → Among (x, y) (all_edges g) → Reached g x → Reached g y
+edge-reached g x y m d =
+    let k = Among-flat_map_cases (edges_from g) (names_of g) (x, y) m in
+    let l = Among-map_cases (from_to k.0) (edges_of g k.0) (x, y) k.2 in
+    let source : k.0 ≡ x = ap (λ (p : Name × Name). p.0) l.2 in
+    let target : l.0 ≡ y = ap (λ (p : Name × Name). p.1) l.2 in
+    subst (Reached g) target (edge k.0 l.0 (subst (Reached g) (sym source) d) l.1)
+
+entry-reached : (g : Graph) (ps : List Name) (y : Name) → Among (ps, y) (joints g.entries) → ((x : Name) → Among x ps → Reached g x) → Reached g y
+entry-reached g ps y m f =
+    let k = Among-map_cases joint g.entries (ps, y) m in
+    let e : Entry = k.0 in
+    let premises : (e.the_map ∷ e.key ∷ []) ≡ ps = ap (λ (p : List Name × Name). p.0) k.2 in
+    let target : e.value ≡ y = ap (λ (p : List Name × Name). p.1) k.2 in
+    subst (Reached g) target (value e k.1
+    (f e.the_map (subst (Among e.the_map) premises (inl refl)))
+    (f e.key (subst (Among e.key) premises (inr (inl refl)))))
+
+-- what is derived is reached
+pub derived-reached : (g : Graph) (x : Name) → Least (reach_rules g) x → Reached g x
+derived-reached g = derived-within (roots_of g) (all_edges g) (joints g.entries) (Reached g) (root-reached g) (edge-reached g) (entry-reached g)

@@ -1,0 +1,116 @@
+-- Slices, whole collections, and `gc`.
+use Rattle.std.specs.Prelude.{ℕ, zero, suc, ◌+◌, Bool, true, false, List, [], ◌∷◌, ◌++◌, length, Option, Some, None, is_some}
+use Rattle.cc_names.specs.Allowance.{Allowance}
+use Rattle.cc_model.specs.declared.item.Event.{Event}
+use Rattle.cc_model.specs.declared.item.Refusal.TheVariants.{NoMemory}
+use Rattle.cc_model.specs.declared.item.Reply.{Reply}
+use Rattle.cc_model.specs.declared.item.Reply.TheVariants.{Done, Refused}
+use Rattle.cc_model.specs.Heap.{Heap, Outcome, empty_heap}
+use Rattle.cc_model.specs.View.{view}
+use Rattle.cc_model.specs.Sweep.{collect_scripts}
+use Rattle.cc_model.specs.Snapshot.{Snapshot}
+use Rattle.cc_model.specs.Units.{first_names}
+use Rattle.cc_model.specs.End.{Progress, went_on, at_end, refused, UnitDone, unit, may_be_refused}
+
+-- the heaps, the running collection, and the answers of memory that are left
+pub record Machine : Type 0 where
+  pub heap : Heap
+  pub snapshot : Option Snapshot
+  pub memory : List Bool
+
+abbrev pub empty_machine : Allowance → List Bool → Machine
+empty_machine limits memory = record { heap = empty_heap limits; snapshot = None; memory = memory }
+
+-- an answer of memory; where the list has ended, memory is there
+abbrev pub next_answer : List Bool → Bool
+next_answer [] = true
+next_answer (b ∷ bs) = b
+
+abbrev pub later_answers : List Bool → List Bool
+later_answers [] = []
+later_answers (b ∷ bs) = bs
+
+-- Units one after the other
+
+-- what was told so far, and what the last of them came to
+pub record UnitsDone : Type 0 where
+  pub machine : Machine
+  pub events : List Event
+  pub progress : Progress
+
+abbrev pub no_units : Machine → UnitsDone
+no_units m = record { machine = m; events = []; progress = went_on }
+
+-- memory is asked only where the unit may be refused
+abbrev pub memory_after : Machine → List Bool
+memory_after m = elim (may_be_refused m.heap m.snapshot) [ true ↦ later_answers m.memory | false ↦ m.memory ]
+
+abbrev pub with_unit : Machine → List Event → UnitDone → UnitsDone
+with_unit m events u = record {
+  machine = record { heap = u.heap; snapshot = u.snapshot; memory = memory_after m };
+  events = events ++ u.events;
+  progress = u.progress;
+}
+
+abbrev pub one_unit : Machine → List Event → UnitsDone
+one_unit m events = with_unit m events (unit m.heap m.snapshot (next_answer m.memory))
+
+-- n units, or fewer where one ends the collection or is refused
+unfoldable pub units_done : ℕ → UnitsDone → UnitsDone
+units_done zero d = d
+units_done (suc n) d = elim d.progress [
+  | went_on ↦ units_done n (one_unit d.machine d.events)
+  | at_end ↦ d
+  | refused ↦ d
+]
+
+-- the nodes of the running collection, or those that a begin makes
+abbrev pub nodes_so_far : Heap → Option Snapshot → ℕ
+nodes_so_far h None = length (first_names h)
+nodes_so_far h (Some s) = length s.nodes
+
+-- begin, a unit for each node, end: each node that comes later is what an edge leads to, and no edge brings two
+abbrev pub enough_units : Machine → ℕ
+enough_units m = nodes_so_far m.heap m.snapshot + length (view m.heap).edges + 2
+
+-- units until the collection ends or is refused
+abbrev pub to_the_end : UnitsDone → UnitsDone
+to_the_end d = units_done (enough_units d.machine) d
+
+-- a running collection brought to its end
+abbrev pub finish_running : Machine → UnitsDone
+finish_running m = elim (is_some m.snapshot) [ true ↦ to_the_end (no_units m) | false ↦ no_units m ]
+
+-- SLICE: a collection begins where none runs, and no second one does
+unfoldable pub slice : ℕ → Machine → UnitsDone
+slice n m = units_done n (no_units m)
+
+abbrev pub starting_anew : UnitsDone → UnitsDone
+starting_anew d = record d { progress = went_on }
+
+abbrev pub unless_stopped : UnitsDone → UnitsDone
+unless_stopped d = elim d.progress [
+  | refused ↦ d
+  | went_on ↦ to_the_end (starting_anew d)
+  | at_end ↦ to_the_end (starting_anew d)
+]
+
+-- COLLECT: a running collection is ended first; where that is refused memory, no other begins
+unfoldable pub collect : Machine → UnitsDone
+collect m = unless_stopped (finish_running m)
+
+abbrev pub with_outcome : UnitsDone → Outcome → UnitsDone
+with_outcome d o = record d { machine = record d.machine { heap = o.heap }; events = d.events ++ o.events }
+
+abbrev pub then_scripts : UnitsDone → UnitsDone
+then_scripts d = with_outcome d (collect_scripts d.machine.heap)
+
+-- GC: a running collection is ended first; where that is refused memory, it is abandoned, and gc goes on
+unfoldable pub gc : Machine → UnitsDone
+gc m = then_scripts (finish_running m)
+
+-- the reply to a slice and to a collection
+abbrev pub reply_to_units : Progress → Reply
+reply_to_units went_on = Done
+reply_to_units at_end = Done
+reply_to_units refused = Refused NoMemory

@@ -1,0 +1,122 @@
+-- What each command that passes its checks does to the heaps, in its order.
+use Rattle.std.specs.Prelude.{ℕ, ◌+◌, Bool, true, false, not, [], ◌∷◌, ◌++◌, Option, Some, None, is_none, option_map}
+use Rattle.cc_names.specs.declared.name.Name.{Name}
+use Rattle.cc_names.specs.declared.name.Name.TheVariants as name
+use Rattle.cc_names.specs.declared.register.Reg.TheVariants.{N, S}
+use Rattle.cc_names.specs.declared.kind.Kind.{Kind}
+use Rattle.cc_names.specs.declared.kind.Kind.TheVariants.{Plain, Reflector, Map}
+use Rattle.cc_names.specs.declared.kind.Colour.TheVariants.{Black}
+use Rattle.cc_names.specs.Names.{native, object, reflector}
+use Rattle.cc_model.specs.declared.command.Command.{Command}
+use Rattle.cc_model.specs.declared.command.Command.TheVariants.{Nothing, Native, Script, WeakMap, CopyNative, CopyScript, Drop, Set, Get, Put, Take, Wrap, Unwrap, Preserve, SetEntry, GetEntry, Expose, Slice, Collect, Gc, Census}
+use Rattle.cc_model.specs.Slots.{empty_slots, reflector_slots}
+use Rattle.cc_model.specs.Entries.{with_entry, without_entry}
+use Rattle.cc_model.specs.Checks.{slot_at, value_at, reflector_of, native_of}
+use Rattle.cc_model.specs.Heap.{Heap, Outcome, silently, register, objects_of, source, has_reflector, set_register, set_slot, preserve, touch}
+use Rattle.cc_model.specs.Cascade.{add_ref, take_up, let_go}
+use Rattle.cc_model.specs.Exposure.{exposed}
+
+-- native register d written, whose new reference was taken before: the old content is given up
+abbrev pub put_in_register : Heap → ℕ → Option Name → Outcome
+put_in_register h d x = let_go (set_register h (N d) x) (register h (N d))
+
+-- the new reference is taken first, then the register is written, then the old one is given up
+unfoldable pub hold_native : Heap → ℕ → Option Name → Outcome
+hold_native h d x = put_in_register (take_up h x) d x
+
+-- the same for slot i of what native register d holds
+abbrev pub put_in_slot : Heap → ℕ → ℕ → Option Name → Outcome
+put_in_slot h d i x = let_go (set_slot h (register h (N d)) i x) (slot_at (objects_of h) (N d) i)
+
+unfoldable pub store_native : Heap → ℕ → ℕ → Option Name → Outcome
+store_native h d i x = put_in_slot (take_up h x) d i x
+
+-- what comes into a script register is exposed
+abbrev pub hold_script : Heap → ℕ → Option Name → Heap
+hold_script h d x = set_register (exposed h x) (S d) x
+
+-- a native with the next number, count 1, in the buffer without the purple mark
+abbrev pub with_native : Heap → ℕ → Heap
+with_native h n = touch (record h {
+  natives = h.natives ++ record { number = h.natives_made + 1; slots = empty_slots n; preserved = false; count = 1 } ∷ [];
+  natives_made = h.natives_made + 1;
+}) (h.natives_made + 1)
+
+-- a native made, and register d holds it
+unfoldable pub make_native : Heap → ℕ → ℕ → Outcome
+make_native h d n = put_in_register (with_native h n) d (Some (native (h.natives_made + 1)))
+
+-- a black script object
+abbrev pub with_script : Heap → Name → Kind → ℕ → Heap
+with_script h x kind n = record h { scripts = h.scripts ++ record { name = x; kind = kind; slots = empty_slots n; colour = Black } ∷ [] }
+
+-- one with the next number
+abbrev pub with_object : Heap → Kind → ℕ → Heap
+with_object h kind n = record (with_script h (object (h.scripts_made + 1)) kind n) { scripts_made = h.scripts_made + 1 }
+
+-- a script object made, and register d holds it
+abbrev pub make_object : Heap → ℕ → Kind → ℕ → Heap
+make_object h d kind n = set_register (with_object h kind n) (S d) (Some (object (h.scripts_made + 1)))
+
+-- a black blank reflector, and its reference to its native
+abbrev pub with_reflector : Heap → ℕ → Heap
+with_reflector h k = add_ref (with_script h (reflector k) Reflector reflector_slots) k
+
+-- a reflector that is there is exposed; else one is made
+abbrev pub wrapped : Heap → Option Name → Heap
+wrapped h (Some (name.Native k)) = elim (has_reflector h k.0) [ true ↦ exposed h (Some (reflector k.0)) | false ↦ with_reflector h k.0 ]
+wrapped h (Some (name.Script k)) = h
+wrapped h (Some (name.Reflector k)) = h
+wrapped h None = h
+
+-- an entry set, its key preserved where it is a reflector; or taken out, nothing preserved
+abbrev pub set_entry : Heap → Option Name → Option Name → Option Name → Heap
+set_entry h (Some m) (Some k) (Some v) = record (preserve h (Some k)) { entries = with_entry h.entries m k v }
+set_entry h (Some m) (Some k) None = record h { entries = without_entry h.entries m k }
+set_entry h (Some m) None v = h
+set_entry h None k v = h
+
+-- a reflector preserved, and slot i of a script object written
+abbrev pub put_in_script : Heap → Option Name → ℕ → Option Name → Heap
+put_in_script h x i y = set_slot (preserve h x) x i y
+
+-- THE EFFECTS of a command that passes its checks and has its memory
+unfoldable pub effects : Heap → Command → Outcome
+effects h (Native d n) = make_native h d n
+effects h (Script d n) = silently (make_object h d Plain n)
+effects h (WeakMap d) = silently (make_object h d Map 0)
+effects h (CopyNative d s) = hold_native h d (register h (N s))
+effects h (CopyScript d s) = silently (set_register h (S d) (register h (S s)))
+effects h (Drop (N d)) = put_in_register h d None
+effects h (Drop (S d)) = silently (set_register h (S d) None)
+effects h (Set d i r) = store_native h d i (source h r)
+effects h (Get (N d) s i) = hold_native h d (slot_at (objects_of h) (N s) i)
+effects h (Get (S d) s i) = silently (hold_script h d (slot_at (objects_of h) (N s) i))
+effects h (Put d i s) = silently (put_in_script h (register h (S d)) i (source h (option_map S s)))
+effects h (Take d s i) = silently (hold_script h d (slot_at (objects_of h) (S s) i))
+effects h (Wrap d s) = silently (set_register (wrapped h (register h (N s))) (S d) (reflector_of (register h (N s))))
+effects h (Unwrap d s) = hold_native h d (native_of (register h (S s)))
+effects h (Preserve s) = silently (preserve h (register h (S s)))
+effects h (SetEntry m k v) = silently (set_entry h (register h (S m)) (register h (S k)) (source h (option_map S v)))
+effects h (GetEntry d m k) = silently (hold_script h d (value_at (objects_of h) (register h (S m)) (register h (S k))))
+effects h (Expose s i) = silently (exposed h (slot_at (objects_of h) (N s) i))
+effects h Nothing = silently h
+effects h (Slice u) = silently h
+effects h Collect = silently h
+effects h Gc = silently h
+effects h Census = silently h
+
+abbrev pub lacks_reflector : Heap → Option Name → Bool
+lacks_reflector h (Some (name.Native k)) = not (has_reflector h k.0)
+lacks_reflector h (Some (name.Script k)) = false
+lacks_reflector h (Some (name.Reflector k)) = false
+lacks_reflector h None = false
+
+-- whether a command that passes its checks takes memory
+abbrev pub takes_memory : Heap → Command → Bool
+takes_memory h (Native d n) = true
+takes_memory h (Script d n) = true
+takes_memory h (WeakMap d) = true
+takes_memory h (SetEntry m k (Some v)) = is_none (value_at (objects_of h) (register h (S m)) (register h (S k)))
+takes_memory h (Wrap d s) = lacks_reflector h (register h (N s))
+takes_memory h _ = false

@@ -1,0 +1,200 @@
+-- WHEN A TRANSCRIPT IS ONE OF AN OBJECT GRAPH FROM WHICH NOTHING IS FREED.
+use Rattle.std.specs.Prelude.{◌≡◌, ℕ, ◌+◌, Bool, true, false, not, ◌&&◌, ◌||◌, ◌⊎◌, IsTrue, List, [], ◌∷◌, length, flat_map, Option, Some, None, is_none, nat_lt, nat_le}
+use Rattle.cc_lists.specs.Members.{Among, has}
+use Rattle.cc_names.specs.Allowance.{Allowance}
+use Rattle.cc_names.specs.declared.name.Name.{Name}
+use Rattle.cc_names.specs.declared.register.Reg.TheVariants.{N, S}
+use Rattle.cc_names.specs.Names.{same_name, is_native, natives_in}
+use Rattle.cc_model.specs.declared.command.Command.{Command}
+use Rattle.cc_model.specs.declared.command.Command.TheVariants.{Nothing, Native, Script, WeakMap, SetEntry, Wrap, Slice, Collect, Gc, Census}
+use Rattle.cc_model.specs.declared.item.Refusal.TheVariants.{NoMemory, Long, Line}
+use Rattle.cc_model.specs.declared.item.Reply.{Reply}
+use Rattle.cc_model.specs.declared.item.Reply.TheVariants.{Refused, Census as counted}
+use Rattle.cc_model.specs.declared.item.Event.{Event}
+use Rattle.cc_model.specs.declared.item.Event.TheVariants.{Unlinked, Freed, Abandoned}
+use Rattle.cc_model.specs.Answers.{Answer, no_answer, replying, listing}
+use Rattle.cc_model.specs.Asks.{Ask, long, bad, taken}
+use Rattle.cc_model.specs.Checks.{refusal_of, value_at, reflector_of}
+use Rattle.cc_model.specs.Graph.{Graph, empty_graph, register, objects_of, step, reply_to}
+use Rattle.cc_model.specs.Reached.{Reached}
+use Rattle.cc_model.specs.Listed.{listed, after_event, census_order}
+
+-- the graph so far, and the names that a census would list
+pub record State : Type 0 where
+  pub graph : Graph
+  pub listed : List Name
+
+abbrev pub start : Allowance → State
+start limits = record { graph = empty_graph limits; listed = [] }
+
+abbrev pub is_without_memory : Reply → Bool
+is_without_memory (Refused NoMemory) = true
+is_without_memory _ = false
+
+-- want of memory leaves the graph
+abbrev pub graph_after : Graph → Command → Option Reply → Graph
+graph_after g c None = g
+graph_after g c (Some reply) = elim (is_without_memory reply) [ true ↦ g | false ↦ step g c ]
+
+abbrev pub next : State → Ask → Answer → State
+next s long a = s
+next s bad a = s
+next s (taken c) a = record { graph = graph_after s.graph c a.reply; listed = listed s.listed c a.events a.reply }
+
+-- The first clause: the reply
+
+abbrev pub is_listed : List Name → Option Name → Bool
+is_listed names None = false
+is_listed names (Some x) = has same_name names x
+
+-- the commands that may want memory: `wset` for a new entry alone, `wrap` where its reflector is not listed
+abbrev pub may_want_memory : State → Command → Bool
+may_want_memory s (Native d n) = true
+may_want_memory s (Script d n) = true
+may_want_memory s (WeakMap d) = true
+may_want_memory s (Slice u) = true
+may_want_memory s Collect = true
+may_want_memory s (SetEntry m k (Some v)) = is_none (value_at (objects_of s.graph) (register s.graph (S m)) (register s.graph (S k)))
+may_want_memory s (Wrap d n) = not (is_listed s.listed (reflector_of (register s.graph (N n))))
+may_want_memory s _ = false
+
+-- want of memory, where the graph gives no refusal
+pub record WantsMemory (s : State) (c : Command) (reply : Reply) : Type 0 where
+  pub refused : reply ≡ Refused NoMemory
+  pub command_may : IsTrue (may_want_memory s c)
+  pub no_other : refusal_of (objects_of s.graph) c ≡ None
+
+abbrev pub RepliesWith : State → Command → Reply → Type 0
+RepliesWith s c reply = (reply ≡ reply_to s.graph c) ⊎ WantsMemory s c reply
+
+-- The second clause: a refused ask has no events, but an abandoned collection
+
+abbrev pub runs_units : Command → Bool
+runs_units (Slice u) = true
+runs_units Collect = true
+runs_units _ = false
+
+abbrev pub is_refused : Reply → Bool
+is_refused (Refused refusal) = true
+is_refused _ = false
+
+-- whether the collection of the command was refused memory
+abbrev pub is_abandoning : Command → Reply → Bool
+is_abandoning c reply = runs_units c && is_without_memory reply
+
+-- The third and fourth: what is freed or unlinked is listed, and no root reaches it after the ask
+
+abbrev pub is_gc : Command → Bool
+is_gc Gc = true
+is_gc _ = false
+
+-- script objects are freed under `gc` alone
+abbrev pub may_free : Command → Name → Bool
+may_free c x = is_native x || is_gc c
+
+-- natives are unlinked under `slice`, `collect` and `gc` alone
+abbrev pub may_unlink : Command → Name → Bool
+may_unlink c x = is_native x && (runs_units c || is_gc c)
+
+abbrev pub MayBe : Graph → List Name → Command → Event → Type 0
+MayBe g names c (Freed x) = Among x names × (¬ (Reached g x)) × IsTrue (may_free c x)
+MayBe g names c (Unlinked x) = Among x names × (¬ (Reached g x)) × IsTrue (may_unlink c x)
+MayBe g names c Abandoned = Unit {0}
+
+-- g is the graph after the ask; the names are those listed before it, without what was freed since
+abbrev pub EachMayBe : Graph → List Name → Command → List Event → Type 0
+EachMayBe g names c [] = Unit {0}
+EachMayBe g names c (e ∷ es) = MayBe g names c e × EachMayBe g (after_event names e) c es
+
+-- The fourth too: the unlinked numbers rise
+
+abbrev pub unlinked_in : Event → List ℕ
+unlinked_in (Unlinked x) = natives_in x
+unlinked_in (Freed x) = []
+unlinked_in Abandoned = []
+
+abbrev pub unlinked_numbers : List Event → List ℕ
+unlinked_numbers es = flat_map unlinked_in es
+
+-- 0 where the second number is greater than the first, 1 where a new run begins
+abbrev pub break_between : ℕ → ℕ → ℕ
+break_between i j = elim (nat_lt i j) [ true ↦ 0 | false ↦ 1 ]
+
+-- the number of rising runs in a list
+abbrev pub runs : List ℕ → ℕ
+runs [] = 0
+runs (i ∷ []) = 1
+runs (i ∷ j ∷ js) = break_between i j + runs (j ∷ js)
+
+-- `collect` may end two collections, so its numbers are at most two rising runs
+abbrev pub runs_allowed : Command → ℕ
+runs_allowed Collect = 2
+runs_allowed _ = 1
+
+-- The fifth: where an abandonment stands
+
+abbrev pub is_abandonment : Event → Bool
+is_abandonment Abandoned = true
+is_abandonment (Freed x) = false
+is_abandonment (Unlinked x) = false
+
+abbrev pub has_none : List Event → Bool
+has_none [] = true
+has_none (e ∷ es) = not (is_abandonment e) && has_none es
+
+-- exactly once, and last
+abbrev pub ends_with_one : List Event → Bool
+ends_with_one [] = false
+ends_with_one (e ∷ []) = is_abandonment e
+ends_with_one (e ∷ f ∷ es) = not (is_abandonment e) && ends_with_one (f ∷ es)
+
+-- at most once, and first
+abbrev pub begins_with_at_most_one : List Event → Bool
+begins_with_at_most_one [] = true
+begins_with_at_most_one (e ∷ es) = has_none es
+
+-- last under a collection that was refused memory, first under `gc`, nowhere else
+abbrev pub has_abandonment_in_place : Command → Reply → List Event → Bool
+has_abandonment_in_place c reply es = elim (is_abandoning c reply) [
+  | true ↦ ends_with_one es
+  | false ↦ elim (is_gc c) [ true ↦ begins_with_at_most_one es | false ↦ has_none es ]
+]
+
+-- The answer to each ask
+
+-- all five clauses, for a command that is answered by events and a reply
+pub record AnswersCommand (s : State) (c : Command) (reply : Reply) (events : List Event) : Type 0 where
+  pub replies : RepliesWith s c reply
+  pub quiet : IsTrue (is_refused reply && not (is_abandoning c reply)) → events ≡ []
+  pub each : EachMayBe (graph_after s.graph c (Some reply)) s.listed c events
+  pub rising : IsTrue (nat_le (runs (unlinked_numbers events)) (runs_allowed c))
+  pub abandonment : IsTrue (has_abandonment_in_place c reply events)
+
+abbrev pub ReplyAnswers : State → Command → Answer → Option Reply → Type 0
+ReplyAnswers s c a None = ⊥
+ReplyAnswers s c a (Some reply) = AnswersCommand s c reply a.events
+
+-- what a census answers: the listed names in census order, and their number
+abbrev pub census_of : List Name → Answer
+census_of names = listing (census_order names) (counted (length names))
+
+abbrev pub AnswersTaken : State → Command → Answer → Type 0
+AnswersTaken s Nothing a = a ≡ no_answer
+AnswersTaken s Census a = a ≡ census_of s.listed
+AnswersTaken s c a = (a.listed ≡ []) × ReplyAnswers s c a a.reply
+
+abbrev pub AnswersAsk : State → Ask → Answer → Type 0
+AnswersAsk s long a = a ≡ replying [] (Refused Long)
+AnswersAsk s bad a = a ≡ replying [] (Refused Line)
+AnswersAsk s (taken c) a = AnswersTaken s c a
+
+-- an answer to each ask, in order
+abbrev pub IsLawfulFrom : State → List Ask → List Answer → Type 0
+IsLawfulFrom s [] [] = Unit {0}
+IsLawfulFrom s (ask ∷ asks) (a ∷ answers) = AnswersAsk s ask a × IsLawfulFrom (next s ask a) asks answers
+IsLawfulFrom s [] (a ∷ answers) = ⊥
+IsLawfulFrom s (ask ∷ asks) [] = ⊥
+
+-- THE TRANSCRIPT IS LAWFUL
+abbrev pub IsLawful : Allowance → List Ask → List Answer → Type 0
+IsLawful limits asks answers = IsLawfulFrom (start limits) asks answers

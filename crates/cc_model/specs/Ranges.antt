@@ -1,0 +1,54 @@
+-- The ranges of a command's numbers.
+use Rattle.std.specs.Prelude.{ℕ, Bool, true, ◌&&◌, List, Option, Some, None, nat_lt, nat_le}
+use Rattle.std.specs.List.{list_all}
+use Rattle.cc_names.specs.declared.register.Reg.{Reg}
+use Rattle.cc_names.specs.declared.register.Reg.TheVariants.{N, S}
+use Rattle.cc_model.specs.declared.command.Command.{Command}
+use Rattle.cc_model.specs.declared.command.Command.TheVariants.{Nothing, Native, Script, WeakMap, CopyNative, CopyScript, Drop, Set, Get, Put, Take, Wrap, Unwrap, Preserve, SetEntry, GetEntry, Expose, Slice, Collect, Gc, Census}
+
+-- there are 256 registers of each kind
+abbrev pub is_register : ℕ → Bool
+is_register r = nat_lt r 256
+
+abbrev pub are_registers : ℕ → ℕ → Bool
+are_registers r s = is_register r && is_register s
+
+abbrev pub is_reg : Reg → Bool
+is_reg (N r) = is_register r
+is_reg (S r) = is_register r
+
+abbrev pub is_source : Option Reg → Bool
+is_source None = true
+is_source (Some r) = is_reg r
+
+abbrev pub is_script_source : Option ℕ → Bool
+is_script_source None = true
+is_script_source (Some r) = is_register r
+
+-- an object has at most 64 slots
+abbrev pub is_slots : ℕ → Bool
+is_slots n = nat_le n 64
+
+-- whether a command's registers and its number of slots are in range, as those of every line are
+abbrev pub in_range : Command → Bool
+in_range (Native d n) = is_register d && is_slots n
+in_range (Script d n) = is_register d && is_slots n
+in_range (WeakMap d) = is_register d
+in_range (CopyNative d s) = are_registers d s
+in_range (CopyScript d s) = are_registers d s
+in_range (Drop r) = is_reg r
+in_range (Set d i r) = is_register d && is_source r
+in_range (Get r s i) = is_reg r && is_register s
+in_range (Put d i s) = is_register d && is_script_source s
+in_range (Take d s i) = are_registers d s
+in_range (Wrap d s) = are_registers d s
+in_range (Unwrap d s) = are_registers d s
+in_range (Preserve s) = is_register s
+in_range (SetEntry m k v) = are_registers m k && is_script_source v
+in_range (GetEntry d m k) = is_register d && are_registers m k
+in_range (Expose s i) = is_register s
+in_range Nothing = true
+in_range (Slice u) = true
+in_range Collect = true
+in_range Gc = true
+in_range Census = true

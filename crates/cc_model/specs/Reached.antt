@@ -1,0 +1,69 @@
+-- What the registers of the graph reach.
+use Rattle.std.specs.Prelude.{◌≡◌, ℕ, ◌+◌, true, false, List, [], ◌∷◌, ◌++◌, map, flat_map, Option, Some, None}
+use Rattle.cc_lists.specs.Members.{Among}
+use Rattle.cc_lists.specs.Least.{Rule, system, closure}
+use Rattle.cc_names.specs.declared.name.Name.{Name}
+use Rattle.cc_names.specs.declared.name.Name.TheVariants as name
+use Rattle.cc_names.specs.declared.register.Reg.{Reg}
+use Rattle.cc_names.specs.Names.{native, object, reflector, same_name}
+use Rattle.cc_model.specs.Slots.{contents, from_to}
+use Rattle.cc_model.specs.Entries.{Entry, joints}
+use Rattle.cc_model.specs.Checks.{slots_or_none}
+use Rattle.cc_model.specs.Graph.{Graph, GraphNative, register, native_in, slots_in}
+
+-- a native refers to its reflector where that is preserved
+abbrev pub kept_reflector : ℕ → Option GraphNative → List Name
+kept_reflector k None = []
+kept_reflector k (Some n) = elim n.preserved [ true ↦ reflector k ∷ [] | false ↦ [] ]
+
+-- a reflector that was made refers to its native
+abbrev pub native_behind : ℕ → Option GraphNative → List Name
+native_behind k None = []
+native_behind k (Some n) = elim n.reflector [ None ↦ [] | Some slots ↦ native k ∷ [] ]
+
+abbrev pub further_edges : Graph → Name → List Name
+further_edges g (name.Native k) = kept_reflector k.0 (native_in g k.0)
+further_edges g (name.Script k) = []
+further_edges g (name.Reflector k) = native_behind k.0 (native_in g k.0)
+
+-- THE EDGES of an object, by occurrence: what its slots hold, then its preserved reflector or its native
+abbrev pub edges_of : Graph → Name → List Name
+edges_of g x = contents (slots_or_none (slots_in g x)) ++ further_edges g x
+
+-- THE REACHED NAMES: the least set that has the names in the registers, is closed under edges,
+-- and has the value of each entry whose map and key it has
+pub data Reached (g : Graph) : Name → Type 0 where
+  held : (r : Reg) (x : Name) → register g r ≡ Some x → Reached g x
+  edge : (x y : Name) → Reached g x → Among y (edges_of g x) → Reached g y
+  value : (e : Entry) → Among e g.entries → Reached g e.the_map → Reached g e.key → Reached g e.value
+
+-- The same set as a list
+
+-- a number for each member, rising by one
+abbrev pub numbers_from : {X : Type 0} → ℕ → List X → List ℕ
+numbers_from k [] = []
+numbers_from k (x ∷ xs) = k ∷ numbers_from (k + 1) xs
+
+abbrev pub with_reflector : ℕ → List Name
+with_reflector k = native k ∷ reflector k ∷ []
+
+-- the names of all objects, and of the reflectors that may come
+abbrev pub names_of : Graph → List Name
+names_of g = flat_map with_reflector (numbers_from 1 g.natives) ++ map object (numbers_from 1 g.scripts)
+
+-- all edges, each with what has it; what was never made has none
+abbrev pub edges_from : Graph → Name → List (Name × Name)
+edges_from g x = map (from_to x) (edges_of g x)
+
+abbrev pub all_edges : Graph → List (Name × Name)
+all_edges g = flat_map (edges_from g) (names_of g)
+
+abbrev pub roots_of : Graph → List Name
+roots_of g = contents g.native_registers ++ contents g.script_registers
+
+abbrev pub reach_rules : Graph → List (Rule Name)
+reach_rules g = system (roots_of g) (all_edges g) (joints g.entries)
+
+-- a name stands in the list once for each rule that gives it
+abbrev pub reached_names : Graph → List Name
+reached_names g = closure same_name (reach_rules g)

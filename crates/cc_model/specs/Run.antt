@@ -1,0 +1,100 @@
+-- THE PLAIN RUN: the asks done on the heaps and the snapshot.
+use Rattle.std.specs.Prelude.{ℕ, Bool, true, false, not, ◌&&◌, List, [], ◌∷◌, ◌++◌, map, length, Option, Some, None}
+use Rattle.cc_names.specs.Allowance.{Allowance}
+use Rattle.cc_names.specs.declared.name.Name.{Name}
+use Rattle.cc_names.specs.Names.{native}
+use Rattle.cc_model.specs.declared.command.Command.{Command}
+use Rattle.cc_model.specs.declared.command.Command.TheVariants.{Nothing, Slice, Collect, Gc, Census}
+use Rattle.cc_model.specs.declared.item.Refusal.{Refusal}
+use Rattle.cc_model.specs.declared.item.Refusal.TheVariants.{NoMemory, Long, Line}
+use Rattle.cc_model.specs.declared.item.Reply.{Reply}
+use Rattle.cc_model.specs.declared.item.Reply.TheVariants.{Done, Refused, Census as counted}
+use Rattle.cc_model.specs.declared.item.Event.{Event}
+use Rattle.cc_model.specs.Answers.{Answer, no_answer, replying, listing, text_of_answers}
+use Rattle.cc_model.specs.Forms.{Form}
+use Rattle.cc_model.specs.Asks.{Ask, long, bad, taken, asks_of}
+use Rattle.cc_model.specs.Checks.{refusal_of, reply_if_taken}
+use Rattle.cc_model.specs.Heap.{Heap, Outcome, objects_of}
+use Rattle.cc_model.specs.Effects.{effects, takes_memory}
+use Rattle.cc_model.specs.Collecting.{Machine, UnitsDone, empty_machine, next_answer, later_answers, slice, collect, gc, reply_to_units}
+
+-- one ask done
+pub record Turn : Type 0 where
+  pub machine : Machine
+  pub answer : Answer
+
+abbrev pub answering : Machine → List Event → Reply → Turn
+answering m events reply = record { machine = m; answer = replying events reply }
+
+-- Commands of the mutator
+
+abbrev pub with_answer_used : Machine → Bool → Machine
+with_answer_used m takes = elim takes [ true ↦ record m { memory = later_answers m.memory } | false ↦ m ]
+
+abbrev pub with_effects : Machine → Reply → Outcome → Turn
+with_effects m reply o = answering (record m { heap = o.heap }) o.events reply
+
+-- memory is asked only by a command that takes some
+abbrev pub if_granted : Machine → Command → Bool → Turn
+if_granted m c takes = elim (takes && not (next_answer m.memory)) [
+  | true ↦ answering (with_answer_used m takes) [] (Refused NoMemory)
+  | false ↦ with_effects (with_answer_used m takes) (reply_if_taken (objects_of m.heap) c) (effects m.heap c)
+]
+
+abbrev pub unless_refused : Machine → Command → Option Refusal → Turn
+unless_refused m c (Some refusal) = answering m [] (Refused refusal)
+unless_refused m c None = if_granted m c (takes_memory m.heap c)
+
+-- A COMMAND OF THE MUTATOR: refused, refused memory, or done
+unfoldable pub mutate : Machine → Command → Turn
+mutate m c = unless_refused m c (refusal_of (objects_of m.heap) c)
+
+-- The other commands
+
+abbrev pub after_units : UnitsDone → Turn
+after_units d = answering d.machine d.events (reply_to_units d.progress)
+
+abbrev pub after_gc : UnitsDone → Turn
+after_gc d = answering d.machine d.events Done
+
+-- natives by rising number, then script objects in order of making
+abbrev pub census_names : Heap → List Name
+census_names h = map (λ n. native n.number) h.natives ++ map (λ o. o.name) h.scripts
+
+abbrev pub take_census : Machine → List Name → Turn
+take_census m names = record { machine = m; answer = listing names (counted (length names)) }
+
+abbrev pub say_nothing : Machine → Turn
+say_nothing m = record { machine = m; answer = no_answer }
+
+abbrev pub do_command : Machine → Command → Turn
+do_command m Nothing = say_nothing m
+do_command m (Slice n) = after_units (slice n m)
+do_command m Collect = after_units (collect m)
+do_command m Gc = after_gc (gc m)
+do_command m Census = take_census m (census_names m.heap)
+do_command m c = mutate m c
+
+-- AN ASK DONE
+unfoldable pub do_ask : Machine → Ask → Turn
+do_ask m long = answering m [] (Refused Long)
+do_ask m bad = answering m [] (Refused Line)
+do_ask m (taken c) = do_command m c
+
+-- the answers to asks in a row, and the machine after them
+abbrev pub turns : Machine → List Ask → List Answer
+turns m [] = []
+turns m (ask ∷ asks) = let t = do_ask m ask in t.answer ∷ turns t.machine asks
+
+abbrev pub machine_after : Machine → List Ask → Machine
+machine_after m [] = m
+machine_after m (ask ∷ asks) = machine_after (do_ask m ask).machine asks
+
+-- THE ANSWERS to the asks, where memory gives these answers: one for each unit that may be refused,
+-- and for each command that passes its checks and takes memory
+abbrev pub plain_run : Allowance → List Bool → List Ask → List Answer
+plain_run limits memory asks = turns (empty_machine limits memory) asks
+
+-- the text that is written for an input, where these forms exist
+abbrev pub plain_text : List Form → Allowance → List Bool → List ℕ → List ℕ
+plain_text forms limits memory bytes = text_of_answers (plain_run limits memory (asks_of forms bytes))

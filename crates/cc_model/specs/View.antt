@@ -1,0 +1,90 @@
+-- The heaps seen flat: each edge as often as its object holds it. Laws speak of this view.
+use Rattle.std.specs.Prelude.{ℕ, Bool, true, false, ◌&&◌, ◌||◌, List, [], ◌∷◌, ◌++◌, map, filter, flat_map}
+use Rattle.cc_lists.specs.Members.{has}
+use Rattle.cc_lists.specs.Least.{Rule, Least, system, closure}
+use Rattle.cc_names.specs.declared.name.Name.{Name}
+use Rattle.cc_names.specs.Names.{native, reflector, same_name, behind}
+use Rattle.cc_model.specs.Slots.{Slots, contents, from_to}
+use Rattle.cc_model.specs.Entries.{Entry, joints}
+use Rattle.cc_model.specs.Heap.{Heap, HeapNative, HeapScript, Buffered, is_white_colour, is_gray_colour, is_black_colour}
+
+pub record View : Type 0 where
+  -- what both kinds of registers hold, empty ones left out
+  pub registers : List Name
+  -- slots of natives and of script objects, a native to its preserved reflector, a reflector to its native
+  pub edges : List (Name × Name)
+  pub entries : List Entry
+  -- each with its count
+  pub natives : List (Name × ℕ)
+  pub buffer : List Name
+  pub purple : List Name
+  -- script objects
+  pub black : List Name
+  pub gray : List Name
+  pub white : List Name
+
+abbrev pub slot_edges : Name → Slots → List (Name × Name)
+slot_edges x slots = map (from_to x) (contents slots)
+
+abbrev pub preserved_edge : HeapNative → List (Name × Name)
+preserved_edge n = elim n.preserved [ true ↦ from_to (native n.number) (reflector n.number) ∷ [] | false ↦ [] ]
+
+-- slots in rising order, then the preserved reflector
+abbrev pub native_edges : HeapNative → List (Name × Name)
+native_edges n = slot_edges (native n.number) n.slots ++ preserved_edge n
+
+abbrev pub script_slot_edges : HeapScript → List (Name × Name)
+script_slot_edges o = slot_edges o.name o.slots
+
+-- slots in rising order, then the native of a reflector
+abbrev pub script_edges : HeapScript → List (Name × Name)
+script_edges o = script_slot_edges o ++ map (λ k. from_to o.name (native k)) (behind o.name)
+
+-- the native's name with its count
+abbrev pub counted : HeapNative → Name × ℕ
+counted n = (native n.number, n.count)
+
+abbrev pub buffered : Buffered → Name
+buffered b = native b.number
+
+abbrev pub names_with : (HeapScript → Bool) → List HeapScript → List Name
+names_with p scripts = map (λ o. o.name) (filter p scripts)
+
+-- THE FLAT VIEW of the heaps
+abbrev pub view : Heap → View
+view h = record {
+  registers = contents h.native_registers ++ contents h.script_registers;
+  edges = flat_map native_edges h.natives ++ flat_map script_edges h.scripts;
+  entries = h.entries;
+  natives = map counted h.natives;
+  buffer = map buffered h.buffer;
+  purple = map buffered (filter (λ b. b.purple) h.buffer);
+  black = names_with (λ o. is_black_colour o.colour) h.scripts;
+  gray = names_with (λ o. is_gray_colour o.colour) h.scripts;
+  white = names_with (λ o. is_white_colour o.colour) h.scripts;
+}
+
+-- WHAT THE REGISTERS REACH in the heaps: a set by rules, and the same as a list
+abbrev pub view_rules : View → List (Rule Name)
+view_rules v = system v.registers v.edges (joints v.entries)
+
+abbrev pub ReachedIn : View → Name → Type 0
+ReachedIn v = Least (view_rules v)
+
+abbrev pub reached_in : View → List Name
+reached_in v = closure same_name (view_rules v)
+
+-- an edge or a noted reference to u; one from v to u
+abbrev pub to : Name → Name × Name → Bool
+to u r = same_name r.1 u
+
+abbrev pub between : Name → Name → Name × Name → Bool
+between v u r = same_name r.1 u && same_name r.0 v
+
+-- the script objects of the heaps, of every colour
+abbrev pub scripts_there : View → List Name
+scripts_there v = v.black ++ (v.gray ++ v.white)
+
+-- whether an object is in the heaps
+abbrev pub is_there : View → Name → Bool
+is_there v x = has same_name (map (λ n. n.0) v.natives) x || has same_name (scripts_there v) x

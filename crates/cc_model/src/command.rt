@@ -1,0 +1,51 @@
+use cc_names::Reg;
+
+/// What one line of the input asks, by its word and its tokens in their order.
+///
+/// The first register of a command that has a destination is the destination. Numbers of slots are 0 to 64,
+/// indexes of slots 0 to 4294967295, numbers of units 1 to 1000000.
+#[derive(Clone, Copy, Debug, PartialEq, Eq, Drop)]
+pub enum Command {
+    /// A blank line or a comment.
+    Nothing,
+    /// `native nD K`: makes a native with K empty slots.
+    Native(u8, u8),
+    /// `script sD K`: makes a plain script object with K empty slots.
+    Script(u8, u8),
+    /// `weakmap sD`: makes an empty weak map.
+    WeakMap(u8),
+    /// `copy nD nS`
+    CopyNative(u8, u8),
+    /// `copy sD sS`
+    CopyScript(u8, u8),
+    /// `drop R`: empties a register.
+    Drop(Reg),
+    /// `set nD i R`, or `set nD i none`: writes slot i of a native.
+    Set(u8, u32, Option<Reg>),
+    /// `get R nS i`: reads slot i of a native.
+    Get(Reg, u8, u32),
+    /// `put sD i sS`, or `put sD i none`: writes slot i of a plain object or a reflector.
+    Put(u8, u32, Option<u8>),
+    /// `take sD sS i`: reads slot i of a plain object or a reflector.
+    Take(u8, u8, u32),
+    /// `wrap sD nS`: the reflector of a native, made where there is none.
+    Wrap(u8, u8),
+    /// `unwrap nD sS`: the native of a reflector.
+    Unwrap(u8, u8),
+    /// `preserve sS`: a reflector is traced from its native from now on.
+    Preserve(u8),
+    /// `wset sM sK sV`, or `wset sM sK none`: sets or takes out an entry of a weak map.
+    SetEntry(u8, u8, Option<u8>),
+    /// `wget sD sM sK`: the value of a key in a weak map.
+    GetEntry(u8, u8, u8),
+    /// `expose nS i`: script touches what slot i of a native holds.
+    Expose(u8, u32),
+    /// `slice U`: up to U units of a collection.
+    Slice(u32),
+    /// `collect`: a whole collection.
+    Collect,
+    /// `gc`: a script collection.
+    Gc,
+    /// `census`: lists the objects.
+    Census,
+}

@@ -1,0 +1,129 @@
+ghost use Rattle.std.specs.Prelude.{◌≡◌, ◌+◌, ◌≤◌, ◌++◌, length};
+ghost use Rattle.cc_model.specs.Texts.{text_of, text_of_event, text_of_refusal, text_of_reply};
+
+use cc_names::{LineBuf, Name, write_name};
+use itoa::Buffer;
+
+/// Why a command is refused, in the order in which the causes are tried.
+#[derive(Clone, Copy, Debug, PartialEq, Eq, Drop)]
+pub enum Refusal {
+    /// The line has more than 120 bytes.
+    Long,
+    /// The line is not in the grammar.
+    Line,
+    /// A register that must hold an object is empty.
+    Empty,
+    /// An object is of the wrong kind.
+    Kind,
+    /// An index is not below the object's number of slots.
+    Slot,
+    /// As many objects of the kind as the limit were ever made.
+    Full,
+    /// Memory was wanted and not there.
+    NoMemory,
+}
+
+/// The last line that answers a command.
+#[derive(Clone, Copy, Debug, PartialEq, Eq, Drop)]
+pub enum Reply {
+    /// The name of what was made, copied or read.
+    Named(Name),
+    /// What was read was empty.
+    Nothing,
+    /// The command is done, and has nothing to name.
+    Done,
+    /// So many objects are there.
+    Census(u32),
+    /// Nothing was done.
+    Refused(Refusal),
+}
+
+/// What happened before the reply.
+#[derive(Clone, Copy, Debug, PartialEq, Eq, Drop)]
+pub enum Event {
+    /// A collection took this native's references away.
+    Unlinked(Name),
+    /// This object is no more.
+    Freed(Name),
+    /// A collection was refused memory and given up.
+    Abandoned,
+}
+
+/// One line of the output.
+#[derive(Clone, Copy, Debug, PartialEq, Eq, Drop)]
+pub enum Item {
+    Event(Event),
+    /// An object that a census lists.
+    Listed(Name),
+    Reply(Reply),
+}
+
+fn write_refusal(refusal: Refusal, out: &mut LineBuf)
+    requires { length out.old + 20 ≤ 128 }
+    ensures text { out.new ≡ out.old ++ text_of_refusal refusal }
+    ensures short { length out.new ≤ length out.old + 20 }
+{
+    out.push(match refusal {
+        Refusal::Long => b"! long".as_slice(),
+        Refusal::Line => b"! line".as_slice(),
+        Refusal::Empty => b"! empty".as_slice(),
+        Refusal::Kind => b"! kind".as_slice(),
+        Refusal::Slot => b"! slot".as_slice(),
+        Refusal::Full => b"! full".as_slice(),
+        Refusal::NoMemory => b"! nomem".as_slice(),
+    });
+}
+
+fn write_reply(reply: Reply, out: &mut LineBuf)
+    requires { length out.old + 20 ≤ 128 }
+    ensures text { out.new ≡ out.old ++ text_of_reply reply }
+    ensures short { length out.new ≤ length out.old + 20 }
+{
+    match reply {
+        Reply::Named(name) => {
+            out.push(b"= ");
+            write_name(&name, out);
+        }
+        Reply::Nothing => out.push(b"= none"),
+        Reply::Done => out.push(b"= ok"),
+        Reply::Census(count) => {
+            out.push(b"= census ");
+            out.push(Buffer::new().format(count).as_bytes());
+        }
+        Reply::Refused(refusal) => write_refusal(refusal, out),
+    }
+}
+
+fn write_event(event: Event, out: &mut LineBuf)
+    requires { length out.old + 20 ≤ 128 }
+    ensures text { out.new ≡ out.old ++ text_of_event event }
+    ensures short { length out.new ≤ length out.old + 20 }
+{
+    match event {
+        Event::Unlinked(name) => {
+            out.push(b"- unlink ");
+            write_name(&name, out);
+        }
+        Event::Freed(name) => {
+            out.push(b"- free ");
+            write_name(&name, out);
+        }
+        Event::Abandoned => out.push(b"- abandon"),
+    }
+}
+
+/// Appends an item's line, its line feed included. It has at most 21 bytes, which must be free.
+pub fn write_item(item: &Item, out: &mut LineBuf)
+    requires { length out.old + 21 ≤ 128 }
+    ensures { out.new ≡ out.old ++ text_of item.now }
+{
+    match *item {
+        Item::Event(event) => write_event(event, out),
+        Item::Listed(name) => {
+            out.push(b"+ ");
+            write_name(&name, out);
+        }
+        Item::Reply(reply) => write_reply(reply, out),
+    }
+    out.push(b"\n");
+}

@@ -1,0 +1,23 @@
+/// What a script object is.
+#[derive(Clone, Copy, Debug, PartialEq, Eq, Drop)]
+pub enum Kind {
+    /// Slots that each hold a script object or nothing.
+    Plain,
+    /// Four such slots, and a native behind it.
+    Reflector,
+    /// A weak map: no slots; its entries stand in a list of their own.
+    Map,
+}
+
+/// The colour that script marking gives a script object.
+///
+/// Between two commands a script object is black or gray. It is white only between a marking and the sweep that frees it.
+#[derive(Clone, Copy, Debug, PartialEq, Eq, Drop)]
+pub enum Colour {
+    /// Marked from nothing.
+    White,
+    /// Marked from what natives hold alone: a collection looks at it.
+    Gray,
+    /// Marked from the script registers, or touched since: alive.
+    Black,
+}

@@ -1,0 +1,34 @@
+//! Names of objects and registers, limits, and lines of text.
+//!
+//! A native is `#k`, a plain script object or a weak map `@k`, the reflector of native `#k` is `~k`.
+//! Numbers count from one in the order of making and are never used again. A key says where an object
+//! stands in its heap; it may be used again once the object is gone, so a key is no name.
+#![tactic(auto)]
+
+ghost use Rattle.std.specs.Prelude.{◌≡◌, ◌↔◌, IsTrue};
+ghost use Rattle.cc_names.specs.declared.name.Name.{Name};
+ghost use Rattle.cc_names.specs.Names.{same_name};
+
+mod kind;
+mod limits;
+mod line;
+mod name;
+mod no_memory;
+mod number;
+mod register;
+
+pub use kind::{Colour, Kind};
+pub use limits::Limits;
+pub use line::LineBuf;
+pub use name::{Name, write_name};
+pub use no_memory::NoMemory;
+pub use number::{NKey, NativeNo, SKey, ScriptNo};
+pub use register::Reg;
+
+/// The test of the specifications tells names apart: it says yes exactly for equal ones.
+pub fn names_are_told_apart()
+    ensures { (x y : Name) → IsTrue (same_name x y) ↔ (x ≡ y) }
+{}
+
+#[cfg(test)]
+mod tests;

@@ -1,0 +1,8 @@
+/// A register: `n0` to `n255` hold natives, `s0` to `s255` hold script objects. The registers are the roots.
+#[derive(Clone, Copy, Debug, PartialEq, Eq, Drop)]
+pub enum Reg {
+    /// A native register.
+    N(u8),
+    /// A script register.
+    S(u8),
+}

@@ -1,0 +1,172 @@
+-- WORKED EXAMPLES, part 3: what each writes, and that its run is lawful, quiet and passes the audit.
+-- Made by tools/worked_examples.py from examples/worked.txt.
+use Rattle.std.specs.Prelude.{◌≡◌, true, codes, refl}
+use Rattle.cc_model.specs.Forms.{version_one_forms}
+use Rattle.cc_model.specs.Run.{plain_text}
+use Rattle.cc_worked.specs.Examples.{default_limits, ample, IsLawfulRun, IsQuietRun}
+use Rattle.cc_worked.specs.Inputs as input
+use Rattle.cc_worked.specs.Verdict.{passes_verdict}
+use Rattle.cc_worked.specs.Audit.{passes_audit}
+use Rattle.cc_worked.proofs.Opened.{all_of_a_run}
+use Rattle.cc_worked.proofs.Sound.{run-lawful}
+use Rattle.cc_worked.proofs.Quiet.{run-quiet}
+
+-- A reflector that became a key lives as long as its native, and its entry with it.
+pub entry_preserves_its_reflector_key : plain_text version_one_forms default_limits ample input.entry_preserves_its_reflector_key
+    ≡ codes "= #1\n= ~1\n= @1\n= @2\n= ok\n= ok\n= ok\n= ok\n= ~1\n= @2\n"
+unfolding all_of_a_run
+entry_preserves_its_reflector_key = refl
+
+entry_preserves_its_reflector_key-passes : passes_verdict default_limits ample input.entry_preserves_its_reflector_key ≡ true
+unfolding all_of_a_run
+entry_preserves_its_reflector_key-passes = refl
+
+pub entry_preserves_its_reflector_key-lawful : IsLawfulRun default_limits ample input.entry_preserves_its_reflector_key
+entry_preserves_its_reflector_key-lawful = run-lawful default_limits ample input.entry_preserves_its_reflector_key entry_preserves_its_reflector_key-passes
+
+pub entry_preserves_its_reflector_key-quiet : IsQuietRun default_limits ample input.entry_preserves_its_reflector_key
+entry_preserves_its_reflector_key-quiet = run-quiet default_limits ample input.entry_preserves_its_reflector_key entry_preserves_its_reflector_key-passes
+
+pub entry_preserves_its_reflector_key-audited : passes_audit default_limits ample input.entry_preserves_its_reflector_key ≡ true
+unfolding all_of_a_run
+entry_preserves_its_reflector_key-audited = refl
+
+-- Gc, collect and gc take a cycle that goes through an entry of a map that lives on.
+pub cycle_through_an_entry : plain_text version_one_forms default_limits ample input.cycle_through_an_entry
+    ≡ codes "= #1\n= ~1\n= @1\n= @2\n= ok\n= ok\n= ok\n= ok\n= ok\n= ok\n- unlink #1\n= ok\n- free ~1\n- free #1\n- free @2\n= ok\n+ @1\n= census 1\n"
+unfolding all_of_a_run
+cycle_through_an_entry = refl
+
+cycle_through_an_entry-passes : passes_verdict default_limits ample input.cycle_through_an_entry ≡ true
+unfolding all_of_a_run
+cycle_through_an_entry-passes = refl
+
+pub cycle_through_an_entry-lawful : IsLawfulRun default_limits ample input.cycle_through_an_entry
+cycle_through_an_entry-lawful = run-lawful default_limits ample input.cycle_through_an_entry cycle_through_an_entry-passes
+
+pub cycle_through_an_entry-quiet : IsQuietRun default_limits ample input.cycle_through_an_entry
+cycle_through_an_entry-quiet = run-quiet default_limits ample input.cycle_through_an_entry cycle_through_an_entry-passes
+
+pub cycle_through_an_entry-audited : passes_audit default_limits ample input.cycle_through_an_entry ≡ true
+unfolding all_of_a_run
+cycle_through_an_entry-audited = refl
+
+-- A collection keeps the value of an entry whose key a live native holds, and what the value leads to.
+pub value_lives_by_its_mapping : plain_text version_one_forms default_limits ample input.value_lives_by_its_mapping
+    ≡ codes "= #1\n= #2\n= @1\n= @2\n= @3\n= ~2\n= ok\n= ok\n= ok\n= ok\n= ok\n= ok\n= ok\n= ok\n= ok\n= @2\n= @3\n= ~2\n= #2\n"
+unfolding all_of_a_run
+value_lives_by_its_mapping = refl
+
+value_lives_by_its_mapping-passes : passes_verdict default_limits ample input.value_lives_by_its_mapping ≡ true
+unfolding all_of_a_run
+value_lives_by_its_mapping-passes = refl
+
+pub value_lives_by_its_mapping-lawful : IsLawfulRun default_limits ample input.value_lives_by_its_mapping
+value_lives_by_its_mapping-lawful = run-lawful default_limits ample input.value_lives_by_its_mapping value_lives_by_its_mapping-passes
+
+pub value_lives_by_its_mapping-quiet : IsQuietRun default_limits ample input.value_lives_by_its_mapping
+value_lives_by_its_mapping-quiet = run-quiet default_limits ample input.value_lives_by_its_mapping value_lives_by_its_mapping-passes
+
+pub value_lives_by_its_mapping-audited : passes_audit default_limits ample input.value_lives_by_its_mapping ≡ true
+unfolding all_of_a_run
+value_lives_by_its_mapping-audited = refl
+
+-- An entry's value is replaced, read and taken out; a register frees what it alone held when something else comes into it.
+pub entries_are_replaced_and_taken_out : plain_text version_one_forms default_limits ample input.entries_are_replaced_and_taken_out
+    ≡ codes "= #1\n- free #1\n= #2\n= @1\n= @2\n= @3\n= ok\n= ok\n= @2\n= ok\n= none\n= none\n= ok\n- free @3\n= ok\n"
+unfolding all_of_a_run
+entries_are_replaced_and_taken_out = refl
+
+entries_are_replaced_and_taken_out-passes : passes_verdict default_limits ample input.entries_are_replaced_and_taken_out ≡ true
+unfolding all_of_a_run
+entries_are_replaced_and_taken_out-passes = refl
+
+pub entries_are_replaced_and_taken_out-lawful : IsLawfulRun default_limits ample input.entries_are_replaced_and_taken_out
+entries_are_replaced_and_taken_out-lawful = run-lawful default_limits ample input.entries_are_replaced_and_taken_out entries_are_replaced_and_taken_out-passes
+
+pub entries_are_replaced_and_taken_out-quiet : IsQuietRun default_limits ample input.entries_are_replaced_and_taken_out
+entries_are_replaced_and_taken_out-quiet = run-quiet default_limits ample input.entries_are_replaced_and_taken_out entries_are_replaced_and_taken_out-passes
+
+pub entries_are_replaced_and_taken_out-audited : passes_audit default_limits ample input.entries_are_replaced_and_taken_out ≡ true
+unfolding all_of_a_run
+entries_are_replaced_and_taken_out-audited = refl
+
+-- A collection with two nodes takes a unit to begin, one for each node, and one to end.
+pub two_cycle_takes_four_units : plain_text version_one_forms default_limits ample input.two_cycle_takes_four_units
+    ≡ codes "= #1\n= #2\n= ok\n= ok\n= ok\n= ok\n= ok\n= ok\n= ok\n- unlink #1\n- unlink #2\n- free #1\n- free #2\n= ok\n"
+unfolding all_of_a_run
+two_cycle_takes_four_units = refl
+
+two_cycle_takes_four_units-passes : passes_verdict default_limits ample input.two_cycle_takes_four_units ≡ true
+unfolding all_of_a_run
+two_cycle_takes_four_units-passes = refl
+
+pub two_cycle_takes_four_units-lawful : IsLawfulRun default_limits ample input.two_cycle_takes_four_units
+two_cycle_takes_four_units-lawful = run-lawful default_limits ample input.two_cycle_takes_four_units two_cycle_takes_four_units-passes
+
+pub two_cycle_takes_four_units-quiet : IsQuietRun default_limits ample input.two_cycle_takes_four_units
+two_cycle_takes_four_units-quiet = run-quiet default_limits ample input.two_cycle_takes_four_units two_cycle_takes_four_units-passes
+
+pub two_cycle_takes_four_units-audited : passes_audit default_limits ample input.two_cycle_takes_four_units ≡ true
+unfolding all_of_a_run
+two_cycle_takes_four_units-audited = refl
+
+-- A native that was touched while a collection ran waits for the next one.
+pub touched_between_slices : plain_text version_one_forms default_limits ample input.touched_between_slices
+    ≡ codes "= #1\n= ok\n= #1\n= ok\n= ok\n= #1\n= ok\n= ok\n= ok\n- unlink #1\n- free #1\n= ok\n"
+unfolding all_of_a_run
+touched_between_slices = refl
+
+touched_between_slices-passes : passes_verdict default_limits ample input.touched_between_slices ≡ true
+unfolding all_of_a_run
+touched_between_slices-passes = refl
+
+pub touched_between_slices-lawful : IsLawfulRun default_limits ample input.touched_between_slices
+touched_between_slices-lawful = run-lawful default_limits ample input.touched_between_slices touched_between_slices-passes
+
+pub touched_between_slices-quiet : IsQuietRun default_limits ample input.touched_between_slices
+touched_between_slices-quiet = run-quiet default_limits ample input.touched_between_slices touched_between_slices-passes
+
+pub touched_between_slices-audited : passes_audit default_limits ample input.touched_between_slices ≡ true
+unfolding all_of_a_run
+touched_between_slices-audited = refl
+
+-- What script read from a native while a collection ran keeps what it holds.
+pub read_between_slices : plain_text version_one_forms default_limits ample input.read_between_slices
+    ≡ codes "= #1\n= @1\n= @2\n= ok\n= ok\n= ok\n= ok\n= ok\n= ok\n= @1\n= ok\n= ok\n= @2\n"
+unfolding all_of_a_run
+read_between_slices = refl
+
+read_between_slices-passes : passes_verdict default_limits ample input.read_between_slices ≡ true
+unfolding all_of_a_run
+read_between_slices-passes = refl
+
+pub read_between_slices-lawful : IsLawfulRun default_limits ample input.read_between_slices
+read_between_slices-lawful = run-lawful default_limits ample input.read_between_slices read_between_slices-passes
+
+pub read_between_slices-quiet : IsQuietRun default_limits ample input.read_between_slices
+read_between_slices-quiet = run-quiet default_limits ample input.read_between_slices read_between_slices-passes
+
+pub read_between_slices-audited : passes_audit default_limits ample input.read_between_slices ≡ true
+unfolding all_of_a_run
+read_between_slices-audited = refl
+
+-- A native lives by its reflector, which script touched while the collection ran.
+pub native_lives_by_an_exposed_reflector : plain_text version_one_forms default_limits ample input.native_lives_by_an_exposed_reflector
+    ≡ codes "= #1\n= #2\n= #3\n= ~2\n= ok\n= ok\n= ok\n= ok\n= ok\n= ok\n= ok\n= ok\n= ~2\n= ok\n- unlink #3\n- free #3\n= ok\n= #2\n"
+unfolding all_of_a_run
+native_lives_by_an_exposed_reflector = refl
+
+native_lives_by_an_exposed_reflector-passes : passes_verdict default_limits ample input.native_lives_by_an_exposed_reflector ≡ true
+unfolding all_of_a_run
+native_lives_by_an_exposed_reflector-passes = refl
+
+pub native_lives_by_an_exposed_reflector-lawful : IsLawfulRun default_limits ample input.native_lives_by_an_exposed_reflector
+native_lives_by_an_exposed_reflector-lawful = run-lawful default_limits ample input.native_lives_by_an_exposed_reflector native_lives_by_an_exposed_reflector-passes
+
+pub native_lives_by_an_exposed_reflector-quiet : IsQuietRun default_limits ample input.native_lives_by_an_exposed_reflector
+native_lives_by_an_exposed_reflector-quiet = run-quiet default_limits ample input.native_lives_by_an_exposed_reflector native_lives_by_an_exposed_reflector-passes
+
+pub native_lives_by_an_exposed_reflector-audited : passes_audit default_limits ample input.native_lives_by_an_exposed_reflector ≡ true
+unfolding all_of_a_run
+native_lives_by_an_exposed_reflector-audited = refl

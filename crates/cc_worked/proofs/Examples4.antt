@@ -1,0 +1,172 @@
+-- WORKED EXAMPLES, part 4: what each writes, and that its run is lawful, quiet and passes the audit.
+-- Made by tools/worked_examples.py from examples/worked.txt.
+use Rattle.std.specs.Prelude.{◌≡◌, true, codes, refl}
+use Rattle.cc_model.specs.Forms.{version_one_forms}
+use Rattle.cc_model.specs.Run.{plain_text}
+use Rattle.cc_worked.specs.Examples.{default_limits, ample, refused_at, IsLawfulRun, IsQuietRun}
+use Rattle.cc_worked.specs.Inputs as input
+use Rattle.cc_worked.specs.Verdict.{passes_verdict}
+use Rattle.cc_worked.specs.Audit.{passes_audit}
+use Rattle.cc_worked.proofs.Opened.{all_of_a_run}
+use Rattle.cc_worked.proofs.Sound.{run-lawful}
+use Rattle.cc_worked.proofs.Quiet.{run-quiet}
+
+-- A native that gets a reference after it was sampled is touched, so it is not looked at with an old count.
+pub copied_after_its_node_was_traversed : plain_text version_one_forms default_limits ample input.copied_after_its_node_was_traversed
+    ≡ codes "= #1\n= ok\n= #1\n= ok\n= ok\n= #1\n= ok\n= ok\n= ok\n- unlink #1\n- free #1\n= ok\n"
+unfolding all_of_a_run
+copied_after_its_node_was_traversed = refl
+
+copied_after_its_node_was_traversed-passes : passes_verdict default_limits ample input.copied_after_its_node_was_traversed ≡ true
+unfolding all_of_a_run
+copied_after_its_node_was_traversed-passes = refl
+
+pub copied_after_its_node_was_traversed-lawful : IsLawfulRun default_limits ample input.copied_after_its_node_was_traversed
+copied_after_its_node_was_traversed-lawful = run-lawful default_limits ample input.copied_after_its_node_was_traversed copied_after_its_node_was_traversed-passes
+
+pub copied_after_its_node_was_traversed-quiet : IsQuietRun default_limits ample input.copied_after_its_node_was_traversed
+copied_after_its_node_was_traversed-quiet = run-quiet default_limits ample input.copied_after_its_node_was_traversed copied_after_its_node_was_traversed-passes
+
+pub copied_after_its_node_was_traversed-audited : passes_audit default_limits ample input.copied_after_its_node_was_traversed ≡ true
+unfolding all_of_a_run
+copied_after_its_node_was_traversed-audited = refl
+
+-- Unlinking one white native may free the one that comes next in the walk.
+pub native_vanishes_inside_an_unlink : plain_text version_one_forms default_limits ample input.native_vanishes_inside_an_unlink
+    ≡ codes "= #1\n= #2\n= ok\n= ok\n= ok\n= ok\n= ok\n- unlink #1\n- free #2\n- free #1\n= ok\n"
+unfolding all_of_a_run
+native_vanishes_inside_an_unlink = refl
+
+native_vanishes_inside_an_unlink-passes : passes_verdict default_limits ample input.native_vanishes_inside_an_unlink ≡ true
+unfolding all_of_a_run
+native_vanishes_inside_an_unlink-passes = refl
+
+pub native_vanishes_inside_an_unlink-lawful : IsLawfulRun default_limits ample input.native_vanishes_inside_an_unlink
+native_vanishes_inside_an_unlink-lawful = run-lawful default_limits ample input.native_vanishes_inside_an_unlink native_vanishes_inside_an_unlink-passes
+
+pub native_vanishes_inside_an_unlink-quiet : IsQuietRun default_limits ample input.native_vanishes_inside_an_unlink
+native_vanishes_inside_an_unlink-quiet = run-quiet default_limits ample input.native_vanishes_inside_an_unlink native_vanishes_inside_an_unlink-passes
+
+pub native_vanishes_inside_an_unlink-audited : passes_audit default_limits ample input.native_vanishes_inside_an_unlink ≡ true
+unfolding all_of_a_run
+native_vanishes_inside_an_unlink-audited = refl
+
+-- A native made while a collection runs is kept, and the cycle that the collection began with is taken.
+pub native_made_between_slices : plain_text version_one_forms default_limits ample input.native_made_between_slices
+    ≡ codes "= #1\n= ~1\n= ok\n= ok\n= ok\n= ok\n= ok\n= #2\n- unlink #1\n= ok\n- free ~1\n- free #1\n= ok\n+ #2\n= census 1\n"
+unfolding all_of_a_run
+native_made_between_slices = refl
+
+native_made_between_slices-passes : passes_verdict default_limits ample input.native_made_between_slices ≡ true
+unfolding all_of_a_run
+native_made_between_slices-passes = refl
+
+pub native_made_between_slices-lawful : IsLawfulRun default_limits ample input.native_made_between_slices
+native_made_between_slices-lawful = run-lawful default_limits ample input.native_made_between_slices native_made_between_slices-passes
+
+pub native_made_between_slices-quiet : IsQuietRun default_limits ample input.native_made_between_slices
+native_made_between_slices-quiet = run-quiet default_limits ample input.native_made_between_slices native_made_between_slices-passes
+
+pub native_made_between_slices-audited : passes_audit default_limits ample input.native_made_between_slices ≡ true
+unfolding all_of_a_run
+native_made_between_slices-audited = refl
+
+-- Gc brings a collection that runs to its end before it marks.
+pub gc_ends_a_running_collection : plain_text version_one_forms default_limits ample input.gc_ends_a_running_collection
+    ≡ codes "= #1\n= ok\n= ok\n= ok\n- unlink #1\n- free #1\n= ok\n"
+unfolding all_of_a_run
+gc_ends_a_running_collection = refl
+
+gc_ends_a_running_collection-passes : passes_verdict default_limits ample input.gc_ends_a_running_collection ≡ true
+unfolding all_of_a_run
+gc_ends_a_running_collection-passes = refl
+
+pub gc_ends_a_running_collection-lawful : IsLawfulRun default_limits ample input.gc_ends_a_running_collection
+gc_ends_a_running_collection-lawful = run-lawful default_limits ample input.gc_ends_a_running_collection gc_ends_a_running_collection-passes
+
+pub gc_ends_a_running_collection-quiet : IsQuietRun default_limits ample input.gc_ends_a_running_collection
+gc_ends_a_running_collection-quiet = run-quiet default_limits ample input.gc_ends_a_running_collection gc_ends_a_running_collection-passes
+
+pub gc_ends_a_running_collection-audited : passes_audit default_limits ample input.gc_ends_a_running_collection ≡ true
+unfolding all_of_a_run
+gc_ends_a_running_collection-audited = refl
+
+-- A collection whose begin is refused memory is abandoned, and nothing is forgotten.
+pub collect_refused_at_its_begin : plain_text version_one_forms default_limits (refused_at 2) input.collect_refused_at_its_begin
+    ≡ codes "= #1\n= ok\n= ok\n- abandon\n! nomem\n= ok\n- unlink #1\n- free #1\n= ok\n= ok\n= census 0\n"
+unfolding all_of_a_run
+collect_refused_at_its_begin = refl
+
+collect_refused_at_its_begin-passes : passes_verdict default_limits (refused_at 2) input.collect_refused_at_its_begin ≡ true
+unfolding all_of_a_run
+collect_refused_at_its_begin-passes = refl
+
+pub collect_refused_at_its_begin-lawful : IsLawfulRun default_limits (refused_at 2) input.collect_refused_at_its_begin
+collect_refused_at_its_begin-lawful = run-lawful default_limits (refused_at 2) input.collect_refused_at_its_begin collect_refused_at_its_begin-passes
+
+pub collect_refused_at_its_begin-quiet : IsQuietRun default_limits (refused_at 2) input.collect_refused_at_its_begin
+collect_refused_at_its_begin-quiet = run-quiet default_limits (refused_at 2) input.collect_refused_at_its_begin collect_refused_at_its_begin-passes
+
+pub collect_refused_at_its_begin-audited : passes_audit default_limits (refused_at 2) input.collect_refused_at_its_begin ≡ true
+unfolding all_of_a_run
+collect_refused_at_its_begin-audited = refl
+
+-- A collection whose first node is refused memory is abandoned, and its candidate comes back.
+pub collect_refused_at_a_node : plain_text version_one_forms default_limits (refused_at 3) input.collect_refused_at_a_node
+    ≡ codes "= #1\n= ok\n= ok\n- abandon\n! nomem\n= ok\n- unlink #1\n- free #1\n= ok\n= ok\n= census 0\n"
+unfolding all_of_a_run
+collect_refused_at_a_node = refl
+
+collect_refused_at_a_node-passes : passes_verdict default_limits (refused_at 3) input.collect_refused_at_a_node ≡ true
+unfolding all_of_a_run
+collect_refused_at_a_node-passes = refl
+
+pub collect_refused_at_a_node-lawful : IsLawfulRun default_limits (refused_at 3) input.collect_refused_at_a_node
+collect_refused_at_a_node-lawful = run-lawful default_limits (refused_at 3) input.collect_refused_at_a_node collect_refused_at_a_node-passes
+
+pub collect_refused_at_a_node-quiet : IsQuietRun default_limits (refused_at 3) input.collect_refused_at_a_node
+collect_refused_at_a_node-quiet = run-quiet default_limits (refused_at 3) input.collect_refused_at_a_node collect_refused_at_a_node-passes
+
+pub collect_refused_at_a_node-audited : passes_audit default_limits (refused_at 3) input.collect_refused_at_a_node ≡ true
+unfolding all_of_a_run
+collect_refused_at_a_node-audited = refl
+
+-- A line with a token too many or too few is not in the grammar, and the next one is answered.
+pub wrong_number_of_tokens : plain_text version_one_forms default_limits ample input.wrong_number_of_tokens
+    ≡ codes "! line\n! line\n= #1\n"
+unfolding all_of_a_run
+wrong_number_of_tokens = refl
+
+wrong_number_of_tokens-passes : passes_verdict default_limits ample input.wrong_number_of_tokens ≡ true
+unfolding all_of_a_run
+wrong_number_of_tokens-passes = refl
+
+pub wrong_number_of_tokens-lawful : IsLawfulRun default_limits ample input.wrong_number_of_tokens
+wrong_number_of_tokens-lawful = run-lawful default_limits ample input.wrong_number_of_tokens wrong_number_of_tokens-passes
+
+pub wrong_number_of_tokens-quiet : IsQuietRun default_limits ample input.wrong_number_of_tokens
+wrong_number_of_tokens-quiet = run-quiet default_limits ample input.wrong_number_of_tokens wrong_number_of_tokens-passes
+
+pub wrong_number_of_tokens-audited : passes_audit default_limits ample input.wrong_number_of_tokens ≡ true
+unfolding all_of_a_run
+wrong_number_of_tokens-audited = refl
+
+-- What is refused, and what becomes of blank lines, comments, long lines and carriage returns.
+pub refusals_and_odd_lines : plain_text version_one_forms default_limits ample input.refusals_and_odd_lines
+    ≡ codes "= #1\n= #2\n= ok\n! kind\n! slot\n! slot\n! empty\n! kind\n= @1\n= @2\n! kind\n! slot\n! empty\n! kind\n! line\n! line\n! long\n+ #1\n+ #2\n+ @1\n+ @2\n= census 4\n"
+unfolding all_of_a_run
+refusals_and_odd_lines = refl
+
+refusals_and_odd_lines-passes : passes_verdict default_limits ample input.refusals_and_odd_lines ≡ true
+unfolding all_of_a_run
+refusals_and_odd_lines-passes = refl
+
+pub refusals_and_odd_lines-lawful : IsLawfulRun default_limits ample input.refusals_and_odd_lines
+refusals_and_odd_lines-lawful = run-lawful default_limits ample input.refusals_and_odd_lines refusals_and_odd_lines-passes
+
+pub refusals_and_odd_lines-quiet : IsQuietRun default_limits ample input.refusals_and_odd_lines
+refusals_and_odd_lines-quiet = run-quiet default_limits ample input.refusals_and_odd_lines refusals_and_odd_lines-passes
+
+pub refusals_and_odd_lines-audited : passes_audit default_limits ample input.refusals_and_odd_lines ≡ true
+unfolding all_of_a_run
+refusals_and_odd_lines-audited = refl

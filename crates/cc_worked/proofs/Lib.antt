@@ -1,0 +1,15 @@
+pub mod Opened
+pub mod Passing
+pub mod Reaching
+pub mod Sound
+pub mod Quiet
+pub mod Wrong
+pub mod FreshTest
+pub mod SuspectedTest
+pub mod Witnesses
+pub mod Examples1
+pub mod Examples2
+pub mod Examples3
+pub mod Examples4
+pub mod Examples5
+pub mod Examples

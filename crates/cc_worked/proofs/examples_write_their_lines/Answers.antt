@@ -1,0 +1,11 @@
+use Rattle.cc_worked.proofs.Examples.{self_cycle_is_collected, touched_between_slices, value_lives_by_its_mapping}
+use Rattle.cc_worked.proofs.examples_write_their_lines.Goals as goal
+
+pub returns-clause-self_cycle_is_collected : goal.returns-clause-self_cycle_is_collected
+returns-clause-self_cycle_is_collected c = self_cycle_is_collected
+
+pub returns-clause-touched_between_slices : goal.returns-clause-touched_between_slices
+returns-clause-touched_between_slices c = touched_between_slices
+
+pub returns-clause-value_lives_by_its_mapping : goal.returns-clause-value_lives_by_its_mapping
+returns-clause-value_lives_by_its_mapping c = value_lives_by_its_mapping

@@ -1,0 +1,155 @@
+-- THE INPUTS of the worked examples.
+-- Made by tools/worked_examples.py from examples/worked.txt.
+use Rattle.std.specs.Prelude.{ℕ, List, [], ◌++◌, codes, replicate}
+
+-- Nothing is written for an empty input.
+abbrev pub empty_input : List ℕ
+empty_input = []
+
+-- A native whose last reference is given up is freed, and then what it alone held.
+abbrev pub cascade_of_two : List ℕ
+cascade_of_two = codes "native n0 1\nnative n1 0\nset n0 0 n1\ndrop n1\ndrop n0\n"
+
+-- A slot reads as nothing until it is written.
+abbrev pub empty_slot_reads_none : List ℕ
+empty_slot_reads_none = codes "native n0 1\nget n1 n0 0\nset n0 0 n0\nget n1 n0 0\ndrop n0\ndrop n1\ncensus\n"
+
+-- A native that holds itself is kept when its register lets it go.
+abbrev pub self_cycle_outlives_its_register : List ℕ
+self_cycle_outlives_its_register = codes "native n0 1\nset n0 0 n0\ndrop n0\ncensus\n"
+
+-- A collection unlinks and frees a native that only itself holds.
+abbrev pub self_cycle_is_collected : List ℕ
+self_cycle_is_collected = codes "native n0 1\nset n0 0 n0\ndrop n0\ncensus\ncollect\ncensus\n"
+
+-- Two natives that hold each other are both unlinked before the first of them is freed.
+abbrev pub two_cycle_is_collected : List ℕ
+two_cycle_is_collected = codes "native n0 1\nnative n1 1\nset n0 0 n1\nset n1 0 n0\ndrop n0\ndrop n1\ncollect\n"
+
+-- A cycle that a register holds is looked at and kept.
+abbrev pub held_cycle_is_kept : List ℕ
+held_cycle_is_kept = codes "native n0 1\nnative n1 1\nset n0 0 n1\nset n1 0 n0\ndrop n1\ncollect\ncensus\n"
+
+-- Gc keeps what a native holds, with all that this reaches, until the native is freed.
+abbrev pub native_keeps_what_it_holds : List ℕ
+native_keeps_what_it_holds = codes "native n0 1\nscript s0 1\nscript s1 0\nput s0 0 s1\nset n0 0 s0\ndrop s0\ndrop s1\ngc\nget s1 n0 0\ndrop n0\ndrop s1\ngc\n"
+
+-- A reflector that was made since the last gc keeps its cycle through a collection.
+abbrev pub reflector_is_still_black : List ℕ
+reflector_is_still_black = codes "native n0 1\nwrap s0 n0\nset n0 0 s0\ndrop s0\ndrop n0\ncollect\ncensus\n"
+
+-- Gc, collect and gc take a cycle of a native and its reflector.
+abbrev pub cycle_through_a_reflector : List ℕ
+cycle_through_a_reflector = codes "native n0 1\nwrap s0 n0\nset n0 0 s0\ndrop s0\ndrop n0\ncollect\ncensus\ngc\ncollect\ngc\ncensus\n"
+
+-- A blank reflector is freed though its native lives, and goes last when it is made again.
+abbrev pub reflector_made_again_is_listed_last : List ℕ
+reflector_made_again_is_listed_last = codes "native n0 0\nwrap s0 n0\nscript s1 0\ndrop s0\ngc\nwrap s0 n0\ncensus\n"
+
+-- A reflector whose slot was written lives as long as its native, with what it holds.
+abbrev pub written_reflector_is_preserved : List ℕ
+written_reflector_is_preserved = codes "native n0 0\nwrap s0 n0\nscript s1 0\nput s0 2 s1\ndrop s1\ndrop s0\ngc\nwrap s0 n0\ntake s1 s0 2\n"
+
+-- Gc marks and sweeps again as long as a freed native lets go of script objects.
+abbrev pub gc_sweeps_three_rounds : List ℕ
+gc_sweeps_three_rounds = codes "native n0 1\nnative n1 1\nscript s0 0\nset n1 0 s0\nwrap s1 n1\nset n0 0 s1\nwrap s2 n0\ndrop s0\ndrop s1\ndrop s2\ndrop n0\ndrop n1\ngc\n"
+
+-- A collection leaves a cycle that script touched after the last gc, and the next one takes it.
+abbrev pub exposed_reflector_waits_for_gc : List ℕ
+exposed_reflector_waits_for_gc = codes "native n0 1\nwrap s0 n0\nset n0 0 s0\ndrop s0\ngc\nexpose n0 0\ndrop n0\ncollect\ngc\ncollect\ngc\n"
+
+-- A native and its preserved reflector hold each other, and are taken together.
+abbrev pub preserved_reflector_is_collected : List ℕ
+preserved_reflector_is_collected = codes "native n0 0\nwrap s0 n0\npreserve s0\ndrop s0\ngc\ndrop n0\ngc\ncollect\ngc\n"
+
+-- An entry whose value alone holds its key is dropped, with both.
+abbrev pub entry_does_not_keep_its_key : List ℕ
+entry_does_not_keep_its_key = codes "weakmap s0\nscript s1 1\nscript s2 1\nput s2 0 s1\nwset s0 s1 s2\ndrop s1\ndrop s2\ngc\ncensus\n"
+
+-- A reflector that became a key lives as long as its native, and its entry with it.
+abbrev pub entry_preserves_its_reflector_key : List ℕ
+entry_preserves_its_reflector_key = codes "native n0 0\nwrap s1 n0\nweakmap s0\nscript s2 0\nwset s0 s1 s2\ndrop s1\ndrop s2\ngc\nwrap s1 n0\nwget s2 s0 s1\n"
+
+-- Gc, collect and gc take a cycle that goes through an entry of a map that lives on.
+abbrev pub cycle_through_an_entry : List ℕ
+cycle_through_an_entry = codes "native n0 0\nwrap s1 n0\nweakmap s0\nscript s2 1\nput s2 0 s1\nwset s0 s1 s2\ndrop n0\ndrop s1\ndrop s2\ngc\ncollect\ngc\ncensus\n"
+
+-- A collection keeps the value of an entry whose key a live native holds, and what the value leads to.
+abbrev pub value_lives_by_its_mapping : List ℕ
+value_lives_by_its_mapping = codes "native n0 1\nnative n1 0\nweakmap s0\nscript s1 0\nscript s2 1\nwrap s3 n1\nput s2 0 s3\nset n0 0 s1\nwset s0 s1 s2\ndrop s1\ndrop s2\ndrop s3\ndrop n1\ngc\ncollect\nget s1 n0 0\nwget s2 s0 s1\ntake s3 s2 0\nunwrap n1 s3\n"
+
+-- An entry's value is replaced, read and taken out; a register frees what it alone held when something else comes into it.
+abbrev pub entries_are_replaced_and_taken_out : List ℕ
+entries_are_replaced_and_taken_out = codes "native n0 0\nnative n0 0\nweakmap s0\nscript s1 0\nscript s2 0\nwset s0 s1 s2\nwset s0 s1 s1\nwget s3 s0 s1\nwset s0 s1 none\nwget s3 s0 s1\ncopy s3 s3\ndrop s2\ngc\n"
+
+-- A collection with two nodes takes a unit to begin, one for each node, and one to end.
+abbrev pub two_cycle_takes_four_units : List ℕ
+two_cycle_takes_four_units = codes "native n0 1\nnative n1 1\nset n0 0 n1\nset n1 0 n0\ndrop n0\ndrop n1\nslice 1\nslice 1\nslice 1\nslice 1\n"
+
+-- A native that was touched while a collection ran waits for the next one.
+abbrev pub touched_between_slices : List ℕ
+touched_between_slices = codes "native n0 1\nset n0 0 n0\ncopy n1 n0\ndrop n1\nslice 1\ncopy n2 n0\ndrop n0\ndrop n2\nslice 10\ncollect\n"
+
+-- What script read from a native while a collection ran keeps what it holds.
+abbrev pub read_between_slices : List ℕ
+read_between_slices = codes "native n0 1\nscript s0 1\nscript s1 0\nput s0 0 s1\nset n0 0 s0\ndrop s0\ndrop s1\ngc\nslice 1\nget s0 n0 0\nset n0 0 none\nslice 10\ntake s1 s0 0\n"
+
+-- A native lives by its reflector, which script touched while the collection ran.
+abbrev pub native_lives_by_an_exposed_reflector : List ℕ
+native_lives_by_an_exposed_reflector = codes "native n0 1\nnative n1 0\nnative n2 2\nwrap s0 n1\nset n0 0 s0\nset n2 0 s0\nset n2 1 n2\ndrop s0\ndrop n1\ndrop n2\ngc\nslice 3\nget s1 n0 0\nset n0 0 none\nslice 10\nunwrap n1 s1\n"
+
+-- A native that gets a reference after it was sampled is touched, so it is not looked at with an old count.
+abbrev pub copied_after_its_node_was_traversed : List ℕ
+copied_after_its_node_was_traversed = codes "native n0 1\nset n0 0 n0\ncopy n1 n0\ndrop n1\nslice 2\ncopy n2 n0\nslice 5\ndrop n0\ndrop n2\ncollect\n"
+
+-- Unlinking one white native may free the one that comes next in the walk.
+abbrev pub native_vanishes_inside_an_unlink : List ℕ
+native_vanishes_inside_an_unlink = codes "native n0 2\nnative n1 0\nset n0 0 n0\nset n0 1 n1\ndrop n0\nslice 1\ndrop n1\nslice 10\n"
+
+-- A native made while a collection runs is kept, and the cycle that the collection began with is taken.
+abbrev pub native_made_between_slices : List ℕ
+native_made_between_slices = codes "native n0 1\nwrap s0 n0\nset n0 0 s0\ndrop s0\ndrop n0\ngc\nslice 1\nnative n1 0\nslice 9\ngc\ncensus\n"
+
+-- Gc brings a collection that runs to its end before it marks.
+abbrev pub gc_ends_a_running_collection : List ℕ
+gc_ends_a_running_collection = codes "native n0 1\nset n0 0 n0\ndrop n0\nslice 1\ngc\n"
+
+-- A collection whose begin is refused memory is abandoned, and nothing is forgotten.
+abbrev pub collect_refused_at_its_begin : List ℕ
+collect_refused_at_its_begin = codes "native n0 1\nset n0 0 n0\ndrop n0\ncollect\ngc\ncollect\ngc\ncensus\n"
+
+-- A collection whose first node is refused memory is abandoned, and its candidate comes back.
+abbrev pub collect_refused_at_a_node : List ℕ
+collect_refused_at_a_node = codes "native n0 1\nset n0 0 n0\ndrop n0\ncollect\ngc\ncollect\ngc\ncensus\n"
+
+-- A line with a token too many or too few is not in the grammar, and the next one is answered.
+abbrev pub wrong_number_of_tokens : List ℕ
+wrong_number_of_tokens = codes "collect now\nscript s0\nnative n0 0\n"
+
+-- What is refused, and what becomes of blank lines, comments, long lines and carriage returns.
+abbrev pub refusals_and_odd_lines : List ℕ
+refusals_and_odd_lines = codes "native n0 1\nnative n1 0\nset n0 0 n1\nget s0 n0 0\nget s0 n0 7\nset n0 9 none\nset n0 9 n8\nexpose n0 0\nweakmap s0\nscript s1 0\nput s0 9 s1\nput s1 0 s0\nunwrap n0 s9\nunwrap n0 s1\nslice 0\ncollect now\n\n% note\n" ++ replicate 121 97 ++ codes "\ncensus" ++ replicate 1 13 ++ codes "\n"
+
+-- The greatest numbers of slots, indexes, registers and units are taken, and greater ones are not in the grammar.
+abbrev pub numbers_at_their_bounds : List ℕ
+numbers_at_their_bounds = codes "native n0 64\nset n0 63 n0\nset n0 64 n0\nset n0 4294967295 n0\nset n0 4294967296 n0\nnative n0 65\nnative n0 01\nnative n256 0\nnative n255 0\ncopy n1 s0\ncopy n1 n7\ndrop n7\nslice 1000000\nslice 1000001\n"
+
+-- The limit of natives counts those that were freed.
+abbrev pub limit_counts_freed_natives : List ℕ
+limit_counts_freed_natives = codes "native n0 0\ndrop n0\nnative n0 0\n"
+
+-- The limit of script objects counts those that were freed.
+abbrev pub limit_counts_freed_script_objects : List ℕ
+limit_counts_freed_script_objects = codes "script s0 0\ndrop s0\ngc\nscript s0 0\n"
+
+-- An input of as many bytes as may be read is read whole.
+abbrev pub input_of_exactly_the_bytes_allowed : List ℕ
+input_of_exactly_the_bytes_allowed = codes "native n0 0\n"
+
+-- An input of one byte more ends the run after the lines that end within the limit.
+abbrev pub input_of_one_byte_more : List ℕ
+input_of_one_byte_more = codes "native n0 0\n\n"
+
+-- With no byte allowed one byte ends the run with nothing written.
+abbrev pub input_where_no_byte_is_allowed : List ℕ
+input_where_no_byte_is_allowed = codes "x"

@@ -1,0 +1,285 @@
+#!/usr/bin/env python3
+"""Makes theorems of the worked examples.
+
+    tools/worked_examples.py            writes the files of crates/cc_worked that are made of examples/worked.txt
+    tools/worked_examples.py --check    writes nothing; says which of them differ, and exits 1 where one does
+
+The table says itself how it is read. Each example's input becomes a definition in specs/Inputs.antt, and these
+theorems in proofs/Examples1.antt and the files after it: the plain run of the input writes the output; the run is
+lawful; it is quiet; it passes the audit. An example that ends with status 5 becomes one theorem: what its input
+writes within the bytes allowed.
+"""
+import re
+import sys
+from pathlib import Path
+
+ROOT = Path(__file__).resolve().parent.parent
+TABLE = ROOT / 'examples' / 'worked.txt'
+CRATE = ROOT / 'crates' / 'cc_worked'
+EXAMPLES_IN_A_FILE = 8
+DEFAULT_LIMITS = (1000000, 1000000, 4294967295)
+STATUS_LIMIT = 5
+NOTE = '-- Made by tools/worked_examples.py from examples/worked.txt.\n'
+
+
+class Example:
+    def __init__(self, name):
+        self.name = name
+        self.shows = ''
+        self.limits = DEFAULT_LIMITS
+        self.refused = None
+        self.input = []
+        self.output = []
+        self.status = 0
+
+    def is_whole(self):
+        """Whether the whole input is read."""
+        return self.status == 0
+
+
+class TableError(Exception):
+    pass
+
+
+# The table
+
+def pieces(text):
+    """A text cut into strings, for bytes as they stand, and pairs of a byte and how often it comes."""
+    found = []
+    for part in re.split(r'(\{[^}]*\})', text):
+        repeated = re.fullmatch(r'\{(.)\*(\d+)\}', part)
+        if repeated:
+            found.append((ord(repeated[1]), int(repeated[2])))
+        elif part == '{cr}':
+            found.append((13, 1))
+        elif part.startswith('{') and part != '{}':
+            raise TableError(f'unknown {part}')
+        elif part not in ('', '{}'):
+            found.append(part)
+    return found
+
+
+def lines(text):
+    found = []
+    for line in text.split(' / '):
+        found += pieces(line) + ['\n']
+    return found
+
+
+def joined(found):
+    """The same pieces with neighbouring strings as one."""
+    made = []
+    for piece in found:
+        if made and isinstance(piece, str) and isinstance(made[-1], str):
+            made[-1] += piece
+        else:
+            made.append(piece)
+    return made
+
+
+def add_key(example, key, rest):
+    if key == 'shows':
+        example.shows = rest
+    elif key == 'limits':
+        natives, scripts, read = rest.split()
+        example.limits = (int(natives), int(scripts), int(read))
+    elif key == 'refuse':
+        example.refused = int(rest)
+    elif key == 'in':
+        example.input += lines(rest)
+    elif key == 'raw':
+        example.input += pieces(rest)
+    elif key == 'out':
+        example.output += lines(rest)
+    elif key == 'status':
+        example.status = int(rest)
+    else:
+        raise TableError(f'unknown word {key}')
+
+
+def check_example(example):
+    if not example.shows:
+        raise TableError(f'{example.name} has no line shows')
+    if example.status not in (0, STATUS_LIMIT):
+        raise TableError(f'{example.name} ends with status {example.status}, which no theorem says')
+
+
+def read_table(path):
+    examples = []
+    for number, line in enumerate(path.read_text(encoding='utf-8').splitlines(), 1):
+        if not line.strip() or line.startswith('#'):
+            continue
+        key, _, rest = line.partition(' ')
+        try:
+            if key == 'example':
+                if not re.fullmatch(r'[a-z][a-z0-9_]*', rest) or rest in [e.name for e in examples]:
+                    raise TableError(f'{rest} is no new name')
+                examples.append(Example(rest))
+            elif not examples:
+                raise TableError('no example has begun')
+            else:
+                add_key(examples[-1], key, rest)
+        except (TableError, ValueError) as error:
+            raise TableError(f'{path.name}, line {number}: {error}') from error
+    for example in examples:
+        check_example(example)
+    return examples
+
+
+# The terms
+
+def quoted(text):
+    return 'codes "' + text.replace('\\', '\\\\').replace('"', '\\"').replace('\n', '\\n') + '"'
+
+
+def term_of_piece(piece):
+    if isinstance(piece, str):
+        return quoted(piece)
+    byte, times = piece
+    return f'replicate {times} {byte}'
+
+
+def term(found):
+    """The term of a list of bytes."""
+    parts = [term_of_piece(piece) for piece in joined(found)]
+    return ' ++ '.join(parts) if parts else '[]'
+
+
+def term_of_limits(limits):
+    if limits == DEFAULT_LIMITS:
+        return 'default_limits'
+    return '(limits {} {} {})'.format(*limits)
+
+
+def term_of_memory(refused):
+    return 'ample' if refused is None else f'(refused_at {refused})'
+
+
+def sentence(text):
+    return text[0].upper() + text[1:] + '.'
+
+
+def imports(body, words):
+    """The lines that import, of each module, the words that stand in the text, comments and strings aside."""
+    body = re.sub(r'--[^\n]*|"(?:[^"\\]|\\.)*"', '', body)
+    made = ''
+    for module, names in words:
+        used = [name for name in names if re.search(r'(?<![\w.-])' + re.escape(name.strip('◌')) + r'(?![\w.-])', body)]
+        if used:
+            made += f'use {module}.{{{", ".join(used)}}}\n'
+    return made
+
+
+# The files
+
+def file_of_inputs(examples):
+    body = ''
+    for example in examples:
+        body += f'\n-- {sentence(example.shows)}\n'
+        body += f'abbrev pub {example.name} : List ℕ\n{example.name} = {term(example.input)}\n'
+    words = [('Rattle.std.specs.Prelude', ['ℕ', 'List', '[]', '◌++◌', 'codes', 'replicate'])]
+    return '-- THE INPUTS of the worked examples.\n' + NOTE + imports(body, words) + body
+
+
+THEOREM_WORDS = [
+    ('Rattle.std.specs.Prelude', ['◌≡◌', 'true', '[]', '◌++◌', 'codes', 'replicate', 'refl']),
+    ('Rattle.cc_model.specs.Forms', ['version_one_forms']),
+    ('Rattle.cc_model.specs.Run', ['plain_text']),
+    ('Rattle.cc_worked.specs.Examples', ['limits', 'default_limits', 'ample', 'refused_at', 'text_within', 'IsLawfulRun', 'IsQuietRun']),
+]
+OTHER_WORDS = [
+    ('Rattle.cc_worked.specs.Verdict', ['passes_verdict']),
+    ('Rattle.cc_worked.specs.Audit', ['passes_audit']),
+    ('Rattle.cc_worked.proofs.Opened', ['all_of_a_run']),
+    ('Rattle.cc_worked.proofs.Sound', ['run-lawful']),
+    ('Rattle.cc_worked.proofs.Quiet', ['run-quiet']),
+]
+
+
+def by_computation(name, claim, is_public=True):
+    pub = 'pub ' if is_public else ''
+    return f'\n{pub}{name} : {claim}\nunfolding all_of_a_run\n{name} = refl\n'
+
+
+def theorems(example):
+    name = example.name
+    given = f'{term_of_limits(example.limits)} {term_of_memory(example.refused)} input.{name}'
+    written = 'plain_text' if example.is_whole() else 'text_within'
+    claim = f'{written} version_one_forms {given}\n    ≡ {term(example.output)}'
+    made = f'\n-- {sentence(example.shows)}' + by_computation(name, claim)
+    if example.is_whole():
+        made += by_computation(f'{name}-passes', f'passes_verdict {given} ≡ true', is_public=False)
+        made += f'\npub {name}-lawful : IsLawfulRun {given}\n{name}-lawful = run-lawful {given} {name}-passes\n'
+        made += f'\npub {name}-quiet : IsQuietRun {given}\n{name}-quiet = run-quiet {given} {name}-passes\n'
+        made += by_computation(f'{name}-audited', f'passes_audit {given} ≡ true')
+    return made
+
+
+def file_of_theorems(number, examples):
+    body = ''.join(theorems(example) for example in examples)
+    head = f'-- WORKED EXAMPLES, part {number}: what each writes, and that its run is lawful, quiet and passes the audit.\n' + NOTE
+    return head + imports(body, THEOREM_WORDS) + 'use Rattle.cc_worked.specs.Inputs as input\n' + imports(body, OTHER_WORDS) + body
+
+
+def names_of_theorems(example):
+    """The theorems on an example that other files may cite."""
+    endings = ['', '-lawful', '-quiet', '-audited'] if example.is_whole() else ['']
+    return [example.name + ending for ending in endings]
+
+
+def file_of_names(parts):
+    """The file by which other files cite the theorems, wherever they stand."""
+    made = '-- THE WORKED EXAMPLES as theorems, from all the files in which they stand.\n' + NOTE
+    for number, part in enumerate(parts, 1):
+        names = [name for example in part for name in names_of_theorems(example)]
+        made += f'pub use Rattle.cc_worked.proofs.Examples{number}.{{{", ".join(names)}}}\n'
+    return made
+
+
+def file_of_modules(count):
+    """The list of modules: the lines that were written by hand, and then one for each file that is made here."""
+    lines = (CRATE / 'proofs' / 'Lib.antt').read_text(encoding='utf-8').splitlines()
+    by_hand = [line for line in lines if not re.fullmatch(r'pub mod Examples\d*', line)]
+    made = [f'pub mod Examples{i}' for i in range(1, count + 1)] + ['pub mod Examples']
+    return ''.join(line + '\n' for line in by_hand + made)
+
+
+def files(examples):
+    """The text of each file by its path."""
+    parts = [examples[i:i + EXAMPLES_IN_A_FILE] for i in range(0, len(examples), EXAMPLES_IN_A_FILE)]
+    made = {CRATE / 'specs' / 'Inputs.antt': file_of_inputs(examples)}
+    for number, part in enumerate(parts, 1):
+        made[CRATE / 'proofs' / f'Examples{number}.antt'] = file_of_theorems(number, part)
+    made[CRATE / 'proofs' / 'Examples.antt'] = file_of_names(parts)
+    made[CRATE / 'proofs' / 'Lib.antt'] = file_of_modules(len(parts))
+    return made
+
+
+def differing(made):
+    """The paths of files that are not as they are to be, and of files of theorems that are not to be."""
+    wrong = [path for path, text in made.items() if not path.exists() or path.read_text(encoding='utf-8') != text]
+    left_over = [path for path in sorted((CRATE / 'proofs').glob('Examples*.antt')) if path not in made]
+    return wrong, left_over
+
+
+def main():
+    words = sys.argv[1:]
+    if words not in ([], ['--check']):
+        sys.exit('usage: worked_examples.py [--check]')
+    try:
+        made = files(read_table(TABLE))
+    except TableError as error:
+        sys.exit(f'worked_examples.py: {error}')
+    wrong, left_over = differing(made)
+    if words:
+        for path in wrong + left_over:
+            print(f'{path.relative_to(ROOT)} is not what tools/worked_examples.py makes of examples/worked.txt', file=sys.stderr)
+        sys.exit(1 if wrong or left_over else 0)
+    for path in wrong:
+        path.write_text(made[path], encoding='utf-8')
+    for path in left_over:
+        path.unlink()
+
+
+if __name__ == '__main__':
+    main()
