@@ -103,7 +103,7 @@ drain-empties (suc n) d small = go (drain-empties n) d.queue refl
     go ih (k ∷ ks) e = ih (free_front d k ks) (omega (arith, pending-free_front d k ks e))
 
 -- where no native waits, a drain changes nothing
-drain-done : (n : ℕ) (d : Draining) → d.queue ≡ [] → drain n d ≡ d
+pub drain-done : (n : ℕ) (d : Draining) → d.queue ≡ [] → drain n d ≡ d
 unfolding drain
 drain-done zero d e = refl
 drain-done (suc n) d e = rw e refl

@@ -18,7 +18,7 @@ use Rattle.cc_model.specs.Graph.{Graph, GraphNative, GraphScript, numbered, nati
 use Rattle.cc_model.specs.Reached.{Reached, held, edge, value, edges_of, kept_reflector, native_behind, edges_from, all_edges, names_of, numbers_from, with_reflector, roots_of, reach_rules}
 
 -- what stands at a place of the registers is among their contents
-content-at : (x : Name) (slots : Slots) (r : ℕ) → slice_index_or slots r None ≡ Some x → Among x (contents slots)
+pub content-at : (x : Name) (slots : Slots) (r : ℕ) → slice_index_or slots r None ≡ Some x → Among x (contents slots)
 content-at x [] r e = let bad : None ≡ Some x = e in cc
 content-at x (o ∷ slots) zero e = at o e
   where
@@ -32,7 +32,7 @@ content-at x (o ∷ slots) (suc r) e = later o (content-at x slots r e)
     later (Some y) m = inr m
 
 -- and what is among the contents stands at a place
-content-place : (x : Name) (slots : Slots) → Among x (contents slots) → (r : ℕ) × (slice_index_or slots r None ≡ Some x)
+pub content-place : (x : Name) (slots : Slots) → Among x (contents slots) → (r : ℕ) × (slice_index_or slots r None ≡ Some x)
 content-place x [] m = absurd m
 content-place x (None ∷ slots) m = let k = content-place x slots m in (suc k.0, k.1)
 content-place x (Some y ∷ slots) m =

@@ -77,8 +77,9 @@ pub record IsFresh (made : ℕ) (v : View) (s : Snapshot) : Type 0 where
   pub to_node : (x y : Name) → Among (x, y) s.references → IsNode s y
   pub members : (m : Mapping) → Among m s.mappings → HasNodes s m
   pub candidates : (k : ℕ) → Among k s.candidates → IsNode s (native k)
-  -- names of nodes are distinct; script nodes are in the heaps; the traversed and gone ones stand first
+  -- names of nodes are distinct; native nodes were made, script nodes are in the heaps; the traversed and gone ones stand first
   pub distinct : (x : Name) → count_by (same_name x) (node_names s) ≤ 1
+  pub native_nodes : (i : ℕ) → IsNode s (native i) → (1 ≤ i) × (i ≤ made)
   pub script_nodes : (x : Name) → IsNode s x → IsTrue (is_script x) → IsScriptThere v x
   pub in_order : IsTrue (done_first s.nodes)
   -- an untraversed or gone node has no noted reference from it

@@ -16,7 +16,7 @@ use Rattle.cc_model.specs.Snapshot.{Snapshot, Node, Mapping, untraversed, gone, 
 use Rattle.cc_model.specs.Units.{members_of}
 use Rattle.cc_model.specs.Fresh.{node, IsNode, IsTraversedNode, IsOutside, IsLiving, IsScriptThere, MemberOf, IsMappingOf, MemberIsNode, HasNodes, done_first, IsFresh}
 use Rattle.cc_worked.specs.HeapTests.{all_among, is_made, is_black_to_gray, is_native_or_black, has_no_black_to_gray}
-use Rattle.cc_worked.specs.SnapshotTests.{is_traversed, is_gone, is_sampled_as, is_noted_as_held, native_is_fresh, same_reference, is_noted, edge_is_fresh, is_member_of, is_mapping_of, entry_is_fresh, notes_nothing, is_dead_native, node_is_fresh, reference_is_fresh, has_all_nodes, is_fresh}
+use Rattle.cc_worked.specs.SnapshotTests.{is_traversed, is_gone, is_sampled_as, is_noted_as_held, native_is_fresh, same_reference, is_noted, edge_is_fresh, is_member_of, is_mapping_of, entry_is_fresh, notes_nothing, is_dead_native, was_made_or_there, node_is_fresh, reference_is_fresh, has_all_nodes, is_fresh}
 use Rattle.cc_worked.proofs.Passing.{second-passes, premise-holds, list_all-each, list_any-some, list_any-none, all_among-each, has-absent, absent-has}
 
 -- a reference by its ends
@@ -118,7 +118,7 @@ fresh-parts made v s h =
 -- The tests that each node of it passes.
 record NodeParts (made : ℕ) (v : View) (s : Snapshot) (n : Node) : Type 0 where
   once : (count_by (same_name n.name) (node_names s) == 1) ≡ true
-  there : (is_native n.name || has same_name (scripts_there v) n.name) ≡ true
+  there : was_made_or_there made v n.name ≡ true
   quiet : (is_traversed n.state || notes_nothing s n.name) ≡ true
   dead : (not (is_gone n.state) || is_dead_native made v n.name) ≡ true
 
@@ -228,12 +228,24 @@ module _ (made : ℕ) (v : View) (s : Snapshot) (part : FreshParts made v s) whe
       let k = Among-map_cases (λ (n : Node). n.name) s.nodes x m in
       subst (λ z. count_by (same_name z) (node_names s) ≡ 1) k.2 (eqb-true _ _ (node-right k.0 k.1).once))
 
+  -- A node's name passes its test.
+  there-right : (x : Name) → IsNode s x → was_made_or_there made v x ≡ true
+  there-right x m =
+      let k = Among-map_cases (λ (n : Node). n.name) s.nodes x m in
+      subst (λ z. was_made_or_there made v z ≡ true) k.2 (node-right k.0 k.1).there
+
+  -- A node that is a native was made.
+  native_nodes : (i : ℕ) → IsNode s (native i) → (1 ≤ i) × (i ≤ made)
+  native_nodes i m = let k = and_parts (nat_le 1 i) (nat_le i made) (there-right (native i) m) in (leb-true 1 i k.0, leb-true i made k.1)
+
   -- A node that is a script object is there.
   script_nodes : (x : Name) → IsNode s x → IsTrue (is_script x) → IsScriptThere v x
-  script_nodes x m script =
-      let k = Among-map_cases (λ (n : Node). n.name) s.nodes x m in
-      has-among same_name same_name-exact (scripts_there v) x (second-passes (is_native x) _
-      (subst (λ z. (is_native z || has same_name (scripts_there v) z) ≡ true) k.2 (node-right k.0 k.1).there) (not-true (is_native x) script))
+  script_nodes x m script = has-among same_name same_name-exact (scripts_there v) x (go x (there-right x m) script)
+    where
+      go : (y : Name) → was_made_or_there made v y ≡ true → IsTrue (is_script y) → has same_name (scripts_there v) y ≡ true
+      go (name.Native k) h e = absurd (false≢true e)
+      go (name.Script k) h e = h
+      go (name.Reflector k) h e = h
 
   -- A node that notes nothing has no reference from it.
   notes-nothing : (x y : Name) → notes_nothing s x ≡ true → ¬ (Among (x, y) s.references)
@@ -267,6 +279,7 @@ is_fresh-true made v s h =
       members = members made v s part;
       candidates = candidates made v s part;
       distinct = distinct made v s part;
+      native_nodes = native_nodes made v s part;
       script_nodes = script_nodes made v s part;
       in_order = part.order;
       nothing_from_untraversed = nothing_from_untraversed made v s part;

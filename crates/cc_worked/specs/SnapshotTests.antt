@@ -1,5 +1,5 @@
 -- Tests that a snapshot is fresh, and that no unreached native is forgotten.
-use Rattle.std.specs.Prelude.{ℕ, Bool, true, false, not, ◌&&◌, ◌||◌, ◌==◌, List, [], ◌++◌, map, count_by, Option, Some, None}
+use Rattle.std.specs.Prelude.{ℕ, Bool, true, false, not, ◌&&◌, ◌||◌, ◌==◌, List, [], ◌++◌, map, count_by, Option, Some, None, if◌then◌else◌}
 use Rattle.std.specs.List.{list_all, list_any}
 use Rattle.cc_lists.specs.Members.{has}
 use Rattle.cc_lists.specs.Least.{system, closure}
@@ -76,10 +76,14 @@ notes_nothing s x = not (list_any (λ r. same_name r.0 x) s.references)
 abbrev pub is_dead_native : ℕ → View → Name → Bool
 is_dead_native made v x = is_native x && (is_made made (number_of x) && not (has same_name (map (λ n. n.0) v.natives) x))
 
+-- whether a name is a native that was made, or a script object that is there
+abbrev pub was_made_or_there : ℕ → View → Name → Bool
+was_made_or_there made v x = if is_native x then is_made made (number_of x) else has same_name (scripts_there v) x
+
 abbrev pub node_is_fresh : ℕ → View → Snapshot → Node → Bool
 node_is_fresh made v s n =
     count_by (same_name n.name) (node_names s) == 1
-    && ((is_native n.name || has same_name (scripts_there v) n.name)
+    && (was_made_or_there made v n.name
     && ((is_traversed n.state || notes_nothing s n.name)
     && (not (is_gone n.state) || is_dead_native made v n.name)))
 

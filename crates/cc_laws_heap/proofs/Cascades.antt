@@ -1,0 +1,116 @@
+-- A CASCADE LEAVES SOUND HEAPS.
+use Rattle.std.proofs.Common.{◌≡◌, ℕ, zero, suc, ◌<◌, ◌≤◌, not, List, [], ◌∷◌, length, Option, Some, None, refl, sym, ◌∙◌, ap, subst, ⊎_elim, arith, ◌==◌}
+use Rattle.std.proofs.lemmas.Bool.{cases_lt, eqb-true}
+use Rattle.cc_lists.specs.Members.{Among, has}
+use Rattle.cc_lists.proofs.Counting.{counted_is}
+use Rattle.cc_names.specs.Names.{native}
+use Rattle.cc_model.specs.Heap.{Heap, HeapNative, native_at}
+use Rattle.cc_model.specs.Cascade.{Draining, give_up, at_rest, drained, cascade}
+use Rattle.cc_model.specs.WellFormed.{IsWellFormed, native_names}
+use Rattle.cc_model.specs.Counts.{refs_to, times}
+use Rattle.cc_laws_heap.specs.Sound.{IsSound}
+use Rattle.cc_laws_heap.specs.Freeing.{Frees}
+use Rattle.cc_laws_heap.proofs.Natives.{native_at-there, native_at-named, native_at-member, named-found, IsWellFormed-distinct}
+use Rattle.cc_laws_heap.proofs.Beside.{SameBeside-is}
+use Rattle.cc_laws_heap.proofs.Counted.{IsCounted-referred, IsSound-counted, IsSound-from_counted}
+use Rattle.cc_laws_heap.proofs.Buffer.{has_place, places}
+use Rattle.cc_laws_heap.proofs.GiveUp.{one_at_zero, one_above_zero, waiting, living, living-one, IsBalanced, IsBalanced-give_up}
+use Rattle.cc_laws_heap.proofs.DrainingAlike.{IsAlike-length, IsAlike-give_up}
+use Rattle.cc_laws_heap.proofs.Freed.{outcome, Frees-alike, Frees-at_rest}
+use Rattle.cc_laws_heap.proofs.Drain.{drain-balanced, drain-frees}
+use Rattle.cc_laws_heap.proofs.WellFormedStays.{IsPart, IsWellFormed-part}
+
+-- a count above zero is not that of a native that waits
+one_at_zero-above : (c : ℕ) → 1 ≤ c → one_at_zero c ≡ 0
+one_at_zero-above zero s = absurd (omega arith)
+one_at_zero-above (suc c) s = refl
+
+-- a count above zero is that of a native that lives
+one_above_zero-above : (c : ℕ) → 1 ≤ c → one_above_zero c ≡ 1
+one_above_zero-above zero s = absurd (omega arith)
+one_above_zero-above (suc c) s = refl
+
+-- the count of a native that does not wait is above zero
+above-one_at_zero : (c : ℕ) → one_at_zero c ≡ 0 → 1 ≤ c
+above-one_at_zero zero e = absurd (omega arith)
+above-one_at_zero (suc c) e = omega arith
+
+-- sound heaps at rest are balanced
+pub IsBalanced-at_rest : (owned : List ℕ) (h : Heap) → IsSound owned h → IsBalanced owned (at_rest h)
+IsBalanced-at_rest owned h s = record {
+  distinct = IsWellFormed-distinct h s.well_formed;
+  counts = IsSound-counted owned h s;
+  queue = λ k. sym (none_waits k (native_at h k) refl);
+  buffer = buffer;
+}
+  where
+    none_waits : (k : ℕ) (o : Option HeapNative) → native_at h k ≡ o → waiting o ≡ 0
+    none_waits k None e = refl
+    none_waits k (Some n) e = one_at_zero-above n.count (s.none_zero n (native_at-there h k n e))
+
+    buffer : (k : ℕ) → places k h.buffer ≤ living (native_at h k)
+    buffer k = ⊎_elim lives (λ none. omega arith) (cases_lt 0 (places k h.buffer))
+      where
+        lives : 0 < places k h.buffer → places k h.buffer ≤ living (native_at h k)
+        lives some =
+            let f = counted_is (has_place k) h.buffer some in
+            let named : Among (native k) (native_names h) =
+            subst (λ j. Among (native j) (native_names h)) (eqb-true f.0.number k f.2) (s.well_formed.buffered f.0 f.1) in
+            let n = named-found h k named in
+            omega (
+              arith,
+              s.well_formed.buffered_once k,
+              ap living n.1 ∙ one_above_zero-above n.0.count (s.none_zero n.0 (native_at-there h k n.0 n.1)),
+            )
+
+-- a balance in which no native waits is that of sound heaps
+pub IsSound-balanced : (owned : List ℕ) (h : Heap) (ks : List ℕ) (d : Draining) → IsWellFormed h → Frees h ks (outcome d) → IsBalanced owned d → d.queue ≡ [] →
+    IsSound owned d.heap
+IsSound-balanced owned h ks d w f b q = IsSound-from_counted owned d.heap well_formed b.counts above
+  where
+    is_whole : d.heap ≡ record h { natives = d.heap.natives; buffer = d.heap.buffer }
+    is_whole = SameBeside-is h d.heap f.beside
+
+    lives : (k : ℕ) → 1 ≤ places k d.heap.buffer → Among (native k) (native_names d.heap)
+    lives k some = go (native_at d.heap k) refl (omega (arith, b.buffer k))
+      where
+        go : (o : Option HeapNative) → native_at d.heap k ≡ o → 1 ≤ living o → Among (native k) (native_names d.heap)
+        go None e l = absurd (omega arith)
+        go (Some n) e l = native_at-named d.heap k n e
+
+    part : IsPart h (λ j. not (has ◌==◌ ks j)) d.heap.natives d.heap.buffer
+    part = record {
+      natives = f.natives;
+      referred = subst (λ g. (k : ℕ) → 1 ≤ refs_to g k → Among (native k) (native_names g)) is_whole (IsCounted-referred owned d.heap b.counts);
+      buffered = lives;
+      buffered_once = λ k. omega (arith, b.buffer k, living-one (native_at d.heap k));
+    }
+
+    well_formed : IsWellFormed d.heap
+    well_formed = subst IsWellFormed (sym is_whole) (IsWellFormed-part h (λ j. not (has ◌==◌ ks j)) d.heap.natives d.heap.buffer part w)
+
+    above : (n : HeapNative) → Among n d.heap.natives → 1 ≤ n.count
+    above n m =
+        above-one_at_zero n.count
+        (sym (ap waiting (native_at-member d.heap b.distinct n m)) ∙ (sym (b.queue n.number) ∙ ap (times n.number) q))
+
+module _ (owned : List ℕ) (h : Heap) (k : ℕ) (s : IsSound (k ∷ owned) h) where
+  -- the first reference given up leaves a balance
+  first-balanced : IsBalanced owned (give_up (at_rest h) k)
+  first-balanced = IsBalanced-give_up owned (at_rest h) k (IsBalanced-at_rest (k ∷ owned) h s)
+
+  -- a cascade leaves a balance, and none that waits
+  pub drained-balanced : IsBalanced owned (drained h k) × ((drained h k).queue ≡ [])
+  unfolding drained
+  drained-balanced = drain-balanced (length h.natives) owned (give_up (at_rest h) k) first-balanced
+      (omega (arith, IsAlike-length (at_rest h) (give_up (at_rest h) k) (IsAlike-give_up (at_rest h) k)))
+
+  -- What a cascade tells is what it takes out.
+  pub cascade-frees : (ks : List ℕ) × Frees h ks (cascade h k)
+  unfolding drained
+  cascade-frees = drain-frees (length h.natives) owned (give_up (at_rest h) k) first-balanced h []
+      (Frees-alike h [] (at_rest h) (give_up (at_rest h) k) (IsAlike-give_up (at_rest h) k) (Frees-at_rest h))
+
+  -- A cascade leaves sound heaps.
+  pub cascade-sound : IsSound owned (cascade h k).heap
+  cascade-sound = IsSound-balanced owned h cascade-frees.0 (drained h k) s.well_formed cascade-frees.1 drained-balanced.0 drained-balanced.1

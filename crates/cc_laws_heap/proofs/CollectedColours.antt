@@ -1,0 +1,88 @@
+-- A SCRIPT COLLECTION KEEPS THE HEAPS SOUND, tells what it takes out, and leaves the colours of marking, none of them white.
+use Rattle.std.proofs.Common.{◌≡◌, ◌≢◌, suc, List, [], ◌++◌, length, sym, ◌∙◌, ap, subst}
+use Rattle.std.specs.List.{filter}
+use Rattle.cc_lists.specs.Members.{Among, has}
+use Rattle.cc_lists.proofs.Members.{Among-map, Among-filter}
+use Rattle.cc_names.specs.declared.name.Name.{Name}
+use Rattle.cc_names.specs.declared.kind.Colour.TheVariants.{White, Black}
+use Rattle.cc_names.specs.Names.{same_name}
+use Rattle.cc_model.specs.Heap.{Heap, HeapScript, Outcome, silently, is_white_colour}
+use Rattle.cc_model.specs.View.{view}
+use Rattle.cc_model.specs.Colours.{IsBlack, black_names, marked_names, marked, HasColours, HasColourInvariant}
+use Rattle.cc_model.specs.Sweep.{unmarked, sweep, collect_scripts}
+use Rattle.cc_laws_heap.specs.Sound.{IsSound}
+use Rattle.cc_laws_heap.specs.Rounds.{FreesNames}
+use Rattle.cc_laws_heap.proofs.Coloured.{IsColoured, HasColourInvariant-from}
+use Rattle.cc_laws_heap.proofs.FreedNames.{FreesNames-silently, FreesNames-then}
+use Rattle.cc_laws_heap.proofs.Marking.{colour_of, colour_of-black, black-decided, HasColours-marked}
+use Rattle.cc_laws_heap.proofs.MarkedKept.{black-register, black-slot}
+use Rattle.cc_laws_heap.proofs.MarkingKeeps.{round-sound, round-frees}
+use Rattle.cc_laws_heap.proofs.RoundsEnd.{next_round, rounds-keep, collect_scripts-marked}
+
+-- What rounds keep
+
+-- the heaps are sound, and what was told so far is what was taken out
+record IsCollecting (h : Heap) (o : Outcome) : Type 0 where
+  sound : IsSound [] o.heap
+  frees : (xs : List Name) × FreesNames h xs o
+
+-- a round keeps it
+IsCollecting-round : (h : Heap) (o : Outcome) → IsCollecting h o → IsCollecting h (next_round o)
+IsCollecting-round h o c =
+    let r = round-frees o.heap c.sound in
+    record {
+      sound = round-sound o.heap c.sound;
+      frees = (c.frees.0 ++ r.0, FreesNames-then h c.frees.0 r.0 o (sweep (marked o.heap)) c.frees.1 r.1);
+    }
+
+-- so does the collection
+collect_scripts-collecting : (h : Heap) → IsSound [] h → IsCollecting h (collect_scripts h)
+unfolding collect_scripts
+collect_scripts-collecting h s = rounds-keep (IsCollecting h) (IsCollecting-round h) (suc (length h.scripts)) (silently h)
+    (record { sound = s; frees = ([], FreesNames-silently h) })
+
+-- A SCRIPT COLLECTION LEAVES SOUND HEAPS,
+pub collect_scripts-sound : (h : Heap) → IsSound [] h → IsSound [] (collect_scripts h).heap
+collect_scripts-sound h s = (collect_scripts-collecting h s).sound
+
+-- and what it tells is what it takes out.
+pub collect_scripts-frees : (h : Heap) → IsSound [] h → (xs : List Name) × FreesNames h xs (collect_scripts h)
+collect_scripts-frees h s = (collect_scripts-collecting h s).frees
+
+-- Colours
+
+-- THE COLOURS AFTER A SCRIPT COLLECTION are those of marking.
+pub collect_scripts-colours : (h : Heap) → HasColours (collect_scripts h).heap
+collect_scripts-colours h = let g = collect_scripts-marked h in subst HasColours (sym g.1) (HasColours-marked g.0)
+
+-- nothing is unmarked after it
+pub collect_scripts-unmarked : (h : Heap) → unmarked (collect_scripts h).heap ≡ []
+collect_scripts-unmarked h = let g = collect_scripts-marked h in ap unmarked g.1 ∙ g.2
+
+module _ (h : Heap) (c : HasColours h) (none : unmarked h ≡ []) where
+  -- a black script object is black by the rules
+  black-is : (o : HeapScript) → Among o h.scripts → o.colour ≡ Black → IsBlack h o.name
+  black-is o m e = (black-decided h o.name).0 (colour_of-black (has same_name (black_names h) o.name) (has same_name (marked_names h) o.name) (sym (c o m) ∙ e))
+
+  -- and what is black by the rules is black
+  is-black : (o : HeapScript) → Among o h.scripts → IsBlack h o.name → o.colour ≡ Black
+  is-black o m d = c o m ∙ ap (λ b. colour_of b (has same_name (marked_names h) o.name)) ((black-decided h o.name).1 d)
+
+  -- where nothing is unmarked no script object is white
+  none-white : (o : HeapScript) → Among o h.scripts → o.colour ≢ White
+  none-white o m e = subst (Among o.name) none
+      (Among-map (λ (p : HeapScript). p.name) o (filter (λ (p : HeapScript). is_white_colour p.colour) h.scripts)
+      (Among-filter (λ (p : HeapScript). is_white_colour p.colour) o h.scripts m (ap is_white_colour e)))
+
+  -- Colours of marking, none of them white, keep the colour invariant.
+  pub IsColoured-colours : IsColoured h
+  IsColoured-colours = record {
+    black_to_black = λ o p m n e i. is-black p n (black-slot h o p.name m i (black-is o m e));
+    held_black = λ o m i. is-black o m (black-register h o.name i);
+    none_white = none-white;
+  }
+
+-- A SCRIPT COLLECTION LEAVES THE COLOUR INVARIANT.
+pub collect_scripts-invariant : (h : Heap) → IsSound [] h → HasColourInvariant (view (collect_scripts h).heap)
+collect_scripts-invariant h s = HasColourInvariant-from (collect_scripts h).heap (collect_scripts-sound h s).well_formed
+    (IsColoured-colours (collect_scripts h).heap (collect_scripts-colours h) (collect_scripts-unmarked h))

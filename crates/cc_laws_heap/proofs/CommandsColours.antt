@@ -1,0 +1,137 @@
+-- EACH COMMAND THAT IS NOT REFUSED KEEPS THE COLOURS.
+use Rattle.std.proofs.Common.{◌≡◌, ℕ, ◌+◌, Bool, true, false, ◌≤◌, [], ◌∷◌, ◌++◌, length, Option, Some, None, refl, sym, subst, ⊎_elim, arith, option_map, slice_set}
+use Rattle.std.specs.Prelude.{IsTrue}
+use Rattle.std.proofs.lemmas.Bool.{ltb-true, leb-false}
+use Rattle.cc_lists.specs.Members.{Among}
+use Rattle.cc_lists.proofs.Members.{Among-map}
+use Rattle.cc_names.specs.declared.name.Name.{Name}
+use Rattle.cc_names.specs.declared.name.Name.TheVariants as name
+use Rattle.cc_names.specs.declared.register.Reg.TheVariants.{N, S}
+use Rattle.cc_names.specs.declared.kind.Kind.{Kind}
+use Rattle.cc_names.specs.declared.kind.Kind.TheVariants.{Plain, Reflector, Map}
+use Rattle.cc_names.specs.declared.kind.Colour.TheVariants.{Black}
+use Rattle.cc_names.specs.Names.{object, reflector}
+use Rattle.cc_model.specs.declared.command.Command.{Command}
+use Rattle.cc_model.specs.declared.command.Command.TheVariants.{Nothing, Native, Script, WeakMap, CopyNative, CopyScript, Drop, Set, Get, Put, Take, Wrap, Unwrap, Preserve, SetEntry, GetEntry, Expose, Slice, Collect, Gc, Census}
+use Rattle.cc_model.specs.Slots.{reflector_slots}
+use Rattle.cc_model.specs.Ranges.{in_range, is_register, is_slots}
+use Rattle.cc_model.specs.Checks.{slot_at, slots_at, value_at, native_of, reflector_of}
+use Rattle.cc_model.specs.Heap.{Heap, HeapScript, register, set_register, source, objects_of, preserve, has_reflector}
+use Rattle.cc_model.specs.Exposure.{exposed}
+use Rattle.cc_model.specs.Effects.{effects, put_in_register, hold_native, store_native, make_native, make_object, with_reflector, wrapped, put_in_script, set_entry}
+use Rattle.cc_model.specs.WellFormed.{IsWellFormed, script_names}
+use Rattle.cc_laws_heap.specs.Sound.{IsSound}
+use Rattle.cc_laws_heap.proofs.ListWrites.{each-push}
+use Rattle.cc_laws_heap.proofs.Making.{contents-empty_none}
+use Rattle.cc_laws_heap.proofs.Writes.{contents-at}
+use Rattle.cc_laws_heap.proofs.Holding.{has_reflector-none, IsIn-no_script, native_register-there, script_register-there, source-there, slot_at-there, native_of-there}
+use Rattle.cc_laws_heap.proofs.ScriptCommands.{blank}
+use Rattle.cc_laws_heap.proofs.Taken.{IsTaken}
+use Rattle.cc_laws_heap.proofs.CommandsSound.{below-first, few-slots}
+use Rattle.cc_laws_heap.proofs.Coloured.{AreColoured, IsColoured}
+use Rattle.cc_laws_heap.proofs.ColourChanges.{IsHeldBlack, AreColoured-register, AreColoured-slot, AreColoured-push, exposed-coloured, exposed-black}
+use Rattle.cc_laws_heap.proofs.NativesKeepScripts.{SameScripts-coloured, put_in_register-scripts, hold_native-scripts, store_native-scripts, make_native-scripts}
+
+-- Script registers
+
+-- what a script register holds is black
+script_register-black : (h : Heap) (d : ℕ) → IsColoured h → IsHeldBlack h.scripts (register h (S d))
+script_register-black h d c = λ o m i. c.held_black o m (contents-at h.script_registers d o.name i)
+
+-- and so is a source, where it is none or a script register
+script_source-black : (h : Heap) (s : Option ℕ) → IsColoured h → IsHeldBlack h.scripts (source h (option_map S s))
+script_source-black h None c = λ o m i. absurd i
+script_source-black h (Some d) c = script_register-black h d c
+
+-- what comes into a script register is exposed first
+exposed_register-coloured : (h : Heap) (d : ℕ) (x : Option Name) → IsColoured h → IsColoured (set_register (exposed h x) (S d) x)
+exposed_register-coloured h d x c = AreColoured-register (exposed h x).scripts (exposed h x).script_registers d x (exposed-black h x) (exposed-coloured h x c)
+
+-- Script objects
+
+-- a black script object with a new name goes last, and a script register holds it
+blank-coloured : (h : Heap) (d : ℕ) (x : Name) (kind : Kind) (n : ℕ) → ¬ (Among x (script_names h)) → IsColoured h →
+    AreColoured (h.scripts ++ blank x kind n ∷ []) (slice_set h.script_registers d (Some x))
+blank-coloured h d x kind n unknown c = AreColoured-register (h.scripts ++ blank x kind n ∷ []) h.script_registers d (Some x)
+    (each-push (λ o. Among o.name (x ∷ []) → o.colour ≡ Black) h.scripts (blank x kind n)
+    (λ o m i. absurd (unknown (⊎_elim (λ e. subst (λ z. Among z (script_names h)) (sym e)
+    (Among-map (λ (p : HeapScript). p.name) o h.scripts m)) (λ t. absurd t) i)))
+    (λ i. refl))
+    (AreColoured-push h.scripts h.script_registers (blank x kind n) refl (contents-empty_none n) c)
+
+-- a plain object or a weak map is made black
+make_object-coloured : (h : Heap) (d : ℕ) (kind : Kind) (n : ℕ) → IsWellFormed h → IsColoured h → IsColoured (make_object h d kind n)
+make_object-coloured h d kind n w c = blank-coloured h d (object (h.scripts_made + 1)) kind n
+    (λ m. let made : h.scripts_made + 1 ≤ h.scripts_made = (w.object_numbers (h.scripts_made + 1) m).1 in absurd (omega arith)) c
+
+-- a reflector is exposed, or made black
+wrapped-coloured : (h : Heap) (d : ℕ) (x : Option Name) → IsColoured h → IsColoured (set_register (wrapped h x) (S d) (reflector_of x))
+wrapped-coloured h d None c = AreColoured-register h.scripts h.script_registers d None (λ o m i. absurd i) c
+wrapped-coloured h d (Some (name.Script k)) c = AreColoured-register h.scripts h.script_registers d None (λ o m i. absurd i) c
+wrapped-coloured h d (Some (name.Reflector k)) c = AreColoured-register h.scripts h.script_registers d None (λ o m i. absurd i) c
+wrapped-coloured h d (Some (name.Native k)) c = go (has_reflector h k.0) refl
+  where
+    go : (b : Bool) → has_reflector h k.0 ≡ b →
+        IsColoured (set_register (elim b [ true ↦ exposed h (Some (reflector k.0)) | false ↦ with_reflector h k.0 ]) (S d) (Some (reflector k.0)))
+    go true e = exposed_register-coloured h d (Some (reflector k.0)) c
+    go false e = blank-coloured h d (reflector k.0) Reflector reflector_slots (has_reflector-none h k.0 e) c
+
+-- a slot of a script object takes what is black
+put_in_script-coloured : (h : Heap) (x : Option Name) (i : ℕ) (y : Option Name) → IsHeldBlack h.scripts y → IsColoured h →
+    IsColoured (put_in_script h x i y)
+put_in_script-coloured h None i y black c = c
+put_in_script-coloured h (Some (name.Native k)) i y black c = c
+put_in_script-coloured h (Some (name.Script k)) i y black c = AreColoured-slot h.scripts h.script_registers (object k.0) i y black c
+put_in_script-coloured h (Some (name.Reflector k)) i y black c = AreColoured-slot h.scripts h.script_registers (reflector k.0) i y black c
+
+-- Natives and entries
+
+-- a reflector preserved keeps colours
+preserve-coloured : (h : Heap) (x : Option Name) → IsColoured h → IsColoured (preserve h x)
+preserve-coloured h None c = c
+preserve-coloured h (Some (name.Native k)) c = c
+preserve-coloured h (Some (name.Script k)) c = c
+preserve-coloured h (Some (name.Reflector k)) c = c
+
+-- an entry set or taken out keeps colours
+set_entry-coloured : (h : Heap) (m k v : Option Name) → IsColoured h → IsColoured (set_entry h m k v)
+set_entry-coloured h None k v c = c
+set_entry-coloured h (Some m) None v c = c
+set_entry-coloured h (Some m) (Some k) None c = c
+set_entry-coloured h (Some m) (Some k) (Some v) c = preserve-coloured h (Some k) c
+
+-- A command that is not refused keeps the colours.
+pub effects-coloured : (h : Heap) (c : Command) → IsSound [] h → IsColoured h → IsTrue (in_range c) → IsTaken (objects_of h) c →
+    IsColoured (effects h c).heap
+unfolding effects
+effects-coloured h (Native d n) s c r t = SameScripts-coloured h (make_native h d n).heap
+    (make_native-scripts [] h d n (below-first d (is_slots n) r) (few-slots n (is_register d) r) (leb-false h.limits.natives h.natives_made t.room) s) c
+effects-coloured h (Script d n) s c r t = make_object-coloured h d Plain n s.well_formed c
+effects-coloured h (WeakMap d) s c r t = make_object-coloured h d Map 0 s.well_formed c
+effects-coloured h (CopyNative d q) s c r t = SameScripts-coloured h (hold_native h d (register h (N q))).heap
+    (hold_native-scripts [] h d (register h (N q)) (below-first d (is_register q) r) (native_register-there h q s.well_formed) s) c
+effects-coloured h (CopyScript d q) s c r t = AreColoured-register h.scripts h.script_registers d (register h (S q)) (script_register-black h q c) c
+effects-coloured h (Drop (N d)) s c r t = SameScripts-coloured h (put_in_register h d None).heap
+    (put_in_register-scripts [] h d None (ltb-true d 256 r) (λ y m. absurd m) s) c
+effects-coloured h (Drop (S d)) s c r t = AreColoured-register h.scripts h.script_registers d None (λ o m i. absurd i) c
+effects-coloured h (Set d i q) s c r t = SameScripts-coloured h (store_native h d i (source h q)).heap
+    (store_native-scripts [] h d i (source h q) (source-there h q s.well_formed) (leb-false (length (slots_at (objects_of h) (N d))) i t.slot) s) c
+effects-coloured h (Get (N d) q i) s c r t = SameScripts-coloured h (hold_native h d (slot_at (objects_of h) (N q) i)).heap
+    (hold_native-scripts [] h d (slot_at (objects_of h) (N q) i) (below-first d (is_register q) r)
+    (IsIn-no_script h (slot_at (objects_of h) (N q) i) s.well_formed (slot_at-there h (N q) i s.well_formed) t.content) s) c
+effects-coloured h (Get (S d) q i) s c r t = exposed_register-coloured h d (slot_at (objects_of h) (N q) i) c
+effects-coloured h (Put d i q) s c r t = put_in_script-coloured h (register h (S d)) i (source h (option_map S q)) (script_source-black h q c) c
+effects-coloured h (Take d q i) s c r t = exposed_register-coloured h d (slot_at (objects_of h) (S q) i) c
+effects-coloured h (Wrap d q) s c r t = wrapped-coloured h d (register h (N q)) c
+effects-coloured h (Unwrap d q) s c r t = SameScripts-coloured h (hold_native h d (native_of (register h (S q)))).heap
+    (hold_native-scripts [] h d (native_of (register h (S q))) (below-first d (is_register q) r)
+    (native_of-there h (register h (S q)) s.well_formed (script_register-there h q s.well_formed)) s) c
+effects-coloured h (Preserve q) s c r t = preserve-coloured h (register h (S q)) c
+effects-coloured h (SetEntry m k v) s c r t = set_entry-coloured h (register h (S m)) (register h (S k)) (source h (option_map S v)) c
+effects-coloured h (GetEntry d m k) s c r t = exposed_register-coloured h d (value_at (objects_of h) (register h (S m)) (register h (S k))) c
+effects-coloured h (Expose q i) s c r t = exposed-coloured h (slot_at (objects_of h) (N q) i) c
+effects-coloured h Nothing s c r t = c
+effects-coloured h (Slice u) s c r t = c
+effects-coloured h Collect s c r t = c
+effects-coloured h Gc s c r t = c
+effects-coloured h Census s c r t = c

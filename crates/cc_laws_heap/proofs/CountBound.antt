@@ -1,0 +1,75 @@
+-- NO COUNT IS GREAT: 256 registers, a million natives with 64 slots each, one reflector, and what is owned.
+use Rattle.std.proofs.Common.{◌≡◌, ℕ, ◌+◌, ◌*◌, ◌<◌, ◌≤◌, ◌==◌, List, [], ◌∷◌, map, length, Some, None, refl, sym, subst, inl, inr, arith, count_by}
+use Rattle.std.proofs.Math.Path.{fun_ext}
+use Rattle.std.proofs.lemmas.List.{length-map}
+use Rattle.std.proofs.lemmas.List.Sums.{count_by-le-length}
+use Rattle.cc_lists.specs.Members.{Among}
+use Rattle.cc_lists.proofs.Members.{Among-map_cases}
+use Rattle.cc_lists.proofs.Counting.{count_by-map}
+use Rattle.cc_names.specs.declared.name.Name.{Name}
+use Rattle.cc_names.specs.declared.name.Name.TheVariants as name
+use Rattle.cc_names.specs.Names.{native, reflector, same_name}
+use Rattle.cc_model.specs.Slots.{Slots, contents}
+use Rattle.cc_model.specs.Heap.{Heap, HeapNative, HeapScript}
+use Rattle.cc_model.specs.WellFormed.{IsWellFormed, IsRising}
+use Rattle.cc_model.specs.Counts.{slots_of_natives}
+use Rattle.cc_laws_heap.specs.Sound.{IsSound}
+use Rattle.cc_laws_heap.proofs.Rising.{IsRising-tail, IsRising-first}
+use Rattle.cc_laws_heap.proofs.Numbers.{eqb-sym}
+use Rattle.cc_laws_heap.proofs.ListWrites.{length-flat_map_le}
+
+-- so many rising numbers fit between two
+IsRising-length : (xs : List ℕ) (low high : ℕ) → IsRising xs → low ≤ high → ((x : ℕ) → Among x xs → (low < x) × (x ≤ high)) → low + length xs ≤ high
+IsRising-length [] low high r order within = omega arith
+IsRising-length (x ∷ xs) low high r order within =
+    let first : low < x = (within x (inl refl)).0 in
+    let rest : x + length xs ≤ high =
+    IsRising-length xs x high (IsRising-tail x xs r) (within x (inl refl)).1 (λ y m. (IsRising-first x xs r y m, (within y (inr m)).1)) in
+    omega arith
+
+-- there are at most as many natives as were made
+pub natives-made : (h : Heap) → IsWellFormed h → length h.natives ≤ h.natives_made
+natives-made h w =
+    let many : 0 + length (map (λ (n : HeapNative). n.number) h.natives) ≤ h.natives_made =
+    IsRising-length (map (λ (n : HeapNative). n.number) h.natives) 0 h.natives_made w.rising (omega arith)
+    (λ x m. let f = Among-map_cases (λ (n : HeapNative). n.number) h.natives x m in
+    subst (λ i. (0 < i) × (i ≤ h.natives_made)) f.2 (let k = w.native_numbers f.0 f.1 in (omega (arith, k.0), k.1))) in
+    omega (arith, length-map h.natives (λ (n : HeapNative). n.number))
+
+-- a place holds at most one name
+contents-length : (slots : Slots) → length (contents slots) ≤ length slots
+contents-length [] = omega arith
+contents-length (None ∷ slots) = omega (arith, contents-length slots)
+contents-length (Some x ∷ slots) = omega (arith, contents-length slots)
+
+-- names are told apart from either side alike
+same_name-sym : (k : ℕ) (x : Name) → same_name x (reflector k) ≡ same_name (reflector k) x
+same_name-sym k (name.Native i) = refl
+same_name-sym k (name.Script i) = refl
+same_name-sym k (name.Reflector i) = eqb-sym i.0 k
+
+-- a native has at most one reflector
+one-reflector : (h : Heap) (k : ℕ) → IsWellFormed h → count_by (λ (o : HeapScript). same_name o.name (reflector k)) h.scripts ≤ 1
+one-reflector h k w = subst (λ p. count_by p h.scripts ≤ 1) (fun_ext (λ o. sym (same_name-sym k o.name)))
+    (subst (λ c. c ≤ 1) (count_by-map (same_name (reflector k)) (λ (o : HeapScript). o.name) h.scripts) (w.distinct (reflector k)))
+
+-- Of a million natives none has more than 64000257 references, but for those that are owned.
+pub count-bound : (owned : List ℕ) (h : Heap) (n : HeapNative) → IsSound owned h → h.limits.natives ≤ 1000000 → Among n h.natives →
+    n.count ≤ 64000257 + length owned
+count-bound owned h n s few m =
+    let w : IsWellFormed h = s.well_formed in
+    let registers : count_by (same_name (native n.number)) (contents h.native_registers) ≤ 256 =
+    omega (arith, count_by-le-length (same_name (native n.number)) (contents h.native_registers), contents-length h.native_registers, w.registers.0) in
+    let slots : count_by (same_name (native n.number)) (slots_of_natives h) ≤ 64 * length h.natives =
+    omega (
+      arith,
+      count_by-le-length (same_name (native n.number)) (slots_of_natives h),
+      length-flat_map_le (λ (o : HeapNative). contents o.slots) 64 h.natives (λ o i. omega (arith, contents-length o.slots, w.native_slots o i)),
+    ) in
+    let many : length h.natives ≤ 1000000 = omega (arith, natives-made h w, w.natives_allowed) in
+    omega (
+      arith,
+      s.counts n m,
+      one-reflector h n.number w,
+      count_by-le-length (λ j. j == n.number) owned,
+    )

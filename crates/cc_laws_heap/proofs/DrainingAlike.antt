@@ -1,0 +1,59 @@
+-- WHAT CHANGES OF COUNTS AND OF THE BUFFER LEAVE: natives but for their counts, all beside natives and buffer, and
+-- what was told.
+use Rattle.std.proofs.Common.{◌≡◌, ℕ, zero, suc, List, [], ◌∷◌, map, length, Option, Some, None, refl, sym, ◌∙◌, ap}
+use Rattle.std.proofs.lemmas.List.{length-map}
+use Rattle.cc_model.specs.Heap.{HeapNative, native_at, suspect, forget}
+use Rattle.cc_model.specs.Cascade.{Draining, lower, fallen, given_up, give_up, give_up_each}
+use Rattle.cc_laws_heap.specs.Freeing.{uncounted, SameBeside}
+use Rattle.cc_laws_heap.proofs.Natives.{uncounted-change}
+use Rattle.cc_laws_heap.proofs.Beside.{SameBeside-with, SameBeside-refl, SameBeside-trans}
+use Rattle.cc_laws_heap.proofs.GiveUp.{lower_native}
+
+-- the same natives but for their counts, the same beside, and nothing told
+pub record IsAlike (d e : Draining) : Type 0 where
+  pub natives : map uncounted e.heap.natives ≡ map uncounted d.heap.natives
+  pub beside : SameBeside d.heap e.heap
+  pub events : e.events ≡ d.events
+
+-- what did not change is alike
+pub IsAlike-refl : (d : Draining) → IsAlike d d
+IsAlike-refl d = record { natives = refl; beside = SameBeside-refl d.heap; events = refl }
+
+-- one change after another
+pub IsAlike-trans : (d e f : Draining) → IsAlike d e → IsAlike e f → IsAlike d f
+IsAlike-trans d e f a b = record {
+  natives = b.natives ∙ a.natives;
+  beside = SameBeside-trans d.heap e.heap f.heap a.beside b.beside;
+  events = b.events ∙ a.events;
+}
+
+-- alike heaps have as many natives
+pub IsAlike-length : (d e : Draining) → IsAlike d e → length e.heap.natives ≡ length d.heap.natives
+IsAlike-length d e a = sym (length-map e.heap.natives uncounted) ∙ (ap length a.natives ∙ length-map d.heap.natives uncounted)
+
+-- a count that falls leaves the heaps alike
+IsAlike-fallen : (d : Draining) (k c : ℕ) → IsAlike d (fallen d k c)
+IsAlike-fallen d k zero = IsAlike-refl d
+IsAlike-fallen d k (suc zero) = record {
+  natives = uncounted-change d.heap k lower_native (λ n. refl);
+  beside = SameBeside-with d.heap (lower d.heap k).natives (forget d.heap k).buffer;
+  events = refl;
+}
+IsAlike-fallen d k (suc (suc c)) = record {
+  natives = uncounted-change d.heap k lower_native (λ n. refl);
+  beside = SameBeside-with d.heap (lower d.heap k).natives (suspect d.heap k).buffer;
+  events = refl;
+}
+
+-- a reference given up leaves the heaps alike
+pub IsAlike-give_up : (d : Draining) (k : ℕ) → IsAlike d (give_up d k)
+IsAlike-give_up d k = go (native_at d.heap k)
+  where
+    go : (o : Option HeapNative) → IsAlike d (given_up d k o)
+    go None = IsAlike-refl d
+    go (Some n) = IsAlike-fallen d k n.count
+
+-- and so do several
+pub IsAlike-give_up_each : (d : Draining) (js : List ℕ) → IsAlike d (give_up_each d js)
+IsAlike-give_up_each d [] = IsAlike-refl d
+IsAlike-give_up_each d (j ∷ js) = IsAlike-trans d (give_up d j) (give_up_each (give_up d j) js) (IsAlike-give_up d j) (IsAlike-give_up_each (give_up d j) js)

@@ -1,0 +1,139 @@
+-- HEAPS THAT FOLLOW A GRAPH, but that what is reached may be missing from them. Where they are well formed it is there,
+-- so that they stand for the graph.
+use Rattle.std.proofs.Common.{◌≡◌, ℕ, false, List, length, Option, Some, None, option_map, refl, sym, ◌∙◌, ap, subst, inl, inr, ◌⊎◌, ⊎_elim}
+use Rattle.std.specs.Prelude.{IsTrue}
+use Rattle.std.specs.Option.{option_and_then}
+use Rattle.cc_lists.specs.Members.{Among}
+use Rattle.cc_names.specs.declared.name.Name.{Name}
+use Rattle.cc_names.specs.declared.name.Name.TheVariants as name
+use Rattle.cc_names.specs.declared.register.Reg.TheVariants.{N, S}
+use Rattle.cc_names.specs.declared.kind.Kind.{Kind}
+use Rattle.cc_names.specs.Names.{native, reflector, is_script}
+use Rattle.cc_model.specs.Slots.{Slots, contents, empty_slots, reflector_slots}
+use Rattle.cc_model.specs.Entries.{Entry, value_in}
+use Rattle.cc_model.specs.Graph.{Graph, GraphNative, native_in}
+use Rattle.cc_model.specs.Reached.{Reached, held, edge, value}
+use Rattle.cc_model.specs.Heap.{Heap, HeapNative, HeapScript}
+use Rattle.cc_model.specs.WellFormed.{IsWellFormed, FitsName}
+use Rattle.cc_model.specs.StandsFor.{Shape, shape_in, shape_of_native, shape_of_held_native, shape_of_held_script, script_shape, shape_of_reflector, ArePart, IsEmptied, NativeStands, IsNoKey, StandsFor}
+use Rattle.cc_laws_heap.proofs.Holds.{contents-place}
+use Rattle.cc_laws_heap.proofs.Shapes.{edges_of_shape}
+use Rattle.cc_laws_heap.proofs.HeapShapes.{shape_at-native}
+use Rattle.cc_laws_heap.proofs.ReachedAlike.{edges_of-made}
+
+-- `P` holds of all that the registers of the graph reach
+pub record IsClosed (P : Name → Type 0) (g : Graph) : Type 0 where
+  pub native_registers : (x : Name) → Among x (contents g.native_registers) → P x
+  pub script_registers : (x : Name) → Among x (contents g.script_registers) → P x
+  pub edges : (x y : Name) (s : Shape) → P x → shape_in g x ≡ Some s → Among y (edges_of_shape x s) → P y
+  pub entries : (e : Entry) → Among e g.entries → P e.the_map → P e.key → P e.value
+
+-- registers, limits and numbers made agree
+pub record AgreesBeside (h : Heap) (g : Graph) : Type 0 where
+  pub native_registers : h.native_registers ≡ g.native_registers
+  pub script_registers : h.script_registers ≡ g.script_registers
+  pub limits : h.limits ≡ g.limits
+  pub natives_made : h.natives_made ≡ length g.natives
+  pub scripts_made : h.scripts_made ≡ length g.scripts
+
+-- a native of the heaps was made in the graph, and has its shape there, or was unlinked
+abbrev pub NativeFollows : Graph → HeapNative → Type 0
+NativeFollows g n = (s : Shape) × (shape_in g (native n.number) ≡ Some s) × ((shape_of_held_native n ≡ s) ⊎ IsEmptied n)
+
+-- the objects of the heaps are in the graph; those of which `P` holds as they are there
+pub record AreObjects (P : Name → Type 0) (h : Heap) (g : Graph) : Type 0 where
+  pub natives : (n : HeapNative) → Among n h.natives → NativeFollows g n
+  pub alike : (n : HeapNative) → Among n h.natives → P (native n.number) → shape_in g (native n.number) ≡ Some (shape_of_held_native n)
+  pub scripts : (o : HeapScript) → Among o h.scripts → shape_in g o.name ≡ Some (shape_of_held_script o)
+  pub named : (o : HeapScript) → Among o h.scripts → IsTrue (is_script o.name)
+
+-- entries are some of the graph's; for a map and a key of which `P` holds the same, or none
+pub record AreEntries (P : Name → Type 0) (es fs : List Entry) : Type 0 where
+  pub values : (m k : Name) → P m → P k → value_in es m k ≡ value_in fs m k
+  pub part : ArePart es fs
+
+-- a reflector that is not preserved is blank
+abbrev pub IsBlank : Graph → Type 0
+IsBlank g = (k : ℕ) (s t : Shape) → shape_in g (native k) ≡ Some s → s.preserved ≡ false → shape_in g (reflector k) ≡ Some t →
+    (t.slots ≡ Some (empty_slots reflector_slots)) × IsNoKey g (reflector k)
+
+pub record Follows (P : Name → Type 0) (h : Heap) (g : Graph) : Type 0 where
+  pub beside : AgreesBeside h g
+  pub objects : AreObjects P h g
+  pub entries : AreEntries P h.entries g.entries
+  pub blank : IsBlank g
+  pub closed : IsClosed P g
+
+-- Shapes of natives and reflectors in the graph
+
+-- what has a native's name and a shape is a native
+pub shape_in-native : (g : Graph) (k : ℕ) (s : Shape) → shape_in g (native k) ≡ Some s → (n : GraphNative) × (native_in g k ≡ Some n) × (shape_of_native n ≡ s)
+shape_in-native g k s = go (native_in g k) refl
+  where
+    go : (o : Option GraphNative) → native_in g k ≡ o → option_map shape_of_native o ≡ Some s → (n : GraphNative) × (native_in g k ≡ Some n) × (shape_of_native n ≡ s)
+    go None i e = absurd (cc)
+    go (Some n) i e = let same : shape_of_native n ≡ s = cc in (n, i, same)
+
+-- what has a reflector's name and a shape is that of a native
+pub shape_in-reflector : (g : Graph) (k : ℕ) (t : Shape) → shape_in g (reflector k) ≡ Some t →
+    (n : GraphNative) × (slots : Slots) × (native_in g k ≡ Some n) × (n.reflector ≡ Some slots) × (script_shape (Some slots) ≡ t)
+shape_in-reflector g k t = go (native_in g k) refl
+  where
+    go : (o : Option GraphNative) → native_in g k ≡ o → option_and_then shape_of_reflector o ≡ Some t →
+        (n : GraphNative) × (slots : Slots) × (native_in g k ≡ Some n) × (n.reflector ≡ Some slots) × (script_shape (Some slots) ≡ t)
+    go None i e = absurd (cc)
+    go (Some n) i e = reflected n.reflector refl e
+      where
+        reflected : (r : Option Slots) → n.reflector ≡ r → option_map (λ slots. script_shape (Some slots)) r ≡ Some t →
+            (n : GraphNative) × (slots : Slots) × (native_in g k ≡ Some n) × (n.reflector ≡ Some slots) × (script_shape (Some slots) ≡ t)
+        reflected None j f = absurd (cc)
+        reflected (Some slots) j f = let same : script_shape (Some slots) ≡ t = cc in (n, slots, i, j, same)
+
+-- From standing to following
+
+-- the name of a script object is no native's
+pub script-named : (x : Name) (kind : Kind) (slots : Slots) → FitsName x kind slots → IsTrue (is_script x)
+script-named (name.Native k) kind slots f = absurd f
+script-named (name.Script k) kind slots f = refl
+script-named (name.Reflector k) kind slots f = refl
+
+module _ (h : Heap) (g : Graph) (w : IsWellFormed h) (s : StandsFor h g) where
+  reached-closed : IsClosed (Reached g) g
+  reached-closed = record {
+    native_registers = λ x m. let k = contents-place g.native_registers x m in held (N k.0) x k.1;
+    script_registers = λ x m. let k = contents-place g.script_registers x m in held (S k.0) x k.1;
+    edges = λ x y t d e m. edge x y d (subst (Among y) (sym (edges_of-made g x t e)) m);
+    entries = λ e m a b. value e m a b;
+  }
+
+  native-follows : (n : HeapNative) → NativeStands g n → NativeFollows g n
+  native-follows n t =
+      let made : shape_in g (native n.number) ≡ Some (shape_of_native t.made.0) = ap (option_map shape_of_native) t.made.1 in
+      (shape_of_native t.made.0, made, ⊎_elim (λ e. inl (same (e ∙ made))) (λ e. inr e) t.shape)
+    where
+      same : {a b : Shape} → Some a ≡ Some b → a ≡ b
+      same e = cc
+
+  native-alike : (n : HeapNative) → Among n h.natives → Reached g (native n.number) → shape_in g (native n.number) ≡ Some (shape_of_held_native n)
+  native-alike n m d = let k = s.reached (native n.number) d in k.made ∙ (sym k.there ∙ shape_at-native h w n m)
+
+  -- HEAPS THAT STAND FOR A GRAPH FOLLOW IT, over what is reached.
+  pub stands-follows : Follows (Reached g) h g
+  stands-follows = record {
+    beside = record { native_registers = s.native_registers; script_registers = s.script_registers; limits = s.limits; natives_made = s.natives_made; scripts_made = s.scripts_made };
+    objects = record {
+      natives = λ n m. native-follows n (s.natives n m);
+      alike = native-alike;
+      scripts = λ o m. sym (s.scripts o m).shape;
+      named = λ o m. script-named o.name o.kind o.slots (w.kinds o m);
+    };
+    entries = record { values = s.values; part = s.entries };
+    blank = λ k a b e p f.
+        let n = shape_in-native g k a e in
+        let r = shape_in-reflector g k b f in
+        let one : Some r.0 ≡ Some n.0 = sym r.2 ∙ n.1 in
+        let same : r.0 ≡ n.0 = cc in
+        let c = s.blank k n.0 r.1 n.1 (ap (λ (t : Shape). t.preserved) n.2 ∙ p) (sym (ap (λ (m : GraphNative). m.reflector) same) ∙ r.3) in
+        (sym (ap (λ (t : Shape). t.slots) r.4) ∙ ap (λ l. Some l) c.0, c.1);
+    closed = reached-closed;
+  }

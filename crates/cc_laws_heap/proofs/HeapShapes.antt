@@ -1,0 +1,173 @@
+-- THE SHAPES OF WHAT IS IN THE HEAPS: each object is found under its name, and its edges are those of the flat view.
+use Rattle.std.proofs.Common.{◌≡◌, ◌≤◌, Bool, true, false, [], ◌∷◌, ◌++◌, map, Option, Some, None, option_map, refl, sym, ◌∙◌, ap, subst, inl, inr, ◌⊎◌, ⊎_elim, count_by}
+use Rattle.std.specs.List.{flat_map}
+use Rattle.std.proofs.Math.Path.{fun_ext}
+use Rattle.std.proofs.lemmas.List.{map-append}
+use Rattle.cc_lists.specs.Members.{Among}
+use Rattle.cc_lists.proofs.Members.{Among-map, Among-map_cases, Among-left, Among-right, Among-append, Among-flat_map, Among-flat_map_cases}
+use Rattle.cc_lists.proofs.Counting.{count_by-map}
+use Rattle.cc_names.specs.declared.name.Name.{Name}
+use Rattle.cc_names.specs.declared.name.Name.TheVariants as name
+use Rattle.cc_names.specs.declared.kind.Kind.{Kind}
+use Rattle.cc_names.specs.declared.kind.Kind.TheVariants.{Plain, Reflector, Map}
+use Rattle.cc_names.specs.Names.{native, reflector, same_name, behind}
+use Rattle.cc_names.proofs.NameTests.{same_name-true, same_name-refl}
+use Rattle.cc_model.specs.Slots.{Slots, contents, from_to}
+use Rattle.cc_model.specs.Checks.{slots_or_none}
+use Rattle.cc_model.specs.Heap.{Heap, HeapNative, HeapScript, native_at, script_at, slots_of_kind}
+use Rattle.cc_model.specs.View.{view, slot_edges, native_edges, script_edges}
+use Rattle.cc_model.specs.WellFormed.{IsWellFormed, FitsName, native_names, script_names, names_there}
+use Rattle.cc_model.specs.StandsFor.{Shape, shape_at, shape_of_held_native, shape_of_held_script}
+use Rattle.cc_laws_heap.proofs.Lists.{find-among, find-passes, find-only}
+use Rattle.cc_laws_heap.proofs.Numbers.{eqb-sym}
+use Rattle.cc_laws_heap.proofs.Natives.{native_at-there, native_at-number, native_at-member, IsWellFormed-distinct}
+use Rattle.cc_laws_heap.proofs.Shapes.{further_of, edges_of_shape}
+
+-- Objects under their names
+
+-- a script object is found under its name
+pub script_at-member : (h : Heap) → IsWellFormed h → (o : HeapScript) → Among o h.scripts → script_at h o.name ≡ Some o
+script_at-member h w o m = find-only (λ (p : HeapScript). same_name p.name o.name) h.scripts o few m (same_name-refl o.name)
+  where
+    same_name-sym : (x y : Name) → same_name x y ≡ same_name y x
+    same_name-sym (name.Native i) (name.Native j) = eqb-sym i.0 j.0
+    same_name-sym (name.Native i) (name.Script j) = refl
+    same_name-sym (name.Native i) (name.Reflector j) = refl
+    same_name-sym (name.Script i) (name.Native j) = refl
+    same_name-sym (name.Script i) (name.Script j) = eqb-sym i.0 j.0
+    same_name-sym (name.Script i) (name.Reflector j) = refl
+    same_name-sym (name.Reflector i) (name.Native j) = refl
+    same_name-sym (name.Reflector i) (name.Script j) = refl
+    same_name-sym (name.Reflector i) (name.Reflector j) = eqb-sym i.0 j.0
+
+    few : count_by (λ (p : HeapScript). same_name p.name o.name) h.scripts ≤ 1
+    few = subst (λ n. n ≤ 1)
+        (count_by-map (same_name o.name) (λ (p : HeapScript). p.name) h.scripts
+        ∙ ap (λ q. count_by q h.scripts) (fun_ext (λ (p : HeapScript). same_name-sym o.name p.name)))
+        (w.distinct o.name)
+
+-- and has its shape there
+pub shape_at-script : (h : Heap) → IsWellFormed h → (o : HeapScript) → Among o h.scripts → shape_at h o.name ≡ Some (shape_of_held_script o)
+shape_at-script h w o m = go o.name refl (w.kinds o m)
+  where
+    go : (x : Name) → o.name ≡ x → FitsName x o.kind o.slots → shape_at h x ≡ Some (shape_of_held_script o)
+    go (name.Native k) e f = absurd f
+    go (name.Script k) e f = ap (option_map shape_of_held_script) (ap (script_at h) (sym e) ∙ script_at-member h w o m)
+    go (name.Reflector k) e f = ap (option_map shape_of_held_script) (ap (script_at h) (sym e) ∙ script_at-member h w o m)
+
+-- so has a native
+pub shape_at-native : (h : Heap) → IsWellFormed h → (n : HeapNative) → Among n h.natives → shape_at h (native n.number) ≡ Some (shape_of_held_native n)
+shape_at-native h w n m = ap (option_map shape_of_held_native) (native_at-member h (IsWellFormed-distinct h w) n m)
+
+-- what has a shape is a native or a script object of that name
+pub shape_at-found : (h : Heap) (x : Name) (s : Shape) → shape_at h x ≡ Some s →
+    ((n : HeapNative) × Among n h.natives × (native n.number ≡ x) × (shape_of_held_native n ≡ s)) ⊎
+    ((o : HeapScript) × Among o h.scripts × (o.name ≡ x) × (shape_of_held_script o ≡ s))
+shape_at-found h (name.Native k) s e = inl (found (native_at h k.0) refl e)
+  where
+    found : (o : Option HeapNative) → native_at h k.0 ≡ o → option_map shape_of_held_native o ≡ Some s →
+        (n : HeapNative) × Among n h.natives × (native n.number ≡ name.Native k) × (shape_of_held_native n ≡ s)
+    found None i f = absurd (cc)
+    found (Some n) i f = let same : shape_of_held_native n ≡ s = cc in (n, native_at-there h k.0 n i, ap native (native_at-number h k.0 n i), same)
+shape_at-found h (name.Script k) s e = inr (found (script_at h (name.Script k)) refl e)
+  where
+    found : (o : Option HeapScript) → script_at h (name.Script k) ≡ o → option_map shape_of_held_script o ≡ Some s →
+        (p : HeapScript) × Among p h.scripts × (p.name ≡ name.Script k) × (shape_of_held_script p ≡ s)
+    found None i f = absurd (cc)
+    found (Some p) i f =
+        let same : shape_of_held_script p ≡ s = cc in
+        (p, find-among _ h.scripts p i, same_name-true p.name (name.Script k) (find-passes (λ (q : HeapScript). same_name q.name (name.Script k)) h.scripts p i), same)
+shape_at-found h (name.Reflector k) s e = inr (found (script_at h (name.Reflector k)) refl e)
+  where
+    found : (o : Option HeapScript) → script_at h (name.Reflector k) ≡ o → option_map shape_of_held_script o ≡ Some s →
+        (p : HeapScript) × Among p h.scripts × (p.name ≡ name.Reflector k) × (shape_of_held_script p ≡ s)
+    found None i f = absurd (cc)
+    found (Some p) i f =
+        let same : shape_of_held_script p ≡ s = cc in
+        (p, find-among _ h.scripts p i, same_name-true p.name (name.Reflector k) (find-passes (λ (q : HeapScript). same_name q.name (name.Reflector k)) h.scripts p i), same)
+
+-- what has a shape is there
+pub shape_at-there : (h : Heap) (x : Name) (s : Shape) → shape_at h x ≡ Some s → Among x (names_there h)
+shape_at-there h x s e = ⊎_elim
+    (λ f. subst (λ y. Among y (names_there h)) f.2
+    (Among-left (native f.0.number) (native_names h) (script_names h) (Among-map (λ (n : HeapNative). native n.number) f.0 h.natives f.1)))
+    (λ f. subst (λ y. Among y (names_there h)) f.2
+    (Among-right f.0.name (native_names h) (script_names h) (Among-map (λ (o : HeapScript). o.name) f.0 h.scripts f.1)))
+    (shape_at-found h x s e)
+
+-- and what is there has one
+pub there-shape_at : (h : Heap) → IsWellFormed h → (x : Name) → Among x (names_there h) → (s : Shape) × (shape_at h x ≡ Some s)
+there-shape_at h w x m = ⊎_elim
+    (λ l. let f = Among-map_cases (λ (n : HeapNative). native n.number) h.natives x l in
+    (shape_of_held_native f.0, ap (shape_at h) (sym f.2) ∙ shape_at-native h w f.0 f.1))
+    (λ r. let f = Among-map_cases (λ (o : HeapScript). o.name) h.scripts x r in
+    (shape_of_held_script f.0, ap (shape_at h) (sym f.2) ∙ shape_at-script h w f.0 f.1))
+    (Among-append x (native_names h) (script_names h) m)
+
+-- Edges
+
+-- the edges of a native in the flat view are those of its shape
+native_edges-shape : (n : HeapNative) → native_edges n ≡ map (from_to (native n.number)) (edges_of_shape (native n.number) (shape_of_held_native n))
+native_edges-shape n = go n.preserved
+  where
+    go : (b : Bool) → slot_edges (native n.number) n.slots ++ elim b [ true ↦ from_to (native n.number) (reflector n.number) ∷ [] | false ↦ [] ]
+        ≡ map (from_to (native n.number)) (contents n.slots ++ elim b [ true ↦ reflector n.number ∷ [] | false ↦ [] ])
+    go true = sym (map-append (from_to (native n.number)) (contents n.slots) (reflector n.number ∷ []))
+    go false = sym (map-append (from_to (native n.number)) (contents n.slots) [])
+
+-- and so are those of a script object
+script_edges-shape : (o : HeapScript) → FitsName o.name o.kind o.slots → script_edges o ≡ map (from_to o.name) (edges_of_shape o.name (shape_of_held_script o))
+script_edges-shape o fits =
+    rw (map-append (from_to o.name) (contents (slots_or_none (slots_of_kind o.kind o.slots))) (further_of o.name (shape_of_held_script o)))
+    (rw (slots o.name o.kind o.slots fits, further o.name) refl)
+  where
+    slots : (x : Name) (kind : Kind) (s : Slots) → FitsName x kind s → contents (slots_or_none (slots_of_kind kind s)) ≡ contents s
+    slots x Plain s f = refl
+    slots x Reflector s f = refl
+    slots (name.Native k) Map s f = absurd f
+    slots (name.Script k) Map s f = ap contents (sym f)
+    slots (name.Reflector k) Map s f = absurd f
+
+    further : (x : Name) → map (from_to o.name) (further_of x (shape_of_held_script o)) ≡ map (λ k. from_to o.name (native k)) (behind x)
+    further (name.Native k) = refl
+    further (name.Script k) = refl
+    further (name.Reflector k) = refl
+
+-- AN EDGE OF THE FLAT VIEW is one of an object that is there.
+pub edge-held : (h : Heap) → IsWellFormed h → (x y : Name) → Among (x, y) (view h).edges → (s : Shape) × (shape_at h x ≡ Some s) × Among y (edges_of_shape x s)
+edge-held h w x y m = ⊎_elim
+    (λ l. let f = Among-flat_map_cases native_edges h.natives (x, y) l in
+    of_object (native f.0.number) (shape_of_held_native f.0) (shape_at-native h w f.0 f.1) (subst (Among (x, y)) (native_edges-shape f.0) f.2))
+    (λ r. let f = Among-flat_map_cases script_edges h.scripts (x, y) r in
+    of_object f.0.name (shape_of_held_script f.0) (shape_at-script h w f.0 f.1) (subst (Among (x, y)) (script_edges-shape f.0 (w.kinds f.0 f.1)) f.2))
+    (Among-append (x, y) (flat_map native_edges h.natives) (flat_map script_edges h.scripts) m)
+  where
+    of_object : (z : Name) (s : Shape) → shape_at h z ≡ Some s → Among (x, y) (map (from_to z) (edges_of_shape z s)) →
+        (s : Shape) × (shape_at h x ≡ Some s) × Among y (edges_of_shape x s)
+    of_object z s e i =
+        let f = Among-map_cases (from_to z) (edges_of_shape z s) (x, y) i in
+        let source : z ≡ x = ap (λ (p : Name × Name). p.0) f.2 in
+        let target : f.0 ≡ y = ap (λ (p : Name × Name). p.1) f.2 in
+        (s, ap (shape_at h) (sym source) ∙ e, subst (λ v. Among y (edges_of_shape v s)) source (subst (λ v. Among v (edges_of_shape z s)) target f.1))
+
+-- And what an object that is there refers to is an edge of the flat view.
+pub held-edge : (h : Heap) → IsWellFormed h → (x y : Name) (s : Shape) → shape_at h x ≡ Some s → Among y (edges_of_shape x s) → Among (x, y) (view h).edges
+held-edge h w x y s e m = ⊎_elim
+    (λ f.
+    let t : Among y (edges_of_shape (native f.0.number) (shape_of_held_native f.0)) = moved (native f.0.number) (shape_of_held_native f.0) f.2 f.3 in
+    subst (λ z. Among (z, y) (view h).edges) f.2
+    (Among-left (native f.0.number, y) (flat_map native_edges h.natives) (flat_map script_edges h.scripts)
+    (Among-flat_map native_edges f.0 (native f.0.number, y) h.natives f.1
+    (subst (Among (native f.0.number, y)) (sym (native_edges-shape f.0))
+    (Among-map (from_to (native f.0.number)) y (edges_of_shape (native f.0.number) (shape_of_held_native f.0)) t)))))
+    (λ f.
+    let t : Among y (edges_of_shape f.0.name (shape_of_held_script f.0)) = moved f.0.name (shape_of_held_script f.0) f.2 f.3 in
+    subst (λ z. Among (z, y) (view h).edges) f.2
+    (Among-right (f.0.name, y) (flat_map native_edges h.natives) (flat_map script_edges h.scripts)
+    (Among-flat_map script_edges f.0 (f.0.name, y) h.scripts f.1
+    (subst (Among (f.0.name, y)) (sym (script_edges-shape f.0 (w.kinds f.0 f.1)))
+    (Among-map (from_to f.0.name) y (edges_of_shape f.0.name (shape_of_held_script f.0)) t)))))
+    (shape_at-found h x s e)
+  where
+    moved : (z : Name) (t : Shape) → z ≡ x → t ≡ s → Among y (edges_of_shape z t)
+    moved z t p q = subst (λ v. Among y (edges_of_shape v t)) (sym p) (subst (λ v. Among y (edges_of_shape x v)) (sym q) m)

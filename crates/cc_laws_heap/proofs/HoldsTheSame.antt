@@ -1,0 +1,96 @@
+-- HEAPS THAT ARE ALIKE: the same but for counts and the buffer. Registers and slots hold the same, and names are there as before.
+use Rattle.std.proofs.Common.{◌≡◌, ℕ, ◌+◌, map, Option, Some, None, option_map, refl, sym, ◌∙◌, ap, ◌==◌}
+use Rattle.std.specs.List.{find}
+use Rattle.std.specs.Option.{option_and_then}
+use Rattle.std.proofs.lemmas.Simd.{map-map}
+use Rattle.cc_names.specs.declared.name.Name.{Name}
+use Rattle.cc_names.specs.declared.name.Name.TheVariants as name
+use Rattle.cc_names.specs.declared.register.Reg.{Reg}
+use Rattle.cc_names.specs.declared.register.Reg.TheVariants.{N, S}
+use Rattle.cc_names.specs.Names.{native, object, reflector, same_name}
+use Rattle.cc_model.specs.Checks.{slots_at, slots_or_none}
+use Rattle.cc_model.specs.Heap.{Heap, HeapNative, HeapScript, native_at, slots_in, slots_of_script, register, objects_of}
+use Rattle.cc_model.specs.Cascade.{add_ref, take_up}
+use Rattle.cc_model.specs.WellFormed.{native_names, script_names, names_there}
+use Rattle.cc_laws_heap.specs.Freeing.{Uncounted, uncounted, SameBeside}
+use Rattle.cc_laws_heap.proofs.Lists.{find-map}
+use Rattle.cc_laws_heap.proofs.Natives.{uncounted-change}
+use Rattle.cc_laws_heap.proofs.Beside.{SameBeside-with, SameBeside-refl}
+
+-- the second heaps differ from the first in counts and the buffer alone
+pub record HoldsTheSame (h g : Heap) : Type 0 where
+  pub beside : SameBeside h g
+  pub natives : map uncounted g.natives ≡ map uncounted h.natives
+
+-- heaps hold the same as themselves
+pub HoldsTheSame-refl : (h : Heap) → HoldsTheSame h h
+HoldsTheSame-refl h = record {
+  beside = SameBeside-refl h;
+  natives = refl;
+}
+
+-- a native with one reference more
+abbrev pub raise_native : HeapNative → HeapNative
+raise_native n = record n { count = n.count + 1 }
+
+-- a reference taken changes counts and the buffer alone
+pub HoldsTheSame-add_ref : (h : Heap) (k : ℕ) → HoldsTheSame h (add_ref h k)
+HoldsTheSame-add_ref h k = record {
+  beside = SameBeside-with h (add_ref h k).natives (add_ref h k).buffer;
+  natives = uncounted-change h k raise_native (λ n. refl);
+}
+
+-- and so does a reference to what a register or a slot is to hold
+pub HoldsTheSame-take_up : (h : Heap) (x : Option Name) → HoldsTheSame h (take_up h x)
+HoldsTheSame-take_up h None = HoldsTheSame-refl h
+HoldsTheSame-take_up h (Some (name.Native k)) = HoldsTheSame-add_ref h k.0
+HoldsTheSame-take_up h (Some (name.Script k)) = HoldsTheSame-refl h
+HoldsTheSame-take_up h (Some (name.Reflector k)) = HoldsTheSame-refl h
+
+module _ (h g : Heap) (a : HoldsTheSame h g) where
+  -- the same natives are there
+  pub native_names-alike : native_names g ≡ native_names h
+  native_names-alike = named g ∙ (ap (λ us. map (λ (u : Uncounted). native u.number) us) a.natives ∙ sym (named h))
+    where
+      named : (f : Heap) → native_names f ≡ map (λ (u : Uncounted). native u.number) (map uncounted f.natives)
+      named f = sym (map-map (λ (u : Uncounted). native u.number) uncounted f.natives)
+
+  -- the same script objects are there
+  pub script_names-alike : script_names g ≡ script_names h
+  script_names-alike = ap (λ os. map (λ (o : HeapScript). o.name) os) a.beside.scripts
+
+  -- the same objects are there
+  pub names_there-alike : names_there g ≡ names_there h
+  names_there-alike = rw (native_names-alike, script_names-alike) refl
+
+  -- registers hold the same
+  pub register-alike : (r : Reg) → register g r ≡ register h r
+  register-alike (N d) = rw a.beside.native_registers refl
+  register-alike (S d) = rw a.beside.script_registers refl
+
+  -- natives have the same slots
+  native_slots-alike : (k : ℕ) → option_map (λ (n : HeapNative). n.slots) (native_at g k) ≡ option_map (λ (n : HeapNative). n.slots) (native_at h k)
+  native_slots-alike k = found g ∙ (ap (λ us. option_map (λ (u : Uncounted). u.slots) (find (λ (u : Uncounted). u.number == k) us)) a.natives ∙ sym (found h))
+    where
+      slots : (o : Option HeapNative) → option_map (λ (n : HeapNative). n.slots) o ≡ option_map (λ (u : Uncounted). u.slots) (option_map uncounted o)
+      slots None = refl
+      slots (Some n) = refl
+
+      found : (f : Heap) → option_map (λ (n : HeapNative). n.slots) (native_at f k) ≡
+          option_map (λ (u : Uncounted). u.slots) (find (λ (u : Uncounted). u.number == k) (map uncounted f.natives))
+      found f = slots (native_at f k) ∙
+          ap (λ o. option_map (λ (u : Uncounted). u.slots) o) (sym (find-map (λ (u : Uncounted). u.number == k) uncounted f.natives))
+
+  -- objects have the same slots
+  pub slots_in-alike : (x : Name) → slots_in g x ≡ slots_in h x
+  slots_in-alike (name.Native k) = native_slots-alike k.0
+  slots_in-alike (name.Script k) = ap (λ os. option_and_then slots_of_script (find (λ o. same_name o.name (object k.0)) os)) a.beside.scripts
+  slots_in-alike (name.Reflector k) = ap (λ os. option_and_then slots_of_script (find (λ o. same_name o.name (reflector k.0)) os)) a.beside.scripts
+
+  -- what a register holds has the same slots
+  pub slots_at-alike : (r : Reg) → slots_at (objects_of g) r ≡ slots_at (objects_of h) r
+  slots_at-alike r = rw (register-alike r) (go (register h r))
+    where
+      go : (o : Option Name) → slots_or_none (option_and_then (slots_in g) o) ≡ slots_or_none (option_and_then (slots_in h) o)
+      go None = refl
+      go (Some x) = ap slots_or_none (slots_in-alike x)

@@ -1,0 +1,196 @@
+-- WHAT KEEPS THE HEAPS WELL FORMED: one list of the heaps changed at a time.
+use Rattle.std.proofs.Common.{◌≡◌, ℕ, ◌≤◌, true, List, ◌++◌, map, length, sym, ◌∙◌, ap, subst, count_by}
+use Rattle.cc_lists.specs.Members.{Among}
+use Rattle.cc_lists.proofs.Members.{Among-map}
+use Rattle.cc_names.specs.declared.name.Name.{Name}
+use Rattle.cc_names.specs.Names.{native, object, reflector, same_name}
+use Rattle.cc_model.specs.Slots.{Slots, contents}
+use Rattle.cc_model.specs.Entries.{Entry, is_entry_of}
+use Rattle.cc_model.specs.Heap.{Heap, HeapNative, HeapScript, Buffered}
+use Rattle.cc_model.specs.WellFormed.{IsWellFormed, IsRising, HasMembers, FitsName, native_names, script_names, names_there}
+use Rattle.cc_laws_heap.proofs.Buffer.{places}
+use Rattle.cc_laws_heap.proofs.ListWrites.{each-map, map-kept}
+
+-- Registers
+
+-- the heaps with other registers
+abbrev pub with_registers : Heap → Slots → Slots → Heap
+with_registers h ns ss = record h { native_registers = ns; script_registers = ss }
+
+-- native registers that hold natives that are there, script registers that hold script objects that are there
+pub record AreRegisters (h : Heap) (ns ss : Slots) : Type 0 where
+  pub natives : (x : Name) → Among x (contents ns) → Among x (native_names h)
+  pub scripts : (x : Name) → Among x (contents ss) → Among x (script_names h)
+  pub enough : (length ns ≡ 256) × (length ss ≡ 256)
+
+-- other registers that hold what is there keep the heaps well formed
+pub IsWellFormed-registers : (h : Heap) (ns ss : Slots) → IsWellFormed h → AreRegisters h ns ss → IsWellFormed (with_registers h ns ss)
+IsWellFormed-registers h ns ss w r = record {
+  native_registers = r.natives;
+  script_registers = r.scripts;
+  registers = r.enough;
+  rising = w.rising;
+  native_numbers = w.native_numbers;
+  native_slots = w.native_slots;
+  native_contents = w.native_contents;
+  distinct = w.distinct;
+  object_numbers = w.object_numbers;
+  kinds = w.kinds;
+  script_contents = w.script_contents;
+  reflected = w.reflected;
+  preserved = w.preserved;
+  entries = λ e m. let k = w.entries e m in record { the_map = k.the_map; key = k.key; value = k.value };
+  one_entry = w.one_entry;
+  buffered = w.buffered;
+  buffered_once = w.buffered_once;
+  natives_allowed = w.natives_allowed;
+  scripts_allowed = w.scripts_allowed;
+}
+
+-- Natives, and the buffer
+
+-- the heaps with each native changed, and with another buffer
+abbrev pub with_natives : Heap → (HeapNative → HeapNative) → List Buffered → Heap
+with_natives h f bs = record h { natives = map f h.natives; buffer = bs }
+
+-- natives keep their numbers, and hold no more slots than they may, in them what is there; a preserved reflector is there
+pub record ChangesNatives (h : Heap) (f : HeapNative → HeapNative) : Type 0 where
+  pub number : (n : HeapNative) → (f n).number ≡ n.number
+  pub slots : (n : HeapNative) → Among n h.natives → length (f n).slots ≤ 64
+  pub contents : (n : HeapNative) → Among n h.natives → (x : Name) → Among x (contents (f n).slots) → Among x (names_there h)
+  pub preserved : (n : HeapNative) → Among n h.natives → (f n).preserved ≡ true → Among (reflector n.number) (script_names h)
+
+-- natives that are there, each at most once
+pub record IsBuffer (h : Heap) (bs : List Buffered) : Type 0 where
+  pub there : (b : Buffered) → Among b bs → Among (native b.number) (native_names h)
+  pub once : (k : ℕ) → places k bs ≤ 1
+
+-- natives that keep their numbers keep their names
+native_names-kept : (h : Heap) (f : HeapNative → HeapNative) (bs : List Buffered) → ChangesNatives h f →
+    native_names (with_natives h f bs) ≡ native_names h
+native_names-kept h f bs c = map-kept (λ (n : HeapNative). native n.number) f h.natives (λ n. ap native (c.number n))
+
+-- natives so changed, and such a buffer, keep the heaps well formed
+pub IsWellFormed-natives : (h : Heap) (f : HeapNative → HeapNative) (bs : List Buffered) → IsWellFormed h → ChangesNatives h f → IsBuffer h bs →
+    IsWellFormed (with_natives h f bs)
+IsWellFormed-natives h f bs w c b = record {
+  native_registers = λ x m. moved x (w.native_registers x m);
+  script_registers = w.script_registers;
+  registers = w.registers;
+  rising = subst IsRising (sym (map-kept (λ (n : HeapNative). n.number) f h.natives c.number)) w.rising;
+  native_numbers = each-map (λ n. (1 ≤ n.number) × (n.number ≤ h.natives_made)) f h.natives
+      (λ n m. subst (λ k. (1 ≤ k) × (k ≤ h.natives_made)) (sym (c.number n)) (w.native_numbers n m));
+  native_slots = each-map (λ n. length n.slots ≤ 64) f h.natives c.slots;
+  native_contents = λ n x m. each-map (λ n. (y : Name) → Among y (contents n.slots) → Among y (names_there (with_natives h f bs)))
+      f h.natives (λ o i y j. there y (c.contents o i y j)) n m x;
+  distinct = w.distinct;
+  object_numbers = w.object_numbers;
+  kinds = w.kinds;
+  script_contents = w.script_contents;
+  reflected = λ k m. moved (native k) (w.reflected k m);
+  preserved = each-map (λ n. n.preserved ≡ true → Among (reflector n.number) (script_names h)) f h.natives
+      (λ n m e. subst (λ k. Among (reflector k) (script_names h)) (sym (c.number n)) (c.preserved n m e));
+  entries = λ e m. let k = w.entries e m in record { the_map = k.the_map; key = k.key; value = k.value };
+  one_entry = w.one_entry;
+  buffered = λ k m. moved (native k.number) (b.there k m);
+  buffered_once = b.once;
+  natives_allowed = w.natives_allowed;
+  scripts_allowed = w.scripts_allowed;
+}
+  where
+    moved : (x : Name) → Among x (native_names h) → Among x (native_names (with_natives h f bs))
+    moved x m = subst (λ xs. Among x xs) (sym (native_names-kept h f bs c)) m
+
+    there : (x : Name) → Among x (names_there h) → Among x (names_there (with_natives h f bs))
+    there x m = subst (λ xs. Among x (xs ++ script_names h)) (sym (native_names-kept h f bs c)) m
+
+-- Script objects
+
+-- the heaps with each script object changed
+abbrev pub with_scripts : Heap → (HeapScript → HeapScript) → Heap
+with_scripts h f = record h { scripts = map f h.scripts }
+
+-- script objects keep their names and kinds, and hold as many slots as they may, in them script objects that are there
+pub record ChangesScripts (h : Heap) (f : HeapScript → HeapScript) : Type 0 where
+  pub name : (o : HeapScript) → (f o).name ≡ o.name
+  pub kind : (o : HeapScript) → (f o).kind ≡ o.kind
+  pub fits : (o : HeapScript) → Among o h.scripts → FitsName o.name o.kind (f o).slots
+  pub contents : (o : HeapScript) → Among o h.scripts → (x : Name) → Among x (contents (f o).slots) → Among x (script_names h)
+
+-- script objects so changed keep their names
+pub script_names-kept : (h : Heap) (f : HeapScript → HeapScript) → ChangesScripts h f → script_names (with_scripts h f) ≡ script_names h
+script_names-kept h f c = map-kept (λ (o : HeapScript). o.name) f h.scripts c.name
+
+-- script objects so changed keep the heaps well formed
+pub IsWellFormed-scripts : (h : Heap) (f : HeapScript → HeapScript) → IsWellFormed h → ChangesScripts h f → IsWellFormed (with_scripts h f)
+IsWellFormed-scripts h f w c = record {
+  native_registers = w.native_registers;
+  script_registers = λ x m. moved x (w.script_registers x m);
+  registers = w.registers;
+  rising = w.rising;
+  native_numbers = w.native_numbers;
+  native_slots = w.native_slots;
+  native_contents = λ n x m i. subst (λ xs. Among x (native_names h ++ xs)) (sym same) (w.native_contents n x m i);
+  distinct = subst (λ xs. (x : Name) → count_by (same_name x) xs ≤ 1) (sym same) w.distinct;
+  object_numbers = λ k m. w.object_numbers k (back (object k) m);
+  kinds = each-map (λ o. FitsName o.name o.kind o.slots) f h.scripts
+      (λ o m. subst (λ x. FitsName x (f o).kind (f o).slots) (sym (c.name o))
+      (subst (λ k. FitsName o.name k (f o).slots) (sym (c.kind o)) (c.fits o m)));
+  script_contents = λ o x m. each-map (λ p. (y : Name) → Among y (contents p.slots) → Among y (script_names (with_scripts h f)))
+      f h.scripts (λ p i y j. moved y (c.contents p i y j)) o m x;
+  reflected = λ k m. w.reflected k (back (reflector k) m);
+  preserved = λ n m e. moved (reflector n.number) (w.preserved n m e);
+  entries = λ e m. members e (w.entries e m);
+  one_entry = w.one_entry;
+  buffered = w.buffered;
+  buffered_once = w.buffered_once;
+  natives_allowed = w.natives_allowed;
+  scripts_allowed = w.scripts_allowed;
+}
+  where
+    same : script_names (with_scripts h f) ≡ script_names h
+    same = script_names-kept h f c
+
+    moved : (x : Name) → Among x (script_names h) → Among x (script_names (with_scripts h f))
+    moved x m = subst (λ xs. Among x xs) (sym same) m
+
+    back : (x : Name) → Among x (script_names (with_scripts h f)) → Among x (script_names h)
+    back x m = subst (λ xs. Among x xs) same m
+
+    members : (e : Entry) → HasMembers h e → HasMembers (with_scripts h f) e
+    members e k = record {
+      the_map = (f k.the_map.0, Among-map f k.the_map.0 h.scripts k.the_map.1, c.name k.the_map.0 ∙ k.the_map.2, c.kind k.the_map.0 ∙ k.the_map.3);
+      key = moved e.key k.key;
+      value = moved e.value k.value;
+    }
+
+-- Entries
+
+-- the heaps with other entries
+abbrev pub with_entries : Heap → List Entry → Heap
+with_entries h es = record h { entries = es }
+
+-- entries of what is there, at most one for each map and key, keep the heaps well formed
+pub IsWellFormed-entries : (h : Heap) (es : List Entry) → IsWellFormed h → ((e : Entry) → Among e es → HasMembers h e) →
+    ((m k : Name) → count_by (is_entry_of m k) es ≤ 1) → IsWellFormed (with_entries h es)
+IsWellFormed-entries h es w members once = record {
+  native_registers = w.native_registers;
+  script_registers = w.script_registers;
+  registers = w.registers;
+  rising = w.rising;
+  native_numbers = w.native_numbers;
+  native_slots = w.native_slots;
+  native_contents = w.native_contents;
+  distinct = w.distinct;
+  object_numbers = w.object_numbers;
+  kinds = w.kinds;
+  script_contents = w.script_contents;
+  reflected = w.reflected;
+  preserved = w.preserved;
+  entries = λ e m. let k = members e m in record { the_map = k.the_map; key = k.key; value = k.value };
+  one_entry = once;
+  buffered = w.buffered;
+  buffered_once = w.buffered_once;
+  natives_allowed = w.natives_allowed;
+  scripts_allowed = w.scripts_allowed;
+}

@@ -1,0 +1,165 @@
+-- NATIVES LEAVE THE HEAPS: those that were freed are there no more, all others are, and nothing changes beside natives
+-- and the buffer.
+use Rattle.std.proofs.Common.{◌≡◌, ℕ, ◌≤◌, Bool, true, false, not, ◌&&◌, ◌||◌, List, [], ◌∷◌, ◌++◌, map, refl, sym, ◌∙◌, ap, subst, ⊎_elim, arith, ◌==◌}
+use Rattle.std.specs.List.{filter}
+use Rattle.std.proofs.Math.Path.{fun_ext}
+use Rattle.std.proofs.lemmas.Bool.{cases_lt, true≢false, not-true, ne_eqb}
+use Rattle.std.proofs.lemmas.Simd.{map-map}
+use Rattle.cc_lists.specs.Members.{Among, has}
+use Rattle.cc_lists.proofs.Members.{Among-map, Among-map_cases, Among-append, Among-filtered, Among-passes, has-there}
+use Rattle.cc_names.specs.Names.{native}
+use Rattle.cc_model.specs.Heap.{Heap, HeapNative, Outcome, change_native}
+use Rattle.cc_model.specs.WellFormed.{native_names}
+use Rattle.cc_model.specs.Counts.{times}
+use Rattle.cc_laws_heap.specs.Freeing.{Uncounted, uncounted, is_none_of, SameBeside, Frees}
+use Rattle.cc_laws_heap.proofs.Lists.{filter-true, filter-map, filter-filter}
+use Rattle.cc_laws_heap.proofs.Numbers.{number-exact}
+use Rattle.cc_laws_heap.proofs.Natives.{named-member, KeepsNumber, changed_at, changed_at-number}
+use Rattle.cc_laws_heap.proofs.References.{times-append, times-among}
+use Rattle.cc_laws_heap.proofs.Beside.{SameBeside-refl, SameBeside-trans, SameBeside-change_native}
+use Rattle.cc_laws_heap.proofs.ListWrites.{map-kept}
+
+-- the numbers of the natives that are there
+abbrev pub numbers_there : Heap → List ℕ
+numbers_there h = map (λ n. n.number) h.natives
+
+-- whether a number is none of those freed
+abbrev pub is_left : List ℕ → ℕ → Bool
+is_left freed k = not (has ◌==◌ freed k)
+
+-- the natives `freed` of the first heaps have left the second, and no others
+pub record Leave (h : Heap) (freed : List ℕ) (g : Heap) : Type 0 where
+  pub once : (k : ℕ) → times k freed ≤ 1
+  pub were_there : (k : ℕ) → Among k freed → Among (native k) (native_names h)
+  pub numbers : numbers_there g ≡ filter (is_left freed) (numbers_there h)
+  pub beside : SameBeside h g
+
+-- Names and numbers
+
+-- a number that is there is that of a name
+pub numbers_there-named : (h : Heap) (k : ℕ) → Among k (numbers_there h) → Among (native k) (native_names h)
+numbers_there-named h k m =
+    let f = Among-map_cases (λ (n : HeapNative). n.number) h.natives k m in
+    subst (λ j. Among (native j) (native_names h)) f.2 (Among-map (λ (n : HeapNative). native n.number) f.0 h.natives f.1)
+
+-- and a name that is there has its number there
+pub named-numbers_there : (h : Heap) (k : ℕ) → Among (native k) (native_names h) → Among k (numbers_there h)
+named-numbers_there h k m =
+    let f = named-member h k m in
+    subst (λ j. Among j (numbers_there h)) f.2 (Among-map (λ (n : HeapNative). n.number) f.0 h.natives f.1)
+
+-- What has left
+
+-- what is there now was there before
+pub Leave-before : (h : Heap) (freed : List ℕ) (g : Heap) → Leave h freed g → (k : ℕ) → Among (native k) (native_names g) → Among (native k) (native_names h)
+Leave-before h freed g l k m =
+    numbers_there-named h k (Among-filtered (is_left freed) k (numbers_there h) (subst (λ ks. Among k ks) l.numbers (named-numbers_there g k m)))
+
+-- what is there now was not freed
+pub Leave-not_freed : (h : Heap) (freed : List ℕ) (g : Heap) → Leave h freed g → (k : ℕ) → Among (native k) (native_names g) → ¬ (Among k freed)
+Leave-not_freed h freed g l k m f =
+    let left : is_left freed k ≡ true = Among-passes (is_left freed) k (numbers_there h) (subst (λ ks. Among k ks) l.numbers (named-numbers_there g k m)) in
+    true≢false (sym (has-there ◌==◌ number-exact freed k f) ∙ not-true (has ◌==◌ freed k) left)
+
+-- what does not stand in a list is not counted there
+pub times-none : (k : ℕ) (xs : List ℕ) → ¬ (Among k xs) → times k xs ≡ 0
+times-none k xs d = ⊎_elim (λ some. absurd (d (times-among k xs some))) (λ none. omega arith) (cases_lt 0 (times k xs))
+
+-- what is there now was freed at no time
+pub Leave-none : (h : Heap) (freed : List ℕ) (g : Heap) → Leave h freed g → (k : ℕ) → Among (native k) (native_names g) → times k freed ≡ 0
+Leave-none h freed g l k m = times-none k freed (Leave-not_freed h freed g l k m)
+
+-- to be left after two lists were freed is to be left after each
+is_left-append : (early late : List ℕ) (k : ℕ) → is_left (early ++ late) k ≡ (is_left early k && is_left late k)
+is_left-append [] late k = refl
+is_left-append (a ∷ early) late k = go (a == k) (is_left-append early late k)
+  where
+    go : (b : Bool) → is_left (early ++ late) k ≡ (is_left early k && is_left late k) →
+        not (b || has ◌==◌ (early ++ late) k) ≡ (not (b || has ◌==◌ early k) && is_left late k)
+    go true ih = refl
+    go false ih = ih
+
+-- Natives leave one after another.
+pub Leave-trans : (h : Heap) (early : List ℕ) (g : Heap) (late : List ℕ) (f : Heap) → Leave h early g → Leave g late f → Leave h (early ++ late) f
+Leave-trans h early g late f l m = record {
+  once = λ k. ⊎_elim
+      (λ some. omega (arith, times-append k early late, m.once k, Leave-none h early g l k (m.were_there k (times-among k late some))))
+      (λ none. omega (arith, times-append k early late, l.once k))
+      (cases_lt 0 (times k late));
+  were_there = λ k i. ⊎_elim (l.were_there k) (λ r. Leave-before h early g l k (m.were_there k r)) (Among-append k early late i);
+  numbers = m.numbers
+      ∙ (ap (filter (is_left late)) l.numbers
+      ∙ (filter-filter (is_left late) (is_left early) (numbers_there h)
+      ∙ ap (λ p. filter p (numbers_there h)) (fun_ext (λ k. sym (is_left-append early late k)))));
+  beside = SameBeside-trans h g f l.beside m.beside;
+}
+
+-- What a cascade frees leaves.
+pub Leave-frees : (h : Heap) (ks : List ℕ) (o : Outcome) → Frees h ks o → Leave h ks o.heap
+Leave-frees h ks o f = record {
+  once = f.once;
+  were_there = f.were_there;
+  numbers = sym (map-map number uncounted o.heap.natives)
+      ∙ (ap (map number) f.natives
+      ∙ (sym (filter-map (is_left ks) number (map uncounted h.natives))
+      ∙ ap (filter (is_left ks)) (map-map number uncounted h.natives)));
+  beside = f.beside;
+}
+  where
+    number : Uncounted → ℕ
+    number u = u.number
+
+-- where the same numbers are there, nothing has left
+pub Leave-same : (h g : Heap) → SameBeside h g → numbers_there g ≡ numbers_there h → Leave h [] g
+Leave-same h g b e = record {
+  once = λ k. omega arith;
+  were_there = λ k m. absurd m;
+  numbers = e ∙ sym (filter-true (is_left []) (numbers_there h) (λ k. refl));
+  beside = b;
+}
+
+-- nothing leaves heaps that stay
+pub Leave-refl : (h : Heap) → Leave h [] h
+Leave-refl h = Leave-same h h (SameBeside-refl h) refl
+
+-- nor where a native changes and keeps its number
+pub Leave-change_native : (h : Heap) (k : ℕ) (f : HeapNative → HeapNative) → KeepsNumber f → Leave h [] (change_native h k f)
+Leave-change_native h k f e = Leave-same h (change_native h k f) (SameBeside-change_native h k f)
+    (map-kept (λ (n : HeapNative). n.number) (changed_at k f) h.natives (changed_at-number k f e))
+
+-- The natives that stay
+
+-- a native is one of the heaps, but for its count
+abbrev pub IsOf : Heap → HeapNative → Type 0
+IsOf h n = (m : HeapNative) × Among m h.natives × (uncounted m ≡ uncounted n)
+
+-- all natives but k are as they were in the first heaps
+abbrev pub OthersStay : Heap → ℕ → Heap → Type 0
+OthersStay h k g = (n : HeapNative) → Among n g.natives → ¬ (n.number ≡ k) → IsOf h n
+
+-- after a cascade each native is as it was
+pub IsOf-frees : (h : Heap) (ks : List ℕ) (o : Outcome) → Frees h ks o → (n : HeapNative) → Among n o.heap.natives → IsOf h n
+IsOf-frees h ks o f n m =
+    let there : Among (uncounted n) (filter (is_none_of ks) (map uncounted h.natives)) = subst (λ us. Among (uncounted n) us) f.natives (Among-map uncounted n o.heap.natives m) in
+    Among-map_cases uncounted h.natives (uncounted n) (Among-filtered (is_none_of ks) (uncounted n) (map uncounted h.natives) there)
+
+-- where counts and the buffer alone change too
+pub IsOf-alike : (h g : Heap) → map uncounted g.natives ≡ map uncounted h.natives → (n : HeapNative) → Among n g.natives → IsOf h n
+IsOf-alike h g e n m = Among-map_cases uncounted h.natives (uncounted n) (subst (λ us. Among (uncounted n) us) e (Among-map uncounted n g.natives m))
+
+-- what is one of heaps in which each native but k is as it was, is as it was
+pub OthersStay-trans : (h : Heap) (k : ℕ) (g f : Heap) → OthersStay h k g → OthersStay g k f → OthersStay h k f
+OthersStay-trans h k g f a b = λ n m d.
+    let i = b n m d in
+    let number : i.0.number ≡ n.number = ap (λ (u : Uncounted). u.number) i.2 in
+    let j = a i.0 i.1 (λ e. d (sym number ∙ e)) in
+    (j.0, j.1, j.2 ∙ i.2)
+
+-- a change of native k leaves the others
+pub OthersStay-change_native : (h : Heap) (k : ℕ) (f : HeapNative → HeapNative) → KeepsNumber f → OthersStay h k (change_native h k f)
+OthersStay-change_native h k f e = λ n m d.
+    let i = Among-map_cases (changed_at k f) h.natives n m in
+    let number : i.0.number ≡ n.number = sym (changed_at-number k f e i.0) ∙ ap (λ (o : HeapNative). o.number) i.2 in
+    let other : (i.0.number == k) ≡ false = ne_eqb i.0.number k (λ s. d (sym number ∙ s)) in
+    let same : changed_at k f i.0 ≡ i.0 = rw other refl in
+    (i.0, i.1, ap uncounted (sym same ∙ i.2))

@@ -1,0 +1,112 @@
+-- MARKING GIVES EACH SCRIPT OBJECT THE COLOUR OF ITS LEAST SET: it changes colours alone, and no rule reads a colour.
+use Rattle.std.specs.Prelude.{◌↔◌}
+use Rattle.std.proofs.Common.{◌≡◌, Bool, true, false, ◌++◌, refl, sym, ◌∙◌, ap}
+use Rattle.std.proofs.lemmas.Bool.{true≢false}
+use Rattle.cc_lists.specs.Members.{Among, has}
+use Rattle.cc_lists.specs.Least.{system, closure}
+use Rattle.cc_lists.proofs.Closure.{closure-decides}
+use Rattle.cc_names.specs.declared.name.Name.{Name}
+use Rattle.cc_names.specs.declared.kind.Colour.{Colour}
+use Rattle.cc_names.specs.declared.kind.Colour.TheVariants.{White, Gray, Black}
+use Rattle.cc_names.specs.Names.{same_name}
+use Rattle.cc_names.proofs.NameTests.{same_name-exact}
+use Rattle.cc_model.specs.Slots.{contents}
+use Rattle.cc_model.specs.Entries.{joints}
+use Rattle.cc_model.specs.Heap.{Heap, HeapScript}
+use Rattle.cc_model.specs.View.{script_slot_edges}
+use Rattle.cc_model.specs.Exposure.{slots_of_scripts}
+use Rattle.cc_model.specs.Colours.{IsBlack, black_names, scripts_held, IsMarked, marked_names, IsGray, colour_by, with_colour, marked, HasColours}
+use Rattle.cc_laws_heap.proofs.ListWrites.{each-map, flat_map-kept}
+
+-- Colours by two tests
+
+-- the colour by whether something is black and whether it is marked
+abbrev pub colour_of : Bool → Bool → Colour
+colour_of b m = elim b [ true ↦ Black | false ↦ elim m [ true ↦ Gray | false ↦ White ] ]
+
+-- black by the first test
+pub colour_of-black : (b m : Bool) → colour_of b m ≡ Black → b ≡ true
+colour_of-black true m e = refl
+colour_of-black false true e = absurd (cc)
+colour_of-black false false e = absurd (cc)
+
+-- gray by the second alone
+pub colour_of-gray : (b m : Bool) → colour_of b m ≡ Gray → (b ≡ false) × (m ≡ true)
+colour_of-gray true m e = absurd (cc)
+colour_of-gray false true e = (refl, refl)
+colour_of-gray false false e = absurd (cc)
+
+-- white by neither
+pub colour_of-white : (b m : Bool) → colour_of b m ≡ White → (b ≡ false) × (m ≡ false)
+colour_of-white true m e = absurd (cc)
+colour_of-white false true e = absurd (cc)
+colour_of-white false false e = (refl, refl)
+
+-- The lists of names decide
+
+-- a name is black where it stands in the list of black names
+pub black-decided : (h : Heap) (x : Name) → (has same_name (black_names h) x ≡ true) ↔ IsBlack h x
+black-decided h x = closure-decides same_name same_name-exact (system (contents h.script_registers) (slots_of_scripts h) (joints h.entries)) x
+
+-- and marked where it stands in the list of marked names
+pub marked-decided : (h : Heap) (x : Name) → (has same_name (marked_names h) x ≡ true) ↔ IsMarked h x
+marked-decided h x = closure-decides same_name same_name-exact (system (black_names h ++ scripts_held h) (slots_of_scripts h) (joints h.entries)) x
+
+-- Marking changes colours alone
+
+-- the script object as it is after marking
+abbrev pub as_marked : Heap → HeapScript → HeapScript
+as_marked h o = with_colour (colour_by (black_names h) (marked_names h) o.name) o
+
+-- edges over script slots stay
+slots_of_scripts-marked : (h : Heap) → slots_of_scripts (marked h) ≡ slots_of_scripts h
+unfolding marked
+slots_of_scripts-marked h = flat_map-kept script_slot_edges (as_marked h) h.scripts (λ o. refl)
+
+-- the black names stay
+pub black_names-marked : (h : Heap) → black_names (marked h) ≡ black_names h
+unfolding marked
+black_names-marked h = ap (λ edges. closure same_name (system (contents h.script_registers) edges (joints h.entries))) (slots_of_scripts-marked h)
+
+-- and so do the marked names
+pub marked_names-marked : (h : Heap) → marked_names (marked h) ≡ marked_names h
+unfolding marked
+marked_names-marked h =
+    ap (λ blacks. closure same_name (system (blacks ++ scripts_held h) (slots_of_scripts (marked h)) (joints h.entries))) (black_names-marked h)
+    ∙ ap (λ edges. closure same_name (system (black_names h ++ scripts_held h) edges (joints h.entries))) (slots_of_scripts-marked h)
+
+-- The colours after marking
+
+-- after marking the colour of each script object is that by the names that are black and those that are marked
+pub colour-marked : (h : Heap) (o : HeapScript) → Among o (marked h).scripts → o.colour ≡ colour_by (black_names h) (marked_names h) o.name
+unfolding marked
+colour-marked h = each-map (λ o. o.colour ≡ colour_by (black_names h) (marked_names h) o.name) (as_marked h) h.scripts (λ o m. refl)
+
+-- THE COLOURS AFTER MARKING are those of marking.
+pub HasColours-marked : (h : Heap) → HasColours (marked h)
+HasColours-marked h o m =
+    colour-marked h o m
+    ∙ (ap (λ blacks. colour_by blacks (marked_names h) o.name) (sym (black_names-marked h))
+    ∙ ap (λ marks. colour_by (black_names (marked h)) marks o.name) (sym (marked_names-marked h)))
+
+-- What is black after marking is what is black by the rules.
+pub black-marked : (h : Heap) (o : HeapScript) → Among o (marked h).scripts → (o.colour ≡ Black) ↔ IsBlack h o.name
+black-marked h o m = (
+  λ e. (black-decided h o.name).0 (colour_of-black (has same_name (black_names h) o.name) (has same_name (marked_names h) o.name) (sym (colour-marked h o m) ∙ e)),
+  λ d. let b : has same_name (black_names h) o.name ≡ true = (black-decided h o.name).1 d in
+      colour-marked h o m ∙ ap (λ t. colour_of t (has same_name (marked_names h) o.name)) b,
+)
+
+-- What is gray after marking is what is gray by the rules.
+pub gray-marked : (h : Heap) (o : HeapScript) → Among o (marked h).scripts → (o.colour ≡ Gray) ↔ IsGray h o.name
+gray-marked h o m = (
+  λ e. let t = colour_of-gray (has same_name (black_names h) o.name) (has same_name (marked_names h) o.name) (sym (colour-marked h o m) ∙ e) in
+      ((marked-decided h o.name).0 t.1, λ d. true≢false (sym ((black-decided h o.name).1 d) ∙ t.0)),
+  λ d. by_test (has same_name (black_names h) o.name) refl d,
+)
+  where
+    by_test : (b : Bool) → has same_name (black_names h) o.name ≡ b → IsGray h o.name → o.colour ≡ Gray
+    by_test true e d = absurd (d.1 ((black-decided h o.name).0 e))
+    by_test false e d =
+        let t : has same_name (marked_names h) o.name ≡ true = (marked-decided h o.name).1 d.0 in
+        colour-marked h o m ∙ (ap (λ b. colour_of b (has same_name (marked_names h) o.name)) e ∙ ap (λ b. colour_of false b) t)

@@ -1,0 +1,146 @@
+-- Natives by their numbers: looked up, changed and taken out; and the count that a number has.
+use Rattle.std.proofs.Common.{◌≡◌, ◌≢◌, ℕ, ◌≤◌, Bool, true, false, not, map, Option, Some, None, option_map, refl, sym, ◌∙◌, ap, subst, count_by, find, ◌==◌, if◌then◌else◌}
+use Rattle.std.proofs.Math.Path.{fun_ext}
+use Rattle.std.proofs.lemmas.Bool.{eqb-true, eq-eqb, ne_eqb, not-true}
+use Rattle.std.proofs.lemmas.Simd.{map-map}
+use Rattle.cc_lists.specs.Members.{Among}
+use Rattle.cc_lists.proofs.Members.{Among-map, Among-map_cases}
+use Rattle.cc_lists.proofs.Counting.{count_by-map}
+use Rattle.cc_names.specs.Names.{native, number_of}
+use Rattle.cc_model.specs.Heap.{Heap, HeapNative, native_at, change_native}
+use Rattle.cc_model.specs.Cascade.{removed}
+use Rattle.cc_model.specs.WellFormed.{IsRising, IsWellFormed, native_names}
+use Rattle.cc_laws_heap.specs.Freeing.{uncounted}
+use Rattle.cc_laws_heap.proofs.Lists.{find-among, find-passes, find-some, find-only, find-map, find-filter, find-dropped}
+use Rattle.cc_laws_heap.proofs.Rising.{IsRising-once}
+
+-- whether a native has the number k
+abbrev pub has_number : ℕ → HeapNative → Bool
+has_number k n = n.number == k
+
+-- no two natives have one number
+abbrev pub HasDistinctNumbers : Heap → Type 0
+HasDistinctNumbers h = (k : ℕ) → count_by (has_number k) h.natives ≤ 1
+
+-- natives by rising number have distinct numbers
+pub IsRising-distinct : (h : Heap) → IsRising (map (λ n. n.number) h.natives) → HasDistinctNumbers h
+IsRising-distinct h r k = subst (λ c. c ≤ 1) (count_by-map (λ j. j == k) (λ (n : HeapNative). n.number) h.natives) (IsRising-once (map (λ n. n.number) h.natives) r k)
+
+-- so have those of well formed heaps
+pub IsWellFormed-distinct : (h : Heap) → IsWellFormed h → HasDistinctNumbers h
+IsWellFormed-distinct h w = IsRising-distinct h w.rising
+
+-- The native that is found at a number
+
+-- it is there
+pub native_at-there : (h : Heap) (k : ℕ) (n : HeapNative) → native_at h k ≡ Some n → Among n h.natives
+native_at-there h k n e = find-among (has_number k) h.natives n e
+
+-- it has this number
+pub native_at-number : (h : Heap) (k : ℕ) (n : HeapNative) → native_at h k ≡ Some n → n.number ≡ k
+native_at-number h k n e = eqb-true n.number k (find-passes (has_number k) h.natives n e)
+
+-- the name of what is found is there
+pub native_at-named : (h : Heap) (k : ℕ) (n : HeapNative) → native_at h k ≡ Some n → Among (native k) (native_names h)
+native_at-named h k n e =
+    subst (λ j. Among (native j) (native_names h)) (native_at-number h k n e)
+    (Among-map (λ (m : HeapNative). native m.number) n h.natives (native_at-there h k n e))
+
+-- each native is found at its number
+pub native_at-member : (h : Heap) → HasDistinctNumbers h → (n : HeapNative) → Among n h.natives → native_at h n.number ≡ Some n
+native_at-member h d n m = find-only (has_number n.number) h.natives n (d n.number) m (eq-eqb n.number n.number refl)
+
+-- a name that is there is that of a native
+pub named-member : (h : Heap) (k : ℕ) → Among (native k) (native_names h) → (n : HeapNative) × Among n h.natives × (n.number ≡ k)
+named-member h k m =
+    let f = Among-map_cases (λ (n : HeapNative). native n.number) h.natives (native k) m in
+    (f.0, f.1, ap number_of f.2)
+
+-- at a name that is there something is found
+pub named-found : (h : Heap) (k : ℕ) → Among (native k) (native_names h) → (n : HeapNative) × (native_at h k ≡ Some n)
+named-found h k m =
+    let f = named-member h k m in
+    find-some (has_number k) h.natives f.0 f.1 (eq-eqb f.0.number k f.2)
+
+-- One native changed
+
+-- the native with number k changed, any other left
+abbrev pub changed_at : ℕ → (HeapNative → HeapNative) → HeapNative → HeapNative
+changed_at k f n = if n.number == k then f n else n
+
+-- a change that leaves each native its number
+abbrev pub KeepsNumber : (HeapNative → HeapNative) → Type 0
+KeepsNumber f = (n : HeapNative) → (f n).number ≡ n.number
+
+-- then a change of one native leaves each its number
+pub changed_at-number : (k : ℕ) (f : HeapNative → HeapNative) → KeepsNumber f → KeepsNumber (changed_at k f)
+changed_at-number k f h n = go (n.number == k)
+  where
+    go : (b : Bool) → (if b then f n else n).number ≡ n.number
+    go true = h n
+    go false = refl
+
+-- what is found after one native changed
+native_at-change : (h : Heap) (k : ℕ) (f : HeapNative → HeapNative) → KeepsNumber f → (j : ℕ) →
+    native_at (change_native h k f) j ≡ option_map (changed_at k f) (native_at h j)
+native_at-change h k f e j =
+    let same : (λ n. has_number j (changed_at k f n)) ≡ has_number j = fun_ext (λ n. ap (λ i. i == j) (changed_at-number k f e n)) in
+    find-map (has_number j) (changed_at k f) h.natives ∙ ap (λ p. option_map (changed_at k f) (find p h.natives)) same
+
+-- what is found at the number of the native that changed
+pub native_at-change_same : (h : Heap) (k : ℕ) (f : HeapNative → HeapNative) → KeepsNumber f →
+    native_at (change_native h k f) k ≡ option_map f (native_at h k)
+native_at-change_same h k f e = native_at-change h k f e k ∙ go (native_at h k) refl
+  where
+    go : (o : Option HeapNative) → native_at h k ≡ o → option_map (changed_at k f) o ≡ option_map f o
+    go None s = refl
+    go (Some n) s = let here : (n.number == k) ≡ true = eq-eqb n.number k (native_at-number h k n s) in rw here refl
+
+-- and at any other
+pub native_at-change_other : (h : Heap) (k : ℕ) (f : HeapNative → HeapNative) → KeepsNumber f → (j : ℕ) → j ≢ k →
+    native_at (change_native h k f) j ≡ native_at h j
+native_at-change_other h k f e j d = native_at-change h k f e j ∙ go (native_at h j) refl
+  where
+    go : (o : Option HeapNative) → native_at h j ≡ o → option_map (changed_at k f) o ≡ o
+    go None s = refl
+    go (Some n) s =
+        let there : n.number ≡ j = native_at-number h j n s in
+        let here : (n.number == k) ≡ false = ne_eqb n.number k (λ q. d (sym there ∙ q)) in
+        rw here refl
+
+-- a change that keeps the number of each native keeps them distinct
+pub HasDistinctNumbers-change : (h : Heap) (k : ℕ) (f : HeapNative → HeapNative) → KeepsNumber f → HasDistinctNumbers h → HasDistinctNumbers (change_native h k f)
+HasDistinctNumbers-change h k f e d j =
+    let same : (λ n. has_number j (changed_at k f n)) ≡ has_number j = fun_ext (λ n. ap (λ i. i == j) (changed_at-number k f e n)) in
+    subst (λ c. c ≤ 1) (sym (count_by-map (has_number j) (changed_at k f) h.natives ∙ ap (λ p. count_by p h.natives) same)) (d j)
+
+-- a change of counts alone
+abbrev pub KeepsUncounted : (HeapNative → HeapNative) → Type 0
+KeepsUncounted f = (n : HeapNative) → uncounted (f n) ≡ uncounted n
+
+-- leaves the natives as they are but for their counts
+pub uncounted-change : (h : Heap) (k : ℕ) (f : HeapNative → HeapNative) → KeepsUncounted f → map uncounted (change_native h k f).natives ≡ map uncounted h.natives
+uncounted-change h k f e = map-map uncounted (changed_at k f) h.natives ∙ ap (λ g. map g h.natives) (fun_ext each)
+  where
+    each : (n : HeapNative) → uncounted (changed_at k f n) ≡ uncounted n
+    each n = go (n.number == k)
+      where
+        go : (b : Bool) → uncounted (if b then f n else n) ≡ uncounted n
+        go true = e n
+        go false = refl
+
+-- One native taken out
+
+-- nothing is found at the number that was taken out
+pub native_at-removed_same : (h : Heap) (k : ℕ) → native_at (removed h k) k ≡ None
+native_at-removed_same h k = find-dropped (has_number k) (λ n. not (has_number k n)) h.natives (λ n e. not-true (has_number k n) e)
+
+-- and at any other what was found before
+pub native_at-removed_other : (h : Heap) (k j : ℕ) → j ≢ k → native_at (removed h k) j ≡ native_at h j
+native_at-removed_other h k j d = find-filter (has_number j) (λ n. not (has_number k n)) h.natives each
+  where
+    each : (n : HeapNative) → has_number j n ≡ true → not (has_number k n) ≡ true
+    each n e =
+        let there : n.number ≡ j = eqb-true n.number j e in
+        let here : (n.number == k) ≡ false = ne_eqb n.number k (λ q. d (sym there ∙ q)) in
+        rw here refl

@@ -1,0 +1,88 @@
+-- WHAT IS REACHED IN A GRAPH is what is reached in heaps that stand for it, of what is there; and all of it is there.
+use Rattle.std.proofs.Common.{◌≡◌, List, [], ◌∷◌, Some, refl, sym, ◌∙◌, ap, subst, inl, inr, ⊎_elim}
+use Rattle.cc_lists.specs.Members.{Among}
+use Rattle.cc_lists.proofs.Members.{Among-map, Among-map_cases, Among-left, Among-right, Among-append}
+use Rattle.cc_lists.proofs.Least.{derive-root, derive-along, derive-jointly, derived-within}
+use Rattle.cc_names.specs.declared.name.Name.{Name}
+use Rattle.cc_names.specs.declared.register.Reg.{Reg}
+use Rattle.cc_names.specs.declared.register.Reg.TheVariants.{N, S}
+use Rattle.cc_model.specs.Slots.{Slots, contents}
+use Rattle.cc_model.specs.Entries.{Entry, joint, joints}
+use Rattle.cc_model.specs.Graph.{Graph, register}
+use Rattle.cc_model.specs.Reached.{Reached, held, edge, value, edges_of}
+use Rattle.cc_model.specs.WellMade.{IsWellMade}
+use Rattle.cc_model.specs.Heap.{Heap}
+use Rattle.cc_model.specs.View.{view, ReachedIn}
+use Rattle.cc_model.specs.WellFormed.{IsWellFormed, names_there}
+use Rattle.cc_model.specs.StandsFor.{Shape, shape_in, ArePart, StandsFor}
+use Rattle.cc_laws_heap.proofs.Holds.{contents-get, contents-place}
+use Rattle.cc_laws_heap.proofs.EntryLists.{found-among, found-only}
+use Rattle.cc_laws_heap.proofs.Shapes.{edges_of_shape, edges_of_some, edges_of-shape}
+use Rattle.cc_laws_heap.proofs.HeapShapes.{shape_at-there, edge-held, held-edge}
+
+-- what stands in a part of a list stands in the list
+pub ArePart-among : {X : Type 0} (xs ys : List X) (x : X) → ArePart xs ys → Among x xs → Among x ys
+ArePart-among [] ys x p m = absurd m
+ArePart-among (z ∷ zs) [] x p m = absurd p
+ArePart-among (z ∷ zs) (y ∷ ys) x p m = ⊎_elim
+    (λ s. ⊎_elim (λ e. inl (sym s.0 ∙ e)) (λ t. inr (ArePart-among zs ys x s.1 t)) m)
+    (λ t. inr (ArePart-among (z ∷ zs) ys x t m)) p
+
+-- where an object of the graph has a shape, its edges are those of the shape
+pub edges_of-made : (g : Graph) (x : Name) (s : Shape) → shape_in g x ≡ Some s → edges_of g x ≡ edges_of_shape x s
+edges_of-made g x s e = edges_of-shape g x ∙ ap (edges_of_some x) e
+
+-- what a register holds is a root
+register-root : (h : Heap) (g : Graph) → StandsFor h g → (r : Reg) (x : Name) → register g r ≡ Some x → Among x (view h).registers
+register-root h g s (N r) x e = Among-left x (contents h.native_registers) (contents h.script_registers)
+    (subst (λ (b : Slots). Among x (contents b)) (sym s.native_registers) (contents-get g.native_registers r x e))
+register-root h g s (S r) x e = Among-right x (contents h.native_registers) (contents h.script_registers)
+    (subst (λ (b : Slots). Among x (contents b)) (sym s.script_registers) (contents-get g.script_registers r x e))
+
+-- All that is reached in the graph is in the heaps.
+pub reached-there : (h : Heap) (g : Graph) (x : Name) → StandsFor h g → Reached g x → Among x (names_there h)
+reached-there h g x s d = let k = s.reached x d in shape_at-there h x k.shape k.there
+
+module _ (h : Heap) (g : Graph) (w : IsWellFormed h) (m : IsWellMade g) (s : StandsFor h g) where
+  -- it is reached there
+  pub reached-in : (x : Name) → Reached g x → ReachedIn (view h) x
+  reached-in _ (held r x e) = derive-root (view h).registers (view h).edges (joints h.entries) x (register-root h g s r x e)
+  reached-in _ (edge x y d i) =
+      let k = s.reached x d in
+      derive-along (view h).registers (view h).edges (joints h.entries) x y
+      (held-edge h w x y k.shape k.there (subst (Among y) (edges_of-made g x k.shape k.made) i)) (reached-in x d)
+  reached-in _ (value e i a b) =
+      let f = found-among h.entries e.the_map e.key e.value (s.values e.the_map e.key a b ∙ found-only g.entries e (m.one_entry e.the_map e.key) i) in
+      subst (ReachedIn (view h)) f.4
+      (derive-jointly (view h).registers (view h).edges (joints h.entries) (f.0.the_map ∷ f.0.key ∷ []) f.0.value (Among-map joint f.0 h.entries f.1)
+      (λ y j. ⊎_elim
+      (λ p. subst (ReachedIn (view h)) (sym f.2 ∙ p) (reached-in e.the_map a))
+      (λ t. ⊎_elim (λ p. subst (ReachedIn (view h)) (sym f.3 ∙ p) (reached-in e.key b)) (λ n. absurd n) t) j))
+
+  -- And what is reached there is reached in the graph.
+  pub in-reached : (x : Name) → ReachedIn (view h) x → Reached g x
+  in-reached = derived-within (view h).registers (view h).edges (joints h.entries) (Reached g) root along jointly
+    where
+      root : (x : Name) → Among x (view h).registers → Reached g x
+      root x i = ⊎_elim
+          (λ l. let k = contents-place g.native_registers x (subst (λ (b : Slots). Among x (contents b)) s.native_registers l) in held (N k.0) x k.1)
+          (λ r. let k = contents-place g.script_registers x (subst (λ (b : Slots). Among x (contents b)) s.script_registers r) in held (S k.0) x k.1)
+          (Among-append x (contents h.native_registers) (contents h.script_registers) i)
+
+      along : (x y : Name) → Among (x, y) (view h).edges → Reached g x → Reached g y
+      along x y i d =
+          let f = edge-held h w x y i in
+          let k = s.reached x d in
+          let both : Some k.shape ≡ Some f.0 = sym k.there ∙ f.1 in
+          let same : k.shape ≡ f.0 = cc in
+          edge x y d (subst (Among y) (sym (edges_of-made g x k.shape k.made)) (subst (λ t. Among y (edges_of_shape x t)) (sym same) f.2))
+
+      jointly : (ps : List Name) (y : Name) → Among (ps, y) (joints h.entries) → ((x : Name) → Among x ps → Reached g x) → Reached g y
+      jointly ps y i f =
+          let k = Among-map_cases joint h.entries (ps, y) i in
+          let e : Entry = k.0 in
+          let premises : (e.the_map ∷ e.key ∷ []) ≡ ps = ap (λ (p : List Name × Name). p.0) k.2 in
+          let target : e.value ≡ y = ap (λ (p : List Name × Name). p.1) k.2 in
+          subst (Reached g) target (value e (ArePart-among h.entries g.entries e s.entries k.1)
+          (f e.the_map (subst (Among e.the_map) premises (inl refl)))
+          (f e.key (subst (Among e.key) premises (inr (inl refl)))))

@@ -1,0 +1,82 @@
+-- WHAT A ROUND LEAVES: natives as they were, but for counts, script objects but for colours, and some of the entries.
+use Rattle.std.proofs.Common.{◌≡◌, Bool, true, false, cond, List, [], ◌∷◌, map, Option, Some, refl, sym, ◌∙◌, ap, subst, inl, inr, ⊎_elim}
+use Rattle.std.specs.List.{filter}
+use Rattle.std.proofs.lemmas.Bool.{true≢false}
+use Rattle.cc_lists.specs.Members.{Among}
+use Rattle.cc_lists.proofs.Members.{Among-map, Among-map_cases, Among-filtered}
+use Rattle.cc_names.specs.declared.name.Name.{Name}
+use Rattle.cc_model.specs.Entries.{Entry, is_entry_of, value_in}
+use Rattle.cc_model.specs.Heap.{Heap, HeapNative, HeapScript}
+use Rattle.cc_model.specs.Colours.{marked}
+use Rattle.cc_model.specs.Sweep.{unmarked, sweep}
+use Rattle.cc_model.specs.StandsFor.{ArePart}
+use Rattle.cc_laws_heap.specs.Sound.{IsSound}
+use Rattle.cc_laws_heap.specs.Freeing.{uncounted}
+use Rattle.cc_laws_heap.proofs.TakenOut.{is_native_left}
+use Rattle.cc_laws_heap.proofs.Marking.{as_marked, HasColours-marked}
+use Rattle.cc_laws_heap.proofs.MarkingKeeps.{IsSound-marked}
+use Rattle.cc_laws_heap.proofs.MarkedWellFormed.{is_spared, is_spared_entry}
+use Rattle.cc_laws_heap.proofs.Swept.{scripts-sweep, taken-sweep, entries-sweep}
+
+-- Entries that are left
+
+-- an entry that is not dropped is found as before
+pub value_in-filter : (q : Entry → Bool) (es : List Entry) (m k : Name) → ((e : Entry) → Among e es → is_entry_of m k e ≡ true → q e ≡ true) →
+    value_in (filter q es) m k ≡ value_in es m k
+value_in-filter q [] m k h = refl
+value_in-filter q (e ∷ es) m k h = go (value_in-filter q es m k (λ d i. h d (inr i))) (q e) refl (is_entry_of m k e) refl
+  where
+    by_test : Option Name → Bool → Option Name
+    by_test v t = elim t [ true ↦ Some e.value | false ↦ v ]
+
+    go : value_in (filter q es) m k ≡ value_in es m k → (b : Bool) → q e ≡ b → (t : Bool) → is_entry_of m k e ≡ t →
+        value_in (cond b (e ∷ filter q es) (filter q es)) m k ≡ by_test (value_in es m k) (is_entry_of m k e)
+    go ih true s t f = ap (λ v. by_test v (is_entry_of m k e)) ih
+    go ih false s true f = absurd (true≢false (sym (h e (inl refl) f) ∙ s))
+    go ih false s false f = ih ∙ ap (by_test (value_in es m k)) (sym f)
+
+-- nothing is a part of any list
+ArePart-nothing : {X : Type 0} (ys : List X) → ArePart [] ys
+ArePart-nothing [] = tt
+ArePart-nothing (y ∷ ys) = tt
+
+-- a part of a list is a part of one with one more in front
+ArePart-skip : {X : Type 0} (xs ys : List X) (y : X) → ArePart xs ys → ArePart xs (y ∷ ys)
+ArePart-skip [] ys y p = tt
+ArePart-skip (x ∷ xs) ys y p = inr p
+
+-- a part of a part is a part
+pub ArePart-filter : {X : Type 0} (q : X → Bool) (xs ys : List X) → ArePart xs ys → ArePart (filter q xs) ys
+ArePart-filter q [] ys p = ArePart-nothing ys
+ArePart-filter q (x ∷ xs) [] p = absurd p
+ArePart-filter {X} q (x ∷ xs) (y ∷ ys) p = ⊎_elim
+    (λ s. go (q x) s.0 (ArePart-filter q xs ys s.1))
+    (λ t. ArePart-skip (filter q (x ∷ xs)) ys y (ArePart-filter q (x ∷ xs) ys t)) p
+  where
+    go : (b : Bool) → x ≡ y → ArePart (filter q xs) ys → ArePart (cond b (x ∷ filter q xs) (filter q xs)) (y ∷ ys)
+    go true e r = inl (e, r)
+    go false e r = ArePart-skip (filter q xs) ys y r
+
+-- Objects that are left
+
+-- a native that is left was there, as it is but for its count
+pub round-natives : (h : Heap) → IsSound [] h → (n : HeapNative) → Among n (sweep (marked h)).heap.natives →
+    (m : HeapNative) × Among m h.natives × (uncounted m ≡ uncounted n)
+unfolding marked
+round-natives h s n m =
+    let t = taken-sweep (marked h) (HasColours-marked h) (IsSound-marked [] h s) in
+    let i : Among (uncounted n) (filter (is_native_left t.0) (map uncounted h.natives)) =
+    subst (Among (uncounted n)) t.1.natives (Among-map uncounted n (sweep (marked h)).heap.natives m) in
+    Among-map_cases uncounted h.natives (uncounted n) (Among-filtered (is_native_left t.0) (uncounted n) (map uncounted h.natives) i)
+
+-- a script object that is left was there, as it is but for its colour
+pub round-scripts : (h : Heap) (o : HeapScript) → Among o (sweep (marked h)).heap.scripts → (p : HeapScript) × Among p h.scripts × (as_marked h p ≡ o)
+unfolding marked
+round-scripts h o m =
+    let i : Among o (filter (is_spared (unmarked (marked h))) (marked h).scripts) = subst (Among o) (scripts-sweep (marked h)) m in
+    Among-map_cases (as_marked h) h.scripts o (Among-filtered (is_spared (unmarked (marked h))) o (marked h).scripts i)
+
+-- the entries that are left are those whose map and key are not unmarked
+pub round-entries : (h : Heap) → IsSound [] h → (sweep (marked h)).heap.entries ≡ filter (is_spared_entry (unmarked (marked h))) h.entries
+unfolding marked
+round-entries h s = entries-sweep (marked h) (HasColours-marked h) (IsSound-marked [] h s)

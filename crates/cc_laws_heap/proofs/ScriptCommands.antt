@@ -1,0 +1,162 @@
+-- SCRIPT OBJECTS MADE, NATIVES WRAPPED, ENTRIES SET.
+use Rattle.std.proofs.Common.{◌≡◌, ℕ, ◌+◌, ◌<◌, ◌≤◌, Bool, true, false, List, Option, Some, None, is_none, refl, sym, ◌∙◌, ap, subst, inl, ⊎_elim, arith}
+use Rattle.std.specs.Option.{option_and_then}
+use Rattle.std.proofs.lemmas.Bool.{false≢true}
+use Rattle.cc_lists.specs.Members.{Among}
+use Rattle.cc_lists.proofs.Members.{Among-map_cases}
+use Rattle.cc_lists.proofs.Filtering.{find-among, find-passes}
+use Rattle.cc_names.specs.declared.name.Name.{Name}
+use Rattle.cc_names.specs.declared.name.Name.TheVariants as name
+use Rattle.cc_names.specs.declared.register.Reg.TheVariants.{S}
+use Rattle.cc_names.specs.declared.kind.Kind.{Kind}
+use Rattle.cc_names.specs.declared.kind.Kind.TheVariants.{Plain, Reflector, Map}
+use Rattle.cc_names.specs.declared.kind.Colour.TheVariants.{Black}
+use Rattle.cc_names.specs.Names.{native, object, reflector, same_name, number_of}
+use Rattle.cc_names.proofs.NameTests.{same_name-true, same_name-refl}
+use Rattle.cc_model.specs.Slots.{empty_slots, reflector_slots}
+use Rattle.cc_model.specs.Entries.{entry, with_entry}
+use Rattle.cc_model.specs.Checks.{is_map_in, reflector_of}
+use Rattle.cc_model.specs.Heap.{Heap, HeapScript, script_at, slots_in, slots_of_script, slots_of_kind, set_register, objects_of, has_reflector, preserve}
+use Rattle.cc_model.specs.Cascade.{add_ref}
+use Rattle.cc_model.specs.Exposure.{exposed}
+use Rattle.cc_model.specs.Effects.{make_object, with_object, with_reflector, wrapped, set_entry}
+use Rattle.cc_model.specs.WellFormed.{IsWellFormed, FitsName, HasMembers, native_names, script_names}
+use Rattle.cc_laws_heap.specs.Sound.{IsSound}
+use Rattle.cc_laws_heap.proofs.Lists.{find-some}
+use Rattle.cc_laws_heap.proofs.Kept.{with_entries}
+use Rattle.cc_laws_heap.proofs.Making.{contents-empty_none, IsNewScript, script_names-new_script}
+use Rattle.cc_laws_heap.proofs.HoldsTheSame.{HoldsTheSame-add_ref, native_names-alike}
+use Rattle.cc_laws_heap.proofs.Owning.{IsIn, add_ref-sound}
+use Rattle.cc_laws_heap.proofs.Writes.{script_register-sound, set_preserved-sound}
+use Rattle.cc_laws_heap.proofs.MadeSound.{with_script-sound}
+use Rattle.cc_laws_heap.proofs.EntriesKept.{with_entry-sound, without_entry-sound}
+use Rattle.cc_laws_heap.proofs.ScriptsKept.{native-no_script, script_names-exposed, exposed-sound}
+use Rattle.cc_laws_heap.proofs.Holding.{has_reflector-there, has_reflector-none}
+
+-- a black script object with empty slots
+abbrev pub blank : Name → Kind → ℕ → HeapScript
+blank x kind n = record { name = x; kind = kind; slots = empty_slots n; colour = Black }
+
+-- one name stands in a list where it is there
+IsIn-one : (names : List Name) (x : Name) → Among x names → IsIn names (Some x)
+IsIn-one names x m = λ y i. ⊎_elim (λ e. subst (λ z. Among z names) e m) (λ n. absurd n) i
+
+-- Plain objects and weak maps
+
+module _ (h : Heap) (kind : Kind) (n : ℕ) (w : IsWellFormed h) (fits : FitsName (object (h.scripts_made + 1)) kind (empty_slots n)) where
+  -- an object with the next number may go last
+  pub IsNewScript-object : h.scripts_made < h.limits.scripts → IsNewScript h (blank (object (h.scripts_made + 1)) kind n) (h.scripts_made + 1)
+  IsNewScript-object room = record {
+    unknown = λ m. let made : h.scripts_made + 1 ≤ h.scripts_made = (w.object_numbers (h.scripts_made + 1) m).1 in absurd (omega arith);
+    fits = fits;
+    empty = contents-empty_none n;
+    number = λ k e. let same : h.scripts_made + 1 ≡ k = ap number_of e in (omega arith, omega arith);
+    behind = λ k e. absurd (cc);
+    more = omega arith;
+    allowed = omega arith;
+  }
+
+-- A plain object or a weak map is made, and a script register holds it.
+pub make_object-sound : (owned : List ℕ) (h : Heap) (d : ℕ) (kind : Kind) (n : ℕ) → FitsName (object (h.scripts_made + 1)) kind (empty_slots n) →
+    h.scripts_made < h.limits.scripts → IsSound owned h → IsSound owned (make_object h d kind n)
+make_object-sound owned h d kind n fits room s = script_register-sound owned (with_object h kind n) d (Some (object (h.scripts_made + 1)))
+    (IsIn-one (script_names (with_object h kind n)) (object (h.scripts_made + 1))
+    (script_names-new_script h (blank (object (h.scripts_made + 1)) kind n) (h.scripts_made + 1)))
+    (with_script-sound owned h (blank (object (h.scripts_made + 1)) kind n) (h.scripts_made + 1) (IsNewScript-object h kind n s.well_formed fits room) s)
+
+-- Reflectors
+
+-- a native that is there, and has none, may get a reflector
+pub IsNewScript-reflector : (h : Heap) (k : ℕ) → IsWellFormed h → Among (native k) (native_names h) → has_reflector h k ≡ false →
+    IsNewScript (add_ref h k) (blank (reflector k) Reflector reflector_slots) h.scripts_made
+IsNewScript-reflector h k w there none = record {
+  unknown = has_reflector-none h k none;
+  fits = refl;
+  empty = contents-empty_none reflector_slots;
+  number = λ j e. absurd (cc);
+  behind = λ j e. subst (λ i. Among (native i) (native_names (add_ref h k))) (ap number_of e)
+      (subst (λ xs. Among (native k) xs) (sym (native_names-alike h (add_ref h k) (HoldsTheSame-add_ref h k))) there);
+  more = omega arith;
+  allowed = w.scripts_allowed;
+}
+
+-- A native gets a reflector, which refers to it.
+pub with_reflector-sound : (owned : List ℕ) (h : Heap) (k : ℕ) → Among (native k) (native_names h) → has_reflector h k ≡ false → IsSound owned h →
+    IsSound owned (with_reflector h k)
+with_reflector-sound owned h k there none s = with_script-sound owned (add_ref h k) (blank (reflector k) Reflector reflector_slots) h.scripts_made
+    (IsNewScript-reflector h k s.well_formed there none) (add_ref-sound owned h k there s)
+
+-- A native is wrapped, and a script register holds its reflector.
+pub wrapped-sound : (owned : List ℕ) (h : Heap) (d : ℕ) (x : Option Name) → IsIn (native_names h) x → IsSound owned h →
+    IsSound owned (set_register (wrapped h x) (S d) (reflector_of x))
+wrapped-sound owned h d None there s = script_register-sound owned h d None (λ y m. absurd m) s
+wrapped-sound owned h d (Some (name.Script k)) there s = script_register-sound owned h d None (λ y m. absurd m) s
+wrapped-sound owned h d (Some (name.Reflector k)) there s = script_register-sound owned h d None (λ y m. absurd m) s
+wrapped-sound owned h d (Some (name.Native k)) there s = go (has_reflector h k.0) refl
+  where
+    go : (b : Bool) → has_reflector h k.0 ≡ b →
+        IsSound owned (set_register (elim b [ true ↦ exposed h (Some (reflector k.0)) | false ↦ with_reflector h k.0 ]) (S d) (Some (reflector k.0)))
+    go true e = script_register-sound owned (exposed h (Some (reflector k.0))) d (Some (reflector k.0))
+        (subst (λ xs. IsIn xs (Some (reflector k.0))) (sym (script_names-exposed h (Some (reflector k.0)) s.well_formed))
+        (IsIn-one (script_names h) (reflector k.0) (has_reflector-there h k.0 e)))
+        (exposed-sound owned h (Some (reflector k.0)) s)
+    go false e = script_register-sound owned (with_reflector h k.0) d (Some (reflector k.0))
+        (IsIn-one (script_names (with_reflector h k.0)) (reflector k.0)
+        (script_names-new_script h (blank (reflector k.0) Reflector reflector_slots) h.scripts_made))
+        (with_reflector-sound owned h k.0 (there (native k.0) (inl refl)) e s)
+
+-- Entries
+
+-- what is found and has no slots is a weak map
+found-map : (h : Heap) (x : Name) → Among x (script_names h) → is_none (option_and_then slots_of_script (script_at h x)) ≡ true →
+    (o : HeapScript) × Among o h.scripts × (o.name ≡ x) × (o.kind ≡ Map)
+found-map h x m e = go (script_at h x) refl e
+  where
+    f : (o : HeapScript) × Among o h.scripts × (o.name ≡ x)
+    f = Among-map_cases (λ (o : HeapScript). o.name) h.scripts x m
+
+    some : (o : HeapScript) × (script_at h x ≡ Some o)
+    some = find-some (λ (p : HeapScript). same_name p.name x) h.scripts f.0 f.1 (ap (λ y. same_name y x) f.2 ∙ same_name-refl x)
+
+    kind : (q : Kind) (o : HeapScript) → is_none (slots_of_kind q o.slots) ≡ true → q ≡ Map
+    kind Plain o t = absurd (false≢true t)
+    kind Reflector o t = absurd (false≢true t)
+    kind Map o t = refl
+
+    go : (o : Option HeapScript) → script_at h x ≡ o → is_none (option_and_then slots_of_script o) ≡ true →
+        (o : HeapScript) × Among o h.scripts × (o.name ≡ x) × (o.kind ≡ Map)
+    go None r t = let both : None ≡ Some some.0 = sym r ∙ some.1 in absurd (cc)
+    go (Some o) r t = (
+      o,
+      find-among (λ p. same_name p.name x) h.scripts o r,
+      same_name-true o.name x (find-passes (λ p. same_name p.name x) h.scripts o r),
+      kind o.kind o t,
+    )
+
+-- what is there and has no slots is a weak map
+map-there : (h : Heap) (x : Name) → IsWellFormed h → Among x (script_names h) → is_none (slots_in h x) ≡ true →
+    (o : HeapScript) × Among o h.scripts × (o.name ≡ x) × (o.kind ≡ Map)
+map-there h (name.Native k) w m e = absurd (native-no_script h k.0 w m)
+map-there h (name.Script k) w m e = found-map h (name.Script k) m e
+map-there h (name.Reflector k) w m e = found-map h (name.Reflector k) m e
+
+-- An entry of a weak map is set, its key preserved, or taken out.
+pub set_entry-sound : (owned : List ℕ) (h : Heap) (m k v : Option Name) → IsIn (script_names h) m → IsIn (script_names h) k →
+    IsIn (script_names h) v →
+    is_map_in (objects_of h) m ≡ true → IsSound owned h → IsSound owned (set_entry h m k v)
+set_entry-sound owned h None k v a b c is_map s = s
+set_entry-sound owned h (Some m) None v a b c is_map s = s
+set_entry-sound owned h (Some m) (Some k) None a b c is_map s = without_entry-sound owned h m k s
+set_entry-sound owned h (Some m) (Some k) (Some v) a b c is_map s = go k (b k (inl refl)) set_first
+  where
+    members : HasMembers h (entry m k v)
+    members = record { the_map = map-there h m s.well_formed (a m (inl refl)) is_map; key = b k (inl refl); value = c v (inl refl) }
+
+    set_first : IsSound owned (with_entries h (with_entry h.entries m k v))
+    set_first = with_entry-sound owned h m k v members s
+
+    go : (x : Name) → Among x (script_names h) → IsSound owned (with_entries h (with_entry h.entries m k v)) →
+        IsSound owned (record (preserve h (Some x)) { entries = with_entry h.entries m k v })
+    go (name.Native j) t u = u
+    go (name.Script j) t u = u
+    go (name.Reflector j) t u = set_preserved-sound owned (with_entries h (with_entry h.entries m k v)) j.0 t u

@@ -1,0 +1,37 @@
+-- Names of script objects are none of natives'.
+use Rattle.std.proofs.Common.{◌≡◌, ℕ, true, false, refl, subst}
+use Rattle.cc_lists.specs.Members.{Among}
+use Rattle.cc_lists.proofs.Members.{Among-map_cases}
+use Rattle.cc_names.specs.declared.name.Name.{Name}
+use Rattle.cc_names.specs.declared.name.Name.TheVariants as name
+use Rattle.cc_names.specs.Names.{native, same_name, is_script}
+use Rattle.cc_model.specs.Entries.{Entry}
+use Rattle.cc_model.specs.Heap.{Heap, HeapScript}
+use Rattle.cc_model.specs.WellFormed.{IsWellFormed, FitsName, script_names}
+
+-- a script object's name is that of no native
+pub script-named : (h : Heap) → IsWellFormed h → (o : HeapScript) → Among o h.scripts → is_script o.name ≡ true
+script-named h w o m = go o.name (w.kinds o m)
+  where
+    go : (x : Name) → FitsName x o.kind o.slots → is_script x ≡ true
+    go (name.Native k) f = absurd f
+    go (name.Script k) f = refl
+    go (name.Reflector k) f = refl
+
+-- the same of the names of script objects
+pub script_names-named : (h : Heap) → IsWellFormed h → (x : Name) → Among x (script_names h) → is_script x ≡ true
+script_names-named h w x m =
+    let f = Among-map_cases (λ (o : HeapScript). o.name) h.scripts x m in
+    subst (λ y. is_script y ≡ true) f.2 (script-named h w f.0 f.1)
+
+-- the map and the key of an entry are none of natives
+pub entry-named : (h : Heap) → IsWellFormed h → (e : Entry) → Among e h.entries → (is_script e.the_map ≡ true) × (is_script e.key ≡ true)
+entry-named h w e m =
+    let k = w.entries e m in
+    (subst (λ x. is_script x ≡ true) k.the_map.2 (script-named h w k.the_map.0 k.the_map.1), script_names-named h w e.key k.key)
+
+-- and they are told apart from those of natives
+pub script-other : (x : Name) (k : ℕ) → is_script x ≡ true → same_name x (native k) ≡ false
+script-other (name.Native i) k e = absurd (cc)
+script-other (name.Script i) k e = refl
+script-other (name.Reflector i) k e = refl

@@ -1,0 +1,165 @@
+-- WELL FORMED HEAPS THAT FOLLOW A GRAPH STAND FOR IT: what is reached is there, since what well formed heaps mention is there.
+use Rattle.std.proofs.Common.{◌≡◌, Bool, true, false, [], ◌∷◌, Option, Some, None, option_map, refl, sym, ◌∙◌, ap, subst, inl, inr, ⊎_elim}
+use Rattle.std.specs.Option.{option_and_then}
+use Rattle.cc_lists.specs.Members.{Among}
+use Rattle.cc_lists.proofs.Members.{Among-left, Among-right, Among-append, Among-map}
+use Rattle.cc_names.specs.declared.name.Name.{Name}
+use Rattle.cc_names.specs.declared.name.Name.TheVariants as name
+use Rattle.cc_names.specs.declared.register.Reg.TheVariants.{N, S}
+use Rattle.cc_names.specs.declared.kind.Kind.{Kind}
+use Rattle.cc_names.specs.declared.kind.Kind.TheVariants.{Plain, Reflector, Map}
+use Rattle.cc_names.specs.Names.{native, reflector}
+use Rattle.cc_model.specs.Slots.{Slots, contents, empty_slots, reflector_slots}
+use Rattle.cc_model.specs.Checks.{slots_or_none}
+use Rattle.cc_model.specs.Graph.{Graph}
+use Rattle.cc_model.specs.Reached.{Reached, held, edge, value}
+use Rattle.cc_model.specs.WellMade.{IsWellMade}
+use Rattle.cc_model.specs.Heap.{Heap, HeapNative, HeapScript, slots_of_kind}
+use Rattle.cc_model.specs.WellFormed.{IsWellFormed, FitsName, native_names, script_names, names_there}
+use Rattle.cc_model.specs.StandsFor.{Shape, shape_in, shape_at, shape_of_native, shape_of_held_native, shape_of_held_script, script_shape, shape_of_reflector, NativeStands, ScriptStands, IsKept, StandsFor}
+use Rattle.cc_laws_heap.proofs.Holds.{contents-get}
+use Rattle.cc_laws_heap.proofs.EntryLists.{found-among, found-only}
+use Rattle.cc_laws_heap.proofs.Shapes.{edges_of_shape, edges_of_some, edges_of-shape, further_of, kind_of_shape, kind_in-shape}
+use Rattle.cc_laws_heap.proofs.HeapShapes.{shape_at-found, there-shape_at}
+use Rattle.cc_laws_heap.proofs.ReachedAlike.{edges_of-made}
+use Rattle.cc_laws_heap.proofs.Following.{NativeFollows, Follows, shape_in-native}
+
+-- what an object of the heaps refers to is there
+pub edges-there : (h : Heap) → IsWellFormed h → (x y : Name) (s : Shape) → shape_at h x ≡ Some s → Among y (edges_of_shape x s) → Among y (names_there h)
+edges-there h w x y s e m = ⊎_elim
+    (λ f. of_native f.0 f.1 (moved (native f.0.number) (shape_of_held_native f.0) f.2 f.3))
+    (λ f. of_script f.0 f.1 f.0.name refl (w.kinds f.0 f.1) (moved f.0.name (shape_of_held_script f.0) f.2 f.3))
+    (shape_at-found h x s e)
+  where
+    moved : (z : Name) (t : Shape) → z ≡ x → t ≡ s → Among y (edges_of_shape z t)
+    moved z t p q = subst (λ v. Among y (edges_of_shape v t)) (sym p) (subst (λ v. Among y (edges_of_shape x v)) (sym q) m)
+
+    script : Among y (script_names h) → Among y (names_there h)
+    script i = Among-right y (native_names h) (script_names h) i
+
+    of_native : (n : HeapNative) → Among n h.natives → Among y (edges_of_shape (native n.number) (shape_of_held_native n)) → Among y (names_there h)
+    of_native n i j = ⊎_elim (w.native_contents n y i) (λ f. kept n.preserved refl f) (Among-append y (contents n.slots) (further_of (native n.number) (shape_of_held_native n)) j)
+      where
+        kept : (b : Bool) → n.preserved ≡ b → Among y (elim b [ true ↦ reflector n.number ∷ [] | false ↦ [] ]) → Among y (names_there h)
+        kept true p f = ⊎_elim (λ e. subst (λ z. Among z (names_there h)) e (Among-right (reflector n.number) (native_names h) (script_names h) (w.preserved n i p))) (λ b. absurd b) f
+        kept false p f = absurd f
+
+    of_script : (o : HeapScript) → Among o h.scripts → (z : Name) → o.name ≡ z → FitsName z o.kind o.slots → Among y (edges_of_shape z (shape_of_held_script o)) → Among y (names_there h)
+    of_script o i z e fits j = ⊎_elim (λ f. script (slots o.kind f)) (λ f. behind z e f) (Among-append y (contents (slots_or_none (slots_of_kind o.kind o.slots))) (further_of z (shape_of_held_script o)) j)
+      where
+        slots : (kind : Kind) → Among y (contents (slots_or_none (slots_of_kind kind o.slots))) → Among y (script_names h)
+        slots Plain f = w.script_contents o y i f
+        slots Reflector f = w.script_contents o y i f
+        slots Map f = absurd f
+
+        behind : (z : Name) → o.name ≡ z → Among y (further_of z (shape_of_held_script o)) → Among y (names_there h)
+        behind (name.Native k) p f = absurd f
+        behind (name.Script k) p f = absurd f
+        behind (name.Reflector k) p f = ⊎_elim
+            (λ e. subst (λ z. Among z (names_there h)) e
+            (Among-left (native k.0) (native_names h) (script_names h)
+            (w.reflected k.0 (subst (λ z. Among z (script_names h)) p (Among-map (λ (p : HeapScript). p.name) o h.scripts i)))))
+            (λ b. absurd b) f
+
+-- the kind of a script object of well formed heaps is that of its name and its slots
+kind-fits : (x : Name) (kind : Kind) (slots : Slots) → FitsName x kind slots → kind_of_shape x (script_shape (slots_of_kind kind slots)) ≡ Some kind
+kind-fits (name.Native k) kind slots f = absurd f
+kind-fits (name.Script k) Plain slots f = refl
+kind-fits (name.Script k) Map slots f = refl
+kind-fits (name.Script k) Reflector slots f = absurd f
+kind-fits (name.Reflector k) Reflector slots f = refl
+kind-fits (name.Reflector k) Plain slots f = absurd f
+kind-fits (name.Reflector k) Map slots f = absurd f
+
+module _ (P : Name → Type 0) (h : Heap) (g : Graph) (w : IsWellFormed h) (m : IsWellMade g) (f : Follows P h g) where
+  -- `P` holds of what is reached
+  pub reached-within : (x : Name) → Reached g x → P x
+  reached-within _ (held (N r) x e) = f.closed.native_registers x (contents-get g.native_registers r x e)
+  reached-within _ (held (S r) x e) = f.closed.script_registers x (contents-get g.script_registers r x e)
+  reached-within _ (edge x y d i) = go (reached-within x d) (shape_in g x) refl (subst (Among y) (edges_of-shape g x) i)
+    where
+      go : P x → (o : Option Shape) → shape_in g x ≡ o → Among y (edges_of_some x o) → P y
+      go p None e j = absurd j
+      go p (Some s) e j = f.closed.edges x y s p e j
+  reached-within _ (value e i a b) = f.closed.entries e i (reached-within e.the_map a) (reached-within e.key b)
+
+  -- what is there is as it is in the graph, where `P` holds of it
+  kept-there : (x : Name) → P x → Among x (names_there h) → IsKept h g x
+  kept-there x p i =
+      let t = there-shape_at h w x i in
+      record {
+        shape = t.0;
+        made = ⊎_elim
+            (λ n. ap (shape_in g) (sym n.2) ∙ (f.objects.alike n.0 n.1 (subst P (sym n.2) p) ∙ ap (λ s. Some s) n.3))
+            (λ o. ap (shape_in g) (sym o.2) ∙ (f.objects.scripts o.0 o.1 ∙ ap (λ s. Some s) o.3))
+            (shape_at-found h x t.0 t.1);
+        there = t.1;
+      }
+
+  -- what is reached is there
+  reached-kept : (x : Name) → Reached g x → IsKept h g x
+  reached-kept _ (held (N r) x e) = kept-there x (reached-within x (held (N r) x e))
+      (Among-left x (native_names h) (script_names h)
+      (w.native_registers x (subst (λ (b : Slots). Among x (contents b)) (sym f.beside.native_registers) (contents-get g.native_registers r x e))))
+  reached-kept _ (held (S r) x e) = kept-there x (reached-within x (held (S r) x e))
+      (Among-right x (native_names h) (script_names h)
+      (w.script_registers x (subst (λ (b : Slots). Among x (contents b)) (sym f.beside.script_registers) (contents-get g.script_registers r x e))))
+  reached-kept _ (edge x y d i) =
+      let k = reached-kept x d in
+      kept-there y (reached-within y (edge x y d i)) (edges-there h w x y k.shape k.there (subst (Among y) (edges_of-made g x k.shape k.made) i))
+  reached-kept _ (value e i a b) =
+      let p = reached-within e.the_map a in
+      let q = reached-within e.key b in
+      let c = found-among h.entries e.the_map e.key e.value (f.entries.values e.the_map e.key p q ∙ found-only g.entries e (m.one_entry e.the_map e.key) i) in
+      kept-there e.value (reached-within e.value (value e i a b))
+      (Among-right e.value (native_names h) (script_names h) (subst (λ y. Among y (script_names h)) c.4 (w.entries c.0 c.1).value))
+
+  native-stands : (n : HeapNative) → NativeFollows g n → NativeStands g n
+  native-stands n t =
+      let made = shape_in-native g n.number t.0 t.1 in
+      record {
+        made = (made.0, made.1);
+        shape = ⊎_elim (λ e. inl (ap (λ s. Some s) e ∙ sym t.1)) (λ e. inr e) t.2;
+      }
+
+  script-stands : (o : HeapScript) → Among o h.scripts → ScriptStands g o
+  script-stands o i = record {
+    kind = kind_in-shape g o.name ∙ (ap (option_and_then (kind_of_shape o.name)) (f.objects.scripts o i) ∙ kind-fits o.name o.kind o.slots (w.kinds o i));
+    shape = sym (f.objects.scripts o i);
+  }
+
+  blank-there : (n : HeapNative) (o : HeapScript) → Among n h.natives → n.preserved ≡ false → Reached g (native n.number) →
+      Among o h.scripts → o.name ≡ reflector n.number → o.slots ≡ empty_slots reflector_slots
+  blank-there n o i e d j named =
+      slots o.kind (f.blank n.number (shape_of_held_native n) (shape_of_held_script o)
+      (f.objects.alike n i (reached-within (native n.number) d)) e (ap (shape_in g) (sym named) ∙ f.objects.scripts o j)).0
+    where
+      slots : (kind : Kind) → slots_of_kind kind o.slots ≡ Some (empty_slots reflector_slots) → o.slots ≡ empty_slots reflector_slots
+      slots Plain s = cc
+      slots Reflector s = cc
+      slots Map s = absurd (cc)
+
+  -- THEY STAND FOR IT.
+  pub follows-stands : StandsFor h g
+  follows-stands = record {
+    native_registers = f.beside.native_registers;
+    script_registers = f.beside.script_registers;
+    limits = f.beside.limits;
+    natives_made = f.beside.natives_made;
+    scripts_made = f.beside.scripts_made;
+    natives = λ n i. native-stands n (f.objects.natives n i);
+    scripts = script-stands;
+    reached = reached-kept;
+    values = λ x k a b. f.entries.values x k (reached-within x a) (reached-within k b);
+    entries = f.entries.part;
+    blank = λ k n slots e p r.
+        let made : shape_in g (native k) ≡ Some (shape_of_native n) = ap (option_map shape_of_native) e in
+        let kept : shape_in g (reflector k) ≡ Some (script_shape (Some slots)) = ap (option_and_then shape_of_reflector) e ∙ ap (option_map (λ l. script_shape (Some l))) r in
+        let b = f.blank k (shape_of_native n) (script_shape (Some slots)) made p kept in
+        let same : slots ≡ empty_slots reflector_slots = some b.0 in
+        (same, b.1);
+    blank_there = blank-there;
+  }
+    where
+      some : {a b : Slots} → Some a ≡ Some b → a ≡ b
+      some e = cc

@@ -1,0 +1,110 @@
+-- SWEEPING KEEPS THE BALANCE: a reflector that is taken out leaves a reference to its native in hand, and a cascade
+-- gives that up; the slots of script objects hold nothing that is counted.
+use Rattle.std.proofs.Common.{◌≡◌, ℕ, ◌≤◌, true, not, List, [], ◌∷◌, length, sym, ◌∙◌, ap, arith, count_by}
+use Rattle.std.proofs.lemmas.Bool.{not-true}
+use Rattle.cc_lists.specs.Members.{Among}
+use Rattle.cc_lists.proofs.Members.{Among-map_cases}
+use Rattle.cc_lists.proofs.Counting.{count_by-some}
+use Rattle.cc_names.specs.declared.name.Name.{Name}
+use Rattle.cc_names.specs.Names.{object, reflector, same_name, number_of}
+use Rattle.cc_names.proofs.NameTests.{same_name-true, same_name-refl}
+use Rattle.cc_model.specs.declared.item.Event.{Event}
+use Rattle.cc_model.specs.Heap.{Heap, HeapScript}
+use Rattle.cc_model.specs.Cascade.{Draining, give_up, at_rest, drained, cascade}
+use Rattle.cc_model.specs.Sweep.{without_script}
+use Rattle.cc_model.specs.WellFormed.{script_names}
+use Rattle.cc_model.specs.Counts.{times}
+use Rattle.cc_laws_heap.specs.Freeing.{Frees}
+use Rattle.cc_laws_heap.proofs.Lists.{count_by-kept, count_by-dropped}
+use Rattle.cc_laws_heap.proofs.Numbers.{at-each}
+use Rattle.cc_laws_heap.proofs.References.{times-cons_same, times-cons_other}
+use Rattle.cc_laws_heap.proofs.GiveUp.{IsBalanced, IsBalanced-give_up}
+use Rattle.cc_laws_heap.proofs.DrainingAlike.{IsAlike-length, IsAlike-give_up}
+use Rattle.cc_laws_heap.proofs.Drain.{drain-balanced, drain-frees}
+use Rattle.cc_laws_heap.proofs.Freed.{Frees-alike, Frees-at_rest}
+use Rattle.cc_laws_heap.proofs.NameLists.{same_name-other}
+
+-- Heaps in balance
+
+-- heaps at rest in which each count is that of the references, and no native waits
+abbrev pub IsSteady : List ℕ → Heap → Type 0
+IsSteady owned h = IsBalanced owned (at_rest h)
+
+-- where no native waits the heaps are steady, whatever was told
+pub IsSteady-from : (owned : List ℕ) (d : Draining) → IsBalanced owned d → d.queue ≡ [] → IsSteady owned d.heap
+IsSteady-from owned d b q = record {
+  distinct = b.distinct;
+  counts = b.counts;
+  queue = λ k. ap (times k) (sym q) ∙ b.queue k;
+  buffer = b.buffer;
+}
+
+-- and steady heaps are in balance, whatever was told
+pub IsSteady-telling : (owned : List ℕ) (h : Heap) (es : List Event) → IsSteady owned h → IsBalanced owned (record { heap = h; queue = []; events = es })
+IsSteady-telling owned h es b = record { distinct = b.distinct; counts = b.counts; queue = b.queue; buffer = b.buffer }
+
+-- A script object taken out
+
+-- how often the reflector of native k is there
+abbrev pub reflectors : ℕ → Heap → ℕ
+reflectors k h = count_by (λ (o : HeapScript). same_name o.name (reflector k)) h.scripts
+
+-- another script object taken out leaves it
+reflectors-other : (h : Heap) (x : Name) (k : ℕ) → ¬ (x ≡ reflector k) → reflectors k (without_script h x) ≡ reflectors k h
+reflectors-other h x k d = count_by-kept (λ (o : HeapScript). same_name o.name (reflector k)) (λ o. not (same_name o.name x)) h.scripts
+    (λ o e. ap not (same_name-other o.name x (λ s. d (sym s ∙ same_name-true o.name (reflector k) e))))
+
+-- itself taken out, it is there no more
+reflectors-same : (h : Heap) (k : ℕ) → reflectors k (without_script h (reflector k)) ≡ 0
+reflectors-same h k = count_by-dropped (λ (o : HeapScript). same_name o.name (reflector k)) (λ o. not (same_name o.name (reflector k))) h.scripts
+    (λ o e. not-true (same_name o.name (reflector k)) e)
+
+-- it is there once, where script objects have distinct names
+reflectors-once : (h : Heap) (k : ℕ) → count_by (λ (o : HeapScript). same_name o.name (reflector k)) h.scripts ≤ 1 → Among (reflector k) (script_names h) →
+    reflectors k h ≡ 1
+reflectors-once h k few m =
+    let f = Among-map_cases (λ (o : HeapScript). o.name) h.scripts (reflector k) m in
+    let named : same_name f.0.name (reflector k) ≡ true = ap (λ x. same_name x (reflector k)) f.2 ∙ same_name-refl (reflector k) in
+    omega (arith, count_by-some (λ (o : HeapScript). same_name o.name (reflector k)) f.0 h.scripts f.1 named)
+
+-- a plain script object or a weak map taken out leaves the heaps steady
+pub IsSteady-without_object : (owned : List ℕ) (h : Heap) (k : ℕ) → IsSteady owned h → IsSteady owned (without_script h (object k))
+IsSteady-without_object owned h k b = record {
+  distinct = b.distinct;
+  counts = λ j. omega (arith, b.counts j, reflectors-other h (object k) j (λ e. absurd (cc)));
+  queue = b.queue;
+  buffer = b.buffer;
+}
+
+-- a reflector taken out leaves a reference to its native in hand
+pub IsSteady-without_reflector : (owned : List ℕ) (h : Heap) (k : ℕ) → IsSteady owned h → reflectors k h ≤ 1 → Among (reflector k) (script_names h) →
+    IsSteady (k ∷ owned) (without_script h (reflector k))
+IsSteady-without_reflector owned h k b few m = record {
+  distinct = b.distinct;
+  counts = at-each (λ j. _) k
+      (omega (arith, b.counts k, reflectors-same h k, reflectors-once h k few m, times-cons_same k owned))
+      (λ j o. omega (arith, b.counts j, reflectors-other h (reflector k) j (λ e. o (sym (ap number_of e))), times-cons_other j k owned (λ e. o (sym e))));
+  queue = b.queue;
+  buffer = b.buffer;
+}
+
+-- A cascade
+
+module _ (owned : List ℕ) (h : Heap) (k : ℕ) (b : IsSteady (k ∷ owned) h) where
+  -- the reference in hand given up leaves a balance
+  given_up-balanced : IsBalanced owned (give_up (at_rest h) k)
+  given_up-balanced = IsBalanced-give_up owned (at_rest h) k b
+
+  -- A cascade of a reference in hand leaves the heaps steady,
+  pub cascade-steady : IsSteady owned (cascade h k).heap
+  unfolding drained
+  cascade-steady =
+      let d = drain-balanced (length h.natives) owned (give_up (at_rest h) k) given_up-balanced
+      (omega (arith, IsAlike-length (at_rest h) (give_up (at_rest h) k) (IsAlike-give_up (at_rest h) k))) in
+      IsSteady-from owned (drained h k) d.0 d.1
+
+  -- and what it tells is what it takes out.
+  pub cascade-frees_steady : (ks : List ℕ) × Frees h ks (cascade h k)
+  unfolding drained
+  cascade-frees_steady = drain-frees (length h.natives) owned (give_up (at_rest h) k) given_up-balanced h []
+      (Frees-alike h [] (at_rest h) (give_up (at_rest h) k) (IsAlike-give_up (at_rest h) k) (Frees-at_rest h))

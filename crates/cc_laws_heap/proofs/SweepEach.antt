@@ -1,0 +1,126 @@
+-- SWEEPING IN TURN: each object is told and taken out with what its native's cascade frees, and the heaps stay steady.
+use Rattle.std.proofs.Common.{◌≡◌, ◌+◌, ◌≤◌, cond, true, false, not, ◌&&◌, ◌||◌, Bool, List, [], ◌∷◌, ◌++◌, map, refl, sym, ◌∙◌, ap, subst, inl, inr, arith, count_by}
+use Rattle.std.specs.List.{filter}
+use Rattle.std.proofs.Math.Path.{fun_ext}
+use Rattle.std.proofs.lemmas.Bool.{false≢true}
+use Rattle.cc_lists.specs.Members.{Among, has}
+use Rattle.cc_lists.proofs.Members.{Among-map, Among-map_cases, Among-filter, Among-filtered}
+use Rattle.cc_lists.proofs.Counting.{count_by-cons}
+use Rattle.cc_lists.proofs.Filtering.{count_by-filter-le}
+use Rattle.cc_names.specs.declared.name.Name.{Name}
+use Rattle.cc_names.specs.declared.name.Name.TheVariants as name
+use Rattle.cc_names.specs.Names.{native, same_name, is_script}
+use Rattle.cc_names.proofs.NameTests.{same_name-refl}
+use Rattle.cc_model.specs.declared.item.Event.TheVariants.{Freed}
+use Rattle.cc_model.specs.Heap.{Heap, HeapScript, Outcome, after}
+use Rattle.cc_model.specs.Cascade.{cascade}
+use Rattle.cc_model.specs.Sweep.{without_script, let_native_go, sweep_one, sweep_each}
+use Rattle.cc_model.specs.WellFormed.{script_names}
+use Rattle.cc_model.proofs.Rounds.{scripts-cascade}
+use Rattle.cc_laws_heap.proofs.Lists.{filter-true, filter-filter}
+use Rattle.cc_laws_heap.proofs.NameLists.{same_name-other, same_name-sym, names-some}
+use Rattle.cc_laws_heap.proofs.TakenOut.{TakesOut, TakesOut-then, TakesOut-script, TakesOut-cascade}
+use Rattle.cc_laws_heap.proofs.SweepBalance.{IsSteady, IsSteady-without_object, IsSteady-without_reflector, cascade-steady, cascade-frees_steady}
+
+-- What script objects are left
+
+-- a reflector that lets its native go leaves the script objects
+scripts-let_native_go : (h : Heap) (x : Name) → (let_native_go h x).heap.scripts ≡ h.scripts
+scripts-let_native_go h (name.Native k) = refl
+scripts-let_native_go h (name.Script k) = refl
+scripts-let_native_go h (name.Reflector k) = scripts-cascade h k.0
+
+-- one object swept is taken out, and no other script object
+pub scripts-sweep_one : (h : Heap) (x : Name) → (sweep_one h x).heap.scripts ≡ (without_script h x).scripts
+scripts-sweep_one h x = scripts-let_native_go (without_script h x) x
+
+-- Script objects swept are taken out, and no others.
+pub scripts-sweep_each : (xs : List Name) (o : Outcome) →
+    (sweep_each xs o).heap.scripts ≡ filter (λ p. not (has same_name xs p.name)) o.heap.scripts
+scripts-sweep_each [] o = sym (filter-true (λ (p : HeapScript). not (has same_name [] p.name)) o.heap.scripts (λ p. refl))
+scripts-sweep_each (x ∷ xs) o =
+    scripts-sweep_each xs (after o.events (sweep_one o.heap x))
+    ∙ (ap (filter (λ p. not (has same_name xs p.name))) (scripts-sweep_one o.heap x)
+    ∙ (filter-filter (λ p. not (has same_name xs p.name)) (λ p. not (same_name p.name x)) o.heap.scripts
+    ∙ ap (λ t. filter t o.heap.scripts) (fun_ext (λ p. neither (same_name p.name x) (has same_name xs p.name) ∙ ap (λ b. not (b || has same_name xs p.name)) (same_name-sym p.name x)))))
+  where
+    neither : (b c : Bool) → (not b && not c) ≡ not (b || c)
+    neither true c = refl
+    neither false c = refl
+
+-- Objects to be swept
+
+-- the heaps are steady, script objects have distinct names, none of them a native's, and those to be swept are distinct
+-- and there
+pub record IsToSweep (dead : List Name) (h : Heap) : Type 0 where
+  pub steady : IsSteady [] h
+  pub named : (o : HeapScript) → Among o h.scripts → is_script o.name ≡ true
+  pub distinct : (x : Name) → count_by (λ (o : HeapScript). same_name o.name x) h.scripts ≤ 1
+  pub there : (x : Name) → Among x dead → Among x (script_names h)
+  pub once : (x : Name) → count_by (same_name x) dead ≤ 1
+
+-- a name of a script object is that of no native
+IsToSweep-named : (dead : List Name) (h : Heap) → IsToSweep dead h → (x : Name) → Among x (script_names h) → is_script x ≡ true
+IsToSweep-named dead h t x m = let f = Among-map_cases (λ (o : HeapScript). o.name) h.scripts x m in subst (λ y. is_script y ≡ true) f.2 (t.named f.0 f.1)
+
+-- One object swept is told and taken out, with what its native's cascade frees, and the heaps stay steady.
+pub TakesOut-sweep_one : (x : Name) (xs : List Name) (h : Heap) → IsToSweep (x ∷ xs) h →
+    (ys : List Name) × TakesOut h ys (sweep_one h x) × IsSteady [] (sweep_one h x).heap
+TakesOut-sweep_one (name.Native k) xs h t = absurd (false≢true (IsToSweep-named (name.Native k ∷ xs) h t (name.Native k) (t.there (name.Native k) (inl refl))))
+TakesOut-sweep_one (name.Script k) xs h t = (
+  name.Script k ∷ [],
+  TakesOut-script h (name.Script k) refl (t.there (name.Script k) (inl refl)),
+  IsSteady-without_object [] h k.0 t.steady,
+)
+TakesOut-sweep_one (name.Reflector k) xs h t =
+    let x : Name = name.Reflector k in
+    let g : Heap = without_script h x in
+    let there : Among x (script_names h) = t.there x (inl refl) in
+    let steady : IsSteady (k.0 ∷ []) g = IsSteady-without_reflector [] h k.0 t.steady (t.distinct x) there in
+    let f = cascade-frees_steady [] g k.0 steady in
+    let named : (p : HeapScript) → Among p g.scripts → is_script p.name ≡ true =
+    λ p m. t.named p (Among-filtered (λ (o : HeapScript). not (same_name o.name x)) p h.scripts m) in
+    let first : Outcome = record { heap = g; events = Freed x ∷ [] } in (
+      (x ∷ []) ++ map native f.0,
+      TakesOut-then h (x ∷ []) (map native f.0) first (cascade g k.0) (TakesOut-script h x refl there) (TakesOut-cascade g f.0 (cascade g k.0) named f.1),
+      cascade-steady [] g k.0 steady,
+    )
+
+-- then the others are to be swept
+pub IsToSweep-rest : (x : Name) (xs : List Name) (h : Heap) → IsToSweep (x ∷ xs) h → IsSteady [] (sweep_one h x).heap → IsToSweep xs (sweep_one h x).heap
+IsToSweep-rest x xs h t steady = record {
+  steady = steady;
+  named = λ o m. t.named o (Among-filtered others o h.scripts (subst (Among o) (scripts-sweep_one h x) m));
+  distinct = λ y. subst (λ os. count_by (λ (o : HeapScript). same_name o.name y) os ≤ 1) (sym (scripts-sweep_one h x))
+      (omega (arith, t.distinct y, count_by-filter-le (λ (o : HeapScript). same_name o.name y) others h.scripts));
+  there = λ y m. subst (λ os. Among y (map (λ (o : HeapScript). o.name) os)) (sym (scripts-sweep_one h x)) (stays y m);
+  once = λ y. omega (arith, t.once y, count_by-cons (same_name y) x xs);
+}
+  where
+    others : HeapScript → Bool
+    others o = not (same_name o.name x)
+
+    -- those that are still to be swept are not the first
+    other : (y : Name) → Among y xs → ¬ (y ≡ x)
+    other y m e =
+        let some = names-some y xs m in
+        let first : count_by (same_name y) (x ∷ xs) ≡ 1 + count_by (same_name y) xs =
+        count_by-cons (same_name y) x xs ∙ ap (λ b. cond b 1 0 + count_by (same_name y) xs) (subst (λ z. same_name y z ≡ true) e (same_name-refl y)) in
+        absurd (omega (arith, t.once y, some))
+
+    stays : (y : Name) → Among y xs → Among y (map (λ (o : HeapScript). o.name) (filter others h.scripts))
+    stays y m =
+        let f = Among-map_cases (λ (o : HeapScript). o.name) h.scripts y (t.there y (inr m)) in
+        subst (λ z. Among z (map (λ (o : HeapScript). o.name) (filter others h.scripts))) f.2
+        (Among-map (λ (o : HeapScript). o.name) f.0 (filter others h.scripts)
+        (Among-filter others f.0 h.scripts f.1 (ap not (same_name-other f.0.name x (λ e. other y m (sym f.2 ∙ e))))))
+
+-- OBJECTS SWEPT IN TURN are told and taken out, with what is freed meanwhile, and the heaps stay steady.
+pub TakesOut-sweep_each : (dead : List Name) (h : Heap) (xs : List Name) (o : Outcome) → TakesOut h xs o → IsToSweep dead o.heap →
+    (ys : List Name) × TakesOut h ys (sweep_each dead o) × IsSteady [] (sweep_each dead o).heap
+TakesOut-sweep_each [] h xs o f t = (xs, f, t.steady)
+TakesOut-sweep_each (x ∷ dead) h xs o f t =
+    let one = TakesOut-sweep_one x dead o.heap t in
+    TakesOut-sweep_each dead h (xs ++ one.0) (after o.events (sweep_one o.heap x))
+    (TakesOut-then h xs one.0 o (sweep_one o.heap x) f one.1)
+    (IsToSweep-rest x dead o.heap t one.2)

@@ -1,0 +1,182 @@
+-- WHAT A WRITE OF A REGISTER, A SLOT, A FLAG OR A COLOUR DOES TO THE COUNTS: the new content is owned before, the old one after.
+use Rattle.std.proofs.Common.{◌≡◌, ℕ, ◌+◌, ◌<◌, ◌≤◌, Bool, true, List, ◌++◌, length, set, get_or, Option, Some, None, option_map, refl, sym, ◌∙◌, ap, subst, ⊎_elim, arith, ◌==◌}
+use Rattle.std.specs.Option.{option_to_list}
+use Rattle.std.proofs.lemmas.Bool.{eqb-true}
+use Rattle.std.proofs.lemmas.Bool.Decides.{eqb_tells}
+use Rattle.std.proofs.lemmas.List.{length-set}
+use Rattle.cc_lists.specs.Members.{Among}
+use Rattle.cc_names.specs.declared.name.Name.{Name}
+use Rattle.cc_names.specs.declared.register.Reg.TheVariants.{N, S}
+use Rattle.cc_names.specs.Names.{native, reflector, same_name}
+use Rattle.cc_model.specs.Slots.{Slots, contents}
+use Rattle.cc_model.specs.Heap.{Heap, HeapNative, HeapScript, native_at, register, set_register, change_native, with_native_slot, set_preserved}
+use Rattle.cc_model.specs.WellFormed.{IsWellFormed, native_names, script_names, names_there}
+use Rattle.cc_model.specs.Counts.{refs_to, slots_of_natives, times}
+use Rattle.cc_laws_heap.specs.Sound.{IsSound}
+use Rattle.cc_laws_heap.proofs.Natives.{KeepsNumber, IsWellFormed-distinct, native_at-change_same, native_at-change_other}
+use Rattle.cc_laws_heap.proofs.Counted.{count_of, count_at, IsSound-counted, IsSound-from_counted}
+use Rattle.cc_laws_heap.proofs.ListWrites.{Among-flat_map_set, Among-flat_map_at, count_by-flat_map_set, changed_where, changed_where-either, count_by-flat_map_changed, each-map, flat_map-kept, count_by-kept_map}
+use Rattle.cc_laws_heap.proofs.Kept.{IsWellFormed-registers, ChangesNatives, IsWellFormed-natives, ChangesScripts, with_scripts, IsWellFormed-scripts}
+use Rattle.cc_laws_heap.proofs.Owning.{numbers_of, IsIn, times-numbers_of}
+
+-- Slots in general
+
+-- what stands at a place of slots is among their contents
+pub contents-at : (slots : Slots) (i : ℕ) → IsIn (contents slots) (get_or slots i None)
+contents-at slots i = λ y m. Among-flat_map_at option_to_list slots i None y (λ n. n) m
+
+-- after a write slots hold what was written, and what they held
+pub contents-written : (names : List Name) (slots : Slots) (i : ℕ) (x : Option Name) → IsIn names x →
+    ((y : Name) → Among y (contents slots) → Among y names) →
+    (y : Name) → Among y (contents (set slots i x)) → Among y names
+contents-written names slots i x new old y m = ⊎_elim (new y) (old y) (Among-flat_map_set option_to_list slots i x y m)
+
+-- Registers
+
+-- A native register is written.
+pub native_register-sound : (owned : List ℕ) (h : Heap) (d : ℕ) (x : Option Name) → d < 256 → IsIn (native_names h) x →
+    IsSound (numbers_of x ++ owned) h → IsSound (numbers_of (register h (N d)) ++ owned) (set_register h (N d) x)
+native_register-sound owned h d x room there s = IsSound-from_counted (numbers_of (register h (N d)) ++ owned) (set_register h (N d) x)
+    (IsWellFormed-registers h (set h.native_registers d x) h.script_registers w (record {
+      natives = contents-written (native_names h) h.native_registers d x there w.native_registers;
+      scripts = w.script_registers;
+      enough = (length-set h.native_registers d x ∙ w.registers.0, w.registers.1);
+    }))
+    (λ k. omega (
+      arith,
+      IsSound-counted (numbers_of x ++ owned) h s k,
+      count_by-flat_map_set (same_name (native k)) option_to_list h.native_registers d x None within,
+      times-numbers_of k x owned,
+      times-numbers_of k (register h (N d)) owned,
+    ))
+    s.none_zero
+  where
+    w : IsWellFormed h
+    w = s.well_formed
+
+    within : d < length h.native_registers
+    within = omega (arith, s.well_formed.registers.0)
+
+-- A script register is written: no count changes.
+pub script_register-sound : (owned : List ℕ) (h : Heap) (d : ℕ) (x : Option Name) → IsIn (script_names h) x →
+    IsSound owned h → IsSound owned (set_register h (S d) x)
+script_register-sound owned h d x there s = record {
+  well_formed = IsWellFormed-registers h h.native_registers (set h.script_registers d x) w (record {
+    natives = w.native_registers;
+    scripts = contents-written (script_names h) h.script_registers d x there w.script_registers;
+    enough = (w.registers.0, length-set h.script_registers d x ∙ w.registers.1);
+  });
+  counts = s.counts;
+  none_zero = s.none_zero;
+  owned_there = s.owned_there;
+}
+  where
+    w : IsWellFormed h
+    w = s.well_formed
+
+-- Natives
+
+-- a change of a native that keeps its count
+abbrev KeepsCount : (HeapNative → HeapNative) → Type 0
+KeepsCount f = (n : HeapNative) → (f n).count ≡ n.count
+
+-- such a change of one native keeps the count of each number
+count_at-changed : (h : Heap) (k : ℕ) (f : HeapNative → HeapNative) → KeepsNumber f → KeepsCount f → (j : ℕ) →
+    count_at (change_native h k f) j ≡ count_at h j
+count_at-changed h k f e c j = ⊎_elim
+    (λ t. subst (λ i. count_at (change_native h k f) i ≡ count_at h i) (sym t.1) (ap count_of (native_at-change_same h k f e) ∙ go (native_at h k)))
+    (λ t. ap count_of (native_at-change_other h k f e j t.1))
+    (eqb_tells j k)
+  where
+    go : (o : Option HeapNative) → count_of (option_map f o) ≡ count_of o
+    go None = refl
+    go (Some n) = c n
+
+-- and leaves no count zero
+none_zero-changed : (h : Heap) (k : ℕ) (f : HeapNative → HeapNative) → KeepsCount f → ((n : HeapNative) → Among n h.natives → 1 ≤ n.count) →
+    (n : HeapNative) → Among n (change_native h k f).natives → 1 ≤ n.count
+none_zero-changed h k f c above = each-map (λ n. 1 ≤ n.count) (changed_where (λ n. n.number == k) f) h.natives
+    (λ n m. changed_where-either (λ o. 1 ≤ o.count) (λ n. n.number == k) f n (λ e. subst (λ i. 1 ≤ i) (sym (c n)) (above n m)) (above n m))
+
+-- Slot i of native k is written.
+pub native_slot-sound : (owned : List ℕ) (h : Heap) (k i : ℕ) (n : HeapNative) (x : Option Name) → native_at h k ≡ Some n → i < length n.slots →
+    IsIn (names_there h) x →
+    IsSound (numbers_of x ++ owned) h → IsSound (numbers_of (get_or n.slots i None) ++ owned) (change_native h k (with_native_slot i x))
+native_slot-sound owned h k i n x found room there s = IsSound-from_counted (numbers_of (get_or n.slots i None) ++ owned) (change_native h k written)
+    (IsWellFormed-natives h (changed_where is_it written) h.buffer w changes (record { there = w.buffered; once = w.buffered_once }))
+    (λ j. omega (
+      arith,
+      IsSound-counted (numbers_of x ++ owned) h s j,
+      count_at-changed h k written (λ m. refl) (λ m. refl) j,
+      count_by-flat_map_changed (same_name (native j)) (λ (m : HeapNative). contents m.slots) is_it written h.natives n (IsWellFormed-distinct h w k) found,
+      count_by-flat_map_set (same_name (native j)) option_to_list n.slots i x None room,
+      times-numbers_of j x owned,
+      times-numbers_of j (get_or n.slots i None) owned,
+    ))
+    (none_zero-changed h k written (λ m. refl) s.none_zero)
+  where
+    w : IsWellFormed h
+    w = s.well_formed
+
+    is_it : HeapNative → Bool
+    is_it m = m.number == k
+
+    written : HeapNative → HeapNative
+    written m = with_native_slot i x m
+
+    changes : ChangesNatives h (changed_where is_it written)
+    changes = record {
+      number = λ m. changed_where-either (λ o. o.number ≡ m.number) is_it written m (λ e. refl) refl;
+      slots = λ m a. changed_where-either (λ o. length o.slots ≤ 64) is_it written m
+          (λ e. subst (λ l. l ≤ 64) (sym (length-set m.slots i x)) (w.native_slots m a)) (w.native_slots m a);
+      contents = λ m a y. changed_where-either (λ o. Among y (contents o.slots) → Among y (names_there h)) is_it written m
+          (λ e. contents-written (names_there h) m.slots i x there (λ z. w.native_contents m z a) y) (w.native_contents m y a);
+      preserved = λ m a. changed_where-either (λ o. o.preserved ≡ true → Among (reflector m.number) (script_names h)) is_it written m
+          (λ e. w.preserved m a) (w.preserved m a);
+    }
+
+-- a reflector that is there is preserved
+pub set_preserved-sound : (owned : List ℕ) (h : Heap) (k : ℕ) → Among (reflector k) (script_names h) → IsSound owned h →
+    IsSound owned (set_preserved h k true)
+set_preserved-sound owned h k there s = IsSound-from_counted owned (set_preserved h k true)
+    (IsWellFormed-natives h (changed_where is_it kept) h.buffer w changes (record { there = w.buffered; once = w.buffered_once }))
+    (λ j. let slots : slots_of_natives (set_preserved h k true) ≡ slots_of_natives h =
+    flat_map-kept (λ (m : HeapNative). contents m.slots) (changed_where is_it kept) h.natives
+    (λ m. changed_where-either (λ o. contents o.slots ≡ contents m.slots) is_it kept m (λ e. refl) refl) in
+    let refs : refs_to (set_preserved h k true) j ≡ refs_to h j = rw slots refl in
+    omega (arith, IsSound-counted owned h s j, count_at-changed h k kept (λ m. refl) (λ m. refl) j))
+    (none_zero-changed h k kept (λ m. refl) s.none_zero)
+  where
+    w : IsWellFormed h
+    w = s.well_formed
+
+    is_it : HeapNative → Bool
+    is_it m = m.number == k
+
+    kept : HeapNative → HeapNative
+    kept m = record m { preserved = true }
+
+    changes : ChangesNatives h (changed_where is_it kept)
+    changes = record {
+      number = λ m. changed_where-either (λ o. o.number ≡ m.number) is_it kept m (λ e. refl) refl;
+      slots = λ m a. changed_where-either (λ o. length o.slots ≤ 64) is_it kept m (λ e. w.native_slots m a) (w.native_slots m a);
+      contents = λ m a y. changed_where-either (λ o. Among y (contents o.slots) → Among y (names_there h)) is_it kept m
+          (λ e. w.native_contents m y a) (w.native_contents m y a);
+      preserved = λ m a. changed_where-either (λ o. o.preserved ≡ true → Among (reflector m.number) (script_names h)) is_it kept m
+          (λ e f. subst (λ j. Among (reflector j) (script_names h)) (sym (eqb-true m.number k e)) there) (w.preserved m a);
+    }
+
+-- Script objects: no change of them that keeps their names changes a count
+
+-- Script objects change, and keep their names.
+pub scripts-sound : (owned : List ℕ) (h : Heap) (f : HeapScript → HeapScript) → ChangesScripts h f → IsSound owned h →
+    IsSound owned (with_scripts h f)
+scripts-sound owned h f c s = record {
+  well_formed = IsWellFormed-scripts h f s.well_formed c;
+  counts = λ n m. s.counts n m ∙ ap (λ r. r + times n.number owned) (sym (refs n.number));
+  none_zero = s.none_zero;
+  owned_there = s.owned_there;
+}
+  where
+    refs : (k : ℕ) → refs_to (with_scripts h f) k ≡ refs_to h k
+    refs k = rw (count_by-kept_map (λ (o : HeapScript). same_name o.name (reflector k)) f h.scripts (λ o. ap (λ x. same_name x (reflector k)) (c.name o))) refl

@@ -1,0 +1,4 @@
+pub mod Sound
+pub mod Freeing
+pub mod Rounds
+pub mod Ending

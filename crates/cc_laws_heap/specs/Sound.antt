@@ -1,0 +1,14 @@
+-- THE HEAPS ARE SOUND: well formed, and each count is that of the references.
+use Rattle.std.specs.Prelude.{ℕ, ◌≤◌, List}
+use Rattle.cc_lists.specs.Members.{Among}
+use Rattle.cc_names.specs.Names.{native}
+use Rattle.cc_model.specs.Heap.{Heap, HeapNative}
+use Rattle.cc_model.specs.WellFormed.{IsWellFormed, native_names}
+use Rattle.cc_model.specs.Counts.{HasCounts}
+
+-- `owned` are the natives to which there is a reference outside the heaps' lists, by occurrence
+pub record IsSound (owned : List ℕ) (h : Heap) : Type 0 where
+  pub well_formed : IsWellFormed h
+  pub counts : HasCounts owned h
+  pub none_zero : (n : HeapNative) → Among n h.natives → 1 ≤ n.count
+  pub owned_there : (k : ℕ) → Among k owned → Among (native k) (native_names h)

@@ -1,0 +1,40 @@
+ghost use Rattle.std.specs.Prelude.{◌≡◌, ◌↔◌, ◌≤◌, ℕ, List, [], map, count_by};
+ghost use Rattle.cc_lists.specs.Members.{Among};
+ghost use Rattle.cc_names.specs.declared.name.Name.{Name};
+ghost use Rattle.cc_names.specs.declared.kind.Colour.TheVariants.{Black, Gray};
+ghost use Rattle.cc_names.specs.Names.{same_name};
+ghost use Rattle.cc_model.specs.declared.item.Event.TheVariants.{Freed};
+ghost use Rattle.cc_model.specs.Graph.{Graph};
+ghost use Rattle.cc_model.specs.WellMade.{IsWellMade};
+ghost use Rattle.cc_model.specs.Reached.{Reached};
+ghost use Rattle.cc_model.specs.Heap.{Heap, HeapScript};
+ghost use Rattle.cc_model.specs.View.{view};
+ghost use Rattle.cc_model.specs.WellFormed.{names_there};
+ghost use Rattle.cc_model.specs.Colours.{HasColours, HasColourInvariant, IsBlack, IsGray, marked};
+ghost use Rattle.cc_model.specs.Sweep.{collect_scripts};
+ghost use Rattle.cc_model.specs.StandsFor.{StandsFor};
+ghost use Rattle.cc_laws_heap.specs.Sound.{IsSound};
+ghost use Rattle.cc_laws_heap.specs.Rounds.{FreesNames};
+
+/// Marking gives each script object the colour of its least set.
+pub fn marking_is_least()
+    ensures colours { (h : Heap) → HasColours (marked h) }
+    ensures black { (h : Heap) (o : HeapScript) → Among o (marked h).scripts → (o.colour ≡ Black) ↔ IsBlack h o.name }
+    ensures gray { (h : Heap) (o : HeapScript) → Among o (marked h).scripts → (o.colour ≡ Gray) ↔ IsGray h o.name }
+{}
+
+/// A script collection leaves the heaps sound, no script object white, and the colours those of the heap that is
+/// left; its free lines name distinct objects that were there, and take out these and no others.
+pub fn rounds_keep_counts()
+    ensures sound { (h : Heap) → IsSound [] h → IsSound [] (collect_scripts h).heap }
+    ensures colours { (h : Heap) → HasColours (collect_scripts h).heap }
+    ensures invariant { (h : Heap) → IsSound [] h → HasColourInvariant (view (collect_scripts h).heap) }
+    ensures frees { (h : Heap) → IsSound [] h → (xs : List Name) × FreesNames h xs (collect_scripts h) }
+{}
+
+/// The heaps go on standing for the same graph, and nothing that a register reaches is freed.
+pub fn rounds_stand()
+    ensures stands { (h : Heap) (g : Graph) → IsSound [] h → IsWellMade g → StandsFor h g → StandsFor (collect_scripts h).heap g }
+    ensures freed { (h : Heap) (g : Graph) (x : Name) → IsSound [] h → IsWellMade g → StandsFor h g →
+        Among (Freed x) (collect_scripts h).events → ¬ (Reached g x) }
+{}

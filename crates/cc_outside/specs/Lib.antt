@@ -1,0 +1,4 @@
+pub mod Counted
+pub mod Over
+pub mod Reading
+pub mod Writing

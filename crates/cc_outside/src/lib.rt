@@ -1,0 +1,32 @@
+//! Bytes in and out, with counts of faults.
+//!
+//! A program reads from a `Source` and writes to a `Sink`. Each call moves some bytes or fails, and a call
+//! that fails moves none and raises a count. So whoever is told of a fault can see by the count that there
+//! was one, and an answer such as "a read failed" cannot be made up.
+//!
+//! A source may tell which bytes it has left, and a sink which bytes it was given: those in memory do,
+//! standard input and output do not. `BytesSource` and `BytesSink` fail at the calls that they are told to,
+//! for tests of what a program does then; `SureSource` and `CountSink` never fail.
+#![tactic(auto)]
+
+mod bytes_sink;
+mod bytes_source;
+mod count_sink;
+mod failed;
+mod sink;
+mod source;
+mod standard;
+mod supply;
+mod sure_source;
+
+pub use bytes_sink::BytesSink;
+pub use bytes_source::BytesSource;
+pub use count_sink::CountSink;
+pub use failed::Failed;
+pub use sink::Sink;
+pub use source::Source;
+pub use standard::{StdSink, StdSource};
+pub use sure_source::SureSource;
+
+#[cfg(test)]
+mod tests;

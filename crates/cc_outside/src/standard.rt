@@ -1,0 +1,116 @@
+ghost use Rattle.std.specs.Prelude.{◌≡◌, ◌<◌, length, take, IfOk, None};
+ghost use Rattle.std.specs.Io.{ReadsAtMost, WritesAtMost};
+ghost use Rattle.std.specs.Io.KnownBytes.{Appends, ReadConsumes};
+ghost use Rattle.cc_outside.specs.Counted.{faults_after};
+
+use crate::failed::Failed;
+use crate::sink::Sink;
+use crate::source::Source;
+use std::io::{Read, Stdin, Stdout, Write};
+use std::marker::Model;
+
+/// A source over a reader, standard input if no other is named. It is seen as the reader and its count of faults.
+///
+/// It tells the bytes that the reader tells: of standard input none.
+#[derive(Drop)]
+pub struct StdSource<R = Stdin> {
+    input: R,
+    faults: u64,
+}
+
+impl<R> Model for StdSource<R> {
+    ghost use Rattle.cc_outside.specs.Over.{Over};
+
+    ghost Value = { Over R };
+
+    ghost view = { λ s. record { stream = s.input; faults = s.faults } };
+}
+
+impl<R: Read> StdSource<R> {
+    /// A source over `input`, with no faults so far.
+    pub fn new(input: R) -> StdSource<R>
+        ensures { result ≡ record { stream = input; faults = 0 } }
+    {
+        StdSource { input, faults: 0 }
+    }
+
+    /// How many reads failed. A count of 18446744073709551615 stays.
+    pub fn faults(&self) -> u64
+        ensures { result ≡ self.now.faults }
+    {
+        self.faults
+    }
+}
+
+impl<R: Read> Source for StdSource<R> {
+    ghost left = { λ s. R.remaining s.stream };
+
+    ghost faults = { λ s. s.faults };
+
+    /// Reads once, with no buffer of its own. An interrupted read counts as failed.
+    fn read(&mut self, buf: &mut [u8]) -> Result<usize, Failed>
+        ensures bound { ReadsAtMost result buf.new }
+        ensures bytes { ReadConsumes (R.remaining self.old.stream) (R.remaining self.new.stream) result buf.new }
+        ensures faults { self.new.faults ≡ faults_after self.old.faults result }
+    {
+        match self.input.read(buf) {
+            Ok(count) => Ok(count),
+            Err(_) => Err(Failed::counted(&mut self.faults)),
+        }
+    }
+}
+
+/// A sink over a writer, standard output if no other is named. It is seen as the writer and its count of faults.
+///
+/// It does not tell its bytes: where a write is taken and the flush fails, no one knows how many went on.
+#[derive(Drop)]
+pub struct StdSink<W = Stdout> {
+    output: W,
+    faults: u64,
+}
+
+impl<W> Model for StdSink<W> {
+    ghost use Rattle.cc_outside.specs.Over.{Over};
+
+    ghost Value = { Over W };
+
+    ghost view = { λ s. record { stream = s.output; faults = s.faults } };
+}
+
+impl<W: Write> StdSink<W> {
+    /// A sink over `output`, with no faults so far.
+    pub fn new(output: W) -> StdSink<W>
+        ensures { result ≡ record { stream = output; faults = 0 } }
+    {
+        StdSink { output, faults: 0 }
+    }
+
+    /// How many writes failed. A count of 18446744073709551615 stays.
+    pub fn faults(&self) -> u64
+        ensures { result ≡ self.now.faults }
+    {
+        self.faults
+    }
+}
+
+impl<W: Write> Sink for StdSink<W> {
+    ghost written = { λ _. None };
+
+    ghost faults = { λ s. s.faults };
+
+    /// Writes once and flushes. An interrupted write counts as failed, and so does one that takes nothing of a piece.
+    fn write(&mut self, bytes: &[u8]) -> Result<usize, Failed>
+        ensures bound { WritesAtMost result bytes.now }
+        ensures more { IfOk result (λ m. 0 < length bytes.now → 0 < m) }
+        ensures bytes { IfOk result (λ m. Appends (W.contents self.old.stream) (W.contents self.new.stream) (take m bytes.now)) }
+        ensures faults { self.new.faults ≡ faults_after self.old.faults result }
+    {
+        if let Ok(count) = self.output.write(bytes) {
+            let took_some = count > 0 || bytes.is_empty();
+            if took_some && self.output.flush().is_ok() {
+                return Ok(count);
+            }
+        }
+        Err(Failed::counted(&mut self.faults))
+    }
+}
