@@ -96,6 +96,7 @@ pub record SameHeapBeside (h k : Heap) : Type 0 where
   pub scripts_made : k.scripts_made ≡ h.scripts_made
   pub limits : k.limits ≡ h.limits
 
+-- the same of two graphs
 pub record SameGraphBeside (g e : Graph) : Type 0 where
   pub native_registers : e.native_registers ≡ g.native_registers
   pub script_registers : e.script_registers ≡ g.script_registers
@@ -149,6 +150,7 @@ pub option_map-same : (o : Option Shape) → o ≡ option_map (λ s. s) o
 option_map-same None = refl
 option_map-same (Some s) = refl
 
+-- to change nothing is a change
 pub IsChange-unchanged : (P : Name → Type 0) (h : Heap) (g : Graph) → Follows P h g → IsChange P unchanged g
 IsChange-unchanged P h g t = record {
   moved = λ x. inl (λ s. refl);

@@ -57,6 +57,7 @@ abbrev pub IsBlank : Graph → Type 0
 IsBlank g = (k : ℕ) (s t : Shape) → shape_in g (native k) ≡ Some s → s.preserved ≡ false → shape_in g (reflector k) ≡ Some t →
     (t.slots ≡ Some (empty_slots reflector_slots)) × IsNoKey g (reflector k)
 
+-- HEAPS THAT FOLLOW A GRAPH, as far as `P` goes
 pub record Follows (P : Name → Type 0) (h : Heap) (g : Graph) : Type 0 where
   pub beside : AgreesBeside h g
   pub objects : AreObjects P h g
@@ -98,6 +99,7 @@ script-named (name.Script k) kind slots f = refl
 script-named (name.Reflector k) kind slots f = refl
 
 module _ (h : Heap) (g : Graph) (w : IsWellFormed h) (s : StandsFor h g) where
+  -- what is reached has all that the registers reach
   reached-closed : IsClosed (Reached g) g
   reached-closed = record {
     native_registers = λ x m. let k = contents-place g.native_registers x m in held (N k.0) x k.1;
@@ -106,6 +108,7 @@ module _ (h : Heap) (g : Graph) (w : IsWellFormed h) (s : StandsFor h g) where
     entries = λ e m a b. value e m a b;
   }
 
+  -- a native that stands in the graph follows it
   native-follows : (n : HeapNative) → NativeStands g n → NativeFollows g n
   native-follows n t =
       let made : shape_in g (native n.number) ≡ Some (shape_of_native t.made.0) = ap (option_map shape_of_native) t.made.1 in
@@ -114,6 +117,7 @@ module _ (h : Heap) (g : Graph) (w : IsWellFormed h) (s : StandsFor h g) where
       same : {a b : Shape} → Some a ≡ Some b → a ≡ b
       same e = cc
 
+  -- a reached native is as it is in the graph
   native-alike : (n : HeapNative) → Among n h.natives → Reached g (native n.number) → shape_in g (native n.number) ≡ Some (shape_of_held_native n)
   native-alike n m d = let k = s.reached (native n.number) d in k.made ∙ (sym k.there ∙ shape_at-native h w n m)
 

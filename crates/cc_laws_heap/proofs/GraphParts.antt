@@ -23,6 +23,7 @@ is_some-found (Some x) e = (x, refl)
 pub was_made-native : (g : Graph) (k : ℕ) (n : GraphNative) → native_in g k ≡ Some n → IsTrue (was_made g (native k))
 was_made-native g k n e = ap is_some e
 
+-- so was a script object that has a number
 pub was_made-script : (g : Graph) (k : ℕ) (o : GraphScript) → script_in g k ≡ Some o → IsTrue (was_made g (object k))
 was_made-script g k o e = ap is_some e
 
@@ -54,6 +55,7 @@ pub record ScriptFits (g : Graph) (o : GraphScript) : Type 0 where
   pub slots : (slots : Slots) → o ≡ plain_object slots → length slots ≤ 64
   pub held : (slots : Slots) (x : Name) → o ≡ plain_object slots → Among x (contents slots) → IsTrue (is_made_script g x)
 
+-- each native of a well made graph fits
 pub IsWellMade-native : (g : Graph) → IsWellMade g → (k : ℕ) (n : GraphNative) → native_in g k ≡ Some n → NativeFits g k n
 IsWellMade-native g w k n e = record {
   slots = w.native_slots k n e;
@@ -63,6 +65,7 @@ IsWellMade-native g w k n e = record {
   reflector_held = λ slots x r m. w.reflector_contents k n slots x e r m;
 }
 
+-- and each script object
 pub IsWellMade-script : (g : Graph) → IsWellMade g → (k : ℕ) (o : GraphScript) → script_in g k ≡ Some o → ScriptFits g o
 IsWellMade-script g w k o e = record {
   slots = λ slots s. w.script_slots k slots (e ∙ ap (λ p. Some p) s);
@@ -77,12 +80,15 @@ pub record Grows (g f : Graph) : Type 0 where
   pub maps : (k : ℕ) → script_in g k ≡ Some weak_map → script_in f k ≡ Some weak_map
 
 module _ (g f : Graph) (more : Grows g f) where
+  -- a native that was made is one still
   pub is_made_native-grows : (x : Name) → IsTrue (is_made_native g x) → IsTrue (is_made_native f x)
   is_made_native-grows x m = let p = and_parts (is_native x) (was_made g x) m in and_from (is_native x) (was_made f x) p.0 (more.made x p.1)
 
+  -- a script object that was made is one still
   pub is_made_script-grows : (x : Name) → IsTrue (is_made_script g x) → IsTrue (is_made_script f x)
   is_made_script-grows x m = let p = and_parts (is_script x) (was_made g x) m in and_from (is_script x) (was_made f x) p.0 (more.made x p.1)
 
+  -- a native that fits, fits still
   pub NativeFits-grows : (k : ℕ) (n : GraphNative) → NativeFits g k n → NativeFits f k n
   NativeFits-grows k n t = record {
     slots = t.slots;
@@ -92,12 +98,14 @@ module _ (g f : Graph) (more : Grows g f) where
     reflector_held = λ slots x e m. is_made_script-grows x (t.reflector_held slots x e m);
   }
 
+  -- a script object that fits, fits still
   pub ScriptFits-grows : (o : GraphScript) → ScriptFits g o → ScriptFits f o
   ScriptFits-grows o t = record {
     slots = t.slots;
     held = λ slots x e m. is_made_script-grows x (t.held slots x e m);
   }
 
+  -- an entry of what was made is one still
   pub IsMadeEntry-grows : (e : Entry) → IsMadeEntry g e → IsMadeEntry f e
   IsMadeEntry-grows e t = record {
     the_map = (t.the_map.0, t.the_map.1, more.maps t.the_map.0 t.the_map.2);
@@ -111,11 +119,13 @@ module _ (g f : Graph) (more : Grows g f) where
 abbrev pub with_registers : Graph → Slots → Slots → Graph
 with_registers g ns ss = record g { native_registers = ns; script_registers = ss }
 
+-- registers of the graph's number, that hold what was made, each of its kind
 pub record AreRegisters (g : Graph) (ns ss : Slots) : Type 0 where
   pub natives : (x : Name) → Among x (contents ns) → IsTrue (is_made_native g x)
   pub scripts : (x : Name) → Among x (contents ss) → IsTrue (is_made_script g x)
   pub enough : (length ns ≡ 256) × (length ss ≡ 256)
 
+-- WITH OTHER REGISTERS a graph is well made.
 pub IsWellMade-registers : (g : Graph) (ns ss : Slots) → IsWellMade g → AreRegisters g ns ss → IsWellMade (with_registers g ns ss)
 IsWellMade-registers g ns ss w r = record {
   registers = r.enough;
@@ -138,6 +148,7 @@ IsWellMade-registers g ns ss w r = record {
 abbrev pub with_natives : Graph → List GraphNative → Graph
 with_natives g ns = record g { natives = ns }
 
+-- natives that may take the place of the graph's
 pub record AreNatives (g : Graph) (ns : List GraphNative) : Type 0 where
   -- none is taken out, and none loses its reflector
   pub stay : (k : ℕ) (n : GraphNative) → native_in g k ≡ Some n → (m : GraphNative) × (numbered ns k ≡ Some m) × (is_some n.reflector ≡ true → is_some m.reflector ≡ true)
@@ -158,6 +169,7 @@ Grows-natives g ns stay = record { made = made; maps = λ k s. s }
         let s = stay k.0 n.0 n.1 in
         was_made-reflector (with_natives g ns) k.0 s.0 s.1 (s.2 n.2)
 
+-- WITH OTHER NATIVES a graph is well made.
 pub IsWellMade-natives : (g : Graph) (ns : List GraphNative) → IsWellMade g → AreNatives g ns → IsWellMade (with_natives g ns)
 IsWellMade-natives g ns w a = record {
   registers = w.registers;
@@ -186,12 +198,14 @@ IsWellMade-natives g ns w a = record {
 abbrev pub with_scripts : Graph → List GraphScript → Graph
 with_scripts g os = record g { scripts = os }
 
+-- script objects that may take the place of the graph's
 pub record AreScripts (g : Graph) (os : List GraphScript) : Type 0 where
   -- none is taken out, and weak maps are weak maps
   pub stay : (k : ℕ) (o : GraphScript) → script_in g k ≡ Some o → (p : GraphScript) × (numbered os k ≡ Some p) × (o ≡ weak_map → p ≡ weak_map)
   pub fit : (k : ℕ) (p : GraphScript) → numbered os k ≡ Some p → ScriptFits (with_scripts g os) p
   pub allowed : length os ≤ g.limits.scripts
 
+-- where script objects stay, all that was made is
 pub Grows-scripts : (g : Graph) (os : List GraphScript) →
     ((k : ℕ) (o : GraphScript) → script_in g k ≡ Some o → (p : GraphScript) × (numbered os k ≡ Some p) × (o ≡ weak_map → p ≡ weak_map)) →
     Grows g (with_scripts g os)
@@ -205,6 +219,7 @@ Grows-scripts g os stay = record {
     made (name.Script k) m = let o = is_some-found (script_in g k.0) m in was_made-script (with_scripts g os) k.0 (stay k.0 o.0 o.1).0 (stay k.0 o.0 o.1).1
     made (name.Reflector k) m = m
 
+-- WITH OTHER SCRIPT OBJECTS a graph is well made.
 pub IsWellMade-scripts : (g : Graph) (os : List GraphScript) → IsWellMade g → AreScripts g os → IsWellMade (with_scripts g os)
 IsWellMade-scripts g os w a = record {
   registers = w.registers;
@@ -233,6 +248,7 @@ IsWellMade-scripts g os w a = record {
 abbrev pub with_entries : Graph → List Entry → Graph
 with_entries g es = record g { entries = es }
 
+-- WITH OTHER ENTRIES, of what was made, a graph is well made.
 pub IsWellMade-entries : (g : Graph) (es : List Entry) → IsWellMade g → ((e : Entry) → Among e es → IsMadeEntry g e) →
     ((m k : Name) → count_by (is_entry_of m k) es ≤ 1) → IsWellMade (with_entries g es)
 IsWellMade-entries g es w members once = record {

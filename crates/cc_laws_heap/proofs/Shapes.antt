@@ -69,6 +69,7 @@ further_of (name.Reflector k) s = native k.0 ∷ []
 abbrev pub edges_of_shape : Name → Shape → List Name
 edges_of_shape x s = contents (slots_or_none s.slots) ++ further_of x s
 
+-- what an object of this name refers to, where it has a shape
 abbrev pub edges_of_some : Name → Option Shape → List Name
 edges_of_some x None = []
 edges_of_some x (Some s) = edges_of_shape x s

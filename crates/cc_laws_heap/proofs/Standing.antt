@@ -114,6 +114,7 @@ module _ (P : Name → Type 0) (h : Heap) (g : Graph) (w : IsWellFormed h) (m : 
       kept-there e.value (reached-within e.value (value e i a b))
       (Among-right e.value (native_names h) (script_names h) (subst (λ y. Among y (script_names h)) c.4 (w.entries c.0 c.1).value))
 
+  -- a native that follows the graph stands in it
   native-stands : (n : HeapNative) → NativeFollows g n → NativeStands g n
   native-stands n t =
       let made = shape_in-native g n.number t.0 t.1 in
@@ -122,12 +123,14 @@ module _ (P : Name → Type 0) (h : Heap) (g : Graph) (w : IsWellFormed h) (m : 
         shape = ⊎_elim (λ e. inl (ap (λ s. Some s) e ∙ sym t.1)) (λ e. inr e) t.2;
       }
 
+  -- and a script object
   script-stands : (o : HeapScript) → Among o h.scripts → ScriptStands g o
   script-stands o i = record {
     kind = kind_in-shape g o.name ∙ (ap (option_and_then (kind_of_shape o.name)) (f.objects.scripts o i) ∙ kind-fits o.name o.kind o.slots (w.kinds o i));
     shape = sym (f.objects.scripts o i);
   }
 
+  -- a reflector of a reached native that does not preserve it is blank
   blank-there : (n : HeapNative) (o : HeapScript) → Among n h.natives → n.preserved ≡ false → Reached g (native n.number) →
       Among o h.scripts → o.name ≡ reflector n.number → o.slots ≡ empty_slots reflector_slots
   blank-there n o i e d j named =

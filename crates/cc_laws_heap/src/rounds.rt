@@ -11,7 +11,7 @@ ghost use Rattle.cc_model.specs.Heap.{Heap, HeapScript};
 ghost use Rattle.cc_model.specs.View.{view};
 ghost use Rattle.cc_model.specs.WellFormed.{names_there};
 ghost use Rattle.cc_model.specs.Colours.{HasColours, HasColourInvariant, IsBlack, IsGray, marked};
-ghost use Rattle.cc_model.specs.Sweep.{collect_scripts};
+ghost use Rattle.cc_model.specs.Sweep.{collect_scripts, unmarked};
 ghost use Rattle.cc_model.specs.StandsFor.{StandsFor};
 ghost use Rattle.cc_laws_heap.specs.Sound.{IsSound};
 ghost use Rattle.cc_laws_heap.specs.Rounds.{FreesNames};
@@ -24,10 +24,12 @@ pub fn marking_is_least()
 {}
 
 /// A script collection leaves the heaps sound, no script object white, and the colours those of the heap that is
-/// left; its free lines name distinct objects that were there, and take out these and no others.
+/// left; its free lines name distinct objects that were there, and take out these and no others. Its last round,
+/// which is at most the one after as many as there were script objects, finds nothing to sweep.
 pub fn rounds_keep_counts()
     ensures sound { (h : Heap) → IsSound [] h → IsSound [] (collect_scripts h).heap }
     ensures colours { (h : Heap) → HasColours (collect_scripts h).heap }
+    ensures last { (h : Heap) → (g : Heap) × ((collect_scripts h).heap ≡ marked g) × (unmarked (marked g) ≡ []) }
     ensures invariant { (h : Heap) → IsSound [] h → HasColourInvariant (view (collect_scripts h).heap) }
     ensures frees { (h : Heap) → IsSound [] h → (xs : List Name) × FreesNames h xs (collect_scripts h) }
 {}

@@ -76,6 +76,8 @@ pub record IsFresh (made : ℕ) (v : View) (s : Snapshot) : Type 0 where
   pub from_node : (x y : Name) → Among (x, y) s.references → IsNode s x
   pub to_node : (x y : Name) → Among (x, y) s.references → IsNode s y
   pub members : (m : Mapping) → Among m s.mappings → HasNodes s m
+  -- a mapping makes script objects black, and no natives
+  pub values : (m : Mapping) → Among m s.mappings → IsTrue (is_script m.value)
   pub candidates : (k : ℕ) → Among k s.candidates → IsNode s (native k)
   -- names of nodes are distinct; native nodes were made, script nodes are in the heaps; the traversed and gone ones stand first
   pub distinct : (x : Name) → count_by (same_name x) (node_names s) ≤ 1

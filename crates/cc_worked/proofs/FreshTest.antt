@@ -16,7 +16,7 @@ use Rattle.cc_model.specs.Snapshot.{Snapshot, Node, Mapping, untraversed, gone, 
 use Rattle.cc_model.specs.Units.{members_of}
 use Rattle.cc_model.specs.Fresh.{node, IsNode, IsTraversedNode, IsOutside, IsLiving, IsScriptThere, MemberOf, IsMappingOf, MemberIsNode, HasNodes, done_first, IsFresh}
 use Rattle.cc_worked.specs.HeapTests.{all_among, is_made, is_black_to_gray, is_native_or_black, has_no_black_to_gray}
-use Rattle.cc_worked.specs.SnapshotTests.{is_traversed, is_gone, is_sampled_as, is_noted_as_held, native_is_fresh, same_reference, is_noted, edge_is_fresh, is_member_of, is_mapping_of, entry_is_fresh, notes_nothing, is_dead_native, was_made_or_there, node_is_fresh, reference_is_fresh, has_all_nodes, is_fresh}
+use Rattle.cc_worked.specs.SnapshotTests.{is_traversed, is_gone, is_sampled_as, is_noted_as_held, native_is_fresh, same_reference, is_noted, edge_is_fresh, is_member_of, is_mapping_of, entry_is_fresh, notes_nothing, is_dead_native, was_made_or_there, node_is_fresh, reference_is_fresh, mapping_is_fresh, has_all_nodes, is_fresh}
 use Rattle.cc_worked.proofs.Passing.{second-passes, premise-holds, list_all-each, list_any-some, list_any-none, all_among-each, has-absent, absent-has}
 
 -- a reference by its ends
@@ -206,11 +206,17 @@ module _ (made : ℕ) (v : View) (s : Snapshot) (part : FreshParts made v s) whe
   to_node : (x y : Name) → Among (x, y) s.references → IsNode s y
   to_node x y m = has-among same_name same_name-exact (node_names s) y (and_parts _ _ (reference-nodes x y m)).1
 
+  -- A mapping passes its test.
+  mapping-right : (m : Mapping) → Among m s.mappings → (is_script m.value && all_among (members_of m) (node_names s)) ≡ true
+  mapping-right m i = list_all-each (mapping_is_fresh s) s.mappings (and_parts _ _ (and_parts _ _ part.members).1).0 m i
+
   -- The members of mappings are nodes.
   members : (m : Mapping) → Among m s.mappings → HasNodes s m
-  members m i =
-      let each = (and_parts _ _ (and_parts _ _ part.members).1).0 in
-      mapping-nodes s m (all_among-each (members_of m) (node_names s) (list_all-each (λ k. all_among (members_of k) (node_names s)) s.mappings each m i))
+  members m i = mapping-nodes s m (all_among-each (members_of m) (node_names s) (and_parts _ _ (mapping-right m i)).1)
+
+  -- Their values are script objects.
+  values : (m : Mapping) → Among m s.mappings → IsTrue (is_script m.value)
+  values m i = (and_parts _ _ (mapping-right m i)).0
 
   -- Candidates are nodes.
   candidates : (k : ℕ) → Among k s.candidates → IsNode s (native k)
@@ -277,6 +283,7 @@ is_fresh-true made v s h =
       from_node = from_node made v s part;
       to_node = to_node made v s part;
       members = members made v s part;
+      values = values made v s part;
       candidates = candidates made v s part;
       distinct = distinct made v s part;
       native_nodes = native_nodes made v s part;

@@ -4,7 +4,7 @@ use Rattle.std.specs.List.{list_all, list_any}
 use Rattle.cc_lists.specs.Members.{has}
 use Rattle.cc_lists.specs.Least.{system, closure}
 use Rattle.cc_names.specs.declared.name.Name.{Name}
-use Rattle.cc_names.specs.Names.{native, same_name, is_native, number_of}
+use Rattle.cc_names.specs.Names.{native, same_name, is_native, is_script, number_of}
 use Rattle.cc_model.specs.Entries.{Entry}
 use Rattle.cc_model.specs.View.{View, between, scripts_there}
 use Rattle.cc_model.specs.Snapshot.{Snapshot, Node, NodeState, Mapping, untraversed, gone, traversed, node_names}
@@ -90,10 +90,13 @@ node_is_fresh made v s n =
 abbrev pub reference_is_fresh : Snapshot → Name × Name → Bool
 reference_is_fresh s r = has same_name (node_names s) r.0 && has same_name (node_names s) r.1
 
+abbrev pub mapping_is_fresh : Snapshot → Mapping → Bool
+mapping_is_fresh s m = is_script m.value && all_among (members_of m) (node_names s)
+
 abbrev pub has_all_nodes : Snapshot → Bool
 has_all_nodes s =
     list_all (reference_is_fresh s) s.references
-    && (list_all (λ m. all_among (members_of m) (node_names s)) s.mappings
+    && (list_all (mapping_is_fresh s) s.mappings
     && all_among (map native s.candidates) (node_names s))
 
 -- WHETHER A SNAPSHOT IS FRESH

@@ -1,0 +1,261 @@
+-- A GRAPH STAYS WELL MADE where a register or a slot is written, a reflector preserved or made, an object made.
+use Rattle.std.proofs.Common.{◌≡◌, ◌≢◌, ℕ, ◌<◌, ◌≤◌, true, false, List, [], ◌∷◌, ◌++◌, length, set, Option, Some, None, is_some, option_map, refl, sym, ◌∙◌, ap, subst, ⊎_elim, arith, length-append}
+use Rattle.std.specs.Prelude.{IsTrue}
+use Rattle.std.proofs.lemmas.Bool.{false≢true}
+use Rattle.std.proofs.lemmas.Bool.Decides.{eqb_tells}
+use Rattle.std.proofs.lemmas.List.{length-set, length-replicate}
+use Rattle.cc_lists.specs.Members.{Among}
+use Rattle.cc_names.specs.declared.name.Name.{Name}
+use Rattle.cc_names.specs.declared.register.Reg.TheVariants.{N, S}
+use Rattle.cc_names.specs.Names.{reflector}
+use Rattle.cc_model.specs.Slots.{Slots, contents, empty_slots, reflector_slots}
+use Rattle.cc_model.specs.Graph.{Graph, GraphNative, GraphScript, plain_object, weak_map, numbered, native_in, script_in, set_register, set_native, set_script, with_slot, with_reflector_slot, as_preserved, as_wrapped, slots_or_blank, with_script_slot, with_native, with_script}
+use Rattle.cc_model.specs.WellMade.{IsWellMade, was_made, is_made_native, is_made_script}
+use Rattle.cc_laws_heap.proofs.Holds.{OfSome, OfSome-then, contents-set, contents-empty}
+use Rattle.cc_laws_heap.proofs.Numbered.{set_numbered, change_numbered, numbered-change, numbered-change_other, length-change, numbered-push_old, numbered-push_cases}
+use Rattle.cc_laws_heap.proofs.GraphParts.{NativeFits, ScriptFits, IsWellMade-native, IsWellMade-script, Grows, is_made_script-grows, NativeFits-grows, ScriptFits-grows, IsWellMade-registers, with_natives, Grows-natives, IsWellMade-natives, with_scripts, Grows-scripts, IsWellMade-scripts}
+
+-- Registers
+
+-- a register written with an object that was made, of its kind
+pub IsWellMade-native_register : (g : Graph) (d : ℕ) (x : Option Name) → IsWellMade g → OfSome (λ y. IsTrue (is_made_native g y)) x → IsWellMade (set_register g (N d) x)
+IsWellMade-native_register g d x w m = IsWellMade-registers g (set g.native_registers d x) g.script_registers w (record {
+  natives = contents-set (λ y. IsTrue (is_made_native g y)) g.native_registers d x w.native_registers m;
+  scripts = w.script_registers;
+  enough = (length-set g.native_registers d x ∙ w.registers.0, w.registers.1);
+})
+
+-- the same of a script register
+pub IsWellMade-script_register : (g : Graph) (d : ℕ) (x : Option Name) → IsWellMade g → OfSome (λ y. IsTrue (is_made_script g y)) x → IsWellMade (set_register g (S d) x)
+IsWellMade-script_register g d x w m = IsWellMade-registers g g.native_registers (set g.script_registers d x) w (record {
+  natives = w.native_registers;
+  scripts = contents-set (λ y. IsTrue (is_made_script g y)) g.script_registers d x w.script_registers m;
+  enough = (w.registers.0, length-set g.script_registers d x ∙ w.registers.1);
+})
+
+-- One native changed
+
+-- a native replaced, as a list of natives
+pub set_native-is : (g : Graph) (k : ℕ) (o : Option GraphNative) → set_native g k o ≡ with_natives g (set_numbered g.natives k o)
+set_native-is g k None = refl
+set_native-is g k (Some n) = refl
+
+-- a native that was changed fits, however much more was made
+abbrev pub KeepsNative : Graph → ℕ → (GraphNative → GraphNative) → Type 0
+KeepsNative g k f = (n : GraphNative) → native_in g k ≡ Some n → (e : Graph) → Grows g e → NativeFits e k n → NativeFits e k (f n)
+
+-- a change that takes no reflector away
+abbrev pub KeepsReflector : (GraphNative → GraphNative) → Type 0
+KeepsReflector f = (n : GraphNative) → is_some n.reflector ≡ true → is_some (f n).reflector ≡ true
+
+module _ (g : Graph) (k : ℕ) (f : GraphNative → GraphNative) (reflected : KeepsReflector f) where
+  -- no native is taken out, and none loses its reflector
+  changed-stay : (j : ℕ) (n : GraphNative) → native_in g j ≡ Some n →
+      (m : GraphNative) × (numbered (change_numbered g.natives k f) j ≡ Some m) × (is_some n.reflector ≡ true → is_some m.reflector ≡ true)
+  changed-stay j n e = ⊎_elim
+      (λ t. let here : native_in g k ≡ Some n = ap (native_in g) (sym t.1) ∙ e in
+      (f n, ap (numbered (change_numbered g.natives k f)) t.1 ∙ (numbered-change g.natives k f ∙ ap (option_map f) here), reflected n))
+      (λ t. (n, numbered-change_other g.natives k f j t.1 ∙ e, λ r. r))
+      (eqb_tells j k)
+
+  -- all that was made is
+  pub Grows-change_native : Grows g (set_native g k (option_map f (native_in g k)))
+  Grows-change_native = subst (Grows g) (sym (set_native-is g k (option_map f (native_in g k)))) (Grows-natives g (change_numbered g.natives k f) changed-stay)
+
+  -- A NATIVE CHANGED, so that it fits, leaves the graph well made.
+  pub IsWellMade-change_native : IsWellMade g → KeepsNative g k f → IsWellMade (set_native g k (option_map f (native_in g k)))
+  IsWellMade-change_native w keeps = subst IsWellMade (sym (set_native-is g k (option_map f (native_in g k)))) (IsWellMade-natives g ns w (record {
+    stay = changed-stay;
+    fit = λ j m e. ⊎_elim (λ t. same j m e t.1) (λ t. other j m e t.1) (eqb_tells j k);
+    allowed = subst (λ l. l ≤ g.limits.natives) (sym (length-change g.natives k f)) w.natives_allowed;
+  }))
+    where
+      ns : List GraphNative
+      ns = change_numbered g.natives k f
+
+      more : Grows g (with_natives g ns)
+      more = Grows-natives g ns changed-stay
+
+      changed : (o : Option GraphNative) → native_in g k ≡ o → (m : GraphNative) → option_map f o ≡ Some m → NativeFits (with_natives g ns) k m
+      changed None e m i = absurd (cc)
+      changed (Some n) e m i =
+          let same : f n ≡ m = cc in
+          subst (NativeFits (with_natives g ns) k) same
+          (keeps n e (with_natives g ns) more (NativeFits-grows g (with_natives g ns) more k n (IsWellMade-native g w k n e)))
+
+      same : (j : ℕ) (m : GraphNative) → numbered ns j ≡ Some m → j ≡ k → NativeFits (with_natives g ns) j m
+      same j m e s = subst (λ i. NativeFits (with_natives g ns) i m) (sym s)
+          (changed (native_in g k) refl m (sym (numbered-change g.natives k f) ∙ (ap (numbered ns) (sym s) ∙ e)))
+
+      other : (j : ℕ) (m : GraphNative) → numbered ns j ≡ Some m → j ≢ k → NativeFits (with_natives g ns) j m
+      other j m e d = NativeFits-grows g (with_natives g ns) more j m (IsWellMade-native g w j m (sym (numbered-change_other g.natives k f j d) ∙ e))
+
+-- slot i of a native written with what was made
+pub KeepsNative-slot : (g : Graph) (k i : ℕ) (x : Option Name) → OfSome (λ y. IsTrue (was_made g y)) x → KeepsNative g k (with_slot i x)
+KeepsNative-slot g k i x m n here e more t = record {
+  slots = subst (λ l. l ≤ 64) (sym (length-set n.slots i x)) t.slots;
+  held = contents-set (λ y. IsTrue (was_made e y)) n.slots i x t.held (OfSome-then (λ y. IsTrue (was_made g y)) (λ y. IsTrue (was_made e y)) more.made x m);
+  preserved = t.preserved;
+  reflector = t.reflector;
+  reflector_held = t.reflector_held;
+}
+
+-- slot i of its reflector written with a script object that was made
+pub KeepsNative-reflector_slot : (g : Graph) (k i : ℕ) (x : Option Name) → OfSome (λ y. IsTrue (is_made_script g y)) x → KeepsNative g k (with_reflector_slot i x)
+KeepsNative-reflector_slot g k i x m n here e more t = record {
+  slots = t.slots;
+  held = t.held;
+  preserved = t.preserved;
+  reflector = λ slots s. let o = before n.reflector refl slots s in ap length o.2 ∙ (length-set o.0 i x ∙ t.reflector o.0 o.1);
+  reflector_held = λ slots y s j. let o = before n.reflector refl slots s in
+      contents-set (λ z. IsTrue (is_made_script e z)) o.0 i x (λ z l. t.reflector_held o.0 z o.1 l)
+      (OfSome-then (λ z. IsTrue (is_made_script g z)) (λ z. IsTrue (is_made_script e z)) (is_made_script-grows g e more) x m) y
+      (subst (λ l. Among y (contents l)) o.2 j);
+}
+  where
+    before : (o : Option Slots) → n.reflector ≡ o → (slots : Slots) → option_map (λ (s : Slots). set s i x) o ≡ Some slots →
+        (s : Slots) × (n.reflector ≡ Some s) × (slots ≡ set s i x)
+    before None r slots s = absurd (cc)
+    before (Some old) r slots s = let same : set old i x ≡ slots = cc in (old, r, sym same)
+
+-- its reflector preserved, which was made
+pub KeepsNative-preserved : (g : Graph) (k : ℕ) → IsTrue (was_made g (reflector k)) → KeepsNative g k as_preserved
+KeepsNative-preserved g k m n here e more t = record {
+  slots = t.slots;
+  held = t.held;
+  preserved = λ p. more.made (reflector k) m;
+  reflector = t.reflector;
+  reflector_held = t.reflector_held;
+}
+
+-- a reflector made, where there was none
+pub KeepsNative-wrapped : (g : Graph) (k : ℕ) → KeepsNative g k as_wrapped
+KeepsNative-wrapped g k n here e more t = record {
+  slots = t.slots;
+  held = t.held;
+  preserved = t.preserved;
+  reflector = λ slots s. fits n.reflector refl slots s;
+  reflector_held = λ slots x s. holds n.reflector refl slots s x;
+}
+  where
+    fits : (o : Option Slots) → n.reflector ≡ o → (slots : Slots) → Some (slots_or_blank o) ≡ Some slots → length slots ≡ reflector_slots
+    fits None r slots s = let same : empty_slots reflector_slots ≡ slots = cc in ap length (sym same)
+    fits (Some old) r slots s = t.reflector slots (r ∙ s)
+
+    holds : (o : Option Slots) → n.reflector ≡ o → (slots : Slots) → Some (slots_or_blank o) ≡ Some slots →
+        (x : Name) → Among x (contents slots) → IsTrue (is_made_script e x)
+    holds None r slots s x m =
+        let same : empty_slots reflector_slots ≡ slots = cc in
+        absurd (contents-empty reflector_slots x (subst (λ l. Among x (contents l)) (sym same) m))
+    holds (Some old) r slots s x m = t.reflector_held slots x (r ∙ s) m
+
+-- One script object changed
+
+-- a script object replaced, as a list of script objects
+pub set_script-is : (g : Graph) (k : ℕ) (o : Option GraphScript) → set_script g k o ≡ with_scripts g (set_numbered g.scripts k o)
+set_script-is g k None = refl
+set_script-is g k (Some s) = refl
+
+-- slot i of a plain object written with a script object that was made
+pub IsWellMade-script_slot : (g : Graph) (k i : ℕ) (x : Option Name) → IsWellMade g → OfSome (λ y. IsTrue (is_made_script g y)) x →
+    IsWellMade (set_script g k (option_map (with_script_slot i x) (script_in g k)))
+IsWellMade-script_slot g k i x w m = subst IsWellMade (sym (set_script-is g k (option_map f (script_in g k)))) (IsWellMade-scripts g os w (record {
+  stay = stay;
+  fit = λ j p e. ⊎_elim (λ t. changed (script_in g k) refl p (sym (numbered-change g.scripts k f) ∙ (ap (numbered os) (sym t.1) ∙ e)))
+      (λ t. ScriptFits-grows g (with_scripts g os) more p (IsWellMade-script g w j p (sym (numbered-change_other g.scripts k f j t.1) ∙ e)))
+      (eqb_tells j k);
+  allowed = subst (λ l. l ≤ g.limits.scripts) (sym (length-change g.scripts k f)) w.scripts_allowed;
+}))
+  where
+    f : GraphScript → GraphScript
+    f o = with_script_slot i x o
+
+    os : List GraphScript
+    os = change_numbered g.scripts k f
+
+    stay : (j : ℕ) (o : GraphScript) → script_in g j ≡ Some o → (p : GraphScript) × (numbered os j ≡ Some p) × (o ≡ weak_map → p ≡ weak_map)
+    stay j o e = ⊎_elim
+        (λ t. let here : script_in g k ≡ Some o = ap (script_in g) (sym t.1) ∙ e in
+        (f o, ap (numbered os) t.1 ∙ (numbered-change g.scripts k f ∙ ap (option_map f) here), λ s. ap f s))
+        (λ t. (o, numbered-change_other g.scripts k f j t.1 ∙ e, λ s. s))
+        (eqb_tells j k)
+
+    more : Grows g (with_scripts g os)
+    more = Grows-scripts g os stay
+
+    fits : (o : GraphScript) → ScriptFits (with_scripts g os) o → ScriptFits (with_scripts g os) (f o)
+    fits (plain_object old) t = record {
+      slots = λ slots s. let same : set old i x ≡ slots = cc in subst (λ l. length l ≤ 64) same (subst (λ l. l ≤ 64) (sym (length-set old i x)) (t.slots old refl));
+      held = λ slots y s j. let same : set old i x ≡ slots = cc in
+          contents-set (λ z. IsTrue (is_made_script (with_scripts g os) z)) old i x (λ z l. t.held old z refl l)
+          (OfSome-then (λ z. IsTrue (is_made_script g z)) (λ z. IsTrue (is_made_script (with_scripts g os) z)) (is_made_script-grows g (with_scripts g os) more) x m) y
+          (subst (λ l. Among y (contents l)) (sym same) j);
+    }
+    fits weak_map t = t
+
+    changed : (o : Option GraphScript) → script_in g k ≡ o → (p : GraphScript) → option_map f o ≡ Some p → ScriptFits (with_scripts g os) p
+    changed None e p s = absurd (cc)
+    changed (Some o) e p s =
+        let same : f o ≡ p = cc in
+        subst (ScriptFits (with_scripts g os)) same (fits o (ScriptFits-grows g (with_scripts g os) more o (IsWellMade-script g w k o e)))
+
+-- An object made
+
+-- A NATIVE MADE leaves the graph well made.
+pub IsWellMade-with_native : (g : Graph) (n : ℕ) → IsWellMade g → n ≤ 64 → length g.natives < g.limits.natives → IsWellMade (with_native g n)
+IsWellMade-with_native g n w few room = IsWellMade-natives g ns w (record {
+  stay = stay;
+  fit = λ k m e. ⊎_elim (λ old. NativeFits-grows g (with_natives g ns) more k m (IsWellMade-native g w k m old))
+      (λ t. subst (NativeFits (with_natives g ns) k) t.1 (fits k)) (numbered-push_cases g.natives made k m e);
+  allowed = omega (arith, length-append g.natives (made ∷ []));
+})
+  where
+    made : GraphNative
+    made = record { slots = empty_slots n; preserved = false; reflector = None }
+
+    ns : List GraphNative
+    ns = g.natives ++ made ∷ []
+
+    stay : (k : ℕ) (m : GraphNative) → native_in g k ≡ Some m → (p : GraphNative) × (numbered ns k ≡ Some p) × (is_some m.reflector ≡ true → is_some p.reflector ≡ true)
+    stay k m e = (m, numbered-push_old g.natives made k m e, λ r. r)
+
+    more : Grows g (with_natives g ns)
+    more = Grows-natives g ns stay
+
+    fits : (k : ℕ) → NativeFits (with_natives g ns) k made
+    fits k = record {
+      slots = subst (λ l. l ≤ 64) (sym (length-replicate n None)) few;
+      held = λ x m. absurd (contents-empty n x m);
+      preserved = λ e. absurd (false≢true e);
+      reflector = λ slots e. absurd (cc);
+      reflector_held = λ slots x e m. absurd (cc);
+    }
+
+-- A SCRIPT OBJECT MADE leaves the graph well made.
+pub IsWellMade-with_script : (g : Graph) (o : GraphScript) → IsWellMade g → ((e : Graph) → ScriptFits e o) → length g.scripts < g.limits.scripts → IsWellMade (with_script g o)
+IsWellMade-with_script g o w fits room = IsWellMade-scripts g os w (record {
+  stay = stay;
+  fit = λ k p e. ⊎_elim (λ old. ScriptFits-grows g (with_scripts g os) more p (IsWellMade-script g w k p old))
+      (λ t. subst (ScriptFits (with_scripts g os)) t.1 (fits (with_scripts g os))) (numbered-push_cases g.scripts o k p e);
+  allowed = omega (arith, length-append g.scripts (o ∷ []));
+})
+  where
+    os : List GraphScript
+    os = g.scripts ++ o ∷ []
+
+    stay : (k : ℕ) (p : GraphScript) → script_in g k ≡ Some p → (q : GraphScript) × (numbered os k ≡ Some q) × (p ≡ weak_map → q ≡ weak_map)
+    stay k p e = (p, numbered-push_old g.scripts o k p e, λ s. s)
+
+    more : Grows g (with_scripts g os)
+    more = Grows-scripts g os stay
+
+-- a plain object with empty slots fits, and so does a weak map
+pub ScriptFits-plain : (n : ℕ) → n ≤ 64 → (e : Graph) → ScriptFits e (plain_object (empty_slots n))
+ScriptFits-plain n few e = record {
+  slots = λ slots s. let same : empty_slots n ≡ slots = cc in subst (λ l. length l ≤ 64) same (subst (λ l. l ≤ 64) (sym (length-replicate n None)) few);
+  held = λ slots x s m. let same : empty_slots n ≡ slots = cc in absurd (contents-empty n x (subst (λ l. Among x (contents l)) (sym same) m));
+}
+
+-- and so does a weak map
+pub ScriptFits-map : (e : Graph) → ScriptFits e weak_map
+ScriptFits-map e = record { slots = λ slots s. absurd (cc); held = λ slots x s m. absurd (cc) }

@@ -1,0 +1,107 @@
+-- Members by their numbers, counted from one: of a list with one more member at its end, and with one member changed.
+use Rattle.std.proofs.Common.{◌≡◌, ◌≢◌, ℕ, zero, suc, ◌+◌, ◌-◌, ◌≤◌, List, [], ◌∷◌, ◌++◌, length, set, Option, Some, None, option_map, slice_get, refl, sym, ◌∙◌, ap, subst, inl, inr, ◌⊎◌, ⊎_elim, arith, add-one}
+use Rattle.std.proofs.lemmas.Bool.Decides.{eqb_tells}
+use Rattle.std.proofs.lemmas.List.{length-set}
+use Rattle.std.proofs.lemmas.Option.{slice_get_within, slice_get_past}
+use Rattle.cc_model.specs.Graph.{numbered}
+
+-- no member of the empty list has a number
+pub numbered-nothing : {X : Type 0} (k : ℕ) (x : X) → numbered [] k ≡ Some x → ⊥
+numbered-nothing zero x e = cc
+numbered-nothing (suc k) x e = cc
+
+-- One more at the end
+
+-- the next number has no member
+pub numbered-next : {X : Type 0} (xs : List X) → numbered xs (length xs + 1) ≡ None
+numbered-next xs = subst (λ k. numbered xs k ≡ None) (sym (add-one (length xs))) (slice_get_past xs (length xs) (omega arith))
+
+-- what has a number has one that was given
+pub numbered-within : {X : Type 0} (xs : List X) (k : ℕ) (x : X) → numbered xs k ≡ Some x → (1 ≤ k) × (k ≤ length xs)
+numbered-within xs zero x e = absurd (cc)
+numbered-within xs (suc i) x e = (omega arith, omega (arith, slice_get_within xs i x e))
+
+-- what was put last stands at the place that was the length
+slice_get-push : {X : Type 0} (xs : List X) (y : X) → slice_get (xs ++ y ∷ []) (length xs) ≡ Some y
+slice_get-push [] y = refl
+slice_get-push (x ∷ xs) y = slice_get-push xs y
+
+-- any other place has what it had
+slice_get-push_other : {X : Type 0} (xs : List X) (y : X) (i : ℕ) → i ≢ length xs → slice_get (xs ++ y ∷ []) i ≡ slice_get xs i
+slice_get-push_other [] y zero d = absurd (d refl)
+slice_get-push_other [] y (suc i) d = refl
+slice_get-push_other (x ∷ xs) y zero d = refl
+slice_get-push_other (x ∷ xs) y (suc i) d = slice_get-push_other xs y i (λ e. d (omega arith))
+
+-- one more at the end has the next number
+pub numbered-push : {X : Type 0} (xs : List X) (y : X) → numbered (xs ++ y ∷ []) (length xs + 1) ≡ Some y
+numbered-push xs y = subst (λ k. numbered (xs ++ y ∷ []) k ≡ Some y) (sym (add-one (length xs))) (slice_get-push xs y)
+
+-- and all others keep theirs
+pub numbered-push_other : {X : Type 0} (xs : List X) (y : X) (k : ℕ) → k ≢ length xs + 1 → numbered (xs ++ y ∷ []) k ≡ numbered xs k
+numbered-push_other xs y zero d = refl
+numbered-push_other xs y (suc i) d = slice_get-push_other xs y i (λ e. d (omega arith))
+
+-- what had a number has it still
+pub numbered-push_old : {X : Type 0} (xs : List X) (y : X) (k : ℕ) (x : X) → numbered xs k ≡ Some x → numbered (xs ++ y ∷ []) k ≡ Some x
+numbered-push_old xs y k x e = numbered-push_other xs y k (λ s. absurd (omega (arith, (numbered-within xs k x e).1))) ∙ e
+
+-- what has a number had it, or is the last
+pub numbered-push_cases : {X : Type 0} (xs : List X) (y : X) (k : ℕ) (x : X) → numbered (xs ++ y ∷ []) k ≡ Some x →
+    (numbered xs k ≡ Some x) ⊎ ((k ≡ length xs + 1) × (y ≡ x))
+numbered-push_cases {X} xs y k x e = ⊎_elim
+    (λ t. let here : Some y ≡ Some x = sym (numbered-push xs y) ∙ (ap (numbered (xs ++ y ∷ [])) (sym t.1) ∙ e) in inr (t.1, cc))
+    (λ t. inl (sym (numbered-push_other xs y k t.1) ∙ e))
+    (eqb_tells k (length xs + 1))
+
+-- One member changed
+
+-- what was written stands at its place
+slice_get-set : {X : Type 0} (xs : List X) (i : ℕ) (x y : X) → slice_get xs i ≡ Some x → slice_get (set xs i y) i ≡ Some y
+slice_get-set [] i x y e = absurd (cc)
+slice_get-set (z ∷ zs) zero x y e = refl
+slice_get-set (z ∷ zs) (suc i) x y e = slice_get-set zs i x y e
+
+-- any other place has what it had
+slice_get-set_other : {X : Type 0} (xs : List X) (i j : ℕ) (y : X) → j ≢ i → slice_get (set xs i y) j ≡ slice_get xs j
+slice_get-set_other [] i j y d = refl
+slice_get-set_other (z ∷ zs) zero zero y d = absurd (d refl)
+slice_get-set_other (z ∷ zs) zero (suc j) y d = refl
+slice_get-set_other (z ∷ zs) (suc i) zero y d = refl
+slice_get-set_other (z ∷ zs) (suc i) (suc j) y d = slice_get-set_other zs i j y (λ e. d (omega arith))
+
+-- the member with number k replaced, where there is something to replace it
+abbrev pub set_numbered : {X : Type 0} → List X → ℕ → Option X → List X
+set_numbered xs k None = xs
+set_numbered xs k (Some x) = set xs (k - 1) x
+
+-- the member with number k changed
+abbrev pub change_numbered : {X : Type 0} → List X → ℕ → (X → X) → List X
+change_numbered xs k f = set_numbered xs k (option_map f (numbered xs k))
+
+-- the member that was changed
+pub numbered-change : {X : Type 0} (xs : List X) (k : ℕ) (f : X → X) → numbered (change_numbered xs k f) k ≡ option_map f (numbered xs k)
+numbered-change xs zero f = refl
+numbered-change {X} xs (suc i) f = go (slice_get xs i) refl
+  where
+    go : (o : Option X) → slice_get xs i ≡ o → slice_get (set_numbered xs (suc i) (option_map f o)) i ≡ option_map f o
+    go None e = e
+    go (Some x) e = subst (λ j. slice_get (set xs j (f x)) i ≡ Some (f x)) (omega arith) (slice_get-set xs i x (f x) e)
+
+-- and any other
+pub numbered-change_other : {X : Type 0} (xs : List X) (k : ℕ) (f : X → X) (j : ℕ) → j ≢ k → numbered (change_numbered xs k f) j ≡ numbered xs j
+numbered-change_other xs zero f j d = refl
+numbered-change_other {X} xs (suc i) f zero d = refl
+numbered-change_other {X} xs (suc i) f (suc j) d = go (slice_get xs i)
+  where
+    go : (o : Option X) → slice_get (set_numbered xs (suc i) (option_map f o)) j ≡ slice_get xs j
+    go None = refl
+    go (Some x) = subst (λ l. slice_get (set xs l (f x)) j ≡ slice_get xs j) (omega arith) (slice_get-set_other xs i j (f x) (λ e. d (omega arith)))
+
+-- there are as many as before
+pub length-change : {X : Type 0} (xs : List X) (k : ℕ) (f : X → X) → length (change_numbered xs k f) ≡ length xs
+length-change {X} xs k f = go (numbered xs k)
+  where
+    go : (o : Option X) → length (set_numbered xs k (option_map f o)) ≡ length xs
+    go None = refl
+    go (Some x) = length-set xs (k - 1) (f x)

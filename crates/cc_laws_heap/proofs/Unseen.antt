@@ -1,0 +1,68 @@
+-- WHAT THE GRAPH DOES NOT SEE: counts, the buffer, colours, and natives that a cascade takes out.
+use Rattle.std.proofs.Common.{◌≡◌, ℕ, ◌+◌, Bool, true, false, map, Option, Some, None, refl, sym, ◌∙◌, ap, subst, if◌then◌else◌}
+use Rattle.cc_lists.specs.Members.{Among, has}
+use Rattle.cc_lists.proofs.Members.{Among-map_cases, Among-filtered}
+use Rattle.cc_names.specs.declared.name.Name.{Name}
+use Rattle.cc_names.specs.declared.name.Name.TheVariants as name
+use Rattle.cc_names.specs.Names.{same_name}
+use Rattle.cc_model.specs.Heap.{Heap, HeapScript}
+use Rattle.cc_model.specs.Cascade.{add_ref, take_up, let_go}
+use Rattle.cc_model.specs.Exposure.{exposed, exposed_names, as_black}
+use Rattle.cc_model.specs.StandsFor.{shape_of_held_script}
+use Rattle.cc_laws_heap.specs.Freeing.{uncounted, is_none_of}
+use Rattle.cc_laws_heap.proofs.Natives.{uncounted-change}
+use Rattle.cc_laws_heap.proofs.Beside.{SameBeside-with}
+use Rattle.cc_laws_heap.proofs.Changing.{Leaves, Leaves-uncounted}
+use Rattle.cc_laws_heap.proofs.CascadeTakesOut.{TakesOut-let_go}
+
+-- heaps left as they are
+pub Leaves-refl : (h : Heap) → Leaves h h
+Leaves-refl h = record {
+  beside = record { native_registers = refl; script_registers = refl; entries = refl; natives_made = refl; scripts_made = refl; limits = refl };
+  objects = record { natives = λ n i. (n, i, refl, refl); scripts = λ o i. (o, i, refl, refl) };
+}
+
+-- a reference taken
+pub Leaves-add_ref : (h : Heap) (k : ℕ) → Leaves h (add_ref h k)
+Leaves-add_ref h k = Leaves-uncounted h (add_ref h k)
+    (λ u i. subst (Among u) (uncounted-change h k (λ n. record n { count = n.count + 1 }) (λ n. refl)) i)
+    (SameBeside-with h (add_ref h k).natives (add_ref h k).buffer)
+
+-- a reference to what a register or a slot is to hold taken
+pub Leaves-take_up : (h : Heap) (x : Option Name) → Leaves h (take_up h x)
+Leaves-take_up h None = Leaves-refl h
+Leaves-take_up h (Some (name.Native k)) = Leaves-add_ref h k.0
+Leaves-take_up h (Some (name.Script k)) = Leaves-refl h
+Leaves-take_up h (Some (name.Reflector k)) = Leaves-refl h
+
+-- a reference given up, with all that is freed
+pub Leaves-let_go : (h : Heap) (x : Option Name) → Leaves h (let_go h x).heap
+Leaves-let_go h x =
+    let t = TakesOut-let_go h x in
+    Leaves-uncounted h (let_go h x).heap (λ u i. Among-filtered (is_none_of t.0) u (map uncounted h.natives) (subst (Among u) t.1.natives i)) t.1.beside
+
+-- an exposure
+pub Leaves-exposed : (h : Heap) (x : Option Name) → Leaves h (exposed h x)
+unfolding exposed
+Leaves-exposed h None = Leaves-refl h
+Leaves-exposed h (Some x) = record {
+  beside = record { native_registers = refl; script_registers = refl; entries = refl; natives_made = refl; scripts_made = refl; limits = refl };
+  objects = record {
+    natives = λ n i. (n, i, refl, refl);
+    scripts = λ o i.
+        let p = Among-map_cases (λ (o : HeapScript). if has same_name (exposed_names h x) o.name then as_black o else o) h.scripts o i in (
+          p.0,
+          p.1,
+          sym (names p.0 (has same_name (exposed_names h x) p.0.name)) ∙ ap (λ (o : HeapScript). o.name) p.2,
+          ap shape_of_held_script (sym p.2) ∙ shapes p.0 (has same_name (exposed_names h x) p.0.name),
+        );
+  };
+}
+  where
+    names : (o : HeapScript) (b : Bool) → (if b then as_black o else o).name ≡ o.name
+    names o true = refl
+    names o false = refl
+
+    shapes : (o : HeapScript) (b : Bool) → shape_of_held_script (if b then as_black o else o) ≡ shape_of_held_script o
+    shapes o true = refl
+    shapes o false = refl

@@ -1,0 +1,158 @@
+-- A SLOT WRITTEN ALIKE, OR A REFLECTOR PRESERVED ALIKE, in heaps and in the graph that they follow.
+use Rattle.std.proofs.Common.{◌≡◌, ℕ, Bool, true, false, List, set, Option, Some, None, option_map, refl, sym, ◌∙◌, ap, subst, ⊎_elim, if◌then◌else◌, ◌==◌}
+use Rattle.std.specs.Prelude.{IsTrue}
+use Rattle.std.specs.Option.{option_and_then}
+use Rattle.std.proofs.lemmas.Bool.{false≢true}
+use Rattle.std.proofs.lemmas.Bool.Decides.{eqb_tells}
+use Rattle.cc_lists.specs.Members.{Among}
+use Rattle.cc_lists.proofs.Members.{Among-map_cases}
+use Rattle.cc_names.specs.declared.name.Name.{Name}
+use Rattle.cc_names.specs.declared.name.Name.TheVariants as name
+use Rattle.cc_names.specs.Names.{native, object, reflector, same_name, is_script}
+use Rattle.cc_model.specs.Slots.{Slots}
+use Rattle.cc_model.specs.Graph.{Graph, GraphNative, GraphScript, numbered, native_in, script_in, set_native, set_script}
+use Rattle.cc_model.specs.Heap.{Heap, HeapNative, HeapScript, change_native, change_script}
+use Rattle.cc_model.specs.StandsFor.{Shape, shape_of_native, shape_of_object, shape_of_reflector, shape_of_held_native, shape_of_held_script, script_shape}
+use Rattle.cc_laws_heap.proofs.Numbered.{change_numbered, numbered-change, numbered-change_other, length-change}
+use Rattle.cc_laws_heap.proofs.GraphParts.{with_natives, with_scripts}
+use Rattle.cc_laws_heap.proofs.GraphWrites.{set_native-is, set_script-is}
+use Rattle.cc_laws_heap.proofs.Changing.{Change, HeapChanges, GraphChanges, SameGraphBeside, option_map-same}
+
+-- one object changed
+abbrev pub changed_at : Name → (Shape → Shape) → Change
+changed_at x f z s = if same_name z x then f s else s
+
+-- slot i written
+abbrev pub with_slot_written : ℕ → Option Name → Shape → Shape
+with_slot_written i y s = record s { slots = option_map (λ (l : Slots). set l i y) s.slots }
+
+-- its reflector preserved
+abbrev pub with_preserved : Shape → Shape
+with_preserved s = record s { preserved = true }
+
+-- In the graph
+
+-- a member of a list in which one changed
+pub numbered-changed : {X : Type 0} (xs : List X) (k : ℕ) (f : X → X) (j : ℕ) → numbered (change_numbered xs k f) j ≡ option_map (λ x. if j == k then f x else x) (numbered xs j)
+numbered-changed {X} xs k f j = ⊎_elim
+    (λ t. ap (numbered (change_numbered xs k f)) t.1 ∙ (numbered-change xs k f ∙ (ap (λ i. option_map f (numbered xs i)) (sym t.1) ∙ rw t.0 refl)))
+    (λ t. numbered-change_other xs k f j t.1 ∙ rw t.0 (same (numbered xs j)))
+    (eqb_tells j k)
+  where
+    same : (o : Option X) → o ≡ option_map (λ x. x) o
+    same None = refl
+    same (Some x) = refl
+
+-- a native changed, its reflector left
+pub GraphChanges-native : (g : Graph) (k : ℕ) (a : GraphNative → GraphNative) (f : Shape → Shape) → ((n : GraphNative) → shape_of_native (a n) ≡ f (shape_of_native n)) →
+    ((n : GraphNative) → (a n).reflector ≡ n.reflector) → GraphChanges (changed_at (native k) f) g (set_native g k (option_map a (native_in g k)))
+GraphChanges-native g k a f changes keeps = subst (GraphChanges (changed_at (native k) f) g) (sym (set_native-is g k (option_map a (native_in g k)))) shapes
+  where
+    shapes : GraphChanges (changed_at (native k) f) g (with_natives g (change_numbered g.natives k a))
+    shapes (name.Native j) = ap (option_map shape_of_native) (numbered-changed g.natives k a j.0) ∙ go (j.0 == k) (native_in g j.0)
+      where
+        go : (b : Bool) (o : Option GraphNative) → option_map shape_of_native (option_map (λ n. if b then a n else n) o) ≡ option_map (λ s. if b then f s else s) (option_map shape_of_native o)
+        go b None = refl
+        go true (Some n) = ap (λ s. Some s) (changes n)
+        go false (Some n) = refl
+    shapes (name.Script j) = option_map-same (option_map shape_of_object (script_in g j.0))
+    shapes (name.Reflector j) = ap (option_and_then shape_of_reflector) (numbered-changed g.natives k a j.0) ∙ go (j.0 == k) (native_in g j.0)
+      where
+        go : (b : Bool) (o : Option GraphNative) → option_and_then shape_of_reflector (option_map (λ n. if b then a n else n) o) ≡ option_map (λ s. s) (option_and_then shape_of_reflector o)
+        go b None = refl
+        go true (Some n) = ap (λ r. option_map (λ slots. script_shape (Some slots)) r) (keeps n) ∙ option_map-same (shape_of_reflector n)
+        go false (Some n) = option_map-same (shape_of_reflector n)
+
+-- its reflector changed, the native left
+pub GraphChanges-reflector : (g : Graph) (k : ℕ) (a : GraphNative → GraphNative) (f : Shape → Shape) → ((n : GraphNative) → shape_of_native (a n) ≡ shape_of_native n) →
+    ((n : GraphNative) → shape_of_reflector (a n) ≡ option_map f (shape_of_reflector n)) → GraphChanges (changed_at (reflector k) f) g (set_native g k (option_map a (native_in g k)))
+GraphChanges-reflector g k a f keeps changes = subst (GraphChanges (changed_at (reflector k) f) g) (sym (set_native-is g k (option_map a (native_in g k)))) shapes
+  where
+    shapes : GraphChanges (changed_at (reflector k) f) g (with_natives g (change_numbered g.natives k a))
+    shapes (name.Native j) = ap (option_map shape_of_native) (numbered-changed g.natives k a j.0) ∙ go (j.0 == k) (native_in g j.0)
+      where
+        go : (b : Bool) (o : Option GraphNative) → option_map shape_of_native (option_map (λ n. if b then a n else n) o) ≡ option_map (λ s. s) (option_map shape_of_native o)
+        go b None = refl
+        go true (Some n) = ap (λ s. Some s) (keeps n)
+        go false (Some n) = refl
+    shapes (name.Script j) = option_map-same (option_map shape_of_object (script_in g j.0))
+    shapes (name.Reflector j) = ap (option_and_then shape_of_reflector) (numbered-changed g.natives k a j.0) ∙ go (j.0 == k) (native_in g j.0)
+      where
+        go : (b : Bool) (o : Option GraphNative) → option_and_then shape_of_reflector (option_map (λ n. if b then a n else n) o) ≡ option_map (λ s. if b then f s else s) (option_and_then shape_of_reflector o)
+        go b None = refl
+        go true (Some n) = changes n
+        go false (Some n) = option_map-same (shape_of_reflector n)
+
+-- a script object changed
+pub GraphChanges-script : (g : Graph) (k : ℕ) (a : GraphScript → GraphScript) (f : Shape → Shape) → ((o : GraphScript) → shape_of_object (a o) ≡ f (shape_of_object o)) →
+    GraphChanges (changed_at (object k) f) g (set_script g k (option_map a (script_in g k)))
+GraphChanges-script g k a f changes = subst (GraphChanges (changed_at (object k) f) g) (sym (set_script-is g k (option_map a (script_in g k)))) shapes
+  where
+    shapes : GraphChanges (changed_at (object k) f) g (with_scripts g (change_numbered g.scripts k a))
+    shapes (name.Native j) = option_map-same (option_map shape_of_native (native_in g j.0))
+    shapes (name.Script j) = ap (option_map shape_of_object) (numbered-changed g.scripts k a j.0) ∙ go (j.0 == k) (script_in g j.0)
+      where
+        go : (b : Bool) (o : Option GraphScript) → option_map shape_of_object (option_map (λ p. if b then a p else p) o) ≡ option_map (λ s. if b then f s else s) (option_map shape_of_object o)
+        go b None = refl
+        go true (Some o) = ap (λ s. Some s) (changes o)
+        go false (Some o) = refl
+    shapes (name.Reflector j) = option_map-same (option_and_then shape_of_reflector (native_in g j.0))
+
+-- a native changed leaves all beside the natives
+pub SameGraphBeside-native : (g : Graph) (k : ℕ) (a : GraphNative → GraphNative) → SameGraphBeside g (set_native g k (option_map a (native_in g k)))
+SameGraphBeside-native g k a = subst (SameGraphBeside g) (sym (set_native-is g k (option_map a (native_in g k))))
+    (record { native_registers = refl; script_registers = refl; entries = refl; natives_made = length-change g.natives k a; scripts_made = refl; limits = refl })
+
+-- a script object changed leaves all beside the script objects
+pub SameGraphBeside-script : (g : Graph) (k : ℕ) (a : GraphScript → GraphScript) → SameGraphBeside g (set_script g k (option_map a (script_in g k)))
+SameGraphBeside-script g k a = subst (SameGraphBeside g) (sym (set_script-is g k (option_map a (script_in g k))))
+    (record { native_registers = refl; script_registers = refl; entries = refl; natives_made = refl; scripts_made = length-change g.scripts k a; limits = refl })
+
+-- In the heaps
+
+-- a native changed
+pub HeapChanges-native : (h : Heap) (k : ℕ) (a : HeapNative → HeapNative) (f : Shape → Shape) → ((n : HeapNative) → (a n).number ≡ n.number) →
+    ((n : HeapNative) → shape_of_held_native (a n) ≡ f (shape_of_held_native n)) → ((o : HeapScript) → Among o h.scripts → IsTrue (is_script o.name)) →
+    HeapChanges (changed_at (native k) f) h (change_native h k a)
+HeapChanges-native h k a f number changes named = record {
+  natives = λ n i.
+      let m = Among-map_cases (λ (n : HeapNative). if n.number == k then a n else n) h.natives n i in
+      (m.0, m.1, sym (numbers m.0 (m.0.number == k)) ∙ ap (λ (n : HeapNative). n.number) m.2, ap shape_of_held_native (sym m.2) ∙ shapes m.0 (m.0.number == k));
+  scripts = λ o i. (o, i, refl, same o o.name (named o i));
+}
+  where
+    numbers : (n : HeapNative) (b : Bool) → (if b then a n else n).number ≡ n.number
+    numbers n true = number n
+    numbers n false = refl
+
+    shapes : (n : HeapNative) (b : Bool) → shape_of_held_native (if b then a n else n) ≡ (if b then f (shape_of_held_native n) else shape_of_held_native n)
+    shapes n true = changes n
+    shapes n false = refl
+
+    same : (o : HeapScript) (x : Name) → IsTrue (is_script x) → shape_of_held_script o ≡ changed_at (native k) f x (shape_of_held_script o)
+    same o (name.Native j) s = absurd (false≢true s)
+    same o (name.Script j) s = refl
+    same o (name.Reflector j) s = refl
+
+-- a script object changed
+pub HeapChanges-script : (h : Heap) (x : Name) (a : HeapScript → HeapScript) (f : Shape → Shape) → IsTrue (is_script x) → ((o : HeapScript) → (a o).name ≡ o.name) →
+    ((o : HeapScript) → shape_of_held_script (a o) ≡ f (shape_of_held_script o)) → HeapChanges (changed_at x f) h (change_script h x a)
+HeapChanges-script h x a f script names changes = record {
+  natives = λ n i. (n, i, refl, same n x script);
+  scripts = λ o i.
+      let p = Among-map_cases (λ (o : HeapScript). if same_name o.name x then a o else o) h.scripts o i in
+      (p.0, p.1, sym (named p.0 (same_name p.0.name x)) ∙ ap (λ (o : HeapScript). o.name) p.2, ap shape_of_held_script (sym p.2) ∙ shapes p.0 (same_name p.0.name x));
+}
+  where
+    named : (o : HeapScript) (b : Bool) → (if b then a o else o).name ≡ o.name
+    named o true = names o
+    named o false = refl
+
+    shapes : (o : HeapScript) (b : Bool) → shape_of_held_script (if b then a o else o) ≡ (if b then f (shape_of_held_script o) else shape_of_held_script o)
+    shapes o true = changes o
+    shapes o false = refl
+
+    same : (n : HeapNative) (y : Name) → IsTrue (is_script y) → shape_of_held_native n ≡ changed_at y f (native n.number) (shape_of_held_native n)
+    same n (name.Native j) s = absurd (false≢true s)
+    same n (name.Script j) s = refl
+    same n (name.Reflector j) s = refl
