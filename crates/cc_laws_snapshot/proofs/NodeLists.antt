@@ -1,0 +1,205 @@
+-- The list of nodes: the first untraversed one gets a state, and new ones go last.
+use Rattle.std.proofs.Common.{◌≡◌, ◌≤◌, Bool, true, false, List, [], ◌∷◌, ◌++◌, map, Option, Some, refl, sym, ◌∙◌, ap, subst, inl, inr, ◌⊎◌, ⊎_elim, count_by}
+use Rattle.std.specs.List.{list_all}
+use Rattle.std.proofs.lemmas.Bool.{and_parts, and_from, true≢false, false≢true}
+use Rattle.std.proofs.lemmas.List.{map_push}
+use Rattle.cc_lists.specs.Members.{Among, has, with_last, with_all_last}
+use Rattle.cc_lists.proofs.Members.{Among-append, has-there}
+use Rattle.cc_lists.proofs.Counting.{count_by-map}
+use Rattle.cc_names.specs.declared.name.Name.{Name}
+use Rattle.cc_names.specs.Names.{same_name}
+use Rattle.cc_names.proofs.NameTests.{same_name-exact}
+use Rattle.cc_model.specs.Snapshot.{NodeState, untraversed, gone, traversed, Node}
+use Rattle.cc_model.specs.Units.{new_node, is_untraversed, first_untraversed, with_state, with_node, with_nodes}
+use Rattle.cc_model.specs.Fresh.{node, done_first}
+use Rattle.cc_laws_snapshot.proofs.NamePairs.{name_cases}
+use Rattle.cc_laws_snapshot.proofs.OnceEach.{with_last-keeps}
+use Rattle.cc_laws_snapshot.proofs.States.{HasDistinctNodes, one-state}
+
+-- the names of the nodes
+abbrev pub names_of : List Node → List Name
+names_of ns = map (λ n. n.name) ns
+
+-- whether a node is untraversed
+abbrev pub is_open : Node → Bool
+is_open n = is_untraversed n.state
+
+-- the test of untraversed tells
+is_untraversed-true : (state : NodeState) → is_untraversed state ≡ true → state ≡ untraversed
+is_untraversed-true untraversed e = refl
+is_untraversed-true gone e = absurd (false≢true e)
+is_untraversed-true (traversed n) e = absurd (false≢true e)
+
+-- names that are distinct are those of distinct nodes
+pub names-distinct : (ns : List Node) → ((x : Name) → count_by (same_name x) (names_of ns) ≤ 1) → HasDistinctNodes ns
+names-distinct ns d x = subst (λ c. c ≤ 1) (count_by-map (same_name x) (λ (n : Node). n.name) ns) (d x)
+
+-- The first untraversed node gets a state
+
+-- its name is that of an untraversed node
+pub first-untraversed : (ns : List Node) (x : Name) → first_untraversed ns ≡ Some x → Among (node x untraversed) ns
+first-untraversed [] x e = absurd (cc)
+first-untraversed (n ∷ ns) x e = go (first-untraversed ns x) (is_open n) refl e
+  where
+    first_by : Bool → Option Name
+    first_by true = Some n.name
+    first_by false = first_untraversed ns
+
+    go : (first_untraversed ns ≡ Some x → Among (node x untraversed) ns) → (b : Bool) → is_open n ≡ b → first_by b ≡ Some x → Among (node x untraversed) (n ∷ ns)
+    go ih true k f =
+        let named : n.name ≡ x = cc in
+        inl (ap (λ state. node n.name state) (is_untraversed-true n.state k) ∙ ap (λ y. node y untraversed) named)
+    go ih false k f = inr (ih f)
+
+-- nodes keep their names
+pub names-with_state : (state : NodeState) (ns : List Node) → names_of (with_state state ns) ≡ names_of ns
+names-with_state state [] = refl
+names-with_state state (n ∷ ns) = go (names-with_state state ns) (is_open n)
+  where
+    nodes_by : Bool → List Node
+    nodes_by true = record n { state = state } ∷ ns
+    nodes_by false = n ∷ with_state state ns
+
+    go : names_of (with_state state ns) ≡ names_of ns → (b : Bool) → names_of (nodes_by b) ≡ n.name ∷ names_of ns
+    go ih true = refl
+    go ih false = ap (λ l. n.name ∷ l) ih
+
+-- the node stands there with its state
+pub with_state-there : (state : NodeState) (ns : List Node) (x : Name) → first_untraversed ns ≡ Some x → Among (node x state) (with_state state ns)
+with_state-there state [] x e = absurd (cc)
+with_state-there state (n ∷ ns) x e = go (with_state-there state ns x) (is_open n) e
+  where
+    nodes_by : Bool → List Node
+    nodes_by true = record n { state = state } ∷ ns
+    nodes_by false = n ∷ with_state state ns
+
+    first_by : Bool → Option Name
+    first_by true = Some n.name
+    first_by false = first_untraversed ns
+
+    go : (first_untraversed ns ≡ Some x → Among (node x state) (with_state state ns)) → (b : Bool) → first_by b ≡ Some x → Among (node x state) (nodes_by b)
+    go ih true f = let named : n.name ≡ x = cc in inl (ap (λ y. node y state) named)
+    go ih false f = inr (ih f)
+
+-- any other node was there before
+with_state-others : (state : NodeState) (ns : List Node) (x : Name) → first_untraversed ns ≡ Some x → (m : Node) → Among m (with_state state ns) →
+    Among m ns ⊎ (m.name ≡ x)
+with_state-others state [] x e m i = absurd i
+with_state-others state (n ∷ ns) x e m i = go (with_state-others state ns x) (is_open n) e i
+  where
+    nodes_by : Bool → List Node
+    nodes_by true = record n { state = state } ∷ ns
+    nodes_by false = n ∷ with_state state ns
+
+    first_by : Bool → Option Name
+    first_by true = Some n.name
+    first_by false = first_untraversed ns
+
+    go : (first_untraversed ns ≡ Some x → (m : Node) → Among m (with_state state ns) → Among m ns ⊎ (m.name ≡ x)) →
+        (b : Bool) → first_by b ≡ Some x → Among m (nodes_by b) → Among m (n ∷ ns) ⊎ (m.name ≡ x)
+    go ih true f j = ⊎_elim (λ s. let named : n.name ≡ x = cc in inr (sym (ap (λ (k : Node). k.name) s) ∙ named)) (λ t. inl (inr t)) j
+    go ih false f j = ⊎_elim (λ s. inl (inl s)) (λ t. ⊎_elim (λ a. inl (inr a)) (λ b. inr b) (ih f m t)) j
+
+-- Each node has the state that it had, and the first untraversed one the new state.
+pub with_state-states : (state : NodeState) (ns : List Node) (x : Name) → HasDistinctNodes ns → first_untraversed ns ≡ Some x →
+    (z : Name) (a : NodeState) → Among (node z a) (with_state state ns) → (Among (node z a) ns × (¬ (z ≡ x))) ⊎ ((x ≡ z) × (state ≡ a))
+with_state-states state ns x d e z a i = ⊎_elim
+    (λ s. inr (sym s, one-state (with_state state ns) distinct x state a (with_state-there state ns x e) (subst (λ y. Among (node y a) (with_state state ns)) s i)))
+    (λ other. ⊎_elim (λ l. inl (l, other)) (λ s. absurd (other s)) (with_state-others state ns x e (node z a) i))
+    (name_cases z x)
+  where
+    distinct : HasDistinctNodes (with_state state ns)
+    distinct = names-distinct (with_state state ns) (λ y. subst (λ xs. count_by (same_name y) xs ≤ 1) (sym (names-with_state state ns))
+        (subst (λ c. c ≤ 1) (sym (count_by-map (same_name y) (λ (n : Node). n.name) ns)) (d y)))
+
+-- New nodes go last
+
+-- the names after one node was added
+names-with_node : (ns : List Node) (y : Name) → names_of (with_node ns y) ≡ with_last same_name (names_of ns) y
+names-with_node ns y = go (has same_name (names_of ns) y)
+  where
+    go : (b : Bool) → names_of (elim b [ true ↦ ns | false ↦ ns ++ new_node y ∷ [] ]) ≡ elim b [ true ↦ names_of ns | false ↦ names_of ns ++ y ∷ [] ]
+    go true = refl
+    go false = map_push (λ (n : Node). n.name) ns (new_node y)
+
+-- the names after several were added
+pub names-with_nodes : (ns : List Node) (ys : List Name) → names_of (with_nodes ns ys) ≡ with_all_last same_name (names_of ns) ys
+names-with_nodes ns [] = refl
+names-with_nodes ns (y ∷ ys) = names-with_nodes (with_node ns y) ys ∙ ap (λ xs. with_all_last same_name xs ys) (names-with_node ns y)
+
+-- one added node is untraversed and of a new name
+with_node-states : (ns : List Node) (y z : Name) (a : NodeState) → Among (node z a) (with_node ns y) →
+    Among (node z a) ns ⊎ ((untraversed ≡ a) × (¬ (Among z (names_of ns))))
+with_node-states ns y z a i = go (has same_name (names_of ns) y) refl i
+  where
+    go : (b : Bool) → has same_name (names_of ns) y ≡ b → Among (node z a) (elim b [ true ↦ ns | false ↦ ns ++ new_node y ∷ [] ]) →
+        Among (node z a) ns ⊎ ((untraversed ≡ a) × (¬ (Among z (names_of ns))))
+    go true e j = inl j
+    go false e j = ⊎_elim (λ l. inl l)
+        (λ r. ⊎_elim
+        (λ s. inr (
+          ap (λ (n : Node). n.state) s,
+          λ m.
+              let here : Among y (names_of ns) = subst (λ w. Among w (names_of ns)) (sym (ap (λ (n : Node). n.name) s)) m in
+              true≢false (sym (has-there same_name same_name-exact (names_of ns) y here) ∙ e),
+        ))
+        (λ t. absurd t) r)
+        (Among-append (node z a) ns (new_node y ∷ []) j)
+
+-- Each node was there, or is untraversed and of a new name.
+pub with_nodes-states : (ns : List Node) (ys : List Name) (z : Name) (a : NodeState) → Among (node z a) (with_nodes ns ys) →
+    Among (node z a) ns ⊎ ((untraversed ≡ a) × (¬ (Among z (names_of ns))))
+with_nodes-states ns [] z a i = inl i
+with_nodes-states ns (y ∷ ys) z a i = ⊎_elim
+    (λ l. with_node-states ns y z a l)
+    (λ r. inr (r.0, λ m. r.1 (subst (Among z) (sym (names-with_node ns y)) (with_last-keeps same_name same_name-exact (names_of ns) y z m))))
+    (with_nodes-states (with_node ns y) ys z a i)
+
+-- The traversed and gone nodes stand first
+
+-- where all are untraversed
+pub all-done_first : (ns : List Node) → list_all is_open ns ≡ true → done_first ns ≡ true
+all-done_first [] h = refl
+all-done_first (n ∷ ns) h = let k = and_parts (is_open n) (list_all is_open ns) h in go (is_open n) k.0
+  where
+    go : (b : Bool) → b ≡ true → elim b [ true ↦ list_all is_open ns | false ↦ done_first ns ] ≡ true
+    go true e = (and_parts (is_open n) (list_all is_open ns) h).1
+    go false e = absurd (false≢true e)
+
+-- after the first untraversed one got a state
+pub done_first-with_state : (state : NodeState) (ns : List Node) → is_untraversed state ≡ false → done_first ns ≡ true → done_first (with_state state ns) ≡ true
+done_first-with_state state [] closed h = refl
+done_first-with_state state (n ∷ ns) closed h = go (done_first-with_state state ns closed) (is_open n) refl h
+  where
+    go : (done_first ns ≡ true → done_first (with_state state ns) ≡ true) → (b : Bool) → is_open n ≡ b →
+        elim b [ true ↦ list_all is_open ns | false ↦ done_first ns ] ≡ true →
+        done_first (elim b [ true ↦ record n { state = state } ∷ ns | false ↦ n ∷ with_state state ns ]) ≡ true
+    go ih true e k = rw (closed, done_first) (all-done_first ns k)
+    go ih false e k = rw (e, done_first) (ih k)
+
+-- one more untraversed node keeps all untraversed
+all_open-push : (ns : List Node) (y : Name) → list_all is_open ns ≡ true → list_all is_open (ns ++ new_node y ∷ []) ≡ true
+all_open-push [] y h = refl
+all_open-push (n ∷ ns) y h =
+    let k = and_parts (is_open n) (list_all is_open ns) h in
+    and_from (is_open n) (list_all is_open (ns ++ new_node y ∷ [])) k.0 (all_open-push ns y k.1)
+
+-- after an untraversed one went last
+done_first-push : (ns : List Node) (y : Name) → done_first ns ≡ true → done_first (ns ++ new_node y ∷ []) ≡ true
+done_first-push [] y h = refl
+done_first-push (n ∷ ns) y h = go (done_first-push ns y) (is_open n) h
+  where
+    go : (done_first ns ≡ true → done_first (ns ++ new_node y ∷ []) ≡ true) → (b : Bool) →
+        elim b [ true ↦ list_all is_open ns | false ↦ done_first ns ] ≡ true →
+        elim b [ true ↦ list_all is_open (ns ++ new_node y ∷ []) | false ↦ done_first (ns ++ new_node y ∷ []) ] ≡ true
+    go ih true k = all_open-push ns y k
+    go ih false k = ih k
+
+-- after several untraversed ones went last
+pub done_first-with_nodes : (ns : List Node) (ys : List Name) → done_first ns ≡ true → done_first (with_nodes ns ys) ≡ true
+done_first-with_nodes ns [] h = h
+done_first-with_nodes ns (y ∷ ys) h = done_first-with_nodes (with_node ns y) ys (one (has same_name (names_of ns) y))
+  where
+    one : (b : Bool) → done_first (elim b [ true ↦ ns | false ↦ ns ++ new_node y ∷ [] ]) ≡ true
+    one true = h
+    one false = done_first-push ns y h

@@ -1,0 +1,213 @@
+-- WHITE IS UNREACHED: what the registers reach, and is a native and a node, is black in the snapshot.
+use Rattle.std.proofs.Common.{◌≡◌, ℕ, ◌<◌, ◌≤◌, Bool, true, false, not, List, map, Option, Some, None, refl, sym, ◌∙◌, ap, subst, inl, inr, ◌⊎◌, ⊎_elim, arith, count_by}
+use Rattle.std.specs.List.{filter}
+use Rattle.std.specs.Option.{option_to_list}
+use Rattle.std.proofs.lemmas.Bool.{not-true, and_parts, or_left, or_right, true≢false, false≢true, lt-ltb, cases_lt}
+use Rattle.cc_lists.specs.Members.{Among, has}
+use Rattle.cc_lists.proofs.Members.{Among-map, Among-map_cases, Among-append, Among-filter, Among-filtered, Among-passes, has-there, Among_or_not}
+use Rattle.cc_lists.proofs.Counting.{count_by-some, counted_is, count_by-below, count_by-less}
+use Rattle.cc_lists.proofs.Least.{derive-root, derive-along, derive-jointly, derived-within}
+use Rattle.cc_lists.proofs.Closure.{closure-decides}
+use Rattle.cc_names.specs.declared.name.Name.{Name}
+use Rattle.cc_names.specs.declared.name.Name.TheVariants as name
+use Rattle.cc_names.specs.Names.{native, object, reflector, same_name, is_script}
+use Rattle.cc_names.proofs.NameTests.{same_name-refl, same_name-exact}
+use Rattle.cc_model.specs.Entries.{Entry, joint, joints}
+use Rattle.cc_model.specs.View.{View, ReachedIn, to, between, is_there}
+use Rattle.cc_model.specs.Snapshot.{NodeState, gone, traversed, Node, Snapshot, mapping_joint, noted_to, is_above, is_seed, seeds, black_in_rules, BlackIn, black_in, is_white, node_names, IsWhite}
+use Rattle.cc_model.specs.Fresh.{node, IsNode, IsTraversedNode, IsOutside, IsLiving, MemberOf, MemberIsNode, IsFresh, IsTraversed}
+use Rattle.cc_laws_snapshot.proofs.NamePairs.{between-true, between-refl}
+use Rattle.cc_laws_snapshot.proofs.SoundView.{IsSoundView, black-or_gray}
+use Rattle.cc_laws_snapshot.proofs.States.{state-of, from-traversed, alive-traversed}
+
+module _ (made : ℕ) (v : View) (s : Snapshot) (sound : IsSoundView made v) (fresh : IsFresh made v s) (all : IsTraversed s) where
+  -- the mappings as rules
+  abbrev mapped : List (List Name × Name)
+  mapped = map mapping_joint s.mappings
+
+  -- a node that is black by itself is black
+  seed-black : (x : Name) (state : NodeState) → Among (node x state) s.nodes → is_seed v s (node x state) ≡ true → BlackIn v s x
+  seed-black x state i e = derive-root (seeds v s) s.references mapped x
+      (Among-map (λ (n : Node). n.name) (node x state) (filter (is_seed v s) s.nodes) (Among-filter (is_seed v s) (node x state) s.nodes i e))
+
+  -- a noted reference takes black along
+  noted-black : (x y : Name) → Among (x, y) s.references → BlackIn v s x → BlackIn v s y
+  noted-black x y i b = derive-along (seeds v s) s.references mapped x y i b
+
+  -- a script node that is black in the heaps is black
+  script-black : (x : Name) → is_script x ≡ true → Among x v.black → IsNode s x → BlackIn v s x
+  script-black (name.Native i) e b n = absurd (false≢true e)
+  script-black (name.Script i) e b n = let k = state-of s (object i.0) n in
+      seed-black (object i.0) k.0 k.1 (has-there same_name same_name-exact v.black (object i.0) b)
+  script-black (name.Reflector i) e b n = let k = state-of s (reflector i.0) n in
+      seed-black (reflector i.0) k.0 k.1 (has-there same_name same_name-exact v.black (reflector i.0) b)
+
+  -- what is black is a node
+  black-node : (x : Name) → BlackIn v s x → IsNode s x
+  black-node = derived-within (seeds v s) s.references mapped (IsNode s)
+      seed-node (λ x y i n. fresh.to_node x y i)
+      (λ ps y i f. let k = Among-map_cases mapping_joint s.mappings (ps, y) i in
+      subst (IsNode s) (ap (λ (e : List Name × Name). e.1) k.2) (fresh.members k.0 k.1).value)
+    where
+      seed-node : (x : Name) → Among x (seeds v s) → IsNode s x
+      seed-node x i =
+          let k = Among-map_cases (λ (n : Node). n.name) (filter (is_seed v s) s.nodes) x i in
+          subst (IsNode s) k.2 (Among-map (λ (n : Node). n.name) k.0 s.nodes (Among-filtered (is_seed v s) k.0 s.nodes k.1))
+
+  -- Nodes whose object is there
+
+  -- what lives is not gone
+  living-not_gone : (x : Name) → IsLiving v x → ¬ (Among (node x gone) s.nodes)
+  living-not_gone x l g = let d = fresh.gone_is_dead x g in d.4 l
+
+  -- a node that holds something was traversed
+  holder-traversed : (x y : Name) → Among (x, y) v.edges → IsNode s x → IsTraversedNode s x
+  holder-traversed x y e n = alive-traversed made v s fresh all x n
+      (λ g. let d = fresh.gone_is_dead x g in d.4 (subst (IsLiving v) (sym d.1) (sound.source_lives d.0 y (subst (λ z. Among (z, y) v.edges) d.1 e))))
+
+  -- References that are not noted
+
+  -- no more is noted of a node than its object has
+  noted-below : (u : Name) (c : ℕ) → IsOutside v u c → (x : Name) → count_by (between x u) s.references ≤ count_by (between x u) v.edges
+  noted-below u c out x = ⊎_elim
+      (λ some.
+      let k = counted_is (between x u) s.references some in
+      let i : Among (x, u) s.references = subst (λ r. Among r s.references) (between-true x u k.0 k.2) k.1 in
+      omega (arith, fresh.as_held u c x out (from-traversed made v s fresh x u i)))
+      (λ none. omega arith)
+      (cases_lt 0 (count_by (between x u) s.references))
+
+  -- one reference more than is noted makes a node black
+  excess-black : (i c : ℕ) → Among (native i, c) v.natives → IsNode s (native i) →
+      (IsOutside v (native i) c → noted_to s (native i) < c) → BlackIn v s (native i)
+  excess-black i c l n excess = ⊎_elim
+      (λ b. let k = state-of s (native i) n in
+      seed-black (native i) k.0 k.1 (or_left (has same_name v.buffer (native i)) (is_above s (native i) k.0) (has-there same_name same_name-exact v.buffer (native i) b)))
+      (λ out.
+      let t = alive-traversed made v s fresh all (native i) n (living-not_gone (native i) (c, l)) in
+      let e : t.0 ≡ Some c = fresh.sampled (native i) c t.0 (l, out) t.1 in
+      let here : Among (node (native i) (traversed (Some c))) s.nodes = subst (λ z. Among (node (native i) (traversed z)) s.nodes) e t.1 in
+      seed-black (native i) (traversed (Some c)) here
+      (or_right (has same_name v.buffer (native i)) (is_above s (native i) (traversed (Some c))) (lt-ltb (noted_to s (native i)) c (excess (l, out)))))
+      (Among_or_not same_name same_name-exact v.buffer (native i))
+
+  -- a register's reference is not noted
+  register-black : (i : ℕ) → Among (native i) v.registers → IsNode s (native i) → BlackIn v s (native i)
+  register-black i held n =
+      let l = sound.held_lives i held in
+      excess-black i l.0 l.1 n (λ out.
+      let below : noted_to s (native i) ≤ count_by (to (native i)) v.edges =
+      count_by-below same_name same_name-exact (to (native i)) (λ r. r.0) (to (native i)) (λ r. r.0) s.references v.edges (noted-below (native i) l.0 out) in
+      let one : 0 < count_by (same_name (native i)) v.registers = count_by-some (same_name (native i)) (native i) v.registers held (same_name-refl (native i)) in
+      omega (arith, sound.counts (native i) l.0 l.1))
+
+  -- nor is one of an edge from where nothing was noted
+  unnoted-black : (x : Name) (i : ℕ) → Among (x, native i) v.edges → count_by (between x (native i)) s.references ≤ 0 → IsNode s (native i) → BlackIn v s (native i)
+  unnoted-black x i held none n =
+      let l = sound.target_lives x i held in
+      excess-black i l.0 l.1 n (λ out.
+      let one : 0 < count_by (between x (native i)) v.edges = count_by-some (between x (native i)) (x, native i) v.edges held (between-refl x (native i)) in
+      let less : noted_to s (native i) < count_by (to (native i)) v.edges =
+      count_by-less same_name same_name-exact (to (native i)) (λ r. r.0) (to (native i)) (λ r. r.0) s.references v.edges x (noted-below (native i) l.0 out) (omega arith) in
+      omega (arith, sound.counts (native i) l.0 l.1))
+
+  -- What is reached
+
+  -- a native that is a node is black; a script object is black in the heaps or in the snapshot
+  abbrev Kept : Name → Type 0
+  Kept (name.Native i) = IsNode s (native i.0) → BlackIn v s (native i.0)
+  Kept (name.Script i) = Among (object i.0) v.black ⊎ BlackIn v s (object i.0)
+  Kept (name.Reflector i) = Among (reflector i.0) v.black ⊎ BlackIn v s (reflector i.0)
+
+  -- then a node is black
+  kept-black : (x : Name) → Kept x → IsNode s x → BlackIn v s x
+  kept-black (name.Native i) k n = k n
+  kept-black (name.Script i) k n = ⊎_elim (λ b. script-black (object i.0) refl b n) (λ b. b) k
+  kept-black (name.Reflector i) k n = ⊎_elim (λ b. script-black (reflector i.0) refl b n) (λ b. b) k
+
+  -- and a script object is black in the heaps or in the snapshot
+  script-kept : (x : Name) → is_script x ≡ true → Among x v.black ⊎ BlackIn v s x → Kept x
+  script-kept (name.Native i) e k = absurd (false≢true e)
+  script-kept (name.Script i) e k = k
+  script-kept (name.Reflector i) e k = k
+
+  -- what a register holds is kept
+  root-kept : (x : Name) → Among x v.registers → Kept x
+  root-kept (name.Native i) held = register-black i.0 held
+  root-kept (name.Script i) held = inl (fresh.colours.held_black (object i.0) held refl)
+  root-kept (name.Reflector i) held = inl (fresh.colours.held_black (reflector i.0) held refl)
+
+  -- a gray object that a node holds is black in the snapshot, where the node is
+  gray-black : (x y : Name) → Among (x, y) v.edges → Among y v.gray → IsNode s x → Kept x → BlackIn v s y
+  gray-black x y e g n k = noted-black x y (fresh.gray_noted x y (holder-traversed x y e n) e g) (kept-black x k n)
+
+  -- a native that an edge leads to is kept
+  native-kept : (x : Name) (i : ℕ) → Among (x, native i) v.edges → Kept x → Kept (native i)
+  native-kept x i e k n = ⊎_elim
+      (λ some.
+      let c = counted_is (between x (native i)) s.references some in
+      let r : Among (x, native i) s.references = subst (λ r. Among r s.references) (between-true x (native i) c.0 c.2) c.1 in
+      noted-black x (native i) r (kept-black x k (fresh.from_node x (native i) r)))
+      (λ none. unnoted-black x i e none n)
+      (cases_lt 0 (count_by (between x (native i)) s.references))
+
+  -- a script object that an edge leads to is kept
+  held-kept : (x y : Name) → is_script y ≡ true → Among (x, y) v.edges → Kept x → Kept y
+  held-kept x y e m k = script-kept y e (⊎_elim (λ b. inl b) (λ g. from x m k g) (black-or_gray v fresh.colours y (sound.target_there x y m e)))
+    where
+      from : (x : Name) → Among (x, y) v.edges → Kept x → Among y v.gray → Among y v.black ⊎ BlackIn v s y
+      from (name.Native i) m k g = inr (gray-black (native i.0) y m g (fresh.gray_held i.0 y m g) k)
+      from (name.Script i) m k g = ⊎_elim (λ b. absurd (fresh.colours.black_to_black (object i.0) y b m g))
+          (λ b. inr (gray-black (object i.0) y m g (black-node (object i.0) b) k)) k
+      from (name.Reflector i) m k g = ⊎_elim (λ b. absurd (fresh.colours.black_to_black (reflector i.0) y b m g))
+          (λ b. inr (gray-black (reflector i.0) y m g (black-node (reflector i.0) b) k)) k
+
+  -- what an edge leads to is kept
+  along-kept : (x y : Name) → Among (x, y) v.edges → Kept x → Kept y
+  along-kept x (name.Native i) m k = native-kept x i.0 m k
+  along-kept x (name.Script i) m k = held-kept x (object i.0) refl m k
+  along-kept x (name.Reflector i) m k = held-kept x (reflector i.0) refl m k
+
+  -- a premise of an entry's mapping is a node, and kept where the entry's member is
+  member-black : (m : Option Name) (x : Name) → MemberOf v m x → MemberIsNode s m → Kept x → (p : Name) → Among p (option_to_list m) → BlackIn v s p
+  member-black None x o n k p i = absurd i
+  member-black (Some y) x o n k p i = ⊎_elim
+      (λ e. let same : y ≡ x = cc in
+      ⊎_elim (λ q. subst (BlackIn v s) q (subst (BlackIn v s) (sym same) (kept-black x k (subst (IsNode s) same n)))) (λ t. absurd t) i)
+      (λ b. let none : Some y ≡ None = b.0 in absurd (cc)) o
+
+  -- the value of an entry is kept where map and key are
+  valued-kept : (e : Entry) → Among e v.entries → Kept e.the_map → Kept e.key → Kept e.value
+  valued-kept e i first second =
+      let there = sound.value_there e i in
+      script-kept e.value (sound.scripts e.value there) (⊎_elim (λ b. inl b) (λ g.
+      let m = fresh.gray_value e i g in
+      let nodes = fresh.members m.0 m.1 in
+      inr (subst (BlackIn v s) m.2.value
+      (derive-jointly (seeds v s) s.references mapped (mapping_joint m.0).0 m.0.value (Among-map mapping_joint m.0 s.mappings m.1)
+      (λ p j. ⊎_elim
+      (member-black m.0.the_map e.the_map m.2.the_map nodes.the_map first p)
+      (member-black m.0.key e.key m.2.key nodes.key second p)
+      (Among-append p (option_to_list m.0.the_map) (option_to_list m.0.key) j)))))
+      (black-or_gray v fresh.colours e.value there))
+
+  -- what is reached is kept
+  reached-kept : (x : Name) → ReachedIn v x → Kept x
+  reached-kept = derived-within v.registers v.edges (joints v.entries) Kept root-kept along-kept
+      (λ qs y i f.
+      let k = Among-map_cases joint v.entries (qs, y) i in
+      let first : Among k.0.the_map qs = subst (Among k.0.the_map) (ap (λ (e : List Name × Name). e.0) k.2) (inl refl) in
+      let second : Among k.0.key qs = subst (Among k.0.key) (ap (λ (e : List Name × Name). e.0) k.2) (inr (inl refl)) in
+      subst Kept (ap (λ (e : List Name × Name). e.1) k.2) (valued-kept k.0 k.1 (f k.0.the_map first) (f k.0.key second)))
+
+  -- A native that is white is unreached.
+  pub white-unreached : (i : ℕ) → IsWhite v s (native i) → ¬ (ReachedIn v (native i))
+  white-unreached i w reached =
+      let test : Name → Bool = is_white v (black_in v s) in
+      let n : IsNode s (native i) = Among-filtered test (native i) (node_names s) w in
+      let passes : test (native i) ≡ true = Among-passes test (native i) (node_names s) w in
+      let off : has same_name (black_in v s) (native i) ≡ false =
+      not-true (has same_name (black_in v s) (native i)) (and_parts (is_there v (native i)) (not (has same_name (black_in v s) (native i))) passes).1 in
+      let on : has same_name (black_in v s) (native i) ≡ true =
+      (closure-decides same_name same_name-exact (black_in_rules v s) (native i)).1 (reached-kept (native i) reached n) in
+      true≢false (sym on ∙ off)
