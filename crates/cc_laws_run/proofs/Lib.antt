@@ -1,0 +1,17 @@
+pub mod LoyalSuspected
+pub mod BufferMarks
+pub mod NamesAndEdges
+pub mod CascadeLoses
+pub mod Handing
+pub mod Handed
+pub mod StillNatives
+pub mod CommandsLoyal
+pub mod GivingBack
+pub mod LosesBut
+pub mod Unrooting
+pub mod CascadeBeside
+pub mod SparedSound
+pub mod SweepLoses
+pub mod UncoveredWhite
+pub mod UnlinkLoses
+pub mod EndSuspected

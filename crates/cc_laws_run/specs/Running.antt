@@ -1,0 +1,44 @@
+-- A MACHINE THAT RUNS, beside the graph and the names that a census would list.
+use Rattle.std.specs.Prelude.{◌≡◌, Bool, true, false, [], Option, Some, None}
+use Rattle.cc_model.specs.declared.command.Command.TheVariants.{Slice, Collect, Gc}
+use Rattle.cc_model.specs.Ranges.{in_range}
+use Rattle.cc_model.specs.Asks.{Ask, long, bad, taken}
+use Rattle.cc_model.specs.Heap.{Heap}
+use Rattle.cc_model.specs.View.{view}
+use Rattle.cc_model.specs.WellMade.{IsWellMade}
+use Rattle.cc_model.specs.StandsFor.{StandsFor}
+use Rattle.cc_model.specs.Colours.{HasColourInvariant}
+use Rattle.cc_model.specs.Snapshot.{Snapshot}
+use Rattle.cc_model.specs.Fresh.{IsFresh}
+use Rattle.cc_model.specs.Listed.{census_order}
+use Rattle.cc_model.specs.Lawful.{State}
+use Rattle.cc_model.specs.Collecting.{Machine}
+use Rattle.cc_model.specs.Run.{census_names}
+use Rattle.cc_laws_heap.specs.Sound.{IsSound}
+
+-- the snapshot of the running collection is fresh
+abbrev pub IsFreshNow : Heap → Option Snapshot → Type 0
+IsFreshNow h None = Unit {0}
+IsFreshNow h (Some s) = IsFresh h.natives_made (view h) s
+
+-- the heaps are sound and stand for the graph, their snapshot is fresh, and their objects are those listed
+pub record IsRunning (m : Machine) (s : State) : Type 0 where
+  pub sound : IsSound [] m.heap
+  pub colours : HasColourInvariant (view m.heap)
+  pub fresh : IsFreshNow m.heap m.snapshot
+  pub well_made : IsWellMade s.graph
+  pub stands : StandsFor m.heap s.graph
+  pub listed : census_names m.heap ≡ census_order s.listed
+
+-- the numbers of an ask are in range
+abbrev pub ask_in_range : Ask → Bool
+ask_in_range long = true
+ask_in_range bad = true
+ask_in_range (taken c) = in_range c
+
+-- an ask that moves no collection
+abbrev pub moves_no_collection : Ask → Bool
+moves_no_collection (taken (Slice u)) = false
+moves_no_collection (taken Collect) = false
+moves_no_collection (taken Gc) = false
+moves_no_collection ask = true
