@@ -15,3 +15,10 @@ pub mod SweepLoses
 pub mod UncoveredWhite
 pub mod UnlinkLoses
 pub mod EndSuspected
+pub mod Listing
+pub mod NamesKept
+pub mod NamesAfter
+pub mod ListedAfter
+pub mod CommandCases
+pub mod Answered
+pub mod RunsOn

@@ -4,5 +4,7 @@
 #![tactic(auto)]
 
 mod suspected;
+mod turns;
 
 pub use suspected::{collections_keep_suspected, commands_keep_suspected};
+pub use turns::commands_are_lawful;

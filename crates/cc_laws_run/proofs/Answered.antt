@@ -1,0 +1,191 @@
+-- EACH ASK THAT MOVES NO COLLECTION IS ANSWERED LAWFULLY.
+use Rattle.std.proofs.Common.{◌≡◌, ℕ, ◌+◌, ◌≤◌, true, not, List, [], ◌∷◌, map, length, Option, Some, None, is_none, refl, sym, ◌∙◌, ap, subst, inl, inr, ⊎_elim, arith}
+use Rattle.std.specs.Prelude.{IsTrue, nat_le}
+use Rattle.std.proofs.lemmas.Bool.{true≢false, false≢true, and_parts, le-leb}
+use Rattle.cc_lists.specs.Members.{Among, without}
+use Rattle.cc_lists.proofs.Members.{Among-map, Among-filter, Among-append}
+use Rattle.cc_names.specs.declared.name.Name.{Name}
+use Rattle.cc_names.specs.declared.name.Name.TheVariants as name
+use Rattle.cc_names.specs.declared.register.Reg.TheVariants.{N, S}
+use Rattle.cc_names.specs.Names.{native, same_name, number_of}
+use Rattle.cc_model.specs.declared.command.Command.{Command}
+use Rattle.cc_model.specs.declared.command.Command.TheVariants.{Nothing, Native, Script, WeakMap, SetEntry, Wrap, Slice, Collect, Gc, Census}
+use Rattle.cc_model.specs.declared.item.Event.{Event}
+use Rattle.cc_model.specs.declared.item.Refusal.{Refusal}
+use Rattle.cc_model.specs.declared.item.Refusal.TheVariants.{NoMemory}
+use Rattle.cc_model.specs.declared.item.Reply.{Reply}
+use Rattle.cc_model.specs.declared.item.Reply.TheVariants.{Refused, Census as counted}
+use Rattle.cc_model.specs.Answers.{listing}
+use Rattle.cc_model.specs.Asks.{Ask, long, bad, taken}
+use Rattle.cc_model.specs.Ranges.{in_range}
+use Rattle.cc_model.specs.Checks.{refusal_of, reply_if_taken, refused_or, reflector_of}
+use Rattle.cc_model.specs.Graph as graph
+use Rattle.cc_model.specs.Graph.{Graph, step}
+use Rattle.cc_model.specs.Reached.{Reached}
+use Rattle.cc_model.specs.Heap as heap
+use Rattle.cc_model.specs.Heap.{Heap, objects_of, has_reflector}
+use Rattle.cc_model.specs.Effects.{effects, takes_memory, lacks_reflector}
+use Rattle.cc_model.specs.WellFormed.{native_names, script_names}
+use Rattle.cc_model.specs.Counts.{times}
+use Rattle.cc_model.specs.Listed.{census_order}
+use Rattle.cc_model.specs.Lawful.{State, AnswersAsk, AnswersCommand, ReplyAnswers, EachMayBe, may_want_memory, is_listed, is_refused, is_abandoning, has_none, has_abandonment_in_place, runs, runs_allowed, unlinked_numbers}
+use Rattle.cc_model.specs.Collecting.{Machine}
+use Rattle.cc_model.specs.Run.{Turn, mutate, do_ask}
+use Rattle.cc_laws_heap.proofs.Freed.{freed_event}
+use Rattle.cc_laws_heap.proofs.EndingEvents.{TellsOf-freed}
+use Rattle.cc_laws_heap.proofs.NameLists.{same_name-other}
+use Rattle.cc_laws_heap.proofs.References.{times-some, times-cons_same, times-cons}
+use Rattle.cc_laws_heap.proofs.RepliesAlike.{refusal_of-alike, reply_if_taken-alike, objects-stand}
+use Rattle.cc_laws_heap.proofs.Taken.{IsTaken-from}
+use Rattle.cc_laws_heap.proofs.CommandsStand.{freed-unreached}
+use Rattle.cc_laws_run.specs.Running.{IsRunning, ask_in_range, moves_no_collection}
+use Rattle.cc_laws_run.proofs.Listing.{AreListed, native-listed, length-census_order}
+use Rattle.cc_laws_run.proofs.NamesAfter.{NamesAfter, made_natives, made_scripts, effects-names}
+use Rattle.cc_laws_run.proofs.ListedAfter.{AreListed-heap, has-listed_reflector, made-not_freed}
+use Rattle.cc_laws_run.proofs.CommandCases.{mutate-cases, taken-not_refused, graph_after-taken}
+
+-- the heaps refuse what the graph refuses
+pub refusals-agree : (m : Machine) (s : State) (c : Command) → IsRunning m s → refusal_of (graph.objects_of s.graph) c ≡ refusal_of (objects_of m.heap) c
+refusals-agree m s c r = sym (refusal_of-alike (objects_of m.heap) (graph.objects_of s.graph) (objects-stand m.heap s.graph r.stands) c)
+
+-- the names of the heaps are listed
+pub running-listed : (m : Machine) (s : State) → IsRunning m s → AreListed s.listed (native_names m.heap) (script_names m.heap)
+running-listed m s r = AreListed-heap m.heap s.listed r.sound.well_formed r.listed
+
+-- Events
+
+-- free lines tell no abandonment
+has_none-freed : (ks : List ℕ) → has_none (map freed_event ks) ≡ true
+has_none-freed [] = refl
+has_none-freed (k ∷ ks) = has_none-freed ks
+
+-- where no collection moves, an abandonment is out of place
+abandonment-none : (c : Command) (reply : Reply) (events : List Event) → IsTrue (moves_no_collection (taken c)) → has_none events ≡ true →
+    IsTrue (has_abandonment_in_place c reply events)
+abandonment-none (Slice u) reply events t e = absurd (false≢true t)
+abandonment-none Collect reply events t e = absurd (false≢true t)
+abandonment-none Gc reply events t e = absurd (false≢true t)
+abandonment-none c reply events t e = e
+
+-- nothing unlinked makes no run
+rising-none : (c : Command) (events : List Event) → unlinked_numbers events ≡ [] → IsTrue (nat_le (runs (unlinked_numbers events)) (runs_allowed c))
+rising-none c events e = subst (λ ks. IsTrue (nat_le (runs ks) (runs_allowed c))) (sym e) (le-leb 0 (runs_allowed c) (omega arith))
+
+-- distinct natives that were listed and that nothing reaches may be freed one after another
+each-freed : (g : Graph) (c : Command) (ks : List ℕ) (names : List Name) → ((k : ℕ) → times k ks ≤ 1) → ((k : ℕ) → Among k ks → Among (native k) names) →
+    ((k : ℕ) → Among k ks → ¬ (Reached g (native k))) → EachMayBe g names c (map freed_event ks)
+each-freed g c [] names once there unreached = tt
+each-freed g c (k ∷ ks) names once there unreached = (
+  (there k (inl refl), unreached k (inl refl), refl),
+  each-freed g c ks (without same_name (native k) names)
+      (λ j. omega (arith, once j, times-cons j k ks))
+      (λ j m. Among-filter (λ y. not (same_name y (native k))) (native j) names (there j (inr m))
+      (ap not (same_name-other (native j) (native k) (λ e. later j m (ap number_of e)))))
+      (λ j m. unreached j (inr m)),
+)
+  where
+    later : (j : ℕ) → Among j ks → j ≡ k → ⊥
+    later j m e =
+        let first : times j (k ∷ ks) ≡ 1 + times j ks = subst (λ i. times j (i ∷ ks) ≡ 1 + times j ks) e (times-cons_same j ks) in
+        absurd (omega (arith, once j, first, times-some j ks m))
+
+-- Refusals
+
+-- a command that the graph refuses
+refused-answers : (s : State) (c : Command) (refusal : Refusal) → refusal_of (graph.objects_of s.graph) c ≡ Some refusal →
+    IsTrue (moves_no_collection (taken c)) → AnswersCommand s c (Refused refusal) []
+refused-answers s c refusal e t = record {
+  replies = inl (sym (ap (λ o. refused_or o (reply_if_taken (graph.objects_of s.graph) c)) e));
+  quiet = λ f. refl;
+  each = tt;
+  rising = rising-none c [] refl;
+  abandonment = abandonment-none c (Refused refusal) [] t refl;
+}
+
+-- what takes memory may want it
+takes-may_want : (m : Machine) (s : State) (c : Command) → IsRunning m s → takes_memory m.heap c ≡ true → IsTrue (may_want_memory s c)
+takes-may_want m s (Native d n) r t = refl
+takes-may_want m s (Script d n) r t = refl
+takes-may_want m s (WeakMap d) r t = refl
+takes-may_want m s (Slice u) r t = refl
+takes-may_want m s Collect r t = refl
+takes-may_want m s (SetEntry x k (Some v)) r t = sym (ap is_none ((objects-stand m.heap s.graph r.stands).value (S x) (S k))) ∙ t
+takes-may_want m s (Wrap d n) r t =
+    subst (λ x. not (is_listed s.listed (reflector_of x)) ≡ true) ((objects-stand m.heap s.graph r.stands).register (N n))
+    (go (heap.register m.heap (N n)) t)
+  where
+    go : (x : Option Name) → lacks_reflector m.heap x ≡ true → not (is_listed s.listed (reflector_of x)) ≡ true
+    go None e = absurd (false≢true e)
+    go (Some (name.Native k)) e = ap not (has-listed_reflector m.heap s.listed (native_names m.heap) k.0 (running-listed m s r)) ∙ e
+    go (Some (name.Script k)) e = absurd (false≢true e)
+    go (Some (name.Reflector k)) e = absurd (false≢true e)
+takes-may_want m s c r t = absurd (false≢true t)
+
+-- a command that wants memory
+unmet-answers : (m : Machine) (s : State) (c : Command) → IsRunning m s → refusal_of (objects_of m.heap) c ≡ None → takes_memory m.heap c ≡ true →
+    IsTrue (moves_no_collection (taken c)) → AnswersCommand s c (Refused NoMemory) []
+unmet-answers m s c r e f t = record {
+  replies = inr (record { refused = refl; command_may = takes-may_want m s c r f; no_other = refusals-agree m s c r ∙ e });
+  quiet = λ q. refl;
+  each = tt;
+  rising = rising-none c [] refl;
+  abandonment = abandonment-none c (Refused NoMemory) [] t refl;
+}
+
+-- Commands done
+
+-- a command that is done
+done-answers : (m : Machine) (s : State) (c : Command) → IsRunning m s → IsTrue (in_range c) → refusal_of (objects_of m.heap) c ≡ None →
+    IsTrue (moves_no_collection (taken c)) → AnswersCommand s c (reply_if_taken (objects_of m.heap) c) (effects m.heap c).events
+done-answers m s c r i e t = record {
+  replies = inl (reply_if_taken-alike (objects_of m.heap) (graph.objects_of s.graph) (objects-stand m.heap s.graph r.stands) c
+      ∙ sym (ap (λ o. refused_or o (reply_if_taken (graph.objects_of s.graph) c)) (refusals-agree m s c r ∙ e)));
+  quiet = λ q. absurd (true≢false (sym (and_parts (is_refused reply) (not (is_abandoning c reply)) q).0 ∙ taken-not_refused (objects_of m.heap) c));
+  each = subst (λ g. EachMayBe g s.listed c (effects m.heap c).events) (sym (graph_after-taken s.graph (objects_of m.heap) c))
+      (subst (λ es. EachMayBe (step s.graph c) s.listed c es) (sym n.told) (each-freed (step s.graph c) c ks s.listed n.once there unreached));
+  rising = rising-none c (effects m.heap c).events (ap unlinked_numbers n.told ∙ (TellsOf-freed ks).unlinked_told);
+  abandonment = abandonment-none c reply (effects m.heap c).events t (ap has_none n.told ∙ has_none-freed ks);
+}
+  where
+    reply : Reply
+    reply = reply_if_taken (objects_of m.heap) c
+
+    names : (ks : List ℕ) × NamesAfter m.heap (effects m.heap c) ks (made_natives m.heap c) (made_scripts m.heap c)
+    names = effects-names m.heap c r.sound i (IsTaken-from (objects_of m.heap) c e)
+
+    ks : List ℕ
+    ks = names.0
+
+    n : NamesAfter m.heap (effects m.heap c) ks (made_natives m.heap c) (made_scripts m.heap c)
+    n = names.1
+
+    there : (k : ℕ) → Among k ks → Among (native k) s.listed
+    there k j = native-listed s.listed (native_names m.heap) (script_names m.heap) (running-listed m s r) (native k)
+        (⊎_elim (λ l. l) (λ l. absurd (made-not_freed m.heap s.graph c ks r.sound r.well_made r.stands i e n.told k j l))
+        (Among-append (native k) (native_names m.heap) (made_natives m.heap c) (n.were_there k j)))
+
+    unreached : (k : ℕ) → Among k ks → ¬ (Reached (step s.graph c) (native k))
+    unreached k j = freed-unreached m.heap s.graph c (native k) r.sound r.well_made r.stands i e
+        (subst (λ es. Among (freed_event k) es) (sym n.told) (Among-map freed_event k ks j))
+
+-- A command of the mutator is answered lawfully.
+mutate-answers : (m : Machine) (s : State) (c : Command) → IsRunning m s → IsTrue (in_range c) → IsTrue (moves_no_collection (taken c)) →
+    ((mutate m c).answer.listed ≡ []) × ReplyAnswers s c (mutate m c).answer (mutate m c).answer.reply
+mutate-answers m s c r i t = mutate-cases m c (λ (u : Turn). (u.answer.listed ≡ []) × ReplyAnswers s c u.answer u.answer.reply)
+    (λ refusal e. (refl, refused-answers s c refusal (refusals-agree m s c r ∙ e) t))
+    (λ e f. (refl, unmet-answers m s c r e f t))
+    (λ e memory. (refl, done-answers m s c r i e t))
+
+-- EACH ASK THAT MOVES NO COLLECTION IS ANSWERED LAWFULLY.
+pub ask-answers : (m : Machine) (s : State) (ask : Ask) → IsRunning m s → IsTrue (ask_in_range ask) → IsTrue (moves_no_collection ask) →
+    AnswersAsk s ask (do_ask m ask).answer
+unfolding do_ask
+ask-answers m s long r i t = refl
+ask-answers m s bad r i t = refl
+ask-answers m s (taken Nothing) r i t = refl
+ask-answers m s (taken Census) r i t = ap (λ (xs : List Name). listing xs (counted (length xs))) r.listed
+    ∙ ap (λ k. listing (census_order s.listed) (counted k)) (length-census_order s.listed)
+ask-answers m s (taken (Slice u)) r i t = absurd (false≢true t)
+ask-answers m s (taken Collect) r i t = absurd (false≢true t)
+ask-answers m s (taken Gc) r i t = absurd (false≢true t)
+ask-answers m s (taken c) r i t = mutate-answers m s c r i t

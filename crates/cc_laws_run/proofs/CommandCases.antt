@@ -1,0 +1,106 @@
+-- A COMMAND OF THE MUTATOR IS REFUSED, OR WANTS MEMORY, OR IS DONE: what then becomes of the graph and of the listed names.
+use Rattle.std.proofs.Common.{◌≡◌, Bool, true, false, not, ◌&&◌, List, [], Option, Some, None, refl, ap}
+use Rattle.std.proofs.lemmas.Bool.{true≢false}
+use Rattle.cc_names.specs.declared.name.Name.{Name}
+use Rattle.cc_names.specs.declared.register.Reg.TheVariants.{N, S}
+use Rattle.cc_model.specs.declared.command.Command.{Command}
+use Rattle.cc_model.specs.declared.command.Command.TheVariants.{Native, Script, WeakMap, CopyNative, CopyScript, Get, Take, Wrap, Unwrap, GetEntry, Expose}
+use Rattle.cc_model.specs.declared.item.Refusal.{Refusal}
+use Rattle.cc_model.specs.declared.item.Refusal.TheVariants.{NoMemory}
+use Rattle.cc_model.specs.declared.item.Reply.{Reply}
+use Rattle.cc_model.specs.declared.item.Reply.TheVariants.{Refused}
+use Rattle.cc_model.specs.Asks.{taken}
+use Rattle.cc_model.specs.Answers.{replying}
+use Rattle.cc_model.specs.Checks.{Objects, refusal_of, reply_if_taken, named_or_nothing, slot_at, value_at, reflector_of, native_of}
+use Rattle.cc_model.specs.Graph as graph
+use Rattle.cc_model.specs.Graph.{Graph, changed, step}
+use Rattle.cc_model.specs.Heap.{objects_of}
+use Rattle.cc_model.specs.Effects.{effects, takes_memory}
+use Rattle.cc_model.specs.Listed.{listed}
+use Rattle.cc_model.specs.Lawful.{State, next, graph_after, is_refused, is_without_memory}
+use Rattle.cc_model.specs.Collecting.{Machine, next_answer, later_answers}
+use Rattle.cc_model.specs.Run.{Turn, answering, with_effects, with_answer_used, unless_refused, mutate}
+
+-- Whatever holds where the command is refused, where it wants memory and where it is done, holds of the turn.
+pub mutate-cases : (m : Machine) (c : Command) (P : Turn → Type 0) →
+    ((refusal : Refusal) → refusal_of (objects_of m.heap) c ≡ Some refusal → P (answering m [] (Refused refusal))) →
+    (refusal_of (objects_of m.heap) c ≡ None → takes_memory m.heap c ≡ true → P (answering (record m { memory = later_answers m.memory }) [] (Refused NoMemory))) →
+    (refusal_of (objects_of m.heap) c ≡ None → (memory : List Bool) →
+    P (with_effects (record m { memory = memory }) (reply_if_taken (objects_of m.heap) c) (effects m.heap c))) →
+    P (mutate m c)
+unfolding mutate
+mutate-cases m c P refused unmet done = go (refusal_of (objects_of m.heap) c) refl
+  where
+    granted : refusal_of (objects_of m.heap) c ≡ None → (takes : Bool) → takes_memory m.heap c ≡ takes → (there : Bool) → P (elim (takes && not there) [
+      | true ↦ answering (with_answer_used m takes) [] (Refused NoMemory)
+      | false ↦ with_effects (with_answer_used m takes) (reply_if_taken (objects_of m.heap) c) (effects m.heap c)
+    ])
+    granted e true t true = done e (later_answers m.memory)
+    granted e true t false = unmet e t
+    granted e false t there = done e m.memory
+
+    go : (o : Option Refusal) → refusal_of (objects_of m.heap) c ≡ o → P (unless_refused m c o)
+    go (Some refusal) e = refused refusal e
+    go None e = granted e (takes_memory m.heap c) refl (next_answer m.memory)
+
+-- Replies
+
+-- a name, or that nothing is there, is no refusal
+named-not_refused : (x : Option Name) → is_refused (named_or_nothing x) ≡ false
+named-not_refused None = refl
+named-not_refused (Some x) = refl
+
+-- the reply to a command that is not refused is no refusal
+pub taken-not_refused : (o : Objects) (c : Command) → is_refused (reply_if_taken o c) ≡ false
+unfolding reply_if_taken
+taken-not_refused o (CopyNative d s) = named-not_refused (o.register (N s))
+taken-not_refused o (CopyScript d s) = named-not_refused (o.register (S s))
+taken-not_refused o (Get r s i) = named-not_refused (slot_at o (N s) i)
+taken-not_refused o (Take d s i) = named-not_refused (slot_at o (S s) i)
+taken-not_refused o (Wrap d s) = named-not_refused (reflector_of (o.register (N s)))
+taken-not_refused o (Unwrap d s) = named-not_refused (native_of (o.register (S s)))
+taken-not_refused o (GetEntry d m k) = named-not_refused (value_at o (o.register (S m)) (o.register (S k)))
+taken-not_refused o (Expose s i) = named-not_refused (slot_at o (N s) i)
+taken-not_refused o c = refl
+
+-- what is no refusal is no want of memory
+not_refused-granted : (reply : Reply) → is_refused reply ≡ false → is_without_memory reply ≡ false
+not_refused-granted (Refused refusal) e = absurd (true≢false e)
+not_refused-granted reply e = refl
+
+-- The graph and the listed names
+
+-- a command that is done takes the graph to its step
+pub graph_after-taken : (g : Graph) (o : Objects) (c : Command) → graph_after g c (Some (reply_if_taken o c)) ≡ step g c
+graph_after-taken g o c = ap (λ b. elim b [ true ↦ g | false ↦ step g c ]) (not_refused-granted (reply_if_taken o c) (taken-not_refused o c))
+
+-- a command that is refused leaves the graph
+graph_after-refused : (g : Graph) (c : Command) (refusal : Refusal) → refusal_of (graph.objects_of g) c ≡ Some refusal →
+    graph_after g c (Some (Refused refusal)) ≡ g
+graph_after-refused g c refusal e = go (is_without_memory (Refused refusal))
+  where
+    go : (b : Bool) → elim b [ true ↦ g | false ↦ step g c ] ≡ g
+    go true = refl
+    go false = ap (λ o. graph.unless_refused o g (changed g c)) e
+
+-- a refusal lists nothing
+listed-refused : (names : List Name) (c : Command) (refusal : Refusal) → listed names c [] (Some (Refused refusal)) ≡ names
+listed-refused names (Native d n) refusal = refl
+listed-refused names (Script d n) refusal = refl
+listed-refused names (WeakMap d) refusal = refl
+listed-refused names (Wrap d s) refusal = refl
+listed-refused names c refusal = refl
+
+-- the state after a refusal that leaves the graph is the state before it
+next-state : (s : State) (c : Command) (refusal : Refusal) → graph_after s.graph c (Some (Refused refusal)) ≡ s.graph →
+    next s (taken c) (replying [] (Refused refusal)) ≡ s
+next-state s c refusal e = λ i. record { graph = e i; listed = listed-refused s.listed c refusal i }
+
+-- a command that is refused leaves the state
+pub next-refused : (s : State) (c : Command) (refusal : Refusal) → refusal_of (graph.objects_of s.graph) c ≡ Some refusal →
+    next s (taken c) (replying [] (Refused refusal)) ≡ s
+next-refused s c refusal e = next-state s c refusal (graph_after-refused s.graph c refusal e)
+
+-- and so does one that wants memory
+pub next-unmet : (s : State) (c : Command) → next s (taken c) (replying [] (Refused NoMemory)) ≡ s
+next-unmet s c = next-state s c NoMemory refl

@@ -1,0 +1,252 @@
+-- THE NAMES OF ALL OBJECTS AFTER A COMMAND: what it told as freed is there no more, what it made goes last.
+use Rattle.std.proofs.Common.{◌≡◌, ℕ, ◌+◌, ◌<◌, ◌≤◌, Bool, true, false, not, ◌||◌, List, [], ◌∷◌, ◌++◌, map, length, Option, Some, None, refl, sym, ◌∙◌, ap, subst, arith, option_map, slice_index_or, ◌==◌}
+use Rattle.std.specs.Prelude.{IsTrue}
+use Rattle.std.specs.List.{filter}
+use Rattle.std.proofs.Math.Path.{fun_ext}
+use Rattle.std.proofs.lemmas.Bool.{ltb-true, leb-false}
+use Rattle.std.proofs.lemmas.List.{append-nil, map_push}
+use Rattle.std.proofs.lemmas.Simd.{map-map}
+use Rattle.cc_lists.specs.Members.{Among, has}
+use Rattle.cc_names.specs.declared.name.Name.{Name}
+use Rattle.cc_names.specs.declared.name.Name.TheVariants as name
+use Rattle.cc_names.specs.declared.register.Reg.TheVariants.{N, S}
+use Rattle.cc_names.specs.declared.kind.Kind.{Kind}
+use Rattle.cc_names.specs.declared.kind.Kind.TheVariants.{Plain, Reflector, Map}
+use Rattle.cc_names.specs.Names.{native, object, reflector, same_name}
+use Rattle.cc_model.specs.declared.command.Command.{Command}
+use Rattle.cc_model.specs.declared.command.Command.TheVariants.{Nothing, Native, Script, WeakMap, CopyNative, CopyScript, Drop, Set, Get, Put, Take, Wrap, Unwrap, Preserve, SetEntry, GetEntry, Expose, Slice, Collect, Gc, Census}
+use Rattle.cc_model.specs.Slots.{reflector_slots}
+use Rattle.cc_model.specs.Ranges.{in_range, is_register, is_slots}
+use Rattle.cc_model.specs.Checks.{slot_at, slots_at, value_at, native_of, reflector_of}
+use Rattle.cc_model.specs.Heap.{Heap, HeapNative, HeapScript, Outcome, silently, register, source, objects_of, has_reflector, change_native, with_native_slot, set_register}
+use Rattle.cc_model.specs.Cascade.{take_up, let_go}
+use Rattle.cc_model.specs.Exposure.{exposed}
+use Rattle.cc_model.specs.Effects.{effects, put_in_register, hold_native, store_native, put_in_slot, with_native, make_native, with_script, with_reflector, make_object, hold_script, wrapped, put_in_script}
+use Rattle.cc_model.specs.WellFormed.{IsWellFormed, native_names, script_names, names_there}
+use Rattle.cc_model.specs.Counts.{times}
+use Rattle.cc_model.specs.Listed.{after_events}
+use Rattle.cc_laws_heap.specs.Sound.{IsSound}
+use Rattle.cc_laws_heap.specs.Freeing.{Frees}
+use Rattle.cc_laws_heap.specs.Rounds.{is_not_among}
+use Rattle.cc_laws_heap.proofs.Lists.{filter-map}
+use Rattle.cc_laws_heap.proofs.Freed.{freed_event}
+use Rattle.cc_laws_heap.proofs.Leaving.{numbers_there, Leave-frees}
+use Rattle.cc_laws_heap.proofs.HoldsTheSame.{HoldsTheSame-take_up, HoldsTheSame-add_ref}
+use Rattle.cc_laws_heap.proofs.Owning.{numbers_of, IsIn, take_up-sound}
+use Rattle.cc_laws_heap.proofs.Writes.{native_register-sound, native_slot-sound}
+use Rattle.cc_laws_heap.proofs.Making.{new_native}
+use Rattle.cc_laws_heap.proofs.MadeSound.{with_native-sound}
+use Rattle.cc_laws_heap.proofs.Holding.{IsIn-natives, IsIn-no_script, native_register-there, script_register-there, source-there, slot_at-there, native_of-there}
+use Rattle.cc_laws_heap.proofs.NativeCommands.{IsIn-take_up, HasSlot, HasSlot-take_up, put_in_slot-written, names_there-take_up, IsIn-made}
+use Rattle.cc_laws_heap.proofs.ScriptCommands.{blank}
+use Rattle.cc_laws_heap.proofs.Emptying.{let_go-frees}
+use Rattle.cc_laws_heap.proofs.Taken.{IsTaken}
+use Rattle.cc_laws_heap.proofs.CommandsSound.{below-first, few-slots}
+use Rattle.cc_laws_run.proofs.Listing.{after_events-freed}
+use Rattle.cc_laws_run.proofs.NamesKept.{SameNames, SameNames-refl, SameNames-trans, SameNames-alike, SameNames-change_native, SameNames-preserve, SameNames-put_in_script, SameNames-set_entry, SameNames-exposed}
+
+-- these natives and script objects went last, then the natives ks were told freed, each once, and are there no more; all
+-- others are there, in their order
+pub record NamesAfter (h : Heap) (o : Outcome) (ks : List ℕ) (natives scripts : List Name) : Type 0 where
+  pub told : o.events ≡ map freed_event ks
+  pub once : (k : ℕ) → times k ks ≤ 1
+  pub were_there : (k : ℕ) → Among k ks → Among (native k) (native_names h ++ natives)
+  pub natives_left : native_names o.heap ≡ after_events (native_names h ++ natives) (map freed_event ks)
+  pub scripts_left : script_names o.heap ≡ script_names h ++ scripts
+
+-- Nothing freed
+
+-- the same names, and script objects that went last
+NamesAfter-scripts : (h g : Heap) (scripts : List Name) → native_names g ≡ native_names h → script_names g ≡ script_names h ++ scripts →
+    NamesAfter h (silently g) [] [] scripts
+NamesAfter-scripts h g scripts e f = record {
+  told = refl;
+  once = λ k. omega arith;
+  were_there = λ k m. absurd m;
+  natives_left = e ∙ sym (append-nil (native_names h));
+  scripts_left = f;
+}
+
+-- the same names
+NamesAfter-same : (h g : Heap) → SameNames h g → (ks : List ℕ) × NamesAfter h (silently g) ks [] []
+NamesAfter-same h g s = ([], NamesAfter-scripts h g [] s.natives (s.scripts ∙ sym (append-nil (script_names h))))
+
+-- Natives freed
+
+-- a native stands among names of natives where its number stands among theirs
+has-natives : (ks : List ℕ) (k : ℕ) → has same_name (map native ks) (native k) ≡ has ◌==◌ ks k
+has-natives [] k = refl
+has-natives (j ∷ ks) k = ap (λ b. (j == k) || b) (has-natives ks k)
+
+-- names of natives by their numbers
+native_names-numbers : (h : Heap) → native_names h ≡ map native (numbers_there h)
+native_names-numbers h = sym (map-map native (λ (n : HeapNative). n.number) h.natives)
+
+-- what is left of the natives is what the free lines leave of their names
+native_names-freed : (h : Heap) (ks : List ℕ) (o : Outcome) → Frees h ks o → native_names o.heap ≡ after_events (native_names h) (map freed_event ks)
+native_names-freed h ks o f =
+    native_names-numbers o.heap
+    ∙ (ap (map native) ((Leave-frees h ks o f).numbers ∙ ap (λ p. filter p (numbers_there h)) (fun_ext (λ k. ap not (sym (has-natives ks k)))))
+    ∙ (sym (filter-map (is_not_among (map native ks)) native (numbers_there h))
+    ∙ (ap (filter (is_not_among (map native ks))) (sym (native_names-numbers h))
+    ∙ sym (after_events-freed ks (native_names h)))))
+
+-- natives freed after a native went last
+NamesAfter-frees : (h g : Heap) (natives : List Name) (ks : List ℕ) (o : Outcome) → native_names g ≡ native_names h ++ natives → script_names g ≡ script_names h →
+    Frees g ks o → NamesAfter h o ks natives []
+NamesAfter-frees h g natives ks o e s f = record {
+  told = f.told;
+  once = f.once;
+  were_there = λ k m. subst (λ xs. Among (native k) xs) e (f.were_there k m);
+  natives_left = native_names-freed g ks o f ∙ ap (λ xs. after_events xs (map freed_event ks)) e;
+  scripts_left = ap (map (λ (p : HeapScript). p.name)) f.beside.scripts ∙ (s ∙ sym (append-nil (script_names h)));
+}
+
+-- natives freed where the same names were there
+NamesAfter-freed : (h g : Heap) (o : Outcome) → SameNames h g → (ks : List ℕ) × Frees g ks o → (ks : List ℕ) × NamesAfter h o ks [] []
+NamesAfter-freed h g o s f = (f.0, NamesAfter-frees h g [] f.0 o (s.natives ∙ sym (append-nil (native_names h))) s.scripts f.1)
+
+-- Commands that give up natives
+
+-- a native register written
+put_in_register-frees : (h : Heap) (d : ℕ) (x : Option Name) → d < 256 → IsIn (native_names h) x → IsSound (numbers_of x ++ []) h →
+    (ks : List ℕ) × Frees (set_register h (N d) x) ks (put_in_register h d x)
+put_in_register-frees h d x room there s = let_go-frees [] (set_register h (N d) x) (register h (N d)) (native_register-sound [] h d x room there s)
+
+-- a native register written with what is there
+put_in_register-names : (h g : Heap) (d : ℕ) (x : Option Name) → SameNames h g → d < 256 → IsIn (native_names g) x → IsSound (numbers_of x ++ []) g →
+    (ks : List ℕ) × NamesAfter h (put_in_register g d x) ks [] []
+put_in_register-names h g d x a room there s =
+    NamesAfter-freed h (set_register g (N d) x) (put_in_register g d x) (record { natives = a.natives; scripts = a.scripts }) (put_in_register-frees g d x room there s)
+
+-- with the reference taken first
+hold_native-names : (h : Heap) (d : ℕ) (x : Option Name) → d < 256 → IsIn (native_names h) x → IsSound [] h →
+    (ks : List ℕ) × NamesAfter h (hold_native h d x) ks [] []
+unfolding hold_native
+hold_native-names h d x room there s = put_in_register-names h (take_up h x) d x (SameNames-alike h (take_up h x) (HoldsTheSame-take_up h x)) room
+    (IsIn-take_up h x x there) (take_up-sound [] h x (IsIn-natives h x there) s)
+
+-- a slot of a native written
+put_in_slot-names : (h g : Heap) (d i : ℕ) (x : Option Name) → SameNames h g → IsIn (names_there g) x → HasSlot g d i → IsSound (numbers_of x ++ []) g →
+    (ks : List ℕ) × NamesAfter h (put_in_slot g d i x) ks [] []
+put_in_slot-names h g d i x a there f s = subst (λ (o : Outcome). (ks : List ℕ) × NamesAfter h o ks [] []) (sym (put_in_slot-written g d i x f))
+    (NamesAfter-freed h written (let_go written old) (SameNames-trans h g written a (SameNames-change_native g f.number (with_native_slot i x) (λ n. refl)))
+    (let_go-frees [] written old (native_slot-sound [] g f.number i f.there x f.found f.room there s)))
+  where
+    written : Heap
+    written = change_native g f.number (with_native_slot i x)
+
+    old : Option Name
+    old = slice_index_or f.there.slots i None
+
+-- with the reference taken first
+store_native-names : (h : Heap) (d i : ℕ) (x : Option Name) → IsIn (names_there h) x → i < length (slots_at (objects_of h) (N d)) → IsSound [] h →
+    (ks : List ℕ) × NamesAfter h (store_native h d i x) ks [] []
+unfolding store_native
+store_native-names h d i x there room s =
+    let taken : IsSound (numbers_of x ++ []) (take_up h x) = take_up-sound [] h x there s in
+    put_in_slot-names h (take_up h x) d i x (SameNames-alike h (take_up h x) (HoldsTheSame-take_up h x)) (names_there-take_up h x there)
+    (HasSlot-take_up (numbers_of x ++ []) h d i x taken room) taken
+
+-- a native made
+make_native-names : (h : Heap) (d n : ℕ) → d < 256 → n ≤ 64 → h.natives_made < h.limits.natives → IsSound [] h →
+    (ks : List ℕ) × NamesAfter h (make_native h d n) ks (native (h.natives_made + 1) ∷ []) []
+unfolding make_native
+make_native-names h d n room few allowed s =
+    let f = put_in_register-frees (with_native h n) d (Some (native (h.natives_made + 1))) room (IsIn-made h n s.well_formed) (with_native-sound [] h n s few allowed) in (
+      f.0,
+      NamesAfter-frees h (set_register (with_native h n) (N d) (Some (native (h.natives_made + 1)))) (native (h.natives_made + 1) ∷ []) f.0
+          (put_in_register (with_native h n) d (Some (native (h.natives_made + 1))))
+          (map_push (λ (m : HeapNative). native m.number) h.natives (new_native h n)) refl f.1,
+    )
+
+-- Commands of script objects
+
+-- a script object made
+make_object-names : (h : Heap) (d : ℕ) (kind : Kind) (n : ℕ) →
+    (ks : List ℕ) × NamesAfter h (silently (make_object h d kind n)) ks [] (object (h.scripts_made + 1) ∷ [])
+make_object-names h d kind n = (
+  [],
+  NamesAfter-scripts h (make_object h d kind n) (object (h.scripts_made + 1) ∷ []) refl
+      (map_push (λ (o : HeapScript). o.name) h.scripts (blank (object (h.scripts_made + 1)) kind n)),
+)
+
+-- what comes into a script register is exposed
+hold_script-names : (h : Heap) (d : ℕ) (x : Option Name) → IsWellFormed h → (ks : List ℕ) × NamesAfter h (silently (hold_script h d x)) ks [] []
+hold_script-names h d x w = let s = SameNames-exposed h x w in NamesAfter-same h (hold_script h d x) (record { natives = s.natives; scripts = s.scripts })
+
+-- the reflector that a native gets, where it has none
+abbrev pub made_reflector : Heap → Option Name → List Name
+made_reflector h (Some (name.Native k)) = elim (has_reflector h k.0) [ true ↦ [] | false ↦ reflector k.0 ∷ [] ]
+made_reflector h (Some (name.Script k)) = []
+made_reflector h (Some (name.Reflector k)) = []
+made_reflector h None = []
+
+-- a native wrapped
+wrapped-names : (h : Heap) (d : ℕ) (x : Option Name) → IsWellFormed h →
+    (ks : List ℕ) × NamesAfter h (silently (set_register (wrapped h x) (S d) (reflector_of x))) ks [] (made_reflector h x)
+wrapped-names h d None w = NamesAfter-same h (set_register h (S d) None) (record { natives = refl; scripts = refl })
+wrapped-names h d (Some (name.Script k)) w = NamesAfter-same h (set_register h (S d) None) (record { natives = refl; scripts = refl })
+wrapped-names h d (Some (name.Reflector k)) w = NamesAfter-same h (set_register h (S d) None) (record { natives = refl; scripts = refl })
+wrapped-names h d (Some (name.Native k)) w = go (has_reflector h k.0)
+  where
+    with_one : Heap
+    with_one = with_script h (reflector k.0) Reflector reflector_slots
+
+    go : (b : Bool) → (ks : List ℕ) × NamesAfter h
+        (silently (set_register (elim b [ true ↦ exposed h (Some (reflector k.0)) | false ↦ with_reflector h k.0 ]) (S d) (Some (reflector k.0))))
+        ks [] (elim b [ true ↦ [] | false ↦ reflector k.0 ∷ [] ])
+    go true = hold_script-names h d (Some (reflector k.0)) w
+    go false =
+        let s : SameNames with_one (with_reflector h k.0) = SameNames-alike with_one (with_reflector h k.0) (HoldsTheSame-add_ref with_one k.0) in (
+          [],
+          NamesAfter-scripts h (set_register (with_reflector h k.0) (S d) (Some (reflector k.0))) (reflector k.0 ∷ []) s.natives
+              (s.scripts ∙ map_push (λ (o : HeapScript). o.name) h.scripts (blank (reflector k.0) Reflector reflector_slots)),
+        )
+
+-- All commands
+
+-- the natives that a command makes
+abbrev pub made_natives : Heap → Command → List Name
+made_natives h (Native d n) = native (h.natives_made + 1) ∷ []
+made_natives h _ = []
+
+-- the script objects that a command makes
+abbrev pub made_scripts : Heap → Command → List Name
+made_scripts h (Script d n) = object (h.scripts_made + 1) ∷ []
+made_scripts h (WeakMap d) = object (h.scripts_made + 1) ∷ []
+made_scripts h (Wrap d s) = made_reflector h (register h (N s))
+made_scripts h _ = []
+
+-- THE NAMES AFTER A COMMAND THAT IS NOT REFUSED.
+pub effects-names : (h : Heap) (c : Command) → IsSound [] h → IsTrue (in_range c) → IsTaken (objects_of h) c →
+    (ks : List ℕ) × NamesAfter h (effects h c) ks (made_natives h c) (made_scripts h c)
+unfolding effects
+effects-names h (Native d n) s r t = make_native-names h d n (below-first d (is_slots n) r) (few-slots n (is_register d) r)
+    (leb-false h.limits.natives h.natives_made t.room) s
+effects-names h (Script d n) s r t = make_object-names h d Plain n
+effects-names h (WeakMap d) s r t = make_object-names h d Map 0
+effects-names h (CopyNative d q) s r t = hold_native-names h d (register h (N q)) (below-first d (is_register q) r) (native_register-there h q s.well_formed) s
+effects-names h (CopyScript d q) s r t = NamesAfter-same h (set_register h (S d) (register h (S q))) (record { natives = refl; scripts = refl })
+effects-names h (Drop (N d)) s r t = put_in_register-names h h d None (SameNames-refl h) (ltb-true d 256 r) (λ y m. absurd m) s
+effects-names h (Drop (S d)) s r t = NamesAfter-same h (set_register h (S d) None) (record { natives = refl; scripts = refl })
+effects-names h (Set d i q) s r t = store_native-names h d i (source h q) (source-there h q s.well_formed)
+    (leb-false (length (slots_at (objects_of h) (N d))) i t.slot) s
+effects-names h (Get (N d) q i) s r t = hold_native-names h d (slot_at (objects_of h) (N q) i) (below-first d (is_register q) r)
+    (IsIn-no_script h (slot_at (objects_of h) (N q) i) s.well_formed (slot_at-there h (N q) i s.well_formed) t.content) s
+effects-names h (Get (S d) q i) s r t = hold_script-names h d (slot_at (objects_of h) (N q) i) s.well_formed
+effects-names h (Put d i q) s r t = NamesAfter-same h (put_in_script h (register h (S d)) i (source h (option_map S q)))
+    (SameNames-put_in_script h (register h (S d)) i (source h (option_map S q)))
+effects-names h (Take d q i) s r t = hold_script-names h d (slot_at (objects_of h) (S q) i) s.well_formed
+effects-names h (Wrap d q) s r t = wrapped-names h d (register h (N q)) s.well_formed
+effects-names h (Unwrap d q) s r t = hold_native-names h d (native_of (register h (S q))) (below-first d (is_register q) r)
+    (native_of-there h (register h (S q)) s.well_formed (script_register-there h q s.well_formed)) s
+effects-names h (Preserve q) s r t = NamesAfter-same h _ (SameNames-preserve h (register h (S q)))
+effects-names h (SetEntry m k v) s r t = NamesAfter-same h _ (SameNames-set_entry h (register h (S m)) (register h (S k)) (source h (option_map S v)))
+effects-names h (GetEntry d m k) s r t = hold_script-names h d (value_at (objects_of h) (register h (S m)) (register h (S k))) s.well_formed
+effects-names h (Expose q i) s r t = NamesAfter-same h _ (SameNames-exposed h (slot_at (objects_of h) (N q) i) s.well_formed)
+effects-names h Nothing s r t = NamesAfter-same h h (SameNames-refl h)
+effects-names h (Slice u) s r t = NamesAfter-same h h (SameNames-refl h)
+effects-names h Collect s r t = NamesAfter-same h h (SameNames-refl h)
+effects-names h Gc s r t = NamesAfter-same h h (SameNames-refl h)
+effects-names h Census s r t = NamesAfter-same h h (SameNames-refl h)

@@ -1,0 +1,86 @@
+-- WHAT LEAVES THE NAMES OF ALL OBJECTS: what changes slots, flags, counts and colours.
+use Rattle.std.proofs.Common.{◌≡◌, ℕ, Bool, true, false, Option, Some, None, refl, ◌∙◌, ap, if◌then◌else◌}
+use Rattle.cc_names.specs.declared.name.Name.{Name}
+use Rattle.cc_names.specs.declared.name.Name.TheVariants as name
+use Rattle.cc_names.specs.Names.{native, object, reflector, same_name}
+use Rattle.cc_model.specs.Heap.{Heap, HeapNative, HeapScript, change_native, change_script, with_native_slot, with_script_slot, set_slot, preserve}
+use Rattle.cc_model.specs.Exposure.{exposed}
+use Rattle.cc_model.specs.Effects.{put_in_script, set_entry}
+use Rattle.cc_model.specs.WellFormed.{IsWellFormed, native_names, script_names}
+use Rattle.cc_laws_heap.proofs.ListWrites.{map-kept}
+use Rattle.cc_laws_heap.proofs.Natives.{KeepsNumber, changed_at, changed_at-number}
+use Rattle.cc_laws_heap.proofs.HoldsTheSame.{HoldsTheSame, native_names-alike, script_names-alike}
+use Rattle.cc_laws_heap.proofs.ScriptsKept.{script_names-exposed}
+
+-- the same natives and the same script objects are there
+pub record SameNames (h g : Heap) : Type 0 where
+  pub natives : native_names g ≡ native_names h
+  pub scripts : script_names g ≡ script_names h
+
+-- heaps have the same names as themselves
+pub SameNames-refl : (h : Heap) → SameNames h h
+SameNames-refl h = record { natives = refl; scripts = refl }
+
+-- one change after another
+pub SameNames-trans : (h g f : Heap) → SameNames h g → SameNames g f → SameNames h f
+SameNames-trans h g f a b = record { natives = b.natives ∙ a.natives; scripts = b.scripts ∙ a.scripts }
+
+-- a change of counts and the buffer
+pub SameNames-alike : (h g : Heap) → HoldsTheSame h g → SameNames h g
+SameNames-alike h g a = record { natives = native_names-alike h g a; scripts = script_names-alike h g a }
+
+-- a native changed
+pub SameNames-change_native : (h : Heap) (k : ℕ) (f : HeapNative → HeapNative) → KeepsNumber f → SameNames h (change_native h k f)
+SameNames-change_native h k f e = record {
+  natives = map-kept (λ (n : HeapNative). native n.number) (changed_at k f) h.natives (λ n. ap native (changed_at-number k f e n));
+  scripts = refl;
+}
+
+-- a script object changed
+SameNames-change_script : (h : Heap) (x : Name) (f : HeapScript → HeapScript) → ((o : HeapScript) → (f o).name ≡ o.name) → SameNames h (change_script h x f)
+SameNames-change_script h x f e = record {
+  natives = refl;
+  scripts = map-kept (λ (o : HeapScript). o.name) changed h.scripts (λ o. go o (same_name o.name x));
+}
+  where
+    changed : HeapScript → HeapScript
+    changed o = if same_name o.name x then f o else o
+
+    go : (o : HeapScript) (b : Bool) → (if b then f o else o).name ≡ o.name
+    go o true = e o
+    go o false = refl
+
+-- a slot written
+SameNames-set_slot : (h : Heap) (x : Option Name) (i : ℕ) (y : Option Name) → SameNames h (set_slot h x i y)
+SameNames-set_slot h None i y = SameNames-refl h
+SameNames-set_slot h (Some (name.Native k)) i y = SameNames-change_native h k.0 (with_native_slot i y) (λ n. refl)
+SameNames-set_slot h (Some (name.Script k)) i y = SameNames-change_script h (object k.0) (with_script_slot i y) (λ o. refl)
+SameNames-set_slot h (Some (name.Reflector k)) i y = SameNames-change_script h (reflector k.0) (with_script_slot i y) (λ o. refl)
+
+-- a reflector preserved
+pub SameNames-preserve : (h : Heap) (x : Option Name) → SameNames h (preserve h x)
+SameNames-preserve h None = SameNames-refl h
+SameNames-preserve h (Some (name.Native k)) = SameNames-refl h
+SameNames-preserve h (Some (name.Script k)) = SameNames-refl h
+SameNames-preserve h (Some (name.Reflector k)) = SameNames-change_native h k.0 (λ n. record n { preserved = true }) (λ n. refl)
+
+-- a reflector preserved, and a slot of a script object written
+pub SameNames-put_in_script : (h : Heap) (x : Option Name) (i : ℕ) (y : Option Name) → SameNames h (put_in_script h x i y)
+SameNames-put_in_script h x i y = SameNames-trans h (preserve h x) (put_in_script h x i y) (SameNames-preserve h x) (SameNames-set_slot (preserve h x) x i y)
+
+-- an entry set or taken out
+pub SameNames-set_entry : (h : Heap) (m k v : Option Name) → SameNames h (set_entry h m k v)
+SameNames-set_entry h None k v = SameNames-refl h
+SameNames-set_entry h (Some m) None v = SameNames-refl h
+SameNames-set_entry h (Some m) (Some k) None = record { natives = refl; scripts = refl }
+SameNames-set_entry h (Some m) (Some k) (Some v) = let p = SameNames-preserve h (Some k) in record { natives = p.natives; scripts = p.scripts }
+
+-- an exposure changes script objects alone
+native_names-exposed : (h : Heap) (x : Option Name) → native_names (exposed h x) ≡ native_names h
+unfolding exposed
+native_names-exposed h None = refl
+native_names-exposed h (Some x) = refl
+
+-- an exposure
+pub SameNames-exposed : (h : Heap) (x : Option Name) → IsWellFormed h → SameNames h (exposed h x)
+SameNames-exposed h x w = record { natives = native_names-exposed h x; scripts = script_names-exposed h x w }
