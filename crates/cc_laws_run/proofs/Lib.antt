@@ -22,3 +22,16 @@ pub mod ListedAfter
 pub mod CommandCases
 pub mod Answered
 pub mod RunsOn
+pub mod Unabandoned
+pub mod UnitsUse
+pub mod AsksUse
+pub mod InARow
+pub mod RefusedUnits
+pub mod FreedListed
+pub mod EachNamed
+pub mod RunsOfNumbers
+pub mod BufferStands
+pub mod UnitLawful
+pub mod UnitsLawful
+pub mod ScriptsLawful
+pub mod CollectionsLawful

@@ -13,7 +13,9 @@ ghost use Rattle.cc_model.specs.Units.{candidates_of, with_empty_buffer};
 ghost use Rattle.cc_model.specs.End.{give_back, take_away};
 ghost use Rattle.cc_model.specs.Fresh.{IsFresh, IsTraversed};
 ghost use Rattle.cc_model.specs.Suspected.{IsSuspected};
+ghost use Rattle.cc_model.specs.WellFormed.{IsWellFormed};
 ghost use Rattle.cc_laws_heap.specs.Sound.{IsSound};
+ghost use Rattle.cc_laws_run.specs.Losing.{IsLoyal};
 
 /// Each command that is not refused keeps every unreached native suspected, for each list of candidates.
 pub fn commands_keep_suspected()
@@ -31,4 +33,11 @@ pub fn collections_keep_suspected()
     ensures end { (h : Heap) (s : Snapshot) → IsSound [] h → IsFresh h.natives_made (view h) s → IsTraversed s →
         IsSuspected (view h) s.candidates → IsSuspected (view (take_away (white_natives h s) h).heap) [] }
     ensures rounds { (h : Heap) → IsSound [] h → IsSuspected (view h) [] → IsSuspected (view (collect_scripts h).heap) [] }
+{}
+
+/// A change is loyal where each native that loses a reference, its purple mark or its place outside the buffer, and each
+/// that is new, is purple, gone or reached afterwards. Such a change keeps every unreached native suspected.
+pub fn loyal_changes_keep_suspected()
+    ensures { (h k : Heap) (candidates : List ℕ) → IsWellFormed h → IsWellFormed k → IsLoyal (view h) (view k) →
+        IsSuspected (view h) candidates → IsSuspected (view k) candidates }
 {}

@@ -5,6 +5,7 @@ pub mod OwnEdges
 pub mod SoundView
 pub mod States
 pub mod Unreached
+pub mod WhiteNatives
 pub mod OnceEach
 pub mod NodeLists
 pub mod PassedOver
@@ -23,3 +24,7 @@ pub mod ScriptsChange
 pub mod ScriptParts
 pub mod NativesHeld
 pub mod CommandsGentle
+pub mod KindsFresh
+pub mod KindsMade
+pub mod KindsWritten
+pub mod KindsGivenUp

@@ -64,7 +64,7 @@ hold_script-gentle h d x w = AreGentle-then h (exposed h x) (hold_script h d x) 
 -- Slots of script objects
 
 -- a slot of a script object takes what is there and not gray
-script_slot-gentle : (h : Heap) (x : Name) (i : ℕ) (y : Option Name) → IsWellFormed h → IsIn (script_names h) y → IsNotGray h y →
+pub script_slot-gentle : (h : Heap) (x : Name) (i : ℕ) (y : Option Name) → IsWellFormed h → IsIn (script_names h) y → IsNotGray h y →
     AreGentle h (change_script h x (with_script_slot i y))
 script_slot-gentle h x i y w there pale = AreGentle-scripts h (change_script h x written).scripts h.scripts_made (ScriptsGently-each h (changed_where is_it written) w (record {
   changes = ChangesScripts-slot h x i y w there;
@@ -102,7 +102,7 @@ make_object-gentle h d kind n w = AreGentle-then h (with_object h kind n) (make_
     new = blank (object (h.scripts_made + 1)) kind n
 
 -- A reflector made is gentle: its native is in the buffer.
-with_reflector-gentle : (owned : List ℕ) (h : Heap) (k : ℕ) → Among (native k) (native_names h) → IsSound owned h → AreGentle h (with_reflector h k)
+pub with_reflector-gentle : (owned : List ℕ) (h : Heap) (k : ℕ) → Among (native k) (native_names h) → IsSound owned h → AreGentle h (with_reflector h k)
 with_reflector-gentle owned h k there s = AreGentle-then h (add_ref h k) (with_reflector h k) (add_ref-gentle h k)
     (AreGentle-scripts (add_ref h k) (h.scripts ++ new ∷ []) h.scripts_made (ScriptsGently-push (add_ref h k) new (add_ref-sound owned h k there s).well_formed
     refl (contents-empty_none reflector_slots)

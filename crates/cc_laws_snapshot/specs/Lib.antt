@@ -1,1 +1,2 @@
 pub mod Gentle
+pub mod Kinds

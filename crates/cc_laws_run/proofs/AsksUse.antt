@@ -1,0 +1,204 @@
+-- WHAT AN ASK USES of memory's answers: a front of them, with one `no` for each that its answer tells; and where memory is at every place, none is told.
+use Rattle.std.proofs.Common.{◌≡◌, ℕ, ◌+◌, Bool, true, false, not, List, [], ◌∷◌, ◌++◌, Option, Some, None, refl, sym, ◌∙◌, ap, subst, arith}
+use Rattle.cc_names.specs.declared.name.Name.{Name}
+use Rattle.cc_names.specs.declared.register.Reg.TheVariants.{N, S}
+use Rattle.cc_model.specs.declared.command.Command.{Command}
+use Rattle.cc_model.specs.declared.command.Command.TheVariants.{Nothing, Native, Script, WeakMap, CopyNative, CopyScript, Drop, Set, Get, Put, Take, Wrap, Unwrap, Preserve, SetEntry, GetEntry, Expose, Slice, Collect, Gc, Census}
+use Rattle.cc_model.specs.declared.item.Refusal.{Refusal}
+use Rattle.cc_model.specs.declared.item.Refusal.TheVariants.{NoMemory, Empty, Kind, Slot, Full}
+use Rattle.cc_model.specs.declared.item.Reply.{Reply}
+use Rattle.cc_model.specs.declared.item.Reply.TheVariants.{Refused}
+use Rattle.cc_model.specs.Answers.{Answer}
+use Rattle.cc_model.specs.Asks.{Ask, long, bad, taken}
+use Rattle.cc_model.specs.Checks.{Objects, lacks_object, has_wrong_object, has_no_slot, has_wrong_content, is_full, slot_at, value_at, reflector_of, native_of, named_or_nothing, first_refusal, refusal_of, reply_if_taken}
+use Rattle.cc_model.specs.Heap.{objects_of}
+use Rattle.cc_model.specs.Effects.{effects, takes_memory}
+use Rattle.cc_model.specs.End.{Progress, went_on, at_end, refused}
+use Rattle.cc_model.specs.Collecting.{Machine, next_answer, later_answers, UnitsDone, no_units, slice, collect, gc, reply_to_units}
+use Rattle.cc_model.specs.Run.{Turn, answering, with_effects, if_granted, unless_refused, mutate, after_units, after_gc, do_ask}
+use Rattle.cc_laws_run.specs.Memory.{with_memory, noes, noes_of_reply, noes_told}
+use Rattle.cc_laws_run.proofs.Unabandoned.{abandonments, TellsNone, effects-none}
+use Rattle.cc_laws_run.proofs.UnitsUse.{refusals, UnitsUse, slice-use, collect-use, gc-use}
+
+-- the same turn, with other answers of memory to come
+abbrev pub turn_with : Turn → List Bool → Turn
+turn_with t memory = record t { machine = with_memory t.machine memory }
+
+-- memory is still at every place, and no want of it was told
+pub record HasAmple (t : Turn) : Type 0 where
+  pub memory : t.machine.memory ≡ []
+  pub reply : noes_of_reply t.answer.reply ≡ 0
+  pub events : TellsNone t.answer.events
+
+-- With these answers of memory it is this turn, and with others what f says: it uses a front of them, which says no as often as is told.
+pub record TurnUse (f : List Bool → Turn) (told : Answer → ℕ) (memory : List Bool) (t : Turn) : Type 0 where
+  pub used : List Bool
+  pub any : (more : List Bool) → f (used ++ more) ≡ turn_with t more
+  pub said_no : noes used ≡ told t.answer
+  pub ample : memory ≡ [] → HasAmple t
+
+-- the noes that a reply tells
+abbrev in_reply : Answer → ℕ
+in_reply a = noes_of_reply a.reply
+
+-- those of a refusal
+abbrev noes_of_refusal : Option Refusal → ℕ
+noes_of_refusal None = 0
+noes_of_refusal (Some refusal) = noes_of_reply (Some (Refused refusal))
+
+-- No check refuses memory.
+refusal-noes : (o : Objects) (c : Command) → noes_of_refusal (refusal_of o c) ≡ 0
+unfolding refusal_of
+refusal-noes o c = go (lacks_object o c) (has_wrong_object o c) (has_no_slot o c) (has_wrong_content o c) (is_full o c)
+  where
+    go : (empty kind slot content full : Bool) →
+        noes_of_refusal (first_refusal ((empty, Empty) ∷ (kind, Kind) ∷ (slot, Slot) ∷ (content, Kind) ∷ (full, Full) ∷ [])) ≡ 0
+    go true kind slot content full = refl
+    go false true slot content full = refl
+    go false false true content full = refl
+    go false false false true full = refl
+    go false false false false true = refl
+    go false false false false false = refl
+
+-- a name or nothing is no want of memory
+named-noes : (x : Option Name) → noes_of_reply (Some (named_or_nothing x)) ≡ 0
+named-noes None = refl
+named-noes (Some x) = refl
+
+-- nor is the reply to a command that is done
+reply-noes : (o : Objects) (c : Command) → noes_of_reply (Some (reply_if_taken o c)) ≡ 0
+unfolding reply_if_taken
+reply-noes o (Native d n) = refl
+reply-noes o (Script d n) = refl
+reply-noes o (WeakMap d) = refl
+reply-noes o (CopyNative d s) = named-noes (o.register (N s))
+reply-noes o (CopyScript d s) = named-noes (o.register (S s))
+reply-noes o (Get r s i) = named-noes (slot_at o (N s) i)
+reply-noes o (Take d s i) = named-noes (slot_at o (S s) i)
+reply-noes o (Wrap d s) = named-noes (reflector_of (o.register (N s)))
+reply-noes o (Unwrap d s) = named-noes (native_of (o.register (S s)))
+reply-noes o (GetEntry d m k) = named-noes (value_at o (o.register (S m)) (o.register (S k)))
+reply-noes o (Expose s i) = named-noes (slot_at o (N s) i)
+reply-noes o (Drop r) = refl
+reply-noes o (Set d i r) = refl
+reply-noes o (Put d i s) = refl
+reply-noes o (Preserve s) = refl
+reply-noes o (SetEntry m k v) = refl
+reply-noes o Nothing = refl
+reply-noes o (Slice u) = refl
+reply-noes o Collect = refl
+reply-noes o Gc = refl
+reply-noes o Census = refl
+
+-- Commands of the mutator
+
+-- A command of the mutator uses one answer where it passes its checks and takes memory, and none elsewhere.
+mutate-use : (m : Machine) (c : Command) → TurnUse (λ memory. mutate (with_memory m memory) c) in_reply m.memory (mutate m c)
+unfolding mutate
+mutate-use m c = go (refusal_of (objects_of m.heap) c) (refusal-noes (objects_of m.heap) c)
+  where
+    reply : Reply
+    reply = reply_if_taken (objects_of m.heap) c
+
+    replies : noes_of_reply (Some reply) ≡ 0
+    replies = reply-noes (objects_of m.heap) c
+
+    answered : Bool → List Bool → Turn
+    answered answer memory = elim (not answer) [
+      | true ↦ answering (with_memory m memory) [] (Refused NoMemory)
+      | false ↦ with_effects (with_memory m memory) reply (effects m.heap c)
+    ]
+
+    any : (answer : Bool) (memory more : List Bool) → answered answer more ≡ turn_with (answered answer memory) more
+    any true memory more = refl
+    any false memory more = refl
+
+    said_no : (answer : Bool) (memory : List Bool) → noes (answer ∷ []) ≡ in_reply (answered answer memory).answer
+    said_no true memory = sym replies
+    said_no false memory = refl
+
+    by_memory : (takes : Bool) → TurnUse (λ memory. if_granted (with_memory m memory) c takes) in_reply m.memory (if_granted m c takes)
+    by_memory true = record {
+      used = next_answer m.memory ∷ [];
+      any = λ more. any (next_answer m.memory) (later_answers m.memory) more;
+      said_no = said_no (next_answer m.memory) (later_answers m.memory);
+      ample = λ e. subst (λ memory. HasAmple (answered (next_answer memory) (later_answers memory))) (sym e)
+          (record { memory = refl; reply = replies; events = effects-none m.heap c });
+    }
+    by_memory false = record {
+      used = [];
+      any = λ more. refl;
+      said_no = sym replies;
+      ample = λ e. record { memory = e; reply = replies; events = effects-none m.heap c };
+    }
+
+    go : (r : Option Refusal) → noes_of_refusal r ≡ 0 → TurnUse (λ memory. unless_refused (with_memory m memory) c r) in_reply m.memory (unless_refused m c r)
+    go None none = by_memory (takes_memory m.heap c)
+    go (Some refusal) none = record { used = []; any = λ more. refl; said_no = sym none; ample = λ e. record { memory = e; reply = none; events = refl } }
+
+-- The other commands
+
+-- the reply to units tells a refusal
+reply_to_units-noes : (p : Progress) → noes_of_reply (Some (reply_to_units p)) ≡ refusals p
+reply_to_units-noes went_on = refl
+reply_to_units-noes at_end = refl
+reply_to_units-noes refused = refl
+
+-- what units use, their turn uses
+after_units-use : (f : List Bool → UnitsDone) (m : Machine) (r : UnitsDone) → UnitsUse f (no_units m) r →
+    TurnUse (λ memory. after_units (f memory)) in_reply m.memory (after_units r)
+after_units-use f m r u =
+    let no : noes u.used + 0 ≡ refusals r.progress = u.said_no in
+    let told : abandonments r.events + 0 ≡ 0 + refusals r.progress = u.told in
+    record {
+      used = u.used;
+      any = λ more. ap after_units (u.any more);
+      said_no = omega (arith, no, reply_to_units-noes r.progress);
+      ample = λ e. let w = u.ample e refl in
+          record { memory = w.0; reply = reply_to_units-noes r.progress ∙ w.1; events = omega (arith, told, w.1) };
+    }
+
+-- under `gc` the events tell a refusal
+after_gc-use : (f : List Bool → UnitsDone) (m : Machine) (r : UnitsDone) → UnitsUse f (no_units m) r →
+    TurnUse (λ memory. after_gc (f memory)) (λ a. abandonments a.events) m.memory (after_gc r)
+after_gc-use f m r u =
+    let no : noes u.used + 0 ≡ refusals r.progress = u.said_no in
+    let told : abandonments r.events + 0 ≡ 0 + refusals r.progress = u.told in
+    record {
+      used = u.used;
+      any = λ more. ap after_gc (u.any more);
+      said_no = omega (arith, no, told);
+      ample = λ e. let w = u.ample e refl in record { memory = w.0; reply = refl; events = omega (arith, told, w.1) };
+    }
+
+-- a turn that asks no memory and tells nothing
+silent-use : (m : Machine) (a : Answer) → noes_of_reply a.reply ≡ 0 → TellsNone a.events →
+    TurnUse (λ memory. record { machine = with_memory m memory; answer = a }) in_reply m.memory (record { machine = m; answer = a })
+silent-use m a reply events = record { used = []; any = λ more. refl; said_no = sym reply; ample = λ e. record { memory = e; reply = reply; events = events } }
+
+-- AN ASK USES A FRONT OF MEMORY'S ANSWERS.
+pub ask-use : (m : Machine) (ask : Ask) → TurnUse (λ memory. do_ask (with_memory m memory) ask) (noes_told ask) m.memory (do_ask m ask)
+unfolding do_ask
+ask-use m long = silent-use m _ refl refl
+ask-use m bad = silent-use m _ refl refl
+ask-use m (taken Nothing) = silent-use m _ refl refl
+ask-use m (taken Census) = silent-use m _ refl refl
+ask-use m (taken (Slice n)) = after_units-use (λ memory. slice n (with_memory m memory)) m (slice n m) (slice-use n m)
+ask-use m (taken Collect) = after_units-use (λ memory. collect (with_memory m memory)) m (collect m) (collect-use m)
+ask-use m (taken Gc) = after_gc-use (λ memory. gc (with_memory m memory)) m (gc m) (gc-use m)
+ask-use m (taken (Native d n)) = mutate-use m (Native d n)
+ask-use m (taken (Script d n)) = mutate-use m (Script d n)
+ask-use m (taken (WeakMap d)) = mutate-use m (WeakMap d)
+ask-use m (taken (CopyNative d s)) = mutate-use m (CopyNative d s)
+ask-use m (taken (CopyScript d s)) = mutate-use m (CopyScript d s)
+ask-use m (taken (Drop r)) = mutate-use m (Drop r)
+ask-use m (taken (Set d i r)) = mutate-use m (Set d i r)
+ask-use m (taken (Get r s i)) = mutate-use m (Get r s i)
+ask-use m (taken (Put d i s)) = mutate-use m (Put d i s)
+ask-use m (taken (Take d s i)) = mutate-use m (Take d s i)
+ask-use m (taken (Wrap d s)) = mutate-use m (Wrap d s)
+ask-use m (taken (Unwrap d s)) = mutate-use m (Unwrap d s)
+ask-use m (taken (Preserve s)) = mutate-use m (Preserve s)
+ask-use m (taken (SetEntry a k v)) = mutate-use m (SetEntry a k v)
+ask-use m (taken (GetEntry d a k)) = mutate-use m (GetEntry d a k)
+ask-use m (taken (Expose s i)) = mutate-use m (Expose s i)

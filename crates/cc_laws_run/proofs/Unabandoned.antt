@@ -1,0 +1,194 @@
+-- WHAT IS DONE TO THE HEAPS TELLS NO ABANDONMENT: commands, ends of collections and script collections.
+use Rattle.std.proofs.Common.{◌≡◌, ℕ, zero, suc, ◌+◌, List, [], ◌∷◌, ◌++◌, length, Option, Some, None, refl, sym, ◌∙◌, subst, arith, count_by}
+use Rattle.cc_lists.specs.Members.{Among}
+use Rattle.cc_lists.proofs.Counting.{count_by-append, count_by-some}
+use Rattle.cc_names.specs.declared.name.Name.{Name}
+use Rattle.cc_names.specs.declared.name.Name.TheVariants as name
+use Rattle.cc_names.specs.declared.register.Reg.TheVariants.{N, S}
+use Rattle.cc_names.specs.Names.{native}
+use Rattle.cc_model.specs.declared.command.Command.{Command}
+use Rattle.cc_model.specs.declared.command.Command.TheVariants.{Nothing, Native, Script, WeakMap, CopyNative, CopyScript, Drop, Set, Get, Put, Take, Wrap, Unwrap, Preserve, SetEntry, GetEntry, Expose, Slice, Collect, Gc, Census}
+use Rattle.cc_model.specs.declared.item.Event.{Event}
+use Rattle.cc_model.specs.declared.item.Event.TheVariants.{Unlinked, Freed, Abandoned}
+use Rattle.cc_model.specs.Slots.{Slots}
+use Rattle.cc_model.specs.Checks.{slot_at, native_of}
+use Rattle.cc_model.specs.Heap.{Heap, HeapNative, Outcome, silently, after, native_at, register, objects_of, source, set_register, set_slot}
+use Rattle.cc_model.specs.Cascade.{Draining, give_up, give_up_each, given_up, fallen, natives_of_slots, told_free, free_front, drain, at_rest, drained, cascade, take_up, let_go}
+use Rattle.cc_model.specs.Colours.{marked}
+use Rattle.cc_model.specs.Sweep.{unmarked, without_dead_entries, without_script, let_native_go, sweep_one, sweep_each, sweep, collect_scripts}
+use Rattle.cc_model.specs.Effects.{effects, hold_native, store_native, make_native, with_native}
+use Rattle.cc_model.specs.End.{root_each, empty_slot, empty_each, slots_now, unlink, unlink_each, unroot_each, take_away}
+use Rattle.cc_model.specs.Lawful.{is_abandonment}
+use Rattle.cc_laws_heap.proofs.RoundsEnd.{rounds-keep}
+
+-- how many abandonments are told
+abbrev pub abandonments : List Event → ℕ
+abandonments es = count_by is_abandonment es
+
+-- none is told
+abbrev pub TellsNone : List Event → Type 0
+TellsNone es = abandonments es ≡ 0
+
+-- Where none is counted, none is there.
+pub none-abandoned : (es : List Event) → TellsNone es → ¬ (Among Abandoned es)
+none-abandoned es none m = omega (arith, none, count_by-some is_abandonment Abandoned es m refl)
+
+-- abandonments of two lists add up
+pub abandonments-append : (xs ys : List Event) → abandonments (xs ++ ys) ≡ abandonments xs + abandonments ys
+abandonments-append xs ys = count_by-append is_abandonment xs ys
+
+-- where two lists tell none, both together do not
+pub none-append : (xs ys : List Event) → TellsNone xs → TellsNone ys → TellsNone (xs ++ ys)
+none-append xs ys a b = omega (arith, abandonments-append xs ys, a, b)
+
+-- Cascades
+
+-- a count that falls tells nothing
+fallen-events : (d : Draining) (k c : ℕ) → (fallen d k c).events ≡ d.events
+fallen-events d k zero = refl
+fallen-events d k (suc zero) = refl
+fallen-events d k (suc (suc c)) = refl
+
+-- nor does a reference given up
+given_up-events : (d : Draining) (k : ℕ) (n : Option HeapNative) → (given_up d k n).events ≡ d.events
+given_up-events d k None = refl
+given_up-events d k (Some n) = fallen-events d k n.count
+
+-- nor do several
+give_up_each-events : (d : Draining) (ks : List ℕ) → (give_up_each d ks).events ≡ d.events
+give_up_each-events d [] = refl
+give_up_each-events d (k ∷ ks) = give_up_each-events (give_up d k) ks ∙ given_up-events d k (native_at d.heap k)
+
+-- a native freed is told, and no abandonment
+free_front-none : (d : Draining) (k : ℕ) (ks : List ℕ) → TellsNone d.events → TellsNone (free_front d k ks).events
+free_front-none d k ks none = subst TellsNone (sym (give_up_each-events (told_free d k ks) (natives_of_slots (native_at d.heap k))))
+    (none-append d.events (Freed (native k) ∷ []) none refl)
+
+-- nor do drained natives tell one
+drain-none : (n : ℕ) (d : Draining) → TellsNone d.events → TellsNone (drain n d).events
+unfolding drain
+drain-none zero d none = none
+drain-none (suc n) d none = go (drain-none n) d.queue
+  where
+    next : List ℕ → Draining
+    next q = elim q [ [] ↦ d | k ∷ ks ↦ drain n (free_front d k ks) ]
+
+    go : ((e : Draining) → TellsNone e.events → TellsNone (drain n e).events) → (q : List ℕ) → TellsNone (next q).events
+    go ih [] = none
+    go ih (k ∷ ks) = ih (free_front d k ks) (free_front-none d k ks none)
+
+-- A cascade tells none.
+pub cascade-none : (h : Heap) (k : ℕ) → TellsNone (cascade h k).events
+unfolding drained
+cascade-none h k = drain-none (length h.natives) (give_up (at_rest h) k)
+    (subst TellsNone (sym (given_up-events (at_rest h) k (native_at h k))) refl)
+
+-- nor does the content of a register or slot given up
+let_go-none : (h : Heap) (x : Option Name) → TellsNone (let_go h x).events
+let_go-none h None = refl
+let_go-none h (Some (name.Native k)) = cascade-none h k.0
+let_go-none h (Some (name.Script k)) = refl
+let_go-none h (Some (name.Reflector k)) = refl
+
+-- Ends of collections
+
+-- slots emptied tell none
+empty_each-none : (k i : ℕ) (xs : Slots) (o : Outcome) → TellsNone o.events → TellsNone (empty_each k i xs o).events
+empty_each-none k i [] o none = none
+empty_each-none k i (x ∷ xs) o none = empty_each-none k (suc i) xs (after o.events (empty_slot o.heap k i x))
+    (none-append o.events (empty_slot o.heap k i x).events none (let_go-none (set_slot o.heap (Some (native k)) i None) x))
+
+-- a native unlinked tells none
+unlink-none : (h : Heap) (k : ℕ) → TellsNone (unlink h k).events
+unfolding unlink
+unlink-none h k = none-append (Unlinked (native k) ∷ []) (empty_each k 0 (slots_now (native_at h k)) (silently h)).events refl
+    (empty_each-none k 0 (slots_now (native_at h k)) (silently h) refl)
+
+-- nor do several
+unlink_each-none : (ks : List ℕ) (o : Outcome) → TellsNone o.events → TellsNone (unlink_each ks o).events
+unlink_each-none [] o none = none
+unlink_each-none (k ∷ ks) o none = unlink_each-none ks (after o.events (unlink o.heap k))
+    (none-append o.events (unlink o.heap k).events none (unlink-none o.heap k))
+
+-- nor do natives unrooted
+unroot_each-none : (ks : List ℕ) (o : Outcome) → TellsNone o.events → TellsNone (unroot_each ks o).events
+unroot_each-none [] o none = none
+unroot_each-none (k ∷ ks) o none = unroot_each-none ks (after o.events (cascade o.heap k))
+    (none-append o.events (cascade o.heap k).events none (cascade-none o.heap k))
+
+-- The end of a collection tells none.
+pub take_away-none : (ks : List ℕ) (h : Heap) → TellsNone (take_away ks h).events
+unfolding take_away
+take_away-none ks h = unroot_each-none ks (unlink_each ks (silently (root_each ks h)))
+    (unlink_each-none ks (silently (root_each ks h)) refl)
+
+-- Script collections
+
+-- a reflector that goes tells none
+let_native_go-none : (h : Heap) (x : Name) → TellsNone (let_native_go h x).events
+let_native_go-none h (name.Reflector k) = cascade-none h k.0
+let_native_go-none h (name.Native k) = refl
+let_native_go-none h (name.Script k) = refl
+
+-- nor do objects swept
+sweep_each-none : (xs : List Name) (o : Outcome) → TellsNone o.events → TellsNone (sweep_each xs o).events
+sweep_each-none [] o none = none
+sweep_each-none (x ∷ xs) o none = sweep_each-none xs (after o.events (sweep_one o.heap x))
+    (none-append o.events (sweep_one o.heap x).events none
+    (none-append (Freed x ∷ []) (let_native_go (without_script o.heap x) x).events refl (let_native_go-none (without_script o.heap x) x)))
+
+-- nor does a sweep
+sweep-none : (h : Heap) → TellsNone (sweep h).events
+unfolding sweep
+sweep-none h = sweep_each-none (unmarked h) (silently (without_dead_entries (unmarked h) h)) refl
+
+-- A script collection tells none.
+pub collect_scripts-none : (h : Heap) → TellsNone (collect_scripts h).events
+unfolding collect_scripts
+collect_scripts-none h = rounds-keep (λ o. TellsNone o.events)
+    (λ o none. none-append o.events (sweep (marked o.heap)).events none (sweep-none (marked o.heap)))
+    (suc (length h.scripts)) (silently h) refl
+
+-- Commands
+
+-- what comes into a native register tells none
+hold_native-none : (h : Heap) (d : ℕ) (x : Option Name) → TellsNone (hold_native h d x).events
+unfolding hold_native
+hold_native-none h d x = let_go-none (set_register (take_up h x) (N d) x) (register (take_up h x) (N d))
+
+-- nor what comes into a slot of a native
+store_native-none : (h : Heap) (d i : ℕ) (x : Option Name) → TellsNone (store_native h d i x).events
+unfolding store_native
+store_native-none h d i x = let_go-none (set_slot (take_up h x) (register (take_up h x) (N d)) i x) (slot_at (objects_of (take_up h x)) (N d) i)
+
+-- nor does a native made
+make_native-none : (h : Heap) (d n : ℕ) → TellsNone (make_native h d n).events
+unfolding make_native
+make_native-none h d n = let_go-none (set_register (with_native h n) (N d) (Some (native (h.natives_made + 1)))) (register (with_native h n) (N d))
+
+-- A command tells none.
+pub effects-none : (h : Heap) (c : Command) → TellsNone (effects h c).events
+unfolding effects
+effects-none h (Native d n) = make_native-none h d n
+effects-none h (Script d n) = refl
+effects-none h (WeakMap d) = refl
+effects-none h (CopyNative d s) = hold_native-none h d (register h (N s))
+effects-none h (CopyScript d s) = refl
+effects-none h (Drop (N d)) = let_go-none (set_register h (N d) None) (register h (N d))
+effects-none h (Drop (S d)) = refl
+effects-none h (Set d i r) = store_native-none h d i (source h r)
+effects-none h (Get (N d) s i) = hold_native-none h d (slot_at (objects_of h) (N s) i)
+effects-none h (Get (S d) s i) = refl
+effects-none h (Put d i s) = refl
+effects-none h (Take d s i) = refl
+effects-none h (Wrap d s) = refl
+effects-none h (Unwrap d s) = hold_native-none h d (native_of (register h (S s)))
+effects-none h (Preserve s) = refl
+effects-none h (SetEntry m k v) = refl
+effects-none h (GetEntry d m k) = refl
+effects-none h (Expose s i) = refl
+effects-none h Nothing = refl
+effects-none h (Slice u) = refl
+effects-none h Collect = refl
+effects-none h Gc = refl
+effects-none h Census = refl

@@ -1,0 +1,198 @@
+-- WHAT UNITS USE of memory's answers: a front of them, with one `no` where the last unit is refused; what stands behind it does not matter.
+use Rattle.std.proofs.Common.{◌≡◌, ℕ, zero, suc, ◌+◌, Bool, true, false, not, ◌&&◌, List, [], ◌∷◌, ◌++◌, Option, Some, None, is_some, refl, sym, ◌∙◌, ap, subst, arith}
+use Rattle.std.proofs.lemmas.List.{append_assoc}
+use Rattle.cc_lists.proofs.Counting.{count_by-append}
+use Rattle.cc_names.specs.declared.name.Name.{Name}
+use Rattle.cc_model.specs.declared.item.Event.{Event}
+use Rattle.cc_model.specs.Heap.{Heap}
+use Rattle.cc_model.specs.Sweep.{collect_scripts}
+use Rattle.cc_model.specs.Snapshot.{Snapshot, white_natives}
+use Rattle.cc_model.specs.Units.{first_untraversed}
+use Rattle.cc_model.specs.End.{Progress, went_on, at_end, refused, UnitDone, unit, may_be_refused, abandoned, granted, node_or_end}
+use Rattle.cc_model.specs.Collecting.{Machine, next_answer, later_answers, UnitsDone, no_units, one_unit, units_done, enough_units, to_the_end, finish_running, slice, unless_stopped, collect, then_scripts, gc}
+use Rattle.cc_laws_run.specs.Memory.{with_memory, noes}
+use Rattle.cc_laws_run.proofs.Unabandoned.{abandonments, TellsNone, abandonments-append, take_away-none, collect_scripts-none}
+
+-- the same units done, with other answers of memory to come
+abbrev pub done_with : UnitsDone → List Bool → UnitsDone
+done_with d memory = record d { machine = with_memory d.machine memory }
+
+-- how often progress says that memory was refused
+abbrev pub refusals : Progress → ℕ
+refusals went_on = 0
+refusals at_end = 0
+refusals refused = 1
+
+-- Units lead from d to r, and with other answers of memory as f says: they use a front of these, which says no once for each refusal.
+pub record UnitsUse (f : List Bool → UnitsDone) (d r : UnitsDone) : Type 0 where
+  pub used : List Bool
+  pub any : (more : List Bool) → f (used ++ more) ≡ done_with r more
+  pub said_no : noes used + refusals d.progress ≡ refusals r.progress
+  pub told : abandonments r.events + refusals d.progress ≡ abandonments d.events + refusals r.progress
+  pub ample : d.machine.memory ≡ [] → refusals d.progress ≡ 0 → (r.machine.memory ≡ []) × (refusals r.progress ≡ 0)
+
+-- the noes of two lists add up
+pub noes-append : (xs ys : List Bool) → noes (xs ++ ys) ≡ noes xs + noes ys
+noes-append xs ys = count_by-append (λ b. not b) xs ys
+
+-- where nothing is done, nothing is used
+uses-nothing : (d : UnitsDone) → UnitsUse (done_with d) d d
+uses-nothing d = record {
+  used = [];
+  any = λ more. refl;
+  said_no = omega arith;
+  told = refl;
+  ample = λ e none. (e, none);
+}
+
+-- what is done one after the other uses one front, and then the other
+uses-then : (f : List Bool → UnitsDone) (g : UnitsDone → UnitsDone) (d r s : UnitsDone) → UnitsUse f d r → UnitsUse (λ memory. g (done_with r memory)) r s →
+    UnitsUse (λ memory. g (f memory)) d s
+uses-then f g d r s u v = record {
+  used = u.used ++ v.used;
+  any = λ more. ap (λ memory. g (f memory)) (append_assoc u.used v.used more) ∙ (ap g (u.any (v.used ++ more)) ∙ v.any more);
+  said_no = omega (arith, noes-append u.used v.used, u.said_no, v.said_no);
+  told = omega (arith, u.told, v.told);
+  ample = λ e none. let w = u.ample e none in v.ample w.0 w.1;
+}
+
+-- One unit
+
+-- a unit that has its memory is not refused
+pub granted-refusals : (h : Heap) (s : Option Snapshot) → refusals (granted h s).progress ≡ 0
+granted-refusals h None = refl
+granted-refusals h (Some s) = go (first_untraversed s.nodes)
+  where
+    go : (x : Option Name) → refusals (node_or_end h s x).progress ≡ 0
+    go None = refl
+    go (Some x) = refl
+
+-- and tells no abandonment
+granted-none : (h : Heap) (s : Option Snapshot) → TellsNone (granted h s).events
+granted-none h None = refl
+granted-none h (Some s) = go (first_untraversed s.nodes)
+  where
+    go : (x : Option Name) → TellsNone (node_or_end h s x).events
+    go None = take_away-none (white_natives h s) h
+    go (Some x) = refl
+
+-- a unit by whether it is refused
+abbrev unit_by : Heap → Option Snapshot → Bool → UnitDone
+unit_by h s b = elim b [ true ↦ abandoned h s | false ↦ granted h s ]
+
+-- a unit tells an abandonment where it is refused
+unit_by-told : (h : Heap) (s : Option Snapshot) (b : Bool) → abandonments (unit_by h s b).events ≡ refusals (unit_by h s b).progress
+unit_by-told h s true = refl
+unit_by-told h s false = granted-none h s ∙ sym (granted-refusals h s)
+
+-- and is refused where memory says no
+unit_by-refusals : (h : Heap) (s : Option Snapshot) (answer : Bool) → noes (answer ∷ []) ≡ refusals (unit_by h s (not answer)).progress
+unit_by-refusals h s true = sym (granted-refusals h s)
+unit_by-refusals h s false = refl
+
+-- A unit uses one answer of memory where it may be refused, and none elsewhere.
+unit-use : (m : Machine) (es : List Event) →
+    UnitsUse (λ memory. one_unit (with_memory m memory) es) (record { machine = m; events = es; progress = went_on }) (one_unit m es)
+unfolding unit
+unit-use m es = go (may_be_refused m.heap m.snapshot)
+  where
+    done : UnitDone → List Bool → UnitsDone
+    done u memory = record {
+      machine = record { heap = u.heap; snapshot = u.snapshot; memory = memory };
+      events = es ++ u.events;
+      progress = u.progress;
+    }
+
+    done_by : Bool → List Bool → UnitsDone
+    done_by b memory = done (unit_by m.heap m.snapshot (b && not (next_answer memory))) (elim b [ true ↦ later_answers memory | false ↦ memory ])
+
+    told : (b : Bool) → abandonments (es ++ (unit_by m.heap m.snapshot b).events) + 0 ≡ abandonments es + refusals (unit_by m.heap m.snapshot b).progress
+    told b = omega (arith, abandonments-append es (unit_by m.heap m.snapshot b).events, unit_by-told m.heap m.snapshot b)
+
+    go : (b : Bool) → UnitsUse (done_by b) (record { machine = m; events = es; progress = went_on }) (done_by b m.memory)
+    go true = record {
+      used = next_answer m.memory ∷ [];
+      any = λ more. refl;
+      said_no = omega (arith, unit_by-refusals m.heap m.snapshot (next_answer m.memory));
+      told = told (not (next_answer m.memory));
+      ample = λ e none. (
+        ap later_answers e,
+        subst (λ memory. refusals (unit_by m.heap m.snapshot (not (next_answer memory))).progress ≡ 0) (sym e) (granted-refusals m.heap m.snapshot),
+      );
+    }
+    go false = record {
+      used = [];
+      any = λ more. refl;
+      said_no = sym (granted-refusals m.heap m.snapshot);
+      told = told false;
+      ample = λ e none. (e, granted-refusals m.heap m.snapshot);
+    }
+
+-- Units in a row
+
+-- units in a row, what was done before them by its parts
+units_from-use : (n : ℕ) (m : Machine) (es : List Event) (p : Progress) →
+    UnitsUse (λ memory. units_done n (record { machine = with_memory m memory; events = es; progress = p }))
+    (record { machine = m; events = es; progress = p }) (units_done n (record { machine = m; events = es; progress = p }))
+unfolding units_done
+units_from-use zero m es p = uses-nothing (record { machine = m; events = es; progress = p })
+units_from-use (suc n) m es went_on =
+    let d = one_unit m es in
+    uses-then (λ memory. one_unit (with_memory m memory) es) (units_done n) (record { machine = m; events = es; progress = went_on })
+    d (units_done n d) (unit-use m es) (units_from-use n d.machine d.events d.progress)
+units_from-use (suc n) m es at_end = uses-nothing (record { machine = m; events = es; progress = at_end })
+units_from-use (suc n) m es refused = uses-nothing (record { machine = m; events = es; progress = refused })
+
+-- UNITS USE A FRONT OF MEMORY'S ANSWERS.
+pub units-use : (n : ℕ) (d : UnitsDone) → UnitsUse (λ memory. units_done n (done_with d memory)) d (units_done n d)
+units-use n d = units_from-use n d.machine d.events d.progress
+
+-- so do those of a slice
+pub slice-use : (n : ℕ) (m : Machine) → UnitsUse (λ memory. slice n (with_memory m memory)) (no_units m) (slice n m)
+unfolding slice
+slice-use n m = units-use n (no_units m)
+
+-- those until the collection ends
+to_the_end-use : (d : UnitsDone) → UnitsUse (λ memory. to_the_end (done_with d memory)) d (to_the_end d)
+to_the_end-use d = units-use (enough_units d.machine) d
+
+-- those of a running collection
+finish_running-use : (m : Machine) → UnitsUse (λ memory. finish_running (with_memory m memory)) (no_units m) (finish_running m)
+finish_running-use m = go (is_some m.snapshot)
+  where
+    go : (b : Bool) → UnitsUse (λ memory. elim b [ true ↦ to_the_end (no_units (with_memory m memory)) | false ↦ no_units (with_memory m memory) ])
+        (no_units m) (elim b [ true ↦ to_the_end (no_units m) | false ↦ no_units m ])
+    go true = to_the_end-use (no_units m)
+    go false = uses-nothing (no_units m)
+
+-- those of a collection that begins after it, where that was not refused
+unless_stopped-use : (m : Machine) (es : List Event) (p : Progress) →
+    UnitsUse (λ memory. unless_stopped (record { machine = with_memory m memory; events = es; progress = p }))
+    (record { machine = m; events = es; progress = p }) (unless_stopped (record { machine = m; events = es; progress = p }))
+unless_stopped-use m es refused = uses-nothing (record { machine = m; events = es; progress = refused })
+unless_stopped-use m es went_on = to_the_end-use (record { machine = m; events = es; progress = went_on })
+unless_stopped-use m es at_end =
+    let u = to_the_end-use (record { machine = m; events = es; progress = went_on }) in
+    record { used = u.used; any = u.any; said_no = u.said_no; told = u.told; ample = u.ample }
+
+-- those of a whole collection
+pub collect-use : (m : Machine) → UnitsUse (λ memory. collect (with_memory m memory)) (no_units m) (collect m)
+unfolding collect
+collect-use m =
+    let d = finish_running m in
+    uses-then (λ memory. finish_running (with_memory m memory)) unless_stopped (no_units m) d (unless_stopped d)
+    (finish_running-use m) (unless_stopped-use d.machine d.events d.progress)
+
+-- and those of `gc`: its script collection uses none
+pub gc-use : (m : Machine) → UnitsUse (λ memory. gc (with_memory m memory)) (no_units m) (gc m)
+unfolding gc
+gc-use m =
+    let u = finish_running-use m in
+    let d = finish_running m in
+    record {
+      used = u.used;
+      any = λ more. ap then_scripts (u.any more);
+      said_no = u.said_no;
+      told = omega (arith, u.told, abandonments-append d.events (collect_scripts d.machine.heap).events, collect_scripts-none d.machine.heap);
+      ample = u.ample;
+    }

@@ -1,0 +1,42 @@
+ghost use Rattle.std.specs.Prelude.{◌≡◌, ◌++◌, ℕ, Bool, IsTrue, List, [], ◌∷◌, Some, None};
+ghost use Rattle.cc_lists.specs.Members.{Among};
+ghost use Rattle.cc_names.specs.Allowance.{Allowance};
+ghost use Rattle.cc_names.specs.Names.{native};
+ghost use Rattle.cc_model.specs.declared.item.Event.TheVariants.{Abandoned};
+ghost use Rattle.cc_model.specs.declared.item.Refusal.TheVariants.{NoMemory};
+ghost use Rattle.cc_model.specs.declared.item.Reply.TheVariants.{Refused};
+ghost use Rattle.cc_model.specs.Answers.{Answer};
+ghost use Rattle.cc_model.specs.Asks.{Ask};
+ghost use Rattle.cc_model.specs.Heap.{Heap};
+ghost use Rattle.cc_model.specs.View.{view};
+ghost use Rattle.cc_model.specs.WellFormed.{native_names};
+ghost use Rattle.cc_model.specs.Snapshot.{Snapshot};
+ghost use Rattle.cc_model.specs.End.{give_back, heap_given_back, refused, unit};
+ghost use Rattle.cc_model.specs.Collecting.{Machine};
+ghost use Rattle.cc_model.specs.Run.{do_ask, machine_after, turns};
+ghost use Rattle.cc_laws_run.specs.Memory.{AreDoneFor, SameMachine, all_noes_told, noes, with_memory};
+
+/// The plain run of asks in a row is that of the first, and then of the rest from the machine that is left.
+/// Where each ask is done for some list of memory, one list serves for all, which says no once for each
+/// `! nomem` and each collection abandoned under `gc`, and never else.
+pub fn runs_compose()
+    ensures one_then_other { (m : Machine) (xs ys : List Ask) → turns m (xs ++ ys) ≡ turns m xs ++ turns (machine_after m xs) ys }
+    ensures machines { (m : Machine) (xs ys : List Ask) → machine_after m (xs ++ ys) ≡ machine_after (machine_after m xs) ys }
+    ensures one_list { (m n : Machine) (asks : List Ask) (answers : List Answer) → AreDoneFor m asks answers n →
+        (memory : List Bool) × (turns (with_memory m memory) asks ≡ answers) ×
+        (SameMachine (machine_after (with_memory m memory) asks) n) × (noes memory ≡ all_noes_told asks answers) }
+{}
+
+/// With memory at every place nothing wants memory and no collection is abandoned. A refused unit drops the
+/// snapshot: each candidate that still exists is purple in the buffer again, a refused begin leaves the heaps.
+pub fn memory_decides_nothing_else()
+    ensures replies { (m : Machine) (ask : Ask) → m.memory ≡ [] → ¬ ((do_ask m ask).answer.reply ≡ Some (Refused NoMemory)) }
+    ensures none_abandoned { (m : Machine) (ask : Ask) → m.memory ≡ [] → ¬ (Among Abandoned (do_ask m ask).answer.events) }
+    ensures memory_stays { (m : Machine) (ask : Ask) → m.memory ≡ [] → (do_ask m ask).machine.memory ≡ [] }
+    ensures refused_begin { (h : Heap) (memory : Bool) → (unit h None memory).progress ≡ refused →
+        ((unit h None memory).heap ≡ h) × ((unit h None memory).snapshot ≡ None) × ((unit h None memory).events ≡ Abandoned ∷ []) }
+    ensures refused_node { (h : Heap) (s : Snapshot) (memory : Bool) → (unit h (Some s) memory).progress ≡ refused →
+        ((unit h (Some s) memory).heap ≡ give_back s.candidates h) × ((unit h (Some s) memory).snapshot ≡ None) × ((unit h (Some s) memory).events ≡ Abandoned ∷ []) }
+    ensures given_back { (h : Heap) (candidates : List ℕ) (k : ℕ) → Among k candidates → Among (native k) (native_names h) →
+        Among (native k) (view (give_back candidates h)).purple }
+{}

@@ -1,0 +1,208 @@
+-- WHAT IS WRITTEN keeps every snapshot fresh: a reference, a register, a slot, a flag, an entry.
+use Rattle.std.proofs.Common.{◌≡◌, ℕ, ◌<◌, ◌==◌, Bool, true, false, cond, List, [], ◌∷◌, map, length, Option, Some, None, refl, sym, ◌∙◌, ap, subst, inl, inr, ⊎_elim, arith, count_by, slice_index_or}
+use Rattle.std.specs.Prelude.{IsTrue}
+use Rattle.std.specs.List.{filter}
+use Rattle.std.specs.Option.{option_to_list}
+use Rattle.std.proofs.lemmas.Bool.{eqb-true}
+use Rattle.cc_lists.specs.Members.{Among}
+use Rattle.cc_lists.proofs.Members.{Among-map, Among-left, Among-right, Among-append, Among-flat_map}
+use Rattle.cc_lists.proofs.Counting.{count_by-append}
+use Rattle.cc_names.specs.declared.name.Name.{Name}
+use Rattle.cc_names.specs.declared.name.Name.TheVariants as name
+use Rattle.cc_names.specs.declared.kind.Colour.{Colour}
+use Rattle.cc_names.specs.declared.register.Reg.{Reg}
+use Rattle.cc_names.specs.declared.register.Reg.TheVariants.{N, S}
+use Rattle.cc_names.specs.Names.{native, reflector, natives_in, is_script}
+use Rattle.cc_model.specs.Slots.{contents}
+use Rattle.cc_model.specs.Heap.{Heap, HeapNative, HeapScript, native_at, is_white_colour, is_black_colour, set_register, change_native, change_script, with_native_slot, with_script_slot, set_preserved}
+use Rattle.cc_model.specs.Cascade.{add_ref}
+use Rattle.cc_model.specs.Effects.{set_entry}
+use Rattle.cc_model.specs.View.{view, between, names_with, slot_edges, preserved_edge, native_edges}
+use Rattle.cc_model.specs.Colours.{HasColourInvariant}
+use Rattle.cc_model.specs.WellFormed.{IsWellFormed}
+use Rattle.cc_model.specs.Snapshot.{Snapshot}
+use Rattle.cc_laws_heap.proofs.ListWrites.{changed_where, changed_where-either, Among-flat_map_set}
+use Rattle.cc_laws_heap.proofs.ScriptsKept.{has_name}
+use Rattle.cc_laws_snapshot.specs.Kinds.{counting, IsFreshIn, IsFreshCounting, natives_held, IsInBuffer, IsNotGrayIn, IsThereIn, IsScriptObject}
+use Rattle.cc_laws_snapshot.proofs.SoundView.{black-or_gray, living-native, named-there}
+use Rattle.cc_laws_snapshot.proofs.EdgesLeft.{between-preserved}
+use Rattle.cc_laws_snapshot.proofs.GentleBut.{AreGentle}
+use Rattle.cc_laws_snapshot.proofs.NativesChange.{AreGentleBut-each}
+use Rattle.cc_laws_snapshot.proofs.NativeParts.{register-gentle, add_ref-gentle, native_slot-gentle}
+use Rattle.cc_laws_snapshot.proofs.ScriptParts.{script_slot-gentle, set_entry-gentle}
+use Rattle.cc_laws_snapshot.proofs.KindsFresh.{IsGentleBut-buffers, KeepsColours, fresh-by}
+
+-- References and registers
+
+-- A native gets a reference.
+pub reference_added-fresh : (h : Heap) (s : Snapshot) (k : ℕ) → IsFreshIn h s → IsFreshIn (add_ref h k) s
+reference_added-fresh h s k = fresh-by h.natives_made h.natives_made (view h) (view (add_ref h k)) (add_ref-gentle h k)
+    (record { black = λ x m. m; white = refl; held = λ x m i. inl m }) s
+
+-- what is there and not gray is black
+black-left : (h : Heap) (x : Option Name) → HasColourInvariant (view h) → IsThereIn (view h) x → IsNotGrayIn (view h) x →
+    (y : Name) → Among y (option_to_list x) → IsTrue (is_script y) → Among y (view h).black
+black-left h x c there pale y m i = ⊎_elim (λ b. b) (λ g. absurd (pale y m g)) (black-or_gray (view h) c y (there y m i))
+
+-- a register that takes it keeps the colours
+register-colours : (h : Heap) (r : Reg) (x : Option Name) → ((y : Name) → Among y (option_to_list x) → IsTrue (is_script y) → Among y (view h).black) →
+    KeepsColours (view h) (view (set_register h r x))
+register-colours h (N d) x black = record {
+  black = λ y m. m;
+  white = refl;
+  held = λ y m i. ⊎_elim
+      (λ l. ⊎_elim (λ new. inr (black y new i)) (λ old. inl (Among-left y (contents h.native_registers) (contents h.script_registers) old))
+      (Among-flat_map_set option_to_list h.native_registers d x y l))
+      (λ r. inl (Among-right y (contents h.native_registers) (contents h.script_registers) r))
+      (Among-append y (contents (set_register h (N d) x).native_registers) (contents h.script_registers) m);
+}
+register-colours h (S d) x black = record {
+  black = λ y m. m;
+  white = refl;
+  held = λ y m i. ⊎_elim
+      (λ l. inl (Among-left y (contents h.native_registers) (contents h.script_registers) l))
+      (λ r. ⊎_elim (λ new. inr (black y new i)) (λ old. inl (Among-right y (contents h.native_registers) (contents h.script_registers) old))
+      (Among-flat_map_set option_to_list h.script_registers d x y r))
+      (Among-append y (contents h.native_registers) (contents (set_register h (S d) x).script_registers) m);
+}
+
+-- A register is written.
+pub register_written-fresh : (h : Heap) (s : Snapshot) (r : Reg) (x : Option Name) → IsThereIn (view h) x → IsNotGrayIn (view h) x →
+    IsFreshIn h s → IsFreshIn (set_register h r x) s
+register_written-fresh h s r x there pale f = fresh-by h.natives_made (set_register h r x).natives_made (view h) (view (set_register h r x)) (register-gentle h r x)
+    (register-colours h r x (black-left h x f.colours there pale)) s f
+
+-- Slots of natives
+
+-- A slot of a native is written: what it held waits.
+pub slot_written-fresh : (h : Heap) (s : Snapshot) (n : HeapNative) (k i : ℕ) (x : Option Name) → IsWellFormed h → native_at h k ≡ Some n →
+    i < length n.slots → IsInBuffer (view h) x → IsNotGrayIn (view h) x →
+    IsFreshIn h s → IsFreshCounting (natives_held (slice_index_or n.slots i None)) (change_native h k (with_native_slot i x)) s
+slot_written-fresh h s n k i x w found room taken pale = fresh-by h.natives_made h.natives_made (view h) (counting (natives_held old) (view written))
+    (IsGentleBut-buffers (option_to_list old) h.natives_made h.natives_made (view h) (view written)
+    (view h).buffer (view h).purple (counting (natives_held old) (view written)).buffer (counting (natives_held old) (view written)).purple
+    (native_slot-gentle h k i n x w found room taken pale)
+    (λ u b. Among-left u (view written).buffer (map native (natives_held old)) b)
+    (λ u c m l. Among-right u (view written).buffer (map native (natives_held old)) (waits u c m l))
+    (λ u c m b. Among-left u (view written).buffer (map native (natives_held old)) b))
+    (record { black = λ y m. m; white = refl; held = λ y m i. inl m }) s
+  where
+    old : Option Name
+    old = slice_index_or n.slots i None
+
+    written : Heap
+    written = change_native h k (with_native_slot i x)
+
+    waits : (u : Name) (c : ℕ) → Among (u, c) (view written).natives → Among u (option_to_list old) → Among u (map native (natives_held old))
+    waits u c m l =
+        let f = living-native written u c m in
+        let held : Among (native f.0.number) (option_to_list old) = subst (λ v. Among v (option_to_list old)) (sym f.2) l in
+        subst (λ v. Among v (map native (natives_held old))) f.2
+        (Among-map native f.0.number (natives_held old) (Among-flat_map natives_in (native f.0.number) f.0.number (option_to_list old) held (inl refl)))
+
+-- Slots of script objects
+
+-- script objects that change keep their names by a test that they keep
+names_with-kept : (p : HeapScript → Bool) (f : HeapScript → HeapScript) (os : List HeapScript) → ((o : HeapScript) → p (f o) ≡ p o) →
+    ((o : HeapScript) → (f o).name ≡ o.name) → names_with p (map f os) ≡ names_with p os
+names_with-kept p f [] same named = refl
+names_with-kept p f (o ∷ os) same named = ap (λ b. map (λ (q : HeapScript). q.name) (cond b (f o ∷ filter p (map f os)) (filter p (map f os)))) (same o)
+    ∙ go (names_with-kept p f os same named) (p o)
+  where
+    go : names_with p (map f os) ≡ names_with p os → (b : Bool) →
+        map (λ (q : HeapScript). q.name) (cond b (f o ∷ filter p (map f os)) (filter p (map f os))) ≡
+        map (λ (q : HeapScript). q.name) (cond b (o ∷ filter p os) (filter p os))
+    go ih true = ap (λ x. x ∷ names_with p (map f os)) (named o) ∙ ap (λ xs. o.name ∷ xs) ih
+    go ih false = ih
+
+-- A slot of a script object is written.
+pub script_slot_written-fresh : (h : Heap) (s : Snapshot) (o : Name) (i : ℕ) (x : Option Name) → IsWellFormed h →
+    IsScriptObject x → IsThereIn (view h) x → IsNotGrayIn (view h) x → IsFreshIn h s → IsFreshIn (change_script h o (with_script_slot i x)) s
+script_slot_written-fresh h s o i x w scripts there pale = fresh-by h.natives_made h.natives_made (view h) (view (change_script h o written))
+    (script_slot-gentle h o i x w (λ y m. named-there h y (there y m (scripts y m))) pale)
+    (record {
+      black = λ y m. subst (Among y) (kept is_black_colour) m;
+      white = kept is_white_colour;
+      held = λ y m j. inl m;
+    }) s
+  where
+    written : HeapScript → HeapScript
+    written p = with_script_slot i x p
+
+    changed : HeapScript → HeapScript
+    changed p = changed_where (has_name o) written p
+
+    kept : (test : Colour → Bool) → names_with (λ p. test p.colour) (map changed h.scripts) ≡ names_with (λ p. test p.colour) h.scripts
+    kept test = names_with-kept (λ p. test p.colour) changed h.scripts
+        (λ p. changed_where-either (λ q. test q.colour ≡ test p.colour) (has_name o) written p (λ e. refl) refl)
+        (λ p. changed_where-either (λ q. q.name ≡ p.name) (has_name o) written p (λ e. refl) refl)
+
+-- Flags
+
+-- a flag written is gentle, where it preserves nothing gray
+flag-gentle : (h : Heap) (k : ℕ) (on : Bool) → (on ≡ true → ¬ (Among (reflector k) (view h).gray)) → AreGentle h (set_preserved h k on)
+flag-gentle h k on pale = AreGentleBut-each [] h (changed_where is_it flagged) h.buffer (record {
+  number = λ n. changed_where-either (λ p. p.number ≡ n.number) is_it flagged n (λ e. refl) refl;
+  buffer = λ y m. m;
+  count = λ n m o. changed_where-either (λ p. p.count ≡ n.count) is_it flagged n (λ e. refl) refl;
+  as_often = λ n v j m o. changed_where-either (λ p. count_by (between v (native j)) (native_edges p) ≡ count_by (between v (native j)) (native_edges n))
+      is_it flagged n (λ e. as_often n v j) refl;
+  gray_edge = λ n e m t g. changed_where-either (λ p. Among e (native_edges p) → Among e (native_edges n)) is_it flagged n (λ s t. gray n e s t g) (λ t. t) t;
+})
+  where
+    is_it : HeapNative → Bool
+    is_it n = n.number == k
+
+    flagged : HeapNative → HeapNative
+    flagged n = record n { preserved = on }
+
+    as_often : (n : HeapNative) (v : Name) (j : ℕ) →
+        count_by (between v (native j)) (native_edges (flagged n)) ≡ count_by (between v (native j)) (native_edges n)
+    as_often n v j =
+        omega (
+          arith,
+          count_by-append (between v (native j)) (slot_edges (native n.number) n.slots) (preserved_edge (flagged n)),
+          count_by-append (between v (native j)) (slot_edges (native n.number) n.slots) (preserved_edge n),
+          between-preserved v j n.number on,
+          between-preserved v j n.number n.preserved,
+        )
+
+    edge_by : HeapNative → Bool → List (Name × Name)
+    edge_by n b = elim b [ true ↦ (native n.number, reflector n.number) ∷ [] | false ↦ [] ]
+
+    -- what a flag that was set leads to is not gray
+    not_new : (n : HeapNative) (e : Name × Name) → is_it n ≡ true → (b : Bool) → on ≡ b → Among e (edge_by n b) → ¬ (Among e.1 (view h).gray)
+    not_new n e s true q m g = ⊎_elim
+        (λ t. let named : reflector k ≡ e.1 = ap reflector (sym (eqb-true n.number k s)) ∙ ap (λ (p : Name × Name). p.1) t in
+        pale q (subst (λ y. Among y (view h).gray) (sym named) g))
+        (λ t. t) m
+    not_new n e s false q m g = m
+
+    gray : (n : HeapNative) (e : Name × Name) → is_it n ≡ true → Among e (native_edges (flagged n)) → Among e.1 (view h).gray → Among e (native_edges n)
+    gray n e s m g = ⊎_elim
+        (λ l. Among-left e (slot_edges (native n.number) n.slots) (preserved_edge n) l)
+        (λ r. absurd (not_new n e s on refl r g))
+        (Among-append e (slot_edges (native n.number) n.slots) (preserved_edge (flagged n)) m)
+
+-- A flag is written.
+pub flag_written-fresh : (h : Heap) (s : Snapshot) (k : ℕ) (on : Bool) → (on ≡ true → ¬ (Among (reflector k) (view h).gray)) →
+    IsFreshIn h s → IsFreshIn (set_preserved h k on) s
+flag_written-fresh h s k on pale = fresh-by h.natives_made h.natives_made (view h) (view (set_preserved h k on)) (flag-gentle h k on pale)
+    (record { black = λ x m. m; white = refl; held = λ x m i. inl m }) s
+
+-- Entries
+
+-- an entry written keeps the colours
+entry-colours : (h : Heap) (m k : Name) (v : Option Name) → KeepsColours (view h) (view (set_entry h (Some m) (Some k) v))
+entry-colours h m k None = record { black = λ x i. i; white = refl; held = λ x i j. inl i }
+entry-colours h m (name.Native k) (Some v) = record { black = λ x i. i; white = refl; held = λ x i j. inl i }
+entry-colours h m (name.Script k) (Some v) = record { black = λ x i. i; white = refl; held = λ x i j. inl i }
+entry-colours h m (name.Reflector k) (Some v) = record { black = λ x i. i; white = refl; held = λ x i j. inl i }
+
+-- An entry is written.
+pub entry_written-fresh : (h : Heap) (s : Snapshot) (m k : Name) (v : Option Name) → ¬ (Among k (view h).gray) → IsNotGrayIn (view h) v →
+    IsFreshIn h s → IsFreshIn (set_entry h (Some m) (Some k) v) s
+entry_written-fresh h s m k v pale_k pale_v =
+    fresh-by h.natives_made (set_entry h (Some m) (Some k) v).natives_made (view h) (view (set_entry h (Some m) (Some k) v))
+    (set_entry-gentle h (Some m) (Some k) v (λ y i g. ⊎_elim (λ e. pale_k (subst (λ z. Among z (view h).gray) (sym e) g)) (λ t. t) i) pale_v)
+    (entry-colours h m k v) s

@@ -1,0 +1,121 @@
+-- THE NATIVES THAT ARE WHITE: they are there, by rising number, and no register reaches them.
+use Rattle.std.proofs.Common.{◌≡◌, ℕ, Bool, true, false, cond, List, [], ◌∷◌, map, sym, subst, inl, ◌⊎◌, ⊎_elim, refl, ◌∙◌}
+use Rattle.std.specs.List.{filter}
+use Rattle.cc_lists.specs.Members.{Among, has}
+use Rattle.cc_lists.proofs.Members.{Among-map, Among-map_cases, Among-filtered, Among-passes, Among-flat_map, has-among}
+use Rattle.cc_names.specs.declared.name.Name.{Name}
+use Rattle.cc_names.specs.Names.{native, same_name, natives_in}
+use Rattle.cc_names.proofs.NameTests.{same_name-exact}
+use Rattle.cc_model.specs.declared.item.Event.TheVariants.{Freed, Unlinked}
+use Rattle.cc_model.specs.Graph.{Graph}
+use Rattle.cc_model.specs.WellMade.{IsWellMade}
+use Rattle.cc_model.specs.Reached.{Reached}
+use Rattle.cc_model.specs.Heap.{Heap, HeapNative}
+use Rattle.cc_model.specs.View.{view, ReachedIn}
+use Rattle.cc_model.specs.WellFormed.{IsRising, native_names, names_there}
+use Rattle.cc_model.specs.Colours.{HasColourInvariant}
+use Rattle.cc_model.specs.End.{take_away}
+use Rattle.cc_model.specs.StandsFor.{StandsFor, shape_at}
+use Rattle.cc_model.specs.Lawful.{unlinked_in}
+use Rattle.cc_model.specs.Snapshot.{Snapshot, IsWhite, white_names, white_natives}
+use Rattle.cc_model.specs.Fresh.{IsFresh, IsTraversed}
+use Rattle.cc_laws_heap.specs.Sound.{IsSound}
+use Rattle.cc_laws_heap.specs.Ending.{AreThere, TakesAway}
+use Rattle.cc_laws_heap.proofs.Rising.{IsRising-tail, IsRising-first, IsRising-cons}
+use Rattle.cc_laws_heap.proofs.ReachedAlike.{reached-there, reached-in}
+use Rattle.cc_laws_heap.proofs.Coloured.{AreColoured-from_view, HasColourInvariant-from}
+use Rattle.cc_laws_heap.proofs.NativesKeepScripts.{SameScripts-coloured}
+use Rattle.cc_laws_heap.proofs.TakingAway.{take_away-sound, take_away-takes}
+use Rattle.cc_laws_heap.proofs.EndsStand.{take_away-stands, take_away-unreached}
+use Rattle.cc_laws_snapshot.proofs.SoundView.{IsSound-view}
+use Rattle.cc_laws_snapshot.proofs.Unreached.{white-unreached}
+
+-- where numbers rise along a list, they rise along a part of it
+IsRising-part : {X : Type 0} (f : X → ℕ) (p : X → Bool) (xs : List X) → IsRising (map f xs) → IsRising (map f (filter p xs))
+IsRising-part f p [] r = tt
+IsRising-part {X} f p (x ∷ xs) r = go (p x) (IsRising-part f p xs (IsRising-tail (f x) (map f xs) r))
+  where
+    below : (j : ℕ) → Among j (map f (filter p xs)) → Among j (map f xs)
+    below j m = let k = Among-map_cases f (filter p xs) j m in
+        subst (λ i. Among i (map f xs)) k.2 (Among-map f k.0 xs (Among-filtered p k.0 xs k.1))
+
+    go : (b : Bool) → IsRising (map f (filter p xs)) → IsRising (map f (cond b (x ∷ filter p xs) (filter p xs)))
+    go true rest = IsRising-cons (f x) (map f (filter p xs)) (λ j m. IsRising-first (f x) (map f xs) r j (below j m)) rest
+    go false rest = rest
+
+-- the white natives are white
+pub white_natives-white : (h : Heap) (s : Snapshot) (k : ℕ) → Among k (white_natives h s) → IsWhite (view h) s (native k)
+unfolding white_natives
+white_natives-white h s k m =
+    let names : List Name = white_names (view h) s in
+    let f = Among-map_cases (λ (n : HeapNative). n.number) (filter (λ n. has same_name names (native n.number)) h.natives) k m in
+    let passes = Among-passes (λ (n : HeapNative). has same_name names (native n.number)) f.0 h.natives f.1 in
+    subst (λ j. Among (native j) names) f.2 (has-among same_name same_name-exact names (native f.0.number) passes)
+
+-- they are in the heaps, by rising number
+pub white_natives-there : (h : Heap) (s : Snapshot) → IsSound [] h → AreThere (white_natives h s) h
+unfolding white_natives
+white_natives-there h s sound = record {
+  rising = IsRising-part (λ (n : HeapNative). n.number) passes h.natives sound.well_formed.rising;
+  there = λ k m.
+      let f = Among-map_cases (λ (n : HeapNative). n.number) (filter passes h.natives) k m in
+      subst (λ j. Among (native j) (native_names h)) f.2
+      (Among-map (λ (n : HeapNative). native n.number) f.0 h.natives (Among-filtered passes f.0 h.natives f.1));
+}
+  where
+    passes : HeapNative → Bool
+    passes n = has same_name (white_names (view h) s) (native n.number)
+
+module _ (h : Heap) (s : Snapshot) (sound : IsSound [] h) (fresh : IsFresh h.natives_made (view h) s) (all : IsTraversed s) where
+  -- No register reaches them over the heaps,
+  pub white_natives-unreached : (k : ℕ) → Among k (white_natives h s) → ¬ (ReachedIn (view h) (native k))
+  white_natives-unreached k m = white-unreached h.natives_made (view h) s (IsSound-view h sound) fresh all k (white_natives-white h s k m)
+
+  -- nor in the graph that the heaps stand for.
+  pub white_natives-unreached_in : (g : Graph) → IsWellMade g → StandsFor h g → (k : ℕ) → Among k (white_natives h s) → ¬ (Reached g (native k))
+  white_natives-unreached_in g made stands k m r = white_natives-unreached k m (reached-in h g sound.well_formed made stands (native k) r)
+
+  -- Taking them away leaves sound heaps,
+  pub taking_white-sound : IsSound [] (take_away (white_natives h s) h).heap
+  taking_white-sound = take_away-sound h (white_natives h s) sound (white_natives-there h s sound).there
+
+  -- and takes away what it tells.
+  pub taking_white-takes : (freed : List ℕ) × TakesAway h (white_natives h s) freed (take_away (white_natives h s) h)
+  taking_white-takes = take_away-takes h (white_natives h s) sound (white_natives-there h s sound).there
+
+  -- It keeps the colour invariant,
+  pub taking_white-colours : HasColourInvariant (view (take_away (white_natives h s) h).heap)
+  taking_white-colours =
+      let t = taking_white-takes.1 in
+      HasColourInvariant-from (take_away (white_natives h s) h).heap taking_white-sound.well_formed
+      (SameScripts-coloured h (take_away (white_natives h s) h).heap (record { scripts = t.scripts; registers = t.script_registers })
+      (AreColoured-from_view h sound.well_formed fresh.colours))
+
+  module _ (g : Graph) (made : IsWellMade g) (stands : StandsFor h g) where
+    -- leaves heaps that stand for the same graph,
+    pub taking_white-stands : StandsFor (take_away (white_natives h s) h).heap g
+    taking_white-stands =
+        take_away-stands h g (white_natives h s) sound (white_natives-there h s sound).there made stands (white_natives-unreached_in g made stands)
+
+    -- in which what is reached is there with its slots and its flag,
+    pub taking_white-kept : (x : Name) → Reached g x →
+        Among x (names_there (take_away (white_natives h s) h).heap) × (shape_at (take_away (white_natives h s) h).heap x ≡ shape_at h x)
+    taking_white-kept x r =
+        let before = stands.reached x r in
+        let left = taking_white-stands.reached x r in (
+          reached-there (take_away (white_natives h s) h).heap g x taking_white-stands r,
+          left.there ∙ (sym left.made ∙ (before.made ∙ sym before.there)),
+        )
+
+    -- and tells only what is not reached.
+    pub taking_white-unreached : (x : Name) → Among (Freed x) (take_away (white_natives h s) h).events ⊎ Among (Unlinked x) (take_away (white_natives h s) h).events →
+        ¬ (Reached g x)
+    taking_white-unreached x told r = ⊎_elim
+        (λ i. take_away-unreached h g (white_natives h s) sound (white_natives-there h s sound).there made stands (white_natives-unreached_in g made stands) x i r)
+        (λ i.
+        let t = taking_white-takes.1 in
+        let k = t.natives_alone (Unlinked x) i in
+        let taken : Among k.0 (white_natives h s) = subst (Among k.0) t.unlinked
+        (Among-flat_map unlinked_in (Unlinked x) k.0 (take_away (white_natives h s) h).events i (subst (λ y. Among k.0 (natives_in y)) (sym k.1) (inl refl))) in
+        white_natives-unreached_in g made stands k.0 taken (subst (Reached g) k.1 r))
+        told

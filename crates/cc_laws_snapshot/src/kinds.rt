@@ -1,0 +1,65 @@
+ghost use Rattle.std.specs.Prelude.{◌≡◌, ◌+◌, ◌<◌, ◌≤◌, ℕ, Bool, true, false, List, [], ◌∷◌, ◌++◌, length, map, Option, Some, None, slice_index_or};
+ghost use Rattle.cc_lists.specs.Members.{Among};
+ghost use Rattle.cc_names.specs.declared.name.Name.{Name};
+ghost use Rattle.cc_names.specs.declared.register.Reg.{Reg};
+ghost use Rattle.cc_names.specs.declared.kind.Kind.{Kind};
+ghost use Rattle.cc_names.specs.Names.{native, object, reflector};
+ghost use Rattle.cc_model.specs.Slots.{contents, empty_slots};
+ghost use Rattle.cc_model.specs.Heap.{Heap, HeapNative, native_at, has_reflector, set_register, change_native, change_script, with_native_slot, with_script_slot, set_preserved};
+ghost use Rattle.cc_model.specs.Cascade.{Draining, add_ref, give_up, natives_of_slots, without_native};
+ghost use Rattle.cc_model.specs.Effects.{make_native, make_object, with_reflector, wrapped, set_entry};
+ghost use Rattle.cc_model.specs.Exposure.{exposed};
+ghost use Rattle.cc_model.specs.View.{view};
+ghost use Rattle.cc_model.specs.WellFormed.{IsWellFormed, IsRising, FitsName, native_names};
+ghost use Rattle.cc_model.specs.Snapshot.{Snapshot};
+ghost use Rattle.cc_laws_heap.specs.Sound.{IsSound};
+ghost use Rattle.cc_laws_snapshot.specs.Kinds.{IsFreshIn, IsFreshCounting, natives_held, IsNativeThere, IsInBuffer, IsNotGrayIn, IsThereIn, IsScriptObject};
+
+/// Each kind of change keeps every snapshot fresh; meanwhile natives that are queued for deletion, and those whose
+/// overwritten reference is not given up yet, count as purple in the buffer.
+///
+/// The kinds: a native is made, and a register holds it; a script object is made; a native gets a reference; a register,
+/// a slot, a flag or an entry is written, with no script objects but such as are not gray, and no natives but such
+/// as stand in the buffer; something is exposed; a reference is given up; the front of the queue leaves.
+pub fn kinds_of_change_keep_fresh()
+    ensures native_made { (owned : List ℕ) (h : Heap) (s : Snapshot) (d n : ℕ) → IsSound owned h → d < 256 → n ≤ 64 →
+        h.natives_made < h.limits.natives → IsFreshIn h s → IsFreshIn (make_native h d n).heap s }
+    ensures object_made { (owned : List ℕ) (h : Heap) (s : Snapshot) (d : ℕ) (kind : Kind) (n : ℕ) → IsSound owned h →
+        FitsName (object (h.scripts_made + 1)) kind (empty_slots n) → h.scripts_made < h.limits.scripts →
+        IsFreshIn h s → IsFreshIn (make_object h d kind n) s }
+    ensures reflector_made { (owned : List ℕ) (h : Heap) (s : Snapshot) (k : ℕ) → IsSound owned h → Among (native k) (native_names h) →
+        has_reflector h k ≡ false → IsFreshIn h s → IsFreshIn (with_reflector h k) s }
+    ensures wrapped { (owned : List ℕ) (h : Heap) (s : Snapshot) (x : Option Name) → IsSound owned h → IsNativeThere h x →
+        IsFreshIn h s → IsFreshIn (wrapped h x) s }
+    ensures reference_added { (h : Heap) (s : Snapshot) (k : ℕ) → IsFreshIn h s → IsFreshIn (add_ref h k) s }
+    ensures register_written { (h : Heap) (s : Snapshot) (r : Reg) (x : Option Name) → IsThereIn (view h) x → IsNotGrayIn (view h) x →
+        IsFreshIn h s → IsFreshIn (set_register h r x) s }
+    ensures slot_written { (h : Heap) (s : Snapshot) (n : HeapNative) (k i : ℕ) (x : Option Name) → IsWellFormed h →
+        native_at h k ≡ Some n → i < length n.slots → IsInBuffer (view h) x → IsNotGrayIn (view h) x →
+        IsFreshIn h s → IsFreshCounting (natives_held (slice_index_or n.slots i None)) (change_native h k (with_native_slot i x)) s }
+    ensures script_slot_written { (h : Heap) (s : Snapshot) (o : Name) (i : ℕ) (x : Option Name) → IsWellFormed h →
+        IsScriptObject x → IsThereIn (view h) x → IsNotGrayIn (view h) x →
+        IsFreshIn h s → IsFreshIn (change_script h o (with_script_slot i x)) s }
+    ensures flag_written { (h : Heap) (s : Snapshot) (k : ℕ) (on : Bool) → (on ≡ true → ¬ (Among (reflector k) (view h).gray)) →
+        IsFreshIn h s → IsFreshIn (set_preserved h k on) s }
+    ensures entry_written { (h : Heap) (s : Snapshot) (m k : Name) (v : Option Name) → ¬ (Among k (view h).gray) → IsNotGrayIn (view h) v →
+        IsFreshIn h s → IsFreshIn (set_entry h (Some m) (Some k) v) s }
+    ensures exposed { (owned : List ℕ) (h : Heap) (s : Snapshot) (x : Option Name) → IsSound owned h →
+        IsFreshIn h s → IsFreshIn (exposed h x) s }
+    ensures given_up { (d : Draining) (s : Snapshot) (k : ℕ) (others : List ℕ) → ((n : HeapNative) → native_at d.heap k ≡ Some n → 1 ≤ n.count) →
+        IsFreshCounting (k ∷ others ++ d.queue) d.heap s → IsFreshCounting (others ++ (give_up d k).queue) (give_up d k).heap s }
+    ensures front_leaves { (d : Draining) (s : Snapshot) (k : ℕ) →
+        ((n : HeapNative) → Among n d.heap.natives → n.number ≡ k → contents n.slots ≡ []) →
+        IsFreshCounting (k ∷ d.queue) d.heap s → IsFreshCounting d.queue (without_native d k).heap s }
+    ensures full_front_leaves { (d : Draining) (s : Snapshot) (k : ℕ) → IsRising (map (λ n. n.number) d.heap.natives) →
+        IsFreshCounting (k ∷ d.queue) d.heap s →
+        IsFreshCounting (natives_of_slots (native_at d.heap k) ++ d.queue) (without_native d k).heap s }
+{}
+
+/// What waits asks less of a snapshot; where nothing waits, it is fresh as it was.
+pub fn waiting_asks_less()
+    ensures more_wait { (h : Heap) (s : Snapshot) (ks js : List ℕ) → ((k : ℕ) → Among k ks → Among k js) →
+        IsFreshCounting ks h s → IsFreshCounting js h s }
+    ensures some_wait { (h : Heap) (s : Snapshot) (ks : List ℕ) → IsFreshIn h s → IsFreshCounting ks h s }
+    ensures none_waits { (h : Heap) (s : Snapshot) → IsFreshCounting [] h s → IsFreshIn h s }
+{}

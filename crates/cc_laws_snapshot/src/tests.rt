@@ -1,0 +1,20 @@
+//! Each law can be called.
+
+use crate::{
+    begin_is_fresh, commands_keep_fresh, ends_keep_reached, ends_take_white,
+    gentle_changes_keep_fresh, kinds_of_change_keep_fresh, units_keep_fresh, waiting_asks_less,
+    white_is_unreached,
+};
+
+#[test]
+fn laws_can_be_called() {
+    begin_is_fresh();
+    units_keep_fresh();
+    gentle_changes_keep_fresh();
+    kinds_of_change_keep_fresh();
+    waiting_asks_less();
+    commands_keep_fresh();
+    white_is_unreached();
+    ends_take_white();
+    ends_keep_reached();
+}
