@@ -1,10 +1,6 @@
 //! Each law can be called.
 
-use crate::{
-    cascade_keeps_counts, commands_keep_colours, commands_keep_counts, commands_stand,
-    ends_keep_counts, ends_stand, graphs_are_well_made, marking_is_least, reached_alike,
-    replies_agree, rounds_keep_counts, rounds_stand, unlinking_keeps_counts,
-};
+use super::*;
 
 #[test]
 fn laws_can_be_called() {

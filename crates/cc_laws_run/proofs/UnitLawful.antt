@@ -79,7 +79,7 @@ pub record UnitIsLawful (g : Graph) (names : List Name) (c : Command) (u : UnitD
 -- The white natives
 
 -- where no untraversed node is found, none is there
-traversed-none : (ns : List Node) → first_untraversed ns ≡ None → (x : Name) → ¬ (Among (node x untraversed) ns)
+pub traversed-none : (ns : List Node) → first_untraversed ns ≡ None → (x : Name) → ¬ (Among (node x untraversed) ns)
 traversed-none [] e x m = m
 traversed-none (n ∷ ns) e x m = go (traversed-none ns) (is_untraversed n.state) refl e
   where

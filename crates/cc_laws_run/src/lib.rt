@@ -4,12 +4,20 @@
 #![tactic(auto)]
 
 mod collections;
+mod doomed;
+mod kinds;
 mod memory;
+mod plain_run;
+mod quiet;
 mod suspected;
 mod turns;
 
 pub use collections::collections_are_lawful;
+pub use doomed::commands_keep_doomed;
+pub use kinds::kinds_of_change_keep_suspected;
 pub use memory::{memory_decides_nothing_else, runs_compose};
+pub use plain_run::{asks_keep_suspected, plain_run_is_lawful};
+pub use quiet::{garbage_is_doomed, gc_collect_gc_is_quiet};
 pub use suspected::{
     collections_keep_suspected, commands_keep_suspected, loyal_changes_keep_suspected,
 };

@@ -1,18 +1,20 @@
 //! Each law can be called.
 
-use crate::{
-    collections_are_lawful, collections_keep_suspected, commands_are_lawful,
-    commands_keep_suspected, loyal_changes_keep_suspected, memory_decides_nothing_else,
-    runs_compose,
-};
+use super::*;
 
 #[test]
 fn laws_can_be_called() {
     commands_keep_suspected();
     collections_keep_suspected();
     loyal_changes_keep_suspected();
+    kinds_of_change_keep_suspected();
+    asks_keep_suspected();
     commands_are_lawful();
     collections_are_lawful();
+    plain_run_is_lawful();
+    garbage_is_doomed();
+    commands_keep_doomed();
+    gc_collect_gc_is_quiet();
     runs_compose();
     memory_decides_nothing_else();
 }

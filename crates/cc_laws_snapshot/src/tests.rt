@@ -1,10 +1,6 @@
 //! Each law can be called.
 
-use crate::{
-    begin_is_fresh, commands_keep_fresh, ends_keep_reached, ends_take_white,
-    gentle_changes_keep_fresh, kinds_of_change_keep_fresh, units_keep_fresh, waiting_asks_less,
-    white_is_unreached,
-};
+use super::*;
 
 #[test]
 fn laws_can_be_called() {

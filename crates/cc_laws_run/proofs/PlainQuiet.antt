@@ -1,0 +1,158 @@
+-- THE PLAIN RUN IS QUIET: after `gc`, `collect` and `gc` in a row a census lists exactly the reached objects.
+use Rattle.std.specs.Prelude.{IsTrue, ◌↔◌}
+use Rattle.std.proofs.Common.{◌≡◌, Bool, true, false, List, [], ◌∷◌, Some, refl, sym, ap, subst}
+use Rattle.std.specs.List.{list_all, filter}
+use Rattle.std.proofs.lemmas.Bool.{and_parts}
+use Rattle.cc_lists.specs.Members.{Among}
+use Rattle.cc_lists.proofs.Members.{Among-filter, Among-left, Among-right}
+use Rattle.cc_names.specs.Allowance.{Allowance}
+use Rattle.cc_names.specs.declared.name.Name.{Name}
+use Rattle.cc_names.specs.Names.{is_native, is_script}
+use Rattle.cc_model.specs.declared.command.Command.TheVariants.{Nothing, Collect, Gc, Census}
+use Rattle.cc_model.specs.Asks.{Ask, taken}
+use Rattle.cc_model.specs.Heap.{empty_heap}
+use Rattle.cc_model.specs.View.{view, ReachedIn}
+use Rattle.cc_model.specs.WellFormed.{names_there}
+use Rattle.cc_model.specs.Suspected.{IsSuspected}
+use Rattle.cc_model.specs.End.{Progress, went_on, at_end, refused}
+use Rattle.cc_model.specs.Listed.{census_order}
+use Rattle.cc_model.specs.Lawful.{State, start, next}
+use Rattle.cc_model.specs.Quiet.{Row, nothing_yet, after_gc, after_collect, after_all, is_done, row_after_gc, row_after_collect, row_after, ListsReached, CensusIsQuiet, IsQuietFrom, IsQuiet}
+use Rattle.cc_model.specs.Collecting.{Machine, empty_machine, collect, gc, reply_to_units}
+use Rattle.cc_model.specs.Run.{do_ask, turns, plain_run}
+use Rattle.cc_laws_heap.proofs.ReachedAlike.{reached-in, in-reached}
+use Rattle.cc_laws_run.specs.Doomed.{IsSuspectedNow}
+use Rattle.cc_laws_run.specs.Running.{IsRunning, ask_in_range}
+use Rattle.cc_laws_run.proofs.FreedListed.{there-listed}
+use Rattle.cc_laws_run.proofs.RunsOn.{empty-runs}
+use Rattle.cc_laws_run.proofs.AsksSuspected.{ask-suspected}
+use Rattle.cc_laws_run.proofs.PlainLawful.{any-runs}
+use Rattle.cc_laws_run.proofs.QuietRow.{row-quiet}
+
+-- What the row says of the machine
+
+-- exactly what the registers reach is there
+abbrev IsExact : Machine → Type 0
+IsExact m = (x : Name) → Among x (names_there m.heap) ↔ ReachedIn (view m.heap) x
+
+-- the machine is what `gc` left of one that runs and forgot no unreached native
+record IsAfterGc (m : Machine) : Type 0 where
+  before : Machine
+  state : State
+  runs : IsRunning before state
+  suspected : IsSuspectedNow before
+  same : m ≡ (gc before).machine
+
+-- the machine is what `gc` and then a collection that was not refused left of such a one
+record IsAfterCollect (m : Machine) : Type 0 where
+  before : Machine
+  state : State
+  runs : IsRunning before state
+  suspected : IsSuspectedNow before
+  done : ¬ ((collect (gc before).machine).progress ≡ refused)
+  same : m ≡ (collect (gc before).machine).machine
+
+-- what is known of the machine at each place of the row
+abbrev InRow : Row → Machine → Type 0
+InRow nothing_yet m = Unit {0}
+InRow after_gc m = IsAfterGc m
+InRow after_collect m = IsAfterCollect m
+InRow after_all m = IsAfterGc m × IsExact m
+
+-- `gc` takes the row on
+gc-row : (row : Row) (m : Machine) (s : State) → IsRunning m s → IsSuspectedNow m → InRow row m → InRow (row_after_gc row) (gc m).machine
+gc-row row m s r suspected t = go row t
+  where
+    now : IsAfterGc (gc m).machine
+    now = record { before = m; state = s; runs = r; suspected = suspected; same = refl }
+
+    exact : IsAfterCollect m → IsExact (gc m).machine
+    exact c = subst (λ k. IsExact (gc k).machine) (sym c.same)
+        (λ x. row-quiet c.before x c.runs.sound c.runs.colours c.runs.fresh c.suspected c.done)
+
+    go : (row : Row) → InRow row m → InRow (row_after_gc row) (gc m).machine
+    go nothing_yet t = now
+    go after_gc t = now
+    go after_collect t = (now, exact t)
+    go after_all t = now
+
+-- a collection that is done takes the row on, too
+collect-row : (row : Row) (m : Machine) → InRow row m → InRow (row_after_collect row (Some (reply_to_units (collect m).progress))) (collect m).machine
+collect-row row m t = go row t
+  where
+    done : IsAfterGc m → ¬ ((collect m).progress ≡ refused) → IsAfterCollect (collect m).machine
+    done a d = record {
+      before = a.before;
+      state = a.state;
+      runs = a.runs;
+      suspected = a.suspected;
+      done = subst (λ k. ¬ ((collect k).progress ≡ refused)) a.same d;
+      same = ap (λ k. (collect k).machine) a.same;
+    }
+
+    by_progress : IsAfterGc m → (p : Progress) → (collect m).progress ≡ p →
+        InRow (elim (is_done (Some (reply_to_units p))) [ true ↦ after_collect | false ↦ nothing_yet ]) (collect m).machine
+    by_progress a went_on e = done a (λ f. absurd (cc))
+    by_progress a at_end e = done a (λ f. absurd (cc))
+    by_progress a refused e = tt
+
+    go : (row : Row) → InRow row m → InRow (row_after_collect row (Some (reply_to_units (collect m).progress))) (collect m).machine
+    go nothing_yet t = tt
+    go after_gc t = by_progress t (collect m).progress refl
+    go after_collect t = tt
+    go after_all t = by_progress t.0 (collect m).progress refl
+
+-- each ask leaves the row as it says
+ask-row : (row : Row) (m : Machine) (s : State) (ask : Ask) → IsRunning m s → IsSuspectedNow m → InRow row m →
+    InRow (row_after row ask (do_ask m ask).answer) (do_ask m ask).machine
+unfolding do_ask
+ask-row row m s (taken Nothing) r suspected t = t
+ask-row row m s (taken Gc) r suspected t = gc-row row m s r suspected t
+ask-row row m s (taken Collect) r suspected t = collect-row row m t
+ask-row row m s ask r suspected t = tt
+
+-- The census
+
+-- what is listed stands in census order
+listed-census_order : (names : List Name) (x : Name) → Among x names → Among x (census_order names)
+listed-census_order names x m = go (is_native x) refl
+  where
+    go : (b : Bool) → is_native x ≡ b → Among x (census_order names)
+    go true e = Among-left x (filter is_native names) (filter is_script names) (Among-filter is_native x names m e)
+    go false e = Among-right x (filter is_native names) (filter is_script names) (Among-filter is_script x names m (rw e refl))
+
+-- where exactly what the registers reach is there, exactly the reached names are listed
+lists-reached : (m : Machine) (s : State) → IsRunning m s → IsExact m → ListsReached s
+lists-reached m s r exact x = (
+  λ l. in-reached m.heap s.graph r.sound.well_formed r.well_made r.stands x
+      ((exact x).0 (subst (Among x) (sym r.listed) (listed-census_order s.listed x l))),
+  λ d. there-listed m.heap s.listed x r.listed ((exact x).1 (reached-in m.heap s.graph r.sound.well_formed r.well_made r.stands x d)),
+)
+
+-- a census is quiet where the row is whole
+census-quiet : (row : Row) (m : Machine) (s : State) (ask : Ask) → IsRunning m s → InRow row m → CensusIsQuiet row s ask
+census-quiet after_all m s (taken Census) r t = lists-reached m s r t.1
+census-quiet row m s ask r t = tt
+
+-- Asks in a row
+
+-- asks in a row are quiet from a machine that runs and forgot none
+asks-quiet : (row : Row) (m : Machine) (s : State) (asks : List Ask) → IsRunning m s → IsSuspectedNow m → InRow row m →
+    IsTrue (list_all ask_in_range asks) → IsQuietFrom row s asks (turns m asks)
+asks-quiet row m s [] r suspected t i = tt
+asks-quiet row m s (ask ∷ asks) r suspected t i =
+    let both = and_parts (ask_in_range ask) (list_all ask_in_range asks) i in (
+      census-quiet row m s ask r t,
+      asks-quiet (row_after row ask (do_ask m ask).answer) (do_ask m ask).machine (next s ask (do_ask m ask).answer) asks
+          (any-runs m s ask r both.0) (ask-suspected m s ask r both.0 suspected) (ask-row row m s ask r suspected t) both.1,
+    )
+
+-- in the empty heaps no native is forgotten
+empty-suspected : (limits : Allowance) → IsSuspected (view (empty_heap limits)) []
+empty-suspected limits u c m unreached = absurd m
+
+-- THE PLAIN RUN IS QUIET.
+pub run-quiet : (limits : Allowance) (memory : List Bool) (asks : List Ask) → IsTrue (list_all ask_in_range asks) →
+    IsQuiet limits asks (plain_run limits memory asks)
+run-quiet limits memory asks i =
+    asks-quiet nothing_yet (empty_machine limits memory) (start limits) asks (empty-runs limits memory) (empty-suspected limits) tt i

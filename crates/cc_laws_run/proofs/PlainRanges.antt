@@ -1,0 +1,270 @@
+-- EACH ASK OF AN INPUT IS IN RANGE: what the forms read are registers below 256 and at most 64 slots.
+use Rattle.std.specs.Prelude.{IsTrue, nat_lt, nat_le, bytes_eq, if◌then◌else◌}
+use Rattle.std.proofs.Common.{◌≡◌, ℕ, ◌+◌, ◌-◌, ◌*◌, ◌≤◌, ◌==◌, Bool, true, false, ◌&&◌, ◌||◌, List, [], ◌∷◌, map, length, Option, Some, None, refl, arith}
+use Rattle.std.specs.List.{list_all}
+use Rattle.std.proofs.lemmas.Bool.{and_from, and_parts, lt-ltb, le-leb, leb-true}
+use Rattle.cc_names.specs.declared.register.Reg.{Reg}
+use Rattle.cc_names.specs.declared.register.Reg.TheVariants.{N, S}
+use Rattle.cc_model.specs.declared.command.Command.{Command}
+use Rattle.cc_model.specs.declared.command.Command.TheVariants as command
+use Rattle.cc_model.specs.Ranges.{is_register, are_registers, is_source, is_script_source, is_slots, in_range}
+use Rattle.cc_model.specs.Lines.{lines_of, without_return}
+use Rattle.cc_model.specs.Tokens.{tokens_of, is_digit_within, digits_from, has_leading_zero, number_within, number, slots_number, units_number, register_with, native_register, script_register, is_none_word}
+use Rattle.cc_model.specs.Forms.{Form, both, all_three, nothing, of_one, of_two, of_three, alone, version_one_forms}
+use Rattle.cc_model.specs.Asks.{long, read_by, command_in, is_comment, command_of_tokens, command_of, taken_or_bad, longest_line, ask_of, asks_of}
+use Rattle.cc_laws_run.specs.Running.{ask_in_range}
+
+-- what is read has the property
+abbrev Has : {A : Type 0} → (A → Type 0) → Option A → Type 0
+Has P None = Unit {0}
+Has P (Some a) = P a
+
+-- anything at all
+abbrev Any : {A : Type 0} → A → Type 0
+Any a = Unit {0}
+
+-- whatever is read is something
+Has-any : {A : Type 0} (o : Option A) → Has Any o
+Has-any None = tt
+Has-any (Some a) = tt
+
+-- Numbers and registers
+
+-- digits lead to at most the most
+digits-below : (most n : ℕ) (bytes : List ℕ) → n ≤ most → Has (λ k. k ≤ most) (digits_from most n bytes)
+digits-below most n [] le = le
+digits-below most n (b ∷ bytes) le = go (digits-below most (n * 10 + (b - 48)) bytes) (is_digit_within most n b) refl
+  where
+    go : (n * 10 + (b - 48) ≤ most → Has (λ k. k ≤ most) (digits_from most (n * 10 + (b - 48)) bytes)) → (t : Bool) → is_digit_within most n b ≡ t →
+        Has (λ k. k ≤ most) (if t then digits_from most (n * 10 + (b - 48)) bytes else None)
+    go ih true e =
+        let later = (and_parts (nat_le 48 b) (nat_le b 57 && nat_le (n * 10 + (b - 48)) most) e).1 in
+        ih (leb-true (n * 10 + (b - 48)) most (and_parts (nat_le b 57) (nat_le (n * 10 + (b - 48)) most) later).1)
+    go ih false e = tt
+
+-- a number is at most the most
+number-below : (most : ℕ) (token : List ℕ) → Has (λ k. k ≤ most) (number_within most token)
+number-below most token = go (length token == 0 || has_leading_zero token)
+  where
+    go : (t : Bool) → Has (λ k. k ≤ most) (if t then None else digits_from most 0 token)
+    go true = tt
+    go false = digits-below most 0 token (omega arith)
+
+-- what is read has a property that follows from another one that it has
+Has-so : {A : Type 0} (P Q : A → Type 0) → ((a : A) → P a → Q a) → (o : Option A) → Has P o → Has Q o
+Has-so P Q so None h = tt
+Has-so P Q so (Some a) h = so a h
+
+-- a number of slots is in range
+slots-below : (token : List ℕ) → Has (λ k. IsTrue (is_slots k)) (slots_number token)
+slots-below token = Has-so (λ k. k ≤ 64) (λ k. IsTrue (is_slots k)) (λ k le. le-leb k 64 le) (number_within 64 token) (number-below 64 token)
+
+-- a register is in range
+register-below : (letter : ℕ) (token : List ℕ) → Has (λ k. IsTrue (is_register k)) (register_with letter token)
+register-below letter [] = tt
+register-below letter (b ∷ token) = go (b == letter)
+  where
+    go : (t : Bool) → Has (λ k. IsTrue (is_register k)) (if t then number_within 255 token else None)
+    go true = Has-so (λ k. k ≤ 255) (λ k. IsTrue (is_register k)) (λ k le. lt-ltb k 256 (omega (arith, le))) (number_within 255 token) (number-below 255 token)
+    go false = tt
+
+-- a native register is in range
+native-below : (token : List ℕ) → Has (λ k. IsTrue (is_register k)) (native_register token)
+native-below token = register-below 110 token
+
+-- a script register is in range
+script-below : (token : List ℕ) → Has (λ k. IsTrue (is_register k)) (script_register token)
+script-below token = register-below 115 token
+
+-- whatever number is read is something
+any-number : (token : List ℕ) → Has Any (number token)
+any-number token = Has-any (number token)
+
+-- the word `none` is nothing
+nothing-none : {A : Type 0} (P : Option A → Type 0) → P None → (token : List ℕ) → Has P (nothing token)
+nothing-none {A} P p token = go (is_none_word token)
+  where
+    go : (t : Bool) → Has P (if t then Some None else None)
+    go true = p
+    go false = tt
+
+-- Forms
+
+-- the command is in range
+abbrev InRange : Command → Type 0
+InRange c = IsTrue (in_range c)
+
+-- what a form reads is in range
+abbrev ReadsInRange : (List (List ℕ) → Option Command) → Type 0
+ReadsInRange reads = (tokens : List (List ℕ)) → Has InRange (reads tokens)
+
+-- a form of no token
+alone-in_range : (c : Command) → InRange c → ReadsInRange (alone c)
+alone-in_range c i [] = i
+alone-in_range c i (a ∷ tokens) = tt
+
+-- a form of one token
+one-in_range : {A : Type 0} (P : A → Type 0) (f : A → Command) (first : List ℕ → Option A) → ((t : List ℕ) → Has P (first t)) →
+    ((a : A) → P a → InRange (f a)) → ReadsInRange (of_one f first)
+one-in_range {A} P f first p i [] = tt
+one-in_range {A} P f first p i (t ∷ []) = go (first t) (p t)
+  where
+    go : (o : Option A) → Has P o → Has InRange (elim o [ None ↦ None | Some a ↦ Some (f a) ])
+    go None h = tt
+    go (Some a) h = i a h
+one-in_range {A} P f first p i (t ∷ u ∷ tokens) = tt
+
+-- a form of two
+two-in_range : {A B : Type 0} (P : A → Type 0) (Q : B → Type 0) (f : A → B → Command) (first : List ℕ → Option A) (second : List ℕ → Option B) →
+    ((t : List ℕ) → Has P (first t)) → ((t : List ℕ) → Has Q (second t)) →
+    ((a : A) (b : B) → P a → Q b → InRange (f a b)) → ReadsInRange (of_two f first second)
+two-in_range {A} {B} P Q f first second p q i [] = tt
+two-in_range {A} {B} P Q f first second p q i (t ∷ []) = tt
+two-in_range {A} {B} P Q f first second p q i (t ∷ u ∷ []) = both-in_range (first t) (p t) (second u) (q u)
+  where
+    both-in_range : (x : Option A) → Has P x → (y : Option B) → Has Q y → Has InRange (both f x y)
+    both-in_range None h y k = tt
+    both-in_range (Some a) h None k = tt
+    both-in_range (Some a) h (Some b) k = i a b h k
+two-in_range {A} {B} P Q f first second p q i (t ∷ u ∷ v ∷ tokens) = tt
+
+-- a form of three
+three-in_range : {A B C : Type 0} (P : A → Type 0) (Q : B → Type 0) (R : C → Type 0) (f : A → B → C → Command)
+    (first : List ℕ → Option A) (second : List ℕ → Option B) (third : List ℕ → Option C) →
+    ((t : List ℕ) → Has P (first t)) → ((t : List ℕ) → Has Q (second t)) → ((t : List ℕ) → Has R (third t)) →
+    ((a : A) (b : B) (c : C) → P a → Q b → R c → InRange (f a b c)) → ReadsInRange (of_three f first second third)
+three-in_range {A} {B} {C} P Q R f first second third p q r i [] = tt
+three-in_range {A} {B} {C} P Q R f first second third p q r i (t ∷ []) = tt
+three-in_range {A} {B} {C} P Q R f first second third p q r i (t ∷ u ∷ []) = tt
+three-in_range {A} {B} {C} P Q R f first second third p q r i (t ∷ u ∷ v ∷ []) = go (first t) (p t) (second u) (q u) (third v) (r v)
+  where
+    go : (x : Option A) → Has P x → (y : Option B) → Has Q y → (z : Option C) → Has R z → Has InRange (all_three f x y z)
+    go None h y k z l = tt
+    go (Some a) h None k z l = tt
+    go (Some a) h (Some b) k None l = tt
+    go (Some a) h (Some b) k (Some c) l = i a b c h k l
+three-in_range {A} {B} {C} P Q R f first second third p q r i (t ∷ u ∷ v ∷ w ∷ tokens) = tt
+
+-- a register in range
+abbrev IsRegister : ℕ → Type 0
+IsRegister k = IsTrue (is_register k)
+
+-- a number of slots in range
+abbrev IsSlots : ℕ → Type 0
+IsSlots k = IsTrue (is_slots k)
+
+-- a register in range, or none
+abbrev IsSource : Option Reg → Type 0
+IsSource r = IsTrue (is_source r)
+
+-- a script register in range, or none
+abbrev IsScriptSource : Option ℕ → Type 0
+IsScriptSource r = IsTrue (is_script_source r)
+
+-- each form of the list reads what is in range
+abbrev EachInRange : List Form → Type 0
+EachInRange [] = Unit {0}
+EachInRange (f ∷ fs) = ReadsInRange f.reads × EachInRange fs
+
+-- both of them
+infixr 3 ◌also◌
+◌also◌ : {A B : Type 0} → A → B → A × B
+p also q = (p, q)
+
+-- two registers in range
+two_registers : (r s : ℕ) → IsRegister r → IsRegister s → IsTrue (are_registers r s)
+two_registers r s p q = and_from (is_register r) (is_register s) p q
+
+-- ALL FORMS read commands in range.
+forms-in_range : EachInRange version_one_forms
+forms-in_range =
+    two-in_range IsRegister IsSlots command.Native native_register slots_number native-below slots-below (λ d n p q. and_from (is_register d) (is_slots n) p q)
+    also two-in_range IsRegister IsSlots command.Script script_register slots_number script-below slots-below (λ d n p q. and_from (is_register d) (is_slots n) p q)
+    also one-in_range IsRegister command.WeakMap script_register script-below (λ d p. p)
+    also two-in_range IsRegister IsRegister command.CopyNative native_register native_register native-below native-below two_registers
+    also two-in_range IsRegister IsRegister command.CopyScript script_register script_register script-below script-below two_registers
+    also one-in_range IsRegister (λ d. command.Drop (N d)) native_register native-below (λ d p. p)
+    also one-in_range IsRegister (λ d. command.Drop (S d)) script_register script-below (λ d p. p)
+    also three-in_range IsRegister Any IsRegister (λ d i s. command.Set d i (Some (N s))) native_register number native_register
+    native-below any-number native-below (λ d i s p q r. two_registers d s p r)
+    also three-in_range IsRegister Any IsRegister (λ d i s. command.Set d i (Some (S s))) native_register number script_register
+    native-below any-number script-below (λ d i s p q r. two_registers d s p r)
+    also three-in_range IsRegister Any IsSource command.Set native_register number nothing
+    native-below any-number (nothing-none IsSource refl) (λ d i s p q r. and_from (is_register d) (is_source s) p r)
+    also three-in_range IsRegister IsRegister Any (λ d s i. command.Get (N d) s i) native_register native_register number
+    native-below native-below any-number (λ d s i p q r. two_registers d s p q)
+    also three-in_range IsRegister IsRegister Any (λ d s i. command.Get (S d) s i) script_register native_register number
+    script-below native-below any-number (λ d s i p q r. two_registers d s p q)
+    also three-in_range IsRegister Any IsRegister (λ d i s. command.Put d i (Some s)) script_register number script_register
+    script-below any-number script-below (λ d i s p q r. two_registers d s p r)
+    also three-in_range IsRegister Any IsScriptSource command.Put script_register number nothing
+    script-below any-number (nothing-none IsScriptSource refl) (λ d i s p q r. and_from (is_register d) (is_script_source s) p r)
+    also three-in_range IsRegister IsRegister Any command.Take script_register script_register number
+    script-below script-below any-number (λ d s i p q r. two_registers d s p q)
+    also two-in_range IsRegister IsRegister command.Wrap script_register native_register script-below native-below two_registers
+    also two-in_range IsRegister IsRegister command.Unwrap native_register script_register native-below script-below two_registers
+    also one-in_range IsRegister command.Preserve script_register script-below (λ s p. p)
+    also three-in_range IsRegister IsRegister IsRegister (λ m k v. command.SetEntry m k (Some v)) script_register script_register script_register
+    script-below script-below script-below (λ m k v p q r. and_from (are_registers m k) (is_register v) (two_registers m k p q) r)
+    also three-in_range IsRegister IsRegister IsScriptSource command.SetEntry script_register script_register nothing
+    script-below script-below (nothing-none IsScriptSource refl) (λ m k v p q r. and_from (are_registers m k) (is_script_source v) (two_registers m k p q) r)
+    also three-in_range IsRegister IsRegister IsRegister command.GetEntry script_register script_register script_register
+    script-below script-below script-below (λ d m k p q r. and_from (is_register d) (are_registers m k) p (two_registers m k q r))
+    also two-in_range IsRegister Any command.Expose native_register number native-below any-number (λ s i p q. p)
+    also one-in_range Any command.Slice units_number (λ t. Has-any (units_number t)) (λ u p. refl)
+    also alone-in_range command.Collect refl
+    also alone-in_range command.Gc refl
+    also alone-in_range command.Census refl
+    also tt
+
+-- Lines
+
+-- the first form that reads a word and its tokens reads a command in range
+command_in-range : (forms : List Form) (word : List ℕ) (after : List (List ℕ)) → EachInRange forms → Has InRange (command_in forms word after)
+command_in-range [] word after each = tt
+command_in-range (f ∷ fs) word after each = go (command_in-range fs word after each.1) (read_by f word after) (by_word (bytes_eq word f.word))
+  where
+    by_word : (t : Bool) → Has InRange (elim t [ true ↦ f.reads after | false ↦ None ])
+    by_word true = each.0 after
+    by_word false = tt
+
+    go : Has InRange (command_in fs word after) → (o : Option Command) → Has InRange o →
+        Has InRange (elim o [ Some c ↦ Some c | None ↦ command_in fs word after ])
+    go ih None h = ih
+    go ih (Some c) h = h
+
+-- the tokens of a line are read as a command in range
+tokens-in_range : (forms : List Form) (tokens : List (List ℕ)) → EachInRange forms → Has InRange (command_of_tokens forms tokens)
+tokens-in_range forms [] each = refl
+tokens-in_range forms (word ∷ after) each = go (is_comment word)
+  where
+    go : (t : Bool) → Has InRange (elim t [ true ↦ Some command.Nothing | false ↦ command_in forms word after ])
+    go true = refl
+    go false = command_in-range forms word after each
+
+-- the command of a line is in range
+command_of-range : (forms : List Form) (line : List ℕ) → EachInRange forms → Has InRange (command_of forms line)
+unfolding command_of
+command_of-range forms line each = tokens-in_range forms (tokens_of (without_return line)) each
+
+-- what a line asks is in range
+ask_of-range : (forms : List Form) (line : List ℕ) → EachInRange forms → IsTrue (ask_in_range (ask_of forms line))
+ask_of-range forms line each = go (nat_lt longest_line (length line))
+  where
+    by_command : (o : Option Command) → Has InRange o → IsTrue (ask_in_range (taken_or_bad o))
+    by_command None h = refl
+    by_command (Some c) h = h
+
+    go : (t : Bool) → IsTrue (ask_in_range (elim t [ true ↦ long | false ↦ taken_or_bad (command_of forms line) ]))
+    go true = refl
+    go false = by_command (command_of forms line) (command_of-range forms line each)
+
+-- what all lines ask is in range
+lines-in_range : (forms : List Form) (lines : List (List ℕ)) → EachInRange forms → IsTrue (list_all ask_in_range (map (ask_of forms) lines))
+lines-in_range forms [] each = refl
+lines-in_range forms (line ∷ lines) each =
+    and_from (ask_in_range (ask_of forms line)) (list_all ask_in_range (map (ask_of forms) lines)) (ask_of-range forms line each) (lines-in_range forms lines each)
+
+-- ALL ASKS OF AN INPUT ARE IN RANGE.
+pub asks_of-range : (bytes : List ℕ) → IsTrue (list_all ask_in_range (asks_of version_one_forms bytes))
+asks_of-range bytes = lines-in_range version_one_forms (lines_of bytes) forms-in_range
