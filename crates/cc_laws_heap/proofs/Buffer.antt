@@ -4,7 +4,7 @@ use Rattle.std.specs.List.{filter}
 use Rattle.std.proofs.lemmas.Bool.{eqb-true, eq-eqb, ne_eqb, not-true}
 use Rattle.cc_lists.proofs.Counting.{count_by-cons}
 use Rattle.cc_model.specs.Heap.{Buffered, with_mark}
-use Rattle.cc_laws_heap.proofs.Lists.{count_by-kept, count_by-dropped}
+use Rattle.cc_lists.proofs.Searching.{count_by-kept, count_by-dropped}
 
 -- whether a place of the buffer is that of native k
 abbrev pub has_place : ℕ → Buffered → Bool

@@ -14,7 +14,7 @@ use Rattle.cc_model.specs.Heap.{Heap, HeapNative, Outcome, native_at, silently}
 use Rattle.cc_model.specs.Cascade.{Draining, give_up, give_up_each, natives_of_slots, told_free, free_front, drain, drained, at_rest, cascade, let_go}
 use Rattle.cc_model.specs.WellFormed.{native_names}
 use Rattle.cc_laws_heap.specs.Freeing.{Uncounted, uncounted, is_none_of, SameBeside}
-use Rattle.cc_laws_heap.proofs.Lists.{filter-true, filter-map, filter-filter}
+use Rattle.cc_lists.proofs.Searching.{filter-true, filter-map, filter-filter}
 use Rattle.cc_laws_heap.proofs.Numbers.{number-exact}
 use Rattle.cc_laws_heap.proofs.Beside.{SameBeside-refl, SameBeside-trans}
 use Rattle.cc_laws_heap.proofs.DrainingAlike.{IsAlike, IsAlike-give_up, IsAlike-give_up_each}

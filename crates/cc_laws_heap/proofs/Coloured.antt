@@ -16,7 +16,7 @@ use Rattle.cc_model.specs.Heap.{Heap, HeapNative, HeapScript, is_white_colour, i
 use Rattle.cc_model.specs.View.{view, names_with, slot_edges, preserved_edge, native_edges, script_slot_edges, script_edges}
 use Rattle.cc_model.specs.Colours.{HasColourInvariant}
 use Rattle.cc_model.specs.WellFormed.{IsWellFormed, FitsName}
-use Rattle.cc_laws_heap.proofs.ListWrites.{only-member}
+use Rattle.cc_lists.proofs.ListWrites.{only-member}
 
 -- what black ones have in slots is black, script registers hold black ones, none is white
 pub record AreColoured (scripts : List HeapScript) (registers : Slots) : Type 0 where

@@ -8,7 +8,8 @@ use Rattle.cc_model.specs.Heap.{Heap, HeapNative, native_at}
 use Rattle.cc_model.specs.Cascade.{Draining, give_up_each, natives_of_slots, told_free, free_front, drain}
 use Rattle.cc_model.specs.Counts.{times}
 use Rattle.cc_laws_heap.specs.Freeing.{Uncounted, uncounted, Frees}
-use Rattle.cc_laws_heap.proofs.Lists.{filter-map, length-filter-less}
+use Rattle.cc_lists.proofs.Filtering.{length-filter-less}
+use Rattle.cc_lists.proofs.Searching.{filter-map}
 use Rattle.cc_laws_heap.proofs.Natives.{has_number, native_at-there, native_at-number}
 use Rattle.cc_laws_heap.proofs.References.{times-cons_same}
 use Rattle.cc_laws_heap.proofs.GiveUp.{IsBalanced}

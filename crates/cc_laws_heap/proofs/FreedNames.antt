@@ -10,7 +10,7 @@ use Rattle.cc_model.specs.declared.item.Event.TheVariants.{Freed}
 use Rattle.cc_model.specs.Heap.{Heap, Outcome, silently, after}
 use Rattle.cc_model.specs.WellFormed.{native_names, script_names, names_there}
 use Rattle.cc_laws_heap.specs.Rounds.{is_not_among, FreesNames}
-use Rattle.cc_laws_heap.proofs.Lists.{filter-true, filter-filter}
+use Rattle.cc_lists.proofs.Searching.{filter-true, filter-filter}
 use Rattle.cc_laws_heap.proofs.NameLists.{names-once_append, is_not_among-append, left-apart}
 
 -- two lists taken out in turn are taken out together

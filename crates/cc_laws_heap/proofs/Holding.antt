@@ -17,7 +17,7 @@ use Rattle.cc_model.specs.Slots.{contents}
 use Rattle.cc_model.specs.Checks.{slots_or_none, slot_at, value_at, is_native_there, is_script_there, native_of}
 use Rattle.cc_model.specs.Heap.{Heap, HeapNative, HeapScript, native_at, script_at, slots_in, slots_of_script, slots_of_kind, register, objects_of, source, has_reflector}
 use Rattle.cc_model.specs.WellFormed.{IsWellFormed, native_names, script_names, names_there}
-use Rattle.cc_laws_heap.proofs.Lists.{find-some}
+use Rattle.cc_lists.proofs.Searching.{find-some}
 use Rattle.cc_laws_heap.proofs.Natives.{native_at-there}
 use Rattle.cc_laws_heap.proofs.References.{native-there}
 use Rattle.cc_laws_heap.proofs.Owning.{IsIn}

@@ -13,7 +13,7 @@ use Rattle.cc_model.specs.Heap.{Heap, HeapNative, HeapScript, native_at, slots_i
 use Rattle.cc_model.specs.Cascade.{add_ref, take_up}
 use Rattle.cc_model.specs.WellFormed.{native_names, script_names, names_there}
 use Rattle.cc_laws_heap.specs.Freeing.{Uncounted, uncounted, SameBeside}
-use Rattle.cc_laws_heap.proofs.Lists.{find-map}
+use Rattle.cc_lists.proofs.Searching.{find-map}
 use Rattle.cc_laws_heap.proofs.Natives.{uncounted-change}
 use Rattle.cc_laws_heap.proofs.Beside.{SameBeside-with, SameBeside-refl}
 

@@ -12,12 +12,12 @@ use Rattle.cc_model.specs.Heap.{Heap, HeapNative, Outcome, change_native}
 use Rattle.cc_model.specs.WellFormed.{native_names}
 use Rattle.cc_model.specs.Counts.{times}
 use Rattle.cc_laws_heap.specs.Freeing.{Uncounted, uncounted, is_none_of, SameBeside, Frees}
-use Rattle.cc_laws_heap.proofs.Lists.{filter-true, filter-map, filter-filter}
+use Rattle.cc_lists.proofs.Searching.{filter-true, filter-map, filter-filter}
 use Rattle.cc_laws_heap.proofs.Numbers.{number-exact}
 use Rattle.cc_laws_heap.proofs.Natives.{named-member, KeepsNumber, changed_at, changed_at-number}
 use Rattle.cc_laws_heap.proofs.References.{times-append, times-among}
 use Rattle.cc_laws_heap.proofs.Beside.{SameBeside-refl, SameBeside-trans, SameBeside-change_native}
-use Rattle.cc_laws_heap.proofs.ListWrites.{map-kept}
+use Rattle.cc_lists.proofs.ListWrites.{map-kept}
 
 -- the numbers of the natives that are there
 abbrev pub numbers_there : Heap → List ℕ

@@ -1,4 +1,3 @@
-pub mod Lists
 pub mod Numbers
 pub mod Rising
 pub mod Natives
@@ -13,7 +12,6 @@ pub mod Freed
 pub mod WellFormedStays
 pub mod Drain
 pub mod Cascades
-pub mod ListWrites
 pub mod Kept
 pub mod Making
 pub mod HoldsTheSame

@@ -16,7 +16,7 @@ use Rattle.cc_model.specs.Heap.{Heap, HeapScript}
 use Rattle.cc_model.specs.View.{script_slot_edges}
 use Rattle.cc_model.specs.Exposure.{slots_of_scripts}
 use Rattle.cc_model.specs.Colours.{IsBlack, black_names, scripts_held, IsMarked, marked_names, IsGray, colour_by, with_colour, marked, HasColours}
-use Rattle.cc_laws_heap.proofs.ListWrites.{each-map, flat_map-kept}
+use Rattle.cc_lists.proofs.ListWrites.{each-map, flat_map-kept}
 
 -- Colours by two tests
 

@@ -11,7 +11,7 @@ use Rattle.cc_model.specs.WellFormed.{IsWellFormed, native_names, script_names}
 use Rattle.cc_model.specs.Counts.{refs_to, times}
 use Rattle.cc_laws_heap.specs.Sound.{IsSound}
 use Rattle.cc_laws_heap.specs.Rounds.{is_not_among, FreesNames}
-use Rattle.cc_laws_heap.proofs.ListWrites.{map-kept, count_by-kept_map}
+use Rattle.cc_lists.proofs.ListWrites.{map-kept, count_by-kept_map}
 use Rattle.cc_laws_heap.proofs.Kept.{ChangesScripts, IsWellFormed-scripts}
 use Rattle.cc_laws_heap.proofs.Marking.{as_marked, HasColours-marked}
 use Rattle.cc_laws_heap.proofs.Swept.{taken-sweep, sweep-frees, sweep-sound}

@@ -11,7 +11,8 @@ use Rattle.cc_model.specs.Heap.{Heap, HeapNative, native_at, change_native}
 use Rattle.cc_model.specs.Cascade.{removed}
 use Rattle.cc_model.specs.WellFormed.{IsRising, IsWellFormed, native_names}
 use Rattle.cc_laws_heap.specs.Freeing.{uncounted}
-use Rattle.cc_laws_heap.proofs.Lists.{find-among, find-passes, find-some, find-only, find-map, find-filter, find-dropped}
+use Rattle.cc_lists.proofs.Filtering.{find-among, find-passes}
+use Rattle.cc_lists.proofs.Searching.{find-some, find-only, find-map, find-filter, find-dropped}
 use Rattle.cc_laws_heap.proofs.Rising.{IsRising-once}
 
 -- whether a native has the number k

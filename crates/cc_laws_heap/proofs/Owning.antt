@@ -17,7 +17,7 @@ use Rattle.cc_laws_heap.proofs.Natives.{native_at-change_same, native_at-change_
 use Rattle.cc_laws_heap.proofs.References.{times-append, times-cons_same, times-cons_other, times-natives_in, refs_to-alike, native-there}
 use Rattle.cc_laws_heap.proofs.Counted.{IsCounted, count_of, count_at, IsSound-counted, IsSound-from_counted}
 use Rattle.cc_laws_heap.proofs.Cascades.{cascade-sound}
-use Rattle.cc_laws_heap.proofs.ListWrites.{changed_where, changed_where-either, each-map}
+use Rattle.cc_lists.proofs.ListWrites.{changed_where, changed_where-either, each-map}
 use Rattle.cc_laws_heap.proofs.Kept.{ChangesNatives, IsBuffer, IsWellFormed-natives}
 use Rattle.cc_laws_heap.proofs.Making.{with_mark-cases, places-with_mark}
 use Rattle.cc_laws_heap.proofs.HoldsTheSame.{raise_native, HoldsTheSame-add_ref}

@@ -7,7 +7,7 @@ use Rattle.cc_model.specs.Entries.{Entry}
 use Rattle.cc_model.specs.Colours.{marked}
 use Rattle.cc_model.specs.Sweep.{unmarked, is_dead_entry, without_dead_entries, sweep_each, sweep, sweeps, rounds, collect_scripts}
 use Rattle.cc_model.proofs.Rounds.{length-marked, length-sweep-less}
-use Rattle.cc_laws_heap.proofs.Lists.{filter-true}
+use Rattle.cc_lists.proofs.Searching.{filter-true}
 
 -- the heaps and what was told, after one round more
 abbrev pub next_round : Outcome → Outcome

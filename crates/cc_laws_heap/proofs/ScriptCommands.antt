@@ -22,7 +22,7 @@ use Rattle.cc_model.specs.Exposure.{exposed}
 use Rattle.cc_model.specs.Effects.{make_object, with_object, with_reflector, wrapped, set_entry}
 use Rattle.cc_model.specs.WellFormed.{IsWellFormed, FitsName, HasMembers, native_names, script_names}
 use Rattle.cc_laws_heap.specs.Sound.{IsSound}
-use Rattle.cc_laws_heap.proofs.Lists.{find-some}
+use Rattle.cc_lists.proofs.Searching.{find-some}
 use Rattle.cc_laws_heap.proofs.Kept.{with_entries}
 use Rattle.cc_laws_heap.proofs.Making.{contents-empty_none, IsNewScript, script_names-new_script}
 use Rattle.cc_laws_heap.proofs.HoldsTheSame.{HoldsTheSame-add_ref, native_names-alike}

@@ -14,7 +14,7 @@ use Rattle.cc_model.specs.Exposure.{exposed, exposed_names, as_black}
 use Rattle.cc_model.specs.Effects.{hold_script, put_in_script}
 use Rattle.cc_model.specs.WellFormed.{IsWellFormed, FitsName, script_names}
 use Rattle.cc_laws_heap.specs.Sound.{IsSound}
-use Rattle.cc_laws_heap.proofs.ListWrites.{changed_where, changed_where-either}
+use Rattle.cc_lists.proofs.ListWrites.{changed_where, changed_where-either}
 use Rattle.cc_laws_heap.proofs.Kept.{ChangesScripts, script_names-kept}
 use Rattle.cc_laws_heap.proofs.Owning.{IsIn}
 use Rattle.cc_laws_heap.proofs.Writes.{contents-written, script_register-sound, set_preserved-sound, scripts-sound}

@@ -17,7 +17,7 @@ use Rattle.cc_model.specs.Cascade.{cascade}
 use Rattle.cc_model.specs.Sweep.{without_script, let_native_go, sweep_one, sweep_each}
 use Rattle.cc_model.specs.WellFormed.{script_names}
 use Rattle.cc_model.proofs.Rounds.{scripts-cascade}
-use Rattle.cc_laws_heap.proofs.Lists.{filter-true, filter-filter}
+use Rattle.cc_lists.proofs.Searching.{filter-true, filter-filter}
 use Rattle.cc_laws_heap.proofs.NameLists.{same_name-other, same_name-sym, names-some}
 use Rattle.cc_laws_heap.proofs.TakenOut.{TakesOut, TakesOut-then, TakesOut-script, TakesOut-cascade}
 use Rattle.cc_laws_heap.proofs.SweepBalance.{IsSteady, IsSteady-without_object, IsSteady-without_reflector, cascade-steady, cascade-frees_steady}

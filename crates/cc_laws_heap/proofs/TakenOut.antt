@@ -17,7 +17,7 @@ use Rattle.cc_model.specs.Counts.{times}
 use Rattle.cc_model.specs.Sweep.{without_script}
 use Rattle.cc_laws_heap.specs.Freeing.{Uncounted, uncounted, is_none_of, Frees}
 use Rattle.cc_laws_heap.specs.Rounds.{is_not_among, FreesNames}
-use Rattle.cc_laws_heap.proofs.Lists.{filter-true, filter-map}
+use Rattle.cc_lists.proofs.Searching.{filter-true, filter-map}
 use Rattle.cc_laws_heap.proofs.References.{times-natives_in}
 use Rattle.cc_laws_heap.proofs.NameLists.{same_name-sym, has-natives_in, natives_in-natives}
 use Rattle.cc_laws_heap.proofs.ScriptNames.{script-other}

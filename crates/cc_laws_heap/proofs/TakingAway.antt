@@ -18,7 +18,7 @@ use Rattle.cc_laws_heap.proofs.References.{times-append, times-cons, times-some,
 use Rattle.cc_laws_heap.proofs.Freed.{freed_event}
 use Rattle.cc_laws_heap.proofs.Cascades.{cascade-sound, cascade-frees}
 use Rattle.cc_laws_heap.proofs.HoldsTheSame.{HoldsTheSame-add_ref, native_names-alike, raise_native}
-use Rattle.cc_laws_heap.proofs.ListWrites.{map-kept}
+use Rattle.cc_lists.proofs.ListWrites.{map-kept}
 use Rattle.cc_laws_heap.proofs.Owning.{add_ref-sound}
 use Rattle.cc_laws_heap.proofs.Leaving.{Leave, Leave-same, Leave-refl, Leave-trans, Leave-frees, Leave-none}
 use Rattle.cc_laws_heap.proofs.Unlinking.{unlink-keeps}

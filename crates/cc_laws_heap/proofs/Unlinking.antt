@@ -15,7 +15,7 @@ use Rattle.cc_model.specs.StandsFor.{IsEmptied}
 use Rattle.cc_laws_heap.specs.Sound.{IsSound}
 use Rattle.cc_laws_heap.proofs.Natives.{native_at-change_same, native_at-member, IsWellFormed-distinct, named-found}
 use Rattle.cc_laws_heap.proofs.Freed.{freed_event}
-use Rattle.cc_laws_heap.proofs.ListWrites.{changed_where, changed_where-either, each-map, map-kept, flat_map-kept}
+use Rattle.cc_lists.proofs.ListWrites.{changed_where, changed_where-either, each-map, map-kept, flat_map-kept}
 use Rattle.cc_laws_heap.proofs.Kept.{ChangesNatives, IsWellFormed-natives}
 use Rattle.cc_laws_heap.proofs.Leaving.{Leave, Leave-trans, Leave-change_native, OthersStay, OthersStay-trans, OthersStay-change_native}
 use Rattle.cc_laws_heap.proofs.Emptying.{IsEmptying, IsEmptying-start, empty_each-sound}

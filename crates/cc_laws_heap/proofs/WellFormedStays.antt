@@ -14,7 +14,7 @@ use Rattle.cc_model.specs.Heap.{Heap, HeapNative, Buffered}
 use Rattle.cc_model.specs.WellFormed.{IsRising, IsWellFormed, native_names, script_names, names_there}
 use Rattle.cc_model.specs.Counts.{refs_to}
 use Rattle.cc_laws_heap.specs.Freeing.{Uncounted, uncounted}
-use Rattle.cc_laws_heap.proofs.Lists.{filter-map}
+use Rattle.cc_lists.proofs.Searching.{filter-map}
 use Rattle.cc_laws_heap.proofs.Rising.{IsRising-filter}
 use Rattle.cc_laws_heap.proofs.References.{refs_to-register, refs_to-slot, refs_to-reflector}
 use Rattle.cc_laws_heap.proofs.Buffer.{has_place, places}

@@ -17,7 +17,7 @@ use Rattle.cc_model.specs.Listed.{census_order, after_events}
 use Rattle.cc_model.specs.Run.{census_names}
 use Rattle.cc_laws_heap.specs.Ending.{freed_numbers, NamesNative}
 use Rattle.cc_laws_heap.specs.Rounds.{is_not_among}
-use Rattle.cc_laws_heap.proofs.Lists.{filter-map, filter-true, filter-filter}
+use Rattle.cc_lists.proofs.Searching.{filter-map, filter-true, filter-filter}
 use Rattle.cc_laws_heap.proofs.NameLists.{same_name-sym, is_not_among-from}
 
 -- the name that an event frees

@@ -20,7 +20,7 @@ use Rattle.cc_model.specs.WellFormed.{native_names, script_names}
 use Rattle.cc_laws_heap.specs.Freeing.{Uncounted, uncounted}
 use Rattle.cc_laws_heap.proofs.Natives.{HasDistinctNumbers, native_at-there, native_at-number, native_at-member}
 use Rattle.cc_laws_heap.proofs.HoldsTheSame.{HoldsTheSame-add_ref}
-use Rattle.cc_laws_heap.proofs.ListWrites.{changed_where, changed_where-either, map-kept}
+use Rattle.cc_lists.proofs.ListWrites.{changed_where, changed_where-either, map-kept}
 use Rattle.cc_laws_heap.proofs.NativeCommands.{HasSlot}
 use Rattle.cc_laws_heap.proofs.Owning.{numbers_of}
 use Rattle.cc_laws_heap.proofs.Making.{new_native}

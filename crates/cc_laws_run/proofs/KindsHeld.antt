@@ -24,7 +24,7 @@ use Rattle.cc_laws_heap.proofs.Writes.{native_register-sound}
 use Rattle.cc_laws_heap.proofs.MadeSound.{with_native-sound}
 use Rattle.cc_laws_heap.proofs.NativeCommands.{IsIn-made}
 use Rattle.cc_laws_heap.proofs.HoldsTheSame.{HoldsTheSame-add_ref, native_names-alike}
-use Rattle.cc_laws_heap.proofs.ListWrites.{changed_where, changed_where-either, map-kept}
+use Rattle.cc_lists.proofs.ListWrites.{changed_where, changed_where-either, map-kept}
 use Rattle.cc_laws_heap.proofs.ScriptCommands.{blank}
 use Rattle.cc_laws_run.specs.Losing.{PurpleOrGone, IsLoyal}
 use Rattle.cc_laws_run.specs.KindsSuspected.{IsSuspectedIn, IsReachedNative}

@@ -20,7 +20,7 @@ use Rattle.cc_laws_heap.proofs.Natives.{has_number, native_at-there, native_at-n
 use Rattle.cc_laws_heap.proofs.Beside.{SameBeside-change_native}
 use Rattle.cc_laws_heap.proofs.GiveUp.{lower_native}
 use Rattle.cc_laws_heap.proofs.HoldsTheSame.{HoldsTheSame, native_names-alike}
-use Rattle.cc_laws_heap.proofs.ListWrites.{changed_where, changed_where-either, map-kept}
+use Rattle.cc_lists.proofs.ListWrites.{changed_where, changed_where-either, map-kept}
 use Rattle.cc_laws_snapshot.specs.Kinds.{counting, natives_held}
 use Rattle.cc_laws_snapshot.proofs.NamePairs.{native-no_script}
 use Rattle.cc_laws_snapshot.proofs.Edges.{native_edges-are}

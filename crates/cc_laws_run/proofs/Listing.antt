@@ -13,7 +13,7 @@ use Rattle.cc_names.specs.Names.{native, same_name, is_native, is_script}
 use Rattle.cc_names.proofs.NameTests.{same_name-exact}
 use Rattle.cc_model.specs.Listed.{census_order, after_events}
 use Rattle.cc_laws_heap.specs.Rounds.{is_not_among}
-use Rattle.cc_laws_heap.proofs.Lists.{filter-true, filter-filter}
+use Rattle.cc_lists.proofs.Searching.{filter-true, filter-filter}
 use Rattle.cc_laws_heap.proofs.NameLists.{same_name-sym}
 use Rattle.cc_laws_heap.proofs.Freed.{freed_event}
 

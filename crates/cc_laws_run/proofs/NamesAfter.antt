@@ -28,7 +28,7 @@ use Rattle.cc_model.specs.Listed.{after_events}
 use Rattle.cc_laws_heap.specs.Sound.{IsSound}
 use Rattle.cc_laws_heap.specs.Freeing.{Frees}
 use Rattle.cc_laws_heap.specs.Rounds.{is_not_among}
-use Rattle.cc_laws_heap.proofs.Lists.{filter-map}
+use Rattle.cc_lists.proofs.Searching.{filter-map}
 use Rattle.cc_laws_heap.proofs.Freed.{freed_event}
 use Rattle.cc_laws_heap.proofs.Leaving.{numbers_there, Leave-frees}
 use Rattle.cc_laws_heap.proofs.HoldsTheSame.{HoldsTheSame-take_up, HoldsTheSame-add_ref}

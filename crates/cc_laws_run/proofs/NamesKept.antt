@@ -7,7 +7,7 @@ use Rattle.cc_model.specs.Heap.{Heap, HeapNative, HeapScript, change_native, cha
 use Rattle.cc_model.specs.Exposure.{exposed}
 use Rattle.cc_model.specs.Effects.{put_in_script, set_entry}
 use Rattle.cc_model.specs.WellFormed.{IsWellFormed, native_names, script_names}
-use Rattle.cc_laws_heap.proofs.ListWrites.{map-kept}
+use Rattle.cc_lists.proofs.ListWrites.{map-kept}
 use Rattle.cc_laws_heap.proofs.Natives.{KeepsNumber, changed_at, changed_at-number}
 use Rattle.cc_laws_heap.proofs.HoldsTheSame.{HoldsTheSame, native_names-alike, script_names-alike}
 use Rattle.cc_laws_heap.proofs.ScriptsKept.{script_names-exposed}

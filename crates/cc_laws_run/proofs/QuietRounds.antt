@@ -21,7 +21,7 @@ use Rattle.cc_model.specs.Colours.{HasColours, IsMarked, black_rules, black_name
 use Rattle.cc_model.specs.Sweep.{unmarked, sweep, collect_scripts}
 use Rattle.cc_laws_heap.specs.Sound.{IsSound}
 use Rattle.cc_laws_heap.specs.Freeing.{Uncounted, uncounted}
-use Rattle.cc_laws_heap.proofs.ListWrites.{only-member}
+use Rattle.cc_lists.proofs.ListWrites.{only-member}
 use Rattle.cc_laws_heap.proofs.Natives.{native_at-member, named-member, IsWellFormed-distinct}
 use Rattle.cc_laws_heap.proofs.NameLists.{is_not_among-from, is_not_among-apart}
 use Rattle.cc_laws_heap.proofs.ScriptNames.{entry-named}

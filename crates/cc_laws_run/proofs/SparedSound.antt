@@ -16,10 +16,10 @@ use Rattle.cc_model.specs.Sweep.{unmarked}
 use Rattle.cc_model.specs.WellFormed.{IsWellFormed, native_names, script_names}
 use Rattle.cc_model.specs.Counts.{times}
 use Rattle.cc_laws_heap.specs.Sound.{IsSound}
-use Rattle.cc_laws_heap.proofs.ListWrites.{only-member}
+use Rattle.cc_lists.proofs.ListWrites.{only-member}
 use Rattle.cc_laws_heap.proofs.References.{times-append, times-cons}
 use Rattle.cc_laws_heap.proofs.MarkedWellFormed.{is_spared, spared, IsWellFormed-spared}
-use Rattle.cc_laws_snapshot.proofs.CountsOf.{count_by-agree}
+use Rattle.cc_lists.proofs.CountsOf.{count_by-agree}
 
 -- a test, and a part of a list and the rest
 count_by-parted : {X : Type 0} (p q : X → Bool) (xs : List X) → count_by p xs ≡ count_by (λ x. not (q x) && p x) xs + count_by (λ x. q x && p x) xs

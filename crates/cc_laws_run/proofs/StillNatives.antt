@@ -22,7 +22,7 @@ use Rattle.cc_model.specs.Effects.{hold_script, make_object, with_reflector, wra
 use Rattle.cc_model.specs.WellFormed.{native_names, script_names}
 use Rattle.cc_laws_heap.specs.Freeing.{Uncounted}
 use Rattle.cc_laws_heap.proofs.HoldsTheSame.{HoldsTheSame-add_ref, native_names-alike}
-use Rattle.cc_laws_heap.proofs.ListWrites.{changed_where, changed_where-either, map-kept}
+use Rattle.cc_lists.proofs.ListWrites.{changed_where, changed_where-either, map-kept}
 use Rattle.cc_laws_heap.proofs.Making.{with_script_last, script_names-with_script}
 use Rattle.cc_laws_heap.proofs.ScriptCommands.{blank}
 use Rattle.cc_laws_run.proofs.Handing.{Hands}

@@ -15,7 +15,7 @@ use Rattle.cc_model.specs.End.{unroot_each}
 use Rattle.cc_model.specs.WellFormed.{IsWellFormed}
 use Rattle.cc_model.specs.Suspected.{IsSuspected}
 use Rattle.cc_laws_heap.specs.Sound.{IsSound}
-use Rattle.cc_laws_heap.proofs.ListWrites.{flat_map-kept}
+use Rattle.cc_lists.proofs.ListWrites.{flat_map-kept}
 use Rattle.cc_laws_heap.proofs.Marking.{as_marked, HasColours-marked}
 use Rattle.cc_laws_heap.proofs.MarkingKeeps.{IsSound-marked, round-sound}
 use Rattle.cc_laws_heap.proofs.MarkedWellFormed.{is_spared, spared}

@@ -13,7 +13,7 @@ use Rattle.cc_names.proofs.NameTests.{same_name-true}
 use Rattle.cc_model.specs.Slots.{Slots, contents, from_to}
 use Rattle.cc_model.specs.Heap.{Heap, HeapNative, HeapScript, is_black_colour, set_register, change_native, change_script, with_native_slot, with_script_slot, set_preserved}
 use Rattle.cc_model.specs.View.{view, slot_edges, preserved_edge, native_edges, script_slot_edges, script_edges}
-use Rattle.cc_laws_heap.proofs.ListWrites.{changed_where, changed_where-either, Among-flat_map_set}
+use Rattle.cc_lists.proofs.ListWrites.{changed_where, changed_where-either, Among-flat_map_set}
 use Rattle.cc_laws_run.proofs.TouchedViews.{Spares, Spares-registers, Spares-natives, Spares-scripts, edge-native, edge-script}
 
 -- what a place holds is no member

@@ -28,7 +28,7 @@ use Rattle.cc_model.specs.Lawful.{MayBe, EachMayBe, runs_units, is_gc, has_none,
 use Rattle.cc_model.specs.Run.{census_names}
 use Rattle.cc_laws_heap.specs.Sound.{IsSound}
 use Rattle.cc_laws_heap.specs.Ending.{freed_in, freed_numbers, AreThere, TakesAway}
-use Rattle.cc_laws_heap.proofs.Lists.{filter-map}
+use Rattle.cc_lists.proofs.Searching.{filter-map}
 use Rattle.cc_laws_heap.proofs.Kept.{IsBuffer}
 use Rattle.cc_laws_heap.proofs.Rising.{IsRising-filter}
 use Rattle.cc_laws_heap.proofs.Coloured.{AreColoured-from_view, HasColourInvariant-from}

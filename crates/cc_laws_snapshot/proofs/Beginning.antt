@@ -22,7 +22,7 @@ use Rattle.cc_laws_snapshot.proofs.Edges.{native_edges-are, script_edges-are}
 use Rattle.cc_laws_snapshot.proofs.OwnEdges.{script-named}
 use Rattle.cc_laws_snapshot.proofs.SoundView.{IsSound-view, black-or_gray, living-named, native-name_of}
 use Rattle.cc_laws_snapshot.proofs.States.{untraversed-not_traversed, untraversed-not_gone}
-use Rattle.cc_laws_snapshot.proofs.OnceEach.{with_all_last-there, with_all_last-cases, with_all_last-once}
+use Rattle.cc_lists.proofs.OnceEach.{with_all_last-there, with_all_last-cases, with_all_last-once}
 use Rattle.cc_laws_snapshot.proofs.NodeLists.{names_of, is_open, all-done_first}
 use Rattle.cc_laws_snapshot.proofs.NodeUnit.{gray-tested}
 

@@ -14,7 +14,7 @@ use Rattle.cc_model.specs.Cascade.{Draining, lower, lowered, queued, fallen, giv
 use Rattle.cc_model.specs.View.{view, between, slot_edges, preserved_edge, native_edges, buffered}
 use Rattle.cc_model.specs.WellFormed.{IsRising, native_names}
 use Rattle.cc_model.specs.Snapshot.{Snapshot}
-use Rattle.cc_laws_heap.proofs.ListWrites.{changed_where, changed_where-either}
+use Rattle.cc_lists.proofs.ListWrites.{changed_where, changed_where-either}
 use Rattle.cc_laws_heap.proofs.Natives.{changed_at-number, named-found, native_at-member, IsRising-distinct}
 use Rattle.cc_laws_heap.proofs.GiveUp.{lower_native}
 use Rattle.cc_laws_snapshot.specs.Kinds.{counting, IsFreshCounting}

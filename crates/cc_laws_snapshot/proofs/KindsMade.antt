@@ -15,7 +15,7 @@ use Rattle.cc_model.specs.Exposure.{exposed}
 use Rattle.cc_model.specs.WellFormed.{FitsName, native_names, script_names}
 use Rattle.cc_model.specs.Snapshot.{Snapshot}
 use Rattle.cc_laws_heap.specs.Sound.{IsSound}
-use Rattle.cc_laws_heap.proofs.ListWrites.{each-push}
+use Rattle.cc_lists.proofs.ListWrites.{each-push}
 use Rattle.cc_laws_heap.proofs.Making.{contents-empty_none}
 use Rattle.cc_laws_heap.proofs.ScriptsKept.{exposed-sound}
 use Rattle.cc_laws_heap.proofs.ScriptCommands.{blank, IsNewScript-object, make_object-sound, with_reflector-sound}

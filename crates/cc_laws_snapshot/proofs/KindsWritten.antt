@@ -21,7 +21,7 @@ use Rattle.cc_model.specs.View.{view, between, names_with, slot_edges, preserved
 use Rattle.cc_model.specs.Colours.{HasColourInvariant}
 use Rattle.cc_model.specs.WellFormed.{IsWellFormed}
 use Rattle.cc_model.specs.Snapshot.{Snapshot}
-use Rattle.cc_laws_heap.proofs.ListWrites.{changed_where, changed_where-either, Among-flat_map_set}
+use Rattle.cc_lists.proofs.ListWrites.{changed_where, changed_where-either, Among-flat_map_set}
 use Rattle.cc_laws_heap.proofs.ScriptsKept.{has_name}
 use Rattle.cc_laws_snapshot.specs.Kinds.{counting, IsFreshIn, IsFreshCounting, natives_held, IsInBuffer, IsNotGrayIn, IsThereIn, IsScriptObject}
 use Rattle.cc_laws_snapshot.proofs.SoundView.{black-or_gray, living-native, named-there}

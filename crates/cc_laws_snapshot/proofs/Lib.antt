@@ -1,4 +1,3 @@
-pub mod CountsOf
 pub mod NamePairs
 pub mod Edges
 pub mod OwnEdges
@@ -6,7 +5,6 @@ pub mod SoundView
 pub mod States
 pub mod Unreached
 pub mod WhiteNatives
-pub mod OnceEach
 pub mod NodeLists
 pub mod PassedOver
 pub mod Traversing

@@ -22,9 +22,9 @@ use Rattle.cc_model.specs.View.{view, between, slot_edges, preserved_edge, nativ
 use Rattle.cc_model.specs.WellFormed.{IsWellFormed, native_names}
 use Rattle.cc_laws_heap.proofs.Natives.{native_at-member, IsWellFormed-distinct, changed_at-number}
 use Rattle.cc_laws_heap.proofs.HoldsTheSame.{raise_native}
-use Rattle.cc_laws_heap.proofs.ListWrites.{changed_where, changed_where-either, count_by-flat_map_set, Among-flat_map_set, each-push}
+use Rattle.cc_lists.proofs.ListWrites.{changed_where, changed_where-either, count_by-flat_map_set, Among-flat_map_set, each-push}
 use Rattle.cc_laws_heap.proofs.Making.{contents-empty_none, new_native}
-use Rattle.cc_laws_snapshot.proofs.CountsOf.{false-left, count_by-none}
+use Rattle.cc_lists.proofs.CountsOf.{false-left, count_by-none}
 use Rattle.cc_laws_snapshot.proofs.Marked.{names_in, with_mark-there, with_mark-keeps}
 use Rattle.cc_laws_snapshot.proofs.EdgesLeft.{between-preserved}
 use Rattle.cc_laws_snapshot.proofs.GentleBut.{AreGentleBut, AreGentle, IsGentleBut-registers, AreGentle-refl}

@@ -10,9 +10,9 @@ use Rattle.cc_names.specs.Names.{native, number_of}
 use Rattle.cc_model.specs.Heap.{Heap, HeapNative, Buffered}
 use Rattle.cc_model.specs.View.{view, between, counted, native_edges, script_edges}
 use Rattle.cc_model.specs.WellFormed.{native_names}
-use Rattle.cc_laws_heap.proofs.ListWrites.{each-map}
+use Rattle.cc_lists.proofs.ListWrites.{each-map}
 use Rattle.cc_laws_heap.proofs.Natives.{KeepsNumber}
-use Rattle.cc_laws_snapshot.proofs.CountsOf.{count_by-flat_map_same}
+use Rattle.cc_lists.proofs.CountsOf.{count_by-flat_map_same}
 use Rattle.cc_laws_snapshot.proofs.SoundView.{living-named, living-native}
 use Rattle.cc_laws_snapshot.proofs.Marked.{names_in}
 use Rattle.cc_laws_snapshot.proofs.GentleBut.{AreGentleBut}

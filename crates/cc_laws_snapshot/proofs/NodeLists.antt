@@ -13,7 +13,7 @@ use Rattle.cc_model.specs.Snapshot.{NodeState, untraversed, gone, traversed, Nod
 use Rattle.cc_model.specs.Units.{new_node, is_untraversed, first_untraversed, with_state, with_node, with_nodes}
 use Rattle.cc_model.specs.Fresh.{node, done_first}
 use Rattle.cc_laws_snapshot.proofs.NamePairs.{name_cases}
-use Rattle.cc_laws_snapshot.proofs.OnceEach.{with_last-keeps}
+use Rattle.cc_lists.proofs.OnceEach.{with_last-keeps}
 use Rattle.cc_laws_snapshot.proofs.States.{HasDistinctNodes, one-state}
 
 -- the names of the nodes

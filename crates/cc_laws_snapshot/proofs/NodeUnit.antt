@@ -15,7 +15,8 @@ use Rattle.cc_model.specs.Snapshot.{Snapshot, untraversed}
 use Rattle.cc_model.specs.Units.{first_untraversed, targets, edges_in, is_noted, to_note, sample, after_node}
 use Rattle.cc_model.specs.Fresh.{IsNode, IsLiving, IsFresh}
 use Rattle.cc_laws_heap.specs.Sound.{IsSound}
-use Rattle.cc_laws_heap.proofs.Lists.{find-among, find-passes, find-some, count_by-kept}
+use Rattle.cc_lists.proofs.Filtering.{find-among, find-passes}
+use Rattle.cc_lists.proofs.Searching.{find-some, count_by-kept}
 use Rattle.cc_laws_heap.proofs.Natives.{native_at-member, IsWellFormed-distinct}
 use Rattle.cc_laws_snapshot.proofs.OwnEdges.{edges_in-targets, HasTargets-edge}
 use Rattle.cc_laws_snapshot.proofs.SoundView.{IsSound-view, living-native, named-there}

@@ -13,9 +13,9 @@ use Rattle.cc_model.specs.Heap.{Heap, HeapNative, HeapScript, native_at, script_
 use Rattle.cc_model.specs.View.{view, between, native_edges, script_edges}
 use Rattle.cc_model.specs.WellFormed.{IsWellFormed, FitsName}
 use Rattle.cc_model.specs.Units.{targets, edges_in}
-use Rattle.cc_laws_heap.proofs.Lists.{find-among, find-passes}
+use Rattle.cc_lists.proofs.Filtering.{find-among, find-passes}
 use Rattle.cc_laws_heap.proofs.Natives.{native_at-there, native_at-number, IsWellFormed-distinct}
-use Rattle.cc_laws_snapshot.proofs.CountsOf.{false-left, count_by-none, count_by-agree, count_by-flat_map_none, count_by-flat_map_only}
+use Rattle.cc_lists.proofs.CountsOf.{false-left, count_by-none, count_by-agree, count_by-flat_map_none, count_by-flat_map_only}
 use Rattle.cc_laws_snapshot.proofs.NamePairs.{same_name-sym, native-no_script, between-true}
 use Rattle.cc_laws_snapshot.proofs.Edges.{native_edges-are, script_edges-are}
 

@@ -21,7 +21,7 @@ use Rattle.cc_model.specs.Exposure.{exposed, exposed_names, as_black}
 use Rattle.cc_model.specs.Effects.{hold_script, with_object, make_object, with_reflector, wrapped, put_in_script, set_entry}
 use Rattle.cc_model.specs.WellFormed.{IsWellFormed, native_names, script_names}
 use Rattle.cc_laws_heap.specs.Sound.{IsSound}
-use Rattle.cc_laws_heap.proofs.ListWrites.{changed_where, changed_where-either, Among-flat_map_set}
+use Rattle.cc_lists.proofs.ListWrites.{changed_where, changed_where-either, Among-flat_map_set}
 use Rattle.cc_laws_heap.proofs.EntriesKept.{with_entry-cases}
 use Rattle.cc_laws_heap.proofs.Kept.{with_entries}
 use Rattle.cc_laws_heap.proofs.Making.{contents-empty_none}

@@ -15,9 +15,9 @@ use Rattle.cc_model.specs.Heap.{Heap, HeapScript, is_gray_colour, is_black_colou
 use Rattle.cc_model.specs.View.{view, between, names_with, slot_edges, native_edges, script_slot_edges, script_edges}
 use Rattle.cc_model.specs.WellFormed.{IsWellFormed, script_names}
 use Rattle.cc_laws_heap.proofs.Kept.{ChangesScripts, script_names-kept}
-use Rattle.cc_laws_heap.proofs.ListWrites.{each-map, each-push}
+use Rattle.cc_lists.proofs.ListWrites.{each-map, each-push}
 use Rattle.cc_laws_heap.proofs.ScriptsKept.{native-no_script}
-use Rattle.cc_laws_snapshot.proofs.CountsOf.{count_by-none, false-left, count_by-flat_map_same}
+use Rattle.cc_lists.proofs.CountsOf.{count_by-none, false-left, count_by-flat_map_same}
 use Rattle.cc_laws_snapshot.proofs.NamePairs.{between-true}
 use Rattle.cc_laws_snapshot.proofs.SoundView.{living-native, there-named, named-there}
 use Rattle.cc_laws_snapshot.proofs.Marked.{names_in}

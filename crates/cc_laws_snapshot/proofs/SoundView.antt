@@ -21,7 +21,7 @@ use Rattle.cc_model.specs.Fresh.{IsLiving, IsScriptThere}
 use Rattle.cc_laws_heap.specs.Sound.{IsSound}
 use Rattle.cc_laws_heap.proofs.Natives.{native_at-member, IsWellFormed-distinct}
 use Rattle.cc_laws_heap.proofs.References.{native-there}
-use Rattle.cc_laws_snapshot.proofs.CountsOf.{false-left, count_by-none, count_by-agree, count_by-flat_map_same, count_by-flat_map_test}
+use Rattle.cc_lists.proofs.CountsOf.{false-left, count_by-none, count_by-agree, count_by-flat_map_same, count_by-flat_map_test}
 use Rattle.cc_laws_snapshot.proofs.NamePairs.{same_name-sym, native-no_script}
 use Rattle.cc_laws_snapshot.proofs.Edges.{edge-of}
 use Rattle.cc_laws_snapshot.proofs.OwnEdges.{script-named}

@@ -9,7 +9,7 @@ use Rattle.cc_names.proofs.NameTests.{same_name-refl}
 use Rattle.cc_model.specs.View.{View}
 use Rattle.cc_model.specs.Snapshot.{NodeState, untraversed, gone, traversed, Node, Snapshot}
 use Rattle.cc_model.specs.Fresh.{node, IsNode, IsTraversedNode, IsFresh, IsTraversed}
-use Rattle.cc_laws_heap.proofs.ListWrites.{only-member}
+use Rattle.cc_lists.proofs.ListWrites.{only-member}
 
 -- States told apart
 

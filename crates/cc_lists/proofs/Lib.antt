@@ -4,3 +4,7 @@ pub mod Least
 pub mod Closure
 pub mod KnownBytes
 pub mod Filtering
+pub mod Searching
+pub mod CountsOf
+pub mod OnceEach
+pub mod ListWrites

@@ -4,7 +4,7 @@ use Rattle.std.proofs.lemmas.Bool.{true≢false}
 use Rattle.cc_lists.specs.Members.{Among, has, with_last, with_all_last, IsEqualityTest}
 use Rattle.cc_lists.proofs.Members.{Among-left, Among-right, Among-append, has-there, has-among}
 use Rattle.cc_lists.proofs.Counting.{count_by-cons, count_by-append}
-use Rattle.cc_laws_snapshot.proofs.CountsOf.{false-left, count_by-none}
+use Rattle.cc_lists.proofs.CountsOf.{false-left, count_by-none}
 
 module _ {X : Type 0} (same : X → X → Bool) (exact : IsEqualityTest same) where
   -- what was there stays

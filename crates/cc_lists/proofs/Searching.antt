@@ -7,24 +7,6 @@ use Rattle.std.proofs.lemmas.List.Sums.{sum_by-cons, length-filter, count_by-le-
 use Rattle.cc_lists.specs.Members.{Among}
 use Rattle.cc_lists.proofs.Counting.{count_by-cons, count_by-filter, count_by-some}
 
--- what is found stands in the list
-pub find-among : {X : Type 0} (p : X → Bool) (xs : List X) (x : X) → find p xs ≡ Some x → Among x xs
-find-among p [] x e = absurd (cc)
-find-among {X} p (y ∷ ys) x e = go (find-among p ys x) (p y) e
-  where
-    go : (find p ys ≡ Some x → Among x ys) → (b : Bool) → cond b (Some y) (find p ys) ≡ Some x → Among x (y ∷ ys)
-    go ih true k = inl (cc)
-    go ih false k = inr (ih k)
-
--- what is found passes the test
-pub find-passes : {X : Type 0} (p : X → Bool) (xs : List X) (x : X) → find p xs ≡ Some x → p x ≡ true
-find-passes p [] x e = absurd (cc)
-find-passes {X} p (y ∷ ys) x e = go (find-passes p ys x) (p y) refl e
-  where
-    go : (find p ys ≡ Some x → p x ≡ true) → (b : Bool) → p y ≡ b → cond b (Some y) (find p ys) ≡ Some x → p x ≡ true
-    go ih true t k = let same : y ≡ x = cc in ap p (sym same) ∙ t
-    go ih false t k = ih k
-
 -- where something passes, something is found
 pub find-some : {X : Type 0} (p : X → Bool) (xs : List X) (x : X) → Among x xs → p x ≡ true → (y : X) × (find p xs ≡ Some y)
 find-some p [] x m e = absurd m
@@ -160,13 +142,3 @@ count_by-dropped {X} p q xs h = count_by-filter p q xs ∙ (ap (λ r. count_by r
     none : (ys : List X) → count_by (λ _. false) ys ≡ 0
     none [] = refl
     none (y ∷ ys) = none ys
-
--- a filter that drops a member shortens the list
-pub length-filter-less : {X : Type 0} (p : X → Bool) (xs : List X) (x : X) → Among x xs → p x ≡ false → length (filter p xs) < length xs
-length-filter-less p [] x m e = absurd m
-length-filter-less {X} p (y ∷ ys) x m e = go (length-filter-less p ys x) (p y) refl
-  where
-    go : (Among x ys → p x ≡ false → length (filter p ys) < length ys) → (b : Bool) → p y ≡ b →
-        length (cond b (y ∷ filter p ys) (filter p ys)) < length (y ∷ ys)
-    go ih true k = ⊎_elim (λ s. absurd (true≢false (sym k ∙ (ap p s ∙ e)))) (λ t. let less : length (filter p ys) < length ys = ih t e in omega arith) m
-    go ih false k = omega (arith, length-filter p ys, count_by-le-length p ys)
