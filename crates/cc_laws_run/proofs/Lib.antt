@@ -55,3 +55,6 @@ pub mod TouchedCommands
 pub mod KindsLoyal
 pub mod KindsHeld
 pub mod KindsWaiting
+pub mod MissesUnits
+pub mod MissesLost
+pub mod MissesBegin

@@ -266,7 +266,7 @@ module _ (g : Heap) (sound : IsSound [] g) (colours : HasColourInvariant (view g
       go refused f = absurd (taken f)
 
 -- where no collection runs, collect begins one and brings it to its end
-collect-none : (m : Machine) → m.snapshot ≡ None → collect m ≡ to_the_end (no_units m)
+pub collect-none : (m : Machine) → m.snapshot ≡ None → collect m ≡ to_the_end (no_units m)
 unfolding collect
 collect-none m e = ap (λ (b : Bool). unless_stopped (elim b [ true ↦ to_the_end (no_units m) | false ↦ no_units m ])) (ap is_some e)
 

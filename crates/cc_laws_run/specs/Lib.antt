@@ -3,3 +3,4 @@ pub mod Running
 pub mod Memory
 pub mod Doomed
 pub mod KindsSuspected
+pub mod Missing

@@ -7,6 +7,7 @@ mod collections;
 mod doomed;
 mod kinds;
 mod memory;
+mod misses;
 mod plain_run;
 mod quiet;
 mod suspected;
@@ -16,6 +17,7 @@ pub use collections::collections_are_lawful;
 pub use doomed::commands_keep_doomed;
 pub use kinds::kinds_of_change_keep_suspected;
 pub use memory::{memory_decides_nothing_else, runs_compose};
+pub use misses::collections_after_gc_miss_nothing;
 pub use plain_run::{asks_keep_suspected, plain_run_is_lawful};
 pub use quiet::{garbage_is_doomed, gc_collect_gc_is_quiet};
 pub use suspected::{

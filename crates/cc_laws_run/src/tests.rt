@@ -14,6 +14,7 @@ fn laws_can_be_called() {
     plain_run_is_lawful();
     garbage_is_doomed();
     commands_keep_doomed();
+    collections_after_gc_miss_nothing();
     gc_collect_gc_is_quiet();
     runs_compose();
     memory_decides_nothing_else();

@@ -1,9 +1,9 @@
 -- Searches, filters and sums over a list that was mapped or filtered.
-use Rattle.std.proofs.Common.{◌≡◌, ℕ, ◌+◌, ◌<◌, ◌≤◌, Bool, true, false, cond, not, ◌&&◌, List, [], ◌∷◌, map, length, Some, None, option_map, refl, sym, ◌∙◌, ap, inl, inr, ⊎_elim, arith, count_by, sum_by}
+use Rattle.std.proofs.Common.{◌≡◌, ℕ, ◌+◌, ◌≤◌, Bool, true, false, cond, not, ◌&&◌, List, [], ◌∷◌, map, Some, None, option_map, refl, sym, ◌∙◌, ap, ⊎_elim, arith, count_by, sum_by}
 use Rattle.std.specs.List.{filter, find}
 use Rattle.std.proofs.Math.Path.{fun_ext}
 use Rattle.std.proofs.lemmas.Bool.{true≢false}
-use Rattle.std.proofs.lemmas.List.Sums.{sum_by-cons, length-filter, count_by-le-length}
+use Rattle.std.proofs.lemmas.List.Sums.{sum_by-cons}
 use Rattle.cc_lists.specs.Members.{Among}
 use Rattle.cc_lists.proofs.Counting.{count_by-cons, count_by-filter, count_by-some}
 

@@ -1,0 +1,240 @@
+-- WHAT IS LOST: garbage but for the reflectors of reached natives. A collection that dooms garbage dooms it.
+use Rattle.std.proofs.Common.{◌≡◌, ℕ, Bool, true, false, ◌&&◌, List, [], ◌∷◌, map, Option, Some, None, option_map, refl, sym, ◌∙◌, ap, subst, inl, inr, ◌⊎◌, ⊎_elim}
+use Rattle.std.specs.Prelude.{option_and_then}
+use Rattle.std.specs.List.{filter, list_all}
+use Rattle.std.proofs.lemmas.Bool.{true≢false, and_parts, and_from, not_from_false}
+use Rattle.cc_lists.specs.Members.{Among, has}
+use Rattle.cc_lists.proofs.Members.{Among-map_cases, Among-left, Among-right, Among-append, Among-filter, Among-filtered, Among-passes}
+use Rattle.cc_lists.proofs.Least.{derive-along}
+use Rattle.cc_lists.proofs.Closure.{closure-decides}
+use Rattle.cc_names.specs.declared.name.Name.{Name}
+use Rattle.cc_names.specs.declared.name.Name.TheVariants as name
+use Rattle.cc_names.specs.declared.kind.Kind.TheVariants.{Reflector}
+use Rattle.cc_names.specs.Names.{native, object, reflector, same_name, is_native, behind}
+use Rattle.cc_names.proofs.NameTests.{same_name-exact}
+use Rattle.cc_model.specs.Slots.{Slots, contents, from_to, empty_slots, reflector_slots}
+use Rattle.cc_model.specs.Entries.{Entry, joints}
+use Rattle.cc_model.specs.Graph.{Graph, GraphNative, native_in}
+use Rattle.cc_model.specs.WellMade.{IsWellMade}
+use Rattle.cc_model.specs.Heap.{Heap, HeapNative, HeapScript, is_gray_in}
+use Rattle.cc_model.specs.View.{view, slot_edges, preserved_edge, script_slot_edges, view_rules, ReachedIn, reached_in}
+use Rattle.cc_model.specs.WellFormed.{FitsName, native_names, script_names, names_there}
+use Rattle.cc_model.specs.StandsFor.{Shape, shape_of_native, shape_of_held_native, kind_in, reflector_kind, IsNoKey, IsKept, StandsFor}
+use Rattle.cc_model.specs.Snapshot.{Mapping}
+use Rattle.cc_model.specs.Units.{if_gray, mapping_of, mappings_of, begun, with_empty_buffer}
+use Rattle.cc_model.specs.Suspected.{is_unreached}
+use Rattle.cc_laws_heap.specs.Sound.{IsSound}
+use Rattle.cc_laws_heap.proofs.Natives.{IsWellFormed-distinct, native_at-member, named-member}
+use Rattle.cc_laws_heap.proofs.ReachedAlike.{ArePart-among, in-reached}
+use Rattle.cc_laws_snapshot.proofs.Edges.{native_edges-are}
+use Rattle.cc_laws_run.specs.Doomed.{IsMember, IsDoomed, KeepsReflectors, garbage}
+use Rattle.cc_laws_run.specs.Missing.{lost}
+use Rattle.cc_laws_run.proofs.LoyalSuspected.{reached_cases}
+use Rattle.cc_laws_run.proofs.DoomedBegin.{garbage-is_there, garbage-out, script-place}
+use Rattle.cc_laws_run.proofs.TouchedViews.{edge-native, edge-cases}
+
+-- Lost and garbage
+
+module _ (h : Heap) where
+  -- no reached native is behind the name
+  abbrev has_none_behind : Name → Bool
+  has_none_behind x = list_all (λ k. is_unreached (view h) (native k)) (behind x)
+
+  -- what is lost is garbage
+  lost-garbage : (x : Name) → Among x (lost h) → Among x (garbage h)
+  lost-garbage x m = Among-filtered has_none_behind x (garbage h) m
+
+  -- EACH UNREACHED NATIVE IS LOST.
+  pub native-lost : (k : ℕ) → Among (native k) (garbage h) → Among (native k) (lost h)
+  native-lost k m = Among-filter has_none_behind (native k) (garbage h) m refl
+
+  -- what no register reaches passes the test
+  out-unreached : (x : Name) → ¬ (ReachedIn (view h) x) → is_unreached (view h) x ≡ true
+  out-unreached x out = go (has same_name (reached_in (view h)) x) refl
+    where
+      go : (b : Bool) → has same_name (reached_in (view h)) x ≡ b → is_unreached (view h) x ≡ true
+      go true e = absurd (out ((closure-decides same_name same_name-exact (view_rules (view h)) x).0 e))
+      go false e = not_from_false (has same_name (reached_in (view h)) x) e
+
+  -- garbage is lost, or the reflector of a reached native
+  garbage-cases : (x : Name) → Among x (garbage h) → Among x (lost h) ⊎ ((k : ℕ) × (x ≡ reflector k) × ReachedIn (view h) (native k))
+  garbage-cases (name.Native k) m = inl (Among-filter has_none_behind (native k.0) (garbage h) m refl)
+  garbage-cases (name.Script k) m = inl (Among-filter has_none_behind (object k.0) (garbage h) m refl)
+  garbage-cases (name.Reflector k) m = ⊎_elim
+      (λ r. inr (k.0, refl, r))
+      (λ out. inl (Among-filter has_none_behind (reflector k.0) (garbage h) m
+      (and_from (is_unreached (view h) (native k.0)) true (out-unreached (native k.0) out) refl)))
+      (reached_cases (view h) (native k.0))
+
+  -- A REFLECTOR IS LOST ONLY WITH ITS NATIVE.
+  pub lost-keeps : IsSound [] h → KeepsReflectors (lost h)
+  lost-keeps sound k m =
+      let b : Among (reflector k) (garbage h) = lost-garbage (reflector k) m in
+      let passes : (is_unreached (view h) (native k) && true) ≡ true = Among-passes has_none_behind (reflector k) (garbage h) m in
+      let place : Among (native k) (native_names h) =
+      sound.well_formed.reflected k (script-place h (reflector k) refl (garbage-is_there h (reflector k) b)) in
+      native-lost k (Among-filter (is_unreached (view h)) (native k) (names_there h)
+      (Among-left (native k) (native_names h) (script_names h) place)
+      (and_parts (is_unreached (view h) (native k)) true passes).0)
+
+-- a member of a mapping is what the entry names
+if_gray-own : (h : Heap) (x y : Name) → if_gray h x ≡ Some y → x ≡ y
+if_gray-own h x y e = go (is_gray_in h x) e
+  where
+    some_by : Bool → Option Name
+    some_by true = Some x
+    some_by false = None
+
+    go : (b : Bool) → some_by b ≡ Some y → x ≡ y
+    go true f = cc
+    go false f = absurd (cc)
+
+-- Reflectors of reached natives
+
+module _ (h : Heap) (g : Graph) (sound : IsSound [] h) (well : IsWellMade g) (stands : StandsFor h g) where
+  -- a reflector that its reached native does not preserve
+  record IsSpare (x : Name) : Type 0 where
+    own : HeapNative
+    there : Among own h.natives
+    named : x ≡ reflector own.number
+    reached : ReachedIn (view h) (native own.number)
+    blank : own.preserved ≡ false
+
+  -- a reached native does not preserve an unreached reflector
+  unpreserved : (n : HeapNative) → Among n h.natives → Among (reflector n.number) (garbage h) → ReachedIn (view h) (native n.number) → n.preserved ≡ false
+  unpreserved n there b r = go n.preserved refl
+    where
+      preserved_by : Bool → List (Name × Name)
+      preserved_by true = from_to (native n.number) (reflector n.number) ∷ []
+      preserved_by false = []
+
+      go : (p : Bool) → n.preserved ≡ p → p ≡ false
+      go true e =
+          let edge : Among (native n.number, reflector n.number) (view h).edges =
+          edge-native h n (native n.number) (reflector n.number) there
+          (Among-right (native n.number, reflector n.number) (slot_edges (native n.number) n.slots) (preserved_edge n)
+          (subst (λ p. Among (native n.number, reflector n.number) (preserved_by p)) (sym e) (inl refl))) in
+          absurd (garbage-out h (reflector n.number) b
+          (derive-along (view h).registers (view h).edges (joints h.entries) (native n.number) (reflector n.number) edge r))
+      go false e = refl
+
+  -- garbage is lost, or such a reflector
+  lost-or_spare : (x : Name) → Among x (garbage h) → Among x (lost h) ⊎ IsSpare x
+  lost-or_spare x b = ⊎_elim (λ l. inl l)
+      (λ f.
+      let c : Among (reflector f.0) (garbage h) = subst (λ z. Among z (garbage h)) f.1 b in
+      let n = named-member h f.0 (sound.well_formed.reflected f.0 (script-place h (reflector f.0) refl (garbage-is_there h (reflector f.0) c))) in
+      let reached : ReachedIn (view h) (native n.0.number) = subst (λ k. ReachedIn (view h) (native k)) (sym n.2) f.2 in
+      inr (record {
+        own = n.0;
+        there = n.1;
+        named = f.1 ∙ ap reflector (sym n.2);
+        reached = reached;
+        blank = unpreserved n.0 n.1 (subst (λ k. Among (reflector k) (garbage h)) (sym n.2) c) reached;
+      }))
+      (garbage-cases h x b)
+
+  -- such a reflector holds no garbage
+  spare-holds_none : (x y : Name) → Among (x, y) (view h).edges → Among y (garbage h) → IsSpare x → ⊥
+  spare-holds_none x y e b s = ⊎_elim
+      (λ f. true≢false (ap is_native ((native_edges-are f.0 x y f.2).0 ∙ s.named)))
+      (λ f. ⊎_elim (slot f.0 f.1) (behind_it f.0)
+      (Among-append (x, y) (script_slot_edges f.0) (map (λ k. from_to f.0.name (native k)) (behind f.0.name)) f.2))
+      (edge-cases h x y e)
+    where
+      -- its slots are empty
+      slot : (o : HeapScript) → Among o h.scripts → Among (x, y) (script_slot_edges o) → ⊥
+      slot o there m =
+          let c = Among-map_cases (from_to o.name) (contents o.slots) (x, y) m in
+          let named : o.name ≡ x = ap (λ (p : Name × Name). p.0) c.2 in
+          let blank : o.slots ≡ empty_slots reflector_slots =
+          stands.blank_there s.own o s.there s.blank (in-reached h g sound.well_formed well stands (native s.own.number) s.reached) there (named ∙ s.named) in
+          subst (λ (t : Slots). Among c.0 (contents t)) blank c.1
+
+      -- and its native is reached
+      behind_it : (o : HeapScript) → Among (x, y) (map (λ k. from_to o.name (native k)) (behind o.name)) → ⊥
+      behind_it o m =
+          let c = Among-map_cases (λ k. from_to o.name (native k)) (behind o.name) (x, y) m in
+          let named : o.name ≡ reflector s.own.number = ap (λ (p : Name × Name). p.0) c.2 ∙ s.named in
+          let own : Among c.0 (s.own.number ∷ []) = subst (λ z. Among c.0 (behind z)) named c.1 in
+          let target : native c.0 ≡ y = ap (λ (p : Name × Name). p.1) c.2 in
+          ⊎_elim (λ i. garbage-out h y b (subst (ReachedIn (view h)) (ap native i ∙ target) s.reached)) (λ n. n) own
+
+  -- the graph has the native as it is there, with a reflector
+  spare-no_key : (x : Name) → Among x (garbage h) → (s : IsSpare x) → IsNoKey g (reflector s.own.number)
+  spare-no_key x b s = (stands.blank n.number m has.0 made.1 (ap (λ (t : Shape). t.preserved) same ∙ s.blank) has.1).1
+    where
+      n : HeapNative
+      n = s.own
+
+      made : (m : GraphNative) × (native_in g n.number ≡ Some m)
+      made = (stands.natives n s.there).made
+
+      m : GraphNative
+      m = made.0
+
+      kept : IsKept h g (native n.number)
+      kept = stands.reached (native n.number) (in-reached h g sound.well_formed well stands (native n.number) s.reached)
+
+      same : shape_of_native m ≡ shape_of_held_native n
+      same =
+          let both : Some (shape_of_native m) ≡ Some (shape_of_held_native n) = sym (ap (option_map shape_of_native) made.1) ∙ (kept.made ∙ (sym kept.there ∙
+          ap (option_map shape_of_held_native) (native_at-member h (IsWellFormed-distinct h sound.well_formed) n s.there))) in
+          cc
+
+      -- the reflector is there
+      script : (o : HeapScript) × Among o h.scripts × (o.name ≡ reflector n.number)
+      script =
+          let c : Among (reflector n.number) (garbage h) = subst (λ z. Among z (garbage h)) s.named b in
+          Among-map_cases (λ (o : HeapScript). o.name) h.scripts (reflector n.number)
+          (script-place h (reflector n.number) refl (garbage-is_there h (reflector n.number) c))
+
+      kind : reflector_kind m ≡ Some script.0.kind
+      kind = sym (ap (option_and_then reflector_kind) made.1) ∙ subst (λ z. kind_in g z ≡ Some script.0.kind) script.2 (stands.scripts script.0 script.1).kind
+
+      has : (slots : Slots) × (m.reflector ≡ Some slots)
+      has = go m.reflector refl kind
+        where
+          go : (o : Option Slots) → m.reflector ≡ o → option_map (λ (slots : Slots). Reflector) o ≡ Some script.0.kind → (slots : Slots) × (m.reflector ≡ Some slots)
+          go None e f = absurd (cc)
+          go (Some slots) e f = (slots, e)
+
+  -- a map or key of an entry that is garbage is lost
+  member-lost : (e : Entry) → Among e h.entries → (x : Name) → (e.the_map ≡ x) ⊎ (e.key ≡ x) → Among x (garbage h) → Among x (lost h)
+  member-lost e there x i b = ⊎_elim (λ l. l)
+      (λ s. absurd (⊎_elim
+      (λ a.
+      let o = (sound.well_formed.entries e there).the_map in
+      subst (λ k. FitsName (reflector s.own.number) k o.0.slots) o.3
+      (subst (λ z. FitsName z o.0.kind o.0.slots) (o.2 ∙ (a ∙ s.named)) (sound.well_formed.kinds o.0 o.1)))
+      (λ a. spare-no_key x b s e (ArePart-among h.entries g.entries e stands.entries there) (a ∙ s.named)) i))
+      (lost-or_spare x b)
+
+  -- so is one that a mapping names
+  mapping-lost : (m : Mapping) → Among m (mappings_of h) → (p : Name) → IsMember p m → Among p (garbage h) → Among p (lost h)
+  mapping-lost m i p a b =
+      let f = Among-map_cases (mapping_of h) (filter (λ (e : Entry). is_gray_in h e.value) h.entries) m i in
+      let there : Among f.0 h.entries = Among-filtered (λ (e : Entry). is_gray_in h e.value) f.0 h.entries f.1 in
+      member-lost f.0 there p (⊎_elim
+      (λ l. inl (if_gray-own h f.0.the_map p (ap (λ (n : Mapping). n.the_map) f.2 ∙ l)))
+      (λ r. inr (if_gray-own h f.0.key p (ap (λ (n : Mapping). n.key) f.2 ∙ r))) a) b
+
+  -- WHERE A SNAPSHOT BEGUN DOOMS GARBAGE, IT DOOMS WHAT IS LOST.
+  pub lost-doomed : IsDoomed (view (with_empty_buffer h)) (begun h) (garbage h) → IsDoomed (view (with_empty_buffer h)) (begun h) (lost h)
+  lost-doomed d = record {
+    natives = λ i b. d.natives i (lost-garbage h (native i) b);
+    scripts = λ x b e. d.scripts x (lost-garbage h x b) e;
+    unregistered = λ x b m. d.unregistered x (lost-garbage h x b) m;
+    unbuffered = λ x b m. d.unbuffered x (lost-garbage h x b) m;
+    unmarked = λ x b m. d.unmarked x (lost-garbage h x b) m;
+    holder = λ x y e b.
+        let c : Among y (garbage h) = lost-garbage h y b in
+        ⊎_elim (λ l. l) (λ s. absurd (spare-holds_none x y e c s)) (lost-or_spare x (d.holder x y e c));
+    joint = λ e m b. ⊎_elim
+        (λ l. inl (member-lost e m e.the_map (inl refl) l))
+        (λ r. inr (member-lost e m e.key (inr refl) r))
+        (d.joint e m (lost-garbage h e.value b));
+    noter = λ x y m b. absurd m;
+    mapper = λ m i b. let p = d.mapper m i (lost-garbage h m.value b) in (p.0, p.1, mapping-lost m i p.0 p.1 p.2);
+    covered = λ x b. d.covered x (lost-garbage h x b);
+  }
