@@ -58,3 +58,9 @@ pub mod KindsWaiting
 pub mod MissesUnits
 pub mod MissesLost
 pub mod MissesBegin
+pub mod SpentViews
+pub mod SpentReads
+pub mod SpentCommands
+pub mod SpentGone
+pub mod SpentUnits
+pub mod SpentAsks

@@ -25,7 +25,7 @@ use Rattle.cc_laws_run.proofs.MissesUnits.{Misses, MissesOn, units_done-misses}
 use Rattle.cc_laws_run.proofs.MissesLost.{lost-keeps, lost-doomed}
 
 -- a machine that runs does so after `gc`
-after_gc-runs : (m : Machine) (s : State) → IsRunning m s → (t : State) × IsRunning (gc m).machine t
+pub after_gc-runs : (m : Machine) (s : State) → IsRunning m s → (t : State) × IsRunning (gc m).machine t
 unfolding do_ask
 after_gc-runs m s r = (next s (taken Gc) (do_ask m (taken Gc)).answer, gc-runs m s r)
 

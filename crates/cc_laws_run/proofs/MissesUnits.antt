@@ -56,7 +56,7 @@ unlinked-told es k m = let f = Among-flat_map_cases unlinked_in es k m in by_eve
     by_event Abandoned i n = absurd n
 
 -- the end of a collection unlinks each native that it dooms
-end-unlinks : (h : Heap) (s : Snapshot) (ds : List Name) → IsSound [] h → IsFresh h.natives_made (view h) s → IsTraversed s →
+pub end-unlinks : (h : Heap) (s : Snapshot) (ds : List Name) → IsSound [] h → IsFresh h.natives_made (view h) s → IsTraversed s →
     IsDoomed (view h) s ds → AreUnlinked ds (take_away (white_natives h s) h).events
 end-unlinks h s ds sound fresh all d = λ i b.
     let t = (take_away-takes h (white_natives h s) sound (white_natives-there h s sound).there).1 in

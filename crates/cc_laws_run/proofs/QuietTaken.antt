@@ -139,7 +139,7 @@ module _ (h : Heap) (ks : List ℕ) (s : IsSound [] h) (there : (k : ℕ) → Am
   end-sound = (on_the_way-end h ks s there).2.sound
 
   -- an empty native has no edges
-  emptied-none : (n : HeapNative) (x y : Name) → IsEmptied n → ¬ (Among (x, y) (native_edges n))
+  pub emptied-none : (n : HeapNative) (x y : Name) → IsEmptied n → ¬ (Among (x, y) (native_edges n))
   emptied-none n x y e m = ⊎_elim
       (λ i. contents-empty (length n.slots) y (subst (λ xs. Among y (contents xs)) e.slots i))
       (λ p. false≢true (sym e.preserved ∙ p.0))

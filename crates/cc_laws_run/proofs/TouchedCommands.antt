@@ -38,19 +38,19 @@ use Rattle.cc_laws_run.proofs.TouchedCascade.{doomed-touch, doomed-add_ref, doom
 use Rattle.cc_laws_run.proofs.TouchedReads.{register-untouched, source-untouched, script_source-untouched, slot_at-untouched, value_at-untouched, native_of-untouched, reflector_of-untouched}
 
 -- a place that is to hold a name that is no member
-one-untouched : (ds : List Name) (x : Name) → ¬ (Among x ds) → IsUntouched ds (Some x)
+pub one-untouched : (ds : List Name) (x : Name) → ¬ (Among x ds) → IsUntouched ds (Some x)
 one-untouched ds x out y m i = ⊎_elim (λ e. out (subst (λ z. Among z ds) (sym e) i)) (λ b. b) m
 
 -- a native that is made has no edges
-new_native-no_edge : (h : Heap) (n : ℕ) (x y : Name) → ¬ (Among (x, y) (native_edges (new_native h n)))
+pub new_native-no_edge : (h : Heap) (n : ℕ) (x y : Name) → ¬ (Among (x, y) (native_edges (new_native h n)))
 new_native-no_edge h n x y m = ⊎_elim (λ c. contents-empty_none n y c) (λ p. absurd (false≢true p.0)) (native_edges-are (new_native h n) x y m).1
 
 -- nor has a script object that is made, but a reflector has one to its native
-blank-edge : (z : Name) (kind : Kind) (n : ℕ) (x y : Name) → Among (x, y) (script_edges (blank z kind n)) → (k : ℕ) × (z ≡ reflector k) × (native k ≡ y)
+pub blank-edge : (z : Name) (kind : Kind) (n : ℕ) (x y : Name) → Among (x, y) (script_edges (blank z kind n)) → (k : ℕ) × (z ≡ reflector k) × (native k ≡ y)
 blank-edge z kind n x y m = ⊎_elim (λ c. absurd (contents-empty_none n y c)) (λ p. p) (script_edges-are (blank z kind n) x y m).1
 
 -- a reflector preserved leaves entries
-entries-preserve : (h : Heap) (x : Option Name) → (preserve h x).entries ≡ h.entries
+pub entries-preserve : (h : Heap) (x : Option Name) → (preserve h x).entries ≡ h.entries
 entries-preserve h None = refl
 entries-preserve h (Some (name.Native k)) = refl
 entries-preserve h (Some (name.Script k)) = refl

@@ -35,7 +35,7 @@ edge-from_script_slot h o y there m = edge-script h o o.name y there
     (Among-left (o.name, y) (script_slot_edges o) (map (λ k. from_to o.name (native k)) (behind o.name)) (Among-map (from_to o.name) y (contents o.slots) m))
 
 -- the value of a map and a key is that of their entry
-value_in-entry : (es : List Entry) (m k y : Name) → Among y (option_to_list (value_in es m k)) →
+pub value_in-entry : (es : List Entry) (m k y : Name) → Among y (option_to_list (value_in es m k)) →
     (e : Entry) × Among e es × (e.the_map ≡ m) × (e.key ≡ k) × (e.value ≡ y)
 value_in-entry [] m k y i = absurd i
 value_in-entry (e ∷ es) m k y i = go (value_in-entry es m k y) (is_entry_of m k e) refl i

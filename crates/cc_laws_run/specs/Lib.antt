@@ -4,3 +4,4 @@ pub mod Memory
 pub mod Doomed
 pub mod KindsSuspected
 pub mod Missing
+pub mod Spent

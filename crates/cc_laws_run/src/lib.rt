@@ -10,6 +10,7 @@ mod memory;
 mod misses;
 mod plain_run;
 mod quiet;
+mod spent;
 mod suspected;
 mod turns;
 
@@ -20,6 +21,7 @@ pub use memory::{memory_decides_nothing_else, runs_compose};
 pub use misses::collections_after_gc_miss_nothing;
 pub use plain_run::{asks_keep_suspected, plain_run_is_lawful};
 pub use quiet::{garbage_is_doomed, gc_collect_gc_is_quiet};
+pub use spent::unlinked_are_gone_after_gc;
 pub use suspected::{
     collections_keep_suspected, commands_keep_suspected, loyal_changes_keep_suspected,
 };

@@ -15,6 +15,7 @@ fn laws_can_be_called() {
     garbage_is_doomed();
     commands_keep_doomed();
     collections_after_gc_miss_nothing();
+    unlinked_are_gone_after_gc();
     gc_collect_gc_is_quiet();
     runs_compose();
     memory_decides_nothing_else();
