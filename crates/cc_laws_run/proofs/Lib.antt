@@ -59,7 +59,6 @@ pub mod MissesUnits
 pub mod MissesLost
 pub mod MissesBegin
 pub mod SpentViews
-pub mod SpentReads
 pub mod SpentCommands
 pub mod SpentGone
 pub mod SpentUnits

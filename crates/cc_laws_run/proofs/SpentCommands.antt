@@ -31,14 +31,17 @@ use Rattle.cc_laws_run.proofs.TouchedViews.{Spares, Spares-entries, edge-script}
 use Rattle.cc_laws_run.proofs.TouchedParts.{IsUntouched, Spares-register, Spares-native_slot, Spares-preserved, Spares-new_native, Spares-script_slot, Spares-blackened, Spares-new_script}
 use Rattle.cc_laws_run.proofs.TouchedCommands.{one-untouched, new_native-no_edge, blank-edge, entries-preserve}
 use Rattle.cc_laws_run.proofs.SpentViews.{Spends, spends-spared, spends-less, IsLess-buffer, IsLess-add_ref, IsLess-take_up, IsLess-let_go}
-use Rattle.cc_laws_run.proofs.TouchedReads.{reflector_of-untouched}
-use Rattle.cc_laws_run.proofs.SpentReads.{register-untouched, source-untouched, script_source-untouched, slot_at-untouched, value_at-untouched, native_of-untouched}
+use Rattle.cc_laws_run.proofs.TouchedReads.{IsApart, register-untouched, source-untouched, script_source-untouched, slot_at-untouched, value_at-untouched, native_of-untouched, reflector_of-untouched}
 use Rattle.cc_laws_run.proofs.QuietRounds.{native_edges-alike}
 use Rattle.cc_laws_heap.specs.Freeing.{Uncounted}
 use Rattle.cc_laws_heap.proofs.Natives.{KeepsNumber}
 use Rattle.cc_laws_heap.proofs.Leaving.{IsOf, OthersStay-change_native}
 
 module _ (ds : List Name) where
+  -- what is spent is apart from what registers hold
+  apart : {h : Heap} → Spends h ds → IsApart ds h
+  apart d = record { unregistered = d.unregistered; holder = d.holder; joint = d.joint }
+
   -- Registers and slots
 
   -- a native that is as it was but for its count has no edge
@@ -94,7 +97,7 @@ module _ (ds : List Name) where
   -- a slot of what a native register holds written, and what it held given up
   spends-put_in_slot : (h : Heap) (r i : ℕ) (x : Option Name) → IsUntouched ds x → Spends h ds → Spends (put_in_slot h r i x).heap ds
   spends-put_in_slot h r i x none d = spends-less ds (set_slot h (register h (N r)) i x) (let_go (set_slot h (register h (N r)) i x) (slot_at (objects_of h) (N r) i)).heap (IsLess-let_go (set_slot h (register h (N r)) i x) (slot_at (objects_of h) (N r) i))
-      (spends-slot h (register h (N r)) i x (register-untouched ds h d (N r)) none d)
+      (spends-slot h (register h (N r)) i x (register-untouched ds h (apart d) (N r)) none d)
 
   -- what comes into such a slot
   spends-store_native : (h : Heap) (r i : ℕ) (x : Option Name) → IsUntouched ds x → Spends h ds → Spends (store_native h r i x).heap ds
@@ -235,26 +238,26 @@ module _ (ds : List Name) where
   spends-effects h (Native r n) w keeps d = spends-make_native h r n d
   spends-effects h (Script r n) w keeps d = spends-make_object h r Plain n d
   spends-effects h (WeakMap r) w keeps d = spends-make_object h r Map 0 d
-  spends-effects h (CopyNative r q) w keeps d = spends-hold_native h r (register h (N q)) (register-untouched ds h d (N q)) d
-  spends-effects h (CopyScript r q) w keeps d = spends-register h (S r) (register h (S q)) (register-untouched ds h d (S q)) d
+  spends-effects h (CopyNative r q) w keeps d = spends-hold_native h r (register h (N q)) (register-untouched ds h (apart d) (N q)) d
+  spends-effects h (CopyScript r q) w keeps d = spends-register h (S r) (register h (S q)) (register-untouched ds h (apart d) (S q)) d
   spends-effects h (Drop (N r)) w keeps d = spends-put_in_register h r None (λ y m i. m) d
   spends-effects h (Drop (S r)) w keeps d = spends-register h (S r) None (λ y m i. m) d
-  spends-effects h (Set r i q) w keeps d = spends-store_native h r i (source h q) (source-untouched ds h d q) d
-  spends-effects h (Get (N r) q i) w keeps d = spends-hold_native h r (slot_at (objects_of h) (N q) i) (slot_at-untouched ds h d (N q) i) d
-  spends-effects h (Get (S r) q i) w keeps d = spends-hold_script h r (slot_at (objects_of h) (N q) i) (slot_at-untouched ds h d (N q) i) d
+  spends-effects h (Set r i q) w keeps d = spends-store_native h r i (source h q) (source-untouched ds h (apart d) q) d
+  spends-effects h (Get (N r) q i) w keeps d = spends-hold_native h r (slot_at (objects_of h) (N q) i) (slot_at-untouched ds h (apart d) (N q) i) d
+  spends-effects h (Get (S r) q i) w keeps d = spends-hold_script h r (slot_at (objects_of h) (N q) i) (slot_at-untouched ds h (apart d) (N q) i) d
   spends-effects h (Put r i q) w keeps d = spends-put_in_script h (register h (S r)) i (source h (option_map S q))
-      (register-untouched ds h d (S r)) (native_of-untouched ds h d r w) (script_source-untouched ds h d q) d
-  spends-effects h (Take r q i) w keeps d = spends-hold_script h r (slot_at (objects_of h) (S q) i) (slot_at-untouched ds h d (S q) i) d
+      (register-untouched ds h (apart d) (S r)) (native_of-untouched ds h (apart d) r w) (script_source-untouched ds h (apart d) q) d
+  spends-effects h (Take r q i) w keeps d = spends-hold_script h r (slot_at (objects_of h) (S q) i) (slot_at-untouched ds h (apart d) (S q) i) d
   spends-effects h (Wrap r q) w keeps d = spends-register (wrapped h (register h (N q))) (S r) (reflector_of (register h (N q)))
-      (reflector_of-untouched ds (register h (N q)) keeps (register-untouched ds h d (N q)))
-      (spends-wrapped h (register h (N q)) keeps (register-untouched ds h d (N q)) d)
-  spends-effects h (Unwrap r q) w keeps d = spends-hold_native h r (native_of (register h (S q))) (native_of-untouched ds h d q w) d
-  spends-effects h (Preserve q) w keeps d = spends-preserve h (register h (S q)) (register-untouched ds h d (S q)) (native_of-untouched ds h d q w) d
+      (reflector_of-untouched ds (register h (N q)) keeps (register-untouched ds h (apart d) (N q)))
+      (spends-wrapped h (register h (N q)) keeps (register-untouched ds h (apart d) (N q)) d)
+  spends-effects h (Unwrap r q) w keeps d = spends-hold_native h r (native_of (register h (S q))) (native_of-untouched ds h (apart d) q w) d
+  spends-effects h (Preserve q) w keeps d = spends-preserve h (register h (S q)) (register-untouched ds h (apart d) (S q)) (native_of-untouched ds h (apart d) q w) d
   spends-effects h (SetEntry m k v) w keeps d = spends-set_entry h (register h (S m)) (register h (S k)) (source h (option_map S v))
-      (register-untouched ds h d (S k)) (native_of-untouched ds h d k w) (script_source-untouched ds h d v) d
+      (register-untouched ds h (apart d) (S k)) (native_of-untouched ds h (apart d) k w) (script_source-untouched ds h (apart d) v) d
   spends-effects h (GetEntry r m k) w keeps d = spends-hold_script h r (value_at (objects_of h) (register h (S m)) (register h (S k)))
-      (value_at-untouched ds h d (register h (S m)) (register h (S k)) (register-untouched ds h d (S m)) (register-untouched ds h d (S k))) d
-  spends-effects h (Expose q i) w keeps d = spends-exposed h (slot_at (objects_of h) (N q) i) (slot_at-untouched ds h d (N q) i) d
+      (value_at-untouched ds h (apart d) (register h (S m)) (register h (S k)) (register-untouched ds h (apart d) (S m)) (register-untouched ds h (apart d) (S k))) d
+  spends-effects h (Expose q i) w keeps d = spends-exposed h (slot_at (objects_of h) (N q) i) (slot_at-untouched ds h (apart d) (N q) i) d
   spends-effects h Nothing w keeps d = d
   spends-effects h (Slice v) w keeps d = d
   spends-effects h Collect w keeps d = d

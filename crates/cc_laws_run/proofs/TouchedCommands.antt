@@ -35,7 +35,7 @@ use Rattle.cc_laws_run.proofs.NamesAndEdges.{named-of_living}
 use Rattle.cc_laws_run.proofs.TouchedViews.{doomed-spared, Spares-entries, edge-script}
 use Rattle.cc_laws_run.proofs.TouchedParts.{IsUntouched, Spares-register, Spares-native_slot, Spares-preserved, Spares-new_native, Spares-script_slot, Spares-blackened, Spares-new_script}
 use Rattle.cc_laws_run.proofs.TouchedCascade.{doomed-touch, doomed-add_ref, doomed-take_up, doomed-let_go}
-use Rattle.cc_laws_run.proofs.TouchedReads.{register-untouched, source-untouched, script_source-untouched, slot_at-untouched, value_at-untouched, native_of-untouched, reflector_of-untouched}
+use Rattle.cc_laws_run.proofs.TouchedReads.{IsApart, register-untouched, source-untouched, script_source-untouched, slot_at-untouched, value_at-untouched, native_of-untouched, reflector_of-untouched}
 
 -- a place that is to hold a name that is no member
 pub one-untouched : (ds : List Name) (x : Name) → ¬ (Among x ds) → IsUntouched ds (Some x)
@@ -61,6 +61,10 @@ module _ (s : Snapshot) (ds : List Name) where
   abbrev Dooms : Heap → Type 0
   Dooms h = IsDoomed (view h) s ds
 
+  -- they are apart from what registers hold
+  apart : {h : Heap} → Dooms h → IsApart ds h
+  apart d = record { unregistered = d.unregistered; holder = d.holder; joint = d.joint }
+
   -- Registers and slots
 
   -- a register written
@@ -79,7 +83,7 @@ module _ (s : Snapshot) (ds : List Name) where
 
   -- a native register written, and what it held given up
   doomed-put_in_register : (h : Heap) (r : ℕ) (x : Option Name) → IsUntouched ds x → Dooms h → Dooms (put_in_register h r x).heap
-  doomed-put_in_register h r x none d = doomed-let_go s ds (set_register h (N r) x) (register h (N r)) (register-untouched s ds h d (N r))
+  doomed-put_in_register h r x none d = doomed-let_go s ds (set_register h (N r) x) (register h (N r)) (register-untouched ds h (apart d) (N r))
       (doomed-register h (N r) x none d)
 
   -- what comes into a native register
@@ -90,7 +94,7 @@ module _ (s : Snapshot) (ds : List Name) where
   -- a slot of what a native register holds written, and what it held given up
   doomed-put_in_slot : (h : Heap) (r i : ℕ) (x : Option Name) → IsUntouched ds x → Dooms h → Dooms (put_in_slot h r i x).heap
   doomed-put_in_slot h r i x none d = doomed-let_go s ds (set_slot h (register h (N r)) i x) (slot_at (objects_of h) (N r) i)
-      (slot_at-untouched s ds h d (N r) i) (doomed-slot h (register h (N r)) i x (register-untouched s ds h d (N r)) none d)
+      (slot_at-untouched ds h (apart d) (N r) i) (doomed-slot h (register h (N r)) i x (register-untouched ds h (apart d) (N r)) none d)
 
   -- what comes into such a slot
   doomed-store_native : (h : Heap) (r i : ℕ) (x : Option Name) → IsUntouched ds x → Dooms h → Dooms (store_native h r i x).heap
@@ -229,26 +233,26 @@ module _ (s : Snapshot) (ds : List Name) where
   doomed-effects h (Native r n) w keeps d = doomed-make_native h r n w d
   doomed-effects h (Script r n) w keeps d = doomed-make_object h r Plain n w d
   doomed-effects h (WeakMap r) w keeps d = doomed-make_object h r Map 0 w d
-  doomed-effects h (CopyNative r q) w keeps d = doomed-hold_native h r (register h (N q)) (register-untouched s ds h d (N q)) d
-  doomed-effects h (CopyScript r q) w keeps d = doomed-register h (S r) (register h (S q)) (register-untouched s ds h d (S q)) d
+  doomed-effects h (CopyNative r q) w keeps d = doomed-hold_native h r (register h (N q)) (register-untouched ds h (apart d) (N q)) d
+  doomed-effects h (CopyScript r q) w keeps d = doomed-register h (S r) (register h (S q)) (register-untouched ds h (apart d) (S q)) d
   doomed-effects h (Drop (N r)) w keeps d = doomed-put_in_register h r None (λ y m i. m) d
   doomed-effects h (Drop (S r)) w keeps d = doomed-register h (S r) None (λ y m i. m) d
-  doomed-effects h (Set r i q) w keeps d = doomed-store_native h r i (source h q) (source-untouched s ds h d q) d
-  doomed-effects h (Get (N r) q i) w keeps d = doomed-hold_native h r (slot_at (objects_of h) (N q) i) (slot_at-untouched s ds h d (N q) i) d
-  doomed-effects h (Get (S r) q i) w keeps d = doomed-hold_script h r (slot_at (objects_of h) (N q) i) (slot_at-untouched s ds h d (N q) i) d
+  doomed-effects h (Set r i q) w keeps d = doomed-store_native h r i (source h q) (source-untouched ds h (apart d) q) d
+  doomed-effects h (Get (N r) q i) w keeps d = doomed-hold_native h r (slot_at (objects_of h) (N q) i) (slot_at-untouched ds h (apart d) (N q) i) d
+  doomed-effects h (Get (S r) q i) w keeps d = doomed-hold_script h r (slot_at (objects_of h) (N q) i) (slot_at-untouched ds h (apart d) (N q) i) d
   doomed-effects h (Put r i q) w keeps d = doomed-put_in_script h (register h (S r)) i (source h (option_map S q))
-      (register-untouched s ds h d (S r)) (script_source-untouched s ds h d q) d
-  doomed-effects h (Take r q i) w keeps d = doomed-hold_script h r (slot_at (objects_of h) (S q) i) (slot_at-untouched s ds h d (S q) i) d
+      (register-untouched ds h (apart d) (S r)) (script_source-untouched ds h (apart d) q) d
+  doomed-effects h (Take r q i) w keeps d = doomed-hold_script h r (slot_at (objects_of h) (S q) i) (slot_at-untouched ds h (apart d) (S q) i) d
   doomed-effects h (Wrap r q) w keeps d = doomed-register (wrapped h (register h (N q))) (S r) (reflector_of (register h (N q)))
-      (reflector_of-untouched ds (register h (N q)) keeps (register-untouched s ds h d (N q)))
-      (doomed-wrapped h (register h (N q)) keeps (register-untouched s ds h d (N q)) d)
-  doomed-effects h (Unwrap r q) w keeps d = doomed-hold_native h r (native_of (register h (S q))) (native_of-untouched s ds h d q w) d
-  doomed-effects h (Preserve q) w keeps d = doomed-preserve h (register h (S q)) (register-untouched s ds h d (S q)) d
+      (reflector_of-untouched ds (register h (N q)) keeps (register-untouched ds h (apart d) (N q)))
+      (doomed-wrapped h (register h (N q)) keeps (register-untouched ds h (apart d) (N q)) d)
+  doomed-effects h (Unwrap r q) w keeps d = doomed-hold_native h r (native_of (register h (S q))) (native_of-untouched ds h (apart d) q w) d
+  doomed-effects h (Preserve q) w keeps d = doomed-preserve h (register h (S q)) (register-untouched ds h (apart d) (S q)) d
   doomed-effects h (SetEntry m k v) w keeps d = doomed-set_entry h (register h (S m)) (register h (S k)) (source h (option_map S v))
-      (register-untouched s ds h d (S k)) (script_source-untouched s ds h d v) d
+      (register-untouched ds h (apart d) (S k)) (script_source-untouched ds h (apart d) v) d
   doomed-effects h (GetEntry r m k) w keeps d = doomed-hold_script h r (value_at (objects_of h) (register h (S m)) (register h (S k)))
-      (value_at-untouched s ds h d (register h (S m)) (register h (S k)) (register-untouched s ds h d (S m)) (register-untouched s ds h d (S k))) d
-  doomed-effects h (Expose q i) w keeps d = doomed-exposed h (slot_at (objects_of h) (N q) i) (slot_at-untouched s ds h d (N q) i) d
+      (value_at-untouched ds h (apart d) (register h (S m)) (register h (S k)) (register-untouched ds h (apart d) (S m)) (register-untouched ds h (apart d) (S k))) d
+  doomed-effects h (Expose q i) w keeps d = doomed-exposed h (slot_at (objects_of h) (N q) i) (slot_at-untouched ds h (apart d) (N q) i) d
   doomed-effects h Nothing w keeps d = d
   doomed-effects h (Slice v) w keeps d = d
   doomed-effects h Collect w keeps d = d

@@ -1,6 +1,6 @@
--- WHAT COMMANDS READ IS NOT DOOMED: what registers hold, what slots of that hold, values of such maps and keys, natives and
--- reflectors behind it.
-use Rattle.std.proofs.Common.{◌≡◌, ℕ, Bool, true, false, List, [], ◌∷◌, map, Option, Some, None, refl, sym, subst, inl, inr, ⊎_elim, option_map, slice_index_or}
+-- WHAT COMMANDS READ IS HELD BY REGISTERS: what these hold, what slots of that hold, values of such maps and keys, natives and
+-- reflectors behind it. So it is none of names that no register has and that only such names hold.
+use Rattle.std.proofs.Common.{◌≡◌, ℕ, Bool, true, false, List, [], ◌∷◌, map, Option, Some, None, refl, sym, subst, inl, inr, ◌⊎◌, ⊎_elim, option_map, slice_index_or}
 use Rattle.std.specs.Option.{option_to_list, option_and_then}
 use Rattle.std.proofs.lemmas.Bool.{and_parts}
 use Rattle.cc_lists.specs.Members.{Among}
@@ -20,11 +20,10 @@ use Rattle.cc_model.specs.Checks.{slots_or_none, slot_at, value_at, native_of, r
 use Rattle.cc_model.specs.Heap.{Heap, HeapNative, HeapScript, native_at, script_at, slots_in, slots_of_script, slots_of_kind, register, objects_of, source}
 use Rattle.cc_model.specs.View.{view, script_slot_edges}
 use Rattle.cc_model.specs.WellFormed.{IsWellFormed}
-use Rattle.cc_model.specs.Snapshot.{Snapshot}
 use Rattle.cc_laws_heap.proofs.Natives.{native_at-there, native_at-number}
 use Rattle.cc_laws_heap.proofs.Writes.{contents-at}
 use Rattle.cc_laws_heap.proofs.Holding.{script_register-there}
-use Rattle.cc_laws_run.specs.Doomed.{IsDoomed, KeepsReflectors}
+use Rattle.cc_laws_run.specs.Doomed.{KeepsReflectors}
 use Rattle.cc_laws_run.proofs.Handing.{edge-from_slot, edge-from_reflector}
 use Rattle.cc_laws_run.proofs.TouchedViews.{edge-script}
 use Rattle.cc_laws_run.proofs.TouchedParts.{IsUntouched}
@@ -48,7 +47,13 @@ value_in-entry (e ∷ es) m k y i = go (value_in-entry es m k y) (is_entry_of m 
         (e, inl refl, same_name-true e.the_map m both.0, same_name-true e.key k both.1, ⊎_elim (λ s. s) (λ n. absurd n) j)
     go ih false t j = let f = ih j in (f.0, inr f.1, f.2, f.3, f.4)
 
-module _ (s : Snapshot) (ds : List Name) (h : Heap) (d : IsDoomed (view h) s ds) where
+-- no register has one of the names, and only such names hold them
+pub record IsApart (ds : List Name) (h : Heap) : Type 0 where
+  pub unregistered : (x : Name) → Among x ds → ¬ (Among x (view h).registers)
+  pub holder : (x y : Name) → Among (x, y) (view h).edges → Among y ds → Among x ds
+  pub joint : (e : Entry) → Among e h.entries → Among e.value ds → Among e.the_map ds ⊎ Among e.key ds
+
+module _ (ds : List Name) (h : Heap) (d : IsApart ds h) where
   -- what a register holds is no member
   pub register-untouched : (r : Reg) → IsUntouched ds (register h r)
   register-untouched (N r) y m i = d.unregistered y i
