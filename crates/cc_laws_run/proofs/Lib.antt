@@ -63,3 +63,4 @@ pub mod SpentCommands
 pub mod SpentGone
 pub mod SpentUnits
 pub mod SpentAsks
+pub mod MissesWhole

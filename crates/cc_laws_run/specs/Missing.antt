@@ -7,6 +7,7 @@ use Rattle.cc_names.specs.Names.{native, behind}
 use Rattle.cc_model.specs.declared.command.Command.TheVariants.{Slice, Collect}
 use Rattle.cc_model.specs.declared.item.Event.{Event}
 use Rattle.cc_model.specs.declared.item.Event.TheVariants.{Abandoned}
+use Rattle.cc_model.specs.Answers.{Answer}
 use Rattle.cc_model.specs.Asks.{Ask, taken}
 use Rattle.cc_model.specs.Heap.{Heap}
 use Rattle.cc_model.specs.View.{view}
@@ -27,3 +28,7 @@ begins_one ask = false
 -- the collection goes on and can't miss them, or it has unlinked them all, or it was abandoned
 abbrev pub MissesNone : List Name → Machine → List Event → Type 0
 MissesNone ds m es = IsDoomedNow m ds ⊎ (AreUnlinked ds es ⊎ Among Abandoned es)
+
+-- an answer has unlinked them all, or told an abandonment
+abbrev pub IsSettledBy : List Name → List Answer → Type 0
+IsSettledBy ds answers = (a : Answer) × Among a answers × (AreUnlinked ds a.events ⊎ Among Abandoned a.events)

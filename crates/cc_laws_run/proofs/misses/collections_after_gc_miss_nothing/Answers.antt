@@ -1,6 +1,7 @@
 use Rattle.cc_laws_run.proofs.MissesLost.{native-lost}
 use Rattle.cc_laws_run.proofs.MissesBegin.{after_gc-keeps, after_gc-misses}
 use Rattle.cc_laws_run.proofs.MissesUnits.{ask-misses}
+use Rattle.cc_laws_run.proofs.MissesWhole.{asks-miss}
 use Rattle.cc_laws_run.proofs.misses.collections_after_gc_miss_nothing.Goals as goal
 
 pub returns-clause-all_natives : goal.returns-clause-all_natives
@@ -14,3 +15,6 @@ returns-clause-begins c = λ m s ask r suspected e. after_gc-misses m s ask r su
 
 pub returns-clause-goes_on : goal.returns-clause-goes_on
 returns-clause-goes_on c = λ m s ask ds r i keeps d. ask-misses m s ask ds r i keeps d
+
+pub returns-clause-whole : goal.returns-clause-whole
+returns-clause-whole c = asks-miss
