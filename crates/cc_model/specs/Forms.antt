@@ -158,7 +158,3 @@ version_one_forms =
     ∷ gc_form
     ∷ census_form
     ∷ []
-
--- THE FORMS THAT THE PROGRAM KNOWS NOW: a line of another form is not in its grammar. No program reads lines yet.
-abbrev pub forms_now : List Form
-forms_now = []
