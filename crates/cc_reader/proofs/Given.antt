@@ -1,0 +1,180 @@
+-- Lines that were given, and the line that is being read.
+use Rattle.std.proofs.Common.{◌≡◌, ◌≢◌, ℕ, ◌≤◌, ◌<◌, true, false, cond, List, [], ◌∷◌, ◌++◌, ◌==◌, Option, refl, sym, ap, ◌∙◌, append-nil, inl, inr, ⊎_elim, arith}
+use Rattle.std.proofs.Math.Seq.{take-nil}
+use Rattle.std.proofs.lemmas.Bool.Decides.{nat_tests}
+use Rattle.cc_lists.proofs.KnownBytes.{Consumes-nil}
+use Rattle.cc_model.specs.Lines.{ended_by, line_after, last_line, lines_from, lines_of, ended_lines_of, rest_from}
+use Rattle.cc_reader.specs.Pending.{Pending}
+use Rattle.cc_reader.specs.Given.{AreLinesOf, HasGiven, IsWhole, IsBroken, IsOver, AreFirst}
+use Rattle.cc_reader.specs.Used.{HasUsed, Uses, IsSpent, Begins}
+use Rattle.cc_reader.proofs.Cutting.{lines_from-append, lines_of-ended, ended_from-byte, rest_from-append, lines_from-ended}
+use Rattle.cc_reader.proofs.Using.{used-all}
+
+-- A READER THAT BEGINS has given no line
+pub HasGiven-none : (start : Option (List ℕ)) (limit : ℕ) → HasGiven start start (record { bytes = []; taken = 0; limit = limit; ended = false; stopped = false }) []
+HasGiven-none start limit = record {
+  given = [];
+  consumed = Consumes-nil start;
+  counted = refl;
+  most = omega arith;
+  used = [];
+  parted = sym (take-nil limit);
+  cut = inl (refl, refl);
+  at_end = λ e. absurd (cc);
+}
+
+-- THE LINES GIVEN are the first ones within the limit
+pub HasGiven-first : (start now : Option (List ℕ)) (p : Pending) (lines : List (List ℕ)) → HasGiven start now p lines → AreFirst start now p.limit lines
+HasGiven-first start now p lines h = ⊎_elim
+    (λ (w : (lines ≡ ended_lines_of h.used) × (rest_from [] h.used ≡ [])). record {
+      given = h.given;
+      consumed = h.consumed;
+      most = omega (arith, h.counted, h.most);
+      more = lines_of p.bytes;
+      lines_are = ap (λ ls. ls ++ lines_of p.bytes) w.0 ∙ ap (λ r. ended_lines_of h.used ++ lines_from r p.bytes) (sym w.1)
+          ∙ sym (lines_from-append [] h.used p.bytes) ∙ ap lines_of h.parted;
+    })
+    (λ (w : (p.ended ≡ true) × (p.bytes ≡ []) × (lines ≡ lines_of h.used)). record {
+      given = h.given;
+      consumed = h.consumed;
+      most = omega (arith, h.counted, h.most);
+      more = [];
+      lines_are = append-nil lines ∙ w.2 ∙ ap lines_of (sym (append-nil h.used) ∙ ap (λ bs. h.used ++ bs) (sym w.1) ∙ h.parted);
+    })
+    h.cut
+
+-- the same bytes used
+abbrev used_of : (start now : Option (List ℕ)) (p : Pending) (lines : List (List ℕ)) (h : HasGiven start now p lines) → HasUsed start now p h.used
+used_of start now p lines h = record {
+  given = h.given;
+  consumed = h.consumed;
+  counted = h.counted;
+  most = h.most;
+  parted = h.parted;
+  at_end = h.at_end;
+}
+
+-- lines given, where these bytes were used
+given_of : (start now : Option (List ℕ)) (p : Pending) (lines : List (List ℕ)) (used : List ℕ) → HasUsed start now p used → AreLinesOf p lines used → HasGiven start now p lines
+given_of start now p lines used h cut = record {
+  given = h.given;
+  consumed = h.consumed;
+  counted = h.counted;
+  most = h.most;
+  used = used;
+  parted = h.parted;
+  cut = cut;
+  at_end = h.at_end;
+}
+
+is_feed-not : (b : ℕ) → b ≢ 10 → (b == 10) ≡ false
+is_feed-not b n = grind (arith, nat_tests)
+
+ended_by-other : (line : List ℕ) (b : ℕ) → b ≢ 10 → ended_by line b ≡ []
+ended_by-other line b n = ap (λ t. cond t (line ∷ []) []) (is_feed-not b n)
+
+ended_by-feed : (line : List ℕ) (b : ℕ) → b ≡ 10 → ended_by line b ≡ line ∷ []
+ended_by-feed line b e = ap (ended_by line) e
+
+line_after-other : (line : List ℕ) (b : ℕ) → b ≢ 10 → line_after line b ≡ line ++ b ∷ []
+line_after-other line b n = ap (λ t. cond t [] (line ++ b ∷ [])) (is_feed-not b n)
+
+line_after-feed : (line : List ℕ) (b : ℕ) → b ≡ 10 → line_after line b ≡ []
+line_after-feed line b e = ap (line_after line) e
+
+last_line-some : (line : List ℕ) → line ≢ [] → last_line line ≡ line ∷ []
+last_line-some [] n = absurd (n refl)
+last_line-some (b ∷ line) n = refl
+
+-- a line begins
+pub Begins-line : (now : Option (List ℕ)) (p : Pending) → (IsSpent p → ⊥) → Begins now now p p []
+Begins-line now p n = λ start lines h. record {
+  used = h.used;
+  has_used = used_of start now p lines h;
+  ended = ⊎_elim (λ (w : (lines ≡ ended_lines_of h.used) × (rest_from [] h.used ≡ [])). w.0) (λ (w : (p.ended ≡ true) × (p.bytes ≡ []) × (lines ≡ lines_of h.used)). absurd (n (w.1, w.0))) h.cut;
+  rest = ⊎_elim (λ (w : (lines ≡ ended_lines_of h.used) × (rest_from [] h.used ≡ [])). w.1) (λ (w : (p.ended ≡ true) × (p.bytes ≡ []) × (lines ≡ lines_of h.used)). absurd (n (w.1, w.0))) h.cut;
+}
+
+-- a byte that is no line feed goes on with the line
+pub Begins-byte : (before mid now : Option (List ℕ)) (p q r : Pending) (line : List ℕ) (b : ℕ) → Begins before mid p q line → Uses mid now q r (b ∷ []) → b ≢ 10 →
+    Begins before now p r (line ++ b ∷ [])
+Begins-byte before mid now p q r line b begun uses e = λ start lines h.
+    let k = begun start lines h in
+    record {
+      used = k.used ++ b ∷ [];
+      has_used = uses start k.used k.has_used;
+      ended = k.ended ∙ sym (ended_from-byte [] k.used b ∙ ap (λ ls. ended_lines_of k.used ++ ls) (ended_by-other (rest_from [] k.used) b e) ∙ append-nil (ended_lines_of k.used));
+      rest = rest_from-append [] k.used (b ∷ []) ∙ ap (λ r. line_after r b) k.rest ∙ line_after-other line b e;
+    }
+
+-- a line feed ends the line
+pub Begins-ended : (before mid now : Option (List ℕ)) (p q r : Pending) (line : List ℕ) (b : ℕ) → Begins before mid p q line → Uses mid now q r (b ∷ []) → b ≡ 10 →
+    (start : Option (List ℕ)) (lines : List (List ℕ)) → HasGiven start before p lines → HasGiven start now r (lines ++ line ∷ [])
+Begins-ended before mid now p q r line b begun uses e = λ start lines h.
+    let k = begun start lines h in
+    given_of start now r (lines ++ line ∷ []) (k.used ++ b ∷ []) (uses start k.used k.has_used)
+    (inl (
+      ap (λ ls. ls ++ line ∷ []) k.ended ∙ ap (λ ls. ended_lines_of k.used ++ ls) (sym (ap (λ r. ended_by r b) k.rest ∙ ended_by-feed line b e)) ∙ sym (ended_from-byte [] k.used b),
+      rest_from-append [] k.used (b ∷ []) ∙ line_after-feed (rest_from [] k.used) b e,
+    ))
+
+-- the end ends a line that has a byte
+pub Begins-last : (before mid now : Option (List ℕ)) (p q r : Pending) (line : List ℕ) → Begins before mid p q line → Uses mid now q r [] → IsSpent r → line ≢ [] →
+    (start : Option (List ℕ)) (lines : List (List ℕ)) → HasGiven start before p lines → HasGiven start now r (lines ++ line ∷ [])
+Begins-last before mid now p q r line begun uses s n = λ start lines h.
+    let k = begun start lines h in
+    given_of start now r (lines ++ line ∷ []) (k.used ++ []) (uses start k.used k.has_used)
+    (inr (
+      s.1,
+      s.0,
+      ap (λ ls. ls ++ line ∷ []) k.ended ∙ ap (λ ls. ended_lines_of k.used ++ ls) (sym (ap last_line k.rest ∙ last_line-some line n)) ∙ sym (lines_from-ended [] k.used)
+          ∙ ap lines_of (sym (append-nil k.used)),
+    ))
+
+-- where all is used and the source at its end, all lines were given
+pub whole-spent : (start now : Option (List ℕ)) (p : Pending) (lines : List (List ℕ)) → IsSpent p → HasGiven start now p lines → IsWhole start now p.limit lines
+whole-spent start now p lines s h =
+    let e = h.at_end s.1 in
+    let all : h.used ≡ h.given = used-all start now p h.used (used_of start now p lines h) s.0 e.1 in
+    record {
+      given = h.given;
+      consumed = h.consumed;
+      at_end = e.0;
+      within = omega (arith, h.counted, e.1);
+      lines_are = ⊎_elim (λ (w : (lines ≡ ended_lines_of h.used) × (rest_from [] h.used ≡ [])). w.0 ∙ sym (lines_of-ended h.used w.1)) (λ (w : (p.ended ≡ true) × (p.bytes ≡ []) × (lines ≡ lines_of h.used)). w.2) h.cut ∙ ap lines_of all;
+    }
+
+-- where a line is not begun, and all is used and the source at its end, all lines were given
+pub Begins-whole : (before mid now : Option (List ℕ)) (p q r : Pending) → Begins before mid p q [] → Uses mid now q r [] → IsSpent r →
+    (start : Option (List ℕ)) (lines : List (List ℕ)) → HasGiven start before p lines → IsWhole start now r.limit lines
+Begins-whole before mid now p q r begun uses s = λ start lines h.
+    let k = begun start lines h in
+    whole-spent start now r lines s (given_of start now r lines (k.used ++ []) (uses start k.used k.has_used)
+    (inl (k.ended ∙ ap ended_lines_of (sym (append-nil k.used)), ap (rest_from []) (append-nil k.used) ∙ k.rest)))
+
+-- at a read that failed
+pub Begins-broken : (before mid now : Option (List ℕ)) (p q r : Pending) (line : List ℕ) → Begins before mid p q line → Uses mid now q r [] → r.bytes ≡ [] → r.taken ≤ r.limit →
+    (start : Option (List ℕ)) (lines : List (List ℕ)) → HasGiven start before p lines → IsBroken start now r.limit lines
+Begins-broken before mid now p q r line begun uses e m = λ start lines h.
+    let k = begun start lines h in
+    let u = uses start k.used k.has_used in
+    let all : k.used ++ [] ≡ u.given = used-all start now r (k.used ++ []) u e m in
+    record {
+      given = u.given;
+      consumed = u.consumed;
+      within = omega (arith, u.counted, m);
+      lines_are = k.ended ∙ ap ended_lines_of (sym (append-nil k.used) ∙ all);
+    }
+
+-- above the limit
+pub Begins-over : (before mid now : Option (List ℕ)) (p q r : Pending) (line : List ℕ) → Begins before mid p q line → Uses mid now q r [] → r.bytes ≡ [] → r.limit < r.taken →
+    (start : Option (List ℕ)) (lines : List (List ℕ)) → HasGiven start before p lines → IsOver start now r.limit lines
+Begins-over before mid now p q r line begun uses e m = λ start lines h.
+    let k = begun start lines h in
+    let u = uses start k.used k.has_used in
+    record {
+      given = u.given;
+      consumed = u.consumed;
+      above = omega (arith, u.counted, u.most, m);
+      lines_are = k.ended ∙ ap ended_lines_of (sym (append-nil k.used) ∙ sym (append-nil (k.used ++ [])) ∙ ap (λ bs. (k.used ++ []) ++ bs) (sym e) ∙ u.parted);
+    }

@@ -1,0 +1,108 @@
+use Rattle.std.proofs.Common.{rules, arith, true, ◌≡◌, ◌<◌, ◌≤◌, ◌+◌, ℕ, List, [], ◌∷◌, ◌++◌, length, length-append, refl, sym, subst, ap, ◌∙◌}
+use Rattle.std.proofs.lemmas.Grind.{common_steps}
+use Rattle.std.proofs.lemmas.List.{nil_from_length}
+use Rattle.cc_reader.specs.Pending.{weight}
+use Rattle.cc_reader.specs.Given.{HasGiven}
+use Rattle.cc_reader.specs.Used.{Begins}
+use Rattle.cc_reader.proofs.Given.{Begins-line, Begins-byte, Begins-ended, Begins-last, Begins-whole, Begins-broken, Begins-over, whole-spent}
+use Rattle.cc_reader.proofs.lines.next_line.Goals as goal
+
+pub returns-then-is_spent-clause-whole : goal.returns-then-is_spent-clause-whole
+returns-then-is_spent-clause-whole g c = λ _ start lines.
+    whole-spent start (g.S.Source.left c.args.source.now) c.args.window.now lines (c.is_spent.ensures.0 c.if-is_spent.true)
+
+pub bytes-init : goal.bytes-init
+bytes-init g c = record {
+  line = (
+    [],
+    record { short = λ _. sym c.requires; fits = grind (arith, ap length c.requires); long = λ e. absurd (cc) },
+    Begins-line (g.S.Source.left c.args.source.now) c.args.window.now (λ s. let t : c.is_spent.result ≡ true = c.is_spent.ensures.1 s in cc),
+    omega arith,
+  );
+  fits = grind (arith, ap length c.requires);
+  calm = refl;
+  limit = refl;
+  stopped = refl;
+}
+
+pub returns-in_err-byte-clause-broken : goal.returns-in_err-byte-clause-broken
+returns-in_err-byte-clause-broken g c = λ e start lines.
+    let left = g.S.Source.left in
+    let i = c.bytes.invariant.line in
+    Begins-broken (left c.args.source.now) (left c.bytes.source) (left c.next_byte.new.source) c.args.window.now c.bytes.window c.next_byte.new.self i.0 i.2
+    c.in_err-byte.ensures.stop c.in_err-byte.ensures.none (c.in_err-byte.ensures.below (search rules)) start lines
+
+pub returns-in_err-byte-clause-over : goal.returns-in_err-byte-clause-over
+returns-in_err-byte-clause-over g c = λ e start lines.
+    let left = g.S.Source.left in
+    let i = c.bytes.invariant.line in
+    Begins-over (left c.args.source.now) (left c.bytes.source) (left c.next_byte.new.source) c.args.window.now c.bytes.window c.next_byte.new.self i.0 i.2
+    c.in_err-byte.ensures.stop c.in_err-byte.ensures.none (c.in_err-byte.ensures.over (search rules)) start lines
+
+pub returns-then-is_long-clause-long : goal.returns-then-is_long-clause-long
+returns-then-is_long-clause-long g c = λ _.
+    let left = g.S.Source.left in
+    let i = c.bytes.invariant.line in (
+      i.0,
+      i.1.long c.if-is_long.true,
+      Begins-ended (left c.args.source.now) (left c.bytes.source) (left c.next_byte.new.source) c.args.window.now c.bytes.window c.next_byte.new.self i.0 c.in-Some.byte i.2
+          (rw c.in-Some.is at c.in_ok-byte.ensures.byte) c.if-byte-eq10.true,
+    )
+
+pub returns-else-is_long-clause-kept : goal.returns-else-is_long-clause-kept
+returns-else-is_long-clause-kept g c = λ _ start lines h.
+    let left = g.S.Source.left in
+    let i = c.bytes.invariant.line in
+    subst (λ (t : List ℕ). HasGiven start (left c.next_byte.new.source) c.next_byte.new.self (lines ++ t ∷ [])) (i.1.short c.if-is_long.false)
+    (Begins-ended (left c.args.source.now) (left c.bytes.source) (left c.next_byte.new.source) c.args.window.now c.bytes.window c.next_byte.new.self i.0 c.in-Some.byte i.2
+    (rw c.in-Some.is at c.in_ok-byte.ensures.byte) c.if-byte-eq10.true start lines h)
+
+pub bytes-preserved : goal.bytes-preserved
+bytes-preserved g c =
+    let left = g.S.Source.left in
+    let i = c.bytes.invariant.line in
+    record {
+      line = (
+        i.0 ++ c.in-Some.byte ∷ [],
+        c.keep-is_long.ensures i.0 i.1,
+        Begins-byte (left c.args.source.now) (left c.bytes.source) (left c.next_byte.new.source) c.args.window.now c.bytes.window c.next_byte.new.self i.0 c.in-Some.byte i.2
+            (rw c.in-Some.is at c.in_ok-byte.ensures.byte) c.if-byte-eq10.false,
+        (let falls : weight c.next_byte.new.self < weight c.bytes.window = (rw c.in-Some.is at c.in_ok-byte.ensures.falls) refl in
+            let all : weight c.bytes.window + length i.0 ≤ weight c.args.window.now = i.3 in
+            omega (arith, length-append i.0 (c.in-Some.byte ∷ []))),
+      );
+      fits = (c.keep-is_long.ensures i.0 i.1).fits;
+      calm = c.in_ok-byte.ensures.calm ∙ c.bytes.invariant.calm;
+      limit = c.next_byte.ensures.limit ∙ c.bytes.invariant.limit;
+      stopped = c.next_byte.ensures.stopped ∙ c.bytes.invariant.stopped;
+    }
+
+pub returns-then-is_long-2-clause-long : goal.returns-then-is_long-2-clause-long
+returns-then-is_long-2-clause-long g c = λ _.
+    let left = g.S.Source.left in
+    let i = c.bytes.invariant.line in (
+      i.0,
+      i.1.long c.if-is_long-2.true,
+      Begins-last (left c.args.source.now) (left c.bytes.source) (left c.next_byte.new.source) c.args.window.now c.bytes.window c.next_byte.new.self i.0 i.2
+          (c.in_ok-byte.ensures.end (search rules)) (c.in_ok-byte.ensures.spent (search rules))
+          (λ e. let long : 120 < length i.0 = i.1.long c.if-is_long-2.true in let none : length i.0 ≡ 0 = ap length e in absurd (omega arith)),
+    )
+
+pub returns-then-is_empty-clause-whole : goal.returns-then-is_empty-clause-whole
+returns-then-is_empty-clause-whole g c = λ _.
+    let left = g.S.Source.left in
+    let i = c.bytes.invariant.line in
+    let nothing : i.0 ≡ [] = i.1.short c.if-is_long-2.false ∙ nil_from_length c.bytes.text (grind (arith, common_steps)) in
+    Begins-whole (left c.args.source.now) (left c.bytes.source) (left c.next_byte.new.source) c.args.window.now c.bytes.window c.next_byte.new.self
+    (subst (λ (t : List ℕ). Begins (left c.args.source.now) (left c.bytes.source) c.args.window.now c.bytes.window t) nothing i.2)
+    (c.in_ok-byte.ensures.end (search rules)) (c.in_ok-byte.ensures.spent (search rules))
+
+pub returns-else-is_empty-clause-kept : goal.returns-else-is_empty-clause-kept
+returns-else-is_empty-clause-kept g c = λ _ start lines h.
+    let left = g.S.Source.left in
+    let i = c.bytes.invariant.line in
+    let same : i.0 ≡ c.bytes.text = i.1.short c.if-is_long-2.false in
+    subst (λ (t : List ℕ). HasGiven start (left c.next_byte.new.source) c.next_byte.new.self (lines ++ t ∷ [])) same
+    (Begins-last (left c.args.source.now) (left c.bytes.source) (left c.next_byte.new.source) c.args.window.now c.bytes.window c.next_byte.new.self i.0 i.2
+    (c.in_ok-byte.ensures.end (search rules)) (c.in_ok-byte.ensures.spent (search rules))
+    (λ e. let none : length c.bytes.text ≡ 0 = ap length (sym same ∙ e) in absurd (grind (arith, common_steps))) start lines h)

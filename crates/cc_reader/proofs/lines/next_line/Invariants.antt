@@ -1,0 +1,21 @@
+use Rattle.std.proofs.Common.{◌≡◌, ◌≤◌, ◌+◌, ℕ, List, length}
+use Rattle.cc_reader.specs.Pending.{weight}
+use Rattle.cc_reader.specs.Used.{Begins, IsKept}
+use Rattle.cc_reader.proofs.lines.next_line.Given as goal
+
+abbrev pub invariant-bytes : goal.invariant-bytes
+invariant-bytes g l =
+    let left = g.S.Source.left in
+    let faults = g.S.Source.faults in
+    record {
+      line : (line : List ℕ) × IsKept l.is_long l.text line
+          × Begins (left l.fn.source) (left l.source) l.fn.window l.window line
+          × (weight l.window + length line ≤ weight l.fn.window);
+      fits : length l.text ≤ 120;
+      calm : faults l.source ≡ faults l.fn.source;
+      limit : l.window.limit ≡ l.fn.window.limit;
+      stopped : l.window.stopped ≡ l.fn.window.stopped;
+    }
+
+abbrev pub decreases-bytes : goal.decreases-bytes
+decreases-bytes g l = weight l.window

@@ -1,0 +1,52 @@
+-- THE LINES THAT WERE GIVEN ARE THOSE OF THE BYTES TAKEN.
+use Rattle.std.specs.Prelude.{◌≡◌, ℕ, ◌+◌, ◌≤◌, ◌⊎◌, true, List, [], ◌++◌, length, take, Option}
+use Rattle.std.specs.Io.KnownBytes.{Consumes, IsAtEnd}
+use Rattle.cc_model.specs.Lines.{lines_of, ended_lines_of, rest_from}
+use Rattle.cc_reader.specs.Pending.{Pending}
+
+-- the lines of the bytes used so far: each was ended by a line feed; or the input is at its end, and the last may lack one
+abbrev pub AreLinesOf : Pending → List (List ℕ) → List ℕ → Type 0
+AreLinesOf p lines used =
+    ((lines ≡ ended_lines_of used) × (rest_from [] used ≡ []))
+    ⊎ ((p.ended ≡ true) × (p.bytes ≡ []) × (lines ≡ lines_of used))
+
+-- From a source that had `start` left, and has `now` left, these lines were given; `given` are all bytes taken.
+pub record HasGiven (start now : Option (List ℕ)) (p : Pending) (lines : List (List ℕ)) : Type 0 where
+  pub given : List ℕ
+  pub consumed : Consumes start now given
+  pub counted : length given ≡ p.taken
+  pub most : p.taken ≤ p.limit + 1
+  pub used : List ℕ
+  pub parted : used ++ p.bytes ≡ take p.limit given
+  pub cut : AreLinesOf p lines used
+  pub at_end : p.ended ≡ true → IsAtEnd now × (p.taken ≤ p.limit)
+
+-- the source is at its end, and these were all lines
+pub record IsWhole (start now : Option (List ℕ)) (limit : ℕ) (lines : List (List ℕ)) : Type 0 where
+  pub given : List ℕ
+  pub consumed : Consumes start now given
+  pub at_end : IsAtEnd now
+  pub within : length given ≤ limit
+  pub lines_are : lines ≡ lines_of given
+
+-- a read failed, and these were the lines that ended
+pub record IsBroken (start now : Option (List ℕ)) (limit : ℕ) (lines : List (List ℕ)) : Type 0 where
+  pub given : List ℕ
+  pub consumed : Consumes start now given
+  pub within : length given ≤ limit
+  pub lines_are : lines ≡ ended_lines_of given
+
+-- one byte more than the limit was taken, and these were the lines that ended within the limit
+pub record IsOver (start now : Option (List ℕ)) (limit : ℕ) (lines : List (List ℕ)) : Type 0 where
+  pub given : List ℕ
+  pub consumed : Consumes start now given
+  pub above : length given ≡ limit + 1
+  pub lines_are : lines ≡ ended_lines_of (take limit given)
+
+-- these are the first lines of the bytes within the limit
+pub record AreFirst (start now : Option (List ℕ)) (limit : ℕ) (lines : List (List ℕ)) : Type 0 where
+  pub given : List ℕ
+  pub consumed : Consumes start now given
+  pub most : length given ≤ limit + 1
+  pub more : List (List ℕ)
+  pub lines_are : lines ++ more ≡ lines_of (take limit given)

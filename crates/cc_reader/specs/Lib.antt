@@ -1,0 +1,5 @@
+pub mod FormsNow
+pub mod Words
+pub mod Pending
+pub mod Given
+pub mod Used

@@ -1,0 +1,165 @@
+use super::*;
+use cc_model::Command;
+use cc_names::Reg;
+use cc_outside::{BytesSource, Source, SureSource};
+use std::alloc::{AllocError, Global};
+use std::process::Abort;
+use std::test::Fail;
+
+#[test]
+fn lines_are_parsed(rt: HostRuntime) {
+    let table: [(&[u8], Option<Command>); 36] = [
+        (b"native n0 64", Some(Command::Native(0, 64))),
+        (b"native n0 65", None),
+        (b"native n0 01", None),
+        (b"native n0 0", Some(Command::Native(0, 0))),
+        (b"native n255 1", Some(Command::Native(255, 1))),
+        (b"native n256 0", None),
+        (b"native n00 0", None),
+        (b"native n 0", None),
+        (b"native N0 0", None),
+        (b"native n0", None),
+        (b"native n0 0 0", None),
+        (b"native n0 +1", None),
+        (b"Native n0 0", None),
+        (b"copy n3 n4", Some(Command::CopyNative(3, 4))),
+        (b"copy n3 s4", None),
+        (b"drop n9", Some(Command::Drop(Reg::N(9)))),
+        (b"drop s9", None),
+        (
+            b"set n0 4294967295 n0",
+            Some(Command::Set(0, 4294967295, Some(Reg::N(0)))),
+        ),
+        (b"set n0 4294967296 n0", None),
+        (b"set n0 0 none", Some(Command::Set(0, 0, None))),
+        (b"set n0 0 None", None),
+        (b"get n1 n2 3", Some(Command::Get(Reg::N(1), 2, 3))),
+        (b"get n1 none 3", None),
+        (b"census", Some(Command::Census)),
+        (b"census n0", None),
+        (b"collect now", None),
+        (b"script s0", None),
+        (b"native\tn0 0", None),
+        (b"\tcensus", None),
+        (b"  census   ", Some(Command::Census)),
+        (b" native  n1   2 ", Some(Command::Native(1, 2))),
+        (b"census\r", Some(Command::Census)),
+        (b"census\r\r", None),
+        (b"\r", Some(Command::Nothing)),
+        (b"   ", Some(Command::Nothing)),
+        (b"  % note", Some(Command::Nothing)),
+    ];
+    for (line, want) in table.iter() {
+        assert_eq!(rt; parse(line), *want, "at {line:?}");
+    }
+    assert_eq!(rt; parse(b""), Some(Command::Nothing));
+    assert_eq!(rt; parse(b"%"), Some(Command::Nothing));
+    assert_eq!(rt; parse(b"census %"), None);
+}
+
+/// Reads a line, looks at its answer and its text, and reads the next one where there may be one.
+fn reads<S: Source>(
+    rt: &impl Abort,
+    source: &mut S,
+    limit: u32,
+    first: (Result<Line, ReadStop>, &[u8]),
+    second: Result<Line, ReadStop>,
+) {
+    let mut lines = Lines::new(source, limit);
+    let answer = lines.next();
+    assert_eq!(rt; answer, first.0);
+    match answer {
+        Ok(Line::Text) => {
+            assert_eq!(rt; lines.text(), first.1);
+            assert_eq!(rt; lines.next(), second);
+        }
+        Ok(Line::TooLong) => assert_eq!(rt; lines.next(), second),
+        Ok(Line::End) | Err(_) => (),
+    }
+}
+
+/// A front, then `count` times the letter a, then a back.
+fn letters(alloc: Global, front: &[u8], count: usize, back: &[u8]) -> Result<Vec<u8>, AllocError> {
+    let mut bytes = front.to_vec(alloc)?;
+    let middle = vec![in alloc; b'a'; count]?;
+    bytes.extend_from_slice(&middle)?;
+    bytes.extend_from_slice(back)?;
+    Ok(bytes)
+}
+
+#[test]
+fn a_line_has_at_most_120_bytes(rt: HostRuntime) -> Result<(), Fail> {
+    let table: [(&[u8], usize, &[u8], bool); 8] = [
+        (b"%", 119, b"\n", true),
+        (b"%", 120, b"\n", false),
+        (b"", 119, b"\r\n", true),
+        (b"", 120, b"\r\n", false),
+        (b"", 120, b"", true),
+        (b"", 121, b"", false),
+        (b"", 9000, b"\n", false),
+        (b"", 0, b"\n", true),
+    ];
+    for (front, count, back, fits) in table.iter() {
+        for most in [1, 120, 5000] {
+            let bytes = letters(rt.alloc(), front, *count, back)?;
+            let end = back.strip_suffix(b"\n").unwrap_or(back);
+            let text = letters(rt.alloc(), front, *count, end)?;
+            let first = if *fits { Line::Text } else { Line::TooLong };
+            let mut source = BytesSource::new(bytes, Vec::new(rt.alloc()), most);
+            reads(
+                &rt,
+                &mut source,
+                1000000,
+                (Ok(first), text.as_slice()),
+                Ok(Line::End),
+            );
+        }
+    }
+    Ok(())
+}
+
+#[test]
+fn bytes_above_the_limit_are_not_used(rt: HostRuntime) -> Result<(), Fail> {
+    let two_lines: &[u8] = b"native n0 0\n\n";
+    let table: [(
+        &[u8],
+        u32,
+        Result<Line, ReadStop>,
+        Result<Line, ReadStop>,
+        u64,
+    ); 6] = [
+        (&two_lines[..12], 12, Ok(Line::Text), Ok(Line::End), 0),
+        (two_lines, 12, Ok(Line::Text), Err(ReadStop::Limit), 0),
+        (two_lines, 13, Ok(Line::Text), Ok(Line::Text), 0),
+        (two_lines, 11, Err(ReadStop::Limit), Ok(Line::End), 1),
+        (b"x", 0, Err(ReadStop::Limit), Ok(Line::End), 0),
+        (b"", 0, Ok(Line::End), Ok(Line::End), 0),
+    ];
+    for (bytes, limit, first, second, left) in table.iter() {
+        let mut source = SureSource::new(bytes.to_vec(rt.alloc())?);
+        reads(&rt, &mut source, *limit, (*first, b"native n0 0"), *second);
+        assert_eq!(rt; source.left().len() as u64, *left);
+    }
+    Ok(())
+}
+
+#[test]
+fn a_read_that_fails_is_told(rt: HostRuntime) -> Result<(), Fail> {
+    let bytes = b"native n0 0\nnative n1 0\n".to_vec(rt.alloc())?;
+    let mut source = BytesSource::new(bytes, [2].to_vec(rt.alloc())?, 19);
+    let first: (Result<Line, ReadStop>, &[u8]) = (Ok(Line::Text), b"native n0 0");
+    reads(&rt, &mut source, 100, first, Err(ReadStop::Fault));
+    assert_eq!(rt; source.faults(), 1);
+    assert_eq!(rt; source.left(), b"n1 0\n".as_slice());
+    Ok(())
+}
+
+#[test]
+fn bytes_taken_are_counted(rt: HostRuntime) -> Result<(), Fail> {
+    let mut source = SureSource::new(b"census\ncensus\n".to_vec(rt.alloc())?);
+    let mut lines = Lines::new(&mut source, 10);
+    assert_eq!(rt; lines.taken(), 0);
+    assert_eq!(rt; lines.next(), Ok(Line::Text));
+    assert_eq!(rt; lines.taken(), 11);
+    Ok(())
+}

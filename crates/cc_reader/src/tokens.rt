@@ -1,0 +1,118 @@
+ghost use Rattle.std.specs.Prelude.{◌≡◌, ◌≢◌, ◌<◌, ◌≤◌, [], ◌∷◌, length, slice_index, IfNone, IfSome};
+ghost use Rattle.cc_model.specs.Tokens.{digits_from, native_register, number_within, tokens_of};
+
+/// What stands behind the spaces at the front.
+fn without_spaces(line: &[u8]) -> &[u8]
+    ensures same { tokens_of line.now ≡ tokens_of result.now }
+    ensures front { 0 < length result.now → slice_index result.now 0 ≢ 32 }
+{
+    'bytes: for (place, byte) in line.iter().enumerate() {
+        if *byte != b' ' {
+            return &line[place..];
+        }
+    }
+    &[]
+}
+
+/// The first token of a line that begins with it, and what stands behind the space after it.
+fn cut_token(line: &[u8]) -> (&[u8], &[u8])
+    requires some { 0 < length line.now }
+    requires front { slice_index line.now 0 ≢ 32 }
+    ensures cut { tokens_of line.now ≡ result.0.now ∷ tokens_of result.1.now }
+    ensures some { 0 < length result.0.now }
+{
+    'bytes: for (place, byte) in line.iter().enumerate() {
+        if *byte == b' ' {
+            return (&line[..place], &line[place + 1..]);
+        }
+    }
+    (line, &[])
+}
+
+/// The first token of a line, and what stands behind it.
+pub(crate) fn next_token(line: &[u8]) -> Option<(&[u8], &[u8])>
+    ensures cut { IfSome result (λ t. tokens_of line.now ≡ t.0.now ∷ tokens_of t.1.now) }
+    ensures some { IfSome result (λ t. 0 < length t.0.now) }
+    ensures none { IfNone result (tokens_of line.now ≡ []) }
+{
+    let line = without_spaces(line);
+    if line.is_empty() {
+        return None;
+    }
+    Some(cut_token(line))
+}
+
+/// The number that digits write, at most `most`.
+fn digits(token: &[u8], most: u32) -> Option<u32>
+    ensures value { result ≡ digits_from most 0 token.now }
+    ensures within { IfSome result (λ n. n ≤ most) }
+{
+    let mut value: u32 = 0;
+    'digits: for byte in token {
+        if *byte < b'0' || b'9' < *byte {
+            return None;
+        }
+        let wider = u64::from(value) * 10 + u64::from(*byte - b'0');
+        if wider > u64::from(most) {
+            return None;
+        }
+        value = wider as u32;
+    }
+    Some(value)
+}
+
+/// The number that a token says, at most `most`, with no sign and no leading zero.
+pub(crate) fn number(token: &[u8], most: u32) -> Option<u32>
+    ensures value { result ≡ number_within most token.now }
+    ensures within { IfSome result (λ n. n ≤ most) }
+{
+    if token.is_empty() || (token.len() > 1 && token[0] == b'0') {
+        return None;
+    }
+    digits(token, most)
+}
+
+/// The number of the native register that a token names.
+pub(crate) fn native(token: &[u8]) -> Option<u8>
+    ensures { result ≡ native_register token.now }
+{
+    match token {
+        [b'n', digits @ ..] => match number(digits, 255) {
+            Some(value) => Some(value as u8),
+            None => None,
+        },
+        _ => None,
+    }
+}
+
+/// The token of a line that has one and no more.
+pub(crate) fn one_token(line: &[u8]) -> Option<&[u8]>
+    ensures some { IfSome result (λ a. tokens_of line.now ≡ a.now ∷ []) }
+    ensures none { IfNone result (length (tokens_of line.now) ≢ 1) }
+{
+    let (a, after) = next_token(line)?;
+    match next_token(after) {
+        None => Some(a),
+        Some(_) => None,
+    }
+}
+
+/// The tokens of a line that has two and no more.
+pub(crate) fn two_tokens(line: &[u8]) -> Option<(&[u8], &[u8])>
+    ensures some { IfSome result (λ t. tokens_of line.now ≡ t.0.now ∷ t.1.now ∷ []) }
+    ensures none { IfNone result (length (tokens_of line.now) ≢ 2) }
+{
+    let (a, after) = next_token(line)?;
+    let b = one_token(after)?;
+    Some((a, b))
+}
+
+/// The tokens of a line that has three and no more.
+pub(crate) fn three_tokens(line: &[u8]) -> Option<(&[u8], &[u8], &[u8])>
+    ensures some { IfSome result (λ t. tokens_of line.now ≡ t.0.now ∷ t.1.now ∷ t.2.now ∷ []) }
+    ensures none { IfNone result (length (tokens_of line.now) ≢ 3) }
+{
+    let (a, after) = next_token(line)?;
+    let (b, c) = two_tokens(after)?;
+    Some((a, b, c))
+}
