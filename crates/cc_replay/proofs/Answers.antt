@@ -1,0 +1,89 @@
+-- LINES ANSWERED IN A ROW: one more line, and the transcript that they make.
+use Rattle.std.proofs.Common.{◌≡◌, ℕ, true, List, [], ◌∷◌, ◌++◌, map, Option, refl, sym, ◌∙◌, ap, subst, append-nil}
+use Rattle.std.specs.List.{list_all}
+use Rattle.std.proofs.lemmas.Bool.{and_from}
+use Rattle.std.proofs.lemmas.Grind.{flat_map-append}
+use Rattle.std.proofs.lemmas.List.{map-append}
+use Rattle.std.proofs.lemmas.List.Folds.{list_all-append}
+use Rattle.cc_names.specs.Allowance.{Allowance}
+use Rattle.cc_model.specs.Telling.{Telling, Tells}
+use Rattle.cc_model.specs.Texts.{text_of, texts_of}
+use Rattle.cc_model.specs.Answers.{Answer, items_of, all_items_of, text_of_answers}
+use Rattle.cc_model.specs.Asks.{Ask, ask_of}
+use Rattle.cc_model.specs.Heap.{Heap, empty_heap}
+use Rattle.cc_model.specs.Snapshot.{Snapshot}
+use Rattle.cc_model.specs.Collecting.{Machine}
+use Rattle.cc_model.specs.Run.{do_ask}
+use Rattle.cc_model.proofs.Tellings.{Tells-nil, Tells-trans}
+use Rattle.cc_laws_run.specs.Memory.{with_memory, all_noes_told, SameMachine, IsDoneFor, AreDoneFor}
+use Rattle.cc_laws_run.specs.Running.{ask_in_range}
+use Rattle.cc_laws_run.proofs.InARow.{OneList, one_list}
+use Rattle.cc_laws_run.proofs.PlainLawful.{run-lawful}
+use Rattle.cc_laws_run.proofs.PlainQuiet.{run-quiet}
+use Rattle.cc_reader.specs.FormsNow.{forms_now}
+use Rattle.cc_replay.specs.Answered.{at_rest}
+use Rattle.cc_replay.specs.Answering.{LineIsAnswered, AreAnswered}
+use Rattle.cc_replay.specs.Transcripts.{IsTranscript}
+
+-- the same machine does an ask in the same way
+IsDoneFor-same : (m k n : Machine) (ask : Ask) (a : Answer) → SameMachine m k → IsDoneFor k ask a n → IsDoneFor m ask a n
+IsDoneFor-same m k n ask a same d = record {
+  memory = d.memory;
+  answer = ap (λ (l : Machine). (do_ask l ask).answer) alike ∙ d.answer;
+  after = subst (λ (l : Machine). SameMachine (do_ask l ask).machine n) (sym alike) d.after;
+}
+  where
+    alike : with_memory m d.memory ≡ with_memory k d.memory
+    alike = ap (λ (h : Heap). record { heap = h; snapshot = m.snapshot; memory = d.memory }) same.heap
+        ∙ ap (λ (s : Option Snapshot). record { heap = k.heap; snapshot = s; memory = d.memory }) same.snapshot
+
+-- one more ask
+AreDoneFor-more : (m k n : Machine) (asks : List Ask) (answers : List Answer) (ask : Ask) (a : Answer) →
+    AreDoneFor m asks answers k → IsDoneFor k ask a n → AreDoneFor m (asks ++ ask ∷ []) (answers ++ a ∷ []) n
+AreDoneFor-more m k n [] [] ask a same d = (n, IsDoneFor-same m k n ask a same d, record { heap = refl; snapshot = refl })
+AreDoneFor-more m k n [] (b ∷ bs) ask a done d = absurd done
+AreDoneFor-more m k n (x ∷ xs) [] ask a done d = absurd done
+AreDoneFor-more m k n (x ∷ xs) (b ∷ bs) ask a done d = (done.0, done.1, AreDoneFor-more done.0 k n xs bs ask a done.2 d)
+
+-- what is written for one more answer
+text_of_answers-more : (answers : List Answer) (a : Answer) → text_of_answers (answers ++ a ∷ []) ≡ text_of_answers answers ++ texts_of (items_of a)
+text_of_answers-more answers a =
+    ap texts_of (flat_map-append items_of answers (a ∷ []) ∙ ap (λ items. all_items_of answers ++ items) (append-nil (items_of a)))
+    ∙ flat_map-append text_of (all_items_of answers) (items_of a)
+
+-- no line is answered yet
+pub AreAnswered-none : (h : Heap) (t : Telling) → AreAnswered h h [] t t
+AreAnswered-none h t = record { answers = []; done = record { heap = refl; snapshot = refl }; in_range = refl; told = Tells-nil t }
+
+-- ONE MORE LINE IS ANSWERED
+pub AreAnswered-more : (h₀ h₁ h₂ : Heap) (lines : List (List ℕ)) (line : List ℕ) (t₀ t₁ t₂ : Telling) →
+    AreAnswered h₀ h₁ lines t₀ t₁ → LineIsAnswered h₁ h₂ line t₁ t₂ → AreAnswered h₀ h₂ (lines ++ line ∷ []) t₀ t₂
+AreAnswered-more h₀ h₁ h₂ lines line t₀ t₁ t₂ a l = record {
+  answers = a.answers ++ l.answered.answer ∷ [];
+  done = subst (λ (asks : List Ask). AreDoneFor (at_rest h₀) asks (a.answers ++ l.answered.answer ∷ []) (at_rest h₂)) (sym asks)
+      (AreDoneFor-more (at_rest h₀) (at_rest h₁) (at_rest h₂) (map (ask_of forms_now) lines) a.answers (ask_of forms_now line) l.answered.answer a.done l.answered.done);
+  in_range = ap (list_all ask_in_range) asks ∙ (list_all-append ask_in_range (map (ask_of forms_now) lines) (ask_of forms_now line ∷ [])
+      ∙ and_from _ _ a.in_range (and_from _ true l.in_range refl));
+  told = subst (Tells t₀ t₂) (sym (text_of_answers-more a.answers l.answered.answer))
+      (Tells-trans t₀ t₁ t₂ (text_of_answers a.answers) (texts_of (items_of l.answered.answer)) a.told l.answered.told);
+}
+  where
+    asks : map (ask_of forms_now) (lines ++ line ∷ []) ≡ map (ask_of forms_now) lines ++ ask_of forms_now line ∷ []
+    asks = map-append (ask_of forms_now) lines (line ∷ [])
+
+-- WHAT IS TOLD FOR LINES THAT ARE ANSWERED, from the empty heaps on, is a transcript of what they ask
+pub AreAnswered-transcript : (limits : Allowance) (h : Heap) (lines : List (List ℕ)) (t₀ t₁ : Telling) (a : AreAnswered (empty_heap limits) h lines t₀ t₁) →
+    IsTranscript limits (map (ask_of forms_now) lines) (text_of_answers a.answers)
+AreAnswered-transcript limits h lines t₀ t₁ a = record {
+  memory = o.memory;
+  text_is = ap text_of_answers (sym o.answered);
+  noes_are_told = o.said_no ∙ ap (all_noes_told asks) (sym o.answered);
+  lawful = run-lawful limits o.memory asks a.in_range;
+  quiet = run-quiet limits o.memory asks a.in_range;
+}
+  where
+    asks : List Ask
+    asks = map (ask_of forms_now) lines
+
+    o : OneList (at_rest (empty_heap limits)) (at_rest h) asks a.answers
+    o = one_list (at_rest (empty_heap limits)) (at_rest h) asks a.answers a.done

@@ -1,0 +1,67 @@
+-- WHERE THERE IS THE CAUSE, THERE IS THE ANSWER: by cases on the status.
+use Rattle.std.proofs.Common.{◌≡◌, ◌≢◌, ℕ, ◌<◌, ◌≤◌, List, [], length, length-append, Option, Some, None, refl, ap, arith}
+use Rattle.std.specs.Io.KnownBytes.{Consumes, IsAtEnd}
+use Rattle.cc_names.specs.Allowance.{Allowance}
+use Rattle.cc_replay.specs.declared.status.Status.{Status}
+use Rattle.cc_replay.specs.declared.status.Status.TheVariants.{Done, Usage, ReadFault, WriteFault, Limit, NoMemory}
+use Rattle.cc_replay.specs.Transcripts.{Ends, IsDone, StopsAtLimit}
+
+-- a count that rose is that of the status that says so
+pub fault-answered : (s : Status) (old now : ℕ) → (s ≢ ReadFault → now ≡ old) → old < now → s ≡ ReadFault
+fault-answered ReadFault old now calm rose = refl
+fault-answered Done old now calm rose = absurd (omega (arith, calm (λ e. cc)))
+fault-answered Usage old now calm rose = absurd (omega (arith, calm (λ e. cc)))
+fault-answered WriteFault old now calm rose = absurd (omega (arith, calm (λ e. cc)))
+fault-answered Limit old now calm rose = absurd (omega (arith, calm (λ e. cc)))
+fault-answered NoMemory old now calm rose = absurd (omega (arith, calm (λ e. cc)))
+
+pub write-answered : (s : Status) (old now : ℕ) → (s ≢ WriteFault → now ≡ old) → old < now → s ≡ WriteFault
+write-answered WriteFault old now calm rose = refl
+write-answered Done old now calm rose = absurd (omega (arith, calm (λ e. cc)))
+write-answered Usage old now calm rose = absurd (omega (arith, calm (λ e. cc)))
+write-answered ReadFault old now calm rose = absurd (omega (arith, calm (λ e. cc)))
+write-answered Limit old now calm rose = absurd (omega (arith, calm (λ e. cc)))
+write-answered NoMemory old now calm rose = absurd (omega (arith, calm (λ e. cc)))
+
+-- what was taken of known bytes is no longer than they are
+taken-length : (bytes : List ℕ) (left now : Option (List ℕ)) (given : List ℕ) → left ≡ Some bytes → Consumes left now given → length given ≤ length bytes
+taken-length bytes None now given e c = let bad : None ≡ Some bytes = e in cc
+taken-length bytes (Some xs) None given e c = absurd c
+taken-length bytes (Some xs) (Some ys) given e c =
+    let same : xs ≡ bytes = cc in
+    omega (arith, ap (λ (zs : List ℕ). length zs) same, ap (λ (zs : List ℕ). length zs) c, length-append given ys)
+
+-- at the end all of them were taken
+whole-length : (bytes : List ℕ) (left now : Option (List ℕ)) (given : List ℕ) → left ≡ Some bytes → Consumes left now given → IsAtEnd now → length bytes ≡ length given
+whole-length bytes None now given e c end = let bad : None ≡ Some bytes = e in cc
+whole-length bytes (Some xs) None given e c end = absurd c
+whole-length bytes (Some xs) (Some ys) given e c end =
+    let same : xs ≡ bytes = cc in
+    let none : ys ≡ [] = end in
+    omega (arith, ap (λ (zs : List ℕ). length zs) same, ap (λ (zs : List ℕ). length zs) c, length-append given ys, ap (λ (zs : List ℕ). length zs) none)
+
+-- with no fault an input above the limit is answered so
+pub over-answered : (s : Status) (limits : Allowance) (e : Ends) (bytes : List ℕ) (P Q : Type 0) →
+    (s ≡ ReadFault → P) → (s ≡ WriteFault → Q) → (s ≡ Done → IsDone limits e) → (s ≢ Usage) → (s ≢ NoMemory) →
+    e.left ≡ Some bytes → limits.bytes < length bytes → ¬ P → ¬ Q → s ≡ Limit
+over-answered Limit limits e bytes P Q read write done usage memory left above p q = refl
+over-answered Done limits e bytes P Q read write done usage memory left above p q =
+    let d = done refl in
+    absurd (omega (arith, d.within, whole-length bytes e.left e.left_now d.given left d.consumed d.at_end))
+over-answered Usage limits e bytes P Q read write done usage memory left above p q = absurd (usage refl)
+over-answered ReadFault limits e bytes P Q read write done usage memory left above p q = absurd (p (read refl))
+over-answered WriteFault limits e bytes P Q read write done usage memory left above p q = absurd (q (write refl))
+over-answered NoMemory limits e bytes P Q read write done usage memory left above p q = absurd (memory refl)
+
+-- with no fault an input within the limit is done
+pub done-answered : (s : Status) (limits : Allowance) (e : Ends) (bytes : List ℕ) (P Q : Type 0) →
+    (s ≡ ReadFault → P) → (s ≡ WriteFault → Q) → (s ≡ Limit → StopsAtLimit limits e) → (s ≢ Usage) → (s ≢ NoMemory) →
+    e.left ≡ Some bytes → length bytes ≤ limits.bytes → ¬ P → ¬ Q → s ≡ Done
+done-answered Done limits e bytes P Q read write over usage memory left within p q = refl
+done-answered Limit limits e bytes P Q read write over usage memory left within p q =
+    let o = over refl in
+    absurd (omega (arith, o.above, taken-length bytes e.left e.left_now o.given left o.consumed))
+done-answered Usage limits e bytes P Q read write over usage memory left within p q = absurd (usage refl)
+done-answered ReadFault limits e bytes P Q read write over usage memory left within p q = absurd (p (read refl))
+done-answered WriteFault limits e bytes P Q read write over usage memory left within p q = absurd (q (write refl))
+done-answered NoMemory limits e bytes P Q read write over usage memory left within p q = absurd (memory refl)

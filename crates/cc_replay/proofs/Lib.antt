@@ -1,0 +1,15 @@
+pub mod Asks
+pub mod Answers
+pub mod Endings
+pub mod Causes
+pub mod Carrying
+pub mod Drains
+pub mod Fitting
+pub mod FreeAt
+pub mod MadeAt
+pub mod PartsAt
+pub mod Places
+pub mod Refusing
+pub mod SlotsAt
+pub mod Stepping
+pub mod Replying

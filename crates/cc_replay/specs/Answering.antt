@@ -1,0 +1,34 @@
+-- How lines are answered, one after the other.
+use Rattle.std.specs.Prelude.{ℕ, IsTrue, false, List, [], ◌∷◌, ◌++◌, map, Option}
+use Rattle.std.specs.List.{list_all}
+use Rattle.cc_model.specs.Telling.{Telling, Tells}
+use Rattle.cc_model.specs.Answers.{Answer, text_of_answers}
+use Rattle.cc_model.specs.Asks.{ask_of}
+use Rattle.cc_model.specs.Heap.{Heap}
+use Rattle.cc_laws_run.specs.Memory.{AreDoneFor}
+use Rattle.cc_laws_run.specs.Running.{ask_in_range}
+use Rattle.cc_reader.specs.FormsNow.{forms_now}
+use Rattle.cc_reader.specs.Pending.{Pending}
+use Rattle.cc_reader.specs.Given.{HasGiven}
+use Rattle.cc_replay.specs.Answered.{at_rest, IsAnswered}
+
+-- one more line was given, whatever was given before
+abbrev pub GivesLine : Option (List ℕ) → Option (List ℕ) → Pending → Pending → List ℕ → Type 0
+GivesLine left left_now old new line = (start : Option (List ℕ)) (lines : List (List ℕ)) →
+    HasGiven start left old lines → HasGiven start left_now new (lines ++ line ∷ [])
+
+-- a line is answered as the plain run answers it, and its numbers are in range
+pub record LineIsAnswered (old new : Heap) (line : List ℕ) (before after : Telling) : Type 0 where
+  pub answered : IsAnswered old new (ask_of forms_now line) before after
+  pub in_range : IsTrue (ask_in_range (ask_of forms_now line))
+
+-- these lines are answered, from one moment to another
+pub record AreAnswered (old new : Heap) (lines : List (List ℕ)) (before after : Telling) : Type 0 where
+  pub answers : List Answer
+  pub done : AreDoneFor (at_rest old) (map (ask_of forms_now) lines) answers (at_rest new)
+  pub in_range : IsTrue (list_all ask_in_range (map (ask_of forms_now) lines))
+  pub told : Tells before after (text_of_answers answers)
+
+-- a reader that has read nothing yet
+abbrev pub nothing_read : ℕ → Pending
+nothing_read limit = record { bytes = []; taken = 0; limit = limit; ended = false; stopped = false }

@@ -1,0 +1,76 @@
+-- WHAT IS WRITTEN FOR AN INPUT: the text of a transcript that is the plain run's, lawful and quiet.
+use Rattle.std.specs.Prelude.{◌≡◌, ℕ, ◌+◌, ◌≤◌, Bool, List, ◌++◌, length, map, take, Option}
+use Rattle.std.specs.Io.KnownBytes.{Appends, Consumes, IsAtEnd}
+use Rattle.cc_names.specs.Allowance.{Allowance}
+use Rattle.cc_model.specs.Telling.{AppendsFront}
+use Rattle.cc_model.specs.Answers.{text_of_answers}
+use Rattle.cc_model.specs.Asks.{Ask, ask_of, asks_of, ended}
+use Rattle.cc_model.specs.Lines.{lines_of}
+use Rattle.cc_model.specs.Lawful.{IsLawful}
+use Rattle.cc_model.specs.Quiet.{IsQuiet}
+use Rattle.cc_model.specs.Run.{plain_run}
+use Rattle.cc_laws_run.specs.Memory.{noes, all_noes_told}
+use Rattle.cc_reader.specs.FormsNow.{forms_now}
+
+-- A TRANSCRIPT of these asks: the plain run for some answers of memory, which say no once for each want of memory
+-- that is told and never else; it is lawful and quiet
+pub record IsTranscript (limits : Allowance) (asks : List Ask) (text : List ℕ) : Type 0 where
+  pub memory : List Bool
+  pub text_is : text ≡ text_of_answers (plain_run limits memory asks)
+  pub noes_are_told : noes memory ≡ all_noes_told asks (plain_run limits memory asks)
+  pub lawful : IsLawful limits asks (plain_run limits memory asks)
+  pub quiet : IsQuiet limits asks (plain_run limits memory asks)
+
+-- the text of a transcript of these asks was written
+pub record Writes (limits : Allowance) (asks : List Ask) (old new : Option (List ℕ)) : Type 0 where
+  pub text : List ℕ
+  pub transcript : IsTranscript limits asks text
+  pub written : Appends old new text
+
+-- a front of one was written
+pub record WritesFront (limits : Allowance) (asks : List Ask) (old new : Option (List ℕ)) : Type 0 where
+  pub text : List ℕ
+  pub transcript : IsTranscript limits asks text
+  pub written : AppendsFront old new text
+
+-- what was left and what is left now; what was written and what is written now
+pub record Ends : Type 0 where
+  pub left : Option (List ℕ)
+  pub left_now : Option (List ℕ)
+  pub written : Option (List ℕ)
+  pub written_now : Option (List ℕ)
+
+abbrev pub ends : Option (List ℕ) → Option (List ℕ) → Option (List ℕ) → Option (List ℕ) → Ends
+ends left left_now written written_now = record { left = left; left_now = left_now; written = written; written_now = written_now }
+
+-- all was read to the end, within the limit, and all of it is answered
+pub record IsDone (limits : Allowance) (e : Ends) : Type 0 where
+  pub given : List ℕ
+  pub consumed : Consumes e.left e.left_now given
+  pub at_end : IsAtEnd e.left_now
+  pub within : length given ≤ limits.bytes
+  pub writes : Writes limits (asks_of forms_now given) e.written e.written_now
+
+-- a read failed after these bytes: the lines that ended are answered
+pub record StopsAtFault (limits : Allowance) (e : Ends) : Type 0 where
+  pub given : List ℕ
+  pub consumed : Consumes e.left e.left_now given
+  pub within : length given ≤ limits.bytes
+  pub writes : Writes limits (ended forms_now given) e.written e.written_now
+
+-- one byte more than the limit was taken: the lines that ended within the limit are answered
+pub record StopsAtLimit (limits : Allowance) (e : Ends) : Type 0 where
+  pub given : List ℕ
+  pub consumed : Consumes e.left e.left_now given
+  pub above : length given ≡ limits.bytes + 1
+  pub writes : Writes limits (ended forms_now (take limits.bytes given)) e.written e.written_now
+
+-- a write failed: a front of what answers the first lines within the limit is written
+pub record StopsAtWrite (limits : Allowance) (e : Ends) : Type 0 where
+  pub given : List ℕ
+  pub consumed : Consumes e.left e.left_now given
+  pub most : length given ≤ limits.bytes + 1
+  pub lines : List (List ℕ)
+  pub more : List (List ℕ)
+  pub first : lines ++ more ≡ lines_of (take limits.bytes given)
+  pub writes : WritesFront limits (map (ask_of forms_now) lines) e.written e.written_now
