@@ -1,0 +1,99 @@
+use crate::script::{replays, script, source_of, widest};
+use cc_names::Limits;
+use cc_outside::{BytesSink, SureSource};
+use cc_replay::{Status, run};
+use std::test::Fail;
+
+/// A script and what it answers, by what it shows.
+struct Example {
+    name: &'static str,
+    natives: u32,
+    script: &'static str,
+    answers: &'static str,
+}
+
+const EXAMPLES: [Example; 5] = [
+    Example {
+        name: "self_cycle_outlives_its_register",
+        natives: Limits::MOST,
+        script: "native n0 1 / set n0 0 n0 / drop n0 / census",
+        answers: "= #1 / = ok / = ok / + #1 / = census 1",
+    },
+    Example {
+        name: "one_drop_frees_two",
+        natives: Limits::MOST,
+        script: "native n0 1 / native n1 0 / set n0 0 n1 / drop n1 / drop n0",
+        answers: "= #1 / = #2 / = ok / = ok / - free #1 / - free #2 / = ok",
+    },
+    Example {
+        name: "full_counts_what_was_ever_made",
+        natives: 1,
+        script: "native n0 0 / drop n0 / native n0 0",
+        answers: "= #1 / - free #1 / = ok / ! full",
+    },
+    Example {
+        name: "unknown_words_are_refused",
+        natives: Limits::MOST,
+        script: "collect now / script s0 / native n0 0",
+        answers: "! line / ! line / = #1",
+    },
+    Example {
+        name: "numbers_and_registers_in_range",
+        natives: Limits::MOST,
+        script: "native n0 64 / set n0 63 n0 / set n0 64 n0 / set n0 4294967295 n0 / set n0 4294967296 n0 / native n0 65 / native n0 01 / native n256 0 / native n255 0",
+        answers: "= #1 / = ok / ! slot / ! slot / ! line / ! line / ! line / ! line / = #2",
+    },
+];
+
+#[test]
+fn worked_examples_are_answered(rt: HostRuntime) -> Result<(), Fail> {
+    for example in EXAMPLES.iter() {
+        let mut source = source_of(rt.alloc(), script(rt.alloc(), example.script)?);
+        let limits = Limits::new(example.natives.min(Limits::MOST), Limits::MOST, u32::MAX);
+        let wanted = script(rt.alloc(), example.answers)?;
+        replays(
+            &rt,
+            example.name,
+            limits,
+            &mut source,
+            wanted.as_slice(),
+            Status::Done,
+        )?;
+    }
+    Ok(())
+}
+
+#[test]
+fn an_empty_input_writes_nothing(rt: HostRuntime) -> Result<(), Fail> {
+    replays(
+        &rt,
+        "empty",
+        widest(),
+        &mut source_of(rt.alloc(), Vec::new(rt.alloc())),
+        b"",
+        Status::Done,
+    )
+}
+
+#[test]
+fn words_are_taken_or_nothing_is_read(rt: HostRuntime) -> Result<(), Fail> {
+    let table: [(&[&str], Status, &[u8]); 4] = [
+        (&["ccreplay", "replay"], Status::Done, b"= #1\n"),
+        (&["ccreplay"], Status::Usage, b""),
+        (&[], Status::Usage, b""),
+        (&["ccreplay", "play"], Status::Usage, b""),
+    ];
+    for (words, status, written) in table.iter() {
+        let mut source = SureSource::new(b"native n0 0".to_vec(rt.alloc())?);
+        let mut sink = BytesSink::new(rt.alloc(), 100, Vec::new(rt.alloc()))?;
+        assert_eq!(rt;
+            run(rt.alloc(), *words, &mut source, &mut sink),
+            *status,
+            "at {words:?}"
+        );
+        assert_eq!(rt; sink.written(), *written, "at {words:?}");
+        let left = if *status == Status::Done { 0 } else { 11 };
+        assert_eq!(rt; source.left().len(), left, "at {words:?}");
+    }
+    Ok(())
+}
