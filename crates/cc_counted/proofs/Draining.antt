@@ -1,0 +1,125 @@
+-- THE QUEUE DRAINED: what is left to drain leads where all of it does, and each step takes a native out.
+use Rattle.std.proofs.Common.{◌≡◌, ℕ, suc, ◌-◌, ◌<◌, ◌≤◌, List, [], ◌∷◌, ◌++◌, map, length, refl, sym, ◌∙◌, ap, subst, inr, arith, append-nil}
+use Rattle.std.specs.List.{flat_map}
+use Rattle.std.proofs.lemmas.List.{map-append}
+use Rattle.std.proofs.lemmas.Grind.{flat_map-append}
+use Rattle.cc_names.specs.Names.{native}
+use Rattle.cc_model.specs.declared.item.Event.{Event}
+use Rattle.cc_model.specs.declared.item.Event.TheVariants.{Freed}
+use Rattle.cc_model.specs.declared.item.Item.{Item}
+use Rattle.cc_model.specs.declared.item.Item.TheVariants.{Event as of_event}
+use Rattle.cc_model.specs.Texts.{text_of}
+use Rattle.cc_model.specs.Telling.{Telling, Tells}
+use Rattle.cc_model.specs.Cascade.{Draining, give_up, free_front, drain, at_rest, drained, cascade}
+use Rattle.cc_model.proofs.Tellings.{Tells-nil, Tells-trans}
+use Rattle.cc_model.proofs.Draining.{drain-done}
+use Rattle.cc_laws_heap.proofs.GiveUp.{IsBalanced}
+use Rattle.cc_laws_heap.proofs.FreeFront.{IsBalanced-free_front}
+use Rattle.cc_laws_heap.proofs.Drain.{free_front-fewer}
+use Rattle.cc_counted.specs.Counts.{the_number, heap_of, left_with}
+use Rattle.cc_counted.specs.Lists.{Lists, keyed, counts_of, draining_of, IsPlaced, LeavesCells}
+use Rattle.cc_counted.specs.Steps.{GivesUp, FreesFront, texts_of_events, Drains, ComesTo}
+use Rattle.cc_counted.proofs.Places.{length-natives}
+use Rattle.cc_counted.proofs.Freeing.{IsBalanced-events}
+use Rattle.cc_counted.proofs.Leaving.{LeavesCells-same, LeavesCells-then, LeavesKeys-cells, counts-left}
+
+-- the lines of events with one more
+pub texts-last : (es : List Event) (e : Event) → texts_of_events (es ++ e ∷ []) ≡ texts_of_events es ++ text_of (of_event e)
+texts-last es e =
+    ap (λ (is : List Item). flat_map text_of is) (map-append of_event es (e ∷ []))
+    ∙ (flat_map-append text_of (map of_event es) (of_event e ∷ []) ∙ ap (λ t. texts_of_events es ++ t) (append-nil (text_of (of_event e))))
+
+-- some steps of a drain are done
+pub record DrainsSoFar (start now : Lists) (before after : Telling) : Type 0 where
+  pub events : List Event
+  pub steps : ℕ
+  pub enough : length now.order ≤ steps
+  pub rest : drain steps (draining_of now events) ≡ drain (length start.order) (draining_of start [])
+  pub placed : IsPlaced now
+  pub leaves : LeavesCells start.cells now.cells
+  pub balanced : (owned : List ℕ) × IsBalanced owned (draining_of now [])
+  pub told : Tells before after (texts_of_events events)
+
+pub DrainsSoFar-start : (start : Lists) (before : Telling) → IsPlaced start → (owned : List ℕ) × IsBalanced owned (draining_of start []) → DrainsSoFar start start before before
+DrainsSoFar-start start before p b = record {
+  events = [];
+  steps = length start.order;
+  enough = omega arith;
+  rest = refl;
+  placed = p;
+  leaves = LeavesCells-same start.cells;
+  balanced = b;
+  told = Tells-nil before;
+}
+
+pub DrainsSoFar-done : (start now : Lists) (before after : Telling) → DrainsSoFar start now before after → now.queue ≡ [] → Drains start now before after
+DrainsSoFar-done start now before after s e = record {
+  events = s.events;
+  draining = sym (drain-done s.steps (draining_of now s.events) (ap (map (the_number (keyed now.cells))) e)) ∙ s.rest;
+  emptied = e;
+  placed = s.placed;
+  leaves = s.leaves;
+  told = s.told;
+}
+
+-- a step of a drain
+drain-step : (n : ℕ) (d : Draining) (k : ℕ) (ks : List ℕ) → d.queue ≡ k ∷ ks → drain (suc n) d ≡ drain n (free_front d k ks)
+unfolding drain
+drain-step n d k ks e = rw e refl
+
+module _ (start now next : Lists) (before middle after : Telling) (s : DrainsSoFar start now before middle) (f : FreesFront now next middle after) where
+  abbrev d : Draining
+  d = draining_of now s.events
+
+  abbrev owned : List ℕ
+  owned = s.balanced.0
+
+  balance : IsBalanced owned d
+  balance = IsBalanced-events owned (draining_of now []) s.events s.balanced.1
+
+  -- a native fewer
+  pub fewer : length next.order < length now.order
+  fewer =
+      let left : length (counts_of next).natives ≡ length (free_front d f.number f.behind).heap.natives = ap (λ (e : Draining). length e.heap.natives) (f.draining s.events) in
+      omega (arith, free_front-fewer owned d f.number f.behind balance f.front, length-natives now, length-natives next)
+
+  pub DrainsSoFar-more : DrainsSoFar start next before after
+  DrainsSoFar-more = record {
+    events = s.events ++ Freed (native f.number) ∷ [];
+    steps = s.steps - 1;
+    enough = omega (arith, fewer, s.enough);
+    rest = ap (drain (s.steps - 1)) (f.draining s.events) ∙ (sym (drain-step (s.steps - 1) d f.number f.behind f.front) ∙ (ap (λ n. drain n d) whole ∙ s.rest));
+    placed = f.placed;
+    leaves = LeavesCells-then start.cells now.cells next.cells s.leaves f.leaves;
+    balanced = (
+      owned,
+      IsBalanced-events owned (draining_of next (s.events ++ Freed (native f.number) ∷ [])) []
+          (subst (IsBalanced owned) (sym (f.draining s.events)) (IsBalanced-free_front owned d f.number f.behind balance f.front)),
+    );
+    told = subst (Tells before after) (sym (texts-last s.events (Freed (native f.number))))
+        (Tells-trans before middle after (texts_of_events s.events) (text_of (of_event (Freed (native f.number)))) s.told f.told);
+  }
+    where
+      whole : suc (s.steps - 1) ≡ s.steps
+      whole = omega (arith, fewer, s.enough)
+
+-- ONE REFERENCE GIVEN UP AND THE QUEUE DRAINED is the cascade.
+pub ComesTo-cascade : (old mid new : Lists) (before after : Telling) (k : ℕ) → IsPlaced old → old.queue ≡ [] → GivesUp old mid (k ∷ []) → Drains mid new before after →
+    ComesTo old new before after (cascade (heap_of (counts_of old)) k)
+unfolding drained
+ComesTo-cascade old mid new before after k p none g r =
+    let rests : draining_of old [] ≡ at_rest (heap_of (counts_of old)) = ap (λ ks. record { heap = heap_of (counts_of old); queue = map (the_number (keyed old.cells)) ks; events = [] }) none in
+    let first : draining_of mid [] ≡ give_up (at_rest (heap_of (counts_of old))) k = g.draining [] ∙ ap (λ d. give_up d k) rests in
+    let long : length mid.order ≡ length (counts_of old).natives = ap length g.order ∙ sym (length-natives old) in
+    let all : draining_of new r.events ≡ drain (length (counts_of old).natives) (give_up (at_rest (heap_of (counts_of old))) k) =
+    r.draining ∙ (ap (λ n. drain n (draining_of mid [])) long ∙ ap (drain (length (counts_of old).natives)) first) in
+    let left : LeavesCells old.cells new.cells = LeavesCells-then old.cells mid.cells new.cells (record { as_many = g.as_many; each = λ k. inr (g.cells k) }) r.leaves in
+    record {
+      counts = counts-left old new p r.placed (LeavesKeys-cells old.cells new.cells left)
+          ∙ ap (λ (d : Draining). left_with (counts_of old) d.heap) all;
+      heap = sym (ap (λ (d : Draining). d.heap) all);
+      emptied = r.emptied;
+      placed = r.placed;
+      leaves = left;
+      told = subst (λ es. Tells before after (texts_of_events es)) (ap (λ (d : Draining). d.events) all) r.told;
+    }

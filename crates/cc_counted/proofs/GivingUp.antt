@@ -1,0 +1,70 @@
+-- ONE REFERENCE GIVEN UP at a key is one given up by its number.
+use Rattle.std.proofs.Common.{◌≡◌, ℕ, zero, suc, ◌≤◌, true, List, [], ◌∷◌, ◌++◌, map, Some, refl, sym, ◌∙◌, ap, ⊎_elim, arith}
+use Rattle.std.proofs.lemmas.List.{map-append}
+use Rattle.cc_lists.proofs.Members.{Among-append}
+use Rattle.cc_model.specs.declared.item.Event.{Event}
+use Rattle.cc_model.specs.Heap.{HeapNative, Buffered, empty_heap}
+use Rattle.cc_model.specs.Cascade.{Draining, fallen, given_up, give_up}
+use Rattle.cc_laws_heap.proofs.GiveUp.{lower_native}
+use Rattle.cc_counted.specs.Counts.{no_limits, the_number}
+use Rattle.cc_counted.specs.Lists.{Placed, Lists, cell_at, with_one_less, keyed, marked_number, draining_of, IsPlaced, suspected, waiting}
+use Rattle.cc_counted.proofs.Places.{native_at-cell, the_number-cell}
+use Rattle.cc_counted.proofs.Changing.{keyed-changed, IsPlaced-changed, natives-changed}
+use Rattle.cc_counted.proofs.Marking.{buffer-with_mark, buffer-without_key, with_mark-there, without_key-there}
+
+-- heaps with these natives and this buffer, and this queue, while natives are deleted
+abbrev pub draining_with : List HeapNative → List Buffered → List ℕ → List Event → Draining
+draining_with ns bs ks es = record { heap = record (empty_heap no_limits) { natives = ns; buffer = bs }; queue = ks; events = es }
+
+-- they are the same where their lists are
+pub draining-same : (ns ms : List HeapNative) (bs cs : List Buffered) (ks js : List ℕ) (es : List Event) → ns ≡ ms → bs ≡ cs → ks ≡ js →
+    draining_with ns bs ks es ≡ draining_with ms cs js es
+draining-same ns ms bs cs ks js es n b k =
+    ap (λ xs. draining_with xs bs ks es) n ∙ (ap (λ xs. draining_with ms xs ks es) b ∙ ap (λ xs. draining_with ms cs xs es) k)
+
+module _ (l : Lists) (p : IsPlaced l) (key : ℕ) (c : Placed) (at : cell_at l.cells key ≡ Some c) where
+  -- what is given up, by the count
+  given_up-cell : (es : List Event) → give_up (draining_of l es) c.number ≡ fallen (draining_of l es) c.number c.count
+  given_up-cell es = ap (given_up (draining_of l es) c.number) (native_at-cell l p key c at)
+
+  -- not the last reference
+  pub give_up-suspected : 2 ≤ c.count → (es : List Event) → draining_of (suspected l key c) es ≡ give_up (draining_of l es) c.number
+  give_up-suspected more es = go c.count refl more ∙ sym (given_up-cell es)
+    where
+      go : (n : ℕ) → c.count ≡ n → 2 ≤ n → draining_of (suspected l key c) es ≡ fallen (draining_of l es) c.number n
+      go zero e m = absurd (omega arith)
+      go (suc zero) e m = absurd (omega arith)
+      go (suc (suc n)) e m =
+          draining-same _ _ _ _ _ _ es
+          (natives-changed l p key c (with_one_less c) at refl lower_native refl)
+          (ap (λ n. map (marked_number n) (suspected l key c).marks) (keyed-changed l p key c (with_one_less c) at refl)
+          ∙ buffer-with_mark l p key c at true l.marks p.marked)
+          (ap (λ n. map (the_number n) l.queue) (keyed-changed l p key c (with_one_less c) at refl))
+
+  -- the last one
+  pub give_up-waiting : c.count ≡ 1 → (es : List Event) → draining_of (waiting l key c) es ≡ give_up (draining_of l es) c.number
+  give_up-waiting one es = go c.count refl one ∙ sym (given_up-cell es)
+    where
+      go : (n : ℕ) → c.count ≡ n → n ≡ 1 → draining_of (waiting l key c) es ≡ fallen (draining_of l es) c.number n
+      go zero e m = absurd (omega arith)
+      go (suc zero) e m =
+          draining-same _ _ _ _ _ _ es
+          (natives-changed l p key c (with_one_less c) at refl lower_native refl)
+          (ap (λ n. map (marked_number n) (waiting l key c).marks) (keyed-changed l p key c (with_one_less c) at refl)
+          ∙ buffer-without_key l p key c at)
+          (ap (λ n. map (the_number n) (l.queue ++ key ∷ [])) (keyed-changed l p key c (with_one_less c) at refl)
+          ∙ (map-append (the_number (keyed l.cells)) l.queue (key ∷ [])
+          ∙ ap (λ k. map (the_number (keyed l.cells)) l.queue ++ k ∷ []) (the_number-cell l.cells key c at)))
+      go (suc (suc n)) e m = absurd (omega arith)
+
+  -- the lists fit together after it
+  pub IsPlaced-suspected : IsPlaced (suspected l key c)
+  IsPlaced-suspected =
+      IsPlaced-changed l p key c (with_one_less c) at refl (p.small key c at) (λ x m. p.held key c x at m) l.queue (suspected l key c).marks p.queued
+      (λ m n. with_mark-there l p key c at true l.marks p.marked m n)
+
+  pub IsPlaced-waiting : IsPlaced (waiting l key c)
+  IsPlaced-waiting =
+      IsPlaced-changed l p key c (with_one_less c) at refl (p.small key c at) (λ x m. p.held key c x at m) (l.queue ++ key ∷ []) (waiting l key c).marks
+      (λ k m. ⊎_elim (λ t. p.queued k t) (λ t. ⊎_elim (λ e. (c, ap (cell_at l.cells) (sym e) ∙ at)) (λ r. absurd r) t) (Among-append k l.queue (key ∷ []) m))
+      (λ m n. without_key-there l p key m n)

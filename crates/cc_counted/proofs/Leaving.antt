@@ -1,0 +1,102 @@
+-- KEYS THAT COME TO HOLD NOTHING as natives leave: those of the natives that are no more.
+use Rattle.std.proofs.Common.{◌≡◌, ℕ, List, map, length, Option, Some, None, option_map, refl, sym, ◌∙◌, ap, subst, ⊎_elim, inl, inr}
+use Rattle.std.proofs.Math.ListN.{get_or-map}
+use Rattle.std.proofs.lemmas.List.{ext_get_or, length-map}
+use Rattle.cc_model.specs.Heap.{Heap, HeapNative, native_at}
+use Rattle.cc_laws_heap.proofs.Natives.{native_at-there, native_at-number}
+use Rattle.cc_counted.specs.Counts.{number_at, heap_of, key_left, left_with}
+use Rattle.cc_counted.specs.Lists.{Placed, Lists, cell_at, without_count, keyed, shown, counts_of, IsPlaced, LeavesCells, LeavesKeys}
+use Rattle.cc_counted.proofs.Places.{cell_number, number_at-cells, number_at-cell, number_at-found, one_key, native_at-cell, native-key}
+
+pub LeavesKeys-same : (cells : List (Option Placed)) → LeavesKeys cells cells
+LeavesKeys-same cells = record { as_many = refl; each = λ key. inr refl }
+
+pub LeavesKeys-kept : (old new : List (Option Placed)) → length new ≡ length old → keyed new ≡ keyed old → LeavesKeys old new
+LeavesKeys-kept old new n e = record { as_many = n; each = λ key. inr (ap (λ c. number_at c key) e) }
+
+pub LeavesKeys-then : (a b c : List (Option Placed)) → LeavesKeys a b → LeavesKeys b c → LeavesKeys a c
+LeavesKeys-then a b c p q = record {
+  as_many = q.as_many ∙ p.as_many;
+  each = λ key. ⊎_elim (λ none. inl none) (λ same. ⊎_elim (λ none. inl (same ∙ none)) (λ e. inr (same ∙ e)) (p.each key)) (q.each key);
+}
+
+pub LeavesCells-same : (cells : List (Option Placed)) → LeavesCells cells cells
+LeavesCells-same cells = record { as_many = refl; each = λ key. inr refl }
+
+pub LeavesCells-then : (a b c : List (Option Placed)) → LeavesCells a b → LeavesCells b c → LeavesCells a c
+LeavesCells-then a b c p q = record {
+  as_many = q.as_many ∙ p.as_many;
+  each = λ key. ⊎_elim (λ none. inl none) (λ same. ⊎_elim (λ none. inl (gone (cell_at c key) (same ∙ ap (option_map without_count) none))) (λ e. inr (same ∙ e)) (p.each key)) (q.each key);
+}
+  where
+    gone : (o : Option Placed) → option_map without_count o ≡ None → o ≡ None
+    gone None e = refl
+    gone (Some d) e = absurd (cc)
+
+-- natives that stay keep their numbers
+pub LeavesKeys-cells : (a b : List (Option Placed)) → LeavesCells a b → LeavesKeys a b
+LeavesKeys-cells a b p = record {
+  as_many = p.as_many;
+  each = λ key. ⊎_elim
+      (λ none. inl (number_at-cells b key ∙ ap cell_number none))
+      (λ same. inr (number_at-cells b key ∙ (sym (bare (cell_at b key)) ∙ (ap cell_number same ∙ (bare (cell_at a key) ∙ sym (number_at-cells a key))))))
+      (p.each key);
+}
+  where
+    bare : (o : Option Placed) → cell_number (option_map without_count o) ≡ cell_number o
+    bare None = refl
+    bare (Some c) = refl
+
+module _ (old new : Lists) (p : IsPlaced old) (q : IsPlaced new) (left : LeavesKeys old.cells new.cells) where
+  abbrev heap : Heap
+  heap = heap_of (counts_of new)
+
+  keys : Lists → List (Option ℕ)
+  keys l = map cell_number l.cells
+
+  -- a number that is still there stands at its key
+  there : (key k : ℕ) → number_at (keyed new.cells) key ≡ Some k → key_left heap (Some k) ≡ Some k
+  there key k e =
+      let f = number_at-found new.cells key k e in
+      let found : native_at heap k ≡ Some (shown (keyed new.cells) (Some f.0)) = subst (λ j. native_at heap j ≡ Some (shown (keyed new.cells) (Some f.0))) f.2 (native_at-cell new q key f.0 f.1) in
+      rw found refl
+
+  -- and one whose key holds nothing is no more
+  gone : (key k : ℕ) → number_at (keyed new.cells) key ≡ None → number_at (keyed old.cells) key ≡ Some k → key_left heap (Some k) ≡ None
+  gone key k e f = go (native_at heap k) refl
+    where
+      go : (o : Option HeapNative) → native_at heap k ≡ o → key_left heap (Some k) ≡ None
+      go None g = rw g refl
+      go (Some n) g =
+          let w = native-key new q n (native_at-there heap k n g) in
+          let named : w.1.number ≡ k = ap (λ (m : HeapNative). m.number) w.3 ∙ native_at-number heap k n g in
+          let now : number_at (keyed new.cells) w.0 ≡ Some k = number_at-cell new.cells w.0 w.1 w.2 ∙ ap Some named in
+          let before : number_at (keyed old.cells) w.0 ≡ Some k = ⊎_elim
+          (λ none. let bad : None ≡ Some k = sym none ∙ now in absurd (cc))
+          (λ same. sym same ∙ now) (left.each w.0) in
+          let a = number_at-found old.cells key k f in
+          let b = number_at-found old.cells w.0 k before in
+          let same : key ≡ w.0 = one_key old p key w.0 a.0 b.0 a.1 b.1 (a.2 ∙ sym b.2) in
+          let bad : None ≡ Some k = sym e ∙ (ap (number_at (keyed new.cells)) same ∙ now) in
+          absurd (cc)
+
+  key-left : (key : ℕ) → number_at (keyed new.cells) key ≡ key_left heap (number_at (keyed old.cells) key)
+  key-left key = ⊎_elim
+      (λ none. after_none none (number_at (keyed old.cells) key) refl)
+      (λ same. after_same same (number_at (keyed new.cells) key) refl) (left.each key)
+    where
+      after_none : number_at (keyed new.cells) key ≡ None → (o : Option ℕ) → number_at (keyed old.cells) key ≡ o → number_at (keyed new.cells) key ≡ key_left heap (number_at (keyed old.cells) key)
+      after_none none None e = none ∙ sym (ap (key_left heap) e)
+      after_none none (Some k) e = none ∙ sym (ap (key_left heap) e ∙ gone key k none e)
+
+      after_same : number_at (keyed new.cells) key ≡ number_at (keyed old.cells) key → (o : Option ℕ) → number_at (keyed new.cells) key ≡ o →
+          number_at (keyed new.cells) key ≡ key_left heap (number_at (keyed old.cells) key)
+      after_same same None e = e ∙ sym (ap (key_left heap) (sym same ∙ e))
+      after_same same (Some k) e = e ∙ sym (ap (key_left heap) (sym same ∙ e) ∙ there key k e)
+
+  -- WHAT IS LEFT: the natives and the buffer of the lists, and the keys of the natives that are still there
+  pub counts-left : counts_of new ≡ left_with (counts_of old) (heap_of (counts_of new))
+  counts-left = ap (λ ks. record { natives = (counts_of new).natives; buffer = (counts_of new).buffer; keys = ks })
+      (ext_get_or None (map cell_number new.cells) (map (key_left heap) (map cell_number old.cells))
+      (length-map new.cells cell_number ∙ (left.as_many ∙ sym (length-map (map cell_number old.cells) (key_left heap) ∙ length-map old.cells cell_number)))
+      (λ i l. key-left i ∙ sym (get_or-map (key_left heap) (map cell_number old.cells) i None)))

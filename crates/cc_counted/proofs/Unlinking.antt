@@ -1,0 +1,199 @@
+-- A NATIVE UNLINKED: its slots emptied one after another; what is left to empty leads where all of it does.
+use Rattle.std.proofs.Common.{◌≡◌, ◌<◌, ◌≤◌, ◌+◌, ℕ, suc, List, [], ◌∷◌, ◌++◌, map, length, drop, drop-cons, get_or, Option, Some, None, Bool, true, false, if◌then◌else◌, refl, sym, ◌∙◌, ap, subst, ⊎_elim, arith, add-one, ◌==◌}
+use Rattle.std.specs.List.{flat_map}
+use Rattle.std.proofs.Math.ListN.{set}
+use Rattle.std.proofs.lemmas.List.{map-append, length-set, drop_all, drop-set-lt}
+use Rattle.std.proofs.lemmas.List.Elements.{Contains-get_or}
+use Rattle.std.proofs.lemmas.Grind.{flat_map-append}
+use Rattle.cc_lists.specs.Members.{Among}
+use Rattle.cc_lists.proofs.Members.{Among-contains}
+use Rattle.cc_names.specs.Names.{native}
+use Rattle.cc_model.specs.declared.item.Event.{Event}
+use Rattle.cc_model.specs.declared.item.Event.TheVariants.{Unlinked}
+use Rattle.cc_model.specs.declared.item.Item.{Item}
+use Rattle.cc_model.specs.declared.item.Item.TheVariants.{Event as of_event}
+use Rattle.cc_model.specs.Texts.{text_of}
+use Rattle.cc_model.specs.Telling.{Telling, Tells}
+use Rattle.cc_model.specs.Heap.{Heap, HeapNative, Outcome, silently, after as told_before, native_at, set_preserved}
+use Rattle.cc_model.specs.End.{empty_slot, empty_each, slots_now, without_preservation, unlink}
+use Rattle.cc_model.proofs.Tellings.{Tells-nil, Tells-trans}
+use Rattle.cc_laws_heap.proofs.GiveUp.{IsBalanced}
+use Rattle.cc_counted.specs.declared.held.Held.{Held}
+use Rattle.cc_counted.specs.declared.held.Held.TheVariants as held
+use Rattle.cc_counted.specs.Counts.{number_at, name_of, is_live, heap_of}
+use Rattle.cc_counted.specs.Lists.{Placed, Lists, cell_at, keyed, names_in, shown, shown_at, counts_of, draining_of, IsPlaced, LeavesKeys}
+use Rattle.cc_counted.specs.Steps.{texts_of_events, EmptiesSlot, EmptiesEach}
+use Rattle.cc_counted.proofs.Places.{native_at-cell}
+use Rattle.cc_counted.proofs.Holding.{held-same}
+use Rattle.cc_counted.proofs.Each.{live-cell}
+use Rattle.cc_counted.proofs.Places.{number_at-cell}
+use Rattle.cc_counted.proofs.Leaving.{LeavesKeys-same, LeavesKeys-then}
+
+-- the lines of events one after another
+texts-append : (es fs : List Event) → texts_of_events (es ++ fs) ≡ texts_of_events es ++ texts_of_events fs
+texts-append es fs = ap (λ (is : List Item). flat_map text_of is) (map-append of_event es fs) ∙ flat_map-append text_of (map of_event es) (map of_event fs)
+
+-- slots from the i-th on are left to empty
+pub record EmptiesSoFar (start now : Lists) (key i : ℕ) (before after : Telling) : Type 0 where
+  pub was : Placed
+  pub was_there : cell_at start.cells key ≡ Some was
+  pub cell : Placed
+  pub there : cell_at now.cells key ≡ Some cell
+  pub number : cell.number ≡ was.number
+  pub long : length cell.slots ≡ length was.slots
+  pub later : drop i cell.slots ≡ drop i was.slots
+  pub placed : IsPlaced now
+  pub leaves : LeavesKeys start.cells now.cells
+  pub balanced : (others : List ℕ) × IsBalanced (was.number ∷ others) (draining_of now [])
+  pub events : List Event
+  pub rest : empty_each was.number i (names_in (keyed start.cells) (drop i was.slots)) (record { heap = heap_of (counts_of now); events = events })
+      ≡ empty_each was.number 0 (names_in (keyed start.cells) was.slots) (silently (heap_of (counts_of start)))
+  pub told : Tells before after (texts_of_events events)
+
+pub EmptiesSoFar-start : (start : Lists) (key : ℕ) (before : Telling) → IsPlaced start →
+    (others : List ℕ) × (c : Placed) × (cell_at start.cells key ≡ Some c) × IsBalanced (c.number ∷ others) (draining_of start []) → EmptiesSoFar start start key 0 before before
+EmptiesSoFar-start start key before p b = record {
+  was = b.1;
+  was_there = b.2;
+  cell = b.1;
+  there = b.2;
+  number = refl;
+  long = refl;
+  later = refl;
+  placed = p;
+  leaves = LeavesKeys-same start.cells;
+  balanced = (b.0, b.3);
+  events = [];
+  rest = refl;
+  told = Tells-nil before;
+}
+
+pub EmptiesSoFar-done : (start now : Lists) (key i : ℕ) (before after : Telling) (s : EmptiesSoFar start now key i before after) → length s.was.slots ≤ i → EmptiesEach start now key before after
+EmptiesSoFar-done start now key i before after s past = record {
+  was = s.was;
+  was_there = s.was_there;
+  placed = s.placed;
+  leaves = s.leaves;
+  events = s.events;
+  outcome = sym s.rest ∙ ap (λ xs. empty_each s.was.number i (names_in (keyed start.cells) xs) (record { heap = heap_of (counts_of now); events = s.events })) (drop_all i s.was.slots past);
+  told = s.told;
+}
+
+-- what was held where natives left, and is still there, has the same name
+name-kept : (a b : List (Option Placed)) → LeavesKeys a b → (x : Option Held) → is_live (keyed b) x ≡ true → name_of (keyed b) x ≡ name_of (keyed a) x
+name-kept a b left x live = (held-same (keyed a) (keyed b) x each).0
+  where
+    each : (k : ℕ) → x ≡ Some (held.Native (record { 0 = k })) → number_at (keyed b) k ≡ number_at (keyed a) k
+    each k e =
+        let d = live-cell b k (subst (λ y. is_live (keyed b) y ≡ true) e live) in
+        ⊎_elim
+        (λ none. let bad : None ≡ Some d.0.number = sym none ∙ number_at-cell b k d.0 d.1 in absurd (cc))
+        (λ same. same) (left.each k)
+
+-- lists that begin alike have the same rest
+same-tail : (x y : Option Held) (xs ys : List (Option Held)) → x ∷ xs ≡ y ∷ ys → (x ≡ y) × (xs ≡ ys)
+same-tail x y xs ys e = (cc, cc)
+
+module _ (start now next : Lists) (key i : ℕ) (before middle after : Telling) (s : EmptiesSoFar start now key i before middle) (within : i < length s.was.slots)
+    (f : EmptiesSlot now next key i middle after) where
+  abbrev number : ℕ
+  number = s.was.number
+
+  -- what was in the slot from the start
+  abbrev content : Option Held
+  content = get_or s.was.slots i None
+
+  abbrev names : ℕ → List (Option Rattle.cc_names.specs.declared.name.Name.Name)
+  names n = names_in (keyed start.cells) (drop n s.was.slots)
+
+  same-cell : f.was ≡ s.cell
+  same-cell = let both : Some f.was ≡ Some s.cell = sym f.was_there ∙ s.there in cc
+
+  dropped : (xs : List (Option Held)) → i < length xs → drop i xs ≡ get_or xs i None ∷ drop (i + 1) xs
+  dropped xs l = rw (drop-cons xs i None, add-one) refl
+
+  parts : (get_or s.cell.slots i None ≡ content) × (drop (i + 1) s.cell.slots ≡ drop (i + 1) s.was.slots)
+  parts = same-tail (get_or s.cell.slots i None) content (drop (i + 1) s.cell.slots) (drop (i + 1) s.was.slots)
+      (sym (dropped s.cell.slots (omega (arith, s.long))) ∙ (s.later ∙ dropped s.was.slots within))
+
+  live-content : is_live (keyed now.cells) content ≡ true
+  live-content =
+      s.placed.held key s.cell content s.there
+      (subst (λ x. Among x s.cell.slots) parts.0
+      (Among-contains (get_or s.cell.slots i None) s.cell.slots (Contains-get_or s.cell.slots i None (omega (arith, s.long)))))
+
+  step : empty_slot (heap_of (counts_of now)) number i (name_of (keyed start.cells) content) ≡ record { heap = heap_of (counts_of next); events = f.events }
+  step =
+      let at_number : f.was.number ≡ number = ap (λ (c : Placed). c.number) same-cell ∙ s.number in
+      let at_content : get_or f.was.slots i None ≡ content = ap (λ (c : Placed). get_or c.slots i None) same-cell ∙ parts.0 in
+      ap (empty_slot (heap_of (counts_of now)) number i) (sym (name-kept start.cells now.cells s.leaves content live-content))
+      ∙ (ap (λ x. empty_slot (heap_of (counts_of now)) number i (name_of (keyed now.cells) x)) (sym at_content)
+      ∙ (ap (λ k. empty_slot (heap_of (counts_of now)) k i (name_of (keyed now.cells) (get_or f.was.slots i None))) (sym at_number)
+      ∙ f.outcome))
+
+  slots-after : f.cell.slots ≡ set s.cell.slots i None
+  slots-after = ap (λ (c : Placed). c.slots) f.same ∙ ap (λ (c : Placed). set c.slots i None) same-cell
+
+  pub EmptiesSoFar-more : EmptiesSoFar start next key (i + 1) before after
+  EmptiesSoFar-more = record {
+    was = s.was;
+    was_there = s.was_there;
+    cell = f.cell;
+    there = f.there;
+    number = ap (λ (c : Placed). c.number) f.same ∙ (ap (λ (c : Placed). c.number) same-cell ∙ s.number);
+    long = ap length slots-after ∙ (length-set s.cell.slots i None ∙ s.long);
+    later = ap (drop (i + 1)) slots-after ∙ (drop-set-lt (i + 1) s.cell.slots i None (omega arith) ∙ parts.1);
+    placed = f.placed;
+    leaves = LeavesKeys-then start.cells now.cells next.cells s.leaves f.leaves;
+    balanced = (
+      s.balanced.0,
+      subst (λ k. IsBalanced (k ∷ s.balanced.0) (draining_of next [])) (ap (λ (c : Placed). c.number) same-cell ∙ s.number)
+          (f.balanced s.balanced.0
+          (subst (λ k. IsBalanced (k ∷ s.balanced.0) (draining_of now [])) (sym (ap (λ (c : Placed). c.number) same-cell ∙ s.number)) s.balanced.1)),
+    );
+    events = s.events ++ f.events;
+    rest =
+        ap (λ n. empty_each number n (names (i + 1)) (record { heap = heap_of (counts_of next); events = s.events ++ f.events })) (add-one i)
+        ∙ (ap (λ o. empty_each number (suc i) (names (i + 1)) (told_before s.events o)) (sym step)
+        ∙ (ap (λ xs. empty_each number i (names_in (keyed start.cells) xs) (record { heap = heap_of (counts_of now); events = s.events })) (sym (dropped s.was.slots within))
+        ∙ s.rest));
+    told = subst (Tells before after) (sym (texts-append s.events f.events)) (Tells-trans before middle after (texts_of_events s.events) (texts_of_events f.events) s.told f.told);
+  }
+
+-- no native here is preserved
+unpreserved : (l : Lists) (k : ℕ) → set_preserved (heap_of (counts_of l)) k false ≡ heap_of (counts_of l)
+unpreserved l k = ap (λ ns. record (heap_of (counts_of l)) { natives = ns }) (each l.order)
+  where
+    change : HeapNative → HeapNative
+    change n = if n.number == k then record n { preserved = false } else n
+
+    same : (o : Option Placed) → change (shown (keyed l.cells) o) ≡ shown (keyed l.cells) o
+    same None = go (0 == k)
+      where
+        go : (b : Bool) → (if b then record (shown (keyed l.cells) None) { preserved = false } else shown (keyed l.cells) None) ≡ shown (keyed l.cells) None
+        go true = refl
+        go false = refl
+    same (Some c) = go (c.number == k)
+      where
+        go : (b : Bool) → (if b then record (shown (keyed l.cells) (Some c)) { preserved = false } else shown (keyed l.cells) (Some c)) ≡ shown (keyed l.cells) (Some c)
+        go true = refl
+        go false = refl
+
+    each : (keys : List ℕ) → map change (map (shown_at l.cells) keys) ≡ map (shown_at l.cells) keys
+    each [] = refl
+    each (key ∷ keys) = ap (λ n. n ∷ map change (map (shown_at l.cells) keys)) (same (cell_at l.cells key)) ∙ ap (λ ns. shown_at l.cells key ∷ ns) (each keys)
+
+-- THE NATIVE IS UNLINKED once its slots are empty.
+pub unlinked : (old new : Lists) (key : ℕ) (before after : Telling) → IsPlaced old → (e : EmptiesEach old new key before after) →
+    unlink (heap_of (counts_of old)) e.was.number ≡ record { heap = heap_of (counts_of new); events = Unlinked (native e.was.number) ∷ e.events }
+unfolding unlink
+unlinked old new key before after p e =
+    let h : Heap = heap_of (counts_of old) in
+    let k : ℕ = e.was.number in
+    let slots : slots_now (native_at h k) ≡ names_in (keyed old.cells) e.was.slots = ap slots_now (native_at-cell old p key e.was e.was_there) in
+    ap (λ xs. told_before (Unlinked (native k) ∷ []) (without_preservation k (empty_each k 0 xs (silently h)))) slots
+    ∙ (ap (λ o. told_before (Unlinked (native k) ∷ []) (without_preservation k o)) e.outcome
+    ∙ ap (λ (g : Heap). made g (Unlinked (native k) ∷ e.events)) (unpreserved new k))
+  where
+    made : Heap → List Event → Outcome
+    made g es = record { heap = g; events = es }

@@ -1,0 +1,23 @@
+use Rattle.std.proofs.Common.{◌≡◌, [], ◌∷◌, map, true, ap, sym, subst, is_some}
+use Rattle.cc_names.specs.declared.number.NKey.{NKey}
+use Rattle.cc_laws_heap.proofs.GiveUp.{IsBalanced}
+use Rattle.cc_counted.specs.Counts.{Counts, number_at, the_number}
+use Rattle.cc_counted.specs.Owning.{CallersOwn}
+use Rattle.cc_counted.specs.Lists.{draining_of}
+use Rattle.cc_counted.specs.Parts.{lists_of}
+use Rattle.cc_counted.proofs.Places.{the_number-cell}
+use Rattle.cc_counted.proofs.Reading.{live-found}
+use Rattle.cc_counted.proofs.Balanced.{IsBalanced-owned}
+use Rattle.cc_counted.proofs.counted.Counted.release.Goals as goal
+
+pub release-requires-clause-balanced : goal.release-requires-clause-balanced
+release-requires-clause-balanced g c =
+    let l = lists_of c.self.inside.parts in
+    let f = live-found l c.args.key.0 (subst (λ (v : Counts). is_some (number_at v c.args.key.0) ≡ true) (sym c.self.view_is) c.requires.live) in
+    let o = subst (λ (v : Counts). CallersOwn (the_number v c.args.key.0 ∷ []) v) (sym c.self.view_is) c.requires.owned in (
+      o.0,
+      f.0,
+      f.1,
+      subst (λ k. IsBalanced (k ∷ o.0) (draining_of l [])) (the_number-cell l.cells c.args.key.0 f.0 f.1)
+          (IsBalanced-owned l c.self.invariant.placed (ap (map (λ (k : NKey). k.0)) c.self.invariant.emptied) _ o.1),
+    )

@@ -1,0 +1,24 @@
+use Rattle.std.proofs.Common.{[], ◌∷◌, map, ap, sym, subst}
+use Rattle.cc_names.specs.declared.number.NKey.{NKey}
+use Rattle.cc_laws_heap.proofs.GiveUp.{IsBalanced}
+use Rattle.cc_counted.specs.Counts.{the_number}
+use Rattle.cc_counted.specs.Lists.{keyed, draining_of}
+use Rattle.cc_counted.specs.Parts.{lists_of}
+use Rattle.cc_counted.proofs.Places.{the_number-cell}
+use Rattle.cc_counted.proofs.Each.{IsBalanced-given}
+use Rattle.cc_counted.proofs.Draining.{ComesTo-cascade}
+use Rattle.cc_counted.proofs.parts.Parts.release.Goals as goal
+
+pub drain-requires-clause-balanced : goal.drain-requires-clause-balanced
+drain-requires-clause-balanced g c =
+    let l = lists_of c.args.self.now in
+    let (owned, placed, at, balance) = c.requires.balanced in (
+      owned,
+      IsBalanced-given l (lists_of c.give_up.new.self) (the_number (keyed l.cells) c.args.key.0 ∷ []) owned c.give_up.ensures.gives_up
+          (subst (λ k. IsBalanced (k ∷ owned) (draining_of l [])) (sym (the_number-cell l.cells c.args.key.0 placed at)) balance),
+    )
+
+pub returns-clause-comes_to : goal.returns-clause-comes_to
+returns-clause-comes_to g c =
+    ComesTo-cascade (lists_of c.args.self.now) (lists_of c.give_up.new.self) (lists_of c.drain.new.self) (g.N.Notices.telling c.args.out.now) (g.N.Notices.telling c.drain.new.out)
+    (the_number (keyed c.args.self.now.natives.slots) c.args.key.0) c.requires.placed (ap (map (λ (k : NKey). k.0)) c.requires.emptied) c.give_up.ensures.gives_up c.drain.ensures.drains

@@ -1,0 +1,52 @@
+use Rattle.std.proofs.Common.{◌≡◌, ◌<◌, ℕ, List, Option, Some, None, length, get_or, ap, ◌∙◌, option_map, arith}
+use Rattle.std.proofs.Math.ListN.{set}
+use Rattle.cc_counted.specs.declared.held.Held.{Held}
+use Rattle.cc_counted.specs.Counts.{name_of, is_live}
+use Rattle.cc_counted.specs.Lists.{Placed, Lists, cell_at, slots_placed, with_slot, counts_of}
+use Rattle.cc_counted.specs.Parts.{lists_of}
+use Rattle.cc_counted.proofs.Reading.{live-found, length-slots_of, slot-name}
+use Rattle.cc_counted.proofs.Writing.{slot-live, counts-written, placed-written}
+use Rattle.cc_counted.proofs.parts.Parts.set_slot.Goals as goal
+
+-- the cells with a slot written
+wrote : (l : Lists) (key i : ℕ) (x : Option Held) (c : Placed) (cells : List (Option Placed)) → cell_at l.cells key ≡ Some c → cells ≡ set l.cells key (option_map (with_slot i x) (cell_at l.cells key)) →
+    cells ≡ set l.cells key (Some (with_slot i x c))
+wrote l key i x c cells at e = e ∙ ap (λ o. set l.cells key (option_map (with_slot i x) o)) at
+
+pub write-requires-clause-within : goal.write-requires-clause-within
+write-requires-clause-within c =
+    let l = lists_of c.args.self.now in
+    let f = live-found l c.args.key.0 c.requires.live in
+    omega (arith, ap (λ o. length (slots_placed o)) f.1, length-slots_of l c.requires.at_rest.placed c.args.key.0 f.0 f.1, c.requires.within)
+
+pub returns-clause-shows : goal.returns-clause-shows
+returns-clause-shows c =
+    let l = lists_of c.args.self.now in
+    let f = live-found l c.args.key.0 c.requires.live in
+    counts-written l c.requires.at_rest.placed c.args.key.0 f.0 f.1 c.args.i c.args.item c.write.new.natives.slots (wrote l c.args.key.0 c.args.i c.args.item f.0 c.write.new.natives.slots f.1 c.write.ensures.slots)
+
+pub returns-clause-name : goal.returns-clause-name
+returns-clause-name c =
+    let l = lists_of c.args.self.now in
+    let f = live-found l c.args.key.0 c.requires.live in
+    let read : c.write.result ≡ get_or f.0.slots c.args.i None = c.write.ensures.value ∙ ap (λ o. get_or (slots_placed o) c.args.i None) f.1 in
+    ap (name_of (counts_of l)) read ∙ slot-name l c.requires.at_rest.placed c.args.key.0 f.0 f.1 c.args.i
+
+pub returns-clause-live : goal.returns-clause-live
+returns-clause-live c =
+    let l = lists_of c.args.self.now in
+    let f = live-found l c.args.key.0 c.requires.live in
+    let read : c.write.result ≡ get_or f.0.slots c.args.i None = c.write.ensures.value ∙ ap (λ o. get_or (slots_placed o) c.args.i None) f.1 in
+    let within : c.args.i < length f.0.slots = omega (arith, length-slots_of l c.requires.at_rest.placed c.args.key.0 f.0 f.1, c.requires.within) in
+    ap (is_live (counts_of l)) read ∙ slot-live l c.requires.at_rest.placed c.args.key.0 f.0 f.1 c.args.i within
+
+pub returns-clause-at_rest : goal.returns-clause-at_rest
+returns-clause-at_rest c =
+    let l = lists_of c.args.self.now in
+    let f = live-found l c.args.key.0 c.requires.live in
+    record {
+      placed = placed-written l c.requires.at_rest.placed c.args.key.0 f.0 f.1 c.args.i c.args.item c.write.new.natives.slots
+          (wrote l c.args.key.0 c.args.i c.args.item f.0 c.write.new.natives.slots f.1 c.write.ensures.slots) c.requires.item_live;
+      emptied = c.requires.at_rest.emptied;
+      room = record { queue = c.requires.at_rest.room.queue; buffer = c.requires.at_rest.room.buffer };
+    }

@@ -1,0 +1,97 @@
+-- WHAT A COUNTED HEAP SHOWS: its natives and its buffer by names, and which native stands at which key.
+use Rattle.std.specs.Prelude.{ℕ, zero, Bool, true, List, [], ◌∷◌, map, filter, Option, Some, None, option_map, slice_index_or, nat_lt, is_some, if◌then◌else◌}
+use Rattle.cc_names.specs.Allowance.{Allowance}
+use Rattle.cc_names.specs.declared.name.Name.{Name}
+use Rattle.cc_names.specs.Names.{native}
+use Rattle.cc_model.specs.Slots.{Slots}
+use Rattle.cc_model.specs.Heap.{Heap, HeapNative, Buffered, Outcome, empty_heap, native_at}
+use Rattle.cc_model.specs.Cascade.{cascade}
+use Rattle.cc_counted.specs.declared.held.Held.{Held}
+use Rattle.cc_counted.specs.declared.held.Held.TheVariants as held
+
+-- natives by rising number, the buffer in order, and at each key the number of the native that stands there
+pub record Counts : Type 0 where
+  pub natives : List HeapNative
+  pub buffer : List Buffered
+  pub keys : List (Option ℕ)
+
+abbrev pub no_counts : Counts
+no_counts = record { natives = []; buffer = []; keys = [] }
+
+-- the number of the native at a key
+abbrev pub number_at : Counts → ℕ → Option ℕ
+number_at c key = slice_index_or c.keys key None
+
+-- 0 where there is none
+abbrev pub number_or_none : Option ℕ → ℕ
+number_or_none None = zero
+number_or_none (Some k) = k
+
+abbrev pub the_number : Counts → ℕ → ℕ
+the_number c key = number_or_none (number_at c key)
+
+-- the name of what a slot or a caller holds
+abbrev pub name_of_held : Counts → Held → Option Name
+name_of_held c (held.Native key) = option_map native (number_at c key.0)
+
+abbrev pub name_of : Counts → Option Held → Option Name
+name_of c None = None
+name_of c (Some x) = name_of_held c x
+
+-- what is held is there
+abbrev pub is_live : Counts → Option Held → Bool
+is_live c None = true
+is_live c (Some x) = is_some (name_of_held c x)
+
+-- the natives that are held
+abbrev pub numbers_held : Counts → Option Held → List ℕ
+numbers_held c None = []
+numbers_held c (Some (held.Native key)) = the_number c key.0 ∷ []
+
+-- limits that nothing looks at
+abbrev pub no_limits : Allowance
+no_limits = record { natives = 0; scripts = 0; bytes = 0 }
+
+-- the lists of the heaps with these natives and this buffer, and nothing else
+abbrev pub heap_of : Counts → Heap
+heap_of c = record (empty_heap no_limits) { natives = c.natives; buffer = c.buffer }
+
+-- other natives of the same numbers, and another buffer
+abbrev pub with_heap : Counts → Heap → Counts
+with_heap c h = record c { natives = h.natives; buffer = h.buffer }
+
+-- the keys of natives that are no more hold nothing
+abbrev pub key_left : Heap → Option ℕ → Option ℕ
+key_left h None = None
+key_left h (Some k) = if is_some (native_at h k) then Some k else None
+
+-- some natives are no more
+abbrev pub left_with : Counts → Heap → Counts
+left_with c h = record { natives = h.natives; buffer = h.buffer; keys = map (key_left h) c.keys }
+
+-- after one reference to native k was given up
+abbrev pub released : Counts → ℕ → Outcome
+released c k = cascade (heap_of c) k
+
+abbrev pub slots_at : Option HeapNative → Slots
+slots_at None = []
+slots_at (Some n) = n.slots
+
+-- the slots of the native at a key, and its count
+abbrev pub slots_of : Counts → ℕ → Slots
+slots_of c key = slots_at (native_at (heap_of c) (the_number c key))
+
+abbrev pub count_at : Option HeapNative → ℕ
+count_at None = 0
+count_at (Some n) = n.count
+
+abbrev pub count_of : Counts → ℕ → ℕ
+count_of c key = count_at (native_at (heap_of c) (the_number c key))
+
+-- the first of the natives with a greater number than k
+abbrev pub first_number : List HeapNative → Option ℕ
+first_number [] = None
+first_number (n ∷ ns) = Some n.number
+
+abbrev pub number_after : Counts → ℕ → Option ℕ
+number_after c k = first_number (filter (λ n. nat_lt k n.number) c.natives)

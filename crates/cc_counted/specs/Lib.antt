@@ -1,0 +1,7 @@
+pub mod Counts
+pub mod Owning
+pub mod Suspects
+pub mod Lists
+pub mod Parts
+pub mod Steps
+pub mod Resting

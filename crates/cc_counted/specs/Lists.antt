@@ -1,0 +1,142 @@
+-- THE PARTS OF A COUNTED HEAP AS LISTS, by keys, and what they show by numbers.
+use Rattle.std.specs.Prelude.{◌≡◌, ◌⊎◌, ℕ, ◌+◌, ◌-◌, ◌≤◌, ◌==◌, true, false, not, List, [], ◌++◌, length, filter, ◌∷◌, map, flat_map, Option, Some, None, option_map, slice_index_or, slice_set}
+use Rattle.cc_lists.specs.Members.{Among}
+use Rattle.cc_model.specs.declared.item.Event.{Event}
+use Rattle.cc_model.specs.Slots.{Slots}
+use Rattle.cc_model.specs.Heap.{HeapNative, Buffered}
+use Rattle.cc_model.specs.Cascade.{Draining}
+use Rattle.cc_model.specs.WellFormed.{IsRising}
+use Rattle.cc_purple.specs.Marks.{Marked, with_mark, without_key}
+use Rattle.cc_counted.specs.declared.held.Held.{Held}
+use Rattle.cc_counted.specs.Counts.{Counts, no_counts, number_at, the_number, name_of, is_live, numbers_held, heap_of}
+
+-- a native as it stands at its key: what its slots hold by keys
+pub record Placed : Type 0 where
+  pub number : ℕ
+  pub slots : List (Option Held)
+  pub count : ℕ
+
+-- the natives by key, their keys by rising number, the keys that wait to be deleted, and the marked keys of the buffer
+pub record Lists : Type 0 where
+  pub cells : List (Option Placed)
+  pub order : List ℕ
+  pub queue : List ℕ
+  pub marks : List Marked
+
+-- the native at a key
+abbrev pub cell_at : List (Option Placed) → ℕ → Option Placed
+cell_at cells key = slice_index_or cells key None
+
+-- with one reference less
+abbrev pub with_one_less : Placed → Placed
+with_one_less c = record c { count = c.count - 1 }
+
+-- with one more
+abbrev pub with_one_more : Placed → Placed
+with_one_more c = record c { count = c.count + 1 }
+
+-- with slot i written
+abbrev pub with_slot : ℕ → Option Held → Placed → Placed
+with_slot i x c = record c { slots = slice_set c.slots i x }
+
+-- the count at a key, and 0 where there is no native
+abbrev pub count_placed : Option Placed → ℕ
+count_placed None = 0
+count_placed (Some c) = c.count
+
+-- the slots at a key, and none where there is no native
+abbrev pub slots_placed : Option Placed → List (Option Held)
+slots_placed None = []
+slots_placed (Some c) = c.slots
+
+-- which number stands at which key, and nothing else
+abbrev pub keyed : List (Option Placed) → Counts
+keyed cells = record no_counts { keys = map (option_map (λ c. c.number)) cells }
+
+-- what slots hold, by names
+abbrev pub names_in : Counts → List (Option Held) → Slots
+names_in c slots = map (name_of c) slots
+
+-- the natives that slots hold, by occurrence
+abbrev pub numbers_in : Counts → List (Option Held) → List ℕ
+numbers_in c slots = flat_map (numbers_held c) slots
+
+-- a native by names
+abbrev pub shown : Counts → Option Placed → HeapNative
+shown c None = record { number = 0; slots = []; preserved = false; count = 0 }
+shown c (Some p) = record { number = p.number; slots = names_in c p.slots; preserved = false; count = p.count }
+
+-- the native at a key by names
+abbrev pub shown_at : List (Option Placed) → ℕ → HeapNative
+shown_at cells key = shown (keyed cells) (cell_at cells key)
+
+-- a marked key by its number
+abbrev pub marked_number : Counts → Marked → Buffered
+marked_number c m = record { number = the_number c m.key; purple = m.purple }
+
+-- WHAT THE LISTS SHOW
+abbrev pub counts_of : Lists → Counts
+counts_of l = record {
+  natives = map (shown_at l.cells) l.order;
+  buffer = map (marked_number (keyed l.cells)) l.marks;
+  keys = map (option_map (λ c. c.number)) l.cells;
+}
+
+-- and while natives are deleted
+abbrev pub draining_of : Lists → List Event → Draining
+draining_of l events = record { heap = heap_of (counts_of l); queue = map (the_number (keyed l.cells)) l.queue; events = events }
+
+-- THE LISTS FIT TOGETHER: the order has the keys of the natives by rising number, and each key that is held, waits or
+-- stands in the buffer is that of a native
+pub record IsPlaced (l : Lists) : Type 0 where
+  pub in_order : (key : ℕ) → Among key l.order → (c : Placed) × (cell_at l.cells key ≡ Some c)
+  pub ordered : (key : ℕ) (c : Placed) → cell_at l.cells key ≡ Some c → Among key l.order
+  pub rising : IsRising (map (the_number (keyed l.cells)) l.order)
+  pub small : (key : ℕ) (c : Placed) → cell_at l.cells key ≡ Some c → length c.slots ≤ 64
+  pub held : (key : ℕ) (c : Placed) (x : Option Held) → cell_at l.cells key ≡ Some c → Among x c.slots → is_live (keyed l.cells) x ≡ true
+  pub queued : (key : ℕ) → Among key l.queue → (c : Placed) × (cell_at l.cells key ≡ Some c)
+  pub marked : (m : Marked) → Among m l.marks → (c : Placed) × (cell_at l.cells m.key ≡ Some c)
+
+-- one reference to the native c at a key given up, which is not the last one: it is suspected
+abbrev pub suspected : Lists → ℕ → Placed → Lists
+suspected l key c = record l { cells = slice_set l.cells key (Some (with_one_less c)); marks = with_mark true key l.marks }
+
+-- the last one: it waits, and leaves the buffer
+abbrev pub waiting : Lists → ℕ → Placed → Lists
+waiting l key c = record l { cells = slice_set l.cells key (Some (with_one_less c)); queue = l.queue ++ key ∷ []; marks = without_key key l.marks }
+
+-- the keys but for one
+abbrev pub without : ℕ → List ℕ → List ℕ
+without key keys = filter (λ k. not (k == key)) keys
+
+-- the native at a key, which waited in front of the keys ks, taken out
+abbrev pub taken_out : Lists → ℕ → List ℕ → Lists
+taken_out l key ks = record l { cells = slice_set l.cells key None; order = without key l.order; queue = ks }
+
+-- a native without its count
+abbrev pub without_count : Placed → Placed
+without_count c = record c { count = 0 }
+
+-- some natives left, and those that stayed changed in their counts alone
+pub record LeavesCells (old new : List (Option Placed)) : Type 0 where
+  pub as_many : length new ≡ length old
+  pub each : (key : ℕ) → (cell_at new key ≡ None) ⊎ (option_map without_count (cell_at new key) ≡ option_map without_count (cell_at old key))
+
+-- some keys came to hold nothing, and no key changed otherwise
+pub record LeavesKeys (old new : List (Option Placed)) : Type 0 where
+  pub as_many : length new ≡ length old
+  pub each : (key : ℕ) → (number_at (keyed new) key ≡ None) ⊎ (number_at (keyed new) key ≡ number_at (keyed old) key)
+
+-- the first key of a list
+abbrev pub first_of : List ℕ → Option ℕ
+first_of [] = None
+first_of (k ∷ ks) = Some k
+
+-- the key behind a key
+abbrev pub key_behind : ℕ → List ℕ → Option ℕ
+key_behind key [] = None
+key_behind key (k ∷ ks) = elim (k == key) [ true ↦ first_of ks | false ↦ key_behind key ks ]
+
+-- the lists with a native made, which stands at a key of these cells
+abbrev pub made : Lists → List (Option Placed) → ℕ → Lists
+made l cells key = record { cells = cells; order = l.order ++ key ∷ []; queue = l.queue; marks = with_mark false key l.marks }

@@ -1,0 +1,247 @@
+ghost use Rattle.std.specs.Prelude.{◌≡◌, ◌≢◌, false, ℕ, ◌+◌, ◌<◌, ◌≤◌, List, [], ◌∷◌, ◌++◌, length, map, Some, None, option_map, option_and_then, slice_index_or, IsSome, IsTrue, IfSome, MatchOption, OnOk, IfOk, OnErr};
+ghost use Rattle.cc_names.specs.Names.{native};
+ghost use Rattle.cc_model.specs.declared.item.Item.TheVariants.{Event};
+ghost use Rattle.cc_model.specs.Texts.{texts_of};
+ghost use Rattle.cc_model.specs.Telling.{Tells};
+ghost use Rattle.cc_model.specs.Slots.{empty_slots};
+ghost use Rattle.cc_model.specs.Heap.{HeapNative, set_slot, suspect, with_mark};
+ghost use Rattle.cc_model.specs.Cascade.{add_ref};
+ghost use Rattle.cc_model.specs.End.{unlink};
+ghost use Rattle.cc_counted.specs.Counts.{no_counts, number_at, the_number, name_of, is_live, numbers_held, heap_of, with_heap, left_with, released, slots_of, count_of, first_number, number_after};
+ghost use Rattle.cc_counted.specs.Owning.{CallersOwn, HasKeys};
+ghost use Rattle.cc_counted.specs.Suspects.{is_in_buffer, is_purple_in, front_number, number_behind};
+ghost use Rattle.cc_lists.specs.Members.{Among};
+
+use crate::held::Held;
+use crate::order::{behind, key_at};
+use crate::parts::Parts;
+use cc_model::Notices;
+use cc_names::{NKey, NativeNo, NoMemory};
+use std::alloc::Global;
+use std::marker::Model;
+
+/// The reference-counted heap of natives, by key.
+///
+/// A caller owns the references that it took, and gives each up once, by `release` or by putting it into a slot.
+/// Contracts see natives by their numbers, which are never used again; a key comes back once its native is gone.
+#[derive(Drop)]
+pub struct Counted {
+    parts: Parts,
+    alloc: Global,
+}
+
+impl Model for Counted {
+    ghost use Rattle.cc_counted.specs.Counts.{Counts};
+
+    ghost Value = { Counts };
+
+    ghost use Rattle.cc_counted.specs.Resting.{shows, IsAtRest};
+
+    ghost view = { λ c. shows c.parts };
+
+    ghost invariant = { λ c. IsAtRest c.parts };
+}
+
+impl Counted {
+    /// No natives, and no memory taken.
+    pub fn new(alloc: Global) -> Counted
+        ensures { result ≡ no_counts }
+    {
+        Counted {
+            parts: Parts::new(alloc),
+            alloc,
+        }
+    }
+
+    /// Makes a native with `slots` empty slots (0 to 64) and the number `no`, which is above that of every native so far.
+    ///
+    /// Its count is 1: the caller owns that reference. It stands in the buffer without the purple mark.
+    /// `NoMemory` changes nothing. No other call takes memory, at any depth of what it deletes.
+    pub fn create(&mut self, no: NativeNo, slots: u8) -> Result<NKey, NoMemory>
+        requires slots { slots ≤ 64 }
+        requires above { (n : HeapNative) → Among n self.old.natives → n.number < no.0 }
+        requires owned { CallersOwn [] self.old }
+        ensures natives { OnOk result (self.new.natives ≡ self.old.natives ++ record { number = no.0; slots = empty_slots slots; preserved = false; count = 1 } ∷ []) }
+        ensures buffer { OnOk result (self.new.buffer ≡ with_mark false no.0 self.old.buffer) }
+        ensures key { IfOk result (λ key. number_at self.new key.0 ≡ Some no.0) }
+        ensures others { IfOk result (λ key. (q : ℕ) → q ≢ key.0 → number_at self.new q ≡ number_at self.old q) }
+        ensures vacant { IfOk result (λ key. number_at self.old key.0 ≡ None) }
+        ensures keyed { HasKeys self.old → HasKeys self.new }
+        ensures err { OnErr result (self.new ≡ self.old) }
+    {
+        self.parts.create(self.alloc, no, slots)
+    }
+
+    /// Takes one more reference, which the caller owns. The native stands in the buffer without the purple mark.
+    pub fn add_ref(&mut self, key: NKey)
+        requires live { IsSome (number_at self.old key.0) }
+        requires below { count_of self.old key.0 < 4294967295 }
+        requires owned { CallersOwn [] self.old }
+        ensures { self.new ≡ with_heap self.old (add_ref (heap_of self.old) (the_number self.old key.0)) }
+    {
+        self.parts.add_ref(key);
+    }
+
+    /// Gives up one reference that the caller owns, and deletes what then has none, cascade and all.
+    pub fn release<N: Notices>(&mut self, key: NKey, out: &mut N)
+        requires live { IsSome (number_at self.old key.0) }
+        requires owned { CallersOwn (the_number self.old key.0 ∷ []) self.old }
+        ensures heap { self.new ≡ left_with self.old (released self.old (the_number self.old key.0)).heap }
+        ensures told { Tells (N.telling out.old) (N.telling out.new) (texts_of (map Event (released self.old (the_number self.old key.0)).events)) }
+    {
+        self.parts.release(key, out);
+    }
+
+    /// What slot `i` of a native holds, counted from 0. The reference stays the slot's.
+    pub fn slot(&self, key: NKey, i: u8) -> Option<Held>
+        requires live { IsSome (number_at self.now key.0) }
+        requires within { i < length (slots_of self.now key.0) }
+        ensures name { name_of self.now result ≡ slice_index_or (slots_of self.now key.0) i None }
+        ensures live { IsTrue (is_live self.now result) }
+    {
+        self.parts.natives[key.0].slots[i as usize]
+    }
+
+    /// Puts `item` into slot `i` of a native, counted from 0, and returns what the slot held.
+    ///
+    /// The reference to `item` goes from the caller to the slot, that to the old content from the slot to the caller.
+    pub fn set_slot(&mut self, key: NKey, i: u8, item: Option<Held>) -> Option<Held>
+        requires live { IsSome (number_at self.old key.0) }
+        requires within { i < length (slots_of self.old key.0) }
+        requires item_live { IsTrue (is_live self.old item) }
+        requires owned { CallersOwn (numbers_held self.old item) self.old }
+        ensures slots { self.new ≡ with_heap self.old (set_slot (heap_of self.old) (Some (native (the_number self.old key.0))) i (name_of self.old item)) }
+        ensures name { name_of self.old result ≡ slice_index_or (slots_of self.old key.0) i None }
+        ensures live { IsTrue (is_live self.old result) }
+    {
+        self.parts.set_slot(key, i, item)
+    }
+
+    /// How many slots a native has: 0 to 64.
+    pub fn slots(&self, key: NKey) -> u8
+        requires live { IsSome (number_at self.now key.0) }
+        ensures { result ≡ length (slots_of self.now key.0) }
+    {
+        self.parts.natives[key.0].slots.len() as u8
+    }
+
+    /// The count of a native: the slots that hold it and the references that callers own.
+    pub fn count(&self, key: NKey) -> u32
+        requires live { IsSome (number_at self.now key.0) }
+        ensures { result ≡ count_of self.now key.0 }
+    {
+        self.parts.natives[key.0].count
+    }
+
+    /// The number of the native at a key; none exactly where the key holds nothing.
+    ///
+    /// This is the one call that may be given a key whose native is no more.
+    pub fn number(&self, key: NKey) -> Option<NativeNo>
+        ensures { option_map (λ n. n.0) result ≡ number_at self.now key.0 }
+    {
+        match self.parts.natives.get(key.0) {
+            Some(cell) => Some(cell.number),
+            None => None,
+        }
+    }
+
+    /// The native with the least number; none exactly where there is none.
+    pub fn first(&self) -> Option<NKey>
+        ensures number { option_and_then (λ k. number_at self.now k.0) result ≡ first_number self.now.natives }
+        ensures live { IfSome result (λ k. IsSome (number_at self.now k.0)) }
+    {
+        key_at(self.parts.order.as_slice(), 0)
+    }
+
+    /// The native with the next greater number; none exactly where there is none.
+    pub fn next(&self, key: NKey) -> Option<NKey>
+        requires live { IsSome (number_at self.now key.0) }
+        ensures number { option_and_then (λ k. number_at self.now k.0) result ≡ number_after self.now (the_number self.now key.0) }
+        ensures live { IfSome result (λ k. IsSome (number_at self.now k.0)) }
+    {
+        behind(self.parts.order.as_slice(), key)
+    }
+
+    /// Roots a native for a collection: one more reference, which the caller owns, and no purple mark.
+    pub fn root(&mut self, key: NKey)
+        requires live { IsSome (number_at self.old key.0) }
+        requires below { count_of self.old key.0 < 4294967295 }
+        requires owned { CallersOwn [] self.old }
+        ensures { self.new ≡ with_heap self.old (add_ref (heap_of self.old) (the_number self.old key.0)) }
+    {
+        self.add_ref(key);
+    }
+
+    /// Ends what `root` began: gives up the reference that the caller owns, cascade and all.
+    pub fn unroot<N: Notices>(&mut self, key: NKey, out: &mut N)
+        requires live { IsSome (number_at self.old key.0) }
+        requires owned { CallersOwn (the_number self.old key.0 ∷ []) self.old }
+        ensures heap { self.new ≡ left_with self.old (released self.old (the_number self.old key.0)).heap }
+        ensures told { Tells (N.telling out.old) (N.telling out.new) (texts_of (map Event (released self.old (the_number self.old key.0)).events)) }
+    {
+        self.release(key, out);
+    }
+
+    /// Tells that a native that the caller owns is unlinked, and empties its slots in rising order.
+    ///
+    /// What a slot held is given up with its cascade before the next slot is emptied. The native itself stays.
+    pub fn unlink<N: Notices>(&mut self, key: NKey, out: &mut N)
+        requires live { IsSome (number_at self.old key.0) }
+        requires owned { CallersOwn (the_number self.old key.0 ∷ []) self.old }
+        ensures heap { self.new ≡ left_with self.old (unlink (heap_of self.old) (the_number self.old key.0)).heap }
+        ensures told { Tells (N.telling out.old) (N.telling out.new) (texts_of (map Event (unlink (heap_of self.old) (the_number self.old key.0)).events)) }
+    {
+        self.parts.unlink(key, out);
+    }
+
+    /// Takes out the front of the buffer with its mark; none exactly where the buffer is empty.
+    pub fn select_next(&mut self) -> Option<(NKey, bool)>
+        ensures { MatchOption result ((self.old.buffer ≡ []) × (self.new ≡ self.old))
+            (λ front. (self.old.buffer ≡ record { number = the_number self.old front.0.0; purple = front.1 } ∷ self.new.buffer) × (self.new ≡ record self.old { buffer = self.new.buffer }) × IsSome (number_at self.old front.0.0)) }
+    {
+        self.parts.select_next()
+    }
+
+    /// A native that `select_next` took out goes back into the buffer with the purple mark; one that is there keeps its place.
+    pub fn give_back(&mut self, key: NKey)
+        requires live { IsSome (number_at self.old key.0) }
+        requires owned { CallersOwn [] self.old }
+        ensures { self.new ≡ with_heap self.old (suspect (heap_of self.old) (the_number self.old key.0)) }
+    {
+        self.parts.give_back(key);
+    }
+
+    /// Whether a native stands in the buffer.
+    pub fn in_buffer(&self, key: NKey) -> bool
+        requires live { IsSome (number_at self.now key.0) }
+        ensures { result ≡ is_in_buffer self.now.buffer (the_number self.now key.0) }
+    {
+        self.parts.buffer.holds(key)
+    }
+
+    /// Whether a native stands in the buffer with the purple mark.
+    pub fn purple(&self, key: NKey) -> bool
+        requires live { IsSome (number_at self.now key.0) }
+        ensures { result ≡ is_purple_in self.now.buffer (the_number self.now key.0) }
+    {
+        self.parts.buffer.purple(key)
+    }
+
+    /// The native in front of the buffer; none exactly where the buffer is empty.
+    pub fn first_in_buffer(&self) -> Option<NKey>
+        ensures number { option_and_then (λ k. number_at self.now k.0) result ≡ front_number self.now.buffer }
+        ensures live { IfSome result (λ k. IsSome (number_at self.now k.0)) }
+    {
+        self.parts.buffer.first()
+    }
+
+    /// The native behind a native of the buffer, in buffer order; none exactly where that is the last.
+    pub fn next_in_buffer(&self, key: NKey) -> Option<NKey>
+        requires live { IsSome (number_at self.now key.0) }
+        requires buffered { IsTrue (is_in_buffer self.now.buffer (the_number self.now key.0)) }
+        ensures number { option_and_then (λ k. number_at self.now k.0) result ≡ number_behind self.now.buffer (the_number self.now key.0) }
+        ensures live { IfSome result (λ k. IsSome (number_at self.now k.0)) }
+    {
+        self.parts.buffer.next(key)
+    }
+}

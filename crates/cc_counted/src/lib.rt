@@ -1,0 +1,24 @@
+//! The counted heap: natives with slots, whose count is the slots that hold them and the references that callers own.
+//!
+//! A native whose count falls to zero leaves the buffer of suspects and waits in a queue. The front of the queue is told,
+//! what its slots hold is given up, and it is gone; what waits then follows, until nothing waits. So a chain of any length
+//! is deleted in a loop, on an ordinary stack.
+//!
+//! A native whose count falls, but not to zero, is suspected: it goes into the buffer with the purple mark. One that gains
+//! a reference is in use: it goes there without the mark, or loses it.
+//!
+//! `create` takes all memory that later calls may want: room in the queue and in the buffer for every native. No other
+//! call takes memory.
+#![tactic(auto)]
+
+mod cell;
+mod counted;
+mod held;
+mod order;
+mod parts;
+
+pub use counted::Counted;
+pub use held::Held;
+
+#[cfg(test)]
+mod tests;

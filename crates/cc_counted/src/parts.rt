@@ -1,0 +1,274 @@
+ghost use Rattle.std.specs.Prelude.{◌≡◌, ℕ, ◌<◌, ◌≤◌, true, false, List, [], ◌∷◌, ◌++◌, length, Option, Some, None, IsSome, IsTrue, MatchOption, IfOk, OnOk, OnErr, replicate, slice_index_or};
+ghost use Rattle.cc_lists.specs.Members.{Among};
+ghost use Rattle.cc_names.specs.Names.{native};
+ghost use Rattle.cc_model.specs.Telling.{Tells};
+ghost use Rattle.cc_model.specs.Heap.{HeapNative, set_slot, suspect};
+ghost use Rattle.cc_model.specs.Cascade.{cascade, add_ref};
+ghost use Rattle.cc_model.specs.End.{unlink};
+ghost use Rattle.cc_laws_heap.proofs.GiveUp.{IsBalanced};
+ghost use Rattle.cc_purple.specs.Marks.{marked_as};
+ghost use Rattle.cc_counted.specs.declared.held.Held.{Held};
+ghost use Rattle.cc_counted.specs.Counts.{no_counts, is_live, name_of, number_at, the_number, heap_of, with_heap, left_with, count_of, slots_of};
+ghost use Rattle.cc_counted.specs.Owning.{CallersOwn, Makes};
+ghost use Rattle.cc_counted.specs.Lists.{Placed, cell_at, slots_placed, keyed, numbers_in, draining_of, IsPlaced};
+ghost use Rattle.cc_counted.specs.Steps.{GivesUp, FreesFront, Drains, ComesTo, EmptiesSlot, EmptiesEach, texts_of_events};
+
+use crate::cell::{Cell, lower, raise, write};
+use crate::held::Held;
+use crate::order::leave;
+use cc_model::{Event, Item, Notices};
+use cc_names::{NKey, Name, NativeNo, NoMemory};
+use cc_purple::Buffer;
+use slab::Slab;
+use std::alloc::Global;
+use std::collections::VecDeque;
+
+/// The natives by key, their keys by rising number, the keys of those that wait to be deleted, and the buffer.
+///
+/// The queue and the buffer have room for every native, so that no deletion takes memory.
+#[derive(Drop)]
+pub(crate) struct Parts {
+    pub(crate) natives: Slab<Cell>,
+    // O(n) for each native that leaves until it is a chain
+    pub(crate) order: Vec<NKey>,
+    pub(crate) queue: VecDeque<NKey>,
+    pub(crate) buffer: Buffer,
+}
+
+impl Parts {
+    ghost use Rattle.cc_counted.specs.Parts.{lists_of, HasRoom, HasRoomForOne};
+    ghost use Rattle.cc_counted.specs.Resting.{shows, IsAtRest};
+
+    /// No natives.
+    pub(crate) fn new(alloc: Global) -> Parts
+        ensures shows { shows result ≡ no_counts }
+        ensures at_rest { IsAtRest result }
+    {
+        Parts {
+            natives: Slab::new(alloc),
+            order: Vec::new(alloc),
+            queue: VecDeque::new(alloc),
+            buffer: Buffer::new(alloc),
+        }
+    }
+
+    /// Gives up one reference to the native at a key: above zero it is suspected, at zero it leaves the buffer and waits.
+    fn give_up(&mut self, key: NKey)
+        requires placed { IsPlaced (lists_of self.old) }
+        requires balanced { (owned : List ℕ) × (c : Placed) × (cell_at self.old.natives.slots key.0 ≡ Some c) × IsBalanced (c.number ∷ owned) (draining_of (lists_of self.old) []) }
+        requires room { HasRoom self.old }
+        ensures gives_up { GivesUp (lists_of self.old) (lists_of self.new) (the_number (keyed self.old.natives.slots) key.0 ∷ []) }
+        ensures room { HasRoom self.new }
+    {
+        if lower(&mut self.natives, key) > 0 {
+            self.buffer.suspect(key);
+        } else {
+            self.buffer.forget(key);
+            self.queue.push_back_reserved(key);
+        }
+    }
+
+    /// Gives up the references in these slots, in rising order.
+    fn give_up_each(&mut self, slots: &[Option<Held>])
+        requires placed { IsPlaced (lists_of self.old) }
+        requires live { (x : Option Held) → Among x slots.now → is_live (keyed self.old.natives.slots) x ≡ true }
+        requires balanced { (owned : List ℕ) × IsBalanced (numbers_in (keyed self.old.natives.slots) slots.now ++ owned) (draining_of (lists_of self.old) []) }
+        requires room { HasRoom self.old }
+        ensures gives_up { GivesUp (lists_of self.old) (lists_of self.new) (numbers_in (keyed self.old.natives.slots) slots.now) }
+        ensures room { HasRoom self.new }
+    {
+        for slot in slots {
+            if let Some(held) = slot {
+                self.give_up(held.key());
+            }
+        }
+    }
+
+    /// Frees the native in front of the queue: tells it, takes it out, and gives up what its slots held.
+    fn free_front<N: Notices>(&mut self, out: &mut N)
+        requires placed { IsPlaced (lists_of self.old) }
+        requires waits { 0 < length self.old.queue.items }
+        requires balanced { (owned : List ℕ) × IsBalanced owned (draining_of (lists_of self.old) []) }
+        requires room { HasRoom self.old }
+        ensures frees { FreesFront (lists_of self.old) (lists_of self.new) (N.telling out.old) (N.telling out.new) }
+        ensures room { HasRoom self.new }
+    {
+        if let Some(key) = self.queue.pop_front() {
+            let cell = self.natives.remove(key.0);
+            leave(&mut self.order, key);
+            out.tell(Item::Event(Event::Freed(Name::Native(cell.number))));
+            self.give_up_each(cell.slots.as_slice());
+        }
+    }
+
+    /// Whether a native waits.
+    fn some_wait(&self) -> bool
+        ensures some { result ≡ true → 0 < length self.now.queue.items }
+        ensures none { result ≡ false → self.now.queue.items ≡ [] }
+    {
+        !self.queue.is_empty()
+    }
+
+    /// Frees the natives that wait until none does.
+    fn drain<N: Notices>(&mut self, out: &mut N)
+        requires placed { IsPlaced (lists_of self.old) }
+        requires balanced { (owned : List ℕ) × IsBalanced owned (draining_of (lists_of self.old) []) }
+        requires room { HasRoom self.old }
+        ensures drains { Drains (lists_of self.old) (lists_of self.new) (N.telling out.old) (N.telling out.new) }
+        ensures room { HasRoom self.new }
+    {
+        while self.some_wait() {
+            self.free_front(out);
+        }
+    }
+
+    /// Gives up one reference, with all that it deletes.
+    pub(crate) fn release<N: Notices>(&mut self, key: NKey, out: &mut N)
+        requires placed { IsPlaced (lists_of self.old) }
+        requires balanced { (owned : List ℕ) × (c : Placed) × (cell_at self.old.natives.slots key.0 ≡ Some c) × IsBalanced (c.number ∷ owned) (draining_of (lists_of self.old) []) }
+        requires emptied { self.old.queue.items ≡ [] }
+        requires room { HasRoom self.old }
+        ensures comes_to { ComesTo (lists_of self.old) (lists_of self.new) (N.telling out.old) (N.telling out.new)
+            (cascade (heap_of (shows self.old)) (the_number (keyed self.old.natives.slots) key.0)) }
+        ensures room { HasRoom self.new }
+    {
+        self.give_up(key);
+        self.drain(out);
+    }
+
+    /// One more reference to the native at a key, which then stands in the buffer without the mark.
+    pub(crate) fn add_ref(&mut self, key: NKey)
+        requires at_rest { IsAtRest self.old }
+        requires live { IsSome (number_at (shows self.old) key.0) }
+        requires below { count_of (shows self.old) key.0 < 4294967295 }
+        requires owned { CallersOwn [] (shows self.old) }
+        ensures shows { shows self.new ≡ with_heap (shows self.old) (add_ref (heap_of (shows self.old)) (the_number (shows self.old) key.0)) }
+        ensures at_rest { IsAtRest self.new }
+    {
+        raise(&mut self.natives, key);
+        self.buffer.touch(key);
+    }
+
+    /// Writes slot `i` of the native at a key, and returns what it held.
+    pub(crate) fn set_slot(&mut self, key: NKey, i: u8, item: Option<Held>) -> Option<Held>
+        requires at_rest { IsAtRest self.old }
+        requires live { IsSome (number_at (shows self.old) key.0) }
+        requires within { i < length (slots_of (shows self.old) key.0) }
+        requires item_live { IsTrue (is_live (shows self.old) item) }
+        ensures shows { shows self.new ≡ with_heap (shows self.old) (set_slot (heap_of (shows self.old)) (Some (native (the_number (shows self.old) key.0))) i (name_of (shows self.old) item)) }
+        ensures name { name_of (shows self.old) result ≡ slice_index_or (slots_of (shows self.old) key.0) i None }
+        ensures live { IsTrue (is_live (shows self.old) result) }
+        ensures at_rest { IsAtRest self.new }
+    {
+        write(&mut self.natives, key, i as usize, item)
+    }
+
+    /// Takes the memory of one more native: so many empty slots, and room for it everywhere.
+    fn take_room(&mut self, alloc: Global, slots: u8) -> Result<Vec<Option<Held>>, NoMemory>
+        requires at_rest { IsAtRest self.old }
+        ensures kept { lists_of self.new ≡ lists_of self.old }
+        ensures at_rest { IsAtRest self.new }
+        ensures room { OnOk result (HasRoomForOne self.new) }
+        ensures slots { IfOk result (λ v. v.items ≡ replicate slots None) }
+    {
+        let empty = vec![in alloc; None; slots as usize]?;
+        self.natives.reserve(1)?;
+        self.order.reserve(1)?;
+        let most = self.order.len() + 1;
+        self.queue.reserve(most)?;
+        self.buffer.reserve(most)?;
+        Ok(empty)
+    }
+
+    /// Makes a native with so many empty slots and count one, which stands in the buffer without the mark.
+    pub(crate) fn create(
+        &mut self,
+        alloc: Global,
+        no: NativeNo,
+        slots: u8,
+    ) -> Result<NKey, NoMemory>
+        requires at_rest { IsAtRest self.old }
+        requires slots { slots ≤ 64 }
+        requires above { (n : HeapNative) → Among n (shows self.old).natives → n.number < no.0 }
+        requires owned { CallersOwn [] (shows self.old) }
+        ensures makes { IfOk result (λ key. Makes (shows self.old) (shows self.new) key.0 no.0 slots) }
+        ensures at_rest { IsAtRest self.new }
+        ensures err { OnErr result (shows self.new ≡ shows self.old) }
+    {
+        let empty = self.take_room(alloc, slots)?;
+        let key = NKey(
+            self.natives.insert_reserved(Cell {
+                number: no,
+                slots: empty,
+                count: 1,
+            }),
+        );
+        self.order.push_reserved(key);
+        self.buffer.touch(key);
+        Ok(key)
+    }
+
+    /// Empties slot `i` of a native that is owned, and gives up what was in it, with all that it deletes.
+    fn empty_slot<N: Notices>(&mut self, key: NKey, i: u8, out: &mut N)
+        requires at_rest { IsAtRest self.old }
+        requires within { i < length (slots_placed (cell_at self.old.natives.slots key.0)) }
+        requires owned { (others : List ℕ) × (c : Placed) × (cell_at self.old.natives.slots key.0 ≡ Some c) × IsBalanced (c.number ∷ others) (draining_of (lists_of self.old) []) }
+        ensures empties { EmptiesSlot (lists_of self.old) (lists_of self.new) key.0 i (N.telling out.old) (N.telling out.new) }
+        ensures at_rest { IsAtRest self.new }
+    {
+        let content = write(&mut self.natives, key, i as usize, None);
+        if let Some(held) = content {
+            self.release(held.key(), out);
+        }
+    }
+
+    /// Empties the slots of a native that is owned, in rising order, each content given up before the next slot.
+    fn empty_each<N: Notices>(&mut self, key: NKey, slots: u8, out: &mut N)
+        requires at_rest { IsAtRest self.old }
+        requires slots { slots ≡ length (slots_placed (cell_at self.old.natives.slots key.0)) }
+        requires owned { (others : List ℕ) × (c : Placed) × (cell_at self.old.natives.slots key.0 ≡ Some c) × IsBalanced (c.number ∷ others) (draining_of (lists_of self.old) []) }
+        ensures empties { EmptiesEach (lists_of self.old) (lists_of self.new) key.0 (N.telling out.old) (N.telling out.new) }
+        ensures at_rest { IsAtRest self.new }
+    {
+        for i in 0..slots {
+            self.empty_slot(key, i, out);
+        }
+    }
+
+    /// Tells that a native that is owned is unlinked, and empties its slots.
+    pub(crate) fn unlink<N: Notices>(&mut self, key: NKey, out: &mut N)
+        requires at_rest { IsAtRest self.old }
+        requires live { IsSome (number_at (shows self.old) key.0) }
+        requires owned { CallersOwn (the_number (shows self.old) key.0 ∷ []) (shows self.old) }
+        ensures shows { shows self.new ≡ left_with (shows self.old) (unlink (heap_of (shows self.old)) (the_number (shows self.old) key.0)).heap }
+        ensures told { Tells (N.telling out.old) (N.telling out.new) (texts_of_events (unlink (heap_of (shows self.old)) (the_number (shows self.old) key.0)).events) }
+        ensures at_rest { IsAtRest self.new }
+    {
+        let cell = &self.natives[key.0];
+        let number = cell.number;
+        let slots = cell.slots.len() as u8;
+        out.tell(Item::Event(Event::Unlinked(Name::Native(number))));
+        self.empty_each(key, slots, out);
+    }
+
+    /// Takes out the front of the buffer with its mark.
+    pub(crate) fn select_next(&mut self) -> Option<(NKey, bool)>
+        requires at_rest { IsAtRest self.old }
+        ensures front { MatchOption result ((self.old.buffer.marks ≡ []) × (shows self.new ≡ shows self.old))
+            (λ front. lists_of self.old ≡ record (lists_of self.new) { marks = marked_as front.0.0 front.1 ∷ self.new.buffer.marks }) }
+        ensures at_rest { IsAtRest self.new }
+    {
+        self.buffer.select_next()
+    }
+
+    /// The native at a key goes back into the buffer with the purple mark.
+    pub(crate) fn give_back(&mut self, key: NKey)
+        requires at_rest { IsAtRest self.old }
+        requires live { IsSome (number_at (shows self.old) key.0) }
+        requires owned { CallersOwn [] (shows self.old) }
+        ensures shows { shows self.new ≡ with_heap (shows self.old) (suspect (heap_of (shows self.old)) (the_number (shows self.old) key.0)) }
+        ensures at_rest { IsAtRest self.new }
+    {
+        self.buffer.give_back(key);
+    }
+}

@@ -1,0 +1,81 @@
+use super::*;
+use cc_model::Notebook;
+use cc_names::{NKey, NativeNo};
+use std::test::Fail;
+
+#[test]
+fn native_is_made_and_deleted(rt: HostRuntime) -> Result<(), Fail> {
+    let mut heap = Counted::new(rt.alloc());
+    let mut out = Notebook::new(rt.alloc());
+    assert_eq!(rt; heap.number(NKey(0)), None);
+    assert_eq!(rt; heap.first(), None);
+    let made = heap.create(NativeNo(7), 2);
+    assert!(rt; made.is_ok());
+    if let Ok(key) = made {
+        assert_eq!(rt; heap.number(key), Some(NativeNo(7)));
+        assert_eq!(rt; heap.slots(key), 2);
+        assert_eq!(rt; heap.count(key), 1);
+        assert_eq!(rt; heap.first(), Some(key));
+        assert_eq!(rt; heap.next(key), None);
+        assert!(rt; heap.in_buffer(key));
+        assert!(rt; !heap.purple(key));
+        assert_eq!(rt; heap.first_in_buffer(), Some(key));
+        heap.release(key, &mut out);
+        assert_eq!(rt; heap.number(key), None);
+        assert_eq!(rt; heap.select_next(), None);
+        assert_eq!(rt; out.text(), b"- free #7\n".as_slice());
+    }
+    Ok(())
+}
+
+#[test]
+fn native_holds_itself(rt: HostRuntime) -> Result<(), Fail> {
+    let mut heap = Counted::new(rt.alloc());
+    if let Ok(key) = heap.create(NativeNo(1), 2) {
+        heap.add_ref(key);
+        assert_eq!(rt; heap.count(key), 2);
+        assert_eq!(rt; heap.set_slot(key, 1, Some(Held::Native(key))), None);
+        assert_eq!(rt; heap.slot(key, 1), Some(Held::Native(key)));
+        assert_eq!(rt; heap.slot(key, 0), None);
+        assert_eq!(rt; heap.next_in_buffer(key), None);
+    }
+    Ok(())
+}
+
+#[test]
+fn native_is_taken_from_the_buffer_and_given_back(rt: HostRuntime) -> Result<(), Fail> {
+    let mut heap = Counted::new(rt.alloc());
+    if let Ok(key) = heap.create(NativeNo(1), 0) {
+        if let Some((front, purple)) = heap.select_next() {
+            assert_eq!(rt; front, key);
+            assert!(rt; !purple);
+            heap.give_back(front);
+        }
+        assert!(rt; heap.purple(key));
+    }
+    Ok(())
+}
+
+#[test]
+fn native_is_rooted_and_unrooted(rt: HostRuntime) -> Result<(), Fail> {
+    let mut heap = Counted::new(rt.alloc());
+    let mut out = Notebook::new(rt.alloc());
+    if let Ok(key) = heap.create(NativeNo(1), 0) {
+        heap.root(key);
+        heap.unroot(key, &mut out);
+        assert_eq!(rt; heap.number(key), Some(NativeNo(1)));
+        assert_eq!(rt; out.text(), b"".as_slice());
+    }
+    Ok(())
+}
+
+#[test]
+fn native_is_unlinked(rt: HostRuntime) -> Result<(), Fail> {
+    let mut heap = Counted::new(rt.alloc());
+    let mut out = Notebook::new(rt.alloc());
+    if let Ok(key) = heap.create(NativeNo(1), 1) {
+        heap.unlink(key, &mut out);
+        assert_eq!(rt; out.text(), b"- unlink #1\n".as_slice());
+    }
+    Ok(())
+}
