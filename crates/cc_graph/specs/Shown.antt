@@ -1,0 +1,62 @@
+-- THE GRAPH OF A COLLECTION AS LISTS: nodes by number, noted references, and which nodes are black.
+use Rattle.std.specs.Prelude.{ℕ, suc, ◌+◌, ◌==◌, Bool, true, false, List, [], ◌∷◌, ◌++◌, drop, count_by, position, slice_get, slice_set, Option, Some, None, option_map}
+use Rattle.cc_lists.specs.Members.{has, with_last}
+use Rattle.cc_names.specs.declared.name.Name.{Name}
+use Rattle.cc_names.specs.Names.{same_name}
+use Rattle.cc_counted.specs.declared.held.Held.{Held}
+
+-- the object's name, where it stands in its heap, and its sampled count where it is a native that was traversed
+pub record Vertex : Type 0 where
+  pub name : Name
+  pub held : Held
+  pub sampled : Option ℕ
+
+abbrev pub vertex : Name → Held → Vertex
+vertex name held = record { name = name; held = held; sampled = None }
+
+-- a noted reference: the numbers of the node that has it, and of the one that it leads to
+pub record Edge : Type 0 where
+  pub source : ℕ
+  pub target : ℕ
+
+-- nodes are known by their place, from 0; references in the order in which they were noted, with repeats; the black
+-- nodes in the order in which they became so, each once; and how many references there is room for
+pub record Shown : Type 0 where
+  pub nodes : List Vertex
+  pub edges : List Edge
+  pub blacks : List ℕ
+  pub spare : ℕ
+
+-- the number of the first node of a name, counted on from a number
+abbrev pub number_from : ℕ → List Vertex → Name → Option ℕ
+number_from i [] x = None
+number_from i (v ∷ vs) x = elim (same_name v.name x) [ true ↦ Some i | false ↦ number_from (suc i) vs x ]
+
+abbrev pub number_of : List Vertex → Name → Option ℕ
+number_of vs x = number_from 0 vs x
+
+-- a node of a name goes last, where there is none
+abbrev pub with_vertex : List Vertex → Name → Held → List Vertex
+with_vertex vs x held = elim (number_of vs x) [ Some i ↦ vs | None ↦ vs ++ vertex x held ∷ [] ]
+
+abbrev pub with_sample : ℕ → Vertex → Vertex
+with_sample count v = record v { sampled = Some count }
+
+-- the node at a place changed
+abbrev pub change_vertex : List Vertex → ℕ → (Vertex → Vertex) → List Vertex
+change_vertex vs i f = elim (slice_get vs i) [ None ↦ vs | Some v ↦ slice_set vs i (f v) ]
+
+-- how many noted references lead to a node
+abbrev pub edges_to : List Edge → ℕ → ℕ
+edges_to es i = count_by (λ e. e.target == i) es
+
+abbrev pub is_black : Shown → ℕ → Bool
+is_black g i = has ◌==◌ g.blacks i
+
+-- a node goes last on the list of black ones, once
+abbrev pub with_black : List ℕ → ℕ → List ℕ
+with_black blacks i = with_last ◌==◌ blacks i
+
+-- the first place, from a place on, of a reference that a node has
+abbrev pub place_from : List Edge → ℕ → ℕ → Option ℕ
+place_from es i start = option_map (λ k. start + k) (position (λ e. e.source == i) (drop start es))

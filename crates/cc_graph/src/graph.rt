@@ -1,0 +1,262 @@
+ghost use Rattle.std.specs.Prelude.{◌≡◌, ◌+◌, ◌-◌, ◌<◌, ◌≤◌, ◌^◌, ◌==◌, ◌++◌, [], ◌∷◌, length, slice_get, option_map, IfOk, IfSome, IsOk, IsSome, OnErr, OnOk, Some, vec_capacity};
+ghost use Rattle.cc_graph.specs.Shown.{change_vertex, edges_to, is_black, number_of, place_from, with_black, with_sample, with_vertex};
+ghost use Rattle.cc_graph.specs.Closed.{IsClosed};
+ghost use Rattle.cc_graph.specs.Kept.{IsWhole, vertices};
+
+use crate::node::Node;
+use crate::reference::Reference;
+use cc_counted::Held;
+use cc_names::{Name, NoMemory};
+use std::alloc::Global;
+use std::marker::Model;
+
+/// What a running collection has seen: nodes by number, from 0, noted references between them, and the black nodes.
+#[derive(Drop)]
+pub struct Graph {
+    nodes: Vec<Node>,
+    references: Vec<Reference>,
+    blacks: Vec<u32>,
+}
+
+impl Model for Graph {
+    ghost use Rattle.std.specs.Prelude.{◌-◌, length, vec_capacity};
+    ghost use Rattle.cc_graph.specs.Shown.{Shown};
+    ghost use Rattle.cc_graph.specs.Kept.{IsWhole, vertices};
+
+    ghost Value = { Shown };
+
+    ghost view = { λ g. record {
+      nodes = vertices g.nodes.items;
+      edges = g.references.items;
+      blacks = g.blacks.items;
+      spare = vec_capacity g.references - length g.references.items;
+    } };
+
+    ghost invariant = { λ g. IsWhole g.nodes.items g.references.items g.blacks.items (vec_capacity g.blacks) };
+}
+
+impl Graph {
+    /// A graph with no node and no reference.
+    pub fn new(alloc: Global) -> Graph
+        ensures nodes { result.nodes ≡ [] }
+        ensures edges { result.edges ≡ [] }
+        ensures blacks { result.blacks ≡ [] }
+    {
+        Graph {
+            nodes: Vec::new(alloc),
+            references: Vec::new(alloc),
+            blacks: Vec::new(alloc),
+        }
+    }
+
+    /// The number of the node of `name`, which is made where there is none: it goes last, and its number is how many
+    /// nodes there were. A node that is there stays as it is, also where it is held elsewhere.
+    ///
+    /// `NoMemory` leaves everything as it was. The graph has fewer than 4294967295 nodes.
+    pub fn add_node(&mut self, name: Name, held: Held) -> Result<u32, NoMemory>
+        requires few { length self.old.nodes < 4294967295 }
+        ensures nodes { OnOk result (self.new.nodes ≡ with_vertex self.old.nodes name held) }
+        ensures number { IfOk result (λ i. number_of self.new.nodes name ≡ Some i) }
+        ensures within { IfOk result (λ i. i < length self.new.nodes) }
+        ensures kept { length self.old.nodes ≤ length self.new.nodes }
+        ensures grows { length self.new.nodes ≤ length self.old.nodes + 1 }
+        ensures edges { self.new.edges ≡ self.old.edges }
+        ensures blacks { self.new.blacks ≡ self.old.blacks }
+        ensures spare { self.new.spare ≡ self.old.spare }
+        ensures err { OnErr result (self.new ≡ self.old) }
+        ensures no_need { IsSome (number_of self.old.nodes name) → IsOk result }
+    {
+        if let Some(node) = self.node_of(&name) {
+            return Ok(node);
+        }
+        let number = self.len();
+        self.nodes.reserve(1)?;
+        self.blacks
+            .reserve(self.nodes.len() + 1 - self.blacks.len())?;
+        self.nodes.push_reserved(Node::new(name, held));
+        Ok(number)
+    }
+
+    /// Room for `edges` more references.
+    ///
+    /// `NoMemory` where the room is not to be had; the room is then what it was.
+    pub fn reserve(&mut self, edges: usize) -> Result<(), NoMemory>
+        ensures rest { self.new ≡ record self.old { spare = self.new.spare } }
+        ensures room { OnOk result (edges ≤ self.new.spare) }
+        ensures kept { self.old.spare ≤ self.new.spare }
+        ensures no_need { edges ≤ self.old.spare → IsOk result }
+        ensures err { OnErr result (self.new ≡ self.old) }
+    {
+        self.references.reserve(edges)?;
+        Ok(())
+    }
+
+    /// The node's count was `count` when it was traversed.
+    pub fn sample(&mut self, node: u32, count: u32)
+        requires { node < length self.old.nodes }
+        ensures sampled { self.new ≡ record self.old { nodes = change_vertex self.old.nodes node (with_sample count) } }
+        ensures count { length self.new.nodes ≡ length self.old.nodes }
+    {
+        self.nodes[node as usize].sample(count);
+    }
+
+    /// The node `from` has a reference to the node `to`, noted last. Takes no memory (`reserve` took it).
+    pub fn note_edge(&mut self, from: u32, to: u32)
+        requires from { from < length self.old.nodes }
+        requires to { to < length self.old.nodes }
+        requires room { 0 < self.old.spare }
+        ensures { self.new ≡ record self.old { edges = self.old.edges ++ record { source = from; target = to } ∷ []; spare = self.old.spare - 1 } }
+    {
+        self.references.push_reserved(Reference::new(from, to));
+        self.nodes[to as usize].note();
+    }
+
+    /// The number of the first node of `name`; none where there is none.
+    pub fn node_of(&self, name: &Name) -> Option<u32>
+        ensures number { result ≡ number_of self.now.nodes name.now }
+        ensures within { IfSome result (λ i. i < length self.now.nodes) }
+    {
+        node_of(self.nodes.as_slice(), name)
+    }
+
+    /// How many nodes there are.
+    pub fn len(&self) -> u32
+        ensures count { result ≡ length self.now.nodes }
+        ensures closed { IsClosed self.now }
+    {
+        self.nodes.len() as u32
+    }
+
+    /// Whether there is no node.
+    pub fn is_empty(&self) -> bool
+        ensures { result ≡ (length self.now.nodes == 0) }
+    {
+        self.nodes.is_empty()
+    }
+
+    /// Whether the node is black.
+    pub fn is_black(&self, node: u32) -> bool
+        requires { node < length self.now.nodes }
+        ensures { result ≡ is_black self.now node }
+    {
+        self.nodes[node as usize].is_black()
+    }
+
+    /// The node is black from now on, and goes last on the list of black ones, once. Takes no memory (`add_node` took it).
+    pub fn blacken(&mut self, node: u32)
+        requires { node < length self.old.nodes }
+        ensures { self.new ≡ record self.old { blacks = with_black self.old.blacks node } }
+    {
+        if self.is_black(node) {
+            return;
+        }
+        self.nodes[node as usize].blacken();
+        self.blacks.push_reserved(node);
+    }
+
+    /// The number of a black node by its place on the list of black ones, from 0; none past its end.
+    pub fn black_at(&self, i: u32) -> Option<u32>
+        ensures value { result ≡ slice_get self.now.blacks i }
+        ensures within { IfSome result (λ k. k < length self.now.nodes) }
+        ensures closed { IsClosed self.now }
+    {
+        let node = self.blacks.get(i as usize)?;
+        Some(*node)
+    }
+
+    /// The name of a node, and where its object stands.
+    pub fn node(&self, i: u32) -> (Name, Held)
+        requires { i < length self.now.nodes }
+        ensures name { option_map (λ v. v.name) (slice_get self.now.nodes i) ≡ Some result.0 }
+        ensures held { option_map (λ v. v.held) (slice_get self.now.nodes i) ≡ Some result.1 }
+    {
+        let node = &self.nodes[i as usize];
+        (node.name(), node.held())
+    }
+
+    /// The count that was sampled of a node; none where none was.
+    pub fn sampled(&self, i: u32) -> Option<u32>
+        requires { i < length self.now.nodes }
+        ensures { option_map (λ v. v.sampled) (slice_get self.now.nodes i) ≡ Some result }
+    {
+        self.nodes[i as usize].sampled()
+    }
+
+    /// How many noted references lead to a node, each as often as it was noted.
+    pub fn noted_to(&self, i: u32) -> usize
+        requires { i < length self.now.nodes }
+        ensures { result ≡ edges_to self.now.edges i }
+    {
+        self.nodes[i as usize].noted()
+    }
+
+    /// The numbers of the two nodes of a noted reference, by its place in the order in which they were noted, from 0:
+    /// of the node that has it, and of the one that it leads to. None past the end.
+    pub fn edge(&self, j: usize) -> Option<(u32, u32)>
+        ensures value { option_map (λ e. record { source = e.0; target = e.1 }) result ≡ slice_get self.now.edges j }
+        ensures source_within { IfSome result (λ e. e.0 < length self.now.nodes) }
+        ensures target_within { IfSome result (λ e. e.1 < length self.now.nodes) }
+        ensures closed { IsClosed self.now }
+    {
+        let reference = self.references.get(j)?;
+        Some((reference.source(), reference.target()))
+    }
+
+    /// The place of the first reference that a node has; none where it has none.
+    pub fn first_from(&self, i: u32) -> Option<usize>
+        requires { i < length self.now.nodes }
+        ensures place { result ≡ place_from self.now.edges i 0 }
+        ensures within { IfSome result (λ j. j < length self.now.edges) }
+        ensures source { IfSome result (λ j. option_map (λ e. e.source) (slice_get self.now.edges j) ≡ Some i) }
+    {
+        place_from(self.references.as_slice(), i, 0)
+    }
+
+    /// The next place, behind `j`, of a reference that the same node has as the one at `j`; none where that is its last.
+    pub fn next_from(&self, j: usize) -> Option<usize>
+        requires { j < length self.now.edges }
+        ensures place { option_map (λ e. place_from self.now.edges e.source (j + 1)) (slice_get self.now.edges j) ≡ Some result }
+        ensures within { IfSome result (λ k. k < length self.now.edges) }
+        ensures behind { IfSome result (λ k. j < k) }
+        ensures source { IfSome result (λ k. option_map (λ e. e.source) (slice_get self.now.edges k) ≡ option_map (λ e. e.source) (slice_get self.now.edges j)) }
+    {
+        place_from(
+            self.references.as_slice(),
+            self.references[j].source(),
+            j + 1,
+        )
+    }
+}
+
+/// The number of the first node of a name.
+// O(n) until nodes have an index
+#[tactic(auto, using(crate::proofs::Walks::walks))]
+fn node_of(nodes: &[Node], name: &Name) -> Option<u32>
+    requires { length nodes.now < 2 ^ 32 }
+    ensures number { result ≡ number_of (vertices nodes.now) name.now }
+    ensures within { IfSome result (λ i. i < length nodes.now) }
+{
+    for i in 0..nodes.len() {
+        if nodes[i].is_of(name) {
+            return Some(i as u32);
+        }
+    }
+    None
+}
+
+/// The first place, from `start` on, of a reference that a node has.
+// O(e) until references are chained
+fn place_from(references: &[Reference], node: u32, start: usize) -> Option<usize>
+    requires { start ≤ length references.now }
+    ensures place { result ≡ place_from references.now node start }
+    ensures within { IfSome result (λ j. j < length references.now) }
+    ensures behind { IfSome result (λ j. start ≤ j) }
+    ensures source { IfSome result (λ j. option_map (λ e. e.source) (slice_get references.now j) ≡ Some node) }
+{
+    for j in start..references.len() {
+        if references[j].source() == node {
+            return Some(j);
+        }
+    }
+    None
+}

@@ -1,0 +1,58 @@
+use super::*;
+use cc_counted::Held;
+use cc_names::{NKey, Name, NativeNo};
+use std::test::Fail;
+
+#[test]
+fn nodes_are_known_by_name_and_number(rt: HostRuntime) -> Result<(), Fail> {
+    let mut graph = Graph::new(rt.alloc());
+    let first = Name::Native(NativeNo(7));
+    let second = Name::Native(NativeNo(2));
+    assert!(rt; graph.is_empty());
+    assert_eq!(rt; graph.add_node(first, Held::Native(NKey(4))), Ok(0));
+    assert_eq!(rt; graph.add_node(second, Held::Native(NKey(1))), Ok(1));
+    assert_eq!(rt; graph.add_node(first, Held::Native(NKey(9))), Ok(0));
+    assert_eq!(rt; graph.len(), 2);
+    assert_eq!(rt; graph.node_of(&second), Some(1));
+    assert_eq!(rt; graph.node_of(&Name::Reflector(NativeNo(2))), None);
+    assert_eq!(rt; graph.node(0), (first, Held::Native(NKey(4))));
+    graph.sample(1, 5);
+    assert_eq!(rt; graph.sampled(0), None);
+    assert_eq!(rt; graph.sampled(1), Some(5));
+    Ok(())
+}
+
+#[test]
+fn references_are_noted_as_often_as_they_are_held(rt: HostRuntime) -> Result<(), Fail> {
+    let mut graph = Graph::new(rt.alloc());
+    let one = graph.add_node(Name::Native(NativeNo(1)), Held::Native(NKey(0)))?;
+    let other = graph.add_node(Name::Native(NativeNo(2)), Held::Native(NKey(1)))?;
+    assert_eq!(rt; graph.reserve(3), Ok(()));
+    graph.note_edge(one, other);
+    graph.note_edge(other, one);
+    graph.note_edge(one, other);
+    assert_eq!(rt; graph.noted_to(one), 1);
+    assert_eq!(rt; graph.noted_to(other), 2);
+    assert_eq!(rt; graph.edge(1), Some((other, one)));
+    assert_eq!(rt; graph.edge(3), None);
+    assert_eq!(rt; graph.first_from(one), Some(0));
+    assert_eq!(rt; graph.next_from(0), Some(2));
+    assert_eq!(rt; graph.next_from(2), None);
+    Ok(())
+}
+
+#[test]
+fn nodes_become_black_once(rt: HostRuntime) -> Result<(), Fail> {
+    let mut graph = Graph::new(rt.alloc());
+    let one = graph.add_node(Name::Native(NativeNo(1)), Held::Native(NKey(0)))?;
+    let other = graph.add_node(Name::Native(NativeNo(2)), Held::Native(NKey(1)))?;
+    graph.blacken(other);
+    assert!(rt; !graph.is_black(one));
+    graph.blacken(one);
+    graph.blacken(other);
+    assert!(rt; graph.is_black(other));
+    assert_eq!(rt; graph.black_at(0), Some(1));
+    assert_eq!(rt; graph.black_at(1), Some(0));
+    assert_eq!(rt; graph.black_at(2), None);
+    Ok(())
+}
