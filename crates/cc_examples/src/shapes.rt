@@ -1,38 +1,119 @@
 use crate::script::{replays, source_of, widest};
 use cc_replay::Status;
+use std::alloc::{AllocError, Global};
+use std::process::Abort;
 use std::test::Fail;
+
+/// A script, and what it answers.
+#[derive(Drop)]
+struct Play {
+    script: Vec<u8>,
+    wanted: Vec<u8>,
+}
+
+impl Play {
+    fn new(alloc: Global) -> Play {
+        Play {
+            script: Vec::new(alloc),
+            wanted: Vec::new(alloc),
+        }
+    }
+
+    /// Lines of the script, and the lines that answer them.
+    fn ask(&mut self, lines: &str, answers: &str) -> Result<(), AllocError> {
+        self.script.extend_from_slice(lines.as_bytes())?;
+        self.wanted.extend_from_slice(answers.as_bytes())
+    }
+
+    fn runs(self, rt: &(impl Abort + AllocGlobal), name: &str) -> Result<(), Fail> {
+        let mut source = source_of(rt.alloc(), self.script);
+        let wanted = self.wanted.as_slice();
+        replays(rt, name, widest(), &mut source, wanted, Status::Done)
+    }
+}
 
 /// Each native holds the one before it; the last command gives up the last reference to the last of them.
 #[test]
 fn a_chain_of_ten_thousand_is_freed_by_one_drop(rt: HostRuntime) -> Result<(), Fail> {
     let length = 10000u32;
-    let mut script = b"native n0 1\n".to_vec(rt.alloc())?;
-    let mut wanted = b"= #1\n".to_vec(rt.alloc())?;
+    let mut play = Play::new(rt.alloc());
+    play.ask("native n0 1\n", "= #1\n")?;
     for k in 2..length + 1 {
         let (to, from) = if k % 2 == 0 {
             ("n1", "n0")
         } else {
             ("n0", "n1")
         };
-        script.extend_from_slice(format!(in rt.alloc();
-            "native {to} 1\nset {to} 0 {from}\n"
-        )?.as_bytes())?;
-        wanted.extend_from_slice(format!(in rt.alloc(); "= #{k}\n= ok\n")?.as_bytes())?;
+        play.ask(
+            format!(in rt.alloc(); "native {to} 1\nset {to} 0 {from}\n")?.as_str(),
+            format!(in rt.alloc(); "= #{k}\n= ok\n")?.as_str(),
+        )?;
     }
-    script.extend_from_slice(b"drop n0\ndrop n1\ncensus\n")?;
-    wanted.extend_from_slice(b"= ok\n")?;
+    play.ask("drop n0\ndrop n1\ncensus\n", "= ok\n")?;
     for k in 0..length {
         let number = length - k;
-        wanted.extend_from_slice(format!(in rt.alloc(); "- free #{number}\n")?.as_bytes())?;
+        play.ask("", format!(in rt.alloc(); "- free #{number}\n")?.as_str())?;
     }
-    wanted.extend_from_slice(b"= ok\n= census 0\n")?;
-    let mut source = source_of(rt.alloc(), script);
-    replays(
-        &rt,
-        "a chain",
-        widest(),
-        &mut source,
-        wanted.as_slice(),
-        Status::Done,
-    )
+    play.ask("", "= ok\n= census 0\n")?;
+    play.runs(&rt, "a chain")
+}
+
+/// Natives 1 to `length`, each of which holds the one before it. The first is in n0 and the last in n1.
+fn grown(alloc: Global, length: u16) -> Result<Play, AllocError> {
+    let mut play = Play::new(alloc);
+    play.ask("native n0 1\ncopy n1 n0\n", "= #1\n= #1\n")?;
+    for k in 2..length as u32 + 1 {
+        play.ask(
+            "native n2 1\nset n2 0 n1\ncopy n1 n2\n",
+            format!(in alloc; "= #{k}\n= ok\n= #{k}\n")?.as_str(),
+        )?;
+    }
+    play.ask("drop n2\n", "= ok\n")?;
+    Ok(play)
+}
+
+/// Natives 1 to `length` are collected by one `collect`, and nothing is left.
+fn collected(alloc: Global, length: u16, play: &mut Play) -> Result<(), AllocError> {
+    play.ask("collect\ncensus\n", "")?;
+    for k in 1..length as u32 + 1 {
+        play.ask("", format!(in alloc; "- unlink #{k}\n")?.as_str())?;
+    }
+    for k in 1..length as u32 + 1 {
+        play.ask("", format!(in alloc; "- free #{k}\n")?.as_str())?;
+    }
+    play.ask("", "= ok\n= census 0\n")
+}
+
+#[test]
+fn a_ring_of_two_thousand_is_collected_by_one_collect(rt: HostRuntime) -> Result<(), Fail> {
+    let length = 2000u16;
+    let mut play = grown(rt.alloc(), length)?;
+    play.ask("set n0 0 n1\ndrop n0\ndrop n1\n", "= ok\n= ok\n= ok\n")?;
+    collected(rt.alloc(), length, &mut play)?;
+    play.runs(&rt, "a ring")
+}
+
+/// The last native of a chain is held by a native that holds itself.
+#[test]
+fn a_chain_that_hangs_from_a_ring_is_collected_by_one_collect(rt: HostRuntime) -> Result<(), Fail> {
+    let length = 1000u16;
+    let mut play = grown(rt.alloc(), length - 1)?;
+    play.ask(
+        "native n2 2\nset n2 0 n2\nset n2 1 n1\n",
+        format!(in rt.alloc(); "= #{length}\n= ok\n= ok\n")?.as_str(),
+    )?;
+    play.ask("drop n0\ndrop n1\ndrop n2\n", "= ok\n= ok\n= ok\n")?;
+    collected(rt.alloc(), length, &mut play)?;
+    play.runs(&rt, "a chain at a ring")
+}
+
+/// A register holds the ring: it is looked at and kept.
+#[test]
+fn a_ring_that_is_held_is_kept(rt: HostRuntime) -> Result<(), Fail> {
+    let mut play = grown(rt.alloc(), 3)?;
+    play.ask(
+        "set n0 0 n1\ndrop n0\ncollect\ncensus\n",
+        "= ok\n= ok\n= ok\n+ #1\n+ #2\n+ #3\n= census 3\n",
+    )?;
+    play.runs(&rt, "a ring that is held")
 }

@@ -12,7 +12,7 @@ struct Example {
     answers: &'static str,
 }
 
-const EXAMPLES: [Example; 5] = [
+const EXAMPLES: [Example; 9] = [
     Example {
         name: "self_cycle_outlives_its_register",
         natives: Limits::MOST,
@@ -24,6 +24,30 @@ const EXAMPLES: [Example; 5] = [
         natives: Limits::MOST,
         script: "native n0 1 / native n1 0 / set n0 0 n1 / drop n1 / drop n0",
         answers: "= #1 / = #2 / = ok / = ok / - free #1 / - free #2 / = ok",
+    },
+    Example {
+        name: "empty_slot_reads_none",
+        natives: Limits::MOST,
+        script: "native n0 1 / get n1 n0 0 / set n0 0 n0 / get n1 n0 0 / drop n0 / drop n1 / census",
+        answers: "= #1 / = none / = ok / = #1 / = ok / = ok / + #1 / = census 1",
+    },
+    Example {
+        name: "self_cycle_is_collected",
+        natives: Limits::MOST,
+        script: "native n0 1 / set n0 0 n0 / drop n0 / census / collect / census",
+        answers: "= #1 / = ok / = ok / + #1 / = census 1 / - unlink #1 / - free #1 / = ok / = census 0",
+    },
+    Example {
+        name: "two_cycle_is_collected",
+        natives: Limits::MOST,
+        script: "native n0 1 / native n1 1 / set n0 0 n1 / set n1 0 n0 / drop n0 / drop n1 / collect",
+        answers: "= #1 / = #2 / = ok / = ok / = ok / = ok / - unlink #1 / - unlink #2 / - free #1 / - free #2 / = ok",
+    },
+    Example {
+        name: "held_cycle_is_kept",
+        natives: Limits::MOST,
+        script: "native n0 1 / native n1 1 / set n0 0 n1 / set n1 0 n0 / drop n1 / collect / census",
+        answers: "= #1 / = #2 / = ok / = ok / = ok / = ok / + #1 / + #2 / = census 2",
     },
     Example {
         name: "full_counts_what_was_ever_made",
@@ -77,8 +101,29 @@ fn an_empty_input_writes_nothing(rt: HostRuntime) -> Result<(), Fail> {
 
 #[test]
 fn words_are_taken_or_nothing_is_read(rt: HostRuntime) -> Result<(), Fail> {
-    let table: [(&[&str], Status, &[u8]); 4] = [
+    let table: [(&[&str], Status, &[u8]); 9] = [
         (&["ccreplay", "replay"], Status::Done, b"= #1\n"),
+        (
+            &["ccreplay", "replay", "--natives", "1", "--bytes=12"],
+            Status::Done,
+            b"= #1\n",
+        ),
+        (
+            &["ccreplay", "replay", "--natives", "0"],
+            Status::Done,
+            b"! full\n",
+        ),
+        (
+            &["ccreplay", "replay", "--natives", "1000001"],
+            Status::Usage,
+            b"",
+        ),
+        (
+            &["ccreplay", "replay", "--bytes", "4294967296"],
+            Status::Usage,
+            b"",
+        ),
+        (&["ccreplay", "replay", "--help"], Status::Usage, b""),
         (&["ccreplay"], Status::Usage, b""),
         (&[], Status::Usage, b""),
         (&["ccreplay", "play"], Status::Usage, b""),

@@ -1,7 +1,7 @@
 ghost use Rattle.std.specs.Prelude.{◌≡◌, ◌<◌, [], ◌∷◌, length, IsTrue, IfSome};
 ghost use Rattle.cc_model.specs.Lines.{without_return};
 ghost use Rattle.cc_model.specs.Tokens.{tokens_of};
-ghost use Rattle.cc_model.specs.Forms.{census_form, copy_native_form, drop_native_form, get_native_form, native_form, set_native_form, set_none_form};
+ghost use Rattle.cc_model.specs.Forms.{census_form, collect_form, copy_native_form, drop_native_form, get_native_form, native_form, set_native_form, set_none_form};
 ghost use Rattle.cc_model.specs.Ranges.{in_range};
 ghost use Rattle.cc_model.specs.Asks.{command_in, command_of};
 ghost use Rattle.cc_reader.specs.FormsNow.{forms_now, is_known};
@@ -92,6 +92,18 @@ fn read_get(after: &[u8]) -> Option<Command>
     Some(Command::Get(Reg::N(register), from, slot))
 }
 
+/// What stands behind the word `collect`.
+fn read_collect(after: &[u8]) -> Option<Command>
+    ensures form { result ≡ first_read (collect_form ∷ []) (tokens_of after.now) }
+    ensures known { IfSome result (λ c. IsTrue (is_known c)) }
+    ensures in_range { IfSome result (λ c. IsTrue (in_range c)) }
+{
+    match next_token(after) {
+        None => Some(Command::Collect),
+        Some(_) => None,
+    }
+}
+
 /// What stands behind the word `census`.
 fn read_census(after: &[u8]) -> Option<Command>
     ensures form { result ≡ first_read (census_form ∷ []) (tokens_of after.now) }
@@ -120,6 +132,8 @@ fn read_word(word: &[u8], after: &[u8]) -> Option<Command>
         read_set(after)
     } else if word == b"get".as_slice() {
         read_get(after)
+    } else if word == b"collect".as_slice() {
+        read_collect(after)
     } else if word == b"census".as_slice() {
         read_census(after)
     } else {

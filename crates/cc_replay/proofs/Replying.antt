@@ -21,7 +21,7 @@ use Rattle.cc_replay.specs.Answered.{IsAnswered}
 use Rattle.cc_replay.specs.Changes.{command_of, IsCarriedOut}
 use Rattle.cc_replay.specs.declared.natives.change.Change.{Change}
 use Rattle.cc_replay.specs.declared.natives.change.Change.TheVariants.{Make, Copy, Drop, Set, Get}
-use Rattle.cc_replay.proofs.Drains.{told-last}
+use Rattle.cc_replay.proofs.Tellings.{told-last}
 
 -- the machine between asks, where memory answers this
 abbrev machine_with : Heap → List Bool → Machine

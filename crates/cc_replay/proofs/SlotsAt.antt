@@ -1,158 +1,91 @@
--- SLOTS OF WHAT A REGISTER HOLDS, BY PLACE, and references taken up.
-use Rattle.std.proofs.Common.{◌≡◌, ℕ, ◌+◌, ◌-◌, ◌<◌, ◌≤◌, false, List, [], ◌∷◌, ◌++◌, map, length, set, get_or, Option, Some, None, option_map, refl, sym, ◌∙◌, ap, subst, inl, arith, if◌then◌else◌, ◌==◌, length-set, vec_capacity}
-use Rattle.std.specs.Option.{option_and_then}
-use Rattle.std.proofs.lemmas.List.{length-map}
-use Rattle.cc_lists.specs.Members.{Among}
-use Rattle.cc_names.specs.declared.number.NativeNo.{NativeNo}
+-- THE SLOTS OF WHAT A REGISTER HOLDS, by its key.
+use Rattle.std.proofs.Common.{◌≡◌, ℕ, zero, ◌<◌, List, [], ◌++◌, length, get_or, Option, Some, None, option_map, sym, ◌∙◌, ap, subst, arith}
+use Rattle.cc_names.specs.Allowance.{Allowance}
 use Rattle.cc_names.specs.declared.name.Name.{Name}
-use Rattle.cc_names.specs.declared.name.Name.TheVariants as name
+use Rattle.cc_names.specs.declared.number.NKey.{NKey}
 use Rattle.cc_names.specs.declared.register.Reg.TheVariants.{N}
-use Rattle.cc_names.specs.Names.{native}
-use Rattle.cc_model.specs.Checks.{slots_or_none, slots_at, slot_at}
-use Rattle.cc_model.specs.Heap.{Heap, HeapNative, native_at, slots_in, register, set_slot, change_native, with_native_slot, with_mark, objects_of}
-use Rattle.cc_model.specs.Cascade.{add_ref}
-use Rattle.cc_model.specs.WellFormed.{IsWellFormed, native_names, names_there}
-use Rattle.cc_laws_heap.specs.Sound.{IsSound}
-use Rattle.cc_laws_heap.proofs.Natives.{native_at-there, named-found}
-use Rattle.cc_laws_heap.proofs.Counted.{count_of}
-use Rattle.cc_laws_heap.proofs.CountBound.{count-bound}
-use Rattle.cc_laws_heap.proofs.Cascades.{IsBalanced-at_rest}
-use Rattle.cc_laws_heap.proofs.Owning.{numbers_of, IsIn, add_ref-sound}
-use Rattle.cc_laws_heap.proofs.Writes.{native_slot-sound}
-use Rattle.cc_laws_heap.proofs.NativeCommands.{HasSlot}
-use Rattle.cc_replay.specs.Counted.{Counted, named, numbered, raised, with_slot, natives_after}
-use Rattle.cc_replay.specs.Counted as counted
-use Rattle.cc_replay.specs.Parts.{heap_with, heap_of, IsAtRest}
-use Rattle.cc_replay.specs.declared.natives.parts.Parts.{Parts}
-use Rattle.cc_replay.proofs.Fitting.{buffer-fits}
-use Rattle.cc_replay.proofs.Places.{changed-at, natives-few}
-use Rattle.cc_replay.proofs.Stepping.{with_natives}
-use Rattle.cc_replay.proofs.PartsAt.{count-at_place}
-use Rattle.cc_laws_heap.proofs.Holding.{native_register-there}
-use Rattle.cc_replay.proofs.FreeAt.{some-within, found-above, found-there}
+use Rattle.cc_names.specs.Names.{native, number_of}
+use Rattle.cc_model.specs.Checks.{slots_at}
+use Rattle.cc_model.specs.Heap.{register, set_slot, objects_of, native_at}
+use Rattle.cc_laws_heap.proofs.Natives.{native_at-there}
+use Rattle.cc_laws_heap.proofs.Owning.{numbers_of}
+use Rattle.cc_laws_heap.proofs.NativeCommands.{HasSlot, HasSlot-from}
+use Rattle.cc_counted.specs.declared.held.Held.{Held}
+use Rattle.cc_counted.specs.Counts.{Counts, number_or_none, name_of, numbers_held, slots_of, with_heap, heap_of}
+use Rattle.cc_counted.specs.Counts as counts
+use Rattle.cc_counted.specs.Owning.{CallersOwn}
+use Rattle.cc_replay.specs.Keyed.{Keyed, IsInOrder, counts_of, the_number}
+use Rattle.cc_replay.specs.Parts.{named, held_by, IsLive, AreLive, keyed_with}
+use Rattle.cc_replay.proofs.Ordered.{IsInOrder-slot}
+use Rattle.cc_replay.proofs.Owned.{callers-own-some}
+use Rattle.cc_replay.proofs.Registers.{named-there, name-held, numbers-held}
 
--- Slots
+-- the number in a name that is there
+abbrev number_in : Option Name → ℕ
+number_in None = zero
+number_in (Some x) = number_of x
 
-module _ (h : Heap) (r i : ℕ) (f : HasSlot h r i) where
-  -- what the slot holds
-  pub slot-is : slot_at (objects_of h) (N r) i ≡ get_or f.there.slots i None
-  slot-is =
-      ap (λ (o : Option Name). get_or (slots_or_none (option_and_then (slots_in h) o)) i None) f.held
-      ∙ ap (λ (o : Option HeapNative). get_or (slots_or_none (option_map (λ n. n.slots) o)) i None) f.found
+module _ (owned : List ℕ) (v : Keyed) (o : IsInOrder owned v) (r i : ℕ) (slot : i < length (slots_at (objects_of v.heap) (N r))) where
+  pub found-slot : HasSlot v.heap r i
+  found-slot = HasSlot-from v.heap r i o.sound.well_formed slot
 
-  pub set_slot-is : (x : Option Name) → set_slot h (register h (N r)) i x ≡ change_native h f.number (with_native_slot i x)
-  set_slot-is x = ap (λ (o : Option Name). set_slot h o i x) f.held
+  -- a slot's number is below 64
+  pub slot-few : i < 64
+  slot-few = omega (arith, found-slot.room, o.sound.well_formed.native_slots found-slot.there (native_at-there v.heap found-slot.number found-slot.there found-slot.found))
 
-  -- a slot written, whose new reference is owned: what it held is owned
-  pub slot-sound : (x : Option Name) → IsIn (names_there h) x → IsSound (numbers_of x ++ []) h →
-      IsSound (numbers_of (slot_at (objects_of h) (N r) i) ++ []) (set_slot h (register h (N r)) i x)
-  slot-sound x there s =
-      subst (λ y. IsSound (numbers_of y ++ []) (set_slot h (register h (N r)) i x)) (sym slot-is)
-      (subst (IsSound (numbers_of (get_or f.there.slots i None) ++ [])) (sym (set_slot-is x))
-      (native_slot-sound [] h f.number i f.there x f.found f.room there s))
+  module _ (key : NKey) (here : named v.keys (Some key) ≡ register v.heap (N r)) where
+    -- it is the native at the key
+    same-number : the_number v key.0 ≡ found-slot.number
+    same-number = go (get_or v.keys key.0 None) (here ∙ found-slot.held)
+      where
+        go : (x : Option ℕ) → option_map native x ≡ Some (native found-slot.number) → number_or_none x ≡ found-slot.number
+        go None e = absurd (cc)
+        go (Some k) e = ap number_in e
 
-module _ (p : Parts) (r i : ℕ) (k : NativeNo) (here : named (Some k) ≡ register (heap_of p) (N r)) (f : HasSlot (heap_of p) r i) where
-  same-number : f.number ≡ k.0
-  same-number = let e : Some (name.Native (record { 0 = f.number })) ≡ Some (name.Native k) = sym f.held ∙ sym here in cc
+    pub found-here : native_at v.heap (the_number v key.0) ≡ Some found-slot.there
+    found-here = ap (native_at v.heap) same-number ∙ found-slot.found
 
-  found-here : native_at (heap_of p) k.0 ≡ Some f.there
-  found-here = ap (native_at (heap_of p)) (sym same-number) ∙ f.found
+    pub slots-here : slots_of (counts_of v) key.0 ≡ found-slot.there.slots
+    slots-here = ap counts.slots_at found-here
 
-  pub held-above : 1 ≤ k.0
-  held-above = found-above p k.0 f.there found-here
+-- what is owned may be put into a slot
+pub own-content : (c : Counts) (registers : List (Option NKey)) (made : ℕ) (limits : Allowance) (x : Option NKey) (item : Option Held) → item ≡ held_by x →
+    IsLive c.keys x → IsInOrder (numbers_of (named c.keys x) ++ []) (keyed_with registers c made limits) → CallersOwn (numbers_held c item) c
+own-content c registers made limits x item is live o =
+    subst (λ ks. CallersOwn ks c) (sym (ap (numbers_held c) is ∙ numbers-held c x live))
+    (callers-own-some (numbers_of (named c.keys x)) [] (keyed_with registers c made limits) o)
 
-  -- the slots of the native at its place
-  pub slots-here : (place : ℕ) → place ≡ k.0 - 1 → counted.slots_in (get_or p.cells.items place None) ≡ f.there.slots
-  slots-here place e =
-      let c = found-there p k.0 f.there found-here in
-      ap (λ j. counted.slots_in (get_or p.cells.items j None)) e ∙ (ap counted.slots_in c.1 ∙ ap (λ n. n.slots) c.2)
+-- A slot written: what it held is in hand.
+module _ (c next : Counts) (registers : List (Option NKey)) (made : ℕ) (limits : Allowance) (r i : ℕ) (key : NKey) (x was : Option NKey) (item held : Option Held)
+    (o : IsInOrder (numbers_of (named c.keys x) ++ []) (keyed_with registers c made limits))
+    (slot : i < length (slots_at (objects_of (keyed_with registers c made limits).heap) (N r)))
+    (here : named c.keys (Some key) ≡ register (keyed_with registers c made limits).heap (N r))
+    (is : item ≡ held_by x) (was_is : held_by was ≡ held)
+    (after : next ≡ with_heap c (set_slot (heap_of c) (Some (native (counts.the_number c key.0))) i (name_of c item)))
+    (read : name_of c held ≡ get_or (slots_of c key.0) i None) where
+  abbrev v : Keyed
+  v = keyed_with registers c made limits
 
-  -- the slot written at its place
-  pub written-here : (place : ℕ) → place ≡ k.0 - 1 → (x : Option Name) →
-      heap_with (map named p.registers.items) (set p.cells.items place (option_map (with_slot i x) (get_or p.cells.items place None))) p.buffer.items p.limits
-      ≡ set_slot (heap_of p) (register (heap_of p) (N r)) i x
-  written-here place e x =
-      let after : List (Option Counted) = set p.cells.items place (option_map (with_slot i x) (get_or p.cells.items place None)) in
-      sym (
-      set_slot-is (heap_of p) r i f x
-      ∙ (ap (λ j. change_native (heap_of p) j (with_native_slot i x)) same-number
-      ∙ with_natives (map named p.registers.items) p.cells.items p.buffer.items p.limits after p.buffer.items
-      (map (λ (n : HeapNative). if n.number == k.0 then with_native_slot i x n else n) (natives_after 0 p.cells.items))
-      (changed-at (with_native_slot i x) (with_slot i x) (λ j c. refl) 0 k.0 p.cells.items place (omega (arith, held-above)))
-      (length-set p.cells.items place (option_map (with_slot i x) (get_or p.cells.items place None))))
-      )
+  abbrev found : HasSlot v.heap r i
+  found = found-slot (numbers_of (named c.keys x) ++ []) v o r i slot
 
--- References taken up
+  -- what it held, by name
+  was-named : named c.keys was ≡ get_or found.there.slots i None
+  was-named = sym (name-held c was) ∙ (ap (name_of c) was_is ∙ (read ∙ ap (λ ss. get_or ss i None) (slots-here (numbers_of (named c.keys x) ++ []) v o r i slot key here)))
 
-module _ (p : Parts) (k : NativeNo) (rest : IsAtRest p) (there : IsIn (native_names (heap_of p)) (Some (name.Native k))) where
-  known : Among (native k.0) (native_names (heap_of p))
-  known = there (name.Native k) (inl refl)
+  item-named : name_of c item ≡ named c.keys x
+  item-named = ap (name_of c) is ∙ name-held c x
 
-  found : (n : HeapNative) × (native_at (heap_of p) k.0 ≡ Some n)
-  found = named-found (heap_of p) k.0 known
+  same-keys : next.keys ≡ c.keys
+  same-keys = ap (λ (d : Counts). d.keys) after
 
-  pub known-above : 1 ≤ k.0
-  known-above = found-above p k.0 found.0 found.1
+  pub slot-order : IsInOrder (numbers_of (named next.keys was) ++ []) (keyed_with registers next made limits)
+  slot-order =
+      subst (λ y. IsInOrder (numbers_of y ++ []) (keyed_with registers next made limits)) (sym (ap (λ keys. named keys was) same-keys ∙ was-named))
+      (subst (λ d. IsInOrder (numbers_of (get_or found.there.slots i None) ++ []) (keyed_with registers d made limits))
+      (sym (after ∙ ap (λ y. with_heap c (set_slot (heap_of c) (Some (native (counts.the_number c key.0))) i y)) item-named))
+      (IsInOrder-slot v (the_number v key.0) i found.there (named c.keys x) (found-here (numbers_of (named c.keys x) ++ []) v o r i slot key here) found.room
+      (named-there c x o.keyed) o))
 
-  pub known-counted : (place : ℕ) → place ≡ k.0 - 1 → 1 ≤ counted.count_in (get_or p.cells.items place None)
-  known-counted place e =
-      omega (
-        arith,
-        rest.sound.none_zero found.0 (native_at-there (heap_of p) k.0 found.0 found.1),
-        count-at_place p k.0 place known-above e,
-        ap count_of found.1,
-      )
-
-  pub known-few : (place : ℕ) → place ≡ k.0 - 1 → counted.count_in (get_or p.cells.items place None) < 4294967295
-  known-few place e =
-      omega (
-        arith,
-        count-bound [] (heap_of p) found.0 rest.sound rest.few (native_at-there (heap_of p) k.0 found.0 found.1),
-        count-at_place p k.0 place known-above e,
-        ap count_of found.1,
-      )
-
-  pub marked-fits : length (with_mark false k.0 p.buffer.items) ≤ vec_capacity p.buffer
-  marked-fits =
-      omega (
-        arith,
-        buffer-fits (k.0 ∷ []) _ (IsBalanced-at_rest (k.0 ∷ []) (add_ref (heap_of p) k.0) (add_ref-sound [] (heap_of p) k.0 known rest.sound)),
-        length-map (natives_after 0 p.cells.items) (λ (n : HeapNative). if n.number == k.0 then record n { count = n.count + 1 } else n),
-        natives-few 0 p.cells.items,
-        rest.room.buffer,
-      )
-
-  -- one reference more at its place
-  pub raised-here : (place : ℕ) → place ≡ k.0 - 1 →
-      heap_with (map named p.registers.items) (set p.cells.items place (option_map raised (get_or p.cells.items place None))) (with_mark false k.0 p.buffer.items) p.limits
-      ≡ add_ref (heap_of p) k.0
-  raised-here place e =
-      let after : List (Option Counted) = set p.cells.items place (option_map raised (get_or p.cells.items place None)) in
-      sym (
-      with_natives (map named p.registers.items) p.cells.items p.buffer.items p.limits after (with_mark false k.0 p.buffer.items)
-      (map (λ (n : HeapNative). if n.number == k.0 then record n { count = n.count + 1 } else n) (natives_after 0 p.cells.items))
-      (changed-at (λ (n : HeapNative). record n { count = n.count + 1 }) raised (λ j c. refl) 0 k.0 p.cells.items place (omega (arith, known-above)))
-      (length-set p.cells.items place (option_map raised (get_or p.cells.items place None)))
-      )
-
--- What a register holds, by place
-
-module _ (p : Parts) (r : ℕ) (k : NativeNo) (here : named (Some k) ≡ register (heap_of p) (N r)) (w : IsWellFormed (heap_of p)) where
-  held-found : (n : HeapNative) × (native_at (heap_of p) k.0 ≡ Some n)
-  held-found = named-found (heap_of p) k.0
-      (subst (IsIn (native_names (heap_of p))) (sym here) (native_register-there (heap_of p) r w) (name.Native k) (inl refl))
-
-  pub register-above : 1 ≤ k.0
-  register-above = found-above p k.0 held-found.0 held-found.1
-
-  pub register-within : k.0 - 1 < length p.cells.items
-  register-within =
-      let c = found-there p k.0 held-found.0 held-found.1 in
-      some-within p.cells.items (k.0 - 1) c.0 c.1
-
-  pub slots_at-place : (place : ℕ) → place ≡ k.0 - 1 → slots_at (objects_of (heap_of p)) (N r) ≡ counted.slots_in (get_or p.cells.items place None)
-  slots_at-place place e =
-      let c = found-there p k.0 held-found.0 held-found.1 in
-      ap (λ (o : Option Name). slots_or_none (option_and_then (slots_in (heap_of p)) o)) (sym here)
-      ∙ (ap (λ (o : Option HeapNative). slots_or_none (option_map (λ n. n.slots) o)) held-found.1
-      ∙ sym (ap (λ j. counted.slots_in (get_or p.cells.items j None)) e ∙ (ap counted.slots_in c.1 ∙ ap (λ n. n.slots) c.2)))
+  pub slot-live : AreLive c.keys registers → AreLive next.keys registers
+  slot-live live = subst (λ keys. AreLive keys registers) (sym same-keys) live

@@ -1,71 +1,77 @@
--- THE LISTS THAT THE PARTS OF THE NATIVES STAND FOR.
-use Rattle.std.specs.Prelude.{◌≡◌, ℕ, ◌≤◌, List, [], ◌∷◌, map, length, Option, vec_capacity}
-use Rattle.std.specs.VecDeque.{deque_capacity}
+-- THE HEAPS WITH THEIR KEYS THAT THE PARTS OF THE NATIVES STAND FOR.
+use Rattle.std.specs.Prelude.{ℕ, List, [], map, Option, Some, None, IsSome, option_map, slice_index_or}
+use Rattle.cc_lists.specs.Members.{Among}
 use Rattle.cc_names.specs.Allowance.{Allowance}
-use Rattle.cc_names.specs.declared.number.NativeNo.{NativeNo}
-use Rattle.cc_model.specs.declared.item.Event.{Event}
+use Rattle.cc_names.specs.declared.number.NKey.{NKey}
+use Rattle.cc_names.specs.declared.name.Name.{Name}
+use Rattle.cc_names.specs.Names.{native}
 use Rattle.cc_model.specs.Slots.{Slots, empty_slots}
-use Rattle.cc_model.specs.Heap.{Heap, Buffered}
-use Rattle.cc_model.specs.Cascade.{Draining}
-use Rattle.cc_laws_heap.specs.Sound.{IsSound}
-use Rattle.cc_replay.specs.Counted.{Counted, named, natives_after}
+use Rattle.cc_model.specs.Heap.{Heap}
+use Rattle.cc_counted.specs.declared.held.Held.{Held}
+use Rattle.cc_counted.specs.declared.held.Held.TheVariants.{Native}
+use Rattle.cc_counted.specs.Counts.{Counts}
+use Rattle.cc_replay.specs.Keyed.{Keyed, IsInOrder}
 use Rattle.cc_replay.specs.declared.natives.parts.Parts.{Parts}
 
 -- no script register holds anything
 unfoldable pub no_scripts : Slots
 no_scripts = empty_slots 256
 
+-- which native stands at which key
+abbrev pub Keys : Type 0
+Keys = List (Option ℕ)
+
+-- the name of what a register or a slot holds
+abbrev pub named : Keys → Option NKey → Option Name
+named keys None = None
+named keys (Some key) = option_map native (slice_index_or keys key.0 None)
+
+-- what a register holds, as a slot holds it
+abbrev pub held_by : Option NKey → Option Held
+held_by None = None
+held_by (Some key) = Some (Native key)
+
+-- what is held is there
+abbrev pub IsLive : Keys → Option NKey → Type 0
+IsLive keys None = Unit {0}
+IsLive keys (Some key) = IsSome (slice_index_or keys key.0 None)
+
+-- what registers hold is there
+abbrev pub AreLive : Keys → List (Option NKey) → Type 0
+AreLive keys registers = (x : Option NKey) → Among x registers → IsLive keys x
+
 -- the heaps of natives alone
-abbrev pub heap_with : Slots → List (Option Counted) → List Buffered → Allowance → Heap
-heap_with registers cells buffer limits = record {
+abbrev pub heap_with : Slots → Counts → ℕ → Allowance → Heap
+heap_with registers c made limits = record {
   native_registers = registers;
   script_registers = no_scripts;
-  natives = natives_after 0 cells;
+  natives = c.natives;
   scripts = [];
   entries = [];
-  buffer = buffer;
-  natives_made = length cells;
+  buffer = c.buffer;
+  natives_made = made;
   scripts_made = 0;
   limits = limits;
 }
 
+abbrev pub keyed_with : List (Option NKey) → Counts → ℕ → Allowance → Keyed
+keyed_with registers c made limits = record { heap = heap_with (map (named c.keys) registers) c made limits; keys = c.keys }
+
+abbrev pub keyed_of : Parts → Keyed
+keyed_of p = keyed_with p.registers p.counted p.made p.limits
+
 abbrev pub heap_of : Parts → Heap
-heap_of p = heap_with (map named p.registers.items) p.cells.items p.buffer.items p.limits
+heap_of p = (keyed_of p).heap
 
--- the numbers of the natives that wait
-abbrev pub waiting : Parts → List ℕ
-waiting p = map (λ (k : NativeNo). k.0) p.queue.items
+-- which native stands at which key in the parts
+abbrev pub keys_of : Parts → Keys
+keys_of p = p.counted.keys
 
--- the parts while natives are deleted, where this was told
-abbrev pub draining : Parts → List Event → Draining
-draining p told = record { heap = heap_of p; queue = waiting p; events = told }
+-- IN ORDER, where these references are owned besides: what the registers hold is there
+pub record IsFit (owned : List ℕ) (p : Parts) : Type 0 where
+  pub order : IsInOrder owned (keyed_of p)
+  pub live : AreLive (keys_of p) p.registers
 
--- the same where native k waits in front
-abbrev pub draining_front : ℕ → Parts → List Event → Draining
-draining_front k p told = record (draining p told) { queue = k ∷ waiting p }
-
--- the queue and the buffer have room for each native that was made
-pub record HasRoom (p : Parts) : Type 0 where
-  pub queue : length p.cells.items ≤ deque_capacity p.queue
-  pub buffer : length p.cells.items ≤ vec_capacity p.buffer
-
--- the room is the same, and as many natives were made
-pub record SameRoom (old new : Parts) : Type 0 where
-  pub queue : deque_capacity new.queue ≡ deque_capacity old.queue
-  pub buffer : vec_capacity new.buffer ≡ vec_capacity old.buffer
-  pub made : length new.cells.items ≡ length old.cells.items
-  pub limits : new.limits ≡ old.limits
-
--- AT REST: the heaps are sound, none waits, and there is room for what giving up references moves
-pub record IsAtRest (p : Parts) : Type 0 where
-  pub sound : IsSound [] (heap_of p)
-  pub few : p.limits.natives ≤ 1000000
-  pub rest : waiting p ≡ []
-  pub room : HasRoom p
-
--- nothing but room changed
-pub record SameHeap (old new : Parts) : Type 0 where
-  pub heap : heap_of new ≡ heap_of old
-  pub rest : waiting new ≡ waiting old
-  pub made : length new.cells.items ≡ length old.cells.items
-  pub limits : new.limits ≡ old.limits
+-- AT REST: no reference is owned besides
+abbrev pub IsAtRest : Parts → Type 0
+IsAtRest p = IsFit [] p

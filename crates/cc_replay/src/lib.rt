@@ -2,10 +2,15 @@
 #![tactic(auto)]
 
 mod answering;
+mod build;
+mod collect;
+mod ends;
 mod natives;
 mod outlet;
 mod program;
+mod scan;
 mod status;
+mod touched;
 mod words;
 
 pub use program::{replay, run};

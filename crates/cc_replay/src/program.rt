@@ -48,15 +48,13 @@ pub fn replay<S: Source, K: Sink>(
         ¬ (Rose (S.faults source.old) (S.faults source.new)) → ¬ (Rose (K.faults sink.old) (K.faults sink.new)) →
         result ≢ Status.NoMemory → result ≡ Status.Done }
 {
-    let Ok(mut natives) = Natives::new(alloc, limits) else {
-        return Status::NoMemory;
-    };
+    let mut natives = Natives::new(alloc, limits);
     let mut lines = Lines::new(source, limits.bytes());
     let mut out = Outlet {
         sink,
         broken: false,
     };
-    answer_input(&mut lines, &mut natives, &mut out)
+    answer_input(alloc, &mut lines, &mut natives, &mut out)
 }
 
 /// Reads the words of a command line, the program's name first, and answers the source's lines as they say.

@@ -1,10 +1,14 @@
-ghost use Rattle.std.specs.Prelude.{◌≡◌, map, Err, IfOk, OnOk};
-ghost use Rattle.cc_replay.specs.Words.{GivesLimits, IsTaken};
+//! The words of the command line.
+ghost use Rattle.std.specs.Prelude.{◌≡◌, ℕ, ◌≤◌, IfOk, OnOk, Err, false, map};
+ghost use Rattle.clap.specs.Words.{app_of, found_of, one_text, rule_of, subcommand_of, subcommand_rows_of};
+ghost use Rattle.cc_replay.specs.Words.{app, optional_app, replay_app, number_option, GivesLimits, IsNumber, IsTaken};
 
 use cc_names::Limits;
-use std::alloc::Global;
+use clap::error::ErrorKind;
+use clap::{Arg, ArgAction, ArgMatches, Command};
+use std::alloc::{AllocError, Global};
 
-/// Why the words of a command line give no limits.
+/// Why the words give no limits.
 #[derive(Clone, Copy, Debug, PartialEq, Eq, Drop)]
 pub(crate) enum WordsStop {
     /// The words are not taken.
@@ -13,16 +17,90 @@ pub(crate) enum WordsStop {
     NoMemory,
 }
 
-/// The limits that the words of a command line give, the program's name first.
-pub(crate) fn limits_of<'a>(_alloc: Global, words: &'a [&'a str]) -> Result<Limits, WordsStop>
-    ensures usage { result ≡ Err WordsStop.Usage → ¬ (IsTaken (map (λ w. w.now) words.entry.now)) }
+/// An option `--NAME N`, a whole number from 0 to `most`. Where it is not given, `default` stands for it.
+fn number_option<'a>(alloc: Global, name: &'a str, most: u32, default: &'a str) -> Arg<'a>
+    ensures rule { rule_of result ≡ number_option name.entry.now most default.entry.now }
+    ensures local { result.global ≡ false }
+{
+    Arg::new(alloc, name)
+        .long(name)
+        .action(ArgAction::Set)
+        .value_parser(clap::value_parser!(u32).range(0..=(most as i64)))
+        .default_value(default)
+}
+
+/// The subcommand `replay`, with its three options.
+fn replay_command<'a>(alloc: Global) -> Result<Command<'a>, AllocError>
+    ensures { IfOk result (λ c. app_of c ≡ replay_app) }
+{
+    Command::new(alloc, "replay")
+        .arg(number_option(alloc, "natives", 1_000_000, "1000000"))?
+        .arg(number_option(alloc, "scripts", 1_000_000, "1000000"))?
+        .arg(number_option(alloc, "bytes", u32::MAX, "4294967295"))
+}
+
+/// The program `ccreplay`, as far as it names its subcommand.
+fn optional_command<'a>(alloc: Global) -> Result<Command<'a>, AllocError>
+    ensures { IfOk result (λ c. app_of c ≡ optional_app) }
+{
+    let replay = replay_command(alloc)?;
+    Command::new(alloc, "ccreplay").subcommand(replay)
+}
+
+/// The program `ccreplay`: a subcommand is required, and there is no help.
+fn command<'a>(alloc: Global) -> Result<Command<'a>, AllocError>
+    ensures { IfOk result (λ c. app_of c ≡ app) }
+{
+    let command = optional_command(alloc)?;
+    Ok(
+        command
+            .subcommand_required(true)
+            .disable_help_flag(true)
+            .disable_help_subcommand(true),
+    )
+}
+
+/// What the words come to, where they are taken.
+fn matches_of<'a>(alloc: Global, words: &'a [&'a str]) -> Result<ArgMatches<'a>, WordsStop>
+    ensures usage { result ≡ Err WordsStop.Usage → ¬ IsTaken (map (λ w. w.now) words.entry.now) }
+    ensures taken { OnOk result (IsTaken (map (λ w. w.now) words.entry.now)) }
+    ensures replay { IfOk result (λ m. subcommand_rows_of m ≡ subcommand_of app (map (λ w. w.now) words.entry.now)) }
+{
+    let Ok(command) = command(alloc) else {
+        return Err(WordsStop::NoMemory);
+    };
+    match command.try_get_matches_from(words) {
+        Ok(matches) => Ok(matches),
+        Err(error) => match error.kind() {
+            ErrorKind::OutOfMemory => Err(WordsStop::NoMemory),
+            _ => Err(WordsStop::Usage),
+        },
+    }
+}
+
+/// The number that the subcommand has for an option. There must be one, of 32 bits.
+fn number_of(replay: &ArgMatches<'_>, option: &str) -> u32
+    requires given { (n : ℕ) × IsNumber (one_text (found_of replay.now) option.now) n × (n ≤ 4294967295) }
+    ensures { IsNumber (one_text (found_of replay.now) option.now) result }
+{
+    replay.get_one::<u32>(option).unwrap()
+}
+
+/// The limits that the words give. The program's name is the first word.
+///
+/// `Usage` where the words are not taken, as in a wish for help. `NoMemory` only where memory is refused.
+pub(crate) fn limits_of<'a>(alloc: Global, words: &'a [&'a str]) -> Result<Limits, WordsStop>
+    ensures usage { result ≡ Err WordsStop.Usage → ¬ IsTaken (map (λ w. w.now) words.entry.now) }
     ensures taken { OnOk result (IsTaken (map (λ w. w.now) words.entry.now)) }
     ensures limits { IfOk result (λ limits. GivesLimits (map (λ w. w.now) words.entry.now) limits) }
 {
-    match words {
-        [_, command] if *command == "replay" => {
-            Ok(Limits::new(Limits::MOST, Limits::MOST, u32::MAX))
-        }
-        _ => Err(WordsStop::Usage),
-    }
+    let matches = matches_of(alloc, words)?;
+    let replay = matches.subcommand_matches("replay").unwrap();
+    let natives = number_of(replay, "natives");
+    let scripts = number_of(replay, "scripts");
+    let bytes = number_of(replay, "bytes");
+    Ok(Limits::new(natives, scripts, bytes))
 }
+
+#[cfg(test)]
+mod tests;

@@ -1,5 +1,5 @@
 ghost use Rattle.std.specs.Prelude.{◌≡◌, IsTrue};
-ghost use Rattle.cc_reader.specs.FormsNow.{is_known};
+ghost use Rattle.cc_reader.specs.FormsNow.{is_plain};
 ghost use Rattle.cc_replay.specs.Changes.{asked_by};
 
 use cc_model::Command;
@@ -30,7 +30,7 @@ pub(crate) enum Request {
 
 /// What a command of the grammar asks.
 pub(crate) fn request_of(command: &Command) -> Request
-    requires { IsTrue (is_known command.now) }
+    requires { IsTrue (is_plain command.now) }
     ensures { asked_by result ≡ command.now }
 {
     match *command {

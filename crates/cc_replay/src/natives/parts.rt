@@ -1,6 +1,11 @@
-ghost use Rattle.std.specs.Prelude.{◌≡◌, ◌+◌, ◌-◌, ◌<◌, ◌≤◌, length, map, Some, None, option_map, slice_set, slice_index_or, vec_len, vec_capacity};
-ghost use Rattle.std.specs.VecDeque.{deque_capacity};
-ghost use Rattle.std.specs.Prelude.{ℕ, List, [], ◌∷◌, ◌++◌};
+ghost use Rattle.std.specs.Prelude.{◌≡◌, ◌<◌, ℕ, List, [], ◌∷◌, length, map, replicate, None, IsSome, MatchOption};
+ghost use Rattle.cc_model.specs.declared.item.Item.TheVariants.{Event as of_event};
+ghost use Rattle.cc_model.specs.Telling.{Tells};
+ghost use Rattle.cc_model.specs.Texts.{texts_of};
+ghost use Rattle.cc_model.specs.Heap.{empty_heap, suspect};
+ghost use Rattle.cc_model.specs.Cascade.{add_ref, cascade};
+ghost use Rattle.cc_model.specs.End.{unlink};
+ghost use Rattle.cc_replay.specs.Keyed.{IsInOrder, number_at, the_number, counts_of, changed_to, left_with};
 
 mod answer;
 mod census;
@@ -8,152 +13,108 @@ mod checks;
 mod effects;
 mod making;
 
-use crate::natives::cell::{Cell, empty_places, lower, take_out};
-use crate::natives::marks::{Marked, forget, mark};
-use cc_model::{Event, Item, Notices};
-use cc_names::{Limits, Name, NativeNo, NoMemory};
+use cc_counted::Counted;
+use cc_model::Notices;
+use cc_names::{Limits, NKey};
 use std::alloc::Global;
-use std::collections::VecDeque;
 
-/// The registers, the natives by number, the buffer in order, and the numbers that wait to be freed.
-///
-/// Native k stands at place k - 1 of the cells, which is empty once it is no more.
+/// The registers, the counted natives, and how many natives were ever made.
 #[derive(Drop)]
 pub(crate) struct Parts {
-    registers: Vec<Option<NativeNo>>,
-    cells: Vec<Option<Cell>>,
-    buffer: Vec<Marked>,
-    queue: VecDeque<NativeNo>,
+    registers: [Option<NKey>; 256],
+    counted: Counted,
+    made: u32,
     limits: Limits,
-    alloc: Global,
 }
 
-// The place of a native.
-fn place_of(number: NativeNo) -> usize
-    requires { 1 ≤ number.0 }
-    ensures { result ≡ number.0 - 1 }
+// So many registers that hold nothing.
+fn empty_registers() -> [Option<NKey>; 256]
+    ensures { result ≡ replicate 256 None }
 {
-    number.0 as usize - 1
+    [None; 256]
 }
 
 impl Parts {
-    ghost use Rattle.std.specs.Prelude.{IfOk};
-    ghost use Rattle.cc_model.specs.Heap.{empty_heap};
-    ghost use Rattle.cc_replay.specs.Parts.{heap_of, IsAtRest};
+    ghost use Rattle.cc_replay.specs.Parts.{keyed_of, heap_of, keys_of, IsFit, IsAtRest};
 
     /// No natives, and 256 empty registers.
-    pub(crate) fn new(alloc: Global, limits: Limits) -> Result<Parts, NoMemory>
-        ensures heap { IfOk result (λ p. heap_of p ≡ empty_heap limits) }
-        ensures rest { IfOk result IsAtRest }
+    pub(crate) fn new(alloc: Global, limits: Limits) -> Parts
+        ensures heap { heap_of result ≡ empty_heap limits }
+        ensures rest { IsAtRest result }
     {
-        let registers = empty_places(alloc, 256)?;
         // Counts fit their type since no more natives can be made than limits may allow.
         prove!(limits.natives() <= Limits::MOST);
-        Ok(Parts {
-            registers,
-            cells: Vec::new(alloc),
-            buffer: Vec::new(alloc),
-            queue: VecDeque::new(alloc),
+        Parts {
+            registers: empty_registers(),
+            counted: Counted::new(alloc),
+            made: 0,
             limits,
-            alloc,
-        })
-    }
-
-    ghost use Rattle.cc_model.specs.declared.item.Event.{Event};
-    ghost use Rattle.cc_model.specs.Cascade.{give_up};
-    ghost use Rattle.cc_laws_heap.proofs.Counted.{count_at};
-    ghost use Rattle.cc_replay.specs.Parts.{draining, SameRoom};
-
-    // One reference less to a native: it is suspected, or waits where that was the last.
-    fn give_up(&mut self, number: NativeNo)
-        requires there { 1 ≤ count_at (heap_of self.old) number.0 }
-        requires queue { length (give_up (draining self.old []) number.0).queue ≤ deque_capacity self.old.queue }
-        requires buffer { length (give_up (draining self.old []) number.0).heap.buffer ≤ vec_capacity self.old.buffer }
-        ensures natives { (told : List Event) → draining self.new told ≡ give_up (draining self.old told) number.0 }
-        ensures room { SameRoom self.old self.new }
-    {
-        let place = place_of(number);
-        if lower(&mut self.cells, place) > 0 {
-            mark(&mut self.buffer, number, true);
-        } else {
-            forget(&mut self.buffer, number);
-            self.queue.push_back_reserved(number);
         }
     }
 
-    ghost use Rattle.cc_model.specs.Cascade.{give_up_each};
-    ghost use Rattle.cc_laws_heap.proofs.GiveUp.{IsBalanced};
-    ghost use Rattle.cc_replay.specs.Counted.{numbers};
-    ghost use Rattle.cc_replay.specs.Parts.{HasRoom};
-
-    // One reference less to each native that slots hold, in their order.
-    fn give_up_each(&mut self, slots: &[Option<NativeNo>])
-        requires balanced { IsBalanced (numbers slots.now ++ []) (draining self.old []) }
-        requires room { HasRoom self.old }
-        ensures natives { (told : List Event) → draining self.new told ≡ give_up_each (draining self.old told) (numbers slots.now) }
-        ensures room { SameRoom self.old self.new }
+    /// The counted natives.
+    pub(crate) fn counted(&self) -> &Counted
+        ensures { result.now ≡ counts_of (keyed_of self.now) }
     {
-        for slot in slots {
-            if let Some(number) = slot {
-                self.give_up(*number);
-            }
-        }
+        &self.counted
     }
 
-    ghost use Rattle.cc_names.specs.Names.{native};
-    ghost use Rattle.cc_model.specs.declared.item.Event.TheVariants.{Freed};
-    ghost use Rattle.cc_model.specs.declared.item.Item.TheVariants.{Event as of_event};
-    ghost use Rattle.cc_model.specs.Telling.{Tells};
-    ghost use Rattle.cc_model.specs.Texts.{text_of, texts_of};
-    ghost use Rattle.cc_model.specs.Cascade.{free_front, drain, cascade};
-    ghost use Rattle.cc_model.proofs.Draining.{pending};
-    ghost use Rattle.cc_laws_heap.specs.Sound.{IsSound};
-    ghost use Rattle.cc_replay.specs.Parts.{waiting, draining_front};
-
-    // A native that waited in front is told and is no more; what its slots held is given up.
-    fn free<N: Notices>(&mut self, number: NativeNo, out: &mut N)
-        requires balanced { IsBalanced [] (draining_front number.0 self.old []) }
-        requires room { HasRoom self.old }
-        ensures natives { (told : List Event) → draining self.new (told ++ Freed (native number.0) ∷ [])
-            ≡ free_front (draining_front number.0 self.old told) number.0 (waiting self.old) }
-        ensures told { Tells (N.telling out.old) (N.telling out.new) (text_of (of_event (Freed (native number.0)))) }
-        ensures room { SameRoom self.old self.new }
+    /// One more reference to a native, which the caller owns.
+    pub(crate) fn root(&mut self, key: NKey)
+        requires live { IsSome (number_at (keyed_of self.old) key.0) }
+        requires fit { (owned : List ℕ) × IsFit owned self.old × (length owned < 1000000000) }
+        ensures keyed { keyed_of self.new ≡ changed_to (keyed_of self.old) (add_ref (heap_of self.old) (the_number (keyed_of self.old) key.0)) }
+        ensures fit { (owned : List ℕ) → IsFit owned self.old → IsFit (the_number (keyed_of self.old) key.0 ∷ owned) self.new }
+        ensures limits { self.new.limits ≡ self.old.limits }
+        ensures made { self.new.made ≡ self.old.made }
     {
-        let place = place_of(number);
-        let cell = take_out(&mut self.cells, place);
-        out.tell(Item::Event(Event::Freed(Name::Native(number))));
-        match cell {
-            Some(cell) => self.give_up_each(cell.slots()),
-            None => unreachable!(),
-        }
+        self.counted.root(key);
     }
 
-    // Frees each native that waits, and those that come to wait meanwhile.
-    fn drain<N: Notices>(&mut self, out: &mut N)
-        requires balanced { IsBalanced [] (draining self.old []) }
-        requires room { HasRoom self.old }
-        ensures heap { (n : ℕ) → pending (draining self.old []) ≤ n → heap_of self.new ≡ (drain n (draining self.old [])).heap }
-        ensures told { (n : ℕ) → pending (draining self.old []) ≤ n →
-            Tells (N.telling out.old) (N.telling out.new) (texts_of (map of_event (drain n (draining self.old [])).events)) }
-        ensures rest { waiting self.new ≡ [] }
-        ensures room { SameRoom self.old self.new }
+    /// Gives up a reference that the caller owns, and deletes what then has none.
+    pub(crate) fn release<N: Notices>(&mut self, key: NKey, out: &mut N)
+        requires live { IsSome (number_at (keyed_of self.old) key.0) }
+        requires fit { (owned : List ℕ) × IsFit (the_number (keyed_of self.old) key.0 ∷ owned) self.old }
+        ensures keyed { keyed_of self.new ≡ left_with (keyed_of self.old) (cascade (heap_of self.old) (the_number (keyed_of self.old) key.0)).heap }
+        ensures told { Tells (N.telling out.old) (N.telling out.new) (texts_of (map of_event (cascade (heap_of self.old) (the_number (keyed_of self.old) key.0)).events)) }
+        ensures fit { (owned : List ℕ) → IsFit (the_number (keyed_of self.old) key.0 ∷ owned) self.old → IsFit owned self.new }
+        ensures limits { self.new.limits ≡ self.old.limits }
+        ensures made { self.new.made ≡ self.old.made }
     {
-        while let Some(number) = self.queue.pop_front() {
-            self.free(number, out);
-        }
+        self.counted.release(key, out);
     }
 
-    /// One reference less to a native, with all that it frees.
-    pub(crate) fn release<N: Notices>(&mut self, number: NativeNo, out: &mut N)
-        requires sound { IsSound (number.0 ∷ []) (heap_of self.old) }
-        requires rest { waiting self.old ≡ [] }
-        requires room { HasRoom self.old }
-        ensures heap { heap_of self.new ≡ (cascade (heap_of self.old) number.0).heap }
-        ensures told { Tells (N.telling out.old) (N.telling out.new) (texts_of (map of_event (cascade (heap_of self.old) number.0).events)) }
-        ensures rest { waiting self.new ≡ [] }
-        ensures room { SameRoom self.old self.new }
+    /// Tells that a native is unlinked, and empties its slots. The caller owns a reference to it.
+    pub(crate) fn unlink<N: Notices>(&mut self, key: NKey, out: &mut N)
+        requires live { IsSome (number_at (keyed_of self.old) key.0) }
+        requires fit { (owned : List ℕ) × IsFit (the_number (keyed_of self.old) key.0 ∷ owned) self.old }
+        ensures keyed { keyed_of self.new ≡ left_with (keyed_of self.old) (unlink (heap_of self.old) (the_number (keyed_of self.old) key.0)).heap }
+        ensures told { Tells (N.telling out.old) (N.telling out.new) (texts_of (map of_event (unlink (heap_of self.old) (the_number (keyed_of self.old) key.0)).events)) }
+        ensures fit { (owned : List ℕ) → IsFit (the_number (keyed_of self.old) key.0 ∷ owned) self.old → IsFit (the_number (keyed_of self.old) key.0 ∷ owned) self.new }
     {
-        self.give_up(number);
-        self.drain(out);
+        self.counted.unlink(key, out);
+    }
+
+    /// Takes out the front of the buffer and its mark.
+    pub(crate) fn select_next(&mut self) -> Option<(NKey, bool)>
+        ensures front { MatchOption result (((heap_of self.old).buffer ≡ []) × (keyed_of self.new ≡ keyed_of self.old))
+            (λ front. ((heap_of self.old).buffer ≡ record { number = the_number (keyed_of self.old) front.0.0; purple = front.1 } ∷ (heap_of self.new).buffer)
+            × (keyed_of self.new ≡ changed_to (keyed_of self.old) (record (heap_of self.old) { buffer = (heap_of self.new).buffer }))
+            × IsSome (number_at (keyed_of self.old) front.0.0)) }
+        ensures fit { (owned : List ℕ) → IsFit owned self.old → IsFit owned self.new }
+        ensures keys { keys_of self.new ≡ keys_of self.old }
+        ensures registers { self.new.registers ≡ self.old.registers }
+    {
+        self.counted.select_next()
+    }
+
+    /// A native goes back into the buffer with the purple mark; one that is there keeps its place.
+    pub(crate) fn give_back(&mut self, key: NKey)
+        requires live { IsSome (number_at (keyed_of self.old) key.0) }
+        requires fit { (owned : List ℕ) × IsFit owned self.old }
+        ensures keyed { keyed_of self.new ≡ changed_to (keyed_of self.old) (suspect (heap_of self.old) (the_number (keyed_of self.old) key.0)) }
+        ensures fit { (owned : List ℕ) → IsFit owned self.old → IsFit owned self.new }
+    {
+        self.counted.give_back(key);
     }
 }

@@ -3,9 +3,14 @@ use Rattle.cc_model.specs.Heap.{Heap}
 use Rattle.cc_model.specs.Telling.{Telling}
 use Rattle.cc_reader.specs.Given.{IsWhole, IsBroken, IsOver, AreFirst}
 use Rattle.cc_reader.proofs.Given.{HasGiven-first}
+use Rattle.cc_replay.specs.Keyed.{Keyed}
 use Rattle.cc_replay.specs.Answering.{AreAnswered}
 use Rattle.cc_replay.proofs.Answers.{AreAnswered-more}
 use Rattle.cc_replay.proofs.answering.answer_all.Goals as goal
+
+-- where nothing moves, the heaps do not
+still_heap : (v w : Keyed) (t u : Telling) → (w ≡ v) × (u ≡ t) → (w.heap ≡ v.heap) × (u ≡ t)
+still_heap v w t u same = (ap (λ (k : Keyed). k.heap) same.0, same.1)
 
 -- what is answered stays so where nothing moves
 still : (h k m : Heap) (lines : List (List ℕ)) (t u v : Telling) → (m ≡ k) × (v ≡ u) → AreAnswered h k lines t u → AreAnswered h m lines t v
@@ -20,8 +25,8 @@ returns-in-Ok-End-clause-done g c = λ _ start given.
     let limit = c.answer_next.ensures.limit ∙ c.lines.invariant.limit in (
       so_far.0,
       subst (λ (n : ℕ). IsWhole start (left c.answer_next.new.lines.source.now) n so_far.0) limit (c.answer_next.ensures.whole was start so_far.0 so_far.1),
-      still c.args.natives.now c.lines.natives c.answer_next.new.natives so_far.0 (telling c.args.out.now) (telling c.lines.out) (telling c.answer_next.new.out)
-          (c.answer_next.ensures.quiet was) so_far.2,
+      still c.args.natives.now.heap c.lines.natives.heap c.answer_next.new.natives.heap so_far.0 (telling c.args.out.now) (telling c.lines.out) (telling c.answer_next.new.out)
+          (still_heap c.lines.natives c.answer_next.new.natives (telling c.lines.out) (telling c.answer_next.new.out) (c.answer_next.ensures.quiet was)) so_far.2,
     )
 
 pub returns-in-Err-Fault-clause-fault : goal.returns-in-Err-Fault-clause-fault
@@ -33,8 +38,8 @@ returns-in-Err-Fault-clause-fault g c = λ _ start given.
     let limit = c.answer_next.ensures.limit ∙ c.lines.invariant.limit in (
       so_far.0,
       subst (λ (n : ℕ). IsBroken start (left c.answer_next.new.lines.source.now) n so_far.0) limit (c.answer_next.ensures.fault was start so_far.0 so_far.1),
-      still c.args.natives.now c.lines.natives c.answer_next.new.natives so_far.0 (telling c.args.out.now) (telling c.lines.out) (telling c.answer_next.new.out)
-          c.in-Err-Fault.ensures.still so_far.2,
+      still c.args.natives.now.heap c.lines.natives.heap c.answer_next.new.natives.heap so_far.0 (telling c.args.out.now) (telling c.lines.out) (telling c.answer_next.new.out)
+          (still_heap c.lines.natives c.answer_next.new.natives (telling c.lines.out) (telling c.answer_next.new.out) c.in-Err-Fault.ensures.still) so_far.2,
     )
 
 pub returns-in-Err-Limit-clause-over : goal.returns-in-Err-Limit-clause-over
@@ -46,8 +51,8 @@ returns-in-Err-Limit-clause-over g c = λ _ start given.
     let limit = c.answer_next.ensures.limit ∙ c.lines.invariant.limit in (
       so_far.0,
       subst (λ (n : ℕ). IsOver start (left c.answer_next.new.lines.source.now) n so_far.0) limit (c.answer_next.ensures.over was start so_far.0 so_far.1),
-      still c.args.natives.now c.lines.natives c.answer_next.new.natives so_far.0 (telling c.args.out.now) (telling c.lines.out) (telling c.answer_next.new.out)
-          c.in-Err-Limit.ensures.still so_far.2,
+      still c.args.natives.now.heap c.lines.natives.heap c.answer_next.new.natives.heap so_far.0 (telling c.args.out.now) (telling c.lines.out) (telling c.answer_next.new.out)
+          (still_heap c.lines.natives c.answer_next.new.natives (telling c.lines.out) (telling c.answer_next.new.out) c.in-Err-Limit.ensures.still) so_far.2,
     )
 
 pub lines-preserved : goal.lines-preserved
@@ -60,9 +65,10 @@ lines-preserved g c =
           let so_far = c.lines.invariant.lines start given in (
             so_far.0 ++ l.0 ∷ [],
             l.1 start so_far.0 so_far.1,
-            AreAnswered-more c.args.natives.now c.lines.natives c.answer_next.new.natives so_far.0 l.0
+            AreAnswered-more c.args.natives.now.heap c.lines.natives.heap c.answer_next.new.natives.heap so_far.0 l.0
                 (telling c.args.out.now) (telling c.lines.out) (telling c.answer_next.new.out) so_far.2 l.2,
           );
+      order = c.answer_next.ensures.order;
       going = c.answer_next.ensures.going_on was;
       limit = c.answer_next.ensures.limit ∙ c.lines.invariant.limit;
       whole = sym c.is_broken.ensures ∙ c.if-is_broken.false;
@@ -84,6 +90,6 @@ returns-then-is_broken-clause-first g c = λ _ start given.
       so_far.0 ++ l.0 ∷ [],
       subst (λ (n : ℕ). AreFirst start now n (so_far.0 ++ l.0 ∷ [])) limit
           (HasGiven-first start now c.answer_next.new.lines.window (so_far.0 ++ l.0 ∷ []) (l.1 start so_far.0 so_far.1)),
-      AreAnswered-more c.args.natives.now c.lines.natives c.answer_next.new.natives so_far.0 l.0
+      AreAnswered-more c.args.natives.now.heap c.lines.natives.heap c.answer_next.new.natives.heap so_far.0 l.0
           (telling c.args.out.now) (telling c.lines.out) (telling c.answer_next.new.out) so_far.2 l.2,
     )

@@ -1,6 +1,7 @@
 use Rattle.std.proofs.Common.{◌≡◌, ℕ, List, [], Option, false}
 use Rattle.cc_reader.specs.Pending.{weight}
 use Rattle.cc_reader.specs.Given.{HasGiven}
+use Rattle.cc_replay.specs.Keyed.{IsInOrder}
 use Rattle.cc_replay.specs.Answering.{AreAnswered}
 use Rattle.cc_replay.proofs.answering.answer_all.Given as goal
 
@@ -12,7 +13,8 @@ invariant-lines g l =
     record {
       lines : (start : Option (List ℕ)) → HasGiven start (left l.fn.lines.source.now) l.fn.lines.window [] →
           (given : List (List ℕ)) × HasGiven start (left l.lines.source.now) l.lines.window given
-          × AreAnswered l.fn.natives l.natives given (telling l.fn.out) (telling l.out);
+          × AreAnswered l.fn.natives.heap l.natives.heap given (telling l.fn.out) (telling l.out);
+      order : IsInOrder [] l.natives;
       going : l.lines.window.stopped ≡ false;
       limit : l.lines.window.limit ≡ l.fn.lines.window.limit;
       whole : (telling l.out).broken ≡ false;

@@ -13,8 +13,8 @@ use Rattle.cc_replay.proofs.answering.answer_text.Goals as goal
 pub returns-in-None-clause-answered : goal.returns-in-None-clause-answered
 returns-in-None-clause-answered g c =
     let line = c.args.text.now in
-    let h = c.args.natives.now in
-    let asks : ask_of forms_now line ≡ bad = ask_of-short line c.requires ∙ ap taken_or_bad (sym c.in-None.ensures.command) in
+    let h = c.args.natives.now.heap in
+    let asks : ask_of forms_now line ≡ bad = ask_of-short line c.requires.short ∙ ap taken_or_bad (sym c.in-None.ensures.command) in
     record {
       answered = record {
         answer = replying [] (Refused Line);

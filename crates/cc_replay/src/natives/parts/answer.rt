@@ -1,5 +1,5 @@
 //! The answer to a request.
-ghost use Rattle.std.specs.Prelude.{◌≡◌, IsTrue, None, IfOk, OnErr};
+ghost use Rattle.std.specs.Prelude.{◌≡◌, IsTrue, true, None, IfOk, OnErr};
 ghost use Rattle.cc_model.specs.Asks.{taken};
 ghost use Rattle.cc_model.specs.Ranges.{in_range};
 ghost use Rattle.cc_model.specs.Checks.{named_or_nothing, refusal_of};
@@ -7,26 +7,28 @@ ghost use Rattle.cc_model.specs.Heap.{objects_of};
 ghost use Rattle.cc_model.specs.Effects.{takes_memory};
 ghost use Rattle.cc_replay.specs.Answered.{IsAnswered};
 ghost use Rattle.cc_replay.specs.Changes.{command_of, asked_by, IsCarriedOut};
-ghost use Rattle.cc_replay.specs.Counted.{named};
-ghost use Rattle.cc_replay.specs.Parts.{heap_of, waiting, HasRoom, IsAtRest};
-ghost use Rattle.std.specs.Prelude.{true, []};
+ghost use Rattle.cc_replay.specs.Parts.{heap_of, keys_of, named, IsLive, IsAtRest};
 
 use crate::natives::change::{Change, Request};
 use crate::natives::parts::Parts;
 use cc_model::{Item, Notices, Refusal, Reply};
-use cc_names::{Name, NativeNo, NoMemory};
-
-// The reply that names what was copied or read.
-fn reply_naming(content: Option<NativeNo>) -> Reply
-    ensures { result ≡ named_or_nothing (named content) }
-{
-    match content {
-        Some(number) => Reply::Named(Name::Native(number)),
-        None => Reply::Nothing,
-    }
-}
+use cc_names::{NKey, Name, NoMemory};
 
 impl Parts {
+    // The reply that names what was copied or read.
+    fn reply_naming(&self, content: Option<NKey>) -> Reply
+        requires { IsLive (keys_of self.now) content }
+        ensures { result ≡ named_or_nothing (named (keys_of self.now) content) }
+    {
+        match content {
+            Some(key) => match self.counted.number(key) {
+                Some(number) => Reply::Named(Name::Native(number)),
+                None => unreachable!(),
+            },
+            None => Reply::Nothing,
+        }
+    }
+
     // A change that is not refused is done; its reply. Want of memory leaves all as it was.
     fn effect<N: Notices>(&mut self, change: Change, out: &mut N) -> Result<Reply, NoMemory>
         requires rest { IsAtRest self.old }
@@ -36,8 +38,7 @@ impl Parts {
         ensures memory { OnErr result (takes_memory (heap_of self.old) (command_of change) ≡ true) }
         ensures same { OnErr result (heap_of self.new ≡ heap_of self.old) }
         ensures silent { OnErr result (N.telling out.new ≡ N.telling out.old) }
-        ensures rest { waiting self.new ≡ [] }
-        ensures room { HasRoom self.new }
+        ensures rest { IsAtRest self.new }
         ensures limits { self.new.limits ≡ self.old.limits }
     {
         match change {
@@ -47,8 +48,9 @@ impl Parts {
             }
             Change::Copy(d, s) => {
                 let content = self.held(s);
+                let reply = self.reply_naming(content);
                 self.hold(d, content, out);
-                Ok(reply_naming(content))
+                Ok(reply)
             }
             Change::Drop(d) => {
                 self.put_in_register(d, None, out);
@@ -61,8 +63,9 @@ impl Parts {
             }
             Change::Get(d, s, i) => {
                 let read = self.slot(s, i);
+                let reply = self.reply_naming(read);
                 self.hold(d, read, out);
-                Ok(reply_naming(read))
+                Ok(reply)
             }
         }
     }

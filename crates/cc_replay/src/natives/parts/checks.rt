@@ -5,45 +5,45 @@ ghost use Rattle.cc_names.specs.declared.register.Reg.TheVariants.{N as n_regist
 ghost use Rattle.cc_model.specs.declared.command.Command.TheVariants.{Set, Get, Native};
 ghost use Rattle.cc_model.specs.Checks.{slots_at, slot_at, refusal_of};
 ghost use Rattle.cc_model.specs.Heap.{register, source, objects_of};
-ghost use Rattle.cc_model.specs.WellFormed.{IsWellFormed};
 ghost use Rattle.cc_replay.specs.Changes.{command_of};
-ghost use Rattle.cc_replay.specs.Counted.{named};
-ghost use Rattle.cc_replay.specs.Parts.{heap_of, IsAtRest};
+ghost use Rattle.cc_replay.specs.Parts.{heap_of, keys_of, named, IsLive, IsAtRest};
 
-use crate::natives::cell::{slot_of, slots_of};
 use crate::natives::change::Change;
-use crate::natives::parts::{Parts, place_of};
+use crate::natives::parts::Parts;
+use crate::natives::parts::effects::from_slot;
 use cc_model::Refusal;
-use cc_names::NativeNo;
+use cc_names::NKey;
 
 impl Parts {
     // How many slots what a register holds has: none where the register is empty.
     fn slot_count(&self, r: u8) -> usize
-        requires { IsWellFormed (heap_of self.now) }
+        requires { IsAtRest self.now }
         ensures { result ≡ length (slots_at (objects_of (heap_of self.now)) (n_register r)) }
     {
         match self.held(r) {
-            Some(number) => slots_of(self.cells.as_slice(), place_of(number)),
+            Some(key) => self.counted.slots(key) as usize,
             None => 0,
         }
     }
 
     // What slot i of what a register holds holds.
-    pub(super) fn slot(&self, r: u8, i: u32) -> Option<NativeNo>
-        requires well_formed { IsWellFormed (heap_of self.now) }
+    pub(super) fn slot(&self, r: u8, i: u32) -> Option<NKey>
+        requires rest { IsAtRest self.now }
         requires slot { i < length (slots_at (objects_of (heap_of self.now)) (n_register r)) }
-        ensures { named result ≡ slot_at (objects_of (heap_of self.now)) (n_register r) i }
+        ensures name { named (keys_of self.now) result ≡ slot_at (objects_of (heap_of self.now)) (n_register r) i }
+        ensures live { IsLive (keys_of self.now) result }
     {
         match self.held(r) {
-            Some(number) => slot_of(self.cells.as_slice(), place_of(number), i as usize),
+            Some(key) => from_slot(self.counted.slot(key, i as u8)),
             None => unreachable!(),
         }
     }
 
     // What a source gives to a slot.
-    pub(super) fn given(&self, from: Option<u8>) -> Option<NativeNo>
-        requires { IsWellFormed (heap_of self.now) }
-        ensures { named result ≡ source (heap_of self.now) (option_map n_register from) }
+    pub(super) fn given(&self, from: Option<u8>) -> Option<NKey>
+        requires { IsAtRest self.now }
+        ensures name { named (keys_of self.now) result ≡ source (heap_of self.now) (option_map n_register from) }
+        ensures live { IsLive (keys_of self.now) result }
     {
         match from {
             Some(r) => self.held(r),
@@ -53,7 +53,7 @@ impl Parts {
 
     // Whether a register is empty.
     fn is_empty(&self, r: u8) -> bool
-        requires { IsWellFormed (heap_of self.now) }
+        requires { IsAtRest self.now }
         ensures { result ≡ is_none (register (heap_of self.now) (n_register r)) }
     {
         self.held(r).is_none()
@@ -61,7 +61,7 @@ impl Parts {
 
     // Whether a source is a register that is empty.
     fn is_source_empty(&self, from: Option<u8>) -> bool
-        requires { IsWellFormed (heap_of self.now) }
+        requires { IsAtRest self.now }
         ensures { result ≡ list_any (λ r. is_none (register (heap_of self.now) r)) (option_to_list (option_map n_register from)) }
     {
         match from {
@@ -71,16 +71,16 @@ impl Parts {
     }
 
     // How many natives were ever made.
-    fn made(&self) -> usize
-        ensures { result ≡ length self.now.cells.items }
+    fn made(&self) -> u32
+        ensures { result ≡ self.now.made }
     {
-        self.cells.len()
+        self.made
     }
 
     fn refusal_of_make(&self, d: u8, slots: u8) -> Option<Refusal>
         ensures { result ≡ refusal_of (objects_of (heap_of self.now)) (Native d slots) }
     {
-        if self.made() >= self.limits.natives() as usize {
+        if self.made() >= self.limits.natives() {
             Some(Refusal::Full)
         } else {
             None
@@ -88,7 +88,7 @@ impl Parts {
     }
 
     fn refusal_of_set(&self, d: u8, i: u32, from: Option<u8>) -> Option<Refusal>
-        requires { IsWellFormed (heap_of self.now) }
+        requires { IsAtRest self.now }
         ensures { result ≡ refusal_of (objects_of (heap_of self.now)) (Set d i (option_map n_register from)) }
     {
         if self.is_empty(d) {
@@ -104,7 +104,7 @@ impl Parts {
     }
 
     fn refusal_of_get(&self, d: u8, s: u8, i: u32) -> Option<Refusal>
-        requires { IsWellFormed (heap_of self.now) }
+        requires { IsAtRest self.now }
         ensures { result ≡ refusal_of (objects_of (heap_of self.now)) (Get (n_register d) s i) }
     {
         if self.is_empty(s) {
@@ -118,7 +118,7 @@ impl Parts {
 
     // Why a change is refused, want of memory aside.
     pub(super) fn refusal(&self, change: Change) -> Option<Refusal>
-        requires { IsWellFormed (heap_of self.now) }
+        requires { IsAtRest self.now }
         ensures { result ≡ refusal_of (objects_of (heap_of self.now)) (command_of change) }
     {
         match change {

@@ -1,61 +1,35 @@
 //! Natives made.
-ghost use Rattle.std.specs.Prelude.{◌≡◌, ◌+◌, ◌<◌, ◌≤◌, [], ◌++◌, ◌∷◌, Some, IfOk, OnOk, OnErr, length, map, vec_capacity};
-ghost use Rattle.std.specs.VecDeque.{deque_capacity};
+ghost use Rattle.std.specs.Prelude.{◌≡◌, ◌+◌, ◌<◌, ◌≤◌, [], ◌∷◌, Some, IfOk, OnOk, OnErr, map};
+ghost use Rattle.cc_names.specs.Names.{native};
 ghost use Rattle.cc_model.specs.declared.item.Item.TheVariants.{Event as of_event};
 ghost use Rattle.cc_model.specs.Telling.{Tells};
 ghost use Rattle.cc_model.specs.Texts.{texts_of};
-ghost use Rattle.cc_model.specs.Slots.{empty_slots};
-ghost use Rattle.cc_model.specs.Heap.{touch};
 ghost use Rattle.cc_model.specs.Effects.{with_native, make_native};
-ghost use Rattle.cc_laws_heap.specs.Sound.{IsSound};
-ghost use Rattle.cc_replay.specs.Counted.{numbered};
-ghost use Rattle.cc_replay.specs.Parts.{heap_of, waiting, HasRoom, SameHeap, IsAtRest};
+ghost use Rattle.cc_replay.specs.Parts.{heap_of, keys_of, named, IsLive, IsFit, IsAtRest};
 
-use crate::natives::cell::Cell;
-use crate::natives::marks::push_new;
 use crate::natives::parts::Parts;
 use cc_model::Notices;
-use cc_names::{NativeNo, NoMemory};
+use cc_names::{NKey, NativeNo, NoMemory};
 
 impl Parts {
-    // Room for one more native, and its slots: so giving up references never takes memory.
-    fn room(&mut self, slots: u8) -> Result<Cell, NoMemory>
-        requires { IsAtRest self.old }
-        ensures same { SameHeap self.old self.new }
-        ensures room { HasRoom self.new }
-        ensures cell { IfOk result (λ c. c ≡ record { slots = empty_slots slots; count = 1 }) }
-        ensures cells { OnOk result (length self.old.cells.items < vec_capacity self.new.cells) }
-        ensures queue { OnOk result (length self.old.cells.items < deque_capacity self.new.queue) }
-        ensures buffer { OnOk result (length self.old.cells.items < vec_capacity self.new.buffer) }
-    {
-        let cell = Cell::new(self.alloc, slots as usize)?;
-        let made = self.cells.len();
-        self.cells.reserve(1)?;
-        self.queue.reserve(made + 1)?;
-        self.buffer.reserve(made + 1 - self.buffer.len())?;
-        Ok(cell)
-    }
-
-    // A native put last, in the buffer too; its number.
-    fn put(&mut self, cell: Cell) -> NativeNo
-        requires sound { IsSound [] (heap_of self.old) }
-        requires few { length self.old.cells.items < 1000000 }
-        requires cells { length self.old.cells.items < vec_capacity self.old.cells }
-        requires queue { length self.old.cells.items < deque_capacity self.old.queue }
-        requires buffer { length self.old.cells.items < vec_capacity self.old.buffer }
-        ensures heap { heap_of self.new ≡ touch (record (heap_of self.old) {
-          natives = (heap_of self.old).natives ++ numbered (length self.old.cells.items + 1) cell ∷ [];
-          natives_made = length self.old.cells.items + 1;
-        }) (length self.old.cells.items + 1) }
-        ensures number { result.0 ≡ length self.old.cells.items + 1 }
-        ensures rest { waiting self.new ≡ waiting self.old }
-        ensures room { HasRoom self.new }
+    // A native with the next number and so many empty slots, in the buffer too; the caller owns the reference to it.
+    fn put(&mut self, slots: u8) -> Result<NKey, NoMemory>
+        requires rest { IsAtRest self.old }
+        requires slots { slots ≤ 64 }
+        requires allowed { self.old.made < self.old.limits.natives }
+        ensures made { OnOk result (self.new.made ≡ self.old.made + 1) }
+        ensures heap { OnOk result (heap_of self.new ≡ with_native (heap_of self.old) slots) }
+        ensures name { IfOk result (λ key. named (keys_of self.new) (Some key) ≡ Some (native (self.old.made + 1))) }
+        ensures live { IfOk result (λ key. IsLive (keys_of self.new) (Some key)) }
+        ensures fit { OnOk result (IsFit ((self.old.made + 1) ∷ []) self.new) }
+        ensures same { OnErr result (heap_of self.new ≡ heap_of self.old) }
+        ensures rest { OnErr result (IsAtRest self.new) }
         ensures limits { self.new.limits ≡ self.old.limits }
     {
-        self.cells.push_reserved(Some(cell));
-        let number = NativeNo(self.cells.len() as u32);
-        push_new(&mut self.buffer, number);
-        number
+        let number = NativeNo(self.made + 1);
+        let key = self.counted.create(number, slots)?;
+        self.made += 1;
+        Ok(key)
     }
 
     // A native with so many empty slots comes into a register; its number.
@@ -67,19 +41,18 @@ impl Parts {
     ) -> Result<NativeNo, NoMemory>
         requires rest { IsAtRest self.old }
         requires slots { slots ≤ 64 }
-        requires allowed { length self.old.cells.items < self.old.limits.natives }
-        ensures number { IfOk result (λ k. k.0 ≡ length self.old.cells.items + 1) }
+        requires allowed { self.old.made < self.old.limits.natives }
+        ensures number { IfOk result (λ k. k.0 ≡ self.old.made + 1) }
         ensures heap { OnOk result (heap_of self.new ≡ (make_native (heap_of self.old) r slots).heap) }
         ensures told { OnOk result (Tells (N.telling out.old) (N.telling out.new) (texts_of (map of_event (make_native (heap_of self.old) r slots).events))) }
         ensures same { OnErr result (heap_of self.new ≡ heap_of self.old) }
         ensures silent { OnErr result (N.telling out.new ≡ N.telling out.old) }
-        ensures rest { waiting self.new ≡ [] }
-        ensures room { HasRoom self.new }
+        ensures rest { IsAtRest self.new }
         ensures limits { self.new.limits ≡ self.old.limits }
     {
-        let cell = self.room(slots)?;
-        let number = self.put(cell);
-        self.put_in_register(r, Some(number), out);
+        let key = self.put(slots)?;
+        let number = NativeNo(self.made);
+        self.put_in_register(r, Some(key), out);
         Ok(number)
     }
 }

@@ -1,17 +1,24 @@
-use Rattle.std.proofs.Common.{[], map, ◌∙◌, arith}
-use Rattle.cc_replay.specs.Counted.{named}
-use Rattle.cc_replay.specs.Parts.{heap_with}
-use Rattle.cc_replay.proofs.PartsAt.{buffer-few}
-use Rattle.cc_replay.proofs.MadeAt.{put-here}
+use Rattle.cc_replay.specs.Parts.{keyed_of}
+use Rattle.std.proofs.Common.{[]}
+use Rattle.cc_replay.proofs.Owned.{callers-own}
+use Rattle.cc_replay.proofs.Made.{made-live, made-heap, made-order}
 use Rattle.cc_replay.proofs.natives.parts.Parts.put.Goals as goal
 
-pub push_new-requires : goal.push_new-requires
-push_new-requires c =
-    let p = c.args.self.now in
-    omega (arith, buffer-few p [] c.requires.sound, c.requires.buffer, p.buffer.ok.0)
+pub create-requires-clause-owned : goal.create-requires-clause-owned
+create-requires-clause-owned c = callers-own [] (keyed_of c.args.self.now) c.requires.rest.order
 
 pub returns-clause-heap : goal.returns-clause-heap
 returns-clause-heap c =
     let p = c.args.self.now in
-    (λ i. heap_with (map named p.registers.items) (c.push_reserved.ensures.items i) (c.push_new.ensures.items i) p.limits)
-    ∙ put-here p c.args.cell c.requires.sound.well_formed c.len.result (omega (arith, c.len.ensures, c.push_reserved.ensures.len, p.cells.ok.0))
+    let e = c.in_ok-key.ensures in
+    made-heap p.counted c.create.new.self p.registers p.made p.limits c.args.slots c.in_ok-key.key e.natives e.buffer e.others e.vacant c.requires.rest.live
+
+pub returns-clause-fit : goal.returns-clause-fit
+returns-clause-fit c =
+    let p = c.args.self.now in
+    let e = c.in_ok-key.ensures in
+    record {
+      order = made-order p.counted c.create.new.self p.registers p.made p.limits c.args.slots c.in_ok-key.key e.natives e.buffer e.others e.vacant c.requires.rest.live
+          c.requires.slots c.requires.allowed (e.keyed c.requires.rest.order.keyed) c.requires.rest.order;
+      live = made-live p.counted c.create.new.self p.registers p.made p.limits c.args.slots c.in_ok-key.key e.natives e.buffer e.others e.vacant c.requires.rest.live;
+    }

@@ -5,14 +5,14 @@ use Rattle.cc_replay.proofs.natives.parts.Parts.refusal_of_get.Goals as goal
 
 pub returns-then-is_empty : goal.returns-then-is_empty
 returns-then-is_empty c =
-    sym (refusal-get c.args.self.now c.args.d c.args.i c.args.s c.requires true _ (sym c.is_empty.ensures ∙ c.if-is_empty.true) refl)
+    sym (refusal-get c.args.self.now c.args.d c.args.i c.args.s c.requires.order.sound.well_formed true _ (sym c.is_empty.ensures ∙ c.if-is_empty.true) refl)
 
 pub returns-then-i-slot_count : goal.returns-then-i-slot_count
 returns-then-i-slot_count c =
-    sym (refusal-get c.args.self.now c.args.d c.args.i c.args.s c.requires false true (sym c.is_empty.ensures ∙ c.if-is_empty.false)
+    sym (refusal-get c.args.self.now c.args.d c.args.i c.args.s c.requires.order.sound.well_formed false true (sym c.is_empty.ensures ∙ c.if-is_empty.false)
     (le-leb _ _ (omega (arith, c.if-i-slot_count.true, c.slot_count.ensures))))
 
 pub returns : goal.returns
 returns c =
-    sym (refusal-get c.args.self.now c.args.d c.args.i c.args.s c.requires false false (sym c.is_empty.ensures ∙ c.if-is_empty.false)
+    sym (refusal-get c.args.self.now c.args.d c.args.i c.args.s c.requires.order.sound.well_formed false false (sym c.is_empty.ensures ∙ c.if-is_empty.false)
     (lt-leb _ _ (omega (arith, c.if-i-slot_count.false, c.slot_count.ensures))))

@@ -1,59 +1,47 @@
-use Rattle.std.proofs.Common.{◌≡◌, ℕ, ◌≤◌, [], ◌∷◌, map, length, refl, sym, ◌∙◌, ap, subst}
+use Rattle.std.proofs.Common.{[], ◌∷◌, map, sym, ap, subst}
 use Rattle.cc_model.specs.declared.item.Item.TheVariants.{Event as of_event}
 use Rattle.cc_model.specs.Telling.{Tells}
 use Rattle.cc_model.specs.Texts.{texts_of}
-use Rattle.cc_model.specs.Heap.{Heap}
-use Rattle.cc_model.specs.Cascade.{give_up, drain, at_rest, drained}
-use Rattle.cc_model.proofs.Draining.{pending, pending-drained}
-use Rattle.cc_laws_heap.proofs.GiveUp.{IsBalanced, IsBalanced-give_up}
-use Rattle.cc_replay.specs.Parts.{heap_of, waiting, draining}
-use Rattle.cc_replay.specs.declared.natives.parts.Parts.{Parts}
-use Rattle.cc_replay.proofs.PartsAt.{in_hand-counted, rest-balanced, give_up-queue, give_up-buffer}
+use Rattle.cc_model.specs.Cascade.{cascade}
+use Rattle.cc_counted.specs.Counts.{released, heap_of}
+use Rattle.cc_replay.specs.Keyed.{the_number, IsInOrder}
+use Rattle.cc_replay.specs.Parts.{keyed_of}
+use Rattle.cc_replay.proofs.Onto.{cascade-onto}
+use Rattle.cc_replay.proofs.Ordered.{IsInOrder-cascade}
+use Rattle.cc_replay.proofs.Owned.{callers-own-some}
+use Rattle.cc_replay.proofs.Calls.{left-keyed, left-live}
 use Rattle.cc_replay.proofs.natives.parts.Parts.release.Goals as goal
 
-drained-is : (h : Heap) (k : ℕ) → drained h k ≡ drain (length h.natives) (give_up (at_rest h) k)
-unfolding drained
-drained-is h k = refl
+pub release-requires-clause-owned : goal.release-requires-clause-owned
+release-requires-clause-owned g c =
+    let v = keyed_of c.args.self.now in
+    callers-own-some (the_number v c.args.key.0 ∷ []) c.requires.fit.0 v c.requires.fit.1.order
 
-module _ (p : Parts) (k : ℕ) (rest : waiting p ≡ []) (mid : Parts) (is : draining mid [] ≡ give_up (draining p []) k) where
-  given_up-is : draining mid [] ≡ give_up (at_rest (heap_of p)) k
-  given_up-is = is ∙ ap (λ q. give_up (record { heap = heap_of p; queue = q; events = [] }) k) rest
-
-  enough : pending (draining mid []) ≤ length (heap_of p).natives
-  enough = subst (λ d. pending d ≤ length (heap_of p).natives) (sym given_up-is) (pending-drained (heap_of p) k)
-
-  drain-is : drain (length (heap_of p).natives) (draining mid []) ≡ drained (heap_of p) k
-  drain-is = ap (drain (length (heap_of p).natives)) given_up-is ∙ sym (drained-is (heap_of p) k)
-
-pub give_up-requires : goal.give_up-requires
-give_up-requires g c =
+pub returns-clause-keyed : goal.returns-clause-keyed
+returns-clause-keyed g c =
     let p = c.args.self.now in
-    let b = rest-balanced p (c.args.number.0 ∷ []) c.requires.rest c.requires.sound in
-    record {
-      there = in_hand-counted p [] c.args.number.0 b;
-      queue = give_up-queue p [] c.args.number.0 b c.requires.room;
-      buffer = give_up-buffer p [] c.args.number.0 b c.requires.room;
-    }
-
-pub drain-requires-clause-balanced : goal.drain-requires-clause-balanced
-drain-requires-clause-balanced g c =
-    let p = c.args.self.now in
-    subst (IsBalanced []) (sym (c.give_up.ensures.natives []))
-    (IsBalanced-give_up [] (draining p []) c.args.number.0 (rest-balanced p (c.args.number.0 ∷ []) c.requires.rest c.requires.sound))
-
-pub returns-clause-heap : goal.returns-clause-heap
-returns-clause-heap g c =
-    let p = c.args.self.now in
-    let mid : Parts = c.give_up.new.self in
-    let is = c.give_up.ensures.natives [] in
-    c.drain.ensures.heap (length (heap_of p).natives) (enough p c.args.number.0 c.requires.rest mid is)
-    ∙ ap (λ d. d.heap) (drain-is p c.args.number.0 c.requires.rest mid is)
+    let v = keyed_of p in
+    let k = the_number v c.args.key.0 in
+    let f = c.requires.fit in
+    left-keyed p.registers p.counted p.made p.limits f.1.live f.0 c.release.new.self (released p.counted k) (cascade v.heap k) c.release.ensures.heap
+    (cascade-onto v.heap (heap_of p.counted) k) (IsInOrder-cascade f.0 v k f.1.order)
 
 pub returns-clause-told : goal.returns-clause-told
 returns-clause-told g c =
     let p = c.args.self.now in
-    let mid : Parts = c.give_up.new.self in
-    let is = c.give_up.ensures.natives [] in
-    subst (λ d. Tells (g.N.Notices.telling c.args.out.now) (g.N.Notices.telling c.drain.new.out) (texts_of (map of_event d.events)))
-    (drain-is p c.args.number.0 c.requires.rest mid is)
-    (c.drain.ensures.told (length (heap_of p).natives) (enough p c.args.number.0 c.requires.rest mid is))
+    let v = keyed_of p in
+    let k = the_number v c.args.key.0 in
+    subst (λ es. Tells (g.N.Notices.telling c.args.out.now) (g.N.Notices.telling c.release.new.out) (texts_of (map of_event es)))
+    (sym (ap (λ o. o.events) (cascade-onto v.heap (heap_of p.counted) k))) c.release.ensures.told
+
+pub returns-clause-fit : goal.returns-clause-fit
+returns-clause-fit g c owned f =
+    let p = c.args.self.now in
+    let v = keyed_of p in
+    let k = the_number v c.args.key.0 in
+    let o = IsInOrder-cascade owned v k f.order in
+    record {
+      order = subst (IsInOrder owned) (sym (returns-clause-keyed g c)) o;
+      live = left-live p.registers p.counted p.made p.limits f.live owned c.release.new.self (released p.counted k) (cascade v.heap k) c.release.ensures.heap
+          (cascade-onto v.heap (heap_of p.counted) k) o;
+    }

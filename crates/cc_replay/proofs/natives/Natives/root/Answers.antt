@@ -1,0 +1,12 @@
+use Rattle.std.proofs.Common.{◌∷◌, sym, subst}
+use Rattle.cc_replay.specs.Keyed.{Keyed, IsInOrder, the_number}
+use Rattle.cc_replay.specs.Parts.{keyed_of}
+use Rattle.cc_replay.proofs.natives.Natives.root.Goals as goal
+
+pub invariant_of-self : goal.invariant_of-self
+invariant_of-self c = (c.root.ensures.fit c.requires.owned.0 (record { order = subst (λ (v : Keyed). IsInOrder (c.requires.owned.0) v) (sym c.self.view_is) c.requires.owned.1; live = c.self.invariant })).live
+
+pub returns-clause-order : goal.returns-clause-order
+returns-clause-order c owned o =
+    subst (λ (v : Keyed). IsInOrder (the_number v c.args.key.0 ∷ owned) (keyed_of c.root.new.self)) c.self.view_is
+    (c.root.ensures.fit owned (record { order = subst (λ (v : Keyed). IsInOrder (owned) v) (sym c.self.view_is) o; live = c.self.invariant })).order
