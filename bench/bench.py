@@ -1,0 +1,161 @@
+#!/usr/bin/env python3
+"""Times the program on scripts that this file makes, and prints one table in Markdown. Not part of the gate.
+
+Build the program first (it stays as crates/ccreplay/out/ccreplay), and then name the sizes, or none for 1000 2000 4000:
+
+    (cd crates/ccreplay && rt run -- replay < /dev/null)
+    bench/bench.py [SIZE ..]
+
+CCREPLAY names another program. RUNS is how often each script is run (7 if left out); the quickest run counts.
+
+A shape is a script in two parts: the first builds N natives, and the second, its last lines, has them collected (or
+traversed, where they are live). The whole script is timed, and the first part alone. Columns:
+
+    seconds       the whole script, from the program's start to its end, with the output written to a file
+    commands/s    the script's lines by those seconds
+    ns/object     the second part alone (the difference of the two times), by the N natives
+    growth        the time of each size by that of the least size, of the whole script and of the second part
+
+Each run's output is checked before it counts: status 0, one reply a line, none of them a refusal, and as many `- free`
+and `- unlink` lines as the shape must have.
+"""
+
+import os
+import subprocess
+import sys
+import tempfile
+import time
+
+ROOT = os.path.dirname(os.path.dirname(os.path.abspath(__file__)))
+PROGRAM = os.environ.get("CCREPLAY", f"{ROOT}/crates/ccreplay/out/ccreplay")
+RUNS = int(os.environ.get("RUNS", "7"))
+
+
+class Shape:
+    """A script's two parts, and how many natives it frees and unlinks in all."""
+
+    def __init__(self, build, end, frees, unlinks):
+        self.build, self.end, self.frees, self.unlinks = build, end, frees, unlinks
+
+
+def chain(size, first="n0"):
+    """A chain: each native holds the one before it. `first` keeps the first; n1 and n2 hold the last two by turns."""
+    lines = [f"native {first} 1", f"copy n1 {first}"]
+    for k in range(1, size):
+        to, before = ("n2", "n1") if k % 2 else ("n1", "n2")
+        lines += [f"native {to} 1", f"set {to} 0 {before}"]
+    return lines, "n2" if size % 2 == 0 else "n1"
+
+
+def dropped_chain(size):
+    """The last reference to the chain's last native is dropped: all are freed, one after the other, without a collection."""
+    build, last = chain(size)
+    others = [f"drop {it}" for it in ("n0", "n1", "n2") if it != last]
+    return Shape(build + others, [f"drop {last}"], size, 0)
+
+
+def ring(size):
+    """One ring, which no register holds: one collection frees it."""
+    build, last = chain(size)
+    build += [f"set n0 0 {last}", "drop n0", "drop n1", "drop n2"]
+    return Shape(build, ["collect"], size, size)
+
+
+def pairs(size):
+    """Cycles of two natives each, which no register holds: one collection frees them all."""
+    lines = []
+    for _ in range(size // 2):
+        lines += ["native n0 1", "native n1 1", "set n0 0 n1", "set n1 0 n0"]
+    return Shape(lines + ["drop n0", "drop n1"], ["collect"], size, size)
+
+
+def chain_from_pair(size):
+    """A cycle of two natives and a chain that hangs from it, which no register holds: one collection frees them all."""
+    build, last = chain(size - 2, "n3")
+    build += ["native n4 1", "native n5 2", "set n4 0 n5", "set n5 0 n4", f"set n5 1 {last}"]
+    build += [f"drop n{it}" for it in range(1, 6)]
+    return Shape(build, ["collect"], size, size)
+
+
+def live_chain(size):
+    """A chain whose last native a register holds: the collection traverses all suspects and frees nothing."""
+    build, _ = chain(size)
+    return Shape(build, ["collect"], 0, 0)
+
+
+SHAPES = [
+    ("chain, dropped", dropped_chain),
+    ("one ring, collected", ring),
+    ("cycles of two, collected", pairs),
+    ("chain from a cycle, collected", chain_from_pair),
+    ("live chain, traversed", live_chain),
+]
+
+
+def check(said, status, lines, frees, unlinks):
+    """Ends with a complaint unless the output is that of a whole run of the shape."""
+    rows = said.split(b"\n")
+    if rows.pop() != b"" or status:
+        sys.exit(f"bench: the run ended with status {status}")
+    heads = [it[:1] for it in rows]
+    counts = {
+        "replies": (heads.count(b"=") + heads.count(b"!"), lines),
+        "refusals": (heads.count(b"!"), 0),
+        "freed": (sum(it.startswith(b"- free ") for it in rows), frees),
+        "unlinked": (sum(it.startswith(b"- unlink ") for it in rows), unlinks),
+    }
+    for what, (found, wanted) in counts.items():
+        if found != wanted:
+            sys.exit(f"bench: {what}: {found}, and not {wanted}")
+
+
+def once(folder, lines, frees, unlinks):
+    """Runs a script once and checks its output. The seconds that the run took."""
+    with open(f"{folder}/script", "w") as it:
+        it.write("".join(f"{line}\n" for line in lines))
+    with open(f"{folder}/script", "rb") as script, open(f"{folder}/said", "wb") as said:
+        start = time.perf_counter()
+        status = subprocess.call([PROGRAM, "replay"], stdin=script, stdout=said)
+        took = time.perf_counter() - start
+    with open(f"{folder}/said", "rb") as it:
+        check(it.read(), status, len(lines), frees, unlinks)
+    return took
+
+
+def measure(folder, shape):
+    """The quickest run of the whole script, and of its first part."""
+    script = shape.build + shape.end
+    whole, build = [], []
+    for _ in range(RUNS):
+        whole.append(once(folder, script, shape.frees, shape.unlinks))
+        build.append(once(folder, shape.build, 0, 0))
+    return min(whole), min(build)
+
+
+def main():
+    sizes = sorted({int(it) for it in sys.argv[1:]}) or [1000, 2000, 4000]
+    if any(it < 4 or it % 2 for it in sizes):
+        sys.exit("bench: sizes are even, and at least 4")
+    if not os.access(PROGRAM, os.X_OK):
+        sys.exit(f"bench: there is no program {PROGRAM}: build it, or name one in CCREPLAY")
+    print("| shape | natives | commands | seconds | commands/s | ns/object | growth, whole | growth, second part |")
+    print("|---|---:|---:|---:|---:|---:|---:|---:|")
+    with tempfile.TemporaryDirectory(prefix="ccreplay-bench-") as folder:
+        for name, made in SHAPES:
+            least = None
+            for size in sizes:
+                shape = made(size)
+                whole, build = measure(folder, shape)
+                end = max(whole - build, 0.0)
+                commands = len(shape.build) + len(shape.end)
+                least = least or (whole, end)
+                grown = f"{end / least[1]:.1f}" if least[1] else "?"
+                print(
+                    f"| {name} | {size} | {commands} | {whole:.4f} | {commands / whole:.0f} | {end / size * 1e9:.0f} "
+                    f"| {whole / least[0]:.1f} | {grown} |",
+                    flush=True,
+                )
+
+
+if __name__ == "__main__":
+    main()
