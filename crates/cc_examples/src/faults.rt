@@ -80,6 +80,17 @@ fn each_write_fails_in_turn(rt: HostRuntime) -> Result<(), Fail> {
 }
 
 #[test]
+fn a_second_write_fails(rt: HostRuntime) -> Result<(), Fail> {
+    let lines = script(rt.alloc(), "native n0 0 / native n1 0")?;
+    let mut source = source_of(rt.alloc(), lines);
+    let mut sink = BytesSink::new(rt.alloc(), 100, [2].to_vec(rt.alloc())?)?;
+    let status = replay(rt.alloc(), widest(), &mut source, &mut sink);
+    assert_eq!(rt; status, Status::WriteFault);
+    assert_eq!(rt; sink.written(), ANSWERS[1]);
+    Ok(())
+}
+
+#[test]
 fn bytes_are_limited(rt: HostRuntime) -> Result<(), Fail> {
     let table: [(&str, u32, &[u8], &[u8], Status); 7] = [
         (
