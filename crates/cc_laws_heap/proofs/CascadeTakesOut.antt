@@ -15,7 +15,7 @@ use Rattle.cc_model.specs.Cascade.{Draining, give_up, give_up_each, natives_of_s
 use Rattle.cc_model.specs.WellFormed.{native_names}
 use Rattle.cc_laws_heap.specs.Freeing.{Uncounted, uncounted, is_none_of, SameBeside}
 use Rattle.cc_lists.proofs.Searching.{filter-true, filter-map, filter-filter}
-use Rattle.cc_laws_heap.proofs.Numbers.{number-exact}
+use Rattle.cc_lists.proofs.Numbers.{number-exact}
 use Rattle.cc_laws_heap.proofs.Beside.{SameBeside-refl, SameBeside-trans}
 use Rattle.cc_laws_heap.proofs.DrainingAlike.{IsAlike, IsAlike-give_up, IsAlike-give_up_each}
 use Rattle.cc_laws_heap.proofs.Freed.{outcome, freed_event, is_none_of-push}

@@ -15,7 +15,7 @@ use Rattle.cc_model.specs.WellFormed.{IsWellFormed, IsRising}
 use Rattle.cc_model.specs.Counts.{slots_of_natives}
 use Rattle.cc_laws_heap.specs.Sound.{IsSound}
 use Rattle.cc_laws_heap.proofs.Rising.{IsRising-tail, IsRising-first}
-use Rattle.cc_laws_heap.proofs.Numbers.{eqb-sym}
+use Rattle.cc_lists.proofs.Numbers.{eqb-sym}
 use Rattle.cc_lists.proofs.ListWrites.{length-flat_map_le}
 
 -- so many rising numbers fit between two

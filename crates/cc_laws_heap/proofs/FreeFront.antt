@@ -8,7 +8,7 @@ use Rattle.cc_model.specs.Heap.{Heap, HeapNative, native_at, forget, suspect}
 use Rattle.cc_model.specs.Cascade.{Draining, lower, fallen, given_up, give_up, give_up_each, removed, natives_of_slots, told_free, without_native, free_front}
 use Rattle.cc_model.specs.Counts.{times}
 use Rattle.cc_lists.proofs.Searching.{filter-map, count_by-kept, count_by-dropped}
-use Rattle.cc_laws_heap.proofs.Numbers.{at-each}
+use Rattle.cc_lists.proofs.Numbers.{at-each}
 use Rattle.cc_laws_heap.proofs.Natives.{has_number, HasDistinctNumbers, changed_at, changed_at-number, native_at-removed_same, native_at-removed_other}
 use Rattle.cc_laws_heap.proofs.References.{times-append, times-cons_same, times-cons_other, refs_to-removed}
 use Rattle.cc_laws_heap.proofs.Counted.{count_of, count_at}

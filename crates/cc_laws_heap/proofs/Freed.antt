@@ -16,7 +16,7 @@ use Rattle.cc_model.specs.Counts.{times}
 use Rattle.cc_laws_heap.specs.Freeing.{Uncounted, uncounted, is_none_of, SameBeside, Frees}
 use Rattle.cc_lists.proofs.Searching.{filter-true, filter-map, filter-filter}
 use Rattle.cc_laws_heap.proofs.Natives.{native_at-there, native_at-number}
-use Rattle.cc_laws_heap.proofs.Numbers.{eqb-sym, number-exact, at-each}
+use Rattle.cc_lists.proofs.Numbers.{eqb-sym, number-exact, at-each}
 use Rattle.cc_laws_heap.proofs.References.{times-append, times-cons_same, times-cons_other, times-among}
 use Rattle.cc_laws_heap.proofs.Beside.{SameBeside-refl, SameBeside-trans}
 use Rattle.cc_laws_heap.proofs.DrainingAlike.{IsAlike, IsAlike-give_up_each}

@@ -6,7 +6,7 @@ use Rattle.cc_model.specs.Heap.{Heap, HeapNative, native_at, with_mark, forget}
 use Rattle.cc_model.specs.Cascade.{Draining, lower, lowered, queued, fallen, given_up, give_up, give_up_each}
 use Rattle.cc_model.specs.Counts.{refs_to, times}
 use Rattle.cc_laws_heap.proofs.Natives.{HasDistinctNumbers, native_at-change_same, native_at-change_other, HasDistinctNumbers-change, uncounted-change}
-use Rattle.cc_laws_heap.proofs.Numbers.{at-each}
+use Rattle.cc_lists.proofs.Numbers.{at-each}
 use Rattle.cc_laws_heap.proofs.References.{times-append, times-cons_same, times-cons_other, refs_to-alike}
 use Rattle.cc_laws_heap.proofs.Beside.{SameBeside-change_native}
 use Rattle.cc_laws_heap.proofs.Counted.{IsCounted, count_of, count_at, count_at-found}

@@ -20,7 +20,7 @@ use Rattle.cc_model.specs.WellFormed.{IsWellFormed, FitsName, native_names, scri
 use Rattle.cc_model.specs.StandsFor.{Shape, shape_at, shape_of_held_native, shape_of_held_script}
 use Rattle.cc_lists.proofs.Filtering.{find-among, find-passes}
 use Rattle.cc_lists.proofs.Searching.{find-only}
-use Rattle.cc_laws_heap.proofs.Numbers.{eqb-sym}
+use Rattle.cc_lists.proofs.Numbers.{eqb-sym}
 use Rattle.cc_laws_heap.proofs.Natives.{native_at-there, native_at-number, native_at-member, IsWellFormed-distinct}
 use Rattle.cc_laws_heap.proofs.Shapes.{further_of, edges_of_shape}
 

@@ -13,7 +13,7 @@ use Rattle.cc_model.specs.WellFormed.{native_names}
 use Rattle.cc_model.specs.Counts.{times}
 use Rattle.cc_laws_heap.specs.Freeing.{Uncounted, uncounted, is_none_of, SameBeside, Frees}
 use Rattle.cc_lists.proofs.Searching.{filter-true, filter-map, filter-filter}
-use Rattle.cc_laws_heap.proofs.Numbers.{number-exact}
+use Rattle.cc_lists.proofs.Numbers.{number-exact}
 use Rattle.cc_laws_heap.proofs.Natives.{named-member, KeepsNumber, changed_at, changed_at-number}
 use Rattle.cc_laws_heap.proofs.References.{times-append, times-among}
 use Rattle.cc_laws_heap.proofs.Beside.{SameBeside-refl, SameBeside-trans, SameBeside-change_native}

@@ -1,4 +1,3 @@
-pub mod Numbers
 pub mod Rising
 pub mod Natives
 pub mod Beside

@@ -18,7 +18,7 @@ use Rattle.cc_model.specs.WellFormed.{script_names}
 use Rattle.cc_laws_heap.specs.Sound.{IsSound}
 use Rattle.cc_laws_heap.specs.Freeing.{uncounted, SameBeside, Frees}
 use Rattle.cc_laws_heap.specs.Rounds.{FreesNames}
-use Rattle.cc_laws_heap.proofs.Numbers.{number-exact}
+use Rattle.cc_lists.proofs.Numbers.{number-exact}
 use Rattle.cc_laws_heap.proofs.References.{times-natives_in, native-there}
 use Rattle.cc_laws_heap.proofs.Freed.{outcome, freed_event}
 use Rattle.cc_laws_heap.proofs.Cascades.{IsBalanced-at_rest, IsSound-balanced}

@@ -17,7 +17,7 @@ use Rattle.cc_model.specs.Fresh.{IsFresh, IsTraversed}
 use Rattle.cc_model.specs.End.{root_each, unlink, unlink_each, unroot_each, take_away}
 use Rattle.cc_laws_heap.specs.Sound.{IsSound}
 use Rattle.cc_laws_heap.specs.Freeing.{Uncounted, uncounted, SameBeside}
-use Rattle.cc_laws_heap.proofs.Numbers.{number-exact}
+use Rattle.cc_lists.proofs.Numbers.{number-exact}
 use Rattle.cc_laws_heap.proofs.Natives.{named-member}
 use Rattle.cc_laws_heap.proofs.HoldsTheSame.{HoldsTheSame-add_ref}
 use Rattle.cc_laws_heap.proofs.Cascades.{cascade-sound, cascade-frees}

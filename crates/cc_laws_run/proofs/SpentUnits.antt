@@ -24,7 +24,7 @@ use Rattle.cc_model.specs.Collecting.{Machine, UnitsDone, next_answer, no_units,
 use Rattle.cc_laws_heap.specs.Sound.{IsSound}
 use Rattle.cc_laws_heap.specs.Freeing.{Uncounted}
 use Rattle.cc_laws_heap.specs.Ending.{TakesAway}
-use Rattle.cc_laws_heap.proofs.Numbers.{number-exact}
+use Rattle.cc_lists.proofs.Numbers.{number-exact}
 use Rattle.cc_laws_heap.proofs.Making.{native_names-made}
 use Rattle.cc_laws_heap.proofs.TakingAway.{take_away-takes}
 use Rattle.cc_laws_snapshot.proofs.SoundView.{named-there}

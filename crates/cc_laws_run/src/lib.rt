@@ -1,6 +1,7 @@
 //! Laws of the plain run: no unreached native is forgotten, and its transcript is lawful.
 //!
-//! Each function has an empty body and is a law that its clauses state, over the definitions of `cc_model`.
+//! Each function has an empty body and is a law that its clauses state, over the definitions of `cc_model` and a few
+//! words of this crate's own (`specs`).
 #![tactic(auto)]
 
 mod collections;

@@ -5,7 +5,7 @@ use Rattle.cc_names.specs.declared.name.Name.{Name}
 use Rattle.cc_names.specs.declared.name.Name.TheVariants as name
 use Rattle.cc_names.specs.Names.{same_name, is_native, is_script}
 use Rattle.cc_names.proofs.NameTests.{same_name-true, same_name-refl, same_name-exact}
-use Rattle.cc_laws_heap.proofs.Numbers.{eqb-sym}
+use Rattle.cc_lists.proofs.Numbers.{eqb-sym}
 use Rattle.cc_model.specs.View.{between}
 
 -- names are told apart from either side alike

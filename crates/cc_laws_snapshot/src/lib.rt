@@ -1,6 +1,7 @@
 //! Laws of the snapshot: it is fresh from begin to end, and what is white in it is unreached.
 //!
-//! Each function has an empty body and is a law that its clauses state, over the definitions of `cc_model`.
+//! Each function has an empty body and is a law that its clauses state, over the definitions of `cc_model` and a few
+//! words of this crate's own (`specs`).
 #![tactic(auto)]
 
 mod changes;

@@ -57,6 +57,11 @@ count_by-filter-le {X} p q xs = rw (count_by-filter p q xs) (count_by-weaker bot
     both : X → Bool
     both x = q x && p x
 
+-- a test that passes at each member keeps all
+pub filter-each : {X : Type 0} (p : X → Bool) (xs : List X) → ((x : X) → Among x xs → p x ≡ true) → filter p xs ≡ xs
+filter-each p [] h = refl
+filter-each p (x ∷ xs) h = rw (h x (inl refl)) (ap (λ ys. x ∷ ys) (filter-each p xs (λ y m. h y (inr m))))
+
 -- a filter that drops an element shortens the list
 pub length-filter-less : {X : Type 0} (p : X → Bool) (xs : List X) (x : X) → Among x xs → p x ≡ false → length (filter p xs) < length xs
 length-filter-less p [] x m e = absurd m

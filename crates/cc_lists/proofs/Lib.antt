@@ -8,3 +8,6 @@ pub mod Searching
 pub mod CountsOf
 pub mod OnceEach
 pub mod ListWrites
+pub mod Numbers
+pub mod Places
+pub mod Together

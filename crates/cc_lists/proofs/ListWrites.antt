@@ -133,3 +133,8 @@ length-flat_map_le f n (x ∷ xs) h =
 -- what holds of each member and of one more holds of each member once that stands last
 pub each-push : {X : Type 0} (P : X → Type 0) (xs : List X) (y : X) → ((x : X) → Among x xs → P x) → P y → (x : X) → Among x (xs ++ y ∷ []) → P x
 each-push P xs y h k x m = ⊎_elim (h x) (λ t. ⊎_elim (λ e. subst P e k) (λ n. absurd n) t) (Among-append x xs (y ∷ []) m)
+
+-- functions that agree on the members map alike
+pub map-agree : {X Y : Type 0} (f g : X → Y) (xs : List X) → ((x : X) → Among x xs → f x ≡ g x) → map f xs ≡ map g xs
+map-agree f g [] h = refl
+map-agree f g (x ∷ xs) h = ap (λ y. y ∷ map f xs) (h x (inl refl)) ∙ ap (λ ys. g x ∷ ys) (map-agree f g xs (λ y m. h y (inr m)))
