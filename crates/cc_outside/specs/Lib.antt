@@ -1,4 +1,5 @@
 pub mod Counted
 pub mod Over
 pub mod Reading
+pub mod Reads
 pub mod Writing

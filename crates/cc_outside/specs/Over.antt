@@ -1,7 +1,14 @@
--- A reader or a writer with a count of faults.
+-- A reader or a writer with its counts.
 use Rattle.std.specs.Prelude.{ℕ}
+use Rattle.cc_outside.specs.Reads.{Reads}
 
--- the stream, and how many calls of it failed
-pub record Over (S : Type 0) : Type 0 where
+-- the reader, how many calls of it failed, and how many were answered
+pub record Reader (S : Type 0) : Type 0 where
+  pub stream : S
+  pub faults : ℕ
+  pub reads : Reads
+
+-- the writer, and how many calls of it failed
+pub record Writer (S : Type 0) : Type 0 where
   pub stream : S
   pub faults : ℕ

@@ -2,8 +2,10 @@ ghost use Rattle.std.specs.Prelude.{◌≡◌, ◌↔◌, ◌<◌, ◌≤◌, []
 ghost use Rattle.std.specs.List.{Contains};
 ghost use Rattle.cc_outside.specs.Counted.{raised};
 ghost use Rattle.cc_outside.specs.Reading.{after_read, filled};
+ghost use Rattle.cc_outside.specs.Reads.{no_reads};
 
 use crate::failed::Failed;
+use crate::read_counts::ReadCounts;
 use crate::source::Source;
 use crate::supply::Supply;
 use std::marker::Model;
@@ -16,6 +18,7 @@ pub struct BytesSource {
     fails: Vec<u64>,
     calls: u64,
     faults: u64,
+    reads: ReadCounts,
 }
 
 impl Model for BytesSource {
@@ -24,7 +27,7 @@ impl Model for BytesSource {
 
     ghost Value = { Reading };
 
-    ghost view = { λ s. record { left = s.supply; most = s.most; fails = s.fails.items; calls = s.calls; faults = s.faults } };
+    ghost view = { λ s. record { left = s.supply; most = s.most; fails = s.fails.items; calls = s.calls; faults = s.faults; reads = s.reads } };
 
     ghost invariant = { λ s. 1 ≤ s.most };
 }
@@ -34,7 +37,7 @@ impl BytesSource {
     /// counted from 1, are in `fails` fail. The order in `fails` does not matter.
     pub fn new(bytes: Vec<u8>, fails: Vec<u64>, most: usize) -> BytesSource
         requires { 1 ≤ most }
-        ensures { result ≡ record { left = bytes.items; most = most; fails = fails.items; calls = 0; faults = 0 } }
+        ensures { result ≡ record { left = bytes.items; most = most; fails = fails.items; calls = 0; faults = 0; reads = no_reads } }
     {
         BytesSource {
             supply: Supply::new(bytes),
@@ -42,6 +45,7 @@ impl BytesSource {
             fails,
             calls: 0,
             faults: 0,
+            reads: ReadCounts::new(),
         }
     }
 
@@ -58,6 +62,20 @@ impl BytesSource {
     {
         self.faults
     }
+
+    /// How many reads were answered, at most 18446744073709551615.
+    pub fn answered(&self) -> u64
+        ensures { result ≡ self.now.reads.answered }
+    {
+        self.reads.answered()
+    }
+
+    /// How many reads said that the source is at its end, at most 18446744073709551615.
+    pub fn ended(&self) -> u64
+        ensures { result ≡ self.now.reads.ended }
+    {
+        self.reads.ended()
+    }
 }
 
 impl Source for BytesSource {
@@ -65,18 +83,22 @@ impl Source for BytesSource {
 
     ghost faults = { λ s. s.faults };
 
+    ghost reads = { λ s. s.reads };
+
     /// Fails where this read's number is in the list, and else gives as many bytes as there are, fit and are allowed.
     fn read(&mut self, buf: &mut [u8]) -> Result<usize, Failed>
         ensures fails { IsErr result ↔ Contains self.old.fails (raised self.old.calls 1) }
         ensures count { IfOk result (λ m. m ≡ min (length buf.old) (min self.old.most (length self.old.left))) }
         ensures end { IfOk result (λ m. m ≡ 0 → 0 < length buf.new → self.new.left ≡ []) }
         ensures filled { buf.new ≡ filled self.old.left buf.old result }
-        ensures after { self.new ≡ after_read self.old result }
+        ensures after { self.new ≡ after_read self.old (length buf.new) result }
     {
         self.calls = self.calls.saturating_add(1);
         if self.fails.contains(&self.calls) {
             return Err(Failed::counted(&mut self.faults));
         }
-        Ok(self.supply.give(buf, self.most))
+        let count = self.supply.give(buf, self.most);
+        self.reads.count(buf.len(), count);
+        Ok(count)
     }
 }

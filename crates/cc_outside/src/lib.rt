@@ -2,7 +2,9 @@
 //!
 //! A program reads from a `Source` and writes to a `Sink`. Each call moves some bytes or fails, and a call
 //! that fails moves none and raises a count. So whoever is told of a fault can see by the count that there
-//! was one, and an answer such as "a read failed" cannot be made up.
+//! was one, and an answer such as "a read failed" cannot be made up. The reads that are answered are counted
+//! too, and those of them that say the end: so a caller can promise how often it reads, and that it reads no
+//! more after the end.
 //!
 //! A source may tell which bytes it has left, and a sink which bytes it was given: those in memory do,
 //! standard input and output do not. `BytesSource` and `BytesSink` fail at the calls that they are told to,
@@ -13,6 +15,7 @@ mod bytes_sink;
 mod bytes_source;
 mod count_sink;
 mod failed;
+mod read_counts;
 mod sink;
 mod source;
 mod standard;

@@ -2,36 +2,44 @@ ghost use Rattle.std.specs.Prelude.{◌≡◌, ◌<◌, length, take, IfOk, None
 ghost use Rattle.std.specs.Io.{ReadsAtMost, WritesAtMost};
 ghost use Rattle.std.specs.Io.KnownBytes.{Appends, ReadConsumes};
 ghost use Rattle.cc_outside.specs.Counted.{faults_after};
+ghost use Rattle.cc_outside.specs.Reads.{no_reads, reads_after};
 
 use crate::failed::Failed;
+use crate::read_counts::ReadCounts;
 use crate::sink::Sink;
 use crate::source::Source;
 use std::io::{Read, Stdin, Stdout, Write};
 use std::marker::Model;
 
-/// A source over a reader, standard input if no other is named. It is seen as the reader and its count of faults.
+/// A source over a reader, standard input if no other is named. It is seen as the reader, its count of faults and the
+/// counts of its reads.
 ///
 /// It tells the bytes that the reader tells: of standard input none.
 #[derive(Drop)]
 pub struct StdSource<R = Stdin> {
     input: R,
     faults: u64,
+    reads: ReadCounts,
 }
 
 impl<R> Model for StdSource<R> {
-    ghost use Rattle.cc_outside.specs.Over.{Over};
+    ghost use Rattle.cc_outside.specs.Over.{Reader};
 
-    ghost Value = { Over R };
+    ghost Value = { Reader R };
 
-    ghost view = { λ s. record { stream = s.input; faults = s.faults } };
+    ghost view = { λ s. record { stream = s.input; faults = s.faults; reads = s.reads } };
 }
 
 impl<R: Read> StdSource<R> {
     /// A source over `input`, with no faults so far.
     pub fn new(input: R) -> StdSource<R>
-        ensures { result ≡ record { stream = input; faults = 0 } }
+        ensures { result ≡ record { stream = input; faults = 0; reads = no_reads } }
     {
-        StdSource { input, faults: 0 }
+        StdSource {
+            input,
+            faults: 0,
+            reads: ReadCounts::new(),
+        }
     }
 
     /// How many reads failed. A count of 18446744073709551615 stays.
@@ -47,14 +55,20 @@ impl<R: Read> Source for StdSource<R> {
 
     ghost faults = { λ s. s.faults };
 
+    ghost reads = { λ s. s.reads };
+
     /// Reads once, with no buffer of its own. An interrupted read counts as failed.
     fn read(&mut self, buf: &mut [u8]) -> Result<usize, Failed>
         ensures bound { ReadsAtMost result buf.new }
         ensures bytes { ReadConsumes (R.remaining self.old.stream) (R.remaining self.new.stream) result buf.new }
         ensures faults { self.new.faults ≡ faults_after self.old.faults result }
+        ensures reads { self.new.reads ≡ reads_after self.old.reads (length buf.new) result }
     {
         match self.input.read(buf) {
-            Ok(count) => Ok(count),
+            Ok(count) => {
+                self.reads.count(buf.len(), count);
+                Ok(count)
+            }
             Err(_) => Err(Failed::counted(&mut self.faults)),
         }
     }
@@ -70,9 +84,9 @@ pub struct StdSink<W = Stdout> {
 }
 
 impl<W> Model for StdSink<W> {
-    ghost use Rattle.cc_outside.specs.Over.{Over};
+    ghost use Rattle.cc_outside.specs.Over.{Writer};
 
-    ghost Value = { Over W };
+    ghost Value = { Writer W };
 
     ghost view = { λ s. record { stream = s.output; faults = s.faults } };
 }

@@ -43,6 +43,9 @@ fn a_bytes_source_gives_pieces_fails_and_goes_on(rt: HostRuntime) -> Result<(), 
     reads(&rt, &mut source, &wanted);
     assert_eq!(rt; source.faults(), 3);
     assert_eq!(rt; source.left(), b"".as_slice());
+    assert_eq!(rt; source.read(&mut []), Ok(0));
+    assert_eq!(rt; source.answered(), 7);
+    assert_eq!(rt; source.ended(), 3);
     Ok(())
 }
 

@@ -1,17 +1,20 @@
 -- Lines that were given, and the line that is being read.
-use Rattle.std.proofs.Common.{◌≡◌, ◌≢◌, ℕ, ◌≤◌, ◌<◌, true, false, cond, List, [], ◌∷◌, ◌++◌, ◌==◌, Option, refl, sym, ap, ◌∙◌, append-nil, inl, inr, ⊎_elim, arith}
+use Rattle.std.proofs.Common.{◌≡◌, ◌≢◌, ℕ, ◌≤◌, ◌<◌, true, false, cond, List, [], ◌∷◌, ◌++◌, length, ◌==◌, Option, refl, sym, ap, ◌∙◌, append-nil, inl, inr, ⊎_elim, arith}
 use Rattle.std.proofs.Math.Seq.{take-nil}
 use Rattle.std.proofs.lemmas.Bool.Decides.{nat_tests}
+use Rattle.std.specs.Io.KnownBytes.{IsAtEnd}
 use Rattle.cc_lists.proofs.KnownBytes.{Consumes-nil}
+use Rattle.cc_outside.specs.Reads.{Reads}
 use Rattle.cc_model.specs.Lines.{ended_by, line_after, last_line, lines_from, lines_of, ended_lines_of, rest_from}
-use Rattle.cc_reader.specs.Pending.{Pending}
+use Rattle.cc_reader.specs.Pending.{Pending, nothing_read}
+use Rattle.cc_reader.specs.HasRead.{HasRead}
 use Rattle.cc_reader.specs.Given.{AreLinesOf, HasGiven, IsWhole, IsBroken, IsOver, AreFirst}
 use Rattle.cc_reader.specs.Used.{HasUsed, Uses, IsSpent, Begins}
 use Rattle.cc_reader.proofs.Cutting.{lines_from-append, lines_of-ended, ended_from-byte, rest_from-append, lines_from-ended}
 use Rattle.cc_reader.proofs.Using.{used-all}
 
 -- A READER THAT BEGINS has given no line
-pub HasGiven-none : (start : Option (List ℕ)) (limit : ℕ) → HasGiven start start (record { bytes = []; taken = 0; limit = limit; ended = false; stopped = false }) []
+pub HasGiven-none : (start : Option (List ℕ)) (limit : ℕ) → HasGiven start start (nothing_read limit) []
 HasGiven-none start limit = record {
   given = [];
   consumed = Consumes-nil start;
@@ -23,13 +26,26 @@ HasGiven-none start limit = record {
   at_end = λ e. absurd (cc);
 }
 
+-- and has not read
+pub HasRead-none : (start : Reads) (limit : ℕ) → HasRead start start (nothing_read limit)
+HasRead-none start limit = record {
+  going = λ e. record { answered = omega arith; empty = refl; ended = refl };
+  at_end = λ e. absurd (cc);
+}
+
+-- where the source is at its end no more was taken than the limit
+first_end : (start now : Option (List ℕ)) (p : Pending) (lines : List (List ℕ)) (h : HasGiven start now p lines) → p.ended ≡ true → IsAtEnd now × (length h.given ≤ p.limit)
+first_end start now p lines h e = let end = h.at_end e in (end.0, omega (arith, h.counted, end.1))
+
 -- THE LINES GIVEN are the first ones within the limit
-pub HasGiven-first : (start now : Option (List ℕ)) (p : Pending) (lines : List (List ℕ)) → HasGiven start now p lines → AreFirst start now p.limit lines
+pub HasGiven-first : (start now : Option (List ℕ)) (p : Pending) (lines : List (List ℕ)) → HasGiven start now p lines → AreFirst start now p lines
 HasGiven-first start now p lines h = ⊎_elim
     (λ (w : (lines ≡ ended_lines_of h.used) × (rest_from [] h.used ≡ [])). record {
       given = h.given;
       consumed = h.consumed;
+      counted = h.counted;
       most = omega (arith, h.counted, h.most);
+      at_end = first_end start now p lines h;
       more = lines_of p.bytes;
       lines_are = ap (λ ls. ls ++ lines_of p.bytes) w.0 ∙ ap (λ r. ended_lines_of h.used ++ lines_from r p.bytes) (sym w.1)
           ∙ sym (lines_from-append [] h.used p.bytes) ∙ ap lines_of h.parted;
@@ -37,7 +53,9 @@ HasGiven-first start now p lines h = ⊎_elim
     (λ (w : (p.ended ≡ true) × (p.bytes ≡ []) × (lines ≡ lines_of h.used)). record {
       given = h.given;
       consumed = h.consumed;
+      counted = h.counted;
       most = omega (arith, h.counted, h.most);
+      at_end = first_end start now p lines h;
       more = [];
       lines_are = append-nil lines ∙ w.2 ∙ ap lines_of (sym (append-nil h.used) ∙ ap (λ bs. h.used ++ bs) (sym w.1) ∙ h.parted);
     })
@@ -132,13 +150,15 @@ Begins-last before mid now p q r line begun uses s n = λ start lines h.
     ))
 
 -- where all is used and the source at its end, all lines were given
-pub whole-spent : (start now : Option (List ℕ)) (p : Pending) (lines : List (List ℕ)) → IsSpent p → HasGiven start now p lines → IsWhole start now p.limit lines
+pub whole-spent : (start now : Option (List ℕ)) (p : Pending) (lines : List (List ℕ)) → IsSpent p → HasGiven start now p lines → IsWhole start now p lines
 whole-spent start now p lines s h =
     let e = h.at_end s.1 in
     let all : h.used ≡ h.given = used-all start now p h.used (used_of start now p lines h) s.0 e.1 in
     record {
       given = h.given;
       consumed = h.consumed;
+      counted = h.counted;
+      ended = s.1;
       at_end = e.0;
       within = omega (arith, h.counted, e.1);
       lines_are = ⊎_elim (λ (w : (lines ≡ ended_lines_of h.used) × (rest_from [] h.used ≡ [])). w.0 ∙ sym (lines_of-ended h.used w.1)) (λ (w : (p.ended ≡ true) × (p.bytes ≡ []) × (lines ≡ lines_of h.used)). w.2) h.cut ∙ ap lines_of all;
@@ -146,35 +166,39 @@ whole-spent start now p lines s h =
 
 -- where a line is not begun, and all is used and the source at its end, all lines were given
 pub Begins-whole : (before mid now : Option (List ℕ)) (p q r : Pending) → Begins before mid p q [] → Uses mid now q r [] → IsSpent r →
-    (start : Option (List ℕ)) (lines : List (List ℕ)) → HasGiven start before p lines → IsWhole start now r.limit lines
+    (start : Option (List ℕ)) (lines : List (List ℕ)) → HasGiven start before p lines → IsWhole start now r lines
 Begins-whole before mid now p q r begun uses s = λ start lines h.
     let k = begun start lines h in
     whole-spent start now r lines s (given_of start now r lines (k.used ++ []) (uses start k.used k.has_used)
     (inl (k.ended ∙ ap ended_lines_of (sym (append-nil k.used)), ap (rest_from []) (append-nil k.used) ∙ k.rest)))
 
 -- at a read that failed
-pub Begins-broken : (before mid now : Option (List ℕ)) (p q r : Pending) (line : List ℕ) → Begins before mid p q line → Uses mid now q r [] → r.bytes ≡ [] → r.taken ≤ r.limit →
-    (start : Option (List ℕ)) (lines : List (List ℕ)) → HasGiven start before p lines → IsBroken start now r.limit lines
-Begins-broken before mid now p q r line begun uses e m = λ start lines h.
+pub Begins-broken : (before mid now : Option (List ℕ)) (p q r : Pending) (line : List ℕ) → Begins before mid p q line → Uses mid now q r [] → r.bytes ≡ [] → r.ended ≡ false → r.taken ≤ r.limit →
+    (start : Option (List ℕ)) (lines : List (List ℕ)) → HasGiven start before p lines → IsBroken start now r lines
+Begins-broken before mid now p q r line begun uses e f m = λ start lines h.
     let k = begun start lines h in
     let u = uses start k.used k.has_used in
     let all : k.used ++ [] ≡ u.given = used-all start now r (k.used ++ []) u e m in
     record {
       given = u.given;
       consumed = u.consumed;
+      counted = u.counted;
+      going = f;
       within = omega (arith, u.counted, m);
       lines_are = k.ended ∙ ap ended_lines_of (sym (append-nil k.used) ∙ all);
     }
 
 -- above the limit
-pub Begins-over : (before mid now : Option (List ℕ)) (p q r : Pending) (line : List ℕ) → Begins before mid p q line → Uses mid now q r [] → r.bytes ≡ [] → r.limit < r.taken →
-    (start : Option (List ℕ)) (lines : List (List ℕ)) → HasGiven start before p lines → IsOver start now r.limit lines
-Begins-over before mid now p q r line begun uses e m = λ start lines h.
+pub Begins-over : (before mid now : Option (List ℕ)) (p q r : Pending) (line : List ℕ) → Begins before mid p q line → Uses mid now q r [] → r.bytes ≡ [] → r.ended ≡ false → r.limit < r.taken →
+    (start : Option (List ℕ)) (lines : List (List ℕ)) → HasGiven start before p lines → IsOver start now r lines
+Begins-over before mid now p q r line begun uses e f m = λ start lines h.
     let k = begun start lines h in
     let u = uses start k.used k.has_used in
     record {
       given = u.given;
       consumed = u.consumed;
+      counted = u.counted;
+      going = f;
       above = omega (arith, u.counted, u.most, m);
       lines_are = k.ended ∙ ap ended_lines_of (sym (append-nil k.used) ∙ sym (append-nil (k.used ++ [])) ∙ ap (λ bs. (k.used ++ []) ++ bs) (sym e) ∙ u.parted);
     }

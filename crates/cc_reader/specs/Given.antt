@@ -1,5 +1,5 @@
 -- THE LINES THAT WERE GIVEN ARE THOSE OF THE BYTES TAKEN.
-use Rattle.std.specs.Prelude.{◌≡◌, ℕ, ◌+◌, ◌≤◌, ◌⊎◌, true, List, [], ◌++◌, length, take, Option}
+use Rattle.std.specs.Prelude.{◌≡◌, ℕ, ◌+◌, ◌≤◌, ◌⊎◌, true, false, List, [], ◌++◌, length, take, Option}
 use Rattle.std.specs.Io.KnownBytes.{Consumes, IsAtEnd}
 use Rattle.cc_model.specs.Lines.{lines_of, ended_lines_of, rest_from}
 use Rattle.cc_reader.specs.Pending.{Pending}
@@ -22,31 +22,39 @@ pub record HasGiven (start now : Option (List ℕ)) (p : Pending) (lines : List 
   pub at_end : p.ended ≡ true → IsAtEnd now × (p.taken ≤ p.limit)
 
 -- the source is at its end, and these were all lines
-pub record IsWhole (start now : Option (List ℕ)) (limit : ℕ) (lines : List (List ℕ)) : Type 0 where
+pub record IsWhole (start now : Option (List ℕ)) (p : Pending) (lines : List (List ℕ)) : Type 0 where
   pub given : List ℕ
   pub consumed : Consumes start now given
+  pub counted : length given ≡ p.taken
+  pub ended : p.ended ≡ true
   pub at_end : IsAtEnd now
-  pub within : length given ≤ limit
+  pub within : length given ≤ p.limit
   pub lines_are : lines ≡ lines_of given
 
 -- a read failed, and these were the lines that ended
-pub record IsBroken (start now : Option (List ℕ)) (limit : ℕ) (lines : List (List ℕ)) : Type 0 where
+pub record IsBroken (start now : Option (List ℕ)) (p : Pending) (lines : List (List ℕ)) : Type 0 where
   pub given : List ℕ
   pub consumed : Consumes start now given
-  pub within : length given ≤ limit
+  pub counted : length given ≡ p.taken
+  pub going : p.ended ≡ false
+  pub within : length given ≤ p.limit
   pub lines_are : lines ≡ ended_lines_of given
 
 -- one byte more than the limit was taken, and these were the lines that ended within the limit
-pub record IsOver (start now : Option (List ℕ)) (limit : ℕ) (lines : List (List ℕ)) : Type 0 where
+pub record IsOver (start now : Option (List ℕ)) (p : Pending) (lines : List (List ℕ)) : Type 0 where
   pub given : List ℕ
   pub consumed : Consumes start now given
-  pub above : length given ≡ limit + 1
-  pub lines_are : lines ≡ ended_lines_of (take limit given)
+  pub counted : length given ≡ p.taken
+  pub going : p.ended ≡ false
+  pub above : length given ≡ p.limit + 1
+  pub lines_are : lines ≡ ended_lines_of (take p.limit given)
 
 -- these are the first lines of the bytes within the limit
-pub record AreFirst (start now : Option (List ℕ)) (limit : ℕ) (lines : List (List ℕ)) : Type 0 where
+pub record AreFirst (start now : Option (List ℕ)) (p : Pending) (lines : List (List ℕ)) : Type 0 where
   pub given : List ℕ
   pub consumed : Consumes start now given
-  pub most : length given ≤ limit + 1
+  pub counted : length given ≡ p.taken
+  pub most : length given ≤ p.limit + 1
+  pub at_end : p.ended ≡ true → IsAtEnd now × (length given ≤ p.limit)
   pub more : List (List ℕ)
-  pub lines_are : lines ++ more ≡ lines_of (take limit given)
+  pub lines_are : lines ++ more ≡ lines_of (take p.limit given)

@@ -1,5 +1,6 @@
 pub mod FormsNow
 pub mod Words
 pub mod Pending
+pub mod HasRead
 pub mod Given
 pub mod Used

@@ -1,15 +1,17 @@
 ghost use Rattle.std.specs.Prelude.{◌≡◌, ◌<◌, [], ◌∷◌, length, IsTrue, IfSome};
 ghost use Rattle.cc_model.specs.Lines.{without_return};
 ghost use Rattle.cc_model.specs.Tokens.{tokens_of};
-ghost use Rattle.cc_model.specs.Forms.{census_form, collect_form, copy_native_form, drop_native_form, get_native_form, native_form, set_native_form, set_none_form};
+ghost use Rattle.cc_model.specs.Forms.{census_form, collect_form, copy_native_form, copy_script_form, drop_native_form, drop_script_form, expose_form, gc_form, get_native_form, get_script_form, native_form, put_none_form, put_script_form, script_form, set_native_form, set_none_form, set_script_form, take_form};
 ghost use Rattle.cc_model.specs.Ranges.{in_range};
 ghost use Rattle.cc_model.specs.Asks.{command_in, command_of};
 ghost use Rattle.cc_reader.specs.FormsNow.{forms_now, is_known};
 ghost use Rattle.cc_reader.specs.Words.{first_read};
 
-use crate::tokens::{native, next_token, number, one_token, three_tokens, two_tokens};
+use crate::tokens::{
+    native, next_token, number, one_token, register_of, script, slots_number, three_tokens,
+    two_tokens,
+};
 use cc_model::Command;
-use cc_names::Reg;
 
 /// A line without the carriage return at its end.
 fn without_return(line: &[u8]) -> &[u8]
@@ -33,42 +35,53 @@ fn read_native(after: &[u8]) -> Option<Command>
     ensures in_range { IfSome result (λ c. IsTrue (in_range c)) }
 {
     let (to, slots) = two_tokens(after)?;
-    let register = native(to)?;
-    let slots = number(slots, 64)?;
-    Some(Command::Native(register, slots as u8))
+    Some(Command::Native(native(to)?, slots_number(slots)?))
+}
+
+/// What stands behind the word `script`.
+fn read_script(after: &[u8]) -> Option<Command>
+    ensures form { result ≡ first_read (script_form ∷ []) (tokens_of after.now) }
+    ensures known { IfSome result (λ c. IsTrue (is_known c)) }
+    ensures in_range { IfSome result (λ c. IsTrue (in_range c)) }
+{
+    let (to, slots) = two_tokens(after)?;
+    Some(Command::Script(script(to)?, slots_number(slots)?))
 }
 
 /// What stands behind the word `copy`.
 fn read_copy(after: &[u8]) -> Option<Command>
-    ensures form { result ≡ first_read (copy_native_form ∷ []) (tokens_of after.now) }
+    ensures form { result ≡ first_read (copy_native_form ∷ copy_script_form ∷ []) (tokens_of after.now) }
     ensures known { IfSome result (λ c. IsTrue (is_known c)) }
     ensures in_range { IfSome result (λ c. IsTrue (in_range c)) }
 {
     let (to, from) = two_tokens(after)?;
-    Some(Command::CopyNative(native(to)?, native(from)?))
+    match native(to) {
+        Some(register) => Some(Command::CopyNative(register, native(from)?)),
+        None => Some(Command::CopyScript(script(to)?, script(from)?)),
+    }
 }
 
 /// What stands behind the word `drop`.
 fn read_drop(after: &[u8]) -> Option<Command>
-    ensures form { result ≡ first_read (drop_native_form ∷ []) (tokens_of after.now) }
+    ensures form { result ≡ first_read (drop_native_form ∷ drop_script_form ∷ []) (tokens_of after.now) }
     ensures known { IfSome result (λ c. IsTrue (is_known c)) }
     ensures in_range { IfSome result (λ c. IsTrue (in_range c)) }
 {
     let register = one_token(after)?;
-    Some(Command::Drop(Reg::N(native(register)?)))
+    Some(Command::Drop(register_of(register)?))
 }
 
 /// What stands behind the word `set`.
 fn read_set(after: &[u8]) -> Option<Command>
-    ensures form { result ≡ first_read (set_native_form ∷ set_none_form ∷ []) (tokens_of after.now) }
+    ensures form { result ≡ first_read (set_native_form ∷ set_script_form ∷ set_none_form ∷ []) (tokens_of after.now) }
     ensures known { IfSome result (λ c. IsTrue (is_known c)) }
     ensures in_range { IfSome result (λ c. IsTrue (in_range c)) }
 {
     let (to, slot, from) = three_tokens(after)?;
     let register = native(to)?;
     let slot = number(slot, u32::MAX)?;
-    match native(from) {
-        Some(source) => Some(Command::Set(register, slot, Some(Reg::N(source)))),
+    match register_of(from) {
+        Some(source) => Some(Command::Set(register, slot, Some(source))),
         None => {
             if from == b"none".as_slice() {
                 Some(Command::Set(register, slot, None))
@@ -81,15 +94,61 @@ fn read_set(after: &[u8]) -> Option<Command>
 
 /// What stands behind the word `get`.
 fn read_get(after: &[u8]) -> Option<Command>
-    ensures form { result ≡ first_read (get_native_form ∷ []) (tokens_of after.now) }
+    ensures form { result ≡ first_read (get_native_form ∷ get_script_form ∷ []) (tokens_of after.now) }
     ensures known { IfSome result (λ c. IsTrue (is_known c)) }
     ensures in_range { IfSome result (λ c. IsTrue (in_range c)) }
 {
     let (to, from, slot) = three_tokens(after)?;
-    let register = native(to)?;
+    let register = register_of(to)?;
     let from = native(from)?;
     let slot = number(slot, u32::MAX)?;
-    Some(Command::Get(Reg::N(register), from, slot))
+    Some(Command::Get(register, from, slot))
+}
+
+/// What stands behind the word `put`.
+fn read_put(after: &[u8]) -> Option<Command>
+    ensures form { result ≡ first_read (put_script_form ∷ put_none_form ∷ []) (tokens_of after.now) }
+    ensures known { IfSome result (λ c. IsTrue (is_known c)) }
+    ensures in_range { IfSome result (λ c. IsTrue (in_range c)) }
+{
+    let (to, slot, from) = three_tokens(after)?;
+    let register = script(to)?;
+    let slot = number(slot, u32::MAX)?;
+    match script(from) {
+        Some(source) => Some(Command::Put(register, slot, Some(source))),
+        None => {
+            if from == b"none".as_slice() {
+                Some(Command::Put(register, slot, None))
+            } else {
+                None
+            }
+        }
+    }
+}
+
+/// What stands behind the word `take`.
+fn read_take(after: &[u8]) -> Option<Command>
+    ensures form { result ≡ first_read (take_form ∷ []) (tokens_of after.now) }
+    ensures known { IfSome result (λ c. IsTrue (is_known c)) }
+    ensures in_range { IfSome result (λ c. IsTrue (in_range c)) }
+{
+    let (to, from, slot) = three_tokens(after)?;
+    let register = script(to)?;
+    let from = script(from)?;
+    let slot = number(slot, u32::MAX)?;
+    Some(Command::Take(register, from, slot))
+}
+
+/// What stands behind the word `expose`.
+fn read_expose(after: &[u8]) -> Option<Command>
+    ensures form { result ≡ first_read (expose_form ∷ []) (tokens_of after.now) }
+    ensures known { IfSome result (λ c. IsTrue (is_known c)) }
+    ensures in_range { IfSome result (λ c. IsTrue (in_range c)) }
+{
+    let (from, slot) = two_tokens(after)?;
+    let register = native(from)?;
+    let slot = number(slot, u32::MAX)?;
+    Some(Command::Expose(register, slot))
 }
 
 /// What stands behind the word `collect`.
@@ -100,6 +159,18 @@ fn read_collect(after: &[u8]) -> Option<Command>
 {
     match next_token(after) {
         None => Some(Command::Collect),
+        Some(_) => None,
+    }
+}
+
+/// What stands behind the word `gc`.
+fn read_gc(after: &[u8]) -> Option<Command>
+    ensures form { result ≡ first_read (gc_form ∷ []) (tokens_of after.now) }
+    ensures known { IfSome result (λ c. IsTrue (is_known c)) }
+    ensures in_range { IfSome result (λ c. IsTrue (in_range c)) }
+{
+    match next_token(after) {
+        None => Some(Command::Gc),
         Some(_) => None,
     }
 }
@@ -124,6 +195,8 @@ fn read_word(word: &[u8], after: &[u8]) -> Option<Command>
 {
     if word == b"native".as_slice() {
         read_native(after)
+    } else if word == b"script".as_slice() {
+        read_script(after)
     } else if word == b"copy".as_slice() {
         read_copy(after)
     } else if word == b"drop".as_slice() {
@@ -132,8 +205,16 @@ fn read_word(word: &[u8], after: &[u8]) -> Option<Command>
         read_set(after)
     } else if word == b"get".as_slice() {
         read_get(after)
+    } else if word == b"put".as_slice() {
+        read_put(after)
+    } else if word == b"take".as_slice() {
+        read_take(after)
+    } else if word == b"expose".as_slice() {
+        read_expose(after)
     } else if word == b"collect".as_slice() {
         read_collect(after)
+    } else if word == b"gc".as_slice() {
+        read_gc(after)
     } else if word == b"census".as_slice() {
         read_census(after)
     } else {

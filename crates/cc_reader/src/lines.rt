@@ -1,6 +1,7 @@
 ghost use Rattle.std.specs.Prelude.{◌≡◌, ◌≢◌, ℕ, ◌<◌, ◌≤◌, List, [], ◌∷◌, ◌++◌, length, Option, Ok, Err, OnOk, IfOk, false, true, OnErr};
 ghost use Rattle.cc_lists.specs.Faults.{Rose};
-ghost use Rattle.cc_reader.specs.Pending.{weight};
+ghost use Rattle.cc_reader.specs.HasRead.{HasRead, ReadsOn};
+ghost use Rattle.cc_reader.specs.Pending.{nothing_read, weight};
 ghost use Rattle.cc_reader.specs.Given.{HasGiven, IsBroken, IsOver, IsWhole};
 ghost use Rattle.cc_reader.specs.Used.{IsKept, IsSpent};
 
@@ -45,16 +46,16 @@ fn next_line<S: Source>(
     ensures long { result ≡ Ok Line.TooLong → (line : List ℕ) × (120 < length line) × ((start : Option (List ℕ)) (lines : List (List ℕ)) →
         HasGiven start (S.left source.old) window.old lines → HasGiven start (S.left source.new) window.new (lines ++ line ∷ [])) }
     ensures whole { result ≡ Ok Line.End → (start : Option (List ℕ)) (lines : List (List ℕ)) →
-        HasGiven start (S.left source.old) window.old lines → IsWhole start (S.left source.new) window.new.limit lines }
+        HasGiven start (S.left source.old) window.old lines → IsWhole start (S.left source.new) window.new lines }
     ensures broken { result ≡ Err ReadStop.Fault → (start : Option (List ℕ)) (lines : List (List ℕ)) →
-        HasGiven start (S.left source.old) window.old lines → IsBroken start (S.left source.new) window.new.limit lines }
+        HasGiven start (S.left source.old) window.old lines → IsBroken start (S.left source.new) window.new lines }
     ensures over { result ≡ Err ReadStop.Limit → (start : Option (List ℕ)) (lines : List (List ℕ)) →
-        HasGiven start (S.left source.old) window.old lines → IsOver start (S.left source.new) window.new.limit lines }
+        HasGiven start (S.left source.old) window.old lines → IsOver start (S.left source.new) window.new lines }
     ensures counted { result ≡ Err ReadStop.Limit → window.new.limit < window.new.taken }
     ensures spent { IsSpent window.old → result ≡ Ok Line.End }
     ensures unread { IsSpent window.old → source.new ≡ source.old }
     ensures limit { window.new.limit ≡ window.old.limit }
-    ensures stopped { window.new.stopped ≡ window.old.stopped }
+    ensures reads { ReadsOn (S.reads source.old) (S.reads source.new) window.old window.new }
     ensures falls { IfOk result (λ line. line ≢ Line.End → weight window.new < weight window.old) }
     ensures calm { OnOk result (S.faults source.new ≡ S.faults source.old) }
     ensures fault { result ≡ Err ReadStop.Fault → Rose (S.faults source.old) (S.faults source.new) }
@@ -88,6 +89,7 @@ pub struct Lines<'a, S> {
     source: &'a mut S,
     window: Window,
     text: LineBuf,
+    stopped: bool,
 }
 
 impl<'a, S: Source> Lines<'a, S> {
@@ -95,29 +97,33 @@ impl<'a, S: Source> Lines<'a, S> {
     pub fn new(source: &'a mut S, bytes: u32) -> Lines<'a, S>
         ensures same { result.source.ghost_name ≡ source.entry.ghost_name }
         ensures now { result.source.now ≡ source.old }
-        ensures window { result.window ≡ record { bytes = []; taken = 0; limit = bytes; ended = false; stopped = false } }
+        ensures going { result.stopped ≡ false }
+        ensures window { result.window ≡ nothing_read bytes }
         ensures given { HasGiven (S.left source.old) (S.left result.source.now) result.window [] }
+        ensures read { HasRead (S.reads source.old) (S.reads result.source.now) result.window }
     {
         Lines {
             source,
             window: Window::new(bytes),
             text: LineBuf::new(),
+            stopped: false,
         }
     }
 
     /// Reads the next line. `Text` leaves it in `text`; a line of more than 120 bytes is read to its line feed and is
     /// `TooLong`. The last line may lack its line feed; `End` then follows without a further read. After `End` and
-    /// after an error no more may be read.
+    /// after an error no more may be read. Each read that is answered takes a byte, but for the last one, which says that
+    /// the source is at its end.
     ///
     /// `Fault` where a read failed, `Limit` where the source has more bytes than may be used; the line that was begun
     /// is then lost.
     pub fn next(&mut self) -> Result<Line, ReadStop>
-        requires going { self.old.window.stopped ≡ false }
+        requires going { self.old.stopped ≡ false }
         ensures same { self.new.source.ghost_name ≡ self.old.source.ghost_name }
         ensures limit { self.new.window.limit ≡ self.old.window.limit }
-        ensures going_on { IfOk result (λ line. line ≢ Line.End → self.new.window.stopped ≡ false) }
-        ensures ends { result ≡ Ok Line.End → self.new.window.stopped ≡ true }
-        ensures stops { OnErr result (self.new.window.stopped ≡ true) }
+        ensures going_on { IfOk result (λ line. line ≢ Line.End → self.new.stopped ≡ false) }
+        ensures ends { result ≡ Ok Line.End → self.new.stopped ≡ true }
+        ensures stops { OnErr result (self.new.stopped ≡ true) }
         ensures text { result ≡ Ok Line.Text → length self.new.text ≤ 120 }
         ensures kept { result ≡ Ok Line.Text → (start : Option (List ℕ)) (lines : List (List ℕ)) →
             HasGiven start (S.left self.old.source.now) self.old.window lines →
@@ -127,16 +133,17 @@ impl<'a, S: Source> Lines<'a, S> {
             HasGiven start (S.left self.new.source.now) self.new.window (lines ++ line ∷ [])) }
         ensures whole { result ≡ Ok Line.End → (start : Option (List ℕ)) (lines : List (List ℕ)) →
             HasGiven start (S.left self.old.source.now) self.old.window lines →
-            IsWhole start (S.left self.new.source.now) self.new.window.limit lines }
+            IsWhole start (S.left self.new.source.now) self.new.window lines }
         ensures broken { result ≡ Err ReadStop.Fault → (start : Option (List ℕ)) (lines : List (List ℕ)) →
             HasGiven start (S.left self.old.source.now) self.old.window lines →
-            IsBroken start (S.left self.new.source.now) self.new.window.limit lines }
+            IsBroken start (S.left self.new.source.now) self.new.window lines }
         ensures over { result ≡ Err ReadStop.Limit → (start : Option (List ℕ)) (lines : List (List ℕ)) →
             HasGiven start (S.left self.old.source.now) self.old.window lines →
-            IsOver start (S.left self.new.source.now) self.new.window.limit lines }
+            IsOver start (S.left self.new.source.now) self.new.window lines }
         ensures counted { result ≡ Err ReadStop.Limit → self.new.window.limit < self.new.window.taken }
         ensures spent { IsSpent self.old.window → result ≡ Ok Line.End }
         ensures unread { IsSpent self.old.window → self.new.source.now ≡ self.old.source.now }
+        ensures reads { ReadsOn (S.reads self.old.source.now) (S.reads self.new.source.now) self.old.window self.new.window }
         ensures falls { IfOk result (λ line. line ≢ Line.End → weight self.new.window < weight self.old.window) }
         ensures calm { OnOk result (S.faults self.new.source.now ≡ S.faults self.old.source.now) }
         ensures fault { result ≡ Err ReadStop.Fault → Rose (S.faults self.old.source.now) (S.faults self.new.source.now) }
@@ -144,10 +151,7 @@ impl<'a, S: Source> Lines<'a, S> {
     {
         self.text = LineBuf::new();
         let line = next_line(&mut self.window, self.source, &mut self.text);
-        let goes_on = matches!(line, Ok(Line::Text | Line::TooLong));
-        if !goes_on {
-            self.window.stop();
-        }
+        self.stopped = !matches!(line, Ok(Line::Text | Line::TooLong));
         line
     }
 

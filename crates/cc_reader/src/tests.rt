@@ -8,7 +8,7 @@ use std::test::Fail;
 
 #[test]
 fn lines_are_parsed(rt: HostRuntime) {
-    let table: [(&[u8], Option<Command>); 36] = [
+    let table: [(&[u8], Option<Command>); 35] = [
         (b"native n0 64", Some(Command::Native(0, 64))),
         (b"native n0 65", None),
         (b"native n0 01", None),
@@ -25,7 +25,6 @@ fn lines_are_parsed(rt: HostRuntime) {
         (b"copy n3 n4", Some(Command::CopyNative(3, 4))),
         (b"copy n3 s4", None),
         (b"drop n9", Some(Command::Drop(Reg::N(9)))),
-        (b"drop s9", None),
         (
             b"set n0 4294967295 n0",
             Some(Command::Set(0, 4294967295, Some(Reg::N(0)))),
@@ -55,6 +54,64 @@ fn lines_are_parsed(rt: HostRuntime) {
     assert_eq!(rt; parse(b""), Some(Command::Nothing));
     assert_eq!(rt; parse(b"%"), Some(Command::Nothing));
     assert_eq!(rt; parse(b"census %"), None);
+}
+
+#[test]
+fn words_of_script_objects_are_parsed(rt: HostRuntime) {
+    let table: [(&[u8], Option<Command>); 40] = [
+        (b"script s0 64", Some(Command::Script(0, 64))),
+        (b"script s255 0", Some(Command::Script(255, 0))),
+        (b"script s0 65", None),
+        (b"script s256 0", None),
+        (b"script s0 01", None),
+        (b"script n0 1", None),
+        (b"script s0", None),
+        (b"copy s0 s255", Some(Command::CopyScript(0, 255))),
+        (b"copy s0 n0", None),
+        (b"copy n1 s0", None),
+        (b"drop s9", Some(Command::Drop(Reg::S(9)))),
+        (b"drop s09", None),
+        (b"drop none", None),
+        (b"drop s1 s2", None),
+        (
+            b"set n0 4294967295 s0",
+            Some(Command::Set(0, 4294967295, Some(Reg::S(0)))),
+        ),
+        (b"set s0 0 n0", None),
+        (b"set s0 0 none", None),
+        (b"get s0 n1 0", Some(Command::Get(Reg::S(0), 1, 0))),
+        (b"get s0 s1 0", None),
+        (b"get n0 s1 0", None),
+        (
+            b"put s0 4294967295 none",
+            Some(Command::Put(0, 4294967295, None)),
+        ),
+        (b"put s0 4294967296 none", None),
+        (b"put s1 2 s3", Some(Command::Put(1, 2, Some(3)))),
+        (b"put s1 2 n3", None),
+        (b"put n0 0 s1", None),
+        (b"put s0 0", None),
+        (b"take s1 s2 3", Some(Command::Take(1, 2, 3))),
+        (b"take s0 n1 0", None),
+        (b"take n0 s1 0", None),
+        (b"take s0 s1 none", None),
+        (
+            b"expose n255 4294967295",
+            Some(Command::Expose(255, 4294967295)),
+        ),
+        (b"expose s0 0", None),
+        (b"expose n0", None),
+        (b"gc", Some(Command::Gc)),
+        (b" gc ", Some(Command::Gc)),
+        (b"gc now", None),
+        (b"GC", None),
+        (b"collect", Some(Command::Collect)),
+        (b"weakmap s0", None),
+        (b"wrap s0 n0", None),
+    ];
+    for (line, want) in table.iter() {
+        assert_eq!(rt; parse(line), *want, "at {line:?}");
+    }
 }
 
 /// Reads a line, looks at its answer and its text, and reads the next one where there may be one.
@@ -151,6 +208,19 @@ fn a_read_that_fails_is_told(rt: HostRuntime) -> Result<(), Fail> {
     reads(&rt, &mut source, 100, first, Err(ReadStop::Fault));
     assert_eq!(rt; source.faults(), 1);
     assert_eq!(rt; source.left(), b"n1 0\n".as_slice());
+    assert_eq!(rt; source.answered(), 1);
+    assert_eq!(rt; source.ended(), 0);
+    Ok(())
+}
+
+#[test]
+fn no_read_follows_the_end(rt: HostRuntime) -> Result<(), Fail> {
+    let bytes = b"census".to_vec(rt.alloc())?;
+    let mut source = BytesSource::new(bytes, Vec::new(rt.alloc()), 4);
+    let first: (Result<Line, ReadStop>, &[u8]) = (Ok(Line::Text), b"census");
+    reads(&rt, &mut source, 100, first, Ok(Line::End));
+    assert_eq!(rt; source.answered(), 3);
+    assert_eq!(rt; source.ended(), 1);
     Ok(())
 }
 

@@ -1,5 +1,9 @@
-ghost use Rattle.std.specs.Prelude.{◌≡◌, ◌≢◌, ◌<◌, ◌≤◌, [], ◌∷◌, length, slice_index, IfNone, IfSome};
-ghost use Rattle.cc_model.specs.Tokens.{digits_from, native_register, number_within, tokens_of};
+ghost use Rattle.std.specs.Prelude.{◌≡◌, ◌≢◌, ◌<◌, ◌≤◌, [], ◌∷◌, length, slice_index, IsTrue, IfNone, IfSome};
+ghost use Rattle.cc_model.specs.Tokens.{digits_from, native_register, number_within, register_with, script_register, slots_number, tokens_of};
+ghost use Rattle.cc_model.specs.Ranges.{is_reg};
+ghost use Rattle.cc_reader.specs.Words.{register_of};
+
+use cc_names::Reg;
 
 /// What stands behind the spaces at the front.
 fn without_spaces(line: &[u8]) -> &[u8]
@@ -72,16 +76,53 @@ pub(crate) fn number(token: &[u8], most: u32) -> Option<u32>
     digits(token, most)
 }
 
+/// The number of slots that a token says.
+pub(crate) fn slots_number(token: &[u8]) -> Option<u8>
+    ensures value { result ≡ slots_number token.now }
+    ensures within { IfSome result (λ n. n ≤ 64) }
+{
+    let slots = number(token, 64)?;
+    Some(slots as u8)
+}
+
+/// The number of the register that a token names, where registers of its kind begin with this letter.
+fn register_with(letter: u8, token: &[u8]) -> Option<u8>
+    ensures { result ≡ register_with letter token.now }
+{
+    match token {
+        [first, digits @ ..] => {
+            if *first != letter {
+                return None;
+            }
+            let value = number(digits, 255)?;
+            Some(value as u8)
+        }
+        [] => None,
+    }
+}
+
 /// The number of the native register that a token names.
 pub(crate) fn native(token: &[u8]) -> Option<u8>
     ensures { result ≡ native_register token.now }
 {
-    match token {
-        [b'n', digits @ ..] => match number(digits, 255) {
-            Some(value) => Some(value as u8),
-            None => None,
-        },
-        _ => None,
+    register_with(b'n', token)
+}
+
+/// The number of the script register that a token names.
+pub(crate) fn script(token: &[u8]) -> Option<u8>
+    ensures { result ≡ script_register token.now }
+{
+    register_with(b's', token)
+}
+
+/// The register of either kind that a token names.
+pub(crate) fn register_of(token: &[u8]) -> Option<Reg>
+    ensures register { result ≡ register_of token.now }
+    ensures in_range { IfSome result (λ r. IsTrue (is_reg r)) }
+{
+    match native(token) {
+        Some(register) => Some(Reg::N(register)),
+        None => Some(Reg::S(script(token)?)),
     }
 }
 

@@ -1,6 +1,7 @@
 ghost use Rattle.std.specs.Prelude.{◌≡◌, ◌+◌, ◌≤◌, ◌<◌, ◌↔◌, [], ◌∷◌, length, IfOk, IfSome, IsSome, IsTrue, OnErr, OnOk, Ok, Err, true, false, None};
 ghost use Rattle.cc_lists.specs.Faults.{Rose};
-ghost use Rattle.cc_reader.specs.Pending.{weight};
+ghost use Rattle.cc_reader.specs.HasRead.{ReadsOn};
+ghost use Rattle.cc_reader.specs.Pending.{nothing_read, weight};
 ghost use Rattle.cc_reader.specs.Used.{IsSpent, Refills, Uses};
 
 use crate::read_stop::ReadStop;
@@ -19,7 +20,6 @@ pub(crate) struct Window {
     taken: u64,
     limit: u64,
     ended: bool,
-    stopped: bool,
 }
 
 impl Model for Window {
@@ -33,7 +33,6 @@ impl Model for Window {
       taken = w.taken;
       limit = w.limit;
       ended = w.ended;
-      stopped = w.stopped;
     } };
 
     ghost invariant = { λ w. (w.start ≤ w.end) × (w.end ≤ 4096) × (w.taken ≤ w.limit + 1) × (w.limit < 2 ^ 32) };
@@ -42,7 +41,7 @@ impl Model for Window {
 impl Window {
     /// A window in which nothing was read. `limit` is how many bytes may be used.
     pub(crate) fn new(limit: u32) -> Window
-        ensures { result ≡ record { bytes = []; taken = 0; limit = limit; ended = false; stopped = false } }
+        ensures { result ≡ nothing_read limit }
     {
         Window {
             buffer: [0; 4096],
@@ -51,7 +50,6 @@ impl Window {
             taken: 0,
             limit: u64::from(limit),
             ended: false,
-            stopped: false,
         }
     }
 
@@ -60,13 +58,6 @@ impl Window {
         ensures { result ≡ self.now.taken }
     {
         self.taken
-    }
-
-    /// Notes that the reader has stopped.
-    pub(crate) fn stop(&mut self)
-        ensures { self.new ≡ record self.old { stopped = true } }
-    {
-        self.stopped = true;
     }
 
     /// Whether nothing is pending.
@@ -107,7 +98,8 @@ impl Window {
         ensures below { result ≡ Err ReadStop.Fault → self.new.taken ≤ self.new.limit }
         ensures over { result ≡ Err ReadStop.Limit → self.new.limit < self.new.taken }
         ensures no_more { weight self.new ≤ weight self.old }
-        ensures stopped { self.new.stopped ≡ self.old.stopped }
+        ensures unended { OnErr result (self.new.ended ≡ false) }
+        ensures reads { ReadsOn (S.reads source.old) (S.reads source.new) self.old self.new }
         ensures calm { OnOk result (S.faults source.new ≡ S.faults source.old) }
         ensures fault { result ≡ Err ReadStop.Fault → Rose (S.faults source.old) (S.faults source.new) }
         ensures unfaulted { result ≡ Err ReadStop.Limit → S.faults source.new ≡ S.faults source.old }
@@ -141,7 +133,8 @@ impl Window {
         ensures over { result ≡ Err ReadStop.Limit → self.new.limit < self.new.taken }
         ensures no_more { weight self.new ≤ weight self.old }
         ensures limit { self.new.limit ≡ self.old.limit }
-        ensures stopped { self.new.stopped ≡ self.old.stopped }
+        ensures unended { OnErr result (self.new.ended ≡ false) }
+        ensures reads { ReadsOn (S.reads source.old) (S.reads source.new) self.old self.new }
         ensures calm { OnOk result (S.faults source.new ≡ S.faults source.old) }
         ensures fault { result ≡ Err ReadStop.Fault → Rose (S.faults source.old) (S.faults source.new) }
         ensures unfaulted { result ≡ Err ReadStop.Limit → S.faults source.new ≡ S.faults source.old }
@@ -172,7 +165,8 @@ impl Window {
         ensures falls { IfOk result (λ r. IsSome r → weight self.new < weight self.old) }
         ensures no_more { weight self.new ≤ weight self.old }
         ensures limit { self.new.limit ≡ self.old.limit }
-        ensures stopped { self.new.stopped ≡ self.old.stopped }
+        ensures unended { OnErr result (self.new.ended ≡ false) }
+        ensures reads { ReadsOn (S.reads source.old) (S.reads source.new) self.old self.new }
         ensures calm { OnOk result (S.faults source.new ≡ S.faults source.old) }
         ensures fault { result ≡ Err ReadStop.Fault → Rose (S.faults source.old) (S.faults source.new) }
         ensures unfaulted { result ≡ Err ReadStop.Limit → S.faults source.new ≡ S.faults source.old }

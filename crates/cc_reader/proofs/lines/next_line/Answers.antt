@@ -22,7 +22,7 @@ bytes-init g c = record {
   fits = grind (arith, ap length c.requires);
   calm = refl;
   limit = refl;
-  stopped = refl;
+  reads = λ start h. h;
 }
 
 pub returns-in_err-byte-clause-broken : goal.returns-in_err-byte-clause-broken
@@ -30,14 +30,14 @@ returns-in_err-byte-clause-broken g c = λ e start lines.
     let left = g.S.Source.left in
     let i = c.bytes.invariant.line in
     Begins-broken (left c.args.source.now) (left c.bytes.source) (left c.next_byte.new.source) c.args.window.now c.bytes.window c.next_byte.new.self i.0 i.2
-    c.in_err-byte.ensures.stop c.in_err-byte.ensures.none (c.in_err-byte.ensures.below (search rules)) start lines
+    c.in_err-byte.ensures.stop c.in_err-byte.ensures.none c.in_err-byte.ensures.unended (c.in_err-byte.ensures.below (search rules)) start lines
 
 pub returns-in_err-byte-clause-over : goal.returns-in_err-byte-clause-over
 returns-in_err-byte-clause-over g c = λ e start lines.
     let left = g.S.Source.left in
     let i = c.bytes.invariant.line in
     Begins-over (left c.args.source.now) (left c.bytes.source) (left c.next_byte.new.source) c.args.window.now c.bytes.window c.next_byte.new.self i.0 i.2
-    c.in_err-byte.ensures.stop c.in_err-byte.ensures.none (c.in_err-byte.ensures.over (search rules)) start lines
+    c.in_err-byte.ensures.stop c.in_err-byte.ensures.none c.in_err-byte.ensures.unended (c.in_err-byte.ensures.over (search rules)) start lines
 
 pub returns-then-is_long-clause-long : goal.returns-then-is_long-clause-long
 returns-then-is_long-clause-long g c = λ _.
@@ -74,7 +74,7 @@ bytes-preserved g c =
       fits = (c.keep-is_long.ensures i.0 i.1).fits;
       calm = c.in_ok-byte.ensures.calm ∙ c.bytes.invariant.calm;
       limit = c.next_byte.ensures.limit ∙ c.bytes.invariant.limit;
-      stopped = c.next_byte.ensures.stopped ∙ c.bytes.invariant.stopped;
+      reads = λ start h. c.next_byte.ensures.reads start (c.bytes.invariant.reads start h);
     }
 
 pub returns-then-is_long-2-clause-long : goal.returns-then-is_long-2-clause-long
