@@ -1,5 +1,5 @@
 -- ONE NATIVE CHANGED AT ITS KEY: what the lists show then is one native changed by its number.
-use Rattle.std.proofs.Common.{◌≡◌, ◌≢◌, ℕ, ◌<◌, ◌≤◌, true, false, List, [], ◌∷◌, map, length, Option, Some, None, option_map, refl, sym, ◌∙◌, ap, subst, ⊎_elim, ◌⊎◌, inl, inr, ◌==◌}
+use Rattle.std.proofs.Common.{◌≡◌, ◌≢◌, ℕ, ◌<◌, ◌≤◌, true, false, List, map, length, Option, Some, None, option_map, refl, sym, ◌∙◌, ap, subst, ⊎_elim, ◌⊎◌, inl, inr, ◌==◌}
 use Rattle.std.proofs.Math.ListN.{set}
 use Rattle.std.proofs.Math.Seq.{map-set_same}
 use Rattle.std.proofs.lemmas.Bool.{eq-eqb, ne_eqb, cases_lt}
@@ -8,6 +8,7 @@ use Rattle.std.proofs.lemmas.List.{get_or-set_same, get_or-set_other, get_or_pas
 use Rattle.std.proofs.lemmas.Simd.{map-map}
 use Rattle.cc_lists.specs.Members.{Among}
 use Rattle.cc_model.specs.Heap.{HeapNative}
+use Rattle.cc_lists.proofs.ListWrites.{map-agree}
 use Rattle.cc_laws_heap.proofs.Natives.{changed_at}
 use Rattle.cc_purple.specs.Marks.{Marked}
 use Rattle.cc_counted.specs.declared.held.Held.{Held}
@@ -15,11 +16,6 @@ use Rattle.cc_counted.specs.Counts.{no_counts, the_number, is_live}
 use Rattle.cc_model.specs.WellFormed.{IsRising}
 use Rattle.cc_counted.specs.Lists.{Placed, Lists, cell_at, without_count, keyed, shown, shown_at, IsPlaced}
 use Rattle.cc_counted.proofs.Places.{cell_number, one_key}
-
--- functions that agree on the members map alike
-pub map-agree : {X Y : Type 0} (f g : X → Y) (xs : List X) → ((x : X) → Among x xs → f x ≡ g x) → map f xs ≡ map g xs
-map-agree f g [] h = refl
-map-agree f g (x ∷ xs) h = ap (λ y. y ∷ map f xs) (h x (inl refl)) ∙ ap (λ ys. g x ∷ ys) (map-agree f g xs (λ y m. h y (inr m)))
 
 -- a key of a native is one of the list
 pub cell-within : (cells : List (Option Placed)) (key : ℕ) (c : Placed) → cell_at cells key ≡ Some c → key < length cells

@@ -10,10 +10,11 @@ use Rattle.cc_model.specs.Cascade.{give_up, give_up_each}
 use Rattle.cc_laws_heap.proofs.GiveUp.{IsBalanced, IsBalanced-give_up_each}
 use Rattle.cc_counted.specs.declared.held.Held.{Held}
 use Rattle.cc_counted.specs.declared.held.Held.TheVariants as held
-use Rattle.cc_counted.specs.Counts.{number_at, the_number, is_live}
+use Rattle.cc_counted.specs.Counts.{number_at, the_number, is_live, native_in}
 use Rattle.cc_counted.specs.Lists.{Placed, Lists, cell_at, without_count, keyed, numbers_in, draining_of, IsPlaced}
 use Rattle.cc_counted.specs.Steps.{GivesUp}
 use Rattle.cc_counted.proofs.Places.{number_at-found, the_number-cell}
+use Rattle.cc_counted.proofs.Holding.{numbers-none}
 
 -- a balance once references were given up
 pub IsBalanced-given : (old new : Lists) (ks owned : List ℕ) → GivesUp old new ks → IsBalanced (ks ++ owned) (draining_of old []) → IsBalanced owned (draining_of new [])
@@ -61,10 +62,12 @@ module _ (start : Lists) (slots : List (Option Held)) where
     dropped : (x : Option Held) → get_or slots i None ≡ x → drop i slots ≡ x ∷ drop (i + 1) slots
     dropped x e = rw (drop-cons slots i None, e, add-one) refl
 
-    -- an empty slot is passed over
-    pub GivesUpRest-none : get_or slots i None ≡ None → GivesUpRest start now slots (i + 1)
+    -- an empty slot is passed over, and so is one that holds a script object
+    pub GivesUpRest-none : native_in (get_or slots i None) ≡ None → GivesUpRest start now slots (i + 1)
     GivesUpRest-none e =
-        let same : numbers_in (keyed start.cells) (drop i slots) ≡ numbers_in (keyed start.cells) (drop (i + 1) slots) = ap (numbers_in (keyed start.cells)) (dropped None e) in
+        let same : numbers_in (keyed start.cells) (drop i slots) ≡ numbers_in (keyed start.cells) (drop (i + 1) slots) =
+        ap (numbers_in (keyed start.cells)) (dropped (get_or slots i None) refl)
+        ∙ ap (λ ks. ks ++ numbers_in (keyed start.cells) (drop (i + 1) slots)) (numbers-none (keyed start.cells) (get_or slots i None) e) in
         record {
           rest = λ es. ap (give_up_each (draining_of now es)) (sym same) ∙ r.rest es;
           placed = r.placed;

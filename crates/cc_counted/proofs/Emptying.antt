@@ -23,13 +23,14 @@ use Rattle.cc_laws_heap.proofs.DrainingAlike.{IsAlike-length, IsAlike-give_up}
 use Rattle.cc_laws_heap.proofs.Drain.{drain-balanced}
 use Rattle.cc_counted.specs.declared.held.Held.{Held}
 use Rattle.cc_counted.specs.declared.held.Held.TheVariants as held
-use Rattle.cc_counted.specs.Counts.{number_at, number_or_none, the_number, name_of, is_live, numbers_held, heap_of}
+use Rattle.cc_counted.specs.Counts.{number_at, number_or_none, the_number, name_of, is_live, numbers_held, native_in, heap_of}
 use Rattle.cc_counted.specs.Lists.{Placed, Lists, cell_at, with_slot, without_count, keyed, names_in, shown, counts_of, draining_of, IsPlaced, LeavesCells}
 use Rattle.cc_counted.specs.Steps.{ComesTo, EmptiesSlot}
 use Rattle.cc_counted.proofs.Places.{number_at-cell, the_number-cell, native_at-cell, native-key, one_key}
 use Rattle.cc_counted.proofs.Changing.{keyed-changed, changed-same}
 use Rattle.cc_counted.proofs.Leaving.{LeavesKeys-kept, LeavesKeys-then, LeavesKeys-cells}
 use Rattle.cc_counted.proofs.Freeing.{IsBalanced-events}
+use Rattle.cc_counted.proofs.Holding.{numbers-none, let_go-none}
 use Rattle.cc_counted.proofs.Each.{live-cell}
 use Rattle.cc_counted.proofs.Reading.{is_live-keyed}
 use Rattle.cc_counted.proofs.Writing.{slot-live, counts-written, placed-written}
@@ -124,6 +125,7 @@ module _ (l : Lists) (p : IsPlaced l) (key : ℕ) (c : Placed) (at : cell_at l.c
   -- the numbers in a name are those that are held
   numbers-held : (x : Option Held) → is_live (keyed l.cells) x ≡ true → numbers_of (name_of (keyed l.cells) x) ≡ numbers_held (keyed l.cells) x
   numbers-held None live = refl
+  numbers-held (Some (held.Script k)) live = refl
   numbers-held (Some (held.Native k)) live = go (number_at (keyed l.cells) k.0) live
     where
       go : (o : Option ℕ) → is_some (option_map native o) ≡ true → numbers_of (option_map native o) ≡ number_or_none o ∷ []
@@ -169,8 +171,8 @@ module _ (l : Lists) (p : IsPlaced l) (key : ℕ) (c : Placed) (at : cell_at l.c
     in-hand : (x : Option Held) → content ≡ x → IsBalanced (numbers_held (keyed l.cells) x ++ c.number ∷ others) (draining_of emptied_lists [])
     in-hand x f = subst (λ y. IsBalanced (numbers_held (keyed l.cells) y ++ c.number ∷ others) (draining_of emptied_lists [])) f (IsBalanced-emptied (c.number ∷ others) b)
 
-    -- an empty slot gives nothing up
-    pub EmptiesSlot-none : (before : Telling) → content ≡ None → EmptiesSlot l emptied_lists key i before before
+    -- a slot that holds no native gives nothing up
+    pub EmptiesSlot-none : (before : Telling) → native_in content ≡ None → EmptiesSlot l emptied_lists key i before before
     EmptiesSlot-none before none = record {
       was = c;
       was_there = at;
@@ -179,9 +181,10 @@ module _ (l : Lists) (p : IsPlaced l) (key : ℕ) (c : Placed) (at : cell_at l.c
       same = refl;
       placed = placed-emptied;
       leaves = LeavesKeys-kept l.cells cells (ap length e ∙ length-set l.cells key (Some (with_slot i None c))) keyed-emptied;
-      balanced = λ more f. subst (λ y. IsBalanced (numbers_held (keyed l.cells) y ++ c.number ∷ more) (draining_of emptied_lists [])) none (IsBalanced-emptied (c.number ∷ more) f);
+      balanced = λ more f.
+          subst (λ ks. IsBalanced (ks ++ c.number ∷ more) (draining_of emptied_lists [])) (numbers-none (keyed l.cells) content none) (IsBalanced-emptied (c.number ∷ more) f);
       events = [];
-      outcome = ap (λ y. empty_slot h c.number i (name_of (keyed l.cells) y)) none ∙ ap (λ (g : Heap). silently g) (sym heap-emptied);
+      outcome = let_go-none (keyed l.cells) content (change_native h c.number (with_native_slot i None)) none ∙ ap (λ (g : Heap). silently g) (sym heap-emptied);
       told = Tells-nil before;
     }
 

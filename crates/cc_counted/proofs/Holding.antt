@@ -2,11 +2,14 @@
 use Rattle.std.proofs.Common.{◌≡◌, ℕ, true, false, List, [], ◌∷◌, ◌++◌, Option, Some, None, option_map, is_some, refl, sym, ◌∙◌, ap, inl, inr}
 use Rattle.std.specs.List.{flat_map}
 use Rattle.cc_lists.specs.Members.{Among}
+use Rattle.cc_names.specs.declared.number.NKey.{NKey}
 use Rattle.cc_names.specs.Names.{native, natives_in}
 use Rattle.cc_model.specs.Slots.{Slots, contents}
+use Rattle.cc_model.specs.Heap.{Heap, silently}
+use Rattle.cc_model.specs.Cascade.{let_go}
 use Rattle.cc_counted.specs.declared.held.Held.{Held}
 use Rattle.cc_counted.specs.declared.held.Held.TheVariants as held
-use Rattle.cc_counted.specs.Counts.{Counts, number_at, number_or_none, name_of, is_live, numbers_held}
+use Rattle.cc_counted.specs.Counts.{Counts, number_at, number_or_none, name_of, is_live, numbers_held, native_in}
 use Rattle.cc_counted.specs.Lists.{names_in, numbers_in}
 
 -- the natives in what slots hold by names are those that they hold by keys
@@ -14,6 +17,7 @@ pub natives_of_slots-shown : (c : Counts) (slots : List (Option Held)) → ((x :
     flat_map natives_in (contents (names_in c slots)) ≡ numbers_in c slots
 natives_of_slots-shown c [] live = refl
 natives_of_slots-shown c (None ∷ slots) live = natives_of_slots-shown c slots (λ x m. live x (inr m))
+natives_of_slots-shown c (Some (held.Script key) ∷ slots) live = natives_of_slots-shown c slots (λ x m. live x (inr m))
 natives_of_slots-shown c (Some (held.Native key) ∷ slots) live = go (natives_of_slots-shown c slots (λ x m. live x (inr m))) (number_at c key.0) refl
   where
     first : Option ℕ → Slots
@@ -28,6 +32,7 @@ natives_of_slots-shown c (Some (held.Native key) ∷ slots) live = go (natives_o
 pub held-same : (c d : Counts) (x : Option Held) → ((k : ℕ) → x ≡ Some (held.Native (record { 0 = k })) → number_at d k ≡ number_at c k) →
     (name_of d x ≡ name_of c x) × (is_live d x ≡ is_live c x) × (numbers_held d x ≡ numbers_held c x)
 held-same c d None h = (refl, refl, refl)
+held-same c d (Some (held.Script key)) h = (refl, refl, refl)
 held-same c d (Some (held.Native key)) h =
     let e : number_at d key.0 ≡ number_at c key.0 = h key.0 refl in (
       ap (option_map native) e,
@@ -43,3 +48,21 @@ names-same c d (x ∷ xs) h = ap (λ y. y ∷ names_in d xs) (h x (inl refl)) �
 pub numbers-same : (c d : Counts) (slots : List (Option Held)) → ((x : Option Held) → Among x slots → numbers_held d x ≡ numbers_held c x) → numbers_in d slots ≡ numbers_in c slots
 numbers-same c d [] h = refl
 numbers-same c d (x ∷ xs) h = ap (λ y. y ++ numbers_in d xs) (h x (inl refl)) ∙ ap (λ ys. numbers_held c x ++ ys) (numbers-same c d xs (λ y m. h y (inr m)))
+
+-- where a native is held, that is all that is held
+pub held-native : (x : Option Held) (key : NKey) → native_in x ≡ Some key → x ≡ Some (held.Native key)
+held-native None key e = absurd (cc)
+held-native (Some (held.Native k)) key e = ap (λ (j : NKey). Some (held.Native j)) (cc)
+held-native (Some (held.Script k)) key e = absurd (cc)
+
+-- where none is, nothing is counted
+pub numbers-none : (c : Counts) (x : Option Held) → native_in x ≡ None → numbers_held c x ≡ []
+numbers-none c None e = refl
+numbers-none c (Some (held.Native k)) e = absurd (cc)
+numbers-none c (Some (held.Script k)) e = refl
+
+-- and to give it up does nothing
+pub let_go-none : (c : Counts) (x : Option Held) (h : Heap) → native_in x ≡ None → let_go h (name_of c x) ≡ silently h
+let_go-none c None h e = refl
+let_go-none c (Some (held.Native k)) h e = absurd (cc)
+let_go-none c (Some (held.Script k)) h e = refl

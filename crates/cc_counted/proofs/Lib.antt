@@ -20,3 +20,4 @@ pub mod Buffering
 pub mod Emptying
 pub mod Unlinking
 pub mod OneNative
+pub mod TwoNatives

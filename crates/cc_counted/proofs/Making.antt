@@ -15,7 +15,7 @@ use Rattle.cc_counted.specs.Counts.{number_at, number_or_none, the_number, name_
 use Rattle.cc_counted.specs.Owning.{HasKeys, Makes}
 use Rattle.cc_counted.specs.Lists.{Placed, Lists, cell_at, keyed, names_in, shown, shown_at, marked_number, counts_of, IsPlaced, made}
 use Rattle.cc_counted.proofs.Places.{cell_number, number_at-cells, number_at-cell, number_at-found, the_number-cell, natives-numbers, natives-rising, native_at-cell, native-key, one_key}
-use Rattle.cc_counted.proofs.Changing.{map-agree}
+use Rattle.cc_lists.proofs.ListWrites.{map-agree}
 use Rattle.cc_counted.proofs.Marking.{buffer-with_mark, with_mark-there}
 use Rattle.cc_counted.proofs.Each.{live-cell}
 use Rattle.cc_counted.proofs.Holding.{held-same, names-same}

@@ -4,6 +4,7 @@ use Rattle.std.specs.List.{filter}
 use Rattle.std.proofs.lemmas.Bool.{eqb-true, eq-eqb, lt-ltb, le-ltb, true≢false}
 use Rattle.cc_lists.specs.Members.{Among}
 use Rattle.cc_lists.proofs.Members.{Among-map, Among-map_cases}
+use Rattle.cc_lists.proofs.Filtering.{filter-each}
 use Rattle.cc_model.specs.Heap.{HeapNative}
 use Rattle.cc_model.specs.WellFormed.{IsRising}
 use Rattle.cc_laws_heap.proofs.Rising.{IsRising-tail, IsRising-first}
@@ -11,11 +12,6 @@ use Rattle.cc_names.specs.declared.number.NKey.{NKey}
 use Rattle.cc_counted.specs.Counts.{number_at, the_number, first_number, number_after}
 use Rattle.cc_counted.specs.Lists.{Placed, Lists, cell_at, keyed, shown_at, counts_of, IsPlaced, first_of, key_behind}
 use Rattle.cc_counted.proofs.Places.{number_at-cell, the_number-cell, shown-number}
-
--- a test that passes at each member keeps all
-filter-each : {X : Type 0} (p : X → Bool) (xs : List X) → ((x : X) → Among x xs → p x ≡ true) → filter p xs ≡ xs
-filter-each p [] h = refl
-filter-each p (x ∷ xs) h = rw (h x (inl refl)) (ap (λ ys. x ∷ ys) (filter-each p xs (λ y m. h y (inr m))))
 
 module _ (l : Lists) (p : IsPlaced l) where
   abbrev number : ℕ → ℕ

@@ -6,7 +6,7 @@ use Rattle.cc_lists.proofs.Counting.{count_by-cons, count_by-some, count_by-belo
 use Rattle.cc_model.specs.declared.item.Event.{Event}
 use Rattle.cc_model.specs.Heap.{Heap, HeapNative, Buffered, native_at}
 use Rattle.cc_model.specs.Cascade.{Draining}
-use Rattle.cc_laws_heap.proofs.Numbers.{number-exact, at-each}
+use Rattle.cc_lists.proofs.Numbers.{number-exact, at-each}
 use Rattle.cc_laws_heap.proofs.Natives.{has_number, native_at-there, native_at-number}
 use Rattle.cc_laws_heap.proofs.Buffer.{places, places-with_mark_same, places-with_mark_other}
 use Rattle.cc_laws_heap.proofs.GiveUp.{one_at_zero, waiting, living, living-one, IsBalanced}

@@ -2,14 +2,17 @@
 use Rattle.std.specs.Prelude.{ℕ, zero, Bool, true, List, [], ◌∷◌, map, filter, Option, Some, None, option_map, slice_index_or, nat_lt, is_some, if◌then◌else◌}
 use Rattle.cc_names.specs.Allowance.{Allowance}
 use Rattle.cc_names.specs.declared.name.Name.{Name}
-use Rattle.cc_names.specs.Names.{native}
+use Rattle.cc_names.specs.declared.number.NKey.{NKey}
+use Rattle.cc_names.specs.Names.{native, object}
 use Rattle.cc_model.specs.Slots.{Slots}
 use Rattle.cc_model.specs.Heap.{Heap, HeapNative, Buffered, Outcome, empty_heap, native_at}
 use Rattle.cc_model.specs.Cascade.{cascade}
 use Rattle.cc_counted.specs.declared.held.Held.{Held}
 use Rattle.cc_counted.specs.declared.held.Held.TheVariants as held
 
--- natives by rising number, the buffer in order, and at each key the number of the native that stands there
+-- natives by rising number, the buffer in order, and at each key the number of the native that stands there.
+-- A SCRIPT OBJECT IN A SLOT, which stands at key q of its own heap, is named object q: its key in the place of a number.
+-- This heap knows no other name of it; crates above give it its own name.
 pub record Counts : Type 0 where
   pub natives : List HeapNative
   pub buffer : List Buffered
@@ -30,23 +33,31 @@ number_or_none (Some k) = k
 abbrev pub the_number : Counts → ℕ → ℕ
 the_number c key = number_or_none (number_at c key)
 
--- the name of what a slot or a caller holds
+-- the name of what a slot or a caller holds; of a script object its key in the place of a number
 abbrev pub name_of_held : Counts → Held → Option Name
 name_of_held c (held.Native key) = option_map native (number_at c key.0)
+name_of_held c (held.Script key) = Some (object key.0)
 
 abbrev pub name_of : Counts → Option Held → Option Name
 name_of c None = None
 name_of c (Some x) = name_of_held c x
 
--- what is held is there
+-- what is held is there; of a script object nothing is asked here
 abbrev pub is_live : Counts → Option Held → Bool
 is_live c None = true
 is_live c (Some x) = is_some (name_of_held c x)
 
--- the natives that are held
+-- the natives that are held: a script object is not counted
 abbrev pub numbers_held : Counts → Option Held → List ℕ
 numbers_held c None = []
 numbers_held c (Some (held.Native key)) = the_number c key.0 ∷ []
+numbers_held c (Some (held.Script key)) = []
+
+-- the key of the native that is held
+abbrev pub native_in : Option Held → Option NKey
+native_in None = None
+native_in (Some (held.Native key)) = Some key
+native_in (Some (held.Script key)) = None
 
 -- limits that nothing looks at
 abbrev pub no_limits : Allowance

@@ -24,6 +24,9 @@ use std::marker::Model;
 ///
 /// A caller owns the references that it took, and gives each up once, by `release` or by putting it into a slot.
 /// Contracts see natives by their numbers, which are never used again; a key comes back once its native is gone.
+///
+/// A slot may hold a script object too. It is not counted, and this heap knows its key alone: contracts name it `object`
+/// of its key, in the place of a number. Crates above give it its own name, and see to it that it is there.
 #[derive(Drop)]
 pub struct Counted {
     parts: Parts,
@@ -105,6 +108,7 @@ impl Counted {
     /// Puts `item` into slot `i` of a native, counted from 0, and returns what the slot held.
     ///
     /// The reference to `item` goes from the caller to the slot, that to the old content from the slot to the caller.
+    /// To a script object there is none: it needs no owner, neither before nor after.
     pub fn set_slot(&mut self, key: NKey, i: u8, item: Option<Held>) -> Option<Held>
         requires live { IsSome (number_at self.old key.0) }
         requires within { i < length (slots_of self.old key.0) }

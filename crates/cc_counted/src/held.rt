@@ -1,21 +1,23 @@
 ghost use Rattle.std.specs.Prelude.{◌≡◌};
+ghost use Rattle.cc_counted.specs.Counts.{native_in};
 
-use cc_names::NKey;
+use cc_names::{NKey, SKey};
 
 /// What a slot of a native holds.
 #[derive(Clone, Copy, Debug, PartialEq, Eq, Drop)]
 pub enum Held {
     /// A native, by a counted reference.
     Native(NKey),
+    /// A script object, by its key in its own heap. Nothing counts it here: to give it up gives up nothing.
+    Script(SKey),
 }
 
-impl Held {
-    /// The key of what is held.
-    pub(crate) fn key(self) -> NKey
-        ensures { self ≡ Held.Native result }
-    {
-        match self {
-            Held::Native(key) => key,
-        }
+/// The key of the native in a slot; none of an empty slot, and of one that holds a script object.
+pub(crate) fn native_in(slot: Option<Held>) -> Option<NKey>
+    ensures { result ≡ native_in slot }
+{
+    match slot {
+        Some(Held::Native(key)) => Some(key),
+        Some(Held::Script(_)) | None => None,
     }
 }

@@ -7,6 +7,8 @@
 //! A native whose count falls, but not to zero, is suspected: it goes into the buffer with the purple mark. One that gains
 //! a reference is in use: it goes there without the mark, or loses it.
 //!
+//! A slot may hold a script object beside a native. It is not counted: to give up a slot that holds one gives up nothing.
+//!
 //! `create` takes all memory that later calls may want: room in the queue and in the buffer for every native. No other
 //! call takes memory.
 #![tactic(auto)]

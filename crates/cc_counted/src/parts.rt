@@ -14,7 +14,7 @@ ghost use Rattle.cc_counted.specs.Lists.{Placed, cell_at, slots_placed, keyed, n
 ghost use Rattle.cc_counted.specs.Steps.{GivesUp, FreesFront, Drains, ComesTo, EmptiesSlot, EmptiesEach, texts_of_events};
 
 use crate::cell::{Cell, lower, raise, write};
-use crate::held::Held;
+use crate::held::{Held, native_in};
 use crate::order::leave;
 use cc_model::{Event, Item, Notices};
 use cc_names::{NKey, Name, NativeNo, NoMemory};
@@ -68,7 +68,7 @@ impl Parts {
         }
     }
 
-    /// Gives up the references in these slots, in rising order.
+    /// Gives up the references in these slots, in rising order. A script object has none to give up.
     fn give_up_each(&mut self, slots: &[Option<Held>])
         requires placed { IsPlaced (lists_of self.old) }
         requires live { (x : Option Held) → Among x slots.now → is_live (keyed self.old.natives.slots) x ≡ true }
@@ -78,8 +78,8 @@ impl Parts {
         ensures room { HasRoom self.new }
     {
         for slot in slots {
-            if let Some(held) = slot {
-                self.give_up(held.key());
+            if let Some(native) = native_in(*slot) {
+                self.give_up(native);
             }
         }
     }
@@ -217,8 +217,8 @@ impl Parts {
         ensures at_rest { IsAtRest self.new }
     {
         let content = write(&mut self.natives, key, i as usize, None);
-        if let Some(held) = content {
-            self.release(held.key(), out);
+        if let Some(native) = native_in(content) {
+            self.release(native, out);
         }
     }
 

@@ -1,6 +1,6 @@
 use super::*;
 use cc_model::Notebook;
-use cc_names::{NKey, NativeNo};
+use cc_names::{NKey, NativeNo, SKey};
 use std::test::Fail;
 
 #[test]
@@ -77,5 +77,23 @@ fn native_is_unlinked(rt: HostRuntime) -> Result<(), Fail> {
         heap.unlink(key, &mut out);
         assert_eq!(rt; out.text(), b"- unlink #1\n".as_slice());
     }
+    Ok(())
+}
+
+#[test]
+fn native_holds_a_script_object_and_a_native(rt: HostRuntime) -> Result<(), Fail> {
+    let mut heap = Counted::new(rt.alloc());
+    let mut out = Notebook::new(rt.alloc());
+    let holder = heap.create(NativeNo(1), 2)?;
+    let other = heap.create(NativeNo(2), 0)?;
+    let script = Some(Held::Script(SKey(1)));
+    let native = Some(Held::Native(other));
+    assert_eq!(rt; heap.set_slot(holder, 0, script), None);
+    assert_eq!(rt; heap.set_slot(holder, 1, native), None);
+    assert_eq!(rt; heap.slot(holder, 0), script);
+    assert_eq!(rt; heap.slot(holder, 1), native);
+    heap.release(holder, &mut out);
+    assert_eq!(rt; heap.number(other), None);
+    assert_eq!(rt; out.text(), b"- free #1\n- free #2\n".as_slice());
     Ok(())
 }

@@ -1,6 +1,6 @@
 use super::*;
 use cc_counted::Held;
-use cc_names::{NKey, Name, NativeNo};
+use cc_names::{NKey, Name, NativeNo, SKey, ScriptNo};
 use std::test::Fail;
 
 #[test]
@@ -8,14 +8,18 @@ fn nodes_are_known_by_name_and_number(rt: HostRuntime) -> Result<(), Fail> {
     let mut graph = Graph::new(rt.alloc());
     let first = Name::Native(NativeNo(7));
     let second = Name::Native(NativeNo(2));
+    let script = Name::Script(ScriptNo(1));
     assert!(rt; graph.is_empty());
     assert_eq!(rt; graph.add_node(first, Held::Native(NKey(4))), Ok(0));
     assert_eq!(rt; graph.add_node(second, Held::Native(NKey(1))), Ok(1));
     assert_eq!(rt; graph.add_node(first, Held::Native(NKey(9))), Ok(0));
-    assert_eq!(rt; graph.len(), 2);
+    assert_eq!(rt; graph.add_node(script, Held::Script(SKey(0))), Ok(2));
+    assert_eq!(rt; graph.len(), 3);
     assert_eq!(rt; graph.node_of(&second), Some(1));
     assert_eq!(rt; graph.node_of(&Name::Reflector(NativeNo(2))), None);
+    assert_eq!(rt; graph.node_of(&script), Some(2));
     assert_eq!(rt; graph.node(0), (first, Held::Native(NKey(4))));
+    assert_eq!(rt; graph.node(2), (script, Held::Script(SKey(0))));
     graph.sample(1, 5);
     assert_eq!(rt; graph.sampled(0), None);
     assert_eq!(rt; graph.sampled(1), Some(5));
