@@ -1,0 +1,210 @@
+-- THE COLOUR ORDER IS KEPT by each change of the objects.
+use Rattle.std.proofs.Common.{◌≡◌, ◌≢◌, ℕ, zero, suc, Bool, true, false, not, cond, List, [], ◌∷◌, ◌++◌, replicate, Option, Some, None, option_map, refl, sym, ◌∙◌, ap, subst, ⊎_elim, ◌⊎◌, inl, inr, ◌==◌, if◌then◌else◌}
+use Rattle.std.specs.List.{find}
+use Rattle.std.proofs.Math.ListN.{set}
+use Rattle.std.proofs.lemmas.Bool.{ne_eqb, true≢false, false≢true}
+use Rattle.std.proofs.lemmas.Bool.Decides.{eqb_tells}
+use Rattle.cc_lists.specs.Members.{Among, has}
+use Rattle.cc_lists.proofs.Members.{Among-append, Among-filtered, Among-map_cases}
+use Rattle.cc_lists.proofs.ListWrites.{Among-set_cases}
+use Rattle.cc_lists.proofs.Searching.{find-filter}
+use Rattle.cc_names.specs.declared.kind.Colour.{Colour}
+use Rattle.cc_names.specs.declared.kind.Colour.TheVariants.{White}
+use Rattle.cc_script.specs.Objects.{Object, object_at, is_there, colour_at, change_object, with_slot, with_colour, without_object, whitened, raised, raised_among, is_below, AreWhole, IsNotBelow}
+use Rattle.cc_script.specs.ColourOrder.{HasColourOrder}
+use Rattle.cc_script.proofs.Keys.{object_at-key, object_at-map, changed_at, changed_at-key, changed_at-same}
+use Rattle.cc_script.proofs.Colours.{raised-key, raised-slots, raised-enough, raised-keeps, raised-below, raised-same}
+
+-- no objects
+pub HasColourOrder-none : HasColourOrder []
+HasColourOrder-none = record { held = λ o q m. absurd m }
+
+-- all white
+pub HasColourOrder-whitened : (objects : List Object) → HasColourOrder (whitened objects)
+HasColourOrder-whitened objects = record {
+  held = λ o q m above s.
+      let k = Among-map_cases (with_colour White) objects o m in
+      absurd (false≢true (ap (λ (z : Object). is_below White z.colour) k.2 ∙ above));
+}
+
+-- one more object, which holds nothing
+pub no-slots : (n q : ℕ) → ¬ (Among (Some q) (replicate n None))
+no-slots zero q m = m
+no-slots (suc n) q m = ⊎_elim (λ (e : None ≡ Some q). let bad = e in absurd (cc)) (λ t. no-slots n q t) m
+
+find-left : {X : Type 0} (p : X → Bool) (xs ys : List X) (x : X) → find p xs ≡ Some x → find p (xs ++ ys) ≡ Some x
+find-left p [] ys x e = absurd (cc)
+find-left {X} p (z ∷ zs) ys x e = go (find-left p zs ys x) (p z) e
+  where
+    go : (find p zs ≡ Some x → find p (zs ++ ys) ≡ Some x) → (b : Bool) → cond b (Some z) (find p zs) ≡ Some x → cond b (Some z) (find p (zs ++ ys)) ≡ Some x
+    go ih true f = f
+    go ih false f = ih f
+
+pub object_at-left : (objects others : List Object) (key : ℕ) (o : Object) → object_at objects key ≡ Some o → object_at (objects ++ others) key ≡ Some o
+object_at-left objects others key o e = find-left (λ (z : Object). z.key == key) objects others o e
+
+pub HasColourOrder-made : (objects : List Object) (o : Object) (n : ℕ) → o.slots ≡ replicate n None → HasColourOrder objects → HasColourOrder (objects ++ o ∷ [])
+HasColourOrder-made objects o n empty h = record {
+  held = λ z q m above s. ⊎_elim
+      (λ t. let f = h.held z q t above s in (f.0, object_at-left objects (o ∷ []) q f.0 f.1, f.2))
+      (λ t. ⊎_elim (λ e. absurd (no-slots n q (subst (λ xs. Among (Some q) xs) (ap (λ (y : Object). y.slots) (sym e) ∙ empty) s))) (λ x. absurd x) t)
+      (Among-append z objects (o ∷ []) m);
+}
+
+-- a slot written, with nothing or with an object whose colour isn't lower
+module _ (objects : List Object) (h : HasColourOrder objects) (own : (o : Object) → Among o objects → object_at objects o.key ≡ Some o)
+    (key i : ℕ) (x : Option ℕ)
+    (live : (q : ℕ) → x ≡ Some q → is_there objects q ≡ true)
+    (fits : (q : ℕ) → x ≡ Some q → IsNotBelow (colour_at objects q) (colour_at objects key)) where
+  abbrev wrote : Object → Object
+  wrote = changed_at key (with_slot i x)
+
+  wrote-key : (o : Object) → (wrote o).key ≡ o.key
+  wrote-key = changed_at-key key (with_slot i x) (λ o. refl)
+
+  wrote-colour : (o : Object) → (wrote o).colour ≡ o.colour
+  wrote-colour o = go (o.key == key)
+    where
+      go : (b : Bool) → (if b then with_slot i x o else o).colour ≡ o.colour
+      go true = refl
+      go false = refl
+
+  -- what a slot then holds is what was written, or was held
+  wrote-slots : (o : Object) (q : ℕ) → Among (Some q) (wrote o).slots → ((o.key ≡ key) × (x ≡ Some q)) ⊎ Among (Some q) o.slots
+  wrote-slots o q m = ⊎_elim
+      (λ t.
+      let slots : (wrote o).slots ≡ set o.slots i x = ap (λ (z : Object). z.slots) (changed_at-same key (with_slot i x) o t.1) in
+      ⊎_elim (λ e. inl (t.1, e)) (λ r. inr r) (Among-set_cases o.slots i x (Some q) (subst (λ xs. Among (Some q) xs) slots m)))
+      (λ t. let same : wrote o ≡ o = rw t.0 refl in inr (subst (λ (z : Object). Among (Some q) z.slots) same m))
+      (eqb_tells o.key key)
+
+  found : (q : ℕ) (c : Colour) → (d : Object) × (object_at objects q ≡ Some d) × (is_below d.colour c ≡ false) →
+      (d : Object) × (object_at (change_object objects key (with_slot i x)) q ≡ Some d) × (is_below d.colour c ≡ false)
+  found q c f = (
+    wrote f.0,
+    object_at-map wrote wrote-key objects q ∙ ap (option_map wrote) f.1,
+    ap (λ a. is_below a c) (wrote-colour f.0) ∙ f.2,
+  )
+
+  -- what is written isn't lower
+  given : (o : Object) (q : ℕ) → Among o objects → o.key ≡ key → x ≡ Some q → (d : Object) × (object_at objects q ≡ Some d) × (is_below d.colour o.colour ≡ false)
+  given o q m k e = go (object_at objects q) refl
+    where
+      at : colour_at objects key ≡ Some o.colour
+      at = ap (option_map (λ (z : Object). z.colour)) (subst (λ j. object_at objects j ≡ Some o) k (own o m))
+
+      go : (a : Option Object) → object_at objects q ≡ a → (d : Object) × (object_at objects q ≡ Some d) × (is_below d.colour o.colour ≡ false)
+      go None f = let bad : is_there objects q ≡ false = rw f refl in absurd (false≢true (sym bad ∙ live q e))
+      go (Some d) f = (
+        d,
+        f,
+        subst (IsNotBelow (Some d.colour)) at (subst (λ c. IsNotBelow c (colour_at objects key)) (ap (option_map (λ (z : Object). z.colour)) f) (fits q e)),
+      )
+
+  pub HasColourOrder-written : HasColourOrder (change_object objects key (with_slot i x))
+  HasColourOrder-written = record {
+    held = λ o q m above s.
+        let k = Among-map_cases wrote objects o m in
+        let was : is_below White k.0.colour ≡ true = ap (is_below White) (sym (wrote-colour k.0) ∙ ap (λ (z : Object). z.colour) k.2) ∙ above in
+        let r = ⊎_elim
+        (λ t. given k.0 q k.1 t.0 t.1)
+        (λ t. h.held k.0 q k.1 was t)
+        (wrote-slots k.0 q (subst (λ (z : Object). Among (Some q) z.slots) (sym k.2) s)) in
+        let f = found q k.0.colour r in
+        (f.0, f.1, ap (is_below f.0.colour) (sym (ap (λ (z : Object). z.colour) k.2) ∙ wrote-colour k.0) ∙ f.2);
+  }
+
+-- a white object taken out
+pub HasColourOrder-without : (objects : List Object) (key : ℕ) → HasColourOrder objects → colour_at objects key ≡ Some White → HasColourOrder (without_object objects key)
+HasColourOrder-without objects key h white = record {
+  held = λ o q m above s.
+      let f = h.held o q (Among-filtered (λ (z : Object). not (z.key == key)) o objects m) above s in
+      let other : q ≢ key = λ e.
+      let same : Some f.0.colour ≡ Some White = sym (ap (option_map (λ (z : Object). z.colour)) (subst (λ j. object_at objects j ≡ Some f.0) e f.1)) ∙ white in
+      let is_white : f.0.colour ≡ White = cc in
+      true≢false (sym above ∙ (ap (λ c. is_below c o.colour) (sym is_white) ∙ f.2)) in (
+        f.0,
+        find-filter (λ (z : Object). z.key == q) (λ (z : Object). not (z.key == key)) objects (λ z e. ap not (kept z q e other)) ∙ f.1,
+        f.2,
+      );
+}
+  where
+    kept : (z : Object) (q : ℕ) → (z.key == q) ≡ true → q ≢ key → (z.key == key) ≡ false
+    kept z q e other = ⊎_elim
+        (λ t. absurd (true≢false (sym e ∙ ne_eqb z.key q (λ s. other (sym s ∙ t.1)))))
+        (λ t. t.0) (eqb_tells z.key key)
+
+-- objects raised at keys that hold only such keys
+module _ (objects : List Object) (h : HasColourOrder objects) (own : (o : Object) → Among o objects → object_at objects o.key ≡ Some o)
+    (keys : List ℕ) (to : Colour) (whole : AreWhole objects)
+    (closed : (o : Object) (q : ℕ) → Among o objects → Among (Some q) o.slots → has ◌==◌ keys o.key ≡ true → has ◌==◌ keys q ≡ true) where
+  abbrev risen : Object → Object
+  risen o = if has ◌==◌ keys o.key then raised to o else o
+
+  risen-key : (o : Object) → (risen o).key ≡ o.key
+  risen-key o = go (has ◌==◌ keys o.key)
+    where
+      go : (b : Bool) → (if b then raised to o else o).key ≡ o.key
+      go true = raised-key to o
+      go false = refl
+
+  risen-slots : (o : Object) → (risen o).slots ≡ o.slots
+  risen-slots o = go (has ◌==◌ keys o.key)
+    where
+      go : (b : Bool) → (if b then raised to o else o).slots ≡ o.slots
+      go true = raised-slots to o
+      go false = refl
+
+  -- it isn't lower than it was
+  risen-keeps : (o : Object) (c : Colour) → is_below o.colour c ≡ false → is_below (risen o).colour c ≡ false
+  risen-keeps o c e = go (has ◌==◌ keys o.key)
+    where
+      go : (b : Bool) → is_below (if b then raised to o else o).colour c ≡ false
+      go true = raised-keeps to o c e
+      go false = e
+
+  found-risen : (q : ℕ) (d : Object) → object_at objects q ≡ Some d → object_at (raised_among keys to objects) q ≡ Some (risen d)
+  found-risen q d e = object_at-map risen risen-key objects q ∙ ap (option_map risen) e
+
+  -- of an object that stays as it is
+  stays : (o : Object) (q : ℕ) → Among o objects → Among (Some q) o.slots → is_below White o.colour ≡ true →
+      (d : Object) × (object_at (raised_among keys to objects) q ≡ Some d) × (is_below d.colour o.colour ≡ false)
+  stays o q m s above = let f = h.held o q m above s in (risen f.0, found-risen q f.0 f.1, risen-keeps f.0 o.colour f.2)
+
+  -- of one that is raised
+  rises : (o : Object) (q : ℕ) → Among o objects → Among (Some q) o.slots → has ◌==◌ keys o.key ≡ true → is_below o.colour to ≡ true →
+      (d : Object) × (object_at (raised_among keys to objects) q ≡ Some d) × (is_below d.colour to ≡ false)
+  rises o q m s e lower = go (object_at objects q) refl
+    where
+      go : (a : Option Object) → object_at objects q ≡ a → (d : Object) × (object_at (raised_among keys to objects) q ≡ Some d) × (is_below d.colour to ≡ false)
+      go None f = let bad : is_there objects q ≡ false = rw f refl in absurd (false≢true (sym bad ∙ whole o q m s))
+      go (Some d) f =
+          let there : has ◌==◌ keys d.key ≡ true = ap (has ◌==◌ keys) (object_at-key objects q d f) ∙ closed o q m s e in
+          let same : risen d ≡ raised to d = rw there refl in
+          (risen d, found-risen q d f, ap (λ (z : Object). is_below z.colour to) same ∙ raised-enough to d)
+
+  each : (o : Object) (q : ℕ) → Among o objects → Among (Some q) o.slots → is_below White (risen o).colour ≡ true →
+      (d : Object) × (object_at (raised_among keys to objects) q ≡ Some d) × (is_below d.colour (risen o).colour ≡ false)
+  each o q m s above = go (has ◌==◌ keys o.key) refl (is_below o.colour to) refl
+    where
+      as_it_is : risen o ≡ o → (d : Object) × (object_at (raised_among keys to objects) q ≡ Some d) × (is_below d.colour (risen o).colour ≡ false)
+      as_it_is same =
+          let f = stays o q m s (ap (λ (z : Object). is_below White z.colour) (sym same) ∙ above) in
+          (f.0, f.1, ap (λ (z : Object). is_below f.0.colour z.colour) same ∙ f.2)
+
+      go : (b : Bool) → has ◌==◌ keys o.key ≡ b → (c : Bool) → is_below o.colour to ≡ c →
+          (d : Object) × (object_at (raised_among keys to objects) q ≡ Some d) × (is_below d.colour (risen o).colour ≡ false)
+      go true e true f =
+          let same : risen o ≡ with_colour to o = rw e (raised-below to o f) in
+          let r = rises o q m s e f in
+          (r.0, r.1, ap (λ (z : Object). is_below r.0.colour z.colour) same ∙ r.2)
+      go true e false f = as_it_is (rw e (raised-same to o f))
+      go false e c f = as_it_is (rw e refl)
+
+  pub HasColourOrder-raised : HasColourOrder (raised_among keys to objects)
+  HasColourOrder-raised = record {
+    held = λ o q m above s.
+        let k = Among-map_cases risen objects o m in
+        let f = each k.0 q k.1 (subst (λ xs. Among (Some q) xs) (ap (λ (z : Object). z.slots) (sym k.2) ∙ risen-slots k.0) s) (ap (λ (z : Object). is_below White z.colour) k.2 ∙ above) in
+        (f.0, f.1, ap (λ (z : Object). is_below f.0.colour z.colour) (sym k.2) ∙ f.2);
+  }

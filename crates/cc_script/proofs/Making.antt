@@ -1,0 +1,52 @@
+-- AN OBJECT MADE at a key that held nothing.
+use Rattle.std.proofs.Common.{◌≡◌, ◌≢◌, ℕ, ◌≤◌, List, [], ◌∷◌, ◌++◌, length, Option, Some, None, refl, sym, ◌∙◌, ap, subst, ⊎_elim, ◌⊎◌, inl, inr, arith, count_by, ◌==◌}
+use Rattle.std.proofs.lemmas.Bool.{ne_eqb}
+use Rattle.std.proofs.lemmas.Bool.Decides.{eqb_tells}
+use Rattle.std.proofs.lemmas.List.{map-append}
+use Rattle.cc_lists.specs.Members.{Among}
+use Rattle.cc_lists.proofs.Members.{Among-append, Among-left, Among-right}
+use Rattle.cc_lists.proofs.Counting.{count_by-append, count_by-cons}
+use Rattle.cc_lists.proofs.CountsOf.{count_by-none}
+use Rattle.cc_lists.proofs.ListWrites.{map-agree}
+use Rattle.cc_script.specs.Lists.{Placed, Lists, cell_at, placed_or_nothing, with_key, shown_at, objects_of, made, IsPlaced}
+
+module _ (l : Lists) (p : IsPlaced l) (key : ℕ) (d : Placed) (cells : List (Option Placed)) (vacant : cell_at l.cells key ≡ None) (at : cell_at cells key ≡ Some d)
+    (others : (k : ℕ) → k ≢ key → cell_at cells k ≡ cell_at l.cells k) where
+  -- a key of an object is another
+  other : (k : ℕ) → Among k l.order → k ≢ key
+  other k m e = let f = p.in_order k m in let bad : None ≡ Some f.0 = sym vacant ∙ (ap (cell_at l.cells) (sym e) ∙ f.1) in absurd (cc)
+
+  cases : (k : ℕ) (c : Placed) → cell_at cells k ≡ Some c → ((k ≡ key) × (c ≡ d)) ⊎ (cell_at l.cells k ≡ Some c)
+  cases k c e = ⊎_elim
+      (λ t. let both : Some d ≡ Some c = sym (ap (cell_at cells) t.1 ∙ at) ∙ e in inl (t.1, cc))
+      (λ t. inr (sym (others k t.1) ∙ e)) (eqb_tells k key)
+
+  once : (j : ℕ) → count_by (λ k. k == j) (l.order ++ key ∷ []) ≤ 1
+  once j = ⊎_elim
+      (λ t.
+      let none : count_by (λ k. k == j) l.order ≡ 0 = count_by-none (λ k. k == j) l.order (λ k m. ne_eqb k j (λ s. other k m (s ∙ sym t.1))) in
+      let last : count_by (λ k. k == j) (key ∷ []) ≤ 1 = rw (count_by-cons (λ k. k == j) key [], t.0) (omega arith) in
+      omega (arith, count_by-append (λ k. k == j) l.order (key ∷ [])))
+      (λ t.
+      let last : count_by (λ k. k == j) (key ∷ []) ≡ 0 = rw (count_by-cons (λ k. k == j) key [], t.0) refl in
+      omega (arith, count_by-append (λ k. k == j) l.order (key ∷ []), p.once j))
+      (eqb_tells key j)
+
+  pub IsPlaced-made : length d.slots ≤ 64 → IsPlaced (made l cells key)
+  IsPlaced-made few = record {
+    in_order = λ k m. ⊎_elim
+        (λ t. let f = p.in_order k t in (f.0, others k (other k t) ∙ f.1))
+        (λ t. ⊎_elim (λ e. (d, ap (cell_at cells) (sym e) ∙ at)) (λ x. absurd x) t)
+        (Among-append k l.order (key ∷ []) m);
+    ordered = λ k c e. ⊎_elim
+        (λ t. Among-right k l.order (key ∷ []) (inl (sym t.0)))
+        (λ t. Among-left k l.order (key ∷ []) (p.ordered k c t)) (cases k c e);
+    once = once;
+    small = λ k c e. ⊎_elim (λ t. subst (λ (b : Placed). length b.slots ≤ 64) (sym t.1) few) (λ t. p.small k c t) (cases k c e);
+  }
+
+  pub objects-made : objects_of (made l cells key) ≡ objects_of l ++ with_key key d ∷ []
+  objects-made =
+      map-append (shown_at cells) l.order (key ∷ [])
+      ∙ (ap (λ os. os ++ shown_at cells key ∷ []) (map-agree (shown_at cells) (shown_at l.cells) l.order (λ k m. ap (λ o. with_key k (placed_or_nothing o)) (others k (other k m))))
+      ∙ ap (λ o. objects_of l ++ with_key key (placed_or_nothing o) ∷ []) at)

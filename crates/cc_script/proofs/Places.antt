@@ -1,0 +1,50 @@
+-- OBJECTS BY KEY: what the list shows at a key is what stands there.
+use Rattle.std.proofs.Common.{◌≡◌, ℕ, true, false, Option, Some, None, option_map, is_some, refl, sym, ◌∙◌, ap, subst, ◌==◌}
+use Rattle.std.specs.List.{find}
+use Rattle.std.proofs.lemmas.Bool.{false≢true}
+use Rattle.cc_lists.specs.Members.{Among}
+use Rattle.cc_lists.proofs.Members.{Among-map_cases}
+use Rattle.cc_lists.proofs.Searching.{find-map}
+use Rattle.cc_script.specs.Objects.{Object, object_at, is_there, slots_at, slots_or_none}
+use Rattle.cc_script.specs.Lists.{Placed, Lists, cell_at, placed_or_nothing, with_key, shown_at, objects_of, IsPlaced}
+use Rattle.cc_script.proofs.Keys.{find-key, find-no_key}
+
+module _ (l : Lists) (p : IsPlaced l) where
+  pub object_at-cell : (key : ℕ) → object_at (objects_of l) key ≡ option_map (with_key key) (cell_at l.cells key)
+  object_at-cell key = find-map (λ (o : Object). o.key == key) (shown_at l.cells) l.order ∙ go (cell_at l.cells key) refl
+    where
+      go : (o : Option Placed) → cell_at l.cells key ≡ o → option_map (shown_at l.cells) (find (λ k. k == key) l.order) ≡ option_map (with_key key) o
+      go None e = ap (option_map (shown_at l.cells)) (find-no_key l.order key (λ m. let f = p.in_order key m in let bad : Some f.0 ≡ None = sym f.1 ∙ e in absurd (cc)))
+      go (Some c) e = ap (option_map (shown_at l.cells)) (find-key l.order key (p.ordered key c e)) ∙ ap (λ o. Some (with_key key (placed_or_nothing o))) e
+
+  pub object_at-placed : (key : ℕ) (c : Placed) → cell_at l.cells key ≡ Some c → object_at (objects_of l) key ≡ Some (with_key key c)
+  object_at-placed key c e = object_at-cell key ∙ ap (option_map (with_key key)) e
+
+  -- a key of an object, and of none
+  pub live-cell : (key : ℕ) → is_there (objects_of l) key ≡ true → (c : Placed) × (cell_at l.cells key ≡ Some c)
+  live-cell key live = go (cell_at l.cells key) refl
+    where
+      go : (o : Option Placed) → cell_at l.cells key ≡ o → (c : Placed) × (cell_at l.cells key ≡ Some c)
+      go None e = absurd (false≢true (sym (ap is_some (object_at-cell key ∙ ap (option_map (with_key key)) e)) ∙ live))
+      go (Some c) e = (c, e)
+
+  pub live-some : (key : ℕ) → is_there (objects_of l) key ≡ true → is_some (cell_at l.cells key) ≡ true
+  live-some key live = ap is_some (live-cell key live).1
+
+  pub is_there-none : (key : ℕ) → cell_at l.cells key ≡ None → is_there (objects_of l) key ≡ false
+  is_there-none key e = ap is_some (object_at-cell key ∙ ap (option_map (with_key key)) e)
+
+  pub live-ordered : (key : ℕ) → Among key l.order → is_there (objects_of l) key ≡ true
+  live-ordered key m = let f = p.in_order key m in ap is_some (object_at-placed key f.0 f.1)
+
+  -- its slots
+  pub slots_at-placed : (key : ℕ) (c : Placed) → cell_at l.cells key ≡ Some c → slots_at (objects_of l) key ≡ c.slots
+  slots_at-placed key c e = ap slots_or_none (object_at-placed key c e)
+
+  -- each object is the one at its key
+  pub object_at-own : (o : Object) → Among o (objects_of l) → object_at (objects_of l) o.key ≡ Some o
+  object_at-own o m =
+      let k = Among-map_cases (shown_at l.cells) l.order o m in
+      let f = p.in_order k.0 k.1 in
+      subst (λ (z : Object). object_at (objects_of l) z.key ≡ Some z) k.2
+      (object_at-placed k.0 f.0 f.1 ∙ ap (λ c. Some (with_key k.0 (placed_or_nothing c))) (sym f.1))

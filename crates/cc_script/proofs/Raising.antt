@@ -1,0 +1,136 @@
+-- ONE OBJECT RAISED: what stays as it is, and what of the walk is spent.
+use Rattle.std.proofs.Common.{◌≡◌, ℕ, ◌+◌, ◌<◌, ◌≤◌, Bool, true, false, List, [], ◌∷◌, ◌++◌, map, length, get_or, drop, drop-cons, add-one, Option, Some, None, option_map, is_some, refl, sym, ◌∙◌, ap, subst, arith, count_by, ◌==◌, if◌then◌else◌}
+use Rattle.std.proofs.lemmas.List.{length_push}
+use Rattle.std.proofs.lemmas.Bool.{true≢false, false≢true}
+use Rattle.cc_lists.proofs.Counting.{count_by-map}
+use Rattle.cc_lists.proofs.Filtering.{count_by-wider}
+use Rattle.cc_names.specs.declared.kind.Colour.{Colour}
+use Rattle.cc_script.specs.Objects.{Object, object_at, is_there, slots_at, slots_or_none, change_object, is_below, raised}
+use Rattle.cc_script.specs.Marking.{Marking, is_lower, raise_key, raise_slot, raise_each, count_lower, to_come, to_do}
+use Rattle.cc_script.proofs.Keys.{object_at-among, object_at-key, object_at-map, changed_at, changed_at-key, changed_at-same}
+use Rattle.cc_script.proofs.Colours.{raised-key, raised-slots, raised-enough, raised-keeps}
+
+-- a change that keeps keys and slots keeps what is there, and its slots
+module _ (g : Object → Object) (keeps_key : (o : Object) → (g o).key ≡ o.key) (keeps_slots : (o : Object) → (g o).slots ≡ o.slots) (objects : List Object) (q : ℕ) where
+  pub is_there-kept : is_there (map g objects) q ≡ is_there objects q
+  is_there-kept = ap is_some (object_at-map g keeps_key objects q) ∙ go (object_at objects q)
+    where
+      go : (o : Option Object) → is_some (option_map g o) ≡ is_some o
+      go None = refl
+      go (Some o) = refl
+
+  pub slots_at-kept : slots_at (map g objects) q ≡ slots_at objects q
+  slots_at-kept = ap slots_or_none (object_at-map g keeps_key objects q) ∙ go (object_at objects q)
+    where
+      go : (o : Option Object) → slots_or_none (option_map g o) ≡ slots_or_none o
+      go None = refl
+      go (Some o) = keeps_slots o
+
+-- The two cases
+
+pub raise_key-lower : (to : Colour) (key : ℕ) (m : Marking) → is_lower to (object_at m.objects key) ≡ true →
+    raise_key to key m ≡ record { objects = change_object m.objects key (raised to); stack = m.stack ++ key ∷ [] }
+raise_key-lower to key m e = rw (e, raise_key) refl
+
+pub raise_key-enough : (to : Colour) (key : ℕ) (m : Marking) → is_lower to (object_at m.objects key) ≡ false → raise_key to key m ≡ m
+raise_key-enough to key m e = rw (e, raise_key) refl
+
+-- what is lower is there
+pub lower-some : (to : Colour) (o : Option Object) → is_lower to o ≡ true → (x : Object) × (o ≡ Some x) × (is_below x.colour to ≡ true)
+lower-some to None e = absurd (false≢true e)
+lower-some to (Some x) e = (x, refl, e)
+
+-- What stays
+
+module _ (to : Colour) (key : ℕ) where
+  abbrev one_raised : Object → Object
+  one_raised = changed_at key (raised to)
+
+  one_raised-key : (o : Object) → (one_raised o).key ≡ o.key
+  one_raised-key = changed_at-key key (raised to) (raised-key to)
+
+  one_raised-slots : (o : Object) → (one_raised o).slots ≡ o.slots
+  one_raised-slots o = go (o.key == key)
+    where
+      go : (b : Bool) → (if b then raised to o else o).slots ≡ o.slots
+      go true = raised-slots to o
+      go false = refl
+
+  pub raise_key-there : (m : Marking) (q : ℕ) → is_there (raise_key to key m).objects q ≡ is_there m.objects q
+  raise_key-there m q = go (is_lower to (object_at m.objects key)) refl
+    where
+      go : (b : Bool) → is_lower to (object_at m.objects key) ≡ b → is_there (raise_key to key m).objects q ≡ is_there m.objects q
+      go true e = ap (λ (z : Marking). is_there z.objects q) (raise_key-lower to key m e) ∙ is_there-kept one_raised one_raised-key one_raised-slots m.objects q
+      go false e = ap (λ (z : Marking). is_there z.objects q) (raise_key-enough to key m e)
+
+  pub raise_key-slots : (m : Marking) (q : ℕ) → slots_at (raise_key to key m).objects q ≡ slots_at m.objects q
+  raise_key-slots m q = go (is_lower to (object_at m.objects key)) refl
+    where
+      go : (b : Bool) → is_lower to (object_at m.objects key) ≡ b → slots_at (raise_key to key m).objects q ≡ slots_at m.objects q
+      go true e = ap (λ (z : Marking). slots_at z.objects q) (raise_key-lower to key m e) ∙ slots_at-kept one_raised one_raised-key one_raised-slots m.objects q
+      go false e = ap (λ (z : Marking). slots_at z.objects q) (raise_key-enough to key m e)
+
+  -- one object less is lower then
+  abbrev lower : Object → Bool
+  lower o = is_below o.colour to
+
+  pub fewer-lower : (objects : List Object) → is_lower to (object_at objects key) ≡ true → count_lower to (change_object objects key (raised to)) < count_lower to objects
+  fewer-lower objects e =
+      let f = lower-some to (object_at objects key) e in
+      let here : lower (one_raised f.0) ≡ false = ap lower (changed_at-same key (raised to) f.0 (object_at-key objects key f.0 f.1)) ∙ raised-enough to f.0 in
+      let less : count_by (λ o. lower (one_raised o)) objects < count_by lower objects = count_by-wider (λ o. lower (one_raised o)) lower objects f.0 was (object_at-among objects key f.0 f.1) here f.2 in
+      let same : count_lower to (change_object objects key (raised to)) ≡ count_by (λ o. lower (one_raised o)) objects = count_by-map lower one_raised objects in
+      omega arith
+    where
+      stays : (o : Object) → lower o ≡ false → (b : Bool) → lower (if b then raised to o else o) ≡ false
+      stays o e true = raised-keeps to o to e
+      stays o e false = e
+
+      was : (o : Object) → lower (one_raised o) ≡ true → lower o ≡ true
+      was o h = go (lower o) refl
+        where
+          go : (b : Bool) → lower o ≡ b → lower o ≡ true
+          go true k = k
+          go false k = absurd (true≢false (sym h ∙ stays o k (o.key == key)))
+
+pub raise_slot-there : (to : Colour) (x : Option ℕ) (m : Marking) (q : ℕ) → is_there (raise_slot to x m).objects q ≡ is_there m.objects q
+raise_slot-there to None m q = refl
+raise_slot-there to (Some key) m q = raise_key-there to key m q
+
+pub raise_slot-slots : (to : Colour) (x : Option ℕ) (m : Marking) (q : ℕ) → slots_at (raise_slot to x m).objects q ≡ slots_at m.objects q
+raise_slot-slots to None m q = refl
+raise_slot-slots to (Some key) m q = raise_key-slots to key m q
+
+-- a slot more
+pub raise_each-more : (to : Colour) (slots : List (Option ℕ)) (i : ℕ) (m : Marking) → i < length slots →
+    raise_each to (drop (i + 1) slots) (raise_slot to (get_or slots i None) m) ≡ raise_each to (drop i slots) m
+raise_each-more to slots i m within =
+    let first : drop i slots ≡ get_or slots i None ∷ drop (i + 1) slots = drop-cons slots i None within ∙ ap (λ j. get_or slots i None ∷ drop j slots) (sym (add-one i)) in
+    sym (ap (λ xs. raise_each to xs m) first)
+
+-- What is spent: no more are to come, and no more is to be done.
+pub record Spends (to : Colour) (old new : Marking) : Type 0 where
+  pub coming : to_come to new ≤ to_come to old
+  pub doing : to_do to new ≤ to_do to old
+
+pub Spends-same : (to : Colour) (m : Marking) → Spends to m m
+Spends-same to m = record { coming = omega arith; doing = omega arith }
+
+pub Spends-then : (to : Colour) (a b c : Marking) → Spends to a b → Spends to b c → Spends to a c
+Spends-then to a b c p q = record { coming = omega (arith, p.coming, q.coming); doing = omega (arith, p.doing, q.doing) }
+
+-- an object that is raised comes onto the stack, and is one less that may come
+pub raise_key-spends : (to : Colour) (key : ℕ) (m : Marking) → Spends to m (raise_key to key m)
+raise_key-spends to key m = go (is_lower to (object_at m.objects key)) refl
+  where
+    go : (b : Bool) → is_lower to (object_at m.objects key) ≡ b → Spends to m (raise_key to key m)
+    go true e =
+        let less : count_lower to (change_object m.objects key (raised to)) < count_lower to m.objects = fewer-lower to key m.objects e in
+        let long : length (m.stack ++ key ∷ []) ≡ length m.stack + 1 = length_push m.stack key in
+        subst (Spends to m) (sym (raise_key-lower to key m e)) (record { coming = omega arith; doing = omega arith })
+    go false e = subst (Spends to m) (sym (raise_key-enough to key m e)) (Spends-same to m)
+
+pub raise_each-spends : (to : Colour) (xs : List (Option ℕ)) (m : Marking) → Spends to m (raise_each to xs m)
+raise_each-spends to [] m = Spends-same to m
+raise_each-spends to (None ∷ xs) m = raise_each-spends to xs m
+raise_each-spends to (Some key ∷ xs) m = Spends-then to m (raise_key to key m) (raise_each to xs (raise_key to key m)) (raise_key-spends to key m) (raise_each-spends to xs (raise_key to key m))

@@ -1,0 +1,53 @@
+-- WHAT IS REACHED OVER SLOTS: edges are slots, and where every slot holds what is there, all that is reached is there.
+use Rattle.std.proofs.Common.{◌≡◌, ℕ, true, List, [], ◌∷◌, Option, Some, None, refl, sym, ap, subst, inl, ⊎_elim}
+use Rattle.std.specs.List.{flat_map}
+use Rattle.std.specs.Option.{option_to_list}
+use Rattle.cc_lists.specs.Members.{Among}
+use Rattle.cc_lists.proofs.Members.{Among-map, Among-map_cases, Among-flat_map, Among-flat_map_cases}
+use Rattle.cc_lists.proofs.Least.{derived-within, derive-root, derive-along}
+use Rattle.cc_script.specs.Objects.{Object, is_there, AreWhole}
+use Rattle.cc_script.specs.Walking.{slot_edges, edges, IsReached}
+
+-- what slots hold
+pub held-among : (slots : List (Option ℕ)) (q : ℕ) → Among q (flat_map option_to_list slots) → Among (Some q) slots
+held-among slots q m =
+    let k = Among-flat_map_cases option_to_list slots q m in
+    subst (λ x. Among x slots) (one k.0 k.2) k.1
+  where
+    one : (x : Option ℕ) → Among q (option_to_list x) → x ≡ Some q
+    one None w = absurd w
+    one (Some r) w = ⊎_elim (λ e. ap Some e) (λ n. absurd n) w
+
+pub among-held : (slots : List (Option ℕ)) (q : ℕ) → Among (Some q) slots → Among q (flat_map option_to_list slots)
+among-held slots q m = Among-flat_map option_to_list (Some q) q slots m (inl refl)
+
+-- an edge is a slot
+pub slot-edge : (objects : List Object) (o : Object) (q : ℕ) → Among o objects → Among (Some q) o.slots → Among (o.key, q) (edges objects)
+slot-edge objects o q m s = Among-flat_map slot_edges o (o.key, q) objects m (Among-map (λ (r : ℕ). (o.key, r)) q (flat_map option_to_list o.slots) (among-held o.slots q s))
+
+pub edge-slot : (objects : List Object) (x y : ℕ) → Among (x, y) (edges objects) → (o : Object) × Among o objects × (o.key ≡ x) × Among (Some y) o.slots
+edge-slot objects x y m =
+    let k = Among-flat_map_cases slot_edges objects (x, y) m in
+    let h = Among-map_cases (λ (r : ℕ). (k.0.key, r)) (flat_map option_to_list k.0.slots) (x, y) k.2 in
+    (k.0, k.1, ap (λ (e : ℕ × ℕ). e.0) h.2, subst (λ z. Among (Some z) k.0.slots) (ap (λ (e : ℕ × ℕ). e.1) h.2) (held-among k.0.slots h.0 h.1))
+
+-- the start is reached, and what the slots of a reached object hold
+pub reached-root : (objects : List Object) (root : ℕ) → IsReached objects (root ∷ []) root
+reached-root objects root = derive-root (root ∷ []) (edges objects) [] root (inl refl)
+
+pub reached-slot : (objects : List Object) (root : ℕ) (o : Object) (q : ℕ) → Among o objects → Among (Some q) o.slots →
+    IsReached objects (root ∷ []) o.key → IsReached objects (root ∷ []) q
+reached-slot objects root o q m s r = derive-along (root ∷ []) (edges objects) [] o.key q (slot-edge objects o q m s) r
+
+-- induction over what is reached
+pub reached-within : (objects : List Object) (root : ℕ) (P : ℕ → Type 0) → P root →
+    ((o : Object) (q : ℕ) → Among o objects → Among (Some q) o.slots → P o.key → P q) →
+    (k : ℕ) → IsReached objects (root ∷ []) k → P k
+reached-within objects root P first step = derived-within (root ∷ []) (edges objects) [] P
+    (λ x m. ⊎_elim (λ e. subst P e first) (λ n. absurd n) m)
+    (λ x y m h. let k = edge-slot objects x y m in step k.0 y k.1 k.3 (subst P (sym k.2) h))
+    (λ ps v m. absurd m)
+
+pub reached-there : (objects : List Object) → AreWhole objects → (root : ℕ) → is_there objects root ≡ true →
+    (k : ℕ) → IsReached objects (root ∷ []) k → is_there objects k ≡ true
+reached-there objects whole root live = reached-within objects root (λ k. is_there objects k ≡ true) live (λ o q m s h. whole o q m s)

@@ -1,0 +1,37 @@
+-- A SLOT THAT IS READ, by the key that it holds.
+use Rattle.std.proofs.Common.{◌≡◌, ℕ, ◌+◌, ◌<◌, List, [], ◌∷◌, ◌++◌, map, length, get_or, take, add-one, Option, None, option_map, sym, ◌∙◌, ap, subst}
+use Rattle.std.proofs.Math.ListN.{get_or-map}
+use Rattle.std.proofs.Math.Seq.{take-suc}
+use Rattle.std.proofs.lemmas.List.{get_or_default, length-map}
+use Rattle.std.proofs.lemmas.List.Elements.{Contains-get_or}
+use Rattle.cc_lists.specs.Members.{Among}
+use Rattle.cc_lists.proofs.Members.{Among-contains, Among-map}
+use Rattle.cc_names.specs.declared.number.SKey.{SKey}
+
+-- what a slot holds, by its number
+abbrev pub held_key : Option SKey → Option ℕ
+held_key x = option_map (λ (k : SKey). k.0) x
+
+pub slot-read : (items : List (Option SKey)) (slots : List (Option ℕ)) (i : ℕ) (x : Option SKey) → map held_key items ≡ slots → i < length slots → x ≡ get_or items i x →
+    held_key x ≡ get_or slots i None
+slot-read items slots i x same within read =
+    let inside : i < length items = subst (λ n. i < n) (ap length (sym same) ∙ length-map items held_key) within in
+    ap held_key (read ∙ get_or_default items i x None inside) ∙ (sym (get_or-map held_key items i None) ∙ ap (λ ys. get_or ys i None) same)
+
+-- it stands among the slots
+pub slot-among : (slots : List (Option ℕ)) (i : ℕ) (x : Option ℕ) → i < length slots → get_or slots i None ≡ x → Among x slots
+slot-among slots i x within e = subst (λ y. Among y slots) e (Among-contains (get_or slots i None) slots (Contains-get_or slots i None within))
+
+-- The keys of an order, by places
+
+pub place-among : (items : List SKey) (place : ℕ) (x : SKey) → place < length items → x ≡ get_or items place x → Among x.0 (map (λ (k : SKey). k.0) items)
+place-among items place x within read =
+    Among-map (λ (k : SKey). k.0) x items (subst (λ y. Among y items) (sym read) (Among-contains (get_or items place x) items (Contains-get_or items place x within)))
+
+pub take-place : (items : List SKey) (place : ℕ) (x : SKey) → place < length items → x ≡ get_or items place x →
+    take (place + 1) (map (λ (k : SKey). k.0) items) ≡ take place (map (λ (k : SKey). k.0) items) ++ x.0 ∷ []
+take-place items place x within read =
+    let keys : List ℕ = map (λ (k : SKey). k.0) items in
+    let inside : place < length keys = subst (λ n. place < n) (sym (length-map items (λ (k : SKey). k.0))) within in
+    ap (λ n. take n keys) (add-one place)
+    ∙ (take-suc keys place x.0 inside ∙ ap (λ k. take place keys ++ k ∷ []) (get_or-map (λ (k : SKey). k.0) items place x ∙ ap (λ (k : SKey). k.0) (sym read)))

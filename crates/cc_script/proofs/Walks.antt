@@ -1,0 +1,305 @@
+-- A WALK RAISES EXACTLY WHAT IS REACHED.
+use Rattle.std.proofs.Common.{◌≡◌, ℕ, Bool, true, false, ◌||◌, List, [], ◌∷◌, ◌++◌, Option, Some, None, option_map, refl, sym, ◌∙◌, ap, subst, ⊎_elim, ◌⊎◌, inl, inr, ◌==◌, if◌then◌else◌}
+use Rattle.std.proofs.lemmas.Bool.{ne_eqb, true≢false}
+use Rattle.std.proofs.lemmas.Bool.Decides.{eqb_tells}
+use Rattle.std.proofs.lemmas.List.{map-id}
+use Rattle.std.proofs.lemmas.Simd.{map-map}
+use Rattle.cc_lists.specs.Members.{Among, has}
+use Rattle.cc_lists.proofs.Members.{Among-append, Among-left, Among-right, has-there, has-among}
+use Rattle.cc_lists.proofs.Closure.{closure-decides}
+use Rattle.cc_lists.proofs.ListWrites.{map-agree}
+use Rattle.cc_lists.proofs.Numbers.{number-exact}
+use Rattle.cc_names.specs.declared.kind.Colour.{Colour}
+use Rattle.cc_names.specs.declared.kind.Colour.TheVariants.{White}
+use Rattle.cc_script.specs.Objects.{Object, object_at, is_there, slots_at, slots_or_none, change_object, is_below, raised, raised_among, AreWhole}
+use Rattle.cc_script.specs.Walking.{reach_rules, keys_reached, IsReached}
+use Rattle.cc_script.specs.ColourOrder.{HasColourOrder}
+use Rattle.cc_script.specs.Marking.{Marking, is_lower, raise_key, raise_each}
+use Rattle.cc_script.proofs.Keys.{object_at-among, object_at-key, object_at-map, changed_at, changed_at-same}
+use Rattle.cc_script.proofs.Colours.{not_below-trans, not_below-cases, not_below-white, raised-key, raised-slots, raised-again, raised-same}
+use Rattle.cc_script.proofs.InOrder.{HasColourOrder-raised}
+use Rattle.cc_script.proofs.Reaching.{reached-root, reached-slot, reached-within}
+use Rattle.cc_script.proofs.Raising.{raise_key-lower, raise_key-enough, is_there-kept, slots_at-kept}
+
+-- Objects raised at some keys
+
+abbrev pub risen : List ℕ → Colour → Object → Object
+risen keys to o = if has ◌==◌ keys o.key then raised to o else o
+
+pub risen-key : (keys : List ℕ) (to : Colour) (o : Object) → (risen keys to o).key ≡ o.key
+risen-key keys to o = go (has ◌==◌ keys o.key)
+  where
+    go : (b : Bool) → (if b then raised to o else o).key ≡ o.key
+    go true = raised-key to o
+    go false = refl
+
+pub risen-slots : (keys : List ℕ) (to : Colour) (o : Object) → (risen keys to o).slots ≡ o.slots
+risen-slots keys to o = go (has ◌==◌ keys o.key)
+  where
+    go : (b : Bool) → (if b then raised to o else o).slots ≡ o.slots
+    go true = raised-slots to o
+    go false = refl
+
+risen-in : (keys : List ℕ) (to : Colour) (o : Object) → has ◌==◌ keys o.key ≡ true → risen keys to o ≡ raised to o
+risen-in keys to o e = rw e refl
+
+risen-out : (keys : List ℕ) (to : Colour) (o : Object) → has ◌==◌ keys o.key ≡ false → risen keys to o ≡ o
+risen-out keys to o e = rw e refl
+
+-- one more
+raised-more : (keys : List ℕ) (to : Colour) (k : ℕ) (objects : List Object) → change_object (raised_among keys to objects) k (raised to) ≡ raised_among (k ∷ keys) to objects
+raised-more keys to k objects = map-map (changed_at k (raised to)) (risen keys to) objects ∙ map-agree (λ o. changed_at k (raised to) (risen keys to o)) (risen (k ∷ keys) to) objects (λ o m. each o)
+  where
+    twice : (o : Object) (b : Bool) → raised to (if b then raised to o else o) ≡ raised to o
+    twice o true = raised-again to o
+    twice o false = refl
+
+    each : (o : Object) → changed_at k (raised to) (risen keys to o) ≡ risen (k ∷ keys) to o
+    each o = ⊎_elim
+        (λ t.
+        let there : has ◌==◌ (k ∷ keys) o.key ≡ true = ap (λ b. b || has ◌==◌ keys o.key) t.0 in
+        changed_at-same k (raised to) (risen keys to o) (risen-key keys to o ∙ sym t.1) ∙ (twice o (has ◌==◌ keys o.key) ∙ sym (risen-in (k ∷ keys) to o there)))
+        (λ t.
+        let there : has ◌==◌ (k ∷ keys) o.key ≡ has ◌==◌ keys o.key = ap (λ b. b || has ◌==◌ keys o.key) t.0 in
+        let other : ((risen keys to o).key == k) ≡ false = ne_eqb (risen keys to o).key k (λ e. t.1 (sym (sym (risen-key keys to o) ∙ e))) in
+        ap (λ b. if b then raised to (risen keys to o) else risen keys to o) other ∙ ap (λ b. if b then raised to o else o) (sym there))
+        (eqb_tells k o.key)
+
+-- what the slots at a key hold, an object there holds
+slot-object : (objects : List Object) (k q : ℕ) → Among (Some q) (slots_at objects k) → (o : Object) × (object_at objects k ≡ Some o) × Among (Some q) o.slots
+slot-object objects k q m = go (object_at objects k) refl m
+  where
+    go : (a : Option Object) → object_at objects k ≡ a → Among (Some q) (slots_or_none a) → (o : Object) × (object_at objects k ≡ Some o) × Among (Some q) o.slots
+    go None e n = absurd n
+    go (Some o) e n = (o, e, n)
+
+module _ (before : List Object) (root : ℕ) (to : Colour) where
+  -- a key that was raised, or that needs no raising
+  abbrev pub IsMet : List ℕ → ℕ → Type 0
+  IsMet keys q = Among q keys ⊎ (is_lower to (object_at before q) ≡ false)
+
+  pub met-more : (keys more : List ℕ) → ((k : ℕ) → Among k keys → Among k more) → (q : ℕ) → IsMet keys q → IsMet more q
+  met-more keys more sub q m = ⊎_elim (λ t. inl (sub q t)) (λ e. inr e) m
+
+  -- what isn't lower then
+  met-enough : (keys : List ℕ) (q : ℕ) → is_lower to (object_at (raised_among keys to before) q) ≡ false → IsMet keys q
+  met-enough keys q e = go (has ◌==◌ keys q) refl
+    where
+      found : object_at (raised_among keys to before) q ≡ option_map (risen keys to) (object_at before q)
+      found = object_at-map (risen keys to) (risen-key keys to) before q
+
+      same : (a : Option Object) → object_at before q ≡ a → has ◌==◌ keys q ≡ false → option_map (risen keys to) a ≡ a
+      same None f h = refl
+      same (Some o) f h = ap Some (risen-out keys to o (ap (has ◌==◌ keys) (object_at-key before q o f) ∙ h))
+
+      go : (b : Bool) → has ◌==◌ keys q ≡ b → IsMet keys q
+      go true h = inl (has-among ◌==◌ number-exact keys q h)
+      go false h = inr (ap (is_lower to) (sym (found ∙ same (object_at before q) refl h)) ∙ e)
+
+  -- THE WALK SO FAR: these keys were raised, each is reached, and what the slots of each hold was met, but for those
+  -- that stand on the stack or are in hand.
+  pub record IsMarking (hand : List ℕ) (m : Marking) : Type 0 where
+    pub keys : List ℕ
+    pub objects : m.objects ≡ raised_among keys to before
+    pub reached : (k : ℕ) → Among k keys → IsReached before (root ∷ []) k
+    pub stacked : (k : ℕ) → Among k m.stack → Among k keys
+    pub followed : (k q : ℕ) → Among k keys → Among (Some q) (slots_at before k) → (Among k hand ⊎ Among k m.stack) ⊎ IsMet keys q
+
+  pub marking-start : IsMarking [] (record { objects = before; stack = [] })
+  marking-start = record {
+    keys = [];
+    objects = sym (map-id before);
+    reached = λ k m. absurd m;
+    stacked = λ k m. absurd m;
+    followed = λ k q m s. absurd m;
+  }
+
+  -- what stands in the list is as it was there
+  pub marking-slots : (hand : List ℕ) (m : Marking) → IsMarking hand m → (q : ℕ) → slots_at m.objects q ≡ slots_at before q
+  marking-slots hand m h q = ap (λ os. slots_at os q) h.objects ∙ slots_at-kept (risen h.keys to) (risen-key h.keys to) (risen-slots h.keys to) before q
+
+  -- One object raised
+
+  pub record Raises (hand keys : List ℕ) (q : ℕ) (new : Marking) : Type 0 where
+    pub after : IsMarking hand new
+    pub met : IsMet after.keys q
+    pub more : (k : ℕ) → Among k keys → Among k after.keys
+
+  pub raise_key-marks : (hand : List ℕ) (m : Marking) (h : IsMarking hand m) (q : ℕ) → IsReached before (root ∷ []) q → Raises hand h.keys q (raise_key to q m)
+  raise_key-marks hand m h q r = go (is_lower to (object_at m.objects q)) refl
+    where
+      mine : (j p : ℕ) → Among j (q ∷ h.keys) → Among (Some p) (slots_at before j) → (Among j hand ⊎ Among j (m.stack ++ q ∷ [])) ⊎ IsMet (q ∷ h.keys) p
+      mine j p w s = ⊎_elim
+          (λ e. inl (inr (Among-right j m.stack (q ∷ []) (inl e))))
+          (λ t. ⊎_elim
+          (λ x. inl (⊎_elim (λ y. inl y) (λ y. inr (Among-left j m.stack (q ∷ []) y)) x))
+          (λ x. inr (met-more h.keys (q ∷ h.keys) (λ k n. inr n) p x))
+          (h.followed j p t s)) w
+
+      go : (b : Bool) → is_lower to (object_at m.objects q) ≡ b → Raises hand h.keys q (raise_key to q m)
+      go true e = subst (Raises hand h.keys q) (sym (raise_key-lower to q m e)) (record {
+        after = record {
+          keys = q ∷ h.keys;
+          objects = ap (λ os. change_object os q (raised to)) h.objects ∙ raised-more h.keys to q before;
+          reached = λ k n. ⊎_elim (λ s. subst (IsReached before (root ∷ [])) s r) (λ t. h.reached k t) n;
+          stacked = λ k n. ⊎_elim (λ t. inr (h.stacked k t)) (λ t. ⊎_elim (λ s. inl s) (λ x. absurd x) t) (Among-append k m.stack (q ∷ []) n);
+          followed = mine;
+        };
+        met = inl (inl refl);
+        more = λ k n. inr n;
+      })
+      go false e = subst (Raises hand h.keys q) (sym (raise_key-enough to q m e)) (record {
+        after = h;
+        met = met-enough h.keys q (ap (λ os. is_lower to (object_at os q)) (sym h.objects) ∙ e);
+        more = λ k n. n;
+      })
+
+  -- and what each of some slots holds
+  pub record RaisesEach (hand keys : List ℕ) (xs : List (Option ℕ)) (new : Marking) : Type 0 where
+    pub after : IsMarking hand new
+    pub met : (q : ℕ) → Among (Some q) xs → IsMet after.keys q
+    pub more : (k : ℕ) → Among k keys → Among k after.keys
+
+  pub raise_each-marks : (hand : List ℕ) (xs : List (Option ℕ)) (m : Marking) (h : IsMarking hand m) → ((q : ℕ) → Among (Some q) xs → IsReached before (root ∷ []) q) →
+      RaisesEach hand h.keys xs (raise_each to xs m)
+  raise_each-marks hand [] m h r = record { after = h; met = λ q n. absurd n; more = λ k n. n }
+  raise_each-marks hand (None ∷ xs) m h r =
+      let s = raise_each-marks hand xs m h (λ q n. r q (inr n)) in
+      record { after = s.after; met = λ q n. ⊎_elim (λ e. let bad : None ≡ Some q = e in absurd (cc)) (λ t. s.met q t) n; more = s.more }
+  raise_each-marks hand (Some p ∷ xs) m h r =
+      let f = raise_key-marks hand m h p (r p (inl refl)) in
+      let s = raise_each-marks hand xs (raise_key to p m) f.after (λ q n. r q (inr n)) in
+      record {
+        after = s.after;
+        met = λ q n. ⊎_elim
+            (λ e. let same : Some p ≡ Some q = e in let it : p ≡ q = cc in subst (IsMet s.after.keys) it (met-more f.after.keys s.after.keys s.more p f.met))
+            (λ t. s.met q t) n;
+        more = λ k n. s.more k (f.more k n);
+      }
+
+  -- THE WALK: the first object was met.
+  pub record IsWalk (m : Marking) : Type 0 where
+    pub marking : IsMarking [] m
+    pub begun : IsMet marking.keys root
+
+  pub walk-start : IsWalk (raise_key to root (record { objects = before; stack = [] }))
+  walk-start =
+      let f = raise_key-marks [] (record { objects = before; stack = [] }) marking-start root (reached-root before root) in
+      record { marking = f.after; begun = f.met }
+
+  -- what is there, is there throughout
+  pub walk-there : (m : Marking) → IsWalk m → (q : ℕ) → is_there m.objects q ≡ is_there before q
+  walk-there m w q = ap (λ os. is_there os q) w.marking.objects ∙ is_there-kept (risen w.marking.keys to) (risen-key w.marking.keys to) (risen-slots w.marking.keys to) before q
+
+  -- an object taken from the stack, and what its slots hold raised
+  module _ (m : Marking) (w : IsWalk m) (ks : List ℕ) (key : ℕ) (top : m.stack ≡ ks ++ key ∷ []) where
+    abbrev rest : Marking
+    rest = record { objects = m.objects; stack = ks }
+
+    abbrev taken : IsMarking (key ∷ []) rest
+    taken = record {
+      keys = w.marking.keys;
+      objects = w.marking.objects;
+      reached = w.marking.reached;
+      stacked = λ k n. w.marking.stacked k (subst (Among k) (sym top) (Among-left k ks (key ∷ []) n));
+      followed = λ k q n s. ⊎_elim
+          (λ t. inl (⊎_elim
+          (λ x. absurd x)
+          (λ x. ⊎_elim (λ y. inr y) (λ y. inl y) (Among-append k ks (key ∷ []) (subst (Among k) top x))) t))
+          (λ t. inr t)
+          (w.marking.followed k q n s);
+    }
+
+    stood : Among key w.marking.keys
+    stood = w.marking.stacked key (subst (Among key) (sym top) (Among-right key ks (key ∷ []) (inl refl)))
+
+    -- it is reached, and so is what its slots hold
+    pub walk-reached : IsReached before (root ∷ []) key
+    walk-reached = w.marking.reached key stood
+
+    pub walk-slots : slots_at m.objects key ≡ slots_at before key
+    walk-slots = marking-slots [] m w.marking key
+
+    pub walk-held : (q : ℕ) → Among (Some q) (slots_at m.objects key) → IsReached before (root ∷ []) q
+    walk-held q n =
+        let f = slot-object before key q (subst (λ xs. Among (Some q) xs) walk-slots n) in
+        reached-slot before root f.0 q (object_at-among before key f.0 f.1) f.2 (subst (IsReached before (root ∷ [])) (sym (object_at-key before key f.0 f.1)) walk-reached)
+
+    pub walk-next : IsWalk (raise_each to (slots_at m.objects key) (record { objects = m.objects; stack = ks }))
+    walk-next =
+        let s = raise_each-marks (key ∷ []) (slots_at m.objects key) rest taken walk-held in
+        record {
+          marking = record {
+            keys = s.after.keys;
+            objects = s.after.objects;
+            reached = s.after.reached;
+            stacked = s.after.stacked;
+            followed = λ k q n t. ⊎_elim
+                (λ x. ⊎_elim
+                (λ y. ⊎_elim
+                (λ e. inr (s.met q (subst (λ xs. Among (Some q) xs) (sym walk-slots) (subst (λ j. Among (Some q) (slots_at before j)) (sym e) t))))
+                (λ z. absurd z) y)
+                (λ y. inl (inr y)) x)
+                (λ x. inr x)
+                (s.after.followed k q n t);
+          };
+          begun = met-more w.marking.keys s.after.keys s.more root w.begun;
+        }
+
+  -- THE END: where nothing stands on the stack, all that is reached was met
+  module _ (own : (o : Object) → Among o before → object_at before o.key ≡ Some o) (ordered : HasColourOrder before) (m : Marking) (w : IsWalk m) (emptied : m.stack ≡ []) where
+    abbrev keys : List ℕ
+    keys = w.marking.keys
+
+    -- an object that has the colour holds only such
+    enough : (o : Object) (q : ℕ) → Among o before → Among (Some q) o.slots → is_below o.colour to ≡ false → is_lower to (object_at before q) ≡ false
+    enough o q n s e = ⊎_elim
+        (λ white. go white (object_at before q))
+        (λ above. let f = ordered.held o q n above s in ap (is_lower to) f.1 ∙ not_below-trans f.0.colour o.colour to f.2 e)
+        (not_below-cases o.colour to e)
+      where
+        go : to ≡ White → (a : Option Object) → is_lower to a ≡ false
+        go white None = refl
+        go white (Some d) = ap (is_below d.colour) white ∙ not_below-white d.colour
+
+    step : (o : Object) (q : ℕ) → Among o before → Among (Some q) o.slots → IsMet keys o.key → IsMet keys q
+    step o q n s t = ⊎_elim
+        (λ there. ⊎_elim
+        (λ x. ⊎_elim (λ y. absurd y) (λ y. absurd (subst (Among o.key) emptied y)) x)
+        (λ x. x)
+        (w.marking.followed o.key q there (subst (λ a. Among (Some q) (slots_or_none a)) (sym (own o n)) s)))
+        (λ e. inr (enough o q n s (ap (is_lower to) (sym (own o n)) ∙ e))) t
+
+    met : (k : ℕ) → IsReached before (root ∷ []) k → IsMet keys k
+    met = reached-within before root (IsMet keys) w.begun step
+
+    reached_keys : (k : ℕ) → (has ◌==◌ (keys_reached before (root ∷ [])) k ≡ true → IsReached before (root ∷ []) k) × (IsReached before (root ∷ []) k → has ◌==◌ (keys_reached before (root ∷ [])) k ≡ true)
+    reached_keys k = closure-decides ◌==◌ number-exact (reach_rules before (root ∷ [])) k
+
+    each : (o : Object) → Among o before → risen keys to o ≡ risen (keys_reached before (root ∷ [])) to o
+    each o n = go (has ◌==◌ keys o.key) refl (has ◌==◌ (keys_reached before (root ∷ [])) o.key) refl
+      where
+        all : List ℕ
+        all = keys_reached before (root ∷ [])
+
+        go : (b : Bool) → has ◌==◌ keys o.key ≡ b → (c : Bool) → has ◌==◌ all o.key ≡ c → risen keys to o ≡ risen all to o
+        go true e true f = risen-in keys to o e ∙ sym (risen-in all to o f)
+        go false e false f = risen-out keys to o e ∙ sym (risen-out all to o f)
+        go true e false f = absurd (true≢false (sym ((reached_keys o.key).1 (w.marking.reached o.key (has-among ◌==◌ number-exact keys o.key e))) ∙ f))
+        go false e true f = ⊎_elim
+            (λ t. absurd (true≢false (sym (has-there ◌==◌ number-exact keys o.key t) ∙ e)))
+            (λ t. risen-out keys to o e ∙ (sym (raised-same to o (ap (is_lower to) (sym (own o n)) ∙ t)) ∙ sym (risen-in all to o f)))
+            (met o.key ((reached_keys o.key).0 f))
+
+    pub walk-end : m.objects ≡ raised_among (keys_reached before (root ∷ [])) to before
+    walk-end = w.marking.objects ∙ map-agree (risen keys to) (risen (keys_reached before (root ∷ [])) to) before each
+
+  -- the colours are in order then
+  pub walk-coloured : ((o : Object) → Among o before → object_at before o.key ≡ Some o) → HasColourOrder before → AreWhole before → HasColourOrder (raised_among (keys_reached before (root ∷ [])) to before)
+  walk-coloured own ordered whole = HasColourOrder-raised before ordered own (keys_reached before (root ∷ [])) to whole closed
+    where
+      decides : (k : ℕ) → (has ◌==◌ (keys_reached before (root ∷ [])) k ≡ true → IsReached before (root ∷ []) k) × (IsReached before (root ∷ []) k → has ◌==◌ (keys_reached before (root ∷ [])) k ≡ true)
+      decides k = closure-decides ◌==◌ number-exact (reach_rules before (root ∷ [])) k
+
+      closed : (o : Object) (q : ℕ) → Among o before → Among (Some q) o.slots → has ◌==◌ (keys_reached before (root ∷ [])) o.key ≡ true → has ◌==◌ (keys_reached before (root ∷ [])) q ≡ true
+      closed o q n s e = (decides q).1 (reached-slot before root o q n s ((decides o.key).0 e))

@@ -1,0 +1,7 @@
+pub mod Objects
+pub mod Walking
+pub mod Lists
+pub mod ColourOrder
+pub mod Marking
+pub mod Parts
+pub mod Tidy

@@ -1,0 +1,90 @@
+-- THE PARTS OF A SCRIPT HEAP AS LISTS, by keys, and the objects that they show.
+use Rattle.std.specs.Prelude.{◌≡◌, ℕ, ◌≤◌, ◌==◌, true, false, not, List, [], ◌∷◌, ◌++◌, length, map, filter, count_by, Option, Some, None, slice_index_or, slice_set}
+use Rattle.cc_lists.specs.Members.{Among}
+use Rattle.cc_names.specs.declared.name.Name.{Name}
+use Rattle.cc_names.specs.declared.kind.Kind.{Kind}
+use Rattle.cc_names.specs.declared.kind.Kind.TheVariants.{Plain}
+use Rattle.cc_names.specs.declared.kind.Colour.{Colour}
+use Rattle.cc_names.specs.declared.kind.Colour.TheVariants.{White}
+use Rattle.cc_names.specs.Names.{object}
+use Rattle.cc_script.specs.Objects.{Object}
+
+-- an object as it stands at its key: what its slots hold by keys
+pub record Placed : Type 0 where
+  pub name : Name
+  pub kind : Kind
+  pub slots : List (Option ℕ)
+  pub colour : Colour
+
+-- the objects by key, and their keys in order of making
+pub record Lists : Type 0 where
+  pub cells : List (Option Placed)
+  pub order : List ℕ
+
+-- the object at a key
+abbrev pub cell_at : List (Option Placed) → ℕ → Option Placed
+cell_at cells key = slice_index_or cells key None
+
+-- with another colour
+abbrev pub painted : Colour → Placed → Placed
+painted colour c = record c { colour = colour }
+
+-- with slot i written
+abbrev pub written : ℕ → Option ℕ → Placed → Placed
+written i x c = record c { slots = slice_set c.slots i x }
+
+-- what is read where there is no object
+abbrev pub nothing_placed : Placed
+nothing_placed = record { name = object 0; kind = Plain; slots = []; colour = White }
+
+abbrev pub placed_or_nothing : Option Placed → Placed
+placed_or_nothing None = nothing_placed
+placed_or_nothing (Some c) = c
+
+-- the slots at a key, and none where there is no object
+abbrev pub slots_placed : Option Placed → List (Option ℕ)
+slots_placed o = (placed_or_nothing o).slots
+
+-- an object with its key
+abbrev pub with_key : ℕ → Placed → Object
+with_key key c = record { key = key; name = c.name; kind = c.kind; slots = c.slots; colour = c.colour }
+
+abbrev pub shown_at : List (Option Placed) → ℕ → Object
+shown_at cells key = with_key key (placed_or_nothing (cell_at cells key))
+
+-- WHAT THE LISTS SHOW
+abbrev pub objects_of : Lists → List Object
+objects_of l = map (shown_at l.cells) l.order
+
+-- THE LISTS FIT TOGETHER: the order has the keys of the objects, each once, and no object has more than 64 slots
+pub record IsPlaced (l : Lists) : Type 0 where
+  pub in_order : (key : ℕ) → Among key l.order → (c : Placed) × (cell_at l.cells key ≡ Some c)
+  pub ordered : (key : ℕ) (c : Placed) → cell_at l.cells key ≡ Some c → Among key l.order
+  pub once : (key : ℕ) → count_by (λ k. k == key) l.order ≤ 1
+  pub small : (key : ℕ) (c : Placed) → cell_at l.cells key ≡ Some c → length c.slots ≤ 64
+
+-- the keys but for one
+abbrev pub without_key : ℕ → List ℕ → List ℕ
+without_key key keys = filter (λ k. not (k == key)) keys
+
+-- the first key of a list
+abbrev pub first_of : List ℕ → Option ℕ
+first_of [] = None
+first_of (k ∷ ks) = Some k
+
+-- the key behind a key
+abbrev pub key_behind : ℕ → List ℕ → Option ℕ
+key_behind key [] = None
+key_behind key (k ∷ ks) = elim (k == key) [ true ↦ first_of ks | false ↦ key_behind key ks ]
+
+-- the lists with the object at a key changed
+abbrev pub with_cell : Lists → ℕ → Option Placed → Lists
+with_cell l key o = record { cells = slice_set l.cells key o; order = l.order }
+
+-- with the object at a key made, which stands in these cells
+abbrev pub made : Lists → List (Option Placed) → ℕ → Lists
+made l cells key = record { cells = cells; order = l.order ++ key ∷ [] }
+
+-- with the object at a key taken out
+abbrev pub taken_out : Lists → ℕ → Lists
+taken_out l key = record { cells = slice_set l.cells key None; order = without_key key l.order }

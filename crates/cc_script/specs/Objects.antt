@@ -1,0 +1,111 @@
+-- THE SCRIPT OBJECTS AS A LIST, in order of making; each stands at a key, and its slots hold keys.
+use Rattle.std.specs.Prelude.{◌≡◌, IsTrue, ℕ, ◌==◌, Bool, true, false, not, List, [], ◌∷◌, map, filter, find, replicate, Option, Some, None, is_some, option_map, slice_set, if◌then◌else◌}
+use Rattle.cc_lists.specs.Members.{Among, has}
+use Rattle.cc_names.specs.declared.name.Name.{Name}
+use Rattle.cc_names.specs.declared.kind.Kind.{Kind}
+use Rattle.cc_names.specs.declared.kind.Kind.TheVariants.{Plain}
+use Rattle.cc_names.specs.declared.kind.Colour.{Colour}
+use Rattle.cc_names.specs.declared.kind.Colour.TheVariants.{White, Gray, Black}
+use Rattle.cc_names.specs.Names.{object}
+
+pub record Object : Type 0 where
+  pub key : ℕ
+  pub name : Name
+  pub kind : Kind
+  pub slots : List (Option ℕ)
+  pub colour : Colour
+
+-- a plain object as it is made: with its number, black, so many slots empty
+abbrev pub plain_object : ℕ → ℕ → ℕ → Object
+plain_object key number slots = record { key = key; name = object number; kind = Plain; slots = replicate slots None; colour = Black }
+
+-- Reading
+
+abbrev pub object_at : List Object → ℕ → Option Object
+object_at objects key = find (λ o. o.key == key) objects
+
+abbrev pub is_there : List Object → ℕ → Bool
+is_there objects key = is_some (object_at objects key)
+
+abbrev pub name_at : List Object → ℕ → Option Name
+name_at objects key = option_map (λ o. o.name) (object_at objects key)
+
+abbrev pub kind_at : List Object → ℕ → Option Kind
+kind_at objects key = option_map (λ o. o.kind) (object_at objects key)
+
+abbrev pub colour_at : List Object → ℕ → Option Colour
+colour_at objects key = option_map (λ o. o.colour) (object_at objects key)
+
+abbrev pub slots_or_none : Option Object → List (Option ℕ)
+slots_or_none None = []
+slots_or_none (Some o) = o.slots
+
+-- the slots of the object at a key; none where there is no object
+abbrev pub slots_at : List Object → ℕ → List (Option ℕ)
+slots_at objects key = slots_or_none (object_at objects key)
+
+-- the key of the object that was made first
+abbrev pub first_key : List Object → Option ℕ
+first_key [] = None
+first_key (o ∷ os) = Some o.key
+
+-- the key of the object that was made next after the one at a key
+abbrev pub key_after : List Object → ℕ → Option ℕ
+key_after [] key = None
+key_after (o ∷ os) key = elim (o.key == key) [ true ↦ first_key os | false ↦ key_after os key ]
+
+-- each slot holds an object that is there
+abbrev pub AreWhole : List Object → Type 0
+AreWhole objects = (o : Object) (q : ℕ) → Among o objects → Among (Some q) o.slots → IsTrue (is_there objects q)
+
+-- Writing
+
+-- the object at a key changed
+abbrev pub change_object : List Object → ℕ → (Object → Object) → List Object
+change_object objects key f = map (λ o. if o.key == key then f o else o) objects
+
+abbrev pub with_slot : ℕ → Option ℕ → Object → Object
+with_slot i x o = record o { slots = slice_set o.slots i x }
+
+abbrev pub with_colour : Colour → Object → Object
+with_colour colour o = record o { colour = colour }
+
+-- the object at a key taken out
+abbrev pub without_object : List Object → ℕ → List Object
+without_object objects key = filter (λ o. not (o.key == key)) objects
+
+-- Colours: white below gray below black
+
+abbrev pub is_below : Colour → Colour → Bool
+is_below White White = false
+is_below White Gray = true
+is_below White Black = true
+is_below Gray White = false
+is_below Gray Gray = false
+is_below Gray Black = true
+is_below Black colour = false
+
+-- at least this colour
+abbrev pub raised : Colour → Object → Object
+raised colour o = elim (is_below o.colour colour) [ true ↦ with_colour colour o | false ↦ o ]
+
+-- the objects at these keys raised
+abbrev pub raised_among : List ℕ → Colour → List Object → List Object
+raised_among keys colour objects = map (λ o. if has ◌==◌ keys o.key then raised colour o else o) objects
+
+-- all white
+abbrev pub whitened : List Object → List Object
+whitened objects = map (with_colour White) objects
+
+-- the colour by the keys that are black and those that are marked
+abbrev pub colour_by : List ℕ → List ℕ → ℕ → Colour
+colour_by blacks marks key = elim (has ◌==◌ blacks key) [ true ↦ Black | false ↦ elim (has ◌==◌ marks key) [ true ↦ Gray | false ↦ White ] ]
+
+abbrev pub coloured_by : List ℕ → List ℕ → List Object → List Object
+coloured_by blacks marks objects = map (λ o. with_colour (colour_by blacks marks o.key) o) objects
+
+-- a colour that isn't below another; of what is not there nothing is said
+abbrev pub IsNotBelow : Option Colour → Option Colour → Type 0
+IsNotBelow (Some colour) (Some holder) = is_below colour holder ≡ false
+IsNotBelow (Some colour) None = Unit {0}
+IsNotBelow None holder = Unit {0}

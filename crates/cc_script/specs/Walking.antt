@@ -1,0 +1,23 @@
+-- WHAT AN OBJECT REACHES OVER SLOTS, by keys: a set by rules, and the same as a list.
+use Rattle.std.specs.Prelude.{ℕ, ◌==◌, List, [], map, flat_map, option_to_list}
+use Rattle.cc_lists.specs.Least.{Rule, Least, system, closure}
+use Rattle.cc_script.specs.Objects.{Object}
+
+-- from the key of an object to each key that its slots hold
+abbrev pub slot_edges : Object → List (ℕ × ℕ)
+slot_edges o = map (λ q. (o.key, q)) (flat_map option_to_list o.slots)
+
+abbrev pub edges : List Object → List (ℕ × ℕ)
+edges objects = flat_map slot_edges objects
+
+-- from these keys over slots
+abbrev pub reach_rules : List Object → List ℕ → List (Rule ℕ)
+reach_rules objects keys = system keys (edges objects) []
+
+-- THE SET of the keys that are reached
+abbrev pub IsReached : List Object → List ℕ → ℕ → Type 0
+IsReached objects keys = Least (reach_rules objects keys)
+
+-- and the same as a list
+abbrev pub keys_reached : List Object → List ℕ → List ℕ
+keys_reached objects keys = closure ◌==◌ (reach_rules objects keys)

@@ -1,0 +1,58 @@
+ghost use Rattle.std.specs.Prelude.{◌≡◌, ◌<◌, length, IsSome, option_map, slice_set};
+ghost use Rattle.cc_script.specs.Objects.{is_below as is_below_it};
+ghost use Rattle.cc_script.specs.Lists.{cell_at, painted, slots_placed, written};
+
+use cc_names::{Colour, Kind, Name, SKey};
+use slab::Slab;
+use std::marker::Model;
+
+/// An object as it stands at its key.
+#[derive(Drop)]
+pub(crate) struct Cell {
+    /// The name that it never shares with another.
+    pub(crate) name: Name,
+    pub(crate) kind: Kind,
+    /// As many as it was made with, and no room for more.
+    pub(crate) slots: Vec<Option<SKey>>,
+    pub(crate) colour: Colour,
+}
+
+impl Model for Cell {
+    ghost use Rattle.std.specs.Prelude.{map, option_map};
+    ghost use Rattle.cc_script.specs.Lists.{Placed};
+
+    ghost Value = { Placed };
+
+    ghost view = { λ c. record { name = c.name; kind = c.kind; slots = map (option_map (λ k. k.0)) c.slots.items; colour = c.colour } };
+}
+
+/// Whether a colour is below another: white below gray below black.
+pub(crate) fn is_below(colour: Colour, other: Colour) -> bool
+    ensures { result ≡ is_below_it colour other }
+{
+    match (colour, other) {
+        (Colour::White, Colour::Gray) => true,
+        (Colour::White, Colour::Black) => true,
+        (Colour::Gray, Colour::Black) => true,
+        _ => false,
+    }
+}
+
+/// Gives the object at a key a colour.
+pub(crate) fn paint(cells: &mut Slab<Cell>, key: SKey, colour: Colour)
+    requires live { IsSome (cell_at cells.old.slots key.0) }
+    ensures slots { cells.new.slots ≡ slice_set cells.old.slots key.0 (option_map (painted colour) (cell_at cells.old.slots key.0)) }
+{
+    let cell = &mut cells[key.0];
+    cell.colour = colour;
+}
+
+/// Writes slot `i` of the object at a key.
+pub(crate) fn write(cells: &mut Slab<Cell>, key: SKey, i: usize, item: Option<SKey>)
+    requires live { IsSome (cell_at cells.old.slots key.0) }
+    requires within { i < length (slots_placed (cell_at cells.old.slots key.0)) }
+    ensures slots { cells.new.slots ≡ slice_set cells.old.slots key.0 (option_map (written i (option_map (λ k. k.0) item)) (cell_at cells.old.slots key.0)) }
+{
+    let cell = &mut cells[key.0];
+    cell.slots[i] = item;
+}

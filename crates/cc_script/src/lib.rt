@@ -1,0 +1,23 @@
+//! The script heap: plain objects with slots and colours, in order of making.
+//!
+//! An object stands at a key, which comes back for another one once it is gone; its name never does. Slots hold
+//! keys. Script marking makes all objects white (`clear_marks`) and raises what is reached from roots (`mark_from`);
+//! between markings `expose` makes black what script touches, with all that it reaches over slots. What stays white is
+//! removed, one object after another.
+//!
+//! No object that isn't white holds one of a lower colour. So a walk may stop at each object that has the colour to which
+//! it raises.
+//!
+//! `create_plain` takes all memory that later calls may want: room on the stack of the walk for every object. No other
+//! call takes memory, at any depth.
+#![tactic(auto)]
+
+mod cell;
+mod order;
+mod parts;
+mod scripts;
+
+pub use scripts::Scripts;
+
+#[cfg(test)]
+mod tests;

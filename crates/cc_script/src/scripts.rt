@@ -1,0 +1,156 @@
+ghost use Rattle.std.specs.Prelude.{◌≡◌, ◌<◌, ◌≤◌, false, List, [], ◌∷◌, ◌++◌, length, Some, None, option_map, slice_index_or, IsTrue, IfSome, IfOk, OnOk, OnErr};
+ghost use Rattle.cc_names.specs.declared.kind.Colour.TheVariants.{White, Black};
+ghost use Rattle.cc_script.specs.Objects.{AreWhole, change_object, colour_at, first_key, is_there, key_after, kind_at, name_at, plain_object, raised_among, slots_at, whitened, with_slot, without_object, IsNotBelow};
+ghost use Rattle.cc_script.specs.Walking.{keys_reached};
+
+use crate::order::{behind, key_at};
+use crate::parts::Parts;
+use cc_names::{Colour, Kind, Name, NoMemory, SKey, ScriptNo};
+use std::alloc::Global;
+use std::marker::Model;
+
+/// The script objects by key, in order of making.
+#[derive(Drop)]
+pub struct Scripts {
+    parts: Parts,
+    alloc: Global,
+}
+
+impl Model for Scripts {
+    ghost use Rattle.std.specs.Prelude.{List};
+    ghost use Rattle.cc_script.specs.Objects.{Object};
+
+    ghost Value = { List Object };
+
+    ghost use Rattle.cc_script.specs.Parts.{shows, IsAtRest};
+
+    ghost view = { λ s. shows s.parts };
+
+    ghost invariant = { λ s. IsAtRest s.parts };
+}
+
+impl Scripts {
+    /// No objects, and no memory taken.
+    pub fn new(alloc: Global) -> Scripts
+        ensures { result ≡ [] }
+    {
+        Scripts {
+            parts: Parts::new(alloc),
+            alloc,
+        }
+    }
+
+    /// Makes a plain object with `slots` empty slots (0 to 64) and the number `no`. It is black, and goes last.
+    ///
+    /// `NoMemory` changes nothing. No other call takes memory.
+    pub fn create_plain(&mut self, no: ScriptNo, slots: u8) -> Result<SKey, NoMemory>
+        requires slots { slots ≤ 64 }
+        ensures made { IfOk result (λ key. self.new ≡ self.old ++ plain_object key.0 no.0 slots ∷ []) }
+        ensures vacant { IfOk result (λ key. is_there self.old key.0 ≡ false) }
+        ensures err { OnErr result (self.new ≡ self.old) }
+    {
+        self.parts.create(self.alloc, no, slots)
+    }
+
+    /// What an object is.
+    pub fn kind(&self, key: SKey) -> Kind
+        requires live { IsTrue (is_there self.now key.0) }
+        ensures { kind_at self.now key.0 ≡ Some result }
+    {
+        self.parts.cells[key.0].kind
+    }
+
+    /// The name of an object.
+    pub fn name(&self, key: SKey) -> Name
+        requires live { IsTrue (is_there self.now key.0) }
+        ensures { name_at self.now key.0 ≡ Some result }
+    {
+        self.parts.cells[key.0].name
+    }
+
+    /// The colour of an object.
+    pub fn colour(&self, key: SKey) -> Colour
+        requires live { IsTrue (is_there self.now key.0) }
+        ensures { colour_at self.now key.0 ≡ Some result }
+    {
+        self.parts.cells[key.0].colour
+    }
+
+    /// How many slots an object has: 0 to 64.
+    pub fn slots(&self, key: SKey) -> u8
+        requires live { IsTrue (is_there self.now key.0) }
+        ensures { result ≡ length (slots_at self.now key.0) }
+    {
+        self.parts.cells[key.0].slots.len() as u8
+    }
+
+    /// What slot `i` of an object holds, counted from 0.
+    pub fn slot(&self, key: SKey, i: u8) -> Option<SKey>
+        requires live { IsTrue (is_there self.now key.0) }
+        requires within { i < length (slots_at self.now key.0) }
+        ensures { option_map (λ k. k.0) result ≡ slice_index_or (slots_at self.now key.0) i None }
+    {
+        self.parts.cells[key.0].slots[i as usize]
+    }
+
+    /// Puts `item`, or nothing, into slot `i` of an object, counted from 0. Its colour isn't lower than the object's.
+    pub fn set_slot(&mut self, key: SKey, i: u8, item: Option<SKey>)
+        requires live { IsTrue (is_there self.old key.0) }
+        requires within { i < length (slots_at self.old key.0) }
+        requires item_live { IfSome item (λ k. IsTrue (is_there self.old k.0)) }
+        requires colours { IfSome item (λ k. IsNotBelow (colour_at self.old k.0) (colour_at self.old key.0)) }
+        ensures { self.new ≡ change_object self.old key.0 (with_slot i (option_map (λ k. k.0) item)) }
+    {
+        self.parts.set_slot(key, i, item);
+    }
+
+    /// The object that was made first; none exactly where there is none.
+    pub fn first(&self) -> Option<SKey>
+        ensures key { option_map (λ k. k.0) result ≡ first_key self.now }
+        ensures live { IfSome result (λ k. IsTrue (is_there self.now k.0)) }
+    {
+        key_at(self.parts.order.as_slice(), 0)
+    }
+
+    /// The object that was made next after another; none exactly where that is the last.
+    pub fn next(&self, key: SKey) -> Option<SKey>
+        requires live { IsTrue (is_there self.now key.0) }
+        ensures key { option_map (λ k. k.0) result ≡ key_after self.now key.0 }
+        ensures live { IfSome result (λ k. IsTrue (is_there self.now k.0)) }
+    {
+        behind(self.parts.order.as_slice(), key)
+    }
+
+    /// Makes all objects white.
+    pub fn clear_marks(&mut self)
+        ensures { self.new ≡ whitened self.old }
+    {
+        self.parts.clear_marks();
+    }
+
+    /// Raises an object, and all that it reaches over slots, to at least the colour `to`.
+    pub fn mark_from(&mut self, key: SKey, to: Colour)
+        requires live { IsTrue (is_there self.old key.0) }
+        requires whole { AreWhole self.old }
+        ensures { self.new ≡ raised_among (keys_reached self.old (key.0 ∷ [])) to self.old }
+    {
+        self.parts.mark_from(key, to);
+    }
+
+    /// Makes an object black that script touches, with all that it reaches over slots.
+    pub fn expose(&mut self, key: SKey)
+        requires live { IsTrue (is_there self.old key.0) }
+        requires whole { AreWhole self.old }
+        ensures { self.new ≡ raised_among (keys_reached self.old (key.0 ∷ [])) Black self.old }
+    {
+        self.parts.mark_from(key, Colour::Black);
+    }
+
+    /// Takes out an object that is white. White objects that hold it hold its key still, which is then that of none.
+    pub fn remove(&mut self, key: SKey)
+        requires white { colour_at self.old key.0 ≡ Some White }
+        ensures { self.new ≡ without_object self.old key.0 }
+    {
+        self.parts.remove(key);
+    }
+}

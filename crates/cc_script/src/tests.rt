@@ -1,0 +1,270 @@
+ghost use Rattle.std.specs.Prelude.{IfOk, IsTrue};
+ghost use Rattle.cc_script.specs.Objects.{AreWhole, is_there};
+ghost use Rattle.cc_script.specs.Tidy.{AllAreWhite, IsTidy, StayThere};
+
+use super::*;
+use cc_names::{Colour, Kind, Name, NoMemory, SKey, ScriptNo};
+use std::test::Fail;
+
+/// Makes an object with one slot.
+fn make(heap: &mut Scripts, no: u32) -> Result<SKey, NoMemory>
+    requires tidy { IsTidy heap.old }
+    ensures tidy { IsTidy heap.new }
+    ensures live { IfOk result (λ key. IsTrue (is_there heap.new key.0)) }
+    ensures stay { StayThere heap.old heap.new }
+{
+    let key = heap.create_plain(ScriptNo(no), 1)?;
+    Ok(key)
+}
+
+/// Has an object hold another.
+fn hold(heap: &mut Scripts, key: SKey, item: SKey)
+    requires tidy { IsTidy heap.old }
+    requires live { IsTrue (is_there heap.old key.0) }
+    requires item_live { IsTrue (is_there heap.old item.0) }
+    ensures tidy { IsTidy heap.new }
+    ensures stay { StayThere heap.old heap.new }
+{
+    heap.set_slot(key, 0, Some(item));
+}
+
+/// Makes so many objects more: each holds the one before it, and the first of them `from`. The last one.
+fn extend(heap: &mut Scripts, from: SKey, count: u32) -> Result<SKey, NoMemory>
+    requires tidy { IsTidy heap.old }
+    requires live { IsTrue (is_there heap.old from.0) }
+    ensures tidy { IsTidy heap.new }
+    ensures live { IfOk result (λ key. IsTrue (is_there heap.new key.0)) }
+    ensures stay { StayThere heap.old heap.new }
+{
+    let mut last = from;
+    for no in 0..count {
+        let key = make(heap, no)?;
+        hold(heap, key, last);
+        last = key;
+    }
+    Ok(last)
+}
+
+/// The keys of three objects of a row, in order of making.
+#[derive(Clone, Copy, Drop)]
+struct Row {
+    first: SKey,
+    middle: SKey,
+    last: SKey,
+}
+
+/// Makes 100,000 objects, each of which holds the one before it.
+fn make_row(heap: &mut Scripts) -> Result<Row, NoMemory>
+    requires tidy { IsTidy heap.old }
+    ensures tidy { IsTidy heap.new }
+    ensures first { IfOk result (λ row. IsTrue (is_there heap.new row.first.0)) }
+    ensures middle { IfOk result (λ row. IsTrue (is_there heap.new row.middle.0)) }
+    ensures last { IfOk result (λ row. IsTrue (is_there heap.new row.last.0)) }
+{
+    let first = make(heap, 0)?;
+    let middle = extend(heap, first, 50_000)?;
+    let last = extend(heap, middle, 49_999)?;
+    Ok(Row {
+        first,
+        middle,
+        last,
+    })
+}
+
+/// The colours of the three.
+fn colours(heap: &Scripts, row: &Row) -> [Colour; 3]
+    requires first { IsTrue (is_there heap.now row.now.first.0) }
+    requires middle { IsTrue (is_there heap.now row.now.middle.0) }
+    requires last { IsTrue (is_there heap.now row.now.last.0) }
+{
+    [
+        heap.colour(row.first),
+        heap.colour(row.middle),
+        heap.colour(row.last),
+    ]
+}
+
+/// Makes all white.
+fn whiten(heap: &mut Scripts)
+    requires tidy { IsTidy heap.old }
+    ensures whole { AreWhole heap.new }
+    ensures stay { StayThere heap.old heap.new }
+    ensures white { AllAreWhite heap.new }
+{
+    heap.clear_marks();
+}
+
+/// Marks from an object.
+fn mark(heap: &mut Scripts, key: SKey, to: Colour)
+    requires whole { AreWhole heap.old }
+    requires live { IsTrue (is_there heap.old key.0) }
+    ensures whole { AreWhole heap.new }
+    ensures stay { StayThere heap.old heap.new }
+{
+    heap.mark_from(key, to);
+}
+
+/// Touches an object.
+fn touch(heap: &mut Scripts, key: SKey)
+    requires whole { AreWhole heap.old }
+    requires live { IsTrue (is_there heap.old key.0) }
+    ensures whole { AreWhole heap.new }
+    ensures stay { StayThere heap.old heap.new }
+{
+    heap.expose(key);
+}
+
+/// How many objects stand one behind another, where that is at most `most`.
+fn count(heap: &Scripts, most: u32) -> u32 {
+    let mut at = heap.first();
+    for met in 0..most {
+        match at {
+            Some(key) => at = heap.next(key),
+            None => return met,
+        }
+    }
+    most
+}
+
+/// Takes out the first object, so many times.
+fn remove_first(heap: &mut Scripts, times: u32)
+    requires white { AllAreWhite heap.old }
+{
+    for _ in 0..times {
+        if let Some(key) = heap.first() {
+            heap.remove(key);
+        }
+    }
+}
+
+#[test]
+fn object_is_made_and_read(rt: HostRuntime) -> Result<(), Fail> {
+    let mut heap = Scripts::new(rt.alloc());
+    assert_eq!(rt; heap.first(), None);
+    let made = make(&mut heap, 7);
+    assert!(rt; made.is_ok());
+    if let Ok(key) = made {
+        assert_eq!(rt; heap.kind(key), Kind::Plain);
+        assert_eq!(rt; heap.name(key), Name::Script(ScriptNo(7)));
+        assert_eq!(rt; heap.colour(key), Colour::Black);
+        assert_eq!(rt; heap.slots(key), 1);
+        assert_eq!(rt; heap.first(), Some(key));
+        assert_eq!(rt; heap.next(key), None);
+    }
+    Ok(())
+}
+
+#[test]
+fn slot_is_written(rt: HostRuntime) -> Result<(), Fail> {
+    let mut heap = Scripts::new(rt.alloc());
+    if let Ok(a) = make(&mut heap, 1) {
+        if let Ok(b) = make(&mut heap, 2) {
+            hold(&mut heap, a, b);
+            assert_eq!(rt; heap.next(a), Some(b));
+            assert_eq!(rt; heap.slots(a), 1);
+            if heap.slots(a) == 1 {
+                assert_eq!(rt; heap.slot(a, 0), Some(b));
+            }
+            return Ok(());
+        }
+    }
+    assert!(rt; false);
+    Ok(())
+}
+
+#[test]
+fn exposure_leaves_others_gray(rt: HostRuntime) -> Result<(), Fail> {
+    let mut heap = Scripts::new(rt.alloc());
+    if let Ok(a) = make(&mut heap, 1) {
+        if let Ok(last) = extend(&mut heap, a, 2) {
+            whiten(&mut heap);
+            assert_eq!(rt; heap.colour(last), Colour::White);
+            mark(&mut heap, last, Colour::Gray);
+            assert_eq!(rt; heap.colour(a), Colour::Gray);
+            if let Some(b) = heap.next(a) {
+                touch(&mut heap, b);
+                assert_eq!(rt; heap.colour(b), Colour::Black);
+            }
+            assert_eq!(rt; heap.colour(a), Colour::Black);
+            assert_eq!(rt; heap.colour(last), Colour::Gray);
+            return Ok(());
+        }
+    }
+    assert!(rt; false);
+    Ok(())
+}
+
+#[test]
+fn key_comes_back_under_a_new_name(rt: HostRuntime) -> Result<(), Fail> {
+    let mut heap = Scripts::new(rt.alloc());
+    if let Ok(a) = make(&mut heap, 1) {
+        if let Ok(b) = make(&mut heap, 2) {
+            whiten(&mut heap);
+            heap.remove(a);
+            assert_eq!(rt; heap.first(), Some(b));
+            let made = heap.create_plain(ScriptNo(3), 0);
+            assert!(rt; made.is_ok());
+            if let Some(first) = heap.first() {
+                assert_eq!(rt; first, b);
+                if let Some(second) = heap.next(first) {
+                    assert_eq!(rt; second, a);
+                    assert_eq!(rt; heap.name(second), Name::Script(ScriptNo(3)));
+                    assert_eq!(rt; heap.next(second), None);
+                    return Ok(());
+                }
+            }
+        }
+    }
+    assert!(rt; false);
+    Ok(())
+}
+
+#[test]
+fn long_chain_is_marked(rt: HostRuntime) -> Result<(), Fail> {
+    let mut heap = Scripts::new(rt.alloc());
+    let made = make_row(&mut heap);
+    assert!(rt; made.is_ok());
+    if let Ok(row) = made {
+        whiten(&mut heap);
+        assert_eq!(rt; colours(&heap, &row), [Colour::White; 3]);
+        mark(&mut heap, row.last, Colour::Gray);
+        assert_eq!(rt; colours(&heap, &row), [Colour::Gray; 3]);
+        touch(&mut heap, row.middle);
+        assert_eq!(rt;
+            colours(&heap, &row),
+            [Colour::Black, Colour::Black, Colour::Gray]
+        );
+    }
+    Ok(())
+}
+
+#[test]
+fn long_ring_is_marked(rt: HostRuntime) -> Result<(), Fail> {
+    let mut heap = Scripts::new(rt.alloc());
+    let made = make_row(&mut heap);
+    assert!(rt; made.is_ok());
+    if let Ok(row) = made {
+        hold(&mut heap, row.first, row.last);
+        whiten(&mut heap);
+        assert_eq!(rt; colours(&heap, &row), [Colour::White; 3]);
+        mark(&mut heap, row.middle, Colour::Gray);
+        assert_eq!(rt; colours(&heap, &row), [Colour::Gray; 3]);
+        touch(&mut heap, row.middle);
+        assert_eq!(rt; colours(&heap, &row), [Colour::Black; 3]);
+    }
+    Ok(())
+}
+
+#[test]
+fn ten_thousand_are_walked_and_swept(rt: HostRuntime) -> Result<(), Fail> {
+    let mut heap = Scripts::new(rt.alloc());
+    if let Ok(first) = make(&mut heap, 0) {
+        let made = extend(&mut heap, first, 9_999);
+        assert!(rt; made.is_ok());
+        whiten(&mut heap);
+        assert_eq!(rt; count(&heap, 20_000), 10_000);
+        remove_first(&mut heap, 10_000);
+        assert_eq!(rt; heap.first(), None);
+    }
+    Ok(())
+}
