@@ -1,0 +1,4 @@
+pub mod Painting
+pub mod Raising
+pub mod MarkedFrom
+pub mod Whole

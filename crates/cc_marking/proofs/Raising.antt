@@ -1,0 +1,69 @@
+-- OBJECTS RAISED TO A COLOUR are painted, and raised twice to one colour where they are raised at either time.
+use Rattle.std.proofs.Common.{◌≡◌, ℕ, ◌==◌, Bool, true, false, cond, ◌||◌, List, [], ◌∷◌, refl, sym, ◌∙◌, ap}
+use Rattle.cc_lists.specs.Members.{has}
+use Rattle.cc_lists.proofs.ListWrites.{map-agree}
+use Rattle.cc_names.specs.declared.kind.Colour.{Colour}
+use Rattle.cc_names.specs.declared.kind.Colour.TheVariants.{White, Gray, Black}
+use Rattle.cc_script.specs.Objects.{Object, with_colour, is_below, raised, raised_among}
+use Rattle.cc_marking.proofs.Painting.{painted, painted-alike, painted-twice}
+
+-- at least this colour
+abbrev pub at_least : Colour → Colour → Colour
+at_least to colour = elim (is_below colour to) [ true ↦ to | false ↦ colour ]
+
+-- the colour of an object once those at these keys are raised
+abbrev pub raised_to : List ℕ → Colour → Object → Colour
+raised_to keys to o = cond (has ◌==◌ keys o.key) (at_least to o.colour) o.colour
+
+pub raised-painted : (to : Colour) (o : Object) → raised to o ≡ with_colour (at_least to o.colour) o
+raised-painted to o = go (is_below o.colour to)
+  where
+    go : (b : Bool) → elim b [ true ↦ with_colour to o | false ↦ o ] ≡ with_colour (elim b [ true ↦ to | false ↦ o.colour ]) o
+    go true = refl
+    go false = refl
+
+pub raised_among-painted : (keys : List ℕ) (to : Colour) (objects : List Object) → raised_among keys to objects ≡ painted (raised_to keys to) objects
+raised_among-painted keys to objects = map-agree _ _ objects (λ o m. each o)
+  where
+    each : (o : Object) → cond (has ◌==◌ keys o.key) (raised to o) o ≡ with_colour (raised_to keys to o) o
+    each o = go (has ◌==◌ keys o.key)
+      where
+        go : (b : Bool) → cond b (raised to o) o ≡ with_colour (cond b (at_least to o.colour) o.colour) o
+        go true = raised-painted to o
+        go false = refl
+
+-- none raised
+pub raised-none : (keys : List ℕ) (to : Colour) (objects : List Object) → ((key : ℕ) → has ◌==◌ keys key ≡ false) → raised_among keys to objects ≡ objects
+raised-none keys to [] none = refl
+raised-none keys to (o ∷ os) none = rw (none o.key) (ap (λ (ys : List Object). o ∷ ys) (raised-none keys to os none))
+
+at_least-twice : (to colour : Colour) → at_least to (at_least to colour) ≡ at_least to colour
+at_least-twice White White = refl
+at_least-twice White Gray = refl
+at_least-twice White Black = refl
+at_least-twice Gray White = refl
+at_least-twice Gray Gray = refl
+at_least-twice Gray Black = refl
+at_least-twice Black White = refl
+at_least-twice Black Gray = refl
+at_least-twice Black Black = refl
+
+-- raised at one time and at another
+pub raised-twice : (firsts seconds all : List ℕ) (to : Colour) (objects : List Object) →
+    ((key : ℕ) → has ◌==◌ all key ≡ (has ◌==◌ firsts key || has ◌==◌ seconds key)) →
+    raised_among seconds to (raised_among firsts to objects) ≡ raised_among all to objects
+raised-twice firsts seconds all to objects either =
+    ap (raised_among seconds to) (raised_among-painted firsts to objects)
+    ∙ (raised_among-painted seconds to (painted (raised_to firsts to) objects)
+    ∙ (painted-twice (raised_to firsts to) (raised_to seconds to) objects
+    ∙ (painted-alike _ _ objects each ∙ sym (raised_among-painted all to objects))))
+  where
+    each : (o : Object) → raised_to seconds to (with_colour (raised_to firsts to o) o) ≡ raised_to all to o
+    each o = rw (either o.key) (go (has ◌==◌ firsts o.key) (has ◌==◌ seconds o.key))
+      where
+        go : (a b : Bool) →
+            cond b (at_least to (cond a (at_least to o.colour) o.colour)) (cond a (at_least to o.colour) o.colour) ≡ cond (a || b) (at_least to o.colour) o.colour
+        go true true = at_least-twice to o.colour
+        go true false = refl
+        go false true = refl
+        go false false = refl

@@ -1,0 +1,5 @@
+use Rattle.cc_marking.proofs.Whole.{AreWhole-marked}
+use Rattle.cc_marking.proofs.tests.Heap.mark.Goals as goal
+
+pub invariant_of-self : goal.invariant_of-self
+invariant_of-self c = record { whole = AreWhole-marked _ _ c.args.self.now.scripts c.mark.new.scripts c.mark.ensures.colours c.args.self.now.whole }

@@ -1,0 +1,204 @@
+ghost use Rattle.std.specs.Prelude.{◌≡◌, ◌≤◌, length, Some, IsTrue, IfSome};
+ghost use Rattle.cc_names.specs.declared.kind.Colour.TheVariants.{Black};
+ghost use Rattle.cc_script.specs.Objects.{AreWhole, colour_at, is_there};
+
+use super::*;
+use cc_names::{Colour, NoMemory, SKey, ScriptNo};
+use cc_script::Scripts;
+use std::alloc::Global;
+use std::test::Fail;
+
+/// At most two roots.
+#[derive(Drop)]
+struct Few {
+    first: Option<SKey>,
+    second: Option<SKey>,
+}
+
+impl Roots for Few {
+    ghost use Rattle.std.specs.Prelude.{◌++◌, map, option_to_list};
+
+    ghost left = { λ f. map (λ k. k.0) (option_to_list f.first ++ option_to_list f.second) };
+
+    fn next_root(&mut self) -> Option<SKey> {
+        if self.first.is_some() {
+            self.first.take()
+        } else {
+            self.second.take()
+        }
+    }
+}
+
+/// Objects with one slot each, named by their place in the order of making, from 0.
+#[derive(Drop)]
+struct Heap {
+    scripts: Scripts,
+    ghost whole: { AreWhole scripts },
+}
+
+impl Heap {
+    /// So many objects, all black, that hold nothing.
+    fn of(alloc: Global, objects: u32) -> Result<Heap, NoMemory> {
+        let mut scripts = Scripts::new(alloc);
+        for number in 0..objects {
+            scripts.create_plain(ScriptNo(number), 1)?;
+        }
+        Ok(Heap { scripts })
+    }
+
+    /// Where an object is; none where there is none at this place.
+    fn key(&self, place: usize) -> Option<SKey>
+        ensures { IfSome result (λ k. IsTrue (is_there self.now.scripts k.0)) }
+    {
+        let mut at = self.scripts.first();
+        for _ in 0..place {
+            at = self.scripts.next(at?);
+        }
+        at
+    }
+
+    /// The same of a black one.
+    fn black_key(&self, place: usize) -> Option<SKey>
+        ensures live { IfSome result (λ k. IsTrue (is_there self.now.scripts k.0)) }
+        ensures black { IfSome result (λ k. colour_at self.now.scripts k.0 ≡ Some Black) }
+    {
+        let key = self.key(place)?;
+        match self.scripts.colour(key) {
+            Colour::Black => Some(key),
+            _ => None,
+        }
+    }
+
+    /// Puts a black object into the slot of another one; nothing where it is not black or not there.
+    fn hold(&mut self, holder: usize, item: usize) {
+        if let Some(key) = self.key(holder) {
+            let held = self.black_key(item);
+            if self.scripts.slots(key) > 0 {
+                self.scripts.set_slot(key, 0, held);
+            }
+        }
+    }
+
+    /// Empties the slot of an object.
+    fn let_go(&mut self, holder: usize) {
+        if let Some(key) = self.key(holder) {
+            if self.scripts.slots(key) > 0 {
+                self.scripts.set_slot(key, 0, None);
+            }
+        }
+    }
+
+    /// A root at one of these places; none where there are fewer.
+    fn root(&self, places: &[usize], which: usize) -> Option<SKey>
+        ensures { IfSome result (λ k. IsTrue (is_there self.now.scripts k.0)) }
+    {
+        self.key(*places.get(which)?)
+    }
+
+    /// Marks from the objects at these places, at most two of each.
+    fn mark(&mut self, black: &[usize], gray: &[usize])
+        requires black { length black.now ≤ 2 }
+        requires gray { length gray.now ≤ 2 }
+    {
+        let mut black = Few {
+            first: self.root(black, 0),
+            second: self.root(black, 1),
+        };
+        let mut gray = Few {
+            first: self.root(gray, 0),
+            second: self.root(gray, 1),
+        };
+        mark(&mut self.scripts, &mut black, &mut gray);
+    }
+
+    fn colour(&self, place: usize) -> Option<Colour> {
+        Some(self.scripts.colour(self.key(place)?))
+    }
+
+    /// The colours of the first four objects.
+    fn colours(&self) -> [Option<Colour>; 4] {
+        [
+            self.colour(0),
+            self.colour(1),
+            self.colour(2),
+            self.colour(3),
+        ]
+    }
+}
+
+const WHITE: Option<Colour> = Some(Colour::White);
+
+const GRAY: Option<Colour> = Some(Colour::Gray);
+
+const BLACK: Option<Colour> = Some(Colour::Black);
+
+#[test]
+fn no_objects_are_marked(rt: HostRuntime) -> Result<(), Fail> {
+    let mut heap = Heap::of(rt.alloc(), 0)?;
+    heap.mark(&[], &[]);
+    assert_eq!(rt; heap.colours(), [None; 4]);
+    Ok(())
+}
+
+#[test]
+fn what_black_and_gray_roots_both_hold_is_black(rt: HostRuntime) -> Result<(), Fail> {
+    let mut heap = Heap::of(rt.alloc(), 4)?;
+    heap.hold(0, 1);
+    heap.hold(2, 1);
+    heap.mark(&[0], &[2]);
+    assert_eq!(rt; heap.colours(), [BLACK, BLACK, GRAY, WHITE]);
+    Ok(())
+}
+
+#[test]
+fn gray_root_leads_to_a_black_one(rt: HostRuntime) -> Result<(), Fail> {
+    let mut heap = Heap::of(rt.alloc(), 4)?;
+    heap.hold(0, 1);
+    heap.hold(1, 2);
+    heap.hold(2, 3);
+    heap.mark(&[2], &[0]);
+    assert_eq!(rt; heap.colours(), [GRAY, GRAY, BLACK, BLACK]);
+    Ok(())
+}
+
+#[test]
+fn ring_that_no_root_reaches_stays_white(rt: HostRuntime) -> Result<(), Fail> {
+    let mut heap = Heap::of(rt.alloc(), 4)?;
+    heap.hold(0, 1);
+    heap.hold(1, 0);
+    // a holder of the ring is no root
+    heap.hold(2, 0);
+    heap.mark(&[], &[3]);
+    assert_eq!(rt; heap.colours(), [WHITE, WHITE, WHITE, GRAY]);
+    Ok(())
+}
+
+#[test]
+fn each_root_of_a_list_is_marked_from(rt: HostRuntime) -> Result<(), Fail> {
+    let mut heap = Heap::of(rt.alloc(), 4)?;
+    heap.mark(&[0, 1], &[2, 3]);
+    assert_eq!(rt; heap.colours(), [BLACK, BLACK, GRAY, GRAY]);
+    Ok(())
+}
+
+#[test]
+fn object_is_black_that_is_a_root_of_both_kinds(rt: HostRuntime) -> Result<(), Fail> {
+    let mut heap = Heap::of(rt.alloc(), 4)?;
+    heap.mark(&[1, 1], &[1, 2]);
+    assert_eq!(rt; heap.colours(), [WHITE, BLACK, GRAY, WHITE]);
+    Ok(())
+}
+
+#[test]
+fn marking_again_sees_that_slots_changed(rt: HostRuntime) -> Result<(), Fail> {
+    let mut heap = Heap::of(rt.alloc(), 4)?;
+    heap.hold(0, 1);
+    heap.hold(1, 2);
+    heap.mark(&[0], &[3]);
+    assert_eq!(rt; heap.colours(), [BLACK, BLACK, BLACK, GRAY]);
+    heap.hold(3, 2);
+    heap.let_go(0);
+    heap.mark(&[0], &[3]);
+    assert_eq!(rt; heap.colours(), [BLACK, WHITE, GRAY, GRAY]);
+    Ok(())
+}
