@@ -1,0 +1,142 @@
+-- WHAT CALLERS HAND IN AND GET BACK: its name, that it is there, and the references in hand.
+use Rattle.std.proofs.Common.{◌≡◌, ◌==◌, ℕ, true, List, [], ◌∷◌, ◌++◌, map, Option, Some, None, option_map, refl, sym, ◌∙◌, ap, subst, ⊎_elim}
+use Rattle.std.specs.Option.{is_some, option_to_list}
+use Rattle.cc_lists.specs.Members.{Among}
+use Rattle.cc_lists.proofs.Members.{Among-left, Among-right, Among-map}
+use Rattle.cc_lists.proofs.Filtering.{find-among}
+use Rattle.std.proofs.lemmas.Simd.{map-map}
+use Rattle.cc_names.specs.declared.name.Name.{Name}
+use Rattle.cc_names.specs.declared.name.Name.TheVariants as name
+use Rattle.cc_names.specs.declared.number.NKey.{NKey}
+use Rattle.cc_names.specs.declared.number.SKey.{SKey}
+use Rattle.cc_names.specs.Names.{native}
+use Rattle.cc_model.specs.Heap.{Heap, HeapScript, silently}
+use Rattle.cc_model.specs.Cascade.{take_up, let_go}
+use Rattle.cc_model.specs.WellFormed.{native_names, script_names, names_there}
+use Rattle.cc_laws_heap.proofs.Owning.{numbers_of, IsIn}
+use Rattle.cc_counted.specs.declared.held.Held.{Held}
+use Rattle.cc_counted.specs.declared.held.Held.TheVariants as held
+use Rattle.cc_counted.specs.Counts.{name_of, numbers_held, number_or_none}
+use Rattle.cc_counted.specs.Owning.{CallersOwn}
+use Rattle.cc_script.specs.Objects.{Object, object_at, name_at}
+use Rattle.cc_heaps.specs.declared.parts.Parts.{Parts}
+use Rattle.cc_heaps.specs.Keyed.{Keyed, IsInOrder, named_object, number_at, the_number}
+use Rattle.cc_heaps.specs.Changes.{IsThere, native_name, held_name}
+use Rattle.cc_heaps.specs.Parts.{IsHeldThere, held_by, native_held, keyed_of, IsFit}
+use Rattle.cc_heaps.proofs.Calls.{number-named}
+use Rattle.cc_heaps.proofs.Naming.{name_in, name_at-script}
+use Rattle.cc_heaps.proofs.Owned.{callers-own-some}
+
+-- Natives
+
+-- a native that is there has its number
+pub number-some : (o : Option ℕ) → is_some o ≡ true → o ≡ Some (number_or_none o)
+number-some None l = absurd (cc)
+number-some (Some k) l = refl
+
+-- it is one reference
+pub native-numbers : (v : Keyed) (key : NKey) → is_some (number_at v key.0) ≡ true → numbers_of (held_name v (Some (held.Native key))) ≡ the_number v key.0 ∷ []
+native-numbers v key live = ap (λ o. numbers_of (option_map native o)) (number-some (number_at v key.0) live)
+
+pub native-in : (owned : List ℕ) (v : Keyed) (x : Option NKey) → IsInOrder owned v → IsIn (native_names v.heap) (native_name v x)
+native-in owned v None o = λ y m. absurd m
+native-in owned v (Some key) o = go (number_at v key.0) refl
+  where
+    go : (n : Option ℕ) → number_at v key.0 ≡ n → IsIn (native_names v.heap) (option_map native n)
+    go None e = λ y m. absurd m
+    go (Some k) e = λ y m. ⊎_elim (λ f. subst (λ z. Among z (native_names v.heap)) f (number-named v owned key.0 k o e)) (λ f. absurd f) m
+
+-- the same as a slot holds it
+pub held_by-name : (v : Keyed) (x : Option NKey) → held_name v (held_by x) ≡ native_name v x
+held_by-name v None = refl
+held_by-name v (Some key) = refl
+
+-- What slots hold
+
+-- an object's name is a script object's
+script-in : (owned : List ℕ) (v : Keyed) (key : ℕ) → IsInOrder owned v → IsIn (script_names v.heap) (name_at v.scripts key)
+script-in owned v key o = go (object_at v.scripts key) refl
+  where
+    names : map (λ (p : Object). p.name) v.scripts ≡ script_names v.heap
+    names = sym (ap (λ ss. map (λ (s : HeapScript). s.name) ss) o.named ∙ map-map (λ (s : HeapScript). s.name) (named_object v.scripts) v.scripts)
+
+    go : (x : Option Object) → object_at v.scripts key ≡ x → IsIn (script_names v.heap) (option_map (λ (p : Object). p.name) x)
+    go None e = λ y m. absurd m
+    go (Some p) e = λ y m. ⊎_elim (λ f. subst (λ z. Among z (script_names v.heap)) f (subst (λ xs. Among p.name xs) names
+        (Among-map (λ (q : Object). q.name) p v.scripts (find-among (λ (q : Object). q.key == key) v.scripts p e)))) (λ f. absurd f) m
+
+-- what is held is there
+pub held-in : (owned : List ℕ) (v : Keyed) (x : Option Held) → IsInOrder owned v → IsIn (names_there v.heap) (held_name v x)
+held-in owned v None o = λ y m. absurd m
+held-in owned v (Some (held.Native key)) o = λ y m. Among-left y (native_names v.heap) (script_names v.heap) (native-in owned v (Some key) o y m)
+held-in owned v (Some (held.Script key)) o = λ y m. Among-right y (native_names v.heap) (script_names v.heap) (script-in owned v key.0 o y m)
+
+module _ (p : Parts) where
+  abbrev v : Keyed
+  v = keyed_of p
+
+  -- its name is that of what the counted heap shows
+  pub held-named : (x : Option Held) → name_in p.scripts (name_of p.counted x) ≡ held_name v x
+  held-named None = refl
+  held-named (Some (held.Native key)) = go (number_at v key.0)
+    where
+      go : (n : Option ℕ) → name_in p.scripts (option_map native n) ≡ option_map native n
+      go None = refl
+      go (Some k) = refl
+  held-named (Some (held.Script key)) = refl
+
+  -- what is put into a slot is there
+  pub new-held : (x : Option Held) → IsThere v x → (y : Name) → Among y (option_to_list (name_of p.counted x)) → IsHeldThere p.scripts y
+  new-held None there y m = absurd m
+  new-held (Some (held.Native key)) there y m = go (number_at v key.0) m
+    where
+      go : (n : Option ℕ) → Among y (option_to_list (option_map native n)) → IsHeldThere p.scripts y
+      go None a = absurd a
+      go (Some k) a = ⊎_elim (λ e. subst (IsHeldThere p.scripts) e tt) (λ e. absurd e) a
+  new-held (Some (held.Script key)) there y m = ⊎_elim (λ e. subst (IsHeldThere p.scripts) e there) (λ e. absurd e) m
+
+  module _ (owned : List ℕ) (f : IsFit owned p) where
+    -- a script object is no reference
+    pub script-numbers : (key : SKey) → numbers_of (held_name v (Some (held.Script key))) ≡ []
+    script-numbers key = name_at-script p.scripts f.linked.script_names key.0
+
+    pub numbers-held : (x : Option Held) → IsThere v x → numbers_held p.counted x ≡ numbers_of (held_name v x)
+    numbers-held None there = refl
+    numbers-held (Some (held.Native key)) there = sym (native-numbers v key there)
+    numbers-held (Some (held.Script key)) there = sym (script-numbers key)
+
+-- what is owned may be put into a slot
+pub own-content : (p : Parts) (x : Option Held) → IsThere (keyed_of p) x → IsFit (numbers_of (held_name (keyed_of p) x) ++ []) p → CallersOwn (numbers_held p.counted x) p.counted
+own-content p x there f =
+    subst (λ ks. CallersOwn ks p.counted) (sym (numbers-held p (numbers_of (held_name (keyed_of p) x) ++ []) f x there))
+    (callers-own-some (numbers_of (held_name (keyed_of p) x)) [] p f)
+
+-- no reference is taken or given up
+pub take_up-none : (h : Heap) (x : Option Name) → numbers_of x ≡ [] → take_up h x ≡ h
+take_up-none h None e = refl
+take_up-none h (Some (name.Native k)) e = absurd (cc)
+take_up-none h (Some (name.Script k)) e = refl
+take_up-none h (Some (name.Reflector k)) e = refl
+
+-- By whether a native is held
+
+pub held-native : (x : Option Held) (key : NKey) → native_held x ≡ Some key → x ≡ Some (held.Native key)
+held-native None key e = absurd (cc)
+held-native (Some (held.Native k)) key e = let same : k ≡ key = cc in ap (λ q. Some (held.Native q)) same
+held-native (Some (held.Script k)) key e = absurd (cc)
+
+pub held-no_native : (p : Parts) (owned : List ℕ) → IsFit owned p → (x : Option Held) → native_held x ≡ None → numbers_of (held_name (keyed_of p) x) ≡ []
+held-no_native p owned f None e = refl
+held-no_native p owned f (Some (held.Native k)) e = absurd (cc)
+held-no_native p owned f (Some (held.Script k)) e = script-numbers p owned f k
+
+-- a native that is held is one reference in hand
+pub in-hand : (p : Parts) (x : Option Held) (key : NKey) → x ≡ Some (held.Native key) → IsThere (keyed_of p) x →
+    numbers_of (held_name (keyed_of p) x) ≡ the_number (keyed_of p) key.0 ∷ []
+in-hand p x key e there = ap (λ y. numbers_of (held_name (keyed_of p) y)) e ∙ native-numbers (keyed_of p) key (subst (IsThere (keyed_of p)) e there)
+
+pub let_go-none : (h : Heap) (x : Option Name) → numbers_of x ≡ [] → let_go h x ≡ silently h
+let_go-none h None e = refl
+let_go-none h (Some (name.Native k)) e = absurd (cc)
+let_go-none h (Some (name.Script k)) e = refl
+let_go-none h (Some (name.Reflector k)) e = refl

@@ -1,0 +1,303 @@
+-- WHAT FOLLOWS FROM THE CHANGES OF CALLS: the colour invariant stays, and every snapshot that was fresh is fresh.
+use Rattle.std.proofs.Common.{◌≡◌, ℕ, ◌<◌, ◌≤◌, Bool, true, false, List, [], ◌++◌, length, get_or, Option, Some, None, option_map, refl, sym, ◌∙◌, ap, subst, inl, ⊎_elim, arith}
+use Rattle.std.specs.Prelude.{IsTrue, IfSome, Result, Ok, Err, OnOk, OnErr}
+use Rattle.std.specs.Option.{option_to_list}
+use Rattle.std.proofs.lemmas.Bool.{lt-ltb, le-leb, lt-leb, leb-true, leb-false}
+use Rattle.std.proofs.Math.Dec.{leb}
+use Rattle.cc_lists.specs.Members.{Among}
+use Rattle.cc_lists.proofs.Members.{Among-map}
+use Rattle.cc_lists.proofs.Counting.{count_by-map}
+use Rattle.cc_lists.proofs.ListWrites.{only-member}
+use Rattle.cc_names.specs.declared.name.Name.{Name}
+use Rattle.cc_names.specs.declared.name.Name.TheVariants as name
+use Rattle.cc_names.specs.declared.kind.Kind.TheVariants.{Plain}
+use Rattle.cc_names.specs.Names.{object, reflector, same_name}
+use Rattle.cc_names.specs.declared.kind.Colour.TheVariants.{Black}
+use Rattle.cc_names.specs.declared.number.SKey.{SKey}
+use Rattle.cc_names.proofs.NameTests.{same_name-refl}
+use Rattle.cc_model.specs.Slots.{Slots}
+use Rattle.cc_model.specs.declared.command.Command.TheVariants.{Script}
+use Rattle.cc_model.specs.Ranges.{in_range}
+use Rattle.cc_model.specs.Heap.{Heap, objects_of, HeapNative, HeapScript, native_at, set_slot, change_script, change_native, with_native_slot, with_script_slot, suspect}
+use Rattle.cc_model.specs.Cascade.{take_up, let_go}
+use Rattle.cc_model.specs.End.{slots_now}
+use Rattle.cc_model.specs.View.{view}
+use Rattle.cc_model.specs.Colours.{HasColourInvariant}
+use Rattle.cc_model.specs.Effects.{effects, hold_native, hold_script, make_native, make_object}
+use Rattle.cc_model.specs.Exposure.{exposed}
+use Rattle.cc_model.specs.Snapshot.{Snapshot}
+use Rattle.cc_model.specs.Fresh.{IsFresh}
+use Rattle.cc_model.specs.WellFormed.{IsWellFormed, native_names, names_there, script_names}
+use Rattle.cc_laws_heap.specs.Sound.{IsSound}
+use Rattle.cc_laws_heap.proofs.Coloured.{IsColoured, AreColoured-from_view, HasColourInvariant-from}
+use Rattle.cc_laws_heap.proofs.ColourChanges.{IsHeldBlack, AreColoured-register, AreColoured-slot, exposed-coloured, exposed-black}
+use Rattle.cc_laws_heap.proofs.CommandsColours.{effects-coloured}
+use Rattle.cc_laws_heap.proofs.CommandsSound.{effects-sound}
+use Rattle.cc_laws_heap.proofs.Taken.{IsTaken}
+use Rattle.cc_laws_heap.proofs.NativeCommands.{names_there-take_up, hold_native-sound, make_native-sound}
+use Rattle.cc_laws_heap.proofs.NativesKeepScripts.{SameScripts, SameScripts-coloured, hold_native-scripts, make_native-scripts}
+use Rattle.cc_laws_heap.proofs.Owning.{IsIn, numbers_of, let_go-sound, take_up-sound}
+use Rattle.cc_laws_heap.proofs.Cascades.{cascade-frees}
+use Rattle.cc_laws_heap.proofs.HoldsTheSame.{HoldsTheSame-take_up}
+use Rattle.cc_laws_heap.proofs.Writes.{native_slot-sound}
+use Rattle.cc_laws_heap.proofs.ScriptsKept.{exposed-sound, hold_script-sound, native-no_script, script_slot-sound}
+use Rattle.cc_laws_snapshot.proofs.CommandsGentle.{effects-fresh}
+use Rattle.cc_laws_snapshot.proofs.GentleBut.{AreGentle, AreGentle-then, IsGentleBut-then}
+use Rattle.cc_laws_snapshot.proofs.CascadesGentle.{let_go-gentle, let_go-caught}
+use Rattle.cc_laws_snapshot.proofs.NativeParts.{AreTaken, take_up-taken, take_up-gentle, native_slot-gentle}
+use Rattle.cc_laws_snapshot.proofs.NamePairs.{native-no_script as native-is_no_script}
+use Rattle.cc_laws_snapshot.proofs.OwnEdges.{script-named}
+use Rattle.cc_laws_snapshot.proofs.SoundView.{native-name_of}
+use Rattle.cc_laws_snapshot.proofs.KindsFresh.{fresh-coloured, fresh-more}
+use Rattle.cc_laws_snapshot.proofs.Marked.{with_mark-keeps}
+use Rattle.cc_laws_snapshot.proofs.NativesHeld.{hold_native-gentle, make_native-gentle}
+use Rattle.cc_laws_snapshot.proofs.ScriptParts.{not_gray-held, exposed-gentle, hold_script-gentle, script_slot-gentle}
+use Rattle.cc_counted.specs.Counts.{Counts, slots_of}
+use Rattle.cc_counted.specs.declared.held.Held.{Held}
+use Rattle.cc_counted.specs.declared.held.Held.TheVariants as held
+use Rattle.cc_script.specs.Objects.{Object, colour_at, is_there, name_at, object_at}
+use Rattle.cc_heaps.specs.declared.parts.Parts.{Parts}
+use Rattle.cc_heaps.specs.Keyed.{Keyed, IsInOrder, counts_of, left_with, named_object, the_number}
+use Rattle.cc_heaps.specs.Changes.{IsBlackHeld, held_name, script_name, stored_in}
+use Rattle.cc_heaps.specs.Parts.{heap_of, keyed_of, IsLinked}
+use Rattle.cc_heaps.proofs.Content.{held-in, native-in}
+use Rattle.cc_heaps.proofs.Keying.{counts-back}
+use Rattle.cc_heaps.proofs.Reaching.{name_at-found, object_at-found}
+use Rattle.cc_heaps.proofs.ScriptsChanged.{there-named}
+use Rattle.cc_heaps.proofs.SlotsHeld.{slots-length}
+use Rattle.cc_heaps.proofs.SlotsHeld.{slots-taken}
+
+-- from one heap to the next the colours and every snapshot stay as they should be
+pub record Follows (h g : Heap) : Type 0 where
+  pub colours : HasColourInvariant (view h) → HasColourInvariant (view g)
+  pub fresh : (s : Snapshot) → IsFresh h.natives_made (view h) s → IsFresh g.natives_made (view g) s
+
+-- where nothing changes
+pub Follows-same : (h g : Heap) → g ≡ h → Follows h g
+Follows-same h g e = subst (λ k. Follows h k) (sym e) (record { colours = λ c. c; fresh = λ s f. f })
+
+-- a gentle change that keeps the colours
+Follows-from : (h g : Heap) → IsWellFormed h → IsWellFormed g → AreGentle h g → (IsColoured h → IsColoured g) → Follows h g
+Follows-from h g early late gentle coloured = record {
+  colours = λ c. HasColourInvariant-from g late (coloured (AreColoured-from_view h early c));
+  fresh = λ s f. fresh-coloured h g early late gentle coloured s f;
+}
+
+-- Script objects
+
+-- Something is exposed.
+pub exposed-follows : (h : Heap) (x : Option Name) → IsSound [] h → Follows h (exposed h x)
+exposed-follows h x s = Follows-from h (exposed h x) s.well_formed (exposed-sound [] h x s).well_formed (exposed-gentle h x s.well_formed) (exposed-coloured h x)
+
+-- A script register is written.
+pub hold_script-follows : (h : Heap) (d : ℕ) (x : Option Name) → IsIn (script_names h) x → IsSound [] h → Follows h (hold_script h d x)
+hold_script-follows h d x there s = Follows-from h (hold_script h d x) s.well_formed (hold_script-sound [] h d x there s).well_formed
+    (hold_script-gentle h d x s.well_formed)
+    (λ c. AreColoured-register (exposed h x).scripts (exposed h x).script_registers d x (exposed-black h x) (exposed-coloured h x c))
+
+-- a slot of what has a name
+script_slot : (h : Heap) (x : Name) (i : ℕ) (y : Option Name) → IsWellFormed (change_script h x (with_script_slot i y)) → IsIn (script_names h) y →
+    IsHeldBlack h.scripts y → IsSound [] h → Follows h (change_script h x (with_script_slot i y))
+script_slot h x i y late there black s = Follows-from h (change_script h x (with_script_slot i y)) s.well_formed late
+    (script_slot-gentle h x i y s.well_formed there (not_gray-held h y black))
+    (AreColoured-slot h.scripts h.script_registers x i y black)
+
+-- A slot of a script object is written.
+pub script_slot-follows : (h : Heap) (x : Name) (i : ℕ) (y : Option Name) → Among x (script_names h) → IsIn (script_names h) y → IsHeldBlack h.scripts y →
+    IsSound [] h → Follows h (set_slot h (Some x) i y)
+script_slot-follows h (name.Native k) i y at there black s = absurd (native-no_script h k.0 s.well_formed at)
+script_slot-follows h (name.Script k) i y at there black s = script_slot h (object k.0) i y
+    (script_slot-sound [] h (Some (object k.0)) i y (λ z m. ⊎_elim (λ e. subst (λ w. Among w (script_names h)) e at) (λ t. absurd t) m) there s).well_formed there black s
+script_slot-follows h (name.Reflector k) i y at there black s = script_slot h (reflector k.0) i y
+    (script_slot-sound [] h (Some (reflector k.0)) i y (λ z m. ⊎_elim (λ e. subst (λ w. Among w (script_names h)) e at) (λ t. absurd t) m) there s).well_formed there black s
+
+-- A script object is made.
+pub make_object-follows : (h : Heap) (d n : ℕ) → d < 256 → n ≤ 64 → h.scripts_made < h.limits.scripts → IsSound [] h → Follows h (make_object h d Plain n)
+unfolding effects
+make_object-follows h d n room few allowed s = record {
+  colours = λ c. HasColourInvariant-from (make_object h d Plain n) (effects-sound h (Script d n) s ranges taken).well_formed
+      (effects-coloured h (Script d n) s (AreColoured-from_view h s.well_formed c) ranges taken);
+  fresh = λ t f. effects-fresh h t (Script d n) s f ranges taken;
+}
+  where
+    ranges : IsTrue (in_range (Script d n))
+    ranges = rw (lt-ltb d 256 room, le-leb n 64 few) refl
+
+    taken : IsTaken (objects_of h) (Script d n)
+    taken = record { objects = refl; kinds = refl; slot = refl; content = refl; room = lt-leb h.limits.scripts h.scripts_made allowed }
+
+-- Natives
+
+-- A native is made.
+pub make_native-follows : (h : Heap) (d n : ℕ) → d < 256 → n ≤ 64 → h.natives_made < h.limits.natives → IsSound [] h → Follows h (make_native h d n).heap
+make_native-follows h d n room few allowed s = Follows-from h (make_native h d n).heap s.well_formed (make_native-sound [] h d n room few allowed s).well_formed
+    (make_native-gentle [] h d n room few allowed s)
+    (SameScripts-coloured h (make_native h d n).heap (make_native-scripts [] h d n room few allowed s))
+
+-- A native register is written.
+pub hold_native-follows : (h : Heap) (d : ℕ) (x : Option Name) → d < 256 → IsIn (native_names h) x → IsSound [] h → Follows h (hold_native h d x).heap
+hold_native-follows h d x room there s = Follows-from h (hold_native h d x).heap s.well_formed (hold_native-sound [] h d x room there s).well_formed
+    (hold_native-gentle [] h d x room there s)
+    (SameScripts-coloured h (hold_native h d x).heap (hold_native-scripts [] h d x room there s))
+
+-- A native is suspected.
+pub suspect-follows : (h : Heap) (k : ℕ) → Follows h (suspect h k)
+suspect-follows h k = record {
+  colours = λ c. record { black_to_black = c.black_to_black; held_black = c.held_black; none_white = c.none_white };
+  fresh = fresh-more h.natives_made (view h) (view (suspect h k)).buffer (view (suspect h k)).purple (with_mark-keeps true k h.buffer);
+}
+
+-- what is given up leaves script objects and script registers
+let_go-scripts : (h : Heap) (x : Option Name) → IsSound (numbers_of x ++ []) h → SameScripts h (let_go h x).heap
+let_go-scripts h None s = record { scripts = refl; registers = refl }
+let_go-scripts h (Some (name.Native k)) s =
+    let b = (cascade-frees [] h k.0 s).1.beside in
+    record { scripts = b.scripts; registers = b.script_registers }
+let_go-scripts h (Some (name.Script k)) s = record { scripts = refl; registers = refl }
+let_go-scripts h (Some (name.Reflector k)) s = record { scripts = refl; registers = refl }
+
+-- and so does a reference taken
+take_up-scripts : (h : Heap) (x : Option Name) → SameScripts h (take_up h x)
+take_up-scripts h x =
+    let b = (HoldsTheSame-take_up h x).beside in
+    record { scripts = b.scripts; registers = b.script_registers }
+
+-- a slot whose new reference is taken
+module _ (t : Heap) (k i : ℕ) (x : Option Name) (n : HeapNative) (found : native_at t k ≡ Some n) (within : i < length n.slots)
+    (there : IsIn (names_there t) x) (taken : AreTaken t x) (black : IsHeldBlack t.scripts x) (s : IsSound (numbers_of x ++ []) t) where
+  abbrev old : Option Name
+  old = get_or n.slots i None
+
+  abbrev written : Heap
+  written = change_native t k (with_native_slot i x)
+
+  owed : IsSound (numbers_of old ++ []) written
+  owed = native_slot-sound [] t k i n x found within there s
+
+  put-sound : IsSound [] (let_go written old).heap
+  put-sound = let_go-sound [] written old owed
+
+  put-gentle : AreGentle t (let_go written old).heap
+  put-gentle = IsGentleBut-then (option_to_list old) t.natives_made t.natives_made (let_go written old).heap.natives_made
+      (view t) (view written) (view (let_go written old).heap)
+      (native_slot-gentle t k i n x s.well_formed found within taken (not_gray-held t x black))
+      (let_go-gentle [] written old owed)
+      (let_go-caught [] written old owed)
+
+  put-scripts : SameScripts t (let_go written old).heap
+  put-scripts =
+      let b = let_go-scripts written old owed in
+      record { scripts = b.scripts; registers = b.registers }
+
+-- A slot of a native is written.
+pub stored_in-follows : (h : Heap) (k i : ℕ) (x : Option Name) → i < length (slots_now (native_at h k)) → IsIn (names_there h) x → IsHeldBlack h.scripts x →
+    IsSound [] h → Follows h (stored_in h k i x).heap
+stored_in-follows h k i x within there black s = go (native_at t k) refl (subst (λ (ss : Slots). i < length ss) (sym (slots-taken h x k)) within)
+  where
+    t : Heap
+    t = take_up h x
+
+    same : SameScripts h t
+    same = take_up-scripts h x
+
+    go : (o : Option HeapNative) → native_at t k ≡ o → i < length (slots_now o) → Follows h (let_go (change_native t k (with_native_slot i x)) (get_or (slots_now o) i None)).heap
+    go None e l = absurd (omega arith)
+    go (Some n) e l =
+        let sound : IsSound (numbers_of x ++ []) t = take_up-sound [] h x there s in
+        let in_place : IsIn (names_there t) x = names_there-take_up h x there in
+        let black_still : IsHeldBlack t.scripts x = subst (λ os. IsHeldBlack os x) (sym same.scripts) black in
+        let last : Heap = (let_go (change_native t k (with_native_slot i x)) (get_or n.slots i None)).heap in
+        Follows-from h last s.well_formed (put-sound t k i x n e l in_place (take_up-taken h x) black_still sound).well_formed
+        (AreGentle-then h t last (take_up-gentle h x) (put-gentle t k i x n e l in_place (take_up-taken h x) black_still sound))
+        (λ c. SameScripts-coloured t last (put-scripts t k i x n e l in_place (take_up-taken h x) black_still sound) (SameScripts-coloured h t same c))
+
+-- The heaps with their keys
+
+module _ (owned : List ℕ) (v : Keyed) (o : IsInOrder owned v) where
+  -- the script object at a key is there
+  named-object : (q : Object) → Among q v.scripts → Among (named_object v.scripts q) v.heap.scripts
+  named-object q m = subst (Among (named_object v.scripts q)) (sym o.named) (Among-map (named_object v.scripts) q v.scripts m)
+
+  pub name_at-there : (key : ℕ) → IsIn (script_names v.heap) (name_at v.scripts key)
+  name_at-there key = go (name_at v.scripts key) refl
+    where
+      go : (x : Option Name) → name_at v.scripts key ≡ x → IsIn (script_names v.heap) x
+      go None e y m = absurd m
+      go (Some x) e y m =
+          let f = name_at-found v.scripts key x e in
+          ⊎_elim (λ s. subst (λ z. Among z (script_names v.heap)) (f.3 ∙ s)
+          (Among-map (λ (q : HeapScript). q.name) (named_object v.scripts f.0) v.heap.scripts (named-object f.0 f.1))) (λ t. absurd t) m
+
+  pub script_name-there : (x : Option SKey) → IsIn (script_names v.heap) (script_name v x)
+  script_name-there None = λ y m. absurd m
+  script_name-there (Some key) = name_at-there key.0
+
+  -- and black, where its colour is
+  name_at-black : (key : ℕ) → colour_at v.scripts key ≡ Some Black → IsHeldBlack v.heap.scripts (name_at v.scripts key)
+  name_at-black key e = go (object_at v.scripts key) refl e
+    where
+      go : (q : Option Object) → object_at v.scripts key ≡ q → option_map (λ (p : Object). p.colour) q ≡ Some Black →
+          IsHeldBlack v.heap.scripts (option_map (λ (p : Object). p.name) q)
+      go None f b = absurd (cc)
+      go (Some q) f b = λ s m i.
+          let m_q = named-object q (object_at-found v.scripts key q f).0 in
+          let named : s.name ≡ q.name = ⊎_elim (λ n. sym n) (λ t. absurd t) i in
+          let same : s ≡ named_object v.scripts q = only-member (λ (p : HeapScript). same_name q.name p.name) v.heap.scripts s (named_object v.scripts q)
+          (subst (λ c. c ≤ 1) (count_by-map (same_name q.name) (λ (p : HeapScript). p.name) v.heap.scripts) (o.sound.well_formed.distinct q.name))
+          m (rw named (same_name-refl q.name)) m_q (same_name-refl q.name) in
+          let colour : q.colour ≡ Black = cc in
+          ap (λ (p : HeapScript). p.colour) same ∙ colour
+
+  pub script_name-black : (x : Option SKey) → IfSome x (λ k. colour_at v.scripts k.0 ≡ Some Black) → IsHeldBlack v.heap.scripts (script_name v x)
+  script_name-black None b = λ s m i. absurd i
+  script_name-black (Some key) b = name_at-black key.0 b
+
+  -- what is held is black, where it is a script object
+  pub held_name-black : (x : Option Held) → IsBlackHeld v x → IsHeldBlack v.heap.scripts (held_name v x)
+  held_name-black None b = λ s m i. absurd i
+  held_name-black (Some (held.Script key)) b = name_at-black key.0 b
+  held_name-black (Some (held.Native key)) b = λ s m i.
+      absurd (native-is_no_script s.name (native-name_of v.heap s.name (native-in owned v (Some key) o s.name i)) (script-named v.heap s o.sound.well_formed m))
+
+-- A slot of the script object at a key is written.
+pub object_slot-follows : (v : Keyed) (o : IsInOrder [] v) (key i : ℕ) (x : Option SKey) → IsTrue (is_there v.scripts key) →
+    IfSome x (λ k. colour_at v.scripts k.0 ≡ Some Black) → Follows v.heap (set_slot v.heap (name_at v.scripts key) i (script_name v x))
+object_slot-follows v o key i x live black =
+    let n = there-named v.scripts key live in
+    subst (λ y. Follows v.heap (set_slot v.heap y i (script_name v x))) (sym n.1)
+    (script_slot-follows v.heap n.0 i (script_name v x) (subst (IsIn (script_names v.heap)) n.1 (name_at-there [] v o key) n.0 (inl refl))
+    (script_name-there [] v o x) (script_name-black [] v o x black) o.sound)
+
+-- A slot of a native is written with what is held.
+pub held-follows : (v w : Keyed) (o : IsInOrder [] v) (k i : ℕ) (x : Option Held) → i < length (slots_now (native_at v.heap k)) → IsBlackHeld v x →
+    w ≡ left_with v (stored_in v.heap k i (held_name v x)).heap → Follows v.heap w.heap
+held-follows v w o k i x within black e = subst (Follows v.heap) (sym (ap (λ (u : Keyed). u.heap) e))
+    (stored_in-follows v.heap k i (held_name v x) within (held-in [] v x o) (held_name-black [] v o x black) o.sound)
+
+-- A native or a plain script object is made, or nothing changes.
+module _ {X E : Type 0} (v w : Keyed) (d n : ℕ) (full : E) (room : d < 256) (few : n ≤ 64) (o : IsInOrder [] v) where
+  below : (made limit : ℕ) (x : X) → (limit ≤ made → Ok x ≡ Err full) → made < limit
+  below made limit x f = go (leb limit made) refl
+    where
+      go : (b : Bool) → leb limit made ≡ b → made < limit
+      go true e = let bad = f (leb-true limit made e) in absurd (cc)
+      go false e = leb-false limit made e
+
+  pub native_made-follows : (r : Result X E) → (v.heap.limits.natives ≤ v.heap.natives_made → r ≡ Err full) →
+      OnOk r (w.heap ≡ (make_native v.heap d n).heap) → OnErr r (w ≡ v) → Follows v.heap w.heap
+  native_made-follows (Ok x) f heap same = subst (Follows v.heap) (sym heap)
+      (make_native-follows v.heap d n room few (below v.heap.natives_made v.heap.limits.natives x f) o.sound)
+  native_made-follows (Err e) f heap same = Follows-same v.heap w.heap (ap (λ (u : Keyed). u.heap) same)
+
+  pub object_made-follows : (r : Result X E) → (v.heap.limits.scripts ≤ v.heap.scripts_made → r ≡ Err full) →
+      OnOk r (w.heap ≡ make_object v.heap d Plain n) → OnErr r (w ≡ v) → Follows v.heap w.heap
+  object_made-follows (Ok x) f heap same = subst (Follows v.heap) (sym heap)
+      (make_object-follows v.heap d n room few (below v.heap.scripts_made v.heap.limits.scripts x f) o.sound)
+  object_made-follows (Err e) f heap same = Follows-same v.heap w.heap (ap (λ (u : Keyed). u.heap) same)
+
+-- there is room in a slot, by the counted natives and by the definitions
+pub within-named : (p : Parts) → IsLinked p → (key i : ℕ) → i < length (slots_of (counts_of (keyed_of p)) key) →
+    i < length (slots_now (native_at (heap_of p) (the_number (keyed_of p) key)))
+within-named p l key i within =
+    let here : i < length (slots_of p.counted key) = subst (λ (d : Counts). i < length (slots_of d key)) (counts-back p l) within in
+    omega (arith, here, slots-length p l (the_number (keyed_of p) key))

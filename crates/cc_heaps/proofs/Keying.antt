@@ -1,0 +1,68 @@
+-- FROM KEYS TO NAMES AND BACK: a counted heap whose slots hold what is there is the same after its script objects got
+-- their names and gave them back for their keys.
+use Rattle.std.proofs.Common.{◌≡◌, ℕ, ◌≤◌, ◌==◌, Bool, true, false, List, [], ◌∷◌, map, count_by, Option, Some, None, IsTrue, option_map, refl, sym, ◌∙◌, ap, inl, inr}
+use Rattle.std.specs.Option.{is_some, option_and_then}
+use Rattle.std.proofs.lemmas.Bool.{false≢true, eqb-true}
+use Rattle.cc_lists.specs.Members.{Among}
+use Rattle.cc_lists.proofs.Filtering.{find-among, find-passes}
+use Rattle.cc_lists.proofs.Searching.{find-only}
+use Rattle.cc_names.specs.declared.name.Name.{Name}
+use Rattle.cc_names.specs.declared.name.Name.TheVariants as name
+use Rattle.cc_names.proofs.NameTests.{same_name-refl}
+use Rattle.cc_names.specs.Names.{object, same_name, is_native}
+use Rattle.cc_model.specs.Slots.{Slots, contents}
+use Rattle.cc_model.specs.Heap.{HeapNative}
+use Rattle.cc_script.specs.Objects.{Object, object_at, is_there, name_at}
+use Rattle.cc_heaps.specs.Keyed.{keyed_name, keyed_native, key_of, counts_of}
+use Rattle.cc_heaps.specs.Parts.{IsHeldThere, IsLinked, named_native, keyed_of}
+use Rattle.cc_heaps.specs.declared.parts.Parts.{Parts}
+use Rattle.cc_heaps.proofs.Naming.{AreScripts, name_in, named_slots}
+
+-- what natives hold, as the counted heap shows it, is there as far as it is a script object
+abbrev pub AreHeldThere : List Object → List HeapNative → Type 0
+AreHeldThere objects ns = (n : HeapNative) (x : Name) → Among n ns → Among x (contents n.slots) → IsHeldThere objects x
+
+module _ (objects : List Object) (one_name : (x : Name) → count_by (λ (o : Object). same_name o.name x) objects ≤ 1) (scripts : AreScripts objects) where
+  -- the key of what a slot holds by name
+  abbrev key_in : Option Name → Option Name
+  key_in x = option_and_then (keyed_name objects) x
+
+  -- the key of an object that is there is found by its name
+  pub key_of-name : (o : Object) → Among o objects → key_of objects o.name ≡ Some o.key
+  key_of-name o m = ap (option_map (λ (p : Object). p.key)) (find-only (λ (p : Object). same_name p.name o.name) objects o (one_name o.name) m (same_name-refl o.name))
+
+  keyed-script : (o : Object) → Among o objects → keyed_name objects o.name ≡ Some (object o.key)
+  keyed-script o m = go (is_native o.name) (scripts o m)
+    where
+      go : (b : Bool) → b ≡ false → elim b as (λ _. Option Name) [ true ↦ Some o.name | false ↦ option_map object (key_of objects o.name) ] ≡ Some (object o.key)
+      go true e = absurd (false≢true (sym e))
+      go false e = ap (option_map object) (key_of-name o m)
+
+  there-and-back : (key : ℕ) → IsTrue (is_there objects key) → key_in (name_at objects key) ≡ Some (object key)
+  there-and-back key there = go (object_at objects key) refl there
+    where
+      go : (o : Option Object) → object_at objects key ≡ o → IsTrue (is_some o) → key_in (option_map (λ (p : Object). p.name) o) ≡ Some (object key)
+      go None e t = absurd (false≢true t)
+      go (Some o) e t =
+          keyed-script o (find-among (λ (p : Object). p.key == key) objects o e)
+          ∙ ap (λ k. Some (object k)) (eqb-true o.key key (find-passes (λ (p : Object). p.key == key) objects o e))
+
+  name-back : (x : Name) → IsHeldThere objects x → key_in (name_in objects (Some x)) ≡ Some x
+  name-back (name.Native k) there = refl
+  name-back (name.Script k) there = there-and-back k.0 there
+  name-back (name.Reflector k) there = absurd there
+
+  slots-back : (slots : Slots) → ((x : Name) → Among x (contents slots) → IsHeldThere objects x) → map key_in (named_slots objects slots) ≡ slots
+  slots-back [] there = refl
+  slots-back (None ∷ xs) there = ap (λ ys. None ∷ ys) (slots-back xs there)
+  slots-back (Some x ∷ xs) there = λ i. name-back x (there x (inl refl)) i ∷ slots-back xs (λ y m. there y (inr m)) i
+
+  -- THE ROUND TRIP of natives
+  pub natives-back : (ns : List HeapNative) → AreHeldThere objects ns → map (keyed_native objects) (map (named_native objects) ns) ≡ ns
+  natives-back [] there = refl
+  natives-back (n ∷ ns) there =
+      λ i. record n { slots = slots-back n.slots (λ x m. there n x (inl refl) m) i } ∷ natives-back ns (λ m x a b. there m x (inr a) b) i
+
+-- What the parts count is the counted heap.
+pub counts-back : (p : Parts) → IsLinked p → counts_of (keyed_of p) ≡ p.counted
+counts-back p l = ap (λ ns. record p.counted { natives = ns }) (natives-back p.scripts l.one_name l.script_names p.counted.natives l.held)

@@ -1,0 +1,119 @@
+-- A NATIVE MADE at a key that held nothing: it stands last, in the buffer too, and the registers hold what they held.
+use Rattle.std.proofs.Common.{◌≡◌, ◌≢◌, ℕ, zero, suc, ◌+◌, ◌<◌, ◌≤◌, false, List, [], ◌∷◌, ◌++◌, map, get_or, Option, Some, None, refl, sym, ◌∙◌, ap, subst}
+use Rattle.std.proofs.Math.ListN.{get_or-map}
+use Rattle.std.proofs.lemmas.List.{map-append}
+use Rattle.std.proofs.lemmas.Simd.{map-map}
+use Rattle.cc_lists.specs.Members.{Among}
+use Rattle.cc_lists.proofs.ListWrites.{each-push}
+use Rattle.cc_names.specs.declared.name.Name.{Name}
+use Rattle.cc_names.specs.declared.number.NKey.{NKey}
+use Rattle.cc_names.specs.Names.{native}
+use Rattle.cc_model.specs.Slots.{contents, empty_slots}
+use Rattle.cc_model.specs.Heap.{Heap, HeapNative, with_mark}
+use Rattle.cc_model.specs.Effects.{put_in_register, with_native, make_native}
+use Rattle.cc_laws_heap.proofs.Making.{contents-empty_none}
+use Rattle.cc_counted.specs.Counts.{Counts, key_left}
+use Rattle.cc_counted.specs.Counts as counts
+use Rattle.cc_counted.specs.Owning.{HasKeys}
+use Rattle.cc_script.specs.Objects.{Object, name_at}
+use Rattle.cc_heaps.specs.declared.parts.Parts.{Parts}
+use Rattle.cc_heaps.specs.Keyed.{Keyed, IsInOrder, number_at, left_with}
+use Rattle.cc_heaps.specs.Changes.{KeepsKeys}
+use Rattle.cc_heaps.specs.Parts.{IsHeldThere, named, named_native, keyed_of, IsLinked, IsFit}
+use Rattle.cc_heaps.proofs.Keying.{counts-back}
+use Rattle.cc_heaps.proofs.Keys.{HasKeys-numbers}
+use Rattle.cc_heaps.proofs.LeftWith.{key_left-there}
+use Rattle.cc_heaps.proofs.Naming.{named_slots}
+use Rattle.cc_heaps.proofs.Ordered.{IsInOrder-made}
+use Rattle.cc_heaps.proofs.Registers.{AreLive-same, made-same, registers-same}
+
+-- a native as it is made
+abbrev pub made_native : ℕ → ℕ → HeapNative
+made_native number slots = record { number = number; slots = empty_slots slots; preserved = false; count = 1 }
+
+empty-named : (objects : List Object) (n : ℕ) → named_slots objects (empty_slots n) ≡ empty_slots n
+empty-named objects zero = refl
+empty-named objects (suc n) = ap (λ ss. None ∷ ss) (empty-named objects n)
+
+made-named : (objects : List Object) (number n : ℕ) → named_native objects (made_native number n) ≡ made_native number n
+made-named objects number n = ap (λ ss. record (made_native number n) { slots = ss }) (empty-named objects n)
+
+module _ (p : Parts) (f : IsFit [] p) (next : Counts) (slots : ℕ) (key : NKey)
+    (natives : next.natives ≡ p.counted.natives ++ made_native (p.natives_made + 1) slots ∷ [])
+    (buffer : next.buffer ≡ with_mark false (p.natives_made + 1) p.counted.buffer)
+    (others : (q : ℕ) → q ≢ key.0 → counts.number_at next q ≡ counts.number_at p.counted q)
+    (vacant : counts.number_at p.counted key.0 ≡ None) where
+  abbrev v : Keyed
+  v = keyed_of p
+
+  abbrev made : Parts
+  made = record p { counted = next; natives_made = p.natives_made + 1 }
+
+  abbrev old_keys : List (Option ℕ)
+  old_keys = p.counted.keys
+
+  same : map (named next.keys) p.native_registers.items ≡ map (named old_keys) p.native_registers.items
+  same = registers-same old_keys next.keys p.native_registers.items
+      (λ x m. made-same old_keys next.keys key.0 vacant others x (f.linked.native_registers x m))
+
+  named-natives : map (named_native p.scripts) next.natives ≡ (with_native v.heap slots).natives
+  named-natives =
+      ap (map (named_native p.scripts)) natives
+      ∙ (map-append (named_native p.scripts) p.counted.natives (made_native (p.natives_made + 1) slots ∷ [])
+      ∙ ap (λ n. v.heap.natives ++ n ∷ []) (made-named p.scripts (p.natives_made + 1) slots))
+
+  pub made-keyed : keyed_of made ≡ record { heap = with_native v.heap slots; keys = next.keys; scripts = p.scripts }
+  made-keyed = λ i. record {
+    heap = record (with_native v.heap slots) { native_registers = same i; natives = named-natives i; buffer = buffer i };
+    keys = next.keys;
+    scripts = p.scripts;
+  }
+
+  pub made-linked : IsLinked made
+  made-linked = record {
+    native_registers = AreLive-same old_keys next.keys p.native_registers.items
+        (λ x m. made-same old_keys next.keys key.0 vacant others x (f.linked.native_registers x m)) f.linked.native_registers;
+    script_registers = f.linked.script_registers;
+    registers = f.linked.registers;
+    held = λ n x m. subst (λ ns. (o : HeapNative) → Among o ns → Among x (contents o.slots) → IsHeldThere p.scripts x) (sym natives)
+        (each-push (λ (o : HeapNative). Among x (contents o.slots) → IsHeldThere p.scripts x) p.counted.natives (made_native (p.natives_made + 1) slots)
+        (λ o a. f.linked.held o x a) (λ a. absurd (contents-empty_none slots x a))) n m;
+    one_key = f.linked.one_key;
+    one_name = f.linked.one_name;
+    script_names = f.linked.script_names;
+  }
+
+  -- keys are those of what is there and of the new native
+  made-keys : (HasKeys p.counted → HasKeys next) → HasKeys (record { natives = (with_native v.heap slots).natives; buffer = (with_native v.heap slots).buffer; keys = next.keys })
+  made-keys keyed =
+      subst (λ ns. HasKeys (record { natives = ns; buffer = (with_native v.heap slots).buffer; keys = next.keys })) named-natives
+      (HasKeys-numbers next (map (named_native p.scripts) next.natives) (with_native v.heap slots).buffer
+      (map-map (λ (n : HeapNative). n.number) (named_native p.scripts) next.natives) (keyed (subst HasKeys (counts-back p f.linked) f.order.keyed)))
+
+  pub made-fit : slots ≤ 64 → p.natives_made < p.limits.natives → (HasKeys p.counted → HasKeys next) → IsFit ((p.natives_made + 1) ∷ []) made
+  made-fit few room keyed = record {
+    order = subst (IsInOrder ((p.natives_made + 1) ∷ [])) (sym made-keyed) (IsInOrder-made v slots next.keys few room (made-keys keyed) f.order);
+    linked = made-linked;
+  }
+
+  -- each native stays at its key
+  pub made-kept : (q k : ℕ) → number_at v q ≡ Some k → number_at (keyed_of made) q ≡ Some k
+  made-kept q k e = others q (λ s.
+      let bad : None ≡ Some k = sym vacant ∙ (ap (λ j. get_or old_keys j None) (sym s) ∙ e) in
+      absurd (cc)) ∙ e
+
+-- In a register
+
+make_native-is : (h : Heap) (d n : ℕ) → make_native h d n ≡ put_in_register (with_native h n) d (Some (native (h.natives_made + 1)))
+unfolding make_native
+make_native-is h d n = refl
+
+pub made-is : (h mid : Heap) (x : Option Name) (r n : ℕ) → mid ≡ with_native h n → x ≡ Some (native (h.natives_made + 1)) → put_in_register mid r x ≡ make_native h r n
+made-is h mid x r n e f = (λ i. put_in_register (e i) r (f i)) ∙ sym (make_native-is h r n)
+
+-- what is there before and after has the same key
+pub made-keeps : (v mid new : Keyed) (g : Heap) → new ≡ left_with mid g → mid.scripts ≡ v.scripts → ((q k : ℕ) → number_at v q ≡ Some k → number_at mid q ≡ Some k) → KeepsKeys v new
+made-keeps v mid new g is scripts kept = subst (KeepsKeys v) (sym is) (record {
+  natives = λ q k e m. get_or-map (key_left g) mid.keys q None ∙ (ap (key_left g) (kept q k e) ∙ key_left-there g k m);
+  scripts = λ q x e m. ap (λ objects. name_at objects q) scripts ∙ e;
+})

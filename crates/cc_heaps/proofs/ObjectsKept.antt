@@ -1,0 +1,147 @@
+-- SCRIPT OBJECTS ARE CHANGED OR TAKEN OUT, but none that a register or a native holds: these hold what they held, and the
+-- parts stay linked and in order.
+use Rattle.std.proofs.Common.{◌≡◌, ℕ, true, false, List, map, Option, Some, None, option_map, refl, sym, ◌∙◌, ap, subst}
+use Rattle.std.specs.Prelude.{IsTrue}
+use Rattle.std.specs.Option.{is_some, option_and_then}
+use Rattle.std.proofs.lemmas.Bool.{false≢true}
+use Rattle.cc_lists.specs.Members.{Among}
+use Rattle.cc_lists.proofs.Members.{Among-map}
+use Rattle.cc_lists.proofs.ListWrites.{each-map, map-agree}
+use Rattle.cc_names.specs.declared.name.Name.{Name}
+use Rattle.cc_names.specs.declared.name.Name.TheVariants as name
+use Rattle.cc_names.specs.declared.number.SKey.{SKey}
+use Rattle.cc_names.specs.declared.kind.Kind.TheVariants.{Plain}
+use Rattle.cc_names.specs.Names.{object, is_native}
+use Rattle.cc_model.specs.Slots.{contents}
+use Rattle.cc_model.specs.Heap.{Heap, HeapNative}
+use Rattle.cc_laws_heap.specs.Sound.{IsSound}
+use Rattle.cc_counted.specs.Owning.{HasKeys}
+use Rattle.cc_script.specs.Objects.{Object, AreWhole, object_at, is_there, name_at}
+use Rattle.cc_heaps.specs.Keyed.{IsInOrder, named_object, named_objects}
+use Rattle.cc_heaps.specs.Parts.{own_name, named_native, script_named, IsHeldThere, IsScriptLive, heap_of, keyed_of, IsLinked}
+use Rattle.cc_heaps.specs.declared.parts.Parts.{Parts}
+use Rattle.cc_heaps.proofs.Keying.{counts-back}
+use Rattle.cc_heaps.proofs.Reaching.{HasOneKey, HasOneName, some-held}
+
+-- Objects by key
+
+-- what is there is what has a name
+there-by_name : (objects : List Object) (key : ℕ) → is_some (name_at objects key) ≡ is_there objects key
+there-by_name objects key = go (object_at objects key)
+  where
+    go : (o : Option Object) → is_some (option_map (λ (p : Object). p.name) o) ≡ is_some o
+    go None = refl
+    go (Some o) = refl
+
+-- what is there has a name
+pub there-named : (objects : List Object) (key : ℕ) → IsTrue (is_there objects key) → (x : Name) × (name_at objects key ≡ Some x)
+there-named objects key t = go (object_at objects key) t
+  where
+    go : (o : Option Object) → is_some o ≡ true → (x : Name) × (option_map (λ (p : Object). p.name) o ≡ Some x)
+    go None e = absurd (false≢true e)
+    go (Some o) e = (o.name, refl)
+
+-- what keeps its name stays there
+pub there-kept : (os ps : List Object) (key : ℕ) → name_at ps key ≡ name_at os key → IsTrue (is_there os key) → IsTrue (is_there ps key)
+there-kept os ps key e t = sym (there-by_name ps key) ∙ (ap is_some e ∙ (there-by_name os key ∙ t))
+
+-- what there has to be of the objects alone
+pub record AreObjects (objects : List Object) : Type 0 where
+  pub one_key : HasOneKey objects
+  pub one_name : HasOneName objects
+  pub script_names : (o : Object) → Among o objects → is_native o.name ≡ false
+  pub whole : AreWhole objects
+  pub plain : (o : Object) → Among o objects → o.kind ≡ Plain
+
+-- The parts with other objects
+
+abbrev pub with_objects : Parts → List Object → Parts
+with_objects p objects = record p { scripts = objects }
+
+-- and the lists of the heaps with them
+abbrev pub with_named : Heap → List Object → Heap
+with_named h objects = record h { scripts = named_objects objects }
+
+-- what registers and natives hold has the name that it had
+pub record HoldsSame (p : Parts) (objects : List Object) : Type 0 where
+  pub registers : (key : SKey) → Among (Some key) p.script_registers.items → name_at objects key.0 ≡ name_at p.scripts key.0
+  pub natives : (n : HeapNative) (key : ℕ) → Among n p.counted.natives → Among (object key) (contents n.slots) → name_at objects key ≡ name_at p.scripts key
+
+-- the objects of parts that are linked and in order are as they have to be
+pub AreObjects-parts : (owned : List ℕ) (p : Parts) → IsLinked p → IsInOrder owned (keyed_of p) → AreObjects p.scripts
+AreObjects-parts owned p l o = record {
+  one_key = l.one_key;
+  one_name = l.one_name;
+  script_names = l.script_names;
+  whole = o.whole;
+  plain = λ q m. o.plain (named_object p.scripts q) (Among-map (named_object p.scripts) q p.scripts m);
+}
+
+-- the keys of natives are those of the counted heap
+pub keys-counted : (owned : List ℕ) (p : Parts) → IsLinked p → IsInOrder owned (keyed_of p) → HasKeys p.counted
+keys-counted owned p l o = subst HasKeys (counts-back p l) o.keyed
+
+module _ (p : Parts) (objects : List Object) (l : IsLinked p) (same : HoldsSame p objects) where
+  register-same : (x : Option SKey) → Among x p.script_registers.items → script_named objects x ≡ script_named p.scripts x
+  register-same None m = refl
+  register-same (Some key) m = same.registers key m
+
+  content-same : (n : HeapNative) (x : Name) → Among n p.counted.natives → Among x (contents n.slots) → IsHeldThere p.scripts x →
+      own_name objects x ≡ own_name p.scripts x
+  content-same n (name.Native k) m i t = refl
+  content-same n (name.Script k) m i t = same.natives n k.0 m i
+  content-same n (name.Reflector k) m i t = absurd t
+
+  native-same : (n : HeapNative) → Among n p.counted.natives → named_native objects n ≡ named_native p.scripts n
+  native-same n m = ap (λ slots. record n { slots = slots }) (map-agree (option_and_then (own_name objects)) (option_and_then (own_name p.scripts)) n.slots at)
+    where
+      at : (x : Option Name) → Among x n.slots → option_and_then (own_name objects) x ≡ option_and_then (own_name p.scripts) x
+      at None i = refl
+      at (Some x) i = let j : Among x (contents n.slots) = some-held n.slots x i in content-same n x m j (l.held n x m j)
+
+  -- THE HEAPS are as they were but for the script objects.
+  pub heap-objects : heap_of (with_objects p objects) ≡ with_named (heap_of p) objects
+  heap-objects = λ i. record (with_named (heap_of p) objects) { script_registers = registers i; natives = natives i }
+    where
+      registers : map (script_named objects) p.script_registers.items ≡ map (script_named p.scripts) p.script_registers.items
+      registers = map-agree (script_named objects) (script_named p.scripts) p.script_registers.items register-same
+
+      natives : map (named_native objects) p.counted.natives ≡ map (named_native p.scripts) p.counted.natives
+      natives = map-agree (named_native objects) (named_native p.scripts) p.counted.natives native-same
+
+  module _ (a : AreObjects objects) where
+    -- THE PARTS STAY LINKED
+    pub linked-objects : IsLinked (with_objects p objects)
+    linked-objects = record {
+      native_registers = l.native_registers;
+      script_registers = λ x m. register x m (l.script_registers x m);
+      registers = l.registers;
+      held = λ n x m i. content n x m i (l.held n x m i);
+      one_key = a.one_key;
+      one_name = a.one_name;
+      script_names = a.script_names;
+    }
+      where
+        register : (x : Option SKey) → Among x p.script_registers.items → IsScriptLive p.scripts x → IsScriptLive objects x
+        register None m t = t
+        register (Some key) m t = there-kept p.scripts objects key.0 (same.registers key m) t
+
+        content : (n : HeapNative) (x : Name) → Among n p.counted.natives → Among x (contents n.slots) → IsHeldThere p.scripts x → IsHeldThere objects x
+        content n (name.Native k) m i t = t
+        content n (name.Script k) m i t = there-kept p.scripts objects k.0 (same.natives n k.0 m i) t
+        content n (name.Reflector k) m i t = t
+
+    -- and in order, where the heaps with them are sound.
+    pub order-objects : (owned : List ℕ) → IsSound owned (with_named (heap_of p) objects) → IsInOrder owned (keyed_of p) → IsInOrder owned (keyed_of (with_objects p objects))
+    order-objects owned s o = record {
+      sound = subst (IsSound owned) (sym heap-objects) s;
+      keyed = subst HasKeys (sym (counts-back (with_objects p objects) linked-objects)) (keys-counted owned p l o);
+      named = refl;
+      one_key = a.one_key;
+      whole = a.whole;
+      limits = o.limits;
+      plain = each-map (λ q. q.kind ≡ Plain) (named_object objects) objects a.plain;
+      unpreserved = each-map (λ n. n.preserved ≡ false) (named_native objects) p.counted.natives
+          (λ n m. o.unpreserved (named_native p.scripts n) (Among-map (named_native p.scripts) n p.counted.natives m));
+      no_entries = refl;
+    }

@@ -1,0 +1,179 @@
+-- WHAT IS REACHED OVER SLOTS BY KEYS is what is reached by names, where no two script objects have one key or one name.
+use Rattle.std.proofs.Common.{◌≡◌, ℕ, ◌≤◌, Bool, true, false, List, [], ◌∷◌, map, Option, Some, None, option_map, refl, sym, ◌∙◌, ap, subst, inl, inr, ⊎_elim, count_by, ◌==◌}
+use Rattle.std.specs.List.{flat_map}
+use Rattle.std.specs.Option.{option_to_list}
+use Rattle.std.proofs.lemmas.Bool.{eqb-true, eq-eqb}
+use Rattle.cc_lists.specs.Members.{Among, has}
+use Rattle.cc_lists.specs.Least.{Least, system, closure}
+use Rattle.cc_lists.proofs.Members.{Among-map, Among-map_cases, Among-flat_map, Among-flat_map_cases}
+use Rattle.cc_lists.proofs.Filtering.{find-among, find-passes}
+use Rattle.cc_lists.proofs.Searching.{find-only}
+use Rattle.cc_lists.proofs.ListWrites.{only-member}
+use Rattle.cc_lists.proofs.Least.{derive-root, derive-along, derived-within}
+use Rattle.cc_lists.proofs.Closure.{closure-decides}
+use Rattle.cc_names.specs.declared.name.Name.{Name}
+use Rattle.cc_names.specs.Names.{same_name}
+use Rattle.cc_names.proofs.NameTests.{same_name-refl, same_name-exact}
+use Rattle.cc_model.specs.Slots.{contents, from_to}
+use Rattle.cc_model.specs.View.{script_slot_edges}
+use Rattle.cc_lists.proofs.Numbers.{number-exact}
+use Rattle.cc_script.specs.Objects.{Object, object_at, name_at}
+use Rattle.cc_script.specs.Walking.{slot_edges, edges, reach_rules, keys_reached, IsReached}
+use Rattle.cc_heaps.specs.Keyed.{name_held, named_object, named_objects}
+
+-- at most one object stands at a key, and at most one has a name
+abbrev pub HasOneKey : List Object → Type 0
+HasOneKey objects = (key : ℕ) → count_by (λ o. o.key == key) objects ≤ 1
+
+abbrev pub HasOneName : List Object → Type 0
+HasOneName objects = (x : Name) → count_by (λ o. same_name o.name x) objects ≤ 1
+
+-- two tests that follow from each other are the same
+pub same-tests : (a b : Bool) → (a ≡ true → b ≡ true) → (b ≡ true → a ≡ true) → a ≡ b
+same-tests true b f g = sym (f refl)
+same-tests false true f g = g refl
+same-tests false false f g = refl
+
+-- an object is found by its key
+pub object_at-own : (objects : List Object) → HasOneKey objects → (o : Object) → Among o objects → object_at objects o.key ≡ Some o
+object_at-own objects one o m = find-only (λ p. p.key == o.key) objects o (one o.key) m (eq-eqb o.key o.key refl)
+
+-- and what is found at a key is there
+pub object_at-found : (objects : List Object) (key : ℕ) (o : Object) → object_at objects key ≡ Some o → Among o objects × (o.key ≡ key)
+object_at-found objects key o e = (
+  find-among (λ p. p.key == key) objects o e,
+  eqb-true o.key key (find-passes (λ p. p.key == key) objects o e),
+)
+
+-- an object's key has its name
+pub name_at-own : (objects : List Object) → HasOneKey objects → (o : Object) → Among o objects → name_at objects o.key ≡ Some o.name
+name_at-own objects one o m = ap (λ (p : Option Object). option_map (λ q. q.name) p) (object_at-own objects one o m)
+
+-- and a key's name is that of an object
+pub name_at-found : (objects : List Object) (key : ℕ) (x : Name) → name_at objects key ≡ Some x →
+    (o : Object) × Among o objects × (o.key ≡ key) × (o.name ≡ x)
+name_at-found objects key x e = go (object_at objects key) refl e
+  where
+    go : (p : Option Object) → object_at objects key ≡ p → option_map (λ q. q.name) p ≡ Some x →
+        (o : Object) × Among o objects × (o.key ≡ key) × (o.name ≡ x)
+    go None f n = absurd (cc)
+    go (Some o) f n = let k = object_at-found objects key o f in (o, k.0, k.1, (cc))
+
+-- the key of a name, where it is the name of an object
+pub key-named : (objects : List Object) → HasOneName objects → (key : ℕ) (x : Name) → name_at objects key ≡ Some x →
+    (o : Object) → Among o objects → o.name ≡ x → o.key ≡ key
+key-named objects one key x e o m n =
+    let f = name_at-found objects key x e in
+    let same : f.0 ≡ o = only-member (λ p. same_name p.name x) objects f.0 o (one x)
+    f.1 (subst (λ y. same_name y x ≡ true) (sym f.3) (same_name-refl x))
+    m (subst (λ y. same_name y x ≡ true) (sym n) (same_name-refl x)) in
+    ap (λ (p : Object). p.key) (sym same) ∙ f.2
+
+-- what slots hold, at a place
+pub holds-some : {X : Type 0} (slots : List (Option X)) (x : X) → Among x (flat_map option_to_list slots) → Among (Some x) slots
+holds-some [] x m = m
+holds-some (None ∷ slots) x m = inr (holds-some slots x m)
+holds-some (Some y ∷ slots) x m = ⊎_elim (λ e. inl (ap (λ z. Some z) e)) (λ t. inr (holds-some slots x t)) m
+
+pub some-held : {X : Type 0} (slots : List (Option X)) (x : X) → Among (Some x) slots → Among x (flat_map option_to_list slots)
+some-held slots x m = Among-flat_map option_to_list (Some x) x slots m (inl refl)
+
+-- the edges over slots, by names
+abbrev pub named_edges : List Object → List (Name × Name)
+named_edges objects = flat_map script_slot_edges (named_objects objects)
+
+-- an edge by keys is one from a slot of an object to a key
+edge-found : (objects : List Object) (k q : ℕ) → Among (k, q) (edges objects) → (o : Object) × Among o objects × (o.key ≡ k) × Among (Some q) o.slots
+edge-found objects k q m =
+    let f = Among-flat_map_cases slot_edges objects (k, q) m in
+    let g = Among-map_cases (λ r. (f.0.key, r)) (flat_map option_to_list f.0.slots) (k, q) f.2 in (
+      f.0,
+      f.1,
+      ap (λ (e : ℕ × ℕ). e.0) g.2,
+      subst (λ r. Among (Some r) f.0.slots) (ap (λ (e : ℕ × ℕ). e.1) g.2) (holds-some f.0.slots g.0 g.1),
+    )
+
+found-edge : (objects : List Object) (o : Object) (q : ℕ) → Among o objects → Among (Some q) o.slots → Among (o.key, q) (edges objects)
+found-edge objects o q m i = Among-flat_map slot_edges o (o.key, q) objects m
+    (Among-map (λ r. (o.key, r)) q (flat_map option_to_list o.slots) (some-held o.slots q i))
+
+-- an edge by names is one from a slot of an object to a key with a name
+named-found : (objects : List Object) (x y : Name) → Among (x, y) (named_edges objects) →
+    (o : Object) × Among o objects × (o.name ≡ x) × ((q : ℕ) × Among (Some q) o.slots × (name_at objects q ≡ Some y))
+named-found objects x y m =
+    let f = Among-flat_map_cases script_slot_edges (named_objects objects) (x, y) m in
+    let o = Among-map_cases (named_object objects) objects f.0 f.1 in
+    let i : Among (x, y) (script_slot_edges (named_object objects o.0)) = subst (λ p. Among (x, y) (script_slot_edges p)) (sym o.2) f.2 in
+    let g = Among-map_cases (from_to o.0.name) (contents (map (name_held objects) o.0.slots)) (x, y) i in
+    let s = Among-map_cases (name_held objects) o.0.slots (Some g.0) (holds-some (map (name_held objects) o.0.slots) g.0 g.1) in
+    (o.0, o.1, ap (λ (e : Name × Name). e.0) g.2, go o.0 s.0 s.1 (s.2 ∙ ap (λ (e : Name × Name). Some e.1) g.2))
+  where
+    go : (o : Object) (s : Option ℕ) → Among s o.slots → name_held objects s ≡ Some y → (q : ℕ) × Among (Some q) o.slots × (name_at objects q ≡ Some y)
+    go o None j e = absurd (cc)
+    go o (Some q) j e = (q, j, e)
+
+found-named : (objects : List Object) (o : Object) (q : ℕ) (y : Name) → Among o objects → Among (Some q) o.slots → name_at objects q ≡ Some y →
+    Among (o.name, y) (named_edges objects)
+found-named objects o q y m i e = Among-flat_map script_slot_edges (named_object objects o) (o.name, y) (named_objects objects)
+    (Among-map (named_object objects) o objects m)
+    (Among-map (from_to o.name) y (contents (map (name_held objects) o.slots))
+    (some-held (map (name_held objects) o.slots) y
+    (subst (λ s. Among s (map (name_held objects) o.slots)) e (Among-map (name_held objects) (Some q) o.slots i))))
+
+-- THE NAMES OF SOME KEYS, as a set: order and repeats are free, and a key at which nothing stands has none
+pub record AreNamesOf (objects : List Object) (keys : List ℕ) (names : List Name) : Type 0 where
+  pub named : (k : ℕ) (x : Name) → Among k keys → name_at objects k ≡ Some x → Among x names
+  pub keyed : (x : Name) → Among x names → (k : ℕ) × Among k keys × (name_at objects k ≡ Some x)
+
+module _ (objects : List Object) (one_key : HasOneKey objects) (one_name : HasOneName objects) where
+  module _ (keys : List ℕ) (names : List Name) (roots : AreNamesOf objects keys names) where
+    -- whose key is reached, its name is reached
+    reached-names : (o : Object) → Among o objects → IsReached objects keys o.key → Least (system names (named_edges objects) []) o.name
+    reached-names o m d = derived-within keys (edges objects) [] (λ k. (p : Object) → Among p objects → p.key ≡ k → Least (system names (named_edges objects) []) p.name)
+        (λ k i p n e. derive-root names (named_edges objects) [] p.name
+        (roots.named k p.name i (subst (λ j. name_at objects j ≡ Some p.name) e (name_at-own objects one_key p n))))
+        (λ k q i before p n e.
+        let f = edge-found objects k q i in
+        derive-along names (named_edges objects) [] f.0.name p.name
+        (found-named objects f.0 q p.name f.1 f.3 (subst (λ j. name_at objects j ≡ Some p.name) e (name_at-own objects one_key p n)))
+        (before f.0 f.1 f.2))
+        (λ ps v i. absurd i) o.key d o m refl
+
+    -- and the other way round
+    reached-keys : (o : Object) → Among o objects → Least (system names (named_edges objects) []) o.name → IsReached objects keys o.key
+    reached-keys o m d = derived-within names (named_edges objects) [] (λ x. (p : Object) → Among p objects → p.name ≡ x → IsReached objects keys p.key)
+        (λ x i p n e.
+        let f = roots.keyed x i in
+        subst (IsReached objects keys) (sym (key-named objects one_name f.0 x f.2 p n e)) (derive-root keys (edges objects) [] f.0 f.1))
+        (λ x y i before p n e.
+        let f = named-found objects x y i in
+        subst (IsReached objects keys) (sym (key-named objects one_name f.3.0 y f.3.2 p n e))
+        (derive-along keys (edges objects) [] f.0.key f.3.0 (found-edge objects f.0 f.3.0 f.1 f.3.1) (before f.0 f.1 f.2)))
+        (λ ps v i. absurd i) o.name d o m refl
+
+    -- FROM ROOTS THAT ARE THE NAMES OF THE KEYS as a set
+    pub reached-alike_from : (o : Object) → Among o objects →
+        has ◌==◌ (keys_reached objects keys) o.key ≡ has same_name (closure same_name (system names (named_edges objects) [])) o.name
+    reached-alike_from o m =
+        let by_key = closure-decides ◌==◌ number-exact (reach_rules objects keys) o.key in
+        let by_name = closure-decides same_name same_name-exact (system names (named_edges objects) []) o.name in
+        same-tests (has ◌==◌ (keys_reached objects keys) o.key) (has same_name (closure same_name (system names (named_edges objects) [])) o.name)
+        (λ e. by_name.1 (reached-names o m (by_key.0 e)))
+        (λ e. by_key.1 (reached-keys o m (by_name.0 e)))
+
+  -- the names of some keys, each in its place
+  pub AreNamesOf-each : (keys : List ℕ) → AreNamesOf objects keys (flat_map (λ k. option_to_list (name_at objects k)) keys)
+  AreNamesOf-each keys = record {
+    named = λ k x m e. Among-flat_map (λ k. option_to_list (name_at objects k)) k x keys m (subst (λ o. Among x (option_to_list o)) (sym e) (inl refl));
+    keyed = λ x m. let f = Among-flat_map_cases (λ k. option_to_list (name_at objects k)) keys x m in (f.0, f.1, at (name_at objects f.0) x f.2);
+  }
+    where
+      at : (o : Option Name) (x : Name) → Among x (option_to_list o) → o ≡ Some x
+      at None x m = absurd m
+      at (Some y) x m = ⊎_elim (λ e. ap (λ z. Some z) e) (λ t. absurd t) m
+
+  -- FROM THE NAMES OF THE KEYS, each in its place
+  pub reached-alike : (keys : List ℕ) (o : Object) → Among o objects →
+      has ◌==◌ (keys_reached objects keys) o.key ≡
+      has same_name (closure same_name (system (flat_map (λ k. option_to_list (name_at objects k)) keys) (named_edges objects) [])) o.name
+  reached-alike keys = reached-alike_from keys (flat_map (λ k. option_to_list (name_at objects k)) keys) (AreNamesOf-each keys)

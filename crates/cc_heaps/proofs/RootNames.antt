@@ -1,0 +1,220 @@
+-- THE ROOTS OF SCRIPT MARKING BY KEYS AND BY NAMES: what registers hold, and what natives hold.
+use Rattle.std.proofs.Common.{◌≡◌, ℕ, ◌==◌, Bool, true, false, List, [], ◌∷◌, ◌++◌, map, Option, Some, None, refl, sym, ◌∙◌, ap, subst, inl, ⊎_elim}
+use Rattle.std.specs.Prelude.{IsTrue}
+use Rattle.std.specs.List.{flat_map}
+use Rattle.std.specs.Option.{option_and_then, option_to_list}
+use Rattle.std.proofs.lemmas.Bool.{true≢false, false≢true}
+use Rattle.cc_lists.specs.Members.{Among, has}
+use Rattle.cc_lists.proofs.Members.{Among-map, Among-map_cases, Among-left, Among-right, Among-append, Among-filter, Among-filtered, Among-passes, Among-flat_map, Among-flat_map_cases, has-among, has-there}
+use Rattle.cc_lists.proofs.Least.{derived-within}
+use Rattle.cc_lists.proofs.Closure.{closure-derived}
+use Rattle.cc_names.specs.declared.name.Name.{Name}
+use Rattle.cc_names.specs.declared.name.Name.TheVariants as name
+use Rattle.cc_names.specs.declared.number.SKey.{SKey}
+use Rattle.cc_names.specs.Names.{native, object, reflector, same_name, is_script}
+use Rattle.cc_names.proofs.NameTests.{same_name-exact}
+use Rattle.cc_model.specs.Slots.{contents, from_to}
+use Rattle.cc_model.specs.Heap.{HeapNative, HeapScript}
+use Rattle.cc_model.specs.View.{slot_edges, preserved_edge, native_edges, script_slot_edges}
+use Rattle.cc_model.specs.Exposure.{slots_of_scripts}
+use Rattle.cc_model.specs.Colours.{black_rules, black_names, scripts_held_by, scripts_held, marked_names}
+use Rattle.cc_model.specs.WellFormed.{IsWellFormed, script_names}
+use Rattle.cc_lists.proofs.Numbers.{number-exact}
+use Rattle.cc_script.specs.Objects.{Object, is_there, name_at}
+use Rattle.cc_marking.specs.Marking.{black_keys, marked_keys}
+use Rattle.cc_heaps.specs.Keyed.{IsInOrder, named_object}
+use Rattle.cc_heaps.specs.Parts.{own_name, named_native, script_named, IsHeldThere, heap_of, keyed_of, IsLinked}
+use Rattle.cc_heaps.specs.Roots.{keys_in_registers, key_in, keys_in, keys_held}
+use Rattle.cc_heaps.specs.declared.parts.Parts.{Parts}
+use Rattle.cc_heaps.proofs.Reaching.{AreNamesOf, holds-some, some-held, name_at-own, name_at-found, reached-alike_from}
+
+-- Keys that are held
+
+-- a key of registers is that of one
+pub register-key : (xs : List (Option SKey)) (k : ℕ) → Among k (keys_in_registers xs) → (key : SKey) × Among (Some key) xs × (key.0 ≡ k)
+register-key xs k m =
+    let f = Among-map_cases (λ (key : SKey). key.0) (flat_map option_to_list xs) k m in
+    (f.0, holds-some xs f.0 f.1, f.2)
+
+-- and each register gives its key
+pub key-register : (xs : List (Option SKey)) (key : SKey) → Among (Some key) xs → Among key.0 (keys_in_registers xs)
+key-register xs key m = Among-map (λ (key : SKey). key.0) key (flat_map option_to_list xs) (some-held xs key m)
+
+-- the key of a name is that of a script object
+key_in-object : (x : Name) (k : ℕ) → Among k (key_in x) → x ≡ object k
+key_in-object (name.Native j) k m = absurd m
+key_in-object (name.Script j) k m = ⊎_elim (λ e. ap object e) (λ t. absurd t) m
+key_in-object (name.Reflector j) k m = absurd m
+
+-- a key of natives stands in a slot of one
+pub native-key : (ns : List HeapNative) (k : ℕ) → Among k (keys_held ns) → (n : HeapNative) × Among n ns × Among (object k) (contents n.slots)
+native-key ns k m =
+    let f = Among-flat_map_cases (λ (n : HeapNative). keys_in n.slots) ns k m in
+    let g = Among-flat_map_cases key_in (contents f.0.slots) k f.2 in
+    (f.0, f.1, subst (λ x. Among x (contents f.0.slots)) (key_in-object g.0 k g.2) g.1)
+
+-- and each slot gives its key
+key-native : (ns : List HeapNative) (n : HeapNative) (k : ℕ) → Among n ns → Among (object k) (contents n.slots) → Among k (keys_held ns)
+key-native ns n k m i = Among-flat_map (λ (n : HeapNative). keys_in n.slots) n k ns m (Among-flat_map key_in (object k) k (contents n.slots) i (inl refl))
+
+module _ (p : Parts) (l : IsLinked p) where
+  -- what registers hold is there
+  pub register-there : (k : ℕ) → Among k (keys_in_registers p.script_registers.items) → IsTrue (is_there p.scripts k)
+  register-there k m = let f = register-key p.script_registers.items k m in subst (λ j. IsTrue (is_there p.scripts j)) f.2 (l.script_registers (Some f.0) f.1)
+
+  -- and so is what natives hold
+  pub native-there : (k : ℕ) → Among k (keys_held p.counted.natives) → IsTrue (is_there p.scripts k)
+  native-there k m = let f = native-key p.counted.natives k m in l.held f.0 (object k) f.1 f.2
+
+  -- Their names
+
+  -- WHAT REGISTERS HOLD
+  pub register-names : AreNamesOf p.scripts (keys_in_registers p.script_registers.items) (contents (heap_of p).script_registers)
+  register-names = record {
+    named = λ k x m e.
+        let f = register-key p.script_registers.items k m in
+        some-held (map (script_named p.scripts) p.script_registers.items) x
+        (subst (λ y. Among y (map (script_named p.scripts) p.script_registers.items)) (ap (name_at p.scripts) f.2 ∙ e)
+        (Among-map (script_named p.scripts) (Some f.0) p.script_registers.items f.1));
+    keyed = λ x m.
+        let f = Among-map_cases (script_named p.scripts) p.script_registers.items (Some x) (holds-some (map (script_named p.scripts) p.script_registers.items) x m) in
+        go x f.0 f.1 f.2;
+  }
+    where
+      go : (x : Name) (y : Option SKey) → Among y p.script_registers.items → script_named p.scripts y ≡ Some x →
+          (k : ℕ) × Among k (keys_in_registers p.script_registers.items) × (name_at p.scripts k ≡ Some x)
+      go x None i e = absurd (cc)
+      go x (Some key) i e = (key.0, key-register p.script_registers.items key i, e)
+
+  -- what a native holds under its name, it holds under its key
+  slot-named : (n : HeapNative) (x : Name) → Among n p.counted.natives → Among x (contents (named_native p.scripts n).slots) → is_script x ≡ true →
+      (k : ℕ) × Among (object k) (contents n.slots) × (name_at p.scripts k ≡ Some x)
+  slot-named n x m i s =
+      let f = Among-map_cases (λ (y : Option Name). option_and_then (own_name p.scripts) y) n.slots (Some x) (holds-some (named_native p.scripts n).slots x i) in
+      go f.0 f.1 f.2
+    where
+      held : (y : Name) → Among y (contents n.slots) → IsHeldThere p.scripts y → own_name p.scripts y ≡ Some x →
+          (k : ℕ) × Among (object k) (contents n.slots) × (name_at p.scripts k ≡ Some x)
+      held (name.Native k) j t e = let same : native k.0 ≡ x = cc in absurd (false≢true (ap is_script same ∙ s))
+      held (name.Script k) j t e = (k.0, j, e)
+      held (name.Reflector k) j t e = absurd t
+
+      go : (y : Option Name) → Among y n.slots → option_and_then (own_name p.scripts) y ≡ Some x →
+          (k : ℕ) × Among (object k) (contents n.slots) × (name_at p.scripts k ≡ Some x)
+      go None j e = absurd (cc)
+      go (Some y) j e = let i : Among y (contents n.slots) = some-held n.slots y j in held y i (l.held n y m i) e
+
+  -- and the other way round
+  pub named-slot : (n : HeapNative) (k : ℕ) (x : Name) → Among (object k) (contents n.slots) → name_at p.scripts k ≡ Some x → Among x (contents (named_native p.scripts n).slots)
+  named-slot n k x i e =
+      some-held (named_native p.scripts n).slots x
+      (subst (λ y. Among y (named_native p.scripts n).slots) e
+      (Among-map (λ (y : Option Name). option_and_then (own_name p.scripts) y) (Some (object k)) n.slots (holds-some n.slots (object k) i)))
+
+  -- a name of a script object is that of no native
+  pub script-named : (k : ℕ) (x : Name) → name_at p.scripts k ≡ Some x → is_script x ≡ true
+  script-named k x e =
+      let f = name_at-found p.scripts k x e in
+      ap is_script (sym f.3) ∙ ap (λ b. elim b as (λ _. Bool) [ true ↦ false | false ↦ true ]) (l.script_names f.0 f.1)
+
+-- two lots of keys, and of names
+AreNamesOf-append : (objects : List Object) (ks js : List ℕ) (xs ys : List Name) → AreNamesOf objects ks xs → AreNamesOf objects js ys → AreNamesOf objects (ks ++ js) (xs ++ ys)
+AreNamesOf-append objects ks js xs ys a b = record {
+  named = λ k x m e. ⊎_elim (λ i. Among-left x xs ys (a.named k x i e)) (λ i. Among-right x xs ys (b.named k x i e)) (Among-append k ks js m);
+  keyed = λ x m. ⊎_elim
+      (λ i. let f = a.keyed x i in (f.0, Among-left f.0 ks js f.1, f.2))
+      (λ i. let f = b.keyed x i in (f.0, Among-right f.0 ks js f.1, f.2))
+      (Among-append x xs ys m);
+}
+
+-- what a native that preserves nothing refers to, as far as it is a script object, stands in its slots
+held-in_slots : (n : HeapNative) (x : Name) → n.preserved ≡ false → Among x (scripts_held_by n) → Among x (contents n.slots) × (is_script x ≡ true)
+held-in_slots n x quiet m =
+    let f = Among-map_cases (λ (e : Name × Name). e.1) (native_edges n) x (Among-filtered is_script x (map (λ (e : Name × Name). e.1) (native_edges n)) m) in (
+      ⊎_elim
+          (λ i. let g = Among-map_cases (from_to (native n.number)) (contents n.slots) f.0 i in
+          subst (λ y. Among y (contents n.slots)) (ap (λ (e : Name × Name). e.1) g.2 ∙ f.2) g.1)
+          (λ i. absurd (none n.preserved quiet f.0 i))
+          (Among-append f.0 (slot_edges (native n.number) n.slots) (preserved_edge n) f.1),
+      Among-passes is_script x (map (λ (e : Name × Name). e.1) (native_edges n)) m,
+    )
+  where
+    none : (b : Bool) → b ≡ false → (e : Name × Name) → ¬ (Among e (elim b [ true ↦ from_to (native n.number) (reflector n.number) ∷ [] | false ↦ [] ]))
+    none true q e i = true≢false q
+    none false q e i = i
+
+-- and the other way round
+slots-held : (n : HeapNative) (x : Name) → Among x (contents n.slots) → is_script x ≡ true → Among x (scripts_held_by n)
+slots-held n x i s = Among-filter is_script x (map (λ (e : Name × Name). e.1) (native_edges n))
+    (Among-map (λ (e : Name × Name). e.1) (native n.number, x) (native_edges n)
+    (Among-left (native n.number, x) (slot_edges (native n.number) n.slots) (preserved_edge n) (Among-map (from_to (native n.number)) x (contents n.slots) i))) s
+
+-- the keys of the roots
+abbrev pub black_roots : Parts → List ℕ
+black_roots p = keys_in_registers p.script_registers.items
+
+abbrev pub gray_roots : Parts → List ℕ
+gray_roots p = keys_held p.counted.natives
+
+module _ (p : Parts) (l : IsLinked p) (o : IsInOrder [] (keyed_of p)) where
+  -- WHAT NATIVES HOLD
+  native-names : AreNamesOf p.scripts (gray_roots p) (scripts_held (heap_of p))
+  native-names = record {
+    named = λ k x m e.
+        let f = native-key p.counted.natives k m in
+        Among-flat_map scripts_held_by (named_native p.scripts f.0) x (heap_of p).natives (Among-map (named_native p.scripts) f.0 p.counted.natives f.1)
+        (slots-held (named_native p.scripts f.0) x (named-slot p l f.0 k x f.2 e) (script-named p l k x e));
+    keyed = λ x m.
+        let f = Among-flat_map_cases scripts_held_by (heap_of p).natives x m in
+        let g = Among-map_cases (named_native p.scripts) p.counted.natives f.0 f.1 in
+        let quiet : g.0.preserved ≡ false = o.unpreserved (named_native p.scripts g.0) (Among-map (named_native p.scripts) g.0 p.counted.natives g.1) in
+        let h = held-in_slots (named_native p.scripts g.0) x quiet (subst (λ n. Among x (scripts_held_by n)) (sym g.2) f.2) in
+        let k = slot-named p l g.0 x g.1 h.0 h.1 in
+        (k.0, key-native p.counted.natives g.0 k.0 g.1 k.1, k.2);
+  }
+
+  -- what is black has a name of a script object that is there
+  black-there : (x : Name) → Among x (black_names (heap_of p)) → (q : Object) × Among q p.scripts × (q.name ≡ x)
+  black-there x m =
+      let w : IsWellFormed (heap_of p) = o.sound.well_formed in
+      let there : Among x (script_names (heap_of p)) =
+      derived-within (contents (heap_of p).script_registers) (slots_of_scripts (heap_of p)) [] (λ y. Among y (script_names (heap_of p)))
+      w.script_registers
+      (λ y z i before.
+      let f = Among-flat_map_cases script_slot_edges (heap_of p).scripts (y, z) i in
+      let g = Among-map_cases (from_to f.0.name) (contents f.0.slots) (y, z) f.2 in
+      w.script_contents f.0 z f.1 (subst (λ u. Among u (contents f.0.slots)) (ap (λ (e : Name × Name). e.1) g.2) g.1))
+      (λ ps v i. absurd i) x
+      (closure-derived same_name same_name-exact (black_rules (heap_of p)) x m) in
+      let f = Among-map_cases (λ (q : HeapScript). q.name) (heap_of p).scripts x there in
+      let g = Among-map_cases (named_object p.scripts) p.scripts f.0 f.1 in
+      (g.0, g.1, ap (λ (q : HeapScript). q.name) g.2 ∙ f.2)
+
+  -- an object is black by its key where it is black by its name
+  pub black-alike : (q : Object) → Among q p.scripts → has ◌==◌ (black_keys p.scripts (black_roots p)) q.key ≡ has same_name (black_names (heap_of p)) q.name
+  black-alike = reached-alike_from p.scripts l.one_key l.one_name (black_roots p) (contents (heap_of p).script_registers) (register-names p l)
+
+  -- WHAT IS BLACK
+  black_names-names : AreNamesOf p.scripts (black_keys p.scripts (black_roots p)) (black_names (heap_of p))
+  black_names-names = record {
+    named = λ k x m e.
+        let f = name_at-found p.scripts k x e in
+        let by_key : has ◌==◌ (black_keys p.scripts (black_roots p)) f.0.key ≡ true =
+        has-there ◌==◌ number-exact (black_keys p.scripts (black_roots p)) f.0.key (subst (λ j. Among j (black_keys p.scripts (black_roots p))) (sym f.2) m) in
+        subst (λ y. Among y (black_names (heap_of p))) f.3
+        (has-among same_name same_name-exact (black_names (heap_of p)) f.0.name (sym (black-alike f.0 f.1) ∙ by_key));
+    keyed = λ x m.
+        let f = black-there x m in
+        let by_name : has same_name (black_names (heap_of p)) f.0.name ≡ true =
+        has-there same_name same_name-exact (black_names (heap_of p)) f.0.name (subst (λ y. Among y (black_names (heap_of p))) (sym f.2) m) in (
+          f.0.key,
+          has-among ◌==◌ number-exact (black_keys p.scripts (black_roots p)) f.0.key (black-alike f.0 f.1 ∙ by_name),
+          name_at-own p.scripts l.one_key f.0 f.1 ∙ ap (λ y. Some y) f.2,
+        );
+  }
+
+  -- and it is marked by its key where it is marked by its name
+  pub marked-alike : (q : Object) → Among q p.scripts →
+      has ◌==◌ (marked_keys p.scripts (black_roots p) (gray_roots p)) q.key ≡ has same_name (marked_names (heap_of p)) q.name
+  marked-alike = reached-alike_from p.scripts l.one_key l.one_name (black_keys p.scripts (black_roots p) ++ gray_roots p) (black_names (heap_of p) ++ scripts_held (heap_of p))
+      (AreNamesOf-append p.scripts (black_keys p.scripts (black_roots p)) (gray_roots p) (black_names (heap_of p)) (scripts_held (heap_of p)) black_names-names native-names)

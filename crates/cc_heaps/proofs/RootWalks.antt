@@ -1,0 +1,178 @@
+-- THE WALKS OVER ROOTS: over registers, over the slots of a native, and over natives by rising number.
+use Rattle.std.proofs.Common.{◌≡◌, ℕ, suc, ◌+◌, ◌<◌, ◌≤◌, ◌&&◌, Bool, true, false, List, [], ◌∷◌, ◌++◌, drop, get_or, length, map, nat_lt, Option, Some, None, IfSome, IsSome, refl, sym, ◌∙◌, ap, subst, inl, arith}
+use Rattle.std.specs.List.{filter}
+use Rattle.std.specs.Option.{option_and_then, option_map}
+use Rattle.std.proofs.Math.Bool.{and-false}
+use Rattle.std.proofs.Math.Path.{fun_ext}
+use Rattle.std.proofs.lemmas.Bool.{ltb-true, lt-ltb, le-ltb}
+use Rattle.std.proofs.lemmas.List.{at_drop_more, drop_all}
+use Rattle.cc_lists.specs.Members.{Among}
+use Rattle.cc_lists.proofs.Members.{Among-map, Among-filtered, Among-passes}
+use Rattle.cc_lists.proofs.Searching.{filter-map, filter-true, filter-filter}
+use Rattle.cc_lists.proofs.Filtering.{filter-each}
+use Rattle.cc_names.specs.declared.number.NKey.{NKey}
+use Rattle.cc_names.specs.declared.number.SKey.{SKey}
+use Rattle.cc_names.specs.Names.{native}
+use Rattle.cc_model.specs.Heap.{HeapNative, native_at}
+use Rattle.cc_model.specs.WellFormed.{IsRising}
+use Rattle.cc_model.specs.Slots.{Slots}
+use Rattle.cc_laws_heap.proofs.Rising.{IsRising-filter, IsRising-first}
+use Rattle.cc_laws_heap.proofs.Natives.{IsRising-distinct, native_at-member}
+use Rattle.cc_counted.specs.declared.held.Held.{Held}
+use Rattle.cc_counted.specs.declared.held.Held.TheVariants as held
+use Rattle.cc_counted.specs.Counts.{Counts, number_at, the_number, number_or_none, name_of, heap_of, slots_at, slots_of, first_number, number_after}
+use Rattle.cc_counted.specs.Owning.{HasKeys}
+use Rattle.cc_heaps.specs.Holders.{is_above}
+use Rattle.cc_heaps.specs.Roots.{keys_in_registers, keys_in, keys_held, natives_behind, keys_from, IsPlace}
+
+-- Registers
+
+-- register i, and those behind it
+pub keys_in_registers-more : (xs : List (Option SKey)) (i : ℕ) (x : Option SKey) → i < length xs → get_or xs i None ≡ x →
+    keys_in_registers (drop i xs) ≡ keys_in_registers (x ∷ drop (i + 1) xs)
+keys_in_registers-more xs i x h e = at_drop_more keys_in_registers xs i None h ∙ ap (λ y. keys_in_registers (y ∷ drop (i + 1) xs)) e
+
+-- no register is left
+pub keys_in_registers-end : (xs : List (Option SKey)) (i : ℕ) → length xs ≤ i → keys_in_registers (drop i xs) ≡ []
+keys_in_registers-end xs i h = ap keys_in_registers (drop_all i xs h)
+
+-- Slots of a native
+
+-- the key of what a slot holds
+abbrev pub key_of_held : Option Held → List ℕ
+key_of_held None = []
+key_of_held (Some (held.Native key)) = []
+key_of_held (Some (held.Script key)) = key.0 ∷ []
+
+-- the first slot, and those behind it
+keys_in-cons : (c : Counts) (x : Option Held) (ys : Slots) → keys_in (name_of c x ∷ ys) ≡ key_of_held x ++ keys_in ys
+keys_in-cons c None ys = refl
+keys_in-cons c (Some (held.Script key)) ys = refl
+keys_in-cons c (Some (held.Native key)) ys = go (number_at c key.0)
+  where
+    go : (o : Option ℕ) → keys_in (option_map native o ∷ ys) ≡ keys_in ys
+    go None = refl
+    go (Some k) = refl
+
+-- slot i, and those behind it
+pub keys_in-more : (c : Counts) (xs : Slots) (i : ℕ) (x : Option Held) → i < length xs → name_of c x ≡ get_or xs i None →
+    keys_in (drop i xs) ≡ key_of_held x ++ keys_in (drop (i + 1) xs)
+keys_in-more c xs i x h e =
+    at_drop_more keys_in xs i None h ∙ (ap (λ y. keys_in (y ∷ drop (i + 1) xs)) (sym e) ∙ keys_in-cons c x (drop (i + 1) xs))
+
+-- no slot is left
+pub keys_in-end : (xs : Slots) (i : ℕ) → length xs ≤ i → keys_in (drop i xs) ≡ []
+keys_in-end xs i h = ap keys_in (drop_all i xs h)
+
+-- Natives by rising number
+
+abbrev numbers_of : List HeapNative → List ℕ
+numbers_of ns = map (λ n. n.number) ns
+
+-- the natives above a number, of all where there is none
+abbrev natives_above : Counts → Option ℕ → List HeapNative
+natives_above c o = filter (λ n. is_above o n.number) c.natives
+
+-- what is above something that is above is above
+above-more : (o : Option ℕ) (i j : ℕ) → is_above o i ≡ true → i < j → is_above o j ≡ true
+above-more None i j e h = refl
+above-more (Some k) i j e h = let below : k < i = ltb-true k i e in lt-ltb k j (omega arith)
+
+-- what is above both is what is above the greater one
+above-both : (o : Option ℕ) (i j : ℕ) → is_above o i ≡ true → (is_above o j && nat_lt i j) ≡ nat_lt i j
+above-both o i j e = go (nat_lt i j) refl
+  where
+    go : (b : Bool) → nat_lt i j ≡ b → (is_above o j && b) ≡ b
+    go true h = rw (above-more o i j e (ltb-true i j h)) refl
+    go false h = and-false (is_above o j)
+
+-- the natives above the first of some that are above a number are those behind it
+natives-behind_first : (c : Counts) → HasKeys c → (o : Option ℕ) (n : HeapNative) (ns : List HeapNative) → natives_above c o ≡ n ∷ ns →
+    filter (λ m. nat_lt n.number m.number) c.natives ≡ ns
+natives-behind_first c k o n ns e =
+    sym (ap (λ t. filter t c.natives) (fun_ext (λ (m : HeapNative). above-both o n.number m.number first)))
+    ∙ (sym (filter-filter later above c.natives) ∙ (ap (filter later) e ∙ (rw self (filter-each later ns behind))))
+  where
+    above : HeapNative → Bool
+    above m = is_above o m.number
+
+    later : HeapNative → Bool
+    later m = nat_lt n.number m.number
+
+    first : is_above o n.number ≡ true
+    first = Among-passes above n c.natives (subst (Among n) (sym e) (inl refl))
+
+    rising : IsRising (numbers_of (n ∷ ns))
+    rising = subst IsRising (filter-map (is_above o) (λ (m : HeapNative). m.number) c.natives ∙ ap numbers_of e)
+        (IsRising-filter (is_above o) (numbers_of c.natives) k.rising)
+
+    self : nat_lt n.number n.number ≡ false
+    self = le-ltb n.number n.number (omega arith)
+
+    behind : (m : HeapNative) → Among m ns → later m ≡ true
+    behind m i = lt-ltb n.number m.number
+        (IsRising-first n.number (numbers_of ns) rising m.number (Among-map (λ (m : HeapNative). m.number) m ns i))
+
+-- a key that is that of a number
+abbrev pub IsNext : Counts → Option NKey → Option ℕ → Type 0
+IsNext c at k = option_and_then (λ (key : NKey). number_at c key.0) at ≡ k
+
+abbrev pub IsThere : Counts → Option NKey → Type 0
+IsThere c at = IfSome at (λ (key : NKey). IsSome (number_at c key.0))
+
+-- how many natives are left from a key on
+abbrev pub natives_left : Counts → Option NKey → ℕ
+natives_left c None = 0
+natives_left c (Some key) = suc (length (natives_behind c key.0))
+
+-- The walk comes to the natives above a number, of which it stands at the first.
+record Comes (c : Counts) (at : Option NKey) (ns : List HeapNative) : Type 0 where
+  keys : keys_from c at 0 ≡ keys_held ns
+  left : natives_left c at ≡ length ns
+
+comes : (c : Counts) → HasKeys c → (o : Option ℕ) (at : Option NKey) → IsNext c at (first_number (natives_above c o)) → IsThere c at → Comes c at (natives_above c o)
+comes c k o at = go at (natives_above c o) refl
+  where
+    go : (at : Option NKey) (ns : List HeapNative) → natives_above c o ≡ ns → IsNext c at (first_number ns) → IsThere c at → Comes c at ns
+    go None [] e first there = record { keys = refl; left = refl }
+    go None (n ∷ ns) e first there = absurd (cc)
+    go (Some key) [] e first there = absurd (cc)
+    go (Some key) (n ∷ ns) e first there =
+        let named : the_number c key.0 ≡ n.number = ap number_or_none first in
+        let member : Among n c.natives = Among-filtered (λ (m : HeapNative). is_above o m.number) n c.natives (subst (Among n) (sym e) (inl refl)) in
+        let slots : slots_of c key.0 ≡ n.slots =
+        ap (λ j. slots_at (native_at (heap_of c) j)) named ∙ ap slots_at (native_at-member (heap_of c) (IsRising-distinct (heap_of c) k.rising) n member) in
+        let behind : natives_behind c key.0 ≡ ns =
+        ap (λ j. filter (λ (m : HeapNative). nat_lt j m.number) c.natives) named ∙ natives-behind_first c k o n ns e in
+        record { keys = λ i. keys_in (slots i) ++ keys_held (behind i); left = ap (λ ms. suc (length ms)) behind }
+
+-- all natives are above none
+natives_above-none : (c : Counts) → natives_above c None ≡ c.natives
+natives_above-none c = filter-true (λ (n : HeapNative). true) c.natives (λ n. refl)
+
+-- The walk begins at the first native.
+pub begins : (c : Counts) → HasKeys c → (at : Option NKey) → IsNext c at (first_number c.natives) → IsThere c at → keys_from c at 0 ≡ keys_held c.natives
+begins c k at first there =
+    (comes c k None at (first ∙ ap first_number (sym (natives_above-none c))) there).keys ∙ ap keys_held (natives_above-none c)
+
+-- the next native comes behind one that is there: with it fewer are left
+pub record GoesOn (c : Counts) (key : NKey) (at : Option NKey) : Type 0 where
+  pub keys : keys_from c at 0 ≡ keys_held (natives_behind c key.0)
+  pub fewer : natives_left c at < natives_left c (Some key)
+
+pub goes_on : (c : Counts) → HasKeys c → (key : NKey) (at : Option NKey) → IsNext c at (number_after c (the_number c key.0)) → IsThere c at → GoesOn c key at
+goes_on c k key at next there =
+    let f = comes c k (Some (the_number c key.0)) at next there in
+    record { keys = f.keys; fewer = omega (arith, f.left) }
+
+-- the front of the slots of a native is a place, as long as it is there
+pub IsPlace-front : (c : Counts) → HasKeys c → (at : Option NKey) → IsThere c at → IsPlace c at 0
+IsPlace-front c k at there = record { keyed = k; there = there; within = front at }
+  where
+    front : (at : Option NKey) → IfSome at (λ key. 0 ≤ length (slots_of c key.0))
+    front None = tt
+    front (Some key) = omega arith
+
+-- where no slot holds a key any more, those that are left stand behind the native
+pub keys_from-behind : (c : Counts) (key : NKey) (i : ℕ) → keys_in (drop i (slots_of c key.0)) ≡ [] → keys_from c (Some key) i ≡ keys_held (natives_behind c key.0)
+keys_from-behind c key i e = ap (λ ks. ks ++ keys_held (natives_behind c key.0)) e

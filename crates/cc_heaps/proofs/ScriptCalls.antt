@@ -1,0 +1,279 @@
+-- WHAT CALLS DO TO SCRIPT OBJECTS AND SCRIPT REGISTERS: an exposure, a slot written, a register written, an object made.
+use Rattle.std.proofs.Common.{◌≡◌, ℕ, zero, suc, ◌+◌, ◌<◌, ◌≤◌, Bool, true, false, cond, List, [], ◌∷◌, ◌++◌, map, replicate, Option, Some, None, option_map, is_some, refl, sym, ◌∙◌, ap, subst, ⊎_elim, arith, count_by, ◌==◌}
+use Rattle.std.specs.Prelude.{IsTrue, slice_set}
+use Rattle.std.specs.Option.{option_or}
+use Rattle.std.specs.Vec.{with_item}
+use Rattle.std.proofs.lemmas.Bool.{eqb-true, eq-eqb, true≢false}
+use Rattle.std.proofs.lemmas.List.{length-replicate, length-set, map-set, map_push}
+use Rattle.std.proofs.lemmas.List.Folds.{find-append}
+use Rattle.cc_lists.specs.Members.{Among}
+use Rattle.cc_lists.proofs.Members.{Among-map}
+use Rattle.cc_lists.proofs.Counting.{count_by-append, count_by-cons}
+use Rattle.cc_lists.proofs.CountsOf.{count_by-none}
+use Rattle.cc_lists.proofs.ListWrites.{each-push, Among-set_cases, map-agree}
+use Rattle.cc_names.specs.declared.name.Name.{Name}
+use Rattle.cc_names.specs.declared.number.SKey.{SKey}
+use Rattle.cc_names.specs.declared.register.Reg.TheVariants.{S as s_register}
+use Rattle.cc_names.specs.declared.kind.Kind.TheVariants.{Plain}
+use Rattle.cc_names.specs.declared.kind.Colour.TheVariants.{Black}
+use Rattle.cc_names.specs.Names.{object, is_native}
+use Rattle.cc_model.specs.Slots.{empty_slots}
+use Rattle.cc_model.specs.Heap.{Heap, HeapScript, set_register, set_slot}
+use Rattle.cc_model.specs.Effects.{with_object}
+use Rattle.cc_model.specs.Exposure.{exposed}
+use Rattle.cc_model.specs.WellFormed.{script_names}
+use Rattle.cc_laws_heap.specs.Sound.{IsSound}
+use Rattle.cc_laws_heap.proofs.Owning.{IsIn}
+use Rattle.cc_laws_heap.proofs.Writes.{script_register-sound}
+use Rattle.cc_laws_heap.proofs.MadeSound.{with_script-sound}
+use Rattle.cc_laws_heap.proofs.ScriptsKept.{exposed-sound, script_slot-sound}
+use Rattle.cc_laws_heap.proofs.ScriptCommands.{blank, IsNewScript-object}
+use Rattle.cc_script.specs.Objects.{Object, AreWhole, change_object, is_there, name_at, object_at, plain_object, raised_among, with_slot}
+use Rattle.cc_script.specs.Walking.{keys_reached}
+use Rattle.cc_heaps.specs.Keyed.{IsInOrder, name_held, named_object, named_objects}
+use Rattle.cc_heaps.specs.Changes.{IsScriptThere, KeepsKeys, script_name}
+use Rattle.cc_heaps.specs.Parts.{script_named, IsScriptLive, heap_of, keyed_of, IsLinked}
+use Rattle.cc_heaps.specs.declared.parts.Parts.{Parts}
+use Rattle.cc_heaps.proofs.Reaching.{HasOneKey, object_at-own, name_at-found}
+use Rattle.cc_heaps.proofs.ScriptsChanged.{KeepsNames, KeepsNames-there, KeepsNames-same, there-named, with_objects, with_named, heap-objects, keys-objects, linked-objects, order-objects}
+use Rattle.cc_heaps.proofs.ScriptWrites.{KeepsObjects, KeepsNames-written, one_key-written, plain-written, raise_among, KeepsObjects-raised, whole-raised, exposed-named, write_slot, KeepsObjects-slot, whole-slot, slot-named}
+
+-- the second parts hold these heaps, fit together and are in order, and what is there keeps its key and its name
+pub record Becomes (p q : Parts) (h : Heap) : Type 0 where
+  pub heap : heap_of q ≡ h
+  pub names : KeepsNames p.scripts q.scripts
+  pub keys : KeepsKeys (keyed_of p) (keyed_of q)
+  pub order : IsInOrder [] (keyed_of q)
+  pub linked : IsLinked q
+
+-- the name of what is there is the name of a script object
+pub name-among : (p : Parts) (key : ℕ) (x : Name) → name_at p.scripts key ≡ Some x → Among x (script_names (heap_of p))
+name-among p key x e =
+    let f = name_at-found p.scripts key x e in
+    subst (λ y. Among y (script_names (heap_of p))) f.3
+    (Among-map (λ (o : HeapScript). o.name) (named_object p.scripts f.0) (named_objects p.scripts) (Among-map (named_object p.scripts) f.0 p.scripts f.1))
+
+content-among : (p : Parts) (x : Option SKey) → IsScriptThere (keyed_of p) x → IsIn (script_names (heap_of p)) (script_name (keyed_of p) x)
+content-among p None t = λ y m. absurd m
+content-among p (Some key) t =
+    let n = there-named p.scripts key.0 t in
+    subst (λ z. IsIn (script_names (heap_of p)) z) (sym n.1) (λ y m. ⊎_elim (λ e. subst (λ z. Among z (script_names (heap_of p))) e (name-among p key.0 n.0 n.1)) (λ t. absurd t) m)
+
+-- what comes in keeps its name, and is there still
+pub content-kept : (p q : Parts) → KeepsNames p.scripts q.scripts → (x : Option SKey) → IsScriptThere (keyed_of p) x →
+    (script_name (keyed_of q) x ≡ script_name (keyed_of p) x) × IsScriptThere (keyed_of q) x
+content-kept p q kept None t = (refl, t)
+content-kept p q kept (Some key) t = (KeepsNames-same p.scripts q.scripts kept key.0 t, KeepsNames-there p.scripts q.scripts kept key.0 t)
+
+-- nothing comes in: nothing is exposed
+pub nothing-exposed : (p : Parts) (x : Option SKey) → ((key : SKey) → x ≡ Some key → ⊥) → exposed (heap_of p) (script_name (keyed_of p) x) ≡ heap_of p
+unfolding exposed
+nothing-exposed p None none = refl
+nothing-exposed p (Some key) none = absurd (none key refl)
+
+module _ (p : Parts) (l : IsLinked p) (o : IsInOrder [] (keyed_of p)) where
+  -- other script objects, as the definitions change them
+  becomes : (objects : List Object) (made : ℕ) (h : Heap) → KeepsNames p.scripts objects → with_named (heap_of p) objects made ≡ h → IsSound [] h →
+      HasOneKey objects → AreWhole objects → ((s : HeapScript) → Among s (named_objects objects) → s.kind ≡ Plain) → Becomes p (with_objects p objects made) h
+  becomes objects made h kept e s one whole plain =
+      let sound : IsSound [] (with_named (heap_of p) objects made) = subst (IsSound []) (sym e) s in record {
+        heap = heap-objects p objects made kept l ∙ e;
+        names = kept;
+        keys = keys-objects p objects made kept l;
+        order = order-objects p objects made kept l [] sound one whole plain o;
+        linked = linked-objects p objects made kept l [] sound one;
+      }
+
+  -- each object written
+  becomes-written : (f : Object → Object) → KeepsObjects f → (h : Heap) → with_named (heap_of p) (map f p.scripts) p.scripts_made ≡ h → IsSound [] h →
+      AreWhole (map f p.scripts) → Becomes p (with_objects p (map f p.scripts) p.scripts_made) h
+  becomes-written f keeps h e s whole = becomes (map f p.scripts) p.scripts_made h (KeepsNames-written f keeps p.scripts) e s
+      (one_key-written f keeps p.scripts l.one_key) whole (plain-written f keeps p.scripts o.plain)
+
+  -- AN EXPOSURE
+  pub becomes-exposed : (key : ℕ) → IsTrue (is_there p.scripts key) → (objects : List Object) → objects ≡ raised_among (keys_reached p.scripts (key ∷ [])) Black p.scripts →
+      Becomes p (with_objects p objects p.scripts_made) (exposed (heap_of p) (name_at p.scripts key))
+  becomes-exposed key t objects e =
+      let n = there-named p.scripts key t in
+      subst (λ os. Becomes p (with_objects p os p.scripts_made) (exposed (heap_of p) (name_at p.scripts key))) (sym e)
+      (becomes-written (raise_among (keys_reached p.scripts (key ∷ []))) (KeepsObjects-raised (keys_reached p.scripts (key ∷ []))) (exposed (heap_of p) (name_at p.scripts key))
+      (exposed-named p.scripts l.one_key l.one_name key n.0 n.1 (heap_of p) ∙ ap (exposed (heap_of p)) (sym n.1))
+      (exposed-sound [] (heap_of p) (name_at p.scripts key) o.sound)
+      (whole-raised (keys_reached p.scripts (key ∷ [])) p.scripts o.whole))
+
+  -- of what comes into a register
+  pub content-exposed : (content : Option SKey) (key : SKey) → content ≡ Some key → IsScriptThere (keyed_of p) content → (objects : List Object) →
+      objects ≡ raised_among (keys_reached p.scripts (key.0 ∷ [])) Black p.scripts →
+      Becomes p (with_objects p objects p.scripts_made) (exposed (heap_of p) (script_name (keyed_of p) content))
+  content-exposed content key is there objects e = subst (λ x. Becomes p (with_objects p objects p.scripts_made) (exposed (heap_of p) (script_name (keyed_of p) x))) (sym is)
+      (becomes-exposed key.0 (subst (λ x. IsScriptThere (keyed_of p) x) is there) objects e)
+
+  -- A SLOT WRITTEN
+  pub becomes-slot : (key i : ℕ) (item : Option SKey) → IsTrue (is_there p.scripts key) → IsScriptThere (keyed_of p) item → (objects : List Object) →
+      objects ≡ change_object p.scripts key (with_slot i (option_map (λ k. k.0) item)) →
+      Becomes p (with_objects p objects p.scripts_made) (set_slot (heap_of p) (name_at p.scripts key) i (script_name (keyed_of p) item))
+  becomes-slot key i item t there objects e =
+      let n = there-named p.scripts key t in
+      let f = name_at-found p.scripts key n.0 n.1 in
+      subst (λ os. Becomes p (with_objects p os p.scripts_made) (set_slot (heap_of p) (name_at p.scripts key) i (script_name (keyed_of p) item))) (sym e)
+      (becomes-written (write_slot key i (option_map (λ k. k.0) item)) (KeepsObjects-slot key i (option_map (λ k. k.0) item))
+      (set_slot (heap_of p) (name_at p.scripts key) i (script_name (keyed_of p) item))
+      (slot-named p.scripts l.one_key l.one_name key n.0 n.1 (subst (λ x. is_native x ≡ false) f.3 (l.script_names f.0 f.1)) i (option_map (λ k. k.0) item) (heap_of p)
+      ∙ (λ j. set_slot (heap_of p) (sym n.1 j) i (content item j)))
+      (script_slot-sound [] (heap_of p) (name_at p.scripts key) i (script_name (keyed_of p) item)
+      (subst (λ z. IsIn (script_names (heap_of p)) z) (sym n.1)
+      (λ y m. ⊎_elim (λ e. subst (λ z. Among z (script_names (heap_of p))) e (name-among p key n.0 n.1)) (λ t. absurd t) m))
+      (content-among p item there) o.sound)
+      (whole-slot p.scripts key i (option_map (λ k. k.0) item) o.whole (item-there item there)))
+    where
+      content : (x : Option SKey) → name_held p.scripts (option_map (λ k. k.0) x) ≡ script_name (keyed_of p) x
+      content None = refl
+      content (Some k) = refl
+
+      item-there : (x : Option SKey) → IsScriptThere (keyed_of p) x → (q : ℕ) → option_map (λ (k : SKey). k.0) x ≡ Some q → IsTrue (is_there p.scripts q)
+      item-there None t q e = absurd (cc)
+      item-there (Some k) t q e = let same : k.0 ≡ q = cc in subst (λ j. IsTrue (is_there p.scripts j)) same t
+
+  -- A SCRIPT REGISTER WRITTEN
+  abbrev pub with_register : ℕ → Option SKey → Parts
+  with_register r content = record p { script_registers = with_item p.script_registers r content }
+
+  register-same : (content : Option SKey) → script_named p.scripts content ≡ script_name (keyed_of p) content
+  register-same None = refl
+  register-same (Some key) = refl
+
+  pub becomes-register : (r : ℕ) (content : Option SKey) → IsScriptThere (keyed_of p) content →
+      Becomes p (with_register r content) (set_register (heap_of p) (s_register r) (script_name (keyed_of p) content))
+  becomes-register r content there = record {
+    heap = registers;
+    names = λ key x e. e;
+    keys = record { natives = λ key k e m. e; scripts = λ key x e m. e };
+    order = record {
+      sound = subst (IsSound []) (sym registers) (script_register-sound [] (heap_of p) r (script_name (keyed_of p) content) (content-among p content there) o.sound);
+      keyed = o.keyed;
+      named = refl;
+      one_key = o.one_key;
+      whole = o.whole;
+      limits = o.limits;
+      plain = o.plain;
+      unpreserved = o.unpreserved;
+      no_entries = refl;
+    };
+    linked = record {
+      native_registers = l.native_registers;
+      script_registers = λ x m. ⊎_elim
+          (λ e. subst (λ y. IsScriptLive p.scripts y) e (live content there))
+          (λ t. l.script_registers x t)
+          (Among-set_cases p.script_registers.items r content x m);
+      registers = (l.registers.0, length-set p.script_registers.items r content ∙ l.registers.1);
+      held = l.held;
+      one_key = l.one_key;
+      one_name = l.one_name;
+      script_names = l.script_names;
+    };
+  }
+    where
+      registers : heap_of (with_register r content) ≡ set_register (heap_of p) (s_register r) (script_name (keyed_of p) content)
+      registers = ap (λ slots. record (heap_of p) { script_registers = slots })
+          (map-set (script_named p.scripts) p.script_registers.items r content
+          ∙ ap (slice_set (map (script_named p.scripts) p.script_registers.items) r) (register-same content))
+
+      live : (x : Option SKey) → IsScriptThere (keyed_of p) x → IsScriptLive p.scripts x
+      live None t = t
+      live (Some key) t = t
+
+-- An object made
+
+-- empty slots, by keys
+abbrev empty_keys : ℕ → List (Option ℕ)
+empty_keys n = replicate n None
+
+-- they hold no key
+none-held : (n q : ℕ) → ¬ (Among (Some q) (empty_keys n))
+none-held zero q = λ m. m
+none-held (suc n) q = λ m. ⊎_elim (λ e. absurd (cc)) (λ t. none-held n q t) m
+
+empty-named : (objects : List Object) (n : ℕ) → map (name_held objects) (replicate n None) ≡ empty_slots n
+empty-named objects zero = refl
+empty-named objects (suc n) = ap (λ slots. None ∷ slots) (empty-named objects n)
+
+module _ (objects : List Object) (one : HasOneKey objects) (whole : AreWhole objects) (key number n : ℕ) (vacant : is_there objects key ≡ false) where
+  -- with one more
+  abbrev pub made_last : List Object
+  made_last = objects ++ plain_object key number n ∷ []
+
+  found-last : (k : ℕ) → object_at made_last k ≡ option_or (object_at objects k) (object_at (plain_object key number n ∷ []) k)
+  found-last k = find-append (λ o. o.key == k) objects (plain_object key number n ∷ [])
+
+  pub KeepsNames-made : KeepsNames objects made_last
+  KeepsNames-made k x e = ap (λ (o : Option Object). option_map (λ p. p.name) o) (found-last k) ∙ go (object_at objects k) e
+    where
+      go : (o : Option Object) → option_map (λ p. p.name) o ≡ Some x → option_map (λ p. p.name) (option_or o (object_at (plain_object key number n ∷ []) k)) ≡ Some x
+      go None f = absurd (cc)
+      go (Some o) f = f
+
+  -- it is what stands at its key
+  pub name_at-made : name_at made_last key ≡ Some (object number)
+  name_at-made = ap (λ (o : Option Object). option_map (λ p. p.name) o) (found-last key) ∙ go (object_at objects key) vacant
+    where
+      here : object_at (plain_object key number n ∷ []) key ≡ Some (plain_object key number n)
+      here = rw (eq-eqb key key refl) refl
+
+      go : (o : Option Object) → is_some o ≡ false → option_map (λ p. p.name) (option_or o (object_at (plain_object key number n ∷ []) key)) ≡ Some (object number)
+      go None f = ap (λ (o : Option Object). option_map (λ p. p.name) o) here
+      go (Some o) f = absurd (true≢false f)
+
+  one_key-made : HasOneKey made_last
+  one_key-made k = go (key == k) refl
+    where
+      last : (b : Bool) → (key == k) ≡ b → count_by (λ o. o.key == k) made_last ≡ count_by (λ o. o.key == k) objects + cond b 1 0
+      last b e = rw (count_by-append (λ (o : Object). o.key == k) objects (plain_object key number n ∷ []), count_by-cons (λ (o : Object). o.key == k) (plain_object key number n) [], e) (omega arith)
+
+      other : (key == k) ≡ true → (o : Object) → Among o objects → (o.key == k) ≡ false
+      other e o m = go (o.key == k) refl
+        where
+          go : (b : Bool) → (o.key == k) ≡ b → b ≡ false
+          go false f = refl
+          go true f =
+              let same : o.key ≡ key = eqb-true o.key k f ∙ sym (eqb-true key k e) in
+              let there : is_there objects key ≡ true = subst (λ j. is_there objects j ≡ true) same (ap is_some (object_at-own objects one o m)) in
+              absurd (true≢false (sym there ∙ vacant))
+
+      go : (b : Bool) → (key == k) ≡ b → count_by (λ o. o.key == k) made_last ≤ 1
+      go true e = omega (arith, last true e, count_by-none (λ (o : Object). o.key == k) objects (other e))
+      go false e = omega (arith, last false e, one k)
+
+  whole-made : AreWhole made_last
+  whole-made o q m = each-push (λ o. Among (Some q) o.slots → IsTrue (is_there made_last q)) objects (plain_object key number n)
+      (λ o i s. KeepsNames-there objects made_last KeepsNames-made q (whole o q i s)) (λ s. absurd (none-held n q s)) o m
+
+  -- by names it goes last too
+  named-made : named_objects made_last ≡ named_objects objects ++ blank (object number) Plain n ∷ []
+  named-made = map_push (named_object made_last) objects (plain_object key number n)
+      ∙ (λ i. map-agree (named_object made_last) (named_object objects) objects same i ++ record { name = object number; kind = Plain; slots = empty-named made_last n i; colour = Black } ∷ [])
+    where
+      at : (o : Object) → Among o objects → (x : Option ℕ) → Among x o.slots → name_held made_last x ≡ name_held objects x
+      at o m None i = refl
+      at o m (Some q) i = KeepsNames-same objects made_last KeepsNames-made q (whole o q m i)
+
+      same : (o : Object) → Among o objects → named_object made_last o ≡ named_object objects o
+      same o m = ap (λ slots. record (named_object objects o) { slots = slots }) (map-agree (name_held made_last) (name_held objects) o.slots (at o m))
+
+  plain-made : ((s : HeapScript) → Among s (named_objects objects) → s.kind ≡ Plain) → (s : HeapScript) → Among s (named_objects made_last) → s.kind ≡ Plain
+  plain-made plain = subst (λ ss. (s : HeapScript) → Among s ss → s.kind ≡ Plain) (sym named-made)
+      (each-push (λ s. s.kind ≡ Plain) (named_objects objects) (blank (object number) Plain n) plain refl)
+
+-- AN OBJECT MADE
+pub becomes-made : (p : Parts) (l : IsLinked p) (o : IsInOrder [] (keyed_of p)) (key n : ℕ) → is_there p.scripts key ≡ false → n ≤ 64 → p.scripts_made < p.limits.scripts →
+    (objects : List Object) → objects ≡ p.scripts ++ plain_object key (p.scripts_made + 1) n ∷ [] →
+    Becomes p (with_objects p objects (p.scripts_made + 1)) (with_object (heap_of p) Plain n)
+becomes-made p l o key n vacant few room objects e =
+    subst (λ os. Becomes p (with_objects p os (p.scripts_made + 1)) (with_object (heap_of p) Plain n)) (sym e)
+    (becomes p l o (made_last p.scripts l.one_key o.whole key (p.scripts_made + 1) n vacant) (p.scripts_made + 1) (with_object (heap_of p) Plain n)
+    (KeepsNames-made p.scripts l.one_key o.whole key (p.scripts_made + 1) n vacant)
+    (ap (λ scripts. record (heap_of p) { scripts = scripts; scripts_made = p.scripts_made + 1 }) (named-made p.scripts l.one_key o.whole key (p.scripts_made + 1) n vacant))
+    (with_script-sound [] (heap_of p) (blank (object (p.scripts_made + 1)) Plain n) (p.scripts_made + 1)
+    (IsNewScript-object (heap_of p) Plain n o.sound.well_formed (subst (λ i. i ≤ 64) (sym (length-replicate n None)) few) room) o.sound)
+    (one_key-made p.scripts l.one_key o.whole key (p.scripts_made + 1) n vacant)
+    (whole-made p.scripts l.one_key o.whole key (p.scripts_made + 1) n vacant)
+    (plain-made p.scripts l.one_key o.whole key (p.scripts_made + 1) n vacant o.plain))

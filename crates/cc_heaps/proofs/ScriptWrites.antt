@@ -1,0 +1,210 @@
+-- SCRIPT OBJECTS WRITTEN: each keeps its key, its name and its kind. An exposure and a slot written, by names.
+use Rattle.std.proofs.Common.{◌≡◌, ℕ, ◌≤◌, Bool, true, false, List, [], ◌∷◌, map, Option, Some, None, option_map, refl, sym, ◌∙◌, ap, subst, inl, ⊎_elim, ◌==◌, if◌then◌else◌}
+use Rattle.std.specs.Prelude.{IsTrue}
+use Rattle.std.specs.List.{find}
+use Rattle.std.proofs.Math.Path.{fun_ext}
+use Rattle.std.proofs.lemmas.Bool.{eqb-true, eq-eqb, true≢false}
+use Rattle.std.proofs.lemmas.List.{map-set}
+use Rattle.std.proofs.lemmas.Simd.{map-map}
+use Rattle.cc_lists.specs.Members.{Among, has}
+use Rattle.cc_lists.proofs.Members.{Among-map}
+use Rattle.cc_lists.proofs.Searching.{find-map}
+use Rattle.cc_lists.proofs.ListWrites.{each-map, count_by-kept_map, Among-set_cases, map-agree}
+use Rattle.cc_names.specs.declared.name.Name.{Name}
+use Rattle.cc_names.specs.declared.name.Name.TheVariants as name
+use Rattle.cc_names.specs.declared.kind.Kind.TheVariants.{Plain}
+use Rattle.cc_names.specs.declared.kind.Colour.{Colour}
+use Rattle.cc_names.specs.declared.kind.Colour.TheVariants.{White, Gray, Black}
+use Rattle.cc_names.specs.Names.{same_name, is_native}
+use Rattle.cc_names.proofs.NameTests.{same_name-true, same_name-refl}
+use Rattle.cc_model.specs.Heap.{Heap, HeapScript, change_script, set_slot, with_script_slot}
+use Rattle.cc_model.specs.Exposure.{as_black, exposed, exposed_names}
+use Rattle.cc_script.specs.Objects.{Object, AreWhole, change_object, is_below, is_there, name_at, raised, raised_among, with_colour, with_slot}
+use Rattle.cc_script.specs.Walking.{keys_reached}
+use Rattle.cc_heaps.specs.Keyed.{name_held, named_object, named_objects}
+use Rattle.cc_heaps.proofs.Reaching.{AreNamesOf, HasOneKey, HasOneName, key-named, name_at-own, reached-alike_from, same-tests}
+use Rattle.cc_heaps.proofs.ScriptsChanged.{KeepsNames, KeepsNames-there}
+
+-- an object is written
+pub record KeepsObjects (f : Object → Object) : Type 0 where
+  pub key : (o : Object) → (f o).key ≡ o.key
+  pub name : (o : Object) → (f o).name ≡ o.name
+  pub kind : (o : Object) → (f o).kind ≡ o.kind
+
+module _ (f : Object → Object) (keeps : KeepsObjects f) (objects : List Object) where
+  -- keys have the names that they had
+  pub name_at-written : (key : ℕ) → name_at (map f objects) key ≡ name_at objects key
+  name_at-written key = ap (λ (o : Option Object). option_map (λ p. p.name) o) (find-map (λ p. p.key == key) f objects)
+      ∙ (go (find (λ o. (f o).key == key) objects)
+      ∙ ap (λ (t : Object → Bool). option_map (λ p. p.name) (find t objects)) (fun_ext (λ (o : Object). ap (λ k. k == key) (keeps.key o))))
+    where
+      go : (o : Option Object) → option_map (λ p. p.name) (option_map f o) ≡ option_map (λ p. p.name) o
+      go None = refl
+      go (Some o) = ap (λ x. Some x) (keeps.name o)
+
+  pub KeepsNames-written : KeepsNames objects (map f objects)
+  KeepsNames-written key x e = name_at-written key ∙ e
+
+  -- slots hold the names that they held
+  pub name_held-written : name_held (map f objects) ≡ name_held objects
+  name_held-written = fun_ext at
+    where
+      at : (x : Option ℕ) → name_held (map f objects) x ≡ name_held objects x
+      at None = refl
+      at (Some q) = name_at-written q
+
+  -- by names, where each object is written as its names are
+  pub named-written : (g : HeapScript → HeapScript) → ((o : Object) → Among o objects → named_object objects (f o) ≡ g (named_object objects o)) →
+      named_objects (map f objects) ≡ map g (named_objects objects)
+  named-written g same = map-map (named_object (map f objects)) f objects
+      ∙ (map-agree (λ o. named_object (map f objects) (f o)) (λ o. g (named_object objects o)) objects
+      (λ o m. ap (λ h. record (named_object objects (f o)) { slots = map h (f o).slots }) name_held-written ∙ same o m)
+      ∙ sym (map-map g (named_object objects) objects))
+
+  pub one_key-written : HasOneKey objects → HasOneKey (map f objects)
+  one_key-written one key = subst (λ n. n ≤ 1) (sym (count_by-kept_map (λ o. o.key == key) f objects (λ o. ap (λ k. k == key) (keeps.key o)))) (one key)
+
+  pub plain-written : ((o : HeapScript) → Among o (named_objects objects) → o.kind ≡ Plain) → (o : HeapScript) → Among o (named_objects (map f objects)) → o.kind ≡ Plain
+  plain-written plain = each-map (λ o. o.kind ≡ Plain) (named_object (map f objects)) (map f objects)
+      (each-map (λ o. o.kind ≡ Plain) f objects (λ o m. keeps.kind o ∙ plain (named_object objects o) (Among-map (named_object objects) o objects m)))
+
+  -- slots hold what is there, where each holds what is there before
+  pub whole-written : ((o : Object) (q : ℕ) → Among o objects → Among (Some q) (f o).slots → IsTrue (is_there objects q)) → AreWhole (map f objects)
+  whole-written held o q m = each-map (λ o. Among (Some q) o.slots → IsTrue (is_there (map f objects) q)) f objects
+      (λ o m i. KeepsNames-there objects (map f objects) KeepsNames-written q (held o q m i)) o m
+
+-- An exposure
+
+-- raised to black, an object is black
+raised-black : (o : Object) → raised Black o ≡ with_colour Black o
+raised-black o = go o.colour refl
+  where
+    go : (k : Colour) → o.colour ≡ k → elim (is_below k Black) [ true ↦ with_colour Black o | false ↦ o ] ≡ with_colour Black o
+    go White e = refl
+    go Gray e = refl
+    go Black e = ap (λ k. record o { colour = k }) e
+
+-- the objects at these keys made black
+abbrev pub raise_among : List ℕ → Object → Object
+raise_among keys o = if has ◌==◌ keys o.key then raised Black o else o
+
+raised-keeps : (P : Object → Type 0) (o : Object) → P (with_colour Black o) → P o → P (raised Black o)
+raised-keeps P o black same = subst P (sym (raised-black o)) black
+
+raise-either : (P : Object → Type 0) (keys : List ℕ) (o : Object) → P (with_colour Black o) → P o → P (raise_among keys o)
+raise-either P keys o black same = go (has ◌==◌ keys o.key)
+  where
+    go : (b : Bool) → P (if b then raised Black o else o)
+    go true = raised-keeps P o black same
+    go false = same
+
+pub KeepsObjects-raised : (keys : List ℕ) → KeepsObjects (raise_among keys)
+KeepsObjects-raised keys = record {
+  key = λ o. raise-either (λ p. p.key ≡ o.key) keys o refl refl;
+  name = λ o. raise-either (λ p. p.name ≡ o.name) keys o refl refl;
+  kind = λ o. raise-either (λ p. p.kind ≡ o.kind) keys o refl refl;
+}
+
+pub whole-raised : (keys : List ℕ) (objects : List Object) → AreWhole objects → AreWhole (map (raise_among keys) objects)
+whole-raised keys objects whole = whole-written (raise_among keys) (KeepsObjects-raised keys) objects
+    (λ o q m. raise-either (λ p. Among (Some q) p.slots → IsTrue (is_there objects q)) keys o (whole o q m) (whole o q m))
+
+module _ (objects : List Object) (one_key : HasOneKey objects) (one_name : HasOneName objects) (key : ℕ) (x : Name) (named : name_at objects key ≡ Some x) where
+  names-of : AreNamesOf objects (key ∷ []) (x ∷ [])
+  names-of = record {
+    named = λ k y m e. ⊎_elim
+        (λ i. let both : Some x ≡ Some y = sym named ∙ (ap (name_at objects) i ∙ e) in inl (cc))
+        (λ n. absurd n) m;
+    keyed = λ y m. ⊎_elim (λ e. (key, inl refl, named ∙ ap (λ z. Some z) e)) (λ n. absurd n) m;
+  }
+
+  -- the heaps with these script objects
+  abbrev with : Heap → List HeapScript → Heap
+  with h scripts = record h { scripts = scripts }
+
+  -- WHAT IS REACHED BY KEYS IS MADE BLACK, as an exposure of the name does.
+  pub exposed-named : (h : Heap) → record h { scripts = named_objects (raised_among (keys_reached objects (key ∷ [])) Black objects) } ≡
+      exposed (record h { scripts = named_objects objects }) (Some x)
+  unfolding exposed
+  exposed-named h = ap (with h) (named-written (raise_among keys) (KeepsObjects-raised keys) objects blacken at)
+    where
+      keys : List ℕ
+      keys = keys_reached objects (key ∷ [])
+
+      names : List Name
+      names = exposed_names (record h { scripts = named_objects objects }) x
+
+      blacken : HeapScript → HeapScript
+      blacken o = if has same_name names o.name then as_black o else o
+
+      go : (o : Object) (b : Bool) → named_object objects (if b then raised Black o else o) ≡ (if b then as_black (named_object objects o) else named_object objects o)
+      go o true = ap (named_object objects) (raised-black o)
+      go o false = refl
+
+      at : (o : Object) → Among o objects → named_object objects (raise_among keys o) ≡ blacken (named_object objects o)
+      at o m = ap (λ b. named_object objects (if b then raised Black o else o)) (reached-alike_from objects one_key one_name (key ∷ []) (x ∷ []) names-of o m)
+          ∙ go o (has same_name names o.name)
+
+-- A slot
+
+-- the object at a key written
+abbrev pub write_slot : ℕ → ℕ → Option ℕ → Object → Object
+write_slot key i item o = if o.key == key then with_slot i item o else o
+
+write-either : (P : Object → Type 0) (key i : ℕ) (item : Option ℕ) (o : Object) → P (with_slot i item o) → P o → P (write_slot key i item o)
+write-either P key i item o written same = go (o.key == key)
+  where
+    go : (b : Bool) → P (if b then with_slot i item o else o)
+    go true = written
+    go false = same
+
+pub KeepsObjects-slot : (key i : ℕ) (item : Option ℕ) → KeepsObjects (write_slot key i item)
+KeepsObjects-slot key i item = record {
+  key = λ o. write-either (λ p. p.key ≡ o.key) key i item o refl refl;
+  name = λ o. write-either (λ p. p.name ≡ o.name) key i item o refl refl;
+  kind = λ o. write-either (λ p. p.kind ≡ o.kind) key i item o refl refl;
+}
+
+-- what comes into a slot is there
+pub whole-slot : (objects : List Object) (key i : ℕ) (item : Option ℕ) → AreWhole objects → ((q : ℕ) → item ≡ Some q → IsTrue (is_there objects q)) →
+    AreWhole (map (write_slot key i item) objects)
+whole-slot objects key i item whole there = whole-written (write_slot key i item) (KeepsObjects-slot key i item) objects
+    (λ o q m. write-either (λ p. Among (Some q) p.slots → IsTrue (is_there objects q)) key i item o
+    (λ s. ⊎_elim (λ e. there q e) (λ t. whole o q m t) (Among-set_cases o.slots i item (Some q) s))
+    (whole o q m))
+
+-- a slot of a script object is written by its name
+set_slot-script : (h : Heap) (x : Name) (i : ℕ) (y : Option Name) → is_native x ≡ false → set_slot h (Some x) i y ≡ change_script h x (with_script_slot i y)
+set_slot-script h (name.Native k) i y e = absurd (true≢false e)
+set_slot-script h (name.Script k) i y e = refl
+set_slot-script h (name.Reflector k) i y e = refl
+
+module _ (objects : List Object) (one_key : HasOneKey objects) (one_name : HasOneName objects) (key : ℕ) (x : Name) (named : name_at objects key ≡ Some x)
+    (is_script : is_native x ≡ false) (i : ℕ) (item : Option ℕ) where
+  -- A SLOT WRITTEN BY KEYS is written by names.
+  pub slot-named : (h : Heap) → record h { scripts = named_objects (change_object objects key (with_slot i item)) } ≡
+      set_slot (record h { scripts = named_objects objects }) (Some x) i (name_held objects item)
+  slot-named h = ap (with h) (named-written (write_slot key i item) (KeepsObjects-slot key i item) objects write at)
+      ∙ sym (set_slot-script (record h { scripts = named_objects objects }) x i (name_held objects item) is_script)
+    where
+      with : Heap → List HeapScript → Heap
+      with h scripts = record h { scripts = scripts }
+
+      write : HeapScript → HeapScript
+      write o = if same_name o.name x then with_script_slot i (name_held objects item) o else o
+
+      same : (o : Object) → Among o objects → (o.key == key) ≡ same_name o.name x
+      same o m = same-tests (o.key == key) (same_name o.name x)
+          (λ e.
+          let both : Some o.name ≡ Some x = sym (name_at-own objects one_key o m) ∙ (ap (name_at objects) (eqb-true o.key key e) ∙ named) in
+          let is : o.name ≡ x = cc in
+          subst (λ z. same_name z x ≡ true) (sym is) (same_name-refl x))
+          (λ e. eq-eqb o.key key (key-named objects one_name key x named o m (same_name-true o.name x e)))
+
+      go : (o : Object) (b : Bool) → named_object objects (if b then with_slot i item o else o) ≡
+          (if b then with_script_slot i (name_held objects item) (named_object objects o) else named_object objects o)
+      go o true = ap (λ slots. record (named_object objects o) { slots = slots }) (map-set (name_held objects) o.slots i item)
+      go o false = refl
+
+      at : (o : Object) → Among o objects → named_object objects (write_slot key i item o) ≡ write (named_object objects o)
+      at o m = ap (λ b. named_object objects (if b then with_slot i item o else o)) (same o m) ∙ go o (same_name o.name x)

@@ -1,0 +1,171 @@
+-- THE SCRIPT OBJECTS ARE CHANGED, or more are made: keys that have names keep them. Then registers and natives hold what
+-- they held.
+use Rattle.std.proofs.Common.{◌≡◌, ℕ, ◌≤◌, true, false, List, map, Option, Some, None, option_map, is_some, refl, sym, ◌∙◌, ap, subst, count_by}
+use Rattle.std.specs.Prelude.{IsTrue}
+use Rattle.std.specs.Option.{option_and_then}
+use Rattle.std.proofs.Math.Path.{fun_ext}
+use Rattle.std.proofs.lemmas.Bool.{false≢true}
+use Rattle.std.proofs.lemmas.Simd.{map-map}
+use Rattle.cc_lists.specs.Members.{Among}
+use Rattle.cc_lists.proofs.Members.{Among-map, Among-map_cases}
+use Rattle.cc_lists.proofs.Counting.{count_by-map}
+use Rattle.cc_lists.proofs.ListWrites.{each-map, map-kept, map-agree}
+use Rattle.cc_names.specs.declared.number.SKey.{SKey}
+use Rattle.cc_names.specs.declared.name.Name.{Name}
+use Rattle.cc_names.specs.declared.name.Name.TheVariants as name
+use Rattle.cc_names.specs.declared.kind.Kind.TheVariants.{Plain}
+use Rattle.cc_names.specs.Names.{native, same_name, is_native}
+use Rattle.cc_names.proofs.NameTests.{same_name-true, same_name-refl}
+use Rattle.cc_model.specs.Heap.{Heap, HeapNative, HeapScript}
+use Rattle.cc_model.specs.WellFormed.{IsRising, script_names}
+use Rattle.cc_laws_heap.specs.Sound.{IsSound}
+use Rattle.cc_laws_heap.proofs.ScriptsKept.{native-no_script}
+use Rattle.cc_counted.specs.Counts.{Counts}
+use Rattle.cc_counted.specs.Owning.{HasKeys}
+use Rattle.cc_script.specs.Objects.{Object, AreWhole, object_at, is_there, name_at}
+use Rattle.cc_heaps.specs.Keyed.{IsInOrder, counts_of, keyed_native, named_object, named_objects}
+use Rattle.cc_heaps.specs.Changes.{KeepsKeys}
+use Rattle.cc_heaps.specs.Parts.{own_name, named_native, script_named, IsHeldThere, IsScriptLive, heap_of, keyed_of, IsLinked}
+use Rattle.cc_heaps.specs.declared.parts.Parts.{Parts}
+use Rattle.cc_heaps.proofs.Reaching.{HasOneKey, same-tests, some-held}
+
+-- keys that have names keep them
+abbrev pub KeepsNames : List Object → List Object → Type 0
+KeepsNames os ps = (key : ℕ) (x : Name) → name_at os key ≡ Some x → name_at ps key ≡ Some x
+
+-- what is there has a name
+pub there-named : (objects : List Object) (key : ℕ) → IsTrue (is_there objects key) → (x : Name) × (name_at objects key ≡ Some x)
+there-named objects key t = go (object_at objects key) t
+  where
+    go : (o : Option Object) → is_some o ≡ true → (x : Name) × (option_map (λ (p : Object). p.name) o ≡ Some x)
+    go None e = absurd (false≢true e)
+    go (Some o) e = (o.name, refl)
+
+-- and what has a name is there
+pub named-there : (objects : List Object) (key : ℕ) (x : Name) → name_at objects key ≡ Some x → IsTrue (is_there objects key)
+named-there objects key x e = go (object_at objects key) e
+  where
+    go : (o : Option Object) → option_map (λ (p : Object). p.name) o ≡ Some x → is_some o ≡ true
+    go None f = absurd (cc)
+    go (Some o) f = refl
+
+-- what is there stays there
+pub KeepsNames-there : (os ps : List Object) → KeepsNames os ps → (key : ℕ) → IsTrue (is_there os key) → IsTrue (is_there ps key)
+KeepsNames-there os ps kept key t = let n = there-named os key t in named-there ps key n.0 (kept key n.0 n.1)
+
+-- and has the name that it had
+pub KeepsNames-same : (os ps : List Object) → KeepsNames os ps → (key : ℕ) → IsTrue (is_there os key) → name_at ps key ≡ name_at os key
+KeepsNames-same os ps kept key t = let n = there-named os key t in kept key n.0 n.1 ∙ sym n.1
+
+pub same_name-turned : (x y : Name) → same_name x y ≡ same_name y x
+same_name-turned x y = same-tests (same_name x y) (same_name y x) (turned x y) (turned y x)
+  where
+    turned : (x y : Name) → same_name x y ≡ true → same_name y x ≡ true
+    turned x y e = subst (λ z. same_name z x ≡ true) (same_name-true x y e) (same_name-refl x)
+
+-- keys read the numbers of natives alone
+HasKeys-numbers : (c : Counts) (ns : List HeapNative) → map (λ n. n.number) ns ≡ map (λ n. n.number) c.natives → HasKeys c → HasKeys (record c { natives = ns })
+HasKeys-numbers c ns same k = record {
+  key_of = λ n m.
+      let f = Among-map_cases (λ (o : HeapNative). o.number) c.natives n.number
+      (subst (λ is. Among n.number is) same (Among-map (λ (o : HeapNative). o.number) n ns m)) in
+      let found = k.key_of f.0 f.1 in
+      (found.0, found.1 ∙ ap (λ i. Some i) f.2);
+  there = λ key j e. subst (λ names. Among (native j) names) names (k.there key j e);
+  one_key = k.one_key;
+  rising = subst IsRising (sym same) k.rising;
+}
+  where
+    names : map (λ (n : HeapNative). native n.number) c.natives ≡ map (λ (n : HeapNative). native n.number) ns
+    names = sym (map-map native (λ (n : HeapNative). n.number) c.natives) ∙ (ap (map native) (sym same) ∙ map-map native (λ (n : HeapNative). n.number) ns)
+
+-- THE PARTS with other script objects, so many of which were made
+abbrev pub with_objects : Parts → List Object → ℕ → Parts
+with_objects p objects made = record p { scripts = objects; scripts_made = made }
+
+-- and the lists of the heaps with them
+abbrev pub with_named : Heap → List Object → ℕ → Heap
+with_named h objects made = record h { scripts = named_objects objects; scripts_made = made }
+
+module _ (p : Parts) (objects : List Object) (made : ℕ) (kept : KeepsNames p.scripts objects) (l : IsLinked p) where
+  register-kept : (x : Option SKey) → Among x p.script_registers.items → script_named objects x ≡ script_named p.scripts x
+  register-kept None m = refl
+  register-kept (Some key) m = KeepsNames-same p.scripts objects kept key.0 (l.script_registers (Some key) m)
+
+  held-kept : (x : Name) → IsHeldThere p.scripts x → own_name objects x ≡ own_name p.scripts x
+  held-kept (name.Native k) t = refl
+  held-kept (name.Script k) t = KeepsNames-same p.scripts objects kept k.0 t
+  held-kept (name.Reflector k) t = absurd t
+
+  native-kept : (n : HeapNative) → Among n p.counted.natives → named_native objects n ≡ named_native p.scripts n
+  native-kept n m = ap (λ slots. record n { slots = slots }) (map-agree (option_and_then (own_name objects)) (option_and_then (own_name p.scripts)) n.slots at)
+    where
+      at : (x : Option Name) → Among x n.slots → option_and_then (own_name objects) x ≡ option_and_then (own_name p.scripts) x
+      at None i = refl
+      at (Some x) i = held-kept x (l.held n x m (some-held n.slots x i))
+
+  -- THE HEAPS are as they were but for the script objects.
+  pub heap-objects : heap_of (with_objects p objects made) ≡ with_named (heap_of p) objects made
+  heap-objects = λ i. record (with_named (heap_of p) objects made) { script_registers = registers i; natives = natives i }
+    where
+      registers : map (script_named objects) p.script_registers.items ≡ map (script_named p.scripts) p.script_registers.items
+      registers = map-agree (script_named objects) (script_named p.scripts) p.script_registers.items register-kept
+
+      natives : map (named_native objects) p.counted.natives ≡ map (named_native p.scripts) p.counted.natives
+      natives = map-agree (named_native objects) (named_native p.scripts) p.counted.natives native-kept
+
+  -- what is there keeps its key
+  pub keys-objects : KeepsKeys (keyed_of p) (keyed_of (with_objects p objects made))
+  keys-objects = record { natives = λ key k e m. e; scripts = λ key x e m. kept key x e }
+
+  module _ (owned : List ℕ) (s : IsSound owned (with_named (heap_of p) objects made)) (one : HasOneKey objects) where
+    -- THE PARTS FIT TOGETHER
+    pub linked-objects : IsLinked (with_objects p objects made)
+    linked-objects = record {
+      native_registers = l.native_registers;
+      script_registers = λ x m. register x (l.script_registers x m);
+      registers = l.registers;
+      held = λ n x m i. held x (l.held n x m i);
+      one_key = one;
+      one_name = λ x. subst (λ n. n ≤ 1) (counted x) (s.well_formed.distinct x);
+      script_names = λ o m. no_native o.name (Among-map (λ (q : HeapScript). q.name) (named_object objects o) (named_objects objects) (Among-map (named_object objects) o objects m));
+    }
+      where
+        register : (x : Option SKey) → IsScriptLive p.scripts x → IsScriptLive objects x
+        register None t = t
+        register (Some key) t = KeepsNames-there p.scripts objects kept key.0 t
+
+        held : (x : Name) → IsHeldThere p.scripts x → IsHeldThere objects x
+        held (name.Native k) t = t
+        held (name.Script k) t = KeepsNames-there p.scripts objects kept k.0 t
+        held (name.Reflector k) t = t
+
+        counted : (x : Name) → count_by (same_name x) (script_names (with_named (heap_of p) objects made)) ≡ count_by (λ o. same_name o.name x) objects
+        counted x = count_by-map (same_name x) (λ (o : HeapScript). o.name) (named_objects objects)
+            ∙ (count_by-map (λ (o : HeapScript). same_name x o.name) (named_object objects) objects
+            ∙ ap (λ t. count_by t objects) (fun_ext (λ (o : Object). same_name-turned x o.name)))
+
+        no_native : (x : Name) → Among x (script_names (with_named (heap_of p) objects made)) → is_native x ≡ false
+        no_native (name.Native k) m = absurd (native-no_script (with_named (heap_of p) objects made) k.0 s.well_formed m)
+        no_native (name.Script k) m = refl
+        no_native (name.Reflector k) m = refl
+
+    -- AND THEY STAY IN ORDER, where the new ones are plain and their slots hold what is there.
+    pub order-objects : AreWhole objects → ((o : HeapScript) → Among o (named_objects objects) → o.kind ≡ Plain) →
+        IsInOrder owned (keyed_of p) → IsInOrder owned (keyed_of (with_objects p objects made))
+    order-objects whole plain o = record {
+      sound = subst (IsSound owned) (sym heap-objects) s;
+      keyed = HasKeys-numbers (counts_of (keyed_of p)) (counts_of (keyed_of (with_objects p objects made))).natives (numbers objects ∙ sym (numbers p.scripts)) o.keyed;
+      named = refl;
+      one_key = one;
+      whole = whole;
+      limits = o.limits;
+      plain = plain;
+      unpreserved = each-map (λ n. n.preserved ≡ false) (named_native objects) p.counted.natives
+          (λ n m. o.unpreserved (named_native p.scripts n) (Among-map (named_native p.scripts) n p.counted.natives m));
+      no_entries = refl;
+    }
+      where
+        numbers : (os : List Object) → map (λ n. n.number) (map (keyed_native os) (map (named_native os) p.counted.natives)) ≡ map (λ n. n.number) p.counted.natives
+        numbers os = map-kept (λ n. n.number) (keyed_native os) (map (named_native os) p.counted.natives) (λ n. refl)
+            ∙ map-kept (λ n. n.number) (named_native os) p.counted.natives (λ n. refl)

@@ -1,0 +1,23 @@
+use Rattle.std.proofs.Common.{[], sym, arith}
+use Rattle.cc_heaps.proofs.Listing.{natives-few, natives-next, natives-all, rising-counted, natives-limited_to}
+use Rattle.cc_heaps.proofs.parts.Parts.list_natives.Goals as goal
+
+pub overflow_add-count : goal.overflow_add-count
+overflow_add-count g c =
+    let p = c.args.self.now in
+    omega (arith, natives-few p.counted c.in-Some.key c.in-Some.is c.loop-at.invariant, natives-limited_to p [] c.requires.order)
+
+pub loop-at-preserved : goal.loop-at-preserved
+loop-at-preserved g c =
+    let p = c.args.self.now in
+    natives-next p.counted (rising-counted p [] c.requires.order) c.in-Some.key c.in-Some.is c.loop-at.invariant c.in-Some-number.number.0 (sym c.in-Some-number.ensures)
+    c.next-at.ensures.number c.next-at.ensures.live c.tell.ensures
+
+pub returns-clause-told : goal.returns-clause-told
+returns-clause-told g c = (natives-all c.args.self.now [] c.requires.order c.in_default.not-Some c.loop-at.invariant).told
+
+pub returns-clause-count : goal.returns-clause-count
+returns-clause-count g c = (natives-all c.args.self.now [] c.requires.order c.in_default.not-Some c.loop-at.invariant).counted
+
+pub returns-clause-few : goal.returns-clause-few
+returns-clause-few g c = (natives-all c.args.self.now [] c.requires.order c.in_default.not-Some c.loop-at.invariant).few

@@ -1,0 +1,52 @@
+use Rattle.std.proofs.Common.{◌≡◌, [], sym, ◌∙◌, ap, subst}
+use Rattle.cc_lists.specs.Members.{Among}
+use Rattle.cc_model.specs.Colours.{marked}
+use Rattle.cc_marking.specs.Marking.{marked_from}
+use Rattle.cc_heaps.specs.Keyed.{IsInOrder}
+use Rattle.cc_heaps.specs.Changes.{KeepsKeys}
+use Rattle.cc_heaps.specs.Parts.{keyed_of, heap_of, IsLinked}
+use Rattle.cc_heaps.specs.Roots.{keys_in_registers}
+use Rattle.cc_heaps.proofs.ObjectsKept.{keys-counted, with_objects}
+use Rattle.cc_heaps.proofs.RootNames.{register-there, native-there}
+use Rattle.cc_heaps.proofs.MarkedObjects.{marked_objects, heap-marked, keys-marked, order-marked, linked-marked}
+use Rattle.cc_heaps.proofs.parts.Parts.mark_scripts.Goals as goal
+
+pub new-slots-requires : goal.new-slots-requires
+new-slots-requires c = record { keyed = keys-counted [] c.args.self.now c.requires.linked c.requires.order }
+
+-- the roots are the keys of registers, and those of natives
+registers : (c : goal.After-mark) → c.new-registers.result ≡ keys_in_registers c.args.self.now.script_registers.items
+registers c = c.new-registers.ensures ∙ ap keys_in_registers c.as_slice.ensures.value
+
+pub mark-requires-clause-black : goal.mark-requires-clause-black
+mark-requires-clause-black c = λ k m.
+    register-there c.args.self.now c.requires.linked k
+    (subst (Among k) (c.new-registers.ensures ∙ ap keys_in_registers c.as_slice.ensures.value) m)
+
+pub mark-requires-clause-gray : goal.mark-requires-clause-gray
+mark-requires-clause-gray c = λ k m. native-there c.args.self.now c.requires.linked k (subst (Among k) c.new-slots.ensures m)
+
+-- the objects are those of the marking
+objects : (c : goal.After-mark) → marked_objects c.args.self.now ≡ c.mark.new.scripts
+objects c =
+    sym (c.mark.ensures.colours ∙ (λ i. marked_from (registers c i) (c.new-slots.ensures i) c.args.self.now.scripts))
+
+pub returns-clause-heap : goal.returns-clause-heap
+returns-clause-heap c =
+    let p = c.args.self.now in
+    subst (λ os. heap_of (with_objects p os) ≡ marked (heap_of p)) (objects c) (heap-marked p c.requires.linked c.requires.order)
+
+pub returns-clause-keys : goal.returns-clause-keys
+returns-clause-keys c =
+    let p = c.args.self.now in
+    subst (λ os. KeepsKeys (keyed_of p) (keyed_of (with_objects p os))) (objects c) (keys-marked p c.requires.linked c.requires.order)
+
+pub returns-clause-order : goal.returns-clause-order
+returns-clause-order c =
+    let p = c.args.self.now in
+    subst (λ os. IsInOrder [] (keyed_of (with_objects p os))) (objects c) (order-marked p c.requires.linked c.requires.order)
+
+pub returns-clause-linked : goal.returns-clause-linked
+returns-clause-linked c =
+    let p = c.args.self.now in
+    subst (λ os. IsLinked (with_objects p os)) (objects c) (linked-marked p c.requires.linked c.requires.order)

@@ -1,0 +1,41 @@
+use Rattle.std.proofs.Common.{◌≡◌, ℕ, map, Option, refl, sym, ◌∙◌, ap, subst}
+use Rattle.cc_names.specs.declared.name.Name.{Name}
+use Rattle.cc_names.specs.declared.number.NKey.{NKey}
+use Rattle.cc_model.specs.declared.item.Item.TheVariants.{Event as of_event}
+use Rattle.cc_model.specs.Telling.{Tells}
+use Rattle.cc_model.specs.Texts.{texts_of}
+use Rattle.cc_model.specs.Heap.{Heap}
+use Rattle.cc_model.specs.Cascade.{take_up}
+use Rattle.cc_model.specs.Effects.{put_in_register, hold_native}
+use Rattle.cc_counted.specs.declared.held.Held.{Held}
+use Rattle.cc_heaps.specs.Keyed.{Keyed, changed_to, left_with}
+use Rattle.cc_heaps.specs.Changes.{held_name, native_name}
+use Rattle.cc_heaps.specs.Parts.{held_by, keyed_of}
+use Rattle.cc_heaps.proofs.Content.{held_by-name}
+use Rattle.cc_heaps.proofs.parts.Parts.set_native_reg.Goals as goal
+
+hold_native-is : (h : Heap) (d : ℕ) (x : Option Name) → hold_native h d x ≡ put_in_register (take_up h x) d x
+unfolding hold_native
+hold_native-is h d x = refl
+
+-- the new reference taken
+module _ (v mid : Keyed) (r : ℕ) (x : Option NKey) (item : Option Held) (is : item ≡ held_by x) (taken : mid ≡ changed_to v (take_up v.heap (held_name v item))) where
+  taken-is : mid ≡ changed_to v (take_up v.heap (native_name v x))
+  taken-is = taken ∙ ap (λ y. changed_to v (take_up v.heap y)) (ap (held_name v) is ∙ held_by-name v x)
+
+  held-is : put_in_register mid.heap r (native_name mid x) ≡ hold_native v.heap r (native_name v x)
+  held-is = ap (λ (w : Keyed). put_in_register w.heap r (native_name w x)) taken-is ∙ sym (hold_native-is v.heap r (native_name v x))
+
+  held-keyed : left_with mid (put_in_register mid.heap r (native_name mid x)).heap ≡ left_with v (hold_native v.heap r (native_name v x)).heap
+  held-keyed = ap (λ (w : Keyed). left_with w (put_in_register w.heap r (native_name w x)).heap) taken-is ∙ ap (λ o. left_with v o.heap) (sym (hold_native-is v.heap r (native_name v x)))
+
+pub returns-clause-heap : goal.returns-clause-heap
+returns-clause-heap g c =
+    c.put_in_register.ensures.heap
+    ∙ held-keyed (keyed_of c.args.self.now) (keyed_of c.take_up.new.self) c.args.r c.args.content c.to_slot.result c.to_slot.ensures c.take_up.ensures.heap
+
+pub returns-clause-told : goal.returns-clause-told
+returns-clause-told g c =
+    subst (λ o. Tells (g.N.Notices.telling c.args.out.now) (g.N.Notices.telling c.put_in_register.new.out) (texts_of (map of_event o.events)))
+    (held-is (keyed_of c.args.self.now) (keyed_of c.take_up.new.self) c.args.r c.args.content c.to_slot.result c.to_slot.ensures c.take_up.ensures.heap)
+    c.put_in_register.ensures.told

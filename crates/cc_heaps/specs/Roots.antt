@@ -1,0 +1,43 @@
+-- WHERE A MARKING BEGINS: the keys that script registers hold, and those that slots of natives hold.
+use Rattle.std.specs.Prelude.{ℕ, ◌≤◌, ◌∷◌, ◌++◌, List, [], drop, filter, flat_map, length, map, option_to_list, nat_lt, Option, Some, None, IfSome, IsSome}
+use Rattle.cc_names.specs.declared.name.Name.{Name}
+use Rattle.cc_names.specs.declared.name.Name.TheVariants as name
+use Rattle.cc_names.specs.declared.number.NKey.{NKey}
+use Rattle.cc_names.specs.declared.number.SKey.{SKey}
+use Rattle.cc_model.specs.Slots.{Slots, contents}
+use Rattle.cc_model.specs.Heap.{HeapNative}
+use Rattle.cc_counted.specs.Counts.{Counts, number_at, the_number, slots_of}
+use Rattle.cc_counted.specs.Owning.{HasKeys}
+
+-- the keys that registers hold
+abbrev pub keys_in_registers : List (Option SKey) → List ℕ
+keys_in_registers registers = map (λ k. k.0) (flat_map option_to_list registers)
+
+-- the key of a script object, as the counted heap names it
+abbrev pub key_in : Name → List ℕ
+key_in (name.Native k) = []
+key_in (name.Script k) = k.0 ∷ []
+key_in (name.Reflector k) = []
+
+-- the keys that slots hold
+abbrev pub keys_in : Slots → List ℕ
+keys_in slots = flat_map key_in (contents slots)
+
+-- the keys that natives hold
+abbrev pub keys_held : List HeapNative → List ℕ
+keys_held natives = flat_map (λ n. keys_in n.slots) natives
+
+-- the natives with greater numbers than that at a key
+abbrev pub natives_behind : Counts → ℕ → List HeapNative
+natives_behind c key = filter (λ n. nat_lt (the_number c key) n.number) c.natives
+
+-- the keys from slot i of the native at a key on, where there is one
+abbrev pub keys_from : Counts → Option NKey → ℕ → List ℕ
+keys_from c None i = []
+keys_from c (Some key) i = keys_in (drop i (slots_of c key.0)) ++ keys_held (natives_behind c key.0)
+
+-- a native that is there, and a place in its slots or behind the last
+pub record IsPlace (c : Counts) (at : Option NKey) (i : ℕ) : Type 0 where
+  pub keyed : HasKeys c
+  pub there : IfSome at (λ key. IsSome (number_at c key.0))
+  pub within : IfSome at (λ key. i ≤ length (slots_of c key.0))

@@ -1,0 +1,64 @@
+//! The objects listed.
+ghost use Rattle.std.specs.Prelude.{◌≡◌, ◌≤◌, [], length, map};
+ghost use Rattle.cc_model.specs.declared.item.Item.TheVariants.{Listed};
+ghost use Rattle.cc_model.specs.Telling.{Tells};
+ghost use Rattle.cc_model.specs.Texts.{texts_of};
+ghost use Rattle.cc_model.specs.WellFormed.{native_names, script_names};
+ghost use Rattle.cc_model.specs.Run.{census_names};
+ghost use Rattle.cc_heaps.specs.Keyed.{IsInOrder};
+ghost use Rattle.cc_heaps.specs.Parts.{keyed_of, IsLinked};
+
+use crate::parts::Parts;
+use cc_model::{Item, Notices};
+use cc_names::Name;
+
+impl Parts {
+    // Each native by rising number; how many there are.
+    fn list_natives<N: Notices>(&self, out: &mut N) -> u32
+        requires order { IsInOrder [] (keyed_of self.now) }
+        ensures told { Tells (N.telling out.old) (N.telling out.new) (texts_of (map Listed (native_names (keyed_of self.now).heap))) }
+        ensures count { result ≡ length (native_names (keyed_of self.now).heap) }
+        ensures few { result ≤ 1000000 }
+    {
+        let mut count = 0u32;
+        let mut at = self.counted.first();
+        while let Some(key) = at {
+            match self.counted.number(key) {
+                Some(number) => out.tell(Item::Listed(Name::Native(number))),
+                None => unreachable!(),
+            }
+            count += 1;
+            at = self.counted.next(key);
+        }
+        count
+    }
+
+    // Each script object in order of making; how many there are.
+    fn list_scripts<N: Notices>(&self, out: &mut N) -> u32
+        requires order { IsInOrder [] (keyed_of self.now) }
+        ensures told { Tells (N.telling out.old) (N.telling out.new) (texts_of (map Listed (script_names (keyed_of self.now).heap))) }
+        ensures count { result ≡ length (script_names (keyed_of self.now).heap) }
+        ensures few { result ≤ 1000000 }
+    {
+        let mut count = 0u32;
+        let mut at = self.scripts.first();
+        while let Some(key) = at {
+            out.tell(Item::Listed(self.scripts.name(key)));
+            count += 1;
+            at = self.scripts.next(key);
+        }
+        count
+    }
+
+    /// Lists each native by rising number, then each script object in order of making. How many there are.
+    pub(crate) fn census<N: Notices>(&self, out: &mut N) -> u32
+        requires linked { IsLinked self.now }
+        requires order { IsInOrder [] (keyed_of self.now) }
+        ensures told { Tells (N.telling out.old) (N.telling out.new) (texts_of (map Listed (census_names (keyed_of self.now).heap))) }
+        ensures count { result ≡ length (census_names (keyed_of self.now).heap) }
+    {
+        let natives = self.list_natives(out);
+        let scripts = self.list_scripts(out);
+        natives + scripts
+    }
+}

@@ -1,0 +1,151 @@
+//! Where a marking begins: what the script registers hold, and what natives hold.
+ghost use Rattle.std.specs.Prelude.{◌≡◌, ◌≤◌, [], ◌∷◌, drop, length, Some, IsSome, IfSome, MatchOption};
+ghost use Rattle.cc_counted.specs.Counts.{number_at, slots_of};
+ghost use Rattle.cc_counted.specs.Owning.{HasKeys};
+ghost use Rattle.cc_heaps.specs.Roots.{keys_from, keys_held, keys_in, keys_in_registers, IsPlace};
+
+use cc_counted::{Counted, Held};
+use cc_marking::Roots;
+use cc_names::{NKey, SKey};
+use std::marker::Model;
+
+/// The script objects that script registers hold, from a register on. They are seen as their keys.
+#[derive(Drop)]
+pub(crate) struct RegisterRoots<'a> {
+    registers: &'a [Option<SKey>],
+    next: usize,
+}
+
+impl<'a> Model for RegisterRoots<'a> {
+    ghost use Rattle.std.specs.Prelude.{List, ℕ, drop};
+    ghost use Rattle.cc_heaps.specs.Roots.{keys_in_registers};
+
+    ghost Value = { List ℕ };
+
+    ghost view = { λ r. keys_in_registers (drop r.next r.registers.now) };
+}
+
+impl<'a> RegisterRoots<'a> {
+    /// What these registers hold.
+    pub(crate) fn new(registers: &'a [Option<SKey>]) -> RegisterRoots<'a>
+        ensures { result ≡ keys_in_registers registers.now }
+    {
+        RegisterRoots { registers, next: 0 }
+    }
+}
+
+// The first register from `next` on that holds something: what it holds, and the register behind it.
+fn register_from(registers: &[Option<SKey>], next: usize) -> Option<(SKey, usize)>
+    ensures { MatchOption result (keys_in_registers (drop next registers.now) ≡ [])
+        (λ found. keys_in_registers (drop next registers.now) ≡ found.0.0 ∷ keys_in_registers (drop found.1 registers.now)) }
+{
+    for i in next..registers.len() {
+        if let Some(key) = registers[i] {
+            return Some((key, i + 1));
+        }
+    }
+    None
+}
+
+impl<'a> Roots for RegisterRoots<'a> {
+    ghost left = { λ r. r };
+
+    fn next_root(&mut self) -> Option<SKey> {
+        match register_from(self.registers, self.next) {
+            Some((key, behind)) => {
+                self.next = behind;
+                Some(key)
+            }
+            None => {
+                self.next = self.registers.len();
+                None
+            }
+        }
+    }
+}
+
+/// The script objects that natives hold, by rising number of the native, from a slot of one on. They are seen as
+/// their keys.
+#[derive(Drop)]
+pub(crate) struct SlotRoots<'a> {
+    counted: &'a Counted,
+    native: Option<NKey>,
+    next: u8,
+}
+
+impl<'a> Model for SlotRoots<'a> {
+    ghost use Rattle.std.specs.Prelude.{List, ℕ};
+    ghost use Rattle.cc_heaps.specs.Roots.{keys_from, IsPlace};
+
+    ghost Value = { List ℕ };
+
+    ghost view = { λ r. keys_from r.counted.now r.native r.next };
+
+    ghost invariant = { λ r. IsPlace r.counted.now r.native r.next };
+}
+
+impl<'a> SlotRoots<'a> {
+    /// What the natives of a heap hold.
+    pub(crate) fn new(counted: &'a Counted) -> SlotRoots<'a>
+        requires keyed { HasKeys counted.now }
+        ensures { result ≡ keys_held counted.now.natives }
+    {
+        SlotRoots {
+            counted,
+            native: counted.first(),
+            next: 0,
+        }
+    }
+}
+
+// The first script object in the slots of a native from slot `next` on, and the slot behind it.
+fn slot_from(counted: &Counted, native: NKey, next: u8) -> Option<(SKey, u8)>
+    requires live { IsSome (number_at counted.now native.0) }
+    ensures place { IfSome result (λ found. found.1 ≤ length (slots_of counted.now native.0)) }
+    ensures left { MatchOption result (keys_in (drop next (slots_of counted.now native.0)) ≡ [])
+        (λ found. keys_in (drop next (slots_of counted.now native.0)) ≡ found.0.0 ∷ keys_in (drop found.1 (slots_of counted.now native.0))) }
+{
+    for i in next..counted.slots(native) {
+        if let Some(Held::Script(key)) = counted.slot(native, i) {
+            return Some((key, i + 1));
+        }
+    }
+    None
+}
+
+// The first script object in the slots of natives from a place on, and the place behind it.
+fn held_from(counted: &Counted, native: Option<NKey>, next: u8) -> Option<(SKey, NKey, u8)>
+    requires { IsPlace counted.now native next }
+    ensures place { IfSome result (λ found. IsPlace counted.now (Some found.1) found.2) }
+    ensures left { MatchOption result (keys_from counted.now native next ≡ [])
+        (λ found. keys_from counted.now native next ≡ found.0.0 ∷ keys_from counted.now (Some found.1) found.2) }
+{
+    let mut at = native;
+    let mut from = next;
+    while let Some(key) = at {
+        if let Some((found, behind)) = slot_from(counted, key, from) {
+            return Some((found, key, behind));
+        }
+        at = counted.next(key);
+        from = 0;
+    }
+    None
+}
+
+impl<'a> Roots for SlotRoots<'a> {
+    ghost left = { λ r. r };
+
+    fn next_root(&mut self) -> Option<SKey> {
+        match held_from(self.counted, self.native, self.next) {
+            Some((key, native, behind)) => {
+                self.native = Some(native);
+                self.next = behind;
+                Some(key)
+            }
+            None => {
+                self.native = None;
+                None
+            }
+        }
+    }
+}

@@ -1,0 +1,4 @@
+//! Each call once, with ample memory.
+mod natives;
+mod rounds;
+mod scripts;
