@@ -1,0 +1,27 @@
+use Rattle.std.proofs.Common.{true, sym, ◌∙◌}
+use Rattle.cc_gc.proofs.RoundsLeft.{IsRound, IsCollecting-start, IsCollecting-fewer, IsCollecting-next, IsCollected-last}
+use Rattle.cc_gc.proofs.rounds.collect_scripts.Given as given
+use Rattle.cc_gc.proofs.rounds.collect_scripts.Goals as goal
+
+-- a round that is not the last
+sweeping : (g : given.Over) (c : goal.In-rounds g) →
+    IsRound c.rounds.heaps c.round.new.heaps (g.N.Notices.telling c.rounds.out) (g.N.Notices.telling c.round.new.out) true
+sweeping g c =
+    let e = c.round.ensures in
+    record { swept_is = sym c.rounds-test.true ∙ e.swept; heap = e.heap; told = e.told; keys = e.keys; order = e.order }
+
+pub rounds-init : goal.rounds-init
+rounds-init g c = record { steps = IsCollecting-start c.args.heaps.now (g.N.Notices.telling c.args.out.now) c.requires.order }
+
+pub rounds-smaller : goal.rounds-smaller
+rounds-smaller g c = IsCollecting-fewer _ _ _ _ _ _ c.rounds.invariant.steps (sweeping g c)
+
+pub rounds-preserved : goal.rounds-preserved
+rounds-preserved g c = record { steps = IsCollecting-next _ _ _ _ _ _ c.rounds.invariant.steps (sweeping g c) }
+
+pub returns : goal.returns
+returns g c =
+    let e = c.round.ensures in
+    let done = IsCollected-last _ _ _ _ _ _ c.rounds.invariant.steps c.requires.order.sound
+    (record { swept_is = sym c.rounds-test.false ∙ e.swept; heap = e.heap; told = e.told; keys = e.keys; order = e.order }) in
+    record { heap = done.heap; told = done.told; colours = done.colours; invariant = done.invariant; keys = done.keys; order = done.order }

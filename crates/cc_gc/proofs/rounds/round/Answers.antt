@@ -1,0 +1,12 @@
+use Rattle.std.proofs.Common.{sym, subst}
+use Rattle.cc_model.specs.Colours.{HasColours}
+use Rattle.cc_laws_heap.proofs.Marking.{HasColours-marked}
+use Rattle.cc_gc.proofs.RoundsLeft.{KeepsKeys-round}
+use Rattle.cc_gc.proofs.rounds.round.Goals as goal
+
+pub sweep-requires-clause-colours : goal.sweep-requires-clause-colours
+sweep-requires-clause-colours g c = subst HasColours (sym c.mark_scripts.ensures.heap) (HasColours-marked c.args.heaps.now.heap)
+
+pub returns-clause-keys : goal.returns-clause-keys
+returns-clause-keys g c = KeepsKeys-round c.args.heaps.now c.mark_scripts.new.self c.sweep.new.self c.requires.order.sound
+    c.mark_scripts.ensures.heap c.sweep.ensures.heap c.mark_scripts.ensures.keys c.sweep.ensures.keys

@@ -1,0 +1,9 @@
+//! A script collection: rounds of marking and sweeping, until one sweeps nothing.
+#![tactic(auto)]
+
+mod rounds;
+
+pub use rounds::collect_scripts;
+
+#[cfg(test)]
+mod tests;

@@ -1,0 +1,42 @@
+ghost use Rattle.std.specs.Prelude.{◌≡◌, [], map};
+ghost use Rattle.cc_model.specs.declared.item.Item.TheVariants.{Event as of_event};
+ghost use Rattle.cc_model.specs.Telling.{Tells};
+ghost use Rattle.cc_model.specs.Texts.{texts_of};
+ghost use Rattle.cc_model.specs.Colours.{HasColours, HasColourInvariant, marked};
+ghost use Rattle.cc_model.specs.Sweep.{collect_scripts as collected, sweep, sweeps};
+ghost use Rattle.cc_model.specs.View.{view};
+ghost use Rattle.cc_heaps.specs.Keyed.{IsInOrder};
+ghost use Rattle.cc_heaps.specs.Changes.{KeepsKeys};
+
+use cc_heaps::Heaps;
+use cc_model::Notices;
+
+/// Marks, then sweeps what is white. Whether something was swept.
+fn round<N: Notices>(heaps: &mut Heaps, out: &mut N) -> bool
+    requires order { IsInOrder [] heaps.old }
+    ensures swept { result ≡ sweeps (marked heaps.old.heap) }
+    ensures heap { heaps.new.heap ≡ (sweep (marked heaps.old.heap)).heap }
+    ensures told { Tells (N.telling out.old) (N.telling out.new) (texts_of (map of_event (sweep (marked heaps.old.heap)).events)) }
+    ensures keys { KeepsKeys heaps.old heaps.new }
+    ensures order { IsInOrder [] heaps.new }
+{
+    heaps.mark_scripts();
+    heaps.sweep(out)
+}
+
+/// A whole script collection: marks and sweeps, again and again, until a round sweeps nothing. What is swept is told.
+///
+/// Afterwards no script object is white: each is reached from a script register, or a native holds what reaches it.
+/// Takes no memory.
+pub fn collect_scripts<N: Notices>(heaps: &mut Heaps, out: &mut N)
+    requires order { IsInOrder [] heaps.old }
+    ensures heap { heaps.new.heap ≡ (collected heaps.old.heap).heap }
+    ensures told { Tells (N.telling out.old) (N.telling out.new) (texts_of (map of_event (collected heaps.old.heap).events)) }
+    ensures colours { HasColours heaps.new.heap }
+    ensures invariant { HasColourInvariant (view heaps.new.heap) }
+    ensures keys { KeepsKeys heaps.old heaps.new }
+    ensures order { IsInOrder [] heaps.new }
+{
+    // sweeping may take away what alone held other objects, so the rounds go on until one sweeps nothing
+    'rounds: while round(heaps, out) {}
+}
