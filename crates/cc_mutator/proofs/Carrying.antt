@@ -1,0 +1,247 @@
+-- COMMANDS ANSWERED: they are refused, or lack memory, or are carried out by what they do.
+use Rattle.std.proofs.Common.{◌≡◌, ◌≢◌, ℕ, ◌+◌, ◌<◌, ◌≤◌, Bool, true, false, [], map, length, nat_le, Option, Some, None, option_map, refl, sym, ◌∙◌, ap, subst}
+use Rattle.std.proofs.lemmas.Bool.{leb-true, leb-false, le-leb, lt-leb}
+use Rattle.cc_names.specs.declared.name.Name.{Name}
+use Rattle.cc_names.specs.declared.kind.Kind.TheVariants.{Plain}
+use Rattle.cc_names.specs.declared.register.Reg.{Reg}
+use Rattle.cc_names.specs.declared.register.Reg.TheVariants.{N, S}
+use Rattle.cc_names.specs.Names.{native, object}
+use Rattle.cc_model.specs.declared.command.Command.{Command}
+use Rattle.cc_model.specs.declared.command.Command.TheVariants as command
+use Rattle.cc_model.specs.declared.command.Command.TheVariants.{Native, Script, CopyNative, CopyScript, Drop, Set, Get, Put, Take, Expose}
+use Rattle.cc_model.specs.declared.item.Item.TheVariants.{Event as of_event}
+use Rattle.cc_model.specs.declared.item.Refusal.{Refusal}
+use Rattle.cc_model.specs.declared.item.Refusal.TheVariants.{Full, NoMemory}
+use Rattle.cc_model.specs.declared.item.Reply.{Reply}
+use Rattle.cc_model.specs.declared.item.Reply.TheVariants.{Named, Done, Refused}
+use Rattle.cc_model.specs.Telling.{Telling, Tells}
+use Rattle.cc_model.specs.Texts.{texts_of}
+use Rattle.cc_model.specs.Checks.{Objects, lacks_object, has_wrong_object, has_no_slot, has_wrong_content, is_full, slots_at, slot_at, named_or_nothing, refusal_of, reply_if_taken}
+use Rattle.cc_model.specs.Heap.{Heap, Outcome, register, source, objects_of, set_register, set_slot, preserve}
+use Rattle.cc_model.specs.Effects.{effects, hold_native, hold_script, make_native, make_object, store_native, takes_memory}
+use Rattle.cc_model.specs.Exposure.{exposed}
+use Rattle.cc_model.proofs.Tellings.{Tells-nil}
+use Rattle.cc_laws_heap.proofs.Taken.{IsTaken-from}
+use Rattle.cc_heaps.specs.Keyed.{Keyed, IsInOrder, left_with}
+use Rattle.cc_heaps.specs.Changes.{KeepsKeys}
+use Rattle.cc_mutator.specs.Applied.{IsCarriedOut}
+use Rattle.cc_mutator.specs.Commands.{IsApplied}
+use Rattle.cc_mutator.proofs.KeysKept.{KeepsKeys-left, KeepsKeys-same}
+use Rattle.cc_mutator.proofs.Refusing.{refusal_by, refusal-by}
+
+-- Replies
+
+-- no test is for want of memory
+pub refused-not_memory : (o : Objects) (c : Command) (r : Refusal) → refusal_of o c ≡ Some r → r ≢ NoMemory
+unfolding refusal_of
+refused-not_memory o c r = go (lacks_object o c) (has_wrong_object o c) (has_no_slot o c) (has_wrong_content o c) (is_full o c)
+  where
+    go : (lacks wrong slot content full : Bool) → refusal_by lacks wrong slot content full ≡ Some r → r ≢ NoMemory
+    go true wrong slot content full e f = absurd (cc)
+    go false true slot content full e f = absurd (cc)
+    go false false true content full e f = absurd (cc)
+    go false false false true full e f = absurd (cc)
+    go false false false false true e f = absurd (cc)
+    go false false false false false e f = absurd (cc)
+
+named-not_refused : (x : Option Name) (r : Refusal) → named_or_nothing x ≢ Refused r
+named-not_refused None r e = absurd (cc)
+named-not_refused (Some x) r e = absurd (cc)
+
+-- the reply to a command that is not refused is no refusal
+reply-not_refused : (o : Objects) (c : Command) (r : Refusal) → reply_if_taken o c ≢ Refused r
+unfolding reply_if_taken
+reply-not_refused o command.Nothing r e = absurd (cc)
+reply-not_refused o (command.Native d n) r e = absurd (cc)
+reply-not_refused o (command.Script d n) r e = absurd (cc)
+reply-not_refused o (command.WeakMap d) r e = absurd (cc)
+reply-not_refused o (command.CopyNative d s) r e = named-not_refused _ r e
+reply-not_refused o (command.CopyScript d s) r e = named-not_refused _ r e
+reply-not_refused o (command.Drop d) r e = absurd (cc)
+reply-not_refused o (command.Set d i s) r e = absurd (cc)
+reply-not_refused o (command.Get d s i) r e = named-not_refused _ r e
+reply-not_refused o (command.Put d i s) r e = absurd (cc)
+reply-not_refused o (command.Take d s i) r e = named-not_refused _ r e
+reply-not_refused o (command.Wrap d s) r e = named-not_refused _ r e
+reply-not_refused o (command.Unwrap d s) r e = named-not_refused _ r e
+reply-not_refused o (command.Preserve s) r e = absurd (cc)
+reply-not_refused o (command.SetEntry m k v) r e = absurd (cc)
+reply-not_refused o (command.GetEntry d m k) r e = named-not_refused _ r e
+reply-not_refused o (command.Expose s i) r e = named-not_refused _ r e
+reply-not_refused o (command.Slice u) r e = absurd (cc)
+reply-not_refused o command.Collect r e = absurd (cc)
+reply-not_refused o command.Gc r e = absurd (cc)
+reply-not_refused o command.Census r e = absurd (cc)
+
+-- The three ways
+
+module _ (c : Command) (old new : Keyed) (before after : Telling) where
+  -- a command that is refused
+  pub applied-refused : (r : Refusal) → refusal_of (objects_of old.heap) c ≡ Some r → new ≡ old → after ≡ before → IsInOrder [] new →
+      IsApplied c old new (Refused r) before after
+  applied-refused r is same quiet order = record {
+    refused = λ q e. let s : r ≡ q = cc in (ap (λ z. Refused z) s, same, quiet);
+    done = λ e n. absurd (cc);
+    memory = λ e. let s : r ≡ NoMemory = cc in absurd (refused-not_memory (objects_of old.heap) c r is s);
+    keys = subst (KeepsKeys old) (sym same) (KeepsKeys-same old);
+    order = order;
+  }
+
+  -- one that lacks memory
+  pub applied-denied : refusal_of (objects_of old.heap) c ≡ None → takes_memory old.heap c ≡ true → new ≡ old → after ≡ before → IsInOrder [] new →
+      IsApplied c old new (Refused NoMemory) before after
+  applied-denied none takes same quiet order = record {
+    refused = λ q e. absurd (cc);
+    done = λ e n. absurd (n refl);
+    memory = λ e. (none, takes, same, quiet);
+    keys = subst (KeepsKeys old) (sym same) (KeepsKeys-same old);
+    order = order;
+  }
+
+  -- one that is carried out
+  pub applied-done : (reply : Reply) → refusal_of (objects_of old.heap) c ≡ None → IsCarriedOut c old.heap new.heap reply before after → KeepsKeys old new →
+      IsInOrder [] new → IsApplied c old new reply before after
+  applied-done reply none carried keys order = record {
+    refused = λ q e. absurd (cc);
+    done = λ e n. carried;
+    memory = λ e. absurd (reply-not_refused (objects_of old.heap) c NoMemory (sym carried.reply_is ∙ e));
+    keys = keys;
+    order = order;
+  }
+
+  -- and one that is carried out where some natives are no more
+  pub applied-left : (reply : Reply) (o : Outcome) → refusal_of (objects_of old.heap) c ≡ None →
+      (new.heap ≡ o.heap → Tells before after (texts_of (map of_event o.events)) → IsCarriedOut c old.heap new.heap reply before after) →
+      new ≡ left_with old o.heap → Tells before after (texts_of (map of_event o.events)) → IsInOrder [] new → IsApplied c old new reply before after
+  applied-left reply o none carried e t order =
+      applied-done reply none (carried (ap (λ (v : Keyed). v.heap) e) t) (KeepsKeys-left old new o.heap e) order
+
+-- What is carried out
+
+module _ (old new : Heap) (reply : Reply) (before after : Telling) where
+  abbrev Told : Outcome → Type 0
+  Told o = Tells before after (texts_of (map of_event o.events))
+
+  pub carried-native : (d n : ℕ) → reply ≡ Named (native (old.natives_made + 1)) → new ≡ (make_native old d n).heap → Told (make_native old d n) →
+      IsCarriedOut (Native d n) old new reply before after
+  unfolding effects reply_if_taken
+  carried-native d n r h t = record { reply_is = r; heap = h; told = t }
+
+  pub carried-copy_native : (d s : ℕ) (x : Option Name) → x ≡ register old (N s) → reply ≡ named_or_nothing x → new ≡ (hold_native old d x).heap →
+      Told (hold_native old d x) → IsCarriedOut (CopyNative d s) old new reply before after
+  unfolding effects reply_if_taken
+  carried-copy_native d s x e r h t = record {
+    reply_is = r ∙ ap named_or_nothing e;
+    heap = h ∙ ap (λ y. (hold_native old d y).heap) e;
+    told = subst (λ y. Told (hold_native old d y)) e t;
+  }
+
+  pub carried-drop_native : (r : ℕ) → reply ≡ Done → new ≡ (hold_native old r None).heap → Told (hold_native old r None) →
+      IsCarriedOut (Drop (N r)) old new reply before after
+  unfolding effects reply_if_taken hold_native
+  carried-drop_native k r h t = record { reply_is = r; heap = h; told = t }
+
+  pub carried-set : (d i : ℕ) (from : Option Reg) (x : Option Name) → x ≡ source old from → reply ≡ Done → new ≡ (store_native old d i x).heap →
+      Told (store_native old d i x) → IsCarriedOut (Set d i from) old new reply before after
+  unfolding effects reply_if_taken
+  carried-set d i from x e r h t = record {
+    reply_is = r;
+    heap = h ∙ ap (λ y. (store_native old d i y).heap) e;
+    told = subst (λ y. Told (store_native old d i y)) e t;
+  }
+
+  pub carried-get_native : (d s i : ℕ) (x : Option Name) → x ≡ slot_at (objects_of old) (N s) i → reply ≡ named_or_nothing x →
+      new ≡ (hold_native old d x).heap → Told (hold_native old d x) → IsCarriedOut (Get (N d) s i) old new reply before after
+  unfolding effects reply_if_taken
+  carried-get_native d s i x e r h t = record {
+    reply_is = r ∙ ap named_or_nothing e;
+    heap = h ∙ ap (λ y. (hold_native old d y).heap) e;
+    told = subst (λ y. Told (hold_native old d y)) e t;
+  }
+
+-- and tells nothing
+
+module _ (old new : Heap) (reply : Reply) (t : Telling) where
+  pub carried-script : (d n : ℕ) → reply ≡ Named (object (old.scripts_made + 1)) → new ≡ make_object old d Plain n → IsCarriedOut (Script d n) old new reply t t
+  unfolding effects reply_if_taken
+  carried-script d n r h = record { reply_is = r; heap = h; told = Tells-nil t }
+
+  pub carried-copy_script : (d s : ℕ) (x : Option Name) → x ≡ register old (S s) → exposed old x ≡ old → reply ≡ named_or_nothing x →
+      new ≡ hold_script old d x → IsCarriedOut (CopyScript d s) old new reply t t
+  unfolding effects reply_if_taken
+  carried-copy_script d s x e same r h = record {
+    reply_is = r ∙ ap named_or_nothing e;
+    heap = h ∙ (ap (λ g. set_register g (S d) x) same ∙ ap (set_register old (S d)) e);
+    told = Tells-nil t;
+  }
+
+  pub carried-drop_script : (r : ℕ) → reply ≡ Done → new ≡ hold_script old r None → IsCarriedOut (Drop (S r)) old new reply t t
+  unfolding effects reply_if_taken exposed
+  carried-drop_script k r h = record { reply_is = r; heap = h; told = Tells-nil t }
+
+  pub carried-get_script : (d s i : ℕ) (x : Option Name) → x ≡ slot_at (objects_of old) (N s) i → reply ≡ named_or_nothing x →
+      new ≡ hold_script old d x → IsCarriedOut (Get (S d) s i) old new reply t t
+  unfolding effects reply_if_taken
+  carried-get_script d s i x e r h = record { reply_is = r ∙ ap named_or_nothing e; heap = h ∙ ap (hold_script old d) e; told = Tells-nil t }
+
+  pub carried-put : (d i : ℕ) (from : Option ℕ) (x : Option Name) → x ≡ source old (option_map S from) → preserve old (register old (S d)) ≡ old → reply ≡ Done →
+      new ≡ set_slot old (register old (S d)) i x → IsCarriedOut (Put d i from) old new reply t t
+  unfolding effects reply_if_taken
+  carried-put d i from x e same r h = record {
+    reply_is = r;
+    heap = h ∙ (ap (set_slot old (register old (S d)) i) e ∙ ap (λ g. set_slot g (register old (S d)) i (source old (option_map S from))) (sym same));
+    told = Tells-nil t;
+  }
+
+  pub carried-take : (d s i : ℕ) (x : Option Name) → x ≡ slot_at (objects_of old) (S s) i → reply ≡ named_or_nothing x →
+      new ≡ hold_script old d x → IsCarriedOut (Take d s i) old new reply t t
+  unfolding effects reply_if_taken
+  carried-take d s i x e r h = record { reply_is = r ∙ ap named_or_nothing e; heap = h ∙ ap (hold_script old d) e; told = Tells-nil t }
+
+  pub carried-expose : (s i : ℕ) (x : Option Name) → x ≡ slot_at (objects_of old) (N s) i → reply ≡ named_or_nothing x →
+      new ≡ exposed old x → IsCarriedOut (Expose s i) old new reply t t
+  unfolding effects reply_if_taken
+  carried-expose s i x e r h = record { reply_is = r ∙ ap named_or_nothing e; heap = h ∙ ap (exposed old) e; told = Tells-nil t }
+
+-- an exposure of nothing
+pub exposed-none : (h : Heap) → exposed h None ≡ h
+unfolding exposed
+exposed-none h = refl
+
+-- what is not at least is less
+pub room-left : (a b : ℕ) → ¬ (a ≤ b) → b < a
+room-left a b h = go (nat_le a b) refl
+  where
+    go : (t : Bool) → nat_le a b ≡ t → b < a
+    go true e = absurd (h (leb-true a b e))
+    go false e = leb-false a b e
+
+-- What the checks give
+
+module _ (h : Heap) where
+  pub full-native : (d n : ℕ) → h.limits.natives ≤ h.natives_made → refusal_of (objects_of h) (Native d n) ≡ Some Full
+  full-native d n few = refusal-by (objects_of h) (Native d n) false false false false true refl refl refl refl (le-leb _ _ few)
+
+  pub room-native : (d n : ℕ) → h.natives_made < h.limits.natives → refusal_of (objects_of h) (Native d n) ≡ None
+  room-native d n few = refusal-by (objects_of h) (Native d n) false false false false false refl refl refl refl (lt-leb _ _ few)
+
+  pub full-script : (d n : ℕ) → h.limits.scripts ≤ h.scripts_made → refusal_of (objects_of h) (Script d n) ≡ Some Full
+  full-script d n few = refusal-by (objects_of h) (Script d n) false false false false true refl refl refl refl (le-leb _ _ few)
+
+  pub room-script : (d n : ℕ) → h.scripts_made < h.limits.scripts → refusal_of (objects_of h) (Script d n) ≡ None
+  room-script d n few = refusal-by (objects_of h) (Script d n) false false false false false refl refl refl refl (lt-leb _ _ few)
+
+  pub slot-set : (d i : ℕ) (from : Option Reg) → refusal_of (objects_of h) (Set d i from) ≡ None → i < length (slots_at (objects_of h) (N d))
+  slot-set d i from e = leb-false (length (slots_at (objects_of h) (N d))) i (IsTaken-from (objects_of h) (Set d i from) e).slot
+
+  pub slot-get : (r : Reg) (s i : ℕ) → refusal_of (objects_of h) (Get r s i) ≡ None → i < length (slots_at (objects_of h) (N s))
+  slot-get r s i e = leb-false (length (slots_at (objects_of h) (N s))) i (IsTaken-from (objects_of h) (Get r s i) e).slot
+
+  pub slot-expose : (s i : ℕ) → refusal_of (objects_of h) (Expose s i) ≡ None → i < length (slots_at (objects_of h) (N s))
+  slot-expose s i e = leb-false (length (slots_at (objects_of h) (N s))) i (IsTaken-from (objects_of h) (Expose s i) e).slot
+
+  pub slot-put : (d i : ℕ) (from : Option ℕ) → refusal_of (objects_of h) (Put d i from) ≡ None → i < length (slots_at (objects_of h) (S d))
+  slot-put d i from e = leb-false (length (slots_at (objects_of h) (S d))) i (IsTaken-from (objects_of h) (Put d i from) e).slot
+
+  pub slot-take : (d s i : ℕ) → refusal_of (objects_of h) (Take d s i) ≡ None → i < length (slots_at (objects_of h) (S s))
+  slot-take d s i e = leb-false (length (slots_at (objects_of h) (S s))) i (IsTaken-from (objects_of h) (Take d s i) e).slot

@@ -1,0 +1,65 @@
+-- AN EXPOSURE OF WHAT IS BLACK CHANGES NOTHING: all that it reaches over slots is black.
+use Rattle.std.proofs.Common.{◌≡◌, ℕ, Bool, true, false, List, [], ◌∷◌, map, Option, Some, None, if◌then◌else◌, refl, sym, ◌∙◌, ap, subst, inl, inr, ⊎_elim}
+use Rattle.cc_lists.specs.Members.{Among, has}
+use Rattle.cc_lists.proofs.Members.{Among-map_cases, Among-flat_map_cases}
+use Rattle.cc_lists.proofs.Least.{derived-within}
+use Rattle.cc_lists.proofs.Closure.{closure-decides}
+use Rattle.cc_names.specs.declared.name.Name.{Name}
+use Rattle.cc_names.specs.declared.kind.Colour.TheVariants.{Black}
+use Rattle.cc_names.specs.declared.register.Reg.TheVariants.{S}
+use Rattle.cc_names.specs.Names.{same_name}
+use Rattle.cc_names.proofs.NameTests.{same_name-exact}
+use Rattle.cc_model.specs.Slots.{contents, from_to}
+use Rattle.cc_model.specs.Heap.{Heap, HeapScript, register}
+use Rattle.cc_model.specs.View.{script_slot_edges}
+use Rattle.cc_model.specs.Exposure.{as_black, exposed, exposed_names, exposure_rules, slots_of_scripts}
+use Rattle.cc_laws_heap.proofs.Coloured.{IsColoured}
+use Rattle.cc_laws_heap.proofs.ColourChanges.{IsHeldBlack}
+use Rattle.cc_laws_heap.proofs.Writes.{contents-at}
+
+-- a list mapped by what leaves each of its members
+map-left : {X : Type 0} (f : X → X) (xs : List X) → ((x : X) → Among x xs → f x ≡ x) → map f xs ≡ xs
+map-left f [] h = refl
+map-left f (x ∷ xs) h = λ i. h x (inl refl) i ∷ map-left f xs (λ y m. h y (inr m)) i
+
+module _ (h : Heap) (c : IsColoured h) where
+  -- script objects of this name are black
+  abbrev AreBlack : Name → Type 0
+  AreBlack y = (o : HeapScript) → Among o h.scripts → o.name ≡ y → o.colour ≡ Black
+
+  -- what a black one has in a slot is black
+  black-along : (x y : Name) → Among (x, y) (slots_of_scripts h) → AreBlack x → AreBlack y
+  black-along x y m black o i e =
+      let q = Among-flat_map_cases script_slot_edges h.scripts (x, y) m in
+      let f = Among-map_cases (from_to q.0.name) (contents q.0.slots) (x, y) q.2 in
+      let holder : q.0.colour ≡ Black = black q.0 q.1 (ap (λ (p : Name × Name). p.0) f.2) in
+      let content : f.0 ≡ o.name = ap (λ (p : Name × Name). p.1) f.2 ∙ sym e in
+      c.black_to_black q.0 o q.1 i holder (subst (λ z. Among z (contents q.0.slots)) content f.1)
+
+  -- all that is reached from what is black is black
+  reached-black : (x : Name) → AreBlack x → (y : Name) → has same_name (exposed_names h x) y ≡ true → AreBlack y
+  reached-black x black y e =
+      derived-within (x ∷ []) (slots_of_scripts h) [] AreBlack
+      (λ z m. ⊎_elim (λ s. subst AreBlack s black) (λ t. absurd t) m)
+      black-along
+      (λ ps z m. absurd m)
+      y ((closure-decides same_name same_name-exact (exposure_rules h x) y).0 e)
+
+  -- AN EXPOSURE of what is black changes nothing.
+  pub exposed-same : (x : Option Name) → IsHeldBlack h.scripts x → exposed h x ≡ h
+  unfolding exposed
+  exposed-same None black = refl
+  exposed-same (Some x) black =
+      ap (λ os. record h { scripts = os })
+      (map-left (λ o. if has same_name (exposed_names h x) o.name then as_black o else o) h.scripts
+      (λ o m. left o m (has same_name (exposed_names h x) o.name) refl))
+    where
+      left : (o : HeapScript) → Among o h.scripts → (b : Bool) → has same_name (exposed_names h x) o.name ≡ b → (if b then as_black o else o) ≡ o
+      left o m false e = refl
+      left o m true e =
+          let is : o.colour ≡ Black = reached-black x (λ p i s. black p i (inl (sym s))) o.name e o m refl in
+          ap (λ colour. record o { colour = colour }) (sym is)
+
+  -- what a register holds is black
+  pub register-black : (r : ℕ) → IsHeldBlack h.scripts (register h (S r))
+  register-black r = λ o m i. c.held_black o m (contents-at h.script_registers r o.name i)

@@ -1,0 +1,97 @@
+-- WHAT FOLLOWS WHERE A COMMAND IS ANSWERED, by the laws: the heaps go on standing for the graph, snapshots stay fresh,
+-- colours keep their invariant, and counts stay small.
+use Rattle.std.proofs.Common.{◌≡◌, ◌≢◌, Bool, true, false, [], Option, Some, None, IsTrue, refl, sym, ◌∙◌, ap, subst, inl, inr, ◌⊎◌, ⊎_elim, arith}
+use Rattle.cc_model.specs.declared.command.Command.{Command}
+use Rattle.cc_model.specs.declared.item.Refusal.{Refusal}
+use Rattle.cc_model.specs.declared.item.Refusal.TheVariants.{Long, Line, Empty, Kind, Slot, Full, NoMemory}
+use Rattle.cc_model.specs.declared.item.Reply.{Reply}
+use Rattle.cc_model.specs.declared.item.Reply.TheVariants.{Named, Nothing, Done, Census, Refused}
+use Rattle.cc_model.specs.Telling.{Telling}
+use Rattle.cc_model.specs.Ranges.{in_range}
+use Rattle.cc_model.specs.Checks.{refusal_of}
+use Rattle.cc_model.specs.Colours.{HasColourInvariant}
+use Rattle.cc_model.specs.Effects.{effects}
+use Rattle.cc_model.specs.Fresh.{IsFresh}
+use Rattle.cc_model.specs.Graph.{Graph, step, unless_refused, changed}
+use Rattle.cc_model.specs.Graph as graph
+use Rattle.cc_model.specs.Heap.{Heap, objects_of}
+use Rattle.cc_model.specs.Lawful.{graph_after, is_without_memory}
+use Rattle.cc_model.specs.Snapshot.{Snapshot}
+use Rattle.cc_model.specs.StandsFor.{StandsFor}
+use Rattle.cc_model.specs.View.{view}
+use Rattle.cc_model.specs.WellMade.{IsWellMade}
+use Rattle.cc_laws_heap.proofs.Taken.{IsTaken-from}
+use Rattle.cc_laws_heap.proofs.Coloured.{AreColoured-from_view, HasColourInvariant-from}
+use Rattle.cc_laws_heap.proofs.CommandsColours.{effects-coloured}
+use Rattle.cc_laws_heap.proofs.CommandsSound.{effects-sound}
+use Rattle.cc_laws_heap.proofs.CommandsStand.{command-stands}
+use Rattle.cc_laws_heap.proofs.CountBound.{count-bound}
+use Rattle.cc_laws_heap.proofs.RepliesAlike.{refusal_of-alike, objects-stand}
+use Rattle.cc_laws_snapshot.proofs.CommandsGentle.{effects-fresh}
+use Rattle.cc_heaps.specs.Few.{AreFew}
+use Rattle.cc_heaps.specs.Keyed.{Keyed, IsInOrder}
+use Rattle.cc_mutator.specs.Commands.{IsApplied}
+
+-- Want of memory
+
+without-memory : (r : Reply) → is_without_memory r ≡ true → r ≡ Refused NoMemory
+without-memory (Named x) e = absurd (cc)
+without-memory Nothing e = absurd (cc)
+without-memory Done e = absurd (cc)
+without-memory (Census n) e = absurd (cc)
+without-memory (Refused Long) e = absurd (cc)
+without-memory (Refused Line) e = absurd (cc)
+without-memory (Refused Empty) e = absurd (cc)
+without-memory (Refused Kind) e = absurd (cc)
+without-memory (Refused Slot) e = absurd (cc)
+without-memory (Refused Full) e = absurd (cc)
+without-memory (Refused NoMemory) e = refl
+
+with-memory : (r : Reply) → is_without_memory r ≡ false → r ≢ Refused NoMemory
+with-memory r e f = let t : is_without_memory r ≡ true = ap is_without_memory f in absurd (cc)
+
+module _ (c : Command) (old new : Keyed) (reply : Reply) (before after : Telling) (a : IsApplied c old new reply before after) where
+  -- WHAT HAPPENED: nothing, or the effects of the command, where it is not refused
+  happened : (new.heap ≡ old.heap) ⊎ ((refusal_of (objects_of old.heap) c ≡ None) × (new.heap ≡ (effects old.heap c).heap))
+  happened = go (refusal_of (objects_of old.heap) c) refl (is_without_memory reply) refl
+    where
+      go : (o : Option Refusal) → refusal_of (objects_of old.heap) c ≡ o → (b : Bool) → is_without_memory reply ≡ b →
+          (new.heap ≡ old.heap) ⊎ ((refusal_of (objects_of old.heap) c ≡ None) × (new.heap ≡ (effects old.heap c).heap))
+      go (Some r) e b f = inl (ap (λ (v : Keyed). v.heap) (a.refused r e).1)
+      go None e true f = inl (ap (λ (v : Keyed). v.heap) (a.memory (without-memory reply f)).2)
+      go None e false f = inr (e, (a.done e (with-memory reply f)).heap)
+
+  module _ (order : IsInOrder [] old) (range : IsTrue (in_range c)) where
+    pub applied-fresh : (s : Snapshot) → IsFresh old.heap.natives_made (view old.heap) s → IsFresh new.heap.natives_made (view new.heap) s
+    applied-fresh s fresh = ⊎_elim
+        (λ same. subst (λ (h : Heap). IsFresh h.natives_made (view h) s) (sym same) fresh)
+        (λ d. subst (λ (h : Heap). IsFresh h.natives_made (view h) s) (sym d.1)
+        (effects-fresh old.heap s c order.sound fresh range (IsTaken-from (objects_of old.heap) c d.0)))
+        happened
+
+    pub applied-colours : HasColourInvariant (view old.heap) → HasColourInvariant (view new.heap)
+    applied-colours colours = ⊎_elim
+        (λ same. subst (λ (h : Heap). HasColourInvariant (view h)) (sym same) colours)
+        (λ d. let taken = IsTaken-from (objects_of old.heap) c d.0 in
+        subst (λ (h : Heap). HasColourInvariant (view h)) (sym d.1)
+        (HasColourInvariant-from (effects old.heap c).heap (effects-sound old.heap c order.sound range taken).well_formed
+        (effects-coloured old.heap c order.sound (AreColoured-from_view old.heap order.sound.well_formed colours) range taken)))
+        happened
+
+    pub applied-few : AreFew new.heap
+    applied-few = λ n m. omega (arith, count-bound [] new.heap n a.order.sound a.order.limits.0 m)
+
+    pub applied-stands : (g : Graph) → IsWellMade g → StandsFor old.heap g → StandsFor new.heap (graph_after g c (Some reply))
+    applied-stands g made stands = go (is_without_memory reply) refl
+      where
+        by_refusal : (o : Option Refusal) → refusal_of (objects_of old.heap) c ≡ o → is_without_memory reply ≡ false → StandsFor new.heap (step g c)
+        by_refusal (Some r) e f =
+            let alike : refusal_of (graph.objects_of g) c ≡ Some r = sym (refusal_of-alike (objects_of old.heap) (graph.objects_of g) (objects-stand old.heap g stands) c) ∙ e in
+            let still : step g c ≡ g = ap (λ o. unless_refused o g (changed g c)) alike in
+            subst (λ h. StandsFor h (step g c)) (sym (ap (λ (v : Keyed). v.heap) (a.refused r e).1)) (subst (StandsFor old.heap) (sym still) stands)
+        by_refusal None e f =
+            subst (λ h. StandsFor h (step g c)) (sym (a.done e (with-memory reply f)).heap) (command-stands old.heap g c order.sound made stands range e)
+
+        go : (b : Bool) → is_without_memory reply ≡ b → StandsFor new.heap (elim b [ true ↦ g | false ↦ step g c ])
+        go true f = subst (λ h. StandsFor h g) (sym (ap (λ (v : Keyed). v.heap) (a.memory (without-memory reply f)).2)) stands
+        go false f = by_refusal (refusal_of (objects_of old.heap) c) refl f

@@ -1,0 +1,9 @@
+pub mod ContentNames
+pub mod NativesRead
+pub mod ScriptsRead
+pub mod Exposing
+pub mod Refusing
+pub mod KeysKept
+pub mod Storing
+pub mod Carrying
+pub mod Following

@@ -1,0 +1,98 @@
+-- WHEN A COMMAND IS REFUSED, by the tests in their order.
+use Rattle.std.proofs.Common.{◌≡◌, ℕ, Bool, true, false, ◌||◌, [], ◌∷◌, map, length, nat_le, Option, Some, None, refl, sym, ◌∙◌, ap}
+use Rattle.std.specs.Prelude.{is_none, option_to_list}
+use Rattle.std.specs.List.{list_any}
+use Rattle.cc_names.specs.declared.register.Reg.{Reg}
+use Rattle.cc_names.specs.declared.register.Reg.TheVariants.{N, S}
+use Rattle.cc_model.specs.declared.command.Command.{Command}
+use Rattle.cc_model.specs.declared.command.Command.TheVariants.{CopyNative, CopyScript, Drop, Set, Get, Put, Take, Expose}
+use Rattle.cc_model.specs.declared.item.Refusal.{Refusal}
+use Rattle.cc_model.specs.declared.item.Refusal.TheVariants.{Empty, Kind, Slot, Full}
+use Rattle.cc_model.specs.Checks.{Objects, slot_at, slots_at, lacks_object, has_wrong_object, has_no_slot, has_wrong_content, is_map_in, is_native_there, is_script_there, is_full, first_refusal, refusal_of}
+
+-- what is answered by the five tests
+abbrev pub refusal_by : Bool → Bool → Bool → Bool → Bool → Option Refusal
+refusal_by lacks wrong slot content full = first_refusal ((lacks, Empty) ∷ (wrong, Kind) ∷ (slot, Slot) ∷ (content, Kind) ∷ (full, Full) ∷ [])
+
+-- what is answered by the two tests of a slot
+abbrev pub refusal_by_slot : Bool → Bool → Option Refusal
+refusal_by_slot lacks slot = first_refusal ((lacks, Empty) ∷ (slot, Slot) ∷ [])
+
+-- with a source that may be empty
+abbrev pub or_source : Bool → Option Refusal → Option Refusal
+or_source true q = Some Empty
+or_source false q = q
+
+slot-source : (lacks source slot : Bool) → refusal_by (lacks || source) false slot false false ≡ or_source source (refusal_by_slot lacks slot)
+slot-source true true slot = refl
+slot-source true false slot = refl
+slot-source false true slot = refl
+slot-source false false true = refl
+slot-source false false false = refl
+
+-- with what the slot holds
+abbrev pub or_content : Bool → Option Refusal → Option Refusal
+or_content content (Some r) = Some r
+or_content content None = refusal_by false false false content false
+
+slot-content : (lacks slot content : Bool) → refusal_by (lacks || false) false slot content false ≡ or_content content (refusal_by_slot lacks slot)
+slot-content true slot content = refl
+slot-content false true content = refl
+slot-content false false content = refl
+
+-- where they refuse nothing there is the slot
+pub slot-there : (lacks slot : Bool) → refusal_by_slot lacks slot ≡ None → slot ≡ false
+slot-there true slot e = absurd (cc)
+slot-there false true e = absurd (cc)
+slot-there false false e = refl
+
+-- the first of the tests
+pub refusal-by : (o : Objects) (c : Command) (lacks wrong slot content full : Bool) → lacks_object o c ≡ lacks → has_wrong_object o c ≡ wrong →
+    has_no_slot o c ≡ slot → has_wrong_content o c ≡ content → is_full o c ≡ full → refusal_of o c ≡ refusal_by lacks wrong slot content full
+unfolding refusal_of
+refusal-by o c lacks wrong slot content full a b d e f = λ i. refusal_by (a i) (b i) (d i) (e i) (f i)
+
+module _ (o : Objects) where
+  -- copies and drops are never refused
+  pub refusal-copy_native : (d s : ℕ) → refusal_of o (CopyNative d s) ≡ None
+  refusal-copy_native d s = refusal-by o (CopyNative d s) false false false false false refl refl refl refl refl
+
+  pub refusal-copy_script : (d s : ℕ) → refusal_of o (CopyScript d s) ≡ None
+  refusal-copy_script d s = refusal-by o (CopyScript d s) false false false false false refl refl refl refl refl
+
+  pub refusal-drop : (r : Reg) → refusal_of o (Drop r) ≡ None
+  refusal-drop r = refusal-by o (Drop r) false false false false false refl refl refl refl refl
+
+  -- by the tests of a slot of what a register holds
+  abbrev of_slot : Reg → ℕ → Option Refusal
+  of_slot r i = refusal_by_slot (is_none (o.register r)) (nat_le (length (slots_at o r)) i)
+
+  -- a slot of a native written
+  pub refusal-set : (d i : ℕ) (from : Option Reg) (b : Bool) → list_any (λ r. is_none (o.register r)) (option_to_list from) ≡ b →
+      refusal_of o (Set d i from) ≡ or_source b (of_slot (N d) i)
+  refusal-set d i from b e =
+      refusal-by o (Set d i from) (is_none (o.register (N d)) || b) false _ _ _ (λ j. is_none (o.register (N d)) || e j) refl refl refl refl ∙ slot-source _ b _
+
+  -- a slot of a native read into a native register, or touched
+  pub refusal-get_native : (d s i : ℕ) (content : Bool) (q : Option Refusal) → of_slot (N s) i ≡ q → is_script_there (slot_at o (N s) i) ≡ content →
+      refusal_of o (Get (N d) s i) ≡ or_content content q
+  refusal-get_native d s i content q e f =
+      refusal-by o (Get (N d) s i) _ _ _ content _ refl refl refl f refl ∙ (slot-content _ _ content ∙ ap (or_content content) e)
+
+  pub refusal-expose : (s i : ℕ) (content : Bool) (q : Option Refusal) → of_slot (N s) i ≡ q → is_native_there (slot_at o (N s) i) ≡ content →
+      refusal_of o (Expose s i) ≡ or_content content q
+  refusal-expose s i content q e f =
+      refusal-by o (Expose s i) _ _ _ content _ refl refl refl f refl ∙ (slot-content _ _ content ∙ ap (or_content content) e)
+
+  -- read into a script register it is refused as it is where it is touched
+  pub refusal-get_script : (d s i : ℕ) → refusal_of o (Expose s i) ≡ refusal_of o (Get (S d) s i)
+  refusal-get_script d s i = refusal-by o (Expose s i) _ _ _ _ _ refl refl refl refl refl ∙ sym (refusal-by o (Get (S d) s i) _ _ _ _ _ refl refl refl refl refl)
+
+  -- a slot of a script object written or read, where no register holds a weak map
+  pub refusal-put : (d i : ℕ) (from : Option ℕ) → is_map_in o (o.register (S d)) ≡ false → (b : Bool) →
+      list_any (λ r. is_none (o.register r)) (map S (option_to_list from)) ≡ b → refusal_of o (Put d i from) ≡ or_source b (of_slot (S d) i)
+  refusal-put d i from m b e =
+      refusal-by o (Put d i from) (is_none (o.register (S d)) || b) false _ _ _ (λ j. is_none (o.register (S d)) || e j) m refl refl refl ∙ slot-source _ b _
+
+  pub refusal-take : (d s i : ℕ) → is_map_in o (o.register (S s)) ≡ false → refusal_of o (Take d s i) ≡ of_slot (S s) i
+  refusal-take d s i m = refusal-by o (Take d s i) _ false _ _ _ refl m refl refl refl ∙ slot-source _ false _

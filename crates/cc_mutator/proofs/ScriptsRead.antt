@@ -1,0 +1,166 @@
+-- THE SCRIPT OBJECT THAT A REGISTER HOLDS, by its key: its slots, what they hold, and its colour.
+use Rattle.std.proofs.Common.{◌≡◌, ℕ, zero, suc, ◌==◌, ◌≤◌, true, false, List, [], ◌∷◌, map, length, get_or, count_by, Option, Some, None, is_some, option_map, option_and_then, IsTrue, IfSome, refl, sym, ◌∙◌, ap, subst, inl, inr}
+use Rattle.std.specs.Option.{option_to_list}
+use Rattle.std.specs.Prelude.{is_none}
+use Rattle.std.proofs.Math.ListN.{get_or-map}
+use Rattle.std.proofs.Math.Path.{fun_ext}
+use Rattle.std.proofs.lemmas.Bool.{false≢true}
+use Rattle.std.proofs.lemmas.List.{length-map}
+use Rattle.cc_lists.specs.Members.{Among}
+use Rattle.cc_lists.proofs.Members.{Among-map_cases}
+use Rattle.cc_lists.proofs.Counting.{count_by-map}
+use Rattle.cc_lists.proofs.Filtering.{find-among}
+use Rattle.cc_lists.proofs.Searching.{find-only}
+use Rattle.cc_names.specs.declared.name.Name.{Name}
+use Rattle.cc_names.specs.declared.name.Name.TheVariants as name
+use Rattle.cc_names.specs.declared.number.SKey.{SKey}
+use Rattle.cc_names.specs.declared.kind.Kind.TheVariants.{Plain}
+use Rattle.cc_names.specs.declared.kind.Colour.TheVariants.{Black}
+use Rattle.cc_names.specs.declared.register.Reg.TheVariants.{S}
+use Rattle.cc_names.specs.Names.{object, same_name}
+use Rattle.cc_names.proofs.NameTests.{same_name-refl}
+use Rattle.cc_model.specs.Slots.{Slots, contents}
+use Rattle.cc_model.specs.Checks.{is_map_in, slots_or_none, slot_at, slots_at}
+use Rattle.cc_model.specs.Heap.{HeapScript, objects_of, preserve, register, script_at, source, slots_in, slots_of_kind, slots_of_script}
+use Rattle.cc_model.specs.WellFormed.{FitsName}
+use Rattle.cc_laws_heap.proofs.Coloured.{IsColoured}
+use Rattle.cc_laws_heap.proofs.NameLists.{same_name-sym}
+use Rattle.cc_laws_heap.proofs.Writes.{contents-at}
+use Rattle.cc_script.specs.Objects.{Object, object_at, is_there, name_at, colour_at}
+use Rattle.cc_script.specs.Objects as objects
+use Rattle.cc_heaps.specs.Keyed.{Keyed, IsInOrder, name_held, named_object}
+use Rattle.cc_heaps.specs.Changes.{IsScriptThere, script_name}
+use Rattle.cc_mutator.proofs.ContentNames.{object-there}
+
+-- the script object at a key, which a register holds
+pub record IsObjectAt (v : Keyed) (r key : ℕ) : Type 0 where
+  pub object : Object
+  pub at : object_at v.scripts key ≡ Some object
+  pub held : register v.heap (S r) ≡ Some object.name
+
+-- what stands at a place of a list stands in it
+among-get : (slots : List (Option ℕ)) (i q : ℕ) → get_or slots i None ≡ Some q → Among (Some q) slots
+among-get [] i q e = absurd (cc)
+among-get (x ∷ xs) zero q e = inl e
+among-get (x ∷ xs) (suc i) q e = inr (among-get xs i q e)
+
+-- a plain object has the name of one, and at most 64 slots
+plain-named : (x : Name) (slots : Slots) → FitsName x Plain slots → (k : ℕ) × (x ≡ object k) × (length slots ≤ 64)
+plain-named (name.Native k) slots f = absurd f
+plain-named (name.Script k) slots f = (k.0, refl, f)
+plain-named (name.Reflector k) slots f = absurd f
+
+module _ (owned : List ℕ) (v : Keyed) (order : IsInOrder owned v) where
+  -- script objects of one name are one
+  one-name : (x : Name) → count_by (λ (o : HeapScript). same_name o.name x) v.heap.scripts ≤ 1
+  one-name x = subst (λ n. n ≤ 1)
+      (count_by-map (same_name x) (λ (o : HeapScript). o.name) v.heap.scripts
+      ∙ ap (λ p. count_by p v.heap.scripts) (fun_ext (λ (o : HeapScript). same_name-sym x o.name)))
+      (order.sound.well_formed.distinct x)
+
+  -- the slots of a script object that is there
+  slots-of_object : (o : HeapScript) → Among o v.heap.scripts → slots_in v.heap o.name ≡ Some o.slots
+  slots-of_object o m =
+      let plain = plain-named o.name o.slots (subst (λ kind. FitsName o.name kind o.slots) (order.plain o m) (order.sound.well_formed.kinds o m)) in
+      let found : script_at v.heap (object plain.0) ≡ Some o =
+      find-only (λ (p : HeapScript). same_name p.name (object plain.0)) v.heap.scripts o (one-name (object plain.0)) m
+      (ap (λ x. same_name x (object plain.0)) plain.1 ∙ same_name-refl (object plain.0)) in
+      ap (slots_in v.heap) plain.1 ∙ (ap (λ f. option_and_then slots_of_script f) found ∙ ap (λ kind. slots_of_kind kind o.slots) (order.plain o m))
+
+  -- and they are few
+  slots-of_object-few : (o : HeapScript) → Among o v.heap.scripts → length o.slots ≤ 64
+  slots-of_object-few o m =
+      (plain-named o.name o.slots (subst (λ kind. FitsName o.name kind o.slots) (order.plain o m) (order.sound.well_formed.kinds o m))).2
+
+  -- no register holds a weak map
+  pub no_map : (r : ℕ) → is_map_in (objects_of v.heap) (register v.heap (S r)) ≡ false
+  no_map r = go (register v.heap (S r)) (contents-at v.heap.script_registers r)
+    where
+      go : (x : Option Name) → ((y : Name) → Among y (option_to_list x) → Among y (contents v.heap.script_registers)) → is_map_in (objects_of v.heap) x ≡ false
+      go None h = refl
+      go (Some y) h =
+          let f = Among-map_cases (λ (o : HeapScript). o.name) v.heap.scripts y (order.sound.well_formed.script_registers y (h y (inl refl))) in
+          ap (λ z. is_none (slots_in v.heap z)) (sym f.2) ∙ ap is_none (slots-of_object f.0 f.1)
+
+  -- nor a reflector, which a write would preserve
+  pub preserve-same : (r : ℕ) → preserve v.heap (register v.heap (S r)) ≡ v.heap
+  preserve-same r = go (register v.heap (S r)) (contents-at v.heap.script_registers r)
+    where
+      go : (x : Option Name) → ((y : Name) → Among y (option_to_list x) → Among y (contents v.heap.script_registers)) → preserve v.heap x ≡ v.heap
+      go None h = refl
+      go (Some y) h =
+          let f = Among-map_cases (λ (o : HeapScript). o.name) v.heap.scripts y (order.sound.well_formed.script_registers y (h y (inl refl))) in
+          let o = f.0 in
+          let plain = plain-named o.name o.slots (subst (λ kind. FitsName o.name kind o.slots) (order.plain o f.1) (order.sound.well_formed.kinds o f.1)) in
+          ap (λ z. preserve v.heap (Some z)) (sym f.2 ∙ plain.1)
+
+  module _ (r : ℕ) (key : SKey) (name : script_name v (Some key) ≡ register v.heap (S r)) (there : IsTrue (is_there v.scripts key.0)) where
+    pub object-at : IsObjectAt v r key.0
+    object-at = go (object_at v.scripts key.0) refl there
+      where
+        go : (o : Option Object) → object_at v.scripts key.0 ≡ o → is_some o ≡ true → IsObjectAt v r key.0
+        go None e t = absurd (false≢true t)
+        go (Some o) e t = record { object = o; at = e; held = sym name ∙ ap (λ (f : Option Object). option_map (λ (p : Object). p.name) f) e }
+
+    -- it stands in the heaps under its name
+    stands : Among (named_object v.scripts object-at.object) v.heap.scripts
+    stands = object-there owned v order key.0 object-at.object object-at.at
+
+    -- its slots by names
+    pub script_slots-named : slots_at (objects_of v.heap) (S r) ≡ map (name_held v.scripts) object-at.object.slots
+    script_slots-named =
+        ap (λ o. slots_or_none (option_and_then (slots_in v.heap) o)) object-at.held
+        ∙ ap slots_or_none (slots-of_object (named_object v.scripts object-at.object) stands)
+
+    -- and by keys
+    pub script_slots-keyed : objects.slots_at v.scripts key.0 ≡ object-at.object.slots
+    script_slots-keyed = ap objects.slots_or_none object-at.at
+
+    -- as many
+    pub script_slots-as_many : length (objects.slots_at v.scripts key.0) ≡ length (slots_at (objects_of v.heap) (S r))
+    script_slots-as_many = ap length script_slots-keyed ∙ (sym (length-map object-at.object.slots (name_held v.scripts)) ∙ sym (ap length script_slots-named))
+
+    -- and few
+    pub script_slots-few : length (slots_at (objects_of v.heap) (S r)) ≤ 64
+    script_slots-few = subst (λ ss. length ss ≤ 64) (sym script_slots-named) (slots-of_object-few (named_object v.scripts object-at.object) stands)
+
+    -- WHAT A SLOT HOLDS by name
+    pub script_slot-named : (i : ℕ) (x : Option SKey) → option_map (λ (k : SKey). k.0) x ≡ get_or (objects.slots_at v.scripts key.0) i None →
+        script_name v x ≡ slot_at (objects_of v.heap) (S r) i
+    script_slot-named i x e =
+        by_key x ∙ (ap (name_held v.scripts) (e ∙ ap (λ ss. get_or ss i None) script_slots-keyed)
+        ∙ (sym (get_or-map (name_held v.scripts) object-at.object.slots i None) ∙ ap (λ ss. get_or ss i None) (sym script_slots-named)))
+      where
+        by_key : (x : Option SKey) → script_name v x ≡ name_held v.scripts (option_map (λ (k : SKey). k.0) x)
+        by_key None = refl
+        by_key (Some k) = refl
+
+    -- and it is there
+    pub script_slot-there : (i : ℕ) (x : Option SKey) → option_map (λ (k : SKey). k.0) x ≡ get_or (objects.slots_at v.scripts key.0) i None → IsScriptThere v x
+    script_slot-there i x e = go x (sym (e ∙ ap (λ ss. get_or ss i None) script_slots-keyed))
+      where
+        go : (x : Option SKey) → get_or object-at.object.slots i None ≡ option_map (λ (k : SKey). k.0) x → IsScriptThere v x
+        go None e = tt
+        go (Some k) e = order.whole object-at.object k.0 (find-among (λ (p : Object). p.key == key.0) v.scripts object-at.object object-at.at)
+            (among-get object-at.object.slots i k.0 e)
+
+  -- WHAT A REGISTER HOLDS IS BLACK.
+  pub held-black : IsColoured v.heap → (r : ℕ) (x : Option SKey) → script_name v x ≡ register v.heap (S r) → IsScriptThere v x →
+      IfSome x (λ k. colour_at v.scripts k.0 ≡ Some Black)
+  held-black colours r None e there = tt
+  held-black colours r (Some key) e there =
+      let o : IsObjectAt v r key.0 = object-at r key e there in
+      ap (λ (f : Option Object). option_map (λ (p : Object). p.colour) f) o.at
+      ∙ ap (λ c. Some c) (colours.held_black (named_object v.scripts o.object) (stands r key e there)
+      (contents-at v.heap.script_registers r o.object.name (subst (λ f. Among o.object.name (option_to_list f)) (sym o.held) (inl refl))))
+
+  -- and so is what a source gives
+  pub source-black : IsColoured v.heap → (from : Option ℕ) (x : Option SKey) → script_name v x ≡ source v.heap (option_map S from) → IsScriptThere v x →
+      IfSome x (λ k. colour_at v.scripts k.0 ≡ Some Black)
+  source-black colours (Some r) x e there = held-black colours r x e there
+  source-black colours None None e there = tt
+  source-black colours None (Some key) e there = go (object_at v.scripts key.0) e there
+    where
+      go : (o : Option Object) → option_map (λ (p : Object). p.name) o ≡ None → is_some o ≡ true → option_map (λ (p : Object). p.colour) o ≡ Some Black
+      go None e t = absurd (false≢true t)
+      go (Some o) e t = absurd (cc)

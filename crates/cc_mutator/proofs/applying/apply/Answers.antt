@@ -1,0 +1,22 @@
+use Rattle.cc_mutator.proofs.Following.{applied-fresh, applied-colours, applied-few, applied-stands}
+use Rattle.cc_mutator.proofs.applying.apply.Goals as goal
+
+pub returns-clause-stands : goal.returns-clause-stands
+returns-clause-stands g c = λ h made stands.
+    applied-stands c.args.command.now c.args.heaps.now c.answer.new.heaps c.answer.result (g.N.Notices.telling c.args.out.now) (g.N.Notices.telling c.answer.new.out)
+    c.answer.ensures c.requires.order c.requires.in_range h made stands
+
+pub returns-clause-fresh : goal.returns-clause-fresh
+returns-clause-fresh g c = λ s fresh.
+    applied-fresh c.args.command.now c.args.heaps.now c.answer.new.heaps c.answer.result (g.N.Notices.telling c.args.out.now) (g.N.Notices.telling c.answer.new.out)
+    c.answer.ensures c.requires.order c.requires.in_range s fresh
+
+pub returns-clause-counts : goal.returns-clause-counts
+returns-clause-counts g c =
+    applied-few c.args.command.now c.args.heaps.now c.answer.new.heaps c.answer.result (g.N.Notices.telling c.args.out.now) (g.N.Notices.telling c.answer.new.out)
+    c.answer.ensures c.requires.order c.requires.in_range
+
+pub returns-clause-colours : goal.returns-clause-colours
+returns-clause-colours g c =
+    applied-colours c.args.command.now c.args.heaps.now c.answer.new.heaps c.answer.result (g.N.Notices.telling c.args.out.now) (g.N.Notices.telling c.answer.new.out)
+    c.answer.ensures c.requires.order c.requires.in_range c.requires.colours

@@ -1,0 +1,310 @@
+//! Each command of the mutator, done on the heaps.
+ghost use Rattle.std.specs.Prelude.{◌≡◌, ◌≢◌, ◌<◌, ◌≤◌, IsTrue, IfSome, true, [], length, map, Some, None};
+ghost use Rattle.cc_names.specs.declared.kind.Colour.TheVariants.{Black};
+ghost use Rattle.cc_names.specs.declared.register.Reg.TheVariants.{N as n_register, S as s_register};
+ghost use Rattle.cc_model.specs.declared.command.Command.TheVariants.{Native, Script, CopyNative, CopyScript, Drop, Set, Get, Put, Take, Expose};
+ghost use Rattle.cc_model.specs.declared.item.Item.TheVariants.{Event as of_event};
+ghost use Rattle.cc_model.specs.declared.item.Refusal.{Refusal};
+ghost use Rattle.cc_model.specs.declared.item.Refusal.TheVariants.{NoMemory as no_memory};
+ghost use Rattle.cc_model.specs.declared.item.Reply.TheVariants.{Refused as refused};
+ghost use Rattle.cc_model.specs.Telling.{Telling, Tells};
+ghost use Rattle.cc_model.specs.Texts.{texts_of};
+ghost use Rattle.cc_model.specs.Checks.{refusal_of, slots_at};
+ghost use Rattle.cc_model.specs.Colours.{HasColourInvariant};
+ghost use Rattle.cc_model.specs.Effects.{store_native, takes_memory};
+ghost use Rattle.cc_model.specs.Exposure.{exposed};
+ghost use Rattle.cc_model.specs.Fresh.{IsFresh};
+ghost use Rattle.cc_model.specs.Graph.{Graph};
+ghost use Rattle.cc_model.specs.Heap.{objects_of, register, set_slot};
+ghost use Rattle.cc_model.specs.Lawful.{graph_after};
+ghost use Rattle.cc_model.specs.Ranges.{in_range};
+ghost use Rattle.cc_model.specs.Snapshot.{Snapshot};
+ghost use Rattle.cc_model.specs.StandsFor.{StandsFor};
+ghost use Rattle.cc_model.specs.View.{view};
+ghost use Rattle.cc_model.specs.WellMade.{IsWellMade};
+ghost use Rattle.cc_script.specs.Objects.{colour_at};
+ghost use Rattle.cc_heaps.specs.Keyed.{IsInOrder, left_with};
+ghost use Rattle.cc_heaps.specs.Changes.{IsScriptThere, IsThere, KeepsKeys, held_name, script_name};
+ghost use Rattle.cc_heaps.specs.Few.{AreFew};
+ghost use Rattle.cc_mutator.specs.Applied.{is_applied, IsCarriedOut};
+ghost use Rattle.cc_mutator.specs.Commands.{IsApplied};
+
+use crate::checks::{
+    refusal_of_expose, refusal_of_get_native, refusal_of_get_script, refusal_of_put,
+    refusal_of_set, refusal_of_take,
+};
+use crate::reads::{
+    as_native, as_script, naming_native, naming_script, native_content, script_content,
+    script_source, source_content,
+};
+use cc_counted::Held;
+use cc_heaps::{Heaps, MakeStop};
+use cc_model::{Command, Notices, Refusal, Reply};
+use cc_names::{Reg, SKey};
+
+/// Makes a native.
+fn make_native<N: Notices>(heaps: &mut Heaps, d: u8, slots: u8, out: &mut N) -> Reply
+    requires order { IsInOrder [] heaps.old }
+    requires slots { slots ≤ 64 }
+    ensures { IsApplied (Native d slots) heaps.old heaps.new result (N.telling out.old) (N.telling out.new) }
+{
+    match heaps.new_native(d, slots, out) {
+        Ok(name) => Reply::Named(name),
+        Err(MakeStop::Full) => Reply::Refused(Refusal::Full),
+        Err(MakeStop::NoMemory) => Reply::Refused(Refusal::NoMemory),
+    }
+}
+
+/// Makes a plain script object.
+fn make_plain(heaps: &mut Heaps, d: u8, slots: u8) -> Reply
+    requires order { IsInOrder [] heaps.old }
+    requires slots { slots ≤ 64 }
+    ensures { (t : Telling) → IsApplied (Script d slots) heaps.old heaps.new result t t }
+{
+    match heaps.new_plain(d, slots) {
+        Ok(name) => Reply::Named(name),
+        Err(MakeStop::Full) => Reply::Refused(Refusal::Full),
+        Err(MakeStop::NoMemory) => Reply::Refused(Refusal::NoMemory),
+    }
+}
+
+/// Copies a native register.
+fn copy_native<N: Notices>(heaps: &mut Heaps, d: u8, s: u8, out: &mut N) -> Reply
+    requires order { IsInOrder [] heaps.old }
+    ensures { IsApplied (CopyNative d s) heaps.old heaps.new result (N.telling out.old) (N.telling out.new) }
+{
+    let content = heaps.native_reg(s);
+    let reply = naming_native(heaps, content);
+    heaps.set_native_reg(d, content, out);
+    reply
+}
+
+/// Copies a script register.
+fn copy_script(heaps: &mut Heaps, d: u8, s: u8) -> Reply
+    requires order { IsInOrder [] heaps.old }
+    requires colours { HasColourInvariant (view heaps.old.heap) }
+    ensures { (t : Telling) → IsApplied (CopyScript d s) heaps.old heaps.new result t t }
+{
+    let content = heaps.script_reg(s);
+    let reply = naming_script(heaps, content);
+    heaps.set_script_reg(d, content);
+    reply
+}
+
+/// Empties a native register.
+fn drop_native<N: Notices>(heaps: &mut Heaps, r: u8, out: &mut N) -> Reply
+    requires order { IsInOrder [] heaps.old }
+    ensures { IsApplied (Drop (n_register r)) heaps.old heaps.new result (N.telling out.old) (N.telling out.new) }
+{
+    heaps.set_native_reg(r, None, out);
+    Reply::Done
+}
+
+/// Empties a script register.
+fn drop_script(heaps: &mut Heaps, r: u8) -> Reply
+    requires order { IsInOrder [] heaps.old }
+    ensures { (t : Telling) → IsApplied (Drop (s_register r)) heaps.old heaps.new result t t }
+{
+    heaps.set_script_reg(r, None);
+    Reply::Done
+}
+
+/// Empties a register.
+fn empty<N: Notices>(heaps: &mut Heaps, r: Reg, out: &mut N) -> Reply
+    requires order { IsInOrder [] heaps.old }
+    ensures { IsApplied (Drop r) heaps.old heaps.new result (N.telling out.old) (N.telling out.new) }
+{
+    match r {
+        Reg::N(k) => drop_native(heaps, k, out),
+        Reg::S(k) => drop_script(heaps, k),
+    }
+}
+
+/// Writes slot `i` of what a native register holds.
+fn store<N: Notices>(heaps: &mut Heaps, d: u8, i: u32, content: Option<Held>, out: &mut N)
+    requires order { IsInOrder [] heaps.old }
+    requires slot { i < length (slots_at (objects_of heaps.old.heap) (n_register d)) }
+    requires there { IsThere heaps.old content }
+    ensures heap { heaps.new ≡ left_with heaps.old (store_native heaps.old.heap d i (held_name heaps.old content)).heap }
+    ensures told { Tells (N.telling out.old) (N.telling out.new)
+        (texts_of (map of_event (store_native heaps.old.heap d i (held_name heaps.old content)).events)) }
+    ensures order { IsInOrder [] heaps.new }
+{
+    match heaps.native_reg(d) {
+        Some(key) => heaps.store_native(key, i as u8, content, out),
+        None => unreachable!(),
+    }
+}
+
+/// Writes slot `i` of what a native register holds with what a source gives.
+fn set<N: Notices>(heaps: &mut Heaps, d: u8, i: u32, from: Option<Reg>, out: &mut N) -> Reply
+    requires order { IsInOrder [] heaps.old }
+    ensures { IsApplied (Set d i from) heaps.old heaps.new result (N.telling out.old) (N.telling out.new) }
+{
+    if let Some(refusal) = refusal_of_set(heaps, d, i, from) {
+        return Reply::Refused(refusal);
+    }
+    let content = source_content(heaps, from);
+    store(heaps, d, i, content, out);
+    Reply::Done
+}
+
+/// Reads slot `i` of what a native register holds into a native register.
+fn get_native<N: Notices>(heaps: &mut Heaps, d: u8, s: u8, i: u32, out: &mut N) -> Reply
+    requires order { IsInOrder [] heaps.old }
+    ensures { IsApplied (Get (n_register d) s i) heaps.old heaps.new result (N.telling out.old) (N.telling out.new) }
+{
+    if let Some(refusal) = refusal_of_get_native(heaps, d, s, i) {
+        return Reply::Refused(refusal);
+    }
+    let content = as_native(native_content(heaps, s, i));
+    let reply = naming_native(heaps, content);
+    heaps.set_native_reg(d, content, out);
+    reply
+}
+
+/// Reads slot `i` of what a native register holds into a script register.
+fn get_script(heaps: &mut Heaps, d: u8, s: u8, i: u32) -> Reply
+    requires order { IsInOrder [] heaps.old }
+    ensures { (t : Telling) → IsApplied (Get (s_register d) s i) heaps.old heaps.new result t t }
+{
+    if let Some(refusal) = refusal_of_get_script(heaps, d, s, i) {
+        return Reply::Refused(refusal);
+    }
+    let content = as_script(native_content(heaps, s, i));
+    let reply = naming_script(heaps, content);
+    heaps.set_script_reg(d, content);
+    reply
+}
+
+/// Reads slot `i` of what a native register holds.
+fn get<N: Notices>(heaps: &mut Heaps, d: Reg, s: u8, i: u32, out: &mut N) -> Reply
+    requires order { IsInOrder [] heaps.old }
+    ensures { IsApplied (Get d s i) heaps.old heaps.new result (N.telling out.old) (N.telling out.new) }
+{
+    match d {
+        Reg::N(k) => get_native(heaps, k, s, i, out),
+        Reg::S(k) => get_script(heaps, k, s, i),
+    }
+}
+
+/// Writes slot `i` of what a script register holds.
+fn store_plain(heaps: &mut Heaps, d: u8, i: u32, content: Option<SKey>)
+    requires order { IsInOrder [] heaps.old }
+    requires slot { i < length (slots_at (objects_of heaps.old.heap) (s_register d)) }
+    requires there { IsScriptThere heaps.old content }
+    requires black { IfSome content (λ k. colour_at heaps.old.scripts k.0 ≡ Some Black) }
+    ensures heap { heaps.new.heap ≡ set_slot heaps.old.heap (register heaps.old.heap (s_register d)) i (script_name heaps.old content) }
+    ensures keys { KeepsKeys heaps.old heaps.new }
+    ensures order { IsInOrder [] heaps.new }
+{
+    match heaps.script_reg(d) {
+        Some(key) => heaps.store_script(key, i as u8, content),
+        None => unreachable!(),
+    }
+}
+
+/// Writes slot `i` of what a script register holds with what a source gives.
+fn put(heaps: &mut Heaps, d: u8, i: u32, from: Option<u8>) -> Reply
+    requires order { IsInOrder [] heaps.old }
+    requires colours { HasColourInvariant (view heaps.old.heap) }
+    ensures { (t : Telling) → IsApplied (Put d i from) heaps.old heaps.new result t t }
+{
+    if let Some(refusal) = refusal_of_put(heaps, d, i, from) {
+        return Reply::Refused(refusal);
+    }
+    let content = script_source(heaps, from);
+    store_plain(heaps, d, i, content);
+    Reply::Done
+}
+
+/// Reads slot `i` of what a script register holds.
+fn take(heaps: &mut Heaps, d: u8, s: u8, i: u32) -> Reply
+    requires order { IsInOrder [] heaps.old }
+    ensures { (t : Telling) → IsApplied (Take d s i) heaps.old heaps.new result t t }
+{
+    if let Some(refusal) = refusal_of_take(heaps, d, s, i) {
+        return Reply::Refused(refusal);
+    }
+    let content = script_content(heaps, s, i);
+    let reply = naming_script(heaps, content);
+    heaps.set_script_reg(d, content);
+    reply
+}
+
+/// Script touches what a slot held.
+fn touch(heaps: &mut Heaps, content: Option<SKey>)
+    requires order { IsInOrder [] heaps.old }
+    requires there { IsScriptThere heaps.old content }
+    ensures heap { heaps.new.heap ≡ exposed heaps.old.heap (script_name heaps.old content) }
+    ensures keys { KeepsKeys heaps.old heaps.new }
+    ensures order { IsInOrder [] heaps.new }
+{
+    if let Some(key) = content {
+        heaps.expose(key);
+    }
+}
+
+/// Script touches what slot `i` of what a native register holds holds.
+fn expose(heaps: &mut Heaps, s: u8, i: u32) -> Reply
+    requires order { IsInOrder [] heaps.old }
+    ensures { (t : Telling) → IsApplied (Expose s i) heaps.old heaps.new result t t }
+{
+    if let Some(refusal) = refusal_of_expose(heaps, s, i) {
+        return Reply::Refused(refusal);
+    }
+    let content = as_script(native_content(heaps, s, i));
+    let reply = naming_script(heaps, content);
+    touch(heaps, content);
+    reply
+}
+
+/// A command by its kind.
+fn answer<N: Notices>(heaps: &mut Heaps, command: &Command, out: &mut N) -> Reply
+    requires applied { IsTrue (is_applied command.now) }
+    requires in_range { IsTrue (in_range command.now) }
+    requires order { IsInOrder [] heaps.old }
+    requires colours { HasColourInvariant (view heaps.old.heap) }
+    ensures { IsApplied command.now heaps.old heaps.new result (N.telling out.old) (N.telling out.new) }
+{
+    match *command {
+        Command::Native(d, slots) => make_native(heaps, d, slots, out),
+        Command::Script(d, slots) => make_plain(heaps, d, slots),
+        Command::CopyNative(d, s) => copy_native(heaps, d, s, out),
+        Command::CopyScript(d, s) => copy_script(heaps, d, s),
+        Command::Drop(r) => empty(heaps, r, out),
+        Command::Set(d, i, from) => set(heaps, d, i, from, out),
+        Command::Get(d, s, i) => get(heaps, d, s, i, out),
+        Command::Put(d, i, from) => put(heaps, d, i, from),
+        Command::Take(d, s, i) => take(heaps, d, s, i),
+        Command::Expose(s, i) => expose(heaps, s, i),
+        _ => unreachable!(),
+    }
+}
+
+/// Does a command of the mutator, and returns the reply to it. What it deletes is told first, however deep it goes.
+///
+/// A command that is refused changes nothing and tells nothing. Memory is wanted by `native` and `script` alone, where
+/// they are not refused; without it they change nothing and tell nothing either.
+pub fn apply<N: Notices>(heaps: &mut Heaps, command: &Command, out: &mut N) -> Reply
+    requires applied { IsTrue (is_applied command.now) }
+    requires in_range { IsTrue (in_range command.now) }
+    requires order { IsInOrder [] heaps.old }
+    requires colours { HasColourInvariant (view heaps.old.heap) }
+    ensures refused { (r : Refusal) → refusal_of (objects_of heaps.old.heap) command.now ≡ Some r →
+        (result ≡ refused r) × (heaps.new ≡ heaps.old) × (N.telling out.new ≡ N.telling out.old) }
+    ensures done { refusal_of (objects_of heaps.old.heap) command.now ≡ None → result ≢ refused no_memory →
+        IsCarriedOut command.now heaps.old.heap heaps.new.heap result (N.telling out.old) (N.telling out.new) }
+    ensures memory { result ≡ refused no_memory →
+        (refusal_of (objects_of heaps.old.heap) command.now ≡ None) × (takes_memory heaps.old.heap command.now ≡ true)
+        × (heaps.new ≡ heaps.old) × (N.telling out.new ≡ N.telling out.old) }
+    ensures stands { (g : Graph) → IsWellMade g → StandsFor heaps.old.heap g → StandsFor heaps.new.heap (graph_after g command.now (Some result)) }
+    ensures fresh { (s : Snapshot) → IsFresh heaps.old.heap.natives_made (view heaps.old.heap) s →
+        IsFresh heaps.new.heap.natives_made (view heaps.new.heap) s }
+    ensures counts { AreFew heaps.new.heap }
+    ensures keys { KeepsKeys heaps.old heaps.new }
+    ensures colours { HasColourInvariant (view heaps.new.heap) }
+    ensures order { IsInOrder [] heaps.new }
+{
+    answer(heaps, command, out)
+}

@@ -1,0 +1,158 @@
+//! When a command is refused, by the causes in their order.
+ghost use Rattle.std.specs.Prelude.{◌≡◌, ◌<◌, [], ◌∷◌, length, map, nat_le, is_none, option_to_list};
+ghost use Rattle.std.specs.List.{list_any};
+ghost use Rattle.cc_names.specs.declared.register.Reg.TheVariants.{N as n_register, S as s_register};
+ghost use Rattle.cc_model.specs.declared.command.Command.TheVariants.{Set, Get, Put, Take, Expose};
+ghost use Rattle.cc_model.specs.declared.item.Refusal.TheVariants.{Empty as empty, Slot as no_slot};
+ghost use Rattle.cc_model.specs.Checks.{first_refusal, is_native_there, is_script_there, refusal_of, slot_at, slots_at};
+ghost use Rattle.cc_model.specs.Heap.{objects_of, register};
+ghost use Rattle.cc_heaps.specs.Keyed.{IsInOrder};
+ghost use Rattle.cc_mutator.specs.Commands.{is_native_held, is_script_held};
+
+use crate::reads::{is_empty, native_content, slots};
+use cc_counted::Held;
+use cc_heaps::Heaps;
+use cc_model::Refusal;
+use cc_names::Reg;
+
+/// Whether a source is a register that is empty.
+fn is_source_empty(heaps: &Heaps, from: Option<Reg>) -> bool
+    requires { IsInOrder [] heaps.now }
+    ensures { result ≡ list_any (λ r. is_none (register heaps.now.heap r)) (option_to_list from) }
+{
+    match from {
+        Some(r) => is_empty(heaps, r),
+        None => false,
+    }
+}
+
+/// Whether a source is a script register that is empty.
+fn is_script_source_empty(heaps: &Heaps, from: Option<u8>) -> bool
+    requires { IsInOrder [] heaps.now }
+    ensures { result ≡ list_any (λ r. is_none (register heaps.now.heap r)) (map s_register (option_to_list from)) }
+{
+    match from {
+        Some(r) => is_empty(heaps, Reg::S(r)),
+        None => false,
+    }
+}
+
+/// Whether a content is a native.
+fn is_native(content: Option<Held>) -> bool
+    ensures { result ≡ is_native_held content }
+{
+    match content {
+        Some(Held::Native(_)) => true,
+        Some(Held::Script(_)) => false,
+        None => false,
+    }
+}
+
+/// Whether a content is a script object.
+fn is_script(content: Option<Held>) -> bool
+    ensures { result ≡ is_script_held content }
+{
+    match content {
+        Some(Held::Native(_)) => false,
+        Some(Held::Script(_)) => true,
+        None => false,
+    }
+}
+
+/// Whether slot `i` of what a native register holds holds a native.
+fn holds_native(heaps: &Heaps, s: u8, i: u32) -> bool
+    requires order { IsInOrder [] heaps.now }
+    requires slot { i < length (slots_at (objects_of heaps.now.heap) (n_register s)) }
+    ensures { result ≡ is_native_there (slot_at (objects_of heaps.now.heap) (n_register s) i) }
+{
+    is_native(native_content(heaps, s, i))
+}
+
+/// Whether slot `i` of what a native register holds holds a script object.
+fn holds_script(heaps: &Heaps, s: u8, i: u32) -> bool
+    requires order { IsInOrder [] heaps.now }
+    requires slot { i < length (slots_at (objects_of heaps.now.heap) (n_register s)) }
+    ensures { result ≡ is_script_there (slot_at (objects_of heaps.now.heap) (n_register s) i) }
+{
+    is_script(native_content(heaps, s, i))
+}
+
+/// Why a slot of what a register holds is neither read nor written, whatever the slot holds.
+fn refusal_of_slot(heaps: &Heaps, r: Reg, i: u32) -> Option<Refusal>
+    requires { IsInOrder [] heaps.now }
+    ensures { result ≡ first_refusal ((is_none (register heaps.now.heap r), empty) ∷ (nat_le (length (slots_at (objects_of heaps.now.heap) r)) i, no_slot) ∷ []) }
+{
+    if is_empty(heaps, r) {
+        return Some(Refusal::Empty);
+    }
+    if i >= u32::from(slots(heaps, r)) {
+        return Some(Refusal::Slot);
+    }
+    None
+}
+
+/// Why `set` is refused.
+pub(crate) fn refusal_of_set(heaps: &Heaps, d: u8, i: u32, from: Option<Reg>) -> Option<Refusal>
+    requires { IsInOrder [] heaps.now }
+    ensures { result ≡ refusal_of (objects_of heaps.now.heap) (Set d i from) }
+{
+    if is_source_empty(heaps, from) {
+        return Some(Refusal::Empty);
+    }
+    refusal_of_slot(heaps, Reg::N(d), i)
+}
+
+/// Why `get` into a native register is refused.
+pub(crate) fn refusal_of_get_native(heaps: &Heaps, d: u8, s: u8, i: u32) -> Option<Refusal>
+    requires { IsInOrder [] heaps.now }
+    ensures { result ≡ refusal_of (objects_of heaps.now.heap) (Get (n_register d) s i) }
+{
+    if let Some(refusal) = refusal_of_slot(heaps, Reg::N(s), i) {
+        return Some(refusal);
+    }
+    if holds_script(heaps, s, i) {
+        return Some(Refusal::Kind);
+    }
+    None
+}
+
+/// Why `get` into a script register is refused: for the same causes as `expose`.
+pub(crate) fn refusal_of_get_script(heaps: &Heaps, d: u8, s: u8, i: u32) -> Option<Refusal>
+    requires { IsInOrder [] heaps.now }
+    ensures { result ≡ refusal_of (objects_of heaps.now.heap) (Get (s_register d) s i) }
+{
+    refusal_of_expose(heaps, s, i)
+}
+
+/// Why `expose` is refused.
+pub(crate) fn refusal_of_expose(heaps: &Heaps, s: u8, i: u32) -> Option<Refusal>
+    requires { IsInOrder [] heaps.now }
+    ensures { result ≡ refusal_of (objects_of heaps.now.heap) (Expose s i) }
+{
+    if let Some(refusal) = refusal_of_slot(heaps, Reg::N(s), i) {
+        return Some(refusal);
+    }
+    if holds_native(heaps, s, i) {
+        return Some(Refusal::Kind);
+    }
+    None
+}
+
+/// Why `put` is refused.
+pub(crate) fn refusal_of_put(heaps: &Heaps, d: u8, i: u32, from: Option<u8>) -> Option<Refusal>
+    requires { IsInOrder [] heaps.now }
+    ensures { result ≡ refusal_of (objects_of heaps.now.heap) (Put d i from) }
+{
+    if is_script_source_empty(heaps, from) {
+        return Some(Refusal::Empty);
+    }
+    refusal_of_slot(heaps, Reg::S(d), i)
+}
+
+/// Why `take` is refused.
+pub(crate) fn refusal_of_take(heaps: &Heaps, d: u8, s: u8, i: u32) -> Option<Refusal>
+    requires { IsInOrder [] heaps.now }
+    ensures { result ≡ refusal_of (objects_of heaps.now.heap) (Take d s i) }
+{
+    refusal_of_slot(heaps, Reg::S(s), i)
+}

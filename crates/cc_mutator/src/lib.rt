@@ -1,0 +1,15 @@
+//! The mutator: one command that makes, copies, writes, reads or exposes, done on the heaps.
+//!
+//! Each command is checked before it changes anything, in one order of causes: an empty register, an object of the wrong
+//! kind, an index of no slot, a content of the wrong kind, no room. What comes into a script register or into a slot of a
+//! script object is black: it came from a script register, or script has just touched it.
+#![tactic(auto)]
+
+mod applying;
+mod checks;
+mod reads;
+
+pub use applying::apply;
+
+#[cfg(test)]
+mod tests;

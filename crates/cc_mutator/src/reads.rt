@@ -1,0 +1,182 @@
+//! What registers and slots hold, by keys and by names.
+ghost use Rattle.std.specs.Prelude.{◌≡◌, ◌<◌, [], false, length, is_none, option_map};
+ghost use Rattle.cc_names.specs.declared.register.Reg.TheVariants.{N as n_register, S as s_register};
+ghost use Rattle.cc_model.specs.Checks.{named_or_nothing, slot_at, slots_at};
+ghost use Rattle.cc_model.specs.Heap.{objects_of, register, source};
+ghost use Rattle.cc_heaps.specs.Keyed.{IsInOrder};
+ghost use Rattle.cc_heaps.specs.Changes.{IsNativeThere, IsScriptThere, IsThere, held_name, native_name, script_name};
+ghost use Rattle.cc_mutator.specs.Commands.{held_native, held_script, is_native_held, is_script_held};
+
+use cc_counted::Held;
+use cc_heaps::Heaps;
+use cc_model::Reply;
+use cc_names::{NKey, Name, Reg, SKey};
+
+/// How many slots what a native register holds has: none where the register is empty.
+fn native_slots(heaps: &Heaps, r: u8) -> u8
+    requires { IsInOrder [] heaps.now }
+    ensures { result ≡ length (slots_at (objects_of heaps.now.heap) (n_register r)) }
+{
+    match heaps.native_reg(r) {
+        Some(key) => heaps.counted().slots(key),
+        None => 0,
+    }
+}
+
+/// How many slots what a script register holds has: none where the register is empty.
+fn script_slots(heaps: &Heaps, r: u8) -> u8
+    requires { IsInOrder [] heaps.now }
+    ensures { result ≡ length (slots_at (objects_of heaps.now.heap) (s_register r)) }
+{
+    match heaps.script_reg(r) {
+        Some(key) => heaps.scripts().slots(key),
+        None => 0,
+    }
+}
+
+/// How many slots what a register holds has: none where the register is empty.
+pub(crate) fn slots(heaps: &Heaps, r: Reg) -> u8
+    requires { IsInOrder [] heaps.now }
+    ensures { result ≡ length (slots_at (objects_of heaps.now.heap) r) }
+{
+    match r {
+        Reg::N(k) => native_slots(heaps, k),
+        Reg::S(k) => script_slots(heaps, k),
+    }
+}
+
+/// What slot `i` of what a native register holds holds.
+pub(crate) fn native_content(heaps: &Heaps, r: u8, i: u32) -> Option<Held>
+    requires order { IsInOrder [] heaps.now }
+    requires slot { i < length (slots_at (objects_of heaps.now.heap) (n_register r)) }
+    ensures name { held_name heaps.now result ≡ slot_at (objects_of heaps.now.heap) (n_register r) i }
+    ensures there { IsThere heaps.now result }
+{
+    match heaps.native_reg(r) {
+        Some(key) => heaps.counted().slot(key, i as u8),
+        None => unreachable!(),
+    }
+}
+
+/// What slot `i` of what a script register holds holds.
+pub(crate) fn script_content(heaps: &Heaps, r: u8, i: u32) -> Option<SKey>
+    requires order { IsInOrder [] heaps.now }
+    requires slot { i < length (slots_at (objects_of heaps.now.heap) (s_register r)) }
+    ensures name { script_name heaps.now result ≡ slot_at (objects_of heaps.now.heap) (s_register r) i }
+    ensures there { IsScriptThere heaps.now result }
+{
+    match heaps.script_reg(r) {
+        Some(key) => heaps.scripts().slot(key, i as u8),
+        None => unreachable!(),
+    }
+}
+
+/// A native, or nothing, as a slot holds it.
+fn of_native(content: Option<NKey>) -> Option<Held>
+    ensures { result ≡ held_native content }
+{
+    match content {
+        Some(key) => Some(Held::Native(key)),
+        None => None,
+    }
+}
+
+/// A script object, or nothing, as a slot holds it.
+fn of_script(content: Option<SKey>) -> Option<Held>
+    ensures { result ≡ held_script content }
+{
+    match content {
+        Some(key) => Some(Held::Script(key)),
+        None => None,
+    }
+}
+
+/// The native that a slot holds, where it holds no script object.
+pub(crate) fn as_native(content: Option<Held>) -> Option<NKey>
+    requires { is_script_held content ≡ false }
+    ensures { held_native result ≡ content }
+{
+    match content {
+        Some(Held::Native(key)) => Some(key),
+        Some(Held::Script(_)) => unreachable!(),
+        None => None,
+    }
+}
+
+/// The script object that a slot holds, where it holds no native.
+pub(crate) fn as_script(content: Option<Held>) -> Option<SKey>
+    requires { is_native_held content ≡ false }
+    ensures { held_script result ≡ content }
+{
+    match content {
+        Some(Held::Script(key)) => Some(key),
+        Some(Held::Native(_)) => unreachable!(),
+        None => None,
+    }
+}
+
+/// What a register holds.
+pub(crate) fn register_content(heaps: &Heaps, r: Reg) -> Option<Held>
+    ensures name { held_name heaps.now result ≡ register heaps.now.heap r }
+    ensures there { IsThere heaps.now result }
+{
+    match r {
+        Reg::N(k) => of_native(heaps.native_reg(k)),
+        Reg::S(k) => of_script(heaps.script_reg(k)),
+    }
+}
+
+/// What a source gives to a slot of a native.
+pub(crate) fn source_content(heaps: &Heaps, from: Option<Reg>) -> Option<Held>
+    ensures name { held_name heaps.now result ≡ source heaps.now.heap from }
+    ensures there { IsThere heaps.now result }
+{
+    match from {
+        Some(r) => register_content(heaps, r),
+        None => None,
+    }
+}
+
+/// What a source gives to a slot of a script object.
+pub(crate) fn script_source(heaps: &Heaps, from: Option<u8>) -> Option<SKey>
+    ensures name { script_name heaps.now result ≡ source heaps.now.heap (option_map s_register from) }
+    ensures there { IsScriptThere heaps.now result }
+{
+    match from {
+        Some(r) => heaps.script_reg(r),
+        None => None,
+    }
+}
+
+/// Whether a register is empty.
+pub(crate) fn is_empty(heaps: &Heaps, r: Reg) -> bool
+    requires { IsInOrder [] heaps.now }
+    ensures { result ≡ is_none (register heaps.now.heap r) }
+{
+    register_content(heaps, r).is_none()
+}
+
+/// The reply that names a native, or tells that there was nothing.
+pub(crate) fn naming_native(heaps: &Heaps, content: Option<NKey>) -> Reply
+    requires { IsNativeThere heaps.now content }
+    ensures { result ≡ named_or_nothing (native_name heaps.now content) }
+{
+    match content {
+        Some(key) => match heaps.counted().number(key) {
+            Some(number) => Reply::Named(Name::Native(number)),
+            None => unreachable!(),
+        },
+        None => Reply::Nothing,
+    }
+}
+
+/// The reply that names a script object, or tells that there was nothing.
+pub(crate) fn naming_script(heaps: &Heaps, content: Option<SKey>) -> Reply
+    requires { IsScriptThere heaps.now content }
+    ensures { result ≡ named_or_nothing (script_name heaps.now content) }
+{
+    match content {
+        Some(key) => Reply::Named(heaps.scripts().name(key)),
+        None => Reply::Nothing,
+    }
+}
