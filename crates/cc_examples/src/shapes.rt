@@ -117,3 +117,73 @@ fn a_ring_that_is_held_is_kept(rt: HostRuntime) -> Result<(), Fail> {
     )?;
     play.runs(&rt, "a ring that is held")
 }
+
+/// Script objects 1 to `length`, each of which holds the one before it. The first is in s0 and the last in s1.
+fn grown_in_script(alloc: Global, length: u16) -> Result<Play, AllocError> {
+    let mut play = Play::new(alloc);
+    play.ask("script s0 1\ncopy s1 s0\n", "= @1\n= @1\n")?;
+    for k in 2..length as u32 + 1 {
+        play.ask(
+            "script s2 1\nput s2 0 s1\ncopy s1 s2\n",
+            format!(in alloc; "= @{k}\n= ok\n= @{k}\n")?.as_str(),
+        )?;
+    }
+    play.ask("drop s2\n", "= ok\n")?;
+    Ok(play)
+}
+
+/// Script objects 1 to `length` are swept by one `gc`, in order of making, and nothing is left.
+fn swept(alloc: Global, length: u16, play: &mut Play) -> Result<(), AllocError> {
+    play.ask("gc\ncensus\n", "")?;
+    for k in 1..length as u32 + 1 {
+        play.ask("", format!(in alloc; "- free @{k}\n")?.as_str())?;
+    }
+    play.ask("", "= ok\n= census 0\n")
+}
+
+#[test]
+fn a_chain_of_ten_thousand_script_objects_is_swept_by_one_gc(rt: HostRuntime) -> Result<(), Fail> {
+    let length = 10000u16;
+    let mut play = grown_in_script(rt.alloc(), length)?;
+    play.ask("drop s0\ngc\ndrop s1\n", "= ok\n= ok\n= ok\n")?;
+    swept(rt.alloc(), length, &mut play)?;
+    play.runs(&rt, "a chain of script objects")
+}
+
+#[test]
+fn a_ring_of_ten_thousand_script_objects_is_swept_by_one_gc(rt: HostRuntime) -> Result<(), Fail> {
+    let length = 10000u16;
+    let mut play = grown_in_script(rt.alloc(), length)?;
+    play.ask(
+        "put s0 0 s1\ndrop s0\ngc\ndrop s1\n",
+        "= ok\n= ok\n= ok\n= ok\n",
+    )?;
+    swept(rt.alloc(), length, &mut play)?;
+    play.runs(&rt, "a ring of script objects")
+}
+
+/// A native keeps a script object, and so the sixty-four that this holds: until the native is freed.
+#[test]
+fn a_script_object_that_holds_sixty_four_others_is_kept_by_a_native(
+    rt: HostRuntime,
+) -> Result<(), Fail> {
+    let mut play = Play::new(rt.alloc());
+    play.ask(
+        "native n0 1\nscript s0 64\nset n0 0 s0\n",
+        "= #1\n= @1\n= ok\n",
+    )?;
+    for i in 0..64u32 {
+        let k = i + 2;
+        play.ask(
+            format!(in rt.alloc(); "script s1 0\nput s0 {i} s1\n")?.as_str(),
+            format!(in rt.alloc(); "= @{k}\n= ok\n")?.as_str(),
+        )?;
+    }
+    play.ask(
+        "drop s0\ndrop s1\ngc\ncollect\nget s1 n0 0\ntake s2 s1 63\ndrop s1\ndrop s2\n",
+        "= ok\n= ok\n= ok\n= ok\n= @1\n= @65\n= ok\n= ok\n",
+    )?;
+    play.ask("drop n0\n", "- free #1\n= ok\n")?;
+    swept(rt.alloc(), 65, &mut play)?;
+    play.runs(&rt, "sixty-four others")
+}

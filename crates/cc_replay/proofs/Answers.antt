@@ -21,8 +21,11 @@ use Rattle.cc_laws_run.proofs.InARow.{OneList, one_list}
 use Rattle.cc_laws_run.proofs.PlainLawful.{run-lawful}
 use Rattle.cc_laws_run.proofs.PlainQuiet.{run-quiet}
 use Rattle.cc_reader.specs.FormsNow.{forms_now}
+use Rattle.cc_reader.specs.Pending.{Pending}
+use Rattle.cc_reader.specs.Given.{AreFirst, HasGiven}
+use Rattle.cc_reader.proofs.Given.{HasGiven-first}
 use Rattle.cc_replay.specs.Answered.{at_rest}
-use Rattle.cc_replay.specs.Answering.{LineIsAnswered, AreAnswered}
+use Rattle.cc_replay.specs.Answering.{Answers, AreAnswered, GivesLine, LineIsAnswered, Moment}
 use Rattle.cc_replay.specs.Transcripts.{IsTranscript}
 
 -- the same machine does an ask in the same way
@@ -70,6 +73,40 @@ AreAnswered-more h₀ h₁ h₂ lines line t₀ t₁ t₂ a l = record {
   where
     asks : map (ask_of forms_now) (lines ++ line ∷ []) ≡ map (ask_of forms_now) lines ++ ask_of forms_now line ∷ []
     asks = map-append (ask_of forms_now) lines (line ∷ [])
+
+-- a reader that has given no line, with nothing answered
+pub Answers-none : (m : Moment) → Answers HasGiven m m
+Answers-none m = record { lines = λ start begun. ([], begun, AreAnswered-none m.heap m.telling) }
+
+-- where nothing moved since the last line, what holds of the lines holds of those that are answered
+pub Answers-still : (IsGiven : Option (List ℕ) → Option (List ℕ) → Pending → List (List ℕ) → Type 0) {m₀ m₁ m₂ : Moment} → Answers HasGiven m₀ m₁ →
+    ((start : Option (List ℕ)) (given : List (List ℕ)) → HasGiven start m₁.left m₁.window given → IsGiven start m₂.left m₂.window given) →
+    (m₂.heap ≡ m₁.heap) × (m₂.telling ≡ m₁.telling) → Answers IsGiven m₀ m₂
+Answers-still IsGiven {m₀ = m₀} {m₁ = m₁} {m₂ = m₂} a given same = record {
+  lines = λ start begun.
+      let so_far = a.lines start begun in (
+        so_far.0,
+        given start so_far.0 so_far.1,
+        subst (λ (t : Telling). AreAnswered m₀.heap m₂.heap so_far.0 m₀.telling t) (sym same.1)
+            (subst (λ (h : Heap). AreAnswered m₀.heap h so_far.0 m₀.telling m₁.telling) (sym same.0) so_far.2),
+      );
+}
+
+-- and so it is for the first lines
+pub Answers-first : {m₀ m₁ : Moment} → Answers HasGiven m₀ m₁ → Answers AreFirst m₀ m₁
+Answers-first {m₀ = m₀} {m₁ = m₁} a = Answers-still AreFirst {m₀ = m₀} {m₁ = m₁} {m₂ = m₁} a (λ start given. HasGiven-first start m₁.left m₁.window given) (refl, refl)
+
+-- one more line is given and answered
+pub Answers-more : {m₀ m₁ m₂ : Moment} → Answers HasGiven m₀ m₁ →
+    (line : List ℕ) × GivesLine m₁.left m₂.left m₁.window m₂.window line × LineIsAnswered m₁.heap m₂.heap line m₁.telling m₂.telling → Answers HasGiven m₀ m₂
+Answers-more {m₀ = m₀} {m₁ = m₁} {m₂ = m₂} a l = record {
+  lines = λ start begun.
+      let so_far = a.lines start begun in (
+        so_far.0 ++ l.0 ∷ [],
+        l.1 start so_far.0 so_far.1,
+        AreAnswered-more m₀.heap m₁.heap m₂.heap so_far.0 l.0 m₀.telling m₁.telling m₂.telling so_far.2 l.2,
+      );
+}
 
 -- WHAT IS TOLD FOR LINES THAT ARE ANSWERED, from the empty heaps on, is a transcript of what they ask
 pub AreAnswered-transcript : (limits : Allowance) (h : Heap) (lines : List (List ℕ)) (t₀ t₁ : Telling) (a : AreAnswered (empty_heap limits) h lines t₀ t₁) →

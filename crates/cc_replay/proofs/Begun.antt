@@ -1,26 +1,25 @@
 -- The snapshot with which a build begins.
-use Rattle.std.proofs.Common.{◌≡◌, ℕ, zero, ◌+◌, ◌<◌, ◌≤◌, ◌==◌, Bool, true, false, cond, List, [], ◌∷◌, ◌++◌, map, length, take, is_some, refl, sym, ◌∙◌, ap, subst, inl, arith, append_assoc, count_by}
-use Rattle.std.specs.List.{filter, find, flat_map, list_any}
+use Rattle.std.proofs.Common.{◌≡◌, ◌≢◌, ℕ, zero, ◌+◌, ◌<◌, ◌≤◌, ◌==◌, Bool, true, false, cond, List, [], ◌∷◌, ◌++◌, map, length, take, refl, sym, ◌∙◌, ap, subst, inl, arith, append_assoc, count_by, length-append}
+use Rattle.std.specs.List.{filter, flat_map}
 use Rattle.std.proofs.Math.Seq.{take-length}
 use Rattle.std.proofs.lemmas.Bool.{eq-eqb}
-use Rattle.std.proofs.lemmas.List.{append-nil}
+use Rattle.std.proofs.lemmas.List.{append-nil, take-map, take-append-le}
 use Rattle.cc_lists.specs.Members.{Among, has, with_last, with_all_last}
 use Rattle.cc_lists.proofs.Members.{has-among}
 use Rattle.cc_lists.proofs.Counting.{count_by-append, count_by-cons, count_by-map, count_by-some}
 use Rattle.cc_lists.proofs.Filtering.{count_by-filter-le, count_by-weaker}
-use Rattle.cc_lists.proofs.OnceEach.{with_all_last-there}
+use Rattle.cc_lists.proofs.OnceEach.{with_all_last-keeps, with_all_last-there}
 use Rattle.cc_names.specs.declared.name.Name.{Name}
 use Rattle.cc_names.specs.Names.{native, natives_in, number_of, same_name}
 use Rattle.cc_names.proofs.NameTests.{same_name-exact, same_name-refl, same_name-true}
 use Rattle.cc_model.specs.Entries.{Entry}
-use Rattle.cc_model.specs.Heap.{Heap, HeapNative, HeapScript, Buffered, is_gray_in, is_gray_colour}
-use Rattle.cc_model.specs.View.{native_edges}
+use Rattle.cc_model.specs.Heap.{Heap, Buffered, is_gray_in}
 use Rattle.cc_model.specs.Snapshot.{Node, Mapping, Snapshot, untraversed}
-use Rattle.cc_model.specs.Units.{candidates_of, holds_gray, holders_of, mapping_of, mappings_of, members_of, first_names, new_node, begun}
+use Rattle.cc_model.specs.Units.{candidates_of, holders_of, mapping_of, mappings_of, members_of, first_names, new_node, begun}
 use Rattle.cc_model.specs.End.{some_are}
 use Rattle.cc_laws_heap.proofs.NameLists.{natives_in-natives}
 use Rattle.cc_graph.specs.Shown.{Vertex}
-use Rattle.cc_replay.specs.Keyed.{Keyed, IsInOrder}
+use Rattle.cc_heaps.specs.Keyed.{Keyed, IsInOrder}
 use Rattle.cc_replay.specs.Building.{Built, IsBuilt, names_of, node_with, nodes_of, reference_of, snapshot_of}
 use Rattle.cc_replay.proofs.BuildSnapshots.{snapshot-same}
 
@@ -65,57 +64,86 @@ candidates-distinct h once x =
     let fewer = count_by-filter-le (λ (b : Buffered). b.number == n) (λ (b : Buffered). b.purple) h.buffer in
     omega (arith, once n, names, weaker, numbers, fewer)
 
--- Where there are natives alone, the candidates are the first nodes
-
-no-gray : (h : Heap) (x : Name) → h.scripts ≡ [] → is_gray_in h x ≡ false
-no-gray h x e = ap (λ scripts. is_some (find (λ (o : HeapScript). is_gray_colour o.colour) (filter (λ (o : HeapScript). same_name o.name x) scripts))) e
-
-any-none : {X : Type 0} (p : X → Bool) (xs : List X) → ((x : X) → p x ≡ false) → list_any p xs ≡ false
-any-none p [] none = refl
-any-none {X} p (x ∷ xs) none = rw (none x) (any-none p xs none)
-
-filter-none : {X : Type 0} (p : X → Bool) (xs : List X) → ((x : X) → p x ≡ false) → filter p xs ≡ []
-filter-none p [] none = refl
-filter-none {X} p (x ∷ xs) none = ap (λ b. cond b (x ∷ filter p xs) (filter p xs)) (none x) ∙ filter-none p xs none
-
-no-holders : (h : Heap) → h.scripts ≡ [] → holders_of h ≡ []
-no-holders h e =
-    ap (map (λ (n : HeapNative). native n.number))
-    (filter-none (holds_gray h) h.natives (λ n. any-none (λ (r : Name × Name). is_gray_in h r.1) (native_edges n) (λ r. no-gray h r.1 e)))
+-- The first nodes: the candidates, then the holders, since there are no entries
 
 no-mappings : (h : Heap) → h.entries ≡ [] → mappings_of h ≡ []
 no-mappings h e = ap (λ es. map (mapping_of h) (filter (λ (e : Entry). is_gray_in h e.value) es)) e
 
-pub first-names-natives : (v : Keyed) → IsInOrder [] v → first_names v.heap ≡ with_all_last same_name [] (map native (candidates_of v.heap))
-first-names-natives v order =
-    let h = v.heap in
+-- the names of the candidates, each once
+abbrev pub candidate_names : Heap → List Name
+candidate_names h = with_all_last same_name [] (map native (candidates_of h))
+
+first-names-holders : (h : Heap) → h.entries ≡ [] → first_names h ≡ with_all_last same_name (candidate_names h) (holders_of h)
+first-names-holders h e =
     let names = map native (candidates_of h) in
-    ap (λ xs. with_all_last same_name [] (names ++ (xs ++ flat_map members_of (mappings_of h)))) (no-holders h order.no_scripts)
-    ∙ ap (λ ms. with_all_last same_name [] (names ++ flat_map members_of ms)) (no-mappings h order.no_entries)
-    ∙ ap (with_all_last same_name []) (append-nil names)
+    ap (λ ms. with_all_last same_name [] (names ++ (holders_of h ++ flat_map members_of ms))) (no-mappings h e)
+    ∙ ap (λ xs. with_all_last same_name [] (names ++ xs)) (append-nil (holders_of h))
+    ∙ with_all_last-append [] names (holders_of h)
 
--- there are some, where a candidate is one of them
-some-first : (xs ys : List Name) (y : Name) → Among y (with_all_last same_name xs ys) → some_are (with_all_last same_name xs ys) ≡ true
-some-first xs ys y m = go (with_all_last same_name xs ys) m
-  where
-    go : (zs : List Name) → Among y zs → some_are zs ≡ true
-    go [] m = absurd m
-    go (z ∷ zs) m = refl
+-- where something is among them, there are some
+some-among : (xs : List Name) (x : Name) → Among x xs → some_are xs ≡ true
+some-among [] x m = absurd m
+some-among (y ∷ ys) x m = refl
 
+-- as a candidate is,
 pub first-some_are : (v : Keyed) (xs ys : List Name) (k : ℕ) → IsInOrder [] v →
-    with_all_last same_name xs (native k ∷ ys) ≡ with_all_last same_name [] (map native (candidates_of v.heap)) → some_are (first_names v.heap) ≡ true
+    with_all_last same_name xs (native k ∷ ys) ≡ candidate_names v.heap → some_are (first_names v.heap) ≡ true
 first-some_are v xs ys k order e =
-    ap some_are (first-names-natives v order ∙ sym e)
-    ∙ some-first xs (native k ∷ ys) (native k) (with_all_last-there same_name same_name-exact xs (native k ∷ ys) (native k) (inl refl))
+    let h = v.heap in
+    let candidate = subst (λ zs. Among (native k) zs) e (with_all_last-there same_name same_name-exact xs (native k ∷ ys) (native k) (inl refl)) in
+    ap some_are (first-names-holders h order.no_entries)
+    ∙ some-among (with_all_last same_name (candidate_names h) (holders_of h)) (native k)
+    (with_all_last-keeps same_name same_name-exact (candidate_names h) (holders_of h) (native k) candidate)
+
+-- and a holder
+pub holders-some_are : (v : Keyed) → IsInOrder [] v → holders_of v.heap ≢ [] → some_are (first_names v.heap) ≡ true
+holders-some_are v order some = ap some_are (first-names-holders v.heap order.no_entries) ∙ go (holders_of v.heap) some
+  where
+    go : (ys : List Name) → ys ≢ [] → some_are (with_all_last same_name (candidate_names v.heap) ys) ≡ true
+    go [] some = absurd (some refl)
+    go (y ∷ ys) some = some-among (with_all_last same_name (candidate_names v.heap) (y ∷ ys)) y
+        (with_all_last-there same_name same_name-exact (candidate_names v.heap) (y ∷ ys) y (inl refl))
+
+-- Names that go last leave the first ones as they are
+
+with_last-first : (n : ℕ) (xs : List Name) (y : Name) → n ≤ length xs → (n ≤ length (with_last same_name xs y)) × (take n (with_last same_name xs y) ≡ take n xs)
+with_last-first n xs y l = go (has same_name xs y)
+  where
+    go : (b : Bool) → (n ≤ length {A = Name} (elim b [ true ↦ xs | false ↦ xs ++ y ∷ [] ])) × (take {A = Name} n (elim b [ true ↦ xs | false ↦ xs ++ y ∷ [] ]) ≡ take n xs)
+    go true = (l, refl)
+    go false = (omega (arith, length-append xs (y ∷ [])), take-append-le n xs (y ∷ []) l)
+
+with_all_last-first : (n : ℕ) (xs ys : List Name) → n ≤ length xs → take n (with_all_last same_name xs ys) ≡ take n xs
+with_all_last-first n xs [] l = refl
+with_all_last-first n xs (y ∷ ys) l =
+    let one = with_last-first n xs y l in
+    with_all_last-first n (with_last same_name xs y) ys one.0 ∙ one.1
 
 -- THE SNAPSHOT BEGUN
 nodes-new : (vs : List Vertex) → nodes_of zero vs ≡ map new_node (names_of vs)
 nodes-new [] = refl
 nodes-new (v ∷ vs) = ap (λ ns. node_with untraversed v ∷ ns) (nodes-new vs)
 
-pub snapshot-begun : (b : Built) (v : Keyed) → IsInOrder [] v → names_of b.graph.nodes ≡ with_all_last same_name [] (map native (candidates_of v.heap)) →
-    b.next ≡ 0 → b.candidates ≡ length b.graph.nodes → b.graph.edges ≡ [] → snapshot_of b ≡ begun v.heap
-snapshot-begun b v order names next all edges =
+-- the candidates are the natives that were purple
+first-candidates : (b : Built) (v : Keyed) (xs : List Name) → IsInOrder [] v → xs ≡ candidate_names v.heap →
+    names_of b.graph.nodes ≡ with_all_last same_name xs (holders_of v.heap) → b.candidates ≡ length xs →
+    flat_map natives_in (names_of (take b.candidates b.graph.nodes)) ≡ candidates_of v.heap
+first-candidates b v xs order purple names all =
+    let vs = b.graph.nodes in
+    let cs = candidates_of v.heap in
+    ap (flat_map natives_in) (sym (take-map (λ (w : Vertex). w.name) b.candidates vs)
+    ∙ ap (take b.candidates) names
+    ∙ ap (λ n. take n (with_all_last same_name xs (holders_of v.heap))) all
+    ∙ with_all_last-first (length xs) xs (holders_of v.heap) (omega arith)
+    ∙ take-length xs
+    ∙ purple
+    ∙ with_all_last-distinct [] (map native cs) (candidates-distinct v.heap order.sound.well_formed.buffered_once))
+    ∙ natives_in-natives cs
+
+pub snapshot-begun : (b : Built) (v : Keyed) (xs : List Name) → IsInOrder [] v → xs ≡ candidate_names v.heap →
+    names_of b.graph.nodes ≡ with_all_last same_name xs (holders_of v.heap) →
+    b.next ≡ 0 → b.candidates ≡ length xs → b.graph.edges ≡ [] → snapshot_of b ≡ begun v.heap
+snapshot-begun b v xs order purple names next all edges =
     let h = v.heap in
     let vs = b.graph.nodes in
     let cs = candidates_of h in
@@ -123,11 +151,9 @@ snapshot-begun b v order names next all edges =
     (flat_map natives_in (names_of (take b.candidates vs))) cs
     (nodes_of b.next vs) (map new_node (first_names h))
     (map (reference_of vs) b.graph.edges) []
-    (ap (λ n. flat_map natives_in (names_of (take n vs))) all
-    ∙ ap (λ us. flat_map natives_in (names_of us)) (take-length vs)
-    ∙ ap (flat_map natives_in) (names ∙ with_all_last-distinct [] (map native cs) (candidates-distinct h order.sound.well_formed.buffered_once))
-    ∙ natives_in-natives cs)
-    (ap (λ n. nodes_of n vs) next ∙ nodes-new vs ∙ ap (map new_node) (names ∙ sym (first-names-natives v order)))
+    (first-candidates b v xs order purple names all)
+    (ap (λ n. nodes_of n vs) next ∙ nodes-new vs
+    ∙ ap (map new_node) (names ∙ ap (λ ys. with_all_last same_name ys (holders_of h)) purple ∙ sym (first-names-holders h order.no_entries)))
     (ap (map (reference_of vs)) edges)
     ∙ ap (λ ms. begun_of cs (map new_node (first_names h)) ms) (sym (no-mappings h order.no_entries))
   where
@@ -146,4 +172,5 @@ IsBuilt-all b v n e built =
       closed = built.closed;
       no_blacks = built.no_blacks;
       unsampled = built.unsampled;
+      uncounted = built.uncounted;
     }

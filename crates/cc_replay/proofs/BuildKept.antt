@@ -1,26 +1,31 @@
 -- What each step of a building keeps.
-use Rattle.std.proofs.Common.{◌≡◌, ℕ, ◌<◌, ◌≤◌, List, [], ◌∷◌, ◌++◌, length, drop, Some, None, refl, sym, ◌∙◌, ap, subst, ⊎_elim, arith, count_by, length-append}
+use Rattle.std.proofs.Common.{◌≡◌, ℕ, ◌<◌, ◌≤◌, List, [], ◌∷◌, ◌++◌, length, drop, Some, None, option_map, refl, sym, ◌∙◌, ap, subst, ⊎_elim, arith, count_by, length-append}
 use Rattle.std.proofs.lemmas.List.{drop-append-le}
 use Rattle.cc_lists.specs.Members.{Among}
-use Rattle.cc_lists.proofs.Members.{Among-append}
+use Rattle.cc_lists.proofs.Members.{Among-map, Among-append}
 use Rattle.cc_lists.proofs.Counting.{count_by-map}
 use Rattle.cc_lists.proofs.CountsOf.{count_by-agree}
 use Rattle.cc_lists.proofs.OnceEach.{with_all_last-once}
 use Rattle.cc_names.specs.declared.name.Name.{Name}
-use Rattle.cc_names.specs.Names.{native, same_name, number_of}
+use Rattle.cc_names.specs.Names.{native, is_native, number_of, same_name}
 use Rattle.cc_names.proofs.NameTests.{same_name-exact}
-use Rattle.cc_model.specs.WellFormed.{IsWellFormed, native_names}
-use Rattle.cc_laws_heap.proofs.Natives.{named-member}
+use Rattle.cc_model.specs.Heap.{HeapScript}
+use Rattle.cc_model.specs.WellFormed.{script_names}
+use Rattle.cc_laws_heap.proofs.Natives.{native_at-number}
 use Rattle.cc_laws_heap.proofs.NameLists.{same_name-sym}
 use Rattle.cc_counted.specs.declared.held.Held.{Held}
 use Rattle.cc_counted.specs.declared.held.Held.TheVariants as held
-use Rattle.cc_names.specs.declared.number.NKey.{NKey}
 use Rattle.cc_graph.specs.Shown.{Shown, Vertex, Edge, vertex, with_vertex}
-use Rattle.cc_replay.specs.Keyed.{Keyed, IsInOrder, number_at}
-use Rattle.cc_replay.specs.Building.{Built, names_of, HasKey, AreHeld, IsBuilt}
-use Rattle.cc_replay.specs.BuildSteps.{with_native, with_reference}
-use Rattle.cc_replay.proofs.BuildNodes.{with_vertex-either, names-with_vertex, nodes-few}
+use Rattle.cc_script.specs.Objects.{Object}
+use Rattle.cc_heaps.specs.Keyed.{Keyed, IsInOrder, named_object}
+use Rattle.cc_heaps.specs.Changes.{IsThere}
+use Rattle.cc_replay.specs.Building.{Built, names_of, AreHeld, HasKey, IsBuilt, WasMade}
+use Rattle.cc_replay.specs.BuildSteps.{the_name, with_object, with_reference}
+use Rattle.cc_replay.proofs.BuildNodes.{with_vertex-either, names-with_vertex}
 use Rattle.cc_replay.proofs.BuildSnapshots.{IsClosed}
+use Rattle.cc_replay.proofs.FewObjects.{made-few}
+use Rattle.cc_replay.proofs.HeldObjects.{stands-at, StandsAt-member, native-name, object-at, IsObjectAt-member, object-among, object-name}
+use Rattle.cc_replay.proofs.Unsampled.{HasNoSample-vertex}
 
 -- what a snapshot needs of a build
 pub IsBuilt-closed : (b : Built) (v : Keyed) → IsBuilt b v → IsClosed b
@@ -43,45 +48,62 @@ with_vertex-each P vs x held old new = with_vertex-either (λ ws. (n : Vertex) �
     (λ _. old)
     (λ _ n m. ⊎_elim (λ l. old n l) (λ r. ⊎_elim (λ (e : vertex x held ≡ n). subst P e new) (λ none. absurd none) r) (Among-append n vs (vertex x held ∷ []) m))
 
--- A native becomes a node
+-- An object becomes a node
 
-pub IsBuilt-native : (b : Built) (v : Keyed) (k : ℕ) (held : Held) → IsBuilt b v → IsWellFormed v.heap → Among (native k) (native_names v.heap) →
-    IsBuilt (with_native b (native k) held) v
-IsBuilt-native b v k held built well there =
+pub IsBuilt-object : (b : Built) (v : Keyed) (x : Name) (held : Held) → IsBuilt b v → WasMade v.heap x → IsBuilt (with_object b x held) v
+IsBuilt-object b v x held built was =
     let vs = b.graph.nodes in
-    let ws = with_vertex vs (native k) held in
-    let longer = with_vertex-longer vs (native k) held in
+    let ws = with_vertex vs x held in
+    let longer = with_vertex-longer vs x held in
     record {
       distinct = distinct;
       made = made;
-      few = nodes-few ws v.heap.natives_made distinct made;
+      few = made-few v.heap ws distinct made;
       behind = omega (arith, built.behind, longer);
       first = omega (arith, built.first, longer);
       closed = λ e m. let old = built.closed e m in (omega (arith, old.0, longer), omega (arith, old.1, longer));
       no_blacks = built.no_blacks;
-      unsampled = with_vertex-either (λ us. (n : Vertex) → Among n (drop b.next us) → n.sampled ≡ None) vs (native k) held
+      unsampled = with_vertex-either (λ us. (n : Vertex) → Among n (drop b.next us) → n.sampled ≡ None) vs x held
           (λ _. built.unsampled)
-          (λ _ n m. ⊎_elim (λ l. built.unsampled n l) (λ r. ⊎_elim (λ (e : vertex (native k) held ≡ n). ap (λ (u : Vertex). u.sampled) (sym e)) (λ none. absurd none) r)
-          (Among-append n (drop b.next vs) (vertex (native k) held ∷ []) (subst (λ us. Among n us) (drop-append-le b.next vs (vertex (native k) held ∷ []) built.behind) m)));
+          (λ _ n m. ⊎_elim (λ l. built.unsampled n l) (λ r. ⊎_elim (λ (e : vertex x held ≡ n). ap (λ (u : Vertex). u.sampled) (sym e)) (λ none. absurd none) r)
+          (Among-append n (drop b.next vs) (vertex x held ∷ []) (subst (λ us. Among n us) (drop-append-le b.next vs (vertex x held ∷ []) built.behind) m)));
+      uncounted = HasNoSample-vertex vs x held built.uncounted;
     }
   where
-    distinct : (x : Name) → count_by (λ v. same_name v.name x) (with_vertex b.graph.nodes (native k) held) ≤ 1
-    distinct x =
+    distinct : (y : Name) → count_by (λ n. same_name n.name y) (with_vertex b.graph.nodes x held) ≤ 1
+    distinct y =
         let vs = b.graph.nodes in
-        let ws = with_vertex vs (native k) held in
-        let once = with_all_last-once same_name same_name-exact (names_of vs) (native k ∷ []) x (subst (λ n. n ≤ 1) (named vs x) (built.distinct x)) in
-        subst (λ n. n ≤ 1) (sym (named ws x ∙ ap (count_by (same_name x)) (names-with_vertex vs (native k) held))) once
+        let ws = with_vertex vs x held in
+        let once = with_all_last-once same_name same_name-exact (names_of vs) (x ∷ []) y (subst (λ n. n ≤ 1) (named vs y) (built.distinct y)) in
+        subst (λ n. n ≤ 1) (sym (named ws y ∙ ap (count_by (same_name y)) (names-with_vertex vs x held))) once
 
-    made : (n : Vertex) → Among n (with_vertex b.graph.nodes (native k) held) → (j : ℕ) × (n.name ≡ native j) × (1 ≤ j) × (j ≤ v.heap.natives_made)
-    made = with_vertex-each (λ n. (j : ℕ) × (n.name ≡ native j) × (1 ≤ j) × (j ≤ v.heap.natives_made)) b.graph.nodes (native k) held built.made
-        (let n = named-member v.heap k there in
-        let bounds = well.native_numbers n.0 n.1 in
-        (k, refl, subst (λ i. 1 ≤ i) n.2 bounds.0, subst (λ i. i ≤ v.heap.natives_made) n.2 bounds.1))
+    made : (n : Vertex) → Among n (with_vertex b.graph.nodes x held) → WasMade v.heap n.name
+    made = with_vertex-each (λ n. WasMade v.heap n.name) b.graph.nodes x held built.made was
 
-pub AreHeld-native : (g : Shown) (v : Keyed) (k : ℕ) (key : NKey) → AreHeld g v → number_at v key.0 ≡ Some k →
-    AreHeld (record g { nodes = with_vertex g.nodes (native k) (held.Native key) }) v
-AreHeld-native g v k key are at = with_vertex-each (λ n. HasKey v n.name n.held) g.nodes (native k) (held.Native key) are
-    (λ j e m. at ∙ ap Some (ap number_of e))
+pub AreHeld-object : (b : Built) (v : Keyed) (x : Name) (held : Held) → AreHeld b.graph v → HasKey v x held → AreHeld (with_object b x held).graph v
+AreHeld-object b v x held are has = with_vertex-each (λ n. HasKey v n.name n.held) b.graph.nodes x held are has
+
+-- an object that is there was made, and is where its name says
+pub there-made : (v : Keyed) (object : Held) → IsInOrder [] v → IsThere v (Some object) → WasMade v.heap (the_name v object)
+there-made v (held.Native key) order there =
+    let s = stands-at v key order there in
+    let m = StandsAt-member v key.0 s in
+    let bounds = order.sound.well_formed.native_numbers s.body m in
+    let same : s.body.number ≡ s.number = native_at-number v.heap s.number s.body s.found in
+    subst (λ x. WasMade v.heap x) (sym (native-name v key s)) (subst (λ k. WasMade v.heap (native k)) same bounds)
+there-made v (held.Script key) order there =
+    let s = object-at v key order there in
+    subst (λ x. WasMade v.heap x) (sym (object-name v key s ∙ s.name))
+    (subst (λ x. Among x (script_names v.heap)) s.name
+    (Among-map (λ (o : HeapScript). o.name) (named_object v.scripts s.body) v.heap.scripts (object-among v s.body order (IsObjectAt-member v key.0 s))))
+
+pub there-key : (v : Keyed) (object : Held) → IsInOrder [] v → IsThere v (Some object) → HasKey v (the_name v object) object
+there-key v (held.Native key) order there =
+    let s = stands-at v key order there in
+    subst (λ x. HasKey v x (held.Native key)) (sym (native-name v key s)) (refl, λ k e m. s.at ∙ ap Some (ap number_of e))
+there-key v (held.Script key) order there =
+    let s = object-at v key order there in
+    subst (λ x. HasKey v x (held.Script key)) (sym (object-name v key s)) (ap is_native s.name, ap (option_map (λ (o : Object). o.name)) s.at)
 
 -- graphs are the same by their parts
 abbrev graph_of : List Vertex → List Edge → List ℕ → ℕ → Shown
@@ -96,26 +118,26 @@ graph-same g h n e b s =
 abbrev pub built_of : Shown → ℕ → ℕ → Built
 built_of g candidates next = record { graph = g; candidates = candidates; next = next }
 
--- what a native as a node gives, by the graph's parts
-pub record IsAdded (b : Built) (k : ℕ) (key : NKey) (g : Shown) : Type 0 where
-  pub nodes : g.nodes ≡ with_vertex b.graph.nodes (native k) (held.Native key)
+-- what an object as a node gives, by the graph's parts
+pub record IsAdded (b : Built) (x : Name) (held : Held) (g : Shown) : Type 0 where
+  pub nodes : g.nodes ≡ with_vertex b.graph.nodes x held
   pub edges : g.edges ≡ b.graph.edges
   pub blacks : g.blacks ≡ b.graph.blacks
   pub spare : g.spare ≡ b.graph.spare
 
-IsAdded-graph : (b : Built) (k : ℕ) (key : NKey) (g : Shown) → IsAdded b k key g → g ≡ record b.graph { nodes = with_vertex b.graph.nodes (native k) (held.Native key) }
-IsAdded-graph b k key g added =
-    graph-same g (record b.graph { nodes = with_vertex b.graph.nodes (native k) (held.Native key) }) added.nodes added.edges added.blacks added.spare
+IsAdded-graph : (b : Built) (x : Name) (held : Held) (g : Shown) → IsAdded b x held g → g ≡ (with_object b x held).graph
+IsAdded-graph b x held g added = graph-same g (with_object b x held).graph added.nodes added.edges added.blacks added.spare
 
-pub IsAdded-built : (b c : Built) (v : Keyed) (k : ℕ) (key : NKey) (g : Shown) → b ≡ c → IsBuilt c v → IsInOrder [] v → number_at v key.0 ≡ Some k → IsAdded b k key g →
+pub IsAdded-built : (b c : Built) (v : Keyed) (object : Held) (g : Shown) → b ≡ c → IsBuilt c v → IsInOrder [] v → IsThere v (Some object) → IsAdded b (the_name v object) object g →
     IsBuilt (record b { graph = g }) v
-IsAdded-built b c v k key g same built order at added =
-    subst (λ h. IsBuilt (record b { graph = h }) v) (sym (IsAdded-graph b k key g added))
-    (IsBuilt-native b v k (held.Native key) (subst (λ a. IsBuilt a v) (sym same) built) order.sound.well_formed (order.keyed.there key.0 k at))
+IsAdded-built b c v object g same built order there added =
+    subst (λ h. IsBuilt (record b { graph = h }) v) (sym (IsAdded-graph b (the_name v object) object g added))
+    (IsBuilt-object b v (the_name v object) object (subst (λ a. IsBuilt a v) (sym same) built) (there-made v object order there))
 
-pub IsAdded-held : (b c : Built) (v : Keyed) (k : ℕ) (key : NKey) (g : Shown) → b ≡ c → AreHeld c.graph v → number_at v key.0 ≡ Some k → IsAdded b k key g → AreHeld g v
-IsAdded-held b c v k key g same are at added =
-    subst (λ h. AreHeld h v) (sym (IsAdded-graph b k key g added)) (AreHeld-native b.graph v k key (subst (λ (a : Built). AreHeld a.graph v) (sym same) are) at)
+pub IsAdded-held : (b c : Built) (v : Keyed) (object : Held) (g : Shown) → b ≡ c → AreHeld c.graph v → IsInOrder [] v → IsThere v (Some object) → IsAdded b (the_name v object) object g → AreHeld g v
+IsAdded-held b c v object g same are order there added =
+    subst (λ h. AreHeld h v) (sym (IsAdded-graph b (the_name v object) object g added))
+    (AreHeld-object b v (the_name v object) object (subst (λ (a : Built). AreHeld a.graph v) (sym same) are) (there-key v object order there))
 
 -- A reference is noted
 
@@ -130,6 +152,7 @@ IsBuilt-reference b v i j built l m =
       closed = closed;
       no_blacks = built.no_blacks;
       unsampled = built.unsampled;
+      uncounted = built.uncounted;
     }
   where
     new : Edge

@@ -1,12 +1,11 @@
 -- The nodes of a graph by number and by name.
-use Rattle.std.proofs.Common.{◌≡◌, ℕ, zero, suc, ◌+◌, ◌<◌, ◌≤◌, Bool, true, false, ◌||◌, List, [], ◌∷◌, ◌++◌, map, length, take, Option, Some, None, is_some, refl, sym, ◌∙◌, ap, subst, inl, inr, ◌⊎◌, ⊎_elim, arith, count_by}
+use Rattle.std.proofs.Common.{◌≡◌, ℕ, suc, ◌+◌, ◌<◌, ◌≤◌, Bool, true, false, ◌||◌, List, [], ◌∷◌, ◌++◌, map, length, take, Option, Some, None, is_some, refl, sym, ◌∙◌, ap, subst, inl, inr, arith}
 use Rattle.std.proofs.Math.ListN.{get_or-append}
 use Rattle.std.proofs.lemmas.List.{map_push, length-map, take-append-le}
 use Rattle.cc_lists.specs.Members.{Among, has, with_last}
-use Rattle.cc_lists.proofs.Counting.{count_by-below, count_by-cons, count_by-some, counted_is}
 use Rattle.cc_names.specs.declared.name.Name.{Name}
 use Rattle.cc_names.specs.Names.{native, same_name}
-use Rattle.cc_names.proofs.NameTests.{same_name-true, same_name-exact}
+use Rattle.cc_names.proofs.NameTests.{same_name-true}
 use Rattle.cc_counted.specs.declared.held.Held.{Held}
 use Rattle.cc_graph.specs.Shown.{Vertex, Edge, vertex, number_from, number_of, with_vertex}
 use Rattle.cc_replay.specs.Building.{names_of, name_at, reference_of}
@@ -82,48 +81,3 @@ references-append vs ws (e ∷ es) closed =
 -- and the first nodes
 pub first-append : (vs ws : List Vertex) (n : ℕ) → n ≤ length vs → names_of (take n (vs ++ ws)) ≡ names_of (take n vs)
 first-append vs ws n l = ap names_of (take-append-le n vs ws l)
-
--- There are no more nodes than natives
-
--- the numbers from 1 to m
-abbrev numbers_to : ℕ → List ℕ
-numbers_to zero = []
-numbers_to (suc m) = suc m ∷ numbers_to m
-
-numbers_to-among : (m k : ℕ) → 1 ≤ k → k ≤ m → Among k (numbers_to m)
-numbers_to-among zero k low high = absurd (omega arith)
-numbers_to-among (suc m) k low high = ⊎_elim
-    (λ (e : k ≡ suc m). inl (sym e))
-    (λ (l : k < suc m). inr (numbers_to-among m k low (omega arith)))
-    (eq_or_lt k (suc m) high)
-  where
-    eq_or_lt : (i j : ℕ) → i ≤ j → (i ≡ j) ⊎ (i < j)
-    eq_or_lt i j l = grind arith
-
-numbers_to-length : (m : ℕ) → length (numbers_to m) ≡ m
-numbers_to-length zero = refl
-numbers_to-length (suc m) = ap suc (numbers_to-length m)
-
--- all are counted
-count_by-all : {X : Type 0} (xs : List X) → count_by (λ x. true) xs ≡ length xs
-count_by-all [] = refl
-count_by-all {X} (x ∷ xs) = omega (arith, count_by-cons (λ (y : X). true) x xs, count_by-all xs)
-
-pub nodes-few : (vs : List Vertex) (m : ℕ) → ((x : Name) → count_by (λ v. same_name v.name x) vs ≤ 1) →
-    ((v : Vertex) → Among v vs → (k : ℕ) × (v.name ≡ native k) × (1 ≤ k) × (k ≤ m)) → length vs ≤ m
-nodes-few vs m distinct made =
-    let below : count_by (λ (v : Vertex). true) vs ≤ count_by (λ (k : ℕ). true) (numbers_to m) =
-    count_by-below same_name same_name-exact (λ (v : Vertex). true) (λ (v : Vertex). v.name) (λ (k : ℕ). true) native vs (numbers_to m)
-    (λ x. at x (count_by (λ (v : Vertex). same_name v.name x) vs) refl) in
-    omega (arith, below, count_by-all vs, count_by-all (numbers_to m), numbers_to-length m)
-  where
-    at : (x : Name) (n : ℕ) → count_by (λ (v : Vertex). same_name v.name x) vs ≡ n →
-        count_by (λ (v : Vertex). same_name v.name x) vs ≤ count_by (λ (k : ℕ). same_name (native k) x) (numbers_to m)
-    at x zero e = omega arith
-    at x (suc n) e =
-        let v = counted_is (λ (v : Vertex). same_name v.name x) vs (omega arith) in
-        let k = made v.0 v.1 in
-        let named : same_name (native k.0) x ≡ true = ap (λ y. same_name y x) (sym k.1) ∙ v.2 in
-        let some : 0 < count_by (λ (j : ℕ). same_name (native j) x) (numbers_to m) =
-        count_by-some (λ (j : ℕ). same_name (native j) x) k.0 (numbers_to m) (numbers_to-among m k.0 k.2 k.3) named in
-        omega (arith, distinct x)

@@ -12,8 +12,8 @@ use Rattle.cc_counted.specs.declared.held.Held.TheVariants as held
 use Rattle.cc_counted.specs.Counts.{Counts}
 use Rattle.cc_counted.specs.Counts as counts
 use Rattle.cc_graph.specs.Shown.{Vertex}
-use Rattle.cc_replay.specs.Keyed.{Keyed, counts_of, number_at, the_number}
-use Rattle.cc_replay.specs.Building.{Built, HasKey, AreHeld, IsBuilt, name_at}
+use Rattle.cc_heaps.specs.Keyed.{Keyed, counts_of, number_at, the_number}
+use Rattle.cc_replay.specs.Building.{Built, HasKey, AreHeld, name_at}
 
 -- the number that was read
 pub number-read : (v : Keyed) (c : Counts) (key : ℕ) (o : Option NativeNo) (n : NativeNo) → c ≡ counts_of v →
@@ -81,10 +81,15 @@ pub native-gone : (b : Built) (v : Keyed) (i k : ℕ) (y : Held) (key : NKey) �
 native-gone b v i k y key are n same other m =
     let vs = b.graph.nodes in
     let has : HasKey v n.node.name (held.Native key) = subst (λ z. HasKey v n.node.name z) (n.held ∙ same) (are n.node (IsNodeAt-among vs i (native k) y n)) in
-    other (has k n.name (subst (λ z. Among z (native_names v.heap)) (IsNodeAt-name vs i (native k) y n) m))
+    other (has.1 k n.name (subst (λ z. Among z (native_names v.heap)) (IsNodeAt-name vs i (native k) y n) m))
 
--- each node is a native's
-pub node-native : (b : Built) (v : Keyed) (i : ℕ) (x : Name) (y : Held) → IsBuilt b v → IsNodeAt b.graph.nodes i x y → (k : ℕ) × (x ≡ native k)
-node-native b v i x y built n =
-    let m = built.made n.node (IsNodeAt-among b.graph.nodes i x y n) in
-    (m.0, sym n.name ∙ m.1)
+-- a node has its object's key
+pub node-key : (b : Built) (v : Keyed) (i : ℕ) (x : Name) (y z : Held) → AreHeld b.graph v → IsNodeAt b.graph.nodes i x y → y ≡ z → HasKey v (name_at b.graph.nodes i) z
+node-key b v i x y z are n same =
+    subst (λ w. HasKey v w z) (n.name ∙ sym (IsNodeAt-name b.graph.nodes i x y n))
+    (subst (λ w. HasKey v n.node.name w) (n.held ∙ same) (are n.node (IsNodeAt-among b.graph.nodes i x y n)))
+
+-- the same of a node that was read of nodes that are the same
+pub node-key_read : (b : Built) (v : Keyed) (us : List Vertex) (i : ℕ) (x : Name) (y z : Held) → AreHeld b.graph v → us ≡ b.graph.nodes →
+    option_map (λ (w : Vertex). w.name) (slice_get us i) ≡ Some x → option_map (λ (w : Vertex). w.held) (slice_get us i) ≡ Some y → y ≡ z → HasKey v (name_at b.graph.nodes i) z
+node-key_read b v us i x y z are same name_is held_is = node-key b v i x y z are (node-read_in us b.graph.nodes i x y same name_is held_is)

@@ -1,5 +1,5 @@
 -- The snapshot that a graph holds, after each step of its building.
-use Rattle.std.proofs.Common.{◌≡◌, ℕ, ◌+◌, ◌<◌, ◌≤◌, true, List, [], ◌∷◌, ◌++◌, map, length, take, Some, None, refl, sym, ◌∙◌, ap, subst, add-one, slice_get, slice_index_or}
+use Rattle.std.proofs.Common.{◌≡◌, ℕ, ◌+◌, ◌<◌, ◌≤◌, true, List, [], ◌∷◌, ◌++◌, map, length, take, Option, Some, None, refl, sym, ◌∙◌, ap, subst, add-one, slice_get, slice_index_or}
 use Rattle.std.specs.List.{flat_map}
 use Rattle.std.proofs.lemmas.List.{map_push, take-map}
 use Rattle.cc_lists.specs.Members.{Among}
@@ -8,11 +8,11 @@ use Rattle.cc_names.specs.Names.{native, is_native, natives_in}
 use Rattle.cc_model.specs.Snapshot.{Node, Snapshot, traversed}
 use Rattle.cc_model.specs.Units.{with_state, with_node, passed_over}
 use Rattle.cc_counted.specs.declared.held.Held.{Held}
-use Rattle.cc_graph.specs.Shown.{Vertex, Edge, vertex, number_of, with_vertex, with_sample, change_vertex}
+use Rattle.cc_graph.specs.Shown.{Vertex, Edge, vertex, number_of, with_vertex}
 use Rattle.cc_replay.specs.Building.{Built, names_of, name_at, nodes_of, reference_of, snapshot_of}
-use Rattle.cc_replay.specs.BuildSteps.{with_native, with_reference, with_next_sampled, noting_one}
+use Rattle.cc_replay.specs.BuildSteps.{with_object, with_reference, with_next_passed, sampled_at, noting_one}
 use Rattle.cc_replay.proofs.BuildNodes.{with_vertex-either, references-append, first-append, name_at-append, number_of-at}
-use Rattle.cc_replay.proofs.BuildStates.{nodes-with_vertex, nodes-sampled, nodes-passed, names-sampled}
+use Rattle.cc_replay.proofs.BuildStates.{IsSampleOf, nodes-with_vertex, nodes-traversed, nodes-passed, names-passed}
 
 -- a snapshot by its parts
 abbrev pub parts : List ℕ → List Node → List (Name × Name) → Snapshot
@@ -28,10 +28,10 @@ pub record IsClosed (b : Built) : Type 0 where
   pub first : b.candidates ≤ length b.graph.nodes
   pub closed : (e : Edge) → Among e b.graph.edges → (e.source < length b.graph.nodes) × (e.target < length b.graph.nodes)
 
--- a native becomes a node
-pub snapshot-with_native : (b : Built) (x : Name) (held : Held) → IsClosed b →
-    snapshot_of (with_native b x held) ≡ record (snapshot_of b) { nodes = with_node (snapshot_of b).nodes x }
-snapshot-with_native b x held c =
+-- an object becomes a node
+pub snapshot-with_object : (b : Built) (x : Name) (held : Held) → IsClosed b →
+    snapshot_of (with_object b x held) ≡ record (snapshot_of b) { nodes = with_node (snapshot_of b).nodes x }
+snapshot-with_object b x held c =
     let vs = b.graph.nodes in
     let ws = with_vertex vs x held in
     snapshot-same
@@ -59,18 +59,18 @@ pub first-names : (vs ws : List Vertex) (n : ℕ) → names_of ws ≡ names_of v
 first-names vs ws n e = sym (take-map (λ (v : Vertex). v.name) n ws) ∙ ap (take n) e ∙ take-map (λ (v : Vertex). v.name) n vs
 
 -- the next node is traversed
-pub snapshot-sampled : (b : Built) (count : ℕ) → b.next < length b.graph.nodes → is_native (name_at b.graph.nodes b.next) ≡ true →
-    snapshot_of (with_next_sampled count b) ≡ record (snapshot_of b) { nodes = with_state (traversed (Some count)) (snapshot_of b).nodes }
-snapshot-sampled b count l e =
+pub snapshot-traversed : (b : Built) (count : Option ℕ) → b.next < length b.graph.nodes → IsSampleOf count (name_at b.graph.nodes b.next) →
+    snapshot_of (with_next_passed count b) ≡ record (snapshot_of b) { nodes = with_state (traversed count) (snapshot_of b).nodes }
+snapshot-traversed b count l e =
     let vs = b.graph.nodes in
-    let ws = change_vertex vs b.next (with_sample count) in
-    let names = names-sampled vs b.next count in
+    let ws = sampled_at vs b.next count in
+    let names = names-passed vs b.next count in
     snapshot-same
     (flat_map natives_in (names_of (take b.candidates ws))) (flat_map natives_in (names_of (take b.candidates vs)))
-    (nodes_of (b.next + 1) ws) (with_state (traversed (Some count)) (nodes_of b.next vs))
+    (nodes_of (b.next + 1) ws) (with_state (traversed count) (nodes_of b.next vs))
     (map (reference_of ws) b.graph.edges) (map (reference_of vs) b.graph.edges)
     (ap (flat_map natives_in) (first-names vs ws b.candidates names))
-    (ap (λ n. nodes_of n ws) (add-one b.next) ∙ nodes-sampled b.next vs count l e)
+    (ap (λ n. nodes_of n ws) (add-one b.next) ∙ nodes-traversed b.next vs count l e)
     (references-names vs ws b.graph.edges names)
 
 -- the next node is passed over
@@ -79,7 +79,7 @@ pub snapshot-passed : (b : Built) (v : Vertex) → slice_get b.graph.nodes b.nex
 snapshot-passed b v at e f =
     ap (λ ns. record (snapshot_of b) { nodes = ns }) (ap (λ n. nodes_of n b.graph.nodes) (add-one b.next) ∙ nodes-passed b.next b.graph.nodes v at e f)
 
--- A native becomes a node, and a reference to it is noted
+-- An object becomes a node, and a reference to it is noted
 
 -- a node keeps its name
 pub name_at-with_vertex : (vs : List Vertex) (x : Name) (held : Held) (i : ℕ) → i < length vs → name_at (with_vertex vs x held) i ≡ name_at vs i
@@ -88,14 +88,14 @@ name_at-with_vertex vs x held i l = with_vertex-either (λ ws. name_at ws i ≡ 
 abbrev pub referred : Snapshot → Name → Name → Snapshot
 referred s x y = record s { references = s.references ++ (x, y) ∷ [] }
 
-pub snapshot-noted : (b c : Built) (x : Name) (held : Held) (i j : ℕ) → c ≡ with_native b x held → IsClosed b → i < length b.graph.nodes →
+pub snapshot-noted : (b c : Built) (x : Name) (held : Held) (i j : ℕ) → c ≡ with_object b x held → IsClosed b → i < length b.graph.nodes →
     number_of c.graph.nodes x ≡ Some j → snapshot_of (with_reference c i j) ≡ noting_one (snapshot_of b) (name_at b.graph.nodes i) x
 snapshot-noted b c x held i j same closed l found =
-    let d = with_native b x held in
+    let d = with_object b x held in
     let ws = d.graph.nodes in
     let at : name_at ws j ≡ x = (number_of-at ws x j (subst (λ (a : Built). number_of a.graph.nodes x ≡ Some j) same found)).1 in
     ap (λ (a : Built). snapshot_of (with_reference a i j)) same
     ∙ snapshot-with_reference d i j
-    ∙ ap (λ s. referred s (name_at ws i) (name_at ws j)) (snapshot-with_native b x held closed)
+    ∙ ap (λ s. referred s (name_at ws i) (name_at ws j)) (snapshot-with_object b x held closed)
     ∙ ap (λ y. referred (record (snapshot_of b) { nodes = with_node (snapshot_of b).nodes x }) y (name_at ws j)) (name_at-with_vertex b.graph.nodes x held i l)
     ∙ ap (λ y. referred (record (snapshot_of b) { nodes = with_node (snapshot_of b).nodes x }) (name_at b.graph.nodes i) y) at

@@ -8,6 +8,7 @@ use Rattle.cc_model.specs.Units.{is_untraversed, first_untraversed, new_node, wi
 use Rattle.cc_counted.specs.declared.held.Held.{Held}
 use Rattle.cc_graph.specs.Shown.{Vertex, vertex, with_vertex, with_sample, change_vertex}
 use Rattle.cc_replay.specs.Building.{node_with, nodes_of, names_of, name_at, state_behind, state_by_sample}
+use Rattle.cc_replay.specs.BuildSteps.{sampled_at}
 use Rattle.cc_replay.proofs.BuildNodes.{with_vertex-either}
 
 -- the names of the nodes
@@ -65,7 +66,7 @@ first-none (suc next) (v ∷ vs) l =
     ap (λ b. elim b [ true ↦ Some v.name | false ↦ first_untraversed (nodes_of next vs) ]) (behind-done v) ∙ first-none next vs (omega arith)
 
 -- the same nodes with other samples have the same names
-pub names-sampled : (vs : List Vertex) (i count : ℕ) → names_of (change_vertex vs i (with_sample count)) ≡ names_of vs
+names-sampled : (vs : List Vertex) (i count : ℕ) → names_of (change_vertex vs i (with_sample count)) ≡ names_of vs
 names-sampled [] i count = refl
 names-sampled (v ∷ vs) zero count = refl
 names-sampled (v ∷ vs) (suc i) count = go (slice_get vs i) (names-sampled vs i count)
@@ -94,7 +95,7 @@ native-behind : (v : Vertex) → is_native v.name ≡ true → state_behind v �
 native-behind v e = ap (λ b. elim b [ true ↦ state_by_sample v.sampled | false ↦ traversed None ]) e
 
 -- the first native that is not behind is sampled: it is traversed with its count
-pub nodes-sampled : (next : ℕ) (vs : List Vertex) (count : ℕ) → next < length vs → is_native (name_at vs next) ≡ true →
+nodes-sampled : (next : ℕ) (vs : List Vertex) (count : ℕ) → next < length vs → is_native (name_at vs next) ≡ true →
     nodes_of (suc next) (change_vertex vs next (with_sample count)) ≡ with_state (traversed (Some count)) (nodes_of next vs)
 nodes-sampled next [] count l e = absurd (omega arith)
 nodes-sampled zero (v ∷ vs) count l e = ap (λ state. node_with state v ∷ nodes_of zero vs) (native-behind (with_sample count v) e)
@@ -114,3 +115,32 @@ nodes-passed zero (w ∷ vs) v at e f =
     ap (λ state. node_with state w ∷ nodes_of zero vs) (native-behind w kind ∙ ap state_by_sample sample)
 nodes-passed (suc next) (w ∷ vs) v at e f =
     ap (λ ns. node_with (state_behind w) w ∷ ns) (nodes-passed next vs v at e f) ∙ sym (with_state-behind gone w (nodes_of next vs))
+
+-- A node traversed, with its sample where it is a native
+
+-- a native has a sample, a script object none
+abbrev pub IsSampleOf : Option ℕ → Name → Type 0
+IsSampleOf (Some count) x = is_native x ≡ true
+IsSampleOf None x = is_native x ≡ false
+
+pub names-passed : (vs : List Vertex) (i : ℕ) (count : Option ℕ) → names_of (sampled_at vs i count) ≡ names_of vs
+names-passed vs i None = refl
+names-passed vs i (Some count) = names-sampled vs i count
+
+-- the state of a script object behind
+script-behind : (v : Vertex) → is_native v.name ≡ false → state_behind v ≡ traversed None
+script-behind v e = ap (λ b. elim b [ true ↦ state_by_sample v.sampled | false ↦ traversed None ]) e
+
+-- the first script object that is not behind is traversed as soon as it is behind
+script-passed : (next : ℕ) (vs : List Vertex) → next < length vs → is_native (name_at vs next) ≡ false →
+    nodes_of (suc next) vs ≡ with_state (traversed None) (nodes_of next vs)
+script-passed next [] l e = absurd (omega arith)
+script-passed zero (v ∷ vs) l e = ap (λ state. node_with state v ∷ nodes_of zero vs) (script-behind v e)
+script-passed (suc next) (v ∷ vs) l e =
+    ap (λ ns. node_with (state_behind v) v ∷ ns) (script-passed next vs (omega arith) e)
+    ∙ sym (with_state-behind (traversed None) v (nodes_of next vs))
+
+pub nodes-traversed : (next : ℕ) (vs : List Vertex) (count : Option ℕ) → next < length vs → IsSampleOf count (name_at vs next) →
+    nodes_of (suc next) (sampled_at vs next count) ≡ with_state (traversed count) (nodes_of next vs)
+nodes-traversed next vs None l e = script-passed next vs l e
+nodes-traversed next vs (Some count) l e = nodes-sampled next vs count l e

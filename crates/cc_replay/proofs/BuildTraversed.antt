@@ -1,20 +1,21 @@
 -- What a build keeps where its next node is traversed or passed over.
-use Rattle.std.proofs.Common.{◌≡◌, ℕ, zero, suc, ◌+◌, ◌<◌, ◌≤◌, List, [], ◌∷◌, length, drop, set, Option, Some, None, refl, sym, ◌∙◌, ap, subst, inr, ⊎_elim, arith, count_by, add-one, slice_get, slice_index_or}
+use Rattle.std.proofs.Common.{◌≡◌, true, ℕ, zero, suc, ◌+◌, ◌<◌, ◌≤◌, List, [], ◌∷◌, length, drop, set, Option, Some, None, IsSome, refl, sym, ◌∙◌, ap, subst, inr, ⊎_elim, arith, count_by, add-one, slice_get, slice_index_or}
 use Rattle.std.specs.List.{flat_map}
 use Rattle.std.proofs.Math.Numerals.{lt-add-one}
 use Rattle.std.proofs.lemmas.List.{length-set, drop-set-lt}
 use Rattle.cc_lists.specs.Members.{Among}
 use Rattle.cc_lists.proofs.ListWrites.{Among-set_cases}
 use Rattle.cc_names.specs.declared.name.Name.{Name}
-use Rattle.cc_names.specs.Names.{native, natives_in, same_name}
+use Rattle.cc_names.specs.Names.{native, is_native, natives_in, same_name}
 use Rattle.cc_graph.specs.Shown.{Vertex, with_sample, change_vertex}
-use Rattle.cc_replay.specs.Keyed.{Keyed}
-use Rattle.cc_replay.specs.Building.{Built, HasKey, AreHeld, IsBuilt, name_at, snapshot_of}
-use Rattle.cc_replay.specs.BuildSteps.{noting, with_next_sampled, with_room}
-use Rattle.cc_replay.proofs.BuildStates.{names-sampled}
+use Rattle.cc_heaps.specs.Keyed.{Keyed}
+use Rattle.cc_replay.specs.Building.{Built, HasKey, AreHeld, IsBuilt, WasMade, name_at, snapshot_of}
+use Rattle.cc_replay.specs.BuildSteps.{noting, sampled_at, with_next_passed, with_room}
+use Rattle.cc_replay.proofs.BuildStates.{IsSampleOf, names-passed}
 use Rattle.cc_replay.proofs.BuildSnapshots.{first-names}
 use Rattle.cc_replay.proofs.BuildReads.{slice_get-among}
 use Rattle.cc_replay.proofs.BuildKept.{named}
+use Rattle.cc_replay.proofs.Unsampled.{HasNoSample-passed}
 
 -- what holds of each node as it is and changed holds of each once one is changed
 change_vertex-each : (P : Vertex → Type 0) (vs : List Vertex) (i : ℕ) (f : Vertex → Vertex) → ((n : Vertex) → Among n vs → P n) → ((n : Vertex) → Among n vs → P (f n)) →
@@ -50,28 +51,50 @@ Among-drop_more (suc n) (y ∷ ys) x m = Among-drop_more n ys x m
 unsampled-more : (b : Built) (v : Keyed) → IsBuilt b v → (n : Vertex) → Among n (drop (b.next + 1) b.graph.nodes) → n.sampled ≡ None
 unsampled-more b v built n m = built.unsampled n (Among-drop_more b.next b.graph.nodes n (subst (λ i. Among n (drop i b.graph.nodes)) (add-one b.next) m))
 
--- a node keeps its name
-pub name_at-sampled : (vs : List Vertex) (i count j : ℕ) → name_at (change_vertex vs i (with_sample count)) j ≡ name_at vs j
-name_at-sampled vs i count j = ap (λ xs. slice_index_or xs j (native 0)) (names-sampled vs i count)
+-- A node that is passed, with its sample where it is a native
 
-pub IsBuilt-sampled : (b : Built) (v : Keyed) (count : ℕ) → IsBuilt b v → b.next < length b.graph.nodes → IsBuilt (with_next_sampled count b) v
-IsBuilt-sampled b v count built l =
+-- what holds of each node, whatever is sampled, holds then
+passed-each : (P : Vertex → Type 0) (vs : List Vertex) (i : ℕ) (count : Option ℕ) → ((n : Vertex) → Among n vs → P n) →
+    ((n : Vertex) (c : ℕ) → P n → P (with_sample c n)) → (n : Vertex) → Among n (sampled_at vs i count) → P n
+passed-each P vs i None all kept = all
+passed-each P vs i (Some c) all kept = change_vertex-each P vs i (with_sample c) all (λ n m. kept n c (all n m))
+
+passed-length : (vs : List Vertex) (i : ℕ) (count : Option ℕ) → length (sampled_at vs i count) ≡ length vs
+passed-length vs i None = refl
+passed-length vs i (Some c) = change_vertex-length vs i (with_sample c)
+
+passed-drop : (vs : List Vertex) (i : ℕ) (count : Option ℕ) → drop (i + 1) (sampled_at vs i count) ≡ drop (i + 1) vs
+passed-drop vs i None = refl
+passed-drop vs i (Some c) = change_vertex-drop vs i (with_sample c)
+
+-- a node keeps its name
+pub name_at-passed : (vs : List Vertex) (i : ℕ) (count : Option ℕ) (j : ℕ) → name_at (sampled_at vs i count) j ≡ name_at vs j
+name_at-passed vs i count j = ap (λ xs. slice_index_or xs j (native 0)) (names-passed vs i count)
+
+sampled-native : (count : Option ℕ) (x : Name) → IsSampleOf count x → IsSome count → is_native x ≡ true
+sampled-native None x kind some = absurd (cc)
+sampled-native (Some c) x kind some = kind
+
+pub IsBuilt-traversed : (b : Built) (v : Keyed) (count : Option ℕ) → IsBuilt b v → b.next < length b.graph.nodes → IsSampleOf count (name_at b.graph.nodes b.next) →
+    IsBuilt (with_next_passed count b) v
+IsBuilt-traversed b v count built l kind =
     let vs = b.graph.nodes in
-    let ws = change_vertex vs b.next (with_sample count) in
-    let many = change_vertex-length vs b.next (with_sample count) in
+    let ws = sampled_at vs b.next count in
+    let many = passed-length vs b.next count in
     record {
-      distinct = λ x. subst (λ n. n ≤ 1) (named vs x ∙ ap (count_by (same_name x)) (sym (names-sampled vs b.next count)) ∙ sym (named ws x)) (built.distinct x);
-      made = change_vertex-each (λ n. (k : ℕ) × (n.name ≡ native k) × (1 ≤ k) × (k ≤ v.heap.natives_made)) vs b.next (with_sample count) built.made built.made;
+      distinct = λ x. subst (λ n. n ≤ 1) (named vs x ∙ ap (count_by (same_name x)) (sym (names-passed vs b.next count)) ∙ sym (named ws x)) (built.distinct x);
+      made = passed-each (λ n. WasMade v.heap n.name) vs b.next count built.made (λ n c m. m);
       few = omega (arith, built.few, many);
       behind = omega (arith, many);
       first = omega (arith, built.first, many);
       closed = λ e m. let old = built.closed e m in (omega (arith, old.0, many), omega (arith, old.1, many));
       no_blacks = built.no_blacks;
-      unsampled = λ n m. unsampled-more b v built n (subst (λ us. Among n us) (change_vertex-drop vs b.next (with_sample count)) m);
+      unsampled = λ n m. unsampled-more b v built n (subst (λ us. Among n us) (passed-drop vs b.next count) m);
+      uncounted = HasNoSample-passed vs b.next count (sampled-native count (name_at vs b.next) kind) built.uncounted;
     }
 
-pub AreHeld-sampled : (b : Built) (v : Keyed) (count : ℕ) → AreHeld b.graph v → AreHeld (with_next_sampled count b).graph v
-AreHeld-sampled b v count are = change_vertex-each (λ n. HasKey v n.name n.held) b.graph.nodes b.next (with_sample count) are are
+pub AreHeld-traversed : (b : Built) (v : Keyed) (count : Option ℕ) → AreHeld b.graph v → AreHeld (with_next_passed count b).graph v
+AreHeld-traversed b v count are = passed-each (λ n. HasKey v n.name n.held) b.graph.nodes b.next count are (λ n c h. h)
 
 pub IsBuilt-passed : (b : Built) (v : Keyed) → IsBuilt b v → b.next < length b.graph.nodes → IsBuilt (record b { next = b.next + 1 }) v
 IsBuilt-passed b v built l =
@@ -84,6 +107,7 @@ IsBuilt-passed b v built l =
       closed = built.closed;
       no_blacks = built.no_blacks;
       unsampled = unsampled-more b v built;
+      uncounted = built.uncounted;
     }
 
 pub IsBuilt-room : (b : Built) (v : Keyed) (spare : ℕ) → IsBuilt b v → IsBuilt (with_room spare b) v
@@ -97,6 +121,7 @@ IsBuilt-room b v spare built =
       closed = built.closed;
       no_blacks = built.no_blacks;
       unsampled = built.unsampled;
+      uncounted = built.uncounted;
     }
 
 -- Room taken, and the next node traversed
@@ -107,18 +132,18 @@ IsBuilt-roomed b d v e built = subst (λ a. IsBuilt a v) (sym e) (IsBuilt-room b
 pub AreHeld-roomed : (b d : Built) (v : Keyed) → d ≡ with_room d.graph.spare b → AreHeld b.graph v → AreHeld d.graph v
 AreHeld-roomed b d v e are = subst (λ (a : Built). AreHeld a.graph v) (sym e) are
 
-pub candidates-traversed : (b d e : Built) (count : ℕ) → d ≡ with_room d.graph.spare b → e ≡ with_next_sampled count d →
+pub candidates-traversed : (b d e : Built) (count : Option ℕ) → d ≡ with_room d.graph.spare b → e ≡ with_next_passed count d →
     (snapshot_of e).candidates ≡ (snapshot_of b).candidates
 candidates-traversed b d e count q r =
-    ap (λ a. (snapshot_of a).candidates) (r ∙ ap (with_next_sampled count) q)
-    ∙ ap (flat_map natives_in) (first-names b.graph.nodes (change_vertex b.graph.nodes b.next (with_sample count)) b.candidates (names-sampled b.graph.nodes b.next count))
+    ap (λ a. (snapshot_of a).candidates) (r ∙ ap (with_next_passed count) q)
+    ∙ ap (flat_map natives_in) (first-names b.graph.nodes (sampled_at b.graph.nodes b.next count) b.candidates (names-passed b.graph.nodes b.next count))
 
-pub noting-traversed : (b d e : Built) (count now node : ℕ) (ys : List Name) → d ≡ with_room d.graph.spare b → e ≡ with_next_sampled count d → node ≡ b.next → count ≡ now →
-    noting (snapshot_of e) (name_at e.graph.nodes node) ys ≡ noting (snapshot_of (with_next_sampled now b)) (name_at b.graph.nodes b.next) ys
+pub noting-traversed : (b d e : Built) (count now : Option ℕ) (node : ℕ) (ys : List Name) → d ≡ with_room d.graph.spare b → e ≡ with_next_passed count d → node ≡ b.next → count ≡ now →
+    noting (snapshot_of e) (name_at e.graph.nodes node) ys ≡ noting (snapshot_of (with_next_passed now b)) (name_at b.graph.nodes b.next) ys
 noting-traversed b d e count now node ys q r at same =
-    let ws = change_vertex b.graph.nodes b.next (with_sample count) in
-    let s = snapshot_of (with_next_sampled count b) in
-    ap (λ (a : Built). noting (snapshot_of a) (name_at a.graph.nodes node) ys) (r ∙ ap (with_next_sampled count) q)
+    let ws = sampled_at b.graph.nodes b.next count in
+    let s = snapshot_of (with_next_passed count b) in
+    ap (λ (a : Built). noting (snapshot_of a) (name_at a.graph.nodes node) ys) (r ∙ ap (with_next_passed count) q)
     ∙ ap (λ n. noting s (name_at ws n) ys) at
-    ∙ ap (λ x. noting s x ys) (name_at-sampled b.graph.nodes b.next count b.next)
-    ∙ ap (λ n. noting (snapshot_of (with_next_sampled n b)) (name_at b.graph.nodes b.next) ys) same
+    ∙ ap (λ x. noting s x ys) (name_at-passed b.graph.nodes b.next count b.next)
+    ∙ ap (λ n. noting (snapshot_of (with_next_passed n b)) (name_at b.graph.nodes b.next) ys) same

@@ -1,47 +1,50 @@
 -- A step of a build is the unit of a node.
-use Rattle.std.proofs.Common.{◌≡◌, ◌≢◌, ℕ, zero, suc, ◌+◌, ◌<◌, true, List, [], ◌∷◌, length, drop, Some, None, option_map, refl, sym, ◌∙◌, ap, inl, arith, slice_get}
+use Rattle.std.proofs.Common.{◌≡◌, ◌≢◌, ℕ, zero, suc, ◌+◌, ◌<◌, true, List, [], ◌∷◌, length, drop, Some, None, refl, sym, ◌∙◌, ap, subst, inl, arith, slice_get}
 use Rattle.cc_lists.specs.Members.{Among}
 use Rattle.cc_names.specs.declared.name.Name.{Name}
-use Rattle.cc_names.specs.Names.{native, is_native}
-use Rattle.cc_model.specs.WellFormed.{native_names}
+use Rattle.cc_names.specs.Names.{is_native}
 use Rattle.cc_model.specs.Snapshot.{traversed}
-use Rattle.cc_model.specs.Units.{first_untraversed, to_note, noted, after_node}
+use Rattle.cc_model.specs.Units.{first_untraversed, to_note, sample, noted, after_node}
 use Rattle.cc_model.specs.End.{some_are, notes_something, node_may_be_refused}
-use Rattle.cc_counted.specs.Counts.{count_of}
-use Rattle.cc_graph.specs.Shown.{Vertex}
-use Rattle.cc_replay.specs.Keyed.{Keyed, IsInOrder, counts_of, number_at}
-use Rattle.cc_replay.specs.Building.{Built, IsBuilt, IsNodeUnit, name_at, snapshot_of}
-use Rattle.cc_replay.specs.BuildSteps.{contents_at, noting, with_next_sampled}
-use Rattle.cc_replay.proofs.BuildStates.{first-some}
-use Rattle.cc_replay.proofs.BuildSnapshots.{snapshot-sampled, snapshot-passed}
+use Rattle.cc_counted.specs.declared.held.Held.{Held}
+use Rattle.cc_counted.specs.declared.held.Held.TheVariants as held
+use Rattle.cc_heaps.specs.Keyed.{Keyed, IsInOrder}
+use Rattle.cc_heaps.specs.Changes.{IsThere}
+use Rattle.cc_replay.specs.Building.{Built, HasKey, AreHeld, IsBuilt, IsNodeUnit, name_at, snapshot_of}
+use Rattle.cc_replay.specs.BuildSteps.{contents_at, noting, sample_of, the_name, with_next_passed}
+use Rattle.cc_replay.proofs.BuildStates.{IsSampleOf, first-some}
+use Rattle.cc_replay.proofs.BuildSnapshots.{snapshot-traversed, snapshot-passed}
 use Rattle.cc_replay.proofs.BuildReads.{IsNodeAt-name, slice_get-among}
-use Rattle.cc_replay.proofs.BuildHeaps.{stands-at, to_note-there, sample-there, to_note-gone}
+use Rattle.cc_replay.proofs.NotedObjects.{note-there, sample-there, sample-kind, key-there, key-name}
 
-pub traversed-unit : (b d : Built) (v : Keyed) (key : ℕ) → IsInOrder [] v → b.next < length b.graph.nodes →
-    option_map native (number_at v key) ≡ Some (name_at b.graph.nodes b.next) →
-    snapshot_of d ≡ noting (snapshot_of (with_next_sampled (count_of (counts_of v) key) b)) (name_at b.graph.nodes b.next) (contents_at v key) →
+-- what the unit of a name notes, where it is that of an object that is there
+pub note-named : (v : Keyed) (object : Held) (x : Name) → IsInOrder [] v → IsThere v (Some object) → the_name v object ≡ x → to_note v.heap x ≡ Some (contents_at v object)
+note-named v object x order there named = ap (to_note v.heap) (sym named) ∙ note-there v object order there
+
+pub traversed-unit : (b d : Built) (v : Keyed) (object : Held) → IsInOrder [] v → b.next < length b.graph.nodes →
+    IsThere v (Some object) → the_name v object ≡ name_at b.graph.nodes b.next →
+    snapshot_of d ≡ noting (snapshot_of (with_next_passed (sample_of v object) b)) (name_at b.graph.nodes b.next) (contents_at v object) →
     IsNodeUnit v.heap (snapshot_of b) (snapshot_of d)
-traversed-unit b d v key order l there e =
+traversed-unit b d v object order l there named e =
     let s = snapshot_of b in
     let x = name_at b.graph.nodes b.next in
-    let ys = contents_at v key in
-    let kind : is_native x ≡ true = ap is_native (stands-at v key x there).name in
+    let ys = contents_at v object in
     record {
       node = x;
       first_one = first-some b.next b.graph.nodes l;
-      after = e ∙ ap (λ t. noting t x ys) (snapshot-sampled b (count_of (counts_of v) key) l kind)
-          ∙ ap (λ o. noted s x (traversed o) ys) (sym (sample-there v key x order there))
-          ∙ ap (after_node v.heap s x) (sym (to_note-there v key x order there));
+      after = e ∙ ap (λ t. noting t x ys) (snapshot-traversed b (sample_of v object) l (subst (IsSampleOf (sample_of v object)) named (sample-kind v object order there)))
+          ∙ ap (λ o. noted s x (traversed o) ys) (sym (ap (sample v.heap) (sym named) ∙ sample-there v object order there))
+          ∙ ap (after_node v.heap s x) (sym (note-named v object x order there named));
     }
 
--- there is something to note, where the native holds something
-pub may_be-refused : (b : Built) (v : Keyed) (key : ℕ) → IsInOrder [] v → b.next < length b.graph.nodes →
-    option_map native (number_at v key) ≡ Some (name_at b.graph.nodes b.next) → contents_at v key ≢ [] →
+-- there is something to note, where the object holds something that is noted
+pub may_be-refused : (b : Built) (v : Keyed) (object : Held) → IsInOrder [] v → b.next < length b.graph.nodes →
+    IsThere v (Some object) → the_name v object ≡ name_at b.graph.nodes b.next → contents_at v object ≢ [] →
     node_may_be_refused v.heap (first_untraversed (snapshot_of b).nodes) ≡ true
-may_be-refused b v key order l there some =
+may_be-refused b v object order l there named some =
     ap (node_may_be_refused v.heap) (first-some b.next b.graph.nodes l)
-    ∙ ap notes_something (to_note-there v key (name_at b.graph.nodes b.next) order there)
-    ∙ are (contents_at v key) some
+    ∙ ap notes_something (note-named v object (name_at b.graph.nodes b.next) order there named)
+    ∙ are (contents_at v object) some
   where
     are : (xs : List Name) → xs ≢ [] → some_are xs ≡ true
     are [] n = absurd (n refl)
@@ -60,39 +63,22 @@ slice_get-drop [] i x e = absurd (cc)
 slice_get-drop (y ∷ ys) zero x e = inl (cc)
 slice_get-drop (y ∷ ys) (suc i) x e = slice_get-drop ys i x e
 
--- the next node, of a native that was made
-pub record IsNextNode (b : Built) : Type 0 where
-  pub node : Vertex
-  pub at : slice_get b.graph.nodes b.next ≡ Some node
-  pub number : ℕ
-  pub native_of : node.name ≡ native number
-  pub name : name_at b.graph.nodes b.next ≡ native number
-  pub sampled : node.sampled ≡ None
+-- a node of nothing that is there is that of a native
+gone-native : (v : Keyed) (x : Name) (y : Held) → IsInOrder [] v → HasKey v x y → to_note v.heap x ≡ None → is_native x ≡ true
+gone-native v x (held.Native key) order has gone = has.0
+gone-native v x (held.Script key) order has gone =
+    let there = note-named v (held.Script key) x order (key-there v key x has) (key-name v key x has) in absurd (cc)
 
-pub next-node : (b : Built) (v : Keyed) → IsBuilt b v → b.next < length b.graph.nodes → IsNextNode b
-next-node b v built l =
-    let w = slice_get-some b.graph.nodes b.next l in
-    let made = built.made w.0 (slice_get-among b.graph.nodes b.next w.0 w.1) in
-    record {
-      node = w.0;
-      at = w.1;
-      number = made.0;
-      native_of = made.1;
-      name = IsNodeAt-name b.graph.nodes b.next w.0.name w.0.held (record { node = w.0; at = w.1; name = refl; held = refl }) ∙ made.1;
-      sampled = built.unsampled w.0 (slice_get-drop b.graph.nodes b.next w.0 w.1);
-    }
-
-pub gone-note : (b : Built) (v : Keyed) → IsBuilt b v → b.next < length b.graph.nodes → ¬ (Among (name_at b.graph.nodes b.next) (native_names v.heap)) →
-    to_note v.heap (name_at b.graph.nodes b.next) ≡ None
-gone-note b v built l gone = let n = next-node b v built l in to_note-gone v.heap (name_at b.graph.nodes b.next) n.number n.name gone
-
-pub gone-unit : (b : Built) (v : Keyed) → IsBuilt b v → b.next < length b.graph.nodes → ¬ (Among (name_at b.graph.nodes b.next) (native_names v.heap)) →
-    IsNodeUnit v.heap (snapshot_of b) (snapshot_of (record b { next = b.next + 1 }))
-gone-unit b v built l gone =
-    let n = next-node b v built l in
-    let x = name_at b.graph.nodes b.next in
+pub gone-unit : (b : Built) (v : Keyed) → IsBuilt b v → AreHeld b.graph v → IsInOrder [] v → b.next < length b.graph.nodes →
+    to_note v.heap (name_at b.graph.nodes b.next) ≡ None → IsNodeUnit v.heap (snapshot_of b) (snapshot_of (record b { next = b.next + 1 }))
+gone-unit b v built are order l gone =
+    let vs = b.graph.nodes in
+    let w = slice_get-some vs b.next l in
+    let x = name_at vs b.next in
+    let named : x ≡ w.0.name = IsNodeAt-name vs b.next w.0.name w.0.held (record { node = w.0; at = w.1; name = refl; held = refl }) in
+    let kind = gone-native v w.0.name w.0.held order (are w.0 (slice_get-among vs b.next w.0 w.1)) (ap (to_note v.heap) (sym named) ∙ gone) in
     record {
       node = x;
-      first_one = first-some b.next b.graph.nodes l;
-      after = snapshot-passed b n.node n.at (ap is_native n.native_of) n.sampled ∙ ap (after_node v.heap (snapshot_of b) x) (sym (gone-note b v built l gone));
+      first_one = first-some b.next vs l;
+      after = snapshot-passed b w.0 w.1 kind (built.unsampled w.0 (slice_get-drop vs b.next w.0 w.1)) ∙ ap (after_node v.heap (snapshot_of b) x) (sym gone);
     }

@@ -1,15 +1,16 @@
 -- The walk over the buffer by keys.
-use Rattle.std.proofs.Common.{◌≡◌, ℕ, ◌<◌, true, false, List, [], ◌∷◌, ◌++◌, length, Option, Some, None, IsSome, IfSome, option_and_then, sym, ◌∙◌, ap, subst, arith}
+use Rattle.std.proofs.Common.{◌≡◌, ℕ, ◌<◌, true, false, List, [], ◌∷◌, ◌++◌, length, Option, Some, None, IsSome, IfSome, option_map, option_and_then, sym, ◌∙◌, ap, subst, arith}
 use Rattle.cc_lists.specs.Members.{with_all_last}
 use Rattle.cc_names.specs.declared.number.NKey.{NKey}
 use Rattle.cc_names.specs.declared.name.Name.{Name}
 use Rattle.cc_names.specs.Names.{native, same_name}
 use Rattle.cc_model.specs.Heap.{Heap}
+use Rattle.cc_counted.specs.declared.held.Held.TheVariants as held
 use Rattle.cc_counted.specs.Counts.{Counts}
 use Rattle.cc_counted.specs.Counts as counts
-use Rattle.cc_replay.specs.Keyed.{Keyed, IsInOrder, counts_of, number_at, the_number}
+use Rattle.cc_heaps.specs.Keyed.{Keyed, IsInOrder, counts_of, number_at, the_number}
 use Rattle.cc_counted.specs.Suspects.{number_behind, is_in_buffer, is_purple_in}
-use Rattle.cc_replay.specs.BuildSteps.{purple_name}
+use Rattle.cc_replay.specs.BuildSteps.{purple_name, the_name}
 use Rattle.cc_replay.proofs.BuildReads.{number-there}
 use Rattle.cc_replay.proofs.BufferWalks.{buffer_from, purple_names, names-next, from-shorter}
 use Rattle.cc_replay.proofs.Begun.{with_all_last-append}
@@ -61,6 +62,10 @@ read-live v c r same live = subst (λ (d : Counts). IfSome r (λ (k : NKey). IsS
 pub read-there : (v : Keyed) (r : Option NKey) (n : Option ℕ) → stands v r ≡ n → AreLive v r → ((k : ℕ) → n ≡ Some k → is_in_buffer v.heap.buffer k ≡ true) → IsThere v r
 read-there v None n e live there = tt
 read-there v (Some key) n e live there = there (the_number v key.0) (sym e ∙ number-there v key.0 live)
+
+-- the name of a native that is there has its number
+pub name-there : (v : Keyed) (key : NKey) → IsSome (number_at v key.0) → the_name v (held.Native key) ≡ native (the_number v key.0)
+name-there v key live = ap (λ (n : Option ℕ). elim (option_map native n) [ None ↦ native 0 | Some x ↦ x ]) (number-there v key.0 live)
 
 -- One turn of the walk
 

@@ -1,10 +1,11 @@
 -- WHERE THERE IS THE CAUSE, THERE IS THE ANSWER: by cases on the status.
-use Rattle.std.proofs.Common.{◌≡◌, ◌≢◌, ℕ, ◌<◌, ◌≤◌, List, [], length, length-append, Option, Some, None, refl, ap, arith}
+use Rattle.std.proofs.Common.{◌≡◌, ◌≢◌, ℕ, ◌+◌, ◌<◌, ◌≤◌, ⊎_elim, List, [], length, length-append, Option, Some, None, refl, ap, arith}
 use Rattle.std.specs.Io.KnownBytes.{Consumes, IsAtEnd}
 use Rattle.cc_names.specs.Allowance.{Allowance}
+use Rattle.cc_reader.specs.HasRead.{ReadsBytes}
 use Rattle.cc_replay.specs.declared.status.Status.{Status}
 use Rattle.cc_replay.specs.declared.status.Status.TheVariants.{Done, Usage, ReadFault, WriteFault, Limit, NoMemory}
-use Rattle.cc_replay.specs.Transcripts.{Ends, IsDone, StopsAtLimit}
+use Rattle.cc_replay.specs.Transcripts.{Ends, IsDone, ReadsAll, StopsAtFault, StopsAtLimit, StopsAtWrite}
 
 -- a count that rose is that of the status that says so
 pub fault-answered : (s : Status) (old now : ℕ) → (s ≢ ReadFault → now ≡ old) → old < now → s ≡ ReadFault
@@ -22,6 +23,30 @@ write-answered Usage old now calm rose = absurd (omega (arith, calm (λ e. cc)))
 write-answered ReadFault old now calm rose = absurd (omega (arith, calm (λ e. cc)))
 write-answered Limit old now calm rose = absurd (omega (arith, calm (λ e. cc)))
 write-answered NoMemory old now calm rose = absurd (omega (arith, calm (λ e. cc)))
+
+-- the reads that are answered are at most as many as the limit on bytes, and one
+pub reads-within : (s : Status) (limits : Allowance) (e : Ends) → (s ≡ Done → IsDone limits e) → (s ≡ ReadFault → StopsAtFault limits e) →
+    (s ≡ Limit → StopsAtLimit limits e) → (s ≡ WriteFault → StopsAtWrite limits e) → (s ≢ Usage) → (s ≢ NoMemory) →
+    e.reads_now.answered ≤ e.reads.answered + limits.bytes + 1
+reads-within Done limits e done fault over front usage memory = let d = done refl in omega (arith, d.within, d.reads.answered)
+reads-within ReadFault limits e done fault over front usage memory = let d = fault refl in omega (arith, d.within, d.reads.answered)
+reads-within Limit limits e done fault over front usage memory = let d = over refl in omega (arith, d.above, d.reads.answered)
+reads-within WriteFault limits e done fault over front usage memory =
+    let d = front refl in
+    ⊎_elim (λ (r : ReadsBytes e.reads e.reads_now (length d.given)). omega (arith, d.most, r.answered))
+    (λ (r : ReadsAll limits e d.given). omega (arith, r.within, r.reads.answered)) d.reads
+reads-within Usage limits e done fault over front usage memory = absurd (usage refl)
+reads-within NoMemory limits e done fault over front usage memory = absurd (memory refl)
+
+-- no read said the end where it is not done and no write failed
+pub end-unread : (s : Status) (limits : Allowance) (e : Ends) → (s ≡ ReadFault → StopsAtFault limits e) → (s ≡ Limit → StopsAtLimit limits e) →
+    (s ≢ Usage) → (s ≢ NoMemory) → (s ≢ Done) → (s ≢ WriteFault) → e.reads_now.ended ≡ e.reads.ended
+end-unread ReadFault limits e fault over usage memory done write = (fault refl).reads.ended
+end-unread Limit limits e fault over usage memory done write = (over refl).reads.ended
+end-unread Done limits e fault over usage memory done write = absurd (done refl)
+end-unread WriteFault limits e fault over usage memory done write = absurd (write refl)
+end-unread Usage limits e fault over usage memory done write = absurd (usage refl)
+end-unread NoMemory limits e fault over usage memory done write = absurd (memory refl)
 
 -- what was taken of known bytes is no longer than they are
 taken-length : (bytes : List ℕ) (left now : Option (List ℕ)) (given : List ℕ) → left ≡ Some bytes → Consumes left now given → length given ≤ length bytes

@@ -1,29 +1,20 @@
 -- A COLLECTION ANSWERED: its events are told, and then its reply.
-use Rattle.std.proofs.Common.{◌≡◌, ℕ, List, [], ◌∷◌, ◌++◌, map, sym, ap, ◌∙◌, subst, append-nil}
-use Rattle.std.proofs.lemmas.Grind.{flat_map-append}
+use Rattle.std.proofs.Common.{◌≡◌, map, ap, ◌∙◌}
 use Rattle.cc_model.specs.declared.command.Command.TheVariants.{Collect}
-use Rattle.cc_model.specs.declared.item.Event.{Event}
 use Rattle.cc_model.specs.declared.item.Item.TheVariants.{Event as of_event, Reply as of_reply}
 use Rattle.cc_model.specs.declared.item.Reply.{Reply}
 use Rattle.cc_model.specs.Telling.{Telling, Tells}
-use Rattle.cc_model.specs.Texts.{text_of, texts_of}
-use Rattle.cc_model.specs.Answers.{replying, items_of}
+use Rattle.cc_model.specs.Texts.{text_of}
+use Rattle.cc_model.specs.Answers.{replying}
 use Rattle.cc_model.specs.Asks.{taken}
 use Rattle.cc_model.specs.Heap.{Heap}
 use Rattle.cc_model.specs.End.{Progress}
 use Rattle.cc_model.specs.Collecting.{UnitsDone, collect, reply_to_units}
 use Rattle.cc_model.specs.Run.{do_ask}
-use Rattle.cc_model.proofs.Tellings.{Tells-trans}
 use Rattle.cc_laws_run.specs.Memory.{with_memory}
 use Rattle.cc_replay.specs.Answered.{at_rest, IsAnswered}
 use Rattle.cc_replay.specs.Collected.{IsCollected}
-
--- the text of events and a reply
-texts-reply : (events : List Event) (reply : Reply) →
-    texts_of (map of_event events) ++ text_of (of_reply reply) ≡ texts_of (items_of (replying events reply))
-texts-reply events reply =
-    ap (λ (text : List ℕ). texts_of (map of_event events) ++ text) (sym (append-nil (text_of (of_reply reply))))
-    ∙ sym (flat_map-append text_of (map of_event events) (of_reply reply ∷ []))
+use Rattle.cc_replay.proofs.Tellings.{told-last}
 
 pub IsCollected-answered : (old new : Heap) (progress : Progress) (reply : Reply) (t₀ t₁ t₂ : Telling) → IsCollected old new progress t₀ t₁ →
     reply_to_units progress ≡ reply → Tells t₁ t₂ (text_of (of_reply reply)) → IsAnswered old new (taken Collect) t₀ t₂
@@ -35,8 +26,7 @@ IsCollected-answered old new progress reply t₀ t₁ t₂ c replies told = reco
     answer = ap (λ (p : Progress). replying d.events (reply_to_units p)) c.came_to ∙ ap (replying d.events) replies;
     after = c.same;
   };
-  told = subst (Tells t₀ t₂) (texts-reply d.events reply)
-      (Tells-trans t₀ t₁ t₂ (texts_of (map of_event d.events)) (text_of (of_reply reply)) c.told told);
+  told = told-last t₀ t₁ t₂ (map of_event d.events) (of_reply reply) c.told told;
 }
   where
     d : UnitsDone

@@ -1,14 +1,19 @@
 -- HOW A RUN ENDS: from lines that were given and answered to what is written for the bytes taken.
-use Rattle.std.proofs.Common.{◌≡◌, ℕ, false, true, List, map, Option, subst}
+use Rattle.std.proofs.Common.{◌≡◌, ℕ, Bool, false, true, List, [], length, map, take, Option, refl, sym, ap, ◌∙◌, subst, ◌⊎◌, inl, inr, arith}
 use Rattle.cc_names.specs.Allowance.{Allowance}
 use Rattle.cc_model.specs.Telling.{Telling}
 use Rattle.cc_model.specs.Answers.{text_of_answers}
 use Rattle.cc_model.specs.Asks.{ask_of}
 use Rattle.cc_model.specs.Heap.{Heap, empty_heap}
+use Rattle.cc_model.specs.Lines.{lines_of, ended_lines_of}
+use Rattle.cc_outside.specs.Reads.{Reads}
 use Rattle.cc_reader.specs.FormsNow.{forms_now}
-use Rattle.cc_reader.specs.Given.{IsWhole, IsBroken, IsOver, AreFirst}
-use Rattle.cc_replay.specs.Answering.{AreAnswered}
-use Rattle.cc_replay.specs.Transcripts.{Writes, ends, IsDone, StopsAtFault, StopsAtLimit, StopsAtWrite}
+use Rattle.cc_reader.specs.Pending.{Pending, nothing_read}
+use Rattle.cc_reader.specs.Given.{HasGiven, IsWhole, IsBroken, IsOver, AreFirst}
+use Rattle.cc_reader.specs.HasRead.{HasRead, ReadsBytes, ReadsOn, ReadsToEnd}
+use Rattle.cc_reader.proofs.Given.{HasGiven-none, HasRead-none}
+use Rattle.cc_replay.specs.Answering.{Answers, AreAnswered, Moment}
+use Rattle.cc_replay.specs.Transcripts.{Ends, Writes, ends, IsDone, ReadsAll, StopsAtFault, StopsAtLimit, StopsAtWrite}
 use Rattle.cc_replay.proofs.Answers.{AreAnswered-transcript}
 
 -- the text of a transcript of lines that are answered is written
@@ -20,51 +25,98 @@ writes limits h lines t₀ t₁ a whole = record {
   written = (a.told.whole whole).grown;
 }
 
--- the source is at its end
-pub whole-done : (limits : Allowance) (h : Heap) (lines : List (List ℕ)) (t₀ t₁ : Telling) (left now : Option (List ℕ)) →
-    IsWhole left now limits.bytes lines → AreAnswered (empty_heap limits) h lines t₀ t₁ → t₁.broken ≡ false → IsDone limits (ends left now t₀.told t₁.told)
-whole-done limits h lines t₀ t₁ left now w a whole = record {
-  given = w.given;
-  consumed = w.consumed;
-  at_end = w.at_end;
-  within = w.within;
-  writes = subst (λ (ls : List (List ℕ)). Writes limits (map (ask_of forms_now) ls) t₀.told t₁.told) w.lines_are (writes limits h lines t₀ t₁ a whole);
-}
+-- a run from a reader that begins, over empty heaps
+module _ (limits : Allowance) (m₀ m₁ : Moment) (r₀ r₁ : Reads) (begins : m₀.window ≡ nothing_read limits.bytes) (empty : m₀.heap ≡ empty_heap limits)
+    (limit : m₁.window.limit ≡ m₀.window.limit) (reads : ReadsOn r₀ r₁ m₀.window m₁.window) where
+  abbrev e : Ends
+  e = ends m₀.left m₁.left r₀ r₁ m₀.telling.told m₁.telling.told
 
--- a read failed
-pub broken-stops : (limits : Allowance) (h : Heap) (lines : List (List ℕ)) (t₀ t₁ : Telling) (left now : Option (List ℕ)) →
-    IsBroken left now limits.bytes lines → AreAnswered (empty_heap limits) h lines t₀ t₁ → t₁.broken ≡ false → StopsAtFault limits (ends left now t₀.told t₁.told)
-broken-stops limits h lines t₀ t₁ left now b a whole = record {
-  given = b.given;
-  consumed = b.consumed;
-  within = b.within;
-  writes = subst (λ (ls : List (List ℕ)). Writes limits (map (ask_of forms_now) ls) t₀.told t₁.told) b.lines_are (writes limits h lines t₀ t₁ a whole);
-}
+  bytes : m₁.window.limit ≡ limits.bytes
+  bytes = limit ∙ ap (λ (p : Pending). p.limit) begins
 
--- the limit was passed
-pub over-stops : (limits : Allowance) (h : Heap) (lines : List (List ℕ)) (t₀ t₁ : Telling) (left now : Option (List ℕ)) →
-    IsOver left now limits.bytes lines → AreAnswered (empty_heap limits) h lines t₀ t₁ → t₁.broken ≡ false → StopsAtLimit limits (ends left now t₀.told t₁.told)
-over-stops limits h lines t₀ t₁ left now o a whole = record {
-  given = o.given;
-  consumed = o.consumed;
-  above = o.above;
-  writes = subst (λ (ls : List (List ℕ)). Writes limits (map (ask_of forms_now) ls) t₀.told t₁.told) o.lines_are (writes limits h lines t₀ t₁ a whole);
-}
+  read : HasRead r₀ r₁ m₁.window
+  read = reads r₀ (subst (HasRead r₀ r₀) (sym begins) (HasRead-none r₀ limits.bytes))
 
--- a write failed
-pub first-stops : (limits : Allowance) (h : Heap) (lines : List (List ℕ)) (t₀ t₁ : Telling) (left now : Option (List ℕ)) →
-    AreFirst left now limits.bytes lines → AreAnswered (empty_heap limits) h lines t₀ t₁ → t₀.broken ≡ false → t₁.broken ≡ true →
-    StopsAtWrite limits (ends left now t₀.told t₁.told)
-first-stops limits h lines t₀ t₁ left now f a unbroken broken = record {
-  given = f.given;
-  consumed = f.consumed;
-  most = f.most;
-  lines = lines;
-  more = f.more;
-  first = f.lines_are;
-  writes = record {
-    text = text_of_answers a.answers;
-    transcript = AreAnswered-transcript limits h lines t₀ t₁ a;
-    written = (a.told.broke unbroken broken).part;
-  };
-}
+  -- as many reads as bytes were taken, where these are all of them
+  read_bytes : (given : List ℕ) → length given ≡ m₁.window.taken → m₁.window.ended ≡ false → ReadsBytes r₀ r₁ (length given)
+  read_bytes given counted going = subst (ReadsBytes r₀ r₁) (sym counted) (read.going going)
+
+  read_to_end : (given : List ℕ) → length given ≡ m₁.window.taken → m₁.window.ended ≡ true → ReadsToEnd r₀ r₁ (length given)
+  read_to_end given counted ended = subst (ReadsToEnd r₀ r₁) (sym counted) (read.at_end ended)
+
+  -- the lines that were given, answered from the empty heaps on
+  module _ (IsGiven : Option (List ℕ) → Option (List ℕ) → Pending → List (List ℕ) → Type 0) where
+    answered : Answers IsGiven m₀ m₁ →
+        (given : List (List ℕ)) × IsGiven m₀.left m₁.left m₁.window given × AreAnswered (empty_heap limits) m₁.heap given m₀.telling m₁.telling
+    answered a =
+        let l = a.lines m₀.left (subst (λ (p : Pending). HasGiven m₀.left m₀.left p []) (sym begins) (HasGiven-none m₀.left limits.bytes)) in
+        (l.0, l.1, subst (λ (h : Heap). AreAnswered h m₁.heap l.0 m₀.telling m₁.telling) empty l.2)
+
+  -- what is written for lines that are those of these bytes
+  written_for : (given lines : List (List ℕ)) → given ≡ lines → AreAnswered (empty_heap limits) m₁.heap given m₀.telling m₁.telling → m₁.telling.broken ≡ false →
+      Writes limits (map (ask_of forms_now) lines) m₀.telling.told m₁.telling.told
+  written_for given lines same a whole = subst (λ (ls : List (List ℕ)). Writes limits (map (ask_of forms_now) ls) m₀.telling.told m₁.telling.told) same
+      (writes limits m₁.heap given m₀.telling m₁.telling a whole)
+
+  -- the source is at its end
+  pub whole-done : Answers IsWhole m₀ m₁ → m₁.telling.broken ≡ false → IsDone limits e
+  whole-done a whole =
+      let l = answered IsWhole a in
+      record {
+        given = l.1.given;
+        consumed = l.1.consumed;
+        at_end = l.1.at_end;
+        within = omega (arith, l.1.within, bytes);
+        reads = read_to_end l.1.given l.1.counted l.1.ended;
+        writes = written_for l.0 (lines_of l.1.given) l.1.lines_are l.2 whole;
+      }
+
+  -- a read failed
+  pub broken-stops : Answers IsBroken m₀ m₁ → m₁.telling.broken ≡ false → StopsAtFault limits e
+  broken-stops a whole =
+      let l = answered IsBroken a in
+      record {
+        given = l.1.given;
+        consumed = l.1.consumed;
+        within = omega (arith, l.1.within, bytes);
+        reads = read_bytes l.1.given l.1.counted l.1.going;
+        writes = written_for l.0 (ended_lines_of l.1.given) l.1.lines_are l.2 whole;
+      }
+
+  -- the limit was passed
+  pub over-stops : Answers IsOver m₀ m₁ → m₁.telling.broken ≡ false → StopsAtLimit limits e
+  over-stops a whole =
+      let l = answered IsOver a in
+      record {
+        given = l.1.given;
+        consumed = l.1.consumed;
+        above = omega (arith, l.1.above, bytes);
+        reads = read_bytes l.1.given l.1.counted l.1.going;
+        writes = written_for l.0 (ended_lines_of (take limits.bytes l.1.given)) (l.1.lines_are ∙ ap (λ n. ended_lines_of (take n l.1.given)) bytes) l.2 whole;
+      }
+
+  -- a write failed
+  pub first-stops : Answers AreFirst m₀ m₁ → m₀.telling.broken ≡ false → m₁.telling.broken ≡ true → StopsAtWrite limits e
+  first-stops a unbroken broken =
+      let l = answered AreFirst a in
+      record {
+        given = l.1.given;
+        consumed = l.1.consumed;
+        most = omega (arith, l.1.most, bytes);
+        reads = read_part l.1 m₁.window.ended refl;
+        lines = l.0;
+        more = l.1.more;
+        first = l.1.lines_are ∙ ap (λ n. lines_of (take n l.1.given)) bytes;
+        writes = record {
+          text = text_of_answers l.2.answers;
+          transcript = AreAnswered-transcript limits m₁.heap l.0 m₀.telling m₁.telling l.2;
+          written = (l.2.told.broke unbroken broken).part;
+        };
+      }
+    where
+      read_part : {lines : List (List ℕ)} (f : AreFirst m₀.left m₁.left m₁.window lines) (ended : Bool) → m₁.window.ended ≡ ended →
+          ReadsBytes r₀ r₁ (length f.given) ⊎ ReadsAll limits e f.given
+      read_part f false is = inl (read_bytes f.given f.counted is)
+      read_part f true is =
+          let end = f.at_end is in
+          inr (record { at_end = end.0; within = omega (arith, end.1, bytes); reads = read_to_end f.given f.counted is })

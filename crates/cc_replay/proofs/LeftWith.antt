@@ -1,7 +1,6 @@
--- KEYS OF HEAPS IN WHICH SOME NATIVES ARE NO MORE: those of the natives that are left hold their numbers.
-use Rattle.std.proofs.Common.{◌≡◌, ℕ, zero, suc, is_some, List, [], ◌∷◌, map, get_or, Option, Some, None, IsSome, refl, sym, ◌∙◌, ap, if◌then◌else◌}
+-- KEYS OF HEAPS IN WHICH SOME NATIVES ARE NO MORE: the number at a key, and what is left where some leave and then others.
+use Rattle.std.proofs.Common.{◌≡◌, ℕ, is_some, map, Option, Some, None, refl, sym, ◌∙◌, ap, if◌then◌else◌}
 use Rattle.std.proofs.Math.ListN.{get_or-map}
-use Rattle.std.proofs.lemmas.Bool.{false≢true}
 use Rattle.std.proofs.lemmas.Simd.{map-map}
 use Rattle.std.proofs.Math.Path.{fun_ext}
 use Rattle.cc_lists.specs.Members.{Among}
@@ -9,23 +8,14 @@ use Rattle.cc_names.specs.Names.{native}
 use Rattle.cc_model.specs.Heap.{Heap, HeapNative, native_at}
 use Rattle.cc_model.specs.WellFormed.{native_names}
 use Rattle.cc_laws_heap.proofs.Natives.{native_at-named, named-found}
-use Rattle.cc_counted.specs.Counts.{key_left, number_or_none}
-use Rattle.cc_counted.specs.Owning.{HasKeys}
-use Rattle.cc_replay.specs.Keyed.{Keyed, counts_of, number_at, left_with}
-
--- what is there is its number
-pub some-number : (o : Option ℕ) → IsSome o → o ≡ Some (number_or_none o)
-some-number None there = absurd (false≢true there)
-some-number (Some k) there = refl
+use Rattle.cc_counted.specs.Counts.{key_left}
+use Rattle.cc_heaps.specs.Keyed.{Keyed, number_at, left_with}
 
 -- the number at a key is that of before, where its native is left
 pub number_at-left : (v : Keyed) (h : Heap) (key : ℕ) → number_at (left_with v h) key ≡ key_left h (number_at v key)
 number_at-left v h key = get_or-map (key_left h) v.keys key None
 
-pub key_left-there : (h : Heap) (k : ℕ) → Among (native k) (native_names h) → key_left h (Some k) ≡ Some k
-key_left-there h k m = let f = named-found h k m in rw f.1 refl
-
-pub key_left-gone : (h : Heap) (k : ℕ) → ¬ (Among (native k) (native_names h)) → key_left h (Some k) ≡ None
+key_left-gone : (h : Heap) (k : ℕ) → ¬ (Among (native k) (native_names h)) → key_left h (Some k) ≡ None
 key_left-gone h k gone = go (native_at h k) refl
   where
     go : (o : Option HeapNative) → native_at h k ≡ o → (if is_some o then Some k else None) ≡ None
@@ -35,7 +25,7 @@ key_left-gone h k gone = go (native_at h k) refl
 -- some natives leave, and then others: those that are there at the end were there between
 pub left_with-then : (v : Keyed) (h g : Heap) → ((k : ℕ) → Among (native k) (native_names g) → Among (native k) (native_names h)) →
     left_with (left_with v h) g ≡ left_with v g
-left_with-then v h g before = ap (λ ks. record { heap = g; keys = ks }) (map-map (key_left g) (key_left h) v.keys ∙ ap (λ f. map f v.keys) (fun_ext both))
+left_with-then v h g before = ap (λ ks. record { heap = g; keys = ks; scripts = v.scripts }) (map-map (key_left g) (key_left h) v.keys ∙ ap (λ f. map f v.keys) (fun_ext both))
   where
     step : (k : ℕ) (o : Option HeapNative) → native_at h k ≡ o → key_left g (if is_some o then Some k else None) ≡ key_left g (Some k)
     step k (Some n) e = refl
@@ -44,12 +34,3 @@ left_with-then v h g before = ap (λ ks. record { heap = g; keys = ks }) (map-ma
     both : (o : Option ℕ) → key_left g (key_left h o) ≡ key_left g o
     both None = refl
     both (Some k) = step k (native_at h k) refl
-
--- where none has left, keys are as they were
-pub left_with-same : (v : Keyed) → HasKeys (counts_of v) → left_with v v.heap ≡ v
-left_with-same v keyed = ap (λ ks. record { heap = v.heap; keys = ks }) (all v.keys (λ key k e. keyed.there key k e))
-  where
-    all : (keys : List (Option ℕ)) → ((key k : ℕ) → get_or keys key None ≡ Some k → Among (native k) (native_names v.heap)) → map (key_left v.heap) keys ≡ keys
-    all [] there = refl
-    all (None ∷ keys) there = ap (λ ks. None ∷ ks) (all keys (λ key k e. there (suc key) k e))
-    all (Some j ∷ keys) there = rw (key_left-there v.heap j (there zero j refl)) (ap (λ ks. Some j ∷ ks) (all keys (λ key k e. there (suc key) k e)))

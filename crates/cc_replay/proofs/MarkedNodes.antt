@@ -7,7 +7,7 @@ use Rattle.std.proofs.lemmas.Option.{slice_get_within}
 use Rattle.cc_lists.specs.Members.{Among}
 use Rattle.cc_lists.proofs.Members.{has-among, has-there}
 use Rattle.cc_lists.proofs.OnceEach.{with_all_last-keeps, with_all_last-there, with_all_last-cases}
-use Rattle.cc_laws_heap.proofs.Numbers.{number-exact}
+use Rattle.cc_lists.proofs.Numbers.{number-exact}
 use Rattle.cc_graph.specs.Shown.{Vertex, Shown, is_black, with_black}
 use Rattle.cc_replay.specs.Blackness.{numbers_where}
 

@@ -6,6 +6,7 @@ use Rattle.std.proofs.lemmas.Option.{slice_get_cases, slice_get-map, get_or_from
 use Rattle.cc_lists.specs.Members.{Among}
 use Rattle.cc_lists.proofs.Counting.{count_by-cons, count_by-map, count_by-some}
 use Rattle.cc_lists.proofs.CountsOf.{count_by-agree}
+use Rattle.cc_lists.proofs.Places.{place-among}
 use Rattle.cc_names.specs.declared.name.Name.{Name}
 use Rattle.cc_names.specs.Names.{native, same_name}
 use Rattle.cc_names.proofs.NameTests.{same_name-true, same_name-refl, same_name-exact}
@@ -13,7 +14,6 @@ use Rattle.cc_model.specs.View.{to}
 use Rattle.cc_model.specs.Snapshot.{Node}
 use Rattle.cc_graph.specs.Shown.{Vertex, Edge, number_from, edges_to}
 use Rattle.cc_replay.specs.Building.{state_behind, node_with, nodes_of, names_of, name_at, reference_of}
-use Rattle.cc_replay.proofs.Spreading.{place-among}
 
 -- the name of a node by its number
 pub name-at : (vs : List Vertex) (i : ℕ) (w : Vertex) → slice_get vs i ≡ Some w → name_at vs i ≡ w.name

@@ -1,33 +1,32 @@
 -- A PASS OVER THE WHITE NATIVES by rising number: those that are left of it, and that a step of the pass leaves them.
-use Rattle.std.proofs.Common.{◌≡◌, ℕ, Bool, true, false, not, ◌==◌, List, [], ◌∷◌, ◌++◌, map, Option, Some, None, IsSome, IfSome, option_and_then, refl, sym, ◌∙◌, ap, subst, inl, inr, ◌⊎◌, ⊎_elim, arith}
+use Rattle.std.proofs.Common.{◌≡◌, ℕ, Bool, true, false, not, ◌==◌, List, [], ◌∷◌, Option, Some, None, IsSome, IfSome, option_and_then, refl, sym, ◌∙◌, ap, subst, inl, inr, ◌⊎◌, ⊎_elim, arith}
 use Rattle.std.specs.List.{filter}
 use Rattle.std.proofs.lemmas.Bool.{false≢true}
-use Rattle.std.proofs.lemmas.List.{map-append}
-use Rattle.std.proofs.lemmas.Grind.{flat_map-append}
 use Rattle.cc_lists.specs.Members.{Among, has}
 use Rattle.cc_lists.proofs.Members.{Among-filtered, has-among}
 use Rattle.cc_names.specs.declared.number.NKey.{NKey}
 use Rattle.cc_names.specs.Names.{native}
 use Rattle.cc_model.specs.declared.item.Event.{Event}
-use Rattle.cc_model.specs.declared.item.Item.TheVariants.{Event as of_event}
-use Rattle.cc_model.specs.Texts.{text_of, texts_of}
-use Rattle.cc_model.specs.Telling.{Telling, Tells}
-use Rattle.cc_model.proofs.Tellings.{Tells-trans}
 use Rattle.cc_model.specs.Heap.{Heap, Outcome}
 use Rattle.cc_model.specs.WellFormed.{IsRising, native_names}
 use Rattle.cc_model.specs.Counts.{times}
-use Rattle.cc_laws_heap.proofs.Numbers.{number-exact}
+use Rattle.cc_lists.proofs.Numbers.{number-exact}
 use Rattle.cc_laws_heap.proofs.References.{times-cons}
 use Rattle.cc_laws_heap.proofs.Rising.{IsRising-filter}
 use Rattle.cc_laws_heap.proofs.TakingAway.{IsSound-permuted}
 use Rattle.cc_laws_heap.proofs.Leaving.{Leave, Leave-not_freed, numbers_there, numbers_there-named, is_left}
 use Rattle.cc_counted.specs.Counts.{key_left, number_or_none}
 use Rattle.cc_graph.specs.Shown.{Shown}
-use Rattle.cc_replay.specs.Keyed.{Keyed, IsInOrder, number_at, the_number, left_with}
+use Rattle.cc_heaps.specs.Keyed.{Keyed, IsInOrder, number_at, the_number, left_with}
 use Rattle.cc_replay.specs.Blackness.{whites_of}
-use Rattle.cc_replay.specs.Whites.{is_above, first_of, numbers_in, is_white_number, whites_above}
-use Rattle.cc_replay.proofs.LeftWith.{some-number, number_at-left, key_left-there}
-use Rattle.cc_replay.proofs.NextWhite.{filter-each, filter-swapped, rest_from, rest_from-first, whites_of-numbers}
+use Rattle.cc_heaps.specs.Holders.{is_above, first_of}
+use Rattle.cc_replay.specs.Whites.{numbers_in, is_white_number, whites_above}
+use Rattle.cc_heaps.proofs.Content.{number-some}
+use Rattle.cc_heaps.proofs.LeftWith.{key_left-there}
+use Rattle.cc_replay.proofs.LeftWith.{number_at-left}
+use Rattle.cc_lists.proofs.Filtering.{filter-each}
+use Rattle.cc_heaps.proofs.NextHolder.{filter-swapped, rest_from, rest_from-first}
+use Rattle.cc_replay.proofs.NextWhite.{whites_of-numbers}
 
 -- the number of the native that is next
 abbrev pub number_of_next : Keyed → Option NKey → Option ℕ
@@ -98,7 +97,7 @@ pub number_of_next-left : (v : Keyed) (f : Heap) (next : Option NKey) → IsNext
     number_of_next (left_with v f) next ≡ number_of_next v next
 number_of_next-left v f None live there = refl
 number_of_next-left v f (Some key) live there =
-    let is : number_at v key.0 ≡ Some (the_number v key.0) = some-number (number_at v key.0) live in
+    let is : number_at v key.0 ≡ Some (the_number v key.0) = number-some (number_at v key.0) live in
     number_at-left v f key.0 ∙ (ap (λ o. key_left f o) is ∙ (key_left-there f (the_number v key.0) (there (the_number v key.0) is) ∙ sym is))
 
 -- what is next is there, where it has the number that it had
@@ -129,8 +128,12 @@ pub IsInOrder-permuted : (early late : List ℕ) (v : Keyed) → ((k : ℕ) → 
 IsInOrder-permuted early late v same i = record {
   sound = IsSound-permuted early late v.heap same i.sound;
   keyed = i.keyed;
+  named = i.named;
+  one_key = i.one_key;
+  whole = i.whole;
   limits = i.limits;
-  no_scripts = i.no_scripts;
+  plain = i.plain;
+  unpreserved = i.unpreserved;
   no_entries = i.no_entries;
 }
 
@@ -146,15 +149,8 @@ in_front k (i ∷ ks) m = go (in_front k ks) m
         (λ t. let r = ih t in (i ∷ r.0, λ j. omega (arith, times-cons j k (i ∷ r.0), times-cons j i r.0, times-cons j i ks, times-cons j k r.0, r.1 j)))
         n
 
--- What is told
+-- What was told so far
 
 -- the heaps and what was told so far
 abbrev pub so_far : Keyed → List Event → Outcome
 so_far v es = record { heap = v.heap; events = es }
-
--- events told one after another
-pub Tells-more : (a b c : Telling) (es fs : List Event) → Tells a b (texts_of (map of_event es)) → Tells b c (texts_of (map of_event fs)) →
-    Tells a c (texts_of (map of_event (es ++ fs)))
-Tells-more a b c es fs t u =
-    subst (Tells a c) (sym (ap texts_of (map-append of_event es fs) ∙ flat_map-append text_of (map of_event es) (map of_event fs)))
-    (Tells-trans a b c (texts_of (map of_event es)) (texts_of (map of_event fs)) t u)

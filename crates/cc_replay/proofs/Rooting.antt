@@ -15,10 +15,11 @@ use Rattle.cc_laws_heap.proofs.HoldsTheSame.{HoldsTheSame-add_ref, native_names-
 use Rattle.cc_laws_heap.proofs.References.{times-append, times-cons}
 use Rattle.cc_laws_heap.proofs.TakingAway.{root_each-leaves}
 use Rattle.cc_graph.specs.Shown.{Shown}
-use Rattle.cc_replay.specs.Keyed.{Keyed, IsInOrder, number_at, the_number, changed_to}
+use Rattle.cc_heaps.specs.Keyed.{Keyed, IsInOrder, number_at, the_number, changed_to}
 use Rattle.cc_replay.specs.Blackness.{is_white_in, whites_of}
-use Rattle.cc_replay.specs.Whites.{first_of, whites_above}
-use Rattle.cc_replay.proofs.NextWhite.{rest_from}
+use Rattle.cc_heaps.specs.Holders.{first_of}
+use Rattle.cc_replay.specs.Whites.{whites_above}
+use Rattle.cc_heaps.proofs.NextHolder.{rest_from}
 use Rattle.cc_replay.proofs.Passing.{number_of_next, IsNext, whites_from, whites_from-start, whites_from-next, whites_of-there, whites_of-stay, IsInOrder-permuted}
 
 -- between two steps: the first white natives are rooted, and what is left to do gives what all of it gives from the begin
@@ -35,7 +36,7 @@ pub record IsRooting (g : Shown) (first v : Keyed) (next : Option NKey) : Type 0
 pub IsRooting-start : (g : Shown) (v : Keyed) (next : Option NKey) → IsInOrder [] v →
     number_of_next v next ≡ first_of (whites_above g v.heap None) → IsNext v next → IsRooting g v v next
 IsRooting-start g v next order e live =
-    let all : whites_from g v next ≡ whites_of g v.heap = whites_from-start g v order.keyed.rising next e in
+    let all : whites_from g v next ≡ whites_of g v.heap = whites_from-start g v order.sound.well_formed.rising next e in
     record {
       whites = refl;
       kept = refl;
@@ -93,7 +94,7 @@ IsRooting-next g first v key i next e live w is order =
 
     -- those that are left
     rest : whites_from g v (Some key) ≡ k ∷ whites_from g v next
-    rest = whites_from-next g v i.order.keyed.rising next (number_at v key.0) i.live e
+    rest = whites_from-next g v i.order.sound.well_formed.rising next (number_at v key.0) i.live e
 
     names : native_names h ≡ native_names v.heap
     names = native_names-alike v.heap h (HoldsTheSame-add_ref v.heap k)

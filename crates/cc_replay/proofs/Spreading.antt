@@ -1,70 +1,20 @@
 -- Black nodes give their targets, one after another: at the end what is black is the least set over what was black.
-use Rattle.std.specs.Prelude.{IsTrue, ◌↔◌, slice_get, not}
-use Rattle.std.proofs.Common.{◌≡◌, ℕ, zero, suc, ◌+◌, ◌<◌, ◌≤◌, ◌==◌, Bool, true, false, cond, List, [], ◌∷◌, ◌++◌, length, map, filter, Some, None, refl, sym, ◌∙◌, ap, subst, inl, inr, ◌⊎◌, ⊎_elim, arith, count_by}
-use Rattle.std.proofs.lemmas.Bool.{true≢false, eqb-true, eq-eqb}
+use Rattle.std.specs.Prelude.{IsTrue, ◌↔◌, slice_get}
+use Rattle.std.proofs.Common.{◌≡◌, ℕ, ◌+◌, ◌<◌, ◌≤◌, ◌==◌, Bool, true, false, List, [], ◌∷◌, ◌++◌, length, map, filter, Some, None, refl, sym, ◌∙◌, ap, subst, inl, inr, ◌⊎◌, ⊎_elim, arith, count_by}
+use Rattle.std.proofs.lemmas.Bool.{eqb-true, eq-eqb}
 use Rattle.std.proofs.lemmas.Bool.Decides.{eqb_tells}
 use Rattle.std.proofs.lemmas.Option.{slice_get_within, slice_get_cases}
 use Rattle.cc_lists.specs.Members.{Among, has, with_last, with_all_last}
 use Rattle.cc_lists.specs.Least.{Least, system}
 use Rattle.cc_lists.proofs.Members.{Among-map, Among-map_cases, Among-left, Among-right, Among-append, Among-filter, Among-filtered, Among-passes, has-among, has-there}
-use Rattle.cc_lists.proofs.Counting.{count_by-cons}
-use Rattle.cc_lists.proofs.Filtering.{count_by-filter-le}
 use Rattle.cc_lists.proofs.Least.{derive-root, derive-along, derived-within}
+use Rattle.cc_lists.proofs.Together.{derived-from}
 use Rattle.cc_lists.proofs.OnceEach.{with_all_last-keeps, with_all_last-there, with_all_last-cases, with_all_last-once}
-use Rattle.cc_laws_heap.proofs.Numbers.{number-exact}
+use Rattle.cc_lists.proofs.Numbers.{number-exact}
+use Rattle.cc_lists.proofs.Places.{once-few, among-place, place-among, place-append}
 use Rattle.cc_graph.specs.Shown.{Edge, Shown, is_black}
 use Rattle.cc_replay.specs.Blackness.{held_elsewhere, pair_of, scan_rules}
 use Rattle.cc_replay.proofs.NotedPlaces.{targets_of}
-
--- Numbers below n that stand once each are at most n
-
--- what passes and what does not are all
-counted-left : (p : ℕ → Bool) (xs : List ℕ) → length xs ≡ count_by p xs + length (filter (λ x. not (p x)) xs)
-counted-left p [] = refl
-counted-left p (x ∷ xs) = go (counted-left p xs) (p x) refl
-  where
-    go : length xs ≡ count_by p xs + length (filter (λ y. not (p y)) xs) → (b : Bool) → p x ≡ b →
-        suc (length xs) ≡ count_by p (x ∷ xs) + length (cond (not b) (x ∷ filter (λ y. not (p y)) xs) (filter (λ y. not (p y)) xs))
-    go ih true e = rw (count_by-cons p x xs, e) (omega (arith, ih))
-    go ih false e = rw (count_by-cons p x xs, e) (omega (arith, ih))
-
-pub once-few : (n : ℕ) (xs : List ℕ) → ((k : ℕ) → count_by (λ j. k == j) xs ≤ 1) → ((k : ℕ) → Among k xs → k < n) → length xs ≤ n
-once-few zero [] once below = omega arith
-once-few zero (x ∷ xs) once below = let none : x < 0 = below x (inl refl) in absurd (omega arith)
-once-few (suc n) xs once below =
-    let others = filter (λ j. not (n == j)) xs in
-    let few : length others ≤ n = once-few n others (λ k. fewer k) (λ k m. lower k (below k (Among-filtered (λ j. not (n == j)) k xs m)) (Among-passes (λ j. not (n == j)) k xs m)) in
-    let one : count_by (λ j. n == j) xs ≤ 1 = once n in
-    omega (arith, counted-left (λ j. n == j) xs)
-  where
-    fewer : (k : ℕ) → count_by (λ j. k == j) (filter (λ j. not (n == j)) xs) ≤ 1
-    fewer k =
-        let part : count_by (λ j. k == j) (filter (λ j. not (n == j)) xs) ≤ count_by (λ j. k == j) xs = count_by-filter-le (λ j. k == j) (λ j. not (n == j)) xs in
-        let all : count_by (λ j. k == j) xs ≤ 1 = once k in
-        omega arith
-
-    lower : (k : ℕ) → k < suc n → not (n == k) ≡ true → k < n
-    lower k l e =
-        let other : ¬ (k ≡ n) = λ same. true≢false (sym e ∙ ap not (eq-eqb n k (sym same))) in
-        omega arith
-
--- Places in a list
-
--- what stands in a list has a place
-pub among-place : {X : Type 0} (x : X) (xs : List X) → Among x xs → (place : ℕ) × (slice_get xs place ≡ Some x)
-among-place x [] m = absurd m
-among-place x (y ∷ ys) m = ⊎_elim (λ e. (zero, ap Some e)) (λ t. let k = among-place x ys t in (suc k.0, k.1)) m
-
--- and what has a place stands there
-pub place-among : {X : Type 0} (x : X) (xs : List X) (place : ℕ) → slice_get xs place ≡ Some x → Among x xs
-place-among x [] place e = absurd (cc)
-place-among x (y ∷ ys) zero e = let same : y ≡ x = cc in inl same
-place-among x (y ∷ ys) (suc place) e = inr (place-among x ys place e)
-
-place-append : {X : Type 0} (x : X) (xs ys : List X) (place : ℕ) → slice_get xs place ≡ Some x → slice_get (xs ++ ys) place ≡ Some x
-place-append x [] ys place e = absurd (cc)
-place-append x (z ∷ zs) ys zero e = e
-place-append x (z ∷ zs) ys (suc place) e = place-append x zs ys place e
 
 -- it keeps its place where others go last
 place-kept : (xs ys : List ℕ) (place x : ℕ) → slice_get xs place ≡ Some x → slice_get (with_all_last ◌==◌ xs ys) place ≡ Some x
@@ -197,12 +147,6 @@ pub spread-none : (g₀ g : Shown) (i : ℕ) → IsSpread g₀ g i → slice_get
     (k : ℕ) → IsTrue (is_black g k) ↔ Least (system g₀.blacks (map pair_of g₀.edges) []) k
 spread-none g₀ g i h none = ⊎_elim (λ had. let f : Some had.0 ≡ None = sym had.2 ∙ none in absurd (cc)) (λ past. spread-end g₀ g i h past.0) (slice_get_cases g.blacks i).1
 
--- The least set depends on the roots as a set
-
-pub rooted : (rs qs : List ℕ) (edges : List (ℕ × ℕ)) → ((x : ℕ) → Among x rs → Among x qs) → (x : ℕ) → Least (system rs edges []) x → Least (system qs edges []) x
-rooted rs qs edges sub = derived-within rs edges [] (Least (system qs edges []))
-    (λ x m. derive-root qs edges [] x (sub x m)) (λ x y m d. derive-along qs edges [] x y m d) (λ ps v m. absurd m)
-
 -- what is held from elsewhere became black first
 pub scanned : (g₀ g new : Shown) → g ≡ record g₀ { blacks = g.blacks } →
     ((k : ℕ) → IsTrue (is_black g k) ↔ (IsTrue (is_black g₀ k) ⊎ Among k (held_elsewhere g₀))) →
@@ -217,16 +161,16 @@ scanned g₀ g new rest marked least k = (
     roots = g₀.blacks ++ held_elsewhere g₀
 
     there : (edges : List Edge) → edges ≡ g₀.edges → Least (system g.blacks (map pair_of edges) []) k → Least (scan_rules g₀) k
-    there edges e d = rooted g.blacks roots (map pair_of g₀.edges)
-        (λ x m. ⊎_elim
+    there edges e d = derived-from (map pair_of g₀.edges) g.blacks roots
+        (λ x m. derive-root roots (map pair_of g₀.edges) [] x (⊎_elim
         (λ o. Among-left x g₀.blacks (held_elsewhere g₀) (has-among _ number-exact g₀.blacks x o))
         (λ t. Among-right x g₀.blacks (held_elsewhere g₀) t)
-        ((marked x).0 (has-there _ number-exact g.blacks x m)))
+        ((marked x).0 (has-there _ number-exact g.blacks x m))))
         k (subst (λ es. Least (system g.blacks (map pair_of es) []) k) e d)
 
     back : (edges : List Edge) → edges ≡ g₀.edges → Least (scan_rules g₀) k → Least (system g.blacks (map pair_of edges) []) k
-    back edges e d = subst (λ es. Least (system g.blacks (map pair_of es) []) k) (sym e) (rooted roots g.blacks (map pair_of g₀.edges)
-        (λ x m. has-among _ number-exact g.blacks x ((marked x).1 (⊎_elim
+    back edges e d = subst (λ es. Least (system g.blacks (map pair_of es) []) k) (sym e) (derived-from (map pair_of g₀.edges) roots g.blacks
+        (λ x m. derive-root g.blacks (map pair_of g₀.edges) [] x (has-among _ number-exact g.blacks x ((marked x).1 (⊎_elim
         (λ l. inl (has-there _ number-exact g₀.blacks x l))
         (λ r. inr r)
-        (Among-append x g₀.blacks (held_elsewhere g₀) m)))) k d)
+        (Among-append x g₀.blacks (held_elsewhere g₀) m))))) k d)

@@ -14,11 +14,15 @@ use Rattle.cc_laws_heap.specs.Sound.{IsSound}
 use Rattle.cc_laws_heap.proofs.Leaving.{Leave-before}
 use Rattle.cc_laws_heap.proofs.Unlinking.{Unlinks, unlink-keeps}
 use Rattle.cc_graph.specs.Shown.{Shown}
-use Rattle.cc_replay.specs.Keyed.{Keyed, IsInOrder, number_at, the_number, left_with}
+use Rattle.cc_heaps.specs.Keyed.{Keyed, IsInOrder, number_at, the_number, left_with}
 use Rattle.cc_replay.specs.Blackness.{whites_of}
-use Rattle.cc_replay.specs.Whites.{first_of, whites_above}
-use Rattle.cc_replay.proofs.LeftWith.{some-number, left_with-then, left_with-same}
-use Rattle.cc_replay.proofs.Passing.{so_far, first-of_rest, number_of_next, IsNext, whites_from, whites_from-start, whites_from-next, whites_from-left, whites_of-stay, IsInOrder-permuted, in_front, Tells-more}
+use Rattle.cc_heaps.specs.Holders.{first_of}
+use Rattle.cc_replay.specs.Whites.{whites_above}
+use Rattle.cc_gc.proofs.RoundsLeft.{Tells-more}
+use Rattle.cc_heaps.proofs.Content.{number-some}
+use Rattle.cc_heaps.proofs.LeftWith.{left_with-same}
+use Rattle.cc_replay.proofs.LeftWith.{left_with-then}
+use Rattle.cc_replay.proofs.Passing.{so_far, first-of_rest, number_of_next, IsNext, whites_from, whites_from-start, whites_from-next, whites_from-left, whites_of-stay, IsInOrder-permuted, in_front}
 
 -- between two steps: all white natives are rooted, and what is left to do gives what all of it gives from the begin
 pub record IsUnlinking (g : Shown) (first v : Keyed) (next : Option NKey) (before now : Telling) : Type 0 where
@@ -35,11 +39,11 @@ pub record IsUnlinking (g : Shown) (first v : Keyed) (next : Option NKey) (befor
 pub IsUnlinking-start : (g : Shown) (v : Keyed) (next : Option NKey) (now : Telling) → IsInOrder (whites_of g v.heap) v →
     number_of_next v next ≡ first_of (whites_above g v.heap None) → IsNext v next → IsUnlinking g v v next now now
 IsUnlinking-start g v next now order e live =
-    let all : whites_from g v next ≡ whites_of g v.heap = whites_from-start g v order.keyed.rising next e in
+    let all : whites_from g v next ≡ whites_of g v.heap = whites_from-start g v order.sound.well_formed.rising next e in
     record {
       whites = refl;
       order = order;
-      kept = sym (left_with-same v order.keyed);
+      kept = sym (left_with-same (whites_of g v.heap) v order);
       live = live;
       among = λ k m. subst (λ ks. Among k ks) all m;
       events = [];
@@ -52,7 +56,7 @@ pub IsUnlinking-owned : (g : Shown) (first v : Keyed) (key : NKey) (before now :
     (others : List ℕ) × IsInOrder (the_number v key.0 ∷ others) v
 IsUnlinking-owned g first v key before now i =
     let own : Among (the_number v key.0) (whites_of g first.heap) = i.among (the_number v key.0)
-    (first-of_rest (whites_of g v.heap) (number_at v key.0) (the_number v key.0) (some-number (number_at v key.0) i.live)) in
+    (first-of_rest (whites_of g v.heap) (number_at v key.0) (the_number v key.0) (number-some (number_at v key.0) i.live)) in
     let f = in_front (the_number v key.0) (whites_of g first.heap) own in
     (f.0, IsInOrder-permuted (whites_of g first.heap) (the_number v key.0 ∷ f.0) v f.1 i.order)
 
@@ -94,7 +98,7 @@ IsUnlinking-next g first v key before now i next e live w later is tell order =
 
     -- those that are left
     rest : whites_from g v (Some key) ≡ k ∷ whites_from g v next
-    rest = whites_from-next g v i.order.keyed.rising next (number_at v key.0) i.live e
+    rest = whites_from-next g v i.order.sound.well_formed.rising next (number_at v key.0) i.live e
 
     later_one : (j : ℕ) → Among j (whites_from g v next) → Among j (whites_from g v (Some key))
     later_one j m = subst (λ ks. Among j ks) (sym rest) (inr m)

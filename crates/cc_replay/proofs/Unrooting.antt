@@ -16,11 +16,14 @@ use Rattle.cc_laws_heap.specs.Freeing.{Frees}
 use Rattle.cc_laws_heap.proofs.Cascades.{cascade-frees, cascade-sound}
 use Rattle.cc_laws_heap.proofs.Leaving.{Leave, Leave-before, Leave-frees}
 use Rattle.cc_graph.specs.Shown.{Shown}
-use Rattle.cc_replay.specs.Keyed.{Keyed, IsInOrder, number_at, the_number, left_with}
+use Rattle.cc_heaps.specs.Keyed.{Keyed, IsInOrder, number_at, the_number, left_with}
 use Rattle.cc_replay.specs.Blackness.{whites_of}
-use Rattle.cc_replay.specs.Whites.{first_of, whites_above}
-use Rattle.cc_replay.proofs.LeftWith.{left_with-then, left_with-same}
-use Rattle.cc_replay.proofs.Passing.{so_far, number_of_next, IsNext, whites_from, whites_from-start, whites_from-next, whites_from-left, Tells-more}
+use Rattle.cc_heaps.specs.Holders.{first_of}
+use Rattle.cc_replay.specs.Whites.{whites_above}
+use Rattle.cc_gc.proofs.RoundsLeft.{Tells-more}
+use Rattle.cc_heaps.proofs.LeftWith.{left_with-same}
+use Rattle.cc_replay.proofs.LeftWith.{left_with-then}
+use Rattle.cc_replay.proofs.Passing.{so_far, number_of_next, IsNext, whites_from, whites_from-start, whites_from-next, whites_from-left}
 
 -- between two steps: those that are left are rooted, and what is left to do gives what all of it gives from the begin
 pub record IsUnrooting (g : Shown) (first v : Keyed) (next : Option NKey) (before now : Telling) : Type 0 where
@@ -35,10 +38,10 @@ pub record IsUnrooting (g : Shown) (first v : Keyed) (next : Option NKey) (befor
 pub IsUnrooting-start : (g : Shown) (v : Keyed) (next : Option NKey) (now : Telling) → IsInOrder (whites_of g v.heap) v →
     number_of_next v next ≡ first_of (whites_above g v.heap None) → IsNext v next → IsUnrooting g v v next now now
 IsUnrooting-start g v next now order e live =
-    let all : whites_from g v next ≡ whites_of g v.heap = whites_from-start g v order.keyed.rising next e in
+    let all : whites_from g v next ≡ whites_of g v.heap = whites_from-start g v order.sound.well_formed.rising next e in
     record {
       order = subst (λ ks. IsInOrder ks v) (sym all) order;
-      kept = sym (left_with-same v order.keyed);
+      kept = sym (left_with-same (whites_of g v.heap) v order);
       live = live;
       events = [];
       goes = ap (λ ks. unroot_each ks (silently v.heap)) all;
@@ -50,7 +53,7 @@ pub IsUnrooting-owned : (g : Shown) (first v : Keyed) (key : NKey) (before now :
     (next : Option NKey) → number_of_next v next ≡ first_of (whites_above g v.heap (number_at v key.0)) →
     IsInOrder (the_number v key.0 ∷ whites_from g v next) v
 IsUnrooting-owned g first v key before now i next e =
-    subst (λ ks. IsInOrder ks v) (whites_from-next g v i.order.keyed.rising next (number_at v key.0) i.live e) i.order
+    subst (λ ks. IsInOrder ks v) (whites_from-next g v i.order.sound.well_formed.rising next (number_at v key.0) i.live e) i.order
 
 -- A STEP: the next one after it was found, and the native is unrooted.
 pub IsUnrooting-next : (g : Shown) (first v : Keyed) (key : NKey) (before now : Telling) → IsUnrooting g first v (Some key) before now →
@@ -84,7 +87,7 @@ IsUnrooting-next g first v key before now i next e live w later is tell order =
 
     -- those that are left
     rest : whites_from g v (Some key) ≡ k ∷ whites_from g v next
-    rest = whites_from-next g v i.order.keyed.rising next (number_at v key.0) i.live e
+    rest = whites_from-next g v i.order.sound.well_formed.rising next (number_at v key.0) i.live e
 
     own : IsInOrder (k ∷ whites_from g v next) v
     own = IsUnrooting-owned g first v key before now i next e

@@ -14,9 +14,9 @@ use Rattle.cc_laws_heap.specs.Sound.{IsSound}
 use Rattle.cc_laws_heap.proofs.EndingEvents.{TellsOf-nil}
 use Rattle.cc_laws_heap.proofs.Leaving.{Leave-refl, Leave-before}
 use Rattle.cc_laws_heap.proofs.TakingAway.{IsOnTheWay, unroot_each-sound}
-use Rattle.cc_replay.specs.Keyed.{Keyed, IsInOrder, changed_to, left_with}
+use Rattle.cc_heaps.specs.Keyed.{Keyed, IsInOrder, changed_to, left_with}
 use Rattle.cc_replay.proofs.LeftWith.{left_with-then}
-use Rattle.cc_replay.proofs.Passing.{Tells-more}
+use Rattle.cc_gc.proofs.RoundsLeft.{Tells-more}
 
 -- what was told before the natives are unrooted stands in front
 unroot_each-after : (ks : List ℕ) (o : Outcome) → unroot_each ks o ≡ after o.events (unroot_each ks (silently o.heap))

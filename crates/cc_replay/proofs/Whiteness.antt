@@ -8,19 +8,20 @@ use Rattle.cc_lists.proofs.Members.{Among-map, Among-map_cases, Among-left, Amon
 use Rattle.cc_lists.proofs.CountsOf.{false-left}
 use Rattle.cc_lists.proofs.Closure.{closure-decides}
 use Rattle.cc_lists.proofs.Least.{derive-root, derive-along, derived-within}
+use Rattle.cc_lists.proofs.Together.{derived-from}
+use Rattle.cc_lists.proofs.Places.{among-place, place-among}
 use Rattle.cc_names.specs.declared.name.Name.{Name}
 use Rattle.cc_names.specs.Names.{native, is_native, same_name}
 use Rattle.cc_names.proofs.NameTests.{same_name-exact}
 use Rattle.cc_model.specs.Heap.{HeapNative}
 use Rattle.cc_model.specs.View.{View, view, counted, scripts_there, is_there}
 use Rattle.cc_model.specs.Snapshot.{traversed, Node, Snapshot, node_names, noted_to, is_above, is_seed, seeds, mapping_joint, black_in_rules, BlackIn, black_in, is_white, white_names, white_natives}
-use Rattle.cc_laws_heap.proofs.Numbers.{number-exact}
+use Rattle.cc_lists.proofs.Numbers.{number-exact}
 use Rattle.cc_graph.specs.Shown.{Vertex, Edge, Shown, number_of, edges_to, is_black}
-use Rattle.cc_replay.specs.Keyed.{Keyed}
-use Rattle.cc_replay.specs.Building.{Built, IsBuilt, state_by_sample, nodes_of, names_of, name_at, reference_of, snapshot_of}
-use Rattle.cc_replay.specs.Blackness.{exceeds, numbers_where, held_elsewhere, touched, pair_of, scan_rules, is_white_node, is_white_in, whites_of}
+use Rattle.cc_heaps.specs.Keyed.{Keyed}
+use Rattle.cc_replay.specs.Building.{Built, HasNoSample, IsBuilt, state_by_sample, nodes_of, names_of, name_at, reference_of, snapshot_of}
+use Rattle.cc_replay.specs.Blackness.{exceeds, numbers_where, held_elsewhere, is_touched, touched, pair_of, scan_rules, is_white_node, is_white_in, whites_of}
 use Rattle.cc_replay.proofs.MarkedNodes.{numbers-passing, passing-numbers}
-use Rattle.cc_replay.proofs.Spreading.{among-place, place-among, rooted}
 use Rattle.cc_replay.proofs.NodesByName.{name-at, node-at, distinct-number, IsNumberOf, number-some, number-none, behind, nodes-behind, names-behind, alike, noted-same}
 
 -- tests that agree on the members filter the same
@@ -28,15 +29,25 @@ filter-alike : {X : Type 0} (p q : X → Bool) (xs : List X) → ((x : X) → Am
 filter-alike p q [] h = refl
 filter-alike p q (x ∷ xs) h = rw (h x (inl refl), filter-alike p q xs (λ y m. h y (inr m))) refl
 
--- a native is black by itself where it stands in the buffer, or more references were sampled than are noted
-seed-native : (v : View) (s : Snapshot) (x : Name) (k : ℕ) (sampled : Option ℕ) → x ≡ native k →
-    is_seed v s (record { name = x; state = elim (is_native x) [ true ↦ state_by_sample sampled | false ↦ traversed None ] }) ≡
-    (has same_name v.buffer x || is_above s x (state_by_sample sampled))
-seed-native v s x k sampled e = rw e refl
-
 above-exceeds : (s : Snapshot) (x : Name) (noted : ℕ) (sampled : Option ℕ) → noted_to s x ≡ noted → is_above s x (state_by_sample sampled) ≡ exceeds noted sampled
 above-exceeds s x noted None e = refl
 above-exceeds s x noted (Some n) e = ap (λ c. nat_lt c n) e
+
+or-none : (b : Bool) → b ≡ (b || false)
+or-none true = refl
+or-none false = refl
+
+-- a node is black by itself where it is touched, or more references were sampled than are noted: of a native alone
+seed-of : (v : View) (s : Snapshot) (w : Vertex) (noted : ℕ) → noted_to s w.name ≡ noted → HasNoSample w → is_seed v s (behind w) ≡ (is_touched v w.name || exceeds noted w.sampled)
+seed-of v s w noted e uncounted = go (is_native w.name) uncounted
+  where
+    go : (t : Bool) → (t ≡ false → w.sampled ≡ None) →
+        elim t as (λ _. Bool) [
+          | true ↦ has same_name v.buffer w.name || is_above s w.name (elim t [ true ↦ state_by_sample w.sampled | false ↦ traversed None ])
+          | false ↦ has same_name v.black w.name
+        ] ≡ (elim t [ true ↦ has same_name v.buffer w.name | false ↦ has same_name v.black w.name ] || exceeds noted w.sampled)
+    go true f = ap (λ z. has same_name v.buffer w.name || z) (above-exceeds s w.name noted w.sampled e)
+    go false f = or-none (has same_name v.black w.name) ∙ ap (λ o. has same_name v.black w.name || exceeds noted o) (sym (f refl))
 
 module _ (b : Built) (v : Keyed) (built : IsBuilt b v) (all : b.next ≡ length b.graph.nodes) where
   abbrev ns : List Vertex
@@ -59,21 +70,18 @@ module _ (b : Built) (v : Keyed) (built : IsBuilt b v) (all : b.next ≡ length 
 
   -- whether a node is black by itself
   abbrev seed_test : ℕ → Vertex → Bool
-  seed_test i w = has same_name (view v.heap).buffer w.name || exceeds (edges_to es i) w.sampled
+  seed_test i w = is_touched (view v.heap) w.name || exceeds (edges_to es i) w.sampled
 
   seed-tests : (i : ℕ) (w : Vertex) → slice_get ns i ≡ Some w → is_seed (view v.heap) s (behind w) ≡ seed_test i w
-  seed-tests i w at =
-      let made = built.made w (place-among w ns i at) in
-      seed-native (view v.heap) s w.name made.0 w.sampled made.1 ∙
-      ap (λ t. has same_name (view v.heap).buffer w.name || t)
-      (above-exceeds s w.name (edges_to es i) w.sampled (noted-same ns built.distinct es (λ e m. (built.closed e m).1) i w at))
+  seed-tests i w at = seed-of (view v.heap) s w (edges_to es i)
+      (noted-same ns built.distinct es (λ e m. (built.closed e m).1) i w at) (built.uncounted w (place-among w ns i at))
 
   -- it is one of the roots
   seed-root : (i : ℕ) (w : Vertex) → slice_get ns i ≡ Some w → is_seed (view v.heap) s (behind w) ≡ true → Among i roots
   seed-root i w at seed = ⊎_elim
       (λ l. Among-left i (touched b.graph v.heap) (held_elsewhere b.graph) (passing-numbers _ 0 ns i w i at (omega arith) l))
       (λ r. Among-right i (touched b.graph v.heap) (held_elsewhere b.graph) (passing-numbers _ 0 ns i w i at (omega arith) r))
-      (or_cases (has same_name (view v.heap).buffer w.name) (exceeds (edges_to es i) w.sampled) (sym (seed-tests i w at) ∙ seed))
+      (or_cases (is_touched (view v.heap) w.name) (exceeds (edges_to es i) w.sampled) (sym (seed-tests i w at) ∙ seed))
 
   -- and each root is black by itself
   root-seed : (i : ℕ) → Among i roots → (w : Vertex) × (slice_get ns i ≡ Some w) × (is_seed (view v.heap) s (behind w) ≡ true)
@@ -82,12 +90,12 @@ module _ (b : Built) (v : Keyed) (built : IsBuilt b v) (all : b.next ≡ length 
       let k = numbers-passing _ 0 ns i l in
       let place : k.place ≡ i = omega (arith, k.number) in
       let at : slice_get ns i ≡ Some k.node = subst (λ z. slice_get ns z ≡ Some k.node) place k.there in
-      (k.node, at, seed-tests i k.node at ∙ or_left (has same_name (view v.heap).buffer k.node.name) (exceeds (edges_to es i) k.node.sampled) k.passes))
+      (k.node, at, seed-tests i k.node at ∙ or_left (is_touched (view v.heap) k.node.name) (exceeds (edges_to es i) k.node.sampled) k.passes))
       (λ r.
       let k = numbers-passing _ 0 ns i r in
       let place : k.place ≡ i = omega (arith, k.number) in
       let at : slice_get ns i ≡ Some k.node = subst (λ z. slice_get ns z ≡ Some k.node) place k.there in
-      (k.node, at, seed-tests i k.node at ∙ or_right (has same_name (view v.heap).buffer k.node.name) (exceeds (edges_to es i) k.node.sampled) k.passes))
+      (k.node, at, seed-tests i k.node at ∙ or_right (is_touched (view v.heap) k.node.name) (exceeds (edges_to es i) k.node.sampled) k.passes))
       (Among-append i (touched b.graph v.heap) (held_elsewhere b.graph) m)
 
   -- the seeds of the snapshot are the roots' names
@@ -190,8 +198,8 @@ module _ (b : Built) (v : Keyed) (built : IsBuilt b v) (all : b.next ≡ length 
 
     black-reached_in : (i : ℕ) → IsTrue (is_black g i) ↔ IsReached i
     black-reached_in i = (
-      λ e. rooted (m.blacks ++ held_elsewhere m) roots (map pair_of es) into i (subst (λ l. Least (system (m.blacks ++ held_elsewhere m) (map pair_of l) []) i) m_edges ((scanned i).0 e)),
-      λ d. (scanned i).1 (subst (λ l. Least (system (m.blacks ++ held_elsewhere m) (map pair_of l) []) i) (sym m_edges) (rooted roots (m.blacks ++ held_elsewhere m) (map pair_of es) back i d)),
+      λ e. derived-from (map pair_of es) (m.blacks ++ held_elsewhere m) roots (λ x l. derive-root roots (map pair_of es) [] x (into x l)) i (subst (λ l. Least (system (m.blacks ++ held_elsewhere m) (map pair_of l) []) i) m_edges ((scanned i).0 e)),
+      λ d. (scanned i).1 (subst (λ l. Least (system (m.blacks ++ held_elsewhere m) (map pair_of l) []) i) (sym m_edges) (derived-from (map pair_of es) roots (m.blacks ++ held_elsewhere m) (λ x l. derive-root (m.blacks ++ held_elsewhere m) (map pair_of es) [] x (back x l)) i d)),
     )
       where
         into : (x : ℕ) → Among x (m.blacks ++ held_elsewhere m) → Among x roots

@@ -1,5 +1,5 @@
 -- How lines are answered, one after the other.
-use Rattle.std.specs.Prelude.{ℕ, IsTrue, false, List, [], ◌∷◌, ◌++◌, map, Option}
+use Rattle.std.specs.Prelude.{ℕ, IsTrue, List, [], ◌∷◌, ◌++◌, map, Option}
 use Rattle.std.specs.List.{list_all}
 use Rattle.cc_model.specs.Telling.{Telling, Tells}
 use Rattle.cc_model.specs.Answers.{Answer, text_of_answers}
@@ -22,6 +22,16 @@ pub record LineIsAnswered (old new : Heap) (line : List ℕ) (before after : Tel
   pub answered : IsAnswered old new (ask_of forms_now line) before after
   pub in_range : IsTrue (ask_in_range (ask_of forms_now line))
 
+-- what is read from and what answers: what the source has left, the reader, the heaps, and what was told
+pub record Moment : Type 0 where
+  pub left : Option (List ℕ)
+  pub window : Pending
+  pub heap : Heap
+  pub telling : Telling
+
+abbrev pub moment : Option (List ℕ) → Pending → Heap → Telling → Moment
+moment left window heap telling = record { left = left; window = window; heap = heap; telling = telling }
+
 -- these lines are answered, from one moment to another
 pub record AreAnswered (old new : Heap) (lines : List (List ℕ)) (before after : Telling) : Type 0 where
   pub answers : List Answer
@@ -29,6 +39,7 @@ pub record AreAnswered (old new : Heap) (lines : List (List ℕ)) (before after 
   pub in_range : IsTrue (list_all ask_in_range (map (ask_of forms_now) lines))
   pub told : Tells before after (text_of_answers answers)
 
--- a reader that has read nothing yet
-abbrev pub nothing_read : ℕ → Pending
-nothing_read limit = record { bytes = []; taken = 0; limit = limit; ended = false; stopped = false }
+-- from a moment at which a reader began to another, lines were given of which this holds, and all of them are answered
+pub record Answers (IsGiven : Option (List ℕ) → Option (List ℕ) → Pending → List (List ℕ) → Type 0) (old new : Moment) : Type 0 where
+  pub lines : (start : Option (List ℕ)) → HasGiven start old.left old.window [] →
+      (given : List (List ℕ)) × IsGiven start new.left new.window given × AreAnswered old.heap new.heap given old.telling new.telling

@@ -2,9 +2,10 @@
 use Rattle.std.specs.Prelude.{ℕ, suc, Bool, true, false, not, List, [], ◌∷◌, ◌++◌, map, filter, Option, Some, None, nat_lt}
 use Rattle.cc_lists.specs.Members.{has}
 use Rattle.cc_lists.specs.Least.{Rule, system}
-use Rattle.cc_names.specs.Names.{native, same_name}
+use Rattle.cc_names.specs.declared.name.Name.{Name}
+use Rattle.cc_names.specs.Names.{native, same_name, is_native}
 use Rattle.cc_model.specs.Heap.{Heap, HeapNative}
-use Rattle.cc_model.specs.View.{view}
+use Rattle.cc_model.specs.View.{View, view}
 use Rattle.cc_graph.specs.Shown.{Vertex, Edge, Shown, number_of, edges_to, is_black}
 
 -- whether more references were sampled than are noted to the node
@@ -21,9 +22,13 @@ numbers_where p i (v ∷ vs) = elim (p i v) [ true ↦ i ∷ numbers_where p (su
 abbrev pub held_elsewhere : Shown → List ℕ
 held_elsewhere g = numbers_where (λ i v. exceeds (edges_to g.edges i) v.sampled) 0 g.nodes
 
--- the nodes whose native stands in the buffer
+-- whether a native stands in the buffer, or a script object is black
+abbrev pub is_touched : View → Name → Bool
+is_touched v x = elim (is_native x) [ true ↦ has same_name v.buffer x | false ↦ has same_name v.black x ]
+
+-- the nodes whose native stands in the buffer, or whose script object is black
 abbrev pub touched : Shown → Heap → List ℕ
-touched g h = numbers_where (λ i v. has same_name (view h).buffer v.name) 0 g.nodes
+touched g h = numbers_where (λ i v. is_touched (view h) v.name) 0 g.nodes
 
 abbrev pub pair_of : Edge → ℕ × ℕ
 pair_of e = (e.source, e.target)

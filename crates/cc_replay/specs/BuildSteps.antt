@@ -1,33 +1,52 @@
 -- The steps by which a snapshot is built.
-use Rattle.std.specs.Prelude.{ℕ, ◌+◌, ◌-◌, true, false, List, [], ◌∷◌, ◌++◌, map, None, option_to_list, slice_index_or}
+use Rattle.std.specs.Prelude.{ℕ, ◌+◌, ◌-◌, true, false, List, [], ◌∷◌, ◌++◌, map, filter, flat_map, Option, Some, None, option_to_list, slice_index_or}
 use Rattle.cc_names.specs.declared.name.Name.{Name}
 use Rattle.cc_names.specs.Names.{native}
-use Rattle.cc_model.specs.Heap.{Heap}
-use Rattle.cc_model.specs.Slots.{contents, from_to}
+use Rattle.cc_model.specs.Checks.{slots_or_none}
+use Rattle.cc_model.specs.Heap.{Heap, slots_in}
+use Rattle.cc_model.specs.Slots.{Slots, from_to}
 use Rattle.cc_model.specs.Snapshot.{Snapshot}
-use Rattle.cc_model.specs.Units.{with_nodes}
+use Rattle.cc_model.specs.Units.{with_nodes, is_noted}
 use Rattle.cc_counted.specs.declared.held.Held.{Held}
-use Rattle.cc_counted.specs.Counts.{slots_of}
-use Rattle.cc_graph.specs.Shown.{with_vertex, with_sample, change_vertex}
-use Rattle.cc_replay.specs.Keyed.{Keyed, counts_of}
+use Rattle.cc_counted.specs.declared.held.Held.TheVariants as held
+use Rattle.cc_counted.specs.Counts as counts
+use Rattle.cc_graph.specs.Shown.{Vertex, with_vertex, with_sample, change_vertex}
+use Rattle.cc_heaps.specs.Keyed.{Keyed, counts_of}
+use Rattle.cc_heaps.specs.Changes.{held_name}
 use Rattle.cc_counted.specs.Suspects.{is_purple_in}
 use Rattle.cc_replay.specs.Building.{Built}
 
--- what the native at a key holds in its slots, in order
-abbrev pub contents_at : Keyed → ℕ → List Name
-contents_at v key = contents (slots_of (counts_of v) key)
+-- the name of an object that is there
+abbrev pub the_name : Keyed → Held → Name
+the_name v object = elim (held_name v (Some object)) [ None ↦ native 0 | Some x ↦ x ]
 
--- what it holds in one of them: one name or none
-abbrev pub slot_at : Keyed → ℕ → ℕ → List Name
-slot_at v key i = option_to_list (slice_index_or (slots_of (counts_of v) key) i None)
+-- its slots
+abbrev pub slots_of : Keyed → Held → Slots
+slots_of v object = slots_or_none (slots_in v.heap (the_name v object))
+
+-- its count, where it is a native
+abbrev pub sample_of : Keyed → Held → Option ℕ
+sample_of v (held.Native key) = Some (counts.count_of (counts_of v) key.0)
+sample_of v (held.Script key) = None
+
+-- what a slot holds, where a reference to it is noted: one name or none
+abbrev pub noted_content : Heap → Option Name → List Name
+noted_content h x = filter (is_noted h) (option_to_list x)
+
+abbrev pub slot_at : Keyed → Held → ℕ → List Name
+slot_at v object i = noted_content v.heap (slice_index_or (slots_of v object) i None)
+
+-- all that its slots hold so, in order
+abbrev pub contents_at : Keyed → Held → List Name
+contents_at v object = flat_map (noted_content v.heap) (slots_of v object)
 
 -- the name of native k where it is purple in the buffer
 abbrev pub purple_name : Heap → ℕ → List Name
 purple_name h k = elim (is_purple_in h.buffer k) [ true ↦ native k ∷ [] | false ↦ [] ]
 
--- a native as a node, last, where it is none
-abbrev pub with_native : Built → Name → Held → Built
-with_native b x held = record b { graph = record b.graph { nodes = with_vertex b.graph.nodes x held } }
+-- an object as a node, last, where it is none
+abbrev pub with_object : Built → Name → Held → Built
+with_object b x held = record b { graph = record b.graph { nodes = with_vertex b.graph.nodes x held } }
 
 -- a reference noted last, for which there was room
 abbrev pub with_reference : Built → ℕ → ℕ → Built
@@ -37,9 +56,14 @@ with_reference b source target = record b { graph = record b.graph { edges = b.g
 abbrev pub with_room : ℕ → Built → Built
 with_room spare b = record b { graph = record b.graph { spare = spare } }
 
--- the first node that is not behind has its count sampled, and is behind
-abbrev pub with_next_sampled : ℕ → Built → Built
-with_next_sampled count b = record b { graph = record b.graph { nodes = change_vertex b.graph.nodes b.next (with_sample count) }; next = b.next + 1 }
+-- the node at a place with its count sampled, where there is one
+abbrev pub sampled_at : List Vertex → ℕ → Option ℕ → List Vertex
+sampled_at vs i None = vs
+sampled_at vs i (Some count) = change_vertex vs i (with_sample count)
+
+-- the first node that is not behind has its count sampled, where it is a native, and is behind
+abbrev pub with_next_passed : Option ℕ → Built → Built
+with_next_passed count b = record b { graph = record b.graph { nodes = sampled_at b.graph.nodes b.next count }; next = b.next + 1 }
 
 -- references of x to each of ys noted, which become nodes, last, where they are none
 abbrev pub noting : Snapshot → Name → List Name → Snapshot

@@ -1,16 +1,18 @@
 -- A SNAPSHOT THAT IS BEING BUILT, by the graph that holds it.
-use Rattle.std.specs.Prelude.{◌≡◌, ℕ, zero, suc, ◌≤◌, ◌<◌, true, false, List, [], ◌∷◌, map, take, drop, flat_map, length, count_by, Option, Some, None, slice_index_or}
+use Rattle.std.specs.Prelude.{◌≡◌, IsTrue, ℕ, zero, suc, ◌+◌, ◌≤◌, ◌<◌, true, false, List, [], ◌∷◌, map, take, drop, flat_map, length, count_by, Option, Some, None, slice_index_or}
 use Rattle.cc_lists.specs.Members.{Among}
 use Rattle.cc_names.specs.declared.name.Name.{Name}
+use Rattle.cc_names.specs.declared.name.Name.TheVariants as name
 use Rattle.cc_names.specs.Names.{native, is_native, natives_in, same_name}
 use Rattle.cc_model.specs.Heap.{Heap}
-use Rattle.cc_model.specs.WellFormed.{native_names}
+use Rattle.cc_model.specs.WellFormed.{native_names, script_names}
 use Rattle.cc_model.specs.Snapshot.{NodeState, untraversed, gone, traversed, Node, Snapshot}
 use Rattle.cc_model.specs.Units.{first_untraversed, to_note, after_node}
 use Rattle.cc_counted.specs.declared.held.Held.{Held}
 use Rattle.cc_counted.specs.declared.held.Held.TheVariants as held
+use Rattle.cc_script.specs.Objects.{name_at as name_of_object}
 use Rattle.cc_graph.specs.Shown.{Vertex, Edge, Shown}
-use Rattle.cc_replay.specs.Keyed.{Keyed, number_at}
+use Rattle.cc_heaps.specs.Keyed.{Keyed, number_at}
 
 -- the graph; the first nodes are the candidates; the nodes before `next` are traversed or gone
 pub record Built : Type 0 where
@@ -54,26 +56,40 @@ snapshot_of b = record {
   mappings = [];
 }
 
--- where a node's native is in the heaps, the node has its key
+-- where a node's native is in the heaps, the node has its key; a script object that is a node is in the heaps, at the
+-- node's key
 abbrev pub HasKey : Keyed → Name → Held → Type 0
-HasKey v x (held.Native key) = (k : ℕ) → x ≡ native k → Among (native k) (native_names v.heap) → number_at v key.0 ≡ Some k
+HasKey v x (held.Native key) = IsTrue (is_native x) × ((k : ℕ) → x ≡ native k → Among (native k) (native_names v.heap) → number_at v key.0 ≡ Some k)
+HasKey v x (held.Script key) = (is_native x ≡ false) × (name_of_object v.scripts key.0 ≡ Some x)
 
--- each node has the key of its native, as long as that is in the heaps
+-- each node has the key of its object, as long as that is in the heaps
 abbrev pub AreHeld : Shown → Keyed → Type 0
 AreHeld g v = (n : Vertex) → Among n g.nodes → HasKey v n.name n.held
 
+-- an object that was made: a native whose number was given, or a script object that is in the heaps
+abbrev pub WasMade : Heap → Name → Type 0
+WasMade h (name.Native k) = (1 ≤ k.0) × (k.0 ≤ h.natives_made)
+WasMade h (name.Script k) = Among (name.Script k) (script_names h)
+WasMade h (name.Reflector k) = Among (name.Reflector k) (script_names h)
+
+-- a script object has no count
+abbrev pub HasNoSample : Vertex → Type 0
+HasNoSample n = is_native n.name ≡ false → n.sampled ≡ None
+
 -- a graph that is being built over these heaps
 pub record IsBuilt (b : Built) (v : Keyed) : Type 0 where
-  -- each node is that of a native that was made, and no two are of one name; so there are no more than natives were made
+  -- each node is that of an object that was made, and no two are of one name; so there are no more than such objects
   pub distinct : (x : Name) → count_by (λ n. same_name n.name x) b.graph.nodes ≤ 1
-  pub made : (n : Vertex) → Among n b.graph.nodes → (k : ℕ) × (n.name ≡ native k) × (1 ≤ k) × (k ≤ v.heap.natives_made)
-  pub few : length b.graph.nodes ≤ v.heap.natives_made
+  pub made : (n : Vertex) → Among n b.graph.nodes → WasMade v.heap n.name
+  pub few : length b.graph.nodes ≤ v.heap.natives_made + length v.heap.scripts
   pub behind : b.next ≤ length b.graph.nodes
   pub first : b.candidates ≤ length b.graph.nodes
   pub closed : (e : Edge) → Among e b.graph.edges → (e.source < length b.graph.nodes) × (e.target < length b.graph.nodes)
   pub no_blacks : b.graph.blacks ≡ []
   -- a node that is not behind has no sample yet
   pub unsampled : (n : Vertex) → Among n (drop b.next b.graph.nodes) → n.sampled ≡ None
+  -- and none has a script object's
+  pub uncounted : (n : Vertex) → Among n b.graph.nodes → HasNoSample n
 
 -- the unit of a node, from one snapshot to the next
 pub record IsNodeUnit (h : Heap) (old new : Snapshot) : Type 0 where

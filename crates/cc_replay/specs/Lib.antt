@@ -2,11 +2,9 @@ pub mod Answered
 pub mod Answering
 pub mod Transcripts
 pub mod Words
-pub mod Keyed
 pub mod Blackness
 pub mod BuildSteps
 pub mod Building
-pub mod Changes
 pub mod Collected
-pub mod Parts
 pub mod Whites
+pub mod Resting

@@ -1,5 +1,5 @@
 -- WHAT IS WRITTEN FOR AN INPUT: the text of a transcript that is the plain run's, lawful and quiet.
-use Rattle.std.specs.Prelude.{◌≡◌, ℕ, ◌+◌, ◌≤◌, Bool, List, ◌++◌, length, map, take, Option}
+use Rattle.std.specs.Prelude.{◌≡◌, ℕ, ◌+◌, ◌≤◌, ◌⊎◌, Bool, List, ◌++◌, length, map, take, Option}
 use Rattle.std.specs.Io.KnownBytes.{Appends, Consumes, IsAtEnd}
 use Rattle.cc_names.specs.Allowance.{Allowance}
 use Rattle.cc_model.specs.Telling.{AppendsFront}
@@ -10,7 +10,9 @@ use Rattle.cc_model.specs.Lawful.{IsLawful}
 use Rattle.cc_model.specs.Quiet.{IsQuiet}
 use Rattle.cc_model.specs.Run.{plain_run}
 use Rattle.cc_laws_run.specs.Memory.{noes, all_noes_told}
+use Rattle.cc_outside.specs.Reads.{Reads}
 use Rattle.cc_reader.specs.FormsNow.{forms_now}
+use Rattle.cc_reader.specs.HasRead.{ReadsBytes, ReadsToEnd}
 
 -- A TRANSCRIPT of these asks: the plain run for some answers of memory, which say no once for each want of memory
 -- that is told and never else; it is lawful and quiet
@@ -33,43 +35,66 @@ pub record WritesFront (limits : Allowance) (asks : List Ask) (old new : Option 
   pub transcript : IsTranscript limits asks text
   pub written : AppendsFront old new text
 
--- what was left and what is left now; what was written and what is written now
+-- what was left and what is left now; how many reads were answered and are answered now; what was written and what is
+-- written now
 pub record Ends : Type 0 where
   pub left : Option (List ℕ)
   pub left_now : Option (List ℕ)
+  pub reads : Reads
+  pub reads_now : Reads
   pub written : Option (List ℕ)
   pub written_now : Option (List ℕ)
 
-abbrev pub ends : Option (List ℕ) → Option (List ℕ) → Option (List ℕ) → Option (List ℕ) → Ends
-ends left left_now written written_now = record { left = left; left_now = left_now; written = written; written_now = written_now }
+abbrev pub ends : Option (List ℕ) → Option (List ℕ) → Reads → Reads → Option (List ℕ) → Option (List ℕ) → Ends
+ends left left_now reads reads_now written written_now = record {
+  left = left;
+  left_now = left_now;
+  reads = reads;
+  reads_now = reads_now;
+  written = written;
+  written_now = written_now;
+}
 
--- all was read to the end, within the limit, and all of it is answered
+-- all was read to the end, within the limit, and all of it is answered; one read said the end, and each other that was
+-- answered gave a byte
 pub record IsDone (limits : Allowance) (e : Ends) : Type 0 where
   pub given : List ℕ
   pub consumed : Consumes e.left e.left_now given
   pub at_end : IsAtEnd e.left_now
   pub within : length given ≤ limits.bytes
+  pub reads : ReadsToEnd e.reads e.reads_now (length given)
   pub writes : Writes limits (asks_of forms_now given) e.written e.written_now
 
--- a read failed after these bytes: the lines that ended are answered
+-- a read failed after these bytes: the lines that ended are answered; each read that was answered gave a byte
 pub record StopsAtFault (limits : Allowance) (e : Ends) : Type 0 where
   pub given : List ℕ
   pub consumed : Consumes e.left e.left_now given
   pub within : length given ≤ limits.bytes
+  pub reads : ReadsBytes e.reads e.reads_now (length given)
   pub writes : Writes limits (ended forms_now given) e.written e.written_now
 
--- one byte more than the limit was taken: the lines that ended within the limit are answered
+-- one byte more than the limit was taken: the lines that ended within the limit are answered; each read that was
+-- answered gave a byte
 pub record StopsAtLimit (limits : Allowance) (e : Ends) : Type 0 where
   pub given : List ℕ
   pub consumed : Consumes e.left e.left_now given
   pub above : length given ≡ limits.bytes + 1
+  pub reads : ReadsBytes e.reads e.reads_now (length given)
   pub writes : Writes limits (ended forms_now (take limits.bytes given)) e.written e.written_now
 
--- a write failed: a front of what answers the first lines within the limit is written
+-- these bytes were all, within the limit: one read said the end, and each other that was answered gave a byte
+pub record ReadsAll (limits : Allowance) (e : Ends) (given : List ℕ) : Type 0 where
+  pub at_end : IsAtEnd e.left_now
+  pub within : length given ≤ limits.bytes
+  pub reads : ReadsToEnd e.reads e.reads_now (length given)
+
+-- a write failed: a front of what answers the first lines within the limit is written; no read said the end, or one did
+-- where the last line lacks its line feed
 pub record StopsAtWrite (limits : Allowance) (e : Ends) : Type 0 where
   pub given : List ℕ
   pub consumed : Consumes e.left e.left_now given
   pub most : length given ≤ limits.bytes + 1
+  pub reads : ReadsBytes e.reads e.reads_now (length given) ⊎ ReadsAll limits e given
   pub lines : List (List ℕ)
   pub more : List (List ℕ)
   pub first : lines ++ more ≡ lines_of (take limits.bytes given)

@@ -1,50 +1,95 @@
-ghost use Rattle.std.specs.Prelude.{◌≡◌, ◌≢◌, ◌<◌, ◌≤◌, ℕ, List, [], ◌∷◌, ◌++◌, length, Option, Some, OnErr, Ok, Err, OnOk, IfOk, false, true, IsTrue};
+ghost use Rattle.std.specs.Prelude.{◌≡◌, ◌≢◌, ◌<◌, ◌≤◌, ◌+◌, ℕ, List, [], ◌∷◌, ◌++◌, length, Option, Some, OnErr, Ok, Err, OnOk, IfOk, false, true, IsTrue};
 ghost use Rattle.cc_lists.specs.Faults.{Rose};
-ghost use Rattle.cc_reader.specs.Pending.{weight};
+ghost use Rattle.cc_reader.specs.HasRead.{ReadsOn};
+ghost use Rattle.cc_reader.specs.Pending.{nothing_read, weight};
 ghost use Rattle.cc_reader.specs.Given.{HasGiven, IsBroken, IsOver, IsWhole, AreFirst};
+ghost use Rattle.cc_model.specs.declared.command.Command.TheVariants as command;
 ghost use Rattle.cc_model.specs.Ranges.{in_range};
 ghost use Rattle.cc_model.specs.Asks.{taken};
 ghost use Rattle.cc_model.specs.Heap.{empty_heap};
+ghost use Rattle.cc_model.specs.Suspected.{IsSuspected};
+ghost use Rattle.cc_model.specs.View.{view};
 ghost use Rattle.cc_reader.specs.FormsNow.{is_known};
 ghost use Rattle.cc_replay.specs.Answered.{IsAnswered};
-ghost use Rattle.cc_replay.specs.Keyed.{IsInOrder, AreFew};
-ghost use Rattle.cc_replay.specs.Answering.{GivesLine, LineIsAnswered, AreAnswered, nothing_read};
+ghost use Rattle.cc_replay.specs.Resting.{IsAtRest};
+ghost use Rattle.cc_heaps.specs.Few.{AreFew};
+ghost use Rattle.cc_heaps.specs.Keyed.{IsInOrder};
+ghost use Rattle.cc_mutator.specs.Applied.{is_applied};
+ghost use Rattle.cc_replay.specs.Answering.{GivesLine, LineIsAnswered, Answers, moment};
 ghost use Rattle.cc_replay.specs.Transcripts.{ends, IsDone, StopsAtFault, StopsAtLimit, StopsAtWrite};
 
 use crate::collect::answer_collect;
-use crate::natives::Natives;
 use crate::outlet::Reports;
 use crate::status::Status;
+use cc_gc::collect_scripts;
+use cc_heaps::Heaps;
 use cc_model::{Command, Item, Notices, Refusal, Reply};
+use cc_mutator::apply;
 use cc_outside::Source;
 use cc_reader::{Line, Lines, ReadStop, parse};
 use std::alloc::Global;
 
+/// Answers `census`: lists what is there, and tells how many there are.
+fn answer_census<N: Notices>(heaps: &Heaps, out: &mut N)
+    requires order { IsInOrder [] heaps.now }
+    ensures { IsAnswered heaps.now.heap heaps.now.heap (taken command.Census) (N.telling out.old) (N.telling out.new) }
+{
+    let count = heaps.census(out);
+    out.tell(Item::Reply(Reply::Census(count)));
+}
+
+/// Answers `gc`.
+fn answer_gc<N: Notices>(heaps: &mut Heaps, out: &mut N)
+    requires rest { IsAtRest heaps.old }
+    ensures answered { IsAnswered heaps.old.heap heaps.new.heap (taken command.Gc) (N.telling out.old) (N.telling out.new) }
+    ensures rest { IsAtRest heaps.new }
+{
+    collect_scripts(heaps, out);
+    out.tell(Item::Reply(Reply::Done));
+}
+
+/// Answers a command of the mutator: what it deletes is told, and then its reply. It forgets no native that nothing
+/// reaches, whatever the candidates of a running collection are.
+fn answer_mutator<N: Notices>(command: &Command, heaps: &mut Heaps, out: &mut N)
+    requires applied { IsTrue (is_applied command.now) }
+    requires in_range { IsTrue (in_range command.now) }
+    requires rest { IsAtRest heaps.old }
+    ensures answered { IsAnswered heaps.old.heap heaps.new.heap (taken command.now) (N.telling out.old) (N.telling out.new) }
+    ensures remembers { (candidates : List ℕ) → IsSuspected (view heaps.old.heap) candidates → IsSuspected (view heaps.new.heap) candidates }
+    ensures rest { IsAtRest heaps.new }
+{
+    let reply = apply(heaps, command, out);
+    out.tell(Item::Reply(reply));
+}
+
 /// Answers a command.
-#[tactic(auto, using(crate::proofs::Calls::counts_few))]
-fn answer_command<N: Notices>(alloc: Global, command: Command, natives: &mut Natives, out: &mut N)
+#[tactic(auto, using(crate::proofs::AtRest::counts_few))]
+fn answer_command<N: Notices>(alloc: Global, command: Command, heaps: &mut Heaps, out: &mut N)
     requires known { IsTrue (is_known command) }
     requires in_range { IsTrue (in_range command) }
-    requires order { IsInOrder [] natives.old }
-    ensures answered { IsAnswered natives.old.heap natives.new.heap (taken command) (N.telling out.old) (N.telling out.new) }
-    ensures counts { AreFew natives.new.heap }
-    ensures order { IsInOrder [] natives.new }
+    requires rest { IsAtRest heaps.old }
+    ensures answered { IsAnswered heaps.old.heap heaps.new.heap (taken command) (N.telling out.old) (N.telling out.new) }
+    ensures counts { AreFew heaps.new.heap }
+    ensures rest { IsAtRest heaps.new }
 {
     match command {
-        Command::Collect => answer_collect(alloc, natives, out),
-        _ => natives.answer(&command, out),
+        Command::Nothing => {}
+        Command::Census => answer_census(heaps, out),
+        Command::Collect => answer_collect(alloc, heaps, out),
+        Command::Gc => answer_gc(heaps, out),
+        _ => answer_mutator(&command, heaps, out),
     }
 }
 
 /// Answers a line of at most 120 bytes.
-fn answer_text<N: Notices>(alloc: Global, text: &[u8], natives: &mut Natives, out: &mut N)
+fn answer_text<N: Notices>(alloc: Global, text: &[u8], heaps: &mut Heaps, out: &mut N)
     requires short { length text.now ≤ 120 }
-    requires order { IsInOrder [] natives.old }
-    ensures answered { LineIsAnswered natives.old.heap natives.new.heap text.now (N.telling out.old) (N.telling out.new) }
-    ensures order { IsInOrder [] natives.new }
+    requires rest { IsAtRest heaps.old }
+    ensures answered { LineIsAnswered heaps.old.heap heaps.new.heap text.now (N.telling out.old) (N.telling out.new) }
+    ensures rest { IsAtRest heaps.new }
 {
     match parse(text) {
-        Some(command) => answer_command(alloc, command, natives, out),
+        Some(command) => answer_command(alloc, command, heaps, out),
         None => out.tell(Item::Reply(Reply::Refused(Refusal::Line))),
     }
 }
@@ -62,29 +107,30 @@ enum Next {
 fn answer_next<S: Source, N: Notices>(
     alloc: Global,
     lines: &mut Lines<'_, S>,
-    natives: &mut Natives,
+    heaps: &mut Heaps,
     out: &mut N,
 ) -> Result<Next, ReadStop>
-    requires going { lines.old.window.stopped ≡ false }
-    requires order { IsInOrder [] natives.old }
+    requires going { lines.old.stopped ≡ false }
+    requires rest { IsAtRest heaps.old }
     ensures answered { result ≡ Ok Next.Answered → (line : List ℕ)
         × GivesLine (S.left lines.old.source.now) (S.left lines.new.source.now) lines.old.window lines.new.window line
-        × LineIsAnswered natives.old.heap natives.new.heap line (N.telling out.old) (N.telling out.new) }
-    ensures going_on { result ≡ Ok Next.Answered → lines.new.window.stopped ≡ false }
+        × LineIsAnswered heaps.old.heap heaps.new.heap line (N.telling out.old) (N.telling out.new) }
+    ensures going_on { result ≡ Ok Next.Answered → lines.new.stopped ≡ false }
     ensures falls { result ≡ Ok Next.Answered → weight lines.new.window < weight lines.old.window }
     ensures whole { result ≡ Ok Next.End → (start : Option (List ℕ)) (given : List (List ℕ)) →
         HasGiven start (S.left lines.old.source.now) lines.old.window given →
-        IsWhole start (S.left lines.new.source.now) lines.new.window.limit given }
+        IsWhole start (S.left lines.new.source.now) lines.new.window given }
     ensures fault { result ≡ Err ReadStop.Fault → (start : Option (List ℕ)) (given : List (List ℕ)) →
         HasGiven start (S.left lines.old.source.now) lines.old.window given →
-        IsBroken start (S.left lines.new.source.now) lines.new.window.limit given }
+        IsBroken start (S.left lines.new.source.now) lines.new.window given }
     ensures over { result ≡ Err ReadStop.Limit → (start : Option (List ℕ)) (given : List (List ℕ)) →
         HasGiven start (S.left lines.old.source.now) lines.old.window given →
-        IsOver start (S.left lines.new.source.now) lines.new.window.limit given }
-    ensures quiet { result ≡ Ok Next.End → (natives.new ≡ natives.old) × (N.telling out.new ≡ N.telling out.old) }
-    ensures still { OnErr result ((natives.new ≡ natives.old) × (N.telling out.new ≡ N.telling out.old)) }
-    ensures order { IsInOrder [] natives.new }
+        IsOver start (S.left lines.new.source.now) lines.new.window given }
+    ensures quiet { result ≡ Ok Next.End → (heaps.new ≡ heaps.old) × (N.telling out.new ≡ N.telling out.old) }
+    ensures still { OnErr result ((heaps.new ≡ heaps.old) × (N.telling out.new ≡ N.telling out.old)) }
+    ensures rest { IsAtRest heaps.new }
     ensures limit { lines.new.window.limit ≡ lines.old.window.limit }
+    ensures reads { ReadsOn (S.reads lines.old.source.now) (S.reads lines.new.source.now) lines.old.window lines.new.window }
     ensures same { lines.new.source.ghost_name ≡ lines.old.source.ghost_name }
     ensures calm { OnOk result (S.faults lines.new.source.now ≡ S.faults lines.old.source.now) }
     ensures rose { result ≡ Err ReadStop.Fault → Rose (S.faults lines.old.source.now) (S.faults lines.new.source.now) }
@@ -97,7 +143,7 @@ fn answer_next<S: Source, N: Notices>(
             Ok(Next::Answered)
         }
         Line::Text => {
-            answer_text(alloc, lines.text(), natives, out);
+            answer_text(alloc, lines.text(), heaps, out);
             Ok(Next::Answered)
         }
     }
@@ -107,25 +153,23 @@ fn answer_next<S: Source, N: Notices>(
 fn answer_all<S: Source, N: Reports>(
     alloc: Global,
     lines: &mut Lines<'_, S>,
-    natives: &mut Natives,
+    heaps: &mut Heaps,
     out: &mut N,
 ) -> Status
-    requires going { lines.old.window.stopped ≡ false }
-    requires order { IsInOrder [] natives.old }
+    requires going { lines.old.stopped ≡ false }
+    requires rest { IsAtRest heaps.old }
     requires whole { (N.telling out.old).broken ≡ false }
-    ensures done { result ≡ Status.Done → (start : Option (List ℕ)) → HasGiven start (S.left lines.old.source.now) lines.old.window [] →
-        (given : List (List ℕ)) × IsWhole start (S.left lines.new.source.now) lines.old.window.limit given
-        × AreAnswered natives.old.heap natives.new.heap given (N.telling out.old) (N.telling out.new) }
-    ensures fault { result ≡ Status.ReadFault → (start : Option (List ℕ)) → HasGiven start (S.left lines.old.source.now) lines.old.window [] →
-        (given : List (List ℕ)) × IsBroken start (S.left lines.new.source.now) lines.old.window.limit given
-        × AreAnswered natives.old.heap natives.new.heap given (N.telling out.old) (N.telling out.new) }
-    ensures over { result ≡ Status.Limit → (start : Option (List ℕ)) → HasGiven start (S.left lines.old.source.now) lines.old.window [] →
-        (given : List (List ℕ)) × IsOver start (S.left lines.new.source.now) lines.old.window.limit given
-        × AreAnswered natives.old.heap natives.new.heap given (N.telling out.old) (N.telling out.new) }
-    ensures first { result ≡ Status.WriteFault → (start : Option (List ℕ)) → HasGiven start (S.left lines.old.source.now) lines.old.window [] →
-        (given : List (List ℕ)) × AreFirst start (S.left lines.new.source.now) lines.old.window.limit given
-        × AreAnswered natives.old.heap natives.new.heap given (N.telling out.old) (N.telling out.new) }
+    ensures done { result ≡ Status.Done → Answers IsWhole (moment (S.left lines.old.source.now) lines.old.window heaps.old.heap (N.telling out.old))
+        (moment (S.left lines.new.source.now) lines.new.window heaps.new.heap (N.telling out.new)) }
+    ensures fault { result ≡ Status.ReadFault → Answers IsBroken (moment (S.left lines.old.source.now) lines.old.window heaps.old.heap (N.telling out.old))
+        (moment (S.left lines.new.source.now) lines.new.window heaps.new.heap (N.telling out.new)) }
+    ensures over { result ≡ Status.Limit → Answers IsOver (moment (S.left lines.old.source.now) lines.old.window heaps.old.heap (N.telling out.old))
+        (moment (S.left lines.new.source.now) lines.new.window heaps.new.heap (N.telling out.new)) }
+    ensures first { result ≡ Status.WriteFault → Answers AreFirst (moment (S.left lines.old.source.now) lines.old.window heaps.old.heap (N.telling out.old))
+        (moment (S.left lines.new.source.now) lines.new.window heaps.new.heap (N.telling out.new)) }
 
+    ensures limit { lines.new.window.limit ≡ lines.old.window.limit }
+    ensures reads { ReadsOn (S.reads lines.old.source.now) (S.reads lines.new.source.now) lines.old.window lines.new.window }
     ensures read { result ≡ Status.ReadFault → Rose (S.faults lines.old.source.now) (S.faults lines.new.source.now) }
     ensures calm { result ≢ Status.ReadFault → S.faults lines.new.source.now ≡ S.faults lines.old.source.now }
     ensures whole { result ≢ Status.WriteFault → (N.telling out.new).broken ≡ false }
@@ -137,7 +181,7 @@ fn answer_all<S: Source, N: Reports>(
     ensures sink { (N.telling out.new).sink ≡ (N.telling out.old).sink }
 {
     'lines: loop {
-        match answer_next(alloc, lines, natives, out) {
+        match answer_next(alloc, lines, heaps, out) {
             Err(ReadStop::Fault) => return Status::ReadFault,
             Err(ReadStop::Limit) => return Status::Limit,
             Ok(Next::End) => return Status::Done,
@@ -153,21 +197,26 @@ fn answer_all<S: Source, N: Reports>(
 pub(crate) fn answer_input<S: Source, N: Reports>(
     alloc: Global,
     lines: &mut Lines<'_, S>,
-    natives: &mut Natives,
+    heaps: &mut Heaps,
     out: &mut N,
 ) -> Status
-    requires start { lines.old.window ≡ nothing_read natives.old.heap.limits.bytes }
-    requires order { IsInOrder [] natives.old }
-    requires empty { natives.old.heap ≡ empty_heap natives.old.heap.limits }
+    requires going { lines.old.stopped ≡ false }
+    requires start { lines.old.window ≡ nothing_read heaps.old.heap.limits.bytes }
+    requires order { IsInOrder [] heaps.old }
+    requires empty { heaps.old.heap ≡ empty_heap heaps.old.heap.limits }
     requires whole { (N.telling out.old).broken ≡ false }
-    ensures done { result ≡ Status.Done → IsDone natives.old.heap.limits
-        (ends (S.left lines.old.source.now) (S.left lines.new.source.now) (N.telling out.old).told (N.telling out.new).told) }
-    ensures fault { result ≡ Status.ReadFault → StopsAtFault natives.old.heap.limits
-        (ends (S.left lines.old.source.now) (S.left lines.new.source.now) (N.telling out.old).told (N.telling out.new).told) }
-    ensures over { result ≡ Status.Limit → StopsAtLimit natives.old.heap.limits
-        (ends (S.left lines.old.source.now) (S.left lines.new.source.now) (N.telling out.old).told (N.telling out.new).told) }
-    ensures front { result ≡ Status.WriteFault → StopsAtWrite natives.old.heap.limits
-        (ends (S.left lines.old.source.now) (S.left lines.new.source.now) (N.telling out.old).told (N.telling out.new).told) }
+    ensures done { result ≡ Status.Done → IsDone heaps.old.heap.limits
+        (ends (S.left lines.old.source.now) (S.left lines.new.source.now) (S.reads lines.old.source.now) (S.reads lines.new.source.now) (N.telling out.old).told (N.telling out.new).told) }
+    ensures fault { result ≡ Status.ReadFault → StopsAtFault heaps.old.heap.limits
+        (ends (S.left lines.old.source.now) (S.left lines.new.source.now) (S.reads lines.old.source.now) (S.reads lines.new.source.now) (N.telling out.old).told (N.telling out.new).told) }
+    ensures over { result ≡ Status.Limit → StopsAtLimit heaps.old.heap.limits
+        (ends (S.left lines.old.source.now) (S.left lines.new.source.now) (S.reads lines.old.source.now) (S.reads lines.new.source.now) (N.telling out.old).told (N.telling out.new).told) }
+    ensures front { result ≡ Status.WriteFault → StopsAtWrite heaps.old.heap.limits
+        (ends (S.left lines.old.source.now) (S.left lines.new.source.now) (S.reads lines.old.source.now) (S.reads lines.new.source.now) (N.telling out.old).told (N.telling out.new).told) }
+
+    ensures reads { (S.reads lines.new.source.now).answered ≤ (S.reads lines.old.source.now).answered + heaps.old.heap.limits.bytes + 1 }
+    ensures end_unread { result ≢ Status.Done → result ≢ Status.WriteFault →
+        (S.reads lines.new.source.now).ended ≡ (S.reads lines.old.source.now).ended }
 
     ensures read { result ≡ Status.ReadFault → Rose (S.faults lines.old.source.now) (S.faults lines.new.source.now) }
     ensures calm { result ≢ Status.ReadFault → S.faults lines.new.source.now ≡ S.faults lines.old.source.now }
@@ -176,15 +225,15 @@ pub(crate) fn answer_input<S: Source, N: Reports>(
 
     ensures fault_always { S.faults lines.old.source.now < S.faults lines.new.source.now → result ≡ Status.ReadFault }
     ensures write_always { (N.telling out.old).faults < (N.telling out.new).faults → result ≡ Status.WriteFault }
-    ensures over_always { (bytes : List ℕ) → S.left lines.old.source.now ≡ Some bytes → natives.old.heap.limits.bytes < length bytes →
+    ensures over_always { (bytes : List ℕ) → S.left lines.old.source.now ≡ Some bytes → heaps.old.heap.limits.bytes < length bytes →
         ¬ (Rose (S.faults lines.old.source.now) (S.faults lines.new.source.now)) → ¬ (Rose (N.telling out.old).faults (N.telling out.new).faults) →
         result ≡ Status.Limit }
-    ensures done_always { (bytes : List ℕ) → S.left lines.old.source.now ≡ Some bytes → length bytes ≤ natives.old.heap.limits.bytes →
+    ensures done_always { (bytes : List ℕ) → S.left lines.old.source.now ≡ Some bytes → length bytes ≤ heaps.old.heap.limits.bytes →
         ¬ (Rose (S.faults lines.old.source.now) (S.faults lines.new.source.now)) → ¬ (Rose (N.telling out.old).faults (N.telling out.new).faults) →
         result ≡ Status.Done }
     ensures others { (result ≢ Status.Usage) × (result ≢ Status.NoMemory) }
     ensures source { lines.new.source.ghost_name ≡ lines.old.source.ghost_name }
     ensures sink { (N.telling out.new).sink ≡ (N.telling out.old).sink }
 {
-    answer_all(alloc, lines, natives, out)
+    answer_all(alloc, lines, heaps, out)
 }

@@ -5,7 +5,6 @@ mod answering;
 mod build;
 mod collect;
 mod ends;
-mod natives;
 mod outlet;
 mod program;
 mod scan;

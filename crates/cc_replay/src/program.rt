@@ -1,14 +1,15 @@
-ghost use Rattle.std.specs.Prelude.{◌≡◌, ◌≢◌, ◌<◌, ◌≤◌, ℕ, List, length, map, Some};
+ghost use Rattle.std.specs.Prelude.{◌≡◌, ◌≢◌, ◌<◌, ◌≤◌, ◌+◌, ℕ, List, length, map, Some};
 ghost use Rattle.cc_names.specs.Allowance.{Allowance};
 ghost use Rattle.cc_lists.specs.Faults.{Rose};
+ghost use Rattle.cc_outside.specs.Counted.{raised};
 ghost use Rattle.cc_replay.specs.Transcripts.{ends, IsDone, StopsAtFault, StopsAtLimit, StopsAtWrite};
 ghost use Rattle.cc_replay.specs.Words.{GivesLimits, IsTaken};
 
 use crate::answering::answer_input;
-use crate::natives::Natives;
 use crate::outlet::Outlet;
 use crate::status::Status;
 use crate::words::{WordsStop, limits_of};
+use cc_heaps::Heaps;
 use cc_names::Limits;
 use cc_outside::{Sink, Source};
 use cc_reader::Lines;
@@ -18,6 +19,11 @@ use std::alloc::Global;
 ///
 /// A line is answered whole before the next is read. Each line of the output is one piece, and goes on with the rest
 /// where the sink takes less.
+///
+/// Each read that is answered takes a byte at least, but for one that says 0, which is the end. With `Done` one read said
+/// so, and none failed. With a failed read, or the limit passed, none said so; with a failed write one did where the last
+/// line, which was to be answered, lacks its line feed. So no read follows the end: one more could say it again, or fail,
+/// and there would be no status for that.
 pub fn replay<S: Source, K: Sink>(
     alloc: Global,
     limits: Limits,
@@ -25,11 +31,16 @@ pub fn replay<S: Source, K: Sink>(
     sink: &mut K,
 ) -> Status
     // What is written with each status is the text of a transcript, whole or up to where a write failed.
-    ensures done { result ≡ Status.Done → IsDone limits (ends (S.left source.old) (S.left source.new) (K.written sink.old) (K.written sink.new)) }
-    ensures fault { result ≡ Status.ReadFault → StopsAtFault limits (ends (S.left source.old) (S.left source.new) (K.written sink.old) (K.written sink.new)) }
-    ensures over { result ≡ Status.Limit → StopsAtLimit limits (ends (S.left source.old) (S.left source.new) (K.written sink.old) (K.written sink.new)) }
-    ensures front { result ≡ Status.WriteFault → StopsAtWrite limits (ends (S.left source.old) (S.left source.new) (K.written sink.old) (K.written sink.new)) }
+    ensures done { result ≡ Status.Done → IsDone limits (ends (S.left source.old) (S.left source.new) (S.reads source.old) (S.reads source.new) (K.written sink.old) (K.written sink.new)) }
+    ensures fault { result ≡ Status.ReadFault → StopsAtFault limits (ends (S.left source.old) (S.left source.new) (S.reads source.old) (S.reads source.new) (K.written sink.old) (K.written sink.new)) }
+    ensures over { result ≡ Status.Limit → StopsAtLimit limits (ends (S.left source.old) (S.left source.new) (S.reads source.old) (S.reads source.new) (K.written sink.old) (K.written sink.new)) }
+    ensures front { result ≡ Status.WriteFault → StopsAtWrite limits (ends (S.left source.old) (S.left source.new) (S.reads source.old) (S.reads source.new) (K.written sink.old) (K.written sink.new)) }
     ensures set_up { result ≡ Status.NoMemory → (source.new ≡ source.old) × (sink.new ≡ sink.old) }
+
+    // At most as many reads are answered as the limit on bytes, and one: for the byte above it, or for the end.
+    ensures reads { (S.reads source.new).answered ≤ (S.reads source.old).answered + limits.bytes + 1 }
+    ensures end_read { result ≡ Status.Done → (S.reads source.new).ended ≡ raised (S.reads source.old).ended 1 }
+    ensures end_unread { result ≢ Status.Done → result ≢ Status.WriteFault → (S.reads source.new).ended ≡ (S.reads source.old).ended }
 
     // Each fault has its cause.
     ensures read { result ≡ Status.ReadFault → Rose (S.faults source.old) (S.faults source.new) }
@@ -48,19 +59,23 @@ pub fn replay<S: Source, K: Sink>(
         ¬ (Rose (S.faults source.old) (S.faults source.new)) → ¬ (Rose (K.faults sink.old) (K.faults sink.new)) →
         result ≢ Status.NoMemory → result ≡ Status.Done }
 {
-    let mut natives = Natives::new(alloc, limits);
+    let Ok(mut heaps) = Heaps::new(alloc, limits) else {
+        return Status::NoMemory;
+    };
     let mut lines = Lines::new(source, limits.bytes());
     let mut out = Outlet {
         sink,
         broken: false,
     };
-    answer_input(alloc, &mut lines, &mut natives, &mut out)
+    answer_input(alloc, &mut lines, &mut heaps, &mut out)
 }
 
 /// Reads the words of a command line, the program's name first, and answers the source's lines as they say.
 ///
 /// Want of memory is answered for the words and for setting up alone. A command that wants memory later is refused by
 /// a line of the output.
+///
+/// The source is read as `replay` reads it.
 pub fn run<'a, S: Source, K: Sink>(
     alloc: Global,
     words: &'a [&'a str],
@@ -69,19 +84,25 @@ pub fn run<'a, S: Source, K: Sink>(
 ) -> Status
     // What is written with each status is the text of a transcript, whole or up to where a write failed.
     ensures done { result ≡ Status.Done → (limits : Allowance) × GivesLimits (map (λ w. w.now) words.entry.now) limits
-        × IsDone limits (ends (S.left source.old) (S.left source.new) (K.written sink.old) (K.written sink.new)) }
+        × IsDone limits (ends (S.left source.old) (S.left source.new) (S.reads source.old) (S.reads source.new) (K.written sink.old) (K.written sink.new)) }
     ensures fault { result ≡ Status.ReadFault → (limits : Allowance) × GivesLimits (map (λ w. w.now) words.entry.now) limits
-        × StopsAtFault limits (ends (S.left source.old) (S.left source.new) (K.written sink.old) (K.written sink.new)) }
+        × StopsAtFault limits (ends (S.left source.old) (S.left source.new) (S.reads source.old) (S.reads source.new) (K.written sink.old) (K.written sink.new)) }
     ensures over { result ≡ Status.Limit → (limits : Allowance) × GivesLimits (map (λ w. w.now) words.entry.now) limits
-        × StopsAtLimit limits (ends (S.left source.old) (S.left source.new) (K.written sink.old) (K.written sink.new)) }
+        × StopsAtLimit limits (ends (S.left source.old) (S.left source.new) (S.reads source.old) (S.reads source.new) (K.written sink.old) (K.written sink.new)) }
     ensures front { result ≡ Status.WriteFault → (limits : Allowance) × GivesLimits (map (λ w. w.now) words.entry.now) limits
-        × StopsAtWrite limits (ends (S.left source.old) (S.left source.new) (K.written sink.old) (K.written sink.new)) }
+        × StopsAtWrite limits (ends (S.left source.old) (S.left source.new) (S.reads source.old) (S.reads source.new) (K.written sink.old) (K.written sink.new)) }
     ensures set_up { result ≡ Status.NoMemory → (source.new ≡ source.old) × (sink.new ≡ sink.old) }
 
     // Usage is for words that are not taken, and then nothing is read or written.
     ensures usage { result ≡ Status.Usage → ¬ (IsTaken (map (λ w. w.now) words.entry.now)) }
     ensures taken { result ≢ Status.Usage → result ≢ Status.NoMemory → IsTaken (map (λ w. w.now) words.entry.now) }
     ensures unread { result ≡ Status.Usage → (source.new ≡ source.old) × (sink.new ≡ sink.old) }
+
+    // At most as many reads are answered as the limit on bytes, and one: for the byte above it, or for the end.
+    ensures reads { (limits : Allowance) → GivesLimits (map (λ w. w.now) words.entry.now) limits →
+        (S.reads source.new).answered ≤ (S.reads source.old).answered + limits.bytes + 1 }
+    ensures end_read { result ≡ Status.Done → (S.reads source.new).ended ≡ raised (S.reads source.old).ended 1 }
+    ensures end_unread { result ≢ Status.Done → result ≢ Status.WriteFault → (S.reads source.new).ended ≡ (S.reads source.old).ended }
 
     // Each fault has its cause.
     ensures read { result ≡ Status.ReadFault → Rose (S.faults source.old) (S.faults source.new) }

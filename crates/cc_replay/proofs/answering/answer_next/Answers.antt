@@ -13,7 +13,7 @@ use Rattle.cc_replay.proofs.answering.answer_next.Goals as goal
 pub returns-in-TooLong-clause-answered : goal.returns-in-TooLong-clause-answered
 returns-in-TooLong-clause-answered g c = λ _.
     let given = c.in_ok-next.ensures.long (ap Ok c.in-TooLong.is) in
-    let h = c.args.natives.now.heap in
+    let h = c.args.heaps.now.heap in
     let asks : ask_of forms_now given.0 ≡ long = ask_of-long given.0 given.1 in (
       given.0,
       given.2,

@@ -13,7 +13,7 @@ use Rattle.cc_replay.proofs.answering.answer_text.Goals as goal
 pub returns-in-None-clause-answered : goal.returns-in-None-clause-answered
 returns-in-None-clause-answered g c =
     let line = c.args.text.now in
-    let h = c.args.natives.now.heap in
+    let h = c.args.heaps.now.heap in
     let asks : ask_of forms_now line ≡ bad = ask_of-short line c.requires.short ∙ ap taken_or_bad (sym c.in-None.ensures.command) in
     record {
       answered = record {

@@ -1,5 +1,5 @@
 use Rattle.std.proofs.Common.{◌≡◌, [], ◌∙◌, ap}
-use Rattle.cc_replay.specs.Keyed.{Keyed, changed_to}
+use Rattle.cc_heaps.specs.Keyed.{Keyed, changed_to}
 use Rattle.cc_replay.proofs.build.empty_buffer.Goals as goal
 
 -- another buffer in place of another
@@ -9,6 +9,6 @@ again v old new e f = f ∙ ap (λ (k : Keyed). changed_to k (record k.heap { bu
 
 pub buffer-preserved : goal.buffer-preserved
 buffer-preserved c = record {
-  heap = again c.args.natives.now c.buffer.natives c.select_next.new.self c.buffer.invariant.heap c.in-Some.ensures.front.1;
+  heap = again c.args.heaps.now c.buffer.heaps c.select_next.new.self c.buffer.invariant.heap c.in-Some.ensures.front.1;
   order = c.select_next.ensures.order [] c.buffer.invariant.order;
 }

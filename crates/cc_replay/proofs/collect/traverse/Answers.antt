@@ -19,7 +19,7 @@ gone-goes_on s e f = cc
 
 pub returns-in_err-step-clause-refused : goal.returns-in_err-step-clause-refused
 returns-in_err-step-clause-refused c =
-    let h = c.args.natives.now.heap in
+    let h = c.args.heaps.now.heap in
     let r = c.in_err-step.ensures.refused in
     let comes : (before : Heap) → GoesOn before h (snapshot_of c.args.build.now) →
     ComesTo before (give_back (snapshot_of c.step.new.self).candidates h) (Abandoned ∷ []) refused =
@@ -32,7 +32,7 @@ nodes-preserved c =
     let s = c.in_ok-step.field-0 in
     let goes : s ≢ Complete = ⊎_elim (traversed-goes_on s) (gone-goes_on s) c.in-Traversed.is in
     record {
-      goes_on = λ before start. GoesOn-node before c.args.natives.now.heap (snapshot_of c.nodes.build) (snapshot_of c.step.new.self)
+      goes_on = λ before start. GoesOn-node before c.args.heaps.now.heap (snapshot_of c.nodes.build) (snapshot_of c.step.new.self)
           (c.nodes.invariant.goes_on before start) (c.in_ok-step.ensures.unit goes);
       built = c.step.ensures.built;
       held = c.step.ensures.held;

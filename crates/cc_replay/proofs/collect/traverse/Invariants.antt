@@ -1,4 +1,4 @@
-use Rattle.std.proofs.Common.{◌-◌}
+use Rattle.std.proofs.Common.{◌+◌, ◌-◌, length}
 use Rattle.cc_model.specs.Heap.{Heap}
 use Rattle.cc_replay.specs.Building.{IsBuilt, AreHeld, snapshot_of}
 use Rattle.cc_replay.specs.Collected.{GoesOn}
@@ -6,10 +6,10 @@ use Rattle.cc_replay.proofs.collect.traverse.Given as goal
 
 abbrev pub invariant-nodes : goal.invariant-nodes
 invariant-nodes l = record {
-  goes_on : (before : Heap) → GoesOn before l.natives.heap (snapshot_of l.fn.build) → GoesOn before l.natives.heap (snapshot_of l.build);
-  built : IsBuilt l.build l.natives;
-  held : AreHeld l.build.graph l.natives;
+  goes_on : (before : Heap) → GoesOn before l.heaps.heap (snapshot_of l.fn.build) → GoesOn before l.heaps.heap (snapshot_of l.build);
+  built : IsBuilt l.build l.heaps;
+  held : AreHeld l.build.graph l.heaps;
 }
 
 abbrev pub decreases-nodes : goal.decreases-nodes
-decreases-nodes l = l.natives.heap.natives_made - l.build.next
+decreases-nodes l = l.heaps.heap.natives_made + length l.heaps.heap.scripts - l.build.next

@@ -1,6 +1,6 @@
 use Rattle.std.proofs.Common.{◌∙◌}
 use Rattle.cc_counted.specs.Counts as counts
-use Rattle.cc_replay.proofs.NextWhite.{number_after-above}
+use Rattle.cc_heaps.proofs.NextHolder.{number_after-above}
 use Rattle.cc_replay.proofs.ends.following.Goals as goal
 
 pub returns-in-Some-clause-number : goal.returns-in-Some-clause-number

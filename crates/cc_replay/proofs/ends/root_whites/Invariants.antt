@@ -5,8 +5,8 @@ use Rattle.cc_replay.proofs.ends.root_whites.Given as goal
 
 abbrev pub invariant-loop-next : goal.invariant-loop-next
 invariant-loop-next l = record {
-  steps : IsRooting l.graph l.fn.natives l.natives l.next;
+  steps : IsRooting l.graph l.fn.heaps l.heaps l.next;
 }
 
 abbrev pub decreases-loop-next : goal.decreases-loop-next
-decreases-loop-next l = length (whites_from l.graph l.natives l.next)
+decreases-loop-next l = length (whites_from l.graph l.heaps l.next)

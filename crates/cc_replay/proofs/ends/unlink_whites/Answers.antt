@@ -3,19 +3,19 @@ use Rattle.cc_replay.proofs.ends.unlink_whites.Goals as goal
 
 pub loop-next-init : goal.loop-next-init
 loop-next-init g c = record {
-  steps = IsUnlinking-start c.args.graph.now c.args.natives.now c.next_white-next.result (g.N.Notices.telling c.args.out.now) c.requires.order
+  steps = IsUnlinking-start c.args.graph.now c.args.heaps.now c.next_white-next.result (g.N.Notices.telling c.args.out.now) c.requires.order
       c.next_white-next.ensures.number c.next_white-next.ensures.live;
 }
 
 pub unlink-requires-clause-owned : goal.unlink-requires-clause-owned
 unlink-requires-clause-owned g c =
-    IsUnlinking-owned c.args.graph.now c.args.natives.now c.loop-next.natives c.in-Some.key (g.N.Notices.telling c.args.out.now)
+    IsUnlinking-owned c.args.graph.now c.args.heaps.now c.loop-next.heaps c.in-Some.key (g.N.Notices.telling c.args.out.now)
     (g.N.Notices.telling c.loop-next.out) (rw c.in-Some.is at c.loop-next.invariant.steps)
 
 pub loop-next-smaller : goal.loop-next-smaller
 loop-next-smaller g c =
     let telling = g.N.Notices.telling in
-    rw c.in-Some.is ((IsUnlinking-next c.args.graph.now c.args.natives.now c.loop-next.natives c.in-Some.key (telling c.args.out.now) (telling c.loop-next.out)
+    rw c.in-Some.is ((IsUnlinking-next c.args.graph.now c.args.heaps.now c.loop-next.heaps c.in-Some.key (telling c.args.out.now) (telling c.loop-next.out)
     (rw c.in-Some.is at c.loop-next.invariant.steps) c.next_white-next-in-Some.result c.next_white-next-in-Some.ensures.number
     c.next_white-next-in-Some.ensures.live c.unlink.new.self (telling c.unlink.new.out) c.unlink.ensures.heap c.unlink.ensures.told c.unlink.ensures.order).1)
 
@@ -23,7 +23,7 @@ pub loop-next-preserved : goal.loop-next-preserved
 loop-next-preserved g c =
     let telling = g.N.Notices.telling in
     record {
-      steps = (IsUnlinking-next c.args.graph.now c.args.natives.now c.loop-next.natives c.in-Some.key (telling c.args.out.now) (telling c.loop-next.out)
+      steps = (IsUnlinking-next c.args.graph.now c.args.heaps.now c.loop-next.heaps c.in-Some.key (telling c.args.out.now) (telling c.loop-next.out)
           (rw c.in-Some.is at c.loop-next.invariant.steps) c.next_white-next-in-Some.result c.next_white-next-in-Some.ensures.number
           c.next_white-next-in-Some.ensures.live c.unlink.new.self (telling c.unlink.new.out) c.unlink.ensures.heap c.unlink.ensures.told c.unlink.ensures.order).0;
     }

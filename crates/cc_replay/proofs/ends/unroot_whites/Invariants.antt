@@ -5,8 +5,8 @@ use Rattle.cc_replay.proofs.ends.unroot_whites.Given as goal
 
 abbrev pub invariant-loop-next : goal.invariant-loop-next
 invariant-loop-next g l = record {
-  steps : IsUnrooting l.graph l.fn.natives l.natives l.next (g.N.Notices.telling l.fn.out) (g.N.Notices.telling l.out);
+  steps : IsUnrooting l.graph l.fn.heaps l.heaps l.next (g.N.Notices.telling l.fn.out) (g.N.Notices.telling l.out);
 }
 
 abbrev pub decreases-loop-next : goal.decreases-loop-next
-decreases-loop-next g l = length (whites_from l.graph l.natives l.next)
+decreases-loop-next g l = length (whites_from l.graph l.heaps l.next)

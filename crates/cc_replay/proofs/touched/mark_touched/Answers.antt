@@ -1,20 +1,19 @@
 use Rattle.std.specs.Prelude.{slice_get}
 use Rattle.std.proofs.Common.{Some, option_map, sym, ◌∙◌, ap, subst, arith}
-use Rattle.cc_lists.specs.Members.{has}
-use Rattle.cc_names.specs.Names.{same_name}
 use Rattle.cc_model.specs.View.{view}
 use Rattle.cc_graph.specs.Shown.{Shown}
 use Rattle.cc_replay.specs.Building.{AreHeld}
+use Rattle.cc_replay.specs.Blackness.{is_touched}
 use Rattle.cc_replay.proofs.MarkedNodes.{marked-black, marked-other, marked-all}
 use Rattle.cc_replay.proofs.touched.mark_touched.Goals as goal
 use Rattle.cc_replay.proofs.touched.mark_touched.Goals.{then-is_touched, else-is_touched}
 
 pub is_touched-requires-clause-held : goal.is_touched-requires-clause-held
-is_touched-requires-clause-held c = subst (λ (z : Shown). AreHeld z c.args.natives.now) (sym c.loop-i.invariant.rest) c.requires.held
+is_touched-requires-clause-held c = subst (λ (z : Shown). AreHeld z c.args.heaps.now) (sym c.loop-i.invariant.rest) c.requires.held
 
 pub loop-i-preserved : goal.loop-i-preserved
 loop-i-preserved c =
-    let same = ap (λ (z : Shown). option_map (λ v. has same_name (view c.args.natives.now.heap).buffer v.name) (slice_get z.nodes c.loop-i.i)) c.loop-i.invariant.rest in
+    let same = ap (λ (z : Shown). option_map (λ v. is_touched (view c.args.heaps.now.heap) v.name) (slice_get z.nodes c.loop-i.i)) c.loop-i.invariant.rest in
     let test = sym same ∙ c.is_touched.ensures in
     elim c.if-is_touched.branch [
       | then-is_touched w ↦ marked-black _ c.args.graph.now c.loop-i.graph c.if-is_touched.graph c.loop-i.i c.loop-i.invariant

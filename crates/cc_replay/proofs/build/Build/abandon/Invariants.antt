@@ -1,14 +1,14 @@
 use Rattle.std.proofs.Common.{◌≡◌, []}
 use Rattle.cc_model.specs.End.{give_back}
-use Rattle.cc_replay.specs.Keyed.{IsInOrder, changed_to}
+use Rattle.cc_heaps.specs.Keyed.{IsInOrder, changed_to}
 use Rattle.cc_replay.specs.Building.{AreHeld, IsBuilt}
 use Rattle.cc_replay.proofs.GivingBack.{left_to_give}
 use Rattle.cc_replay.proofs.build.Build.abandon.Given as goal
 
 abbrev pub invariant-loop-i : goal.invariant-loop-i
 invariant-loop-i l = record {
-  left : changed_to l.natives (give_back (left_to_give l.fn.self l.i) l.natives.heap) ≡ changed_to l.fn.natives (give_back (left_to_give l.fn.self 0) l.fn.natives.heap);
-  built : IsBuilt l.fn.self l.natives;
-  held : AreHeld l.fn.self.graph l.natives;
-  order : IsInOrder [] l.natives;
+  left : changed_to l.heaps (give_back (left_to_give l.fn.self l.i) l.heaps.heap) ≡ changed_to l.fn.heaps (give_back (left_to_give l.fn.self 0) l.fn.heaps.heap);
+  built : IsBuilt l.fn.self l.heaps;
+  held : AreHeld l.fn.self.graph l.heaps;
+  order : IsInOrder [] l.heaps;
 }

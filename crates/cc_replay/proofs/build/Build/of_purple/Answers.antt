@@ -3,18 +3,18 @@ use Rattle.cc_lists.specs.Members.{with_all_last}
 use Rattle.cc_lists.proofs.KnownBytes.{on_err_of}
 use Rattle.cc_names.specs.declared.number.NKey.{NKey}
 use Rattle.cc_names.specs.Names.{same_name}
-use Rattle.cc_replay.specs.Keyed.{the_number}
+use Rattle.cc_heaps.specs.Keyed.{the_number}
 use Rattle.cc_counted.specs.Suspects.{number_behind}
 use Rattle.cc_replay.specs.Building.{Built, AreHeld, IsBuilt, names_of}
 use Rattle.cc_replay.proofs.BufferWalks.{buffer_from, purple_names, after-there}
 use Rattle.cc_replay.proofs.BuildKept.{built_of}
 use Rattle.cc_replay.proofs.BuildWalks.{is-at, read-next, read-live, read-there, turn-names, turn-shorter, turn-purple, left_from}
-use Rattle.cc_replay.proofs.Begun.{first-some_are, snapshot-begun, IsBuilt-all}
+use Rattle.cc_replay.proofs.Begun.{first-some_are, IsBuilt-all}
 use Rattle.cc_replay.proofs.build.Build.of_purple.Goals as goal
 
 pub returns-in_err-add_purple-clause-refused : goal.returns-in_err-add_purple-clause-refused
 returns-in_err-add_purple-clause-refused c =
-    let v = c.args.natives.now in
+    let v = c.args.heaps.now in
     let l = c.buffer.invariant in
     let key = c.in-Some.key in
     let xs = names_of c.buffer.build.graph.nodes in
@@ -26,7 +26,7 @@ returns-in_err-add_purple-clause-refused c =
 
 pub buffer-smaller : goal.buffer-smaller
 buffer-smaller c =
-    let v = c.args.natives.now in
+    let v = c.args.heaps.now in
     let l = c.buffer.invariant in
     let i = is-at v c.buffer.suspect c.in-Some.key c.in-Some.is l.live l.there in
     turn-shorter v c.buffer.suspect c.next_in_buffer-suspect.result c.in-Some.key c.requires.order i
@@ -34,7 +34,7 @@ buffer-smaller c =
 
 pub buffer-preserved : goal.buffer-preserved
 buffer-preserved c =
-    let v = c.args.natives.now in
+    let v = c.args.heaps.now in
     let l = c.buffer.invariant in
     let r = c.next_in_buffer-suspect.result in
     let d = c.counted-counted.result.now in
@@ -54,25 +54,28 @@ buffer-preserved c =
       held = c.in_ok-add_purple.ensures.held;
     }
 
-pub returns-clause-snapshot : goal.returns-clause-snapshot
-returns-clause-snapshot c =
-    let v = c.args.natives.now in
-    let l = c.buffer.invariant in
+pub returns-clause-names : goal.returns-clause-names
+returns-clause-names c =
+    let v = c.args.heaps.now in
     let b = c.buffer.build in
     let names : names_of b.graph.nodes ≡ with_all_last same_name [] (purple_names v.heap.buffer) =
-    subst (λ (o : Option NKey). with_all_last same_name (names_of b.graph.nodes) (left_from v o) ≡ with_all_last same_name [] (purple_names v.heap.buffer)) c.in_default.is l.names in
-    let is = c.build-2.view_is in
-    snapshot-begun (built_of c.build-2.inside.graph c.len.result c.build-2.inside.next) v c.requires.order
-    (ap (λ (a : Built). names_of a.graph.nodes) is ∙ names)
-    (ap (λ (a : Built). a.next) is ∙ l.next)
-    (c.len.ensures ∙ ap (λ (a : Built). length a.graph.nodes) (sym is))
-    (ap (λ (a : Built). a.graph.edges) is ∙ l.edges)
+    subst (λ (o : Option NKey). with_all_last same_name (names_of b.graph.nodes) (left_from v o) ≡ with_all_last same_name [] (purple_names v.heap.buffer)) c.in_default.is c.buffer.invariant.names in
+    ap (λ (a : Built). names_of a.graph.nodes) c.build-2.view_is ∙ names
+
+pub returns-clause-edges : goal.returns-clause-edges
+returns-clause-edges c = ap (λ (a : Built). a.graph.edges) c.build-2.view_is ∙ c.buffer.invariant.edges
+
+pub returns-clause-next : goal.returns-clause-next
+returns-clause-next c = ap (λ (a : Built). a.next) c.build-2.view_is ∙ c.buffer.invariant.next
+
+pub returns-clause-candidates : goal.returns-clause-candidates
+returns-clause-candidates c = c.len.ensures ∙ ap (λ (a : Built). length a.graph.nodes) (sym c.build-2.view_is)
 
 pub returns-clause-built : goal.returns-clause-built
 returns-clause-built c =
-    let v = c.args.natives.now in
+    let v = c.args.heaps.now in
     IsBuilt-all (built_of c.build-2.inside.graph c.build-2.inside.candidates c.build-2.inside.next) v c.len.result (c.len.ensures ∙ ap (λ (a : Built). length a.graph.nodes) (sym c.build-2.view_is))
     (subst (λ a. IsBuilt a v) (sym c.build-2.view_is) c.buffer.invariant.built)
 
 pub returns-clause-held : goal.returns-clause-held
-returns-clause-held c = subst (λ (a : Built). AreHeld a.graph c.args.natives.now) (sym c.build-2.view_is) c.buffer.invariant.held
+returns-clause-held c = subst (λ (a : Built). AreHeld a.graph c.args.heaps.now) (sym c.build-2.view_is) c.buffer.invariant.held

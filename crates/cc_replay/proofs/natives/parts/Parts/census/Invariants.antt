@@ -1,9 +1,0 @@
-use Rattle.std.proofs.Common.{◌-◌, length}
-use Rattle.cc_replay.proofs.Listing.{Kept}
-use Rattle.cc_replay.proofs.natives.parts.Parts.census.Given as goal
-
-abbrev pub invariant-loop-at : goal.invariant-loop-at
-invariant-loop-at g l = Kept l.self.counted l.at l.count (g.N.Notices.telling l.initial.out) (g.N.Notices.telling l.out)
-
-abbrev pub decreases-loop-at : goal.decreases-loop-at
-decreases-loop-at g l = length l.self.counted.natives - l.count
