@@ -8,12 +8,12 @@ Build the program first (it stays as crates/ccreplay/out/ccreplay), and then nam
 
 CCREPLAY names another program. RUNS is how often each script is run (7 if left out); the quickest run counts.
 
-A shape is a script in two parts: the first builds N natives, and the second, its last lines, has them collected (or
-traversed, where they are live). The whole script is timed, and the first part alone. Columns:
+A shape is a script in two parts: the first builds N objects, and the second, its last lines, has them collected, swept,
+or traversed, where they are live. The whole script is timed, and the first part alone. Columns:
 
     seconds       the whole script, from the program's start to its end, with the output written to a file
     commands/s    the script's lines by those seconds
-    ns/object     the second part alone (the difference of the two times), by the N natives
+    ns/object     the second part alone (the difference of the two times), by the N objects
     growth        the time of each size by that of the least size, of the whole script and of the second part
 
 Each run's output is checked before it counts: status 0, one reply a line, none of them a refusal, and as many `- free`
@@ -83,12 +83,21 @@ def live_chain(size):
     return Shape(build, ["collect"], 0, 0)
 
 
+def script_ring(size):
+    """One ring of script objects, which nothing holds: one script collection sweeps it."""
+    lines = ["script s0 1", "copy s1 s0"]
+    for _ in range(1, size):
+        lines += ["script s2 1", "put s2 0 s1", "copy s1 s2"]
+    return Shape(lines + ["put s0 0 s1", "drop s0", "drop s1", "drop s2"], ["gc"], size, 0)
+
+
 SHAPES = [
     ("chain, dropped", dropped_chain),
     ("one ring, collected", ring),
     ("cycles of two, collected", pairs),
     ("chain from a cycle, collected", chain_from_pair),
     ("live chain, traversed", live_chain),
+    ("ring of script objects, swept", script_ring),
 ]
 
 
@@ -138,7 +147,7 @@ def main():
         sys.exit("bench: sizes are even, and at least 4")
     if not os.access(PROGRAM, os.X_OK):
         sys.exit(f"bench: there is no program {PROGRAM}: build it, or name one in CCREPLAY")
-    print("| shape | natives | commands | seconds | commands/s | ns/object | growth, whole | growth, second part |")
+    print("| shape | objects | commands | seconds | commands/s | ns/object | growth, whole | growth, second part |")
     print("|---|---:|---:|---:|---:|---:|---:|---:|")
     with tempfile.TemporaryDirectory(prefix="ccreplay-bench-") as folder:
         for name, made in SHAPES:
