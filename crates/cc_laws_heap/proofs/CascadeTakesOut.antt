@@ -1,81 +1,20 @@
 -- WHAT A CASCADE TAKES OUT, whatever the counts: what it tells is gone, and nothing else of what the graph sees changes.
-use Rattle.std.proofs.Common.{◌≡◌, ℕ, zero, suc, Bool, false, not, List, [], ◌∷◌, ◌++◌, map, length, Option, Some, None, refl, sym, ◌∙◌, ap, subst, ◌==◌}
+use Rattle.std.proofs.Common.{◌≡◌, ℕ, zero, suc, false, List, [], ◌∷◌, ◌++◌, map, length, Option, Some, None, sym, ◌∙◌, ap, subst, ◌==◌}
 use Rattle.std.specs.List.{filter}
-use Rattle.std.proofs.Math.Path.{fun_ext}
 use Rattle.std.proofs.lemmas.Bool.{true≢false, not-true}
-use Rattle.std.proofs.lemmas.List.{map-append}
 use Rattle.cc_lists.specs.Members.{Among, has}
 use Rattle.cc_lists.proofs.Members.{Among-map, Among-map_cases, Among-passes, has-there}
 use Rattle.cc_names.specs.declared.name.Name.{Name}
 use Rattle.cc_names.specs.declared.name.Name.TheVariants as name
 use Rattle.cc_names.specs.Names.{native, number_of}
 use Rattle.cc_model.specs.declared.item.Event.TheVariants.{Freed}
-use Rattle.cc_model.specs.Heap.{Heap, HeapNative, Outcome, native_at, silently}
-use Rattle.cc_model.specs.Cascade.{Draining, give_up, give_up_each, natives_of_slots, told_free, free_front, drain, drained, at_rest, cascade, let_go}
+use Rattle.cc_model.specs.Heap.{Heap, HeapNative, Outcome}
+use Rattle.cc_model.specs.Cascade.{Draining, give_up, free_front, drain, drained, at_rest, cascade, let_go}
 use Rattle.cc_model.specs.WellFormed.{native_names}
-use Rattle.cc_laws_heap.specs.Freeing.{Uncounted, uncounted, is_none_of, SameBeside}
-use Rattle.cc_lists.proofs.Searching.{filter-true, filter-map, filter-filter}
+use Rattle.cc_laws_heap.specs.Freeing.{uncounted, is_none_of}
 use Rattle.cc_lists.proofs.Numbers.{number-exact}
-use Rattle.cc_laws_heap.proofs.Beside.{SameBeside-refl, SameBeside-trans}
-use Rattle.cc_laws_heap.proofs.DrainingAlike.{IsAlike, IsAlike-give_up, IsAlike-give_up_each}
-use Rattle.cc_laws_heap.proofs.Freed.{outcome, freed_event, is_none_of-push}
-
--- the natives `ks` are told and taken out, and nothing changes beside them but counts and the buffer
-pub record TakesOut (h : Heap) (ks : List ℕ) (o : Outcome) : Type 0 where
-  pub told : o.events ≡ map freed_event ks
-  pub natives : map uncounted o.heap.natives ≡ filter (is_none_of ks) (map uncounted h.natives)
-  pub beside : SameBeside h o.heap
-
--- heaps left as they are
-pub TakesOut-silently : (h : Heap) → TakesOut h [] (silently h)
-TakesOut-silently h = record {
-  told = refl;
-  natives = sym (filter-true (is_none_of []) (map uncounted h.natives) (λ u. refl));
-  beside = SameBeside-refl h;
-}
-
--- alike heaps have taken out the same
-TakesOut-alike : (h : Heap) (ks : List ℕ) (d e : Draining) → IsAlike d e → TakesOut h ks (outcome d) → TakesOut h ks (outcome e)
-TakesOut-alike h ks d e a f = record {
-  told = a.events ∙ f.told;
-  natives = a.natives ∙ f.natives;
-  beside = SameBeside-trans h d.heap e.heap f.beside a.beside;
-}
-
--- the front of the queue is one more
-TakesOut-free_front : (h : Heap) (told : List ℕ) (d : Draining) (k : ℕ) (ks : List ℕ) → TakesOut h told (outcome d) → TakesOut h (told ++ k ∷ []) (outcome (free_front d k ks))
-TakesOut-free_front h told d k ks f = record {
-  told = a.events ∙ (ap (λ es. es ++ freed_event k ∷ []) f.told ∙ sym (map-append freed_event told (k ∷ [])));
-  natives =
-      sym (filter-map others uncounted after.heap.natives)
-      ∙ (ap (filter others) (a.natives ∙ f.natives)
-      ∙ (filter-filter others (is_none_of told) (map uncounted h.natives)
-      ∙ ap (λ p. filter p (map uncounted h.natives)) (fun_ext (λ u. sym (is_none_of-push told k u)))));
-  beside = SameBeside-trans h d.heap (free_front d k ks).heap f.beside beside;
-}
-  where
-    others : Uncounted → Bool
-    others u = not (u.number == k)
-
-    held : List ℕ
-    held = natives_of_slots (native_at d.heap k)
-
-    after : Draining
-    after = give_up_each (told_free d k ks) held
-
-    a : IsAlike (told_free d k ks) after
-    a = IsAlike-give_up_each (told_free d k ks) held
-
-    beside : SameBeside d.heap (free_front d k ks).heap
-    beside = record {
-      native_registers = a.beside.native_registers;
-      script_registers = a.beside.script_registers;
-      scripts = a.beside.scripts;
-      entries = a.beside.entries;
-      natives_made = a.beside.natives_made;
-      scripts_made = a.beside.scripts_made;
-      limits = a.beside.limits;
-    }
+use Rattle.cc_laws_heap.proofs.DrainingAlike.{IsAlike-give_up}
+use Rattle.cc_laws_heap.proofs.Freed.{outcome, freed_event, TakesOut-silently, TakesOut-alike, TakesOut-free_front, TakesOut}
 
 -- a drain takes out what it tells
 TakesOut-drain : (n : ℕ) (d : Draining) (h : Heap) (told : List ℕ) → TakesOut h told (outcome d) → (ks : List ℕ) × TakesOut h ks (outcome (drain n d))
@@ -95,12 +34,7 @@ TakesOut-drain (suc n) d h told f = go (TakesOut-drain n) d.queue
 pub TakesOut-cascade : (h : Heap) (k : ℕ) → (ks : List ℕ) × TakesOut h ks (cascade h k)
 unfolding drained
 TakesOut-cascade h k = TakesOut-drain (length h.natives) (give_up (at_rest h) k) h []
-    (TakesOut-alike h [] (at_rest h) (give_up (at_rest h) k) (IsAlike-give_up (at_rest h) k)
-    (record {
-      told = refl;
-      natives = sym (filter-true (is_none_of []) (map uncounted h.natives) (λ u. refl));
-      beside = SameBeside-refl h;
-    }))
+    (TakesOut-alike h [] (at_rest h) (give_up (at_rest h) k) (IsAlike-give_up (at_rest h) k) (TakesOut-silently h))
 
 -- and what giving up what a register or a slot held
 pub TakesOut-let_go : (h : Heap) (x : Option Name) → (ks : List ℕ) × TakesOut h ks (let_go h x)
@@ -114,7 +48,7 @@ abbrev pub TellsWhatIsGone : Outcome → Type 0
 TellsWhatIsGone o = (x : Name) → Among (Freed x) o.events → ((k : ℕ) × (native k ≡ x)) × (¬ (Among x (native_names o.heap)))
 
 -- what is told is gone
-pub TakesOut-gone : (h : Heap) (ks : List ℕ) (o : Outcome) → TakesOut h ks o → TellsWhatIsGone o
+TakesOut-gone : (h : Heap) (ks : List ℕ) (o : Outcome) → TakesOut h ks o → TellsWhatIsGone o
 TakesOut-gone h ks o t x m =
     let f = Among-map_cases freed_event ks (Freed x) (subst (Among (Freed x)) t.told m) in
     let named : native f.0 ≡ x = cc in

@@ -59,15 +59,16 @@ collect_scripts-colours h = let g = collect_scripts-marked h in subst HasColours
 pub collect_scripts-unmarked : (h : Heap) → unmarked (collect_scripts h).heap ≡ []
 collect_scripts-unmarked h = let g = collect_scripts-marked h in ap unmarked g.1 ∙ g.2
 
-module _ (h : Heap) (c : HasColours h) (none : unmarked h ≡ []) where
+module _ (h : Heap) (c : HasColours h) where
   -- a black script object is black by the rules
-  black-is : (o : HeapScript) → Among o h.scripts → o.colour ≡ Black → IsBlack h o.name
+  pub black-is : (o : HeapScript) → Among o h.scripts → o.colour ≡ Black → IsBlack h o.name
   black-is o m e = (black-decided h o.name).0 (colour_of-black (has same_name (black_names h) o.name) (has same_name (marked_names h) o.name) (sym (c o m) ∙ e))
 
   -- and what is black by the rules is black
-  is-black : (o : HeapScript) → Among o h.scripts → IsBlack h o.name → o.colour ≡ Black
+  pub is-black : (o : HeapScript) → Among o h.scripts → IsBlack h o.name → o.colour ≡ Black
   is-black o m d = c o m ∙ ap (λ b. colour_of b (has same_name (marked_names h) o.name)) ((black-decided h o.name).1 d)
 
+module _ (h : Heap) (c : HasColours h) (none : unmarked h ≡ []) where
   -- where nothing is unmarked no script object is white
   none-white : (o : HeapScript) → Among o h.scripts → o.colour ≢ White
   none-white o m e = subst (Among o.name) none
@@ -75,10 +76,10 @@ module _ (h : Heap) (c : HasColours h) (none : unmarked h ≡ []) where
       (Among-filter (λ (p : HeapScript). is_white_colour p.colour) o h.scripts m (ap is_white_colour e)))
 
   -- Colours of marking, none of them white, keep the colour invariant.
-  pub IsColoured-colours : IsColoured h
+  IsColoured-colours : IsColoured h
   IsColoured-colours = record {
-    black_to_black = λ o p m n e i. is-black p n (black-slot h o p.name m i (black-is o m e));
-    held_black = λ o m i. is-black o m (black-register h o.name i);
+    black_to_black = λ o p m n e i. is-black h c p n (black-slot h o p.name m i (black-is h c o m e));
+    held_black = λ o m i. is-black h c o m (black-register h o.name i);
     none_white = none-white;
   }
 

@@ -1,22 +1,23 @@
 -- THE COLOUR INVARIANT by script objects: it speaks of script objects and script registers alone.
-use Rattle.std.proofs.Common.{◌≡◌, ◌≢◌, ◌≤◌, Bool, true, false, List, [], ◌∷◌, map, refl, sym, ◌∙◌, ap, subst, inl, inr, ◌⊎◌, ⊎_elim}
+use Rattle.std.proofs.Common.{◌≡◌, ◌≢◌, ◌≤◌, Bool, true, false, List, [], ◌∷◌, map, refl, sym, ◌∙◌, ap, subst, inl, inr, ⊎_elim}
 use Rattle.std.specs.List.{filter, flat_map}
-use Rattle.std.proofs.lemmas.Bool.{true≢false, false≢true}
+use Rattle.std.proofs.lemmas.Bool.{false≢true}
 use Rattle.cc_lists.specs.Members.{Among}
 use Rattle.cc_lists.proofs.Members.{Among-map, Among-map_cases, Among-left, Among-right, Among-append, Among-filter, Among-filtered, Among-passes, Among-flat_map, Among-flat_map_cases}
 use Rattle.cc_lists.proofs.Counting.{count_by-map}
 use Rattle.cc_names.specs.declared.name.Name.{Name}
-use Rattle.cc_names.specs.declared.name.Name.TheVariants as name
 use Rattle.cc_names.specs.declared.kind.Colour.{Colour}
 use Rattle.cc_names.specs.declared.kind.Colour.TheVariants.{White, Gray, Black}
-use Rattle.cc_names.specs.Names.{native, reflector, same_name, is_script, behind}
+use Rattle.cc_names.specs.Names.{native, same_name, is_script, behind}
 use Rattle.cc_names.proofs.NameTests.{same_name-refl}
 use Rattle.cc_model.specs.Slots.{Slots, contents, from_to}
 use Rattle.cc_model.specs.Heap.{Heap, HeapNative, HeapScript, is_white_colour, is_gray_colour, is_black_colour}
-use Rattle.cc_model.specs.View.{view, names_with, slot_edges, preserved_edge, native_edges, script_slot_edges, script_edges}
+use Rattle.cc_model.specs.View.{view, names_with, native_edges, script_slot_edges, script_edges}
 use Rattle.cc_model.specs.Colours.{HasColourInvariant}
-use Rattle.cc_model.specs.WellFormed.{IsWellFormed, FitsName}
+use Rattle.cc_model.specs.WellFormed.{IsWellFormed}
 use Rattle.cc_lists.proofs.ListWrites.{only-member}
+use Rattle.cc_laws_heap.proofs.ViewEdges.{native_edges-are, script_edges-are}
+use Rattle.cc_laws_heap.proofs.ScriptNames.{script-named}
 
 -- what black ones have in slots is black, script registers hold black ones, none is white
 pub record AreColoured (scripts : List HeapScript) (registers : Slots) : Type 0 where
@@ -37,7 +38,7 @@ black-left Gray w g = absurd (g refl)
 black-left Black w g = refl
 
 -- the test of black tells black
-is_black-true : (c : Colour) → is_black_colour c ≡ true → c ≡ Black
+pub is_black-true : (c : Colour) → is_black_colour c ≡ true → c ≡ Black
 is_black-true White e = absurd (false≢true e)
 is_black-true Gray e = absurd (false≢true e)
 is_black-true Black e = refl
@@ -57,15 +58,15 @@ is_white-false Black w = refl
 -- Script objects and their names
 
 -- whether a script object is white
-abbrev is_white : HeapScript → Bool
+abbrev pub is_white : HeapScript → Bool
 is_white o = is_white_colour o.colour
 
 -- whether it is gray
-abbrev is_gray : HeapScript → Bool
+abbrev pub is_gray : HeapScript → Bool
 is_gray o = is_gray_colour o.colour
 
 -- whether it is black
-abbrev is_black : HeapScript → Bool
+abbrev pub is_black : HeapScript → Bool
 is_black o = is_black_colour o.colour
 
 -- the name of an object of a colour stands among those of the colour
@@ -85,17 +86,8 @@ filter-nothing : {X : Type 0} (p : X → Bool) (xs : List X) → ((x : X) → Am
 filter-nothing p [] h = refl
 filter-nothing p (x ∷ xs) h = rw (h x (inl refl)) (filter-nothing p xs (λ y m. h y (inr m)))
 
--- a script object's name is no native's
-script-name : (h : Heap) (o : HeapScript) → IsWellFormed h → Among o h.scripts → is_script o.name ≡ true
-script-name h o w m = go o.name (w.kinds o m)
-  where
-    go : (x : Name) → FitsName x o.kind o.slots → is_script x ≡ true
-    go (name.Native k) f = absurd f
-    go (name.Script k) f = refl
-    go (name.Reflector k) f = refl
-
 -- script objects of one name are one
-one-script : (h : Heap) (o p : HeapScript) → IsWellFormed h → Among o h.scripts → Among p h.scripts → p.name ≡ o.name → p ≡ o
+pub one-script : (h : Heap) (o p : HeapScript) → IsWellFormed h → Among o h.scripts → Among p h.scripts → p.name ≡ o.name → p ≡ o
 one-script h o p w m n e = only-member (λ (q : HeapScript). same_name o.name q.name) h.scripts p o
     (subst (λ c. c ≤ 1) (count_by-map (same_name o.name) (λ (q : HeapScript). q.name) h.scripts) (w.distinct o.name))
     n (rw e (same_name-refl o.name)) m (same_name-refl o.name)
@@ -122,7 +114,7 @@ module _ (h : Heap) (w : IsWellFormed h) (c : HasColourInvariant (view h)) where
         (names_with-there is_gray h.scripts p n (rw g refl)));
     held_black = λ o m i.
         let black : Among o.name (view h).black =
-        c.held_black o.name (Among-right o.name (contents h.native_registers) (contents h.script_registers) i) (script-name h o w m) in
+        c.held_black o.name (Among-right o.name (contents h.native_registers) (contents h.script_registers) i) (script-named h w o m) in
         let f = names_with-is is_black h.scripts o.name black in
         subst (λ (q : HeapScript). q.colour ≡ Black) (one-script h o f.0 w m f.1 f.3) (is_black-true f.0.colour f.2);
     none_white = none-white;
@@ -131,27 +123,6 @@ module _ (h : Heap) (w : IsWellFormed h) (c : HasColourInvariant (view h)) where
 -- To the view
 
 module _ (h : Heap) (w : IsWellFormed h) (c : IsColoured h) where
-  -- an edge of a native starts at its name
-  native_edges-from : (n : HeapNative) (x y : Name) → Among (x, y) (native_edges n) → native n.number ≡ x
-  native_edges-from n x y m = ⊎_elim
-      (λ l. let f = Among-map_cases (from_to (native n.number)) (contents n.slots) (x, y) l in ap (λ (e : Name × Name). e.0) f.2)
-      (λ r. go n.preserved r)
-      (Among-append (x, y) (slot_edges (native n.number) n.slots) (preserved_edge n) m)
-    where
-      go : (b : Bool) → Among (x, y) (elim b [ true ↦ from_to (native n.number) (reflector n.number) ∷ [] | false ↦ [] ]) → native n.number ≡ x
-      go true i = ⊎_elim (λ e. ap (λ (z : Name × Name). z.0) e) (λ t. absurd t) i
-      go false i = absurd i
-
-  -- an edge of a script object leads to what it has in a slot, or to a native
-  script_edges-to : (o : HeapScript) (x y : Name) → Among (x, y) (script_edges o) →
-      (o.name ≡ x) × (Among y (contents o.slots) ⊎ (is_script y ≡ false))
-  script_edges-to o x y m = ⊎_elim
-      (λ l. let f = Among-map_cases (from_to o.name) (contents o.slots) (x, y) l in
-      (ap (λ (e : Name × Name). e.0) f.2, inl (subst (λ z. Among z (contents o.slots)) (ap (λ (e : Name × Name). e.1) f.2) f.1)))
-      (λ r. let f = Among-map_cases (λ k. from_to o.name (native k)) (behind o.name) (x, y) r in
-      (ap (λ (e : Name × Name). e.0) f.2, inr (subst (λ z. is_script z ≡ false) (ap (λ (e : Name × Name). e.1) f.2) refl)))
-      (Among-append (x, y) (script_slot_edges o) (map (λ k. from_to o.name (native k)) (behind o.name)) m)
-
   -- no edge leads from a black name to a gray one
   black-edge : (x y : Name) → Among x (view h).black → Among (x, y) (view h).edges → ¬ (Among y (view h).gray)
   black-edge x y b m g =
@@ -159,16 +130,16 @@ module _ (h : Heap) (w : IsWellFormed h) (c : IsColoured h) where
       let p = names_with-is is_gray h.scripts y g in
       ⊎_elim
       (λ l. let n = Among-flat_map_cases native_edges h.natives (x, y) l in
-      let same : native n.0.number ≡ o.0.name = native_edges-from n.0 x y n.2 ∙ sym o.3 in
-      false≢true (subst (λ z. is_script z ≡ true) (sym same) (script-name h o.0 w o.1)))
+      let same : native n.0.number ≡ o.0.name = (native_edges-are n.0 x y n.2).0 ∙ sym o.3 in
+      false≢true (subst (λ z. is_script z ≡ true) (sym same) (script-named h w o.0 o.1)))
       (λ r. let q = Among-flat_map_cases script_edges h.scripts (x, y) r in
-      let f = script_edges-to q.0 x y q.2 in
+      let f = script_edges-are q.0 x y q.2 in
       let same : q.0 ≡ o.0 = one-script h o.0 q.0 w o.1 q.1 (f.0 ∙ sym o.3) in
       ⊎_elim
       (λ i. let here : Among p.0.name (contents o.0.slots) =
       subst (λ z. Among z (contents o.0.slots)) (sym p.3) (subst (λ (z : HeapScript). Among y (contents z.slots)) same i) in
       is_gray-not_black p.0.colour p.2 (c.black_to_black o.0 p.0 o.1 p.1 (is_black-true o.0.colour o.2) here))
-      (λ e. true≢false (sym (subst (λ z. is_script z ≡ true) p.3 (script-name h p.0 w p.1)) ∙ e))
+      (λ e. false≢true (subst (λ z. is_script z ≡ true) (p.3 ∙ sym e.2) (script-named h w p.0 p.1)))
       f.1)
       (Among-append (x, y) (flat_map native_edges h.natives) (flat_map script_edges h.scripts) m)
 

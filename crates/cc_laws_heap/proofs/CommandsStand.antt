@@ -86,7 +86,7 @@ module _ (h : Heap) (g : Graph) (w : IsWellFormed h) (m : IsWellMade g) (s : Sta
   wrap d (Some (name.Reflector k)) r t Q f = absurd (false≢true t)
 
   -- AFTER EACH COMMAND THE HEAPS FOLLOW what it makes of the graph: whatever follows from that, follows.
-  pub effects-follow : (c : Command) (Q : Type 0) → ((P : Name → Type 0) → Follows P (effects h c).heap (changed g c) → Q) → Q
+  effects-follow : (c : Command) (Q : Type 0) → ((P : Name → Type 0) → Follows P (effects h c).heap (changed g c) → Q) → Q
   unfolding effects make_native changed
   effects-follow (Native d n) Q f = f (λ z. Reached g z ⊎ (next_native g ≡ z))
       (Follows-put (λ z. Reached g z ⊎ (next_native g ≡ z)) (effects_of.with_native h n) (graph.with_native g n) d

@@ -1,21 +1,17 @@
 -- NO COUNT IS GREAT: 256 registers, a million natives with 64 slots each, one reflector, and what is owned.
-use Rattle.std.proofs.Common.{◌≡◌, ℕ, ◌+◌, ◌*◌, ◌<◌, ◌≤◌, ◌==◌, List, [], ◌∷◌, map, length, Some, None, refl, sym, subst, inl, inr, arith, count_by}
-use Rattle.std.proofs.Math.Path.{fun_ext}
+use Rattle.std.proofs.Common.{ℕ, ◌+◌, ◌*◌, ◌<◌, ◌≤◌, ◌==◌, List, [], ◌∷◌, map, length, Some, None, refl, subst, inl, inr, arith, count_by}
 use Rattle.std.proofs.lemmas.List.{length-map}
 use Rattle.std.proofs.lemmas.List.Sums.{count_by-le-length}
 use Rattle.cc_lists.specs.Members.{Among}
 use Rattle.cc_lists.proofs.Members.{Among-map_cases}
-use Rattle.cc_lists.proofs.Counting.{count_by-map}
-use Rattle.cc_names.specs.declared.name.Name.{Name}
-use Rattle.cc_names.specs.declared.name.Name.TheVariants as name
 use Rattle.cc_names.specs.Names.{native, reflector, same_name}
 use Rattle.cc_model.specs.Slots.{Slots, contents}
-use Rattle.cc_model.specs.Heap.{Heap, HeapNative, HeapScript}
+use Rattle.cc_model.specs.Heap.{Heap, HeapNative}
 use Rattle.cc_model.specs.WellFormed.{IsWellFormed, IsRising}
 use Rattle.cc_model.specs.Counts.{slots_of_natives}
 use Rattle.cc_laws_heap.specs.Sound.{IsSound}
+use Rattle.cc_laws_heap.proofs.ScriptNames.{scripts-once}
 use Rattle.cc_laws_heap.proofs.Rising.{IsRising-tail, IsRising-first}
-use Rattle.cc_lists.proofs.Numbers.{eqb-sym}
 use Rattle.cc_lists.proofs.ListWrites.{length-flat_map_le}
 
 -- so many rising numbers fit between two
@@ -42,17 +38,6 @@ contents-length [] = omega arith
 contents-length (None ∷ slots) = omega (arith, contents-length slots)
 contents-length (Some x ∷ slots) = omega (arith, contents-length slots)
 
--- names are told apart from either side alike
-same_name-sym : (k : ℕ) (x : Name) → same_name x (reflector k) ≡ same_name (reflector k) x
-same_name-sym k (name.Native i) = refl
-same_name-sym k (name.Script i) = refl
-same_name-sym k (name.Reflector i) = eqb-sym i.0 k
-
--- a native has at most one reflector
-one-reflector : (h : Heap) (k : ℕ) → IsWellFormed h → count_by (λ (o : HeapScript). same_name o.name (reflector k)) h.scripts ≤ 1
-one-reflector h k w = subst (λ p. count_by p h.scripts ≤ 1) (fun_ext (λ o. sym (same_name-sym k o.name)))
-    (subst (λ c. c ≤ 1) (count_by-map (same_name (reflector k)) (λ (o : HeapScript). o.name) h.scripts) (w.distinct (reflector k)))
-
 -- Of a million natives none has more than 64000257 references, but for those that are owned.
 pub count-bound : (owned : List ℕ) (h : Heap) (n : HeapNative) → IsSound owned h → h.limits.natives ≤ 1000000 → Among n h.natives →
     n.count ≤ 64000257 + length owned
@@ -70,6 +55,6 @@ count-bound owned h n s few m =
     omega (
       arith,
       s.counts n m,
-      one-reflector h n.number w,
+      scripts-once h w (reflector n.number),
       count_by-le-length (λ j. j == n.number) owned,
     )

@@ -33,7 +33,7 @@ count_at-found h k some = go (native_at h k) refl some
     go (Some n) e s = (n, e)
 
 -- and so is its name
-pub count_at-there : (h : Heap) (k : ℕ) → 1 ≤ count_at h k → Among (native k) (native_names h)
+count_at-there : (h : Heap) (k : ℕ) → 1 ≤ count_at h k → Among (native k) (native_names h)
 count_at-there h k some = let f = count_at-found h k some in native_at-named h k f.0 f.1
 
 -- what is referred to, or owned, has a count
@@ -41,7 +41,7 @@ pub IsCounted-referred : (owned : List ℕ) (h : Heap) → IsCounted owned h →
 IsCounted-referred owned h c k some = count_at-there h k (omega (arith, c k))
 
 -- what is owned is there
-pub IsCounted-owned : (owned : List ℕ) (h : Heap) → IsCounted owned h → (k : ℕ) → 1 ≤ times k owned → Among (native k) (native_names h)
+IsCounted-owned : (owned : List ℕ) (h : Heap) → IsCounted owned h → (k : ℕ) → 1 ≤ times k owned → Among (native k) (native_names h)
 IsCounted-owned owned h c k some = count_at-there h k (omega (arith, c k))
 
 -- in sound heaps every number is counted

@@ -16,11 +16,11 @@ pub record IsAlike (d e : Draining) : Type 0 where
   pub events : e.events ≡ d.events
 
 -- what did not change is alike
-pub IsAlike-refl : (d : Draining) → IsAlike d d
+IsAlike-refl : (d : Draining) → IsAlike d d
 IsAlike-refl d = record { natives = refl; beside = SameBeside-refl d.heap; events = refl }
 
 -- one change after another
-pub IsAlike-trans : (d e f : Draining) → IsAlike d e → IsAlike e f → IsAlike d f
+IsAlike-trans : (d e f : Draining) → IsAlike d e → IsAlike e f → IsAlike d f
 IsAlike-trans d e f a b = record {
   natives = b.natives ∙ a.natives;
   beside = SameBeside-trans d.heap e.heap f.heap a.beside b.beside;

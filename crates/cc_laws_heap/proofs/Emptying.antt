@@ -23,17 +23,17 @@ use Rattle.cc_laws_heap.proofs.Leaving.{Leave, Leave-refl, Leave-trans, Leave-fr
 -- Slots of which those in front are empty
 
 -- there is a place behind the empty ones
-front-room : (i : ℕ) (x : Option Name) (xs : Slots) → i < length (empty_slots i ++ x ∷ xs)
+pub front-room : (i : ℕ) (x : Option Name) (xs : Slots) → i < length (empty_slots i ++ x ∷ xs)
 front-room zero x xs = omega arith
 front-room (suc i) x xs = let rest : i < length (empty_slots i ++ x ∷ xs) = front-room i x xs in omega arith
 
 -- the first behind the empty ones
-front-get : (i : ℕ) (x : Option Name) (xs : Slots) → get_or (empty_slots i ++ x ∷ xs) i None ≡ x
+pub front-get : (i : ℕ) (x : Option Name) (xs : Slots) → get_or (empty_slots i ++ x ∷ xs) i None ≡ x
 front-get zero x xs = refl
 front-get (suc i) x xs = front-get i x xs
 
 -- once it is emptied, one more is empty
-front-set : (i : ℕ) (x : Option Name) (xs : Slots) → set (empty_slots i ++ x ∷ xs) i None ≡ empty_slots (suc i) ++ xs
+pub front-set : (i : ℕ) (x : Option Name) (xs : Slots) → set (empty_slots i ++ x ∷ xs) i None ≡ empty_slots (suc i) ++ xs
 front-set zero x xs = refl
 front-set (suc i) x xs = ap (λ slots. None ∷ slots) (front-set i x xs)
 

@@ -13,7 +13,7 @@ use Rattle.cc_model.specs.Heap.{Heap}
 use Rattle.cc_model.specs.StandsFor.{shape_in, ArePart}
 use Rattle.cc_laws_heap.proofs.EntryLists.{is_entry_of-alike, is_entry_of-own, is_entry_of-parts, is_entry_of-from, found-among, entries_of}
 use Rattle.cc_laws_heap.proofs.GraphParts.{with_entries}
-use Rattle.cc_laws_heap.proofs.ReachedAlike.{ArePart-among}
+use Rattle.cc_laws_heap.proofs.ReachedAlike.{ArePart-among, ArePart-none, ArePart-skip}
 use Rattle.cc_laws_heap.proofs.Following.{AreEntries, Follows}
 use Rattle.cc_laws_heap.proofs.Changing.{unchanged, AreObjects-changed, option_map-same}
 use Rattle.cc_laws_heap.proofs.SlotsWritten.{IsPreserved}
@@ -76,16 +76,6 @@ value_in-without (e ∷ es) m k a b = go (value_in-without es m k a b) (is_entry
         ap (λ o. elim (is_entry_of a b e) as (λ _. Option Name) [ true ↦ Some e.value | false ↦ o ]) after
 
 -- Parts
-
--- nothing is part of any list
-ArePart-none : {X : Type 0} (ys : List X) → ArePart [] ys
-ArePart-none [] = tt
-ArePart-none (y ∷ ys) = tt
-
--- a part of a list is part of a longer one
-ArePart-skip : {X : Type 0} (xs : List X) (y : X) (ys : List X) → ArePart xs ys → ArePart xs (y ∷ ys)
-ArePart-skip [] y ys p = tt
-ArePart-skip (x ∷ xs) y ys p = inr p
 
 -- what passes of a part is part of what passes
 ArePart-filter : {X : Type 0} (p : X → Bool) (xs ys : List X) → ArePart xs ys → ArePart (filter p xs) (filter p ys)

@@ -36,9 +36,9 @@ is_entry_of-alike a b m k e f s t =
 -- An entry set
 
 -- there is that entry, and those before
-pub set-among : (es : List Entry) (m k v : Name) (e : Entry) → Among e (with_entry es m k v) → (entry m k v ≡ e) ⊎ Among e es
-set-among [] m k v e i = ⊎_elim (λ s. inl s) (λ n. absurd n) i
-set-among (f ∷ es) m k v e i = go (set-among es m k v e) (is_entry_of m k f) i
+pub with_entry-cases : (es : List Entry) (m k v : Name) (e : Entry) → Among e (with_entry es m k v) → (entry m k v ≡ e) ⊎ Among e es
+with_entry-cases [] m k v e i = ⊎_elim (λ s. inl s) (λ n. absurd n) i
+with_entry-cases (f ∷ es) m k v e i = go (with_entry-cases es m k v e) (is_entry_of m k f) i
   where
     go : (Among e (with_entry es m k v) → (entry m k v ≡ e) ⊎ Among e es) → (t : Bool) →
         Among e (elim t [ true ↦ entry m k v ∷ es | false ↦ f ∷ with_entry es m k v ]) → (entry m k v ≡ e) ⊎ Among e (f ∷ es)

@@ -5,17 +5,16 @@ use Rattle.std.specs.Prelude.{IsTrue}
 use Rattle.std.specs.Option.{option_and_then}
 use Rattle.cc_lists.specs.Members.{Among}
 use Rattle.cc_names.specs.declared.name.Name.{Name}
-use Rattle.cc_names.specs.declared.name.Name.TheVariants as name
 use Rattle.cc_names.specs.declared.register.Reg.TheVariants.{N, S}
-use Rattle.cc_names.specs.declared.kind.Kind.{Kind}
 use Rattle.cc_names.specs.Names.{native, reflector, is_script}
 use Rattle.cc_model.specs.Slots.{Slots, contents, empty_slots, reflector_slots}
 use Rattle.cc_model.specs.Entries.{Entry, value_in}
 use Rattle.cc_model.specs.Graph.{Graph, GraphNative, native_in}
 use Rattle.cc_model.specs.Reached.{Reached, held, edge, value}
 use Rattle.cc_model.specs.Heap.{Heap, HeapNative, HeapScript}
-use Rattle.cc_model.specs.WellFormed.{IsWellFormed, FitsName}
+use Rattle.cc_model.specs.WellFormed.{IsWellFormed}
 use Rattle.cc_model.specs.StandsFor.{Shape, shape_in, shape_of_native, shape_of_held_native, shape_of_held_script, script_shape, shape_of_reflector, ArePart, IsEmptied, NativeStands, IsNoKey, StandsFor}
+use Rattle.cc_laws_heap.proofs.ScriptNames.{script-named}
 use Rattle.cc_laws_heap.proofs.Holds.{contents-place}
 use Rattle.cc_laws_heap.proofs.Shapes.{edges_of_shape}
 use Rattle.cc_laws_heap.proofs.HeapShapes.{shape_at-native}
@@ -92,12 +91,6 @@ shape_in-reflector g k t = go (native_in g k) refl
 
 -- From standing to following
 
--- the name of a script object is no native's
-pub script-named : (x : Name) (kind : Kind) (slots : Slots) → FitsName x kind slots → IsTrue (is_script x)
-script-named (name.Native k) kind slots f = absurd f
-script-named (name.Script k) kind slots f = refl
-script-named (name.Reflector k) kind slots f = refl
-
 module _ (h : Heap) (g : Graph) (w : IsWellFormed h) (s : StandsFor h g) where
   -- what is reached has all that the registers reach
   reached-closed : IsClosed (Reached g) g
@@ -129,7 +122,7 @@ module _ (h : Heap) (g : Graph) (w : IsWellFormed h) (s : StandsFor h g) where
       natives = λ n m. native-follows n (s.natives n m);
       alike = native-alike;
       scripts = λ o m. sym (s.scripts o m).shape;
-      named = λ o m. script-named o.name o.kind o.slots (w.kinds o m);
+      named = script-named h w;
     };
     entries = record { values = s.values; part = s.entries };
     blank = λ k a b e p f.

@@ -28,7 +28,7 @@ waiting-found h k some = go (native_at h k) refl some
     go (Some n) e s = (n, e, zero_there n.count s)
 
 -- natives with distinct numbers stay so when one is taken out
-pub HasDistinctNumbers-removed : (h : Heap) (k : ℕ) → HasDistinctNumbers h → HasDistinctNumbers (removed h k)
+HasDistinctNumbers-removed : (h : Heap) (k : ℕ) → HasDistinctNumbers h → HasDistinctNumbers (removed h k)
 HasDistinctNumbers-removed h k d = at-each (λ j. count_by (has_number j) (removed h k).natives ≤ 1) k
     (omega (arith, count_by-dropped (has_number k) (λ n. not (has_number k n)) h.natives (λ n e. not-true (has_number k n) e)))
     (λ j o. omega (arith, d j, count_by-kept (has_number j) (λ n. not (has_number k n)) h.natives (λ n e. each j o n e)))

@@ -1,4 +1,4 @@
--- WHAT A CASCADE HAS FREED SO FAR: each step tells one native more, and takes out that one alone.
+-- WHAT A CASCADE HAS TAKEN OUT AND FREED SO FAR: each step tells one native more, and takes out that one alone.
 use Rattle.std.proofs.Common.{◌≡◌, ℕ, ◌≤◌, Bool, true, false, not, ◌&&◌, ◌||◌, List, [], ◌∷◌, ◌++◌, map, Some, refl, sym, ◌∙◌, ap, subst, ⊎_elim, arith, ◌==◌}
 use Rattle.std.specs.List.{filter}
 use Rattle.std.proofs.Math.Path.{fun_ext}
@@ -9,7 +9,7 @@ use Rattle.cc_lists.proofs.Members.{Among-map, Among-map_cases, Among-append, Am
 use Rattle.cc_names.specs.Names.{native}
 use Rattle.cc_model.specs.declared.item.Event.{Event}
 use Rattle.cc_model.specs.declared.item.Event.TheVariants.{Freed}
-use Rattle.cc_model.specs.Heap.{Heap, HeapNative, Outcome, native_at}
+use Rattle.cc_model.specs.Heap.{Heap, HeapNative, Outcome, native_at, silently}
 use Rattle.cc_model.specs.Cascade.{Draining, give_up_each, natives_of_slots, told_free, free_front, at_rest}
 use Rattle.cc_model.specs.WellFormed.{native_names}
 use Rattle.cc_model.specs.Counts.{times}
@@ -30,7 +30,7 @@ abbrev pub freed_event : ℕ → Event
 freed_event k = Freed (native k)
 
 -- to be none of a list and one more is to be none of the list, and not that one
-pub is_none_of-push : (ks : List ℕ) (k : ℕ) (u : Uncounted) → is_none_of (ks ++ k ∷ []) u ≡ (is_none_of ks u && not (u.number == k))
+is_none_of-push : (ks : List ℕ) (k : ℕ) (u : Uncounted) → is_none_of (ks ++ k ∷ []) u ≡ (is_none_of ks u && not (u.number == k))
 is_none_of-push [] k u = rw (eqb-sym u.number k) (or_false (k == u.number))
   where
     or_false : (b : Bool) → not (b || false) ≡ not b
@@ -42,6 +42,76 @@ is_none_of-push (i ∷ js) k u = go (i == u.number) (is_none_of-push js k u)
         not (b || has ◌==◌ (js ++ k ∷ []) u.number) ≡ (not (b || has ◌==◌ js u.number) && not (u.number == k))
     go true ih = refl
     go false ih = ih
+
+-- What is taken out, whatever the counts
+
+-- the natives `ks` are told and taken out, and nothing changes beside them but counts and the buffer
+pub record TakesOut (h : Heap) (ks : List ℕ) (o : Outcome) : Type 0 where
+  pub told : o.events ≡ map freed_event ks
+  pub natives : map uncounted o.heap.natives ≡ filter (is_none_of ks) (map uncounted h.natives)
+  pub beside : SameBeside h o.heap
+
+-- heaps left as they are
+pub TakesOut-silently : (h : Heap) → TakesOut h [] (silently h)
+TakesOut-silently h = record {
+  told = refl;
+  natives = sym (filter-true (is_none_of []) (map uncounted h.natives) (λ u. refl));
+  beside = SameBeside-refl h;
+}
+
+-- alike heaps have taken out the same
+pub TakesOut-alike : (h : Heap) (ks : List ℕ) (d e : Draining) → IsAlike d e → TakesOut h ks (outcome d) → TakesOut h ks (outcome e)
+TakesOut-alike h ks d e a f = record {
+  told = a.events ∙ f.told;
+  natives = a.natives ∙ f.natives;
+  beside = SameBeside-trans h d.heap e.heap f.beside a.beside;
+}
+
+-- the front of the queue is one more
+pub TakesOut-free_front : (h : Heap) (told : List ℕ) (d : Draining) (k : ℕ) (ks : List ℕ) → TakesOut h told (outcome d) → TakesOut h (told ++ k ∷ []) (outcome (free_front d k ks))
+TakesOut-free_front h told d k ks f = record {
+  told = a.events ∙ (ap (λ es. es ++ freed_event k ∷ []) f.told ∙ sym (map-append freed_event told (k ∷ [])));
+  natives =
+      sym (filter-map others uncounted after.heap.natives)
+      ∙ (ap (filter others) (a.natives ∙ f.natives)
+      ∙ (filter-filter others (is_none_of told) (map uncounted h.natives)
+      ∙ ap (λ p. filter p (map uncounted h.natives)) (fun_ext (λ u. sym (is_none_of-push told k u)))));
+  beside = SameBeside-trans h d.heap (free_front d k ks).heap f.beside beside;
+}
+  where
+    others : Uncounted → Bool
+    others u = not (u.number == k)
+
+    held : List ℕ
+    held = natives_of_slots (native_at d.heap k)
+
+    after : Draining
+    after = give_up_each (told_free d k ks) held
+
+    a : IsAlike (told_free d k ks) after
+    a = IsAlike-give_up_each (told_free d k ks) held
+
+    beside : SameBeside d.heap (free_front d k ks).heap
+    beside = record {
+      native_registers = a.beside.native_registers;
+      script_registers = a.beside.script_registers;
+      scripts = a.beside.scripts;
+      entries = a.beside.entries;
+      natives_made = a.beside.natives_made;
+      scripts_made = a.beside.scripts_made;
+      limits = a.beside.limits;
+    }
+
+-- What is freed
+
+-- natives taken out that were there, each once, are freed
+Frees-from : (h : Heap) (ks : List ℕ) (o : Outcome) → ((k : ℕ) → times k ks ≤ 1) → ((k : ℕ) → Among k ks → Among (native k) (native_names h)) →
+    TakesOut h ks o → Frees h ks o
+Frees-from h ks o once there t = record { told = t.told; once = once; were_there = there; natives = t.natives; beside = t.beside }
+
+-- those freed are taken out
+TakesOut-freed : (h : Heap) (ks : List ℕ) (o : Outcome) → Frees h ks o → TakesOut h ks o
+TakesOut-freed h ks o f = record { told = f.told; natives = f.natives; beside = f.beside }
 
 -- what is there, is there without its count
 uncounted-there : (h : Heap) (ks : List ℕ) (o : Outcome) → Frees h ks o → (k : ℕ) (n : HeapNative) → native_at o.heap k ≡ Some n →
@@ -65,49 +135,22 @@ there-before h ks o f k n e =
 
 -- alike heaps have freed the same
 pub Frees-alike : (h : Heap) (ks : List ℕ) (d e : Draining) → IsAlike d e → Frees h ks (outcome d) → Frees h ks (outcome e)
-Frees-alike h ks d e a f = record {
-  told = a.events ∙ f.told;
-  once = f.once;
-  were_there = f.were_there;
-  natives = a.natives ∙ f.natives;
-  beside = SameBeside-trans h d.heap e.heap f.beside a.beside;
-}
+Frees-alike h ks d e a f = Frees-from h ks (outcome e) f.once f.were_there (TakesOut-alike h ks d e a (TakesOut-freed h ks (outcome d) f))
 
 -- heaps at rest have freed nothing
 pub Frees-at_rest : (h : Heap) → Frees h [] (outcome (at_rest h))
-Frees-at_rest h = record {
-  told = refl;
-  once = λ k. omega arith;
-  were_there = λ k m. absurd m;
-  natives = sym (filter-true (is_none_of []) (map uncounted h.natives) (λ u. refl));
-  beside = SameBeside-refl h;
-}
+Frees-at_rest h = Frees-from h [] (outcome (at_rest h)) (λ k. omega arith) (λ k m. absurd m) (TakesOut-silently h)
 
 -- the front freed is one more
 pub Frees-free_front : (h : Heap) (told : List ℕ) (d : Draining) (k : ℕ) (ks : List ℕ) (n : HeapNative) → native_at d.heap k ≡ Some n →
     Frees h told (outcome d) → Frees h (told ++ k ∷ []) (outcome (free_front d k ks))
-Frees-free_front h told d k ks n e f = record {
-  told = a.events ∙ (ap (λ es. es ++ freed_event k ∷ []) f.told ∙ sym (map-append freed_event told (k ∷ [])));
-  once = at-each (λ j. times j (told ++ k ∷ []) ≤ 1) k
-      (omega (arith, times-append k told (k ∷ []), times-cons_same k [], not_yet))
-      (λ j o. omega (arith, times-append j told (k ∷ []), times-cons_other j k [] (λ s. o (sym s)), f.once j));
-  were_there = λ j m. ⊎_elim (f.were_there j) (this_one j) (Among-append j told (k ∷ []) m);
-  natives = natives;
-  beside = SameBeside-trans h d.heap (free_front d k ks).heap f.beside beside;
-}
+Frees-free_front h told d k ks n e f = Frees-from h (told ++ k ∷ []) (outcome (free_front d k ks))
+    (at-each (λ j. times j (told ++ k ∷ []) ≤ 1) k
+    (omega (arith, times-append k told (k ∷ []), times-cons_same k [], not_yet))
+    (λ j o. omega (arith, times-append j told (k ∷ []), times-cons_other j k [] (λ s. o (sym s)), f.once j)))
+    (λ j m. ⊎_elim (f.were_there j) (this_one j) (Among-append j told (k ∷ []) m))
+    (TakesOut-free_front h told d k ks (TakesOut-freed h told (outcome d) f))
   where
-    others : Uncounted → Bool
-    others u = not (u.number == k)
-
-    held : List ℕ
-    held = natives_of_slots (native_at d.heap k)
-
-    after : Draining
-    after = give_up_each (told_free d k ks) held
-
-    a : IsAlike (told_free d k ks) after
-    a = IsAlike-give_up_each (told_free d k ks) held
-
     here : Among (native k) (native_names h)
     here = there-before h told (outcome d) f k n e
 
@@ -116,21 +159,3 @@ Frees-free_front h told d k ks n e f = record {
 
     not_yet : times k told ≤ 0
     not_yet = ⊎_elim (λ some. absurd (freed-not_there h told (outcome d) f k n e (times-among k told some))) (λ none. none) (cases_lt 0 (times k told))
-
-    natives : map uncounted (free_front d k ks).heap.natives ≡ filter (is_none_of (told ++ k ∷ [])) (map uncounted h.natives)
-    natives =
-        sym (filter-map others uncounted after.heap.natives)
-        ∙ (ap (filter others) (a.natives ∙ f.natives)
-        ∙ (filter-filter others (is_none_of told) (map uncounted h.natives)
-        ∙ ap (λ p. filter p (map uncounted h.natives)) (fun_ext (λ u. sym (is_none_of-push told k u)))))
-
-    beside : SameBeside d.heap (free_front d k ks).heap
-    beside = record {
-      native_registers = a.beside.native_registers;
-      script_registers = a.beside.script_registers;
-      scripts = a.beside.scripts;
-      entries = a.beside.entries;
-      natives_made = a.beside.natives_made;
-      scripts_made = a.beside.scripts_made;
-      limits = a.beside.limits;
-    }

@@ -27,7 +27,7 @@ pub native_at-lower_other : (h : Heap) (k j : ℕ) → j ≢ k → native_at (lo
 native_at-lower_other h k j d = native_at-change_other h k lower_native (λ n. refl) j d
 
 -- its count is one less
-pub count_at-lower_same : (h : Heap) (k : ℕ) → count_at (lower h k) k ≡ count_at h k - 1
+count_at-lower_same : (h : Heap) (k : ℕ) → count_at (lower h k) k ≡ count_at h k - 1
 count_at-lower_same h k = ap count_of (native_at-lower_same h k) ∙ go (native_at h k)
   where
     go : (o : Option HeapNative) → count_of (option_map lower_native o) ≡ count_of o - 1
@@ -35,18 +35,32 @@ count_at-lower_same h k = ap count_of (native_at-lower_same h k) ∙ go (native_
     go (Some n) = refl
 
 -- any other count stays
-pub count_at-lower_other : (h : Heap) (k j : ℕ) → j ≢ k → count_at (lower h k) j ≡ count_at h j
+count_at-lower_other : (h : Heap) (k j : ℕ) → j ≢ k → count_at (lower h k) j ≡ count_at h j
 count_at-lower_other h k j d = ap count_of (native_at-lower_other h k j d)
 
 -- a count that falls changes no slot, so no reference
-pub refs_to-lower : (h : Heap) (k j : ℕ) → refs_to (lower h k) j ≡ refs_to h j
+refs_to-lower : (h : Heap) (k j : ℕ) → refs_to (lower h k) j ≡ refs_to h j
 refs_to-lower h k j = refs_to-alike h (lower h k) (SameBeside-change_native h k lower_native) (uncounted-change h k lower_native (λ n. refl)) j
 
 -- the reference given up is in hand no more
-pub IsCounted-lower : (owned : List ℕ) (h : Heap) (k : ℕ) → IsCounted (k ∷ owned) h → IsCounted owned (lower h k)
+IsCounted-lower : (owned : List ℕ) (h : Heap) (k : ℕ) → IsCounted (k ∷ owned) h → IsCounted owned (lower h k)
 IsCounted-lower owned h k c = at-each (λ j. count_at (lower h k) j ≡ refs_to (lower h k) j + times j owned) k
     (omega (arith, c k, count_at-lower_same h k, refs_to-lower h k k, times-cons_same k owned))
     (λ j o. omega (arith, c j, count_at-lower_other h k j o, refs_to-lower h k j, times-cons_other j k owned (λ e. o (sym e))))
+
+-- what holds where there is no such native, and where its count falls to zero or not that far, holds where a reference to it is given up
+pub give_up-cases : (P : Draining → Type 0) (d : Draining) (k : ℕ) → ((n : HeapNative) → native_at d.heap k ≡ Some n → 1 ≤ n.count) →
+    (native_at d.heap k ≡ None → P d) → P (queued d k) → P (lowered d k) → P (give_up d k)
+give_up-cases P d k some none zero_left some_left = go (native_at d.heap k) refl
+  where
+    by_count : (c : ℕ) → 1 ≤ c → P (fallen d k c)
+    by_count zero l = absurd (omega arith)
+    by_count (suc zero) l = zero_left
+    by_count (suc (suc c)) l = some_left
+
+    go : (o : Option HeapNative) → native_at d.heap k ≡ o → P (given_up d k o)
+    go None e = none e
+    go (Some n) e = by_count n.count (some n e)
 
 -- Between two steps
 

@@ -21,7 +21,7 @@ use Rattle.cc_model.specs.WellMade.{IsWellMade, IsMadeEntry}
 use Rattle.cc_laws_heap.proofs.Taken.{IsTaken, IsTaken-from}
 use Rattle.cc_laws_heap.proofs.Holds.{OfSome, OfSome-then, contents-empty}
 use Rattle.cc_laws_heap.proofs.Numbered.{numbered-nothing, numbered-push, numbered-change}
-use Rattle.cc_laws_heap.proofs.EntryLists.{set-among, entries_of-set}
+use Rattle.cc_laws_heap.proofs.EntryLists.{with_entry-cases, entries_of-set}
 use Rattle.cc_laws_heap.proofs.GraphParts.{is_some-found, was_made-native, was_made-script, was_made-reflector, reflector-made, Grows, is_made_script-grows, IsMadeEntry-grows, IsWellMade-entries}
 use Rattle.cc_laws_heap.proofs.GraphWrites.{IsWellMade-native_register, IsWellMade-script_register, set_native-is, Grows-change_native, IsWellMade-change_native, KeepsNative-slot, KeepsNative-reflector_slot, KeepsNative-preserved, KeepsNative-wrapped, IsWellMade-script_slot, IsWellMade-with_native, IsWellMade-with_script, ScriptFits-plain, ScriptFits-map}
 use Rattle.cc_laws_heap.proofs.GraphReads.{Made, MadeNative, MadeScript, MadeScript-made, native_register-made, script_register-made, register-made, source-made, script_source-made, slot_at-made, script_slot_at-made, no_script-made, no_native-made, native_of-made, value_at-made}
@@ -32,7 +32,7 @@ KeepsReflector-slot i x None e = e
 KeepsReflector-slot i x (Some slots) e = refl
 
 -- a reflector preserved changes nothing else
-pub Grows-preserve : (g : Graph) (o : Option Name) → Grows g (preserve g o)
+Grows-preserve : (g : Graph) (o : Option Name) → Grows g (preserve g o)
 Grows-preserve g None = record { made = λ x m. m; maps = λ k s. s }
 Grows-preserve g (Some (name.Native k)) = record { made = λ x m. m; maps = λ k s. s }
 Grows-preserve g (Some (name.Script k)) = record { made = λ x m. m; maps = λ k s. s }
@@ -106,7 +106,7 @@ module _ (g : Graph) (w : IsWellMade g) where
       (λ e i. w.entries e (Among-filtered (λ e. not (is_entry_of m k e)) e g.entries i))
       (λ a b. omega (arith, count_by-filter-le (is_entry_of a b) (λ e. not (is_entry_of m k e)) g.entries, w.one_entry a b))
   set_entry-well (Some m) (Some k) (Some v) s t u = IsWellMade-entries (preserve g (Some k)) (with_entry g.entries m k v) (preserve-well (Some k) (MadeScript-made g k t))
-      (λ e i. IsMadeEntry-grows g (preserve g (Some k)) (Grows-preserve g (Some k)) e (⊎_elim (λ same. subst (IsMadeEntry g) same made) (w.entries e) (set-among g.entries m k v e i)))
+      (λ e i. IsMadeEntry-grows g (preserve g (Some k)) (Grows-preserve g (Some k)) e (⊎_elim (λ same. subst (IsMadeEntry g) same made) (w.entries e) (with_entry-cases g.entries m k v e i)))
       (entries_of-set g.entries m k v w.one_entry)
     where
       made : IsMadeEntry g (entry m k v)

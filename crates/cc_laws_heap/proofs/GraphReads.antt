@@ -31,7 +31,7 @@ abbrev pub MadeScript : Graph → Name → Type 0
 MadeScript g x = IsTrue (is_made_script g x)
 
 -- a native that was made was made
-pub MadeNative-made : (g : Graph) (x : Name) → MadeNative g x → Made g x
+MadeNative-made : (g : Graph) (x : Name) → MadeNative g x → Made g x
 MadeNative-made g x m = (and_parts (is_native x) (was_made g x) m).1
 
 -- so was a script object that was made
@@ -65,7 +65,7 @@ module _ (g : Graph) (w : IsWellMade g) where
   script_source-made (Some d) = script_register-made d
 
   -- what a plain object has in its slots
-  pub script_contents-made : (k : ℕ) (x : Name) → Among x (contents (slots_or_none (option_and_then slots_of_script (script_in g k)))) → MadeScript g x
+  script_contents-made : (k : ℕ) (x : Name) → Among x (contents (slots_or_none (option_and_then slots_of_script (script_in g k)))) → MadeScript g x
   script_contents-made k x = go (script_in g k) refl
     where
       go : (o : Option GraphScript) → script_in g k ≡ o → Among x (contents (slots_or_none (option_and_then slots_of_script o))) → MadeScript g x
@@ -74,7 +74,7 @@ module _ (g : Graph) (w : IsWellMade g) where
       go (Some weak_map) e m = absurd m
 
   -- what a reflector has in its slots
-  pub reflector_contents-made : (k : ℕ) (x : Name) → Among x (contents (slots_or_none (option_and_then (λ (n : GraphNative). n.reflector) (native_in g k)))) → MadeScript g x
+  reflector_contents-made : (k : ℕ) (x : Name) → Among x (contents (slots_or_none (option_and_then (λ (n : GraphNative). n.reflector) (native_in g k)))) → MadeScript g x
   reflector_contents-made k x = go (native_in g k) refl
     where
       go : (o : Option GraphNative) → native_in g k ≡ o → Among x (contents (slots_or_none (option_and_then (λ (n : GraphNative). n.reflector) o))) → MadeScript g x
@@ -86,7 +86,7 @@ module _ (g : Graph) (w : IsWellMade g) where
           slots (Some s) f i = w.reflector_contents k n s x e f i
 
   -- what any object has in its slots was made
-  pub slots_in-made : (y x : Name) → Among x (contents (slots_or_none (slots_in g y))) → Made g x
+  slots_in-made : (y x : Name) → Among x (contents (slots_or_none (slots_in g y))) → Made g x
   slots_in-made (name.Native k) x i = go (native_in g k.0) refl i
     where
       go : (o : Option GraphNative) → native_in g k.0 ≡ o → Among x (contents (slots_or_none (option_map (λ (n : GraphNative). n.slots) o))) → Made g x
@@ -96,7 +96,7 @@ module _ (g : Graph) (w : IsWellMade g) where
   slots_in-made (name.Reflector k) x m = MadeScript-made g x (reflector_contents-made k.0 x m)
 
   -- and what a script object has there are script objects
-  pub slots_in-script : (y x : Name) → MadeScript g y → Among x (contents (slots_or_none (slots_in g y))) → MadeScript g x
+  slots_in-script : (y x : Name) → MadeScript g y → Among x (contents (slots_or_none (slots_in g y))) → MadeScript g x
   slots_in-script (name.Native k) x s m = absurd (false≢true s)
   slots_in-script (name.Script k) x s m = script_contents-made k.0 x m
   slots_in-script (name.Reflector k) x s m = reflector_contents-made k.0 x m

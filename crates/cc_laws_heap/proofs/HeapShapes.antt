@@ -1,11 +1,9 @@
 -- THE SHAPES OF WHAT IS IN THE HEAPS: each object is found under its name, and its edges are those of the flat view.
-use Rattle.std.proofs.Common.{◌≡◌, ◌≤◌, Bool, true, false, [], ◌∷◌, ◌++◌, map, Option, Some, None, option_map, refl, sym, ◌∙◌, ap, subst, inl, inr, ◌⊎◌, ⊎_elim, count_by}
+use Rattle.std.proofs.Common.{◌≡◌, Bool, true, false, [], ◌∷◌, ◌++◌, map, Option, Some, None, option_map, refl, sym, ◌∙◌, ap, subst, inl, inr, ◌⊎◌, ⊎_elim}
 use Rattle.std.specs.List.{flat_map}
-use Rattle.std.proofs.Math.Path.{fun_ext}
 use Rattle.std.proofs.lemmas.List.{map-append}
 use Rattle.cc_lists.specs.Members.{Among}
 use Rattle.cc_lists.proofs.Members.{Among-map, Among-map_cases, Among-left, Among-right, Among-append, Among-flat_map, Among-flat_map_cases}
-use Rattle.cc_lists.proofs.Counting.{count_by-map}
 use Rattle.cc_names.specs.declared.name.Name.{Name}
 use Rattle.cc_names.specs.declared.name.Name.TheVariants as name
 use Rattle.cc_names.specs.declared.kind.Kind.{Kind}
@@ -20,35 +18,18 @@ use Rattle.cc_model.specs.WellFormed.{IsWellFormed, FitsName, native_names, scri
 use Rattle.cc_model.specs.StandsFor.{Shape, shape_at, shape_of_held_native, shape_of_held_script}
 use Rattle.cc_lists.proofs.Filtering.{find-among, find-passes}
 use Rattle.cc_lists.proofs.Searching.{find-only}
-use Rattle.cc_lists.proofs.Numbers.{eqb-sym}
+use Rattle.cc_laws_heap.proofs.ScriptNames.{scripts-once}
 use Rattle.cc_laws_heap.proofs.Natives.{native_at-there, native_at-number, native_at-member, IsWellFormed-distinct}
 use Rattle.cc_laws_heap.proofs.Shapes.{further_of, edges_of_shape}
 
 -- Objects under their names
 
 -- a script object is found under its name
-pub script_at-member : (h : Heap) → IsWellFormed h → (o : HeapScript) → Among o h.scripts → script_at h o.name ≡ Some o
-script_at-member h w o m = find-only (λ (p : HeapScript). same_name p.name o.name) h.scripts o few m (same_name-refl o.name)
-  where
-    same_name-sym : (x y : Name) → same_name x y ≡ same_name y x
-    same_name-sym (name.Native i) (name.Native j) = eqb-sym i.0 j.0
-    same_name-sym (name.Native i) (name.Script j) = refl
-    same_name-sym (name.Native i) (name.Reflector j) = refl
-    same_name-sym (name.Script i) (name.Native j) = refl
-    same_name-sym (name.Script i) (name.Script j) = eqb-sym i.0 j.0
-    same_name-sym (name.Script i) (name.Reflector j) = refl
-    same_name-sym (name.Reflector i) (name.Native j) = refl
-    same_name-sym (name.Reflector i) (name.Script j) = refl
-    same_name-sym (name.Reflector i) (name.Reflector j) = eqb-sym i.0 j.0
-
-    few : count_by (λ (p : HeapScript). same_name p.name o.name) h.scripts ≤ 1
-    few = subst (λ n. n ≤ 1)
-        (count_by-map (same_name o.name) (λ (p : HeapScript). p.name) h.scripts
-        ∙ ap (λ q. count_by q h.scripts) (fun_ext (λ (p : HeapScript). same_name-sym o.name p.name)))
-        (w.distinct o.name)
+script_at-member : (h : Heap) → IsWellFormed h → (o : HeapScript) → Among o h.scripts → script_at h o.name ≡ Some o
+script_at-member h w o m = find-only (λ (p : HeapScript). same_name p.name o.name) h.scripts o (scripts-once h w o.name) m (same_name-refl o.name)
 
 -- and has its shape there
-pub shape_at-script : (h : Heap) → IsWellFormed h → (o : HeapScript) → Among o h.scripts → shape_at h o.name ≡ Some (shape_of_held_script o)
+shape_at-script : (h : Heap) → IsWellFormed h → (o : HeapScript) → Among o h.scripts → shape_at h o.name ≡ Some (shape_of_held_script o)
 shape_at-script h w o m = go o.name refl (w.kinds o m)
   where
     go : (x : Name) → o.name ≡ x → FitsName x o.kind o.slots → shape_at h x ≡ Some (shape_of_held_script o)
@@ -60,6 +41,18 @@ shape_at-script h w o m = go o.name refl (w.kinds o m)
 pub shape_at-native : (h : Heap) → IsWellFormed h → (n : HeapNative) → Among n h.natives → shape_at h (native n.number) ≡ Some (shape_of_held_native n)
 shape_at-native h w n m = ap (option_map shape_of_held_native) (native_at-member h (IsWellFormed-distinct h w) n m)
 
+-- what is found as a script object and has a shape is a script object of that name
+script-found : (h : Heap) (x : Name) (s : Shape) → option_map shape_of_held_script (script_at h x) ≡ Some s →
+    (o : HeapScript) × Among o h.scripts × (o.name ≡ x) × (shape_of_held_script o ≡ s)
+script-found h x s e = found (script_at h x) refl e
+  where
+    found : (o : Option HeapScript) → script_at h x ≡ o → option_map shape_of_held_script o ≡ Some s →
+        (p : HeapScript) × Among p h.scripts × (p.name ≡ x) × (shape_of_held_script p ≡ s)
+    found None i f = absurd (cc)
+    found (Some p) i f =
+        let same : shape_of_held_script p ≡ s = cc in
+        (p, find-among _ h.scripts p i, same_name-true p.name x (find-passes (λ (q : HeapScript). same_name q.name x) h.scripts p i), same)
+
 -- what has a shape is a native or a script object of that name
 pub shape_at-found : (h : Heap) (x : Name) (s : Shape) → shape_at h x ≡ Some s →
     ((n : HeapNative) × Among n h.natives × (native n.number ≡ x) × (shape_of_held_native n ≡ s)) ⊎
@@ -70,22 +63,8 @@ shape_at-found h (name.Native k) s e = inl (found (native_at h k.0) refl e)
         (n : HeapNative) × Among n h.natives × (native n.number ≡ name.Native k) × (shape_of_held_native n ≡ s)
     found None i f = absurd (cc)
     found (Some n) i f = let same : shape_of_held_native n ≡ s = cc in (n, native_at-there h k.0 n i, ap native (native_at-number h k.0 n i), same)
-shape_at-found h (name.Script k) s e = inr (found (script_at h (name.Script k)) refl e)
-  where
-    found : (o : Option HeapScript) → script_at h (name.Script k) ≡ o → option_map shape_of_held_script o ≡ Some s →
-        (p : HeapScript) × Among p h.scripts × (p.name ≡ name.Script k) × (shape_of_held_script p ≡ s)
-    found None i f = absurd (cc)
-    found (Some p) i f =
-        let same : shape_of_held_script p ≡ s = cc in
-        (p, find-among _ h.scripts p i, same_name-true p.name (name.Script k) (find-passes (λ (q : HeapScript). same_name q.name (name.Script k)) h.scripts p i), same)
-shape_at-found h (name.Reflector k) s e = inr (found (script_at h (name.Reflector k)) refl e)
-  where
-    found : (o : Option HeapScript) → script_at h (name.Reflector k) ≡ o → option_map shape_of_held_script o ≡ Some s →
-        (p : HeapScript) × Among p h.scripts × (p.name ≡ name.Reflector k) × (shape_of_held_script p ≡ s)
-    found None i f = absurd (cc)
-    found (Some p) i f =
-        let same : shape_of_held_script p ≡ s = cc in
-        (p, find-among _ h.scripts p i, same_name-true p.name (name.Reflector k) (find-passes (λ (q : HeapScript). same_name q.name (name.Reflector k)) h.scripts p i), same)
+shape_at-found h (name.Script k) s e = inr (script-found h (name.Script k) s e)
+shape_at-found h (name.Reflector k) s e = inr (script-found h (name.Reflector k) s e)
 
 -- what has a shape is there
 pub shape_at-there : (h : Heap) (x : Name) (s : Shape) → shape_at h x ≡ Some s → Among x (names_there h)

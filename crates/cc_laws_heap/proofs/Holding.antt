@@ -30,7 +30,7 @@ pub IsIn-natives : (h : Heap) (x : Option Name) → IsIn (native_names h) x → 
 IsIn-natives h x m = λ y i. Among-left y (native_names h) (script_names h) (m y i)
 
 -- and so is a script object
-pub IsIn-scripts : (h : Heap) (x : Option Name) → IsIn (script_names h) x → IsIn (names_there h) x
+IsIn-scripts : (h : Heap) (x : Option Name) → IsIn (script_names h) x → IsIn (names_there h) x
 IsIn-scripts h x m = λ y i. Among-right y (native_names h) (script_names h) (m y i)
 
 -- what is there and no script object is a native
@@ -68,7 +68,7 @@ pub script_register-there : (h : Heap) (d : ℕ) → IsWellFormed h → IsIn (sc
 script_register-there h d w = λ y m. w.script_registers y (contents-at h.script_registers d y m)
 
 -- any register holds what is there
-pub register-there : (h : Heap) (r : Reg) → IsWellFormed h → IsIn (names_there h) (register h r)
+register-there : (h : Heap) (r : Reg) → IsWellFormed h → IsIn (names_there h) (register h r)
 register-there h (N d) w = IsIn-natives h (register h (N d)) (native_register-there h d w)
 register-there h (S d) w = IsIn-scripts h (register h (S d)) (script_register-there h d w)
 

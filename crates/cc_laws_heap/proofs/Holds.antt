@@ -15,7 +15,7 @@ OfSome-from P None h = tt
 OfSome-from P (Some x) h = h x refl
 
 -- it holds of a name that is known to be there
-pub OfSome-at : (P : Name → Type 0) (o : Option Name) (x : Name) → OfSome P o → o ≡ Some x → P x
+OfSome-at : (P : Name → Type 0) (o : Option Name) (x : Name) → OfSome P o → o ≡ Some x → P x
 OfSome-at P o x h e = subst (OfSome P) e h
 
 -- what follows from it

@@ -23,7 +23,7 @@ pub record HoldsTheSame (h g : Heap) : Type 0 where
   pub natives : map uncounted g.natives ≡ map uncounted h.natives
 
 -- heaps hold the same as themselves
-pub HoldsTheSame-refl : (h : Heap) → HoldsTheSame h h
+HoldsTheSame-refl : (h : Heap) → HoldsTheSame h h
 HoldsTheSame-refl h = record {
   beside = SameBeside-refl h;
   natives = refl;

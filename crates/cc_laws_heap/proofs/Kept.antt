@@ -1,5 +1,5 @@
 -- WHAT KEEPS THE HEAPS WELL FORMED: one list of the heaps changed at a time.
-use Rattle.std.proofs.Common.{◌≡◌, ℕ, ◌≤◌, true, List, ◌++◌, map, length, sym, ◌∙◌, ap, subst, count_by}
+use Rattle.std.proofs.Common.{◌≡◌, ℕ, ◌≤◌, Bool, true, refl, List, ◌++◌, map, length, sym, ◌∙◌, ap, subst, count_by}
 use Rattle.cc_lists.specs.Members.{Among}
 use Rattle.cc_lists.proofs.Members.{Among-map}
 use Rattle.cc_names.specs.declared.name.Name.{Name}
@@ -8,10 +8,11 @@ use Rattle.cc_model.specs.Slots.{Slots, contents}
 use Rattle.cc_model.specs.Entries.{Entry, is_entry_of}
 use Rattle.cc_model.specs.Heap.{Heap, HeapNative, HeapScript, Buffered}
 use Rattle.cc_model.specs.WellFormed.{IsWellFormed, IsRising, HasMembers, FitsName, native_names, script_names, names_there}
+use Rattle.cc_laws_heap.specs.Freeing.{Uncounted, uncounted}
 use Rattle.cc_laws_heap.proofs.Buffer.{places}
-use Rattle.cc_lists.proofs.ListWrites.{each-map, map-kept}
+use Rattle.cc_lists.proofs.ListWrites.{changed_where, changed_where-either, each-map, map-kept}
 
--- Registers
+-- Registers, entries, and the buffer
 
 -- the heaps with other registers
 abbrev pub with_registers : Heap → Slots → Slots → Heap
@@ -23,9 +24,40 @@ pub record AreRegisters (h : Heap) (ns ss : Slots) : Type 0 where
   pub scripts : (x : Name) → Among x (contents ss) → Among x (script_names h)
   pub enough : (length ns ≡ 256) × (length ss ≡ 256)
 
--- other registers that hold what is there keep the heaps well formed
-pub IsWellFormed-registers : (h : Heap) (ns ss : Slots) → IsWellFormed h → AreRegisters h ns ss → IsWellFormed (with_registers h ns ss)
-IsWellFormed-registers h ns ss w r = record {
+-- the registers of well formed heaps are such
+AreRegisters-own : (h : Heap) → IsWellFormed h → AreRegisters h h.native_registers h.script_registers
+AreRegisters-own h w = record { natives = w.native_registers; scripts = w.script_registers; enough = w.registers }
+
+-- the heaps with other entries
+abbrev pub with_entries : Heap → List Entry → Heap
+with_entries h es = record h { entries = es }
+
+-- entries of what is there, at most one for each map and key
+record AreEntries (h : Heap) (es : List Entry) : Type 0 where
+  pub members : (e : Entry) → Among e es → HasMembers h e
+  pub once : (m k : Name) → count_by (is_entry_of m k) es ≤ 1
+
+-- the entries of well formed heaps are such
+AreEntries-own : (h : Heap) → IsWellFormed h → AreEntries h h.entries
+AreEntries-own h w = record { members = w.entries; once = w.one_entry }
+
+-- the heaps with another buffer
+abbrev pub with_buffer : Heap → List Buffered → Heap
+with_buffer h bs = record h { buffer = bs }
+
+-- natives that are there, each at most once
+pub record IsBuffer (h : Heap) (bs : List Buffered) : Type 0 where
+  pub there : (b : Buffered) → Among b bs → Among (native b.number) (native_names h)
+  pub once : (k : ℕ) → places k bs ≤ 1
+
+-- the buffer of well formed heaps is such
+pub IsBuffer-own : (h : Heap) → IsWellFormed h → IsBuffer h h.buffer
+IsBuffer-own h w = record { there = w.buffered; once = w.buffered_once }
+
+-- other registers, other entries and another buffer, each of what is there, keep the heaps well formed
+IsWellFormed-beside : (h : Heap) (ns ss : Slots) (es : List Entry) (bs : List Buffered) → IsWellFormed h → AreRegisters h ns ss → AreEntries h es → IsBuffer h bs →
+    IsWellFormed (record h { native_registers = ns; script_registers = ss; entries = es; buffer = bs })
+IsWellFormed-beside h ns ss es bs w r t b = record {
   native_registers = r.natives;
   script_registers = r.scripts;
   registers = r.enough;
@@ -39,31 +71,57 @@ IsWellFormed-registers h ns ss w r = record {
   script_contents = w.script_contents;
   reflected = w.reflected;
   preserved = w.preserved;
-  entries = λ e m. let k = w.entries e m in record { the_map = k.the_map; key = k.key; value = k.value };
-  one_entry = w.one_entry;
-  buffered = w.buffered;
-  buffered_once = w.buffered_once;
+  entries = λ e m. let k = t.members e m in record { the_map = k.the_map; key = k.key; value = k.value };
+  one_entry = t.once;
+  buffered = b.there;
+  buffered_once = b.once;
   natives_allowed = w.natives_allowed;
   scripts_allowed = w.scripts_allowed;
 }
 
--- Natives, and the buffer
+-- so do other registers alone,
+pub IsWellFormed-registers : (h : Heap) (ns ss : Slots) → IsWellFormed h → AreRegisters h ns ss → IsWellFormed (with_registers h ns ss)
+IsWellFormed-registers h ns ss w r = IsWellFormed-beside h ns ss h.entries h.buffer w r (AreEntries-own h w) (IsBuffer-own h w)
+
+-- other entries alone,
+pub IsWellFormed-entries : (h : Heap) (es : List Entry) → IsWellFormed h → ((e : Entry) → Among e es → HasMembers h e) →
+    ((m k : Name) → count_by (is_entry_of m k) es ≤ 1) → IsWellFormed (with_entries h es)
+IsWellFormed-entries h es w members once =
+    IsWellFormed-beside h h.native_registers h.script_registers es h.buffer w (AreRegisters-own h w) (record { members = members; once = once }) (IsBuffer-own h w)
+
+-- and another buffer alone
+pub IsWellFormed-buffer : (h : Heap) (bs : List Buffered) → IsWellFormed h → IsBuffer h bs → IsWellFormed (with_buffer h bs)
+IsWellFormed-buffer h bs w b =
+    IsWellFormed-beside h h.native_registers h.script_registers h.entries bs w (AreRegisters-own h w) (AreEntries-own h w) b
+
+-- Natives
 
 -- the heaps with each native changed, and with another buffer
 abbrev pub with_natives : Heap → (HeapNative → HeapNative) → List Buffered → Heap
 with_natives h f bs = record h { natives = map f h.natives; buffer = bs }
 
--- natives keep their numbers, and hold no more slots than they may, in them what is there; a preserved reflector is there
+-- a native as it may be: it holds no more slots than it may, in them what is there; its reflector is there where it is preserved
+pub record NativeFits (h : Heap) (u : Uncounted) : Type 0 where
+  pub slots : length u.slots ≤ 64
+  pub contents : (x : Name) → Among x (contents u.slots) → Among x (names_there h)
+  pub preserved : u.preserved ≡ true → Among (reflector u.number) (script_names h)
+
+-- so is each native of well formed heaps
+pub IsWellFormed-native : (h : Heap) → IsWellFormed h → (n : HeapNative) → Among n h.natives → NativeFits h (uncounted n)
+IsWellFormed-native h w n m = record { slots = w.native_slots n m; contents = λ x i. w.native_contents n x m i; preserved = w.preserved n m }
+
+-- natives keep their numbers, and become such as they may be
 pub record ChangesNatives (h : Heap) (f : HeapNative → HeapNative) : Type 0 where
   pub number : (n : HeapNative) → (f n).number ≡ n.number
-  pub slots : (n : HeapNative) → Among n h.natives → length (f n).slots ≤ 64
-  pub contents : (n : HeapNative) → Among n h.natives → (x : Name) → Among x (contents (f n).slots) → Among x (names_there h)
-  pub preserved : (n : HeapNative) → Among n h.natives → (f n).preserved ≡ true → Among (reflector n.number) (script_names h)
+  pub fits : (n : HeapNative) → Among n h.natives → NativeFits h (uncounted (f n))
 
--- natives that are there, each at most once
-pub record IsBuffer (h : Heap) (bs : List Buffered) : Type 0 where
-  pub there : (b : Buffered) → Among b bs → Among (native b.number) (native_names h)
-  pub once : (k : ℕ) → places k bs ≤ 1
+-- so where one native changes alone
+pub ChangesNatives-where : (h : Heap) → IsWellFormed h → (p : HeapNative → Bool) (f : HeapNative → HeapNative) → ((n : HeapNative) → (f n).number ≡ n.number) →
+    ((n : HeapNative) → Among n h.natives → p n ≡ true → NativeFits h (uncounted (f n))) → ChangesNatives h (changed_where p f)
+ChangesNatives-where h w p f number fits = record {
+  number = λ n. changed_where-either (λ m. m.number ≡ n.number) p f n (λ e. number n) refl;
+  fits = λ n m. changed_where-either (λ o. NativeFits h (uncounted o)) p f n (fits n m) (IsWellFormed-native h w n m);
+}
 
 -- natives that keep their numbers keep their names
 native_names-kept : (h : Heap) (f : HeapNative → HeapNative) (bs : List Buffered) → ChangesNatives h f →
@@ -80,16 +138,15 @@ IsWellFormed-natives h f bs w c b = record {
   rising = subst IsRising (sym (map-kept (λ (n : HeapNative). n.number) f h.natives c.number)) w.rising;
   native_numbers = each-map (λ n. (1 ≤ n.number) × (n.number ≤ h.natives_made)) f h.natives
       (λ n m. subst (λ k. (1 ≤ k) × (k ≤ h.natives_made)) (sym (c.number n)) (w.native_numbers n m));
-  native_slots = each-map (λ n. length n.slots ≤ 64) f h.natives c.slots;
+  native_slots = each-map (λ n. length n.slots ≤ 64) f h.natives (λ n m. (c.fits n m).slots);
   native_contents = λ n x m. each-map (λ n. (y : Name) → Among y (contents n.slots) → Among y (names_there (with_natives h f bs)))
-      f h.natives (λ o i y j. there y (c.contents o i y j)) n m x;
+      f h.natives (λ o i y j. there y ((c.fits o i).contents y j)) n m x;
   distinct = w.distinct;
   object_numbers = w.object_numbers;
   kinds = w.kinds;
   script_contents = w.script_contents;
   reflected = λ k m. moved (native k) (w.reflected k m);
-  preserved = each-map (λ n. n.preserved ≡ true → Among (reflector n.number) (script_names h)) f h.natives
-      (λ n m e. subst (λ k. Among (reflector k) (script_names h)) (sym (c.number n)) (c.preserved n m e));
+  preserved = each-map (λ n. n.preserved ≡ true → Among (reflector n.number) (script_names h)) f h.natives (λ n m. (c.fits n m).preserved);
   entries = λ e m. let k = w.entries e m in record { the_map = k.the_map; key = k.key; value = k.value };
   one_entry = w.one_entry;
   buffered = λ k m. moved (native k.number) (b.there k m);
@@ -163,34 +220,3 @@ IsWellFormed-scripts h f w c = record {
       key = moved e.key k.key;
       value = moved e.value k.value;
     }
-
--- Entries
-
--- the heaps with other entries
-abbrev pub with_entries : Heap → List Entry → Heap
-with_entries h es = record h { entries = es }
-
--- entries of what is there, at most one for each map and key, keep the heaps well formed
-pub IsWellFormed-entries : (h : Heap) (es : List Entry) → IsWellFormed h → ((e : Entry) → Among e es → HasMembers h e) →
-    ((m k : Name) → count_by (is_entry_of m k) es ≤ 1) → IsWellFormed (with_entries h es)
-IsWellFormed-entries h es w members once = record {
-  native_registers = w.native_registers;
-  script_registers = w.script_registers;
-  registers = w.registers;
-  rising = w.rising;
-  native_numbers = w.native_numbers;
-  native_slots = w.native_slots;
-  native_contents = w.native_contents;
-  distinct = w.distinct;
-  object_numbers = w.object_numbers;
-  kinds = w.kinds;
-  script_contents = w.script_contents;
-  reflected = w.reflected;
-  preserved = w.preserved;
-  entries = λ e m. let k = members e m in record { the_map = k.the_map; key = k.key; value = k.value };
-  one_entry = once;
-  buffered = w.buffered;
-  buffered_once = w.buffered_once;
-  natives_allowed = w.natives_allowed;
-  scripts_allowed = w.scripts_allowed;
-}

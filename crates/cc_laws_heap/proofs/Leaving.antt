@@ -43,7 +43,7 @@ numbers_there-named h k m =
     subst (λ j. Among (native j) (native_names h)) f.2 (Among-map (λ (n : HeapNative). native n.number) f.0 h.natives f.1)
 
 -- and a name that is there has its number there
-pub named-numbers_there : (h : Heap) (k : ℕ) → Among (native k) (native_names h) → Among k (numbers_there h)
+named-numbers_there : (h : Heap) (k : ℕ) → Among (native k) (native_names h) → Among k (numbers_there h)
 named-numbers_there h k m =
     let f = named-member h k m in
     subst (λ j. Among j (numbers_there h)) f.2 (Among-map (λ (n : HeapNative). n.number) f.0 h.natives f.1)
@@ -62,7 +62,7 @@ Leave-not_freed h freed g l k m f =
     true≢false (sym (has-there ◌==◌ number-exact freed k f) ∙ not-true (has ◌==◌ freed k) left)
 
 -- what does not stand in a list is not counted there
-pub times-none : (k : ℕ) (xs : List ℕ) → ¬ (Among k xs) → times k xs ≡ 0
+times-none : (k : ℕ) (xs : List ℕ) → ¬ (Among k xs) → times k xs ≡ 0
 times-none k xs d = ⊎_elim (λ some. absurd (d (times-among k xs some))) (λ none. omega arith) (cases_lt 0 (times k xs))
 
 -- what is there now was freed at no time

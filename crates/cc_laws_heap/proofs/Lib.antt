@@ -25,6 +25,8 @@ pub mod NativeCommands
 pub mod ScriptCommands
 pub mod CommandsSound
 pub mod CountBound
+pub mod ViewEdges
+pub mod ScriptNames
 pub mod Coloured
 pub mod ColourChanges
 pub mod NativesKeepScripts
@@ -46,7 +48,6 @@ pub mod EndsStand
 pub mod GraphParts
 pub mod Changing
 pub mod Marking
-pub mod ScriptNames
 pub mod NameLists
 pub mod FreedNames
 pub mod TakenOut

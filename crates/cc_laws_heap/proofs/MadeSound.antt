@@ -82,7 +82,7 @@ module _ (owned : List ℕ) (h : Heap) (n : ℕ) (s : IsSound owned h) where
 -- A script object
 
 -- a reflector refers to its native, other script objects to none
-times-behind : (j : ℕ) (x : Name) → times j (behind x) ≡ cond (same_name x (reflector j)) 1 0
+pub times-behind : (j : ℕ) (x : Name) → times j (behind x) ≡ cond (same_name x (reflector j)) 1 0
 times-behind j (name.Native k) = refl
 times-behind j (name.Script k) = refl
 times-behind j (name.Reflector k) = times-cons j k.0 [] ∙ (omega arith)

@@ -66,7 +66,7 @@ module _ (h : Heap) (n : ℕ) (w : IsWellFormed h) where
   native_names-is = map_push (λ (m : HeapNative). native m.number) h.natives (new_native h n)
 
   -- what was there is there
-  pub native_names-with_native : (x : Name) → Among x (native_names h) → Among x (native_names (with_native h n))
+  native_names-with_native : (x : Name) → Among x (native_names h) → Among x (native_names (with_native h n))
   native_names-with_native x m = subst (λ xs. Among x xs) (sym native_names-is) (Among-left x (native_names h) (native (h.natives_made + 1) ∷ []) m)
 
   -- and what was made
@@ -155,7 +155,7 @@ module _ (h : Heap) (o : HeapScript) (made : ℕ) where
   script_names-new_script = subst (λ xs. Among o.name xs) (sym script_names-is) (Among-right o.name (script_names h) (o.name ∷ []) (inl refl))
 
   -- and nothing else
-  pub script_names-with_script_cases : (x : Name) → Among x (script_names (with_script_last h o made)) → Among x (script_names h) ⊎ (o.name ≡ x)
+  script_names-with_script_cases : (x : Name) → Among x (script_names (with_script_last h o made)) → Among x (script_names h) ⊎ (o.name ≡ x)
   script_names-with_script_cases x m = ⊎_elim (λ l. inl l) (λ t. ⊎_elim (λ e. inr e) (λ n. absurd n) t)
       (Among-append x (script_names h) (o.name ∷ []) (subst (λ xs. Among x xs) script_names-is m))
 

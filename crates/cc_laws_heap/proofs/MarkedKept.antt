@@ -20,6 +20,7 @@ use Rattle.cc_model.specs.Exposure.{slots_of_scripts}
 use Rattle.cc_model.specs.Colours.{IsBlack, black_rules, black_names, scripts_held_by, scripts_held, IsMarked, marked_names, HasColours}
 use Rattle.cc_model.specs.Sweep.{unmarked}
 use Rattle.cc_model.specs.WellFormed.{script_names}
+use Rattle.cc_laws_heap.proofs.Coloured.{is_white}
 use Rattle.cc_laws_heap.proofs.Marking.{colour_of, colour_of-white, black-decided, marked-decided}
 
 -- What is marked
@@ -83,10 +84,6 @@ is_white-true : (c : Colour) → is_white_colour c ≡ true → c ≡ White
 is_white-true White e = refl
 is_white-true Gray e = absurd (false≢true e)
 is_white-true Black e = absurd (false≢true e)
-
--- whether a script object is white
-abbrev is_white : HeapScript → Bool
-is_white o = is_white_colour o.colour
 
 -- an unmarked name is that of a white script object
 pub unmarked-white : (h : Heap) (x : Name) → Among x (unmarked h) → (o : HeapScript) × Among o h.scripts × (o.colour ≡ White) × (o.name ≡ x)

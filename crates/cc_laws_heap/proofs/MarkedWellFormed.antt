@@ -32,7 +32,7 @@ spared dead h = record h { scripts = filter (is_spared dead) h.scripts; entries 
 
 module _ (h : Heap) (c : HasColours h) (w : IsWellFormed h) where
   -- a script object that is marked stays
-  pub marked-spared : (x : Name) → Among x (script_names h) → IsMarked h x → Among x (script_names (spared (unmarked h) h))
+  marked-spared : (x : Name) → Among x (script_names h) → IsMarked h x → Among x (script_names (spared (unmarked h) h))
   marked-spared x m d =
       let f = Among-map_cases (λ (o : HeapScript). o.name) h.scripts x m in
       let apart : ¬ (Among f.0.name (unmarked h)) = λ i. marked-not_unmarked h c x d (subst (λ y. Among y (unmarked h)) f.2 i) in
@@ -41,7 +41,7 @@ module _ (h : Heap) (c : HasColours h) (w : IsWellFormed h) where
       (Among-filter (is_spared (unmarked h)) f.0 h.scripts f.1 (is_not_among-from (unmarked h) f.0.name apart)))
 
   -- and a script object that stays is marked
-  pub spared-marked : (x : Name) → Among x (script_names (spared (unmarked h) h)) → Among x (script_names h) × IsMarked h x
+  spared-marked : (x : Name) → Among x (script_names (spared (unmarked h) h)) → Among x (script_names h) × IsMarked h x
   spared-marked x m =
       let f = Among-map_cases (λ (o : HeapScript). o.name) (filter (is_spared (unmarked h)) h.scripts) x m in
       let there : Among f.0.name (script_names h) = Among-map (λ (o : HeapScript). o.name) f.0 h.scripts (Among-filtered (is_spared (unmarked h)) f.0 h.scripts f.1) in

@@ -31,7 +31,7 @@ colour_of-black false true e = absurd (cc)
 colour_of-black false false e = absurd (cc)
 
 -- gray by the second alone
-pub colour_of-gray : (b m : Bool) → colour_of b m ≡ Gray → (b ≡ false) × (m ≡ true)
+colour_of-gray : (b m : Bool) → colour_of b m ≡ Gray → (b ≡ false) × (m ≡ true)
 colour_of-gray true m e = absurd (cc)
 colour_of-gray false true e = (refl, refl)
 colour_of-gray false false e = absurd (cc)
@@ -64,7 +64,7 @@ unfolding marked
 slots_of_scripts-marked h = flat_map-kept script_slot_edges (as_marked h) h.scripts (λ o. refl)
 
 -- the black names stay
-pub black_names-marked : (h : Heap) → black_names (marked h) ≡ black_names h
+black_names-marked : (h : Heap) → black_names (marked h) ≡ black_names h
 unfolding marked
 black_names-marked h = ap (λ edges. closure same_name (system (contents h.script_registers) edges (joints h.entries))) (slots_of_scripts-marked h)
 
@@ -78,7 +78,7 @@ marked_names-marked h =
 -- The colours after marking
 
 -- after marking the colour of each script object is that by the names that are black and those that are marked
-pub colour-marked : (h : Heap) (o : HeapScript) → Among o (marked h).scripts → o.colour ≡ colour_by (black_names h) (marked_names h) o.name
+colour-marked : (h : Heap) (o : HeapScript) → Among o (marked h).scripts → o.colour ≡ colour_by (black_names h) (marked_names h) o.name
 unfolding marked
 colour-marked h = each-map (λ o. o.colour ≡ colour_by (black_names h) (marked_names h) o.name) (as_marked h) h.scripts (λ o m. refl)
 

@@ -38,7 +38,7 @@ pub names-some : (x : Name) (xs : List Name) → Among x xs → 1 ≤ count_by (
 names-some x xs m = count_by-some (same_name x) x xs m (same_name-refl x)
 
 -- what is counted stands in the list
-pub names-among : (x : Name) (xs : List Name) → 1 ≤ count_by (same_name x) xs → Among x xs
+names-among : (x : Name) (xs : List Name) → 1 ≤ count_by (same_name x) xs → Among x xs
 names-among x xs some =
     let f = counted_is (same_name x) xs some in
     subst (λ y. Among y xs) (sym (same_name-true x f.0 f.2)) f.1

@@ -10,6 +10,7 @@ use Rattle.cc_names.specs.Names.{native, number_of}
 use Rattle.cc_model.specs.Heap.{Heap, HeapNative, native_at, change_native}
 use Rattle.cc_model.specs.Cascade.{removed}
 use Rattle.cc_model.specs.WellFormed.{IsRising, IsWellFormed, native_names}
+use Rattle.cc_lists.proofs.ListWrites.{map-kept}
 use Rattle.cc_laws_heap.specs.Freeing.{uncounted}
 use Rattle.cc_lists.proofs.Filtering.{find-among, find-passes}
 use Rattle.cc_lists.proofs.Searching.{find-some, find-only, find-map, find-filter, find-dropped}
@@ -108,6 +109,10 @@ native_at-change_other h k f e j d = native_at-change h k f e j ∙ go (native_a
         let there : n.number ≡ j = native_at-number h j n s in
         let here : (n.number == k) ≡ false = ne_eqb n.number k (λ q. d (sym there ∙ q)) in
         rw here refl
+
+-- natives keep their names
+pub native_names-change : (h : Heap) (k : ℕ) (f : HeapNative → HeapNative) → KeepsNumber f → native_names (change_native h k f) ≡ native_names h
+native_names-change h k f e = map-kept (λ (n : HeapNative). native n.number) (changed_at k f) h.natives (λ n. ap native (changed_at-number k f e n))
 
 -- a change that keeps the number of each native keeps them distinct
 pub HasDistinctNumbers-change : (h : Heap) (k : ℕ) (f : HeapNative → HeapNative) → KeepsNumber f → HasDistinctNumbers h → HasDistinctNumbers (change_native h k f)

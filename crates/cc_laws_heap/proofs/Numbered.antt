@@ -17,7 +17,7 @@ pub numbered-next : {X : Type 0} (xs : List X) → numbered xs (length xs + 1) �
 numbered-next xs = subst (λ k. numbered xs k ≡ None) (sym (add-one (length xs))) (slice_get_past xs (length xs) (omega arith))
 
 -- what has a number has one that was given
-pub numbered-within : {X : Type 0} (xs : List X) (k : ℕ) (x : X) → numbered xs k ≡ Some x → (1 ≤ k) × (k ≤ length xs)
+numbered-within : {X : Type 0} (xs : List X) (k : ℕ) (x : X) → numbered xs k ≡ Some x → (1 ≤ k) × (k ≤ length xs)
 numbered-within xs zero x e = absurd (cc)
 numbered-within xs (suc i) x e = (omega arith, omega (arith, slice_get_within xs i x e))
 

@@ -1,16 +1,15 @@
 -- REFERENCES TAKEN AND GIVEN UP: what is owned outside the heaps' lists meanwhile.
-use Rattle.std.proofs.Common.{◌≡◌, ◌≢◌, ℕ, ◌+◌, ◌≤◌, true, false, List, ◌∷◌, ◌++◌, length, Option, Some, None, option_map, refl, sym, ◌∙◌, ap, subst, inl, ⊎_elim, arith, count_by, ◌==◌}
+use Rattle.std.proofs.Common.{◌≡◌, ◌≢◌, ℕ, ◌+◌, ◌≤◌, true, false, List, ◌∷◌, ◌++◌, Option, Some, None, option_map, refl, sym, ◌∙◌, ap, subst, inl, ⊎_elim, arith, count_by, ◌==◌}
 use Rattle.std.specs.List.{flat_map}
 use Rattle.std.specs.Option.{option_to_list}
 use Rattle.std.proofs.lemmas.Bool.Decides.{eqb_tells}
 use Rattle.cc_lists.specs.Members.{Among}
 use Rattle.cc_names.specs.declared.name.Name.{Name}
 use Rattle.cc_names.specs.declared.name.Name.TheVariants as name
-use Rattle.cc_names.specs.Names.{native, reflector, same_name, natives_in}
-use Rattle.cc_model.specs.Slots.{contents}
+use Rattle.cc_names.specs.Names.{native, same_name, natives_in}
 use Rattle.cc_model.specs.Heap.{Heap, HeapNative, native_at, with_mark}
 use Rattle.cc_model.specs.Cascade.{add_ref, take_up, let_go}
-use Rattle.cc_model.specs.WellFormed.{IsWellFormed, native_names, script_names, names_there}
+use Rattle.cc_model.specs.WellFormed.{IsWellFormed, native_names, names_there}
 use Rattle.cc_model.specs.Counts.{refs_to, times}
 use Rattle.cc_laws_heap.specs.Sound.{IsSound}
 use Rattle.cc_laws_heap.proofs.Natives.{native_at-change_same, native_at-change_other, named-found}
@@ -18,7 +17,7 @@ use Rattle.cc_laws_heap.proofs.References.{times-append, times-cons_same, times-
 use Rattle.cc_laws_heap.proofs.Counted.{IsCounted, count_of, count_at, IsSound-counted, IsSound-from_counted}
 use Rattle.cc_laws_heap.proofs.Cascades.{cascade-sound}
 use Rattle.cc_lists.proofs.ListWrites.{changed_where, changed_where-either, each-map}
-use Rattle.cc_laws_heap.proofs.Kept.{ChangesNatives, IsBuffer, IsWellFormed-natives}
+use Rattle.cc_laws_heap.proofs.Kept.{ChangesNatives, ChangesNatives-where, IsWellFormed-native, IsBuffer, IsWellFormed-natives}
 use Rattle.cc_laws_heap.proofs.Making.{with_mark-cases, places-with_mark}
 use Rattle.cc_laws_heap.proofs.HoldsTheSame.{raise_native, HoldsTheSame-add_ref}
 
@@ -42,7 +41,7 @@ abbrev raised : ℕ → HeapNative → HeapNative
 raised k n = changed_where (λ m. m.number == k) raise_native n
 
 -- a native touched stands in the buffer, once
-pub IsBuffer-touch : (h : Heap) (k : ℕ) → IsWellFormed h → Among (native k) (native_names h) → IsBuffer h (with_mark false k h.buffer)
+IsBuffer-touch : (h : Heap) (k : ℕ) → IsWellFormed h → Among (native k) (native_names h) → IsBuffer h (with_mark false k h.buffer)
 IsBuffer-touch h k w m = record {
   there = λ b i. ⊎_elim (λ e. subst (λ j. Among (native j) (native_names h)) (sym e) m) (λ t. w.buffered b t) (with_mark-cases false k h.buffer b i);
   once = places-with_mark false k h.buffer w.buffered_once;
@@ -50,14 +49,7 @@ IsBuffer-touch h k w m = record {
 
 -- a count that rises changes no slot and no flag
 ChangesNatives-raised : (h : Heap) (k : ℕ) → IsWellFormed h → ChangesNatives h (raised k)
-ChangesNatives-raised h k w = record {
-  number = λ n. changed_where-either (λ m. m.number ≡ n.number) (λ m. m.number == k) raise_native n (λ e. refl) refl;
-  slots = λ n m. changed_where-either (λ o. length o.slots ≤ 64) (λ m. m.number == k) raise_native n (λ e. w.native_slots n m) (w.native_slots n m);
-  contents = λ n m x. changed_where-either (λ o. Among x (contents o.slots) → Among x (names_there h)) (λ m. m.number == k) raise_native n
-      (λ e. w.native_contents n x m) (w.native_contents n x m);
-  preserved = λ n m. changed_where-either (λ o. o.preserved ≡ true → Among (reflector n.number) (script_names h)) (λ m. m.number == k) raise_native n
-      (λ e. w.preserved n m) (w.preserved n m);
-}
+ChangesNatives-raised h k w = ChangesNatives-where h w (λ n. n.number == k) raise_native (λ n. refl) (λ n m e. IsWellFormed-native h w n m)
 
 -- the native whose count rose is owned once more
 IsCounted-add_ref : (owned : List ℕ) (h : Heap) (k : ℕ) → Among (native k) (native_names h) → IsCounted owned h → IsCounted (k ∷ owned) (add_ref h k)

@@ -28,6 +28,16 @@ ArePart-among (z ∷ zs) (y ∷ ys) x p m = ⊎_elim
     (λ s. ⊎_elim (λ e. inl (sym s.0 ∙ e)) (λ t. inr (ArePart-among zs ys x s.1 t)) m)
     (λ t. inr (ArePart-among (z ∷ zs) ys x t m)) p
 
+-- nothing is part of any list
+pub ArePart-none : {X : Type 0} (ys : List X) → ArePart [] ys
+ArePart-none [] = tt
+ArePart-none (y ∷ ys) = tt
+
+-- a part of a list is part of a longer one
+pub ArePart-skip : {X : Type 0} (xs : List X) (y : X) (ys : List X) → ArePart xs ys → ArePart xs (y ∷ ys)
+ArePart-skip [] y ys p = tt
+ArePart-skip (x ∷ xs) y ys p = inr p
+
 -- where an object of the graph has a shape, its edges are those of the shape
 pub edges_of-made : (g : Graph) (x : Name) (s : Shape) → shape_in g x ≡ Some s → edges_of g x ≡ edges_of_shape x s
 edges_of-made g x s e = edges_of-shape g x ∙ ap (edges_of_some x) e

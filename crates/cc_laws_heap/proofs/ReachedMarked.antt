@@ -1,23 +1,24 @@
 -- WHAT THE REGISTERS REACH AND IS A SCRIPT OBJECT IS MARKED.
-use Rattle.std.proofs.Common.{◌≡◌, Bool, true, false, List, [], ◌∷◌, map, refl, sym, ◌∙◌, ap, subst, inl, inr, ⊎_elim}
+use Rattle.std.proofs.Common.{◌≡◌, true, List, [], ◌∷◌, refl, sym, ◌∙◌, ap, subst, inl, inr, ⊎_elim}
 use Rattle.std.specs.List.{flat_map}
 use Rattle.std.proofs.lemmas.Bool.{false≢true}
 use Rattle.cc_lists.specs.Members.{Among, has}
 use Rattle.cc_lists.proofs.Members.{Among-map_cases, Among-append, Among-flat_map_cases}
 use Rattle.cc_lists.proofs.Least.{derived-within}
 use Rattle.cc_names.specs.declared.name.Name.{Name}
-use Rattle.cc_names.specs.Names.{native, reflector, same_name, is_script, behind}
-use Rattle.cc_model.specs.Slots.{contents, from_to}
+use Rattle.cc_names.specs.Names.{native, same_name, is_script}
+use Rattle.cc_model.specs.Slots.{contents}
 use Rattle.cc_model.specs.Entries.{Entry, joint, joints}
 use Rattle.cc_model.specs.Graph.{Graph}
 use Rattle.cc_model.specs.Reached.{Reached}
 use Rattle.cc_model.specs.WellMade.{IsWellMade}
 use Rattle.cc_model.specs.Heap.{Heap, HeapNative, HeapScript}
-use Rattle.cc_model.specs.View.{view, slot_edges, preserved_edge, native_edges, script_slot_edges, script_edges, ReachedIn}
+use Rattle.cc_model.specs.View.{view, native_edges, script_edges, ReachedIn}
 use Rattle.cc_model.specs.Colours.{IsMarked, marked}
 use Rattle.cc_model.specs.Sweep.{unmarked}
 use Rattle.cc_model.specs.WellFormed.{IsWellFormed}
 use Rattle.cc_model.specs.StandsFor.{StandsFor}
+use Rattle.cc_laws_heap.proofs.ViewEdges.{native_edges-are, script_edges-are}
 use Rattle.cc_laws_heap.proofs.ScriptNames.{script-named, entry-named}
 use Rattle.cc_laws_heap.proofs.ReachedAlike.{reached-in}
 use Rattle.cc_laws_heap.proofs.Marking.{marked-decided, marked_names-marked, HasColours-marked}
@@ -36,36 +37,20 @@ module _ (h : Heap) (w : IsWellFormed h) where
       (λ r. marked-black h x (black-register h x r))
       (Among-append x (contents h.native_registers) (contents h.script_registers) m)
 
-  -- an edge of a native is that of its name
-  native-source : (n : HeapNative) (x y : Name) → Among (x, y) (native_edges n) → native n.number ≡ x
-  native-source n x y m = ⊎_elim
-      (λ l. let f = Among-map_cases (from_to (native n.number)) (contents n.slots) (x, y) l in ap (λ (e : Name × Name). e.0) f.2)
-      (λ r. go n.preserved r)
-      (Among-append (x, y) (slot_edges (native n.number) n.slots) (preserved_edge n) m)
-    where
-      go : (b : Bool) → Among (x, y) (elim b [ true ↦ from_to (native n.number) (reflector n.number) ∷ [] | false ↦ [] ]) → native n.number ≡ x
-      go true i = ⊎_elim (λ e. ap (λ (z : Name × Name). z.0) e) (λ t. absurd t) i
-      go false i = absurd i
-
   -- what an edge of a script object leads to, where it leads from what is marked
   script-edge_marked : (o : HeapScript) (x y : Name) → Among o h.scripts → Among (x, y) (script_edges o) → IsMarkedScript h x → IsMarkedScript h y
-  script-edge_marked o x y m i d s = ⊎_elim
-      (λ l. let f = Among-map_cases (from_to o.name) (contents o.slots) (x, y) l in
-      let source : o.name ≡ x = ap (λ (e : Name × Name). e.0) f.2 in
-      let target : f.0 ≡ y = ap (λ (e : Name × Name). e.1) f.2 in
-      let named : is_script o.name ≡ true = script-named h w o m in
-      subst (IsMarked h) target
-      (marked-slot h o f.0 m f.1 (subst (IsMarked h) (sym source) (d (subst (λ z. is_script z ≡ true) source named)))))
-      (λ r. let f = Among-map_cases (λ k. from_to o.name (native k)) (behind o.name) (x, y) r in
-      let target : native f.0 ≡ y = ap (λ (e : Name × Name). e.1) f.2 in
-      absurd (false≢true (subst (λ z. is_script z ≡ true) (sym target) s)))
-      (Among-append (x, y) (script_slot_edges o) (map (λ k. from_to o.name (native k)) (behind o.name)) i)
+  script-edge_marked o x y m i d s =
+      let e = script_edges-are o x y i in
+      ⊎_elim
+      (λ l. marked-slot h o y m l (subst (IsMarked h) (sym e.0) (d (subst (λ z. is_script z ≡ true) e.0 (script-named h w o m)))))
+      (λ r. absurd (false≢true (subst (λ z. is_script z ≡ true) (sym r.2) s)))
+      e.1
 
   -- what an edge leads to, where it leads from what is marked
   edge-marked : (x y : Name) → Among (x, y) (view h).edges → IsMarkedScript h x → IsMarkedScript h y
   edge-marked x y m d s = ⊎_elim
       (λ l. let f = Among-flat_map_cases native_edges h.natives (x, y) l in
-      marked-held h f.0 y f.1 (subst (λ z. Among (z, y) (native_edges f.0)) (sym (native-source f.0 x y f.2)) f.2) s)
+      marked-held h f.0 y f.1 (subst (λ z. Among (z, y) (native_edges f.0)) (sym (native_edges-are f.0 x y f.2).0) f.2) s)
       (λ r. let f = Among-flat_map_cases script_edges h.scripts (x, y) r in script-edge_marked f.0 x y f.1 f.2 d s)
       (Among-append (x, y) (flat_map native_edges h.natives) (flat_map script_edges h.scripts) m)
 
@@ -82,7 +67,7 @@ module _ (h : Heap) (w : IsWellFormed h) where
       (d e.key (subst (Among e.key) premises (inr (inl refl))) k.1))
 
   -- What the registers reach and is a script object is marked.
-  pub reached-marked : (x : Name) → ReachedIn (view h) x → IsMarkedScript h x
+  reached-marked : (x : Name) → ReachedIn (view h) x → IsMarkedScript h x
   reached-marked = derived-within (view h).registers (view h).edges (joints h.entries) (IsMarkedScript h) register-marked edge-marked entry-marked
 
 -- what is marked is marked after marking

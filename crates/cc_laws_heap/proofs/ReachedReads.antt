@@ -61,7 +61,7 @@ module _ (g : Graph) where
           subst (Reached g) f.4 (value f.0 f.1 (subst (Reached g) (sym f.2) d) (subst (Reached g) (sym f.3) e)))
 
   -- the native of a reached reflector, which was made
-  pub behind-reached : (k : ℕ) → IsTrue (was_made g (reflector k)) → Reached g (reflector k) → Reached g (native k)
+  behind-reached : (k : ℕ) → IsTrue (was_made g (reflector k)) → Reached g (reflector k) → Reached g (native k)
   behind-reached k m d =
       let n = reflector-made g k m in
       edge (reflector k) (native k) d

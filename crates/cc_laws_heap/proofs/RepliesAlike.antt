@@ -102,12 +102,12 @@ module _ (o p : Objects) (a : AreAlike o p) where
 
 module _ (h : Heap) (g : Graph) (s : StandsFor h g) where
   -- the registers hold the same
-  pub register-stands : (r : Reg) → heap.register h r ≡ graph.register g r
+  register-stands : (r : Reg) → heap.register h r ≡ graph.register g r
   register-stands (N r) = ap (λ (b : Slots). slice_index_or b r None) s.native_registers
   register-stands (S r) = ap (λ (b : Slots). slice_index_or b r None) s.script_registers
 
   -- a reached object has the same slots
-  pub slots_in-stands : (x : Name) → Reached g x → heap.slots_in h x ≡ graph.slots_in g x
+  slots_in-stands : (x : Name) → Reached g x → heap.slots_in h x ≡ graph.slots_in g x
   slots_in-stands x d = let k = s.reached x d in slots_in-heap h x ∙ (ap slots_of_shape (k.there ∙ sym k.made) ∙ sym (slots_in-graph g x))
 
   -- What the checks and the replies look at is the same for the heaps and for the graph.

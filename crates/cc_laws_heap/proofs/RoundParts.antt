@@ -12,6 +12,7 @@ use Rattle.cc_model.specs.Sweep.{unmarked, sweep}
 use Rattle.cc_model.specs.StandsFor.{ArePart}
 use Rattle.cc_laws_heap.specs.Sound.{IsSound}
 use Rattle.cc_laws_heap.specs.Freeing.{uncounted}
+use Rattle.cc_laws_heap.proofs.ReachedAlike.{ArePart-none, ArePart-skip}
 use Rattle.cc_laws_heap.proofs.TakenOut.{is_native_left}
 use Rattle.cc_laws_heap.proofs.Marking.{as_marked, HasColours-marked}
 use Rattle.cc_laws_heap.proofs.MarkingKeeps.{IsSound-marked}
@@ -35,27 +36,17 @@ value_in-filter q (e ∷ es) m k h = go (value_in-filter q es m k (λ d i. h d (
     go ih false s true f = absurd (true≢false (sym (h e (inl refl) f) ∙ s))
     go ih false s false f = ih ∙ ap (by_test (value_in es m k)) (sym f)
 
--- nothing is a part of any list
-ArePart-nothing : {X : Type 0} (ys : List X) → ArePart [] ys
-ArePart-nothing [] = tt
-ArePart-nothing (y ∷ ys) = tt
-
--- a part of a list is a part of one with one more in front
-ArePart-skip : {X : Type 0} (xs ys : List X) (y : X) → ArePart xs ys → ArePart xs (y ∷ ys)
-ArePart-skip [] ys y p = tt
-ArePart-skip (x ∷ xs) ys y p = inr p
-
 -- a part of a part is a part
 pub ArePart-filter : {X : Type 0} (q : X → Bool) (xs ys : List X) → ArePart xs ys → ArePart (filter q xs) ys
-ArePart-filter q [] ys p = ArePart-nothing ys
+ArePart-filter q [] ys p = ArePart-none ys
 ArePart-filter q (x ∷ xs) [] p = absurd p
 ArePart-filter {X} q (x ∷ xs) (y ∷ ys) p = ⊎_elim
     (λ s. go (q x) s.0 (ArePart-filter q xs ys s.1))
-    (λ t. ArePart-skip (filter q (x ∷ xs)) ys y (ArePart-filter q (x ∷ xs) ys t)) p
+    (λ t. ArePart-skip (filter q (x ∷ xs)) y ys (ArePart-filter q (x ∷ xs) ys t)) p
   where
     go : (b : Bool) → x ≡ y → ArePart (filter q xs) ys → ArePart (cond b (x ∷ filter q xs) (filter q xs)) (y ∷ ys)
     go true e r = inl (e, r)
-    go false e r = ArePart-skip (filter q xs) ys y r
+    go false e r = ArePart-skip (filter q xs) y ys r
 
 -- Objects that are left
 

@@ -33,7 +33,7 @@ abbrev pub IsLastRound : Heap → Heap → Type 0
 IsLastRound h k = (sweeps (marked h) ≡ false) × (k ≡ (sweep (marked h)).heap)
 
 -- the last of more rounds than there are script objects sweeps nothing
-pub rounds-last : (n : ℕ) (o : Outcome) → length o.heap.scripts < n → (h : Heap) × IsLastRound h (rounds n o).heap
+rounds-last : (n : ℕ) (o : Outcome) → length o.heap.scripts < n → (h : Heap) × IsLastRound h (rounds n o).heap
 unfolding rounds
 rounds-last zero o small = absurd (omega arith)
 rounds-last (suc n) o small = go (rounds-last n (next_round o)) (sweeps (marked o.heap)) refl

@@ -47,7 +47,7 @@ round-leaves h s = record {
 }
 
 -- an entry with neither a dead map nor a dead key is spared
-spared-from : (dead : List Name) (e : Entry) → ¬ (Among e.the_map dead) → ¬ (Among e.key dead) → is_spared_entry dead e ≡ true
+pub spared-from : (dead : List Name) (e : Entry) → ¬ (Among e.the_map dead) → ¬ (Among e.key dead) → is_spared_entry dead e ≡ true
 spared-from dead e a b = go (has same_name dead e.the_map) (has same_name dead e.key) (is_not_among-from dead e.the_map a) (is_not_among-from dead e.key b)
   where
     go : (m k : Bool) → not m ≡ true → not k ≡ true → not (m || k) ≡ true

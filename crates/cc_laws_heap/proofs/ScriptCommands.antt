@@ -67,7 +67,7 @@ make_object-sound owned h d kind n fits room s = script_register-sound owned (wi
 -- Reflectors
 
 -- a native that is there, and has none, may get a reflector
-pub IsNewScript-reflector : (h : Heap) (k : ℕ) → IsWellFormed h → Among (native k) (native_names h) → has_reflector h k ≡ false →
+IsNewScript-reflector : (h : Heap) (k : ℕ) → IsWellFormed h → Among (native k) (native_names h) → has_reflector h k ≡ false →
     IsNewScript (add_ref h k) (blank (reflector k) Reflector reflector_slots) h.scripts_made
 IsNewScript-reflector h k w there none = record {
   unknown = has_reflector-none h k none;

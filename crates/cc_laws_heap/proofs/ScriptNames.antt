@@ -1,22 +1,28 @@
 -- Names of script objects are none of natives'.
-use Rattle.std.proofs.Common.{◌≡◌, ℕ, true, false, refl, subst}
+use Rattle.std.proofs.Common.{◌≡◌, ℕ, true, false, refl, subst, ◌≤◌, ◌∙◌, ap, count_by}
+use Rattle.std.proofs.Math.Path.{fun_ext}
 use Rattle.cc_lists.specs.Members.{Among}
 use Rattle.cc_lists.proofs.Members.{Among-map_cases}
+use Rattle.cc_lists.proofs.Counting.{count_by-map}
 use Rattle.cc_names.specs.declared.name.Name.{Name}
 use Rattle.cc_names.specs.declared.name.Name.TheVariants as name
+use Rattle.cc_names.specs.declared.kind.Kind.{Kind}
 use Rattle.cc_names.specs.Names.{native, same_name, is_script}
+use Rattle.cc_model.specs.Slots.{Slots}
 use Rattle.cc_model.specs.Entries.{Entry}
 use Rattle.cc_model.specs.Heap.{Heap, HeapScript}
 use Rattle.cc_model.specs.WellFormed.{IsWellFormed, FitsName, script_names}
+use Rattle.cc_laws_heap.proofs.NameLists.{same_name-sym}
 
--- a script object's name is that of no native
+-- a name that fits a script object is that of no native
+fits-named : (x : Name) (kind : Kind) (slots : Slots) → FitsName x kind slots → is_script x ≡ true
+fits-named (name.Native k) kind slots f = absurd f
+fits-named (name.Script k) kind slots f = refl
+fits-named (name.Reflector k) kind slots f = refl
+
+-- so is that of a script object that is there
 pub script-named : (h : Heap) → IsWellFormed h → (o : HeapScript) → Among o h.scripts → is_script o.name ≡ true
-script-named h w o m = go o.name (w.kinds o m)
-  where
-    go : (x : Name) → FitsName x o.kind o.slots → is_script x ≡ true
-    go (name.Native k) f = absurd f
-    go (name.Script k) f = refl
-    go (name.Reflector k) f = refl
+script-named h w o m = fits-named o.name o.kind o.slots (w.kinds o m)
 
 -- the same of the names of script objects
 pub script_names-named : (h : Heap) → IsWellFormed h → (x : Name) → Among x (script_names h) → is_script x ≡ true
@@ -35,3 +41,9 @@ pub script-other : (x : Name) (k : ℕ) → is_script x ≡ true → same_name x
 script-other (name.Native i) k e = absurd (cc)
 script-other (name.Script i) k e = refl
 script-other (name.Reflector i) k e = refl
+
+-- at most one script object has a name
+pub scripts-once : (h : Heap) → IsWellFormed h → (x : Name) → count_by (λ (o : HeapScript). same_name o.name x) h.scripts ≤ 1
+scripts-once h w x = subst (λ n. n ≤ 1)
+    (count_by-map (same_name x) (λ (o : HeapScript). o.name) h.scripts ∙ ap (λ p. count_by p h.scripts) (fun_ext (λ o. same_name-sym x o.name)))
+    (w.distinct x)

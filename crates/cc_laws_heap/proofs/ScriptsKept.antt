@@ -64,7 +64,7 @@ preserve-sound owned h (Some (name.Script k)) there s = s
 preserve-sound owned h (Some (name.Reflector k)) there s = set_preserved-sound owned h k.0 (there (reflector k.0) (inl refl)) s
 
 -- script objects stay
-pub script_names-preserve : (h : Heap) (x : Option Name) → script_names (preserve h x) ≡ script_names h
+script_names-preserve : (h : Heap) (x : Option Name) → script_names (preserve h x) ≡ script_names h
 script_names-preserve h None = refl
 script_names-preserve h (Some (name.Native k)) = refl
 script_names-preserve h (Some (name.Script k)) = refl

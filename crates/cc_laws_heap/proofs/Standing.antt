@@ -25,7 +25,7 @@ use Rattle.cc_laws_heap.proofs.ReachedAlike.{edges_of-made}
 use Rattle.cc_laws_heap.proofs.Following.{NativeFollows, Follows, shape_in-native}
 
 -- what an object of the heaps refers to is there
-pub edges-there : (h : Heap) → IsWellFormed h → (x y : Name) (s : Shape) → shape_at h x ≡ Some s → Among y (edges_of_shape x s) → Among y (names_there h)
+edges-there : (h : Heap) → IsWellFormed h → (x y : Name) (s : Shape) → shape_at h x ≡ Some s → Among y (edges_of_shape x s) → Among y (names_there h)
 edges-there h w x y s e m = ⊎_elim
     (λ f. of_native f.0 f.1 (moved (native f.0.number) (shape_of_held_native f.0) f.2 f.3))
     (λ f. of_script f.0 f.1 f.0.name refl (w.kinds f.0 f.1) (moved f.0.name (shape_of_held_script f.0) f.2 f.3))
@@ -73,7 +73,7 @@ kind-fits (name.Reflector k) Map slots f = absurd f
 
 module _ (P : Name → Type 0) (h : Heap) (g : Graph) (w : IsWellFormed h) (m : IsWellMade g) (f : Follows P h g) where
   -- `P` holds of what is reached
-  pub reached-within : (x : Name) → Reached g x → P x
+  reached-within : (x : Name) → Reached g x → P x
   reached-within _ (held (N r) x e) = f.closed.native_registers x (contents-get g.native_registers r x e)
   reached-within _ (held (S r) x e) = f.closed.script_registers x (contents-get g.script_registers r x e)
   reached-within _ (edge x y d i) = go (reached-within x d) (shape_in g x) refl (subst (Among y) (edges_of-shape g x) i)

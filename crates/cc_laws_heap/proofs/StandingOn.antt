@@ -53,7 +53,7 @@ uncounted-emptied m n e t = record { slots = moved.slots; preserved = moved.pres
     moved = subst (λ u. IsEmptied (of u)) e (record { slots = t.slots; preserved = t.preserved })
 
 -- HEAPS OF WHICH EACH NATIVE STANDS ON stand for the graph that the heaps before stood for.
-pub stands-on : (h k : Heap) (g : Graph) → IsWellFormed h → IsWellFormed k → IsWellMade g → SameBeside h k →
+stands-on : (h k : Heap) (g : Graph) → IsWellFormed h → IsWellFormed k → IsWellMade g → SameBeside h k →
     ((n : HeapNative) → Among n k.natives → StandsOn h g n) → StandsFor h g → StandsFor k g
 stands-on h k g w v m b on s = follows-stands (Reached g) k g v m (record {
   beside = record {

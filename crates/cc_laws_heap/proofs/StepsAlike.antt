@@ -20,7 +20,7 @@ use Rattle.cc_model.specs.Effects as effects
 use Rattle.cc_model.specs.Effects.{put_in_register, hold_native, put_in_slot, store_native, hold_script, put_in_script}
 use Rattle.cc_model.specs.StandsFor.{Shape, shape_in}
 use Rattle.cc_laws_heap.proofs.Holds.{OfSome, contents-set}
-use Rattle.cc_laws_heap.proofs.EntryLists.{set-among}
+use Rattle.cc_laws_heap.proofs.EntryLists.{with_entry-cases}
 use Rattle.cc_lists.proofs.Members.{Among-filtered}
 use Rattle.cc_laws_heap.proofs.ReachedReads.{HasBehind}
 use Rattle.cc_laws_heap.proofs.Following.{Follows}
@@ -33,7 +33,7 @@ use Rattle.cc_laws_heap.proofs.Unseen.{Leaves-take_up, Leaves-let_go, Leaves-exp
 -- Registers
 
 -- a native register written
-pub Follows-native_register : (P : Name → Type 0) (h : Heap) (g : Graph) (d : ℕ) (x y : Option Name) → x ≡ y → OfSome P y → Follows P h g →
+Follows-native_register : (P : Name → Type 0) (h : Heap) (g : Graph) (d : ℕ) (x y : Option Name) → x ≡ y → OfSome P y → Follows P h g →
     Follows P (heap.set_register h (N d) x) (graph.set_register g (N d) y)
 Follows-native_register P h g d x y e p t = Follows-registers P h g (set h.native_registers d x) h.script_registers (set g.native_registers d y) g.script_registers
     (λ i. set (t.beside.native_registers i) d (e i)) t.beside.script_registers
@@ -135,5 +135,5 @@ Follows-set_entry P h g (Some m) (Some k) (Some v) p q b r once t =
     (λ e i. ⊎_elim
     (λ s. inr (subst P (ap (λ (d : Entry). d.value) s) r, subst (IsPreserved (graph.preserve g (Some k))) (ap (λ (d : Entry). d.key) s) (preserved-after g k)))
     (λ old. inl (subst (Among e) (sym (preserve-entries g (Some k))) old))
-    (set-among g.entries m k v e i))
+    (with_entry-cases g.entries m k v e i))
     (Follows-preserve P h g (Some k) q b t)

@@ -31,7 +31,7 @@ abbrev pub IsSteady : List ℕ → Heap → Type 0
 IsSteady owned h = IsBalanced owned (at_rest h)
 
 -- where no native waits the heaps are steady, whatever was told
-pub IsSteady-from : (owned : List ℕ) (d : Draining) → IsBalanced owned d → d.queue ≡ [] → IsSteady owned d.heap
+IsSteady-from : (owned : List ℕ) (d : Draining) → IsBalanced owned d → d.queue ≡ [] → IsSteady owned d.heap
 IsSteady-from owned d b q = record {
   distinct = b.distinct;
   counts = b.counts;

@@ -31,7 +31,7 @@ scripts-let_native_go h (name.Script k) = refl
 scripts-let_native_go h (name.Reflector k) = scripts-cascade h k.0
 
 -- one object swept is taken out, and no other script object
-pub scripts-sweep_one : (h : Heap) (x : Name) → (sweep_one h x).heap.scripts ≡ (without_script h x).scripts
+scripts-sweep_one : (h : Heap) (x : Name) → (sweep_one h x).heap.scripts ≡ (without_script h x).scripts
 scripts-sweep_one h x = scripts-let_native_go (without_script h x) x
 
 -- Script objects swept are taken out, and no others.
@@ -64,7 +64,7 @@ IsToSweep-named : (dead : List Name) (h : Heap) → IsToSweep dead h → (x : Na
 IsToSweep-named dead h t x m = let f = Among-map_cases (λ (o : HeapScript). o.name) h.scripts x m in subst (λ y. is_script y ≡ true) f.2 (t.named f.0 f.1)
 
 -- One object swept is told and taken out, with what its native's cascade frees, and the heaps stay steady.
-pub TakesOut-sweep_one : (x : Name) (xs : List Name) (h : Heap) → IsToSweep (x ∷ xs) h →
+TakesOut-sweep_one : (x : Name) (xs : List Name) (h : Heap) → IsToSweep (x ∷ xs) h →
     (ys : List Name) × TakesOut h ys (sweep_one h x) × IsSteady [] (sweep_one h x).heap
 TakesOut-sweep_one (name.Native k) xs h t = absurd (false≢true (IsToSweep-named (name.Native k ∷ xs) h t (name.Native k) (t.there (name.Native k) (inl refl))))
 TakesOut-sweep_one (name.Script k) xs h t = (
@@ -87,7 +87,7 @@ TakesOut-sweep_one (name.Reflector k) xs h t =
     )
 
 -- then the others are to be swept
-pub IsToSweep-rest : (x : Name) (xs : List Name) (h : Heap) → IsToSweep (x ∷ xs) h → IsSteady [] (sweep_one h x).heap → IsToSweep xs (sweep_one h x).heap
+IsToSweep-rest : (x : Name) (xs : List Name) (h : Heap) → IsToSweep (x ∷ xs) h → IsSteady [] (sweep_one h x).heap → IsToSweep xs (sweep_one h x).heap
 IsToSweep-rest x xs h t steady = record {
   steady = steady;
   named = λ o m. t.named o (Among-filtered others o h.scripts (subst (Among o) (scripts-sweep_one h x) m));

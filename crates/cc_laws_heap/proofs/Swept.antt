@@ -1,8 +1,7 @@
 -- A SWEEP LEAVES SOUND HEAPS, where the colours are those of marking: the unmarked script objects are gone, and the
 -- natives that lost their last reference.
-use Rattle.std.proofs.Common.{◌≡◌, ℕ, ◌≤◌, Bool, List, [], map, refl, sym, ◌∙◌, ap, subst, arith, count_by, ◌==◌}
+use Rattle.std.proofs.Common.{◌≡◌, ℕ, ◌≤◌, Bool, List, [], map, refl, sym, ◌∙◌, ap, subst, arith, ◌==◌}
 use Rattle.std.specs.List.{filter, flat_map}
-use Rattle.std.proofs.Math.Path.{fun_ext}
 use Rattle.cc_lists.specs.Members.{Among, has}
 use Rattle.cc_lists.proofs.Members.{Among-map, has-there, has-among}
 use Rattle.cc_lists.proofs.Counting.{count_by-map}
@@ -22,8 +21,8 @@ use Rattle.cc_lists.proofs.Numbers.{number-exact}
 use Rattle.cc_laws_heap.proofs.References.{times-natives_in, native-there}
 use Rattle.cc_laws_heap.proofs.Freed.{outcome, freed_event}
 use Rattle.cc_laws_heap.proofs.Cascades.{IsBalanced-at_rest, IsSound-balanced}
-use Rattle.cc_laws_heap.proofs.ScriptNames.{script-named}
-use Rattle.cc_laws_heap.proofs.NameLists.{same_name-sym, has-natives_in}
+use Rattle.cc_laws_heap.proofs.ScriptNames.{script-named, scripts-once}
+use Rattle.cc_laws_heap.proofs.NameLists.{has-natives_in}
 use Rattle.cc_laws_heap.proofs.TakenOut.{TakesOut, TakesOut-silently, is_native_left-none_of}
 use Rattle.cc_laws_heap.proofs.SweepBalance.{IsSteady, IsSteady-telling}
 use Rattle.cc_laws_heap.proofs.SweepEach.{IsToSweep, scripts-sweep_each, TakesOut-sweep_each}
@@ -43,12 +42,7 @@ module _ (h : Heap) (c : HasColours h) (s : IsSound [] h) where
       record {
         steady = record { distinct = b.distinct; counts = b.counts; queue = b.queue; buffer = b.buffer };
         named = script-named h s.well_formed;
-        distinct = λ x. omega (
-          arith,
-          s.well_formed.distinct x,
-          count_by-map (same_name x) (λ (o : HeapScript). o.name) h.scripts,
-          ap (λ p. count_by p h.scripts) (fun_ext (λ (o : HeapScript). same_name-sym o.name x)),
-        );
+        distinct = scripts-once h s.well_formed;
         there = λ x m.
             let f = unmarked-white h x m in
             subst (λ y. Among y (script_names h)) f.3 (Among-map (λ (o : HeapScript). o.name) f.0 h.scripts f.1);

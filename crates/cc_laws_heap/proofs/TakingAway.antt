@@ -71,7 +71,7 @@ pub record IsOnTheWay (owned : List ℕ) (h : Heap) (unlinked freed : List ℕ) 
   pub tells : TellsOf o.events unlinked freed
 
 -- natives that are owned are unlinked one after another
-pub unlink_each-sound : (ks owned : List ℕ) (h : Heap) (unlinked freed : List ℕ) (o : Outcome) → ((k : ℕ) → Among k ks → Among k owned) →
+unlink_each-sound : (ks owned : List ℕ) (h : Heap) (unlinked freed : List ℕ) (o : Outcome) → ((k : ℕ) → Among k ks → Among k owned) →
     IsOnTheWay owned h unlinked freed o → (all : List ℕ) × IsOnTheWay owned h (unlinked ++ ks) all (unlink_each ks o)
 unlink_each-sound [] owned h unlinked freed o own w = (freed, subst (λ us. IsOnTheWay owned h us freed o) (sym (append-nil unlinked)) w)
 unlink_each-sound (k ∷ ks) owned h unlinked freed o own w =

@@ -1,22 +1,22 @@
 -- A NATIVE UNLINKED: while it is owned it stays, with empty slots and no preservation; all others are as they were, or
 -- were freed.
-use Rattle.std.proofs.Common.{◌≡◌, ℕ, ◌+◌, ◌≤◌, Bool, true, false, List, [], ◌∷◌, ◌++◌, map, length, Option, Some, None, refl, sym, ◌∙◌, ap, subst, ◌==◌}
+use Rattle.std.proofs.Common.{◌≡◌, ℕ, ◌+◌, ◌≤◌, Bool, false, List, [], ◌∷◌, ◌++◌, map, length, Option, Some, None, refl, sym, ◌∙◌, ap, subst, ◌==◌}
 use Rattle.std.proofs.lemmas.Bool.{false≢true}
 use Rattle.std.proofs.lemmas.List.{append-nil, length-replicate}
 use Rattle.cc_lists.specs.Members.{Among}
-use Rattle.cc_names.specs.Names.{native, reflector}
+use Rattle.cc_names.specs.Names.{native}
 use Rattle.cc_model.specs.declared.item.Event.TheVariants.{Unlinked}
 use Rattle.cc_model.specs.Slots.{contents, empty_slots}
 use Rattle.cc_model.specs.Heap.{Heap, HeapNative, Outcome, silently, native_at, set_preserved}
 use Rattle.cc_model.specs.End.{empty_each, slots_now, unlink}
-use Rattle.cc_model.specs.WellFormed.{IsWellFormed, native_names, script_names, names_there}
+use Rattle.cc_model.specs.WellFormed.{IsWellFormed, native_names}
 use Rattle.cc_model.specs.Counts.{refs_to, slots_of_natives, times}
 use Rattle.cc_model.specs.StandsFor.{IsEmptied}
 use Rattle.cc_laws_heap.specs.Sound.{IsSound}
-use Rattle.cc_laws_heap.proofs.Natives.{native_at-change_same, native_at-member, IsWellFormed-distinct, named-found}
+use Rattle.cc_laws_heap.proofs.Natives.{native_names-change, native_at-change_same, native_at-member, IsWellFormed-distinct, named-found}
 use Rattle.cc_laws_heap.proofs.Freed.{freed_event}
-use Rattle.cc_lists.proofs.ListWrites.{changed_where, changed_where-either, each-map, map-kept, flat_map-kept}
-use Rattle.cc_laws_heap.proofs.Kept.{ChangesNatives, IsWellFormed-natives}
+use Rattle.cc_lists.proofs.ListWrites.{changed_where, changed_where-either, each-map, flat_map-kept}
+use Rattle.cc_laws_heap.proofs.Kept.{IsBuffer-own, ChangesNatives, ChangesNatives-where, IsWellFormed-natives}
 use Rattle.cc_laws_heap.proofs.Leaving.{Leave, Leave-trans, Leave-change_native, OthersStay, OthersStay-trans, OthersStay-change_native}
 use Rattle.cc_laws_heap.proofs.Emptying.{IsEmptying, IsEmptying-start, empty_each-sound}
 
@@ -27,7 +27,7 @@ unpreserved n = record n { preserved = false }
 -- The end of a preservation leaves the heaps sound.
 pub unpreserved-sound : (owned : List ℕ) (h : Heap) (k : ℕ) → IsSound owned h → IsSound owned (set_preserved h k false)
 unpreserved-sound owned h k s = record {
-  well_formed = IsWellFormed-natives h change h.buffer w changes (record { there = w.buffered; once = w.buffered_once });
+  well_formed = IsWellFormed-natives h change h.buffer w changes (IsBuffer-own h w);
   counts = each-map (λ n. n.count ≡ refs_to (set_preserved h k false) n.number + times n.number owned) change h.natives
       (λ n m. changed_where-either (λ o. o.count ≡ refs_to (set_preserved h k false) o.number + times o.number owned) is_it unpreserved n
       (λ e. counted n m) (counted n m));
@@ -46,17 +46,14 @@ unpreserved-sound owned h k s = record {
     change n = changed_where is_it unpreserved n
 
     changes : ChangesNatives h change
-    changes = record {
-      number = λ m. changed_where-either (λ o. o.number ≡ m.number) is_it unpreserved m (λ e. refl) refl;
-      slots = λ m a. changed_where-either (λ o. length o.slots ≤ 64) is_it unpreserved m (λ e. w.native_slots m a) (w.native_slots m a);
-      contents = λ m a y. changed_where-either (λ o. Among y (contents o.slots) → Among y (names_there h)) is_it unpreserved m
-          (λ e. w.native_contents m y a) (w.native_contents m y a);
-      preserved = λ m a. changed_where-either (λ o. o.preserved ≡ true → Among (reflector m.number) (script_names h)) is_it unpreserved m
-          (λ e f. absurd (false≢true f)) (w.preserved m a);
-    }
+    changes = ChangesNatives-where h w is_it unpreserved (λ m. refl) (λ m a e. record {
+      slots = w.native_slots m a;
+      contents = λ y z. w.native_contents m y a z;
+      preserved = λ f. absurd (false≢true f);
+    })
 
     names : native_names (set_preserved h k false) ≡ native_names h
-    names = map-kept (λ (n : HeapNative). native n.number) change h.natives (λ n. ap native (changes.number n))
+    names = native_names-change h k unpreserved (λ n. refl)
 
     slots : slots_of_natives (set_preserved h k false) ≡ slots_of_natives h
     slots = flat_map-kept (λ (m : HeapNative). contents m.slots) change h.natives

@@ -16,7 +16,7 @@ use Rattle.cc_laws_heap.specs.Sound.{IsSound}
 use Rattle.cc_laws_heap.proofs.Natives.{KeepsNumber, IsWellFormed-distinct, native_at-change_same, native_at-change_other}
 use Rattle.cc_laws_heap.proofs.Counted.{count_of, count_at, IsSound-counted, IsSound-from_counted}
 use Rattle.cc_lists.proofs.ListWrites.{Among-flat_map_set, Among-flat_map_at, count_by-flat_map_set, changed_where, changed_where-either, count_by-flat_map_changed, each-map, flat_map-kept, count_by-kept_map}
-use Rattle.cc_laws_heap.proofs.Kept.{IsWellFormed-registers, ChangesNatives, IsWellFormed-natives, ChangesScripts, with_scripts, IsWellFormed-scripts}
+use Rattle.cc_laws_heap.proofs.Kept.{IsBuffer-own, IsWellFormed-registers, ChangesNatives, ChangesNatives-where, IsWellFormed-natives, ChangesScripts, with_scripts, IsWellFormed-scripts}
 use Rattle.cc_laws_heap.proofs.Owning.{numbers_of, IsIn, times-numbers_of}
 
 -- Slots in general
@@ -103,7 +103,7 @@ pub native_slot-sound : (owned : List ℕ) (h : Heap) (k i : ℕ) (n : HeapNativ
     IsIn (names_there h) x →
     IsSound (numbers_of x ++ owned) h → IsSound (numbers_of (get_or n.slots i None) ++ owned) (change_native h k (with_native_slot i x))
 native_slot-sound owned h k i n x found room there s = IsSound-from_counted (numbers_of (get_or n.slots i None) ++ owned) (change_native h k written)
-    (IsWellFormed-natives h (changed_where is_it written) h.buffer w changes (record { there = w.buffered; once = w.buffered_once }))
+    (IsWellFormed-natives h (changed_where is_it written) h.buffer w changes (IsBuffer-own h w))
     (λ j. omega (
       arith,
       IsSound-counted (numbers_of x ++ owned) h s j,
@@ -125,21 +125,17 @@ native_slot-sound owned h k i n x found room there s = IsSound-from_counted (num
     written m = with_native_slot i x m
 
     changes : ChangesNatives h (changed_where is_it written)
-    changes = record {
-      number = λ m. changed_where-either (λ o. o.number ≡ m.number) is_it written m (λ e. refl) refl;
-      slots = λ m a. changed_where-either (λ o. length o.slots ≤ 64) is_it written m
-          (λ e. subst (λ l. l ≤ 64) (sym (length-set m.slots i x)) (w.native_slots m a)) (w.native_slots m a);
-      contents = λ m a y. changed_where-either (λ o. Among y (contents o.slots) → Among y (names_there h)) is_it written m
-          (λ e. contents-written (names_there h) m.slots i x there (λ z. w.native_contents m z a) y) (w.native_contents m y a);
-      preserved = λ m a. changed_where-either (λ o. o.preserved ≡ true → Among (reflector m.number) (script_names h)) is_it written m
-          (λ e. w.preserved m a) (w.preserved m a);
-    }
+    changes = ChangesNatives-where h w is_it written (λ m. refl) (λ m a e. record {
+      slots = subst (λ l. l ≤ 64) (sym (length-set m.slots i x)) (w.native_slots m a);
+      contents = contents-written (names_there h) m.slots i x there (λ y z. w.native_contents m y a z);
+      preserved = w.preserved m a;
+    })
 
 -- a reflector that is there is preserved
 pub set_preserved-sound : (owned : List ℕ) (h : Heap) (k : ℕ) → Among (reflector k) (script_names h) → IsSound owned h →
     IsSound owned (set_preserved h k true)
 set_preserved-sound owned h k there s = IsSound-from_counted owned (set_preserved h k true)
-    (IsWellFormed-natives h (changed_where is_it kept) h.buffer w changes (record { there = w.buffered; once = w.buffered_once }))
+    (IsWellFormed-natives h (changed_where is_it kept) h.buffer w changes (IsBuffer-own h w))
     (λ j. let slots : slots_of_natives (set_preserved h k true) ≡ slots_of_natives h =
     flat_map-kept (λ (m : HeapNative). contents m.slots) (changed_where is_it kept) h.natives
     (λ m. changed_where-either (λ o. contents o.slots ≡ contents m.slots) is_it kept m (λ e. refl) refl) in
@@ -157,14 +153,11 @@ set_preserved-sound owned h k there s = IsSound-from_counted owned (set_preserve
     kept m = record m { preserved = true }
 
     changes : ChangesNatives h (changed_where is_it kept)
-    changes = record {
-      number = λ m. changed_where-either (λ o. o.number ≡ m.number) is_it kept m (λ e. refl) refl;
-      slots = λ m a. changed_where-either (λ o. length o.slots ≤ 64) is_it kept m (λ e. w.native_slots m a) (w.native_slots m a);
-      contents = λ m a y. changed_where-either (λ o. Among y (contents o.slots) → Among y (names_there h)) is_it kept m
-          (λ e. w.native_contents m y a) (w.native_contents m y a);
-      preserved = λ m a. changed_where-either (λ o. o.preserved ≡ true → Among (reflector m.number) (script_names h)) is_it kept m
-          (λ e f. subst (λ j. Among (reflector j) (script_names h)) (sym (eqb-true m.number k e)) there) (w.preserved m a);
-    }
+    changes = ChangesNatives-where h w is_it kept (λ m. refl) (λ m a e. record {
+      slots = w.native_slots m a;
+      contents = λ y z. w.native_contents m y a z;
+      preserved = λ f. subst (λ j. Among (reflector j) (script_names h)) (sym (eqb-true m.number k e)) there;
+    })
 
 -- Script objects: no change of them that keeps their names changes a count
 

@@ -13,6 +13,8 @@ use Rattle.cc_model.specs.Slots.{Slots}
 use Rattle.cc_model.specs.Graph.{Graph, GraphNative, GraphScript, numbered, native_in, script_in, set_native, set_script}
 use Rattle.cc_model.specs.Heap.{Heap, HeapNative, HeapScript, change_native, change_script}
 use Rattle.cc_model.specs.StandsFor.{Shape, shape_of_native, shape_of_object, shape_of_reflector, shape_of_held_native, shape_of_held_script, script_shape}
+use Rattle.cc_lists.proofs.ListWrites.{changed_where-either}
+use Rattle.cc_laws_heap.proofs.Natives.{changed_at-number}
 use Rattle.cc_laws_heap.proofs.Numbered.{change_numbered, numbered-change, numbered-change_other, length-change}
 use Rattle.cc_laws_heap.proofs.GraphParts.{with_natives, with_scripts}
 use Rattle.cc_laws_heap.proofs.GraphWrites.{set_native-is, set_script-is}
@@ -29,6 +31,17 @@ with_slot_written i y s = record s { slots = option_map (λ (l : Slots). set l i
 -- its reflector preserved
 abbrev pub with_preserved : Shape → Shape
 with_preserved s = record s { preserved = true }
+
+-- what is read of one that may have changed
+changed-read : {X Y : Type 0} (g : X → Y) (a : X → X) (f : Y → Y) → ((x : X) → g (a x) ≡ f (g x)) → (b : Bool) (x : X) → g (if b then a x else x) ≡ (if b then f (g x) else g x)
+changed-read g a f same true x = same x
+changed-read g a f same false x = refl
+
+-- the same of what may be there
+changed-read_some : {X Y : Type 0} (g : X → Y) (a : X → X) (f : Y → Y) → ((x : X) → g (a x) ≡ f (g x)) → (b : Bool) (o : Option X) →
+    option_map g (option_map (λ x. if b then a x else x) o) ≡ option_map (λ s. if b then f s else s) (option_map g o)
+changed-read_some g a f same b None = refl
+changed-read_some g a f same b (Some x) = ap (λ s. Some s) (changed-read g a f same b x)
 
 -- In the graph
 
@@ -49,12 +62,8 @@ pub GraphChanges-native : (g : Graph) (k : ℕ) (a : GraphNative → GraphNative
 GraphChanges-native g k a f changes keeps = subst (GraphChanges (changed_at (native k) f) g) (sym (set_native-is g k (option_map a (native_in g k)))) shapes
   where
     shapes : GraphChanges (changed_at (native k) f) g (with_natives g (change_numbered g.natives k a))
-    shapes (name.Native j) = ap (option_map shape_of_native) (numbered-changed g.natives k a j.0) ∙ go (j.0 == k) (native_in g j.0)
-      where
-        go : (b : Bool) (o : Option GraphNative) → option_map shape_of_native (option_map (λ n. if b then a n else n) o) ≡ option_map (λ s. if b then f s else s) (option_map shape_of_native o)
-        go b None = refl
-        go true (Some n) = ap (λ s. Some s) (changes n)
-        go false (Some n) = refl
+    shapes (name.Native j) = ap (option_map shape_of_native) (numbered-changed g.natives k a j.0)
+        ∙ changed-read_some shape_of_native a f changes (j.0 == k) (native_in g j.0)
     shapes (name.Script j) = option_map-same (option_map shape_of_object (script_in g j.0))
     shapes (name.Reflector j) = ap (option_and_then shape_of_reflector) (numbered-changed g.natives k a j.0) ∙ go (j.0 == k) (native_in g j.0)
       where
@@ -90,12 +99,8 @@ GraphChanges-script g k a f changes = subst (GraphChanges (changed_at (object k)
   where
     shapes : GraphChanges (changed_at (object k) f) g (with_scripts g (change_numbered g.scripts k a))
     shapes (name.Native j) = option_map-same (option_map shape_of_native (native_in g j.0))
-    shapes (name.Script j) = ap (option_map shape_of_object) (numbered-changed g.scripts k a j.0) ∙ go (j.0 == k) (script_in g j.0)
-      where
-        go : (b : Bool) (o : Option GraphScript) → option_map shape_of_object (option_map (λ p. if b then a p else p) o) ≡ option_map (λ s. if b then f s else s) (option_map shape_of_object o)
-        go b None = refl
-        go true (Some o) = ap (λ s. Some s) (changes o)
-        go false (Some o) = refl
+    shapes (name.Script j) = ap (option_map shape_of_object) (numbered-changed g.scripts k a j.0)
+        ∙ changed-read_some shape_of_object a f changes (j.0 == k) (script_in g j.0)
     shapes (name.Reflector j) = option_map-same (option_and_then shape_of_reflector (native_in g j.0))
 
 -- a native changed leaves all beside the natives
@@ -117,18 +122,10 @@ pub HeapChanges-native : (h : Heap) (k : ℕ) (a : HeapNative → HeapNative) (f
 HeapChanges-native h k a f number changes named = record {
   natives = λ n i.
       let m = Among-map_cases (λ (n : HeapNative). if n.number == k then a n else n) h.natives n i in
-      (m.0, m.1, sym (numbers m.0 (m.0.number == k)) ∙ ap (λ (n : HeapNative). n.number) m.2, ap shape_of_held_native (sym m.2) ∙ shapes m.0 (m.0.number == k));
+      (m.0, m.1, sym (changed_at-number k a number m.0) ∙ ap (λ (n : HeapNative). n.number) m.2, ap shape_of_held_native (sym m.2) ∙ changed-read shape_of_held_native a f changes (m.0.number == k) m.0);
   scripts = λ o i. (o, i, refl, same o o.name (named o i));
 }
   where
-    numbers : (n : HeapNative) (b : Bool) → (if b then a n else n).number ≡ n.number
-    numbers n true = number n
-    numbers n false = refl
-
-    shapes : (n : HeapNative) (b : Bool) → shape_of_held_native (if b then a n else n) ≡ (if b then f (shape_of_held_native n) else shape_of_held_native n)
-    shapes n true = changes n
-    shapes n false = refl
-
     same : (o : HeapScript) (x : Name) → IsTrue (is_script x) → shape_of_held_script o ≡ changed_at (native k) f x (shape_of_held_script o)
     same o (name.Native j) s = absurd (false≢true s)
     same o (name.Script j) s = refl
@@ -141,17 +138,9 @@ HeapChanges-script h x a f script names changes = record {
   natives = λ n i. (n, i, refl, same n x script);
   scripts = λ o i.
       let p = Among-map_cases (λ (o : HeapScript). if same_name o.name x then a o else o) h.scripts o i in
-      (p.0, p.1, sym (named p.0 (same_name p.0.name x)) ∙ ap (λ (o : HeapScript). o.name) p.2, ap shape_of_held_script (sym p.2) ∙ shapes p.0 (same_name p.0.name x));
+      (p.0, p.1, sym (changed_where-either (λ q. q.name ≡ p.0.name) (λ q. same_name q.name x) a p.0 (λ e. names p.0) refl) ∙ ap (λ (o : HeapScript). o.name) p.2, ap shape_of_held_script (sym p.2) ∙ changed-read shape_of_held_script a f changes (same_name p.0.name x) p.0);
 }
   where
-    named : (o : HeapScript) (b : Bool) → (if b then a o else o).name ≡ o.name
-    named o true = names o
-    named o false = refl
-
-    shapes : (o : HeapScript) (b : Bool) → shape_of_held_script (if b then a o else o) ≡ (if b then f (shape_of_held_script o) else shape_of_held_script o)
-    shapes o true = changes o
-    shapes o false = refl
-
     same : (n : HeapNative) (y : Name) → IsTrue (is_script y) → shape_of_held_native n ≡ changed_at y f (native n.number) (shape_of_held_native n)
     same n (name.Native j) s = absurd (false≢true s)
     same n (name.Script j) s = refl
