@@ -18,7 +18,7 @@ use Rattle.cc_model.specs.Units.{candidates_of, holds_gray, holders_of, if_gray,
 use Rattle.cc_model.specs.Fresh.{node, IsNode, IsScriptThere, MemberOf, IsMappingOf, MemberIsNode, HasNodes, IsFresh}
 use Rattle.cc_laws_heap.specs.Sound.{IsSound}
 use Rattle.cc_laws_snapshot.proofs.NamePairs.{native-no_script}
-use Rattle.cc_laws_snapshot.proofs.Edges.{native_edges-are, script_edges-are}
+use Rattle.cc_laws_heap.proofs.ViewEdges.{native_edges-are, script_edges-are}
 use Rattle.cc_laws_snapshot.proofs.OwnEdges.{script-named}
 use Rattle.cc_laws_snapshot.proofs.SoundView.{IsSound-view, black-or_gray, living-named, native-name_of}
 use Rattle.cc_laws_snapshot.proofs.States.{untraversed-not_traversed, untraversed-not_gone}

@@ -99,12 +99,12 @@ module _ (owned : List ℕ) (h : Heap) (k : ℕ) (s : IsSound (k ∷ owned) h) w
   }
 
   -- A cascade is gentle,
-  pub cascade-gentle : AreGentle h (cascade h k).heap
+  cascade-gentle : AreGentle h (cascade h k).heap
   cascade-gentle = subst (AreGentle h) (sym (SameBeside-is h after frees.beside))
       (AreGentleBut-natives [] h after.natives after.buffer h.natives_made ChangesGently-cascade)
 
   -- and leaves the native to which the reference was given up in the buffer, where it leaves it.
-  pub cascade-caught : (u : Name) (c : ℕ) → Among (u, c) (view (cascade h k).heap).natives → ¬ (Among u (view (cascade h k).heap).buffer) → ¬ (native k ≡ u)
+  cascade-caught : (u : Name) (c : ℕ) → Among (u, c) (view (cascade h k).heap).natives → ¬ (Among u (view (cascade h k).heap).buffer) → ¬ (native k ≡ u)
   cascade-caught u c m o e =
       let f = living-native after u c m in
       (was_settled f.0 f.1 (subst (λ x. ¬ (Among x (names_in after.buffer))) (sym f.2) o)).1 (ap number_of (f.2 ∙ sym e))

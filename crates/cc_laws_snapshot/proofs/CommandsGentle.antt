@@ -55,7 +55,7 @@ script_source-pale h None c = λ y m. absurd m
 script_source-pale h (Some d) c = script_register-pale h d c
 
 -- A command that is not refused is gentle.
-pub effects-gentle : (h : Heap) (c : Command) → IsSound [] h → IsColoured h → IsTrue (in_range c) → IsTaken (objects_of h) c → AreGentle h (effects h c).heap
+effects-gentle : (h : Heap) (c : Command) → IsSound [] h → IsColoured h → IsTrue (in_range c) → IsTaken (objects_of h) c → AreGentle h (effects h c).heap
 unfolding effects
 effects-gentle h (Native d n) s c r t = make_native-gentle [] h d n (below-first d (is_slots n) r) (few-slots n (is_register d) r)
     (leb-false h.limits.natives h.natives_made t.room) s

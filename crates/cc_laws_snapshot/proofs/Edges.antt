@@ -1,50 +1,13 @@
--- The edges of the heaps: where they start, where they lead, and which are those of one object.
-use Rattle.std.proofs.Common.{◌≡◌, ℕ, Bool, true, false, [], ◌∷◌, map, refl, ap, subst, inl, inr, ◌⊎◌, ⊎_elim}
+-- An edge of the heaps is one of an object that is there.
+use Rattle.std.proofs.Common.{◌≡◌, inl, inr, ◌⊎◌, ⊎_elim}
 use Rattle.std.specs.List.{flat_map}
 use Rattle.cc_lists.specs.Members.{Among}
-use Rattle.cc_lists.proofs.Members.{Among-map_cases, Among-append, Among-flat_map_cases}
+use Rattle.cc_lists.proofs.Members.{Among-append, Among-flat_map_cases}
 use Rattle.cc_names.specs.declared.name.Name.{Name}
-use Rattle.cc_names.specs.declared.name.Name.TheVariants as name
-use Rattle.cc_names.specs.Names.{native, reflector, behind}
-use Rattle.cc_model.specs.Slots.{contents, from_to}
+use Rattle.cc_names.specs.Names.{native}
 use Rattle.cc_model.specs.Heap.{Heap, HeapNative, HeapScript}
-use Rattle.cc_model.specs.View.{view, slot_edges, preserved_edge, native_edges, script_slot_edges, script_edges}
-
--- what a native has in a slot, or as its preserved reflector
-abbrev pub NativeHas : HeapNative → Name → Type 0
-NativeHas n y = Among y (contents n.slots) ⊎ ((n.preserved ≡ true) × (reflector n.number ≡ y))
-
--- what a script object has in a slot, or as the native of a reflector
-abbrev pub ScriptHas : HeapScript → Name → Type 0
-ScriptHas o y = Among y (contents o.slots) ⊎ ((k : ℕ) × (o.name ≡ reflector k) × (native k ≡ y))
-
--- the edges of a native start at its name, and lead to what it has
-pub native_edges-are : (n : HeapNative) (x y : Name) → Among (x, y) (native_edges n) → (native n.number ≡ x) × NativeHas n y
-native_edges-are n x y m = ⊎_elim
-    (λ l. let f = Among-map_cases (from_to (native n.number)) (contents n.slots) (x, y) l in
-    (ap (λ (e : Name × Name). e.0) f.2, inl (subst (λ z. Among z (contents n.slots)) (ap (λ (e : Name × Name). e.1) f.2) f.1)))
-    (λ r. go n.preserved refl r)
-    (Among-append (x, y) (slot_edges (native n.number) n.slots) (preserved_edge n) m)
-  where
-    go : (b : Bool) → n.preserved ≡ b → Among (x, y) (elim b [ true ↦ from_to (native n.number) (reflector n.number) ∷ [] | false ↦ [] ]) →
-        (native n.number ≡ x) × NativeHas n y
-    go true p i = ⊎_elim (λ e. (ap (λ (z : Name × Name). z.0) e, inr (p, ap (λ (z : Name × Name). z.1) e))) (λ t. absurd t) i
-    go false p i = absurd i
-
--- a name with a native behind it is that native's reflector
-behind-is : (x : Name) (k : ℕ) → Among k (behind x) → x ≡ reflector k
-behind-is (name.Native i) k m = absurd m
-behind-is (name.Script i) k m = absurd m
-behind-is (name.Reflector i) k m = ⊎_elim (λ e. ap reflector e) (λ t. absurd t) m
-
--- the edges of a script object start at its name, and lead to what it has
-pub script_edges-are : (o : HeapScript) (x y : Name) → Among (x, y) (script_edges o) → (o.name ≡ x) × ScriptHas o y
-script_edges-are o x y m = ⊎_elim
-    (λ l. let f = Among-map_cases (from_to o.name) (contents o.slots) (x, y) l in
-    (ap (λ (e : Name × Name). e.0) f.2, inl (subst (λ z. Among z (contents o.slots)) (ap (λ (e : Name × Name). e.1) f.2) f.1)))
-    (λ r. let f = Among-map_cases (λ k. from_to o.name (native k)) (behind o.name) (x, y) r in
-    (ap (λ (e : Name × Name). e.0) f.2, inr (f.0, behind-is o.name f.0 f.1, ap (λ (e : Name × Name). e.1) f.2)))
-    (Among-append (x, y) (script_slot_edges o) (map (λ k. from_to o.name (native k)) (behind o.name)) m)
+use Rattle.cc_model.specs.View.{view, native_edges, script_edges}
+use Rattle.cc_laws_heap.proofs.ViewEdges.{NativeHas, ScriptHas, native_edges-are, script_edges-are}
 
 -- an edge of the heaps is one of a native or one of a script object
 pub edge-of : (h : Heap) (x y : Name) → Among (x, y) (view h).edges →

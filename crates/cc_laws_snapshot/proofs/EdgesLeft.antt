@@ -14,7 +14,7 @@ use Rattle.cc_model.specs.Slots.{contents, from_to}
 use Rattle.cc_model.specs.Heap.{HeapNative}
 use Rattle.cc_model.specs.View.{between, slot_edges, native_edges}
 use Rattle.cc_laws_heap.specs.Freeing.{Uncounted, uncounted}
-use Rattle.cc_laws_snapshot.proofs.NamePairs.{same_name-sym}
+use Rattle.cc_laws_heap.proofs.NameLists.{same_name-sym}
 
 -- Sums over a part of a list
 

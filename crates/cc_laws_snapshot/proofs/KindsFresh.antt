@@ -49,7 +49,7 @@ pub record KeepsColours (h k : View) : Type 0 where
 
 module _ (loose : List Name) (made now_made : ℕ) (h k : View) (g : IsGentleBut loose made now_made h k) (c : KeepsColours h k) where
   -- The colour invariant is kept,
-  pub colours-kept : HasColourInvariant h → HasColourInvariant k
+  colours-kept : HasColourInvariant h → HasColourInvariant k
   colours-kept i = record {
     black_to_black = λ x y b m y_gray. let e = g.gray_edge x y m y_gray in i.black_to_black x y (c.black x b) e.0 e.1;
     held_black = λ x m is_it. ⊎_elim (λ l. g.black_stays x (i.held_black x l is_it)) (λ b. b) (c.held x m is_it);

@@ -1,6 +1,6 @@
 -- A REFERENCE GIVEN UP, AND THE FRONT OF THE QUEUE THAT LEAVES, keep every snapshot fresh: natives that wait count as in
 -- the buffer.
-use Rattle.std.proofs.Common.{◌≡◌, ℕ, zero, suc, ◌≤◌, ◌==◌, Bool, true, false, not, cond, List, [], ◌∷◌, ◌++◌, map, Option, Some, None, refl, sym, ◌∙◌, ap, subst, inl, inr, ◌⊎◌, ⊎_elim, arith, count_by}
+use Rattle.std.proofs.Common.{◌≡◌, ℕ, ◌≤◌, ◌==◌, Bool, true, false, not, cond, List, [], ◌∷◌, ◌++◌, map, Some, None, refl, sym, ◌∙◌, ap, subst, inl, inr, ◌⊎◌, ⊎_elim, arith, count_by}
 use Rattle.std.specs.List.{filter, flat_map}
 use Rattle.std.proofs.lemmas.Bool.{cases_Bool, eqb-true, eq-eqb, not-false, not-true, true≢false}
 use Rattle.cc_lists.specs.Members.{Among}
@@ -10,19 +10,18 @@ use Rattle.cc_names.specs.declared.name.Name.{Name}
 use Rattle.cc_names.specs.Names.{native, natives_in, number_of}
 use Rattle.cc_model.specs.Slots.{contents, from_to}
 use Rattle.cc_model.specs.Heap.{Heap, HeapNative, Buffered, native_at}
-use Rattle.cc_model.specs.Cascade.{Draining, lower, lowered, queued, fallen, given_up, give_up, removed, natives_of_slots, without_native}
+use Rattle.cc_model.specs.Cascade.{Draining, lower, lowered, queued, give_up, removed, natives_of_slots, without_native}
 use Rattle.cc_model.specs.View.{view, between, slot_edges, preserved_edge, native_edges, buffered}
 use Rattle.cc_model.specs.WellFormed.{IsRising, native_names}
 use Rattle.cc_model.specs.Snapshot.{Snapshot}
-use Rattle.cc_lists.proofs.ListWrites.{changed_where, changed_where-either}
-use Rattle.cc_laws_heap.proofs.Natives.{changed_at-number, named-found, native_at-member, IsRising-distinct}
-use Rattle.cc_laws_heap.proofs.GiveUp.{lower_native}
+use Rattle.cc_laws_heap.proofs.Natives.{named-found, native_at-member, IsRising-distinct}
+use Rattle.cc_laws_heap.proofs.GiveUp.{lower_native, give_up-cases}
 use Rattle.cc_laws_snapshot.specs.Kinds.{counting, IsFreshCounting}
 use Rattle.cc_laws_snapshot.proofs.SoundView.{living-native}
 use Rattle.cc_laws_snapshot.proofs.Marked.{names_in, with_mark-there, with_mark-keeps}
 use Rattle.cc_laws_snapshot.proofs.EdgesLeft.{between-preserved}
 use Rattle.cc_laws_snapshot.proofs.GentleBut.{AreGentleBut, AreGentle-refl}
-use Rattle.cc_laws_snapshot.proofs.NativesChange.{AreGentleBut-natives, AreGentleBut-each}
+use Rattle.cc_laws_snapshot.proofs.NativesChange.{AreGentleBut-natives, AreGentleBut-one}
 use Rattle.cc_laws_snapshot.proofs.NativeParts.{none-to}
 use Rattle.cc_laws_snapshot.proofs.KindsFresh.{IsGentleBut-buffers, fresh-by}
 
@@ -30,22 +29,13 @@ use Rattle.cc_laws_snapshot.proofs.KindsFresh.{IsGentleBut-buffers, fresh-by}
 
 -- a count that falls is gentle but for its native
 lower-gentle : (h : Heap) (k : ℕ) → AreGentleBut (native k ∷ []) h (lower h k)
-lower-gentle h k = AreGentleBut-each (native k ∷ []) h less h.buffer (record {
-  number = changed_at-number k lower_native (λ n. refl);
+lower-gentle h k = AreGentleBut-one (native k ∷ []) h k lower_native h.buffer (record {
+  number = λ n. refl;
   buffer = λ y m. m;
-  count = λ n m o. changed_where-either (λ p. p.count ≡ n.count) is_it lower_native n (λ e. absurd (o.1 (inl (ap native (sym (eqb-true n.number k e)))))) refl;
-  as_often = λ n w j m o. ap (count_by (between w (native j))) (same_edges n);
-  gray_edge = λ n e m i g. subst (Among e) (same_edges n) i;
+  count = λ n o. absurd (o.1 (inl refl));
+  as_often = λ n w j m e o. refl;
+  gray_edge = λ n e s m g. m;
 })
-  where
-    is_it : HeapNative → Bool
-    is_it n = n.number == k
-
-    less : HeapNative → HeapNative
-    less n = changed_where is_it lower_native n
-
-    same_edges : (n : HeapNative) → native_edges (less n) ≡ native_edges n
-    same_edges n = changed_where-either (λ p. native_edges p ≡ native_edges n) is_it lower_native n (λ e. refl) refl
 
 -- what leaves the buffer is one native
 forget-cases : (k : ℕ) (bs : List Buffered) (x : Name) → Among x (names_in bs) → Among x (names_in (filter (λ b. not (b.number == k)) bs)) ⊎ (native k ≡ x)
@@ -164,16 +154,7 @@ module _ (d : Draining) (k : ℕ) (others : List ℕ) (s : Snapshot) where
   -- A reference is given up that is counted, while others wait.
   pub given_up-fresh : ((n : HeapNative) → native_at d.heap k ≡ Some n → 1 ≤ n.count) →
       IsFreshCounting (k ∷ others ++ d.queue) d.heap s → IsFreshCounting (others ++ (give_up d k).queue) (give_up d k).heap s
-  given_up-fresh some f = go (native_at d.heap k) refl
-    where
-      by_count : (c : ℕ) → 1 ≤ c → IsFreshCounting (others ++ (fallen d k c).queue) (fallen d k c).heap s
-      by_count zero l = absurd (omega arith)
-      by_count (suc zero) l = queued-fresh f
-      by_count (suc (suc c)) l = lowered-fresh f
-
-      go : (o : Option HeapNative) → native_at d.heap k ≡ o → IsFreshCounting (others ++ (given_up d k o).queue) (given_up d k o).heap s
-      go None e = none-fresh e f
-      go (Some n) e = by_count n.count (some n e)
+  given_up-fresh some f = give_up-cases (λ e. IsFreshCounting (others ++ e.queue) e.heap s) d k some (λ e. none-fresh e f) (queued-fresh f) (lowered-fresh f)
 
 -- A native that leaves
 
@@ -228,7 +209,7 @@ module _ (d : Draining) (k : ℕ) (js : List ℕ) (s : Snapshot)
   })
 
   -- A native leaves: what it held waits.
-  pub removed-fresh : IsFreshCounting (k ∷ d.queue) d.heap s → IsFreshCounting (js ++ d.queue) (without_native d k).heap s
+  removed-fresh : IsFreshCounting (k ∷ d.queue) d.heap s → IsFreshCounting (js ++ d.queue) (without_native d k).heap s
   removed-fresh = fresh-by made made (counting (k ∷ d.queue) (view d.heap)) (counting (js ++ d.queue) (view (removed d.heap k)))
       (IsGentleBut-buffers (map native js) made made (view d.heap) (view (removed d.heap k))
       (counting (k ∷ d.queue) (view d.heap)).buffer (counting (k ∷ d.queue) (view d.heap)).purple late (counting (js ++ d.queue) (view (removed d.heap k))).purple

@@ -1,12 +1,10 @@
 -- WHAT IS WRITTEN keeps every snapshot fresh: a reference, a register, a slot, a flag, an entry.
-use Rattle.std.proofs.Common.{◌≡◌, ℕ, ◌<◌, ◌==◌, Bool, true, false, cond, List, [], ◌∷◌, map, length, Option, Some, None, refl, sym, ◌∙◌, ap, subst, inl, inr, ⊎_elim, arith, count_by, slice_index_or}
+use Rattle.std.proofs.Common.{◌≡◌, ℕ, ◌<◌, Bool, true, false, cond, List, [], ◌∷◌, map, length, Option, Some, None, refl, sym, ◌∙◌, ap, subst, inl, inr, ⊎_elim, slice_index_or}
 use Rattle.std.specs.Prelude.{IsTrue}
 use Rattle.std.specs.List.{filter}
 use Rattle.std.specs.Option.{option_to_list}
-use Rattle.std.proofs.lemmas.Bool.{eqb-true}
 use Rattle.cc_lists.specs.Members.{Among}
 use Rattle.cc_lists.proofs.Members.{Among-map, Among-left, Among-right, Among-append, Among-flat_map}
-use Rattle.cc_lists.proofs.Counting.{count_by-append}
 use Rattle.cc_names.specs.declared.name.Name.{Name}
 use Rattle.cc_names.specs.declared.name.Name.TheVariants as name
 use Rattle.cc_names.specs.declared.kind.Colour.{Colour}
@@ -17,7 +15,7 @@ use Rattle.cc_model.specs.Slots.{contents}
 use Rattle.cc_model.specs.Heap.{Heap, HeapNative, HeapScript, native_at, is_white_colour, is_black_colour, set_register, change_native, change_script, with_native_slot, with_script_slot, set_preserved}
 use Rattle.cc_model.specs.Cascade.{add_ref}
 use Rattle.cc_model.specs.Effects.{set_entry}
-use Rattle.cc_model.specs.View.{view, between, names_with, slot_edges, preserved_edge, native_edges}
+use Rattle.cc_model.specs.View.{view, names_with}
 use Rattle.cc_model.specs.Colours.{HasColourInvariant}
 use Rattle.cc_model.specs.WellFormed.{IsWellFormed}
 use Rattle.cc_model.specs.Snapshot.{Snapshot}
@@ -25,10 +23,7 @@ use Rattle.cc_lists.proofs.ListWrites.{changed_where, changed_where-either, Amon
 use Rattle.cc_laws_heap.proofs.ScriptsKept.{has_name}
 use Rattle.cc_laws_snapshot.specs.Kinds.{counting, IsFreshIn, IsFreshCounting, natives_held, IsInBuffer, IsNotGrayIn, IsThereIn, IsScriptObject}
 use Rattle.cc_laws_snapshot.proofs.SoundView.{black-or_gray, living-native, named-there}
-use Rattle.cc_laws_snapshot.proofs.EdgesLeft.{between-preserved}
-use Rattle.cc_laws_snapshot.proofs.GentleBut.{AreGentle}
-use Rattle.cc_laws_snapshot.proofs.NativesChange.{AreGentleBut-each}
-use Rattle.cc_laws_snapshot.proofs.NativeParts.{register-gentle, add_ref-gentle, native_slot-gentle}
+use Rattle.cc_laws_snapshot.proofs.NativeParts.{register-gentle, add_ref-gentle, native_slot-gentle, flag-gentle}
 use Rattle.cc_laws_snapshot.proofs.ScriptParts.{script_slot-gentle, set_entry-gentle}
 use Rattle.cc_laws_snapshot.proofs.KindsFresh.{IsGentleBut-buffers, KeepsColours, fresh-by}
 
@@ -138,51 +133,6 @@ script_slot_written-fresh h s o i x w scripts there pale = fresh-by h.natives_ma
         (λ p. changed_where-either (λ q. q.name ≡ p.name) (has_name o) written p (λ e. refl) refl)
 
 -- Flags
-
--- a flag written is gentle, where it preserves nothing gray
-flag-gentle : (h : Heap) (k : ℕ) (on : Bool) → (on ≡ true → ¬ (Among (reflector k) (view h).gray)) → AreGentle h (set_preserved h k on)
-flag-gentle h k on pale = AreGentleBut-each [] h (changed_where is_it flagged) h.buffer (record {
-  number = λ n. changed_where-either (λ p. p.number ≡ n.number) is_it flagged n (λ e. refl) refl;
-  buffer = λ y m. m;
-  count = λ n m o. changed_where-either (λ p. p.count ≡ n.count) is_it flagged n (λ e. refl) refl;
-  as_often = λ n v j m o. changed_where-either (λ p. count_by (between v (native j)) (native_edges p) ≡ count_by (between v (native j)) (native_edges n))
-      is_it flagged n (λ e. as_often n v j) refl;
-  gray_edge = λ n e m t g. changed_where-either (λ p. Among e (native_edges p) → Among e (native_edges n)) is_it flagged n (λ s t. gray n e s t g) (λ t. t) t;
-})
-  where
-    is_it : HeapNative → Bool
-    is_it n = n.number == k
-
-    flagged : HeapNative → HeapNative
-    flagged n = record n { preserved = on }
-
-    as_often : (n : HeapNative) (v : Name) (j : ℕ) →
-        count_by (between v (native j)) (native_edges (flagged n)) ≡ count_by (between v (native j)) (native_edges n)
-    as_often n v j =
-        omega (
-          arith,
-          count_by-append (between v (native j)) (slot_edges (native n.number) n.slots) (preserved_edge (flagged n)),
-          count_by-append (between v (native j)) (slot_edges (native n.number) n.slots) (preserved_edge n),
-          between-preserved v j n.number on,
-          between-preserved v j n.number n.preserved,
-        )
-
-    edge_by : HeapNative → Bool → List (Name × Name)
-    edge_by n b = elim b [ true ↦ (native n.number, reflector n.number) ∷ [] | false ↦ [] ]
-
-    -- what a flag that was set leads to is not gray
-    not_new : (n : HeapNative) (e : Name × Name) → is_it n ≡ true → (b : Bool) → on ≡ b → Among e (edge_by n b) → ¬ (Among e.1 (view h).gray)
-    not_new n e s true q m g = ⊎_elim
-        (λ t. let named : reflector k ≡ e.1 = ap reflector (sym (eqb-true n.number k s)) ∙ ap (λ (p : Name × Name). p.1) t in
-        pale q (subst (λ y. Among y (view h).gray) (sym named) g))
-        (λ t. t) m
-    not_new n e s false q m g = m
-
-    gray : (n : HeapNative) (e : Name × Name) → is_it n ≡ true → Among e (native_edges (flagged n)) → Among e.1 (view h).gray → Among e (native_edges n)
-    gray n e s m g = ⊎_elim
-        (λ l. Among-left e (slot_edges (native n.number) n.slots) (preserved_edge n) l)
-        (λ r. absurd (not_new n e s on refl r g))
-        (Among-append e (slot_edges (native n.number) n.slots) (preserved_edge (flagged n)) m)
 
 -- A flag is written.
 pub flag_written-fresh : (h : Heap) (s : Snapshot) (k : ℕ) (on : Bool) → (on ≡ true → ¬ (Among (reflector k) (view h).gray)) →

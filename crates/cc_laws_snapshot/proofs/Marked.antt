@@ -1,8 +1,9 @@
 -- THE NAMES IN THE BUFFER after a mark was set.
-use Rattle.std.proofs.Common.{◌≡◌, ℕ, ◌≤◌, Bool, true, false, List, [], ◌∷◌, map, refl, ap, subst, inl, inr, ⊎_elim, ◌==◌}
+use Rattle.std.proofs.Common.{◌≡◌, ℕ, ◌≤◌, Bool, true, false, List, [], ◌∷◌, map, refl, sym, ◌∙◌, ap, subst, inl, inr, ◌⊎◌, ⊎_elim, ◌==◌}
+use Rattle.std.specs.List.{filter}
 use Rattle.std.proofs.lemmas.Bool.{eqb-true, eq-eqb}
 use Rattle.cc_lists.specs.Members.{Among}
-use Rattle.cc_lists.proofs.Members.{Among-map, Among-map_cases}
+use Rattle.cc_lists.proofs.Members.{Among-map, Among-map_cases, Among-filter, Among-filtered, Among-passes}
 use Rattle.cc_lists.proofs.Counting.{count_by-some, counted_is}
 use Rattle.cc_names.specs.declared.name.Name.{Name}
 use Rattle.cc_names.specs.Names.{native, number_of}
@@ -14,25 +15,52 @@ use Rattle.cc_laws_heap.proofs.Buffer.{has_place, places}
 abbrev pub names_in : List Buffered → List Name
 names_in bs = map buffered bs
 
--- what was marked is there
-pub with_mark-there : (m : Bool) (k : ℕ) (bs : List Buffered) → Among (native k) (names_in (with_mark m k bs))
-with_mark-there m k [] = inl refl
-with_mark-there m k (b ∷ bs) = go (with_mark-there m k bs) (b.number == k) refl
+-- the purple names in a buffer
+abbrev pub IsPurpleName : List Buffered → Name → Type 0
+IsPurpleName bs x = Among x (map buffered (filter (λ b. b.purple) bs))
+
+-- a place of the buffer with the mark gives a purple name
+pub purple-name : (bs : List Buffered) (b : Buffered) → Among b bs → b.purple ≡ true → IsPurpleName bs (native b.number)
+purple-name bs b m e = Among-map buffered b (filter (λ b. b.purple) bs) (Among-filter (λ (b : Buffered). b.purple) b bs m e)
+
+-- a purple name has a place with the mark
+pub purple-place : (bs : List Buffered) (x : Name) → IsPurpleName bs x → (b : Buffered) × Among b bs × (b.purple ≡ true) × (native b.number ≡ x)
+purple-place bs x m =
+    let f = Among-map_cases buffered (filter (λ b. b.purple) bs) x m in
+    (f.0, Among-filtered (λ (b : Buffered). b.purple) f.0 bs f.1, Among-passes (λ (b : Buffered). b.purple) f.0 bs f.1, f.2)
+
+-- a mark set has a place
+pub with_mark-place : (m : Bool) (k : ℕ) (bs : List Buffered) → Among (record { number = k; purple = m }) (with_mark m k bs)
+with_mark-place m k [] = inl refl
+with_mark-place m k (b ∷ bs) = go (with_mark-place m k bs) (b.number == k) refl
   where
-    go : Among (native k) (names_in (with_mark m k bs)) → (t : Bool) → (b.number == k) ≡ t →
-        Among (native k) (names_in (elim t [ true ↦ record b { purple = m } ∷ bs | false ↦ b ∷ with_mark m k bs ]))
-    go ih true e = inl (ap native (eqb-true b.number k e))
+    go : Among (record { number = k; purple = m }) (with_mark m k bs) → (t : Bool) → (b.number == k) ≡ t →
+        Among (record { number = k; purple = m }) (elim t [ true ↦ record b { purple = m } ∷ bs | false ↦ b ∷ with_mark m k bs ])
+    go ih true e = inl (ap (λ (n : ℕ). record { number = n; purple = m }) (eqb-true b.number k e))
     go ih false e = inr ih
 
--- and so is what was there
-pub with_mark-keeps : (m : Bool) (k : ℕ) (bs : List Buffered) (x : Name) → Among x (names_in bs) → Among x (names_in (with_mark m k bs))
-with_mark-keeps m k [] x i = absurd i
-with_mark-keeps m k (b ∷ bs) x i = go (with_mark-keeps m k bs x) (b.number == k)
+-- so the native that was marked is there
+pub with_mark-there : (m : Bool) (k : ℕ) (bs : List Buffered) → Among (native k) (names_in (with_mark m k bs))
+with_mark-there m k bs = Among-map buffered (record { number = k; purple = m }) (with_mark m k bs) (with_mark-place m k bs)
+
+-- a place of the buffer stays, or it is that of the native that is marked
+pub with_mark-stays : (m : Bool) (k : ℕ) (bs : List Buffered) (b : Buffered) → Among b bs → (b.number ≡ k) ⊎ Among b (with_mark m k bs)
+with_mark-stays m k [] b i = absurd i
+with_mark-stays m k (c ∷ bs) b i = go (with_mark-stays m k bs b) (c.number == k) refl
   where
-    go : (Among x (names_in bs) → Among x (names_in (with_mark m k bs))) → (t : Bool) →
-        Among x (names_in (elim t [ true ↦ record b { purple = m } ∷ bs | false ↦ b ∷ with_mark m k bs ]))
-    go ih true = i
-    go ih false = ⊎_elim (λ e. inl e) (λ r. inr (ih r)) i
+    go : (Among b bs → (b.number ≡ k) ⊎ Among b (with_mark m k bs)) → (t : Bool) → (c.number == k) ≡ t →
+        (b.number ≡ k) ⊎ Among b (elim t [ true ↦ record c { purple = m } ∷ bs | false ↦ c ∷ with_mark m k bs ])
+    go ih true e = ⊎_elim (λ s. inl (ap (λ (d : Buffered). d.number) (sym s) ∙ eqb-true c.number k e)) (λ t. inr (inr t)) i
+    go ih false e = ⊎_elim (λ s. inr (inl s)) (λ t. ⊎_elim (λ l. inl l) (λ r. inr (inr r)) (ih t)) i
+
+-- who was there stays there
+pub with_mark-keeps : (m : Bool) (k : ℕ) (bs : List Buffered) (x : Name) → Among x (names_in bs) → Among x (names_in (with_mark m k bs))
+with_mark-keeps m k bs x i =
+    let f = Among-map_cases buffered bs x i in
+    ⊎_elim
+    (λ e. subst (λ y. Among y (names_in (with_mark m k bs))) (ap native (sym e) ∙ f.2) (with_mark-there m k bs))
+    (λ t. subst (λ y. Among y (names_in (with_mark m k bs))) f.2 (Among-map buffered f.0 (with_mark m k bs) t))
+    (with_mark-stays m k bs f.0 f.1)
 
 -- a name stands in the buffer where it has a place
 pub places-named : (k : ℕ) (bs : List Buffered) → 1 ≤ places k bs → Among (native k) (names_in bs)

@@ -1,28 +1,11 @@
 -- Names and pairs of names told apart.
-use Rattle.std.proofs.Common.{◌≡◌, ◌∙◌, true, false, refl, sym, ap, inl, inr, ◌⊎◌, ⊎_elim}
+use Rattle.std.proofs.Common.{◌≡◌, ◌∙◌, true, sym, ap, inl, inr, ◌⊎◌, ⊎_elim}
 use Rattle.std.proofs.lemmas.Bool.{cases_Bool, and_parts, and_from, true≢false, false≢true}
 use Rattle.cc_names.specs.declared.name.Name.{Name}
 use Rattle.cc_names.specs.declared.name.Name.TheVariants as name
 use Rattle.cc_names.specs.Names.{same_name, is_native, is_script}
 use Rattle.cc_names.proofs.NameTests.{same_name-true, same_name-refl, same_name-exact}
-use Rattle.cc_lists.proofs.Numbers.{eqb-sym}
 use Rattle.cc_model.specs.View.{between}
-
--- names are told apart from either side alike
-pub same_name-sym : (x y : Name) → same_name x y ≡ same_name y x
-same_name-sym (name.Native i) (name.Native j) = eqb-sym i.0 j.0
-same_name-sym (name.Script i) (name.Script j) = eqb-sym i.0 j.0
-same_name-sym (name.Reflector i) (name.Reflector j) = eqb-sym i.0 j.0
-same_name-sym (name.Native i) (name.Script j) = refl
-same_name-sym (name.Native i) (name.Reflector j) = refl
-same_name-sym (name.Script i) (name.Native j) = refl
-same_name-sym (name.Script i) (name.Reflector j) = refl
-same_name-sym (name.Reflector i) (name.Native j) = refl
-same_name-sym (name.Reflector i) (name.Script j) = refl
-
--- different names are told apart
-pub same_name-false : (x y : Name) → ¬ (x ≡ y) → same_name x y ≡ false
-same_name-false x y d = ⊎_elim (λ e. absurd (d (same_name-true x y e))) (λ e. e) (cases_Bool (same_name x y))
 
 -- names are the same or not
 pub name_cases : (x y : Name) → (x ≡ y) ⊎ (¬ (x ≡ y))
@@ -39,7 +22,7 @@ abbrev pair_of : Name → Name → Name × Name
 pair_of x y = (x, y)
 
 -- pairs of the same names are the same
-pub pair-same : (r : Name × Name) (x y : Name) → r.0 ≡ x → r.1 ≡ y → r ≡ (x, y)
+pair-same : (r : Name × Name) (x y : Name) → r.0 ≡ x → r.1 ≡ y → r ≡ (x, y)
 pair-same r x y a b = ap (λ z. pair_of z r.1) a ∙ ap (λ z. pair_of x z) b
 
 -- the test of a reference from x to y tells this reference

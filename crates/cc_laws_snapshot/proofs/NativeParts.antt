@@ -1,6 +1,6 @@
 -- PARTS OF COMMANDS THAT CHANGE NATIVES, each gentle: a reference taken, a register or a slot written, a reflector
 -- preserved, a native made.
-use Rattle.std.proofs.Common.{◌≡◌, ℕ, ◌+◌, ◌<◌, ◌==◌, Bool, true, false, List, [], ◌∷◌, ◌++◌, length, set, get_or, Option, Some, None, refl, sym, ◌∙◌, ap, subst, inl, inr, ◌⊎◌, ⊎_elim, arith, count_by}
+use Rattle.std.proofs.Common.{◌≡◌, ℕ, ◌+◌, ◌<◌, Bool, true, false, List, [], ◌∷◌, ◌++◌, length, set, get_or, Option, Some, None, refl, sym, ◌∙◌, ap, subst, inl, inr, ◌⊎◌, ⊎_elim, arith, count_by}
 use Rattle.std.specs.List.{flat_map}
 use Rattle.std.specs.Option.{option_to_list}
 use Rattle.std.proofs.lemmas.Bool.{and_parts, eqb-true}
@@ -20,15 +20,15 @@ use Rattle.cc_model.specs.Cascade.{add_ref, take_up}
 use Rattle.cc_model.specs.Effects.{with_native}
 use Rattle.cc_model.specs.View.{view, between, slot_edges, preserved_edge, native_edges}
 use Rattle.cc_model.specs.WellFormed.{IsWellFormed, native_names}
-use Rattle.cc_laws_heap.proofs.Natives.{native_at-member, IsWellFormed-distinct, changed_at-number}
+use Rattle.cc_laws_heap.proofs.Natives.{has_number, native_at-member, IsWellFormed-distinct}
 use Rattle.cc_laws_heap.proofs.HoldsTheSame.{raise_native}
-use Rattle.cc_lists.proofs.ListWrites.{changed_where, changed_where-either, count_by-flat_map_set, Among-flat_map_set, each-push}
+use Rattle.cc_lists.proofs.ListWrites.{count_by-flat_map_set, Among-flat_map_set, each-push}
 use Rattle.cc_laws_heap.proofs.Making.{contents-empty_none, new_native}
 use Rattle.cc_lists.proofs.CountsOf.{false-left, count_by-none}
 use Rattle.cc_laws_snapshot.proofs.Marked.{names_in, with_mark-there, with_mark-keeps}
 use Rattle.cc_laws_snapshot.proofs.EdgesLeft.{between-preserved}
 use Rattle.cc_laws_snapshot.proofs.GentleBut.{AreGentleBut, AreGentle, IsGentleBut-registers, AreGentle-refl}
-use Rattle.cc_laws_snapshot.proofs.NativesChange.{IsOut, AreGentleBut-natives, AreGentleBut-each}
+use Rattle.cc_laws_snapshot.proofs.NativesChange.{IsOut, AreGentleBut-natives, AreGentleBut-one}
 
 -- Registers
 
@@ -41,23 +41,13 @@ register-gentle h (S d) x = IsGentleBut-registers h.natives_made (view h) (view 
 
 -- A reference taken is gentle: its native is in the buffer.
 pub add_ref-gentle : (h : Heap) (k : ℕ) → AreGentle h (add_ref h k)
-add_ref-gentle h k = AreGentleBut-each [] h raised (with_mark false k h.buffer) (record {
-  number = changed_at-number k raise_native (λ n. refl);
+add_ref-gentle h k = AreGentleBut-one [] h k raise_native (with_mark false k h.buffer) (record {
+  number = λ n. refl;
   buffer = with_mark-keeps false k h.buffer;
-  count = λ n m o. changed_where-either (λ p. p.count ≡ n.count) is_it raise_native n
-      (λ e. absurd (o.0 (subst (λ j. Among (native j) (names_in (with_mark false k h.buffer))) (sym (eqb-true n.number k e)) (with_mark-there false k h.buffer)))) refl;
-  as_often = λ n w j m o. ap (count_by (between w (native j))) (same_edges n);
-  gray_edge = λ n e m i g. subst (Among e) (same_edges n) i;
+  count = λ n o. absurd (o.0 (with_mark-there false k h.buffer));
+  as_often = λ n w j m e o. refl;
+  gray_edge = λ n e s m g. m;
 })
-  where
-    is_it : HeapNative → Bool
-    is_it n = n.number == k
-
-    raised : HeapNative → HeapNative
-    raised n = changed_where is_it raise_native n
-
-    same_edges : (n : HeapNative) → native_edges (raised n) ≡ native_edges n
-    same_edges n = changed_where-either (λ p. native_edges p ≡ native_edges n) is_it raise_native n (λ e. refl) refl
 
 -- So is a reference to what a register or a slot is to hold.
 pub take_up-gentle : (h : Heap) (x : Option Name) → AreGentle h (take_up h x)
@@ -91,12 +81,8 @@ none-to w x k ys d = count_by-none (λ y. between w (native k) (from_to x y)) ys
     (λ e. d (subst (λ z. Among z ys) (same_name-true y (native k) (and_parts (same_name y (native k)) (same_name x w) e).0) m)))
 
 module _ (h : Heap) (k i : ℕ) (there : HeapNative) (x : Option Name) (w : IsWellFormed h) (found : native_at h k ≡ Some there) where
-  -- whether it is native k
-  abbrev is_it : HeapNative → Bool
-  is_it n = n.number == k
-
   -- the only native with the number k
-  it-is : (n : HeapNative) → Among n h.natives → is_it n ≡ true → n ≡ there
+  it-is : (n : HeapNative) → Among n h.natives → has_number k n ≡ true → n ≡ there
   it-is n m e =
       let here : native_at h k ≡ Some n =
       subst (λ j. native_at h j ≡ Some n) (eqb-true n.number k e) (native_at-member h (IsWellFormed-distinct h w) n m) in
@@ -105,7 +91,7 @@ module _ (h : Heap) (k i : ℕ) (there : HeapNative) (x : Option Name) (w : IsWe
 
   -- another native than the old and the new content is held as often
   slot-as_often : i < length there.slots → AreTaken h x → (n : HeapNative) (v : Name) (j : ℕ) → Among n h.natives →
-      IsOut (option_to_list (get_or there.slots i None)) h.buffer j → is_it n ≡ true →
+      IsOut (option_to_list (get_or there.slots i None)) h.buffer j → has_number k n ≡ true →
       count_by (between v (native j)) (native_edges (with_native_slot i x n)) ≡ count_by (between v (native j)) (native_edges n)
   slot-as_often room taken n v j m o e =
       omega (
@@ -148,61 +134,63 @@ module _ (h : Heap) (k i : ℕ) (there : HeapNative) (x : Option Name) (w : IsWe
   -- A slot of a native written is gentle but for what it held.
   pub native_slot-gentle : i < length there.slots → AreTaken h x → IsNotGray h x →
       AreGentleBut (option_to_list (get_or there.slots i None)) h (change_native h k (with_native_slot i x))
-  native_slot-gentle room taken pale = AreGentleBut-each (option_to_list (get_or there.slots i None)) h (changed_where is_it (with_native_slot i x)) h.buffer (record {
-    number = λ n. changed_where-either (λ p. p.number ≡ n.number) is_it (with_native_slot i x) n (λ e. refl) refl;
+  native_slot-gentle room taken pale = AreGentleBut-one (option_to_list (get_or there.slots i None)) h k (with_native_slot i x) h.buffer (record {
+    number = λ n. refl;
     buffer = λ y m. m;
-    count = λ n m o. changed_where-either (λ p. p.count ≡ n.count) is_it (with_native_slot i x) n (λ e. refl) refl;
-    as_often = λ n v j m o. changed_where-either (λ p. count_by (between v (native j)) (native_edges p) ≡ count_by (between v (native j)) (native_edges n))
-        is_it (with_native_slot i x) n (slot-as_often room taken n v j m o) refl;
-    gray_edge = λ n e m t g. changed_where-either (λ p. Among e (native_edges p) → Among e (native_edges n)) is_it (with_native_slot i x) n
-        (λ s t. slot-gray pale n e t g) (λ t. t) t;
+    count = λ n o. refl;
+    as_often = λ n v j m e o. slot-as_often room taken n v j m o e;
+    gray_edge = λ n e s m g. slot-gray pale n e m g;
   })
 
 -- Preserved reflectors
 
--- A reflector preserved is gentle, where it is not gray.
-pub set_preserved-gentle : (h : Heap) (k : ℕ) → ¬ (Among (reflector k) (view h).gray) → AreGentle h (set_preserved h k true)
-set_preserved-gentle h k pale = AreGentleBut-each [] h (changed_where is_it kept) h.buffer (record {
-  number = λ n. changed_where-either (λ p. p.number ≡ n.number) is_it kept n (λ e. refl) refl;
+-- A flag written is gentle, where it preserves nothing gray.
+pub flag-gentle : (h : Heap) (k : ℕ) (on : Bool) → (on ≡ true → ¬ (Among (reflector k) (view h).gray)) → AreGentle h (set_preserved h k on)
+flag-gentle h k on pale = AreGentleBut-one [] h k flagged h.buffer (record {
+  number = λ n. refl;
   buffer = λ y m. m;
-  count = λ n m o. changed_where-either (λ p. p.count ≡ n.count) is_it kept n (λ e. refl) refl;
-  as_often = λ n v j m o. changed_where-either (λ p. count_by (between v (native j)) (native_edges p) ≡ count_by (between v (native j)) (native_edges n))
-      is_it kept n (λ e. as_often n v j) refl;
-  gray_edge = λ n e m t g. changed_where-either (λ p. Among e (native_edges p) → Among e (native_edges n)) is_it kept n (λ s t. gray n e s t g) (λ t. t) t;
+  count = λ n o. refl;
+  as_often = λ n v j m e o. as_often n v j;
+  gray_edge = λ n e s m g. gray n e s m g;
 })
   where
-    is_it : HeapNative → Bool
-    is_it n = n.number == k
-
-    kept : HeapNative → HeapNative
-    kept n = record n { preserved = true }
+    flagged : HeapNative → HeapNative
+    flagged n = record n { preserved = on }
 
     as_often : (n : HeapNative) (v : Name) (j : ℕ) →
-        count_by (between v (native j)) (native_edges (kept n)) ≡ count_by (between v (native j)) (native_edges n)
+        count_by (between v (native j)) (native_edges (flagged n)) ≡ count_by (between v (native j)) (native_edges n)
     as_often n v j =
         omega (
           arith,
-          count_by-append (between v (native j)) (slot_edges (native n.number) n.slots) (preserved_edge (kept n)),
+          count_by-append (between v (native j)) (slot_edges (native n.number) n.slots) (preserved_edge (flagged n)),
           count_by-append (between v (native j)) (slot_edges (native n.number) n.slots) (preserved_edge n),
-          between-preserved v j n.number true,
+          between-preserved v j n.number on,
           between-preserved v j n.number n.preserved,
         )
 
-    gray : (n : HeapNative) (e : Name × Name) → is_it n ≡ true → Among e (native_edges (kept n)) → Among e.1 (view h).gray → Among e (native_edges n)
+    edge_by : HeapNative → Bool → List (Name × Name)
+    edge_by n b = elim b [ true ↦ (native n.number, reflector n.number) ∷ [] | false ↦ [] ]
+
+    -- what a flag that was set leads to is not gray
+    not_new : (n : HeapNative) (e : Name × Name) → has_number k n ≡ true → (b : Bool) → on ≡ b → Among e (edge_by n b) → ¬ (Among e.1 (view h).gray)
+    not_new n e s true q m g = ⊎_elim
+        (λ t. let named : reflector k ≡ e.1 = ap reflector (sym (eqb-true n.number k s)) ∙ ap (λ (p : Name × Name). p.1) t in
+        pale q (subst (λ y. Among y (view h).gray) (sym named) g))
+        (λ t. t) m
+    not_new n e s false q m g = m
+
+    gray : (n : HeapNative) (e : Name × Name) → has_number k n ≡ true → Among e (native_edges (flagged n)) → Among e.1 (view h).gray → Among e (native_edges n)
     gray n e s m g = ⊎_elim
         (λ l. Among-left e (slot_edges (native n.number) n.slots) (preserved_edge n) l)
-        (λ r. ⊎_elim
-        (λ q. let named : reflector k ≡ e.1 = ap reflector (sym (eqb-true n.number k s)) ∙ ap (λ (p : Name × Name). p.1) q in
-        absurd (pale (subst (λ y. Among y (view h).gray) (sym named) g)))
-        (λ t. absurd t) r)
-        (Among-append e (slot_edges (native n.number) n.slots) (preserved_edge (kept n)) m)
+        (λ r. absurd (not_new n e s on refl r g))
+        (Among-append e (slot_edges (native n.number) n.slots) (preserved_edge (flagged n)) m)
 
--- So for what may be a reflector.
+-- So is a reflector preserved, where it is one and not gray.
 pub preserve-gentle : (h : Heap) (x : Option Name) → IsNotGray h x → AreGentle h (preserve h x)
 preserve-gentle h None pale = AreGentle-refl h
 preserve-gentle h (Some (name.Native k)) pale = AreGentle-refl h
 preserve-gentle h (Some (name.Script k)) pale = AreGentle-refl h
-preserve-gentle h (Some (name.Reflector k)) pale = set_preserved-gentle h k.0 (pale (reflector k.0) (inl refl))
+preserve-gentle h (Some (name.Reflector k)) pale = flag-gentle h k.0 true (λ e. pale (reflector k.0) (inl refl))
 
 -- Natives made
 

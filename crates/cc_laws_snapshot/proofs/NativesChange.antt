@@ -1,6 +1,7 @@
 -- WHEN A CHANGE OF NATIVES AND OF THE BUFFER IS GENTLE.
-use Rattle.std.proofs.Common.{◌≡◌, ℕ, ◌<◌, ◌≤◌, List, ◌++◌, map, sym, ◌∙◌, ap, subst, inl, inr, ◌⊎◌, ⊎_elim, arith, count_by}
+use Rattle.std.proofs.Common.{◌≡◌, ℕ, ◌<◌, ◌≤◌, true, List, ◌++◌, map, refl, sym, ◌∙◌, ap, subst, inl, inr, ◌⊎◌, ⊎_elim, arith, count_by}
 use Rattle.std.specs.List.{flat_map}
+use Rattle.std.proofs.lemmas.Bool.{eqb-true}
 use Rattle.std.proofs.lemmas.List.Folds.{flat_map-map}
 use Rattle.cc_lists.specs.Members.{Among}
 use Rattle.cc_lists.proofs.Members.{Among-map, Among-map_cases, Among-left, Among-right, Among-append, Among-flat_map, Among-flat_map_cases}
@@ -10,8 +11,8 @@ use Rattle.cc_names.specs.Names.{native, number_of}
 use Rattle.cc_model.specs.Heap.{Heap, HeapNative, Buffered}
 use Rattle.cc_model.specs.View.{view, between, counted, native_edges, script_edges}
 use Rattle.cc_model.specs.WellFormed.{native_names}
-use Rattle.cc_lists.proofs.ListWrites.{each-map}
-use Rattle.cc_laws_heap.proofs.Natives.{KeepsNumber}
+use Rattle.cc_lists.proofs.ListWrites.{changed_where-either, each-map}
+use Rattle.cc_laws_heap.proofs.Natives.{has_number, KeepsNumber, changed_at, changed_at-number}
 use Rattle.cc_lists.proofs.CountsOf.{count_by-flat_map_same}
 use Rattle.cc_laws_snapshot.proofs.SoundView.{living-named, living-native}
 use Rattle.cc_laws_snapshot.proofs.Marked.{names_in}
@@ -98,7 +99,7 @@ counted-same : (n m : HeapNative) → n.number ≡ m.number → n.count ≡ m.co
 counted-same n m e c = ap (λ j. pair_of (native j) n.count) e ∙ ap (λ j. pair_of (native m.number) j) c
 
 -- Natives so changed change gently.
-pub ChangesGently-each : (loose : List Name) (h : Heap) (f : HeapNative → HeapNative) (bs : List Buffered) → ChangesEach loose h f bs →
+ChangesGently-each : (loose : List Name) (h : Heap) (f : HeapNative → HeapNative) (bs : List Buffered) → ChangesEach loose h f bs →
     ChangesGently loose h (map f h.natives) bs h.natives_made
 ChangesGently-each loose h f bs c = record {
   more = omega arith;
@@ -125,6 +126,29 @@ ChangesGently-each loose h f bs c = record {
 }
 
 -- the same of the heaps
-pub AreGentleBut-each : (loose : List Name) (h : Heap) (f : HeapNative → HeapNative) (bs : List Buffered) → ChangesEach loose h f bs →
+AreGentleBut-each : (loose : List Name) (h : Heap) (f : HeapNative → HeapNative) (bs : List Buffered) → ChangesEach loose h f bs →
     AreGentleBut loose h (with_those h (map f h.natives) bs h.natives_made)
 AreGentleBut-each loose h f bs c = AreGentleBut-natives loose h (map f h.natives) bs h.natives_made (ChangesGently-each loose h f bs c)
+
+-- One native changed
+
+-- one native keeps its number, and its count where it is out; natives that are out are held by it as often
+pub record ChangesOne (loose : List Name) (h : Heap) (k : ℕ) (f : HeapNative → HeapNative) (bs : List Buffered) : Type 0 where
+  pub number : KeepsNumber f
+  pub buffer : (x : Name) → Among x (names_in h.buffer) → Among x (names_in bs)
+  pub count : (n : HeapNative) → IsOut loose bs k → (f n).count ≡ n.count
+  pub as_often : (n : HeapNative) (w : Name) (j : ℕ) → Among n h.natives → has_number k n ≡ true → IsOut loose bs j →
+      count_by (between w (native j)) (native_edges (f n)) ≡ count_by (between w (native j)) (native_edges n)
+  pub gray_edge : (n : HeapNative) (e : Name × Name) → has_number k n ≡ true → Among e (native_edges (f n)) → Among e.1 (view h).gray → Among e (native_edges n)
+
+-- One native so changed changes gently.
+pub AreGentleBut-one : (loose : List Name) (h : Heap) (k : ℕ) (f : HeapNative → HeapNative) (bs : List Buffered) → ChangesOne loose h k f bs →
+    AreGentleBut loose h (with_those h (map (changed_at k f) h.natives) bs h.natives_made)
+AreGentleBut-one loose h k f bs c = AreGentleBut-each loose h (changed_at k f) bs (record {
+  number = changed_at-number k f c.number;
+  buffer = c.buffer;
+  count = λ n m o. changed_where-either (λ p. p.count ≡ n.count) (has_number k) f n (λ e. c.count n (subst (IsOut loose bs) (eqb-true n.number k e) o)) refl;
+  as_often = λ n w j m o. changed_where-either (λ p. count_by (between w (native j)) (native_edges p) ≡ count_by (between w (native j)) (native_edges n))
+      (has_number k) f n (λ e. c.as_often n w j m e o) refl;
+  gray_edge = λ n e m i g. changed_where-either (λ p. Among e (native_edges p) → Among e (native_edges n)) (has_number k) f n (λ s t. c.gray_edge n e s t g) (λ t. t) i;
+})

@@ -31,21 +31,27 @@ is_untraversed-true gone e = absurd (false≢true e)
 is_untraversed-true (traversed n) e = absurd (false≢true e)
 
 -- names that are distinct are those of distinct nodes
-pub names-distinct : (ns : List Node) → ((x : Name) → count_by (same_name x) (names_of ns) ≤ 1) → HasDistinctNodes ns
+names-distinct : (ns : List Node) → ((x : Name) → count_by (same_name x) (names_of ns) ≤ 1) → HasDistinctNodes ns
 names-distinct ns d x = subst (λ c. c ≤ 1) (count_by-map (same_name x) (λ (n : Node). n.name) ns) (d x)
 
 -- The first untraversed node gets a state
+
+-- the name of the first, by whether it stands in front
+abbrev first_by : Node → List Node → Bool → Option Name
+first_by n ns true = Some n.name
+first_by n ns false = first_untraversed ns
+
+-- the nodes once it has the state, by the same
+abbrev nodes_by : NodeState → Node → List Node → Bool → List Node
+nodes_by state n ns true = record n { state = state } ∷ ns
+nodes_by state n ns false = n ∷ with_state state ns
 
 -- its name is that of an untraversed node
 pub first-untraversed : (ns : List Node) (x : Name) → first_untraversed ns ≡ Some x → Among (node x untraversed) ns
 first-untraversed [] x e = absurd (cc)
 first-untraversed (n ∷ ns) x e = go (first-untraversed ns x) (is_open n) refl e
   where
-    first_by : Bool → Option Name
-    first_by true = Some n.name
-    first_by false = first_untraversed ns
-
-    go : (first_untraversed ns ≡ Some x → Among (node x untraversed) ns) → (b : Bool) → is_open n ≡ b → first_by b ≡ Some x → Among (node x untraversed) (n ∷ ns)
+    go : (first_untraversed ns ≡ Some x → Among (node x untraversed) ns) → (b : Bool) → is_open n ≡ b → first_by n ns b ≡ Some x → Among (node x untraversed) (n ∷ ns)
     go ih true k f =
         let named : n.name ≡ x = cc in
         inl (ap (λ state. node n.name state) (is_untraversed-true n.state k) ∙ ap (λ y. node y untraversed) named)
@@ -56,28 +62,16 @@ pub names-with_state : (state : NodeState) (ns : List Node) → names_of (with_s
 names-with_state state [] = refl
 names-with_state state (n ∷ ns) = go (names-with_state state ns) (is_open n)
   where
-    nodes_by : Bool → List Node
-    nodes_by true = record n { state = state } ∷ ns
-    nodes_by false = n ∷ with_state state ns
-
-    go : names_of (with_state state ns) ≡ names_of ns → (b : Bool) → names_of (nodes_by b) ≡ n.name ∷ names_of ns
+    go : names_of (with_state state ns) ≡ names_of ns → (b : Bool) → names_of (nodes_by state n ns b) ≡ n.name ∷ names_of ns
     go ih true = refl
     go ih false = ap (λ l. n.name ∷ l) ih
 
 -- the node stands there with its state
-pub with_state-there : (state : NodeState) (ns : List Node) (x : Name) → first_untraversed ns ≡ Some x → Among (node x state) (with_state state ns)
+with_state-there : (state : NodeState) (ns : List Node) (x : Name) → first_untraversed ns ≡ Some x → Among (node x state) (with_state state ns)
 with_state-there state [] x e = absurd (cc)
 with_state-there state (n ∷ ns) x e = go (with_state-there state ns x) (is_open n) e
   where
-    nodes_by : Bool → List Node
-    nodes_by true = record n { state = state } ∷ ns
-    nodes_by false = n ∷ with_state state ns
-
-    first_by : Bool → Option Name
-    first_by true = Some n.name
-    first_by false = first_untraversed ns
-
-    go : (first_untraversed ns ≡ Some x → Among (node x state) (with_state state ns)) → (b : Bool) → first_by b ≡ Some x → Among (node x state) (nodes_by b)
+    go : (first_untraversed ns ≡ Some x → Among (node x state) (with_state state ns)) → (b : Bool) → first_by n ns b ≡ Some x → Among (node x state) (nodes_by state n ns b)
     go ih true f = let named : n.name ≡ x = cc in inl (ap (λ y. node y state) named)
     go ih false f = inr (ih f)
 
@@ -87,16 +81,8 @@ with_state-others : (state : NodeState) (ns : List Node) (x : Name) → first_un
 with_state-others state [] x e m i = absurd i
 with_state-others state (n ∷ ns) x e m i = go (with_state-others state ns x) (is_open n) e i
   where
-    nodes_by : Bool → List Node
-    nodes_by true = record n { state = state } ∷ ns
-    nodes_by false = n ∷ with_state state ns
-
-    first_by : Bool → Option Name
-    first_by true = Some n.name
-    first_by false = first_untraversed ns
-
     go : (first_untraversed ns ≡ Some x → (m : Node) → Among m (with_state state ns) → Among m ns ⊎ (m.name ≡ x)) →
-        (b : Bool) → first_by b ≡ Some x → Among m (nodes_by b) → Among m (n ∷ ns) ⊎ (m.name ≡ x)
+        (b : Bool) → first_by n ns b ≡ Some x → Among m (nodes_by state n ns b) → Among m (n ∷ ns) ⊎ (m.name ≡ x)
     go ih true f j = ⊎_elim (λ s. let named : n.name ≡ x = cc in inr (sym (ap (λ (k : Node). k.name) s) ∙ named)) (λ t. inl (inr t)) j
     go ih false f j = ⊎_elim (λ s. inl (inl s)) (λ t. ⊎_elim (λ a. inl (inr a)) (λ b. inr b) (ih f m t)) j
 

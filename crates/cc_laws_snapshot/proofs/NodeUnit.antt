@@ -1,22 +1,22 @@
 -- THE UNIT OF A NODE on the heaps: what it notes and samples, and that it keeps a snapshot fresh.
-use Rattle.std.proofs.Common.{◌≡◌, ℕ, Bool, true, false, List, [], Option, Some, None, option_map, is_some, refl, sym, ◌∙◌, ap, subst, ◌⊎◌, ⊎_elim, find}
+use Rattle.std.proofs.Common.{◌≡◌, ℕ, true, false, List, [], Option, Some, None, option_map, is_some, refl, sym, ◌∙◌, ap, subst, ◌⊎◌, ⊎_elim}
 use Rattle.std.specs.List.{filter}
 use Rattle.std.proofs.lemmas.Bool.{or_left, or_right, false≢true}
 use Rattle.cc_lists.specs.Members.{Among}
-use Rattle.cc_lists.proofs.Members.{Among-map, Among-map_cases, Among-filter, Among-filtered, Among-passes}
+use Rattle.cc_lists.proofs.Members.{Among-map_cases, Among-filter, Among-filtered, Among-passes}
 use Rattle.cc_names.specs.declared.name.Name.{Name}
 use Rattle.cc_names.specs.declared.name.Name.TheVariants as name
 use Rattle.cc_names.specs.Names.{native, object, reflector, same_name, is_native, is_script, number_of}
 use Rattle.cc_names.proofs.NameTests.{same_name-true, same_name-exact}
-use Rattle.cc_model.specs.Heap.{Heap, HeapScript, native_at, script_at, is_gray_colour, is_gray_in}
+use Rattle.cc_model.specs.Heap.{Heap, HeapScript, native_at, script_at, is_gray_in}
 use Rattle.cc_model.specs.View.{view, native_edges, script_edges}
 use Rattle.cc_model.specs.WellFormed.{IsWellFormed, script_names}
 use Rattle.cc_model.specs.Snapshot.{Snapshot, untraversed}
 use Rattle.cc_model.specs.Units.{first_untraversed, targets, edges_in, is_noted, to_note, sample, after_node}
 use Rattle.cc_model.specs.Fresh.{IsNode, IsLiving, IsFresh}
 use Rattle.cc_laws_heap.specs.Sound.{IsSound}
-use Rattle.cc_lists.proofs.Filtering.{find-among, find-passes}
 use Rattle.cc_lists.proofs.Searching.{find-some, count_by-kept}
+use Rattle.cc_laws_heap.proofs.Coloured.{is_gray}
 use Rattle.cc_laws_heap.proofs.Natives.{native_at-member, IsWellFormed-distinct}
 use Rattle.cc_laws_snapshot.proofs.OwnEdges.{edges_in-targets, HasTargets-edge}
 use Rattle.cc_laws_snapshot.proofs.SoundView.{IsSound-view, living-native, named-there}
@@ -27,10 +27,6 @@ use Rattle.cc_laws_snapshot.proofs.Traversing.{IsNotedOf, traversed-fresh}
 
 -- What is gray
 
--- whether a script object is gray
-abbrev is_gray : HeapScript → Bool
-is_gray o = is_gray_colour o.colour
-
 -- what is gray in the view passes the test
 pub gray-tested : (h : Heap) (x : Name) → Among x (view h).gray → is_gray_in h x ≡ true
 gray-tested h x m =
@@ -39,22 +35,6 @@ gray-tested h x m =
     Among-filter (λ (o : HeapScript). same_name o.name x) f.0 h.scripts (Among-filtered is_gray f.0 h.scripts f.1) ((same_name-exact f.0.name x).1 f.2) in
     let g = find-some is_gray (filter (λ o. same_name o.name x) h.scripts) f.0 there (Among-passes is_gray f.0 h.scripts f.1) in
     ap is_some g.1
-
--- what passes the test is gray in the view
-pub tested-gray : (h : Heap) (x : Name) → is_gray_in h x ≡ true → Among x (view h).gray
-tested-gray h x e = go (find is_gray named) refl e
-  where
-    named : List HeapScript
-    named = filter (λ o. same_name o.name x) h.scripts
-
-    go : (o : Option HeapScript) → find is_gray named ≡ o → is_some o ≡ true → Among x (view h).gray
-    go None f t = absurd (false≢true t)
-    go (Some o) f t =
-        let there : Among o named = find-among is_gray named o f in
-        let same : o.name ≡ x = same_name-true o.name x (Among-passes (λ (p : HeapScript). same_name p.name x) o h.scripts there) in
-        subst (λ y. Among y (view h).gray) same
-        (Among-map (λ (p : HeapScript). p.name) o (filter is_gray h.scripts)
-        (Among-filter is_gray o h.scripts (Among-filtered (λ (p : HeapScript). same_name p.name x) o h.scripts there) (find-passes is_gray named o f)))
 
 -- natives and gray objects are noted
 noted-tested : (h : Heap) (u : Name) → (is_native u ≡ true) ⊎ Among u (view h).gray → is_noted h u ≡ true

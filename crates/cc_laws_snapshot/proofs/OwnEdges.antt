@@ -1,7 +1,6 @@
 -- What one object refers to is as often an edge of the heaps from its name.
 use Rattle.std.proofs.Common.{◌≡◌, ℕ, ◌≤◌, ◌==◌, ◌&&◌, Bool, true, false, List, Option, Some, None, option_map, refl, sym, ◌∙◌, ap, subst, arith, count_by}
 use Rattle.std.specs.List.{flat_map}
-use Rattle.std.proofs.Math.Path.{fun_ext}
 use Rattle.std.proofs.lemmas.Bool.{eq-eqb, true≢false}
 use Rattle.cc_lists.specs.Members.{Among}
 use Rattle.cc_lists.proofs.Counting.{count_by-map, count_by-append, count_by-some, counted_is}
@@ -11,22 +10,19 @@ use Rattle.cc_names.specs.Names.{native, object, reflector, same_name, is_script
 use Rattle.cc_names.proofs.NameTests.{same_name-true, same_name-refl}
 use Rattle.cc_model.specs.Heap.{Heap, HeapNative, HeapScript, native_at, script_at}
 use Rattle.cc_model.specs.View.{view, between, native_edges, script_edges}
-use Rattle.cc_model.specs.WellFormed.{IsWellFormed, FitsName}
+use Rattle.cc_model.specs.WellFormed.{IsWellFormed}
 use Rattle.cc_model.specs.Units.{targets, edges_in}
 use Rattle.cc_lists.proofs.Filtering.{find-among, find-passes}
+use Rattle.cc_laws_heap.proofs.ScriptNames.{scripts-once}
+use Rattle.cc_laws_heap.proofs.ScriptNames as script_names
 use Rattle.cc_laws_heap.proofs.Natives.{native_at-there, native_at-number, IsWellFormed-distinct}
 use Rattle.cc_lists.proofs.CountsOf.{false-left, count_by-none, count_by-agree, count_by-flat_map_none, count_by-flat_map_only}
-use Rattle.cc_laws_snapshot.proofs.NamePairs.{same_name-sym, native-no_script, between-true}
-use Rattle.cc_laws_snapshot.proofs.Edges.{native_edges-are, script_edges-are}
+use Rattle.cc_laws_snapshot.proofs.NamePairs.{native-no_script, between-true}
+use Rattle.cc_laws_heap.proofs.ViewEdges.{native_edges-are, script_edges-are}
 
 -- a script object's name is no native's
 pub script-named : (h : Heap) (o : HeapScript) → IsWellFormed h → Among o h.scripts → is_script o.name ≡ true
-script-named h o w m = go o.name (w.kinds o m)
-  where
-    go : (x : Name) → FitsName x o.kind o.slots → is_script x ≡ true
-    go (name.Native k) f = absurd f
-    go (name.Script k) f = refl
-    go (name.Reflector k) f = refl
+script-named h o w m = script_names.script-named h w o m
 
 -- the names to which x refers: each as often as there is an edge from x to it
 abbrev pub HasTargets : Heap → Name → List Name → Type 0
@@ -80,7 +76,7 @@ HasTargets-script h x o w e u =
     let there : Among o h.scripts = find-among named h.scripts o e in
     let same : o.name ≡ x = same_name-true o.name x (find-passes named h.scripts o e) in
     let own : count_by test (flat_map script_edges h.scripts) ≡ count_by test (script_edges o) =
-    count_by-flat_map_only test script_edges named h.scripts o once there (find-passes named h.scripts o e) other in
+    count_by-flat_map_only test script_edges named h.scripts o (scripts-once h w x) there (find-passes named h.scripts o e) other in
     let natives : count_by test (flat_map native_edges h.natives) ≡ 0 = count_by-flat_map_none test native_edges h.natives
     (λ n i. none-between x u (native_edges n) (λ y z j s.
     native-no_script (native n.number) refl (subst (λ v. is_script v ≡ true) (same ∙ sym ((native_edges-are n y z j).0 ∙ s)) (script-named h o w there)))) in
@@ -93,10 +89,6 @@ HasTargets-script h x o w e u =
 
     test : Name × Name → Bool
     test = between x u
-
-    once : count_by named h.scripts ≤ 1
-    once = subst (λ p. count_by p h.scripts ≤ 1) (fun_ext (λ p. same_name-sym x p.name))
-        (subst (λ c. c ≤ 1) (count_by-map (same_name x) (λ (p : HeapScript). p.name) h.scripts) (w.distinct x))
 
     other : (p : HeapScript) → Among p h.scripts → named p ≡ false → count_by test (script_edges p) ≡ 0
     other p i f = none-between x u (script_edges p) (λ y z j s.

@@ -22,7 +22,7 @@ use Rattle.cc_model.specs.Effects.{hold_script, with_object, make_object, with_r
 use Rattle.cc_model.specs.WellFormed.{IsWellFormed, native_names, script_names}
 use Rattle.cc_laws_heap.specs.Sound.{IsSound}
 use Rattle.cc_lists.proofs.ListWrites.{changed_where, changed_where-either, Among-flat_map_set}
-use Rattle.cc_laws_heap.proofs.EntriesKept.{with_entry-cases}
+use Rattle.cc_laws_heap.proofs.EntryLists.{with_entry-cases}
 use Rattle.cc_laws_heap.proofs.Kept.{with_entries}
 use Rattle.cc_laws_heap.proofs.Making.{contents-empty_none}
 use Rattle.cc_laws_heap.proofs.Owning.{IsIn, add_ref-sound}
@@ -33,7 +33,8 @@ use Rattle.cc_laws_heap.proofs.ColourChanges.{IsHeldBlack}
 use Rattle.cc_laws_snapshot.proofs.Marked.{names_in, with_mark-there}
 use Rattle.cc_laws_snapshot.proofs.GentleBut.{AreGentle, AreGentle-refl, AreGentle-then}
 use Rattle.cc_laws_snapshot.proofs.NativeParts.{IsNotGray, register-gentle, add_ref-gentle, preserve-gentle}
-use Rattle.cc_laws_snapshot.proofs.ScriptsChange.{is_gray, is_black, names_with-cases, ScriptsGently-each, ScriptsGently-push, AreGentle-scripts}
+use Rattle.cc_laws_heap.proofs.Coloured.{is_gray, is_black}
+use Rattle.cc_laws_snapshot.proofs.ScriptsChange.{names_with-cases, ScriptsGently-each, ScriptsGently-push, AreGentle-scripts}
 
 -- what is black is not gray
 pub not_gray-held : (h : Heap) (x : Option Name) → IsHeldBlack h.scripts x → IsNotGray h x

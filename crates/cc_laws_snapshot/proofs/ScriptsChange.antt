@@ -11,9 +11,10 @@ use Rattle.cc_names.specs.declared.name.Name.{Name}
 use Rattle.cc_names.specs.declared.kind.Colour.TheVariants.{Black}
 use Rattle.cc_names.specs.Names.{native, behind}
 use Rattle.cc_model.specs.Slots.{Slots, contents, from_to}
-use Rattle.cc_model.specs.Heap.{Heap, HeapScript, is_gray_colour, is_black_colour}
+use Rattle.cc_model.specs.Heap.{Heap, HeapScript, is_gray_colour}
 use Rattle.cc_model.specs.View.{view, between, names_with, slot_edges, native_edges, script_slot_edges, script_edges}
 use Rattle.cc_model.specs.WellFormed.{IsWellFormed, script_names}
+use Rattle.cc_laws_heap.proofs.Coloured.{is_gray, is_black}
 use Rattle.cc_laws_heap.proofs.Kept.{ChangesScripts, script_names-kept}
 use Rattle.cc_lists.proofs.ListWrites.{each-map, each-push}
 use Rattle.cc_laws_heap.proofs.ScriptsKept.{native-no_script}
@@ -23,14 +24,6 @@ use Rattle.cc_laws_snapshot.proofs.SoundView.{living-native, there-named, named-
 use Rattle.cc_laws_snapshot.proofs.Marked.{names_in}
 use Rattle.cc_laws_snapshot.proofs.NativeParts.{none-to}
 use Rattle.cc_laws_snapshot.proofs.GentleBut.{AreGentle}
-
--- whether a script object is gray
-abbrev pub is_gray : HeapScript → Bool
-is_gray o = is_gray_colour o.colour
-
--- whether it is black
-abbrev pub is_black : HeapScript → Bool
-is_black o = is_black_colour o.colour
 
 -- the heaps with other script objects, once so many were made
 abbrev pub with_those_scripts : Heap → List HeapScript → ℕ → Heap

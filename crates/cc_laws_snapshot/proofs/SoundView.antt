@@ -22,7 +22,8 @@ use Rattle.cc_laws_heap.specs.Sound.{IsSound}
 use Rattle.cc_laws_heap.proofs.Natives.{native_at-member, IsWellFormed-distinct}
 use Rattle.cc_laws_heap.proofs.References.{native-there}
 use Rattle.cc_lists.proofs.CountsOf.{false-left, count_by-none, count_by-agree, count_by-flat_map_same, count_by-flat_map_test}
-use Rattle.cc_laws_snapshot.proofs.NamePairs.{same_name-sym, native-no_script}
+use Rattle.cc_laws_heap.proofs.NameLists.{same_name-sym}
+use Rattle.cc_laws_snapshot.proofs.NamePairs.{native-no_script}
 use Rattle.cc_laws_snapshot.proofs.Edges.{edge-of}
 use Rattle.cc_laws_snapshot.proofs.OwnEdges.{script-named}
 
@@ -113,7 +114,7 @@ native-name_of h x m =
     subst (λ z. is_native z ≡ true) f.2 refl
 
 -- an edge leads to what is there
-edge-target : (h : Heap) (x y : Name) → IsWellFormed h → Among (x, y) (view h).edges → Among y (names_there h)
+pub edge-target : (h : Heap) (x y : Name) → IsWellFormed h → Among (x, y) (view h).edges → Among y (names_there h)
 edge-target h x y w m = ⊎_elim
     (λ a. ⊎_elim (w.native_contents a.0 y a.1)
     (λ p. Among-right y (native_names h) (script_names h) (subst (λ z. Among z (script_names h)) p.1 (w.preserved a.0 a.1 p.0))) a.3)
@@ -183,13 +184,11 @@ refs_to-view h k w =
       count_by-append (to (native k)) (flat_map native_edges h.natives) (flat_map script_edges h.scripts),
     )
 
--- two natives of one name are one
-one-native : (h : Heap) (n m : HeapNative) → IsWellFormed h → Among n h.natives → Among m h.natives → native n.number ≡ native m.number → n ≡ m
-one-native h n m w i j e =
-    let number : n.number ≡ m.number = ap number_of e in
-    let first : native_at h n.number ≡ Some n = native_at-member h (IsWellFormed-distinct h w) n i in
-    let second : native_at h m.number ≡ Some m = native_at-member h (IsWellFormed-distinct h w) m j in
-    let both : Some n ≡ Some m = sym first ∙ (ap (native_at h) number ∙ second) in
+-- natives of one number are one
+pub one-native : (h : Heap) (m n : HeapNative) → IsWellFormed h → Among m h.natives → Among n h.natives → m.number ≡ n.number → m ≡ n
+one-native h m n w a b e =
+    let d = IsWellFormed-distinct h w in
+    let both : Some m ≡ Some n = sym (native_at-member h d m a) ∙ (ap (native_at h) e ∙ native_at-member h d n b) in
     cc
 
 -- what a register holds that is a native is there
@@ -216,7 +215,7 @@ IsSound-view h s = record {
   one_count = λ u c d m n.
       let f = living-native h u c m in
       let g = living-native h u d n in
-      sym f.3 ∙ (ap (λ (o : HeapNative). o.count) (one-native h f.0 g.0 w f.1 g.1 (f.2 ∙ sym g.2)) ∙ g.3);
+      sym f.3 ∙ (ap (λ (o : HeapNative). o.count) (one-native h f.0 g.0 w f.1 g.1 (ap number_of (f.2 ∙ sym g.2))) ∙ g.3);
   counts = λ u c m.
       let f = living-native h u c m in
       let here : f.0.count ≡ count_by (same_name (native f.0.number)) (view h).registers + count_by (to (native f.0.number)) (view h).edges =

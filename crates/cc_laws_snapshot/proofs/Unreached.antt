@@ -61,7 +61,7 @@ module _ (made : ℕ) (v : View) (s : Snapshot) (sound : IsSoundView made v) (fr
   living-not_gone x l g = let d = fresh.gone_is_dead x g in d.4 l
 
   -- a node that holds something was traversed
-  holder-traversed : (x y : Name) → Among (x, y) v.edges → IsNode s x → IsTraversedNode s x
+  pub holder-traversed : (x y : Name) → Among (x, y) v.edges → IsNode s x → IsTraversedNode s x
   holder-traversed x y e n = alive-traversed made v s fresh all x n
       (λ g. let d = fresh.gone_is_dead x g in d.4 (subst (IsLiving v) (sym d.1) (sound.source_lives d.0 y (subst (λ z. Among (z, y) v.edges) d.1 e))))
 

@@ -44,7 +44,7 @@ IsRising-part {X} f p (x ∷ xs) r = go (p x) (IsRising-part f p xs (IsRising-ta
     go false rest = rest
 
 -- the white natives are white
-pub white_natives-white : (h : Heap) (s : Snapshot) (k : ℕ) → Among k (white_natives h s) → IsWhite (view h) s (native k)
+white_natives-white : (h : Heap) (s : Snapshot) (k : ℕ) → Among k (white_natives h s) → IsWhite (view h) s (native k)
 unfolding white_natives
 white_natives-white h s k m =
     let names : List Name = white_names (view h) s in

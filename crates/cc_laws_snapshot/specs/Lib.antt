@@ -1,2 +1,4 @@
 pub mod Gentle
 pub mod Kinds
+pub mod Losing
+pub mod KindsSuspected

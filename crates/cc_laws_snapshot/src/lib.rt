@@ -1,4 +1,5 @@
-//! Laws of the snapshot: it is fresh from begin to end, and what is white in it is unreached.
+//! Laws of the snapshot: it is fresh from begin to end, what is white in it is unreached, and every unreached native is
+//! suspected or reached from a candidate.
 //!
 //! Each function has an empty body and is a law that its clauses state, over the definitions of `cc_model` and a few
 //! words of this crate's own (`specs`).
@@ -7,12 +8,16 @@
 mod changes;
 mod ends;
 mod kinds;
+mod suspected;
 mod units;
 mod white;
 
 pub use changes::{commands_keep_fresh, gentle_changes_keep_fresh};
 pub use ends::{ends_keep_reached, ends_take_white};
-pub use kinds::{kinds_of_change_keep_fresh, waiting_asks_less};
+pub use kinds::{kinds_of_change_keep_fresh, kinds_of_change_keep_suspected, waiting_asks_less};
+pub use suspected::{
+    collections_keep_suspected, commands_keep_suspected, loyal_changes_keep_suspected,
+};
 pub use units::{begin_is_fresh, units_keep_fresh};
 pub use white::white_is_unreached;
 

@@ -13,4 +13,8 @@ fn laws_can_be_called() {
     white_is_unreached();
     ends_take_white();
     ends_keep_reached();
+    loyal_changes_keep_suspected();
+    kinds_of_change_keep_suspected();
+    commands_keep_suspected();
+    collections_keep_suspected();
 }

@@ -1,0 +1,243 @@
+-- WHAT THE REGISTERS REACH STAYS REACHED where objects that are reached and stay keep what they hold.
+use Rattle.std.proofs.Common.{◌≡◌, ℕ, ◌==◌, Bool, true, false, List, [], ◌∷◌, ◌++◌, map, Option, refl, sym, ◌∙◌, ap, subst, inl, inr, ◌⊎◌, ⊎_elim}
+use Rattle.std.specs.List.{flat_map}
+use Rattle.std.proofs.lemmas.Bool.{eqb-true, cases_Bool}
+use Rattle.cc_lists.specs.Members.{Among}
+use Rattle.cc_lists.proofs.Members.{Among-map, Among-map_cases, Among-left, Among-right, Among-append, Among-flat_map, Among-flat_map_cases}
+use Rattle.cc_lists.proofs.Least.{derive-root, derive-along, derive-jointly, derived-within}
+use Rattle.cc_lists.proofs.ListWrites.{changed_where}
+use Rattle.cc_names.specs.declared.name.Name.{Name}
+use Rattle.cc_names.specs.Names.{native, is_script}
+use Rattle.cc_model.specs.Slots.{contents}
+use Rattle.cc_model.specs.Entries.{Entry, joint, joints}
+use Rattle.cc_model.specs.Heap.{Heap, HeapNative, HeapScript, change_native, with_native_slot}
+use Rattle.cc_model.specs.View.{view, native_edges, script_edges, ReachedIn}
+use Rattle.cc_model.specs.Cascade.{cascade, take_up}
+use Rattle.cc_model.specs.WellFormed.{IsWellFormed, native_names, script_names, names_there}
+use Rattle.cc_laws_heap.specs.Sound.{IsSound}
+use Rattle.cc_laws_heap.specs.Freeing.{Uncounted, uncounted, SameBeside}
+use Rattle.cc_laws_heap.proofs.HoldsTheSame.{HoldsTheSame-take_up}
+use Rattle.cc_laws_heap.proofs.Natives.{named-member}
+use Rattle.cc_laws_heap.proofs.Cascades.{cascade-sound, cascade-frees}
+use Rattle.cc_laws_heap.proofs.Leaving.{IsOf, IsOf-frees}
+use Rattle.cc_laws_snapshot.proofs.NamePairs.{native-no_script}
+use Rattle.cc_laws_heap.proofs.ViewEdges.{native_edges-are, script_edges-are}
+use Rattle.cc_laws_snapshot.proofs.OwnEdges.{script-named}
+use Rattle.cc_laws_snapshot.proofs.NamesAndEdges.{edges-alike}
+use Rattle.cc_laws_snapshot.proofs.SoundView.{one-native, edge-target, native-name_of, script-name_of}
+
+-- Places and edges
+
+-- a native that is there has a native's place
+pub native-place : (h : Heap) → IsWellFormed h → (i : ℕ) → Among (native i) (names_there h) → Among (native i) (native_names h)
+native-place h w i m = ⊎_elim (λ l. l) (λ r. absurd (native-no_script (native i) refl (script-name_of h (native i) w r)))
+    (Among-append (native i) (native_names h) (script_names h) m)
+
+-- a script object that is there has a script object's place
+pub script-place : (h : Heap) (x : Name) → is_script x ≡ true → Among x (names_there h) → Among x (script_names h)
+script-place h x e m = ⊎_elim (λ l. absurd (native-no_script x (native-name_of h x l) e)) (λ r. r)
+    (Among-append x (native_names h) (script_names h) m)
+
+-- the edges of a native, without its count
+abbrev edges_of_uncounted : Uncounted → List (Name × Name)
+edges_of_uncounted u = native_edges (record { number = u.number; slots = u.slots; preserved = u.preserved; count = 0 })
+
+-- natives that are the same but for counts have the same edges
+pub native_edges-alike : (m n : HeapNative) → uncounted m ≡ uncounted n → native_edges m ≡ native_edges n
+native_edges-alike m n e = ap edges_of_uncounted e
+
+-- an edge of a native is one of the heaps
+pub native-edge : (h : Heap) (n : HeapNative) (x y : Name) → Among n h.natives → Among (x, y) (native_edges n) → Among (x, y) (view h).edges
+native-edge h n x y m e = Among-left (x, y) (flat_map native_edges h.natives) (flat_map script_edges h.scripts)
+    (Among-flat_map native_edges n (x, y) h.natives m e)
+
+-- an edge of a script object, too
+pub script-edge : (h : Heap) (o : HeapScript) (x y : Name) → Among o h.scripts → Among (x, y) (script_edges o) → Among (x, y) (view h).edges
+script-edge h o x y m e = Among-right (x, y) (flat_map native_edges h.natives) (flat_map script_edges h.scripts)
+    (Among-flat_map script_edges o (x, y) h.scripts m e)
+
+-- an edge from a native is an edge of the native of that number
+pub native-edge_of : (h : Heap) (i : ℕ) (y : Name) → IsWellFormed h → Among (native i, y) (view h).edges →
+    (n : HeapNative) × Among n h.natives × (native n.number ≡ native i) × Among (native i, y) (native_edges n)
+native-edge_of h i y w m = ⊎_elim
+    (λ l. let f = Among-flat_map_cases native_edges h.natives (native i, y) l in (f.0, f.1, (native_edges-are f.0 (native i) y f.2).0, f.2))
+    (λ r.
+    let f = Among-flat_map_cases script_edges h.scripts (native i, y) r in
+    absurd (native-no_script (native i) refl
+    (subst (λ z. is_script z ≡ true) (script_edges-are f.0 (native i) y f.2).0 (script-named h f.0 w f.1))))
+    (Among-append (native i, y) (flat_map native_edges h.natives) (flat_map script_edges h.scripts) m)
+
+-- What is kept
+
+-- each native that holds something is reached
+abbrev pub IsTidy : Heap → Type 0
+IsTidy h = (i : ℕ) (y : Name) → Among (native i, y) (view h).edges → ReachedIn (view h) (native i)
+
+-- registers keep what they hold; so do objects that are reached and stay, and entries whose map and key stay
+pub record KeepsReached (h k : Heap) : Type 0 where
+  pub registers : (x : Name) → Among x (view h).registers → Among x (view k).registers
+  pub edges : (x y : Name) → ReachedIn (view h) x → Among x (names_there k) → Among (x, y) (view h).edges → Among (x, y) (view k).edges
+  pub entries : (e : Entry) → Among e h.entries → Among e.the_map (names_there k) → Among e.key (names_there k) → Among e k.entries
+
+module _ (h : Heap) (w : IsWellFormed h) where
+  -- what a register holds is there
+  register-there : (x : Name) → Among x (view h).registers → Among x (names_there h)
+  register-there x m = ⊎_elim
+      (λ l. Among-left x (native_names h) (script_names h) (w.native_registers x l))
+      (λ r. Among-right x (native_names h) (script_names h) (w.script_registers x r))
+      (Among-append x (contents h.native_registers) (contents h.script_registers) m)
+
+  -- What is reached is there.
+  pub reached-there : (x : Name) → ReachedIn (view h) x → Among x (names_there h)
+  reached-there = derived-within (view h).registers (view h).edges (joints h.entries) (λ x. Among x (names_there h))
+      register-there
+      (λ x y e d. edge-target h x y w e)
+      (λ ps y e d.
+      let f = Among-map_cases joint h.entries (ps, y) e in
+      subst (λ z. Among z (names_there h)) (ap (λ (p : List Name × Name). p.1) f.2)
+      (Among-right f.0.value (native_names h) (script_names h) (w.entries f.0 f.1).value))
+
+module _ (h k : Heap) (w : IsWellFormed k) (t : KeepsReached h k) where
+  -- reached in both
+  abbrev InBoth : Name → Type 0
+  InBoth x = ReachedIn (view h) x × ReachedIn (view k) x
+
+  -- What was reached is reached.
+  pub reached-kept : (x : Name) → ReachedIn (view h) x → ReachedIn (view k) x
+  reached-kept x r = (both x r).1
+    where
+      both : (x : Name) → ReachedIn (view h) x → InBoth x
+      both = derived-within (view h).registers (view h).edges (joints h.entries) InBoth
+          (λ x m. (
+            derive-root (view h).registers (view h).edges (joints h.entries) x m,
+            derive-root (view k).registers (view k).edges (joints k.entries) x (t.registers x m),
+          ))
+          (λ x y e d. (
+            derive-along (view h).registers (view h).edges (joints h.entries) x y e d.0,
+            derive-along (view k).registers (view k).edges (joints k.entries) x y (t.edges x y d.0 (reached-there k w x d.1) e) d.1,
+          ))
+          (λ ps y e d.
+          let f = Among-map_cases joint h.entries (ps, y) e in
+          let premises : f.0.the_map ∷ f.0.key ∷ [] ≡ ps = ap (λ (p : List Name × Name). p.0) f.2 in
+          let map_in : InBoth f.0.the_map = d f.0.the_map (subst (λ zs. Among f.0.the_map zs) premises (inl refl)) in
+          let key_in : InBoth f.0.key = d f.0.key (subst (λ zs. Among f.0.key zs) premises (inr (inl refl))) in
+          let left : Among f.0 k.entries = t.entries f.0 f.1 (reached-there k w f.0.the_map map_in.1) (reached-there k w f.0.key key_in.1) in (
+            derive-jointly (view h).registers (view h).edges (joints h.entries) ps y e (λ z m. (d z m).0),
+            derive-jointly (view k).registers (view k).edges (joints k.entries) ps y
+                (subst (λ p. Among p (joints k.entries)) f.2 (Among-map joint f.0 k.entries left)) (λ z m. (d z m).1),
+          ))
+
+-- Natives that leave
+
+-- natives that are left are as they were, but for their counts; nothing else changes but the buffer
+module _ (h k : Heap) (w : IsWellFormed h) (v : IsWellFormed k) (b : SameBeside h k) (of : (n : HeapNative) → Among n k.natives → IsOf h n) where
+  -- what a native that is left holds it held
+  native-left : (n : HeapNative) (x y : Name) → Among n h.natives → Among (x, y) (native_edges n) → Among x (names_there k) → Among (x, y) (view k).edges
+  native-left n x y m e there =
+      let start : native n.number ≡ x = (native_edges-are n x y e).0 in
+      let found = named-member k n.number (native-place k v n.number (subst (λ z. Among z (names_there k)) (sym start) there)) in
+      let p = of found.0 found.1 in
+      let same : p.0 ≡ n = one-native h p.0 n w p.1 m (ap (λ (u : Uncounted). u.number) p.2 ∙ found.2) in
+      let edges : native_edges n ≡ native_edges found.0 = native_edges-alike n found.0 (ap uncounted (sym same) ∙ p.2) in
+      native-edge k found.0 x y found.1 (subst (λ es. Among (x, y) es) edges e)
+
+  -- WHAT IS REACHED IS KEPT.
+  left-keeps : KeepsReached h k
+  left-keeps = record {
+    registers = λ x m. subst (λ rs. Among x rs) (sym registers) m;
+    edges = λ x y r there e. ⊎_elim
+        (λ l. let f = Among-flat_map_cases native_edges h.natives (x, y) l in native-left f.0 x y f.1 f.2 there)
+        (λ l. Among-right (x, y) (flat_map native_edges k.natives) (flat_map script_edges k.scripts)
+        (subst (λ os. Among (x, y) (flat_map script_edges os)) (sym b.scripts) l))
+        (Among-append (x, y) (flat_map native_edges h.natives) (flat_map script_edges h.scripts) e);
+    entries = λ e m a c. subst (λ es. Among e es) (sym b.entries) m;
+  }
+    where
+      registers : (view k).registers ≡ (view h).registers
+      registers = ap (λ rs. contents rs ++ contents k.script_registers) b.native_registers ∙ ap (λ rs. contents h.native_registers ++ contents rs) b.script_registers
+
+-- A CASCADE takes out nothing that is reached.
+pub cascade-reached : (owned : List ℕ) (h : Heap) (k : ℕ) → IsSound (k ∷ owned) h → (x : Name) → ReachedIn (view h) x → ReachedIn (view (cascade h k).heap) x
+cascade-reached owned h k s =
+    let f = cascade-frees owned h k s in
+    let later = (cascade-sound owned h k s).well_formed in
+    reached-kept h (cascade h k).heap later (left-keeps h (cascade h k).heap s.well_formed later f.1.beside (IsOf-frees h f.0 (cascade h k) f.1))
+
+-- Slots written
+
+-- the edges of one native alone may be no more; registers and entries stay
+record KeepsBut (k : ℕ) (h g : Heap) : Type 0 where
+  registers : (view g).registers ≡ (view h).registers
+  edges : (x y : Name) → Among (x, y) (view h).edges → Among (x, y) (view g).edges ⊎ (native k ≡ x)
+  entries : g.entries ≡ h.entries
+
+-- a slot of that native written
+slot-keeps_but : (g : Heap) (k i : ℕ) (x : Option Name) → KeepsBut k g (change_native g k (with_native_slot i x))
+slot-keeps_but g k i x = record {
+  registers = refl;
+  edges = λ y z m. ⊎_elim
+      (λ l. let f = Among-flat_map_cases native_edges g.natives (y, z) l in
+      ⊎_elim
+      (λ e. inr (subst (λ j. native j ≡ y) (eqb-true f.0.number k e) (native_edges-are f.0 y z f.2).0))
+      (λ e. inl (native-edge (change_native g k (with_native_slot i x)) f.0 y z (stays f.0 f.1 e) f.2))
+      (cases_Bool (is_it f.0)))
+      (λ r. inl (Among-right (y, z) (flat_map native_edges (change_native g k (with_native_slot i x)).natives) (flat_map script_edges g.scripts) r))
+      (Among-append (y, z) (flat_map native_edges g.natives) (flat_map script_edges g.scripts) m);
+  entries = refl;
+}
+  where
+    is_it : HeapNative → Bool
+    is_it n = n.number == k
+
+    stays : (n : HeapNative) → Among n g.natives → is_it n ≡ false → Among n (change_native g k (with_native_slot i x)).natives
+    stays n m e =
+        let same : changed_where is_it (with_native_slot i x) n ≡ n = rw e refl in
+        subst (λ z. Among z (map (changed_where is_it (with_native_slot i x)) g.natives)) same (Among-map (changed_where is_it (with_native_slot i x)) n g.natives m)
+
+-- a reference taken before
+taken-keeps_but : (h : Heap) (k i : ℕ) (x : Option Name) → KeepsBut k h (change_native (take_up h x) k (with_native_slot i x))
+taken-keeps_but h k i x =
+    let a = HoldsTheSame-take_up h x in
+    let t = slot-keeps_but (take_up h x) k i x in
+    record {
+      registers = t.registers ∙ (ap (λ rs. contents rs ++ contents (take_up h x).script_registers) a.beside.native_registers
+          ∙ ap (λ rs. contents h.native_registers ++ contents rs) a.beside.script_registers);
+      edges = λ y z m. t.edges y z (subst (λ es. Among (y, z) es) (sym (edges-alike h (take_up h x) a)) m);
+      entries = t.entries ∙ a.beside.entries;
+    }
+
+module _ (k : ℕ) (h g : Heap) (t : KeepsBut k h g) where
+  -- reached in the second heaps, or that native is
+  abbrev Either : Name → Type 0
+  Either x = ReachedIn (view g) x ⊎ ReachedIn (view g) (native k)
+
+  -- what was reached is so, or that native is
+  either : (x : Name) → ReachedIn (view h) x → Either x
+  either = derived-within (view h).registers (view h).edges (joints h.entries) Either
+      (λ x m. inl (derive-root (view g).registers (view g).edges (joints g.entries) x (subst (λ rs. Among x rs) (sym t.registers) m)))
+      (λ x y e d. ⊎_elim
+      (λ a. ⊎_elim
+      (λ i. inl (derive-along (view g).registers (view g).edges (joints g.entries) x y i a))
+      (λ s. inr (subst (ReachedIn (view g)) (sym s) a))
+      (t.edges x y e))
+      (λ a. inr a) d)
+      (λ ps y e d.
+      let f = Among-map_cases joint h.entries (ps, y) e in
+      let premises : f.0.the_map ∷ f.0.key ∷ [] ≡ ps = ap (λ (p : List Name × Name). p.0) f.2 in
+      let target : f.0.value ≡ y = ap (λ (p : List Name × Name). p.1) f.2 in
+      let here : Among f.0 g.entries = subst (λ es. Among f.0 es) (sym t.entries) f.1 in
+      ⊎_elim
+      (λ a. ⊎_elim
+      (λ b. inl (subst (ReachedIn (view g)) target
+      (derive-jointly (view g).registers (view g).edges (joints g.entries) (f.0.the_map ∷ f.0.key ∷ []) f.0.value (Among-map joint f.0 g.entries here)
+      (λ z m. ⊎_elim (λ q. subst (ReachedIn (view g)) q a) (λ n. ⊎_elim (λ q. subst (ReachedIn (view g)) q b) (λ u. absurd u) n) m))))
+      (λ b. inr b) (d f.0.key (subst (λ zs. Among f.0.key zs) premises (inr (inl refl)))))
+      (λ a. inr a) (d f.0.the_map (subst (λ zs. Among f.0.the_map zs) premises (inl refl))))
+
+  -- That native stays reached.
+  but-reached : ReachedIn (view h) (native k) → ReachedIn (view g) (native k)
+  but-reached r = ⊎_elim (λ a. a) (λ a. a) (either (native k) r)
+
+-- A NATIVE THAT IS REACHED STAYS SO where one of its slots is written.
+pub written-reached : (h : Heap) (k i : ℕ) (x : Option Name) → ReachedIn (view h) (native k) → ReachedIn (view (change_native (take_up h x) k (with_native_slot i x))) (native k)
+written-reached h k i x = but-reached k h (change_native (take_up h x) k (with_native_slot i x)) (taken-keeps_but h k i x)
