@@ -1,16 +1,14 @@
 -- WHAT AN ASK USES of memory's answers: a front of them, with one `no` for each that its answer tells; and where memory is at every place, none is told.
 use Rattle.std.proofs.Common.{◌≡◌, ℕ, ◌+◌, Bool, true, false, not, List, [], ◌∷◌, ◌++◌, Option, Some, None, refl, sym, ◌∙◌, ap, subst, arith}
-use Rattle.cc_names.specs.declared.name.Name.{Name}
-use Rattle.cc_names.specs.declared.register.Reg.TheVariants.{N, S}
 use Rattle.cc_model.specs.declared.command.Command.{Command}
-use Rattle.cc_model.specs.declared.command.Command.TheVariants.{Nothing, Native, Script, WeakMap, CopyNative, CopyScript, Drop, Set, Get, Put, Take, Wrap, Unwrap, Preserve, SetEntry, GetEntry, Expose, Slice, Collect, Gc, Census}
+use Rattle.cc_model.specs.declared.command.Command.TheVariants.{Nothing, Slice, Collect, Gc, Census}
 use Rattle.cc_model.specs.declared.item.Refusal.{Refusal}
 use Rattle.cc_model.specs.declared.item.Refusal.TheVariants.{NoMemory, Empty, Kind, Slot, Full}
 use Rattle.cc_model.specs.declared.item.Reply.{Reply}
 use Rattle.cc_model.specs.declared.item.Reply.TheVariants.{Refused}
 use Rattle.cc_model.specs.Answers.{Answer}
 use Rattle.cc_model.specs.Asks.{Ask, long, bad, taken}
-use Rattle.cc_model.specs.Checks.{Objects, lacks_object, has_wrong_object, has_no_slot, has_wrong_content, is_full, slot_at, value_at, reflector_of, native_of, named_or_nothing, first_refusal, refusal_of, reply_if_taken}
+use Rattle.cc_model.specs.Checks.{Objects, lacks_object, has_wrong_object, has_no_slot, has_wrong_content, is_full, first_refusal, refusal_of, reply_if_taken}
 use Rattle.cc_model.specs.Heap.{objects_of}
 use Rattle.cc_model.specs.Effects.{effects, takes_memory}
 use Rattle.cc_model.specs.End.{Progress, went_on, at_end, refused}
@@ -18,6 +16,7 @@ use Rattle.cc_model.specs.Collecting.{Machine, next_answer, later_answers, Units
 use Rattle.cc_model.specs.Run.{Turn, answering, with_effects, if_granted, unless_refused, mutate, after_units, after_gc, do_ask}
 use Rattle.cc_laws_run.specs.Memory.{with_memory, noes, noes_of_reply, noes_told}
 use Rattle.cc_laws_run.proofs.Unabandoned.{abandonments, TellsNone, effects-none}
+use Rattle.cc_laws_run.proofs.CommandCases.{taken-granted}
 use Rattle.cc_laws_run.proofs.UnitsUse.{refusals, UnitsUse, slice-use, collect-use, gc-use}
 
 -- the same turn, with other answers of memory to come
@@ -60,35 +59,9 @@ refusal-noes o c = go (lacks_object o c) (has_wrong_object o c) (has_no_slot o c
     go false false false false true = refl
     go false false false false false = refl
 
--- a name or nothing is no want of memory
-named-noes : (x : Option Name) → noes_of_reply (Some (named_or_nothing x)) ≡ 0
-named-noes None = refl
-named-noes (Some x) = refl
-
--- nor is the reply to a command that is done
+-- and the reply to a command that is done tells no want of it
 reply-noes : (o : Objects) (c : Command) → noes_of_reply (Some (reply_if_taken o c)) ≡ 0
-unfolding reply_if_taken
-reply-noes o (Native d n) = refl
-reply-noes o (Script d n) = refl
-reply-noes o (WeakMap d) = refl
-reply-noes o (CopyNative d s) = named-noes (o.register (N s))
-reply-noes o (CopyScript d s) = named-noes (o.register (S s))
-reply-noes o (Get r s i) = named-noes (slot_at o (N s) i)
-reply-noes o (Take d s i) = named-noes (slot_at o (S s) i)
-reply-noes o (Wrap d s) = named-noes (reflector_of (o.register (N s)))
-reply-noes o (Unwrap d s) = named-noes (native_of (o.register (S s)))
-reply-noes o (GetEntry d m k) = named-noes (value_at o (o.register (S m)) (o.register (S k)))
-reply-noes o (Expose s i) = named-noes (slot_at o (N s) i)
-reply-noes o (Drop r) = refl
-reply-noes o (Set d i r) = refl
-reply-noes o (Put d i s) = refl
-reply-noes o (Preserve s) = refl
-reply-noes o (SetEntry m k v) = refl
-reply-noes o Nothing = refl
-reply-noes o (Slice u) = refl
-reply-noes o Collect = refl
-reply-noes o Gc = refl
-reply-noes o Census = refl
+reply-noes o c = ap (λ b. elim b [ true ↦ 1 | false ↦ 0 ]) (taken-granted o c)
 
 -- Commands of the mutator
 
@@ -186,19 +159,4 @@ ask-use m (taken Census) = silent-use m _ refl refl
 ask-use m (taken (Slice n)) = after_units-use (λ memory. slice n (with_memory m memory)) m (slice n m) (slice-use n m)
 ask-use m (taken Collect) = after_units-use (λ memory. collect (with_memory m memory)) m (collect m) (collect-use m)
 ask-use m (taken Gc) = after_gc-use (λ memory. gc (with_memory m memory)) m (gc m) (gc-use m)
-ask-use m (taken (Native d n)) = mutate-use m (Native d n)
-ask-use m (taken (Script d n)) = mutate-use m (Script d n)
-ask-use m (taken (WeakMap d)) = mutate-use m (WeakMap d)
-ask-use m (taken (CopyNative d s)) = mutate-use m (CopyNative d s)
-ask-use m (taken (CopyScript d s)) = mutate-use m (CopyScript d s)
-ask-use m (taken (Drop r)) = mutate-use m (Drop r)
-ask-use m (taken (Set d i r)) = mutate-use m (Set d i r)
-ask-use m (taken (Get r s i)) = mutate-use m (Get r s i)
-ask-use m (taken (Put d i s)) = mutate-use m (Put d i s)
-ask-use m (taken (Take d s i)) = mutate-use m (Take d s i)
-ask-use m (taken (Wrap d s)) = mutate-use m (Wrap d s)
-ask-use m (taken (Unwrap d s)) = mutate-use m (Unwrap d s)
-ask-use m (taken (Preserve s)) = mutate-use m (Preserve s)
-ask-use m (taken (SetEntry a k v)) = mutate-use m (SetEntry a k v)
-ask-use m (taken (GetEntry d a k)) = mutate-use m (GetEntry d a k)
-ask-use m (taken (Expose s i)) = mutate-use m (Expose s i)
+ask-use m (taken c) = mutate-use m c

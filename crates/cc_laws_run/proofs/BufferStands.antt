@@ -8,8 +8,7 @@ use Rattle.cc_model.specs.View.{view}
 use Rattle.cc_model.specs.Colours.{HasColourInvariant}
 use Rattle.cc_model.specs.StandsFor.{Shape, shape_at, StandsFor}
 use Rattle.cc_laws_heap.specs.Sound.{IsSound}
-use Rattle.cc_laws_heap.proofs.Kept.{IsBuffer}
-use Rattle.cc_laws_run.proofs.GivingBack.{with_buffer, IsWellFormed-buffer}
+use Rattle.cc_laws_heap.proofs.Kept.{IsBuffer, with_buffer, IsWellFormed-buffer}
 
 -- counts do not read the buffer
 pub IsSound-buffer : (h : Heap) (bs : List Buffered) → IsSound [] h → IsBuffer h bs → IsSound [] (with_buffer h bs)

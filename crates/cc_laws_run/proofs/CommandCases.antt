@@ -68,11 +68,15 @@ not_refused-granted : (reply : Reply) → is_refused reply ≡ false → is_with
 not_refused-granted (Refused refusal) e = absurd (true≢false e)
 not_refused-granted reply e = refl
 
+-- nor is the reply to a command that is not refused
+pub taken-granted : (o : Objects) (c : Command) → is_without_memory (reply_if_taken o c) ≡ false
+taken-granted o c = not_refused-granted (reply_if_taken o c) (taken-not_refused o c)
+
 -- The graph and the listed names
 
 -- a command that is done takes the graph to its step
 pub graph_after-taken : (g : Graph) (o : Objects) (c : Command) → graph_after g c (Some (reply_if_taken o c)) ≡ step g c
-graph_after-taken g o c = ap (λ b. elim b [ true ↦ g | false ↦ step g c ]) (not_refused-granted (reply_if_taken o c) (taken-not_refused o c))
+graph_after-taken g o c = ap (λ b. elim b [ true ↦ g | false ↦ step g c ]) (taken-granted o c)
 
 -- a command that is refused leaves the graph
 graph_after-refused : (g : Graph) (c : Command) (refusal : Refusal) → refusal_of (graph.objects_of g) c ≡ Some refusal →

@@ -1,5 +1,5 @@
 -- A COLLECTION THAT BEGINS RIGHT AFTER A SCRIPT COLLECTION DOOMS ALL GARBAGE.
-use Rattle.std.proofs.Common.{◌≡◌, ℕ, Bool, true, false, not, List, [], ◌∷◌, ◌++◌, map, Some, None, refl, sym, ◌∙◌, ap, subst, inl, inr, ◌⊎◌, ⊎_elim}
+use Rattle.std.proofs.Common.{◌≡◌, Bool, true, false, not, List, [], ◌∷◌, ◌++◌, map, Some, None, refl, sym, ◌∙◌, ap, subst, inl, inr, ◌⊎◌, ⊎_elim}
 use Rattle.std.specs.List.{filter, flat_map}
 use Rattle.std.proofs.lemmas.Bool.{false≢true, not_from_false}
 use Rattle.cc_lists.specs.Members.{Among, has}
@@ -8,15 +8,14 @@ use Rattle.cc_lists.proofs.Members.{Among-map, Among-map_cases, Among-left, Amon
 use Rattle.cc_lists.proofs.Least.{derive-root, derive-along, derive-jointly, derived-within}
 use Rattle.cc_lists.proofs.Closure.{closure-decides, closure-derived}
 use Rattle.cc_names.specs.declared.name.Name.{Name}
-use Rattle.cc_names.specs.declared.kind.Colour.{Colour}
-use Rattle.cc_names.specs.declared.kind.Colour.TheVariants.{White, Gray, Black}
+use Rattle.cc_names.specs.declared.kind.Colour.TheVariants.{Black}
 use Rattle.cc_names.specs.Names.{native, same_name, is_script}
 use Rattle.cc_names.proofs.NameTests.{same_name-exact}
 use Rattle.cc_model.specs.Slots.{contents, from_to}
 use Rattle.cc_model.specs.Entries.{Entry, joint, joints}
 use Rattle.cc_model.specs.Heap.{Heap, HeapNative, HeapScript, Buffered, is_black_colour, is_gray_in}
 use Rattle.cc_model.specs.View.{view, buffered, native_edges, script_edges, script_slot_edges, view_rules, ReachedIn, reached_in, scripts_there}
-use Rattle.cc_model.specs.WellFormed.{HasMembers, IsWellFormed, native_names, script_names, names_there}
+use Rattle.cc_model.specs.WellFormed.{HasMembers, native_names, script_names, names_there}
 use Rattle.cc_model.specs.Exposure.{slots_of_scripts}
 use Rattle.cc_model.specs.Colours.{HasColourInvariant, HasColours, IsBlack, black_rules, black_names, marked_names, IsMarked, scripts_held_by, scripts_held}
 use Rattle.cc_model.specs.Snapshot.{Mapping, node_names}
@@ -28,25 +27,31 @@ use Rattle.cc_laws_heap.specs.Sound.{IsSound}
 use Rattle.cc_laws_heap.proofs.Marking.{colour_of-black, black-decided}
 use Rattle.cc_laws_heap.proofs.MarkedKept.{marked-other}
 use Rattle.cc_laws_heap.proofs.CollectedColours.{collect_scripts-sound, collect_scripts-colours, collect_scripts-unmarked, collect_scripts-invariant}
-use Rattle.cc_laws_snapshot.proofs.NamePairs.{native-no_script}
-use Rattle.cc_laws_snapshot.proofs.Edges.{native_edges-are, edge-of}
-use Rattle.cc_laws_snapshot.proofs.SoundView.{living-named, there-named, named-there, script-name_of, native-name_of, black-or_gray}
+use Rattle.cc_laws_heap.proofs.ViewEdges.{native_edges-are}
+use Rattle.cc_laws_heap.proofs.Coloured.{is_black-true}
+use Rattle.cc_laws_snapshot.proofs.Edges.{edge-of}
+use Rattle.cc_laws_snapshot.proofs.SoundView.{living-named, there-named, named-there, black-or_gray}
 use Rattle.cc_laws_snapshot.proofs.NodeUnit.{gray-tested}
 use Rattle.cc_laws_snapshot.proofs.Beginning.{begun-fresh}
 use Rattle.cc_laws_run.specs.Doomed.{IsMember, IsDoomed, garbage}
-use Rattle.cc_laws_run.proofs.LoyalSuspected.{reached_cases}
-use Rattle.cc_laws_run.proofs.SweepLoses.{collect_scripts-suspected}
+use Rattle.cc_laws_snapshot.proofs.KindsLoyal.{reached_cases}
+use Rattle.cc_laws_snapshot.proofs.SweepLoses.{collect_scripts-suspected}
+use Rattle.cc_laws_snapshot.proofs.ReachedStays.{script-place, native-place, script-edge}
 
 -- Garbage
 
 module _ (h : Heap) where
-  -- what is there and unreached is garbage
-  pub garbage-there : (x : Name) → Among x (names_there h) → ¬ (ReachedIn (view h) x) → Among x (garbage h)
-  garbage-there x m out = Among-filter (is_unreached (view h)) x (names_there h) m (go (has same_name (reached_in (view h)) x) refl)
+  -- what no register reaches passes the test
+  pub out-unreached : (x : Name) → ¬ (ReachedIn (view h) x) → is_unreached (view h) x ≡ true
+  out-unreached x out = go (has same_name (reached_in (view h)) x) refl
     where
       go : (b : Bool) → has same_name (reached_in (view h)) x ≡ b → is_unreached (view h) x ≡ true
       go true e = absurd (out ((closure-decides same_name same_name-exact (view_rules (view h)) x).0 e))
       go false e = not_from_false (has same_name (reached_in (view h)) x) e
+
+  -- what is there and unreached is garbage
+  pub garbage-there : (x : Name) → Among x (names_there h) → ¬ (ReachedIn (view h) x) → Among x (garbage h)
+  garbage-there x m out = Among-filter (is_unreached (view h)) x (names_there h) m (out-unreached x out)
 
   -- garbage is there
   pub garbage-is_there : (x : Name) → Among x (garbage h) → Among x (names_there h)
@@ -57,16 +62,6 @@ module _ (h : Heap) where
   garbage-out x m r =
       let found : has same_name (reached_in (view h)) x ≡ true = (closure-decides same_name same_name-exact (view_rules (view h)) x).1 r in
       false≢true (sym (ap not found) ∙ Among-passes (is_unreached (view h)) x (names_there h) m)
-
-  -- a native that is there has a native's place
-  pub native-place : IsWellFormed h → (i : ℕ) → Among (native i) (names_there h) → Among (native i) (native_names h)
-  native-place w i m = ⊎_elim (λ l. l) (λ r. absurd (native-no_script (native i) refl (script-name_of h (native i) w r)))
-      (Among-append (native i) (native_names h) (script_names h) m)
-
-  -- a script object that is there has a script object's place
-  pub script-place : (x : Name) → is_script x ≡ true → Among x (names_there h) → Among x (script_names h)
-  script-place x e m = ⊎_elim (λ l. absurd (native-no_script x (native-name_of h x l) e)) (λ r. r)
-      (Among-append x (native_names h) (script_names h) m)
 
   -- who holds something is there
   pub edge-there : (x y : Name) → Among (x, y) (view h).edges → Among x (names_there h)
@@ -83,8 +78,7 @@ module _ (h : Heap) where
   pub slot-edge : (x y : Name) → Among (x, y) (slots_of_scripts h) → Among (x, y) (view h).edges
   slot-edge x y m =
       let f = Among-flat_map_cases script_slot_edges h.scripts (x, y) m in
-      Among-right (x, y) (flat_map native_edges h.natives) (flat_map script_edges h.scripts)
-      (Among-flat_map script_edges f.0 (x, y) h.scripts f.1 (Among-left (x, y) (script_slot_edges f.0) _ f.2))
+      script-edge h f.0 x y f.1 (Among-left (x, y) (script_slot_edges f.0) _ f.2)
 
   -- what is black by the rules is reached
   pub black-reached : (x : Name) → IsBlack h x → ReachedIn (view h) x
@@ -92,12 +86,6 @@ module _ (h : Heap) where
       (λ x m. derive-root (view h).registers (view h).edges (joints h.entries) x (Among-right x (contents h.native_registers) (contents h.script_registers) m))
       (λ x y e d. derive-along (view h).registers (view h).edges (joints h.entries) x y (slot-edge x y e) d)
       (λ ps y e d. derive-jointly (view h).registers (view h).edges (joints h.entries) ps y e d)
-
-  -- the test of black tells black
-  is_black-true : (c : Colour) → is_black_colour c ≡ true → c ≡ Black
-  is_black-true White e = absurd (false≢true e)
-  is_black-true Gray e = absurd (false≢true e)
-  is_black-true Black e = refl
 
   -- where the colours are those of marking, a black script object is reached
   pub coloured_black-reached : HasColours h → (x : Name) → Among x (view h).black → ReachedIn (view h) x

@@ -15,11 +15,11 @@ use Rattle.cc_names.proofs.NameTests.{same_name-true, same_name-exact}
 use Rattle.cc_model.specs.Heap.{Heap, HeapNative}
 use Rattle.cc_model.specs.View.{View, view, scripts_there, to, between}
 use Rattle.cc_model.specs.Snapshot.{NodeState, untraversed, gone, traversed, Node, Mapping, Snapshot, mapping_joint, is_above, is_seed, seeds, black_in_rules, BlackIn, black_in, is_white, node_names, white_names, IsWhite, white_natives}
-use Rattle.cc_model.specs.Fresh.{node, IsNode, IsTraversedNode, IsLiving, IsFresh, IsTraversed}
+use Rattle.cc_model.specs.Fresh.{node, IsNode, IsTraversedNode, IsFresh, IsTraversed}
 use Rattle.cc_laws_heap.specs.Sound.{IsSound}
 use Rattle.cc_laws_snapshot.proofs.NamePairs.{between-true, between-refl}
 use Rattle.cc_laws_snapshot.proofs.SoundView.{IsSoundView, IsSound-view, living-native, black-or_gray}
-use Rattle.cc_laws_snapshot.proofs.States.{alive-traversed}
+use Rattle.cc_laws_snapshot.proofs.Unreached.{holder-traversed}
 use Rattle.cc_laws_run.specs.Doomed.{IsMember, IsDoomed}
 
 -- what an option holds stands in its list
@@ -34,11 +34,6 @@ member-premise m p i = ⊎_elim
 
 module _ (made : ℕ) (v : View) (s : Snapshot) (ds : List Name) (sound : IsSoundView made v) (fresh : IsFresh made v s) (all : IsTraversed s)
     (doomed : IsDoomed v s ds) where
-  -- a node that holds something was traversed
-  holder-traversed : (x y : Name) → Among (x, y) v.edges → IsNode s x → IsTraversedNode s x
-  holder-traversed x y e n = alive-traversed made v s fresh all x n
-      (λ g. let d = fresh.gone_is_dead x g in d.4 (subst (IsLiving v) (sym d.1) (sound.source_lives d.0 y (subst (λ z. Among (z, y) v.edges) d.1 e))))
-
   -- a traversed node's references to a doomed native were noted
   doomed-held : (x : Name) (i : ℕ) → Among (native i) ds → IsTraversedNode s x →
       count_by (between x (native i)) s.references ≡ count_by (between x (native i)) v.edges
@@ -61,7 +56,7 @@ module _ (made : ℕ) (v : View) (s : Snapshot) (ds : List Name) (sound : IsSoun
   doomed-node : (x : Name) → Among x ds → IsNode s x
   doomed-node x b = derived-within (node_names s) v.edges [] (λ x. Among x ds → IsNode s x)
       (λ x i b. i)
-      (λ x y e k b. fresh.to_node x y (doomed-noted x y e b (holder-traversed x y e (k (doomed.holder x y e b)))))
+      (λ x y e k b. fresh.to_node x y (doomed-noted x y e b (holder-traversed made v s sound fresh all x y e (k (doomed.holder x y e b)))))
       (λ qs y e k b. absurd e) x (doomed.covered x b) b
 
   -- every reference to a doomed native was noted
@@ -70,7 +65,7 @@ module _ (made : ℕ) (v : View) (s : Snapshot) (ds : List Name) (sound : IsSoun
       (λ some.
       let c = counted_is (between x (native i)) v.edges some in
       let e : Among (x, native i) v.edges = subst (λ r. Among r v.edges) (between-true x (native i) c.0 c.2) c.1 in
-      let h = holder-traversed x (native i) e (doomed-node x (doomed.holder x (native i) e b)) in
+      let h = holder-traversed made v s sound fresh all x (native i) e (doomed-node x (doomed.holder x (native i) e b)) in
       omega (arith, doomed-held x i b h))
       (λ none. omega arith)
       (cases_lt 0 (count_by (between x (native i)) v.edges)))

@@ -2,22 +2,20 @@
 use Rattle.std.proofs.Common.{◌≡◌, ℕ, Bool, true, false, ◌&&◌, List, [], ◌∷◌, map, Option, Some, None, option_map, refl, sym, ◌∙◌, ap, subst, inl, inr, ◌⊎◌, ⊎_elim}
 use Rattle.std.specs.Prelude.{option_and_then}
 use Rattle.std.specs.List.{filter, list_all}
-use Rattle.std.proofs.lemmas.Bool.{true≢false, and_parts, and_from, not_from_false}
-use Rattle.cc_lists.specs.Members.{Among, has}
+use Rattle.std.proofs.lemmas.Bool.{true≢false, and_parts, and_from}
+use Rattle.cc_lists.specs.Members.{Among}
 use Rattle.cc_lists.proofs.Members.{Among-map_cases, Among-left, Among-right, Among-append, Among-filter, Among-filtered, Among-passes}
 use Rattle.cc_lists.proofs.Least.{derive-along}
-use Rattle.cc_lists.proofs.Closure.{closure-decides}
 use Rattle.cc_names.specs.declared.name.Name.{Name}
 use Rattle.cc_names.specs.declared.name.Name.TheVariants as name
 use Rattle.cc_names.specs.declared.kind.Kind.TheVariants.{Reflector}
-use Rattle.cc_names.specs.Names.{native, object, reflector, same_name, is_native, behind}
-use Rattle.cc_names.proofs.NameTests.{same_name-exact}
+use Rattle.cc_names.specs.Names.{native, object, reflector, is_native, behind}
 use Rattle.cc_model.specs.Slots.{Slots, contents, from_to, empty_slots, reflector_slots}
 use Rattle.cc_model.specs.Entries.{Entry, joints}
 use Rattle.cc_model.specs.Graph.{Graph, GraphNative, native_in}
 use Rattle.cc_model.specs.WellMade.{IsWellMade}
 use Rattle.cc_model.specs.Heap.{Heap, HeapNative, HeapScript, is_gray_in}
-use Rattle.cc_model.specs.View.{view, slot_edges, preserved_edge, script_slot_edges, view_rules, ReachedIn, reached_in}
+use Rattle.cc_model.specs.View.{view, slot_edges, preserved_edge, script_slot_edges, ReachedIn}
 use Rattle.cc_model.specs.WellFormed.{FitsName, native_names, script_names, names_there}
 use Rattle.cc_model.specs.StandsFor.{Shape, shape_of_native, shape_of_held_native, kind_in, reflector_kind, IsNoKey, IsKept, StandsFor}
 use Rattle.cc_model.specs.Snapshot.{Mapping}
@@ -26,12 +24,13 @@ use Rattle.cc_model.specs.Suspected.{is_unreached}
 use Rattle.cc_laws_heap.specs.Sound.{IsSound}
 use Rattle.cc_laws_heap.proofs.Natives.{IsWellFormed-distinct, native_at-member, named-member}
 use Rattle.cc_laws_heap.proofs.ReachedAlike.{ArePart-among, in-reached}
-use Rattle.cc_laws_snapshot.proofs.Edges.{native_edges-are}
+use Rattle.cc_laws_heap.proofs.ViewEdges.{native_edges-are}
 use Rattle.cc_laws_run.specs.Doomed.{IsMember, IsDoomed, KeepsReflectors, garbage}
 use Rattle.cc_laws_run.specs.Missing.{lost}
-use Rattle.cc_laws_run.proofs.LoyalSuspected.{reached_cases}
-use Rattle.cc_laws_run.proofs.DoomedBegin.{garbage-is_there, garbage-out, script-place}
-use Rattle.cc_laws_run.proofs.TouchedViews.{edge-native, edge-cases}
+use Rattle.cc_laws_snapshot.proofs.KindsLoyal.{reached_cases}
+use Rattle.cc_laws_snapshot.proofs.ReachedStays.{script-place, native-edge}
+use Rattle.cc_laws_run.proofs.DoomedBegin.{out-unreached, garbage-is_there, garbage-out}
+use Rattle.cc_laws_run.proofs.TouchedViews.{edge-cases}
 
 -- Lost and garbage
 
@@ -48,14 +47,6 @@ module _ (h : Heap) where
   pub native-lost : (k : ℕ) → Among (native k) (garbage h) → Among (native k) (lost h)
   native-lost k m = Among-filter has_none_behind (native k) (garbage h) m refl
 
-  -- what no register reaches passes the test
-  out-unreached : (x : Name) → ¬ (ReachedIn (view h) x) → is_unreached (view h) x ≡ true
-  out-unreached x out = go (has same_name (reached_in (view h)) x) refl
-    where
-      go : (b : Bool) → has same_name (reached_in (view h)) x ≡ b → is_unreached (view h) x ≡ true
-      go true e = absurd (out ((closure-decides same_name same_name-exact (view_rules (view h)) x).0 e))
-      go false e = not_from_false (has same_name (reached_in (view h)) x) e
-
   -- garbage is lost, or the reflector of a reached native
   garbage-cases : (x : Name) → Among x (garbage h) → Among x (lost h) ⊎ ((k : ℕ) × (x ≡ reflector k) × ReachedIn (view h) (native k))
   garbage-cases (name.Native k) m = inl (Among-filter has_none_behind (native k.0) (garbage h) m refl)
@@ -63,7 +54,7 @@ module _ (h : Heap) where
   garbage-cases (name.Reflector k) m = ⊎_elim
       (λ r. inr (k.0, refl, r))
       (λ out. inl (Among-filter has_none_behind (reflector k.0) (garbage h) m
-      (and_from (is_unreached (view h) (native k.0)) true (out-unreached (native k.0) out) refl)))
+      (and_from (is_unreached (view h) (native k.0)) true (out-unreached h (native k.0) out) refl)))
       (reached_cases (view h) (native k.0))
 
   -- A REFLECTOR IS LOST ONLY WITH ITS NATIVE.
@@ -111,7 +102,7 @@ module _ (h : Heap) (g : Graph) (sound : IsSound [] h) (well : IsWellMade g) (st
       go : (p : Bool) → n.preserved ≡ p → p ≡ false
       go true e =
           let edge : Among (native n.number, reflector n.number) (view h).edges =
-          edge-native h n (native n.number) (reflector n.number) there
+          native-edge h n (native n.number) (reflector n.number) there
           (Among-right (native n.number, reflector n.number) (slot_edges (native n.number) n.slots) (preserved_edge n)
           (subst (λ p. Among (native n.number, reflector n.number) (preserved_by p)) (sym e) (inl refl))) in
           absurd (garbage-out h (reflector n.number) b

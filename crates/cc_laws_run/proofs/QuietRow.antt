@@ -14,7 +14,7 @@ use Rattle.cc_laws_heap.specs.Sound.{IsSound}
 use Rattle.cc_laws_heap.proofs.CollectedColours.{collect_scripts-sound}
 use Rattle.cc_laws_run.specs.Running.{IsFreshNow}
 use Rattle.cc_laws_run.specs.Doomed.{IsSuspectedNow}
-use Rattle.cc_laws_run.proofs.QuietReached.{reached-there}
+use Rattle.cc_laws_snapshot.proofs.ReachedStays.{reached-there}
 use Rattle.cc_laws_run.proofs.QuietRounds.{collected-reached}
 use Rattle.cc_laws_run.proofs.QuietUnits.{gc-collects, gc-none, collect-tidy}
 

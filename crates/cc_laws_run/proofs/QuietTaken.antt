@@ -9,7 +9,7 @@ use Rattle.cc_names.specs.Names.{native, number_of}
 use Rattle.cc_model.specs.Slots.{contents, empty_slots}
 use Rattle.cc_model.specs.Heap.{Heap, HeapNative, Outcome, silently, after}
 use Rattle.cc_model.specs.View.{view, native_edges, script_edges, ReachedIn}
-use Rattle.cc_model.specs.WellFormed.{native_names, script_names, names_there}
+use Rattle.cc_model.specs.WellFormed.{IsWellFormed, native_names, script_names, names_there}
 use Rattle.cc_model.specs.StandsFor.{IsEmptied}
 use Rattle.cc_model.specs.Cascade.{add_ref, cascade}
 use Rattle.cc_model.specs.Snapshot.{Snapshot, white_natives}
@@ -25,14 +25,24 @@ use Rattle.cc_laws_heap.proofs.Holds.{contents-empty}
 use Rattle.cc_laws_heap.proofs.Leaving.{IsOf, IsOf-alike, IsOf-frees}
 use Rattle.cc_laws_heap.proofs.Unlinking.{unlink-keeps}
 use Rattle.cc_laws_heap.proofs.TakingAway.{root_each-sound, on_the_way-unlinked, on_the_way-end}
-use Rattle.cc_laws_snapshot.proofs.Edges.{native_edges-are}
+use Rattle.cc_laws_heap.proofs.ViewEdges.{native_edges-are}
 use Rattle.cc_laws_snapshot.proofs.WhiteNatives.{white_natives-there, white_natives-unreached}
 use Rattle.cc_laws_run.specs.Doomed.{IsDoomed}
-use Rattle.cc_laws_run.proofs.DoomedBegin.{native-place}
 use Rattle.cc_laws_run.proofs.DoomedWhite.{doomed-white_native}
-use Rattle.cc_laws_run.proofs.LoyalSuspected.{reached_cases}
-use Rattle.cc_laws_run.proofs.QuietReached.{IsTidy, KeepsReached, reached-kept}
-use Rattle.cc_laws_run.proofs.QuietRounds.{native_edges-alike, one-native, native-edge, native-edge_of}
+use Rattle.cc_laws_snapshot.proofs.KindsLoyal.{reached_cases}
+use Rattle.cc_laws_snapshot.proofs.SoundView.{one-native}
+use Rattle.cc_laws_snapshot.proofs.ReachedStays.{IsTidy, KeepsReached, reached-kept, native-place, native_edges-alike, native-edge, native-edge_of}
+
+-- what a native held it goes on holding in heaps in which natives of its number are as it was
+pub edge-stays : (h k : Heap) → IsWellFormed h → IsWellFormed k → (n : HeapNative) (x y : Name) → Among n h.natives → Among (x, y) (native_edges n) →
+    Among x (names_there k) → ((o : HeapNative) → Among o k.natives → o.number ≡ n.number → IsOf h o) → Among (x, y) (view k).edges
+edge-stays h k w v n x y m e left of =
+    let start : native n.number ≡ x = (native_edges-are n x y e).0 in
+    let o = named-member k n.number (native-place k v n.number (subst (λ z. Among z (names_there k)) (sym start) left)) in
+    let p = of o.0 o.1 o.2 in
+    let same : p.0 ≡ n = one-native h p.0 n w p.1 m (ap (λ (u : Uncounted). u.number) p.2 ∙ o.2) in
+    let edges : native_edges n ≡ native_edges o.0 = native_edges-alike n o.0 (ap uncounted (sym same) ∙ p.2) in
+    native-edge k o.0 x y o.1 (subst (λ es. Among (x, y) es) edges e)
 
 -- Natives on the way
 
@@ -149,16 +159,8 @@ module _ (h : Heap) (ks : List ℕ) (s : IsSound [] h) (there : (k : ℕ) → Am
     -- what a reached native holds it goes on holding
     native-kept : (n : HeapNative) (x y : Name) → Among n h.natives → Among (x, y) (native_edges n) → ReachedIn (view h) x → Among x (names_there end) →
         Among (x, y) (view end).edges
-    native-kept n x y m e r left =
-        let start : native n.number ≡ x = (native_edges-are n x y e).0 in
-        let named : Among (native n.number) (native_names end) =
-        native-place end end-sound.well_formed n.number (subst (λ z. Among z (names_there end)) (sym start) left) in
-        let k = named-member end n.number named in
-        let apart : ¬ (Among k.0.number ks) = λ i. out n.number (subst (λ j. Among j ks) k.2 i) (subst (ReachedIn (view h)) (sym start) r) in
-        let p = others-kept k.0 k.1 apart in
-        let same : p.0 ≡ n = one-native h p.0 n s.well_formed p.1 m (ap (λ (u : Uncounted). u.number) p.2 ∙ k.2) in
-        let edges : native_edges n ≡ native_edges k.0 = native_edges-alike n k.0 (ap uncounted (sym same) ∙ p.2) in
-        native-edge end k.0 x y k.1 (subst (λ es. Among (x, y) es) edges e)
+    native-kept n x y m e r left = edge-stays h end s.well_formed end-sound.well_formed n x y m e left
+        (λ k there same. others-kept k there (λ i. out n.number (subst (λ j. Among j ks) same i) (subst (ReachedIn (view h)) (sym (native_edges-are n x y e).0) r)))
 
     -- Taking away what is unreached keeps what is reached.
     pub take_away-keeps : KeepsReached h (take_away ks h).heap

@@ -1,19 +1,18 @@
 -- UNITS OF A COLLECTION keep the heaps sound, snapshots fresh and natives suspected; one that begins right after a script
 -- collection misses nothing.
-use Rattle.std.proofs.Common.{◌≡◌, ◌≢◌, ℕ, zero, suc, Bool, true, false, not, ◌&&◌, List, [], ◌∷◌, Option, Some, None, is_some, refl, sym, ◌∙◌, ap, subst, ⊎_elim, arith}
+use Rattle.std.proofs.Common.{◌≡◌, ◌≢◌, ℕ, Bool, true, false, List, [], Option, Some, None, is_some, refl, sym, ◌∙◌, ap, subst, arith}
 use Rattle.std.proofs.lemmas.Bool.{true≢false}
-use Rattle.cc_lists.specs.Members.{Among}
 use Rattle.cc_names.specs.declared.name.Name.{Name}
-use Rattle.cc_model.specs.Heap.{Heap, Buffered}
+use Rattle.cc_model.specs.Heap.{Heap}
 use Rattle.cc_model.specs.View.{view}
 use Rattle.cc_model.specs.Colours.{HasColourInvariant}
-use Rattle.cc_model.specs.Snapshot.{untraversed, Node, Snapshot}
-use Rattle.cc_model.specs.Units.{begun, with_empty_buffer, is_untraversed, first_untraversed, to_note, after_node}
-use Rattle.cc_model.specs.End.{Progress, went_on, at_end, refused, UnitDone, may_be_refused, abandoned, node_or_end, granted, unit, give_back}
+use Rattle.cc_model.specs.Snapshot.{Snapshot}
+use Rattle.cc_model.specs.Units.{begun, with_empty_buffer, first_untraversed, to_note, after_node}
+use Rattle.cc_model.specs.End.{Progress, went_on, at_end, refused, UnitDone, abandoned, node_or_end, granted, unit, give_back}
 use Rattle.cc_model.specs.Sweep.{collect_scripts}
-use Rattle.cc_model.specs.Fresh.{node, IsFresh, IsTraversed}
+use Rattle.cc_model.specs.Fresh.{IsFresh, IsTraversed}
 use Rattle.cc_model.specs.Suspected.{IsSuspected}
-use Rattle.cc_model.specs.Collecting.{Machine, UnitsDone, no_units, next_answer, one_unit, units_done, enough_units, to_the_end, finish_running, unless_stopped, collect, then_scripts, gc}
+use Rattle.cc_model.specs.Collecting.{Machine, UnitsDone, no_units, next_answer, one_unit, enough_units, to_the_end, finish_running, unless_stopped, collect, then_scripts, gc}
 use Rattle.cc_model.proofs.UnitsEnd.{to_the_end-stops}
 use Rattle.cc_laws_heap.specs.Sound.{IsSound}
 use Rattle.cc_laws_heap.proofs.Kept.{IsBuffer}
@@ -23,62 +22,17 @@ use Rattle.cc_laws_snapshot.proofs.NodeUnit.{after_node-fresh}
 use Rattle.cc_laws_snapshot.proofs.WhiteNatives.{taking_white-sound, taking_white-colours}
 use Rattle.cc_laws_run.specs.Running.{IsFreshNow}
 use Rattle.cc_laws_run.specs.Doomed.{IsDoomed, candidates_now, garbage}
-use Rattle.cc_laws_run.proofs.GivingBack.{with_buffer, begin-suspected, given_back, give_back-buffer, given_back-buffer, IsWellFormed-buffer, give_back-suspected}
-use Rattle.cc_laws_run.proofs.EndSuspected.{end-suspected}
+use Rattle.cc_laws_snapshot.proofs.GivingBack.{begin-suspected, given_back, give_back-buffer, given_back-buffer, give_back-suspected}
+use Rattle.cc_laws_snapshot.proofs.EndSuspected.{end-suspected}
 use Rattle.cc_laws_run.proofs.DoomedNode.{after_node-doomed}
 use Rattle.cc_laws_run.proofs.DoomedBegin.{garbage-there, collected-doomed}
-use Rattle.cc_laws_run.proofs.QuietReached.{IsTidy}
+use Rattle.cc_laws_snapshot.proofs.ReachedStays.{IsTidy}
 use Rattle.cc_laws_run.proofs.QuietTaken.{end-tidy}
-
--- Units one after another
-
--- the units that are left, by what the last one came to
-abbrev units_by : ℕ → UnitsDone → Progress → UnitsDone
-units_by n d went_on = units_done n (one_unit d.machine d.events)
-units_by n d at_end = d
-units_by n d refused = d
-
--- WHAT A UNIT KEEPS, UNITS KEEP.
-pub units_done-keep : (Q : UnitsDone → Type 0) → ((d : UnitsDone) → d.progress ≡ went_on → Q d → Q (one_unit d.machine d.events)) →
-    (n : ℕ) (d : UnitsDone) → Q d → Q (units_done n d)
-unfolding units_done
-units_done-keep Q step zero d q = q
-units_done-keep Q step (suc n) d q = go (units_done-keep Q step n (one_unit d.machine d.events)) d.progress refl
-  where
-    go : (Q (one_unit d.machine d.events) → Q (units_done n (one_unit d.machine d.events))) → (p : Progress) → d.progress ≡ p → Q (units_by n d p)
-    go ih went_on e = ih (step d e q)
-    go ih at_end e = q
-    go ih refused e = q
-
--- where no node is the first untraversed one, none is untraversed
-pub none-untraversed : (ns : List Node) → first_untraversed ns ≡ None → (x : Name) → ¬ (Among (node x untraversed) ns)
-none-untraversed [] e x m = m
-none-untraversed (n ∷ ns) e x m = go (none-untraversed ns) (is_untraversed n.state) refl e
-  where
-    first_by : Bool → Option Name
-    first_by true = Some n.name
-    first_by false = first_untraversed ns
-
-    go : (first_untraversed ns ≡ None → (x : Name) → ¬ (Among (node x untraversed) ns)) → (b : Bool) → is_untraversed n.state ≡ b → first_by b ≡ None → ⊥
-    go ih true f g = absurd (cc)
-    go ih false f g = ⊎_elim
-        (λ s. true≢false (sym (ap (λ (k : Node). is_untraversed k.state) s) ∙ f))
-        (λ t. ih g x t) m
+use Rattle.cc_laws_run.proofs.BufferStands.{IsSound-buffer, HasColourInvariant-buffer}
+use Rattle.cc_laws_run.proofs.UnitLawful.{unit-cases, traversed-none}
+use Rattle.cc_laws_run.proofs.HoldingUnits.{units_done-keep}
 
 -- Heaps with another buffer
-
--- heaps with another buffer of natives that are there are sound
-IsSound-buffer : (h : Heap) (bs : List Buffered) → IsSound [] h → IsBuffer h bs → IsSound [] (with_buffer h bs)
-IsSound-buffer h bs s b = record {
-  well_formed = IsWellFormed-buffer h bs s.well_formed b;
-  counts = s.counts;
-  none_zero = s.none_zero;
-  owned_there = s.owned_there;
-}
-
--- the colour invariant does not speak of the buffer
-HasColourInvariant-buffer : (h : Heap) (bs : List Buffered) → HasColourInvariant (view h) → HasColourInvariant (view (with_buffer h bs))
-HasColourInvariant-buffer h bs c = record { black_to_black = c.black_to_black; held_black = c.held_black; none_white = c.none_white }
 
 -- the buffer of sound heaps
 own-buffer : (h : Heap) → IsSound [] h → IsBuffer h h.buffer
@@ -131,7 +85,7 @@ after_node-candidates h s x (Some ys) = refl
 -- the unit of a node, or the end
 node_or_end-going : (h : Heap) (s : Snapshot) → IsGoing h (Some s) went_on → (o : Option Name) → first_untraversed s.nodes ≡ o → GoesOn (node_or_end h s o)
 node_or_end-going h s g None e =
-    let all : IsTraversed s = none-untraversed s.nodes e in
+    let all : IsTraversed s = traversed-none s.nodes e in
     record {
       sound = taking_white-sound h s g.sound g.fresh all;
       colours = taking_white-colours h s g.sound g.fresh all;
@@ -160,12 +114,7 @@ granted-going h (Some s) g = node_or_end-going h s g (first_untraversed s.nodes)
 
 -- any unit
 unit-going : (h : Heap) (s : Option Snapshot) (memory : Bool) → IsGoing h s went_on → GoesOn (unit h s memory)
-unfolding unit
-unit-going h s memory g = go (may_be_refused h s && not memory)
-  where
-    go : (b : Bool) → GoesOn (elim b [ true ↦ abandoned h s | false ↦ granted h s ])
-    go true = abandoned-going h s g
-    go false = granted-going h s g
+unit-going h s memory g = unit-cases h s memory GoesOn (abandoned-going h s g) (granted-going h s g)
 
 -- a machine whose heaps and collection are such
 abbrev pub IsGoingOn : UnitsDone → Type 0
@@ -222,7 +171,7 @@ module _ (g : Heap) (sound : IsSound [] g) (colours : HasColourInvariant (view g
   node_or_end-stage : (s : Snapshot) → IsFresh running.natives_made (view running) s → IsDoomed (view running) s (garbage g) →
       (o : Option Name) → first_untraversed s.nodes ≡ o → HasStage (node_or_end running s o)
   node_or_end-stage s f d None e =
-      let all : IsTraversed s = none-untraversed s.nodes e in
+      let all : IsTraversed s = traversed-none s.nodes e in
       (refl, taking_white-sound running s running-sound f all, end-tidy running s (garbage g) running-sound f all d (garbage-there g))
   node_or_end-stage s f d (Some x) e = (refl, after_node-fresh running s x running-sound f e, after_node-doomed running s x (garbage g) running-sound.well_formed d)
 
@@ -233,12 +182,7 @@ module _ (g : Heap) (sound : IsSound [] g) (colours : HasColourInvariant (view g
 
   -- any unit
   unit-stage : (h : Heap) (s : Option Snapshot) (memory : Bool) → IsUnderWay h s → HasStage (unit h s memory)
-  unfolding unit
-  unit-stage h s memory t = go (may_be_refused h s && not memory)
-    where
-      go : (b : Bool) → HasStage (elim b [ true ↦ abandoned h s | false ↦ granted h s ])
-      go true = tt
-      go false = granted-stage h s t
+  unit-stage h s memory t = unit-cases h s memory HasStage tt (granted-stage h s t)
 
   -- of what units came to
   abbrev AtStage : UnitsDone → Type 0

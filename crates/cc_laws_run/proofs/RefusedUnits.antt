@@ -8,7 +8,7 @@ use Rattle.cc_model.specs.View.{view}
 use Rattle.cc_model.specs.WellFormed.{native_names}
 use Rattle.cc_model.specs.Snapshot.{Snapshot}
 use Rattle.cc_model.specs.End.{give_back, heap_given_back, refused, unit, UnitDone, may_be_refused, abandoned, granted}
-use Rattle.cc_laws_run.proofs.GivingBack.{given_back-there, give_back-buffer}
+use Rattle.cc_laws_snapshot.proofs.GivingBack.{given_back-there, give_back-buffer}
 use Rattle.cc_laws_run.proofs.UnitsUse.{refusals, granted-refusals}
 
 -- what a unit that was refused comes to

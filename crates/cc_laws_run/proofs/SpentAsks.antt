@@ -1,6 +1,6 @@
 -- UNDER ANY ASK what is spent stays so, and a collection that can't miss names spends them; `gc` takes away what is spent.
 use Rattle.std.specs.Prelude.{IsTrue}
-use Rattle.std.proofs.Common.{◌≡◌, ℕ, zero, suc, ◌<◌, Bool, true, false, not, ◌&&◌, List, [], Option, Some, None, refl, sym, subst, inl, inr, ◌⊎◌, ⊎_elim, arith}
+use Rattle.std.proofs.Common.{◌≡◌, ℕ, zero, suc, ◌+◌, ◌<◌, Bool, true, List, [], Option, Some, None, refl, sym, subst, inl, inr, ◌⊎◌, ⊎_elim, arith}
 use Rattle.std.proofs.lemmas.Bool.{false≢true}
 use Rattle.cc_lists.specs.Members.{Among}
 use Rattle.cc_lists.proofs.Members.{Among-left}
@@ -13,16 +13,16 @@ use Rattle.cc_model.specs.Asks.{Ask, long, bad, taken}
 use Rattle.cc_model.specs.Graph.{Graph}
 use Rattle.cc_model.specs.Ranges.{in_range}
 use Rattle.cc_model.specs.WellMade.{IsWellMade}
-use Rattle.cc_model.specs.WellFormed.{names_there}
+use Rattle.cc_model.specs.WellFormed.{IsWellFormed, names_there}
 use Rattle.cc_model.specs.Heap.{Heap, objects_of}
 use Rattle.cc_model.specs.Effects.{effects}
 use Rattle.cc_model.specs.View.{view}
 use Rattle.cc_model.specs.Sweep.{collect_scripts}
 use Rattle.cc_model.specs.Snapshot.{Snapshot}
 use Rattle.cc_model.specs.Units.{begun, with_empty_buffer}
-use Rattle.cc_model.specs.End.{went_on, UnitDone, may_be_refused, abandoned, granted, unit}
+use Rattle.cc_model.specs.End.{went_on, unit}
 use Rattle.cc_model.specs.Listed.{after_events}
-use Rattle.cc_model.specs.Lawful.{State}
+use Rattle.cc_model.specs.Lawful.{State, next}
 use Rattle.cc_model.specs.Collecting.{Machine, UnitsDone, next_answer, no_units, one_unit, units_done, enough_units, finish_running, slice, collect, gc}
 use Rattle.cc_model.specs.Run.{Turn, mutate, do_ask}
 use Rattle.cc_laws_heap.specs.Sound.{IsSound}
@@ -34,18 +34,17 @@ use Rattle.cc_laws_run.specs.Missing.{begins_one, lost}
 use Rattle.cc_laws_run.specs.Spent.{IsSpent, SpendsAll}
 use Rattle.cc_laws_run.specs.Running.{IsRunning, ask_in_range}
 use Rattle.cc_laws_run.proofs.CommandCases.{mutate-cases}
-use Rattle.cc_laws_run.proofs.TouchedCommands.{doomed-effects}
+use Rattle.cc_laws_run.proofs.TouchedCommands.{command-leaves, doomed-effects}
 use Rattle.cc_laws_run.proofs.DoomedBegin.{collected-doomed}
-use Rattle.cc_laws_run.proofs.UnitLawful.{RunsOn, UnitIsLawful, unit-lawful}
+use Rattle.cc_laws_run.proofs.UnitLawful.{unit-cases, RunsOn, UnitIsLawful, unit-lawful}
 use Rattle.cc_laws_run.proofs.UnitsLawful.{finish-drops}
-use Rattle.cc_laws_run.proofs.CollectionsLawful.{running-on}
+use Rattle.cc_laws_run.proofs.CollectionsLawful.{running-on, gc-runs}
 use Rattle.cc_laws_run.proofs.QuietUnits.{IsGoing, collect-none, gc-collects}
-use Rattle.cc_laws_run.proofs.MissesBegin.{after_gc-runs}
 use Rattle.cc_laws_run.proofs.MissesLost.{lost-doomed}
-use Rattle.cc_laws_run.proofs.SpentViews.{Spends, spends-from, spent-from, spends-less}
-use Rattle.cc_laws_run.proofs.SpentCommands.{spends-effects}
+use Rattle.cc_laws_run.proofs.SpentViews.{Spends, spends-from, spent-from, spends-left, spends-less}
 use Rattle.cc_laws_run.proofs.SpentGone.{collect_scripts-less, collected-gone}
-use Rattle.cc_laws_run.proofs.SpentUnits.{Settles, HoldsOn, Spending, each-spends, each-settles, units_done-holds, slice-holds, finish-holds, collect-holds, settled}
+use Rattle.cc_laws_run.proofs.HoldingUnits.{HoldsOn, units_done-holds, slice-holds, finish-holds, collect-holds}
+use Rattle.cc_laws_run.proofs.SpentUnits.{Settles, Spending, each-spends, each-settles, settled}
 
 -- What is spent
 
@@ -77,14 +76,22 @@ pub gc-gone : (m : Machine) (s : State) (x : Name) (ds : List Name) → IsRunnin
 unfolding gc
 gc-gone m s x ds r d i = let t = finish-spends m s ds r d in collected-gone ds (finish_running m).machine.heap t.runs.sound t.holds x i
 
--- a command of the mutator leaves them spent
+-- a command that is done leaves them spent
+effects-spend : (h : Heap) (c : Command) (ds : List Name) → IsWellFormed h → KeepsReflectors ds → Spends h ds → Spends (effects h c).heap ds
+effects-spend h c ds w keeps d = spends-left ds h (effects h c).heap
+    (command-leaves ds h c w keeps
+    (λ m. absurd (omega (arith, d.natives_made (h.natives_made + 1) m)))
+    (λ m. absurd (omega (arith, d.scripts_made (h.scripts_made + 1) m)))
+    (record { unregistered = d.unregistered; holder = d.holder; joint = d.joint })) d
+
+-- and so does one that is refused, or that wants memory
 mutate-spends : (m : Machine) (c : Command) (ds : List Name) → IsSound [] m.heap → IsTrue (in_range c) → KeepsReflectors ds → IsSpent m.heap ds →
     IsSpent (mutate m c).machine.heap ds
 mutate-spends m c ds sound i keeps d = mutate-cases m c (λ (u : Turn). IsSpent u.machine.heap ds)
     (λ refusal e. d)
     (λ e f. d)
     (λ e memory. spent-from (effects m.heap c).heap ds (effects-sound m.heap c sound i (IsTaken-from (objects_of m.heap) c e)).well_formed
-    (spends-effects ds m.heap c sound.well_formed keeps (spends-from m.heap ds d)))
+    (effects-spend m.heap c ds sound.well_formed keeps (spends-from m.heap ds d)))
 
 -- WHAT IS SPENT STAYS SO under any ask.
 pub ask-spends : (m : Machine) (s : State) (ask : Ask) (ds : List Name) → IsRunning m s → IsTrue (ask_in_range ask) → KeepsReflectors ds →
@@ -171,16 +178,7 @@ ask-settles m s (taken c) ds r i keeps d = mutate-settles m c ds r.sound keeps d
 -- the unit of a begin dooms names that the snapshot begun dooms, or it is abandoned
 begin-settles : (h : Heap) (ds : List Name) (memory : Bool) → IsDoomed (view (with_empty_buffer h)) (begun h) ds →
     Settles ds (unit h None memory).heap (unit h None memory).snapshot (unit h None memory).events
-unfolding unit
-begin-settles h ds memory d = go (may_be_refused h None && not memory)
-  where
-    unit_by : Bool → UnitDone
-    unit_by true = abandoned h None
-    unit_by false = granted h None
-
-    go : (b : Bool) → Settles ds (unit_by b).heap (unit_by b).snapshot (unit_by b).events
-    go true = inr (inr (inl refl))
-    go false = inl (begun h, refl, d)
+begin-settles h ds memory d = unit-cases h None memory (λ u. Settles ds u.heap u.snapshot u.events) (inr (inr (inl refl))) (inl (begun h, refl, d))
 
 module _ (g : Graph) (well : IsWellMade g) (names : List Name) (ds : List Name) (a : Machine) (runs : RunsOn g names a.heap a.snapshot)
     (none : a.snapshot ≡ None) (doomed : IsDoomed (view (with_empty_buffer a.heap)) (begun a.heap) ds) where
@@ -209,6 +207,11 @@ module _ (g : Graph) (well : IsWellMade g) (names : List Name) (ds : List Name) 
   begun-settles (taken Collect) e = settled g ds (collect a)
       (subst (HoldsOn g (Settles ds)) (sym (collect-none a none)) (some-settle (enough_units a) (omega arith)))
   begun-settles ask e = absurd (false≢true e)
+
+-- a machine that runs does so after `gc`
+pub after_gc-runs : (m : Machine) (s : State) → IsRunning m s → (t : State) × IsRunning (gc m).machine t
+unfolding do_ask
+after_gc-runs m s r = (next s (taken Gc) (do_ask m (taken Gc)).answer, gc-runs m s r)
 
 -- A COLLECTION THAT BEGINS RIGHT AFTER `gc` SPENDS WHAT WAS LOST, when it ends and is not abandoned.
 pub after_gc-settles : (m : Machine) (s : State) (ask : Ask) → IsRunning m s → IsSuspectedNow m → begins_one ask ≡ true →

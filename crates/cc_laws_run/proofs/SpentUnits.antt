@@ -1,26 +1,24 @@
 -- UNITS KEEP WHAT IS SPENT, and the end of a collection that can't miss names leaves them spent.
-use Rattle.std.proofs.Common.{◌≡◌, ◌==◌, ℕ, ◌≤◌, Bool, true, false, not, ◌&&◌, List, [], ◌++◌, Option, Some, None, refl, sym, ◌∙◌, ap, subst, inl, inr, ◌⊎◌, ⊎_elim, arith}
-use Rattle.std.specs.Option.{is_some}
+use Rattle.std.proofs.Common.{◌≡◌, ◌==◌, ℕ, ◌≤◌, Bool, List, [], ◌++◌, Option, Some, None, refl, sym, ◌∙◌, ap, subst, inl, inr, ◌⊎◌, ⊎_elim, arith}
 use Rattle.cc_lists.specs.Members.{Among}
-use Rattle.cc_lists.proofs.Members.{Among-left, Among-right, Among_or_not}
+use Rattle.cc_lists.proofs.Members.{Among-left, Among-right, Among-flat_map_cases, Among_or_not}
 use Rattle.cc_names.specs.declared.name.Name.{Name}
-use Rattle.cc_names.specs.Names.{native, object}
-use Rattle.cc_model.specs.declared.command.Command.TheVariants.{Collect}
+use Rattle.cc_names.specs.declared.name.Name.TheVariants as name
+use Rattle.cc_names.specs.Names.{native, object, natives_in}
 use Rattle.cc_model.specs.declared.item.Event.{Event}
-use Rattle.cc_model.specs.declared.item.Event.TheVariants.{Unlinked, Abandoned}
+use Rattle.cc_model.specs.declared.item.Event.TheVariants.{Unlinked, Freed, Abandoned}
 use Rattle.cc_model.specs.Slots.{contents}
 use Rattle.cc_model.specs.Entries.{Entry}
 use Rattle.cc_model.specs.Graph.{Graph}
-use Rattle.cc_model.specs.WellMade.{IsWellMade}
 use Rattle.cc_model.specs.WellFormed.{native_names}
 use Rattle.cc_model.specs.Heap.{Heap, HeapNative}
 use Rattle.cc_model.specs.View.{view, native_edges}
 use Rattle.cc_model.specs.Snapshot.{Snapshot, white_natives}
 use Rattle.cc_model.specs.Units.{first_untraversed, to_note, after_node, with_empty_buffer}
 use Rattle.cc_model.specs.Fresh.{IsFresh, IsTraversed}
-use Rattle.cc_model.specs.End.{Progress, went_on, at_end, refused, UnitDone, may_be_refused, heap_given_back, abandoned, granted, node_or_end, take_away, unit}
-use Rattle.cc_model.specs.Listed.{after_events}
-use Rattle.cc_model.specs.Collecting.{Machine, UnitsDone, next_answer, no_units, one_unit, units_done, enough_units, to_the_end, finish_running, slice, starting_anew, collect}
+use Rattle.cc_model.specs.End.{heap_given_back, granted, node_or_end, take_away, unit}
+use Rattle.cc_model.specs.Lawful.{unlinked_in, unlinked_numbers}
+use Rattle.cc_model.specs.Collecting.{UnitsDone}
 use Rattle.cc_laws_heap.specs.Sound.{IsSound}
 use Rattle.cc_laws_heap.specs.Freeing.{Uncounted}
 use Rattle.cc_laws_heap.specs.Ending.{TakesAway}
@@ -30,19 +28,40 @@ use Rattle.cc_laws_heap.proofs.TakingAway.{take_away-takes}
 use Rattle.cc_laws_snapshot.proofs.SoundView.{named-there}
 use Rattle.cc_laws_run.specs.Doomed.{IsDoomed, AreUnlinked}
 use Rattle.cc_laws_run.specs.Spent.{SpendsAll}
-use Rattle.cc_laws_run.proofs.NamesAndEdges.{named-of_living}
-use Rattle.cc_laws_run.proofs.TouchedViews.{edge-native, edge-script, edge-cases}
+use Rattle.cc_laws_snapshot.proofs.NamesAndEdges.{named-of_living}
+use Rattle.cc_laws_run.proofs.TouchedViews.{edge-cases}
 use Rattle.cc_laws_run.proofs.DoomedNode.{after_node-doomed}
 use Rattle.cc_laws_run.proofs.DoomedWhite.{doomed-white_native}
-use Rattle.cc_laws_run.proofs.GivingBack.{given_back, give_back-buffer}
-use Rattle.cc_laws_run.proofs.UnitLawful.{RunsOn, UnitIsLawful, traversed-none, white_natives-there, unit-lawful}
-use Rattle.cc_laws_run.proofs.QuietRounds.{native_edges-alike}
+use Rattle.cc_laws_snapshot.proofs.GivingBack.{given_back, give_back-buffer}
+use Rattle.cc_laws_snapshot.proofs.WhiteNatives.{white_natives-there}
+use Rattle.cc_laws_snapshot.proofs.ReachedStays.{native_edges-alike, native-edge, script-edge}
+use Rattle.cc_laws_run.proofs.UnitLawful.{unit-cases, RunsOn, traversed-none}
 use Rattle.cc_laws_run.proofs.QuietTaken.{taken-emptied, others-kept, emptied-none}
-use Rattle.cc_laws_run.proofs.QuietUnits.{units_done-keep}
-use Rattle.cc_laws_run.proofs.MissesUnits.{end-unlinks}
+use Rattle.cc_laws_run.proofs.HoldingUnits.{Manner, EachKeeps, HoldsOn}
 use Rattle.cc_laws_run.proofs.SpentViews.{Spends, spent-from, spends-less, IsLess-buffer}
 
 -- The end
+
+-- a number that is told unlinked is in such an event
+unlinked-told : (es : List Event) (k : ℕ) → Among k (unlinked_numbers es) → Among (Unlinked (native k)) es
+unlinked-told es k m = let f = Among-flat_map_cases unlinked_in es k m in by_event f.0 f.1 f.2
+  where
+    by_name : (x : Name) → Among k (natives_in x) → x ≡ native k
+    by_name (name.Native j) n = ⊎_elim (λ e. ap native e) (λ a. absurd a) n
+    by_name (name.Script j) n = absurd n
+    by_name (name.Reflector j) n = absurd n
+
+    by_event : (e : Event) → Among e es → Among k (unlinked_in e) → Among (Unlinked (native k)) es
+    by_event (Unlinked x) i n = subst (λ y. Among (Unlinked y) es) (by_name x n) i
+    by_event (Freed x) i n = absurd n
+    by_event Abandoned i n = absurd n
+
+-- the end of a collection unlinks each native that it dooms
+end-unlinks : (h : Heap) (s : Snapshot) (ds : List Name) → IsSound [] h → IsFresh h.natives_made (view h) s → IsTraversed s →
+    IsDoomed (view h) s ds → AreUnlinked ds (take_away (white_natives h s) h).events
+end-unlinks h s ds sound fresh all d = λ i b.
+    let t = (take_away-takes h (white_natives h s) sound (white_natives-there h s sound).there).1 in
+    unlinked-told (take_away (white_natives h s) h).events i (subst (Among i) (sym t.unlinked) (doomed-white_native h s ds i sound fresh all d b))
 
 -- names that are spent but for edges of these natives
 record IsNearlySpent (h : Heap) (ks : List ℕ) (ds : List Name) : Type 0 where
@@ -86,8 +105,8 @@ take_away-spends h ks ds s there d = record {
 
     before : (x y : Name) → Among (x, y) (view k).edges → Among (x, y) (view h).edges
     before x y e = ⊎_elim
-        (λ f. let p = of_native f.0 x y f.1 f.2 in edge-native h p.0 x y p.1 p.3)
-        (λ f. edge-script h f.0 x y (subst (λ os. Among f.0 os) t.scripts f.1) f.2)
+        (λ f. let p = of_native f.0 x y f.1 f.2 in native-edge h p.0 x y p.1 p.3)
+        (λ f. script-edge h f.0 x y (subst (λ os. Among f.0 os) t.scripts f.1) f.2)
         (edge-cases k x y e)
 
     none : (n : HeapNative) (y : Name) → Among n k.natives → Among (native n.number) ds → ¬ (Among (native n.number, y) (native_edges n))
@@ -112,13 +131,8 @@ end-spends h s ds sound fresh all d = take_away-spends h (white_natives h s) ds 
 
 -- a unit keeps what is spent
 unit-spends : (h : Heap) (o : Option Snapshot) (ds : List Name) (memory : Bool) → IsSound [] h → Spends h ds → Spends (unit h o memory).heap ds
-unfolding unit
-unit-spends h o ds memory sound d = go (may_be_refused h o && not memory)
+unit-spends h o ds memory sound d = unit-cases h o memory (λ u. Spends u.heap ds) (given o) (by_snapshot o)
   where
-    unit_by : Bool → UnitDone
-    unit_by true = abandoned h o
-    unit_by false = granted h o
-
     given : (o : Option Snapshot) → Spends (heap_given_back h o) ds
     given None = d
     given (Some s) = subst (λ k. Spends k ds) (sym (give_back-buffer s.candidates h h.buffer))
@@ -139,10 +153,6 @@ unit-spends h o ds memory sound d = go (may_be_refused h o && not memory)
     by_snapshot None = spends-less ds h (with_empty_buffer h) (IsLess-buffer h []) d
     by_snapshot (Some s) = by_node s (first_untraversed s.nodes)
 
-    go : (b : Bool) → Spends (unit_by b).heap ds
-    go true = given o
-    go false = by_snapshot o
-
 -- a collection over these heaps can't miss the names, or it has unlinked them all and they are spent, or it was abandoned
 abbrev pub Settles : List Name → Heap → Option Snapshot → List Event → Type 0
 Settles ds h s es = ((t : Snapshot) × (s ≡ Some t) × IsDoomed (view h) t ds) ⊎ ((AreUnlinked ds es × Spends h ds) ⊎ Among Abandoned es)
@@ -160,92 +170,9 @@ node_or_end-settles h s ds sound fresh d (Some x) e = inl (after_node h s x (to_
 -- a unit of a collection that can't miss the names
 unit-settles : (h : Heap) (s : Snapshot) (ds : List Name) (memory : Bool) → IsSound [] h → IsFresh h.natives_made (view h) s → IsDoomed (view h) s ds →
     Settles ds (unit h (Some s) memory).heap (unit h (Some s) memory).snapshot (unit h (Some s) memory).events
-unfolding unit
-unit-settles h s ds memory sound fresh d = go (may_be_refused h (Some s) && not memory)
-  where
-    unit_by : Bool → UnitDone
-    unit_by true = abandoned h (Some s)
-    unit_by false = granted h (Some s)
-
-    go : (b : Bool) → Settles ds (unit_by b).heap (unit_by b).snapshot (unit_by b).events
-    go true = inr (inr (inl refl))
-    go false = node_or_end-settles h s ds sound fresh d (first_untraversed s.nodes) refl
-
--- Units one after the other
-
--- what a collection is like, by its heaps, its snapshot and what was told
-abbrev pub Manner : Type 1
-Manner = Heap → Option Snapshot → List Event → Type 0
-
--- each unit of machines that run keeps the manner
-abbrev pub EachKeeps : Graph → Manner → Type 0
-EachKeeps g P = (names : List Name) (h : Heap) (o : Option Snapshot) (answer : Bool) (es : List Event) → RunsOn g names h o → P h o es →
-    P (unit h o answer).heap (unit h o answer).snapshot (es ++ (unit h o answer).events)
-
--- a machine that runs beside a graph, in this manner
-pub record HoldsOn (g : Graph) (P : Manner) (d : UnitsDone) : Type 0 where
-  pub names : List Name
-  pub runs : RunsOn g names d.machine.heap d.machine.snapshot
-  pub holds : P d.machine.heap d.machine.snapshot d.events
-
-module _ (g : Graph) (well : IsWellMade g) (P : Manner) (step : EachKeeps g P) where
-  -- one unit leaves such a machine
-  one_unit-holds : (d : UnitsDone) → d.progress ≡ went_on → HoldsOn g P d → HoldsOn g P (one_unit d.machine d.events)
-  one_unit-holds d e t =
-      let h : Heap = d.machine.heap in
-      let answer : Bool = next_answer d.machine.memory in
-      let lawful : UnitIsLawful g t.names Collect (unit h d.machine.snapshot answer) = unit-lawful g well Collect refl t.names h d.machine.snapshot answer t.runs in
-      record {
-        names = after_events t.names (unit h d.machine.snapshot answer).events;
-        runs = lawful.still;
-        holds = step t.names h d.machine.snapshot answer d.events t.runs t.holds;
-      }
-
-  -- so do several
-  pub units_done-holds : (n : ℕ) (d : UnitsDone) → HoldsOn g P d → HoldsOn g P (units_done n d)
-  units_done-holds n d t = units_done-keep (HoldsOn g P) one_unit-holds n d t
-
-  -- those of a slice
-  pub slice-holds : (n : ℕ) (m : Machine) → HoldsOn g P (no_units m) → HoldsOn g P (slice n m)
-  unfolding slice
-  slice-holds n m t = units_done-holds n (no_units m) t
-
-  -- those that bring a running collection to its end
-  pub finish-holds : (m : Machine) → HoldsOn g P (no_units m) → HoldsOn g P (finish_running m)
-  finish-holds m t = go (is_some m.snapshot)
-    where
-      finished_by : Bool → UnitsDone
-      finished_by true = to_the_end (no_units m)
-      finished_by false = no_units m
-
-      go : (b : Bool) → HoldsOn g P (finished_by b)
-      go true = units_done-holds (enough_units m) (no_units m) t
-      go false = t
-
-  -- those of a whole collection
-  pub collect-holds : (m : Machine) → HoldsOn g P (no_units m) → HoldsOn g P (collect m)
-  unfolding collect
-  collect-holds m t = go (finish_running m).progress
-    where
-      d : UnitsDone
-      d = finish_running m
-
-      first : HoldsOn g P d
-      first = finish-holds m t
-
-      second : HoldsOn g P (to_the_end (starting_anew d))
-      second = units_done-holds (enough_units (starting_anew d).machine) (starting_anew d)
-          (record { names = first.names; runs = first.runs; holds = first.holds })
-
-      stopped_by : Progress → UnitsDone
-      stopped_by refused = d
-      stopped_by went_on = to_the_end (starting_anew d)
-      stopped_by at_end = to_the_end (starting_anew d)
-
-      go : (p : Progress) → HoldsOn g P (stopped_by p)
-      go refused = first
-      go went_on = second
-      go at_end = second
+unit-settles h s ds memory sound fresh d = unit-cases h (Some s) memory (λ u. Settles ds u.heap u.snapshot u.events)
+    (inr (inr (inl refl)))
+    (node_or_end-settles h s ds sound fresh d (first_untraversed s.nodes) refl)
 
 -- Two manners
 

@@ -1,5 +1,5 @@
--- A CASCADE TOUCHES NO DOOMED NAME: it begins with a native that is none, and what such a native held is none either.
-use Rattle.std.proofs.Common.{◌≡◌, ℕ, zero, suc, ◌+◌, ◌-◌, ◌==◌, Bool, true, false, not, List, [], ◌∷◌, length, Option, Some, None, refl, sym, ap, subst, inl, inr, ⊎_elim}
+-- A CASCADE LEAVES NAMES ALONE that are apart: it begins with a native that is none of them, and what such a native held is none either.
+use Rattle.std.proofs.Common.{◌≡◌, ℕ, zero, suc, ◌+◌, ◌-◌, ◌==◌, Bool, true, false, not, List, [], ◌∷◌, length, Option, Some, None, refl, sym, ap, subst, inl, inr, ⊎_elim, arith}
 use Rattle.std.specs.List.{filter}
 use Rattle.std.proofs.lemmas.Bool.{ne_eqb}
 use Rattle.cc_lists.specs.Members.{Among}
@@ -9,16 +9,16 @@ use Rattle.cc_names.specs.declared.name.Name.TheVariants as name
 use Rattle.cc_names.specs.Names.{native, natives_in}
 use Rattle.cc_model.specs.Slots.{contents}
 use Rattle.cc_model.specs.Heap.{Heap, HeapNative, native_at, change_native, with_mark, touch, forget}
-use Rattle.cc_model.specs.View.{view}
 use Rattle.cc_model.specs.Cascade.{Draining, add_ref, lower, fallen, given_up, give_up, give_up_each, removed, natives_of_slots, told_free, free_front, drain, at_rest, drained, cascade, take_up, let_go}
-use Rattle.cc_model.specs.Snapshot.{Snapshot}
-use Rattle.cc_laws_heap.proofs.Natives.{native_at-there, native_at-number}
+use Rattle.cc_laws_heap.proofs.Natives.{native_at-there, native_at-number, uncounted-change}
+use Rattle.cc_laws_heap.proofs.Leaving.{IsOf-alike}
 use Rattle.cc_laws_heap.proofs.HoldsTheSame.{raise_native}
-use Rattle.cc_laws_run.specs.Doomed.{IsDoomed}
-use Rattle.cc_laws_run.proofs.BufferMarks.{marked-buffer, forget-buffer}
-use Rattle.cc_laws_run.proofs.Handing.{edge-from_slot}
-use Rattle.cc_laws_run.proofs.TouchedViews.{doomed-spared, Spares-buffer, Spares-natives, edge-native}
+use Rattle.cc_laws_snapshot.proofs.BufferMarks.{marked-buffer, forget-buffer}
+use Rattle.cc_laws_snapshot.proofs.Handing.{edge-from_slot}
+use Rattle.cc_laws_snapshot.proofs.ReachedStays.{native-edge}
+use Rattle.cc_laws_run.proofs.TouchedViews.{Spares-buffer, Spares-natives}
 use Rattle.cc_laws_run.proofs.TouchedParts.{IsUntouched, Spares-count}
+use Rattle.cc_laws_run.proofs.TouchedSteps.{Leaves, leaves-on, leaves-still}
 
 -- a name in which a native's number stands is that native
 native-in : (y : Name) (i : ℕ) → Among i (natives_in y) → y ≡ native i
@@ -26,54 +26,61 @@ native-in (name.Native k) i m = ⊎_elim (λ e. ap native e) (λ t. absurd t) m
 native-in (name.Script k) i m = absurd m
 native-in (name.Reflector k) i m = absurd m
 
-module _ (s : Snapshot) (ds : List Name) where
+module _ (ds : List Name) (g : Heap) where
   -- a native that is no member marked in the buffer
-  doomed-marked : (h : Heap) (m : Bool) (k : ℕ) → ¬ (Among (native k) ds) → IsDoomed (view h) s ds →
-      IsDoomed (view (record h { buffer = with_mark m k h.buffer })) s ds
-  doomed-marked h m k out d = doomed-spared s ds (view h) (view (record h { buffer = with_mark m k h.buffer }))
+  leaves-marked : (h : Heap) (m : Bool) (k : ℕ) → ¬ (Among (native k) ds) → Leaves ds g h →
+      Leaves ds g (record h { buffer = with_mark m k h.buffer })
+  leaves-marked h m k out d = leaves-still ds g h (record h { buffer = with_mark m k h.buffer }) (omega arith) (omega arith) refl
       (Spares-buffer ds h (with_mark m k h.buffer)
       (λ x i j. ⊎_elim (λ e. absurd (out (subst (λ z. Among z ds) (sym e) i))) (λ t. t) (marked-buffer h m k x j))) d
 
   -- a native touched that is no member
-  pub doomed-touch : (h : Heap) (k : ℕ) → ¬ (Among (native k) ds) → IsDoomed (view h) s ds → IsDoomed (view (touch h k)) s ds
-  doomed-touch h k = doomed-marked h false k
+  pub leaves-touch : (h : Heap) (k : ℕ) → ¬ (Among (native k) ds) → Leaves ds g h → Leaves ds g (touch h k)
+  leaves-touch h k = leaves-marked h false k
+
+  -- a count changed
+  leaves-count : (h : Heap) (k : ℕ) (f : ℕ → ℕ) → Leaves ds g h → Leaves ds g (change_native h k (λ n. record n { count = f n.count }))
+  leaves-count h k f = leaves-on ds g h (change_native h k (λ n. record n { count = f n.count })) (omega arith) (omega arith)
+      (λ n there m. IsOf-alike h (change_native h k (λ n. record n { count = f n.count }))
+      (uncounted-change h k (λ n. record n { count = f n.count }) (λ n. refl)) n there)
+      (Spares-count ds h k f)
 
   -- one reference more to a native that is no member
-  pub doomed-add_ref : (h : Heap) (k : ℕ) → ¬ (Among (native k) ds) → IsDoomed (view h) s ds → IsDoomed (view (add_ref h k)) s ds
-  doomed-add_ref h k out d = doomed-touch (change_native h k raise_native) k out
-      (doomed-spared s ds (view h) (view (change_native h k raise_native)) (Spares-count ds h k (λ c. c + 1)) d)
+  pub leaves-add_ref : (h : Heap) (k : ℕ) → ¬ (Among (native k) ds) → Leaves ds g h → Leaves ds g (add_ref h k)
+  leaves-add_ref h k out d = leaves-touch (change_native h k raise_native) k out (leaves-count h k (λ c. c + 1) d)
 
   -- a reference taken to what a place is to hold, which is no member
-  pub doomed-take_up : (h : Heap) (x : Option Name) → IsUntouched ds x → IsDoomed (view h) s ds → IsDoomed (view (take_up h x)) s ds
-  doomed-take_up h None none d = d
-  doomed-take_up h (Some (name.Script k)) none d = d
-  doomed-take_up h (Some (name.Reflector k)) none d = d
-  doomed-take_up h (Some (name.Native k)) none d = doomed-add_ref h k.0 (none (native k.0) (inl refl)) d
+  pub leaves-take_up : (h : Heap) (x : Option Name) → IsUntouched ds x → Leaves ds g h → Leaves ds g (take_up h x)
+  leaves-take_up h None none d = d
+  leaves-take_up h (Some (name.Script k)) none d = d
+  leaves-take_up h (Some (name.Reflector k)) none d = d
+  leaves-take_up h (Some (name.Native k)) none d = leaves-add_ref h k.0 (none (native k.0) (inl refl)) d
 
   -- a count that falls
-  doomed-lower : (h : Heap) (k : ℕ) → IsDoomed (view h) s ds → IsDoomed (view (lower h k)) s ds
-  doomed-lower h k = doomed-spared s ds (view h) (view (lower h k)) (Spares-count ds h k (λ c. c - 1))
+  leaves-lower : (h : Heap) (k : ℕ) → Leaves ds g h → Leaves ds g (lower h k)
+  leaves-lower h k = leaves-count h k (λ c. c - 1)
 
   -- a native that leaves the buffer
-  doomed-forget : (h : Heap) (k : ℕ) → IsDoomed (view h) s ds → IsDoomed (view (forget h k)) s ds
-  doomed-forget h k = doomed-spared s ds (view h) (view (forget h k))
+  leaves-forget : (h : Heap) (k : ℕ) → Leaves ds g h → Leaves ds g (forget h k)
+  leaves-forget h k = leaves-still ds g h (forget h k) (omega arith) (omega arith) refl
       (Spares-buffer ds h (filter (λ b. not (b.number == k)) h.buffer) (λ x m j. (forget-buffer h k x j).3))
 
   -- a native that is no member taken out
-  doomed-removed : (h : Heap) (k : ℕ) → ¬ (Among (native k) ds) → IsDoomed (view h) s ds → IsDoomed (view (removed h k)) s ds
-  doomed-removed h k out = doomed-spared s ds (view h) (view (removed h k)) (Spares-natives ds h (removed h k).natives
+  leaves-removed : (h : Heap) (k : ℕ) → ¬ (Among (native k) ds) → Leaves ds g h → Leaves ds g (removed h k)
+  leaves-removed h k out = leaves-on ds g h (removed h k) (omega arith) (omega arith)
+      (λ n there m. (n, Among-filtered (λ n. not (n.number == k)) n h.natives there, refl)) (Spares-natives ds h (removed h k).natives
       (λ n there m.
       let other : n.number ≡ k → ⊥ = λ e. out (subst (λ j. Among (native j) ds) e m) in
       (n, Among-filter (λ n. not (n.number == k)) n h.natives there (ap not (ne_eqb n.number k other)), refl, λ y i e. e))
-      (λ n x y there i e. edge-native h n x y (Among-filtered (λ n. not (n.number == k)) n h.natives there) e))
+      (λ n x y there i e. native-edge h n x y (Among-filtered (λ n. not (n.number == k)) n h.natives there) e))
 
   -- none of these natives is a member
   abbrev AreUntouched : List ℕ → Type 0
   AreUntouched ks = (k : ℕ) → Among k ks → ¬ (Among (native k) ds)
 
-  -- while natives are deleted: what is doomed is so, and no member waits
+  -- while natives are deleted: members are left alone, and none waits
   record Drains (d : Draining) : Type 0 where
-    doomed : IsDoomed (view d.heap) s ds
+    left : Leaves ds g d.heap
     queue : AreUntouched d.queue
 
   -- one reference given up
@@ -83,12 +90,12 @@ module _ (s : Snapshot) (ds : List Name) where
       by_count : (c : ℕ) → Drains (fallen d k c)
       by_count zero = p
       by_count (suc zero) = record {
-        doomed = doomed-forget (lower d.heap k) k (doomed-lower d.heap k p.doomed);
+        left = leaves-forget (lower d.heap k) k (leaves-lower d.heap k p.left);
         queue = λ j m. ⊎_elim (λ l. p.queue j l)
             (λ r. ⊎_elim (λ e. subst (λ i. ¬ (Among (native i) ds)) e out) (λ b. absurd b) r)
             (Among-append j d.queue (k ∷ []) m);
       }
-      by_count (suc (suc c)) = record { doomed = doomed-marked (lower d.heap k) true k out (doomed-lower d.heap k p.doomed); queue = p.queue }
+      by_count (suc (suc c)) = record { left = leaves-marked (lower d.heap k) true k out (leaves-lower d.heap k p.left); queue = p.queue }
 
       go : (o : Option HeapNative) → Drains (given_up d k o)
       go None = p
@@ -101,7 +108,7 @@ module _ (s : Snapshot) (ds : List Name) where
       Drains-give_up_each (give_up d k) ks (λ j m. out j (inr m)) (Drains-give_up d k (out k (inl refl)) p)
 
   -- what a native that is no member has in its slots is none
-  slots-untouched : (h : Heap) (k : ℕ) → ¬ (Among (native k) ds) → IsDoomed (view h) s ds → AreUntouched (natives_of_slots (native_at h k))
+  slots-untouched : (h : Heap) (k : ℕ) → ¬ (Among (native k) ds) → Leaves ds g h → AreUntouched (natives_of_slots (native_at h k))
   slots-untouched h k out d = go (native_at h k) refl
     where
       go : (o : Option HeapNative) → native_at h k ≡ o → AreUntouched (natives_of_slots o)
@@ -110,11 +117,11 @@ module _ (s : Snapshot) (ds : List Name) where
           let f = Among-flat_map_cases natives_in (contents n.slots) j m in
           let held = subst (λ y. Among y (contents n.slots)) (native-in f.0 j f.2) f.1 in
           out (subst (λ c. Among (native c) ds) (native_at-number h k n e)
-          (d.holder (native n.number) (native j) (edge-from_slot h n (native j) (native_at-there h k n e) held) i))
+          (d.apart.holder (native n.number) (native j) (edge-from_slot h n (native j) (native_at-there h k n e) held) i))
 
   -- the front of the queue freed
   Drains-free_front : (d : Draining) (k : ℕ) (ks : List ℕ) → d.queue ≡ k ∷ ks → Drains d → Drains (free_front d k ks)
-  Drains-free_front d k ks e p = record { doomed = doomed-removed emptied.heap k out each.doomed; queue = each.queue }
+  Drains-free_front d k ks e p = record { left = leaves-removed emptied.heap k out each.left; queue = each.queue }
     where
       out : ¬ (Among (native k) ds)
       out = p.queue k (subst (λ q. Among k q) (sym e) (inl refl))
@@ -123,8 +130,8 @@ module _ (s : Snapshot) (ds : List Name) where
       emptied = give_up_each (told_free d k ks) (natives_of_slots (native_at d.heap k))
 
       each : Drains emptied
-      each = Drains-give_up_each (told_free d k ks) (natives_of_slots (native_at d.heap k)) (slots-untouched d.heap k out p.doomed)
-          (record { doomed = p.doomed; queue = λ j m. p.queue j (subst (λ q. Among j q) (sym e) (inr m)) })
+      each = Drains-give_up_each (told_free d k ks) (natives_of_slots (native_at d.heap k)) (slots-untouched d.heap k out p.left)
+          (record { left = p.left; queue = λ j m. p.queue j (subst (λ q. Among j q) (sym e) (inr m)) })
 
   -- the queue drained
   Drains-drain : (n : ℕ) (d : Draining) → Drains d → Drains (drain n d)
@@ -139,15 +146,15 @@ module _ (s : Snapshot) (ds : List Name) where
       go ih [] e = p
       go ih (k ∷ ks) e = ih (free_front d k ks) (Drains-free_front d k ks e p)
 
-  -- A CASCADE LEAVES WHAT IS DOOMED, where it begins with a native that is not.
-  pub doomed-cascade : (h : Heap) (k : ℕ) → ¬ (Among (native k) ds) → IsDoomed (view h) s ds → IsDoomed (view (cascade h k).heap) s ds
+  -- A CASCADE LEAVES MEMBERS ALONE, where it begins with a native that is none.
+  pub leaves-cascade : (h : Heap) (k : ℕ) → ¬ (Among (native k) ds) → Leaves ds g h → Leaves ds g (cascade h k).heap
   unfolding drained
-  doomed-cascade h k out d = (Drains-drain (length h.natives) (give_up (at_rest h) k)
-      (Drains-give_up (at_rest h) k out (record { doomed = d; queue = λ j m. absurd m }))).doomed
+  leaves-cascade h k out d = (Drains-drain (length h.natives) (give_up (at_rest h) k)
+      (Drains-give_up (at_rest h) k out (record { left = d; queue = λ j m. absurd m }))).left
 
   -- what a place held, which is no member, is given up
-  pub doomed-let_go : (h : Heap) (x : Option Name) → IsUntouched ds x → IsDoomed (view h) s ds → IsDoomed (view (let_go h x).heap) s ds
-  doomed-let_go h None none d = d
-  doomed-let_go h (Some (name.Script k)) none d = d
-  doomed-let_go h (Some (name.Reflector k)) none d = d
-  doomed-let_go h (Some (name.Native k)) none d = doomed-cascade h k.0 (none (native k.0) (inl refl)) d
+  pub leaves-let_go : (h : Heap) (x : Option Name) → IsUntouched ds x → Leaves ds g h → Leaves ds g (let_go h x).heap
+  leaves-let_go h None none d = d
+  leaves-let_go h (Some (name.Script k)) none d = d
+  leaves-let_go h (Some (name.Reflector k)) none d = d
+  leaves-let_go h (Some (name.Native k)) none d = leaves-cascade h k.0 (none (native k.0) (inl refl)) d

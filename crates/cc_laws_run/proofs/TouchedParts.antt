@@ -14,7 +14,8 @@ use Rattle.cc_model.specs.Slots.{Slots, contents, from_to}
 use Rattle.cc_model.specs.Heap.{Heap, HeapNative, HeapScript, is_black_colour, set_register, change_native, change_script, with_native_slot, with_script_slot, set_preserved}
 use Rattle.cc_model.specs.View.{view, slot_edges, preserved_edge, native_edges, script_slot_edges, script_edges}
 use Rattle.cc_lists.proofs.ListWrites.{changed_where, changed_where-either, Among-flat_map_set}
-use Rattle.cc_laws_run.proofs.TouchedViews.{Spares, Spares-registers, Spares-natives, Spares-scripts, edge-native, edge-script}
+use Rattle.cc_laws_snapshot.proofs.ReachedStays.{native-edge, script-edge}
+use Rattle.cc_laws_run.proofs.TouchedViews.{Spares, Spares-registers, Spares-natives, Spares-scripts}
 
 -- what a place holds is no member
 abbrev pub IsUntouched : List Name → Option Name → Type 0
@@ -56,7 +57,7 @@ module _ (ds : List Name) (h : Heap) where
       ))
       (λ o x y there i e.
       let a = Among-map_cases changed h.natives o there in
-      edge-native h a.0 x y a.1
+      native-edge h a.0 x y a.1
       (changed_where-either (λ p. Among (x, y) (native_edges p) → Among (x, y) (native_edges a.0)) is_it f a.0 (λ t. old a.0 x y i) (λ j. j)
       (subst (λ p. Among (x, y) (native_edges p)) (sym a.2) e)))
     where
@@ -101,7 +102,7 @@ module _ (ds : List Name) (h : Heap) where
       ))
       (λ o x y there i e.
       let a = Among-map_cases changed h.natives o there in
-      edge-native h a.0 x y a.1
+      native-edge h a.0 x y a.1
       (changed_where-either (λ p. Among (x, y) (native_edges p) → Among (x, y) (native_edges a.0)) is_it kept a.0
       (λ t j. ⊎_elim
       (λ l. Among-left (x, y) (slot_edges (native a.0.number) a.0.slots) (preserved_edge a.0) l)
@@ -137,7 +138,7 @@ module _ (ds : List Name) (h : Heap) where
   Spares-new_native n none = Spares-natives ds h (h.natives ++ n ∷ [])
       (λ o there m. (o, Among-left o h.natives (n ∷ []) there, refl, λ y i e. e))
       (λ o x y there i e. ⊎_elim
-      (λ l. edge-native h o x y l e)
+      (λ l. native-edge h o x y l e)
       (λ r. ⊎_elim (λ s. absurd (none x y (subst (λ p. Among (x, y) (native_edges p)) (sym s) e))) (λ b. absurd b) r)
       (Among-append o h.natives (n ∷ []) there))
 
@@ -163,7 +164,7 @@ module _ (ds : List Name) (h : Heap) where
       ))
       (λ p x y there i e.
       let a = Among-map_cases changed h.scripts p there in
-      edge-script h a.0 x y a.1
+      script-edge h a.0 x y a.1
       (changed_where-either (λ q. Among (x, y) (script_edges q) → Among (x, y) (script_edges a.0)) t f a.0 (λ q. old a.0 x y i) (λ j. j)
       (subst (λ q. Among (x, y) (script_edges q)) (sym a.2) e)))
       (λ p there m e.
@@ -215,7 +216,7 @@ module _ (ds : List Name) (h : Heap) where
   Spares-new_script o out none = Spares-scripts ds h (h.scripts ++ o ∷ [])
       (λ p there m. (p, Among-left p h.scripts (o ∷ []) there, refl, λ y i e. e))
       (λ p x y there i e. ⊎_elim
-      (λ l. edge-script h p x y l e)
+      (λ l. script-edge h p x y l e)
       (λ r. ⊎_elim (λ s. absurd (none x y i (subst (λ q. Among (x, y) (script_edges q)) (sym s) e))) (λ b. absurd b) r)
       (Among-append p h.scripts (o ∷ []) there))
       (λ p there m e. ⊎_elim

@@ -23,14 +23,14 @@ use Rattle.cc_model.specs.WellFormed.{IsWellFormed}
 use Rattle.cc_laws_heap.proofs.Natives.{native_at-there, native_at-number}
 use Rattle.cc_laws_heap.proofs.Writes.{contents-at}
 use Rattle.cc_laws_heap.proofs.Holding.{script_register-there}
+use Rattle.cc_laws_snapshot.proofs.ReachedStays.{script-edge}
 use Rattle.cc_laws_run.specs.Doomed.{KeepsReflectors}
-use Rattle.cc_laws_run.proofs.Handing.{edge-from_slot, edge-from_reflector}
-use Rattle.cc_laws_run.proofs.TouchedViews.{edge-script}
+use Rattle.cc_laws_snapshot.proofs.Handing.{edge-from_slot, edge-from_reflector}
 use Rattle.cc_laws_run.proofs.TouchedParts.{IsUntouched}
 
 -- a script object that has it in a slot refers to it
 pub edge-from_script_slot : (h : Heap) (o : HeapScript) (y : Name) → Among o h.scripts → Among y (contents o.slots) → Among (o.name, y) (view h).edges
-edge-from_script_slot h o y there m = edge-script h o o.name y there
+edge-from_script_slot h o y there m = script-edge h o o.name y there
     (Among-left (o.name, y) (script_slot_edges o) (map (λ k. from_to o.name (native k)) (behind o.name)) (Among-map (from_to o.name) y (contents o.slots) m))
 
 -- the value of a map and a key is that of their entry

@@ -3,7 +3,7 @@ use Rattle.std.proofs.Common.{◌≡◌, ℕ, true, List, [], ◌++◌, map, sym
 use Rattle.std.specs.List.{flat_map}
 use Rattle.cc_lists.specs.Members.{Among}
 use Rattle.cc_lists.specs.Least.{Least, system}
-use Rattle.cc_lists.proofs.Members.{Among-map, Among-map_cases, Among-left, Among-right, Among-append, Among-flat_map, Among-flat_map_cases}
+use Rattle.cc_lists.proofs.Members.{Among-map, Among-map_cases, Among-append, Among-flat_map_cases}
 use Rattle.cc_lists.proofs.Least.{derive-root, derive-along, derived-within}
 use Rattle.cc_names.specs.declared.name.Name.{Name}
 use Rattle.cc_names.specs.Names.{native}
@@ -14,11 +14,12 @@ use Rattle.cc_model.specs.View.{View, view, native_edges, script_edges, buffered
 use Rattle.cc_model.specs.WellFormed.{native_names, script_names}
 use Rattle.cc_model.specs.Snapshot.{Snapshot, node_names}
 use Rattle.cc_model.specs.Fresh.{IsLiving, IsScriptThere}
-use Rattle.cc_laws_snapshot.proofs.Edges.{native_edges-are, script_edges-are}
+use Rattle.cc_laws_heap.proofs.ViewEdges.{native_edges-are, script_edges-are}
 use Rattle.cc_laws_snapshot.proofs.SoundView.{living-native, named-there, there-named}
 use Rattle.cc_laws_snapshot.proofs.ScriptsChange.{names_with-cases}
+use Rattle.cc_laws_snapshot.proofs.ReachedStays.{native-edge, script-edge}
 use Rattle.cc_laws_run.specs.Doomed.{IsDoomed}
-use Rattle.cc_laws_run.proofs.NamesAndEdges.{living-of_named}
+use Rattle.cc_laws_snapshot.proofs.NamesAndEdges.{living-of_named}
 
 -- Members stay; what holds or marks one of them did so before; what one holds of them it still holds.
 pub record Spares (ds : List Name) (v w : View) : Type 0 where
@@ -54,17 +55,7 @@ doomed-spared s ds v w p d = record {
 
 -- The edges of heaps, object by object
 
--- an edge of a native that is there
-pub edge-native : (h : Heap) (n : HeapNative) (x y : Name) → Among n h.natives → Among (x, y) (native_edges n) → Among (x, y) (view h).edges
-edge-native h n x y there m = Among-left (x, y) (flat_map native_edges h.natives) (flat_map script_edges h.scripts)
-    (Among-flat_map native_edges n (x, y) h.natives there m)
-
--- an edge of a script object that is there
-pub edge-script : (h : Heap) (o : HeapScript) (x y : Name) → Among o h.scripts → Among (x, y) (script_edges o) → Among (x, y) (view h).edges
-edge-script h o x y there m = Among-right (x, y) (flat_map native_edges h.natives) (flat_map script_edges h.scripts)
-    (Among-flat_map script_edges o (x, y) h.scripts there m)
-
--- each edge is one of these
+-- each edge is one of a native or a script object that is there
 pub edge-cases : (h : Heap) (x y : Name) → Among (x, y) (view h).edges →
     ((n : HeapNative) × Among n h.natives × Among (x, y) (native_edges n)) ⊎ ((o : HeapScript) × Among o h.scripts × Among (x, y) (script_edges o))
 edge-cases h x y m = ⊎_elim
@@ -75,19 +66,6 @@ edge-cases h x y m = ⊎_elim
 -- One list of the heaps changed
 
 module _ (ds : List Name) (h : Heap) where
-  -- a change of no list at all
-  pub Spares-refl : Spares ds (view h) (view h)
-  Spares-refl = record {
-    natives = λ i m l. l;
-    scripts = λ x m l. l;
-    registers = λ x m r. r;
-    buffer = λ x m r. r;
-    black = λ x m r. r;
-    edges = λ x y m e. e;
-    entries = λ e m i. i;
-    within = λ x y a b e. e;
-  }
-
   -- registers changed, which hold no member that they did not hold
   pub Spares-registers : (ns ss : Slots) →
       ((x : Name) → Among x ds → Among x (contents ns ++ contents ss) → Among x (view h).registers) →
@@ -146,15 +124,15 @@ module _ (ds : List Name) (h : Heap) where
     registers = λ x m r. r;
     buffer = λ x m r. r;
     black = λ x m r. r;
-    edges = λ x y m e. ⊎_elim (λ f. old f.0 x y f.1 m f.2) (λ f. edge-script h f.0 x y f.1 f.2) (edge-cases g x y e);
+    edges = λ x y m e. ⊎_elim (λ f. old f.0 x y f.1 m f.2) (λ f. script-edge h f.0 x y f.1 f.2) (edge-cases g x y e);
     entries = λ e m i. i;
     within = λ x y a b e. ⊎_elim
         (λ f.
         let start = (native_edges-are f.0 x y f.2).0 in
         let k = stay f.0 f.1 (subst (λ z. Among z ds) (sym start) a) in
-        edge-native g k.0 x y k.1 (subst (λ z. Among (z, y) (native_edges k.0)) start
+        native-edge g k.0 x y k.1 (subst (λ z. Among (z, y) (native_edges k.0)) start
         (k.3 y b (subst (λ z. Among (z, y) (native_edges f.0)) (sym start) f.2))))
-        (λ f. edge-script g f.0 x y f.1 f.2) (edge-cases h x y e);
+        (λ f. script-edge g f.0 x y f.1 f.2) (edge-cases h x y e);
   }
     where
       g : Heap
@@ -178,14 +156,14 @@ module _ (ds : List Name) (h : Heap) where
     black = λ x m r.
         let f = names_with-cases (λ o. is_black_colour o.colour) ss x r in
         subst (λ z. Among z (view h).black) f.3 (dark f.0 f.1 (subst (λ z. Among z ds) (sym f.3) m) f.2);
-    edges = λ x y m e. ⊎_elim (λ f. edge-native h f.0 x y f.1 f.2) (λ f. old f.0 x y f.1 m f.2) (edge-cases g x y e);
+    edges = λ x y m e. ⊎_elim (λ f. native-edge h f.0 x y f.1 f.2) (λ f. old f.0 x y f.1 m f.2) (edge-cases g x y e);
     entries = λ e m i. i;
     within = λ x y a b e. ⊎_elim
-        (λ f. edge-native g f.0 x y f.1 f.2)
+        (λ f. native-edge g f.0 x y f.1 f.2)
         (λ f.
         let start = (script_edges-are f.0 x y f.2).0 in
         let k = stay f.0 f.1 (subst (λ z. Among z ds) (sym start) a) in
-        edge-script g k.0 x y k.1 (subst (λ z. Among (z, y) (script_edges k.0)) start
+        script-edge g k.0 x y k.1 (subst (λ z. Among (z, y) (script_edges k.0)) start
         (k.3 y b (subst (λ z. Among (z, y) (script_edges f.0)) (sym start) f.2))))
         (edge-cases h x y e);
   }

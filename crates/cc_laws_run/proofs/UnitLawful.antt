@@ -1,25 +1,23 @@
 -- ONE UNIT OF A COLLECTION IS LAWFUL: the heaps go on running, and what it tells may be told.
-use Rattle.std.proofs.Common.{◌≡◌, ℕ, ◌≤◌, Bool, true, false, not, ◌&&◌, ◌||◌, List, [], ◌∷◌, map, Option, Some, None, refl, sym, ◌∙◌, ap, subst, inl, ⊎_elim, arith}
-use Rattle.std.specs.List.{filter}
+use Rattle.std.proofs.Common.{◌≡◌, ℕ, ◌≤◌, Bool, true, false, not, ◌&&◌, ◌||◌, List, [], ◌∷◌, Option, Some, None, refl, sym, ◌∙◌, ap, subst, inl, ⊎_elim, arith}
 use Rattle.std.proofs.lemmas.Bool.{true≢false}
-use Rattle.cc_lists.specs.Members.{Among, has}
-use Rattle.cc_lists.proofs.Members.{Among-left, Among-map_cases, Among-passes, Among-flat_map, has-among}
+use Rattle.cc_lists.specs.Members.{Among}
+use Rattle.cc_lists.proofs.Members.{Among-left, Among-flat_map}
 use Rattle.cc_names.specs.declared.name.Name.{Name}
-use Rattle.cc_names.specs.Names.{native, same_name, is_native, natives_in}
-use Rattle.cc_names.proofs.NameTests.{same_name-exact}
+use Rattle.cc_names.specs.Names.{native, is_native, natives_in}
 use Rattle.cc_model.specs.declared.command.Command.{Command}
 use Rattle.cc_model.specs.declared.item.Event.{Event}
 use Rattle.cc_model.specs.declared.item.Event.TheVariants.{Unlinked, Freed, Abandoned}
 use Rattle.cc_model.specs.Graph.{Graph}
 use Rattle.cc_model.specs.WellMade.{IsWellMade}
 use Rattle.cc_model.specs.Reached.{Reached}
-use Rattle.cc_model.specs.Heap.{Heap, HeapNative, Buffered, Outcome}
+use Rattle.cc_model.specs.Heap.{Heap, Buffered, Outcome}
 use Rattle.cc_model.specs.View.{view}
-use Rattle.cc_model.specs.WellFormed.{IsRising, native_names, script_names, names_there}
+use Rattle.cc_model.specs.WellFormed.{native_names, script_names, names_there}
 use Rattle.cc_model.specs.Counts.{times}
 use Rattle.cc_model.specs.Colours.{HasColourInvariant}
 use Rattle.cc_model.specs.StandsFor.{StandsFor}
-use Rattle.cc_model.specs.Snapshot.{untraversed, Node, Snapshot, IsWhite, white_names, white_natives}
+use Rattle.cc_model.specs.Snapshot.{untraversed, Node, Snapshot, white_natives}
 use Rattle.cc_model.specs.Units.{is_untraversed, first_untraversed}
 use Rattle.cc_model.specs.Fresh.{node}
 use Rattle.cc_model.specs.End.{Progress, went_on, at_end, refused, UnitDone, take_away, may_be_refused, heap_given_back, abandoned, ending, node_or_end, granted, unit}
@@ -28,25 +26,29 @@ use Rattle.cc_model.specs.Lawful.{MayBe, EachMayBe, runs_units, is_gc, has_none,
 use Rattle.cc_model.specs.Run.{census_names}
 use Rattle.cc_laws_heap.specs.Sound.{IsSound}
 use Rattle.cc_laws_heap.specs.Ending.{freed_in, freed_numbers, AreThere, TakesAway}
-use Rattle.cc_lists.proofs.Searching.{filter-map}
-use Rattle.cc_laws_heap.proofs.Kept.{IsBuffer}
-use Rattle.cc_laws_heap.proofs.Rising.{IsRising-filter}
+use Rattle.cc_laws_heap.proofs.Kept.{IsBuffer, with_buffer}
 use Rattle.cc_laws_heap.proofs.Coloured.{AreColoured-from_view, HasColourInvariant-from}
 use Rattle.cc_laws_heap.proofs.NativesKeepScripts.{SameScripts-coloured}
 use Rattle.cc_laws_heap.proofs.TakingAway.{take_away-sound, take_away-takes}
 use Rattle.cc_laws_heap.proofs.EndsStand.{take_away-stands, take_away-unreached}
-use Rattle.cc_laws_heap.proofs.ReachedAlike.{reached-in}
-use Rattle.cc_laws_snapshot.proofs.SoundView.{IsSound-view}
-use Rattle.cc_laws_snapshot.proofs.Unreached.{white-unreached}
 use Rattle.cc_laws_snapshot.proofs.Beginning.{begun-fresh}
 use Rattle.cc_laws_snapshot.proofs.NodeUnit.{after_node-fresh}
 use Rattle.cc_laws_run.specs.Running.{IsFreshNow}
-use Rattle.cc_laws_run.proofs.UncoveredWhite.{white_native-there}
-use Rattle.cc_laws_run.proofs.GivingBack.{with_buffer, given_back, give_back-buffer, given_back-buffer}
+use Rattle.cc_laws_snapshot.proofs.WhiteNatives.{white_natives-there, white_natives-unreached_in}
+use Rattle.cc_laws_snapshot.proofs.GivingBack.{given_back, give_back-buffer, given_back-buffer}
 use Rattle.cc_laws_run.proofs.BufferStands.{IsSound-buffer, HasColourInvariant-buffer, StandsFor-buffer}
 use Rattle.cc_laws_run.proofs.FreedListed.{there-listed, census_names-end}
 use Rattle.cc_laws_run.proofs.EachNamed.{FreeLast, FreeLast-end, each-from}
 use Rattle.cc_laws_run.proofs.RunsOfNumbers.{runs-rising, has_none-natives}
+
+-- Whatever holds of a unit that is refused, and of one that has its memory, holds of each unit.
+pub unit-cases : (h : Heap) (s : Option Snapshot) (memory : Bool) (P : UnitDone → Type 0) → P (abandoned h s) → P (granted h s) → P (unit h s memory)
+unfolding unit
+unit-cases h s memory P without with_memory = go (may_be_refused h s && not memory)
+  where
+    go : (b : Bool) → P (elim b [ true ↦ abandoned h s | false ↦ granted h s ])
+    go true = without
+    go false = with_memory
 
 -- What runs, and what is lawful
 
@@ -76,7 +78,7 @@ pub record UnitIsLawful (g : Graph) (names : List Name) (c : Command) (u : UnitD
   pub only : TellsOnly u.progress u.events
   pub drops : DropsAt u.progress u.snapshot
 
--- The white natives
+-- The units
 
 -- where no untraversed node is found, none is there
 pub traversed-none : (ns : List Node) → first_untraversed ns ≡ None → (x : Name) → ¬ (Among (node x untraversed) ns)
@@ -92,28 +94,6 @@ traversed-none (n ∷ ns) e x m = go (traversed-none ns) (is_untraversed n.state
     go ih false k f = ⊎_elim
         (λ s. true≢false (sym (ap (λ (o : Node). is_untraversed o.state) s) ∙ k))
         (λ t. ih f x t) m
-
--- the white natives are white
-white_natives-white : (h : Heap) (s : Snapshot) (k : ℕ) → Among k (white_natives h s) → IsWhite (view h) s (native k)
-unfolding white_natives
-white_natives-white h s k m =
-    let names : List Name = white_names (view h) s in
-    let f = Among-map_cases (λ (n : HeapNative). n.number) (filter (λ n. has same_name names (native n.number)) h.natives) k m in
-    let passes = Among-passes (λ (n : HeapNative). has same_name names (native n.number)) f.0 h.natives f.1 in
-    subst (λ j. Among (native j) names) f.2 (has-among same_name same_name-exact names (native f.0.number) passes)
-
--- they rise
-white_natives-rising : (h : Heap) (s : Snapshot) → IsRising (map (λ n. n.number) h.natives) → IsRising (white_natives h s)
-unfolding white_natives
-white_natives-rising h s r =
-    let whites : ℕ → Bool = λ k. has same_name (white_names (view h) s) (native k) in
-    subst IsRising (filter-map whites (λ (n : HeapNative). n.number) h.natives) (IsRising-filter whites (map (λ n. n.number) h.natives) r)
-
--- and they are there.
-pub white_natives-there : (h : Heap) (s : Snapshot) → IsSound [] h → AreThere (white_natives h s) h
-white_natives-there h s sound = record { rising = white_natives-rising h s sound.well_formed.rising; there = λ k m. white_native-there h s k m }
-
--- The units
 
 module _ (g : Graph) (well : IsWellMade g) (c : Command) (moves : (runs_units c || is_gc c) ≡ true) (names : List Name) where
   -- THE END over natives that are there and that no register reaches
@@ -211,8 +191,7 @@ module _ (g : Graph) (well : IsWellMade g) (c : Command) (moves : (runs_units c 
     where
       go : (o : Option Name) → first_untraversed s.nodes ≡ o → UnitIsLawful g names c (node_or_end h s o)
       go None e = end-lawful h (white_natives h s) r.sound r.colours r.stands r.listed (white_natives-there h s r.sound)
-          (λ k m d. white-unreached h.natives_made (view h) s (IsSound-view h r.sound) r.fresh (λ x. traversed-none s.nodes e x) k
-          (white_natives-white h s k m) (reached-in h g r.sound.well_formed well r.stands (native k) d))
+          (white_natives-unreached_in h s r.sound r.fresh (traversed-none s.nodes e) g well r.stands)
       go (Some x) e = record {
         still = record { sound = r.sound; colours = r.colours; fresh = after_node-fresh h s x r.sound r.fresh e; stands = r.stands; listed = r.listed };
         each = tt;
@@ -222,13 +201,4 @@ module _ (g : Graph) (well : IsWellMade g) (c : Command) (moves : (runs_units c 
 
   -- A UNIT IS LAWFUL.
   pub unit-lawful : (h : Heap) (s : Option Snapshot) (memory : Bool) → RunsOn g names h s → UnitIsLawful g names c (unit h s memory)
-  unfolding unit
-  unit-lawful h s memory r = go (may_be_refused h s && not memory)
-    where
-      unit_by : Bool → UnitDone
-      unit_by true = abandoned h s
-      unit_by false = granted h s
-
-      go : (b : Bool) → UnitIsLawful g names c (unit_by b)
-      go true = abandoned-lawful h s r
-      go false = granted-lawful h s r
+  unit-lawful h s memory r = unit-cases h s memory (UnitIsLawful g names c) (abandoned-lawful h s r) (granted-lawful h s r)

@@ -1,5 +1,5 @@
 -- UNITS ONE AFTER THE OTHER ARE LAWFUL: a slice, a whole collection, and what is left to finish before `gc`.
-use Rattle.std.proofs.Common.{◌≡◌, ◌≢◌, ℕ, zero, suc, ◌+◌, ◌≤◌, Bool, true, false, ◌||◌, List, [], ◌++◌, Option, Some, None, refl, sym, ◌∙◌, ap, subst, arith}
+use Rattle.std.proofs.Common.{◌≡◌, ◌≢◌, ℕ, ◌+◌, ◌≤◌, Bool, true, false, ◌||◌, List, [], ◌++◌, Option, Some, None, refl, sym, ◌∙◌, ap, subst, arith}
 use Rattle.std.specs.Option.{is_some}
 use Rattle.std.proofs.lemmas.List.{append-nil}
 use Rattle.std.proofs.lemmas.Grind.{flat_map-append}
@@ -17,6 +17,7 @@ use Rattle.cc_model.proofs.UnitsEnd.{to_the_end-stops}
 use Rattle.cc_laws_run.proofs.EachNamed.{after_events-append, each-append}
 use Rattle.cc_laws_run.proofs.RunsOfNumbers.{runs-append, has_none-append, ends_with_one-append}
 use Rattle.cc_laws_run.proofs.UnitLawful.{RunsOn, TellsOnly, DropsAt, UnitIsLawful, unit-lawful}
+use Rattle.cc_laws_run.proofs.HoldingUnits.{units_done-keep}
 
 -- Several units
 
@@ -88,23 +89,12 @@ module _ (g : Graph) (well : IsWellMade g) (c : Command) (moves : (runs_units c 
 
   -- SEVERAL
   units_done-lawful : (n : ℕ) (before : List Event) (d : UnitsDone) → UnitsAreLawful g names c before d → UnitsAreLawful g names c before (units_done n d)
-  unfolding units_done
-  units_done-lawful zero before d l = l
-  units_done-lawful (suc n) before d l = go (units_done-lawful n before) d.progress refl
+  units_done-lawful n before d l = units_done-keep (UnitsAreLawful g names c before) step n d l
     where
-      done_by : Progress → UnitsDone
-      done_by went_on = units_done n (one_unit d.machine d.events)
-      done_by at_end = d
-      done_by refused = d
-
-      go : ((e : UnitsDone) → UnitsAreLawful g names c before e → UnitsAreLawful g names c before (units_done n e)) → (p : Progress) → d.progress ≡ p →
-          UnitsAreLawful g names c before (done_by p)
-      go ih went_on e =
+      step : (d : UnitsDone) → d.progress ≡ went_on → UnitsAreLawful g names c before d → UnitsAreLawful g names c before (one_unit d.machine d.events)
+      step d e l =
           let nothing : l.later ≡ [] = subst (λ p. TellsOnly p l.later) e l.only in
-          ih (one_unit d.machine d.events)
-          (one_unit-lawful d.machine before d.events (l.told ∙ (ap (λ es. before ++ es) nothing ∙ append-nil before)) l.still l.each)
-      go ih at_end e = l
-      go ih refused e = l
+          one_unit-lawful d.machine before d.events (l.told ∙ (ap (λ es. before ++ es) nothing ∙ append-nil before)) l.still l.each
 
   -- A SLICE
   pub slice-lawful : (n : ℕ) (m : Machine) → RunsOn g names m.heap m.snapshot → IsLawfulRow g names c 1 (slice n m)

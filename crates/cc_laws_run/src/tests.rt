@@ -4,10 +4,6 @@ use super::*;
 
 #[test]
 fn laws_can_be_called() {
-    commands_keep_suspected();
-    collections_keep_suspected();
-    loyal_changes_keep_suspected();
-    kinds_of_change_keep_suspected();
     asks_keep_suspected();
     commands_are_lawful();
     collections_are_lawful();

@@ -1,7 +1,5 @@
 use Rattle.cc_laws_run.proofs.MissesLost.{native-lost}
-use Rattle.cc_laws_run.proofs.MissesBegin.{after_gc-keeps, after_gc-misses}
-use Rattle.cc_laws_run.proofs.MissesUnits.{ask-misses}
-use Rattle.cc_laws_run.proofs.MissesWhole.{asks-miss}
+use Rattle.cc_laws_run.proofs.MissesWhole.{ask-misses, after_gc-keeps, after_gc-misses, asks-miss}
 use Rattle.cc_laws_run.proofs.misses.collections_after_gc_miss_nothing.Goals as goal
 
 pub returns-clause-all_natives : goal.returns-clause-all_natives

@@ -1,5 +1,0 @@
-use Rattle.cc_laws_run.proofs.LoyalSuspected.{loyal-suspected}
-use Rattle.cc_laws_run.proofs.suspected.loyal_changes_keep_suspected.Goals as goal
-
-pub returns : goal.returns
-returns c = loyal-suspected
