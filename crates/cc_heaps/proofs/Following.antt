@@ -1,9 +1,10 @@
--- WHAT FOLLOWS FROM THE CHANGES OF CALLS: the colour invariant stays, and every snapshot that was fresh is fresh.
-use Rattle.std.proofs.Common.{◌≡◌, ℕ, ◌<◌, ◌≤◌, Bool, true, false, List, [], ◌++◌, length, get_or, Option, Some, None, option_map, refl, sym, ◌∙◌, ap, subst, inl, ⊎_elim, arith}
+-- WHAT FOLLOWS FROM THE CHANGES OF CALLS: the colour invariant stays, every snapshot that was fresh is fresh, and no
+-- unreached native is forgotten.
+use Rattle.std.proofs.Common.{◌≡◌, ℕ, ◌<◌, ◌≤◌, true, List, [], ◌++◌, length, get_or, Option, Some, None, option_map, refl, sym, ◌∙◌, ap, subst, inl, inr, ⊎_elim, arith}
 use Rattle.std.specs.Prelude.{IsTrue, IfSome, Result, Ok, Err, OnOk, OnErr}
 use Rattle.std.specs.Option.{option_to_list}
-use Rattle.std.proofs.lemmas.Bool.{lt-ltb, le-leb, lt-leb, leb-true, leb-false}
-use Rattle.std.proofs.Math.Dec.{leb}
+use Rattle.std.proofs.lemmas.Bool.{lt-ltb, le-leb, lt-leb}
+use Rattle.std.proofs.Math.Nat.{lt_of_not-le}
 use Rattle.cc_lists.specs.Members.{Among}
 use Rattle.cc_lists.proofs.Members.{Among-map}
 use Rattle.cc_lists.proofs.Counting.{count_by-map}
@@ -11,7 +12,7 @@ use Rattle.cc_lists.proofs.ListWrites.{only-member}
 use Rattle.cc_names.specs.declared.name.Name.{Name}
 use Rattle.cc_names.specs.declared.name.Name.TheVariants as name
 use Rattle.cc_names.specs.declared.kind.Kind.TheVariants.{Plain}
-use Rattle.cc_names.specs.Names.{object, reflector, same_name}
+use Rattle.cc_names.specs.Names.{native, object, reflector, same_name}
 use Rattle.cc_names.specs.declared.kind.Colour.TheVariants.{Black}
 use Rattle.cc_names.specs.declared.number.SKey.{SKey}
 use Rattle.cc_names.proofs.NameTests.{same_name-refl}
@@ -21,12 +22,13 @@ use Rattle.cc_model.specs.Ranges.{in_range}
 use Rattle.cc_model.specs.Heap.{Heap, objects_of, HeapNative, HeapScript, native_at, set_slot, change_script, change_native, with_native_slot, with_script_slot, suspect}
 use Rattle.cc_model.specs.Cascade.{take_up, let_go}
 use Rattle.cc_model.specs.End.{slots_now}
-use Rattle.cc_model.specs.View.{view}
+use Rattle.cc_model.specs.View.{view, ReachedIn}
 use Rattle.cc_model.specs.Colours.{HasColourInvariant}
 use Rattle.cc_model.specs.Effects.{effects, hold_native, hold_script, make_native, make_object}
 use Rattle.cc_model.specs.Exposure.{exposed}
 use Rattle.cc_model.specs.Snapshot.{Snapshot}
 use Rattle.cc_model.specs.Fresh.{IsFresh}
+use Rattle.cc_model.specs.Suspected.{IsSuspected}
 use Rattle.cc_model.specs.WellFormed.{IsWellFormed, native_names, names_there, script_names}
 use Rattle.cc_laws_heap.specs.Sound.{IsSound}
 use Rattle.cc_laws_heap.proofs.Coloured.{IsColoured, AreColoured-from_view, HasColourInvariant-from}
@@ -41,6 +43,7 @@ use Rattle.cc_laws_heap.proofs.Cascades.{cascade-frees}
 use Rattle.cc_laws_heap.proofs.HoldsTheSame.{HoldsTheSame-take_up}
 use Rattle.cc_laws_heap.proofs.Writes.{native_slot-sound}
 use Rattle.cc_laws_heap.proofs.ScriptsKept.{exposed-sound, hold_script-sound, native-no_script, script_slot-sound}
+use Rattle.cc_laws_snapshot.specs.Losing.{IsLoyal}
 use Rattle.cc_laws_snapshot.proofs.CommandsGentle.{effects-fresh}
 use Rattle.cc_laws_snapshot.proofs.GentleBut.{AreGentle, AreGentle-then, IsGentleBut-then}
 use Rattle.cc_laws_snapshot.proofs.CascadesGentle.{let_go-gentle, let_go-caught}
@@ -52,6 +55,11 @@ use Rattle.cc_laws_snapshot.proofs.KindsFresh.{fresh-coloured, fresh-more}
 use Rattle.cc_laws_snapshot.proofs.Marked.{with_mark-keeps}
 use Rattle.cc_laws_snapshot.proofs.NativesHeld.{hold_native-gentle, make_native-gentle}
 use Rattle.cc_laws_snapshot.proofs.ScriptParts.{not_gray-held, exposed-gentle, hold_script-gentle, script_slot-gentle}
+use Rattle.cc_laws_snapshot.proofs.LoyalSuspected.{loyal-suspected}
+use Rattle.cc_laws_snapshot.proofs.BufferMarks.{suspect-purple, suspect-keeps_purple, marked-buffer}
+use Rattle.cc_laws_snapshot.proofs.StillNatives.{Still-hold_script}
+use Rattle.cc_laws_snapshot.proofs.CommandsLoyal.{hold_native-loyal, stored-loyal, still-loyal}
+use Rattle.cc_laws_snapshot.proofs.KindsHeld.{native_made-suspected, object_made-suspected, exposed-suspected, script_slot_written-suspected}
 use Rattle.cc_counted.specs.Counts.{Counts, slots_of}
 use Rattle.cc_counted.specs.declared.held.Held.{Held}
 use Rattle.cc_counted.specs.declared.held.Held.TheVariants as held
@@ -72,9 +80,18 @@ pub record Follows (h g : Heap) : Type 0 where
   pub colours : HasColourInvariant (view h) → HasColourInvariant (view g)
   pub fresh : (s : Snapshot) → IsFresh h.natives_made (view h) s → IsFresh g.natives_made (view g) s
 
+-- no unreached native is forgotten, whatever the candidates are
+abbrev pub Remembers : Heap → Heap → Type 0
+Remembers h g = (candidates : List ℕ) → IsSuspected (view h) candidates → IsSuspected (view g) candidates
+
+-- both
+pub record Keeps (h g : Heap) : Type 0 where
+  pub follows : Follows h g
+  pub suspected : Remembers h g
+
 -- where nothing changes
-pub Follows-same : (h g : Heap) → g ≡ h → Follows h g
-Follows-same h g e = subst (λ k. Follows h k) (sym e) (record { colours = λ c. c; fresh = λ s f. f })
+pub Keeps-same : (h g : Heap) → g ≡ h → Keeps h g
+Keeps-same h g e = subst (λ k. Keeps h k) (sym e) (record { follows = record { colours = λ c. c; fresh = λ s f. f }; suspected = λ candidates s. s })
 
 -- a gentle change that keeps the colours
 Follows-from : (h g : Heap) → IsWellFormed h → IsWellFormed g → AreGentle h g → (IsColoured h → IsColoured g) → Follows h g
@@ -83,41 +100,59 @@ Follows-from h g early late gentle coloured = record {
   fresh = λ s f. fresh-coloured h g early late gentle coloured s f;
 }
 
+-- a loyal change
+Remembers-from : (h g : Heap) → IsWellFormed h → IsWellFormed g → IsLoyal (view h) (view g) → Remembers h g
+Remembers-from h g early late loyal candidates = loyal-suspected h g candidates early late loyal
+
 -- Script objects
 
 -- Something is exposed.
-pub exposed-follows : (h : Heap) (x : Option Name) → IsSound [] h → Follows h (exposed h x)
-exposed-follows h x s = Follows-from h (exposed h x) s.well_formed (exposed-sound [] h x s).well_formed (exposed-gentle h x s.well_formed) (exposed-coloured h x)
+pub exposed-keeps : (h : Heap) (x : Option Name) → IsSound [] h → Keeps h (exposed h x)
+exposed-keeps h x s = record {
+  follows = Follows-from h (exposed h x) s.well_formed (exposed-sound [] h x s).well_formed (exposed-gentle h x s.well_formed) (exposed-coloured h x);
+  suspected = λ candidates. exposed-suspected h candidates x s.well_formed;
+}
 
 -- A script register is written.
-pub hold_script-follows : (h : Heap) (d : ℕ) (x : Option Name) → IsIn (script_names h) x → IsSound [] h → Follows h (hold_script h d x)
-hold_script-follows h d x there s = Follows-from h (hold_script h d x) s.well_formed (hold_script-sound [] h d x there s).well_formed
-    (hold_script-gentle h d x s.well_formed)
-    (λ c. AreColoured-register (exposed h x).scripts (exposed h x).script_registers d x (exposed-black h x) (exposed-coloured h x c))
+pub hold_script-keeps : (h : Heap) (d : ℕ) (x : Option Name) → IsIn (script_names h) x → IsSound [] h → Keeps h (hold_script h d x)
+hold_script-keeps h d x there s = record {
+  follows = Follows-from h (hold_script h d x) s.well_formed after.well_formed (hold_script-gentle h d x s.well_formed)
+      (λ c. AreColoured-register (exposed h x).scripts (exposed h x).script_registers d x (exposed-black h x) (exposed-coloured h x c));
+  suspected = Remembers-from h (hold_script h d x) s.well_formed after.well_formed (still-loyal h (hold_script h d x) s after (Still-hold_script h d x));
+}
+  where
+    after : IsSound [] (hold_script h d x)
+    after = hold_script-sound [] h d x there s
 
 -- a slot of what has a name
 script_slot : (h : Heap) (x : Name) (i : ℕ) (y : Option Name) → IsWellFormed (change_script h x (with_script_slot i y)) → IsIn (script_names h) y →
-    IsHeldBlack h.scripts y → IsSound [] h → Follows h (change_script h x (with_script_slot i y))
-script_slot h x i y late there black s = Follows-from h (change_script h x (with_script_slot i y)) s.well_formed late
-    (script_slot-gentle h x i y s.well_formed there (not_gray-held h y black))
-    (AreColoured-slot h.scripts h.script_registers x i y black)
+    IsHeldBlack h.scripts y → IsSound [] h → Keeps h (change_script h x (with_script_slot i y))
+script_slot h x i y late there black s = record {
+  follows = Follows-from h (change_script h x (with_script_slot i y)) s.well_formed late
+      (script_slot-gentle h x i y s.well_formed there (not_gray-held h y black))
+      (AreColoured-slot h.scripts h.script_registers x i y black);
+  suspected = λ candidates. script_slot_written-suspected h candidates x i y s.well_formed;
+}
 
 -- A slot of a script object is written.
-pub script_slot-follows : (h : Heap) (x : Name) (i : ℕ) (y : Option Name) → Among x (script_names h) → IsIn (script_names h) y → IsHeldBlack h.scripts y →
-    IsSound [] h → Follows h (set_slot h (Some x) i y)
-script_slot-follows h (name.Native k) i y at there black s = absurd (native-no_script h k.0 s.well_formed at)
-script_slot-follows h (name.Script k) i y at there black s = script_slot h (object k.0) i y
+pub script_slot-keeps : (h : Heap) (x : Name) (i : ℕ) (y : Option Name) → Among x (script_names h) → IsIn (script_names h) y → IsHeldBlack h.scripts y →
+    IsSound [] h → Keeps h (set_slot h (Some x) i y)
+script_slot-keeps h (name.Native k) i y at there black s = absurd (native-no_script h k.0 s.well_formed at)
+script_slot-keeps h (name.Script k) i y at there black s = script_slot h (object k.0) i y
     (script_slot-sound [] h (Some (object k.0)) i y (λ z m. ⊎_elim (λ e. subst (λ w. Among w (script_names h)) e at) (λ t. absurd t) m) there s).well_formed there black s
-script_slot-follows h (name.Reflector k) i y at there black s = script_slot h (reflector k.0) i y
+script_slot-keeps h (name.Reflector k) i y at there black s = script_slot h (reflector k.0) i y
     (script_slot-sound [] h (Some (reflector k.0)) i y (λ z m. ⊎_elim (λ e. subst (λ w. Among w (script_names h)) e at) (λ t. absurd t) m) there s).well_formed there black s
 
 -- A script object is made.
-pub make_object-follows : (h : Heap) (d n : ℕ) → d < 256 → n ≤ 64 → h.scripts_made < h.limits.scripts → IsSound [] h → Follows h (make_object h d Plain n)
+pub make_object-keeps : (h : Heap) (d n : ℕ) → d < 256 → n ≤ 64 → h.scripts_made < h.limits.scripts → IsSound [] h → Keeps h (make_object h d Plain n)
 unfolding effects
-make_object-follows h d n room few allowed s = record {
-  colours = λ c. HasColourInvariant-from (make_object h d Plain n) (effects-sound h (Script d n) s ranges taken).well_formed
-      (effects-coloured h (Script d n) s (AreColoured-from_view h s.well_formed c) ranges taken);
-  fresh = λ t f. effects-fresh h t (Script d n) s f ranges taken;
+make_object-keeps h d n room few allowed s = record {
+  follows = record {
+    colours = λ c. HasColourInvariant-from (make_object h d Plain n) (effects-sound h (Script d n) s ranges taken).well_formed
+        (effects-coloured h (Script d n) s (AreColoured-from_view h s.well_formed c) ranges taken);
+    fresh = λ t f. effects-fresh h t (Script d n) s f ranges taken;
+  };
+  suspected = λ candidates. object_made-suspected h candidates d Plain n s.well_formed;
 }
   where
     ranges : IsTrue (in_range (Script d n))
@@ -129,22 +164,46 @@ make_object-follows h d n room few allowed s = record {
 -- Natives
 
 -- A native is made.
-pub make_native-follows : (h : Heap) (d n : ℕ) → d < 256 → n ≤ 64 → h.natives_made < h.limits.natives → IsSound [] h → Follows h (make_native h d n).heap
-make_native-follows h d n room few allowed s = Follows-from h (make_native h d n).heap s.well_formed (make_native-sound [] h d n room few allowed s).well_formed
-    (make_native-gentle [] h d n room few allowed s)
-    (SameScripts-coloured h (make_native h d n).heap (make_native-scripts [] h d n room few allowed s))
+pub make_native-keeps : (h : Heap) (d n : ℕ) → d < 256 → n ≤ 64 → h.natives_made < h.limits.natives → IsSound [] h → Keeps h (make_native h d n).heap
+make_native-keeps h d n room few allowed s = record {
+  follows = Follows-from h (make_native h d n).heap s.well_formed (make_native-sound [] h d n room few allowed s).well_formed
+      (make_native-gentle [] h d n room few allowed s)
+      (SameScripts-coloured h (make_native h d n).heap (make_native-scripts [] h d n room few allowed s));
+  suspected = λ candidates. native_made-suspected [] h candidates d n s room few allowed;
+}
 
 -- A native register is written.
-pub hold_native-follows : (h : Heap) (d : ℕ) (x : Option Name) → d < 256 → IsIn (native_names h) x → IsSound [] h → Follows h (hold_native h d x).heap
-hold_native-follows h d x room there s = Follows-from h (hold_native h d x).heap s.well_formed (hold_native-sound [] h d x room there s).well_formed
-    (hold_native-gentle [] h d x room there s)
-    (SameScripts-coloured h (hold_native h d x).heap (hold_native-scripts [] h d x room there s))
+pub hold_native-keeps : (h : Heap) (d : ℕ) (x : Option Name) → d < 256 → IsIn (native_names h) x → IsSound [] h → Keeps h (hold_native h d x).heap
+hold_native-keeps h d x room there s = record {
+  follows = Follows-from h (hold_native h d x).heap s.well_formed after (hold_native-gentle [] h d x room there s)
+      (SameScripts-coloured h (hold_native h d x).heap (hold_native-scripts [] h d x room there s));
+  suspected = Remembers-from h (hold_native h d x).heap s.well_formed after (hold_native-loyal h d x room there s);
+}
+  where
+    after : IsWellFormed (hold_native h d x).heap
+    after = (hold_native-sound [] h d x room there s).well_formed
+
+-- a native that is suspected: who enters the buffer is purple
+suspect-loyal : (h : Heap) (k : ℕ) → IsLoyal (view h) (view (suspect h k))
+suspect-loyal h k = record {
+  edge = λ x i m. inl m;
+  register = λ i m. inl m;
+  purple = λ i p. inl (inl (suspect-keeps_purple h k i p));
+  buffer = λ x m. ⊎_elim
+      (λ e. inr (inl (subst (λ z. Among z (view (suspect h k)).purple) e (suspect-purple h k))))
+      (λ o. inl o)
+      (marked-buffer h true k x m);
+  living = λ x l. inl l;
+}
 
 -- A native is suspected.
-pub suspect-follows : (h : Heap) (k : ℕ) → Follows h (suspect h k)
-suspect-follows h k = record {
-  colours = λ c. record { black_to_black = c.black_to_black; held_black = c.held_black; none_white = c.none_white };
-  fresh = fresh-more h.natives_made (view h) (view (suspect h k)).buffer (view (suspect h k)).purple (with_mark-keeps true k h.buffer);
+pub suspect-keeps : (h : Heap) (k : ℕ) → IsWellFormed h → IsWellFormed (suspect h k) → Keeps h (suspect h k)
+suspect-keeps h k early late = record {
+  follows = record {
+    colours = λ c. record { black_to_black = c.black_to_black; held_black = c.held_black; none_white = c.none_white };
+    fresh = fresh-more h.natives_made (view h) (view (suspect h k)).buffer (view (suspect h k)).purple (with_mark-keeps true k h.buffer);
+  };
+  suspected = Remembers-from h (suspect h k) early late (suspect-loyal h k);
 }
 
 -- what is given up leaves script objects and script registers
@@ -211,6 +270,17 @@ stored_in-follows h k i x within there black s = go (native_at t k) refl (subst 
         (AreGentle-then h t last (take_up-gentle h x) (put-gentle t k i x n e l in_place (take_up-taken h x) black_still sound))
         (λ c. SameScripts-coloured t last (put-scripts t k i x n e l in_place (take_up-taken h x) black_still sound) (SameScripts-coloured h t same c))
 
+-- It forgets none, where the native is reached.
+pub stored_in-remembers : (h : Heap) (k i : ℕ) (x : Option Name) → i < length (slots_now (native_at h k)) → IsIn (names_there h) x → ReachedIn (view h) (native k) →
+    IsSound [] h → IsSound [] (stored_in h k i x).heap → Remembers h (stored_in h k i x).heap
+stored_in-remembers h k i x within there reached s after = Remembers-from h (stored_in h k i x).heap s.well_formed after.well_formed
+    (go (native_at (take_up h x) k) refl (subst (λ (ss : Slots). i < length ss) (sym (slots-taken h x k)) within))
+  where
+    go : (o : Option HeapNative) → native_at (take_up h x) k ≡ o → i < length (slots_now o) →
+        IsLoyal (view h) (view (let_go (change_native (take_up h x) k (with_native_slot i x)) (get_or (slots_now o) i None)).heap)
+    go None e l = absurd (omega arith)
+    go (Some n) e l = stored-loyal h k i n x there e l reached s
+
 -- The heaps with their keys
 
 module _ (owned : List ℕ) (v : Keyed) (o : IsInOrder owned v) where
@@ -260,12 +330,12 @@ module _ (owned : List ℕ) (v : Keyed) (o : IsInOrder owned v) where
       absurd (native-is_no_script s.name (native-name_of v.heap s.name (native-in owned v (Some key) o s.name i)) (script-named v.heap s o.sound.well_formed m))
 
 -- A slot of the script object at a key is written.
-pub object_slot-follows : (v : Keyed) (o : IsInOrder [] v) (key i : ℕ) (x : Option SKey) → IsTrue (is_there v.scripts key) →
-    IfSome x (λ k. colour_at v.scripts k.0 ≡ Some Black) → Follows v.heap (set_slot v.heap (name_at v.scripts key) i (script_name v x))
-object_slot-follows v o key i x live black =
+pub object_slot-keeps : (v : Keyed) (o : IsInOrder [] v) (key i : ℕ) (x : Option SKey) → IsTrue (is_there v.scripts key) →
+    IfSome x (λ k. colour_at v.scripts k.0 ≡ Some Black) → Keeps v.heap (set_slot v.heap (name_at v.scripts key) i (script_name v x))
+object_slot-keeps v o key i x live black =
     let n = there-named v.scripts key live in
-    subst (λ y. Follows v.heap (set_slot v.heap y i (script_name v x))) (sym n.1)
-    (script_slot-follows v.heap n.0 i (script_name v x) (subst (IsIn (script_names v.heap)) n.1 (name_at-there [] v o key) n.0 (inl refl))
+    subst (λ y. Keeps v.heap (set_slot v.heap y i (script_name v x))) (sym n.1)
+    (script_slot-keeps v.heap n.0 i (script_name v x) (subst (IsIn (script_names v.heap)) n.1 (name_at-there [] v o key) n.0 (inl refl))
     (script_name-there [] v o x) (script_name-black [] v o x black) o.sound)
 
 -- A slot of a native is written with what is held.
@@ -274,26 +344,31 @@ pub held-follows : (v w : Keyed) (o : IsInOrder [] v) (k i : ℕ) (x : Option He
 held-follows v w o k i x within black e = subst (Follows v.heap) (sym (ap (λ (u : Keyed). u.heap) e))
     (stored_in-follows v.heap k i (held_name v x) within (held-in [] v x o) (held_name-black [] v o x black) o.sound)
 
+-- It forgets none, where the native is reached.
+pub held-remembers : (v w : Keyed) (o : IsInOrder [] v) (k i : ℕ) (x : Option Held) → i < length (slots_now (native_at v.heap k)) → ReachedIn (view v.heap) (native k) →
+    IsSound [] w.heap → w ≡ left_with v (stored_in v.heap k i (held_name v x)).heap → Remembers v.heap w.heap
+held-remembers v w o k i x within reached after e =
+    let same : w.heap ≡ (stored_in v.heap k i (held_name v x)).heap = ap (λ (u : Keyed). u.heap) e in
+    subst (Remembers v.heap) (sym same)
+    (stored_in-remembers v.heap k i (held_name v x) within (held-in [] v x o) reached o.sound (subst (IsSound []) same after))
+
+-- what was made was below the limit, where the call did not say that it is reached
+pub made-allowed : {X E : Type 0} (full : E) (made limit : ℕ) (x : X) → (limit ≤ made → Ok x ≡ Err full) → made < limit
+made-allowed full made limit x f = lt_of_not-le (λ l. let bad = f l in cc)
+
 -- A native or a plain script object is made, or nothing changes.
 module _ {X E : Type 0} (v w : Keyed) (d n : ℕ) (full : E) (room : d < 256) (few : n ≤ 64) (o : IsInOrder [] v) where
-  below : (made limit : ℕ) (x : X) → (limit ≤ made → Ok x ≡ Err full) → made < limit
-  below made limit x f = go (leb limit made) refl
-    where
-      go : (b : Bool) → leb limit made ≡ b → made < limit
-      go true e = let bad = f (leb-true limit made e) in absurd (cc)
-      go false e = leb-false limit made e
+  pub native_made-keeps : (r : Result X E) → (v.heap.limits.natives ≤ v.heap.natives_made → r ≡ Err full) →
+      OnOk r (w.heap ≡ (make_native v.heap d n).heap) → OnErr r (w ≡ v) → Keeps v.heap w.heap
+  native_made-keeps (Ok x) f heap same = subst (Keeps v.heap) (sym heap)
+      (make_native-keeps v.heap d n room few (made-allowed full v.heap.natives_made v.heap.limits.natives x f) o.sound)
+  native_made-keeps (Err e) f heap same = Keeps-same v.heap w.heap (ap (λ (u : Keyed). u.heap) same)
 
-  pub native_made-follows : (r : Result X E) → (v.heap.limits.natives ≤ v.heap.natives_made → r ≡ Err full) →
-      OnOk r (w.heap ≡ (make_native v.heap d n).heap) → OnErr r (w ≡ v) → Follows v.heap w.heap
-  native_made-follows (Ok x) f heap same = subst (Follows v.heap) (sym heap)
-      (make_native-follows v.heap d n room few (below v.heap.natives_made v.heap.limits.natives x f) o.sound)
-  native_made-follows (Err e) f heap same = Follows-same v.heap w.heap (ap (λ (u : Keyed). u.heap) same)
-
-  pub object_made-follows : (r : Result X E) → (v.heap.limits.scripts ≤ v.heap.scripts_made → r ≡ Err full) →
-      OnOk r (w.heap ≡ make_object v.heap d Plain n) → OnErr r (w ≡ v) → Follows v.heap w.heap
-  object_made-follows (Ok x) f heap same = subst (Follows v.heap) (sym heap)
-      (make_object-follows v.heap d n room few (below v.heap.scripts_made v.heap.limits.scripts x f) o.sound)
-  object_made-follows (Err e) f heap same = Follows-same v.heap w.heap (ap (λ (u : Keyed). u.heap) same)
+  pub object_made-keeps : (r : Result X E) → (v.heap.limits.scripts ≤ v.heap.scripts_made → r ≡ Err full) →
+      OnOk r (w.heap ≡ make_object v.heap d Plain n) → OnErr r (w ≡ v) → Keeps v.heap w.heap
+  object_made-keeps (Ok x) f heap same = subst (Keeps v.heap) (sym heap)
+      (make_object-keeps v.heap d n room few (made-allowed full v.heap.scripts_made v.heap.limits.scripts x f) o.sound)
+  object_made-keeps (Err e) f heap same = Keeps-same v.heap w.heap (ap (λ (u : Keyed). u.heap) same)
 
 -- there is room in a slot, by the counted natives and by the definitions
 pub within-named : (p : Parts) → IsLinked p → (key i : ℕ) → i < length (slots_of (counts_of (keyed_of p)) key) →

@@ -29,3 +29,6 @@ pub mod WhitesSwept
 pub mod PlainSweeps
 pub mod SweptObjects
 pub mod Following
+pub mod StandingStill
+pub mod StandingAfter
+pub mod KeysKept

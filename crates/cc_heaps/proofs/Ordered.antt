@@ -17,7 +17,7 @@ use Rattle.cc_model.specs.WellFormed.{IsWellFormed, native_names, names_there}
 use Rattle.cc_laws_heap.specs.Sound.{IsSound}
 use Rattle.cc_laws_heap.specs.Freeing.{SameBeside, Uncounted}
 use Rattle.cc_laws_heap.proofs.Making.{with_mark-cases, places-with_mark}
-use Rattle.cc_laws_heap.proofs.Kept.{IsBuffer}
+use Rattle.cc_laws_heap.proofs.Kept.{IsBuffer, with_buffer, IsWellFormed-buffer}
 use Rattle.cc_laws_heap.proofs.Owning.{numbers_of, IsIn, add_ref-sound}
 use Rattle.cc_laws_heap.proofs.Writes.{native_register-sound, native_slot-sound}
 use Rattle.cc_laws_heap.proofs.MadeSound.{with_native-sound}
@@ -109,33 +109,6 @@ IsInOrder-unlink owned v k o =
     let f = unlink-keeps (k ∷ owned) v.heap k o.sound (inl refl) in
     IsInOrder-leave (k ∷ owned) (k ∷ owned) f.0 v (unlink v.heap k).heap o f.2.leaves
     (each-unlink Unpreserved (λ u i e. e) (λ u e. refl) v.heap k o.unpreserved) f.1
-
--- the heaps with another buffer
-abbrev pub with_buffer : Heap → List Buffered → Heap
-with_buffer h bs = record h { buffer = bs }
-
-IsWellFormed-buffer : (h : Heap) (bs : List Buffered) → IsWellFormed h → IsBuffer h bs → IsWellFormed (with_buffer h bs)
-IsWellFormed-buffer h bs w b = record {
-  native_registers = w.native_registers;
-  script_registers = w.script_registers;
-  registers = w.registers;
-  rising = w.rising;
-  native_numbers = w.native_numbers;
-  native_slots = w.native_slots;
-  native_contents = w.native_contents;
-  distinct = w.distinct;
-  object_numbers = w.object_numbers;
-  kinds = w.kinds;
-  script_contents = w.script_contents;
-  reflected = w.reflected;
-  preserved = w.preserved;
-  entries = λ e m. let k = w.entries e m in record { the_map = k.the_map; key = k.key; value = k.value };
-  one_entry = w.one_entry;
-  buffered = b.there;
-  buffered_once = b.once;
-  natives_allowed = w.natives_allowed;
-  scripts_allowed = w.scripts_allowed;
-}
 
 -- counts do not read the buffer
 IsInOrder-buffer : (owned : List ℕ) (v : Keyed) (bs : List Buffered) → IsBuffer v.heap bs → IsInOrder owned v → IsInOrder owned (changed_to v (with_buffer v.heap bs))

@@ -6,3 +6,4 @@ pub mod Parts
 pub mod GrayHeld
 pub mod Roots
 pub mod Sweeping
+pub mod Standing

@@ -3,6 +3,7 @@ ghost use Rattle.cc_names.specs.declared.kind.Colour.TheVariants.{Black};
 ghost use Rattle.cc_names.specs.declared.kind.Kind.TheVariants.{Plain};
 ghost use Rattle.cc_names.specs.declared.register.Reg.TheVariants.{N as n_register, S as s_register};
 ghost use Rattle.cc_names.specs.Names.{native, object};
+ghost use Rattle.cc_model.specs.declared.command.Command.TheVariants as command;
 ghost use Rattle.cc_model.specs.declared.item.Item.TheVariants.{Event as of_event, Listed};
 ghost use Rattle.cc_model.specs.Telling.{Tells};
 ghost use Rattle.cc_model.specs.Texts.{texts_of};
@@ -12,9 +13,12 @@ ghost use Rattle.cc_model.specs.Colours.{HasColours, HasColourInvariant, marked}
 ghost use Rattle.cc_model.specs.Effects.{hold_native, hold_script, make_native, make_object};
 ghost use Rattle.cc_model.specs.End.{unlink};
 ghost use Rattle.cc_model.specs.Exposure.{exposed};
-ghost use Rattle.cc_model.specs.View.{view};
+ghost use Rattle.cc_model.specs.Graph as graph;
+ghost use Rattle.cc_model.specs.View.{view, ReachedIn};
 ghost use Rattle.cc_model.specs.Snapshot.{Snapshot};
 ghost use Rattle.cc_model.specs.Fresh.{IsFresh};
+ghost use Rattle.cc_model.specs.StandsFor.{StandsFor};
+ghost use Rattle.cc_model.specs.Suspected.{IsSuspected};
 ghost use Rattle.cc_model.specs.Run.{census_names};
 ghost use Rattle.cc_model.specs.Sweep.{sweep, sweeps};
 ghost use Rattle.cc_counted.specs.Counts.{slots_of};
@@ -22,6 +26,7 @@ ghost use Rattle.cc_script.specs.Objects.{colour_at, is_there, name_at, slots_at
 ghost use Rattle.cc_heaps.specs.Keyed.{IsInOrder, counts_of, number_at, the_number, changed_to, left_with};
 ghost use Rattle.cc_heaps.specs.Changes.{IsBlackHeld, IsNativeThere, IsScriptThere, IsThere, KeepsKeys, held_name, native_name, script_name, stored_in};
 ghost use Rattle.cc_heaps.specs.Holders.{holder_after};
+ghost use Rattle.cc_heaps.specs.Standing.{IsReached, StandsAfter, StillStands};
 
 use crate::make_stop::MakeStop;
 use crate::parts::Parts;
@@ -54,6 +59,9 @@ impl Heaps {
     pub fn new(alloc: Global, limits: Limits) -> Result<Heaps, NoMemory>
         ensures empty { IfOk result (λ h. h.heap ≡ empty_heap limits) }
         ensures order { IfOk result (λ h. IsInOrder [] h) }
+        ensures stands { IfOk result (λ h. StandsFor h.heap (graph.empty_graph limits)) }
+        ensures colours { IfOk result (λ h. HasColourInvariant (view h.heap)) }
+        ensures suspected { IfOk result (λ h. IsSuspected (view h.heap) []) }
     {
         Ok(Heaps {
             parts: Parts::new(alloc, limits)?,
@@ -112,8 +120,10 @@ impl Heaps {
         ensures same { OnErr result (self.new ≡ self.old) }
         ensures silent { OnErr result (N.telling out.new ≡ N.telling out.old) }
         ensures order { IsInOrder [] self.new }
+        ensures stands { OnOk result (StandsAfter self.old.heap self.new.heap (λ g. graph.step g (command.Native r slots))) }
         ensures colours { HasColourInvariant (view self.old.heap) → HasColourInvariant (view self.new.heap) }
         ensures fresh { (s : Snapshot) → IsFresh self.old.heap.natives_made (view self.old.heap) s → IsFresh self.new.heap.natives_made (view self.new.heap) s }
+        ensures suspected { (candidates : List ℕ) → IsSuspected (view self.old.heap) candidates → IsSuspected (view self.new.heap) candidates }
     {
         self.parts.new_native(r, slots, out)
     }
@@ -133,8 +143,10 @@ impl Heaps {
         ensures keys { KeepsKeys self.old self.new }
         ensures same { OnErr result (self.new ≡ self.old) }
         ensures order { IsInOrder [] self.new }
+        ensures stands { OnOk result (StandsAfter self.old.heap self.new.heap (λ g. graph.step g (command.Script r slots))) }
         ensures colours { HasColourInvariant (view self.old.heap) → HasColourInvariant (view self.new.heap) }
         ensures fresh { (s : Snapshot) → IsFresh self.old.heap.natives_made (view self.old.heap) s → IsFresh self.new.heap.natives_made (view self.new.heap) s }
+        ensures suspected { (candidates : List ℕ) → IsSuspected (view self.old.heap) candidates → IsSuspected (view self.new.heap) candidates }
     {
         self.parts.new_plain(r, slots)
     }
@@ -149,9 +161,13 @@ impl Heaps {
         ensures heap { self.new ≡ left_with self.old (hold_native self.old.heap r (native_name self.old content)).heap }
         ensures told { Tells (N.telling out.old) (N.telling out.new)
             (texts_of (map of_event (hold_native self.old.heap r (native_name self.old content)).events)) }
+        ensures keys { KeepsKeys self.old self.new }
         ensures order { IsInOrder [] self.new }
+        ensures stands { IsReached self.old.heap (native_name self.old content) →
+            StandsAfter self.old.heap self.new.heap (λ g. graph.set_register g (n_register r) (native_name self.old content)) }
         ensures colours { HasColourInvariant (view self.old.heap) → HasColourInvariant (view self.new.heap) }
         ensures fresh { (s : Snapshot) → IsFresh self.old.heap.natives_made (view self.old.heap) s → IsFresh self.new.heap.natives_made (view self.new.heap) s }
+        ensures suspected { (candidates : List ℕ) → IsSuspected (view self.old.heap) candidates → IsSuspected (view self.new.heap) candidates }
     {
         self.parts.set_native_reg(r, content, out);
     }
@@ -165,8 +181,11 @@ impl Heaps {
         ensures natives { self.new.keys ≡ self.old.keys }
         ensures keys { KeepsKeys self.old self.new }
         ensures order { IsInOrder [] self.new }
+        ensures stands { IsReached self.old.heap (script_name self.old content) →
+            StandsAfter self.old.heap self.new.heap (λ g. graph.set_register g (s_register r) (script_name self.old content)) }
         ensures colours { HasColourInvariant (view self.old.heap) → HasColourInvariant (view self.new.heap) }
         ensures fresh { (s : Snapshot) → IsFresh self.old.heap.natives_made (view self.old.heap) s → IsFresh self.new.heap.natives_made (view self.new.heap) s }
+        ensures suspected { (candidates : List ℕ) → IsSuspected (view self.old.heap) candidates → IsSuspected (view self.new.heap) candidates }
     {
         self.parts.set_script_reg(r, content);
     }
@@ -175,7 +194,8 @@ impl Heaps {
     ///
     /// The new reference is taken first, then the slot is written, then what it held is given up with all that it
     /// deletes. Takes no memory. A gray script object that came in would have a holder of which a snapshot knows nothing:
-    /// snapshots stay fresh where a script object that comes in is black.
+    /// snapshots stay fresh where a script object that comes in is black. A native that is not reached could lose its mark
+    /// by coming into the slot of another such one: none is forgotten where the native whose slot is written is reached.
     pub fn store_native<N: Notices>(&mut self, key: NKey, i: u8, content: Option<Held>, out: &mut N)
         requires order { IsInOrder [] self.old }
         requires live { IsSome (number_at self.old key.0) }
@@ -184,9 +204,14 @@ impl Heaps {
         ensures heap { self.new ≡ left_with self.old (stored_in self.old.heap (the_number self.old key.0) i (held_name self.old content)).heap }
         ensures told { Tells (N.telling out.old) (N.telling out.new)
             (texts_of (map of_event (stored_in self.old.heap (the_number self.old key.0) i (held_name self.old content)).events)) }
+        ensures keys { KeepsKeys self.old self.new }
         ensures order { IsInOrder [] self.new }
+        ensures stands { IsReached self.old.heap (Some (native (the_number self.old key.0))) → IsReached self.old.heap (held_name self.old content) →
+            StandsAfter self.old.heap self.new.heap (λ g. graph.set_slot g (Some (native (the_number self.old key.0))) i (held_name self.old content)) }
         ensures colours { IsBlackHeld self.old content → HasColourInvariant (view self.old.heap) → HasColourInvariant (view self.new.heap) }
         ensures fresh { IsBlackHeld self.old content → (s : Snapshot) → IsFresh self.old.heap.natives_made (view self.old.heap) s → IsFresh self.new.heap.natives_made (view self.new.heap) s }
+        ensures suspected { IsReached self.old.heap (Some (native (the_number self.old key.0))) →
+            (candidates : List ℕ) → IsSuspected (view self.old.heap) candidates → IsSuspected (view self.new.heap) candidates }
     {
         self.parts.store_native(key, i, content, out);
     }
@@ -202,8 +227,11 @@ impl Heaps {
         ensures natives { self.new.keys ≡ self.old.keys }
         ensures keys { KeepsKeys self.old self.new }
         ensures order { IsInOrder [] self.new }
+        ensures stands { IsReached self.old.heap (name_at self.old.scripts key.0) → IsReached self.old.heap (script_name self.old content) →
+            StandsAfter self.old.heap self.new.heap (λ g. graph.set_slot g (name_at self.old.scripts key.0) i (script_name self.old content)) }
         ensures colours { HasColourInvariant (view self.old.heap) → HasColourInvariant (view self.new.heap) }
         ensures fresh { (s : Snapshot) → IsFresh self.old.heap.natives_made (view self.old.heap) s → IsFresh self.new.heap.natives_made (view self.new.heap) s }
+        ensures suspected { (candidates : List ℕ) → IsSuspected (view self.old.heap) candidates → IsSuspected (view self.new.heap) candidates }
     {
         self.parts.store_script(key, i, content);
     }
@@ -217,8 +245,10 @@ impl Heaps {
         ensures natives { self.new.keys ≡ self.old.keys }
         ensures keys { KeepsKeys self.old self.new }
         ensures order { IsInOrder [] self.new }
+        ensures stands { StillStands self.old.heap self.new.heap }
         ensures colours { HasColourInvariant (view self.old.heap) → HasColourInvariant (view self.new.heap) }
         ensures fresh { (s : Snapshot) → IsFresh self.old.heap.natives_made (view self.old.heap) s → IsFresh self.new.heap.natives_made (view self.new.heap) s }
+        ensures suspected { (candidates : List ℕ) → IsSuspected (view self.old.heap) candidates → IsSuspected (view self.new.heap) candidates }
     {
         self.parts.expose(key);
     }
@@ -242,6 +272,8 @@ impl Heaps {
         ensures natives { self.new.keys ≡ self.old.keys }
         ensures keys { KeepsKeys self.old self.new }
         ensures order { IsInOrder [] self.new }
+        ensures stands { StillStands self.old.heap self.new.heap }
+        ensures colours { HasColours self.new.heap }
     {
         self.parts.mark_scripts();
     }
@@ -258,6 +290,8 @@ impl Heaps {
         ensures natives { self.new.keys ≡ self.old.keys }
         ensures keys { KeepsKeys self.old self.new }
         ensures order { IsInOrder [] self.new }
+        ensures stands { StillStands self.old.heap self.new.heap }
+        ensures invariant { HasColourInvariant (view self.new.heap) }
     {
         self.parts.sweep(out)
     }
@@ -276,7 +310,10 @@ impl Heaps {
         requires live { IsSome (number_at self.old key.0) }
         requires owned { (owned : List ℕ) × IsInOrder owned self.old × (length owned < 1000000000) }
         ensures heap { self.new ≡ changed_to self.old (add_ref self.old.heap (the_number self.old key.0)) }
+        ensures keys { KeepsKeys self.old self.new }
         ensures order { (owned : List ℕ) → IsInOrder owned self.old → IsInOrder (the_number self.old key.0 ∷ owned) self.new }
+        ensures stands { StillStands self.old.heap self.new.heap }
+        ensures colours { HasColourInvariant (view self.old.heap) → HasColourInvariant (view self.new.heap) }
     {
         self.parts.root(key);
     }
@@ -287,7 +324,10 @@ impl Heaps {
         requires owned { (owned : List ℕ) × IsInOrder (the_number self.old key.0 ∷ owned) self.old }
         ensures heap { self.new ≡ left_with self.old (cascade self.old.heap (the_number self.old key.0)).heap }
         ensures told { Tells (N.telling out.old) (N.telling out.new) (texts_of (map of_event (cascade self.old.heap (the_number self.old key.0)).events)) }
+        ensures keys { KeepsKeys self.old self.new }
         ensures order { (owned : List ℕ) → IsInOrder (the_number self.old key.0 ∷ owned) self.old → IsInOrder owned self.new }
+        ensures stands { StillStands self.old.heap self.new.heap }
+        ensures colours { HasColourInvariant (view self.old.heap) → HasColourInvariant (view self.new.heap) }
     {
         self.parts.release(key, out);
     }
@@ -298,7 +338,10 @@ impl Heaps {
         requires owned { (owned : List ℕ) × IsInOrder (the_number self.old key.0 ∷ owned) self.old }
         ensures heap { self.new ≡ left_with self.old (unlink self.old.heap (the_number self.old key.0)).heap }
         ensures told { Tells (N.telling out.old) (N.telling out.new) (texts_of (map of_event (unlink self.old.heap (the_number self.old key.0)).events)) }
+        ensures keys { KeepsKeys self.old self.new }
         ensures order { (owned : List ℕ) → IsInOrder (the_number self.old key.0 ∷ owned) self.old → IsInOrder (the_number self.old key.0 ∷ owned) self.new }
+        ensures stands { ¬ (ReachedIn (view self.old.heap) (native (the_number self.old key.0))) → StillStands self.old.heap self.new.heap }
+        ensures colours { HasColourInvariant (view self.old.heap) → HasColourInvariant (view self.new.heap) }
     {
         self.parts.unlink(key, out);
     }
@@ -309,7 +352,10 @@ impl Heaps {
             (λ front. (self.old.heap.buffer ≡ record { number = the_number self.old front.0.0; purple = front.1 } ∷ self.new.heap.buffer)
             × (self.new ≡ changed_to self.old (record self.old.heap { buffer = self.new.heap.buffer }))
             × IsSome (number_at self.old front.0.0)) }
+        ensures keys { KeepsKeys self.old self.new }
         ensures order { (owned : List ℕ) → IsInOrder owned self.old → IsInOrder owned self.new }
+        ensures stands { StillStands self.old.heap self.new.heap }
+        ensures colours { HasColourInvariant (view self.old.heap) → HasColourInvariant (view self.new.heap) }
     {
         self.parts.select_next()
     }
@@ -319,9 +365,12 @@ impl Heaps {
         requires live { IsSome (number_at self.old key.0) }
         requires owned { (owned : List ℕ) × IsInOrder owned self.old }
         ensures heap { self.new ≡ changed_to self.old (suspect self.old.heap (the_number self.old key.0)) }
+        ensures keys { KeepsKeys self.old self.new }
         ensures order { (owned : List ℕ) → IsInOrder owned self.old → IsInOrder owned self.new }
+        ensures stands { StillStands self.old.heap self.new.heap }
         ensures colours { HasColourInvariant (view self.old.heap) → HasColourInvariant (view self.new.heap) }
         ensures fresh { (s : Snapshot) → IsFresh self.old.heap.natives_made (view self.old.heap) s → IsFresh self.new.heap.natives_made (view self.new.heap) s }
+        ensures suspected { (candidates : List ℕ) → IsSuspected (view self.old.heap) candidates → IsSuspected (view self.new.heap) candidates }
     {
         self.parts.give_back(key);
     }

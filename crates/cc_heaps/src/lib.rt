@@ -3,6 +3,12 @@
 //! The heaps stand for lists by names, which are those of the definitions (`Keyed`). Each call that changes them is one
 //! equation with a function of the definitions. Natives hold natives by counted references, and script objects, which are
 //! not counted; script objects hold script objects. What comes into a script register is exposed.
+//!
+//! What the laws make of these equations is said beside them, for callers who know no law: for which graph the heaps stand
+//! afterwards (`stands`), that objects keep their keys, that the colour invariant stays, and, where a collection may be
+//! running, that its snapshot stays fresh and that no native that nothing reaches is forgotten. Some of it needs more of
+//! what is handed in: that it is reached from the registers (`IsReached`), or black. Then the clause says so; the call
+//! itself does not ask for it.
 #![tactic(auto)]
 
 mod heaps;

@@ -1,0 +1,245 @@
+-- WHAT A CHANGE MAKES OF THE GRAPHS THAT THE HEAPS STAND FOR. What is handed in is reached, so it was made, and the changed
+-- graph is well made; the changed heaps follow it, and are well formed, so they stand for it.
+use Rattle.std.proofs.Common.{◌≡◌, ℕ, ◌<◌, ◌≤◌, true, [], get_or, Option, Some, None, is_some, option_map, refl, sym, ◌∙◌, ap, subst, inl}
+use Rattle.std.specs.Prelude.{IsTrue, Result, Ok, Err, OnOk}
+use Rattle.std.specs.Option.{option_and_then}
+use Rattle.std.proofs.lemmas.Bool.{false≢true, le-leb, lt-leb, lt-ltb}
+use Rattle.cc_lists.specs.Members.{Among}
+use Rattle.cc_lists.proofs.Members.{Among-map_cases}
+use Rattle.cc_names.specs.declared.name.Name.{Name}
+use Rattle.cc_names.specs.declared.name.Name.TheVariants as name
+use Rattle.cc_names.specs.declared.number.NKey.{NKey}
+use Rattle.cc_names.specs.declared.number.SKey.{SKey}
+use Rattle.cc_names.specs.declared.register.Reg.TheVariants.{N, S}
+use Rattle.cc_names.specs.declared.kind.Kind.{Kind}
+use Rattle.cc_names.specs.declared.kind.Kind.TheVariants.{Plain}
+use Rattle.cc_names.specs.Names.{native, object, is_native}
+use Rattle.cc_model.specs.declared.command.Command.{Command}
+use Rattle.cc_model.specs.declared.command.Command.TheVariants.{Native, Script}
+use Rattle.cc_model.specs.Ranges.{in_range}
+use Rattle.cc_model.specs.Slots.{Slots}
+use Rattle.cc_model.specs.Checks.{refusal_of}
+use Rattle.cc_model.specs.Graph as graph
+use Rattle.cc_model.specs.Graph.{Graph, GraphNative, GraphScript, native_in, script_in, step}
+use Rattle.cc_model.specs.Reached.{Reached}
+use Rattle.cc_model.specs.WellMade.{IsWellMade}
+use Rattle.cc_model.specs.Heap.{Heap, HeapScript, objects_of, native_at, set_slot}
+use Rattle.cc_model.specs.Cascade.{take_up}
+use Rattle.cc_model.specs.End.{slots_now}
+use Rattle.cc_model.specs.Effects.{effects, hold_native, hold_script, make_native, make_object}
+use Rattle.cc_model.specs.WellFormed.{IsWellFormed, FitsName, native_names, script_names}
+use Rattle.cc_model.specs.StandsFor.{Shape, shape_in, shape_of_native, shape_of_object, shape_of_reflector, script_shape, StandsFor}
+use Rattle.cc_laws_heap.specs.Sound.{IsSound}
+use Rattle.cc_laws_heap.proofs.Holds.{OfSome, OfSome-then}
+use Rattle.cc_laws_heap.proofs.Owning.{IsIn}
+use Rattle.cc_laws_heap.proofs.GraphReads.{Made, MadeNative, MadeScript}
+use Rattle.cc_laws_heap.proofs.GraphWrites.{IsWellMade-native_register, IsWellMade-script_register, IsWellMade-change_native, KeepsNative-slot, IsWellMade-script_slot}
+use Rattle.cc_laws_heap.proofs.GraphCommands.{step-well}
+use Rattle.cc_laws_heap.proofs.ReachedAlike.{in-reached}
+use Rattle.cc_laws_heap.proofs.ScriptsKept.{native-no_script}
+use Rattle.cc_laws_heap.proofs.Following.{Follows, stands-follows}
+use Rattle.cc_laws_heap.proofs.Standing.{follows-stands}
+use Rattle.cc_laws_heap.proofs.Changing.{Follows-left}
+use Rattle.cc_laws_heap.proofs.Unseen.{Leaves-take_up, Leaves-let_go}
+use Rattle.cc_laws_heap.proofs.SlotsWritten.{Follows-slot}
+use Rattle.cc_laws_heap.proofs.StepsAlike.{Follows-hold, Follows-hold_script}
+use Rattle.cc_laws_heap.proofs.CommandsStand.{command-stands}
+use Rattle.cc_laws_snapshot.proofs.SoundView.{native-name_of}
+use Rattle.cc_counted.specs.declared.held.Held.{Held}
+use Rattle.cc_script.specs.Objects.{is_there, name_at}
+use Rattle.cc_heaps.specs.Keyed.{Keyed, IsInOrder, left_with}
+use Rattle.cc_heaps.specs.Changes.{native_name, script_name, held_name, stored_in}
+use Rattle.cc_heaps.specs.Standing.{IsReached, StandsAfter}
+use Rattle.cc_heaps.proofs.Content.{native-in}
+use Rattle.cc_heaps.proofs.Following.{made-allowed, name_at-there, script_name-there}
+use Rattle.cc_heaps.proofs.ScriptsChanged.{there-named}
+
+-- What was made
+
+-- what has a shape in the graph was made
+shape-made : (g : Graph) (x : Name) (s : Shape) → shape_in g x ≡ Some s → Made g x
+shape-made g (name.Native k) s = go (native_in g k.0)
+  where
+    go : (o : Option GraphNative) → option_map shape_of_native o ≡ Some s → is_some o ≡ true
+    go None e = absurd (cc)
+    go (Some n) e = refl
+shape-made g (name.Script k) s = go (script_in g k.0)
+  where
+    go : (o : Option GraphScript) → option_map shape_of_object o ≡ Some s → is_some o ≡ true
+    go None e = absurd (cc)
+    go (Some o) e = refl
+shape-made g (name.Reflector k) s = go (native_in g k.0)
+  where
+    slots : (r : Option Slots) → option_map (λ slots. script_shape (Some slots)) r ≡ Some s → is_some r ≡ true
+    slots None e = absurd (cc)
+    slots (Some l) e = refl
+
+    go : (o : Option GraphNative) → option_and_then shape_of_reflector o ≡ Some s → is_some (option_and_then (λ (n : GraphNative). n.reflector) o) ≡ true
+    go None e = absurd (cc)
+    go (Some n) e = slots n.reflector e
+
+module _ (h : Heap) (g : Graph) (w : IsWellFormed h) (m : IsWellMade g) (s : StandsFor h g) where
+  -- what is handed in is reached in the graph
+  handed-reached : (x : Option Name) → IsReached h x → OfSome (Reached g) x
+  handed-reached None r = tt
+  handed-reached (Some x) r = in-reached h g w m s x r
+
+  -- so it was made
+  handed-made : (x : Option Name) → IsReached h x → OfSome (Made g) x
+  handed-made x r = OfSome-then (Reached g) (Made g) (λ y d. let k = s.reached y d in shape-made g y k.shape k.made) x (handed-reached x r)
+
+  -- a native, where it is that of one that is there
+  native-made : (x : Option Name) → IsIn (native_names h) x → IsReached h x → OfSome (MadeNative g) x
+  native-made None there r = tt
+  native-made (Some x) there r = named x (native-name_of h x (there x (inl refl))) (handed-made (Some x) r)
+    where
+      named : (y : Name) → is_native y ≡ true → Made g y → MadeNative g y
+      named (name.Native k) e d = d
+      named (name.Script k) e d = absurd (false≢true e)
+      named (name.Reflector k) e d = absurd (false≢true e)
+
+  -- a script object, where it is that of one that is there
+  script-made : (x : Option Name) → IsIn (script_names h) x → IsReached h x → OfSome (MadeScript g) x
+  script-made None there r = tt
+  script-made (Some x) there r = named x (there x (inl refl)) (handed-made (Some x) r)
+    where
+      named : (y : Name) → Among y (script_names h) → Made g y → MadeScript g y
+      named (name.Native k) i d = absurd (native-no_script h k.0 w i)
+      named (name.Script k) i d = d
+      named (name.Reflector k) i d = d
+
+-- Changes of the heaps
+
+-- WELL FORMED HEAPS THAT FOLLOW what a change makes of each graph stand for it.
+StandsAfter-from : (h k : Heap) (change : Graph → Graph) → IsWellFormed h → IsWellFormed k →
+    ((g : Graph) → IsWellMade g → StandsFor h g → IsWellMade (change g)) →
+    ((g : Graph) → IsWellMade g → StandsFor h g → Follows (Reached g) h g → Follows (Reached g) k (change g)) → StandsAfter h k change
+StandsAfter-from h k change early late well follows g m s =
+    (well g m s, follows-stands (Reached g) k (change g) late (well g m s) (follows g m s (stands-follows h g early s)))
+
+module _ (h : Heap) (w : IsWellFormed h) where
+  -- A native register is written.
+  hold_native-stands : (d : ℕ) (x : Option Name) → IsIn (native_names h) x → IsReached h x → IsWellFormed (hold_native h d x).heap →
+      StandsAfter h (hold_native h d x).heap (λ g. graph.set_register g (N d) x)
+  hold_native-stands d x there r late = StandsAfter-from h (hold_native h d x).heap (λ g. graph.set_register g (N d) x) w late
+      (λ g m s. IsWellMade-native_register g d x m (native-made h g w m s x there r))
+      (λ g m s t. Follows-hold (Reached g) h g d x x refl (handed-reached h g w m s x r) t)
+
+  -- A script register is written.
+  hold_script-stands : (d : ℕ) (x : Option Name) → IsIn (script_names h) x → IsReached h x → IsWellFormed (hold_script h d x) →
+      StandsAfter h (hold_script h d x) (λ g. graph.set_register g (S d) x)
+  hold_script-stands d x there r late = StandsAfter-from h (hold_script h d x) (λ g. graph.set_register g (S d) x) w late
+      (λ g m s. IsWellMade-script_register g d x m (script-made h g w m s x there r))
+      (λ g m s t. Follows-hold_script (Reached g) h g d x x refl (handed-reached h g w m s x r) t)
+
+  -- A slot of a native is written.
+  stored_in-stands : (k i : ℕ) (x : Option Name) → IsReached h (Some (native k)) → IsReached h x → IsWellFormed (stored_in h k i x).heap →
+      StandsAfter h (stored_in h k i x).heap (λ g. graph.set_slot g (Some (native k)) i x)
+  stored_in-stands k i x held r late = StandsAfter-from h (stored_in h k i x).heap (λ g. graph.set_slot g (Some (native k)) i x) w late
+      (λ g m s. IsWellMade-change_native g k (graph.with_slot i x) (λ n e. e) m (KeepsNative-slot g k i x (handed-made h g w m s x r)))
+      (λ g m s t. Follows-left (Reached g) (set_slot (take_up h x) (Some (native k)) i x) (stored_in h k i x).heap (graph.set_slot g (Some (native k)) i x)
+      (Leaves-let_go (set_slot (take_up h x) (Some (native k)) i x) (get_or (slots_now (native_at (take_up h x) k)) i None))
+      (Follows-slot (Reached g) (take_up h x) g (Some (native k)) i x (handed-reached h g w m s (Some (native k)) held) (handed-reached h g w m s x r)
+      (λ j a e. absurd (cc)) (Follows-left (Reached g) h (take_up h x) g (Leaves-take_up h x) t)))
+
+  -- A slot of a script object that is no reflector is written.
+  object_slot-stands : (k i : ℕ) (x : Option Name) → IsIn (script_names h) x → IsReached h (Some (object k)) → IsReached h x →
+      IsWellFormed (set_slot h (Some (object k)) i x) → StandsAfter h (set_slot h (Some (object k)) i x) (λ g. graph.set_slot g (Some (object k)) i x)
+  object_slot-stands k i x there held r late = StandsAfter-from h (set_slot h (Some (object k)) i x) (λ g. graph.set_slot g (Some (object k)) i x) w late
+      (λ g m s. IsWellMade-script_slot g k i x m (script-made h g w m s x there r))
+      (λ g m s t. Follows-slot (Reached g) h g (Some (object k)) i x (handed-reached h g w m s (Some (object k)) held) (handed-reached h g w m s x r)
+      (λ j a e. absurd (cc)) t)
+
+-- A command that is not refused.
+command-stands_after : (h : Heap) (c : Command) → IsSound [] h → IsTrue (in_range c) → refusal_of (objects_of h) c ≡ None →
+    StandsAfter h (effects h c).heap (λ g. step g c)
+command-stands_after h c s range taken g m t = (step-well g m c range, command-stands h g c s m t range taken)
+
+module _ (h : Heap) (d n : ℕ) (s : IsSound [] h) (room : d < 256) (few : n ≤ 64) where
+  -- A native is made.
+  make_native-stands : h.natives_made < h.limits.natives → StandsAfter h (make_native h d n).heap (λ g. step g (Native d n))
+  unfolding effects refusal_of
+  make_native-stands allowed = command-stands_after h (Native d n) s (rw (lt-ltb d 256 room, le-leb n 64 few) refl)
+      (rw (lt-leb h.limits.natives h.natives_made allowed) refl)
+
+  -- A plain script object is made.
+  make_object-stands : h.scripts_made < h.limits.scripts → StandsAfter h (make_object h d Plain n) (λ g. step g (Script d n))
+  unfolding effects refusal_of
+  make_object-stands allowed = command-stands_after h (Script d n) s (rw (lt-ltb d 256 room, le-leb n 64 few) refl)
+      (rw (lt-leb h.limits.scripts h.scripts_made allowed) refl)
+
+-- The heaps with their keys
+
+-- a plain object's name is no reflector's
+plain-named : (y : Name) (kind : Kind) (slots : Slots) → kind ≡ Plain → FitsName y kind slots → (k : ℕ) × (y ≡ object k)
+plain-named (name.Native k) kind slots e f = absurd f
+plain-named (name.Script k) kind slots e f = (k.0, refl)
+plain-named (name.Reflector k) kind slots e f = absurd (subst (λ q. FitsName (name.Reflector k) q slots) e f)
+
+module _ (v w : Keyed) (o : IsInOrder [] v) (p : IsInOrder [] w) where
+  -- where the heaps afterwards are well formed, as they are in order
+  changed-stands : (k : Heap) (change : Graph → Graph) → w.heap ≡ k → (IsWellFormed k → StandsAfter v.heap k change) → StandsAfter v.heap w.heap change
+  changed-stands k change e f = subst (λ l. StandsAfter v.heap l change) (sym e) (f (subst IsWellFormed e p.sound.well_formed))
+
+  -- A native register is written with what is at a key.
+  pub native_register-stands : (d : ℕ) (x : Option NKey) → w ≡ left_with v (hold_native v.heap d (native_name v x)).heap → IsReached v.heap (native_name v x) →
+      StandsAfter v.heap w.heap (λ g. graph.set_register g (N d) (native_name v x))
+  native_register-stands d x e r = changed-stands (hold_native v.heap d (native_name v x)).heap (λ g. graph.set_register g (N d) (native_name v x))
+      (ap (λ (u : Keyed). u.heap) e) (hold_native-stands v.heap o.sound.well_formed d (native_name v x) (native-in [] v x o) r)
+
+  -- A script register is written.
+  pub script_register-stands : (d : ℕ) (x : Option SKey) → w.heap ≡ hold_script v.heap d (script_name v x) → IsReached v.heap (script_name v x) →
+      StandsAfter v.heap w.heap (λ g. graph.set_register g (S d) (script_name v x))
+  script_register-stands d x e r = changed-stands (hold_script v.heap d (script_name v x)) (λ g. graph.set_register g (S d) (script_name v x)) e
+      (hold_script-stands v.heap o.sound.well_formed d (script_name v x) (script_name-there [] v o x) r)
+
+  -- A slot of a native is written with what is held.
+  pub native_slot-stands : (k i : ℕ) (x : Option Held) → w ≡ left_with v (stored_in v.heap k i (held_name v x)).heap →
+      IsReached v.heap (Some (native k)) → IsReached v.heap (held_name v x) →
+      StandsAfter v.heap w.heap (λ g. graph.set_slot g (Some (native k)) i (held_name v x))
+  native_slot-stands k i x e held r = changed-stands (stored_in v.heap k i (held_name v x)).heap (λ g. graph.set_slot g (Some (native k)) i (held_name v x))
+      (ap (λ (u : Keyed). u.heap) e) (stored_in-stands v.heap o.sound.well_formed k i (held_name v x) held r)
+
+  -- each script object that is there has such a name
+  object-named : (y : Name) → Among y (script_names v.heap) → (k : ℕ) × (y ≡ object k)
+  object-named y there =
+      let f = Among-map_cases (λ (q : HeapScript). q.name) v.heap.scripts y there in
+      subst (λ z. (k : ℕ) × (z ≡ object k)) f.2 (plain-named f.0.name f.0.kind f.0.slots (o.plain f.0 f.1) (o.sound.well_formed.kinds f.0 f.1))
+
+  -- so has the one at a key
+  name_at-object : (key : ℕ) → IsTrue (is_there v.scripts key) → (k : ℕ) × (name_at v.scripts key ≡ Some (object k))
+  name_at-object key live = go (there-named v.scripts key live)
+    where
+      go : (y : Name) × (name_at v.scripts key ≡ Some y) → (k : ℕ) × (name_at v.scripts key ≡ Some (object k))
+      go n =
+          let k = object-named n.0 (subst (IsIn (script_names v.heap)) n.1 (name_at-there [] v o key) n.0 (inl refl)) in
+          (k.0, n.1 ∙ ap (λ y. Some y) k.1)
+
+  -- A slot of a script object is written.
+  pub script_slot-stands : (key i : ℕ) (x : Option SKey) → IsTrue (is_there v.scripts key) → w.heap ≡ set_slot v.heap (name_at v.scripts key) i (script_name v x) →
+      IsReached v.heap (name_at v.scripts key) → IsReached v.heap (script_name v x) →
+      StandsAfter v.heap w.heap (λ g. graph.set_slot g (name_at v.scripts key) i (script_name v x))
+  script_slot-stands key i x live e held r =
+      let n = name_at-object key live in
+      subst (λ y. w.heap ≡ set_slot v.heap y i (script_name v x) → IsReached v.heap y → StandsAfter v.heap w.heap (λ g. graph.set_slot g y i (script_name v x)))
+      (sym n.1)
+      (λ f h. changed-stands (set_slot v.heap (Some (object n.0)) i (script_name v x)) (λ g. graph.set_slot g (Some (object n.0)) i (script_name v x)) f
+      (object_slot-stands v.heap o.sound.well_formed n.0 i (script_name v x) (script_name-there [] v o x) h r))
+      e held
+
+-- By the result of a call that makes an object
+
+module _ {X E : Type 0} (v w : Keyed) (d n : ℕ) (full : E) (room : d < 256) (few : n ≤ 64) (o : IsInOrder [] v) where
+  -- A native is made, where the call did not fail.
+  pub native_made-stands : (r : Result X E) → (v.heap.limits.natives ≤ v.heap.natives_made → r ≡ Err full) →
+      OnOk r (w.heap ≡ (make_native v.heap d n).heap) → OnOk r (StandsAfter v.heap w.heap (λ g. step g (Native d n)))
+  native_made-stands (Ok x) f heap = subst (λ k. StandsAfter v.heap k (λ g. step g (Native d n))) (sym heap)
+      (make_native-stands v.heap d n o.sound room few (made-allowed full v.heap.natives_made v.heap.limits.natives x f))
+  native_made-stands (Err e) f heap = tt
+
+  -- The same of a plain script object.
+  pub object_made-stands : (r : Result X E) → (v.heap.limits.scripts ≤ v.heap.scripts_made → r ≡ Err full) →
+      OnOk r (w.heap ≡ make_object v.heap d Plain n) → OnOk r (StandsAfter v.heap w.heap (λ g. step g (Script d n)))
+  object_made-stands (Ok x) f heap = subst (λ k. StandsAfter v.heap k (λ g. step g (Script d n))) (sym heap)
+      (make_object-stands v.heap d n o.sound room few (made-allowed full v.heap.scripts_made v.heap.limits.scripts x f))
+  object_made-stands (Err e) f heap = tt
