@@ -9,6 +9,8 @@ use Rattle.cc_model.specs.declared.item.Event.{Event}
 use Rattle.cc_model.specs.declared.item.Item.TheVariants.{Event as of_event}
 use Rattle.cc_model.specs.Heap.{Heap, Outcome, after}
 use Rattle.cc_model.specs.Colours.{marked, HasColours, HasColourInvariant}
+use Rattle.cc_model.specs.StandsFor.{StandsFor}
+use Rattle.cc_model.specs.Suspected.{IsSuspected}
 use Rattle.cc_model.specs.Sweep.{sweep, sweeps, rounds, collect_scripts}
 use Rattle.cc_model.specs.Telling.{Telling, Tells}
 use Rattle.cc_model.specs.Texts.{texts_of, text_of}
@@ -20,8 +22,11 @@ use Rattle.cc_laws_heap.specs.Sound.{IsSound}
 use Rattle.cc_laws_heap.specs.Rounds.{is_not_among}
 use Rattle.cc_laws_heap.proofs.MarkingKeeps.{script_names-marked, round-frees}
 use Rattle.cc_laws_heap.proofs.CollectedColours.{collect_scripts-colours, collect_scripts-invariant}
+use Rattle.cc_laws_heap.proofs.RoundsStand.{collect_scripts-stands}
+use Rattle.cc_laws_snapshot.proofs.SweepLoses.{collect_scripts-suspected}
 use Rattle.cc_heaps.specs.Keyed.{Keyed, IsInOrder}
 use Rattle.cc_heaps.specs.Changes.{KeepsKeys}
+use Rattle.cc_heaps.specs.Standing.{StillStands}
 
 -- Keys that are kept, and kept again
 
@@ -100,6 +105,8 @@ pub record IsRound (v w : Keyed) (t u : Telling) (swept : Bool) : Type 0 where
 pub record IsCollected (old new : Keyed) (before after : Telling) : Type 0 where
   pub heap : new.heap ≡ (collect_scripts old.heap).heap
   pub told : Tells before after (texts_of (map of_event (collect_scripts old.heap).events))
+  pub stands : StillStands old.heap new.heap
+  pub suspected : IsSuspected (view old.heap) [] → IsSuspected (view new.heap) []
   pub colours : HasColours new.heap
   pub invariant : HasColourInvariant (view new.heap)
   pub keys : KeepsKeys old new
@@ -164,6 +171,8 @@ module _ (old v w : Keyed) (b t u : Telling) (c : IsCollecting old v b t) where
       record {
         heap = ap (λ (o : Outcome). o.heap) last;
         told = subst (λ (o : Outcome). Tells b u (texts_of (map of_event o.events))) last (Tells-more b t u c.events (sweep (marked v.heap)).events c.told r.told);
+        stands = λ g made stands. subst (λ (o : Outcome). StandsFor o.heap g) (sym last) (collect_scripts-stands old.heap g s made stands);
+        suspected = λ suspected. subst (λ (o : Outcome). IsSuspected (view o.heap) []) (sym last) (collect_scripts-suspected old.heap s suspected);
         colours = subst (λ (o : Outcome). HasColours o.heap) (sym last) (collect_scripts-colours old.heap);
         invariant = subst (λ (o : Outcome). HasColourInvariant (view o.heap)) (sym last) (collect_scripts-invariant old.heap s);
         keys = keys-then false r;

@@ -3,10 +3,12 @@ ghost use Rattle.cc_model.specs.declared.item.Item.TheVariants.{Event as of_even
 ghost use Rattle.cc_model.specs.Telling.{Tells};
 ghost use Rattle.cc_model.specs.Texts.{texts_of};
 ghost use Rattle.cc_model.specs.Colours.{HasColours, HasColourInvariant, marked};
+ghost use Rattle.cc_model.specs.Suspected.{IsSuspected};
 ghost use Rattle.cc_model.specs.Sweep.{collect_scripts as collected, sweep, sweeps};
 ghost use Rattle.cc_model.specs.View.{view};
 ghost use Rattle.cc_heaps.specs.Keyed.{IsInOrder};
 ghost use Rattle.cc_heaps.specs.Changes.{KeepsKeys};
+ghost use Rattle.cc_heaps.specs.Standing.{StillStands};
 
 use cc_heaps::Heaps;
 use cc_model::Notices;
@@ -27,11 +29,14 @@ fn round<N: Notices>(heaps: &mut Heaps, out: &mut N) -> bool
 /// A whole script collection: marks and sweeps, again and again, until a round sweeps nothing. What is swept is told.
 ///
 /// Afterwards no script object is white: each is reached from a script register, or a native holds what reaches it.
-/// Takes no memory.
+/// The heaps go on standing for the same graph: nothing that a register reaches is taken out. Where no collection runs,
+/// no native that nothing reaches is forgotten. Takes no memory.
 pub fn collect_scripts<N: Notices>(heaps: &mut Heaps, out: &mut N)
     requires order { IsInOrder [] heaps.old }
     ensures heap { heaps.new.heap ≡ (collected heaps.old.heap).heap }
     ensures told { Tells (N.telling out.old) (N.telling out.new) (texts_of (map of_event (collected heaps.old.heap).events)) }
+    ensures stands { StillStands heaps.old.heap heaps.new.heap }
+    ensures suspected { IsSuspected (view heaps.old.heap) [] → IsSuspected (view heaps.new.heap) [] }
     ensures colours { HasColours heaps.new.heap }
     ensures invariant { HasColourInvariant (view heaps.new.heap) }
     ensures keys { KeepsKeys heaps.old heaps.new }

@@ -24,4 +24,13 @@ returns g c =
     let e = c.round.ensures in
     let done = IsCollected-last _ _ _ _ _ _ c.rounds.invariant.steps c.requires.order.sound
     (record { swept_is = sym c.rounds-test.false ∙ e.swept; heap = e.heap; told = e.told; keys = e.keys; order = e.order }) in
-    record { heap = done.heap; told = done.told; colours = done.colours; invariant = done.invariant; keys = done.keys; order = done.order }
+    record {
+      heap = done.heap;
+      told = done.told;
+      stands = done.stands;
+      suspected = done.suspected;
+      colours = done.colours;
+      invariant = done.invariant;
+      keys = done.keys;
+      order = done.order;
+    }
