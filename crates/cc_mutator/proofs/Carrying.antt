@@ -26,7 +26,7 @@ use Rattle.cc_heaps.specs.Keyed.{Keyed, IsInOrder, left_with}
 use Rattle.cc_heaps.specs.Changes.{KeepsKeys}
 use Rattle.cc_mutator.specs.Applied.{IsCarriedOut}
 use Rattle.cc_mutator.specs.Commands.{IsApplied}
-use Rattle.cc_mutator.proofs.KeysKept.{KeepsKeys-left, KeepsKeys-same}
+use Rattle.cc_heaps.proofs.KeysKept.{KeepsKeys-left, KeepsKeys-same}
 use Rattle.cc_mutator.proofs.Refusing.{refusal_by, refusal-by}
 
 -- Replies

@@ -24,11 +24,13 @@ use Rattle.cc_laws_heap.proofs.Taken.{IsTaken-from}
 use Rattle.cc_laws_heap.proofs.Coloured.{AreColoured-from_view, HasColourInvariant-from}
 use Rattle.cc_laws_heap.proofs.CommandsColours.{effects-coloured}
 use Rattle.cc_laws_heap.proofs.CommandsSound.{effects-sound}
+use Rattle.cc_laws_heap.proofs.GraphCommands.{step-well}
 use Rattle.cc_laws_heap.proofs.CommandsStand.{command-stands}
 use Rattle.cc_laws_heap.proofs.CountBound.{count-bound}
 use Rattle.cc_laws_heap.proofs.RepliesAlike.{refusal_of-alike, objects-stand}
 use Rattle.cc_laws_snapshot.proofs.CommandsGentle.{effects-fresh}
 use Rattle.cc_heaps.specs.Few.{AreFew}
+use Rattle.cc_heaps.specs.Standing.{StandsAfter}
 use Rattle.cc_heaps.specs.Keyed.{Keyed, IsInOrder}
 use Rattle.cc_mutator.specs.Commands.{IsApplied}
 
@@ -52,7 +54,7 @@ with-memory r e f = let t : is_without_memory r ≡ true = ap is_without_memory 
 
 module _ (c : Command) (old new : Keyed) (reply : Reply) (before after : Telling) (a : IsApplied c old new reply before after) where
   -- WHAT HAPPENED: nothing, or the effects of the command, where it is not refused
-  happened : (new.heap ≡ old.heap) ⊎ ((refusal_of (objects_of old.heap) c ≡ None) × (new.heap ≡ (effects old.heap c).heap))
+  pub happened : (new.heap ≡ old.heap) ⊎ ((refusal_of (objects_of old.heap) c ≡ None) × (new.heap ≡ (effects old.heap c).heap))
   happened = go (refusal_of (objects_of old.heap) c) refl (is_without_memory reply) refl
     where
       go : (o : Option Refusal) → refusal_of (objects_of old.heap) c ≡ o → (b : Bool) → is_without_memory reply ≡ b →
@@ -81,9 +83,13 @@ module _ (c : Command) (old new : Keyed) (reply : Reply) (before after : Telling
     pub applied-few : AreFew new.heap
     applied-few = λ n m. omega (arith, count-bound [] new.heap n a.order.sound a.order.limits.0 m)
 
-    pub applied-stands : (g : Graph) → IsWellMade g → StandsFor old.heap g → StandsFor new.heap (graph_after g c (Some reply))
-    applied-stands g made stands = go (is_without_memory reply) refl
+    pub applied-stands : StandsAfter old.heap new.heap (λ g. graph_after g c (Some reply))
+    applied-stands g made stands = (well (is_without_memory reply), go (is_without_memory reply) refl)
       where
+        well : (b : Bool) → IsWellMade (elim b [ true ↦ g | false ↦ step g c ])
+        well true = made
+        well false = step-well g made c range
+
         by_refusal : (o : Option Refusal) → refusal_of (objects_of old.heap) c ≡ o → is_without_memory reply ≡ false → StandsFor new.heap (step g c)
         by_refusal (Some r) e f =
             let alike : refusal_of (graph.objects_of g) c ≡ Some r = sym (refusal_of-alike (objects_of old.heap) (graph.objects_of g) (objects-stand old.heap g stands) c) ∙ e in

@@ -3,7 +3,7 @@ pub mod NativesRead
 pub mod ScriptsRead
 pub mod Exposing
 pub mod Refusing
-pub mod KeysKept
 pub mod Storing
 pub mod Carrying
 pub mod Following
+pub mod Remembering

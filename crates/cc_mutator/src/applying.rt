@@ -1,5 +1,5 @@
 //! Each command of the mutator, done on the heaps.
-ghost use Rattle.std.specs.Prelude.{◌≡◌, ◌≢◌, ◌<◌, ◌≤◌, IsTrue, IfSome, true, [], length, map, Some, None};
+ghost use Rattle.std.specs.Prelude.{◌≡◌, ◌≢◌, ◌<◌, ◌≤◌, ℕ, IsTrue, IfSome, true, List, [], length, map, Some, None};
 ghost use Rattle.cc_names.specs.declared.kind.Colour.TheVariants.{Black};
 ghost use Rattle.cc_names.specs.declared.register.Reg.TheVariants.{N as n_register, S as s_register};
 ghost use Rattle.cc_model.specs.declared.command.Command.TheVariants.{Native, Script, CopyNative, CopyScript, Drop, Set, Get, Put, Take, Expose};
@@ -14,18 +14,17 @@ ghost use Rattle.cc_model.specs.Colours.{HasColourInvariant};
 ghost use Rattle.cc_model.specs.Effects.{store_native, takes_memory};
 ghost use Rattle.cc_model.specs.Exposure.{exposed};
 ghost use Rattle.cc_model.specs.Fresh.{IsFresh};
-ghost use Rattle.cc_model.specs.Graph.{Graph};
 ghost use Rattle.cc_model.specs.Heap.{objects_of, register, set_slot};
 ghost use Rattle.cc_model.specs.Lawful.{graph_after};
 ghost use Rattle.cc_model.specs.Ranges.{in_range};
 ghost use Rattle.cc_model.specs.Snapshot.{Snapshot};
-ghost use Rattle.cc_model.specs.StandsFor.{StandsFor};
+ghost use Rattle.cc_model.specs.Suspected.{IsSuspected};
 ghost use Rattle.cc_model.specs.View.{view};
-ghost use Rattle.cc_model.specs.WellMade.{IsWellMade};
 ghost use Rattle.cc_script.specs.Objects.{colour_at};
 ghost use Rattle.cc_heaps.specs.Keyed.{IsInOrder, left_with};
 ghost use Rattle.cc_heaps.specs.Changes.{IsScriptThere, IsThere, KeepsKeys, held_name, script_name};
 ghost use Rattle.cc_heaps.specs.Few.{AreFew};
+ghost use Rattle.cc_heaps.specs.Standing.{StandsAfter};
 ghost use Rattle.cc_mutator.specs.Applied.{is_applied, IsCarriedOut};
 ghost use Rattle.cc_mutator.specs.Commands.{IsApplied};
 
@@ -286,6 +285,9 @@ fn answer<N: Notices>(heaps: &mut Heaps, command: &Command, out: &mut N) -> Repl
 ///
 /// A command that is refused changes nothing and tells nothing. Memory is wanted by `native` and `script` alone, where
 /// they are not refused; without it they change nothing and tell nothing either.
+///
+/// Afterwards the heaps stand for the graph that the reply makes of each one that they stood for, each snapshot that was
+/// fresh is fresh, and no native that nothing reaches is forgotten, whatever the candidates of a running collection are.
 pub fn apply<N: Notices>(heaps: &mut Heaps, command: &Command, out: &mut N) -> Reply
     requires applied { IsTrue (is_applied command.now) }
     requires in_range { IsTrue (in_range command.now) }
@@ -298,9 +300,10 @@ pub fn apply<N: Notices>(heaps: &mut Heaps, command: &Command, out: &mut N) -> R
     ensures memory { result ≡ refused no_memory →
         (refusal_of (objects_of heaps.old.heap) command.now ≡ None) × (takes_memory heaps.old.heap command.now ≡ true)
         × (heaps.new ≡ heaps.old) × (N.telling out.new ≡ N.telling out.old) }
-    ensures stands { (g : Graph) → IsWellMade g → StandsFor heaps.old.heap g → StandsFor heaps.new.heap (graph_after g command.now (Some result)) }
+    ensures stands { StandsAfter heaps.old.heap heaps.new.heap (λ g. graph_after g command.now (Some result)) }
     ensures fresh { (s : Snapshot) → IsFresh heaps.old.heap.natives_made (view heaps.old.heap) s →
         IsFresh heaps.new.heap.natives_made (view heaps.new.heap) s }
+    ensures suspected { (candidates : List ℕ) → IsSuspected (view heaps.old.heap) candidates → IsSuspected (view heaps.new.heap) candidates }
     ensures counts { AreFew heaps.new.heap }
     ensures keys { KeepsKeys heaps.old heaps.new }
     ensures colours { HasColourInvariant (view heaps.new.heap) }

@@ -1,4 +1,5 @@
 use Rattle.cc_mutator.proofs.Following.{applied-fresh, applied-colours, applied-few, applied-stands}
+use Rattle.cc_mutator.proofs.Remembering.{applied-remembers}
 use Rattle.cc_mutator.proofs.applying.apply.Goals as goal
 
 pub returns-clause-stands : goal.returns-clause-stands
@@ -10,6 +11,11 @@ pub returns-clause-fresh : goal.returns-clause-fresh
 returns-clause-fresh g c = λ s fresh.
     applied-fresh c.args.command.now c.args.heaps.now c.answer.new.heaps c.answer.result (g.N.Notices.telling c.args.out.now) (g.N.Notices.telling c.answer.new.out)
     c.answer.ensures c.requires.order c.requires.in_range s fresh
+
+pub returns-clause-suspected : goal.returns-clause-suspected
+returns-clause-suspected g c = λ candidates suspected.
+    applied-remembers c.args.command.now c.args.heaps.now c.answer.new.heaps c.answer.result (g.N.Notices.telling c.args.out.now) (g.N.Notices.telling c.answer.new.out)
+    c.answer.ensures c.requires.order c.requires.in_range candidates suspected
 
 pub returns-clause-counts : goal.returns-clause-counts
 returns-clause-counts g c =
