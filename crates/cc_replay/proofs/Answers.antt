@@ -55,11 +55,11 @@ text_of_answers-more answers a =
     ∙ flat_map-append text_of (all_items_of answers) (items_of a)
 
 -- no line is answered yet
-pub AreAnswered-none : (h : Heap) (t : Telling) → AreAnswered h h [] t t
+AreAnswered-none : (h : Heap) (t : Telling) → AreAnswered h h [] t t
 AreAnswered-none h t = record { answers = []; done = record { heap = refl; snapshot = refl }; in_range = refl; told = Tells-nil t }
 
 -- ONE MORE LINE IS ANSWERED
-pub AreAnswered-more : (h₀ h₁ h₂ : Heap) (lines : List (List ℕ)) (line : List ℕ) (t₀ t₁ t₂ : Telling) →
+AreAnswered-more : (h₀ h₁ h₂ : Heap) (lines : List (List ℕ)) (line : List ℕ) (t₀ t₁ t₂ : Telling) →
     AreAnswered h₀ h₁ lines t₀ t₁ → LineIsAnswered h₁ h₂ line t₁ t₂ → AreAnswered h₀ h₂ (lines ++ line ∷ []) t₀ t₂
 AreAnswered-more h₀ h₁ h₂ lines line t₀ t₁ t₂ a l = record {
   answers = a.answers ++ l.answered.answer ∷ [];

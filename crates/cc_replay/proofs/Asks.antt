@@ -1,20 +1,24 @@
 -- WHAT A LINE ASKS, and how the lines that are refused as they stand are answered.
 use Rattle.std.specs.Prelude.{nat_lt}
-use Rattle.std.proofs.Common.{◌≡◌, ℕ, ◌≤◌, ◌<◌, Bool, true, false, List, [], length, refl, ap, arith}
+use Rattle.std.proofs.Common.{◌≡◌, ℕ, ◌≤◌, ◌<◌, Bool, true, false, List, [], length, None, refl, sym, ◌∙◌, ap, subst, arith}
 use Rattle.std.proofs.lemmas.Bool.{lt-ltb}
 use Rattle.std.proofs.lemmas.Bool.{ltb-true}
 use Rattle.cc_model.specs.declared.item.Refusal.TheVariants.{Long, Line}
 use Rattle.cc_model.specs.declared.item.Reply.TheVariants.{Refused}
-use Rattle.cc_model.specs.Answers.{replying}
+use Rattle.cc_model.specs.Telling.{Telling, Tells}
+use Rattle.cc_model.specs.Texts.{texts_of}
+use Rattle.cc_model.specs.Answers.{Answer, items_of, replying}
 use Rattle.cc_model.specs.Asks.{Ask, long, bad, command_of, taken_or_bad, longest_line, ask_of}
 use Rattle.cc_model.specs.Heap.{Heap}
 use Rattle.cc_model.specs.Run.{do_ask}
 use Rattle.cc_laws_run.specs.Memory.{IsDoneFor}
+use Rattle.cc_laws_run.specs.Running.{ask_in_range}
 use Rattle.cc_reader.specs.FormsNow.{forms_now}
 use Rattle.cc_replay.specs.Answered.{at_rest}
+use Rattle.cc_replay.specs.Answering.{LineIsAnswered}
 
 -- a line of at most 120 bytes asks what its command says
-pub ask_of-short : (line : List ℕ) → length line ≤ 120 → ask_of forms_now line ≡ taken_or_bad (command_of forms_now line)
+ask_of-short : (line : List ℕ) → length line ≤ 120 → ask_of forms_now line ≡ taken_or_bad (command_of forms_now line)
 ask_of-short line short = go (nat_lt longest_line (length line)) refl
   where
     go : (b : Bool) → nat_lt longest_line (length line) ≡ b →
@@ -23,14 +27,31 @@ ask_of-short line short = go (nat_lt longest_line (length line)) refl
     go false e = refl
 
 -- a longer one is too long
-pub ask_of-long : (line : List ℕ) → 120 < length line → ask_of forms_now line ≡ long
+ask_of-long : (line : List ℕ) → 120 < length line → ask_of forms_now line ≡ long
 ask_of-long line above = ap (λ b. elim b as (λ _. Ask) [ true ↦ long | false ↦ taken_or_bad (command_of forms_now line) ]) (lt-ltb longest_line (length line) above)
 
 -- a line that is too long, and one that is not in the grammar, change nothing
-pub IsDoneFor-long : (h : Heap) → IsDoneFor (at_rest h) long (replying [] (Refused Long)) (at_rest h)
+IsDoneFor-long : (h : Heap) → IsDoneFor (at_rest h) long (replying [] (Refused Long)) (at_rest h)
 unfolding do_ask
 IsDoneFor-long h = record { memory = []; answer = refl; after = record { heap = refl; snapshot = refl } }
 
-pub IsDoneFor-bad : (h : Heap) → IsDoneFor (at_rest h) bad (replying [] (Refused Line)) (at_rest h)
+IsDoneFor-bad : (h : Heap) → IsDoneFor (at_rest h) bad (replying [] (Refused Line)) (at_rest h)
 unfolding do_ask
 IsDoneFor-bad h = record { memory = []; answer = refl; after = record { heap = refl; snapshot = refl } }
+
+-- so it is answered by its refusal alone
+answered-as : {ask : Ask} (answer : Answer) (h : Heap) (line : List ℕ) {before after : Telling} → ask_of forms_now line ≡ ask → IsDoneFor (at_rest h) ask answer (at_rest h) →
+    ask_in_range ask ≡ true → Tells before after (texts_of (items_of answer)) → LineIsAnswered h h line before after
+answered-as answer h line asks done in_range told = record {
+  answered = record { answer = answer; done = subst (λ a. IsDoneFor (at_rest h) a answer (at_rest h)) (sym asks) done; told = told };
+  in_range = ap ask_in_range asks ∙ in_range;
+}
+
+pub answered-long : (h : Heap) (line : List ℕ) {before after : Telling} → 120 < length line →
+    Tells before after (texts_of (items_of (replying [] (Refused Long)))) → LineIsAnswered h h line before after
+answered-long h line above told = answered-as (replying [] (Refused Long)) h line (ask_of-long line above) (IsDoneFor-long h) refl told
+
+pub answered-bad : (h : Heap) (line : List ℕ) {before after : Telling} → length line ≤ 120 → command_of forms_now line ≡ None →
+    Tells before after (texts_of (items_of (replying [] (Refused Line)))) → LineIsAnswered h h line before after
+answered-bad h line short none told =
+    answered-as (replying [] (Refused Line)) h line (ask_of-short line short ∙ ap taken_or_bad none) (IsDoneFor-bad h) refl told

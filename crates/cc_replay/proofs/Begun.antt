@@ -21,6 +21,7 @@ use Rattle.cc_laws_heap.proofs.NameLists.{natives_in-natives}
 use Rattle.cc_graph.specs.Shown.{Vertex}
 use Rattle.cc_heaps.specs.Keyed.{Keyed, IsInOrder}
 use Rattle.cc_replay.specs.Building.{Built, IsBuilt, names_of, node_with, nodes_of, reference_of, snapshot_of}
+use Rattle.cc_replay.proofs.BuildKept.{IsBuilt-with}
 use Rattle.cc_replay.proofs.BuildSnapshots.{snapshot-same}
 
 -- Names that go last one after the other
@@ -162,15 +163,4 @@ snapshot-begun b v xs order purple names next all edges =
 
 -- all nodes are candidates
 pub IsBuilt-all : (b : Built) (v : Keyed) (n : ℕ) → n ≡ length b.graph.nodes → IsBuilt b v → IsBuilt (record b { candidates = n }) v
-IsBuilt-all b v n e built =
-    record {
-      distinct = built.distinct;
-      made = built.made;
-      few = built.few;
-      behind = built.behind;
-      first = omega arith;
-      closed = built.closed;
-      no_blacks = built.no_blacks;
-      unsampled = built.unsampled;
-      uncounted = built.uncounted;
-    }
+IsBuilt-all b v n e built = IsBuilt-with b v b.graph.edges b.graph.spare n b.next built built.behind (omega arith) built.closed built.unsampled

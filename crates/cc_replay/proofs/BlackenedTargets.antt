@@ -1,6 +1,6 @@
 -- The targets of a node's references become black one after another, by place.
 use Rattle.std.specs.Prelude.{slice_get, ◌-◌}
-use Rattle.std.proofs.Common.{◌≡◌, ℕ, ◌+◌, ◌<◌, ◌==◌, List, ◌∷◌, length, drop, Option, Some, None, refl, sym, ◌∙◌, ap, subst, arith}
+use Rattle.std.proofs.Common.{◌≡◌, ℕ, ◌+◌, ◌==◌, List, ◌∷◌, length, drop, Option, Some, None, sym, ◌∙◌, ap}
 use Rattle.cc_lists.specs.Members.{with_all_last}
 use Rattle.cc_graph.specs.Shown.{Edge, Shown, place_from, with_black}
 use Rattle.cc_replay.proofs.NotedPlaces.{targets_of, IsNextPlace, place-next, place-none}
@@ -17,10 +17,6 @@ pub record AreFollowed (g₀ g : Shown) (i : ℕ) (place : Option ℕ) : Type 0 
   pub next : place ≡ place_from g₀.edges i start
   pub left : with_all_last ◌==◌ g.blacks (targets_of i (drop start g₀.edges)) ≡ with_all_last ◌==◌ g₀.blacks (targets_of i g₀.edges)
 
--- at the start
-pub followed-start : (g : Shown) (i : ℕ) (place : Option ℕ) → place ≡ place_from g.edges i 0 → AreFollowed g g i place
-followed-start g i place e = record { rest = refl; start = 0; next = e; left = refl }
-
 module _ (g₀ g : Shown) (i place : ℕ) (h : AreFollowed g₀ g i (Some place)) where
   abbrev the_next : IsNextPlace g₀.edges i h.start place
   the_next = place-next g₀.edges i h.start place (sym h.next)
@@ -28,13 +24,6 @@ module _ (g₀ g : Shown) (i place : ℕ) (h : AreFollowed g₀ g i (Some place)
   -- there is a reference at the place
   there_now : slice_get g.edges place ≡ Some the_next.edge
   there_now = ap (λ (z : Shown). slice_get z.edges place) h.rest ∙ the_next.there
-
-  pub followed-there : (e : Edge) × (slice_get g.edges place ≡ Some e)
-  followed-there = (the_next.edge, there_now)
-
-  -- within the list
-  pub followed-within : place < length g.edges
-  followed-within = subst (λ n. place < n) (sym (ap (λ (z : Shown). length z.edges) h.rest)) the_next.within
 
   -- that the node has
   its_edge : (e : Edge) → slice_get g.edges place ≡ Some e → the_next.edge ≡ e
@@ -55,15 +44,6 @@ module _ (g₀ g : Shown) (i place : ℕ) (h : AreFollowed g₀ g i (Some place)
             the_next.left ∙ ap (λ (z : Edge). z.target ∷ targets_of i (drop (place + 1) g₀.edges)) same in
             sym (ap (with_all_last ◌==◌ g.blacks) split) ∙ h.left;
       }
-
-  -- fewer places are left
-  pub followed-less : (new : Shown) (next : Option ℕ) → AreFollowed g₀ new i next → next ≡ place_from g₀.edges i (place + 1) →
-      places_left g₀.edges next < places_left g₀.edges (Some place)
-  followed-less new None f at = let within = the_next.within in omega arith
-  followed-less new (Some further) f at =
-      let within = the_next.within in
-      let behind = (place-next g₀.edges i (place + 1) further (sym at)).behind in
-      omega arith
 
 -- at the end
 pub followed-end : (g₀ g : Shown) (i : ℕ) → AreFollowed g₀ g i None → g.blacks ≡ with_all_last ◌==◌ g₀.blacks (targets_of i g₀.edges)

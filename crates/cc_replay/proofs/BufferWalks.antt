@@ -44,12 +44,12 @@ not-first b bs k once e = go (b.number == k) refl
         absurd (omega (arith, once k, buffered-counted bs k e, two))
 
 -- from the first on it is all of it
-pub from-first : (bs : List Buffered) → buffer_from bs (front_number bs) ≡ bs
+from-first : (bs : List Buffered) → buffer_from bs (front_number bs) ≡ bs
 from-first [] = refl
 from-first (b ∷ bs) = ap (λ t. elim t [ true ↦ b ∷ bs | false ↦ buffer_from bs (Some b.number) ]) (eq-eqb b.number b.number refl)
 
 -- the first is there
-pub first-there : (bs : List Buffered) (k : ℕ) → front_number bs ≡ Some k → is_in_buffer bs k ≡ true
+first-there : (bs : List Buffered) (k : ℕ) → front_number bs ≡ Some k → is_in_buffer bs k ≡ true
 first-there [] k e = absurd (cc)
 first-there (b ∷ bs) k e =
     let same : b.number ≡ k = cc in
@@ -82,7 +82,7 @@ abbrev place_of : ℕ → Bool → Buffered
 place_of k purple = record { number = k; purple = purple }
 
 -- a native of the buffer, and from the one behind it on
-pub from-next : (bs : List Buffered) (k : ℕ) → IsOnceEach bs → is_in_buffer bs k ≡ true →
+from-next : (bs : List Buffered) (k : ℕ) → IsOnceEach bs → is_in_buffer bs k ≡ true →
     buffer_from bs (Some k) ≡ place_of k (is_purple_in bs k) ∷ buffer_from bs (number_behind bs k)
 from-next [] k once e = absurd (false≢true e)
 from-next (b ∷ bs) k once e = go (from-next bs k (once-rest b bs once)) (b.number == k) refl e

@@ -1,5 +1,5 @@
 -- What each step of a building keeps.
-use Rattle.std.proofs.Common.{◌≡◌, ℕ, ◌<◌, ◌≤◌, List, [], ◌∷◌, ◌++◌, length, drop, Some, None, option_map, refl, sym, ◌∙◌, ap, subst, ⊎_elim, arith, count_by, length-append}
+use Rattle.std.proofs.Common.{◌≡◌, ℕ, ◌-◌, ◌<◌, ◌≤◌, List, [], ◌∷◌, ◌++◌, length, drop, Some, None, option_map, refl, sym, ◌∙◌, ap, subst, ⊎_elim, arith, count_by, length-append}
 use Rattle.std.proofs.lemmas.List.{drop-append-le}
 use Rattle.cc_lists.specs.Members.{Among}
 use Rattle.cc_lists.proofs.Members.{Among-map, Among-append}
@@ -31,6 +31,23 @@ use Rattle.cc_replay.proofs.Unsampled.{HasNoSample-vertex}
 pub IsBuilt-closed : (b : Built) (v : Keyed) → IsBuilt b v → IsClosed b
 IsBuilt-closed b v built = record { behind = built.behind; first = built.first; closed = built.closed }
 
+-- over the same nodes it is a build still, with other references, candidates and nodes behind, where these are right
+pub IsBuilt-with : (b : Built) (v : Keyed) (edges : List Edge) (spare candidates next : ℕ) → IsBuilt b v → next ≤ length b.graph.nodes → candidates ≤ length b.graph.nodes →
+    ((e : Edge) → Among e edges → (e.source < length b.graph.nodes) × (e.target < length b.graph.nodes)) → ((n : Vertex) → Among n (drop next b.graph.nodes) → n.sampled ≡ None) →
+    IsBuilt (record { graph = record b.graph { edges = edges; spare = spare }; candidates = candidates; next = next }) v
+IsBuilt-with b v edges spare candidates next built behind first closed unsampled =
+    record {
+      distinct = built.distinct;
+      made = built.made;
+      few = built.few;
+      behind = behind;
+      first = first;
+      closed = closed;
+      no_blacks = built.no_blacks;
+      unsampled = unsampled;
+      uncounted = built.uncounted;
+    }
+
 -- how often a name is that of a node
 pub named : (vs : List Vertex) (x : Name) → count_by (λ v. same_name v.name x) vs ≡ count_by (same_name x) (names_of vs)
 named vs x =
@@ -50,7 +67,7 @@ with_vertex-each P vs x held old new = with_vertex-either (λ ws. (n : Vertex) �
 
 -- An object becomes a node
 
-pub IsBuilt-object : (b : Built) (v : Keyed) (x : Name) (held : Held) → IsBuilt b v → WasMade v.heap x → IsBuilt (with_object b x held) v
+IsBuilt-object : (b : Built) (v : Keyed) (x : Name) (held : Held) → IsBuilt b v → WasMade v.heap x → IsBuilt (with_object b x held) v
 IsBuilt-object b v x held built was =
     let vs = b.graph.nodes in
     let ws = with_vertex vs x held in
@@ -80,11 +97,11 @@ IsBuilt-object b v x held built was =
     made : (n : Vertex) → Among n (with_vertex b.graph.nodes x held) → WasMade v.heap n.name
     made = with_vertex-each (λ n. WasMade v.heap n.name) b.graph.nodes x held built.made was
 
-pub AreHeld-object : (b : Built) (v : Keyed) (x : Name) (held : Held) → AreHeld b.graph v → HasKey v x held → AreHeld (with_object b x held).graph v
+AreHeld-object : (b : Built) (v : Keyed) (x : Name) (held : Held) → AreHeld b.graph v → HasKey v x held → AreHeld (with_object b x held).graph v
 AreHeld-object b v x held are has = with_vertex-each (λ n. HasKey v n.name n.held) b.graph.nodes x held are has
 
 -- an object that is there was made, and is where its name says
-pub there-made : (v : Keyed) (object : Held) → IsInOrder [] v → IsThere v (Some object) → WasMade v.heap (the_name v object)
+there-made : (v : Keyed) (object : Held) → IsInOrder [] v → IsThere v (Some object) → WasMade v.heap (the_name v object)
 there-made v (held.Native key) order there =
     let s = stands-at v key order there in
     let m = StandsAt-member v key.0 s in
@@ -97,7 +114,7 @@ there-made v (held.Script key) order there =
     (subst (λ x. Among x (script_names v.heap)) s.name
     (Among-map (λ (o : HeapScript). o.name) (named_object v.scripts s.body) v.heap.scripts (object-among v s.body order (IsObjectAt-member v key.0 s))))
 
-pub there-key : (v : Keyed) (object : Held) → IsInOrder [] v → IsThere v (Some object) → HasKey v (the_name v object) object
+there-key : (v : Keyed) (object : Held) → IsInOrder [] v → IsThere v (Some object) → HasKey v (the_name v object) object
 there-key v (held.Native key) order there =
     let s = stands-at v key order there in
     subst (λ x. HasKey v x (held.Native key)) (sym (native-name v key s)) (refl, λ k e m. s.at ∙ ap Some (ap number_of e))
@@ -128,14 +145,14 @@ pub record IsAdded (b : Built) (x : Name) (held : Held) (g : Shown) : Type 0 whe
 IsAdded-graph : (b : Built) (x : Name) (held : Held) (g : Shown) → IsAdded b x held g → g ≡ (with_object b x held).graph
 IsAdded-graph b x held g added = graph-same g (with_object b x held).graph added.nodes added.edges added.blacks added.spare
 
-pub IsAdded-built : (b c : Built) (v : Keyed) (object : Held) (g : Shown) → b ≡ c → IsBuilt c v → IsInOrder [] v → IsThere v (Some object) → IsAdded b (the_name v object) object g →
+pub IsAdded-built : {b c : Built} {v : Keyed} {object : Held} {g : Shown} → b ≡ c → IsBuilt c v → IsInOrder [] v → IsThere v (Some object) → IsAdded b (the_name v object) object g →
     IsBuilt (record b { graph = g }) v
-IsAdded-built b c v object g same built order there added =
+IsAdded-built {b} {v = v} {object = object} {g = g} same built order there added =
     subst (λ h. IsBuilt (record b { graph = h }) v) (sym (IsAdded-graph b (the_name v object) object g added))
     (IsBuilt-object b v (the_name v object) object (subst (λ a. IsBuilt a v) (sym same) built) (there-made v object order there))
 
-pub IsAdded-held : (b c : Built) (v : Keyed) (object : Held) (g : Shown) → b ≡ c → AreHeld c.graph v → IsInOrder [] v → IsThere v (Some object) → IsAdded b (the_name v object) object g → AreHeld g v
-IsAdded-held b c v object g same are order there added =
+pub IsAdded-held : {b c : Built} (v : Keyed) {object : Held} {g : Shown} → b ≡ c → AreHeld c.graph v → IsInOrder [] v → IsThere v (Some object) → IsAdded b (the_name v object) object g → AreHeld g v
+IsAdded-held {b} v {object = object} {g = g} same are order there added =
     subst (λ h. AreHeld h v) (sym (IsAdded-graph b (the_name v object) object g added))
     (AreHeld-object b v (the_name v object) object (subst (λ (a : Built). AreHeld a.graph v) (sym same) are) (there-key v object order there))
 
@@ -143,21 +160,8 @@ IsAdded-held b c v object g same are order there added =
 
 pub IsBuilt-reference : (b : Built) (v : Keyed) (i j : ℕ) → IsBuilt b v → i < length b.graph.nodes → j < length b.graph.nodes → IsBuilt (with_reference b i j) v
 IsBuilt-reference b v i j built l m =
-    record {
-      distinct = built.distinct;
-      made = built.made;
-      few = built.few;
-      behind = built.behind;
-      first = built.first;
-      closed = closed;
-      no_blacks = built.no_blacks;
-      unsampled = built.unsampled;
-      uncounted = built.uncounted;
-    }
+    IsBuilt-with b v (b.graph.edges ++ record { source = i; target = j } ∷ []) (b.graph.spare - 1) b.candidates b.next built built.behind built.first closed built.unsampled
   where
-    new : Edge
-    new = record { source = i; target = j }
-
     closed : (e : Edge) → Among e (b.graph.edges ++ record { source = i; target = j } ∷ []) → (e.source < length b.graph.nodes) × (e.target < length b.graph.nodes)
     closed e n = ⊎_elim (λ old. built.closed e old)
         (λ r. ⊎_elim (λ (same : record { source = i; target = j } ≡ e). subst (λ (f : Edge). (f.source < length b.graph.nodes) × (f.target < length b.graph.nodes)) same (l, m)) (λ none. absurd none) r)

@@ -16,14 +16,14 @@ use Rattle.cc_heaps.specs.Keyed.{Keyed, counts_of, number_at, the_number}
 use Rattle.cc_replay.specs.Building.{Built, HasKey, AreHeld, name_at}
 
 -- the number that was read
-pub number-read : (v : Keyed) (c : Counts) (key : ℕ) (o : Option NativeNo) (n : NativeNo) → c ≡ counts_of v →
+pub number-read : (v : Keyed) (key : ℕ) {c : Counts} {o : Option NativeNo} {n : NativeNo} → c ≡ counts_of v →
     option_map (λ (m : NativeNo). m.0) o ≡ counts.number_at c key → o ≡ Some n → number_at v key ≡ Some n.0
-number-read v c key o n same read found = sym (ap (λ d. counts.number_at d key) same) ∙ sym read ∙ ap (option_map (λ (m : NativeNo). m.0)) found
+number-read v key same read found = sym (ap (λ d. counts.number_at d key) same) ∙ sym read ∙ ap (option_map (λ (m : NativeNo). m.0)) found
 
 -- none was read
-pub number-none : (v : Keyed) (c : Counts) (key : ℕ) (o : Option NativeNo) → c ≡ counts_of v →
+pub number-none : (v : Keyed) (key : ℕ) {c : Counts} {o : Option NativeNo} → c ≡ counts_of v →
     option_map (λ (m : NativeNo). m.0) o ≡ counts.number_at c key → o ≡ None → number_at v key ≡ None
-number-none v c key o same read found = sym (ap (λ d. counts.number_at d key) same) ∙ sym read ∙ ap (option_map (λ (m : NativeNo). m.0)) found
+number-none v key same read found = sym (ap (λ d. counts.number_at d key) same) ∙ sym read ∙ ap (option_map (λ (m : NativeNo). m.0)) found
 
 -- a key at which a native stands has its number
 pub number-there : (v : Keyed) (key : ℕ) → IsSome (number_at v key) → number_at v key ≡ Some (the_number v key)
@@ -40,7 +40,7 @@ pub record IsNodeAt (vs : List Vertex) (i : ℕ) (x : Name) (y : Held) : Type 0 
   pub name : node.name ≡ x
   pub held : node.held ≡ y
 
-pub node-read : (vs : List Vertex) (i : ℕ) (x : Name) (y : Held) → option_map (λ (v : Vertex). v.name) (slice_get vs i) ≡ Some x →
+node-read : (vs : List Vertex) (i : ℕ) (x : Name) (y : Held) → option_map (λ (v : Vertex). v.name) (slice_get vs i) ≡ Some x →
     option_map (λ (v : Vertex). v.held) (slice_get vs i) ≡ Some y → IsNodeAt vs i x y
 node-read vs i x y = go (slice_get vs i) refl
   where
@@ -48,10 +48,10 @@ node-read vs i x y = go (slice_get vs i) refl
     go None e a b = absurd (cc)
     go (Some v) e a b = record { node = v; at = e; name = cc; held = cc }
 
--- the same of a list that is the same
-pub node-read_in : (us vs : List Vertex) (i : ℕ) (x : Name) (y : Held) → us ≡ vs → option_map (λ (v : Vertex). v.name) (slice_get us i) ≡ Some x →
-    option_map (λ (v : Vertex). v.held) (slice_get us i) ≡ Some y → IsNodeAt vs i x y
-node-read_in us vs i x y same a b = subst (λ ws. IsNodeAt ws i x y) same (node-read us i x y a b)
+-- the same of a build that is the same
+pub node-read_in : {a b : Built} → a ≡ b → (i : ℕ) {x : Name} {y : Held} → option_map (λ (v : Vertex). v.name) (slice_get a.graph.nodes i) ≡ Some x →
+    option_map (λ (v : Vertex). v.held) (slice_get a.graph.nodes i) ≡ Some y → IsNodeAt b.graph.nodes i x y
+node-read_in {a} {b} same i {x} {y} name held = subst (λ (c : Built). IsNodeAt c.graph.nodes i x y) same (node-read a.graph.nodes i x y name held)
 
 -- what is at a place stands in the list
 pub slice_get-among : {X : Type 0} (xs : List X) (i : ℕ) (x : X) → slice_get xs i ≡ Some x → Among x xs
@@ -59,11 +59,11 @@ slice_get-among [] i x e = absurd (cc)
 slice_get-among (y ∷ ys) zero x e = inl (cc)
 slice_get-among (y ∷ ys) (suc i) x e = inr (slice_get-among ys i x e)
 
-pub IsNodeAt-among : (vs : List Vertex) (i : ℕ) (x : Name) (y : Held) (n : IsNodeAt vs i x y) → Among n.node vs
-IsNodeAt-among vs i x y n = slice_get-among vs i n.node n.at
+IsNodeAt-among : {vs : List Vertex} {i : ℕ} {x : Name} {y : Held} (n : IsNodeAt vs i x y) → Among n.node vs
+IsNodeAt-among {vs} {i} n = slice_get-among vs i n.node n.at
 
-pub IsNodeAt-name : (vs : List Vertex) (i : ℕ) (x : Name) (y : Held) → IsNodeAt vs i x y → name_at vs i ≡ x
-IsNodeAt-name vs i x y n =
+pub IsNodeAt-name : {vs : List Vertex} {i : ℕ} {x : Name} {y : Held} → IsNodeAt vs i x y → name_at vs i ≡ x
+IsNodeAt-name {vs} {i} {x} n =
     get_or_from_slice_get (map_names vs) i x (native 0)
     (slice_get-map (λ (v : Vertex). v.name) vs i ∙ ap (option_map (λ (v : Vertex). v.name)) n.at ∙ ap Some n.name)
   where
@@ -71,25 +71,17 @@ IsNodeAt-name vs i x y n =
     map_names ws = map (λ (v : Vertex). v.name) ws
 
 -- the native of a node stands at its key
-pub native-there : (v : Keyed) (vs : List Vertex) (i k : ℕ) (y : Held) (key : NKey) → IsNodeAt vs i (native k) y → number_at v key.0 ≡ Some k →
-    option_map native (number_at v key.0) ≡ Some (name_at vs i)
-native-there v vs i k y key n at = ap (option_map native) at ∙ ap Some (sym (IsNodeAt-name vs i (native k) y n))
-
--- it is no more
-pub native-gone : (b : Built) (v : Keyed) (i k : ℕ) (y : Held) (key : NKey) → AreHeld b.graph v → IsNodeAt b.graph.nodes i (native k) y → y ≡ held.Native key →
-    number_at v key.0 ≢ Some k → ¬ (Among (name_at b.graph.nodes i) (native_names v.heap))
-native-gone b v i k y key are n same other m =
-    let vs = b.graph.nodes in
-    let has : HasKey v n.node.name (held.Native key) = subst (λ z. HasKey v n.node.name z) (n.held ∙ same) (are n.node (IsNodeAt-among vs i (native k) y n)) in
-    other (has.1 k n.name (subst (λ z. Among z (native_names v.heap)) (IsNodeAt-name vs i (native k) y n) m))
+pub native-there : {vs : List Vertex} {i k : ℕ} {y : Held} {o : Option ℕ} → IsNodeAt vs i (native k) y → o ≡ Some k → option_map native o ≡ Some (name_at vs i)
+native-there n at = ap (option_map native) at ∙ ap Some (sym (IsNodeAt-name n))
 
 -- a node has its object's key
-pub node-key : (b : Built) (v : Keyed) (i : ℕ) (x : Name) (y z : Held) → AreHeld b.graph v → IsNodeAt b.graph.nodes i x y → y ≡ z → HasKey v (name_at b.graph.nodes i) z
-node-key b v i x y z are n same =
-    subst (λ w. HasKey v w z) (n.name ∙ sym (IsNodeAt-name b.graph.nodes i x y n))
-    (subst (λ w. HasKey v n.node.name w) (n.held ∙ same) (are n.node (IsNodeAt-among b.graph.nodes i x y n)))
+pub node-key : (b : Built) (v : Keyed) {i : ℕ} {x : Name} {y z : Held} → AreHeld b.graph v → IsNodeAt b.graph.nodes i x y → y ≡ z → HasKey v (name_at b.graph.nodes i) z
+node-key b v {z = z} are n same =
+    subst (λ w. HasKey v w z) (n.name ∙ sym (IsNodeAt-name n)) (subst (λ w. HasKey v n.node.name w) (n.held ∙ same) (are n.node (IsNodeAt-among n)))
 
--- the same of a node that was read of nodes that are the same
-pub node-key_read : (b : Built) (v : Keyed) (us : List Vertex) (i : ℕ) (x : Name) (y z : Held) → AreHeld b.graph v → us ≡ b.graph.nodes →
-    option_map (λ (w : Vertex). w.name) (slice_get us i) ≡ Some x → option_map (λ (w : Vertex). w.held) (slice_get us i) ≡ Some y → y ≡ z → HasKey v (name_at b.graph.nodes i) z
-node-key_read b v us i x y z are same name_is held_is = node-key b v i x y z are (node-read_in us b.graph.nodes i x y same name_is held_is)
+-- the native is no more
+pub native-gone : (b : Built) (v : Keyed) {i k : ℕ} {y : Held} {key : NKey} → AreHeld b.graph v → IsNodeAt b.graph.nodes i (native k) y → y ≡ held.Native key →
+    number_at v key.0 ≢ Some k → ¬ (Among (name_at b.graph.nodes i) (native_names v.heap))
+native-gone b v {k = k} are n same other m =
+    let named = IsNodeAt-name n in
+    other ((node-key b v are n same).1 k named (subst (λ z. Among z (native_names v.heap)) named m))

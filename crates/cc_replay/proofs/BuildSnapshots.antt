@@ -29,7 +29,7 @@ pub record IsClosed (b : Built) : Type 0 where
   pub closed : (e : Edge) → Among e b.graph.edges → (e.source < length b.graph.nodes) × (e.target < length b.graph.nodes)
 
 -- an object becomes a node
-pub snapshot-with_object : (b : Built) (x : Name) (held : Held) → IsClosed b →
+snapshot-with_object : (b : Built) (x : Name) (held : Held) → IsClosed b →
     snapshot_of (with_object b x held) ≡ record (snapshot_of b) { nodes = with_node (snapshot_of b).nodes x }
 snapshot-with_object b x held c =
     let vs = b.graph.nodes in
@@ -45,7 +45,7 @@ snapshot-with_object b x held c =
     (λ _. refl) (λ _. references-append vs (vertex x held ∷ []) b.graph.edges c.closed))
 
 -- a reference is noted
-pub snapshot-with_reference : (b : Built) (i j : ℕ) →
+snapshot-with_reference : (b : Built) (i j : ℕ) →
     snapshot_of (with_reference b i j) ≡ record (snapshot_of b) { references = (snapshot_of b).references ++ (name_at b.graph.nodes i, name_at b.graph.nodes j) ∷ [] }
 snapshot-with_reference b i j =
     let e : Edge = record { source = i; target = j } in
@@ -82,10 +82,10 @@ snapshot-passed b v at e f =
 -- An object becomes a node, and a reference to it is noted
 
 -- a node keeps its name
-pub name_at-with_vertex : (vs : List Vertex) (x : Name) (held : Held) (i : ℕ) → i < length vs → name_at (with_vertex vs x held) i ≡ name_at vs i
+name_at-with_vertex : (vs : List Vertex) (x : Name) (held : Held) (i : ℕ) → i < length vs → name_at (with_vertex vs x held) i ≡ name_at vs i
 name_at-with_vertex vs x held i l = with_vertex-either (λ ws. name_at ws i ≡ name_at vs i) vs x held (λ _. refl) (λ _. name_at-append vs (vertex x held ∷ []) i l)
 
-abbrev pub referred : Snapshot → Name → Name → Snapshot
+abbrev referred : Snapshot → Name → Name → Snapshot
 referred s x y = record s { references = s.references ++ (x, y) ∷ [] }
 
 pub snapshot-noted : (b c : Built) (x : Name) (held : Held) (i j : ℕ) → c ≡ with_object b x held → IsClosed b → i < length b.graph.nodes →

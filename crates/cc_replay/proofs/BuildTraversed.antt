@@ -14,7 +14,7 @@ use Rattle.cc_replay.specs.BuildSteps.{noting, sampled_at, with_next_passed, wit
 use Rattle.cc_replay.proofs.BuildStates.{IsSampleOf, names-passed}
 use Rattle.cc_replay.proofs.BuildSnapshots.{first-names}
 use Rattle.cc_replay.proofs.BuildReads.{slice_get-among}
-use Rattle.cc_replay.proofs.BuildKept.{named}
+use Rattle.cc_replay.proofs.BuildKept.{IsBuilt-with, named}
 use Rattle.cc_replay.proofs.Unsampled.{HasNoSample-passed}
 
 -- what holds of each node as it is and changed holds of each once one is changed
@@ -68,7 +68,7 @@ passed-drop vs i None = refl
 passed-drop vs i (Some c) = change_vertex-drop vs i (with_sample c)
 
 -- a node keeps its name
-pub name_at-passed : (vs : List Vertex) (i : ℕ) (count : Option ℕ) (j : ℕ) → name_at (sampled_at vs i count) j ≡ name_at vs j
+name_at-passed : (vs : List Vertex) (i : ℕ) (count : Option ℕ) (j : ℕ) → name_at (sampled_at vs i count) j ≡ name_at vs j
 name_at-passed vs i count j = ap (λ xs. slice_index_or xs j (native 0)) (names-passed vs i count)
 
 sampled-native : (count : Option ℕ) (x : Name) → IsSampleOf count x → IsSome count → is_native x ≡ true
@@ -98,31 +98,10 @@ AreHeld-traversed b v count are = passed-each (λ n. HasKey v n.name n.held) b.g
 
 pub IsBuilt-passed : (b : Built) (v : Keyed) → IsBuilt b v → b.next < length b.graph.nodes → IsBuilt (record b { next = b.next + 1 }) v
 IsBuilt-passed b v built l =
-    record {
-      distinct = built.distinct;
-      made = built.made;
-      few = built.few;
-      behind = omega arith;
-      first = built.first;
-      closed = built.closed;
-      no_blacks = built.no_blacks;
-      unsampled = unsampled-more b v built;
-      uncounted = built.uncounted;
-    }
+    IsBuilt-with b v b.graph.edges b.graph.spare b.candidates (b.next + 1) built (omega arith) built.first built.closed (unsampled-more b v built)
 
-pub IsBuilt-room : (b : Built) (v : Keyed) (spare : ℕ) → IsBuilt b v → IsBuilt (with_room spare b) v
-IsBuilt-room b v spare built =
-    record {
-      distinct = built.distinct;
-      made = built.made;
-      few = built.few;
-      behind = built.behind;
-      first = built.first;
-      closed = built.closed;
-      no_blacks = built.no_blacks;
-      unsampled = built.unsampled;
-      uncounted = built.uncounted;
-    }
+IsBuilt-room : (b : Built) (v : Keyed) (spare : ℕ) → IsBuilt b v → IsBuilt (with_room spare b) v
+IsBuilt-room b v spare built = IsBuilt-with b v b.graph.edges spare b.candidates b.next built built.behind built.first built.closed built.unsampled
 
 -- Room taken, and the next node traversed
 

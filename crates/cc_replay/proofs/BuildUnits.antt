@@ -53,7 +53,7 @@ may_be-refused b v object order l there named some =
 -- The next node passed over
 
 -- there is one
-pub slice_get-some : {X : Type 0} (xs : List X) (i : ℕ) → i < length xs → (x : X) × (slice_get xs i ≡ Some x)
+slice_get-some : {X : Type 0} (xs : List X) (i : ℕ) → i < length xs → (x : X) × (slice_get xs i ≡ Some x)
 slice_get-some [] i l = absurd (omega arith)
 slice_get-some (x ∷ xs) zero l = (x, refl)
 slice_get-some (x ∷ xs) (suc i) l = slice_get-some xs i (omega arith)
@@ -75,7 +75,7 @@ gone-unit b v built are order l gone =
     let vs = b.graph.nodes in
     let w = slice_get-some vs b.next l in
     let x = name_at vs b.next in
-    let named : x ≡ w.0.name = IsNodeAt-name vs b.next w.0.name w.0.held (record { node = w.0; at = w.1; name = refl; held = refl }) in
+    let named : x ≡ w.0.name = IsNodeAt-name {vs = vs} {i = b.next} {x = w.0.name} {y = w.0.held} (record { node = w.0; at = w.1; name = refl; held = refl }) in
     let kind = gone-native v w.0.name w.0.held order (are w.0 (slice_get-among vs b.next w.0 w.1)) (ap (to_note v.heap) (sym named) ∙ gone) in
     record {
       node = x;

@@ -7,23 +7,6 @@ use Rattle.cc_replay.specs.declared.status.Status.{Status}
 use Rattle.cc_replay.specs.declared.status.Status.TheVariants.{Done, Usage, ReadFault, WriteFault, Limit, NoMemory}
 use Rattle.cc_replay.specs.Transcripts.{Ends, IsDone, ReadsAll, StopsAtFault, StopsAtLimit, StopsAtWrite}
 
--- a count that rose is that of the status that says so
-pub fault-answered : (s : Status) (old now : ℕ) → (s ≢ ReadFault → now ≡ old) → old < now → s ≡ ReadFault
-fault-answered ReadFault old now calm rose = refl
-fault-answered Done old now calm rose = absurd (omega (arith, calm (λ e. cc)))
-fault-answered Usage old now calm rose = absurd (omega (arith, calm (λ e. cc)))
-fault-answered WriteFault old now calm rose = absurd (omega (arith, calm (λ e. cc)))
-fault-answered Limit old now calm rose = absurd (omega (arith, calm (λ e. cc)))
-fault-answered NoMemory old now calm rose = absurd (omega (arith, calm (λ e. cc)))
-
-pub write-answered : (s : Status) (old now : ℕ) → (s ≢ WriteFault → now ≡ old) → old < now → s ≡ WriteFault
-write-answered WriteFault old now calm rose = refl
-write-answered Done old now calm rose = absurd (omega (arith, calm (λ e. cc)))
-write-answered Usage old now calm rose = absurd (omega (arith, calm (λ e. cc)))
-write-answered ReadFault old now calm rose = absurd (omega (arith, calm (λ e. cc)))
-write-answered Limit old now calm rose = absurd (omega (arith, calm (λ e. cc)))
-write-answered NoMemory old now calm rose = absurd (omega (arith, calm (λ e. cc)))
-
 -- the reads that are answered are at most as many as the limit on bytes, and one
 pub reads-within : (s : Status) (limits : Allowance) (e : Ends) → (s ≡ Done → IsDone limits e) → (s ≡ ReadFault → StopsAtFault limits e) →
     (s ≡ Limit → StopsAtLimit limits e) → (s ≡ WriteFault → StopsAtWrite limits e) → (s ≢ Usage) → (s ≢ NoMemory) →

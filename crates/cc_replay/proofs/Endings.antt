@@ -1,7 +1,6 @@
 -- HOW A RUN ENDS: from lines that were given and answered to what is written for the bytes taken.
 use Rattle.std.proofs.Common.{◌≡◌, ℕ, Bool, false, true, List, [], length, map, take, Option, refl, sym, ap, ◌∙◌, subst, ◌⊎◌, inl, inr, arith}
 use Rattle.cc_names.specs.Allowance.{Allowance}
-use Rattle.cc_model.specs.Telling.{Telling}
 use Rattle.cc_model.specs.Answers.{text_of_answers}
 use Rattle.cc_model.specs.Asks.{ask_of}
 use Rattle.cc_model.specs.Heap.{Heap, empty_heap}
@@ -15,15 +14,6 @@ use Rattle.cc_reader.proofs.Given.{HasGiven-none, HasRead-none}
 use Rattle.cc_replay.specs.Answering.{Answers, AreAnswered, Moment}
 use Rattle.cc_replay.specs.Transcripts.{Ends, Writes, ends, IsDone, ReadsAll, StopsAtFault, StopsAtLimit, StopsAtWrite}
 use Rattle.cc_replay.proofs.Answers.{AreAnswered-transcript}
-
--- the text of a transcript of lines that are answered is written
-writes : (limits : Allowance) (h : Heap) (lines : List (List ℕ)) (t₀ t₁ : Telling) → AreAnswered (empty_heap limits) h lines t₀ t₁ → t₁.broken ≡ false →
-    Writes limits (map (ask_of forms_now) lines) t₀.told t₁.told
-writes limits h lines t₀ t₁ a whole = record {
-  text = text_of_answers a.answers;
-  transcript = AreAnswered-transcript limits h lines t₀ t₁ a;
-  written = (a.told.whole whole).grown;
-}
 
 -- a run from a reader that begins, over empty heaps
 module _ (limits : Allowance) (m₀ m₁ : Moment) (r₀ r₁ : Reads) (begins : m₀.window ≡ nothing_read limits.bytes) (empty : m₀.heap ≡ empty_heap limits)
@@ -44,61 +34,71 @@ module _ (limits : Allowance) (m₀ m₁ : Moment) (r₀ r₁ : Reads) (begins :
   read_to_end : (given : List ℕ) → length given ≡ m₁.window.taken → m₁.window.ended ≡ true → ReadsToEnd r₀ r₁ (length given)
   read_to_end given counted ended = subst (ReadsToEnd r₀ r₁) (sym counted) (read.at_end ended)
 
+  -- the text of a transcript of these lines is written
+  abbrev AreWritten : List (List ℕ) → Type 0
+  AreWritten lines = Writes limits (map (ask_of forms_now) lines) m₀.telling.told m₁.telling.told
+
   -- the lines that were given, answered from the empty heaps on
-  module _ (IsGiven : Option (List ℕ) → Option (List ℕ) → Pending → List (List ℕ) → Type 0) where
-    answered : Answers IsGiven m₀ m₁ →
-        (given : List (List ℕ)) × IsGiven m₀.left m₁.left m₁.window given × AreAnswered (empty_heap limits) m₁.heap given m₀.telling m₁.telling
-    answered a =
+  module _ {IsGiven : Option (List ℕ) → Option (List ℕ) → Pending → List (List ℕ) → Type 0} (a : Answers IsGiven m₀ m₁) where
+    answered : (given : List (List ℕ)) × IsGiven m₀.left m₁.left m₁.window given × AreAnswered (empty_heap limits) m₁.heap given m₀.telling m₁.telling
+    answered =
         let l = a.lines m₀.left (subst (λ (p : Pending). HasGiven m₀.left m₀.left p []) (sym begins) (HasGiven-none m₀.left limits.bytes)) in
         (l.0, l.1, subst (λ (h : Heap). AreAnswered h m₁.heap l.0 m₀.telling m₁.telling) empty l.2)
 
-  -- what is written for lines that are those of these bytes
-  written_for : (given lines : List (List ℕ)) → given ≡ lines → AreAnswered (empty_heap limits) m₁.heap given m₀.telling m₁.telling → m₁.telling.broken ≡ false →
-      Writes limits (map (ask_of forms_now) lines) m₀.telling.told m₁.telling.told
-  written_for given lines same a whole = subst (λ (ls : List (List ℕ)). Writes limits (map (ask_of forms_now) ls) m₀.telling.told m₁.telling.told) same
-      (writes limits m₁.heap given m₀.telling m₁.telling a whole)
+    -- and what is written for them, where no write failed
+    written : m₁.telling.broken ≡ false → (given : List (List ℕ)) × IsGiven m₀.left m₁.left m₁.window given × AreWritten given
+    written whole =
+        let l = answered in (
+          l.0,
+          l.1,
+          record {
+            text = text_of_answers l.2.answers;
+            transcript = AreAnswered-transcript limits m₁.heap l.0 m₀.telling m₁.telling l.2;
+            written = (l.2.told.whole whole).grown;
+          },
+        )
 
   -- the source is at its end
   pub whole-done : Answers IsWhole m₀ m₁ → m₁.telling.broken ≡ false → IsDone limits e
   whole-done a whole =
-      let l = answered IsWhole a in
+      let l = written a whole in
       record {
         given = l.1.given;
         consumed = l.1.consumed;
         at_end = l.1.at_end;
         within = omega (arith, l.1.within, bytes);
         reads = read_to_end l.1.given l.1.counted l.1.ended;
-        writes = written_for l.0 (lines_of l.1.given) l.1.lines_are l.2 whole;
+        writes = subst AreWritten l.1.lines_are l.2;
       }
 
   -- a read failed
   pub broken-stops : Answers IsBroken m₀ m₁ → m₁.telling.broken ≡ false → StopsAtFault limits e
   broken-stops a whole =
-      let l = answered IsBroken a in
+      let l = written a whole in
       record {
         given = l.1.given;
         consumed = l.1.consumed;
         within = omega (arith, l.1.within, bytes);
         reads = read_bytes l.1.given l.1.counted l.1.going;
-        writes = written_for l.0 (ended_lines_of l.1.given) l.1.lines_are l.2 whole;
+        writes = subst AreWritten l.1.lines_are l.2;
       }
 
   -- the limit was passed
   pub over-stops : Answers IsOver m₀ m₁ → m₁.telling.broken ≡ false → StopsAtLimit limits e
   over-stops a whole =
-      let l = answered IsOver a in
+      let l = written a whole in
       record {
         given = l.1.given;
         consumed = l.1.consumed;
         above = omega (arith, l.1.above, bytes);
         reads = read_bytes l.1.given l.1.counted l.1.going;
-        writes = written_for l.0 (ended_lines_of (take limits.bytes l.1.given)) (l.1.lines_are ∙ ap (λ n. ended_lines_of (take n l.1.given)) bytes) l.2 whole;
+        writes = subst AreWritten (l.1.lines_are ∙ ap (λ n. ended_lines_of (take n l.1.given)) bytes) l.2;
       }
 
   -- a write failed
   pub first-stops : Answers AreFirst m₀ m₁ → m₀.telling.broken ≡ false → m₁.telling.broken ≡ true → StopsAtWrite limits e
   first-stops a unbroken broken =
-      let l = answered AreFirst a in
+      let l = answered a in
       record {
         given = l.1.given;
         consumed = l.1.consumed;

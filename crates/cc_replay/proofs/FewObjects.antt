@@ -58,7 +58,7 @@ distinct-few {X} named xs ys distinct among =
 
 -- Script objects have numbers that were given to script objects, each its own
 
-pub scripts-few : (v : Keyed) → IsInOrder [] v → length v.heap.scripts ≤ 1000000
+scripts-few : (v : Keyed) → IsInOrder [] v → length v.heap.scripts ≤ 1000000
 scripts-few v order =
     let well = order.sound.well_formed in
     let few = distinct-few (λ (o : HeapScript). o.name) v.heap.scripts (map object (numbers_to v.heap.scripts_made)) (once-named v.heap well) numbered in

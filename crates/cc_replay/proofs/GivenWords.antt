@@ -12,7 +12,7 @@ use Rattle.std.proofs.lemmas.Int.{ints}
 use Rattle.std.proofs.Common.{◌==◌, unwrap_or}
 use Rattle.clap.specs.Facts.{explicit_source}
 use Rattle.clap.specs.Lexer.{without_minus}
-use Rattle.clap.specs.Words.{found_of, one_text, rows_of, subcommand_name_of, subcommand_rows_of}
+use Rattle.clap.specs.Words.{found_of, one_text, rows_of, subcommand_rows_of}
 use Rattle.clap.specs.declared.parser.matches.ArgMatches.{ArgMatches}
 use Rattle.clap.specs.Values.{IsSignedIn}
 use Rattle.clap.specs.Walk.{Row, Rule, Text, answers_to, nothing_held, one_of, rows_after}
@@ -30,7 +30,7 @@ use Rattle.cc_replay.specs.Words.{IsTaken, app, bytes_option, natives_option, nu
 use Rattle.cc_replay.proofs.FaultFree.{is_sound_level, takes-no_fault}
 use Rattle.cc_replay.proofs.OptionRows.{AreOptions, HasText, IsOption, has_default, level_text}
 
-pub app_is_simple : is_simple app ≡ true
+app_is_simple : is_simple app ≡ true
 unfolding clap_on_literals
 app_is_simple = refl
 
@@ -185,6 +185,10 @@ up_to most t h = subst (IsUpTo most) (sym (minus_off t)) (go (starts_with_minus 
 abbrev pub HasNumber : Text → ℕ → List Text → Type 0
 HasNumber option most words = (n : ℕ) × IsNumber (text_for option words) n × (n ≤ most)
 
+-- all words that are taken give it one
+abbrev pub GivesNumber : Text → ℕ → Type 0
+GivesNumber option most = (words : List Text) → IsTaken words → HasNumber option most words
+
 number_in : (id : Text) (most : ℕ) (words rest : List Text) → subcommand_of app words ≡ Some (rows_at built_replay rest)
     → HasText id (reader most) (rows_after built_replay.rules [] rest) → HasNumber id most words
 number_in id most words rest is t =
@@ -199,23 +203,19 @@ number_in id most words rest is t =
       range.1,
     )
 
-number_of : (id : Text) (most : ℕ) (words : List Text) → AreOptions id (reader most) built_replay.rules → has_default id (reader most) built_replay.rules ≡ true
-    → IsTaken words → HasNumber id most words
-number_of id most words are default taken =
+number_of : (id : Text) (most : ℕ) → AreOptions id (reader most) built_replay.rules → has_default id (reader most) built_replay.rules ≡ true → GivesNumber id most
+number_of id most are default words taken =
     let enters = replay_entered words taken in
     number_in id most words enters.0 enters.1 (level_text id (reader most) built_replay enters.0 are default enters.2)
 
-pub natives_number : (words : List Text) → IsTaken words → HasNumber (codes "natives") 1000000 words
-natives_number words taken =
-    number_of (codes "natives") 1000000 words (options_are _ _ (λ e. refl) (λ e. refl) (λ e. cc)) refl taken
+pub natives_number : GivesNumber (codes "natives") 1000000
+natives_number = number_of (codes "natives") 1000000 (options_are _ _ (λ e. refl) (λ e. refl) (λ e. cc)) refl
 
-pub scripts_number : (words : List Text) → IsTaken words → HasNumber (codes "scripts") 1000000 words
-scripts_number words taken =
-    number_of (codes "scripts") 1000000 words (options_are _ _ (λ e. refl) (λ e. refl) (λ e. cc)) refl taken
+pub scripts_number : GivesNumber (codes "scripts") 1000000
+scripts_number = number_of (codes "scripts") 1000000 (options_are _ _ (λ e. refl) (λ e. refl) (λ e. cc)) refl
 
-pub bytes_number : (words : List Text) → IsTaken words → HasNumber (codes "bytes") 4294967295 words
-bytes_number words taken =
-    number_of (codes "bytes") 4294967295 words (options_are _ _ (λ e. cc) (λ e. cc) (λ e. refl)) refl taken
+pub bytes_number : GivesNumber (codes "bytes") 4294967295
+bytes_number = number_of (codes "bytes") 4294967295 (options_are _ _ (λ e. cc) (λ e. cc) (λ e. refl)) refl
 
 -- ---- what the getters read of the matches
 
@@ -234,7 +234,7 @@ same_number given n m a b =
     let text : a.text ≡ b.text = cc in
     a.value ∙ ap (λ t. digits_value 10 (without_leading_plus t)) text ∙ sym b.value
 
-module _ (words : List Text) (m : ArgMatches) (sub : Option (Bor ArgMatches)) (replay : Bor ArgMatches) (rows : subcommand_rows_of m ≡ subcommand_of app words)
+module _ (words : List Text) (m : ArgMatches) {sub : Option (Bor ArgMatches)} {replay : Bor ArgMatches} (rows : subcommand_rows_of m ≡ subcommand_of app words)
     (found : IfSome sub (λ r. option_map (λ p. p.1) (subcommand_rows_of m) ≡ Some (rows_of (found_of r.now)))) (is : sub ≡ Some replay) where
   -- what a getter reads for the option is the text for it
   text_read : (option : Text) → text_for option words ≡ one_text (found_of replay.now) option
@@ -244,26 +244,19 @@ module _ (words : List Text) (m : ArgMatches) (sub : Option (Bor ArgMatches)) (r
       ∙ sym (one_text-rows (found_of replay.now) option)
 
   -- there is a number for it, of 32 bits
-  pub number_there : (option : Text) (most : ℕ) → most ≤ 4294967295 → HasNumber option most words
+  pub number_there : (option : Text) (most : ℕ) → most ≤ 4294967295 → GivesNumber option most → IsTaken words
       → (n : ℕ) × IsNumber (one_text (found_of replay.now) option) n × (n ≤ 4294967295)
-  number_there option most room h = (h.0, subst (λ given. IsNumber given h.0) (text_read option) h.1, omega (arith, h.2))
+  number_there option most room gives taken =
+      let h = gives words taken in
+      (h.0, subst (λ given. IsNumber given h.0) (text_read option) h.1, omega (arith, h.2))
 
   -- the number that was read is the one that the words give
-  pub number_given : (option : Text) (n : ℕ) → IsNumber (one_text (found_of replay.now) option) n → IsNumber (text_for option words) n
-  number_given option n read = subst (λ given. IsNumber given n) (sym (text_read option)) read
+  pub number_given : (option : Text) {n limit : ℕ} → limit ≡ n → IsNumber (one_text (found_of replay.now) option) n → IsNumber (text_for option words) limit
+  number_given option {n} same read = rw same (subst (λ given. IsNumber given n) (sym (text_read option)) read)
 
   -- and is in the option's range
-  pub number_within : (option : Text) (most n : ℕ) → HasNumber option most words → IsNumber (one_text (found_of replay.now) option) n → n ≤ most
-  number_within option most n h read =
-      let same : n ≡ h.0 = same_number (text_for option words) n h.0 (number_given option n read) h.1 in
+  pub number_within : (option : Text) (most : ℕ) {n : ℕ} → GivesNumber option most → IsTaken words → IsNumber (one_text (found_of replay.now) option) n → n ≤ most
+  number_within option most {n} gives taken read =
+      let h = gives words taken in
+      let same : n ≡ h.0 = same_number (text_for option words) n h.0 (number_given option refl read) h.1 in
       rw same h.2
-
-first_parts : {X Y Z : Type 0} (g : X → Y × Z) (o : Option X) → option_map (λ x. (g x).0) o ≡ option_map (λ p. p.0) (option_map g o)
-first_parts g None = refl
-first_parts g (Some x) = refl
-
--- the subcommand that the parse met is `replay`
-pub met_replay : (words : List Text) (m : ArgMatches) → subcommand_rows_of m ≡ subcommand_of app words → IsTaken words → subcommand_name_of m ≡ Some (codes "replay")
-met_replay words m rows is =
-    let name : subcommand_name_of m ≡ option_map (λ p. p.0) (subcommand_rows_of m) = first_parts _ _ in
-    name ∙ ap (option_map (λ p. p.0)) (rows ∙ (replay_entered words is).1)

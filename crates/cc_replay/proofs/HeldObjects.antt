@@ -144,7 +144,7 @@ pub object-keys : (v : Keyed) (key : ℕ) (s : IsObjectAt v key) → objects.slo
 object-keys v key s = ap objects.slots_or_none s.at
 
 -- its colour is that of its name
-pub gray-named : (h : Heap) (o : HeapScript) → IsWellFormed h → Among o h.scripts → is_gray_in h o.name ≡ is_gray_colour o.colour
+gray-named : (h : Heap) (o : HeapScript) → IsWellFormed h → Among o h.scripts → is_gray_in h o.name ≡ is_gray_colour o.colour
 gray-named h o well m = by_colour (is_gray_colour o.colour) refl
   where
     gray : HeapScript → Bool

@@ -42,4 +42,3 @@ pub mod Unrooting
 pub mod Unsampled
 pub mod WhiteEnd
 pub mod Whiteness
-pub mod Remembering

@@ -56,7 +56,7 @@ passing-numbers p start (w ∷ vs) (suc place) v i there e passes =
     go m false = m
 
 -- a node that passes has a place in the list
-pub numbers-within : (p : ℕ → Vertex → Bool) (vs : List Vertex) (i : ℕ) → Among i (numbers_where p 0 vs) → i < length vs
+numbers-within : (p : ℕ → Vertex → Bool) (vs : List Vertex) (i : ℕ) → Among i (numbers_where p 0 vs) → i < length vs
 numbers-within p vs i m =
     let k = numbers-passing p 0 vs i m in
     let within : k.place < length vs = slice_get_within vs k.place k.node k.there in
@@ -89,13 +89,6 @@ test-numbered p g i e = go (slice_get g.nodes i) refl e
     go : (o : Option Vertex) → slice_get g.nodes i ≡ o → option_map (λ v. p i v) o ≡ Some true → Among i (numbers_where p 0 g.nodes)
     go None f h = absurd (cc)
     go (Some v) f h = let passes : p i v ≡ true = cc in passing-numbers p 0 g.nodes i v i f (omega arith) passes
-
--- at the start
-pub marked-start : (p : ℕ → Vertex → Bool) (g : Shown) → AreMarked p g g 0
-marked-start p g = record {
-  rest = refl;
-  marked = λ j. (λ e. inl e, λ s. ⊎_elim (λ e. e) (λ t. let none : j < 0 = t.0 in absurd (omega arith)) s);
-}
 
 -- after a node that passes
 pub marked-black : (p : ℕ → Vertex → Bool) (g₀ g new : Shown) (i : ℕ) → AreMarked p g₀ g i → test_at p g₀ i ≡ Some true → new ≡ blackened g i →

@@ -101,7 +101,7 @@ sample-kind v (held.Script key) order there = let s = object-at v key order ther
 -- Nothing is there to be noted where a native is no more
 
 -- a native's name has its number
-pub native-named : (x : Name) → is_native x ≡ true → (k : ℕ) × (x ≡ native k)
+native-named : (x : Name) → is_native x ≡ true → (k : ℕ) × (x ≡ native k)
 native-named (name.Native k) e = (k.0, refl)
 native-named (name.Script k) e = absurd (cc)
 native-named (name.Reflector k) e = absurd (cc)

@@ -1,5 +1,5 @@
--- A PASS OVER THE WHITE NATIVES by rising number: those that are left of it, and that a step of the pass leaves them.
-use Rattle.std.proofs.Common.{◌≡◌, ℕ, Bool, true, false, not, ◌==◌, List, [], ◌∷◌, Option, Some, None, IsSome, IfSome, option_and_then, refl, sym, ◌∙◌, ap, subst, inl, inr, ◌⊎◌, ⊎_elim, arith}
+-- A PASS OVER THE WHITE NATIVES by rising number: those that are left of it, that a step leaves them, and what is told.
+use Rattle.std.proofs.Common.{◌≡◌, ℕ, suc, ◌<◌, Bool, true, false, not, ◌==◌, List, [], ◌∷◌, ◌++◌, map, length, Option, Some, None, IsSome, IfSome, option_and_then, refl, sym, ◌∙◌, ap, subst, inl, inr, ◌⊎◌, ⊎_elim, arith}
 use Rattle.std.specs.List.{filter}
 use Rattle.std.proofs.lemmas.Bool.{false≢true}
 use Rattle.cc_lists.specs.Members.{Among, has}
@@ -7,14 +7,18 @@ use Rattle.cc_lists.proofs.Members.{Among-filtered, has-among}
 use Rattle.cc_names.specs.declared.number.NKey.{NKey}
 use Rattle.cc_names.specs.Names.{native}
 use Rattle.cc_model.specs.declared.item.Event.{Event}
-use Rattle.cc_model.specs.Heap.{Heap, Outcome}
+use Rattle.cc_model.specs.declared.item.Item.TheVariants.{Event as of_event}
+use Rattle.cc_model.specs.Texts.{texts_of}
+use Rattle.cc_model.specs.Telling.{Telling, Tells}
+use Rattle.cc_model.proofs.Tellings.{Tells-nil}
+use Rattle.cc_model.specs.Heap.{Heap, Outcome, silently, after}
 use Rattle.cc_model.specs.WellFormed.{IsRising, native_names}
 use Rattle.cc_model.specs.Counts.{times}
 use Rattle.cc_lists.proofs.Numbers.{number-exact}
 use Rattle.cc_laws_heap.proofs.References.{times-cons}
 use Rattle.cc_laws_heap.proofs.Rising.{IsRising-filter}
 use Rattle.cc_laws_heap.proofs.TakingAway.{IsSound-permuted}
-use Rattle.cc_laws_heap.proofs.Leaving.{Leave, Leave-not_freed, numbers_there, numbers_there-named, is_left}
+use Rattle.cc_laws_heap.proofs.Leaving.{Leave, Leave-before, Leave-not_freed, numbers_there, numbers_there-named, is_left}
 use Rattle.cc_counted.specs.Counts.{key_left, number_or_none}
 use Rattle.cc_graph.specs.Shown.{Shown}
 use Rattle.cc_heaps.specs.Keyed.{Keyed, IsInOrder, number_at, the_number, left_with}
@@ -22,8 +26,9 @@ use Rattle.cc_replay.specs.Blackness.{whites_of}
 use Rattle.cc_heaps.specs.Holders.{is_above, first_of}
 use Rattle.cc_replay.specs.Whites.{numbers_in, is_white_number, whites_above}
 use Rattle.cc_heaps.proofs.Content.{number-some}
-use Rattle.cc_heaps.proofs.LeftWith.{key_left-there}
-use Rattle.cc_replay.proofs.LeftWith.{number_at-left}
+use Rattle.cc_gc.proofs.RoundsLeft.{Tells-more}
+use Rattle.cc_heaps.proofs.LeftWith.{key_left-there, left_with-same}
+use Rattle.cc_replay.proofs.LeftWith.{number_at-left, left_with-then}
 use Rattle.cc_lists.proofs.Filtering.{filter-each}
 use Rattle.cc_heaps.proofs.NextHolder.{filter-swapped, rest_from, rest_from-first}
 use Rattle.cc_replay.proofs.NextWhite.{whites_of-numbers}
@@ -41,7 +46,7 @@ abbrev pub whites_from : Shown → Keyed → Option NKey → List ℕ
 whites_from g v next = rest_from (whites_of g v.heap) (number_of_next v next)
 
 -- White natives are by rising number
-pub whites_of-rising : (g : Shown) (h : Heap) → IsRising (numbers_in h.natives) → IsRising (whites_of g h)
+whites_of-rising : (g : Shown) (h : Heap) → IsRising (numbers_in h.natives) → IsRising (whites_of g h)
 whites_of-rising g h r = subst IsRising (sym (whites_of-numbers g h)) (IsRising-filter (is_white_number g) (numbers_in h.natives) r)
 
 -- and are there
@@ -86,13 +91,13 @@ module _ (g : Shown) (h : Heap) (freed : List ℕ) (f : Heap) (l : Leave h freed
       sym (all (whites_of g f)) ∙ (part_of_whites (is_above None) (λ k m. there k (subst (λ ks. Among k ks) (all (whites_of g h)) m)) ∙ all (whites_of g h))
 
   -- where those from a number on are there still, they are those from it on
-  pub rest_from-stay : (o : Option ℕ) → ((k : ℕ) → Among k (rest_from (whites_of g h) o) → Among (native k) (native_names f)) →
+  rest_from-stay : (o : Option ℕ) → ((k : ℕ) → Among k (rest_from (whites_of g h) o) → Among (native k) (native_names f)) →
       rest_from (whites_of g f) o ≡ rest_from (whites_of g h) o
   rest_from-stay None there = refl
   rest_from-stay (Some j) there = ap (λ ks. j ∷ ks) (part_of_whites (is_above (Some j)) (λ k m. there k (inr m)))
 
 -- the native that is next has its key still
-pub number_of_next-left : (v : Keyed) (f : Heap) (next : Option NKey) → IsNext v next →
+number_of_next-left : (v : Keyed) (f : Heap) (next : Option NKey) → IsNext v next →
     ((k : ℕ) → number_of_next v next ≡ Some k → Among (native k) (native_names f)) →
     number_of_next (left_with v f) next ≡ number_of_next v next
 number_of_next-left v f None live there = refl
@@ -101,7 +106,7 @@ number_of_next-left v f (Some key) live there =
     number_at-left v f key.0 ∙ (ap (λ o. key_left f o) is ∙ (key_left-there f (the_number v key.0) (there (the_number v key.0) is) ∙ sym is))
 
 -- what is next is there, where it has the number that it had
-pub IsNext-kept : (v w : Keyed) (next : Option NKey) → number_of_next w next ≡ number_of_next v next → IsNext v next → IsNext w next
+IsNext-kept : (v w : Keyed) (next : Option NKey) → number_of_next w next ≡ number_of_next v next → IsNext v next → IsNext w next
 IsNext-kept v w None e live = tt
 IsNext-kept v w (Some key) e live = subst IsSome (sym e) live
 
@@ -110,7 +115,7 @@ pub first-of_rest : (ks : List ℕ) (o : Option ℕ) (k : ℕ) → o ≡ Some k 
 first-of_rest ks o k e = rw e (inl refl)
 
 -- Where all that are left of a pass are there still, they are left of it still.
-pub whites_from-left : (g : Shown) (v : Keyed) (freed : List ℕ) (f : Heap) (next : Option NKey) → Leave v.heap freed f → IsNext v next →
+whites_from-left : (g : Shown) (v : Keyed) (freed : List ℕ) (f : Heap) (next : Option NKey) → Leave v.heap freed f → IsNext v next →
     ((k : ℕ) → Among k (whites_from g v next) → Among (native k) (native_names f)) →
     (whites_from g (left_with v f) next ≡ whites_from g v next) × IsNext (left_with v f) next
 whites_from-left g v freed f next l live there = (
@@ -149,8 +154,61 @@ in_front k (i ∷ ks) m = go (in_front k ks) m
         (λ t. let r = ih t in (i ∷ r.0, λ j. omega (arith, times-cons j k (i ∷ r.0), times-cons j i r.0, times-cons j i ks, times-cons j k r.0, r.1 j)))
         n
 
--- What was told so far
+-- A pass in which natives leave and events are told
 
 -- the heaps and what was told so far
 abbrev pub so_far : Keyed → List Event → Outcome
 so_far v es = record { heap = v.heap; events = es }
+
+-- between two steps: what is left to do gives what all of it gives from the begin
+pub record IsPassing (each : List ℕ → Outcome → Outcome) (g : Shown) (first v : Keyed) (next : Option NKey) (before now : Telling) : Type 0 where
+  pub kept : v ≡ left_with first v.heap
+  pub live : IsNext v next
+  pub events : List Event
+  pub goes : each (whites_from g v next) (so_far v events) ≡ each (whites_of g first.heap) (silently first.heap)
+  pub told : Tells before now (texts_of (map of_event events))
+
+-- at the begin
+pub IsPassing-start : (each : List ℕ → Outcome → Outcome) (g : Shown) (v : Keyed) (next : Option NKey) (now : Telling) → IsInOrder (whites_of g v.heap) v →
+    whites_from g v next ≡ whites_of g v.heap → IsNext v next → IsPassing each g v v next now now
+IsPassing-start each g v next now order all live = record {
+  kept = sym (left_with-same (whites_of g v.heap) v order);
+  live = live;
+  events = [];
+  goes = ap (λ ks. each ks (silently v.heap)) all;
+  told = Tells-nil now;
+}
+
+-- A STEP: the next one after it was found, and what is done to a native is done to this one.
+pub IsPassing-next : {each : List ℕ → Outcome → Outcome} (step : Heap → ℕ → Outcome) → ((k : ℕ) (ks : List ℕ) (o : Outcome) → each (k ∷ ks) o ≡ each ks (after o.events (step o.heap k))) →
+    {g : Shown} {first v : Keyed} {key : NKey} {before now : Telling} → IsPassing each g first v (Some key) before now →
+    (next : Option NKey) → whites_from g v (Some key) ≡ the_number v key.0 ∷ whites_from g v next → IsNext v next →
+    (freed : List ℕ) → Leave v.heap freed (step v.heap (the_number v key.0)).heap →
+    ((j : ℕ) → Among j (whites_from g v next) → Among (native j) (native_names (step v.heap (the_number v key.0)).heap)) →
+    (later : Telling) → Tells now later (texts_of (map of_event (step v.heap (the_number v key.0)).events)) →
+    IsPassing each g first (left_with v (step v.heap (the_number v key.0)).heap) next before later
+    × (whites_from g (left_with v (step v.heap (the_number v key.0)).heap) next ≡ whites_from g v next)
+IsPassing-next {each} step one {g} {first} {v} {key} {before} {now} i next rest live freed leaves there later tell = (
+  record {
+    kept = ap (λ z. left_with z o.heap) i.kept ∙ left_with-then first v.heap o.heap (Leave-before v.heap freed o.heap leaves);
+    live = left.1;
+    events = i.events ++ o.events;
+    goes = ap (λ ks. each ks (so_far (left_with v o.heap) (i.events ++ o.events))) left.0
+        ∙ (sym (one (the_number v key.0) (whites_from g v next) (so_far v i.events)) ∙ (ap (λ ks. each ks (so_far v i.events)) (sym rest) ∙ i.goes));
+    told = Tells-more before now later i.events o.events i.told tell;
+  },
+  left.0,
+)
+  where
+    o : Outcome
+    o = step v.heap (the_number v key.0)
+
+    left : (whites_from g (left_with v o.heap) next ≡ whites_from g v next) × IsNext (left_with v o.heap) next
+    left = whites_from-left g v freed o.heap next leaves live there
+
+-- what is left behind the first is less
+pub fewer : {k : ℕ} {early rest late : List ℕ} → early ≡ k ∷ rest → late ≡ rest → length late < length early
+fewer {k} {early} {rest} {late} e f =
+    let one : length early ≡ suc (length rest) = ap length e in
+    let same : length late ≡ length rest = ap length f in
+    omega arith

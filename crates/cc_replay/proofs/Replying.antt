@@ -94,7 +94,7 @@ denied h c true e = refl
 denied h c false e = absurd (cc)
 
 -- a reply that says want of memory is that
-pub without_memory-is : (r : Reply) → is_without_memory r ≡ true → r ≡ Refused NoMemory
+without_memory-is : (r : Reply) → is_without_memory r ≡ true → r ≡ Refused NoMemory
 without_memory-is (reply.Named x) e = absurd (cc)
 without_memory-is reply.Nothing e = absurd (cc)
 without_memory-is reply.Done e = absurd (cc)

@@ -1,5 +1,5 @@
 -- THE WHITE NATIVES ROOTED ONE AFTER ANOTHER: no native leaves meanwhile.
-use Rattle.std.proofs.Common.{◌≡◌, ℕ, suc, ◌+◌, ◌<◌, List, [], ◌∷◌, ◌++◌, length, length-append, count_by, Option, Some, None, refl, sym, ◌∙◌, ap, subst, arith, append_assoc}
+use Rattle.std.proofs.Common.{◌≡◌, ℕ, ◌+◌, ◌<◌, List, [], ◌∷◌, ◌++◌, length, length-append, count_by, Option, Some, None, refl, sym, ◌∙◌, ap, subst, arith, append_assoc}
 use Rattle.std.specs.List.{filter}
 use Rattle.std.proofs.lemmas.List.{length-map}
 use Rattle.std.proofs.lemmas.List.Sums.{length-filter, count_by-le-length}
@@ -20,7 +20,7 @@ use Rattle.cc_replay.specs.Blackness.{is_white_in, whites_of}
 use Rattle.cc_heaps.specs.Holders.{first_of}
 use Rattle.cc_replay.specs.Whites.{whites_above}
 use Rattle.cc_heaps.proofs.NextHolder.{rest_from}
-use Rattle.cc_replay.proofs.Passing.{number_of_next, IsNext, whites_from, whites_from-start, whites_from-next, whites_of-there, whites_of-stay, IsInOrder-permuted}
+use Rattle.cc_replay.proofs.Passing.{number_of_next, IsNext, whites_from, whites_from-start, whites_from-next, whites_of-there, whites_of-stay, IsInOrder-permuted, fewer}
 
 -- between two steps: the first white natives are rooted, and what is left to do gives what all of it gives from the begin
 pub record IsRooting (g : Shown) (first v : Keyed) (next : Option NKey) : Type 0 where
@@ -64,12 +64,12 @@ IsRooting-few g first v next i =
     )
 
 -- A STEP: the next one after it was found, and the native is rooted.
-pub IsRooting-next : (g : Shown) (first v : Keyed) (key : NKey) → IsRooting g first v (Some key) →
+pub IsRooting-next : {g : Shown} {first v : Keyed} {key : NKey} → IsRooting g first v (Some key) →
     (next : Option NKey) → number_of_next v next ≡ first_of (whites_above g v.heap (number_at v key.0)) → IsNext v next →
-    (w : Keyed) → w ≡ changed_to v (add_ref v.heap (the_number v key.0)) →
+    {w : Keyed} → w ≡ changed_to v (add_ref v.heap (the_number v key.0)) →
     ((owned : List ℕ) → IsInOrder owned v → IsInOrder (the_number v key.0 ∷ owned) w) →
     IsRooting g first w next × (length (whites_from g w next) < length (whites_from g v (Some key)))
-IsRooting-next g first v key i next e live w is order =
+IsRooting-next {g} {first} {v} {key} i next e live {w} is order =
     subst (λ z. IsRooting g first z next × (length (whites_from g z next) < length (whites_from g v (Some key)))) (sym is) (
       record {
         whites = stays ∙ i.whites;
@@ -83,7 +83,7 @@ IsRooting-next g first v key i next e live w is order =
             (subst (λ z. IsInOrder (k ∷ i.done) z) is (order i.done i.order));
         goes = ap (λ ks. root_each ks h) left ∙ (ap (λ ks. root_each ks v.heap) (sym rest) ∙ i.goes);
       },
-      less,
+      fewer rest left,
     )
   where
     k : ℕ
@@ -105,9 +105,3 @@ IsRooting-next g first v key i next e live w is order =
 
     left : whites_from g (changed_to v h) next ≡ whites_from g v next
     left = ap (λ ks. rest_from ks (number_of_next v next)) stays
-
-    less : length (whites_from g (changed_to v h) next) < length (whites_from g v (Some key))
-    less =
-        let one : length (whites_from g v (Some key)) ≡ suc (length (whites_from g v next)) = ap length rest in
-        let same : length (whites_from g (changed_to v h) next) ≡ length (whites_from g v next) = ap length left in
-        omega arith

@@ -43,8 +43,8 @@ pub record IsSpread (g₀ g : Shown) (i : ℕ) : Type 0 where
   pub once : (k : ℕ) → count_by (λ j. k == j) g.blacks ≤ 1
   pub below : (k : ℕ) → Among k g.blacks → k < length g₀.nodes
   pub kept : (k : ℕ) → Among k g₀.blacks → Among k g.blacks
-  pub derived : (k : ℕ) → Among k g.blacks → Least (system g₀.blacks (map pair_of g₀.edges) []) k
-  pub followed : (place k m : ℕ) → place < i → slice_get g.blacks place ≡ Some k → Among (k, m) (map pair_of g₀.edges) → Among m g.blacks
+  derived : (k : ℕ) → Among k g.blacks → Least (system g₀.blacks (map pair_of g₀.edges) []) k
+  followed : (place k m : ℕ) → place < i → slice_get g.blacks place ≡ Some k → Among (k, m) (map pair_of g₀.edges) → Among m g.blacks
 
 -- at the start
 pub spread-start : (g : Shown) → ((e : Edge) → Among e g.edges → e.target < length g.nodes) → ((k : ℕ) → count_by (λ j. k == j) g.blacks ≤ 1) → ((k : ℕ) → Among k g.blacks → k < length g.nodes) → IsSpread g g 0
@@ -125,7 +125,7 @@ module _ (g₀ g new : Shown) (i node : ℕ) (h : IsSpread g₀ g i)
   }
 
 -- where no black node is left that did not give its targets
-pub spread-end : (g₀ g : Shown) (i : ℕ) → IsSpread g₀ g i → length g.blacks ≤ i →
+spread-end : (g₀ g : Shown) (i : ℕ) → IsSpread g₀ g i → length g.blacks ≤ i →
     (k : ℕ) → IsTrue (is_black g k) ↔ Least (system g₀.blacks (map pair_of g₀.edges) []) k
 spread-end g₀ g i h past k = (
   λ e. h.derived k (has-among _ number-exact g.blacks k e),

@@ -31,7 +31,7 @@ use Rattle.cc_counted.specs.Suspects.{is_in_buffer}
 use Rattle.cc_replay.proofs.NodesByName.{alike}
 
 -- the buffer by names and by numbers
-pub buffer-by_number : (bs : List Buffered) (k : ℕ) → has same_name (map buffered bs) (native k) ≡ is_in_buffer bs k
+buffer-by_number : (bs : List Buffered) (k : ℕ) → has same_name (map buffered bs) (native k) ≡ is_in_buffer bs k
 buffer-by_number [] k = refl
 buffer-by_number (b ∷ bs) k = go (buffer-by_number bs k) (b.number == k)
   where

@@ -152,7 +152,7 @@ ComesTo-end before now s g traversed = record {
 }
 
 -- THE WHOLE COLLECTION of the plain run comes to the same
-pub ComesTo-collect : (before now : Heap) (events : List Event) (progress : Progress) (c : ComesTo before now events progress) → progress ≢ went_on →
+ComesTo-collect : (before now : Heap) (events : List Event) (progress : Progress) (c : ComesTo before now events progress) → progress ≢ went_on →
     collect (machine before None c.memory) ≡ done now None [] events progress
 unfolding collect
 ComesTo-collect before now events progress c stopped = sym whole ∙ (units_done-stopped c.units enough start (λ e. stopped (sym (ap (λ (d : UnitsDone). d.progress) c.come) ∙ e)) ∙ c.come)

@@ -1,19 +1,7 @@
-use Rattle.std.proofs.Common.{◌≡◌, sym, ◌∙◌}
-use Rattle.cc_replay.specs.declared.status.Status.TheVariants.{Done, ReadFault, WriteFault, Limit}
 use Rattle.cc_replay.proofs.AtRest.{IsAtRest-empty}
 use Rattle.cc_replay.proofs.Causes.{over-answered, done-answered, reads-within, end-unread}
 use Rattle.cc_replay.proofs.Endings.{whole-done, broken-stops, over-stops, first-stops}
 use Rattle.cc_replay.proofs.answering.answer_input.Goals as goal
-
--- the statuses differ
-done-differs : Done ≡ WriteFault → ⊥
-done-differs e = cc
-
-fault-differs : ReadFault ≡ WriteFault → ⊥
-fault-differs e = cc
-
-limit-differs : Limit ≡ WriteFault → ⊥
-limit-differs e = cc
 
 pub answer_all-requires-clause-rest : goal.answer_all-requires-clause-rest
 answer_all-requires-clause-rest g c = IsAtRest-empty c.args.heaps.now c.requires.order c.requires.empty
@@ -21,17 +9,17 @@ answer_all-requires-clause-rest g c = IsAtRest-empty c.args.heaps.now c.requires
 pub returns-clause-done : goal.returns-clause-done
 returns-clause-done g c = λ status.
     whole-done _ _ _ _ _ c.requires.start c.requires.empty c.answer_all.ensures.limit c.answer_all.ensures.reads (c.answer_all.ensures.done status)
-    (c.answer_all.ensures.whole (λ bad. done-differs (sym status ∙ bad)))
+    (c.answer_all.ensures.whole (λ bad. cc))
 
 pub returns-clause-fault : goal.returns-clause-fault
 returns-clause-fault g c = λ status.
     broken-stops _ _ _ _ _ c.requires.start c.requires.empty c.answer_all.ensures.limit c.answer_all.ensures.reads (c.answer_all.ensures.fault status)
-    (c.answer_all.ensures.whole (λ bad. fault-differs (sym status ∙ bad)))
+    (c.answer_all.ensures.whole (λ bad. cc))
 
 pub returns-clause-over : goal.returns-clause-over
 returns-clause-over g c = λ status.
     over-stops _ _ _ _ _ c.requires.start c.requires.empty c.answer_all.ensures.limit c.answer_all.ensures.reads (c.answer_all.ensures.over status)
-    (c.answer_all.ensures.whole (λ bad. limit-differs (sym status ∙ bad)))
+    (c.answer_all.ensures.whole (λ bad. cc))
 
 pub returns-clause-front : goal.returns-clause-front
 returns-clause-front g c = λ status.

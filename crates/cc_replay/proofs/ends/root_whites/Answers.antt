@@ -12,14 +12,11 @@ root-requires-clause-owned c =
     (steps.done, steps.order, IsRooting-few c.args.graph.now c.args.heaps.now c.loop-next.heaps c.loop-next.next steps)
 
 pub loop-next-smaller : goal.loop-next-smaller
-loop-next-smaller c =
-    rw c.in-Some.is ((IsRooting-next c.args.graph.now c.args.heaps.now c.loop-next.heaps c.in-Some.key
-    (rw c.in-Some.is at c.loop-next.invariant.steps) c.next_white-next-in-Some.result c.next_white-next-in-Some.ensures.number
-    c.next_white-next-in-Some.ensures.live c.root.new.self c.root.ensures.heap c.root.ensures.order).1)
+loop-next-smaller c = rw c.in-Some.is ((IsRooting-next (rw c.in-Some.is at c.loop-next.invariant.steps) c.next_white-next-in-Some.result
+    c.next_white-next-in-Some.ensures.number c.next_white-next-in-Some.ensures.live c.root.ensures.heap c.root.ensures.order).1)
 
 pub loop-next-preserved : goal.loop-next-preserved
 loop-next-preserved c = record {
-  steps = (IsRooting-next c.args.graph.now c.args.heaps.now c.loop-next.heaps c.in-Some.key
-      (rw c.in-Some.is at c.loop-next.invariant.steps) c.next_white-next-in-Some.result c.next_white-next-in-Some.ensures.number
-      c.next_white-next-in-Some.ensures.live c.root.new.self c.root.ensures.heap c.root.ensures.order).0;
+  steps = (IsRooting-next (rw c.in-Some.is at c.loop-next.invariant.steps) c.next_white-next-in-Some.result
+      c.next_white-next-in-Some.ensures.number c.next_white-next-in-Some.ensures.live c.root.ensures.heap c.root.ensures.order).0;
 }

@@ -8,22 +8,14 @@ loop-next-init g c = record {
 }
 
 pub unlink-requires-clause-owned : goal.unlink-requires-clause-owned
-unlink-requires-clause-owned g c =
-    IsUnlinking-owned c.args.graph.now c.args.heaps.now c.loop-next.heaps c.in-Some.key (g.N.Notices.telling c.args.out.now)
-    (g.N.Notices.telling c.loop-next.out) (rw c.in-Some.is at c.loop-next.invariant.steps)
+unlink-requires-clause-owned g c = IsUnlinking-owned (rw c.in-Some.is at c.loop-next.invariant.steps)
 
 pub loop-next-smaller : goal.loop-next-smaller
-loop-next-smaller g c =
-    let telling = g.N.Notices.telling in
-    rw c.in-Some.is ((IsUnlinking-next c.args.graph.now c.args.heaps.now c.loop-next.heaps c.in-Some.key (telling c.args.out.now) (telling c.loop-next.out)
-    (rw c.in-Some.is at c.loop-next.invariant.steps) c.next_white-next-in-Some.result c.next_white-next-in-Some.ensures.number
-    c.next_white-next-in-Some.ensures.live c.unlink.new.self (telling c.unlink.new.out) c.unlink.ensures.heap c.unlink.ensures.told c.unlink.ensures.order).1)
+loop-next-smaller g c = rw c.in-Some.is ((IsUnlinking-next (rw c.in-Some.is at c.loop-next.invariant.steps) c.next_white-next-in-Some.result
+    c.next_white-next-in-Some.ensures.number c.next_white-next-in-Some.ensures.live c.unlink.ensures.heap c.unlink.ensures.told c.unlink.ensures.order).1)
 
 pub loop-next-preserved : goal.loop-next-preserved
-loop-next-preserved g c =
-    let telling = g.N.Notices.telling in
-    record {
-      steps = (IsUnlinking-next c.args.graph.now c.args.heaps.now c.loop-next.heaps c.in-Some.key (telling c.args.out.now) (telling c.loop-next.out)
-          (rw c.in-Some.is at c.loop-next.invariant.steps) c.next_white-next-in-Some.result c.next_white-next-in-Some.ensures.number
-          c.next_white-next-in-Some.ensures.live c.unlink.new.self (telling c.unlink.new.out) c.unlink.ensures.heap c.unlink.ensures.told c.unlink.ensures.order).0;
-    }
+loop-next-preserved g c = record {
+  steps = (IsUnlinking-next (rw c.in-Some.is at c.loop-next.invariant.steps) c.next_white-next-in-Some.result
+      c.next_white-next-in-Some.ensures.number c.next_white-next-in-Some.ensures.live c.unlink.ensures.heap c.unlink.ensures.told c.unlink.ensures.order).0;
+}

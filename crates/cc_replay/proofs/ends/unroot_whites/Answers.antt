@@ -1,5 +1,5 @@
-use Rattle.cc_replay.proofs.Passing.{whites_from}
 use Rattle.cc_replay.proofs.Unrooting.{IsUnrooting-start, IsUnrooting-owned, IsUnrooting-next}
+use Rattle.cc_replay.proofs.Passing.{whites_from}
 use Rattle.cc_replay.proofs.ends.unroot_whites.Goals as goal
 
 pub loop-next-init : goal.loop-next-init
@@ -11,23 +11,15 @@ loop-next-init g c = record {
 pub unroot-requires-clause-owned : goal.unroot-requires-clause-owned
 unroot-requires-clause-owned g c = (
   whites_from c.args.graph.now c.loop-next.heaps c.next_white-next-in-Some.result,
-  IsUnrooting-owned c.args.graph.now c.args.heaps.now c.loop-next.heaps c.in-Some.key (g.N.Notices.telling c.args.out.now)
-      (g.N.Notices.telling c.loop-next.out) (rw c.in-Some.is at c.loop-next.invariant.steps) c.next_white-next-in-Some.result
-      c.next_white-next-in-Some.ensures.number,
+  IsUnrooting-owned (rw c.in-Some.is at c.loop-next.invariant.steps) c.next_white-next-in-Some.result c.next_white-next-in-Some.ensures.number,
 )
 
 pub loop-next-smaller : goal.loop-next-smaller
-loop-next-smaller g c =
-    let telling = g.N.Notices.telling in
-    rw c.in-Some.is ((IsUnrooting-next c.args.graph.now c.args.heaps.now c.loop-next.heaps c.in-Some.key (telling c.args.out.now) (telling c.loop-next.out)
-    (rw c.in-Some.is at c.loop-next.invariant.steps) c.next_white-next-in-Some.result c.next_white-next-in-Some.ensures.number
-    c.next_white-next-in-Some.ensures.live c.unroot.new.self (telling c.unroot.new.out) c.unroot.ensures.heap c.unroot.ensures.told c.unroot.ensures.order).1)
+loop-next-smaller g c = rw c.in-Some.is ((IsUnrooting-next (rw c.in-Some.is at c.loop-next.invariant.steps) c.next_white-next-in-Some.result
+    c.next_white-next-in-Some.ensures.number c.next_white-next-in-Some.ensures.live c.unroot.ensures.heap c.unroot.ensures.told c.unroot.ensures.order).1)
 
 pub loop-next-preserved : goal.loop-next-preserved
-loop-next-preserved g c =
-    let telling = g.N.Notices.telling in
-    record {
-      steps = (IsUnrooting-next c.args.graph.now c.args.heaps.now c.loop-next.heaps c.in-Some.key (telling c.args.out.now) (telling c.loop-next.out)
-          (rw c.in-Some.is at c.loop-next.invariant.steps) c.next_white-next-in-Some.result c.next_white-next-in-Some.ensures.number
-          c.next_white-next-in-Some.ensures.live c.unroot.new.self (telling c.unroot.new.out) c.unroot.ensures.heap c.unroot.ensures.told c.unroot.ensures.order).0;
-    }
+loop-next-preserved g c = record {
+  steps = (IsUnrooting-next (rw c.in-Some.is at c.loop-next.invariant.steps) c.next_white-next-in-Some.result
+      c.next_white-next-in-Some.ensures.number c.next_white-next-in-Some.ensures.live c.unroot.ensures.heap c.unroot.ensures.told c.unroot.ensures.order).0;
+}

@@ -1,7 +1,7 @@
 use Rattle.std.proofs.Common.{◌<◌, arith, length, sym, ◌∙◌, ap, subst}
 use Rattle.cc_graph.specs.Shown.{with_vertex}
 use Rattle.cc_replay.specs.Building.{Built, AreHeld}
-use Rattle.cc_replay.proofs.BuildKept.{built_of, IsAdded-built, IsAdded-held}
+use Rattle.cc_replay.proofs.BuildKept.{IsAdded-built, IsAdded-held}
 use Rattle.cc_replay.proofs.FewObjects.{nodes-limited}
 use Rattle.cc_replay.proofs.build.Build.add_object.Goals as goal
 
@@ -13,15 +13,13 @@ add_node-requires c =
 pub returns-clause-built : goal.returns-clause-built
 returns-clause-built c =
     let e = c.in_ok-node.ensures in
-    IsAdded-built (built_of c.self.inside.graph c.self.inside.candidates c.self.inside.next) c.args.self.now c.args.heaps.now c.args.object c.add_node.new.self c.self.view_is c.requires.built
-    c.requires.order c.requires.there
+    IsAdded-built {object = c.args.object} c.self.view_is c.requires.built c.requires.order c.requires.there
     (record { nodes = e.nodes ∙ ap (λ x. with_vertex c.self.inside.graph.nodes x c.args.object) c.name_of-name.ensures; edges = e.edges; blacks = e.blacks; spare = e.spare })
 
 pub returns-clause-held : goal.returns-clause-held
 returns-clause-held c =
     let e = c.in_ok-node.ensures in
-    IsAdded-held (built_of c.self.inside.graph c.self.inside.candidates c.self.inside.next) c.args.self.now c.args.heaps.now c.args.object c.add_node.new.self c.self.view_is c.requires.held
-    c.requires.order c.requires.there
+    IsAdded-held c.args.heaps.now {object = c.args.object} c.self.view_is c.requires.held c.requires.order c.requires.there
     (record { nodes = e.nodes ∙ ap (λ x. with_vertex c.self.inside.graph.nodes x c.args.object) c.name_of-name.ensures; edges = e.edges; blacks = e.blacks; spare = e.spare })
 
 pub returns-in_err-node-clause-held : goal.returns-in_err-node-clause-held
