@@ -16,3 +16,4 @@ pub mod Walks
 pub mod Popping
 pub mod Wholeness
 pub mod Tidying
+pub mod ReachedLeast

@@ -13,10 +13,12 @@
 #![tactic(auto)]
 
 mod cell;
+mod laws;
 mod order;
 mod parts;
 mod scripts;
 
+pub use laws::raised_is_least;
 pub use scripts::Scripts;
 
 #[cfg(test)]

@@ -268,3 +268,8 @@ fn ten_thousand_are_walked_and_swept(rt: HostRuntime) -> Result<(), Fail> {
     }
     Ok(())
 }
+
+#[test]
+fn law_can_be_called() {
+    raised_is_least();
+}
