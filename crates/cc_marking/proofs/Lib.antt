@@ -2,3 +2,4 @@ pub mod Painting
 pub mod Raising
 pub mod MarkedFrom
 pub mod Whole
+pub mod LeastColours

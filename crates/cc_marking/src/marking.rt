@@ -2,7 +2,7 @@ ghost use Rattle.std.specs.Prelude.{◌≡◌, ℕ, [], IsTrue};
 ghost use Rattle.cc_lists.specs.Members.{Among};
 ghost use Rattle.cc_script.specs.Objects.{AreWhole, is_there, raised_among};
 ghost use Rattle.cc_script.specs.Walking.{keys_reached};
-ghost use Rattle.cc_marking.specs.Marking.{marked_from};
+ghost use Rattle.cc_marking.specs.Marking.{AreLeast, marked_from};
 
 use crate::roots::Roots;
 use cc_names::Colour;
@@ -27,6 +27,7 @@ pub fn mark<B: Roots, G: Roots>(scripts: &mut Scripts, black: &mut B, gray: &mut
     requires gray { (key : ℕ) → Among key (G.left gray.old) → IsTrue (is_there scripts.old key) }
     requires whole { AreWhole scripts.old }
     ensures colours { scripts.new ≡ marked_from (B.left black.old) (G.left gray.old) scripts.old }
+    ensures least { AreLeast (B.left black.old) (G.left gray.old) scripts.old scripts.new }
     ensures black { B.left black.new ≡ [] }
     ensures gray { G.left gray.new ≡ [] }
 {
