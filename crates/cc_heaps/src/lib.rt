@@ -5,10 +5,11 @@
 //! not counted; script objects hold script objects. What comes into a script register is exposed.
 //!
 //! What the laws make of these equations is said beside them, for callers who know no law: for which graph the heaps stand
-//! afterwards (`stands`), that objects keep their keys, that the colour invariant stays, and, where a collection may be
-//! running, that its snapshot stays fresh and that no native that nothing reaches is forgotten. Some of it needs more of
-//! what is handed in: that it is reached from the registers (`IsReached`), or black. Then the clause says so; the call
-//! itself does not ask for it.
+//! afterwards (`stands`), that objects keep their keys, and that the colour invariant stays; `mark_scripts` alone leaves
+//! objects white, and `sweep` takes these out. The calls that come while a collection runs say too that its snapshot stays
+//! fresh and that no native that nothing reaches is forgotten; `select_next`, `mark_scripts`, `sweep`, `root`, `unlink` and
+//! `unroot` are made where no snapshot is kept, and say neither. Some clauses need more of what is handed in: that it is
+//! reached from the registers (`IsReached`), or black. Then the clause says so; the call itself does not ask for it.
 #![tactic(auto)]
 
 mod heaps;
