@@ -1,8 +1,13 @@
 -- HOW GREAT A COUNT MAY BE.
-use Rattle.std.specs.Prelude.{◌≤◌}
+use Rattle.std.specs.Prelude.{ℕ, ◌≤◌, List}
 use Rattle.cc_lists.specs.Members.{Among}
 use Rattle.cc_model.specs.Heap.{Heap, HeapNative}
+use Rattle.cc_model.specs.Counts.{times}
 
 -- no count is greater than all references there can be: 64 slots of each of 1000000 natives, 256 registers, and two
 abbrev pub AreFew : Heap → Type 0
 AreFew h = (n : HeapNative) → Among n h.natives → n.count ≤ 64000258
+
+-- no native is owned twice
+abbrev pub AreOwnedOnce : List ℕ → Type 0
+AreOwnedOnce owned = (k : ℕ) → times k owned ≤ 1

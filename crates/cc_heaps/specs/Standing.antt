@@ -1,11 +1,15 @@
--- WHAT A CHANGE PROMISES OF THE GRAPH that the heaps stand for.
-use Rattle.std.specs.Prelude.{Option, Some, None}
+-- WHAT A CHANGE PROMISES: of the graph that the heaps stand for, of snapshots, of suspicion and of colours.
+use Rattle.std.specs.Prelude.{ℕ, List, Option, Some, None}
 use Rattle.cc_names.specs.declared.name.Name.{Name}
 use Rattle.cc_model.specs.Graph.{Graph}
 use Rattle.cc_model.specs.WellMade.{IsWellMade}
 use Rattle.cc_model.specs.Heap.{Heap}
 use Rattle.cc_model.specs.View.{view, ReachedIn}
 use Rattle.cc_model.specs.StandsFor.{StandsFor}
+use Rattle.cc_model.specs.Colours.{HasColourInvariant}
+use Rattle.cc_model.specs.Snapshot.{Snapshot}
+use Rattle.cc_model.specs.Fresh.{IsFresh}
+use Rattle.cc_model.specs.Suspected.{IsSuspected}
 
 -- what is handed in is reached from the registers
 abbrev pub IsReached : Heap → Option Name → Type 0
@@ -19,3 +23,15 @@ StandsAfter old new change = (g : Graph) → IsWellMade g → StandsFor old g �
 -- the heaps go on standing for the same graphs
 abbrev pub StillStands : Heap → Heap → Type 0
 StillStands old new = (g : Graph) → IsWellMade g → StandsFor old g → StandsFor new g
+
+-- each snapshot that was fresh is fresh
+abbrev pub KeepsFresh : Heap → Heap → Type 0
+KeepsFresh old new = (s : Snapshot) → IsFresh old.natives_made (view old) s → IsFresh new.natives_made (view new) s
+
+-- no native that nothing reaches is forgotten, whatever the candidates of a running collection are
+abbrev pub KeepsSuspected : Heap → Heap → Type 0
+KeepsSuspected old new = (candidates : List ℕ) → IsSuspected (view old) candidates → IsSuspected (view new) candidates
+
+-- the colour invariant stays
+abbrev pub KeepsColours : Heap → Heap → Type 0
+KeepsColours old new = HasColourInvariant (view old) → HasColourInvariant (view new)

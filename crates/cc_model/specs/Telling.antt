@@ -1,7 +1,11 @@
 -- What a receiver of items has been told, and how that grows.
-use Rattle.std.specs.Prelude.{◌≡◌, ℕ, Bool, true, false, List, ◌++◌, Option}
+use Rattle.std.specs.Prelude.{◌≡◌, ℕ, Bool, true, false, List, ◌++◌, map, Option}
 use Rattle.std.specs.Io.KnownBytes.{Appends}
 use Rattle.cc_lists.specs.Faults.{Rose}
+use Rattle.cc_model.specs.declared.item.Event.{Event}
+use Rattle.cc_model.specs.declared.item.Item.{Item}
+use Rattle.cc_model.specs.declared.item.Item.TheVariants.{Event as of_event}
+use Rattle.cc_model.specs.Texts.{texts_of}
 
 -- the bytes so far, where they are known; whether a write failed; how many writes failed;
 -- and which reference to a sink the receiver holds, by its ghost name (any number where it holds none)
@@ -34,3 +38,11 @@ pub record Tells (old new : Telling) (text : List ℕ) : Type 0 where
   pub stays : old.broken ≡ true → new ≡ old
   pub whole : new.broken ≡ false → Grew old new text
   pub broke : old.broken ≡ false → new.broken ≡ true → Broke old new text
+
+-- THESE ITEMS ARE TOLD, each by its line
+abbrev pub TellsItems : Telling → Telling → List Item → Type 0
+TellsItems old new items = Tells old new (texts_of items)
+
+-- THESE EVENTS ARE TOLD
+abbrev pub TellsEvents : Telling → Telling → List Event → Type 0
+TellsEvents old new events = TellsItems old new (map of_event events)
