@@ -1,6 +1,6 @@
 -- How often something stands in a list that was made of others; and: a list that has each key at most
 -- as often as another has it is at most as long, and shorter where one key is rarer.
-use Rattle.std.proofs.Common.{◌≡◌, ◌+◌, ◌<◌, ◌≤◌, Bool, true, false, cond, ◌&&◌, List, [], ◌∷◌, ◌++◌, map, refl, sym, ◌∙◌, ap, subst, inl, inr, ⊎_elim, arith, count_by}
+use Rattle.std.proofs.Common.{◌≡◌, ◌+◌, ◌<◌, ◌≤◌, Bool, true, false, cond, ◌&&◌, List, [], ◌∷◌, ◌++◌, map, length, refl, sym, ◌∙◌, ap, subst, inl, inr, ⊎_elim, arith, count_by}
 use Rattle.std.specs.List.{filter, flat_map, sum_by}
 use Rattle.std.proofs.lemmas.Bool.{and_parts}
 use Rattle.std.proofs.lemmas.List.Sums.{sum_by-append, sum_by-cons}
@@ -9,6 +9,11 @@ use Rattle.cc_lists.specs.Counts.{keyed}
 
 pub count_by-cons : {R : Type 0} (q : R → Bool) (r : R) (rs : List R) → count_by q (r ∷ rs) ≡ cond (q r) 1 0 + count_by q rs
 count_by-cons q r rs = sum_by-cons (λ x. cond (q x) 1 0) r rs
+
+-- everything is counted
+pub count_by-all : {X : Type 0} (xs : List X) → count_by (λ x. true) xs ≡ length xs
+count_by-all [] = refl
+count_by-all {X} (x ∷ xs) = omega (arith, count_by-cons (λ (y : X). true) x xs, count_by-all xs)
 
 pub count_by-append : {X : Type 0} (p : X → Bool) (xs ys : List X) → count_by p (xs ++ ys) ≡ count_by p xs + count_by p ys
 count_by-append p xs ys = sum_by-append (λ x. cond (p x) 1 0) xs ys

@@ -62,6 +62,16 @@ pub filter-each : {X : Type 0} (p : X → Bool) (xs : List X) → ((x : X) → A
 filter-each p [] h = refl
 filter-each p (x ∷ xs) h = rw (h x (inl refl)) (ap (λ ys. x ∷ ys) (filter-each p xs (λ y m. h y (inr m))))
 
+-- one that passes at none keeps nothing
+pub filter-nothing : {X : Type 0} (p : X → Bool) (xs : List X) → ((x : X) → Among x xs → p x ≡ false) → filter p xs ≡ []
+filter-nothing p [] h = refl
+filter-nothing p (x ∷ xs) h = rw (h x (inl refl)) (filter-nothing p xs (λ y m. h y (inr m)))
+
+-- tests that agree on the members keep the same
+pub filter-agree : {X : Type 0} (p q : X → Bool) (xs : List X) → ((x : X) → Among x xs → p x ≡ q x) → filter p xs ≡ filter q xs
+filter-agree p q [] h = refl
+filter-agree p q (x ∷ xs) h = rw (h x (inl refl), filter-agree p q xs (λ y m. h y (inr m))) refl
+
 -- a filter that drops an element shortens the list
 pub length-filter-less : {X : Type 0} (p : X → Bool) (xs : List X) (x : X) → Among x xs → p x ≡ false → length (filter p xs) < length xs
 length-filter-less p [] x m e = absurd m

@@ -11,3 +11,4 @@ pub mod ListWrites
 pub mod Numbers
 pub mod Places
 pub mod Together
+pub mod Walks

@@ -138,3 +138,8 @@ each-push P xs y h k x m = ⊎_elim (h x) (λ t. ⊎_elim (λ e. subst P e k) (�
 pub map-agree : {X Y : Type 0} (f g : X → Y) (xs : List X) → ((x : X) → Among x xs → f x ≡ g x) → map f xs ≡ map g xs
 map-agree f g [] h = refl
 map-agree f g (x ∷ xs) h = ap (λ y. y ∷ map f xs) (h x (inl refl)) ∙ ap (λ ys. g x ∷ ys) (map-agree f g xs (λ y m. h y (inr m)))
+
+-- a function that leaves each member maps to the list itself
+pub map-unchanged : {X : Type 0} (f : X → X) (xs : List X) → ((x : X) → Among x xs → f x ≡ x) → map f xs ≡ xs
+map-unchanged f [] h = refl
+map-unchanged f (x ∷ xs) h = ap (λ y. y ∷ map f xs) (h x (inl refl)) ∙ ap (λ ys. x ∷ ys) (map-unchanged f xs (λ y m. h y (inr m)))

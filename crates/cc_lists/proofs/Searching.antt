@@ -88,6 +88,16 @@ filter-filter {X} p q (x ∷ xs) = go (filter-filter p q xs) (q x)
     go ih true = ap (λ ys. cond (p x) (x ∷ ys) ys) ih
     go ih false = ih
 
+-- and it is the same which comes first
+pub filter-swap : {X : Type 0} (p q : X → Bool) (xs : List X) → filter p (filter q xs) ≡ filter q (filter p xs)
+filter-swap {X} p q xs = filter-filter p q xs ∙ (ap (λ r. filter r xs) (fun_ext (λ x. go (q x) (p x))) ∙ sym (filter-filter q p xs))
+  where
+    go : (a b : Bool) → (a && b) ≡ (b && a)
+    go true true = refl
+    go true false = refl
+    go false true = refl
+    go false false = refl
+
 -- a filter that drops only what passes a test, which nothing does
 pub filter-all : {X : Type 0} (p q : X → Bool) (xs : List X) → ((x : X) → q x ≡ false → p x ≡ true) → count_by q xs ≤ 0 → filter p xs ≡ xs
 filter-all p q [] h none = refl

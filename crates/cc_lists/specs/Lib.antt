@@ -1,4 +1,5 @@
 pub mod Members
+pub mod Walks
 pub mod Counts
 pub mod Least
 pub mod Faults
