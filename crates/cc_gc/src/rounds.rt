@@ -1,7 +1,4 @@
-ghost use Rattle.std.specs.Prelude.{◌≡◌, [], map};
-ghost use Rattle.cc_model.specs.declared.item.Item.TheVariants.{Event as of_event};
-ghost use Rattle.cc_model.specs.Telling.{Tells};
-ghost use Rattle.cc_model.specs.Texts.{texts_of};
+ghost use Rattle.std.specs.Prelude.{◌≡◌, []};
 ghost use Rattle.cc_model.specs.Colours.{HasColours, HasColourInvariant, marked};
 ghost use Rattle.cc_model.specs.Suspected.{IsSuspected};
 ghost use Rattle.cc_model.specs.Sweep.{collect_scripts as collected, sweep, sweeps};
@@ -9,6 +6,7 @@ ghost use Rattle.cc_model.specs.View.{view};
 ghost use Rattle.cc_heaps.specs.Keyed.{IsInOrder};
 ghost use Rattle.cc_heaps.specs.Changes.{KeepsKeys};
 ghost use Rattle.cc_heaps.specs.Standing.{StillStands};
+ghost use Rattle.cc_model.specs.Telling.{TellsEvents};
 
 use cc_heaps::Heaps;
 use cc_model::Notices;
@@ -18,7 +16,7 @@ fn round<N: Notices>(heaps: &mut Heaps, out: &mut N) -> bool
     requires order { IsInOrder [] heaps.old }
     ensures swept { result ≡ sweeps (marked heaps.old.heap) }
     ensures heap { heaps.new.heap ≡ (sweep (marked heaps.old.heap)).heap }
-    ensures told { Tells (N.telling out.old) (N.telling out.new) (texts_of (map of_event (sweep (marked heaps.old.heap)).events)) }
+    ensures told { TellsEvents (N.telling out.old) (N.telling out.new) (sweep (marked heaps.old.heap)).events }
     ensures keys { KeepsKeys heaps.old heaps.new }
     ensures order { IsInOrder [] heaps.new }
 {
@@ -34,7 +32,7 @@ fn round<N: Notices>(heaps: &mut Heaps, out: &mut N) -> bool
 pub fn collect_scripts<N: Notices>(heaps: &mut Heaps, out: &mut N)
     requires order { IsInOrder [] heaps.old }
     ensures heap { heaps.new.heap ≡ (collected heaps.old.heap).heap }
-    ensures told { Tells (N.telling out.old) (N.telling out.new) (texts_of (map of_event (collected heaps.old.heap).events)) }
+    ensures told { TellsEvents (N.telling out.old) (N.telling out.new) (collected heaps.old.heap).events }
     ensures stands { StillStands heaps.old.heap heaps.new.heap }
     ensures suspected { IsSuspected (view heaps.old.heap) [] → IsSuspected (view heaps.new.heap) [] }
     ensures colours { HasColours heaps.new.heap }

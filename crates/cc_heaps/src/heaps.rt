@@ -1,12 +1,10 @@
-ghost use Rattle.std.specs.Prelude.{◌≡◌, ◌+◌, ◌<◌, ◌≤◌, ℕ, List, [], ◌∷◌, length, map, option_and_then, option_map, Some, Err, IsSome, IsTrue, IfOk, IfSome, OnOk, OnErr, MatchOption};
+ghost use Rattle.std.specs.Prelude.{◌≡◌, ◌+◌, ◌<◌, ◌≤◌, ℕ, List, [], ◌∷◌, length, map, option_and_then, Some, Err, IsSome, IsTrue, IfOk, IfSome, OnOk, OnErr, MatchOption};
 ghost use Rattle.cc_names.specs.declared.kind.Colour.TheVariants.{Black};
 ghost use Rattle.cc_names.specs.declared.kind.Kind.TheVariants.{Plain};
 ghost use Rattle.cc_names.specs.declared.register.Reg.TheVariants.{N as n_register, S as s_register};
 ghost use Rattle.cc_names.specs.Names.{native, object};
 ghost use Rattle.cc_model.specs.declared.command.Command.TheVariants as command;
-ghost use Rattle.cc_model.specs.declared.item.Item.TheVariants.{Event as of_event, Listed};
-ghost use Rattle.cc_model.specs.Telling.{Tells};
-ghost use Rattle.cc_model.specs.Texts.{texts_of};
+ghost use Rattle.cc_model.specs.declared.item.Item.TheVariants.{Listed};
 ghost use Rattle.cc_model.specs.Heap.{empty_heap, register, set_slot, suspect};
 ghost use Rattle.cc_model.specs.Cascade.{add_ref, cascade};
 ghost use Rattle.cc_model.specs.Colours.{HasColours, HasColourInvariant, marked};
@@ -15,8 +13,6 @@ ghost use Rattle.cc_model.specs.End.{unlink};
 ghost use Rattle.cc_model.specs.Exposure.{exposed};
 ghost use Rattle.cc_model.specs.Graph as graph;
 ghost use Rattle.cc_model.specs.View.{view, ReachedIn};
-ghost use Rattle.cc_model.specs.Snapshot.{Snapshot};
-ghost use Rattle.cc_model.specs.Fresh.{IsFresh};
 ghost use Rattle.cc_model.specs.StandsFor.{StandsFor};
 ghost use Rattle.cc_model.specs.Suspected.{IsSuspected};
 ghost use Rattle.cc_model.specs.Run.{census_names};
@@ -26,7 +22,8 @@ ghost use Rattle.cc_script.specs.Objects.{colour_at, is_there, name_at, slots_at
 ghost use Rattle.cc_heaps.specs.Keyed.{IsInOrder, counts_of, number_at, the_number, changed_to, left_with};
 ghost use Rattle.cc_heaps.specs.Changes.{IsBlackHeld, IsNativeThere, IsScriptThere, IsThere, KeepsKeys, held_name, native_name, script_name, stored_in};
 ghost use Rattle.cc_heaps.specs.Holders.{holder_after};
-ghost use Rattle.cc_heaps.specs.Standing.{IsReached, StandsAfter, StillStands};
+ghost use Rattle.cc_heaps.specs.Standing.{IsReached, StandsAfter, StillStands, KeepsFresh, KeepsSuspected, KeepsColours};
+ghost use Rattle.cc_model.specs.Telling.{TellsEvents, TellsItems};
 
 use crate::make_stop::MakeStop;
 use crate::parts::Parts;
@@ -114,16 +111,16 @@ impl Heaps {
         ensures full_always { self.old.heap.limits.natives ≤ self.old.heap.natives_made → result ≡ Err MakeStop.Full }
         ensures name { IfOk result (λ x. x ≡ native (self.old.heap.natives_made + 1)) }
         ensures heap { OnOk result (self.new.heap ≡ (make_native self.old.heap r slots).heap) }
-        ensures told { OnOk result (Tells (N.telling out.old) (N.telling out.new) (texts_of (map of_event (make_native self.old.heap r slots).events))) }
+        ensures told { OnOk result (TellsEvents (N.telling out.old) (N.telling out.new) (make_native self.old.heap r slots).events) }
         ensures scripts { self.new.scripts ≡ self.old.scripts }
         ensures keys { KeepsKeys self.old self.new }
         ensures same { OnErr result (self.new ≡ self.old) }
         ensures silent { OnErr result (N.telling out.new ≡ N.telling out.old) }
         ensures order { IsInOrder [] self.new }
         ensures stands { OnOk result (StandsAfter self.old.heap self.new.heap (λ g. graph.step g (command.Native r slots))) }
-        ensures colours { HasColourInvariant (view self.old.heap) → HasColourInvariant (view self.new.heap) }
-        ensures fresh { (s : Snapshot) → IsFresh self.old.heap.natives_made (view self.old.heap) s → IsFresh self.new.heap.natives_made (view self.new.heap) s }
-        ensures suspected { (candidates : List ℕ) → IsSuspected (view self.old.heap) candidates → IsSuspected (view self.new.heap) candidates }
+        ensures colours { KeepsColours self.old.heap self.new.heap }
+        ensures fresh { KeepsFresh self.old.heap self.new.heap }
+        ensures suspected { KeepsSuspected self.old.heap self.new.heap }
     {
         self.parts.new_native(r, slots, out)
     }
@@ -144,9 +141,9 @@ impl Heaps {
         ensures same { OnErr result (self.new ≡ self.old) }
         ensures order { IsInOrder [] self.new }
         ensures stands { OnOk result (StandsAfter self.old.heap self.new.heap (λ g. graph.step g (command.Script r slots))) }
-        ensures colours { HasColourInvariant (view self.old.heap) → HasColourInvariant (view self.new.heap) }
-        ensures fresh { (s : Snapshot) → IsFresh self.old.heap.natives_made (view self.old.heap) s → IsFresh self.new.heap.natives_made (view self.new.heap) s }
-        ensures suspected { (candidates : List ℕ) → IsSuspected (view self.old.heap) candidates → IsSuspected (view self.new.heap) candidates }
+        ensures colours { KeepsColours self.old.heap self.new.heap }
+        ensures fresh { KeepsFresh self.old.heap self.new.heap }
+        ensures suspected { KeepsSuspected self.old.heap self.new.heap }
     {
         self.parts.new_plain(r, slots)
     }
@@ -159,15 +156,15 @@ impl Heaps {
         requires order { IsInOrder [] self.old }
         requires there { IsNativeThere self.old content }
         ensures heap { self.new ≡ left_with self.old (hold_native self.old.heap r (native_name self.old content)).heap }
-        ensures told { Tells (N.telling out.old) (N.telling out.new)
-            (texts_of (map of_event (hold_native self.old.heap r (native_name self.old content)).events)) }
+        ensures told { TellsEvents (N.telling out.old) (N.telling out.new)
+            (hold_native self.old.heap r (native_name self.old content)).events }
         ensures keys { KeepsKeys self.old self.new }
         ensures order { IsInOrder [] self.new }
         ensures stands { IsReached self.old.heap (native_name self.old content) →
             StandsAfter self.old.heap self.new.heap (λ g. graph.set_register g (n_register r) (native_name self.old content)) }
-        ensures colours { HasColourInvariant (view self.old.heap) → HasColourInvariant (view self.new.heap) }
-        ensures fresh { (s : Snapshot) → IsFresh self.old.heap.natives_made (view self.old.heap) s → IsFresh self.new.heap.natives_made (view self.new.heap) s }
-        ensures suspected { (candidates : List ℕ) → IsSuspected (view self.old.heap) candidates → IsSuspected (view self.new.heap) candidates }
+        ensures colours { KeepsColours self.old.heap self.new.heap }
+        ensures fresh { KeepsFresh self.old.heap self.new.heap }
+        ensures suspected { KeepsSuspected self.old.heap self.new.heap }
     {
         self.parts.set_native_reg(r, content, out);
     }
@@ -183,9 +180,9 @@ impl Heaps {
         ensures order { IsInOrder [] self.new }
         ensures stands { IsReached self.old.heap (script_name self.old content) →
             StandsAfter self.old.heap self.new.heap (λ g. graph.set_register g (s_register r) (script_name self.old content)) }
-        ensures colours { HasColourInvariant (view self.old.heap) → HasColourInvariant (view self.new.heap) }
-        ensures fresh { (s : Snapshot) → IsFresh self.old.heap.natives_made (view self.old.heap) s → IsFresh self.new.heap.natives_made (view self.new.heap) s }
-        ensures suspected { (candidates : List ℕ) → IsSuspected (view self.old.heap) candidates → IsSuspected (view self.new.heap) candidates }
+        ensures colours { KeepsColours self.old.heap self.new.heap }
+        ensures fresh { KeepsFresh self.old.heap self.new.heap }
+        ensures suspected { KeepsSuspected self.old.heap self.new.heap }
     {
         self.parts.set_script_reg(r, content);
     }
@@ -202,16 +199,16 @@ impl Heaps {
         requires within { i < length (slots_of (counts_of self.old) key.0) }
         requires there { IsThere self.old content }
         ensures heap { self.new ≡ left_with self.old (stored_in self.old.heap (the_number self.old key.0) i (held_name self.old content)).heap }
-        ensures told { Tells (N.telling out.old) (N.telling out.new)
-            (texts_of (map of_event (stored_in self.old.heap (the_number self.old key.0) i (held_name self.old content)).events)) }
+        ensures told { TellsEvents (N.telling out.old) (N.telling out.new)
+            (stored_in self.old.heap (the_number self.old key.0) i (held_name self.old content)).events }
         ensures keys { KeepsKeys self.old self.new }
         ensures order { IsInOrder [] self.new }
         ensures stands { IsReached self.old.heap (Some (native (the_number self.old key.0))) → IsReached self.old.heap (held_name self.old content) →
             StandsAfter self.old.heap self.new.heap (λ g. graph.set_slot g (Some (native (the_number self.old key.0))) i (held_name self.old content)) }
-        ensures colours { IsBlackHeld self.old content → HasColourInvariant (view self.old.heap) → HasColourInvariant (view self.new.heap) }
-        ensures fresh { IsBlackHeld self.old content → (s : Snapshot) → IsFresh self.old.heap.natives_made (view self.old.heap) s → IsFresh self.new.heap.natives_made (view self.new.heap) s }
+        ensures colours { IsBlackHeld self.old content → KeepsColours self.old.heap self.new.heap }
+        ensures fresh { IsBlackHeld self.old content → KeepsFresh self.old.heap self.new.heap }
         ensures suspected { IsReached self.old.heap (Some (native (the_number self.old key.0))) →
-            (candidates : List ℕ) → IsSuspected (view self.old.heap) candidates → IsSuspected (view self.new.heap) candidates }
+            KeepsSuspected self.old.heap self.new.heap }
     {
         self.parts.store_native(key, i, content, out);
     }
@@ -229,9 +226,9 @@ impl Heaps {
         ensures order { IsInOrder [] self.new }
         ensures stands { IsReached self.old.heap (name_at self.old.scripts key.0) → IsReached self.old.heap (script_name self.old content) →
             StandsAfter self.old.heap self.new.heap (λ g. graph.set_slot g (name_at self.old.scripts key.0) i (script_name self.old content)) }
-        ensures colours { HasColourInvariant (view self.old.heap) → HasColourInvariant (view self.new.heap) }
-        ensures fresh { (s : Snapshot) → IsFresh self.old.heap.natives_made (view self.old.heap) s → IsFresh self.new.heap.natives_made (view self.new.heap) s }
-        ensures suspected { (candidates : List ℕ) → IsSuspected (view self.old.heap) candidates → IsSuspected (view self.new.heap) candidates }
+        ensures colours { KeepsColours self.old.heap self.new.heap }
+        ensures fresh { KeepsFresh self.old.heap self.new.heap }
+        ensures suspected { KeepsSuspected self.old.heap self.new.heap }
     {
         self.parts.store_script(key, i, content);
     }
@@ -246,9 +243,9 @@ impl Heaps {
         ensures keys { KeepsKeys self.old self.new }
         ensures order { IsInOrder [] self.new }
         ensures stands { StillStands self.old.heap self.new.heap }
-        ensures colours { HasColourInvariant (view self.old.heap) → HasColourInvariant (view self.new.heap) }
-        ensures fresh { (s : Snapshot) → IsFresh self.old.heap.natives_made (view self.old.heap) s → IsFresh self.new.heap.natives_made (view self.new.heap) s }
-        ensures suspected { (candidates : List ℕ) → IsSuspected (view self.old.heap) candidates → IsSuspected (view self.new.heap) candidates }
+        ensures colours { KeepsColours self.old.heap self.new.heap }
+        ensures fresh { KeepsFresh self.old.heap self.new.heap }
+        ensures suspected { KeepsSuspected self.old.heap self.new.heap }
     {
         self.parts.expose(key);
     }
@@ -286,7 +283,7 @@ impl Heaps {
         requires colours { HasColours self.old.heap }
         ensures swept { result ≡ sweeps self.old.heap }
         ensures heap { self.new.heap ≡ (sweep self.old.heap).heap }
-        ensures told { Tells (N.telling out.old) (N.telling out.new) (texts_of (map of_event (sweep self.old.heap).events)) }
+        ensures told { TellsEvents (N.telling out.old) (N.telling out.new) (sweep self.old.heap).events }
         ensures natives { self.new.keys ≡ self.old.keys }
         ensures keys { KeepsKeys self.old self.new }
         ensures order { IsInOrder [] self.new }
@@ -299,7 +296,7 @@ impl Heaps {
     /// Lists each native by rising number, then each script object in order of making. How many there are.
     pub fn census<N: Notices>(&self, out: &mut N) -> u32
         requires order { IsInOrder [] self.now }
-        ensures told { Tells (N.telling out.old) (N.telling out.new) (texts_of (map Listed (census_names self.now.heap))) }
+        ensures told { TellsItems (N.telling out.old) (N.telling out.new) (map Listed (census_names self.now.heap)) }
         ensures count { result ≡ length (census_names self.now.heap) }
     {
         self.parts.census(out)
@@ -313,7 +310,7 @@ impl Heaps {
         ensures keys { KeepsKeys self.old self.new }
         ensures order { (owned : List ℕ) → IsInOrder owned self.old → IsInOrder (the_number self.old key.0 ∷ owned) self.new }
         ensures stands { StillStands self.old.heap self.new.heap }
-        ensures colours { HasColourInvariant (view self.old.heap) → HasColourInvariant (view self.new.heap) }
+        ensures colours { KeepsColours self.old.heap self.new.heap }
     {
         self.parts.root(key);
     }
@@ -323,11 +320,11 @@ impl Heaps {
         requires live { IsSome (number_at self.old key.0) }
         requires owned { (owned : List ℕ) × IsInOrder (the_number self.old key.0 ∷ owned) self.old }
         ensures heap { self.new ≡ left_with self.old (cascade self.old.heap (the_number self.old key.0)).heap }
-        ensures told { Tells (N.telling out.old) (N.telling out.new) (texts_of (map of_event (cascade self.old.heap (the_number self.old key.0)).events)) }
+        ensures told { TellsEvents (N.telling out.old) (N.telling out.new) (cascade self.old.heap (the_number self.old key.0)).events }
         ensures keys { KeepsKeys self.old self.new }
         ensures order { (owned : List ℕ) → IsInOrder (the_number self.old key.0 ∷ owned) self.old → IsInOrder owned self.new }
         ensures stands { StillStands self.old.heap self.new.heap }
-        ensures colours { HasColourInvariant (view self.old.heap) → HasColourInvariant (view self.new.heap) }
+        ensures colours { KeepsColours self.old.heap self.new.heap }
     {
         self.parts.release(key, out);
     }
@@ -337,11 +334,11 @@ impl Heaps {
         requires live { IsSome (number_at self.old key.0) }
         requires owned { (owned : List ℕ) × IsInOrder (the_number self.old key.0 ∷ owned) self.old }
         ensures heap { self.new ≡ left_with self.old (unlink self.old.heap (the_number self.old key.0)).heap }
-        ensures told { Tells (N.telling out.old) (N.telling out.new) (texts_of (map of_event (unlink self.old.heap (the_number self.old key.0)).events)) }
+        ensures told { TellsEvents (N.telling out.old) (N.telling out.new) (unlink self.old.heap (the_number self.old key.0)).events }
         ensures keys { KeepsKeys self.old self.new }
         ensures order { (owned : List ℕ) → IsInOrder (the_number self.old key.0 ∷ owned) self.old → IsInOrder (the_number self.old key.0 ∷ owned) self.new }
         ensures stands { ¬ (ReachedIn (view self.old.heap) (native (the_number self.old key.0))) → StillStands self.old.heap self.new.heap }
-        ensures colours { HasColourInvariant (view self.old.heap) → HasColourInvariant (view self.new.heap) }
+        ensures colours { KeepsColours self.old.heap self.new.heap }
     {
         self.parts.unlink(key, out);
     }
@@ -355,7 +352,7 @@ impl Heaps {
         ensures keys { KeepsKeys self.old self.new }
         ensures order { (owned : List ℕ) → IsInOrder owned self.old → IsInOrder owned self.new }
         ensures stands { StillStands self.old.heap self.new.heap }
-        ensures colours { HasColourInvariant (view self.old.heap) → HasColourInvariant (view self.new.heap) }
+        ensures colours { KeepsColours self.old.heap self.new.heap }
     {
         self.parts.select_next()
     }
@@ -368,9 +365,9 @@ impl Heaps {
         ensures keys { KeepsKeys self.old self.new }
         ensures order { (owned : List ℕ) → IsInOrder owned self.old → IsInOrder owned self.new }
         ensures stands { StillStands self.old.heap self.new.heap }
-        ensures colours { HasColourInvariant (view self.old.heap) → HasColourInvariant (view self.new.heap) }
-        ensures fresh { (s : Snapshot) → IsFresh self.old.heap.natives_made (view self.old.heap) s → IsFresh self.new.heap.natives_made (view self.new.heap) s }
-        ensures suspected { (candidates : List ℕ) → IsSuspected (view self.old.heap) candidates → IsSuspected (view self.new.heap) candidates }
+        ensures colours { KeepsColours self.old.heap self.new.heap }
+        ensures fresh { KeepsFresh self.old.heap self.new.heap }
+        ensures suspected { KeepsSuspected self.old.heap self.new.heap }
     {
         self.parts.give_back(key);
     }

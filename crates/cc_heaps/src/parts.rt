@@ -1,15 +1,12 @@
-ghost use Rattle.std.specs.Prelude.{◌≡◌, ◌<◌, ℕ, List, [], ◌∷◌, length, map, replicate, None, IsSome, IfOk, MatchOption};
+ghost use Rattle.std.specs.Prelude.{◌≡◌, ◌<◌, ℕ, List, [], ◌∷◌, length, replicate, None, IsSome, IfOk, MatchOption};
 ghost use Rattle.cc_names.specs.declared.register.Reg.TheVariants.{N as n_register, S as s_register};
-ghost use Rattle.cc_names.specs.Names.{native};
-ghost use Rattle.cc_model.specs.declared.item.Item.TheVariants.{Event as of_event};
-ghost use Rattle.cc_model.specs.Telling.{Tells};
-ghost use Rattle.cc_model.specs.Texts.{texts_of};
 ghost use Rattle.cc_model.specs.Heap.{empty_heap, register, suspect};
 ghost use Rattle.cc_model.specs.Cascade.{add_ref, cascade};
 ghost use Rattle.cc_model.specs.End.{unlink};
 ghost use Rattle.cc_heaps.specs.Keyed.{IsInOrder, counts_of, number_at, the_number, changed_to, left_with};
 ghost use Rattle.cc_heaps.specs.Changes.{IsNativeThere, IsScriptThere, native_name, script_name};
 ghost use Rattle.cc_heaps.specs.Parts.{keyed_of, IsLinked, heap_of};
+ghost use Rattle.cc_model.specs.Telling.{TellsEvents};
 
 mod census;
 mod holders;
@@ -125,7 +122,7 @@ impl Parts {
         requires live { IsSome (number_at (keyed_of self.old) key.0) }
         requires owned { (owned : List ℕ) × IsInOrder (the_number (keyed_of self.old) key.0 ∷ owned) (keyed_of self.old) }
         ensures heap { (keyed_of self.new) ≡ left_with (keyed_of self.old) (cascade (keyed_of self.old).heap (the_number (keyed_of self.old) key.0)).heap }
-        ensures told { Tells (N.telling out.old) (N.telling out.new) (texts_of (map of_event (cascade (keyed_of self.old).heap (the_number (keyed_of self.old) key.0)).events)) }
+        ensures told { TellsEvents (N.telling out.old) (N.telling out.new) (cascade (keyed_of self.old).heap (the_number (keyed_of self.old) key.0)).events }
         ensures order { (owned : List ℕ) → IsInOrder (the_number (keyed_of self.old) key.0 ∷ owned) (keyed_of self.old) → IsInOrder owned (keyed_of self.new) }
         ensures linked { IsLinked self.new }
     {
@@ -138,7 +135,7 @@ impl Parts {
         requires live { IsSome (number_at (keyed_of self.old) key.0) }
         requires owned { (owned : List ℕ) × IsInOrder (the_number (keyed_of self.old) key.0 ∷ owned) (keyed_of self.old) }
         ensures heap { (keyed_of self.new) ≡ left_with (keyed_of self.old) (unlink (keyed_of self.old).heap (the_number (keyed_of self.old) key.0)).heap }
-        ensures told { Tells (N.telling out.old) (N.telling out.new) (texts_of (map of_event (unlink (keyed_of self.old).heap (the_number (keyed_of self.old) key.0)).events)) }
+        ensures told { TellsEvents (N.telling out.old) (N.telling out.new) (unlink (keyed_of self.old).heap (the_number (keyed_of self.old) key.0)).events }
         ensures order { (owned : List ℕ) → IsInOrder (the_number (keyed_of self.old) key.0 ∷ owned) (keyed_of self.old) → IsInOrder (the_number (keyed_of self.old) key.0 ∷ owned) (keyed_of self.new) }
         ensures linked { IsLinked self.new }
     {

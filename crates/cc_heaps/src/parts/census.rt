@@ -1,12 +1,11 @@
 //! The objects listed.
 ghost use Rattle.std.specs.Prelude.{◌≡◌, ◌≤◌, [], length, map};
 ghost use Rattle.cc_model.specs.declared.item.Item.TheVariants.{Listed};
-ghost use Rattle.cc_model.specs.Telling.{Tells};
-ghost use Rattle.cc_model.specs.Texts.{texts_of};
 ghost use Rattle.cc_model.specs.WellFormed.{native_names, script_names};
 ghost use Rattle.cc_model.specs.Run.{census_names};
 ghost use Rattle.cc_heaps.specs.Keyed.{IsInOrder};
 ghost use Rattle.cc_heaps.specs.Parts.{keyed_of, IsLinked};
+ghost use Rattle.cc_model.specs.Telling.{TellsItems};
 
 use crate::parts::Parts;
 use cc_model::{Item, Notices};
@@ -16,7 +15,7 @@ impl Parts {
     // Each native by rising number; how many there are.
     fn list_natives<N: Notices>(&self, out: &mut N) -> u32
         requires order { IsInOrder [] (keyed_of self.now) }
-        ensures told { Tells (N.telling out.old) (N.telling out.new) (texts_of (map Listed (native_names (keyed_of self.now).heap))) }
+        ensures told { TellsItems (N.telling out.old) (N.telling out.new) (map Listed (native_names (keyed_of self.now).heap)) }
         ensures count { result ≡ length (native_names (keyed_of self.now).heap) }
         ensures few { result ≤ 1000000 }
     {
@@ -36,7 +35,7 @@ impl Parts {
     // Each script object in order of making; how many there are.
     fn list_scripts<N: Notices>(&self, out: &mut N) -> u32
         requires order { IsInOrder [] (keyed_of self.now) }
-        ensures told { Tells (N.telling out.old) (N.telling out.new) (texts_of (map Listed (script_names (keyed_of self.now).heap))) }
+        ensures told { TellsItems (N.telling out.old) (N.telling out.new) (map Listed (script_names (keyed_of self.now).heap)) }
         ensures count { result ≡ length (script_names (keyed_of self.now).heap) }
         ensures few { result ≤ 1000000 }
     {
@@ -54,7 +53,7 @@ impl Parts {
     pub(crate) fn census<N: Notices>(&self, out: &mut N) -> u32
         requires linked { IsLinked self.now }
         requires order { IsInOrder [] (keyed_of self.now) }
-        ensures told { Tells (N.telling out.old) (N.telling out.new) (texts_of (map Listed (census_names (keyed_of self.now).heap))) }
+        ensures told { TellsItems (N.telling out.old) (N.telling out.new) (map Listed (census_names (keyed_of self.now).heap)) }
         ensures count { result ≡ length (census_names (keyed_of self.now).heap) }
     {
         let natives = self.list_natives(out);

@@ -1,9 +1,6 @@
 //! Native registers and slots of natives written.
-ghost use Rattle.std.specs.Prelude.{◌≡◌, ◌<◌, [], ◌++◌, length, map, slice_index_or, Some, None, IsSome};
-ghost use Rattle.cc_names.specs.Names.{native, object};
-ghost use Rattle.cc_model.specs.declared.item.Item.TheVariants.{Event as of_event};
-ghost use Rattle.cc_model.specs.Telling.{Tells};
-ghost use Rattle.cc_model.specs.Texts.{texts_of};
+ghost use Rattle.std.specs.Prelude.{◌≡◌, ◌<◌, [], ◌++◌, length, slice_index_or, Some, None, IsSome};
+ghost use Rattle.cc_names.specs.Names.{native};
 ghost use Rattle.cc_model.specs.Heap.{native_at, register, set_register, set_slot};
 ghost use Rattle.cc_model.specs.Cascade.{take_up, let_go};
 ghost use Rattle.cc_model.specs.End.{slots_now};
@@ -14,6 +11,7 @@ ghost use Rattle.cc_counted.specs.Counts.{slots_of};
 ghost use Rattle.cc_heaps.specs.Keyed.{IsInOrder, counts_of, number_at, the_number, changed_to, left_with};
 ghost use Rattle.cc_heaps.specs.Changes.{IsNativeThere, IsThere, held_name, native_name, stored_in};
 ghost use Rattle.cc_heaps.specs.Parts.{keyed_of, heap_of, held_by, native_held, IsLinked, IsFit};
+ghost use Rattle.cc_model.specs.Telling.{TellsEvents};
 
 use crate::parts::Parts;
 use cc_counted::Held;
@@ -60,7 +58,7 @@ impl Parts {
         requires fit { IsFit (numbers_of (held_name (keyed_of self.old) content) ++ []) self.old }
         requires there { IsThere (keyed_of self.old) content }
         ensures heap { keyed_of self.new ≡ left_with (keyed_of self.old) (let_go (heap_of self.old) (held_name (keyed_of self.old) content)).heap }
-        ensures told { Tells (N.telling out.old) (N.telling out.new) (texts_of (map of_event (let_go (heap_of self.old) (held_name (keyed_of self.old) content)).events)) }
+        ensures told { TellsEvents (N.telling out.old) (N.telling out.new) (let_go (heap_of self.old) (held_name (keyed_of self.old) content)).events }
         ensures fit { IsFit [] self.new }
     {
         match native_of(content) {
@@ -88,7 +86,7 @@ impl Parts {
         requires fit { IsFit (numbers_of (native_name (keyed_of self.old) content) ++ []) self.old }
         requires there { IsNativeThere (keyed_of self.old) content }
         ensures heap { keyed_of self.new ≡ left_with (keyed_of self.old) (put_in_register (heap_of self.old) r (native_name (keyed_of self.old) content)).heap }
-        ensures told { Tells (N.telling out.old) (N.telling out.new) (texts_of (map of_event (put_in_register (heap_of self.old) r (native_name (keyed_of self.old) content)).events)) }
+        ensures told { TellsEvents (N.telling out.old) (N.telling out.new) (put_in_register (heap_of self.old) r (native_name (keyed_of self.old) content)).events }
         ensures fit { IsFit [] self.new }
     {
         let held = self.replace_register(r, content);
@@ -118,8 +116,8 @@ impl Parts {
         requires order { IsInOrder [] (keyed_of self.old) }
         requires there { IsNativeThere (keyed_of self.old) content }
         ensures heap { (keyed_of self.new) ≡ left_with (keyed_of self.old) (hold_native (keyed_of self.old).heap r (native_name (keyed_of self.old) content)).heap }
-        ensures told { Tells (N.telling out.old) (N.telling out.new)
-            (texts_of (map of_event (hold_native (keyed_of self.old).heap r (native_name (keyed_of self.old) content)).events)) }
+        ensures told { TellsEvents (N.telling out.old) (N.telling out.new)
+            (hold_native (keyed_of self.old).heap r (native_name (keyed_of self.old) content)).events }
         ensures order { IsInOrder [] (keyed_of self.new) }
         ensures linked { IsLinked self.new }
     {
@@ -144,8 +142,8 @@ impl Parts {
         requires within { i < length (slots_of (counts_of (keyed_of self.old)) key.0) }
         requires there { IsThere (keyed_of self.old) content }
         ensures heap { (keyed_of self.new) ≡ left_with (keyed_of self.old) (stored_in (keyed_of self.old).heap (the_number (keyed_of self.old) key.0) i (held_name (keyed_of self.old) content)).heap }
-        ensures told { Tells (N.telling out.old) (N.telling out.new)
-            (texts_of (map of_event (stored_in (keyed_of self.old).heap (the_number (keyed_of self.old) key.0) i (held_name (keyed_of self.old) content)).events)) }
+        ensures told { TellsEvents (N.telling out.old) (N.telling out.new)
+            (stored_in (keyed_of self.old).heap (the_number (keyed_of self.old) key.0) i (held_name (keyed_of self.old) content)).events }
         ensures order { IsInOrder [] (keyed_of self.new) }
         ensures linked { IsLinked self.new }
     {

@@ -1,14 +1,11 @@
 //! Natives made.
-ghost use Rattle.std.specs.Prelude.{◌≡◌, ◌+◌, ◌<◌, ◌≤◌, ℕ, [], ◌∷◌, map, Some, Err, IfOk, OnOk, OnErr};
+ghost use Rattle.std.specs.Prelude.{◌≡◌, ◌+◌, ◌<◌, ◌≤◌, ℕ, [], ◌∷◌, Some, Err, IfOk, OnOk, OnErr};
 ghost use Rattle.cc_names.specs.Names.{native};
-ghost use Rattle.cc_model.specs.declared.item.Item.TheVariants.{Event as of_event};
-ghost use Rattle.cc_model.specs.Telling.{Tells};
-ghost use Rattle.cc_model.specs.Texts.{texts_of};
-ghost use Rattle.cc_model.specs.Heap.{register};
 ghost use Rattle.cc_model.specs.Effects.{make_native, with_native};
 ghost use Rattle.cc_heaps.specs.Keyed.{IsInOrder, number_at};
 ghost use Rattle.cc_heaps.specs.Changes.{IsNativeThere, KeepsKeys, native_name};
 ghost use Rattle.cc_heaps.specs.Parts.{keyed_of, heap_of, IsLinked, IsFit};
+ghost use Rattle.cc_model.specs.Telling.{TellsEvents};
 
 use crate::make_stop::MakeStop;
 use crate::parts::Parts;
@@ -54,7 +51,7 @@ impl Parts {
         ensures full_always { (keyed_of self.old).heap.limits.natives ≤ (keyed_of self.old).heap.natives_made → result ≡ Err MakeStop.Full }
         ensures name { IfOk result (λ x. x ≡ native ((keyed_of self.old).heap.natives_made + 1)) }
         ensures heap { OnOk result ((keyed_of self.new).heap ≡ (make_native (keyed_of self.old).heap r slots).heap) }
-        ensures told { OnOk result (Tells (N.telling out.old) (N.telling out.new) (texts_of (map of_event (make_native (keyed_of self.old).heap r slots).events))) }
+        ensures told { OnOk result (TellsEvents (N.telling out.old) (N.telling out.new) (make_native (keyed_of self.old).heap r slots).events) }
         ensures scripts { (keyed_of self.new).scripts ≡ (keyed_of self.old).scripts }
         ensures keys { KeepsKeys (keyed_of self.old) (keyed_of self.new) }
         ensures same { OnErr result ((keyed_of self.new) ≡ (keyed_of self.old)) }

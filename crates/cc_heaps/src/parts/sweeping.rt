@@ -1,9 +1,9 @@
 //! White script objects swept.
-ghost use Rattle.std.specs.Prelude.{◌≡◌, ◌≤◌, ◌==◌, ℕ, List, [], count_by, map, Some, option_map, IfSome, IsTrue, MatchBool, if◌then◌else◌};
+ghost use Rattle.std.specs.Prelude.{◌≡◌, ◌≤◌, ◌==◌, ℕ, [], count_by, Some, option_map, IfSome, IsTrue, if◌then◌else◌};
 ghost use Rattle.cc_model.specs.declared.item.Event.TheVariants.{Freed};
 ghost use Rattle.cc_model.specs.declared.item.Item.TheVariants.{Event as of_event};
-ghost use Rattle.cc_model.specs.Telling.{Tells};
-ghost use Rattle.cc_model.specs.Texts.{text_of, texts_of};
+ghost use Rattle.cc_model.specs.Telling.{Tells, TellsEvents};
+ghost use Rattle.cc_model.specs.Texts.{text_of};
 ghost use Rattle.cc_model.specs.Heap.{is_white_colour};
 ghost use Rattle.cc_model.specs.Colours.{HasColours};
 ghost use Rattle.cc_model.specs.Sweep.{sweep, sweeps};
@@ -41,7 +41,7 @@ fn sweep_whites<N: Notices>(scripts: &mut Scripts, out: &mut N) -> bool
     requires { (key : ℕ) → count_by (λ o. o.key == key) scripts.old ≤ 1 }
     ensures swept { result ≡ are_some (white_names scripts.old) }
     ensures left { scripts.new ≡ not_white scripts.old }
-    ensures told { Tells (N.telling out.old) (N.telling out.new) (texts_of (map of_event (freed (white_names scripts.old)))) }
+    ensures told { TellsEvents (N.telling out.old) (N.telling out.new) (freed (white_names scripts.old)) }
 {
     let mut swept = false;
     let mut at = scripts.first();
@@ -62,7 +62,7 @@ impl Parts {
         requires colours { HasColours (keyed_of self.old).heap }
         ensures swept { result ≡ sweeps (keyed_of self.old).heap }
         ensures heap { (keyed_of self.new).heap ≡ (sweep (keyed_of self.old).heap).heap }
-        ensures told { Tells (N.telling out.old) (N.telling out.new) (texts_of (map of_event (sweep (keyed_of self.old).heap).events)) }
+        ensures told { TellsEvents (N.telling out.old) (N.telling out.new) (sweep (keyed_of self.old).heap).events }
         ensures natives { (keyed_of self.new).keys ≡ (keyed_of self.old).keys }
         ensures keys { KeepsKeys (keyed_of self.old) (keyed_of self.new) }
         ensures order { IsInOrder [] (keyed_of self.new) }
