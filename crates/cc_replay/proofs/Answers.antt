@@ -24,7 +24,7 @@ use Rattle.cc_reader.specs.FormsNow.{forms_now}
 use Rattle.cc_reader.specs.Pending.{Pending}
 use Rattle.cc_reader.specs.Given.{AreFirst, HasGiven}
 use Rattle.cc_reader.proofs.Given.{HasGiven-first}
-use Rattle.cc_replay.specs.Answered.{at_rest}
+use Rattle.cc_collector.specs.Answered.{at_rest}
 use Rattle.cc_replay.specs.Answering.{Answers, AreAnswered, GivesLine, LineIsAnswered, Moment}
 use Rattle.cc_replay.specs.Transcripts.{IsTranscript}
 

@@ -14,7 +14,7 @@ use Rattle.cc_model.specs.Run.{do_ask}
 use Rattle.cc_laws_run.specs.Memory.{IsDoneFor}
 use Rattle.cc_laws_run.specs.Running.{ask_in_range}
 use Rattle.cc_reader.specs.FormsNow.{forms_now}
-use Rattle.cc_replay.specs.Answered.{at_rest}
+use Rattle.cc_collector.specs.Answered.{at_rest}
 use Rattle.cc_replay.specs.Answering.{LineIsAnswered}
 
 -- a line of at most 120 bytes asks what its command says

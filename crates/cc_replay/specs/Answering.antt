@@ -10,7 +10,7 @@ use Rattle.cc_laws_run.specs.Running.{ask_in_range}
 use Rattle.cc_reader.specs.FormsNow.{forms_now}
 use Rattle.cc_reader.specs.Pending.{Pending}
 use Rattle.cc_reader.specs.Given.{HasGiven}
-use Rattle.cc_replay.specs.Answered.{at_rest, IsAnswered}
+use Rattle.cc_collector.specs.Answered.{at_rest, IsAnswered}
 
 -- one more line was given, whatever was given before
 abbrev pub GivesLine : Option (List ℕ) → Option (List ℕ) → Pending → Pending → List ℕ → Type 0

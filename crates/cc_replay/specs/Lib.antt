@@ -1,10 +1,3 @@
-pub mod Answered
 pub mod Answering
 pub mod Transcripts
 pub mod Words
-pub mod Blackness
-pub mod BuildSteps
-pub mod Building
-pub mod Collected
-pub mod Whites
-pub mod Resting

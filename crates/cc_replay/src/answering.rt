@@ -10,21 +10,22 @@ ghost use Rattle.cc_model.specs.Heap.{empty_heap};
 ghost use Rattle.cc_model.specs.Suspected.{IsSuspected};
 ghost use Rattle.cc_model.specs.View.{view};
 ghost use Rattle.cc_reader.specs.FormsNow.{is_known};
-ghost use Rattle.cc_replay.specs.Answered.{IsAnswered};
-ghost use Rattle.cc_replay.specs.Resting.{IsAtRest};
+ghost use Rattle.cc_collector.specs.Answered.{IsAnswered};
+ghost use Rattle.cc_collector.specs.Resting.{IsAtRest};
 ghost use Rattle.cc_heaps.specs.Few.{AreFew};
 ghost use Rattle.cc_heaps.specs.Keyed.{IsInOrder};
 ghost use Rattle.cc_mutator.specs.Applied.{is_applied};
 ghost use Rattle.cc_replay.specs.Answering.{GivesLine, LineIsAnswered, Answers, moment};
 ghost use Rattle.cc_replay.specs.Transcripts.{ends, IsDone, StopsAtFault, StopsAtLimit, StopsAtWrite};
 
-use crate::collect::answer_collect;
 use crate::outlet::Reports;
 use crate::status::Status;
+use cc_collector::collect_whole;
 use cc_gc::collect_scripts;
 use cc_heaps::Heaps;
 use cc_model::{Command, Item, Notices, Refusal, Reply};
 use cc_mutator::apply;
+use cc_names::NoMemory;
 use cc_outside::Source;
 use cc_reader::{Line, Lines, ReadStop, parse};
 use std::alloc::Global;
@@ -46,6 +47,18 @@ fn answer_gc<N: Notices>(heaps: &mut Heaps, out: &mut N)
 {
     collect_scripts(heaps, out);
     out.tell(Item::Reply(Reply::Done));
+}
+
+/// Answers `collect`.
+fn answer_collect<N: Notices>(alloc: Global, heaps: &mut Heaps, out: &mut N)
+    requires rest { IsAtRest heaps.old }
+    ensures answered { IsAnswered heaps.old.heap heaps.new.heap (taken command.Collect) (N.telling out.old) (N.telling out.new) }
+    ensures rest { IsAtRest heaps.new }
+{
+    match collect_whole(alloc, heaps, out) {
+        Ok(()) => out.tell(Item::Reply(Reply::Done)),
+        Err(NoMemory) => out.tell(Item::Reply(Reply::Refused(Refusal::NoMemory))),
+    }
 }
 
 /// Answers a command of the mutator: what it deletes is told, and then its reply. It forgets no native that nothing

@@ -2,14 +2,9 @@
 #![tactic(auto)]
 
 mod answering;
-mod build;
-mod collect;
-mod ends;
 mod outlet;
 mod program;
-mod scan;
 mod status;
-mod touched;
 mod words;
 
 pub use program::{replay, run};

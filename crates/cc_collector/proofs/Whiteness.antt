@@ -1,0 +1,285 @@
+-- WHAT IS WHITE IN A GRAPH IS WHITE IN THE SNAPSHOT that it holds.
+use Rattle.std.specs.Prelude.{IsTrue, ◌↔◌, slice_get, nat_lt, not, ◌||◌}
+use Rattle.std.proofs.Common.{◌≡◌, ℕ, Bool, true, false, List, [], ◌∷◌, ◌++◌, length, map, filter, Option, Some, None, refl, sym, ◌∙◌, ap, subst, inl, inr, ◌⊎◌, ⊎_elim, arith, ◌==◌}
+use Rattle.std.proofs.lemmas.Bool.{false≢true, and_parts, and_from, or_cases, or_left, or_right}
+use Rattle.cc_lists.specs.Members.{Among, has}
+use Rattle.cc_lists.specs.Least.{Least, system}
+use Rattle.cc_lists.proofs.Members.{Among-map, Among-map_cases, Among-left, Among-right, Among-append, Among-filter, Among-filtered, Among-passes, has-among, has-there}
+use Rattle.cc_lists.proofs.CountsOf.{false-left}
+use Rattle.cc_lists.proofs.Closure.{closure-decides}
+use Rattle.cc_lists.proofs.Least.{derive-root, derive-along, derived-within}
+use Rattle.cc_lists.proofs.Together.{derived-from}
+use Rattle.cc_lists.proofs.Places.{among-place, place-among}
+use Rattle.cc_names.specs.declared.name.Name.{Name}
+use Rattle.cc_names.specs.Names.{native, is_native, same_name}
+use Rattle.cc_names.proofs.NameTests.{same_name-exact}
+use Rattle.cc_model.specs.Heap.{HeapNative}
+use Rattle.cc_model.specs.View.{View, view, counted, scripts_there, is_there}
+use Rattle.cc_model.specs.Snapshot.{traversed, Node, Snapshot, node_names, noted_to, is_above, is_seed, seeds, mapping_joint, black_in_rules, BlackIn, black_in, is_white, white_names, white_natives}
+use Rattle.cc_lists.proofs.Numbers.{number-exact}
+use Rattle.cc_graph.specs.Shown.{Vertex, Edge, Shown, number_of, edges_to, is_black}
+use Rattle.cc_heaps.specs.Keyed.{Keyed}
+use Rattle.cc_collector.specs.Building.{Built, HasNoSample, IsBuilt, state_by_sample, nodes_of, names_of, name_at, reference_of, snapshot_of}
+use Rattle.cc_collector.specs.Blackness.{exceeds, numbers_where, held_elsewhere, is_touched, touched, pair_of, scan_rules, is_white_node, is_white_in, whites_of}
+use Rattle.cc_collector.proofs.MarkedNodes.{numbers-passing, passing-numbers}
+use Rattle.cc_collector.proofs.NodesByName.{name-at, node-at, distinct-number, IsNumberOf, number-some, number-none, behind, nodes-behind, names-behind, alike, noted-same}
+
+-- tests that agree on the members filter the same
+filter-alike : {X : Type 0} (p q : X → Bool) (xs : List X) → ((x : X) → Among x xs → p x ≡ q x) → filter p xs ≡ filter q xs
+filter-alike p q [] h = refl
+filter-alike p q (x ∷ xs) h = rw (h x (inl refl), filter-alike p q xs (λ y m. h y (inr m))) refl
+
+above-exceeds : (s : Snapshot) (x : Name) (noted : ℕ) (sampled : Option ℕ) → noted_to s x ≡ noted → is_above s x (state_by_sample sampled) ≡ exceeds noted sampled
+above-exceeds s x noted None e = refl
+above-exceeds s x noted (Some n) e = ap (λ c. nat_lt c n) e
+
+or-none : (b : Bool) → b ≡ (b || false)
+or-none true = refl
+or-none false = refl
+
+-- a node is black by itself where it is touched, or more references were sampled than are noted: of a native alone
+seed-of : (v : View) (s : Snapshot) (w : Vertex) (noted : ℕ) → noted_to s w.name ≡ noted → HasNoSample w → is_seed v s (behind w) ≡ (is_touched v w.name || exceeds noted w.sampled)
+seed-of v s w noted e uncounted = go (is_native w.name) uncounted
+  where
+    go : (t : Bool) → (t ≡ false → w.sampled ≡ None) →
+        elim t as (λ _. Bool) [
+          | true ↦ has same_name v.buffer w.name || is_above s w.name (elim t [ true ↦ state_by_sample w.sampled | false ↦ traversed None ])
+          | false ↦ has same_name v.black w.name
+        ] ≡ (elim t [ true ↦ has same_name v.buffer w.name | false ↦ has same_name v.black w.name ] || exceeds noted w.sampled)
+    go true f = ap (λ z. has same_name v.buffer w.name || z) (above-exceeds s w.name noted w.sampled e)
+    go false f = or-none (has same_name v.black w.name) ∙ ap (λ o. has same_name v.black w.name || exceeds noted o) (sym (f refl))
+
+module _ (b : Built) (v : Keyed) (built : IsBuilt b v) (all : b.next ≡ length b.graph.nodes) where
+  abbrev ns : List Vertex
+  ns = b.graph.nodes
+
+  abbrev es : List Edge
+  es = b.graph.edges
+
+  abbrev s : Snapshot
+  s = snapshot_of b
+
+  abbrev roots : List ℕ
+  roots = touched b.graph v.heap ++ held_elsewhere b.graph
+
+  abbrev IsReached : ℕ → Type 0
+  IsReached = Least (system roots (map pair_of es) [])
+
+  the_nodes : s.nodes ≡ map behind ns
+  the_nodes = ap (λ n. nodes_of n ns) all ∙ nodes-behind ns
+
+  -- whether a node is black by itself
+  abbrev seed_test : ℕ → Vertex → Bool
+  seed_test i w = is_touched (view v.heap) w.name || exceeds (edges_to es i) w.sampled
+
+  seed-tests : (i : ℕ) (w : Vertex) → slice_get ns i ≡ Some w → is_seed (view v.heap) s (behind w) ≡ seed_test i w
+  seed-tests i w at = seed-of (view v.heap) s w (edges_to es i)
+      (noted-same ns built.distinct es (λ e m. (built.closed e m).1) i w at) (built.uncounted w (place-among w ns i at))
+
+  -- it is one of the roots
+  seed-root : (i : ℕ) (w : Vertex) → slice_get ns i ≡ Some w → is_seed (view v.heap) s (behind w) ≡ true → Among i roots
+  seed-root i w at seed = ⊎_elim
+      (λ l. Among-left i (touched b.graph v.heap) (held_elsewhere b.graph) (passing-numbers _ 0 ns i w i at (omega arith) l))
+      (λ r. Among-right i (touched b.graph v.heap) (held_elsewhere b.graph) (passing-numbers _ 0 ns i w i at (omega arith) r))
+      (or_cases (is_touched (view v.heap) w.name) (exceeds (edges_to es i) w.sampled) (sym (seed-tests i w at) ∙ seed))
+
+  -- and each root is black by itself
+  root-seed : (i : ℕ) → Among i roots → (w : Vertex) × (slice_get ns i ≡ Some w) × (is_seed (view v.heap) s (behind w) ≡ true)
+  root-seed i m = ⊎_elim
+      (λ l.
+      let k = numbers-passing _ 0 ns i l in
+      let place : k.place ≡ i = omega (arith, k.number) in
+      let at : slice_get ns i ≡ Some k.node = subst (λ z. slice_get ns z ≡ Some k.node) place k.there in
+      (k.node, at, seed-tests i k.node at ∙ or_left (is_touched (view v.heap) k.node.name) (exceeds (edges_to es i) k.node.sampled) k.passes))
+      (λ r.
+      let k = numbers-passing _ 0 ns i r in
+      let place : k.place ≡ i = omega (arith, k.number) in
+      let at : slice_get ns i ≡ Some k.node = subst (λ z. slice_get ns z ≡ Some k.node) place k.there in
+      (k.node, at, seed-tests i k.node at ∙ or_right (is_touched (view v.heap) k.node.name) (exceeds (edges_to es i) k.node.sampled) k.passes))
+      (Among-append i (touched b.graph v.heap) (held_elsewhere b.graph) m)
+
+  -- the seeds of the snapshot are the roots' names
+  seed-there : (i : ℕ) (w : Vertex) → slice_get ns i ≡ Some w → is_seed (view v.heap) s (behind w) ≡ true → Among w.name (seeds (view v.heap) s)
+  seed-there i w at seed = Among-map (λ (n : Node). n.name) (behind w) (filter (is_seed (view v.heap) s) s.nodes)
+      (Among-filter (is_seed (view v.heap) s) (behind w) s.nodes
+      (subst (Among (behind w)) (sym the_nodes) (Among-map behind w ns (place-among w ns i at))) seed)
+
+  -- A node that is reached from the roots is black in the snapshot,
+  record IsBlackNode (i : ℕ) : Type 0 where
+    node : Vertex
+    there : slice_get ns i ≡ Some node
+    black : BlackIn (view v.heap) s node.name
+
+  reached-black : (i : ℕ) → IsReached i → IsBlackNode i
+  reached-black = derived-within roots (map pair_of es) [] IsBlackNode
+      (λ i m.
+      let k = root-seed i m in
+      record { node = k.0; there = k.1; black = derive-root (seeds (view v.heap) s) s.references (map mapping_joint s.mappings) k.0.name (seed-there i k.0 k.1 k.2) })
+      (λ i j m h. follow i j h (Among-map_cases pair_of es (i, j) m))
+      (λ ps i m. absurd m)
+    where
+      along_edge : (e : Edge) → Among e es → IsBlackNode e.source → IsBlackNode e.target
+      along_edge e m h =
+          let t = node-at ns e.target (built.closed e m).1 in
+          let reference : Among (name_at ns e.source, name_at ns e.target) s.references = Among-map (reference_of ns) e es m in
+          let named : Among (h.node.name, t.0.name) s.references =
+          subst (λ z. Among (h.node.name, z) s.references) (name-at ns e.target t.0 t.1)
+          (subst (λ z. Among (z, name_at ns e.target) s.references) (name-at ns e.source h.node h.there) reference) in
+          record {
+            node = t.0;
+            there = t.1;
+            black = derive-along (seeds (view v.heap) s) s.references (map mapping_joint s.mappings) h.node.name t.0.name named h.black;
+          }
+
+      follow : (i j : ℕ) → IsBlackNode i → (e : Edge) × Among e es × (pair_of e ≡ (i, j)) → IsBlackNode j
+      follow i j h k = subst IsBlackNode (ap (λ (z : ℕ × ℕ). z.1) k.2) (along_edge k.0 k.1 (subst IsBlackNode (sym (ap (λ (z : ℕ × ℕ). z.0) k.2)) h))
+
+  -- and what is black in the snapshot is such a node's name.
+  record IsNamed (x : Name) : Type 0 where
+    number : ℕ
+    node : Vertex
+    there : slice_get ns number ≡ Some node
+    name : node.name ≡ x
+    reached : IsReached number
+
+  black-reached : (x : Name) → BlackIn (view v.heap) s x → IsNamed x
+  black-reached = derived-within (seeds (view v.heap) s) s.references (map mapping_joint s.mappings) IsNamed
+      (λ x m. from_seed x (Among-map_cases (λ (n : Node). n.name) (filter (is_seed (view v.heap) s) s.nodes) x m))
+      (λ x y m h. follow x y h (Among-map_cases (reference_of ns) es (x, y) m))
+      (λ ps x m. absurd m)
+    where
+      from_seed : (x : Name) → (n : Node) × Among n (filter (is_seed (view v.heap) s) s.nodes) × (n.name ≡ x) → IsNamed x
+      from_seed x n =
+          let stands : Among n.0 (map behind ns) = subst (Among n.0) the_nodes (Among-filtered (is_seed (view v.heap) s) n.0 s.nodes n.1) in
+          let w = Among-map_cases behind ns n.0 stands in
+          let at = among-place w.0 ns w.1 in
+          let seed : is_seed (view v.heap) s (behind w.0) ≡ true = ap (is_seed (view v.heap) s) w.2 ∙ Among-passes (is_seed (view v.heap) s) n.0 s.nodes n.1 in
+          record {
+            number = at.0;
+            node = w.0;
+            there = at.1;
+            name = ap (λ (z : Node). z.name) w.2 ∙ n.2;
+            reached = derive-root roots (map pair_of es) [] at.0 (seed-root at.0 w.0 at.1 seed);
+          }
+
+      follow : (x y : Name) → IsNamed x → (e : Edge) × Among e es × (reference_of ns e ≡ (x, y)) → IsNamed y
+      follow x y h k =
+          let from = node-at ns k.0.source (built.closed k.0 k.1).0 in
+          let t = node-at ns k.0.target (built.closed k.0 k.1).1 in
+          let first : from.0.name ≡ x = sym (name-at ns k.0.source from.0 from.1) ∙ ap (λ (z : Name × Name). z.0) k.2 in
+          let second : t.0.name ≡ y = sym (name-at ns k.0.target t.0 t.1) ∙ ap (λ (z : Name × Name). z.1) k.2 in
+          let same : h.number ≡ k.0.source = distinct-number ns built.distinct h.number k.0.source h.node from.0 h.there from.1 (h.name ∙ sym first) in
+          record {
+            number = k.0.target;
+            node = t.0;
+            there = t.1;
+            name = second;
+            reached = derive-along roots (map pair_of es) [] k.0.source k.0.target (Among-map pair_of k.0 es k.1) (subst IsReached same h.reached);
+          }
+
+  -- Black in the snapshot is reached from the roots.
+  black-node : (i : ℕ) (w : Vertex) → slice_get ns i ≡ Some w → BlackIn (view v.heap) s w.name ↔ IsReached i
+  black-node i w at = (
+    λ d.
+        let h = black-reached w.name d in
+        subst IsReached (distinct-number ns built.distinct h.number i h.node w h.there at h.name) h.reached,
+    λ r.
+        let h = reached-black i r in
+        let both : Some h.node ≡ Some w = sym h.there ∙ at in
+        let same : h.node ≡ w = cc in
+        subst (λ (z : Vertex). BlackIn (view v.heap) s z.name) same h.black,
+  )
+
+  module _ (g m : Shown) (nodes : g.nodes ≡ b.graph.nodes) (m_nodes : m.nodes ≡ b.graph.nodes) (m_edges : m.edges ≡ b.graph.edges)
+      (touched_first : (i : ℕ) → IsTrue (is_black m i) ↔ Among i (touched b.graph v.heap))
+      (scanned : (i : ℕ) → IsTrue (is_black g i) ↔ Least (scan_rules m) i) where
+    held_same : held_elsewhere m ≡ held_elsewhere b.graph
+    held_same = ap (λ l. numbers_where (λ i w. exceeds (edges_to l i) w.sampled) 0 m.nodes) m_edges ∙ ap (numbers_where (λ i w. exceeds (edges_to es i) w.sampled) 0) m_nodes
+
+    black-reached_in : (i : ℕ) → IsTrue (is_black g i) ↔ IsReached i
+    black-reached_in i = (
+      λ e. derived-from (map pair_of es) (m.blacks ++ held_elsewhere m) roots (λ x l. derive-root roots (map pair_of es) [] x (into x l)) i (subst (λ l. Least (system (m.blacks ++ held_elsewhere m) (map pair_of l) []) i) m_edges ((scanned i).0 e)),
+      λ d. (scanned i).1 (subst (λ l. Least (system (m.blacks ++ held_elsewhere m) (map pair_of l) []) i) (sym m_edges) (derived-from (map pair_of es) roots (m.blacks ++ held_elsewhere m) (λ x l. derive-root (m.blacks ++ held_elsewhere m) (map pair_of es) [] x (back x l)) i d)),
+    )
+      where
+        into : (x : ℕ) → Among x (m.blacks ++ held_elsewhere m) → Among x roots
+        into x m₁ = ⊎_elim
+            (λ l. Among-left x (touched b.graph v.heap) (held_elsewhere b.graph) ((touched_first x).0 (has-there _ number-exact m.blacks x l)))
+            (λ r. Among-right x (touched b.graph v.heap) (held_elsewhere b.graph) (subst (Among x) held_same r))
+            (Among-append x m.blacks (held_elsewhere m) m₁)
+
+        back : (x : ℕ) → Among x roots → Among x (m.blacks ++ held_elsewhere m)
+        back x m₁ = ⊎_elim
+            (λ l. Among-left x m.blacks (held_elsewhere m) (has-among _ number-exact m.blacks x ((touched_first x).1 l)))
+            (λ r. Among-right x m.blacks (held_elsewhere m) (subst (Among x) (sym held_same) r))
+            (Among-append x (touched b.graph v.heap) (held_elsewhere b.graph) m₁)
+
+    -- a node is black in the graph where its name is black in the snapshot
+    tests-alike : (i : ℕ) (w : Vertex) → slice_get ns i ≡ Some w → has same_name (black_in (view v.heap) s) w.name ≡ is_black g i
+    tests-alike i w at = alike (has same_name (black_in (view v.heap) s) w.name) (is_black g i)
+        (λ e. (black-reached_in i).1 ((black-node i w at).0 ((closure-decides same_name same_name-exact (black_in_rules (view v.heap) s) w.name).0 e)))
+        (λ e. (closure-decides same_name same_name-exact (black_in_rules (view v.heap) s) w.name).1 ((black-node i w at).1 ((black-reached_in i).0 e)))
+
+    -- a native is white in the graph where it is white in the snapshot
+    white-alike : (n : HeapNative) → Among n v.heap.natives → has same_name (white_names (view v.heap) s) (native n.number) ≡ is_white_in g n
+    white-alike n there = go (number_of g.nodes (native n.number)) refl
+      where
+        x : Name
+        x = native n.number
+
+        test : Name → Bool
+        test = is_white (view v.heap) (black_in (view v.heap) s)
+
+        the_names : node_names s ≡ names_of ns
+        the_names = ap (map (λ (z : Node). z.name)) the_nodes ∙ names-behind ns
+
+        stands : is_there (view v.heap) x ≡ true
+        stands = or_left (has same_name (map (λ (z : Name × ℕ). z.0) (view v.heap).natives) x) (has same_name (scripts_there (view v.heap)) x)
+            (has-there same_name same_name-exact (map (λ (z : Name × ℕ). z.0) (view v.heap).natives) x
+            (Among-map (λ (z : Name × ℕ). z.0) (counted n) (view v.heap).natives (Among-map counted n v.heap.natives there)))
+
+        nowhere : number_of g.nodes x ≡ None → has same_name (filter test (node_names s)) x ≡ true → ⊥
+        nowhere e h =
+            let among : Among x (names_of ns) = subst (Among x) the_names (Among-filtered test x (node_names s) (has-among same_name same_name-exact (filter test (node_names s)) x h)) in
+            let w = Among-map_cases (λ (z : Vertex). z.name) ns x among in
+            number-none 0 g.nodes x e w.0 (subst (Among w.0) (sym nodes) w.1) w.2
+
+        somewhere : (i : ℕ) → IsNumberOf 0 g.nodes x i → has same_name (filter test (node_names s)) x ≡ not (is_black g i)
+        somewhere i k =
+            let place : k.place ≡ i = omega (arith, k.number) in
+            let at : slice_get ns i ≡ Some k.node = subst (λ l. slice_get l i ≡ Some k.node) nodes (subst (λ z. slice_get g.nodes z ≡ Some k.node) place k.there) in
+            let black : has same_name (black_in (view v.heap) s) x ≡ is_black g i = ap (has same_name (black_in (view v.heap) s)) (sym k.named) ∙ tests-alike i k.node at in
+            let among : Among x (node_names s) = subst (Among x) (sym the_names)
+            (subst (λ z. Among z (names_of ns)) k.named (Among-map (λ (z : Vertex). z.name) k.node ns (place-among k.node ns i at))) in
+            alike (has same_name (filter test (node_names s)) x) (not (is_black g i))
+            (λ e.
+            let passes = Among-passes test x (node_names s) (has-among same_name same_name-exact (filter test (node_names s)) x e) in
+            ap not (sym black) ∙ (and_parts (is_there (view v.heap) x) (not (has same_name (black_in (view v.heap) s) x)) passes).1)
+            (λ e. has-there same_name same_name-exact (filter test (node_names s)) x (Among-filter test x (node_names s) among
+            (and_from (is_there (view v.heap) x) (not (has same_name (black_in (view v.heap) s) x)) stands (ap not black ∙ e))))
+
+        go : (o : Option ℕ) → number_of g.nodes x ≡ o → has same_name (filter test (node_names s)) x ≡ is_white_node g o
+        go None e = false-left (has same_name (filter test (node_names s)) x) (nowhere e)
+        go (Some i) e = somewhere i (number-some 0 g.nodes x i e)
+
+    -- THE LAW
+    pub whites-are : whites_of g v.heap ≡ white_natives v.heap (snapshot_of b)
+    unfolding white_natives
+    whites-are = ap (map (λ (n : HeapNative). n.number)) (filter-alike (is_white_in g) (λ n. has same_name (white_names (view v.heap) s) (native n.number)) v.heap.natives
+        (λ n there. sym (white-alike n there)))
+
+-- After what is touched became black in a graph that was built, and then what the scan makes black, what is white in it is
+-- white in its snapshot.
+pub whites-found : (b : Built) (v : Keyed) (m g : Shown) → IsBuilt b v → b.next ≡ length b.graph.nodes →
+    ((i : ℕ) → IsTrue (is_black m i) ↔ (IsTrue (is_black b.graph i) ⊎ Among i (touched b.graph v.heap))) → m ≡ record b.graph { blacks = m.blacks } →
+    ((i : ℕ) → IsTrue (is_black g i) ↔ Least (scan_rules m) i) → g ≡ record m { blacks = g.blacks } →
+    whites_of g v.heap ≡ white_natives v.heap (snapshot_of b)
+whites-found b v m g built all marked kept least rest =
+    whites-are b v built all g m (ap (λ (z : Shown). z.nodes) rest ∙ m_nodes) m_nodes (ap (λ (z : Shown). z.edges) kept)
+    (λ i. (λ e. ⊎_elim (λ o. absurd (none i o)) (λ t. t) ((marked i).0 e), λ t. (marked i).1 (inr t))) least
+  where
+    m_nodes : m.nodes ≡ b.graph.nodes
+    m_nodes = ap (λ (z : Shown). z.nodes) kept
+
+    none : (i : ℕ) → IsTrue (is_black b.graph i) → ⊥
+    none i o = false≢true (ap (λ l. has ◌==◌ l i) (sym built.no_blacks) ∙ o)

@@ -1,0 +1,14 @@
+use Rattle.std.proofs.Common.{◌≡◌, []}
+use Rattle.cc_model.specs.End.{give_back}
+use Rattle.cc_heaps.specs.Keyed.{IsInOrder, changed_to}
+use Rattle.cc_collector.specs.Building.{AreHeld, IsBuilt}
+use Rattle.cc_collector.proofs.GivingBack.{left_to_give}
+use Rattle.cc_collector.proofs.build.Build.abandon.Given as goal
+
+abbrev pub invariant-loop-i : goal.invariant-loop-i
+invariant-loop-i l = record {
+  left : changed_to l.heaps (give_back (left_to_give l.fn.self l.i) l.heaps.heap) ≡ changed_to l.fn.heaps (give_back (left_to_give l.fn.self 0) l.fn.heaps.heap);
+  built : IsBuilt l.fn.self l.heaps;
+  held : AreHeld l.fn.self.graph l.heaps;
+  order : IsInOrder [] l.heaps;
+}

@@ -1,0 +1,19 @@
+use Rattle.std.proofs.Common.{◌≡◌, ℕ, ◌↔◌, ◌⊎◌, IsTrue, sym, subst}
+use Rattle.cc_lists.specs.Members.{Among}
+use Rattle.cc_graph.specs.Shown.{Shown, is_black}
+use Rattle.cc_collector.specs.Building.{AreHeld}
+use Rattle.cc_collector.specs.Blackness.{touched}
+use Rattle.cc_collector.proofs.Whiteness.{whites-found}
+use Rattle.cc_collector.proofs.collect.blackened.Goals as goal
+
+pub mark_touched-requires-clause-held : goal.mark_touched-requires-clause-held
+mark_touched-requires-clause-held c = subst (λ (g : Shown). AreHeld g c.args.heaps.now) (sym c.finish-graph.ensures) c.requires.held
+
+pub returns : goal.returns
+returns c =
+    let v = c.args.heaps.now in
+    let m = c.mark_touched.new.graph in
+    whites-found c.args.build v m c.scan.new.graph c.requires.built c.requires.behind
+    (subst (λ (g : Shown). (i : ℕ) → IsTrue (is_black m i) ↔ (IsTrue (is_black g i) ⊎ Among i (touched g v.heap))) c.finish-graph.ensures c.mark_touched.ensures.marked)
+    (subst (λ (g : Shown). m ≡ record g { blacks = m.blacks }) c.finish-graph.ensures c.mark_touched.ensures.rest)
+    c.scan.ensures.least c.scan.ensures.rest
