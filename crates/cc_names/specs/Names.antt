@@ -1,5 +1,7 @@
 -- Names of objects: how they are made, told apart and written.
 use Rattle.std.specs.Prelude.{ℕ, Bool, true, false, not, ◌==◌, List, [], ◌∷◌, decimal}
+use Rattle.std.specs.declared.cmp.Ordering.{Ordering}
+use Rattle.std.specs.Ordering.{nat_cmp, ordering_then}
 use Rattle.cc_names.specs.declared.name.Name.{Name}
 use Rattle.cc_names.specs.declared.name.Name.TheVariants.{Native, Script, Reflector}
 
@@ -40,6 +42,16 @@ abbrev pub number_of : Name → ℕ
 number_of (Native k) = k.0
 number_of (Script k) = k.0
 number_of (Reflector k) = k.0
+
+-- natives come first, then plain objects and weak maps, then reflectors
+abbrev pub place_of_kind : Name → ℕ
+place_of_kind (Native k) = 0
+place_of_kind (Script k) = 1
+place_of_kind (Reflector k) = 2
+
+-- THE ORDER OF NAMES: by kind, and by number where the kinds are the same
+abbrev pub order_of_names : Name → Name → Ordering
+order_of_names x y = ordering_then (nat_cmp (place_of_kind x) (place_of_kind y)) (nat_cmp (number_of x) (number_of y))
 
 -- a native's own number
 abbrev pub natives_in : Name → List ℕ

@@ -1,3 +1,5 @@
+//! Kinds and colours of script objects.
+
 /// What a script object is.
 #[derive(Clone, Copy, Debug, PartialEq, Eq, Drop)]
 pub enum Kind {

@@ -7,7 +7,7 @@
 
 ghost use Rattle.std.specs.Prelude.{◌≡◌, ◌↔◌, IsTrue};
 ghost use Rattle.cc_names.specs.declared.name.Name.{Name};
-ghost use Rattle.cc_names.specs.Names.{same_name};
+ghost use Rattle.cc_names.specs.Names.{same_name, order_of_names};
 
 mod kind;
 mod limits;
@@ -28,6 +28,12 @@ pub use register::Reg;
 /// The test of the specifications tells names apart: it says yes exactly for equal ones.
 pub fn names_are_told_apart()
     ensures { (x y : Name) → IsTrue (same_name x y) ↔ (x ≡ y) }
+{}
+
+/// The order in which names are compared: natives first, then plain objects and weak maps, then reflectors,
+/// each of the three by number.
+pub fn names_are_in_order()
+    ensures { (x y : Name) → ⟦<Name as Ord>⟧.cmp x y ≡ order_of_names x y }
 {}
 
 #[cfg(test)]

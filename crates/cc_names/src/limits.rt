@@ -1,3 +1,5 @@
+//! The limits of a run: how many objects may be made, and how many bytes read.
+
 ghost use Rattle.std.specs.Prelude.{◌≡◌, ◌≤◌};
 
 use std::marker::Model;
@@ -41,6 +43,15 @@ impl Limits {
             scripts,
             bytes,
         }
+    }
+
+    /// The widest limits: 1000000 natives, 1000000 plain objects and weak maps, and 4294967295 bytes.
+    pub fn widest() -> Limits
+        ensures natives { result.natives ≡ 1000000 }
+        ensures scripts { result.scripts ≡ 1000000 }
+        ensures bytes { result.bytes ≡ 4294967295 }
+    {
+        Limits::new(Limits::MOST, Limits::MOST, u32::MAX)
     }
 
     /// The most natives that may ever be made.

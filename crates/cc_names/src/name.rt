@@ -1,3 +1,5 @@
+//! The names of objects, their order and their texts.
+
 ghost use Rattle.std.specs.Prelude.{◌≡◌, ◌+◌, ◌≤◌, ◌++◌, length};
 ghost use Rattle.cc_names.specs.Names.{text_of_name};
 

@@ -1,3 +1,5 @@
+//! The error of those that want memory.
+
 use std::alloc::AllocError;
 use thiserror::Error;
 

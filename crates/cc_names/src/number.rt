@@ -1,3 +1,5 @@
+//! Numbers of objects, which are never used again, and keys, which are.
+
 /// The number of a native: how many natives had been made with it. The first is 1.
 #[derive(Clone, Copy, Debug, PartialEq, Eq, PartialOrd, Ord, Drop)]
 pub struct NativeNo(pub u32);

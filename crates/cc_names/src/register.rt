@@ -1,3 +1,5 @@
+//! The registers.
+
 /// A register: `n0` to `n255` hold natives, `s0` to `s255` hold script objects. The registers are the roots.
 #[derive(Clone, Copy, Debug, PartialEq, Eq, Drop)]
 pub enum Reg {

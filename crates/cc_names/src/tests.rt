@@ -1,3 +1,5 @@
+//! Tests of the texts, the order and the limits.
+
 use super::*;
 use std::alloc::AllocError;
 use std::cmp::Ordering;
@@ -51,10 +53,15 @@ fn limits_give_back_what_they_were_made_of(rt: HostRuntime) {
     assert_eq!(rt; limits.natives(), 1000000);
     assert_eq!(rt; limits.scripts(), 0);
     assert_eq!(rt; limits.bytes(), 12);
+    let widest = Limits::widest();
+    assert_eq!(rt; widest.natives(), 1000000);
+    assert_eq!(rt; widest.scripts(), 1000000);
+    assert_eq!(rt; widest.bytes(), 4294967295);
 }
 
 #[test]
 fn want_of_memory_is_passed_on(rt: HostRuntime) {
     assert_eq!(rt; NoMemory::from(AllocError), NoMemory);
     names_are_told_apart();
+    names_are_in_order();
 }
