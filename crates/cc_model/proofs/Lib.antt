@@ -3,3 +3,4 @@ pub mod Reaching
 pub mod Draining
 pub mod Rounds
 pub mod UnitsEnd
+pub mod Replies

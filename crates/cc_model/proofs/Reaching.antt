@@ -95,13 +95,15 @@ reached-derived g _ (value e m a b) = derive-jointly (roots_of g) (all_edges g) 
     (λ p. subst (Least (reach_rules g)) p (reached-derived g e.the_map a))
     (λ t. ⊎_elim (λ p. subst (Least (reach_rules g)) p (reached-derived g e.key b)) (λ n. absurd n) t) i)
 
-root-reached : (g : Graph) (x : Name) → Among x (roots_of g) → Reached g x
+-- what the registers hold is reached
+pub root-reached : (g : Graph) (x : Name) → Among x (roots_of g) → Reached g x
 root-reached g x m = ⊎_elim
     (λ l. let k = content-place x g.native_registers l in held (N k.0) x k.1)
     (λ r. let k = content-place x g.script_registers r in held (S k.0) x k.1)
     (Among-append x (contents g.native_registers) (contents g.script_registers) m)
 
-edge-reached : (g : Graph) (x y : Name) → Among (x, y) (all_edges g) → Reached g x → Reached g y
+-- what an edge of a reached object leads to is reached
+pub edge-reached : (g : Graph) (x y : Name) → Among (x, y) (all_edges g) → Reached g x → Reached g y
 edge-reached g x y m d =
     let k = Among-flat_map_cases (edges_from g) (names_of g) (x, y) m in
     let l = Among-map_cases (from_to k.0) (edges_of g k.0) (x, y) k.2 in
@@ -109,7 +111,8 @@ edge-reached g x y m d =
     let target : l.0 ≡ y = ap (λ (p : Name × Name). p.1) l.2 in
     subst (Reached g) target (edge k.0 l.0 (subst (Reached g) (sym source) d) l.1)
 
-entry-reached : (g : Graph) (ps : List Name) (y : Name) → Among (ps, y) (joints g.entries) → ((x : Name) → Among x ps → Reached g x) → Reached g y
+-- the value of an entry whose map and key are reached is reached
+pub entry-reached : (g : Graph) (ps : List Name) (y : Name) → Among (ps, y) (joints g.entries) → ((x : Name) → Among x ps → Reached g x) → Reached g y
 entry-reached g ps y m f =
     let k = Among-map_cases joint g.entries (ps, y) m in
     let e : Entry = k.0 in

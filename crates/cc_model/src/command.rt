@@ -1,3 +1,5 @@
+//! What one line of the input asks.
+
 use cc_names::Reg;
 
 /// What one line of the input asks, by its word and its tokens in their order.
@@ -14,9 +16,9 @@ pub enum Command {
     Script(u8, u8),
     /// `weakmap sD`: makes an empty weak map.
     WeakMap(u8),
-    /// `copy nD nS`
+    /// `copy nD nS`: the destination holds what the source holds.
     CopyNative(u8, u8),
-    /// `copy sD sS`
+    /// `copy sD sS`: the same for script registers.
     CopyScript(u8, u8),
     /// `drop R`: empties a register.
     Drop(Reg),

@@ -1,3 +1,5 @@
+//! Items, which are the lines of the output, and their texts.
+
 ghost use Rattle.std.specs.Prelude.{◌≡◌, ◌+◌, ◌≤◌, ◌++◌, length};
 ghost use Rattle.cc_model.specs.Texts.{text_of, text_of_event, text_of_refusal, text_of_reply};
 
@@ -52,12 +54,15 @@ pub enum Event {
 /// One line of the output.
 #[derive(Clone, Copy, Debug, PartialEq, Eq, Drop)]
 pub enum Item {
+    /// What happened before the reply.
     Event(Event),
     /// An object that a census lists.
     Listed(Name),
+    /// The last line that answers a command.
     Reply(Reply),
 }
 
+/// Appends the text of a refusal, which has at most 20 bytes.
 fn write_refusal(refusal: Refusal, out: &mut LineBuf)
     requires { length out.old + 20 ≤ 128 }
     ensures text { out.new ≡ out.old ++ text_of_refusal refusal }
@@ -74,6 +79,7 @@ fn write_refusal(refusal: Refusal, out: &mut LineBuf)
     });
 }
 
+/// Appends the text of a reply, which has at most 20 bytes.
 fn write_reply(reply: Reply, out: &mut LineBuf)
     requires { length out.old + 20 ≤ 128 }
     ensures text { out.new ≡ out.old ++ text_of_reply reply }
@@ -94,6 +100,7 @@ fn write_reply(reply: Reply, out: &mut LineBuf)
     }
 }
 
+/// Appends the text of an event, which has at most 20 bytes.
 fn write_event(event: Event, out: &mut LineBuf)
     requires { length out.old + 20 ≤ 128 }
     ensures text { out.new ≡ out.old ++ text_of_event event }

@@ -1,3 +1,5 @@
+//! Laws of the definitions: what is reached is a least set, bounded recursions do not end early, texts follow one another.
+
 ghost use Rattle.std.specs.Prelude.{◌≡◌, ◌≢◌, ◌↔◌, ◌<◌, ◌≤◌, ℕ, suc, IsTrue, List, [], ◌++◌, length};
 ghost use Rattle.cc_lists.specs.Members.{Among, has};
 ghost use Rattle.cc_lists.specs.Least.{Least};

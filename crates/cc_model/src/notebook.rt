@@ -1,3 +1,5 @@
+//! A receiver of items that keeps their lines in memory.
+
 ghost use Rattle.std.specs.Prelude.{◌≡◌, false, []};
 
 use crate::item::{Item, write_item};

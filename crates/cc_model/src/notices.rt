@@ -1,3 +1,5 @@
+//! The trait of those that are told items.
+
 ghost use Rattle.cc_model.specs.Texts.{text_of};
 ghost use Rattle.cc_model.specs.Telling.{Telling, Tells};
 

@@ -1,3 +1,5 @@
+//! Tests of the texts of items, and of the notebook.
+
 use super::*;
 use cc_names::{LineBuf, Name, NativeNo, ScriptNo};
 
