@@ -1,16 +1,16 @@
 -- Lines that were given, and the line that is being read.
-use Rattle.std.proofs.Common.{◌≡◌, ◌≢◌, ℕ, ◌≤◌, ◌<◌, true, false, cond, List, [], ◌∷◌, ◌++◌, length, ◌==◌, Option, refl, sym, ap, ◌∙◌, append-nil, inl, inr, ⊎_elim, arith}
+use Rattle.std.proofs.Common.{◌≡◌, ◌≢◌, ℕ, ◌≤◌, ◌<◌, true, false, cond, List, [], ◌∷◌, ◌++◌, length, ◌==◌, Option, refl, sym, ap, ◌∙◌, subst, append-nil, inl, inr, ⊎_elim, arith}
 use Rattle.std.proofs.Math.Seq.{take-nil}
 use Rattle.std.proofs.lemmas.Bool.Decides.{nat_tests}
 use Rattle.std.specs.Io.KnownBytes.{IsAtEnd}
 use Rattle.cc_lists.proofs.KnownBytes.{Consumes-nil}
 use Rattle.cc_outside.specs.Reads.{Reads}
-use Rattle.cc_model.specs.Lines.{ended_by, line_after, last_line, lines_from, lines_of, ended_lines_of, rest_from}
+use Rattle.cc_model.specs.Lines.{ended_by, line_after, last_line, lines_of, ended_from, ended_lines_of, rest_from}
 use Rattle.cc_reader.specs.Pending.{Pending, nothing_read}
 use Rattle.cc_reader.specs.HasRead.{HasRead}
-use Rattle.cc_reader.specs.Given.{AreLinesOf, HasGiven, IsWhole, IsBroken, IsOver, AreFirst}
+use Rattle.cc_reader.specs.Given.{AreEnded, LastUnended, AreLinesOf, HasGiven, IsWhole, IsBroken, IsOver, AreFirstEnded, AreFirst}
 use Rattle.cc_reader.specs.Used.{HasUsed, Uses, IsSpent, Begins}
-use Rattle.cc_reader.proofs.Cutting.{lines_from-append, lines_of-ended, ended_from-byte, rest_from-append, lines_from-ended}
+use Rattle.cc_reader.proofs.Cutting.{ended_from-append, lines_of-ended, ended_from-byte, rest_from-append, lines_from-ended}
 use Rattle.cc_reader.proofs.Using.{used-all}
 
 -- A READER THAT BEGINS has given no line
@@ -22,7 +22,7 @@ HasGiven-none start limit = record {
   most = omega arith;
   used = [];
   parted = sym (take-nil limit);
-  cut = inl (refl, refl);
+  cut = inl (record { going = refl; lines_are = refl; no_rest = refl });
   at_end = λ e. absurd (cc);
 }
 
@@ -36,30 +36,6 @@ HasRead-none start limit = record {
 -- where the source is at its end no more was taken than the limit
 first_end : (start now : Option (List ℕ)) (p : Pending) (lines : List (List ℕ)) (h : HasGiven start now p lines) → p.ended ≡ true → IsAtEnd now × (length h.given ≤ p.limit)
 first_end start now p lines h e = let end = h.at_end e in (end.0, omega (arith, h.counted, end.1))
-
--- THE LINES GIVEN are the first ones within the limit
-pub HasGiven-first : (start now : Option (List ℕ)) (p : Pending) (lines : List (List ℕ)) → HasGiven start now p lines → AreFirst start now p lines
-HasGiven-first start now p lines h = ⊎_elim
-    (λ (w : (lines ≡ ended_lines_of h.used) × (rest_from [] h.used ≡ [])). record {
-      given = h.given;
-      consumed = h.consumed;
-      counted = h.counted;
-      most = omega (arith, h.counted, h.most);
-      at_end = first_end start now p lines h;
-      more = lines_of p.bytes;
-      lines_are = ap (λ ls. ls ++ lines_of p.bytes) w.0 ∙ ap (λ r. ended_lines_of h.used ++ lines_from r p.bytes) (sym w.1)
-          ∙ sym (lines_from-append [] h.used p.bytes) ∙ ap lines_of h.parted;
-    })
-    (λ (w : (p.ended ≡ true) × (p.bytes ≡ []) × (lines ≡ lines_of h.used)). record {
-      given = h.given;
-      consumed = h.consumed;
-      counted = h.counted;
-      most = omega (arith, h.counted, h.most);
-      at_end = first_end start now p lines h;
-      more = [];
-      lines_are = append-nil lines ∙ w.2 ∙ ap lines_of (sym (append-nil h.used) ∙ ap (λ bs. h.used ++ bs) (sym w.1) ∙ h.parted);
-    })
-    h.cut
 
 -- the same bytes used
 abbrev used_of : (start now : Option (List ℕ)) (p : Pending) (lines : List (List ℕ)) (h : HasGiven start now p lines) → HasUsed start now p h.used
@@ -83,6 +59,29 @@ given_of start now p lines used h cut = record {
   parted = h.parted;
   cut = cut;
   at_end = h.at_end;
+}
+
+-- where no more was taken than the limit and nothing is pending, all that was taken was used
+used_of-all : (start now : Option (List ℕ)) (p : Pending) (lines : List (List ℕ)) (h : HasGiven start now p lines) → p.bytes ≡ [] → p.taken ≤ p.limit → h.used ≡ h.given
+used_of-all start now p lines h none within = used-all start now p h.used (used_of start now p lines h) none within
+
+-- THE LINES GIVEN are the first ones
+pub HasGiven-first : (start now : Option (List ℕ)) (p : Pending) (lines : List (List ℕ)) → HasGiven start now p lines → AreFirst start now p lines
+HasGiven-first start now p lines h = record {
+  given = h.given;
+  consumed = h.consumed;
+  counted = h.counted;
+  most = omega (arith, h.counted, h.most);
+  at_end = first_end start now p lines h;
+  first = ⊎_elim
+      (λ (w : AreEnded p lines h.used). inl (record {
+        going = w.going;
+        more = ended_lines_of p.bytes;
+        lines_are = ap (λ ls. ls ++ ended_lines_of p.bytes) w.lines_are ∙ ap (λ r. ended_lines_of h.used ++ ended_from r p.bytes) (sym w.no_rest)
+            ∙ sym (ended_from-append [] h.used p.bytes) ∙ ap ended_lines_of h.parted;
+      }))
+      (λ (w : LastUnended p lines h.used). inr (subst (LastUnended p lines) (used_of-all start now p lines h w.nothing_left (h.at_end w.ended).1) w))
+      h.cut;
 }
 
 is_feed-not : (b : ℕ) → b ≢ 10 → (b == 10) ≡ false
@@ -109,8 +108,8 @@ pub Begins-line : (now : Option (List ℕ)) (p : Pending) → (IsSpent p → ⊥
 Begins-line now p n = λ start lines h. record {
   used = h.used;
   has_used = used_of start now p lines h;
-  ended = ⊎_elim (λ (w : (lines ≡ ended_lines_of h.used) × (rest_from [] h.used ≡ [])). w.0) (λ (w : (p.ended ≡ true) × (p.bytes ≡ []) × (lines ≡ lines_of h.used)). absurd (n (w.1, w.0))) h.cut;
-  rest = ⊎_elim (λ (w : (lines ≡ ended_lines_of h.used) × (rest_from [] h.used ≡ [])). w.1) (λ (w : (p.ended ≡ true) × (p.bytes ≡ []) × (lines ≡ lines_of h.used)). absurd (n (w.1, w.0))) h.cut;
+  ended = ⊎_elim (λ (w : AreEnded p lines h.used). w.lines_are) (λ (w : LastUnended p lines h.used). absurd (n (w.nothing_left, w.ended))) h.cut;
+  rest = ⊎_elim (λ (w : AreEnded p lines h.used). w.no_rest) (λ (w : LastUnended p lines h.used). absurd (n (w.nothing_left, w.ended))) h.cut;
 }
 
 -- a byte that is no line feed goes on with the line
@@ -126,15 +125,16 @@ Begins-byte before mid now p q r line b begun uses e = λ start lines h.
     }
 
 -- a line feed ends the line
-pub Begins-ended : (before mid now : Option (List ℕ)) (p q r : Pending) (line : List ℕ) (b : ℕ) → Begins before mid p q line → Uses mid now q r (b ∷ []) → b ≡ 10 →
+pub Begins-ended : (before mid now : Option (List ℕ)) (p q r : Pending) (line : List ℕ) (b : ℕ) → Begins before mid p q line → Uses mid now q r (b ∷ []) → b ≡ 10 → r.ended ≡ false →
     (start : Option (List ℕ)) (lines : List (List ℕ)) → HasGiven start before p lines → HasGiven start now r (lines ++ line ∷ [])
-Begins-ended before mid now p q r line b begun uses e = λ start lines h.
+Begins-ended before mid now p q r line b begun uses e going = λ start lines h.
     let k = begun start lines h in
     given_of start now r (lines ++ line ∷ []) (k.used ++ b ∷ []) (uses start k.used k.has_used)
-    (inl (
-      ap (λ ls. ls ++ line ∷ []) k.ended ∙ ap (λ ls. ended_lines_of k.used ++ ls) (sym (ap (λ r. ended_by r b) k.rest ∙ ended_by-feed line b e)) ∙ sym (ended_from-byte [] k.used b),
-      rest_from-append [] k.used (b ∷ []) ∙ line_after-feed (rest_from [] k.used) b e,
-    ))
+    (inl (record {
+      going = going;
+      lines_are = ap (λ ls. ls ++ line ∷ []) k.ended ∙ ap (λ ls. ended_lines_of k.used ++ ls) (sym (ap (λ r. ended_by r b) k.rest ∙ ended_by-feed line b e)) ∙ sym (ended_from-byte [] k.used b);
+      no_rest = rest_from-append [] k.used (b ∷ []) ∙ line_after-feed (rest_from [] k.used) b e;
+    }))
 
 -- the end ends a line that has a byte
 pub Begins-last : (before mid now : Option (List ℕ)) (p q r : Pending) (line : List ℕ) → Begins before mid p q line → Uses mid now q r [] → IsSpent r → line ≢ [] →
@@ -142,18 +142,18 @@ pub Begins-last : (before mid now : Option (List ℕ)) (p q r : Pending) (line :
 Begins-last before mid now p q r line begun uses s n = λ start lines h.
     let k = begun start lines h in
     given_of start now r (lines ++ line ∷ []) (k.used ++ []) (uses start k.used k.has_used)
-    (inr (
-      s.1,
-      s.0,
-      ap (λ ls. ls ++ line ∷ []) k.ended ∙ ap (λ ls. ended_lines_of k.used ++ ls) (sym (ap last_line k.rest ∙ last_line-some line n)) ∙ sym (lines_from-ended [] k.used)
-          ∙ ap lines_of (sym (append-nil k.used)),
-    ))
+    (inr (record {
+      ended = s.1;
+      nothing_left = s.0;
+      lines_are = ap (λ ls. ls ++ line ∷ []) k.ended ∙ ap (λ ls. ended_lines_of k.used ++ ls) (sym (ap last_line k.rest ∙ last_line-some line n)) ∙ sym (lines_from-ended [] k.used)
+          ∙ ap lines_of (sym (append-nil k.used));
+      rest = λ none. n (sym k.rest ∙ (ap (rest_from []) (sym (append-nil k.used)) ∙ none));
+    }))
 
--- where all is used and the source at its end, all lines were given
-pub whole-spent : (start now : Option (List ℕ)) (p : Pending) (lines : List (List ℕ)) → IsSpent p → HasGiven start now p lines → IsWhole start now p lines
-whole-spent start now p lines s h =
+-- where all is used and the source at its end, these lines of the bytes used are all
+whole_of : (start now : Option (List ℕ)) (p : Pending) (lines : List (List ℕ)) (used : List ℕ) → IsSpent p → HasUsed start now p used → lines ≡ lines_of used → IsWhole start now p lines
+whole_of start now p lines used s h is =
     let e = h.at_end s.1 in
-    let all : h.used ≡ h.given = used-all start now p h.used (used_of start now p lines h) s.0 e.1 in
     record {
       given = h.given;
       consumed = h.consumed;
@@ -161,16 +161,21 @@ whole-spent start now p lines s h =
       ended = s.1;
       at_end = e.0;
       within = omega (arith, h.counted, e.1);
-      lines_are = ⊎_elim (λ (w : (lines ≡ ended_lines_of h.used) × (rest_from [] h.used ≡ [])). w.0 ∙ sym (lines_of-ended h.used w.1)) (λ (w : (p.ended ≡ true) × (p.bytes ≡ []) × (lines ≡ lines_of h.used)). w.2) h.cut ∙ ap lines_of all;
+      lines_are = is ∙ ap lines_of (used-all start now p used h s.0 e.1);
     }
+
+-- where all is used and the source at its end, all lines were given
+pub whole-spent : (start now : Option (List ℕ)) (p : Pending) (lines : List (List ℕ)) → IsSpent p → HasGiven start now p lines → IsWhole start now p lines
+whole-spent start now p lines s h = whole_of start now p lines h.used s (used_of start now p lines h)
+    (⊎_elim (λ (w : AreEnded p lines h.used). w.lines_are ∙ sym (lines_of-ended h.used w.no_rest)) (λ (w : LastUnended p lines h.used). w.lines_are) h.cut)
 
 -- where a line is not begun, and all is used and the source at its end, all lines were given
 pub Begins-whole : (before mid now : Option (List ℕ)) (p q r : Pending) → Begins before mid p q [] → Uses mid now q r [] → IsSpent r →
     (start : Option (List ℕ)) (lines : List (List ℕ)) → HasGiven start before p lines → IsWhole start now r lines
 Begins-whole before mid now p q r begun uses s = λ start lines h.
     let k = begun start lines h in
-    whole-spent start now r lines s (given_of start now r lines (k.used ++ []) (uses start k.used k.has_used)
-    (inl (k.ended ∙ ap ended_lines_of (sym (append-nil k.used)), ap (rest_from []) (append-nil k.used) ∙ k.rest)))
+    whole_of start now r lines (k.used ++ []) s (uses start k.used k.has_used)
+    (k.ended ∙ (sym (lines_of-ended k.used k.rest) ∙ ap lines_of (sym (append-nil k.used))))
 
 -- at a read that failed
 pub Begins-broken : (before mid now : Option (List ℕ)) (p q r : Pending) (line : List ℕ) → Begins before mid p q line → Uses mid now q r [] → r.bytes ≡ [] → r.ended ≡ false → r.taken ≤ r.limit →

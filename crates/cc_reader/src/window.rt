@@ -23,7 +23,7 @@ pub(crate) struct Window {
 }
 
 impl Model for Window {
-    ghost use Rattle.std.specs.Prelude.{◌+◌, ◌≤◌, ◌<◌, ◌^◌, slice_range};
+    ghost use Rattle.std.specs.Prelude.{◌≡◌, ◌+◌, ◌≤◌, ◌<◌, ◌^◌, true, slice_range};
     ghost use Rattle.cc_reader.specs.Pending.{Pending};
 
     ghost Value = { Pending };
@@ -35,7 +35,7 @@ impl Model for Window {
       ended = w.ended;
     } };
 
-    ghost invariant = { λ w. (w.start ≤ w.end) × (w.end ≤ 4096) × (w.taken ≤ w.limit + 1) × (w.limit < 2 ^ 32) };
+    ghost invariant = { λ w. (w.start ≤ w.end) × (w.end ≤ 4096) × (w.taken ≤ w.limit + 1) × (w.limit < 2 ^ 32) × (w.ended ≡ true → w.start ≡ w.end) };
 }
 
 impl Window {
@@ -93,6 +93,7 @@ impl Window {
         ensures refilled { Refills (S.left source.old) (S.left source.new) self.old self.new }
         ensures some { result ≡ Ok true → 0 < length self.new.bytes }
         ensures falls { result ≡ Ok true → weight self.new < weight self.old }
+        ensures going { result ≡ Ok true → self.new.ended ≡ false }
         ensures end { result ≡ Ok false → IsSpent self.new }
         ensures none { OnErr result (self.new.bytes ≡ []) }
         ensures below { result ≡ Err ReadStop.Fault → self.new.taken ≤ self.new.limit }
@@ -127,6 +128,7 @@ impl Window {
     fn has_byte<S: Source>(&mut self, source: &mut S) -> Result<bool, ReadStop>
         ensures uses { Uses (S.left source.old) (S.left source.new) self.old self.new [] }
         ensures some { result ≡ Ok true → 0 < length self.new.bytes }
+        ensures going { result ≡ Ok true → self.new.ended ≡ false }
         ensures end { result ≡ Ok false → IsSpent self.new }
         ensures none { OnErr result (self.new.bytes ≡ []) }
         ensures below { result ≡ Err ReadStop.Fault → self.new.taken ≤ self.new.limit }
@@ -158,6 +160,7 @@ impl Window {
         ensures byte { IfOk result (λ r. IfSome r (λ b. Uses (S.left source.old) (S.left source.new) self.old self.new (b ∷ []))) }
         ensures end { result ≡ Ok None → Uses (S.left source.old) (S.left source.new) self.old self.new [] }
         ensures stop { OnErr result (Uses (S.left source.old) (S.left source.new) self.old self.new []) }
+        ensures going { IfOk result (λ r. IsSome r → self.new.ended ≡ false) }
         ensures spent { result ≡ Ok None → IsSpent self.new }
         ensures none { OnErr result (self.new.bytes ≡ []) }
         ensures below { result ≡ Err ReadStop.Fault → self.new.taken ≤ self.new.limit }

@@ -2,10 +2,9 @@
 use Rattle.std.proofs.Common.{◌≡◌, ◌≢◌, ℕ, ◌+◌, ◌<◌, ◌≤◌, ⊎_elim, List, [], length, length-append, Option, Some, None, refl, ap, arith}
 use Rattle.std.specs.Io.KnownBytes.{Consumes, IsAtEnd}
 use Rattle.cc_names.specs.Allowance.{Allowance}
-use Rattle.cc_reader.specs.HasRead.{ReadsBytes}
 use Rattle.cc_replay.specs.declared.status.Status.{Status}
 use Rattle.cc_replay.specs.declared.status.Status.TheVariants.{Done, Usage, ReadFault, WriteFault, Limit, NoMemory}
-use Rattle.cc_replay.specs.Transcripts.{Ends, IsDone, ReadsAll, StopsAtFault, StopsAtLimit, StopsAtWrite}
+use Rattle.cc_replay.specs.Transcripts.{Ends, IsDone, AreFirstEnded, AreAllUnended, StopsAtFault, StopsAtLimit, StopsAtWrite}
 
 -- the reads that are answered are at most as many as the limit on bytes, and one
 pub reads-within : (s : Status) (limits : Allowance) (e : Ends) → (s ≡ Done → IsDone limits e) → (s ≡ ReadFault → StopsAtFault limits e) →
@@ -16,8 +15,8 @@ reads-within ReadFault limits e done fault over front usage memory = let d = fau
 reads-within Limit limits e done fault over front usage memory = let d = over refl in omega (arith, d.above, d.reads.answered)
 reads-within WriteFault limits e done fault over front usage memory =
     let d = front refl in
-    ⊎_elim (λ (r : ReadsBytes e.reads e.reads_now (length d.given)). omega (arith, d.most, r.answered))
-    (λ (r : ReadsAll limits e d.given). omega (arith, r.within, r.reads.answered)) d.reads
+    ⊎_elim (λ (r : AreFirstEnded limits e d.given d.lines). omega (arith, d.most, r.reads.answered))
+    (λ (r : AreAllUnended limits e d.given d.lines). omega (arith, r.all.within, r.all.reads.answered)) d.first
 reads-within Usage limits e done fault over front usage memory = absurd (usage refl)
 reads-within NoMemory limits e done fault over front usage memory = absurd (memory refl)
 

@@ -1,18 +1,19 @@
 -- HOW A RUN ENDS: from lines that were given and answered to what is written for the bytes taken.
-use Rattle.std.proofs.Common.{◌≡◌, ℕ, Bool, false, true, List, [], length, map, take, Option, refl, sym, ap, ◌∙◌, subst, ◌⊎◌, inl, inr, arith}
+use Rattle.std.proofs.Common.{◌≡◌, ℕ, Bool, false, true, List, [], length, map, take, Option, sym, ap, ◌∙◌, subst, ◌⊎◌, ⊎_elim, inl, inr, arith}
 use Rattle.cc_names.specs.Allowance.{Allowance}
 use Rattle.cc_model.specs.Answers.{text_of_answers}
 use Rattle.cc_model.specs.Asks.{ask_of}
 use Rattle.cc_model.specs.Heap.{Heap, empty_heap}
-use Rattle.cc_model.specs.Lines.{lines_of, ended_lines_of}
+use Rattle.cc_model.specs.Lines.{ended_lines_of}
 use Rattle.cc_outside.specs.Reads.{Reads}
 use Rattle.cc_reader.specs.FormsNow.{forms_now}
 use Rattle.cc_reader.specs.Pending.{Pending, nothing_read}
-use Rattle.cc_reader.specs.Given.{HasGiven, IsWhole, IsBroken, IsOver, AreFirst}
+use Rattle.cc_reader.specs.Given
+use Rattle.cc_reader.specs.Given.{HasGiven, IsWhole, IsBroken, IsOver, AreFirst, LastUnended}
 use Rattle.cc_reader.specs.HasRead.{HasRead, ReadsBytes, ReadsOn, ReadsToEnd}
 use Rattle.cc_reader.proofs.Given.{HasGiven-none, HasRead-none}
 use Rattle.cc_replay.specs.Answering.{Answers, AreAnswered, Moment}
-use Rattle.cc_replay.specs.Transcripts.{Ends, Writes, ends, IsDone, ReadsAll, StopsAtFault, StopsAtLimit, StopsAtWrite}
+use Rattle.cc_replay.specs.Transcripts.{Ends, Writes, ends, IsDone, AreFirstEnded, AreAllUnended, StopsAtFault, StopsAtLimit, StopsAtWrite}
 use Rattle.cc_replay.proofs.Answers.{AreAnswered-transcript}
 
 -- a run from a reader that begins, over empty heaps
@@ -103,10 +104,8 @@ module _ (limits : Allowance) (m₀ m₁ : Moment) (r₀ r₁ : Reads) (begins :
         given = l.1.given;
         consumed = l.1.consumed;
         most = omega (arith, l.1.most, bytes);
-        reads = read_part l.1 m₁.window.ended refl;
         lines = l.0;
-        more = l.1.more;
-        first = l.1.lines_are ∙ ap (λ n. lines_of (take n l.1.given)) bytes;
+        first = lines_read l.0 l.1;
         writes = record {
           text = text_of_answers l.2.answers;
           transcript = AreAnswered-transcript limits m₁.heap l.0 m₀.telling m₁.telling l.2;
@@ -114,9 +113,18 @@ module _ (limits : Allowance) (m₀ m₁ : Moment) (r₀ r₁ : Reads) (begins :
         };
       }
     where
-      read_part : {lines : List (List ℕ)} (f : AreFirst m₀.left m₁.left m₁.window lines) (ended : Bool) → m₁.window.ended ≡ ended →
-          ReadsBytes r₀ r₁ (length f.given) ⊎ ReadsAll limits e f.given
-      read_part f false is = inl (read_bytes f.given f.counted is)
-      read_part f true is =
-          let end = f.at_end is in
-          inr (record { at_end = end.0; within = omega (arith, end.1, bytes); reads = read_to_end f.given f.counted is })
+      lines_read : (lines : List (List ℕ)) (f : AreFirst m₀.left m₁.left m₁.window lines) → AreFirstEnded limits e f.given lines ⊎ AreAllUnended limits e f.given lines
+      lines_read lines f = ⊎_elim
+          (λ (w : Given.AreFirstEnded m₁.window lines f.given). inl (record {
+            reads = read_bytes f.given f.counted w.going;
+            more = w.more;
+            first = w.lines_are ∙ ap (λ n. ended_lines_of (take n f.given)) bytes;
+          }))
+          (λ (w : LastUnended m₁.window lines f.given).
+              let end = f.at_end w.ended in
+              inr (record {
+                all = record { at_end = end.0; within = omega (arith, end.1, bytes); reads = read_to_end f.given f.counted w.ended };
+                lines_are = w.lines_are;
+                rest = w.rest;
+              }))
+          f.first

@@ -1,11 +1,11 @@
 -- WHAT IS WRITTEN FOR AN INPUT: the text of a transcript that is the plain run's, lawful and quiet.
-use Rattle.std.specs.Prelude.{◌≡◌, ℕ, ◌+◌, ◌≤◌, ◌⊎◌, Bool, List, ◌++◌, length, map, take, Option}
+use Rattle.std.specs.Prelude.{◌≡◌, ◌≢◌, ℕ, ◌+◌, ◌≤◌, ◌⊎◌, Bool, List, [], ◌++◌, length, map, take, Option}
 use Rattle.std.specs.Io.KnownBytes.{Appends, Consumes, IsAtEnd}
 use Rattle.cc_names.specs.Allowance.{Allowance}
 use Rattle.cc_model.specs.Telling.{AppendsFront}
 use Rattle.cc_model.specs.Answers.{text_of_answers}
 use Rattle.cc_model.specs.Asks.{Ask, ask_of, asks_of, ended}
-use Rattle.cc_model.specs.Lines.{lines_of}
+use Rattle.cc_model.specs.Lines.{lines_of, ended_lines_of, rest_from}
 use Rattle.cc_model.specs.Lawful.{IsLawful}
 use Rattle.cc_model.specs.Quiet.{IsQuiet}
 use Rattle.cc_model.specs.Run.{plain_run}
@@ -88,14 +88,25 @@ pub record ReadsAll (limits : Allowance) (e : Ends) (given : List ℕ) : Type 0 
   pub within : length given ≤ limits.bytes
   pub reads : ReadsToEnd e.reads e.reads_now (length given)
 
--- a write failed: a front of what answers the first lines within the limit is written; no read said the end, or one did
--- where the last line lacks its line feed
+-- no read said the end, and each that was answered gave a byte: these are the first of the lines that ended within the
+-- limit
+pub record AreFirstEnded (limits : Allowance) (e : Ends) (given : List ℕ) (lines : List (List ℕ)) : Type 0 where
+  pub reads : ReadsBytes e.reads e.reads_now (length given)
+  pub more : List (List ℕ)
+  pub first : lines ++ more ≡ ended_lines_of (take limits.bytes given)
+
+-- all was read to the end: these are all lines, and the last lacks its line feed
+pub record AreAllUnended (limits : Allowance) (e : Ends) (given : List ℕ) (lines : List (List ℕ)) : Type 0 where
+  pub all : ReadsAll limits e given
+  pub lines_are : lines ≡ lines_of given
+  pub rest : rest_from [] given ≢ []
+
+-- a write failed: a front of what answers these lines is written. A line that no line feed ended is among them only
+-- where all was read to the end
 pub record StopsAtWrite (limits : Allowance) (e : Ends) : Type 0 where
   pub given : List ℕ
   pub consumed : Consumes e.left e.left_now given
   pub most : length given ≤ limits.bytes + 1
-  pub reads : ReadsBytes e.reads e.reads_now (length given) ⊎ ReadsAll limits e given
   pub lines : List (List ℕ)
-  pub more : List (List ℕ)
-  pub first : lines ++ more ≡ lines_of (take limits.bytes given)
+  pub first : AreFirstEnded limits e given lines ⊎ AreAllUnended limits e given lines
   pub writes : WritesFront limits (map (ask_of forms_now) lines) e.written e.written_now

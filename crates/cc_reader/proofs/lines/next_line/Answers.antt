@@ -46,7 +46,7 @@ returns-then-is_long-clause-long g c = λ _.
       i.0,
       i.1.long c.if-is_long.true,
       Begins-ended (left c.args.source.now) (left c.bytes.source) (left c.next_byte.new.source) c.args.window.now c.bytes.window c.next_byte.new.self i.0 c.in-Some.byte i.2
-          (rw c.in-Some.is at c.in_ok-byte.ensures.byte) c.if-byte-eq10.true,
+          (rw c.in-Some.is at c.in_ok-byte.ensures.byte) c.if-byte-eq10.true ((rw c.in-Some.is at c.in_ok-byte.ensures.going) refl),
     )
 
 pub returns-else-is_long-clause-kept : goal.returns-else-is_long-clause-kept
@@ -55,7 +55,7 @@ returns-else-is_long-clause-kept g c = λ _ start lines h.
     let i = c.bytes.invariant.line in
     subst (λ (t : List ℕ). HasGiven start (left c.next_byte.new.source) c.next_byte.new.self (lines ++ t ∷ [])) (i.1.short c.if-is_long.false)
     (Begins-ended (left c.args.source.now) (left c.bytes.source) (left c.next_byte.new.source) c.args.window.now c.bytes.window c.next_byte.new.self i.0 c.in-Some.byte i.2
-    (rw c.in-Some.is at c.in_ok-byte.ensures.byte) c.if-byte-eq10.true start lines h)
+    (rw c.in-Some.is at c.in_ok-byte.ensures.byte) c.if-byte-eq10.true ((rw c.in-Some.is at c.in_ok-byte.ensures.going) refl) start lines h)
 
 pub bytes-preserved : goal.bytes-preserved
 bytes-preserved g c =
