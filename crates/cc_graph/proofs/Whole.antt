@@ -2,18 +2,19 @@
 use Rattle.std.proofs.Common.{◌≡◌, ◌≢◌, ℕ, ◌+◌, ◌<◌, ◌≤◌, zero, suc, Bool, true, false, cond, List, [], ◌∷◌, ◌++◌, length, get_or, refl, sym, ◌∙◌, ap, subst, inl, inr, ⊎_elim, arith, count_by, Some, None}
 use Rattle.std.specs.Prelude.{◌==◌, slice_get, nat_lt}
 use Rattle.std.proofs.Math.ListN.{set}
-use Rattle.std.proofs.lemmas.Bool.{eqb-true, ltb-true, eq-eqb, ne_eqb}
+use Rattle.std.proofs.lemmas.Bool.{ltb-true, eq-eqb, ne_eqb}
 use Rattle.std.proofs.lemmas.Bool.Decides.{eqb_tells}
 use Rattle.std.proofs.lemmas.List.{length-set, length-map, length_push, get_or-set_same, get_or-set_other, get_or_push, get_or_append_left, get_or-map, map-set, map_push, set-get_or}
 use Rattle.std.proofs.lemmas.List.Sums.{sum_by-set, count_by-le-length}
 use Rattle.std.proofs.lemmas.Option.{slice_get-get_or}
 use Rattle.cc_names.specs.declared.name.Name.{Name}
 use Rattle.cc_counted.specs.declared.held.Held.{Held}
-use Rattle.cc_lists.specs.Members.{Among, has, IsEqualityTest}
+use Rattle.cc_lists.specs.Members.{Among, has}
 use Rattle.cc_lists.proofs.Members.{Among-right, has-there, has-among}
 use Rattle.cc_lists.proofs.Counting.{count_by-cons, count_by-append}
 use Rattle.cc_lists.proofs.CountsOf.{false-left, count_by-none}
 use Rattle.cc_lists.proofs.ListWrites.{each-push}
+use Rattle.cc_lists.proofs.Numbers.{number-exact}
 use Rattle.cc_lists.proofs.OnceEach.{with_all_last-once}
 use Rattle.cc_graph.specs.Shown.{Vertex, vertex, Edge, Shown, change_vertex, edges_to, number_of, with_black}
 use Rattle.cc_graph.specs.Closed.{IsWithin}
@@ -22,10 +23,6 @@ use Rattle.cc_graph.proofs.Walks.{number-last}
 use Rattle.cc_graph.specs.Kept.{Kept, added, vertices, IsRight, IsWhole}
 
 -- Lists in general
-
--- the test of equality of numbers
-number-exact : IsEqualityTest ◌==◌
-number-exact i j = (eqb-true i j, eq-eqb i j)
 
 -- what holds of what is written, and of the other elements, holds of each
 each-set : {X : Type 0} (P : ℕ → X → Type 0) (xs : List X) (i : ℕ) (y : X) → i < length xs → P i y →

@@ -1,3 +1,5 @@
+//! The graph: nodes by number, noted references, and the list of black nodes.
+
 ghost use Rattle.std.specs.Prelude.{◌≡◌, ◌+◌, ◌-◌, ◌<◌, ◌≤◌, ◌^◌, ◌==◌, ◌++◌, [], ◌∷◌, length, slice_get, option_map, IfOk, IfSome, IsOk, IsSome, OnErr, OnOk, Some, vec_capacity};
 ghost use Rattle.cc_graph.specs.Shown.{change_vertex, edges_to, is_black, number_of, place_from, with_black, with_sample, with_vertex};
 ghost use Rattle.cc_graph.specs.Closed.{IsClosed};

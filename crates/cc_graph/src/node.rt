@@ -1,3 +1,5 @@
+//! A node, with its count of noted references.
+
 ghost use Rattle.std.specs.Prelude.{◌≡◌, ◌+◌, ◌<◌, ◌^◌, true};
 ghost use Rattle.cc_names.specs.Names.{same_name};
 ghost use Rattle.cc_graph.specs.Shown.{with_sample};

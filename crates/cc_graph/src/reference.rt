@@ -1,3 +1,5 @@
+//! A noted reference.
+
 ghost use Rattle.std.specs.Prelude.{◌≡◌};
 
 use std::marker::Model;

@@ -1,3 +1,5 @@
+//! Tests of the graph: names and numbers, references, and what becomes black.
+
 use super::*;
 use cc_counted::Held;
 use cc_names::{NKey, Name, NativeNo, SKey, ScriptNo};
