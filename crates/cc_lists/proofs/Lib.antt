@@ -11,4 +11,6 @@ pub mod ListWrites
 pub mod Numbers
 pub mod Places
 pub mod Together
+pub mod Rising
 pub mod Walks
+pub mod RisingWalks
