@@ -1,5 +1,5 @@
 -- WHAT THE CALLS OF THE COUNTED HEAP COME TO, with the rest of the parts beside it.
-use Rattle.std.proofs.Common.{◌≡◌, ℕ, ◌+◌, ◌≤◌, true, List, ◌∷◌, map, length, Option, Some, None, option_map, refl, sym, ◌∙◌, ap, subst, arith, if◌then◌else◌}
+use Rattle.std.proofs.Common.{◌≡◌, ℕ, ◌+◌, ◌≤◌, true, List, ◌∷◌, map, Option, Some, None, option_map, refl, sym, ◌∙◌, ap, subst, arith, if◌then◌else◌}
 use Rattle.std.specs.Option.{is_some}
 use Rattle.std.proofs.lemmas.Simd.{map-map}
 use Rattle.cc_lists.specs.Members.{Among}
@@ -13,8 +13,9 @@ use Rattle.cc_model.specs.Heap.{Heap, HeapNative, Outcome, native_at, suspect}
 use Rattle.cc_model.specs.Cascade.{add_ref, cascade}
 use Rattle.cc_model.specs.End.{unlink}
 use Rattle.cc_model.specs.WellFormed.{native_names}
+use Rattle.cc_model.specs.Counts.{times}
 use Rattle.cc_laws_heap.proofs.CountBound.{count-bound}
-use Rattle.cc_laws_heap.proofs.Natives.{native_at-there}
+use Rattle.cc_laws_heap.proofs.Natives.{native_at-there, native_at-number}
 use Rattle.cc_counted.specs.Counts.{Counts, key_left, number_or_none, count_at, with_heap}
 use Rattle.cc_counted.specs.Counts as counts
 use Rattle.cc_script.specs.Objects.{Object}
@@ -39,13 +40,14 @@ number-there owned v key o live = go (number_at v key) refl live
     go (Some k) e l = number-named v owned key k o e
 
 -- counts fit their type
-pub count-fits : (owned : List ℕ) (p : Parts) (k : ℕ) → IsInOrder owned (keyed_of p) → count_at (native_at (counts.heap_of p.counted) k) ≤ 64000257 + length owned
+pub count-fits : (owned : List ℕ) (p : Parts) (k : ℕ) → IsInOrder owned (keyed_of p) → count_at (native_at (counts.heap_of p.counted) k) ≤ 64000257 + times k owned
 count-fits owned p k o = go (native_at (counts.heap_of p.counted) k) refl
   where
-    go : (x : Option HeapNative) → native_at (counts.heap_of p.counted) k ≡ x → count_at x ≤ 64000257 + length owned
+    go : (x : Option HeapNative) → native_at (counts.heap_of p.counted) k ≡ x → count_at x ≤ 64000257 + times k owned
     go None e = omega arith
-    go (Some n) e = count-bound owned (heap_of p) (named_native p.scripts n) o.sound o.limits.0
-        (native_at-there (heap_of p) k (named_native p.scripts n) (native_at-shown p.scripts (heap_of p) (counts.heap_of p.counted) k ∙ ap (option_map (named_native p.scripts)) e))
+    go (Some n) e = subst (λ j. n.count ≤ 64000257 + times j owned) (native_at-number (counts.heap_of p.counted) k n e)
+        (count-bound owned (heap_of p) (named_native p.scripts n) o.sound o.limits.0
+        (native_at-there (heap_of p) k (named_native p.scripts n) (native_at-shown p.scripts (heap_of p) (counts.heap_of p.counted) k ∙ ap (option_map (named_native p.scripts)) e)))
 
 -- keys are left by numbers
 key_left-shown : (objects : List Object) (h g : Heap) (o : Option ℕ) → key_left g o ≡ key_left (shown h objects g) o

@@ -1,5 +1,5 @@
 -- NO COUNT IS GREAT: 256 registers, a million natives with 64 slots each, one reflector, and what is owned.
-use Rattle.std.proofs.Common.{ℕ, ◌+◌, ◌*◌, ◌<◌, ◌≤◌, ◌==◌, List, [], ◌∷◌, map, length, Some, None, refl, subst, inl, inr, arith, count_by}
+use Rattle.std.proofs.Common.{ℕ, ◌+◌, ◌*◌, ◌<◌, ◌≤◌, List, [], ◌∷◌, map, length, Some, None, refl, subst, inl, inr, arith, count_by}
 use Rattle.std.proofs.lemmas.List.{length-map}
 use Rattle.std.proofs.lemmas.List.Sums.{count_by-le-length}
 use Rattle.cc_lists.specs.Members.{Among}
@@ -8,7 +8,7 @@ use Rattle.cc_names.specs.Names.{native, reflector, same_name}
 use Rattle.cc_model.specs.Slots.{Slots, contents}
 use Rattle.cc_model.specs.Heap.{Heap, HeapNative}
 use Rattle.cc_model.specs.WellFormed.{IsWellFormed, IsRising}
-use Rattle.cc_model.specs.Counts.{slots_of_natives}
+use Rattle.cc_model.specs.Counts.{slots_of_natives, times}
 use Rattle.cc_laws_heap.specs.Sound.{IsSound}
 use Rattle.cc_laws_heap.proofs.ScriptNames.{scripts-once}
 use Rattle.cc_laws_heap.proofs.Rising.{IsRising-tail, IsRising-first}
@@ -38,9 +38,9 @@ contents-length [] = omega arith
 contents-length (None ∷ slots) = omega (arith, contents-length slots)
 contents-length (Some x ∷ slots) = omega (arith, contents-length slots)
 
--- Of a million natives none has more than 64000257 references, but for those that are owned.
+-- Of a million natives none has more than 64000257 references in the heaps' lists; the others are owned.
 pub count-bound : (owned : List ℕ) (h : Heap) (n : HeapNative) → IsSound owned h → h.limits.natives ≤ 1000000 → Among n h.natives →
-    n.count ≤ 64000257 + length owned
+    n.count ≤ 64000257 + times n.number owned
 count-bound owned h n s few m =
     let w : IsWellFormed h = s.well_formed in
     let registers : count_by (same_name (native n.number)) (contents h.native_registers) ≤ 256 =
@@ -52,9 +52,4 @@ count-bound owned h n s few m =
       length-flat_map_le (λ (o : HeapNative). contents o.slots) 64 h.natives (λ o i. omega (arith, contents-length o.slots, w.native_slots o i)),
     ) in
     let many : length h.natives ≤ 1000000 = omega (arith, natives-made h w, w.natives_allowed) in
-    omega (
-      arith,
-      s.counts n m,
-      scripts-once h w (reflector n.number),
-      count_by-le-length (λ j. j == n.number) owned,
-    )
+    omega (arith, s.counts n m, scripts-once h w (reflector n.number))
