@@ -10,9 +10,7 @@ use Rattle.cc_model.specs.WellFormed.{native_names}
 use Rattle.cc_model.specs.Counts.{refs_to, slots_of_natives, times}
 use Rattle.cc_laws_heap.proofs.Natives.{native_at-there, native_at-number, named-found}
 use Rattle.cc_laws_heap.proofs.References.{times-among}
-use Rattle.cc_laws_heap.proofs.Counted.{count_of}
-use Rattle.cc_laws_heap.proofs.Buffer.{has_place, places}
-use Rattle.cc_laws_heap.proofs.GiveUp.{one_at_zero, one_above_zero, waiting, living, IsBalanced}
+use Rattle.cc_laws_heap.specs.Balance.{one_at_zero, one_above_zero, waiting, living, IsBalanced, count_of, has_place, places}
 use Rattle.cc_counted.specs.Counts.{Counts, the_number, heap_of}
 use Rattle.cc_counted.specs.Owning.{AreOwned}
 use Rattle.cc_counted.specs.Lists.{Lists, keyed, counts_of, draining_of, IsPlaced}

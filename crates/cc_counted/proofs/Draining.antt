@@ -13,7 +13,7 @@ use Rattle.cc_model.specs.Telling.{Telling, Tells}
 use Rattle.cc_model.specs.Cascade.{Draining, give_up, free_front, drain, at_rest, drained, cascade}
 use Rattle.cc_model.proofs.Tellings.{Tells-nil, Tells-trans}
 use Rattle.cc_model.proofs.Draining.{drain-done}
-use Rattle.cc_laws_heap.proofs.GiveUp.{IsBalanced}
+use Rattle.cc_laws_heap.specs.Balance.{IsBalanced}
 use Rattle.cc_laws_heap.proofs.FreeFront.{IsBalanced-free_front}
 use Rattle.cc_laws_heap.proofs.Drain.{free_front-fewer}
 use Rattle.cc_counted.specs.Counts.{the_number, heap_of, left_with}

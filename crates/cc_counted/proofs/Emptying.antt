@@ -14,11 +14,13 @@ use Rattle.cc_model.specs.Cascade.{Draining, give_up, drain, at_rest, drained, c
 use Rattle.cc_model.specs.Counts.{times}
 use Rattle.cc_model.specs.End.{empty_slot}
 use Rattle.cc_model.proofs.Tellings.{Tells-nil}
-use Rattle.cc_laws_heap.proofs.Natives.{has_number, native_at-there, native_at-number, native_at-change_same, native_at-change_other, HasDistinctNumbers-change}
+use Rattle.cc_laws_heap.proofs.Natives.{native_at-there, native_at-number, native_at-change_same, native_at-change_other, HasDistinctNumbers-change}
 use Rattle.cc_laws_heap.proofs.References.{times-cons_same}
-use Rattle.cc_laws_heap.proofs.Counted.{count_of, count_at-found}
-use Rattle.cc_laws_heap.proofs.Owning.{numbers_of, times-numbers_of}
-use Rattle.cc_laws_heap.proofs.GiveUp.{waiting, living, IsBalanced, IsBalanced-give_up}
+use Rattle.cc_laws_heap.proofs.Counted.{count_at-found}
+use Rattle.cc_laws_heap.proofs.Owning.{times-numbers_of}
+use Rattle.cc_laws_heap.specs.Sound.{numbers_of}
+use Rattle.cc_laws_heap.proofs.GiveUp.{IsBalanced-give_up}
+use Rattle.cc_laws_heap.specs.Balance.{waiting, living, IsBalanced, count_of, has_number}
 use Rattle.cc_laws_heap.proofs.DrainingAlike.{IsAlike-length, IsAlike-give_up}
 use Rattle.cc_laws_heap.proofs.Drain.{drain-balanced}
 use Rattle.cc_counted.specs.declared.held.Held.{Held}

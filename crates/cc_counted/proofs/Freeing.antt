@@ -12,9 +12,8 @@ use Rattle.cc_model.specs.Telling.{Telling, Tells}
 use Rattle.cc_model.specs.Heap.{native_at}
 use Rattle.cc_model.specs.Cascade.{Draining, give_up_each, natives_of_slots, told_free, without_native, free_front}
 use Rattle.cc_model.specs.Counts.{times}
-use Rattle.cc_laws_heap.proofs.Counted.{count_of}
 use Rattle.cc_laws_heap.proofs.References.{refs_to-removed}
-use Rattle.cc_laws_heap.proofs.GiveUp.{IsBalanced}
+use Rattle.cc_laws_heap.specs.Balance.{IsBalanced, count_of}
 use Rattle.cc_laws_heap.proofs.FreeFront.{IsBalanced-removed, without_native-give_up_each}
 use Rattle.cc_counted.specs.declared.held.Held.{Held}
 use Rattle.cc_counted.specs.Counts.{the_number, is_live}

@@ -7,9 +7,10 @@ use Rattle.cc_model.specs.declared.item.Event.{Event}
 use Rattle.cc_model.specs.Heap.{Heap, HeapNative, Buffered, native_at}
 use Rattle.cc_model.specs.Cascade.{Draining}
 use Rattle.cc_lists.proofs.Numbers.{number-exact, at-each}
-use Rattle.cc_laws_heap.proofs.Natives.{has_number, native_at-there, native_at-number}
-use Rattle.cc_laws_heap.proofs.Buffer.{places, places-with_mark_same, places-with_mark_other}
-use Rattle.cc_laws_heap.proofs.GiveUp.{one_at_zero, waiting, living, living-one, IsBalanced}
+use Rattle.cc_laws_heap.proofs.Natives.{native_at-there, native_at-number}
+use Rattle.cc_laws_heap.proofs.Buffer.{places-with_mark_same, places-with_mark_other}
+use Rattle.cc_laws_heap.proofs.GiveUp.{living-one}
+use Rattle.cc_laws_heap.specs.Balance.{one_at_zero, waiting, living, IsBalanced, has_number, places}
 use Rattle.cc_purple.specs.Marks.{Marked, marked_as, with_mark, holds_key, HasPlaceFor}
 use Rattle.cc_model.specs.Heap as heap
 use Rattle.cc_counted.specs.Counts.{the_number, heap_of}

@@ -4,9 +4,9 @@ use Rattle.std.proofs.Math.ListN.{set}
 use Rattle.std.proofs.lemmas.List.{length-set, length_push}
 use Rattle.cc_model.specs.Cascade.{give_up}
 use Rattle.cc_model.specs.Heap.{native_at}
-use Rattle.cc_laws_heap.proofs.Counted.{count_of}
 use Rattle.cc_laws_heap.proofs.References.{times-cons_same}
-use Rattle.cc_laws_heap.proofs.GiveUp.{IsBalanced, IsBalanced-give_up}
+use Rattle.cc_laws_heap.proofs.GiveUp.{IsBalanced-give_up}
+use Rattle.cc_laws_heap.specs.Balance.{IsBalanced, count_of}
 use Rattle.cc_purple.specs.Marks.{Marked, with_mark, without_key, HasPlaceFor}
 use Rattle.cc_counted.specs.Counts.{the_number, heap_of}
 use Rattle.cc_counted.specs.Lists.{Placed, Lists, cell_at, with_one_less, count_placed, keyed, counts_of, draining_of, IsPlaced, suspected, waiting}

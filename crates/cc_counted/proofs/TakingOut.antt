@@ -16,10 +16,8 @@ use Rattle.cc_model.specs.Cascade.{Draining, told_free, without_native}
 use Rattle.cc_model.specs.Counts.{times, refs_to}
 use Rattle.cc_model.specs.WellFormed.{IsRising}
 use Rattle.cc_laws_heap.proofs.Rising.{IsRising-filter}
-use Rattle.cc_laws_heap.proofs.Counted.{count_of}
 use Rattle.cc_laws_heap.proofs.References.{times-some, times-cons_same, refs_to-slot}
-use Rattle.cc_laws_heap.proofs.Buffer.{has_place, places}
-use Rattle.cc_laws_heap.proofs.GiveUp.{one_above_zero, one_at_zero, waiting as waits, living, IsBalanced}
+use Rattle.cc_laws_heap.specs.Balance.{one_above_zero, one_at_zero, waiting as waits, living, IsBalanced, count_of, has_place, places}
 use Rattle.cc_purple.specs.Marks.{Marked}
 use Rattle.cc_counted.specs.declared.held.Held.{Held}
 use Rattle.cc_counted.specs.declared.held.Held.TheVariants as held

@@ -17,7 +17,7 @@ use Rattle.cc_model.specs.Telling.{Telling, Tells}
 use Rattle.cc_model.specs.Heap.{Heap, HeapNative, Outcome, silently, after as told_before, native_at, set_preserved}
 use Rattle.cc_model.specs.End.{empty_slot, empty_each, slots_now, without_preservation, unlink}
 use Rattle.cc_model.proofs.Tellings.{Tells-nil, Tells-trans}
-use Rattle.cc_laws_heap.proofs.GiveUp.{IsBalanced}
+use Rattle.cc_laws_heap.specs.Balance.{IsBalanced}
 use Rattle.cc_counted.specs.declared.held.Held.{Held}
 use Rattle.cc_counted.specs.declared.held.Held.TheVariants as held
 use Rattle.cc_counted.specs.Counts.{number_at, name_of, is_live, heap_of}

@@ -8,7 +8,7 @@ use Rattle.cc_model.specs.Texts.{text_of, texts_of}
 use Rattle.cc_model.specs.Telling.{Telling, Tells}
 use Rattle.cc_model.specs.Heap.{Outcome, silently}
 use Rattle.cc_model.specs.End.{empty_slot, empty_each}
-use Rattle.cc_laws_heap.proofs.GiveUp.{IsBalanced}
+use Rattle.cc_laws_heap.specs.Balance.{IsBalanced}
 use Rattle.cc_model.specs.Cascade.{give_up_each, free_front, drain}
 use Rattle.cc_counted.specs.Counts.{the_number, name_of, heap_of, left_with}
 use Rattle.cc_counted.specs.Lists.{Placed, Lists, cell_at, with_slot, without_count, keyed, names_in, counts_of, draining_of, IsPlaced, LeavesCells, LeavesKeys}

@@ -5,7 +5,7 @@ ghost use Rattle.cc_model.specs.Telling.{Tells};
 ghost use Rattle.cc_model.specs.Heap.{HeapNative, set_slot, suspect};
 ghost use Rattle.cc_model.specs.Cascade.{cascade, add_ref};
 ghost use Rattle.cc_model.specs.End.{unlink};
-ghost use Rattle.cc_laws_heap.proofs.GiveUp.{IsBalanced};
+ghost use Rattle.cc_laws_heap.specs.Balance.{IsBalanced};
 ghost use Rattle.cc_purple.specs.Marks.{marked_as};
 ghost use Rattle.cc_counted.specs.declared.held.Held.{Held};
 ghost use Rattle.cc_counted.specs.Counts.{no_counts, is_live, name_of, number_at, the_number, heap_of, with_heap, left_with, count_of, slots_of};

@@ -13,7 +13,8 @@ use Rattle.cc_names.specs.Names.{native}
 use Rattle.cc_model.specs.Heap.{Heap, HeapScript, silently}
 use Rattle.cc_model.specs.Cascade.{take_up, let_go}
 use Rattle.cc_model.specs.WellFormed.{native_names, script_names, names_there}
-use Rattle.cc_laws_heap.proofs.Owning.{numbers_of, IsIn}
+use Rattle.cc_laws_heap.proofs.Owning.{IsIn}
+use Rattle.cc_laws_heap.specs.Sound.{numbers_of}
 use Rattle.cc_counted.specs.declared.held.Held.{Held}
 use Rattle.cc_counted.specs.declared.held.Held.TheVariants as held
 use Rattle.cc_counted.specs.Counts.{name_of, numbers_held, number_or_none}

@@ -30,7 +30,7 @@ use Rattle.cc_model.specs.Snapshot.{Snapshot}
 use Rattle.cc_model.specs.Fresh.{IsFresh}
 use Rattle.cc_model.specs.Suspected.{IsSuspected}
 use Rattle.cc_model.specs.WellFormed.{IsWellFormed, native_names, names_there, script_names}
-use Rattle.cc_laws_heap.specs.Sound.{IsSound}
+use Rattle.cc_laws_heap.specs.Sound.{IsSound, numbers_of}
 use Rattle.cc_laws_heap.proofs.Coloured.{IsColoured, AreColoured-from_view, HasColourInvariant-from}
 use Rattle.cc_laws_heap.proofs.ColourChanges.{IsHeldBlack, AreColoured-register, AreColoured-slot, exposed-coloured, exposed-black}
 use Rattle.cc_laws_heap.proofs.CommandsColours.{effects-coloured}
@@ -38,7 +38,7 @@ use Rattle.cc_laws_heap.proofs.CommandsSound.{effects-sound}
 use Rattle.cc_laws_heap.proofs.Taken.{IsTaken}
 use Rattle.cc_laws_heap.proofs.NativeCommands.{names_there-take_up, hold_native-sound, make_native-sound}
 use Rattle.cc_laws_heap.proofs.NativesKeepScripts.{SameScripts, SameScripts-coloured, hold_native-scripts, make_native-scripts}
-use Rattle.cc_laws_heap.proofs.Owning.{IsIn, numbers_of, let_go-sound, take_up-sound}
+use Rattle.cc_laws_heap.proofs.Owning.{IsIn, let_go-sound, take_up-sound}
 use Rattle.cc_laws_heap.proofs.Cascades.{cascade-frees}
 use Rattle.cc_laws_heap.proofs.HoldsTheSame.{HoldsTheSame-take_up}
 use Rattle.cc_laws_heap.proofs.Writes.{native_slot-sound}

@@ -14,11 +14,11 @@ use Rattle.cc_model.specs.Cascade.{add_ref, cascade}
 use Rattle.cc_model.specs.Effects.{with_native}
 use Rattle.cc_model.specs.End.{unlink}
 use Rattle.cc_model.specs.WellFormed.{IsWellFormed, native_names, names_there}
-use Rattle.cc_laws_heap.specs.Sound.{IsSound}
+use Rattle.cc_laws_heap.specs.Sound.{IsSound, numbers_of}
 use Rattle.cc_laws_heap.specs.Freeing.{SameBeside, Uncounted}
 use Rattle.cc_laws_heap.proofs.Making.{with_mark-cases, places-with_mark}
 use Rattle.cc_laws_heap.proofs.Kept.{IsBuffer, with_buffer, IsWellFormed-buffer}
-use Rattle.cc_laws_heap.proofs.Owning.{numbers_of, IsIn, add_ref-sound}
+use Rattle.cc_laws_heap.proofs.Owning.{IsIn, add_ref-sound}
 use Rattle.cc_laws_heap.proofs.Writes.{native_register-sound, native_slot-sound}
 use Rattle.cc_laws_heap.proofs.MadeSound.{with_native-sound}
 use Rattle.cc_laws_heap.proofs.Cascades.{cascade-sound, cascade-frees}

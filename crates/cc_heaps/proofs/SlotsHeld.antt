@@ -13,7 +13,7 @@ use Rattle.cc_model.specs.End.{slots_now}
 use Rattle.cc_laws_heap.proofs.Holds.{contents-get}
 use Rattle.cc_laws_heap.proofs.HoldsTheSame.{HoldsTheSame-take_up, slots_in-alike}
 use Rattle.cc_laws_heap.proofs.Natives.{native_at-there}
-use Rattle.cc_laws_heap.proofs.Owning.{numbers_of}
+use Rattle.cc_laws_heap.specs.Sound.{numbers_of}
 use Rattle.cc_counted.specs.declared.held.Held.{Held}
 use Rattle.cc_counted.specs.declared.held.Held.TheVariants as held
 use Rattle.cc_counted.specs.Counts.{Counts, is_live, name_of, slots_at, with_heap}

@@ -1,18 +1,11 @@
 -- How often a number stands in the buffer after a mark was set, and after a native left.
-use Rattle.std.proofs.Common.{◌≡◌, ℕ, ◌+◌, ◌≤◌, Bool, true, false, not, List, [], ◌∷◌, refl, sym, ◌∙◌, arith, count_by, ◌==◌}
+use Rattle.std.proofs.Common.{◌≡◌, ℕ, ◌+◌, ◌≤◌, Bool, true, false, not, List, [], ◌∷◌, refl, sym, ◌∙◌, arith, ◌==◌}
 use Rattle.std.specs.List.{filter}
 use Rattle.std.proofs.lemmas.Bool.{eqb-true, eq-eqb, ne_eqb, not-true}
 use Rattle.cc_lists.proofs.Counting.{count_by-cons}
 use Rattle.cc_model.specs.Heap.{Buffered, with_mark}
 use Rattle.cc_lists.proofs.Searching.{count_by-kept, count_by-dropped}
-
--- whether a place of the buffer is that of native k
-abbrev pub has_place : ℕ → Buffered → Bool
-has_place k b = b.number == k
-
--- how often native k stands in the buffer
-abbrev pub places : ℕ → List Buffered → ℕ
-places k bs = count_by (has_place k) bs
+use Rattle.cc_laws_heap.specs.Balance.{has_place, places}
 
 -- a native that was marked stands there once
 pub places-with_mark_same : (m : Bool) (k : ℕ) (bs : List Buffered) → places k bs ≤ 1 → places k (with_mark m k bs) ≡ 1

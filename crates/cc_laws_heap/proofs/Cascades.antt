@@ -13,8 +13,8 @@ use Rattle.cc_laws_heap.specs.Freeing.{Frees}
 use Rattle.cc_laws_heap.proofs.Natives.{native_at-there, native_at-named, native_at-member, named-found, IsWellFormed-distinct}
 use Rattle.cc_laws_heap.proofs.Beside.{SameBeside-is}
 use Rattle.cc_laws_heap.proofs.Counted.{IsCounted-referred, IsSound-counted, IsSound-from_counted}
-use Rattle.cc_laws_heap.proofs.Buffer.{has_place, places}
-use Rattle.cc_laws_heap.proofs.GiveUp.{one_at_zero, one_above_zero, waiting, living, living-one, IsBalanced, IsBalanced-give_up}
+use Rattle.cc_laws_heap.proofs.GiveUp.{living-one, IsBalanced-give_up}
+use Rattle.cc_laws_heap.specs.Balance.{one_at_zero, one_above_zero, waiting, living, IsBalanced, has_place, places}
 use Rattle.cc_laws_heap.proofs.DrainingAlike.{IsAlike-length, IsAlike-give_up}
 use Rattle.cc_laws_heap.proofs.Freed.{outcome, Frees-alike, Frees-at_rest}
 use Rattle.cc_laws_heap.proofs.Drain.{drain-balanced, drain-frees}

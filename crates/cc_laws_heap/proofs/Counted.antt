@@ -10,19 +10,7 @@ use Rattle.cc_model.specs.Counts.{refs_to, times}
 use Rattle.cc_laws_heap.specs.Sound.{IsSound}
 use Rattle.cc_laws_heap.proofs.Natives.{native_at-there, native_at-number, native_at-named, native_at-member, named-found, IsWellFormed-distinct}
 use Rattle.cc_laws_heap.proofs.References.{refs_to-there, times-among, times-some}
-
--- the count of what was found; none is zero
-abbrev pub count_of : Option HeapNative → ℕ
-count_of None = 0
-count_of (Some n) = n.count
-
--- the count that a number has
-abbrev pub count_at : Heap → ℕ → ℕ
-count_at h k = count_of (native_at h k)
-
--- each number has the count of its references, in the lists and owned
-abbrev pub IsCounted : List ℕ → Heap → Type 0
-IsCounted owned h = (k : ℕ) → count_at h k ≡ refs_to h k + times k owned
+use Rattle.cc_laws_heap.specs.Balance.{count_of, count_at, IsCounted}
 
 -- a number with a count is there
 pub count_at-found : (h : Heap) (k : ℕ) → 1 ≤ count_at h k → (n : HeapNative) × (native_at h k ≡ Some n)

@@ -10,9 +10,9 @@ use Rattle.cc_model.specs.Counts.{times}
 use Rattle.cc_laws_heap.specs.Freeing.{Uncounted, uncounted, Frees}
 use Rattle.cc_lists.proofs.Filtering.{length-filter-less}
 use Rattle.cc_lists.proofs.Searching.{filter-map}
-use Rattle.cc_laws_heap.proofs.Natives.{has_number, native_at-there, native_at-number}
+use Rattle.cc_laws_heap.proofs.Natives.{native_at-there, native_at-number}
 use Rattle.cc_laws_heap.proofs.References.{times-cons_same}
-use Rattle.cc_laws_heap.proofs.GiveUp.{IsBalanced}
+use Rattle.cc_laws_heap.specs.Balance.{IsBalanced, has_number}
 use Rattle.cc_laws_heap.proofs.FreeFront.{waiting-found, IsBalanced-free_front}
 use Rattle.cc_laws_heap.proofs.DrainingAlike.{IsAlike, IsAlike-give_up_each}
 use Rattle.cc_laws_heap.proofs.Freed.{outcome, Frees-free_front}

@@ -11,12 +11,13 @@ use Rattle.cc_model.specs.Heap.{Heap, HeapNative, Outcome, silently, after, nati
 use Rattle.cc_model.specs.Cascade.{let_go}
 use Rattle.cc_model.specs.End.{empty_slot, empty_each}
 use Rattle.cc_model.specs.WellFormed.{native_names}
-use Rattle.cc_laws_heap.specs.Sound.{IsSound}
+use Rattle.cc_laws_heap.specs.Sound.{IsSound, numbers_of}
 use Rattle.cc_laws_heap.specs.Freeing.{Uncounted, uncounted, Frees}
-use Rattle.cc_laws_heap.proofs.Natives.{HasDistinctNumbers, IsWellFormed-distinct, native_at-there, native_at-number, native_at-member, native_at-change_same, named-found}
+use Rattle.cc_laws_heap.proofs.Natives.{IsWellFormed-distinct, native_at-there, native_at-number, native_at-member, native_at-change_same, named-found}
+use Rattle.cc_laws_heap.specs.Balance.{HasDistinctNumbers}
 use Rattle.cc_laws_heap.proofs.Freed.{freed_event, Frees-at_rest}
 use Rattle.cc_laws_heap.proofs.Cascades.{cascade-frees}
-use Rattle.cc_laws_heap.proofs.Owning.{numbers_of, let_go-sound}
+use Rattle.cc_laws_heap.proofs.Owning.{let_go-sound}
 use Rattle.cc_laws_heap.proofs.Writes.{native_slot-sound}
 use Rattle.cc_laws_heap.proofs.Leaving.{Leave, Leave-refl, Leave-trans, Leave-frees, Leave-change_native, OthersStay, OthersStay-trans, OthersStay-change_native, IsOf-frees}
 

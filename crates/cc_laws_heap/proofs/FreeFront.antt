@@ -9,11 +9,10 @@ use Rattle.cc_model.specs.Cascade.{Draining, lower, fallen, given_up, give_up, g
 use Rattle.cc_model.specs.Counts.{times}
 use Rattle.cc_lists.proofs.Searching.{filter-map, count_by-kept, count_by-dropped}
 use Rattle.cc_lists.proofs.Numbers.{at-each}
-use Rattle.cc_laws_heap.proofs.Natives.{has_number, HasDistinctNumbers, changed_at, changed_at-number, native_at-removed_same, native_at-removed_other}
+use Rattle.cc_laws_heap.proofs.Natives.{changed_at, changed_at-number, native_at-removed_same, native_at-removed_other}
 use Rattle.cc_laws_heap.proofs.References.{times-append, times-cons_same, times-cons_other, refs_to-removed}
-use Rattle.cc_laws_heap.proofs.Counted.{count_of, count_at}
-use Rattle.cc_laws_heap.proofs.Buffer.{places}
-use Rattle.cc_laws_heap.proofs.GiveUp.{lower_native, one_at_zero, waiting, one_above_zero, living, IsBalanced, IsBalanced-give_up_each}
+use Rattle.cc_laws_heap.proofs.GiveUp.{lower_native, IsBalanced-give_up_each}
+use Rattle.cc_laws_heap.specs.Balance.{one_at_zero, waiting, one_above_zero, living, IsBalanced, count_of, count_at, has_number, HasDistinctNumbers, places}
 
 -- a number that waits is that of a native with count zero
 pub waiting-found : (h : Heap) (k : ℕ) → 1 ≤ waiting (native_at h k) → (n : HeapNative) × (native_at h k ≡ Some n) × (n.count ≡ 0)

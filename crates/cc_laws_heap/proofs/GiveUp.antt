@@ -5,12 +5,13 @@ use Rattle.std.proofs.Common.{◌≡◌, ◌≢◌, ℕ, zero, suc, ◌+◌, ◌
 use Rattle.cc_model.specs.Heap.{Heap, HeapNative, native_at, with_mark, forget}
 use Rattle.cc_model.specs.Cascade.{Draining, lower, lowered, queued, fallen, given_up, give_up, give_up_each}
 use Rattle.cc_model.specs.Counts.{refs_to, times}
-use Rattle.cc_laws_heap.proofs.Natives.{HasDistinctNumbers, native_at-change_same, native_at-change_other, HasDistinctNumbers-change, uncounted-change}
+use Rattle.cc_laws_heap.proofs.Natives.{native_at-change_same, native_at-change_other, HasDistinctNumbers-change, uncounted-change}
 use Rattle.cc_lists.proofs.Numbers.{at-each}
 use Rattle.cc_laws_heap.proofs.References.{times-append, times-cons_same, times-cons_other, refs_to-alike}
 use Rattle.cc_laws_heap.proofs.Beside.{SameBeside-change_native}
-use Rattle.cc_laws_heap.proofs.Counted.{IsCounted, count_of, count_at, count_at-found}
-use Rattle.cc_laws_heap.proofs.Buffer.{places, places-with_mark_same, places-with_mark_other, places-forget_same, places-forget_other}
+use Rattle.cc_laws_heap.proofs.Counted.{count_at-found}
+use Rattle.cc_laws_heap.specs.Balance.{IsCounted, count_of, count_at, places, one_at_zero, waiting, one_above_zero, living, IsBalanced}
+use Rattle.cc_laws_heap.proofs.Buffer.{places-with_mark_same, places-with_mark_other, places-forget_same, places-forget_other}
 
 -- One reference less
 
@@ -61,35 +62,6 @@ give_up-cases P d k some none zero_left some_left = go (native_at d.heap k) refl
     go : (o : Option HeapNative) → native_at d.heap k ≡ o → P (given_up d k o)
     go None e = none e
     go (Some n) e = by_count n.count (some n e)
-
--- Between two steps
-
--- one where a native was found whose count is zero
-abbrev pub one_at_zero : ℕ → ℕ
-one_at_zero zero = 1
-one_at_zero (suc c) = 0
-
--- how often what was found should wait
-abbrev pub waiting : Option HeapNative → ℕ
-waiting None = 0
-waiting (Some n) = one_at_zero n.count
-
--- one where a native was found whose count is above zero
-abbrev pub one_above_zero : ℕ → ℕ
-one_above_zero zero = 0
-one_above_zero (suc c) = 1
-
--- how often it may stand in the buffer
-abbrev pub living : Option HeapNative → ℕ
-living None = 0
-living (Some n) = one_above_zero n.count
-
--- THE BALANCE with the references `owned` in hand, between two steps of a cascade
-pub record IsBalanced (owned : List ℕ) (d : Draining) : Type 0 where
-  pub distinct : HasDistinctNumbers d.heap
-  pub counts : IsCounted owned d.heap
-  pub queue : (k : ℕ) → times k d.queue ≡ waiting (native_at d.heap k)
-  pub buffer : (k : ℕ) → places k d.heap.buffer ≤ living (native_at d.heap k)
 
 -- no more than one
 pub living-one : (o : Option HeapNative) → living o ≤ 1

@@ -9,7 +9,7 @@ use Rattle.cc_model.specs.Entries.{Entry, is_entry_of}
 use Rattle.cc_model.specs.Heap.{Heap, HeapNative, HeapScript, Buffered}
 use Rattle.cc_model.specs.WellFormed.{IsWellFormed, IsRising, HasMembers, FitsName, native_names, script_names, names_there}
 use Rattle.cc_laws_heap.specs.Freeing.{Uncounted, uncounted}
-use Rattle.cc_laws_heap.proofs.Buffer.{places}
+use Rattle.cc_laws_heap.specs.Balance.{places}
 use Rattle.cc_lists.proofs.ListWrites.{changed_where, changed_where-either, each-map, map-kept}
 
 -- Registers, entries, and the buffer

@@ -17,7 +17,8 @@ use Rattle.cc_model.specs.Counts.{refs_to, slots_of_natives, times}
 use Rattle.cc_laws_heap.specs.Sound.{IsSound}
 use Rattle.cc_laws_heap.proofs.Natives.{native_at-named}
 use Rattle.cc_laws_heap.proofs.References.{times-append, times-cons, times-cons_same, times-cons_other}
-use Rattle.cc_laws_heap.proofs.Counted.{IsCounted, count_of, count_at, IsSound-counted, IsSound-from_counted}
+use Rattle.cc_laws_heap.proofs.Counted.{IsSound-counted, IsSound-from_counted}
+use Rattle.cc_laws_heap.specs.Balance.{IsCounted, count_of, count_at}
 use Rattle.cc_lists.proofs.ListWrites.{each-push}
 use Rattle.cc_laws_heap.proofs.Making.{contents-empty, new_native, native_names-made, IsWellFormed-with_native, with_script_last, IsNewScript, IsWellFormed-with_script}
 

@@ -15,7 +15,8 @@ use Rattle.cc_model.specs.Heap.{Heap, HeapNative, HeapScript, Buffered, with_mar
 use Rattle.cc_model.specs.Effects.{with_native}
 use Rattle.cc_model.specs.WellFormed.{IsWellFormed, IsRising, HasMembers, FitsName, native_names, script_names, names_there}
 use Rattle.cc_laws_heap.proofs.Rising.{IsRising-tail, IsRising-first, IsRising-cons}
-use Rattle.cc_laws_heap.proofs.Buffer.{places, places-with_mark_same, places-with_mark_other}
+use Rattle.cc_laws_heap.proofs.Buffer.{places-with_mark_same, places-with_mark_other}
+use Rattle.cc_laws_heap.specs.Balance.{places}
 use Rattle.cc_lists.proofs.ListWrites.{each-push}
 
 -- empty slots hold nothing

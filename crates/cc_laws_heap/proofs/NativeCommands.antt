@@ -13,10 +13,10 @@ use Rattle.cc_model.specs.Heap.{Heap, HeapNative, Outcome, native_at, slots_in, 
 use Rattle.cc_model.specs.Cascade.{take_up, let_go}
 use Rattle.cc_model.specs.Effects.{put_in_register, hold_native, put_in_slot, store_native, with_native, make_native}
 use Rattle.cc_model.specs.WellFormed.{IsWellFormed, native_names, names_there}
-use Rattle.cc_laws_heap.specs.Sound.{IsSound}
+use Rattle.cc_laws_heap.specs.Sound.{IsSound, numbers_of}
 use Rattle.cc_laws_heap.proofs.Making.{native_names-new_native}
 use Rattle.cc_laws_heap.proofs.HoldsTheSame.{HoldsTheSame-take_up, native_names-alike, names_there-alike, slots_at-alike}
-use Rattle.cc_laws_heap.proofs.Owning.{numbers_of, IsIn, take_up-sound, let_go-sound}
+use Rattle.cc_laws_heap.proofs.Owning.{IsIn, take_up-sound, let_go-sound}
 use Rattle.cc_laws_heap.proofs.Writes.{native_register-sound, native_slot-sound}
 use Rattle.cc_laws_heap.proofs.MadeSound.{with_native-sound}
 use Rattle.cc_laws_heap.proofs.Holding.{IsIn-natives, native_register-there}

@@ -15,14 +15,7 @@ use Rattle.cc_laws_heap.specs.Freeing.{uncounted}
 use Rattle.cc_lists.proofs.Filtering.{find-among, find-passes}
 use Rattle.cc_lists.proofs.Searching.{find-some, find-only, find-map, find-filter, find-dropped}
 use Rattle.cc_laws_heap.proofs.Rising.{IsRising-once}
-
--- whether a native has the number k
-abbrev pub has_number : ℕ → HeapNative → Bool
-has_number k n = n.number == k
-
--- no two natives have one number
-abbrev pub HasDistinctNumbers : Heap → Type 0
-HasDistinctNumbers h = (k : ℕ) → count_by (has_number k) h.natives ≤ 1
+use Rattle.cc_laws_heap.specs.Balance.{has_number, HasDistinctNumbers}
 
 -- natives by rising number have distinct numbers
 pub IsRising-distinct : (h : Heap) → IsRising (map (λ n. n.number) h.natives) → HasDistinctNumbers h

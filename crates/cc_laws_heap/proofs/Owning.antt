@@ -1,29 +1,25 @@
 -- REFERENCES TAKEN AND GIVEN UP: what is owned outside the heaps' lists meanwhile.
 use Rattle.std.proofs.Common.{◌≡◌, ◌≢◌, ℕ, ◌+◌, ◌≤◌, true, false, List, ◌∷◌, ◌++◌, Option, Some, None, option_map, refl, sym, ◌∙◌, ap, subst, inl, ⊎_elim, arith, count_by, ◌==◌}
-use Rattle.std.specs.List.{flat_map}
 use Rattle.std.specs.Option.{option_to_list}
 use Rattle.std.proofs.lemmas.Bool.Decides.{eqb_tells}
 use Rattle.cc_lists.specs.Members.{Among}
 use Rattle.cc_names.specs.declared.name.Name.{Name}
 use Rattle.cc_names.specs.declared.name.Name.TheVariants as name
-use Rattle.cc_names.specs.Names.{native, same_name, natives_in}
+use Rattle.cc_names.specs.Names.{native, same_name}
 use Rattle.cc_model.specs.Heap.{Heap, HeapNative, native_at, with_mark}
 use Rattle.cc_model.specs.Cascade.{add_ref, take_up, let_go}
 use Rattle.cc_model.specs.WellFormed.{IsWellFormed, native_names, names_there}
 use Rattle.cc_model.specs.Counts.{refs_to, times}
-use Rattle.cc_laws_heap.specs.Sound.{IsSound}
+use Rattle.cc_laws_heap.specs.Sound.{IsSound, numbers_of}
 use Rattle.cc_laws_heap.proofs.Natives.{native_at-change_same, native_at-change_other, named-found}
 use Rattle.cc_laws_heap.proofs.References.{times-append, times-cons_same, times-cons_other, times-natives_in, refs_to-alike, native-there}
-use Rattle.cc_laws_heap.proofs.Counted.{IsCounted, count_of, count_at, IsSound-counted, IsSound-from_counted}
+use Rattle.cc_laws_heap.proofs.Counted.{IsSound-counted, IsSound-from_counted}
+use Rattle.cc_laws_heap.specs.Balance.{IsCounted, count_of, count_at}
 use Rattle.cc_laws_heap.proofs.Cascades.{cascade-sound}
 use Rattle.cc_lists.proofs.ListWrites.{changed_where, changed_where-either, each-map}
 use Rattle.cc_laws_heap.proofs.Kept.{ChangesNatives, ChangesNatives-where, IsWellFormed-native, IsBuffer, IsWellFormed-natives}
 use Rattle.cc_laws_heap.proofs.Making.{with_mark-cases, places-with_mark}
 use Rattle.cc_laws_heap.proofs.HoldsTheSame.{raise_native, HoldsTheSame-add_ref}
-
--- the natives to which what a register or a slot holds refers
-abbrev pub numbers_of : Option Name → List ℕ
-numbers_of x = flat_map natives_in (option_to_list x)
 
 -- what a register or a slot is to hold stands in a list
 abbrev pub IsIn : List Name → Option Name → Type 0

@@ -18,7 +18,7 @@ use Rattle.cc_model.specs.Counts.{refs_to, slots_of_natives, times}
 use Rattle.cc_laws_heap.specs.Freeing.{Uncounted, uncounted, SameBeside}
 use Rattle.cc_lists.proofs.Searching.{sum_by-taken_out}
 use Rattle.cc_lists.proofs.Numbers.{eqb-sym}
-use Rattle.cc_laws_heap.proofs.Natives.{HasDistinctNumbers, has_number}
+use Rattle.cc_laws_heap.specs.Balance.{HasDistinctNumbers, has_number}
 
 -- How often a number stands in a list of numbers
 

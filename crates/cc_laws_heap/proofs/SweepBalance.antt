@@ -18,7 +18,8 @@ use Rattle.cc_laws_heap.specs.Freeing.{Frees}
 use Rattle.cc_lists.proofs.Searching.{count_by-kept, count_by-dropped}
 use Rattle.cc_lists.proofs.Numbers.{at-each}
 use Rattle.cc_laws_heap.proofs.References.{times-cons_same, times-cons_other}
-use Rattle.cc_laws_heap.proofs.GiveUp.{IsBalanced, IsBalanced-give_up}
+use Rattle.cc_laws_heap.proofs.GiveUp.{IsBalanced-give_up}
+use Rattle.cc_laws_heap.specs.Balance.{IsBalanced}
 use Rattle.cc_laws_heap.proofs.DrainingAlike.{IsAlike-length, IsAlike-give_up}
 use Rattle.cc_laws_heap.proofs.Drain.{drain-balanced, drain-frees}
 use Rattle.cc_laws_heap.proofs.Freed.{Frees-alike, Frees-at_rest}

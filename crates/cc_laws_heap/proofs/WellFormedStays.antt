@@ -17,7 +17,7 @@ use Rattle.cc_laws_heap.specs.Freeing.{Uncounted, uncounted}
 use Rattle.cc_lists.proofs.Searching.{filter-map}
 use Rattle.cc_laws_heap.proofs.Rising.{IsRising-filter}
 use Rattle.cc_laws_heap.proofs.References.{refs_to-register, refs_to-slot, refs_to-reflector}
-use Rattle.cc_laws_heap.proofs.Buffer.{has_place, places}
+use Rattle.cc_laws_heap.specs.Balance.{has_place, places}
 
 -- `ns` are natives of `h`, those whose numbers pass a test, with other counts; with the buffer `bs` all that is
 -- referred to, and all that is buffered, is there

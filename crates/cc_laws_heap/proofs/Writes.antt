@@ -12,12 +12,13 @@ use Rattle.cc_model.specs.Slots.{Slots, contents}
 use Rattle.cc_model.specs.Heap.{Heap, HeapNative, HeapScript, native_at, register, set_register, change_native, with_native_slot, set_preserved}
 use Rattle.cc_model.specs.WellFormed.{IsWellFormed, native_names, script_names, names_there}
 use Rattle.cc_model.specs.Counts.{refs_to, slots_of_natives, times}
-use Rattle.cc_laws_heap.specs.Sound.{IsSound}
+use Rattle.cc_laws_heap.specs.Sound.{IsSound, numbers_of}
 use Rattle.cc_laws_heap.proofs.Natives.{KeepsNumber, IsWellFormed-distinct, native_at-change_same, native_at-change_other}
-use Rattle.cc_laws_heap.proofs.Counted.{count_of, count_at, IsSound-counted, IsSound-from_counted}
+use Rattle.cc_laws_heap.proofs.Counted.{IsSound-counted, IsSound-from_counted}
+use Rattle.cc_laws_heap.specs.Balance.{count_of, count_at}
 use Rattle.cc_lists.proofs.ListWrites.{Among-flat_map_set, Among-flat_map_at, count_by-flat_map_set, changed_where, changed_where-either, count_by-flat_map_changed, each-map, flat_map-kept, count_by-kept_map}
 use Rattle.cc_laws_heap.proofs.Kept.{IsBuffer-own, IsWellFormed-registers, ChangesNatives, ChangesNatives-where, IsWellFormed-natives, ChangesScripts, with_scripts, IsWellFormed-scripts}
-use Rattle.cc_laws_heap.proofs.Owning.{numbers_of, IsIn, times-numbers_of}
+use Rattle.cc_laws_heap.proofs.Owning.{IsIn, times-numbers_of}
 
 -- Slots in general
 

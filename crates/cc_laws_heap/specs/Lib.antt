@@ -1,4 +1,5 @@
 pub mod Sound
+pub mod Balance
 pub mod Freeing
 pub mod Rounds
 pub mod Ending

@@ -25,14 +25,14 @@ use Rattle.cc_model.specs.Effects.{effects, put_in_register, hold_native, store_
 use Rattle.cc_model.specs.WellFormed.{IsWellFormed, native_names, script_names, names_there}
 use Rattle.cc_model.specs.Counts.{times}
 use Rattle.cc_model.specs.Listed.{after_events}
-use Rattle.cc_laws_heap.specs.Sound.{IsSound}
+use Rattle.cc_laws_heap.specs.Sound.{IsSound, numbers_of}
 use Rattle.cc_laws_heap.specs.Freeing.{Frees}
 use Rattle.cc_laws_heap.specs.Rounds.{is_not_among}
 use Rattle.cc_lists.proofs.Searching.{filter-map}
 use Rattle.cc_laws_heap.proofs.Freed.{freed_event}
 use Rattle.cc_laws_heap.proofs.Leaving.{numbers_there, Leave-frees}
 use Rattle.cc_laws_heap.proofs.HoldsTheSame.{HoldsTheSame-take_up, HoldsTheSame-add_ref}
-use Rattle.cc_laws_heap.proofs.Owning.{numbers_of, IsIn, take_up-sound}
+use Rattle.cc_laws_heap.proofs.Owning.{IsIn, take_up-sound}
 use Rattle.cc_laws_heap.proofs.Writes.{native_register-sound, native_slot-sound}
 use Rattle.cc_laws_heap.proofs.Making.{new_native}
 use Rattle.cc_laws_heap.proofs.MadeSound.{with_native-sound}

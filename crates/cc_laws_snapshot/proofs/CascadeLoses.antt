@@ -17,11 +17,12 @@ use Rattle.cc_model.specs.Counts.{times}
 use Rattle.cc_model.specs.Fresh.{IsLiving}
 use Rattle.cc_laws_heap.specs.Sound.{IsSound}
 use Rattle.cc_laws_heap.specs.Freeing.{SameBeside}
-use Rattle.cc_laws_heap.proofs.Natives.{has_number, HasDistinctNumbers, native_at-member, uncounted-change}
+use Rattle.cc_laws_heap.proofs.Natives.{native_at-member, uncounted-change}
 use Rattle.cc_laws_heap.proofs.References.{times-cons_same, refs_to-removed}
 use Rattle.cc_laws_heap.proofs.Beside.{SameBeside-change_native}
-use Rattle.cc_laws_heap.proofs.Counted.{count_of, count_at, count_at-found}
-use Rattle.cc_laws_heap.proofs.GiveUp.{lower_native, IsBalanced, IsBalanced-give_up}
+use Rattle.cc_laws_heap.proofs.Counted.{count_at-found}
+use Rattle.cc_laws_heap.proofs.GiveUp.{lower_native, IsBalanced-give_up}
+use Rattle.cc_laws_heap.specs.Balance.{IsBalanced, count_of, count_at, has_number, HasDistinctNumbers}
 use Rattle.cc_laws_heap.proofs.FreeFront.{waiting-found, IsBalanced-removed, IsBalanced-free_front, without_native-give_up_each}
 use Rattle.cc_laws_heap.proofs.HoldsTheSame.{HoldsTheSame, native_names-alike}
 use Rattle.cc_laws_heap.proofs.Cascades.{IsBalanced-at_rest, cascade-frees, drained-balanced}

@@ -13,16 +13,15 @@ use Rattle.cc_model.specs.Cascade.{cascade, let_go}
 use Rattle.cc_model.specs.View.{view}
 use Rattle.cc_model.specs.WellFormed.{native_names}
 use Rattle.cc_model.specs.Counts.{slots_of_natives}
-use Rattle.cc_laws_heap.specs.Sound.{IsSound}
+use Rattle.cc_laws_heap.specs.Sound.{IsSound, numbers_of}
 use Rattle.cc_laws_heap.specs.Freeing.{Uncounted, Frees, is_none_of}
 use Rattle.cc_laws_heap.proofs.Natives.{native_at-there, native_at-member, IsWellFormed-distinct}
 use Rattle.cc_laws_heap.proofs.References.{times-cons_other}
-use Rattle.cc_laws_heap.proofs.Counted.{count_of, IsSound-counted}
-use Rattle.cc_laws_heap.proofs.Buffer.{places}
+use Rattle.cc_laws_heap.proofs.Counted.{IsSound-counted}
+use Rattle.cc_laws_heap.specs.Balance.{count_of, places}
 use Rattle.cc_laws_heap.proofs.Beside.{SameBeside-is}
 use Rattle.cc_laws_heap.proofs.Cascades.{cascade-frees, cascade-sound}
 use Rattle.cc_laws_heap.proofs.Leaving.{IsOf-frees}
-use Rattle.cc_laws_heap.proofs.Owning.{numbers_of}
 use Rattle.cc_laws_snapshot.proofs.SoundView.{living-native}
 use Rattle.cc_laws_snapshot.proofs.Marked.{names_in, places-named, named-places}
 use Rattle.cc_laws_snapshot.proofs.Settling.{IsSettled, settled-drained}

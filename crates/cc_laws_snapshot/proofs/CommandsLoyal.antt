@@ -19,10 +19,10 @@ use Rattle.cc_model.specs.Cascade.{take_up, let_go}
 use Rattle.cc_model.specs.Exposure.{exposed}
 use Rattle.cc_model.specs.Effects.{effects, put_in_register, hold_native, store_native, with_native, make_native, hold_script, make_object, wrapped, set_entry, put_in_script}
 use Rattle.cc_model.specs.WellFormed.{native_names, names_there}
-use Rattle.cc_laws_heap.specs.Sound.{IsSound}
+use Rattle.cc_laws_heap.specs.Sound.{IsSound, numbers_of}
 use Rattle.cc_laws_heap.proofs.Natives.{IsWellFormed-distinct}
 use Rattle.cc_laws_heap.proofs.HoldsTheSame.{HoldsTheSame-take_up, native_names-alike, register-alike}
-use Rattle.cc_laws_heap.proofs.Owning.{numbers_of, IsIn, take_up-sound}
+use Rattle.cc_laws_heap.proofs.Owning.{IsIn, take_up-sound}
 use Rattle.cc_laws_heap.proofs.Writes.{contents-at, native_register-sound, native_slot-sound}
 use Rattle.cc_laws_heap.proofs.MadeSound.{with_native-sound}
 use Rattle.cc_laws_heap.proofs.Holding.{IsIn-natives, IsIn-no_script, native_register-there, script_register-there, source-there, slot_at-there, native_of-there}

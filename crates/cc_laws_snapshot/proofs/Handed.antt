@@ -19,9 +19,10 @@ use Rattle.cc_model.specs.Cascade.{add_ref, take_up}
 use Rattle.cc_model.specs.Effects.{with_native}
 use Rattle.cc_model.specs.WellFormed.{native_names, script_names}
 use Rattle.cc_laws_heap.specs.Freeing.{Uncounted, uncounted}
-use Rattle.cc_laws_heap.proofs.Natives.{native_names-change, HasDistinctNumbers, native_at-number}
+use Rattle.cc_laws_heap.proofs.Natives.{native_names-change, native_at-number}
+use Rattle.cc_laws_heap.specs.Balance.{HasDistinctNumbers}
 use Rattle.cc_laws_heap.proofs.HoldsTheSame.{HoldsTheSame-add_ref}
-use Rattle.cc_laws_heap.proofs.Owning.{numbers_of}
+use Rattle.cc_laws_heap.specs.Sound.{numbers_of}
 use Rattle.cc_laws_heap.proofs.Making.{new_native}
 use Rattle.cc_laws_snapshot.proofs.BufferMarks.{IsPurple, marked-keeps_purple, marked-buffer}
 use Rattle.cc_laws_snapshot.proofs.SlotsWritten.{contents-written_there, contents-written_kept, numbers_of-there, slot_written-there, slot_written-kept}

@@ -15,8 +15,8 @@ use Rattle.cc_model.specs.View.{view, ReachedIn, slot_edges, preserved_edge, nat
 use Rattle.cc_model.specs.Cascade.{let_go}
 use Rattle.cc_model.specs.WellFormed.{IsWellFormed, native_names, script_names}
 use Rattle.cc_model.specs.Fresh.{IsLiving}
-use Rattle.cc_laws_heap.specs.Sound.{IsSound}
-use Rattle.cc_laws_heap.proofs.Owning.{numbers_of, let_go-sound}
+use Rattle.cc_laws_heap.specs.Sound.{IsSound, numbers_of}
+use Rattle.cc_laws_heap.proofs.Owning.{let_go-sound}
 use Rattle.cc_laws_snapshot.proofs.NamePairs.{native-no_script}
 use Rattle.cc_laws_snapshot.proofs.Edges.{edge-of}
 use Rattle.cc_laws_snapshot.proofs.SoundView.{script-name_of}

@@ -17,9 +17,9 @@ use Rattle.cc_model.specs.Cascade.{add_ref, let_go}
 use Rattle.cc_model.specs.Exposure.{exposed, exposed_names, as_black}
 use Rattle.cc_model.specs.Effects.{make_native, make_object, with_native, with_reflector, wrapped, set_entry}
 use Rattle.cc_model.specs.WellFormed.{IsWellFormed, native_names, script_names}
-use Rattle.cc_laws_heap.specs.Sound.{IsSound}
+use Rattle.cc_laws_heap.specs.Sound.{IsSound, numbers_of}
 use Rattle.cc_laws_heap.specs.Freeing.{Uncounted}
-use Rattle.cc_laws_heap.proofs.Owning.{numbers_of, let_go-sound}
+use Rattle.cc_laws_heap.proofs.Owning.{let_go-sound}
 use Rattle.cc_laws_heap.proofs.Writes.{native_register-sound}
 use Rattle.cc_laws_heap.proofs.MadeSound.{with_native-sound}
 use Rattle.cc_laws_heap.proofs.NativeCommands.{IsIn-made}

@@ -9,7 +9,7 @@ use Rattle.cc_names.specs.declared.name.Name.{Name}
 use Rattle.cc_names.specs.Names.{native, number_of}
 use Rattle.cc_model.specs.Heap.{Buffered, with_mark}
 use Rattle.cc_model.specs.View.{buffered}
-use Rattle.cc_laws_heap.proofs.Buffer.{has_place, places}
+use Rattle.cc_laws_heap.specs.Balance.{has_place, places}
 
 -- the names in a buffer
 abbrev pub names_in : List Buffered → List Name

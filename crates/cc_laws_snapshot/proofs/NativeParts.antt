@@ -20,7 +20,8 @@ use Rattle.cc_model.specs.Cascade.{add_ref, take_up}
 use Rattle.cc_model.specs.Effects.{with_native}
 use Rattle.cc_model.specs.View.{view, between, slot_edges, preserved_edge, native_edges}
 use Rattle.cc_model.specs.WellFormed.{IsWellFormed, native_names}
-use Rattle.cc_laws_heap.proofs.Natives.{has_number, native_at-member, IsWellFormed-distinct}
+use Rattle.cc_laws_heap.proofs.Natives.{native_at-member, IsWellFormed-distinct}
+use Rattle.cc_laws_heap.specs.Balance.{has_number}
 use Rattle.cc_laws_heap.proofs.HoldsTheSame.{raise_native}
 use Rattle.cc_lists.proofs.ListWrites.{count_by-flat_map_set, Among-flat_map_set, each-push}
 use Rattle.cc_laws_heap.proofs.Making.{contents-empty_none, new_native}

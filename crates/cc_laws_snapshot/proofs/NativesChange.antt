@@ -12,7 +12,8 @@ use Rattle.cc_model.specs.Heap.{Heap, HeapNative, Buffered}
 use Rattle.cc_model.specs.View.{view, between, counted, native_edges, script_edges}
 use Rattle.cc_model.specs.WellFormed.{native_names}
 use Rattle.cc_lists.proofs.ListWrites.{changed_where-either, each-map}
-use Rattle.cc_laws_heap.proofs.Natives.{has_number, KeepsNumber, changed_at, changed_at-number}
+use Rattle.cc_laws_heap.proofs.Natives.{KeepsNumber, changed_at, changed_at-number}
+use Rattle.cc_laws_heap.specs.Balance.{has_number}
 use Rattle.cc_lists.proofs.CountsOf.{count_by-flat_map_same}
 use Rattle.cc_laws_snapshot.proofs.SoundView.{living-named, living-native}
 use Rattle.cc_laws_snapshot.proofs.Marked.{names_in}

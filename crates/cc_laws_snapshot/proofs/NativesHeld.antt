@@ -12,8 +12,8 @@ use Rattle.cc_model.specs.Cascade.{take_up, let_go}
 use Rattle.cc_model.specs.View.{view}
 use Rattle.cc_model.specs.Effects.{put_in_register, hold_native, put_in_slot, store_native, with_native, make_native}
 use Rattle.cc_model.specs.WellFormed.{native_names, names_there}
-use Rattle.cc_laws_heap.specs.Sound.{IsSound}
-use Rattle.cc_laws_heap.proofs.Owning.{numbers_of, IsIn, take_up-sound}
+use Rattle.cc_laws_heap.specs.Sound.{IsSound, numbers_of}
+use Rattle.cc_laws_heap.proofs.Owning.{IsIn, take_up-sound}
 use Rattle.cc_laws_heap.proofs.Writes.{native_register-sound, native_slot-sound}
 use Rattle.cc_laws_heap.proofs.MadeSound.{with_native-sound}
 use Rattle.cc_laws_heap.proofs.Holding.{IsIn-natives}

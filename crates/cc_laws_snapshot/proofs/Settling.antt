@@ -4,7 +4,8 @@ use Rattle.std.proofs.Common.{◌≡◌, ◌≢◌, ℕ, zero, suc, ◌≤◌, t
 use Rattle.cc_model.specs.Heap.{Heap, HeapNative, native_at}
 use Rattle.cc_model.specs.Cascade.{Draining, lower, lowered, queued, fallen, given_up, give_up, give_up_each, natives_of_slots, told_free, free_front, drain, at_rest, drained}
 use Rattle.cc_laws_heap.proofs.Natives.{native_at-removed_same, native_at-removed_other}
-use Rattle.cc_laws_heap.proofs.Buffer.{places, places-forget_other, places-with_mark_other}
+use Rattle.cc_laws_heap.proofs.Buffer.{places-forget_other, places-with_mark_other}
+use Rattle.cc_laws_heap.specs.Balance.{places}
 use Rattle.cc_laws_heap.proofs.GiveUp.{lower_native, native_at-lower_same, native_at-lower_other}
 use Rattle.cc_laws_snapshot.proofs.Marked.{places-with_mark_some}
 

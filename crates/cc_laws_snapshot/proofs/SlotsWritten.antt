@@ -9,8 +9,9 @@ use Rattle.cc_names.specs.declared.name.Name.{Name}
 use Rattle.cc_names.specs.Names.{native, natives_in}
 use Rattle.cc_model.specs.Slots.{Slots, contents}
 use Rattle.cc_model.specs.Heap.{Heap, HeapNative, native_at, change_native, with_native_slot}
-use Rattle.cc_laws_heap.proofs.Natives.{HasDistinctNumbers, has_number, changed_at, native_at-there, native_at-member, native_at-change_same}
-use Rattle.cc_laws_heap.proofs.Owning.{numbers_of}
+use Rattle.cc_laws_heap.proofs.Natives.{changed_at, native_at-there, native_at-member, native_at-change_same}
+use Rattle.cc_laws_heap.specs.Balance.{HasDistinctNumbers, has_number}
+use Rattle.cc_laws_heap.specs.Sound.{numbers_of}
 
 -- Slots in general
 

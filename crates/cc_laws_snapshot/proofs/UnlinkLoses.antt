@@ -12,10 +12,11 @@ use Rattle.cc_model.specs.Heap.{Heap, HeapNative, Outcome, silently, after, nati
 use Rattle.cc_model.specs.View.{View, view, counted, slot_edges, preserved_edge, native_edges, script_edges}
 use Rattle.cc_model.specs.Cascade.{let_go}
 use Rattle.cc_model.specs.End.{empty_slot, empty_each, slots_now, unlink, unlink_each}
-use Rattle.cc_laws_heap.specs.Sound.{IsSound}
+use Rattle.cc_laws_heap.specs.Sound.{IsSound, numbers_of}
 use Rattle.cc_laws_heap.specs.Freeing.{Uncounted, uncounted, Frees}
-use Rattle.cc_laws_heap.proofs.Natives.{KeepsNumber, HasDistinctNumbers, IsWellFormed-distinct, changed_at, changed_at-number, native_at-member, native_at-change_same, named-found}
-use Rattle.cc_laws_heap.proofs.Owning.{numbers_of, let_go-sound}
+use Rattle.cc_laws_heap.proofs.Natives.{KeepsNumber, IsWellFormed-distinct, changed_at, changed_at-number, native_at-member, native_at-change_same, named-found}
+use Rattle.cc_laws_heap.specs.Balance.{HasDistinctNumbers}
+use Rattle.cc_laws_heap.proofs.Owning.{let_go-sound}
 use Rattle.cc_laws_heap.proofs.Writes.{native_slot-sound}
 use Rattle.cc_laws_heap.proofs.Emptying.{front-room, front-get, front-set, let_go-frees, frees-stays}
 use Rattle.cc_laws_heap.proofs.Unlinking.{unpreserved-sound, unlink-keeps}

@@ -4,7 +4,7 @@ ghost use Rattle.cc_names.specs.Names.{native};
 ghost use Rattle.cc_model.specs.Heap.{native_at, register, set_register, set_slot};
 ghost use Rattle.cc_model.specs.Cascade.{take_up, let_go};
 ghost use Rattle.cc_model.specs.End.{slots_now};
-ghost use Rattle.cc_laws_heap.proofs.Owning.{numbers_of};
+ghost use Rattle.cc_laws_heap.specs.Sound.{numbers_of};
 ghost use Rattle.cc_names.specs.declared.register.Reg.TheVariants.{N as n_register};
 ghost use Rattle.cc_model.specs.Effects.{hold_native, put_in_register};
 ghost use Rattle.cc_counted.specs.Counts.{slots_of};

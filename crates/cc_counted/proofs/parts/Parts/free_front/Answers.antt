@@ -7,7 +7,7 @@ use Rattle.cc_model.specs.declared.item.Event.TheVariants.{Freed}
 use Rattle.cc_model.specs.declared.item.Item.TheVariants.{Event as of_event}
 use Rattle.cc_model.specs.Texts.{text_of}
 use Rattle.cc_model.specs.Telling.{Tells}
-use Rattle.cc_laws_heap.proofs.GiveUp.{IsBalanced}
+use Rattle.cc_laws_heap.specs.Balance.{IsBalanced}
 use Rattle.cc_counted.specs.declared.held.Held.{Held}
 use Rattle.cc_counted.specs.Counts.{is_live}
 use Rattle.cc_counted.specs.Lists.{Placed, Lists, keyed, numbers_in, draining_of, IsPlaced, without, taken_out}

@@ -1,6 +1,6 @@
 use Rattle.std.proofs.Common.{[], ◌∷◌, map, ap, sym, subst}
 use Rattle.cc_names.specs.declared.number.NKey.{NKey}
-use Rattle.cc_laws_heap.proofs.GiveUp.{IsBalanced}
+use Rattle.cc_laws_heap.specs.Balance.{IsBalanced}
 use Rattle.cc_counted.specs.Counts.{the_number}
 use Rattle.cc_counted.specs.Lists.{keyed, draining_of}
 use Rattle.cc_counted.specs.Parts.{lists_of}

@@ -8,7 +8,7 @@ use Rattle.cc_model.specs.Telling.{Tells}
 use Rattle.cc_model.specs.Heap.{Outcome}
 use Rattle.cc_model.specs.End.{unlink}
 use Rattle.cc_model.proofs.Tellings.{Tells-trans}
-use Rattle.cc_laws_heap.proofs.GiveUp.{IsBalanced}
+use Rattle.cc_laws_heap.specs.Balance.{IsBalanced}
 use Rattle.cc_counted.specs.Counts.{heap_of, left_with}
 use Rattle.cc_counted.specs.Lists.{Placed, counts_of, draining_of}
 use Rattle.cc_counted.specs.Parts.{lists_of}

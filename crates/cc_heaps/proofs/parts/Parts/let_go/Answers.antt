@@ -2,7 +2,7 @@ use Rattle.std.proofs.Common.{[], ◌++◌, map, rules, sym, ◌∙◌, ap, subs
 use Rattle.cc_model.specs.declared.item.Item.TheVariants.{Event as of_event}
 use Rattle.cc_model.specs.Telling.{Tells}
 use Rattle.cc_model.specs.Texts.{texts_of}
-use Rattle.cc_laws_heap.proofs.Owning.{numbers_of}
+use Rattle.cc_laws_heap.specs.Sound.{numbers_of}
 use Rattle.cc_heaps.specs.Keyed.{left_with, IsInOrder}
 use Rattle.cc_heaps.specs.Changes.{held_name}
 use Rattle.cc_heaps.specs.Parts.{heap_of, keyed_of, IsFit}

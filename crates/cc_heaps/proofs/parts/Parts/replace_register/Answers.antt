@@ -6,7 +6,7 @@ use Rattle.cc_lists.proofs.ListWrites.{Among-set_cases}
 use Rattle.cc_names.specs.declared.number.NKey.{NKey}
 use Rattle.cc_names.specs.declared.register.Reg.TheVariants.{N}
 use Rattle.cc_model.specs.Heap.{register, set_register}
-use Rattle.cc_laws_heap.proofs.Owning.{numbers_of}
+use Rattle.cc_laws_heap.specs.Sound.{numbers_of}
 use Rattle.cc_heaps.specs.declared.parts.Parts.{Parts}
 use Rattle.cc_heaps.specs.Keyed.{Keyed, IsInOrder, changed_to}
 use Rattle.cc_heaps.specs.Changes.{IsNativeThere, native_name}
