@@ -5,6 +5,7 @@ pub mod SoundView
 pub mod States
 pub mod Unreached
 pub mod WhiteNatives
+pub mod BlackRules
 pub mod NodeLists
 pub mod PassedOver
 pub mod Traversing

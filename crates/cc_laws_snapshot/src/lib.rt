@@ -19,7 +19,7 @@ pub use suspected::{
     collections_keep_suspected, commands_keep_suspected, loyal_changes_keep_suspected,
 };
 pub use units::{begin_is_fresh, units_keep_fresh};
-pub use white::white_is_unreached;
+pub use white::{black_is_least, white_is_unreached};
 
 #[cfg(test)]
 mod tests;

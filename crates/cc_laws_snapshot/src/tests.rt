@@ -11,6 +11,7 @@ fn laws_can_be_called() {
     waiting_asks_less();
     commands_keep_fresh();
     white_is_unreached();
+    black_is_least();
     ends_take_white();
     ends_keep_reached();
     loyal_changes_keep_suspected();
