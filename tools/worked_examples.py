@@ -191,8 +191,8 @@ OTHER_WORDS = [
     ('Rattle.cc_worked.specs.Verdict', ['passes_verdict']),
     ('Rattle.cc_worked.specs.Audit', ['passes_audit']),
     ('Rattle.cc_worked.proofs.Opened', ['all_of_a_run']),
-    ('Rattle.cc_worked.proofs.Sound', ['run-lawful']),
-    ('Rattle.cc_worked.proofs.Quiet', ['run-quiet']),
+    ('Rattle.cc_worked.proofs.LawfulTest', ['run-lawful']),
+    ('Rattle.cc_worked.proofs.QuietTest', ['run-quiet']),
 ]
 
 

@@ -8,8 +8,8 @@ use Rattle.cc_worked.specs.Inputs as input
 use Rattle.cc_worked.specs.Verdict.{passes_verdict}
 use Rattle.cc_worked.specs.Audit.{passes_audit}
 use Rattle.cc_worked.proofs.Opened.{all_of_a_run}
-use Rattle.cc_worked.proofs.Sound.{run-lawful}
-use Rattle.cc_worked.proofs.Quiet.{run-quiet}
+use Rattle.cc_worked.proofs.LawfulTest.{run-lawful}
+use Rattle.cc_worked.proofs.QuietTest.{run-quiet}
 
 -- A native that gets a reference after it was sampled is touched, so it is not looked at with an old count.
 pub copied_after_its_node_was_traversed : plain_text version_one_forms default_limits ample input.copied_after_its_node_was_traversed

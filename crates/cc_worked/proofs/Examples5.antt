@@ -8,8 +8,8 @@ use Rattle.cc_worked.specs.Inputs as input
 use Rattle.cc_worked.specs.Verdict.{passes_verdict}
 use Rattle.cc_worked.specs.Audit.{passes_audit}
 use Rattle.cc_worked.proofs.Opened.{all_of_a_run}
-use Rattle.cc_worked.proofs.Sound.{run-lawful}
-use Rattle.cc_worked.proofs.Quiet.{run-quiet}
+use Rattle.cc_worked.proofs.LawfulTest.{run-lawful}
+use Rattle.cc_worked.proofs.QuietTest.{run-quiet}
 
 -- The greatest numbers of slots, indexes, registers and units are taken, and greater ones are not in the grammar.
 pub numbers_at_their_bounds : plain_text version_one_forms default_limits ample input.numbers_at_their_bounds

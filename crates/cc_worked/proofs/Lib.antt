@@ -1,9 +1,9 @@
 pub mod Opened
 pub mod Passing
-pub mod Reaching
-pub mod Sound
-pub mod Quiet
-pub mod Wrong
+pub mod Deciding
+pub mod LawfulTest
+pub mod QuietTest
+pub mod Judged
 pub mod FreshTest
 pub mod SuspectedTest
 pub mod Witnesses

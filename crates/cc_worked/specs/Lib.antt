@@ -1,7 +1,11 @@
 pub mod Examples
 pub mod Inputs
-pub mod Outside
 pub mod Verdict
+pub mod Transcripts
+pub mod WrongReplies
+pub mod WrongEvents
+pub mod Garbage
+pub mod Right
 pub mod HeapTests
 pub mod SnapshotTests
 pub mod GraphTests

@@ -1,4 +1,4 @@
--- THE VERDICT on a transcript: lawful and quiet as one test that computes.
+-- THE VERDICT on a transcript: lawful and quiet as tests that compute.
 use Rattle.std.specs.Prelude.{ℕ, Bool, true, false, not, ◌&&◌, ◌||◌, ◌==◌, List, [], ◌∷◌, Option, Some, None, is_none, nat_le, slice_index_or}
 use Rattle.std.specs.List.{list_all}
 use Rattle.cc_lists.specs.Members.{has}
@@ -22,7 +22,6 @@ use Rattle.cc_model.specs.Listed.{after_event}
 use Rattle.cc_model.specs.Lawful.{State, start, next, graph_after, may_want_memory, is_without_memory, is_refused, is_abandoning, may_free, may_unlink, runs, unlinked_numbers, runs_allowed, has_abandonment_in_place, census_of}
 use Rattle.cc_model.specs.Quiet.{Row, nothing_yet, after_all, row_after}
 use Rattle.cc_worked.specs.Examples.{asks_in, answers_to}
-use Rattle.cc_worked.specs.Outside.{is_closed, is_outside}
 
 -- Equality as tests
 
@@ -84,9 +83,13 @@ replies_with s c reply = same_reply reply (reply_to s.graph c) || wants_memory s
 abbrev pub may_have : Command → Reply → List Event → Bool
 may_have c reply events = not (has_events events && (is_refused reply && not (is_abandoning c reply)))
 
+-- whether no register reaches a name
+abbrev pub is_garbage : Graph → Name → Bool
+is_garbage g x = not (has same_name (reached_names g) x)
+
 abbrev pub may_be : Graph → List Name → Command → Event → Bool
-may_be g names c (Freed x) = has same_name names x && (is_outside g x && may_free c x)
-may_be g names c (Unlinked x) = has same_name names x && (is_outside g x && may_unlink c x)
+may_be g names c (Freed x) = has same_name names x && (is_garbage g x && may_free c x)
+may_be g names c (Unlinked x) = has same_name names x && (is_garbage g x && may_unlink c x)
 may_be g names c Abandoned = true
 
 abbrev pub each_may_be : Graph → List Name → Command → List Event → Bool
@@ -119,6 +122,16 @@ answers_ask s long a = is_same_answer a (replying [] (Refused Long))
 answers_ask s bad a = is_same_answer a (replying [] (Refused Line))
 answers_ask s (taken c) a = answers_taken s c a
 
+abbrev pub is_lawful_from : State → List Ask → List Answer → Bool
+is_lawful_from s [] [] = true
+is_lawful_from s (ask ∷ asks) (a ∷ answers) = answers_ask s ask a && is_lawful_from (next s ask a) asks answers
+is_lawful_from s [] (a ∷ answers) = false
+is_lawful_from s (ask ∷ asks) [] = false
+
+-- WHETHER THE ANSWERS ARE LAWFUL
+abbrev pub is_lawful : Allowance → List Ask → List Answer → Bool
+is_lawful limits asks answers = is_lawful_from (start limits) asks answers
+
 -- The census after `gc`, `collect` and `gc`
 
 -- whether two lists have the same names
@@ -127,24 +140,26 @@ have_same xs ys = list_all (has same_name ys) xs && list_all (has same_name xs) 
 
 -- whether exactly the reached names are listed
 abbrev pub lists_reached : State → Bool
-lists_reached s = is_closed s.graph (reached_names s.graph) && have_same s.listed (reached_names s.graph)
+lists_reached s = have_same s.listed (reached_names s.graph)
 
 abbrev pub census_is_quiet : Row → State → Ask → Bool
 census_is_quiet after_all s (taken Census) = lists_reached s
 census_is_quiet row s ask = true
 
--- The verdict
+abbrev pub is_quiet_from : Row → State → List Ask → List Answer → Bool
+is_quiet_from row s [] answers = true
+is_quiet_from row s (ask ∷ asks) [] = true
+is_quiet_from row s (ask ∷ asks) (a ∷ answers) = census_is_quiet row s ask && is_quiet_from (row_after row ask a) (next s ask a) asks answers
 
-abbrev pub verdict_from : Row → State → List Ask → List Answer → Bool
-verdict_from row s [] [] = true
-verdict_from row s [] (a ∷ answers) = false
-verdict_from row s (ask ∷ asks) [] = false
-verdict_from row s (ask ∷ asks) (a ∷ answers) =
-    answers_ask s ask a && (census_is_quiet row s ask && verdict_from (row_after row ask a) (next s ask a) asks answers)
+-- WHETHER THE ANSWERS ARE QUIET
+abbrev pub is_quiet : Allowance → List Ask → List Answer → Bool
+is_quiet limits asks answers = is_quiet_from nothing_yet (start limits) asks answers
+
+-- The verdict
 
 -- WHETHER THE ANSWERS ARE LAWFUL AND QUIET
 abbrev pub verdict : Allowance → List Ask → List Answer → Bool
-verdict limits asks answers = verdict_from nothing_yet (start limits) asks answers
+verdict limits asks answers = is_lawful limits asks answers && is_quiet limits asks answers
 
 -- WHETHER A SCRIPT'S PLAIN RUN PASSES THE VERDICT
 abbrev pub passes_verdict : Allowance → List Bool → List ℕ → Bool

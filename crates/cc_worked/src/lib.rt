@@ -14,6 +14,11 @@
 //! The functions below have empty bodies, and each is a law that its clauses state.
 #![tactic(auto)]
 
+mod garbage;
+mod right;
+mod verdict;
+mod wrong;
+
 ghost use Rattle.std.specs.Prelude.{◌≡◌, ℕ, IsTrue, List, [], ◌++◌, codes};
 ghost use Rattle.cc_names.specs.Allowance.{Allowance};
 ghost use Rattle.cc_names.specs.Names.{native};
@@ -29,15 +34,14 @@ ghost use Rattle.cc_model.specs.Suspected.{IsCovered, IsSuspected};
 ghost use Rattle.cc_model.specs.Run.{plain_text};
 ghost use Rattle.cc_worked.specs.Examples.{IsLawfulRun, IsQuietRun, ample, default_limits, refused_at};
 ghost use Rattle.cc_worked.specs.Inputs.{cascade_of_two, collect_refused_at_a_node, cycle_through_a_reflector, cycle_through_an_entry, entry_does_not_keep_its_key, gc_sweeps_three_rounds, native_lives_by_an_exposed_reflector, read_between_slices, refusals_and_odd_lines, self_cycle_is_collected, self_cycle_outlives_its_register, touched_between_slices, two_cycle_takes_four_units, value_lives_by_its_mapping};
-ghost use Rattle.cc_worked.specs.Verdict.{verdict};
 
-/// A transcript to which the verdict says yes is lawful and quiet.
-pub fn verdict_is_sound()
-    ensures lawful { (limits : Allowance) (asks : List Ask) (answers : List Answer) →
-        IsTrue (verdict limits asks answers) → IsLawful limits asks answers }
-    ensures quiet { (limits : Allowance) (asks : List Ask) (answers : List Answer) →
-        IsTrue (verdict limits asks answers) → IsQuiet limits asks answers }
-{}
+pub use garbage::{garbage_may_stay, unquiet_censuses_are_refused};
+pub use right::right_transcripts_pass;
+pub use verdict::verdict_decides;
+pub use wrong::{
+    misplaced_answers_are_refused, wants_of_memory_are_refused, wrong_abandonments_are_refused,
+    wrong_censuses_are_refused, wrong_events_are_refused, wrong_replies_are_refused,
+};
 
 /// What these examples write.
 pub fn examples_write_their_lines()
@@ -92,7 +96,16 @@ mod tests {
 
     #[test]
     fn laws_can_be_called() {
-        verdict_is_sound();
+        verdict_decides();
+        misplaced_answers_are_refused();
+        wrong_replies_are_refused();
+        wants_of_memory_are_refused();
+        wrong_censuses_are_refused();
+        wrong_events_are_refused();
+        wrong_abandonments_are_refused();
+        unquiet_censuses_are_refused();
+        garbage_may_stay();
+        right_transcripts_pass();
         examples_write_their_lines();
         examples_are_lawful();
         examples_are_quiet();

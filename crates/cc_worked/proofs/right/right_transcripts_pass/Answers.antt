@@ -1,0 +1,41 @@
+use Rattle.std.specs.Prelude.{refl}
+use Rattle.cc_worked.specs.Right.{memory_may_be_refused, reflector_may_be_refused_again, refused_collections_abandon, gc_abandons_first, two_collections_end, garbage_may_stay, value_goes_with_its_key, lines_that_ask_nothing, census_in_order}
+use Rattle.cc_worked.proofs.Opened.{all_of_a_run}
+use Rattle.cc_worked.proofs.Judged.{right}
+use Rattle.cc_worked.proofs.right.right_transcripts_pass.Goals as goal
+
+pub returns-clause-memory_may_be_refused : goal.returns-clause-memory_may_be_refused
+unfolding all_of_a_run
+returns-clause-memory_may_be_refused c = right memory_may_be_refused refl
+
+pub returns-clause-reflector_may_be_refused_again : goal.returns-clause-reflector_may_be_refused_again
+unfolding all_of_a_run
+returns-clause-reflector_may_be_refused_again c = right reflector_may_be_refused_again refl
+
+pub returns-clause-refused_collections_abandon : goal.returns-clause-refused_collections_abandon
+unfolding all_of_a_run
+returns-clause-refused_collections_abandon c = right refused_collections_abandon refl
+
+pub returns-clause-gc_abandons_first : goal.returns-clause-gc_abandons_first
+unfolding all_of_a_run
+returns-clause-gc_abandons_first c = right gc_abandons_first refl
+
+pub returns-clause-two_collections_end : goal.returns-clause-two_collections_end
+unfolding all_of_a_run
+returns-clause-two_collections_end c = right two_collections_end refl
+
+pub returns-clause-garbage_may_stay : goal.returns-clause-garbage_may_stay
+unfolding all_of_a_run
+returns-clause-garbage_may_stay c = right garbage_may_stay refl
+
+pub returns-clause-value_goes_with_its_key : goal.returns-clause-value_goes_with_its_key
+unfolding all_of_a_run
+returns-clause-value_goes_with_its_key c = right value_goes_with_its_key refl
+
+pub returns-clause-lines_that_ask_nothing : goal.returns-clause-lines_that_ask_nothing
+unfolding all_of_a_run
+returns-clause-lines_that_ask_nothing c = right lines_that_ask_nothing refl
+
+pub returns-clause-census_in_order : goal.returns-clause-census_in_order
+unfolding all_of_a_run
+returns-clause-census_in_order c = right census_in_order refl

@@ -1,0 +1,53 @@
+-- RIGHT TRANSCRIPTS, at the limits of what is lawful.
+use Rattle.std.specs.Prelude.{[], ◌∷◌, ◌++◌, codes, replicate}
+use Rattle.cc_names.specs.Names.{native, object, reflector}
+use Rattle.cc_model.specs.declared.item.Refusal.TheVariants.{Long, Line, NoMemory}
+use Rattle.cc_model.specs.declared.item.Reply.TheVariants.{Refused}
+use Rattle.cc_model.specs.declared.item.Event.TheVariants.{Unlinked, Freed, Abandoned}
+use Rattle.cc_model.specs.Answers.{no_answer, replying}
+use Rattle.cc_model.specs.Lawful.{census_of}
+use Rattle.cc_worked.specs.Transcripts.{Transcript, answered, made, ok, done_after, refused, without_memory}
+
+-- What makes an object or an entry may be refused memory, and then nothing was made.
+abbrev pub memory_may_be_refused : Transcript
+memory_may_be_refused = answered (codes "native n0 0\nscript s0 0\nweakmap s0\nnative n0 0\nwrap s0 n0\nweakmap s0\nwset s0 s0 s0\ncensus\n")
+    (without_memory ∷ without_memory ∷ without_memory ∷ made (native 1) ∷ without_memory ∷ made (object 1) ∷ without_memory ∷ census_of (native 1 ∷ object 1 ∷ []) ∷ [])
+
+-- So may a reflector that was freed.
+abbrev pub reflector_may_be_refused_again : Transcript
+reflector_may_be_refused_again = answered (codes "native n0 0\nwrap s0 n0\ndrop s0\ngc\nwrap s0 n0\n")
+    (made (native 1) ∷ made (reflector 1) ∷ ok ∷ done_after (Freed (reflector 1) ∷ []) ∷ without_memory ∷ [])
+
+-- A slice or a collect that is refused memory frees what it frees, and then abandons its collection.
+abbrev pub refused_collections_abandon : Transcript
+refused_collections_abandon = answered (codes "native n0 0\ndrop n0\nslice 1\ncollect\n")
+    (made (native 1) ∷ ok ∷ replying (Unlinked (native 1) ∷ Freed (native 1) ∷ Abandoned ∷ []) (Refused NoMemory) ∷ replying (Abandoned ∷ []) (Refused NoMemory) ∷ [])
+
+-- Gc abandons the collection that runs, and then frees.
+abbrev pub gc_abandons_first : Transcript
+gc_abandons_first = answered (codes "script s0 0\ndrop s0\ngc\n") (made (object 1) ∷ ok ∷ done_after (Abandoned ∷ Freed (object 1) ∷ []) ∷ [])
+
+-- A collect ends two collections, each of which unlinks by rising number.
+abbrev pub two_collections_end : Transcript
+two_collections_end = answered (codes "native n0 0\nnative n1 0\ndrop n0\ndrop n1\ncollect\n")
+    (made (native 1) ∷ made (native 2) ∷ ok ∷ ok ∷ done_after (Unlinked (native 2) ∷ Freed (native 2) ∷ Unlinked (native 1) ∷ Freed (native 1) ∷ []) ∷ [])
+
+-- A native may be unlinked and not be freed, and be unlinked again; and freed by any command later.
+abbrev pub garbage_may_stay : Transcript
+garbage_may_stay = answered (codes "native n0 0\ndrop n0\nslice 1\ngc\ndrop n1\n")
+    (made (native 1) ∷ ok ∷ done_after (Unlinked (native 1) ∷ []) ∷ done_after (Unlinked (native 1) ∷ []) ∷ done_after (Freed (native 1) ∷ []) ∷ [])
+
+-- A value is freed where its key is.
+abbrev pub value_goes_with_its_key : Transcript
+value_goes_with_its_key = answered (codes "weakmap s0\nscript s1 0\nscript s2 0\nwset s0 s1 s2\ndrop s1\ndrop s2\ngc\n")
+    (made (object 1) ∷ made (object 2) ∷ made (object 3) ∷ ok ∷ ok ∷ ok ∷ done_after (Freed (object 2) ∷ Freed (object 3) ∷ []) ∷ [])
+
+-- A long line, one that is not in the grammar, a blank one and a comment are answered each in its way.
+abbrev pub lines_that_ask_nothing : Transcript
+lines_that_ask_nothing = answered ((replicate 121 97 ++ 10 ∷ []) ++ codes "dorp n0\n\n% drop n0\n")
+    (refused Long ∷ refused Line ∷ no_answer ∷ no_answer ∷ [])
+
+-- A census lists natives and then script objects, and a reflector that was made again goes last.
+abbrev pub census_in_order : Transcript
+census_in_order = answered (codes "script s0 0\nnative n0 0\nwrap s1 n0\ndrop s1\ngc\nscript s1 0\nwrap s2 n0\ncensus\n")
+    (made (object 1) ∷ made (native 1) ∷ made (reflector 1) ∷ ok ∷ done_after (Freed (reflector 1) ∷ []) ∷ made (object 2) ∷ made (reflector 1) ∷ census_of (object 1 ∷ native 1 ∷ object 2 ∷ reflector 1 ∷ []) ∷ [])

@@ -1,0 +1,170 @@
+-- WRONG EVENTS: transcripts whose last answer has one event too many, too few, or in a wrong place.
+use Rattle.std.specs.Prelude.{[], ◌∷◌, codes}
+use Rattle.cc_names.specs.Names.{native, object, reflector}
+use Rattle.cc_model.specs.declared.item.Refusal.TheVariants.{Empty, NoMemory}
+use Rattle.cc_model.specs.declared.item.Reply.TheVariants.{Named, Refused}
+use Rattle.cc_model.specs.declared.item.Event.TheVariants.{Unlinked, Freed, Abandoned}
+use Rattle.cc_model.specs.Answers.{replying}
+use Rattle.cc_worked.specs.Transcripts.{Transcript, answered, made, ok, done_after, without_memory}
+
+-- What is freed and unlinked
+
+-- A refused command does nothing.
+abbrev pub freed_by_a_refused_command : Transcript
+freed_by_a_refused_command = answered (codes "native n0 0\ndrop n0\nset n0 0 none\n")
+    (made (native 1) ∷ ok ∷ replying (Freed (native 1) ∷ []) (Refused Empty) ∷ [])
+
+-- Nor does one that was refused memory.
+abbrev pub freed_without_memory : Transcript
+freed_without_memory = answered (codes "native n0 0\ndrop n0\nnative n0 0\n")
+    (made (native 1) ∷ ok ∷ replying (Freed (native 1) ∷ []) (Refused NoMemory) ∷ [])
+
+-- What was never made is not freed.
+abbrev pub freed_before_it_was_made : Transcript
+freed_before_it_was_made = answered (codes "collect\n") (done_after (Freed (native 1) ∷ []) ∷ [])
+
+-- Nothing is freed twice.
+abbrev pub freed_twice : Transcript
+freed_twice = answered (codes "native n0 0\ndrop n0\n") (made (native 1) ∷ done_after (Freed (native 1) ∷ Freed (native 1) ∷ []) ∷ [])
+
+-- Nor is it freed again later.
+abbrev pub freed_again : Transcript
+freed_again = answered (codes "native n0 0\ndrop n0\ncollect\n")
+    (made (native 1) ∷ done_after (Freed (native 1) ∷ []) ∷ done_after (Freed (native 1) ∷ []) ∷ [])
+
+-- What a register holds is not freed.
+abbrev pub freed_while_a_register_holds_it : Transcript
+freed_while_a_register_holds_it = answered (codes "native n0 0\ncollect\n") (made (native 1) ∷ done_after (Freed (native 1) ∷ []) ∷ [])
+
+-- Nor is what a held native has in a slot.
+abbrev pub freed_while_a_slot_holds_it : Transcript
+freed_while_a_slot_holds_it = answered (codes "native n0 1\nnative n1 0\nset n0 0 n1\ndrop n1\n")
+    (made (native 1) ∷ made (native 2) ∷ ok ∷ done_after (Freed (native 2) ∷ []) ∷ [])
+
+-- A native lives as long as its reflector.
+abbrev pub freed_while_its_reflector_is_held : Transcript
+freed_while_its_reflector_is_held = answered (codes "native n0 0\nwrap s0 n0\ndrop n0\n")
+    (made (native 1) ∷ made (reflector 1) ∷ done_after (Freed (native 1) ∷ []) ∷ [])
+
+-- A preserved reflector lives as long as its native.
+abbrev pub preserved_reflector_is_freed : Transcript
+preserved_reflector_is_freed = answered (codes "native n0 0\nwrap s0 n0\npreserve s0\ndrop s0\ngc\n")
+    (made (native 1) ∷ made (reflector 1) ∷ ok ∷ ok ∷ done_after (Freed (reflector 1) ∷ []) ∷ [])
+
+-- A value lives as long as its map and its key.
+abbrev pub value_is_freed_while_map_and_key_are_held : Transcript
+value_is_freed_while_map_and_key_are_held = answered (codes "weakmap s0\nscript s1 0\nwset s0 s0 s1\ndrop s1\ngc\n")
+    (made (object 1) ∷ made (object 2) ∷ ok ∷ ok ∷ done_after (Freed (object 2) ∷ []) ∷ [])
+
+-- A drop frees no script object.
+abbrev pub script_object_is_freed_by_a_drop : Transcript
+script_object_is_freed_by_a_drop = answered (codes "script s0 0\ndrop s0\n") (made (object 1) ∷ done_after (Freed (object 1) ∷ []) ∷ [])
+
+-- Nor does a slice.
+abbrev pub script_object_is_freed_by_a_slice : Transcript
+script_object_is_freed_by_a_slice = answered (codes "script s0 0\ndrop s0\nslice 1\n")
+    (made (object 1) ∷ ok ∷ done_after (Freed (object 1) ∷ []) ∷ [])
+
+-- Nor does a collection.
+abbrev pub script_object_is_freed_by_a_collect : Transcript
+script_object_is_freed_by_a_collect = answered (codes "script s0 0\ndrop s0\ncollect\n")
+    (made (object 1) ∷ ok ∷ done_after (Freed (object 1) ∷ []) ∷ [])
+
+-- It frees no reflector either.
+abbrev pub reflector_is_freed_by_a_collect : Transcript
+reflector_is_freed_by_a_collect = answered (codes "native n0 0\nwrap s0 n0\ndrop s0\ncollect\n")
+    (made (native 1) ∷ made (reflector 1) ∷ ok ∷ done_after (Freed (reflector 1) ∷ []) ∷ [])
+
+-- What was never made is not unlinked.
+abbrev pub unlinked_before_it_was_made : Transcript
+unlinked_before_it_was_made = answered (codes "collect\n") (done_after (Unlinked (native 1) ∷ []) ∷ [])
+
+-- Nor is what was freed.
+abbrev pub unlinked_after_it_was_freed : Transcript
+unlinked_after_it_was_freed = answered (codes "native n0 0\ndrop n0\ncollect\n")
+    (made (native 1) ∷ ok ∷ done_after (Freed (native 1) ∷ Unlinked (native 1) ∷ []) ∷ [])
+
+-- Nor is what a register holds.
+abbrev pub unlinked_while_held : Transcript
+unlinked_while_held = answered (codes "native n0 0\ncollect\n") (made (native 1) ∷ done_after (Unlinked (native 1) ∷ []) ∷ [])
+
+-- A drop unlinks nothing.
+abbrev pub unlinked_by_a_drop : Transcript
+unlinked_by_a_drop = answered (codes "native n0 0\ndrop n0\n") (made (native 1) ∷ done_after (Unlinked (native 1) ∷ []) ∷ [])
+
+-- Nor does the making of another native.
+abbrev pub unlinked_by_the_making_of_another : Transcript
+unlinked_by_the_making_of_another = answered (codes "native n0 0\ndrop n0\nnative n0 0\n")
+    (made (native 1) ∷ ok ∷ replying (Unlinked (native 1) ∷ []) (Named (native 2)) ∷ [])
+
+-- No script object is unlinked.
+abbrev pub script_object_is_unlinked : Transcript
+script_object_is_unlinked = answered (codes "script s0 0\ndrop s0\ngc\n") (made (object 1) ∷ ok ∷ done_after (Unlinked (object 1) ∷ []) ∷ [])
+
+-- Nor is a reflector.
+abbrev pub reflector_is_unlinked : Transcript
+reflector_is_unlinked = answered (codes "native n0 0\nwrap s0 n0\ndrop s0\ngc\n")
+    (made (native 1) ∷ made (reflector 1) ∷ ok ∷ done_after (Unlinked (reflector 1) ∷ []) ∷ [])
+
+-- One collection unlinks by rising number.
+abbrev pub unlinked_in_falling_order : Transcript
+unlinked_in_falling_order = answered (codes "native n0 0\nnative n1 0\ndrop n0\ndrop n1\nslice 9\n")
+    (made (native 1) ∷ made (native 2) ∷ ok ∷ ok ∷ done_after (Unlinked (native 2) ∷ Unlinked (native 1) ∷ []) ∷ [])
+
+-- It unlinks nothing twice.
+abbrev pub unlinked_twice : Transcript
+unlinked_twice = answered (codes "native n0 0\ndrop n0\nslice 9\n")
+    (made (native 1) ∷ ok ∷ done_after (Unlinked (native 1) ∷ Unlinked (native 1) ∷ []) ∷ [])
+
+-- Gc ends one collection.
+abbrev pub unlinked_in_falling_order_by_gc : Transcript
+unlinked_in_falling_order_by_gc = answered (codes "native n0 0\nnative n1 0\ndrop n0\ndrop n1\ngc\n")
+    (made (native 1) ∷ made (native 2) ∷ ok ∷ ok ∷ done_after (Unlinked (native 2) ∷ Unlinked (native 1) ∷ []) ∷ [])
+
+-- A collect ends two.
+abbrev pub unlinked_in_three_runs : Transcript
+unlinked_in_three_runs = answered (codes "native n0 0\nnative n1 0\nnative n2 0\ndrop n0\ndrop n1\ndrop n2\ncollect\n")
+    (made (native 1) ∷ made (native 2) ∷ made (native 3) ∷ ok ∷ ok ∷ ok ∷ done_after (Unlinked (native 3) ∷ Unlinked (native 2) ∷ Unlinked (native 1) ∷ []) ∷ [])
+
+-- Abandonments
+
+-- A slice that is refused memory abandons its collection.
+abbrev pub refused_slice_abandons_nothing : Transcript
+refused_slice_abandons_nothing = answered (codes "slice 1\n") (without_memory ∷ [])
+
+-- So does a collect.
+abbrev pub refused_collect_abandons_nothing : Transcript
+refused_collect_abandons_nothing = answered (codes "collect\n") (without_memory ∷ [])
+
+-- It is abandoned once.
+abbrev pub refused_slice_abandons_twice : Transcript
+refused_slice_abandons_twice = answered (codes "slice 1\n") (replying (Abandoned ∷ Abandoned ∷ []) (Refused NoMemory) ∷ [])
+
+-- So it is under a collect.
+abbrev pub refused_collect_abandons_twice : Transcript
+refused_collect_abandons_twice = answered (codes "collect\n") (replying (Abandoned ∷ Abandoned ∷ []) (Refused NoMemory) ∷ [])
+
+-- With the abandonment the refused collection ends.
+abbrev pub freed_after_the_abandonment : Transcript
+freed_after_the_abandonment = answered (codes "native n0 0\ndrop n0\ncollect\n")
+    (made (native 1) ∷ ok ∷ replying (Abandoned ∷ Freed (native 1) ∷ []) (Refused NoMemory) ∷ [])
+
+-- A slice that is done abandons nothing.
+abbrev pub slice_abandons_and_is_done : Transcript
+slice_abandons_and_is_done = answered (codes "slice 1\n") (done_after (Abandoned ∷ []) ∷ [])
+
+-- Nor does a collect.
+abbrev pub collect_abandons_and_is_done : Transcript
+collect_abandons_and_is_done = answered (codes "collect\n") (done_after (Abandoned ∷ []) ∷ [])
+
+-- Gc abandons the one collection that runs.
+abbrev pub gc_abandons_twice : Transcript
+gc_abandons_twice = answered (codes "gc\n") (done_after (Abandoned ∷ Abandoned ∷ []) ∷ [])
+
+-- It abandons it before anything else.
+abbrev pub gc_abandons_late : Transcript
+gc_abandons_late = answered (codes "script s0 0\ndrop s0\ngc\n") (made (object 1) ∷ ok ∷ done_after (Freed (object 1) ∷ Abandoned ∷ []) ∷ [])
+
+-- No other command abandons a collection.
+abbrev pub drop_abandons : Transcript
+drop_abandons = answered (codes "drop n0\n") (done_after (Abandoned ∷ []) ∷ [])

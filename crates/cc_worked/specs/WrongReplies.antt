@@ -1,0 +1,217 @@
+-- WRONG REPLIES: transcripts whose last answer has one fault in its reply or its form.
+use Rattle.std.specs.Prelude.{[], ◌∷◌, ◌++◌, None, codes, replicate}
+use Rattle.cc_names.specs.Names.{native, object, reflector}
+use Rattle.cc_model.specs.declared.item.Refusal.TheVariants.{Long, Line, Empty, Kind, Full}
+use Rattle.cc_model.specs.declared.item.Reply.TheVariants.{Done, Census, Refused, Nothing as nothing_there}
+use Rattle.cc_model.specs.declared.item.Event.TheVariants.{Freed, Abandoned}
+use Rattle.cc_model.specs.Answers.{no_answer, replying, listing}
+use Rattle.cc_model.specs.Lawful.{census_of}
+use Rattle.cc_worked.specs.Transcripts.{Transcript, answered, only, made, ok, done_after, refused, without_memory}
+
+-- Answers
+
+-- Each line is answered.
+abbrev pub missing_answer : Transcript
+missing_answer = answered (codes "drop n0\n") []
+
+-- Nothing else is answered.
+abbrev pub answer_to_nothing_asked : Transcript
+answer_to_nothing_asked = answered [] (ok ∷ [])
+
+-- The answer to a command has a reply.
+abbrev pub no_reply : Transcript
+no_reply = answered (codes "drop n0\n") (no_answer ∷ [])
+
+-- Names are listed by a census alone.
+abbrev pub names_listed_by_a_drop : Transcript
+names_listed_by_a_drop = answered (codes "native n0 0\ndrop n0\n") (made (native 1) ∷ listing (native 1 ∷ []) Done ∷ [])
+
+-- A long line is answered as one.
+abbrev pub long_line_called_bad : Transcript
+long_line_called_bad = answered (replicate 121 97 ++ 10 ∷ []) (refused Line ∷ [])
+
+-- A line that is not in the grammar is answered as one.
+abbrev pub bad_line_called_long : Transcript
+bad_line_called_long = answered (codes "dorp n0\n") (refused Long ∷ [])
+
+-- A long line does nothing.
+abbrev pub event_under_a_long_line : Transcript
+event_under_a_long_line = answered (replicate 121 97 ++ 10 ∷ []) (replying (Abandoned ∷ []) (Refused Long) ∷ [])
+
+-- A line that is not in the grammar does nothing.
+abbrev pub event_under_a_bad_line : Transcript
+event_under_a_bad_line = answered (codes "dorp n0\n") (replying (Abandoned ∷ []) (Refused Line) ∷ [])
+
+-- A line that asks nothing has no answer.
+abbrev pub blank_line_is_answered : Transcript
+blank_line_is_answered = answered (codes "\n") (ok ∷ [])
+
+-- Nor has a comment.
+abbrev pub comment_is_answered : Transcript
+comment_is_answered = answered (codes "% drop n0\n") (ok ∷ [])
+
+-- Nor does it anything.
+abbrev pub event_under_a_blank_line : Transcript
+event_under_a_blank_line = answered (codes "\n") (only (Abandoned ∷ []) ∷ [])
+
+-- Replies
+
+-- A native that is made is named.
+abbrev pub another_reply : Transcript
+another_reply = answered (codes "native n0 0\n") (ok ∷ [])
+
+-- No number is used again.
+abbrev pub number_used_again : Transcript
+number_used_again = answered (codes "native n0 0\nnative n1 0\n") (made (native 1) ∷ made (native 1) ∷ [])
+
+-- None is left out.
+abbrev pub number_left_out : Transcript
+number_left_out = answered (codes "native n0 0\n") (made (native 2) ∷ [])
+
+-- A native that could not be made takes no number.
+abbrev pub number_taken_without_memory : Transcript
+number_taken_without_memory = answered (codes "native n0 0\nnative n0 0\n") (without_memory ∷ made (native 2) ∷ [])
+
+-- A slot reads as what was written to it.
+abbrev pub slot_is_read_as_empty : Transcript
+slot_is_read_as_empty = answered (codes "native n0 1\nset n0 0 n0\nget n1 n0 0\n") (made (native 1) ∷ ok ∷ replying [] nothing_there ∷ [])
+
+-- A command that passes its checks is not refused.
+abbrev pub refused_without_cause : Transcript
+refused_without_cause = answered (codes "drop n0\n") (refused Empty ∷ [])
+
+-- One that does not pass them is refused.
+abbrev pub done_in_place_of_a_refusal : Transcript
+done_in_place_of_a_refusal = answered (codes "preserve s0\n") (ok ∷ [])
+
+-- It is refused for the first check that it fails.
+abbrev pub refused_for_another_cause : Transcript
+refused_for_another_cause = answered (codes "preserve s0\n") (refused Kind ∷ [])
+
+-- Wants of memory
+
+-- A copy takes no memory.
+abbrev pub copy_of_a_native_wants_memory : Transcript
+copy_of_a_native_wants_memory = answered (codes "copy n0 n1\n") (without_memory ∷ [])
+
+-- Nor does one of a script register.
+abbrev pub copy_of_a_script_object_wants_memory : Transcript
+copy_of_a_script_object_wants_memory = answered (codes "copy s0 s1\n") (without_memory ∷ [])
+
+-- Nor does a drop.
+abbrev pub drop_wants_memory : Transcript
+drop_wants_memory = answered (codes "drop n0\n") (without_memory ∷ [])
+
+-- Nor the writing of a native's slot,
+abbrev pub set_wants_memory : Transcript
+set_wants_memory = answered (codes "native n0 1\nset n0 0 none\n") (made (native 1) ∷ without_memory ∷ [])
+
+-- nor its reading.
+abbrev pub get_wants_memory : Transcript
+get_wants_memory = answered (codes "native n0 1\nget n1 n0 0\n") (made (native 1) ∷ without_memory ∷ [])
+
+-- Nor the writing of a script object's slot,
+abbrev pub put_wants_memory : Transcript
+put_wants_memory = answered (codes "script s0 1\nput s0 0 none\n") (made (object 1) ∷ without_memory ∷ [])
+
+-- nor its reading.
+abbrev pub take_wants_memory : Transcript
+take_wants_memory = answered (codes "script s0 1\ntake s1 s0 0\n") (made (object 1) ∷ without_memory ∷ [])
+
+-- Nor the wrapping of a native whose reflector is listed.
+abbrev pub wrap_of_a_listed_reflector_wants_memory : Transcript
+wrap_of_a_listed_reflector_wants_memory = answered (codes "native n0 0\nwrap s0 n0\nwrap s1 n0\n")
+    (made (native 1) ∷ made (reflector 1) ∷ without_memory ∷ [])
+
+-- Nor the way back to the native.
+abbrev pub unwrap_wants_memory : Transcript
+unwrap_wants_memory = answered (codes "native n0 0\nwrap s0 n0\nunwrap n1 s0\n") (made (native 1) ∷ made (reflector 1) ∷ without_memory ∷ [])
+
+-- Nor does preserving.
+abbrev pub preserve_wants_memory : Transcript
+preserve_wants_memory = answered (codes "native n0 0\nwrap s0 n0\npreserve s0\n") (made (native 1) ∷ made (reflector 1) ∷ without_memory ∷ [])
+
+-- Nor does an entry that is there already,
+abbrev pub replaced_entry_wants_memory : Transcript
+replaced_entry_wants_memory = answered (codes "weakmap s0\nwset s0 s0 s0\nwset s0 s0 s0\n") (made (object 1) ∷ ok ∷ without_memory ∷ [])
+
+-- nor one that is taken out,
+abbrev pub taken_out_entry_wants_memory : Transcript
+taken_out_entry_wants_memory = answered (codes "weakmap s0\nwset s0 s0 none\n") (made (object 1) ∷ without_memory ∷ [])
+
+-- nor one that is read.
+abbrev pub wget_wants_memory : Transcript
+wget_wants_memory = answered (codes "weakmap s0\nwget s1 s0 s0\n") (made (object 1) ∷ without_memory ∷ [])
+
+-- Nor does exposing.
+abbrev pub expose_wants_memory : Transcript
+expose_wants_memory = answered (codes "native n0 1\nexpose n0 0\n") (made (native 1) ∷ without_memory ∷ [])
+
+-- Nor does gc.
+abbrev pub gc_wants_memory : Transcript
+gc_wants_memory = answered (codes "gc\n") (without_memory ∷ [])
+
+-- A command that is refused asks no memory.
+abbrev pub refused_wrap_wants_memory : Transcript
+refused_wrap_wants_memory = answered (codes "wrap s0 n0\n") (without_memory ∷ [])
+
+-- Nor does an entry that is refused.
+abbrev pub refused_wset_wants_memory : Transcript
+refused_wset_wants_memory = answered (codes "wset s0 s1 s2\n") (without_memory ∷ [])
+
+-- Want of memory is no other refusal.
+abbrev pub full_in_place_of_want_of_memory : Transcript
+full_in_place_of_want_of_memory = answered (codes "native n0 0\n") (refused Full ∷ [])
+
+-- Censuses
+
+-- A census leaves nothing out.
+abbrev pub census_leaves_one_out : Transcript
+census_leaves_one_out = answered (codes "native n0 0\ncensus\n") (made (native 1) ∷ census_of [] ∷ [])
+
+-- It lists nothing that was freed,
+abbrev pub census_lists_what_was_freed : Transcript
+census_lists_what_was_freed = answered (codes "native n0 0\ndrop n0\ncensus\n")
+    (made (native 1) ∷ done_after (Freed (native 1) ∷ []) ∷ census_of (native 1 ∷ []) ∷ [])
+
+-- nor what could not be made.
+abbrev pub census_lists_what_was_not_made : Transcript
+census_lists_what_was_not_made = answered (codes "native n0 0\ncensus\n") (without_memory ∷ census_of (native 1 ∷ []) ∷ [])
+
+-- It lists natives first,
+abbrev pub census_lists_script_objects_first : Transcript
+census_lists_script_objects_first = answered (codes "script s0 0\nnative n0 0\ncensus\n")
+    (made (object 1) ∷ made (native 1) ∷ listing (object 1 ∷ native 1 ∷ []) (Census 2) ∷ [])
+
+-- by rising number,
+abbrev pub census_lists_in_falling_order : Transcript
+census_lists_in_falling_order = answered (codes "native n0 0\nnative n1 0\ncensus\n")
+    (made (native 1) ∷ made (native 2) ∷ listing (native 2 ∷ native 1 ∷ []) (Census 2) ∷ [])
+
+-- and a reflector that was made again goes last;
+abbrev pub census_lists_a_reflector_in_its_old_place : Transcript
+census_lists_a_reflector_in_its_old_place = answered (codes "native n0 0\nwrap s0 n0\nscript s1 0\ndrop s0\ngc\nwrap s0 n0\ncensus\n")
+    (made (native 1) ∷ made (reflector 1) ∷ made (object 1) ∷ ok ∷ done_after (Freed (reflector 1) ∷ []) ∷ made (reflector 1) ∷ listing (native 1 ∷ reflector 1 ∷ object 1 ∷ []) (Census 3) ∷ [])
+
+-- but one that was there keeps its place,
+abbrev pub census_lists_a_wrapped_reflector_last : Transcript
+census_lists_a_wrapped_reflector_last = answered (codes "native n0 0\nwrap s0 n0\nscript s1 0\nwrap s2 n0\ncensus\n")
+    (made (native 1) ∷ made (reflector 1) ∷ made (object 1) ∷ made (reflector 1) ∷ listing (native 1 ∷ object 1 ∷ reflector 1 ∷ []) (Census 3) ∷ [])
+
+-- and is listed once.
+abbrev pub census_lists_a_reflector_twice : Transcript
+census_lists_a_reflector_twice = answered (codes "native n0 0\nwrap s0 n0\nwrap s1 n0\ncensus\n")
+    (made (native 1) ∷ made (reflector 1) ∷ made (reflector 1) ∷ listing (native 1 ∷ reflector 1 ∷ reflector 1 ∷ []) (Census 3) ∷ [])
+
+-- It tells how many it lists.
+abbrev pub census_tells_another_number : Transcript
+census_tells_another_number = answered (codes "native n0 0\ncensus\n") (made (native 1) ∷ listing (native 1 ∷ []) (Census 2) ∷ [])
+
+-- It tells their number.
+abbrev pub census_tells_no_number : Transcript
+census_tells_no_number = answered (codes "native n0 0\ncensus\n")
+    (made (native 1) ∷ record { events = []; listed = native 1 ∷ []; reply = None } ∷ [])
+
+-- It frees nothing.
+abbrev pub freed_by_a_census : Transcript
+freed_by_a_census = answered (codes "native n0 0\ndrop n0\ncensus\n") (made (native 1) ∷ ok ∷ replying (Freed (native 1) ∷ []) (Census 0) ∷ [])

@@ -1,0 +1,31 @@
+//! Transcripts that end in a census of garbage: which of them the definition of quiet refuses.
+ghost use Rattle.cc_worked.specs.Transcripts.{IsRight, IsUnquiet, IsUnquietAtItsEnd};
+ghost use Rattle.cc_worked.specs.Garbage.{garbage_is_kept, garbage_is_kept_after_two_gcs, garbage_is_kept_after_two_collections, garbage_is_kept_after_two_rows, garbage_is_kept_between_blank_lines, script_object_is_kept, reflector_is_kept, reached_native_is_missing, no_gc_at_all, no_first_gc, no_collect, no_last_gc, two_collects, one_gc_more, refused_line_after_the_first, refused_line_after_the_second, refused_line_after_the_third, bad_line_between, slice_between, collect_without_memory};
+
+/// After `gc`, `collect` and `gc` a census lists exactly what the registers reach.
+pub fn unquiet_censuses_are_refused()
+    ensures garbage_is_kept { IsUnquietAtItsEnd garbage_is_kept }
+    ensures garbage_is_kept_after_two_gcs { IsUnquietAtItsEnd garbage_is_kept_after_two_gcs }
+    ensures garbage_is_kept_after_two_collections { IsUnquietAtItsEnd garbage_is_kept_after_two_collections }
+    ensures garbage_is_kept_after_two_rows { IsUnquietAtItsEnd garbage_is_kept_after_two_rows }
+    ensures garbage_is_kept_between_blank_lines { IsUnquietAtItsEnd garbage_is_kept_between_blank_lines }
+    ensures script_object_is_kept { IsUnquietAtItsEnd script_object_is_kept }
+    ensures reflector_is_kept { IsUnquietAtItsEnd reflector_is_kept }
+    ensures reached_native_is_missing { IsUnquiet reached_native_is_missing }
+{}
+
+/// Elsewhere it may list what they do not reach.
+pub fn garbage_may_stay()
+    ensures no_gc_at_all { IsRight no_gc_at_all }
+    ensures no_first_gc { IsRight no_first_gc }
+    ensures no_collect { IsRight no_collect }
+    ensures no_last_gc { IsRight no_last_gc }
+    ensures two_collects { IsRight two_collects }
+    ensures one_gc_more { IsRight one_gc_more }
+    ensures refused_line_after_the_first { IsRight refused_line_after_the_first }
+    ensures refused_line_after_the_second { IsRight refused_line_after_the_second }
+    ensures refused_line_after_the_third { IsRight refused_line_after_the_third }
+    ensures bad_line_between { IsRight bad_line_between }
+    ensures slice_between { IsRight slice_between }
+    ensures collect_without_memory { IsRight collect_without_memory }
+{}

@@ -1,0 +1,111 @@
+//! Transcripts with one fault, each of which the definition of lawful refuses: one for each clause of it.
+ghost use Rattle.cc_worked.specs.Transcripts.{IsUnlawfulAtItsEnd};
+ghost use Rattle.cc_worked.specs.WrongReplies.{missing_answer, answer_to_nothing_asked, no_reply, names_listed_by_a_drop, long_line_called_bad, bad_line_called_long, event_under_a_long_line, event_under_a_bad_line, blank_line_is_answered, comment_is_answered, event_under_a_blank_line, another_reply, number_used_again, number_left_out, number_taken_without_memory, slot_is_read_as_empty, refused_without_cause, done_in_place_of_a_refusal, refused_for_another_cause, copy_of_a_native_wants_memory, copy_of_a_script_object_wants_memory, drop_wants_memory, set_wants_memory, get_wants_memory, put_wants_memory, take_wants_memory, wrap_of_a_listed_reflector_wants_memory, unwrap_wants_memory, preserve_wants_memory, replaced_entry_wants_memory, taken_out_entry_wants_memory, wget_wants_memory, expose_wants_memory, gc_wants_memory, refused_wrap_wants_memory, refused_wset_wants_memory, full_in_place_of_want_of_memory, census_leaves_one_out, census_lists_what_was_freed, census_lists_what_was_not_made, census_lists_script_objects_first, census_lists_in_falling_order, census_lists_a_reflector_in_its_old_place, census_lists_a_wrapped_reflector_last, census_lists_a_reflector_twice, census_tells_another_number, census_tells_no_number, freed_by_a_census};
+ghost use Rattle.cc_worked.specs.WrongEvents.{freed_by_a_refused_command, freed_without_memory, freed_before_it_was_made, freed_twice, freed_again, freed_while_a_register_holds_it, freed_while_a_slot_holds_it, freed_while_its_reflector_is_held, preserved_reflector_is_freed, value_is_freed_while_map_and_key_are_held, script_object_is_freed_by_a_drop, script_object_is_freed_by_a_slice, script_object_is_freed_by_a_collect, reflector_is_freed_by_a_collect, unlinked_before_it_was_made, unlinked_after_it_was_freed, unlinked_while_held, unlinked_by_a_drop, unlinked_by_the_making_of_another, script_object_is_unlinked, reflector_is_unlinked, unlinked_in_falling_order, unlinked_twice, unlinked_in_falling_order_by_gc, unlinked_in_three_runs, refused_slice_abandons_nothing, refused_collect_abandons_nothing, refused_slice_abandons_twice, refused_collect_abandons_twice, freed_after_the_abandonment, slice_abandons_and_is_done, collect_abandons_and_is_done, gc_abandons_twice, gc_abandons_late, drop_abandons};
+
+/// Each line has its answer, and no answer is of another form than its line wants.
+pub fn misplaced_answers_are_refused()
+    ensures missing_answer { IsUnlawfulAtItsEnd missing_answer }
+    ensures answer_to_nothing_asked { IsUnlawfulAtItsEnd answer_to_nothing_asked }
+    ensures no_reply { IsUnlawfulAtItsEnd no_reply }
+    ensures names_listed_by_a_drop { IsUnlawfulAtItsEnd names_listed_by_a_drop }
+    ensures long_line_called_bad { IsUnlawfulAtItsEnd long_line_called_bad }
+    ensures bad_line_called_long { IsUnlawfulAtItsEnd bad_line_called_long }
+    ensures event_under_a_long_line { IsUnlawfulAtItsEnd event_under_a_long_line }
+    ensures event_under_a_bad_line { IsUnlawfulAtItsEnd event_under_a_bad_line }
+    ensures blank_line_is_answered { IsUnlawfulAtItsEnd blank_line_is_answered }
+    ensures comment_is_answered { IsUnlawfulAtItsEnd comment_is_answered }
+    ensures event_under_a_blank_line { IsUnlawfulAtItsEnd event_under_a_blank_line }
+{}
+
+/// No reply is another than the graph gives.
+pub fn wrong_replies_are_refused()
+    ensures another_reply { IsUnlawfulAtItsEnd another_reply }
+    ensures number_used_again { IsUnlawfulAtItsEnd number_used_again }
+    ensures number_left_out { IsUnlawfulAtItsEnd number_left_out }
+    ensures number_taken_without_memory { IsUnlawfulAtItsEnd number_taken_without_memory }
+    ensures slot_is_read_as_empty { IsUnlawfulAtItsEnd slot_is_read_as_empty }
+    ensures refused_without_cause { IsUnlawfulAtItsEnd refused_without_cause }
+    ensures done_in_place_of_a_refusal { IsUnlawfulAtItsEnd done_in_place_of_a_refusal }
+    ensures refused_for_another_cause { IsUnlawfulAtItsEnd refused_for_another_cause }
+{}
+
+/// Memory is refused only where a command may take some, and where the graph does not refuse it.
+pub fn wants_of_memory_are_refused()
+    ensures copy_of_a_native_wants_memory { IsUnlawfulAtItsEnd copy_of_a_native_wants_memory }
+    ensures copy_of_a_script_object_wants_memory { IsUnlawfulAtItsEnd copy_of_a_script_object_wants_memory }
+    ensures drop_wants_memory { IsUnlawfulAtItsEnd drop_wants_memory }
+    ensures set_wants_memory { IsUnlawfulAtItsEnd set_wants_memory }
+    ensures get_wants_memory { IsUnlawfulAtItsEnd get_wants_memory }
+    ensures put_wants_memory { IsUnlawfulAtItsEnd put_wants_memory }
+    ensures take_wants_memory { IsUnlawfulAtItsEnd take_wants_memory }
+    ensures wrap_of_a_listed_reflector_wants_memory { IsUnlawfulAtItsEnd wrap_of_a_listed_reflector_wants_memory }
+    ensures unwrap_wants_memory { IsUnlawfulAtItsEnd unwrap_wants_memory }
+    ensures preserve_wants_memory { IsUnlawfulAtItsEnd preserve_wants_memory }
+    ensures replaced_entry_wants_memory { IsUnlawfulAtItsEnd replaced_entry_wants_memory }
+    ensures taken_out_entry_wants_memory { IsUnlawfulAtItsEnd taken_out_entry_wants_memory }
+    ensures wget_wants_memory { IsUnlawfulAtItsEnd wget_wants_memory }
+    ensures expose_wants_memory { IsUnlawfulAtItsEnd expose_wants_memory }
+    ensures gc_wants_memory { IsUnlawfulAtItsEnd gc_wants_memory }
+    ensures refused_wrap_wants_memory { IsUnlawfulAtItsEnd refused_wrap_wants_memory }
+    ensures refused_wset_wants_memory { IsUnlawfulAtItsEnd refused_wset_wants_memory }
+    ensures full_in_place_of_want_of_memory { IsUnlawfulAtItsEnd full_in_place_of_want_of_memory }
+{}
+
+/// A census lists the listed names in order and tells how many they are.
+pub fn wrong_censuses_are_refused()
+    ensures census_leaves_one_out { IsUnlawfulAtItsEnd census_leaves_one_out }
+    ensures census_lists_what_was_freed { IsUnlawfulAtItsEnd census_lists_what_was_freed }
+    ensures census_lists_what_was_not_made { IsUnlawfulAtItsEnd census_lists_what_was_not_made }
+    ensures census_lists_script_objects_first { IsUnlawfulAtItsEnd census_lists_script_objects_first }
+    ensures census_lists_in_falling_order { IsUnlawfulAtItsEnd census_lists_in_falling_order }
+    ensures census_lists_a_reflector_in_its_old_place { IsUnlawfulAtItsEnd census_lists_a_reflector_in_its_old_place }
+    ensures census_lists_a_wrapped_reflector_last { IsUnlawfulAtItsEnd census_lists_a_wrapped_reflector_last }
+    ensures census_lists_a_reflector_twice { IsUnlawfulAtItsEnd census_lists_a_reflector_twice }
+    ensures census_tells_another_number { IsUnlawfulAtItsEnd census_tells_another_number }
+    ensures census_tells_no_number { IsUnlawfulAtItsEnd census_tells_no_number }
+    ensures freed_by_a_census { IsUnlawfulAtItsEnd freed_by_a_census }
+{}
+
+/// What is freed or unlinked is listed and reached no more, and by a command that may do so.
+pub fn wrong_events_are_refused()
+    ensures freed_by_a_refused_command { IsUnlawfulAtItsEnd freed_by_a_refused_command }
+    ensures freed_without_memory { IsUnlawfulAtItsEnd freed_without_memory }
+    ensures freed_before_it_was_made { IsUnlawfulAtItsEnd freed_before_it_was_made }
+    ensures freed_twice { IsUnlawfulAtItsEnd freed_twice }
+    ensures freed_again { IsUnlawfulAtItsEnd freed_again }
+    ensures freed_while_a_register_holds_it { IsUnlawfulAtItsEnd freed_while_a_register_holds_it }
+    ensures freed_while_a_slot_holds_it { IsUnlawfulAtItsEnd freed_while_a_slot_holds_it }
+    ensures freed_while_its_reflector_is_held { IsUnlawfulAtItsEnd freed_while_its_reflector_is_held }
+    ensures preserved_reflector_is_freed { IsUnlawfulAtItsEnd preserved_reflector_is_freed }
+    ensures value_is_freed_while_map_and_key_are_held { IsUnlawfulAtItsEnd value_is_freed_while_map_and_key_are_held }
+    ensures script_object_is_freed_by_a_drop { IsUnlawfulAtItsEnd script_object_is_freed_by_a_drop }
+    ensures script_object_is_freed_by_a_slice { IsUnlawfulAtItsEnd script_object_is_freed_by_a_slice }
+    ensures script_object_is_freed_by_a_collect { IsUnlawfulAtItsEnd script_object_is_freed_by_a_collect }
+    ensures reflector_is_freed_by_a_collect { IsUnlawfulAtItsEnd reflector_is_freed_by_a_collect }
+    ensures unlinked_before_it_was_made { IsUnlawfulAtItsEnd unlinked_before_it_was_made }
+    ensures unlinked_after_it_was_freed { IsUnlawfulAtItsEnd unlinked_after_it_was_freed }
+    ensures unlinked_while_held { IsUnlawfulAtItsEnd unlinked_while_held }
+    ensures unlinked_by_a_drop { IsUnlawfulAtItsEnd unlinked_by_a_drop }
+    ensures unlinked_by_the_making_of_another { IsUnlawfulAtItsEnd unlinked_by_the_making_of_another }
+    ensures script_object_is_unlinked { IsUnlawfulAtItsEnd script_object_is_unlinked }
+    ensures reflector_is_unlinked { IsUnlawfulAtItsEnd reflector_is_unlinked }
+    ensures unlinked_in_falling_order { IsUnlawfulAtItsEnd unlinked_in_falling_order }
+    ensures unlinked_twice { IsUnlawfulAtItsEnd unlinked_twice }
+    ensures unlinked_in_falling_order_by_gc { IsUnlawfulAtItsEnd unlinked_in_falling_order_by_gc }
+    ensures unlinked_in_three_runs { IsUnlawfulAtItsEnd unlinked_in_three_runs }
+{}
+
+/// A collection is abandoned where memory is refused or gc comes, and nowhere else.
+pub fn wrong_abandonments_are_refused()
+    ensures refused_slice_abandons_nothing { IsUnlawfulAtItsEnd refused_slice_abandons_nothing }
+    ensures refused_collect_abandons_nothing { IsUnlawfulAtItsEnd refused_collect_abandons_nothing }
+    ensures refused_slice_abandons_twice { IsUnlawfulAtItsEnd refused_slice_abandons_twice }
+    ensures refused_collect_abandons_twice { IsUnlawfulAtItsEnd refused_collect_abandons_twice }
+    ensures freed_after_the_abandonment { IsUnlawfulAtItsEnd freed_after_the_abandonment }
+    ensures slice_abandons_and_is_done { IsUnlawfulAtItsEnd slice_abandons_and_is_done }
+    ensures collect_abandons_and_is_done { IsUnlawfulAtItsEnd collect_abandons_and_is_done }
+    ensures gc_abandons_twice { IsUnlawfulAtItsEnd gc_abandons_twice }
+    ensures gc_abandons_late { IsUnlawfulAtItsEnd gc_abandons_late }
+    ensures drop_abandons { IsUnlawfulAtItsEnd drop_abandons }
+{}
