@@ -43,7 +43,7 @@ uncounted-shape m n e = ap shape_of_uncounted e
     shape_of_uncounted u = record { slots = Some u.slots; preserved = u.preserved }
 
 -- what is emptied as it was is emptied
-uncounted-emptied : (m n : HeapNative) → uncounted m ≡ uncounted n → IsEmptied m → IsEmptied n
+pub uncounted-emptied : (m n : HeapNative) → uncounted m ≡ uncounted n → IsEmptied m → IsEmptied n
 uncounted-emptied m n e t = record { slots = moved.slots; preserved = moved.preserved }
   where
     of : Uncounted → HeapNative

@@ -6,11 +6,9 @@ use Rattle.cc_model.specs.declared.command.Command.{Command}
 use Rattle.cc_model.specs.declared.command.Command.TheVariants.{Nothing, Slice, Collect, Gc, Census}
 use Rattle.cc_model.specs.Asks.{Ask, long, bad, taken}
 use Rattle.cc_model.specs.Ranges.{in_range}
-use Rattle.cc_model.specs.Checks.{refusal_of}
 use Rattle.cc_model.specs.Graph.{Graph}
-use Rattle.cc_model.specs.Heap.{Heap, objects_of}
+use Rattle.cc_model.specs.Heap.{Heap}
 use Rattle.cc_model.specs.View.{view}
-use Rattle.cc_model.specs.Effects.{effects}
 use Rattle.cc_model.specs.Sweep.{collect_scripts}
 use Rattle.cc_model.specs.Snapshot.{Snapshot}
 use Rattle.cc_model.specs.Units.{first_untraversed, to_note, after_node}
@@ -20,12 +18,9 @@ use Rattle.cc_model.specs.Lawful.{State}
 use Rattle.cc_model.specs.Collecting.{Machine, UnitsDone, no_units, finish_running, slice, collect, gc}
 use Rattle.cc_model.specs.Run.{Turn, mutate, do_ask}
 use Rattle.cc_laws_heap.specs.Sound.{IsSound}
-use Rattle.cc_laws_heap.proofs.Taken.{IsTaken, IsTaken-from}
-use Rattle.cc_laws_heap.proofs.CommandsSound.{effects-sound}
 use Rattle.cc_laws_run.specs.Doomed.{candidates_now, IsSuspectedNow}
 use Rattle.cc_laws_run.specs.Running.{IsFreshNow, IsRunning, ask_in_range}
-use Rattle.cc_laws_snapshot.proofs.LoyalSuspected.{loyal-suspected}
-use Rattle.cc_laws_snapshot.proofs.CommandsLoyal.{effects-loyal}
+use Rattle.cc_laws_snapshot.proofs.CommandsSuspected.{effects-suspected}
 use Rattle.cc_laws_snapshot.proofs.GivingBack.{begin-suspected, give_back-suspected}
 use Rattle.cc_laws_snapshot.proofs.SweepLoses.{collect_scripts-suspected}
 use Rattle.cc_laws_snapshot.proofs.EndSuspected.{end-suspected}
@@ -37,15 +32,7 @@ use Rattle.cc_laws_run.proofs.HoldingUnits.{Manner, EachKeeps, HoldsOn, slice-ho
 
 -- Commands of the mutator
 
--- a command that is done forgets none
-effects-suspected : (h : Heap) (c : Command) (candidates : List ℕ) → IsSound [] h → IsTrue (in_range c) → refusal_of (objects_of h) c ≡ None →
-    IsSuspected (view h) candidates → IsSuspected (view (effects h c).heap) candidates
-effects-suspected h c candidates s i e =
-    let t : IsTaken (objects_of h) c = IsTaken-from (objects_of h) c e in
-    let sound : IsSound [] (effects h c).heap = effects-sound h c s i t in
-    loyal-suspected h (effects h c).heap candidates s.well_formed sound.well_formed (effects-loyal h c s i t sound)
-
--- nor does one that is refused, or that wants memory
+-- a command forgets none, whether it is done, is refused, or wants memory
 mutate-suspected : (m : Machine) (c : Command) → IsSound [] m.heap → IsTrue (in_range c) → IsSuspectedNow m → IsSuspectedNow (mutate m c).machine
 mutate-suspected m c s i suspected = mutate-cases m c (λ (u : Turn). IsSuspectedNow u.machine)
     (λ refusal e. suspected)

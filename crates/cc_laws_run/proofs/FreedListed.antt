@@ -7,17 +7,18 @@ use Rattle.std.proofs.lemmas.List.Elements.{filter-append}
 use Rattle.cc_lists.specs.Members.{Among, has, without}
 use Rattle.cc_lists.proofs.Members.{Among-map_cases, Among-append, Among-filtered}
 use Rattle.cc_names.specs.declared.name.Name.{Name}
-use Rattle.cc_names.specs.declared.name.Name.TheVariants.{Native, Script, Reflector}
 use Rattle.cc_names.specs.Names.{native, same_name, is_native, is_script, natives_in}
 use Rattle.cc_model.specs.declared.item.Event.{Event}
 use Rattle.cc_model.specs.declared.item.Event.TheVariants.{Unlinked, Freed, Abandoned}
-use Rattle.cc_model.specs.Heap.{Heap, HeapNative, HeapScript}
-use Rattle.cc_model.specs.WellFormed.{FitsName, IsWellFormed, native_names, script_names, names_there}
+use Rattle.cc_model.specs.Heap.{Heap, HeapNative}
+use Rattle.cc_model.specs.WellFormed.{IsWellFormed, native_names, script_names, names_there}
 use Rattle.cc_model.specs.Listed.{census_order, after_events}
 use Rattle.cc_model.specs.Run.{census_names}
 use Rattle.cc_laws_heap.specs.Ending.{freed_numbers, NamesNative}
 use Rattle.cc_laws_heap.specs.Rounds.{is_not_among}
-use Rattle.cc_lists.proofs.Searching.{filter-map, filter-true, filter-filter}
+use Rattle.cc_lists.proofs.Filtering.{filter-each}
+use Rattle.cc_lists.proofs.Searching.{filter-map, filter-true, filter-filter, filter-swap}
+use Rattle.cc_laws_heap.proofs.ScriptNames.{script_names-named}
 use Rattle.cc_laws_heap.proofs.NameLists.{same_name-sym, is_not_among-from}
 
 -- the name that an event frees
@@ -47,17 +48,6 @@ after_events-left (Freed x ∷ es) names =
 
     each : (y : Name) → (not (same_name y x) && is_not_among (freed_names es) y) ≡ is_not_among (x ∷ freed_names es) y
     each y = ap (λ b. not b && is_not_among (freed_names es) y) (same_name-sym y x) ∙ by_test (same_name x y) (has same_name (freed_names es) y)
-
--- two tests may be asked in either order
-and-swap : (a b : Bool) → (a && b) ≡ (b && a)
-and-swap true true = refl
-and-swap true false = refl
-and-swap false true = refl
-and-swap false false = refl
-
--- two filters may be put in either order
-filter-swap : {X : Type 0} (p q : X → Bool) (xs : List X) → filter p (filter q xs) ≡ filter q (filter p xs)
-filter-swap p q xs = filter-filter p q xs ∙ (ap (λ r. filter r xs) (fun_ext (λ x. and-swap (q x) (p x))) ∙ sym (filter-filter q p xs))
 
 -- a filter keeps the census order
 census_order-filter : (p : Name → Bool) (names : List Name) → census_order (filter p names) ≡ filter p (census_order names)
@@ -111,26 +101,6 @@ has-native : (ks : List ℕ) (j : ℕ) → has same_name (map native ks) (native
 has-native [] j = refl
 has-native (k ∷ ks) j = ap (λ b. (k == j) || b) (has-native ks j)
 
--- a filter that everything in the list passes drops nothing
-filter-each : {X : Type 0} (p : X → Bool) (xs : List X) → ((x : X) → Among x xs → p x ≡ true) → filter p xs ≡ xs
-filter-each p [] h = refl
-filter-each p (x ∷ xs) h = rw (h x (inl refl)) (ap (λ ys. x ∷ ys) (filter-each p xs (λ y m. h y (inr m))))
-
--- what fits a kind of script objects is the name of one
-FitsName-script : (x : Name) (o : HeapScript) → FitsName x o.kind o.slots → is_script x ≡ true
-FitsName-script x o f = go x f
-  where
-    go : (y : Name) → FitsName y o.kind o.slots → is_script y ≡ true
-    go (Native k) g = absurd g
-    go (Script k) g = refl
-    go (Reflector k) g = refl
-
--- script objects have names of script objects
-pub script_names-scripts : (h : Heap) → IsWellFormed h → (x : Name) → Among x (script_names h) → is_script x ≡ true
-script_names-scripts h w x m =
-    let f = Among-map_cases (λ (o : HeapScript). o.name) h.scripts x m in
-    ap is_script (sym f.2) ∙ FitsName-script f.0.name f.0 (w.kinds f.0 f.1)
-
 -- THE HEAPS AFTER AN END have the names that are listed after its events.
 pub census_names-end : (h k : Heap) (names : List Name) (es : List Event) (freed : List ℕ) → IsWellFormed h → census_names h ≡ census_order names →
     ((e : Event) → Among e es → NamesNative e) → freed_numbers es ≡ freed →
@@ -153,7 +123,7 @@ census_names-end h k names es freed w listed alone told ns os = census_names-lef
     apart : (x : Name) → Among x (script_names h) → is_not_among (map native freed) x ≡ true
     apart x m = is_not_among-from (map native freed) x (λ i.
         let f = Among-map_cases native freed x i in
-        false≢true (ap is_script f.2 ∙ script_names-scripts h w x m))
+        false≢true (ap is_script f.2 ∙ script_names-named h w x m))
 
     scripts : script_names k ≡ filter (is_not_among (freed_names es)) (script_names h)
     scripts =

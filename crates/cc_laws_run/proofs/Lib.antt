@@ -42,4 +42,6 @@ pub mod SpentViews
 pub mod SpentGone
 pub mod SpentUnits
 pub mod SpentAsks
-pub mod MissesWhole
+pub mod FirstCollection
+pub mod FollowedAsks
+pub mod WholeRuns

@@ -8,21 +8,17 @@ use Rattle.std.proofs.lemmas.List.Elements.{filter-append}
 use Rattle.cc_lists.specs.Members.{Among, has, without}
 use Rattle.cc_lists.proofs.Members.{Among-filter, Among-filtered, Among-passes, has-there, has-among}
 use Rattle.cc_names.specs.declared.name.Name.{Name}
-use Rattle.cc_names.specs.declared.name.Name.TheVariants as name
 use Rattle.cc_names.specs.Names.{native, same_name, is_native, is_script}
 use Rattle.cc_names.proofs.NameTests.{same_name-exact}
 use Rattle.cc_model.specs.Listed.{census_order, after_events}
 use Rattle.cc_laws_heap.specs.Rounds.{is_not_among}
+use Rattle.cc_lists.proofs.Filtering.{filter-nothing}
 use Rattle.cc_lists.proofs.Searching.{filter-true, filter-filter}
+use Rattle.cc_laws_heap.proofs.ScriptNames.{script-other}
 use Rattle.cc_laws_heap.proofs.NameLists.{same_name-sym}
 use Rattle.cc_laws_heap.proofs.Freed.{freed_event}
 
 -- Filters of two lists one after the other
-
--- what passes nowhere is dropped altogether
-filter-nothing : {X : Type 0} (p : X → Bool) (xs : List X) → ((x : X) → Among x xs → p x ≡ false) → filter p xs ≡ []
-filter-nothing p [] none = refl
-filter-nothing p (x ∷ xs) none = rw (none x (inl refl)) (filter-nothing p xs (λ y m. none y (inr m)))
 
 -- where the first list passes and the second does not, the first is left
 filter-first : {X : Type 0} (p : X → Bool) (xs ys : List X) → ((x : X) → Among x xs → p x ≡ true) → ((y : X) → Among y ys → p y ≡ false) →
@@ -46,12 +42,6 @@ not_native x e = not-true (is_native x) e
 -- a native is no script object
 not_script : (x : Name) → is_native x ≡ true → is_script x ≡ false
 not_script x e = ap not e
-
--- a script object is told apart from each native
-apart : (x : Name) (k : ℕ) → is_script x ≡ true → same_name x (native k) ≡ false
-apart (name.Native i) k e = absurd (true≢false (sym e))
-apart (name.Script i) k e = refl
-apart (name.Reflector i) k e = refl
 
 -- of these names the natives and the script objects, each in order
 pub record AreListed (names natives scripts : List Name) : Type 0 where
@@ -115,7 +105,7 @@ AreListed-without names natives scripts k a = record {
     either_order false false = refl
 
     spared : (x : Name) (b : Bool) → is_script x ≡ b → (other x && b) ≡ b
-    spared x true e = rw (apart x k e) refl
+    spared x true e = rw (script-other x k e) refl
     spared x false e = either_order false (other x)
 
 -- natives taken out one after another leave script objects

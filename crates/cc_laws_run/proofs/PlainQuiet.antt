@@ -148,7 +148,7 @@ asks-quiet row m s (ask ∷ asks) r suspected t i =
     )
 
 -- in the empty heaps no native is forgotten
-empty-suspected : (limits : Allowance) → IsSuspected (view (empty_heap limits)) []
+pub empty-suspected : (limits : Allowance) → IsSuspected (view (empty_heap limits)) []
 empty-suspected limits u c m unreached = absurd m
 
 -- THE PLAIN RUN IS QUIET.

@@ -6,7 +6,7 @@ use Rattle.cc_lists.specs.Members.{Among}
 use Rattle.cc_lists.proofs.Members.{Among-map, Among-left, Among-right, Among-append, Among-flat_map_cases, Among_or_not}
 use Rattle.cc_names.specs.declared.name.Name.{Name}
 use Rattle.cc_names.specs.Names.{native, number_of}
-use Rattle.cc_model.specs.Slots.{contents, empty_slots}
+use Rattle.cc_model.specs.Slots.{contents}
 use Rattle.cc_model.specs.Heap.{Heap, HeapNative, Outcome, silently, after}
 use Rattle.cc_model.specs.View.{view, native_edges, script_edges, ReachedIn}
 use Rattle.cc_model.specs.WellFormed.{IsWellFormed, native_names, script_names, names_there}
@@ -22,6 +22,7 @@ use Rattle.cc_laws_heap.proofs.Natives.{named-member}
 use Rattle.cc_laws_heap.proofs.HoldsTheSame.{HoldsTheSame-add_ref}
 use Rattle.cc_laws_heap.proofs.Cascades.{cascade-sound, cascade-frees}
 use Rattle.cc_laws_heap.proofs.Holds.{contents-empty}
+use Rattle.cc_laws_heap.proofs.StandingOn.{uncounted-emptied}
 use Rattle.cc_laws_heap.proofs.Leaving.{IsOf, IsOf-alike, IsOf-frees}
 use Rattle.cc_laws_heap.proofs.Unlinking.{unlink-keeps}
 use Rattle.cc_laws_heap.proofs.TakingAway.{root_each-sound, on_the_way-unlinked, on_the_way-end}
@@ -49,15 +50,6 @@ edge-stays h k w v n x y m e left of =
 -- what is one of heaps whose natives are those of others, but for counts, is one of these
 IsOf-trans : (h g : Heap) (n : HeapNative) → ((m : HeapNative) → Among m g.natives → IsOf h m) → IsOf g n → IsOf h n
 IsOf-trans h g n a b = let c = a b.0 b.1 in (c.0, c.1, c.2 ∙ b.2)
-
--- a native that is the same as an emptied one but for its count is emptied
-IsEmptied-alike : (m n : HeapNative) → uncounted m ≡ uncounted n → IsEmptied m → IsEmptied n
-IsEmptied-alike m n e a =
-    let slots : m.slots ≡ n.slots = ap (λ (u : Uncounted). u.slots) e in
-    record {
-      slots = sym slots ∙ (a.slots ∙ ap (λ xs. empty_slots (length xs)) slots);
-      preserved = sym (ap (λ (u : Uncounted). u.preserved) e) ∙ a.preserved;
-    }
 
 -- natives rooted are as they were
 root_each-natives : (ks : List ℕ) (h : Heap) (n : HeapNative) → Among n (root_each ks h).natives → IsOf h n
@@ -93,7 +85,7 @@ unlink_each-emptied (k ∷ ks) owned o own s n m i =
         (λ out.
         let f = unlink_each-others ks owned (after o.events (unlink o.heap k)) (λ j l. own j (inr l)) sound n m out in
         let number : f.0.number ≡ n.number = ap (λ (v : Uncounted). v.number) f.2 in
-        ⊎_elim (λ e. IsEmptied-alike f.0 n f.2 (emptied f.0 f.1 (number ∙ sym e))) (λ t. absurd (out t)) i)
+        ⊎_elim (λ e. uncounted-emptied f.0 n f.2 (emptied f.0 f.1 (number ∙ sym e))) (λ t. absurd (out t)) i)
         c
 
 -- natives that are owned no more are as they were
@@ -123,7 +115,7 @@ module _ (h : Heap) (ks : List ℕ) (s : IsSound [] h) (there : (k : ℕ) → Am
   taken-emptied n m i =
       let f = left-of n m in
       let number : f.0.number ≡ n.number = ap (λ (u : Uncounted). u.number) f.2 in
-      IsEmptied-alike f.0 n f.2 (unlink_each-emptied ks (ks ++ []) rooted (λ k j. Among-left k ks [] j) rooted-sound f.0 f.1
+      uncounted-emptied f.0 n f.2 (unlink_each-emptied ks (ks ++ []) rooted (λ k j. Among-left k ks [] j) rooted-sound f.0 f.1
       (subst (λ k. Among k ks) (sym number) i))
 
   -- and the others are as they were.

@@ -1,24 +1,27 @@
 -- UNITS KEEP WHAT IS SPENT, and the end of a collection that can't miss names leaves them spent.
-use Rattle.std.proofs.Common.{◌≡◌, ◌==◌, ℕ, ◌≤◌, Bool, List, [], ◌++◌, Option, Some, None, refl, sym, ◌∙◌, ap, subst, inl, inr, ◌⊎◌, ⊎_elim, arith}
+use Rattle.std.proofs.Common.{◌≡◌, ◌==◌, ℕ, ◌≤◌, Bool, List, [], ◌∷◌, ◌++◌, Option, Some, None, refl, sym, ◌∙◌, ap, subst, ◌⊎◌, ⊎_elim, arith}
 use Rattle.cc_lists.specs.Members.{Among}
-use Rattle.cc_lists.proofs.Members.{Among-left, Among-right, Among-flat_map_cases, Among_or_not}
+use Rattle.cc_lists.proofs.Members.{Among-flat_map_cases, Among_or_not}
 use Rattle.cc_names.specs.declared.name.Name.{Name}
 use Rattle.cc_names.specs.declared.name.Name.TheVariants as name
 use Rattle.cc_names.specs.Names.{native, object, natives_in}
+use Rattle.cc_model.specs.declared.command.Command.TheVariants.{Collect}
 use Rattle.cc_model.specs.declared.item.Event.{Event}
 use Rattle.cc_model.specs.declared.item.Event.TheVariants.{Unlinked, Freed, Abandoned}
 use Rattle.cc_model.specs.Slots.{contents}
 use Rattle.cc_model.specs.Entries.{Entry}
 use Rattle.cc_model.specs.Graph.{Graph}
+use Rattle.cc_model.specs.WellMade.{IsWellMade}
 use Rattle.cc_model.specs.WellFormed.{native_names}
 use Rattle.cc_model.specs.Heap.{Heap, HeapNative}
 use Rattle.cc_model.specs.View.{view, native_edges}
 use Rattle.cc_model.specs.Snapshot.{Snapshot, white_natives}
-use Rattle.cc_model.specs.Units.{first_untraversed, to_note, after_node, with_empty_buffer}
+use Rattle.cc_model.specs.Units.{begun, first_untraversed, to_note, after_node, with_empty_buffer}
 use Rattle.cc_model.specs.Fresh.{IsFresh, IsTraversed}
-use Rattle.cc_model.specs.End.{heap_given_back, granted, node_or_end, take_away, unit}
+use Rattle.cc_model.specs.End.{Progress, went_on, at_end, refused, UnitDone, heap_given_back, granted, node_or_end, take_away, unit}
+use Rattle.cc_model.specs.Listed.{after_events}
 use Rattle.cc_model.specs.Lawful.{unlinked_in, unlinked_numbers}
-use Rattle.cc_model.specs.Collecting.{UnitsDone}
+use Rattle.cc_model.specs.Collecting.{Machine, UnitsDone, next_answer, one_unit, units_done}
 use Rattle.cc_laws_heap.specs.Sound.{IsSound}
 use Rattle.cc_laws_heap.specs.Freeing.{Uncounted}
 use Rattle.cc_laws_heap.specs.Ending.{TakesAway}
@@ -27,7 +30,6 @@ use Rattle.cc_laws_heap.proofs.Making.{native_names-made}
 use Rattle.cc_laws_heap.proofs.TakingAway.{take_away-takes}
 use Rattle.cc_laws_snapshot.proofs.SoundView.{named-there}
 use Rattle.cc_laws_run.specs.Doomed.{IsDoomed, AreUnlinked}
-use Rattle.cc_laws_run.specs.Spent.{SpendsAll}
 use Rattle.cc_laws_snapshot.proofs.NamesAndEdges.{named-of_living}
 use Rattle.cc_laws_run.proofs.TouchedViews.{edge-cases}
 use Rattle.cc_laws_run.proofs.DoomedNode.{after_node-doomed}
@@ -35,10 +37,11 @@ use Rattle.cc_laws_run.proofs.DoomedWhite.{doomed-white_native}
 use Rattle.cc_laws_snapshot.proofs.GivingBack.{given_back, give_back-buffer}
 use Rattle.cc_laws_snapshot.proofs.WhiteNatives.{white_natives-there}
 use Rattle.cc_laws_snapshot.proofs.ReachedStays.{native_edges-alike, native-edge, script-edge}
-use Rattle.cc_laws_run.proofs.UnitLawful.{unit-cases, RunsOn, traversed-none}
+use Rattle.cc_laws_run.proofs.UnitLawful.{unit-cases, RunsOn, UnitIsLawful, unit-lawful, traversed-none}
 use Rattle.cc_laws_run.proofs.QuietTaken.{taken-emptied, others-kept, emptied-none}
-use Rattle.cc_laws_run.proofs.HoldingUnits.{Manner, EachKeeps, HoldsOn}
-use Rattle.cc_laws_run.proofs.SpentViews.{Spends, spent-from, spends-less, IsLess-buffer}
+use Rattle.cc_laws_run.proofs.HoldingUnits.{units_done-keep, Manner, EachKeeps}
+use Rattle.cc_laws_run.proofs.Unabandoned.{TellsNone, take_away-none}
+use Rattle.cc_laws_run.proofs.SpentViews.{Spends, spends-less, IsLess-buffer}
 
 -- The end
 
@@ -153,28 +156,38 @@ unit-spends h o ds memory sound d = unit-cases h o memory (λ u. Spends u.heap d
     by_snapshot None = spends-less ds h (with_empty_buffer h) (IsLess-buffer h []) d
     by_snapshot (Some s) = by_node s (first_untraversed s.nodes)
 
--- a collection over these heaps can't miss the names, or it has unlinked them all and they are spent, or it was abandoned
-abbrev pub Settles : List Name → Heap → Option Snapshot → List Event → Type 0
-Settles ds h s es = ((t : Snapshot) × (s ≡ Some t) × IsDoomed (view h) t ds) ⊎ ((AreUnlinked ds es × Spends h ds) ⊎ Among Abandoned es)
+-- WHAT BECOMES OF NAMES THAT A COLLECTION CAN'T MISS, by what its last unit came to: it has told nothing and can't miss them; or it
+-- has unlinked them all, they are spent, and it tells no abandonment; or it tells that it is abandoned, and no more
+abbrev pub Settles : List Name → Heap → Option Snapshot → List Event → Progress → Type 0
+Settles ds h s es went_on = (es ≡ []) × ((t : Snapshot) × (s ≡ Some t) × IsDoomed (view h) t ds)
+Settles ds h s es at_end = AreUnlinked ds es × Spends h ds × TellsNone es
+Settles ds h s es refused = es ≡ Abandoned ∷ []
 
 -- the unit of a node, or the end
 node_or_end-settles : (h : Heap) (s : Snapshot) (ds : List Name) → IsSound [] h → IsFresh h.natives_made (view h) s → IsDoomed (view h) s ds →
     (o : Option Name) → first_untraversed s.nodes ≡ o →
-    Settles ds (node_or_end h s o).heap (node_or_end h s o).snapshot (node_or_end h s o).events
-node_or_end-settles h s ds sound fresh d None e = inr (inl (
+    Settles ds (node_or_end h s o).heap (node_or_end h s o).snapshot (node_or_end h s o).events (node_or_end h s o).progress
+node_or_end-settles h s ds sound fresh d None e = (
   end-unlinks h s ds sound fresh (λ x. traversed-none s.nodes e x) d,
   end-spends h s ds sound fresh (λ x. traversed-none s.nodes e x) d,
-))
-node_or_end-settles h s ds sound fresh d (Some x) e = inl (after_node h s x (to_note h x), refl, after_node-doomed h s x ds sound.well_formed d)
+  take_away-none (white_natives h s) h,
+)
+node_or_end-settles h s ds sound fresh d (Some x) e =
+    (refl, (after_node h s x (to_note h x), refl, after_node-doomed h s x ds sound.well_formed d))
 
 -- a unit of a collection that can't miss the names
 unit-settles : (h : Heap) (s : Snapshot) (ds : List Name) (memory : Bool) → IsSound [] h → IsFresh h.natives_made (view h) s → IsDoomed (view h) s ds →
-    Settles ds (unit h (Some s) memory).heap (unit h (Some s) memory).snapshot (unit h (Some s) memory).events
-unit-settles h s ds memory sound fresh d = unit-cases h (Some s) memory (λ u. Settles ds u.heap u.snapshot u.events)
-    (inr (inr (inl refl)))
+    Settles ds (unit h (Some s) memory).heap (unit h (Some s) memory).snapshot (unit h (Some s) memory).events (unit h (Some s) memory).progress
+unit-settles h s ds memory sound fresh d = unit-cases h (Some s) memory (λ u. Settles ds u.heap u.snapshot u.events u.progress)
+    refl
     (node_or_end-settles h s ds sound fresh d (first_untraversed s.nodes) refl)
 
--- Two manners
+-- the unit of a begin dooms names that the snapshot begun dooms, or it is abandoned
+begin-settles : (h : Heap) (ds : List Name) (memory : Bool) → IsDoomed (view (with_empty_buffer h)) (begun h) ds →
+    Settles ds (unit h None memory).heap (unit h None memory).snapshot (unit h None memory).events (unit h None memory).progress
+begin-settles h ds memory d = unit-cases h None memory (λ u. Settles ds u.heap u.snapshot u.events u.progress) refl (refl, (begun h, refl, d))
+
+-- Units in a row
 
 -- names are spent
 abbrev pub Spending : List Name → Manner
@@ -184,31 +197,46 @@ Spending ds h o es = Spends h ds
 pub each-spends : (g : Graph) (ds : List Name) → EachKeeps g (Spending ds)
 each-spends g ds names h o answer es r d = unit-spends h o ds answer r.sound d
 
--- so each keeps that a collection settles them
-pub each-settles : (g : Graph) (ds : List Name) → EachKeeps g (Settles ds)
-each-settles g ds names h o answer es r t = ⊎_elim
-    (λ k. doomed o k.0 k.1 r k.2)
-    (λ told. ⊎_elim
-    (λ u. inr (inl (
-      λ i b. Among-left (Unlinked (native i)) es (unit h o answer).events (u.0 i b),
-      unit-spends h o ds answer r.sound u.1,
-    )))
-    (λ a. inr (inr (Among-left Abandoned es (unit h o answer).events a))) told)
-    t
-  where
-    doomed : (o : Option Snapshot) (s : Snapshot) → o ≡ Some s → RunsOn g names h o → IsDoomed (view h) s ds →
-        Settles ds (unit h o answer).heap (unit h o answer).snapshot (es ++ (unit h o answer).events)
-    doomed o s e r d =
-        let run : RunsOn g names h (Some s) = subst (RunsOn g names h) e r in
-        subst (λ p. Settles ds (unit h p answer).heap (unit h p answer).snapshot (es ++ (unit h p answer).events)) (sym e)
-        (⊎_elim (λ l. inl l)
-        (λ told. ⊎_elim
-        (λ u. inr (inl (λ i b. Among-right (Unlinked (native i)) es (unit h (Some s) answer).events (u.0 i b), u.1)))
-        (λ a. inr (inr (Among-right Abandoned es (unit h (Some s) answer).events a))) told)
-        (unit-settles h s ds answer run.sound run.fresh d))
+-- a machine that runs beside a graph, and a collection of it that settles names
+pub record SettlesOn (g : Graph) (ds : List Name) (d : UnitsDone) : Type 0 where
+  pub names : List Name
+  pub runs : RunsOn g names d.machine.heap d.machine.snapshot
+  pub holds : Settles ds d.machine.heap d.machine.snapshot d.events d.progress
 
--- where a machine that runs settles names, it spends them all
-pub settled : (g : Graph) (ds : List Name) (d : UnitsDone) → HoldsOn g (Settles ds) d → SpendsAll ds d.machine d.events
-settled g ds d t = ⊎_elim (λ k. inl k)
-    (λ told. ⊎_elim (λ u. inr (inl (u.0, spent-from d.machine.heap ds t.runs.sound.well_formed u.1))) (λ a. inr (inr a)) told)
-    t.holds
+module _ (g : Graph) (well : IsWellMade g) (ds : List Name) where
+  -- one unit of any machine leaves such a one
+  one_unit-on : (names : List Name) (m : Machine) (es : List Event) → RunsOn g names m.heap m.snapshot →
+      (let u = unit m.heap m.snapshot (next_answer m.memory) in Settles ds u.heap u.snapshot (es ++ u.events) u.progress) → SettlesOn g ds (one_unit m es)
+  one_unit-on names m es r t =
+      let u : UnitDone = unit m.heap m.snapshot (next_answer m.memory) in
+      let lawful : UnitIsLawful g names Collect u = unit-lawful g well Collect refl names m.heap m.snapshot (next_answer m.memory) r in
+      record { names = after_events names u.events; runs = lawful.still; holds = t }
+
+  -- so does one of a collection that goes on
+  next-settles : (d : UnitsDone) → d.progress ≡ went_on → SettlesOn g ds d → SettlesOn g ds (one_unit d.machine d.events)
+  next-settles d e t =
+      let k : Settles ds d.machine.heap d.machine.snapshot d.events went_on = subst (Settles ds d.machine.heap d.machine.snapshot d.events) e t.holds in
+      one_unit-on t.names d.machine d.events t.runs (going k.0 k.1.0 k.1.1 k.1.2)
+    where
+      answer : Bool
+      answer = next_answer d.machine.memory
+
+      after : Option Snapshot → List Event → Type 0
+      after o es = let u = unit d.machine.heap o answer in Settles ds u.heap u.snapshot (es ++ u.events) u.progress
+
+      going : d.events ≡ [] → (s : Snapshot) → d.machine.snapshot ≡ Some s → IsDoomed (view d.machine.heap) s ds → after d.machine.snapshot d.events
+      going none s same doomed =
+          let run : RunsOn g t.names d.machine.heap (Some s) = subst (RunsOn g t.names d.machine.heap) same t.runs in
+          subst (after d.machine.snapshot) (sym none)
+          (subst (λ o. after o []) (sym same) (unit-settles d.machine.heap s ds answer run.sound run.fresh doomed))
+
+  -- and so do units in a row
+  pub units_done-settle : (n : ℕ) (d : UnitsDone) → SettlesOn g ds d → SettlesOn g ds (units_done n d)
+  units_done-settle n d t = units_done-keep (SettlesOn g ds) next-settles n d t
+
+  -- and the first unit of a collection, where the snapshot begun dooms them
+  pub first-settles : (names : List Name) (m : Machine) → RunsOn g names m.heap m.snapshot → m.snapshot ≡ None →
+      IsDoomed (view (with_empty_buffer m.heap)) (begun m.heap) ds → SettlesOn g ds (one_unit m [])
+  first-settles names m r none doomed = one_unit-on names m [] r
+      (subst (λ o. let u = unit m.heap o (next_answer m.memory) in Settles ds u.heap u.snapshot u.events u.progress) (sym none)
+      (begin-settles m.heap ds (next_answer m.memory) doomed))

@@ -1,5 +1,6 @@
 pub mod Running
 pub mod Memory
 pub mod Doomed
+pub mod Followed
 pub mod Missing
 pub mod Spent

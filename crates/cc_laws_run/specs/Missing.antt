@@ -1,10 +1,10 @@
 -- WHAT A COLLECTION AFTER `gc` UNLINKS.
-use Rattle.std.specs.Prelude.{suc, ◌⊎◌, Bool, true, false, List, filter}
+use Rattle.std.specs.Prelude.{◌≡◌, ◌↔◌, suc, IsTrue, Bool, true, false, List, ◌++◌, filter}
 use Rattle.std.specs.List.{list_all}
 use Rattle.cc_lists.specs.Members.{Among}
 use Rattle.cc_names.specs.declared.name.Name.{Name}
 use Rattle.cc_names.specs.Names.{native, behind}
-use Rattle.cc_model.specs.declared.command.Command.TheVariants.{Slice, Collect}
+use Rattle.cc_model.specs.declared.command.Command.TheVariants.{Nothing, Slice, Collect}
 use Rattle.cc_model.specs.declared.item.Event.{Event}
 use Rattle.cc_model.specs.declared.item.Event.TheVariants.{Abandoned}
 use Rattle.cc_model.specs.Answers.{Answer}
@@ -12,8 +12,12 @@ use Rattle.cc_model.specs.Asks.{Ask, taken}
 use Rattle.cc_model.specs.Heap.{Heap}
 use Rattle.cc_model.specs.View.{view}
 use Rattle.cc_model.specs.Suspected.{is_unreached}
+use Rattle.cc_model.specs.End.{went_on, at_end, refused}
 use Rattle.cc_model.specs.Collecting.{Machine}
+use Rattle.cc_model.specs.Run.{machine_after}
+use Rattle.cc_laws_run.specs.Running.{ask_in_range}
 use Rattle.cc_laws_run.specs.Doomed.{IsDoomedNow, AreUnlinked, garbage}
+use Rattle.cc_laws_run.specs.Followed.{first_collection}
 
 -- garbage but for the reflectors of reached natives, which `wrap` may bring back
 abbrev pub lost : Heap → List Name
@@ -25,10 +29,27 @@ begins_one (taken (Slice (suc n))) = true
 begins_one (taken Collect) = true
 begins_one ask = false
 
--- the collection goes on and can't miss them, or it has unlinked them all, or it was abandoned
-abbrev pub MissesNone : List Name → Machine → List Event → Type 0
-MissesNone ds m es = IsDoomedNow m ds ⊎ (AreUnlinked ds es ⊎ Among Abandoned es)
+-- blank lines and comments
+abbrev pub asks_nothing : Ask → Bool
+asks_nothing (taken Nothing) = true
+asks_nothing ask = false
 
--- an answer has unlinked them all, or told an abandonment
-abbrev pub IsSettledBy : List Name → List Answer → Type 0
-IsSettledBy ds answers = (a : Answer) × Among a answers × (AreUnlinked ds a.events ⊎ Among Abandoned a.events)
+-- asks of a run: some, then `gc` and lines that ask nothing, then one that begins a collection, then some
+pub record BeginsAfterGc (before blanks : List Ask) (ask : Ask) (asks : List Ask) : Type 0 where
+  pub before_it : IsTrue (list_all ask_in_range before)
+  pub between : IsTrue (list_all asks_nothing blanks)
+  pub begins : begins_one ask ≡ true
+  pub after_it : IsTrue (list_all ask_in_range asks)
+
+-- NONE OF THEM IS MISSED by the first collection under these asks, unless that one is abandoned, which it tells itself
+pub record MissesNone (ds : List Name) (m : Machine) (asks : List Ask) : Type 0 where
+  -- where it goes on, it can't miss them
+  pub goes_on : (first_collection m asks).progress ≡ went_on → IsDoomedNow (machine_after m asks) ds
+  -- where it ended, it has told each native of them unlinked
+  pub unlinks : (first_collection m asks).progress ≡ at_end → AreUnlinked ds (first_collection m asks).events
+  -- and it was refused memory exactly where it has told that it is abandoned
+  pub abandoned : (first_collection m asks).progress ≡ refused ↔ Among Abandoned (first_collection m asks).events
+
+-- an answer begins with these events
+abbrev pub AreTold : List Event → List Answer → Type 0
+AreTold es answers = (a : Answer) × Among a answers × (rest : List Event) × (a.events ≡ es ++ rest)

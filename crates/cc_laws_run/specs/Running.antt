@@ -1,7 +1,8 @@
 -- A MACHINE THAT RUNS, beside the graph and the names that a census would list.
-use Rattle.std.specs.Prelude.{◌≡◌, Bool, true, false, [], Option, Some, None}
+use Rattle.std.specs.Prelude.{◌≡◌, Bool, true, false, List, [], ◌∷◌, Option, Some, None}
 use Rattle.cc_model.specs.declared.command.Command.TheVariants.{Slice, Collect, Gc}
 use Rattle.cc_model.specs.Ranges.{in_range}
+use Rattle.cc_model.specs.Answers.{Answer}
 use Rattle.cc_model.specs.Asks.{Ask, long, bad, taken}
 use Rattle.cc_model.specs.Heap.{Heap}
 use Rattle.cc_model.specs.View.{view}
@@ -11,7 +12,7 @@ use Rattle.cc_model.specs.Colours.{HasColourInvariant}
 use Rattle.cc_model.specs.Snapshot.{Snapshot}
 use Rattle.cc_model.specs.Fresh.{IsFresh}
 use Rattle.cc_model.specs.Listed.{census_order}
-use Rattle.cc_model.specs.Lawful.{State}
+use Rattle.cc_model.specs.Lawful.{State, next}
 use Rattle.cc_model.specs.Collecting.{Machine}
 use Rattle.cc_model.specs.Run.{census_names}
 use Rattle.cc_laws_heap.specs.Sound.{IsSound}
@@ -42,3 +43,9 @@ moves_no_collection (taken (Slice u)) = false
 moves_no_collection (taken Collect) = false
 moves_no_collection (taken Gc) = false
 moves_no_collection ask = true
+
+-- the graph and the names that a census would list, after asks and the answers to them
+abbrev pub state_after : State → List Ask → List Answer → State
+state_after s [] answers = s
+state_after s (ask ∷ asks) [] = s
+state_after s (ask ∷ asks) (a ∷ answers) = state_after (next s ask a) asks answers

@@ -3,13 +3,9 @@ use Rattle.std.specs.Prelude.{ℕ, ◌≤◌, ◌⊎◌, List}
 use Rattle.cc_lists.specs.Members.{Among}
 use Rattle.cc_names.specs.declared.name.Name.{Name}
 use Rattle.cc_names.specs.Names.{native, object}
-use Rattle.cc_model.specs.declared.item.Event.{Event}
-use Rattle.cc_model.specs.declared.item.Event.TheVariants.{Abandoned}
 use Rattle.cc_model.specs.Entries.{Entry}
 use Rattle.cc_model.specs.Heap.{Heap}
 use Rattle.cc_model.specs.View.{view}
-use Rattle.cc_model.specs.Collecting.{Machine}
-use Rattle.cc_laws_run.specs.Doomed.{IsDoomedNow, AreUnlinked}
 
 -- names that only such names hold and that no register has, whose natives hold nothing; they may be gone by now
 pub record IsSpent (h : Heap) (ds : List Name) : Type 0 where
@@ -22,7 +18,3 @@ pub record IsSpent (h : Heap) (ds : List Name) : Type 0 where
   pub joint : (e : Entry) → Among e h.entries → Among e.value ds → Among e.the_map ds ⊎ Among e.key ds
   -- a native of them has no slot that holds something, and preserves nothing
   pub empty : (i : ℕ) (y : Name) → Among (native i) ds → ¬ (Among (native i, y) (view h).edges)
-
--- the collection goes on and can't miss them, or it has unlinked them all, or it was abandoned
-abbrev pub SpendsAll : List Name → Machine → List Event → Type 0
-SpendsAll ds m es = IsDoomedNow m ds ⊎ ((AreUnlinked ds es × IsSpent m.heap ds) ⊎ Among Abandoned es)

@@ -1,3 +1,5 @@
+//! What `slice`, `collect` and `gc` answer is lawful.
+
 ghost use Rattle.std.specs.Prelude.{◌≡◌, false};
 ghost use Rattle.cc_model.specs.Asks.{Ask};
 ghost use Rattle.cc_model.specs.Lawful.{State, AnswersAsk, next};

@@ -1,7 +1,16 @@
-//! Laws of the plain run: its transcript is lawful, and no ask forgets an unreached native.
+//! Laws of the plain run: its transcript is lawful and quiet, no ask forgets an unreached native, and a collection after
+//! `gc` misses nothing.
 //!
-//! Each function has an empty body and is a law that its clauses state, over the definitions of `cc_model` and a few
-//! words of this crate's own (`specs`).
+//! Each function has an empty body and is a law that its clauses state, over the definitions of `cc_model`, over
+//! `IsSound` of `cc_laws_heap`, and over words of this crate's own, which a reader has to read too:
+//!
+//! - `specs/Running.antt`: a machine that runs beside a graph (`IsRunning`), for almost every law;
+//! - `specs/Memory.antt`: what memory answers, for `runs_compose` alone;
+//! - `specs/Doomed.antt`: no unreached native is forgotten (`IsSuspectedNow`), and names that a collection can't miss
+//!   (`IsDoomedNow`);
+//! - `specs/Followed.antt`: one collection followed through asks (`first_collection`);
+//! - `specs/Missing.antt`: what a collection after `gc` unlinks (`lost`, `MissesNone`);
+//! - `specs/Spent.antt`: what it has unlinked (`IsSpent`), for `unlinked_are_gone_after_gc` alone.
 #![tactic(auto)]
 
 mod collections;
@@ -10,6 +19,7 @@ mod memory;
 mod misses;
 mod plain_run;
 mod quiet;
+mod runs;
 mod spent;
 mod turns;
 
@@ -19,6 +29,7 @@ pub use memory::{memory_decides_nothing_else, runs_compose};
 pub use misses::collections_after_gc_miss_nothing;
 pub use plain_run::{asks_keep_suspected, plain_run_is_lawful};
 pub use quiet::{garbage_is_doomed, gc_collect_gc_is_quiet};
+pub use runs::{runs_after_gc_miss_nothing, runs_forget_nothing, runs_go_on};
 pub use spent::unlinked_are_gone_after_gc;
 pub use turns::commands_are_lawful;
 

@@ -1,3 +1,5 @@
+//! What the answers of memory decide, and what not.
+
 ghost use Rattle.std.specs.Prelude.{◌≡◌, ◌++◌, ℕ, Bool, IsTrue, List, [], ◌∷◌, Some, None};
 ghost use Rattle.cc_lists.specs.Members.{Among};
 ghost use Rattle.cc_names.specs.Allowance.{Allowance};

@@ -1,3 +1,5 @@
+//! The plain run is lawful and quiet.
+
 ghost use Rattle.std.specs.Prelude.{ℕ, Bool, IsTrue, List};
 ghost use Rattle.std.specs.List.{list_all};
 ghost use Rattle.cc_names.specs.Allowance.{Allowance};

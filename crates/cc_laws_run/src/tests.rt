@@ -13,6 +13,9 @@ fn laws_can_be_called() {
     collections_after_gc_miss_nothing();
     unlinked_are_gone_after_gc();
     gc_collect_gc_is_quiet();
+    runs_go_on();
+    runs_forget_nothing();
+    runs_after_gc_miss_nothing();
     runs_compose();
     memory_decides_nothing_else();
 }

@@ -1,3 +1,5 @@
+//! What an ask that moves no collection answers is lawful.
+
 ghost use Rattle.std.specs.Prelude.{IsTrue, List, Bool};
 ghost use Rattle.cc_names.specs.Allowance.{Allowance};
 ghost use Rattle.cc_model.specs.Asks.{Ask};

@@ -38,6 +38,7 @@ pub mod Handing
 pub mod Handed
 pub mod StillNatives
 pub mod CommandsLoyal
+pub mod CommandsSuspected
 pub mod GivingBack
 pub mod LosesBut
 pub mod Unrooting

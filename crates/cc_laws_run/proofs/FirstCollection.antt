@@ -1,0 +1,195 @@
+-- THE FIRST COLLECTION UNDER ASKS, of any machine: what it tells stands first in an answer, and later asks leave what it came to.
+use Rattle.std.proofs.Common.{◌≡◌, ◌≢◌, ℕ, Bool, true, false, List, [], ◌∷◌, ◌++◌, Option, Some, None, is_some, refl, sym, ◌∙◌, ap, subst, inl, inr, ◌⊎◌}
+use Rattle.std.proofs.lemmas.List.{append_assoc, append-nil}
+use Rattle.cc_names.specs.declared.name.Name.{Name}
+use Rattle.cc_model.specs.declared.command.Command.TheVariants.{Slice, Collect, Gc}
+use Rattle.cc_model.specs.declared.item.Event.{Event}
+use Rattle.cc_model.specs.Answers.{Answer}
+use Rattle.cc_model.specs.Asks.{Ask, taken}
+use Rattle.cc_model.specs.Heap.{Heap}
+use Rattle.cc_model.specs.Snapshot.{Snapshot}
+use Rattle.cc_model.specs.Sweep.{collect_scripts}
+use Rattle.cc_model.specs.Units.{first_untraversed}
+use Rattle.cc_model.specs.End.{Progress, went_on, at_end, refused, UnitDone, granted, node_or_end, unit}
+use Rattle.cc_model.specs.Collecting.{Machine, UnitsDone, no_units, next_answer, units_done, enough_units, to_the_end, finish_running, slice, starting_anew, unless_stopped, collect, gc}
+use Rattle.cc_model.specs.Run.{Turn, do_ask, turns, machine_after}
+use Rattle.cc_laws_run.specs.Followed.{first_units, then_later, first_collection}
+use Rattle.cc_laws_run.specs.Missing.{AreTold}
+use Rattle.cc_laws_run.proofs.QuietUnits.{collect-none}
+use Rattle.cc_laws_run.proofs.UnitLawful.{unit-cases}
+use Rattle.cc_laws_run.proofs.HoldingUnits.{units_done-keep}
+
+-- `collect`
+
+-- a running collection is brought to its end
+pub finish-some : (m : Machine) (s : Snapshot) → m.snapshot ≡ Some s → finish_running m ≡ to_the_end (no_units m)
+finish-some m s e = ap (λ (b : Bool). elim b [ true ↦ to_the_end (no_units m) | false ↦ no_units m ]) (ap is_some e)
+
+-- `collect` brings the collection that runs to its end, or the one that it begins; then it may begin a second one
+pub collect-first : (m : Machine) → (collect m ≡ to_the_end (no_units m)) ⊎ (collect m ≡ unless_stopped (to_the_end (no_units m)))
+unfolding collect
+collect-first m = go m.snapshot refl
+  where
+    go : (o : Option Snapshot) → m.snapshot ≡ o → (collect m ≡ to_the_end (no_units m)) ⊎ (collect m ≡ unless_stopped (to_the_end (no_units m)))
+    go None e = inl (collect-none m e)
+    go (Some s) e = inr (ap unless_stopped (finish-some m s e))
+
+-- What units tell
+
+-- the list begins with these events
+abbrev BeginsWith : List Event → List Event → Type 0
+BeginsWith es all = (rest : List Event) × (all ≡ es ++ rest)
+
+-- units only add to what was told before
+units_done-begin : (es : List Event) (n : ℕ) (d : UnitsDone) → BeginsWith es d.events → BeginsWith es (units_done n d).events
+units_done-begin es n d b = units_done-keep (λ d. BeginsWith es d.events)
+    (λ d e b. let u : UnitDone = unit d.machine.heap d.machine.snapshot (next_answer d.machine.memory) in
+    (b.0 ++ u.events, ap (λ l. l ++ u.events) b.1 ∙ append_assoc es b.0 u.events)) n d b
+
+-- what collections tell begins with what the first of them tells
+collect-begins : (m : Machine) → BeginsWith (to_the_end (no_units m)).events (collect m).events
+collect-begins m = go (collect-first m)
+  where
+    d : UnitsDone
+    d = to_the_end (no_units m)
+
+    all : BeginsWith d.events d.events
+    all = ([], sym (append-nil d.events))
+
+    second : BeginsWith d.events (to_the_end (starting_anew d)).events
+    second = units_done-begin d.events (enough_units d.machine) (starting_anew d) all
+
+    stopped_by : Progress → UnitsDone
+    stopped_by refused = d
+    stopped_by went_on = to_the_end (starting_anew d)
+    stopped_by at_end = to_the_end (starting_anew d)
+
+    by_progress : (p : Progress) → BeginsWith d.events (stopped_by p).events
+    by_progress refused = all
+    by_progress went_on = second
+    by_progress at_end = second
+
+    go : (collect m ≡ d) ⊎ (collect m ≡ unless_stopped d) → BeginsWith d.events (collect m).events
+    go (inl e) = subst (λ (u : UnitsDone). BeginsWith d.events u.events) (sym e) all
+    go (inr e) = subst (λ (u : UnitsDone). BeginsWith d.events u.events) (sym e) (by_progress d.progress)
+
+-- the answer to an ask begins with what the first collection tells under it
+ask-begins : (m : Machine) (ask : Ask) → BeginsWith (first_units m ask).events (do_ask m ask).answer.events
+unfolding do_ask gc
+ask-begins m (taken (Slice n)) = ([], sym (append-nil (slice n m).events))
+ask-begins m (taken Collect) = collect-begins m
+ask-begins m (taken Gc) = ((collect_scripts (finish_running m).machine.heap).events, refl)
+ask-begins m ask = ((do_ask m ask).answer.events, refl)
+
+-- nothing is told where the collection goes on
+abbrev TellsAtLast : Progress → List Event → Type 0
+TellsAtLast p es = p ≡ went_on → es ≡ []
+
+-- by a unit
+unit-last : (h : Heap) (s : Option Snapshot) (memory : Bool) → TellsAtLast (unit h s memory).progress (unit h s memory).events
+unit-last h s memory = unit-cases h s memory (λ u. TellsAtLast u.progress u.events) (λ e. absurd (cc)) (by_snapshot s)
+  where
+    by_node : (s : Snapshot) (x : Option Name) → TellsAtLast (node_or_end h s x).progress (node_or_end h s x).events
+    by_node s None e = absurd (cc)
+    by_node s (Some x) e = refl
+
+    by_snapshot : (s : Option Snapshot) → TellsAtLast (granted h s).progress (granted h s).events
+    by_snapshot None e = refl
+    by_snapshot (Some s) e = by_node s (first_untraversed s.nodes) e
+
+-- by units in a row
+units_done-last : (n : ℕ) (m : Machine) → TellsAtLast (units_done n (no_units m)).progress (units_done n (no_units m)).events
+units_done-last n m = units_done-keep (λ d. TellsAtLast d.progress d.events)
+    (λ d e t f. let u : UnitDone = unit d.machine.heap d.machine.snapshot (next_answer d.machine.memory) in
+    ap (λ l. l ++ u.events) (t e) ∙ unit-last d.machine.heap d.machine.snapshot (next_answer d.machine.memory) f)
+    n (no_units m) (λ e. refl)
+
+-- and by those under an ask
+first_units-last : (m : Machine) (ask : Ask) → TellsAtLast (first_units m ask).progress (first_units m ask).events
+unfolding slice
+first_units-last m (taken (Slice n)) = units_done-last n m
+first_units-last m (taken Collect) = units_done-last (enough_units m) m
+first_units-last m (taken Gc) = go (is_some m.snapshot)
+  where
+    finished_by : Bool → UnitsDone
+    finished_by true = to_the_end (no_units m)
+    finished_by false = no_units m
+
+    go : (b : Bool) → TellsAtLast (finished_by b).progress (finished_by b).events
+    go true = units_done-last (enough_units m) m
+    go false = λ e. refl
+first_units-last m ask = λ e. refl
+
+-- AN ANSWER BEGINS WITH WHAT THE FIRST COLLECTION TELLS, where it does not go on.
+pub first_collection-told : (m : Machine) (asks : List Ask) → (first_collection m asks).progress ≢ went_on → AreTold (first_collection m asks).events (turns m asks)
+first_collection-told m [] stopped = absurd (stopped refl)
+first_collection-told m (ask ∷ asks) stopped = go (first_collection-told t.machine asks) d.progress refl stopped
+  where
+    t : Turn
+    t = do_ask m ask
+
+    d : UnitsDone
+    d = first_units m ask
+
+    later : UnitsDone
+    later = first_collection t.machine asks
+
+    all : List Answer
+    all = t.answer ∷ turns t.machine asks
+
+    followed_by : Progress → UnitsDone
+    followed_by went_on = record later { events = d.events ++ later.events }
+    followed_by at_end = d
+    followed_by refused = d
+
+    here : AreTold d.events all
+    here = let b = ask-begins m ask in (t.answer, inl refl, b.0, b.1)
+
+    go : (later.progress ≢ went_on → AreTold later.events (turns t.machine asks)) → (p : Progress) → d.progress ≡ p →
+        (followed_by p).progress ≢ went_on → AreTold (followed_by p).events all
+    go ih went_on e stopped =
+        let a = ih stopped in
+        subst (λ es. AreTold (es ++ later.events) all) (sym (first_units-last m ask e)) (a.0, inr a.1, a.2, a.3)
+    go ih at_end e stopped = here
+    go ih refused e stopped = here
+
+-- Later asks
+
+-- what units came to, and then later ones where the collection went on
+abbrev pub progress_then : Progress → Progress → Progress
+progress_then went_on q = q
+progress_then at_end q = at_end
+progress_then refused q = refused
+
+-- one after the other
+progress_then-assoc : (p q r : Progress) → progress_then p (progress_then q r) ≡ progress_then (progress_then p q) r
+progress_then-assoc went_on q r = refl
+progress_then-assoc at_end q r = refl
+progress_then-assoc refused q r = refl
+
+-- units and later ones come to that
+pub then_later-progress : (d later : UnitsDone) → (then_later d later).progress ≡ progress_then d.progress later.progress
+then_later-progress d later = go d.progress refl
+  where
+    followed_by : Progress → UnitsDone
+    followed_by went_on = record later { events = d.events ++ later.events }
+    followed_by at_end = d
+    followed_by refused = d
+
+    go : (p : Progress) → d.progress ≡ p → (followed_by p).progress ≡ progress_then p later.progress
+    go went_on e = refl
+    go at_end e = e
+    go refused e = e
+
+-- LATER ASKS LEAVE WHAT THE FIRST COLLECTION CAME TO, where it did not go on.
+pub first_collection-append : (m : Machine) (xs ys : List Ask) →
+    (first_collection m (xs ++ ys)).progress ≡ progress_then (first_collection m xs).progress (first_collection (machine_after m xs) ys).progress
+first_collection-append m [] ys = refl
+first_collection-append m (x ∷ xs) ys =
+    let d : UnitsDone = first_units m x in
+    let n : Machine = (do_ask m x).machine in
+    let last : Progress = (first_collection (machine_after n xs) ys).progress in
+    then_later-progress d (first_collection n (xs ++ ys))
+    ∙ (ap (progress_then d.progress) (first_collection-append n xs ys)
+    ∙ (progress_then-assoc d.progress (first_collection n xs).progress last
+    ∙ ap (λ p. progress_then p last) (sym (then_later-progress d (first_collection n xs)))))

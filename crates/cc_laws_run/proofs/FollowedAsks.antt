@@ -1,0 +1,315 @@
+-- A COLLECTION THAT CAN'T MISS NAMES, FOLLOWED THROUGH ASKS: it goes on so, or it has unlinked them all and they are spent, or it is
+-- abandoned itself. One that begins right after `gc` can't miss what was lost.
+use Rattle.std.specs.Prelude.{IsTrue}
+use Rattle.std.specs.List.{list_all}
+use Rattle.std.proofs.Common.{◌≡◌, ◌≢◌, ℕ, zero, suc, ◌<◌, true, List, [], ◌∷◌, ◌++◌, None, refl, sym, ◌∙◌, ap, subst, inl, inr, ◌⊎◌, arith}
+use Rattle.std.proofs.lemmas.Bool.{false≢true, and_parts}
+use Rattle.cc_lists.specs.Members.{Among}
+use Rattle.cc_names.specs.declared.name.Name.{Name}
+use Rattle.cc_model.specs.declared.command.Command.{Command}
+use Rattle.cc_model.specs.declared.command.Command.TheVariants.{Nothing, Slice, Collect, Gc, Census}
+use Rattle.cc_model.specs.declared.item.Event.{Event}
+use Rattle.cc_model.specs.declared.item.Event.TheVariants.{Abandoned}
+use Rattle.cc_model.specs.Asks.{Ask, long, bad, taken}
+use Rattle.cc_model.specs.Graph.{Graph}
+use Rattle.cc_model.specs.WellMade.{IsWellMade}
+use Rattle.cc_model.specs.WellFormed.{names_there}
+use Rattle.cc_model.specs.Heap.{Heap}
+use Rattle.cc_model.specs.View.{view}
+use Rattle.cc_model.specs.Units.{begun, with_empty_buffer}
+use Rattle.cc_model.specs.End.{Progress, went_on, at_end, refused}
+use Rattle.cc_model.specs.Lawful.{State, next}
+use Rattle.cc_model.specs.Collecting.{Machine, UnitsDone, no_units, one_unit, units_done, enough_units, to_the_end, finish_running, slice, starting_anew, unless_stopped, collect, gc}
+use Rattle.cc_model.specs.Run.{Turn, mutate, do_ask, machine_after}
+use Rattle.cc_model.proofs.UnitsEnd.{to_the_end-stops}
+use Rattle.cc_laws_heap.specs.Sound.{IsSound}
+use Rattle.cc_laws_run.specs.Running.{IsRunning, ask_in_range}
+use Rattle.cc_laws_run.specs.Doomed.{IsDoomed, IsDoomedNow, IsSuspectedNow, KeepsReflectors, AreUnlinked, garbage}
+use Rattle.cc_laws_run.specs.Followed.{first_units, first_collection}
+use Rattle.cc_laws_run.specs.Missing.{MissesNone, begins_one, lost}
+use Rattle.cc_laws_run.specs.Spent.{IsSpent}
+use Rattle.cc_laws_run.proofs.CommandCases.{mutate-cases}
+use Rattle.cc_laws_run.proofs.TouchedCommands.{doomed-effects}
+use Rattle.cc_laws_run.proofs.DoomedBegin.{collected-doomed}
+use Rattle.cc_laws_run.proofs.CollectionsLawful.{running-on, slice-runs, collect-runs, gc-runs}
+use Rattle.cc_laws_run.proofs.PlainLawful.{any-runs}
+use Rattle.cc_laws_run.proofs.QuietUnits.{IsGoing, gc-collects}
+use Rattle.cc_laws_run.proofs.MissesLost.{lost-doomed}
+use Rattle.cc_laws_run.proofs.Unabandoned.{TellsNone, none-abandoned}
+use Rattle.cc_laws_run.proofs.SpentViews.{spent-from}
+use Rattle.cc_laws_run.proofs.SpentGone.{collected-gone}
+use Rattle.cc_laws_run.proofs.HoldingUnits.{HoldsOn, units_done-holds}
+use Rattle.cc_laws_run.proofs.SpentUnits.{Settles, Spending, each-spends, SettlesOn, units_done-settle, first-settles}
+use Rattle.cc_laws_run.proofs.SpentAsks.{collected-spent, spent-on, asks-spend, gc-gone}
+use Rattle.cc_laws_run.proofs.FirstCollection.{finish-some, collect-first, progress_then, then_later-progress, first_collection-append}
+
+-- what becomes of names by what a collection told and came to, and by the machine after the asks
+abbrev pub IsFollowed : List Name → List Event → Progress → Machine → Type 0
+IsFollowed ds es went_on n = (es ≡ []) × IsDoomedNow n ds
+IsFollowed ds es at_end n = AreUnlinked ds es × IsSpent n.heap ds × TellsNone es
+IsFollowed ds es refused n = es ≡ Abandoned ∷ []
+
+-- Units under one ask
+
+module _ (g : Graph) (well : IsWellMade g) (ds : List Name) where
+  -- of a slice
+  settled : (d : UnitsDone) → SettlesOn g ds d → IsFollowed ds d.events d.progress d.machine
+  settled d t = go d.progress t.holds
+    where
+      go : (p : Progress) → Settles ds d.machine.heap d.machine.snapshot d.events p → IsFollowed ds d.events p d.machine
+      go went_on k = (k.0, k.1)
+      go at_end k = (k.0, spent-from d.machine.heap ds t.runs.sound.well_formed k.1, k.2)
+      go refused k = k
+
+  -- of a collection that is brought to its end, whatever machine there is later that has spent what was spent
+  stopped : (m n : Machine) → SettlesOn g ds (to_the_end (no_units m)) →
+      ((to_the_end (no_units m)).progress ≡ at_end → IsSpent n.heap ds) →
+      IsFollowed ds (to_the_end (no_units m)).events (to_the_end (no_units m)).progress n
+  stopped m n t spent = go d.progress refl t.holds
+    where
+      d : UnitsDone
+      d = to_the_end (no_units m)
+
+      go : (p : Progress) → d.progress ≡ p → Settles ds d.machine.heap d.machine.snapshot d.events p → IsFollowed ds d.events p n
+      go went_on e k = absurd (to_the_end-stops m e)
+      go at_end e k = (k.0, spent e, k.2)
+      go refused e k = k
+
+  -- what units have spent at their end
+  spent-at_end : (d : UnitsDone) → SettlesOn g ds d → d.progress ≡ at_end → HoldsOn g (Spending ds) (starting_anew d)
+  spent-at_end d t e =
+      let k : Settles ds d.machine.heap d.machine.snapshot d.events at_end = subst (Settles ds d.machine.heap d.machine.snapshot d.events) e t.holds in
+      record { names = t.names; runs = t.runs; holds = k.1 }
+
+  -- `collect` leaves it spent, though it begin a second collection
+  collect-spent : (m : Machine) → SettlesOn g ds (to_the_end (no_units m)) → (to_the_end (no_units m)).progress ≡ at_end → IsSpent (collect m).machine.heap ds
+  collect-spent m t e = go (collect-first m)
+    where
+      d : UnitsDone
+      d = to_the_end (no_units m)
+
+      stopped_by : Progress → UnitsDone
+      stopped_by refused = d
+      stopped_by went_on = to_the_end (starting_anew d)
+      stopped_by at_end = to_the_end (starting_anew d)
+
+      first : HoldsOn g (Spending ds) (starting_anew d)
+      first = spent-at_end d t e
+
+      second : HoldsOn g (Spending ds) (to_the_end (starting_anew d))
+      second = units_done-holds g well (Spending ds) (each-spends g ds) (enough_units d.machine) (starting_anew d) first
+
+      go : (collect m ≡ d) ⊎ (collect m ≡ unless_stopped d) → IsSpent (collect m).machine.heap ds
+      go (inl same) = subst (λ (u : UnitsDone). IsSpent u.machine.heap ds) (sym same) (spent-on g ds (starting_anew d) first)
+      go (inr same) = subst (λ (u : UnitsDone). IsSpent u.machine.heap ds) (sym same)
+          (subst (λ p. IsSpent (stopped_by p).machine.heap ds) (sym e) (spent-on g ds (to_the_end (starting_anew d)) second))
+
+-- One ask
+
+module _ (m : Machine) (s : State) (ds : List Name) (r : IsRunning m s) (d : IsDoomedNow m ds) where
+  -- before any unit
+  start : SettlesOn s.graph ds (no_units m)
+  start = record { names = s.listed; runs = running-on m s r; holds = (refl, d) }
+
+  -- units
+  units-settle : (n : ℕ) → SettlesOn s.graph ds (units_done n (no_units m))
+  units-settle n = units_done-settle s.graph r.well_made ds n (no_units m) start
+
+  -- those of the running collection to its end
+  ended : SettlesOn s.graph ds (to_the_end (no_units m))
+  ended = units-settle (enough_units m)
+
+  -- the same, as `gc` has them
+  finished : finish_running m ≡ to_the_end (no_units m)
+  finished = finish-some m d.0 d.1
+
+  -- where `gc` ends it, what it leaves is spent
+  finish-spends : (finish_running m).progress ≡ at_end → HoldsOn s.graph (Spending ds) (starting_anew (finish_running m))
+  finish-spends e = spent-at_end s.graph r.well_made ds (finish_running m) (subst (SettlesOn s.graph ds) (sym finished) ended) e
+
+  -- `gc`
+  gc-follows : IsFollowed ds (finish_running m).events (finish_running m).progress (gc m).machine
+  unfolding gc
+  gc-follows = subst (λ (u : UnitsDone). IsFollowed ds u.events u.progress (gc m).machine) (sym finished)
+      (stopped s.graph r.well_made ds m (gc m).machine ended
+      (λ e. let t = finish-spends (ap (λ (u : UnitsDone). u.progress) finished ∙ e) in
+      collected-spent (finish_running m).machine.heap ds t.runs.sound t.holds))
+
+  -- `gc` takes away what the collection that it ends can't miss
+  gc-gone_at_once : (finish_running m).progress ≢ refused → (x : Name) → Among x ds → ¬ (Among x (names_there (gc m).machine.heap))
+  unfolding gc
+  gc-gone_at_once unrefused x i = go (finish_running m).progress refl
+    where
+      go : (p : Progress) → (finish_running m).progress ≡ p → ¬ (Among x (names_there (gc m).machine.heap))
+      go went_on e = absurd (to_the_end-stops m (sym (ap (λ (u : UnitsDone). u.progress) finished) ∙ e))
+      go at_end e = let t = finish-spends e in collected-gone ds (finish_running m).machine.heap t.runs.sound t.holds x i
+      go refused e = absurd (unrefused e)
+
+-- a command of the mutator leaves the collection such
+mutate-follows : (m : Machine) (c : Command) (ds : List Name) → IsSound [] m.heap → KeepsReflectors ds → IsDoomedNow m ds → IsDoomedNow (mutate m c).machine ds
+mutate-follows m c ds sound keeps d = mutate-cases m c (λ (u : Turn). IsDoomedNow u.machine ds)
+    (λ refusal e. d)
+    (λ e f. d)
+    (λ e memory. (d.0, d.1, doomed-effects d.0 ds m.heap c sound.well_formed keeps d.2))
+
+-- A COLLECTION THAT CAN'T MISS NAMES, under any ask
+ask-follows : (m : Machine) (s : State) (ask : Ask) (ds : List Name) → IsRunning m s → KeepsReflectors ds → IsDoomedNow m ds →
+    IsFollowed ds (first_units m ask).events (first_units m ask).progress (do_ask m ask).machine
+unfolding do_ask slice
+ask-follows m s long ds r keeps d = (refl, d)
+ask-follows m s bad ds r keeps d = (refl, d)
+ask-follows m s (taken Nothing) ds r keeps d = (refl, d)
+ask-follows m s (taken Census) ds r keeps d = (refl, d)
+ask-follows m s (taken (Slice u)) ds r keeps d = settled s.graph r.well_made ds (slice u m) (units-settle m s ds r d u)
+ask-follows m s (taken Collect) ds r keeps d = let t = ended m s ds r d in
+    stopped s.graph r.well_made ds m (collect m).machine t (collect-spent s.graph r.well_made ds m t)
+ask-follows m s (taken Gc) ds r keeps d = gc-follows m s ds r d
+ask-follows m s (taken c) ds r keeps d = (refl, mutate-follows m c ds r.sound keeps d)
+
+-- The ask that begins it
+
+module _ (m : Machine) (s : State) (ds : List Name) (r : IsRunning m s) (none : m.snapshot ≡ None) (doomed : IsDoomed (view (with_empty_buffer m.heap)) (begun m.heap) ds) where
+  -- some units
+  some-settle : (n : ℕ) → 0 < n → SettlesOn s.graph ds (units_done n (no_units m))
+  unfolding units_done
+  some-settle zero p = absurd (omega (arith, p))
+  some-settle (suc n) p = units_done-settle s.graph r.well_made ds n (one_unit m []) (first-settles s.graph r.well_made ds s.listed m (running-on m s r) none doomed)
+
+  -- under an ask that begins a collection
+  begin-follows : (ask : Ask) → begins_one ask ≡ true → IsFollowed ds (first_units m ask).events (first_units m ask).progress (do_ask m ask).machine
+  unfolding do_ask slice
+  begin-follows (taken (Slice zero)) e = absurd (false≢true e)
+  begin-follows (taken (Slice (suc n))) e = settled s.graph r.well_made ds (slice (suc n) m) (some-settle (suc n) (omega arith))
+  begin-follows (taken Collect) e = let t = some-settle (enough_units m) (omega arith) in
+      stopped s.graph r.well_made ds m (collect m).machine t (collect-spent s.graph r.well_made ds m t)
+  begin-follows ask e = absurd (false≢true e)
+
+-- an ask that begins a collection leaves a machine that runs
+pub begin-runs : (m : Machine) (s : State) (ask : Ask) → IsRunning m s → begins_one ask ≡ true → IsRunning (do_ask m ask).machine (next s ask (do_ask m ask).answer)
+begin-runs m s (taken (Slice n)) r e = slice-runs m s n r
+begin-runs m s (taken Collect) r e = collect-runs m s r
+begin-runs m s ask r e = absurd (false≢true e)
+
+-- Asks in a row
+
+-- an ask, and the asks after it
+ask-then : (m : Machine) (s : State) (ask : Ask) (asks : List Ask) (ds : List Name) → IsRunning (do_ask m ask).machine s → IsTrue (list_all ask_in_range asks) →
+    KeepsReflectors ds → IsFollowed ds (first_units m ask).events (first_units m ask).progress (do_ask m ask).machine →
+    (IsDoomedNow (do_ask m ask).machine ds → let c = first_collection (do_ask m ask).machine asks in
+    IsFollowed ds c.events c.progress (machine_after (do_ask m ask).machine asks)) →
+    let c = first_collection m (ask ∷ asks) in IsFollowed ds c.events c.progress (machine_after m (ask ∷ asks))
+ask-then m s ask asks ds r range keeps f more = go d.progress refl f
+  where
+    n : Machine
+    n = (do_ask m ask).machine
+
+    last : Machine
+    last = machine_after n asks
+
+    d : UnitsDone
+    d = first_units m ask
+
+    later : UnitsDone
+    later = first_collection n asks
+
+    followed_by : Progress → UnitsDone
+    followed_by went_on = record later { events = d.events ++ later.events }
+    followed_by at_end = d
+    followed_by refused = d
+
+    go : (p : Progress) → d.progress ≡ p → IsFollowed ds d.events p n → IsFollowed ds (followed_by p).events (followed_by p).progress last
+    go went_on e f = subst (λ es. IsFollowed ds (es ++ later.events) later.progress last) (sym f.0) (more f.1)
+    go at_end e f = subst (λ p. IsFollowed ds d.events p last) (sym e) (f.0, asks-spend n s asks ds r range keeps f.1, f.2)
+    go refused e f = subst (λ p. IsFollowed ds d.events p last) (sym e) f
+
+-- A COLLECTION THAT CAN'T MISS NAMES, under any asks in a row
+pub asks-follow : (m : Machine) (s : State) (asks : List Ask) (ds : List Name) → IsRunning m s → IsTrue (list_all ask_in_range asks) →
+    KeepsReflectors ds → IsDoomedNow m ds →
+    let c = first_collection m asks in IsFollowed ds c.events c.progress (machine_after m asks)
+asks-follow m s [] ds r range keeps d = (refl, d)
+asks-follow m s (ask ∷ asks) ds r range keeps d =
+    let both = and_parts (ask_in_range ask) (list_all ask_in_range asks) range in
+    let t : Turn = do_ask m ask in
+    let u : State = next s ask t.answer in
+    let still : IsRunning t.machine u = any-runs m s ask r both.0 in
+    ask-then m u ask asks ds still both.1 keeps (ask-follows m s ask ds r keeps d) (asks-follow t.machine u asks ds still both.1 keeps)
+
+-- what becomes of them says that none is missed
+pub followed-misses : (m : Machine) (asks : List Ask) (ds : List Name) →
+    (let c = first_collection m asks in IsFollowed ds c.events c.progress (machine_after m asks)) → MissesNone ds m asks
+followed-misses m asks ds f = record {
+  goes_on = λ e. let k : IsFollowed ds c.events went_on n = subst by e f in k.1;
+  unlinks = λ e. let k : IsFollowed ds c.events at_end n = subst by e f in k.0;
+  abandoned = (
+    λ e. let k : IsFollowed ds c.events refused n = subst by e f in subst (λ es. Among Abandoned es) (sym k) (inl refl),
+    λ a. told c.progress f a,
+  );
+}
+  where
+    c : UnitsDone
+    c = first_collection m asks
+
+    n : Machine
+    n = machine_after m asks
+
+    by : Progress → Type 0
+    by p = IsFollowed ds c.events p n
+
+    told : (p : Progress) → by p → Among Abandoned c.events → p ≡ refused
+    told went_on k a = absurd (subst (λ es. Among Abandoned es) k.0 a)
+    told at_end k a = absurd (none-abandoned c.events k.2 a)
+    told refused k a = refl
+
+-- and that they are spent where it ended
+pub followed-spent : (m : Machine) (asks : List Ask) (ds : List Name) →
+    (let c = first_collection m asks in IsFollowed ds c.events c.progress (machine_after m asks)) →
+    (first_collection m asks).progress ≡ at_end → IsSpent (machine_after m asks).heap ds
+followed-spent m asks ds f e =
+    let c : UnitsDone = first_collection m asks in
+    let k : IsFollowed ds c.events at_end (machine_after m asks) = subst (λ p. IsFollowed ds c.events p (machine_after m asks)) e f in k.1
+
+-- A `gc` AFTER THEM TAKES AWAY what the collection could not miss, unless it is abandoned.
+pub followed-gone : (m : Machine) (s : State) (asks : List Ask) (ds : List Name) → IsRunning (machine_after m asks) s →
+    (let c = first_collection m asks in IsFollowed ds c.events c.progress (machine_after m asks)) →
+    (first_collection m (asks ++ taken Gc ∷ [])).progress ≢ refused → (x : Name) → Among x ds →
+    ¬ (Among x (names_there (gc (machine_after m asks)).machine.heap))
+followed-gone m s asks ds r f unrefused x i = go c.progress f (subst (λ p. p ≢ refused) (first_collection-append m asks (taken Gc ∷ [])) unrefused)
+  where
+    c : UnitsDone
+    c = first_collection m asks
+
+    n : Machine
+    n = machine_after m asks
+
+    go : (p : Progress) → IsFollowed ds c.events p n → progress_then p (first_collection n (taken Gc ∷ [])).progress ≢ refused →
+        ¬ (Among x (names_there (gc n).machine.heap))
+    go went_on k u = gc-gone_at_once n s ds r k.1 (λ e. u (then_later-progress (finish_running n) (no_units (do_ask n (taken Gc)).machine) ∙ ap (λ p. progress_then p went_on) e)) x i
+    go at_end k u = gc-gone n s x ds r k.1 i
+    go refused k u = absurd (u refl)
+
+-- Right after `gc`
+
+-- a machine that runs does so after `gc`
+pub after_gc-runs : (m : Machine) (s : State) → IsRunning m s → (t : State) × IsRunning (gc m).machine t
+unfolding do_ask
+after_gc-runs m s r = (next s (taken Gc) (do_ask m (taken Gc)).answer, gc-runs m s r)
+
+-- A COLLECTION THAT BEGINS RIGHT AFTER `gc` CAN'T MISS WHAT WAS LOST.
+pub after_gc-follows : (m : Machine) (s : State) (ask : Ask) (asks : List Ask) → IsRunning m s → IsSuspectedNow m → begins_one ask ≡ true →
+    IsTrue (list_all ask_in_range asks) → KeepsReflectors (lost (gc m).machine.heap) →
+    let c = first_collection (gc m).machine (ask ∷ asks) in
+    IsFollowed (lost (gc m).machine.heap) c.events c.progress (machine_after (gc m).machine (ask ∷ asks))
+after_gc-follows m s ask asks r suspected e range keeps =
+    let a : Machine = (gc m).machine in
+    let going : IsGoing m.heap m.snapshot went_on =
+    record { sound = r.sound; colours = r.colours; fresh = r.fresh; suspected = suspected; stopped = λ d. absurd (d refl) } in
+    let f = gc-collects m going in
+    let all : IsDoomed (view (with_empty_buffer a.heap)) (begun a.heap) (garbage a.heap) =
+    subst (λ (h : Heap). IsDoomed (view (with_empty_buffer h)) (begun h) (garbage h)) (sym f.3) (collected-doomed f.0 f.1 f.2) in
+    let t = after_gc-runs m s r in
+    let ds : List Name = lost a.heap in
+    let doomed : IsDoomed (view (with_empty_buffer a.heap)) (begun a.heap) ds = lost-doomed a.heap t.0.graph t.1.sound t.1.well_made t.1.stands all in
+    let u : State = next t.0 ask (do_ask a ask).answer in
+    let still : IsRunning (do_ask a ask).machine u = begin-runs a t.0 ask t.1 e in
+    ask-then a u ask asks ds still range keeps (begin-follows a t.0 ds t.1 f.4 doomed ask e)
+    (asks-follow (do_ask a ask).machine u asks ds still range keeps)

@@ -1,0 +1,28 @@
+-- ONE COLLECTION FOLLOWED THROUGH ASKS: the one that runs, or else the first that they begin.
+use Rattle.std.specs.Prelude.{List, [], ◌∷◌, ◌++◌}
+use Rattle.cc_model.specs.declared.command.Command.TheVariants.{Slice, Collect, Gc}
+use Rattle.cc_model.specs.Asks.{Ask, taken}
+use Rattle.cc_model.specs.End.{went_on, at_end, refused}
+use Rattle.cc_model.specs.Collecting.{Machine, UnitsDone, no_units, to_the_end, finish_running, slice}
+use Rattle.cc_model.specs.Run.{do_ask}
+
+-- its units under one ask: a slice has those of one collection; `collect` and `gc` bring it to its end,
+-- and a second collection of `collect` has other units
+abbrev pub first_units : Machine → Ask → UnitsDone
+first_units m (taken (Slice n)) = slice n m
+first_units m (taken Collect) = to_the_end (no_units m)
+first_units m (taken Gc) = finish_running m
+first_units m ask = no_units (do_ask m ask).machine
+
+-- units, and then later ones where the collection went on
+abbrev pub then_later : UnitsDone → UnitsDone → UnitsDone
+then_later d later = elim d.progress [
+  | went_on ↦ record later { events = d.events ++ later.events }
+  | at_end ↦ d
+  | refused ↦ d
+]
+
+-- ITS UNITS UNDER ASKS IN A ROW, up to the one that ends it or is refused memory: what they told, and what the last of them came to
+abbrev pub first_collection : Machine → List Ask → UnitsDone
+first_collection m [] = no_units m
+first_collection m (ask ∷ asks) = then_later (first_units m ask) (first_collection (do_ask m ask).machine asks)
