@@ -16,9 +16,9 @@ use Rattle.cc_laws_heap.proofs.TakingAway.{take_away-sound, take_away-takes}
 use Rattle.cc_graph.specs.Shown.{Shown}
 use Rattle.cc_heaps.specs.Few.{AreFew}
 use Rattle.cc_heaps.specs.Keyed.{Keyed, IsInOrder, changed_to, left_with}
-use Rattle.cc_collector.specs.Blackness.{whites_of}
+use Rattle.cc_unlink.specs.Whites.{whites_of}
 use Rattle.cc_collector.specs.Resting.{IsAtRest}
-use Rattle.cc_collector.proofs.Passing.{whites_of-there}
+use Rattle.cc_unlink.proofs.Passing.{whites_of-there}
 
 -- nothing is there at the start
 pub IsAtRest-empty : (v : Keyed) → IsInOrder [] v → v.heap ≡ empty_heap v.heap.limits → IsAtRest v

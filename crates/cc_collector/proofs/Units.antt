@@ -12,7 +12,7 @@ use Rattle.cc_model.specs.Units.{begun, with_empty_buffer, first_untraversed}
 use Rattle.cc_model.specs.End.{Progress, went_on, at_end, refused, UnitDone, unit, may_be_refused, take_away, give_back, granted, abandoned, node_or_end}
 use Rattle.cc_model.specs.Collecting.{UnitsDone, no_units, one_unit, units_done, next_answer, later_answers, collect, to_the_end, enough_units}
 use Rattle.cc_model.proofs.UnitsEnd.{units_done-to_the_end}
-use Rattle.cc_collector.specs.Building.{IsNodeUnit}
+use Rattle.cc_builder.specs.Building.{IsNodeUnit}
 use Rattle.cc_collector.specs.Collected.{machine, done, GoesOn, ComesTo, IsCollected}
 
 -- what stopped does no more units

@@ -19,10 +19,14 @@ use Rattle.cc_model.specs.Snapshot.{traversed, Node, Snapshot, node_names, noted
 use Rattle.cc_lists.proofs.Numbers.{number-exact}
 use Rattle.cc_graph.specs.Shown.{Vertex, Edge, Shown, number_of, edges_to, is_black}
 use Rattle.cc_heaps.specs.Keyed.{Keyed}
-use Rattle.cc_collector.specs.Building.{Built, HasNoSample, IsBuilt, state_by_sample, nodes_of, names_of, name_at, reference_of, snapshot_of}
-use Rattle.cc_collector.specs.Blackness.{exceeds, numbers_where, held_elsewhere, is_touched, touched, pair_of, scan_rules, is_white_node, is_white_in, whites_of}
-use Rattle.cc_collector.proofs.MarkedNodes.{numbers-passing, passing-numbers}
-use Rattle.cc_collector.proofs.NodesByName.{name-at, node-at, distinct-number, IsNumberOf, number-some, number-none, behind, nodes-behind, names-behind, alike, noted-same}
+use Rattle.cc_builder.specs.Building.{Built, HasNoSample, IsBuilt, state_by_sample, nodes_of, names_of, name_at, reference_of, snapshot_of}
+use Rattle.cc_graph.specs.Numbers.{numbers_where}
+use Rattle.cc_repair.specs.Touched.{is_touched, touched}
+use Rattle.cc_scan.specs.Scanning.{exceeds, held_elsewhere, pair_of, scan_rules}
+use Rattle.cc_unlink.specs.Whites.{is_white_node, is_white_in, whites_of}
+use Rattle.cc_graph.proofs.MarkedNodes.{numbers-passing, passing-numbers}
+use Rattle.cc_builder.proofs.NodesByName.{name-at, node-at, distinct-number, IsNumberOf, number_from-some, number_from-none, behind, nodes-behind, names-behind, noted-same}
+use Rattle.cc_heaps.proofs.Reaching.{same-tests}
 
 -- tests that agree on the members filter the same
 filter-alike : {X : Type 0} (p q : X → Bool) (xs : List X) → ((x : X) → Among x xs → p x ≡ q x) → filter p xs ≡ filter q xs
@@ -216,7 +220,7 @@ module _ (b : Built) (v : Keyed) (built : IsBuilt b v) (all : b.next ≡ length 
 
     -- a node is black in the graph where its name is black in the snapshot
     tests-alike : (i : ℕ) (w : Vertex) → slice_get ns i ≡ Some w → has same_name (black_in (view v.heap) s) w.name ≡ is_black g i
-    tests-alike i w at = alike (has same_name (black_in (view v.heap) s) w.name) (is_black g i)
+    tests-alike i w at = same-tests (has same_name (black_in (view v.heap) s) w.name) (is_black g i)
         (λ e. (black-reached_in i).1 ((black-node i w at).0 ((closure-decides same_name same_name-exact (black_in_rules (view v.heap) s) w.name).0 e)))
         (λ e. (closure-decides same_name same_name-exact (black_in_rules (view v.heap) s) w.name).1 ((black-node i w at).1 ((black-reached_in i).0 e)))
 
@@ -242,7 +246,7 @@ module _ (b : Built) (v : Keyed) (built : IsBuilt b v) (all : b.next ≡ length 
         nowhere e h =
             let among : Among x (names_of ns) = subst (Among x) the_names (Among-filtered test x (node_names s) (has-among same_name same_name-exact (filter test (node_names s)) x h)) in
             let w = Among-map_cases (λ (z : Vertex). z.name) ns x among in
-            number-none 0 g.nodes x e w.0 (subst (Among w.0) (sym nodes) w.1) w.2
+            number_from-none 0 g.nodes x e w.0 (subst (Among w.0) (sym nodes) w.1) w.2
 
         somewhere : (i : ℕ) → IsNumberOf 0 g.nodes x i → has same_name (filter test (node_names s)) x ≡ not (is_black g i)
         somewhere i k =
@@ -251,7 +255,7 @@ module _ (b : Built) (v : Keyed) (built : IsBuilt b v) (all : b.next ≡ length 
             let black : has same_name (black_in (view v.heap) s) x ≡ is_black g i = ap (has same_name (black_in (view v.heap) s)) (sym k.named) ∙ tests-alike i k.node at in
             let among : Among x (node_names s) = subst (Among x) (sym the_names)
             (subst (λ z. Among z (names_of ns)) k.named (Among-map (λ (z : Vertex). z.name) k.node ns (place-among k.node ns i at))) in
-            alike (has same_name (filter test (node_names s)) x) (not (is_black g i))
+            same-tests (has same_name (filter test (node_names s)) x) (not (is_black g i))
             (λ e.
             let passes = Among-passes test x (node_names s) (has-among same_name same_name-exact (filter test (node_names s)) x e) in
             ap not (sym black) ∙ (and_parts (is_there (view v.heap) x) (not (has same_name (black_in (view v.heap) s) x)) passes).1)
@@ -260,7 +264,7 @@ module _ (b : Built) (v : Keyed) (built : IsBuilt b v) (all : b.next ≡ length 
 
         go : (o : Option ℕ) → number_of g.nodes x ≡ o → has same_name (filter test (node_names s)) x ≡ is_white_node g o
         go None e = false-left (has same_name (filter test (node_names s)) x) (nowhere e)
-        go (Some i) e = somewhere i (number-some 0 g.nodes x i e)
+        go (Some i) e = somewhere i (number_from-some 0 g.nodes x i e)
 
     -- THE LAW
     pub whites-are : whites_of g v.heap ≡ white_natives v.heap (snapshot_of b)

@@ -1,7 +1,5 @@
 -- THE ROUNDS THAT ARE LEFT GIVE WHAT ALL OF THEM GIVE.
 use Rattle.std.proofs.Common.{◌≡◌, ℕ, zero, suc, ◌<◌, Bool, true, false, List, [], ◌++◌, map, length, refl, sym, ◌∙◌, ap, subst, arith}
-use Rattle.std.proofs.lemmas.List.{map-append}
-use Rattle.std.proofs.lemmas.Grind.{flat_map-append}
 use Rattle.cc_lists.specs.Members.{Among}
 use Rattle.cc_lists.proofs.Members.{Among-filtered}
 use Rattle.cc_names.specs.declared.name.Name.{Name}
@@ -13,17 +11,18 @@ use Rattle.cc_model.specs.StandsFor.{StandsFor}
 use Rattle.cc_model.specs.Suspected.{IsSuspected}
 use Rattle.cc_model.specs.Sweep.{sweep, sweeps, rounds, collect_scripts}
 use Rattle.cc_model.specs.Telling.{Telling, Tells}
-use Rattle.cc_model.specs.Texts.{texts_of, text_of}
+use Rattle.cc_model.specs.Texts.{texts_of}
 use Rattle.cc_model.specs.View.{view}
 use Rattle.cc_model.specs.WellFormed.{native_names, script_names}
 use Rattle.cc_model.proofs.Rounds.{length-marked, length-sweep-less}
-use Rattle.cc_model.proofs.Tellings.{Tells-nil, Tells-trans}
+use Rattle.cc_model.proofs.Tellings.{Tells-nil}
 use Rattle.cc_laws_heap.specs.Sound.{IsSound}
 use Rattle.cc_laws_heap.specs.Rounds.{is_not_among}
 use Rattle.cc_laws_heap.proofs.MarkingKeeps.{script_names-marked, round-frees}
 use Rattle.cc_laws_heap.proofs.CollectedColours.{collect_scripts-colours, collect_scripts-invariant}
 use Rattle.cc_laws_heap.proofs.RoundsStand.{collect_scripts-stands}
 use Rattle.cc_laws_snapshot.proofs.SweepLoses.{collect_scripts-suspected}
+use Rattle.cc_heaps.proofs.EventsTold.{Tells-more}
 use Rattle.cc_heaps.specs.Keyed.{Keyed, IsInOrder}
 use Rattle.cc_heaps.specs.Changes.{KeepsKeys}
 use Rattle.cc_heaps.specs.Standing.{StillStands}
@@ -60,13 +59,6 @@ KeepsKeys-round a b c s m w p q =
     (λ x i. subst (Among x) (sym (ap script_names m ∙ script_names-marked a.heap)) (script-before a.heap s x (subst (λ h. Among x (script_names h)) swept i)))
 
 -- The rounds that are left
-
--- events told one after the other are told together
-pub Tells-more : (a b c : Telling) (es fs : List Event) → Tells a b (texts_of (map of_event es)) → Tells b c (texts_of (map of_event fs)) →
-    Tells a c (texts_of (map of_event (es ++ fs)))
-Tells-more a b c es fs t u =
-    subst (Tells a c) (sym (ap texts_of (map-append of_event es fs) ∙ flat_map-append text_of (map of_event es) (map of_event fs)))
-    (Tells-trans a b c (texts_of (map of_event es)) (texts_of (map of_event fs)) t u)
 
 abbrev outcome : Heap → List Event → Outcome
 outcome h es = record { heap = h; events = es }

@@ -1,2 +1,3 @@
+pub mod MarkedNodes
 pub mod Walks
 pub mod Whole

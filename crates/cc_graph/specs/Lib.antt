@@ -1,3 +1,5 @@
 pub mod Shown
 pub mod Closed
 pub mod Kept
+pub mod Numbers
+pub mod Held

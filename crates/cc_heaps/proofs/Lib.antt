@@ -9,6 +9,8 @@ pub mod Linked
 pub mod Calls
 pub mod Content
 pub mod LeftWith
+pub mod ContentNames
+pub mod EventsTold
 pub mod SlotsHeld
 pub mod Made
 pub mod Reaching

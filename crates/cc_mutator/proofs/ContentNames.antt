@@ -1,44 +1,20 @@
--- CONTENTS OF NATIVES BY NAMES: the counted heap shows the key of a script object, and the object at that key has its name.
-use Rattle.std.proofs.Common.{◌≡◌, ℕ, ◌==◌, true, false, List, Option, Some, None, is_some, option_map, option_and_then, IsTrue, IsSome, refl, sym, ◌∙◌, ap, subst, inl}
-use Rattle.std.specs.List.{find}
-use Rattle.std.proofs.lemmas.Bool.{false≢true, eq-eqb}
-use Rattle.cc_lists.specs.Members.{Among}
-use Rattle.cc_lists.proofs.Members.{Among-map, Among-map_cases}
-use Rattle.cc_lists.proofs.Filtering.{find-among, find-passes}
-use Rattle.cc_lists.proofs.Searching.{find-some, find-only}
+-- CONTENTS BY NAMES: of one kind, and by kind.
+use Rattle.std.proofs.Common.{◌≡◌, ℕ, true, false, List, Option, Some, None, is_some, option_map, IsTrue, IsSome, refl, sym, ◌∙◌, ap}
+use Rattle.std.proofs.lemmas.Bool.{false≢true}
 use Rattle.cc_names.specs.declared.name.Name.{Name}
 use Rattle.cc_names.specs.declared.name.Name.TheVariants as name
 use Rattle.cc_names.specs.declared.number.NKey.{NKey}
 use Rattle.cc_names.specs.declared.number.SKey.{SKey}
-use Rattle.cc_names.specs.Names.{native, object, same_name, is_script}
-use Rattle.cc_names.proofs.NameTests.{same_name-true, same_name-refl}
-use Rattle.cc_model.specs.Heap.{HeapScript}
+use Rattle.cc_names.specs.Names.{native, is_script}
 use Rattle.cc_model.specs.Checks.{is_native_there, is_script_there}
-use Rattle.cc_model.specs.WellFormed.{script_names, names_there}
-use Rattle.cc_laws_heap.proofs.Owning.{IsIn}
-use Rattle.cc_laws_heap.proofs.Holding.{IsIn-no_native}
 use Rattle.cc_laws_heap.proofs.ScriptNames.{script-named}
 use Rattle.cc_counted.specs.declared.held.Held.{Held}
 use Rattle.cc_counted.specs.declared.held.Held.TheVariants as held
-use Rattle.cc_counted.specs.Counts.{name_of, is_live}
 use Rattle.cc_script.specs.Objects.{Object, object_at, is_there, name_at}
-use Rattle.cc_heaps.specs.Keyed.{Keyed, IsInOrder, counts_of, number_at, named_object, key_of, keyed_name}
+use Rattle.cc_heaps.specs.Keyed.{Keyed, IsInOrder, number_at, named_object}
 use Rattle.cc_heaps.specs.Changes.{IsThere, held_name, native_name, script_name}
+use Rattle.cc_heaps.proofs.ContentNames.{object-there}
 use Rattle.cc_mutator.specs.Commands.{held_native, held_script, is_native_held, is_script_held}
-
--- what a content is by name, and that it is there
-pub record IsHeldAs (v : Keyed) (x : Option Held) (y : Option Name) : Type 0 where
-  pub name : held_name v x ≡ y
-  pub there : IsThere v x
-
-number-some : (o : Option ℕ) → is_some (option_map native o) ≡ true → IsSome o
-number-some None e = absurd (false≢true e)
-number-some (Some k) e = refl
-
--- what has a name is there
-name-there : (o : Option Object) (y : Name) → option_map (λ (o : Object). o.name) o ≡ Some y → is_some o ≡ true
-name-there None y e = absurd (cc)
-name-there (Some o) y e = refl
 
 -- a content of one kind has its name
 held-native_name : (v : Keyed) (x : Option NKey) → held_name v (held_native x) ≡ native_name v x
@@ -57,76 +33,6 @@ pub as_script-named : (v : Keyed) (key : Option SKey) (x : Option Held) (y : Opt
 as_script-named v key x y is name = sym (held-script_name v key) ∙ (ap (held_name v) is ∙ name)
 
 module _ (owned : List ℕ) (v : Keyed) (order : IsInOrder owned v) where
-  -- an object that is there stands in the heaps under its name
-  pub object-there : (key : ℕ) (o : Object) → object_at v.scripts key ≡ Some o → Among (named_object v.scripts o) v.heap.scripts
-  object-there key o e = subst (Among (named_object v.scripts o)) (sym order.named)
-      (Among-map (named_object v.scripts) o v.scripts (find-among (λ (p : Object). p.key == key) v.scripts o e))
-
-  -- The object at the key of a name has that name.
-  name-at_key : (y : Name) (q : ℕ) → key_of v.scripts y ≡ Some q → name_at v.scripts q ≡ Some y
-  name-at_key y q = go (find (λ (o : Object). same_name o.name y) v.scripts) refl
-    where
-      go : (f : Option Object) → find (λ (o : Object). same_name o.name y) v.scripts ≡ f → option_map (λ (o : Object). o.key) f ≡ Some q → name_at v.scripts q ≡ Some y
-      go None s e = absurd (cc)
-      go (Some o) s e =
-          let key : o.key ≡ q = cc in
-          let there : Among o v.scripts = find-among (λ (p : Object). same_name p.name y) v.scripts o s in
-          let at : object_at v.scripts q ≡ Some o = find-only (λ (p : Object). p.key == q) v.scripts o (order.one_key q) there (eq-eqb o.key q key) in
-          ap (λ (f : Option Object). option_map (λ (p : Object). p.name) f) at
-          ∙ ap (λ z. Some z) (same_name-true o.name y (find-passes (λ (p : Object). same_name p.name y) v.scripts o s))
-
-  -- a name that is there has a key
-  key-of_name : (y : Name) → Among y (script_names v.heap) → (q : ℕ) × (key_of v.scripts y ≡ Some q)
-  key-of_name y m =
-      let s = Among-map_cases (λ (o : HeapScript). o.name) v.heap.scripts y m in
-      let o = Among-map_cases (named_object v.scripts) v.scripts s.0 (subst (Among s.0) order.named s.1) in
-      let same : o.0.name ≡ y = ap (λ (p : HeapScript). p.name) o.2 ∙ s.2 in
-      let f = find-some (λ (p : Object). same_name p.name y) v.scripts o.0 o.1 (ap (λ z. same_name z y) same ∙ same_name-refl y) in
-      (f.0.key, ap (λ (g : Option Object). option_map (λ (p : Object). p.key) g) f.1)
-
-  -- what is held by the key of a script object that is there
-  script-held : (y : Name) (x : Option Held) → Among y (script_names v.heap) → name_of (counts_of v) x ≡ option_map object (key_of v.scripts y) →
-      IsTrue (is_live (counts_of v) x) → IsHeldAs v x (Some y)
-  script-held y x m e live = let q = key-of_name y m in go x q.0 q.1 (e ∙ ap (option_map object) q.1) live
-    where
-      number_in : Option Name → ℕ
-      number_in None = 0
-      number_in (Some (name.Native k)) = 0
-      number_in (Some (name.Script k)) = k.0
-      number_in (Some (name.Reflector k)) = 0
-
-      no-native : (o : Option ℕ) (q : ℕ) → ¬ (option_map native o ≡ Some (object q))
-      no-native None q e = absurd (cc)
-      no-native (Some k) q e = absurd (cc)
-
-      go : (x : Option Held) (q : ℕ) → key_of v.scripts y ≡ Some q → name_of (counts_of v) x ≡ Some (object q) → IsTrue (is_live (counts_of v) x) → IsHeldAs v x (Some y)
-      go None q k e live = absurd (cc)
-      go (Some (held.Native key)) q k e live = absurd (no-native (number_at v key.0) q e)
-      go (Some (held.Script key)) q k e live =
-          let same : key.0 ≡ q = ap number_in e in
-          let at : name_at v.scripts key.0 ≡ Some y = ap (name_at v.scripts) same ∙ name-at_key y q k in
-          record { name = at; there = name-there (object_at v.scripts key.0) y at }
-
-  -- WHAT THE COUNTED HEAP ANSWERS under the key of a name is held under that name, where it is there.
-  pub content-named : (y : Option Name) (x : Option Held) → IsIn (names_there v.heap) y → name_of (counts_of v) x ≡ option_and_then (keyed_name v.scripts) y →
-      IsTrue (is_live (counts_of v) x) → IsHeldAs v x y
-  content-named None x m e live = go x e live
-    where
-      go : (x : Option Held) → name_of (counts_of v) x ≡ None → IsTrue (is_live (counts_of v) x) → IsHeldAs v x None
-      go None e live = record { name = refl; there = tt }
-      go (Some (held.Native key)) e live = absurd (false≢true (sym (ap is_some e) ∙ live))
-      go (Some (held.Script key)) e live = absurd (cc)
-  content-named (Some (name.Native k)) x m e live = go x e live
-    where
-      go : (x : Option Held) → name_of (counts_of v) x ≡ Some (name.Native k) → IsTrue (is_live (counts_of v) x) → IsHeldAs v x (Some (name.Native k))
-      go None e live = absurd (cc)
-      go (Some (held.Native key)) e live = record { name = e; there = number-some (number_at v key.0) live }
-      go (Some (held.Script key)) e live = absurd (cc)
-  content-named (Some (name.Script k)) x m e live =
-      script-held (name.Script k) x (IsIn-no_native v.heap (Some (name.Script k)) m refl (name.Script k) (inl refl)) e live
-  content-named (Some (name.Reflector k)) x m e live =
-      script-held (name.Reflector k) x (IsIn-no_native v.heap (Some (name.Reflector k)) m refl (name.Reflector k) (inl refl)) e live
-
   -- The kind of what is held
 
   script-is : (key : ℕ) → IsTrue (is_there v.scripts key) → (y : Name) × (name_at v.scripts key ≡ Some y) × (is_script y ≡ true)
@@ -138,7 +44,7 @@ module _ (owned : List ℕ) (v : Keyed) (order : IsInOrder owned v) where
       go (Some o) e t = (
         o.name,
         ap (λ (f : Option Object). option_map (λ (p : Object). p.name) f) e,
-        script-named v.heap order.sound.well_formed (named_object v.scripts o) (object-there key o e),
+        script-named v.heap order.sound.well_formed (named_object v.scripts o) (object-there owned v order key o e),
       )
 
   -- a native is held where what is held is a native

@@ -19,7 +19,7 @@ use Rattle.cc_counted.specs.Counts.{heap_of, is_live, name_of, number_or_none, s
 use Rattle.cc_counted.specs.Counts as counts
 use Rattle.cc_heaps.specs.Keyed.{Keyed, IsInOrder, counts_of, number_at, keyed_name, keyed_native}
 use Rattle.cc_heaps.specs.Changes.{native_name}
-use Rattle.cc_mutator.proofs.ContentNames.{IsHeldAs, content-named}
+use Rattle.cc_heaps.proofs.ContentNames.{IsHeldAs, content-named}
 
 -- the native at a key, which a register holds
 pub record IsNativeAt (v : Keyed) (r key : ℕ) : Type 0 where

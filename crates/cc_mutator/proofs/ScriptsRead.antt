@@ -30,7 +30,7 @@ use Rattle.cc_script.specs.Objects.{Object, object_at, is_there, name_at, colour
 use Rattle.cc_script.specs.Objects as objects
 use Rattle.cc_heaps.specs.Keyed.{Keyed, IsInOrder, name_held, named_object}
 use Rattle.cc_heaps.specs.Changes.{IsScriptThere, script_name}
-use Rattle.cc_mutator.proofs.ContentNames.{object-there}
+use Rattle.cc_heaps.proofs.ContentNames.{object-there}
 
 -- the script object at a key, which a register holds
 pub record IsObjectAt (v : Keyed) (r key : ℕ) : Type 0 where

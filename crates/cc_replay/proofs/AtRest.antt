@@ -1,5 +1,5 @@
 -- THE HEAPS BETWEEN TWO ASKS: counts are small.
-use Rattle.std.proofs.Common.{◌≤◌, [], arith}
+use Rattle.std.proofs.Common.{[], arith}
 use Rattle.cc_laws_heap.proofs.CountBound.{count-bound}
 use Rattle.cc_heaps.specs.Few.{AreFew}
 use Rattle.cc_heaps.specs.Keyed.{Keyed}

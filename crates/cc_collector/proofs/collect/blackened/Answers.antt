@@ -1,13 +1,14 @@
 use Rattle.std.proofs.Common.{◌≡◌, ℕ, ◌↔◌, ◌⊎◌, IsTrue, sym, subst}
 use Rattle.cc_lists.specs.Members.{Among}
 use Rattle.cc_graph.specs.Shown.{Shown, is_black}
-use Rattle.cc_collector.specs.Building.{AreHeld}
-use Rattle.cc_collector.specs.Blackness.{touched}
+use Rattle.cc_graph.specs.Held.{AreHeld}
+use Rattle.cc_heaps.specs.HasKey.{HasKey}
+use Rattle.cc_repair.specs.Touched.{touched}
 use Rattle.cc_collector.proofs.Whiteness.{whites-found}
 use Rattle.cc_collector.proofs.collect.blackened.Goals as goal
 
 pub mark_touched-requires-clause-held : goal.mark_touched-requires-clause-held
-mark_touched-requires-clause-held c = subst (λ (g : Shown). AreHeld g c.args.heaps.now) (sym c.finish-graph.ensures) c.requires.held
+mark_touched-requires-clause-held c = subst (λ (g : Shown). AreHeld g (HasKey c.args.heaps.now)) (sym c.finish-graph.ensures) c.requires.held
 
 pub returns : goal.returns
 returns c =

@@ -9,7 +9,7 @@ use Rattle.cc_model.specs.Snapshot.{Snapshot, white_natives}
 use Rattle.cc_model.specs.Units.{begun, with_empty_buffer}
 use Rattle.cc_model.specs.End.{went_on, at_end, refused, give_back, take_away}
 use Rattle.cc_heaps.specs.Keyed.{Keyed}
-use Rattle.cc_collector.specs.Building.{snapshot_of}
+use Rattle.cc_builder.specs.Building.{snapshot_of}
 use Rattle.cc_collector.specs.Collected.{GoesOn, IsCollected}
 use Rattle.cc_collector.proofs.AtRest.{IsAtRest-begun, IsAtRest-given_up, IsAtRest-ended}
 use Rattle.cc_collector.proofs.Units.{GoesOn-begun, ComesTo-refused_begin, ComesTo-end, ComesTo-collected}
@@ -48,10 +48,10 @@ returns-then-is_err-clause-refused g c =
     let h = c.args.heaps.now.heap in
     let v = c.begin-begun.new.heaps in
     let began : v.heap ≡ with_empty_buffer h = ap (λ (k : Keyed). k.heap) c.in-Ok.ensures.heap in
-    let came = when_err c.traverse.result c.if-is_err.ensures.value c.traverse.ensures.refused h (starts h v.heap (snapshot_of c.in-Ok.build) began c.in-Ok.ensures.snapshot) in
-    let same : c.abandon.new.heaps.heap ≡ give_back (snapshot_of c.traverse.new.build).candidates v.heap = ap (λ (k : Keyed). k.heap) c.abandon.ensures.heap in
+    let came = when_err c.traverse_all.result c.if-is_err.ensures.value c.traverse_all.ensures.refused h (starts h v.heap (snapshot_of c.in-Ok.build) began c.in-Ok.ensures.snapshot) in
+    let same : c.abandon.new.heaps.heap ≡ give_back (snapshot_of c.traverse_all.new.build).candidates v.heap = ap (λ (k : Keyed). k.heap) c.abandon.ensures.heap in
     subst (λ (n : Heap). IsCollected h n refused (telling c.args.out.now) (telling c.tell-then-is_err.new.self)) (sym same)
-    (ComesTo-collected h (give_back (snapshot_of c.traverse.new.build).candidates v.heap) (Abandoned ∷ []) refused (telling c.args.out.now) (telling c.tell-then-is_err.new.self)
+    (ComesTo-collected h (give_back (snapshot_of c.traverse_all.new.build).candidates v.heap) (Abandoned ∷ []) refused (telling c.args.out.now) (telling c.tell-then-is_err.new.self)
     came refused-stopped c.tell-then-is_err.ensures)
 
 pub returns-clause-done : goal.returns-clause-done
@@ -59,10 +59,10 @@ returns-clause-done g c =
     let telling = g.N.Notices.telling in
     let h = c.args.heaps.now.heap in
     let v = c.begin-begun.new.heaps in
-    let s = snapshot_of c.traverse.new.build in
+    let s = snapshot_of c.traverse_all.new.build in
     let began : v.heap ≡ with_empty_buffer h = ap (λ (k : Keyed). k.heap) c.in-Ok.ensures.heap in
-    let went = when_ok c.traverse.result c.if-is_err.ensures.value c.traverse.ensures.goes_on h (starts h v.heap (snapshot_of c.in-Ok.build) began c.in-Ok.ensures.snapshot) in
-    let traversed = when_ok c.traverse.result c.if-is_err.ensures.value c.traverse.ensures.traversed in
+    let went = when_ok c.traverse_all.result c.if-is_err.ensures.value c.traverse_all.ensures.goes_on h (starts h v.heap (snapshot_of c.in-Ok.build) began c.in-Ok.ensures.snapshot) in
+    let traversed = when_ok c.traverse_all.result c.if-is_err.ensures.value c.traverse_all.ensures.traversed in
     let same : c.collect_white.new.heaps.heap ≡ (take_away (white_natives v.heap s) v.heap).heap =
     ap (λ (k : Keyed). k.heap) c.collect_white.ensures.heap ∙ ap (λ (ks : List ℕ). (take_away ks v.heap).heap) c.blackened-graph.ensures in
     subst (λ (n : Heap). IsCollected h n at_end (telling c.args.out.now) (telling c.collect_white.new.out)) (sym same)
@@ -75,7 +75,7 @@ pub returns-then-is_err-clause-rest : goal.returns-then-is_err-clause-rest
 returns-then-is_err-clause-rest g c =
     let first = c.args.heaps.now in
     let v = c.begin-begun.new.heaps in
-    IsAtRest-given_up v c.abandon.new.heaps (snapshot_of c.traverse.new.build).candidates
+    IsAtRest-given_up v c.abandon.new.heaps (snapshot_of c.traverse_all.new.build).candidates
     (IsAtRest-begun first v c.requires.rest c.in-Ok.ensures.heap c.begin-begun.ensures.order) c.abandon.ensures.heap c.abandon.ensures.order
 
 pub returns-clause-rest : goal.returns-clause-rest

@@ -1,0 +1,73 @@
+-- The steps by which a snapshot is built.
+use Rattle.std.specs.Prelude.{ℕ, ◌+◌, ◌-◌, true, false, List, [], ◌∷◌, ◌++◌, map, filter, flat_map, Option, Some, None, option_to_list, slice_index_or}
+use Rattle.cc_names.specs.declared.name.Name.{Name}
+use Rattle.cc_names.specs.Names.{native}
+use Rattle.cc_model.specs.Checks.{slots_or_none}
+use Rattle.cc_model.specs.Heap.{Heap, slots_in}
+use Rattle.cc_model.specs.Slots.{Slots, from_to}
+use Rattle.cc_model.specs.Snapshot.{Snapshot}
+use Rattle.cc_model.specs.Units.{with_nodes, is_noted}
+use Rattle.cc_counted.specs.declared.held.Held.{Held}
+use Rattle.cc_counted.specs.declared.held.Held.TheVariants as held
+use Rattle.cc_counted.specs.Counts as counts
+use Rattle.cc_graph.specs.Shown.{Vertex, with_vertex, with_sample, change_vertex}
+use Rattle.cc_heaps.specs.Keyed.{Keyed, counts_of}
+use Rattle.cc_heaps.specs.Changes.{held_name}
+use Rattle.cc_counted.specs.Suspects.{is_purple_in}
+use Rattle.cc_builder.specs.Building.{Built}
+
+-- the name of an object that is there
+abbrev pub the_name : Keyed → Held → Name
+the_name v object = elim (held_name v (Some object)) [ None ↦ native 0 | Some x ↦ x ]
+
+-- its slots
+abbrev pub slots_of : Keyed → Held → Slots
+slots_of v object = slots_or_none (slots_in v.heap (the_name v object))
+
+-- its count, where it is a native
+abbrev pub sample_of : Keyed → Held → Option ℕ
+sample_of v (held.Native key) = Some (counts.count_of (counts_of v) key.0)
+sample_of v (held.Script key) = None
+
+-- what a slot holds, where a reference to it is noted: one name or none
+abbrev pub noted_content : Heap → Option Name → List Name
+noted_content h x = filter (is_noted h) (option_to_list x)
+
+abbrev pub slot_at : Keyed → Held → ℕ → List Name
+slot_at v object i = noted_content v.heap (slice_index_or (slots_of v object) i None)
+
+-- all that its slots hold so, in order
+abbrev pub contents_at : Keyed → Held → List Name
+contents_at v object = flat_map (noted_content v.heap) (slots_of v object)
+
+-- the name of native k where it is purple in the buffer
+abbrev pub purple_name : Heap → ℕ → List Name
+purple_name h k = elim (is_purple_in h.buffer k) [ true ↦ native k ∷ [] | false ↦ [] ]
+
+-- an object as a node, last, where it is none
+abbrev pub with_object : Built → Name → Held → Built
+with_object b x held = record b { graph = record b.graph { nodes = with_vertex b.graph.nodes x held } }
+
+-- a reference noted last, for which there was room
+abbrev pub with_reference : Built → ℕ → ℕ → Built
+with_reference b source target = record b { graph = record b.graph { edges = b.graph.edges ++ record { source = source; target = target } ∷ []; spare = b.graph.spare - 1 } }
+
+-- room for other so many references
+abbrev pub with_room : ℕ → Built → Built
+with_room spare b = record b { graph = record b.graph { spare = spare } }
+
+-- the node at a place with its count sampled, where there is one
+abbrev pub sampled_at : List Vertex → ℕ → Option ℕ → List Vertex
+sampled_at vs i None = vs
+sampled_at vs i (Some count) = change_vertex vs i (with_sample count)
+
+-- the first node that is not behind has its count sampled, where it is a native, and is behind
+abbrev pub with_next_passed : Option ℕ → Built → Built
+with_next_passed count b = record b { graph = record b.graph { nodes = sampled_at b.graph.nodes b.next count }; next = b.next + 1 }
+
+-- references of x to each of ys noted, which become nodes, last, where they are none
+abbrev pub noting : Snapshot → Name → List Name → Snapshot
+noting s x ys = record s { nodes = with_nodes s.nodes ys; references = s.references ++ map (from_to x) ys }
+
+abbrev pub noting_one : Snapshot → Name → Name → Snapshot
+noting_one s x y = noting s x (y ∷ [])

@@ -1,0 +1,10 @@
+//! A collection's snapshot while it is built, in the graph that holds it.
+//!
+//! `Build::begin` makes the suspects and the natives that hold a gray script object the first nodes, and empties the
+//! buffer. Each `step` traverses one node, until none is left. Then `finish` gives the graph; or `abandon` gives the build
+//! up, and its candidates are suspects again.
+#![tactic(auto)]
+
+mod build;
+
+pub use build::{Build, Step};

@@ -1,7 +1,0 @@
-use Rattle.cc_graph.specs.Shown.{edges_to}
-use Rattle.cc_collector.specs.Blackness.{exceeds}
-use Rattle.cc_collector.proofs.MarkedNodes.{AreMarked}
-use Rattle.cc_collector.proofs.scan.blacken_held_elsewhere.Given as goal
-
-abbrev pub invariant-loop-i : goal.invariant-loop-i
-invariant-loop-i l = AreMarked (λ i v. exceeds (edges_to l.fn.graph.edges i) v.sampled) l.fn.graph l.graph l.i

@@ -1,5 +1,0 @@
-use Rattle.cc_collector.proofs.Spreading.{IsSpread}
-use Rattle.cc_collector.proofs.scan.blacken_reached.Given as goal
-
-abbrev pub invariant-loop-i : goal.invariant-loop-i
-invariant-loop-i l = IsSpread l.fn.graph l.graph l.i

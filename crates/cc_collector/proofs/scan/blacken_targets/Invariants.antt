@@ -1,8 +1,0 @@
-use Rattle.cc_collector.proofs.BlackenedTargets.{AreFollowed, places_left}
-use Rattle.cc_collector.proofs.scan.blacken_targets.Given as goal
-
-abbrev pub invariant-loop-place : goal.invariant-loop-place
-invariant-loop-place l = AreFollowed l.fn.graph l.graph l.node l.place
-
-abbrev pub decreases-loop-place : goal.decreases-loop-place
-decreases-loop-place l = places_left l.fn.graph.edges l.place

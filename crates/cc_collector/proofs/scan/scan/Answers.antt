@@ -1,6 +1,0 @@
-use Rattle.cc_collector.proofs.Spreading.{scanned}
-use Rattle.cc_collector.proofs.scan.scan.Goals as goal
-
-pub returns-clause-least : goal.returns-clause-least
-returns-clause-least c = scanned c.args.graph.now c.blacken_held_elsewhere.new.graph c.blacken_reached.new.graph
-    c.blacken_held_elsewhere.ensures.rest c.blacken_held_elsewhere.ensures.marked c.blacken_reached.ensures.least

@@ -1,0 +1,3 @@
+pub mod BlackenedTargets
+pub mod NotedPlaces
+pub mod Spreading

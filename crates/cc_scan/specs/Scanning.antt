@@ -1,0 +1,21 @@
+-- WHAT BECOMES BLACK BY A SCAN, by the numbers of nodes.
+use Rattle.std.specs.Prelude.{ℕ, Bool, false, List, [], ◌++◌, map, Option, Some, None, nat_lt}
+use Rattle.cc_lists.specs.Least.{Rule, system}
+use Rattle.cc_graph.specs.Shown.{Edge, Shown, edges_to}
+use Rattle.cc_graph.specs.Numbers.{numbers_where}
+
+-- whether more references were sampled than are noted to the node
+abbrev pub exceeds : ℕ → Option ℕ → Bool
+exceeds noted None = false
+exceeds noted (Some n) = nat_lt noted n
+
+-- the nodes that are held from elsewhere
+abbrev pub held_elsewhere : Shown → List ℕ
+held_elsewhere g = numbers_where (λ i v. exceeds (edges_to g.edges i) v.sampled) 0 g.nodes
+
+abbrev pub pair_of : Edge → ℕ × ℕ
+pair_of e = (e.source, e.target)
+
+-- what is black is black still; so is what is held from elsewhere, and what a black node's noted references lead to
+abbrev pub scan_rules : Shown → List (Rule ℕ)
+scan_rules g = system (g.blacks ++ held_elsewhere g) (map pair_of g.edges) []

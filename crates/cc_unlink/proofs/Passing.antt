@@ -1,0 +1,213 @@
+-- A PASS OVER THE WHITE NATIVES by rising number: those that are left of it, that a step leaves them, and what is told.
+use Rattle.std.proofs.Common.{◌≡◌, ℕ, suc, ◌<◌, Bool, true, false, not, ◌==◌, List, [], ◌∷◌, ◌++◌, map, length, Option, Some, None, IsSome, IfSome, option_and_then, refl, sym, ◌∙◌, ap, subst, inl, inr, ◌⊎◌, ⊎_elim, arith}
+use Rattle.std.specs.List.{filter}
+use Rattle.std.proofs.lemmas.Bool.{false≢true}
+use Rattle.cc_lists.specs.Members.{Among, has}
+use Rattle.cc_lists.proofs.Members.{Among-filtered, has-among}
+use Rattle.cc_names.specs.declared.number.NKey.{NKey}
+use Rattle.cc_names.specs.Names.{native}
+use Rattle.cc_model.specs.declared.item.Event.{Event}
+use Rattle.cc_model.specs.declared.item.Item.TheVariants.{Event as of_event}
+use Rattle.cc_model.specs.Texts.{texts_of}
+use Rattle.cc_model.specs.Telling.{Telling, Tells}
+use Rattle.cc_model.proofs.Tellings.{Tells-nil}
+use Rattle.cc_model.specs.Heap.{Heap, Outcome, silently, after}
+use Rattle.cc_model.specs.WellFormed.{IsRising, native_names}
+use Rattle.cc_model.specs.Counts.{times}
+use Rattle.cc_lists.proofs.Numbers.{number-exact}
+use Rattle.cc_laws_heap.proofs.References.{times-cons}
+use Rattle.cc_laws_heap.proofs.Rising.{IsRising-filter}
+use Rattle.cc_laws_heap.proofs.TakingAway.{IsSound-permuted}
+use Rattle.cc_laws_heap.proofs.Leaving.{Leave, Leave-before, Leave-not_freed, numbers_there, numbers_there-named, is_left}
+use Rattle.cc_counted.specs.Counts.{key_left, number_or_none}
+use Rattle.cc_graph.specs.Shown.{Shown}
+use Rattle.cc_heaps.specs.Keyed.{Keyed, IsInOrder, number_at, the_number, left_with}
+use Rattle.cc_unlink.specs.Whites.{whites_of, is_white_number, whites_above}
+use Rattle.cc_heaps.specs.Holders.{native_numbers, is_above, first_of}
+use Rattle.cc_heaps.proofs.Content.{number-some}
+use Rattle.cc_heaps.proofs.EventsTold.{Tells-more}
+use Rattle.cc_heaps.proofs.LeftWith.{key_left-there, left_with-same}
+use Rattle.cc_unlink.proofs.LeftWith.{number_at-left, left_with-then}
+use Rattle.cc_lists.proofs.Filtering.{filter-each}
+use Rattle.cc_heaps.proofs.NextHolder.{filter-swapped, rest_from, rest_from-first}
+use Rattle.cc_unlink.proofs.NextWhite.{whites_of-numbers}
+
+-- the number of the native that is next
+abbrev pub number_of_next : Keyed → Option NKey → Option ℕ
+number_of_next v next = option_and_then (λ key. number_at v key.0) next
+
+-- it is there
+abbrev pub IsNext : Keyed → Option NKey → Type 0
+IsNext v next = IfSome next (λ key. IsSome (number_at v key.0))
+
+-- THE WHITE NATIVES THAT ARE LEFT of a pass, from the next one on
+abbrev pub whites_from : Shown → Keyed → Option NKey → List ℕ
+whites_from g v next = rest_from (whites_of g v.heap) (number_of_next v next)
+
+-- White natives are by rising number
+whites_of-rising : (g : Shown) (h : Heap) → IsRising (native_numbers h.natives) → IsRising (whites_of g h)
+whites_of-rising g h r = subst IsRising (sym (whites_of-numbers g h)) (IsRising-filter (is_white_number g) (native_numbers h.natives) r)
+
+-- and are there
+pub whites_of-there : (g : Shown) (h : Heap) (k : ℕ) → Among k (whites_of g h) → Among (native k) (native_names h)
+whites_of-there g h k m =
+    numbers_there-named h k (Among-filtered (is_white_number g) k (numbers_there h) (subst (λ ks. Among k ks) (whites_of-numbers g h) m))
+
+module _ (g : Shown) (v : Keyed) (r : IsRising (native_numbers v.heap.natives)) (next : Option NKey) where
+  -- at the begin all of them are left
+  pub whites_from-start : number_of_next v next ≡ first_of (whites_above g v.heap None) → whites_from g v next ≡ whites_of g v.heap
+  whites_from-start e = ap (rest_from (whites_of g v.heap)) e
+      ∙ (rest_from-first None (whites_of g v.heap) (whites_of-rising g v.heap r)
+      ∙ filter-each (is_above None) (whites_of g v.heap) (λ k m. refl))
+
+  -- then one less
+  pub whites_from-next : (o : Option ℕ) → IsSome o → number_of_next v next ≡ first_of (whites_above g v.heap o) →
+      rest_from (whites_of g v.heap) o ≡ number_or_none o ∷ whites_from g v next
+  whites_from-next None there e = absurd (false≢true there)
+  whites_from-next (Some k) there e = ap (λ ks. k ∷ ks)
+      (sym (ap (rest_from (whites_of g v.heap)) e ∙ rest_from-first (Some k) (whites_of g v.heap) (whites_of-rising g v.heap r)))
+
+-- Natives that leave
+
+module _ (g : Shown) (h : Heap) (freed : List ℕ) (f : Heap) (l : Leave h freed f) where
+  -- a part of the white natives that is there still is that part of those that are white now
+  part_of_whites : (p : ℕ → Bool) → ((k : ℕ) → Among k (filter p (whites_of g h)) → Among (native k) (native_names f)) →
+      filter p (whites_of g f) ≡ filter p (whites_of g h)
+  part_of_whites p there =
+      ap (filter p) (whites_of-numbers g f ∙ ap (filter (is_white_number g)) l.numbers
+      ∙ (filter-swapped (is_white_number g) (is_left freed) (numbers_there h) ∙ ap (filter (is_left freed)) (sym (whites_of-numbers g h))))
+      ∙ (filter-swapped p (is_left freed) (whites_of g h)
+      ∙ filter-each (is_left freed) (filter p (whites_of g h)) (λ k m. go k (Leave-not_freed h freed f l k (there k m)) (has ◌==◌ freed k) refl))
+    where
+      go : (k : ℕ) → ¬ (Among k freed) → (b : Bool) → has ◌==◌ freed k ≡ b → not b ≡ true
+      go k kept true e = absurd (kept (has-among ◌==◌ number-exact freed k e))
+      go k kept false e = refl
+
+  -- where all white natives are there still, they are the white ones
+  pub whites_of-stay : ((k : ℕ) → Among k (whites_of g h) → Among (native k) (native_names f)) → whites_of g f ≡ whites_of g h
+  whites_of-stay there =
+      let all : (ks : List ℕ) → filter (is_above None) ks ≡ ks = λ ks. filter-each (is_above None) ks (λ k m. refl) in
+      sym (all (whites_of g f)) ∙ (part_of_whites (is_above None) (λ k m. there k (subst (λ ks. Among k ks) (all (whites_of g h)) m)) ∙ all (whites_of g h))
+
+  -- where those from a number on are there still, they are those from it on
+  rest_from-stay : (o : Option ℕ) → ((k : ℕ) → Among k (rest_from (whites_of g h) o) → Among (native k) (native_names f)) →
+      rest_from (whites_of g f) o ≡ rest_from (whites_of g h) o
+  rest_from-stay None there = refl
+  rest_from-stay (Some j) there = ap (λ ks. j ∷ ks) (part_of_whites (is_above (Some j)) (λ k m. there k (inr m)))
+
+-- the native that is next has its key still
+number_of_next-left : (v : Keyed) (f : Heap) (next : Option NKey) → IsNext v next →
+    ((k : ℕ) → number_of_next v next ≡ Some k → Among (native k) (native_names f)) →
+    number_of_next (left_with v f) next ≡ number_of_next v next
+number_of_next-left v f None live there = refl
+number_of_next-left v f (Some key) live there =
+    let is : number_at v key.0 ≡ Some (the_number v key.0) = number-some (number_at v key.0) live in
+    number_at-left v f key.0 ∙ (ap (λ o. key_left f o) is ∙ (key_left-there f (the_number v key.0) (there (the_number v key.0) is) ∙ sym is))
+
+-- what is next is there, where it has the number that it had
+IsNext-kept : (v w : Keyed) (next : Option NKey) → number_of_next w next ≡ number_of_next v next → IsNext v next → IsNext w next
+IsNext-kept v w None e live = tt
+IsNext-kept v w (Some key) e live = subst IsSome (sym e) live
+
+-- the first of those that are left
+pub first-of_rest : (ks : List ℕ) (o : Option ℕ) (k : ℕ) → o ≡ Some k → Among k (rest_from ks o)
+first-of_rest ks o k e = rw e (inl refl)
+
+-- Where all that are left of a pass are there still, they are left of it still.
+whites_from-left : (g : Shown) (v : Keyed) (freed : List ℕ) (f : Heap) (next : Option NKey) → Leave v.heap freed f → IsNext v next →
+    ((k : ℕ) → Among k (whites_from g v next) → Among (native k) (native_names f)) →
+    (whites_from g (left_with v f) next ≡ whites_from g v next) × IsNext (left_with v f) next
+whites_from-left g v freed f next l live there = (
+  ap (rest_from (whites_of g f)) same ∙ rest_from-stay g v.heap freed f l (number_of_next v next) there,
+  IsNext-kept v (left_with v f) next same live,
+)
+  where
+    same : number_of_next (left_with v f) next ≡ number_of_next v next
+    same = number_of_next-left v f next live (λ k e. there k (first-of_rest (whites_of g v.heap) (number_of_next v next) k e))
+
+-- What is owned
+
+-- the order in which references are owned does not matter
+pub IsInOrder-permuted : (early late : List ℕ) (v : Keyed) → ((k : ℕ) → times k late ≡ times k early) → IsInOrder early v → IsInOrder late v
+IsInOrder-permuted early late v same i = record {
+  sound = IsSound-permuted early late v.heap same i.sound;
+  keyed = i.keyed;
+  named = i.named;
+  one_key = i.one_key;
+  whole = i.whole;
+  limits = i.limits;
+  plain = i.plain;
+  unpreserved = i.unpreserved;
+  no_entries = i.no_entries;
+}
+
+-- one that is owned may stand in front
+pub in_front : (k : ℕ) (ks : List ℕ) → Among k ks → (others : List ℕ) × ((j : ℕ) → times j (k ∷ others) ≡ times j ks)
+in_front k [] m = absurd m
+in_front k (i ∷ ks) m = go (in_front k ks) m
+  where
+    go : (Among k ks → (others : List ℕ) × ((j : ℕ) → times j (k ∷ others) ≡ times j ks)) → (i ≡ k) ⊎ Among k ks →
+        (others : List ℕ) × ((j : ℕ) → times j (k ∷ others) ≡ times j (i ∷ ks))
+    go ih n = ⊎_elim
+        (λ e. (ks, λ j. ap (λ l. times j (l ∷ ks)) (sym e)))
+        (λ t. let r = ih t in (i ∷ r.0, λ j. omega (arith, times-cons j k (i ∷ r.0), times-cons j i r.0, times-cons j i ks, times-cons j k r.0, r.1 j)))
+        n
+
+-- A pass in which natives leave and events are told
+
+-- the heaps and what was told so far
+abbrev pub so_far : Keyed → List Event → Outcome
+so_far v es = record { heap = v.heap; events = es }
+
+-- between two steps: what is left to do gives what all of it gives from the begin
+pub record IsPassing (each : List ℕ → Outcome → Outcome) (g : Shown) (first v : Keyed) (next : Option NKey) (before now : Telling) : Type 0 where
+  pub kept : v ≡ left_with first v.heap
+  pub live : IsNext v next
+  pub events : List Event
+  pub goes : each (whites_from g v next) (so_far v events) ≡ each (whites_of g first.heap) (silently first.heap)
+  pub told : Tells before now (texts_of (map of_event events))
+
+-- at the begin
+pub IsPassing-start : (each : List ℕ → Outcome → Outcome) (g : Shown) (v : Keyed) (next : Option NKey) (now : Telling) → IsInOrder (whites_of g v.heap) v →
+    whites_from g v next ≡ whites_of g v.heap → IsNext v next → IsPassing each g v v next now now
+IsPassing-start each g v next now order all live = record {
+  kept = sym (left_with-same (whites_of g v.heap) v order);
+  live = live;
+  events = [];
+  goes = ap (λ ks. each ks (silently v.heap)) all;
+  told = Tells-nil now;
+}
+
+-- A STEP: the next one after it was found, and what is done to a native is done to this one.
+pub IsPassing-next : {each : List ℕ → Outcome → Outcome} (step : Heap → ℕ → Outcome) → ((k : ℕ) (ks : List ℕ) (o : Outcome) → each (k ∷ ks) o ≡ each ks (after o.events (step o.heap k))) →
+    {g : Shown} {first v : Keyed} {key : NKey} {before now : Telling} → IsPassing each g first v (Some key) before now →
+    (next : Option NKey) → whites_from g v (Some key) ≡ the_number v key.0 ∷ whites_from g v next → IsNext v next →
+    (freed : List ℕ) → Leave v.heap freed (step v.heap (the_number v key.0)).heap →
+    ((j : ℕ) → Among j (whites_from g v next) → Among (native j) (native_names (step v.heap (the_number v key.0)).heap)) →
+    (later : Telling) → Tells now later (texts_of (map of_event (step v.heap (the_number v key.0)).events)) →
+    IsPassing each g first (left_with v (step v.heap (the_number v key.0)).heap) next before later
+    × (whites_from g (left_with v (step v.heap (the_number v key.0)).heap) next ≡ whites_from g v next)
+IsPassing-next {each} step one {g} {first} {v} {key} {before} {now} i next rest live freed leaves there later tell = (
+  record {
+    kept = ap (λ z. left_with z o.heap) i.kept ∙ left_with-then first v.heap o.heap (Leave-before v.heap freed o.heap leaves);
+    live = left.1;
+    events = i.events ++ o.events;
+    goes = ap (λ ks. each ks (so_far (left_with v o.heap) (i.events ++ o.events))) left.0
+        ∙ (sym (one (the_number v key.0) (whites_from g v next) (so_far v i.events)) ∙ (ap (λ ks. each ks (so_far v i.events)) (sym rest) ∙ i.goes));
+    told = Tells-more before now later i.events o.events i.told tell;
+  },
+  left.0,
+)
+  where
+    o : Outcome
+    o = step v.heap (the_number v key.0)
+
+    left : (whites_from g (left_with v o.heap) next ≡ whites_from g v next) × IsNext (left_with v o.heap) next
+    left = whites_from-left g v freed o.heap next leaves live there
+
+-- what is left behind the first is less
+pub fewer : {k : ℕ} {early rest late : List ℕ} → early ≡ k ∷ rest → late ≡ rest → length late < length early
+fewer {k} {early} {rest} {late} e f =
+    let one : length early ≡ suc (length rest) = ap length e in
+    let same : length late ≡ length rest = ap length f in
+    omega arith

@@ -1,0 +1,22 @@
+use Rattle.cc_unlink.proofs.Rooting.{IsRooting-start, IsRooting-few, IsRooting-next}
+use Rattle.cc_unlink.proofs.ends.root_whites.Goals as goal
+
+pub loop-next-init : goal.loop-next-init
+loop-next-init c = record {
+  steps = IsRooting-start c.args.graph.now c.args.heaps.now c.next_white-next.result c.requires.order c.next_white-next.ensures.number c.next_white-next.ensures.live;
+}
+
+pub root-requires-clause-owned : goal.root-requires-clause-owned
+root-requires-clause-owned c =
+    let steps = c.loop-next.invariant.steps in
+    (steps.done, steps.order, IsRooting-few c.args.graph.now c.args.heaps.now c.loop-next.heaps c.loop-next.next steps)
+
+pub loop-next-smaller : goal.loop-next-smaller
+loop-next-smaller c = rw c.in-Some.is ((IsRooting-next (rw c.in-Some.is at c.loop-next.invariant.steps) c.next_white-next-in-Some.result
+    c.next_white-next-in-Some.ensures.number c.next_white-next-in-Some.ensures.live c.root.ensures.heap c.root.ensures.order).1)
+
+pub loop-next-preserved : goal.loop-next-preserved
+loop-next-preserved c = record {
+  steps = (IsRooting-next (rw c.in-Some.is at c.loop-next.invariant.steps) c.next_white-next-in-Some.result
+      c.next_white-next-in-Some.ensures.number c.next_white-next-in-Some.ensures.live c.root.ensures.heap c.root.ensures.order).0;
+}

@@ -1,0 +1,21 @@
+use Rattle.cc_unlink.proofs.Unlinking.{IsUnlinking-start, IsUnlinking-owned, IsUnlinking-next}
+use Rattle.cc_unlink.proofs.ends.unlink_whites.Goals as goal
+
+pub loop-next-init : goal.loop-next-init
+loop-next-init g c = record {
+  steps = IsUnlinking-start c.args.graph.now c.args.heaps.now c.next_white-next.result (g.N.Notices.telling c.args.out.now) c.requires.order
+      c.next_white-next.ensures.number c.next_white-next.ensures.live;
+}
+
+pub unlink-requires-clause-owned : goal.unlink-requires-clause-owned
+unlink-requires-clause-owned g c = IsUnlinking-owned (rw c.in-Some.is at c.loop-next.invariant.steps)
+
+pub loop-next-smaller : goal.loop-next-smaller
+loop-next-smaller g c = rw c.in-Some.is ((IsUnlinking-next (rw c.in-Some.is at c.loop-next.invariant.steps) c.next_white-next-in-Some.result
+    c.next_white-next-in-Some.ensures.number c.next_white-next-in-Some.ensures.live c.unlink.ensures.heap c.unlink.ensures.told c.unlink.ensures.order).1)
+
+pub loop-next-preserved : goal.loop-next-preserved
+loop-next-preserved g c = record {
+  steps = (IsUnlinking-next (rw c.in-Some.is at c.loop-next.invariant.steps) c.next_white-next-in-Some.result
+      c.next_white-next-in-Some.ensures.number c.next_white-next-in-Some.ensures.live c.unlink.ensures.heap c.unlink.ensures.told c.unlink.ensures.order).0;
+}

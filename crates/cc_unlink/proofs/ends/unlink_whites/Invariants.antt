@@ -1,0 +1,12 @@
+use Rattle.std.proofs.Common.{length}
+use Rattle.cc_unlink.proofs.Passing.{whites_from}
+use Rattle.cc_unlink.proofs.Unlinking.{IsUnlinking}
+use Rattle.cc_unlink.proofs.ends.unlink_whites.Given as goal
+
+abbrev pub invariant-loop-next : goal.invariant-loop-next
+invariant-loop-next g l = record {
+  steps : IsUnlinking l.graph l.fn.heaps l.heaps l.next (g.N.Notices.telling l.fn.out) (g.N.Notices.telling l.out);
+}
+
+abbrev pub decreases-loop-next : goal.decreases-loop-next
+decreases-loop-next g l = length (whites_from l.graph l.heaps l.next)

@@ -1,0 +1,25 @@
+use Rattle.cc_unlink.proofs.Unrooting.{IsUnrooting-start, IsUnrooting-owned, IsUnrooting-next}
+use Rattle.cc_unlink.proofs.Passing.{whites_from}
+use Rattle.cc_unlink.proofs.ends.unroot_whites.Goals as goal
+
+pub loop-next-init : goal.loop-next-init
+loop-next-init g c = record {
+  steps = IsUnrooting-start c.args.graph.now c.args.heaps.now c.next_white-next.result (g.N.Notices.telling c.args.out.now) c.requires.order
+      c.next_white-next.ensures.number c.next_white-next.ensures.live;
+}
+
+pub unroot-requires-clause-owned : goal.unroot-requires-clause-owned
+unroot-requires-clause-owned g c = (
+  whites_from c.args.graph.now c.loop-next.heaps c.next_white-next-in-Some.result,
+  IsUnrooting-owned (rw c.in-Some.is at c.loop-next.invariant.steps) c.next_white-next-in-Some.result c.next_white-next-in-Some.ensures.number,
+)
+
+pub loop-next-smaller : goal.loop-next-smaller
+loop-next-smaller g c = rw c.in-Some.is ((IsUnrooting-next (rw c.in-Some.is at c.loop-next.invariant.steps) c.next_white-next-in-Some.result
+    c.next_white-next-in-Some.ensures.number c.next_white-next-in-Some.ensures.live c.unroot.ensures.heap c.unroot.ensures.told c.unroot.ensures.order).1)
+
+pub loop-next-preserved : goal.loop-next-preserved
+loop-next-preserved g c = record {
+  steps = (IsUnrooting-next (rw c.in-Some.is at c.loop-next.invariant.steps) c.next_white-next-in-Some.result
+      c.next_white-next-in-Some.ensures.number c.next_white-next-in-Some.ensures.live c.unroot.ensures.heap c.unroot.ensures.told c.unroot.ensures.order).0;
+}

@@ -1,0 +1,26 @@
+-- THE WHITE NATIVES, by rising number.
+use Rattle.std.specs.Prelude.{ℕ, Bool, false, not, List, map, filter, Option, Some, None}
+use Rattle.cc_names.specs.Names.{native}
+use Rattle.cc_model.specs.Heap.{Heap, HeapNative}
+use Rattle.cc_graph.specs.Shown.{Shown, number_of, is_black}
+use Rattle.cc_heaps.specs.Holders.{is_above}
+
+-- whether a native has a node that is not black
+abbrev pub is_white_node : Shown → Option ℕ → Bool
+is_white_node g None = false
+is_white_node g (Some i) = not (is_black g i)
+
+-- whether the native of a number is white
+abbrev pub is_white_number : Shown → ℕ → Bool
+is_white_number g k = is_white_node g (number_of g.nodes (native k))
+
+abbrev pub is_white_in : Shown → HeapNative → Bool
+is_white_in g n = is_white_number g n.number
+
+-- THE WHITE NATIVES of a graph in the heaps
+abbrev pub whites_of : Shown → Heap → List ℕ
+whites_of g h = map (λ n. n.number) (filter (is_white_in g) h.natives)
+
+-- those with a number above
+abbrev pub whites_above : Shown → Heap → Option ℕ → List ℕ
+whites_above g h at = filter (is_above at) (whites_of g h)
