@@ -1,38 +1,79 @@
--- Heaps that came of runs and meet the premises of the laws: a fresh snapshot in which a native is white,
--- and heaps in which an unreached native is suspected.
-use Rattle.std.proofs.Common.{◌≡◌, ℕ, true, false, List, [], ◌∷◌, ◌++◌, Option, Some, None, refl, sym, ◌∙◌, ap, inl, inr, ⊎_elim}
-use Rattle.std.specs.Prelude.{codes}
-use Rattle.std.proofs.lemmas.Bool.{true≢false}
-use Rattle.cc_lists.specs.Members.{has}
+-- Machines that scripts leave and that meet the premises of the laws: a fresh snapshot in which a native is white,
+-- and heaps in which no unreached native is forgotten while there is one.
+use Rattle.std.proofs.Common.{◌≡◌, ℕ, Bool, true, false, List, [], ◌∷◌, ◌++◌, Option, Some, None, refl, sym, ◌∙◌, ap, subst, inl, inr, ⊎_elim}
+use Rattle.std.specs.Prelude.{IsTrue, codes}
+use Rattle.std.specs.List.{list_all}
+use Rattle.std.proofs.lemmas.Bool.{true≢false, iff_false, and_parts}
 use Rattle.cc_lists.proofs.Closure.{closure-decides}
 use Rattle.cc_lists.specs.Least.{system}
 use Rattle.cc_names.specs.Names.{native, object, reflector, same_name}
 use Rattle.cc_names.proofs.NameTests.{same_name-exact}
-use Rattle.cc_model.specs.View.{View, ReachedIn, reached_in, view, view_rules}
+use Rattle.cc_model.specs.Asks.{Ask}
+use Rattle.cc_model.specs.Heap.{empty_heap}
+use Rattle.cc_model.specs.View.{View, ReachedIn, view, view_rules}
 use Rattle.cc_model.specs.Snapshot.{Snapshot, Node, untraversed, traversed, IsWhite}
 use Rattle.cc_model.specs.Units.{is_untraversed}
 use Rattle.cc_model.specs.Fresh.{node, IsLiving, IsTraversed, IsFresh}
 use Rattle.cc_model.specs.Suspected.{IsCovered, IsSuspected, unreached_scripts}
+use Rattle.cc_model.specs.Lawful.{State, start, next}
 use Rattle.cc_model.specs.Collecting.{Machine, empty_machine}
-use Rattle.cc_model.specs.Run.{machine_after}
+use Rattle.cc_model.specs.Run.{do_ask, machine_after}
+use Rattle.cc_laws_heap.specs.Sound.{IsSound}
+use Rattle.cc_laws_run.specs.Running.{IsRunning, IsFreshNow, ask_in_range}
+use Rattle.cc_laws_run.specs.Doomed.{IsSuspectedNow}
+use Rattle.cc_laws_run.proofs.RunsOn.{empty-runs}
+use Rattle.cc_laws_run.proofs.PlainLawful.{any-runs}
+use Rattle.cc_laws_run.proofs.PlainRanges.{asks_of-range}
+use Rattle.cc_laws_run.proofs.AsksSuspected.{ask-suspected}
 use Rattle.cc_worked.specs.Examples.{default_limits, ample, asks_in}
-use Rattle.cc_worked.specs.SnapshotTests.{covered_names, is_fresh, is_suspected}
+use Rattle.cc_worked.specs.Premises.{IsLeftByAScript}
 use Rattle.cc_worked.proofs.Opened.{all_of_a_run}
-use Rattle.cc_worked.proofs.FreshTest.{is_fresh-true}
-use Rattle.cc_worked.proofs.SuspectedTest.{is_suspected-true}
 
--- a machine after a script
+-- a machine that runs and forgets nothing
+record GoesOn (m : Machine) : Type 0 where
+  state : State
+  runs : IsRunning m state
+  suspected : IsSuspectedNow m
+
+-- Asks in a row leave one.
+go-on : (m : Machine) (asks : List Ask) → IsTrue (list_all ask_in_range asks) → GoesOn m → GoesOn (machine_after m asks)
+go-on m [] range g = g
+go-on m (ask ∷ asks) range g =
+    let both = and_parts (ask_in_range ask) (list_all ask_in_range asks) range in
+    let t = do_ask m ask in
+    go-on t.machine asks both.1 (record {
+      state = next g.state ask t.answer;
+      runs = any-runs m g.state ask g.runs both.0;
+      suspected = ask-suspected m g.state ask g.runs both.0 g.suspected;
+    })
+
+-- the machine after a script
 abbrev machine_of : List ℕ → Machine
 machine_of input = machine_after (empty_machine default_limits ample) (asks_in input)
 
+-- It runs and forgets nothing.
+machine_of-goes_on : (input : List ℕ) → GoesOn (machine_of input)
+machine_of-goes_on input = go-on (empty_machine default_limits ample) (asks_in input) (asks_of-range input)
+    (record { state = start default_limits; runs = empty-runs default_limits ample; suspected = λ u c m unreached. absurd m })
+
+-- Its heaps are sound.
+machine_of-sound : (input : List ℕ) → IsSound [] (machine_of input).heap
+machine_of-sound input = (machine_of-goes_on input).runs.sound
+
+-- A script leaves it.
+machine_of-left : (input : List ℕ) → IsLeftByAScript (machine_of input)
+machine_of-left input = (default_limits, ample, input, refl)
+
+-- A white native
+
 -- A cycle from a native over its reflector, which is a key, to the key's value and back; the collection has
 -- traversed every node of it, and is about to end.
-abbrev half_collected : Machine
-half_collected = machine_of (codes "native n0 0\nwrap s1 n0\nweakmap s0\nscript s2 1\nput s2 0 s1\nwset s0 s1 s2\n"
-    ++ codes "drop n0\ndrop s1\ndrop s2\ngc\nslice 4\n")
+abbrev half_collected_script : List ℕ
+half_collected_script = codes "native n0 0\nwrap s1 n0\nweakmap s0\nscript s2 1\nput s2 0 s1\nwset s0 s1 s2\n"
+    ++ codes "drop n0\ndrop s1\ndrop s2\ngc\nslice 4\n"
 
-abbrev pub half_collected_view : View
-half_collected_view = view half_collected.heap
+abbrev pub half_collected : Machine
+half_collected = machine_of half_collected_script
 
 abbrev pub half_collected_snapshot : Snapshot
 half_collected_snapshot = record {
@@ -42,19 +83,22 @@ half_collected_snapshot = record {
   mappings = record { the_map = None; key = Some (reflector 1); value = object 2 } ∷ [];
 }
 
--- It is the snapshot of the collection that runs.
-half_collected-snapshot : half_collected.snapshot ≡ Some half_collected_snapshot
+-- A script leaves it.
+pub half_collected-left : IsLeftByAScript half_collected
+half_collected-left = machine_of-left half_collected_script
+
+-- Its heaps are sound.
+pub half_collected-sound : IsSound [] half_collected.heap
+half_collected-sound = machine_of-sound half_collected_script
+
+-- This is the snapshot of the collection that runs.
+pub half_collected-snapshot : half_collected.snapshot ≡ Some half_collected_snapshot
 unfolding all_of_a_run
 half_collected-snapshot = refl
 
--- It passes the test of freshness.
-half_collected-passes : is_fresh 1 half_collected_view half_collected_snapshot ≡ true
-unfolding all_of_a_run
-half_collected-passes = refl
-
 -- It is fresh.
-pub half_collected-fresh : IsFresh 1 half_collected_view half_collected_snapshot
-half_collected-fresh = is_fresh-true 1 half_collected_view half_collected_snapshot half_collected-passes
+pub half_collected-fresh : IsFresh half_collected.heap.natives_made (view half_collected.heap) half_collected_snapshot
+half_collected-fresh = subst (IsFreshNow half_collected.heap) half_collected-snapshot (machine_of-goes_on half_collected_script).runs.fresh
 
 -- A traversed state is no untraversed one.
 traversed-untraversed : (n : Option ℕ) → ¬ (traversed n ≡ untraversed)
@@ -69,53 +113,51 @@ half_collected-traversed x m = ⊎_elim
     (λ m. ⊎_elim (λ e. traversed-untraversed None (ap (λ (n : Node). n.state) e)) (λ none. none) m) m) m
 
 -- Its native is white.
-pub half_collected-white : IsWhite half_collected_view half_collected_snapshot (native 1)
+pub half_collected-white : IsWhite (view half_collected.heap) half_collected_snapshot (native 1)
 unfolding all_of_a_run
 half_collected-white = inl refl
 
--- A native that holds itself and another one: the first is purple, and the second is not.
-abbrev dropped : Machine
-dropped = machine_of (codes "native n0 2\nnative n1 0\nset n0 0 n0\nset n0 1 n1\ndrop n1\ncollect\ndrop n0\n")
+-- An unreached native that is suspected
 
-abbrev pub dropped_view : View
+-- A native that holds itself and another one: the first is purple, and the second is not.
+abbrev dropped_script : List ℕ
+dropped_script = codes "native n0 2\nnative n1 0\nset n0 0 n0\nset n0 1 n1\ndrop n1\ncollect\ndrop n0\n"
+
+abbrev pub dropped : Machine
+dropped = machine_of dropped_script
+
+abbrev dropped_view : View
 dropped_view = view dropped.heap
 
--- The first alone is purple.
+-- A script leaves it.
+pub dropped-left : IsLeftByAScript dropped
+dropped-left = machine_of-left dropped_script
+
+-- Its heaps are sound.
+pub dropped-sound : IsSound [] dropped.heap
+dropped-sound = machine_of-sound dropped_script
+
+-- No unreached native is forgotten in them.
+pub dropped-suspected : IsSuspectedNow dropped
+dropped-suspected = (machine_of-goes_on dropped_script).suspected
+
+-- The first native alone is purple.
 dropped-purple : dropped_view.purple ≡ native 1 ∷ []
 unfolding all_of_a_run
 dropped-purple = refl
-
--- The heaps pass the test of suspicion.
-dropped-passes : is_suspected dropped_view [] ≡ true
-unfolding all_of_a_run
-dropped-passes = refl
-
--- They are suspected.
-pub dropped-suspected : IsSuspected dropped_view []
-dropped-suspected = is_suspected-true dropped_view [] dropped-passes
 
 -- The second native is in them.
 pub dropped-living : IsLiving dropped_view (native 2)
 unfolding all_of_a_run
 dropped-living = (1, inr (inl refl))
 
--- It is not in the list of what is reached.
-dropped-outside : has same_name (reached_in dropped_view) (native 2) ≡ false
-unfolding all_of_a_run
-dropped-outside = refl
-
 -- It is not reached.
 pub dropped-unreached : ¬ (ReachedIn dropped_view (native 2))
-dropped-unreached d =
-    true≢false (sym ((closure-decides same_name same_name-exact (view_rules dropped_view) (native 2)).1 d) ∙ dropped-outside)
-
--- It is in the list of what is covered.
-dropped-below : has same_name (covered_names dropped_view) (native 2) ≡ true
 unfolding all_of_a_run
-dropped-below = refl
+dropped-unreached = iff_false (closure-decides same_name same_name-exact (view_rules dropped_view) (native 2)) refl
 
 -- It is covered.
 pub dropped-covered : IsCovered dropped_view (native 2)
+unfolding all_of_a_run
 dropped-covered =
-    (closure-decides same_name same_name-exact (system (dropped_view.purple ++ unreached_scripts dropped_view) dropped_view.edges []) (native 2)).0
-    dropped-below
+    (closure-decides same_name same_name-exact (system (dropped_view.purple ++ unreached_scripts dropped_view) dropped_view.edges []) (native 2)).0 refl

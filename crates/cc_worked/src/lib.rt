@@ -14,7 +14,9 @@
 //! The functions below have empty bodies, and each is a law that its clauses state.
 #![tactic(auto)]
 
+mod audit;
 mod garbage;
+mod premises;
 mod right;
 mod verdict;
 mod wrong;
@@ -35,7 +37,9 @@ ghost use Rattle.cc_model.specs.Run.{plain_text};
 ghost use Rattle.cc_worked.specs.Examples.{IsLawfulRun, IsQuietRun, ample, default_limits, refused_at};
 ghost use Rattle.cc_worked.specs.Inputs.{cascade_of_two, collect_refused_at_a_node, cycle_through_a_reflector, cycle_through_an_entry, entry_does_not_keep_its_key, gc_sweeps_three_rounds, native_lives_by_an_exposed_reflector, read_between_slices, refusals_and_odd_lines, self_cycle_is_collected, self_cycle_outlives_its_register, touched_between_slices, two_cycle_takes_four_units, value_lives_by_its_mapping};
 
+pub use audit::audit_is_sound;
 pub use garbage::{garbage_may_stay, unquiet_censuses_are_refused};
+pub use premises::{freshness_can_be_met, suspicion_can_be_met};
 pub use right::right_transcripts_pass;
 pub use verdict::verdict_decides;
 pub use wrong::{
@@ -79,17 +83,6 @@ pub fn examples_are_quiet()
     ensures collect_refused_at_a_node { IsQuietRun default_limits (refused_at 3) collect_refused_at_a_node }
 {}
 
-/// A snapshot can be fresh, with no node left to traverse, while a native is white in it.
-pub fn freshness_can_be_met()
-    ensures { (v : View) × (s : Snapshot) × IsFresh 1 v s × IsTraversed s × IsWhite v s (native 1) }
-{}
-
-/// Heaps can be suspected while a native is in them that nothing reaches.
-pub fn suspicion_can_be_met()
-    ensures { (v : View) × IsSuspected v [] × IsLiving v (native 2) × (¬ (ReachedIn v (native 2)))
-        × IsCovered v (native 2) }
-{}
-
 #[cfg(test)]
 mod tests {
     use super::*;
@@ -109,6 +102,7 @@ mod tests {
         examples_write_their_lines();
         examples_are_lawful();
         examples_are_quiet();
+        audit_is_sound();
         freshness_can_be_met();
         suspicion_can_be_met();
     }
