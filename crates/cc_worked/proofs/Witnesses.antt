@@ -1,68 +1,47 @@
 -- Machines that scripts leave and that meet the premises of the laws: a fresh snapshot in which a native is white,
 -- and heaps in which no unreached native is forgotten while there is one.
-use Rattle.std.proofs.Common.{◌≡◌, ℕ, Bool, true, false, List, [], ◌∷◌, ◌++◌, Option, Some, None, refl, sym, ◌∙◌, ap, subst, inl, inr, ⊎_elim}
-use Rattle.std.specs.Prelude.{IsTrue, codes}
-use Rattle.std.specs.List.{list_all}
-use Rattle.std.proofs.lemmas.Bool.{true≢false, iff_false, and_parts}
+use Rattle.std.proofs.Common.{◌≡◌, ℕ, List, [], ◌∷◌, ◌++◌, Option, Some, None, refl, sym, ap, subst, inl, inr, ⊎_elim}
+use Rattle.std.specs.Prelude.{codes}
+use Rattle.std.proofs.lemmas.Bool.{true≢false, iff_false}
 use Rattle.cc_lists.proofs.Closure.{closure-decides}
 use Rattle.cc_lists.specs.Least.{system}
 use Rattle.cc_names.specs.Names.{native, object, reflector, same_name}
 use Rattle.cc_names.proofs.NameTests.{same_name-exact}
-use Rattle.cc_model.specs.Asks.{Ask}
-use Rattle.cc_model.specs.Heap.{empty_heap}
 use Rattle.cc_model.specs.View.{View, ReachedIn, view, view_rules}
 use Rattle.cc_model.specs.Snapshot.{Snapshot, Node, untraversed, traversed, IsWhite}
 use Rattle.cc_model.specs.Units.{is_untraversed}
 use Rattle.cc_model.specs.Fresh.{node, IsLiving, IsTraversed, IsFresh}
-use Rattle.cc_model.specs.Suspected.{IsCovered, IsSuspected, unreached_scripts}
-use Rattle.cc_model.specs.Lawful.{State, start, next}
+use Rattle.cc_model.specs.Suspected.{IsCovered, unreached_scripts}
 use Rattle.cc_model.specs.Collecting.{Machine, empty_machine}
-use Rattle.cc_model.specs.Run.{do_ask, machine_after}
+use Rattle.cc_model.specs.Run.{machine_after}
 use Rattle.cc_laws_heap.specs.Sound.{IsSound}
-use Rattle.cc_laws_run.specs.Running.{IsRunning, IsFreshNow, ask_in_range}
+use Rattle.cc_laws_run.specs.Running.{IsFreshNow}
 use Rattle.cc_laws_run.specs.Doomed.{IsSuspectedNow}
-use Rattle.cc_laws_run.proofs.RunsOn.{empty-runs}
-use Rattle.cc_laws_run.proofs.PlainLawful.{any-runs}
 use Rattle.cc_laws_run.proofs.PlainRanges.{asks_of-range}
-use Rattle.cc_laws_run.proofs.AsksSuspected.{ask-suspected}
+use Rattle.cc_laws_run.proofs.WholeRuns.{run-runs, run-suspected}
 use Rattle.cc_worked.specs.Examples.{default_limits, ample, asks_in}
 use Rattle.cc_worked.specs.Premises.{IsLeftByAScript}
 use Rattle.cc_worked.proofs.Opened.{all_of_a_run}
-
--- a machine that runs and forgets nothing
-record GoesOn (m : Machine) : Type 0 where
-  state : State
-  runs : IsRunning m state
-  suspected : IsSuspectedNow m
-
--- Asks in a row leave one.
-go-on : (m : Machine) (asks : List Ask) → IsTrue (list_all ask_in_range asks) → GoesOn m → GoesOn (machine_after m asks)
-go-on m [] range g = g
-go-on m (ask ∷ asks) range g =
-    let both = and_parts (ask_in_range ask) (list_all ask_in_range asks) range in
-    let t = do_ask m ask in
-    go-on t.machine asks both.1 (record {
-      state = next g.state ask t.answer;
-      runs = any-runs m g.state ask g.runs both.0;
-      suspected = ask-suspected m g.state ask g.runs both.0 g.suspected;
-    })
 
 -- the machine after a script
 abbrev machine_of : List ℕ → Machine
 machine_of input = machine_after (empty_machine default_limits ample) (asks_in input)
 
--- It runs and forgets nothing.
-machine_of-goes_on : (input : List ℕ) → GoesOn (machine_of input)
-machine_of-goes_on input = go-on (empty_machine default_limits ample) (asks_in input) (asks_of-range input)
-    (record { state = start default_limits; runs = empty-runs default_limits ample; suspected = λ u c m unreached. absurd m })
-
--- Its heaps are sound.
-machine_of-sound : (input : List ℕ) → IsSound [] (machine_of input).heap
-machine_of-sound input = (machine_of-goes_on input).runs.sound
-
 -- A script leaves it.
 machine_of-left : (input : List ℕ) → IsLeftByAScript (machine_of input)
 machine_of-left input = (default_limits, ample, input, refl)
+
+-- Its heaps are sound.
+machine_of-sound : (input : List ℕ) → IsSound [] (machine_of input).heap
+machine_of-sound input = (run-runs default_limits ample (asks_in input) (asks_of-range input)).sound
+
+-- Its snapshot is fresh.
+machine_of-fresh : (input : List ℕ) → IsFreshNow (machine_of input).heap (machine_of input).snapshot
+machine_of-fresh input = (run-runs default_limits ample (asks_in input) (asks_of-range input)).fresh
+
+-- No unreached native is forgotten in it.
+machine_of-suspected : (input : List ℕ) → IsSuspectedNow (machine_of input)
+machine_of-suspected input = run-suspected default_limits ample (asks_in input) (asks_of-range input)
 
 -- A white native
 
@@ -98,7 +77,7 @@ half_collected-snapshot = refl
 
 -- It is fresh.
 pub half_collected-fresh : IsFresh half_collected.heap.natives_made (view half_collected.heap) half_collected_snapshot
-half_collected-fresh = subst (IsFreshNow half_collected.heap) half_collected-snapshot (machine_of-goes_on half_collected_script).runs.fresh
+half_collected-fresh = subst (IsFreshNow half_collected.heap) half_collected-snapshot (machine_of-fresh half_collected_script)
 
 -- A traversed state is no untraversed one.
 traversed-untraversed : (n : Option ℕ) → ¬ (traversed n ≡ untraversed)
@@ -139,7 +118,7 @@ dropped-sound = machine_of-sound dropped_script
 
 -- No unreached native is forgotten in them.
 pub dropped-suspected : IsSuspectedNow dropped
-dropped-suspected = (machine_of-goes_on dropped_script).suspected
+dropped-suspected = machine_of-suspected dropped_script
 
 -- The first native alone is purple.
 dropped-purple : dropped_view.purple ≡ native 1 ∷ []

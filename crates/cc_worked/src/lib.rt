@@ -1,17 +1,21 @@
-//! The worked examples as theorems.
+//! Worked examples as theorems, and transcripts right and wrong that pin what lawful and quiet mean.
 //!
-//! An example is a script with its limits, its wishes for memory that are refused, and what it makes the
-//! program write. They stand as a table in `examples/worked.txt`, which says what each one shows; the tool
-//! `tools/worked_examples.py` makes `specs/Inputs.antt` and `proofs/Examples1.antt` and the files after it of
-//! that table. There each example is proved by computation: the plain run of its input writes its output; the
-//! run is lawful, and it is quiet; and it passes the audit, which tests at the beginning and after each ask that
-//! the heaps are well formed, the counts and colours right, the running collection's snapshot fresh, no
-//! unreached native forgotten, and that the heaps stand for the graph.
+//! An example is a script with its limits, its wishes for memory that are refused, and what it makes the program write.
+//! The examples stand in a table, `examples/worked.txt`, which says what each one shows; of it the tool
+//! `tools/worked_examples.py` makes `specs/Inputs.antt`, and `proofs/Examples1.antt` and the files after that. There
+//! each example is proved by computation: the plain run of its input writes its output, is lawful and quiet, and passes
+//! the audit. The audit tests at the beginning and after each ask that the heaps are well formed, that counts and colours
+//! are right, that the running collection's snapshot is fresh, that no unreached native is forgotten, and that the heaps
+//! stand for the graph. Its tests of freshness and of suspicion are proved to say yes only where the relation holds
+//! (`audit_is_sound`); the others are tests alone.
 //!
-//! The verdict, and of the audit the tests of freshness and of suspicion, are proved to say yes only where the
-//! relation holds. The audit's other tests are tests alone.
+//! Whether a transcript is lawful, and whether it is quiet, is decided by tests that compute (`verdict_decides`). So a
+//! transcript that is written by hand has a theorem: that it is right, or that its last answer is not, while all else in
+//! it is. The wrong ones have one fault each, and there is one for each clause of both definitions; the right ones stand
+//! at the limits of what the clauses allow. `specs/Transcripts.antt` has the words for them; `WrongReplies`,
+//! `WrongEvents`, `Garbage` and `Right` beside it have the transcripts, each under a name that says its fault.
 //!
-//! The functions below have empty bodies, and each is a law that its clauses state.
+//! Each function has an empty body, and is a law that its clauses state.
 #![tactic(auto)]
 
 mod audit;
@@ -19,91 +23,20 @@ mod garbage;
 mod premises;
 mod right;
 mod verdict;
+mod worked;
 mod wrong;
-
-ghost use Rattle.std.specs.Prelude.{◌≡◌, ℕ, IsTrue, List, [], ◌++◌, codes};
-ghost use Rattle.cc_names.specs.Allowance.{Allowance};
-ghost use Rattle.cc_names.specs.Names.{native};
-ghost use Rattle.cc_model.specs.Answers.{Answer};
-ghost use Rattle.cc_model.specs.Asks.{Ask};
-ghost use Rattle.cc_model.specs.Forms.{version_one_forms};
-ghost use Rattle.cc_model.specs.Lawful.{IsLawful};
-ghost use Rattle.cc_model.specs.Quiet.{IsQuiet};
-ghost use Rattle.cc_model.specs.View.{View, ReachedIn};
-ghost use Rattle.cc_model.specs.Snapshot.{Snapshot, IsWhite};
-ghost use Rattle.cc_model.specs.Fresh.{IsFresh, IsLiving, IsTraversed};
-ghost use Rattle.cc_model.specs.Suspected.{IsCovered, IsSuspected};
-ghost use Rattle.cc_model.specs.Run.{plain_text};
-ghost use Rattle.cc_worked.specs.Examples.{IsLawfulRun, IsQuietRun, ample, default_limits, refused_at};
-ghost use Rattle.cc_worked.specs.Inputs.{cascade_of_two, collect_refused_at_a_node, cycle_through_a_reflector, cycle_through_an_entry, entry_does_not_keep_its_key, gc_sweeps_three_rounds, native_lives_by_an_exposed_reflector, read_between_slices, refusals_and_odd_lines, self_cycle_is_collected, self_cycle_outlives_its_register, touched_between_slices, two_cycle_takes_four_units, value_lives_by_its_mapping};
 
 pub use audit::audit_is_sound;
 pub use garbage::{garbage_may_stay, unquiet_censuses_are_refused};
 pub use premises::{freshness_can_be_met, suspicion_can_be_met};
 pub use right::right_transcripts_pass;
 pub use verdict::verdict_decides;
+pub use worked::{examples_are_lawful, examples_are_quiet, examples_write_their_lines};
 pub use wrong::{
-    misplaced_answers_are_refused, wants_of_memory_are_refused, wrong_abandonments_are_refused,
-    wrong_censuses_are_refused, wrong_events_are_refused, wrong_replies_are_refused,
+    false_wants_of_memory_are_refused, misplaced_answers_are_refused,
+    wrong_abandonments_are_refused, wrong_censuses_are_refused, wrong_events_are_refused,
+    wrong_replies_are_refused,
 };
 
-/// What these examples write.
-pub fn examples_write_their_lines()
-    ensures self_cycle_is_collected { plain_text version_one_forms default_limits ample self_cycle_is_collected
-        ≡ codes "= #1\n= ok\n= ok\n+ #1\n= census 1\n- unlink #1\n- free #1\n= ok\n= census 0\n" }
-    ensures touched_between_slices { plain_text version_one_forms default_limits ample touched_between_slices
-        ≡ codes "= #1\n= ok\n= #1\n= ok\n= ok\n= #1\n= ok\n= ok\n= ok\n- unlink #1\n- free #1\n= ok\n" }
-    ensures value_lives_by_its_mapping { plain_text version_one_forms default_limits ample value_lives_by_its_mapping
-        ≡ codes "= #1\n= #2\n= @1\n= @2\n= @3\n= ~2\n= ok\n= ok\n= ok\n"
-        ++ codes "= ok\n= ok\n= ok\n= ok\n= ok\n= ok\n= @2\n= @3\n= ~2\n= #2\n" }
-{}
-
-/// The plain run of each of these examples is a transcript of an object graph from which nothing is freed.
-pub fn examples_are_lawful()
-    ensures cascade_of_two { IsLawfulRun default_limits ample cascade_of_two }
-    ensures self_cycle_outlives_its_register { IsLawfulRun default_limits ample self_cycle_outlives_its_register }
-    ensures self_cycle_is_collected { IsLawfulRun default_limits ample self_cycle_is_collected }
-    ensures two_cycle_takes_four_units { IsLawfulRun default_limits ample two_cycle_takes_four_units }
-    ensures touched_between_slices { IsLawfulRun default_limits ample touched_between_slices }
-    ensures read_between_slices { IsLawfulRun default_limits ample read_between_slices }
-    ensures native_lives_by_an_exposed_reflector { IsLawfulRun default_limits ample native_lives_by_an_exposed_reflector }
-    ensures cycle_through_a_reflector { IsLawfulRun default_limits ample cycle_through_a_reflector }
-    ensures gc_sweeps_three_rounds { IsLawfulRun default_limits ample gc_sweeps_three_rounds }
-    ensures entry_does_not_keep_its_key { IsLawfulRun default_limits ample entry_does_not_keep_its_key }
-    ensures cycle_through_an_entry { IsLawfulRun default_limits ample cycle_through_an_entry }
-    ensures value_lives_by_its_mapping { IsLawfulRun default_limits ample value_lives_by_its_mapping }
-    ensures refusals_and_odd_lines { IsLawfulRun default_limits ample refusals_and_odd_lines }
-    ensures collect_refused_at_a_node { IsLawfulRun default_limits (refused_at 3) collect_refused_at_a_node }
-{}
-
-/// The censuses of these examples stand behind `gc`, `collect` and `gc`, and list exactly what is reached.
-pub fn examples_are_quiet()
-    ensures cycle_through_a_reflector { IsQuietRun default_limits ample cycle_through_a_reflector }
-    ensures cycle_through_an_entry { IsQuietRun default_limits ample cycle_through_an_entry }
-    ensures collect_refused_at_a_node { IsQuietRun default_limits (refused_at 3) collect_refused_at_a_node }
-{}
-
 #[cfg(test)]
-mod tests {
-    use super::*;
-
-    #[test]
-    fn laws_can_be_called() {
-        verdict_decides();
-        misplaced_answers_are_refused();
-        wrong_replies_are_refused();
-        wants_of_memory_are_refused();
-        wrong_censuses_are_refused();
-        wrong_events_are_refused();
-        wrong_abandonments_are_refused();
-        unquiet_censuses_are_refused();
-        garbage_may_stay();
-        right_transcripts_pass();
-        examples_write_their_lines();
-        examples_are_lawful();
-        examples_are_quiet();
-        audit_is_sound();
-        freshness_can_be_met();
-        suspicion_can_be_met();
-    }
-}
+mod tests;

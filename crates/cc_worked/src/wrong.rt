@@ -31,7 +31,7 @@ pub fn wrong_replies_are_refused()
 {}
 
 /// Memory is refused only where a command may take some, and where the graph does not refuse it.
-pub fn wants_of_memory_are_refused()
+pub fn false_wants_of_memory_are_refused()
     ensures copy_of_a_native_wants_memory { IsUnlawfulAtItsEnd copy_of_a_native_wants_memory }
     ensures copy_of_a_script_object_wants_memory { IsUnlawfulAtItsEnd copy_of_a_script_object_wants_memory }
     ensures drop_wants_memory { IsUnlawfulAtItsEnd drop_wants_memory }

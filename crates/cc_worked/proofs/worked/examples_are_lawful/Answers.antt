@@ -1,5 +1,5 @@
 use Rattle.cc_worked.proofs.Examples.{cascade_of_two-lawful, self_cycle_outlives_its_register-lawful, self_cycle_is_collected-lawful, two_cycle_takes_four_units-lawful, touched_between_slices-lawful, read_between_slices-lawful, native_lives_by_an_exposed_reflector-lawful, cycle_through_a_reflector-lawful, gc_sweeps_three_rounds-lawful, entry_does_not_keep_its_key-lawful, cycle_through_an_entry-lawful, value_lives_by_its_mapping-lawful, refusals_and_odd_lines-lawful, collect_refused_at_a_node-lawful}
-use Rattle.cc_worked.proofs.examples_are_lawful.Goals as goal
+use Rattle.cc_worked.proofs.worked.examples_are_lawful.Goals as goal
 
 pub returns-clause-cascade_of_two : goal.returns-clause-cascade_of_two
 returns-clause-cascade_of_two c = cascade_of_two-lawful

@@ -1,5 +1,5 @@
 use Rattle.cc_worked.proofs.Examples.{self_cycle_is_collected, touched_between_slices, value_lives_by_its_mapping}
-use Rattle.cc_worked.proofs.examples_write_their_lines.Goals as goal
+use Rattle.cc_worked.proofs.worked.examples_write_their_lines.Goals as goal
 
 pub returns-clause-self_cycle_is_collected : goal.returns-clause-self_cycle_is_collected
 returns-clause-self_cycle_is_collected c = self_cycle_is_collected

@@ -1,5 +1,5 @@
 use Rattle.cc_worked.proofs.Examples.{cycle_through_a_reflector-quiet, cycle_through_an_entry-quiet, collect_refused_at_a_node-quiet}
-use Rattle.cc_worked.proofs.examples_are_quiet.Goals as goal
+use Rattle.cc_worked.proofs.worked.examples_are_quiet.Goals as goal
 
 pub returns-clause-cycle_through_a_reflector : goal.returns-clause-cycle_through_a_reflector
 returns-clause-cycle_through_a_reflector c = cycle_through_a_reflector-quiet

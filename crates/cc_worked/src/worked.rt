@@ -1,0 +1,42 @@
+//! Examples whose theorems are clauses: what they write, and that their runs are lawful and quiet.
+ghost use Rattle.std.specs.Prelude.{◌≡◌, ◌++◌, codes};
+ghost use Rattle.cc_model.specs.Forms.{version_one_forms};
+ghost use Rattle.cc_model.specs.Run.{plain_text};
+ghost use Rattle.cc_worked.specs.Examples.{IsLawfulRun, IsQuietRun, ample, default_limits, refused_at};
+ghost use Rattle.cc_worked.specs.Inputs.{cascade_of_two, collect_refused_at_a_node, cycle_through_a_reflector, cycle_through_an_entry, entry_does_not_keep_its_key, gc_sweeps_three_rounds, native_lives_by_an_exposed_reflector, read_between_slices, refusals_and_odd_lines, self_cycle_is_collected, self_cycle_outlives_its_register, touched_between_slices, two_cycle_takes_four_units, value_lives_by_its_mapping};
+
+/// What these examples write.
+pub fn examples_write_their_lines()
+    ensures self_cycle_is_collected { plain_text version_one_forms default_limits ample self_cycle_is_collected
+        ≡ codes "= #1\n= ok\n= ok\n+ #1\n= census 1\n- unlink #1\n- free #1\n= ok\n= census 0\n" }
+    ensures touched_between_slices { plain_text version_one_forms default_limits ample touched_between_slices
+        ≡ codes "= #1\n= ok\n= #1\n= ok\n= ok\n= #1\n= ok\n= ok\n= ok\n- unlink #1\n- free #1\n= ok\n" }
+    ensures value_lives_by_its_mapping { plain_text version_one_forms default_limits ample value_lives_by_its_mapping
+        ≡ codes "= #1\n= #2\n= @1\n= @2\n= @3\n= ~2\n= ok\n= ok\n= ok\n"
+        ++ codes "= ok\n= ok\n= ok\n= ok\n= ok\n= ok\n= @2\n= @3\n= ~2\n= #2\n" }
+{}
+
+/// The plain run of each of these examples is a transcript of an object graph from which nothing is freed.
+pub fn examples_are_lawful()
+    ensures cascade_of_two { IsLawfulRun default_limits ample cascade_of_two }
+    ensures self_cycle_outlives_its_register { IsLawfulRun default_limits ample self_cycle_outlives_its_register }
+    ensures self_cycle_is_collected { IsLawfulRun default_limits ample self_cycle_is_collected }
+    ensures two_cycle_takes_four_units { IsLawfulRun default_limits ample two_cycle_takes_four_units }
+    ensures touched_between_slices { IsLawfulRun default_limits ample touched_between_slices }
+    ensures read_between_slices { IsLawfulRun default_limits ample read_between_slices }
+    ensures native_lives_by_an_exposed_reflector { IsLawfulRun default_limits ample native_lives_by_an_exposed_reflector }
+    ensures cycle_through_a_reflector { IsLawfulRun default_limits ample cycle_through_a_reflector }
+    ensures gc_sweeps_three_rounds { IsLawfulRun default_limits ample gc_sweeps_three_rounds }
+    ensures entry_does_not_keep_its_key { IsLawfulRun default_limits ample entry_does_not_keep_its_key }
+    ensures cycle_through_an_entry { IsLawfulRun default_limits ample cycle_through_an_entry }
+    ensures value_lives_by_its_mapping { IsLawfulRun default_limits ample value_lives_by_its_mapping }
+    ensures refusals_and_odd_lines { IsLawfulRun default_limits ample refusals_and_odd_lines }
+    ensures collect_refused_at_a_node { IsLawfulRun default_limits (refused_at 3) collect_refused_at_a_node }
+{}
+
+/// The censuses of these examples stand behind `gc`, `collect` and `gc`, and list exactly what is reached.
+pub fn examples_are_quiet()
+    ensures cycle_through_a_reflector { IsQuietRun default_limits ample cycle_through_a_reflector }
+    ensures cycle_through_an_entry { IsQuietRun default_limits ample cycle_through_an_entry }
+    ensures collect_refused_at_a_node { IsQuietRun default_limits (refused_at 3) collect_refused_at_a_node }
+{}
