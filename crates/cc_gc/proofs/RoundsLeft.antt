@@ -25,7 +25,9 @@ use Rattle.cc_laws_snapshot.proofs.SweepLoses.{collect_scripts-suspected}
 use Rattle.cc_heaps.proofs.EventsTold.{Tells-more}
 use Rattle.cc_heaps.specs.Keyed.{Keyed, IsInOrder}
 use Rattle.cc_heaps.specs.Changes.{KeepsKeys}
+use Rattle.cc_heaps.specs.Few.{AreFew}
 use Rattle.cc_heaps.specs.Standing.{StillStands}
+use Rattle.cc_heaps.proofs.FewCounts.{few-alone}
 
 -- Keys that are kept, and kept again
 
@@ -103,6 +105,7 @@ pub record IsCollected (old new : Keyed) (before after : Telling) : Type 0 where
   pub invariant : HasColourInvariant (view new.heap)
   pub keys : KeepsKeys old new
   pub order : IsInOrder [] new
+  pub counts : AreFew new.heap
 
 -- a round that sweeps, and the rounds after it
 rounds-sweeps : (n : ℕ) (o : Outcome) → sweeps (marked o.heap) ≡ true → rounds (suc n) o ≡ rounds n (after o.events (sweep (marked o.heap)))
@@ -169,4 +172,5 @@ module _ (old v w : Keyed) (b t u : Telling) (c : IsCollecting old v b t) where
         invariant = subst (λ (o : Outcome). HasColourInvariant (view o.heap)) (sym last) (collect_scripts-invariant old.heap s);
         keys = keys-then false r;
         order = r.order;
+        counts = few-alone w r.order;
       }

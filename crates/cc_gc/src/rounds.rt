@@ -7,6 +7,7 @@ ghost use Rattle.cc_heaps.specs.Keyed.{IsInOrder};
 ghost use Rattle.cc_heaps.specs.Changes.{KeepsKeys};
 ghost use Rattle.cc_heaps.specs.Standing.{StillStands};
 ghost use Rattle.cc_model.specs.Telling.{TellsEvents};
+ghost use Rattle.cc_heaps.specs.Few.{AreFew};
 
 use cc_heaps::Heaps;
 use cc_model::Notices;
@@ -39,6 +40,7 @@ pub fn collect_scripts<N: Notices>(heaps: &mut Heaps, out: &mut N)
     ensures invariant { HasColourInvariant (view heaps.new.heap) }
     ensures keys { KeepsKeys heaps.old heaps.new }
     ensures order { IsInOrder [] heaps.new }
+    ensures counts { AreFew heaps.new.heap }
 {
     // sweeping may take away what alone held other objects, so the rounds go on until one sweeps nothing
     'rounds: while round(heaps, out) {}

@@ -7,6 +7,7 @@ pub mod Registers
 pub mod Owned
 pub mod Linked
 pub mod Calls
+pub mod FewCounts
 pub mod Content
 pub mod LeftWith
 pub mod ContentNames

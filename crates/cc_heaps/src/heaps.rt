@@ -24,6 +24,7 @@ ghost use Rattle.cc_heaps.specs.Changes.{IsBlackHeld, IsNativeThere, IsScriptThe
 ghost use Rattle.cc_heaps.specs.Holders.{holder_after};
 ghost use Rattle.cc_heaps.specs.Standing.{IsReached, StandsAfter, StillStands, KeepsFresh, KeepsSuspected, KeepsColours};
 ghost use Rattle.cc_model.specs.Telling.{TellsEvents, TellsItems};
+ghost use Rattle.cc_heaps.specs.Few.{AreFew, IsNotOwned, AreFewIfOwnedOnce};
 
 use crate::make_stop::MakeStop;
 use crate::parts::Parts;
@@ -117,6 +118,7 @@ impl Heaps {
         ensures same { OnErr result (self.new ≡ self.old) }
         ensures silent { OnErr result (N.telling out.new ≡ N.telling out.old) }
         ensures order { IsInOrder [] self.new }
+        ensures counts { AreFew self.new.heap }
         ensures stands { OnOk result (StandsAfter self.old.heap self.new.heap (λ g. graph.step g (command.Native r slots))) }
         ensures colours { KeepsColours self.old.heap self.new.heap }
         ensures fresh { KeepsFresh self.old.heap self.new.heap }
@@ -140,6 +142,7 @@ impl Heaps {
         ensures keys { KeepsKeys self.old self.new }
         ensures same { OnErr result (self.new ≡ self.old) }
         ensures order { IsInOrder [] self.new }
+        ensures counts { AreFew self.new.heap }
         ensures stands { OnOk result (StandsAfter self.old.heap self.new.heap (λ g. graph.step g (command.Script r slots))) }
         ensures colours { KeepsColours self.old.heap self.new.heap }
         ensures fresh { KeepsFresh self.old.heap self.new.heap }
@@ -160,6 +163,7 @@ impl Heaps {
             (hold_native self.old.heap r (native_name self.old content)).events }
         ensures keys { KeepsKeys self.old self.new }
         ensures order { IsInOrder [] self.new }
+        ensures counts { AreFew self.new.heap }
         ensures stands { IsReached self.old.heap (native_name self.old content) →
             StandsAfter self.old.heap self.new.heap (λ g. graph.set_register g (n_register r) (native_name self.old content)) }
         ensures colours { KeepsColours self.old.heap self.new.heap }
@@ -178,6 +182,7 @@ impl Heaps {
         ensures natives { self.new.keys ≡ self.old.keys }
         ensures keys { KeepsKeys self.old self.new }
         ensures order { IsInOrder [] self.new }
+        ensures counts { AreFew self.new.heap }
         ensures stands { IsReached self.old.heap (script_name self.old content) →
             StandsAfter self.old.heap self.new.heap (λ g. graph.set_register g (s_register r) (script_name self.old content)) }
         ensures colours { KeepsColours self.old.heap self.new.heap }
@@ -203,6 +208,7 @@ impl Heaps {
             (stored_in self.old.heap (the_number self.old key.0) i (held_name self.old content)).events }
         ensures keys { KeepsKeys self.old self.new }
         ensures order { IsInOrder [] self.new }
+        ensures counts { AreFew self.new.heap }
         ensures stands { IsReached self.old.heap (Some (native (the_number self.old key.0))) → IsReached self.old.heap (held_name self.old content) →
             StandsAfter self.old.heap self.new.heap (λ g. graph.set_slot g (Some (native (the_number self.old key.0))) i (held_name self.old content)) }
         ensures colours { IsBlackHeld self.old content → KeepsColours self.old.heap self.new.heap }
@@ -224,6 +230,7 @@ impl Heaps {
         ensures natives { self.new.keys ≡ self.old.keys }
         ensures keys { KeepsKeys self.old self.new }
         ensures order { IsInOrder [] self.new }
+        ensures counts { AreFew self.new.heap }
         ensures stands { IsReached self.old.heap (name_at self.old.scripts key.0) → IsReached self.old.heap (script_name self.old content) →
             StandsAfter self.old.heap self.new.heap (λ g. graph.set_slot g (name_at self.old.scripts key.0) i (script_name self.old content)) }
         ensures colours { KeepsColours self.old.heap self.new.heap }
@@ -242,6 +249,7 @@ impl Heaps {
         ensures natives { self.new.keys ≡ self.old.keys }
         ensures keys { KeepsKeys self.old self.new }
         ensures order { IsInOrder [] self.new }
+        ensures counts { AreFew self.new.heap }
         ensures stands { StillStands self.old.heap self.new.heap }
         ensures colours { KeepsColours self.old.heap self.new.heap }
         ensures fresh { KeepsFresh self.old.heap self.new.heap }
@@ -269,6 +277,7 @@ impl Heaps {
         ensures natives { self.new.keys ≡ self.old.keys }
         ensures keys { KeepsKeys self.old self.new }
         ensures order { IsInOrder [] self.new }
+        ensures counts { AreFew self.new.heap }
         ensures stands { StillStands self.old.heap self.new.heap }
         ensures colours { HasColours self.new.heap }
     {
@@ -287,6 +296,7 @@ impl Heaps {
         ensures natives { self.new.keys ≡ self.old.keys }
         ensures keys { KeepsKeys self.old self.new }
         ensures order { IsInOrder [] self.new }
+        ensures counts { AreFew self.new.heap }
         ensures stands { StillStands self.old.heap self.new.heap }
         ensures invariant { HasColourInvariant (view self.new.heap) }
     {
@@ -302,13 +312,14 @@ impl Heaps {
         self.parts.census(out)
     }
 
-    /// One more reference to a native, which the caller owns.
+    /// One more reference to a native, which the caller owns; it owns none so far.
     pub fn root(&mut self, key: NKey)
         requires live { IsSome (number_at self.old key.0) }
-        requires owned { (owned : List ℕ) × IsInOrder owned self.old × (length owned < 1000000000) }
+        requires owned { (owned : List ℕ) × IsInOrder owned self.old × IsNotOwned (the_number self.old key.0) owned }
         ensures heap { self.new ≡ changed_to self.old (add_ref self.old.heap (the_number self.old key.0)) }
         ensures keys { KeepsKeys self.old self.new }
         ensures order { (owned : List ℕ) → IsInOrder owned self.old → IsInOrder (the_number self.old key.0 ∷ owned) self.new }
+        ensures counts { AreFewIfOwnedOnce self.new }
         ensures stands { StillStands self.old.heap self.new.heap }
         ensures colours { KeepsColours self.old.heap self.new.heap }
     {
@@ -323,6 +334,7 @@ impl Heaps {
         ensures told { TellsEvents (N.telling out.old) (N.telling out.new) (cascade self.old.heap (the_number self.old key.0)).events }
         ensures keys { KeepsKeys self.old self.new }
         ensures order { (owned : List ℕ) → IsInOrder (the_number self.old key.0 ∷ owned) self.old → IsInOrder owned self.new }
+        ensures counts { AreFewIfOwnedOnce self.new }
         ensures stands { StillStands self.old.heap self.new.heap }
         ensures colours { KeepsColours self.old.heap self.new.heap }
     {
@@ -337,6 +349,7 @@ impl Heaps {
         ensures told { TellsEvents (N.telling out.old) (N.telling out.new) (unlink self.old.heap (the_number self.old key.0)).events }
         ensures keys { KeepsKeys self.old self.new }
         ensures order { (owned : List ℕ) → IsInOrder (the_number self.old key.0 ∷ owned) self.old → IsInOrder (the_number self.old key.0 ∷ owned) self.new }
+        ensures counts { AreFewIfOwnedOnce self.new }
         ensures stands { ¬ (ReachedIn (view self.old.heap) (native (the_number self.old key.0))) → StillStands self.old.heap self.new.heap }
         ensures colours { KeepsColours self.old.heap self.new.heap }
     {
@@ -351,6 +364,7 @@ impl Heaps {
             × IsSome (number_at self.old front.0.0)) }
         ensures keys { KeepsKeys self.old self.new }
         ensures order { (owned : List ℕ) → IsInOrder owned self.old → IsInOrder owned self.new }
+        ensures counts { AreFewIfOwnedOnce self.new }
         ensures stands { StillStands self.old.heap self.new.heap }
         ensures colours { KeepsColours self.old.heap self.new.heap }
     {
@@ -364,6 +378,7 @@ impl Heaps {
         ensures heap { self.new ≡ changed_to self.old (suspect self.old.heap (the_number self.old key.0)) }
         ensures keys { KeepsKeys self.old self.new }
         ensures order { (owned : List ℕ) → IsInOrder owned self.old → IsInOrder owned self.new }
+        ensures counts { AreFewIfOwnedOnce self.new }
         ensures stands { StillStands self.old.heap self.new.heap }
         ensures colours { KeepsColours self.old.heap self.new.heap }
         ensures fresh { KeepsFresh self.old.heap self.new.heap }

@@ -1,4 +1,4 @@
-ghost use Rattle.std.specs.Prelude.{◌≡◌, ◌<◌, ℕ, List, [], ◌∷◌, length, replicate, None, IsSome, IfOk, MatchOption};
+ghost use Rattle.std.specs.Prelude.{◌≡◌, ◌<◌, ℕ, List, [], ◌∷◌, replicate, None, IsSome, IfOk, MatchOption};
 ghost use Rattle.cc_names.specs.declared.register.Reg.TheVariants.{N as n_register, S as s_register};
 ghost use Rattle.cc_model.specs.Heap.{empty_heap, register, suspect};
 ghost use Rattle.cc_model.specs.Cascade.{add_ref, cascade};
@@ -7,6 +7,7 @@ ghost use Rattle.cc_heaps.specs.Keyed.{IsInOrder, counts_of, number_at, the_numb
 ghost use Rattle.cc_heaps.specs.Changes.{IsNativeThere, IsScriptThere, native_name, script_name};
 ghost use Rattle.cc_heaps.specs.Parts.{keyed_of, IsLinked, heap_of};
 ghost use Rattle.cc_model.specs.Telling.{TellsEvents};
+ghost use Rattle.cc_heaps.specs.Few.{IsNotOwned};
 
 mod census;
 mod holders;
@@ -104,11 +105,11 @@ impl Parts {
         self.script_registers[r as usize]
     }
 
-    /// One more reference to a native, which the caller owns.
+    /// One more reference to a native, which the caller owns; it owns none so far.
     pub(crate) fn root(&mut self, key: NKey)
         requires linked { IsLinked self.old }
         requires live { IsSome (number_at (keyed_of self.old) key.0) }
-        requires owned { (owned : List ℕ) × IsInOrder owned (keyed_of self.old) × (length owned < 1000000000) }
+        requires owned { (owned : List ℕ) × IsInOrder owned (keyed_of self.old) × IsNotOwned (the_number (keyed_of self.old) key.0) owned }
         ensures heap { (keyed_of self.new) ≡ changed_to (keyed_of self.old) (add_ref (keyed_of self.old).heap (the_number (keyed_of self.old) key.0)) }
         ensures order { (owned : List ℕ) → IsInOrder owned (keyed_of self.old) → IsInOrder (the_number (keyed_of self.old) key.0 ∷ owned) (keyed_of self.new) }
         ensures linked { IsLinked self.new }

@@ -45,7 +45,7 @@ abbrev pub whites_from : Shown → Keyed → Option NKey → List ℕ
 whites_from g v next = rest_from (whites_of g v.heap) (number_of_next v next)
 
 -- White natives are by rising number
-whites_of-rising : (g : Shown) (h : Heap) → IsRising (native_numbers h.natives) → IsRising (whites_of g h)
+pub whites_of-rising : (g : Shown) (h : Heap) → IsRising (native_numbers h.natives) → IsRising (whites_of g h)
 whites_of-rising g h r = subst IsRising (sym (whites_of-numbers g h)) (IsRising-filter (is_white_number g) (native_numbers h.natives) r)
 
 -- and are there

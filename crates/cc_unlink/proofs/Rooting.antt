@@ -1,25 +1,24 @@
 -- THE WHITE NATIVES ROOTED ONE AFTER ANOTHER: no native leaves meanwhile.
-use Rattle.std.proofs.Common.{◌≡◌, ℕ, ◌+◌, ◌<◌, List, [], ◌∷◌, ◌++◌, length, length-append, count_by, Option, Some, None, refl, sym, ◌∙◌, ap, subst, arith, append_assoc}
-use Rattle.std.specs.List.{filter}
-use Rattle.std.proofs.lemmas.List.{length-map}
-use Rattle.std.proofs.lemmas.List.Sums.{length-filter, count_by-le-length}
+use Rattle.std.proofs.Common.{◌≡◌, ℕ, ◌<◌, ◌≤◌, List, [], ◌∷◌, ◌++◌, length, Option, Some, None, refl, sym, ◌∙◌, ap, subst, arith, append_assoc}
 use Rattle.cc_lists.specs.Members.{Among}
 use Rattle.cc_names.specs.declared.number.NKey.{NKey}
 use Rattle.cc_names.specs.Names.{native}
-use Rattle.cc_model.specs.Heap.{Heap, HeapNative}
+use Rattle.cc_model.specs.Heap.{Heap}
 use Rattle.cc_model.specs.Cascade.{add_ref}
+use Rattle.cc_model.specs.Counts.{times}
 use Rattle.cc_model.specs.End.{root_each}
 use Rattle.cc_model.specs.WellFormed.{native_names}
-use Rattle.cc_laws_heap.proofs.CountBound.{natives-made}
 use Rattle.cc_laws_heap.proofs.HoldsTheSame.{HoldsTheSame-add_ref, native_names-alike}
-use Rattle.cc_laws_heap.proofs.References.{times-append, times-cons}
+use Rattle.cc_laws_heap.proofs.References.{times-append, times-cons, times-cons_same}
+use Rattle.cc_laws_heap.proofs.Rising.{IsRising-once}
 use Rattle.cc_laws_heap.proofs.TakingAway.{root_each-leaves}
 use Rattle.cc_graph.specs.Shown.{Shown}
 use Rattle.cc_heaps.specs.Keyed.{Keyed, IsInOrder, number_at, the_number, changed_to}
-use Rattle.cc_unlink.specs.Whites.{is_white_in, whites_of, whites_above}
+use Rattle.cc_heaps.specs.Few.{IsNotOwned}
+use Rattle.cc_unlink.specs.Whites.{whites_of, whites_above}
 use Rattle.cc_heaps.specs.Holders.{first_of}
 use Rattle.cc_heaps.proofs.NextHolder.{rest_from}
-use Rattle.cc_unlink.proofs.Passing.{number_of_next, IsNext, whites_from, whites_from-start, whites_from-next, whites_of-there, whites_of-stay, IsInOrder-permuted, fewer}
+use Rattle.cc_unlink.proofs.Passing.{number_of_next, IsNext, whites_from, whites_from-start, whites_from-next, whites_of-rising, whites_of-there, whites_of-stay, IsInOrder-permuted, fewer}
 
 -- between two steps: the first white natives are rooted, and what is left to do gives what all of it gives from the begin
 pub record IsRooting (g : Shown) (first v : Keyed) (next : Option NKey) : Type 0 where
@@ -46,21 +45,17 @@ IsRooting-start g v next order e live =
       goes = ap (λ ks. root_each ks v.heap) all;
     }
 
--- there are at most a million white natives
-pub IsRooting-few : (g : Shown) (first v : Keyed) (next : Option NKey) (i : IsRooting g first v next) → length i.done < 1000000000
-IsRooting-few g first v next i =
-    let part : length i.done + length (whites_from g v next) ≡ length (whites_of g first.heap) =
-    sym (length-append i.done (whites_from g v next)) ∙ ap length i.parts in
-    let same : length (whites_of g v.heap) ≡ length (whites_of g first.heap) = ap length i.whites in
-    let whites : length (whites_of g v.heap) ≡ count_by (is_white_in g) v.heap.natives =
-    length-map (filter (is_white_in g) v.heap.natives) (λ (n : HeapNative). n.number) ∙ length-filter (is_white_in g) v.heap.natives in
-    omega (
-      arith,
-      count_by-le-length (is_white_in g) v.heap.natives,
-      natives-made v.heap i.order.sound.well_formed,
-      i.order.sound.well_formed.natives_allowed,
-      i.order.limits,
-    )
+-- the one that is to be rooted is not rooted yet: it stands among the white natives once
+pub IsRooting-not_owned : {g : Shown} {first v : Keyed} {key : NKey} (i : IsRooting g first v (Some key)) →
+    (next : Option NKey) → number_of_next v next ≡ first_of (whites_above g v.heap (number_at v key.0)) → IsNotOwned (the_number v key.0) i.done
+IsRooting-not_owned {g} {first} {v} {key} i next e =
+    let k = the_number v key.0 in
+    let rising = i.order.sound.well_formed.rising in
+    let rest : whites_from g v (Some key) ≡ k ∷ whites_from g v next = whites_from-next g v rising next (number_at v key.0) i.live e in
+    let all : i.done ++ k ∷ whites_from g v next ≡ whites_of g v.heap = ap (λ ks. i.done ++ ks) (sym rest) ∙ i.parts ∙ sym i.whites in
+    let once : times k (i.done ++ k ∷ whites_from g v next) ≤ 1 =
+    subst (λ ks. times k ks ≤ 1) (sym all) (IsRising-once (whites_of g v.heap) (whites_of-rising g v.heap rising) k) in
+    omega (arith, once, times-append k i.done (k ∷ whites_from g v next), times-cons_same k (whites_from g v next))
 
 -- A STEP: the next one after it was found, and the native is rooted.
 pub IsRooting-next : {g : Shown} {first v : Keyed} {key : NKey} → IsRooting g first v (Some key) →

@@ -33,4 +33,5 @@ returns g c =
       invariant = done.invariant;
       keys = done.keys;
       order = done.order;
+      counts = done.counts;
     }

@@ -1,4 +1,4 @@
-use Rattle.cc_unlink.proofs.Rooting.{IsRooting-start, IsRooting-few, IsRooting-next}
+use Rattle.cc_unlink.proofs.Rooting.{IsRooting-start, IsRooting-not_owned, IsRooting-next}
 use Rattle.cc_unlink.proofs.ends.root_whites.Goals as goal
 
 pub loop-next-init : goal.loop-next-init
@@ -8,8 +8,8 @@ loop-next-init c = record {
 
 pub root-requires-clause-owned : goal.root-requires-clause-owned
 root-requires-clause-owned c =
-    let steps = c.loop-next.invariant.steps in
-    (steps.done, steps.order, IsRooting-few c.args.graph.now c.args.heaps.now c.loop-next.heaps c.loop-next.next steps)
+    let steps = rw c.in-Some.is at c.loop-next.invariant.steps in
+    (steps.done, steps.order, IsRooting-not_owned steps c.next_white-next-in-Some.result c.next_white-next-in-Some.ensures.number)
 
 pub loop-next-smaller : goal.loop-next-smaller
 loop-next-smaller c = rw c.in-Some.is ((IsRooting-next (rw c.in-Some.is at c.loop-next.invariant.steps) c.next_white-next-in-Some.result

@@ -1,10 +1,11 @@
 use Rattle.std.proofs.Common.{[], sym, subst}
 use Rattle.cc_script.specs.Objects.{name_at}
 use Rattle.cc_heaps.specs.Keyed.{Keyed, IsInOrder}
-use Rattle.cc_heaps.specs.Parts.{heap_of}
+use Rattle.cc_heaps.specs.Parts.{heap_of, keyed_of}
 use Rattle.cc_heaps.specs.Standing.{StillStands}
 use Rattle.cc_heaps.proofs.StandingStill.{exposed-still}
 use Rattle.cc_heaps.proofs.Following.{Keeps, exposed-keeps}
+use Rattle.cc_heaps.proofs.FewCounts.{few-alone}
 use Rattle.cc_heaps.proofs.heaps.Heaps.expose.Goals as goal
 
 keeps : (c : goal.After-expose) → Keeps c.args.self.now.heap (heap_of c.expose.new.self)
@@ -27,3 +28,6 @@ returns-clause-stands c = subst (λ (v : Keyed). IsInOrder [] v → StillStands 
     (λ o. subst (StillStands (heap_of c.self.inside.parts)) (sym c.expose.ensures.heap)
     (exposed-still (heap_of c.self.inside.parts) (name_at c.self.inside.parts.scripts c.args.key.0) o.sound))
     c.requires.order
+
+pub returns-clause-counts : goal.returns-clause-counts
+returns-clause-counts c = few-alone (keyed_of c.expose.new.self) c.expose.ensures.order

@@ -8,6 +8,7 @@ use Rattle.cc_heaps.proofs.StandingStill.{buffer-goes_on}
 use Rattle.cc_heaps.proofs.Following.{Keeps, suspect-keeps}
 use Rattle.cc_heaps.specs.Changes.{KeepsKeys}
 use Rattle.cc_heaps.proofs.KeysKept.{KeepsKeys-changed}
+use Rattle.cc_heaps.proofs.FewCounts.{few-owned}
 use Rattle.cc_heaps.proofs.heaps.Heaps.give_back.Goals as goal
 
 pub returns-clause-order : goal.returns-clause-order
@@ -44,3 +45,6 @@ returns-clause-stands c =
 pub returns-clause-keys : goal.returns-clause-keys
 returns-clause-keys c = subst (λ (v : Keyed). KeepsKeys v (keyed_of c.give_back.new.self)) c.self.view_is
     (KeepsKeys-changed (keyed_of c.self.inside.parts) (keyed_of c.give_back.new.self) _ c.give_back.ensures.heap)
+
+pub returns-clause-counts : goal.returns-clause-counts
+returns-clause-counts c = few-owned (keyed_of c.give_back.new.self)

@@ -2,9 +2,10 @@ use Rattle.std.proofs.Common.{[], sym, subst}
 use Rattle.cc_model.specs.Colours.{HasColours}
 use Rattle.cc_laws_heap.proofs.Marking.{HasColours-marked}
 use Rattle.cc_heaps.specs.Keyed.{Keyed, IsInOrder}
-use Rattle.cc_heaps.specs.Parts.{heap_of}
+use Rattle.cc_heaps.specs.Parts.{heap_of, keyed_of}
 use Rattle.cc_heaps.specs.Standing.{StillStands}
 use Rattle.cc_heaps.proofs.StandingStill.{marked-still}
+use Rattle.cc_heaps.proofs.FewCounts.{few-alone}
 use Rattle.cc_heaps.proofs.heaps.Heaps.mark_scripts.Goals as goal
 
 pub returns-clause-stands : goal.returns-clause-stands
@@ -14,3 +15,6 @@ returns-clause-stands c = subst (λ (v : Keyed). IsInOrder [] v → StillStands 
 
 pub returns-clause-colours : goal.returns-clause-colours
 returns-clause-colours c = subst HasColours (sym c.mark_scripts.ensures.heap) (HasColours-marked (heap_of c.self.inside.parts))
+
+pub returns-clause-counts : goal.returns-clause-counts
+returns-clause-counts c = few-alone (keyed_of c.mark_scripts.new.self) c.mark_scripts.ensures.order

@@ -8,6 +8,7 @@ use Rattle.cc_heaps.specs.Parts.{heap_of, keyed_of}
 use Rattle.cc_heaps.proofs.Following.{Keeps, native_made-keeps}
 use Rattle.cc_heaps.specs.Standing.{StandsAfter}
 use Rattle.cc_heaps.proofs.StandingAfter.{native_made-stands}
+use Rattle.cc_heaps.proofs.FewCounts.{few-alone}
 use Rattle.cc_heaps.proofs.heaps.Heaps.new_native.Given as given
 use Rattle.cc_heaps.proofs.heaps.Heaps.new_native.Goals as goal
 
@@ -33,3 +34,6 @@ returns-clause-stands g c =
     (λ o. native_made-stands (keyed_of c.self.inside.parts) (keyed_of c.new_native.new.self) c.args.r c.args.slots Full c.ranges.r.fits c.requires.slots o
     c.new_native.result c.new_native.ensures.full_always c.new_native.ensures.heap)
     c.requires.order
+
+pub returns-clause-counts : goal.returns-clause-counts
+returns-clause-counts g c = few-alone (keyed_of c.new_native.new.self) c.new_native.ensures.order

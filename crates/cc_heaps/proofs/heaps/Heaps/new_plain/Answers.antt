@@ -8,6 +8,7 @@ use Rattle.cc_heaps.specs.Parts.{heap_of, keyed_of}
 use Rattle.cc_heaps.proofs.Following.{Keeps, object_made-keeps}
 use Rattle.cc_heaps.specs.Standing.{StandsAfter}
 use Rattle.cc_heaps.proofs.StandingAfter.{object_made-stands}
+use Rattle.cc_heaps.proofs.FewCounts.{few-alone}
 use Rattle.cc_heaps.proofs.heaps.Heaps.new_plain.Goals as goal
 
 keeps : (c : goal.After-new_plain) → Keeps c.args.self.now.heap (heap_of c.new_plain.new.self)
@@ -32,3 +33,6 @@ returns-clause-stands c =
     (λ o. object_made-stands (keyed_of c.self.inside.parts) (keyed_of c.new_plain.new.self) c.args.r c.args.slots Full c.ranges.r.fits c.requires.slots o
     c.new_plain.result c.new_plain.ensures.full_always c.new_plain.ensures.heap)
     c.requires.order
+
+pub returns-clause-counts : goal.returns-clause-counts
+returns-clause-counts c = few-alone (keyed_of c.new_plain.new.self) c.new_plain.ensures.order

@@ -5,6 +5,7 @@ use Rattle.cc_heaps.specs.Parts.{keyed_of, heap_of}
 use Rattle.cc_heaps.proofs.StandingStill.{GoesOn, add_ref-goes_on}
 use Rattle.cc_heaps.specs.Changes.{KeepsKeys}
 use Rattle.cc_heaps.proofs.KeysKept.{KeepsKeys-changed}
+use Rattle.cc_heaps.proofs.FewCounts.{few-owned}
 use Rattle.cc_heaps.proofs.heaps.Heaps.root.Goals as goal
 
 pub returns-clause-order : goal.returns-clause-order
@@ -29,3 +30,6 @@ returns-clause-colours c = (goes_on c).colours
 pub returns-clause-keys : goal.returns-clause-keys
 returns-clause-keys c = subst (λ (v : Keyed). KeepsKeys v (keyed_of c.root.new.self)) c.self.view_is
     (KeepsKeys-changed (keyed_of c.self.inside.parts) (keyed_of c.root.new.self) _ c.root.ensures.heap)
+
+pub returns-clause-counts : goal.returns-clause-counts
+returns-clause-counts c = few-owned (keyed_of c.root.new.self)

@@ -4,6 +4,7 @@ use Rattle.cc_heaps.specs.Parts.{heap_of, keyed_of}
 use Rattle.cc_heaps.proofs.StandingStill.{GoesOn, front-goes_on}
 use Rattle.cc_heaps.specs.Changes.{KeepsKeys}
 use Rattle.cc_heaps.proofs.KeysKept.{KeepsKeys-front}
+use Rattle.cc_heaps.proofs.FewCounts.{few-owned}
 use Rattle.cc_heaps.proofs.heaps.Heaps.select_next.Goals as goal
 
 pub returns-clause-order : goal.returns-clause-order
@@ -22,3 +23,6 @@ returns-clause-colours c = (goes_on c).colours
 pub returns-clause-keys : goal.returns-clause-keys
 returns-clause-keys c = subst (λ (v : Keyed). KeepsKeys v (keyed_of c.select_next.new.self)) c.self.view_is
     (KeepsKeys-front (keyed_of c.self.inside.parts) (keyed_of c.select_next.new.self) c.select_next.result c.select_next.ensures.front)
+
+pub returns-clause-counts : goal.returns-clause-counts
+returns-clause-counts c = few-owned (keyed_of c.select_next.new.self)

@@ -9,6 +9,7 @@ use Rattle.cc_heaps.proofs.Content.{native-in}
 use Rattle.cc_heaps.proofs.Following.{Keeps, hold_native-keeps}
 use Rattle.cc_heaps.proofs.StandingAfter.{native_register-stands}
 use Rattle.cc_heaps.proofs.KeysKept.{KeepsKeys-left}
+use Rattle.cc_heaps.proofs.FewCounts.{few-alone}
 use Rattle.cc_heaps.proofs.heaps.Heaps.set_native_reg.Given as given
 use Rattle.cc_heaps.proofs.heaps.Heaps.set_native_reg.Goals as goal
 
@@ -40,3 +41,6 @@ returns-clause-stands g c =
 pub returns-clause-keys : goal.returns-clause-keys
 returns-clause-keys g c = subst (λ (v : Keyed). KeepsKeys v (keyed_of c.set_native_reg.new.self)) c.self.view_is
     (KeepsKeys-left (keyed_of c.self.inside.parts) (keyed_of c.set_native_reg.new.self) _ c.set_native_reg.ensures.heap)
+
+pub returns-clause-counts : goal.returns-clause-counts
+returns-clause-counts g c = few-alone (keyed_of c.set_native_reg.new.self) c.set_native_reg.ensures.order

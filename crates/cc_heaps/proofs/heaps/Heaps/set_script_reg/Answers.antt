@@ -7,6 +7,7 @@ use Rattle.cc_heaps.specs.Changes.{script_name}
 use Rattle.cc_heaps.proofs.Following.{Keeps, hold_script-keeps, script_name-there}
 use Rattle.cc_heaps.specs.Standing.{IsReached, StandsAfter}
 use Rattle.cc_heaps.proofs.StandingAfter.{script_register-stands}
+use Rattle.cc_heaps.proofs.FewCounts.{few-alone}
 use Rattle.cc_heaps.proofs.heaps.Heaps.set_script_reg.Goals as goal
 
 keeps : (c : goal.After-set_script_reg) → Keeps c.args.self.now.heap (heap_of c.set_script_reg.new.self)
@@ -32,3 +33,6 @@ returns-clause-stands c =
     (λ o. script_register-stands (keyed_of c.self.inside.parts) (keyed_of c.set_script_reg.new.self) o c.set_script_reg.ensures.order
     c.args.r c.args.content c.set_script_reg.ensures.heap)
     c.requires.order
+
+pub returns-clause-counts : goal.returns-clause-counts
+returns-clause-counts c = few-alone (keyed_of c.set_script_reg.new.self) c.set_script_reg.ensures.order

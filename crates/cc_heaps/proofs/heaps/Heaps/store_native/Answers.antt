@@ -13,6 +13,7 @@ use Rattle.cc_heaps.specs.Parts.{heap_of, keyed_of}
 use Rattle.cc_heaps.proofs.Following.{Follows, Remembers, held-follows, held-remembers, within-named}
 use Rattle.cc_heaps.proofs.StandingAfter.{native_slot-stands}
 use Rattle.cc_heaps.proofs.KeysKept.{KeepsKeys-left}
+use Rattle.cc_heaps.proofs.FewCounts.{few-alone}
 use Rattle.cc_heaps.proofs.heaps.Heaps.store_native.Given as given
 use Rattle.cc_heaps.proofs.heaps.Heaps.store_native.Goals as goal
 
@@ -66,3 +67,6 @@ returns-clause-stands g c =
 pub returns-clause-keys : goal.returns-clause-keys
 returns-clause-keys g c = subst (λ (v : Keyed). KeepsKeys v (keyed_of c.store_native.new.self)) c.self.view_is
     (KeepsKeys-left (keyed_of c.self.inside.parts) (keyed_of c.store_native.new.self) _ c.store_native.ensures.heap)
+
+pub returns-clause-counts : goal.returns-clause-counts
+returns-clause-counts g c = few-alone (keyed_of c.store_native.new.self) c.store_native.ensures.order

@@ -9,6 +9,7 @@ use Rattle.cc_heaps.specs.Standing.{IsReached, StandsAfter}
 use Rattle.cc_heaps.specs.Parts.{heap_of, keyed_of}
 use Rattle.cc_heaps.proofs.Following.{Keeps, object_slot-keeps}
 use Rattle.cc_heaps.proofs.StandingAfter.{script_slot-stands}
+use Rattle.cc_heaps.proofs.FewCounts.{few-alone}
 use Rattle.cc_heaps.proofs.heaps.Heaps.store_script.Goals as goal
 
 keeps : (c : goal.After-store_script) → Keeps c.args.self.now.heap (heap_of c.store_script.new.self)
@@ -36,3 +37,6 @@ returns-clause-stands c =
     (λ o t. script_slot-stands (keyed_of c.self.inside.parts) (keyed_of c.store_script.new.self) o c.store_script.ensures.order
     c.args.key.0 c.args.i c.args.content t c.store_script.ensures.heap)
     c.requires.order c.requires.live
+
+pub returns-clause-counts : goal.returns-clause-counts
+returns-clause-counts c = few-alone (keyed_of c.store_script.new.self) c.store_script.ensures.order

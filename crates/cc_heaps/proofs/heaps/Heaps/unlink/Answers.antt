@@ -8,6 +8,7 @@ use Rattle.cc_heaps.specs.Standing.{StillStands}
 use Rattle.cc_heaps.proofs.StandingStill.{unlink-still, unlink-colours}
 use Rattle.cc_heaps.specs.Changes.{KeepsKeys}
 use Rattle.cc_heaps.proofs.KeysKept.{KeepsKeys-left}
+use Rattle.cc_heaps.proofs.FewCounts.{few-owned}
 use Rattle.cc_heaps.proofs.heaps.Heaps.unlink.Goals as goal
 
 pub returns-clause-order : goal.returns-clause-order
@@ -38,3 +39,6 @@ returns-clause-colours g c =
 pub returns-clause-keys : goal.returns-clause-keys
 returns-clause-keys g c = subst (λ (v : Keyed). KeepsKeys v (keyed_of c.unlink.new.self)) c.self.view_is
     (KeepsKeys-left (keyed_of c.self.inside.parts) (keyed_of c.unlink.new.self) _ c.unlink.ensures.heap)
+
+pub returns-clause-counts : goal.returns-clause-counts
+returns-clause-counts g c = few-owned (keyed_of c.unlink.new.self)

@@ -4,6 +4,7 @@ use Rattle.cc_heaps.specs.Parts.{heap_of, keyed_of}
 use Rattle.cc_heaps.proofs.StandingStill.{GoesOn, cascade-goes_on}
 use Rattle.cc_heaps.specs.Changes.{KeepsKeys}
 use Rattle.cc_heaps.proofs.KeysKept.{KeepsKeys-left}
+use Rattle.cc_heaps.proofs.FewCounts.{few-owned}
 use Rattle.cc_heaps.proofs.heaps.Heaps.unroot.Given as given
 use Rattle.cc_heaps.proofs.heaps.Heaps.unroot.Goals as goal
 
@@ -27,3 +28,6 @@ returns-clause-colours g c = (goes_on g c).colours
 pub returns-clause-keys : goal.returns-clause-keys
 returns-clause-keys g c = subst (λ (v : Keyed). KeepsKeys v (keyed_of c.release.new.self)) c.self.view_is
     (KeepsKeys-left (keyed_of c.self.inside.parts) (keyed_of c.release.new.self) _ c.release.ensures.heap)
+
+pub returns-clause-counts : goal.returns-clause-counts
+returns-clause-counts g c = few-owned (keyed_of c.release.new.self)

@@ -1,5 +1,4 @@
-use Rattle.std.proofs.Common.{arith, ◌==◌}
-use Rattle.std.proofs.lemmas.List.Sums.{count_by-le-length}
+use Rattle.std.proofs.Common.{arith}
 use Rattle.cc_heaps.specs.Keyed.{the_number}
 use Rattle.cc_heaps.specs.Parts.{keyed_of}
 use Rattle.cc_heaps.proofs.Ordered.{IsInOrder-add_ref}
@@ -11,8 +10,7 @@ pub root-requires-clause-below : goal.root-requires-clause-below
 root-requires-clause-below c =
     let p = c.args.self.now in
     let f = c.requires.owned in
-    let k = the_number (keyed_of p) c.args.key.0 in
-    omega (arith, count-fits f.0 p k f.1, f.2, count_by-le-length (λ j. j == k) f.0)
+    omega (arith, count-fits f.0 p (the_number (keyed_of p) c.args.key.0) f.1, f.2)
 
 pub root-requires-clause-owned : goal.root-requires-clause-owned
 root-requires-clause-owned c =

@@ -1,0 +1,13 @@
+-- COUNTS ARE FEW in heaps that are in order.
+use Rattle.std.proofs.Common.{[], arith}
+use Rattle.cc_laws_heap.proofs.CountBound.{count-bound}
+use Rattle.cc_heaps.specs.Keyed.{Keyed, IsInOrder}
+use Rattle.cc_heaps.specs.Few.{AreFew, AreFewIfOwnedOnce}
+
+-- where no native is owned twice
+pub few-owned : (v : Keyed) → AreFewIfOwnedOnce v
+few-owned v owned order once n m = omega (arith, count-bound owned v.heap n order.sound order.limits.0 m, once n.number)
+
+-- and where none is owned
+pub few-alone : (v : Keyed) → IsInOrder [] v → AreFew v.heap
+few-alone v order = few-owned v [] order (λ k. omega arith)
