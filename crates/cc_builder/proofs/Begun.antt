@@ -20,7 +20,7 @@ use Rattle.cc_model.specs.End.{some_are}
 use Rattle.cc_laws_heap.proofs.NameLists.{natives_in-natives}
 use Rattle.cc_graph.specs.Shown.{Vertex}
 use Rattle.cc_heaps.specs.Keyed.{Keyed, IsInOrder}
-use Rattle.cc_builder.specs.Building.{Built, IsBuilt, names_of, node_with, nodes_of, reference_of, snapshot_of}
+use Rattle.cc_builder.specs.Building.{Built, IsBuilt, vertex_names, node_with, nodes_of, reference_of, snapshot_of}
 use Rattle.cc_builder.proofs.BuildKept.{IsBuilt-with}
 use Rattle.cc_builder.proofs.BuildSnapshots.{snapshot-same}
 
@@ -121,14 +121,14 @@ with_all_last-first n xs (y ∷ ys) l =
     with_all_last-first n (with_last same_name xs y) ys one.0 ∙ one.1
 
 -- THE SNAPSHOT BEGUN
-nodes-new : (vs : List Vertex) → nodes_of zero vs ≡ map new_node (names_of vs)
+nodes-new : (vs : List Vertex) → nodes_of zero vs ≡ map new_node (vertex_names vs)
 nodes-new [] = refl
 nodes-new (v ∷ vs) = ap (λ ns. node_with untraversed v ∷ ns) (nodes-new vs)
 
 -- the candidates are the natives that were purple
 first-candidates : (b : Built) (v : Keyed) (xs : List Name) → IsInOrder [] v → xs ≡ candidate_names v.heap →
-    names_of b.graph.nodes ≡ with_all_last same_name xs (holders_of v.heap) → b.candidates ≡ length xs →
-    flat_map natives_in (names_of (take b.candidates b.graph.nodes)) ≡ candidates_of v.heap
+    vertex_names b.graph.nodes ≡ with_all_last same_name xs (holders_of v.heap) → b.candidates ≡ length xs →
+    flat_map natives_in (vertex_names (take b.candidates b.graph.nodes)) ≡ candidates_of v.heap
 first-candidates b v xs order purple names all =
     let vs = b.graph.nodes in
     let cs = candidates_of v.heap in
@@ -142,14 +142,14 @@ first-candidates b v xs order purple names all =
     ∙ natives_in-natives cs
 
 pub snapshot-begun : (b : Built) (v : Keyed) (xs : List Name) → IsInOrder [] v → xs ≡ candidate_names v.heap →
-    names_of b.graph.nodes ≡ with_all_last same_name xs (holders_of v.heap) →
+    vertex_names b.graph.nodes ≡ with_all_last same_name xs (holders_of v.heap) →
     b.next ≡ 0 → b.candidates ≡ length xs → b.graph.edges ≡ [] → snapshot_of b ≡ begun v.heap
 snapshot-begun b v xs order purple names next all edges =
     let h = v.heap in
     let vs = b.graph.nodes in
     let cs = candidates_of h in
     snapshot-same
-    (flat_map natives_in (names_of (take b.candidates vs))) cs
+    (flat_map natives_in (vertex_names (take b.candidates vs))) cs
     (nodes_of b.next vs) (map new_node (first_names h))
     (map (reference_of vs) b.graph.edges) []
     (first-candidates b v xs order purple names all)

@@ -19,18 +19,18 @@ use Rattle.cc_graph.specs.Shown.{Shown, Vertex, Edge, vertex, with_vertex}
 use Rattle.cc_script.specs.Objects.{Object}
 use Rattle.cc_heaps.specs.Keyed.{Keyed, IsInOrder, named_object}
 use Rattle.cc_heaps.specs.Changes.{IsThere}
-use Rattle.cc_builder.specs.Building.{Built, names_of, IsBuilt, WasMade}
+use Rattle.cc_builder.specs.Building.{Built, vertex_names, IsBuilt, WasMade}
 use Rattle.cc_graph.specs.Held.{AreHeld}
 use Rattle.cc_heaps.specs.HasKey.{HasKey}
-use Rattle.cc_builder.specs.BuildSteps.{the_name, with_object, with_reference}
+use Rattle.cc_builder.specs.BuildSteps.{the_name, with_vertex_of, with_reference}
 use Rattle.cc_builder.proofs.BuildNodes.{with_vertex-either, names-with_vertex}
-use Rattle.cc_builder.proofs.BuildSnapshots.{IsClosed}
+use Rattle.cc_builder.proofs.BuildSnapshots.{HasEndsWithin}
 use Rattle.cc_builder.proofs.FewObjects.{made-few}
 use Rattle.cc_builder.proofs.HeldObjects.{stands-at, StandsAt-member, native-name, object-at, IsObjectAt-member, object-among, object-name}
 use Rattle.cc_builder.proofs.Unsampled.{HasNoSample-vertex}
 
 -- what a snapshot needs of a build
-pub IsBuilt-closed : (b : Built) (v : Keyed) → IsBuilt b v → IsClosed b
+pub IsBuilt-closed : (b : Built) (v : Keyed) → IsBuilt b v → HasEndsWithin b
 IsBuilt-closed b v built = record { behind = built.behind; first = built.first; closed = built.closed }
 
 -- over the same nodes it is a build still, with other references, candidates and nodes behind, where these are right
@@ -51,7 +51,7 @@ IsBuilt-with b v edges spare candidates next built behind first closed unsampled
     }
 
 -- how often a name is that of a node
-pub named : (vs : List Vertex) (x : Name) → count_by (λ v. same_name v.name x) vs ≡ count_by (same_name x) (names_of vs)
+pub named : (vs : List Vertex) (x : Name) → count_by (λ v. same_name v.name x) vs ≡ count_by (same_name x) (vertex_names vs)
 named vs x =
     count_by-agree (λ (v : Vertex). same_name v.name x) (λ (v : Vertex). same_name x v.name) vs (λ v m. same_name-sym v.name x)
     ∙ sym (count_by-map (same_name x) (λ (v : Vertex). v.name) vs)
@@ -69,7 +69,7 @@ with_vertex-each P vs x held old new = with_vertex-either (λ ws. (n : Vertex) �
 
 -- An object becomes a node
 
-IsBuilt-object : (b : Built) (v : Keyed) (x : Name) (held : Held) → IsBuilt b v → WasMade v.heap x → IsBuilt (with_object b x held) v
+IsBuilt-object : (b : Built) (v : Keyed) (x : Name) (held : Held) → IsBuilt b v → WasMade v.heap x → IsBuilt (with_vertex_of b x held) v
 IsBuilt-object b v x held built was =
     let vs = b.graph.nodes in
     let ws = with_vertex vs x held in
@@ -93,13 +93,13 @@ IsBuilt-object b v x held built was =
     distinct y =
         let vs = b.graph.nodes in
         let ws = with_vertex vs x held in
-        let once = with_all_last-once same_name same_name-exact (names_of vs) (x ∷ []) y (subst (λ n. n ≤ 1) (named vs y) (built.distinct y)) in
+        let once = with_all_last-once same_name same_name-exact (vertex_names vs) (x ∷ []) y (subst (λ n. n ≤ 1) (named vs y) (built.distinct y)) in
         subst (λ n. n ≤ 1) (sym (named ws y ∙ ap (count_by (same_name y)) (names-with_vertex vs x held))) once
 
     made : (n : Vertex) → Among n (with_vertex b.graph.nodes x held) → WasMade v.heap n.name
     made = with_vertex-each (λ n. WasMade v.heap n.name) b.graph.nodes x held built.made was
 
-AreHeld-object : (b : Built) (v : Keyed) (x : Name) (held : Held) → AreHeld b.graph (HasKey v) → HasKey v x held → AreHeld (with_object b x held).graph (HasKey v)
+AreHeld-object : (b : Built) (v : Keyed) (x : Name) (held : Held) → AreHeld b.graph (HasKey v) → HasKey v x held → AreHeld (with_vertex_of b x held).graph (HasKey v)
 AreHeld-object b v x held are has = with_vertex-each (λ n. HasKey v n.name n.held) b.graph.nodes x held are has
 
 -- an object that is there was made, and is where its name says
@@ -144,8 +144,8 @@ pub record IsAdded (b : Built) (x : Name) (held : Held) (g : Shown) : Type 0 whe
   pub blacks : g.blacks ≡ b.graph.blacks
   pub spare : g.spare ≡ b.graph.spare
 
-IsAdded-graph : (b : Built) (x : Name) (held : Held) (g : Shown) → IsAdded b x held g → g ≡ (with_object b x held).graph
-IsAdded-graph b x held g added = graph-same g (with_object b x held).graph added.nodes added.edges added.blacks added.spare
+IsAdded-graph : (b : Built) (x : Name) (held : Held) (g : Shown) → IsAdded b x held g → g ≡ (with_vertex_of b x held).graph
+IsAdded-graph b x held g added = graph-same g (with_vertex_of b x held).graph added.nodes added.edges added.blacks added.spare
 
 pub IsAdded-built : {b c : Built} {v : Keyed} {object : Held} {g : Shown} → b ≡ c → IsBuilt c v → IsInOrder [] v → IsThere v (Some object) → IsAdded b (the_name v object) object g →
     IsBuilt (record b { graph = g }) v

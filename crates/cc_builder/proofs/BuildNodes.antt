@@ -8,21 +8,21 @@ use Rattle.cc_names.specs.Names.{native, same_name}
 use Rattle.cc_names.proofs.NameTests.{same_name-true}
 use Rattle.cc_counted.specs.declared.held.Held.{Held}
 use Rattle.cc_graph.specs.Shown.{Vertex, Edge, vertex, number_from, number_of, with_vertex}
-use Rattle.cc_builder.specs.Building.{names_of, name_at, reference_of}
+use Rattle.cc_builder.specs.Building.{vertex_names, vertex_name, reference_of}
 
 -- a node of a name has a number where the name stands among the names
-number_from-has : (i : ℕ) (vs : List Vertex) (x : Name) → is_some (number_from i vs x) ≡ has same_name (names_of vs) x
+number_from-has : (i : ℕ) (vs : List Vertex) (x : Name) → is_some (number_from i vs x) ≡ has same_name (vertex_names vs) x
 number_from-has i [] x = refl
 number_from-has i (v ∷ vs) x = go (number_from-has (suc i) vs x) (same_name v.name x)
   where
-    go : is_some (number_from (suc i) vs x) ≡ has same_name (names_of vs) x → (b : Bool) →
-        is_some (elim b [ true ↦ Some i | false ↦ number_from (suc i) vs x ]) ≡ b || has same_name (names_of vs) x
+    go : is_some (number_from (suc i) vs x) ≡ has same_name (vertex_names vs) x → (b : Bool) →
+        is_some (elim b [ true ↦ Some i | false ↦ number_from (suc i) vs x ]) ≡ b || has same_name (vertex_names vs) x
     go ih true = refl
     go ih false = ih
 
 -- what holds of the nodes as they are and with a new one last holds once a name has its node
 pub with_vertex-either : (P : List Vertex → Type 0) (vs : List Vertex) (x : Name) (held : Held) →
-    (has same_name (names_of vs) x ≡ true → P vs) → (has same_name (names_of vs) x ≡ false → P (vs ++ vertex x held ∷ [])) → P (with_vertex vs x held)
+    (has same_name (vertex_names vs) x ≡ true → P vs) → (has same_name (vertex_names vs) x ≡ false → P (vs ++ vertex x held ∷ [])) → P (with_vertex vs x held)
 with_vertex-either P vs x held there new = go (number_of vs x) refl
   where
     go : (o : Option ℕ) → number_of vs x ≡ o → P (elim o [ Some i ↦ vs | None ↦ vs ++ vertex x held ∷ [] ])
@@ -30,37 +30,37 @@ with_vertex-either P vs x held there new = go (number_of vs x) refl
     go None e = new (sym (number_from-has 0 vs x) ∙ ap is_some e)
 
 -- the names then
-pub names-with_vertex : (vs : List Vertex) (x : Name) (held : Held) → names_of (with_vertex vs x held) ≡ with_last same_name (names_of vs) x
-names-with_vertex vs x held = with_vertex-either (λ ws. names_of ws ≡ with_last same_name (names_of vs) x) vs x held
-    (λ e. sym (ap (λ b. elim b [ true ↦ names_of vs | false ↦ names_of vs ++ x ∷ [] ]) e))
-    (λ e. map_push (λ (v : Vertex). v.name) vs (vertex x held) ∙ sym (ap (λ b. elim b [ true ↦ names_of vs | false ↦ names_of vs ++ x ∷ [] ]) e))
+pub names-with_vertex : (vs : List Vertex) (x : Name) (held : Held) → vertex_names (with_vertex vs x held) ≡ with_last same_name (vertex_names vs) x
+names-with_vertex vs x held = with_vertex-either (λ ws. vertex_names ws ≡ with_last same_name (vertex_names vs) x) vs x held
+    (λ e. sym (ap (λ b. elim b [ true ↦ vertex_names vs | false ↦ vertex_names vs ++ x ∷ [] ]) e))
+    (λ e. map_push (λ (v : Vertex). v.name) vs (vertex x held) ∙ sym (ap (λ b. elim b [ true ↦ vertex_names vs | false ↦ vertex_names vs ++ x ∷ [] ]) e))
 
 -- the node of a number has the name that it is the number of
 number_from-at : (i : ℕ) (vs : List Vertex) (x : Name) (j : ℕ) → number_from i vs x ≡ Some j →
-    (k : ℕ) × (j ≡ i + k) × (k < length vs) × (name_at vs k ≡ x)
+    (k : ℕ) × (j ≡ i + k) × (k < length vs) × (vertex_name vs k ≡ x)
 number_from-at i [] x j e = absurd (cc)
 number_from-at i (v ∷ vs) x j e = go (number_from-at (suc i) vs x j) (same_name v.name x) refl e
   where
-    go : (number_from (suc i) vs x ≡ Some j → (k : ℕ) × (j ≡ suc i + k) × (k < length vs) × (name_at vs k ≡ x)) →
+    go : (number_from (suc i) vs x ≡ Some j → (k : ℕ) × (j ≡ suc i + k) × (k < length vs) × (vertex_name vs k ≡ x)) →
         (b : Bool) → same_name v.name x ≡ b → elim b [ true ↦ Some i | false ↦ number_from (suc i) vs x ] ≡ Some j →
-        (k : ℕ) × (j ≡ i + k) × (k < length (v ∷ vs)) × (name_at (v ∷ vs) k ≡ x)
+        (k : ℕ) × (j ≡ i + k) × (k < length (v ∷ vs)) × (vertex_name (v ∷ vs) k ≡ x)
     go ih true t f = let same : i ≡ j = cc in (0, omega arith, omega arith, same_name-true v.name x t)
     go ih false t f = let k = ih f in (suc k.0, omega (arith, k.1), omega (arith, k.2), k.3)
 
-pub number_of-at : (vs : List Vertex) (x : Name) (i : ℕ) → number_of vs x ≡ Some i → (i < length vs) × (name_at vs i ≡ x)
+pub number_of-at : (vs : List Vertex) (x : Name) (i : ℕ) → number_of vs x ≡ Some i → (i < length vs) × (vertex_name vs i ≡ x)
 number_of-at vs x i e =
     let k = number_from-at 0 vs x i e in
     let same : k.0 ≡ i = omega (arith, k.1) in
-    subst (λ j. (j < length vs) × (name_at vs j ≡ x)) same (k.2, k.3)
+    subst (λ j. (j < length vs) × (vertex_name vs j ≡ x)) same (k.2, k.3)
 
 -- a node keeps its name where others go last
-pub name_at-append : (vs ws : List Vertex) (i : ℕ) → i < length vs → name_at (vs ++ ws) i ≡ name_at vs i
-name_at-append vs ws i l = rw names (get_or-append (names_of vs) (names_of ws) (native 0) i (subst (λ n. i < n) (sym (length-map vs (λ (v : Vertex). v.name))) l))
+pub vertex_name-append : (vs ws : List Vertex) (i : ℕ) → i < length vs → vertex_name (vs ++ ws) i ≡ vertex_name vs i
+vertex_name-append vs ws i l = rw names (get_or-append (vertex_names vs) (vertex_names ws) (native 0) i (subst (λ n. i < n) (sym (length-map vs (λ (v : Vertex). v.name))) l))
   where
-    names : names_of (vs ++ ws) ≡ names_of vs ++ names_of ws
+    names : vertex_names (vs ++ ws) ≡ vertex_names vs ++ vertex_names ws
     names = names-append vs
       where
-        names-append : (us : List Vertex) → names_of (us ++ ws) ≡ names_of us ++ names_of ws
+        names-append : (us : List Vertex) → vertex_names (us ++ ws) ≡ vertex_names us ++ vertex_names ws
         names-append [] = refl
         names-append (u ∷ us) = ap (λ xs. u.name ∷ xs) (names-append us)
 
@@ -70,14 +70,14 @@ pub references-append : (vs ws : List Vertex) (es : List Edge) → ((e : Edge) �
 references-append vs ws [] closed = refl
 references-append vs ws (e ∷ es) closed =
     let here = closed e (inl refl) in
-    let source = name_at-append vs ws e.source here.0 in
-    let target = name_at-append vs ws e.target here.1 in
-    ap (λ (r : Name × Name). r ∷ map (reference_of (vs ++ ws)) es) (ap (λ y. pair_of (name_at (vs ++ ws) e.source) y) target ∙ ap (λ x. pair_of x (name_at vs e.target)) source)
+    let source = vertex_name-append vs ws e.source here.0 in
+    let target = vertex_name-append vs ws e.target here.1 in
+    ap (λ (r : Name × Name). r ∷ map (reference_of (vs ++ ws)) es) (ap (λ y. pair_of (vertex_name (vs ++ ws) e.source) y) target ∙ ap (λ x. pair_of x (vertex_name vs e.target)) source)
     ∙ ap (λ rs. reference_of vs e ∷ rs) (references-append vs ws es (λ f m. closed f (inr m)))
   where
     pair_of : Name → Name → Name × Name
     pair_of x y = (x, y)
 
 -- and the first nodes
-pub first-append : (vs ws : List Vertex) (n : ℕ) → n ≤ length vs → names_of (take n (vs ++ ws)) ≡ names_of (take n vs)
-first-append vs ws n l = ap names_of (take-append-le n vs ws l)
+pub first-append : (vs ws : List Vertex) (n : ℕ) → n ≤ length vs → vertex_names (take n (vs ++ ws)) ≡ vertex_names (take n vs)
+first-append vs ws n l = ap vertex_names (take-append-le n vs ws l)

@@ -13,7 +13,7 @@ use Rattle.cc_counted.specs.Counts.{Counts}
 use Rattle.cc_counted.specs.Counts as counts
 use Rattle.cc_graph.specs.Shown.{Vertex}
 use Rattle.cc_heaps.specs.Keyed.{Keyed, counts_of, number_at, the_number}
-use Rattle.cc_builder.specs.Building.{Built, name_at}
+use Rattle.cc_builder.specs.Building.{Built, vertex_name}
 use Rattle.cc_graph.specs.Held.{AreHeld}
 use Rattle.cc_heaps.specs.HasKey.{HasKey}
 
@@ -64,7 +64,7 @@ slice_get-among (y ∷ ys) (suc i) x e = inr (slice_get-among ys i x e)
 IsNodeAt-among : {vs : List Vertex} {i : ℕ} {x : Name} {y : Held} (n : IsNodeAt vs i x y) → Among n.node vs
 IsNodeAt-among {vs} {i} n = slice_get-among vs i n.node n.at
 
-pub IsNodeAt-name : {vs : List Vertex} {i : ℕ} {x : Name} {y : Held} → IsNodeAt vs i x y → name_at vs i ≡ x
+pub IsNodeAt-name : {vs : List Vertex} {i : ℕ} {x : Name} {y : Held} → IsNodeAt vs i x y → vertex_name vs i ≡ x
 IsNodeAt-name {vs} {i} {x} n =
     get_or_from_slice_get (map_names vs) i x (native 0)
     (slice_get-map (λ (v : Vertex). v.name) vs i ∙ ap (option_map (λ (v : Vertex). v.name)) n.at ∙ ap Some n.name)
@@ -73,17 +73,17 @@ IsNodeAt-name {vs} {i} {x} n =
     map_names ws = map (λ (v : Vertex). v.name) ws
 
 -- the native of a node stands at its key
-pub native-there : {vs : List Vertex} {i k : ℕ} {y : Held} {o : Option ℕ} → IsNodeAt vs i (native k) y → o ≡ Some k → option_map native o ≡ Some (name_at vs i)
+pub native-there : {vs : List Vertex} {i k : ℕ} {y : Held} {o : Option ℕ} → IsNodeAt vs i (native k) y → o ≡ Some k → option_map native o ≡ Some (vertex_name vs i)
 native-there n at = ap (option_map native) at ∙ ap Some (sym (IsNodeAt-name n))
 
 -- a node has its object's key
-pub node-key : (b : Built) (v : Keyed) {i : ℕ} {x : Name} {y z : Held} → AreHeld b.graph (HasKey v) → IsNodeAt b.graph.nodes i x y → y ≡ z → HasKey v (name_at b.graph.nodes i) z
+pub node-key : (b : Built) (v : Keyed) {i : ℕ} {x : Name} {y z : Held} → AreHeld b.graph (HasKey v) → IsNodeAt b.graph.nodes i x y → y ≡ z → HasKey v (vertex_name b.graph.nodes i) z
 node-key b v {z = z} are n same =
     subst (λ w. HasKey v w z) (n.name ∙ sym (IsNodeAt-name n)) (subst (λ w. HasKey v n.node.name w) (n.held ∙ same) (are n.node (IsNodeAt-among n)))
 
 -- the native is no more
 pub native-gone : (b : Built) (v : Keyed) {i k : ℕ} {y : Held} {key : NKey} → AreHeld b.graph (HasKey v) → IsNodeAt b.graph.nodes i (native k) y → y ≡ held.Native key →
-    number_at v key.0 ≢ Some k → ¬ (Among (name_at b.graph.nodes i) (native_names v.heap))
+    number_at v key.0 ≢ Some k → ¬ (Among (vertex_name b.graph.nodes i) (native_names v.heap))
 native-gone b v {k = k} are n same other m =
     let named = IsNodeAt-name n in
     other ((node-key b v are n same).1 k named (subst (λ z. Among z (native_names v.heap)) named m))

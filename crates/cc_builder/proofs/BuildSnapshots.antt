@@ -9,9 +9,9 @@ use Rattle.cc_model.specs.Snapshot.{Node, Snapshot, traversed}
 use Rattle.cc_model.specs.Units.{with_state, with_node, passed_over}
 use Rattle.cc_counted.specs.declared.held.Held.{Held}
 use Rattle.cc_graph.specs.Shown.{Vertex, Edge, vertex, number_of, with_vertex}
-use Rattle.cc_builder.specs.Building.{Built, names_of, name_at, nodes_of, reference_of, snapshot_of}
-use Rattle.cc_builder.specs.BuildSteps.{with_object, with_reference, with_next_passed, sampled_at, noting_one}
-use Rattle.cc_builder.proofs.BuildNodes.{with_vertex-either, references-append, first-append, name_at-append, number_of-at}
+use Rattle.cc_builder.specs.Building.{Built, vertex_names, vertex_name, nodes_of, reference_of, snapshot_of}
+use Rattle.cc_builder.specs.BuildSteps.{with_vertex_of, with_reference, with_next_passed, sampled_at, noting_one}
+use Rattle.cc_builder.proofs.BuildNodes.{with_vertex-either, references-append, first-append, vertex_name-append, number_of-at}
 use Rattle.cc_builder.proofs.BuildStates.{IsSampleOf, nodes-with_vertex, nodes-traversed, nodes-passed, names-passed}
 
 -- a snapshot by its parts
@@ -23,22 +23,22 @@ pub snapshot-same : (cs ds : List ℕ) (ns ms : List Node) (rs qs : List (Name �
 snapshot-same cs ds ns ms rs qs e f g = ap (λ c. parts c ns rs) e ∙ ap (λ n. parts ds n rs) f ∙ ap (λ r. parts ds ms r) g
 
 -- THE NODES CLOSE THE REFERENCES, as the building keeps it
-pub record IsClosed (b : Built) : Type 0 where
+pub record HasEndsWithin (b : Built) : Type 0 where
   pub behind : b.next ≤ length b.graph.nodes
   pub first : b.candidates ≤ length b.graph.nodes
   pub closed : (e : Edge) → Among e b.graph.edges → (e.source < length b.graph.nodes) × (e.target < length b.graph.nodes)
 
 -- an object becomes a node
-snapshot-with_object : (b : Built) (x : Name) (held : Held) → IsClosed b →
-    snapshot_of (with_object b x held) ≡ record (snapshot_of b) { nodes = with_node (snapshot_of b).nodes x }
-snapshot-with_object b x held c =
+snapshot-with_vertex_of : (b : Built) (x : Name) (held : Held) → HasEndsWithin b →
+    snapshot_of (with_vertex_of b x held) ≡ record (snapshot_of b) { nodes = with_node (snapshot_of b).nodes x }
+snapshot-with_vertex_of b x held c =
     let vs = b.graph.nodes in
     let ws = with_vertex vs x held in
     snapshot-same
-    (flat_map natives_in (names_of (take b.candidates ws))) (flat_map natives_in (names_of (take b.candidates vs)))
+    (flat_map natives_in (vertex_names (take b.candidates ws))) (flat_map natives_in (vertex_names (take b.candidates vs)))
     (nodes_of b.next ws) (with_node (nodes_of b.next vs) x)
     (map (reference_of ws) b.graph.edges) (map (reference_of vs) b.graph.edges)
-    (ap (flat_map natives_in) (with_vertex-either (λ us. names_of (take b.candidates us) ≡ names_of (take b.candidates vs)) vs x held
+    (ap (flat_map natives_in) (with_vertex-either (λ us. vertex_names (take b.candidates us) ≡ vertex_names (take b.candidates vs)) vs x held
     (λ _. refl) (λ _. first-append vs (vertex x held ∷ []) b.candidates c.first)))
     (nodes-with_vertex b.next vs x held c.behind)
     (with_vertex-either (λ us. map (reference_of us) b.graph.edges ≡ map (reference_of vs) b.graph.edges) vs x held
@@ -46,27 +46,27 @@ snapshot-with_object b x held c =
 
 -- a reference is noted
 snapshot-with_reference : (b : Built) (i j : ℕ) →
-    snapshot_of (with_reference b i j) ≡ record (snapshot_of b) { references = (snapshot_of b).references ++ (name_at b.graph.nodes i, name_at b.graph.nodes j) ∷ [] }
+    snapshot_of (with_reference b i j) ≡ record (snapshot_of b) { references = (snapshot_of b).references ++ (vertex_name b.graph.nodes i, vertex_name b.graph.nodes j) ∷ [] }
 snapshot-with_reference b i j =
     let e : Edge = record { source = i; target = j } in
     ap (λ rs. record (snapshot_of b) { references = rs }) (map_push (reference_of b.graph.nodes) b.graph.edges e)
 
 -- references and first nodes go by names
-references-names : (vs ws : List Vertex) (es : List Edge) → names_of ws ≡ names_of vs → map (reference_of ws) es ≡ map (reference_of vs) es
+references-names : (vs ws : List Vertex) (es : List Edge) → vertex_names ws ≡ vertex_names vs → map (reference_of ws) es ≡ map (reference_of vs) es
 references-names vs ws es e = ap (λ xs. map (λ (r : Edge). (slice_index_or xs r.source (native 0), slice_index_or xs r.target (native 0))) es) e
 
-pub first-names : (vs ws : List Vertex) (n : ℕ) → names_of ws ≡ names_of vs → names_of (take n ws) ≡ names_of (take n vs)
+pub first-names : (vs ws : List Vertex) (n : ℕ) → vertex_names ws ≡ vertex_names vs → vertex_names (take n ws) ≡ vertex_names (take n vs)
 first-names vs ws n e = sym (take-map (λ (v : Vertex). v.name) n ws) ∙ ap (take n) e ∙ take-map (λ (v : Vertex). v.name) n vs
 
 -- the next node is traversed
-pub snapshot-traversed : (b : Built) (count : Option ℕ) → b.next < length b.graph.nodes → IsSampleOf count (name_at b.graph.nodes b.next) →
+pub snapshot-traversed : (b : Built) (count : Option ℕ) → b.next < length b.graph.nodes → IsSampleOf count (vertex_name b.graph.nodes b.next) →
     snapshot_of (with_next_passed count b) ≡ record (snapshot_of b) { nodes = with_state (traversed count) (snapshot_of b).nodes }
 snapshot-traversed b count l e =
     let vs = b.graph.nodes in
     let ws = sampled_at vs b.next count in
     let names = names-passed vs b.next count in
     snapshot-same
-    (flat_map natives_in (names_of (take b.candidates ws))) (flat_map natives_in (names_of (take b.candidates vs)))
+    (flat_map natives_in (vertex_names (take b.candidates ws))) (flat_map natives_in (vertex_names (take b.candidates vs)))
     (nodes_of (b.next + 1) ws) (with_state (traversed count) (nodes_of b.next vs))
     (map (reference_of ws) b.graph.edges) (map (reference_of vs) b.graph.edges)
     (ap (flat_map natives_in) (first-names vs ws b.candidates names))
@@ -82,20 +82,20 @@ snapshot-passed b v at e f =
 -- An object becomes a node, and a reference to it is noted
 
 -- a node keeps its name
-name_at-with_vertex : (vs : List Vertex) (x : Name) (held : Held) (i : ℕ) → i < length vs → name_at (with_vertex vs x held) i ≡ name_at vs i
-name_at-with_vertex vs x held i l = with_vertex-either (λ ws. name_at ws i ≡ name_at vs i) vs x held (λ _. refl) (λ _. name_at-append vs (vertex x held ∷ []) i l)
+vertex_name-with_vertex : (vs : List Vertex) (x : Name) (held : Held) (i : ℕ) → i < length vs → vertex_name (with_vertex vs x held) i ≡ vertex_name vs i
+vertex_name-with_vertex vs x held i l = with_vertex-either (λ ws. vertex_name ws i ≡ vertex_name vs i) vs x held (λ _. refl) (λ _. vertex_name-append vs (vertex x held ∷ []) i l)
 
 abbrev referred : Snapshot → Name → Name → Snapshot
 referred s x y = record s { references = s.references ++ (x, y) ∷ [] }
 
-pub snapshot-noted : (b c : Built) (x : Name) (held : Held) (i j : ℕ) → c ≡ with_object b x held → IsClosed b → i < length b.graph.nodes →
-    number_of c.graph.nodes x ≡ Some j → snapshot_of (with_reference c i j) ≡ noting_one (snapshot_of b) (name_at b.graph.nodes i) x
+pub snapshot-noted : (b c : Built) (x : Name) (held : Held) (i j : ℕ) → c ≡ with_vertex_of b x held → HasEndsWithin b → i < length b.graph.nodes →
+    number_of c.graph.nodes x ≡ Some j → snapshot_of (with_reference c i j) ≡ noting_one (snapshot_of b) (vertex_name b.graph.nodes i) x
 snapshot-noted b c x held i j same closed l found =
-    let d = with_object b x held in
+    let d = with_vertex_of b x held in
     let ws = d.graph.nodes in
-    let at : name_at ws j ≡ x = (number_of-at ws x j (subst (λ (a : Built). number_of a.graph.nodes x ≡ Some j) same found)).1 in
+    let at : vertex_name ws j ≡ x = (number_of-at ws x j (subst (λ (a : Built). number_of a.graph.nodes x ≡ Some j) same found)).1 in
     ap (λ (a : Built). snapshot_of (with_reference a i j)) same
     ∙ snapshot-with_reference d i j
-    ∙ ap (λ s. referred s (name_at ws i) (name_at ws j)) (snapshot-with_object b x held closed)
-    ∙ ap (λ y. referred (record (snapshot_of b) { nodes = with_node (snapshot_of b).nodes x }) y (name_at ws j)) (name_at-with_vertex b.graph.nodes x held i l)
-    ∙ ap (λ y. referred (record (snapshot_of b) { nodes = with_node (snapshot_of b).nodes x }) (name_at b.graph.nodes i) y) at
+    ∙ ap (λ s. referred s (vertex_name ws i) (vertex_name ws j)) (snapshot-with_vertex_of b x held closed)
+    ∙ ap (λ y. referred (record (snapshot_of b) { nodes = with_node (snapshot_of b).nodes x }) y (vertex_name ws j)) (vertex_name-with_vertex b.graph.nodes x held i l)
+    ∙ ap (λ y. referred (record (snapshot_of b) { nodes = with_node (snapshot_of b).nodes x }) (vertex_name b.graph.nodes i) y) at

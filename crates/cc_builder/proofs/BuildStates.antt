@@ -7,12 +7,12 @@ use Rattle.cc_model.specs.Snapshot.{NodeState, untraversed, gone, traversed, Nod
 use Rattle.cc_model.specs.Units.{is_untraversed, first_untraversed, new_node, with_state, with_node}
 use Rattle.cc_counted.specs.declared.held.Held.{Held}
 use Rattle.cc_graph.specs.Shown.{Vertex, vertex, with_vertex, with_sample, change_vertex}
-use Rattle.cc_builder.specs.Building.{node_with, nodes_of, names_of, name_at, state_behind, state_by_sample}
+use Rattle.cc_builder.specs.Building.{node_with, nodes_of, vertex_names, vertex_name, state_behind, state_by_sample}
 use Rattle.cc_builder.specs.BuildSteps.{sampled_at}
 use Rattle.cc_builder.proofs.BuildNodes.{with_vertex-either}
 
 -- the names of the nodes
-names-nodes_of : (next : ℕ) (vs : List Vertex) → map (λ (n : Node). n.name) (nodes_of next vs) ≡ names_of vs
+names-nodes_of : (next : ℕ) (vs : List Vertex) → map (λ (n : Node). n.name) (nodes_of next vs) ≡ vertex_names vs
 names-nodes_of next [] = refl
 names-nodes_of zero (v ∷ vs) = ap (λ xs. v.name ∷ xs) (names-nodes_of zero vs)
 names-nodes_of (suc next) (v ∷ vs) = ap (λ xs. v.name ∷ xs) (names-nodes_of next vs)
@@ -53,7 +53,7 @@ behind-done v = by_kind (is_native v.name)
     by_kind true = by_sample v.sampled
     by_kind false = refl
 
-pub first-some : (next : ℕ) (vs : List Vertex) → next < length vs → first_untraversed (nodes_of next vs) ≡ Some (name_at vs next)
+pub first-some : (next : ℕ) (vs : List Vertex) → next < length vs → first_untraversed (nodes_of next vs) ≡ Some (vertex_name vs next)
 first-some next [] l = absurd (omega arith)
 first-some zero (v ∷ vs) l = refl
 first-some (suc next) (v ∷ vs) l =
@@ -66,13 +66,13 @@ first-none (suc next) (v ∷ vs) l =
     ap (λ b. elim b [ true ↦ Some v.name | false ↦ first_untraversed (nodes_of next vs) ]) (behind-done v) ∙ first-none next vs (omega arith)
 
 -- the same nodes with other samples have the same names
-names-sampled : (vs : List Vertex) (i count : ℕ) → names_of (change_vertex vs i (with_sample count)) ≡ names_of vs
+names-sampled : (vs : List Vertex) (i count : ℕ) → vertex_names (change_vertex vs i (with_sample count)) ≡ vertex_names vs
 names-sampled [] i count = refl
 names-sampled (v ∷ vs) zero count = refl
 names-sampled (v ∷ vs) (suc i) count = go (slice_get vs i) (names-sampled vs i count)
   where
-    go : (o : Option Vertex) → names_of (elim o [ None ↦ vs | Some w ↦ set vs i (with_sample count w) ]) ≡ names_of vs →
-        names_of (elim o [ None ↦ v ∷ vs | Some w ↦ set (v ∷ vs) (suc i) (with_sample count w) ]) ≡ v.name ∷ names_of vs
+    go : (o : Option Vertex) → vertex_names (elim o [ None ↦ vs | Some w ↦ set vs i (with_sample count w) ]) ≡ vertex_names vs →
+        vertex_names (elim o [ None ↦ v ∷ vs | Some w ↦ set (v ∷ vs) (suc i) (with_sample count w) ]) ≡ v.name ∷ vertex_names vs
     go None e = refl
     go (Some w) e = ap (λ xs. v.name ∷ xs) e
 
@@ -95,7 +95,7 @@ native-behind : (v : Vertex) → is_native v.name ≡ true → state_behind v �
 native-behind v e = ap (λ b. elim b [ true ↦ state_by_sample v.sampled | false ↦ traversed None ]) e
 
 -- the first native that is not behind is sampled: it is traversed with its count
-nodes-sampled : (next : ℕ) (vs : List Vertex) (count : ℕ) → next < length vs → is_native (name_at vs next) ≡ true →
+nodes-sampled : (next : ℕ) (vs : List Vertex) (count : ℕ) → next < length vs → is_native (vertex_name vs next) ≡ true →
     nodes_of (suc next) (change_vertex vs next (with_sample count)) ≡ with_state (traversed (Some count)) (nodes_of next vs)
 nodes-sampled next [] count l e = absurd (omega arith)
 nodes-sampled zero (v ∷ vs) count l e = ap (λ state. node_with state v ∷ nodes_of zero vs) (native-behind (with_sample count v) e)
@@ -123,7 +123,7 @@ abbrev pub IsSampleOf : Option ℕ → Name → Type 0
 IsSampleOf (Some count) x = is_native x ≡ true
 IsSampleOf None x = is_native x ≡ false
 
-pub names-passed : (vs : List Vertex) (i : ℕ) (count : Option ℕ) → names_of (sampled_at vs i count) ≡ names_of vs
+pub names-passed : (vs : List Vertex) (i : ℕ) (count : Option ℕ) → vertex_names (sampled_at vs i count) ≡ vertex_names vs
 names-passed vs i None = refl
 names-passed vs i (Some count) = names-sampled vs i count
 
@@ -132,7 +132,7 @@ script-behind : (v : Vertex) → is_native v.name ≡ false → state_behind v �
 script-behind v e = ap (λ b. elim b [ true ↦ state_by_sample v.sampled | false ↦ traversed None ]) e
 
 -- the first script object that is not behind is traversed as soon as it is behind
-script-passed : (next : ℕ) (vs : List Vertex) → next < length vs → is_native (name_at vs next) ≡ false →
+script-passed : (next : ℕ) (vs : List Vertex) → next < length vs → is_native (vertex_name vs next) ≡ false →
     nodes_of (suc next) vs ≡ with_state (traversed None) (nodes_of next vs)
 script-passed next [] l e = absurd (omega arith)
 script-passed zero (v ∷ vs) l e = ap (λ state. node_with state v ∷ nodes_of zero vs) (script-behind v e)
@@ -140,7 +140,7 @@ script-passed (suc next) (v ∷ vs) l e =
     ap (λ ns. node_with (state_behind v) v ∷ ns) (script-passed next vs (omega arith) e)
     ∙ sym (with_state-behind (traversed None) v (nodes_of next vs))
 
-pub nodes-traversed : (next : ℕ) (vs : List Vertex) (count : Option ℕ) → next < length vs → IsSampleOf count (name_at vs next) →
+pub nodes-traversed : (next : ℕ) (vs : List Vertex) (count : Option ℕ) → next < length vs → IsSampleOf count (vertex_name vs next) →
     nodes_of (suc next) (sampled_at vs next count) ≡ with_state (traversed count) (nodes_of next vs)
 nodes-traversed next vs None l e = script-passed next vs l e
 nodes-traversed next vs (Some count) l e = nodes-sampled next vs count l e

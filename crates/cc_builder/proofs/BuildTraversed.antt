@@ -9,7 +9,7 @@ use Rattle.cc_names.specs.declared.name.Name.{Name}
 use Rattle.cc_names.specs.Names.{native, is_native, natives_in, same_name}
 use Rattle.cc_graph.specs.Shown.{Vertex, with_sample, change_vertex}
 use Rattle.cc_heaps.specs.Keyed.{Keyed}
-use Rattle.cc_builder.specs.Building.{Built, IsBuilt, WasMade, name_at, snapshot_of}
+use Rattle.cc_builder.specs.Building.{Built, IsBuilt, WasMade, vertex_name, snapshot_of}
 use Rattle.cc_graph.specs.Held.{AreHeld}
 use Rattle.cc_heaps.specs.HasKey.{HasKey}
 use Rattle.cc_builder.specs.BuildSteps.{noting, sampled_at, with_next_passed, with_room}
@@ -70,14 +70,14 @@ passed-drop vs i None = refl
 passed-drop vs i (Some c) = change_vertex-drop vs i (with_sample c)
 
 -- a node keeps its name
-name_at-passed : (vs : List Vertex) (i : ℕ) (count : Option ℕ) (j : ℕ) → name_at (sampled_at vs i count) j ≡ name_at vs j
-name_at-passed vs i count j = ap (λ xs. slice_index_or xs j (native 0)) (names-passed vs i count)
+vertex_name-passed : (vs : List Vertex) (i : ℕ) (count : Option ℕ) (j : ℕ) → vertex_name (sampled_at vs i count) j ≡ vertex_name vs j
+vertex_name-passed vs i count j = ap (λ xs. slice_index_or xs j (native 0)) (names-passed vs i count)
 
 sampled-native : (count : Option ℕ) (x : Name) → IsSampleOf count x → IsSome count → is_native x ≡ true
 sampled-native None x kind some = absurd (cc)
 sampled-native (Some c) x kind some = kind
 
-pub IsBuilt-traversed : (b : Built) (v : Keyed) (count : Option ℕ) → IsBuilt b v → b.next < length b.graph.nodes → IsSampleOf count (name_at b.graph.nodes b.next) →
+pub IsBuilt-traversed : (b : Built) (v : Keyed) (count : Option ℕ) → IsBuilt b v → b.next < length b.graph.nodes → IsSampleOf count (vertex_name b.graph.nodes b.next) →
     IsBuilt (with_next_passed count b) v
 IsBuilt-traversed b v count built l kind =
     let vs = b.graph.nodes in
@@ -92,7 +92,7 @@ IsBuilt-traversed b v count built l kind =
       closed = λ e m. let old = built.closed e m in (omega (arith, old.0, many), omega (arith, old.1, many));
       no_blacks = built.no_blacks;
       unsampled = λ n m. unsampled-more b v built n (subst (λ us. Among n us) (passed-drop vs b.next count) m);
-      uncounted = HasNoSample-passed vs b.next count (sampled-native count (name_at vs b.next) kind) built.uncounted;
+      uncounted = HasNoSample-passed vs b.next count (sampled-native count (vertex_name vs b.next) kind) built.uncounted;
     }
 
 pub AreHeld-traversed : (b : Built) (v : Keyed) (count : Option ℕ) → AreHeld b.graph (HasKey v) → AreHeld (with_next_passed count b).graph (HasKey v)
@@ -120,11 +120,11 @@ candidates-traversed b d e count q r =
     ∙ ap (flat_map natives_in) (first-names b.graph.nodes (sampled_at b.graph.nodes b.next count) b.candidates (names-passed b.graph.nodes b.next count))
 
 pub noting-traversed : (b d e : Built) (count now : Option ℕ) (node : ℕ) (ys : List Name) → d ≡ with_room d.graph.spare b → e ≡ with_next_passed count d → node ≡ b.next → count ≡ now →
-    noting (snapshot_of e) (name_at e.graph.nodes node) ys ≡ noting (snapshot_of (with_next_passed now b)) (name_at b.graph.nodes b.next) ys
+    noting (snapshot_of e) (vertex_name e.graph.nodes node) ys ≡ noting (snapshot_of (with_next_passed now b)) (vertex_name b.graph.nodes b.next) ys
 noting-traversed b d e count now node ys q r at same =
     let ws = sampled_at b.graph.nodes b.next count in
     let s = snapshot_of (with_next_passed count b) in
-    ap (λ (a : Built). noting (snapshot_of a) (name_at a.graph.nodes node) ys) (r ∙ ap (with_next_passed count) q)
-    ∙ ap (λ n. noting s (name_at ws n) ys) at
-    ∙ ap (λ x. noting s x ys) (name_at-passed b.graph.nodes b.next count b.next)
-    ∙ ap (λ n. noting (snapshot_of (with_next_passed n b)) (name_at b.graph.nodes b.next) ys) same
+    ap (λ (a : Built). noting (snapshot_of a) (vertex_name a.graph.nodes node) ys) (r ∙ ap (with_next_passed count) q)
+    ∙ ap (λ n. noting s (vertex_name ws n) ys) at
+    ∙ ap (λ x. noting s x ys) (vertex_name-passed b.graph.nodes b.next count b.next)
+    ∙ ap (λ n. noting (snapshot_of (with_next_passed n b)) (vertex_name b.graph.nodes b.next) ys) same

@@ -10,7 +10,7 @@ use Rattle.cc_counted.specs.declared.held.Held.{Held}
 use Rattle.cc_counted.specs.declared.held.Held.TheVariants as held
 use Rattle.cc_heaps.specs.Keyed.{Keyed, IsInOrder}
 use Rattle.cc_heaps.specs.Changes.{IsThere}
-use Rattle.cc_builder.specs.Building.{Built, IsBuilt, IsNodeUnit, name_at, snapshot_of}
+use Rattle.cc_builder.specs.Building.{Built, IsBuilt, IsNodeUnit, vertex_name, snapshot_of}
 use Rattle.cc_graph.specs.Held.{AreHeld}
 use Rattle.cc_heaps.specs.HasKey.{HasKey}
 use Rattle.cc_builder.specs.BuildSteps.{contents_at, noting, sample_of, the_name, with_next_passed}
@@ -24,12 +24,12 @@ pub note-named : (v : Keyed) (object : Held) (x : Name) → IsInOrder [] v → I
 note-named v object x order there named = ap (to_note v.heap) (sym named) ∙ note-there v object order there
 
 pub traversed-unit : (b d : Built) (v : Keyed) (object : Held) → IsInOrder [] v → b.next < length b.graph.nodes →
-    IsThere v (Some object) → the_name v object ≡ name_at b.graph.nodes b.next →
-    snapshot_of d ≡ noting (snapshot_of (with_next_passed (sample_of v object) b)) (name_at b.graph.nodes b.next) (contents_at v object) →
+    IsThere v (Some object) → the_name v object ≡ vertex_name b.graph.nodes b.next →
+    snapshot_of d ≡ noting (snapshot_of (with_next_passed (sample_of v object) b)) (vertex_name b.graph.nodes b.next) (contents_at v object) →
     IsNodeUnit v.heap (snapshot_of b) (snapshot_of d)
 traversed-unit b d v object order l there named e =
     let s = snapshot_of b in
-    let x = name_at b.graph.nodes b.next in
+    let x = vertex_name b.graph.nodes b.next in
     let ys = contents_at v object in
     record {
       node = x;
@@ -41,11 +41,11 @@ traversed-unit b d v object order l there named e =
 
 -- there is something to note, where the object holds something that is noted
 pub may_be-refused : (b : Built) (v : Keyed) (object : Held) → IsInOrder [] v → b.next < length b.graph.nodes →
-    IsThere v (Some object) → the_name v object ≡ name_at b.graph.nodes b.next → contents_at v object ≢ [] →
+    IsThere v (Some object) → the_name v object ≡ vertex_name b.graph.nodes b.next → contents_at v object ≢ [] →
     node_may_be_refused v.heap (first_untraversed (snapshot_of b).nodes) ≡ true
 may_be-refused b v object order l there named some =
     ap (node_may_be_refused v.heap) (first-some b.next b.graph.nodes l)
-    ∙ ap notes_something (note-named v object (name_at b.graph.nodes b.next) order there named)
+    ∙ ap notes_something (note-named v object (vertex_name b.graph.nodes b.next) order there named)
     ∙ are (contents_at v object) some
   where
     are : (xs : List Name) → xs ≢ [] → some_are xs ≡ true
@@ -72,11 +72,11 @@ gone-native v x (held.Script key) order has gone =
     let there = note-named v (held.Script key) x order (key-there v key x has) (key-name v key x has) in absurd (cc)
 
 pub gone-unit : (b : Built) (v : Keyed) → IsBuilt b v → AreHeld b.graph (HasKey v) → IsInOrder [] v → b.next < length b.graph.nodes →
-    to_note v.heap (name_at b.graph.nodes b.next) ≡ None → IsNodeUnit v.heap (snapshot_of b) (snapshot_of (record b { next = b.next + 1 }))
+    to_note v.heap (vertex_name b.graph.nodes b.next) ≡ None → IsNodeUnit v.heap (snapshot_of b) (snapshot_of (record b { next = b.next + 1 }))
 gone-unit b v built are order l gone =
     let vs = b.graph.nodes in
     let w = slice_get-some vs b.next l in
-    let x = name_at vs b.next in
+    let x = vertex_name vs b.next in
     let named : x ≡ w.0.name = IsNodeAt-name {vs = vs} {i = b.next} {x = w.0.name} {y = w.0.held} (record { node = w.0; at = w.1; name = refl; held = refl }) in
     let kind = gone-native v w.0.name w.0.held order (are w.0 (slice_get-among vs b.next w.0 w.1)) (ap (to_note v.heap) (sym named) ∙ gone) in
     record {

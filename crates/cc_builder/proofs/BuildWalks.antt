@@ -26,8 +26,8 @@ left_from v o = purple_names (buffer_from v.heap.buffer (stands v o))
 abbrev pub AreLive : Keyed → Option NKey → Type 0
 AreLive v o = IfSome o (λ (k : NKey). IsSome (number_at v k.0))
 
-abbrev pub IsThere : Keyed → Option NKey → Type 0
-IsThere v o = IfSome o (λ (k : NKey). is_in_buffer v.heap.buffer (the_number v k.0) ≡ true)
+abbrev pub IsBuffered : Keyed → Option NKey → Type 0
+IsBuffered v o = IfSome o (λ (k : NKey). is_in_buffer v.heap.buffer (the_number v k.0) ≡ true)
 
 -- a native of the buffer where the walk stands
 pub record IsAt (v : Keyed) (o : Option NKey) (key : NKey) : Type 0 where
@@ -35,8 +35,8 @@ pub record IsAt (v : Keyed) (o : Option NKey) (key : NKey) : Type 0 where
   pub live : IsSome (number_at v key.0)
   pub there : is_in_buffer v.heap.buffer (the_number v key.0) ≡ true
 
-pub is-at : (v : Keyed) (o : Option NKey) (key : NKey) → o ≡ Some key → AreLive v o → IsThere v o → IsAt v o key
-is-at v o key e live there = record { at = e; live = subst (λ p. AreLive v p) e live; there = subst (λ p. IsThere v p) e there }
+pub is-at : (v : Keyed) (o : Option NKey) (key : NKey) → o ≡ Some key → AreLive v o → IsBuffered v o → IsAt v o key
+is-at v o key e live there = record { at = e; live = subst (λ p. AreLive v p) e live; there = subst (λ p. IsBuffered v p) e there }
 
 at-number : (v : Keyed) (o : Option NKey) (key : NKey) → IsAt v o key → stands v o ≡ Some (the_number v key.0)
 at-number v o key i = ap (stands v) i.at ∙ number-there v key.0 i.live
@@ -59,7 +59,7 @@ pub read-live : (v : Keyed) (c : Counts) (r : Option NKey) → c ≡ counts_of v
 read-live v c r same live = subst (λ (d : Counts). IfSome r (λ (k : NKey). IsSome (counts.number_at d k.0))) same live
 
 -- what was read is there
-pub read-there : (v : Keyed) (r : Option NKey) (n : Option ℕ) → stands v r ≡ n → AreLive v r → ((k : ℕ) → n ≡ Some k → is_in_buffer v.heap.buffer k ≡ true) → IsThere v r
+pub read-there : (v : Keyed) (r : Option NKey) (n : Option ℕ) → stands v r ≡ n → AreLive v r → ((k : ℕ) → n ≡ Some k → is_in_buffer v.heap.buffer k ≡ true) → IsBuffered v r
 read-there v None n e live there = tt
 read-there v (Some key) n e live there = there (the_number v key.0) (sym e ∙ number-there v key.0 live)
 

@@ -1,8 +1,8 @@
 -- Candidates given back, one after the other.
-use Rattle.std.proofs.Common.{◌≡◌, ℕ, suc, ◌+◌, ◌<◌, ◌≤◌, Bool, true, false, List, [], ◌∷◌, ◌++◌, map, length, take, drop, get_or, Option, Some, None, is_some, option_map, refl, sym, ◌∙◌, ap, subst, add-one}
+use Rattle.std.proofs.Common.{◌≡◌, ℕ, suc, ◌+◌, ◌<◌, ◌≤◌, Bool, true, false, List, [], ◌∷◌, ◌++◌, map, length, take, drop, get_or, Option, Some, None, is_some, option_map, refl, sym, ◌∙◌, ap, subst, add-one, arith}
 use Rattle.std.specs.List.{flat_map}
 use Rattle.std.proofs.Math.Seq.{drop-cons}
-use Rattle.std.proofs.lemmas.List.{get_or-take, length-map, length-take-le, take-map}
+use Rattle.std.proofs.lemmas.List.{drop_all, get_or-take, length-map, length-take-le, take-map}
 use Rattle.cc_lists.specs.Members.{Among}
 use Rattle.cc_names.specs.declared.name.Name.{Name}
 use Rattle.cc_names.specs.declared.name.Name.TheVariants as name
@@ -17,7 +17,7 @@ use Rattle.cc_counted.specs.Counts.{number_or_none}
 use Rattle.cc_graph.specs.Shown.{Shown, Vertex}
 use Rattle.cc_script.specs.Objects.{Object, name_at}
 use Rattle.cc_heaps.specs.Keyed.{Keyed, IsInOrder, number_at, the_number, changed_to}
-use Rattle.cc_builder.specs.Building.{Built, WasMade, IsBuilt, names_of}
+use Rattle.cc_builder.specs.Building.{Built, WasMade, IsBuilt, vertex_names}
 use Rattle.cc_graph.specs.Held.{AreHeld}
 use Rattle.cc_heaps.specs.HasKey.{HasKey}
 use Rattle.cc_builder.specs.Building as building
@@ -103,19 +103,26 @@ IsBuilt-same b v w s built =
 
 -- the names of the candidates from the i-th on
 abbrev pub left_to_give : Built → ℕ → List ℕ
-left_to_give b i = flat_map natives_in (drop i (names_of (take b.candidates b.graph.nodes)))
+left_to_give b i = flat_map natives_in (drop i (vertex_names (take b.candidates b.graph.nodes)))
 
 -- the first of them, and the others
 left-next : (b : Built) (i : ℕ) → i < b.candidates → b.candidates ≤ length b.graph.nodes →
-    left_to_give b i ≡ natives_in (building.name_at b.graph.nodes i) ++ left_to_give b (i + 1)
+    left_to_give b i ≡ natives_in (building.vertex_name b.graph.nodes i) ++ left_to_give b (i + 1)
 left-next b i l m =
-    let names = names_of (take b.candidates b.graph.nodes) in
+    let names = vertex_names (take b.candidates b.graph.nodes) in
     let few : length names ≡ b.candidates = length-map (take b.candidates b.graph.nodes) (λ (v : Vertex). v.name) ∙ length-take-le b.candidates b.graph.nodes m in
-    let same : names ≡ take b.candidates (names_of b.graph.nodes) = sym (take-map (λ (v : Vertex). v.name) b.candidates b.graph.nodes) in
-    let at : get_or names i (native 0) ≡ building.name_at b.graph.nodes i = ap (λ xs. get_or xs i (native 0)) same ∙ get_or-take b.candidates (names_of b.graph.nodes) i (native 0) l in
+    let same : names ≡ take b.candidates (vertex_names b.graph.nodes) = sym (take-map (λ (v : Vertex). v.name) b.candidates b.graph.nodes) in
+    let at : get_or names i (native 0) ≡ building.vertex_name b.graph.nodes i = ap (λ xs. get_or xs i (native 0)) same ∙ get_or-take b.candidates (vertex_names b.graph.nodes) i (native 0) l in
     ap (flat_map natives_in) (drop-cons names i (native 0) (subst (λ n. i < n) (sym few) l))
     ∙ ap (λ x. natives_in x ++ flat_map natives_in (drop (suc i) names)) at
-    ∙ ap (λ n. natives_in (building.name_at b.graph.nodes i) ++ flat_map natives_in (drop n names)) (sym (add-one i))
+    ∙ ap (λ n. natives_in (building.vertex_name b.graph.nodes i) ++ flat_map natives_in (drop n names)) (sym (add-one i))
+
+-- none is left behind the last
+pub left-none : (b : Built) (i : ℕ) → b.candidates ≤ i → b.candidates ≤ length b.graph.nodes → left_to_give b i ≡ []
+left-none b i past m =
+    let names = vertex_names (take b.candidates b.graph.nodes) in
+    let few : length names ≡ b.candidates = length-map (take b.candidates b.graph.nodes) (λ (v : Vertex). v.name) ∙ length-take-le b.candidates b.graph.nodes m in
+    ap (flat_map natives_in) (drop_all i names (omega (arith, few, past)))
 
 give_back-append : (ks js : List ℕ) (h : Heap) → give_back (ks ++ js) h ≡ give_back js (give_back ks h)
 give_back-append [] js h = refl
@@ -128,9 +135,9 @@ give_back-append (k ∷ ks) js h = go (give_back-append ks js) (is_some (native_
 
 -- one more given back
 pub left-given : (b : Built) (v old new : Keyed) (i : ℕ) → i < b.candidates → b.candidates ≤ length b.graph.nodes →
-    new ≡ changed_to old (give_back (natives_in (building.name_at b.graph.nodes i)) old.heap) →
+    new ≡ changed_to old (give_back (natives_in (building.vertex_name b.graph.nodes i)) old.heap) →
     changed_to old (give_back (left_to_give b i) old.heap) ≡ v → changed_to new (give_back (left_to_give b (i + 1)) new.heap) ≡ v
 left-given b v old new i l m e given =
     ap (λ (k : Keyed). changed_to k (give_back (left_to_give b (i + 1)) k.heap)) e
-    ∙ ap (changed_to old) (sym (give_back-append (natives_in (building.name_at b.graph.nodes i)) (left_to_give b (i + 1)) old.heap) ∙ ap (λ ks. give_back ks old.heap) (sym (left-next b i l m)))
+    ∙ ap (changed_to old) (sym (give_back-append (natives_in (building.vertex_name b.graph.nodes i)) (left_to_give b (i + 1)) old.heap) ∙ ap (λ ks. give_back ks old.heap) (sym (left-next b i l m)))
     ∙ given

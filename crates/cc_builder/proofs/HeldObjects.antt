@@ -35,7 +35,7 @@ use Rattle.cc_script.specs.Objects as objects
 use Rattle.cc_heaps.specs.Keyed.{Keyed, IsInOrder, counts_of, keyed_name, keyed_native, name_held, named_object, number_at}
 use Rattle.cc_heaps.specs.Changes.{IsThere, IsNativeThere, IsScriptThere}
 use Rattle.cc_heaps.proofs.Calls.{number-named}
-use Rattle.cc_builder.specs.BuildSteps.{the_name, slots_of}
+use Rattle.cc_builder.specs.BuildSteps.{the_name, held_slots}
 
 -- A native
 
@@ -62,7 +62,7 @@ StandsAt-member v key s = native_at-there v.heap s.number s.body s.found
 pub native-name : (v : Keyed) (key : NKey) (s : StandsAt v key.0) → the_name v (held.Native key) ≡ native s.number
 native-name v key s = ap (λ (o : Option ℕ). elim (option_map native o) [ None ↦ native 0 | Some x ↦ x ]) s.at
 
-pub native-slots : (v : Keyed) (key : NKey) (s : StandsAt v key.0) → slots_of v (held.Native key) ≡ s.body.slots
+pub native-slots : (v : Keyed) (key : NKey) (s : StandsAt v key.0) → held_slots v (held.Native key) ≡ s.body.slots
 native-slots v key s =
     ap (λ x. slots_or_none (slots_in v.heap x)) (native-name v key s)
     ∙ ap (λ (o : Option HeapNative). slots_or_none (option_map (λ n. n.slots) o)) s.found
@@ -75,7 +75,7 @@ shown-native v key s =
     ∙ ap (option_map (keyed_native v.scripts)) s.found
 
 pub shown-slots : (v : Keyed) (key : NKey) (s : StandsAt v key.0) →
-    counts.slots_of (counts_of v) key.0 ≡ map (λ x. option_and_then (keyed_name v.scripts) x) (slots_of v (held.Native key))
+    counts.slots_of (counts_of v) key.0 ≡ map (λ x. option_and_then (keyed_name v.scripts) x) (held_slots v (held.Native key))
 shown-slots v key s =
     ap slots_at (shown-native v key.0 s)
     ∙ ap (map (λ x. option_and_then (keyed_name v.scripts) x)) (sym (native-slots v key s))
@@ -133,7 +133,7 @@ IsObjectAt-member v key s = find-among (λ (p : Object). p.key == key) v.scripts
 pub object-name : (v : Keyed) (key : SKey) (s : IsObjectAt v key.0) → the_name v (held.Script key) ≡ s.body.name
 object-name v key s = ap (λ (o : Option Object). elim (option_map (λ p. p.name) o) [ None ↦ native 0 | Some x ↦ x ]) s.at
 
-pub object-slots : (v : Keyed) (key : SKey) (s : IsObjectAt v key.0) → slots_of v (held.Script key) ≡ map (name_held v.scripts) s.body.slots
+pub object-slots : (v : Keyed) (key : SKey) (s : IsObjectAt v key.0) → held_slots v (held.Script key) ≡ map (name_held v.scripts) s.body.slots
 object-slots v key s =
     ap (λ x. slots_or_none (slots_in v.heap x)) (object-name v key s ∙ s.name)
     ∙ ap (λ x. slots_or_none (option_and_then slots_of_script (script_at v.heap x))) (sym s.name)
@@ -170,23 +170,23 @@ gray-named h o well m = by_colour (is_gray_colour o.colour) refl
 -- How many slots it has, as each heap says
 
 pub native-many : (v : Keyed) (c : Counts) (object : Held) (key : NKey) → IsInOrder [] v → IsThere v (Some object) → object ≡ held.Native key → c ≡ counts_of v →
-    length (counts.slots_of c key.0) ≡ length (slots_of v object)
+    length (counts.slots_of c key.0) ≡ length (held_slots v object)
 native-many v c object key order there at same =
     let s = stands-at v key order (subst (λ o. IsThere v (Some o)) at there) in
     ap (λ d. length (counts.slots_of d key.0)) same
     ∙ ap length (shown-slots v key s)
-    ∙ length-map (slots_of v (held.Native key)) (λ x. option_and_then (keyed_name v.scripts) x)
-    ∙ ap (λ o. length (slots_of v o)) (sym at)
+    ∙ length-map (held_slots v (held.Native key)) (λ x. option_and_then (keyed_name v.scripts) x)
+    ∙ ap (λ o. length (held_slots v o)) (sym at)
 
 pub object-many : (v : Keyed) (scripts : List Object) (object : Held) (key : SKey) → IsInOrder [] v → IsThere v (Some object) → object ≡ held.Script key → scripts ≡ v.scripts →
-    length (objects.slots_at scripts key.0) ≡ length (slots_of v object)
+    length (objects.slots_at scripts key.0) ≡ length (held_slots v object)
 object-many v scripts object key order there at same =
     let s = object-at v key order (subst (λ o. IsThere v (Some o)) at there) in
     ap (λ os. length (objects.slots_at os key.0)) same
     ∙ ap length (object-keys v key.0 s)
     ∙ sym (length-map s.body.slots (name_held v.scripts))
     ∙ ap length (sym (object-slots v key s))
-    ∙ ap (λ o. length (slots_of v o)) (sym at)
+    ∙ ap (λ o. length (held_slots v o)) (sym at)
 
 -- Whether references to a script object are noted
 

@@ -9,11 +9,12 @@ pub mod BuildStates
 pub mod BuildTraversed
 pub mod BuildUnits
 pub mod BuildWalks
-pub mod SlotsRead
 pub mod FewObjects
 pub mod GivingBack
 pub mod HeldObjects
 pub mod HolderWalks
 pub mod NodesByName
 pub mod NotedObjects
+pub mod Promises
+pub mod SlotsRead
 pub mod Unsampled

@@ -14,11 +14,11 @@ use Rattle.cc_model.specs.View.{to}
 use Rattle.cc_model.specs.Snapshot.{Node}
 use Rattle.cc_graph.specs.Shown.{Vertex, Edge, number_from, edges_to}
 use Rattle.cc_heaps.proofs.Reaching.{same-tests}
-use Rattle.cc_builder.specs.Building.{state_behind, node_with, nodes_of, names_of, name_at, reference_of}
+use Rattle.cc_builder.specs.Building.{state_behind, node_with, nodes_of, vertex_names, vertex_name, reference_of}
 
 -- the name of a node by its number
-pub name-at : (vs : List Vertex) (i : ℕ) (w : Vertex) → slice_get vs i ≡ Some w → name_at vs i ≡ w.name
-name-at vs i w e = get_or_from_slice_get (names_of vs) i w.name (native 0) (slice_get-map (λ (v : Vertex). v.name) vs i ∙ ap (option_map (λ (v : Vertex). v.name)) e)
+pub name-at : (vs : List Vertex) (i : ℕ) (w : Vertex) → slice_get vs i ≡ Some w → vertex_name vs i ≡ w.name
+name-at vs i w e = get_or_from_slice_get (vertex_names vs) i w.name (native 0) (slice_get-map (λ (v : Vertex). v.name) vs i ∙ ap (option_map (λ (v : Vertex). v.name)) e)
 
 -- there is one for each number below their count
 pub node-at : (vs : List Vertex) (i : ℕ) → i < length vs → (w : Vertex) × (slice_get vs i ≡ Some w)
@@ -88,16 +88,16 @@ number_from-none start (v ∷ vs) x e w m named = go (number_from-none (suc star
         (λ t. ih h w t named) m
 
 -- where all nodes are behind
-abbrev pub behind : Vertex → Node
-behind w = node_with (state_behind w) w
+abbrev pub node_behind : Vertex → Node
+node_behind w = node_with (state_behind w) w
 
-pub nodes-behind : (vs : List Vertex) → nodes_of (length vs) vs ≡ map behind vs
-nodes-behind [] = refl
-nodes-behind (v ∷ vs) = ap (λ l. behind v ∷ l) (nodes-behind vs)
+pub nodes-node_behind : (vs : List Vertex) → nodes_of (length vs) vs ≡ map node_behind vs
+nodes-node_behind [] = refl
+nodes-node_behind (v ∷ vs) = ap (λ l. node_behind v ∷ l) (nodes-node_behind vs)
 
-pub names-behind : (vs : List Vertex) → map (λ (n : Node). n.name) (map behind vs) ≡ names_of vs
-names-behind [] = refl
-names-behind (v ∷ vs) = ap (λ l. v.name ∷ l) (names-behind vs)
+pub names-node_behind : (vs : List Vertex) → map (λ (n : Node). n.name) (map node_behind vs) ≡ vertex_names vs
+names-node_behind [] = refl
+names-node_behind (v ∷ vs) = ap (λ l. v.name ∷ l) (names-node_behind vs)
 
 -- as many references are noted to a node by its name as by its number
 pub noted-same : (vs : List Vertex) → HasDistinctNames vs → (es : List Edge) → ((e : Edge) → Among e es → e.target < length vs) → (i : ℕ) (w : Vertex) → slice_get vs i ≡ Some w →
@@ -105,9 +105,9 @@ pub noted-same : (vs : List Vertex) → HasDistinctNames vs → (es : List Edge)
 noted-same vs few es closed i w at = count_by-map (to w.name) (reference_of vs) es ∙
     count_by-agree (λ e. to w.name (reference_of vs e)) (λ e. e.target == i) es (λ e m.
     let t = node-at vs e.target (closed e m) in
-    let named : name_at vs e.target ≡ t.0.name = name-at vs e.target t.0 t.1 in
-    same-tests (same_name (name_at vs e.target) w.name) (e.target == i)
-    (λ same. eq-eqb e.target i (distinct-number vs few e.target i t.0 w t.1 at (sym named ∙ same_name-true (name_at vs e.target) w.name same)))
+    let named : vertex_name vs e.target ≡ t.0.name = name-at vs e.target t.0 t.1 in
+    same-tests (same_name (vertex_name vs e.target) w.name) (e.target == i)
+    (λ same. eq-eqb e.target i (distinct-number vs few e.target i t.0 w t.1 at (sym named ∙ same_name-true (vertex_name vs e.target) w.name same)))
     (λ same.
     let number : e.target ≡ i = eqb-true e.target i same in
-    (same_name-exact (name_at vs e.target) w.name).1 (ap (name_at vs) number ∙ name-at vs i w at)))
+    (same_name-exact (vertex_name vs e.target) w.name).1 (ap (vertex_name vs) number ∙ name-at vs i w at)))

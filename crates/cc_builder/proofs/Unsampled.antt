@@ -9,7 +9,7 @@ use Rattle.cc_names.specs.declared.name.Name.{Name}
 use Rattle.cc_names.specs.Names.{is_native}
 use Rattle.cc_counted.specs.declared.held.Held.{Held}
 use Rattle.cc_graph.specs.Shown.{Vertex, vertex, number_of, with_vertex, with_sample}
-use Rattle.cc_builder.specs.Building.{HasNoSample, name_at}
+use Rattle.cc_builder.specs.Building.{HasNoSample, vertex_name}
 use Rattle.cc_builder.specs.BuildSteps.{sampled_at}
 use Rattle.cc_builder.proofs.NodesByName.{name-at}
 
@@ -24,7 +24,7 @@ HasNoSample-vertex vs x held old = go (number_of vs x)
         (Among-append n vs (vertex x held ∷ []) m)
 
 -- only a native is sampled
-pub HasNoSample-passed : (vs : List Vertex) (i : ℕ) (count : Option ℕ) → (IsSome count → is_native (name_at vs i) ≡ true) →
+pub HasNoSample-passed : (vs : List Vertex) (i : ℕ) (count : Option ℕ) → (IsSome count → is_native (vertex_name vs i) ≡ true) →
     ((n : Vertex) → Among n vs → HasNoSample n) → (n : Vertex) → Among n (sampled_at vs i count) → HasNoSample n
 HasNoSample-passed vs i None one old n m = old n m
 HasNoSample-passed vs i (Some count) one old n m = go (slice_get vs i) refl m

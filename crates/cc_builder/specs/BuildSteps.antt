@@ -21,8 +21,8 @@ abbrev pub the_name : Keyed → Held → Name
 the_name v object = elim (held_name v (Some object)) [ None ↦ native 0 | Some x ↦ x ]
 
 -- its slots
-abbrev pub slots_of : Keyed → Held → Slots
-slots_of v object = slots_or_none (slots_in v.heap (the_name v object))
+abbrev pub held_slots : Keyed → Held → Slots
+held_slots v object = slots_or_none (slots_in v.heap (the_name v object))
 
 -- its count, where it is a native
 abbrev pub sample_of : Keyed → Held → Option ℕ
@@ -33,20 +33,20 @@ sample_of v (held.Script key) = None
 abbrev pub noted_content : Heap → Option Name → List Name
 noted_content h x = filter (is_noted h) (option_to_list x)
 
-abbrev pub slot_at : Keyed → Held → ℕ → List Name
-slot_at v object i = noted_content v.heap (slice_index_or (slots_of v object) i None)
+abbrev pub noted_slot : Keyed → Held → ℕ → List Name
+noted_slot v object i = noted_content v.heap (slice_index_or (held_slots v object) i None)
 
 -- all that its slots hold so, in order
 abbrev pub contents_at : Keyed → Held → List Name
-contents_at v object = flat_map (noted_content v.heap) (slots_of v object)
+contents_at v object = flat_map (noted_content v.heap) (held_slots v object)
 
 -- the name of native k where it is purple in the buffer
 abbrev pub purple_name : Heap → ℕ → List Name
 purple_name h k = elim (is_purple_in h.buffer k) [ true ↦ native k ∷ [] | false ↦ [] ]
 
 -- an object as a node, last, where it is none
-abbrev pub with_object : Built → Name → Held → Built
-with_object b x held = record b { graph = record b.graph { nodes = with_vertex b.graph.nodes x held } }
+abbrev pub with_vertex_of : Built → Name → Held → Built
+with_vertex_of b x held = record b { graph = record b.graph { nodes = with_vertex b.graph.nodes x held } }
 
 -- a reference noted last, for which there was room
 abbrev pub with_reference : Built → ℕ → ℕ → Built

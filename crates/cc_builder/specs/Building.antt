@@ -34,20 +34,20 @@ nodes_of next [] = []
 nodes_of zero (v ∷ vs) = node_with untraversed v ∷ nodes_of zero vs
 nodes_of (suc next) (v ∷ vs) = node_with (state_behind v) v ∷ nodes_of next vs
 
-abbrev pub names_of : List Vertex → List Name
-names_of vs = map (λ v. v.name) vs
+abbrev pub vertex_names : List Vertex → List Name
+vertex_names vs = map (λ v. v.name) vs
 
 -- the name of a node by its number
-abbrev pub name_at : List Vertex → ℕ → Name
-name_at vs i = slice_index_or (names_of vs) i (native 0)
+abbrev pub vertex_name : List Vertex → ℕ → Name
+vertex_name vs i = slice_index_or (vertex_names vs) i (native 0)
 
 abbrev pub reference_of : List Vertex → Edge → Name × Name
-reference_of vs e = (name_at vs e.source, name_at vs e.target)
+reference_of vs e = (vertex_name vs e.source, vertex_name vs e.target)
 
 -- THE SNAPSHOT that a graph holds
 abbrev pub snapshot_of : Built → Snapshot
 snapshot_of b = record {
-  candidates = flat_map natives_in (names_of (take b.candidates b.graph.nodes));
+  candidates = flat_map natives_in (vertex_names (take b.candidates b.graph.nodes));
   nodes = nodes_of b.next b.graph.nodes;
   references = map (reference_of b.graph.nodes) b.graph.edges;
   mappings = [];

@@ -4,16 +4,22 @@ ghost use Rattle.cc_lists.specs.Members.{Among, with_all_last};
 ghost use Rattle.cc_names.specs.Names.{native, natives_in, same_name};
 ghost use Rattle.cc_model.specs.WellFormed.{native_names};
 ghost use Rattle.cc_model.specs.Units.{begun, candidates_of, holders_of, with_empty_buffer};
+ghost use Rattle.cc_model.specs.View.{view};
+ghost use Rattle.cc_model.specs.Colours.{HasColourInvariant};
+ghost use Rattle.cc_model.specs.Suspected.{IsSuspected};
 ghost use Rattle.cc_model.specs.End.{may_be_refused};
 ghost use Rattle.cc_model.specs.End as end;
+ghost use Rattle.cc_laws_snapshot.specs.Kinds.{IsFreshIn};
 ghost use Rattle.cc_graph.specs.Shown.{number_of};
 ghost use Rattle.cc_heaps.specs.Keyed.{IsInOrder, number_at, the_number, changed_to};
-ghost use Rattle.cc_heaps.specs.Changes.{IsThere};
+ghost use Rattle.cc_heaps.specs.Changes.{IsThere, KeepsKeys};
+ghost use Rattle.cc_heaps.specs.Few.{AreFew};
+ghost use Rattle.cc_heaps.specs.Standing.{StillStands, KeepsColours};
 ghost use Rattle.cc_counted.specs.Suspects.{is_purple_in};
-ghost use Rattle.cc_builder.specs.Building.{IsBuilt, name_at, names_of, snapshot_of};
+ghost use Rattle.cc_builder.specs.Building.{IsBuilt, vertex_name, vertex_names, snapshot_of};
 ghost use Rattle.cc_graph.specs.Held.{AreHeld};
 ghost use Rattle.cc_heaps.specs.HasKey.{HasKey};
-ghost use Rattle.cc_builder.specs.BuildSteps.{purple_name, the_name, with_object};
+ghost use Rattle.cc_builder.specs.BuildSteps.{purple_name, the_name, with_vertex_of};
 
 mod traversing;
 
@@ -57,6 +63,7 @@ impl Build {
     /// native that holds a gray script object, by rising number; and the buffer is emptied.
     ///
     /// `NoMemory`, only where a node is added, leaves the buffer's contents, order and marks as they were.
+    #[tactic(auto, using(cc_heaps::proofs::FewReferences::few_references))]
     pub fn begin(alloc: Global, heaps: &mut Heaps) -> Result<Build, NoMemory>
         requires order { IsInOrder [] heaps.old }
         ensures snapshot { IfOk result (λ b. snapshot_of b ≡ begun heaps.old.heap) }
@@ -64,7 +71,14 @@ impl Build {
         ensures held { IfOk result (λ b. AreHeld b.graph (HasKey heaps.new)) }
         ensures heap { OnOk result (heaps.new ≡ changed_to heaps.old (with_empty_buffer heaps.old.heap)) }
         ensures order { IsInOrder [] heaps.new }
-        ensures refused { OnErr result ((heaps.new ≡ heaps.old) × (may_be_refused heaps.old.heap None ≡ true)) }
+        ensures fresh { IfOk result (λ b. HasColourInvariant (view heaps.old.heap) → IsFreshIn heaps.new.heap (snapshot_of b)) }
+        ensures suspected { IfOk result (λ b. IsSuspected (view heaps.old.heap) [] → IsSuspected (view heaps.new.heap) (snapshot_of b).candidates) }
+        ensures stands { StillStands heaps.old.heap heaps.new.heap }
+        ensures colours { KeepsColours heaps.old.heap heaps.new.heap }
+        ensures keys { KeepsKeys heaps.old heaps.new }
+        ensures few { AreFew heaps.new.heap }
+        ensures unchanged { OnErr result (heaps.new ≡ heaps.old) }
+        ensures refused { OnErr result (may_be_refused heaps.old.heap None ≡ true) }
     {
         let mut build = Build::of_purple(alloc, heaps)?;
         build.add_holders(heaps)?;
@@ -79,7 +93,7 @@ impl Build {
         requires built { IsBuilt self.old heaps.now }
         requires held { AreHeld self.old.graph (HasKey heaps.now) }
         requires order { IsInOrder [] heaps.now }
-        ensures names { OnOk result (names_of self.new.graph.nodes ≡ with_all_last same_name (names_of self.old.graph.nodes) (holders_of heaps.now.heap)) }
+        ensures names { OnOk result (vertex_names self.new.graph.nodes ≡ with_all_last same_name (vertex_names self.old.graph.nodes) (holders_of heaps.now.heap)) }
         ensures edges { self.new.graph.edges ≡ self.old.graph.edges }
         ensures next { self.new.next ≡ self.old.next }
         ensures candidates { self.new.candidates ≡ self.old.candidates }
@@ -100,7 +114,7 @@ impl Build {
     /// `NoMemory` only where there is such a native.
     fn of_purple(alloc: Global, heaps: &Heaps) -> Result<Build, NoMemory>
         requires order { IsInOrder [] heaps.now }
-        ensures names { IfOk result (λ b. names_of b.graph.nodes ≡ with_all_last same_name [] (map native (candidates_of heaps.now.heap))) }
+        ensures names { IfOk result (λ b. vertex_names b.graph.nodes ≡ with_all_last same_name [] (map native (candidates_of heaps.now.heap))) }
         ensures edges { IfOk result (λ b. b.graph.edges ≡ []) }
         ensures next { IfOk result (λ b. b.next ≡ 0) }
         ensures candidates { IfOk result (λ b. b.candidates ≡ length b.graph.nodes) }
@@ -125,12 +139,18 @@ impl Build {
 
     /// Gives the collection up: the candidates that still exist are purple in the buffer again, and one that is there
     /// keeps its place. Takes no memory.
+    #[tactic(auto, using(cc_heaps::proofs::FewReferences::few_references))]
     pub fn abandon(self, heaps: &mut Heaps)
         requires built { IsBuilt self heaps.old }
         requires held { AreHeld self.graph (HasKey heaps.old) }
         requires order { IsInOrder [] heaps.old }
         ensures heap { heaps.new ≡ changed_to heaps.old (end.give_back (snapshot_of self).candidates heaps.old.heap) }
         ensures order { IsInOrder [] heaps.new }
+        ensures suspected { IsSuspected (view heaps.old.heap) (snapshot_of self).candidates → IsSuspected (view heaps.new.heap) [] }
+        ensures stands { StillStands heaps.old.heap heaps.new.heap }
+        ensures colours { KeepsColours heaps.old.heap heaps.new.heap }
+        ensures keys { KeepsKeys heaps.old heaps.new }
+        ensures few { AreFew heaps.new.heap }
     {
         let candidates = self.candidates;
         for i in 0..candidates {
@@ -158,8 +178,8 @@ impl Build {
         requires held { AreHeld self.now.graph (HasKey heaps.now) }
         requires order { IsInOrder [] heaps.now }
         requires within { node < length self.now.graph.nodes }
-        ensures there { IfSome result (λ key. option_map native (number_at heaps.now key.0) ≡ Some (name_at self.now.graph.nodes node)) }
-        ensures gone { result ≡ None → ¬ (Among (name_at self.now.graph.nodes node) (native_names heaps.now.heap)) }
+        ensures there { IfSome result (λ key. option_map native (number_at heaps.now key.0) ≡ Some (vertex_name self.now.graph.nodes node)) }
+        ensures gone { result ≡ None → ¬ (Among (vertex_name self.now.graph.nodes node) (native_names heaps.now.heap)) }
     {
         let (name, held) = self.graph.node(node);
         let Name::Native(number) = name else {
@@ -180,7 +200,7 @@ impl Build {
         requires held { AreHeld self.now.graph (HasKey heaps.old) }
         requires order { IsInOrder [] heaps.old }
         requires within { node < length self.now.graph.nodes }
-        ensures heap { heaps.new ≡ changed_to heaps.old (end.give_back (natives_in (name_at self.now.graph.nodes node)) heaps.old.heap) }
+        ensures heap { heaps.new ≡ changed_to heaps.old (end.give_back (natives_in (vertex_name self.now.graph.nodes node)) heaps.old.heap) }
         ensures built { IsBuilt self.now heaps.new }
         ensures held { AreHeld self.now.graph (HasKey heaps.new) }
         ensures order { IsInOrder [] heaps.new }
@@ -198,7 +218,7 @@ impl Build {
         requires held { AreHeld self.old.graph (HasKey heaps.now) }
         requires order { IsInOrder [] heaps.now }
         requires live { IsSome (number_at heaps.now key.0) }
-        ensures names { OnOk result (names_of self.new.graph.nodes ≡ with_all_last same_name (names_of self.old.graph.nodes) (purple_name heaps.now.heap (the_number heaps.now key.0))) }
+        ensures names { OnOk result (vertex_names self.new.graph.nodes ≡ with_all_last same_name (vertex_names self.old.graph.nodes) (purple_name heaps.now.heap (the_number heaps.now key.0))) }
         ensures edges { self.new.graph.edges ≡ self.old.graph.edges }
         ensures next { self.new.next ≡ self.old.next }
         ensures candidates { self.new.candidates ≡ self.old.candidates }
@@ -220,7 +240,7 @@ impl Build {
         requires held { AreHeld self.old.graph (HasKey heaps.now) }
         requires order { IsInOrder [] heaps.now }
         requires there { IsThere heaps.now (Some object) }
-        ensures added { OnOk result (self.new ≡ with_object self.old (the_name heaps.now object) object) }
+        ensures added { OnOk result (self.new ≡ with_vertex_of self.old (the_name heaps.now object) object) }
         ensures number { IfOk result (λ i. number_of self.new.graph.nodes (the_name heaps.now object) ≡ Some i) }
         ensures refused { OnErr result (self.new ≡ self.old) }
         ensures built { IsBuilt self.new heaps.now }

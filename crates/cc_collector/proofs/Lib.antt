@@ -1,4 +1,3 @@
-pub mod AtRest
-pub mod Tellings
+pub mod Underway
 pub mod Units
 pub mod Whiteness

@@ -13,7 +13,7 @@ use Rattle.cc_model.specs.End.{Progress, went_on, at_end, refused, UnitDone, uni
 use Rattle.cc_model.specs.Collecting.{UnitsDone, no_units, one_unit, units_done, next_answer, later_answers, collect, to_the_end, enough_units}
 use Rattle.cc_model.proofs.UnitsEnd.{units_done-to_the_end}
 use Rattle.cc_builder.specs.Building.{IsNodeUnit}
-use Rattle.cc_collector.specs.Collected.{machine, done, GoesOn, ComesTo, IsCollected}
+use Rattle.cc_collector.specs.Collected.{machine, done, IsUnderway, HasStopped, IsCollected}
 
 -- what stopped does no more units
 units_done-at_end : (n : ℕ) (d : UnitsDone) → d.progress ≢ went_on → units_done n d ≡ d
@@ -95,9 +95,9 @@ one_more : (n k : ℕ) → n + 1 + k ≡ n + suc k
 one_more n k = omega arith
 
 -- begin
-pub GoesOn-begun : (h : Heap) → GoesOn h (with_empty_buffer h) (begun h)
+pub IsUnderway-begun : (h : Heap) → IsUnderway h (with_empty_buffer h) (begun h)
 unfolding units_done
-GoesOn-begun h = record {
+IsUnderway-begun h = record {
   so_far = 1;
   memory = with_yes (may_be_refused h None);
   later = λ rest n.
@@ -114,9 +114,9 @@ node_led_to h old new rest u =
     ∙ ap (λ (s : Snapshot). no_units (machine h (Some s) rest)) (sym u.after)
 
 -- the unit of a node
-pub GoesOn-node : (before now : Heap) (old new : Snapshot) → GoesOn before now old → IsNodeUnit now old new → GoesOn before now new
+pub IsUnderway-node : (before now : Heap) (old new : Snapshot) → IsUnderway before now old → IsNodeUnit now old new → IsUnderway before now new
 unfolding units_done
-GoesOn-node before now old new g u = record {
+IsUnderway-node before now old new g u = record {
   so_far = g.so_far + 1;
   memory = λ rest. g.memory (with_yes (may_be_refused now (Some old)) rest);
   later = λ rest n.
@@ -126,25 +126,25 @@ GoesOn-node before now old new g u = record {
 }
 
 -- a begin that is refused
-pub ComesTo-refused_begin : (h : Heap) → may_be_refused h None ≡ true → ComesTo h h (Abandoned ∷ []) refused
+pub HasStopped-refused_begin : (h : Heap) → may_be_refused h None ≡ true → HasStopped h h (Abandoned ∷ []) refused
 unfolding units_done
-ComesTo-refused_begin h asks = record { units = 1; memory = with_no; come = refused_unit h None asks }
+HasStopped-refused_begin h asks = record { units = 1; memory = with_no; come = refused_unit h None asks }
 
 -- a node that is refused
-pub ComesTo-refused_node : (before now : Heap) (s : Snapshot) → GoesOn before now s → may_be_refused now (Some s) ≡ true →
-    ComesTo before (give_back s.candidates now) (Abandoned ∷ []) refused
+pub HasStopped-refused_node : (before now : Heap) (s : Snapshot) → IsUnderway before now s → may_be_refused now (Some s) ≡ true →
+    HasStopped before (give_back s.candidates now) (Abandoned ∷ []) refused
 unfolding units_done
-ComesTo-refused_node before now s g asks = record {
+HasStopped-refused_node before now s g asks = record {
   units = g.so_far + 1;
   memory = g.memory with_no;
   come = g.later with_no 1 ∙ refused_unit now (Some s) asks;
 }
 
 -- the end
-pub ComesTo-end : (before now : Heap) (s : Snapshot) → GoesOn before now s → first_untraversed s.nodes ≡ None →
-    ComesTo before (take_away (white_natives now s) now).heap (take_away (white_natives now s) now).events at_end
+pub HasStopped-end : (before now : Heap) (s : Snapshot) → IsUnderway before now s → first_untraversed s.nodes ≡ None →
+    HasStopped before (take_away (white_natives now s) now).heap (take_away (white_natives now s) now).events at_end
 unfolding units_done
-ComesTo-end before now s g traversed = record {
+HasStopped-end before now s g traversed = record {
   units = g.so_far + 1;
   memory = g.memory (with_yes (may_be_refused now (Some s)) []);
   come = g.later (with_yes (may_be_refused now (Some s)) []) 1
@@ -152,10 +152,10 @@ ComesTo-end before now s g traversed = record {
 }
 
 -- THE WHOLE COLLECTION of the plain run comes to the same
-ComesTo-collect : (before now : Heap) (events : List Event) (progress : Progress) (c : ComesTo before now events progress) → progress ≢ went_on →
+HasStopped-collect : (before now : Heap) (events : List Event) (progress : Progress) (c : HasStopped before now events progress) → progress ≢ went_on →
     collect (machine before None c.memory) ≡ done now None [] events progress
 unfolding collect
-ComesTo-collect before now events progress c stopped = sym whole ∙ (units_done-stopped c.units enough start (λ e. stopped (sym (ap (λ (d : UnitsDone). d.progress) c.come) ∙ e)) ∙ c.come)
+HasStopped-collect before now events progress c stopped = sym whole ∙ (units_done-stopped c.units enough start (λ e. stopped (sym (ap (λ (d : UnitsDone). d.progress) c.come) ∙ e)) ∙ c.come)
   where
     start : UnitsDone
     start = no_units (machine before None c.memory)
@@ -167,9 +167,9 @@ ComesTo-collect before now events progress c stopped = sym whole ∙ (units_done
     whole = units_done-to_the_end (c.units + enough) (machine before None c.memory) (omega arith)
 
 -- WHAT A COLLECTION CAME TO, and told, is what the plain run's collection comes to and tells
-pub ComesTo-collected : (before now : Heap) (events : List Event) (progress : Progress) (t₀ t₁ : Telling) →
-    ComesTo before now events progress → progress ≢ went_on → Tells t₀ t₁ (texts_of (map of_event events)) → IsCollected before now progress t₀ t₁
-ComesTo-collected before now events progress t₀ t₁ c stopped told = record {
+pub HasStopped-collected : (before now : Heap) (events : List Event) (progress : Progress) (t₀ t₁ : Telling) →
+    HasStopped before now events progress → progress ≢ went_on → Tells t₀ t₁ (texts_of (map of_event events)) → IsCollected before now progress t₀ t₁
+HasStopped-collected before now events progress t₀ t₁ c stopped told = record {
   memory = c.memory;
   same = record { heap = ap (λ (d : UnitsDone). d.machine.heap) whole; snapshot = ap (λ (d : UnitsDone). d.machine.snapshot) whole };
   came_to = ap (λ (d : UnitsDone). d.progress) whole;
@@ -177,4 +177,4 @@ ComesTo-collected before now events progress t₀ t₁ c stopped told = record {
 }
   where
     whole : collect (machine before None c.memory) ≡ done now None [] events progress
-    whole = ComesTo-collect before now events progress c stopped
+    whole = HasStopped-collect before now events progress c stopped

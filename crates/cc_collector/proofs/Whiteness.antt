@@ -19,13 +19,13 @@ use Rattle.cc_model.specs.Snapshot.{traversed, Node, Snapshot, node_names, noted
 use Rattle.cc_lists.proofs.Numbers.{number-exact}
 use Rattle.cc_graph.specs.Shown.{Vertex, Edge, Shown, number_of, edges_to, is_black}
 use Rattle.cc_heaps.specs.Keyed.{Keyed}
-use Rattle.cc_builder.specs.Building.{Built, HasNoSample, IsBuilt, state_by_sample, nodes_of, names_of, name_at, reference_of, snapshot_of}
+use Rattle.cc_builder.specs.Building.{Built, HasNoSample, IsBuilt, state_by_sample, nodes_of, vertex_names, vertex_name, reference_of, snapshot_of}
 use Rattle.cc_graph.specs.Numbers.{numbers_where}
 use Rattle.cc_repair.specs.Touched.{is_touched, touched}
-use Rattle.cc_scan.specs.Scanning.{exceeds, held_elsewhere, pair_of, scan_rules}
+use Rattle.cc_scan.specs.Scanning.{exceeds, held_elsewhere, edge_pair, scan_rules}
 use Rattle.cc_unlink.specs.Whites.{is_white_node, is_white_in, whites_of}
 use Rattle.cc_graph.proofs.MarkedNodes.{numbers-passing, passing-numbers}
-use Rattle.cc_builder.proofs.NodesByName.{name-at, node-at, distinct-number, IsNumberOf, number_from-some, number_from-none, behind, nodes-behind, names-behind, noted-same}
+use Rattle.cc_builder.proofs.NodesByName.{name-at, node-at, distinct-number, IsNumberOf, number_from-some, number_from-none, node_behind, nodes-node_behind, names-node_behind, noted-same}
 use Rattle.cc_heaps.proofs.Reaching.{same-tests}
 
 -- tests that agree on the members filter the same
@@ -42,7 +42,7 @@ or-none true = refl
 or-none false = refl
 
 -- a node is black by itself where it is touched, or more references were sampled than are noted: of a native alone
-seed-of : (v : View) (s : Snapshot) (w : Vertex) (noted : ℕ) → noted_to s w.name ≡ noted → HasNoSample w → is_seed v s (behind w) ≡ (is_touched v w.name || exceeds noted w.sampled)
+seed-of : (v : View) (s : Snapshot) (w : Vertex) (noted : ℕ) → noted_to s w.name ≡ noted → HasNoSample w → is_seed v s (node_behind w) ≡ (is_touched v w.name || exceeds noted w.sampled)
 seed-of v s w noted e uncounted = go (is_native w.name) uncounted
   where
     go : (t : Bool) → (t ≡ false → w.sampled ≡ None) →
@@ -66,29 +66,29 @@ module _ (b : Built) (v : Keyed) (built : IsBuilt b v) (all : b.next ≡ length 
   abbrev roots : List ℕ
   roots = touched b.graph v.heap ++ held_elsewhere b.graph
 
-  abbrev IsReached : ℕ → Type 0
-  IsReached = Least (system roots (map pair_of es) [])
+  abbrev IsFromRoots : ℕ → Type 0
+  IsFromRoots = Least (system roots (map edge_pair es) [])
 
-  the_nodes : s.nodes ≡ map behind ns
-  the_nodes = ap (λ n. nodes_of n ns) all ∙ nodes-behind ns
+  the_nodes : s.nodes ≡ map node_behind ns
+  the_nodes = ap (λ n. nodes_of n ns) all ∙ nodes-node_behind ns
 
   -- whether a node is black by itself
   abbrev seed_test : ℕ → Vertex → Bool
   seed_test i w = is_touched (view v.heap) w.name || exceeds (edges_to es i) w.sampled
 
-  seed-tests : (i : ℕ) (w : Vertex) → slice_get ns i ≡ Some w → is_seed (view v.heap) s (behind w) ≡ seed_test i w
+  seed-tests : (i : ℕ) (w : Vertex) → slice_get ns i ≡ Some w → is_seed (view v.heap) s (node_behind w) ≡ seed_test i w
   seed-tests i w at = seed-of (view v.heap) s w (edges_to es i)
       (noted-same ns built.distinct es (λ e m. (built.closed e m).1) i w at) (built.uncounted w (place-among w ns i at))
 
   -- it is one of the roots
-  seed-root : (i : ℕ) (w : Vertex) → slice_get ns i ≡ Some w → is_seed (view v.heap) s (behind w) ≡ true → Among i roots
+  seed-root : (i : ℕ) (w : Vertex) → slice_get ns i ≡ Some w → is_seed (view v.heap) s (node_behind w) ≡ true → Among i roots
   seed-root i w at seed = ⊎_elim
       (λ l. Among-left i (touched b.graph v.heap) (held_elsewhere b.graph) (passing-numbers _ 0 ns i w i at (omega arith) l))
       (λ r. Among-right i (touched b.graph v.heap) (held_elsewhere b.graph) (passing-numbers _ 0 ns i w i at (omega arith) r))
       (or_cases (is_touched (view v.heap) w.name) (exceeds (edges_to es i) w.sampled) (sym (seed-tests i w at) ∙ seed))
 
   -- and each root is black by itself
-  root-seed : (i : ℕ) → Among i roots → (w : Vertex) × (slice_get ns i ≡ Some w) × (is_seed (view v.heap) s (behind w) ≡ true)
+  root-seed : (i : ℕ) → Among i roots → (w : Vertex) × (slice_get ns i ≡ Some w) × (is_seed (view v.heap) s (node_behind w) ≡ true)
   root-seed i m = ⊎_elim
       (λ l.
       let k = numbers-passing _ 0 ns i l in
@@ -103,10 +103,10 @@ module _ (b : Built) (v : Keyed) (built : IsBuilt b v) (all : b.next ≡ length 
       (Among-append i (touched b.graph v.heap) (held_elsewhere b.graph) m)
 
   -- the seeds of the snapshot are the roots' names
-  seed-there : (i : ℕ) (w : Vertex) → slice_get ns i ≡ Some w → is_seed (view v.heap) s (behind w) ≡ true → Among w.name (seeds (view v.heap) s)
-  seed-there i w at seed = Among-map (λ (n : Node). n.name) (behind w) (filter (is_seed (view v.heap) s) s.nodes)
-      (Among-filter (is_seed (view v.heap) s) (behind w) s.nodes
-      (subst (Among (behind w)) (sym the_nodes) (Among-map behind w ns (place-among w ns i at))) seed)
+  seed-there : (i : ℕ) (w : Vertex) → slice_get ns i ≡ Some w → is_seed (view v.heap) s (node_behind w) ≡ true → Among w.name (seeds (view v.heap) s)
+  seed-there i w at seed = Among-map (λ (n : Node). n.name) (node_behind w) (filter (is_seed (view v.heap) s) s.nodes)
+      (Among-filter (is_seed (view v.heap) s) (node_behind w) s.nodes
+      (subst (Among (node_behind w)) (sym the_nodes) (Among-map node_behind w ns (place-among w ns i at))) seed)
 
   -- A node that is reached from the roots is black in the snapshot,
   record IsBlackNode (i : ℕ) : Type 0 where
@@ -114,59 +114,59 @@ module _ (b : Built) (v : Keyed) (built : IsBuilt b v) (all : b.next ≡ length 
     there : slice_get ns i ≡ Some node
     black : BlackIn (view v.heap) s node.name
 
-  reached-black : (i : ℕ) → IsReached i → IsBlackNode i
-  reached-black = derived-within roots (map pair_of es) [] IsBlackNode
+  reached-black : (i : ℕ) → IsFromRoots i → IsBlackNode i
+  reached-black = derived-within roots (map edge_pair es) [] IsBlackNode
       (λ i m.
       let k = root-seed i m in
       record { node = k.0; there = k.1; black = derive-root (seeds (view v.heap) s) s.references (map mapping_joint s.mappings) k.0.name (seed-there i k.0 k.1 k.2) })
-      (λ i j m h. follow i j h (Among-map_cases pair_of es (i, j) m))
+      (λ i j m h. follow i j h (Among-map_cases edge_pair es (i, j) m))
       (λ ps i m. absurd m)
     where
       along_edge : (e : Edge) → Among e es → IsBlackNode e.source → IsBlackNode e.target
       along_edge e m h =
           let t = node-at ns e.target (built.closed e m).1 in
-          let reference : Among (name_at ns e.source, name_at ns e.target) s.references = Among-map (reference_of ns) e es m in
+          let reference : Among (vertex_name ns e.source, vertex_name ns e.target) s.references = Among-map (reference_of ns) e es m in
           let named : Among (h.node.name, t.0.name) s.references =
           subst (λ z. Among (h.node.name, z) s.references) (name-at ns e.target t.0 t.1)
-          (subst (λ z. Among (z, name_at ns e.target) s.references) (name-at ns e.source h.node h.there) reference) in
+          (subst (λ z. Among (z, vertex_name ns e.target) s.references) (name-at ns e.source h.node h.there) reference) in
           record {
             node = t.0;
             there = t.1;
             black = derive-along (seeds (view v.heap) s) s.references (map mapping_joint s.mappings) h.node.name t.0.name named h.black;
           }
 
-      follow : (i j : ℕ) → IsBlackNode i → (e : Edge) × Among e es × (pair_of e ≡ (i, j)) → IsBlackNode j
+      follow : (i j : ℕ) → IsBlackNode i → (e : Edge) × Among e es × (edge_pair e ≡ (i, j)) → IsBlackNode j
       follow i j h k = subst IsBlackNode (ap (λ (z : ℕ × ℕ). z.1) k.2) (along_edge k.0 k.1 (subst IsBlackNode (sym (ap (λ (z : ℕ × ℕ). z.0) k.2)) h))
 
   -- and what is black in the snapshot is such a node's name.
-  record IsNamed (x : Name) : Type 0 where
+  record IsReachedName (x : Name) : Type 0 where
     number : ℕ
     node : Vertex
     there : slice_get ns number ≡ Some node
     name : node.name ≡ x
-    reached : IsReached number
+    reached : IsFromRoots number
 
-  black-reached : (x : Name) → BlackIn (view v.heap) s x → IsNamed x
-  black-reached = derived-within (seeds (view v.heap) s) s.references (map mapping_joint s.mappings) IsNamed
+  black-reached : (x : Name) → BlackIn (view v.heap) s x → IsReachedName x
+  black-reached = derived-within (seeds (view v.heap) s) s.references (map mapping_joint s.mappings) IsReachedName
       (λ x m. from_seed x (Among-map_cases (λ (n : Node). n.name) (filter (is_seed (view v.heap) s) s.nodes) x m))
       (λ x y m h. follow x y h (Among-map_cases (reference_of ns) es (x, y) m))
       (λ ps x m. absurd m)
     where
-      from_seed : (x : Name) → (n : Node) × Among n (filter (is_seed (view v.heap) s) s.nodes) × (n.name ≡ x) → IsNamed x
+      from_seed : (x : Name) → (n : Node) × Among n (filter (is_seed (view v.heap) s) s.nodes) × (n.name ≡ x) → IsReachedName x
       from_seed x n =
-          let stands : Among n.0 (map behind ns) = subst (Among n.0) the_nodes (Among-filtered (is_seed (view v.heap) s) n.0 s.nodes n.1) in
-          let w = Among-map_cases behind ns n.0 stands in
+          let stands : Among n.0 (map node_behind ns) = subst (Among n.0) the_nodes (Among-filtered (is_seed (view v.heap) s) n.0 s.nodes n.1) in
+          let w = Among-map_cases node_behind ns n.0 stands in
           let at = among-place w.0 ns w.1 in
-          let seed : is_seed (view v.heap) s (behind w.0) ≡ true = ap (is_seed (view v.heap) s) w.2 ∙ Among-passes (is_seed (view v.heap) s) n.0 s.nodes n.1 in
+          let seed : is_seed (view v.heap) s (node_behind w.0) ≡ true = ap (is_seed (view v.heap) s) w.2 ∙ Among-passes (is_seed (view v.heap) s) n.0 s.nodes n.1 in
           record {
             number = at.0;
             node = w.0;
             there = at.1;
             name = ap (λ (z : Node). z.name) w.2 ∙ n.2;
-            reached = derive-root roots (map pair_of es) [] at.0 (seed-root at.0 w.0 at.1 seed);
+            reached = derive-root roots (map edge_pair es) [] at.0 (seed-root at.0 w.0 at.1 seed);
           }
 
-      follow : (x y : Name) → IsNamed x → (e : Edge) × Among e es × (reference_of ns e ≡ (x, y)) → IsNamed y
+      follow : (x y : Name) → IsReachedName x → (e : Edge) × Among e es × (reference_of ns e ≡ (x, y)) → IsReachedName y
       follow x y h k =
           let from = node-at ns k.0.source (built.closed k.0 k.1).0 in
           let t = node-at ns k.0.target (built.closed k.0 k.1).1 in
@@ -178,15 +178,15 @@ module _ (b : Built) (v : Keyed) (built : IsBuilt b v) (all : b.next ≡ length 
             node = t.0;
             there = t.1;
             name = second;
-            reached = derive-along roots (map pair_of es) [] k.0.source k.0.target (Among-map pair_of k.0 es k.1) (subst IsReached same h.reached);
+            reached = derive-along roots (map edge_pair es) [] k.0.source k.0.target (Among-map edge_pair k.0 es k.1) (subst IsFromRoots same h.reached);
           }
 
   -- Black in the snapshot is reached from the roots.
-  black-node : (i : ℕ) (w : Vertex) → slice_get ns i ≡ Some w → BlackIn (view v.heap) s w.name ↔ IsReached i
+  black-node : (i : ℕ) (w : Vertex) → slice_get ns i ≡ Some w → BlackIn (view v.heap) s w.name ↔ IsFromRoots i
   black-node i w at = (
     λ d.
         let h = black-reached w.name d in
-        subst IsReached (distinct-number ns built.distinct h.number i h.node w h.there at h.name) h.reached,
+        subst IsFromRoots (distinct-number ns built.distinct h.number i h.node w h.there at h.name) h.reached,
     λ r.
         let h = reached-black i r in
         let both : Some h.node ≡ Some w = sym h.there ∙ at in
@@ -200,10 +200,10 @@ module _ (b : Built) (v : Keyed) (built : IsBuilt b v) (all : b.next ≡ length 
     held_same : held_elsewhere m ≡ held_elsewhere b.graph
     held_same = ap (λ l. numbers_where (λ i w. exceeds (edges_to l i) w.sampled) 0 m.nodes) m_edges ∙ ap (numbers_where (λ i w. exceeds (edges_to es i) w.sampled) 0) m_nodes
 
-    black-reached_in : (i : ℕ) → IsTrue (is_black g i) ↔ IsReached i
+    black-reached_in : (i : ℕ) → IsTrue (is_black g i) ↔ IsFromRoots i
     black-reached_in i = (
-      λ e. derived-from (map pair_of es) (m.blacks ++ held_elsewhere m) roots (λ x l. derive-root roots (map pair_of es) [] x (into x l)) i (subst (λ l. Least (system (m.blacks ++ held_elsewhere m) (map pair_of l) []) i) m_edges ((scanned i).0 e)),
-      λ d. (scanned i).1 (subst (λ l. Least (system (m.blacks ++ held_elsewhere m) (map pair_of l) []) i) (sym m_edges) (derived-from (map pair_of es) roots (m.blacks ++ held_elsewhere m) (λ x l. derive-root (m.blacks ++ held_elsewhere m) (map pair_of es) [] x (back x l)) i d)),
+      λ e. derived-from (map edge_pair es) (m.blacks ++ held_elsewhere m) roots (λ x l. derive-root roots (map edge_pair es) [] x (into x l)) i (subst (λ l. Least (system (m.blacks ++ held_elsewhere m) (map edge_pair l) []) i) m_edges ((scanned i).0 e)),
+      λ d. (scanned i).1 (subst (λ l. Least (system (m.blacks ++ held_elsewhere m) (map edge_pair l) []) i) (sym m_edges) (derived-from (map edge_pair es) roots (m.blacks ++ held_elsewhere m) (λ x l. derive-root (m.blacks ++ held_elsewhere m) (map edge_pair es) [] x (back x l)) i d)),
     )
       where
         into : (x : ℕ) → Among x (m.blacks ++ held_elsewhere m) → Among x roots
@@ -234,8 +234,8 @@ module _ (b : Built) (v : Keyed) (built : IsBuilt b v) (all : b.next ≡ length 
         test : Name → Bool
         test = is_white (view v.heap) (black_in (view v.heap) s)
 
-        the_names : node_names s ≡ names_of ns
-        the_names = ap (map (λ (z : Node). z.name)) the_nodes ∙ names-behind ns
+        the_names : node_names s ≡ vertex_names ns
+        the_names = ap (map (λ (z : Node). z.name)) the_nodes ∙ names-node_behind ns
 
         stands : is_there (view v.heap) x ≡ true
         stands = or_left (has same_name (map (λ (z : Name × ℕ). z.0) (view v.heap).natives) x) (has same_name (scripts_there (view v.heap)) x)
@@ -244,7 +244,7 @@ module _ (b : Built) (v : Keyed) (built : IsBuilt b v) (all : b.next ≡ length 
 
         nowhere : number_of g.nodes x ≡ None → has same_name (filter test (node_names s)) x ≡ true → ⊥
         nowhere e h =
-            let among : Among x (names_of ns) = subst (Among x) the_names (Among-filtered test x (node_names s) (has-among same_name same_name-exact (filter test (node_names s)) x h)) in
+            let among : Among x (vertex_names ns) = subst (Among x) the_names (Among-filtered test x (node_names s) (has-among same_name same_name-exact (filter test (node_names s)) x h)) in
             let w = Among-map_cases (λ (z : Vertex). z.name) ns x among in
             number_from-none 0 g.nodes x e w.0 (subst (Among w.0) (sym nodes) w.1) w.2
 
@@ -254,7 +254,7 @@ module _ (b : Built) (v : Keyed) (built : IsBuilt b v) (all : b.next ≡ length 
             let at : slice_get ns i ≡ Some k.node = subst (λ l. slice_get l i ≡ Some k.node) nodes (subst (λ z. slice_get g.nodes z ≡ Some k.node) place k.there) in
             let black : has same_name (black_in (view v.heap) s) x ≡ is_black g i = ap (has same_name (black_in (view v.heap) s)) (sym k.named) ∙ tests-alike i k.node at in
             let among : Among x (node_names s) = subst (Among x) (sym the_names)
-            (subst (λ z. Among z (names_of ns)) k.named (Among-map (λ (z : Vertex). z.name) k.node ns (place-among k.node ns i at))) in
+            (subst (λ z. Among z (vertex_names ns)) k.named (Among-map (λ (z : Vertex). z.name) k.node ns (place-among k.node ns i at))) in
             same-tests (has same_name (filter test (node_names s)) x) (not (is_black g i))
             (λ e.
             let passes = Among-passes test x (node_names s) (has-among same_name same_name-exact (filter test (node_names s)) x e) in

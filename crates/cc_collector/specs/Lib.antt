@@ -1,3 +1,1 @@
-pub mod Answered
 pub mod Collected
-pub mod Resting

@@ -35,3 +35,4 @@ pub mod Following
 pub mod StandingStill
 pub mod StandingAfter
 pub mod KeysKept
+pub mod FewReferences

@@ -24,7 +24,7 @@ use Rattle.cc_reader.specs.FormsNow.{forms_now}
 use Rattle.cc_reader.specs.Pending.{Pending}
 use Rattle.cc_reader.specs.Given.{AreFirst, HasGiven}
 use Rattle.cc_reader.proofs.Given.{HasGiven-first}
-use Rattle.cc_collector.specs.Answered.{at_rest}
+use Rattle.cc_collector.specs.Collected.{idle_machine}
 use Rattle.cc_replay.specs.Answering.{Answers, AreAnswered, GivesLine, LineIsAnswered, Moment}
 use Rattle.cc_replay.specs.Transcripts.{IsTranscript}
 
@@ -63,8 +63,8 @@ AreAnswered-more : (h₀ h₁ h₂ : Heap) (lines : List (List ℕ)) (line : Lis
     AreAnswered h₀ h₁ lines t₀ t₁ → LineIsAnswered h₁ h₂ line t₁ t₂ → AreAnswered h₀ h₂ (lines ++ line ∷ []) t₀ t₂
 AreAnswered-more h₀ h₁ h₂ lines line t₀ t₁ t₂ a l = record {
   answers = a.answers ++ l.answered.answer ∷ [];
-  done = subst (λ (asks : List Ask). AreDoneFor (at_rest h₀) asks (a.answers ++ l.answered.answer ∷ []) (at_rest h₂)) (sym asks)
-      (AreDoneFor-more (at_rest h₀) (at_rest h₁) (at_rest h₂) (map (ask_of forms_now) lines) a.answers (ask_of forms_now line) l.answered.answer a.done l.answered.done);
+  done = subst (λ (asks : List Ask). AreDoneFor (idle_machine h₀) asks (a.answers ++ l.answered.answer ∷ []) (idle_machine h₂)) (sym asks)
+      (AreDoneFor-more (idle_machine h₀) (idle_machine h₁) (idle_machine h₂) (map (ask_of forms_now) lines) a.answers (ask_of forms_now line) l.answered.answer a.done l.answered.done);
   in_range = ap (list_all ask_in_range) asks ∙ (list_all-append ask_in_range (map (ask_of forms_now) lines) (ask_of forms_now line ∷ [])
       ∙ and_from _ _ a.in_range (and_from _ true l.in_range refl));
   told = subst (Tells t₀ t₂) (sym (text_of_answers-more a.answers l.answered.answer))
@@ -122,5 +122,5 @@ AreAnswered-transcript limits h lines t₀ t₁ a = record {
     asks : List Ask
     asks = map (ask_of forms_now) lines
 
-    o : OneList (at_rest (empty_heap limits)) (at_rest h) asks a.answers
-    o = one_list (at_rest (empty_heap limits)) (at_rest h) asks a.answers a.done
+    o : OneList (idle_machine (empty_heap limits)) (idle_machine h) asks a.answers
+    o = one_list (idle_machine (empty_heap limits)) (idle_machine h) asks a.answers a.done

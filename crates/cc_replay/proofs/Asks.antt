@@ -14,7 +14,7 @@ use Rattle.cc_model.specs.Run.{do_ask}
 use Rattle.cc_laws_run.specs.Memory.{IsDoneFor}
 use Rattle.cc_laws_run.specs.Running.{ask_in_range}
 use Rattle.cc_reader.specs.FormsNow.{forms_now}
-use Rattle.cc_collector.specs.Answered.{at_rest}
+use Rattle.cc_collector.specs.Collected.{idle_machine}
 use Rattle.cc_replay.specs.Answering.{LineIsAnswered}
 
 -- a line of at most 120 bytes asks what its command says
@@ -31,19 +31,19 @@ ask_of-long : (line : List ℕ) → 120 < length line → ask_of forms_now line 
 ask_of-long line above = ap (λ b. elim b as (λ _. Ask) [ true ↦ long | false ↦ taken_or_bad (command_of forms_now line) ]) (lt-ltb longest_line (length line) above)
 
 -- a line that is too long, and one that is not in the grammar, change nothing
-IsDoneFor-long : (h : Heap) → IsDoneFor (at_rest h) long (replying [] (Refused Long)) (at_rest h)
+IsDoneFor-long : (h : Heap) → IsDoneFor (idle_machine h) long (replying [] (Refused Long)) (idle_machine h)
 unfolding do_ask
 IsDoneFor-long h = record { memory = []; answer = refl; after = record { heap = refl; snapshot = refl } }
 
-IsDoneFor-bad : (h : Heap) → IsDoneFor (at_rest h) bad (replying [] (Refused Line)) (at_rest h)
+IsDoneFor-bad : (h : Heap) → IsDoneFor (idle_machine h) bad (replying [] (Refused Line)) (idle_machine h)
 unfolding do_ask
 IsDoneFor-bad h = record { memory = []; answer = refl; after = record { heap = refl; snapshot = refl } }
 
 -- so it is answered by its refusal alone
-answered-as : {ask : Ask} (answer : Answer) (h : Heap) (line : List ℕ) {before after : Telling} → ask_of forms_now line ≡ ask → IsDoneFor (at_rest h) ask answer (at_rest h) →
+answered-as : {ask : Ask} (answer : Answer) (h : Heap) (line : List ℕ) {before after : Telling} → ask_of forms_now line ≡ ask → IsDoneFor (idle_machine h) ask answer (idle_machine h) →
     ask_in_range ask ≡ true → Tells before after (texts_of (items_of answer)) → LineIsAnswered h h line before after
 answered-as answer h line asks done in_range told = record {
-  answered = record { answer = answer; done = subst (λ a. IsDoneFor (at_rest h) a answer (at_rest h)) (sym asks) done; told = told };
+  answered = record { answer = answer; done = subst (λ a. IsDoneFor (idle_machine h) a answer (idle_machine h)) (sym asks) done; told = told };
   in_range = ap ask_in_range asks ∙ in_range;
 }
 

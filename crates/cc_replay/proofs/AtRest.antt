@@ -1,10 +1,20 @@
--- THE HEAPS BETWEEN TWO ASKS: counts are small.
-use Rattle.std.proofs.Common.{[], arith}
-use Rattle.cc_laws_heap.proofs.CountBound.{count-bound}
+-- THE HEAPS BETWEEN TWO ASKS: at the start, and that counts are small.
+use Rattle.std.proofs.Common.{◌≡◌, [], refl, sym, subst}
+use Rattle.cc_model.specs.Heap.{empty_heap}
+use Rattle.cc_model.specs.View.{view}
+use Rattle.cc_model.specs.Colours.{HasColourInvariant}
 use Rattle.cc_heaps.specs.Few.{AreFew}
-use Rattle.cc_heaps.specs.Keyed.{Keyed}
-use Rattle.cc_collector.specs.Resting.{IsAtRest}
+use Rattle.cc_heaps.specs.Keyed.{Keyed, IsInOrder}
+use Rattle.cc_heaps.proofs.FewReferences.{few_references}
+use Rattle.cc_replay.specs.Resting.{IsAtRest}
+
+-- nothing is there at the start
+pub IsAtRest-empty : (v : Keyed) → IsInOrder [] v → v.heap ≡ empty_heap v.heap.limits → IsAtRest v
+IsAtRest-empty v order empty = record {
+  order = order;
+  colours = subst (λ h. HasColourInvariant (view h)) (sym empty) (record { black_to_black = λ x y m. absurd m; held_black = λ x m. absurd m; none_white = refl });
+}
 
 -- no count is greater than all references there can be
 pub counts_few : (v : Keyed) → IsAtRest v → AreFew v.heap
-counts_few v rest n there = omega (arith, count-bound [] v.heap n rest.order.sound rest.order.limits.0 there)
+counts_few v rest = few_references v rest.order

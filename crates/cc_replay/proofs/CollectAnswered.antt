@@ -12,9 +12,10 @@ use Rattle.cc_model.specs.End.{Progress}
 use Rattle.cc_model.specs.Collecting.{UnitsDone, collect, reply_to_units}
 use Rattle.cc_model.specs.Run.{do_ask}
 use Rattle.cc_laws_run.specs.Memory.{with_memory}
-use Rattle.cc_collector.specs.Answered.{at_rest, IsAnswered}
+use Rattle.cc_collector.specs.Collected.{idle_machine}
+use Rattle.cc_replay.specs.Answered.{IsAnswered}
 use Rattle.cc_collector.specs.Collected.{IsCollected}
-use Rattle.cc_collector.proofs.Tellings.{told-last}
+use Rattle.cc_replay.proofs.Tellings.{told-last}
 
 pub IsCollected-answered : (old new : Heap) (progress : Progress) (reply : Reply) (t₀ t₁ t₂ : Telling) → IsCollected old new progress t₀ t₁ →
     reply_to_units progress ≡ reply → Tells t₁ t₂ (text_of (of_reply reply)) → IsAnswered old new (taken Collect) t₀ t₂
@@ -30,4 +31,4 @@ IsCollected-answered old new progress reply t₀ t₁ t₂ c replies told = reco
 }
   where
     d : UnitsDone
-    d = collect (with_memory (at_rest old) c.memory)
+    d = collect (with_memory (idle_machine old) c.memory)

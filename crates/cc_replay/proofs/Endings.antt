@@ -1,5 +1,5 @@
 -- HOW A RUN ENDS: from lines that were given and answered to what is written for the bytes taken.
-use Rattle.std.proofs.Common.{◌≡◌, ℕ, Bool, false, true, List, [], length, map, take, Option, sym, ap, ◌∙◌, subst, ◌⊎◌, ⊎_elim, inl, inr, arith}
+use Rattle.std.proofs.Common.{◌≡◌, ℕ, false, true, List, [], length, map, take, Option, sym, ap, ◌∙◌, subst, ◌⊎◌, ⊎_elim, inl, inr, arith}
 use Rattle.cc_names.specs.Allowance.{Allowance}
 use Rattle.cc_model.specs.Answers.{text_of_answers}
 use Rattle.cc_model.specs.Asks.{ask_of}

@@ -8,3 +8,4 @@ pub mod GivenWords
 pub mod OptionRows
 pub mod Replying
 pub mod AtRest
+pub mod Tellings

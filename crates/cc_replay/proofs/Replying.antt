@@ -25,9 +25,9 @@ use Rattle.cc_model.proofs.Tellings.{Tells-nil}
 use Rattle.cc_heaps.specs.Keyed.{Keyed}
 use Rattle.cc_mutator.specs.Applied.{is_applied, IsCarriedOut}
 use Rattle.cc_reader.specs.FormsNow.{is_known}
-use Rattle.cc_collector.specs.Answered.{IsAnswered}
+use Rattle.cc_replay.specs.Answered.{IsAnswered}
 use Rattle.cc_collector.specs.Collected.{machine}
-use Rattle.cc_collector.proofs.Tellings.{told-last}
+use Rattle.cc_replay.proofs.Tellings.{told-last}
 
 -- A command that is known is one of the mutator, where it is none of these
 pub known-applied : (c : Command) → IsTrue (is_known c) → c ≢ command.Nothing → c ≢ command.Census → c ≢ command.Collect → c ≢ command.Gc → IsTrue (is_applied c)

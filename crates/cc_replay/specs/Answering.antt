@@ -10,7 +10,8 @@ use Rattle.cc_laws_run.specs.Running.{ask_in_range}
 use Rattle.cc_reader.specs.FormsNow.{forms_now}
 use Rattle.cc_reader.specs.Pending.{Pending}
 use Rattle.cc_reader.specs.Given.{HasGiven}
-use Rattle.cc_collector.specs.Answered.{at_rest, IsAnswered}
+use Rattle.cc_collector.specs.Collected.{idle_machine}
+use Rattle.cc_replay.specs.Answered.{IsAnswered}
 
 -- one more line was given, whatever was given before
 abbrev pub GivesLine : Option (List ℕ) → Option (List ℕ) → Pending → Pending → List ℕ → Type 0
@@ -35,7 +36,7 @@ moment left window heap telling = record { left = left; window = window; heap = 
 -- these lines are answered, from one moment to another
 pub record AreAnswered (old new : Heap) (lines : List (List ℕ)) (before after : Telling) : Type 0 where
   pub answers : List Answer
-  pub done : AreDoneFor (at_rest old) (map (ask_of forms_now) lines) answers (at_rest new)
+  pub done : AreDoneFor (idle_machine old) (map (ask_of forms_now) lines) answers (idle_machine new)
   pub in_range : IsTrue (list_all ask_in_range (map (ask_of forms_now) lines))
   pub told : Tells before after (text_of_answers answers)
 

@@ -10,8 +10,8 @@ ghost use Rattle.cc_model.specs.Heap.{empty_heap};
 ghost use Rattle.cc_model.specs.Suspected.{IsSuspected};
 ghost use Rattle.cc_model.specs.View.{view};
 ghost use Rattle.cc_reader.specs.FormsNow.{is_known};
-ghost use Rattle.cc_collector.specs.Answered.{IsAnswered};
-ghost use Rattle.cc_collector.specs.Resting.{IsAtRest};
+ghost use Rattle.cc_replay.specs.Answered.{IsAnswered};
+ghost use Rattle.cc_replay.specs.Resting.{IsAtRest};
 ghost use Rattle.cc_heaps.specs.Few.{AreFew};
 ghost use Rattle.cc_heaps.specs.Keyed.{IsInOrder};
 ghost use Rattle.cc_mutator.specs.Applied.{is_applied};
@@ -20,7 +20,7 @@ ghost use Rattle.cc_replay.specs.Transcripts.{ends, IsDone, StopsAtFault, StopsA
 
 use crate::outlet::Reports;
 use crate::status::Status;
-use cc_collector::collect_whole;
+use cc_collector::Collector;
 use cc_gc::collect_scripts;
 use cc_heaps::Heaps;
 use cc_model::{Command, Item, Notices, Refusal, Reply};
@@ -55,7 +55,7 @@ fn answer_collect<N: Notices>(alloc: Global, heaps: &mut Heaps, out: &mut N)
     ensures answered { IsAnswered heaps.old.heap heaps.new.heap (taken command.Collect) (N.telling out.old) (N.telling out.new) }
     ensures rest { IsAtRest heaps.new }
 {
-    match collect_whole(alloc, heaps, out) {
+    match Collector::new(alloc).whole(heaps, out) {
         Ok(()) => out.tell(Item::Reply(Reply::Done)),
         Err(NoMemory) => out.tell(Item::Reply(Reply::Refused(Refusal::NoMemory))),
     }

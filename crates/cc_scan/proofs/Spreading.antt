@@ -13,7 +13,7 @@ use Rattle.cc_lists.proofs.OnceEach.{with_all_last-keeps, with_all_last-there, w
 use Rattle.cc_lists.proofs.Numbers.{number-exact}
 use Rattle.cc_lists.proofs.Places.{once-few, among-place, place-among, place-append}
 use Rattle.cc_graph.specs.Shown.{Edge, Shown, is_black}
-use Rattle.cc_scan.specs.Scanning.{held_elsewhere, pair_of, scan_rules}
+use Rattle.cc_scan.specs.Scanning.{held_elsewhere, edge_pair, scan_rules}
 use Rattle.cc_scan.proofs.NotedPlaces.{targets_of}
 
 -- it keeps its place where others go last
@@ -43,8 +43,8 @@ pub record IsSpread (g₀ g : Shown) (i : ℕ) : Type 0 where
   pub once : (k : ℕ) → count_by (λ j. k == j) g.blacks ≤ 1
   pub below : (k : ℕ) → Among k g.blacks → k < length g₀.nodes
   pub kept : (k : ℕ) → Among k g₀.blacks → Among k g.blacks
-  derived : (k : ℕ) → Among k g.blacks → Least (system g₀.blacks (map pair_of g₀.edges) []) k
-  followed : (place k m : ℕ) → place < i → slice_get g.blacks place ≡ Some k → Among (k, m) (map pair_of g₀.edges) → Among m g.blacks
+  derived : (k : ℕ) → Among k g.blacks → Least (system g₀.blacks (map edge_pair g₀.edges) []) k
+  followed : (place k m : ℕ) → place < i → slice_get g.blacks place ≡ Some k → Among (k, m) (map edge_pair g₀.edges) → Among m g.blacks
 
 -- at the start
 pub spread-start : (g : Shown) → ((e : Edge) → Among e g.edges → e.target < length g.nodes) → ((k : ℕ) → count_by (λ j. k == j) g.blacks ≤ 1) → ((k : ℕ) → Among k g.blacks → k < length g.nodes) → IsSpread g g 0
@@ -54,7 +54,7 @@ spread-start g targets once below = record {
   once = once;
   below = below;
   kept = λ k m. m;
-  derived = λ k m. derive-root g.blacks (map pair_of g.edges) [] k m;
+  derived = λ k m. derive-root g.blacks (map edge_pair g.edges) [] k m;
   followed = λ place k m l. absurd (omega arith);
 }
 
@@ -78,7 +78,7 @@ module _ (g₀ g new : Shown) (i node : ℕ) (h : IsSpread g₀ g i)
   either : (k : ℕ) → Among k new.blacks → Among k g.blacks ⊎ Among k given
   either k m = with_all_last-cases _ number-exact g.blacks given k (subst (Among k) all_blacks m)
 
-  follow : (place k m : ℕ) → place < i + 1 → slice_get new.blacks place ≡ Some k → Among (k, m) (map pair_of g₀.edges) → Among m new.blacks
+  follow : (place k m : ℕ) → place < i + 1 → slice_get new.blacks place ≡ Some k → Among (k, m) (map edge_pair g₀.edges) → Among m new.blacks
   follow place k m l e edge =
       let within : i < length g.blacks = slice_get_within g.blacks i node at in
       ⊎_elim
@@ -88,7 +88,7 @@ module _ (g₀ g new : Shown) (i node : ℕ) (h : IsSpread g₀ g i)
       ⊎_elim
       (λ t.
       let it : node ≡ k = one (sym at ∙ (ap (slice_get g.blacks) (sym t.1) ∙ stood)) in
-      comes m (led m (subst (λ z. Among (z, m) (map pair_of g₀.edges)) (sym it) edge)))
+      comes m (led m (subst (λ z. Among (z, m) (map edge_pair g₀.edges)) (sym it) edge)))
       (λ f. let other : ¬ (place ≡ i) = f.1 in stays m (h.followed place k m (omega arith) stood edge))
       (eqb_tells place i))
       (λ past. let far : length g.blacks ≤ place = past.0 in absurd (omega arith))
@@ -97,9 +97,9 @@ module _ (g₀ g new : Shown) (i node : ℕ) (h : IsSpread g₀ g i)
       one : {x y : ℕ} → Some x ≡ Some y → x ≡ y
       one f = cc
 
-      led : (n : ℕ) → Among (node, n) (map pair_of g₀.edges) → Among n given
+      led : (n : ℕ) → Among (node, n) (map edge_pair g₀.edges) → Among n given
       led n edge =
-          let k = Among-map_cases pair_of g₀.edges (node, n) edge in
+          let k = Among-map_cases edge_pair g₀.edges (node, n) edge in
           subst (λ z. Among z given) (ap (λ (z : ℕ × ℕ). z.1) k.2) (edge-target node g₀.edges k.0 k.1 (ap (λ (z : ℕ × ℕ). z.0) k.2))
 
   pub spread-next : IsSpread g₀ new (i + 1)
@@ -116,9 +116,9 @@ module _ (g₀ g new : Shown) (i node : ℕ) (h : IsSpread g₀ g i)
         (λ l. h.derived k l)
         (λ r.
         let t = target-edge node g₀.edges k r in
-        let edge : Among (t.0.source, t.0.target) (map pair_of g₀.edges) = Among-map pair_of t.0 g₀.edges t.1 in
-        derive-along g₀.blacks (map pair_of g₀.edges) [] node k
-        (subst (λ z. Among (z, k) (map pair_of g₀.edges)) t.2 (subst (λ z. Among (t.0.source, z) (map pair_of g₀.edges)) t.3 edge))
+        let edge : Among (t.0.source, t.0.target) (map edge_pair g₀.edges) = Among-map edge_pair t.0 g₀.edges t.1 in
+        derive-along g₀.blacks (map edge_pair g₀.edges) [] node k
+        (subst (λ z. Among (z, k) (map edge_pair g₀.edges)) t.2 (subst (λ z. Among (t.0.source, z) (map edge_pair g₀.edges)) t.3 edge))
         (h.derived node (place-among node g.blacks i at)))
         (either k m);
     followed = follow;
@@ -126,10 +126,10 @@ module _ (g₀ g new : Shown) (i node : ℕ) (h : IsSpread g₀ g i)
 
 -- where no black node is left that did not give its targets
 spread-end : (g₀ g : Shown) (i : ℕ) → IsSpread g₀ g i → length g.blacks ≤ i →
-    (k : ℕ) → IsTrue (is_black g k) ↔ Least (system g₀.blacks (map pair_of g₀.edges) []) k
+    (k : ℕ) → IsTrue (is_black g k) ↔ Least (system g₀.blacks (map edge_pair g₀.edges) []) k
 spread-end g₀ g i h past k = (
   λ e. h.derived k (has-among _ number-exact g.blacks k e),
-  λ d. has-there _ number-exact g.blacks k (derived-within g₀.blacks (map pair_of g₀.edges) [] (λ z. Among z g.blacks) h.kept
+  λ d. has-there _ number-exact g.blacks k (derived-within g₀.blacks (map edge_pair g₀.edges) [] (λ z. Among z g.blacks) h.kept
       (λ x y edge m.
       let p = among-place x g.blacks m in
       let within : p.0 < length g.blacks = slice_get_within g.blacks p.0 x p.1 in
@@ -139,18 +139,18 @@ spread-end g₀ g i h past k = (
 
 -- there is no more after as many places as there are nodes
 pub spread-all : (g₀ g : Shown) (i : ℕ) → IsSpread g₀ g i → length g₀.nodes ≤ i →
-    (k : ℕ) → IsTrue (is_black g k) ↔ Least (system g₀.blacks (map pair_of g₀.edges) []) k
+    (k : ℕ) → IsTrue (is_black g k) ↔ Least (system g₀.blacks (map edge_pair g₀.edges) []) k
 spread-all g₀ g i h past = let few : length g.blacks ≤ length g₀.nodes = once-few (length g₀.nodes) g.blacks h.once h.below in spread-end g₀ g i h (omega arith)
 
 -- or after a place at which there is none
 pub spread-none : (g₀ g : Shown) (i : ℕ) → IsSpread g₀ g i → slice_get g.blacks i ≡ None →
-    (k : ℕ) → IsTrue (is_black g k) ↔ Least (system g₀.blacks (map pair_of g₀.edges) []) k
+    (k : ℕ) → IsTrue (is_black g k) ↔ Least (system g₀.blacks (map edge_pair g₀.edges) []) k
 spread-none g₀ g i h none = ⊎_elim (λ had. let f : Some had.0 ≡ None = sym had.2 ∙ none in absurd (cc)) (λ past. spread-end g₀ g i h past.0) (slice_get_cases g.blacks i).1
 
 -- what is held from elsewhere became black first
 pub scanned : (g₀ g new : Shown) → g ≡ record g₀ { blacks = g.blacks } →
     ((k : ℕ) → IsTrue (is_black g k) ↔ (IsTrue (is_black g₀ k) ⊎ Among k (held_elsewhere g₀))) →
-    ((k : ℕ) → IsTrue (is_black new k) ↔ Least (system g.blacks (map pair_of g.edges) []) k) →
+    ((k : ℕ) → IsTrue (is_black new k) ↔ Least (system g.blacks (map edge_pair g.edges) []) k) →
     (k : ℕ) → IsTrue (is_black new k) ↔ Least (scan_rules g₀) k
 scanned g₀ g new rest marked least k = (
   λ b. there g.edges (ap (λ (z : Shown). z.edges) rest) ((least k).0 b),
@@ -160,17 +160,17 @@ scanned g₀ g new rest marked least k = (
     roots : List ℕ
     roots = g₀.blacks ++ held_elsewhere g₀
 
-    there : (edges : List Edge) → edges ≡ g₀.edges → Least (system g.blacks (map pair_of edges) []) k → Least (scan_rules g₀) k
-    there edges e d = derived-from (map pair_of g₀.edges) g.blacks roots
-        (λ x m. derive-root roots (map pair_of g₀.edges) [] x (⊎_elim
+    there : (edges : List Edge) → edges ≡ g₀.edges → Least (system g.blacks (map edge_pair edges) []) k → Least (scan_rules g₀) k
+    there edges e d = derived-from (map edge_pair g₀.edges) g.blacks roots
+        (λ x m. derive-root roots (map edge_pair g₀.edges) [] x (⊎_elim
         (λ o. Among-left x g₀.blacks (held_elsewhere g₀) (has-among _ number-exact g₀.blacks x o))
         (λ t. Among-right x g₀.blacks (held_elsewhere g₀) t)
         ((marked x).0 (has-there _ number-exact g.blacks x m))))
-        k (subst (λ es. Least (system g.blacks (map pair_of es) []) k) e d)
+        k (subst (λ es. Least (system g.blacks (map edge_pair es) []) k) e d)
 
-    back : (edges : List Edge) → edges ≡ g₀.edges → Least (scan_rules g₀) k → Least (system g.blacks (map pair_of edges) []) k
-    back edges e d = subst (λ es. Least (system g.blacks (map pair_of es) []) k) (sym e) (derived-from (map pair_of g₀.edges) roots g.blacks
-        (λ x m. derive-root g.blacks (map pair_of g₀.edges) [] x (has-among _ number-exact g.blacks x ((marked x).1 (⊎_elim
+    back : (edges : List Edge) → edges ≡ g₀.edges → Least (scan_rules g₀) k → Least (system g.blacks (map edge_pair edges) []) k
+    back edges e d = subst (λ es. Least (system g.blacks (map edge_pair es) []) k) (sym e) (derived-from (map edge_pair g₀.edges) roots g.blacks
+        (λ x m. derive-root g.blacks (map edge_pair g₀.edges) [] x (has-among _ number-exact g.blacks x ((marked x).1 (⊎_elim
         (λ l. inl (has-there _ number-exact g₀.blacks x l))
         (λ r. inr r)
         (Among-append x g₀.blacks (held_elsewhere g₀) m))))) k d)

@@ -13,9 +13,9 @@ exceeds noted (Some n) = nat_lt noted n
 abbrev pub held_elsewhere : Shown → List ℕ
 held_elsewhere g = numbers_where (λ i v. exceeds (edges_to g.edges i) v.sampled) 0 g.nodes
 
-abbrev pub pair_of : Edge → ℕ × ℕ
-pair_of e = (e.source, e.target)
+abbrev pub edge_pair : Edge → ℕ × ℕ
+edge_pair e = (e.source, e.target)
 
 -- what is black is black still; so is what is held from elsewhere, and what a black node's noted references lead to
 abbrev pub scan_rules : Shown → List (Rule ℕ)
-scan_rules g = system (g.blacks ++ held_elsewhere g) (map pair_of g.edges) []
+scan_rules g = system (g.blacks ++ held_elsewhere g) (map edge_pair g.edges) []

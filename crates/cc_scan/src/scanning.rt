@@ -4,7 +4,7 @@ ghost use Rattle.cc_lists.specs.Members.{Among, with_all_last};
 ghost use Rattle.cc_lists.specs.Least.{Least, system};
 ghost use Rattle.cc_graph.specs.Shown.{edges_to};
 ghost use Rattle.cc_graph.specs.Shown as shown;
-ghost use Rattle.cc_scan.specs.Scanning.{exceeds, held_elsewhere, pair_of, scan_rules};
+ghost use Rattle.cc_scan.specs.Scanning.{exceeds, held_elsewhere, edge_pair, scan_rules};
 
 use cc_graph::Graph;
 
@@ -44,7 +44,7 @@ fn is_held_elsewhere(graph: &Graph, i: u32) -> bool
 /// Makes black what black nodes lead to, and what that leads to in turn: each black node gives the targets of its
 /// references once, and those that became black by it come behind it on the list.
 fn blacken_reached(graph: &mut Graph)
-    ensures least { (i : ℕ) → IsTrue (shown.is_black graph.new i) ↔ Least (system graph.old.blacks (map pair_of graph.old.edges) []) i }
+    ensures least { (i : ℕ) → IsTrue (shown.is_black graph.new i) ↔ Least (system graph.old.blacks (map edge_pair graph.old.edges) []) i }
     ensures rest { graph.new ≡ record graph.old { blacks = graph.new.blacks } }
 {
     for i in 0..graph.len() {

@@ -1,6 +1,7 @@
 pub mod LeftWith
 pub mod NextWhite
 pub mod Passing
+pub mod Promises
 pub mod Rooting
 pub mod Unlinking
 pub mod Unrooting

@@ -1,7 +1,12 @@
 -- THE WHITE NATIVES, by rising number.
-use Rattle.std.specs.Prelude.{ℕ, Bool, false, not, List, map, filter, Option, Some, None}
+use Rattle.std.specs.Prelude.{◌≡◌, ℕ, Bool, false, not, List, map, filter, Option, Some, None}
 use Rattle.cc_names.specs.Names.{native}
+use Rattle.cc_lists.specs.Members.{Among}
 use Rattle.cc_model.specs.Heap.{Heap, HeapNative}
+use Rattle.cc_model.specs.View.{view, ReachedIn}
+use Rattle.cc_model.specs.Snapshot.{Snapshot, white_natives}
+use Rattle.cc_model.specs.Fresh.{IsTraversed}
+use Rattle.cc_laws_snapshot.specs.Kinds.{IsFreshIn}
 use Rattle.cc_graph.specs.Shown.{Shown, number_of, is_black}
 use Rattle.cc_heaps.specs.Holders.{is_above}
 
@@ -24,3 +29,13 @@ whites_of g h = map (λ n. n.number) (filter (is_white_in g) h.natives)
 -- those with a number above
 abbrev pub whites_above : Shown → Heap → Option ℕ → List ℕ
 whites_above g h at = filter (is_above at) (whites_of g h)
+
+-- no register reaches any of these natives
+abbrev pub AreUnreached : Heap → List ℕ → Type 0
+AreUnreached h ks = (k : ℕ) → Among k ks → ¬ (ReachedIn (view h) (native k))
+
+-- the white natives of a graph are those of a snapshot, which is fresh and traversed
+pub record AreWhiteIn (g : Shown) (h : Heap) (s : Snapshot) : Type 0 where
+  pub fresh : IsFreshIn h s
+  pub traversed : IsTraversed s
+  pub natives : whites_of g h ≡ white_natives h s

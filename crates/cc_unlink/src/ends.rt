@@ -1,13 +1,17 @@
 //! Three passes over the white natives, each by rising number: they are rooted, unlinked and unrooted.
-ghost use Rattle.std.specs.Prelude.{◌≡◌, ℕ, List, [], map, filter, IsSome, IfSome, option_and_then};
-ghost use Rattle.cc_model.specs.declared.item.Item.TheVariants.{Event as of_event};
-ghost use Rattle.cc_model.specs.Telling.{Tells};
-ghost use Rattle.cc_model.specs.Texts.{texts_of};
+ghost use Rattle.std.specs.Prelude.{◌≡◌, ℕ, List, [], filter, IsSome, IfSome, option_and_then};
+ghost use Rattle.cc_model.specs.Telling.{TellsEvents};
 ghost use Rattle.cc_model.specs.Heap.{silently};
+ghost use Rattle.cc_model.specs.View.{view};
+ghost use Rattle.cc_model.specs.Snapshot.{Snapshot};
+ghost use Rattle.cc_model.specs.Suspected.{IsSuspected};
 ghost use Rattle.cc_model.specs.End.{root_each, unlink_each, unroot_each, take_away};
 ghost use Rattle.cc_counted.specs.Counts as counts;
 ghost use Rattle.cc_heaps.specs.Keyed.{IsInOrder, number_at, changed_to, left_with};
-ghost use Rattle.cc_unlink.specs.Whites.{whites_of, is_white_number, whites_above};
+ghost use Rattle.cc_unlink.specs.Whites.{AreUnreached, AreWhiteIn, whites_of, is_white_number, whites_above};
+ghost use Rattle.cc_heaps.specs.Changes.{KeepsKeys};
+ghost use Rattle.cc_heaps.specs.Few.{AreFew};
+ghost use Rattle.cc_heaps.specs.Standing.{StillStands, KeepsColours};
 ghost use Rattle.cc_heaps.specs.Holders.{native_numbers, is_above, first_of};
 
 use cc_counted::Counted;
@@ -80,8 +84,7 @@ fn root_whites(graph: &Graph, heaps: &mut Heaps)
 fn unlink_whites<N: Notices>(graph: &Graph, heaps: &mut Heaps, out: &mut N)
     requires order { IsInOrder (whites_of graph.now heaps.old.heap) heaps.old }
     ensures heap { heaps.new ≡ left_with heaps.old (unlink_each (whites_of graph.now heaps.old.heap) (silently heaps.old.heap)).heap }
-    ensures told { Tells (N.telling out.old) (N.telling out.new)
-        (texts_of (map of_event (unlink_each (whites_of graph.now heaps.old.heap) (silently heaps.old.heap)).events)) }
+    ensures told { TellsEvents (N.telling out.old) (N.telling out.new) (unlink_each (whites_of graph.now heaps.old.heap) (silently heaps.old.heap)).events }
     ensures order { IsInOrder (whites_of graph.now heaps.old.heap) heaps.new }
     ensures whites { whites_of graph.now heaps.new.heap ≡ whites_of graph.now heaps.old.heap }
 {
@@ -96,8 +99,7 @@ fn unlink_whites<N: Notices>(graph: &Graph, heaps: &mut Heaps, out: &mut N)
 fn unroot_whites<N: Notices>(graph: &Graph, heaps: &mut Heaps, out: &mut N)
     requires order { IsInOrder (whites_of graph.now heaps.old.heap) heaps.old }
     ensures heap { heaps.new ≡ left_with heaps.old (unroot_each (whites_of graph.now heaps.old.heap) (silently heaps.old.heap)).heap }
-    ensures told { Tells (N.telling out.old) (N.telling out.new)
-        (texts_of (map of_event (unroot_each (whites_of graph.now heaps.old.heap) (silently heaps.old.heap)).events)) }
+    ensures told { TellsEvents (N.telling out.old) (N.telling out.new) (unroot_each (whites_of graph.now heaps.old.heap) (silently heaps.old.heap)).events }
     ensures order { IsInOrder [] heaps.new }
 {
     let mut next = next_white(graph, heaps, None);
@@ -110,12 +112,20 @@ fn unroot_whites<N: Notices>(graph: &Graph, heaps: &mut Heaps, out: &mut N)
 
 /// THE END OF A COLLECTION: all white natives are rooted, then unlinked, then unrooted, so that none of them is deleted
 /// before all of them are unlinked. It takes no memory.
+///
+/// Where no register reaches any of them the heaps go on standing for the same graphs. Where they are the white natives of
+/// a snapshot that is fresh and traversed, no native that nothing reaches is forgotten.
+#[tactic(auto, using(cc_heaps::proofs::FewReferences::few_references))]
 pub fn collect_white<N: Notices>(graph: Graph, heaps: &mut Heaps, out: &mut N)
     requires order { IsInOrder [] heaps.old }
     ensures heap { heaps.new ≡ left_with heaps.old (take_away (whites_of graph heaps.old.heap) heaps.old.heap).heap }
-    ensures told { Tells (N.telling out.old) (N.telling out.new)
-        (texts_of (map of_event (take_away (whites_of graph heaps.old.heap) heaps.old.heap).events)) }
+    ensures told { TellsEvents (N.telling out.old) (N.telling out.new) (take_away (whites_of graph heaps.old.heap) heaps.old.heap).events }
     ensures order { IsInOrder [] heaps.new }
+    ensures stands { AreUnreached heaps.old.heap (whites_of graph heaps.old.heap) → StillStands heaps.old.heap heaps.new.heap }
+    ensures suspected { (s : Snapshot) → AreWhiteIn graph heaps.old.heap s → IsSuspected (view heaps.old.heap) s.candidates → IsSuspected (view heaps.new.heap) [] }
+    ensures colours { KeepsColours heaps.old.heap heaps.new.heap }
+    ensures keys { KeepsKeys heaps.old heaps.new }
+    ensures few { AreFew heaps.new.heap }
 {
     root_whites(&graph, heaps);
     unlink_whites(&graph, heaps, out);

@@ -4,3 +4,6 @@
 mod ends;
 
 pub use ends::collect_white;
+
+#[cfg(test)]
+mod tests;

@@ -3,12 +3,13 @@ ghost use Rattle.std.specs.Prelude.{◌≡◌, ◌≢◌, ◌<◌, ◌≤◌, �
 ghost use Rattle.cc_model.specs.Units.{first_untraversed, to_note};
 ghost use Rattle.cc_model.specs.Units as units;
 ghost use Rattle.cc_model.specs.End.{may_be_refused};
+ghost use Rattle.cc_laws_snapshot.specs.Kinds.{IsFreshIn};
 ghost use Rattle.cc_heaps.specs.Keyed.{IsInOrder};
 ghost use Rattle.cc_heaps.specs.Changes.{IsThere, held_name};
-ghost use Rattle.cc_builder.specs.Building.{IsBuilt, IsNodeUnit, name_at, snapshot_of};
+ghost use Rattle.cc_builder.specs.Building.{IsBuilt, IsNodeUnit, vertex_name, snapshot_of};
 ghost use Rattle.cc_graph.specs.Held.{AreHeld};
 ghost use Rattle.cc_heaps.specs.HasKey.{HasKey};
-ghost use Rattle.cc_builder.specs.BuildSteps.{contents_at, noting, noting_one, sample_of, slot_at, slots_of, the_name, with_next_passed, with_room};
+ghost use Rattle.cc_builder.specs.BuildSteps.{contents_at, noting, noting_one, sample_of, noted_slot, held_slots, the_name, with_next_passed, with_room};
 
 use crate::build::{Build, Step};
 use cc_counted::Held;
@@ -25,11 +26,15 @@ impl Build {
         requires held { AreHeld self.old.graph (HasKey heaps.now) }
         requires order { IsInOrder [] heaps.now }
         ensures unit { IfOk result (λ step. step ≢ Step.Complete → IsNodeUnit heaps.now.heap (snapshot_of self.old) (snapshot_of self.new)) }
-        ensures gone { result ≡ Ok Step.Gone → to_note heaps.now.heap (name_at self.old.graph.nodes self.old.next) ≡ None }
-        ensures traversed { result ≡ Ok Step.Traversed → IsSome (to_note heaps.now.heap (name_at self.old.graph.nodes self.old.next)) }
-        ensures complete { result ≡ Ok Step.Complete → (first_untraversed (snapshot_of self.old).nodes ≡ None) × (self.new ≡ self.old) × (self.old.next ≡ length self.old.graph.nodes) }
+        ensures gone { result ≡ Ok Step.Gone → to_note heaps.now.heap (vertex_name self.old.graph.nodes self.old.next) ≡ None }
+        ensures traversed { result ≡ Ok Step.Traversed → IsSome (to_note heaps.now.heap (vertex_name self.old.graph.nodes self.old.next)) }
+        ensures complete { result ≡ Ok Step.Complete → first_untraversed (snapshot_of self.old).nodes ≡ None }
+        ensures unchanged { result ≡ Ok Step.Complete → self.new ≡ self.old }
+        ensures behind { result ≡ Ok Step.Complete → self.old.next ≡ length self.old.graph.nodes }
         ensures progress { IfOk result (λ step. step ≢ Step.Complete → self.new.next ≡ self.old.next + 1) }
-        ensures refused { OnErr result ((may_be_refused heaps.now.heap (Some (snapshot_of self.old)) ≡ true) × ((snapshot_of self.new).candidates ≡ (snapshot_of self.old).candidates)) }
+        ensures fresh { OnOk result (IsFreshIn heaps.now.heap (snapshot_of self.old) → IsFreshIn heaps.now.heap (snapshot_of self.new)) }
+        ensures candidates { (snapshot_of self.new).candidates ≡ (snapshot_of self.old).candidates }
+        ensures refused { OnErr result (may_be_refused heaps.now.heap (Some (snapshot_of self.old)) ≡ true) }
         ensures built { IsBuilt self.new heaps.now }
         ensures held { AreHeld self.new.graph (HasKey heaps.now) }
     {
@@ -55,8 +60,8 @@ impl Build {
         requires order { IsInOrder [] heaps.now }
         requires within { node < length self.now.graph.nodes }
         ensures there { IsThere heaps.now result }
-        ensures name { IfSome result (λ object. the_name heaps.now object ≡ name_at self.now.graph.nodes node) }
-        ensures gone { result ≡ None → to_note heaps.now.heap (name_at self.now.graph.nodes node) ≡ None }
+        ensures name { IfSome result (λ object. the_name heaps.now object ≡ vertex_name self.now.graph.nodes node) }
+        ensures gone { result ≡ None → to_note heaps.now.heap (vertex_name self.now.graph.nodes node) ≡ None }
     {
         let (_, held) = self.graph.node(node);
         match held {
@@ -77,10 +82,10 @@ impl Build {
         requires order { IsInOrder [] heaps.now }
         requires within { self.old.next < length self.old.graph.nodes }
         requires there { IsThere heaps.now (Some object) }
-        requires name { the_name heaps.now object ≡ name_at self.old.graph.nodes self.old.next }
+        requires name { the_name heaps.now object ≡ vertex_name self.old.graph.nodes self.old.next }
         ensures noted { OnOk result (snapshot_of self.new ≡ noting
             (snapshot_of (with_next_passed (sample_of heaps.now object) self.old))
-            (name_at self.old.graph.nodes self.old.next)
+            (vertex_name self.old.graph.nodes self.old.next)
             (contents_at heaps.now object)) }
         ensures next { OnOk result (self.new.next ≡ self.old.next + 1) }
         ensures refused { OnErr result (contents_at heaps.now object ≢ []) }
@@ -129,7 +134,7 @@ impl Build {
         requires within { node < length self.old.graph.nodes }
         requires there { IsThere heaps.now (Some object) }
         requires room { length (contents_at heaps.now object) ≤ self.old.graph.spare }
-        ensures noted { OnOk result (snapshot_of self.new ≡ noting (snapshot_of self.old) (name_at self.old.graph.nodes node) (contents_at heaps.now object)) }
+        ensures noted { OnOk result (snapshot_of self.new ≡ noting (snapshot_of self.old) (vertex_name self.old.graph.nodes node) (contents_at heaps.now object)) }
         ensures refused { OnErr result (contents_at heaps.now object ≢ []) }
         ensures candidates { (snapshot_of self.new).candidates ≡ (snapshot_of self.old).candidates }
         ensures next { self.new.next ≡ self.old.next }
@@ -153,14 +158,14 @@ impl Build {
         requires order { IsInOrder [] heaps.now }
         requires within { node < length self.old.graph.nodes }
         requires there { IsThere heaps.now (Some object) }
-        requires slot { i < length (slots_of heaps.now object) }
-        requires room { length (slot_at heaps.now object i) ≤ self.old.graph.spare }
-        ensures noted { OnOk result (snapshot_of self.new ≡ noting (snapshot_of self.old) (name_at self.old.graph.nodes node) (slot_at heaps.now object i)) }
-        ensures node { name_at self.new.graph.nodes node ≡ name_at self.old.graph.nodes node }
+        requires slot { i < length (held_slots heaps.now object) }
+        requires room { length (noted_slot heaps.now object i) ≤ self.old.graph.spare }
+        ensures noted { OnOk result (snapshot_of self.new ≡ noting (snapshot_of self.old) (vertex_name self.old.graph.nodes node) (noted_slot heaps.now object i)) }
+        ensures node { vertex_name self.new.graph.nodes node ≡ vertex_name self.old.graph.nodes node }
         ensures within { node < length self.new.graph.nodes }
-        ensures spare { OnOk result (self.new.graph.spare + length (slot_at heaps.now object i) ≡ self.old.graph.spare) }
+        ensures spare { OnOk result (self.new.graph.spare + length (noted_slot heaps.now object i) ≡ self.old.graph.spare) }
         ensures refused { OnErr result (self.new ≡ self.old) }
-        ensures held_there { OnErr result (slot_at heaps.now object i ≢ []) }
+        ensures held_there { OnErr result (noted_slot heaps.now object i ≢ []) }
         ensures next { self.new.next ≡ self.old.next }
         ensures built { IsBuilt self.new heaps.now }
         ensures held { AreHeld self.new.graph (HasKey heaps.now) }
@@ -179,8 +184,8 @@ impl Build {
         requires within { node < length self.old.graph.nodes }
         requires there { IsThere heaps.now (Some target) }
         requires room { 0 < self.old.graph.spare }
-        ensures noted { OnOk result (snapshot_of self.new ≡ noting_one (snapshot_of self.old) (name_at self.old.graph.nodes node) (the_name heaps.now target)) }
-        ensures node { name_at self.new.graph.nodes node ≡ name_at self.old.graph.nodes node }
+        ensures noted { OnOk result (snapshot_of self.new ≡ noting_one (snapshot_of self.old) (vertex_name self.old.graph.nodes node) (the_name heaps.now target)) }
+        ensures node { vertex_name self.new.graph.nodes node ≡ vertex_name self.old.graph.nodes node }
         ensures within { node < length self.new.graph.nodes }
         ensures spare { OnOk result (self.new.graph.spare + 1 ≡ self.old.graph.spare) }
         ensures refused { OnErr result (self.new ≡ self.old) }
@@ -209,7 +214,7 @@ fn sample_of(heaps: &Heaps, object: Held) -> Option<u32>
 fn slot_count(heaps: &Heaps, object: Held) -> u8
     requires order { IsInOrder [] heaps.now }
     requires there { IsThere heaps.now (Some object) }
-    ensures { result ≡ length (slots_of heaps.now object) }
+    ensures { result ≡ length (held_slots heaps.now object) }
 {
     match object {
         Held::Native(key) => heaps.counted().slots(key),
@@ -221,8 +226,8 @@ fn slot_count(heaps: &Heaps, object: Held) -> u8
 fn content_of(heaps: &Heaps, object: Held, i: u8) -> Option<Held>
     requires order { IsInOrder [] heaps.now }
     requires there { IsThere heaps.now (Some object) }
-    requires slot { i < length (slots_of heaps.now object) }
-    ensures name { held_name heaps.now result ≡ slice_index_or (slots_of heaps.now object) i None }
+    requires slot { i < length (held_slots heaps.now object) }
+    ensures name { held_name heaps.now result ≡ slice_index_or (held_slots heaps.now object) i None }
     ensures there { IsThere heaps.now result }
 {
     match object {
@@ -250,8 +255,8 @@ fn is_noted(heaps: &Heaps, object: Held) -> bool
 fn noted_at(heaps: &Heaps, object: Held, i: u8) -> Option<Held>
     requires order { IsInOrder [] heaps.now }
     requires there { IsThere heaps.now (Some object) }
-    requires slot { i < length (slots_of heaps.now object) }
-    ensures name { option_to_list (held_name heaps.now result) ≡ slot_at heaps.now object i }
+    requires slot { i < length (held_slots heaps.now object) }
+    ensures name { option_to_list (held_name heaps.now result) ≡ noted_slot heaps.now object i }
     ensures there { IsThere heaps.now result }
 {
     match content_of(heaps, object, i) {
@@ -278,8 +283,8 @@ fn references_of(heaps: &Heaps, object: Held) -> usize
 fn references_at(heaps: &Heaps, object: Held, i: u8) -> usize
     requires order { IsInOrder [] heaps.now }
     requires there { IsThere heaps.now (Some object) }
-    requires slot { i < length (slots_of heaps.now object) }
-    ensures noted { result ≡ length (slot_at heaps.now object i) }
+    requires slot { i < length (held_slots heaps.now object) }
+    ensures noted { result ≡ length (noted_slot heaps.now object i) }
     ensures one { result ≤ 1 }
 {
     match noted_at(heaps, object, i) {

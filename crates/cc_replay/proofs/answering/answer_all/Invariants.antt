@@ -2,7 +2,7 @@ use Rattle.std.proofs.Common.{◌≡◌, false}
 use Rattle.cc_reader.specs.Pending.{weight}
 use Rattle.cc_reader.specs.HasRead.{ReadsOn}
 use Rattle.cc_reader.specs.Given.{HasGiven}
-use Rattle.cc_collector.specs.Resting.{IsAtRest}
+use Rattle.cc_replay.specs.Resting.{IsAtRest}
 use Rattle.cc_replay.specs.Answering.{Answers, moment}
 use Rattle.cc_replay.proofs.answering.answer_all.Given as goal
 

@@ -1,7 +1,7 @@
 use Rattle.std.proofs.Common.{sym, subst}
 use Rattle.cc_model.specs.declared.command.Command.{Command}
 use Rattle.cc_model.specs.Asks.{taken}
-use Rattle.cc_collector.specs.Answered.{IsAnswered}
+use Rattle.cc_replay.specs.Answered.{IsAnswered}
 use Rattle.cc_replay.proofs.Replying.{known-applied, answered-nothing}
 use Rattle.cc_replay.proofs.answering.answer_command.Goals as goal
 

@@ -1,4 +1,4 @@
-use Rattle.cc_collector.proofs.AtRest.{IsAtRest-empty}
+use Rattle.cc_replay.proofs.AtRest.{IsAtRest-empty}
 use Rattle.cc_replay.proofs.Causes.{over-answered, done-answered, reads-within, end-unread}
 use Rattle.cc_replay.proofs.Endings.{whole-done, broken-stops, over-stops, first-stops}
 use Rattle.cc_replay.proofs.answering.answer_input.Goals as goal

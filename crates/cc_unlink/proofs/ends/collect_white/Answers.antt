@@ -1,14 +1,24 @@
+use Rattle.std.proofs.Common.{◌≡◌}
+use Rattle.cc_model.specs.End.{take_away}
+use Rattle.cc_heaps.specs.Keyed.{left_with}
+use Rattle.cc_heaps.proofs.KeysKept.{KeepsKeys-left}
+use Rattle.cc_unlink.proofs.Promises.{ended-stands, ended-suspected, ended-colours}
 use Rattle.cc_unlink.specs.Whites.{whites_of}
 use Rattle.cc_unlink.proofs.WhiteEnd.{WhiteEnd-heap, WhiteEnd-told}
+use Rattle.cc_unlink.proofs.ends.collect_white.Given as given
 use Rattle.cc_unlink.proofs.ends.collect_white.Goals as goal
 
-pub returns-clause-heap : goal.returns-clause-heap
-returns-clause-heap g c =
+-- the three passes are the end that the definitions have
+ended : (g : given.Over) (c : goal.After-drop-graph-inside-3 g) → c.unroot_whites.new.heaps ≡ left_with c.args.heaps.now (take_away (whites_of c.args.graph c.args.heaps.now.heap) c.args.heaps.now.heap).heap
+ended g c =
     let first = c.args.heaps.now in
     WhiteEnd-heap (whites_of c.args.graph first.heap) first c.root_whites.new.heaps c.unlink_whites.new.heaps c.unroot_whites.new.heaps
     c.root_whites.ensures.heap (rw c.root_whites.ensures.whites at c.unlink_whites.ensures.heap)
     (rw c.root_whites.ensures.whites at c.unlink_whites.ensures.order)
     (rw (c.unlink_whites.ensures.whites, c.root_whites.ensures.whites) at c.unroot_whites.ensures.heap)
+
+pub returns-clause-heap : goal.returns-clause-heap
+returns-clause-heap g c = ended g c
 
 pub returns-clause-told : goal.returns-clause-told
 returns-clause-told g c =
@@ -19,3 +29,15 @@ returns-clause-told g c =
     (telling c.args.out.now) (telling c.unlink_whites.new.out) (telling c.unroot_whites.new.out)
     (rw c.root_whites.ensures.whites at c.unlink_whites.ensures.told)
     (rw (c.unlink_whites.ensures.whites, c.root_whites.ensures.whites) at c.unroot_whites.ensures.told)
+
+pub returns-clause-stands : goal.returns-clause-stands
+returns-clause-stands g c = ended-stands c.args.graph c.args.heaps.now c.unroot_whites.new.heaps c.requires.order (ended g c)
+
+pub returns-clause-suspected : goal.returns-clause-suspected
+returns-clause-suspected g c = ended-suspected c.args.graph c.args.heaps.now c.unroot_whites.new.heaps c.requires.order (ended g c)
+
+pub returns-clause-colours : goal.returns-clause-colours
+returns-clause-colours g c = ended-colours c.args.graph c.args.heaps.now c.unroot_whites.new.heaps c.requires.order (ended g c)
+
+pub returns-clause-keys : goal.returns-clause-keys
+returns-clause-keys g c = KeepsKeys-left c.args.heaps.now c.unroot_whites.new.heaps _ (ended g c)

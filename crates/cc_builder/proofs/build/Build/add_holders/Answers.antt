@@ -6,7 +6,7 @@ use Rattle.cc_model.specs.Units.{holders_of}
 use Rattle.cc_counted.specs.declared.held.Held.TheVariants as held
 use Rattle.cc_heaps.specs.Keyed.{number_at, the_number}
 use Rattle.cc_heaps.specs.Changes.{IsNativeThere}
-use Rattle.cc_builder.specs.Building.{Built, names_of}
+use Rattle.cc_builder.specs.Building.{Built, vertex_names}
 use Rattle.cc_builder.specs.BuildSteps.{the_name}
 use Rattle.cc_builder.proofs.BuildNodes.{names-with_vertex}
 use Rattle.cc_builder.proofs.BuildWalks.{name-there}
@@ -17,7 +17,7 @@ pub holders-init : goal.holders-init
 holders-init c =
     let v = c.args.heaps.now in
     record {
-      names = ap (with_all_last same_name (names_of c.args.self.now.graph.nodes)) (holders-start v c.next_holder-holder.result c.requires.order c.next_holder-holder.ensures.number);
+      names = ap (with_all_last same_name (vertex_names c.args.self.now.graph.nodes)) (holders-start v c.next_holder-holder.result c.requires.order c.next_holder-holder.ensures.number);
       there = c.next_holder-holder.ensures.there;
       found = (None, c.next_holder-holder.ensures.number);
       edges = refl;
@@ -48,12 +48,12 @@ holders-preserved c =
     let ws = c.add_object.new.self.graph.nodes in
     let object = held.Native key in
     let added = c.in_ok-add_object.ensures.added in
-    let names : names_of ws ≡ with_last same_name (names_of vs) (native (the_number v key.0)) =
-    ap (λ (b : Built). names_of b.graph.nodes) added
+    let names : vertex_names ws ≡ with_last same_name (vertex_names vs) (native (the_number v key.0)) =
+    ap (λ (b : Built). vertex_names b.graph.nodes) added
     ∙ names-with_vertex vs (the_name v object) object
-    ∙ ap (with_last same_name (names_of vs)) (name-there v key (subst (IsNativeThere v) c.in-Some.is l.there)) in
+    ∙ ap (with_last same_name (vertex_names vs)) (name-there v key (subst (IsNativeThere v) c.in-Some.is l.there)) in
     record {
-      names = holders-turn v c.holders.holder key c.in-Some.is l.there r (names_of vs) (names_of ws) (with_all_last same_name (names_of c.args.self.now.graph.nodes) (holders_of v.heap))
+      names = holders-turn v c.holders.holder key c.in-Some.is l.there r (vertex_names vs) (vertex_names ws) (with_all_last same_name (vertex_names c.args.self.now.graph.nodes) (holders_of v.heap))
           c.requires.order next names l.names;
       there = c.next_holder-holder-in-Some.ensures.there;
       found = (number_at v key.0, next);

@@ -6,7 +6,7 @@ use Rattle.cc_counted.specs.Counts.{Counts}
 use Rattle.cc_counted.specs.Counts as counts
 use Rattle.cc_heaps.specs.Keyed.{the_number}
 use Rattle.cc_counted.specs.Suspects.{is_purple_in}
-use Rattle.cc_builder.specs.Building.{Built, names_of}
+use Rattle.cc_builder.specs.Building.{Built, vertex_names}
 use Rattle.cc_builder.specs.BuildSteps.{the_name}
 use Rattle.cc_builder.proofs.BuildNodes.{names-with_vertex}
 use Rattle.cc_builder.proofs.BuildWalks.{purple-one, name-there}
@@ -19,7 +19,7 @@ returns-in_ok-add_object-clause-names c =
     let vs = c.args.self.now.graph.nodes in
     let purple : is_purple_in v.heap.buffer k ≡ true =
     ap (λ (d : Counts). is_purple_in d.buffer (counts.the_number d c.args.key.0)) (sym c.counted.ensures) ∙ sym c.purple.ensures ∙ c.if-purple.true in
-    ap (λ (b : Built). names_of b.graph.nodes) c.in_ok-add_object.ensures.added
+    ap (λ (b : Built). vertex_names b.graph.nodes) c.in_ok-add_object.ensures.added
     ∙ names-with_vertex vs (the_name v (held.Native c.args.key)) (held.Native c.args.key)
-    ∙ ap (with_last same_name (names_of vs)) (name-there v c.args.key c.requires.live)
-    ∙ ap (with_all_last same_name (names_of vs)) (sym (purple-one v.heap k purple))
+    ∙ ap (with_last same_name (vertex_names vs)) (name-there v c.args.key c.requires.live)
+    ∙ ap (with_all_last same_name (vertex_names vs)) (sym (purple-one v.heap k purple))

@@ -1,14 +1,14 @@
 use Rattle.std.proofs.Common.{[], sym, ◌∙◌, ap}
 use Rattle.cc_model.specs.Heap.{suspect}
 use Rattle.cc_heaps.specs.Keyed.{the_number, changed_to}
-use Rattle.cc_builder.specs.Building.{name_at}
+use Rattle.cc_builder.specs.Building.{vertex_name}
 use Rattle.cc_builder.proofs.GivingBack.{give_back-there, give_back-gone, AreSame-buffer, AreHeld-same, IsBuilt-same}
 use Rattle.cc_builder.proofs.build.Build.give_back.Goals as goal
 
 pub returns-in-Some-clause-heap : goal.returns-in-Some-clause-heap
 returns-in-Some-clause-heap c =
     let v = c.args.heaps.now in
-    let x = name_at c.args.self.now.graph.nodes c.args.node in
+    let x = vertex_name c.args.self.now.graph.nodes c.args.node in
     c.give_back.ensures.heap ∙ ap (changed_to v) (sym (give_back-there v c.in-Some.key.0 x c.requires.order c.in-Some.ensures.there))
 
 pub returns-in-Some-clause-built : goal.returns-in-Some-clause-built
@@ -27,5 +27,5 @@ returns-in-Some-clause-order c = c.give_back.ensures.order [] c.requires.order
 pub returns-in_default-clause-heap : goal.returns-in_default-clause-heap
 returns-in_default-clause-heap c =
     let v = c.args.heaps.now in
-    let x = name_at c.args.self.now.graph.nodes c.args.node in
+    let x = vertex_name c.args.self.now.graph.nodes c.args.node in
     ap (changed_to v) (sym (give_back-gone v.heap x (c.native_of.ensures.gone c.in_default.is)))

@@ -5,7 +5,7 @@ use Rattle.cc_names.specs.declared.number.NKey.{NKey}
 use Rattle.cc_names.specs.Names.{same_name}
 use Rattle.cc_heaps.specs.Keyed.{the_number}
 use Rattle.cc_counted.specs.Suspects.{number_behind}
-use Rattle.cc_builder.specs.Building.{Built, IsBuilt, names_of}
+use Rattle.cc_builder.specs.Building.{Built, IsBuilt, vertex_names}
 use Rattle.cc_graph.specs.Held.{AreHeld}
 use Rattle.cc_heaps.specs.HasKey.{HasKey}
 use Rattle.cc_builder.proofs.BufferWalks.{buffer_from, purple_names, after-there}
@@ -19,7 +19,7 @@ returns-in_err-add_purple-clause-refused c =
     let v = c.args.heaps.now in
     let l = c.buffer.invariant in
     let key = c.in-Some.key in
-    let xs = names_of c.buffer.build.graph.nodes in
+    let xs = vertex_names c.buffer.build.graph.nodes in
     let i = is-at v c.buffer.suspect key c.in-Some.is l.live l.there in
     let k = the_number v key.0 in
     on_err_of c.from_residual.result
@@ -41,8 +41,8 @@ buffer-preserved c =
     let r = c.next_in_buffer-suspect.result in
     let d = c.counted-counted.result.now in
     let k = the_number v c.in-Some.key.0 in
-    let xs = names_of c.buffer.build.graph.nodes in
-    let ys = names_of c.add_purple.new.self.graph.nodes in
+    let xs = vertex_names c.buffer.build.graph.nodes in
+    let ys = vertex_names c.add_purple.new.self.graph.nodes in
     let i = is-at v c.buffer.suspect c.in-Some.key c.in-Some.is l.live l.there in
     let next = read-next v d c.in-Some.key r c.counted-counted.ensures c.next_in_buffer-suspect.ensures.number in
     let live = read-live v d r c.counted-counted.ensures c.next_in_buffer-suspect.ensures.live in
@@ -60,9 +60,9 @@ pub returns-clause-names : goal.returns-clause-names
 returns-clause-names c =
     let v = c.args.heaps.now in
     let b = c.buffer.build in
-    let names : names_of b.graph.nodes ≡ with_all_last same_name [] (purple_names v.heap.buffer) =
-    subst (λ (o : Option NKey). with_all_last same_name (names_of b.graph.nodes) (left_from v o) ≡ with_all_last same_name [] (purple_names v.heap.buffer)) c.in_default.is c.buffer.invariant.names in
-    ap (λ (a : Built). names_of a.graph.nodes) c.build-2.view_is ∙ names
+    let names : vertex_names b.graph.nodes ≡ with_all_last same_name [] (purple_names v.heap.buffer) =
+    subst (λ (o : Option NKey). with_all_last same_name (vertex_names b.graph.nodes) (left_from v o) ≡ with_all_last same_name [] (purple_names v.heap.buffer)) c.in_default.is c.buffer.invariant.names in
+    ap (λ (a : Built). vertex_names a.graph.nodes) c.build-2.view_is ∙ names
 
 pub returns-clause-edges : goal.returns-clause-edges
 returns-clause-edges c = ap (λ (a : Built). a.graph.edges) c.build-2.view_is ∙ c.buffer.invariant.edges

@@ -1,6 +1,6 @@
 use Rattle.std.proofs.Common.{◌<◌, length, sym, ◌∙◌, ap, subst, arith}
 use Rattle.std.proofs.lemmas.Result.{on_ok_weaker}
-use Rattle.cc_builder.specs.Building.{Built, IsBuilt, name_at}
+use Rattle.cc_builder.specs.Building.{Built, IsBuilt, vertex_name}
 use Rattle.cc_graph.specs.Held.{AreHeld}
 use Rattle.cc_heaps.specs.HasKey.{HasKey}
 use Rattle.cc_builder.specs.BuildSteps.{contents_at, sample_of}
@@ -30,8 +30,8 @@ note_slots-requires-clause-built c =
     subst (λ a. IsBuilt a v) (sym c.pass_next.ensures)
     (IsBuilt-traversed d v c.sample_of.result (IsBuilt-roomed b d v rest c.requires.built)
     (subst (λ (a : Built). a.next < length a.graph.nodes) (sym rest) c.requires.within)
-    (subst (λ (a : Built). IsSampleOf c.sample_of.result (name_at a.graph.nodes a.next)) (sym rest)
-    (subst (λ n. IsSampleOf n (name_at b.graph.nodes b.next)) (sym c.sample_of.ensures)
+    (subst (λ (a : Built). IsSampleOf c.sample_of.result (vertex_name a.graph.nodes a.next)) (sym rest)
+    (subst (λ n. IsSampleOf n (vertex_name b.graph.nodes b.next)) (sym c.sample_of.ensures)
     (subst (IsSampleOf (sample_of v c.args.object)) c.requires.name (sample-kind v c.args.object c.requires.order c.requires.there)))))
 
 pub note_slots-requires-clause-held : goal.note_slots-requires-clause-held

@@ -5,7 +5,7 @@ use Rattle.cc_graph.specs.Held.{AreHeld}
 use Rattle.cc_heaps.specs.HasKey.{HasKey}
 use Rattle.cc_repair.specs.Touched.{touched}
 use Rattle.cc_collector.proofs.Whiteness.{whites-found}
-use Rattle.cc_collector.proofs.collect.blackened.Goals as goal
+use Rattle.cc_collector.proofs.collector.blackened.Goals as goal
 
 pub mark_touched-requires-clause-held : goal.mark_touched-requires-clause-held
 mark_touched-requires-clause-held c = subst (λ (g : Shown). AreHeld g (HasKey c.args.heaps.now)) (sym c.finish-graph.ensures) c.requires.held
