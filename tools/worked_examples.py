@@ -1,13 +1,16 @@
 #!/usr/bin/env python3
 """Makes theorems of the worked examples.
 
-    tools/worked_examples.py            writes the files of crates/cc_worked that are made of examples/worked.txt
+    tools/worked_examples.py            writes the files that are made of examples/worked.txt
     tools/worked_examples.py --check    writes nothing; says which of them differ, and exits 1 where one does
 
-The table says itself how it is read. Each example's input becomes a definition in specs/Inputs.antt, and these
-theorems in proofs/Examples1.antt and the files after it: the plain run of the input writes the output; the run is
-lawful; it is quiet; it passes the audit. An example that ends with status 5 becomes one theorem: what its input
-writes within the bytes allowed.
+The table says itself how it is read. In crates/cc_worked each example's input becomes a definition in
+specs/Inputs.antt, and these theorems in proofs/Examples1.antt and the files after it: the plain run of the input
+writes the output; the run is lawful; it is quiet; it passes the audit. An example that ends with status 5 becomes
+one theorem: what its input writes within the bytes allowed.
+
+In crates/cc_examples src/worked.rt gets the examples that the program can be run on: those in which no memory is
+refused, and no line begins with a word that the program doesn't know yet.
 """
 import re
 import sys
@@ -16,8 +19,12 @@ from pathlib import Path
 ROOT = Path(__file__).resolve().parent.parent
 TABLE = ROOT / 'examples' / 'worked.txt'
 CRATE = ROOT / 'crates' / 'cc_worked'
+TESTS = ROOT / 'crates' / 'cc_examples' / 'src' / 'worked.rt'
+ALL_FORMS = ROOT / 'crates' / 'cc_model' / 'specs' / 'Forms.antt'
+FORMS_NOW = ROOT / 'crates' / 'cc_reader' / 'specs' / 'FormsNow.antt'
 EXAMPLES_IN_A_FILE = 8
 DEFAULT_LIMITS = (1000000, 1000000, 4294967295)
+STATUSES = {0: 'Done', 5: 'Limit'}
 STATUS_LIMIT = 5
 NOTE = '-- Made by tools/worked_examples.py from examples/worked.txt.\n'
 
@@ -100,7 +107,7 @@ def add_key(example, key, rest):
 def check_example(example):
     if not example.shows:
         raise TableError(f'{example.name} has no line shows')
-    if example.status not in (0, STATUS_LIMIT):
+    if example.status not in STATUSES:
         raise TableError(f'{example.name} ends with status {example.status}, which no theorem says')
 
 
@@ -244,6 +251,79 @@ def file_of_modules(count):
     return ''.join(line + '\n' for line in by_hand + made)
 
 
+# The tests
+
+def listed_forms(path, name):
+    """The names of the forms in a list of forms."""
+    text = path.read_text(encoding='utf-8')
+    defined = re.search(rf'^{name} =\n((?:    .*\n)+)', text, re.MULTILINE)
+    if not defined:
+        raise TableError(f'{path.name} has no list {name}')
+    return re.findall(r'\w+_form\b', defined[1])
+
+
+def unknown_words():
+    """The words of the whole grammar of which the program doesn't know every form."""
+    word_of = dict(re.findall(r'^(\w+_form) = form \(codes "(\w+)"\)', ALL_FORMS.read_text(encoding='utf-8'), re.MULTILINE))
+    known = listed_forms(FORMS_NOW, 'forms_now')
+    return {word_of[form] for form in listed_forms(ALL_FORMS, 'version_one_forms') if form not in known}
+
+
+def plain_bytes(found):
+    """The bytes themselves, as a text."""
+    return ''.join(piece if isinstance(piece, str) else chr(piece[0]) * piece[1] for piece in found)
+
+
+def can_be_run(example, unknown):
+    """Whether the program knows all words, and no memory is refused."""
+    words = {line.split()[0] for line in plain_bytes(example.input).splitlines() if line.split()}
+    return example.refused is None and not words & unknown
+
+
+def byte_string(found):
+    text = plain_bytes(found).replace('\\', '\\\\').replace('"', '\\"').replace('\r', '\\r').replace('\n', '\\n')
+    return f'b"{text}"'
+
+
+def test_case(example):
+    natives, scripts, read = example.limits
+    return f"""    // {sentence(example.shows)}
+    Example {{
+        name: "{example.name}",
+        natives: {natives},
+        scripts: {scripts},
+        bytes: {read},
+        input: {byte_string(example.input)},
+        output: {byte_string(example.output)},
+        status: Status::{STATUSES[example.status]},
+    }},
+"""
+
+
+def file_of_tests(examples):
+    unknown = unknown_words()
+    cases = [test_case(example) for example in examples if can_be_run(example, unknown)]
+    return f"""//! The worked examples that the program can be run on: what each script makes it write.
+//!
+//! Made by tools/worked_examples.py from examples/worked.txt.
+
+use crate::script::Example;
+use cc_replay::Status;
+use std::test::Fail;
+
+const EXAMPLES: [Example; {len(cases)}] = [
+{''.join(cases)}];
+
+#[test]
+fn worked_examples_are_answered(rt: HostRuntime) -> Result<(), Fail> {{
+    for example in EXAMPLES.iter() {{
+        example.is_answered(&rt)?;
+    }}
+    Ok(())
+}}
+"""
+
+
 def files(examples):
     """The text of each file by its path."""
     parts = [examples[i:i + EXAMPLES_IN_A_FILE] for i in range(0, len(examples), EXAMPLES_IN_A_FILE)]
@@ -252,6 +332,7 @@ def files(examples):
         made[CRATE / 'proofs' / f'Examples{number}.antt'] = file_of_theorems(number, part)
     made[CRATE / 'proofs' / 'Examples.antt'] = file_of_names(parts)
     made[CRATE / 'proofs' / 'Lib.antt'] = file_of_modules(len(parts))
+    made[TESTS] = file_of_tests(examples)
     return made
 
 

@@ -1,4 +1,6 @@
-use crate::script::{replays, script, source_of, widest};
+//! Faults of reading and writing, the byte limit, and long lines.
+
+use crate::script::{replays, script, source_of};
 use cc_names::Limits;
 use cc_outside::{BytesSink, BytesSource};
 use cc_replay::{Status, replay};
@@ -27,7 +29,7 @@ fn a_byte_at_a_time_answers_the_same(rt: HostRuntime) -> Result<(), Fail> {
     replays(
         &rt,
         "a byte at a time",
-        widest(),
+        Limits::widest(),
         &mut source,
         ANSWERS[4],
         Status::Done,
@@ -48,7 +50,7 @@ fn each_read_fails_in_turn(rt: HostRuntime) -> Result<(), Fail> {
         replays(
             &rt,
             "a read fails",
-            widest(),
+            Limits::widest(),
             &mut source,
             written,
             Status::ReadFault,
@@ -71,7 +73,7 @@ fn each_write_fails_in_turn(rt: HostRuntime) -> Result<(), Fail> {
         let k = place as u64 + 1;
         let mut source = source_of(rt.alloc(), script(rt.alloc(), LINES)?);
         let mut sink = BytesSink::new(rt.alloc(), 100, [k].to_vec(rt.alloc())?)?;
-        let status = replay(rt.alloc(), widest(), &mut source, &mut sink);
+        let status = replay(rt.alloc(), Limits::widest(), &mut source, &mut sink);
         assert_eq!(rt; status, Status::WriteFault, "at {k}");
         assert_eq!(rt; sink.written(), *written, "at {k}");
         assert_eq!(rt; sink.faults(), 1, "at {k}");
@@ -84,7 +86,7 @@ fn a_second_write_fails(rt: HostRuntime) -> Result<(), Fail> {
     let lines = script(rt.alloc(), "native n0 0 / native n1 0")?;
     let mut source = source_of(rt.alloc(), lines);
     let mut sink = BytesSink::new(rt.alloc(), 100, [2].to_vec(rt.alloc())?)?;
-    let status = replay(rt.alloc(), widest(), &mut source, &mut sink);
+    let status = replay(rt.alloc(), Limits::widest(), &mut source, &mut sink);
     assert_eq!(rt; status, Status::WriteFault);
     assert_eq!(rt; sink.written(), ANSWERS[1]);
     Ok(())
@@ -138,7 +140,7 @@ fn bytes_are_limited(rt: HostRuntime) -> Result<(), Fail> {
     replays(
         &rt,
         "the second read fails",
-        widest(),
+        Limits::widest(),
         &mut source,
         b"= #1\n+ #1\n= census 1\n",
         Status::ReadFault,
@@ -172,7 +174,7 @@ fn long_lines_are_refused(rt: HostRuntime) -> Result<(), Fail> {
         replays(
             &rt,
             "a long line",
-            widest(),
+            Limits::widest(),
             &mut source,
             written,
             Status::Done,

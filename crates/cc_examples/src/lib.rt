@@ -1,7 +1,8 @@
 //! Tests across crates: what `cc_replay` writes for whole scripts.
 //!
-//! The worked examples stand in one table, with the answers of the rules and not of the program. Beside them stand
-//! the faults of reading and writing, and shapes that are deep or long.
+//! The worked examples stand in one table, `examples/worked.txt`, with the answers of the rules and not of the program;
+//! `worked.rt` is made of it. Beside them stand the words of the command line, the faults of reading and writing, and
+//! shapes that are deep or long.
 #![tactic(auto)]
 
 #[cfg(test)]
@@ -10,5 +11,7 @@ mod faults;
 mod script;
 #[cfg(test)]
 mod shapes;
+#[cfg(test)]
+mod words;
 #[cfg(test)]
 mod worked;

@@ -1,3 +1,5 @@
+//! What the tests of this crate share: scripts, and what a replay of one writes.
+
 use cc_names::Limits;
 use cc_outside::{BytesSink, BytesSource, Source};
 use cc_replay::{Status, replay};
@@ -20,9 +22,31 @@ pub fn source_of(alloc: Global, bytes: Vec<u8>) -> BytesSource {
     BytesSource::new(bytes, Vec::new(alloc), usize::MAX)
 }
 
-/// The widest limits.
-pub fn widest() -> Limits {
-    Limits::new(Limits::MOST, Limits::MOST, u32::MAX)
+/// A script and what it makes the program write, by what it shows.
+pub struct Example {
+    pub name: &'static str,
+    /// How many natives may be made, at most 1000000.
+    pub natives: u32,
+    /// How many plain objects and weak maps may be made, at most 1000000.
+    pub scripts: u32,
+    /// How many bytes may be read.
+    pub bytes: u32,
+    pub input: &'static [u8],
+    pub output: &'static [u8],
+    pub status: Status,
+}
+
+impl Example {
+    /// Replays the script within the limits, and looks at what is written and at the status.
+    pub fn is_answered(&self, rt: &(impl Abort + AllocGlobal)) -> Result<(), Fail> {
+        let limits = Limits::new(
+            self.natives.min(Limits::MOST),
+            self.scripts.min(Limits::MOST),
+            self.bytes,
+        );
+        let mut source = source_of(rt.alloc(), self.input.to_vec(rt.alloc())?);
+        replays(rt, self.name, limits, &mut source, self.output, self.status)
+    }
 }
 
 /// Replays a source within limits, with ample room to write, and looks at what is written and at the status.

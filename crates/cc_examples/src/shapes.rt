@@ -1,4 +1,7 @@
-use crate::script::{replays, source_of, widest};
+//! Shapes of objects that are deep or long.
+
+use crate::script::{replays, source_of};
+use cc_names::Limits;
 use cc_replay::Status;
 use std::alloc::{AllocError, Global};
 use std::process::Abort;
@@ -28,7 +31,14 @@ impl Play {
     fn runs(self, rt: &(impl Abort + AllocGlobal), name: &str) -> Result<(), Fail> {
         let mut source = source_of(rt.alloc(), self.script);
         let wanted = self.wanted.as_slice();
-        replays(rt, name, widest(), &mut source, wanted, Status::Done)
+        replays(
+            rt,
+            name,
+            Limits::widest(),
+            &mut source,
+            wanted,
+            Status::Done,
+        )
     }
 }
 

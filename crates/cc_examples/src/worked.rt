@@ -1,207 +1,258 @@
-use crate::script::{replays, script, source_of, widest};
-use cc_names::Limits;
-use cc_outside::{BytesSink, SureSource};
-use cc_replay::{Status, run};
+//! The worked examples that the program can be run on: what each script makes it write.
+//!
+//! Made by tools/worked_examples.py from examples/worked.txt.
+
+use crate::script::Example;
+use cc_replay::Status;
 use std::test::Fail;
 
-/// A script and what it answers, by what it shows.
-struct Example {
-    name: &'static str,
-    natives: u32,
-    scripts: u32,
-    script: &'static str,
-    answers: &'static str,
-}
-
-const EXAMPLES: [Example; 16] = [
+const EXAMPLES: [Example; 24] = [
+    // Nothing is written for an empty input.
     Example {
-        name: "self_cycle_outlives_its_register",
-        natives: Limits::MOST,
-        scripts: Limits::MOST,
-        script: "native n0 1 / set n0 0 n0 / drop n0 / census",
-        answers: "= #1 / = ok / = ok / + #1 / = census 1",
+        name: "empty_input",
+        natives: 1000000,
+        scripts: 1000000,
+        bytes: 4294967295,
+        input: b"",
+        output: b"",
+        status: Status::Done,
     },
+    // A native whose last reference is given up is freed, and then what it alone held.
     Example {
-        name: "one_drop_frees_two",
-        natives: Limits::MOST,
-        scripts: Limits::MOST,
-        script: "native n0 1 / native n1 0 / set n0 0 n1 / drop n1 / drop n0",
-        answers: "= #1 / = #2 / = ok / = ok / - free #1 / - free #2 / = ok",
+        name: "cascade_of_two",
+        natives: 1000000,
+        scripts: 1000000,
+        bytes: 4294967295,
+        input: b"native n0 1\nnative n1 0\nset n0 0 n1\ndrop n1\ndrop n0\n",
+        output: b"= #1\n= #2\n= ok\n= ok\n- free #1\n- free #2\n= ok\n",
+        status: Status::Done,
     },
+    // A slot reads as nothing until it is written.
     Example {
         name: "empty_slot_reads_none",
-        natives: Limits::MOST,
-        scripts: Limits::MOST,
-        script: "native n0 1 / get n1 n0 0 / set n0 0 n0 / get n1 n0 0 / drop n0 / drop n1 / census",
-        answers: "= #1 / = none / = ok / = #1 / = ok / = ok / + #1 / = census 1",
+        natives: 1000000,
+        scripts: 1000000,
+        bytes: 4294967295,
+        input: b"native n0 1\nget n1 n0 0\nset n0 0 n0\nget n1 n0 0\ndrop n0\ndrop n1\ncensus\n",
+        output: b"= #1\n= none\n= ok\n= #1\n= ok\n= ok\n+ #1\n= census 1\n",
+        status: Status::Done,
     },
+    // A native that holds itself is kept when its register lets it go.
+    Example {
+        name: "self_cycle_outlives_its_register",
+        natives: 1000000,
+        scripts: 1000000,
+        bytes: 4294967295,
+        input: b"native n0 1\nset n0 0 n0\ndrop n0\ncensus\n",
+        output: b"= #1\n= ok\n= ok\n+ #1\n= census 1\n",
+        status: Status::Done,
+    },
+    // A collection unlinks and frees a native that only itself holds.
     Example {
         name: "self_cycle_is_collected",
-        natives: Limits::MOST,
-        scripts: Limits::MOST,
-        script: "native n0 1 / set n0 0 n0 / drop n0 / census / collect / census",
-        answers: "= #1 / = ok / = ok / + #1 / = census 1 / - unlink #1 / - free #1 / = ok / = census 0",
+        natives: 1000000,
+        scripts: 1000000,
+        bytes: 4294967295,
+        input: b"native n0 1\nset n0 0 n0\ndrop n0\ncensus\ncollect\ncensus\n",
+        output: b"= #1\n= ok\n= ok\n+ #1\n= census 1\n- unlink #1\n- free #1\n= ok\n= census 0\n",
+        status: Status::Done,
     },
+    // Two natives that hold each other are both unlinked before the first of them is freed.
     Example {
         name: "two_cycle_is_collected",
-        natives: Limits::MOST,
-        scripts: Limits::MOST,
-        script: "native n0 1 / native n1 1 / set n0 0 n1 / set n1 0 n0 / drop n0 / drop n1 / collect",
-        answers: "= #1 / = #2 / = ok / = ok / = ok / = ok / - unlink #1 / - unlink #2 / - free #1 / - free #2 / = ok",
+        natives: 1000000,
+        scripts: 1000000,
+        bytes: 4294967295,
+        input: b"native n0 1\nnative n1 1\nset n0 0 n1\nset n1 0 n0\ndrop n0\ndrop n1\ncollect\n",
+        output: b"= #1\n= #2\n= ok\n= ok\n= ok\n= ok\n- unlink #1\n- unlink #2\n- free #1\n- free #2\n= ok\n",
+        status: Status::Done,
     },
+    // A cycle that a register holds is looked at and kept.
     Example {
         name: "held_cycle_is_kept",
-        natives: Limits::MOST,
-        scripts: Limits::MOST,
-        script: "native n0 1 / native n1 1 / set n0 0 n1 / set n1 0 n0 / drop n1 / collect / census",
-        answers: "= #1 / = #2 / = ok / = ok / = ok / = ok / + #1 / + #2 / = census 2",
+        natives: 1000000,
+        scripts: 1000000,
+        bytes: 4294967295,
+        input: b"native n0 1\nnative n1 1\nset n0 0 n1\nset n1 0 n0\ndrop n1\ncollect\ncensus\n",
+        output: b"= #1\n= #2\n= ok\n= ok\n= ok\n= ok\n+ #1\n+ #2\n= census 2\n",
+        status: Status::Done,
     },
+    // White natives are taken by rising number, also where the collection came to the later one first.
     Example {
-        name: "full_counts_what_was_ever_made",
-        natives: 1,
-        scripts: Limits::MOST,
-        script: "native n0 0 / drop n0 / native n0 0",
-        answers: "= #1 / - free #1 / = ok / ! full",
+        name: "whites_are_taken_by_rising_number",
+        natives: 1000000,
+        scripts: 1000000,
+        bytes: 4294967295,
+        input: b"native n0 1\nnative n1 1\nset n0 0 n1\nset n1 0 n0\ncollect\ndrop n1\ndrop n0\ncollect\n",
+        output: b"= #1\n= #2\n= ok\n= ok\n= ok\n= ok\n= ok\n- unlink #1\n- unlink #2\n- free #1\n- free #2\n= ok\n",
+        status: Status::Done,
     },
-    Example {
-        name: "unknown_words_are_refused",
-        natives: Limits::MOST,
-        scripts: Limits::MOST,
-        script: "collect now / script s0 / native n0 0",
-        answers: "! line / ! line / = #1",
-    },
-    Example {
-        name: "numbers_and_registers_in_range",
-        natives: Limits::MOST,
-        scripts: Limits::MOST,
-        script: "native n0 64 / set n0 63 n0 / set n0 64 n0 / set n0 4294967295 n0 / set n0 4294967296 n0 / native n0 65 / native n0 01 / native n256 0 / native n255 0",
-        answers: "= #1 / = ok / ! slot / ! slot / ! line / ! line / ! line / ! line / = #2",
-    },
-    Example {
-        name: "native_keeps_what_it_holds",
-        natives: Limits::MOST,
-        scripts: Limits::MOST,
-        script: "native n0 1 / script s0 1 / script s1 0 / put s0 0 s1 / set n0 0 s0 / drop s0 / drop s1 / gc / get s1 n0 0 / drop n0 / drop s1 / gc",
-        answers: "= #1 / = @1 / = @2 / = ok / = ok / = ok / = ok / = ok / = @1 / - free #1 / = ok / = ok / - free @1 / - free @2 / = ok",
-    },
-    Example {
-        name: "limit_counts_freed_script_objects",
-        natives: Limits::MOST,
-        scripts: 1,
-        script: "script s0 0 / drop s0 / gc / script s0 0",
-        answers: "= @1 / = ok / - free @1 / = ok / ! full",
-    },
-    Example {
-        name: "number_of_a_freed_script_object_is_never_used_again",
-        natives: Limits::MOST,
-        scripts: Limits::MOST,
-        script: "script s0 0 / script s1 0 / drop s0 / gc / script s0 1 / census / put s0 0 s1 / take s2 s0 0",
-        answers: "= @1 / = @2 / = ok / - free @1 / = ok / = @3 / + @2 / + @3 / = census 2 / = ok / = @2",
-    },
-    Example {
-        name: "wrong_kinds_in_slots",
-        natives: Limits::MOST,
-        scripts: Limits::MOST,
-        script: "native n0 2 / native n1 0 / script s0 1 / set n0 0 n1 / set n0 1 s0 / get s1 n0 0 / get n2 n0 1 / get s1 n0 7 / expose n0 0 / expose n0 1 / expose n0 2 / expose n3 0",
-        answers: "= #1 / = #2 / = @1 / = ok / = ok / ! kind / ! kind / ! slot / ! kind / = @1 / ! slot / ! empty",
-    },
+    // A slot of a script object is written, emptied and read, and what is refused meanwhile leaves it.
     Example {
         name: "script_slots_are_written_and_read",
-        natives: Limits::MOST,
-        scripts: Limits::MOST,
-        script: "script s0 2 / script s1 0 / put s0 1 s1 / take s2 s0 1 / take s3 s0 0 / put s0 1 none / take s2 s0 1 / put s0 2 s1 / put s0 0 s9 / put s9 0 s1 / take s1 s9 0 / census",
-        answers: "= @1 / = @2 / = ok / = @2 / = none / = ok / = none / ! slot / ! empty / ! empty / ! empty / + @1 / + @2 / = census 2",
+        natives: 1000000,
+        scripts: 1000000,
+        bytes: 4294967295,
+        input: b"script s0 2\nscript s1 0\nput s0 1 s1\ntake s2 s0 1\ntake s3 s0 0\nput s0 1 none\ntake s2 s0 1\nput s0 2 s1\nput s0 0 s9\nput s9 0 s1\ntake s1 s9 0\ncensus\n",
+        output: b"= @1\n= @2\n= ok\n= @2\n= none\n= ok\n= none\n! slot\n! empty\n! empty\n! empty\n+ @1\n+ @2\n= census 2\n",
+        status: Status::Done,
     },
+    // A slot is not emptied by writing what an empty register holds.
+    Example {
+        name: "empty_source_of_put_is_refused",
+        natives: 1000000,
+        scripts: 1000000,
+        bytes: 4294967295,
+        input: b"script s0 1\nscript s1 0\nput s0 0 s1\nput s0 0 s9\ntake s2 s0 0\n",
+        output: b"= @1\n= @2\n= ok\n! empty\n= @2\n",
+        status: Status::Done,
+    },
+    // A native is not read into a script register nor exposed, and a script object not read into a native register.
+    Example {
+        name: "wrong_kinds_in_slots",
+        natives: 1000000,
+        scripts: 1000000,
+        bytes: 4294967295,
+        input: b"native n0 2\nnative n1 0\nscript s0 1\nset n0 0 n1\nset n0 1 s0\nget s1 n0 0\nget n2 n0 1\nget s1 n0 7\nexpose n0 0\nexpose n0 1\nexpose n0 2\nexpose n3 0\n",
+        output: b"= #1\n= #2\n= @1\n= ok\n= ok\n! kind\n! kind\n! slot\n! kind\n= @1\n! slot\n! empty\n",
+        status: Status::Done,
+    },
+    // Gc keeps what a native holds, with all that this reaches, until the native is freed.
+    Example {
+        name: "native_keeps_what_it_holds",
+        natives: 1000000,
+        scripts: 1000000,
+        bytes: 4294967295,
+        input: b"native n0 1\nscript s0 1\nscript s1 0\nput s0 0 s1\nset n0 0 s0\ndrop s0\ndrop s1\ngc\nget s1 n0 0\ndrop n0\ndrop s1\ngc\n",
+        output: b"= #1\n= @1\n= @2\n= ok\n= ok\n= ok\n= ok\n= ok\n= @1\n- free #1\n= ok\n= ok\n- free @1\n- free @2\n= ok\n",
+        status: Status::Done,
+    },
+    // A script object gets a number that no other one had, though one was freed.
+    Example {
+        name: "number_of_a_freed_script_object_is_never_used_again",
+        natives: 1000000,
+        scripts: 1000000,
+        bytes: 4294967295,
+        input: b"script s0 0\nscript s1 0\ndrop s0\ngc\nscript s0 1\ncensus\nput s0 0 s1\ntake s2 s0 0\n",
+        output: b"= @1\n= @2\n= ok\n- free @1\n= ok\n= @3\n+ @2\n+ @3\n= census 2\n= ok\n= @2\n",
+        status: Status::Done,
+    },
+    // A script object that holds itself is touched in a native's slot, and outlives the native in a register.
     Example {
         name: "gray_cycle_through_a_slot_is_exposed",
-        natives: Limits::MOST,
-        scripts: Limits::MOST,
-        script: "native n0 1 / script s0 1 / put s0 0 s0 / set n0 0 s0 / drop s0 / gc / expose n0 0 / copy s1 s0 / collect / get s1 n0 0 / drop n0 / gc / census",
-        answers: "= #1 / = @1 / = ok / = ok / = ok / = ok / = @1 / = none / = ok / = @1 / - free #1 / = ok / = ok / + @1 / = census 1",
+        natives: 1000000,
+        scripts: 1000000,
+        bytes: 4294967295,
+        input: b"native n0 1\nscript s0 1\nput s0 0 s0\nset n0 0 s0\ndrop s0\ngc\nexpose n0 0\ncopy s1 s0\ncollect\nget s1 n0 0\ndrop n0\ngc\ncensus\n",
+        output: b"= #1\n= @1\n= ok\n= ok\n= ok\n= ok\n= @1\n= none\n= ok\n= @1\n- free #1\n= ok\n= ok\n+ @1\n= census 1\n",
+        status: Status::Done,
     },
+    // A collection takes a native cycle that holds script objects, and the next gc takes these.
     Example {
         name: "native_cycle_that_holds_script_objects_is_collected",
-        natives: Limits::MOST,
-        scripts: Limits::MOST,
-        script: "native n0 2 / script s0 1 / script s1 0 / put s0 0 s1 / set n0 0 n0 / set n0 1 s0 / drop s0 / drop s1 / gc / drop n0 / collect / gc / census",
-        answers: "= #1 / = @1 / = @2 / = ok / = ok / = ok / = ok / = ok / = ok / = ok / - unlink #1 / - free #1 / = ok / - free @1 / - free @2 / = ok / = census 0",
+        natives: 1000000,
+        scripts: 1000000,
+        bytes: 4294967295,
+        input: b"native n0 2\nscript s0 1\nscript s1 0\nput s0 0 s1\nset n0 0 n0\nset n0 1 s0\ndrop s0\ndrop s1\ngc\ndrop n0\ncollect\ngc\ncensus\n",
+        output: b"= #1\n= @1\n= @2\n= ok\n= ok\n= ok\n= ok\n= ok\n= ok\n= ok\n- unlink #1\n- free #1\n= ok\n- free @1\n- free @2\n= ok\n= census 0\n",
+        status: Status::Done,
+    },
+    // A line with a token too many or too few is not in the grammar, and the next one is answered.
+    Example {
+        name: "wrong_number_of_tokens",
+        natives: 1000000,
+        scripts: 1000000,
+        bytes: 4294967295,
+        input: b"collect now\nscript s0\nnative n0 0\n",
+        output: b"! line\n! line\n= #1\n",
+        status: Status::Done,
+    },
+    // The greatest numbers of slots, indexes and registers are taken, and greater ones are not in the grammar.
+    Example {
+        name: "numbers_at_their_bounds",
+        natives: 1000000,
+        scripts: 1000000,
+        bytes: 4294967295,
+        input: b"native n0 64\nset n0 63 n0\nset n0 64 n0\nset n0 4294967295 n0\nset n0 4294967296 n0\nnative n0 65\nnative n0 01\nnative n256 0\nnative n255 0\ncopy n1 s0\ncopy n1 n7\ndrop n7\n",
+        output: b"= #1\n= ok\n! slot\n! slot\n! line\n! line\n! line\n! line\n= #2\n! line\n= none\n= ok\n",
+        status: Status::Done,
+    },
+    // A line of 120 bytes is read and one of 121 is not, a comment and a carriage return counted.
+    Example {
+        name: "line_of_120_bytes_is_taken",
+        natives: 1000000,
+        scripts: 1000000,
+        bytes: 4294967295,
+        input: b"native n0 0                                                                                                             \nnative n1 0                                                                                                              \n%aaaaaaaaaaaaaaaaaaaaaaaaaaaaaaaaaaaaaaaaaaaaaaaaaaaaaaaaaaaaaaaaaaaaaaaaaaaaaaaaaaaaaaaaaaaaaaaaaaaaaaaaaaaaaaaaaaaaaaa\n%aaaaaaaaaaaaaaaaaaaaaaaaaaaaaaaaaaaaaaaaaaaaaaaaaaaaaaaaaaaaaaaaaaaaaaaaaaaaaaaaaaaaaaaaaaaaaaaaaaaaaaaaaaaaaaaaaaaaaaaa\naaaaaaaaaaaaaaaaaaaaaaaaaaaaaaaaaaaaaaaaaaaaaaaaaaaaaaaaaaaaaaaaaaaaaaaaaaaaaaaaaaaaaaaaaaaaaaaaaaaaaaaaaaaaaaaaaaaaaaa\r\naaaaaaaaaaaaaaaaaaaaaaaaaaaaaaaaaaaaaaaaaaaaaaaaaaaaaaaaaaaaaaaaaaaaaaaaaaaaaaaaaaaaaaaaaaaaaaaaaaaaaaaaaaaaaaaaaaaaaaaa\r\ncensus\n",
+        output: b"= #1\n! long\n! long\n! line\n! long\n+ #1\n= census 1\n",
+        status: Status::Done,
+    },
+    // A last line that no line feed ends is answered, its carriage return dropped.
+    Example {
+        name: "last_line_needs_no_line_feed",
+        natives: 1000000,
+        scripts: 1000000,
+        bytes: 4294967295,
+        input: b"native n0 0\ncensus\r",
+        output: b"= #1\n+ #1\n= census 1\n",
+        status: Status::Done,
+    },
+    // The limit of natives counts those that were freed.
+    Example {
+        name: "limit_counts_freed_natives",
+        natives: 1,
+        scripts: 1000000,
+        bytes: 4294967295,
+        input: b"native n0 0\ndrop n0\nnative n0 0\n",
+        output: b"= #1\n- free #1\n= ok\n! full\n",
+        status: Status::Done,
+    },
+    // The limit of script objects counts those that were freed.
+    Example {
+        name: "limit_counts_freed_script_objects",
+        natives: 1000000,
+        scripts: 1,
+        bytes: 4294967295,
+        input: b"script s0 0\ndrop s0\ngc\nscript s0 0\n",
+        output: b"= @1\n= ok\n- free @1\n= ok\n! full\n",
+        status: Status::Done,
+    },
+    // An input of as many bytes as may be read is read whole.
+    Example {
+        name: "input_of_exactly_the_bytes_allowed",
+        natives: 1000000,
+        scripts: 1000000,
+        bytes: 12,
+        input: b"native n0 0\n",
+        output: b"= #1\n",
+        status: Status::Done,
+    },
+    // An input of one byte more ends the run after the lines that end within the limit.
+    Example {
+        name: "input_of_one_byte_more",
+        natives: 1000000,
+        scripts: 1000000,
+        bytes: 12,
+        input: b"native n0 0\n\n",
+        output: b"= #1\n",
+        status: Status::Limit,
+    },
+    // With no byte allowed one byte ends the run with nothing written.
+    Example {
+        name: "input_where_no_byte_is_allowed",
+        natives: 1000000,
+        scripts: 1000000,
+        bytes: 0,
+        input: b"x",
+        output: b"",
+        status: Status::Limit,
     },
 ];
 
 #[test]
 fn worked_examples_are_answered(rt: HostRuntime) -> Result<(), Fail> {
     for example in EXAMPLES.iter() {
-        let mut source = source_of(rt.alloc(), script(rt.alloc(), example.script)?);
-        let limits = Limits::new(
-            example.natives.min(Limits::MOST),
-            example.scripts.min(Limits::MOST),
-            u32::MAX,
-        );
-        let wanted = script(rt.alloc(), example.answers)?;
-        replays(
-            &rt,
-            example.name,
-            limits,
-            &mut source,
-            wanted.as_slice(),
-            Status::Done,
-        )?;
-    }
-    Ok(())
-}
-
-#[test]
-fn an_empty_input_writes_nothing(rt: HostRuntime) -> Result<(), Fail> {
-    replays(
-        &rt,
-        "empty",
-        widest(),
-        &mut source_of(rt.alloc(), Vec::new(rt.alloc())),
-        b"",
-        Status::Done,
-    )
-}
-
-#[test]
-fn words_are_taken_or_nothing_is_read(rt: HostRuntime) -> Result<(), Fail> {
-    let table: [(&[&str], Status, &[u8]); 9] = [
-        (&["ccreplay", "replay"], Status::Done, b"= #1\n"),
-        (
-            &["ccreplay", "replay", "--natives", "1", "--bytes=12"],
-            Status::Done,
-            b"= #1\n",
-        ),
-        (
-            &["ccreplay", "replay", "--natives", "0"],
-            Status::Done,
-            b"! full\n",
-        ),
-        (
-            &["ccreplay", "replay", "--natives", "1000001"],
-            Status::Usage,
-            b"",
-        ),
-        (
-            &["ccreplay", "replay", "--bytes", "4294967296"],
-            Status::Usage,
-            b"",
-        ),
-        (&["ccreplay", "replay", "--help"], Status::Usage, b""),
-        (&["ccreplay"], Status::Usage, b""),
-        (&[], Status::Usage, b""),
-        (&["ccreplay", "play"], Status::Usage, b""),
-    ];
-    for (words, status, written) in table.iter() {
-        let mut source = SureSource::new(b"native n0 0".to_vec(rt.alloc())?);
-        let mut sink = BytesSink::new(rt.alloc(), 100, Vec::new(rt.alloc()))?;
-        assert_eq!(rt;
-            run(rt.alloc(), *words, &mut source, &mut sink),
-            *status,
-            "at {words:?}"
-        );
-        assert_eq!(rt; sink.written(), *written, "at {words:?}");
-        let left = if *status == Status::Done { 0 } else { 11 };
-        assert_eq!(rt; source.left().len(), left, "at {words:?}");
+        example.is_answered(&rt)?;
     }
     Ok(())
 }

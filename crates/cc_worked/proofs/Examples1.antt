@@ -151,22 +151,22 @@ pub held_cycle_is_kept-audited : passes_audit default_limits ample input.held_cy
 unfolding all_of_a_run
 held_cycle_is_kept-audited = refl
 
--- Gc keeps what a native holds, with all that this reaches, until the native is freed.
-pub native_keeps_what_it_holds : plain_text version_one_forms default_limits ample input.native_keeps_what_it_holds
-    ≡ codes "= #1\n= @1\n= @2\n= ok\n= ok\n= ok\n= ok\n= ok\n= @1\n- free #1\n= ok\n= ok\n- free @1\n- free @2\n= ok\n"
+-- White natives are taken by rising number, also where the collection came to the later one first.
+pub whites_are_taken_by_rising_number : plain_text version_one_forms default_limits ample input.whites_are_taken_by_rising_number
+    ≡ codes "= #1\n= #2\n= ok\n= ok\n= ok\n= ok\n= ok\n- unlink #1\n- unlink #2\n- free #1\n- free #2\n= ok\n"
 unfolding all_of_a_run
-native_keeps_what_it_holds = refl
+whites_are_taken_by_rising_number = refl
 
-native_keeps_what_it_holds-passes : passes_verdict default_limits ample input.native_keeps_what_it_holds ≡ true
+whites_are_taken_by_rising_number-passes : passes_verdict default_limits ample input.whites_are_taken_by_rising_number ≡ true
 unfolding all_of_a_run
-native_keeps_what_it_holds-passes = refl
+whites_are_taken_by_rising_number-passes = refl
 
-pub native_keeps_what_it_holds-lawful : IsLawfulRun default_limits ample input.native_keeps_what_it_holds
-native_keeps_what_it_holds-lawful = run-lawful default_limits ample input.native_keeps_what_it_holds native_keeps_what_it_holds-passes
+pub whites_are_taken_by_rising_number-lawful : IsLawfulRun default_limits ample input.whites_are_taken_by_rising_number
+whites_are_taken_by_rising_number-lawful = run-lawful default_limits ample input.whites_are_taken_by_rising_number whites_are_taken_by_rising_number-passes
 
-pub native_keeps_what_it_holds-quiet : IsQuietRun default_limits ample input.native_keeps_what_it_holds
-native_keeps_what_it_holds-quiet = run-quiet default_limits ample input.native_keeps_what_it_holds native_keeps_what_it_holds-passes
+pub whites_are_taken_by_rising_number-quiet : IsQuietRun default_limits ample input.whites_are_taken_by_rising_number
+whites_are_taken_by_rising_number-quiet = run-quiet default_limits ample input.whites_are_taken_by_rising_number whites_are_taken_by_rising_number-passes
 
-pub native_keeps_what_it_holds-audited : passes_audit default_limits ample input.native_keeps_what_it_holds ≡ true
+pub whites_are_taken_by_rising_number-audited : passes_audit default_limits ample input.whites_are_taken_by_rising_number ≡ true
 unfolding all_of_a_run
-native_keeps_what_it_holds-audited = refl
+whites_are_taken_by_rising_number-audited = refl

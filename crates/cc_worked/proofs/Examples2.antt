@@ -11,162 +11,162 @@ use Rattle.cc_worked.proofs.Opened.{all_of_a_run}
 use Rattle.cc_worked.proofs.LawfulTest.{run-lawful}
 use Rattle.cc_worked.proofs.QuietTest.{run-quiet}
 
--- A reflector that was made since the last gc keeps its cycle through a collection.
-pub reflector_is_still_black : plain_text version_one_forms default_limits ample input.reflector_is_still_black
-    ≡ codes "= #1\n= ~1\n= ok\n= ok\n= ok\n= ok\n+ #1\n+ ~1\n= census 2\n"
+-- A slot of a script object is written, emptied and read, and what is refused meanwhile leaves it.
+pub script_slots_are_written_and_read : plain_text version_one_forms default_limits ample input.script_slots_are_written_and_read
+    ≡ codes "= @1\n= @2\n= ok\n= @2\n= none\n= ok\n= none\n! slot\n! empty\n! empty\n! empty\n+ @1\n+ @2\n= census 2\n"
 unfolding all_of_a_run
-reflector_is_still_black = refl
+script_slots_are_written_and_read = refl
 
-reflector_is_still_black-passes : passes_verdict default_limits ample input.reflector_is_still_black ≡ true
+script_slots_are_written_and_read-passes : passes_verdict default_limits ample input.script_slots_are_written_and_read ≡ true
 unfolding all_of_a_run
-reflector_is_still_black-passes = refl
+script_slots_are_written_and_read-passes = refl
 
-pub reflector_is_still_black-lawful : IsLawfulRun default_limits ample input.reflector_is_still_black
-reflector_is_still_black-lawful = run-lawful default_limits ample input.reflector_is_still_black reflector_is_still_black-passes
+pub script_slots_are_written_and_read-lawful : IsLawfulRun default_limits ample input.script_slots_are_written_and_read
+script_slots_are_written_and_read-lawful = run-lawful default_limits ample input.script_slots_are_written_and_read script_slots_are_written_and_read-passes
 
-pub reflector_is_still_black-quiet : IsQuietRun default_limits ample input.reflector_is_still_black
-reflector_is_still_black-quiet = run-quiet default_limits ample input.reflector_is_still_black reflector_is_still_black-passes
+pub script_slots_are_written_and_read-quiet : IsQuietRun default_limits ample input.script_slots_are_written_and_read
+script_slots_are_written_and_read-quiet = run-quiet default_limits ample input.script_slots_are_written_and_read script_slots_are_written_and_read-passes
 
-pub reflector_is_still_black-audited : passes_audit default_limits ample input.reflector_is_still_black ≡ true
+pub script_slots_are_written_and_read-audited : passes_audit default_limits ample input.script_slots_are_written_and_read ≡ true
 unfolding all_of_a_run
-reflector_is_still_black-audited = refl
+script_slots_are_written_and_read-audited = refl
 
--- Gc, collect and gc take a cycle of a native and its reflector.
-pub cycle_through_a_reflector : plain_text version_one_forms default_limits ample input.cycle_through_a_reflector
-    ≡ codes "= #1\n= ~1\n= ok\n= ok\n= ok\n= ok\n+ #1\n+ ~1\n= census 2\n= ok\n- unlink #1\n= ok\n- free ~1\n- free #1\n= ok\n= census 0\n"
+-- A slot is not emptied by writing what an empty register holds.
+pub empty_source_of_put_is_refused : plain_text version_one_forms default_limits ample input.empty_source_of_put_is_refused
+    ≡ codes "= @1\n= @2\n= ok\n! empty\n= @2\n"
 unfolding all_of_a_run
-cycle_through_a_reflector = refl
+empty_source_of_put_is_refused = refl
 
-cycle_through_a_reflector-passes : passes_verdict default_limits ample input.cycle_through_a_reflector ≡ true
+empty_source_of_put_is_refused-passes : passes_verdict default_limits ample input.empty_source_of_put_is_refused ≡ true
 unfolding all_of_a_run
-cycle_through_a_reflector-passes = refl
+empty_source_of_put_is_refused-passes = refl
 
-pub cycle_through_a_reflector-lawful : IsLawfulRun default_limits ample input.cycle_through_a_reflector
-cycle_through_a_reflector-lawful = run-lawful default_limits ample input.cycle_through_a_reflector cycle_through_a_reflector-passes
+pub empty_source_of_put_is_refused-lawful : IsLawfulRun default_limits ample input.empty_source_of_put_is_refused
+empty_source_of_put_is_refused-lawful = run-lawful default_limits ample input.empty_source_of_put_is_refused empty_source_of_put_is_refused-passes
 
-pub cycle_through_a_reflector-quiet : IsQuietRun default_limits ample input.cycle_through_a_reflector
-cycle_through_a_reflector-quiet = run-quiet default_limits ample input.cycle_through_a_reflector cycle_through_a_reflector-passes
+pub empty_source_of_put_is_refused-quiet : IsQuietRun default_limits ample input.empty_source_of_put_is_refused
+empty_source_of_put_is_refused-quiet = run-quiet default_limits ample input.empty_source_of_put_is_refused empty_source_of_put_is_refused-passes
 
-pub cycle_through_a_reflector-audited : passes_audit default_limits ample input.cycle_through_a_reflector ≡ true
+pub empty_source_of_put_is_refused-audited : passes_audit default_limits ample input.empty_source_of_put_is_refused ≡ true
 unfolding all_of_a_run
-cycle_through_a_reflector-audited = refl
+empty_source_of_put_is_refused-audited = refl
 
--- A blank reflector is freed though its native lives, and goes last when it is made again.
-pub reflector_made_again_is_listed_last : plain_text version_one_forms default_limits ample input.reflector_made_again_is_listed_last
-    ≡ codes "= #1\n= ~1\n= @1\n= ok\n- free ~1\n= ok\n= ~1\n+ #1\n+ @1\n+ ~1\n= census 3\n"
+-- A native is not read into a script register nor exposed, and a script object not read into a native register.
+pub wrong_kinds_in_slots : plain_text version_one_forms default_limits ample input.wrong_kinds_in_slots
+    ≡ codes "= #1\n= #2\n= @1\n= ok\n= ok\n! kind\n! kind\n! slot\n! kind\n= @1\n! slot\n! empty\n"
 unfolding all_of_a_run
-reflector_made_again_is_listed_last = refl
+wrong_kinds_in_slots = refl
 
-reflector_made_again_is_listed_last-passes : passes_verdict default_limits ample input.reflector_made_again_is_listed_last ≡ true
+wrong_kinds_in_slots-passes : passes_verdict default_limits ample input.wrong_kinds_in_slots ≡ true
 unfolding all_of_a_run
-reflector_made_again_is_listed_last-passes = refl
+wrong_kinds_in_slots-passes = refl
 
-pub reflector_made_again_is_listed_last-lawful : IsLawfulRun default_limits ample input.reflector_made_again_is_listed_last
-reflector_made_again_is_listed_last-lawful = run-lawful default_limits ample input.reflector_made_again_is_listed_last reflector_made_again_is_listed_last-passes
+pub wrong_kinds_in_slots-lawful : IsLawfulRun default_limits ample input.wrong_kinds_in_slots
+wrong_kinds_in_slots-lawful = run-lawful default_limits ample input.wrong_kinds_in_slots wrong_kinds_in_slots-passes
 
-pub reflector_made_again_is_listed_last-quiet : IsQuietRun default_limits ample input.reflector_made_again_is_listed_last
-reflector_made_again_is_listed_last-quiet = run-quiet default_limits ample input.reflector_made_again_is_listed_last reflector_made_again_is_listed_last-passes
+pub wrong_kinds_in_slots-quiet : IsQuietRun default_limits ample input.wrong_kinds_in_slots
+wrong_kinds_in_slots-quiet = run-quiet default_limits ample input.wrong_kinds_in_slots wrong_kinds_in_slots-passes
 
-pub reflector_made_again_is_listed_last-audited : passes_audit default_limits ample input.reflector_made_again_is_listed_last ≡ true
+pub wrong_kinds_in_slots-audited : passes_audit default_limits ample input.wrong_kinds_in_slots ≡ true
 unfolding all_of_a_run
-reflector_made_again_is_listed_last-audited = refl
+wrong_kinds_in_slots-audited = refl
 
--- A reflector whose slot was written lives as long as its native, with what it holds.
-pub written_reflector_is_preserved : plain_text version_one_forms default_limits ample input.written_reflector_is_preserved
-    ≡ codes "= #1\n= ~1\n= @1\n= ok\n= ok\n= ok\n= ok\n= ~1\n= @1\n"
+-- Gc keeps what a native holds, with all that this reaches, until the native is freed.
+pub native_keeps_what_it_holds : plain_text version_one_forms default_limits ample input.native_keeps_what_it_holds
+    ≡ codes "= #1\n= @1\n= @2\n= ok\n= ok\n= ok\n= ok\n= ok\n= @1\n- free #1\n= ok\n= ok\n- free @1\n- free @2\n= ok\n"
 unfolding all_of_a_run
-written_reflector_is_preserved = refl
+native_keeps_what_it_holds = refl
 
-written_reflector_is_preserved-passes : passes_verdict default_limits ample input.written_reflector_is_preserved ≡ true
+native_keeps_what_it_holds-passes : passes_verdict default_limits ample input.native_keeps_what_it_holds ≡ true
 unfolding all_of_a_run
-written_reflector_is_preserved-passes = refl
+native_keeps_what_it_holds-passes = refl
 
-pub written_reflector_is_preserved-lawful : IsLawfulRun default_limits ample input.written_reflector_is_preserved
-written_reflector_is_preserved-lawful = run-lawful default_limits ample input.written_reflector_is_preserved written_reflector_is_preserved-passes
+pub native_keeps_what_it_holds-lawful : IsLawfulRun default_limits ample input.native_keeps_what_it_holds
+native_keeps_what_it_holds-lawful = run-lawful default_limits ample input.native_keeps_what_it_holds native_keeps_what_it_holds-passes
 
-pub written_reflector_is_preserved-quiet : IsQuietRun default_limits ample input.written_reflector_is_preserved
-written_reflector_is_preserved-quiet = run-quiet default_limits ample input.written_reflector_is_preserved written_reflector_is_preserved-passes
+pub native_keeps_what_it_holds-quiet : IsQuietRun default_limits ample input.native_keeps_what_it_holds
+native_keeps_what_it_holds-quiet = run-quiet default_limits ample input.native_keeps_what_it_holds native_keeps_what_it_holds-passes
 
-pub written_reflector_is_preserved-audited : passes_audit default_limits ample input.written_reflector_is_preserved ≡ true
+pub native_keeps_what_it_holds-audited : passes_audit default_limits ample input.native_keeps_what_it_holds ≡ true
 unfolding all_of_a_run
-written_reflector_is_preserved-audited = refl
+native_keeps_what_it_holds-audited = refl
 
--- Gc marks and sweeps again as long as a freed native lets go of script objects.
-pub gc_sweeps_three_rounds : plain_text version_one_forms default_limits ample input.gc_sweeps_three_rounds
-    ≡ codes "= #1\n= #2\n= @1\n= ok\n= ~2\n= ok\n= ~1\n= ok\n= ok\n= ok\n= ok\n= ok\n- free ~1\n- free #1\n- free ~2\n- free #2\n- free @1\n= ok\n"
+-- A script object gets a number that no other one had, though one was freed.
+pub number_of_a_freed_script_object_is_never_used_again : plain_text version_one_forms default_limits ample input.number_of_a_freed_script_object_is_never_used_again
+    ≡ codes "= @1\n= @2\n= ok\n- free @1\n= ok\n= @3\n+ @2\n+ @3\n= census 2\n= ok\n= @2\n"
 unfolding all_of_a_run
-gc_sweeps_three_rounds = refl
+number_of_a_freed_script_object_is_never_used_again = refl
 
-gc_sweeps_three_rounds-passes : passes_verdict default_limits ample input.gc_sweeps_three_rounds ≡ true
+number_of_a_freed_script_object_is_never_used_again-passes : passes_verdict default_limits ample input.number_of_a_freed_script_object_is_never_used_again ≡ true
 unfolding all_of_a_run
-gc_sweeps_three_rounds-passes = refl
+number_of_a_freed_script_object_is_never_used_again-passes = refl
 
-pub gc_sweeps_three_rounds-lawful : IsLawfulRun default_limits ample input.gc_sweeps_three_rounds
-gc_sweeps_three_rounds-lawful = run-lawful default_limits ample input.gc_sweeps_three_rounds gc_sweeps_three_rounds-passes
+pub number_of_a_freed_script_object_is_never_used_again-lawful : IsLawfulRun default_limits ample input.number_of_a_freed_script_object_is_never_used_again
+number_of_a_freed_script_object_is_never_used_again-lawful = run-lawful default_limits ample input.number_of_a_freed_script_object_is_never_used_again number_of_a_freed_script_object_is_never_used_again-passes
 
-pub gc_sweeps_three_rounds-quiet : IsQuietRun default_limits ample input.gc_sweeps_three_rounds
-gc_sweeps_three_rounds-quiet = run-quiet default_limits ample input.gc_sweeps_three_rounds gc_sweeps_three_rounds-passes
+pub number_of_a_freed_script_object_is_never_used_again-quiet : IsQuietRun default_limits ample input.number_of_a_freed_script_object_is_never_used_again
+number_of_a_freed_script_object_is_never_used_again-quiet = run-quiet default_limits ample input.number_of_a_freed_script_object_is_never_used_again number_of_a_freed_script_object_is_never_used_again-passes
 
-pub gc_sweeps_three_rounds-audited : passes_audit default_limits ample input.gc_sweeps_three_rounds ≡ true
+pub number_of_a_freed_script_object_is_never_used_again-audited : passes_audit default_limits ample input.number_of_a_freed_script_object_is_never_used_again ≡ true
 unfolding all_of_a_run
-gc_sweeps_three_rounds-audited = refl
+number_of_a_freed_script_object_is_never_used_again-audited = refl
 
--- A collection leaves a cycle that script touched after the last gc, and the next one takes it.
-pub exposed_reflector_waits_for_gc : plain_text version_one_forms default_limits ample input.exposed_reflector_waits_for_gc
-    ≡ codes "= #1\n= ~1\n= ok\n= ok\n= ok\n= ~1\n= ok\n= ok\n= ok\n- unlink #1\n= ok\n- free ~1\n- free #1\n= ok\n"
+-- A script object that holds itself is touched in a native's slot, and outlives the native in a register.
+pub gray_cycle_through_a_slot_is_exposed : plain_text version_one_forms default_limits ample input.gray_cycle_through_a_slot_is_exposed
+    ≡ codes "= #1\n= @1\n= ok\n= ok\n= ok\n= ok\n= @1\n= none\n= ok\n= @1\n- free #1\n= ok\n= ok\n+ @1\n= census 1\n"
 unfolding all_of_a_run
-exposed_reflector_waits_for_gc = refl
+gray_cycle_through_a_slot_is_exposed = refl
 
-exposed_reflector_waits_for_gc-passes : passes_verdict default_limits ample input.exposed_reflector_waits_for_gc ≡ true
+gray_cycle_through_a_slot_is_exposed-passes : passes_verdict default_limits ample input.gray_cycle_through_a_slot_is_exposed ≡ true
 unfolding all_of_a_run
-exposed_reflector_waits_for_gc-passes = refl
+gray_cycle_through_a_slot_is_exposed-passes = refl
 
-pub exposed_reflector_waits_for_gc-lawful : IsLawfulRun default_limits ample input.exposed_reflector_waits_for_gc
-exposed_reflector_waits_for_gc-lawful = run-lawful default_limits ample input.exposed_reflector_waits_for_gc exposed_reflector_waits_for_gc-passes
+pub gray_cycle_through_a_slot_is_exposed-lawful : IsLawfulRun default_limits ample input.gray_cycle_through_a_slot_is_exposed
+gray_cycle_through_a_slot_is_exposed-lawful = run-lawful default_limits ample input.gray_cycle_through_a_slot_is_exposed gray_cycle_through_a_slot_is_exposed-passes
 
-pub exposed_reflector_waits_for_gc-quiet : IsQuietRun default_limits ample input.exposed_reflector_waits_for_gc
-exposed_reflector_waits_for_gc-quiet = run-quiet default_limits ample input.exposed_reflector_waits_for_gc exposed_reflector_waits_for_gc-passes
+pub gray_cycle_through_a_slot_is_exposed-quiet : IsQuietRun default_limits ample input.gray_cycle_through_a_slot_is_exposed
+gray_cycle_through_a_slot_is_exposed-quiet = run-quiet default_limits ample input.gray_cycle_through_a_slot_is_exposed gray_cycle_through_a_slot_is_exposed-passes
 
-pub exposed_reflector_waits_for_gc-audited : passes_audit default_limits ample input.exposed_reflector_waits_for_gc ≡ true
+pub gray_cycle_through_a_slot_is_exposed-audited : passes_audit default_limits ample input.gray_cycle_through_a_slot_is_exposed ≡ true
 unfolding all_of_a_run
-exposed_reflector_waits_for_gc-audited = refl
+gray_cycle_through_a_slot_is_exposed-audited = refl
 
--- A native and its preserved reflector hold each other, and are taken together.
-pub preserved_reflector_is_collected : plain_text version_one_forms default_limits ample input.preserved_reflector_is_collected
-    ≡ codes "= #1\n= ~1\n= ok\n= ok\n= ok\n= ok\n= ok\n- unlink #1\n= ok\n- free ~1\n- free #1\n= ok\n"
+-- A collection takes a native cycle that holds script objects, and the next gc takes these.
+pub native_cycle_that_holds_script_objects_is_collected : plain_text version_one_forms default_limits ample input.native_cycle_that_holds_script_objects_is_collected
+    ≡ codes "= #1\n= @1\n= @2\n= ok\n= ok\n= ok\n= ok\n= ok\n= ok\n= ok\n- unlink #1\n- free #1\n= ok\n- free @1\n- free @2\n= ok\n= census 0\n"
 unfolding all_of_a_run
-preserved_reflector_is_collected = refl
+native_cycle_that_holds_script_objects_is_collected = refl
 
-preserved_reflector_is_collected-passes : passes_verdict default_limits ample input.preserved_reflector_is_collected ≡ true
+native_cycle_that_holds_script_objects_is_collected-passes : passes_verdict default_limits ample input.native_cycle_that_holds_script_objects_is_collected ≡ true
 unfolding all_of_a_run
-preserved_reflector_is_collected-passes = refl
+native_cycle_that_holds_script_objects_is_collected-passes = refl
 
-pub preserved_reflector_is_collected-lawful : IsLawfulRun default_limits ample input.preserved_reflector_is_collected
-preserved_reflector_is_collected-lawful = run-lawful default_limits ample input.preserved_reflector_is_collected preserved_reflector_is_collected-passes
+pub native_cycle_that_holds_script_objects_is_collected-lawful : IsLawfulRun default_limits ample input.native_cycle_that_holds_script_objects_is_collected
+native_cycle_that_holds_script_objects_is_collected-lawful = run-lawful default_limits ample input.native_cycle_that_holds_script_objects_is_collected native_cycle_that_holds_script_objects_is_collected-passes
 
-pub preserved_reflector_is_collected-quiet : IsQuietRun default_limits ample input.preserved_reflector_is_collected
-preserved_reflector_is_collected-quiet = run-quiet default_limits ample input.preserved_reflector_is_collected preserved_reflector_is_collected-passes
+pub native_cycle_that_holds_script_objects_is_collected-quiet : IsQuietRun default_limits ample input.native_cycle_that_holds_script_objects_is_collected
+native_cycle_that_holds_script_objects_is_collected-quiet = run-quiet default_limits ample input.native_cycle_that_holds_script_objects_is_collected native_cycle_that_holds_script_objects_is_collected-passes
 
-pub preserved_reflector_is_collected-audited : passes_audit default_limits ample input.preserved_reflector_is_collected ≡ true
+pub native_cycle_that_holds_script_objects_is_collected-audited : passes_audit default_limits ample input.native_cycle_that_holds_script_objects_is_collected ≡ true
 unfolding all_of_a_run
-preserved_reflector_is_collected-audited = refl
+native_cycle_that_holds_script_objects_is_collected-audited = refl
 
--- An entry whose value alone holds its key is dropped, with both.
-pub entry_does_not_keep_its_key : plain_text version_one_forms default_limits ample input.entry_does_not_keep_its_key
-    ≡ codes "= @1\n= @2\n= @3\n= ok\n= ok\n= ok\n= ok\n- free @2\n- free @3\n= ok\n+ @1\n= census 1\n"
+-- A reflector has four slots: the last of them is written and read, and there is none behind it.
+pub reflector_has_four_slots : plain_text version_one_forms default_limits ample input.reflector_has_four_slots
+    ≡ codes "= #1\n= ~1\n= @1\n= ok\n! slot\n= @1\n! slot\n"
 unfolding all_of_a_run
-entry_does_not_keep_its_key = refl
+reflector_has_four_slots = refl
 
-entry_does_not_keep_its_key-passes : passes_verdict default_limits ample input.entry_does_not_keep_its_key ≡ true
+reflector_has_four_slots-passes : passes_verdict default_limits ample input.reflector_has_four_slots ≡ true
 unfolding all_of_a_run
-entry_does_not_keep_its_key-passes = refl
+reflector_has_four_slots-passes = refl
 
-pub entry_does_not_keep_its_key-lawful : IsLawfulRun default_limits ample input.entry_does_not_keep_its_key
-entry_does_not_keep_its_key-lawful = run-lawful default_limits ample input.entry_does_not_keep_its_key entry_does_not_keep_its_key-passes
+pub reflector_has_four_slots-lawful : IsLawfulRun default_limits ample input.reflector_has_four_slots
+reflector_has_four_slots-lawful = run-lawful default_limits ample input.reflector_has_four_slots reflector_has_four_slots-passes
 
-pub entry_does_not_keep_its_key-quiet : IsQuietRun default_limits ample input.entry_does_not_keep_its_key
-entry_does_not_keep_its_key-quiet = run-quiet default_limits ample input.entry_does_not_keep_its_key entry_does_not_keep_its_key-passes
+pub reflector_has_four_slots-quiet : IsQuietRun default_limits ample input.reflector_has_four_slots
+reflector_has_four_slots-quiet = run-quiet default_limits ample input.reflector_has_four_slots reflector_has_four_slots-passes
 
-pub entry_does_not_keep_its_key-audited : passes_audit default_limits ample input.entry_does_not_keep_its_key ≡ true
+pub reflector_has_four_slots-audited : passes_audit default_limits ample input.reflector_has_four_slots ≡ true
 unfolding all_of_a_run
-entry_does_not_keep_its_key-audited = refl
+reflector_has_four_slots-audited = refl

@@ -11,162 +11,162 @@ use Rattle.cc_worked.proofs.Opened.{all_of_a_run}
 use Rattle.cc_worked.proofs.LawfulTest.{run-lawful}
 use Rattle.cc_worked.proofs.QuietTest.{run-quiet}
 
--- A reflector that became a key lives as long as its native, and its entry with it.
-pub entry_preserves_its_reflector_key : plain_text version_one_forms default_limits ample input.entry_preserves_its_reflector_key
-    ≡ codes "= #1\n= ~1\n= @1\n= @2\n= ok\n= ok\n= ok\n= ok\n= ~1\n= @2\n"
+-- A reflector that was made since the last gc keeps its cycle through a collection.
+pub reflector_is_still_black : plain_text version_one_forms default_limits ample input.reflector_is_still_black
+    ≡ codes "= #1\n= ~1\n= ok\n= ok\n= ok\n= ok\n+ #1\n+ ~1\n= census 2\n"
 unfolding all_of_a_run
-entry_preserves_its_reflector_key = refl
+reflector_is_still_black = refl
 
-entry_preserves_its_reflector_key-passes : passes_verdict default_limits ample input.entry_preserves_its_reflector_key ≡ true
+reflector_is_still_black-passes : passes_verdict default_limits ample input.reflector_is_still_black ≡ true
 unfolding all_of_a_run
-entry_preserves_its_reflector_key-passes = refl
+reflector_is_still_black-passes = refl
 
-pub entry_preserves_its_reflector_key-lawful : IsLawfulRun default_limits ample input.entry_preserves_its_reflector_key
-entry_preserves_its_reflector_key-lawful = run-lawful default_limits ample input.entry_preserves_its_reflector_key entry_preserves_its_reflector_key-passes
+pub reflector_is_still_black-lawful : IsLawfulRun default_limits ample input.reflector_is_still_black
+reflector_is_still_black-lawful = run-lawful default_limits ample input.reflector_is_still_black reflector_is_still_black-passes
 
-pub entry_preserves_its_reflector_key-quiet : IsQuietRun default_limits ample input.entry_preserves_its_reflector_key
-entry_preserves_its_reflector_key-quiet = run-quiet default_limits ample input.entry_preserves_its_reflector_key entry_preserves_its_reflector_key-passes
+pub reflector_is_still_black-quiet : IsQuietRun default_limits ample input.reflector_is_still_black
+reflector_is_still_black-quiet = run-quiet default_limits ample input.reflector_is_still_black reflector_is_still_black-passes
 
-pub entry_preserves_its_reflector_key-audited : passes_audit default_limits ample input.entry_preserves_its_reflector_key ≡ true
+pub reflector_is_still_black-audited : passes_audit default_limits ample input.reflector_is_still_black ≡ true
 unfolding all_of_a_run
-entry_preserves_its_reflector_key-audited = refl
+reflector_is_still_black-audited = refl
 
--- Gc, collect and gc take a cycle that goes through an entry of a map that lives on.
-pub cycle_through_an_entry : plain_text version_one_forms default_limits ample input.cycle_through_an_entry
-    ≡ codes "= #1\n= ~1\n= @1\n= @2\n= ok\n= ok\n= ok\n= ok\n= ok\n= ok\n- unlink #1\n= ok\n- free ~1\n- free #1\n- free @2\n= ok\n+ @1\n= census 1\n"
+-- Gc, collect and gc take a cycle of a native and its reflector.
+pub cycle_through_a_reflector : plain_text version_one_forms default_limits ample input.cycle_through_a_reflector
+    ≡ codes "= #1\n= ~1\n= ok\n= ok\n= ok\n= ok\n+ #1\n+ ~1\n= census 2\n= ok\n- unlink #1\n= ok\n- free ~1\n- free #1\n= ok\n= census 0\n"
 unfolding all_of_a_run
-cycle_through_an_entry = refl
+cycle_through_a_reflector = refl
 
-cycle_through_an_entry-passes : passes_verdict default_limits ample input.cycle_through_an_entry ≡ true
+cycle_through_a_reflector-passes : passes_verdict default_limits ample input.cycle_through_a_reflector ≡ true
 unfolding all_of_a_run
-cycle_through_an_entry-passes = refl
+cycle_through_a_reflector-passes = refl
 
-pub cycle_through_an_entry-lawful : IsLawfulRun default_limits ample input.cycle_through_an_entry
-cycle_through_an_entry-lawful = run-lawful default_limits ample input.cycle_through_an_entry cycle_through_an_entry-passes
+pub cycle_through_a_reflector-lawful : IsLawfulRun default_limits ample input.cycle_through_a_reflector
+cycle_through_a_reflector-lawful = run-lawful default_limits ample input.cycle_through_a_reflector cycle_through_a_reflector-passes
 
-pub cycle_through_an_entry-quiet : IsQuietRun default_limits ample input.cycle_through_an_entry
-cycle_through_an_entry-quiet = run-quiet default_limits ample input.cycle_through_an_entry cycle_through_an_entry-passes
+pub cycle_through_a_reflector-quiet : IsQuietRun default_limits ample input.cycle_through_a_reflector
+cycle_through_a_reflector-quiet = run-quiet default_limits ample input.cycle_through_a_reflector cycle_through_a_reflector-passes
 
-pub cycle_through_an_entry-audited : passes_audit default_limits ample input.cycle_through_an_entry ≡ true
+pub cycle_through_a_reflector-audited : passes_audit default_limits ample input.cycle_through_a_reflector ≡ true
 unfolding all_of_a_run
-cycle_through_an_entry-audited = refl
+cycle_through_a_reflector-audited = refl
 
--- A collection keeps the value of an entry whose key a live native holds, and what the value leads to.
-pub value_lives_by_its_mapping : plain_text version_one_forms default_limits ample input.value_lives_by_its_mapping
-    ≡ codes "= #1\n= #2\n= @1\n= @2\n= @3\n= ~2\n= ok\n= ok\n= ok\n= ok\n= ok\n= ok\n= ok\n= ok\n= ok\n= @2\n= @3\n= ~2\n= #2\n"
+-- A blank reflector is freed though its native lives, and goes last when it is made again.
+pub reflector_made_again_is_listed_last : plain_text version_one_forms default_limits ample input.reflector_made_again_is_listed_last
+    ≡ codes "= #1\n= ~1\n= @1\n= ok\n- free ~1\n= ok\n= ~1\n+ #1\n+ @1\n+ ~1\n= census 3\n"
 unfolding all_of_a_run
-value_lives_by_its_mapping = refl
+reflector_made_again_is_listed_last = refl
 
-value_lives_by_its_mapping-passes : passes_verdict default_limits ample input.value_lives_by_its_mapping ≡ true
+reflector_made_again_is_listed_last-passes : passes_verdict default_limits ample input.reflector_made_again_is_listed_last ≡ true
 unfolding all_of_a_run
-value_lives_by_its_mapping-passes = refl
+reflector_made_again_is_listed_last-passes = refl
 
-pub value_lives_by_its_mapping-lawful : IsLawfulRun default_limits ample input.value_lives_by_its_mapping
-value_lives_by_its_mapping-lawful = run-lawful default_limits ample input.value_lives_by_its_mapping value_lives_by_its_mapping-passes
+pub reflector_made_again_is_listed_last-lawful : IsLawfulRun default_limits ample input.reflector_made_again_is_listed_last
+reflector_made_again_is_listed_last-lawful = run-lawful default_limits ample input.reflector_made_again_is_listed_last reflector_made_again_is_listed_last-passes
 
-pub value_lives_by_its_mapping-quiet : IsQuietRun default_limits ample input.value_lives_by_its_mapping
-value_lives_by_its_mapping-quiet = run-quiet default_limits ample input.value_lives_by_its_mapping value_lives_by_its_mapping-passes
+pub reflector_made_again_is_listed_last-quiet : IsQuietRun default_limits ample input.reflector_made_again_is_listed_last
+reflector_made_again_is_listed_last-quiet = run-quiet default_limits ample input.reflector_made_again_is_listed_last reflector_made_again_is_listed_last-passes
 
-pub value_lives_by_its_mapping-audited : passes_audit default_limits ample input.value_lives_by_its_mapping ≡ true
+pub reflector_made_again_is_listed_last-audited : passes_audit default_limits ample input.reflector_made_again_is_listed_last ≡ true
 unfolding all_of_a_run
-value_lives_by_its_mapping-audited = refl
+reflector_made_again_is_listed_last-audited = refl
 
--- An entry's value is replaced, read and taken out; a register frees what it alone held when something else comes into it.
-pub entries_are_replaced_and_taken_out : plain_text version_one_forms default_limits ample input.entries_are_replaced_and_taken_out
-    ≡ codes "= #1\n- free #1\n= #2\n= @1\n= @2\n= @3\n= ok\n= ok\n= @2\n= ok\n= none\n= none\n= ok\n- free @3\n= ok\n"
+-- A reflector whose slot was written lives as long as its native, with what it holds.
+pub written_reflector_is_preserved : plain_text version_one_forms default_limits ample input.written_reflector_is_preserved
+    ≡ codes "= #1\n= ~1\n= @1\n= ok\n= ok\n= ok\n= ok\n= ~1\n= @1\n"
 unfolding all_of_a_run
-entries_are_replaced_and_taken_out = refl
+written_reflector_is_preserved = refl
 
-entries_are_replaced_and_taken_out-passes : passes_verdict default_limits ample input.entries_are_replaced_and_taken_out ≡ true
+written_reflector_is_preserved-passes : passes_verdict default_limits ample input.written_reflector_is_preserved ≡ true
 unfolding all_of_a_run
-entries_are_replaced_and_taken_out-passes = refl
+written_reflector_is_preserved-passes = refl
 
-pub entries_are_replaced_and_taken_out-lawful : IsLawfulRun default_limits ample input.entries_are_replaced_and_taken_out
-entries_are_replaced_and_taken_out-lawful = run-lawful default_limits ample input.entries_are_replaced_and_taken_out entries_are_replaced_and_taken_out-passes
+pub written_reflector_is_preserved-lawful : IsLawfulRun default_limits ample input.written_reflector_is_preserved
+written_reflector_is_preserved-lawful = run-lawful default_limits ample input.written_reflector_is_preserved written_reflector_is_preserved-passes
 
-pub entries_are_replaced_and_taken_out-quiet : IsQuietRun default_limits ample input.entries_are_replaced_and_taken_out
-entries_are_replaced_and_taken_out-quiet = run-quiet default_limits ample input.entries_are_replaced_and_taken_out entries_are_replaced_and_taken_out-passes
+pub written_reflector_is_preserved-quiet : IsQuietRun default_limits ample input.written_reflector_is_preserved
+written_reflector_is_preserved-quiet = run-quiet default_limits ample input.written_reflector_is_preserved written_reflector_is_preserved-passes
 
-pub entries_are_replaced_and_taken_out-audited : passes_audit default_limits ample input.entries_are_replaced_and_taken_out ≡ true
+pub written_reflector_is_preserved-audited : passes_audit default_limits ample input.written_reflector_is_preserved ≡ true
 unfolding all_of_a_run
-entries_are_replaced_and_taken_out-audited = refl
+written_reflector_is_preserved-audited = refl
 
--- A collection with two nodes takes a unit to begin, one for each node, and one to end.
-pub two_cycle_takes_four_units : plain_text version_one_forms default_limits ample input.two_cycle_takes_four_units
-    ≡ codes "= #1\n= #2\n= ok\n= ok\n= ok\n= ok\n= ok\n= ok\n= ok\n- unlink #1\n- unlink #2\n- free #1\n- free #2\n= ok\n"
+-- Gc marks and sweeps again as long as a freed native lets go of script objects.
+pub gc_sweeps_three_rounds : plain_text version_one_forms default_limits ample input.gc_sweeps_three_rounds
+    ≡ codes "= #1\n= #2\n= @1\n= ok\n= ~2\n= ok\n= ~1\n= ok\n= ok\n= ok\n= ok\n= ok\n- free ~1\n- free #1\n- free ~2\n- free #2\n- free @1\n= ok\n"
 unfolding all_of_a_run
-two_cycle_takes_four_units = refl
+gc_sweeps_three_rounds = refl
 
-two_cycle_takes_four_units-passes : passes_verdict default_limits ample input.two_cycle_takes_four_units ≡ true
+gc_sweeps_three_rounds-passes : passes_verdict default_limits ample input.gc_sweeps_three_rounds ≡ true
 unfolding all_of_a_run
-two_cycle_takes_four_units-passes = refl
+gc_sweeps_three_rounds-passes = refl
 
-pub two_cycle_takes_four_units-lawful : IsLawfulRun default_limits ample input.two_cycle_takes_four_units
-two_cycle_takes_four_units-lawful = run-lawful default_limits ample input.two_cycle_takes_four_units two_cycle_takes_four_units-passes
+pub gc_sweeps_three_rounds-lawful : IsLawfulRun default_limits ample input.gc_sweeps_three_rounds
+gc_sweeps_three_rounds-lawful = run-lawful default_limits ample input.gc_sweeps_three_rounds gc_sweeps_three_rounds-passes
 
-pub two_cycle_takes_four_units-quiet : IsQuietRun default_limits ample input.two_cycle_takes_four_units
-two_cycle_takes_four_units-quiet = run-quiet default_limits ample input.two_cycle_takes_four_units two_cycle_takes_four_units-passes
+pub gc_sweeps_three_rounds-quiet : IsQuietRun default_limits ample input.gc_sweeps_three_rounds
+gc_sweeps_three_rounds-quiet = run-quiet default_limits ample input.gc_sweeps_three_rounds gc_sweeps_three_rounds-passes
 
-pub two_cycle_takes_four_units-audited : passes_audit default_limits ample input.two_cycle_takes_four_units ≡ true
+pub gc_sweeps_three_rounds-audited : passes_audit default_limits ample input.gc_sweeps_three_rounds ≡ true
 unfolding all_of_a_run
-two_cycle_takes_four_units-audited = refl
+gc_sweeps_three_rounds-audited = refl
 
--- A native that was touched while a collection ran waits for the next one.
-pub touched_between_slices : plain_text version_one_forms default_limits ample input.touched_between_slices
-    ≡ codes "= #1\n= ok\n= #1\n= ok\n= ok\n= #1\n= ok\n= ok\n= ok\n- unlink #1\n- free #1\n= ok\n"
+-- A collection leaves a cycle that script touched after the last gc, and the next one takes it.
+pub exposed_reflector_waits_for_gc : plain_text version_one_forms default_limits ample input.exposed_reflector_waits_for_gc
+    ≡ codes "= #1\n= ~1\n= ok\n= ok\n= ok\n= ~1\n= ok\n= ok\n= ok\n- unlink #1\n= ok\n- free ~1\n- free #1\n= ok\n"
 unfolding all_of_a_run
-touched_between_slices = refl
+exposed_reflector_waits_for_gc = refl
 
-touched_between_slices-passes : passes_verdict default_limits ample input.touched_between_slices ≡ true
+exposed_reflector_waits_for_gc-passes : passes_verdict default_limits ample input.exposed_reflector_waits_for_gc ≡ true
 unfolding all_of_a_run
-touched_between_slices-passes = refl
+exposed_reflector_waits_for_gc-passes = refl
 
-pub touched_between_slices-lawful : IsLawfulRun default_limits ample input.touched_between_slices
-touched_between_slices-lawful = run-lawful default_limits ample input.touched_between_slices touched_between_slices-passes
+pub exposed_reflector_waits_for_gc-lawful : IsLawfulRun default_limits ample input.exposed_reflector_waits_for_gc
+exposed_reflector_waits_for_gc-lawful = run-lawful default_limits ample input.exposed_reflector_waits_for_gc exposed_reflector_waits_for_gc-passes
 
-pub touched_between_slices-quiet : IsQuietRun default_limits ample input.touched_between_slices
-touched_between_slices-quiet = run-quiet default_limits ample input.touched_between_slices touched_between_slices-passes
+pub exposed_reflector_waits_for_gc-quiet : IsQuietRun default_limits ample input.exposed_reflector_waits_for_gc
+exposed_reflector_waits_for_gc-quiet = run-quiet default_limits ample input.exposed_reflector_waits_for_gc exposed_reflector_waits_for_gc-passes
 
-pub touched_between_slices-audited : passes_audit default_limits ample input.touched_between_slices ≡ true
+pub exposed_reflector_waits_for_gc-audited : passes_audit default_limits ample input.exposed_reflector_waits_for_gc ≡ true
 unfolding all_of_a_run
-touched_between_slices-audited = refl
+exposed_reflector_waits_for_gc-audited = refl
 
--- What script read from a native while a collection ran keeps what it holds.
-pub read_between_slices : plain_text version_one_forms default_limits ample input.read_between_slices
-    ≡ codes "= #1\n= @1\n= @2\n= ok\n= ok\n= ok\n= ok\n= ok\n= ok\n= @1\n= ok\n= ok\n= @2\n"
+-- A native and its preserved reflector hold each other, and are taken together.
+pub preserved_reflector_is_collected : plain_text version_one_forms default_limits ample input.preserved_reflector_is_collected
+    ≡ codes "= #1\n= ~1\n= ok\n= ok\n= ok\n= ok\n= ok\n- unlink #1\n= ok\n- free ~1\n- free #1\n= ok\n"
 unfolding all_of_a_run
-read_between_slices = refl
+preserved_reflector_is_collected = refl
 
-read_between_slices-passes : passes_verdict default_limits ample input.read_between_slices ≡ true
+preserved_reflector_is_collected-passes : passes_verdict default_limits ample input.preserved_reflector_is_collected ≡ true
 unfolding all_of_a_run
-read_between_slices-passes = refl
+preserved_reflector_is_collected-passes = refl
 
-pub read_between_slices-lawful : IsLawfulRun default_limits ample input.read_between_slices
-read_between_slices-lawful = run-lawful default_limits ample input.read_between_slices read_between_slices-passes
+pub preserved_reflector_is_collected-lawful : IsLawfulRun default_limits ample input.preserved_reflector_is_collected
+preserved_reflector_is_collected-lawful = run-lawful default_limits ample input.preserved_reflector_is_collected preserved_reflector_is_collected-passes
 
-pub read_between_slices-quiet : IsQuietRun default_limits ample input.read_between_slices
-read_between_slices-quiet = run-quiet default_limits ample input.read_between_slices read_between_slices-passes
+pub preserved_reflector_is_collected-quiet : IsQuietRun default_limits ample input.preserved_reflector_is_collected
+preserved_reflector_is_collected-quiet = run-quiet default_limits ample input.preserved_reflector_is_collected preserved_reflector_is_collected-passes
 
-pub read_between_slices-audited : passes_audit default_limits ample input.read_between_slices ≡ true
+pub preserved_reflector_is_collected-audited : passes_audit default_limits ample input.preserved_reflector_is_collected ≡ true
 unfolding all_of_a_run
-read_between_slices-audited = refl
+preserved_reflector_is_collected-audited = refl
 
--- A native lives by its reflector, which script touched while the collection ran.
-pub native_lives_by_an_exposed_reflector : plain_text version_one_forms default_limits ample input.native_lives_by_an_exposed_reflector
-    ≡ codes "= #1\n= #2\n= #3\n= ~2\n= ok\n= ok\n= ok\n= ok\n= ok\n= ok\n= ok\n= ok\n= ~2\n= ok\n- unlink #3\n- free #3\n= ok\n= #2\n"
+-- An entry whose value alone holds its key is dropped, with both.
+pub entry_does_not_keep_its_key : plain_text version_one_forms default_limits ample input.entry_does_not_keep_its_key
+    ≡ codes "= @1\n= @2\n= @3\n= ok\n= ok\n= ok\n= ok\n- free @2\n- free @3\n= ok\n+ @1\n= census 1\n"
 unfolding all_of_a_run
-native_lives_by_an_exposed_reflector = refl
+entry_does_not_keep_its_key = refl
 
-native_lives_by_an_exposed_reflector-passes : passes_verdict default_limits ample input.native_lives_by_an_exposed_reflector ≡ true
+entry_does_not_keep_its_key-passes : passes_verdict default_limits ample input.entry_does_not_keep_its_key ≡ true
 unfolding all_of_a_run
-native_lives_by_an_exposed_reflector-passes = refl
+entry_does_not_keep_its_key-passes = refl
 
-pub native_lives_by_an_exposed_reflector-lawful : IsLawfulRun default_limits ample input.native_lives_by_an_exposed_reflector
-native_lives_by_an_exposed_reflector-lawful = run-lawful default_limits ample input.native_lives_by_an_exposed_reflector native_lives_by_an_exposed_reflector-passes
+pub entry_does_not_keep_its_key-lawful : IsLawfulRun default_limits ample input.entry_does_not_keep_its_key
+entry_does_not_keep_its_key-lawful = run-lawful default_limits ample input.entry_does_not_keep_its_key entry_does_not_keep_its_key-passes
 
-pub native_lives_by_an_exposed_reflector-quiet : IsQuietRun default_limits ample input.native_lives_by_an_exposed_reflector
-native_lives_by_an_exposed_reflector-quiet = run-quiet default_limits ample input.native_lives_by_an_exposed_reflector native_lives_by_an_exposed_reflector-passes
+pub entry_does_not_keep_its_key-quiet : IsQuietRun default_limits ample input.entry_does_not_keep_its_key
+entry_does_not_keep_its_key-quiet = run-quiet default_limits ample input.entry_does_not_keep_its_key entry_does_not_keep_its_key-passes
 
-pub native_lives_by_an_exposed_reflector-audited : passes_audit default_limits ample input.native_lives_by_an_exposed_reflector ≡ true
+pub entry_does_not_keep_its_key-audited : passes_audit default_limits ample input.entry_does_not_keep_its_key ≡ true
 unfolding all_of_a_run
-native_lives_by_an_exposed_reflector-audited = refl
+entry_does_not_keep_its_key-audited = refl

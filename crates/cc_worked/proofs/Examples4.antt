@@ -3,7 +3,7 @@
 use Rattle.std.specs.Prelude.{◌≡◌, true, codes, refl}
 use Rattle.cc_model.specs.Forms.{version_one_forms}
 use Rattle.cc_model.specs.Run.{plain_text}
-use Rattle.cc_worked.specs.Examples.{default_limits, ample, refused_at, IsLawfulRun, IsQuietRun}
+use Rattle.cc_worked.specs.Examples.{default_limits, ample, IsLawfulRun, IsQuietRun}
 use Rattle.cc_worked.specs.Inputs as input
 use Rattle.cc_worked.specs.Verdict.{passes_verdict}
 use Rattle.cc_worked.specs.Audit.{passes_audit}
@@ -11,162 +11,162 @@ use Rattle.cc_worked.proofs.Opened.{all_of_a_run}
 use Rattle.cc_worked.proofs.LawfulTest.{run-lawful}
 use Rattle.cc_worked.proofs.QuietTest.{run-quiet}
 
--- A native that gets a reference after it was sampled is touched, so it is not looked at with an old count.
-pub copied_after_its_node_was_traversed : plain_text version_one_forms default_limits ample input.copied_after_its_node_was_traversed
-    ≡ codes "= #1\n= ok\n= #1\n= ok\n= ok\n= #1\n= ok\n= ok\n= ok\n- unlink #1\n- free #1\n= ok\n"
+-- A reflector that became a key lives as long as its native, and its entry with it.
+pub entry_preserves_its_reflector_key : plain_text version_one_forms default_limits ample input.entry_preserves_its_reflector_key
+    ≡ codes "= #1\n= ~1\n= @1\n= @2\n= ok\n= ok\n= ok\n= ok\n= ~1\n= @2\n"
 unfolding all_of_a_run
-copied_after_its_node_was_traversed = refl
+entry_preserves_its_reflector_key = refl
 
-copied_after_its_node_was_traversed-passes : passes_verdict default_limits ample input.copied_after_its_node_was_traversed ≡ true
+entry_preserves_its_reflector_key-passes : passes_verdict default_limits ample input.entry_preserves_its_reflector_key ≡ true
 unfolding all_of_a_run
-copied_after_its_node_was_traversed-passes = refl
+entry_preserves_its_reflector_key-passes = refl
 
-pub copied_after_its_node_was_traversed-lawful : IsLawfulRun default_limits ample input.copied_after_its_node_was_traversed
-copied_after_its_node_was_traversed-lawful = run-lawful default_limits ample input.copied_after_its_node_was_traversed copied_after_its_node_was_traversed-passes
+pub entry_preserves_its_reflector_key-lawful : IsLawfulRun default_limits ample input.entry_preserves_its_reflector_key
+entry_preserves_its_reflector_key-lawful = run-lawful default_limits ample input.entry_preserves_its_reflector_key entry_preserves_its_reflector_key-passes
 
-pub copied_after_its_node_was_traversed-quiet : IsQuietRun default_limits ample input.copied_after_its_node_was_traversed
-copied_after_its_node_was_traversed-quiet = run-quiet default_limits ample input.copied_after_its_node_was_traversed copied_after_its_node_was_traversed-passes
+pub entry_preserves_its_reflector_key-quiet : IsQuietRun default_limits ample input.entry_preserves_its_reflector_key
+entry_preserves_its_reflector_key-quiet = run-quiet default_limits ample input.entry_preserves_its_reflector_key entry_preserves_its_reflector_key-passes
 
-pub copied_after_its_node_was_traversed-audited : passes_audit default_limits ample input.copied_after_its_node_was_traversed ≡ true
+pub entry_preserves_its_reflector_key-audited : passes_audit default_limits ample input.entry_preserves_its_reflector_key ≡ true
 unfolding all_of_a_run
-copied_after_its_node_was_traversed-audited = refl
+entry_preserves_its_reflector_key-audited = refl
 
--- Unlinking one white native may free the one that comes next in the walk.
-pub native_vanishes_inside_an_unlink : plain_text version_one_forms default_limits ample input.native_vanishes_inside_an_unlink
-    ≡ codes "= #1\n= #2\n= ok\n= ok\n= ok\n= ok\n= ok\n- unlink #1\n- free #2\n- free #1\n= ok\n"
+-- Gc, collect and gc take a cycle that goes through an entry of a map that lives on.
+pub cycle_through_an_entry : plain_text version_one_forms default_limits ample input.cycle_through_an_entry
+    ≡ codes "= #1\n= ~1\n= @1\n= @2\n= ok\n= ok\n= ok\n= ok\n= ok\n= ok\n- unlink #1\n= ok\n- free ~1\n- free #1\n- free @2\n= ok\n+ @1\n= census 1\n"
 unfolding all_of_a_run
-native_vanishes_inside_an_unlink = refl
+cycle_through_an_entry = refl
 
-native_vanishes_inside_an_unlink-passes : passes_verdict default_limits ample input.native_vanishes_inside_an_unlink ≡ true
+cycle_through_an_entry-passes : passes_verdict default_limits ample input.cycle_through_an_entry ≡ true
 unfolding all_of_a_run
-native_vanishes_inside_an_unlink-passes = refl
+cycle_through_an_entry-passes = refl
 
-pub native_vanishes_inside_an_unlink-lawful : IsLawfulRun default_limits ample input.native_vanishes_inside_an_unlink
-native_vanishes_inside_an_unlink-lawful = run-lawful default_limits ample input.native_vanishes_inside_an_unlink native_vanishes_inside_an_unlink-passes
+pub cycle_through_an_entry-lawful : IsLawfulRun default_limits ample input.cycle_through_an_entry
+cycle_through_an_entry-lawful = run-lawful default_limits ample input.cycle_through_an_entry cycle_through_an_entry-passes
 
-pub native_vanishes_inside_an_unlink-quiet : IsQuietRun default_limits ample input.native_vanishes_inside_an_unlink
-native_vanishes_inside_an_unlink-quiet = run-quiet default_limits ample input.native_vanishes_inside_an_unlink native_vanishes_inside_an_unlink-passes
+pub cycle_through_an_entry-quiet : IsQuietRun default_limits ample input.cycle_through_an_entry
+cycle_through_an_entry-quiet = run-quiet default_limits ample input.cycle_through_an_entry cycle_through_an_entry-passes
 
-pub native_vanishes_inside_an_unlink-audited : passes_audit default_limits ample input.native_vanishes_inside_an_unlink ≡ true
+pub cycle_through_an_entry-audited : passes_audit default_limits ample input.cycle_through_an_entry ≡ true
 unfolding all_of_a_run
-native_vanishes_inside_an_unlink-audited = refl
+cycle_through_an_entry-audited = refl
 
--- A native made while a collection runs is kept, and the cycle that the collection began with is taken.
-pub native_made_between_slices : plain_text version_one_forms default_limits ample input.native_made_between_slices
-    ≡ codes "= #1\n= ~1\n= ok\n= ok\n= ok\n= ok\n= ok\n= #2\n- unlink #1\n= ok\n- free ~1\n- free #1\n= ok\n+ #2\n= census 1\n"
+-- A collection keeps the value of an entry whose key a live native holds, and what the value leads to.
+pub value_lives_by_its_mapping : plain_text version_one_forms default_limits ample input.value_lives_by_its_mapping
+    ≡ codes "= #1\n= #2\n= @1\n= @2\n= @3\n= ~2\n= ok\n= ok\n= ok\n= ok\n= ok\n= ok\n= ok\n= ok\n= ok\n= @2\n= @3\n= ~2\n= #2\n"
 unfolding all_of_a_run
-native_made_between_slices = refl
+value_lives_by_its_mapping = refl
 
-native_made_between_slices-passes : passes_verdict default_limits ample input.native_made_between_slices ≡ true
+value_lives_by_its_mapping-passes : passes_verdict default_limits ample input.value_lives_by_its_mapping ≡ true
 unfolding all_of_a_run
-native_made_between_slices-passes = refl
+value_lives_by_its_mapping-passes = refl
 
-pub native_made_between_slices-lawful : IsLawfulRun default_limits ample input.native_made_between_slices
-native_made_between_slices-lawful = run-lawful default_limits ample input.native_made_between_slices native_made_between_slices-passes
+pub value_lives_by_its_mapping-lawful : IsLawfulRun default_limits ample input.value_lives_by_its_mapping
+value_lives_by_its_mapping-lawful = run-lawful default_limits ample input.value_lives_by_its_mapping value_lives_by_its_mapping-passes
 
-pub native_made_between_slices-quiet : IsQuietRun default_limits ample input.native_made_between_slices
-native_made_between_slices-quiet = run-quiet default_limits ample input.native_made_between_slices native_made_between_slices-passes
+pub value_lives_by_its_mapping-quiet : IsQuietRun default_limits ample input.value_lives_by_its_mapping
+value_lives_by_its_mapping-quiet = run-quiet default_limits ample input.value_lives_by_its_mapping value_lives_by_its_mapping-passes
 
-pub native_made_between_slices-audited : passes_audit default_limits ample input.native_made_between_slices ≡ true
+pub value_lives_by_its_mapping-audited : passes_audit default_limits ample input.value_lives_by_its_mapping ≡ true
 unfolding all_of_a_run
-native_made_between_slices-audited = refl
+value_lives_by_its_mapping-audited = refl
 
--- Gc brings a collection that runs to its end before it marks.
-pub gc_ends_a_running_collection : plain_text version_one_forms default_limits ample input.gc_ends_a_running_collection
-    ≡ codes "= #1\n= ok\n= ok\n= ok\n- unlink #1\n- free #1\n= ok\n"
+-- An entry's value is replaced, read and taken out; a register frees what it alone held when something else comes into it.
+pub entries_are_replaced_and_taken_out : plain_text version_one_forms default_limits ample input.entries_are_replaced_and_taken_out
+    ≡ codes "= #1\n- free #1\n= #2\n= @1\n= @2\n= @3\n= ok\n= ok\n= @2\n= ok\n= none\n= none\n= ok\n- free @3\n= ok\n"
 unfolding all_of_a_run
-gc_ends_a_running_collection = refl
+entries_are_replaced_and_taken_out = refl
 
-gc_ends_a_running_collection-passes : passes_verdict default_limits ample input.gc_ends_a_running_collection ≡ true
+entries_are_replaced_and_taken_out-passes : passes_verdict default_limits ample input.entries_are_replaced_and_taken_out ≡ true
 unfolding all_of_a_run
-gc_ends_a_running_collection-passes = refl
+entries_are_replaced_and_taken_out-passes = refl
 
-pub gc_ends_a_running_collection-lawful : IsLawfulRun default_limits ample input.gc_ends_a_running_collection
-gc_ends_a_running_collection-lawful = run-lawful default_limits ample input.gc_ends_a_running_collection gc_ends_a_running_collection-passes
+pub entries_are_replaced_and_taken_out-lawful : IsLawfulRun default_limits ample input.entries_are_replaced_and_taken_out
+entries_are_replaced_and_taken_out-lawful = run-lawful default_limits ample input.entries_are_replaced_and_taken_out entries_are_replaced_and_taken_out-passes
 
-pub gc_ends_a_running_collection-quiet : IsQuietRun default_limits ample input.gc_ends_a_running_collection
-gc_ends_a_running_collection-quiet = run-quiet default_limits ample input.gc_ends_a_running_collection gc_ends_a_running_collection-passes
+pub entries_are_replaced_and_taken_out-quiet : IsQuietRun default_limits ample input.entries_are_replaced_and_taken_out
+entries_are_replaced_and_taken_out-quiet = run-quiet default_limits ample input.entries_are_replaced_and_taken_out entries_are_replaced_and_taken_out-passes
 
-pub gc_ends_a_running_collection-audited : passes_audit default_limits ample input.gc_ends_a_running_collection ≡ true
+pub entries_are_replaced_and_taken_out-audited : passes_audit default_limits ample input.entries_are_replaced_and_taken_out ≡ true
 unfolding all_of_a_run
-gc_ends_a_running_collection-audited = refl
+entries_are_replaced_and_taken_out-audited = refl
 
--- A collection whose begin is refused memory is abandoned, and nothing is forgotten.
-pub collect_refused_at_its_begin : plain_text version_one_forms default_limits (refused_at 2) input.collect_refused_at_its_begin
-    ≡ codes "= #1\n= ok\n= ok\n- abandon\n! nomem\n= ok\n- unlink #1\n- free #1\n= ok\n= ok\n= census 0\n"
+-- Reading a slot of a weak map is refused for the kind of the object, and not for the slot.
+pub weak_map_has_no_slot_to_read : plain_text version_one_forms default_limits ample input.weak_map_has_no_slot_to_read
+    ≡ codes "= @1\n! kind\n"
 unfolding all_of_a_run
-collect_refused_at_its_begin = refl
+weak_map_has_no_slot_to_read = refl
 
-collect_refused_at_its_begin-passes : passes_verdict default_limits (refused_at 2) input.collect_refused_at_its_begin ≡ true
+weak_map_has_no_slot_to_read-passes : passes_verdict default_limits ample input.weak_map_has_no_slot_to_read ≡ true
 unfolding all_of_a_run
-collect_refused_at_its_begin-passes = refl
+weak_map_has_no_slot_to_read-passes = refl
 
-pub collect_refused_at_its_begin-lawful : IsLawfulRun default_limits (refused_at 2) input.collect_refused_at_its_begin
-collect_refused_at_its_begin-lawful = run-lawful default_limits (refused_at 2) input.collect_refused_at_its_begin collect_refused_at_its_begin-passes
+pub weak_map_has_no_slot_to_read-lawful : IsLawfulRun default_limits ample input.weak_map_has_no_slot_to_read
+weak_map_has_no_slot_to_read-lawful = run-lawful default_limits ample input.weak_map_has_no_slot_to_read weak_map_has_no_slot_to_read-passes
 
-pub collect_refused_at_its_begin-quiet : IsQuietRun default_limits (refused_at 2) input.collect_refused_at_its_begin
-collect_refused_at_its_begin-quiet = run-quiet default_limits (refused_at 2) input.collect_refused_at_its_begin collect_refused_at_its_begin-passes
+pub weak_map_has_no_slot_to_read-quiet : IsQuietRun default_limits ample input.weak_map_has_no_slot_to_read
+weak_map_has_no_slot_to_read-quiet = run-quiet default_limits ample input.weak_map_has_no_slot_to_read weak_map_has_no_slot_to_read-passes
 
-pub collect_refused_at_its_begin-audited : passes_audit default_limits (refused_at 2) input.collect_refused_at_its_begin ≡ true
+pub weak_map_has_no_slot_to_read-audited : passes_audit default_limits ample input.weak_map_has_no_slot_to_read ≡ true
 unfolding all_of_a_run
-collect_refused_at_its_begin-audited = refl
+weak_map_has_no_slot_to_read-audited = refl
 
--- A collection whose first node is refused memory is abandoned, and its candidate comes back.
-pub collect_refused_at_a_node : plain_text version_one_forms default_limits (refused_at 3) input.collect_refused_at_a_node
-    ≡ codes "= #1\n= ok\n= ok\n- abandon\n! nomem\n= ok\n- unlink #1\n- free #1\n= ok\n= ok\n= census 0\n"
+-- An entry is not looked up by an empty register.
+pub empty_key_is_refused : plain_text version_one_forms default_limits ample input.empty_key_is_refused
+    ≡ codes "= @1\n! empty\n= none\n"
 unfolding all_of_a_run
-collect_refused_at_a_node = refl
+empty_key_is_refused = refl
 
-collect_refused_at_a_node-passes : passes_verdict default_limits (refused_at 3) input.collect_refused_at_a_node ≡ true
+empty_key_is_refused-passes : passes_verdict default_limits ample input.empty_key_is_refused ≡ true
 unfolding all_of_a_run
-collect_refused_at_a_node-passes = refl
+empty_key_is_refused-passes = refl
 
-pub collect_refused_at_a_node-lawful : IsLawfulRun default_limits (refused_at 3) input.collect_refused_at_a_node
-collect_refused_at_a_node-lawful = run-lawful default_limits (refused_at 3) input.collect_refused_at_a_node collect_refused_at_a_node-passes
+pub empty_key_is_refused-lawful : IsLawfulRun default_limits ample input.empty_key_is_refused
+empty_key_is_refused-lawful = run-lawful default_limits ample input.empty_key_is_refused empty_key_is_refused-passes
 
-pub collect_refused_at_a_node-quiet : IsQuietRun default_limits (refused_at 3) input.collect_refused_at_a_node
-collect_refused_at_a_node-quiet = run-quiet default_limits (refused_at 3) input.collect_refused_at_a_node collect_refused_at_a_node-passes
+pub empty_key_is_refused-quiet : IsQuietRun default_limits ample input.empty_key_is_refused
+empty_key_is_refused-quiet = run-quiet default_limits ample input.empty_key_is_refused empty_key_is_refused-passes
 
-pub collect_refused_at_a_node-audited : passes_audit default_limits (refused_at 3) input.collect_refused_at_a_node ≡ true
+pub empty_key_is_refused-audited : passes_audit default_limits ample input.empty_key_is_refused ≡ true
 unfolding all_of_a_run
-collect_refused_at_a_node-audited = refl
+empty_key_is_refused-audited = refl
 
--- A line with a token too many or too few is not in the grammar, and the next one is answered.
-pub wrong_number_of_tokens : plain_text version_one_forms default_limits ample input.wrong_number_of_tokens
-    ≡ codes "! line\n! line\n= #1\n"
+-- A collection with two nodes takes a unit to begin, one for each node, and one to end.
+pub two_cycle_takes_four_units : plain_text version_one_forms default_limits ample input.two_cycle_takes_four_units
+    ≡ codes "= #1\n= #2\n= ok\n= ok\n= ok\n= ok\n= ok\n= ok\n= ok\n- unlink #1\n- unlink #2\n- free #1\n- free #2\n= ok\n"
 unfolding all_of_a_run
-wrong_number_of_tokens = refl
+two_cycle_takes_four_units = refl
 
-wrong_number_of_tokens-passes : passes_verdict default_limits ample input.wrong_number_of_tokens ≡ true
+two_cycle_takes_four_units-passes : passes_verdict default_limits ample input.two_cycle_takes_four_units ≡ true
 unfolding all_of_a_run
-wrong_number_of_tokens-passes = refl
+two_cycle_takes_four_units-passes = refl
 
-pub wrong_number_of_tokens-lawful : IsLawfulRun default_limits ample input.wrong_number_of_tokens
-wrong_number_of_tokens-lawful = run-lawful default_limits ample input.wrong_number_of_tokens wrong_number_of_tokens-passes
+pub two_cycle_takes_four_units-lawful : IsLawfulRun default_limits ample input.two_cycle_takes_four_units
+two_cycle_takes_four_units-lawful = run-lawful default_limits ample input.two_cycle_takes_four_units two_cycle_takes_four_units-passes
 
-pub wrong_number_of_tokens-quiet : IsQuietRun default_limits ample input.wrong_number_of_tokens
-wrong_number_of_tokens-quiet = run-quiet default_limits ample input.wrong_number_of_tokens wrong_number_of_tokens-passes
+pub two_cycle_takes_four_units-quiet : IsQuietRun default_limits ample input.two_cycle_takes_four_units
+two_cycle_takes_four_units-quiet = run-quiet default_limits ample input.two_cycle_takes_four_units two_cycle_takes_four_units-passes
 
-pub wrong_number_of_tokens-audited : passes_audit default_limits ample input.wrong_number_of_tokens ≡ true
+pub two_cycle_takes_four_units-audited : passes_audit default_limits ample input.two_cycle_takes_four_units ≡ true
 unfolding all_of_a_run
-wrong_number_of_tokens-audited = refl
+two_cycle_takes_four_units-audited = refl
 
--- What is refused, and what becomes of blank lines, comments, long lines and carriage returns.
-pub refusals_and_odd_lines : plain_text version_one_forms default_limits ample input.refusals_and_odd_lines
-    ≡ codes "= #1\n= #2\n= ok\n! kind\n! slot\n! slot\n! empty\n! kind\n= @1\n= @2\n! kind\n! slot\n! empty\n! kind\n! line\n! line\n! long\n+ #1\n+ #2\n+ @1\n+ @2\n= census 4\n"
+-- A native that stands in the buffer without the purple mark is no node, so a collection that begins with it alone takes two units.
+pub only_purple_natives_are_candidates : plain_text version_one_forms default_limits ample input.only_purple_natives_are_candidates
+    ≡ codes "= #1\n= ok\n= #2\n= ok\n= ok\n- unlink #2\n- free #2\n= ok\n"
 unfolding all_of_a_run
-refusals_and_odd_lines = refl
+only_purple_natives_are_candidates = refl
 
-refusals_and_odd_lines-passes : passes_verdict default_limits ample input.refusals_and_odd_lines ≡ true
+only_purple_natives_are_candidates-passes : passes_verdict default_limits ample input.only_purple_natives_are_candidates ≡ true
 unfolding all_of_a_run
-refusals_and_odd_lines-passes = refl
+only_purple_natives_are_candidates-passes = refl
 
-pub refusals_and_odd_lines-lawful : IsLawfulRun default_limits ample input.refusals_and_odd_lines
-refusals_and_odd_lines-lawful = run-lawful default_limits ample input.refusals_and_odd_lines refusals_and_odd_lines-passes
+pub only_purple_natives_are_candidates-lawful : IsLawfulRun default_limits ample input.only_purple_natives_are_candidates
+only_purple_natives_are_candidates-lawful = run-lawful default_limits ample input.only_purple_natives_are_candidates only_purple_natives_are_candidates-passes
 
-pub refusals_and_odd_lines-quiet : IsQuietRun default_limits ample input.refusals_and_odd_lines
-refusals_and_odd_lines-quiet = run-quiet default_limits ample input.refusals_and_odd_lines refusals_and_odd_lines-passes
+pub only_purple_natives_are_candidates-quiet : IsQuietRun default_limits ample input.only_purple_natives_are_candidates
+only_purple_natives_are_candidates-quiet = run-quiet default_limits ample input.only_purple_natives_are_candidates only_purple_natives_are_candidates-passes
 
-pub refusals_and_odd_lines-audited : passes_audit default_limits ample input.refusals_and_odd_lines ≡ true
+pub only_purple_natives_are_candidates-audited : passes_audit default_limits ample input.only_purple_natives_are_candidates ≡ true
 unfolding all_of_a_run
-refusals_and_odd_lines-audited = refl
+only_purple_natives_are_candidates-audited = refl

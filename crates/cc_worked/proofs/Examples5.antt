@@ -1,9 +1,9 @@
 -- WORKED EXAMPLES, part 5: what each writes, and that its run is lawful, quiet and passes the audit.
 -- Made by tools/worked_examples.py from examples/worked.txt.
-use Rattle.std.specs.Prelude.{◌≡◌, true, [], codes, refl}
+use Rattle.std.specs.Prelude.{◌≡◌, true, codes, refl}
 use Rattle.cc_model.specs.Forms.{version_one_forms}
 use Rattle.cc_model.specs.Run.{plain_text}
-use Rattle.cc_worked.specs.Examples.{limits, default_limits, ample, text_within, IsLawfulRun, IsQuietRun}
+use Rattle.cc_worked.specs.Examples.{default_limits, ample, IsLawfulRun, IsQuietRun}
 use Rattle.cc_worked.specs.Inputs as input
 use Rattle.cc_worked.specs.Verdict.{passes_verdict}
 use Rattle.cc_worked.specs.Audit.{passes_audit}
@@ -11,94 +11,162 @@ use Rattle.cc_worked.proofs.Opened.{all_of_a_run}
 use Rattle.cc_worked.proofs.LawfulTest.{run-lawful}
 use Rattle.cc_worked.proofs.QuietTest.{run-quiet}
 
--- The greatest numbers of slots, indexes, registers and units are taken, and greater ones are not in the grammar.
-pub numbers_at_their_bounds : plain_text version_one_forms default_limits ample input.numbers_at_their_bounds
-    ≡ codes "= #1\n= ok\n! slot\n! slot\n! line\n! line\n! line\n! line\n= #2\n! line\n= none\n= ok\n= ok\n! line\n"
+-- A native that becomes purple once more keeps its place in the buffer, so it is looked at before those that became purple in between.
+pub marked_again_keeps_its_place_in_the_buffer : plain_text version_one_forms default_limits ample input.marked_again_keeps_its_place_in_the_buffer
+    ≡ codes "= #1\n= ok\n= #1\n= ok\n= #2\n= #3\n= ok\n= #2\n= ok\n= ok\n= ok\n= ok\n- unlink #1\n- free #1\n= ok\n"
 unfolding all_of_a_run
-numbers_at_their_bounds = refl
+marked_again_keeps_its_place_in_the_buffer = refl
 
-numbers_at_their_bounds-passes : passes_verdict default_limits ample input.numbers_at_their_bounds ≡ true
+marked_again_keeps_its_place_in_the_buffer-passes : passes_verdict default_limits ample input.marked_again_keeps_its_place_in_the_buffer ≡ true
 unfolding all_of_a_run
-numbers_at_their_bounds-passes = refl
+marked_again_keeps_its_place_in_the_buffer-passes = refl
 
-pub numbers_at_their_bounds-lawful : IsLawfulRun default_limits ample input.numbers_at_their_bounds
-numbers_at_their_bounds-lawful = run-lawful default_limits ample input.numbers_at_their_bounds numbers_at_their_bounds-passes
+pub marked_again_keeps_its_place_in_the_buffer-lawful : IsLawfulRun default_limits ample input.marked_again_keeps_its_place_in_the_buffer
+marked_again_keeps_its_place_in_the_buffer-lawful = run-lawful default_limits ample input.marked_again_keeps_its_place_in_the_buffer marked_again_keeps_its_place_in_the_buffer-passes
 
-pub numbers_at_their_bounds-quiet : IsQuietRun default_limits ample input.numbers_at_their_bounds
-numbers_at_their_bounds-quiet = run-quiet default_limits ample input.numbers_at_their_bounds numbers_at_their_bounds-passes
+pub marked_again_keeps_its_place_in_the_buffer-quiet : IsQuietRun default_limits ample input.marked_again_keeps_its_place_in_the_buffer
+marked_again_keeps_its_place_in_the_buffer-quiet = run-quiet default_limits ample input.marked_again_keeps_its_place_in_the_buffer marked_again_keeps_its_place_in_the_buffer-passes
 
-pub numbers_at_their_bounds-audited : passes_audit default_limits ample input.numbers_at_their_bounds ≡ true
+pub marked_again_keeps_its_place_in_the_buffer-audited : passes_audit default_limits ample input.marked_again_keeps_its_place_in_the_buffer ≡ true
 unfolding all_of_a_run
-numbers_at_their_bounds-audited = refl
+marked_again_keeps_its_place_in_the_buffer-audited = refl
 
--- The limit of natives counts those that were freed.
-pub limit_counts_freed_natives : plain_text version_one_forms (limits 1 1000000 4294967295) ample input.limit_counts_freed_natives
-    ≡ codes "= #1\n- free #1\n= ok\n! full\n"
+-- Candidates are looked at before the natives that hold gray objects, of which one is freed meanwhile.
+pub candidates_come_before_holders : plain_text version_one_forms default_limits ample input.candidates_come_before_holders
+    ≡ codes "= #1\n= ok\n= #2\n= @1\n= ok\n= ok\n= ok\n= ok\n= ok\n- free #2\n= ok\n- unlink #1\n- free #1\n= ok\n"
 unfolding all_of_a_run
-limit_counts_freed_natives = refl
+candidates_come_before_holders = refl
 
-limit_counts_freed_natives-passes : passes_verdict (limits 1 1000000 4294967295) ample input.limit_counts_freed_natives ≡ true
+candidates_come_before_holders-passes : passes_verdict default_limits ample input.candidates_come_before_holders ≡ true
 unfolding all_of_a_run
-limit_counts_freed_natives-passes = refl
+candidates_come_before_holders-passes = refl
 
-pub limit_counts_freed_natives-lawful : IsLawfulRun (limits 1 1000000 4294967295) ample input.limit_counts_freed_natives
-limit_counts_freed_natives-lawful = run-lawful (limits 1 1000000 4294967295) ample input.limit_counts_freed_natives limit_counts_freed_natives-passes
+pub candidates_come_before_holders-lawful : IsLawfulRun default_limits ample input.candidates_come_before_holders
+candidates_come_before_holders-lawful = run-lawful default_limits ample input.candidates_come_before_holders candidates_come_before_holders-passes
 
-pub limit_counts_freed_natives-quiet : IsQuietRun (limits 1 1000000 4294967295) ample input.limit_counts_freed_natives
-limit_counts_freed_natives-quiet = run-quiet (limits 1 1000000 4294967295) ample input.limit_counts_freed_natives limit_counts_freed_natives-passes
+pub candidates_come_before_holders-quiet : IsQuietRun default_limits ample input.candidates_come_before_holders
+candidates_come_before_holders-quiet = run-quiet default_limits ample input.candidates_come_before_holders candidates_come_before_holders-passes
 
-pub limit_counts_freed_natives-audited : passes_audit (limits 1 1000000 4294967295) ample input.limit_counts_freed_natives ≡ true
+pub candidates_come_before_holders-audited : passes_audit default_limits ample input.candidates_come_before_holders ≡ true
 unfolding all_of_a_run
-limit_counts_freed_natives-audited = refl
+candidates_come_before_holders-audited = refl
 
--- The limit of script objects counts those that were freed.
-pub limit_counts_freed_script_objects : plain_text version_one_forms (limits 1000000 1 4294967295) ample input.limit_counts_freed_script_objects
-    ≡ codes "= @1\n= ok\n- free @1\n= ok\n! full\n"
+-- An entry whose value was replaced keeps its place, so its members are looked at before those of an entry that was set in between.
+pub replaced_entry_keeps_its_place : plain_text version_one_forms default_limits ample input.replaced_entry_keeps_its_place
+    ≡ codes "= #1\n= @1\n= @2\n= @3\n= @4\n= ok\n= ok\n= ok\n= ok\n= ok\n= ok\n= ok\n= ok\n= ok\n= #2\n= ok\n= ok\n= ok\n= ok\n= @3\n- unlink #2\n- free #2\n= ok\n"
 unfolding all_of_a_run
-limit_counts_freed_script_objects = refl
+replaced_entry_keeps_its_place = refl
 
-limit_counts_freed_script_objects-passes : passes_verdict (limits 1000000 1 4294967295) ample input.limit_counts_freed_script_objects ≡ true
+replaced_entry_keeps_its_place-passes : passes_verdict default_limits ample input.replaced_entry_keeps_its_place ≡ true
 unfolding all_of_a_run
-limit_counts_freed_script_objects-passes = refl
+replaced_entry_keeps_its_place-passes = refl
 
-pub limit_counts_freed_script_objects-lawful : IsLawfulRun (limits 1000000 1 4294967295) ample input.limit_counts_freed_script_objects
-limit_counts_freed_script_objects-lawful = run-lawful (limits 1000000 1 4294967295) ample input.limit_counts_freed_script_objects limit_counts_freed_script_objects-passes
+pub replaced_entry_keeps_its_place-lawful : IsLawfulRun default_limits ample input.replaced_entry_keeps_its_place
+replaced_entry_keeps_its_place-lawful = run-lawful default_limits ample input.replaced_entry_keeps_its_place replaced_entry_keeps_its_place-passes
 
-pub limit_counts_freed_script_objects-quiet : IsQuietRun (limits 1000000 1 4294967295) ample input.limit_counts_freed_script_objects
-limit_counts_freed_script_objects-quiet = run-quiet (limits 1000000 1 4294967295) ample input.limit_counts_freed_script_objects limit_counts_freed_script_objects-passes
+pub replaced_entry_keeps_its_place-quiet : IsQuietRun default_limits ample input.replaced_entry_keeps_its_place
+replaced_entry_keeps_its_place-quiet = run-quiet default_limits ample input.replaced_entry_keeps_its_place replaced_entry_keeps_its_place-passes
 
-pub limit_counts_freed_script_objects-audited : passes_audit (limits 1000000 1 4294967295) ample input.limit_counts_freed_script_objects ≡ true
+pub replaced_entry_keeps_its_place-audited : passes_audit default_limits ample input.replaced_entry_keeps_its_place ≡ true
 unfolding all_of_a_run
-limit_counts_freed_script_objects-audited = refl
+replaced_entry_keeps_its_place-audited = refl
 
--- An input of as many bytes as may be read is read whole.
-pub input_of_exactly_the_bytes_allowed : plain_text version_one_forms (limits 1000000 1000000 12) ample input.input_of_exactly_the_bytes_allowed
-    ≡ codes "= #1\n"
+-- Collect ends the collection that runs and begins another, which takes what became garbage in between.
+pub collect_begins_one_of_its_own : plain_text version_one_forms default_limits ample input.collect_begins_one_of_its_own
+    ≡ codes "= #1\n= ok\n= ok\n= ok\n- unlink #1\n- free #1\n= ok\n"
 unfolding all_of_a_run
-input_of_exactly_the_bytes_allowed = refl
+collect_begins_one_of_its_own = refl
 
-input_of_exactly_the_bytes_allowed-passes : passes_verdict (limits 1000000 1000000 12) ample input.input_of_exactly_the_bytes_allowed ≡ true
+collect_begins_one_of_its_own-passes : passes_verdict default_limits ample input.collect_begins_one_of_its_own ≡ true
 unfolding all_of_a_run
-input_of_exactly_the_bytes_allowed-passes = refl
+collect_begins_one_of_its_own-passes = refl
 
-pub input_of_exactly_the_bytes_allowed-lawful : IsLawfulRun (limits 1000000 1000000 12) ample input.input_of_exactly_the_bytes_allowed
-input_of_exactly_the_bytes_allowed-lawful = run-lawful (limits 1000000 1000000 12) ample input.input_of_exactly_the_bytes_allowed input_of_exactly_the_bytes_allowed-passes
+pub collect_begins_one_of_its_own-lawful : IsLawfulRun default_limits ample input.collect_begins_one_of_its_own
+collect_begins_one_of_its_own-lawful = run-lawful default_limits ample input.collect_begins_one_of_its_own collect_begins_one_of_its_own-passes
 
-pub input_of_exactly_the_bytes_allowed-quiet : IsQuietRun (limits 1000000 1000000 12) ample input.input_of_exactly_the_bytes_allowed
-input_of_exactly_the_bytes_allowed-quiet = run-quiet (limits 1000000 1000000 12) ample input.input_of_exactly_the_bytes_allowed input_of_exactly_the_bytes_allowed-passes
+pub collect_begins_one_of_its_own-quiet : IsQuietRun default_limits ample input.collect_begins_one_of_its_own
+collect_begins_one_of_its_own-quiet = run-quiet default_limits ample input.collect_begins_one_of_its_own collect_begins_one_of_its_own-passes
 
-pub input_of_exactly_the_bytes_allowed-audited : passes_audit (limits 1000000 1000000 12) ample input.input_of_exactly_the_bytes_allowed ≡ true
+pub collect_begins_one_of_its_own-audited : passes_audit default_limits ample input.collect_begins_one_of_its_own ≡ true
 unfolding all_of_a_run
-input_of_exactly_the_bytes_allowed-audited = refl
+collect_begins_one_of_its_own-audited = refl
 
--- An input of one byte more ends the run after the lines that end within the limit.
-pub input_of_one_byte_more : text_within version_one_forms (limits 1000000 1000000 12) ample input.input_of_one_byte_more
-    ≡ codes "= #1\n"
+-- A native that was touched while a collection ran waits for the next one.
+pub touched_between_slices : plain_text version_one_forms default_limits ample input.touched_between_slices
+    ≡ codes "= #1\n= ok\n= #1\n= ok\n= ok\n= #1\n= ok\n= ok\n= ok\n- unlink #1\n- free #1\n= ok\n"
 unfolding all_of_a_run
-input_of_one_byte_more = refl
+touched_between_slices = refl
 
--- With no byte allowed one byte ends the run with nothing written.
-pub input_where_no_byte_is_allowed : text_within version_one_forms (limits 1000000 1000000 0) ample input.input_where_no_byte_is_allowed
-    ≡ []
+touched_between_slices-passes : passes_verdict default_limits ample input.touched_between_slices ≡ true
 unfolding all_of_a_run
-input_where_no_byte_is_allowed = refl
+touched_between_slices-passes = refl
+
+pub touched_between_slices-lawful : IsLawfulRun default_limits ample input.touched_between_slices
+touched_between_slices-lawful = run-lawful default_limits ample input.touched_between_slices touched_between_slices-passes
+
+pub touched_between_slices-quiet : IsQuietRun default_limits ample input.touched_between_slices
+touched_between_slices-quiet = run-quiet default_limits ample input.touched_between_slices touched_between_slices-passes
+
+pub touched_between_slices-audited : passes_audit default_limits ample input.touched_between_slices ≡ true
+unfolding all_of_a_run
+touched_between_slices-audited = refl
+
+-- What script read from a native while a collection ran keeps what it holds.
+pub read_between_slices : plain_text version_one_forms default_limits ample input.read_between_slices
+    ≡ codes "= #1\n= @1\n= @2\n= ok\n= ok\n= ok\n= ok\n= ok\n= ok\n= @1\n= ok\n= ok\n= @2\n"
+unfolding all_of_a_run
+read_between_slices = refl
+
+read_between_slices-passes : passes_verdict default_limits ample input.read_between_slices ≡ true
+unfolding all_of_a_run
+read_between_slices-passes = refl
+
+pub read_between_slices-lawful : IsLawfulRun default_limits ample input.read_between_slices
+read_between_slices-lawful = run-lawful default_limits ample input.read_between_slices read_between_slices-passes
+
+pub read_between_slices-quiet : IsQuietRun default_limits ample input.read_between_slices
+read_between_slices-quiet = run-quiet default_limits ample input.read_between_slices read_between_slices-passes
+
+pub read_between_slices-audited : passes_audit default_limits ample input.read_between_slices ≡ true
+unfolding all_of_a_run
+read_between_slices-audited = refl
+
+-- A native lives by its reflector, which script touched while the collection ran.
+pub native_lives_by_an_exposed_reflector : plain_text version_one_forms default_limits ample input.native_lives_by_an_exposed_reflector
+    ≡ codes "= #1\n= #2\n= #3\n= ~2\n= ok\n= ok\n= ok\n= ok\n= ok\n= ok\n= ok\n= ok\n= ~2\n= ok\n- unlink #3\n- free #3\n= ok\n= #2\n"
+unfolding all_of_a_run
+native_lives_by_an_exposed_reflector = refl
+
+native_lives_by_an_exposed_reflector-passes : passes_verdict default_limits ample input.native_lives_by_an_exposed_reflector ≡ true
+unfolding all_of_a_run
+native_lives_by_an_exposed_reflector-passes = refl
+
+pub native_lives_by_an_exposed_reflector-lawful : IsLawfulRun default_limits ample input.native_lives_by_an_exposed_reflector
+native_lives_by_an_exposed_reflector-lawful = run-lawful default_limits ample input.native_lives_by_an_exposed_reflector native_lives_by_an_exposed_reflector-passes
+
+pub native_lives_by_an_exposed_reflector-quiet : IsQuietRun default_limits ample input.native_lives_by_an_exposed_reflector
+native_lives_by_an_exposed_reflector-quiet = run-quiet default_limits ample input.native_lives_by_an_exposed_reflector native_lives_by_an_exposed_reflector-passes
+
+pub native_lives_by_an_exposed_reflector-audited : passes_audit default_limits ample input.native_lives_by_an_exposed_reflector ≡ true
+unfolding all_of_a_run
+native_lives_by_an_exposed_reflector-audited = refl
+
+-- A native that gets a reference after it was sampled is touched, so it is not looked at with an old count.
+pub copied_after_its_node_was_traversed : plain_text version_one_forms default_limits ample input.copied_after_its_node_was_traversed
+    ≡ codes "= #1\n= ok\n= #1\n= ok\n= ok\n= #1\n= ok\n= ok\n= ok\n- unlink #1\n- free #1\n= ok\n"
+unfolding all_of_a_run
+copied_after_its_node_was_traversed = refl
+
+copied_after_its_node_was_traversed-passes : passes_verdict default_limits ample input.copied_after_its_node_was_traversed ≡ true
+unfolding all_of_a_run
+copied_after_its_node_was_traversed-passes = refl
+
+pub copied_after_its_node_was_traversed-lawful : IsLawfulRun default_limits ample input.copied_after_its_node_was_traversed
+copied_after_its_node_was_traversed-lawful = run-lawful default_limits ample input.copied_after_its_node_was_traversed copied_after_its_node_was_traversed-passes
+
+pub copied_after_its_node_was_traversed-quiet : IsQuietRun default_limits ample input.copied_after_its_node_was_traversed
+copied_after_its_node_was_traversed-quiet = run-quiet default_limits ample input.copied_after_its_node_was_traversed copied_after_its_node_was_traversed-passes
+
+pub copied_after_its_node_was_traversed-audited : passes_audit default_limits ample input.copied_after_its_node_was_traversed ≡ true
+unfolding all_of_a_run
+copied_after_its_node_was_traversed-audited = refl

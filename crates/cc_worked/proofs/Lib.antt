@@ -12,4 +12,7 @@ pub mod Examples2
 pub mod Examples3
 pub mod Examples4
 pub mod Examples5
+pub mod Examples6
+pub mod Examples7
+pub mod Examples8
 pub mod Examples

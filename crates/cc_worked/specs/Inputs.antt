@@ -30,9 +30,41 @@ two_cycle_is_collected = codes "native n0 1\nnative n1 1\nset n0 0 n1\nset n1 0 
 abbrev pub held_cycle_is_kept : List ℕ
 held_cycle_is_kept = codes "native n0 1\nnative n1 1\nset n0 0 n1\nset n1 0 n0\ndrop n1\ncollect\ncensus\n"
 
+-- White natives are taken by rising number, also where the collection came to the later one first.
+abbrev pub whites_are_taken_by_rising_number : List ℕ
+whites_are_taken_by_rising_number = codes "native n0 1\nnative n1 1\nset n0 0 n1\nset n1 0 n0\ncollect\ndrop n1\ndrop n0\ncollect\n"
+
+-- A slot of a script object is written, emptied and read, and what is refused meanwhile leaves it.
+abbrev pub script_slots_are_written_and_read : List ℕ
+script_slots_are_written_and_read = codes "script s0 2\nscript s1 0\nput s0 1 s1\ntake s2 s0 1\ntake s3 s0 0\nput s0 1 none\ntake s2 s0 1\nput s0 2 s1\nput s0 0 s9\nput s9 0 s1\ntake s1 s9 0\ncensus\n"
+
+-- A slot is not emptied by writing what an empty register holds.
+abbrev pub empty_source_of_put_is_refused : List ℕ
+empty_source_of_put_is_refused = codes "script s0 1\nscript s1 0\nput s0 0 s1\nput s0 0 s9\ntake s2 s0 0\n"
+
+-- A native is not read into a script register nor exposed, and a script object not read into a native register.
+abbrev pub wrong_kinds_in_slots : List ℕ
+wrong_kinds_in_slots = codes "native n0 2\nnative n1 0\nscript s0 1\nset n0 0 n1\nset n0 1 s0\nget s1 n0 0\nget n2 n0 1\nget s1 n0 7\nexpose n0 0\nexpose n0 1\nexpose n0 2\nexpose n3 0\n"
+
 -- Gc keeps what a native holds, with all that this reaches, until the native is freed.
 abbrev pub native_keeps_what_it_holds : List ℕ
 native_keeps_what_it_holds = codes "native n0 1\nscript s0 1\nscript s1 0\nput s0 0 s1\nset n0 0 s0\ndrop s0\ndrop s1\ngc\nget s1 n0 0\ndrop n0\ndrop s1\ngc\n"
+
+-- A script object gets a number that no other one had, though one was freed.
+abbrev pub number_of_a_freed_script_object_is_never_used_again : List ℕ
+number_of_a_freed_script_object_is_never_used_again = codes "script s0 0\nscript s1 0\ndrop s0\ngc\nscript s0 1\ncensus\nput s0 0 s1\ntake s2 s0 0\n"
+
+-- A script object that holds itself is touched in a native's slot, and outlives the native in a register.
+abbrev pub gray_cycle_through_a_slot_is_exposed : List ℕ
+gray_cycle_through_a_slot_is_exposed = codes "native n0 1\nscript s0 1\nput s0 0 s0\nset n0 0 s0\ndrop s0\ngc\nexpose n0 0\ncopy s1 s0\ncollect\nget s1 n0 0\ndrop n0\ngc\ncensus\n"
+
+-- A collection takes a native cycle that holds script objects, and the next gc takes these.
+abbrev pub native_cycle_that_holds_script_objects_is_collected : List ℕ
+native_cycle_that_holds_script_objects_is_collected = codes "native n0 2\nscript s0 1\nscript s1 0\nput s0 0 s1\nset n0 0 n0\nset n0 1 s0\ndrop s0\ndrop s1\ngc\ndrop n0\ncollect\ngc\ncensus\n"
+
+-- A reflector has four slots: the last of them is written and read, and there is none behind it.
+abbrev pub reflector_has_four_slots : List ℕ
+reflector_has_four_slots = codes "native n0 0\nwrap s0 n0\nscript s1 0\nput s0 3 s1\nput s0 4 s1\ntake s2 s0 3\ntake s2 s0 4\n"
 
 -- A reflector that was made since the last gc keeps its cycle through a collection.
 abbrev pub reflector_is_still_black : List ℕ
@@ -82,9 +114,37 @@ value_lives_by_its_mapping = codes "native n0 1\nnative n1 0\nweakmap s0\nscript
 abbrev pub entries_are_replaced_and_taken_out : List ℕ
 entries_are_replaced_and_taken_out = codes "native n0 0\nnative n0 0\nweakmap s0\nscript s1 0\nscript s2 0\nwset s0 s1 s2\nwset s0 s1 s1\nwget s3 s0 s1\nwset s0 s1 none\nwget s3 s0 s1\ncopy s3 s3\ndrop s2\ngc\n"
 
+-- Reading a slot of a weak map is refused for the kind of the object, and not for the slot.
+abbrev pub weak_map_has_no_slot_to_read : List ℕ
+weak_map_has_no_slot_to_read = codes "weakmap s0\ntake s1 s0 0\n"
+
+-- An entry is not looked up by an empty register.
+abbrev pub empty_key_is_refused : List ℕ
+empty_key_is_refused = codes "weakmap s0\nwget s1 s0 s9\nwget s1 s0 s0\n"
+
 -- A collection with two nodes takes a unit to begin, one for each node, and one to end.
 abbrev pub two_cycle_takes_four_units : List ℕ
 two_cycle_takes_four_units = codes "native n0 1\nnative n1 1\nset n0 0 n1\nset n1 0 n0\ndrop n0\ndrop n1\nslice 1\nslice 1\nslice 1\nslice 1\n"
+
+-- A native that stands in the buffer without the purple mark is no node, so a collection that begins with it alone takes two units.
+abbrev pub only_purple_natives_are_candidates : List ℕ
+only_purple_natives_are_candidates = codes "native n0 0\nslice 2\nnative n1 1\nset n1 0 n1\ndrop n1\nslice 3\n"
+
+-- A native that becomes purple once more keeps its place in the buffer, so it is looked at before those that became purple in between.
+abbrev pub marked_again_keeps_its_place_in_the_buffer : List ℕ
+marked_again_keeps_its_place_in_the_buffer = codes "native n0 1\nset n0 0 n0\ncopy n1 n0\ndrop n1\nnative n2 1\nnative n3 0\nset n2 0 n3\ncopy n1 n2\ndrop n1\ndrop n0\nslice 2\nset n2 0 none\nslice 2\n"
+
+-- Candidates are looked at before the natives that hold gray objects, of which one is freed meanwhile.
+abbrev pub candidates_come_before_holders : List ℕ
+candidates_come_before_holders = codes "native n0 1\nset n0 0 n0\nnative n1 1\nscript s0 0\nset n1 0 s0\ndrop s0\ndrop n0\ngc\nslice 2\ndrop n1\nslice 2\n"
+
+-- An entry whose value was replaced keeps its place, so its members are looked at before those of an entry that was set in between.
+abbrev pub replaced_entry_keeps_its_place : List ℕ
+replaced_entry_keeps_its_place = codes "native n0 2\nweakmap s0\nscript s1 0\nscript s2 1\nscript s3 0\nput s2 0 s3\nset n0 0 s1\nset n0 1 s2\nwset s0 s1 s2\nwset s0 s2 s2\nwset s0 s1 s1\ndrop s1\ndrop s2\ndrop s3\nnative n1 1\nset n1 0 n1\ndrop n1\ngc\nslice 4\nexpose n0 1\nslice 2\n"
+
+-- Collect ends the collection that runs and begins another, which takes what became garbage in between.
+abbrev pub collect_begins_one_of_its_own : List ℕ
+collect_begins_one_of_its_own = codes "native n0 1\nset n0 0 n0\nslice 1\ndrop n0\ncollect\n"
 
 -- A native that was touched while a collection ran waits for the next one.
 abbrev pub touched_between_slices : List ℕ
@@ -122,6 +182,26 @@ collect_refused_at_its_begin = codes "native n0 1\nset n0 0 n0\ndrop n0\ncollect
 abbrev pub collect_refused_at_a_node : List ℕ
 collect_refused_at_a_node = codes "native n0 1\nset n0 0 n0\ndrop n0\ncollect\ngc\ncollect\ngc\ncensus\n"
 
+-- A collect that is refused memory while it ends the collection that runs begins no other, and the next one takes all.
+abbrev pub collect_stops_where_the_running_one_is_refused : List ℕ
+collect_stops_where_the_running_one_is_refused = codes "native n0 1\nset n0 0 n0\ndrop n0\nslice 1\ncollect\ncollect\n"
+
+-- A collect that is refused memory in its own collection has ended the one that ran.
+abbrev pub collect_refused_in_its_own : List ℕ
+collect_refused_in_its_own = codes "native n0 1\nset n0 0 n0\ndrop n0\nslice 1\nnative n1 1\nset n1 0 n1\ndrop n1\ncollect\ncollect\n"
+
+-- Gc abandons a collection that is refused memory, says so first, and sweeps all the same.
+abbrev pub gc_goes_on_where_the_running_one_is_refused : List ℕ
+gc_goes_on_where_the_running_one_is_refused = codes "native n0 1\nset n0 0 n0\ndrop n0\nscript s0 0\ndrop s0\nslice 1\ngc\ncollect\n"
+
+-- A weak map is not made where memory is refused, and the next one gets the number.
+abbrev pub weak_map_takes_memory : List ℕ
+weak_map_takes_memory = codes "weakmap s0\ncensus\nweakmap s0\n"
+
+-- Each of five commands takes memory once, and what changes no more than contents takes none.
+abbrev pub what_takes_memory : List ℕ
+what_takes_memory = codes "native n0 0\nscript s0 0\nweakmap s1\nwrap s2 n0\nwset s1 s2 s0\nwrap s3 n0\nwset s1 s2 s2\nput s2 0 s0\nwset s1 s2 none\ncopy n1 n0\ngc\nnative n1 0\n"
+
 -- A line with a token too many or too few is not in the grammar, and the next one is answered.
 abbrev pub wrong_number_of_tokens : List ℕ
 wrong_number_of_tokens = codes "collect now\nscript s0\nnative n0 0\n"
@@ -130,9 +210,21 @@ wrong_number_of_tokens = codes "collect now\nscript s0\nnative n0 0\n"
 abbrev pub refusals_and_odd_lines : List ℕ
 refusals_and_odd_lines = codes "native n0 1\nnative n1 0\nset n0 0 n1\nget s0 n0 0\nget s0 n0 7\nset n0 9 none\nset n0 9 n8\nexpose n0 0\nweakmap s0\nscript s1 0\nput s0 9 s1\nput s1 0 s0\nunwrap n0 s9\nunwrap n0 s1\nslice 0\ncollect now\n\n% note\n" ++ replicate 121 97 ++ codes "\ncensus" ++ replicate 1 13 ++ codes "\n"
 
--- The greatest numbers of slots, indexes, registers and units are taken, and greater ones are not in the grammar.
+-- The greatest numbers of slots, indexes and registers are taken, and greater ones are not in the grammar.
 abbrev pub numbers_at_their_bounds : List ℕ
-numbers_at_their_bounds = codes "native n0 64\nset n0 63 n0\nset n0 64 n0\nset n0 4294967295 n0\nset n0 4294967296 n0\nnative n0 65\nnative n0 01\nnative n256 0\nnative n255 0\ncopy n1 s0\ncopy n1 n7\ndrop n7\nslice 1000000\nslice 1000001\n"
+numbers_at_their_bounds = codes "native n0 64\nset n0 63 n0\nset n0 64 n0\nset n0 4294967295 n0\nset n0 4294967296 n0\nnative n0 65\nnative n0 01\nnative n256 0\nnative n255 0\ncopy n1 s0\ncopy n1 n7\ndrop n7\n"
+
+-- One unit and a million are taken, and neither none nor more are in the grammar.
+abbrev pub units_at_their_bounds : List ℕ
+units_at_their_bounds = codes "slice 1000001\nslice 1000000\nslice 1\nslice 0\n"
+
+-- A line of 120 bytes is read and one of 121 is not, a comment and a carriage return counted.
+abbrev pub line_of_120_bytes_is_taken : List ℕ
+line_of_120_bytes_is_taken = codes "native n0 0" ++ replicate 109 32 ++ codes "\nnative n1 0" ++ replicate 110 32 ++ codes "\n%" ++ replicate 119 97 ++ codes "\n%" ++ replicate 120 97 ++ codes "\n" ++ replicate 119 97 ++ replicate 1 13 ++ codes "\n" ++ replicate 120 97 ++ replicate 1 13 ++ codes "\ncensus\n"
+
+-- A last line that no line feed ends is answered, its carriage return dropped.
+abbrev pub last_line_needs_no_line_feed : List ℕ
+last_line_needs_no_line_feed = codes "native n0 0\ncensus" ++ replicate 1 13
 
 -- The limit of natives counts those that were freed.
 abbrev pub limit_counts_freed_natives : List ℕ
@@ -141,6 +233,10 @@ limit_counts_freed_natives = codes "native n0 0\ndrop n0\nnative n0 0\n"
 -- The limit of script objects counts those that were freed.
 abbrev pub limit_counts_freed_script_objects : List ℕ
 limit_counts_freed_script_objects = codes "script s0 0\ndrop s0\ngc\nscript s0 0\n"
+
+-- Plain script objects and weak maps are counted together, up to the limit itself.
+abbrev pub limit_counts_weak_maps : List ℕ
+limit_counts_weak_maps = codes "script s0 0\nweakmap s1\nweakmap s2\nscript s3 0\n"
 
 -- An input of as many bytes as may be read is read whole.
 abbrev pub input_of_exactly_the_bytes_allowed : List ℕ
