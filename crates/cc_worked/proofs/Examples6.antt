@@ -8,8 +8,8 @@ use Rattle.cc_worked.specs.Inputs as input
 use Rattle.cc_worked.specs.Verdict.{passes_verdict}
 use Rattle.cc_worked.specs.Audit.{passes_audit}
 use Rattle.cc_worked.proofs.Opened.{all_of_a_run}
-use Rattle.cc_worked.proofs.Sound.{run-lawful}
-use Rattle.cc_worked.proofs.Quiet.{run-quiet}
+use Rattle.cc_worked.proofs.LawfulTest.{run-lawful}
+use Rattle.cc_worked.proofs.QuietTest.{run-quiet}
 
 -- Unlinking one white native may free the one that comes next in the walk.
 pub native_vanishes_inside_an_unlink : plain_text version_one_forms default_limits ample input.native_vanishes_inside_an_unlink

@@ -8,8 +8,8 @@ use Rattle.cc_worked.specs.Inputs as input
 use Rattle.cc_worked.specs.Verdict.{passes_verdict}
 use Rattle.cc_worked.specs.Audit.{passes_audit}
 use Rattle.cc_worked.proofs.Opened.{all_of_a_run}
-use Rattle.cc_worked.proofs.Sound.{run-lawful}
-use Rattle.cc_worked.proofs.Quiet.{run-quiet}
+use Rattle.cc_worked.proofs.LawfulTest.{run-lawful}
+use Rattle.cc_worked.proofs.QuietTest.{run-quiet}
 
 -- A weak map is not made where memory is refused, and the next one gets the number.
 pub weak_map_takes_memory : plain_text version_one_forms default_limits (refused_at 1) input.weak_map_takes_memory

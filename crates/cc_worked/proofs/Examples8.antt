@@ -8,8 +8,8 @@ use Rattle.cc_worked.specs.Inputs as input
 use Rattle.cc_worked.specs.Verdict.{passes_verdict}
 use Rattle.cc_worked.specs.Audit.{passes_audit}
 use Rattle.cc_worked.proofs.Opened.{all_of_a_run}
-use Rattle.cc_worked.proofs.Sound.{run-lawful}
-use Rattle.cc_worked.proofs.Quiet.{run-quiet}
+use Rattle.cc_worked.proofs.LawfulTest.{run-lawful}
+use Rattle.cc_worked.proofs.QuietTest.{run-quiet}
 
 -- The limit of natives counts those that were freed.
 pub limit_counts_freed_natives : plain_text version_one_forms (limits 1 1000000 4294967295) ample input.limit_counts_freed_natives
