@@ -19,6 +19,7 @@ use Rattle.cc_laws_heap.proofs.Drain.{free_front-fewer}
 use Rattle.cc_counted.specs.Counts.{the_number, heap_of, left_with}
 use Rattle.cc_counted.specs.Lists.{Lists, keyed, counts_of, draining_of, IsPlaced, LeavesCells}
 use Rattle.cc_counted.specs.Steps.{GivesUp, FreesFront, texts_of_events, Drains, ComesTo}
+use Rattle.cc_counted.proofs.Balanced.{resting}
 use Rattle.cc_counted.proofs.Places.{length-natives}
 use Rattle.cc_counted.proofs.Freeing.{IsBalanced-events}
 use Rattle.cc_counted.proofs.Leaving.{LeavesCells-same, LeavesCells-then, LeavesKeys-cells, counts-left}
@@ -108,8 +109,7 @@ pub ComesTo-cascade : (old mid new : Lists) (before after : Telling) (k : ℕ) �
     ComesTo old new before after (cascade (heap_of (counts_of old)) k)
 unfolding drained
 ComesTo-cascade old mid new before after k p none g r =
-    let rests : draining_of old [] ≡ at_rest (heap_of (counts_of old)) = ap (λ ks. record { heap = heap_of (counts_of old); queue = map (the_number (keyed old.cells)) ks; events = [] }) none in
-    let first : draining_of mid [] ≡ give_up (at_rest (heap_of (counts_of old))) k = g.draining [] ∙ ap (λ d. give_up d k) rests in
+    let first : draining_of mid [] ≡ give_up (at_rest (heap_of (counts_of old))) k = g.draining [] ∙ ap (λ d. give_up d k) (resting old none) in
     let long : length mid.order ≡ length (counts_of old).natives = ap length g.order ∙ sym (length-natives old) in
     let all : draining_of new r.events ≡ drain (length (counts_of old).natives) (give_up (at_rest (heap_of (counts_of old))) k) =
     r.draining ∙ (ap (λ n. drain n (draining_of mid [])) long ∙ ap (drain (length (counts_of old).natives)) first) in

@@ -1,41 +1,35 @@
 -- ONE SLOT EMPTIED: its reference is in hand then, and is given up; a native that is owned stays.
-use Rattle.std.proofs.Common.{◌≡◌, ◌<◌, ◌+◌, ℕ, List, [], ◌∷◌, ◌++◌, map, length, get_or, Option, Some, None, option_map, is_some, true, refl, sym, ◌∙◌, ap, subst, ⊎_elim, arith, count_by}
-use Rattle.std.specs.Option.{option_to_list}
-use Rattle.std.proofs.Math.ListN.{set, get_or-map}
-use Rattle.std.proofs.lemmas.Bool.Decides.{eqb_tells}
-use Rattle.std.proofs.lemmas.List.{length-map, length-set}
-use Rattle.cc_lists.proofs.ListWrites.{count_by-flat_map_set, count_by-flat_map_changed}
-use Rattle.cc_names.specs.Names.{native, same_name}
+use Rattle.std.proofs.Common.{◌≡◌, ◌<◌, ℕ, List, [], ◌∷◌, ◌++◌, map, length, get_or, Option, Some, None, option_map, true, refl, sym, ◌∙◌, ap, subst, ⊎_elim, arith}
+use Rattle.std.proofs.Math.ListN.{set}
+use Rattle.std.proofs.lemmas.List.{length-set}
+use Rattle.cc_names.specs.Names.{native}
 use Rattle.cc_model.specs.declared.item.Event.{Event}
-use Rattle.cc_model.specs.Slots.{contents}
 use Rattle.cc_model.specs.Telling.{Telling}
-use Rattle.cc_model.specs.Heap.{Heap, HeapNative, Outcome, silently, native_at, change_native, with_native_slot}
+use Rattle.cc_model.specs.Heap.{Heap, HeapNative, Outcome, silently, change_native, with_native_slot}
 use Rattle.cc_model.specs.Cascade.{Draining, give_up, drain, at_rest, drained, cascade}
-use Rattle.cc_model.specs.Counts.{times}
 use Rattle.cc_model.specs.End.{empty_slot}
 use Rattle.cc_model.proofs.Tellings.{Tells-nil}
-use Rattle.cc_laws_heap.proofs.Natives.{native_at-there, native_at-number, native_at-change_same, native_at-change_other, HasDistinctNumbers-change}
+use Rattle.cc_laws_heap.proofs.Natives.{native_at-there, native_at-number}
 use Rattle.cc_laws_heap.proofs.References.{times-cons_same}
 use Rattle.cc_laws_heap.proofs.Counted.{count_at-found}
-use Rattle.cc_laws_heap.proofs.Owning.{times-numbers_of}
-use Rattle.cc_laws_heap.specs.Sound.{numbers_of}
 use Rattle.cc_laws_heap.proofs.GiveUp.{IsBalanced-give_up}
-use Rattle.cc_laws_heap.specs.Balance.{waiting, living, IsBalanced, count_of, has_number}
+use Rattle.cc_laws_heap.specs.Balance.{IsBalanced}
 use Rattle.cc_laws_heap.proofs.DrainingAlike.{IsAlike-length, IsAlike-give_up}
 use Rattle.cc_laws_heap.proofs.Drain.{drain-balanced}
 use Rattle.cc_counted.specs.declared.held.Held.{Held}
 use Rattle.cc_counted.specs.declared.held.Held.TheVariants as held
 use Rattle.cc_counted.specs.Counts.{number_at, number_or_none, the_number, name_of, is_live, numbers_held, native_in, heap_of}
-use Rattle.cc_counted.specs.Lists.{Placed, Lists, cell_at, with_slot, without_count, keyed, names_in, shown, counts_of, draining_of, IsPlaced, LeavesCells}
+use Rattle.cc_counted.specs.Lists.{Placed, Lists, cell_at, with_slot, without_count, keyed, counts_of, draining_of, IsPlaced, LeavesCells}
 use Rattle.cc_counted.specs.Steps.{ComesTo, EmptiesSlot}
-use Rattle.cc_counted.proofs.Places.{number_at-cell, the_number-cell, native_at-cell, native-key, one_key}
-use Rattle.cc_counted.proofs.Changing.{keyed-changed, changed-same}
+use Rattle.cc_counted.proofs.Places.{number_at-cell, the_number-cell, native-key, one_key}
+use Rattle.cc_counted.proofs.Changing.{changed-same}
 use Rattle.cc_counted.proofs.Leaving.{LeavesKeys-kept, LeavesKeys-then, LeavesKeys-cells}
 use Rattle.cc_counted.proofs.Freeing.{IsBalanced-events}
 use Rattle.cc_counted.proofs.Holding.{numbers-none, let_go-none}
 use Rattle.cc_counted.proofs.Each.{live-cell}
-use Rattle.cc_counted.proofs.Reading.{is_live-keyed}
-use Rattle.cc_counted.proofs.Writing.{slot-live, counts-written, placed-written}
+use Rattle.cc_counted.proofs.Writing.{placed-written}
+use Rattle.cc_counted.proofs.SlotBalance.{content-live, keyed-written, heap-written, IsBalanced-written}
+use Rattle.cc_counted.proofs.Balanced.{resting}
 
 -- an outcome by its parts
 abbrev with_events : Heap → List Event → Outcome
@@ -47,8 +41,7 @@ pub balanced-cascade : (old new : Lists) (before after : Telling) (k : ℕ) (own
 unfolding drained
 balanced-cascade old new before after k owned none t b =
     let h : Heap = heap_of (counts_of old) in
-    let rests : draining_of old [] ≡ at_rest h = ap (λ ks. record { heap = heap_of (counts_of old); queue = map (the_number (keyed old.cells)) ks; events = [] }) none in
-    let first : IsBalanced owned (give_up (at_rest h) k) = IsBalanced-give_up owned (at_rest h) k (subst (IsBalanced (k ∷ owned)) rests b) in
+    let first : IsBalanced owned (give_up (at_rest h) k) = IsBalanced-give_up owned (at_rest h) k (subst (IsBalanced (k ∷ owned)) (resting old none) b) in
     let done = drain-balanced (length h.natives) owned (give_up (at_rest h) k) first (omega (arith, IsAlike-length (at_rest h) (give_up (at_rest h) k) (IsAlike-give_up (at_rest h) k))) in
     let d : Draining = drain (length h.natives) (give_up (at_rest h) k) in
     let at : (heap : Heap) (queue : List ℕ) → d.heap ≡ heap → d.queue ≡ queue → IsBalanced owned (record { heap = heap; queue = queue; events = [] }) =
@@ -100,74 +93,24 @@ module _ (l : Lists) (p : IsPlaced l) (key : ℕ) (c : Placed) (at : cell_at l.c
   abbrev pub content : Option Held
   content = get_or c.slots i None
 
-  content-live : is_live (keyed l.cells) content ≡ true
-  content-live = sym (is_live-keyed l content) ∙ slot-live l p key c at i within
+  content-there : is_live (keyed l.cells) content ≡ true
+  content-there = content-live l p key c at i within None cells e
 
   pub placed-emptied : IsPlaced emptied_lists
   placed-emptied = placed-written l p key c at i None cells e refl
 
   pub keyed-emptied : keyed cells ≡ keyed l.cells
-  keyed-emptied = ap keyed e ∙ keyed-changed l p key c (with_slot i None c) at refl
+  keyed-emptied = keyed-written l p key c at i within None cells e
 
   pub cell-emptied : cell_at cells key ≡ Some (with_slot i None c)
   cell-emptied = ap (λ xs. cell_at xs key) e ∙ changed-same l p key c (with_slot i None c) at refl
 
   pub heap-emptied : heap_of (counts_of emptied_lists) ≡ change_native h c.number (with_native_slot i None)
-  heap-emptied = ap heap_of (counts-written l p key c at i None cells e) ∙ ap (λ k. change_native h k (with_native_slot i None)) (the_number-cell l.cells key c at)
-
-  found : native_at h c.number ≡ Some (shown (keyed l.cells) (Some c))
-  found = native_at-cell l p key c at
-
-  names-length : length (names_in (keyed l.cells) c.slots) ≡ length c.slots
-  names-length = length-map c.slots (name_of (keyed l.cells))
-
-  name-content : get_or (names_in (keyed l.cells) c.slots) i None ≡ name_of (keyed l.cells) content
-  name-content = get_or-map (name_of (keyed l.cells)) c.slots i None
-
-  -- the numbers in a name are those that are held
-  numbers-held : (x : Option Held) → is_live (keyed l.cells) x ≡ true → numbers_of (name_of (keyed l.cells) x) ≡ numbers_held (keyed l.cells) x
-  numbers-held None live = refl
-  numbers-held (Some (held.Script k)) live = refl
-  numbers-held (Some (held.Native k)) live = go (number_at (keyed l.cells) k.0) live
-    where
-      go : (o : Option ℕ) → is_some (option_map native o) ≡ true → numbers_of (option_map native o) ≡ number_or_none o ∷ []
-      go None f = absurd (cc)
-      go (Some n) f = refl
-
-  kept : (f : Option HeapNative → ℕ) → ((n : HeapNative) → f (Some (with_native_slot i None n)) ≡ f (Some n)) → (j : ℕ) →
-      f (native_at (change_native h c.number (with_native_slot i None)) j) ≡ f (native_at h j)
-  kept f same j = ⊎_elim
-      (λ t. ap f (ap (native_at (change_native h c.number (with_native_slot i None))) t.1
-      ∙ (native_at-change_same h c.number (with_native_slot i None) (λ n. refl) ∙ ap (option_map (with_native_slot i None)) found))
-      ∙ (same (shown (keyed l.cells) (Some c)) ∙ ap f (sym (ap (native_at h) t.1 ∙ found))))
-      (λ t. ap f (native_at-change_other h c.number (with_native_slot i None) (λ n. refl) j t.1))
-      (eqb_tells j c.number)
+  heap-emptied = heap-written l p key c at i within None cells e
 
   -- THE REFERENCE IN THE SLOT is in hand then
   pub IsBalanced-emptied : (owned : List ℕ) → IsBalanced owned (draining_of l []) → IsBalanced (numbers_held (keyed l.cells) content ++ owned) (draining_of emptied_lists [])
-  IsBalanced-emptied owned b =
-      subst (λ g. IsBalanced (numbers_held (keyed l.cells) content ++ owned) (record { heap = g; queue = map (the_number (keyed cells)) l.queue; events = [] })) (sym heap-emptied)
-      (subst (λ n. IsBalanced (numbers_held (keyed l.cells) content ++ owned) (record { heap = change_native h c.number (with_native_slot i None); queue = map (the_number n) l.queue; events = [] })) (sym keyed-emptied)
-      (record {
-        distinct = HasDistinctNumbers-change h c.number (with_native_slot i None) (λ n. refl) b.distinct;
-        counts = λ j. omega (
-          arith,
-          b.counts j,
-          kept count_of (λ n. refl) j,
-          count_by-flat_map_changed (same_name (native j)) (λ (m : HeapNative). contents m.slots) (has_number c.number) (with_native_slot i None) h.natives (shown (keyed l.cells) (Some c)) (b.distinct c.number) found,
-          count_by-flat_map_set (same_name (native j)) option_to_list (names_in (keyed l.cells) c.slots) i None None (omega (arith, within, names-length)),
-          held j,
-        );
-        queue = λ j. b.queue j ∙ sym (kept waiting (λ n. refl) j);
-        buffer = λ j. omega (arith, b.buffer j, kept living (λ n. refl) j);
-      }))
-    where
-      held : (j : ℕ) → times j (numbers_held (keyed l.cells) content ++ owned)
-          ≡ count_by (same_name (native j)) (option_to_list (get_or (names_in (keyed l.cells) c.slots) i None)) + times j owned
-      held j =
-          ap (λ ks. times j (ks ++ owned)) (sym (numbers-held content content-live))
-          ∙ (times-numbers_of j (name_of (keyed l.cells) content) owned
-          ∙ ap (λ x. count_by (same_name (native j)) (option_to_list x) + times j owned) (sym name-content))
+  IsBalanced-emptied owned b = IsBalanced-written l p key c at i within None cells e refl owned b
 
   module _ (others : List ℕ) (b : IsBalanced (c.number ∷ others) (draining_of l [])) where
     in-hand : (x : Option Held) → content ≡ x → IsBalanced (numbers_held (keyed l.cells) x ++ c.number ∷ others) (draining_of emptied_lists [])
@@ -200,7 +143,7 @@ module _ (l : Lists) (p : IsPlaced l) (key : ℕ) (c : Placed) (at : cell_at l.c
       -- what was in the slot is there, and its reference is in hand
       pub balanced-content : (owned : List ℕ) × (d : Placed) × (cell_at cells j ≡ Some d) × IsBalanced (d.number ∷ owned) (draining_of emptied_lists [])
       balanced-content =
-          let d = live-cell cells j (subst (λ n. is_live n (Some (held.Native (record { 0 = j }))) ≡ true) (sym keyed-emptied) (subst (λ x. is_live (keyed l.cells) x ≡ true) held_there content-live)) in (
+          let d = live-cell cells j (subst (λ n. is_live n (Some (held.Native (record { 0 = j }))) ≡ true) (sym keyed-emptied) (subst (λ x. is_live (keyed l.cells) x ≡ true) held_there content-there)) in (
             c.number ∷ others,
             d.0,
             d.1,
@@ -210,7 +153,7 @@ module _ (l : Lists) (p : IsPlaced l) (key : ℕ) (c : Placed) (at : cell_at l.c
 
       name-held : name_of (keyed l.cells) content ≡ Some (native (the_number (keyed l.cells) j))
       name-held =
-          let d = live-cell l.cells j (subst (λ x. is_live (keyed l.cells) x ≡ true) held_there content-live) in
+          let d = live-cell l.cells j (subst (λ x. is_live (keyed l.cells) x ≡ true) held_there content-there) in
           let at_it : number_at (keyed l.cells) j ≡ Some d.0.number = number_at-cell l.cells j d.0 d.1 in
           ap (name_of (keyed l.cells)) held_there ∙ (ap (option_map native) at_it ∙ ap (λ k. Some (native k)) (sym (ap number_or_none at_it)))
 

@@ -17,6 +17,8 @@ pub mod Writing
 pub mod Making
 pub mod Ordering
 pub mod Buffering
+pub mod SlotBalance
+pub mod Owned
 pub mod Emptying
 pub mod Unlinking
 pub mod OneNative

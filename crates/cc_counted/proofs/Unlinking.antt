@@ -45,6 +45,7 @@ pub record EmptiesSoFar (start now : Lists) (key i : ℕ) (before after : Tellin
   pub placed : IsPlaced now
   pub leaves : LeavesKeys start.cells now.cells
   pub balanced : (others : List ℕ) × IsBalanced (was.number ∷ others) (draining_of now [])
+  pub keeps : (others : List ℕ) → IsBalanced (was.number ∷ others) (draining_of start []) → IsBalanced (was.number ∷ others) (draining_of now [])
   pub events : List Event
   pub rest : empty_each was.number i (names_in (keyed start.cells) (drop i was.slots)) (record { heap = heap_of (counts_of now); events = events })
       ≡ empty_each was.number 0 (names_in (keyed start.cells) was.slots) (silently (heap_of (counts_of start)))
@@ -63,6 +64,7 @@ EmptiesSoFar-start start key before p b = record {
   placed = p;
   leaves = LeavesKeys-same start.cells;
   balanced = (b.0, b.3);
+  keeps = λ others c. c;
   events = [];
   rest = refl;
   told = Tells-nil before;
@@ -74,6 +76,7 @@ EmptiesSoFar-done start now key i before after s past = record {
   was_there = s.was_there;
   placed = s.placed;
   leaves = s.leaves;
+  balanced = s.keeps;
   events = s.events;
   outcome = sym s.rest ∙ ap (λ xs. empty_each s.was.number i (names_in (keyed start.cells) xs) (record { heap = heap_of (counts_of now); events = s.events })) (drop_all i s.was.slots past);
   told = s.told;
@@ -134,6 +137,12 @@ module _ (start now next : Lists) (key i : ℕ) (before middle after : Telling) 
   slots-after : f.cell.slots ≡ set s.cell.slots i None
   slots-after = ap (λ (c : Placed). c.slots) f.same ∙ ap (λ (c : Placed). set c.slots i None) same-cell
 
+  keeps_balance : (others : List ℕ) → IsBalanced (number ∷ others) (draining_of now []) → IsBalanced (number ∷ others) (draining_of next [])
+  keeps_balance others b =
+      let at_number : f.was.number ≡ number = ap (λ (c : Placed). c.number) same-cell ∙ s.number in
+      subst (λ k. IsBalanced (k ∷ others) (draining_of next [])) at_number
+      (f.balanced others (subst (λ k. IsBalanced (k ∷ others) (draining_of now [])) (sym at_number) b))
+
   pub EmptiesSoFar-more : EmptiesSoFar start next key (i + 1) before after
   EmptiesSoFar-more = record {
     was = s.was;
@@ -145,12 +154,8 @@ module _ (start now next : Lists) (key i : ℕ) (before middle after : Telling) 
     later = ap (drop (i + 1)) slots-after ∙ (drop-set-lt (i + 1) s.cell.slots i None (omega arith) ∙ parts.1);
     placed = f.placed;
     leaves = LeavesKeys-then start.cells now.cells next.cells s.leaves f.leaves;
-    balanced = (
-      s.balanced.0,
-      subst (λ k. IsBalanced (k ∷ s.balanced.0) (draining_of next [])) (ap (λ (c : Placed). c.number) same-cell ∙ s.number)
-          (f.balanced s.balanced.0
-          (subst (λ k. IsBalanced (k ∷ s.balanced.0) (draining_of now [])) (sym (ap (λ (c : Placed). c.number) same-cell ∙ s.number)) s.balanced.1)),
-    );
+    balanced = (s.balanced.0, keeps_balance s.balanced.0 s.balanced.1);
+    keeps = λ others b. keeps_balance others (s.keeps others b);
     events = s.events ++ f.events;
     rest =
         ap (λ n. empty_each number n (names (i + 1)) (record { heap = heap_of (counts_of next); events = s.events ++ f.events })) (add-one i)

@@ -25,6 +25,10 @@ pub record AreOwned (owned : List ℕ) (c : Counts) : Type 0 where
   pub buffered : (b : Buffered) → Among b c.buffer → Among (native b.number) (native_names (heap_of c))
   pub buffered_once : (k : ℕ) → count_by (λ b. b.number == k) c.buffer ≤ 1
 
+-- callers give the references `given` and have `gained` in their place; what else they own stays theirs
+abbrev pub Transfers : List ℕ → List ℕ → Counts → Counts → Type 0
+Transfers given gained old new = (others : List ℕ) → AreOwned (given ++ others) old → AreOwned (gained ++ others) new
+
 -- the callers own these references, and maybe others
 abbrev pub CallersOwn : List ℕ → Counts → Type 0
 CallersOwn ks c = (others : List ℕ) × AreOwned (ks ++ others) c

@@ -78,6 +78,7 @@ pub record EmptiesEach (old new : Lists) (key : ℕ) (before after : Telling) : 
   pub was_there : cell_at old.cells key ≡ Some was
   pub placed : IsPlaced new
   pub leaves : LeavesKeys old.cells new.cells
+  pub balanced : (others : List ℕ) → IsBalanced (was.number ∷ others) (draining_of old []) → IsBalanced (was.number ∷ others) (draining_of new [])
   pub events : List Event
   pub outcome : empty_each was.number 0 (names_in (keyed old.cells) was.slots) (silently (heap_of (counts_of old))) ≡ record { heap = heap_of (counts_of new); events = events }
   pub told : Tells before after (texts_of_events events)

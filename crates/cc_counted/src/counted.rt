@@ -8,7 +8,7 @@ ghost use Rattle.cc_model.specs.Heap.{HeapNative, set_slot, suspect, with_mark};
 ghost use Rattle.cc_model.specs.Cascade.{add_ref};
 ghost use Rattle.cc_model.specs.End.{unlink};
 ghost use Rattle.cc_counted.specs.Counts.{no_counts, number_at, the_number, name_of, is_live, numbers_held, heap_of, with_heap, left_with, released, slots_of, count_of, first_number, number_after};
-ghost use Rattle.cc_counted.specs.Owning.{CallersOwn, HasKeys};
+ghost use Rattle.cc_counted.specs.Owning.{CallersOwn, AreOwned, Transfers, HasKeys};
 ghost use Rattle.cc_counted.specs.Suspects.{is_in_buffer, is_purple_in, front_number, number_behind};
 ghost use Rattle.cc_lists.specs.Members.{Among};
 
@@ -48,7 +48,8 @@ impl Model for Counted {
 impl Counted {
     /// No natives, and no memory taken.
     pub fn new(alloc: Global) -> Counted
-        ensures { result ≡ no_counts }
+        ensures natives { result ≡ no_counts }
+        ensures owned { AreOwned [] result }
     {
         Counted {
             parts: Parts::new(alloc),
@@ -70,6 +71,7 @@ impl Counted {
         ensures others { IfOk result (λ key. (q : ℕ) → q ≢ key.0 → number_at self.new q ≡ number_at self.old q) }
         ensures vacant { IfOk result (λ key. number_at self.old key.0 ≡ None) }
         ensures keyed { HasKeys self.old → HasKeys self.new }
+        ensures owned { OnOk result (Transfers [] (no.0 ∷ []) self.old self.new) }
         ensures err { OnErr result (self.new ≡ self.old) }
     {
         self.parts.create(self.alloc, no, slots)
@@ -80,7 +82,8 @@ impl Counted {
         requires live { IsSome (number_at self.old key.0) }
         requires below { count_of self.old key.0 < 4294967295 }
         requires owned { CallersOwn [] self.old }
-        ensures { self.new ≡ with_heap self.old (add_ref (heap_of self.old) (the_number self.old key.0)) }
+        ensures heap { self.new ≡ with_heap self.old (add_ref (heap_of self.old) (the_number self.old key.0)) }
+        ensures owned { Transfers [] (the_number self.old key.0 ∷ []) self.old self.new }
     {
         self.parts.add_ref(key);
     }
@@ -91,6 +94,7 @@ impl Counted {
         requires owned { CallersOwn (the_number self.old key.0 ∷ []) self.old }
         ensures heap { self.new ≡ left_with self.old (released self.old (the_number self.old key.0)).heap }
         ensures told { Tells (N.telling out.old) (N.telling out.new) (texts_of (map Event (released self.old (the_number self.old key.0)).events)) }
+        ensures owned { Transfers (the_number self.old key.0 ∷ []) [] self.old self.new }
     {
         self.parts.release(key, out);
     }
@@ -117,6 +121,7 @@ impl Counted {
         ensures slots { self.new ≡ with_heap self.old (set_slot (heap_of self.old) (Some (native (the_number self.old key.0))) i (name_of self.old item)) }
         ensures name { name_of self.old result ≡ slice_index_or (slots_of self.old key.0) i None }
         ensures live { IsTrue (is_live self.old result) }
+        ensures owned { Transfers (numbers_held self.old item) (numbers_held self.old result) self.old self.new }
     {
         self.parts.set_slot(key, i, item)
     }
@@ -171,7 +176,8 @@ impl Counted {
         requires live { IsSome (number_at self.old key.0) }
         requires below { count_of self.old key.0 < 4294967295 }
         requires owned { CallersOwn [] self.old }
-        ensures { self.new ≡ with_heap self.old (add_ref (heap_of self.old) (the_number self.old key.0)) }
+        ensures heap { self.new ≡ with_heap self.old (add_ref (heap_of self.old) (the_number self.old key.0)) }
+        ensures owned { Transfers [] (the_number self.old key.0 ∷ []) self.old self.new }
     {
         self.add_ref(key);
     }
@@ -182,6 +188,7 @@ impl Counted {
         requires owned { CallersOwn (the_number self.old key.0 ∷ []) self.old }
         ensures heap { self.new ≡ left_with self.old (released self.old (the_number self.old key.0)).heap }
         ensures told { Tells (N.telling out.old) (N.telling out.new) (texts_of (map Event (released self.old (the_number self.old key.0)).events)) }
+        ensures owned { Transfers (the_number self.old key.0 ∷ []) [] self.old self.new }
     {
         self.release(key, out);
     }
@@ -194,14 +201,16 @@ impl Counted {
         requires owned { CallersOwn (the_number self.old key.0 ∷ []) self.old }
         ensures heap { self.new ≡ left_with self.old (unlink (heap_of self.old) (the_number self.old key.0)).heap }
         ensures told { Tells (N.telling out.old) (N.telling out.new) (texts_of (map Event (unlink (heap_of self.old) (the_number self.old key.0)).events)) }
+        ensures owned { Transfers (the_number self.old key.0 ∷ []) (the_number self.old key.0 ∷ []) self.old self.new }
     {
         self.parts.unlink(key, out);
     }
 
     /// Takes out the front of the buffer with its mark; none exactly where the buffer is empty.
     pub fn select_next(&mut self) -> Option<(NKey, bool)>
-        ensures { MatchOption result ((self.old.buffer ≡ []) × (self.new ≡ self.old))
+        ensures front { MatchOption result ((self.old.buffer ≡ []) × (self.new ≡ self.old))
             (λ front. (self.old.buffer ≡ record { number = the_number self.old front.0.0; purple = front.1 } ∷ self.new.buffer) × (self.new ≡ record self.old { buffer = self.new.buffer }) × IsSome (number_at self.old front.0.0)) }
+        ensures owned { Transfers [] [] self.old self.new }
     {
         self.parts.select_next()
     }
@@ -210,7 +219,8 @@ impl Counted {
     pub fn give_back(&mut self, key: NKey)
         requires live { IsSome (number_at self.old key.0) }
         requires owned { CallersOwn [] self.old }
-        ensures { self.new ≡ with_heap self.old (suspect (heap_of self.old) (the_number self.old key.0)) }
+        ensures heap { self.new ≡ with_heap self.old (suspect (heap_of self.old) (the_number self.old key.0)) }
+        ensures owned { Transfers [] [] self.old self.new }
     {
         self.parts.give_back(key);
     }

@@ -8,8 +8,8 @@ ghost use Rattle.cc_model.specs.End.{unlink};
 ghost use Rattle.cc_laws_heap.specs.Balance.{IsBalanced};
 ghost use Rattle.cc_purple.specs.Marks.{marked_as};
 ghost use Rattle.cc_counted.specs.declared.held.Held.{Held};
-ghost use Rattle.cc_counted.specs.Counts.{no_counts, is_live, name_of, number_at, the_number, heap_of, with_heap, left_with, count_of, slots_of};
-ghost use Rattle.cc_counted.specs.Owning.{CallersOwn, Makes};
+ghost use Rattle.cc_counted.specs.Counts.{no_counts, is_live, numbers_held, name_of, number_at, the_number, heap_of, with_heap, left_with, count_of, slots_of};
+ghost use Rattle.cc_counted.specs.Owning.{CallersOwn, Transfers, Makes};
 ghost use Rattle.cc_counted.specs.Lists.{Placed, cell_at, slots_placed, keyed, numbers_in, draining_of, IsPlaced};
 ghost use Rattle.cc_counted.specs.Steps.{GivesUp, FreesFront, Drains, ComesTo, EmptiesSlot, EmptiesEach, texts_of_events};
 
@@ -143,6 +143,7 @@ impl Parts {
         requires below { count_of (shows self.old) key.0 < 4294967295 }
         requires owned { CallersOwn [] (shows self.old) }
         ensures shows { shows self.new ≡ with_heap (shows self.old) (add_ref (heap_of (shows self.old)) (the_number (shows self.old) key.0)) }
+        ensures owned { Transfers [] (the_number (shows self.old) key.0 ∷ []) (shows self.old) (shows self.new) }
         ensures at_rest { IsAtRest self.new }
     {
         raise(&mut self.natives, key);
@@ -158,6 +159,7 @@ impl Parts {
         ensures shows { shows self.new ≡ with_heap (shows self.old) (set_slot (heap_of (shows self.old)) (Some (native (the_number (shows self.old) key.0))) i (name_of (shows self.old) item)) }
         ensures name { name_of (shows self.old) result ≡ slice_index_or (slots_of (shows self.old) key.0) i None }
         ensures live { IsTrue (is_live (shows self.old) result) }
+        ensures owned { Transfers (numbers_held (shows self.old) item) (numbers_held (shows self.old) result) (shows self.old) (shows self.new) }
         ensures at_rest { IsAtRest self.new }
     {
         write(&mut self.natives, key, i as usize, item)
@@ -192,6 +194,7 @@ impl Parts {
         requires above { (n : HeapNative) → Among n (shows self.old).natives → n.number < no.0 }
         requires owned { CallersOwn [] (shows self.old) }
         ensures makes { IfOk result (λ key. Makes (shows self.old) (shows self.new) key.0 no.0 slots) }
+        ensures owned { OnOk result (Transfers [] (no.0 ∷ []) (shows self.old) (shows self.new)) }
         ensures at_rest { IsAtRest self.new }
         ensures err { OnErr result (shows self.new ≡ shows self.old) }
     {
@@ -242,6 +245,7 @@ impl Parts {
         requires owned { CallersOwn (the_number (shows self.old) key.0 ∷ []) (shows self.old) }
         ensures shows { shows self.new ≡ left_with (shows self.old) (unlink (heap_of (shows self.old)) (the_number (shows self.old) key.0)).heap }
         ensures told { Tells (N.telling out.old) (N.telling out.new) (texts_of_events (unlink (heap_of (shows self.old)) (the_number (shows self.old) key.0)).events) }
+        ensures owned { Transfers (the_number (shows self.old) key.0 ∷ []) (the_number (shows self.old) key.0 ∷ []) (shows self.old) (shows self.new) }
         ensures at_rest { IsAtRest self.new }
     {
         let cell = &self.natives[key.0];
@@ -267,6 +271,7 @@ impl Parts {
         requires live { IsSome (number_at (shows self.old) key.0) }
         requires owned { CallersOwn [] (shows self.old) }
         ensures shows { shows self.new ≡ with_heap (shows self.old) (suspect (heap_of (shows self.old)) (the_number (shows self.old) key.0)) }
+        ensures owned { Transfers [] [] (shows self.old) (shows self.new) }
         ensures at_rest { IsAtRest self.new }
     {
         self.buffer.give_back(key);

@@ -21,17 +21,17 @@ use Rattle.cc_laws_heap.proofs.Drain.{drain-balanced, drain-frees}
 use Rattle.cc_laws_heap.proofs.WellFormedStays.{IsPart, IsWellFormed-part}
 
 -- a count above zero is not that of a native that waits
-one_at_zero-above : (c : ℕ) → 1 ≤ c → one_at_zero c ≡ 0
+pub one_at_zero-above : (c : ℕ) → 1 ≤ c → one_at_zero c ≡ 0
 one_at_zero-above zero s = absurd (omega arith)
 one_at_zero-above (suc c) s = refl
 
 -- a count above zero is that of a native that lives
-one_above_zero-above : (c : ℕ) → 1 ≤ c → one_above_zero c ≡ 1
+pub one_above_zero-above : (c : ℕ) → 1 ≤ c → one_above_zero c ≡ 1
 one_above_zero-above zero s = absurd (omega arith)
 one_above_zero-above (suc c) s = refl
 
 -- the count of a native that does not wait is above zero
-above-one_at_zero : (c : ℕ) → one_at_zero c ≡ 0 → 1 ≤ c
+pub above-one_at_zero : (c : ℕ) → one_at_zero c ≡ 0 → 1 ≤ c
 above-one_at_zero zero e = absurd (omega arith)
 above-one_at_zero (suc c) e = omega arith
 

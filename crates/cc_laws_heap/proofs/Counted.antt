@@ -29,7 +29,7 @@ pub IsCounted-referred : (owned : List ℕ) (h : Heap) → IsCounted owned h →
 IsCounted-referred owned h c k some = count_at-there h k (omega (arith, c k))
 
 -- what is owned is there
-IsCounted-owned : (owned : List ℕ) (h : Heap) → IsCounted owned h → (k : ℕ) → 1 ≤ times k owned → Among (native k) (native_names h)
+pub IsCounted-owned : (owned : List ℕ) (h : Heap) → IsCounted owned h → (k : ℕ) → 1 ≤ times k owned → Among (native k) (native_names h)
 IsCounted-owned owned h c k some = count_at-there h k (omega (arith, c k))
 
 -- in sound heaps every number is counted

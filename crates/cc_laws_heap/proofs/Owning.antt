@@ -48,7 +48,7 @@ ChangesNatives-raised : (h : Heap) (k : ℕ) → IsWellFormed h → ChangesNativ
 ChangesNatives-raised h k w = ChangesNatives-where h w (λ n. n.number == k) raise_native (λ n. refl) (λ n m e. IsWellFormed-native h w n m)
 
 -- the native whose count rose is owned once more
-IsCounted-add_ref : (owned : List ℕ) (h : Heap) (k : ℕ) → Among (native k) (native_names h) → IsCounted owned h → IsCounted (k ∷ owned) (add_ref h k)
+pub IsCounted-add_ref : (owned : List ℕ) (h : Heap) (k : ℕ) → Among (native k) (native_names h) → IsCounted owned h → IsCounted (k ∷ owned) (add_ref h k)
 IsCounted-add_ref owned h k there c j = ⊎_elim same other (eqb_tells j k)
   where
     alike : (i : ℕ) → refs_to (add_ref h k) i ≡ refs_to h i

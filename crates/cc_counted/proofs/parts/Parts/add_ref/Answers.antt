@@ -1,4 +1,4 @@
-use Rattle.std.proofs.Common.{◌≡◌, ℕ, List, Option, Some, map, false, ap, sym, subst, ◌∙◌, option_map, arith}
+use Rattle.std.proofs.Common.{◌≡◌, ℕ, List, Option, Some, map, false, ap, sym, subst, ◌∙◌, option_map, arith, [], ◌∷◌}
 use Rattle.std.proofs.Math.ListN.{set}
 use Rattle.std.proofs.lemmas.List.{length-map}
 use Rattle.cc_names.specs.declared.number.NKey.{NKey}
@@ -9,6 +9,9 @@ use Rattle.cc_counted.proofs.Reading.{live-found, count_of-cell}
 use Rattle.cc_counted.proofs.Balanced.{IsBalanced-owned}
 use Rattle.cc_counted.proofs.Room.{marked-short, HasPlaceFor-marked}
 use Rattle.cc_counted.proofs.Adding.{counts-added, placed-added}
+use Rattle.cc_counted.specs.Owning.{Transfers}
+use Rattle.cc_counted.specs.Counts.{Counts, the_number}
+use Rattle.cc_counted.proofs.Owned.{owned-add_ref}
 use Rattle.cc_counted.proofs.parts.Parts.add_ref.Goals as goal
 
 -- the cells with one more reference
@@ -48,3 +51,9 @@ returns-clause-at_rest c =
       emptied = c.requires.at_rest.emptied;
       room = record { queue = c.requires.at_rest.room.queue; buffer = omega (arith, c.requires.at_rest.room.buffer) };
     }
+
+pub returns-clause-owned : goal.returns-clause-owned
+returns-clause-owned c =
+    let l = lists_of c.args.self.now in
+    subst (λ (n : Counts). Transfers [] (the_number (counts_of l) c.args.key.0 ∷ []) (counts_of l) n) (sym (returns-clause-shows c))
+    (owned-add_ref l c.requires.at_rest.placed c.args.key.0 (live-found l c.args.key.0 c.requires.live))

@@ -8,6 +8,7 @@ use Rattle.cc_counted.specs.Parts.{lists_of}
 use Rattle.cc_counted.proofs.Balanced.{IsBalanced-owned}
 use Rattle.cc_counted.proofs.Room.{marks-short}
 use Rattle.cc_counted.proofs.Making.{Makes-made, placed-made}
+use Rattle.cc_counted.proofs.Owned.{owned-made}
 use Rattle.cc_counted.proofs.parts.Parts.create.Goals as goal
 
 -- the lists with a native made
@@ -84,3 +85,7 @@ returns-clause-at_rest c =
         buffer = omega (arith, c.in_ok-empty.ensures.room.buffer, long, room);
       };
     }
+
+pub returns-clause-owned : goal.returns-clause-owned
+returns-clause-owned c =
+    owned-made (counts_of (lists_of c.args.self.now)) _ c.insert_reserved.result c.args.no.0 c.args.slots c.requires.above (returns-clause-makes c)

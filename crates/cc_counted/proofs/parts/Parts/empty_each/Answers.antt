@@ -1,7 +1,7 @@
 use Rattle.std.proofs.Common.{◌<◌, length, ap, arith}
 use Rattle.cc_counted.specs.Lists.{slots_placed}
 use Rattle.cc_counted.specs.Parts.{lists_of}
-use Rattle.cc_counted.proofs.Unlinking.{EmptiesSoFar-more}
+use Rattle.cc_counted.proofs.Unlinking.{EmptiesSoFar-more, EmptiesSoFar-done}
 use Rattle.cc_counted.proofs.parts.Parts.empty_each.Goals as goal
 
 pub loop-i-preserved : goal.loop-i-preserved
@@ -13,3 +13,9 @@ loop-i-preserved g c =
           (g.N.Notices.telling c.args.out.now) (g.N.Notices.telling c.loop-i.out) (g.N.Notices.telling c.empty_slot.new.out) s within c.empty_slot.ensures.empties;
       at_rest = c.empty_slot.ensures.at_rest;
     }
+
+pub returns-clause-empties : goal.returns-clause-empties
+returns-clause-empties g c =
+    let s = c.loop-i.invariant.so_far in
+    EmptiesSoFar-done (lists_of c.args.self.now) (lists_of c.loop-i.self) c.args.key.0 c.loop-i.i (g.N.Notices.telling c.args.out.now) (g.N.Notices.telling c.loop-i.out) s
+    (omega (arith, c.loop-i-test.false, c.requires.slots, ap (λ o. length (slots_placed o)) s.was_there))

@@ -1,4 +1,4 @@
-use Rattle.std.proofs.Common.{◌≡◌, List, map, true, ap, sym, subst, ◌∙◌, arith}
+use Rattle.std.proofs.Common.{◌≡◌, List, map, true, ap, sym, subst, ◌∙◌, arith, []}
 use Rattle.std.proofs.lemmas.List.{length-map}
 use Rattle.cc_names.specs.declared.number.NKey.{NKey}
 use Rattle.cc_purple.specs.Marks.{Buffered, Marked}
@@ -8,6 +8,9 @@ use Rattle.cc_counted.proofs.Reading.{live-found}
 use Rattle.cc_counted.proofs.Balanced.{IsBalanced-owned}
 use Rattle.cc_counted.proofs.Room.{marked-short, HasPlaceFor-marked}
 use Rattle.cc_counted.proofs.Adding.{counts-suspected, placed-marked}
+use Rattle.cc_counted.specs.Owning.{Transfers}
+use Rattle.cc_counted.specs.Counts.{Counts}
+use Rattle.cc_counted.proofs.Owned.{owned-suspect}
 use Rattle.cc_counted.proofs.parts.Parts.give_back.Goals as goal
 
 pub give_back-requires : goal.give_back-requires
@@ -36,3 +39,9 @@ returns-clause-at_rest c =
       emptied = c.requires.at_rest.emptied;
       room = record { queue = c.requires.at_rest.room.queue; buffer = omega (arith, c.requires.at_rest.room.buffer) };
     }
+
+pub returns-clause-owned : goal.returns-clause-owned
+returns-clause-owned c =
+    let l = lists_of c.args.self.now in
+    subst (λ (n : Counts). Transfers [] [] (counts_of l) n) (sym (returns-clause-shows c))
+    (owned-suspect l c.requires.at_rest.placed c.args.key.0 (live-found l c.args.key.0 c.requires.live))

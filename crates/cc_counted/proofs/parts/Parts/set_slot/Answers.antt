@@ -1,11 +1,14 @@
-use Rattle.std.proofs.Common.{◌≡◌, ◌<◌, ℕ, List, Option, Some, None, length, get_or, ap, ◌∙◌, option_map, arith}
+use Rattle.std.proofs.Common.{◌≡◌, ◌<◌, ℕ, List, Option, Some, None, length, get_or, ap, ◌∙◌, option_map, arith, subst, sym, map}
 use Rattle.std.proofs.Math.ListN.{set}
 use Rattle.cc_counted.specs.declared.held.Held.{Held}
-use Rattle.cc_counted.specs.Counts.{name_of, is_live}
+use Rattle.cc_counted.specs.Counts.{name_of, is_live, numbers_held}
 use Rattle.cc_counted.specs.Lists.{Placed, Lists, cell_at, slots_placed, with_slot, counts_of}
 use Rattle.cc_counted.specs.Parts.{lists_of}
 use Rattle.cc_counted.proofs.Reading.{live-found, length-slots_of, slot-name}
 use Rattle.cc_counted.proofs.Writing.{slot-live, counts-written, placed-written}
+use Rattle.cc_names.specs.declared.number.NKey.{NKey}
+use Rattle.cc_counted.specs.Owning.{Transfers}
+use Rattle.cc_counted.proofs.Owned.{owned-written}
 use Rattle.cc_counted.proofs.parts.Parts.set_slot.Goals as goal
 
 -- the cells with a slot written
@@ -50,3 +53,14 @@ returns-clause-at_rest c =
       emptied = c.requires.at_rest.emptied;
       room = record { queue = c.requires.at_rest.room.queue; buffer = c.requires.at_rest.room.buffer };
     }
+
+pub returns-clause-owned : goal.returns-clause-owned
+returns-clause-owned c =
+    let l = lists_of c.args.self.now in
+    let f = live-found l c.args.key.0 c.requires.live in
+    let cells = c.write.new.natives.slots in
+    let read : c.write.result ≡ get_or f.0.slots c.args.i None = c.write.ensures.value ∙ ap (λ o. get_or (slots_placed o) c.args.i None) f.1 in
+    let within : c.args.i < length f.0.slots = omega (arith, length-slots_of l c.requires.at_rest.placed c.args.key.0 f.0 f.1, c.requires.within) in
+    subst (λ x. Transfers (numbers_held (counts_of l) c.args.item) (numbers_held (counts_of l) x) (counts_of l) (counts_of (record l { cells = cells }))) (sym read)
+    (owned-written l c.requires.at_rest.placed (ap (map (λ (k : NKey). k.0)) c.requires.at_rest.emptied) c.args.key.0 f.0 f.1 c.args.i within c.args.item c.requires.item_live
+    cells (wrote l c.args.key.0 c.args.i c.args.item f.0 cells f.1 c.write.ensures.slots))

@@ -1,3 +1,4 @@
+use Rattle.cc_counted.specs.Owning.{AreOwned}
 use Rattle.std.proofs.Common.{◌≡◌, ◌≤◌, [], ◌∷◌, length, map, Some, ap, arith, sym, subst, ◌∙◌}
 use Rattle.cc_names.specs.declared.number.NKey.{NKey}
 use Rattle.cc_names.specs.Names.{native}
@@ -17,6 +18,7 @@ use Rattle.cc_counted.proofs.Places.{the_number-cell}
 use Rattle.cc_counted.proofs.Balanced.{IsBalanced-owned}
 use Rattle.cc_counted.proofs.Leaving.{counts-left}
 use Rattle.cc_counted.proofs.Unlinking.{unlinked}
+use Rattle.cc_counted.proofs.Balanced.{owned-lists}
 use Rattle.cc_counted.proofs.parts.Parts.unlink.Goals as goal
 
 pub overflow_cast-slots : goal.overflow_cast-slots
@@ -58,3 +60,15 @@ returns-clause-told g c =
     subst (λ (p : Placed). Tells before middle (text_of (of_event (Unlinked (native p.number))))) (c.cell.view_is ∙ cell) c.tell.ensures in
     subst (λ (o : Outcome). Tells before after (texts_of_events o.events)) (sym done)
     (Tells-trans before middle after (text_of (of_event (Unlinked (native e.was.number)))) (texts_of_events e.events) first e.told)
+
+pub returns-clause-owned : goal.returns-clause-owned
+returns-clause-owned g c others o =
+    let l = lists_of c.args.self.now in
+    let new = lists_of c.empty_each.new.self in
+    let e = c.empty_each.ensures.empties in
+    let number = the_number-cell l.cells c.args.key.0 e.was e.was_there in
+    subst (λ k. AreOwned (k ∷ others) (counts_of new)) (sym number)
+    (owned-lists new (ap (map (λ (k : NKey). k.0)) c.empty_each.ensures.at_rest.emptied) (e.was.number ∷ others)
+    (e.balanced others
+    (IsBalanced-owned l c.requires.at_rest.placed (ap (map (λ (k : NKey). k.0)) c.requires.at_rest.emptied) (e.was.number ∷ others)
+    (subst (λ k. AreOwned (k ∷ others) (counts_of l)) number o))))
