@@ -21,5 +21,3 @@ pub mod SlotBalance
 pub mod Owned
 pub mod Emptying
 pub mod Unlinking
-pub mod OneNative
-pub mod TwoNatives

@@ -20,7 +20,7 @@ use Rattle.cc_model.specs.Counts.{slots_of_natives, times}
 use Rattle.cc_laws_heap.specs.Balance.{waiting, living, IsBalanced, has_place, places}
 use Rattle.cc_laws_heap.proofs.Natives.{native_at-named, native_at-change_same, native_at-change_other, HasDistinctNumbers-change}
 use Rattle.cc_laws_heap.proofs.HoldsTheSame.{raise_native}
-use Rattle.cc_laws_heap.proofs.References.{times-cons_same, times-cons_other, times-among}
+use Rattle.cc_laws_heap.proofs.References.{times-cons_same, times-cons_other, times-among, times-some}
 use Rattle.cc_laws_heap.proofs.Owning.{IsCounted-add_ref}
 use Rattle.cc_laws_heap.proofs.Cascades.{one_at_zero-above, one_above_zero-above, above-one_at_zero}
 use Rattle.cc_laws_heap.proofs.Buffer.{places-with_mark_same, places-with_mark_other}
@@ -45,6 +45,17 @@ owned-none = record {
   owned_there = λ k m. absurd m;
   buffered = λ b m. absurd m;
   buffered_once = λ k. omega arith;
+}
+
+-- The order in which what is owned is listed says nothing.
+pub owned-reordered : (c : Counts) (owned others : List ℕ) → ((k : ℕ) → times k owned ≡ times k others) → AreOwned owned c → AreOwned others c
+owned-reordered c owned others same o = record {
+  counts = λ n m. omega (arith, o.counts n m, same n.number);
+  none_zero = o.none_zero;
+  held_there = o.held_there;
+  owned_there = λ k m. o.owned_there k (times-among k owned (omega (arith, same k, times-some k others m)));
+  buffered = o.buffered;
+  buffered_once = o.buffered_once;
 }
 
 -- The steps on a balance in which no native waits

@@ -13,16 +13,16 @@ give_back-requires-clause-owned c =
 pub returns-clause-heap : goal.returns-clause-heap
 returns-clause-heap c =
     let p = c.args.self.now in
-    changed-keyed (give_back-changes p c.requires.linked (the_number (keyed_of p) c.args.key.0) c.give_back.ensures)
+    changed-keyed (give_back-changes p c.requires.linked (the_number (keyed_of p) c.args.key.0) c.give_back.ensures.heap)
 
 pub returns-clause-order : goal.returns-clause-order
 returns-clause-order c owned o =
     let p = c.args.self.now in
     let v = keyed_of p in
     let k = the_number v c.args.key.0 in
-    changed-order (give_back-changes p c.requires.linked k c.give_back.ensures) (IsInOrder-suspect owned v k (number-there owned v c.args.key.0 o c.requires.live) o)
+    changed-order (give_back-changes p c.requires.linked k c.give_back.ensures.heap) (IsInOrder-suspect owned v k (number-there owned v c.args.key.0 o c.requires.live) o)
 
 pub returns-clause-linked : goal.returns-clause-linked
 returns-clause-linked c =
     let p = c.args.self.now in
-    changed-linked (give_back-changes p c.requires.linked (the_number (keyed_of p) c.args.key.0) c.give_back.ensures)
+    changed-linked (give_back-changes p c.requires.linked (the_number (keyed_of p) c.args.key.0) c.give_back.ensures.heap)

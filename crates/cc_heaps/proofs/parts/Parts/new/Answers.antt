@@ -82,13 +82,13 @@ module _ (natives : Vec (Option NKey)) (scripts : Vec (Option SKey)) (limits : A
 
 pub returns-clause-empty : goal.returns-clause-empty
 returns-clause-empty c =
-    ap (λ (v : Keyed). v.heap) (empty-is c.in_ok-no_natives.field-0 c.in_ok-no_scripts.field-0 c.args.limits c.in_ok-no_natives.ensures c.in_ok-no_scripts.ensures c.new.ensures c.new-2.ensures)
+    ap (λ (v : Keyed). v.heap) (empty-is c.in_ok-no_natives.field-0 c.in_ok-no_scripts.field-0 c.args.limits c.in_ok-no_natives.ensures c.in_ok-no_scripts.ensures c.new.ensures.natives c.new-2.ensures)
 
 pub returns-clause-order : goal.returns-clause-order
 returns-clause-order c =
-    subst (IsInOrder []) (sym (empty-is c.in_ok-no_natives.field-0 c.in_ok-no_scripts.field-0 c.args.limits c.in_ok-no_natives.ensures c.in_ok-no_scripts.ensures c.new.ensures c.new-2.ensures))
+    subst (IsInOrder []) (sym (empty-is c.in_ok-no_natives.field-0 c.in_ok-no_scripts.field-0 c.args.limits c.in_ok-no_natives.ensures c.in_ok-no_scripts.ensures c.new.ensures.natives c.new-2.ensures))
     (empty-order c.args.limits (omega (arith, c.natives.ensures.same, c.natives.ensures.within), omega (arith, c.scripts.ensures.same, c.scripts.ensures.within)))
 
 pub returns-clause-linked : goal.returns-clause-linked
 returns-clause-linked c =
-    empty-linked c.in_ok-no_natives.field-0 c.in_ok-no_scripts.field-0 c.args.limits c.in_ok-no_natives.ensures c.in_ok-no_scripts.ensures c.new.ensures c.new-2.ensures
+    empty-linked c.in_ok-no_natives.field-0 c.in_ok-no_scripts.field-0 c.args.limits c.in_ok-no_natives.ensures c.in_ok-no_scripts.ensures c.new.ensures.natives c.new-2.ensures

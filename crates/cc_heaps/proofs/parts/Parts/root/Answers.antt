@@ -20,16 +20,16 @@ root-requires-clause-owned c =
 pub returns-clause-heap : goal.returns-clause-heap
 returns-clause-heap c =
     let p = c.args.self.now in
-    changed-keyed (root-changes p c.requires.linked (the_number (keyed_of p) c.args.key.0) c.root.ensures)
+    changed-keyed (root-changes p c.requires.linked (the_number (keyed_of p) c.args.key.0) c.root.ensures.heap)
 
 pub returns-clause-order : goal.returns-clause-order
 returns-clause-order c owned o =
     let p = c.args.self.now in
     let v = keyed_of p in
     let k = the_number v c.args.key.0 in
-    changed-order (root-changes p c.requires.linked k c.root.ensures) (IsInOrder-add_ref owned v k (number-there owned v c.args.key.0 o c.requires.live) o)
+    changed-order (root-changes p c.requires.linked k c.root.ensures.heap) (IsInOrder-add_ref owned v k (number-there owned v c.args.key.0 o c.requires.live) o)
 
 pub returns-clause-linked : goal.returns-clause-linked
 returns-clause-linked c =
     let p = c.args.self.now in
-    changed-linked (root-changes p c.requires.linked (the_number (keyed_of p) c.args.key.0) c.root.ensures)
+    changed-linked (root-changes p c.requires.linked (the_number (keyed_of p) c.args.key.0) c.root.ensures.heap)

@@ -49,10 +49,10 @@ module _ (p : Parts) (d : Counts) where
       (IsInOrder-tail owned before (record { number = counts.the_number p.counted front.0.0; purple = front.1 }) d.buffer t.0 f)
 
 pub returns-clause-front : goal.returns-clause-front
-returns-clause-front c = taken-front c.args.self.now c.select_next.new.self c.select_next.result c.select_next.ensures
+returns-clause-front c = taken-front c.args.self.now c.select_next.new.self c.select_next.result c.select_next.ensures.front
 
 pub returns-clause-order : goal.returns-clause-order
-returns-clause-order c owned o = ordered-front c.args.self.now c.select_next.new.self owned o c.select_next.result c.select_next.ensures
+returns-clause-order c owned o = ordered-front c.args.self.now c.select_next.new.self owned o c.select_next.result c.select_next.ensures.front
 
 pub returns-clause-linked : goal.returns-clause-linked
-returns-clause-linked c = linked-front c.args.self.now c.select_next.new.self c.requires.linked c.select_next.result c.select_next.ensures
+returns-clause-linked c = linked-front c.args.self.now c.select_next.new.self c.requires.linked c.select_next.result c.select_next.ensures.front
