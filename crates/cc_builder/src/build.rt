@@ -63,7 +63,6 @@ impl Build {
     /// native that holds a gray script object, by rising number; and the buffer is emptied.
     ///
     /// `NoMemory`, only where a node is added, leaves the buffer's contents, order and marks as they were.
-    #[tactic(auto, using(cc_heaps::proofs::FewReferences::few_references))]
     pub fn begin(alloc: Global, heaps: &mut Heaps) -> Result<Build, NoMemory>
         requires order { IsInOrder [] heaps.old }
         ensures snapshot { IfOk result (λ b. snapshot_of b ≡ begun heaps.old.heap) }
@@ -139,7 +138,6 @@ impl Build {
 
     /// Gives the collection up: the candidates that still exist are purple in the buffer again, and one that is there
     /// keeps its place. Takes no memory.
-    #[tactic(auto, using(cc_heaps::proofs::FewReferences::few_references))]
     pub fn abandon(self, heaps: &mut Heaps)
         requires built { IsBuilt self heaps.old }
         requires held { AreHeld self.graph (HasKey heaps.old) }

@@ -48,7 +48,6 @@ impl Collector {
     ///
     /// `NoMemory`, where the collection wanted memory that was not there: it is abandoned, which is told, and its
     /// suspects are suspects again.
-    #[tactic(auto, using(cc_heaps::proofs::FewReferences::few_references))]
     pub fn whole<N: Notices>(&mut self, heaps: &mut Heaps, out: &mut N) -> Result<(), NoMemory>
         requires order { IsInOrder [] heaps.old }
         requires colours { HasColourInvariant (view heaps.old.heap) }

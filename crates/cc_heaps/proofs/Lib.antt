@@ -35,4 +35,3 @@ pub mod Following
 pub mod StandingStill
 pub mod StandingAfter
 pub mod KeysKept
-pub mod FewReferences

@@ -5,7 +5,7 @@ use Rattle.cc_model.specs.View.{view}
 use Rattle.cc_model.specs.Colours.{HasColourInvariant}
 use Rattle.cc_heaps.specs.Few.{AreFew}
 use Rattle.cc_heaps.specs.Keyed.{Keyed, IsInOrder}
-use Rattle.cc_heaps.proofs.FewReferences.{few_references}
+use Rattle.cc_heaps.proofs.FewCounts.{few-alone}
 use Rattle.cc_replay.specs.Resting.{IsAtRest}
 
 -- nothing is there at the start
@@ -17,4 +17,4 @@ IsAtRest-empty v order empty = record {
 
 -- no count is greater than all references there can be
 pub counts_few : (v : Keyed) → IsAtRest v → AreFew v.heap
-counts_few v rest = few_references v rest.order
+counts_few v rest = few-alone v rest.order

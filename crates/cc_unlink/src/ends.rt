@@ -115,7 +115,6 @@ fn unroot_whites<N: Notices>(graph: &Graph, heaps: &mut Heaps, out: &mut N)
 ///
 /// Where no register reaches any of them the heaps go on standing for the same graphs. Where they are the white natives of
 /// a snapshot that is fresh and traversed, no native that nothing reaches is forgotten.
-#[tactic(auto, using(cc_heaps::proofs::FewReferences::few_references))]
 pub fn collect_white<N: Notices>(graph: Graph, heaps: &mut Heaps, out: &mut N)
     requires order { IsInOrder [] heaps.old }
     ensures heap { heaps.new ≡ left_with heaps.old (take_away (whites_of graph heaps.old.heap) heaps.old.heap).heap }

@@ -3,6 +3,7 @@ use Rattle.cc_model.specs.End.{take_away}
 use Rattle.cc_heaps.specs.Keyed.{left_with}
 use Rattle.cc_heaps.proofs.KeysKept.{KeepsKeys-left}
 use Rattle.cc_unlink.proofs.Promises.{ended-stands, ended-suspected, ended-colours}
+use Rattle.cc_heaps.proofs.FewCounts.{few-alone}
 use Rattle.cc_unlink.specs.Whites.{whites_of}
 use Rattle.cc_unlink.proofs.WhiteEnd.{WhiteEnd-heap, WhiteEnd-told}
 use Rattle.cc_unlink.proofs.ends.collect_white.Given as given
@@ -41,3 +42,6 @@ returns-clause-colours g c = ended-colours c.args.graph c.args.heaps.now c.unroo
 
 pub returns-clause-keys : goal.returns-clause-keys
 returns-clause-keys g c = KeepsKeys-left c.args.heaps.now c.unroot_whites.new.heaps _ (ended g c)
+
+pub returns-clause-few : goal.returns-clause-few
+returns-clause-few g c = few-alone c.unroot_whites.new.heaps c.unroot_whites.ensures.order

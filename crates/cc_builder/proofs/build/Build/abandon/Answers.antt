@@ -1,6 +1,7 @@
 use Rattle.std.proofs.Common.{◌≡◌, ◌<◌, ◌≤◌, sym, ◌∙◌, ap, subst, arith}
 use Rattle.cc_model.specs.End.{give_back}
 use Rattle.cc_heaps.specs.Keyed.{changed_to}
+use Rattle.cc_heaps.proofs.FewCounts.{few-alone}
 use Rattle.cc_builder.specs.Building.{Built, snapshot_of}
 use Rattle.cc_builder.proofs.Promises.{IsUnseen, abandoned-unseen, abandoned-suspected}
 use Rattle.cc_builder.proofs.GivingBack.{left_to_give, left-given, left-none}
@@ -39,3 +40,6 @@ returns-clause-colours c = (unseen c).colours
 
 pub returns-clause-keys : goal.returns-clause-keys
 returns-clause-keys c = (unseen c).keys
+
+pub returns-clause-few : goal.returns-clause-few
+returns-clause-few c = few-alone c.loop-i.heaps c.loop-i.invariant.order

@@ -3,6 +3,7 @@ use Rattle.std.proofs.lemmas.List.{length-map}
 use Rattle.cc_lists.proofs.KnownBytes.{on_err_of}
 use Rattle.cc_graph.specs.Shown.{Vertex}
 use Rattle.cc_model.specs.Units.{begun}
+use Rattle.cc_heaps.proofs.FewCounts.{few-alone}
 use Rattle.cc_builder.specs.Building.{vertex_names, snapshot_of}
 use Rattle.cc_builder.proofs.Begun.{snapshot-begun, holders-some_are}
 use Rattle.cc_builder.proofs.Promises.{IsUnseen, with_buffer-unseen, begun-fresh_in, begun-suspected}
@@ -55,3 +56,12 @@ returns-clause-colours c = (unseen c).colours
 
 pub returns-clause-keys : goal.returns-clause-keys
 returns-clause-keys c = (unseen c).keys
+
+pub returns-in_err-build-clause-few : goal.returns-in_err-build-clause-few
+returns-in_err-build-clause-few c = few-alone c.args.heaps.now c.requires.order
+
+pub returns-in_err-add_holders-clause-few : goal.returns-in_err-add_holders-clause-few
+returns-in_err-add_holders-clause-few c = few-alone c.args.heaps.now c.requires.order
+
+pub returns-clause-few : goal.returns-clause-few
+returns-clause-few c = few-alone c.empty_buffer.new.heaps c.empty_buffer.ensures.order
