@@ -1,5 +1,5 @@
 -- COMMANDS ANSWERED: they are refused, or lack memory, or are carried out by what they do.
-use Rattle.std.proofs.Common.{◌≡◌, ◌≢◌, ℕ, ◌+◌, ◌<◌, ◌≤◌, Bool, true, false, [], map, length, nat_le, Option, Some, None, option_map, refl, sym, ◌∙◌, ap, subst}
+use Rattle.std.proofs.Common.{◌≡◌, ◌≢◌, ℕ, ◌+◌, ◌<◌, ◌≤◌, Bool, true, false, [], length, nat_le, Option, Some, None, option_map, refl, sym, ◌∙◌, ap, subst}
 use Rattle.std.proofs.lemmas.Bool.{leb-true, leb-false, le-leb, lt-leb}
 use Rattle.cc_names.specs.declared.name.Name.{Name}
 use Rattle.cc_names.specs.declared.kind.Kind.TheVariants.{Plain}
@@ -9,13 +9,11 @@ use Rattle.cc_names.specs.Names.{native, object}
 use Rattle.cc_model.specs.declared.command.Command.{Command}
 use Rattle.cc_model.specs.declared.command.Command.TheVariants as command
 use Rattle.cc_model.specs.declared.command.Command.TheVariants.{Native, Script, CopyNative, CopyScript, Drop, Set, Get, Put, Take, Expose}
-use Rattle.cc_model.specs.declared.item.Item.TheVariants.{Event as of_event}
 use Rattle.cc_model.specs.declared.item.Refusal.{Refusal}
 use Rattle.cc_model.specs.declared.item.Refusal.TheVariants.{Full, NoMemory}
 use Rattle.cc_model.specs.declared.item.Reply.{Reply}
 use Rattle.cc_model.specs.declared.item.Reply.TheVariants.{Named, Done, Refused}
-use Rattle.cc_model.specs.Telling.{Telling, Tells}
-use Rattle.cc_model.specs.Texts.{texts_of}
+use Rattle.cc_model.specs.Telling.{Telling, TellsEvents}
 use Rattle.cc_model.specs.Checks.{Objects, lacks_object, has_wrong_object, has_no_slot, has_wrong_content, is_full, slots_at, slot_at, named_or_nothing, refusal_of, reply_if_taken}
 use Rattle.cc_model.specs.Heap.{Heap, Outcome, register, source, objects_of, set_register, set_slot, preserve}
 use Rattle.cc_model.specs.Effects.{effects, hold_native, hold_script, make_native, make_object, store_native, takes_memory}
@@ -111,8 +109,8 @@ module _ (c : Command) (old new : Keyed) (before after : Telling) where
 
   -- and one that is carried out where some natives are no more
   pub applied-left : (reply : Reply) (o : Outcome) → refusal_of (objects_of old.heap) c ≡ None →
-      (new.heap ≡ o.heap → Tells before after (texts_of (map of_event o.events)) → IsCarriedOut c old.heap new.heap reply before after) →
-      new ≡ left_with old o.heap → Tells before after (texts_of (map of_event o.events)) → IsInOrder [] new → IsApplied c old new reply before after
+      (new.heap ≡ o.heap → TellsEvents before after o.events → IsCarriedOut c old.heap new.heap reply before after) →
+      new ≡ left_with old o.heap → TellsEvents before after o.events → IsInOrder [] new → IsApplied c old new reply before after
   applied-left reply o none carried e t order =
       applied-done reply none (carried (ap (λ (v : Keyed). v.heap) e) t) (KeepsKeys-left old new o.heap e) order
 
@@ -120,7 +118,7 @@ module _ (c : Command) (old new : Keyed) (before after : Telling) where
 
 module _ (old new : Heap) (reply : Reply) (before after : Telling) where
   abbrev Told : Outcome → Type 0
-  Told o = Tells before after (texts_of (map of_event o.events))
+  Told o = TellsEvents before after o.events
 
   pub carried-native : (d n : ℕ) → reply ≡ Named (native (old.natives_made + 1)) → new ≡ (make_native old d n).heap → Told (make_native old d n) →
       IsCarriedOut (Native d n) old new reply before after

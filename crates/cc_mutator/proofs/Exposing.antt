@@ -1,7 +1,8 @@
 -- AN EXPOSURE OF WHAT IS BLACK CHANGES NOTHING: all that it reaches over slots is black.
-use Rattle.std.proofs.Common.{◌≡◌, ℕ, Bool, true, false, List, [], ◌∷◌, map, Option, Some, None, if◌then◌else◌, refl, sym, ◌∙◌, ap, subst, inl, inr, ⊎_elim}
+use Rattle.std.proofs.Common.{◌≡◌, ℕ, Bool, true, false, [], ◌∷◌, Option, Some, None, if◌then◌else◌, refl, sym, ◌∙◌, ap, subst, inl, ⊎_elim}
 use Rattle.cc_lists.specs.Members.{Among, has}
 use Rattle.cc_lists.proofs.Members.{Among-map_cases, Among-flat_map_cases}
+use Rattle.cc_lists.proofs.ListWrites.{map-unchanged}
 use Rattle.cc_lists.proofs.Least.{derived-within}
 use Rattle.cc_lists.proofs.Closure.{closure-decides}
 use Rattle.cc_names.specs.declared.name.Name.{Name}
@@ -16,11 +17,6 @@ use Rattle.cc_model.specs.Exposure.{as_black, exposed, exposed_names, exposure_r
 use Rattle.cc_laws_heap.proofs.Coloured.{IsColoured}
 use Rattle.cc_laws_heap.proofs.ColourChanges.{IsHeldBlack}
 use Rattle.cc_laws_heap.proofs.Writes.{contents-at}
-
--- a list mapped by what leaves each of its members
-map-left : {X : Type 0} (f : X → X) (xs : List X) → ((x : X) → Among x xs → f x ≡ x) → map f xs ≡ xs
-map-left f [] h = refl
-map-left f (x ∷ xs) h = λ i. h x (inl refl) i ∷ map-left f xs (λ y m. h y (inr m)) i
 
 module _ (h : Heap) (c : IsColoured h) where
   -- script objects of this name are black
@@ -51,7 +47,7 @@ module _ (h : Heap) (c : IsColoured h) where
   exposed-same None black = refl
   exposed-same (Some x) black =
       ap (λ os. record h { scripts = os })
-      (map-left (λ o. if has same_name (exposed_names h x) o.name then as_black o else o) h.scripts
+      (map-unchanged (λ o. if has same_name (exposed_names h x) o.name then as_black o else o) h.scripts
       (λ o m. left o m (has same_name (exposed_names h x) o.name) refl))
     where
       left : (o : HeapScript) → Among o h.scripts → (b : Bool) → has same_name (exposed_names h x) o.name ≡ b → (if b then as_black o else o) ≡ o

@@ -1,25 +1,28 @@
--- WHAT FOLLOWS WHERE A COMMAND IS ANSWERED, by the laws: the heaps go on standing for the graph, snapshots stay fresh,
--- colours keep their invariant, and counts stay small.
+-- WHAT FOLLOWS WHERE A COMMAND IS ANSWERED, by the laws: the reply is the graph's, the heaps go on standing for the graph,
+-- snapshots stay fresh, colours keep their invariant, and counts stay small.
 use Rattle.std.proofs.Common.{◌≡◌, ◌≢◌, Bool, true, false, [], Option, Some, None, IsTrue, refl, sym, ◌∙◌, ap, subst, inl, inr, ◌⊎◌, ⊎_elim, arith}
+use Rattle.std.proofs.lemmas.Bool.{false≢true}
 use Rattle.cc_model.specs.declared.command.Command.{Command}
+use Rattle.cc_model.specs.declared.command.Command.TheVariants.{Native, Script, CopyNative, CopyScript, Drop, Set, Get, Put, Take, Expose}
 use Rattle.cc_model.specs.declared.item.Refusal.{Refusal}
-use Rattle.cc_model.specs.declared.item.Refusal.TheVariants.{Long, Line, Empty, Kind, Slot, Full, NoMemory}
+use Rattle.cc_model.specs.declared.item.Refusal.TheVariants.{NoMemory}
 use Rattle.cc_model.specs.declared.item.Reply.{Reply}
-use Rattle.cc_model.specs.declared.item.Reply.TheVariants.{Named, Nothing, Done, Census, Refused}
+use Rattle.cc_model.specs.declared.item.Reply.TheVariants.{Refused}
 use Rattle.cc_model.specs.Telling.{Telling}
 use Rattle.cc_model.specs.Ranges.{in_range}
-use Rattle.cc_model.specs.Checks.{refusal_of}
+use Rattle.cc_model.specs.Checks.{refusal_of, refused_or, reply_if_taken}
 use Rattle.cc_model.specs.Colours.{HasColourInvariant}
-use Rattle.cc_model.specs.Effects.{effects}
+use Rattle.cc_model.specs.Effects.{effects, takes_memory}
 use Rattle.cc_model.specs.Fresh.{IsFresh}
-use Rattle.cc_model.specs.Graph.{Graph, step, unless_refused, changed}
+use Rattle.cc_model.specs.Graph.{Graph, step, reply_to, unless_refused, changed}
 use Rattle.cc_model.specs.Graph as graph
 use Rattle.cc_model.specs.Heap.{Heap, objects_of}
-use Rattle.cc_model.specs.Lawful.{graph_after, is_without_memory}
+use Rattle.cc_model.specs.Lawful.{State, RepliesWith, graph_after, is_without_memory, may_want_memory}
 use Rattle.cc_model.specs.Snapshot.{Snapshot}
 use Rattle.cc_model.specs.StandsFor.{StandsFor}
 use Rattle.cc_model.specs.View.{view}
 use Rattle.cc_model.specs.WellMade.{IsWellMade}
+use Rattle.cc_model.proofs.Replies.{is_without_memory-true}
 use Rattle.cc_laws_heap.proofs.Taken.{IsTaken-from}
 use Rattle.cc_laws_heap.proofs.Coloured.{AreColoured-from_view, HasColourInvariant-from}
 use Rattle.cc_laws_heap.proofs.CommandsColours.{effects-coloured}
@@ -27,30 +30,32 @@ use Rattle.cc_laws_heap.proofs.CommandsSound.{effects-sound}
 use Rattle.cc_laws_heap.proofs.GraphCommands.{step-well}
 use Rattle.cc_laws_heap.proofs.CommandsStand.{command-stands}
 use Rattle.cc_laws_heap.proofs.CountBound.{count-bound}
-use Rattle.cc_laws_heap.proofs.RepliesAlike.{refusal_of-alike, objects-stand}
+use Rattle.cc_laws_heap.proofs.RepliesAlike.{refusal_of-alike, reply_if_taken-alike, objects-stand}
 use Rattle.cc_laws_snapshot.proofs.CommandsGentle.{effects-fresh}
 use Rattle.cc_heaps.specs.Few.{AreFew}
 use Rattle.cc_heaps.specs.Standing.{StandsAfter}
 use Rattle.cc_heaps.specs.Keyed.{Keyed, IsInOrder}
+use Rattle.cc_mutator.specs.Applied.{is_applied}
 use Rattle.cc_mutator.specs.Commands.{IsApplied}
 
 -- Want of memory
 
-without-memory : (r : Reply) → is_without_memory r ≡ true → r ≡ Refused NoMemory
-without-memory (Named x) e = absurd (cc)
-without-memory Nothing e = absurd (cc)
-without-memory Done e = absurd (cc)
-without-memory (Census n) e = absurd (cc)
-without-memory (Refused Long) e = absurd (cc)
-without-memory (Refused Line) e = absurd (cc)
-without-memory (Refused Empty) e = absurd (cc)
-without-memory (Refused Kind) e = absurd (cc)
-without-memory (Refused Slot) e = absurd (cc)
-without-memory (Refused Full) e = absurd (cc)
-without-memory (Refused NoMemory) e = refl
-
 with-memory : (r : Reply) → is_without_memory r ≡ false → r ≢ Refused NoMemory
 with-memory r e f = let t : is_without_memory r ≡ true = ap is_without_memory f in absurd (cc)
+
+-- a command that takes memory here may want it
+takes-may_want : (h : Heap) (s : State) (c : Command) → IsTrue (is_applied c) → takes_memory h c ≡ true → IsTrue (may_want_memory s c)
+takes-may_want h s (Native d n) applied takes = refl
+takes-may_want h s (Script d n) applied takes = refl
+takes-may_want h s (CopyNative d r) applied takes = absurd (false≢true takes)
+takes-may_want h s (CopyScript d r) applied takes = absurd (false≢true takes)
+takes-may_want h s (Drop r) applied takes = absurd (false≢true takes)
+takes-may_want h s (Set d i r) applied takes = absurd (false≢true takes)
+takes-may_want h s (Get r n i) applied takes = absurd (false≢true takes)
+takes-may_want h s (Put d i r) applied takes = absurd (false≢true takes)
+takes-may_want h s (Take d r i) applied takes = absurd (false≢true takes)
+takes-may_want h s (Expose r i) applied takes = absurd (false≢true takes)
+takes-may_want h s _ applied takes = absurd (false≢true applied)
 
 module _ (c : Command) (old new : Keyed) (reply : Reply) (before after : Telling) (a : IsApplied c old new reply before after) where
   -- WHAT HAPPENED: nothing, or the effects of the command, where it is not refused
@@ -60,8 +65,27 @@ module _ (c : Command) (old new : Keyed) (reply : Reply) (before after : Telling
       go : (o : Option Refusal) → refusal_of (objects_of old.heap) c ≡ o → (b : Bool) → is_without_memory reply ≡ b →
           (new.heap ≡ old.heap) ⊎ ((refusal_of (objects_of old.heap) c ≡ None) × (new.heap ≡ (effects old.heap c).heap))
       go (Some r) e b f = inl (ap (λ (v : Keyed). v.heap) (a.refused r e).1)
-      go None e true f = inl (ap (λ (v : Keyed). v.heap) (a.memory (without-memory reply f)).2)
+      go None e true f = inl (ap (λ (v : Keyed). v.heap) (a.memory (is_without_memory-true reply f)).2)
       go None e false f = inr (e, (a.done e (with-memory reply f)).heap)
+
+  -- THE REPLY IS THE GRAPH'S, for each graph that the heaps stand for, or want of memory
+  pub applied-replies : IsTrue (is_applied c) → (s : State) → StandsFor old.heap s.graph → RepliesWith s c reply
+  applied-replies applied s stands = go (refusal_of (objects_of old.heap) c) refl (is_without_memory reply) refl
+    where
+      alike : refusal_of (objects_of old.heap) c ≡ refusal_of (graph.objects_of s.graph) c
+      alike = refusal_of-alike (objects_of old.heap) (graph.objects_of s.graph) (objects-stand old.heap s.graph stands) c
+
+      -- the graph's reply, where it refuses so
+      refusing : (o : Option Refusal) → refusal_of (objects_of old.heap) c ≡ o → refused_or o (reply_if_taken (graph.objects_of s.graph) c) ≡ reply_to s.graph c
+      refusing o e = ap (λ r. refused_or r (reply_if_taken (graph.objects_of s.graph) c)) (sym e ∙ alike)
+
+      go : (o : Option Refusal) → refusal_of (objects_of old.heap) c ≡ o → (b : Bool) → is_without_memory reply ≡ b → RepliesWith s c reply
+      go (Some r) e b f = inl ((a.refused r e).0 ∙ refusing (Some r) e)
+      go None e true f =
+          let without : reply ≡ Refused NoMemory = is_without_memory-true reply f in
+          inr (record { refused = without; command_may = takes-may_want old.heap s c applied (a.memory without).1; no_other = sym alike ∙ e })
+      go None e false f = inl ((a.done e (with-memory reply f)).reply_is
+          ∙ (reply_if_taken-alike (objects_of old.heap) (graph.objects_of s.graph) (objects-stand old.heap s.graph stands) c ∙ refusing None e))
 
   module _ (order : IsInOrder [] old) (range : IsTrue (in_range c)) where
     pub applied-fresh : (s : Snapshot) → IsFresh old.heap.natives_made (view old.heap) s → IsFresh new.heap.natives_made (view new.heap) s
@@ -99,5 +123,5 @@ module _ (c : Command) (old new : Keyed) (reply : Reply) (before after : Telling
             subst (λ h. StandsFor h (step g c)) (sym (a.done e (with-memory reply f)).heap) (command-stands old.heap g c order.sound made stands range e)
 
         go : (b : Bool) → is_without_memory reply ≡ b → StandsFor new.heap (elim b [ true ↦ g | false ↦ step g c ])
-        go true f = subst (λ h. StandsFor h g) (sym (ap (λ (v : Keyed). v.heap) (a.memory (without-memory reply f)).2)) stands
+        go true f = subst (λ h. StandsFor h g) (sym (ap (λ (v : Keyed). v.heap) (a.memory (is_without_memory-true reply f)).2)) stands
         go false f = by_refusal (refusal_of (objects_of old.heap) c) refl f

@@ -1,5 +1,5 @@
 -- THE SCRIPT OBJECT THAT A REGISTER HOLDS, by its key: its slots, what they hold, and its colour.
-use Rattle.std.proofs.Common.{◌≡◌, ℕ, zero, suc, ◌==◌, ◌≤◌, true, false, List, [], ◌∷◌, map, length, get_or, count_by, Option, Some, None, is_some, option_map, option_and_then, IsTrue, IfSome, refl, sym, ◌∙◌, ap, subst, inl, inr}
+use Rattle.std.proofs.Common.{◌≡◌, ℕ, ◌==◌, ◌≤◌, true, false, List, map, length, get_or, count_by, Option, Some, None, is_some, option_map, option_and_then, IsTrue, IfSome, refl, sym, ◌∙◌, ap, subst, inl}
 use Rattle.std.specs.Option.{option_to_list}
 use Rattle.std.specs.Prelude.{is_none}
 use Rattle.std.proofs.Math.ListN.{get_or-map}
@@ -10,6 +10,7 @@ use Rattle.cc_lists.specs.Members.{Among}
 use Rattle.cc_lists.proofs.Members.{Among-map_cases}
 use Rattle.cc_lists.proofs.Counting.{count_by-map}
 use Rattle.cc_lists.proofs.Filtering.{find-among}
+use Rattle.cc_lists.proofs.Places.{among-get}
 use Rattle.cc_lists.proofs.Searching.{find-only}
 use Rattle.cc_names.specs.declared.name.Name.{Name}
 use Rattle.cc_names.specs.declared.name.Name.TheVariants as name
@@ -37,12 +38,6 @@ pub record IsObjectAt (v : Keyed) (r key : ℕ) : Type 0 where
   pub object : Object
   pub at : object_at v.scripts key ≡ Some object
   pub held : register v.heap (S r) ≡ Some object.name
-
--- what stands at a place of a list stands in it
-among-get : (slots : List (Option ℕ)) (i q : ℕ) → get_or slots i None ≡ Some q → Among (Some q) slots
-among-get [] i q e = absurd (cc)
-among-get (x ∷ xs) zero q e = inl e
-among-get (x ∷ xs) (suc i) q e = inr (among-get xs i q e)
 
 -- a plain object has the name of one, and at most 64 slots
 plain-named : (x : Name) (slots : Slots) → FitsName x Plain slots → (k : ℕ) × (x ≡ object k) × (length slots ≤ 64)

@@ -1,11 +1,9 @@
 -- WHAT A COMMAND OF THE MUTATOR COMES TO.
-use Rattle.std.specs.Prelude.{◌≡◌, Bool, true, false, map}
+use Rattle.std.specs.Prelude.{◌≡◌, Bool, true, false}
 use Rattle.cc_model.specs.declared.command.Command.{Command}
 use Rattle.cc_model.specs.declared.command.Command.TheVariants.{Native, Script, CopyNative, CopyScript, Drop, Set, Get, Put, Take, Expose}
-use Rattle.cc_model.specs.declared.item.Item.TheVariants.{Event as of_event}
 use Rattle.cc_model.specs.declared.item.Reply.{Reply}
-use Rattle.cc_model.specs.Telling.{Telling, Tells}
-use Rattle.cc_model.specs.Texts.{texts_of}
+use Rattle.cc_model.specs.Telling.{Telling, TellsEvents}
 use Rattle.cc_model.specs.Checks.{reply_if_taken}
 use Rattle.cc_model.specs.Heap.{Heap, objects_of}
 use Rattle.cc_model.specs.Effects.{effects}
@@ -28,4 +26,4 @@ is_applied _ = false
 pub record IsCarriedOut (c : Command) (old new : Heap) (reply : Reply) (before after : Telling) : Type 0 where
   pub reply_is : reply ≡ reply_if_taken (objects_of old) c
   pub heap : new ≡ (effects old c).heap
-  pub told : Tells before after (texts_of (map of_event (effects old c).events))
+  pub told : TellsEvents before after (effects old c).events

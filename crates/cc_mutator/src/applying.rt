@@ -1,30 +1,26 @@
 //! Each command of the mutator, done on the heaps.
-ghost use Rattle.std.specs.Prelude.{◌≡◌, ◌≢◌, ◌<◌, ◌≤◌, ℕ, IsTrue, IfSome, true, List, [], length, map, Some, None};
+ghost use Rattle.std.specs.Prelude.{◌≡◌, ◌≢◌, ◌<◌, ◌≤◌, IsTrue, IfSome, true, [], length, Some, None};
 ghost use Rattle.cc_names.specs.declared.kind.Colour.TheVariants.{Black};
 ghost use Rattle.cc_names.specs.declared.register.Reg.TheVariants.{N as n_register, S as s_register};
 ghost use Rattle.cc_model.specs.declared.command.Command.TheVariants.{Native, Script, CopyNative, CopyScript, Drop, Set, Get, Put, Take, Expose};
-ghost use Rattle.cc_model.specs.declared.item.Item.TheVariants.{Event as of_event};
 ghost use Rattle.cc_model.specs.declared.item.Refusal.{Refusal};
 ghost use Rattle.cc_model.specs.declared.item.Refusal.TheVariants.{NoMemory as no_memory};
 ghost use Rattle.cc_model.specs.declared.item.Reply.TheVariants.{Refused as refused};
-ghost use Rattle.cc_model.specs.Telling.{Telling, Tells};
-ghost use Rattle.cc_model.specs.Texts.{texts_of};
+ghost use Rattle.cc_model.specs.Telling.{Telling, TellsEvents};
 ghost use Rattle.cc_model.specs.Checks.{refusal_of, slots_at};
 ghost use Rattle.cc_model.specs.Colours.{HasColourInvariant};
 ghost use Rattle.cc_model.specs.Effects.{store_native, takes_memory};
 ghost use Rattle.cc_model.specs.Exposure.{exposed};
-ghost use Rattle.cc_model.specs.Fresh.{IsFresh};
 ghost use Rattle.cc_model.specs.Heap.{objects_of, register, set_slot};
-ghost use Rattle.cc_model.specs.Lawful.{graph_after};
+ghost use Rattle.cc_model.specs.Lawful.{State, RepliesWith, graph_after};
 ghost use Rattle.cc_model.specs.Ranges.{in_range};
-ghost use Rattle.cc_model.specs.Snapshot.{Snapshot};
-ghost use Rattle.cc_model.specs.Suspected.{IsSuspected};
+ghost use Rattle.cc_model.specs.StandsFor.{StandsFor};
 ghost use Rattle.cc_model.specs.View.{view};
 ghost use Rattle.cc_script.specs.Objects.{colour_at};
 ghost use Rattle.cc_heaps.specs.Keyed.{IsInOrder, left_with};
 ghost use Rattle.cc_heaps.specs.Changes.{IsScriptThere, IsThere, KeepsKeys, held_name, script_name};
 ghost use Rattle.cc_heaps.specs.Few.{AreFew};
-ghost use Rattle.cc_heaps.specs.Standing.{StandsAfter};
+ghost use Rattle.cc_heaps.specs.Standing.{StandsAfter, KeepsFresh, KeepsSuspected};
 ghost use Rattle.cc_mutator.specs.Applied.{is_applied, IsCarriedOut};
 ghost use Rattle.cc_mutator.specs.Commands.{IsApplied};
 
@@ -125,8 +121,7 @@ fn store<N: Notices>(heaps: &mut Heaps, d: u8, i: u32, content: Option<Held>, ou
     requires slot { i < length (slots_at (objects_of heaps.old.heap) (n_register d)) }
     requires there { IsThere heaps.old content }
     ensures heap { heaps.new ≡ left_with heaps.old (store_native heaps.old.heap d i (held_name heaps.old content)).heap }
-    ensures told { Tells (N.telling out.old) (N.telling out.new)
-        (texts_of (map of_event (store_native heaps.old.heap d i (held_name heaps.old content)).events)) }
+    ensures told { TellsEvents (N.telling out.old) (N.telling out.new) (store_native heaps.old.heap d i (held_name heaps.old content)).events }
     ensures order { IsInOrder [] heaps.new }
 {
     match heaps.native_reg(d) {
@@ -286,8 +281,9 @@ fn answer<N: Notices>(heaps: &mut Heaps, command: &Command, out: &mut N) -> Repl
 /// A command that is refused changes nothing and tells nothing. Memory is wanted by `native` and `script` alone, where
 /// they are not refused; without it they change nothing and tell nothing either.
 ///
-/// Afterwards the heaps stand for the graph that the reply makes of each one that they stood for, each snapshot that was
-/// fresh is fresh, and no native that nothing reaches is forgotten, whatever the candidates of a running collection are.
+/// The reply is that of each graph that the heaps stand for, or it is want of memory where that graph does not refuse the
+/// command. Afterwards the heaps stand for the graph's step, or without memory for the graph as it was; each snapshot that
+/// was fresh is fresh, and no native that nothing reaches is forgotten, whatever the candidates of a running collection are.
 pub fn apply<N: Notices>(heaps: &mut Heaps, command: &Command, out: &mut N) -> Reply
     requires applied { IsTrue (is_applied command.now) }
     requires in_range { IsTrue (in_range command.now) }
@@ -300,10 +296,10 @@ pub fn apply<N: Notices>(heaps: &mut Heaps, command: &Command, out: &mut N) -> R
     ensures memory { result ≡ refused no_memory →
         (refusal_of (objects_of heaps.old.heap) command.now ≡ None) × (takes_memory heaps.old.heap command.now ≡ true)
         × (heaps.new ≡ heaps.old) × (N.telling out.new ≡ N.telling out.old) }
+    ensures replies { (s : State) → StandsFor heaps.old.heap s.graph → RepliesWith s command.now result }
     ensures stands { StandsAfter heaps.old.heap heaps.new.heap (λ g. graph_after g command.now (Some result)) }
-    ensures fresh { (s : Snapshot) → IsFresh heaps.old.heap.natives_made (view heaps.old.heap) s →
-        IsFresh heaps.new.heap.natives_made (view heaps.new.heap) s }
-    ensures suspected { (candidates : List ℕ) → IsSuspected (view heaps.old.heap) candidates → IsSuspected (view heaps.new.heap) candidates }
+    ensures fresh { KeepsFresh heaps.old.heap heaps.new.heap }
+    ensures suspected { KeepsSuspected heaps.old.heap heaps.new.heap }
     ensures counts { AreFew heaps.new.heap }
     ensures keys { KeepsKeys heaps.old heaps.new }
     ensures colours { HasColourInvariant (view heaps.new.heap) }

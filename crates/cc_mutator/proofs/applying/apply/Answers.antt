@@ -1,6 +1,11 @@
-use Rattle.cc_mutator.proofs.Following.{applied-fresh, applied-colours, applied-few, applied-stands}
+use Rattle.cc_mutator.proofs.Following.{applied-replies, applied-fresh, applied-colours, applied-few, applied-stands}
 use Rattle.cc_mutator.proofs.Remembering.{applied-remembers}
 use Rattle.cc_mutator.proofs.applying.apply.Goals as goal
+
+pub returns-clause-replies : goal.returns-clause-replies
+returns-clause-replies g c =
+    applied-replies c.args.command.now c.args.heaps.now c.answer.new.heaps c.answer.result (g.N.Notices.telling c.args.out.now) (g.N.Notices.telling c.answer.new.out)
+    c.answer.ensures c.requires.applied
 
 pub returns-clause-stands : goal.returns-clause-stands
 returns-clause-stands g c = λ h made stands.

@@ -1,9 +1,7 @@
-use Rattle.std.proofs.Common.{◌≡◌, ◌<◌, [], Some, map, sym, ◌∙◌, ap, subst, arith}
+use Rattle.std.proofs.Common.{◌≡◌, ◌<◌, [], Some, sym, ◌∙◌, ap, subst, arith}
 use Rattle.cc_names.specs.declared.register.Reg.TheVariants.{N}
 use Rattle.cc_names.specs.Names.{native}
-use Rattle.cc_model.specs.declared.item.Item.TheVariants.{Event as of_event}
-use Rattle.cc_model.specs.Telling.{Tells}
-use Rattle.cc_model.specs.Texts.{texts_of}
+use Rattle.cc_model.specs.Telling.{TellsEvents}
 use Rattle.cc_model.specs.Heap.{Outcome, register}
 use Rattle.cc_counted.specs.Counts.{number_or_none}
 use Rattle.cc_heaps.specs.Keyed.{left_with, the_number}
@@ -29,6 +27,6 @@ returns g c =
     let stored = stored-store v.heap c.args.d (the_number v c.in-Some.key.0) c.args.i (held_name v c.args.content) held in
     record {
       heap = subst (λ (o : Outcome). c.store_native.new.self ≡ left_with v o.heap) stored e.heap;
-      told = subst (λ (o : Outcome). Tells (g.N.Notices.telling c.args.out.now) (g.N.Notices.telling c.store_native.new.out) (texts_of (map of_event o.events))) stored e.told;
+      told = subst (λ (o : Outcome). TellsEvents (g.N.Notices.telling c.args.out.now) (g.N.Notices.telling c.store_native.new.out) o.events) stored e.told;
       order = e.order;
     }
