@@ -9,6 +9,7 @@ use Rattle.cc_model.specs.declared.item.Refusal.TheVariants.{NoMemory}
 use Rattle.cc_model.specs.declared.item.Reply.{Reply}
 use Rattle.cc_model.specs.declared.item.Reply.TheVariants.{Refused}
 use Rattle.cc_model.specs.Telling.{Telling}
+use Rattle.cc_model.specs.AppliedNow.{is_applied}
 use Rattle.cc_model.specs.Ranges.{in_range}
 use Rattle.cc_model.specs.Checks.{refusal_of, refused_or, reply_if_taken}
 use Rattle.cc_model.specs.Colours.{HasColourInvariant}
@@ -35,7 +36,6 @@ use Rattle.cc_laws_snapshot.proofs.CommandsGentle.{effects-fresh}
 use Rattle.cc_heaps.specs.Few.{AreFew}
 use Rattle.cc_heaps.specs.Standing.{StandsAfter}
 use Rattle.cc_heaps.specs.Keyed.{Keyed, IsInOrder}
-use Rattle.cc_mutator.specs.Applied.{is_applied}
 use Rattle.cc_mutator.specs.Commands.{IsApplied}
 
 -- Want of memory

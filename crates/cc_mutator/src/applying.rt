@@ -13,6 +13,7 @@ ghost use Rattle.cc_model.specs.Effects.{store_native, takes_memory};
 ghost use Rattle.cc_model.specs.Exposure.{exposed};
 ghost use Rattle.cc_model.specs.Heap.{objects_of, register, set_slot};
 ghost use Rattle.cc_model.specs.Lawful.{State, RepliesWith, graph_after};
+ghost use Rattle.cc_model.specs.AppliedNow.{is_applied};
 ghost use Rattle.cc_model.specs.Ranges.{in_range};
 ghost use Rattle.cc_model.specs.StandsFor.{StandsFor};
 ghost use Rattle.cc_model.specs.View.{view};
@@ -21,7 +22,7 @@ ghost use Rattle.cc_heaps.specs.Keyed.{IsInOrder, left_with};
 ghost use Rattle.cc_heaps.specs.Changes.{IsScriptThere, IsThere, KeepsKeys, held_name, script_name};
 ghost use Rattle.cc_heaps.specs.Few.{AreFew};
 ghost use Rattle.cc_heaps.specs.Standing.{StandsAfter, KeepsFresh, KeepsSuspected};
-ghost use Rattle.cc_mutator.specs.Applied.{is_applied, IsCarriedOut};
+ghost use Rattle.cc_mutator.specs.Applied.{IsCarriedOut};
 ghost use Rattle.cc_mutator.specs.Commands.{IsApplied};
 
 use crate::checks::{
@@ -115,7 +116,7 @@ fn empty<N: Notices>(heaps: &mut Heaps, r: Reg, out: &mut N) -> Reply
     }
 }
 
-/// Writes slot `i` of what a native register holds.
+/// Writes slot `i` of the native in a register.
 fn store<N: Notices>(heaps: &mut Heaps, d: u8, i: u32, content: Option<Held>, out: &mut N)
     requires order { IsInOrder [] heaps.old }
     requires slot { i < length (slots_at (objects_of heaps.old.heap) (n_register d)) }
@@ -130,7 +131,7 @@ fn store<N: Notices>(heaps: &mut Heaps, d: u8, i: u32, content: Option<Held>, ou
     }
 }
 
-/// Writes slot `i` of what a native register holds with what a source gives.
+/// Writes what a source gives into slot `i` of the native in a register.
 fn set<N: Notices>(heaps: &mut Heaps, d: u8, i: u32, from: Option<Reg>, out: &mut N) -> Reply
     requires order { IsInOrder [] heaps.old }
     ensures { IsApplied (Set d i from) heaps.old heaps.new result (N.telling out.old) (N.telling out.new) }
@@ -143,7 +144,7 @@ fn set<N: Notices>(heaps: &mut Heaps, d: u8, i: u32, from: Option<Reg>, out: &mu
     Reply::Done
 }
 
-/// Reads slot `i` of what a native register holds into a native register.
+/// Reads slot `i` of the native in a register into a native register.
 fn get_native<N: Notices>(heaps: &mut Heaps, d: u8, s: u8, i: u32, out: &mut N) -> Reply
     requires order { IsInOrder [] heaps.old }
     ensures { IsApplied (Get (n_register d) s i) heaps.old heaps.new result (N.telling out.old) (N.telling out.new) }
@@ -157,7 +158,7 @@ fn get_native<N: Notices>(heaps: &mut Heaps, d: u8, s: u8, i: u32, out: &mut N) 
     reply
 }
 
-/// Reads slot `i` of what a native register holds into a script register.
+/// Reads slot `i` of the native in a register into a script register.
 fn get_script(heaps: &mut Heaps, d: u8, s: u8, i: u32) -> Reply
     requires order { IsInOrder [] heaps.old }
     ensures { (t : Telling) → IsApplied (Get (s_register d) s i) heaps.old heaps.new result t t }
@@ -171,7 +172,7 @@ fn get_script(heaps: &mut Heaps, d: u8, s: u8, i: u32) -> Reply
     reply
 }
 
-/// Reads slot `i` of what a native register holds.
+/// Reads slot `i` of the native in a register into a register of either kind.
 fn get<N: Notices>(heaps: &mut Heaps, d: Reg, s: u8, i: u32, out: &mut N) -> Reply
     requires order { IsInOrder [] heaps.old }
     ensures { IsApplied (Get d s i) heaps.old heaps.new result (N.telling out.old) (N.telling out.new) }
@@ -182,7 +183,7 @@ fn get<N: Notices>(heaps: &mut Heaps, d: Reg, s: u8, i: u32, out: &mut N) -> Rep
     }
 }
 
-/// Writes slot `i` of what a script register holds.
+/// Writes slot `i` of the script object in a register.
 fn store_plain(heaps: &mut Heaps, d: u8, i: u32, content: Option<SKey>)
     requires order { IsInOrder [] heaps.old }
     requires slot { i < length (slots_at (objects_of heaps.old.heap) (s_register d)) }
@@ -198,7 +199,7 @@ fn store_plain(heaps: &mut Heaps, d: u8, i: u32, content: Option<SKey>)
     }
 }
 
-/// Writes slot `i` of what a script register holds with what a source gives.
+/// Writes what a source gives into slot `i` of the script object in a register.
 fn put(heaps: &mut Heaps, d: u8, i: u32, from: Option<u8>) -> Reply
     requires order { IsInOrder [] heaps.old }
     requires colours { HasColourInvariant (view heaps.old.heap) }
@@ -212,7 +213,7 @@ fn put(heaps: &mut Heaps, d: u8, i: u32, from: Option<u8>) -> Reply
     Reply::Done
 }
 
-/// Reads slot `i` of what a script register holds.
+/// Reads slot `i` of the script object in a register into a script register.
 fn take(heaps: &mut Heaps, d: u8, s: u8, i: u32) -> Reply
     requires order { IsInOrder [] heaps.old }
     ensures { (t : Telling) → IsApplied (Take d s i) heaps.old heaps.new result t t }
@@ -226,7 +227,7 @@ fn take(heaps: &mut Heaps, d: u8, s: u8, i: u32) -> Reply
     reply
 }
 
-/// Script touches what a slot held.
+/// Script touches what a slot held; nothing where the slot was empty.
 fn touch(heaps: &mut Heaps, content: Option<SKey>)
     requires order { IsInOrder [] heaps.old }
     requires there { IsScriptThere heaps.old content }
@@ -239,7 +240,7 @@ fn touch(heaps: &mut Heaps, content: Option<SKey>)
     }
 }
 
-/// Script touches what slot `i` of what a native register holds holds.
+/// Script touches the object in slot `i` of the native in a register.
 fn expose(heaps: &mut Heaps, s: u8, i: u32) -> Reply
     requires order { IsInOrder [] heaps.old }
     ensures { (t : Telling) → IsApplied (Expose s i) heaps.old heaps.new result t t }
@@ -253,7 +254,7 @@ fn expose(heaps: &mut Heaps, s: u8, i: u32) -> Reply
     reply
 }
 
-/// A command by its kind.
+/// Does a command by the function of its kind.
 fn answer<N: Notices>(heaps: &mut Heaps, command: &Command, out: &mut N) -> Reply
     requires applied { IsTrue (is_applied command.now) }
     requires in_range { IsTrue (in_range command.now) }

@@ -59,7 +59,7 @@ fn is_script(content: Option<Held>) -> bool
     }
 }
 
-/// Whether slot `i` of what a native register holds holds a native.
+/// Whether slot `i` of the native in a register holds a native.
 fn holds_native(heaps: &Heaps, s: u8, i: u32) -> bool
     requires order { IsInOrder [] heaps.now }
     requires slot { i < length (slots_at (objects_of heaps.now.heap) (n_register s)) }
@@ -68,7 +68,7 @@ fn holds_native(heaps: &Heaps, s: u8, i: u32) -> bool
     is_native(native_content(heaps, s, i))
 }
 
-/// Whether slot `i` of what a native register holds holds a script object.
+/// Whether slot `i` of the native in a register holds a script object.
 fn holds_script(heaps: &Heaps, s: u8, i: u32) -> bool
     requires order { IsInOrder [] heaps.now }
     requires slot { i < length (slots_at (objects_of heaps.now.heap) (n_register s)) }
@@ -77,7 +77,7 @@ fn holds_script(heaps: &Heaps, s: u8, i: u32) -> bool
     is_script(native_content(heaps, s, i))
 }
 
-/// Why a slot of what a register holds is neither read nor written, whatever the slot holds.
+/// Why slot `i` of the object in a register is neither read nor written, whatever the slot holds.
 fn refusal_of_slot(heaps: &Heaps, r: Reg, i: u32) -> Option<Refusal>
     requires { IsInOrder [] heaps.now }
     ensures { result ≡ first_refusal ((is_none (register heaps.now.heap r), empty) ∷ (nat_le (length (slots_at (objects_of heaps.now.heap) r)) i, no_slot) ∷ []) }

@@ -12,7 +12,7 @@ use cc_heaps::Heaps;
 use cc_model::Reply;
 use cc_names::{NKey, Name, Reg, SKey};
 
-/// How many slots what a native register holds has: none where the register is empty.
+/// How many slots the native in a register has; 0 where the register is empty.
 fn native_slots(heaps: &Heaps, r: u8) -> u8
     requires { IsInOrder [] heaps.now }
     ensures { result ≡ length (slots_at (objects_of heaps.now.heap) (n_register r)) }
@@ -23,7 +23,7 @@ fn native_slots(heaps: &Heaps, r: u8) -> u8
     }
 }
 
-/// How many slots what a script register holds has: none where the register is empty.
+/// How many slots the script object in a register has; 0 where the register is empty.
 fn script_slots(heaps: &Heaps, r: u8) -> u8
     requires { IsInOrder [] heaps.now }
     ensures { result ≡ length (slots_at (objects_of heaps.now.heap) (s_register r)) }
@@ -34,7 +34,7 @@ fn script_slots(heaps: &Heaps, r: u8) -> u8
     }
 }
 
-/// How many slots what a register holds has: none where the register is empty.
+/// How many slots the object in a register of either kind has; 0 where the register is empty.
 pub(crate) fn slots(heaps: &Heaps, r: Reg) -> u8
     requires { IsInOrder [] heaps.now }
     ensures { result ≡ length (slots_at (objects_of heaps.now.heap) r) }
@@ -45,7 +45,7 @@ pub(crate) fn slots(heaps: &Heaps, r: Reg) -> u8
     }
 }
 
-/// What slot `i` of what a native register holds holds.
+/// The content of slot `i` of the native in a register.
 pub(crate) fn native_content(heaps: &Heaps, r: u8, i: u32) -> Option<Held>
     requires order { IsInOrder [] heaps.now }
     requires slot { i < length (slots_at (objects_of heaps.now.heap) (n_register r)) }
@@ -58,7 +58,7 @@ pub(crate) fn native_content(heaps: &Heaps, r: u8, i: u32) -> Option<Held>
     }
 }
 
-/// What slot `i` of what a script register holds holds.
+/// The content of slot `i` of the script object in a register.
 pub(crate) fn script_content(heaps: &Heaps, r: u8, i: u32) -> Option<SKey>
     requires order { IsInOrder [] heaps.now }
     requires slot { i < length (slots_at (objects_of heaps.now.heap) (s_register r)) }
@@ -71,7 +71,7 @@ pub(crate) fn script_content(heaps: &Heaps, r: u8, i: u32) -> Option<SKey>
     }
 }
 
-/// A native, or nothing, as a slot holds it.
+/// A content of a native register, as a slot of a native holds it.
 fn of_native(content: Option<NKey>) -> Option<Held>
     ensures { result ≡ held_native content }
 {
@@ -81,7 +81,7 @@ fn of_native(content: Option<NKey>) -> Option<Held>
     }
 }
 
-/// A script object, or nothing, as a slot holds it.
+/// A content of a script register, as a slot of a native holds it.
 fn of_script(content: Option<SKey>) -> Option<Held>
     ensures { result ≡ held_script content }
 {
@@ -91,7 +91,7 @@ fn of_script(content: Option<SKey>) -> Option<Held>
     }
 }
 
-/// The native that a slot holds, where it holds no script object.
+/// The native in a content that is no script object.
 pub(crate) fn as_native(content: Option<Held>) -> Option<NKey>
     requires { is_script_held content ≡ false }
     ensures { held_native result ≡ content }
@@ -103,7 +103,7 @@ pub(crate) fn as_native(content: Option<Held>) -> Option<NKey>
     }
 }
 
-/// The script object that a slot holds, where it holds no native.
+/// The script object in a content that is no native.
 pub(crate) fn as_script(content: Option<Held>) -> Option<SKey>
     requires { is_native_held content ≡ false }
     ensures { held_script result ≡ content }
@@ -115,7 +115,7 @@ pub(crate) fn as_script(content: Option<Held>) -> Option<SKey>
     }
 }
 
-/// What a register holds.
+/// What a register of either kind holds.
 pub(crate) fn register_content(heaps: &Heaps, r: Reg) -> Option<Held>
     ensures name { held_name heaps.now result ≡ register heaps.now.heap r }
     ensures there { IsThere heaps.now result }

@@ -1,9 +1,11 @@
+//! Each command once over small heaps, with its reply and what it tells.
+
 ghost use Rattle.std.specs.Prelude.{[], IfOk, IsTrue};
 ghost use Rattle.cc_model.specs.Colours.{HasColourInvariant};
 ghost use Rattle.cc_model.specs.Ranges.{in_range};
 ghost use Rattle.cc_model.specs.View.{view};
 ghost use Rattle.cc_heaps.specs.Keyed.{IsInOrder};
-ghost use Rattle.cc_mutator.specs.Applied.{is_applied};
+ghost use Rattle.cc_model.specs.AppliedNow.{is_applied};
 
 use super::*;
 use cc_heaps::Heaps;

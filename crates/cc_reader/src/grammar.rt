@@ -1,3 +1,5 @@
+//! Commands read off the tokens of a line, one function for each word.
+
 ghost use Rattle.std.specs.Prelude.{◌≡◌, ◌<◌, [], ◌∷◌, length, IsTrue, IfSome};
 ghost use Rattle.cc_model.specs.Lines.{without_return};
 ghost use Rattle.cc_model.specs.Tokens.{tokens_of};

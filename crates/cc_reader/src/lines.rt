@@ -1,3 +1,5 @@
+//! The lines of a source, one after the other.
+
 ghost use Rattle.std.specs.Prelude.{◌≡◌, ◌≢◌, ℕ, ◌<◌, ◌≤◌, List, [], ◌∷◌, ◌++◌, length, Option, Ok, Err, OnOk, IfOk, false, true, OnErr};
 ghost use Rattle.cc_lists.specs.Faults.{Rose};
 ghost use Rattle.cc_reader.specs.HasRead.{HasRead, ReadsOn};

@@ -1,3 +1,5 @@
+//! Why reading stops before the end.
+
 /// Why reading stopped before the end.
 #[derive(Clone, Copy, Debug, PartialEq, Eq, Drop)]
 pub enum ReadStop {

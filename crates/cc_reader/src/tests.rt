@@ -1,3 +1,5 @@
+//! Lines and commands of short inputs.
+
 use super::*;
 use cc_model::Command;
 use cc_names::Reg;

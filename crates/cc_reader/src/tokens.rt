@@ -1,3 +1,5 @@
+//! The tokens of a line, and the numbers and registers that they name.
+
 ghost use Rattle.std.specs.Prelude.{◌≡◌, ◌≢◌, ◌<◌, ◌≤◌, [], ◌∷◌, length, slice_index, IsTrue, IfNone, IfSome};
 ghost use Rattle.cc_model.specs.Tokens.{digits_from, native_register, number_within, register_with, script_register, slots_number, tokens_of};
 ghost use Rattle.cc_model.specs.Ranges.{is_reg};

@@ -1,3 +1,5 @@
+//! Bytes that were taken from a source and are not yet used.
+
 ghost use Rattle.std.specs.Prelude.{◌≡◌, ◌+◌, ◌≤◌, ◌<◌, ◌↔◌, [], ◌∷◌, length, IfOk, IfSome, IsSome, IsTrue, OnErr, OnOk, Ok, Err, true, false, None};
 ghost use Rattle.cc_lists.specs.Faults.{Rose};
 ghost use Rattle.cc_reader.specs.HasRead.{ReadsOn};

@@ -5,8 +5,7 @@ use Rattle.std.proofs.lemmas.Bool.{lt-ltb}
 use Rattle.std.proofs.lemmas.Bool.{ltb-true}
 use Rattle.cc_model.specs.declared.item.Refusal.TheVariants.{Long, Line}
 use Rattle.cc_model.specs.declared.item.Reply.TheVariants.{Refused}
-use Rattle.cc_model.specs.Telling.{Telling, Tells}
-use Rattle.cc_model.specs.Texts.{texts_of}
+use Rattle.cc_model.specs.Telling.{Telling, TellsItems}
 use Rattle.cc_model.specs.Answers.{Answer, items_of, replying}
 use Rattle.cc_model.specs.Asks.{Ask, long, bad, command_of, taken_or_bad, longest_line, ask_of}
 use Rattle.cc_model.specs.Heap.{Heap}
@@ -41,17 +40,17 @@ IsDoneFor-bad h = record { memory = []; answer = refl; after = record { heap = r
 
 -- so it is answered by its refusal alone
 answered-as : {ask : Ask} (answer : Answer) (h : Heap) (line : List ℕ) {before after : Telling} → ask_of forms_now line ≡ ask → IsDoneFor (idle_machine h) ask answer (idle_machine h) →
-    ask_in_range ask ≡ true → Tells before after (texts_of (items_of answer)) → LineIsAnswered h h line before after
+    ask_in_range ask ≡ true → TellsItems before after (items_of answer) → LineIsAnswered h h line before after
 answered-as answer h line asks done in_range told = record {
   answered = record { answer = answer; done = subst (λ a. IsDoneFor (idle_machine h) a answer (idle_machine h)) (sym asks) done; told = told };
   in_range = ap ask_in_range asks ∙ in_range;
 }
 
 pub answered-long : (h : Heap) (line : List ℕ) {before after : Telling} → 120 < length line →
-    Tells before after (texts_of (items_of (replying [] (Refused Long)))) → LineIsAnswered h h line before after
+    TellsItems before after (items_of (replying [] (Refused Long))) → LineIsAnswered h h line before after
 answered-long h line above told = answered-as (replying [] (Refused Long)) h line (ask_of-long line above) (IsDoneFor-long h) refl told
 
 pub answered-bad : (h : Heap) (line : List ℕ) {before after : Telling} → length line ≤ 120 → command_of forms_now line ≡ None →
-    Tells before after (texts_of (items_of (replying [] (Refused Line)))) → LineIsAnswered h h line before after
+    TellsItems before after (items_of (replying [] (Refused Line))) → LineIsAnswered h h line before after
 answered-bad h line short none told =
     answered-as (replying [] (Refused Line)) h line (ask_of-short line short ∙ ap taken_or_bad none) (IsDoneFor-bad h) refl told

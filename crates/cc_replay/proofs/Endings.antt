@@ -13,14 +13,21 @@ use Rattle.cc_reader.specs.Given.{HasGiven, IsWhole, IsBroken, IsOver, AreFirst,
 use Rattle.cc_reader.specs.HasRead.{HasRead, ReadsBytes, ReadsOn, ReadsToEnd}
 use Rattle.cc_reader.proofs.Given.{HasGiven-none, HasRead-none}
 use Rattle.cc_replay.specs.Answering.{Answers, AreAnswered, Moment}
-use Rattle.cc_replay.specs.Transcripts.{Ends, Writes, ends, IsDone, AreFirstEnded, AreAllUnended, StopsAtFault, StopsAtLimit, StopsAtWrite}
+use Rattle.cc_replay.specs.Transcripts.{Ends, Writes, IsDone, AreFirstEnded, AreAllUnended, StopsAtFault, StopsAtLimit, StopsAtWrite}
 use Rattle.cc_replay.proofs.Answers.{AreAnswered-transcript}
 
 -- a run from a reader that begins, over empty heaps
 module _ (limits : Allowance) (m₀ m₁ : Moment) (r₀ r₁ : Reads) (begins : m₀.window ≡ nothing_read limits.bytes) (empty : m₀.heap ≡ empty_heap limits)
     (limit : m₁.window.limit ≡ m₀.window.limit) (reads : ReadsOn r₀ r₁ m₀.window m₁.window) where
   abbrev e : Ends
-  e = ends m₀.left m₁.left r₀ r₁ m₀.telling.told m₁.telling.told
+  e = record {
+    left = m₀.left;
+    left_now = m₁.left;
+    reads = r₀;
+    reads_now = r₁;
+    written = m₀.telling.told;
+    written_now = m₁.telling.told;
+  }
 
   bytes : m₁.window.limit ≡ limits.bytes
   bytes = limit ∙ ap (λ (p : Pending). p.limit) begins

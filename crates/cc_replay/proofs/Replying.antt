@@ -5,14 +5,13 @@ use Rattle.cc_model.specs.declared.command.Command.{Command}
 use Rattle.cc_model.specs.declared.command.Command.TheVariants as command
 use Rattle.cc_model.specs.declared.item.Item.TheVariants.{Event as of_event, Listed, Reply as of_reply}
 use Rattle.cc_model.specs.declared.item.Refusal.{Refusal}
-use Rattle.cc_model.specs.declared.item.Refusal.TheVariants as refusal
 use Rattle.cc_model.specs.declared.item.Refusal.TheVariants.{NoMemory}
 use Rattle.cc_model.specs.declared.item.Reply.{Reply}
-use Rattle.cc_model.specs.declared.item.Reply.TheVariants as reply
 use Rattle.cc_model.specs.declared.item.Reply.TheVariants.{Refused, Census, Done}
-use Rattle.cc_model.specs.Telling.{Telling, Tells}
-use Rattle.cc_model.specs.Texts.{text_of, texts_of}
+use Rattle.cc_model.specs.Telling.{Telling, Tells, TellsItems, TellsEvents}
+use Rattle.cc_model.specs.Texts.{text_of}
 use Rattle.cc_model.specs.Answers.{items_of}
+use Rattle.cc_model.specs.AppliedNow.{is_applied}
 use Rattle.cc_model.specs.Asks.{taken}
 use Rattle.cc_model.specs.Checks.{refusal_of, reply_if_taken}
 use Rattle.cc_model.specs.Heap.{Heap, Outcome, objects_of}
@@ -21,9 +20,10 @@ use Rattle.cc_model.specs.Sweep.{collect_scripts}
 use Rattle.cc_model.specs.Lawful.{is_without_memory}
 use Rattle.cc_model.specs.Run.{Turn, answering, with_effects, if_granted, unless_refused, mutate, census_names, take_census, say_nothing, do_ask}
 use Rattle.cc_model.specs.Collecting.{Machine, gc}
+use Rattle.cc_model.proofs.Replies.{is_without_memory-true}
 use Rattle.cc_model.proofs.Tellings.{Tells-nil}
 use Rattle.cc_heaps.specs.Keyed.{Keyed}
-use Rattle.cc_mutator.specs.Applied.{is_applied, IsCarriedOut}
+use Rattle.cc_mutator.specs.Applied.{IsCarriedOut}
 use Rattle.cc_reader.specs.FormsNow.{is_known}
 use Rattle.cc_replay.specs.Answered.{IsAnswered}
 use Rattle.cc_collector.specs.Collected.{machine}
@@ -93,24 +93,10 @@ denied : (h : Heap) (c : Command) (takes : Bool) → takes ≡ true →
 denied h c true e = refl
 denied h c false e = absurd (cc)
 
--- a reply that says want of memory is that
-without_memory-is : (r : Reply) → is_without_memory r ≡ true → r ≡ Refused NoMemory
-without_memory-is (reply.Named x) e = absurd (cc)
-without_memory-is reply.Nothing e = absurd (cc)
-without_memory-is reply.Done e = absurd (cc)
-without_memory-is (reply.Census n) e = absurd (cc)
-without_memory-is (reply.Refused refusal.Long) e = absurd (cc)
-without_memory-is (reply.Refused refusal.Line) e = absurd (cc)
-without_memory-is (reply.Refused refusal.Empty) e = absurd (cc)
-without_memory-is (reply.Refused refusal.Kind) e = absurd (cc)
-without_memory-is (reply.Refused refusal.Slot) e = absurd (cc)
-without_memory-is (reply.Refused refusal.Full) e = absurd (cc)
-without_memory-is (reply.Refused refusal.NoMemory) e = refl
-
 module _ (old new : Heap) (before after : Telling) where
   -- by the turn
   by_turn : (c : Command) (memory : List Bool) (t : Turn) → do_ask (machine old None memory) (taken c) ≡ t → t.machine.heap ≡ new → t.machine.snapshot ≡ None →
-      Tells before after (texts_of (items_of t.answer)) → IsAnswered old new (taken c) before after
+      TellsItems before after (items_of t.answer) → IsAnswered old new (taken c) before after
   by_turn c memory t e h s told = record {
     answer = t.answer;
     done = record {
@@ -130,7 +116,7 @@ module _ (old new : Heap) (before after : Telling) where
         by_turn c [] (with_effects m (reply_if_taken (objects_of old) c) (effects old c))
         (applied-mutates m c applied ∙ (mutate-by m c None none ∙ granted old c (takes_memory old c)))
         (sym d.heap) refl
-        (subst (λ (x : Reply). Tells before after (texts_of (map of_event (effects old c).events ++ of_reply x ∷ []))) d.reply_is
+        (subst (λ (x : Reply). TellsItems before after (map of_event (effects old c).events ++ of_reply x ∷ [])) d.reply_is
         (told-last before mid after (map of_event (effects old c).events) (of_reply r) d.told t))
 
     -- refused memory
@@ -152,14 +138,14 @@ module _ (old new : Heap) (before after : Telling) where
         (told-last before before after [] (of_reply (Refused r)) (Tells-nil before) t)
 
   -- the census
-  pub answered-census : (mid : Telling) → new ≡ old → Tells before mid (texts_of (map Listed (census_names old))) →
+  pub answered-census : (mid : Telling) → new ≡ old → TellsItems before mid (map Listed (census_names old)) →
       Tells mid after (text_of (of_reply (Census (length (census_names old))))) → IsAnswered old new (taken command.Census) before after
   unfolding do_ask
   answered-census mid same listed t = by_turn command.Census [] (take_census (machine old None []) (census_names old)) refl (sym same) refl
       (told-last before mid after (map Listed (census_names old)) (of_reply (Census (length (census_names old)))) listed t)
 
   -- a script collection
-  pub answered-gc : (mid : Telling) → new ≡ (collect_scripts old).heap → Tells before mid (texts_of (map of_event (collect_scripts old).events)) →
+  pub answered-gc : (mid : Telling) → new ≡ (collect_scripts old).heap → TellsEvents before mid (collect_scripts old).events →
       Tells mid after (text_of (of_reply Done)) → IsAnswered old new (taken command.Gc) before after
   unfolding do_ask gc
   answered-gc mid same told t =
@@ -186,7 +172,7 @@ answered-applied c applied old new before mid after r refused done memory t = by
 
     by_memory : refusal_of (objects_of old.heap) c ≡ None → (b : Bool) → is_without_memory r ≡ b → IsAnswered old.heap new.heap (taken c) before after
     by_memory none true e =
-        let is : r ≡ Refused NoMemory = without_memory-is r e in
+        let is : r ≡ Refused NoMemory = is_without_memory-true r e in
         let m = memory is in
         answered-denied old.heap new.heap before after c applied m.0 m.1 (ap (λ (v : Keyed). v.heap) m.2) (after_reply (Refused NoMemory) is m.3)
     by_memory none false e = answered-done old.heap new.heap before after c applied mid r none

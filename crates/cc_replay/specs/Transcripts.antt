@@ -45,14 +45,15 @@ pub record Ends : Type 0 where
   pub written : Option (List ℕ)
   pub written_now : Option (List ℕ)
 
-abbrev pub ends : Option (List ℕ) → Option (List ℕ) → Reads → Reads → Option (List ℕ) → Option (List ℕ) → Ends
-ends left left_now reads reads_now written written_now = record {
-  left = left;
-  left_now = left_now;
-  reads = reads;
-  reads_now = reads_now;
-  written = written;
-  written_now = written_now;
+-- at the begin and at the end of a run: what a source has left, how often it was read, and what was written to a sink
+abbrev pub ends : {S K : Type 0} → (S → Option (List ℕ)) → (S → Reads) → (K → Option (List ℕ)) → S → S → K → K → Ends
+ends left reads written source source_now sink sink_now = record {
+  left = left source;
+  left_now = left source_now;
+  reads = reads source;
+  reads_now = reads source_now;
+  written = written sink;
+  written_now = written sink_now;
 }
 
 -- all was read to the end, within the limit, and all of it is answered; one read said the end, and each other that was

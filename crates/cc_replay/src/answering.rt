@@ -1,3 +1,5 @@
+//! Lines read, and each answered before the next is read.
+
 ghost use Rattle.std.specs.Prelude.{◌≡◌, ◌≢◌, ◌<◌, ◌≤◌, ◌+◌, ℕ, List, [], ◌∷◌, ◌++◌, length, Option, Some, OnErr, Ok, Err, OnOk, IfOk, false, true, IsTrue};
 ghost use Rattle.cc_lists.specs.Faults.{Rose};
 ghost use Rattle.cc_reader.specs.HasRead.{ReadsOn};
@@ -7,14 +9,13 @@ ghost use Rattle.cc_model.specs.declared.command.Command.TheVariants as command;
 ghost use Rattle.cc_model.specs.Ranges.{in_range};
 ghost use Rattle.cc_model.specs.Asks.{taken};
 ghost use Rattle.cc_model.specs.Heap.{empty_heap};
-ghost use Rattle.cc_model.specs.Suspected.{IsSuspected};
-ghost use Rattle.cc_model.specs.View.{view};
 ghost use Rattle.cc_reader.specs.FormsNow.{is_known};
 ghost use Rattle.cc_replay.specs.Answered.{IsAnswered};
 ghost use Rattle.cc_replay.specs.Resting.{IsAtRest};
 ghost use Rattle.cc_heaps.specs.Few.{AreFew};
 ghost use Rattle.cc_heaps.specs.Keyed.{IsInOrder};
-ghost use Rattle.cc_mutator.specs.Applied.{is_applied};
+ghost use Rattle.cc_heaps.specs.Standing.{KeepsSuspected};
+ghost use Rattle.cc_model.specs.AppliedNow.{is_applied};
 ghost use Rattle.cc_replay.specs.Answering.{GivesLine, LineIsAnswered, Answers, moment};
 ghost use Rattle.cc_replay.specs.Transcripts.{ends, IsDone, StopsAtFault, StopsAtLimit, StopsAtWrite};
 
@@ -68,7 +69,7 @@ fn answer_mutator<N: Notices>(command: &Command, heaps: &mut Heaps, out: &mut N)
     requires in_range { IsTrue (in_range command.now) }
     requires rest { IsAtRest heaps.old }
     ensures answered { IsAnswered heaps.old.heap heaps.new.heap (taken command.now) (N.telling out.old) (N.telling out.new) }
-    ensures remembers { (candidates : List ℕ) → IsSuspected (view heaps.old.heap) candidates → IsSuspected (view heaps.new.heap) candidates }
+    ensures remembers { KeepsSuspected heaps.old.heap heaps.new.heap }
     ensures rest { IsAtRest heaps.new }
 {
     let reply = apply(heaps, command, out);
@@ -218,14 +219,10 @@ pub(crate) fn answer_input<S: Source, N: Reports>(
     requires order { IsInOrder [] heaps.old }
     requires empty { heaps.old.heap ≡ empty_heap heaps.old.heap.limits }
     requires whole { (N.telling out.old).broken ≡ false }
-    ensures done { result ≡ Status.Done → IsDone heaps.old.heap.limits
-        (ends (S.left lines.old.source.now) (S.left lines.new.source.now) (S.reads lines.old.source.now) (S.reads lines.new.source.now) (N.telling out.old).told (N.telling out.new).told) }
-    ensures fault { result ≡ Status.ReadFault → StopsAtFault heaps.old.heap.limits
-        (ends (S.left lines.old.source.now) (S.left lines.new.source.now) (S.reads lines.old.source.now) (S.reads lines.new.source.now) (N.telling out.old).told (N.telling out.new).told) }
-    ensures over { result ≡ Status.Limit → StopsAtLimit heaps.old.heap.limits
-        (ends (S.left lines.old.source.now) (S.left lines.new.source.now) (S.reads lines.old.source.now) (S.reads lines.new.source.now) (N.telling out.old).told (N.telling out.new).told) }
-    ensures front { result ≡ Status.WriteFault → StopsAtWrite heaps.old.heap.limits
-        (ends (S.left lines.old.source.now) (S.left lines.new.source.now) (S.reads lines.old.source.now) (S.reads lines.new.source.now) (N.telling out.old).told (N.telling out.new).told) }
+    ensures done { result ≡ Status.Done → IsDone heaps.old.heap.limits (ends S.left S.reads (λ n. (N.telling n).told) lines.old.source.now lines.new.source.now out.old out.new) }
+    ensures fault { result ≡ Status.ReadFault → StopsAtFault heaps.old.heap.limits (ends S.left S.reads (λ n. (N.telling n).told) lines.old.source.now lines.new.source.now out.old out.new) }
+    ensures over { result ≡ Status.Limit → StopsAtLimit heaps.old.heap.limits (ends S.left S.reads (λ n. (N.telling n).told) lines.old.source.now lines.new.source.now out.old out.new) }
+    ensures front { result ≡ Status.WriteFault → StopsAtWrite heaps.old.heap.limits (ends S.left S.reads (λ n. (N.telling n).told) lines.old.source.now lines.new.source.now out.old out.new) }
 
     ensures reads { (S.reads lines.new.source.now).answered ≤ (S.reads lines.old.source.now).answered + heaps.old.heap.limits.bytes + 1 }
     ensures end_unread { result ≢ Status.Done → result ≢ Status.WriteFault →

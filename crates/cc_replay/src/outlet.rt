@@ -1,3 +1,5 @@
+//! A sink that items are told to, each as one line.
+
 ghost use Rattle.std.specs.Prelude.{◌≡◌, OnErr, OnOk};
 ghost use Rattle.std.specs.Io.KnownBytes.{Appends};
 ghost use Rattle.cc_lists.specs.Faults.{Rose};

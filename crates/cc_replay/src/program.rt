@@ -1,3 +1,5 @@
+//! A whole run: by limits, and by the words of a command line.
+
 ghost use Rattle.std.specs.Prelude.{◌≡◌, ◌≢◌, ◌<◌, ◌≤◌, ◌+◌, ℕ, List, length, map, Some};
 ghost use Rattle.cc_names.specs.Allowance.{Allowance};
 ghost use Rattle.cc_lists.specs.Faults.{Rose};
@@ -31,10 +33,10 @@ pub fn replay<S: Source, K: Sink>(
     sink: &mut K,
 ) -> Status
     // What is written with each status is the text of a transcript, whole or up to where a write failed.
-    ensures done { result ≡ Status.Done → IsDone limits (ends (S.left source.old) (S.left source.new) (S.reads source.old) (S.reads source.new) (K.written sink.old) (K.written sink.new)) }
-    ensures fault { result ≡ Status.ReadFault → StopsAtFault limits (ends (S.left source.old) (S.left source.new) (S.reads source.old) (S.reads source.new) (K.written sink.old) (K.written sink.new)) }
-    ensures over { result ≡ Status.Limit → StopsAtLimit limits (ends (S.left source.old) (S.left source.new) (S.reads source.old) (S.reads source.new) (K.written sink.old) (K.written sink.new)) }
-    ensures front { result ≡ Status.WriteFault → StopsAtWrite limits (ends (S.left source.old) (S.left source.new) (S.reads source.old) (S.reads source.new) (K.written sink.old) (K.written sink.new)) }
+    ensures done { result ≡ Status.Done → IsDone limits (ends S.left S.reads K.written source.old source.new sink.old sink.new) }
+    ensures fault { result ≡ Status.ReadFault → StopsAtFault limits (ends S.left S.reads K.written source.old source.new sink.old sink.new) }
+    ensures over { result ≡ Status.Limit → StopsAtLimit limits (ends S.left S.reads K.written source.old source.new sink.old sink.new) }
+    ensures front { result ≡ Status.WriteFault → StopsAtWrite limits (ends S.left S.reads K.written source.old source.new sink.old sink.new) }
     ensures set_up { result ≡ Status.NoMemory → (source.new ≡ source.old) × (sink.new ≡ sink.old) }
 
     // At most as many reads are answered as the limit on bytes, and one: for the byte above it, or for the end.
@@ -84,13 +86,13 @@ pub fn run<'a, S: Source, K: Sink>(
 ) -> Status
     // What is written with each status is the text of a transcript, whole or up to where a write failed.
     ensures done { result ≡ Status.Done → (limits : Allowance) × GivesLimits (map (λ w. w.now) words.entry.now) limits
-        × IsDone limits (ends (S.left source.old) (S.left source.new) (S.reads source.old) (S.reads source.new) (K.written sink.old) (K.written sink.new)) }
+        × IsDone limits (ends S.left S.reads K.written source.old source.new sink.old sink.new) }
     ensures fault { result ≡ Status.ReadFault → (limits : Allowance) × GivesLimits (map (λ w. w.now) words.entry.now) limits
-        × StopsAtFault limits (ends (S.left source.old) (S.left source.new) (S.reads source.old) (S.reads source.new) (K.written sink.old) (K.written sink.new)) }
+        × StopsAtFault limits (ends S.left S.reads K.written source.old source.new sink.old sink.new) }
     ensures over { result ≡ Status.Limit → (limits : Allowance) × GivesLimits (map (λ w. w.now) words.entry.now) limits
-        × StopsAtLimit limits (ends (S.left source.old) (S.left source.new) (S.reads source.old) (S.reads source.new) (K.written sink.old) (K.written sink.new)) }
+        × StopsAtLimit limits (ends S.left S.reads K.written source.old source.new sink.old sink.new) }
     ensures front { result ≡ Status.WriteFault → (limits : Allowance) × GivesLimits (map (λ w. w.now) words.entry.now) limits
-        × StopsAtWrite limits (ends (S.left source.old) (S.left source.new) (S.reads source.old) (S.reads source.new) (K.written sink.old) (K.written sink.new)) }
+        × StopsAtWrite limits (ends S.left S.reads K.written source.old source.new sink.old sink.new) }
     ensures set_up { result ≡ Status.NoMemory → (source.new ≡ source.old) × (sink.new ≡ sink.old) }
 
     // Usage is for words that are not taken, and then nothing is read or written.

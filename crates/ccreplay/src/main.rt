@@ -67,5 +67,5 @@ fn main(rt: HostRuntime) -> ExitCode {
     if let Some(line) = complaint(status) {
         let _ = rt.eprintln(line);
     }
-    ExitCode::from(status as u8)
+    ExitCode::from(status.number())
 }

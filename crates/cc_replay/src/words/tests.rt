@@ -1,3 +1,5 @@
+//! Command lines, and the limits that they give or that they are not taken.
+
 use super::*;
 
 #[test]
