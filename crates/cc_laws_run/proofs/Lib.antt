@@ -45,3 +45,4 @@ pub mod SpentAsks
 pub mod FirstCollection
 pub mod FollowedAsks
 pub mod WholeRuns
+pub mod Witnesses

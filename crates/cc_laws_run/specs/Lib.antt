@@ -4,3 +4,4 @@ pub mod Doomed
 pub mod Followed
 pub mod Missing
 pub mod Spent
+pub mod Premises

@@ -10,7 +10,8 @@
 //!   (`IsDoomedNow`);
 //! - `specs/Followed.antt`: one collection followed through asks (`first_collection`);
 //! - `specs/Missing.antt`: what a collection after `gc` unlinks (`lost`, `MissesNone`);
-//! - `specs/Spent.antt`: what it has unlinked (`IsSpent`), for `unlinked_are_gone_after_gc` alone.
+//! - `specs/Spent.antt`: what it has unlinked (`IsSpent`), for `unlinked_are_gone_after_gc` alone;
+//! - `specs/Premises.antt`: what a script leaves (`IsLeftByAScript`), for the laws that say that premises can be met.
 #![tactic(auto)]
 
 mod collections;
@@ -18,6 +19,7 @@ mod doomed;
 mod memory;
 mod misses;
 mod plain_run;
+mod premises;
 mod quiet;
 mod runs;
 mod spent;
@@ -28,6 +30,7 @@ pub use doomed::commands_keep_doomed;
 pub use memory::{memory_decides_nothing_else, runs_compose};
 pub use misses::collections_after_gc_miss_nothing;
 pub use plain_run::{asks_keep_suspected, plain_run_is_lawful};
+pub use premises::{freshness_can_be_met, suspicion_can_be_met};
 pub use quiet::{garbage_is_doomed, gc_collect_gc_is_quiet};
 pub use runs::{runs_after_gc_miss_nothing, runs_forget_nothing, runs_go_on};
 pub use spent::unlinked_are_gone_after_gc;

@@ -18,4 +18,6 @@ fn laws_can_be_called() {
     runs_after_gc_miss_nothing();
     runs_compose();
     memory_decides_nothing_else();
+    freshness_can_be_met();
+    suspicion_can_be_met();
 }

@@ -4,3 +4,4 @@ pub mod Draining
 pub mod Rounds
 pub mod UnitsEnd
 pub mod Replies
+pub mod Opened

@@ -6,7 +6,6 @@ pub mod QuietTest
 pub mod Judged
 pub mod FreshTest
 pub mod SuspectedTest
-pub mod Witnesses
 pub mod Examples1
 pub mod Examples2
 pub mod Examples3

@@ -10,4 +10,3 @@ pub mod HeapTests
 pub mod SnapshotTests
 pub mod GraphTests
 pub mod Audit
-pub mod Premises

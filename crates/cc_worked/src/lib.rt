@@ -20,7 +20,6 @@
 
 mod audit;
 mod garbage;
-mod premises;
 mod right;
 mod verdict;
 mod worked;
@@ -28,7 +27,6 @@ mod wrong;
 
 pub use audit::audit_is_sound;
 pub use garbage::{garbage_may_stay, unquiet_censuses_are_refused};
-pub use premises::{freshness_can_be_met, suspicion_can_be_met};
 pub use right::right_transcripts_pass;
 pub use verdict::verdict_decides;
 pub use worked::{examples_are_lawful, examples_are_quiet, examples_write_their_lines};

@@ -18,6 +18,4 @@ fn laws_can_be_called() {
     unquiet_censuses_are_refused();
     garbage_may_stay();
     right_transcripts_pass();
-    freshness_can_be_met();
-    suspicion_can_be_met();
 }

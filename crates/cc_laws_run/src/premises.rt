@@ -8,7 +8,7 @@ ghost use Rattle.cc_model.specs.Suspected.{IsCovered};
 ghost use Rattle.cc_model.specs.Collecting.{Machine};
 ghost use Rattle.cc_laws_heap.specs.Sound.{IsSound};
 ghost use Rattle.cc_laws_run.specs.Doomed.{IsSuspectedNow};
-ghost use Rattle.cc_worked.specs.Premises.{IsLeftByAScript};
+ghost use Rattle.cc_laws_run.specs.Premises.{IsLeftByAScript};
 
 /// A script can leave sound heaps and a running collection whose snapshot is fresh and has no node left to traverse,
 /// while a native is white in it.

@@ -1,47 +1,50 @@
--- Machines that scripts leave and that meet the premises of the laws: a fresh snapshot in which a native is white,
+-- MACHINES THAT SCRIPTS LEAVE and that meet the premises of the laws: a fresh snapshot in which a native is white,
 -- and heaps in which no unreached native is forgotten while there is one.
 use Rattle.std.proofs.Common.{◌≡◌, ℕ, List, [], ◌∷◌, ◌++◌, Option, Some, None, refl, sym, ap, subst, inl, inr, ⊎_elim}
 use Rattle.std.specs.Prelude.{codes}
 use Rattle.std.proofs.lemmas.Bool.{true≢false, iff_false}
 use Rattle.cc_lists.proofs.Closure.{closure-decides}
 use Rattle.cc_lists.specs.Least.{system}
+use Rattle.cc_names.specs.Allowance.{Allowance}
 use Rattle.cc_names.specs.Names.{native, object, reflector, same_name}
 use Rattle.cc_names.proofs.NameTests.{same_name-exact}
+use Rattle.cc_model.specs.Forms.{version_one_forms}
+use Rattle.cc_model.specs.Asks.{asks_of}
 use Rattle.cc_model.specs.View.{View, ReachedIn, view, view_rules}
 use Rattle.cc_model.specs.Snapshot.{Snapshot, Node, untraversed, traversed, IsWhite}
 use Rattle.cc_model.specs.Units.{is_untraversed}
 use Rattle.cc_model.specs.Fresh.{node, IsLiving, IsTraversed, IsFresh}
 use Rattle.cc_model.specs.Suspected.{IsCovered, unreached_scripts}
-use Rattle.cc_model.specs.Collecting.{Machine, empty_machine}
-use Rattle.cc_model.specs.Run.{machine_after}
+use Rattle.cc_model.specs.Lawful.{start}
+use Rattle.cc_model.specs.Collecting.{Machine}
+use Rattle.cc_model.specs.Run.{plain_run}
+use Rattle.cc_model.proofs.Opened.{all_of_a_run}
 use Rattle.cc_laws_heap.specs.Sound.{IsSound}
-use Rattle.cc_laws_run.specs.Running.{IsFreshNow}
+use Rattle.cc_laws_run.specs.Running.{IsRunning, IsFreshNow, state_after}
 use Rattle.cc_laws_run.specs.Doomed.{IsSuspectedNow}
+use Rattle.cc_laws_run.specs.Premises.{machine_of, IsLeftByAScript}
 use Rattle.cc_laws_run.proofs.PlainRanges.{asks_of-range}
 use Rattle.cc_laws_run.proofs.WholeRuns.{run-runs, run-suspected}
-use Rattle.cc_worked.specs.Examples.{default_limits, ample, asks_in}
-use Rattle.cc_worked.specs.Premises.{IsLeftByAScript}
-use Rattle.cc_worked.proofs.Opened.{all_of_a_run}
 
--- the machine after a script
-abbrev machine_of : List ℕ → Machine
-machine_of input = machine_after (empty_machine default_limits ample) (asks_in input)
+-- limits that these scripts keep
+abbrev enough : Allowance
+enough = record { natives = 100; scripts = 100; bytes = 1000 }
+
+-- the machine that a script leaves, where memory is never refused
+abbrev left_by : List ℕ → Machine
+left_by input = machine_of enough [] input
 
 -- A script leaves it.
-machine_of-left : (input : List ℕ) → IsLeftByAScript (machine_of input)
-machine_of-left input = (default_limits, ample, input, refl)
+left_by-left : (input : List ℕ) → IsLeftByAScript (left_by input)
+left_by-left input = (enough, [], input, refl)
 
--- Its heaps are sound.
-machine_of-sound : (input : List ℕ) → IsSound [] (machine_of input).heap
-machine_of-sound input = (run-runs default_limits ample (asks_in input) (asks_of-range input)).sound
-
--- Its snapshot is fresh.
-machine_of-fresh : (input : List ℕ) → IsFreshNow (machine_of input).heap (machine_of input).snapshot
-machine_of-fresh input = (run-runs default_limits ample (asks_in input) (asks_of-range input)).fresh
+-- It runs.
+left_by-runs : (input : List ℕ) → IsRunning (left_by input) (state_after (start enough) (asks_of version_one_forms input) (plain_run enough [] (asks_of version_one_forms input)))
+left_by-runs input = run-runs enough [] (asks_of version_one_forms input) (asks_of-range input)
 
 -- No unreached native is forgotten in it.
-machine_of-suspected : (input : List ℕ) → IsSuspectedNow (machine_of input)
-machine_of-suspected input = run-suspected default_limits ample (asks_in input) (asks_of-range input)
+left_by-suspected : (input : List ℕ) → IsSuspectedNow (left_by input)
+left_by-suspected input = run-suspected enough [] (asks_of version_one_forms input) (asks_of-range input)
 
 -- A white native
 
@@ -52,7 +55,7 @@ half_collected_script = codes "native n0 0\nwrap s1 n0\nweakmap s0\nscript s2 1\
     ++ codes "drop n0\ndrop s1\ndrop s2\ngc\nslice 4\n"
 
 abbrev pub half_collected : Machine
-half_collected = machine_of half_collected_script
+half_collected = left_by half_collected_script
 
 abbrev pub half_collected_snapshot : Snapshot
 half_collected_snapshot = record {
@@ -64,11 +67,11 @@ half_collected_snapshot = record {
 
 -- A script leaves it.
 pub half_collected-left : IsLeftByAScript half_collected
-half_collected-left = machine_of-left half_collected_script
+half_collected-left = left_by-left half_collected_script
 
 -- Its heaps are sound.
 pub half_collected-sound : IsSound [] half_collected.heap
-half_collected-sound = machine_of-sound half_collected_script
+half_collected-sound = (left_by-runs half_collected_script).sound
 
 -- This is the snapshot of the collection that runs.
 pub half_collected-snapshot : half_collected.snapshot ≡ Some half_collected_snapshot
@@ -77,7 +80,7 @@ half_collected-snapshot = refl
 
 -- It is fresh.
 pub half_collected-fresh : IsFresh half_collected.heap.natives_made (view half_collected.heap) half_collected_snapshot
-half_collected-fresh = subst (IsFreshNow half_collected.heap) half_collected-snapshot (machine_of-fresh half_collected_script)
+half_collected-fresh = subst (IsFreshNow half_collected.heap) half_collected-snapshot (left_by-runs half_collected_script).fresh
 
 -- A traversed state is no untraversed one.
 traversed-untraversed : (n : Option ℕ) → ¬ (traversed n ≡ untraversed)
@@ -103,22 +106,22 @@ abbrev dropped_script : List ℕ
 dropped_script = codes "native n0 2\nnative n1 0\nset n0 0 n0\nset n0 1 n1\ndrop n1\ncollect\ndrop n0\n"
 
 abbrev pub dropped : Machine
-dropped = machine_of dropped_script
+dropped = left_by dropped_script
 
 abbrev dropped_view : View
 dropped_view = view dropped.heap
 
 -- A script leaves it.
 pub dropped-left : IsLeftByAScript dropped
-dropped-left = machine_of-left dropped_script
+dropped-left = left_by-left dropped_script
 
 -- Its heaps are sound.
 pub dropped-sound : IsSound [] dropped.heap
-dropped-sound = machine_of-sound dropped_script
+dropped-sound = (left_by-runs dropped_script).sound
 
 -- No unreached native is forgotten in them.
 pub dropped-suspected : IsSuspectedNow dropped
-dropped-suspected = machine_of-suspected dropped_script
+dropped-suspected = left_by-suspected dropped_script
 
 -- The first native alone is purple.
 dropped-purple : dropped_view.purple ≡ native 1 ∷ []

@@ -1,5 +1,0 @@
-use Rattle.cc_worked.proofs.Witnesses.{dropped, dropped-left, dropped-sound, dropped-suspected, dropped-living, dropped-unreached, dropped-covered}
-use Rattle.cc_worked.proofs.premises.suspicion_can_be_met.Goals as goal
-
-pub returns : goal.returns
-returns c = (dropped, dropped-left, dropped-sound, dropped-suspected, dropped-living, dropped-unreached, dropped-covered)
