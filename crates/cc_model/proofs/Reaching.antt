@@ -1,21 +1,24 @@
 -- What a graph reaches, by its own rules, is the least set of its list of rules.
 use Rattle.std.specs.List.{flat_map}
-use Rattle.std.proofs.Common.{◌≡◌, ℕ, zero, suc, ◌+◌, List, [], ◌∷◌, ◌++◌, map, Option, Some, None, refl, sym, ap, subst, inl, inr, ⊎_elim, slice_index_or, slice_get, option_map, arith}
+use Rattle.std.specs.Prelude.{IsTrue}
+use Rattle.std.proofs.Common.{◌≡◌, ◌↔◌, ℕ, zero, suc, ◌+◌, List, [], ◌∷◌, ◌++◌, map, Option, Some, None, refl, sym, ap, subst, inl, inr, ⊎_elim, slice_index_or, slice_get, option_map, arith}
 use Rattle.std.specs.Option.{option_and_then}
-use Rattle.cc_lists.specs.Members.{Among}
+use Rattle.cc_lists.specs.Members.{Among, has}
 use Rattle.cc_lists.specs.Least.{Least}
 use Rattle.cc_lists.proofs.Members.{Among-map, Among-map_cases, Among-left, Among-right, Among-append, Among-flat_map, Among-flat_map_cases}
+use Rattle.cc_lists.proofs.Closure.{closure-decides}
 use Rattle.cc_lists.proofs.Least.{derive-root, derive-along, derive-jointly, derived-within}
 use Rattle.cc_names.specs.declared.name.Name.{Name}
 use Rattle.cc_names.specs.declared.name.Name.TheVariants.{Native, Script, Reflector}
 use Rattle.cc_names.specs.declared.register.Reg.{Reg}
 use Rattle.cc_names.specs.declared.register.Reg.TheVariants.{N, S}
-use Rattle.cc_names.specs.Names.{native, object, reflector}
+use Rattle.cc_names.specs.Names.{native, object, reflector, same_name}
+use Rattle.cc_names.proofs.NameTests.{same_name-exact}
 use Rattle.cc_model.specs.Slots.{Slots, contents, from_to}
 use Rattle.cc_model.specs.Entries.{Entry, joint, joints}
 use Rattle.cc_model.specs.Checks.{slots_or_none}
 use Rattle.cc_model.specs.Graph.{Graph, GraphNative, GraphScript, numbered, native_in, script_in, slots_of_script, register}
-use Rattle.cc_model.specs.Reached.{Reached, held, edge, value, edges_of, kept_reflector, native_behind, edges_from, all_edges, names_of, numbers_from, with_reflector, roots_of, reach_rules}
+use Rattle.cc_model.specs.Reached.{Reached, held, edge, value, edges_of, kept_reflector, native_behind, edges_from, all_edges, names_of, numbers_from, with_reflector, roots_of, reach_rules, reached_names}
 
 -- what stands at a place of the registers is among their contents
 pub content-at : (x : Name) (slots : Slots) (r : ℕ) → slice_index_or slots r None ≡ Some x → Among x (contents slots)
@@ -125,3 +128,10 @@ entry-reached g ps y m f =
 -- what is derived is reached
 pub derived-reached : (g : Graph) (x : Name) → Least (reach_rules g) x → Reached g x
 derived-reached g = derived-within (roots_of g) (all_edges g) (joints g.entries) (Reached g) (root-reached g) (edge-reached g) (entry-reached g)
+
+-- what is reached is decided by the list of reached names
+pub reached-decided : (g : Graph) (x : Name) → IsTrue (has same_name (reached_names g) x) ↔ Reached g x
+reached-decided g x = (
+  (λ e. derived-reached g x ((closure-decides same_name same_name-exact (reach_rules g) x).0 e)),
+  (λ d. (closure-decides same_name same_name-exact (reach_rules g) x).1 (reached-derived g x d)),
+)

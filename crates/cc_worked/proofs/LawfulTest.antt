@@ -3,11 +3,10 @@ use Rattle.std.proofs.Common.{◌≡◌, ◌↔◌, ℕ, Bool, true, false, not,
 use Rattle.std.specs.Prelude.{IsTrue}
 use Rattle.std.proofs.lemmas.Bool.{not-true, not_from_false, and_parts, and_from, and_right, false≢true, true≢false, eqb-true, eq-eqb}
 use Rattle.cc_lists.specs.Members.{has}
-use Rattle.cc_lists.proofs.Closure.{closure-decides}
 use Rattle.cc_names.specs.Allowance.{Allowance}
 use Rattle.cc_names.specs.declared.name.Name.{Name}
 use Rattle.cc_names.specs.Names.{same_name}
-use Rattle.cc_names.proofs.NameTests.{same_name-true, same_name-refl, same_name-exact}
+use Rattle.cc_names.proofs.NameTests.{same_name-true, same_name-refl}
 use Rattle.cc_model.specs.declared.command.Command.{Command}
 use Rattle.cc_model.specs.declared.command.Command.TheVariants as command
 use Rattle.cc_model.specs.declared.item.Refusal.{Refusal}
@@ -20,10 +19,11 @@ use Rattle.cc_model.specs.Answers.{Answer}
 use Rattle.cc_model.specs.Asks.{Ask, long, bad, taken}
 use Rattle.cc_model.specs.Checks.{refusal_of}
 use Rattle.cc_model.specs.Graph.{Graph, objects_of, reply_to}
-use Rattle.cc_model.specs.Reached.{Reached, reach_rules, reached_names}
+use Rattle.cc_model.specs.Reached.{Reached, reached_names}
 use Rattle.cc_model.specs.Listed.{after_event}
 use Rattle.cc_model.specs.Lawful.{State, start, next, graph_after, may_want_memory, is_without_memory, is_refused, is_abandoning, may_free, may_unlink, has_abandonment_in_place, census_of, MayBe, EachMayBe, WantsMemory, RepliesWith, AnswersCommand, ReplyAnswers, AnswersTaken, AnswersAsk, IsLawfulFrom, IsLawful}
-use Rattle.cc_model.proofs.Reaching.{reached-derived, derived-reached}
+use Rattle.cc_model.proofs.Reaching.{reached-decided}
+use Rattle.cc_model.proofs.Replies.{is_without_memory-true}
 use Rattle.cc_worked.specs.Examples.{asks_in, answers_to, IsLawfulRun}
 use Rattle.cc_worked.specs.Verdict.{place_of_refusal, refusal_at, same_reply, same_replies, same_names, has_events, is_answer, wants_memory, replies_with, may_have, is_garbage, may_be, each_may_be, is_rising, answers_command, reply_answers, answers_taken, answers_ask, is_lawful_from, is_lawful, is_quiet, passes_verdict}
 use Rattle.cc_worked.proofs.Deciding.{both-decided, three-decided, either-decided, not-decided, itself-decided, has-decided, is_none-decided}
@@ -121,14 +121,7 @@ is_answer-decided a names reply = (
 
 -- Want of memory is told by its reply.
 is_without_memory-decided : (r : Reply) → IsTrue (is_without_memory r) ↔ (r ≡ Refused NoMemory)
-is_without_memory-decided r = (
-  without r,
-  (λ e. subst (λ z. IsTrue (is_without_memory z)) (sym e) refl),
-)
-  where
-    without : (q : Reply) → is_without_memory q ≡ true → q ≡ Refused NoMemory
-    without (Refused NoMemory) e = refl
-    without _ e = absurd (false≢true e)
+is_without_memory-decided r = (is_without_memory-true r, λ e. subst (λ z. IsTrue (is_without_memory z)) (sym e) refl)
 
 -- Whether memory may be refused is decided.
 wants_memory-decided : (s : State) (c : Command) (r : Reply) → IsTrue (wants_memory s c r) ↔ WantsMemory s c r
@@ -163,14 +156,7 @@ may_have-decided c r es = (
   (λ f. not-both (has_events es) (is_refused r && not (is_abandoning c r)) (λ e. subst (λ z. has_events z ≡ false) (sym (f e)) refl)),
 )
 
--- What is reached is decided.
-pub reached-decided : (g : Graph) (x : Name) → IsTrue (has same_name (reached_names g) x) ↔ Reached g x
-reached-decided g x = (
-  (λ e. derived-reached g x ((closure-decides same_name same_name-exact (reach_rules g) x).0 e)),
-  (λ d. (closure-decides same_name same_name-exact (reach_rules g) x).1 (reached-derived g x d)),
-)
-
--- So is what is not.
+-- What is reached no more is decided.
 is_garbage-decided : (g : Graph) (x : Name) → IsTrue (is_garbage g x) ↔ (¬ (Reached g x))
 is_garbage-decided g x = not-decided (has same_name (reached_names g) x) (reached-decided g x)
 

@@ -12,10 +12,11 @@ use Rattle.cc_model.specs.Asks.{Ask, taken}
 use Rattle.cc_model.specs.Reached.{Reached, reached_names}
 use Rattle.cc_model.specs.Lawful.{State, start, next, IsLawful}
 use Rattle.cc_model.specs.Quiet.{Row, nothing_yet, after_all, row_after, ListsReached, CensusIsQuiet, IsQuietFrom, IsQuiet}
+use Rattle.cc_model.proofs.Reaching.{reached-decided}
 use Rattle.cc_worked.specs.Examples.{asks_in, answers_to, IsQuietRun}
 use Rattle.cc_worked.specs.Verdict.{have_same, lists_reached, census_is_quiet, is_lawful, is_quiet_from, is_quiet, verdict, passes_verdict}
 use Rattle.cc_worked.proofs.Deciding.{both-decided, has-decided, all-decided}
-use Rattle.cc_worked.proofs.LawfulTest.{reached-decided, is_lawful-decided}
+use Rattle.cc_worked.proofs.LawfulTest.{is_lawful-decided}
 
 -- Whether two lists have the same names is decided.
 have_same-decided : (xs ys : List Name) → IsTrue (have_same xs ys) ↔

@@ -5,103 +5,104 @@ use Rattle.cc_model.specs.declared.item.Refusal.TheVariants.{Line, Empty, NoMemo
 use Rattle.cc_model.specs.declared.item.Reply.TheVariants.{Refused}
 use Rattle.cc_model.specs.declared.item.Event.TheVariants.{Freed, Abandoned}
 use Rattle.cc_model.specs.Answers.{no_answer, replying}
-use Rattle.cc_model.specs.Lawful.{census_of}
-use Rattle.cc_worked.specs.Transcripts.{Transcript, answered, made, ok, done_after, refused}
+use Rattle.cc_worked.specs.Transcripts.{Transcript, answered, made, lists, ok, done_after, refused}
 
 -- Garbage after `gc`, `collect` and `gc`
 
--- Natives that nothing reaches are gone.
+-- A native that no register reaches is gone after gc, collect and gc.
 abbrev pub garbage_is_kept : Transcript
 garbage_is_kept = answered (codes "native n0 0\ndrop n0\ngc\ncollect\ngc\ncensus\n")
-    (made (native 1) ∷ ok ∷ ok ∷ ok ∷ ok ∷ census_of (native 1 ∷ []) ∷ [])
+    (made (native 1) ∷ ok ∷ ok ∷ ok ∷ ok ∷ lists (native 1 ∷ []) ∷ [])
 
--- A further gc before them is no hindrance.
+-- A further gc may stand before the row.
 abbrev pub garbage_is_kept_after_two_gcs : Transcript
 garbage_is_kept_after_two_gcs = answered (codes "native n0 0\ndrop n0\ngc\ngc\ncollect\ngc\ncensus\n")
-    (made (native 1) ∷ ok ∷ ok ∷ ok ∷ ok ∷ ok ∷ census_of (native 1 ∷ []) ∷ [])
+    (made (native 1) ∷ ok ∷ ok ∷ ok ∷ ok ∷ ok ∷ lists (native 1 ∷ []) ∷ [])
 
--- Nor are a collect and a gc after them.
+-- A collect and a gc after the row make it whole again.
 abbrev pub garbage_is_kept_after_two_collections : Transcript
 garbage_is_kept_after_two_collections = answered (codes "native n0 0\ndrop n0\ngc\ncollect\ngc\ncollect\ngc\ncensus\n")
-    (made (native 1) ∷ ok ∷ ok ∷ ok ∷ ok ∷ ok ∷ ok ∷ census_of (native 1 ∷ []) ∷ [])
+    (made (native 1) ∷ ok ∷ ok ∷ ok ∷ ok ∷ ok ∷ ok ∷ lists (native 1 ∷ []) ∷ [])
 
--- The row may begin anew.
+-- A gc after the row begins a new one.
 abbrev pub garbage_is_kept_after_two_rows : Transcript
 garbage_is_kept_after_two_rows = answered (codes "native n0 0\ndrop n0\ngc\ncollect\ngc\ngc\ncollect\ngc\ncensus\n")
-    (made (native 1) ∷ ok ∷ ok ∷ ok ∷ ok ∷ ok ∷ ok ∷ ok ∷ census_of (native 1 ∷ []) ∷ [])
+    (made (native 1) ∷ ok ∷ ok ∷ ok ∷ ok ∷ ok ∷ ok ∷ ok ∷ lists (native 1 ∷ []) ∷ [])
 
--- Lines that ask nothing may stand in it.
+-- Lines that ask nothing may stand in the row.
 abbrev pub garbage_is_kept_between_blank_lines : Transcript
 garbage_is_kept_between_blank_lines = answered (codes "native n0 0\ndrop n0\ngc\n\ncollect\n% between\ngc\n\ncensus\n")
-    (made (native 1) ∷ ok ∷ ok ∷ no_answer ∷ ok ∷ no_answer ∷ ok ∷ no_answer ∷ census_of (native 1 ∷ []) ∷ [])
+    (made (native 1) ∷ ok ∷ ok ∷ no_answer ∷ ok ∷ no_answer ∷ ok ∷ no_answer ∷ lists (native 1 ∷ []) ∷ [])
 
--- Script objects that nothing reaches are gone,
+-- A script object that no register reaches is gone.
 abbrev pub script_object_is_kept : Transcript
 script_object_is_kept = answered (codes "script s0 0\ndrop s0\ngc\ncollect\ngc\ncensus\n")
-    (made (object 1) ∷ ok ∷ ok ∷ ok ∷ ok ∷ census_of (object 1 ∷ []) ∷ [])
+    (made (object 1) ∷ ok ∷ ok ∷ ok ∷ ok ∷ lists (object 1 ∷ []) ∷ [])
 
--- and so are reflectors.
+-- A reflector that no register reaches is gone.
 abbrev pub reflector_is_kept : Transcript
 reflector_is_kept = answered (codes "native n0 0\nwrap s0 n0\ndrop s0\ngc\ncollect\ngc\ncensus\n")
-    (made (native 1) ∷ made (reflector 1) ∷ ok ∷ ok ∷ ok ∷ ok ∷ census_of (native 1 ∷ reflector 1 ∷ []) ∷ [])
+    (made (native 1) ∷ made (reflector 1) ∷ ok ∷ ok ∷ ok ∷ ok ∷ lists (native 1 ∷ reflector 1 ∷ []) ∷ [])
 
 -- What a register reaches is listed. Such a transcript is not lawful either, since only a free line takes a name out.
 abbrev pub reached_native_is_missing : Transcript
 reached_native_is_missing = answered (codes "native n0 0\ngc\ncollect\ngc\ncensus\n")
-    (made (native 1) ∷ done_after (Freed (native 1) ∷ []) ∷ ok ∷ ok ∷ census_of [] ∷ [])
+    (made (native 1) ∷ done_after (Freed (native 1) ∷ []) ∷ ok ∷ ok ∷ lists [] ∷ [])
 
 -- Garbage that may stay
 
--- Garbage may be listed where no gc, collect and gc stand before the census,
+-- Garbage may be listed where no row stands before the census.
 abbrev pub no_gc_at_all : Transcript
-no_gc_at_all = answered (codes "native n0 0\ndrop n0\ncensus\n") (made (native 1) ∷ ok ∷ census_of (native 1 ∷ []) ∷ [])
+no_gc_at_all = answered (codes "native n0 0\ndrop n0\ncensus\n") (made (native 1) ∷ ok ∷ lists (native 1 ∷ []) ∷ [])
 
--- or the first of them does not,
+-- It may be listed where the first gc is missing.
 abbrev pub no_first_gc : Transcript
-no_first_gc = answered (codes "native n0 0\ndrop n0\ncollect\ngc\ncensus\n") (made (native 1) ∷ ok ∷ ok ∷ ok ∷ census_of (native 1 ∷ []) ∷ [])
+no_first_gc = answered (codes "native n0 0\ndrop n0\ncollect\ngc\ncensus\n") (made (native 1) ∷ ok ∷ ok ∷ ok ∷ lists (native 1 ∷ []) ∷ [])
 
--- or the second,
+-- It may be listed where the collect is missing.
 abbrev pub no_collect : Transcript
-no_collect = answered (codes "native n0 0\ndrop n0\ngc\ngc\ncensus\n") (made (native 1) ∷ ok ∷ ok ∷ ok ∷ census_of (native 1 ∷ []) ∷ [])
+no_collect = answered (codes "native n0 0\ndrop n0\ngc\ngc\ncensus\n") (made (native 1) ∷ ok ∷ ok ∷ ok ∷ lists (native 1 ∷ []) ∷ [])
 
--- or the third.
+-- It may be listed where the second gc is missing.
 abbrev pub no_last_gc : Transcript
-no_last_gc = answered (codes "native n0 0\ndrop n0\ngc\ncollect\ncensus\n") (made (native 1) ∷ ok ∷ ok ∷ ok ∷ census_of (native 1 ∷ []) ∷ [])
+no_last_gc = answered (codes "native n0 0\ndrop n0\ngc\ncollect\ncensus\n") (made (native 1) ∷ ok ∷ ok ∷ ok ∷ lists (native 1 ∷ []) ∷ [])
 
--- One collect stands between them.
+-- A second collect between them ends the row.
 abbrev pub two_collects : Transcript
 two_collects = answered (codes "native n0 0\ndrop n0\ngc\ncollect\ncollect\ngc\ncensus\n")
-    (made (native 1) ∷ ok ∷ ok ∷ ok ∷ ok ∷ ok ∷ census_of (native 1 ∷ []) ∷ [])
+    (made (native 1) ∷ ok ∷ ok ∷ ok ∷ ok ∷ ok ∷ lists (native 1 ∷ []) ∷ [])
 
--- A gc after them begins a new row.
+-- A gc after the row ends it, and begins a new one.
 abbrev pub one_gc_more : Transcript
 one_gc_more = answered (codes "native n0 0\ndrop n0\ngc\ncollect\ngc\ngc\ncensus\n")
-    (made (native 1) ∷ ok ∷ ok ∷ ok ∷ ok ∷ ok ∷ census_of (native 1 ∷ []) ∷ [])
+    (made (native 1) ∷ ok ∷ ok ∷ ok ∷ ok ∷ ok ∷ lists (native 1 ∷ []) ∷ [])
 
--- A refused line ends the row after each of the three,
+-- A refused line ends the row after the first gc.
 abbrev pub refused_line_after_the_first : Transcript
 refused_line_after_the_first = answered (codes "native n0 0\ndrop n0\ngc\npreserve s0\ncollect\ngc\ncensus\n")
-    (made (native 1) ∷ ok ∷ ok ∷ refused Empty ∷ ok ∷ ok ∷ census_of (native 1 ∷ []) ∷ [])
+    (made (native 1) ∷ ok ∷ ok ∷ refused Empty ∷ ok ∷ ok ∷ lists (native 1 ∷ []) ∷ [])
 
+-- A refused line ends the row after the collect.
 abbrev pub refused_line_after_the_second : Transcript
 refused_line_after_the_second = answered (codes "native n0 0\ndrop n0\ngc\ncollect\npreserve s0\ngc\ncensus\n")
-    (made (native 1) ∷ ok ∷ ok ∷ ok ∷ refused Empty ∷ ok ∷ census_of (native 1 ∷ []) ∷ [])
+    (made (native 1) ∷ ok ∷ ok ∷ ok ∷ refused Empty ∷ ok ∷ lists (native 1 ∷ []) ∷ [])
 
+-- A refused line ends the row after the second gc.
 abbrev pub refused_line_after_the_third : Transcript
 refused_line_after_the_third = answered (codes "native n0 0\ndrop n0\ngc\ncollect\ngc\npreserve s0\ncensus\n")
-    (made (native 1) ∷ ok ∷ ok ∷ ok ∷ ok ∷ refused Empty ∷ census_of (native 1 ∷ []) ∷ [])
+    (made (native 1) ∷ ok ∷ ok ∷ ok ∷ ok ∷ refused Empty ∷ lists (native 1 ∷ []) ∷ [])
 
--- and so does one that is not in the grammar,
+-- A line that is not in the grammar ends the row.
 abbrev pub bad_line_between : Transcript
 bad_line_between = answered (codes "native n0 0\ndrop n0\ngc\ndorp n0\ncollect\ngc\ncensus\n")
-    (made (native 1) ∷ ok ∷ ok ∷ refused Line ∷ ok ∷ ok ∷ census_of (native 1 ∷ []) ∷ [])
+    (made (native 1) ∷ ok ∷ ok ∷ refused Line ∷ ok ∷ ok ∷ lists (native 1 ∷ []) ∷ [])
 
--- and a slice.
+-- A slice ends the row.
 abbrev pub slice_between : Transcript
 slice_between = answered (codes "native n0 0\ndrop n0\ngc\nslice 1\ncollect\ngc\ncensus\n")
-    (made (native 1) ∷ ok ∷ ok ∷ ok ∷ ok ∷ ok ∷ census_of (native 1 ∷ []) ∷ [])
+    (made (native 1) ∷ ok ∷ ok ∷ ok ∷ ok ∷ ok ∷ lists (native 1 ∷ []) ∷ [])
 
--- A collect that was refused memory is none.
+-- A collect that was refused memory ends the row.
 abbrev pub collect_without_memory : Transcript
 collect_without_memory = answered (codes "native n0 0\ndrop n0\ngc\ncollect\ngc\ncensus\n")
-    (made (native 1) ∷ ok ∷ ok ∷ replying (Abandoned ∷ []) (Refused NoMemory) ∷ ok ∷ census_of (native 1 ∷ []) ∷ [])
+    (made (native 1) ∷ ok ∷ ok ∷ replying (Abandoned ∷ []) (Refused NoMemory) ∷ ok ∷ lists (native 1 ∷ []) ∷ [])

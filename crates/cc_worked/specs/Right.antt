@@ -5,15 +5,14 @@ use Rattle.cc_model.specs.declared.item.Refusal.TheVariants.{Long, Line, NoMemor
 use Rattle.cc_model.specs.declared.item.Reply.TheVariants.{Refused}
 use Rattle.cc_model.specs.declared.item.Event.TheVariants.{Unlinked, Freed, Abandoned}
 use Rattle.cc_model.specs.Answers.{no_answer, replying}
-use Rattle.cc_model.specs.Lawful.{census_of}
-use Rattle.cc_worked.specs.Transcripts.{Transcript, answered, made, ok, done_after, refused, without_memory}
+use Rattle.cc_worked.specs.Transcripts.{Transcript, answered, made, lists, ok, done_after, refused, without_memory}
 
 -- What makes an object or an entry may be refused memory, and then nothing was made.
 abbrev pub memory_may_be_refused : Transcript
 memory_may_be_refused = answered (codes "native n0 0\nscript s0 0\nweakmap s0\nnative n0 0\nwrap s0 n0\nweakmap s0\nwset s0 s0 s0\ncensus\n")
-    (without_memory ∷ without_memory ∷ without_memory ∷ made (native 1) ∷ without_memory ∷ made (object 1) ∷ without_memory ∷ census_of (native 1 ∷ object 1 ∷ []) ∷ [])
+    (without_memory ∷ without_memory ∷ without_memory ∷ made (native 1) ∷ without_memory ∷ made (object 1) ∷ without_memory ∷ lists (native 1 ∷ object 1 ∷ []) ∷ [])
 
--- So may a reflector that was freed.
+-- A reflector that was freed may be refused memory when it is to be made again.
 abbrev pub reflector_may_be_refused_again : Transcript
 reflector_may_be_refused_again = answered (codes "native n0 0\nwrap s0 n0\ndrop s0\ngc\nwrap s0 n0\n")
     (made (native 1) ∷ made (reflector 1) ∷ ok ∷ done_after (Freed (reflector 1) ∷ []) ∷ without_memory ∷ [])
@@ -32,9 +31,9 @@ abbrev pub two_collections_end : Transcript
 two_collections_end = answered (codes "native n0 0\nnative n1 0\ndrop n0\ndrop n1\ncollect\n")
     (made (native 1) ∷ made (native 2) ∷ ok ∷ ok ∷ done_after (Unlinked (native 2) ∷ Freed (native 2) ∷ Unlinked (native 1) ∷ Freed (native 1) ∷ []) ∷ [])
 
--- A native may be unlinked and not be freed, and be unlinked again; and freed by any command later.
-abbrev pub garbage_may_stay : Transcript
-garbage_may_stay = answered (codes "native n0 0\ndrop n0\nslice 1\ngc\ndrop n1\n")
+-- A native may be unlinked and not be freed, be unlinked again, and be freed by a drop later.
+abbrev pub garbage_stays_for_a_while : Transcript
+garbage_stays_for_a_while = answered (codes "native n0 0\ndrop n0\nslice 1\ngc\ndrop n1\n")
     (made (native 1) ∷ ok ∷ done_after (Unlinked (native 1) ∷ []) ∷ done_after (Unlinked (native 1) ∷ []) ∷ done_after (Freed (native 1) ∷ []) ∷ [])
 
 -- A value is freed where its key is.
@@ -50,4 +49,4 @@ lines_that_ask_nothing = answered ((replicate 121 97 ++ 10 ∷ []) ++ codes "dor
 -- A census lists natives and then script objects, and a reflector that was made again goes last.
 abbrev pub census_in_order : Transcript
 census_in_order = answered (codes "script s0 0\nnative n0 0\nwrap s1 n0\ndrop s1\ngc\nscript s1 0\nwrap s2 n0\ncensus\n")
-    (made (object 1) ∷ made (native 1) ∷ made (reflector 1) ∷ ok ∷ done_after (Freed (reflector 1) ∷ []) ∷ made (object 2) ∷ made (reflector 1) ∷ census_of (object 1 ∷ native 1 ∷ object 2 ∷ reflector 1 ∷ []) ∷ [])
+    (made (object 1) ∷ made (native 1) ∷ made (reflector 1) ∷ ok ∷ done_after (Freed (reflector 1) ∷ []) ∷ made (object 2) ∷ made (reflector 1) ∷ lists (native 1 ∷ object 1 ∷ object 2 ∷ reflector 1 ∷ []) ∷ [])

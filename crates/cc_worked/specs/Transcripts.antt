@@ -3,9 +3,9 @@ use Rattle.std.specs.Prelude.{ℕ, ◌-◌, List, [], length, take, None}
 use Rattle.cc_names.specs.declared.name.Name.{Name}
 use Rattle.cc_model.specs.declared.item.Refusal.{Refusal}
 use Rattle.cc_model.specs.declared.item.Refusal.TheVariants.{NoMemory}
-use Rattle.cc_model.specs.declared.item.Reply.TheVariants.{Named, Done, Refused}
+use Rattle.cc_model.specs.declared.item.Reply.TheVariants.{Named, Done, Census, Refused}
 use Rattle.cc_model.specs.declared.item.Event.{Event}
-use Rattle.cc_model.specs.Answers.{Answer, replying}
+use Rattle.cc_model.specs.Answers.{Answer, replying, listing}
 use Rattle.cc_model.specs.Asks.{Ask}
 use Rattle.cc_model.specs.Lawful.{IsLawful}
 use Rattle.cc_model.specs.Quiet.{IsQuiet}
@@ -37,6 +37,10 @@ refused refusal = replying [] (Refused refusal)
 
 abbrev pub without_memory : Answer
 without_memory = refused NoMemory
+
+-- names in the order in which they are listed, and their number
+abbrev pub lists : List Name → Answer
+lists names = listing names (Census (length names))
 
 -- events, and no reply
 abbrev pub only : List Event → Answer

@@ -14,7 +14,7 @@ abbrev pub freed_by_a_refused_command : Transcript
 freed_by_a_refused_command = answered (codes "native n0 0\ndrop n0\nset n0 0 none\n")
     (made (native 1) ∷ ok ∷ replying (Freed (native 1) ∷ []) (Refused Empty) ∷ [])
 
--- Nor does one that was refused memory.
+-- A command that was refused memory does nothing.
 abbrev pub freed_without_memory : Transcript
 freed_without_memory = answered (codes "native n0 0\ndrop n0\nnative n0 0\n")
     (made (native 1) ∷ ok ∷ replying (Freed (native 1) ∷ []) (Refused NoMemory) ∷ [])
@@ -27,7 +27,7 @@ freed_before_it_was_made = answered (codes "collect\n") (done_after (Freed (nati
 abbrev pub freed_twice : Transcript
 freed_twice = answered (codes "native n0 0\ndrop n0\n") (made (native 1) ∷ done_after (Freed (native 1) ∷ Freed (native 1) ∷ []) ∷ [])
 
--- Nor is it freed again later.
+-- What was freed is not freed again later.
 abbrev pub freed_again : Transcript
 freed_again = answered (codes "native n0 0\ndrop n0\ncollect\n")
     (made (native 1) ∷ done_after (Freed (native 1) ∷ []) ∷ done_after (Freed (native 1) ∷ []) ∷ [])
@@ -36,7 +36,7 @@ freed_again = answered (codes "native n0 0\ndrop n0\ncollect\n")
 abbrev pub freed_while_a_register_holds_it : Transcript
 freed_while_a_register_holds_it = answered (codes "native n0 0\ncollect\n") (made (native 1) ∷ done_after (Freed (native 1) ∷ []) ∷ [])
 
--- Nor is what a held native has in a slot.
+-- What a held native has in a slot is not freed.
 abbrev pub freed_while_a_slot_holds_it : Transcript
 freed_while_a_slot_holds_it = answered (codes "native n0 1\nnative n1 0\nset n0 0 n1\ndrop n1\n")
     (made (native 1) ∷ made (native 2) ∷ ok ∷ done_after (Freed (native 2) ∷ []) ∷ [])
@@ -60,17 +60,17 @@ value_is_freed_while_map_and_key_are_held = answered (codes "weakmap s0\nscript 
 abbrev pub script_object_is_freed_by_a_drop : Transcript
 script_object_is_freed_by_a_drop = answered (codes "script s0 0\ndrop s0\n") (made (object 1) ∷ done_after (Freed (object 1) ∷ []) ∷ [])
 
--- Nor does a slice.
+-- A slice frees no script object.
 abbrev pub script_object_is_freed_by_a_slice : Transcript
 script_object_is_freed_by_a_slice = answered (codes "script s0 0\ndrop s0\nslice 1\n")
     (made (object 1) ∷ ok ∷ done_after (Freed (object 1) ∷ []) ∷ [])
 
--- Nor does a collection.
+-- A collect frees no script object.
 abbrev pub script_object_is_freed_by_a_collect : Transcript
 script_object_is_freed_by_a_collect = answered (codes "script s0 0\ndrop s0\ncollect\n")
     (made (object 1) ∷ ok ∷ done_after (Freed (object 1) ∷ []) ∷ [])
 
--- It frees no reflector either.
+-- A collect frees no reflector.
 abbrev pub reflector_is_freed_by_a_collect : Transcript
 reflector_is_freed_by_a_collect = answered (codes "native n0 0\nwrap s0 n0\ndrop s0\ncollect\n")
     (made (native 1) ∷ made (reflector 1) ∷ ok ∷ done_after (Freed (reflector 1) ∷ []) ∷ [])
@@ -79,12 +79,12 @@ reflector_is_freed_by_a_collect = answered (codes "native n0 0\nwrap s0 n0\ndrop
 abbrev pub unlinked_before_it_was_made : Transcript
 unlinked_before_it_was_made = answered (codes "collect\n") (done_after (Unlinked (native 1) ∷ []) ∷ [])
 
--- Nor is what was freed.
+-- What was freed is not unlinked.
 abbrev pub unlinked_after_it_was_freed : Transcript
 unlinked_after_it_was_freed = answered (codes "native n0 0\ndrop n0\ncollect\n")
     (made (native 1) ∷ ok ∷ done_after (Freed (native 1) ∷ Unlinked (native 1) ∷ []) ∷ [])
 
--- Nor is what a register holds.
+-- What a register holds is not unlinked.
 abbrev pub unlinked_while_held : Transcript
 unlinked_while_held = answered (codes "native n0 0\ncollect\n") (made (native 1) ∷ done_after (Unlinked (native 1) ∷ []) ∷ [])
 
@@ -92,7 +92,7 @@ unlinked_while_held = answered (codes "native n0 0\ncollect\n") (made (native 1)
 abbrev pub unlinked_by_a_drop : Transcript
 unlinked_by_a_drop = answered (codes "native n0 0\ndrop n0\n") (made (native 1) ∷ done_after (Unlinked (native 1) ∷ []) ∷ [])
 
--- Nor does the making of another native.
+-- The making of another native unlinks nothing.
 abbrev pub unlinked_by_the_making_of_another : Transcript
 unlinked_by_the_making_of_another = answered (codes "native n0 0\ndrop n0\nnative n0 0\n")
     (made (native 1) ∷ ok ∷ replying (Unlinked (native 1) ∷ []) (Named (native 2)) ∷ [])
@@ -101,7 +101,7 @@ unlinked_by_the_making_of_another = answered (codes "native n0 0\ndrop n0\nnativ
 abbrev pub script_object_is_unlinked : Transcript
 script_object_is_unlinked = answered (codes "script s0 0\ndrop s0\ngc\n") (made (object 1) ∷ ok ∷ done_after (Unlinked (object 1) ∷ []) ∷ [])
 
--- Nor is a reflector.
+-- No reflector is unlinked.
 abbrev pub reflector_is_unlinked : Transcript
 reflector_is_unlinked = answered (codes "native n0 0\nwrap s0 n0\ndrop s0\ngc\n")
     (made (native 1) ∷ made (reflector 1) ∷ ok ∷ done_after (Unlinked (reflector 1) ∷ []) ∷ [])
@@ -111,17 +111,17 @@ abbrev pub unlinked_in_falling_order : Transcript
 unlinked_in_falling_order = answered (codes "native n0 0\nnative n1 0\ndrop n0\ndrop n1\nslice 9\n")
     (made (native 1) ∷ made (native 2) ∷ ok ∷ ok ∷ done_after (Unlinked (native 2) ∷ Unlinked (native 1) ∷ []) ∷ [])
 
--- It unlinks nothing twice.
+-- One collection unlinks nothing twice.
 abbrev pub unlinked_twice : Transcript
 unlinked_twice = answered (codes "native n0 0\ndrop n0\nslice 9\n")
     (made (native 1) ∷ ok ∷ done_after (Unlinked (native 1) ∷ Unlinked (native 1) ∷ []) ∷ [])
 
--- Gc ends one collection.
+-- Gc ends one collection at most.
 abbrev pub unlinked_in_falling_order_by_gc : Transcript
 unlinked_in_falling_order_by_gc = answered (codes "native n0 0\nnative n1 0\ndrop n0\ndrop n1\ngc\n")
     (made (native 1) ∷ made (native 2) ∷ ok ∷ ok ∷ done_after (Unlinked (native 2) ∷ Unlinked (native 1) ∷ []) ∷ [])
 
--- A collect ends two.
+-- A collect ends two collections at most.
 abbrev pub unlinked_in_three_runs : Transcript
 unlinked_in_three_runs = answered (codes "native n0 0\nnative n1 0\nnative n2 0\ndrop n0\ndrop n1\ndrop n2\ncollect\n")
     (made (native 1) ∷ made (native 2) ∷ made (native 3) ∷ ok ∷ ok ∷ ok ∷ done_after (Unlinked (native 3) ∷ Unlinked (native 2) ∷ Unlinked (native 1) ∷ []) ∷ [])
@@ -132,19 +132,19 @@ unlinked_in_three_runs = answered (codes "native n0 0\nnative n1 0\nnative n2 0\
 abbrev pub refused_slice_abandons_nothing : Transcript
 refused_slice_abandons_nothing = answered (codes "slice 1\n") (without_memory ∷ [])
 
--- So does a collect.
+-- A collect that is refused memory abandons its collection.
 abbrev pub refused_collect_abandons_nothing : Transcript
 refused_collect_abandons_nothing = answered (codes "collect\n") (without_memory ∷ [])
 
--- It is abandoned once.
+-- A slice abandons its collection once.
 abbrev pub refused_slice_abandons_twice : Transcript
 refused_slice_abandons_twice = answered (codes "slice 1\n") (replying (Abandoned ∷ Abandoned ∷ []) (Refused NoMemory) ∷ [])
 
--- So it is under a collect.
+-- A collect abandons its collection once.
 abbrev pub refused_collect_abandons_twice : Transcript
 refused_collect_abandons_twice = answered (codes "collect\n") (replying (Abandoned ∷ Abandoned ∷ []) (Refused NoMemory) ∷ [])
 
--- With the abandonment the refused collection ends.
+-- Nothing follows the abandonment of a collection that was refused memory.
 abbrev pub freed_after_the_abandonment : Transcript
 freed_after_the_abandonment = answered (codes "native n0 0\ndrop n0\ncollect\n")
     (made (native 1) ∷ ok ∷ replying (Abandoned ∷ Freed (native 1) ∷ []) (Refused NoMemory) ∷ [])
@@ -153,7 +153,7 @@ freed_after_the_abandonment = answered (codes "native n0 0\ndrop n0\ncollect\n")
 abbrev pub slice_abandons_and_is_done : Transcript
 slice_abandons_and_is_done = answered (codes "slice 1\n") (done_after (Abandoned ∷ []) ∷ [])
 
--- Nor does a collect.
+-- A collect that is done abandons nothing.
 abbrev pub collect_abandons_and_is_done : Transcript
 collect_abandons_and_is_done = answered (codes "collect\n") (done_after (Abandoned ∷ []) ∷ [])
 
@@ -161,7 +161,7 @@ collect_abandons_and_is_done = answered (codes "collect\n") (done_after (Abandon
 abbrev pub gc_abandons_twice : Transcript
 gc_abandons_twice = answered (codes "gc\n") (done_after (Abandoned ∷ Abandoned ∷ []) ∷ [])
 
--- It abandons it before anything else.
+-- Gc abandons the collection that runs before it frees anything.
 abbrev pub gc_abandons_late : Transcript
 gc_abandons_late = answered (codes "script s0 0\ndrop s0\ngc\n") (made (object 1) ∷ ok ∷ done_after (Freed (object 1) ∷ Abandoned ∷ []) ∷ [])
 

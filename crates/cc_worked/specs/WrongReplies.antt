@@ -5,8 +5,7 @@ use Rattle.cc_model.specs.declared.item.Refusal.TheVariants.{Long, Line, Empty, 
 use Rattle.cc_model.specs.declared.item.Reply.TheVariants.{Done, Census, Refused, Nothing as nothing_there}
 use Rattle.cc_model.specs.declared.item.Event.TheVariants.{Freed, Abandoned}
 use Rattle.cc_model.specs.Answers.{no_answer, replying, listing}
-use Rattle.cc_model.specs.Lawful.{census_of}
-use Rattle.cc_worked.specs.Transcripts.{Transcript, answered, only, made, ok, done_after, refused, without_memory}
+use Rattle.cc_worked.specs.Transcripts.{Transcript, answered, only, made, lists, ok, done_after, refused, without_memory}
 
 -- Answers
 
@@ -46,11 +45,11 @@ event_under_a_bad_line = answered (codes "dorp n0\n") (replying (Abandoned ∷ [
 abbrev pub blank_line_is_answered : Transcript
 blank_line_is_answered = answered (codes "\n") (ok ∷ [])
 
--- Nor has a comment.
+-- A comment has no answer.
 abbrev pub comment_is_answered : Transcript
 comment_is_answered = answered (codes "% drop n0\n") (ok ∷ [])
 
--- Nor does it anything.
+-- A line that asks nothing does nothing.
 abbrev pub event_under_a_blank_line : Transcript
 event_under_a_blank_line = answered (codes "\n") (only (Abandoned ∷ []) ∷ [])
 
@@ -64,7 +63,7 @@ another_reply = answered (codes "native n0 0\n") (ok ∷ [])
 abbrev pub number_used_again : Transcript
 number_used_again = answered (codes "native n0 0\nnative n1 0\n") (made (native 1) ∷ made (native 1) ∷ [])
 
--- None is left out.
+-- No number is left out.
 abbrev pub number_left_out : Transcript
 number_left_out = answered (codes "native n0 0\n") (made (native 2) ∷ [])
 
@@ -80,82 +79,82 @@ slot_is_read_as_empty = answered (codes "native n0 1\nset n0 0 n0\nget n1 n0 0\n
 abbrev pub refused_without_cause : Transcript
 refused_without_cause = answered (codes "drop n0\n") (refused Empty ∷ [])
 
--- One that does not pass them is refused.
+-- A command that fails a check is refused.
 abbrev pub done_in_place_of_a_refusal : Transcript
 done_in_place_of_a_refusal = answered (codes "preserve s0\n") (ok ∷ [])
 
--- It is refused for the first check that it fails.
+-- A command is refused for the first check that it fails.
 abbrev pub refused_for_another_cause : Transcript
 refused_for_another_cause = answered (codes "preserve s0\n") (refused Kind ∷ [])
 
 -- Wants of memory
 
--- A copy takes no memory.
+-- A copy of a native register takes no memory.
 abbrev pub copy_of_a_native_wants_memory : Transcript
 copy_of_a_native_wants_memory = answered (codes "copy n0 n1\n") (without_memory ∷ [])
 
--- Nor does one of a script register.
+-- A copy of a script register takes no memory.
 abbrev pub copy_of_a_script_object_wants_memory : Transcript
 copy_of_a_script_object_wants_memory = answered (codes "copy s0 s1\n") (without_memory ∷ [])
 
--- Nor does a drop.
+-- A drop takes no memory.
 abbrev pub drop_wants_memory : Transcript
 drop_wants_memory = answered (codes "drop n0\n") (without_memory ∷ [])
 
--- Nor the writing of a native's slot,
+-- The writing of a native's slot takes no memory.
 abbrev pub set_wants_memory : Transcript
 set_wants_memory = answered (codes "native n0 1\nset n0 0 none\n") (made (native 1) ∷ without_memory ∷ [])
 
--- nor its reading.
+-- The reading of a native's slot takes no memory.
 abbrev pub get_wants_memory : Transcript
 get_wants_memory = answered (codes "native n0 1\nget n1 n0 0\n") (made (native 1) ∷ without_memory ∷ [])
 
--- Nor the writing of a script object's slot,
+-- The writing of a script object's slot takes no memory.
 abbrev pub put_wants_memory : Transcript
 put_wants_memory = answered (codes "script s0 1\nput s0 0 none\n") (made (object 1) ∷ without_memory ∷ [])
 
--- nor its reading.
+-- The reading of a script object's slot takes no memory.
 abbrev pub take_wants_memory : Transcript
 take_wants_memory = answered (codes "script s0 1\ntake s1 s0 0\n") (made (object 1) ∷ without_memory ∷ [])
 
--- Nor the wrapping of a native whose reflector is listed.
+-- The wrapping of a native whose reflector is listed takes no memory.
 abbrev pub wrap_of_a_listed_reflector_wants_memory : Transcript
 wrap_of_a_listed_reflector_wants_memory = answered (codes "native n0 0\nwrap s0 n0\nwrap s1 n0\n")
     (made (native 1) ∷ made (reflector 1) ∷ without_memory ∷ [])
 
--- Nor the way back to the native.
+-- The unwrapping of a reflector takes no memory.
 abbrev pub unwrap_wants_memory : Transcript
 unwrap_wants_memory = answered (codes "native n0 0\nwrap s0 n0\nunwrap n1 s0\n") (made (native 1) ∷ made (reflector 1) ∷ without_memory ∷ [])
 
--- Nor does preserving.
+-- The preserving of a reflector takes no memory.
 abbrev pub preserve_wants_memory : Transcript
 preserve_wants_memory = answered (codes "native n0 0\nwrap s0 n0\npreserve s0\n") (made (native 1) ∷ made (reflector 1) ∷ without_memory ∷ [])
 
--- Nor does an entry that is there already,
+-- An entry that is there already takes no memory when it is set again.
 abbrev pub replaced_entry_wants_memory : Transcript
 replaced_entry_wants_memory = answered (codes "weakmap s0\nwset s0 s0 s0\nwset s0 s0 s0\n") (made (object 1) ∷ ok ∷ without_memory ∷ [])
 
--- nor one that is taken out,
+-- The taking out of an entry takes no memory.
 abbrev pub taken_out_entry_wants_memory : Transcript
 taken_out_entry_wants_memory = answered (codes "weakmap s0\nwset s0 s0 none\n") (made (object 1) ∷ without_memory ∷ [])
 
--- nor one that is read.
+-- The reading of an entry takes no memory.
 abbrev pub wget_wants_memory : Transcript
 wget_wants_memory = answered (codes "weakmap s0\nwget s1 s0 s0\n") (made (object 1) ∷ without_memory ∷ [])
 
--- Nor does exposing.
+-- The exposing of a slot takes no memory.
 abbrev pub expose_wants_memory : Transcript
 expose_wants_memory = answered (codes "native n0 1\nexpose n0 0\n") (made (native 1) ∷ without_memory ∷ [])
 
--- Nor does gc.
+-- Gc takes no memory.
 abbrev pub gc_wants_memory : Transcript
 gc_wants_memory = answered (codes "gc\n") (without_memory ∷ [])
 
--- A command that is refused asks no memory.
+-- A wrapping that the graph refuses asks no memory.
 abbrev pub refused_wrap_wants_memory : Transcript
 refused_wrap_wants_memory = answered (codes "wrap s0 n0\n") (without_memory ∷ [])
 
--- Nor does an entry that is refused.
+-- An entry that the graph refuses asks no memory.
 abbrev pub refused_wset_wants_memory : Transcript
 refused_wset_wants_memory = answered (codes "wset s0 s1 s2\n") (without_memory ∷ [])
 
@@ -167,51 +166,51 @@ full_in_place_of_want_of_memory = answered (codes "native n0 0\n") (refused Full
 
 -- A census leaves nothing out.
 abbrev pub census_leaves_one_out : Transcript
-census_leaves_one_out = answered (codes "native n0 0\ncensus\n") (made (native 1) ∷ census_of [] ∷ [])
+census_leaves_one_out = answered (codes "native n0 0\ncensus\n") (made (native 1) ∷ lists [] ∷ [])
 
--- It lists nothing that was freed,
+-- A census lists nothing that was freed.
 abbrev pub census_lists_what_was_freed : Transcript
 census_lists_what_was_freed = answered (codes "native n0 0\ndrop n0\ncensus\n")
-    (made (native 1) ∷ done_after (Freed (native 1) ∷ []) ∷ census_of (native 1 ∷ []) ∷ [])
+    (made (native 1) ∷ done_after (Freed (native 1) ∷ []) ∷ lists (native 1 ∷ []) ∷ [])
 
--- nor what could not be made.
+-- A census lists nothing that could not be made.
 abbrev pub census_lists_what_was_not_made : Transcript
-census_lists_what_was_not_made = answered (codes "native n0 0\ncensus\n") (without_memory ∷ census_of (native 1 ∷ []) ∷ [])
+census_lists_what_was_not_made = answered (codes "native n0 0\ncensus\n") (without_memory ∷ lists (native 1 ∷ []) ∷ [])
 
--- It lists natives first,
+-- A census lists natives first.
 abbrev pub census_lists_script_objects_first : Transcript
 census_lists_script_objects_first = answered (codes "script s0 0\nnative n0 0\ncensus\n")
     (made (object 1) ∷ made (native 1) ∷ listing (object 1 ∷ native 1 ∷ []) (Census 2) ∷ [])
 
--- by rising number,
+-- A census lists natives by rising number.
 abbrev pub census_lists_in_falling_order : Transcript
 census_lists_in_falling_order = answered (codes "native n0 0\nnative n1 0\ncensus\n")
     (made (native 1) ∷ made (native 2) ∷ listing (native 2 ∷ native 1 ∷ []) (Census 2) ∷ [])
 
--- and a reflector that was made again goes last;
+-- A reflector that was made again is listed last.
 abbrev pub census_lists_a_reflector_in_its_old_place : Transcript
 census_lists_a_reflector_in_its_old_place = answered (codes "native n0 0\nwrap s0 n0\nscript s1 0\ndrop s0\ngc\nwrap s0 n0\ncensus\n")
     (made (native 1) ∷ made (reflector 1) ∷ made (object 1) ∷ ok ∷ done_after (Freed (reflector 1) ∷ []) ∷ made (reflector 1) ∷ listing (native 1 ∷ reflector 1 ∷ object 1 ∷ []) (Census 3) ∷ [])
 
--- but one that was there keeps its place,
+-- A reflector that was there keeps its place when its native is wrapped again.
 abbrev pub census_lists_a_wrapped_reflector_last : Transcript
 census_lists_a_wrapped_reflector_last = answered (codes "native n0 0\nwrap s0 n0\nscript s1 0\nwrap s2 n0\ncensus\n")
     (made (native 1) ∷ made (reflector 1) ∷ made (object 1) ∷ made (reflector 1) ∷ listing (native 1 ∷ object 1 ∷ reflector 1 ∷ []) (Census 3) ∷ [])
 
--- and is listed once.
+-- A reflector is listed once.
 abbrev pub census_lists_a_reflector_twice : Transcript
 census_lists_a_reflector_twice = answered (codes "native n0 0\nwrap s0 n0\nwrap s1 n0\ncensus\n")
     (made (native 1) ∷ made (reflector 1) ∷ made (reflector 1) ∷ listing (native 1 ∷ reflector 1 ∷ reflector 1 ∷ []) (Census 3) ∷ [])
 
--- It tells how many it lists.
+-- A census tells how many names it lists.
 abbrev pub census_tells_another_number : Transcript
 census_tells_another_number = answered (codes "native n0 0\ncensus\n") (made (native 1) ∷ listing (native 1 ∷ []) (Census 2) ∷ [])
 
--- It tells their number.
+-- A census does not end without that number.
 abbrev pub census_tells_no_number : Transcript
 census_tells_no_number = answered (codes "native n0 0\ncensus\n")
     (made (native 1) ∷ record { events = []; listed = native 1 ∷ []; reply = None } ∷ [])
 
--- It frees nothing.
+-- A census frees nothing.
 abbrev pub freed_by_a_census : Transcript
 freed_by_a_census = answered (codes "native n0 0\ndrop n0\ncensus\n") (made (native 1) ∷ ok ∷ replying (Freed (native 1) ∷ []) (Census 0) ∷ [])

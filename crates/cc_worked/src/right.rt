@@ -1,6 +1,6 @@
 //! Transcripts that are right, at the limits of what is lawful.
 ghost use Rattle.cc_worked.specs.Transcripts.{IsRight};
-ghost use Rattle.cc_worked.specs.Right.{memory_may_be_refused, reflector_may_be_refused_again, refused_collections_abandon, gc_abandons_first, two_collections_end, garbage_may_stay, value_goes_with_its_key, lines_that_ask_nothing, census_in_order};
+ghost use Rattle.cc_worked.specs.Right.{memory_may_be_refused, reflector_may_be_refused_again, refused_collections_abandon, gc_abandons_first, two_collections_end, garbage_stays_for_a_while, value_goes_with_its_key, lines_that_ask_nothing, census_in_order};
 
 /// What the clauses allow passes, at their limits.
 pub fn right_transcripts_pass()
@@ -9,7 +9,7 @@ pub fn right_transcripts_pass()
     ensures refused_collections_abandon { IsRight refused_collections_abandon }
     ensures gc_abandons_first { IsRight gc_abandons_first }
     ensures two_collections_end { IsRight two_collections_end }
-    ensures garbage_may_stay { IsRight garbage_may_stay }
+    ensures garbage_stays_for_a_while { IsRight garbage_stays_for_a_while }
     ensures value_goes_with_its_key { IsRight value_goes_with_its_key }
     ensures lines_that_ask_nothing { IsRight lines_that_ask_nothing }
     ensures census_in_order { IsRight census_in_order }

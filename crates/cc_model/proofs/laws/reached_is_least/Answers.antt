@@ -1,8 +1,8 @@
-use Rattle.cc_lists.proofs.Closure.{closure-derived, derived-closure, closure-decides}
+use Rattle.cc_lists.proofs.Closure.{closure-derived, derived-closure}
 use Rattle.cc_names.specs.Names.{same_name}
 use Rattle.cc_names.proofs.NameTests.{same_name-exact}
 use Rattle.cc_model.specs.Reached.{reach_rules}
-use Rattle.cc_model.proofs.Reaching.{reached-derived, derived-reached}
+use Rattle.cc_model.proofs.Reaching.{reached-derived, derived-reached, reached-decided}
 use Rattle.cc_model.proofs.laws.reached_is_least.Goals as goal
 
 pub returns-clause-least : goal.returns-clause-least
@@ -15,7 +15,4 @@ returns-clause-list c = λ g x. (
 )
 
 pub returns-clause-decided : goal.returns-clause-decided
-returns-clause-decided c = λ g x. (
-  (λ e. derived-reached g x ((closure-decides same_name same_name-exact (reach_rules g) x).0 e)),
-  (λ d. (closure-decides same_name same_name-exact (reach_rules g) x).1 (reached-derived g x d)),
-)
+returns-clause-decided c = reached-decided

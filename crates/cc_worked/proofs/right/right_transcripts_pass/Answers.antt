@@ -1,5 +1,5 @@
 use Rattle.std.specs.Prelude.{refl}
-use Rattle.cc_worked.specs.Right.{memory_may_be_refused, reflector_may_be_refused_again, refused_collections_abandon, gc_abandons_first, two_collections_end, garbage_may_stay, value_goes_with_its_key, lines_that_ask_nothing, census_in_order}
+use Rattle.cc_worked.specs.Right.{memory_may_be_refused, reflector_may_be_refused_again, refused_collections_abandon, gc_abandons_first, two_collections_end, garbage_stays_for_a_while, value_goes_with_its_key, lines_that_ask_nothing, census_in_order}
 use Rattle.cc_worked.proofs.Opened.{all_of_a_run}
 use Rattle.cc_worked.proofs.Judged.{right}
 use Rattle.cc_worked.proofs.right.right_transcripts_pass.Goals as goal
@@ -24,9 +24,9 @@ pub returns-clause-two_collections_end : goal.returns-clause-two_collections_end
 unfolding all_of_a_run
 returns-clause-two_collections_end c = right two_collections_end refl
 
-pub returns-clause-garbage_may_stay : goal.returns-clause-garbage_may_stay
+pub returns-clause-garbage_stays_for_a_while : goal.returns-clause-garbage_stays_for_a_while
 unfolding all_of_a_run
-returns-clause-garbage_may_stay c = right garbage_may_stay refl
+returns-clause-garbage_stays_for_a_while c = right garbage_stays_for_a_while refl
 
 pub returns-clause-value_goes_with_its_key : goal.returns-clause-value_goes_with_its_key
 unfolding all_of_a_run
