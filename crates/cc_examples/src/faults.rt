@@ -10,7 +10,7 @@ use std::test::Fail;
 /// The four lines whose cycle of one outlives its register: 39 bytes.
 const LINES: &str = "native n0 1 / set n0 0 n0 / drop n0 / census";
 
-/// What they answer, and its first three lines, two lines and line.
+/// What they answer is the last of these; before it stand its beginnings of no line, one, two and three lines.
 const ANSWERS: [&[u8]; 5] = [
     b"",
     b"= #1\n",
@@ -19,6 +19,7 @@ const ANSWERS: [&[u8]; 5] = [
     b"= #1\n= ok\n= ok\n+ #1\n= census 1\n",
 ];
 
+/// The lines from a source that gives a byte at a time, and fails at these calls.
 fn byte_by_byte(alloc: Global, fails: Vec<u64>) -> Result<BytesSource, AllocError> {
     Ok(BytesSource::new(script(alloc, LINES)?, fails, 1))
 }

@@ -52,7 +52,7 @@ impl Graph {
     }
 
     /// The number of the node of `name`, which is made where there is none: it goes last, and its number is how many
-    /// nodes there were. A node that is there stays as it is, also where it is held elsewhere.
+    /// nodes there were. A node that is there stays as it is, also where it was added with another `held`.
     ///
     /// `NoMemory` leaves everything as it was. The graph has fewer than 4294967295 nodes.
     pub fn add_node(&mut self, name: Name, held: Held) -> Result<u32, NoMemory>
@@ -214,7 +214,7 @@ impl Graph {
         place_from(self.references.as_slice(), i, 0)
     }
 
-    /// The next place, behind `j`, of a reference that the same node has as the one at `j`; none where that is its last.
+    /// The place, behind `j`, of the next reference of the node that has the one at `j`; none where that is its last.
     pub fn next_from(&self, j: usize) -> Option<usize>
         requires { j < length self.now.edges }
         ensures place { option_map (λ e. place_from self.now.edges e.source (j + 1)) (slice_get self.now.edges j) ≡ Some result }
