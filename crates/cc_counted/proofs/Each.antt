@@ -11,7 +11,7 @@ use Rattle.cc_laws_heap.proofs.GiveUp.{IsBalanced-give_up_each}
 use Rattle.cc_laws_heap.specs.Balance.{IsBalanced}
 use Rattle.cc_counted.specs.declared.held.Held.{Held}
 use Rattle.cc_counted.specs.declared.held.Held.TheVariants as held
-use Rattle.cc_counted.specs.Counts.{number_at, the_number, is_live, native_in}
+use Rattle.cc_counted.specs.Counts.{number_at, the_number, is_live, native_held}
 use Rattle.cc_counted.specs.Lists.{Placed, Lists, cell_at, without_count, keyed, numbers_in, draining_of, IsPlaced}
 use Rattle.cc_counted.specs.Steps.{GivesUp}
 use Rattle.cc_counted.proofs.Places.{number_at-found, the_number-cell}
@@ -64,7 +64,7 @@ module _ (start : Lists) (slots : List (Option Held)) where
     dropped x e = rw (drop-cons slots i None, e, add-one) refl
 
     -- an empty slot is passed over, and so is one that holds a script object
-    pub GivesUpRest-none : native_in (get_or slots i None) ≡ None → GivesUpRest start now slots (i + 1)
+    pub GivesUpRest-none : native_held (get_or slots i None) ≡ None → GivesUpRest start now slots (i + 1)
     GivesUpRest-none e =
         let same : numbers_in (keyed start.cells) (drop i slots) ≡ numbers_in (keyed start.cells) (drop (i + 1) slots) =
         ap (numbers_in (keyed start.cells)) (dropped (get_or slots i None) refl)

@@ -18,7 +18,7 @@ use Rattle.cc_laws_heap.proofs.DrainingAlike.{IsAlike-length, IsAlike-give_up}
 use Rattle.cc_laws_heap.proofs.Drain.{drain-balanced}
 use Rattle.cc_counted.specs.declared.held.Held.{Held}
 use Rattle.cc_counted.specs.declared.held.Held.TheVariants as held
-use Rattle.cc_counted.specs.Counts.{number_at, number_or_none, the_number, name_of, is_live, numbers_held, native_in, heap_of}
+use Rattle.cc_counted.specs.Counts.{number_at, number_or_none, the_number, name_of, is_live, numbers_held, native_held, heap_of}
 use Rattle.cc_counted.specs.Lists.{Placed, Lists, cell_at, with_slot, without_count, keyed, counts_of, draining_of, IsPlaced, LeavesCells}
 use Rattle.cc_counted.specs.Steps.{ComesTo, EmptiesSlot}
 use Rattle.cc_counted.proofs.Places.{number_at-cell, the_number-cell, native-key, one_key}
@@ -117,7 +117,7 @@ module _ (l : Lists) (p : IsPlaced l) (key : ℕ) (c : Placed) (at : cell_at l.c
     in-hand x f = subst (λ y. IsBalanced (numbers_held (keyed l.cells) y ++ c.number ∷ others) (draining_of emptied_lists [])) f (IsBalanced-emptied (c.number ∷ others) b)
 
     -- a slot that holds no native gives nothing up
-    pub EmptiesSlot-none : (before : Telling) → native_in content ≡ None → EmptiesSlot l emptied_lists key i before before
+    pub EmptiesSlot-none : (before : Telling) → native_held content ≡ None → EmptiesSlot l emptied_lists key i before before
     EmptiesSlot-none before none = record {
       was = c;
       was_there = at;

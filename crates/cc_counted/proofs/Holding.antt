@@ -9,7 +9,7 @@ use Rattle.cc_model.specs.Heap.{Heap, silently}
 use Rattle.cc_model.specs.Cascade.{let_go}
 use Rattle.cc_counted.specs.declared.held.Held.{Held}
 use Rattle.cc_counted.specs.declared.held.Held.TheVariants as held
-use Rattle.cc_counted.specs.Counts.{Counts, number_at, number_or_none, name_of, is_live, numbers_held, native_in}
+use Rattle.cc_counted.specs.Counts.{Counts, number_at, number_or_none, name_of, is_live, numbers_held, native_held}
 use Rattle.cc_counted.specs.Lists.{names_in, numbers_in}
 
 -- the natives in what slots hold by names are those that they hold by keys
@@ -50,19 +50,19 @@ numbers-same c d [] h = refl
 numbers-same c d (x ∷ xs) h = ap (λ y. y ++ numbers_in d xs) (h x (inl refl)) ∙ ap (λ ys. numbers_held c x ++ ys) (numbers-same c d xs (λ y m. h y (inr m)))
 
 -- where a native is held, that is all that is held
-pub held-native : (x : Option Held) (key : NKey) → native_in x ≡ Some key → x ≡ Some (held.Native key)
+pub held-native : (x : Option Held) (key : NKey) → native_held x ≡ Some key → x ≡ Some (held.Native key)
 held-native None key e = absurd (cc)
 held-native (Some (held.Native k)) key e = ap (λ (j : NKey). Some (held.Native j)) (cc)
 held-native (Some (held.Script k)) key e = absurd (cc)
 
 -- where none is, nothing is counted
-pub numbers-none : (c : Counts) (x : Option Held) → native_in x ≡ None → numbers_held c x ≡ []
+pub numbers-none : (c : Counts) (x : Option Held) → native_held x ≡ None → numbers_held c x ≡ []
 numbers-none c None e = refl
 numbers-none c (Some (held.Native k)) e = absurd (cc)
 numbers-none c (Some (held.Script k)) e = refl
 
 -- and to give it up does nothing
-pub let_go-none : (c : Counts) (x : Option Held) (h : Heap) → native_in x ≡ None → let_go h (name_of c x) ≡ silently h
+pub let_go-none : (c : Counts) (x : Option Held) (h : Heap) → native_held x ≡ None → let_go h (name_of c x) ≡ silently h
 let_go-none c None h e = refl
 let_go-none c (Some (held.Native k)) h e = absurd (cc)
 let_go-none c (Some (held.Script k)) h e = refl

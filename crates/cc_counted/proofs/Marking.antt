@@ -5,21 +5,13 @@ use Rattle.std.proofs.lemmas.Bool.{eq-eqb, ne_eqb}
 use Rattle.std.proofs.lemmas.Bool.Decides.{eqb_tells}
 use Rattle.cc_lists.specs.Members.{Among}
 use Rattle.cc_lists.proofs.Members.{Among-filtered}
+use Rattle.cc_lists.proofs.Filtering.{filter-agree}
 use Rattle.cc_lists.proofs.Searching.{filter-map}
 use Rattle.cc_model.specs.Heap as heap
 use Rattle.cc_purple.specs.Marks.{Marked, marked_as, with_mark, without_key}
 use Rattle.cc_counted.specs.Counts.{the_number}
 use Rattle.cc_counted.specs.Lists.{Placed, Lists, cell_at, keyed, marked_number, IsPlaced}
 use Rattle.cc_counted.proofs.Places.{the_number-cell, one_key}
-
--- tests that agree on the members keep the same
-pub filter-agree : {X : Type 0} (p q : X → Bool) (xs : List X) → ((x : X) → Among x xs → p x ≡ q x) → filter p xs ≡ filter q xs
-filter-agree p q [] h = refl
-filter-agree {X} p q (x ∷ xs) h = go (filter-agree p q xs (λ y m. h y (inr m))) (p x) refl
-  where
-    go : filter p xs ≡ filter q xs → (b : Bool) → p x ≡ b → filter p (x ∷ xs) ≡ filter q (x ∷ xs)
-    go ih true e = let f : q x ≡ true = sym (h x (inl refl)) ∙ e in rw (e, f, ih) refl
-    go ih false e = let f : q x ≡ false = sym (h x (inl refl)) ∙ e in rw (e, f, ih) refl
 
 module _ (l : Lists) (p : IsPlaced l) (key : ℕ) (c : Placed) (at : cell_at l.cells key ≡ Some c) where
   -- keys of natives are equal where their numbers are

@@ -4,13 +4,15 @@ use Rattle.std.specs.List.{filter}
 use Rattle.std.proofs.lemmas.Bool.{eqb-true, eq-eqb, lt-ltb, le-ltb, true≢false}
 use Rattle.cc_lists.specs.Members.{Among}
 use Rattle.cc_lists.proofs.Members.{Among-map, Among-map_cases}
+use Rattle.cc_lists.specs.Walks.{first_of}
 use Rattle.cc_lists.proofs.Filtering.{filter-each}
+use Rattle.cc_lists.proofs.Walks.{first-among}
 use Rattle.cc_model.specs.Heap.{HeapNative}
 use Rattle.cc_model.specs.WellFormed.{IsRising}
 use Rattle.cc_laws_heap.proofs.Rising.{IsRising-tail, IsRising-first}
 use Rattle.cc_names.specs.declared.number.NKey.{NKey}
 use Rattle.cc_counted.specs.Counts.{number_at, the_number, first_number, number_after}
-use Rattle.cc_counted.specs.Lists.{Placed, Lists, cell_at, keyed, shown_at, counts_of, IsPlaced, first_of, key_behind}
+use Rattle.cc_counted.specs.Lists.{Placed, Lists, cell_at, keyed, shown_at, counts_of, IsPlaced, key_behind}
 use Rattle.cc_counted.proofs.Places.{number_at-cell, the_number-cell, shown-number}
 
 module _ (l : Lists) (p : IsPlaced l) where
@@ -75,10 +77,6 @@ and_then-key {Y} f o k e = go o ∙ ap (option_and_then f) e
     go (Some a) = refl
 
 -- a key that is found is one of the list
-pub first-among : (ks : List ℕ) (j : ℕ) → first_of ks ≡ Some j → Among j ks
-first-among [] j e = absurd (cc)
-first-among (k ∷ ks) j e = inl (cc)
-
 pub behind-among : (key : ℕ) (ks : List ℕ) (j : ℕ) → key_behind key ks ≡ Some j → Among j ks
 behind-among key [] j e = absurd (cc)
 behind-among key (k ∷ ks) j e = go (behind-among key ks j) (k == key) e

@@ -2,7 +2,7 @@
 use Rattle.std.proofs.Common.{◌≡◌, ℕ, zero, suc, ◌<◌, ◌≤◌, Bool, true, false, List, [], ◌∷◌, length, Option, Some, None, refl, sym, ◌∙◌, ap, ⊎_elim, ◌⊎◌, inl, inr, arith, count_by, ◌==◌}
 use Rattle.std.proofs.lemmas.Bool.{eq-eqb}
 use Rattle.std.proofs.lemmas.List.{length-map}
-use Rattle.cc_lists.proofs.Counting.{count_by-cons, count_by-some, count_by-below}
+use Rattle.cc_lists.proofs.Counting.{count_by-all, count_by-some, count_by-below}
 use Rattle.cc_model.specs.declared.item.Event.{Event}
 use Rattle.cc_model.specs.Heap.{Heap, HeapNative, Buffered, native_at}
 use Rattle.cc_model.specs.Cascade.{Draining}
@@ -17,10 +17,6 @@ use Rattle.cc_counted.specs.Counts.{the_number, heap_of}
 use Rattle.cc_counted.specs.Lists.{Placed, Lists, cell_at, keyed, shown, marked_number, draining_of, counts_of, IsPlaced}
 use Rattle.cc_counted.proofs.Places.{length-natives, native_at-cell}
 use Rattle.cc_counted.proofs.Marking.{buffer-with_mark}
-
-count_by-all : {X : Type 0} (xs : List X) → count_by (λ x. true) xs ≡ length xs
-count_by-all [] = refl
-count_by-all (x ∷ xs) = omega (arith, count_by-cons (λ y. true) x xs, count_by-all xs)
 
 -- what is found at a number stands in the list
 found-counted : (h : Heap) (k n : ℕ) (f : Option HeapNative → ℕ) → f None ≡ 0 → ((m : HeapNative) → f (Some m) ≤ 1) → f (native_at h k) ≤ count_by (has_number k) h.natives

@@ -96,7 +96,7 @@ module _ (l : Lists) (p : IsPlaced l) (key : ℕ) (c : Placed) (at : cell_at l.c
           count_by-flat_map_set (same_name (native j)) option_to_list (names_in (keyed l.cells) c.slots) i (name_of (keyed l.cells) x) None (omega (arith, within, names-length)),
           times-held (keyed l.cells) x live j owned,
           times-held (keyed l.cells) content content-live j owned
-          ∙ ap (λ y. count_by (same_name (native j)) (option_to_list y) + times j owned) (sym name-content),
+              ∙ ap (λ y. count_by (same_name (native j)) (option_to_list y) + times j owned) (sym name-content),
         );
         queue = λ j. b.queue j ∙ sym (kept waiting (λ n. refl) j);
         buffer = λ j. omega (arith, b.buffer j, kept living (λ n. refl) j);

@@ -26,7 +26,8 @@ use Rattle.cc_counted.specs.Lists.{Placed, Lists, cell_at, keyed, shown, shown_a
 use Rattle.cc_counted.proofs.Places.{cell_number, number_at-cells, number_at-cell, the_number-cell, shown-number, native_at-cell}
 use Rattle.cc_lists.proofs.ListWrites.{map-agree}
 use Rattle.cc_counted.proofs.Changing.{cell-within}
-use Rattle.cc_counted.proofs.Marking.{filter-agree, key-test}
+use Rattle.cc_lists.proofs.Filtering.{filter-agree}
+use Rattle.cc_counted.proofs.Marking.{key-test}
 use Rattle.cc_counted.proofs.GivingUp.{draining-same}
 use Rattle.cc_counted.proofs.Holding.{held-same, names-same, numbers-same}
 

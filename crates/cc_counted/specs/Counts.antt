@@ -54,10 +54,10 @@ numbers_held c (Some (held.Native key)) = the_number c key.0 ∷ []
 numbers_held c (Some (held.Script key)) = []
 
 -- the key of the native that is held
-abbrev pub native_in : Option Held → Option NKey
-native_in None = None
-native_in (Some (held.Native key)) = Some key
-native_in (Some (held.Script key)) = None
+abbrev pub native_held : Option Held → Option NKey
+native_held None = None
+native_held (Some (held.Native key)) = Some key
+native_held (Some (held.Script key)) = None
 
 -- limits that nothing looks at
 abbrev pub no_limits : Allowance

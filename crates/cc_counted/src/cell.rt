@@ -1,3 +1,4 @@
+//! A native as it stands at its key: its number, its slots and its count.
 ghost use Rattle.std.specs.Prelude.{◌≡◌, ◌+◌, ◌<◌, ◌≤◌, length, None, IsSome, option_map, slice_index_or, slice_set};
 ghost use Rattle.cc_counted.specs.Lists.{cell_at, count_placed, slots_placed, with_one_less, with_one_more, with_slot};
 

@@ -1,3 +1,4 @@
+//! The counted heap as callers see it.
 ghost use Rattle.std.specs.Prelude.{◌≡◌, ◌≢◌, false, ℕ, ◌+◌, ◌<◌, ◌≤◌, List, [], ◌∷◌, ◌++◌, length, map, Some, None, option_map, option_and_then, slice_index_or, IsSome, IsTrue, IfSome, MatchOption, OnOk, IfOk, OnErr};
 ghost use Rattle.cc_names.specs.Names.{native};
 ghost use Rattle.cc_model.specs.declared.item.Item.TheVariants.{Event};
@@ -14,7 +15,7 @@ ghost use Rattle.cc_lists.specs.Members.{Among};
 
 use crate::held::Held;
 use crate::order::{behind, key_at};
-use crate::parts::Parts;
+use crate::parts::CountedParts;
 use cc_model::Notices;
 use cc_names::{NKey, NativeNo, NoMemory};
 use std::alloc::Global;
@@ -22,14 +23,16 @@ use std::marker::Model;
 
 /// The reference-counted heap of natives, by key.
 ///
-/// A caller owns the references that it took, and gives each up once, by `release` or by putting it into a slot.
+/// A caller owns the references that it took, and gives each up once, by `release` or by putting it into a slot. The
+/// clause `owned` of each call says which references callers give and which they gain: `create`, `add_ref` and `root`
+/// give them one, `release` and `unroot` take one, and `set_slot` takes the new one and gives back the old.
 /// Contracts see natives by their numbers, which are never used again; a key comes back once its native is gone.
 ///
 /// A slot may hold a script object too. It is not counted, and this heap knows its key alone: contracts name it `object`
 /// of its key, in the place of a number. Crates above give it its own name, and see to it that it is there.
 #[derive(Drop)]
 pub struct Counted {
-    parts: Parts,
+    parts: CountedParts,
     alloc: Global,
 }
 
@@ -52,7 +55,7 @@ impl Counted {
         ensures owned { AreOwned [] result }
     {
         Counted {
-            parts: Parts::new(alloc),
+            parts: CountedParts::new(alloc),
             alloc,
         }
     }

@@ -1,5 +1,6 @@
+//! What a slot of a native holds.
 ghost use Rattle.std.specs.Prelude.{◌≡◌};
-ghost use Rattle.cc_counted.specs.Counts.{native_in};
+ghost use Rattle.cc_counted.specs.Counts.{native_held};
 
 use cc_names::{NKey, SKey};
 
@@ -13,8 +14,8 @@ pub enum Held {
 }
 
 /// The key of the native in a slot; none of an empty slot, and of one that holds a script object.
-pub(crate) fn native_in(slot: Option<Held>) -> Option<NKey>
-    ensures { result ≡ native_in slot }
+pub(crate) fn native_held(slot: Option<Held>) -> Option<NKey>
+    ensures { result ≡ native_held slot }
 {
     match slot {
         Some(Held::Native(key)) => Some(key),

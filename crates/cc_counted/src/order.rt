@@ -1,5 +1,7 @@
+//! The keys of the natives by rising number.
 ghost use Rattle.std.specs.Prelude.{◌≡◌, ◌≤◌, drop, length, map, option_map};
-ghost use Rattle.cc_counted.specs.Lists.{without, first_of, key_behind};
+ghost use Rattle.cc_lists.specs.Walks.{first_of};
+ghost use Rattle.cc_counted.specs.Lists.{without, key_behind};
 
 use cc_names::NKey;
 

@@ -1,3 +1,4 @@
+//! The parts of the counted heap, and the steps of a cascade over them.
 ghost use Rattle.std.specs.Prelude.{◌≡◌, ℕ, ◌<◌, ◌≤◌, true, false, List, [], ◌∷◌, ◌++◌, length, Option, Some, None, IsSome, IsTrue, MatchOption, IfOk, OnOk, OnErr, replicate, slice_index_or};
 ghost use Rattle.cc_lists.specs.Members.{Among};
 ghost use Rattle.cc_names.specs.Names.{native};
@@ -14,7 +15,7 @@ ghost use Rattle.cc_counted.specs.Lists.{Placed, cell_at, slots_placed, keyed, n
 ghost use Rattle.cc_counted.specs.Steps.{GivesUp, FreesFront, Drains, ComesTo, EmptiesSlot, EmptiesEach, texts_of_events};
 
 use crate::cell::{Cell, lower, raise, write};
-use crate::held::{Held, native_in};
+use crate::held::{Held, native_held};
 use crate::order::leave;
 use cc_model::{Event, Item, Notices};
 use cc_names::{NKey, Name, NativeNo, NoMemory};
@@ -27,24 +28,24 @@ use std::collections::VecDeque;
 ///
 /// The queue and the buffer have room for every native, so that no deletion takes memory.
 #[derive(Drop)]
-pub(crate) struct Parts {
+pub(crate) struct CountedParts {
     pub(crate) natives: Slab<Cell>,
-    // O(n) for each native that leaves until it is a chain
+    // O(n) for each native that leaves, until the order is a chain
     pub(crate) order: Vec<NKey>,
     pub(crate) queue: VecDeque<NKey>,
     pub(crate) buffer: Buffer,
 }
 
-impl Parts {
+impl CountedParts {
     ghost use Rattle.cc_counted.specs.Parts.{lists_of, HasRoom, HasRoomForOne};
     ghost use Rattle.cc_counted.specs.Resting.{shows, IsAtRest};
 
     /// No natives.
-    pub(crate) fn new(alloc: Global) -> Parts
+    pub(crate) fn new(alloc: Global) -> CountedParts
         ensures shows { shows result ≡ no_counts }
         ensures at_rest { IsAtRest result }
     {
-        Parts {
+        CountedParts {
             natives: Slab::new(alloc),
             order: Vec::new(alloc),
             queue: VecDeque::new(alloc),
@@ -52,7 +53,8 @@ impl Parts {
         }
     }
 
-    /// Gives up one reference to the native at a key: above zero it is suspected, at zero it leaves the buffer and waits.
+    /// Gives up one reference to the native at a key: it is suspected where its count stays above zero; where that falls
+    /// to zero it leaves the buffer and waits.
     fn give_up(&mut self, key: NKey)
         requires placed { IsPlaced (lists_of self.old) }
         requires balanced { (owned : List ℕ) × (c : Placed) × (cell_at self.old.natives.slots key.0 ≡ Some c) × IsBalanced (c.number ∷ owned) (draining_of (lists_of self.old) []) }
@@ -78,7 +80,7 @@ impl Parts {
         ensures room { HasRoom self.new }
     {
         for slot in slots {
-            if let Some(native) = native_in(*slot) {
+            if let Some(native) = native_held(*slot) {
                 self.give_up(native);
             }
         }
@@ -220,7 +222,7 @@ impl Parts {
         ensures at_rest { IsAtRest self.new }
     {
         let content = write(&mut self.natives, key, i as usize, None);
-        if let Some(native) = native_in(content) {
+        if let Some(native) = native_held(content) {
             self.release(native, out);
         }
     }

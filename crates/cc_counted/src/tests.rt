@@ -1,3 +1,5 @@
+//! Each call once, by what it answers and tells.
+
 use super::*;
 use cc_model::Notebook;
 use cc_names::{NKey, NativeNo, SKey};

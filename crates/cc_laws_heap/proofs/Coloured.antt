@@ -1,8 +1,9 @@
 -- THE COLOUR INVARIANT by script objects: it speaks of script objects and script registers alone.
-use Rattle.std.proofs.Common.{◌≡◌, ◌≢◌, ◌≤◌, Bool, true, false, List, [], ◌∷◌, map, refl, sym, ◌∙◌, ap, subst, inl, inr, ⊎_elim}
+use Rattle.std.proofs.Common.{◌≡◌, ◌≢◌, ◌≤◌, Bool, true, false, List, map, refl, sym, ◌∙◌, ap, subst, ⊎_elim}
 use Rattle.std.specs.List.{filter, flat_map}
 use Rattle.std.proofs.lemmas.Bool.{false≢true}
 use Rattle.cc_lists.specs.Members.{Among}
+use Rattle.cc_lists.proofs.Filtering.{filter-nothing}
 use Rattle.cc_lists.proofs.Members.{Among-map, Among-map_cases, Among-left, Among-right, Among-append, Among-filter, Among-filtered, Among-passes, Among-flat_map, Among-flat_map_cases}
 use Rattle.cc_lists.proofs.Counting.{count_by-map}
 use Rattle.cc_names.specs.declared.name.Name.{Name}
@@ -80,11 +81,6 @@ names_with-is : (p : HeapScript → Bool) (scripts : List HeapScript) (x : Name)
 names_with-is p scripts x m =
     let f = Among-map_cases (λ (q : HeapScript). q.name) (filter p scripts) x m in
     (f.0, Among-filtered p f.0 scripts f.1, Among-passes p f.0 scripts f.1, f.2)
-
--- a filter that nothing passes leaves nothing
-filter-nothing : {X : Type 0} (p : X → Bool) (xs : List X) → ((x : X) → Among x xs → p x ≡ false) → filter p xs ≡ []
-filter-nothing p [] h = refl
-filter-nothing p (x ∷ xs) h = rw (h x (inl refl)) (filter-nothing p xs (λ y m. h y (inr m)))
 
 -- script objects of one name are one
 pub one-script : (h : Heap) (o p : HeapScript) → IsWellFormed h → Among o h.scripts → Among p h.scripts → p.name ≡ o.name → p ≡ o

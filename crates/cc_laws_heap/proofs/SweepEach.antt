@@ -14,25 +14,15 @@ use Rattle.cc_names.proofs.NameTests.{same_name-refl}
 use Rattle.cc_model.specs.declared.item.Event.TheVariants.{Freed}
 use Rattle.cc_model.specs.Heap.{Heap, HeapScript, Outcome, after}
 use Rattle.cc_model.specs.Cascade.{cascade}
-use Rattle.cc_model.specs.Sweep.{without_script, let_native_go, sweep_one, sweep_each}
+use Rattle.cc_model.specs.Sweep.{without_script, sweep_one, sweep_each}
 use Rattle.cc_model.specs.WellFormed.{script_names}
-use Rattle.cc_model.proofs.Rounds.{scripts-cascade}
+use Rattle.cc_model.proofs.Rounds.{scripts-sweep_one}
 use Rattle.cc_lists.proofs.Searching.{filter-true, filter-filter}
 use Rattle.cc_laws_heap.proofs.NameLists.{same_name-other, same_name-sym, names-some}
 use Rattle.cc_laws_heap.proofs.TakenOut.{TakesOut, TakesOut-then, TakesOut-script, TakesOut-cascade}
 use Rattle.cc_laws_heap.proofs.SweepBalance.{IsSteady, IsSteady-without_object, IsSteady-without_reflector, cascade-steady, cascade-frees_steady}
 
 -- What script objects are left
-
--- a reflector that lets its native go leaves the script objects
-scripts-let_native_go : (h : Heap) (x : Name) → (let_native_go h x).heap.scripts ≡ h.scripts
-scripts-let_native_go h (name.Native k) = refl
-scripts-let_native_go h (name.Script k) = refl
-scripts-let_native_go h (name.Reflector k) = scripts-cascade h k.0
-
--- one object swept is taken out, and no other script object
-scripts-sweep_one : (h : Heap) (x : Name) → (sweep_one h x).heap.scripts ≡ (without_script h x).scripts
-scripts-sweep_one h x = scripts-let_native_go (without_script h x) x
 
 -- Script objects swept are taken out, and no others.
 pub scripts-sweep_each : (xs : List Name) (o : Outcome) →

@@ -1,10 +1,11 @@
 -- WHAT A SWEEP HAS TAKEN OUT SO FAR: script objects and natives; those that are left are as they were, but for counts.
-use Rattle.std.proofs.Common.{◌≡◌, ℕ, ◌≤◌, Bool, true, false, not, ◌||◌, List, [], ◌∷◌, ◌++◌, map, refl, sym, ◌∙◌, ap, subst, inl, inr, ⊎_elim, arith, count_by, ◌==◌}
+use Rattle.std.proofs.Common.{◌≡◌, ℕ, ◌≤◌, Bool, true, false, not, ◌||◌, List, [], ◌∷◌, ◌++◌, map, refl, sym, ◌∙◌, ap, subst, ⊎_elim, arith, count_by, ◌==◌}
 use Rattle.std.specs.List.{filter}
 use Rattle.std.proofs.Math.Bool.{or-false}
 use Rattle.std.proofs.Math.Path.{fun_ext}
 use Rattle.std.proofs.lemmas.Simd.{map-map}
 use Rattle.cc_lists.specs.Members.{Among, has}
+use Rattle.cc_lists.proofs.Filtering.{filter-each}
 use Rattle.cc_lists.proofs.Members.{Among-left, Among-right, Among-map_cases}
 use Rattle.cc_lists.proofs.Counting.{count_by-cons, count_by-map}
 use Rattle.cc_names.specs.declared.name.Name.{Name}
@@ -81,11 +82,6 @@ native_names-left h k xs e =
 -- script objects left are names left
 script_names-left : (h k : Heap) (xs : List Name) → k.scripts ≡ filter (is_script_left xs) h.scripts → script_names k ≡ filter (is_not_among xs) (script_names h)
 script_names-left h k xs e = ap (map name_of_script) e ∙ sym (filter-map (is_not_among xs) name_of_script h.scripts)
-
--- a filter that every member passes drops nothing
-filter-each : {X : Type 0} (p : X → Bool) (xs : List X) → ((x : X) → Among x xs → p x ≡ true) → filter p xs ≡ xs
-filter-each p [] h = refl
-filter-each p (x ∷ xs) h = rw (h x (inl refl)) (ap (λ ys. x ∷ ys) (filter-each p xs (λ y m. h y (inr m))))
 
 -- One script object
 

@@ -1,3 +1,4 @@
+//! The law of cascades: what giving up a reference leaves and tells.
 ghost use Rattle.std.specs.Prelude.{ℕ, List, ◌∷◌};
 ghost use Rattle.cc_model.specs.Heap.{Heap};
 ghost use Rattle.cc_model.specs.Cascade.{cascade};

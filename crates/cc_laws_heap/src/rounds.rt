@@ -1,3 +1,4 @@
+//! Laws of script collections: colours are least sets, and what the rounds leave and tell.
 ghost use Rattle.std.specs.Prelude.{◌≡◌, ◌↔◌, ◌≤◌, ℕ, List, [], map, count_by};
 ghost use Rattle.cc_lists.specs.Members.{Among};
 ghost use Rattle.cc_names.specs.declared.name.Name.{Name};
@@ -24,8 +25,8 @@ pub fn marking_is_least()
 {}
 
 /// A script collection leaves the heaps sound, no script object white, and the colours those of the heap that is
-/// left; its free lines name distinct objects that were there, and take out these and no others. Its last round,
-/// which is at most the one after as many as there were script objects, finds nothing to sweep.
+/// left; its free lines name distinct objects that were there, and take out these and no others. Its last round finds
+/// nothing to sweep.
 pub fn rounds_keep_counts()
     ensures sound { (h : Heap) → IsSound [] h → IsSound [] (collect_scripts h).heap }
     ensures colours { (h : Heap) → HasColours (collect_scripts h).heap }

@@ -1,3 +1,4 @@
+//! Laws of the graph: heaps that stand for one answer as it does, and go on standing for it.
 ghost use Rattle.std.specs.Prelude.{◌≡◌, ◌↔◌, IsTrue, [], None};
 ghost use Rattle.cc_lists.specs.Members.{Among};
 ghost use Rattle.cc_names.specs.Allowance.{Allowance};

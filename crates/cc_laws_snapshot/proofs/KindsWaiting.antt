@@ -16,7 +16,8 @@ use Rattle.cc_model.specs.Fresh.{IsLiving}
 use Rattle.cc_model.specs.Suspected.{IsSuspected}
 use Rattle.cc_laws_heap.proofs.Natives.{native_names-change, native_at-member, named-found, IsWellFormed-distinct}
 use Rattle.cc_laws_heap.proofs.GiveUp.{give_up-cases}
-use Rattle.cc_laws_snapshot.specs.Kinds.{counting, natives_held}
+use Rattle.cc_laws_snapshot.specs.Kinds.{counting}
+use Rattle.cc_laws_heap.specs.Sound.{numbers_of}
 use Rattle.cc_laws_snapshot.proofs.KindsFresh.{with_buffer}
 use Rattle.cc_laws_snapshot.specs.Losing.{PurpleOrGone, IsLoyal}
 use Rattle.cc_laws_snapshot.specs.KindsSuspected.{IsSuspectedIn, IsSuspectedCounting}
@@ -66,9 +67,9 @@ waiting-suspected h g candidates js early early_purple w named edge held marked 
 
 -- A register is written: what it held waits.
 pub register_written-suspected : (h : Heap) (candidates : List ℕ) (r : Reg) (x : Option Name) → IsWellFormed h →
-    IsSuspectedIn h candidates → IsSuspectedCounting (natives_held (register h r)) (set_register h r x) candidates
+    IsSuspectedIn h candidates → IsSuspectedCounting (numbers_of (register h r)) (set_register h r x) candidates
 register_written-suspected h candidates (N d) x w =
-    waiting-suspected h (set_register h (N d) x) candidates (natives_held (register h (N d))) (view h).buffer (view h).purple w (HasScriptNames-well_formed h w)
+    waiting-suspected h (set_register h (N d) x) candidates (numbers_of (register h (N d))) (view h).buffer (view h).purple w (HasScriptNames-well_formed h w)
     (λ y i m. inl m)
     (λ i m. ⊎_elim
     (λ l. ⊎_elim
@@ -77,10 +78,10 @@ register_written-suspected h candidates (N d) x w =
     (contents-written_kept h.native_registers d x (native i) l))
     (λ l. inl (Among-right (native i) (contents (set h.native_registers d x)) (contents h.script_registers) l))
     (Among-append (native i) (contents h.native_registers) (contents h.script_registers) m))
-    (λ i m. stays-marked (natives_held (register h (N d))) (set_register h (N d) x) i m)
+    (λ i m. stays-marked (numbers_of (register h (N d))) (set_register h (N d) x) i m)
     (λ y m. inl m) (λ y l. l)
 register_written-suspected h candidates (S d) x w =
-    waiting-suspected h (set_register h (S d) x) candidates (natives_held (register h (S d))) (view h).buffer (view h).purple w (HasScriptNames-well_formed h w)
+    waiting-suspected h (set_register h (S d) x) candidates (numbers_of (register h (S d))) (view h).buffer (view h).purple w (HasScriptNames-well_formed h w)
     (λ y i m. inl m)
     (λ i m. ⊎_elim
     (λ l. inl (Among-left (native i) (contents h.native_registers) (contents (set h.script_registers d x)) l))
@@ -89,15 +90,15 @@ register_written-suspected h candidates (S d) x w =
     (λ o. inr (numbers_of-there (register h (S d)) i o))
     (contents-written_kept h.script_registers d x (native i) l))
     (Among-append (native i) (contents h.native_registers) (contents h.script_registers) m))
-    (λ i m. stays-marked (natives_held (register h (S d))) (set_register h (S d) x) i m)
+    (λ i m. stays-marked (numbers_of (register h (S d))) (set_register h (S d) x) i m)
     (λ y m. inl m) (λ y l. l)
 
 -- A slot of a native is written: what it held waits.
 pub slot_written-suspected : (h : Heap) (candidates : List ℕ) (n : HeapNative) (k i : ℕ) (x : Option Name) → IsWellFormed h → native_at h k ≡ Some n →
-    IsSuspectedIn h candidates → IsSuspectedCounting (natives_held (slice_index_or n.slots i None)) (change_native h k (with_native_slot i x)) candidates
+    IsSuspectedIn h candidates → IsSuspectedCounting (numbers_of (slice_index_or n.slots i None)) (change_native h k (with_native_slot i x)) candidates
 slot_written-suspected h candidates n k i x w found =
-    waiting-suspected h g candidates (natives_held old) (view h).buffer (view h).purple w (HasScriptNames-well_formed h w)
-    edge (λ j m. inl m) (λ j m. stays-marked (natives_held old) g j m) (λ y m. inl m) (living-same h g (native_names-change h k (with_native_slot i x) (λ o. refl)))
+    waiting-suspected h g candidates (numbers_of old) (view h).buffer (view h).purple w (HasScriptNames-well_formed h w)
+    edge (λ j m. inl m) (λ j m. stays-marked (numbers_of old) g j m) (λ y m. inl m) (living-same h g (native_names-change h k (with_native_slot i x) (λ o. refl)))
   where
     g : Heap
     g = change_native h k (with_native_slot i x)
@@ -105,7 +106,7 @@ slot_written-suspected h candidates n k i x w found =
     old : Option Name
     old = slice_index_or n.slots i None
 
-    edge : (y : Name) (j : ℕ) → Among (y, native j) (view h).edges → Among (y, native j) (view g).edges ⊎ Among j (natives_held old)
+    edge : (y : Name) (j : ℕ) → Among (y, native j) (view h).edges → Among (y, native j) (view g).edges ⊎ Among j (numbers_of old)
     edge y j m = ⊎_elim
         (λ a. ⊎_elim
         (λ s. inl (subst (λ z. Among (z, native j) (view g).edges) (ap native s.2 ∙ a.2) (edge-from_slot g s.0 (native j) s.1 s.3)))

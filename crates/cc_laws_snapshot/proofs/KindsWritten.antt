@@ -21,7 +21,8 @@ use Rattle.cc_model.specs.WellFormed.{IsWellFormed}
 use Rattle.cc_model.specs.Snapshot.{Snapshot}
 use Rattle.cc_lists.proofs.ListWrites.{changed_where, changed_where-either, Among-flat_map_set}
 use Rattle.cc_laws_heap.proofs.ScriptsKept.{has_name}
-use Rattle.cc_laws_snapshot.specs.Kinds.{counting, IsFreshIn, IsFreshCounting, natives_held, IsInBuffer, IsNotGrayIn, IsThereIn, IsScriptObject}
+use Rattle.cc_laws_snapshot.specs.Kinds.{counting, IsFreshIn, IsFreshCounting, IsInBuffer, IsNotGrayIn, IsThereIn, IsScriptObject}
+use Rattle.cc_laws_heap.specs.Sound.{numbers_of}
 use Rattle.cc_laws_snapshot.proofs.SoundView.{black-or_gray, living-native, named-there}
 use Rattle.cc_laws_snapshot.proofs.NativeParts.{register-gentle, add_ref-gentle, native_slot-gentle, flag-gentle}
 use Rattle.cc_laws_snapshot.proofs.ScriptParts.{script_slot-gentle, set_entry-gentle}
@@ -72,14 +73,14 @@ register_written-fresh h s r x there pale f = fresh-by h.natives_made (set_regis
 -- A slot of a native is written: what it held waits.
 pub slot_written-fresh : (h : Heap) (s : Snapshot) (n : HeapNative) (k i : ℕ) (x : Option Name) → IsWellFormed h → native_at h k ≡ Some n →
     i < length n.slots → IsInBuffer (view h) x → IsNotGrayIn (view h) x →
-    IsFreshIn h s → IsFreshCounting (natives_held (slice_index_or n.slots i None)) (change_native h k (with_native_slot i x)) s
-slot_written-fresh h s n k i x w found room taken pale = fresh-by h.natives_made h.natives_made (view h) (counting (natives_held old) (view written))
+    IsFreshIn h s → IsFreshCounting (numbers_of (slice_index_or n.slots i None)) (change_native h k (with_native_slot i x)) s
+slot_written-fresh h s n k i x w found room taken pale = fresh-by h.natives_made h.natives_made (view h) (counting (numbers_of old) (view written))
     (IsGentleBut-buffers (option_to_list old) h.natives_made h.natives_made (view h) (view written)
-    (view h).buffer (view h).purple (counting (natives_held old) (view written)).buffer (counting (natives_held old) (view written)).purple
+    (view h).buffer (view h).purple (counting (numbers_of old) (view written)).buffer (counting (numbers_of old) (view written)).purple
     (native_slot-gentle h k i n x w found room taken pale)
-    (λ u b. Among-left u (view written).buffer (map native (natives_held old)) b)
-    (λ u c m l. Among-right u (view written).buffer (map native (natives_held old)) (waits u c m l))
-    (λ u c m b. Among-left u (view written).buffer (map native (natives_held old)) b))
+    (λ u b. Among-left u (view written).buffer (map native (numbers_of old)) b)
+    (λ u c m l. Among-right u (view written).buffer (map native (numbers_of old)) (waits u c m l))
+    (λ u c m b. Among-left u (view written).buffer (map native (numbers_of old)) b))
     (record { black = λ y m. m; white = refl; held = λ y m i. inl m }) s
   where
     old : Option Name
@@ -88,12 +89,12 @@ slot_written-fresh h s n k i x w found room taken pale = fresh-by h.natives_made
     written : Heap
     written = change_native h k (with_native_slot i x)
 
-    waits : (u : Name) (c : ℕ) → Among (u, c) (view written).natives → Among u (option_to_list old) → Among u (map native (natives_held old))
+    waits : (u : Name) (c : ℕ) → Among (u, c) (view written).natives → Among u (option_to_list old) → Among u (map native (numbers_of old))
     waits u c m l =
         let f = living-native written u c m in
         let held : Among (native f.0.number) (option_to_list old) = subst (λ v. Among v (option_to_list old)) (sym f.2) l in
-        subst (λ v. Among v (map native (natives_held old))) f.2
-        (Among-map native f.0.number (natives_held old) (Among-flat_map natives_in (native f.0.number) f.0.number (option_to_list old) held (inl refl)))
+        subst (λ v. Among v (map native (numbers_of old))) f.2
+        (Among-map native f.0.number (numbers_of old) (Among-flat_map natives_in (native f.0.number) f.0.number (option_to_list old) held (inl refl)))
 
 -- Slots of script objects
 

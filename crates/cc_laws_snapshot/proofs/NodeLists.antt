@@ -12,6 +12,7 @@ use Rattle.cc_names.proofs.NameTests.{same_name-exact}
 use Rattle.cc_model.specs.Snapshot.{NodeState, untraversed, gone, traversed, Node}
 use Rattle.cc_model.specs.Units.{new_node, is_untraversed, first_untraversed, with_state, with_node, with_nodes}
 use Rattle.cc_model.specs.Fresh.{node, done_first}
+use Rattle.cc_model.proofs.UnitsEnd.{names-with_state}
 use Rattle.cc_laws_snapshot.proofs.NamePairs.{name_cases}
 use Rattle.cc_lists.proofs.OnceEach.{with_last-keeps}
 use Rattle.cc_laws_snapshot.proofs.States.{HasDistinctNodes, one-state}
@@ -56,15 +57,6 @@ first-untraversed (n ∷ ns) x e = go (first-untraversed ns x) (is_open n) refl 
         let named : n.name ≡ x = cc in
         inl (ap (λ state. node n.name state) (is_untraversed-true n.state k) ∙ ap (λ y. node y untraversed) named)
     go ih false k f = inr (ih f)
-
--- nodes keep their names
-pub names-with_state : (state : NodeState) (ns : List Node) → names_of (with_state state ns) ≡ names_of ns
-names-with_state state [] = refl
-names-with_state state (n ∷ ns) = go (names-with_state state ns) (is_open n)
-  where
-    go : names_of (with_state state ns) ≡ names_of ns → (b : Bool) → names_of (nodes_by state n ns b) ≡ n.name ∷ names_of ns
-    go ih true = refl
-    go ih false = ap (λ l. n.name ∷ l) ih
 
 -- the node stands there with its state
 with_state-there : (state : NodeState) (ns : List Node) (x : Name) → first_untraversed ns ≡ Some x → Among (node x state) (with_state state ns)

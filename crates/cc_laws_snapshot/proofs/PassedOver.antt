@@ -7,8 +7,9 @@ use Rattle.cc_model.specs.View.{View}
 use Rattle.cc_model.specs.Snapshot.{NodeState, untraversed, gone, traversed, Node, Mapping, Snapshot, node_names}
 use Rattle.cc_model.specs.Units.{first_untraversed, with_state, passed_over}
 use Rattle.cc_model.specs.Fresh.{node, IsNode, IsTraversedNode, IsLiving, MemberIsNode, HasNodes, IsFresh}
+use Rattle.cc_model.proofs.UnitsEnd.{names-with_state}
 use Rattle.cc_laws_snapshot.proofs.States.{untraversed-not_gone, gone-not_traversed, node-named, fresh-distinct}
-use Rattle.cc_laws_snapshot.proofs.NodeLists.{names-with_state, first-untraversed, with_state-states, done_first-with_state}
+use Rattle.cc_laws_snapshot.proofs.NodeLists.{first-untraversed, with_state-states, done_first-with_state}
 
 -- a mapping's members stay nodes where nodes stay
 pub members-stay : (s t : Snapshot) → ((x : Name) → IsNode s x → IsNode t x) → (m : Mapping) → HasNodes s m → HasNodes t m

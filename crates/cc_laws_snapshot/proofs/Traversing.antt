@@ -12,12 +12,13 @@ use Rattle.cc_model.specs.View.{View, between}
 use Rattle.cc_model.specs.Snapshot.{NodeState, untraversed, gone, traversed, Snapshot, node_names}
 use Rattle.cc_model.specs.Units.{first_untraversed, with_state, noted}
 use Rattle.cc_model.specs.Fresh.{node, IsNode, IsTraversedNode, IsOutside, IsFresh}
+use Rattle.cc_model.proofs.UnitsEnd.{names-with_state}
 use Rattle.cc_lists.proofs.CountsOf.{count_by-agree}
 use Rattle.cc_laws_snapshot.proofs.NamePairs.{name_cases, between-true, between-refl}
 use Rattle.cc_laws_snapshot.proofs.SoundView.{IsSoundView}
 use Rattle.cc_laws_snapshot.proofs.States.{untraversed-not_traversed, untraversed-not_gone, gone-not_traversed, node-named, fresh-distinct}
 use Rattle.cc_lists.proofs.OnceEach.{with_all_last-keeps, with_all_last-there, with_all_last-cases, with_all_last-once}
-use Rattle.cc_laws_snapshot.proofs.NodeLists.{names-with_state, first-untraversed, with_state-states, names-with_nodes, with_nodes-states, done_first-with_state, done_first-with_nodes}
+use Rattle.cc_laws_snapshot.proofs.NodeLists.{first-untraversed, with_state-states, names-with_nodes, with_nodes-states, done_first-with_state, done_first-with_nodes}
 use Rattle.cc_laws_snapshot.proofs.PassedOver.{members-stay}
 
 -- what the unit of node x notes: what edges lead to, and of natives and gray objects as many as there are edges

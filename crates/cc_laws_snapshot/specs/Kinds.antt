@@ -1,8 +1,8 @@
 -- WHAT WAITS WHILE THE HEAPS CHANGE, and what may be written meanwhile.
-use Rattle.std.specs.Prelude.{ℕ, IsTrue, List, ◌++◌, map, flat_map, Option, option_to_list}
+use Rattle.std.specs.Prelude.{ℕ, IsTrue, List, ◌++◌, map, Option, option_to_list}
 use Rattle.cc_lists.specs.Members.{Among}
 use Rattle.cc_names.specs.declared.name.Name.{Name}
-use Rattle.cc_names.specs.Names.{native, natives_in, is_script}
+use Rattle.cc_names.specs.Names.{native, is_script}
 use Rattle.cc_model.specs.Heap.{Heap}
 use Rattle.cc_model.specs.View.{View, view, scripts_there}
 use Rattle.cc_model.specs.WellFormed.{native_names}
@@ -21,10 +21,6 @@ IsFreshIn h s = IsFresh h.natives_made (view h) s
 -- a snapshot is fresh over the heaps, while these natives wait
 abbrev pub IsFreshCounting : List ℕ → Heap → Snapshot → Type 0
 IsFreshCounting ks h s = IsFresh h.natives_made (counting ks (view h)) s
-
--- the native among what a register or a slot holds
-abbrev pub natives_held : Option Name → List ℕ
-natives_held x = flat_map natives_in (option_to_list x)
 
 -- what a register holds is a native that is there
 abbrev pub IsNativeThere : Heap → Option Name → Type 0

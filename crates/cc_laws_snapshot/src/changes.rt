@@ -1,3 +1,4 @@
+//! Laws of changes that keep every snapshot fresh.
 ghost use Rattle.std.specs.Prelude.{◌≡◌, ℕ, IsTrue, [], None};
 ghost use Rattle.cc_model.specs.declared.command.Command.{Command};
 ghost use Rattle.cc_model.specs.Ranges.{in_range};

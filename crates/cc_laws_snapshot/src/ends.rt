@@ -1,3 +1,4 @@
+//! Laws of the end of a collection that takes the white natives away.
 ghost use Rattle.std.specs.Prelude.{◌≡◌, ◌⊎◌, ℕ, List, []};
 ghost use Rattle.cc_lists.specs.Members.{Among};
 ghost use Rattle.cc_names.specs.declared.name.Name.{Name};

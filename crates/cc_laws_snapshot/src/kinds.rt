@@ -1,3 +1,4 @@
+//! Laws of each kind of change that commands are made of.
 ghost use Rattle.std.specs.Prelude.{◌≡◌, ◌+◌, ◌<◌, ◌≤◌, ℕ, Bool, true, false, List, [], ◌∷◌, ◌++◌, length, map, Option, Some, None, slice_index_or};
 ghost use Rattle.cc_lists.specs.Members.{Among};
 ghost use Rattle.cc_names.specs.declared.name.Name.{Name};
@@ -12,16 +13,17 @@ ghost use Rattle.cc_model.specs.Exposure.{exposed};
 ghost use Rattle.cc_model.specs.View.{view, ReachedIn};
 ghost use Rattle.cc_model.specs.WellFormed.{IsWellFormed, IsRising, FitsName, native_names};
 ghost use Rattle.cc_model.specs.Snapshot.{Snapshot};
-ghost use Rattle.cc_laws_heap.specs.Sound.{IsSound};
-ghost use Rattle.cc_laws_snapshot.specs.Kinds.{IsFreshIn, IsFreshCounting, natives_held, IsNativeThere, IsInBuffer, IsNotGrayIn, IsThereIn, IsScriptObject};
+ghost use Rattle.cc_laws_heap.specs.Sound.{IsSound, numbers_of};
+ghost use Rattle.cc_laws_snapshot.specs.Kinds.{IsFreshIn, IsFreshCounting, IsNativeThere, IsInBuffer, IsNotGrayIn, IsThereIn, IsScriptObject};
 ghost use Rattle.cc_laws_snapshot.specs.KindsSuspected.{IsSuspectedIn, IsSuspectedCounting, IsReachedNative};
 
 /// Each kind of change keeps every snapshot fresh; meanwhile natives that are queued for deletion, and those whose
 /// overwritten reference is not given up yet, count as purple in the buffer.
 ///
-/// The kinds: a native is made, and a register holds it; a script object is made; a native gets a reference; a register,
-/// a slot, a flag or an entry is written, with no script objects but such as are not gray, and no natives but such
-/// as stand in the buffer; something is exposed; a reference is given up; the front of the queue leaves.
+/// The kinds: a native is made, and a register holds it; a script object is made; a native gets a reference, or a
+/// reflector; a register, a slot, a flag or an entry is written, where no script object that is named then is gray, and
+/// a native that is put into a slot stands in the buffer; something is exposed; a reference is given up; the front of
+/// the queue leaves.
 pub fn kinds_of_change_keep_fresh()
     ensures native_made { (owned : List ℕ) (h : Heap) (s : Snapshot) (d n : ℕ) → IsSound owned h → d < 256 → n ≤ 64 →
         h.natives_made < h.limits.natives → IsFreshIn h s → IsFreshIn (make_native h d n).heap s }
@@ -37,7 +39,7 @@ pub fn kinds_of_change_keep_fresh()
         IsFreshIn h s → IsFreshIn (set_register h r x) s }
     ensures slot_written { (h : Heap) (s : Snapshot) (n : HeapNative) (k i : ℕ) (x : Option Name) → IsWellFormed h →
         native_at h k ≡ Some n → i < length n.slots → IsInBuffer (view h) x → IsNotGrayIn (view h) x →
-        IsFreshIn h s → IsFreshCounting (natives_held (slice_index_or n.slots i None)) (change_native h k (with_native_slot i x)) s }
+        IsFreshIn h s → IsFreshCounting (numbers_of (slice_index_or n.slots i None)) (change_native h k (with_native_slot i x)) s }
     ensures script_slot_written { (h : Heap) (s : Snapshot) (o : Name) (i : ℕ) (x : Option Name) → IsWellFormed h →
         IsScriptObject x → IsThereIn (view h) x → IsNotGrayIn (view h) x →
         IsFreshIn h s → IsFreshIn (change_script h o (with_script_slot i x)) s }
@@ -83,9 +85,9 @@ pub fn kinds_of_change_keep_suspected()
     ensures reference_added { (h : Heap) (candidates : List ℕ) (k : ℕ) → IsWellFormed h → ReachedIn (view (add_ref h k)) (native k) →
         IsSuspectedIn h candidates → IsSuspectedIn (add_ref h k) candidates }
     ensures register_written { (h : Heap) (candidates : List ℕ) (r : Reg) (x : Option Name) → IsWellFormed h →
-        IsSuspectedIn h candidates → IsSuspectedCounting (natives_held (register h r)) (set_register h r x) candidates }
+        IsSuspectedIn h candidates → IsSuspectedCounting (numbers_of (register h r)) (set_register h r x) candidates }
     ensures slot_written { (h : Heap) (candidates : List ℕ) (n : HeapNative) (k i : ℕ) (x : Option Name) → IsWellFormed h → native_at h k ≡ Some n →
-        IsSuspectedIn h candidates → IsSuspectedCounting (natives_held (slice_index_or n.slots i None)) (change_native h k (with_native_slot i x)) candidates }
+        IsSuspectedIn h candidates → IsSuspectedCounting (numbers_of (slice_index_or n.slots i None)) (change_native h k (with_native_slot i x)) candidates }
     ensures script_slot_written { (h : Heap) (candidates : List ℕ) (o : Name) (i : ℕ) (x : Option Name) → IsWellFormed h →
         IsSuspectedIn h candidates → IsSuspectedIn (change_script h o (with_script_slot i x)) candidates }
     ensures flag_written { (h : Heap) (candidates : List ℕ) (k : ℕ) (on : Bool) → IsWellFormed h →

@@ -1,8 +1,10 @@
 //! Laws of the snapshot: it is fresh from begin to end, what is white in it is unreached, and every unreached native is
 //! suspected or reached from a candidate.
 //!
-//! Each function has an empty body and is a law that its clauses state, over the definitions of `cc_model` and a few
-//! words of this crate's own (`specs`).
+//! Each function has an empty body and is a law that its clauses state, over the definitions of `cc_model`, over heaps
+//! that are sound (`Sound` of `cc_laws_heap`), and over a few words of this crate's own. Of `specs` a reader of the main
+//! laws needs `Black` (what is black in a snapshot, by rules). `Gentle` and `Losing` say which changes keep a snapshot
+//! fresh and forget no native; `Kinds` and `KindsSuspected` have the words of the laws of each kind of change.
 #![tactic(auto)]
 
 mod changes;

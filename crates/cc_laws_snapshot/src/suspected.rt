@@ -1,3 +1,4 @@
+//! Laws of suspicion: no unreached native is forgotten.
 ghost use Rattle.std.specs.Prelude.{◌≡◌, ℕ, IsTrue, List, [], None};
 ghost use Rattle.cc_names.specs.Allowance.{Allowance};
 ghost use Rattle.cc_model.specs.declared.command.Command.{Command};

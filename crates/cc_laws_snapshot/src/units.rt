@@ -1,3 +1,4 @@
+//! Laws of the units of a collection: a snapshot is fresh once it is begun, and stays so.
 ghost use Rattle.std.specs.Prelude.{◌≡◌, [], Bool, ℕ, Some, None};
 ghost use Rattle.cc_names.specs.declared.name.Name.{Name};
 ghost use Rattle.cc_model.specs.Heap.{Heap};

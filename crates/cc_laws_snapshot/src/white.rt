@@ -1,3 +1,4 @@
+//! Laws of black and white: what the colours of a snapshot are, and that white is unreached.
 ghost use Rattle.std.specs.Prelude.{[], ◌↔◌, ℕ, IsTrue};
 ghost use Rattle.cc_lists.specs.Members.{Among, has};
 ghost use Rattle.cc_names.specs.declared.name.Name.{Name};

@@ -69,7 +69,7 @@ scripts-let_native_go h (Script k) = refl
 scripts-let_native_go h (Reflector k) = scripts-cascade h k.0
 
 -- sweeping one object takes away the script objects of its name, and no other
-scripts-sweep_one : (h : Heap) (x : Name) → (sweep_one h x).heap.scripts ≡ (without_script h x).scripts
+pub scripts-sweep_one : (h : Heap) (x : Name) → (sweep_one h x).heap.scripts ≡ (without_script h x).scripts
 scripts-sweep_one h x = scripts-let_native_go (without_script h x) x
 
 -- sweeping one object makes no script object

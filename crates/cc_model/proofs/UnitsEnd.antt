@@ -41,7 +41,7 @@ abbrev pub left_to_traverse : List (Name × Name) → List Node → ℕ
 left_to_traverse edges ns = count_by is_open ns + count_by (leads_out (names_of ns)) edges
 
 -- a node that gets a state keeps its name
-names-with_state : (state : NodeState) (ns : List Node) → names_of (with_state state ns) ≡ names_of ns
+pub names-with_state : (state : NodeState) (ns : List Node) → names_of (with_state state ns) ≡ names_of ns
 names-with_state state [] = refl
 names-with_state state (n ∷ ns) = go (names-with_state state ns) (is_untraversed n.state)
   where

@@ -1,3 +1,4 @@
+//! The buffer of suspects.
 ghost use Rattle.std.specs.Prelude.{◌≡◌, ◌+◌, ◌<◌, ◌≤◌, drop, length, false, true, [], ◌∷◌, vec_capacity, IfNone, IfSome, IsOk, OnOk, MatchOption, option_map};
 ghost use Rattle.cc_purple.specs.Marks.{Buffered, HasPlaceFor, first_key, holds_key, is_purple, key_after, marked_as, with_mark, without_key};
 ghost use Rattle.cc_purple.specs.Places.{StandsAt};

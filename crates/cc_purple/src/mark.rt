@@ -1,3 +1,4 @@
+//! One suspect: a key with its mark.
 ghost use Rattle.std.specs.Prelude.{◌≡◌, ◌==◌};
 ghost use Rattle.cc_purple.specs.Marks.{marked_as};
 

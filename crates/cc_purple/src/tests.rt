@@ -1,3 +1,5 @@
+//! Each call once, by what it answers.
+
 use super::*;
 use cc_names::NKey;
 use std::test::Fail;

@@ -1,9 +1,11 @@
 use Rattle.std.proofs.Common.{◌≡◌, List, map, option_map, option_and_then, is_some, IfSome, true, ap, subst, ◌∙◌}
 use Rattle.cc_names.specs.declared.number.NKey.{NKey}
 use Rattle.cc_counted.specs.Counts.{Counts, number_at, first_number}
-use Rattle.cc_counted.specs.Lists.{first_of, counts_of}
+use Rattle.cc_lists.specs.Walks.{first_of}
+use Rattle.cc_lists.proofs.Walks.{first-among}
+use Rattle.cc_counted.specs.Lists.{counts_of}
 use Rattle.cc_counted.specs.Parts.{lists_of}
-use Rattle.cc_counted.proofs.Ordering.{number-first, and_then-key, live-key, first-among}
+use Rattle.cc_counted.proofs.Ordering.{number-first, and_then-key, live-key}
 use Rattle.cc_counted.proofs.counted.Counted.first.Goals as goal
 
 pub returns-clause-number : goal.returns-clause-number

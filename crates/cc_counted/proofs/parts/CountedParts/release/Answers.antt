@@ -7,7 +7,7 @@ use Rattle.cc_counted.specs.Parts.{lists_of}
 use Rattle.cc_counted.proofs.Places.{the_number-cell}
 use Rattle.cc_counted.proofs.Each.{IsBalanced-given}
 use Rattle.cc_counted.proofs.Draining.{ComesTo-cascade}
-use Rattle.cc_counted.proofs.parts.Parts.release.Goals as goal
+use Rattle.cc_counted.proofs.parts.CountedParts.release.Goals as goal
 
 pub drain-requires-clause-balanced : goal.drain-requires-clause-balanced
 drain-requires-clause-balanced g c =

@@ -9,7 +9,7 @@ use Rattle.cc_counted.proofs.Writing.{slot-live, counts-written, placed-written}
 use Rattle.cc_names.specs.declared.number.NKey.{NKey}
 use Rattle.cc_counted.specs.Owning.{Transfers}
 use Rattle.cc_counted.proofs.Owned.{owned-written}
-use Rattle.cc_counted.proofs.parts.Parts.set_slot.Goals as goal
+use Rattle.cc_counted.proofs.parts.CountedParts.set_slot.Goals as goal
 
 -- the cells with a slot written
 wrote : (l : Lists) (key i : ℕ) (x : Option Held) (c : Placed) (cells : List (Option Placed)) → cell_at l.cells key ≡ Some c → cells ≡ set l.cells key (option_map (with_slot i x) (cell_at l.cells key)) →

@@ -2,7 +2,7 @@ use Rattle.std.proofs.Common.{◌<◌, length, ap, arith}
 use Rattle.cc_counted.specs.Lists.{slots_placed}
 use Rattle.cc_counted.specs.Parts.{lists_of}
 use Rattle.cc_counted.proofs.Unlinking.{EmptiesSoFar-more, EmptiesSoFar-done}
-use Rattle.cc_counted.proofs.parts.Parts.empty_each.Goals as goal
+use Rattle.cc_counted.proofs.parts.CountedParts.empty_each.Goals as goal
 
 pub loop-i-preserved : goal.loop-i-preserved
 loop-i-preserved g c =

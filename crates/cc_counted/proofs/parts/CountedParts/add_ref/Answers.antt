@@ -12,7 +12,7 @@ use Rattle.cc_counted.proofs.Adding.{counts-added, placed-added}
 use Rattle.cc_counted.specs.Owning.{Transfers}
 use Rattle.cc_counted.specs.Counts.{Counts, the_number}
 use Rattle.cc_counted.proofs.Owned.{owned-add_ref}
-use Rattle.cc_counted.proofs.parts.Parts.add_ref.Goals as goal
+use Rattle.cc_counted.proofs.parts.CountedParts.add_ref.Goals as goal
 
 -- the cells with one more reference
 raised : (l : Lists) (key : ℕ) (c : Placed) (cells : List (Option Placed)) → cell_at l.cells key ≡ Some c → cells ≡ set l.cells key (option_map with_one_more (cell_at l.cells key)) →

@@ -1,7 +1,7 @@
 use Rattle.std.proofs.Common.{length}
 use Rattle.cc_counted.specs.Parts.{lists_of, HasRoom}
 use Rattle.cc_counted.proofs.Draining.{DrainsSoFar}
-use Rattle.cc_counted.proofs.parts.Parts.drain.Given as goal
+use Rattle.cc_counted.proofs.parts.CountedParts.drain.Given as goal
 
 abbrev pub invariant-loop-self : goal.invariant-loop-self
 invariant-loop-self g l = record {

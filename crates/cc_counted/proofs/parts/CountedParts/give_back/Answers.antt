@@ -11,7 +11,7 @@ use Rattle.cc_counted.proofs.Adding.{counts-suspected, placed-marked}
 use Rattle.cc_counted.specs.Owning.{Transfers}
 use Rattle.cc_counted.specs.Counts.{Counts}
 use Rattle.cc_counted.proofs.Owned.{owned-suspect}
-use Rattle.cc_counted.proofs.parts.Parts.give_back.Goals as goal
+use Rattle.cc_counted.proofs.parts.CountedParts.give_back.Goals as goal
 
 pub give_back-requires : goal.give_back-requires
 give_back-requires c =

@@ -9,7 +9,7 @@ use Rattle.cc_counted.proofs.Balanced.{IsBalanced-owned}
 use Rattle.cc_counted.proofs.Room.{marks-short}
 use Rattle.cc_counted.proofs.Making.{Makes-made, placed-made}
 use Rattle.cc_counted.proofs.Owned.{owned-made}
-use Rattle.cc_counted.proofs.parts.Parts.create.Goals as goal
+use Rattle.cc_counted.proofs.parts.CountedParts.create.Goals as goal
 
 -- the lists with a native made
 lists-made : (l : Lists) (cells : List (Option Placed)) (key : ℕ) (order queue : List ℕ) (marks : List Marked) →

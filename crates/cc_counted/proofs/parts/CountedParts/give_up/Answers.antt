@@ -4,7 +4,7 @@ use Rattle.cc_names.specs.declared.number.NKey.{NKey}
 use Rattle.cc_purple.specs.Marks.{Buffered}
 use Rattle.cc_counted.specs.Parts.{lists_of}
 use Rattle.cc_counted.proofs.StepsOf.{count-placed, GivesUp-suspected, GivesUp-waiting, counted, place, queue-place}
-use Rattle.cc_counted.proofs.parts.Parts.give_up.Goals as goal
+use Rattle.cc_counted.proofs.parts.CountedParts.give_up.Goals as goal
 
 pub lower-requires : goal.lower-requires
 lower-requires c =

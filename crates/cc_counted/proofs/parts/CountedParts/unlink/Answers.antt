@@ -19,7 +19,7 @@ use Rattle.cc_counted.proofs.Balanced.{IsBalanced-owned}
 use Rattle.cc_counted.proofs.Leaving.{counts-left}
 use Rattle.cc_counted.proofs.Unlinking.{unlinked}
 use Rattle.cc_counted.proofs.Balanced.{owned-lists}
-use Rattle.cc_counted.proofs.parts.Parts.unlink.Goals as goal
+use Rattle.cc_counted.proofs.parts.CountedParts.unlink.Goals as goal
 
 pub overflow_cast-slots : goal.overflow_cast-slots
 overflow_cast-slots g c =

@@ -1,6 +1,6 @@
 use Rattle.cc_counted.specs.Parts.{lists_of, HasRoom}
 use Rattle.cc_counted.proofs.Each.{GivesUpRest}
-use Rattle.cc_counted.proofs.parts.Parts.give_up_each.Given as goal
+use Rattle.cc_counted.proofs.parts.CountedParts.give_up_each.Given as goal
 
 abbrev pub invariant-loop-slot : goal.invariant-loop-slot
 invariant-loop-slot l = record {

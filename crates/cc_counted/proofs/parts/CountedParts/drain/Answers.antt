@@ -3,7 +3,7 @@ use Rattle.std.proofs.lemmas.List.{length-map}
 use Rattle.cc_names.specs.declared.number.NKey.{NKey}
 use Rattle.cc_counted.specs.Parts.{lists_of}
 use Rattle.cc_counted.proofs.Draining.{DrainsSoFar-start, DrainsSoFar-done, DrainsSoFar-more, fewer}
-use Rattle.cc_counted.proofs.parts.Parts.drain.Goals as goal
+use Rattle.cc_counted.proofs.parts.CountedParts.drain.Goals as goal
 
 pub loop-self-init : goal.loop-self-init
 loop-self-init g c = record {

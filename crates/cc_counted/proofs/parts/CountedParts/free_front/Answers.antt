@@ -14,7 +14,7 @@ use Rattle.cc_counted.specs.Lists.{Placed, Lists, keyed, numbers_in, draining_of
 use Rattle.cc_counted.specs.Parts.{lists_of}
 use Rattle.cc_counted.specs.Steps.{GivesUp}
 use Rattle.cc_counted.proofs.Freeing.{freed-placed, freed-live, freed-balanced, FreesFront-freed}
-use Rattle.cc_counted.proofs.parts.Parts.free_front.Goals as goal
+use Rattle.cc_counted.proofs.parts.CountedParts.free_front.Goals as goal
 
 -- the lists with one native taken out
 same-lists : (l : Lists) (key : ℕ) (ks order : List ℕ) (cells : List (Option Placed)) → cells ≡ set l.cells key None → order ≡ without key l.order →

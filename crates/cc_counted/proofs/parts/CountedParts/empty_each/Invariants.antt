@@ -1,7 +1,7 @@
 use Rattle.cc_counted.specs.Parts.{lists_of}
 use Rattle.cc_counted.specs.Resting.{IsAtRest}
 use Rattle.cc_counted.proofs.Unlinking.{EmptiesSoFar}
-use Rattle.cc_counted.proofs.parts.Parts.empty_each.Given as goal
+use Rattle.cc_counted.proofs.parts.CountedParts.empty_each.Given as goal
 
 abbrev pub invariant-loop-i : goal.invariant-loop-i
 invariant-loop-i g l = record {
