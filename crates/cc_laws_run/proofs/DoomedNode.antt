@@ -16,7 +16,8 @@ use Rattle.cc_model.specs.Snapshot.{gone, traversed, Snapshot, node_names}
 use Rattle.cc_model.specs.Units.{edges_in, is_noted, to_note, sample, with_state, noted, passed_over, after_node}
 use Rattle.cc_lists.proofs.OnceEach.{with_all_last-keeps}
 use Rattle.cc_laws_snapshot.proofs.OwnEdges.{edges_in-targets, HasTargets-edge}
-use Rattle.cc_laws_snapshot.proofs.NodeLists.{names_of, names-with_state, names-with_nodes}
+use Rattle.cc_model.proofs.UnitsEnd.{names-with_state}
+use Rattle.cc_laws_snapshot.proofs.NodeLists.{names_of, names-with_nodes}
 use Rattle.cc_laws_run.specs.Doomed.{IsDoomed}
 
 -- what is covered from some nodes is covered from more
