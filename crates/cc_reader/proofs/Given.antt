@@ -8,7 +8,7 @@ use Rattle.cc_outside.specs.Reads.{Reads}
 use Rattle.cc_model.specs.Lines.{ended_by, line_after, last_line, lines_of, ended_from, ended_lines_of, rest_from}
 use Rattle.cc_reader.specs.Pending.{Pending, nothing_read}
 use Rattle.cc_reader.specs.HasRead.{HasRead}
-use Rattle.cc_reader.specs.Given.{AreEnded, LastUnended, AreLinesOf, HasGiven, IsWhole, IsBroken, IsOver, AreFirstEnded, AreFirst}
+use Rattle.cc_reader.specs.Given.{AreEnded, LastUnended, AreLinesOf, HasGiven, IsWhole, IsBroken, IsOver, AreFirst}
 use Rattle.cc_reader.specs.Used.{HasUsed, Uses, IsSpent, Begins}
 use Rattle.cc_reader.proofs.Cutting.{ended_from-append, lines_of-ended, ended_from-byte, rest_from-append, lines_from-ended}
 use Rattle.cc_reader.proofs.Using.{used-all}

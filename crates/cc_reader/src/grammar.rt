@@ -30,7 +30,7 @@ fn without_return(line: &[u8]) -> &[u8]
     }
 }
 
-/// What stands behind the word `native`.
+/// The command of the word `native`, by the tokens that stand behind it. None where they are in no form of it.
 fn read_native(after: &[u8]) -> Option<Command>
     ensures form { result ≡ first_read (native_form ∷ []) (tokens_of after.now) }
     ensures known { IfSome result (λ c. IsTrue (is_known c)) }
@@ -40,7 +40,7 @@ fn read_native(after: &[u8]) -> Option<Command>
     Some(Command::Native(native(to)?, slots_number(slots)?))
 }
 
-/// What stands behind the word `script`.
+/// The command of the word `script`, by the tokens that stand behind it. None where they are in no form of it.
 fn read_script(after: &[u8]) -> Option<Command>
     ensures form { result ≡ first_read (script_form ∷ []) (tokens_of after.now) }
     ensures known { IfSome result (λ c. IsTrue (is_known c)) }
@@ -50,7 +50,7 @@ fn read_script(after: &[u8]) -> Option<Command>
     Some(Command::Script(script(to)?, slots_number(slots)?))
 }
 
-/// What stands behind the word `copy`.
+/// The command of the word `copy`, by the tokens that stand behind it. None where they are in no form of it.
 fn read_copy(after: &[u8]) -> Option<Command>
     ensures form { result ≡ first_read (copy_native_form ∷ copy_script_form ∷ []) (tokens_of after.now) }
     ensures known { IfSome result (λ c. IsTrue (is_known c)) }
@@ -63,7 +63,7 @@ fn read_copy(after: &[u8]) -> Option<Command>
     }
 }
 
-/// What stands behind the word `drop`.
+/// The command of the word `drop`, by the tokens that stand behind it. None where they are in no form of it.
 fn read_drop(after: &[u8]) -> Option<Command>
     ensures form { result ≡ first_read (drop_native_form ∷ drop_script_form ∷ []) (tokens_of after.now) }
     ensures known { IfSome result (λ c. IsTrue (is_known c)) }
@@ -73,7 +73,7 @@ fn read_drop(after: &[u8]) -> Option<Command>
     Some(Command::Drop(register_of(register)?))
 }
 
-/// What stands behind the word `set`.
+/// The command of the word `set`, by the tokens that stand behind it. None where they are in no form of it.
 fn read_set(after: &[u8]) -> Option<Command>
     ensures form { result ≡ first_read (set_native_form ∷ set_script_form ∷ set_none_form ∷ []) (tokens_of after.now) }
     ensures known { IfSome result (λ c. IsTrue (is_known c)) }
@@ -94,7 +94,7 @@ fn read_set(after: &[u8]) -> Option<Command>
     }
 }
 
-/// What stands behind the word `get`.
+/// The command of the word `get`, by the tokens that stand behind it. None where they are in no form of it.
 fn read_get(after: &[u8]) -> Option<Command>
     ensures form { result ≡ first_read (get_native_form ∷ get_script_form ∷ []) (tokens_of after.now) }
     ensures known { IfSome result (λ c. IsTrue (is_known c)) }
@@ -107,7 +107,7 @@ fn read_get(after: &[u8]) -> Option<Command>
     Some(Command::Get(register, from, slot))
 }
 
-/// What stands behind the word `put`.
+/// The command of the word `put`, by the tokens that stand behind it. None where they are in no form of it.
 fn read_put(after: &[u8]) -> Option<Command>
     ensures form { result ≡ first_read (put_script_form ∷ put_none_form ∷ []) (tokens_of after.now) }
     ensures known { IfSome result (λ c. IsTrue (is_known c)) }
@@ -128,7 +128,7 @@ fn read_put(after: &[u8]) -> Option<Command>
     }
 }
 
-/// What stands behind the word `take`.
+/// The command of the word `take`, by the tokens that stand behind it. None where they are in no form of it.
 fn read_take(after: &[u8]) -> Option<Command>
     ensures form { result ≡ first_read (take_form ∷ []) (tokens_of after.now) }
     ensures known { IfSome result (λ c. IsTrue (is_known c)) }
@@ -141,7 +141,7 @@ fn read_take(after: &[u8]) -> Option<Command>
     Some(Command::Take(register, from, slot))
 }
 
-/// What stands behind the word `expose`.
+/// The command of the word `expose`, by the tokens that stand behind it. None where they are in no form of it.
 fn read_expose(after: &[u8]) -> Option<Command>
     ensures form { result ≡ first_read (expose_form ∷ []) (tokens_of after.now) }
     ensures known { IfSome result (λ c. IsTrue (is_known c)) }
@@ -153,7 +153,7 @@ fn read_expose(after: &[u8]) -> Option<Command>
     Some(Command::Expose(register, slot))
 }
 
-/// What stands behind the word `collect`.
+/// The command of the word `collect`, by the tokens that stand behind it. None where they are in no form of it.
 fn read_collect(after: &[u8]) -> Option<Command>
     ensures form { result ≡ first_read (collect_form ∷ []) (tokens_of after.now) }
     ensures known { IfSome result (λ c. IsTrue (is_known c)) }
@@ -165,7 +165,7 @@ fn read_collect(after: &[u8]) -> Option<Command>
     }
 }
 
-/// What stands behind the word `gc`.
+/// The command of the word `gc`, by the tokens that stand behind it. None where they are in no form of it.
 fn read_gc(after: &[u8]) -> Option<Command>
     ensures form { result ≡ first_read (gc_form ∷ []) (tokens_of after.now) }
     ensures known { IfSome result (λ c. IsTrue (is_known c)) }
@@ -177,7 +177,7 @@ fn read_gc(after: &[u8]) -> Option<Command>
     }
 }
 
-/// What stands behind the word `census`.
+/// The command of the word `census`, by the tokens that stand behind it. None where they are in no form of it.
 fn read_census(after: &[u8]) -> Option<Command>
     ensures form { result ≡ first_read (census_form ∷ []) (tokens_of after.now) }
     ensures known { IfSome result (λ c. IsTrue (is_known c)) }

@@ -7,7 +7,7 @@ ghost use Rattle.cc_reader.specs.Words.{register_of};
 
 use cc_names::Reg;
 
-/// What stands behind the spaces at the front.
+/// A line from its first byte on that is no space.
 fn without_spaces(line: &[u8]) -> &[u8]
     ensures same { tokens_of line.now ≡ tokens_of result.now }
     ensures front { 0 < length result.now → slice_index result.now 0 ≢ 32 }
@@ -20,7 +20,7 @@ fn without_spaces(line: &[u8]) -> &[u8]
     &[]
 }
 
-/// The first token of a line that begins with it, and what stands behind the space after it.
+/// The first token of a line that begins with one, and the line behind the space after it.
 fn cut_token(line: &[u8]) -> (&[u8], &[u8])
     requires some { 0 < length line.now }
     requires front { slice_index line.now 0 ≢ 32 }
@@ -35,7 +35,7 @@ fn cut_token(line: &[u8]) -> (&[u8], &[u8])
     (line, &[])
 }
 
-/// The first token of a line, and what stands behind it.
+/// The first token of a line, and the line behind it. None where the line has no token.
 pub(crate) fn next_token(line: &[u8]) -> Option<(&[u8], &[u8])>
     ensures cut { IfSome result (λ t. tokens_of line.now ≡ t.0.now ∷ tokens_of t.1.now) }
     ensures some { IfSome result (λ t. 0 < length t.0.now) }
@@ -48,7 +48,7 @@ pub(crate) fn next_token(line: &[u8]) -> Option<(&[u8], &[u8])>
     Some(cut_token(line))
 }
 
-/// The number that digits write, at most `most`.
+/// The number that decimal digits spell. None where it is above `most`, or a byte is no digit.
 fn digits(token: &[u8], most: u32) -> Option<u32>
     ensures value { result ≡ digits_from most 0 token.now }
     ensures within { IfSome result (λ n. n ≤ most) }
@@ -67,7 +67,7 @@ fn digits(token: &[u8], most: u32) -> Option<u32>
     Some(value)
 }
 
-/// The number that a token says, at most `most`, with no sign and no leading zero.
+/// The number that a token spells, at most `most`, with no sign and no leading zero.
 pub(crate) fn number(token: &[u8], most: u32) -> Option<u32>
     ensures value { result ≡ number_within most token.now }
     ensures within { IfSome result (λ n. n ≤ most) }
@@ -78,7 +78,7 @@ pub(crate) fn number(token: &[u8], most: u32) -> Option<u32>
     digits(token, most)
 }
 
-/// The number of slots that a token says.
+/// The number of slots that a token spells, at most 64.
 pub(crate) fn slots_number(token: &[u8]) -> Option<u8>
     ensures value { result ≡ slots_number token.now }
     ensures within { IfSome result (λ n. n ≤ 64) }
@@ -128,7 +128,7 @@ pub(crate) fn register_of(token: &[u8]) -> Option<Reg>
     }
 }
 
-/// The token of a line that has one and no more.
+/// The token of a line that has just one.
 pub(crate) fn one_token(line: &[u8]) -> Option<&[u8]>
     ensures some { IfSome result (λ a. tokens_of line.now ≡ a.now ∷ []) }
     ensures none { IfNone result (length (tokens_of line.now) ≢ 1) }
@@ -140,7 +140,7 @@ pub(crate) fn one_token(line: &[u8]) -> Option<&[u8]>
     }
 }
 
-/// The tokens of a line that has two and no more.
+/// The tokens of a line that has just two.
 pub(crate) fn two_tokens(line: &[u8]) -> Option<(&[u8], &[u8])>
     ensures some { IfSome result (λ t. tokens_of line.now ≡ t.0.now ∷ t.1.now ∷ []) }
     ensures none { IfNone result (length (tokens_of line.now) ≢ 2) }
@@ -150,7 +150,7 @@ pub(crate) fn two_tokens(line: &[u8]) -> Option<(&[u8], &[u8])>
     Some((a, b))
 }
 
-/// The tokens of a line that has three and no more.
+/// The tokens of a line that has just three.
 pub(crate) fn three_tokens(line: &[u8]) -> Option<(&[u8], &[u8], &[u8])>
     ensures some { IfSome result (λ t. tokens_of line.now ≡ t.0.now ∷ t.1.now ∷ t.2.now ∷ []) }
     ensures none { IfNone result (length (tokens_of line.now) ≢ 3) }

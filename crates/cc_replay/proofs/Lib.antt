@@ -7,5 +7,5 @@ pub mod FaultFree
 pub mod GivenWords
 pub mod OptionRows
 pub mod Replying
-pub mod AtRest
+pub mod BetweenAsks
 pub mod Tellings

@@ -1,6 +1,5 @@
 -- What is answered to one ask.
-use Rattle.cc_model.specs.Telling.{Telling, Tells}
-use Rattle.cc_model.specs.Texts.{texts_of}
+use Rattle.cc_model.specs.Telling.{Telling, TellsItems}
 use Rattle.cc_model.specs.Answers.{Answer, items_of}
 use Rattle.cc_model.specs.Asks.{Ask}
 use Rattle.cc_model.specs.Heap.{Heap}
@@ -11,4 +10,4 @@ use Rattle.cc_collector.specs.Collected.{idle_machine}
 pub record IsAnswered (old new : Heap) (ask : Ask) (before after : Telling) : Type 0 where
   pub answer : Answer
   pub done : IsDoneFor (idle_machine old) ask answer (idle_machine new)
-  pub told : Tells before after (texts_of (items_of answer))
+  pub told : TellsItems before after (items_of answer)

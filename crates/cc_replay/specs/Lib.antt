@@ -1,5 +1,5 @@
 pub mod Answered
 pub mod Answering
-pub mod Resting
+pub mod BetweenAsks
 pub mod Transcripts
 pub mod Words

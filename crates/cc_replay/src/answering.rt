@@ -11,7 +11,7 @@ ghost use Rattle.cc_model.specs.Asks.{taken};
 ghost use Rattle.cc_model.specs.Heap.{empty_heap};
 ghost use Rattle.cc_reader.specs.FormsNow.{is_known};
 ghost use Rattle.cc_replay.specs.Answered.{IsAnswered};
-ghost use Rattle.cc_replay.specs.Resting.{IsAtRest};
+ghost use Rattle.cc_replay.specs.BetweenAsks.{IsBetweenAsks};
 ghost use Rattle.cc_heaps.specs.Few.{AreFew};
 ghost use Rattle.cc_heaps.specs.Keyed.{IsInOrder};
 ghost use Rattle.cc_heaps.specs.Standing.{KeepsSuspected};
@@ -42,9 +42,9 @@ fn answer_census<N: Notices>(heaps: &Heaps, out: &mut N)
 
 /// Answers `gc`.
 fn answer_gc<N: Notices>(heaps: &mut Heaps, out: &mut N)
-    requires rest { IsAtRest heaps.old }
+    requires rest { IsBetweenAsks heaps.old }
     ensures answered { IsAnswered heaps.old.heap heaps.new.heap (taken command.Gc) (N.telling out.old) (N.telling out.new) }
-    ensures rest { IsAtRest heaps.new }
+    ensures rest { IsBetweenAsks heaps.new }
 {
     collect_scripts(heaps, out);
     out.tell(Item::Reply(Reply::Done));
@@ -52,9 +52,9 @@ fn answer_gc<N: Notices>(heaps: &mut Heaps, out: &mut N)
 
 /// Answers `collect`.
 fn answer_collect<N: Notices>(alloc: Global, heaps: &mut Heaps, out: &mut N)
-    requires rest { IsAtRest heaps.old }
+    requires rest { IsBetweenAsks heaps.old }
     ensures answered { IsAnswered heaps.old.heap heaps.new.heap (taken command.Collect) (N.telling out.old) (N.telling out.new) }
-    ensures rest { IsAtRest heaps.new }
+    ensures rest { IsBetweenAsks heaps.new }
 {
     match Collector::new(alloc).whole(heaps, out) {
         Ok(()) => out.tell(Item::Reply(Reply::Done)),
@@ -67,24 +67,24 @@ fn answer_collect<N: Notices>(alloc: Global, heaps: &mut Heaps, out: &mut N)
 fn answer_mutator<N: Notices>(command: &Command, heaps: &mut Heaps, out: &mut N)
     requires applied { IsTrue (is_applied command.now) }
     requires in_range { IsTrue (in_range command.now) }
-    requires rest { IsAtRest heaps.old }
+    requires rest { IsBetweenAsks heaps.old }
     ensures answered { IsAnswered heaps.old.heap heaps.new.heap (taken command.now) (N.telling out.old) (N.telling out.new) }
     ensures remembers { KeepsSuspected heaps.old.heap heaps.new.heap }
-    ensures rest { IsAtRest heaps.new }
+    ensures rest { IsBetweenAsks heaps.new }
 {
     let reply = apply(heaps, command, out);
     out.tell(Item::Reply(reply));
 }
 
-/// Answers a command.
-#[tactic(auto, using(crate::proofs::AtRest::counts_few))]
+/// Answers a command that the grammar gives.
+#[tactic(auto, using(crate::proofs::BetweenAsks::counts_few))]
 fn answer_command<N: Notices>(alloc: Global, command: Command, heaps: &mut Heaps, out: &mut N)
     requires known { IsTrue (is_known command) }
     requires in_range { IsTrue (in_range command) }
-    requires rest { IsAtRest heaps.old }
+    requires rest { IsBetweenAsks heaps.old }
     ensures answered { IsAnswered heaps.old.heap heaps.new.heap (taken command) (N.telling out.old) (N.telling out.new) }
     ensures counts { AreFew heaps.new.heap }
-    ensures rest { IsAtRest heaps.new }
+    ensures rest { IsBetweenAsks heaps.new }
 {
     match command {
         Command::Nothing => {}
@@ -98,9 +98,9 @@ fn answer_command<N: Notices>(alloc: Global, command: Command, heaps: &mut Heaps
 /// Answers a line of at most 120 bytes.
 fn answer_text<N: Notices>(alloc: Global, text: &[u8], heaps: &mut Heaps, out: &mut N)
     requires short { length text.now ≤ 120 }
-    requires rest { IsAtRest heaps.old }
+    requires rest { IsBetweenAsks heaps.old }
     ensures answered { LineIsAnswered heaps.old.heap heaps.new.heap text.now (N.telling out.old) (N.telling out.new) }
-    ensures rest { IsAtRest heaps.new }
+    ensures rest { IsBetweenAsks heaps.new }
 {
     match parse(text) {
         Some(command) => answer_command(alloc, command, heaps, out),
@@ -108,7 +108,7 @@ fn answer_text<N: Notices>(alloc: Global, text: &[u8], heaps: &mut Heaps, out: &
     }
 }
 
-/// What came next in the input.
+/// What came next in the source.
 #[derive(Clone, Copy, Debug, PartialEq, Eq, Drop)]
 enum Next {
     /// A line, which is answered.
@@ -125,7 +125,7 @@ fn answer_next<S: Source, N: Notices>(
     out: &mut N,
 ) -> Result<Next, ReadStop>
     requires going { lines.old.stopped ≡ false }
-    requires rest { IsAtRest heaps.old }
+    requires rest { IsBetweenAsks heaps.old }
     ensures answered { result ≡ Ok Next.Answered → (line : List ℕ)
         × GivesLine (S.left lines.old.source.now) (S.left lines.new.source.now) lines.old.window lines.new.window line
         × LineIsAnswered heaps.old.heap heaps.new.heap line (N.telling out.old) (N.telling out.new) }
@@ -142,7 +142,7 @@ fn answer_next<S: Source, N: Notices>(
         IsOver start (S.left lines.new.source.now) lines.new.window given }
     ensures quiet { result ≡ Ok Next.End → (heaps.new ≡ heaps.old) × (N.telling out.new ≡ N.telling out.old) }
     ensures still { OnErr result ((heaps.new ≡ heaps.old) × (N.telling out.new ≡ N.telling out.old)) }
-    ensures rest { IsAtRest heaps.new }
+    ensures rest { IsBetweenAsks heaps.new }
     ensures limit { lines.new.window.limit ≡ lines.old.window.limit }
     ensures reads { ReadsOn (S.reads lines.old.source.now) (S.reads lines.new.source.now) lines.old.window lines.new.window }
     ensures same { lines.new.source.ghost_name ≡ lines.old.source.ghost_name }
@@ -163,7 +163,8 @@ fn answer_next<S: Source, N: Notices>(
     }
 }
 
-/// Answers each line that is left. It ends with the source, or where a read or a write failed or the limit is reached.
+/// Answers each line that is left, to the end of the source, or until a read fails, a write fails or the limit on bytes
+/// is passed.
 fn answer_all<S: Source, N: Reports>(
     alloc: Global,
     lines: &mut Lines<'_, S>,
@@ -171,7 +172,7 @@ fn answer_all<S: Source, N: Reports>(
     out: &mut N,
 ) -> Status
     requires going { lines.old.stopped ≡ false }
-    requires rest { IsAtRest heaps.old }
+    requires rest { IsBetweenAsks heaps.old }
     requires whole { (N.telling out.old).broken ≡ false }
     ensures done { result ≡ Status.Done → Answers IsWhole (moment (S.left lines.old.source.now) lines.old.window heaps.old.heap (N.telling out.old))
         (moment (S.left lines.new.source.now) lines.new.window heaps.new.heap (N.telling out.new)) }
@@ -207,7 +208,8 @@ fn answer_all<S: Source, N: Reports>(
     }
 }
 
-/// Answers a whole input, from the empty heaps on.
+/// Answers all lines of a source that was not yet read, from empty heaps on. What is written is told of the bytes that
+/// were taken.
 pub(crate) fn answer_input<S: Source, N: Reports>(
     alloc: Global,
     lines: &mut Lines<'_, S>,

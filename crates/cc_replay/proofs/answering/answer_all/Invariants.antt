@@ -2,7 +2,7 @@ use Rattle.std.proofs.Common.{◌≡◌, false}
 use Rattle.cc_reader.specs.Pending.{weight}
 use Rattle.cc_reader.specs.HasRead.{ReadsOn}
 use Rattle.cc_reader.specs.Given.{HasGiven}
-use Rattle.cc_replay.specs.Resting.{IsAtRest}
+use Rattle.cc_replay.specs.BetweenAsks.{IsBetweenAsks}
 use Rattle.cc_replay.specs.Answering.{Answers, moment}
 use Rattle.cc_replay.proofs.answering.answer_all.Given as goal
 
@@ -15,7 +15,7 @@ invariant-lines g l =
     record {
       lines : Answers HasGiven (moment (left l.fn.lines.source.now) l.fn.lines.window l.fn.heaps.heap (telling l.fn.out))
           (moment (left l.lines.source.now) l.lines.window l.heaps.heap (telling l.out));
-      rest : IsAtRest l.heaps;
+      rest : IsBetweenAsks l.heaps;
       going : l.lines.stopped ≡ false;
       limit : l.lines.window.limit ≡ l.fn.lines.window.limit;
       reads : ReadsOn (reads l.fn.lines.source.now) (reads l.lines.source.now) l.fn.lines.window l.lines.window;

@@ -1,10 +1,10 @@
-use Rattle.cc_replay.proofs.AtRest.{IsAtRest-empty}
+use Rattle.cc_replay.proofs.BetweenAsks.{IsBetweenAsks-empty}
 use Rattle.cc_replay.proofs.Causes.{over-answered, done-answered, reads-within, end-unread}
 use Rattle.cc_replay.proofs.Endings.{whole-done, broken-stops, over-stops, first-stops}
 use Rattle.cc_replay.proofs.answering.answer_input.Goals as goal
 
 pub answer_all-requires-clause-rest : goal.answer_all-requires-clause-rest
-answer_all-requires-clause-rest g c = IsAtRest-empty c.args.heaps.now c.requires.order c.requires.empty
+answer_all-requires-clause-rest g c = IsBetweenAsks-empty c.args.heaps.now c.requires.order c.requires.empty
 
 pub returns-clause-done : goal.returns-clause-done
 returns-clause-done g c = λ status.

@@ -6,6 +6,6 @@ use Rattle.cc_heaps.specs.Keyed.{Keyed, IsInOrder}
 
 -- they are in order, nothing is owned besides, and their colours are in order: no black script object has a gray one in
 -- a slot, what script registers hold is black, nothing is white
-pub record IsAtRest (v : Keyed) : Type 0 where
+pub record IsBetweenAsks (v : Keyed) : Type 0 where
   pub order : IsInOrder [] v
   pub colours : HasColourInvariant (view v.heap)
