@@ -1,6 +1,6 @@
 -- WHAT THE LAWS MAKE of a begin, of a step and of an abandonment.
-use Rattle.std.proofs.Common.{◌≡◌, ℕ, List, [], sym, ap, subst}
-use Rattle.cc_model.specs.Heap.{Heap, Buffered}
+use Rattle.std.proofs.Common.{◌≡◌, ℕ, List, [], sym, subst}
+use Rattle.cc_model.specs.Heap.{Buffered}
 use Rattle.cc_model.specs.View.{view}
 use Rattle.cc_model.specs.Colours.{HasColourInvariant}
 use Rattle.cc_model.specs.Suspected.{IsSuspected}

@@ -14,7 +14,7 @@ use Rattle.cc_counted.specs.declared.held.Held.{Held}
 use Rattle.cc_counted.specs.declared.held.Held.TheVariants as held
 use Rattle.cc_counted.specs.Counts.{Counts, name_of, is_live}
 use Rattle.cc_counted.specs.Counts as counts
-use Rattle.cc_script.specs.Objects.{Object, object_at, name_at, is_there}
+use Rattle.cc_script.specs.Objects.{Object}
 use Rattle.cc_script.specs.Objects as objects
 use Rattle.cc_heaps.specs.Keyed.{Keyed, IsInOrder, counts_of, keyed_name, name_held}
 use Rattle.cc_heaps.specs.Changes.{IsThere, IsScriptThere, script_name}

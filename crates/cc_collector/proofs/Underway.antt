@@ -1,5 +1,5 @@
 -- WHAT THE PARTS OF A COLLECTION PROMISE, one after the other.
-use Rattle.std.proofs.Common.{◌≡◌, ℕ, [], None, ap, ◌∙◌, subst}
+use Rattle.std.proofs.Common.{◌≡◌, [], None, ap, ◌∙◌, subst}
 use Rattle.cc_lists.specs.Members.{Among}
 use Rattle.cc_model.specs.Heap.{Heap}
 use Rattle.cc_model.specs.Snapshot.{Snapshot, white_natives}
