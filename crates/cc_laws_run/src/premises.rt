@@ -1,4 +1,5 @@
-//! Premises of the laws can be met: runs that meet them.
+//! The premises of the laws can be met: scripts whose runs meet them.
+
 ghost use Rattle.std.specs.Prelude.{◌≡◌, [], Some};
 ghost use Rattle.cc_names.specs.Names.{native};
 ghost use Rattle.cc_model.specs.View.{view, ReachedIn};

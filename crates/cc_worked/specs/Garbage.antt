@@ -1,4 +1,4 @@
--- CENSUSES AND GARBAGE: lawful transcripts that end in a census which lists what is not reached.
+-- CENSUSES AND GARBAGE: transcripts that end in a census which lists what is not reached, or leaves out what is.
 use Rattle.std.specs.Prelude.{[], ◌∷◌, codes}
 use Rattle.cc_names.specs.Names.{native, object, reflector}
 use Rattle.cc_model.specs.declared.item.Refusal.TheVariants.{Line, Empty, NoMemory}

@@ -1,4 +1,5 @@
 //! What the audit of the examples says where it says yes.
+
 ghost use Rattle.std.specs.Prelude.{ℕ, IsTrue, List};
 ghost use Rattle.cc_model.specs.View.{View};
 ghost use Rattle.cc_model.specs.Snapshot.{Snapshot};

@@ -1,4 +1,6 @@
-//! Transcripts that end in a census of garbage: which of them the definition of quiet refuses.
+//! Transcripts that end in a census: those that the definition of quiet refuses, and garbage that it lets stay.
+//! `IsUnquietAtItsEnd` says that all is right without the census, and that with it the transcript is lawful and not quiet.
+
 ghost use Rattle.cc_worked.specs.Transcripts.{IsRight, IsUnquiet, IsUnquietAtItsEnd};
 ghost use Rattle.cc_worked.specs.Garbage.{garbage_is_kept, garbage_is_kept_after_two_gcs, garbage_is_kept_after_two_collections, garbage_is_kept_after_two_rows, garbage_is_kept_between_blank_lines, script_object_is_kept, reflector_is_kept, reached_native_is_missing, no_gc_at_all, no_first_gc, no_collect, no_last_gc, two_collects, one_gc_more, refused_line_after_the_first, refused_line_after_the_second, refused_line_after_the_third, bad_line_between, slice_between, collect_without_memory};
 
@@ -14,7 +16,7 @@ pub fn unquiet_censuses_are_refused()
     ensures reached_native_is_missing { IsUnquiet reached_native_is_missing }
 {}
 
-/// Elsewhere it may list what they do not reach.
+/// Where these three do not stand in a row right before it, a census may list what the registers do not reach.
 pub fn garbage_may_stay()
     ensures no_gc_at_all { IsRight no_gc_at_all }
     ensures no_first_gc { IsRight no_first_gc }

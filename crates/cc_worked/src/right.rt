@@ -1,8 +1,9 @@
 //! Transcripts that are right, at the limits of what is lawful.
+
 ghost use Rattle.cc_worked.specs.Transcripts.{IsRight};
 ghost use Rattle.cc_worked.specs.Right.{memory_may_be_refused, reflector_may_be_refused_again, refused_collections_abandon, gc_abandons_first, two_collections_end, garbage_stays_for_a_while, value_goes_with_its_key, lines_that_ask_nothing, census_in_order};
 
-/// What the clauses allow passes, at their limits.
+/// What the clauses just allow is right.
 pub fn right_transcripts_pass()
     ensures memory_may_be_refused { IsRight memory_may_be_refused }
     ensures reflector_may_be_refused_again { IsRight reflector_may_be_refused_again }

@@ -1,4 +1,5 @@
 //! Whether a transcript is lawful, and whether it is quiet, is decided by tests that compute.
+
 ghost use Rattle.std.specs.Prelude.{◌↔◌, IsTrue, List};
 ghost use Rattle.cc_names.specs.Allowance.{Allowance};
 ghost use Rattle.cc_model.specs.Answers.{Answer};

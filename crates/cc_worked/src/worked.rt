@@ -1,4 +1,5 @@
 //! Examples whose theorems are clauses: what they write, and that their runs are lawful and quiet.
+
 ghost use Rattle.std.specs.Prelude.{◌≡◌, ◌++◌, codes};
 ghost use Rattle.cc_model.specs.Forms.{version_one_forms};
 ghost use Rattle.cc_model.specs.Run.{plain_text};

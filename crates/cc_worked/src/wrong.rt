@@ -1,9 +1,12 @@
-//! Transcripts with one fault, each of which the definition of lawful refuses: one for each clause of it.
+//! Transcripts that the definition of lawful refuses, each for one fault in its last answer; each clause of the
+//! definition refuses one. `IsUnlawfulAtItsEnd` says that all is right without the last answer, and that with it the
+//! transcript is quiet and not lawful.
+
 ghost use Rattle.cc_worked.specs.Transcripts.{IsUnlawfulAtItsEnd};
 ghost use Rattle.cc_worked.specs.WrongReplies.{missing_answer, answer_to_nothing_asked, no_reply, names_listed_by_a_drop, long_line_called_bad, bad_line_called_long, event_under_a_long_line, event_under_a_bad_line, blank_line_is_answered, comment_is_answered, event_under_a_blank_line, another_reply, number_used_again, number_left_out, number_taken_without_memory, slot_is_read_as_empty, refused_without_cause, done_in_place_of_a_refusal, refused_for_another_cause, copy_of_a_native_wants_memory, copy_of_a_script_object_wants_memory, drop_wants_memory, set_wants_memory, get_wants_memory, put_wants_memory, take_wants_memory, wrap_of_a_listed_reflector_wants_memory, unwrap_wants_memory, preserve_wants_memory, replaced_entry_wants_memory, taken_out_entry_wants_memory, wget_wants_memory, expose_wants_memory, gc_wants_memory, refused_wrap_wants_memory, refused_wset_wants_memory, full_in_place_of_want_of_memory, census_leaves_one_out, census_lists_what_was_freed, census_lists_what_was_not_made, census_lists_script_objects_first, census_lists_in_falling_order, census_lists_a_reflector_in_its_old_place, census_lists_a_wrapped_reflector_last, census_lists_a_reflector_twice, census_tells_another_number, census_tells_no_number, freed_by_a_census};
 ghost use Rattle.cc_worked.specs.WrongEvents.{freed_by_a_refused_command, freed_without_memory, freed_before_it_was_made, freed_twice, freed_again, freed_while_a_register_holds_it, freed_while_a_slot_holds_it, freed_while_its_reflector_is_held, preserved_reflector_is_freed, value_is_freed_while_map_and_key_are_held, script_object_is_freed_by_a_drop, script_object_is_freed_by_a_slice, script_object_is_freed_by_a_collect, reflector_is_freed_by_a_collect, unlinked_before_it_was_made, unlinked_after_it_was_freed, unlinked_while_held, unlinked_by_a_drop, unlinked_by_the_making_of_another, script_object_is_unlinked, reflector_is_unlinked, unlinked_in_falling_order, unlinked_twice, unlinked_in_falling_order_by_gc, unlinked_in_three_runs, refused_slice_abandons_nothing, refused_collect_abandons_nothing, refused_slice_abandons_twice, refused_collect_abandons_twice, freed_after_the_abandonment, slice_abandons_and_is_done, collect_abandons_and_is_done, gc_abandons_twice, gc_abandons_late, drop_abandons};
 
-/// Each line has its answer, and no answer is of another form than its line wants.
+/// Each line has one answer, of the form that the line wants.
 pub fn misplaced_answers_are_refused()
     ensures missing_answer { IsUnlawfulAtItsEnd missing_answer }
     ensures answer_to_nothing_asked { IsUnlawfulAtItsEnd answer_to_nothing_asked }
@@ -18,7 +21,7 @@ pub fn misplaced_answers_are_refused()
     ensures event_under_a_blank_line { IsUnlawfulAtItsEnd event_under_a_blank_line }
 {}
 
-/// No reply is another than the graph gives.
+/// Each reply is the one that the graph gives.
 pub fn wrong_replies_are_refused()
     ensures another_reply { IsUnlawfulAtItsEnd another_reply }
     ensures number_used_again { IsUnlawfulAtItsEnd number_used_again }
@@ -30,7 +33,7 @@ pub fn wrong_replies_are_refused()
     ensures refused_for_another_cause { IsUnlawfulAtItsEnd refused_for_another_cause }
 {}
 
-/// Memory is refused only where a command may take some, and where the graph does not refuse it.
+/// Memory is refused only to a command that may take some, and only where the graph does not refuse that command.
 pub fn false_wants_of_memory_are_refused()
     ensures copy_of_a_native_wants_memory { IsUnlawfulAtItsEnd copy_of_a_native_wants_memory }
     ensures copy_of_a_script_object_wants_memory { IsUnlawfulAtItsEnd copy_of_a_script_object_wants_memory }
@@ -52,7 +55,7 @@ pub fn false_wants_of_memory_are_refused()
     ensures full_in_place_of_want_of_memory { IsUnlawfulAtItsEnd full_in_place_of_want_of_memory }
 {}
 
-/// A census lists the listed names in order and tells how many they are.
+/// A census lists the listed names in census order and tells how many they are.
 pub fn wrong_censuses_are_refused()
     ensures census_leaves_one_out { IsUnlawfulAtItsEnd census_leaves_one_out }
     ensures census_lists_what_was_freed { IsUnlawfulAtItsEnd census_lists_what_was_freed }
@@ -67,7 +70,7 @@ pub fn wrong_censuses_are_refused()
     ensures freed_by_a_census { IsUnlawfulAtItsEnd freed_by_a_census }
 {}
 
-/// What is freed or unlinked is listed and reached no more, and by a command that may do so.
+/// A command frees and unlinks only what is listed and reached no more, and only what this command may free or unlink.
 pub fn wrong_events_are_refused()
     ensures freed_by_a_refused_command { IsUnlawfulAtItsEnd freed_by_a_refused_command }
     ensures freed_without_memory { IsUnlawfulAtItsEnd freed_without_memory }
@@ -96,7 +99,8 @@ pub fn wrong_events_are_refused()
     ensures unlinked_in_three_runs { IsUnlawfulAtItsEnd unlinked_in_three_runs }
 {}
 
-/// A collection is abandoned where memory is refused or gc comes, and nowhere else.
+/// A collection is abandoned at the end of a `slice` or `collect` that is refused memory, at the beginning of `gc`, and
+/// nowhere else.
 pub fn wrong_abandonments_are_refused()
     ensures refused_slice_abandons_nothing { IsUnlawfulAtItsEnd refused_slice_abandons_nothing }
     ensures refused_collect_abandons_nothing { IsUnlawfulAtItsEnd refused_collect_abandons_nothing }
