@@ -1,9 +1,11 @@
 -- THE OBJECTS IN ORDER: the first key, and the key behind a key.
 use Rattle.std.proofs.Common.{◌≡◌, ℕ, Bool, true, false, List, [], ◌∷◌, map, Option, Some, None, option_map, IfSome, refl, sym, inl, inr, ◌==◌}
 use Rattle.cc_lists.specs.Members.{Among}
+use Rattle.cc_lists.specs.Walks.{first_of}
+use Rattle.cc_lists.proofs.Walks.{first-among}
 use Rattle.cc_names.specs.declared.number.SKey.{SKey}
 use Rattle.cc_script.specs.Objects.{first_key, key_after, is_there}
-use Rattle.cc_script.specs.Lists.{Placed, Lists, shown_at, objects_of, IsPlaced, first_of, key_behind}
+use Rattle.cc_script.specs.Lists.{Placed, Lists, shown_at, objects_of, IsPlaced, key_behind}
 use Rattle.cc_script.proofs.Places.{live-ordered}
 
 pub first-shown : (cells : List (Option Placed)) (keys : List ℕ) → first_key (map (shown_at cells) keys) ≡ first_of keys
@@ -25,10 +27,6 @@ behind-shown cells key (k ∷ ks) = go (behind-shown cells key ks) (k == key)
     go ih false = ih
 
 -- a key that is found is one of the list
-pub first-among : (ks : List ℕ) (j : ℕ) → first_of ks ≡ Some j → Among j ks
-first-among [] j e = absurd (cc)
-first-among (k ∷ ks) j e = inl (cc)
-
 pub behind-among : (key : ℕ) (ks : List ℕ) (j : ℕ) → key_behind key ks ≡ Some j → Among j ks
 behind-among key [] j e = absurd (cc)
 behind-among key (k ∷ ks) j e = go (behind-among key ks j) (k == key) e

@@ -1,3 +1,4 @@
+//! An object as it stands at its key: its name, its slots and its colour.
 ghost use Rattle.std.specs.Prelude.{◌≡◌, ◌<◌, length, IsSome, option_map, slice_set};
 ghost use Rattle.cc_script.specs.Objects.{is_below as is_below_it};
 ghost use Rattle.cc_script.specs.Lists.{cell_at, painted, slots_placed, written};

@@ -1,5 +1,7 @@
+//! The keys of the objects in order of making.
 ghost use Rattle.std.specs.Prelude.{◌≡◌, ◌≤◌, drop, length, map, option_map};
-ghost use Rattle.cc_script.specs.Lists.{without_key, first_of, key_behind};
+ghost use Rattle.cc_lists.specs.Walks.{first_of};
+ghost use Rattle.cc_script.specs.Lists.{without_key, key_behind};
 
 use cc_names::SKey;
 
@@ -15,7 +17,7 @@ pub(crate) fn key_at(order: &[SKey], place: usize) -> Option<SKey>
 }
 
 /// The key behind a key; none where that is the last or is not there.
-// O(n) until the order is a chain: a walk over all objects from the first by the next is quadratic
+// O(n) until the order is a chain: a walk over all objects, from the first by the next, is quadratic
 pub(crate) fn behind(order: &[SKey], key: SKey) -> Option<SKey>
     ensures { option_map (λ k. k.0) result ≡ key_behind key.0 (map (λ k. k.0) order.now) }
 {

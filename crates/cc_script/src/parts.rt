@@ -1,3 +1,4 @@
+//! The parts of the script heap, and the walk that raises colours.
 ghost use Rattle.std.specs.Prelude.{◌≡◌, ℕ, ◌<◌, ◌≤◌, false, List, [], ◌∷◌, ◌++◌, length, Some, None, IfOk, IfSome, IsTrue, OnErr, OnOk, option_map, replicate, slice_index_or};
 ghost use Rattle.cc_lists.specs.Members.{Among};
 ghost use Rattle.cc_names.specs.declared.kind.Colour.TheVariants.{White};
@@ -15,22 +16,22 @@ use std::alloc::Global;
 ///
 /// The stack has room for every object, so that no walk takes memory.
 #[derive(Drop)]
-pub(crate) struct Parts {
+pub(crate) struct ScriptParts {
     pub(crate) cells: Slab<Cell>,
-    // O(n) for each object that leaves until it is a chain
+    // O(n) for each object that leaves, until the order is a chain
     pub(crate) order: Vec<SKey>,
     pub(crate) stack: Vec<SKey>,
 }
 
-impl Parts {
+impl ScriptParts {
     ghost use Rattle.cc_script.specs.Parts.{lists_of, shows, marking_of, HasRoom, HasRoomForOne, IsAtRest, IsUnderWay};
 
     /// No objects.
-    pub(crate) fn new(alloc: Global) -> Parts
+    pub(crate) fn new(alloc: Global) -> ScriptParts
         ensures shows { shows result ≡ [] }
         ensures at_rest { IsAtRest result }
     {
-        Parts {
+        ScriptParts {
             cells: Slab::new(alloc),
             order: Vec::new(alloc),
             stack: Vec::new(alloc),
@@ -129,7 +130,7 @@ impl Parts {
         }
     }
 
-    /// The same of what slot `i` of the object at a key holds.
+    /// Raises in the same way what slot `i` of the object at a key holds.
     fn raise_slot(&mut self, key: SKey, i: usize, to: Colour)
         requires under_way { IsUnderWay to self.old }
         requires live { IsTrue (is_there (shows self.old) key.0) }
@@ -143,7 +144,7 @@ impl Parts {
         }
     }
 
-    /// Of what each slot of the object at a key holds.
+    /// Raises in the same way what each slot of the object at a key holds, in rising order.
     fn raise_each(&mut self, key: SKey, to: Colour)
         requires under_way { IsUnderWay to self.old }
         requires live { IsTrue (is_there (shows self.old) key.0) }

@@ -1,10 +1,11 @@
+//! The script heap as callers see it.
 ghost use Rattle.std.specs.Prelude.{◌≡◌, ◌<◌, ◌≤◌, false, List, [], ◌∷◌, ◌++◌, length, Some, None, option_map, slice_index_or, IsTrue, IfSome, IfOk, OnOk, OnErr};
 ghost use Rattle.cc_names.specs.declared.kind.Colour.TheVariants.{White, Black};
 ghost use Rattle.cc_script.specs.Objects.{AreWhole, change_object, colour_at, first_key, is_there, key_after, kind_at, name_at, plain_object, raised_among, slots_at, whitened, with_slot, without_object, IsNotBelow};
 ghost use Rattle.cc_script.specs.Walking.{keys_reached};
 
 use crate::order::{behind, key_at};
-use crate::parts::Parts;
+use crate::parts::ScriptParts;
 use cc_names::{Colour, Kind, Name, NoMemory, SKey, ScriptNo};
 use std::alloc::Global;
 use std::marker::Model;
@@ -12,7 +13,7 @@ use std::marker::Model;
 /// The script objects by key, in order of making.
 #[derive(Drop)]
 pub struct Scripts {
-    parts: Parts,
+    parts: ScriptParts,
     alloc: Global,
 }
 
@@ -35,7 +36,7 @@ impl Scripts {
         ensures { result ≡ [] }
     {
         Scripts {
-            parts: Parts::new(alloc),
+            parts: ScriptParts::new(alloc),
             alloc,
         }
     }

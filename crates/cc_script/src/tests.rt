@@ -1,3 +1,4 @@
+//! Each call once, and a walk over many objects.
 ghost use Rattle.std.specs.Prelude.{IfOk, IsTrue};
 ghost use Rattle.cc_script.specs.Objects.{AreWhole, is_there};
 ghost use Rattle.cc_script.specs.Tidy.{AllAreWhite, IsTidy, StayThere};

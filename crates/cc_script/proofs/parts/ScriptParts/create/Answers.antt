@@ -12,7 +12,7 @@ use Rattle.cc_script.proofs.Places.{is_there-none}
 use Rattle.cc_script.proofs.Making.{IsPlaced-made, objects-made}
 use Rattle.cc_script.proofs.InOrder.{HasColourOrder-made}
 use Rattle.cc_script.proofs.Reading.{held_key}
-use Rattle.cc_script.proofs.parts.Parts.create.Goals as goal
+use Rattle.cc_script.proofs.parts.ScriptParts.create.Goals as goal
 
 -- an empty slot, and some
 abbrev nothing : Option ℕ

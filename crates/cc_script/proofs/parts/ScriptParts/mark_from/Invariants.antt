@@ -1,7 +1,7 @@
 use Rattle.cc_script.specs.Marking.{to_do}
 use Rattle.cc_script.specs.Parts.{shows, marking_of, IsUnderWay}
 use Rattle.cc_script.proofs.Walks.{IsWalk}
-use Rattle.cc_script.proofs.parts.Parts.mark_from.Given as goal
+use Rattle.cc_script.proofs.parts.ScriptParts.mark_from.Given as goal
 
 abbrev pub invariant-loop-next : goal.invariant-loop-next
 invariant-loop-next l = record {

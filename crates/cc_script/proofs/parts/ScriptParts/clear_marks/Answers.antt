@@ -9,7 +9,7 @@ use Rattle.cc_script.proofs.Reading.{place-among, take-place}
 use Rattle.cc_script.proofs.Painting.{IsPlaced-painted, objects-painted}
 use Rattle.cc_script.proofs.Whitening.{IsFading, fading-start, fading-next, fading-end}
 use Rattle.cc_script.proofs.InOrder.{HasColourOrder-whitened}
-use Rattle.cc_script.proofs.parts.Parts.clear_marks.Goals as goal
+use Rattle.cc_script.proofs.parts.ScriptParts.clear_marks.Goals as goal
 
 pub loop-place-init : goal.loop-place-init
 loop-place-init c = record {

@@ -7,7 +7,7 @@ use Rattle.cc_script.specs.Parts.{lists_of, shows, marking_of}
 use Rattle.cc_script.proofs.Places.{live-some, slots_at-placed}
 use Rattle.cc_script.proofs.Reading.{held_key}
 use Rattle.cc_script.proofs.Raising.{raise_slot-there, raise_slot-slots, raise_each-more}
-use Rattle.cc_script.proofs.parts.Parts.raise_each.Goals as goal
+use Rattle.cc_script.proofs.parts.ScriptParts.raise_each.Goals as goal
 
 pub index-requires : goal.index-requires
 index-requires c = live-some (lists_of c.args.self.now) c.requires.under_way.placed c.args.key.0 c.requires.live

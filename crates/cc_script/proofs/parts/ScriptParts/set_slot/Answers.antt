@@ -7,7 +7,7 @@ use Rattle.cc_script.proofs.Places.{live-cell, live-some, slots_at-placed, objec
 use Rattle.cc_script.proofs.Reading.{held_key}
 use Rattle.cc_script.proofs.Writing.{IsPlaced-written, objects-written, each-held}
 use Rattle.cc_script.proofs.InOrder.{HasColourOrder-written}
-use Rattle.cc_script.proofs.parts.Parts.set_slot.Goals as goal
+use Rattle.cc_script.proofs.parts.ScriptParts.set_slot.Goals as goal
 
 pub write-requires-clause-live : goal.write-requires-clause-live
 write-requires-clause-live c = live-some (lists_of c.args.self.now) c.requires.at_rest.placed c.args.key.0 c.requires.live

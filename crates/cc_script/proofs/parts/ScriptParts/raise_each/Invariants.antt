@@ -2,7 +2,7 @@ use Rattle.std.proofs.Common.{◌≡◌, ℕ, drop}
 use Rattle.cc_script.specs.Objects.{is_there, slots_at}
 use Rattle.cc_script.specs.Marking.{raise_each}
 use Rattle.cc_script.specs.Parts.{shows, marking_of, IsUnderWay}
-use Rattle.cc_script.proofs.parts.Parts.raise_each.Given as goal
+use Rattle.cc_script.proofs.parts.ScriptParts.raise_each.Given as goal
 
 abbrev pub invariant-loop-i : goal.invariant-loop-i
 invariant-loop-i l = record {

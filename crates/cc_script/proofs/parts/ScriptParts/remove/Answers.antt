@@ -8,7 +8,7 @@ use Rattle.cc_script.proofs.Places.{live-some}
 use Rattle.cc_script.proofs.Keys.{coloured-there}
 use Rattle.cc_script.proofs.Leaving.{IsPlaced-left, objects-left}
 use Rattle.cc_script.proofs.InOrder.{HasColourOrder-without}
-use Rattle.cc_script.proofs.parts.Parts.remove.Goals as goal
+use Rattle.cc_script.proofs.parts.ScriptParts.remove.Goals as goal
 
 -- the lists with one object taken out
 same-lists : (l : Lists) (key : ℕ) (order : List ℕ) (cells : List (Option Placed)) → cells ≡ set l.cells key None → order ≡ without_key key l.order →

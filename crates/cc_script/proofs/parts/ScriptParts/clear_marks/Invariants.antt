@@ -2,7 +2,7 @@ use Rattle.std.proofs.Common.{◌≡◌, take}
 use Rattle.cc_script.specs.Lists.{IsPlaced}
 use Rattle.cc_script.specs.Parts.{lists_of, shows, HasRoom}
 use Rattle.cc_script.proofs.Whitening.{IsFading}
-use Rattle.cc_script.proofs.parts.Parts.clear_marks.Given as goal
+use Rattle.cc_script.proofs.parts.ScriptParts.clear_marks.Given as goal
 
 abbrev pub invariant-loop-place : goal.invariant-loop-place
 invariant-loop-place l = record {

@@ -12,7 +12,7 @@ use Rattle.cc_script.proofs.Reaching.{reached-there}
 use Rattle.cc_script.proofs.Raising.{raise_each-spends}
 use Rattle.cc_script.proofs.Walks.{IsWalk, walk-start, walk-reached, walk-held, walk-next, walk-end, walk-there, walk-coloured}
 use Rattle.cc_script.proofs.Popping.{keys_of, keys-popped, none-popped, same-popped, popped-comes, popped-does}
-use Rattle.cc_script.proofs.parts.Parts.mark_from.Goals as goal
+use Rattle.cc_script.proofs.parts.ScriptParts.mark_from.Goals as goal
 
 pub raise-requires-clause-under_way : goal.raise-requires-clause-under_way
 raise-requires-clause-under_way c = record {

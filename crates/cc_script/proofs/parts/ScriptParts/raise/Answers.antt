@@ -9,7 +9,7 @@ use Rattle.cc_script.proofs.Places.{object_at-placed, live-some}
 use Rattle.cc_script.proofs.Painting.{IsPlaced-painted, objects-painted}
 use Rattle.cc_script.proofs.Colours.{raised-below}
 use Rattle.cc_script.proofs.Raising.{fewer-lower, raise_key-lower, raise_key-enough, raise_key-spends}
-use Rattle.cc_script.proofs.parts.Parts.raise.Goals as goal
+use Rattle.cc_script.proofs.parts.ScriptParts.raise.Goals as goal
 
 -- a walk of the same objects and stack
 abbrev marking : List Object → List ℕ → Marking
