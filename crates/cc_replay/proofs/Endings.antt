@@ -128,10 +128,10 @@ module _ (limits : Allowance) (m₀ m₁ : Moment) (r₀ r₁ : Reads) (begins :
             first = w.lines_are ∙ ap (λ n. ended_lines_of (take n f.given)) bytes;
           }))
           (λ (w : LastUnended m₁.window lines f.given).
-              let end = f.at_end w.ended in
-              inr (record {
-                all = record { at_end = end.0; within = omega (arith, end.1, bytes); reads = read_to_end f.given f.counted w.ended };
-                lines_are = w.lines_are;
-                rest = w.rest;
-              }))
+          let end = f.at_end w.ended in
+          inr (record {
+            all = record { at_end = end.0; within = omega (arith, end.1, bytes); reads = read_to_end f.given f.counted w.ended };
+            lines_are = w.lines_are;
+            rest = w.rest;
+          }))
           f.first
