@@ -10,6 +10,8 @@ mod faults;
 #[cfg(test)]
 mod library;
 #[cfg(test)]
+mod pieces;
+#[cfg(test)]
 mod script;
 #[cfg(test)]
 mod shapes;

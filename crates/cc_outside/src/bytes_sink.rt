@@ -1,3 +1,5 @@
+//! A sink in memory.
+
 ghost use Rattle.std.specs.Prelude.{◌≡◌, ◌+◌, ◌<◌, ◌↔◌, ◌⊎◌, [], length, Some, IfOk, IsErr, IsOk};
 ghost use Rattle.std.specs.List.{Contains};
 ghost use Rattle.cc_outside.specs.Counted.{raised};

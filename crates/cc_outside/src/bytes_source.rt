@@ -1,3 +1,5 @@
+//! A source in memory.
+
 ghost use Rattle.std.specs.Prelude.{◌≡◌, ◌↔◌, ◌<◌, ◌≤◌, [], length, min, Some, IfOk, IsErr};
 ghost use Rattle.std.specs.List.{Contains};
 ghost use Rattle.cc_outside.specs.Counted.{raised};

@@ -1,3 +1,5 @@
+//! A sink that counts.
+
 ghost use Rattle.std.specs.Prelude.{◌≡◌, length, None, Ok};
 ghost use Rattle.cc_outside.specs.Counted.{raised};
 

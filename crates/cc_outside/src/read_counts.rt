@@ -1,3 +1,5 @@
+//! How many reads were answered.
+
 ghost use Rattle.std.specs.Prelude.{◌≡◌};
 ghost use Rattle.cc_outside.specs.Reads.{no_reads, read_more};
 

@@ -1,3 +1,5 @@
+//! Where bytes go.
+
 ghost use Rattle.std.specs.Prelude.{◌<◌, ℕ, List, length, take, IfOk, OnErr};
 ghost use Rattle.std.specs.Io.{WritesAtMost};
 ghost use Rattle.std.specs.Io.KnownBytes.{Appends, Keeps};
@@ -16,7 +18,7 @@ pub trait Sink {
 
     /// Writes the front of `bytes`, and says how many: of a piece that is not empty at least one byte.
     ///
-    /// `Failed` where the write failed.
+    /// `Failed` where the write failed: a sink that tells its bytes has taken none then.
     fn write(&mut self, bytes: &[u8]) -> Result<usize, Failed>
         ensures bound { WritesAtMost result bytes.now }
         ensures more { IfOk result (λ m. 0 < length bytes.now → 0 < m) }

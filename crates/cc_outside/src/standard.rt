@@ -1,4 +1,6 @@
-ghost use Rattle.std.specs.Prelude.{◌≡◌, ◌<◌, length, take, IfOk, None};
+//! Standard input and output, and any other reader and writer.
+
+ghost use Rattle.std.specs.Prelude.{◌≡◌, ◌<◌, ℕ, length, take, IfOk, OnErr, None};
 ghost use Rattle.std.specs.Io.{ReadsAtMost, WritesAtMost};
 ghost use Rattle.std.specs.Io.KnownBytes.{Appends, ReadConsumes};
 ghost use Rattle.cc_outside.specs.Counted.{faults_after};
@@ -57,7 +59,8 @@ impl<R: Read> Source for StdSource<R> {
 
     ghost reads = { λ s. s.reads };
 
-    /// Reads once, with no buffer of its own. An interrupted read counts as failed.
+    /// Reads once, with no buffer of its own. An interrupted read counts as failed. A read that failed has taken no byte
+    /// of those that the reader tells.
     fn read(&mut self, buf: &mut [u8]) -> Result<usize, Failed>
         ensures bound { ReadsAtMost result buf.new }
         ensures bytes { ReadConsumes (R.remaining self.old.stream) (R.remaining self.new.stream) result buf.new }
@@ -76,7 +79,8 @@ impl<R: Read> Source for StdSource<R> {
 
 /// A sink over a writer, standard output if no other is named. It is seen as the writer and its count of faults.
 ///
-/// It does not tell its bytes: where a write is taken and the flush fails, no one knows how many went on.
+/// It does not tell its bytes: where a write is taken and the flush fails, no one knows how many went on. At most a front
+/// of the piece was handed to the writer then, once.
 #[derive(Drop)]
 pub struct StdSink<W = Stdout> {
     output: W,
@@ -117,14 +121,18 @@ impl<W: Write> Sink for StdSink<W> {
         ensures bound { WritesAtMost result bytes.now }
         ensures more { IfOk result (λ m. 0 < length bytes.now → 0 < m) }
         ensures bytes { IfOk result (λ m. Appends (W.contents self.old.stream) (W.contents self.new.stream) (take m bytes.now)) }
+        ensures part { OnErr result ((n : ℕ) × Appends (W.contents self.old.stream) (W.contents self.new.stream) (take n bytes.now)) }
         ensures faults { self.new.faults ≡ faults_after self.old.faults result }
     {
-        if let Ok(count) = self.output.write(bytes) {
-            let took_some = count > 0 || bytes.is_empty();
-            if took_some && self.output.flush().is_ok() {
-                return Ok(count);
+        match self.output.write(bytes) {
+            Ok(count) => {
+                let took_some = count > 0 || bytes.is_empty();
+                if took_some && self.output.flush().is_ok() {
+                    return Ok(count);
+                }
+                Err(Failed::counted(&mut self.faults))
             }
+            Err(_) => Err(Failed::counted(&mut self.faults)),
         }
-        Err(Failed::counted(&mut self.faults))
     }
 }

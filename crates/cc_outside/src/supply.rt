@@ -1,3 +1,5 @@
+//! Bytes that are given out.
+
 ghost use Rattle.std.specs.Prelude.{◌≡◌, ◌++◌, drop, length, min, take};
 
 use std::marker::Model;

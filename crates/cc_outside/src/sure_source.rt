@@ -1,3 +1,5 @@
+//! A source in memory that never fails.
+
 ghost use Rattle.std.specs.Prelude.{◌≡◌, ◌++◌, drop, length, min, take, Some, IfOk, IsOk};
 ghost use Rattle.cc_outside.specs.Reads.{no_reads, read_more};
 

@@ -1,7 +1,8 @@
-ghost use Rattle.std.specs.Prelude.{◌≤◌, IfOk};
+//! Sources and sinks in memory: what they answer, and what they count.
+
+mod streams;
 
 use super::*;
-use std::io::{self, ErrorKind, Read, Write};
 use std::process::Abort;
 use std::test::Fail;
 
@@ -92,94 +93,6 @@ fn a_count_sink_counts(rt: HostRuntime) {
         &[(b"hello", Ok(5)), (b"", Ok(0)), (b"abc", Ok(3))],
     );
     assert_eq!(rt; sink.bytes(), 8);
-}
-
-#[test]
-fn standard_input_answers(rt: HostRuntime) {
-    let mut source = StdSource::new(rt.stdin());
-    let failed = source.read(&mut [0; 4]).is_err();
-    assert_eq!(rt; source.faults(), u64::from(failed));
-}
-
-#[test]
-fn standard_output_answers(rt: HostRuntime) {
-    let mut sink = StdSink::new(rt.stdout());
-    let failed = sink.write(b"a line of cc_outside\n").is_err();
-    assert_eq!(rt; sink.faults(), u64::from(failed));
-}
-
-/// A stream that moves at most so many bytes at a time, or fails where it says none, and may fail to flush.
-#[derive(Drop)]
-struct Stream {
-    moves: Option<usize>,
-    flushes: bool,
-}
-
-impl Stream {
-    fn moved(&self, most: usize) -> io::Result<usize>
-        ensures { IfOk result (λ m. m ≤ most) }
-    {
-        match self.moves {
-            Some(count) => Ok(count.min(most)),
-            None => Err(io::Error::from(ErrorKind::Interrupted)),
-        }
-    }
-}
-
-impl Read for Stream {
-    fn read(&mut self, buf: &mut [u8]) -> io::Result<usize> {
-        self.moved(buf.len())
-    }
-}
-
-impl Write for Stream {
-    fn write(&mut self, buf: &[u8]) -> io::Result<usize> {
-        self.moved(buf.len())
-    }
-
-    fn flush(&mut self) -> io::Result<()> {
-        if self.flushes {
-            Ok(())
-        } else {
-            Err(io::Error::from(ErrorKind::BrokenPipe))
-        }
-    }
-}
-
-#[test]
-fn errors_of_a_stream_are_faults(rt: HostRuntime) -> Result<(), Fail> {
-    let table: [(Option<usize>, bool, &[u8], Result<usize, Failed>); 5] = [
-        (Some(3), true, b"hello", Ok(3)),
-        (Some(0), true, b"", Ok(0)),
-        (Some(0), true, b"hello", Err(Failed)),
-        (Some(9), false, b"hello", Err(Failed)),
-        (None, true, b"hello", Err(Failed)),
-    ];
-    for (moves, flushes, piece, want) in table.iter() {
-        let mut sink = StdSink::new(Stream {
-            moves: *moves,
-            flushes: *flushes,
-        });
-        writes(&rt, &mut sink, &[(*piece, *want), (*piece, *want)]);
-        assert_eq!(rt;
-            sink.faults(),
-            if want.is_err() { 2 } else { 0 },
-            "at {moves:?}"
-        );
-    }
-    let mut source = StdSource::new(Stream {
-        moves: None,
-        flushes: true,
-    });
-    reads(&rt, &mut source, &[Err(Failed), Err(Failed)]);
-    assert_eq!(rt; source.faults(), 2);
-    let text: &[u8] = b"hello world";
-    reads(
-        &rt,
-        &mut StdSource::new(text),
-        &[Ok(b"hello"), Ok(b" worl"), Ok(b"d"), Ok(b"")],
-    );
-    Ok(())
 }
 
 #[test]
