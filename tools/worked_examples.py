@@ -26,6 +26,7 @@ EXAMPLES_IN_A_FILE = 8
 DEFAULT_LIMITS = (1000000, 1000000, 4294967295)
 STATUSES = {0: 'Done', 5: 'Limit'}
 STATUS_LIMIT = 5
+CONTROLS = {'{cr}': 13, '{tab}': 9}
 NOTE = '-- Made by tools/worked_examples.py from examples/worked.txt.\n'
 
 
@@ -57,8 +58,8 @@ def pieces(text):
         repeated = re.fullmatch(r'\{(.)\*(\d+)\}', part)
         if repeated:
             found.append((ord(repeated[1]), int(repeated[2])))
-        elif part == '{cr}':
-            found.append((13, 1))
+        elif part in CONTROLS:
+            found.append((CONTROLS[part], 1))
         elif part.startswith('{') and part != '{}':
             raise TableError(f'unknown {part}')
         elif part not in ('', '{}'):
@@ -281,7 +282,7 @@ def can_be_run(example, unknown):
 
 
 def byte_string(found):
-    text = plain_bytes(found).replace('\\', '\\\\').replace('"', '\\"').replace('\r', '\\r').replace('\n', '\\n')
+    text = plain_bytes(found).replace('\\', '\\\\').replace('"', '\\"').replace('\r', '\\r').replace('\t', '\\t').replace('\n', '\\n')
     return f'b"{text}"'
 
 

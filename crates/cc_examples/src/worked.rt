@@ -6,7 +6,7 @@ use crate::script::Example;
 use cc_replay::Status;
 use std::test::Fail;
 
-const EXAMPLES: [Example; 24] = [
+const EXAMPLES: [Example; 25] = [
     // Nothing is written for an empty input.
     Example {
         name: "empty_input",
@@ -165,6 +165,16 @@ const EXAMPLES: [Example; 24] = [
         bytes: 4294967295,
         input: b"collect now\nscript s0\nnative n0 0\n",
         output: b"! line\n! line\n= #1\n",
+        status: Status::Done,
+    },
+    // Tokens are parted by spaces, more than one too and at both ends, and a tab, a sign, a leading zero or a capital letter is not taken.
+    Example {
+        name: "spaces_part_tokens",
+        natives: 1000000,
+        scripts: 1000000,
+        bytes: 4294967295,
+        input: b"  native   n0  1  \n\n  \n  % note\nnative\tn1 0\ncensus\t\nCensus\ndrop n00\ndrop n-1\nset n0 +0 n0\nset n0 0 nones\ncopy n1 s1\nset  n0 0  none\ncensus\n",
+        output: b"= #1\n! line\n! line\n! line\n! line\n! line\n! line\n! line\n! line\n= ok\n+ #1\n= census 1\n",
         status: Status::Done,
     },
     // The greatest numbers of slots, indexes and registers are taken, and greater ones are not in the grammar.

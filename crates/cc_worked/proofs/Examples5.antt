@@ -11,6 +11,66 @@ use Rattle.cc_worked.proofs.Opened.{all_of_a_run}
 use Rattle.cc_worked.proofs.LawfulTest.{run-lawful}
 use Rattle.cc_worked.proofs.QuietTest.{run-quiet}
 
+-- A native that gets a reference is not purple any more, so a collection that begins with it alone takes two units.
+pub added_reference_ends_purple : plain_text version_one_forms default_limits ample input.added_reference_ends_purple
+    ≡ codes "= #1\n= #1\n= ok\n= #1\n= ok\n= #2\n= ok\n= ok\n- unlink #2\n- free #2\n= ok\n"
+unfolding all_of_a_run
+added_reference_ends_purple = refl
+
+added_reference_ends_purple-passes : passes_verdict default_limits ample input.added_reference_ends_purple ≡ true
+unfolding all_of_a_run
+added_reference_ends_purple-passes = refl
+
+pub added_reference_ends_purple-lawful : IsLawfulRun default_limits ample input.added_reference_ends_purple
+added_reference_ends_purple-lawful = run-lawful default_limits ample input.added_reference_ends_purple added_reference_ends_purple-passes
+
+pub added_reference_ends_purple-quiet : IsQuietRun default_limits ample input.added_reference_ends_purple
+added_reference_ends_purple-quiet = run-quiet default_limits ample input.added_reference_ends_purple added_reference_ends_purple-passes
+
+pub added_reference_ends_purple-audited : passes_audit default_limits ample input.added_reference_ends_purple ≡ true
+unfolding all_of_a_run
+added_reference_ends_purple-audited = refl
+
+-- A purple native that is freed leaves the buffer, so a collection that begins then takes two units.
+pub freed_native_leaves_the_buffer : plain_text version_one_forms default_limits ample input.freed_native_leaves_the_buffer
+    ≡ codes "= #1\n= #1\n= ok\n- free #1\n= ok\n= ok\n= #2\n= ok\n= ok\n- unlink #2\n- free #2\n= ok\n"
+unfolding all_of_a_run
+freed_native_leaves_the_buffer = refl
+
+freed_native_leaves_the_buffer-passes : passes_verdict default_limits ample input.freed_native_leaves_the_buffer ≡ true
+unfolding all_of_a_run
+freed_native_leaves_the_buffer-passes = refl
+
+pub freed_native_leaves_the_buffer-lawful : IsLawfulRun default_limits ample input.freed_native_leaves_the_buffer
+freed_native_leaves_the_buffer-lawful = run-lawful default_limits ample input.freed_native_leaves_the_buffer freed_native_leaves_the_buffer-passes
+
+pub freed_native_leaves_the_buffer-quiet : IsQuietRun default_limits ample input.freed_native_leaves_the_buffer
+freed_native_leaves_the_buffer-quiet = run-quiet default_limits ample input.freed_native_leaves_the_buffer freed_native_leaves_the_buffer-passes
+
+pub freed_native_leaves_the_buffer-audited : passes_audit default_limits ample input.freed_native_leaves_the_buffer ≡ true
+unfolding all_of_a_run
+freed_native_leaves_the_buffer-audited = refl
+
+-- A black script object that a native holds is no node, so a collection with that native alone takes three units.
+pub black_objects_are_not_looked_at : plain_text version_one_forms default_limits ample input.black_objects_are_not_looked_at
+    ≡ codes "= #1\n= @1\n= ok\n= #1\n= ok\n= ok\n= #2\n= ok\n= ok\n- unlink #2\n- free #2\n= ok\n"
+unfolding all_of_a_run
+black_objects_are_not_looked_at = refl
+
+black_objects_are_not_looked_at-passes : passes_verdict default_limits ample input.black_objects_are_not_looked_at ≡ true
+unfolding all_of_a_run
+black_objects_are_not_looked_at-passes = refl
+
+pub black_objects_are_not_looked_at-lawful : IsLawfulRun default_limits ample input.black_objects_are_not_looked_at
+black_objects_are_not_looked_at-lawful = run-lawful default_limits ample input.black_objects_are_not_looked_at black_objects_are_not_looked_at-passes
+
+pub black_objects_are_not_looked_at-quiet : IsQuietRun default_limits ample input.black_objects_are_not_looked_at
+black_objects_are_not_looked_at-quiet = run-quiet default_limits ample input.black_objects_are_not_looked_at black_objects_are_not_looked_at-passes
+
+pub black_objects_are_not_looked_at-audited : passes_audit default_limits ample input.black_objects_are_not_looked_at ≡ true
+unfolding all_of_a_run
+black_objects_are_not_looked_at-audited = refl
+
 -- A native that becomes purple once more keeps its place in the buffer, so it is looked at before those that became purple in between.
 pub marked_again_keeps_its_place_in_the_buffer : plain_text version_one_forms default_limits ample input.marked_again_keeps_its_place_in_the_buffer
     ≡ codes "= #1\n= ok\n= #1\n= ok\n= #2\n= #3\n= ok\n= #2\n= ok\n= ok\n= ok\n= ok\n- unlink #1\n- free #1\n= ok\n"
@@ -110,63 +170,3 @@ touched_between_slices-quiet = run-quiet default_limits ample input.touched_betw
 pub touched_between_slices-audited : passes_audit default_limits ample input.touched_between_slices ≡ true
 unfolding all_of_a_run
 touched_between_slices-audited = refl
-
--- What script read from a native while a collection ran keeps what it holds.
-pub read_between_slices : plain_text version_one_forms default_limits ample input.read_between_slices
-    ≡ codes "= #1\n= @1\n= @2\n= ok\n= ok\n= ok\n= ok\n= ok\n= ok\n= @1\n= ok\n= ok\n= @2\n"
-unfolding all_of_a_run
-read_between_slices = refl
-
-read_between_slices-passes : passes_verdict default_limits ample input.read_between_slices ≡ true
-unfolding all_of_a_run
-read_between_slices-passes = refl
-
-pub read_between_slices-lawful : IsLawfulRun default_limits ample input.read_between_slices
-read_between_slices-lawful = run-lawful default_limits ample input.read_between_slices read_between_slices-passes
-
-pub read_between_slices-quiet : IsQuietRun default_limits ample input.read_between_slices
-read_between_slices-quiet = run-quiet default_limits ample input.read_between_slices read_between_slices-passes
-
-pub read_between_slices-audited : passes_audit default_limits ample input.read_between_slices ≡ true
-unfolding all_of_a_run
-read_between_slices-audited = refl
-
--- A native lives by its reflector, which script touched while the collection ran.
-pub native_lives_by_an_exposed_reflector : plain_text version_one_forms default_limits ample input.native_lives_by_an_exposed_reflector
-    ≡ codes "= #1\n= #2\n= #3\n= ~2\n= ok\n= ok\n= ok\n= ok\n= ok\n= ok\n= ok\n= ok\n= ~2\n= ok\n- unlink #3\n- free #3\n= ok\n= #2\n"
-unfolding all_of_a_run
-native_lives_by_an_exposed_reflector = refl
-
-native_lives_by_an_exposed_reflector-passes : passes_verdict default_limits ample input.native_lives_by_an_exposed_reflector ≡ true
-unfolding all_of_a_run
-native_lives_by_an_exposed_reflector-passes = refl
-
-pub native_lives_by_an_exposed_reflector-lawful : IsLawfulRun default_limits ample input.native_lives_by_an_exposed_reflector
-native_lives_by_an_exposed_reflector-lawful = run-lawful default_limits ample input.native_lives_by_an_exposed_reflector native_lives_by_an_exposed_reflector-passes
-
-pub native_lives_by_an_exposed_reflector-quiet : IsQuietRun default_limits ample input.native_lives_by_an_exposed_reflector
-native_lives_by_an_exposed_reflector-quiet = run-quiet default_limits ample input.native_lives_by_an_exposed_reflector native_lives_by_an_exposed_reflector-passes
-
-pub native_lives_by_an_exposed_reflector-audited : passes_audit default_limits ample input.native_lives_by_an_exposed_reflector ≡ true
-unfolding all_of_a_run
-native_lives_by_an_exposed_reflector-audited = refl
-
--- A native that gets a reference after it was sampled is touched, so it is not looked at with an old count.
-pub copied_after_its_node_was_traversed : plain_text version_one_forms default_limits ample input.copied_after_its_node_was_traversed
-    ≡ codes "= #1\n= ok\n= #1\n= ok\n= ok\n= #1\n= ok\n= ok\n= ok\n- unlink #1\n- free #1\n= ok\n"
-unfolding all_of_a_run
-copied_after_its_node_was_traversed = refl
-
-copied_after_its_node_was_traversed-passes : passes_verdict default_limits ample input.copied_after_its_node_was_traversed ≡ true
-unfolding all_of_a_run
-copied_after_its_node_was_traversed-passes = refl
-
-pub copied_after_its_node_was_traversed-lawful : IsLawfulRun default_limits ample input.copied_after_its_node_was_traversed
-copied_after_its_node_was_traversed-lawful = run-lawful default_limits ample input.copied_after_its_node_was_traversed copied_after_its_node_was_traversed-passes
-
-pub copied_after_its_node_was_traversed-quiet : IsQuietRun default_limits ample input.copied_after_its_node_was_traversed
-copied_after_its_node_was_traversed-quiet = run-quiet default_limits ample input.copied_after_its_node_was_traversed copied_after_its_node_was_traversed-passes
-
-pub copied_after_its_node_was_traversed-audited : passes_audit default_limits ample input.copied_after_its_node_was_traversed ≡ true
-unfolding all_of_a_run
-copied_after_its_node_was_traversed-audited = refl

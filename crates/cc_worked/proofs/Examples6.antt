@@ -11,6 +11,66 @@ use Rattle.cc_worked.proofs.Opened.{all_of_a_run}
 use Rattle.cc_worked.proofs.LawfulTest.{run-lawful}
 use Rattle.cc_worked.proofs.QuietTest.{run-quiet}
 
+-- What script read from a native while a collection ran keeps what it holds.
+pub read_between_slices : plain_text version_one_forms default_limits ample input.read_between_slices
+    ≡ codes "= #1\n= @1\n= @2\n= ok\n= ok\n= ok\n= ok\n= ok\n= ok\n= @1\n= ok\n= ok\n= @2\n"
+unfolding all_of_a_run
+read_between_slices = refl
+
+read_between_slices-passes : passes_verdict default_limits ample input.read_between_slices ≡ true
+unfolding all_of_a_run
+read_between_slices-passes = refl
+
+pub read_between_slices-lawful : IsLawfulRun default_limits ample input.read_between_slices
+read_between_slices-lawful = run-lawful default_limits ample input.read_between_slices read_between_slices-passes
+
+pub read_between_slices-quiet : IsQuietRun default_limits ample input.read_between_slices
+read_between_slices-quiet = run-quiet default_limits ample input.read_between_slices read_between_slices-passes
+
+pub read_between_slices-audited : passes_audit default_limits ample input.read_between_slices ≡ true
+unfolding all_of_a_run
+read_between_slices-audited = refl
+
+-- A native lives by its reflector, which script touched while the collection ran.
+pub native_lives_by_an_exposed_reflector : plain_text version_one_forms default_limits ample input.native_lives_by_an_exposed_reflector
+    ≡ codes "= #1\n= #2\n= #3\n= ~2\n= ok\n= ok\n= ok\n= ok\n= ok\n= ok\n= ok\n= ok\n= ~2\n= ok\n- unlink #3\n- free #3\n= ok\n= #2\n"
+unfolding all_of_a_run
+native_lives_by_an_exposed_reflector = refl
+
+native_lives_by_an_exposed_reflector-passes : passes_verdict default_limits ample input.native_lives_by_an_exposed_reflector ≡ true
+unfolding all_of_a_run
+native_lives_by_an_exposed_reflector-passes = refl
+
+pub native_lives_by_an_exposed_reflector-lawful : IsLawfulRun default_limits ample input.native_lives_by_an_exposed_reflector
+native_lives_by_an_exposed_reflector-lawful = run-lawful default_limits ample input.native_lives_by_an_exposed_reflector native_lives_by_an_exposed_reflector-passes
+
+pub native_lives_by_an_exposed_reflector-quiet : IsQuietRun default_limits ample input.native_lives_by_an_exposed_reflector
+native_lives_by_an_exposed_reflector-quiet = run-quiet default_limits ample input.native_lives_by_an_exposed_reflector native_lives_by_an_exposed_reflector-passes
+
+pub native_lives_by_an_exposed_reflector-audited : passes_audit default_limits ample input.native_lives_by_an_exposed_reflector ≡ true
+unfolding all_of_a_run
+native_lives_by_an_exposed_reflector-audited = refl
+
+-- A native that gets a reference after it was sampled is touched, so it is not looked at with an old count.
+pub copied_after_its_node_was_traversed : plain_text version_one_forms default_limits ample input.copied_after_its_node_was_traversed
+    ≡ codes "= #1\n= ok\n= #1\n= ok\n= ok\n= #1\n= ok\n= ok\n= ok\n- unlink #1\n- free #1\n= ok\n"
+unfolding all_of_a_run
+copied_after_its_node_was_traversed = refl
+
+copied_after_its_node_was_traversed-passes : passes_verdict default_limits ample input.copied_after_its_node_was_traversed ≡ true
+unfolding all_of_a_run
+copied_after_its_node_was_traversed-passes = refl
+
+pub copied_after_its_node_was_traversed-lawful : IsLawfulRun default_limits ample input.copied_after_its_node_was_traversed
+copied_after_its_node_was_traversed-lawful = run-lawful default_limits ample input.copied_after_its_node_was_traversed copied_after_its_node_was_traversed-passes
+
+pub copied_after_its_node_was_traversed-quiet : IsQuietRun default_limits ample input.copied_after_its_node_was_traversed
+copied_after_its_node_was_traversed-quiet = run-quiet default_limits ample input.copied_after_its_node_was_traversed copied_after_its_node_was_traversed-passes
+
+pub copied_after_its_node_was_traversed-audited : passes_audit default_limits ample input.copied_after_its_node_was_traversed ≡ true
+unfolding all_of_a_run
+copied_after_its_node_was_traversed-audited = refl
+
 -- Unlinking one white native may free the one that comes next in the walk.
 pub native_vanishes_inside_an_unlink : plain_text version_one_forms default_limits ample input.native_vanishes_inside_an_unlink
     ≡ codes "= #1\n= #2\n= ok\n= ok\n= ok\n= ok\n= ok\n- unlink #1\n- free #2\n- free #1\n= ok\n"
@@ -110,63 +170,3 @@ collect_refused_at_a_node-quiet = run-quiet default_limits (refused_at 3) input.
 pub collect_refused_at_a_node-audited : passes_audit default_limits (refused_at 3) input.collect_refused_at_a_node ≡ true
 unfolding all_of_a_run
 collect_refused_at_a_node-audited = refl
-
--- A collect that is refused memory while it ends the collection that runs begins no other, and the next one takes all.
-pub collect_stops_where_the_running_one_is_refused : plain_text version_one_forms default_limits (refused_at 3) input.collect_stops_where_the_running_one_is_refused
-    ≡ codes "= #1\n= ok\n= ok\n= ok\n- abandon\n! nomem\n- unlink #1\n- free #1\n= ok\n"
-unfolding all_of_a_run
-collect_stops_where_the_running_one_is_refused = refl
-
-collect_stops_where_the_running_one_is_refused-passes : passes_verdict default_limits (refused_at 3) input.collect_stops_where_the_running_one_is_refused ≡ true
-unfolding all_of_a_run
-collect_stops_where_the_running_one_is_refused-passes = refl
-
-pub collect_stops_where_the_running_one_is_refused-lawful : IsLawfulRun default_limits (refused_at 3) input.collect_stops_where_the_running_one_is_refused
-collect_stops_where_the_running_one_is_refused-lawful = run-lawful default_limits (refused_at 3) input.collect_stops_where_the_running_one_is_refused collect_stops_where_the_running_one_is_refused-passes
-
-pub collect_stops_where_the_running_one_is_refused-quiet : IsQuietRun default_limits (refused_at 3) input.collect_stops_where_the_running_one_is_refused
-collect_stops_where_the_running_one_is_refused-quiet = run-quiet default_limits (refused_at 3) input.collect_stops_where_the_running_one_is_refused collect_stops_where_the_running_one_is_refused-passes
-
-pub collect_stops_where_the_running_one_is_refused-audited : passes_audit default_limits (refused_at 3) input.collect_stops_where_the_running_one_is_refused ≡ true
-unfolding all_of_a_run
-collect_stops_where_the_running_one_is_refused-audited = refl
-
--- A collect that is refused memory in its own collection has ended the one that ran.
-pub collect_refused_in_its_own : plain_text version_one_forms default_limits (refused_at 5) input.collect_refused_in_its_own
-    ≡ codes "= #1\n= ok\n= ok\n= ok\n= #2\n= ok\n= ok\n- unlink #1\n- free #1\n- abandon\n! nomem\n- unlink #2\n- free #2\n= ok\n"
-unfolding all_of_a_run
-collect_refused_in_its_own = refl
-
-collect_refused_in_its_own-passes : passes_verdict default_limits (refused_at 5) input.collect_refused_in_its_own ≡ true
-unfolding all_of_a_run
-collect_refused_in_its_own-passes = refl
-
-pub collect_refused_in_its_own-lawful : IsLawfulRun default_limits (refused_at 5) input.collect_refused_in_its_own
-collect_refused_in_its_own-lawful = run-lawful default_limits (refused_at 5) input.collect_refused_in_its_own collect_refused_in_its_own-passes
-
-pub collect_refused_in_its_own-quiet : IsQuietRun default_limits (refused_at 5) input.collect_refused_in_its_own
-collect_refused_in_its_own-quiet = run-quiet default_limits (refused_at 5) input.collect_refused_in_its_own collect_refused_in_its_own-passes
-
-pub collect_refused_in_its_own-audited : passes_audit default_limits (refused_at 5) input.collect_refused_in_its_own ≡ true
-unfolding all_of_a_run
-collect_refused_in_its_own-audited = refl
-
--- Gc abandons a collection that is refused memory, says so first, and sweeps all the same.
-pub gc_goes_on_where_the_running_one_is_refused : plain_text version_one_forms default_limits (refused_at 4) input.gc_goes_on_where_the_running_one_is_refused
-    ≡ codes "= #1\n= ok\n= ok\n= @1\n= ok\n= ok\n- abandon\n- free @1\n= ok\n- unlink #1\n- free #1\n= ok\n"
-unfolding all_of_a_run
-gc_goes_on_where_the_running_one_is_refused = refl
-
-gc_goes_on_where_the_running_one_is_refused-passes : passes_verdict default_limits (refused_at 4) input.gc_goes_on_where_the_running_one_is_refused ≡ true
-unfolding all_of_a_run
-gc_goes_on_where_the_running_one_is_refused-passes = refl
-
-pub gc_goes_on_where_the_running_one_is_refused-lawful : IsLawfulRun default_limits (refused_at 4) input.gc_goes_on_where_the_running_one_is_refused
-gc_goes_on_where_the_running_one_is_refused-lawful = run-lawful default_limits (refused_at 4) input.gc_goes_on_where_the_running_one_is_refused gc_goes_on_where_the_running_one_is_refused-passes
-
-pub gc_goes_on_where_the_running_one_is_refused-quiet : IsQuietRun default_limits (refused_at 4) input.gc_goes_on_where_the_running_one_is_refused
-gc_goes_on_where_the_running_one_is_refused-quiet = run-quiet default_limits (refused_at 4) input.gc_goes_on_where_the_running_one_is_refused gc_goes_on_where_the_running_one_is_refused-passes
-
-pub gc_goes_on_where_the_running_one_is_refused-audited : passes_audit default_limits (refused_at 4) input.gc_goes_on_where_the_running_one_is_refused ≡ true
-unfolding all_of_a_run
-gc_goes_on_where_the_running_one_is_refused-audited = refl

@@ -11,6 +11,66 @@ use Rattle.cc_worked.proofs.Opened.{all_of_a_run}
 use Rattle.cc_worked.proofs.LawfulTest.{run-lawful}
 use Rattle.cc_worked.proofs.QuietTest.{run-quiet}
 
+-- A collect that is refused memory while it ends the collection that runs begins no other, and the next one takes all.
+pub collect_stops_where_the_running_one_is_refused : plain_text version_one_forms default_limits (refused_at 3) input.collect_stops_where_the_running_one_is_refused
+    ≡ codes "= #1\n= ok\n= ok\n= ok\n- abandon\n! nomem\n- unlink #1\n- free #1\n= ok\n"
+unfolding all_of_a_run
+collect_stops_where_the_running_one_is_refused = refl
+
+collect_stops_where_the_running_one_is_refused-passes : passes_verdict default_limits (refused_at 3) input.collect_stops_where_the_running_one_is_refused ≡ true
+unfolding all_of_a_run
+collect_stops_where_the_running_one_is_refused-passes = refl
+
+pub collect_stops_where_the_running_one_is_refused-lawful : IsLawfulRun default_limits (refused_at 3) input.collect_stops_where_the_running_one_is_refused
+collect_stops_where_the_running_one_is_refused-lawful = run-lawful default_limits (refused_at 3) input.collect_stops_where_the_running_one_is_refused collect_stops_where_the_running_one_is_refused-passes
+
+pub collect_stops_where_the_running_one_is_refused-quiet : IsQuietRun default_limits (refused_at 3) input.collect_stops_where_the_running_one_is_refused
+collect_stops_where_the_running_one_is_refused-quiet = run-quiet default_limits (refused_at 3) input.collect_stops_where_the_running_one_is_refused collect_stops_where_the_running_one_is_refused-passes
+
+pub collect_stops_where_the_running_one_is_refused-audited : passes_audit default_limits (refused_at 3) input.collect_stops_where_the_running_one_is_refused ≡ true
+unfolding all_of_a_run
+collect_stops_where_the_running_one_is_refused-audited = refl
+
+-- A collect that is refused memory in its own collection has ended the one that ran.
+pub collect_refused_in_its_own : plain_text version_one_forms default_limits (refused_at 5) input.collect_refused_in_its_own
+    ≡ codes "= #1\n= ok\n= ok\n= ok\n= #2\n= ok\n= ok\n- unlink #1\n- free #1\n- abandon\n! nomem\n- unlink #2\n- free #2\n= ok\n"
+unfolding all_of_a_run
+collect_refused_in_its_own = refl
+
+collect_refused_in_its_own-passes : passes_verdict default_limits (refused_at 5) input.collect_refused_in_its_own ≡ true
+unfolding all_of_a_run
+collect_refused_in_its_own-passes = refl
+
+pub collect_refused_in_its_own-lawful : IsLawfulRun default_limits (refused_at 5) input.collect_refused_in_its_own
+collect_refused_in_its_own-lawful = run-lawful default_limits (refused_at 5) input.collect_refused_in_its_own collect_refused_in_its_own-passes
+
+pub collect_refused_in_its_own-quiet : IsQuietRun default_limits (refused_at 5) input.collect_refused_in_its_own
+collect_refused_in_its_own-quiet = run-quiet default_limits (refused_at 5) input.collect_refused_in_its_own collect_refused_in_its_own-passes
+
+pub collect_refused_in_its_own-audited : passes_audit default_limits (refused_at 5) input.collect_refused_in_its_own ≡ true
+unfolding all_of_a_run
+collect_refused_in_its_own-audited = refl
+
+-- Gc abandons a collection that is refused memory, says so first, and sweeps all the same.
+pub gc_goes_on_where_the_running_one_is_refused : plain_text version_one_forms default_limits (refused_at 4) input.gc_goes_on_where_the_running_one_is_refused
+    ≡ codes "= #1\n= ok\n= ok\n= @1\n= ok\n= ok\n- abandon\n- free @1\n= ok\n- unlink #1\n- free #1\n= ok\n"
+unfolding all_of_a_run
+gc_goes_on_where_the_running_one_is_refused = refl
+
+gc_goes_on_where_the_running_one_is_refused-passes : passes_verdict default_limits (refused_at 4) input.gc_goes_on_where_the_running_one_is_refused ≡ true
+unfolding all_of_a_run
+gc_goes_on_where_the_running_one_is_refused-passes = refl
+
+pub gc_goes_on_where_the_running_one_is_refused-lawful : IsLawfulRun default_limits (refused_at 4) input.gc_goes_on_where_the_running_one_is_refused
+gc_goes_on_where_the_running_one_is_refused-lawful = run-lawful default_limits (refused_at 4) input.gc_goes_on_where_the_running_one_is_refused gc_goes_on_where_the_running_one_is_refused-passes
+
+pub gc_goes_on_where_the_running_one_is_refused-quiet : IsQuietRun default_limits (refused_at 4) input.gc_goes_on_where_the_running_one_is_refused
+gc_goes_on_where_the_running_one_is_refused-quiet = run-quiet default_limits (refused_at 4) input.gc_goes_on_where_the_running_one_is_refused gc_goes_on_where_the_running_one_is_refused-passes
+
+pub gc_goes_on_where_the_running_one_is_refused-audited : passes_audit default_limits (refused_at 4) input.gc_goes_on_where_the_running_one_is_refused ≡ true
+unfolding all_of_a_run
+gc_goes_on_where_the_running_one_is_refused-audited = refl
+
 -- A weak map is not made where memory is refused, and the next one gets the number.
 pub weak_map_takes_memory : plain_text version_one_forms default_limits (refused_at 1) input.weak_map_takes_memory
     ≡ codes "! nomem\n= census 0\n= @1\n"
@@ -71,102 +131,42 @@ pub wrong_number_of_tokens-audited : passes_audit default_limits ample input.wro
 unfolding all_of_a_run
 wrong_number_of_tokens-audited = refl
 
--- What is refused, and what becomes of blank lines, comments, long lines and carriage returns.
-pub refusals_and_odd_lines : plain_text version_one_forms default_limits ample input.refusals_and_odd_lines
-    ≡ codes "= #1\n= #2\n= ok\n! kind\n! slot\n! slot\n! empty\n! kind\n= @1\n= @2\n! kind\n! slot\n! empty\n! kind\n! line\n! line\n! long\n+ #1\n+ #2\n+ @1\n+ @2\n= census 4\n"
+-- Tokens are parted by spaces, more than one too and at both ends, and a tab, a sign, a leading zero or a capital letter is not taken.
+pub spaces_part_tokens : plain_text version_one_forms default_limits ample input.spaces_part_tokens
+    ≡ codes "= #1\n! line\n! line\n! line\n! line\n! line\n! line\n! line\n! line\n= ok\n+ #1\n= census 1\n"
 unfolding all_of_a_run
-refusals_and_odd_lines = refl
+spaces_part_tokens = refl
 
-refusals_and_odd_lines-passes : passes_verdict default_limits ample input.refusals_and_odd_lines ≡ true
+spaces_part_tokens-passes : passes_verdict default_limits ample input.spaces_part_tokens ≡ true
 unfolding all_of_a_run
-refusals_and_odd_lines-passes = refl
+spaces_part_tokens-passes = refl
 
-pub refusals_and_odd_lines-lawful : IsLawfulRun default_limits ample input.refusals_and_odd_lines
-refusals_and_odd_lines-lawful = run-lawful default_limits ample input.refusals_and_odd_lines refusals_and_odd_lines-passes
+pub spaces_part_tokens-lawful : IsLawfulRun default_limits ample input.spaces_part_tokens
+spaces_part_tokens-lawful = run-lawful default_limits ample input.spaces_part_tokens spaces_part_tokens-passes
 
-pub refusals_and_odd_lines-quiet : IsQuietRun default_limits ample input.refusals_and_odd_lines
-refusals_and_odd_lines-quiet = run-quiet default_limits ample input.refusals_and_odd_lines refusals_and_odd_lines-passes
+pub spaces_part_tokens-quiet : IsQuietRun default_limits ample input.spaces_part_tokens
+spaces_part_tokens-quiet = run-quiet default_limits ample input.spaces_part_tokens spaces_part_tokens-passes
 
-pub refusals_and_odd_lines-audited : passes_audit default_limits ample input.refusals_and_odd_lines ≡ true
+pub spaces_part_tokens-audited : passes_audit default_limits ample input.spaces_part_tokens ≡ true
 unfolding all_of_a_run
-refusals_and_odd_lines-audited = refl
+spaces_part_tokens-audited = refl
 
--- The greatest numbers of slots, indexes and registers are taken, and greater ones are not in the grammar.
-pub numbers_at_their_bounds : plain_text version_one_forms default_limits ample input.numbers_at_their_bounds
-    ≡ codes "= #1\n= ok\n! slot\n! slot\n! line\n! line\n! line\n! line\n= #2\n! line\n= none\n= ok\n"
+-- Each register that must hold an object is refused where it is empty, and those that may be empty are not.
+pub empty_registers_are_refused : plain_text version_one_forms default_limits ample input.empty_registers_are_refused
+    ≡ codes "= #1\n= @1\n= @2\n! empty\n! empty\n! empty\n! empty\n! empty\n! empty\n! empty\n! empty\n! empty\n! empty\n! empty\n! empty\n! empty\n! empty\n! empty\n! empty\n! empty\n! empty\n! empty\n! empty\n= ok\n= none\n= none\n= none\n= none\n= none\n! kind\n= ~1\n"
 unfolding all_of_a_run
-numbers_at_their_bounds = refl
+empty_registers_are_refused = refl
 
-numbers_at_their_bounds-passes : passes_verdict default_limits ample input.numbers_at_their_bounds ≡ true
+empty_registers_are_refused-passes : passes_verdict default_limits ample input.empty_registers_are_refused ≡ true
 unfolding all_of_a_run
-numbers_at_their_bounds-passes = refl
+empty_registers_are_refused-passes = refl
 
-pub numbers_at_their_bounds-lawful : IsLawfulRun default_limits ample input.numbers_at_their_bounds
-numbers_at_their_bounds-lawful = run-lawful default_limits ample input.numbers_at_their_bounds numbers_at_their_bounds-passes
+pub empty_registers_are_refused-lawful : IsLawfulRun default_limits ample input.empty_registers_are_refused
+empty_registers_are_refused-lawful = run-lawful default_limits ample input.empty_registers_are_refused empty_registers_are_refused-passes
 
-pub numbers_at_their_bounds-quiet : IsQuietRun default_limits ample input.numbers_at_their_bounds
-numbers_at_their_bounds-quiet = run-quiet default_limits ample input.numbers_at_their_bounds numbers_at_their_bounds-passes
+pub empty_registers_are_refused-quiet : IsQuietRun default_limits ample input.empty_registers_are_refused
+empty_registers_are_refused-quiet = run-quiet default_limits ample input.empty_registers_are_refused empty_registers_are_refused-passes
 
-pub numbers_at_their_bounds-audited : passes_audit default_limits ample input.numbers_at_their_bounds ≡ true
+pub empty_registers_are_refused-audited : passes_audit default_limits ample input.empty_registers_are_refused ≡ true
 unfolding all_of_a_run
-numbers_at_their_bounds-audited = refl
-
--- One unit and a million are taken, and neither none nor more are in the grammar.
-pub units_at_their_bounds : plain_text version_one_forms default_limits ample input.units_at_their_bounds
-    ≡ codes "! line\n= ok\n= ok\n! line\n"
-unfolding all_of_a_run
-units_at_their_bounds = refl
-
-units_at_their_bounds-passes : passes_verdict default_limits ample input.units_at_their_bounds ≡ true
-unfolding all_of_a_run
-units_at_their_bounds-passes = refl
-
-pub units_at_their_bounds-lawful : IsLawfulRun default_limits ample input.units_at_their_bounds
-units_at_their_bounds-lawful = run-lawful default_limits ample input.units_at_their_bounds units_at_their_bounds-passes
-
-pub units_at_their_bounds-quiet : IsQuietRun default_limits ample input.units_at_their_bounds
-units_at_their_bounds-quiet = run-quiet default_limits ample input.units_at_their_bounds units_at_their_bounds-passes
-
-pub units_at_their_bounds-audited : passes_audit default_limits ample input.units_at_their_bounds ≡ true
-unfolding all_of_a_run
-units_at_their_bounds-audited = refl
-
--- A line of 120 bytes is read and one of 121 is not, a comment and a carriage return counted.
-pub line_of_120_bytes_is_taken : plain_text version_one_forms default_limits ample input.line_of_120_bytes_is_taken
-    ≡ codes "= #1\n! long\n! long\n! line\n! long\n+ #1\n= census 1\n"
-unfolding all_of_a_run
-line_of_120_bytes_is_taken = refl
-
-line_of_120_bytes_is_taken-passes : passes_verdict default_limits ample input.line_of_120_bytes_is_taken ≡ true
-unfolding all_of_a_run
-line_of_120_bytes_is_taken-passes = refl
-
-pub line_of_120_bytes_is_taken-lawful : IsLawfulRun default_limits ample input.line_of_120_bytes_is_taken
-line_of_120_bytes_is_taken-lawful = run-lawful default_limits ample input.line_of_120_bytes_is_taken line_of_120_bytes_is_taken-passes
-
-pub line_of_120_bytes_is_taken-quiet : IsQuietRun default_limits ample input.line_of_120_bytes_is_taken
-line_of_120_bytes_is_taken-quiet = run-quiet default_limits ample input.line_of_120_bytes_is_taken line_of_120_bytes_is_taken-passes
-
-pub line_of_120_bytes_is_taken-audited : passes_audit default_limits ample input.line_of_120_bytes_is_taken ≡ true
-unfolding all_of_a_run
-line_of_120_bytes_is_taken-audited = refl
-
--- A last line that no line feed ends is answered, its carriage return dropped.
-pub last_line_needs_no_line_feed : plain_text version_one_forms default_limits ample input.last_line_needs_no_line_feed
-    ≡ codes "= #1\n+ #1\n= census 1\n"
-unfolding all_of_a_run
-last_line_needs_no_line_feed = refl
-
-last_line_needs_no_line_feed-passes : passes_verdict default_limits ample input.last_line_needs_no_line_feed ≡ true
-unfolding all_of_a_run
-last_line_needs_no_line_feed-passes = refl
-
-pub last_line_needs_no_line_feed-lawful : IsLawfulRun default_limits ample input.last_line_needs_no_line_feed
-last_line_needs_no_line_feed-lawful = run-lawful default_limits ample input.last_line_needs_no_line_feed last_line_needs_no_line_feed-passes
-
-pub last_line_needs_no_line_feed-quiet : IsQuietRun default_limits ample input.last_line_needs_no_line_feed
-last_line_needs_no_line_feed-quiet = run-quiet default_limits ample input.last_line_needs_no_line_feed last_line_needs_no_line_feed-passes
-
-pub last_line_needs_no_line_feed-audited : passes_audit default_limits ample input.last_line_needs_no_line_feed ≡ true
-unfolding all_of_a_run
-last_line_needs_no_line_feed-audited = refl
+empty_registers_are_refused-audited = refl

@@ -14,4 +14,5 @@ pub mod Examples5
 pub mod Examples6
 pub mod Examples7
 pub mod Examples8
+pub mod Examples9
 pub mod Examples

@@ -130,6 +130,18 @@ two_cycle_takes_four_units = codes "native n0 1\nnative n1 1\nset n0 0 n1\nset n
 abbrev pub only_purple_natives_are_candidates : List ℕ
 only_purple_natives_are_candidates = codes "native n0 0\nslice 2\nnative n1 1\nset n1 0 n1\ndrop n1\nslice 3\n"
 
+-- A native that gets a reference is not purple any more, so a collection that begins with it alone takes two units.
+abbrev pub added_reference_ends_purple : List ℕ
+added_reference_ends_purple = codes "native n0 0\ncopy n1 n0\ndrop n1\ncopy n1 n0\nslice 2\nnative n2 1\nset n2 0 n2\ndrop n2\nslice 3\n"
+
+-- A purple native that is freed leaves the buffer, so a collection that begins then takes two units.
+abbrev pub freed_native_leaves_the_buffer : List ℕ
+freed_native_leaves_the_buffer = codes "native n0 0\ncopy n1 n0\ndrop n1\ndrop n0\nslice 2\nnative n2 1\nset n2 0 n2\ndrop n2\nslice 3\n"
+
+-- A black script object that a native holds is no node, so a collection with that native alone takes three units.
+abbrev pub black_objects_are_not_looked_at : List ℕ
+black_objects_are_not_looked_at = codes "native n0 1\nscript s0 0\nset n0 0 s0\ncopy n1 n0\ndrop n1\nslice 3\nnative n2 1\nset n2 0 n2\ndrop n2\nslice 3\n"
+
 -- A native that becomes purple once more keeps its place in the buffer, so it is looked at before those that became purple in between.
 abbrev pub marked_again_keeps_its_place_in_the_buffer : List ℕ
 marked_again_keeps_its_place_in_the_buffer = codes "native n0 1\nset n0 0 n0\ncopy n1 n0\ndrop n1\nnative n2 1\nnative n3 0\nset n2 0 n3\ncopy n1 n2\ndrop n1\ndrop n0\nslice 2\nset n2 0 none\nslice 2\n"
@@ -206,6 +218,22 @@ what_takes_memory = codes "native n0 0\nscript s0 0\nweakmap s1\nwrap s2 n0\nwse
 abbrev pub wrong_number_of_tokens : List ℕ
 wrong_number_of_tokens = codes "collect now\nscript s0\nnative n0 0\n"
 
+-- Tokens are parted by spaces, more than one too and at both ends, and a tab, a sign, a leading zero or a capital letter is not taken.
+abbrev pub spaces_part_tokens : List ℕ
+spaces_part_tokens = codes "  native   n0  1  \n\n  \n  % note\nnative" ++ replicate 1 9 ++ codes "n1 0\ncensus" ++ replicate 1 9 ++ codes "\nCensus\ndrop n00\ndrop n-1\nset n0 +0 n0\nset n0 0 nones\ncopy n1 s1\nset  n0 0  none\ncensus\n"
+
+-- Each register that must hold an object is refused where it is empty, and those that may be empty are not.
+abbrev pub empty_registers_are_refused : List ℕ
+empty_registers_are_refused = codes "native n0 1\nweakmap s0\nscript s1 1\nset n9 0 n0\nset n9 0 none\nset n0 0 n9\nset n0 0 s9\nget n1 n9 0\nexpose n9 0\nput s9 0 s1\nput s9 0 none\nput s1 0 s9\ntake s2 s9 0\nwrap s2 n9\nunwrap n1 s9\npreserve s9\nwset s9 s1 s1\nwset s0 s9 s1\nwset s0 s1 s9\nwset s9 s1 none\nwset s0 s9 none\nwget s2 s9 s1\nwget s2 s0 s9\ndrop n9\ncopy n9 n8\ncopy s9 s8\nget n9 n0 0\ntake s9 s1 0\nwget s9 s0 s1\nunwrap n9 s1\nwrap s9 n0\n"
+
+-- Each object of the wrong kind is refused.
+abbrev pub wrong_kinds_are_refused : List ℕ
+wrong_kinds_are_refused = codes "native n0 1\nwrap s0 n0\nweakmap s1\nscript s2 1\nput s1 0 s2\ntake s3 s1 0\nunwrap n1 s1\nunwrap n1 s2\npreserve s1\npreserve s2\nwset s0 s2 s2\nwset s2 s2 s2\nwset s2 s2 none\nwget s3 s0 s2\nwget s3 s2 s2\n"
+
+-- An empty register is told before a wrong kind and a missing slot, a wrong kind before a missing slot, and this before what a slot holds.
+abbrev pub refusals_in_their_order : List ℕ
+refusals_in_their_order = codes "weakmap s0\nscript s1 1\nnative n0 1\nput s0 0 s9\nwset s1 s9 s1\nwget s2 s1 s9\nset n0 9 s9\nput s0 9 s1\nset n0 0 n0\nget s9 n0 1\n"
+
 -- What is refused, and what becomes of blank lines, comments, long lines and carriage returns.
 abbrev pub refusals_and_odd_lines : List ℕ
 refusals_and_odd_lines = codes "native n0 1\nnative n1 0\nset n0 0 n1\nget s0 n0 0\nget s0 n0 7\nset n0 9 none\nset n0 9 n8\nexpose n0 0\nweakmap s0\nscript s1 0\nput s0 9 s1\nput s1 0 s0\nunwrap n0 s9\nunwrap n0 s1\nslice 0\ncollect now\n\n% note\n" ++ replicate 121 97 ++ codes "\ncensus" ++ replicate 1 13 ++ codes "\n"
@@ -237,6 +265,10 @@ limit_counts_freed_script_objects = codes "script s0 0\ndrop s0\ngc\nscript s0 0
 -- Plain script objects and weak maps are counted together, up to the limit itself.
 abbrev pub limit_counts_weak_maps : List ℕ
 limit_counts_weak_maps = codes "script s0 0\nweakmap s1\nweakmap s2\nscript s3 0\n"
+
+-- A command that is refused for a limit wants no memory.
+abbrev pub full_comes_before_want_of_memory : List ℕ
+full_comes_before_want_of_memory = codes "native n0 0\nnative n1 0\nscript s0 0\n"
 
 -- An input of as many bytes as may be read is read whole.
 abbrev pub input_of_exactly_the_bytes_allowed : List ℕ
