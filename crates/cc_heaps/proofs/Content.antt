@@ -17,13 +17,13 @@ use Rattle.cc_laws_heap.proofs.Owning.{IsIn}
 use Rattle.cc_laws_heap.specs.Sound.{numbers_of}
 use Rattle.cc_counted.specs.declared.held.Held.{Held}
 use Rattle.cc_counted.specs.declared.held.Held.TheVariants as held
-use Rattle.cc_counted.specs.Counts.{name_of, numbers_held, number_or_none}
+use Rattle.cc_counted.specs.Counts.{name_of, numbers_held, number_or_none, native_held}
 use Rattle.cc_counted.specs.Owning.{CallersOwn}
 use Rattle.cc_script.specs.Objects.{Object, object_at, name_at}
 use Rattle.cc_heaps.specs.declared.parts.Parts.{Parts}
 use Rattle.cc_heaps.specs.Keyed.{Keyed, IsInOrder, named_object, number_at, the_number}
 use Rattle.cc_heaps.specs.Changes.{IsThere, native_name, held_name}
-use Rattle.cc_heaps.specs.Parts.{IsHeldThere, held_by, native_held, keyed_of, IsFit}
+use Rattle.cc_heaps.specs.Parts.{IsHeldThere, held_by, keyed_of, IsFit}
 use Rattle.cc_heaps.proofs.Calls.{number-named}
 use Rattle.cc_heaps.proofs.Naming.{name_in, name_at-script}
 use Rattle.cc_heaps.proofs.Owned.{callers-own-some}

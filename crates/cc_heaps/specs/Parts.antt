@@ -110,9 +110,3 @@ pub record IsFit (owned : List ℕ) (p : Parts) : Type 0 where
 abbrev pub held_by : Option NKey → Option Held
 held_by None = None
 held_by (Some key) = Some (held.Native key)
-
--- the native that is held; none where a script object is
-abbrev pub native_held : Option Held → Option NKey
-native_held None = None
-native_held (Some (held.Native key)) = Some key
-native_held (Some (held.Script key)) = None

@@ -7,10 +7,10 @@ ghost use Rattle.cc_model.specs.End.{slots_now};
 ghost use Rattle.cc_laws_heap.specs.Sound.{numbers_of};
 ghost use Rattle.cc_names.specs.declared.register.Reg.TheVariants.{N as n_register};
 ghost use Rattle.cc_model.specs.Effects.{hold_native, put_in_register};
-ghost use Rattle.cc_counted.specs.Counts.{slots_of};
+ghost use Rattle.cc_counted.specs.Counts.{native_held, slots_of};
 ghost use Rattle.cc_heaps.specs.Keyed.{IsInOrder, counts_of, number_at, the_number, changed_to, left_with};
 ghost use Rattle.cc_heaps.specs.Changes.{IsNativeThere, IsThere, held_name, native_name, stored_in};
-ghost use Rattle.cc_heaps.specs.Parts.{keyed_of, heap_of, held_by, native_held, IsLinked, IsFit};
+ghost use Rattle.cc_heaps.specs.Parts.{keyed_of, heap_of, held_by, IsLinked, IsFit};
 ghost use Rattle.cc_model.specs.Telling.{TellsEvents};
 
 use crate::parts::Parts;
