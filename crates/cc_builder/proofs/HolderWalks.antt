@@ -9,33 +9,18 @@ use Rattle.cc_names.specs.Names.{native, same_name}
 use Rattle.cc_model.specs.Heap.{HeapNative}
 use Rattle.cc_model.specs.WellFormed.{IsRising}
 use Rattle.cc_model.specs.Units.{holds_gray, holders_of}
-use Rattle.cc_laws_heap.proofs.Rising.{IsRising-tail, IsRising-first, IsRising-cons}
 use Rattle.cc_heaps.specs.Keyed.{Keyed, IsInOrder, number_at, the_number}
 use Rattle.cc_heaps.specs.Changes.{IsNativeThere}
 use Rattle.cc_heaps.specs.Holders.{native_numbers, holder_numbers, is_above, first_of, holder_after}
 use Rattle.cc_builder.proofs.BuildReads.{number-there}
 use Rattle.cc_builder.proofs.BuildWalks.{stands}
-use Rattle.cc_lists.proofs.Filtering.{filter-each}
-use Rattle.cc_heaps.proofs.NextHolder.{rest_from, rest_from-first, rest_from-less}
+use Rattle.cc_lists.specs.Walks.{left_from}
+use Rattle.cc_lists.proofs.Rising.{rising-part}
+use Rattle.cc_lists.proofs.RisingWalks.{all-above, left_from-first, left_from-next, left_from-fewer}
 
 -- Numbers of natives
 
--- those of a part rise
-rising-part : (p : HeapNative → Bool) (ns : List HeapNative) → IsRising (native_numbers ns) → IsRising (native_numbers (filter p ns))
-rising-part p [] r = r
-rising-part p (n ∷ ns) r = go (p n) (rising-part p ns (IsRising-tail n.number (native_numbers ns) r))
-  where
-    above : (j : ℕ) → Among j (native_numbers (filter p ns)) → n.number < j
-    above j m =
-        let f = Among-map_cases (λ (o : HeapNative). o.number) (filter p ns) j m in
-        IsRising-first n.number (native_numbers ns) r j
-        (subst (λ i. Among i (native_numbers ns)) f.2 (Among-map (λ (o : HeapNative). o.number) f.0 ns (Among-filtered p f.0 ns f.1)))
-
-    go : (b : Bool) → IsRising (native_numbers (filter p ns)) → IsRising (native_numbers (cond b (n ∷ filter p ns) (filter p ns)))
-    go true ih = IsRising-cons n.number (native_numbers (filter p ns)) above ih
-    go false ih = ih
-
--- and are those of their names
+-- they are those of their names
 names-numbers : (ns : List HeapNative) → map native (native_numbers ns) ≡ map (λ n. native n.number) ns
 names-numbers [] = refl
 names-numbers (n ∷ ns) = ap (λ xs. native n.number ∷ xs) (names-numbers ns)
@@ -47,18 +32,18 @@ no-numbers (n ∷ ns) e = absurd (cc)
 -- The holders
 
 holders-rising : (v : Keyed) → IsInOrder [] v → IsRising (holder_numbers v.heap)
-holders-rising v order = rising-part (holds_gray v.heap) v.heap.natives order.sound.well_formed.rising
+holders-rising v order = rising-part (λ (n : HeapNative). n.number) (holds_gray v.heap) v.heap.natives order.sound.well_formed.rising
 
 -- THOSE THAT ARE LEFT of the walk, from where it stands on
 abbrev pub holders_from : Keyed → Option NKey → List Name
-holders_from v o = map native (rest_from (holder_numbers v.heap) (stands v o))
+holders_from v o = map native (left_from (holder_numbers v.heap) (stands v o))
 
 -- at the start that is all
 pub holders-start : (v : Keyed) (o : Option NKey) → IsInOrder [] v → stands v o ≡ holder_after v.heap None → holders_from v o ≡ holders_of v.heap
 holders-start v o order e =
     let ks = holder_numbers v.heap in
-    ap (λ n. map native (rest_from ks n)) e
-    ∙ ap (map native) (rest_from-first None ks (holders-rising v order) ∙ filter-each (is_above None) ks (λ k m. refl))
+    ap (λ n. map native (left_from ks n)) e
+    ∙ ap (map native) (left_from-first ks (holders-rising v order) None ∙ all-above ks)
     ∙ names-numbers (filter (holds_gray v.heap) v.heap.natives)
 
 -- One turn of the walk
@@ -67,15 +52,14 @@ module _ (v : Keyed) (o : Option NKey) (key : NKey) (at : o ≡ Some key) (there
   standing : stands v o ≡ Some (the_number v key.0)
   standing = ap (stands v) at ∙ number-there v key.0 (subst (IsNativeThere v) at there)
 
+  -- its next is that of its number
+  next-of : (r : Option NKey) → stands v r ≡ holder_after v.heap (number_at v key.0) → stands v r ≡ holder_after v.heap (stands v o)
+  next-of r next = next ∙ ap (λ p. holder_after v.heap (stands v p)) (sym at)
+
   -- the holder where it stands, and those from the next one on
   holders-next : (r : Option NKey) → IsInOrder [] v → stands v r ≡ holder_after v.heap (number_at v key.0) → holders_from v o ≡ native (the_number v key.0) ∷ holders_from v r
   holders-next r order next =
-      let ks = holder_numbers v.heap in
-      let k = the_number v key.0 in
-      let number : number_at v key.0 ≡ Some k = number-there v key.0 (subst (IsNativeThere v) at there) in
-      ap (λ n. map native (rest_from ks n)) standing
-      ∙ ap (λ js. native k ∷ map native js) (sym (rest_from-first (Some k) ks (holders-rising v order)))
-      ∙ ap (λ n. native k ∷ map native (rest_from ks n)) (sym (next ∙ ap (holder_after v.heap) number))
+      ap (map native) (left_from-next (holder_numbers v.heap) (holders-rising v order) (stands v o) (stands v r) (the_number v key.0) standing (next-of r next))
 
   pub holders-turn : (r : Option NKey) (xs ys all : List Name) → IsInOrder [] v → stands v r ≡ holder_after v.heap (number_at v key.0) →
       ys ≡ with_last same_name xs (native (the_number v key.0)) →
@@ -86,10 +70,9 @@ module _ (v : Keyed) (o : Option NKey) (key : NKey) (at : o ≡ Some key) (there
       ∙ so_far
 
   pub holders-shorter : (r : Option NKey) → IsInOrder [] v → stands v r ≡ holder_after v.heap (number_at v key.0) →
-      length (rest_from (holder_numbers v.heap) (stands v r)) < length (rest_from (holder_numbers v.heap) (stands v o))
+      length (left_from (holder_numbers v.heap) (stands v r)) < length (left_from (holder_numbers v.heap) (stands v o))
   holders-shorter r order next =
-      rest_from-less (holder_numbers v.heap) (holders-rising v order) (stands v o) (stands v r) (subst IsSome (sym standing) refl)
-      (next ∙ ap (λ p. holder_after v.heap (stands v p)) (sym at))
+      left_from-fewer (holder_numbers v.heap) (holders-rising v order) (stands v o) (stands v r) (the_number v key.0) standing (next-of r next)
 
   -- there is one, where the walk stands at one
   pub some-holder : (after : Option ℕ) → stands v o ≡ holder_after v.heap after → holders_of v.heap ≢ []

@@ -2,16 +2,18 @@
 use Rattle.std.proofs.Common.{◌≡◌, ℕ, ◌<◌, Bool, true, false, List, length, Option, Some, None, IsSome, sym, ◌∙◌, ap, subst}
 use Rattle.std.specs.List.{filter}
 use Rattle.std.specs.Option.{option_and_then}
+use Rattle.cc_lists.specs.Walks.{first_of, is_above, left_from}
+use Rattle.cc_lists.proofs.RisingWalks.{LooksFrom, LooksFrom-start, LooksFrom-next, LooksFrom-found, left_from-fewer}
 use Rattle.cc_names.specs.declared.number.NKey.{NKey}
 use Rattle.cc_model.specs.WellFormed.{IsRising}
 use Rattle.cc_heaps.specs.Keyed.{IsInOrder, number_at, the_number}
 use Rattle.cc_heaps.specs.Changes.{IsNativeThere}
-use Rattle.cc_heaps.specs.Holders.{first_of, holder_after, is_above}
+use Rattle.cc_heaps.specs.Holders.{holder_after}
 use Rattle.cc_heaps.specs.GrayHeld.{is_holder, numbers_in}
 use Rattle.cc_heaps.specs.Parts.{heap_of, keyed_of, IsLinked}
 use Rattle.cc_heaps.specs.declared.parts.Parts.{Parts}
 use Rattle.cc_heaps.proofs.Listing.{rising-counted}
-use Rattle.cc_heaps.proofs.NextHolder.{LooksFrom, LooksFrom-start, LooksFrom-next, LooksFrom-found, rest_from, rest_from-less}
+use Rattle.cc_heaps.proofs.Content.{number-some}
 use Rattle.cc_heaps.proofs.GrayHolders.{holder_numbers-is}
 
 -- the number of a native, where there is one
@@ -24,7 +26,7 @@ holds p k = is_holder p.scripts p.counted k
 
 -- the numbers that are left of the walk
 abbrev pub numbers_left : Parts → Option NKey → List ℕ
-numbers_left p at = rest_from (numbers_in p.counted) (number_of_key p at)
+numbers_left p at = left_from (numbers_in p.counted) (number_of_key p at)
 
 -- the holder that is looked for is the first from a native on
 pub record IsLooking (p : Parts) (after at : Option NKey) : Type 0 where
@@ -39,13 +41,16 @@ module _ (p : Parts) (owned : List ℕ) (o : IsInOrder owned (keyed_of p)) (afte
   pub IsLooking-start : (next : Option NKey) → number_of_key p next ≡ first_of (filter (is_above (number_of_key p after)) (numbers_in p.counted)) →
       IsNativeThere (keyed_of p) next → IsLooking p after next
   IsLooking-start next e there = record {
-    looks = LooksFrom-start (holds p) (numbers_in p.counted) rising (number_of_key p after) (number_of_key p next) e;
+    looks = LooksFrom-start (numbers_in p.counted) rising (holds p) (number_of_key p after) (number_of_key p next) e;
     there = there;
   }
 
   module _ (at : Option NKey) (key : NKey) (is : at ≡ Some key) (looking : IsLooking p after at) where
     pub key-there : IsSome (number_at (keyed_of p) key.0)
     key-there = subst (IsNativeThere (keyed_of p)) is looking.there
+
+    key-number : number_at (keyed_of p) key.0 ≡ Some (the_number (keyed_of p) key.0)
+    key-number = number-some (number_at (keyed_of p) key.0) key-there
 
     key-looks : LooksFrom (holds p) (numbers_in p.counted) (number_of_key p after) (number_at (keyed_of p) key.0)
     key-looks = subst (λ a. LooksFrom (holds p) (numbers_in p.counted) (number_of_key p after) (number_of_key p a)) is looking.looks
@@ -54,7 +59,7 @@ module _ (p : Parts) (owned : List ℕ) (o : IsInOrder owned (keyed_of p)) (afte
     pub IsLooking-next : holds p (the_number (keyed_of p) key.0) ≡ false → (next : Option NKey) →
         number_of_key p next ≡ first_of (filter (is_above (number_at (keyed_of p) key.0)) (numbers_in p.counted)) → IsNativeThere (keyed_of p) next → IsLooking p after next
     IsLooking-next w next e there = record {
-      looks = LooksFrom-next (holds p) (numbers_in p.counted) rising (number_of_key p after) (number_at (keyed_of p) key.0) (number_of_key p next) key-there key-looks w e;
+      looks = LooksFrom-next (numbers_in p.counted) rising (holds p) (number_of_key p after) (number_at (keyed_of p) key.0) (number_of_key p next) (the_number (keyed_of p) key.0) key-number key-looks w e;
       there = there;
     }
 
@@ -62,7 +67,7 @@ module _ (p : Parts) (owned : List ℕ) (o : IsInOrder owned (keyed_of p)) (afte
     pub numbers_left-less : (next : Option NKey) → number_of_key p next ≡ first_of (filter (is_above (number_at (keyed_of p) key.0)) (numbers_in p.counted)) →
         length (numbers_left p next) < length (numbers_left p at)
     numbers_left-less next e = subst (λ a. length (numbers_left p next) < length (numbers_left p a)) (sym is)
-        (rest_from-less (numbers_in p.counted) rising (number_at (keyed_of p) key.0) (number_of_key p next) key-there e)
+        (left_from-fewer (numbers_in p.counted) rising (number_at (keyed_of p) key.0) (number_of_key p next) (the_number (keyed_of p) key.0) key-number e)
 
   module _ (l : IsLinked p) where
     after-is : first_of (filter (is_above (number_of_key p after)) (filter (holds p) (numbers_in p.counted))) ≡ holder_after (heap_of p) (number_of_key p after)
@@ -72,7 +77,7 @@ module _ (p : Parts) (owned : List ℕ) (o : IsInOrder owned (keyed_of p)) (afte
     pub holder-found : (at : Option NKey) (key : NKey) → at ≡ Some key → IsLooking p after at → holds p (the_number (keyed_of p) key.0) ≡ true →
         number_at (keyed_of p) key.0 ≡ holder_after (heap_of p) (number_of_key p after)
     holder-found at key is looking w =
-        LooksFrom-found (holds p) (numbers_in p.counted) rising (number_of_key p after) (number_at (keyed_of p) key.0) (key-there at key is looking) (key-looks at key is looking) w
+        LooksFrom-found (holds p) (numbers_in p.counted) (number_of_key p after) (number_at (keyed_of p) key.0) (the_number (keyed_of p) key.0) (key-number at key is looking) (key-looks at key is looking) w
         ∙ after-is
 
     -- or where none is left

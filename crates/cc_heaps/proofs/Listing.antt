@@ -8,6 +8,10 @@ use Rattle.std.proofs.lemmas.Grind.{flat_map-append}
 use Rattle.std.proofs.lemmas.List.{length-map, map-append, append_assoc}
 use Rattle.std.proofs.lemmas.Simd.{map-map}
 use Rattle.cc_lists.specs.Members.{Among}
+use Rattle.cc_lists.specs.Walks.{HasDistinctKeys, first_key, left_at, next_key}
+use Rattle.cc_lists.proofs.Rising.{rising-distinct}
+use Rattle.cc_lists.proofs.RisingWalks.{next-above}
+use Rattle.cc_lists.proofs.Walks.{StandsAt, first-stands, left-first, left-next, next-stands, stands-at}
 use Rattle.cc_lists.proofs.Members.{Among-map, Among-right}
 use Rattle.cc_lists.proofs.Counting.{count_by-cons, count_by-some}
 use Rattle.cc_lists.proofs.ListWrites.{map-kept}
@@ -23,7 +27,7 @@ use Rattle.cc_model.specs.WellFormed.{IsRising, native_names, script_names}
 use Rattle.cc_model.proofs.Tellings.{Tells-nil, Tells-trans}
 use Rattle.cc_laws_heap.proofs.Rising.{IsRising-tail, IsRising-first}
 use Rattle.cc_counted.specs.Counts.{Counts, number_at, the_number, number_or_none, first_number, number_after}
-use Rattle.cc_script.specs.Objects.{Object, is_there, name_at, first_key, key_after}
+use Rattle.cc_script.specs.Objects.{Object, is_there, name_at, first_key as first_object, key_after}
 use Rattle.cc_heaps.specs.Keyed.{IsInOrder, named_object}
 use Rattle.cc_heaps.specs.Parts.{named_native, heap_of, keyed_of}
 use Rattle.cc_heaps.specs.declared.parts.Parts.{Parts}
@@ -49,13 +53,12 @@ told-last a b c xs y s t = told-both a b c xs (y ∷ []) s (subst (Tells b c) (s
 
 -- The members of a list told one after the other
 
--- those told so far, those that are left, and the key of the first of these
-pub record AreTold (X : Type 0) (name : X → Name) (first : List X → Option ℕ) (all : List X) (at : Option ℕ) (count : ℕ) (before after : Telling) : Type 0 where
-  pub listed : List X
-  pub left : List X
-  pub whole : all ≡ listed ++ left
-  pub at_left : at ≡ first left
-  pub told : Tells before after (listing (map name listed))
+-- the names told so far, and those that are left where the walk stands
+pub record AreTold (X : Type 0) (name : X → Name) (key : X → ℕ) (all : List X) (at : Option ℕ) (count : ℕ) (before after : Telling) : Type 0 where
+  pub listed : List Name
+  pub stands : first_key key (left_at key all at) ≡ at
+  pub whole : listed ++ map name (left_at key all at) ≡ map name all
+  pub told : Tells before after (listing listed)
   pub counted : count ≡ length listed
 
 -- all are told
@@ -64,54 +67,55 @@ pub record AreAllTold (names : List Name) (count : ℕ) (before after : Telling)
   pub counted : count ≡ length names
   pub few : count ≤ 1000000
 
-module _ {X : Type 0} (name : X → Name) (first : List X → Option ℕ) (all : List X) where
-  pub none-told : (at : Option ℕ) (before : Telling) → at ≡ first all → AreTold X name first all at 0 before before
-  none-told at before e = record { listed = []; left = all; whole = refl; at_left = e; told = Tells-nil before; counted = refl }
+module _ {X : Type 0} (name : X → Name) (key : X → ℕ) (all : List X) where
+  pub none-told : (at : Option ℕ) (before : Telling) → at ≡ first_key key all → AreTold X name key all at 0 before before
+  none-told at before e = record {
+    listed = [];
+    stands = subst (λ o. first_key key (left_at key all o) ≡ o) (sym e) (first-stands key all);
+    whole = ap (map name) (ap (left_at key all) e ∙ left-first key all);
+    told = Tells-nil before;
+    counted = refl;
+  }
 
   module _ (count : ℕ) (before after : Telling) where
-    -- at a key one is left
-    pub told-few : first [] ≡ None → (j : ℕ) → AreTold X name first all (Some j) count before after → count < length all
-    told-few none j k = go k.left refl
-      where
-        go : (left : List X) → k.left ≡ left → count < length all
-        go [] g = let bad : Some j ≡ None = k.at_left ∙ (ap first g ∙ none) in absurd (cc)
-        go (x ∷ xs) g = omega (arith, k.counted, ap length (k.whole ∙ ap (λ ys. k.listed ++ ys) g), length-append k.listed (x ∷ xs))
+    module _ (j : ℕ) (k : AreTold X name key all (Some j) count before after) where
+      -- the member at which the walk stands
+      s : StandsAt key all j
+      s = stands-at key all j k.stands
 
-    -- one more told
-    pub told-next : first [] ≡ None → (j : ℕ) → AreTold X name first all (Some j) count before after → (next : Option ℕ) (later : Telling) →
-        ((xs : List X) (x : X) (ys : List X) → all ≡ xs ++ x ∷ ys → Some j ≡ first (x ∷ ys) → (next ≡ first ys) × Tells after later (text_of (Listed (name x)))) →
-        AreTold X name first all next (count + 1) before later
-    told-next none j k next later step = go k.left refl
-      where
-        go : (left : List X) → k.left ≡ left → AreTold X name first all next (count + 1) before later
-        go [] g = let bad : Some j ≡ None = k.at_left ∙ (ap first g ∙ none) in absurd (cc)
-        go (x ∷ xs) g =
-            let whole : all ≡ k.listed ++ x ∷ xs = k.whole ∙ ap (λ ys. k.listed ++ ys) g in
-            let s = step k.listed x xs whole (k.at_left ∙ ap first g) in
-            record {
-              listed = k.listed ++ x ∷ [];
-              left = xs;
-              whole = whole ∙ sym (append_assoc k.listed (x ∷ []) xs);
-              at_left = s.0;
-              told = subst (λ ys. Tells before later (listing ys)) (sym (map-append name k.listed (x ∷ []))) (told-last before after later (map name k.listed) (name x) k.told s.1);
-              counted = ap (λ i. i + 1) k.counted ∙ sym (length-append k.listed (x ∷ []));
-            }
+      -- at a key one is left
+      pub told-few : count < length all
+      told-few = omega (
+        arith,
+        k.counted,
+        ap length (sym (ap (λ xs. k.listed ++ map name xs) s.left) ∙ k.whole),
+        length-append k.listed (map name (s.this ∷ s.behind)),
+        length-map all name,
+      )
+
+      -- one more told
+      pub told-next : HasDistinctKeys key all → (next : Option ℕ) (later : Telling) →
+          ((x : X) → Among x all → key x ≡ j → (next ≡ next_key key all (key x)) × Tells after later (text_of (Listed (name x)))) →
+          AreTold X name key all next (count + 1) before later
+      told-next once next later step =
+          let x = s.this in
+          let t = step x s.there s.here in
+          let rest : left_at key all (Some j) ≡ x ∷ left_at key all next =
+          ap (λ i. left_at key all (Some i)) (sym s.here) ∙ (left-next key all x once s.there ∙ ap (λ o. x ∷ left_at key all o) (sym t.0)) in
+          record {
+            listed = k.listed ++ name x ∷ [];
+            stands = subst (λ o. first_key key (left_at key all o) ≡ o) (sym t.0) (next-stands key all x once s.there);
+            whole = append_assoc k.listed (name x ∷ []) (map name (left_at key all next)) ∙ (ap (λ xs. k.listed ++ map name xs) (sym rest) ∙ k.whole);
+            told = told-last before after later k.listed (name x) k.told t.1;
+            counted = ap (λ i. i + 1) k.counted ∙ sym (length-append k.listed (name x ∷ []));
+          }
 
     -- none is left
-    pub told-all : ((x : X) (xs : List X) → None ≡ first (x ∷ xs) → ⊥) → AreTold X name first all None count before after → (names : List Name) → names ≡ map name all →
-        length names ≤ 1000000 → AreAllTold names count before after
-    told-all some k names same few = go k.left refl
-      where
-        go : (left : List X) → k.left ≡ left → AreAllTold names count before after
-        go (x ∷ xs) g = absurd (some x xs (k.at_left ∙ ap first g))
-        go [] g =
-            let whole : names ≡ map name k.listed = same ∙ ap (map name) (k.whole ∙ (ap (λ ys. k.listed ++ ys) g ∙ append-nil k.listed)) in
-            let counted : count ≡ length names = k.counted ∙ (sym (length-map k.listed name) ∙ ap length (sym whole)) in
-            record {
-              told = subst (λ xs. Tells before after (listing xs)) (sym whole) k.told;
-              counted = counted;
-              few = omega (arith, counted, few);
-            }
+    pub told-all : AreTold X name key all None count before after → (names : List Name) → names ≡ map name all → length names ≤ 1000000 → AreAllTold names count before after
+    told-all k names same few =
+        let whole : k.listed ≡ names = sym (append-nil k.listed) ∙ (k.whole ∙ sym same) in
+        let counted : count ≡ length names = k.counted ∙ ap length whole in
+        record { told = subst (λ xs. Tells before after (listing xs)) whole k.told; counted = counted; few = omega (arith, counted, few) }
 
 -- Natives
 
@@ -120,24 +124,6 @@ names_of_natives ns = map (λ n. native n.number) ns
 
 abbrev pub numbers_of_natives : List HeapNative → List ℕ
 numbers_of_natives ns = map (λ n. n.number) ns
-
--- a test that passes at each member keeps all
-filter-each : {X : Type 0} (p : X → Bool) (xs : List X) → ((x : X) → Among x xs → p x ≡ true) → filter p xs ≡ xs
-filter-each p [] h = refl
-filter-each p (x ∷ xs) h = rw (h x (inl refl)) (ap (λ ys. x ∷ ys) (filter-each p xs (λ y m. h y (inr m))))
-
--- the natives with greater numbers stand behind
-pub filter-behind : (xs : List HeapNative) (n : HeapNative) (ys : List HeapNative) → IsRising (numbers_of_natives (xs ++ n ∷ ys)) →
-    filter (λ m. nat_lt n.number m.number) (xs ++ n ∷ ys) ≡ ys
-filter-behind [] n ys r =
-    let small : nat_lt n.number n.number ≡ false = le-ltb n.number n.number (omega arith) in
-    rw small (filter-each (λ m. nat_lt n.number m.number) ys
-    (λ m w. lt-ltb n.number m.number (IsRising-first n.number (numbers_of_natives ys) r m.number (Among-map (λ (o : HeapNative). o.number) m ys w))))
-filter-behind (x ∷ xs) n ys r =
-    let below : x.number < n.number = IsRising-first x.number (numbers_of_natives (xs ++ n ∷ ys)) r n.number
-    (Among-map (λ (o : HeapNative). o.number) n (xs ++ n ∷ ys) (Among-right n xs (n ∷ ys) (inl refl))) in
-    let small : nat_lt n.number x.number ≡ false = le-ltb n.number x.number (omega arith) in
-    rw small (filter-behind xs n ys (IsRising-tail x.number (numbers_of_natives (xs ++ n ∷ ys)) r))
 
 -- the number of the native at a key, where there is one
 abbrev pub number_of : Counts → Option NKey → Option ℕ
@@ -152,15 +138,20 @@ IsThere c at = IfSome at (λ (key : NKey). is_some (number_at c key.0) ≡ true)
 
 -- those before the key are listed and counted
 abbrev pub AreNativesTold : Counts → Option ℕ → ℕ → Telling → Telling → Type 0
-AreNativesTold c at count before after = AreTold HeapNative (λ n. native n.number) first_number c.natives at count before after
+AreNativesTold c at count before after = AreTold HeapNative (λ n. native n.number) (λ n. n.number) c.natives at count before after
 
 pub record NativesListed (c : Counts) (at : Option NKey) (count : ℕ) (before after : Telling) : Type 0 where
   pub walk : AreNativesTold c (number_of c at) count before after
   pub there : IsThere c at
 
+-- the number of the first native is its key in this walk
+first_number-key : (ns : List HeapNative) → first_number ns ≡ first_key (λ (n : HeapNative). n.number) ns
+first_number-key [] = refl
+first_number-key (n ∷ ns) = refl
+
 pub no_natives-listed : (c : Counts) (at : Option NKey) (before : Telling) → IsNext c at (first_number c.natives) → IsThere c at → NativesListed c at 0 before before
 no_natives-listed c at before first there = record {
-  walk = none-told (λ (n : HeapNative). native n.number) first_number c.natives (number_of c at) before first;
+  walk = none-told (λ (n : HeapNative). native n.number) (λ (n : HeapNative). n.number) c.natives (number_of c at) before (first ∙ first_number-key c.natives);
   there = there;
 }
 
@@ -171,7 +162,7 @@ module _ (c : Counts) {at : Option NKey} {count : ℕ} {before after : Telling} 
     where
       go : (o : Option ℕ) → number_at c key.0 ≡ o → is_some o ≡ true → count < length c.natives
       go None f s = absurd (cc)
-      go (Some j) f s = told-few (λ (n : HeapNative). native n.number) first_number c.natives count before after refl j
+      go (Some j) f s = told-few (λ (n : HeapNative). native n.number) (λ (n : HeapNative). n.number) c.natives count before after j
           (subst (λ a. AreNativesTold c a count before after) (ap (number_of c) e ∙ f) k.walk)
 
   -- one more listed
@@ -179,44 +170,22 @@ module _ (c : Counts) {at : Option NKey} {count : ℕ} {before after : Telling} 
       {next : Option NKey} → IsNext c next (number_after c (the_number c key.0)) → IsThere c next → {later : Telling} → Tells after later (text_of (Listed (native j))) →
       NativesListed c next (count + 1) before later
   natives-next rising key e k j f {next} first there {later} told = record {
-    walk = told-next (λ (n : HeapNative). native n.number) first_number c.natives count before after refl j
+    walk = told-next (λ (n : HeapNative). native n.number) (λ (n : HeapNative). n.number) c.natives count before after j
         (subst (λ a. AreNativesTold c a count before after) (ap (number_of c) e ∙ f) k.walk)
-        (number_of c next) later step;
+        (rising-distinct (λ (n : HeapNative). n.number) c.natives rising) (number_of c next) later (λ n m here. (
+          first
+          ∙ (first_number-key (filter (λ p. nat_lt (the_number c key.0) p.number) c.natives)
+          ∙ (ap (λ i. first_key (λ (p : HeapNative). p.number) (filter (λ p. nat_lt i p.number) c.natives)) (ap number_or_none f ∙ sym here)
+          ∙ sym (next-above (λ (p : HeapNative). p.number) c.natives rising n m))),
+          subst (λ i. Tells after later (text_of (Listed (native i)))) (sym here) told,
+        ));
     there = there;
   }
-    where
-      step : (xs : List HeapNative) (n : HeapNative) (ys : List HeapNative) → c.natives ≡ xs ++ n ∷ ys → Some j ≡ first_number (n ∷ ys) →
-          (number_of c next ≡ first_number ys) × Tells after later (text_of (Listed (native n.number)))
-      step xs n ys whole here =
-          let number : j ≡ n.number = cc in
-          let behind : filter (λ m. nat_lt (the_number c key.0) m.number) c.natives ≡ ys =
-          (λ i. filter (λ m. nat_lt ((ap number_or_none f ∙ number) i) m.number) (whole i)) ∙ filter-behind xs n ys (subst (λ ns. IsRising (numbers_of_natives ns)) whole rising) in
-          (first ∙ ap first_number behind, subst (λ i. Tells after later (text_of (Listed (native i)))) number told)
 
 -- Script objects
 
 abbrev pub names_of_objects : List Object → List Name
 names_of_objects os = map (λ o. o.name) os
-
--- the object after one is that which stands behind it
-key_after-behind : (xs : List Object) (o : Object) (ys : List Object) → count_by (λ p. p.key == o.key) (xs ++ o ∷ ys) ≤ 1 → key_after (xs ++ o ∷ ys) o.key ≡ first_key ys
-key_after-behind [] o ys few = go (o.key == o.key) (eq-eqb o.key o.key refl)
-  where
-    go : (b : Bool) → b ≡ true → elim b [ true ↦ first_key ys | false ↦ key_after ys o.key ] ≡ first_key ys
-    go true e = refl
-    go false e = absurd (true≢false (sym e))
-key_after-behind (x ∷ xs) o ys few = go (key_after-behind xs o ys) (x.key == o.key) refl
-  where
-    go : (count_by (λ p. p.key == o.key) (xs ++ o ∷ ys) ≤ 1 → key_after (xs ++ o ∷ ys) o.key ≡ first_key ys) → (b : Bool) → (x.key == o.key) ≡ b →
-        elim b [ true ↦ first_key (xs ++ o ∷ ys) | false ↦ key_after (xs ++ o ∷ ys) o.key ] ≡ first_key ys
-    go ih true e =
-        let here : count_by (λ p. p.key == o.key) (x ∷ (xs ++ o ∷ ys)) ≡ 1 + count_by (λ p. p.key == o.key) (xs ++ o ∷ ys) =
-        rw (count_by-cons (λ (p : Object). p.key == o.key) x (xs ++ o ∷ ys), e) refl in
-        absurd (omega (arith, count_by-some (λ (p : Object). p.key == o.key) o (xs ++ o ∷ ys) (Among-right o xs (o ∷ ys) (inl refl)) (eq-eqb o.key o.key refl)))
-    go ih false e =
-        let here : count_by (λ p. p.key == o.key) (x ∷ (xs ++ o ∷ ys)) ≡ 0 + count_by (λ p. p.key == o.key) (xs ++ o ∷ ys) =
-        rw (count_by-cons (λ (p : Object). p.key == o.key) x (xs ++ o ∷ ys), e) refl in
-        ih (omega arith)
 
 -- the key of the first object that is left
 abbrev pub IsNextObject : Option SKey → Option ℕ → Type 0
@@ -227,22 +196,22 @@ IsObjectThere os at = IfSome at (λ (key : SKey). IsTrue (is_there os key.0))
 
 -- those before the key are listed and counted
 abbrev pub AreObjectsTold : List Object → Option ℕ → ℕ → Telling → Telling → Type 0
-AreObjectsTold os at count before after = AreTold Object (λ o. o.name) first_key os at count before after
+AreObjectsTold os at count before after = AreTold Object (λ o. o.name) (λ o. o.key) os at count before after
 
 pub record ObjectsListed (os : List Object) (at : Option SKey) (count : ℕ) (before after : Telling) : Type 0 where
   pub walk : AreObjectsTold os (option_map (λ (key : SKey). key.0) at) count before after
   pub there : IsObjectThere os at
 
-pub no_objects-listed : (os : List Object) (at : Option SKey) (before : Telling) → IsNextObject at (first_key os) → IsObjectThere os at → ObjectsListed os at 0 before before
+pub no_objects-listed : (os : List Object) (at : Option SKey) (before : Telling) → IsNextObject at (first_object os) → IsObjectThere os at → ObjectsListed os at 0 before before
 no_objects-listed os at before first there = record {
-  walk = none-told (λ (o : Object). o.name) first_key os (option_map (λ (key : SKey). key.0) at) before first;
+  walk = none-told (λ (o : Object). o.name) (λ (o : Object). o.key) os (option_map (λ (key : SKey). key.0) at) before first;
   there = there;
 }
 
 module _ (os : List Object) {at : Option SKey} {count : ℕ} {before after : Telling} where
   -- at a key one is left
   pub objects-few : (key : SKey) → at ≡ Some key → ObjectsListed os at count before after → count < length os
-  objects-few key e k = told-few (λ (o : Object). o.name) first_key os count before after refl key.0
+  objects-few key e k = told-few (λ (o : Object). o.name) (λ (o : Object). o.key) os count before after key.0
       (subst (λ a. AreObjectsTold os (option_map (λ (key : SKey). key.0) a) count before after) e k.walk)
 
   -- one more listed
@@ -250,22 +219,14 @@ module _ (os : List Object) {at : Option SKey} {count : ℕ} {before after : Tel
       {next : Option SKey} → IsNextObject next (key_after os key.0) → IsObjectThere os next → {later : Telling} → Tells after later (text_of (Listed x)) →
       ObjectsListed os next (count + 1) before later
   objects-next one key e k x f {next} first there {later} told = record {
-    walk = told-next (λ (o : Object). o.name) first_key os count before after refl key.0
+    walk = told-next (λ (o : Object). o.name) (λ (o : Object). o.key) os count before after key.0
         (subst (λ a. AreObjectsTold os (option_map (λ (key : SKey). key.0) a) count before after) e k.walk)
-        (option_map (λ (key : SKey). key.0) next) later step;
+        one (option_map (λ (key : SKey). key.0) next) later (λ o m here.
+          let named : Some x ≡ Some o.name = sym f ∙ (ap (name_at os) (sym here) ∙ name_at-own os one o m) in
+          let is : x ≡ o.name = cc in
+          (first ∙ ap (key_after os) (sym here), subst (λ y. Tells after later (text_of (Listed y))) is told));
     there = there;
   }
-    where
-      step : (xs : List Object) (o : Object) (ys : List Object) → os ≡ xs ++ o ∷ ys → Some key.0 ≡ first_key (o ∷ ys) →
-          (option_map (λ (key : SKey). key.0) next ≡ first_key ys) × Tells after later (text_of (Listed o.name))
-      step xs o ys whole here =
-          let same : key.0 ≡ o.key = cc in
-          let named : Some x ≡ Some o.name = sym f ∙ (ap (name_at os) same
-          ∙ name_at-own os one o (subst (λ zs. Among o zs) (sym whole) (Among-right o xs (o ∷ ys) (inl refl)))) in
-          let is : x ≡ o.name = cc in
-          let behind : key_after os key.0 ≡ first_key ys =
-          (λ i. key_after (whole i) (same i)) ∙ key_after-behind xs o ys (subst (λ zs. count_by (λ p. p.key == o.key) zs ≤ 1) whole (one o.key)) in
-          (first ∙ behind, subst (λ y. Tells after later (text_of (Listed y))) is told)
 
 -- In the parts
 
@@ -296,12 +257,12 @@ module _ (p : Parts) where
   module _ (owned : List ℕ) (order : IsInOrder owned (keyed_of p)) {count : ℕ} {before after : Telling} where
     -- no key is left: all natives are listed
     pub natives-all : {at : Option NKey} → ((key : NKey) → at ≡ Some key → ⊥) → NativesListed p.counted at count before after → AreAllTold (native_names (heap_of p)) count before after
-    natives-all {at} none k = told-all (λ (n : HeapNative). native n.number) first_number p.counted.natives count before after (λ n ns e. absurd (cc))
+    natives-all {at} none k = told-all (λ (n : HeapNative). native n.number) (λ (n : HeapNative). n.number) p.counted.natives count before after
         (subst (λ a. AreNativesTold p.counted (number_of p.counted a) count before after) (none-left at none) k.walk)
         (native_names (heap_of p)) native_names-counted (native_names-limited owned order)
 
     -- and so are all script objects
     pub objects-all : {at : Option SKey} → ((key : SKey) → at ≡ Some key → ⊥) → ObjectsListed p.scripts at count before after → AreAllTold (script_names (heap_of p)) count before after
-    objects-all {at} none k = told-all (λ (o : Object). o.name) first_key p.scripts count before after (λ o os e. absurd (cc))
+    objects-all {at} none k = told-all (λ (o : Object). o.name) (λ (o : Object). o.key) p.scripts count before after
         (subst (λ a. AreObjectsTold p.scripts (option_map (λ (key : SKey). key.0) a) count before after) (none-left at none) k.walk)
         (script_names (heap_of p)) script_names-objects (scripts-limited owned (keyed_of p) order)

@@ -18,7 +18,7 @@ use Rattle.cc_model.specs.Slots.{contents, from_to}
 use Rattle.cc_model.specs.View.{script_slot_edges}
 use Rattle.cc_lists.proofs.Numbers.{number-exact}
 use Rattle.cc_script.specs.Objects.{Object, object_at, name_at}
-use Rattle.cc_script.specs.Walking.{slot_edges, edges, reach_rules, keys_reached, IsReached}
+use Rattle.cc_script.specs.Walking.{slot_edges, edges, reach_rules, keys_reached, IsReachedOverSlots}
 use Rattle.cc_heaps.specs.Keyed.{name_held, named_object, named_objects}
 
 -- at most one object stands at a key, and at most one has a name
@@ -128,7 +128,7 @@ pub record AreNamesOf (objects : List Object) (keys : List ℕ) (names : List Na
 module _ (objects : List Object) (one_key : HasOneKey objects) (one_name : HasOneName objects) where
   module _ (keys : List ℕ) (names : List Name) (roots : AreNamesOf objects keys names) where
     -- whose key is reached, its name is reached
-    reached-names : (o : Object) → Among o objects → IsReached objects keys o.key → Least (system names (named_edges objects) []) o.name
+    reached-names : (o : Object) → Among o objects → IsReachedOverSlots objects keys o.key → Least (system names (named_edges objects) []) o.name
     reached-names o m d = derived-within keys (edges objects) [] (λ k. (p : Object) → Among p objects → p.key ≡ k → Least (system names (named_edges objects) []) p.name)
         (λ k i p n e. derive-root names (named_edges objects) [] p.name
         (roots.named k p.name i (subst (λ j. name_at objects j ≡ Some p.name) e (name_at-own objects one_key p n))))
@@ -140,14 +140,14 @@ module _ (objects : List Object) (one_key : HasOneKey objects) (one_name : HasOn
         (λ ps v i. absurd i) o.key d o m refl
 
     -- and the other way round
-    reached-keys : (o : Object) → Among o objects → Least (system names (named_edges objects) []) o.name → IsReached objects keys o.key
-    reached-keys o m d = derived-within names (named_edges objects) [] (λ x. (p : Object) → Among p objects → p.name ≡ x → IsReached objects keys p.key)
+    reached-keys : (o : Object) → Among o objects → Least (system names (named_edges objects) []) o.name → IsReachedOverSlots objects keys o.key
+    reached-keys o m d = derived-within names (named_edges objects) [] (λ x. (p : Object) → Among p objects → p.name ≡ x → IsReachedOverSlots objects keys p.key)
         (λ x i p n e.
         let f = roots.keyed x i in
-        subst (IsReached objects keys) (sym (key-named objects one_name f.0 x f.2 p n e)) (derive-root keys (edges objects) [] f.0 f.1))
+        subst (IsReachedOverSlots objects keys) (sym (key-named objects one_name f.0 x f.2 p n e)) (derive-root keys (edges objects) [] f.0 f.1))
         (λ x y i before p n e.
         let f = named-found objects x y i in
-        subst (IsReached objects keys) (sym (key-named objects one_name f.3.0 y f.3.2 p n e))
+        subst (IsReachedOverSlots objects keys) (sym (key-named objects one_name f.3.0 y f.3.2 p n e))
         (derive-along keys (edges objects) [] f.0.key f.3.0 (found-edge objects f.0 f.3.0 f.1 f.3.1) (before f.0 f.1 f.2)))
         (λ ps v i. absurd i) o.name d o m refl
 

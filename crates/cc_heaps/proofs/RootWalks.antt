@@ -9,7 +9,8 @@ use Rattle.std.proofs.lemmas.List.{at_drop_more, drop_all}
 use Rattle.cc_lists.specs.Members.{Among}
 use Rattle.cc_lists.proofs.Members.{Among-map, Among-filtered, Among-passes}
 use Rattle.cc_lists.proofs.Searching.{filter-map, filter-true, filter-filter}
-use Rattle.cc_lists.proofs.Filtering.{filter-each}
+use Rattle.cc_lists.specs.Walks.{is_above}
+use Rattle.cc_lists.proofs.RisingWalks.{above-first}
 use Rattle.cc_names.specs.declared.number.NKey.{NKey}
 use Rattle.cc_names.specs.declared.number.SKey.{SKey}
 use Rattle.cc_names.specs.Names.{native}
@@ -22,7 +23,6 @@ use Rattle.cc_counted.specs.declared.held.Held.{Held}
 use Rattle.cc_counted.specs.declared.held.Held.TheVariants as held
 use Rattle.cc_counted.specs.Counts.{Counts, number_at, the_number, number_or_none, name_of, heap_of, slots_at, slots_of, first_number, number_after}
 use Rattle.cc_counted.specs.Owning.{HasKeys}
-use Rattle.cc_heaps.specs.Holders.{is_above}
 use Rattle.cc_heaps.specs.Roots.{keys_in_registers, keys_in, keys_held, natives_behind, keys_from, IsPlace}
 
 -- Registers
@@ -66,52 +66,9 @@ keys_in-end xs i h = ap keys_in (drop_all i xs h)
 
 -- Natives by rising number
 
-abbrev numbers_of : List HeapNative → List ℕ
-numbers_of ns = map (λ n. n.number) ns
-
 -- the natives above a number, of all where there is none
 abbrev natives_above : Counts → Option ℕ → List HeapNative
 natives_above c o = filter (λ n. is_above o n.number) c.natives
-
--- what is above something that is above is above
-above-more : (o : Option ℕ) (i j : ℕ) → is_above o i ≡ true → i < j → is_above o j ≡ true
-above-more None i j e h = refl
-above-more (Some k) i j e h = let below : k < i = ltb-true k i e in lt-ltb k j (omega arith)
-
--- what is above both is what is above the greater one
-above-both : (o : Option ℕ) (i j : ℕ) → is_above o i ≡ true → (is_above o j && nat_lt i j) ≡ nat_lt i j
-above-both o i j e = go (nat_lt i j) refl
-  where
-    go : (b : Bool) → nat_lt i j ≡ b → (is_above o j && b) ≡ b
-    go true h = rw (above-more o i j e (ltb-true i j h)) refl
-    go false h = and-false (is_above o j)
-
--- the natives above the first of some that are above a number are those behind it
-natives-behind_first : (c : Counts) → HasKeys c → (o : Option ℕ) (n : HeapNative) (ns : List HeapNative) → natives_above c o ≡ n ∷ ns →
-    filter (λ m. nat_lt n.number m.number) c.natives ≡ ns
-natives-behind_first c k o n ns e =
-    sym (ap (λ t. filter t c.natives) (fun_ext (λ (m : HeapNative). above-both o n.number m.number first)))
-    ∙ (sym (filter-filter later above c.natives) ∙ (ap (filter later) e ∙ (rw self (filter-each later ns behind))))
-  where
-    above : HeapNative → Bool
-    above m = is_above o m.number
-
-    later : HeapNative → Bool
-    later m = nat_lt n.number m.number
-
-    first : is_above o n.number ≡ true
-    first = Among-passes above n c.natives (subst (Among n) (sym e) (inl refl))
-
-    rising : IsRising (numbers_of (n ∷ ns))
-    rising = subst IsRising (filter-map (is_above o) (λ (m : HeapNative). m.number) c.natives ∙ ap numbers_of e)
-        (IsRising-filter (is_above o) (numbers_of c.natives) k.rising)
-
-    self : nat_lt n.number n.number ≡ false
-    self = le-ltb n.number n.number (omega arith)
-
-    behind : (m : HeapNative) → Among m ns → later m ≡ true
-    behind m i = lt-ltb n.number m.number
-        (IsRising-first n.number (numbers_of ns) rising m.number (Among-map (λ (m : HeapNative). m.number) m ns i))
 
 -- a key that is that of a number
 abbrev pub IsNext : Counts → Option NKey → Option ℕ → Type 0
@@ -143,7 +100,7 @@ comes c k o at = go at (natives_above c o) refl
         let slots : slots_of c key.0 ≡ n.slots =
         ap (λ j. slots_at (native_at (heap_of c) j)) named ∙ ap slots_at (native_at-member (heap_of c) (IsRising-distinct (heap_of c) k.rising) n member) in
         let behind : natives_behind c key.0 ≡ ns =
-        ap (λ j. filter (λ (m : HeapNative). nat_lt j m.number) c.natives) named ∙ natives-behind_first c k o n ns e in
+        ap (λ j. filter (λ (m : HeapNative). nat_lt j m.number) c.natives) named ∙ above-first (λ (m : HeapNative). m.number) c.natives k.rising o n ns e in
         record { keys = λ i. keys_in (slots i) ++ keys_held (behind i); left = ap (λ ms. suc (length ms)) behind }
 
 -- all natives are above none

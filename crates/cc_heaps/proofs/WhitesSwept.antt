@@ -9,6 +9,8 @@ use Rattle.std.proofs.lemmas.List.{map-append, append_assoc}
 use Rattle.std.proofs.lemmas.List.Elements.{filter-append}
 use Rattle.std.proofs.lemmas.Grind.{flat_map-append}
 use Rattle.cc_lists.specs.Members.{Among}
+use Rattle.cc_lists.specs.Walks.{left_at}
+use Rattle.cc_lists.proofs.Walks.{AreOthers, others-around, found-between, next-between, left-between, without-between}
 use Rattle.cc_lists.proofs.Members.{Among-filtered}
 use Rattle.cc_lists.proofs.Counting.{count_by-cons, count_by-append}
 use Rattle.cc_lists.proofs.CountsOf.{count_by-none_passes}
@@ -26,60 +28,9 @@ use Rattle.cc_heaps.specs.Sweeping.{is_white, not_white, white_names, freed, are
 use Rattle.cc_heaps.proofs.Agreeing.{filter-one, filter-no_one}
 use Rattle.cc_heaps.proofs.Reaching.{HasOneKey}
 
--- An object between others, at whose key none of them stands
-
-abbrev AreApart : ℕ → List Object → Type 0
-AreApart key xs = (x : Object) → Among x xs → (x.key == key) ≡ false
-
--- the one whose key no other has
-are-apart : (xs : List Object) (o : Object) (ys : List Object) → HasOneKey (xs ++ o ∷ ys) → AreApart o.key xs × AreApart o.key ys
-are-apart xs o ys one = (λ x m. count_by-none_passes at_key xs x (omega (arith, whole)) m, λ x m. count_by-none_passes at_key ys x (omega (arith, whole)) m)
-  where
-    at_key : Object → Bool
-    at_key p = p.key == o.key
-
-    whole : count_by at_key xs + (1 + count_by at_key ys) ≤ 1
-    whole = subst (λ n. n ≤ 1)
-        (count_by-append at_key xs (o ∷ ys)
-        ∙ ap (λ n. count_by at_key xs + n) (count_by-cons at_key o ys ∙ ap (λ b. cond b 1 0 + count_by at_key ys) (eq-eqb o.key o.key refl)))
-        (one o.key)
-
-module _ (o : Object) (ys : List Object) where
-  -- it is found at its key,
-  object_at-place : (xs : List Object) → AreApart o.key xs → object_at (xs ++ o ∷ ys) o.key ≡ Some o
-  object_at-place [] apart = rw (eq-eqb o.key o.key refl) refl
-  object_at-place (x ∷ xs) apart = rw (apart x (inl refl)) (object_at-place xs (λ y m. apart y (inr m)))
-
-  -- and what was made next stands behind it
-  key_after-place : (xs : List Object) → AreApart o.key xs → key_after (xs ++ o ∷ ys) o.key ≡ first_key ys
-  key_after-place [] apart = rw (eq-eqb o.key o.key refl, key_after) refl
-  key_after-place (x ∷ xs) apart = rw (apart x (inl refl), key_after) (key_after-place xs (λ y m. apart y (inr m)))
-
--- without it the others are left
-without-place : (xs : List Object) (o : Object) (ys : List Object) → AreApart o.key xs → AreApart o.key ys → without_object (xs ++ o ∷ ys) o.key ≡ xs ++ ys
-without-place xs o ys before behind =
-    filter-append other xs (o ∷ ys)
-    ∙ (λ i. filter-each other xs (λ x m. ap not (before x m)) i ++ last i)
-  where
-    other : Object → Bool
-    other p = not (p.key == o.key)
-
-    last : filter other (o ∷ ys) ≡ ys
-    last = rw (eq-eqb o.key o.key refl) (filter-each other ys (λ y m. ap not (behind y m)))
-
--- How many objects there are from a key on
-
-abbrev pub count_from : List Object → ℕ → ℕ
-count_from [] key = 0
-count_from (o ∷ os) key = elim (o.key == key) [ true ↦ suc (length os) | false ↦ count_from os key ]
-
+-- how many objects are left from a key on
 abbrev pub objects_left : List Object → Option SKey → ℕ
-objects_left os None = 0
-objects_left os (Some key) = count_from os key.0
-
-count_from-place : (o : Object) (ys : List Object) (xs : List Object) → AreApart o.key xs → count_from (xs ++ o ∷ ys) o.key ≡ suc (length ys)
-count_from-place o ys [] apart = rw (eq-eqb o.key o.key refl, count_from) refl
-count_from-place o ys (x ∷ xs) apart = rw (apart x (inl refl), count_from) (count_from-place o ys xs (λ y m. apart y (inr m)))
+objects_left os at = length (left_at (λ o. o.key) os (option_map (λ (key : SKey). key.0) at))
 
 -- What is told
 
@@ -123,7 +74,7 @@ pub record Stands (before now : List Object) (key : ℕ) (swept : Bool) (a b : T
   pub whole : before ≡ seen ++ this ∷ behind
   pub rest : now ≡ not_white seen ++ this ∷ behind
   pub here : key ≡ this.key
-  pub apart : AreApart this.key (not_white seen) × AreApart this.key behind
+  pub apart : AreOthers (λ (o : Object). o.key) this.key (not_white seen) × AreOthers (λ (o : Object). o.key) this.key behind
   pub found : swept ≡ are_some (white_names seen)
   pub told : Tells a b (told_of seen)
 
@@ -139,7 +90,7 @@ Sweeps-stands before now at key swept a b one e s = go s.left refl
     go (o ∷ os) f =
         let front : Some key.0 ≡ Some o.key = first ∙ ap first_key f in
         let whole : before ≡ s.seen ++ o ∷ os = s.whole ∙ ap (λ os. s.seen ++ os) f in
-        let apart = are-apart s.seen o os (subst HasOneKey whole one) in
+        let apart = others-around (λ (o : Object). o.key) s.seen o os (subst HasOneKey whole one) in
         record {
           seen = s.seen;
           this = o;
@@ -168,27 +119,27 @@ Sweeps-left before now at swept a b one s = go at s.left refl s.first
     go (Some key) [] f first = absurd (cc)
     go (Some key) (o ∷ os) f first =
         let here : key.0 ≡ o.key = cc in
-        let apart = are-apart s.seen o os (subst HasOneKey (s.whole ∙ ap (λ os. s.seen ++ os) f) one) in
-        let count : count_from now key.0 ≡ suc (length os) =
-        (λ i. count_from ((s.rest ∙ ap (λ os. not_white s.seen ++ os) f) i) (here i))
-        ∙ count_from-place o os (not_white s.seen) (λ x m. apart.0 x (Among-filtered (λ (p : Object). not (is_white p)) x s.seen m)) in
-        omega (arith, count)
+        let apart = others-around (λ (o : Object). o.key) s.seen o os (subst HasOneKey (s.whole ∙ ap (λ os. s.seen ++ os) f) one) in
+        let left_now : left_at (λ o. o.key) now (Some key.0) ≡ o ∷ os =
+        (λ i. left_at (λ o. o.key) ((s.rest ∙ ap (λ os. not_white s.seen ++ os) f) i) (Some (here i)))
+        ∙ left-between (λ (o : Object). o.key) o os (not_white s.seen) (λ x m. apart.0 x (Among-filtered (λ (p : Object). not (is_white p)) x s.seen m)) in
+        omega (arith, ap length left_now)
 
 module _ (before now : List Object) (key : ℕ) (swept : Bool) (a b : Telling) (s : Stands before now key swept a b) where
   object_here : object_at now key ≡ Some s.this
-  object_here = (λ i. object_at (s.rest i) (s.here i)) ∙ object_at-place s.this s.behind (not_white s.seen) s.apart.0
+  object_here = (λ i. object_at (s.rest i) (s.here i)) ∙ found-between (λ (o : Object). o.key) s.this s.behind (not_white s.seen) s.apart.0
 
   pub Stands-there : IsTrue (is_there now key)
   Stands-there = ap is_some object_here
 
   next_here : key_after now key ≡ first_key s.behind
-  next_here = (λ i. key_after (s.rest i) (s.here i)) ∙ key_after-place s.this s.behind (not_white s.seen) s.apart.0
+  next_here = (λ i. key_after (s.rest i) (s.here i)) ∙ next-between (λ (o : Object). o.key) s.this s.behind (not_white s.seen) s.apart.0
 
   without_here : without_object now key ≡ not_white s.seen ++ s.behind
-  without_here = (λ i. without_object (s.rest i) (s.here i)) ∙ without-place (not_white s.seen) s.this s.behind s.apart.0 s.apart.1
+  without_here = (λ i. without_object (s.rest i) (s.here i)) ∙ without-between (λ (o : Object). o.key) s.this s.behind (not_white s.seen) s.apart.0 s.apart.1
 
-  left_here : count_from now key ≡ suc (length s.behind)
-  left_here = (λ i. count_from (s.rest i) (s.here i)) ∙ count_from-place s.this s.behind (not_white s.seen) s.apart.0
+  left_here : left_at (λ o. o.key) now (Some key) ≡ s.this ∷ s.behind
+  left_here = (λ i. left_at (λ o. o.key) (s.rest i) (Some (s.here i))) ∙ left-between (λ (o : Object). o.key) s.this s.behind (not_white s.seen) s.apart.0
 
   module _ (result : Bool) (white : option_map is_white_colour (colour_at now key) ≡ Some result) (later : List Object)
       (left : later ≡ (if result then without_object now key else now)) (c : Telling)
@@ -244,8 +195,8 @@ module _ (before now : List Object) (key : ℕ) (swept : Bool) (a b : Telling) (
     }
 
     -- and fewer are left.
-    pub Sweeps-fewer : HasOneKey before → objects_left later at < count_from now key
+    pub Sweeps-fewer : HasOneKey before → objects_left later at < length (left_at (λ o. o.key) now (Some key))
     unfolding Sweeps-next
     Sweeps-fewer one =
         let still : objects_left later at ≤ length s.behind = Sweeps-left before later at (swept || result) a c one Sweeps-next in
-        omega (arith, still, left_here)
+        omega (arith, still, ap length left_here)

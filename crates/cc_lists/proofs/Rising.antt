@@ -4,7 +4,7 @@ use Rattle.std.specs.List.{filter}
 use Rattle.std.proofs.lemmas.Bool.{eqb-true, cases_lt}
 use Rattle.cc_lists.specs.Members.{Among}
 use Rattle.cc_lists.specs.Walks.{IsRising, HasDistinctKeys}
-use Rattle.cc_lists.proofs.Members.{Among-filtered}
+use Rattle.cc_lists.proofs.Members.{Among-filtered, Among-map, Among-map_cases}
 use Rattle.cc_lists.proofs.Counting.{count_by-cons, count_by-map, counted_is}
 
 -- without the first number the list rises
@@ -56,3 +56,14 @@ IsRising-once (i ∷ js) r k = go (IsRising-once js (IsRising-tail i js r) k) (i
 -- so members with rising numbers have distinct ones
 pub rising-distinct : {X : Type 0} (number : X → ℕ) (xs : List X) → IsRising (map number xs) → HasDistinctKeys number xs
 rising-distinct number xs r k = subst (λ n. n ≤ 1) (count_by-map (λ j. j == k) number xs) (IsRising-once (map number xs) r k)
+
+-- and so do those of them that pass a test
+pub rising-part : {X : Type 0} (number : X → ℕ) (p : X → Bool) (xs : List X) → IsRising (map number xs) → IsRising (map number (filter p xs))
+rising-part number p [] r = r
+rising-part {X} number p (x ∷ xs) r = go (p x) (rising-part number p xs (IsRising-tail (number x) (map number xs) r))
+  where
+    go : (b : Bool) → IsRising (map number (filter p xs)) → IsRising (map number (cond b (x ∷ filter p xs) (filter p xs)))
+    go true ih = IsRising-cons (number x) (map number (filter p xs)) (λ j m.
+        let f = Among-map_cases number (filter p xs) j m in
+        IsRising-first (number x) (map number xs) r j (subst (λ i. Among i (map number xs)) f.2 (Among-map number f.0 xs (Among-filtered p f.0 xs f.1)))) ih
+    go false ih = ih

@@ -89,39 +89,42 @@ left_from-first ks r o = go (filter (is_above o) ks) refl
         same [] = refl
         same (i ∷ is) = ap (λ ls. i ∷ ls) (same is)
 
+-- what is looked for, above a number or of all, is the first that passes of those that are left
+abbrev pub LooksFrom : (ℕ → Bool) → List ℕ → Option ℕ → Option ℕ → Type 0
+LooksFrom test ks after at = first_of (filter (is_above after) (filter test ks)) ≡ first_of (filter test (left_from ks at))
+
 module _ (ks : List ℕ) (r : IsRising ks) where
   -- at the start all of them are left,
   pub left_from-start : left_from ks (first_of ks) ≡ ks
   left_from-start = ap (λ js. left_from ks (first_of js)) (sym (all-above ks)) ∙ (left_from-first ks r None ∙ all-above ks)
 
   -- at a number this one, and what is left at the next,
-  pub left_from-next : (k : ℕ) (next : Option ℕ) → next ≡ first_of (filter (is_above (Some k)) ks) → left_from ks (Some k) ≡ k ∷ left_from ks next
-  left_from-next k next e = ap (λ js. k ∷ js) (sym (ap (left_from ks) e ∙ left_from-first ks r (Some k)))
+  pub left_from-next : (at next : Option ℕ) (k : ℕ) → at ≡ Some k → next ≡ first_of (filter (is_above at) ks) → left_from ks at ≡ k ∷ left_from ks next
+  left_from-next at next k is e =
+      ap (left_from ks) is
+      ∙ ap (λ js. k ∷ js) (sym (ap (left_from ks) (e ∙ ap (λ o. first_of (filter (is_above o) ks)) is) ∙ left_from-first ks r (Some k)))
 
   -- which is less.
-  pub left_from-fewer : (k : ℕ) (next : Option ℕ) → next ≡ first_of (filter (is_above (Some k)) ks) → length (left_from ks next) < length (left_from ks (Some k))
-  left_from-fewer k next e =
-      let whole : length (left_from ks (Some k)) ≡ length (k ∷ left_from ks next) = ap length (left_from-next k next e) in
+  pub left_from-fewer : (at next : Option ℕ) (k : ℕ) → at ≡ Some k → next ≡ first_of (filter (is_above at) ks) → length (left_from ks next) < length (left_from ks at)
+  left_from-fewer at next k is e =
+      let whole : length (left_from ks at) ≡ length (k ∷ left_from ks next) = ap length (left_from-next at next k is e) in
       omega arith
 
-  -- THE NEXT THAT PASSES A TEST, above a number or of all: what is looked for is the first that passes of those that are left
-  module _ (test : ℕ → Bool) (after : Option ℕ) where
-    abbrev pub LooksFrom : Option ℕ → Type 0
-    LooksFrom at = first_of (filter (is_above after) (filter test ks)) ≡ first_of (filter test (left_from ks at))
+  -- A search for the next that passes a test begins with the first above a number, where there is one,
+  pub LooksFrom-start : (test : ℕ → Bool) (after at : Option ℕ) → at ≡ first_of (filter (is_above after) ks) → LooksFrom test ks after at
+  LooksFrom-start test after at e =
+      ap first_of (filter-swap (is_above after) test ks)
+      ∙ ap (λ js. first_of (filter test js)) (sym (ap (left_from ks) e ∙ left_from-first ks r after))
 
-    -- from the first above it,
-    pub LooksFrom-start : (at : Option ℕ) → at ≡ first_of (filter (is_above after) ks) → LooksFrom at
-    LooksFrom-start at e =
-        ap first_of (filter-swap (is_above after) test ks)
-        ∙ ap (λ js. first_of (filter test js)) (sym (ap (left_from ks) e ∙ left_from-first ks r after))
+  -- and goes on to the next where one does not pass.
+  pub LooksFrom-next : (test : ℕ → Bool) (after at next : Option ℕ) (k : ℕ) → at ≡ Some k → LooksFrom test ks after at → test k ≡ false → next ≡ first_of (filter (is_above at) ks) →
+      LooksFrom test ks after next
+  LooksFrom-next test after at next k is l w e = l ∙ (ap (λ js. first_of (filter test js)) (left_from-next at next k is e) ∙ rw w refl)
 
-    -- on to the next where one does not pass,
-    pub LooksFrom-next : (k : ℕ) (next : Option ℕ) → LooksFrom (Some k) → test k ≡ false → next ≡ first_of (filter (is_above (Some k)) ks) → LooksFrom next
-    LooksFrom-next k next l w e = l ∙ (rw w refl ∙ ap (λ js. first_of (filter test js)) (sym (ap (left_from ks) e ∙ left_from-first ks r (Some k))))
-
-    -- to the first that passes
-    pub LooksFrom-found : (k : ℕ) → LooksFrom (Some k) → test k ≡ true → Some k ≡ first_of (filter (is_above after) (filter test ks))
-    LooksFrom-found k l w = sym (l ∙ rw w refl)
+-- It ends with the first that passes
+pub LooksFrom-found : (test : ℕ → Bool) (ks : List ℕ) (after at : Option ℕ) (k : ℕ) → at ≡ Some k → LooksFrom test ks after at → test k ≡ true →
+    at ≡ first_of (filter (is_above after) (filter test ks))
+LooksFrom-found test ks after at k is l w = is ∙ sym (l ∙ (ap (λ o. first_of (filter test (left_from ks o))) is ∙ rw w refl))
 
 -- while others leave, what is left loses just these
 pub left_from-filter : (p : ℕ → Bool) (ks : List ℕ) (at : Option ℕ) → ((k : ℕ) → at ≡ Some k → p k ≡ true) → left_from (filter p ks) at ≡ filter p (left_from ks at)

@@ -93,6 +93,16 @@ module _ {X : Type 0} (key : X → ℕ) where
       let whole : before ++ x ∷ behind ≡ (before ++ x ∷ []) ++ behind = sym (append_assoc before (x ∷ []) behind) in
       ap (λ zs. left_at key zs (first_key key behind)) whole ∙ left-rest (before ++ x ∷ []) behind (subst (HasDistinctKeys key) whole once)
 
+  -- what is left stands in the list
+  pub left-among : (xs : List X) (at : Option ℕ) (x : X) → Among x (left_at key xs at) → Among x xs
+  left-among xs None x m = absurd m
+  left-among [] (Some k) x m = m
+  left-among (y ∷ ys) (Some k) x m = go (left-among ys (Some k) x) (key y == k) m
+    where
+      go : (Among x (left_at key ys (Some k)) → Among x ys) → (b : Bool) → Among x (elim b [ true ↦ y ∷ ys | false ↦ left_at key ys (Some k) ]) → Among x (y ∷ ys)
+      go ih true n = n
+      go ih false n = inr (ih n)
+
   module _ (xs : List X) (x : X) (once : HasDistinctKeys key xs) (m : Among x xs) where
     place : IsBetween X x xs
     place = among-between x xs m
@@ -128,6 +138,29 @@ module _ {X : Type 0} (key : X → ℕ) where
         ∙ (left-rest place.before place.behind
         (subst (HasDistinctKeys key) others (λ k. omega (arith, once k, count_by-filter-le (λ y. key y == k) (λ y. not (key y == key x)) xs))) ∙ sym rest_is)
 
+    -- The first that is left at the next has its key,
+    pub next-stands : first_key key (left_at key xs (next_key key xs (key x))) ≡ next_key key xs (key x)
+    next-stands = ap (first_key key) rest_is ∙ sym next_is
+
+  -- as the first that is left at the first has,
+  pub first-stands : (xs : List X) → first_key key (left_at key xs (first_key key xs)) ≡ first_key key xs
+  first-stands xs = ap (first_key key) (left-first xs)
+
+  -- and where a walk so stands at a key, there is a member with it
+  pub record StandsAt (xs : List X) (k : ℕ) : Type 0 where
+    pub this : X
+    pub behind : List X
+    pub left : left_at key xs (Some k) ≡ this ∷ behind
+    pub here : key this ≡ k
+    pub there : Among this xs
+
+  pub stands-at : (xs : List X) (k : ℕ) → first_key key (left_at key xs (Some k)) ≡ Some k → StandsAt xs k
+  stands-at xs k e = go (left_at key xs (Some k)) refl e
+    where
+      go : (left : List X) → left_at key xs (Some k) ≡ left → first_key key left ≡ Some k → StandsAt xs k
+      go [] l f = absurd (cc)
+      go (x ∷ ys) l f = record { this = x; behind = ys; left = l; here = cc; there = left-among xs (Some k) x (subst (Among x) (sym l) (inl refl)) }
+
   -- The first that is left has the key at which the walk stands, where that is the key of a member.
   pub first-left : (xs : List X) (x : X) → Among x xs → first_key key (left_at key xs (Some (key x))) ≡ Some (key x)
   first-left [] x m = absurd m
@@ -137,16 +170,6 @@ module _ {X : Type 0} (key : X → ℕ) where
           first_key key (elim b [ true ↦ y ∷ ys | false ↦ left_at key ys (Some (key x)) ]) ≡ Some (key x)
       go ih true e = ap Some (eqb-true (key y) (key x) e)
       go ih false e = ih (⊎_elim (λ s. absurd (true≢false (sym (eq-eqb (key y) (key x) (ap key s)) ∙ e))) (λ t. t) m)
-
-  -- what is left stands in the list
-  pub left-among : (xs : List X) (at : Option ℕ) (x : X) → Among x (left_at key xs at) → Among x xs
-  left-among xs None x m = absurd m
-  left-among [] (Some k) x m = m
-  left-among (y ∷ ys) (Some k) x m = go (left-among ys (Some k) x) (key y == k) m
-    where
-      go : (Among x (left_at key ys (Some k)) → Among x ys) → (b : Bool) → Among x (elim b [ true ↦ y ∷ ys | false ↦ left_at key ys (Some k) ]) → Among x (y ∷ ys)
-      go ih true n = n
-      go ih false n = inr (ih n)
 
   -- the first key is that of a member, and so is the next
   pub first_key-among : (xs : List X) (k : ℕ) → first_key key xs ≡ Some k → (x : X) × Among x xs × (key x ≡ k)

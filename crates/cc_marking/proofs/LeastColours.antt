@@ -9,7 +9,7 @@ use Rattle.cc_lists.proofs.Numbers.{number-exact}
 use Rattle.cc_lists.proofs.Together.{has-together}
 use Rattle.cc_names.specs.declared.kind.Colour.TheVariants.{Gray, Black}
 use Rattle.cc_script.specs.Objects.{Object, with_colour, colour_by}
-use Rattle.cc_script.specs.Walking.{IsReached, edges, reach_rules, keys_reached}
+use Rattle.cc_script.specs.Walking.{IsReachedOverSlots, edges, reach_rules, keys_reached}
 use Rattle.cc_marking.specs.Marking.{AreLeast, black_keys, marked_keys, marked_from}
 use Rattle.cc_marking.proofs.MarkedFrom.{colour_by_tests, marked-either}
 
@@ -27,12 +27,12 @@ by_tests-gray false false = (λ e. absurd (cc), λ e. absurd (true≢false (sym 
 
 module _ (objects : List Object) (blacks grays : List ℕ) where
   -- a key is black where the first roots reach it
-  black-decided : (key : ℕ) → (has ◌==◌ (black_keys objects blacks) key ≡ true) ↔ IsReached objects blacks key
+  black-decided : (key : ℕ) → (has ◌==◌ (black_keys objects blacks) key ≡ true) ↔ IsReachedOverSlots objects blacks key
   black-decided key = closure-decides ◌==◌ number-exact (reach_rules objects blacks) key
 
   -- and marked where both reach it
-  marked-decided : (key : ℕ) → (has ◌==◌ (marked_keys objects blacks grays) key ≡ true) ↔ IsReached objects (blacks ++ grays) key
-  marked-decided key = subst (λ b. (b ≡ true) ↔ IsReached objects (blacks ++ grays) key) (sym together)
+  marked-decided : (key : ℕ) → (has ◌==◌ (marked_keys objects blacks grays) key ≡ true) ↔ IsReachedOverSlots objects (blacks ++ grays) key
+  marked-decided key = subst (λ b. (b ≡ true) ↔ IsReachedOverSlots objects (blacks ++ grays) key) (sym together)
       (closure-decides ◌==◌ number-exact (reach_rules objects (blacks ++ grays)) key)
     where
       together : has ◌==◌ (marked_keys objects blacks grays) key ≡ has ◌==◌ (keys_reached objects (blacks ++ grays)) key
@@ -51,7 +51,7 @@ module _ (objects : List Object) (blacks grays : List ℕ) where
   is_marked key = has ◌==◌ (marked_keys objects blacks grays) key
 
   -- what the first roots do not reach is not black
-  unreached-not_black : (key : ℕ) → ¬ (IsReached objects blacks key) → is_black key ≡ false
+  unreached-not_black : (key : ℕ) → ¬ (IsReachedOverSlots objects blacks key) → is_black key ≡ false
   unreached-not_black key none = go (is_black key) refl
     where
       go : (b : Bool) → is_black key ≡ b → b ≡ false

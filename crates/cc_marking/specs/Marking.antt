@@ -3,7 +3,7 @@ use Rattle.std.specs.Prelude.{◌≡◌, ◌↔◌, ℕ, List, ◌++◌}
 use Rattle.cc_lists.specs.Members.{Among}
 use Rattle.cc_names.specs.declared.kind.Colour.TheVariants.{Gray, Black}
 use Rattle.cc_script.specs.Objects.{Object, coloured_by}
-use Rattle.cc_script.specs.Walking.{IsReached, keys_reached}
+use Rattle.cc_script.specs.Walking.{IsReachedOverSlots, keys_reached}
 
 -- black is what the first roots reach over slots
 abbrev pub black_keys : List Object → List ℕ → List ℕ
@@ -19,5 +19,5 @@ marked_from blacks grays objects = coloured_by (black_keys objects blacks) (mark
 
 -- THE COLOURS ARE THE LEAST SETS: black is what the first roots reach over slots, gray what both reach and is not black
 pub record AreLeast (blacks grays : List ℕ) (old new : List Object) : Type 0 where
-  pub black : (o : Object) → Among o new → (o.colour ≡ Black) ↔ IsReached old blacks o.key
-  pub gray : (o : Object) → Among o new → (o.colour ≡ Gray) ↔ (IsReached old (blacks ++ grays) o.key × (¬ (IsReached old blacks o.key)))
+  pub black : (o : Object) → Among o new → (o.colour ≡ Black) ↔ IsReachedOverSlots old blacks o.key
+  pub gray : (o : Object) → Among o new → (o.colour ≡ Gray) ↔ (IsReachedOverSlots old (blacks ++ grays) o.key × (¬ (IsReachedOverSlots old blacks o.key)))

@@ -1,6 +1,7 @@
 -- WHEN THE HEAPS ARE WELL FORMED: every name that they mention is in them, and their lists are in order.
-use Rattle.std.specs.Prelude.{◌≡◌, ℕ, ◌≤◌, ◌<◌, ◌==◌, true, List, [], ◌∷◌, ◌++◌, map, length, count_by}
+use Rattle.std.specs.Prelude.{◌≡◌, ℕ, ◌≤◌, ◌==◌, true, List, [], ◌∷◌, ◌++◌, map, length, count_by}
 use Rattle.cc_lists.specs.Members.{Among}
+pub use Rattle.cc_lists.specs.Walks.{IsRising}
 use Rattle.cc_names.specs.declared.name.Name.{Name}
 use Rattle.cc_names.specs.declared.name.Name.TheVariants as name
 use Rattle.cc_names.specs.declared.kind.Kind.{Kind}
@@ -19,12 +20,6 @@ script_names h = map (λ o. o.name) h.scripts
 -- the names of all objects
 abbrev pub names_there : Heap → List Name
 names_there h = native_names h ++ script_names h
-
--- each number is below the next
-abbrev pub IsRising : List ℕ → Type 0
-IsRising [] = Unit {0}
-IsRising (i ∷ []) = Unit {0}
-IsRising (i ∷ j ∷ js) = (i < j) × IsRising (j ∷ js)
 
 -- a script object's kind is that of its name, and has as many slots as it may
 abbrev pub FitsName : Name → Kind → Slots → Type 0

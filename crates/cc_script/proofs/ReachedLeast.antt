@@ -7,10 +7,10 @@ use Rattle.cc_lists.proofs.Closure.{closure-decides}
 use Rattle.cc_lists.proofs.Numbers.{number-exact}
 use Rattle.cc_names.specs.declared.kind.Colour.{Colour}
 use Rattle.cc_script.specs.Objects.{Object, raised, raised_among}
-use Rattle.cc_script.specs.Walking.{IsReached, reach_rules, keys_reached}
+use Rattle.cc_script.specs.Walking.{IsReachedOverSlots, reach_rules, keys_reached}
 
 -- a key is in the list where the rules derive it
-pub reached-decided : (objects : List Object) (keys : List ℕ) (key : ℕ) → IsTrue (has ◌==◌ (keys_reached objects keys) key) ↔ IsReached objects keys key
+pub reached-decided : (objects : List Object) (keys : List ℕ) (key : ℕ) → IsTrue (has ◌==◌ (keys_reached objects keys) key) ↔ IsReachedOverSlots objects keys key
 reached-decided objects keys key = closure-decides ◌==◌ number-exact (reach_rules objects keys) key
 
 module _ (objects : List Object) (keys : List ℕ) (to : Colour) (o : Object) (m : Among o objects) where
@@ -23,11 +23,11 @@ module _ (objects : List Object) (keys : List ℕ) (to : Colour) (o : Object) (m
       (Among-map (λ p. if has ◌==◌ (keys_reached objects keys) p.key then raised to p else p) o objects m)
 
   -- WHAT IS REACHED IS RAISED,
-  pub reached-raised : IsReached objects keys o.key → Among (raised to o) (raised_among (keys_reached objects keys) to objects)
+  pub reached-raised : IsReachedOverSlots objects keys o.key → Among (raised to o) (raised_among (keys_reached objects keys) to objects)
   reached-raised r = by_test true ((reached-decided objects keys o.key).1 r)
 
   -- and nothing else is.
-  pub unreached-kept : ¬ (IsReached objects keys o.key) → Among o (raised_among (keys_reached objects keys) to objects)
+  pub unreached-kept : ¬ (IsReachedOverSlots objects keys o.key) → Among o (raised_among (keys_reached objects keys) to objects)
   unreached-kept none = go is_reached refl
     where
       go : (b : Bool) → is_reached ≡ b → Among o (raised_among (keys_reached objects keys) to objects)

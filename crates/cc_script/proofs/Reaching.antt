@@ -6,7 +6,7 @@ use Rattle.cc_lists.specs.Members.{Among}
 use Rattle.cc_lists.proofs.Members.{Among-map, Among-map_cases, Among-flat_map, Among-flat_map_cases}
 use Rattle.cc_lists.proofs.Least.{derived-within, derive-root, derive-along}
 use Rattle.cc_script.specs.Objects.{Object, is_there, AreWhole}
-use Rattle.cc_script.specs.Walking.{slot_edges, edges, IsReached}
+use Rattle.cc_script.specs.Walking.{slot_edges, edges, IsReachedOverSlots}
 
 -- what slots hold
 pub held-among : (slots : List (Option ℕ)) (q : ℕ) → Among q (flat_map option_to_list slots) → Among (Some q) slots
@@ -32,22 +32,22 @@ edge-slot objects x y m =
     (k.0, k.1, ap (λ (e : ℕ × ℕ). e.0) h.2, subst (λ z. Among (Some z) k.0.slots) (ap (λ (e : ℕ × ℕ). e.1) h.2) (held-among k.0.slots h.0 h.1))
 
 -- the start is reached, and what the slots of a reached object hold
-pub reached-root : (objects : List Object) (root : ℕ) → IsReached objects (root ∷ []) root
+pub reached-root : (objects : List Object) (root : ℕ) → IsReachedOverSlots objects (root ∷ []) root
 reached-root objects root = derive-root (root ∷ []) (edges objects) [] root (inl refl)
 
 pub reached-slot : (objects : List Object) (root : ℕ) (o : Object) (q : ℕ) → Among o objects → Among (Some q) o.slots →
-    IsReached objects (root ∷ []) o.key → IsReached objects (root ∷ []) q
+    IsReachedOverSlots objects (root ∷ []) o.key → IsReachedOverSlots objects (root ∷ []) q
 reached-slot objects root o q m s r = derive-along (root ∷ []) (edges objects) [] o.key q (slot-edge objects o q m s) r
 
 -- induction over what is reached
 pub reached-within : (objects : List Object) (root : ℕ) (P : ℕ → Type 0) → P root →
     ((o : Object) (q : ℕ) → Among o objects → Among (Some q) o.slots → P o.key → P q) →
-    (k : ℕ) → IsReached objects (root ∷ []) k → P k
+    (k : ℕ) → IsReachedOverSlots objects (root ∷ []) k → P k
 reached-within objects root P first step = derived-within (root ∷ []) (edges objects) [] P
     (λ x m. ⊎_elim (λ e. subst P e first) (λ n. absurd n) m)
     (λ x y m h. let k = edge-slot objects x y m in step k.0 y k.1 k.3 (subst P (sym k.2) h))
     (λ ps v m. absurd m)
 
 pub reached-there : (objects : List Object) → AreWhole objects → (root : ℕ) → is_there objects root ≡ true →
-    (k : ℕ) → IsReached objects (root ∷ []) k → is_there objects k ≡ true
+    (k : ℕ) → IsReachedOverSlots objects (root ∷ []) k → is_there objects k ≡ true
 reached-there objects whole root live = reached-within objects root (λ k. is_there objects k ≡ true) live (λ o q m s h. whole o q m s)

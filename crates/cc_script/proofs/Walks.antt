@@ -12,7 +12,7 @@ use Rattle.cc_lists.proofs.Numbers.{number-exact}
 use Rattle.cc_names.specs.declared.kind.Colour.{Colour}
 use Rattle.cc_names.specs.declared.kind.Colour.TheVariants.{White}
 use Rattle.cc_script.specs.Objects.{Object, object_at, is_there, slots_at, slots_or_none, change_object, is_below, raised, raised_among, AreWhole}
-use Rattle.cc_script.specs.Walking.{reach_rules, keys_reached, IsReached}
+use Rattle.cc_script.specs.Walking.{reach_rules, keys_reached, IsReachedOverSlots}
 use Rattle.cc_script.specs.ColourOrder.{HasColourOrder}
 use Rattle.cc_script.specs.Marking.{Marking, is_lower, raise_key, raise_each}
 use Rattle.cc_script.proofs.Keys.{object_at-among, object_at-key, object_at-map, changed_at, changed_at-same}
@@ -101,7 +101,7 @@ module _ (before : List Object) (root : ℕ) (to : Colour) where
   pub record IsMarking (hand : List ℕ) (m : Marking) : Type 0 where
     pub keys : List ℕ
     pub objects : m.objects ≡ raised_among keys to before
-    pub reached : (k : ℕ) → Among k keys → IsReached before (root ∷ []) k
+    pub reached : (k : ℕ) → Among k keys → IsReachedOverSlots before (root ∷ []) k
     pub stacked : (k : ℕ) → Among k m.stack → Among k keys
     pub followed : (k q : ℕ) → Among k keys → Among (Some q) (slots_at before k) → (Among k hand ⊎ Among k m.stack) ⊎ IsMet keys q
 
@@ -125,7 +125,7 @@ module _ (before : List Object) (root : ℕ) (to : Colour) where
     pub met : IsMet after.keys q
     pub more : (k : ℕ) → Among k keys → Among k after.keys
 
-  pub raise_key-marks : (hand : List ℕ) (m : Marking) (h : IsMarking hand m) (q : ℕ) → IsReached before (root ∷ []) q → Raises hand h.keys q (raise_key to q m)
+  pub raise_key-marks : (hand : List ℕ) (m : Marking) (h : IsMarking hand m) (q : ℕ) → IsReachedOverSlots before (root ∷ []) q → Raises hand h.keys q (raise_key to q m)
   raise_key-marks hand m h q r = go (is_lower to (object_at m.objects q)) refl
     where
       mine : (j p : ℕ) → Among j (q ∷ h.keys) → Among (Some p) (slots_at before j) → (Among j hand ⊎ Among j (m.stack ++ q ∷ [])) ⊎ IsMet (q ∷ h.keys) p
@@ -141,7 +141,7 @@ module _ (before : List Object) (root : ℕ) (to : Colour) where
         after = record {
           keys = q ∷ h.keys;
           objects = ap (λ os. change_object os q (raised to)) h.objects ∙ raised-more h.keys to q before;
-          reached = λ k n. ⊎_elim (λ s. subst (IsReached before (root ∷ [])) s r) (λ t. h.reached k t) n;
+          reached = λ k n. ⊎_elim (λ s. subst (IsReachedOverSlots before (root ∷ [])) s r) (λ t. h.reached k t) n;
           stacked = λ k n. ⊎_elim (λ t. inr (h.stacked k t)) (λ t. ⊎_elim (λ s. inl s) (λ x. absurd x) t) (Among-append k m.stack (q ∷ []) n);
           followed = mine;
         };
@@ -160,7 +160,7 @@ module _ (before : List Object) (root : ℕ) (to : Colour) where
     pub met : (q : ℕ) → Among (Some q) xs → IsMet after.keys q
     pub more : (k : ℕ) → Among k keys → Among k after.keys
 
-  pub raise_each-marks : (hand : List ℕ) (xs : List (Option ℕ)) (m : Marking) (h : IsMarking hand m) → ((q : ℕ) → Among (Some q) xs → IsReached before (root ∷ []) q) →
+  pub raise_each-marks : (hand : List ℕ) (xs : List (Option ℕ)) (m : Marking) (h : IsMarking hand m) → ((q : ℕ) → Among (Some q) xs → IsReachedOverSlots before (root ∷ []) q) →
       RaisesEach hand h.keys xs (raise_each to xs m)
   raise_each-marks hand [] m h r = record { after = h; met = λ q n. absurd n; more = λ k n. n }
   raise_each-marks hand (None ∷ xs) m h r =
@@ -214,16 +214,16 @@ module _ (before : List Object) (root : ℕ) (to : Colour) where
     stood = w.marking.stacked key (subst (Among key) (sym top) (Among-right key ks (key ∷ []) (inl refl)))
 
     -- it is reached, and so is what its slots hold
-    pub walk-reached : IsReached before (root ∷ []) key
+    pub walk-reached : IsReachedOverSlots before (root ∷ []) key
     walk-reached = w.marking.reached key stood
 
     pub walk-slots : slots_at m.objects key ≡ slots_at before key
     walk-slots = marking-slots [] m w.marking key
 
-    pub walk-held : (q : ℕ) → Among (Some q) (slots_at m.objects key) → IsReached before (root ∷ []) q
+    pub walk-held : (q : ℕ) → Among (Some q) (slots_at m.objects key) → IsReachedOverSlots before (root ∷ []) q
     walk-held q n =
         let f = slot-object before key q (subst (λ xs. Among (Some q) xs) walk-slots n) in
-        reached-slot before root f.0 q (object_at-among before key f.0 f.1) f.2 (subst (IsReached before (root ∷ [])) (sym (object_at-key before key f.0 f.1)) walk-reached)
+        reached-slot before root f.0 q (object_at-among before key f.0 f.1) f.2 (subst (IsReachedOverSlots before (root ∷ [])) (sym (object_at-key before key f.0 f.1)) walk-reached)
 
     pub walk-next : IsWalk (raise_each to (slots_at m.objects key) (record { objects = m.objects; stack = ks }))
     walk-next =
@@ -270,10 +270,10 @@ module _ (before : List Object) (root : ℕ) (to : Colour) where
         (w.marking.followed o.key q there (subst (λ a. Among (Some q) (slots_or_none a)) (sym (own o n)) s)))
         (λ e. inr (enough o q n s (ap (is_lower to) (sym (own o n)) ∙ e))) t
 
-    met : (k : ℕ) → IsReached before (root ∷ []) k → IsMet keys k
+    met : (k : ℕ) → IsReachedOverSlots before (root ∷ []) k → IsMet keys k
     met = reached-within before root (IsMet keys) w.begun step
 
-    reached_keys : (k : ℕ) → (has ◌==◌ (keys_reached before (root ∷ [])) k ≡ true → IsReached before (root ∷ []) k) × (IsReached before (root ∷ []) k → has ◌==◌ (keys_reached before (root ∷ [])) k ≡ true)
+    reached_keys : (k : ℕ) → (has ◌==◌ (keys_reached before (root ∷ [])) k ≡ true → IsReachedOverSlots before (root ∷ []) k) × (IsReachedOverSlots before (root ∷ []) k → has ◌==◌ (keys_reached before (root ∷ [])) k ≡ true)
     reached_keys k = closure-decides ◌==◌ number-exact (reach_rules before (root ∷ [])) k
 
     each : (o : Object) → Among o before → risen keys to o ≡ risen (keys_reached before (root ∷ [])) to o
@@ -298,7 +298,7 @@ module _ (before : List Object) (root : ℕ) (to : Colour) where
   pub walk-coloured : ((o : Object) → Among o before → object_at before o.key ≡ Some o) → HasColourOrder before → AreWhole before → HasColourOrder (raised_among (keys_reached before (root ∷ [])) to before)
   walk-coloured own ordered whole = HasColourOrder-raised before ordered own (keys_reached before (root ∷ [])) to whole closed
     where
-      decides : (k : ℕ) → (has ◌==◌ (keys_reached before (root ∷ [])) k ≡ true → IsReached before (root ∷ []) k) × (IsReached before (root ∷ []) k → has ◌==◌ (keys_reached before (root ∷ [])) k ≡ true)
+      decides : (k : ℕ) → (has ◌==◌ (keys_reached before (root ∷ [])) k ≡ true → IsReachedOverSlots before (root ∷ []) k) × (IsReachedOverSlots before (root ∷ []) k → has ◌==◌ (keys_reached before (root ∷ [])) k ≡ true)
       decides k = closure-decides ◌==◌ number-exact (reach_rules before (root ∷ [])) k
 
       closed : (o : Object) (q : ℕ) → Among o before → Among (Some q) o.slots → has ◌==◌ (keys_reached before (root ∷ [])) o.key ≡ true → has ◌==◌ (keys_reached before (root ∷ [])) q ≡ true

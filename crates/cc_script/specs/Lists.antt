@@ -1,7 +1,6 @@
 -- THE PARTS OF A SCRIPT HEAP AS LISTS, by keys, and the objects that they show.
-use Rattle.std.specs.Prelude.{◌≡◌, ℕ, ◌≤◌, ◌==◌, true, false, not, List, [], ◌∷◌, ◌++◌, length, map, filter, count_by, Option, Some, None, slice_index_or, slice_set}
+use Rattle.std.specs.Prelude.{◌≡◌, ℕ, ◌≤◌, ◌==◌, not, List, [], ◌∷◌, ◌++◌, length, map, filter, count_by, Option, Some, None, slice_index_or, slice_set}
 use Rattle.cc_lists.specs.Members.{Among}
-use Rattle.cc_lists.specs.Walks.{first_of}
 use Rattle.cc_names.specs.declared.name.Name.{Name}
 use Rattle.cc_names.specs.declared.kind.Kind.{Kind}
 use Rattle.cc_names.specs.declared.kind.Kind.TheVariants.{Plain}
@@ -67,11 +66,6 @@ pub record IsPlaced (l : Lists) : Type 0 where
 -- the keys but for one
 abbrev pub without_key : ℕ → List ℕ → List ℕ
 without_key key keys = filter (λ k. not (k == key)) keys
-
--- the key behind a key
-abbrev pub key_behind : ℕ → List ℕ → Option ℕ
-key_behind key [] = None
-key_behind key (k ∷ ks) = elim (k == key) [ true ↦ first_of ks | false ↦ key_behind key ks ]
 
 -- the lists with the object at a key changed
 abbrev pub with_cell : Lists → ℕ → Option Placed → Lists

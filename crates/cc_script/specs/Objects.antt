@@ -1,6 +1,7 @@
 -- THE SCRIPT OBJECTS AS A LIST, in order of making; each stands at a key, and its slots hold keys.
-use Rattle.std.specs.Prelude.{◌≡◌, IsTrue, ℕ, ◌==◌, Bool, true, false, not, List, [], ◌∷◌, map, filter, find, replicate, Option, Some, None, is_some, option_map, slice_set, if◌then◌else◌}
+use Rattle.std.specs.Prelude.{◌≡◌, IsTrue, ℕ, ◌==◌, Bool, true, false, not, List, [], map, filter, find, replicate, Option, Some, None, is_some, option_map, slice_set, if◌then◌else◌}
 use Rattle.cc_lists.specs.Members.{Among, has}
+use Rattle.cc_lists.specs.Walks as walks
 use Rattle.cc_names.specs.declared.name.Name.{Name}
 use Rattle.cc_names.specs.declared.kind.Kind.{Kind}
 use Rattle.cc_names.specs.declared.kind.Kind.TheVariants.{Plain}
@@ -46,13 +47,11 @@ slots_at objects key = slots_or_none (object_at objects key)
 
 -- the key of the object that was made first
 abbrev pub first_key : List Object → Option ℕ
-first_key [] = None
-first_key (o ∷ os) = Some o.key
+first_key objects = walks.first_key (λ o. o.key) objects
 
 -- the key of the object that was made next after the one at a key
 abbrev pub key_after : List Object → ℕ → Option ℕ
-key_after [] key = None
-key_after (o ∷ os) key = elim (o.key == key) [ true ↦ first_key os | false ↦ key_after os key ]
+key_after objects key = walks.next_key (λ o. o.key) objects key
 
 -- each slot holds an object that is there
 abbrev pub AreWhole : List Object → Type 0

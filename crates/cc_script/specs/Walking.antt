@@ -15,8 +15,8 @@ abbrev pub reach_rules : List Object → List ℕ → List (Rule ℕ)
 reach_rules objects keys = system keys (edges objects) []
 
 -- THE SET of the keys that are reached
-abbrev pub IsReached : List Object → List ℕ → ℕ → Type 0
-IsReached objects keys = Least (reach_rules objects keys)
+abbrev pub IsReachedOverSlots : List Object → List ℕ → ℕ → Type 0
+IsReachedOverSlots objects keys = Least (reach_rules objects keys)
 
 -- and the same as a list
 abbrev pub keys_reached : List Object → List ℕ → List ℕ

@@ -1,13 +1,13 @@
 //! The keys of the objects in order of making.
 ghost use Rattle.std.specs.Prelude.{◌≡◌, ◌≤◌, drop, length, map, option_map};
-ghost use Rattle.cc_lists.specs.Walks.{first_of};
-ghost use Rattle.cc_script.specs.Lists.{without_key, key_behind};
+ghost use Rattle.cc_lists.specs.Walks.{first_key, next_key};
+ghost use Rattle.cc_script.specs.Lists.{without_key};
 
 use cc_names::SKey;
 
 /// The key at a place, counted from 0; none past the end.
 pub(crate) fn key_at(order: &[SKey], place: usize) -> Option<SKey>
-    ensures { option_map (λ k. k.0) result ≡ first_of (map (λ k. k.0) (drop place order.now)) }
+    ensures { option_map (λ k. k.0) result ≡ first_key (λ k. k.0) (drop place order.now) }
 {
     if place < order.len() {
         Some(order[place])
@@ -19,7 +19,7 @@ pub(crate) fn key_at(order: &[SKey], place: usize) -> Option<SKey>
 /// The key behind a key; none where that is the last or is not there.
 // O(n) until the order is a chain: a walk over all objects, from the first by the next, is quadratic
 pub(crate) fn behind(order: &[SKey], key: SKey) -> Option<SKey>
-    ensures { option_map (λ k. k.0) result ≡ key_behind key.0 (map (λ k. k.0) order.now) }
+    ensures { option_map (λ k. k.0) result ≡ next_key (λ k. k.0) order.now key.0 }
 {
     for place in 0..order.len() {
         if order[place] == key {

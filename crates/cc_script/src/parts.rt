@@ -38,7 +38,7 @@ impl ScriptParts {
         }
     }
 
-    /// Takes the memory of one more object: so many empty slots, and room for it everywhere.
+    /// Takes the memory of one more object: gives its empty slots, so many, and makes room for it in each list.
     fn take_room(&mut self, alloc: Global, slots: u8) -> Result<Vec<Option<SKey>>, NoMemory>
         requires at_rest { IsAtRest self.old }
         ensures kept { lists_of self.new ≡ lists_of self.old }

@@ -3,18 +3,18 @@ use Rattle.std.proofs.Common.{◌≡◌, ℕ, suc, ◌+◌, ◌<◌, Bool, true,
 use Rattle.std.specs.List.{filter}
 use Rattle.cc_lists.proofs.Searching.{filter-map}
 use Rattle.cc_lists.proofs.ListWrites.{map-kept}
+use Rattle.cc_lists.proofs.RisingWalks.{LooksFrom, LooksFrom-found}
 use Rattle.cc_names.specs.declared.number.NKey.{NKey}
 use Rattle.cc_names.specs.declared.name.Name.{Name}
 use Rattle.cc_names.specs.Names.{same_name}
 use Rattle.cc_model.specs.Heap.{Heap, HeapNative}
-use Rattle.cc_model.specs.WellFormed.{IsRising}
 use Rattle.cc_counted.specs.Counts as counts
 use Rattle.cc_counted.specs.Counts.{Counts, first_number, number_or_none}
 use Rattle.cc_graph.specs.Shown.{Shown, Vertex, number_from}
 use Rattle.cc_unlink.specs.Whites.{whites_of, is_white_number, whites_above}
 use Rattle.cc_heaps.specs.Keyed.{Keyed, keyed_native, counts_of, number_at}
 use Rattle.cc_heaps.specs.Holders.{native_numbers, is_above, first_of}
-use Rattle.cc_heaps.proofs.NextHolder.{LooksFrom, LooksFrom-found}
+use Rattle.cc_heaps.proofs.Content.{number-some}
 
 -- Natives by their numbers
 
@@ -41,8 +41,8 @@ abbrev pub LooksForWhite : Shown → Heap → Option ℕ → Option ℕ → Type
 LooksForWhite g h at next = LooksFrom (is_white_number g) (native_numbers h.natives) at next
 
 -- it ends with the first that is white
-pub white-found : (g : Shown) (h : Heap) (at o : Option ℕ) → IsRising (native_numbers h.natives) → IsSome o → LooksForWhite g h at o → is_white_number g (number_or_none o) ≡ true → o ≡ first_of (whites_above g h at)
-white-found g h at o r there l w = LooksFrom-found (is_white_number g) (native_numbers h.natives) r at o there l w ∙ ap (λ ws. first_of (filter (is_above at) ws)) (sym (whites_of-numbers g h))
+pub white-found : (g : Shown) (h : Heap) (at o : Option ℕ) → IsSome o → LooksForWhite g h at o → is_white_number g (number_or_none o) ≡ true → o ≡ first_of (whites_above g h at)
+white-found g h at o there l w = LooksFrom-found (is_white_number g) (native_numbers h.natives) at o (number_or_none o) (number-some o there) l w ∙ ap (λ ws. first_of (filter (is_above at) ws)) (sym (whites_of-numbers g h))
 
 -- or with none
 pub white-none : (g : Shown) (h : Heap) (at : Option ℕ) → LooksForWhite g h at None → None ≡ first_of (whites_above g h at)

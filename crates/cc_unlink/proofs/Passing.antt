@@ -29,7 +29,9 @@ use Rattle.cc_heaps.proofs.EventsTold.{Tells-more}
 use Rattle.cc_heaps.proofs.LeftWith.{key_left-there, left_with-same}
 use Rattle.cc_unlink.proofs.LeftWith.{number_at-left, left_with-then}
 use Rattle.cc_lists.proofs.Filtering.{filter-each}
-use Rattle.cc_heaps.proofs.NextHolder.{filter-swapped, rest_from, rest_from-first}
+use Rattle.cc_lists.specs.Walks.{left_from}
+use Rattle.cc_lists.proofs.Searching.{filter-swap}
+use Rattle.cc_lists.proofs.RisingWalks.{all-above, left_from-first, left_from-next}
 use Rattle.cc_unlink.proofs.NextWhite.{whites_of-numbers}
 
 -- the number of the native that is next
@@ -42,7 +44,7 @@ IsNext v next = IfSome next (λ key. IsSome (number_at v key.0))
 
 -- THE WHITE NATIVES THAT ARE LEFT of a pass, from the next one on
 abbrev pub whites_from : Shown → Keyed → Option NKey → List ℕ
-whites_from g v next = rest_from (whites_of g v.heap) (number_of_next v next)
+whites_from g v next = left_from (whites_of g v.heap) (number_of_next v next)
 
 -- White natives are by rising number
 pub whites_of-rising : (g : Shown) (h : Heap) → IsRising (native_numbers h.natives) → IsRising (whites_of g h)
@@ -56,16 +58,13 @@ whites_of-there g h k m =
 module _ (g : Shown) (v : Keyed) (r : IsRising (native_numbers v.heap.natives)) (next : Option NKey) where
   -- at the begin all of them are left
   pub whites_from-start : number_of_next v next ≡ first_of (whites_above g v.heap None) → whites_from g v next ≡ whites_of g v.heap
-  whites_from-start e = ap (rest_from (whites_of g v.heap)) e
-      ∙ (rest_from-first None (whites_of g v.heap) (whites_of-rising g v.heap r)
-      ∙ filter-each (is_above None) (whites_of g v.heap) (λ k m. refl))
+  whites_from-start e = ap (left_from (whites_of g v.heap)) e
+      ∙ (left_from-first (whites_of g v.heap) (whites_of-rising g v.heap r) None ∙ all-above (whites_of g v.heap))
 
   -- then one less
   pub whites_from-next : (o : Option ℕ) → IsSome o → number_of_next v next ≡ first_of (whites_above g v.heap o) →
-      rest_from (whites_of g v.heap) o ≡ number_or_none o ∷ whites_from g v next
-  whites_from-next None there e = absurd (false≢true there)
-  whites_from-next (Some k) there e = ap (λ ks. k ∷ ks)
-      (sym (ap (rest_from (whites_of g v.heap)) e ∙ rest_from-first (Some k) (whites_of g v.heap) (whites_of-rising g v.heap r)))
+      left_from (whites_of g v.heap) o ≡ number_or_none o ∷ whites_from g v next
+  whites_from-next o there e = left_from-next (whites_of g v.heap) (whites_of-rising g v.heap r) o (number_of_next v next) (number_or_none o) (number-some o there) e
 
 -- Natives that leave
 
@@ -75,8 +74,8 @@ module _ (g : Shown) (h : Heap) (freed : List ℕ) (f : Heap) (l : Leave h freed
       filter p (whites_of g f) ≡ filter p (whites_of g h)
   part_of_whites p there =
       ap (filter p) (whites_of-numbers g f ∙ ap (filter (is_white_number g)) l.numbers
-      ∙ (filter-swapped (is_white_number g) (is_left freed) (numbers_there h) ∙ ap (filter (is_left freed)) (sym (whites_of-numbers g h))))
-      ∙ (filter-swapped p (is_left freed) (whites_of g h)
+      ∙ (filter-swap (is_white_number g) (is_left freed) (numbers_there h) ∙ ap (filter (is_left freed)) (sym (whites_of-numbers g h))))
+      ∙ (filter-swap p (is_left freed) (whites_of g h)
       ∙ filter-each (is_left freed) (filter p (whites_of g h)) (λ k m. go k (Leave-not_freed h freed f l k (there k m)) (has ◌==◌ freed k) refl))
     where
       go : (k : ℕ) → ¬ (Among k freed) → (b : Bool) → has ◌==◌ freed k ≡ b → not b ≡ true
@@ -86,14 +85,13 @@ module _ (g : Shown) (h : Heap) (freed : List ℕ) (f : Heap) (l : Leave h freed
   -- where all white natives are there still, they are the white ones
   pub whites_of-stay : ((k : ℕ) → Among k (whites_of g h) → Among (native k) (native_names f)) → whites_of g f ≡ whites_of g h
   whites_of-stay there =
-      let all : (ks : List ℕ) → filter (is_above None) ks ≡ ks = λ ks. filter-each (is_above None) ks (λ k m. refl) in
-      sym (all (whites_of g f)) ∙ (part_of_whites (is_above None) (λ k m. there k (subst (λ ks. Among k ks) (all (whites_of g h)) m)) ∙ all (whites_of g h))
+      sym (all-above (whites_of g f)) ∙ (part_of_whites (is_above None) (λ k m. there k (subst (λ ks. Among k ks) (all-above (whites_of g h)) m)) ∙ all-above (whites_of g h))
 
   -- where those from a number on are there still, they are those from it on
-  rest_from-stay : (o : Option ℕ) → ((k : ℕ) → Among k (rest_from (whites_of g h) o) → Among (native k) (native_names f)) →
-      rest_from (whites_of g f) o ≡ rest_from (whites_of g h) o
-  rest_from-stay None there = refl
-  rest_from-stay (Some j) there = ap (λ ks. j ∷ ks) (part_of_whites (is_above (Some j)) (λ k m. there k (inr m)))
+  left_from-stay : (o : Option ℕ) → ((k : ℕ) → Among k (left_from (whites_of g h) o) → Among (native k) (native_names f)) →
+      left_from (whites_of g f) o ≡ left_from (whites_of g h) o
+  left_from-stay None there = refl
+  left_from-stay (Some j) there = ap (λ ks. j ∷ ks) (part_of_whites (is_above (Some j)) (λ k m. there k (inr m)))
 
 -- the native that is next has its key still
 number_of_next-left : (v : Keyed) (f : Heap) (next : Option NKey) → IsNext v next →
@@ -110,7 +108,7 @@ IsNext-kept v w None e live = tt
 IsNext-kept v w (Some key) e live = subst IsSome (sym e) live
 
 -- the first of those that are left
-pub first-of_rest : (ks : List ℕ) (o : Option ℕ) (k : ℕ) → o ≡ Some k → Among k (rest_from ks o)
+pub first-of_rest : (ks : List ℕ) (o : Option ℕ) (k : ℕ) → o ≡ Some k → Among k (left_from ks o)
 first-of_rest ks o k e = rw e (inl refl)
 
 -- Where all that are left of a pass are there still, they are left of it still.
@@ -118,7 +116,7 @@ whites_from-left : (g : Shown) (v : Keyed) (freed : List ℕ) (f : Heap) (next :
     ((k : ℕ) → Among k (whites_from g v next) → Among (native k) (native_names f)) →
     (whites_from g (left_with v f) next ≡ whites_from g v next) × IsNext (left_with v f) next
 whites_from-left g v freed f next l live there = (
-  ap (rest_from (whites_of g f)) same ∙ rest_from-stay g v.heap freed f l (number_of_next v next) there,
+  ap (left_from (whites_of g f)) same ∙ left_from-stay g v.heap freed f l (number_of_next v next) there,
   IsNext-kept v (left_with v f) next same live,
 )
   where

@@ -17,7 +17,7 @@ use Rattle.cc_heaps.specs.Keyed.{Keyed, IsInOrder, number_at, the_number, change
 use Rattle.cc_heaps.specs.Few.{IsNotOwned}
 use Rattle.cc_unlink.specs.Whites.{whites_of, whites_above}
 use Rattle.cc_heaps.specs.Holders.{first_of}
-use Rattle.cc_heaps.proofs.NextHolder.{rest_from}
+use Rattle.cc_lists.specs.Walks.{left_from}
 use Rattle.cc_unlink.proofs.Passing.{number_of_next, IsNext, whites_from, whites_from-start, whites_from-next, whites_of-rising, whites_of-there, whites_of-stay, IsInOrder-permuted, fewer}
 
 -- between two steps: the first white natives are rooted, and what is left to do gives what all of it gives from the begin
@@ -98,4 +98,4 @@ IsRooting-next {g} {first} {v} {key} i next e live {w} is order =
         (λ j m. subst (λ xs. Among (native j) xs) (sym names) (whites_of-there g v.heap j m))
 
     left : whites_from g (changed_to v h) next ≡ whites_from g v next
-    left = ap (λ ks. rest_from ks (number_of_next v next)) stays
+    left = ap (λ ks. left_from ks (number_of_next v next)) stays

@@ -1,8 +1,9 @@
 use Rattle.std.proofs.Common.{Some, ◌∙◌, sym}
-use Rattle.cc_heaps.specs.Keyed.{number_at}
+use Rattle.cc_heaps.specs.Keyed.{number_at, the_number}
 use Rattle.cc_unlink.specs.Whites.{is_white_number}
 use Rattle.cc_heaps.specs.Holders.{native_numbers}
-use Rattle.cc_heaps.proofs.NextHolder.{LooksFrom-start, LooksFrom-next, rest_from-less}
+use Rattle.cc_lists.proofs.RisingWalks.{LooksFrom-start, LooksFrom-next, left_from-fewer}
+use Rattle.cc_heaps.proofs.Content.{number-some}
 use Rattle.cc_unlink.proofs.NextWhite.{native_after-keyed, white-found, white-none}
 use Rattle.cc_unlink.proofs.ends.next_white.Goals as goal
 
@@ -10,7 +11,7 @@ pub loop-next-init : goal.loop-next-init
 loop-next-init c =
     let heaps = c.args.heaps.now in
     record {
-      looks = LooksFrom-start (is_white_number c.args.graph.now) (native_numbers heaps.heap.natives) c.requires.order.1.sound.well_formed.rising _ _
+      looks = LooksFrom-start (native_numbers heaps.heap.natives) c.requires.order.1.sound.well_formed.rising (is_white_number c.args.graph.now) _ _
           (native_after-keyed heaps c.counted-counted.result.now c.args.after c.native_after-next.result c.counted-counted.ensures c.native_after-next.ensures.number);
       live = rw c.counted-counted.ensures at c.native_after-next.ensures.live;
     }
@@ -19,7 +20,7 @@ pub loop-next-smaller : goal.loop-next-smaller
 loop-next-smaller c =
     let heaps = c.args.heaps.now in
     let live = rw c.in-Some.is at c.loop-next.invariant.live in
-    rw c.in-Some.is (rest_from-less (native_numbers heaps.heap.natives) c.requires.order.1.sound.well_formed.rising (number_at heaps c.in-Some.key.0) _ live
+    rw c.in-Some.is (left_from-fewer (native_numbers heaps.heap.natives) c.requires.order.1.sound.well_formed.rising (number_at heaps c.in-Some.key.0) _ (the_number heaps c.in-Some.key.0) (number-some (number_at heaps c.in-Some.key.0) live)
     (native_after-keyed heaps c.counted-counted.result.now (Some c.in-Some.key) c.native_after-next-in-Some.result c.counted-counted.ensures c.native_after-next-in-Some.ensures.number))
 
 pub loop-next-preserved : goal.loop-next-preserved
@@ -29,7 +30,7 @@ loop-next-preserved c =
     let looks = rw c.in-Some.is at c.loop-next.invariant.looks in
     let white = rw c.counted-counted.ensures at (sym c.is_white.ensures ∙ c.if-is_white.false) in
     record {
-      looks = LooksFrom-next (is_white_number c.args.graph.now) (native_numbers heaps.heap.natives) c.requires.order.1.sound.well_formed.rising _ (number_at heaps c.in-Some.key.0) _ live looks white
+      looks = LooksFrom-next (native_numbers heaps.heap.natives) c.requires.order.1.sound.well_formed.rising (is_white_number c.args.graph.now) _ (number_at heaps c.in-Some.key.0) _ (the_number heaps c.in-Some.key.0) (number-some (number_at heaps c.in-Some.key.0) live) looks white
           (native_after-keyed heaps c.counted-counted.result.now (Some c.in-Some.key) c.native_after-next-in-Some.result c.counted-counted.ensures c.native_after-next-in-Some.ensures.number);
       live = rw c.counted-counted.ensures at c.native_after-next-in-Some.ensures.live;
     }
@@ -40,7 +41,7 @@ returns-then-is_white-clause-number c =
     let live = rw c.in-Some.is at c.loop-next.invariant.live in
     let looks = rw c.in-Some.is at c.loop-next.invariant.looks in
     let white = rw c.counted-counted.ensures at (sym c.is_white.ensures ∙ c.if-is_white.true) in
-    white-found c.args.graph.now heaps.heap _ (number_at heaps c.in-Some.key.0) c.requires.order.1.sound.well_formed.rising live looks white
+    white-found c.args.graph.now heaps.heap _ (number_at heaps c.in-Some.key.0) live looks white
 
 pub returns-clause-number : goal.returns-clause-number
 returns-clause-number c = white-none c.args.graph.now c.args.heaps.now.heap _ (rw c.in_default.is at c.loop-next.invariant.looks)

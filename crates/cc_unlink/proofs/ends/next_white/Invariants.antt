@@ -1,7 +1,7 @@
 use Rattle.std.proofs.Common.{length, option_and_then, IfSome, IsSome}
 use Rattle.cc_heaps.specs.Keyed.{number_at}
 use Rattle.cc_heaps.specs.Holders.{native_numbers}
-use Rattle.cc_heaps.proofs.NextHolder.{rest_from}
+use Rattle.cc_lists.specs.Walks.{left_from}
 use Rattle.cc_unlink.proofs.NextWhite.{LooksForWhite}
 use Rattle.cc_unlink.proofs.ends.next_white.Given as goal
 
@@ -12,4 +12,4 @@ invariant-loop-next l = record {
 }
 
 abbrev pub decreases-loop-next : goal.decreases-loop-next
-decreases-loop-next l = length (rest_from (native_numbers l.heaps.heap.natives) (option_and_then (λ key. number_at l.heaps key.0) l.next))
+decreases-loop-next l = length (left_from (native_numbers l.heaps.heap.natives) (option_and_then (λ key. number_at l.heaps key.0) l.next))

@@ -9,7 +9,7 @@ use Rattle.cc_graph.specs.Held.{AreHeld}
 use Rattle.cc_heaps.specs.HasKey.{HasKey}
 use Rattle.cc_builder.proofs.BuildWalks.{stands}
 use Rattle.cc_builder.proofs.HolderWalks.{holders_from}
-use Rattle.cc_heaps.proofs.NextHolder.{rest_from}
+use Rattle.cc_lists.specs.Walks.{left_from}
 use Rattle.cc_builder.proofs.build.Build.add_holders.Given as goal
 
 abbrev pub invariant-holders : goal.invariant-holders
@@ -26,4 +26,4 @@ invariant-holders l = record {
 }
 
 abbrev pub decreases-holders : goal.decreases-holders
-decreases-holders l = length (rest_from (holder_numbers l.heaps.heap) (stands l.heaps l.holder))
+decreases-holders l = length (left_from (holder_numbers l.heaps.heap) (stands l.heaps l.holder))

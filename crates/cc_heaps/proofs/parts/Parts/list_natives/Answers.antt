@@ -1,11 +1,17 @@
 use Rattle.std.proofs.Common.{[], sym, arith}
-use Rattle.cc_heaps.proofs.Listing.{natives-few, natives-next, natives-all, rising-counted, natives-limited_to}
+use Rattle.cc_heaps.proofs.Listing.{no_natives-listed, natives-few, natives-next, natives-all, rising-counted, natives-limited_to}
 use Rattle.cc_heaps.proofs.parts.Parts.list_natives.Goals as goal
 
 pub overflow_add-count : goal.overflow_add-count
 overflow_add-count g c =
     let p = c.args.self.now in
     omega (arith, natives-few p.counted c.in-Some.key c.in-Some.is c.loop-at.invariant, natives-limited_to p [] c.requires.order)
+
+pub loop-at-init : goal.loop-at-init
+loop-at-init g c = no_natives-listed c.args.self.now.counted c.first-at.result (g.N.Notices.telling c.args.out.now) c.first-at.ensures.number c.first-at.ensures.live
+
+pub loop-at-smaller : goal.loop-at-smaller
+loop-at-smaller g c = omega (arith, natives-few c.args.self.now.counted c.in-Some.key c.in-Some.is c.loop-at.invariant)
 
 pub loop-at-preserved : goal.loop-at-preserved
 loop-at-preserved g c =
