@@ -174,9 +174,9 @@ module _ (c : Counts) {at : Option NKey} {count : ℕ} {before after : Telling} 
         (subst (λ a. AreNativesTold c a count before after) (ap (number_of c) e ∙ f) k.walk)
         (rising-distinct (λ (n : HeapNative). n.number) c.natives rising) (number_of c next) later (λ n m here. (
           first
-          ∙ (first_number-key (filter (λ p. nat_lt (the_number c key.0) p.number) c.natives)
-          ∙ (ap (λ i. first_key (λ (p : HeapNative). p.number) (filter (λ p. nat_lt i p.number) c.natives)) (ap number_or_none f ∙ sym here)
-          ∙ sym (next-above (λ (p : HeapNative). p.number) c.natives rising n m))),
+              ∙ (first_number-key (filter (λ p. nat_lt (the_number c key.0) p.number) c.natives)
+              ∙ (ap (λ i. first_key (λ (p : HeapNative). p.number) (filter (λ p. nat_lt i p.number) c.natives)) (ap number_or_none f ∙ sym here)
+              ∙ sym (next-above (λ (p : HeapNative). p.number) c.natives rising n m))),
           subst (λ i. Tells after later (text_of (Listed (native i)))) (sym here) told,
         ));
     there = there;
@@ -222,9 +222,9 @@ module _ (os : List Object) {at : Option SKey} {count : ℕ} {before after : Tel
     walk = told-next (λ (o : Object). o.name) (λ (o : Object). o.key) os count before after key.0
         (subst (λ a. AreObjectsTold os (option_map (λ (key : SKey). key.0) a) count before after) e k.walk)
         one (option_map (λ (key : SKey). key.0) next) later (λ o m here.
-          let named : Some x ≡ Some o.name = sym f ∙ (ap (name_at os) (sym here) ∙ name_at-own os one o m) in
-          let is : x ≡ o.name = cc in
-          (first ∙ ap (key_after os) (sym here), subst (λ y. Tells after later (text_of (Listed y))) is told));
+        let named : Some x ≡ Some o.name = sym f ∙ (ap (name_at os) (sym here) ∙ name_at-own os one o m) in
+        let is : x ≡ o.name = cc in
+        (first ∙ ap (key_after os) (sym here), subst (λ y. Tells after later (text_of (Listed y))) is told));
     there = there;
   }
 
