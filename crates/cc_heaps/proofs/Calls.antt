@@ -19,9 +19,10 @@ use Rattle.cc_laws_heap.proofs.Natives.{native_at-there, native_at-number}
 use Rattle.cc_counted.specs.Counts.{Counts, key_left, number_or_none, count_at, with_heap}
 use Rattle.cc_counted.specs.Counts as counts
 use Rattle.cc_script.specs.Objects.{Object}
-use Rattle.cc_heaps.specs.declared.parts.Parts.{Parts}
+use Rattle.cc_heaps.specs.declared.heaps.Heaps.TheInside.{Inside}
 use Rattle.cc_heaps.specs.Keyed.{Keyed, IsInOrder, keyed_native, number_at, the_number, changed_to, left_with}
-use Rattle.cc_heaps.specs.Parts.{named, named_native, heap_of, keyed_of, IsLinked}
+use Rattle.cc_heaps.specs.Named.{named, named_native}
+use Rattle.cc_heaps.specs.Fields.{heap_of, keyed_of, IsLinked}
 use Rattle.cc_heaps.proofs.Keying.{AreHeldThere}
 use Rattle.cc_heaps.proofs.Linked.{IsLinked-counted, held-add_ref, held-cascade, held-unlink, with_counted}
 use Rattle.cc_heaps.proofs.Naming.{native_at-shown, native_names-shown, add_ref-shown, cascade-shown, unlink-shown, outcome_shown, shown}
@@ -40,7 +41,7 @@ number-there owned v key o live = go (number_at v key) refl live
     go (Some k) e l = number-named v owned key k o e
 
 -- counts fit their type
-pub count-fits : (owned : List ℕ) (p : Parts) (k : ℕ) → IsInOrder owned (keyed_of p) → count_at (native_at (counts.heap_of p.counted) k) ≤ 64000257 + times k owned
+pub count-fits : (owned : List ℕ) (p : Inside) (k : ℕ) → IsInOrder owned (keyed_of p) → count_at (native_at (counts.heap_of p.counted) k) ≤ 64000257 + times k owned
 count-fits owned p k o = go (native_at (counts.heap_of p.counted) k) refl
   where
     go : (x : Option HeapNative) → native_at (counts.heap_of p.counted) k ≡ x → count_at x ≤ 64000257 + times k owned
@@ -61,13 +62,13 @@ key_left-shown objects h g (Some k) = go (native_at g k) ∙ ap (λ o. if is_som
 -- Natives changed, each at its key
 
 -- a call that changes natives, of the counted heap and by names
-pub record Changes (p : Parts) (next : Counts) (alone whole : Heap) : Type 0 where
+pub record Changes (p : Inside) (next : Counts) (alone whole : Heap) : Type 0 where
   pub linked : IsLinked p
   pub is : next ≡ with_heap p.counted alone
   pub beside : whole ≡ shown (heap_of p) p.scripts alone
   pub held : AreHeldThere p.scripts alone.natives
 
-module _ {p : Parts} {next : Counts} {alone whole : Heap} (l : Changes p next alone whole) where
+module _ {p : Inside} {next : Counts} {alone whole : Heap} (l : Changes p next alone whole) where
   pub changed-keyed : keyed_of (with_counted p next) ≡ changed_to (keyed_of p) whole
   changed-keyed = ap (λ d. keyed_of (with_counted p d)) l.is ∙ ap (changed_to (keyed_of p)) (sym l.beside)
 
@@ -78,7 +79,7 @@ module _ {p : Parts} {next : Counts} {alone whole : Heap} (l : Changes p next al
   changed-linked = subst (λ d. IsLinked (with_counted p d)) (sym l.is) (IsLinked-counted p (with_heap p.counted alone) l.linked.native_registers l.held l.linked)
 
 -- a reference to native k given back, and one more taken
-module _ (p : Parts) (l : IsLinked p) (k : ℕ) where
+module _ (p : Inside) (l : IsLinked p) (k : ℕ) where
   pub give_back-changes : {next : Counts} → next ≡ with_heap p.counted (suspect (counts.heap_of p.counted) k) → Changes p next (suspect (counts.heap_of p.counted) k) (suspect (heap_of p) k)
   give_back-changes is = record { linked = l; is = is; beside = refl; held = l.held }
 
@@ -93,14 +94,14 @@ module _ (p : Parts) (l : IsLinked p) (k : ℕ) where
 -- Natives left
 
 -- a call that leaves natives, of the counted heap and by names: these references are owned afterwards
-pub record Leaves (p : Parts) (next : Counts) (owned : List ℕ) (call : Heap → Outcome) : Type 0 where
+pub record Leaves (p : Inside) (next : Counts) (owned : List ℕ) (call : Heap → Outcome) : Type 0 where
   pub linked : IsLinked p
   pub is : next ≡ counts.left_with p.counted (call (counts.heap_of p.counted)).heap
   pub beside : call (heap_of p) ≡ outcome_shown (heap_of p) p.scripts (call (counts.heap_of p.counted))
   pub after : IsInOrder owned (left_with (keyed_of p) (call (heap_of p)).heap)
   pub held : AreHeldThere p.scripts (call (counts.heap_of p.counted)).heap.natives
 
-module _ {p : Parts} {next : Counts} {owned : List ℕ} {call : Heap → Outcome} (l : Leaves p next owned call) where
+module _ {p : Inside} {next : Counts} {owned : List ℕ} {call : Heap → Outcome} (l : Leaves p next owned call) where
   abbrev v : Keyed
   v = keyed_of p
 
@@ -144,7 +145,7 @@ module _ {p : Parts} {next : Counts} {owned : List ℕ} {call : Heap → Outcome
       l.held l.linked)
 
 -- a reference to the native at a key given up, and that native unlinked
-module _ (p : Parts) (l : IsLinked p) (key : ℕ) (f : (owned : List ℕ) × IsInOrder (the_number (keyed_of p) key ∷ owned) (keyed_of p)) where
+module _ (p : Inside) (l : IsLinked p) (key : ℕ) (f : (owned : List ℕ) × IsInOrder (the_number (keyed_of p) key ∷ owned) (keyed_of p)) where
   abbrev number : ℕ
   number = the_number (keyed_of p) key
 

@@ -1,5 +1,5 @@
 -- WHAT CALLERS HAND IN AND GET BACK: its name, that it is there, and the references in hand.
-use Rattle.std.proofs.Common.{◌≡◌, ◌==◌, ℕ, true, List, [], ◌∷◌, ◌++◌, map, Option, Some, None, option_map, refl, sym, ◌∙◌, ap, subst, ⊎_elim}
+use Rattle.std.proofs.Common.{◌≡◌, ◌==◌, ℕ, true, List, [], ◌∷◌, ◌++◌, map, Option, Some, None, option_map, refl, sym, ◌∙◌, ap, subst, ⊎_elim, false}
 use Rattle.std.specs.Option.{is_some, option_to_list}
 use Rattle.cc_lists.specs.Members.{Among}
 use Rattle.cc_lists.proofs.Members.{Among-left, Among-right, Among-map}
@@ -9,10 +9,10 @@ use Rattle.cc_names.specs.declared.name.Name.{Name}
 use Rattle.cc_names.specs.declared.name.Name.TheVariants as name
 use Rattle.cc_names.specs.declared.number.NKey.{NKey}
 use Rattle.cc_names.specs.declared.number.SKey.{SKey}
-use Rattle.cc_names.specs.Names.{native}
+use Rattle.cc_names.specs.Names.{native, is_native}
 use Rattle.cc_model.specs.Heap.{Heap, HeapScript, silently}
 use Rattle.cc_model.specs.Cascade.{take_up, let_go}
-use Rattle.cc_model.specs.WellFormed.{native_names, script_names, names_there}
+use Rattle.cc_model.specs.WellFormed.{native_names, script_names, names_there, FitsName}
 use Rattle.cc_laws_heap.proofs.Owning.{IsIn}
 use Rattle.cc_laws_heap.specs.Sound.{numbers_of}
 use Rattle.cc_counted.specs.declared.held.Held.{Held}
@@ -20,13 +20,17 @@ use Rattle.cc_counted.specs.declared.held.Held.TheVariants as held
 use Rattle.cc_counted.specs.Counts.{name_of, numbers_held, number_or_none, native_held}
 use Rattle.cc_counted.specs.Owning.{CallersOwn}
 use Rattle.cc_script.specs.Objects.{Object, object_at, name_at}
-use Rattle.cc_heaps.specs.declared.parts.Parts.{Parts}
+use Rattle.cc_heaps.specs.declared.heaps.Heaps.TheInside.{Inside}
 use Rattle.cc_heaps.specs.Keyed.{Keyed, IsInOrder, named_object, number_at, the_number}
 use Rattle.cc_heaps.specs.Changes.{IsThere, native_name, held_name}
-use Rattle.cc_heaps.specs.Parts.{IsHeldThere, held_by, keyed_of, IsFit}
+use Rattle.cc_heaps.specs.Named.{IsHeldThere, held_by}
+use Rattle.cc_heaps.specs.Fields.{keyed_of}
+use Rattle.cc_heaps.proofs.Fit.{IsFit}
 use Rattle.cc_heaps.proofs.Calls.{number-named}
 use Rattle.cc_heaps.proofs.Naming.{name_in, name_at-script}
 use Rattle.cc_heaps.proofs.Owned.{callers-own-some}
+use Rattle.cc_names.specs.declared.kind.Kind.{Kind}
+use Rattle.cc_model.specs.Slots.{Slots}
 
 -- Natives
 
@@ -72,7 +76,7 @@ held-in owned v None o = λ y m. absurd m
 held-in owned v (Some (held.Native key)) o = λ y m. Among-left y (native_names v.heap) (script_names v.heap) (native-in owned v (Some key) o y m)
 held-in owned v (Some (held.Script key)) o = λ y m. Among-right y (native_names v.heap) (script_names v.heap) (script-in owned v key.0 o y m)
 
-module _ (p : Parts) where
+module _ (p : Inside) where
   abbrev v : Keyed
   v = keyed_of p
 
@@ -98,7 +102,7 @@ module _ (p : Parts) where
 
   module _ (owned : List ℕ) (f : IsFit owned p) where
     -- a script object is no reference
-    pub script-numbers : (key : SKey) → numbers_of (held_name v (Some (held.Script key))) ≡ []
+    script-numbers : (key : SKey) → numbers_of (held_name v (Some (held.Script key))) ≡ []
     script-numbers key = name_at-script p.scripts f.linked.script_names key.0
 
     pub numbers-held : (x : Option Held) → IsThere v x → numbers_held p.counted x ≡ numbers_of (held_name v x)
@@ -107,7 +111,7 @@ module _ (p : Parts) where
     numbers-held (Some (held.Script key)) there = sym (script-numbers key)
 
 -- what is owned may be put into a slot
-pub own-content : (p : Parts) (x : Option Held) → IsThere (keyed_of p) x → IsFit (numbers_of (held_name (keyed_of p) x) ++ []) p → CallersOwn (numbers_held p.counted x) p.counted
+pub own-content : (p : Inside) (x : Option Held) → IsThere (keyed_of p) x → IsFit (numbers_of (held_name (keyed_of p) x) ++ []) p → CallersOwn (numbers_held p.counted x) p.counted
 own-content p x there f =
     subst (λ ks. CallersOwn ks p.counted) (sym (numbers-held p (numbers_of (held_name (keyed_of p) x) ++ []) f x there))
     (callers-own-some (numbers_of (held_name (keyed_of p) x)) [] p f)
@@ -126,15 +130,25 @@ held-native None key e = absurd (cc)
 held-native (Some (held.Native k)) key e = let same : k ≡ key = cc in ap (λ q. Some (held.Native q)) same
 held-native (Some (held.Script k)) key e = absurd (cc)
 
-pub held-no_native : (p : Parts) (owned : List ℕ) → IsFit owned p → (x : Option Held) → native_held x ≡ None → numbers_of (held_name (keyed_of p) x) ≡ []
-held-no_native p owned f None e = refl
-held-no_native p owned f (Some (held.Native k)) e = absurd (cc)
-held-no_native p owned f (Some (held.Script k)) e = script-numbers p owned f k
+-- script objects have no names of natives
+not-native : (x : Name) (kind : Kind) (slots : Slots) → FitsName x kind slots → is_native x ≡ false
+not-native (name.Native k) kind slots f = absurd f
+not-native (name.Script k) kind slots f = refl
+not-native (name.Reflector k) kind slots f = refl
+
+own-names : (owned : List ℕ) (v : Keyed) → IsInOrder owned v → (o : Object) → Among o v.scripts → is_native o.name ≡ false
+own-names owned v f o m =
+    not-native o.name o.kind (named_object v.scripts o).slots
+    (f.sound.well_formed.kinds (named_object v.scripts o) (subst (Among (named_object v.scripts o)) (sym f.named) (Among-map (named_object v.scripts) o v.scripts m)))
+
+pub held-no_native : (owned : List ℕ) (v : Keyed) → IsInOrder owned v → (x : Option Held) → native_held x ≡ None → numbers_of (held_name v x) ≡ []
+held-no_native owned v f None e = refl
+held-no_native owned v f (Some (held.Native k)) e = absurd (cc)
+held-no_native owned v f (Some (held.Script k)) e = name_at-script v.scripts (own-names owned v f) k.0
 
 -- a native that is held is one reference in hand
-pub in-hand : (p : Parts) (x : Option Held) (key : NKey) → x ≡ Some (held.Native key) → IsThere (keyed_of p) x →
-    numbers_of (held_name (keyed_of p) x) ≡ the_number (keyed_of p) key.0 ∷ []
-in-hand p x key e there = ap (λ y. numbers_of (held_name (keyed_of p) y)) e ∙ native-numbers (keyed_of p) key (subst (IsThere (keyed_of p)) e there)
+pub in-hand : (v : Keyed) (x : Option Held) (key : NKey) → x ≡ Some (held.Native key) → IsThere v x → numbers_of (held_name v x) ≡ the_number v key.0 ∷ []
+in-hand v x key e there = ap (λ y. numbers_of (held_name v y)) e ∙ native-numbers v key (subst (IsThere v) e there)
 
 pub let_go-none : (h : Heap) (x : Option Name) → numbers_of x ≡ [] → let_go h x ≡ silently h
 let_go-none h None e = refl

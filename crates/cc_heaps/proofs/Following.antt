@@ -1,12 +1,14 @@
 -- WHAT FOLLOWS FROM THE CHANGES OF CALLS: the colour invariant stays, every snapshot that was fresh is fresh, and no
 -- unreached native is forgotten.
-use Rattle.std.proofs.Common.{◌≡◌, ℕ, ◌<◌, ◌≤◌, true, List, [], ◌++◌, length, get_or, Option, Some, None, option_map, refl, sym, ◌∙◌, ap, subst, inl, inr, ⊎_elim, arith}
+use Rattle.std.proofs.Common.{◌≡◌, ℕ, ◌<◌, ◌≤◌, ◌==◌, true, List, [], ◌++◌, length, get_or, Option, Some, None, option_map, refl, sym, ◌∙◌, ap, subst, inl, inr, ⊎_elim, arith}
 use Rattle.std.specs.Prelude.{IsTrue, IfSome, Result, Ok, Err, OnOk, OnErr}
-use Rattle.std.specs.Option.{option_to_list}
+use Rattle.std.specs.Option.{option_and_then, option_to_list}
 use Rattle.std.proofs.lemmas.Bool.{lt-ltb, le-leb, lt-leb}
 use Rattle.std.proofs.Math.Nat.{lt_of_not-le}
+use Rattle.std.proofs.lemmas.List.{length-map}
 use Rattle.cc_lists.specs.Members.{Among}
 use Rattle.cc_lists.proofs.Members.{Among-map}
+use Rattle.cc_lists.proofs.Searching.{find-map}
 use Rattle.cc_lists.proofs.Counting.{count_by-map}
 use Rattle.cc_lists.proofs.ListWrites.{only-member}
 use Rattle.cc_names.specs.declared.name.Name.{Name}
@@ -60,14 +62,15 @@ use Rattle.cc_laws_snapshot.proofs.BufferMarks.{suspect-purple, suspect-keeps_pu
 use Rattle.cc_laws_snapshot.proofs.StillNatives.{Still-hold_script}
 use Rattle.cc_laws_snapshot.proofs.CommandsLoyal.{hold_native-loyal, stored-loyal, still-loyal}
 use Rattle.cc_laws_snapshot.proofs.KindsHeld.{native_made-suspected, object_made-suspected, exposed-suspected, script_slot_written-suspected}
-use Rattle.cc_counted.specs.Counts.{Counts, slots_of}
+use Rattle.cc_counted.specs.Counts.{slots_of}
+use Rattle.cc_counted.specs.Counts as counts
 use Rattle.cc_counted.specs.declared.held.Held.{Held}
 use Rattle.cc_counted.specs.declared.held.Held.TheVariants as held
 use Rattle.cc_script.specs.Objects.{Object, colour_at, is_there, name_at, object_at}
-use Rattle.cc_heaps.specs.declared.parts.Parts.{Parts}
-use Rattle.cc_heaps.specs.Keyed.{Keyed, IsInOrder, counts_of, left_with, named_object, the_number}
+use Rattle.cc_heaps.specs.declared.heaps.Heaps.TheInside.{Inside}
+use Rattle.cc_heaps.specs.Keyed.{Keyed, keyed_name, keyed_native, IsInOrder, counts_of, left_with, named_object, the_number}
 use Rattle.cc_heaps.specs.Changes.{IsBlackHeld, held_name, script_name, stored_in}
-use Rattle.cc_heaps.specs.Parts.{heap_of, keyed_of, IsLinked}
+use Rattle.cc_heaps.specs.Fields.{heap_of, keyed_of, IsLinked}
 use Rattle.cc_heaps.proofs.Content.{held-in, native-in}
 use Rattle.cc_heaps.proofs.Keying.{counts-back}
 use Rattle.cc_heaps.proofs.Reaching.{name_at-found, object_at-found}
@@ -352,27 +355,13 @@ held-remembers v w o k i x within reached after e =
     subst (Remembers v.heap) (sym same)
     (stored_in-remembers v.heap k i (held_name v x) within (held-in [] v x o) reached o.sound (subst (IsSound []) same after))
 
--- what was made was below the limit, where the call did not say that it is reached
-pub made-allowed : {X E : Type 0} (full : E) (made limit : ℕ) (x : X) → (limit ≤ made → Ok x ≡ Err full) → made < limit
-made-allowed full made limit x f = lt_of_not-le (λ l. let bad = f l in cc)
-
--- A native or a plain script object is made, or nothing changes.
-module _ {X E : Type 0} (v w : Keyed) (d n : ℕ) (full : E) (room : d < 256) (few : n ≤ 64) (o : IsInOrder [] v) where
-  pub native_made-keeps : (r : Result X E) → (v.heap.limits.natives ≤ v.heap.natives_made → r ≡ Err full) →
-      OnOk r (w.heap ≡ (make_native v.heap d n).heap) → OnErr r (w ≡ v) → Keeps v.heap w.heap
-  native_made-keeps (Ok x) f heap same = subst (Keeps v.heap) (sym heap)
-      (make_native-keeps v.heap d n room few (made-allowed full v.heap.natives_made v.heap.limits.natives x f) o.sound)
-  native_made-keeps (Err e) f heap same = Keeps-same v.heap w.heap (ap (λ (u : Keyed). u.heap) same)
-
-  pub object_made-keeps : (r : Result X E) → (v.heap.limits.scripts ≤ v.heap.scripts_made → r ≡ Err full) →
-      OnOk r (w.heap ≡ make_object v.heap d Plain n) → OnErr r (w ≡ v) → Keeps v.heap w.heap
-  object_made-keeps (Ok x) f heap same = subst (Keeps v.heap) (sym heap)
-      (make_object-keeps v.heap d n room few (made-allowed full v.heap.scripts_made v.heap.limits.scripts x f) o.sound)
-  object_made-keeps (Err e) f heap same = Keeps-same v.heap w.heap (ap (λ (u : Keyed). u.heap) same)
-
 -- there is room in a slot, by the counted natives and by the definitions
-pub within-named : (p : Parts) → IsLinked p → (key i : ℕ) → i < length (slots_of (counts_of (keyed_of p)) key) →
-    i < length (slots_now (native_at (heap_of p) (the_number (keyed_of p) key)))
-within-named p l key i within =
-    let here : i < length (slots_of p.counted key) = subst (λ (d : Counts). i < length (slots_of d key)) (counts-back p l) within in
-    omega (arith, here, slots-length p l (the_number (keyed_of p) key))
+slots-counted : (v : Keyed) (k : ℕ) → length (counts.slots_at (native_at (counts.heap_of (counts_of v)) k)) ≡ length (slots_now (native_at v.heap k))
+slots-counted v k = ap (λ o. length (counts.slots_at o)) (find-map (λ (n : HeapNative). n.number == k) (keyed_native v.scripts) v.heap.natives) ∙ go (native_at v.heap k)
+  where
+    go : (o : Option HeapNative) → length (counts.slots_at (option_map (keyed_native v.scripts) o)) ≡ length (slots_now o)
+    go None = refl
+    go (Some n) = length-map n.slots (λ x. option_and_then (keyed_name v.scripts) x)
+
+pub within-named : (v : Keyed) (key i : ℕ) → i < length (slots_of (counts_of v) key) → i < length (slots_now (native_at v.heap (the_number v key)))
+within-named v key i within = omega (arith, within, slots-counted v (the_number v key))

@@ -25,12 +25,23 @@ use Rattle.cc_script.specs.Objects.{Object, object_at}
 use Rattle.cc_heaps.specs.Keyed.{IsInOrder, named_object}
 use Rattle.cc_heaps.specs.Holders.{holder_numbers}
 use Rattle.cc_heaps.specs.GrayHeld.{IsHeldIn, is_gray_held, is_gray_if_there, is_holder, numbers_in}
-use Rattle.cc_heaps.specs.Parts.{own_name, named_native, IsHeldThere, heap_of, keyed_of, IsLinked}
-use Rattle.cc_heaps.specs.declared.parts.Parts.{Parts}
+use Rattle.cc_heaps.specs.Named.{own_name, named_native, IsHeldThere}
+use Rattle.cc_heaps.specs.Fields.{heap_of, keyed_of, IsLinked}
+use Rattle.cc_heaps.specs.declared.heaps.Heaps.TheInside.{Inside}
 use Rattle.cc_heaps.proofs.Reaching.{object_at-found, same-tests}
 use Rattle.cc_heaps.proofs.Listing.{rising-counted}
 
 -- Slots walked
+
+-- one that passes is one of some
+pub any-some : {X : Type 0} (p : X → Bool) (xs : List X) (d : X) (k : ℕ) → k < length xs → p (get_or xs k d) ≡ true → list_any p xs ≡ true
+any-some p [] d k l e = absurd (omega (arith, l))
+any-some p (x ∷ xs) d zero l e = rw e refl
+any-some p (x ∷ xs) d (suc k) l e = go (any-some p xs d k (omega (arith, l)) e) (p x)
+  where
+    go : list_any p xs ≡ true → (b : Bool) → (b || list_any p xs) ≡ true
+    go ih true = refl
+    go ih false = ih
 
 -- where none passes, none does
 pub any-none : {X : Type 0} (p : X → Bool) (xs : List X) (d : X) → ((k : ℕ) → k < length xs → p (get_or xs k d) ≡ false) → list_any p xs ≡ false
@@ -97,7 +108,7 @@ module _ (h : Heap) (one_name : (x : Name) → count_by (λ (o : HeapScript). sa
           let i : Among o (filter (λ o. same_name o.name x) h.scripts) = find-among (λ o. is_gray_colour o.colour) (filter (λ o. same_name o.name x) h.scripts) o f in
           absurd (none o (Among-filtered (λ o. same_name o.name x) o h.scripts i) (same_name-true o.name x (Among-passes (λ o. same_name o.name x) o h.scripts i)))
 
-module _ (p : Parts) (l : IsLinked p) where
+module _ (p : Inside) (l : IsLinked p) where
   abbrev h : Heap
   h = heap_of p
 

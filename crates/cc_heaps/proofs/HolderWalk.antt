@@ -7,39 +7,39 @@ use Rattle.cc_lists.proofs.RisingWalks.{LooksFrom, LooksFrom-start, LooksFrom-ne
 use Rattle.cc_names.specs.declared.number.NKey.{NKey}
 use Rattle.cc_model.specs.WellFormed.{IsRising}
 use Rattle.cc_heaps.specs.Keyed.{IsInOrder, number_at, the_number}
-use Rattle.cc_heaps.specs.Changes.{IsNativeThere}
+use Rattle.cc_heaps.specs.Named.{IsLive}
 use Rattle.cc_heaps.specs.Holders.{holder_after}
 use Rattle.cc_heaps.specs.GrayHeld.{is_holder, numbers_in}
-use Rattle.cc_heaps.specs.Parts.{heap_of, keyed_of, IsLinked}
-use Rattle.cc_heaps.specs.declared.parts.Parts.{Parts}
+use Rattle.cc_heaps.specs.Fields.{heap_of, keyed_of, IsLinked}
+use Rattle.cc_heaps.specs.declared.heaps.Heaps.TheInside.{Inside}
 use Rattle.cc_heaps.proofs.Listing.{rising-counted}
 use Rattle.cc_heaps.proofs.Content.{number-some}
 use Rattle.cc_heaps.proofs.GrayHolders.{holder_numbers-is}
 
 -- the number of a native, where there is one
-abbrev pub number_of_key : Parts → Option NKey → Option ℕ
+abbrev pub number_of_key : Inside → Option NKey → Option ℕ
 number_of_key p at = option_and_then (λ (k : NKey). number_at (keyed_of p) k.0) at
 
 -- whether a number is that of a holder
-abbrev pub holds : Parts → ℕ → Bool
+abbrev pub holds : Inside → ℕ → Bool
 holds p k = is_holder p.scripts p.counted k
 
 -- the numbers that are left of the walk
-abbrev pub numbers_left : Parts → Option NKey → List ℕ
+abbrev pub numbers_left : Inside → Option NKey → List ℕ
 numbers_left p at = left_from (numbers_in p.counted) (number_of_key p at)
 
 -- the holder that is looked for is the first from a native on
-pub record IsLooking (p : Parts) (after at : Option NKey) : Type 0 where
+pub record IsLooking (p : Inside) (after at : Option NKey) : Type 0 where
   pub looks : LooksFrom (holds p) (numbers_in p.counted) (number_of_key p after) (number_of_key p at)
-  pub there : IsNativeThere (keyed_of p) at
+  pub there : IsLive p.counted.keys at
 
-module _ (p : Parts) (owned : List ℕ) (o : IsInOrder owned (keyed_of p)) (after : Option NKey) where
+module _ (p : Inside) (owned : List ℕ) (o : IsInOrder owned (keyed_of p)) (after : Option NKey) where
   rising : IsRising (numbers_in p.counted)
   rising = rising-counted p owned o
 
   -- it begins with the first native above
   pub IsLooking-start : (next : Option NKey) → number_of_key p next ≡ first_of (filter (is_above (number_of_key p after)) (numbers_in p.counted)) →
-      IsNativeThere (keyed_of p) next → IsLooking p after next
+      IsLive p.counted.keys next → IsLooking p after next
   IsLooking-start next e there = record {
     looks = LooksFrom-start (numbers_in p.counted) rising (holds p) (number_of_key p after) (number_of_key p next) e;
     there = there;
@@ -47,7 +47,7 @@ module _ (p : Parts) (owned : List ℕ) (o : IsInOrder owned (keyed_of p)) (afte
 
   module _ (at : Option NKey) (key : NKey) (is : at ≡ Some key) (looking : IsLooking p after at) where
     pub key-there : IsSome (number_at (keyed_of p) key.0)
-    key-there = subst (IsNativeThere (keyed_of p)) is looking.there
+    key-there = subst (IsLive p.counted.keys) is looking.there
 
     key-number : number_at (keyed_of p) key.0 ≡ Some (the_number (keyed_of p) key.0)
     key-number = number-some (number_at (keyed_of p) key.0) key-there
@@ -57,7 +57,7 @@ module _ (p : Parts) (owned : List ℕ) (o : IsInOrder owned (keyed_of p)) (afte
 
     -- it goes on where one is no holder
     pub IsLooking-next : holds p (the_number (keyed_of p) key.0) ≡ false → (next : Option NKey) →
-        number_of_key p next ≡ first_of (filter (is_above (number_at (keyed_of p) key.0)) (numbers_in p.counted)) → IsNativeThere (keyed_of p) next → IsLooking p after next
+        number_of_key p next ≡ first_of (filter (is_above (number_at (keyed_of p) key.0)) (numbers_in p.counted)) → IsLive p.counted.keys next → IsLooking p after next
     IsLooking-next w next e there = record {
       looks = LooksFrom-next (numbers_in p.counted) rising (holds p) (number_of_key p after) (number_at (keyed_of p) key.0) (number_of_key p next) (the_number (keyed_of p) key.0) key-number key-looks w e;
       there = there;

@@ -14,8 +14,9 @@ use Rattle.cc_model.specs.Slots.{Slots, contents}
 use Rattle.cc_model.specs.Heap.{HeapNative}
 use Rattle.cc_script.specs.Objects.{Object, object_at, is_there, name_at}
 use Rattle.cc_heaps.specs.Keyed.{keyed_name, keyed_native, key_of, counts_of}
-use Rattle.cc_heaps.specs.Parts.{IsHeldThere, IsLinked, named_native, keyed_of}
-use Rattle.cc_heaps.specs.declared.parts.Parts.{Parts}
+use Rattle.cc_heaps.specs.Named.{IsHeldThere, named_native}
+use Rattle.cc_heaps.specs.Fields.{IsLinked, keyed_of}
+use Rattle.cc_heaps.specs.declared.heaps.Heaps.TheInside.{Inside}
 use Rattle.cc_heaps.proofs.Naming.{AreScripts, name_in, named_slots}
 
 -- what natives hold, as the counted heap shows it, is there as far as it is a script object
@@ -64,5 +65,5 @@ module _ (objects : List Object) (one_name : (x : Name) → count_by (λ (o : Ob
       λ i. record n { slots = slots-back n.slots (λ x m. there n x (inl refl) m) i } ∷ natives-back ns (λ m x a b. there m x (inr a) b) i
 
 -- What the parts count is the counted heap.
-pub counts-back : (p : Parts) → IsLinked p → counts_of (keyed_of p) ≡ p.counted
+pub counts-back : (p : Inside) → IsLinked p → counts_of (keyed_of p) ≡ p.counted
 counts-back p l = ap (λ ns. record p.counted { natives = ns }) (natives-back p.scripts l.one_name l.script_names p.counted.natives l.held)

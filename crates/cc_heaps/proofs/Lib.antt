@@ -1,3 +1,4 @@
+pub mod Fit
 pub mod Naming
 pub mod Keying
 pub mod EachNative

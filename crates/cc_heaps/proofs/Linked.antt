@@ -11,18 +11,19 @@ use Rattle.cc_model.specs.End.{unlink}
 use Rattle.cc_laws_heap.specs.Freeing.{Uncounted}
 use Rattle.cc_counted.specs.Counts.{Counts}
 use Rattle.cc_script.specs.Objects.{Object}
-use Rattle.cc_heaps.specs.declared.parts.Parts.{Parts}
-use Rattle.cc_heaps.specs.Parts.{IsHeldThere, IsLinked}
+use Rattle.cc_heaps.specs.declared.heaps.Heaps.TheInside.{Inside}
+use Rattle.cc_heaps.specs.Named.{IsHeldThere}
+use Rattle.cc_heaps.specs.Fields.{IsLinked}
 use Rattle.cc_heaps.proofs.EachNative.{IsOfEach, each-add_ref, each-cascade, each-changed, each-unlink}
 use Rattle.cc_heaps.proofs.Keying.{AreHeldThere}
 use Rattle.cc_heaps.proofs.Registers.{AreLive}
 
 -- the parts with another counted heap
-abbrev pub with_counted : Parts → Counts → Parts
+abbrev pub with_counted : Inside → Counts → Inside
 with_counted p c = record p { counted = c }
 
 -- they are linked where registers and slots of natives are
-pub IsLinked-counted : (p : Parts) (c : Counts) → AreLive c.keys p.native_registers.items → AreHeldThere p.scripts c.natives → IsLinked p → IsLinked (with_counted p c)
+pub IsLinked-counted : (p : Inside) (c : Counts) → AreLive c.keys p.native_registers.items → AreHeldThere p.scripts c.natives → IsLinked p → IsLinked (with_counted p c)
 IsLinked-counted p c live held l = record {
   native_registers = live;
   script_registers = l.script_registers;

@@ -29,8 +29,9 @@ use Rattle.cc_laws_heap.proofs.Rising.{IsRising-tail, IsRising-first}
 use Rattle.cc_counted.specs.Counts.{Counts, number_at, the_number, number_or_none, first_number, number_after}
 use Rattle.cc_script.specs.Objects.{Object, is_there, name_at, first_key as first_object, key_after}
 use Rattle.cc_heaps.specs.Keyed.{IsInOrder, named_object}
-use Rattle.cc_heaps.specs.Parts.{named_native, heap_of, keyed_of}
-use Rattle.cc_heaps.specs.declared.parts.Parts.{Parts}
+use Rattle.cc_heaps.specs.Named.{named_native}
+use Rattle.cc_heaps.specs.Fields.{heap_of, keyed_of}
+use Rattle.cc_heaps.specs.declared.heaps.Heaps.TheInside.{Inside}
 use Rattle.cc_heaps.proofs.Limited.{natives-limited, scripts-limited}
 use Rattle.cc_heaps.proofs.Reaching.{HasOneKey, name_at-own}
 
@@ -235,7 +236,7 @@ pub none-left : {X : Type 0} (o : Option X) → ((x : X) → o ≡ Some x → �
 none-left None n = refl
 none-left (Some x) n = absurd (n x refl)
 
-module _ (p : Parts) where
+module _ (p : Inside) where
   pub native_names-counted : native_names (heap_of p) ≡ names_of_natives p.counted.natives
   native_names-counted = map-map (λ (n : HeapNative). native n.number) (named_native p.scripts) p.counted.natives
 

@@ -16,10 +16,12 @@ use Rattle.cc_counted.specs.Counts.{Counts, key_left}
 use Rattle.cc_counted.specs.Counts as counts
 use Rattle.cc_counted.specs.Owning.{HasKeys}
 use Rattle.cc_script.specs.Objects.{Object, name_at}
-use Rattle.cc_heaps.specs.declared.parts.Parts.{Parts}
+use Rattle.cc_heaps.specs.declared.heaps.Heaps.TheInside.{Inside}
 use Rattle.cc_heaps.specs.Keyed.{Keyed, IsInOrder, number_at, left_with}
 use Rattle.cc_heaps.specs.Changes.{KeepsKeys}
-use Rattle.cc_heaps.specs.Parts.{IsHeldThere, named, named_native, keyed_of, IsLinked, IsFit}
+use Rattle.cc_heaps.specs.Named.{IsHeldThere, named, named_native}
+use Rattle.cc_heaps.specs.Fields.{keyed_of, IsLinked}
+use Rattle.cc_heaps.proofs.Fit.{IsFit}
 use Rattle.cc_heaps.proofs.Keying.{counts-back}
 use Rattle.cc_heaps.proofs.Keys.{HasKeys-numbers}
 use Rattle.cc_heaps.proofs.LeftWith.{key_left-there}
@@ -38,7 +40,7 @@ empty-named objects (suc n) = ap (λ ss. None ∷ ss) (empty-named objects n)
 made-named : (objects : List Object) (number n : ℕ) → named_native objects (made_native number n) ≡ made_native number n
 made-named objects number n = ap (λ ss. record (made_native number n) { slots = ss }) (empty-named objects n)
 
-module _ (p : Parts) (f : IsFit [] p) (next : Counts) (slots : ℕ) (key : NKey)
+module _ (p : Inside) (f : IsFit [] p) (next : Counts) (slots : ℕ) (key : NKey)
     (natives : next.natives ≡ p.counted.natives ++ made_native (p.natives_made + 1) slots ∷ [])
     (buffer : next.buffer ≡ with_mark false (p.natives_made + 1) p.counted.buffer)
     (others : (q : ℕ) → q ≢ key.0 → counts.number_at next q ≡ counts.number_at p.counted q)
@@ -46,7 +48,7 @@ module _ (p : Parts) (f : IsFit [] p) (next : Counts) (slots : ℕ) (key : NKey)
   abbrev v : Keyed
   v = keyed_of p
 
-  abbrev made : Parts
+  abbrev made : Inside
   made = record p { counted = next; natives_made = p.natives_made + 1 }
 
   abbrev old_keys : List (Option ℕ)

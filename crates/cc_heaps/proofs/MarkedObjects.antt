@@ -17,8 +17,8 @@ use Rattle.cc_script.specs.Objects.{Object, object_at, is_there, name_at, with_c
 use Rattle.cc_marking.specs.Marking.{black_keys, marked_keys, marked_from}
 use Rattle.cc_heaps.specs.Keyed.{IsInOrder, named_object}
 use Rattle.cc_heaps.specs.Changes.{KeepsKeys}
-use Rattle.cc_heaps.specs.Parts.{heap_of, keyed_of, IsLinked}
-use Rattle.cc_heaps.specs.declared.parts.Parts.{Parts}
+use Rattle.cc_heaps.specs.Fields.{heap_of, keyed_of, IsLinked}
+use Rattle.cc_heaps.specs.declared.heaps.Heaps.TheInside.{Inside}
 use Rattle.cc_heaps.proofs.ObjectsKept.{AreObjects, AreObjects-parts, HoldsSame, with_objects, with_named, there-kept, heap-objects, linked-objects, order-objects}
 use Rattle.cc_heaps.proofs.RootNames.{black_roots, gray_roots, black-alike, marked-alike}
 
@@ -52,17 +52,17 @@ module _ (blacks marks : List ℕ) where
 -- The colours by keys are those by names
 
 -- the keys that are black, and those that are marked
-abbrev blacks : Parts → List ℕ
+abbrev blacks : Inside → List ℕ
 blacks p = black_keys p.scripts (black_roots p)
 
-abbrev marks : Parts → List ℕ
+abbrev marks : Inside → List ℕ
 marks p = marked_keys p.scripts (black_roots p) (gray_roots p)
 
 -- the objects after marking
-abbrev pub marked_objects : Parts → List Object
+abbrev pub marked_objects : Inside → List Object
 marked_objects p = marked_from (black_roots p) (gray_roots p) p.scripts
 
-module _ (p : Parts) (l : IsLinked p) (o : IsInOrder [] (keyed_of p)) where
+module _ (p : Inside) (l : IsLinked p) (o : IsInOrder [] (keyed_of p)) where
   same-colour : (q : Object) → Among q p.scripts → colour_by (blacks p) (marks p) q.key ≡ names.colour_by (black_names (heap_of p)) (marked_names (heap_of p)) q.name
   same-colour q m = λ i. colour_of (black-alike p l o q m i) (marked-alike p l o q m i)
 

@@ -22,7 +22,7 @@ use Rattle.cc_model.specs.WellFormed.{native_names}
 use Rattle.cc_laws_heap.proofs.Natives.{changed_at}
 use Rattle.cc_laws_heap.proofs.References.{times-natives_in}
 use Rattle.cc_script.specs.Objects.{Object, object_at, name_at}
-use Rattle.cc_heaps.specs.Parts.{own_name, named_native}
+use Rattle.cc_heaps.specs.Named.{own_name, named_native}
 
 -- the name of what a slot of the counted heap holds
 abbrev pub name_in : List Object → Option Name → Option Name

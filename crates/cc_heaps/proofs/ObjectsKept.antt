@@ -18,8 +18,9 @@ use Rattle.cc_laws_heap.specs.Sound.{IsSound}
 use Rattle.cc_counted.specs.Owning.{HasKeys}
 use Rattle.cc_script.specs.Objects.{Object, AreWhole, object_at, is_there, name_at}
 use Rattle.cc_heaps.specs.Keyed.{IsInOrder, named_object, named_objects}
-use Rattle.cc_heaps.specs.Parts.{own_name, named_native, script_named, IsHeldThere, IsScriptLive, heap_of, keyed_of, IsLinked}
-use Rattle.cc_heaps.specs.declared.parts.Parts.{Parts}
+use Rattle.cc_heaps.specs.Named.{own_name, named_native, script_named, IsHeldThere, IsScriptLive}
+use Rattle.cc_heaps.specs.Fields.{heap_of, keyed_of, IsLinked}
+use Rattle.cc_heaps.specs.declared.heaps.Heaps.TheInside.{Inside}
 use Rattle.cc_heaps.proofs.Keying.{counts-back}
 use Rattle.cc_heaps.proofs.Reaching.{HasOneKey, HasOneName, some-held}
 
@@ -55,7 +56,7 @@ pub record AreObjects (objects : List Object) : Type 0 where
 
 -- The parts with other objects
 
-abbrev pub with_objects : Parts → List Object → Parts
+abbrev pub with_objects : Inside → List Object → Inside
 with_objects p objects = record p { scripts = objects }
 
 -- and the lists of the heaps with them
@@ -63,12 +64,12 @@ abbrev pub with_named : Heap → List Object → Heap
 with_named h objects = record h { scripts = named_objects objects }
 
 -- what registers and natives hold has the name that it had
-pub record HoldsSame (p : Parts) (objects : List Object) : Type 0 where
+pub record HoldsSame (p : Inside) (objects : List Object) : Type 0 where
   pub registers : (key : SKey) → Among (Some key) p.script_registers.items → name_at objects key.0 ≡ name_at p.scripts key.0
   pub natives : (n : HeapNative) (key : ℕ) → Among n p.counted.natives → Among (object key) (contents n.slots) → name_at objects key ≡ name_at p.scripts key
 
 -- the objects of parts that are linked and in order are as they have to be
-pub AreObjects-parts : (owned : List ℕ) (p : Parts) → IsLinked p → IsInOrder owned (keyed_of p) → AreObjects p.scripts
+pub AreObjects-parts : (owned : List ℕ) (p : Inside) → IsLinked p → IsInOrder owned (keyed_of p) → AreObjects p.scripts
 AreObjects-parts owned p l o = record {
   one_key = l.one_key;
   one_name = l.one_name;
@@ -78,10 +79,10 @@ AreObjects-parts owned p l o = record {
 }
 
 -- the keys of natives are those of the counted heap
-pub keys-counted : (owned : List ℕ) (p : Parts) → IsLinked p → IsInOrder owned (keyed_of p) → HasKeys p.counted
+pub keys-counted : (owned : List ℕ) (p : Inside) → IsLinked p → IsInOrder owned (keyed_of p) → HasKeys p.counted
 keys-counted owned p l o = subst HasKeys (counts-back p l) o.keyed
 
-module _ (p : Parts) (objects : List Object) (l : IsLinked p) (same : HoldsSame p objects) where
+module _ (p : Inside) (objects : List Object) (l : IsLinked p) (same : HoldsSame p objects) where
   register-same : (x : Option SKey) → Among x p.script_registers.items → script_named objects x ≡ script_named p.scripts x
   register-same None m = refl
   register-same (Some key) m = same.registers key m

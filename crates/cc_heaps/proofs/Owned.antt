@@ -20,9 +20,11 @@ use Rattle.cc_laws_heap.proofs.References.{times-append, times-some, times-among
 use Rattle.cc_counted.specs.Counts.{Counts}
 use Rattle.cc_counted.specs.Counts as counts
 use Rattle.cc_counted.specs.Owning.{AreOwned, CallersOwn}
-use Rattle.cc_heaps.specs.declared.parts.Parts.{Parts}
+use Rattle.cc_heaps.specs.declared.heaps.Heaps.TheInside.{Inside}
 use Rattle.cc_heaps.specs.Keyed.{IsInOrder}
-use Rattle.cc_heaps.specs.Parts.{named_native, heap_of, keyed_of, IsFit}
+use Rattle.cc_heaps.specs.Named.{named_native}
+use Rattle.cc_heaps.specs.Fields.{heap_of, keyed_of}
+use Rattle.cc_heaps.proofs.Fit.{IsFit}
 use Rattle.cc_heaps.proofs.Naming.{native_names-shown, references-shown}
 
 -- the references are the same in another order
@@ -37,7 +39,7 @@ AreOwned-permuted early late c same o = record {
 }
 
 -- what the registers hold
-abbrev pub in_registers : Parts → List ℕ
+abbrev pub in_registers : Inside → List ℕ
 in_registers p = flat_map natives_in (contents (heap_of p).native_registers)
 
 -- what is plain is no reflector
@@ -46,7 +48,7 @@ plain-reflector (name.Native j) kind slots k e f = refl
 plain-reflector (name.Script j) kind slots k e f = refl
 plain-reflector (name.Reflector j) kind slots k e f = absurd (subst (λ d. FitsName (name.Reflector j) d slots) e f)
 
-module _ (owned : List ℕ) (p : Parts) (f : IsFit owned p) where
+module _ (owned : List ℕ) (p : Inside) (f : IsFit owned p) where
   abbrev h : Heap
   h = heap_of p
 
@@ -103,7 +105,7 @@ module _ (owned : List ℕ) (p : Parts) (f : IsFit owned p) where
   callers-own = (in_registers p ++ owned, all-owned)
 
 -- What is owned besides may be given up, or put into a slot.
-pub callers-own-some : (ks owned : List ℕ) (p : Parts) → IsFit (ks ++ owned) p → CallersOwn ks p.counted
+pub callers-own-some : (ks owned : List ℕ) (p : Inside) → IsFit (ks ++ owned) p → CallersOwn ks p.counted
 callers-own-some ks owned p f = (
   in_registers p ++ owned,
   AreOwned-permuted (in_registers p ++ (ks ++ owned)) (ks ++ (in_registers p ++ owned)) p.counted

@@ -17,7 +17,7 @@ use Rattle.cc_counted.specs.Counts.{key_left}
 use Rattle.cc_script.specs.Objects.{Object}
 use Rattle.cc_heaps.specs.Keyed.{Keyed}
 use Rattle.cc_heaps.specs.Changes.{IsNativeThere, IsScriptThere, native_name}
-use Rattle.cc_heaps.specs.Parts.{Keys, named, IsLive, IsScriptLive}
+use Rattle.cc_heaps.specs.Named.{Keys, named, IsLive, IsScriptLive}
 
 -- what registers hold is there
 abbrev pub AreLive : Keys → List (Option NKey) → Type 0

@@ -23,9 +23,10 @@ use Rattle.cc_lists.proofs.Numbers.{number-exact}
 use Rattle.cc_script.specs.Objects.{Object, is_there, name_at}
 use Rattle.cc_marking.specs.Marking.{black_keys, marked_keys}
 use Rattle.cc_heaps.specs.Keyed.{IsInOrder, named_object}
-use Rattle.cc_heaps.specs.Parts.{own_name, named_native, script_named, IsHeldThere, heap_of, keyed_of, IsLinked}
+use Rattle.cc_heaps.specs.Named.{own_name, named_native, script_named, IsHeldThere}
+use Rattle.cc_heaps.specs.Fields.{heap_of, keyed_of, IsLinked}
 use Rattle.cc_heaps.specs.Roots.{keys_in_registers, key_in, keys_in, keys_held}
-use Rattle.cc_heaps.specs.declared.parts.Parts.{Parts}
+use Rattle.cc_heaps.specs.declared.heaps.Heaps.TheInside.{Inside}
 use Rattle.cc_heaps.proofs.Reaching.{AreNamesOf, holds-some, some-held, name_at-own, name_at-found, reached-alike_from}
 
 -- Keys that are held
@@ -57,7 +58,7 @@ native-key ns k m =
 key-native : (ns : List HeapNative) (n : HeapNative) (k : ℕ) → Among n ns → Among (object k) (contents n.slots) → Among k (keys_held ns)
 key-native ns n k m i = Among-flat_map (λ (n : HeapNative). keys_in n.slots) n k ns m (Among-flat_map key_in (object k) k (contents n.slots) i (inl refl))
 
-module _ (p : Parts) (l : IsLinked p) where
+module _ (p : Inside) (l : IsLinked p) where
   -- what registers hold is there
   pub register-there : (k : ℕ) → Among k (keys_in_registers p.script_registers.items) → IsTrue (is_there p.scripts k)
   register-there k m = let f = register-key p.script_registers.items k m in subst (λ j. IsTrue (is_there p.scripts j)) f.2 (l.script_registers (Some f.0) f.1)
@@ -150,13 +151,13 @@ slots-held n x i s = Among-filter is_script x (map (λ (e : Name × Name). e.1) 
     (Among-left (native n.number, x) (slot_edges (native n.number) n.slots) (preserved_edge n) (Among-map (from_to (native n.number)) x (contents n.slots) i))) s
 
 -- the keys of the roots
-abbrev pub black_roots : Parts → List ℕ
+abbrev pub black_roots : Inside → List ℕ
 black_roots p = keys_in_registers p.script_registers.items
 
-abbrev pub gray_roots : Parts → List ℕ
+abbrev pub gray_roots : Inside → List ℕ
 gray_roots p = keys_held p.counted.natives
 
-module _ (p : Parts) (l : IsLinked p) (o : IsInOrder [] (keyed_of p)) where
+module _ (p : Inside) (l : IsLinked p) (o : IsInOrder [] (keyed_of p)) where
   -- WHAT NATIVES HOLD
   native-names : AreNamesOf p.scripts (gray_roots p) (scripts_held (heap_of p))
   native-names = record {

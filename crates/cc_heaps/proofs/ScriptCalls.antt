@@ -30,16 +30,17 @@ use Rattle.cc_laws_heap.proofs.ScriptsKept.{exposed-sound, script_slot-sound}
 use Rattle.cc_laws_heap.proofs.ScriptCommands.{blank, IsNewScript-object}
 use Rattle.cc_script.specs.Objects.{Object, AreWhole, change_object, is_there, name_at, object_at, plain_object, raised_among, with_slot}
 use Rattle.cc_script.specs.Walking.{keys_reached}
-use Rattle.cc_heaps.specs.Keyed.{IsInOrder, name_held, named_object, named_objects}
+use Rattle.cc_heaps.specs.Keyed.{Keyed, IsInOrder, name_held, named_object, named_objects}
 use Rattle.cc_heaps.specs.Changes.{IsScriptThere, KeepsKeys, script_name}
-use Rattle.cc_heaps.specs.Parts.{script_named, IsScriptLive, heap_of, keyed_of, IsLinked}
-use Rattle.cc_heaps.specs.declared.parts.Parts.{Parts}
+use Rattle.cc_heaps.specs.Named.{script_named, IsScriptLive}
+use Rattle.cc_heaps.specs.Fields.{heap_of, keyed_of, IsLinked}
+use Rattle.cc_heaps.specs.declared.heaps.Heaps.TheInside.{Inside}
 use Rattle.cc_heaps.proofs.Reaching.{HasOneKey, object_at-own, name_at-found}
 use Rattle.cc_heaps.proofs.ScriptsChanged.{KeepsNames, KeepsNames-there, KeepsNames-same, there-named, with_objects, with_named, heap-objects, keys-objects, linked-objects, order-objects}
 use Rattle.cc_heaps.proofs.ScriptWrites.{KeepsObjects, KeepsNames-written, one_key-written, plain-written, raise_among, KeepsObjects-raised, whole-raised, exposed-named, write_slot, KeepsObjects-slot, whole-slot, slot-named}
 
 -- the second parts hold these heaps, fit together and are in order, and what is there keeps its key and its name
-pub record Becomes (p q : Parts) (h : Heap) : Type 0 where
+pub record Becomes (p q : Inside) (h : Heap) : Type 0 where
   pub heap : heap_of q ≡ h
   pub names : KeepsNames p.scripts q.scripts
   pub keys : KeepsKeys (keyed_of p) (keyed_of q)
@@ -47,31 +48,31 @@ pub record Becomes (p q : Parts) (h : Heap) : Type 0 where
   pub linked : IsLinked q
 
 -- the name of what is there is the name of a script object
-pub name-among : (p : Parts) (key : ℕ) (x : Name) → name_at p.scripts key ≡ Some x → Among x (script_names (heap_of p))
+pub name-among : (p : Inside) (key : ℕ) (x : Name) → name_at p.scripts key ≡ Some x → Among x (script_names (heap_of p))
 name-among p key x e =
     let f = name_at-found p.scripts key x e in
     subst (λ y. Among y (script_names (heap_of p))) f.3
     (Among-map (λ (o : HeapScript). o.name) (named_object p.scripts f.0) (named_objects p.scripts) (Among-map (named_object p.scripts) f.0 p.scripts f.1))
 
-content-among : (p : Parts) (x : Option SKey) → IsScriptThere (keyed_of p) x → IsIn (script_names (heap_of p)) (script_name (keyed_of p) x)
+content-among : (p : Inside) (x : Option SKey) → IsScriptThere (keyed_of p) x → IsIn (script_names (heap_of p)) (script_name (keyed_of p) x)
 content-among p None t = λ y m. absurd m
 content-among p (Some key) t =
     let n = there-named p.scripts key.0 t in
     subst (λ z. IsIn (script_names (heap_of p)) z) (sym n.1) (λ y m. ⊎_elim (λ e. subst (λ z. Among z (script_names (heap_of p))) e (name-among p key.0 n.0 n.1)) (λ t. absurd t) m)
 
 -- what comes in keeps its name, and is there still
-pub content-kept : (p q : Parts) → KeepsNames p.scripts q.scripts → (x : Option SKey) → IsScriptThere (keyed_of p) x →
+pub content-kept : (p q : Inside) → KeepsNames p.scripts q.scripts → (x : Option SKey) → IsScriptThere (keyed_of p) x →
     (script_name (keyed_of q) x ≡ script_name (keyed_of p) x) × IsScriptThere (keyed_of q) x
 content-kept p q kept None t = (refl, t)
 content-kept p q kept (Some key) t = (KeepsNames-same p.scripts q.scripts kept key.0 t, KeepsNames-there p.scripts q.scripts kept key.0 t)
 
 -- nothing comes in: nothing is exposed
-pub nothing-exposed : (p : Parts) (x : Option SKey) → ((key : SKey) → x ≡ Some key → ⊥) → exposed (heap_of p) (script_name (keyed_of p) x) ≡ heap_of p
+pub nothing-exposed : (v : Keyed) (x : Option SKey) → ((key : SKey) → x ≡ Some key → ⊥) → exposed v.heap (script_name v x) ≡ v.heap
 unfolding exposed
-nothing-exposed p None none = refl
-nothing-exposed p (Some key) none = absurd (none key refl)
+nothing-exposed v None none = refl
+nothing-exposed v (Some key) none = absurd (none key refl)
 
-module _ (p : Parts) (l : IsLinked p) (o : IsInOrder [] (keyed_of p)) where
+module _ (p : Inside) (l : IsLinked p) (o : IsInOrder [] (keyed_of p)) where
   -- other script objects, as the definitions change them
   becomes : (objects : List Object) (made : ℕ) (h : Heap) → KeepsNames p.scripts objects → with_named (heap_of p) objects made ≡ h → IsSound [] h →
       HasOneKey objects → AreWhole objects → ((s : HeapScript) → Among s (named_objects objects) → s.kind ≡ Plain) → Becomes p (with_objects p objects made) h
@@ -135,7 +136,7 @@ module _ (p : Parts) (l : IsLinked p) (o : IsInOrder [] (keyed_of p)) where
       item-there (Some k) t q e = let same : k.0 ≡ q = cc in subst (λ j. IsTrue (is_there p.scripts j)) same t
 
   -- A SCRIPT REGISTER WRITTEN
-  abbrev pub with_register : ℕ → Option SKey → Parts
+  abbrev pub with_register : ℕ → Option SKey → Inside
   with_register r content = record p { script_registers = with_item p.script_registers r content }
 
   register-same : (content : Option SKey) → script_named p.scripts content ≡ script_name (keyed_of p) content
@@ -264,7 +265,7 @@ module _ (objects : List Object) (one : HasOneKey objects) (whole : AreWhole obj
       (each-push (λ s. s.kind ≡ Plain) (named_objects objects) (blank (object number) Plain n) plain refl)
 
 -- AN OBJECT MADE
-pub becomes-made : (p : Parts) (l : IsLinked p) (o : IsInOrder [] (keyed_of p)) (key n : ℕ) → is_there p.scripts key ≡ false → n ≤ 64 → p.scripts_made < p.limits.scripts →
+pub becomes-made : (p : Inside) (l : IsLinked p) (o : IsInOrder [] (keyed_of p)) (key n : ℕ) → is_there p.scripts key ≡ false → n ≤ 64 → p.scripts_made < p.limits.scripts →
     (objects : List Object) → objects ≡ p.scripts ++ plain_object key (p.scripts_made + 1) n ∷ [] →
     Becomes p (with_objects p objects (p.scripts_made + 1)) (with_object (heap_of p) Plain n)
 becomes-made p l o key n vacant few room objects e =

@@ -25,8 +25,9 @@ use Rattle.cc_counted.specs.Owning.{HasKeys}
 use Rattle.cc_script.specs.Objects.{Object, AreWhole, object_at, is_there, name_at}
 use Rattle.cc_heaps.specs.Keyed.{IsInOrder, counts_of, keyed_native, named_object, named_objects}
 use Rattle.cc_heaps.specs.Changes.{KeepsKeys}
-use Rattle.cc_heaps.specs.Parts.{own_name, named_native, script_named, IsHeldThere, IsScriptLive, heap_of, keyed_of, IsLinked}
-use Rattle.cc_heaps.specs.declared.parts.Parts.{Parts}
+use Rattle.cc_heaps.specs.Named.{own_name, named_native, script_named, IsHeldThere, IsScriptLive}
+use Rattle.cc_heaps.specs.Fields.{heap_of, keyed_of, IsLinked}
+use Rattle.cc_heaps.specs.declared.heaps.Heaps.TheInside.{Inside}
 use Rattle.cc_heaps.proofs.Reaching.{HasOneKey, same-tests, some-held}
 
 -- keys that have names keep them
@@ -80,14 +81,14 @@ HasKeys-numbers c ns same k = record {
     names = sym (map-map native (λ (n : HeapNative). n.number) c.natives) ∙ (ap (map native) (sym same) ∙ map-map native (λ (n : HeapNative). n.number) ns)
 
 -- THE PARTS with other script objects, so many of which were made
-abbrev pub with_objects : Parts → List Object → ℕ → Parts
+abbrev pub with_objects : Inside → List Object → ℕ → Inside
 with_objects p objects made = record p { scripts = objects; scripts_made = made }
 
 -- and the lists of the heaps with them
 abbrev pub with_named : Heap → List Object → ℕ → Heap
 with_named h objects made = record h { scripts = named_objects objects; scripts_made = made }
 
-module _ (p : Parts) (objects : List Object) (made : ℕ) (kept : KeepsNames p.scripts objects) (l : IsLinked p) where
+module _ (p : Inside) (objects : List Object) (made : ℕ) (kept : KeepsNames p.scripts objects) (l : IsLinked p) where
   register-kept : (x : Option SKey) → Among x p.script_registers.items → script_named objects x ≡ script_named p.scripts x
   register-kept None m = refl
   register-kept (Some key) m = KeepsNames-same p.scripts objects kept key.0 (l.script_registers (Some key) m)

@@ -18,10 +18,11 @@ use Rattle.cc_counted.specs.declared.held.Held.{Held}
 use Rattle.cc_counted.specs.declared.held.Held.TheVariants as held
 use Rattle.cc_counted.specs.Counts.{Counts, is_live, name_of, slots_at, with_heap}
 use Rattle.cc_counted.specs.Counts as counts
-use Rattle.cc_heaps.specs.declared.parts.Parts.{Parts}
+use Rattle.cc_heaps.specs.declared.heaps.Heaps.TheInside.{Inside}
 use Rattle.cc_heaps.specs.Keyed.{Keyed, IsInOrder, number_at, changed_to}
 use Rattle.cc_heaps.specs.Changes.{IsThere, held_name}
-use Rattle.cc_heaps.specs.Parts.{IsHeldThere, keyed_of, IsLinked}
+use Rattle.cc_heaps.specs.Named.{IsHeldThere}
+use Rattle.cc_heaps.specs.Fields.{keyed_of, IsLinked}
 use Rattle.cc_heaps.proofs.Calls.{Changes, changed-keyed, changed-linked}
 use Rattle.cc_heaps.proofs.Content.{held-in, held-named, new-held}
 use Rattle.cc_heaps.proofs.Linked.{held-slot, with_counted}
@@ -43,7 +44,7 @@ slots-taken h x k =
     slots-by (native_at (take_up h x) k) (option_map (λ (n : HeapNative). n.slots) (native_at h k)) (slots_in-alike h (take_up h x) (HoldsTheSame-take_up h x) (native k))
     ∙ sym (slots-by (native_at h k) (option_map (λ (n : HeapNative). n.slots) (native_at h k)) refl)
 
-module _ (p : Parts) (l : IsLinked p) (k : ℕ) where
+module _ (p : Inside) (l : IsLinked p) (k : ℕ) where
   abbrev v : Keyed
   v = keyed_of p
 

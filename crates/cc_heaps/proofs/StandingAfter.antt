@@ -51,7 +51,7 @@ use Rattle.cc_heaps.specs.Keyed.{Keyed, IsInOrder, left_with}
 use Rattle.cc_heaps.specs.Changes.{native_name, script_name, held_name, stored_in}
 use Rattle.cc_heaps.specs.Standing.{IsReached, StandsAfter}
 use Rattle.cc_heaps.proofs.Content.{native-in}
-use Rattle.cc_heaps.proofs.Following.{made-allowed, name_at-there, script_name-there}
+use Rattle.cc_heaps.proofs.Following.{name_at-there, script_name-there}
 use Rattle.cc_heaps.proofs.ScriptsChanged.{there-named}
 
 -- What was made
@@ -157,13 +157,13 @@ command-stands_after h c s range taken g m t = (step-well g m c range, command-s
 
 module _ (h : Heap) (d n : ℕ) (s : IsSound [] h) (room : d < 256) (few : n ≤ 64) where
   -- A native is made.
-  make_native-stands : h.natives_made < h.limits.natives → StandsAfter h (make_native h d n).heap (λ g. step g (Native d n))
+  pub make_native-stands : h.natives_made < h.limits.natives → StandsAfter h (make_native h d n).heap (λ g. step g (Native d n))
   unfolding effects refusal_of
   make_native-stands allowed = command-stands_after h (Native d n) s (rw (lt-ltb d 256 room, le-leb n 64 few) refl)
       (rw (lt-leb h.limits.natives h.natives_made allowed) refl)
 
   -- A plain script object is made.
-  make_object-stands : h.scripts_made < h.limits.scripts → StandsAfter h (make_object h d Plain n) (λ g. step g (Script d n))
+  pub make_object-stands : h.scripts_made < h.limits.scripts → StandsAfter h (make_object h d Plain n) (λ g. step g (Script d n))
   unfolding effects refusal_of
   make_object-stands allowed = command-stands_after h (Script d n) s (rw (lt-ltb d 256 room, le-leb n 64 few) refl)
       (rw (lt-leb h.limits.scripts h.scripts_made allowed) refl)
@@ -226,20 +226,3 @@ module _ (v w : Keyed) (o : IsInOrder [] v) (p : IsInOrder [] w) where
       (λ f h. changed-stands (set_slot v.heap (Some (object n.0)) i (script_name v x)) (λ g. graph.set_slot g (Some (object n.0)) i (script_name v x)) f
       (object_slot-stands v.heap o.sound.well_formed n.0 i (script_name v x) (script_name-there [] v o x) h r))
       e held
-
--- By the result of a call that makes an object
-
-module _ {X E : Type 0} (v w : Keyed) (d n : ℕ) (full : E) (room : d < 256) (few : n ≤ 64) (o : IsInOrder [] v) where
-  -- A native is made, where the call did not fail.
-  pub native_made-stands : (r : Result X E) → (v.heap.limits.natives ≤ v.heap.natives_made → r ≡ Err full) →
-      OnOk r (w.heap ≡ (make_native v.heap d n).heap) → OnOk r (StandsAfter v.heap w.heap (λ g. step g (Native d n)))
-  native_made-stands (Ok x) f heap = subst (λ k. StandsAfter v.heap k (λ g. step g (Native d n))) (sym heap)
-      (make_native-stands v.heap d n o.sound room few (made-allowed full v.heap.natives_made v.heap.limits.natives x f))
-  native_made-stands (Err e) f heap = tt
-
-  -- The same of a plain script object.
-  pub object_made-stands : (r : Result X E) → (v.heap.limits.scripts ≤ v.heap.scripts_made → r ≡ Err full) →
-      OnOk r (w.heap ≡ make_object v.heap d Plain n) → OnOk r (StandsAfter v.heap w.heap (λ g. step g (Script d n)))
-  object_made-stands (Ok x) f heap = subst (λ k. StandsAfter v.heap k (λ g. step g (Script d n))) (sym heap)
-      (make_object-stands v.heap d n o.sound room few (made-allowed full v.heap.scripts_made v.heap.limits.scripts x f))
-  object_made-stands (Err e) f heap = tt

@@ -22,9 +22,10 @@ use Rattle.cc_laws_heap.proofs.Swept.{sweep-sound}
 use Rattle.cc_script.specs.Objects.{Object, name_at}
 use Rattle.cc_heaps.specs.Keyed.{IsInOrder, name_held, named_object, named_objects}
 use Rattle.cc_heaps.specs.Changes.{KeepsKeys}
-use Rattle.cc_heaps.specs.Parts.{named_native, heap_of, keyed_of, IsLinked}
+use Rattle.cc_heaps.specs.Named.{named_native}
+use Rattle.cc_heaps.specs.Fields.{heap_of, keyed_of, IsLinked}
 use Rattle.cc_heaps.specs.Sweeping.{is_white, not_white, white_names, freed}
-use Rattle.cc_heaps.specs.declared.parts.Parts.{Parts}
+use Rattle.cc_heaps.specs.declared.heaps.Heaps.TheInside.{Inside}
 use Rattle.cc_heaps.proofs.Agreeing.{filter-agree}
 use Rattle.cc_heaps.proofs.Reaching.{HasOneKey, same-tests, some-held, name_at-own, name_at-found}
 use Rattle.cc_heaps.proofs.ObjectsKept.{AreObjects, AreObjects-parts, HoldsSame, with_objects, with_named, there-kept, there-named, heap-objects, linked-objects, order-objects}
@@ -36,15 +37,15 @@ abbrev stays : Object → Bool
 stays o = not (is_white o)
 
 -- the objects that are left
-abbrev pub left_objects : Parts → List Object
+abbrev pub left_objects : Inside → List Object
 left_objects p = not_white p.scripts
 
 -- THE NAMES OF THE WHITE ONES are those that are not marked
-pub white-unmarked : (p : Parts) → white_names p.scripts ≡ unmarked (heap_of p)
+pub white-unmarked : (p : Inside) → white_names p.scripts ≡ unmarked (heap_of p)
 white-unmarked p = sym (ap (map (λ (o : HeapScript). o.name)) (filter-map (λ (o : HeapScript). is_white_colour o.colour) (named_object p.scripts) p.scripts)
     ∙ map-map (λ (o : HeapScript). o.name) (named_object p.scripts) (filter is_white p.scripts))
 
-module _ (p : Parts) (l : IsLinked p) (o : IsInOrder [] (keyed_of p)) (c : HasColours (heap_of p)) where
+module _ (p : Inside) (l : IsLinked p) (o : IsInOrder [] (keyed_of p)) (c : HasColours (heap_of p)) where
   -- White or marked
 
   white-there : (q : Object) → Among q p.scripts → is_white q ≡ true → Among q.name (unmarked (heap_of p))

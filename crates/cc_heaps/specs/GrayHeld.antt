@@ -7,7 +7,7 @@ use Rattle.cc_names.specs.declared.kind.Colour.{Colour}
 use Rattle.cc_model.specs.Heap.{native_at, is_gray_colour}
 use Rattle.cc_counted.specs.Counts.{Counts, heap_of, slots_at}
 use Rattle.cc_script.specs.Objects.{Object, colour_at}
-use Rattle.cc_heaps.specs.Parts.{IsHeldThere}
+use Rattle.cc_heaps.specs.Named.{IsHeldThere}
 
 abbrev pub is_gray_if_there : Option Colour → Bool
 is_gray_if_there None = false

@@ -3,7 +3,8 @@ pub mod Changes
 pub mod HasKey
 pub mod Holders
 pub mod Few
-pub mod Parts
+pub mod Named
+pub mod Fields
 pub mod GrayHeld
 pub mod Roots
 pub mod Sweeping

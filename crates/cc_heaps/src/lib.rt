@@ -14,7 +14,6 @@
 
 mod heaps;
 mod make_stop;
-mod parts;
 
 pub use heaps::Heaps;
 pub use make_stop::MakeStop;

@@ -1,18 +1,18 @@
 use Rattle.std.proofs.Common.{[], sym, subst}
 use Rattle.cc_script.specs.Objects.{name_at}
-use Rattle.cc_heaps.specs.Keyed.{Keyed, IsInOrder}
-use Rattle.cc_heaps.specs.Parts.{heap_of, keyed_of}
 use Rattle.cc_heaps.specs.Standing.{StillStands}
-use Rattle.cc_heaps.proofs.StandingStill.{exposed-still}
-use Rattle.cc_heaps.proofs.Following.{Keeps, exposed-keeps}
 use Rattle.cc_heaps.proofs.FewCounts.{few-alone}
+use Rattle.cc_heaps.proofs.Following.{Keeps, exposed-keeps}
+use Rattle.cc_heaps.proofs.StandingStill.{exposed-still}
 use Rattle.cc_heaps.proofs.heaps.Heaps.expose.Goals as goal
 
-keeps : (c : goal.After-expose) → Keeps c.args.self.now.heap (heap_of c.expose.new.self)
-keeps c = subst (λ (v : Keyed). IsInOrder [] v → Keeps v.heap (heap_of c.expose.new.self)) c.self.view_is
-    (λ o. subst (Keeps (heap_of c.self.inside.parts)) (sym c.expose.ensures.heap)
-    (exposed-keeps (heap_of c.self.inside.parts) (name_at c.self.inside.parts.scripts c.args.key.0) o.sound))
-    c.requires.order
+keeps : (c : goal.After-expose_content) → Keeps c.args.self.now.heap c.expose_content.new.self.heap
+keeps c =
+    let v = c.args.self.now in
+    subst (Keeps v.heap) (sym c.expose_content.ensures.heap) (exposed-keeps v.heap (name_at v.scripts c.args.key.0) c.requires.order.sound)
+
+pub returns-clause-counts : goal.returns-clause-counts
+returns-clause-counts c = few-alone _ c.expose_content.ensures.order
 
 pub returns-clause-colours : goal.returns-clause-colours
 returns-clause-colours c = (keeps c).follows.colours
@@ -24,10 +24,6 @@ pub returns-clause-suspected : goal.returns-clause-suspected
 returns-clause-suspected c = (keeps c).suspected
 
 pub returns-clause-stands : goal.returns-clause-stands
-returns-clause-stands c = subst (λ (v : Keyed). IsInOrder [] v → StillStands v.heap (heap_of c.expose.new.self)) c.self.view_is
-    (λ o. subst (StillStands (heap_of c.self.inside.parts)) (sym c.expose.ensures.heap)
-    (exposed-still (heap_of c.self.inside.parts) (name_at c.self.inside.parts.scripts c.args.key.0) o.sound))
-    c.requires.order
-
-pub returns-clause-counts : goal.returns-clause-counts
-returns-clause-counts c = few-alone (keyed_of c.expose.new.self) c.expose.ensures.order
+returns-clause-stands c =
+    let v = c.args.self.now in
+    subst (StillStands v.heap) (sym c.expose_content.ensures.heap) (exposed-still v.heap (name_at v.scripts c.args.key.0) c.requires.order.sound)

@@ -1,50 +1,65 @@
-use Rattle.std.proofs.Common.{◌≡◌, sym, ap, subst}
+use Rattle.std.proofs.Common.{ap, subst, sym}
 use Rattle.cc_model.specs.Heap.{suspect}
 use Rattle.cc_model.specs.WellFormed.{IsWellFormed}
-use Rattle.cc_heaps.specs.Keyed.{Keyed, IsInOrder, the_number}
-use Rattle.cc_heaps.specs.Parts.{heap_of, keyed_of}
-use Rattle.cc_heaps.specs.Standing.{StillStands}
-use Rattle.cc_heaps.proofs.StandingStill.{buffer-goes_on}
-use Rattle.cc_heaps.proofs.Following.{Keeps, suspect-keeps}
-use Rattle.cc_heaps.specs.Changes.{KeepsKeys}
-use Rattle.cc_heaps.proofs.KeysKept.{KeepsKeys-changed}
+use Rattle.cc_heaps.specs.Keyed.{Keyed, the_number, changed_to}
+use Rattle.cc_heaps.specs.Fields.{keyed_of}
+use Rattle.cc_heaps.specs.Standing.{KeepsColours, KeepsFresh, KeepsSuspected, StillStands}
+use Rattle.cc_heaps.proofs.Calls.{number-there, changed-keyed, changed-order, changed-linked, give_back-changes}
 use Rattle.cc_heaps.proofs.FewCounts.{few-owned}
+use Rattle.cc_heaps.proofs.Following.{Keeps, suspect-keeps}
+use Rattle.cc_heaps.proofs.KeysKept.{KeepsKeys-changed}
+use Rattle.cc_heaps.proofs.Ordered.{IsInOrder-suspect}
+use Rattle.cc_heaps.proofs.Owned.{callers-own}
+use Rattle.cc_heaps.proofs.StandingStill.{buffer-goes_on}
 use Rattle.cc_heaps.proofs.heaps.Heaps.give_back.Goals as goal
 
-pub returns-clause-order : goal.returns-clause-order
-returns-clause-order c owned o = c.give_back.ensures.order owned (subst (λ (v : Keyed). IsInOrder owned v) (sym c.self.view_is) o)
+pub give_back-requires-clause-owned : goal.give_back-requires-clause-owned
+give_back-requires-clause-owned c =
+    let f = rw (← c.self.view_is) at c.requires.owned in
+    callers-own f.0 c.self.inside (record { order = f.1; linked = c.self.invariant })
 
-keeps : (c : goal.After-give_back) → Keeps c.args.self.now.heap (heap_of c.give_back.new.self)
+pub invariant_of-self : goal.invariant_of-self
+invariant_of-self c =
+    changed-linked (give_back-changes c.self.inside c.self.invariant (the_number (keyed_of c.self.inside) c.args.key.0) c.give_back.ensures.heap)
+
+pub returns-clause-heap : goal.returns-clause-heap
+returns-clause-heap c =
+    rw (← c.self.view_is)
+    (changed-keyed (give_back-changes c.self.inside c.self.invariant (the_number (keyed_of c.self.inside) c.args.key.0) c.give_back.ensures.heap))
+
+pub returns-clause-keys : goal.returns-clause-keys
+returns-clause-keys c = KeepsKeys-changed c.args.self.now _ _ (returns-clause-heap c)
+
+pub returns-clause-order : goal.returns-clause-order
+returns-clause-order c owned =
+    let p = c.self.inside in
+    let k = the_number (keyed_of p) c.args.key.0 in
+    let live = rw (← c.self.view_is) at c.requires.live in
+    rw (← c.self.view_is)
+    (λ o. changed-order (give_back-changes p c.self.invariant k c.give_back.ensures.heap) (IsInOrder-suspect owned (keyed_of p) k (number-there owned (keyed_of p) c.args.key.0 o live) o))
+
+pub returns-clause-counts : goal.returns-clause-counts
+returns-clause-counts c = few-owned _
+
+keeps : (c : goal.After-give_back) → Keeps c.args.self.now.heap (suspect c.args.self.now.heap (the_number c.args.self.now c.args.key.0))
 keeps c =
-    let before = keyed_of c.self.inside.parts in
-    let owned = c.requires.owned.0 in
-    subst (λ (v : Keyed). IsInOrder owned v → Keeps v.heap (heap_of c.give_back.new.self)) c.self.view_is
-    (λ o.
-    let same : heap_of c.give_back.new.self ≡ suspect before.heap (the_number before c.args.key.0) = ap (λ (w : Keyed). w.heap) c.give_back.ensures.heap in
-    subst (Keeps before.heap) (sym same)
-    (suspect-keeps before.heap (the_number before c.args.key.0) o.sound.well_formed
-    (subst IsWellFormed same (c.give_back.ensures.order owned o).sound.well_formed)))
-    c.requires.owned.1
+    let before = c.args.self.now in
+    let k = the_number before c.args.key.0 in
+    let f = c.requires.owned in
+    suspect-keeps before.heap k f.1.sound.well_formed (IsInOrder-suspect f.0 before k (number-there f.0 before c.args.key.0 f.1 c.requires.live) f.1).sound.well_formed
 
 pub returns-clause-colours : goal.returns-clause-colours
-returns-clause-colours c = (keeps c).follows.colours
+returns-clause-colours c =
+    subst (λ (w : Keyed). KeepsColours c.args.self.now.heap w.heap) (sym (returns-clause-heap c)) ((keeps c).follows.colours)
 
 pub returns-clause-fresh : goal.returns-clause-fresh
-returns-clause-fresh c = (keeps c).follows.fresh
+returns-clause-fresh c =
+    subst (λ (w : Keyed). KeepsFresh c.args.self.now.heap w.heap) (sym (returns-clause-heap c)) ((keeps c).follows.fresh)
 
 pub returns-clause-suspected : goal.returns-clause-suspected
-returns-clause-suspected c = (keeps c).suspected
+returns-clause-suspected c =
+    subst (λ (w : Keyed). KeepsSuspected c.args.self.now.heap w.heap) (sym (returns-clause-heap c)) ((keeps c).suspected)
 
 pub returns-clause-stands : goal.returns-clause-stands
 returns-clause-stands c =
-    let before = keyed_of c.self.inside.parts in
-    subst (λ (v : Keyed). StillStands v.heap (heap_of c.give_back.new.self)) c.self.view_is
-    (subst (λ (w : Keyed). StillStands before.heap w.heap) (sym c.give_back.ensures.heap)
-    (buffer-goes_on before.heap (suspect before.heap (the_number before c.args.key.0)).buffer).stands)
-
-pub returns-clause-keys : goal.returns-clause-keys
-returns-clause-keys c = subst (λ (v : Keyed). KeepsKeys v (keyed_of c.give_back.new.self)) c.self.view_is
-    (KeepsKeys-changed (keyed_of c.self.inside.parts) (keyed_of c.give_back.new.self) _ c.give_back.ensures.heap)
-
-pub returns-clause-counts : goal.returns-clause-counts
-returns-clause-counts c = few-owned (keyed_of c.give_back.new.self)
+    subst (λ (w : Keyed). StillStands c.args.self.now.heap w.heap) (sym (returns-clause-heap c)) ((buffer-goes_on c.args.self.now.heap (suspect c.args.self.now.heap (the_number c.args.self.now c.args.key.0)).buffer).stands)

@@ -1,20 +1,67 @@
-use Rattle.std.proofs.Common.{[], sym, subst}
-use Rattle.cc_model.specs.Colours.{HasColours}
+use Rattle.std.proofs.Common.{◌≡◌, [], sym, ◌∙◌, ap, subst}
+use Rattle.cc_lists.specs.Members.{Among}
+use Rattle.cc_model.specs.Colours.{marked, HasColours}
+use Rattle.cc_marking.specs.Marking.{marked_from}
+use Rattle.cc_heaps.specs.Keyed.{IsInOrder}
+use Rattle.cc_heaps.specs.Changes.{KeepsKeys}
+use Rattle.cc_heaps.specs.Fields.{keyed_of, heap_of, IsLinked}
+use Rattle.cc_heaps.specs.Roots.{keys_in_registers}
+use Rattle.cc_heaps.proofs.ObjectsKept.{keys-counted, with_objects}
+use Rattle.cc_heaps.proofs.RootNames.{register-there, native-there}
+use Rattle.cc_heaps.proofs.MarkedObjects.{marked_objects, heap-marked, keys-marked, order-marked, linked-marked}
 use Rattle.cc_laws_heap.proofs.Marking.{HasColours-marked}
-use Rattle.cc_heaps.specs.Keyed.{Keyed, IsInOrder}
-use Rattle.cc_heaps.specs.Parts.{heap_of, keyed_of}
-use Rattle.cc_heaps.specs.Standing.{StillStands}
-use Rattle.cc_heaps.proofs.StandingStill.{marked-still}
 use Rattle.cc_heaps.proofs.FewCounts.{few-alone}
+use Rattle.cc_heaps.proofs.StandingStill.{marked-still}
 use Rattle.cc_heaps.proofs.heaps.Heaps.mark_scripts.Goals as goal
 
-pub returns-clause-stands : goal.returns-clause-stands
-returns-clause-stands c = subst (λ (v : Keyed). IsInOrder [] v → StillStands v.heap (heap_of c.mark_scripts.new.self)) c.self.view_is
-    (λ o. subst (StillStands (heap_of c.self.inside.parts)) (sym c.mark_scripts.ensures.heap) (marked-still (heap_of c.self.inside.parts) o.sound))
-    c.requires.order
+pub new-slots-requires : goal.new-slots-requires
+new-slots-requires c = record { keyed = keys-counted [] c.self.inside c.self.invariant (rw (← c.self.view_is) at c.requires.order) }
 
-pub returns-clause-colours : goal.returns-clause-colours
-returns-clause-colours c = subst HasColours (sym c.mark_scripts.ensures.heap) (HasColours-marked (heap_of c.self.inside.parts))
+-- the roots are the keys of registers, and those of natives
+registers : (c : goal.After-mark) → c.new-registers.result ≡ keys_in_registers c.self.inside.script_registers.items
+registers c = c.new-registers.ensures ∙ ap keys_in_registers c.as_slice.ensures.value
+
+pub mark-requires-clause-whole : goal.mark-requires-clause-whole
+mark-requires-clause-whole c = (rw (← c.self.view_is) at c.requires.order).whole
+
+pub mark-requires-clause-black : goal.mark-requires-clause-black
+mark-requires-clause-black c = λ k m.
+    register-there c.self.inside c.self.invariant k
+    (subst (Among k) (c.new-registers.ensures ∙ ap keys_in_registers c.as_slice.ensures.value) m)
+
+pub mark-requires-clause-gray : goal.mark-requires-clause-gray
+mark-requires-clause-gray c = λ k m. native-there c.self.inside c.self.invariant k (subst (Among k) c.new-slots.ensures m)
+
+-- the objects are those of the marking
+objects : (c : goal.After-mark) → marked_objects c.self.inside ≡ c.mark.new.scripts
+objects c =
+    sym (c.mark.ensures.colours ∙ (λ i. marked_from (registers c i) (c.new-slots.ensures i) c.self.inside.scripts))
+
+pub returns-clause-heap : goal.returns-clause-heap
+returns-clause-heap c =
+    let p = c.self.inside in
+    rw (← c.self.view_is) (subst (λ os. heap_of (with_objects p os) ≡ marked (heap_of p)) (objects c) (heap-marked p c.self.invariant (rw (← c.self.view_is) at c.requires.order)))
+
+pub returns-clause-keys : goal.returns-clause-keys
+returns-clause-keys c =
+    let p = c.self.inside in
+    rw (← c.self.view_is) (subst (λ os. KeepsKeys (keyed_of p) (keyed_of (with_objects p os))) (objects c) (keys-marked p c.self.invariant (rw (← c.self.view_is) at c.requires.order)))
+
+pub returns-clause-order : goal.returns-clause-order
+returns-clause-order c =
+    let p = c.self.inside in
+    subst (λ os. IsInOrder [] (keyed_of (with_objects p os))) (objects c) (order-marked p c.self.invariant (rw (← c.self.view_is) at c.requires.order))
+
+pub invariant_of-self : goal.invariant_of-self
+invariant_of-self c =
+    let p = c.self.inside in
+    subst (λ os. IsLinked (with_objects p os)) (objects c) (linked-marked p c.self.invariant (rw (← c.self.view_is) at c.requires.order))
 
 pub returns-clause-counts : goal.returns-clause-counts
-returns-clause-counts c = few-alone (keyed_of c.mark_scripts.new.self) c.mark_scripts.ensures.order
+returns-clause-counts c = few-alone _ (returns-clause-order c)
+
+pub returns-clause-stands : goal.returns-clause-stands
+returns-clause-stands c = rw (returns-clause-heap c) ((marked-still c.args.self.now.heap c.requires.order.sound))
+
+pub returns-clause-colours : goal.returns-clause-colours
+returns-clause-colours c = subst HasColours (sym (returns-clause-heap c)) ((HasColours-marked c.args.self.now.heap))

@@ -1,9 +1,101 @@
-use Rattle.std.proofs.Common.{sym, subst}
+use Rattle.std.proofs.Common.{◌≡◌, ◌==◌, ◌≤◌, ℕ, false, List, [], map, count_by, replicate, Option, None, refl, sym, ◌∙◌, ap, subst, arith, rules}
+use Rattle.std.specs.Global.{Vec}
+use Rattle.cc_lists.specs.Members.{Among}
+use Rattle.cc_names.specs.Allowance.{Allowance}
+use Rattle.cc_names.specs.declared.name.Name.{Name}
+use Rattle.cc_names.specs.declared.number.NKey.{NKey}
+use Rattle.cc_names.specs.declared.number.SKey.{SKey}
+use Rattle.cc_names.specs.Names.{same_name, is_native}
+use Rattle.cc_model.specs.Heap.{Heap, empty_heap}
+use Rattle.cc_laws_heap.specs.Sound.{IsSound}
+use Rattle.cc_counted.specs.Counts.{Counts, no_counts}
+use Rattle.cc_script.specs.Objects.{Object}
+use Rattle.cc_heaps.specs.declared.heaps.Heaps.TheInside.{Inside}
+use Rattle.cc_heaps.specs.Keyed.{Keyed, IsInOrder, named_object}
+use Rattle.cc_heaps.specs.Named.{named, named_native, script_named, IsLive, IsScriptLive}
+use Rattle.cc_heaps.specs.Fields.{keyed_of, IsLinked}
+use Rattle.cc_heaps.proofs.Keying.{AreHeldThere}
+use Rattle.cc_heaps.proofs.Registers.{none-length, none-mapped, none-each}
 use Rattle.cc_model.specs.Graph.{empty_graph}
-use Rattle.cc_model.specs.Heap.{Heap}
 use Rattle.cc_model.specs.StandsFor.{StandsFor}
 use Rattle.cc_laws_heap.proofs.CommandsStand.{empty-stands}
 use Rattle.cc_heaps.proofs.heaps.Heaps.new.Goals as goal
 
+-- Nothing is there yet
+
+abbrev empty_keyed : Allowance → Keyed
+empty_keyed l = record { heap = empty_heap l; keys = []; scripts = [] }
+
+empty-sound : (l : Allowance) → IsSound [] (empty_heap l)
+empty-sound l = search rules
+
+empty-order : (l : Allowance) → (l.natives ≤ 1000000) × (l.scripts ≤ 1000000) → IsInOrder [] (empty_keyed l)
+empty-order l few = record {
+  sound = empty-sound l;
+  keyed = record { key_of = λ n m. absurd m; there = λ key k e. absurd (cc); one_key = λ p q k e f. absurd (cc); rising = tt };
+  named = refl;
+  one_key = λ key. omega arith;
+  whole = λ o q m. absurd m;
+  limits = few;
+  plain = λ o m. absurd m;
+  unpreserved = λ n m. absurd m;
+  no_entries = refl;
+}
+
+module _ (natives : Vec (Option NKey)) (scripts : Vec (Option SKey)) (limits : Allowance) {counted : Counts} {objects : List Object}
+    (no_natives : natives.items ≡ replicate 256 None) (no_scripts : scripts.items ≡ replicate 256 None) (none_counted : counted ≡ no_counts) (none_made : objects ≡ []) where
+  abbrev p : Inside
+  p = record { native_registers = natives; script_registers = scripts; counted = counted; scripts = objects; natives_made = 0; scripts_made = 0; limits = limits }
+
+  empty-is : keyed_of p ≡ empty_keyed limits
+  empty-is =
+      (λ i. record {
+        heap = record {
+          native_registers = map (named (none_counted i).keys) natives.items;
+          script_registers = map (script_named (none_made i)) scripts.items;
+          natives = map (named_native (none_made i)) (none_counted i).natives;
+          scripts = map (named_object (none_made i)) (none_made i);
+          entries = [];
+          buffer = (none_counted i).buffer;
+          natives_made = 0;
+          scripts_made = 0;
+          limits = limits;
+        };
+        keys = (none_counted i).keys;
+        scripts = none_made i;
+      })
+      ∙ (λ i. record {
+        heap = record (empty_heap limits) {
+          native_registers = none-mapped 256 natives.items no_natives (named []) refl i;
+          script_registers = none-mapped 256 scripts.items no_scripts (script_named []) refl i;
+        };
+        keys = [];
+        scripts = [];
+      })
+
+  empty-linked : IsLinked p
+  empty-linked = record {
+    native_registers = none-each 256 natives.items no_natives (IsLive counted.keys) tt;
+    script_registers = none-each 256 scripts.items no_scripts (IsScriptLive objects) tt;
+    registers = (none-length 256 natives.items no_natives, none-length 256 scripts.items no_scripts);
+    held = subst (λ (c : Counts). AreHeldThere objects c.natives) (sym none_counted) (λ n x m. absurd m);
+    one_key = subst (λ os. (key : ℕ) → count_by (λ (o : Object). o.key == key) os ≤ 1) (sym none_made) (λ key. omega arith);
+    one_name = subst (λ os. (x : Name) → count_by (λ (o : Object). same_name o.name x) os ≤ 1) (sym none_made) (λ x. omega arith);
+    script_names = subst (λ os. (o : Object) → Among o os → is_native o.name ≡ false) (sym none_made) (λ o m. absurd m);
+  }
+
+pub returns-clause-empty : goal.returns-clause-empty
+returns-clause-empty c =
+    ap (λ (v : Keyed). v.heap) (empty-is c.in_ok-no_natives.field-0 c.in_ok-no_scripts.field-0 c.args.limits c.in_ok-no_natives.ensures c.in_ok-no_scripts.ensures c.new.ensures.natives c.new-2.ensures)
+
+pub returns-clause-order : goal.returns-clause-order
+returns-clause-order c =
+    subst (IsInOrder []) (sym (empty-is c.in_ok-no_natives.field-0 c.in_ok-no_scripts.field-0 c.args.limits c.in_ok-no_natives.ensures c.in_ok-no_scripts.ensures c.new.ensures.natives c.new-2.ensures))
+    (empty-order c.args.limits (omega (arith, c.natives.ensures.same, c.natives.ensures.within), omega (arith, c.scripts.ensures.same, c.scripts.ensures.within)))
+
+pub invariant_of-result : goal.invariant_of-result
+invariant_of-result c =
+    empty-linked c.in_ok-no_natives.field-0 c.in_ok-no_scripts.field-0 c.args.limits c.in_ok-no_natives.ensures c.in_ok-no_scripts.ensures c.new.ensures.natives c.new-2.ensures
+
 pub returns-clause-stands : goal.returns-clause-stands
-returns-clause-stands c = subst (λ (h : Heap). StandsFor h (empty_graph c.args.limits)) (sym c.in_ok-new.ensures.empty) (empty-stands c.args.limits)
+returns-clause-stands c = subst (λ (h : Heap). StandsFor h (empty_graph c.args.limits)) (sym (returns-clause-empty c)) (empty-stands c.args.limits)

@@ -1,39 +1,76 @@
-use Rattle.std.proofs.Common.{[], subst}
-use Rattle.std.specs.Prelude.{OnOk}
+use Rattle.std.proofs.Common.{◌<◌, Some, map, arith, sym, ◌∙◌, ap, subst}
 use Rattle.cc_model.specs.declared.command.Command.TheVariants.{Native}
 use Rattle.cc_model.specs.Graph.{step}
-use Rattle.cc_heaps.specs.declared.make_stop.MakeStop.TheVariants.{Full}
-use Rattle.cc_heaps.specs.Keyed.{Keyed, IsInOrder}
-use Rattle.cc_heaps.specs.Parts.{heap_of, keyed_of}
-use Rattle.cc_heaps.proofs.Following.{Keeps, native_made-keeps}
-use Rattle.cc_heaps.specs.Standing.{StandsAfter}
-use Rattle.cc_heaps.proofs.StandingAfter.{native_made-stands}
+use Rattle.cc_model.specs.declared.item.Item.TheVariants.{Event as of_event}
+use Rattle.cc_model.specs.Telling.{Tells}
+use Rattle.cc_model.specs.Texts.{texts_of}
+use Rattle.cc_model.specs.Effects.{put_in_register}
+use Rattle.cc_heaps.specs.Keyed.{Keyed}
+use Rattle.cc_heaps.specs.Changes.{native_name}
+use Rattle.cc_heaps.specs.Few.{AreFew}
+use Rattle.cc_heaps.specs.Standing.{KeepsColours, KeepsFresh, KeepsSuspected, StandsAfter}
 use Rattle.cc_heaps.proofs.FewCounts.{few-alone}
-use Rattle.cc_heaps.proofs.heaps.Heaps.new_native.Given as given
+use Rattle.cc_heaps.proofs.Following.{make_native-keeps}
+use Rattle.cc_heaps.proofs.StandingAfter.{make_native-stands}
+use Rattle.cc_heaps.proofs.Made.{made-is, made-keeps}
 use Rattle.cc_heaps.proofs.heaps.Heaps.new_native.Goals as goal
 
-keeps : (g : given.Over) (c : goal.After-new_native g) → Keeps c.args.self.now.heap (heap_of c.new_native.new.self)
-keeps g c = subst (λ (v : Keyed). IsInOrder [] v → Keeps v.heap (heap_of c.new_native.new.self)) c.self.view_is
-    (λ o. native_made-keeps (keyed_of c.self.inside.parts) (keyed_of c.new_native.new.self) c.args.r c.args.slots Full c.ranges.r.fits c.requires.slots o
-    c.new_native.result c.new_native.ensures.full_always c.new_native.ensures.heap c.new_native.ensures.same)
-    c.requires.order
+pub returns-in-Ok-clause-heap : goal.returns-in-Ok-clause-heap
+returns-in-Ok-clause-heap g c =
+    let mid = c.put.new.self in
+    ap (λ (v : Keyed). v.heap) c.put_in_register.ensures.heap
+    ∙ ap (λ o. o.heap)
+    (made-is c.args.self.now.heap mid.heap (native_name mid (Some c.in-Ok.key)) c.args.r c.args.slots c.in-Ok.ensures.heap c.in-Ok.ensures.name)
 
-pub returns-clause-colours : goal.returns-clause-colours
-returns-clause-colours g c = (keeps g c).follows.colours
+pub returns-in-Ok-clause-told : goal.returns-in-Ok-clause-told
+returns-in-Ok-clause-told g c =
+    let mid = c.put.new.self in
+    subst (λ o. Tells (g.N.Notices.telling c.args.out.now) (g.N.Notices.telling c.put_in_register.new.out) (texts_of (map of_event o.events)))
+    (made-is c.args.self.now.heap mid.heap (native_name mid (Some c.in-Ok.key)) c.args.r c.args.slots c.in-Ok.ensures.heap c.in-Ok.ensures.name)
+    c.put_in_register.ensures.told
 
-pub returns-clause-fresh : goal.returns-clause-fresh
-returns-clause-fresh g c = (keeps g c).follows.fresh
+pub returns-in-Ok-clause-keys : goal.returns-in-Ok-clause-keys
+returns-in-Ok-clause-keys g c =
+    let mid = c.put.new.self in
+    made-keeps c.args.self.now mid c.put_in_register.new.self
+    (put_in_register mid.heap c.args.r (native_name mid (Some c.in-Ok.key))).heap c.put_in_register.ensures.heap c.put.ensures.scripts c.put.ensures.kept
 
-pub returns-clause-suspected : goal.returns-clause-suspected
-returns-clause-suspected g c = (keeps g c).suspected
+pub returns-in-Ok-clause-counts : goal.returns-in-Ok-clause-counts
+returns-in-Ok-clause-counts g c = few-alone _ c.put_in_register.ensures.order
 
-pub returns-clause-stands : goal.returns-clause-stands
-returns-clause-stands g c =
-    subst (λ (v : Keyed). IsInOrder [] v → OnOk c.new_native.result (StandsAfter v.heap (heap_of c.new_native.new.self) (λ e. step e (Native c.args.r c.args.slots))))
-    c.self.view_is
-    (λ o. native_made-stands (keyed_of c.self.inside.parts) (keyed_of c.new_native.new.self) c.args.r c.args.slots Full c.ranges.r.fits c.requires.slots o
-    c.new_native.result c.new_native.ensures.full_always c.new_native.ensures.heap)
-    c.requires.order
+pub returns-in-Ok-clause-name : goal.returns-in-Ok-clause-name
+returns-in-Ok-clause-name g c = rw (← c.self.view_is)
 
-pub returns-clause-counts : goal.returns-clause-counts
-returns-clause-counts g c = few-alone (keyed_of c.new_native.new.self) c.new_native.ensures.order
+pub returns-then-self-natives-clause-counts : goal.returns-then-self-natives-clause-counts
+returns-then-self-natives-clause-counts g c = few-alone c.args.self.now c.requires.order
+
+pub returns-in-Ok-clause-colours : goal.returns-in-Ok-clause-colours
+returns-in-Ok-clause-colours g c =
+    let v = c.args.self.now in
+    let allowed : v.heap.natives_made < v.heap.limits.natives = rw (← c.self.view_is) (omega (arith, c.if-self-natives.false, c.natives.ensures.same)) in
+    subst (KeepsColours v.heap) (sym (returns-in-Ok-clause-heap g c)) (make_native-keeps v.heap c.args.r c.args.slots c.ranges.r.fits c.requires.slots allowed c.requires.order.sound).follows.colours
+
+pub returns-in-Ok-clause-fresh : goal.returns-in-Ok-clause-fresh
+returns-in-Ok-clause-fresh g c =
+    let v = c.args.self.now in
+    let allowed : v.heap.natives_made < v.heap.limits.natives = rw (← c.self.view_is) (omega (arith, c.if-self-natives.false, c.natives.ensures.same)) in
+    subst (KeepsFresh v.heap) (sym (returns-in-Ok-clause-heap g c)) (make_native-keeps v.heap c.args.r c.args.slots c.ranges.r.fits c.requires.slots allowed c.requires.order.sound).follows.fresh
+
+pub returns-in-Ok-clause-suspected : goal.returns-in-Ok-clause-suspected
+returns-in-Ok-clause-suspected g c =
+    let v = c.args.self.now in
+    let allowed : v.heap.natives_made < v.heap.limits.natives = rw (← c.self.view_is) (omega (arith, c.if-self-natives.false, c.natives.ensures.same)) in
+    subst (KeepsSuspected v.heap) (sym (returns-in-Ok-clause-heap g c)) (make_native-keeps v.heap c.args.r c.args.slots c.ranges.r.fits c.requires.slots allowed c.requires.order.sound).suspected
+
+pub returns-in-Ok-clause-stands : goal.returns-in-Ok-clause-stands
+returns-in-Ok-clause-stands g c =
+    let v = c.args.self.now in
+    let allowed : v.heap.natives_made < v.heap.limits.natives = rw (← c.self.view_is) (omega (arith, c.if-self-natives.false, c.natives.ensures.same)) in
+    subst (λ h. StandsAfter v.heap h (λ e. step e (Native c.args.r c.args.slots))) (sym (returns-in-Ok-clause-heap g c))
+    (make_native-stands v.heap c.args.r c.args.slots c.requires.order.sound c.ranges.r.fits c.requires.slots allowed)
+
+pub returns-in-Err-clause-counts : goal.returns-in-Err-clause-counts
+returns-in-Err-clause-counts g c = subst (λ (w : Keyed). AreFew w.heap) (sym c.in-Err.ensures.same) (few-alone c.args.self.now c.requires.order)
+
+pub returns-in-Err-clause-suspected : goal.returns-in-Err-clause-suspected
+returns-in-Err-clause-suspected g c = subst (λ (w : Keyed). KeepsSuspected c.args.self.now.heap w.heap) (sym c.in-Err.ensures.same) (λ candidates s. s)

@@ -1,38 +1,50 @@
-use Rattle.std.proofs.Common.{[], subst}
-use Rattle.std.specs.Prelude.{OnOk}
+use Rattle.std.proofs.Common.{◌<◌, sym, ◌∙◌, subst, arith}
 use Rattle.cc_model.specs.declared.command.Command.TheVariants.{Script}
 use Rattle.cc_model.specs.Graph.{step}
-use Rattle.cc_heaps.specs.declared.make_stop.MakeStop.TheVariants.{Full}
-use Rattle.cc_heaps.specs.Keyed.{Keyed, IsInOrder}
-use Rattle.cc_heaps.specs.Parts.{heap_of, keyed_of}
-use Rattle.cc_heaps.proofs.Following.{Keeps, object_made-keeps}
-use Rattle.cc_heaps.specs.Standing.{StandsAfter}
-use Rattle.cc_heaps.proofs.StandingAfter.{object_made-stands}
+use Rattle.cc_heaps.specs.Keyed.{Keyed}
+use Rattle.cc_heaps.specs.Few.{AreFew}
+use Rattle.cc_heaps.specs.Standing.{KeepsColours, KeepsFresh, KeepsSuspected, StandsAfter}
 use Rattle.cc_heaps.proofs.FewCounts.{few-alone}
+use Rattle.cc_heaps.proofs.Following.{make_object-keeps}
+use Rattle.cc_heaps.proofs.StandingAfter.{make_object-stands}
 use Rattle.cc_heaps.proofs.heaps.Heaps.new_plain.Goals as goal
 
-keeps : (c : goal.After-new_plain) → Keeps c.args.self.now.heap (heap_of c.new_plain.new.self)
-keeps c = subst (λ (v : Keyed). IsInOrder [] v → Keeps v.heap (heap_of c.new_plain.new.self)) c.self.view_is
-    (λ o. object_made-keeps (keyed_of c.self.inside.parts) (keyed_of c.new_plain.new.self) c.args.r c.args.slots Full c.ranges.r.fits c.requires.slots o
-    c.new_plain.result c.new_plain.ensures.full_always c.new_plain.ensures.heap c.new_plain.ensures.same)
-    c.requires.order
+pub returns-in-Ok-clause-heap : goal.returns-in-Ok-clause-heap
+returns-in-Ok-clause-heap c = rw (c.write_script_reg.ensures.heap, c.in-Ok.ensures.heap, c.in-Ok.ensures.name)
 
-pub returns-clause-colours : goal.returns-clause-colours
-returns-clause-colours c = (keeps c).follows.colours
+pub returns-in-Ok-clause-counts : goal.returns-in-Ok-clause-counts
+returns-in-Ok-clause-counts c = few-alone c.write_script_reg.new.self c.write_script_reg.ensures.order
 
-pub returns-clause-fresh : goal.returns-clause-fresh
-returns-clause-fresh c = (keeps c).follows.fresh
+pub returns-then-self-scripts-clause-counts : goal.returns-then-self-scripts-clause-counts
+returns-then-self-scripts-clause-counts c = few-alone c.args.self.now c.requires.order
 
-pub returns-clause-suspected : goal.returns-clause-suspected
-returns-clause-suspected c = (keeps c).suspected
+pub returns-in-Ok-clause-colours : goal.returns-in-Ok-clause-colours
+returns-in-Ok-clause-colours c =
+    let v = c.args.self.now in
+    let allowed : v.heap.scripts_made < v.heap.limits.scripts = rw (← c.self.view_is) (omega (arith, c.if-self-scripts.false, c.scripts.ensures.same)) in
+    subst (KeepsColours v.heap) (sym (returns-in-Ok-clause-heap c)) (make_object-keeps v.heap c.args.r c.args.slots c.ranges.r.fits c.requires.slots allowed c.requires.order.sound).follows.colours
 
-pub returns-clause-stands : goal.returns-clause-stands
-returns-clause-stands c =
-    subst (λ (v : Keyed). IsInOrder [] v → OnOk c.new_plain.result (StandsAfter v.heap (heap_of c.new_plain.new.self) (λ e. step e (Script c.args.r c.args.slots))))
-    c.self.view_is
-    (λ o. object_made-stands (keyed_of c.self.inside.parts) (keyed_of c.new_plain.new.self) c.args.r c.args.slots Full c.ranges.r.fits c.requires.slots o
-    c.new_plain.result c.new_plain.ensures.full_always c.new_plain.ensures.heap)
-    c.requires.order
+pub returns-in-Ok-clause-fresh : goal.returns-in-Ok-clause-fresh
+returns-in-Ok-clause-fresh c =
+    let v = c.args.self.now in
+    let allowed : v.heap.scripts_made < v.heap.limits.scripts = rw (← c.self.view_is) (omega (arith, c.if-self-scripts.false, c.scripts.ensures.same)) in
+    subst (KeepsFresh v.heap) (sym (returns-in-Ok-clause-heap c)) (make_object-keeps v.heap c.args.r c.args.slots c.ranges.r.fits c.requires.slots allowed c.requires.order.sound).follows.fresh
 
-pub returns-clause-counts : goal.returns-clause-counts
-returns-clause-counts c = few-alone (keyed_of c.new_plain.new.self) c.new_plain.ensures.order
+pub returns-in-Ok-clause-suspected : goal.returns-in-Ok-clause-suspected
+returns-in-Ok-clause-suspected c =
+    let v = c.args.self.now in
+    let allowed : v.heap.scripts_made < v.heap.limits.scripts = rw (← c.self.view_is) (omega (arith, c.if-self-scripts.false, c.scripts.ensures.same)) in
+    subst (KeepsSuspected v.heap) (sym (returns-in-Ok-clause-heap c)) (make_object-keeps v.heap c.args.r c.args.slots c.ranges.r.fits c.requires.slots allowed c.requires.order.sound).suspected
+
+pub returns-in-Ok-clause-stands : goal.returns-in-Ok-clause-stands
+returns-in-Ok-clause-stands c =
+    let v = c.args.self.now in
+    let allowed : v.heap.scripts_made < v.heap.limits.scripts = rw (← c.self.view_is) (omega (arith, c.if-self-scripts.false, c.scripts.ensures.same)) in
+    subst (λ h. StandsAfter v.heap h (λ e. step e (Script c.args.r c.args.slots))) (sym (returns-in-Ok-clause-heap c))
+    (make_object-stands v.heap c.args.r c.args.slots c.requires.order.sound c.ranges.r.fits c.requires.slots allowed)
+
+pub returns-in-Err-clause-counts : goal.returns-in-Err-clause-counts
+returns-in-Err-clause-counts c = subst (λ (w : Keyed). AreFew w.heap) (sym c.in-Err.ensures.same) (few-alone c.args.self.now c.requires.order)
+
+pub returns-in-Err-clause-suspected : goal.returns-in-Err-clause-suspected
+returns-in-Err-clause-suspected c = subst (λ (w : Keyed). KeepsSuspected c.args.self.now.heap w.heap) (sym c.in-Err.ensures.same) (λ candidates s. s)

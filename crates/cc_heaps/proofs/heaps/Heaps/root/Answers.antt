@@ -1,35 +1,55 @@
-use Rattle.std.proofs.Common.{◌∷◌, sym, subst}
-use Rattle.std.specs.Prelude.{IsSome}
-use Rattle.cc_heaps.specs.Keyed.{Keyed, IsInOrder, the_number, number_at}
-use Rattle.cc_heaps.specs.Parts.{keyed_of, heap_of}
-use Rattle.cc_heaps.proofs.StandingStill.{GoesOn, add_ref-goes_on}
-use Rattle.cc_heaps.specs.Changes.{KeepsKeys}
-use Rattle.cc_heaps.proofs.KeysKept.{KeepsKeys-changed}
+use Rattle.std.proofs.Common.{◌∷◌, arith, sym, subst}
+use Rattle.cc_model.specs.Cascade.{add_ref}
+use Rattle.cc_heaps.specs.Keyed.{the_number, changed_to, Keyed}
+use Rattle.cc_heaps.specs.Fields.{keyed_of}
+use Rattle.cc_heaps.specs.Standing.{KeepsColours, StillStands}
+use Rattle.cc_heaps.proofs.Calls.{number-there, count-fits, changed-keyed, changed-order, changed-linked, root-changes}
 use Rattle.cc_heaps.proofs.FewCounts.{few-owned}
+use Rattle.cc_heaps.proofs.KeysKept.{KeepsKeys-changed}
+use Rattle.cc_heaps.proofs.Ordered.{IsInOrder-add_ref}
+use Rattle.cc_heaps.proofs.Owned.{callers-own}
+use Rattle.cc_heaps.proofs.StandingStill.{GoesOn, add_ref-goes_on}
 use Rattle.cc_heaps.proofs.heaps.Heaps.root.Goals as goal
 
-pub returns-clause-order : goal.returns-clause-order
-returns-clause-order c owned o =
-    subst (λ (v : Keyed). IsInOrder (the_number v c.args.key.0 ∷ owned) (keyed_of c.root.new.self)) c.self.view_is
-    (c.root.ensures.order owned (subst (λ (v : Keyed). IsInOrder owned v) (sym c.self.view_is) o))
+pub root-requires-clause-below : goal.root-requires-clause-below
+root-requires-clause-below c =
+    let p = c.self.inside in
+    let f = rw (← c.self.view_is) at c.requires.owned in
+    omega (arith, count-fits f.0 p (the_number (keyed_of p) c.args.key.0) f.1, f.2)
 
-goes_on : (c : goal.After-root) → GoesOn c.args.self.now.heap (heap_of c.root.new.self)
-goes_on c =
-    let before = keyed_of c.self.inside.parts in
-    let f = c.requires.owned in
-    subst (λ (v : Keyed). IsInOrder f.0 v → IsSome (number_at v c.args.key.0) → GoesOn v.heap (heap_of c.root.new.self)) c.self.view_is
-    (λ o live. subst (λ (w : Keyed). GoesOn before.heap w.heap) (sym c.root.ensures.heap) (add_ref-goes_on f.0 before c.args.key.0 o live))
-    f.1 c.requires.live
+pub root-requires-clause-owned : goal.root-requires-clause-owned
+root-requires-clause-owned c =
+    let f = rw (← c.self.view_is) at c.requires.owned in
+    callers-own f.0 c.self.inside (record { order = f.1; linked = c.self.invariant })
 
-pub returns-clause-stands : goal.returns-clause-stands
-returns-clause-stands c = (goes_on c).stands
+pub invariant_of-self : goal.invariant_of-self
+invariant_of-self c = changed-linked (root-changes c.self.inside c.self.invariant (the_number (keyed_of c.self.inside) c.args.key.0) c.root.ensures.heap)
 
-pub returns-clause-colours : goal.returns-clause-colours
-returns-clause-colours c = (goes_on c).colours
+pub returns-clause-heap : goal.returns-clause-heap
+returns-clause-heap c =
+    rw (← c.self.view_is) (changed-keyed (root-changes c.self.inside c.self.invariant (the_number (keyed_of c.self.inside) c.args.key.0) c.root.ensures.heap))
 
 pub returns-clause-keys : goal.returns-clause-keys
-returns-clause-keys c = subst (λ (v : Keyed). KeepsKeys v (keyed_of c.root.new.self)) c.self.view_is
-    (KeepsKeys-changed (keyed_of c.self.inside.parts) (keyed_of c.root.new.self) _ c.root.ensures.heap)
+returns-clause-keys c = KeepsKeys-changed c.args.self.now _ _ (returns-clause-heap c)
+
+pub returns-clause-order : goal.returns-clause-order
+returns-clause-order c owned =
+    let p = c.self.inside in
+    let k = the_number (keyed_of p) c.args.key.0 in
+    let live = rw (← c.self.view_is) at c.requires.live in
+    rw (← c.self.view_is)
+    (λ o. changed-order (root-changes p c.self.invariant k c.root.ensures.heap) (IsInOrder-add_ref owned (keyed_of p) k (number-there owned (keyed_of p) c.args.key.0 o live) o))
 
 pub returns-clause-counts : goal.returns-clause-counts
-returns-clause-counts c = few-owned (keyed_of c.root.new.self)
+returns-clause-counts c = few-owned _
+
+goes_on : (c : goal.After-root) → GoesOn c.args.self.now.heap (changed_to c.args.self.now (add_ref c.args.self.now.heap (the_number c.args.self.now c.args.key.0))).heap
+goes_on c = add_ref-goes_on c.requires.owned.0 c.args.self.now c.args.key.0 c.requires.owned.1 c.requires.live
+
+pub returns-clause-stands : goal.returns-clause-stands
+returns-clause-stands c =
+    subst (λ (w : Keyed). StillStands c.args.self.now.heap w.heap) (sym (returns-clause-heap c)) ((goes_on c).stands)
+
+pub returns-clause-colours : goal.returns-clause-colours
+returns-clause-colours c =
+    subst (λ (w : Keyed). KeepsColours c.args.self.now.heap w.heap) (sym (returns-clause-heap c)) ((goes_on c).colours)

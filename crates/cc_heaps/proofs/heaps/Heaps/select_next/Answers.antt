@@ -1,28 +1,74 @@
-use Rattle.std.proofs.Common.{sym, subst}
-use Rattle.cc_heaps.specs.Keyed.{Keyed, IsInOrder}
-use Rattle.cc_heaps.specs.Parts.{heap_of, keyed_of}
-use Rattle.cc_heaps.proofs.StandingStill.{GoesOn, front-goes_on}
-use Rattle.cc_heaps.specs.Changes.{KeepsKeys}
-use Rattle.cc_heaps.proofs.KeysKept.{KeepsKeys-front}
+use Rattle.std.proofs.Common.{◌≡◌, ℕ, Bool, List, [], ◌∷◌, Option, Some, None, sym, ap, subst, IsSome, MatchOption}
+use Rattle.cc_names.specs.declared.number.NKey.{NKey}
+use Rattle.cc_counted.specs.Counts.{Counts}
+use Rattle.cc_counted.specs.Counts as counts
+use Rattle.cc_heaps.specs.declared.heaps.Heaps.TheInside.{Inside}
+use Rattle.cc_heaps.specs.Keyed.{Keyed, the_number, number_at, IsInOrder, changed_to}
+use Rattle.cc_heaps.specs.Fields.{keyed_of, IsLinked}
+use Rattle.cc_heaps.proofs.Linked.{with_counted}
+use Rattle.cc_heaps.proofs.Ordered.{IsInOrder-tail}
 use Rattle.cc_heaps.proofs.FewCounts.{few-owned}
+use Rattle.cc_heaps.proofs.KeysKept.{KeepsKeys-front}
+use Rattle.cc_heaps.proofs.StandingStill.{front-goes_on}
 use Rattle.cc_heaps.proofs.heaps.Heaps.select_next.Goals as goal
 
-pub returns-clause-order : goal.returns-clause-order
-returns-clause-order c owned o = c.select_next.ensures.order owned (subst (λ (v : Keyed). IsInOrder owned v) (sym c.self.view_is) o)
+-- a key and its mark
+abbrev Front : Type 0
+Front = NKey × Bool
 
-goes_on : (c : goal.After-select_next) → GoesOn c.args.self.now.heap (heap_of c.select_next.new.self)
-goes_on c = subst (λ (v : Keyed). GoesOn v.heap (heap_of c.select_next.new.self)) c.self.view_is
-    (front-goes_on (keyed_of c.self.inside.parts) (keyed_of c.select_next.new.self) c.select_next.result c.select_next.ensures.front)
+-- the front of the buffer, where there is one
+abbrev TakesFront : Counts → Counts → Option Front → Type 0
+TakesFront c d o = MatchOption o ((c.buffer ≡ []) × (d ≡ c))
+    (λ front. (c.buffer ≡ record { number = counts.the_number c front.0.0; purple = front.1 } ∷ d.buffer) × (d ≡ record c { buffer = d.buffer }) × IsSome (counts.number_at c front.0.0))
 
-pub returns-clause-stands : goal.returns-clause-stands
-returns-clause-stands c = (goes_on c).stands
+module _ (p : Inside) (d : Counts) where
+  abbrev before : Keyed
+  before = keyed_of p
 
-pub returns-clause-colours : goal.returns-clause-colours
-returns-clause-colours c = (goes_on c).colours
+  abbrev after : Keyed
+  after = keyed_of (with_counted p d)
+
+  taken-front : (o : Option Front) → TakesFront p.counted d o → MatchOption o ((p.counted.buffer ≡ []) × (after ≡ before))
+      (λ front. (p.counted.buffer ≡ record { number = the_number before front.0.0; purple = front.1 } ∷ d.buffer)
+      × (after ≡ changed_to before (record before.heap { buffer = d.buffer })) × IsSome (number_at before front.0.0))
+  taken-front None t = (t.0, ap (λ e. keyed_of (with_counted p e)) t.1)
+  taken-front (Some front) t = (t.0, ap (λ e. keyed_of (with_counted p e)) t.1, t.2)
+
+  linked-front : IsLinked p → (o : Option Front) → TakesFront p.counted d o → IsLinked (with_counted p d)
+  linked-front l None t = subst (λ e. IsLinked (with_counted p e)) (sym t.1) l
+  linked-front l (Some front) t = subst (λ e. IsLinked (with_counted p e)) (sym t.1) (record {
+    native_registers = l.native_registers;
+    script_registers = l.script_registers;
+    registers = l.registers;
+    held = l.held;
+    one_key = l.one_key;
+    one_name = l.one_name;
+    script_names = l.script_names;
+  })
+
+  ordered-front : (owned : List ℕ) → IsInOrder owned before → (o : Option Front) → TakesFront p.counted d o → IsInOrder owned after
+  ordered-front owned f None t = subst (λ e. IsInOrder owned (keyed_of (with_counted p e))) (sym t.1) f
+  ordered-front owned f (Some front) t = subst (λ e. IsInOrder owned (keyed_of (with_counted p e))) (sym t.1)
+      (IsInOrder-tail owned before (record { number = counts.the_number p.counted front.0.0; purple = front.1 }) d.buffer t.0 f)
+
+pub invariant_of-self : goal.invariant_of-self
+invariant_of-self c = linked-front c.self.inside c.select_next.new.self c.self.invariant c.select_next.result c.select_next.ensures.front
+
+pub returns-clause-front : goal.returns-clause-front
+returns-clause-front c = rw (← c.self.view_is) (taken-front c.self.inside c.select_next.new.self c.select_next.result c.select_next.ensures.front)
 
 pub returns-clause-keys : goal.returns-clause-keys
-returns-clause-keys c = subst (λ (v : Keyed). KeepsKeys v (keyed_of c.select_next.new.self)) c.self.view_is
-    (KeepsKeys-front (keyed_of c.self.inside.parts) (keyed_of c.select_next.new.self) c.select_next.result c.select_next.ensures.front)
+returns-clause-keys c = KeepsKeys-front c.args.self.now _ c.select_next.result (returns-clause-front c)
+
+pub returns-clause-order : goal.returns-clause-order
+returns-clause-order c owned =
+    rw (← c.self.view_is) (λ o. ordered-front c.self.inside c.select_next.new.self owned o c.select_next.result c.select_next.ensures.front)
 
 pub returns-clause-counts : goal.returns-clause-counts
-returns-clause-counts c = few-owned (keyed_of c.select_next.new.self)
+returns-clause-counts c = few-owned _
+
+pub returns-clause-stands : goal.returns-clause-stands
+returns-clause-stands c = (front-goes_on c.args.self.now _ c.select_next.result (returns-clause-front c)).stands
+
+pub returns-clause-colours : goal.returns-clause-colours
+returns-clause-colours c = (front-goes_on c.args.self.now _ c.select_next.result (returns-clause-front c)).colours

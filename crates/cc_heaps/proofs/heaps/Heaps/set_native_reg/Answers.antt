@@ -1,46 +1,70 @@
-use Rattle.std.proofs.Common.{[], sym, subst}
-use Rattle.cc_names.specs.declared.register.Reg.TheVariants.{N}
-use Rattle.cc_model.specs.Graph.{set_register}
-use Rattle.cc_heaps.specs.Keyed.{Keyed, IsInOrder}
-use Rattle.cc_heaps.specs.Parts.{heap_of, keyed_of}
-use Rattle.cc_heaps.specs.Changes.{native_name, KeepsKeys}
-use Rattle.cc_heaps.specs.Standing.{IsReached, StandsAfter}
-use Rattle.cc_heaps.proofs.Content.{native-in}
-use Rattle.cc_heaps.proofs.Following.{Keeps, hold_native-keeps}
-use Rattle.cc_heaps.proofs.StandingAfter.{native_register-stands}
-use Rattle.cc_heaps.proofs.KeysKept.{KeepsKeys-left}
+use Rattle.std.proofs.Common.{◌≡◌, ℕ, [], map, Option, refl, sym, ◌∙◌, ap, subst}
+use Rattle.cc_names.specs.declared.name.Name.{Name}
+use Rattle.cc_names.specs.declared.number.NKey.{NKey}
+use Rattle.cc_model.specs.declared.item.Item.TheVariants.{Event as of_event}
+use Rattle.cc_model.specs.Telling.{Tells}
+use Rattle.cc_model.specs.Texts.{texts_of}
+use Rattle.cc_model.specs.Heap.{Heap}
+use Rattle.cc_model.specs.Cascade.{take_up}
+use Rattle.cc_model.specs.Effects.{put_in_register, hold_native}
+use Rattle.cc_counted.specs.declared.held.Held.{Held}
+use Rattle.cc_heaps.specs.Keyed.{Keyed, changed_to, left_with}
+use Rattle.cc_heaps.specs.Changes.{held_name, native_name}
+use Rattle.cc_heaps.specs.Named.{held_by}
 use Rattle.cc_heaps.proofs.FewCounts.{few-alone}
+use Rattle.cc_heaps.proofs.Following.{Keeps, hold_native-keeps}
+use Rattle.cc_heaps.proofs.KeysKept.{KeepsKeys-left}
+use Rattle.cc_heaps.proofs.StandingAfter.{native_register-stands}
+use Rattle.cc_heaps.proofs.Content.{held_by-name, native-in}
 use Rattle.cc_heaps.proofs.heaps.Heaps.set_native_reg.Given as given
 use Rattle.cc_heaps.proofs.heaps.Heaps.set_native_reg.Goals as goal
 
-keeps : (g : given.Over) (c : goal.After-set_native_reg g) → Keeps c.args.self.now.heap (heap_of c.set_native_reg.new.self)
-keeps g c =
-    let before = keyed_of c.self.inside.parts in
-    subst (λ (v : Keyed). IsInOrder [] v → Keeps v.heap (heap_of c.set_native_reg.new.self)) c.self.view_is
-    (λ o. subst (λ (w : Keyed). Keeps before.heap w.heap) (sym c.set_native_reg.ensures.heap)
-    (hold_native-keeps before.heap c.args.r (native_name before c.args.content) c.ranges.r.fits (native-in [] before c.args.content o) o.sound))
-    c.requires.order
+hold_native-is : (h : Heap) (d : ℕ) (x : Option Name) → hold_native h d x ≡ put_in_register (take_up h x) d x
+unfolding hold_native
+hold_native-is h d x = refl
 
-pub returns-clause-colours : goal.returns-clause-colours
-returns-clause-colours g c = (keeps g c).follows.colours
+-- the new reference taken
+module _ (v mid : Keyed) (r : ℕ) (x : Option NKey) (item : Option Held) (is : item ≡ held_by x) (taken : mid ≡ changed_to v (take_up v.heap (held_name v item))) where
+  taken-is : mid ≡ changed_to v (take_up v.heap (native_name v x))
+  taken-is = taken ∙ ap (λ y. changed_to v (take_up v.heap y)) (ap (held_name v) is ∙ held_by-name v x)
 
-pub returns-clause-fresh : goal.returns-clause-fresh
-returns-clause-fresh g c = (keeps g c).follows.fresh
+  held-is : put_in_register mid.heap r (native_name mid x) ≡ hold_native v.heap r (native_name v x)
+  held-is = ap (λ (w : Keyed). put_in_register w.heap r (native_name w x)) taken-is ∙ sym (hold_native-is v.heap r (native_name v x))
 
-pub returns-clause-suspected : goal.returns-clause-suspected
-returns-clause-suspected g c = (keeps g c).suspected
+  held-keyed : left_with mid (put_in_register mid.heap r (native_name mid x)).heap ≡ left_with v (hold_native v.heap r (native_name v x)).heap
+  held-keyed = ap (λ (w : Keyed). left_with w (put_in_register w.heap r (native_name w x)).heap) taken-is ∙ ap (λ o. left_with v o.heap) (sym (hold_native-is v.heap r (native_name v x)))
+
+pub returns-clause-heap : goal.returns-clause-heap
+returns-clause-heap g c =
+    c.put_in_register.ensures.heap
+    ∙ held-keyed c.args.self.now c.take_up.new.self c.args.r c.args.content c.to_slot.result c.to_slot.ensures c.take_up.ensures.heap
+
+pub returns-clause-told : goal.returns-clause-told
+returns-clause-told g c =
+    subst (λ o. Tells (g.N.Notices.telling c.args.out.now) (g.N.Notices.telling c.put_in_register.new.out) (texts_of (map of_event o.events)))
+    (held-is c.args.self.now c.take_up.new.self c.args.r c.args.content c.to_slot.result c.to_slot.ensures c.take_up.ensures.heap)
+    c.put_in_register.ensures.told
+
+pub returns-clause-keys : goal.returns-clause-keys
+returns-clause-keys g c = KeepsKeys-left c.args.self.now c.put_in_register.new.self _ (returns-clause-heap g c)
+
+pub returns-clause-counts : goal.returns-clause-counts
+returns-clause-counts g c = few-alone _ c.put_in_register.ensures.order
 
 pub returns-clause-stands : goal.returns-clause-stands
 returns-clause-stands g c =
-    subst (λ (v : Keyed). IsInOrder [] v → IsReached v.heap (native_name v c.args.content) →
-    StandsAfter v.heap (heap_of c.set_native_reg.new.self) (λ e. set_register e (N c.args.r) (native_name v c.args.content))) c.self.view_is
-    (λ o. native_register-stands (keyed_of c.self.inside.parts) (keyed_of c.set_native_reg.new.self) o c.set_native_reg.ensures.order
-    c.args.r c.args.content c.set_native_reg.ensures.heap)
-    c.requires.order
+    native_register-stands c.args.self.now c.put_in_register.new.self c.requires.order c.put_in_register.ensures.order c.args.r c.args.content (returns-clause-heap g c)
 
-pub returns-clause-keys : goal.returns-clause-keys
-returns-clause-keys g c = subst (λ (v : Keyed). KeepsKeys v (keyed_of c.set_native_reg.new.self)) c.self.view_is
-    (KeepsKeys-left (keyed_of c.self.inside.parts) (keyed_of c.set_native_reg.new.self) _ c.set_native_reg.ensures.heap)
+keeps : (g : given.Over) (c : goal.After-put_in_register g) → Keeps c.args.self.now.heap (hold_native c.args.self.now.heap c.args.r (native_name c.args.self.now c.args.content)).heap
+keeps g c =
+    let v = c.args.self.now in
+    hold_native-keeps v.heap c.args.r (native_name v c.args.content) c.ranges.r.fits (native-in [] v c.args.content c.requires.order) c.requires.order.sound
 
-pub returns-clause-counts : goal.returns-clause-counts
-returns-clause-counts g c = few-alone (keyed_of c.set_native_reg.new.self) c.set_native_reg.ensures.order
+pub returns-clause-colours : goal.returns-clause-colours
+returns-clause-colours g c = rw (returns-clause-heap g c) ((keeps g c).follows.colours)
+
+pub returns-clause-fresh : goal.returns-clause-fresh
+returns-clause-fresh g c = rw (returns-clause-heap g c) ((keeps g c).follows.fresh)
+
+pub returns-clause-suspected : goal.returns-clause-suspected
+returns-clause-suspected g c = rw (returns-clause-heap g c) ((keeps g c).suspected)

@@ -1,43 +1,88 @@
-use Rattle.std.proofs.Common.{◌≡◌, ◌<◌, [], map, length, Some, subst}
+use Rattle.std.proofs.Common.{◌≡◌, ℕ, ◌<◌, length, get_or, map, Option, Some, None, sym, ◌∙◌, ap, subst, arith}
+use Rattle.cc_names.specs.declared.name.Name.{Name}
+use Rattle.cc_names.specs.declared.number.NKey.{NKey}
 use Rattle.cc_names.specs.Names.{native}
 use Rattle.cc_model.specs.declared.item.Item.TheVariants.{Event as of_event}
 use Rattle.cc_model.specs.Telling.{Tells}
 use Rattle.cc_model.specs.Texts.{texts_of}
-use Rattle.cc_model.specs.View.{view, ReachedIn}
-use Rattle.cc_model.specs.Graph.{set_slot}
-use Rattle.cc_counted.specs.Counts.{slots_of}
-use Rattle.cc_heaps.specs.Keyed.{Keyed, IsInOrder, counts_of, the_number, left_with}
-use Rattle.cc_heaps.specs.Changes.{IsBlackHeld, held_name, stored_in, KeepsKeys}
-use Rattle.cc_heaps.specs.Standing.{IsReached, StandsAfter}
-use Rattle.cc_heaps.specs.Parts.{heap_of, keyed_of}
-use Rattle.cc_heaps.proofs.Following.{Follows, Remembers, held-follows, held-remembers, within-named}
-use Rattle.cc_heaps.proofs.StandingAfter.{native_slot-stands}
-use Rattle.cc_heaps.proofs.KeysKept.{KeepsKeys-left}
+use Rattle.cc_model.specs.Slots.{Slots}
+use Rattle.cc_model.specs.Heap.{native_at, set_slot}
+use Rattle.cc_model.specs.Cascade.{take_up, let_go}
+use Rattle.cc_model.specs.End.{slots_now}
+use Rattle.cc_counted.specs.declared.held.Held.{Held}
+use Rattle.cc_counted.specs.Counts.{Counts}
+use Rattle.cc_counted.specs.Counts as counts
+use Rattle.cc_heaps.specs.Keyed.{Keyed, the_number, changed_to, left_with}
+use Rattle.cc_heaps.specs.Changes.{held_name, stored_in, IsBlackHeld}
+use Rattle.cc_heaps.proofs.SlotsHeld.{slots-taken}
 use Rattle.cc_heaps.proofs.FewCounts.{few-alone}
+use Rattle.cc_heaps.proofs.Following.{Follows, held-follows, held-remembers, within-named}
+use Rattle.cc_heaps.proofs.KeysKept.{KeepsKeys-left}
+use Rattle.cc_heaps.proofs.StandingAfter.{native_slot-stands}
 use Rattle.cc_heaps.proofs.heaps.Heaps.store_native.Given as given
 use Rattle.cc_heaps.proofs.heaps.Heaps.store_native.Goals as goal
 
+module _ (v mid last : Keyed) (key : NKey) (i : ℕ) (content held : Option Held) (taken : mid ≡ changed_to v (take_up v.heap (held_name v content))) where
+  -- there is room in what was taken up
+  within-taken : i < length (slots_now (native_at v.heap (the_number v key.0))) → i < length (slots_now (native_at mid.heap (the_number mid key.0)))
+  within-taken within =
+      subst (λ (w : Keyed). i < length (slots_now (native_at w.heap (the_number w key.0)))) (sym taken)
+      (subst (λ (ss : Slots). i < length ss) (sym (slots-taken v.heap (held_name v content) (the_number v key.0))) within)
+
+  -- a slot written after the new reference was taken
+  abbrev put_in : Keyed → Keyed
+  put_in w = changed_to w (set_slot w.heap (Some (native (the_number w key.0))) i (held_name w content))
+
+  abbrev read_in : Keyed → Option Name
+  read_in w = get_or (slots_now (native_at w.heap (the_number w key.0))) i None
+
+  module _ (put : last ≡ put_in mid) (read : held_name mid held ≡ read_in mid) where
+    stored-is : let_go last.heap (held_name last held) ≡ stored_in v.heap (the_number v key.0) i (held_name v content)
+    stored-is =
+        ap (λ (w : Keyed). let_go w.heap (held_name w held)) put
+        ∙ (ap (let_go (put_in mid).heap) read
+        ∙ ap (λ (w : Keyed). let_go (put_in w).heap (read_in w)) taken)
+
+    stored-keyed : left_with last (let_go last.heap (held_name last held)).heap ≡ left_with v (stored_in v.heap (the_number v key.0) i (held_name v content)).heap
+    stored-keyed =
+        ap (λ o. left_with last o.heap) stored-is
+        ∙ (ap (λ (w : Keyed). left_with w (stored_in v.heap (the_number v key.0) i (held_name v content)).heap) put
+        ∙ ap (λ (w : Keyed). left_with (put_in w) (stored_in v.heap (the_number v key.0) i (held_name v content)).heap) taken)
+
+pub replace_slot-held-requires-clause-within : goal.replace_slot-held-requires-clause-within
+replace_slot-held-requires-clause-within g c =
+    let v = c.args.self.now in
+    within-taken v c.take_up.new.self v c.args.key c.args.i c.args.content c.args.content c.take_up.ensures.heap (within-named v c.args.key.0 c.args.i c.requires.within)
+
 pub returns-clause-heap : goal.returns-clause-heap
 returns-clause-heap g c =
-    subst (λ (v : Keyed). keyed_of c.store_native.new.self ≡ left_with v (stored_in v.heap (the_number v c.args.key.0) c.args.i (held_name v c.args.content)).heap)
-    c.self.view_is c.store_native.ensures.heap
+    c.let_go.ensures.heap
+    ∙ stored-keyed c.args.self.now c.take_up.new.self c.replace_slot-held.new.self c.args.key c.args.i c.args.content c.replace_slot-held.result
+    c.take_up.ensures.heap c.replace_slot-held.ensures.heap c.replace_slot-held.ensures.held
 
 pub returns-clause-told : goal.returns-clause-told
 returns-clause-told g c =
-    subst (λ (v : Keyed). Tells (g.N.Notices.telling c.args.out.now) (g.N.Notices.telling c.store_native.new.out)
-    (texts_of (map of_event (stored_in v.heap (the_number v c.args.key.0) c.args.i (held_name v c.args.content)).events)))
-    c.self.view_is c.store_native.ensures.told
+    subst (λ o. Tells (g.N.Notices.telling c.args.out.now) (g.N.Notices.telling c.let_go.new.out) (texts_of (map of_event o.events)))
+    (stored-is c.args.self.now c.take_up.new.self c.replace_slot-held.new.self c.args.key c.args.i c.args.content c.replace_slot-held.result
+    c.take_up.ensures.heap c.replace_slot-held.ensures.heap c.replace_slot-held.ensures.held)
+    c.let_go.ensures.told
 
-follows : (g : given.Over) (c : goal.After-store_native g) → IsBlackHeld c.args.self.now c.args.content →
-    Follows c.args.self.now.heap (heap_of c.store_native.new.self)
+pub returns-clause-keys : goal.returns-clause-keys
+returns-clause-keys g c = KeepsKeys-left c.args.self.now c.let_go.new.self _ (returns-clause-heap g c)
+
+pub returns-clause-counts : goal.returns-clause-counts
+returns-clause-counts g c = few-alone _ c.let_go.ensures.order
+
+pub returns-clause-stands : goal.returns-clause-stands
+returns-clause-stands g c =
+    let v = c.args.self.now in
+    native_slot-stands v c.let_go.new.self c.requires.order c.let_go.ensures.order (the_number v c.args.key.0) c.args.i c.args.content (returns-clause-heap g c)
+
+follows : (g : given.Over) (c : goal.After-let_go g) → IsBlackHeld c.args.self.now c.args.content → Follows c.args.self.now.heap c.let_go.new.self.heap
 follows g c black =
-    let p = c.self.inside.parts in
-    let before = keyed_of p in
-    subst (λ (v : Keyed). IsInOrder [] v → c.args.i < length (slots_of (counts_of v) c.args.key.0) → IsBlackHeld v c.args.content →
-    Follows v.heap (heap_of c.store_native.new.self)) c.self.view_is
-    (λ o within b. held-follows before (keyed_of c.store_native.new.self) o (the_number before c.args.key.0) c.args.i c.args.content
-    (within-named p c.self.invariant c.args.key.0 c.args.i within) b c.store_native.ensures.heap)
-    c.requires.order c.requires.within black
+    let v = c.args.self.now in
+    held-follows v c.let_go.new.self c.requires.order (the_number v c.args.key.0) c.args.i c.args.content (within-named v c.args.key.0 c.args.i c.requires.within) black
+    (returns-clause-heap g c)
 
 pub returns-clause-colours : goal.returns-clause-colours
 returns-clause-colours g c black = (follows g c black).colours
@@ -47,26 +92,6 @@ returns-clause-fresh g c black = (follows g c black).fresh
 
 pub returns-clause-suspected : goal.returns-clause-suspected
 returns-clause-suspected g c reached =
-    let p = c.self.inside.parts in
-    let before = keyed_of p in
-    subst (λ (v : Keyed). IsInOrder [] v → c.args.i < length (slots_of (counts_of v) c.args.key.0) → ReachedIn (view v.heap) (native (the_number v c.args.key.0)) →
-    Remembers v.heap (heap_of c.store_native.new.self)) c.self.view_is
-    (λ o within r. held-remembers before (keyed_of c.store_native.new.self) o (the_number before c.args.key.0) c.args.i c.args.content
-    (within-named p c.self.invariant c.args.key.0 c.args.i within) r c.store_native.ensures.order.sound c.store_native.ensures.heap)
-    c.requires.order c.requires.within reached
-
-pub returns-clause-stands : goal.returns-clause-stands
-returns-clause-stands g c =
-    subst (λ (v : Keyed). IsInOrder [] v → IsReached v.heap (Some (native (the_number v c.args.key.0))) → IsReached v.heap (held_name v c.args.content) →
-    StandsAfter v.heap (heap_of c.store_native.new.self) (λ e. set_slot e (Some (native (the_number v c.args.key.0))) c.args.i (held_name v c.args.content)))
-    c.self.view_is
-    (λ o. native_slot-stands (keyed_of c.self.inside.parts) (keyed_of c.store_native.new.self) o c.store_native.ensures.order
-    (the_number (keyed_of c.self.inside.parts) c.args.key.0) c.args.i c.args.content c.store_native.ensures.heap)
-    c.requires.order
-
-pub returns-clause-keys : goal.returns-clause-keys
-returns-clause-keys g c = subst (λ (v : Keyed). KeepsKeys v (keyed_of c.store_native.new.self)) c.self.view_is
-    (KeepsKeys-left (keyed_of c.self.inside.parts) (keyed_of c.store_native.new.self) _ c.store_native.ensures.heap)
-
-pub returns-clause-counts : goal.returns-clause-counts
-returns-clause-counts g c = few-alone (keyed_of c.store_native.new.self) c.store_native.ensures.order
+    let v = c.args.self.now in
+    held-remembers v c.let_go.new.self c.requires.order (the_number v c.args.key.0) c.args.i c.args.content (within-named v c.args.key.0 c.args.i c.requires.within) reached
+    c.let_go.ensures.order.sound (returns-clause-heap g c)

@@ -1,42 +1,43 @@
-use Rattle.std.proofs.Common.{[], sym, subst}
-use Rattle.std.specs.Prelude.{◌≡◌, Some, IfSome, IsTrue}
-use Rattle.cc_names.specs.declared.kind.Colour.TheVariants.{Black}
-use Rattle.cc_model.specs.Graph.{set_slot}
-use Rattle.cc_script.specs.Objects.{colour_at, is_there, name_at}
-use Rattle.cc_heaps.specs.Keyed.{Keyed, IsInOrder}
+use Rattle.cc_heaps.specs.Standing.{KeepsColours, KeepsFresh, KeepsSuspected}
+use Rattle.std.proofs.Common.{sym, subst}
+use Rattle.cc_heaps.proofs.ScriptCalls.{becomes-slot}
+use Rattle.cc_model.specs.Heap.{set_slot}
+use Rattle.cc_script.specs.Objects.{name_at}
 use Rattle.cc_heaps.specs.Changes.{script_name}
-use Rattle.cc_heaps.specs.Standing.{IsReached, StandsAfter}
-use Rattle.cc_heaps.specs.Parts.{heap_of, keyed_of}
+use Rattle.cc_heaps.proofs.FewCounts.{few-alone}
 use Rattle.cc_heaps.proofs.Following.{Keeps, object_slot-keeps}
 use Rattle.cc_heaps.proofs.StandingAfter.{script_slot-stands}
-use Rattle.cc_heaps.proofs.FewCounts.{few-alone}
 use Rattle.cc_heaps.proofs.heaps.Heaps.store_script.Goals as goal
 
-keeps : (c : goal.After-store_script) → Keeps c.args.self.now.heap (heap_of c.store_script.new.self)
-keeps c = let before = keyed_of c.self.inside.parts in
-    subst (λ (v : Keyed). IsInOrder [] v → IsTrue (is_there v.scripts c.args.key.0) → IfSome c.args.content (λ k. colour_at v.scripts k.0 ≡ Some Black) →
-    Keeps v.heap (heap_of c.store_script.new.self)) c.self.view_is
-    (λ o t b. subst (Keeps before.heap) (sym c.store_script.ensures.heap) (object_slot-keeps before o c.args.key.0 c.args.i c.args.content t b))
-    c.requires.order c.requires.live c.requires.black
+pub returns-clause-heap : goal.returns-clause-heap
+returns-clause-heap c =
+    rw (← c.self.view_is) ((becomes-slot c.self.inside c.self.invariant (rw (← c.self.view_is) at c.requires.order) c.args.key.0 c.args.i c.args.content (rw (← c.self.view_is) at c.requires.live) (rw (← c.self.view_is) at c.requires.there) c.set_slot.new.self c.set_slot.ensures).heap)
 
-pub returns-clause-colours : goal.returns-clause-colours
-returns-clause-colours c = (keeps c).follows.colours
+pub returns-clause-keys : goal.returns-clause-keys
+returns-clause-keys c =
+    rw (← c.self.view_is) ((becomes-slot c.self.inside c.self.invariant (rw (← c.self.view_is) at c.requires.order) c.args.key.0 c.args.i c.args.content (rw (← c.self.view_is) at c.requires.live) (rw (← c.self.view_is) at c.requires.there) c.set_slot.new.self c.set_slot.ensures).keys)
 
-pub returns-clause-fresh : goal.returns-clause-fresh
-returns-clause-fresh c = (keeps c).follows.fresh
+pub returns-clause-order : goal.returns-clause-order
+returns-clause-order c = (becomes-slot c.self.inside c.self.invariant (rw (← c.self.view_is) at c.requires.order) c.args.key.0 c.args.i c.args.content (rw (← c.self.view_is) at c.requires.live) (rw (← c.self.view_is) at c.requires.there) c.set_slot.new.self c.set_slot.ensures).order
 
-pub returns-clause-suspected : goal.returns-clause-suspected
-returns-clause-suspected c = (keeps c).suspected
-
-pub returns-clause-stands : goal.returns-clause-stands
-returns-clause-stands c =
-    subst (λ (v : Keyed). IsInOrder [] v → IsTrue (is_there v.scripts c.args.key.0) → IsReached v.heap (name_at v.scripts c.args.key.0) →
-    IsReached v.heap (script_name v c.args.content) →
-    StandsAfter v.heap (heap_of c.store_script.new.self) (λ e. set_slot e (name_at v.scripts c.args.key.0) c.args.i (script_name v c.args.content)))
-    c.self.view_is
-    (λ o t. script_slot-stands (keyed_of c.self.inside.parts) (keyed_of c.store_script.new.self) o c.store_script.ensures.order
-    c.args.key.0 c.args.i c.args.content t c.store_script.ensures.heap)
-    c.requires.order c.requires.live
+pub invariant_of-self : goal.invariant_of-self
+invariant_of-self c = (becomes-slot c.self.inside c.self.invariant (rw (← c.self.view_is) at c.requires.order) c.args.key.0 c.args.i c.args.content (rw (← c.self.view_is) at c.requires.live) (rw (← c.self.view_is) at c.requires.there) c.set_slot.new.self c.set_slot.ensures).linked
 
 pub returns-clause-counts : goal.returns-clause-counts
-returns-clause-counts c = few-alone (keyed_of c.store_script.new.self) c.store_script.ensures.order
+returns-clause-counts c = few-alone _ (returns-clause-order c)
+
+keeps : (c : goal.After-set_slot) →
+    Keeps c.args.self.now.heap (set_slot c.args.self.now.heap (name_at c.args.self.now.scripts c.args.key.0) c.args.i (script_name c.args.self.now c.args.content))
+keeps c = object_slot-keeps c.args.self.now c.requires.order c.args.key.0 c.args.i c.args.content c.requires.live c.requires.black
+
+pub returns-clause-colours : goal.returns-clause-colours
+returns-clause-colours c = subst (KeepsColours c.args.self.now.heap) (sym (returns-clause-heap c)) ((keeps c).follows.colours)
+
+pub returns-clause-fresh : goal.returns-clause-fresh
+returns-clause-fresh c = subst (KeepsFresh c.args.self.now.heap) (sym (returns-clause-heap c)) ((keeps c).follows.fresh)
+
+pub returns-clause-suspected : goal.returns-clause-suspected
+returns-clause-suspected c = subst (KeepsSuspected c.args.self.now.heap) (sym (returns-clause-heap c)) ((keeps c).suspected)
+
+pub returns-clause-stands : goal.returns-clause-stands
+returns-clause-stands c = script_slot-stands c.args.self.now _ c.requires.order (returns-clause-order c) c.args.key.0 c.args.i c.args.content c.requires.live (returns-clause-heap c)

@@ -1,44 +1,46 @@
-use Rattle.std.proofs.Common.{◌∷◌, sym, subst}
-use Rattle.cc_names.specs.Names.{native}
-use Rattle.cc_model.specs.View.{view, ReachedIn}
+use Rattle.std.proofs.Common.{[], ◌∷◌, sym, subst}
+use Rattle.cc_heaps.specs.Keyed.{the_number, Keyed}
+use Rattle.cc_heaps.specs.Fields.{keyed_of}
+use Rattle.cc_model.specs.View.{view}
 use Rattle.cc_model.specs.Colours.{HasColourInvariant}
-use Rattle.cc_heaps.specs.Keyed.{Keyed, IsInOrder, the_number}
-use Rattle.cc_heaps.specs.Parts.{keyed_of, heap_of}
 use Rattle.cc_heaps.specs.Standing.{StillStands}
-use Rattle.cc_heaps.proofs.StandingStill.{unlink-still, unlink-colours}
-use Rattle.cc_heaps.specs.Changes.{KeepsKeys}
-use Rattle.cc_heaps.proofs.KeysKept.{KeepsKeys-left}
+use Rattle.cc_heaps.proofs.Calls.{left-keyed, left-told, left-order, left-linked, unlink-leaves}
 use Rattle.cc_heaps.proofs.FewCounts.{few-owned}
+use Rattle.cc_heaps.proofs.KeysKept.{KeepsKeys-left}
+use Rattle.cc_heaps.proofs.Owned.{callers-own-some}
+use Rattle.cc_heaps.proofs.StandingStill.{unlink-still, unlink-colours}
 use Rattle.cc_heaps.proofs.heaps.Heaps.unlink.Goals as goal
 
-pub returns-clause-order : goal.returns-clause-order
-returns-clause-order g c owned o =
-    subst (λ (v : Keyed). IsInOrder (the_number v c.args.key.0 ∷ owned) (keyed_of c.unlink.new.self)) c.self.view_is
-    (c.unlink.ensures.order owned (subst (λ (v : Keyed). IsInOrder (the_number v c.args.key.0 ∷ owned) v) (sym c.self.view_is) o))
+pub unlink-requires-clause-owned : goal.unlink-requires-clause-owned
+unlink-requires-clause-owned g c =
+    let p = c.self.inside in
+    let f = rw (← c.self.view_is) at c.requires.owned in
+    callers-own-some (the_number (keyed_of p) c.args.key.0 ∷ []) f.0 p (record { order = f.1; linked = c.self.invariant })
 
-pub returns-clause-stands : goal.returns-clause-stands
-returns-clause-stands g c =
-    let before = keyed_of c.self.inside.parts in
-    let f = c.requires.owned in
-    subst (λ (v : Keyed). IsInOrder (the_number v c.args.key.0 ∷ f.0) v → ¬ (ReachedIn (view v.heap) (native (the_number v c.args.key.0))) →
-    StillStands v.heap (heap_of c.unlink.new.self)) c.self.view_is
-    (λ o unreached. subst (λ (w : Keyed). StillStands before.heap w.heap) (sym c.unlink.ensures.heap)
-    (unlink-still f.0 before.heap (the_number before c.args.key.0) o.sound unreached))
-    f.1
+pub invariant_of-self : goal.invariant_of-self
+invariant_of-self g c = left-linked (unlink-leaves c.self.inside c.self.invariant c.args.key.0 (rw (← c.self.view_is) at c.requires.owned) c.unlink.ensures.heap)
 
-pub returns-clause-colours : goal.returns-clause-colours
-returns-clause-colours g c =
-    let before = keyed_of c.self.inside.parts in
-    let f = c.requires.owned in
-    subst (λ (v : Keyed). IsInOrder (the_number v c.args.key.0 ∷ f.0) v → HasColourInvariant (view v.heap) → HasColourInvariant (view (heap_of c.unlink.new.self)))
-    c.self.view_is
-    (λ o colours. subst (λ (w : Keyed). HasColourInvariant (view w.heap)) (sym c.unlink.ensures.heap)
-    (unlink-colours f.0 before.heap (the_number before c.args.key.0) o.sound colours))
-    f.1
+pub returns-clause-heap : goal.returns-clause-heap
+returns-clause-heap g c =
+    rw (← c.self.view_is) (left-keyed (unlink-leaves c.self.inside c.self.invariant c.args.key.0 (rw (← c.self.view_is) at c.requires.owned) c.unlink.ensures.heap))
+
+pub returns-clause-told : goal.returns-clause-told
+returns-clause-told g c =
+    rw (← c.self.view_is) (left-told (unlink-leaves c.self.inside c.self.invariant c.args.key.0 (rw (← c.self.view_is) at c.requires.owned) c.unlink.ensures.heap) c.unlink.ensures.told)
 
 pub returns-clause-keys : goal.returns-clause-keys
-returns-clause-keys g c = subst (λ (v : Keyed). KeepsKeys v (keyed_of c.unlink.new.self)) c.self.view_is
-    (KeepsKeys-left (keyed_of c.self.inside.parts) (keyed_of c.unlink.new.self) _ c.unlink.ensures.heap)
+returns-clause-keys g c = KeepsKeys-left c.args.self.now _ _ (returns-clause-heap g c)
+
+pub returns-clause-order : goal.returns-clause-order
+returns-clause-order g c owned = rw (← c.self.view_is) (λ o. left-order (unlink-leaves c.self.inside c.self.invariant c.args.key.0 (owned, o) c.unlink.ensures.heap))
 
 pub returns-clause-counts : goal.returns-clause-counts
-returns-clause-counts g c = few-owned (keyed_of c.unlink.new.self)
+returns-clause-counts g c = few-owned _
+
+pub returns-clause-stands : goal.returns-clause-stands
+returns-clause-stands g c unreached =
+    subst (λ (w : Keyed). StillStands c.args.self.now.heap w.heap) (sym (returns-clause-heap g c)) ((unlink-still c.requires.owned.0 c.args.self.now.heap (the_number c.args.self.now c.args.key.0) c.requires.owned.1.sound unreached))
+
+pub returns-clause-colours : goal.returns-clause-colours
+returns-clause-colours g c colours =
+    subst (λ (w : Keyed). HasColourInvariant (view w.heap)) (sym (returns-clause-heap g c)) ((unlink-colours c.requires.owned.0 c.args.self.now.heap (the_number c.args.self.now c.args.key.0) c.requires.owned.1.sound colours))

@@ -1,33 +1,50 @@
-use Rattle.std.proofs.Common.{◌∷◌, sym, subst}
-use Rattle.cc_heaps.specs.Keyed.{Keyed, IsInOrder, the_number}
-use Rattle.cc_heaps.specs.Parts.{heap_of, keyed_of}
-use Rattle.cc_heaps.proofs.StandingStill.{GoesOn, cascade-goes_on}
-use Rattle.cc_heaps.specs.Changes.{KeepsKeys}
-use Rattle.cc_heaps.proofs.KeysKept.{KeepsKeys-left}
+use Rattle.std.proofs.Common.{[], ◌∷◌, sym, subst}
+use Rattle.cc_model.specs.Cascade.{cascade}
+use Rattle.cc_heaps.specs.Keyed.{the_number, left_with, Keyed}
+use Rattle.cc_heaps.specs.Fields.{keyed_of}
+use Rattle.cc_heaps.specs.Standing.{KeepsColours, StillStands}
+use Rattle.cc_heaps.proofs.Calls.{left-keyed, left-told, left-order, left-linked, release-leaves}
 use Rattle.cc_heaps.proofs.FewCounts.{few-owned}
+use Rattle.cc_heaps.proofs.KeysKept.{KeepsKeys-left}
+use Rattle.cc_heaps.proofs.Owned.{callers-own-some}
+use Rattle.cc_heaps.proofs.StandingStill.{GoesOn, cascade-goes_on}
 use Rattle.cc_heaps.proofs.heaps.Heaps.unroot.Given as given
 use Rattle.cc_heaps.proofs.heaps.Heaps.unroot.Goals as goal
 
-pub returns-clause-order : goal.returns-clause-order
-returns-clause-order g c owned o = c.release.ensures.order owned (subst (λ (v : Keyed). IsInOrder (the_number v c.args.key.0 ∷ owned) v) (sym c.self.view_is) o)
+pub release-requires-clause-owned : goal.release-requires-clause-owned
+release-requires-clause-owned g c =
+    let p = c.self.inside in
+    let f = rw (← c.self.view_is) at c.requires.owned in
+    callers-own-some (the_number (keyed_of p) c.args.key.0 ∷ []) f.0 p (record { order = f.1; linked = c.self.invariant })
 
-goes_on : (g : given.Over) (c : goal.After-release g) → GoesOn c.args.self.now.heap (heap_of c.release.new.self)
-goes_on g c =
-    let before = keyed_of c.self.inside.parts in
-    let f = c.requires.owned in
-    subst (λ (v : Keyed). IsInOrder (the_number v c.args.key.0 ∷ f.0) v → GoesOn v.heap (heap_of c.release.new.self)) c.self.view_is
-    (λ o. subst (λ (w : Keyed). GoesOn before.heap w.heap) (sym c.release.ensures.heap) (cascade-goes_on f.0 before.heap (the_number before c.args.key.0) o.sound))
-    f.1
+pub invariant_of-self : goal.invariant_of-self
+invariant_of-self g c = left-linked (release-leaves c.self.inside c.self.invariant c.args.key.0 (rw (← c.self.view_is) at c.requires.owned) c.release.ensures.heap)
 
-pub returns-clause-stands : goal.returns-clause-stands
-returns-clause-stands g c = (goes_on g c).stands
+pub returns-clause-heap : goal.returns-clause-heap
+returns-clause-heap g c =
+    rw (← c.self.view_is) (left-keyed (release-leaves c.self.inside c.self.invariant c.args.key.0 (rw (← c.self.view_is) at c.requires.owned) c.release.ensures.heap))
 
-pub returns-clause-colours : goal.returns-clause-colours
-returns-clause-colours g c = (goes_on g c).colours
+pub returns-clause-told : goal.returns-clause-told
+returns-clause-told g c =
+    rw (← c.self.view_is) (left-told (release-leaves c.self.inside c.self.invariant c.args.key.0 (rw (← c.self.view_is) at c.requires.owned) c.release.ensures.heap) c.release.ensures.told)
 
 pub returns-clause-keys : goal.returns-clause-keys
-returns-clause-keys g c = subst (λ (v : Keyed). KeepsKeys v (keyed_of c.release.new.self)) c.self.view_is
-    (KeepsKeys-left (keyed_of c.self.inside.parts) (keyed_of c.release.new.self) _ c.release.ensures.heap)
+returns-clause-keys g c = KeepsKeys-left c.args.self.now _ _ (returns-clause-heap g c)
+
+pub returns-clause-order : goal.returns-clause-order
+returns-clause-order g c owned = rw (← c.self.view_is) (λ o. left-order (release-leaves c.self.inside c.self.invariant c.args.key.0 (owned, o) c.release.ensures.heap))
 
 pub returns-clause-counts : goal.returns-clause-counts
-returns-clause-counts g c = few-owned (keyed_of c.release.new.self)
+returns-clause-counts g c = few-owned _
+
+goes_on : (g : given.Over) (c : goal.After-release g) →
+    GoesOn c.args.self.now.heap (left_with c.args.self.now (cascade c.args.self.now.heap (the_number c.args.self.now c.args.key.0)).heap).heap
+goes_on g c = cascade-goes_on c.requires.owned.0 c.args.self.now.heap (the_number c.args.self.now c.args.key.0) c.requires.owned.1.sound
+
+pub returns-clause-stands : goal.returns-clause-stands
+returns-clause-stands g c =
+    subst (λ (w : Keyed). StillStands c.args.self.now.heap w.heap) (sym (returns-clause-heap g c)) ((goes_on g c).stands)
+
+pub returns-clause-colours : goal.returns-clause-colours
+returns-clause-colours g c =
+    subst (λ (w : Keyed). KeepsColours c.args.self.now.heap w.heap) (sym (returns-clause-heap g c)) ((goes_on g c).colours)

@@ -1,9 +1,0 @@
-use Rattle.std.proofs.Common.{length}
-use Rattle.cc_heaps.proofs.HolderWalk.{IsLooking, numbers_left}
-use Rattle.cc_heaps.proofs.parts.Parts.next_holder.Given as goal
-
-abbrev pub invariant-loop-next : goal.invariant-loop-next
-invariant-loop-next l = IsLooking l.self l.fn.after l.next
-
-abbrev pub decreases-loop-next : goal.decreases-loop-next
-decreases-loop-next l = length (numbers_left l.self l.next)

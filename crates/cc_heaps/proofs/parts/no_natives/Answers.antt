@@ -1,5 +1,0 @@
-use Rattle.cc_heaps.proofs.Registers.{none-by}
-use Rattle.cc_heaps.proofs.parts.no_natives.Goals as goal
-
-pub returns : goal.returns
-returns c = c.in_ok-vec.ensures.items_if_clones_equal (none-by _ (λ k h. h))

@@ -1,0 +1,39 @@
+-- WHAT THE FIELDS OF THE HEAPS STAND FOR, and that they fit together.
+use Rattle.std.specs.Prelude.{◌≡◌, ℕ, ◌≤◌, ◌==◌, false, length, map, Option, count_by}
+use Rattle.cc_lists.specs.Members.{Among}
+use Rattle.cc_names.specs.declared.number.NKey.{NKey}
+use Rattle.cc_names.specs.declared.number.SKey.{SKey}
+use Rattle.cc_names.specs.declared.name.Name.{Name}
+use Rattle.cc_names.specs.Names.{same_name, is_native}
+use Rattle.cc_model.specs.Slots.{contents}
+use Rattle.cc_model.specs.Heap.{Heap, HeapNative}
+use Rattle.cc_script.specs.Objects.{Object}
+use Rattle.cc_heaps.specs.Keyed.{Keyed}
+use Rattle.cc_heaps.specs.Named.{named, IsLive, script_named, IsScriptLive, IsHeldThere, Rest, heap_with}
+use Rattle.cc_heaps.specs.declared.heaps.Heaps.TheInside.{Inside}
+
+abbrev pub rest_of : Inside → Rest
+rest_of p = record {
+  native_registers = map (named p.counted.keys) p.native_registers.items;
+  script_registers = map (script_named p.scripts) p.script_registers.items;
+  natives_made = p.natives_made;
+  scripts_made = p.scripts_made;
+  limits = p.limits;
+}
+
+abbrev pub heap_of : Inside → Heap
+heap_of p = heap_with (rest_of p) p.counted p.scripts
+
+abbrev pub keyed_of : Inside → Keyed
+keyed_of p = record { heap = heap_of p; keys = p.counted.keys; scripts = p.scripts }
+
+-- THEY FIT TOGETHER: what registers and slots of natives hold is there, and no two script objects have one key or
+-- one name
+pub record IsLinked (p : Inside) : Type 0 where
+  pub native_registers : (x : Option NKey) → Among x p.native_registers.items → IsLive p.counted.keys x
+  pub script_registers : (x : Option SKey) → Among x p.script_registers.items → IsScriptLive p.scripts x
+  pub registers : (length p.native_registers.items ≡ 256) × (length p.script_registers.items ≡ 256)
+  pub held : (n : HeapNative) (x : Name) → Among n p.counted.natives → Among x (contents n.slots) → IsHeldThere p.scripts x
+  pub one_key : (key : ℕ) → count_by (λ o. o.key == key) p.scripts ≤ 1
+  pub one_name : (x : Name) → count_by (λ o. same_name o.name x) p.scripts ≤ 1
+  pub script_names : (o : Object) → Among o p.scripts → is_native o.name ≡ false

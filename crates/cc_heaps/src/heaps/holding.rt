@@ -1,0 +1,164 @@
+//! Native registers and slots of natives written.
+ghost use Rattle.std.specs.Prelude.{◌≡◌, ◌<◌, [], ◌++◌, length, slice_index_or, Some, None, IsSome, ◌+◌};
+ghost use Rattle.cc_names.specs.Names.{native};
+ghost use Rattle.cc_names.specs.declared.register.Reg.TheVariants.{N as n_register};
+ghost use Rattle.cc_model.specs.Heap.{native_at, register, set_register, set_slot};
+ghost use Rattle.cc_model.specs.Cascade.{take_up, let_go};
+ghost use Rattle.cc_model.specs.End.{slots_now};
+ghost use Rattle.cc_model.specs.Effects.{hold_native, put_in_register};
+ghost use Rattle.cc_model.specs.Telling.{TellsEvents};
+ghost use Rattle.cc_model.specs.Graph as graph;
+ghost use Rattle.cc_laws_heap.specs.Sound.{numbers_of};
+ghost use Rattle.cc_counted.specs.Counts.{native_held, slots_of};
+ghost use Rattle.cc_heaps.specs.Keyed.{IsInOrder, counts_of, number_at, the_number, changed_to, left_with};
+ghost use Rattle.cc_heaps.specs.Changes.{IsNativeThere, IsThere, held_name, native_name, stored_in, IsBlackHeld, KeepsKeys};
+ghost use Rattle.cc_heaps.specs.Standing.{IsReached, StandsAfter, KeepsFresh, KeepsSuspected, KeepsColours};
+ghost use Rattle.cc_heaps.specs.Few.{AreFew};
+ghost use Rattle.cc_heaps.specs.Named.{held_by};
+
+use crate::heaps::Heaps;
+use cc_counted::Held;
+use cc_model::Notices;
+use cc_names::NKey;
+
+// What a register holds, as a slot holds it.
+fn to_slot(content: Option<NKey>) -> Option<Held>
+    ensures { result ≡ held_by content }
+{
+    match content {
+        Some(key) => Some(Held::Native(key)),
+        None => None,
+    }
+}
+
+// The native that is held, which alone is counted.
+fn native_of(content: Option<Held>) -> Option<NKey>
+    ensures { result ≡ native_held content }
+{
+    match content {
+        Some(Held::Native(key)) => Some(key),
+        Some(Held::Script(_)) => None,
+        None => None,
+    }
+}
+
+impl Heaps {
+    // A reference to what a register or a slot is to hold.
+    fn take_up(&mut self, content: Option<Held>)
+        requires order { IsInOrder [] self.old }
+        requires there { IsThere self.old content }
+        ensures heap { self.new ≡ changed_to self.old (take_up self.old.heap (held_name self.old content)) }
+        ensures order { IsInOrder (numbers_of (held_name self.old content) ++ []) self.new }
+    {
+        match native_of(content) {
+            Some(key) => self.root(key),
+            None => {}
+        }
+    }
+
+    // What a register or a slot held, given up.
+    fn let_go<N: Notices>(&mut self, content: Option<Held>, out: &mut N)
+        requires order { IsInOrder (numbers_of (held_name self.old content) ++ []) self.old }
+        requires there { IsThere self.old content }
+        ensures heap { self.new ≡ left_with self.old (let_go self.old.heap (held_name self.old content)).heap }
+        ensures told { TellsEvents (N.telling out.old) (N.telling out.new) (let_go self.old.heap (held_name self.old content)).events }
+        ensures order { IsInOrder [] self.new }
+    {
+        match native_of(content) {
+            Some(key) => self.unroot(key, out),
+            None => {}
+        }
+    }
+
+    // A register written, whose new reference was taken before; what it held.
+    fn replace_register(&mut self, r: u8, content: Option<NKey>) -> Option<NKey>
+        requires order { IsInOrder (numbers_of (native_name self.old content) ++ []) self.old }
+        requires there { IsNativeThere self.old content }
+        ensures heap { self.new ≡ changed_to self.old (set_register self.old.heap (n_register r) (native_name self.old content)) }
+        ensures held { native_name self.old result ≡ register self.old.heap (n_register r) }
+        ensures there { IsNativeThere self.new result }
+        ensures order { IsInOrder (numbers_of (native_name self.new result) ++ []) self.new }
+    {
+        let held = self.native_reg(r);
+        self.native_registers[r as usize] = content;
+        held
+    }
+
+    // A register written, whose new reference was taken before: what it held is given up.
+    pub(super) fn put_in_register<N: Notices>(&mut self, r: u8, content: Option<NKey>, out: &mut N)
+        requires order { IsInOrder (numbers_of (native_name self.old content) ++ []) self.old }
+        requires there { IsNativeThere self.old content }
+        ensures heap { self.new ≡ left_with self.old (put_in_register self.old.heap r (native_name self.old content)).heap }
+        ensures told { TellsEvents (N.telling out.old) (N.telling out.new) (put_in_register self.old.heap r (native_name self.old content)).events }
+        ensures order { IsInOrder [] self.new }
+    {
+        let held = self.replace_register(r, content);
+        self.let_go(to_slot(held), out);
+    }
+
+    // Slot i of a native written, whose new reference was taken before; what it held.
+    fn replace_slot(&mut self, key: NKey, i: u8, content: Option<Held>) -> Option<Held>
+        requires order { IsInOrder (numbers_of (held_name self.old content) ++ []) self.old }
+        requires live { IsSome (number_at self.old key.0) }
+        requires within { i < length (slots_now (native_at self.old.heap (the_number self.old key.0))) }
+        requires there { IsThere self.old content }
+        ensures heap { self.new ≡ changed_to self.old (set_slot self.old.heap (Some (native (the_number self.old key.0))) i (held_name self.old content)) }
+        ensures held { held_name self.old result ≡ slice_index_or (slots_now (native_at self.old.heap (the_number self.old key.0))) i None }
+        ensures there { IsThere self.new result }
+        ensures order { IsInOrder (numbers_of (held_name self.new result) ++ []) self.new }
+    {
+        self.counted.set_slot(key, i, content)
+    }
+
+    /// Register `r` holds a native from then on, or nothing.
+    ///
+    /// The new reference is taken first, then the register is written, then what it held is given up with all that it
+    /// deletes. Takes no memory.
+    pub fn set_native_reg<N: Notices>(&mut self, r: u8, content: Option<NKey>, out: &mut N)
+        requires order { IsInOrder [] self.old }
+        requires there { IsNativeThere self.old content }
+        ensures heap { self.new ≡ left_with self.old (hold_native self.old.heap r (native_name self.old content)).heap }
+        ensures told { TellsEvents (N.telling out.old) (N.telling out.new)
+            (hold_native self.old.heap r (native_name self.old content)).events }
+        ensures keys { KeepsKeys self.old self.new }
+        ensures order { IsInOrder [] self.new }
+        ensures counts { AreFew self.new.heap }
+        ensures stands { IsReached self.old.heap (native_name self.old content) →
+            StandsAfter self.old.heap self.new.heap (λ g. graph.set_register g (n_register r) (native_name self.old content)) }
+        ensures colours { KeepsColours self.old.heap self.new.heap }
+        ensures fresh { KeepsFresh self.old.heap self.new.heap }
+        ensures suspected { KeepsSuspected self.old.heap self.new.heap }
+    {
+        self.take_up(to_slot(content));
+        self.put_in_register(r, content, out);
+    }
+
+    /// Slot `i` of a native, counted from 0, holds a native or a script object from then on, or nothing.
+    ///
+    /// The new reference is taken first, then the slot is written, then what it held is given up with all that it
+    /// deletes. Takes no memory. A gray script object that came in would have a holder of which a snapshot knows nothing:
+    /// snapshots stay fresh where a script object that comes in is black. A native that is not reached could lose its mark
+    /// by coming into the slot of another such one: none is forgotten where the native whose slot is written is reached.
+    pub fn store_native<N: Notices>(&mut self, key: NKey, i: u8, content: Option<Held>, out: &mut N)
+        requires order { IsInOrder [] self.old }
+        requires live { IsSome (number_at self.old key.0) }
+        requires within { i < length (slots_of (counts_of self.old) key.0) }
+        requires there { IsThere self.old content }
+        ensures heap { self.new ≡ left_with self.old (stored_in self.old.heap (the_number self.old key.0) i (held_name self.old content)).heap }
+        ensures told { TellsEvents (N.telling out.old) (N.telling out.new)
+            (stored_in self.old.heap (the_number self.old key.0) i (held_name self.old content)).events }
+        ensures keys { KeepsKeys self.old self.new }
+        ensures order { IsInOrder [] self.new }
+        ensures counts { AreFew self.new.heap }
+        ensures stands { IsReached self.old.heap (Some (native (the_number self.old key.0))) → IsReached self.old.heap (held_name self.old content) →
+            StandsAfter self.old.heap self.new.heap (λ g. graph.set_slot g (Some (native (the_number self.old key.0))) i (held_name self.old content)) }
+        ensures colours { IsBlackHeld self.old content → KeepsColours self.old.heap self.new.heap }
+        ensures fresh { IsBlackHeld self.old content → KeepsFresh self.old.heap self.new.heap }
+        ensures suspected { IsReached self.old.heap (Some (native (the_number self.old key.0))) →
+            KeepsSuspected self.old.heap self.new.heap }
+    {
+        self.take_up(content);
+        let held = self.replace_slot(key, i, content);
+        self.let_go(held, out);
+    }
+}

@@ -1,0 +1,79 @@
+//! Natives made.
+ghost use Rattle.std.specs.Prelude.{◌≡◌, ◌+◌, ◌<◌, ◌≤◌, ℕ, [], ◌∷◌, Some, Err, IfOk, OnOk, OnErr};
+ghost use Rattle.cc_names.specs.Names.{native};
+ghost use Rattle.cc_model.specs.Effects.{make_native, with_native};
+ghost use Rattle.cc_model.specs.Telling.{TellsEvents};
+ghost use Rattle.cc_model.specs.declared.command.Command.TheVariants as command;
+ghost use Rattle.cc_model.specs.Graph as graph;
+ghost use Rattle.cc_heaps.specs.Keyed.{IsInOrder, number_at};
+ghost use Rattle.cc_heaps.specs.Changes.{IsNativeThere, KeepsKeys, native_name};
+ghost use Rattle.cc_heaps.specs.Standing.{StandsAfter, KeepsFresh, KeepsSuspected, KeepsColours};
+ghost use Rattle.cc_heaps.specs.Few.{AreFew};
+
+use crate::heaps::Heaps;
+use crate::make_stop::MakeStop;
+use cc_model::Notices;
+use cc_names::{NKey, Name, NativeNo, NoMemory};
+
+impl Heaps {
+    // A native with the next number and so many empty slots, in the buffer too; the caller owns the reference to it.
+    fn put(&mut self, slots: u8) -> Result<NKey, NoMemory>
+        requires order { IsInOrder [] self.old }
+        requires slots { slots ≤ 64 }
+        requires allowed { self.old.heap.natives_made < self.old.heap.limits.natives }
+        ensures made { OnOk result (self.new.heap.natives_made ≡ self.old.heap.natives_made + 1) }
+        ensures heap { OnOk result (self.new.heap ≡ with_native self.old.heap slots) }
+        ensures name { IfOk result (λ key. native_name self.new (Some key) ≡ Some (native (self.old.heap.natives_made + 1))) }
+        ensures there { IfOk result (λ key. IsNativeThere self.new (Some key)) }
+        ensures scripts { self.new.scripts ≡ self.old.scripts }
+        ensures kept { (key k : ℕ) → number_at self.old key ≡ Some k → number_at self.new key ≡ Some k }
+        ensures order { OnOk result (IsInOrder ((self.old.heap.natives_made + 1) ∷ []) self.new) }
+        ensures same { OnErr result (self.new ≡ self.old) }
+    {
+        let number = NativeNo(self.natives_made + 1);
+        let key = self.counted.create(number, slots)?;
+        self.natives_made += 1;
+        Ok(key)
+    }
+
+    /// Makes a native with `slots` empty slots (0 to 64), which register `r` holds from then on. Its name.
+    ///
+    /// What the register held is given up, and what then has no reference is deleted and told. `Full` exactly where as
+    /// many natives as the limit were ever made; `NoMemory` at any other time. Neither changes anything.
+    pub fn new_native<N: Notices>(
+        &mut self,
+        r: u8,
+        slots: u8,
+        out: &mut N,
+    ) -> Result<Name, MakeStop>
+        requires order { IsInOrder [] self.old }
+        requires slots { slots ≤ 64 }
+        ensures full { result ≡ Err MakeStop.Full → self.old.heap.limits.natives ≤ self.old.heap.natives_made }
+        ensures full_always { self.old.heap.limits.natives ≤ self.old.heap.natives_made → result ≡ Err MakeStop.Full }
+        ensures name { IfOk result (λ x. x ≡ native (self.old.heap.natives_made + 1)) }
+        ensures heap { OnOk result (self.new.heap ≡ (make_native self.old.heap r slots).heap) }
+        ensures told { OnOk result (TellsEvents (N.telling out.old) (N.telling out.new) (make_native self.old.heap r slots).events) }
+        ensures scripts { self.new.scripts ≡ self.old.scripts }
+        ensures keys { KeepsKeys self.old self.new }
+        ensures same { OnErr result (self.new ≡ self.old) }
+        ensures silent { OnErr result (N.telling out.new ≡ N.telling out.old) }
+        ensures order { IsInOrder [] self.new }
+        ensures counts { AreFew self.new.heap }
+        ensures stands { OnOk result (StandsAfter self.old.heap self.new.heap (λ g. graph.step g (command.Native r slots))) }
+        ensures colours { KeepsColours self.old.heap self.new.heap }
+        ensures fresh { KeepsFresh self.old.heap self.new.heap }
+        ensures suspected { KeepsSuspected self.old.heap self.new.heap }
+    {
+        if self.natives_made >= self.limits.natives() {
+            return Err(MakeStop::Full);
+        }
+        let name = Name::Native(NativeNo(self.natives_made + 1));
+        match self.put(slots) {
+            Ok(key) => {
+                self.put_in_register(r, Some(key), out);
+                Ok(name)
+            }
+            Err(NoMemory) => Err(MakeStop::NoMemory),
+        }
+    }
+}

@@ -1,0 +1,30 @@
+//! Script objects marked.
+ghost use Rattle.std.specs.Prelude.{◌≡◌, []};
+ghost use Rattle.cc_model.specs.Colours.{marked, HasColours};
+ghost use Rattle.cc_heaps.specs.Keyed.{IsInOrder};
+ghost use Rattle.cc_heaps.specs.Changes.{KeepsKeys};
+ghost use Rattle.cc_heaps.specs.Standing.{StillStands};
+ghost use Rattle.cc_heaps.specs.Few.{AreFew};
+
+use crate::heaps::Heaps;
+use crate::heaps::roots::{RegisterRoots, SlotRoots};
+use cc_marking::mark;
+
+impl Heaps {
+    /// Gives each script object its colour: black what the script registers reach over slots, gray what else natives hold
+    /// and what that reaches, white the rest. Takes no memory.
+    pub fn mark_scripts(&mut self)
+        requires order { IsInOrder [] self.old }
+        ensures heap { self.new.heap ≡ marked self.old.heap }
+        ensures natives { self.new.keys ≡ self.old.keys }
+        ensures keys { KeepsKeys self.old self.new }
+        ensures order { IsInOrder [] self.new }
+        ensures counts { AreFew self.new.heap }
+        ensures stands { StillStands self.old.heap self.new.heap }
+        ensures colours { HasColours self.new.heap }
+    {
+        let mut registers = RegisterRoots::new(self.script_registers.as_slice());
+        let mut slots = SlotRoots::new(&self.counted);
+        mark(&mut self.scripts, &mut registers, &mut slots);
+    }
+}

@@ -1,0 +1,162 @@
+//! Script objects made, held, written and exposed.
+ghost use Rattle.std.specs.Prelude.{◌≡◌, ◌+◌, ◌<◌, ◌≤◌, [], length, Some, Err, IsTrue, IfOk, IfSome, OnOk, OnErr};
+ghost use Rattle.cc_names.specs.declared.kind.Colour.TheVariants.{Black};
+ghost use Rattle.cc_names.specs.declared.kind.Kind.TheVariants.{Plain};
+ghost use Rattle.cc_names.specs.declared.register.Reg.TheVariants.{S as s_register};
+ghost use Rattle.cc_names.specs.Names.{object};
+ghost use Rattle.cc_model.specs.Heap.{set_register, set_slot};
+ghost use Rattle.cc_model.specs.Effects.{hold_script, make_object, with_object};
+ghost use Rattle.cc_model.specs.Exposure.{exposed};
+ghost use Rattle.cc_model.specs.declared.command.Command.TheVariants as command;
+ghost use Rattle.cc_model.specs.Graph as graph;
+ghost use Rattle.cc_script.specs.Objects.{colour_at, is_there, name_at, slots_at};
+ghost use Rattle.cc_heaps.specs.Keyed.{IsInOrder};
+ghost use Rattle.cc_heaps.specs.Changes.{IsScriptThere, KeepsKeys, script_name};
+ghost use Rattle.cc_heaps.specs.Standing.{IsReached, StandsAfter, StillStands, KeepsFresh, KeepsSuspected, KeepsColours};
+ghost use Rattle.cc_heaps.specs.Few.{AreFew};
+
+use crate::heaps::Heaps;
+use crate::make_stop::MakeStop;
+use cc_names::{Name, NoMemory, SKey, ScriptNo};
+
+impl Heaps {
+    // A script register written. What it holds is exposed before.
+    fn write_script_reg(&mut self, r: u8, content: Option<SKey>)
+        requires order { IsInOrder [] self.old }
+        requires there { IsScriptThere self.old content }
+        ensures heap { self.new.heap ≡ set_register self.old.heap (s_register r) (script_name self.old content) }
+        ensures natives { self.new.keys ≡ self.old.keys }
+        ensures scripts { self.new.scripts ≡ self.old.scripts }
+        ensures order { IsInOrder [] self.new }
+    {
+        self.script_registers[r as usize] = content;
+    }
+
+    // What comes into a script register exposed.
+    fn expose_content(&mut self, content: Option<SKey>)
+        requires order { IsInOrder [] self.old }
+        requires there { IsScriptThere self.old content }
+        ensures heap { self.new.heap ≡ exposed self.old.heap (script_name self.old content) }
+        ensures natives { self.new.keys ≡ self.old.keys }
+        ensures keys { KeepsKeys self.old self.new }
+        ensures name { script_name self.new content ≡ script_name self.old content }
+        ensures there { IsScriptThere self.new content }
+        ensures order { IsInOrder [] self.new }
+    {
+        if let Some(key) = content {
+            self.scripts.expose(key);
+        }
+    }
+
+    // A plain object with the next number and so many empty slots; its key.
+    fn add_plain(&mut self, slots: u8) -> Result<SKey, NoMemory>
+        requires order { IsInOrder [] self.old }
+        requires slots { slots ≤ 64 }
+        requires room { self.old.heap.scripts_made < self.old.heap.limits.scripts }
+        ensures made { OnOk result (self.new.heap.scripts_made ≡ self.old.heap.scripts_made + 1) }
+        ensures heap { OnOk result (self.new.heap ≡ with_object self.old.heap Plain slots) }
+        ensures name { IfOk result (λ key. name_at self.new.scripts key.0 ≡ Some (object (self.old.heap.scripts_made + 1))) }
+        ensures natives { self.new.keys ≡ self.old.keys }
+        ensures keys { KeepsKeys self.old self.new }
+        ensures same { OnErr result (self.new ≡ self.old) }
+        ensures order { IsInOrder [] self.new }
+    {
+        let number = ScriptNo(self.scripts_made + 1);
+        let key = self.scripts.create_plain(number, slots)?;
+        self.scripts_made += 1;
+        Ok(key)
+    }
+
+    /// Makes a plain script object with `slots` empty slots (0 to 64), which register `r` holds from then on. Its name.
+    ///
+    /// `Full` exactly where as many plain objects and weak maps as the limit were ever made; `NoMemory` at any other
+    /// time. Neither changes anything.
+    pub fn new_plain(&mut self, r: u8, slots: u8) -> Result<Name, MakeStop>
+        requires order { IsInOrder [] self.old }
+        requires slots { slots ≤ 64 }
+        ensures full { result ≡ Err MakeStop.Full → self.old.heap.limits.scripts ≤ self.old.heap.scripts_made }
+        ensures full_always { self.old.heap.limits.scripts ≤ self.old.heap.scripts_made → result ≡ Err MakeStop.Full }
+        ensures name { IfOk result (λ x. x ≡ object (self.old.heap.scripts_made + 1)) }
+        ensures heap { OnOk result (self.new.heap ≡ make_object self.old.heap r Plain slots) }
+        ensures natives { self.new.keys ≡ self.old.keys }
+        ensures keys { KeepsKeys self.old self.new }
+        ensures same { OnErr result (self.new ≡ self.old) }
+        ensures order { IsInOrder [] self.new }
+        ensures counts { AreFew self.new.heap }
+        ensures stands { OnOk result (StandsAfter self.old.heap self.new.heap (λ g. graph.step g (command.Script r slots))) }
+        ensures colours { KeepsColours self.old.heap self.new.heap }
+        ensures fresh { KeepsFresh self.old.heap self.new.heap }
+        ensures suspected { KeepsSuspected self.old.heap self.new.heap }
+    {
+        if self.scripts_made >= self.limits.scripts() {
+            return Err(MakeStop::Full);
+        }
+        let name = Name::Script(ScriptNo(self.scripts_made + 1));
+        match self.add_plain(slots) {
+            Ok(key) => {
+                self.write_script_reg(r, Some(key));
+                Ok(name)
+            }
+            Err(NoMemory) => Err(MakeStop::NoMemory),
+        }
+    }
+
+    /// Register `r` holds a script object from then on, or nothing. What comes into it is exposed: it is black, with all
+    /// that it reaches over slots. Takes no memory.
+    pub fn set_script_reg(&mut self, r: u8, content: Option<SKey>)
+        requires order { IsInOrder [] self.old }
+        requires there { IsScriptThere self.old content }
+        ensures heap { self.new.heap ≡ hold_script self.old.heap r (script_name self.old content) }
+        ensures natives { self.new.keys ≡ self.old.keys }
+        ensures keys { KeepsKeys self.old self.new }
+        ensures order { IsInOrder [] self.new }
+        ensures counts { AreFew self.new.heap }
+        ensures stands { IsReached self.old.heap (script_name self.old content) →
+            StandsAfter self.old.heap self.new.heap (λ g. graph.set_register g (s_register r) (script_name self.old content)) }
+        ensures colours { KeepsColours self.old.heap self.new.heap }
+        ensures fresh { KeepsFresh self.old.heap self.new.heap }
+        ensures suspected { KeepsSuspected self.old.heap self.new.heap }
+    {
+        self.expose_content(content);
+        self.write_script_reg(r, content);
+    }
+
+    /// Slot `i` of a script object, counted from 0, holds a black script object from then on, or nothing.
+    pub fn store_script(&mut self, key: SKey, i: u8, content: Option<SKey>)
+        requires order { IsInOrder [] self.old }
+        requires live { IsTrue (is_there self.old.scripts key.0) }
+        requires within { i < length (slots_at self.old.scripts key.0) }
+        requires there { IsScriptThere self.old content }
+        requires black { IfSome content (λ k. colour_at self.old.scripts k.0 ≡ Some Black) }
+        ensures heap { self.new.heap ≡ set_slot self.old.heap (name_at self.old.scripts key.0) i (script_name self.old content) }
+        ensures natives { self.new.keys ≡ self.old.keys }
+        ensures keys { KeepsKeys self.old self.new }
+        ensures order { IsInOrder [] self.new }
+        ensures counts { AreFew self.new.heap }
+        ensures stands { IsReached self.old.heap (name_at self.old.scripts key.0) → IsReached self.old.heap (script_name self.old content) →
+            StandsAfter self.old.heap self.new.heap (λ g. graph.set_slot g (name_at self.old.scripts key.0) i (script_name self.old content)) }
+        ensures colours { KeepsColours self.old.heap self.new.heap }
+        ensures fresh { KeepsFresh self.old.heap self.new.heap }
+        ensures suspected { KeepsSuspected self.old.heap self.new.heap }
+    {
+        self.scripts.set_slot(key, i, content);
+    }
+
+    /// A script object that script touches is black from then on, with all that it reaches over slots: neither through
+    /// natives nor over anything else. Takes no memory.
+    pub fn expose(&mut self, key: SKey)
+        requires order { IsInOrder [] self.old }
+        requires live { IsTrue (is_there self.old.scripts key.0) }
+        ensures heap { self.new.heap ≡ exposed self.old.heap (name_at self.old.scripts key.0) }
+        ensures natives { self.new.keys ≡ self.old.keys }
+        ensures keys { KeepsKeys self.old self.new }
+        ensures order { IsInOrder [] self.new }
+        ensures counts { AreFew self.new.heap }
+        ensures stands { StillStands self.old.heap self.new.heap }
+        ensures colours { KeepsColours self.old.heap self.new.heap }
+        ensures fresh { KeepsFresh self.old.heap self.new.heap }
+        ensures suspected { KeepsSuspected self.old.heap self.new.heap }
+    {
+        self.expose_content(Some(key));
+    }
+}
