@@ -1,5 +1,5 @@
 -- WHEN THE HEAPS ARE WELL FORMED: every name that they mention is in them, and their lists are in order.
-use Rattle.std.specs.Prelude.{◌≡◌, ℕ, ◌≤◌, ◌==◌, true, List, [], ◌∷◌, ◌++◌, map, length, count_by}
+use Rattle.std.specs.Prelude.{◌≡◌, ℕ, ◌≤◌, ◌==◌, true, List, [], ◌++◌, map, length, count_by}
 use Rattle.cc_lists.specs.Members.{Among}
 pub use Rattle.cc_lists.specs.Walks.{IsRising}
 use Rattle.cc_names.specs.declared.name.Name.{Name}
