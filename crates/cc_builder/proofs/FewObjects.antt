@@ -67,7 +67,7 @@ scripts-few v order =
     numbered : (o : HeapScript) → Among o v.heap.scripts → Among o.name (map object (numbers_to v.heap.scripts_made))
     numbered o m =
         let well = order.sound.well_formed in
-        let k = plain-named o.name o.slots (subst (λ (kind : Kind). FitsName o.name kind o.slots) (order.plain o m) (well.kinds o m)) in
+        let k = plain-named o.name o.slots (subst (λ (kind : Kind). FitsName o.name kind o.slots) (order.alone.plain o m) (well.kinds o m)) in
         let bounds = well.object_numbers k.0 (subst (λ x. Among x (script_names v.heap)) k.1 (Among-map (λ (p : HeapScript). p.name) o v.heap.scripts m)) in
         subst (λ x. Among x (map object (numbers_to v.heap.scripts_made))) (sym k.1)
         (Among-map object k.0 (numbers_to v.heap.scripts_made) (numbers_to-among v.heap.scripts_made k.0 bounds.0 bounds.1))

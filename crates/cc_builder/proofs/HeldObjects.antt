@@ -116,7 +116,7 @@ object-at v key order there =
     let o = some-is (object_at v.scripts key.0) there in
     let m = object-among v o.0 order (find-among (λ (p : Object). p.key == key.0) v.scripts o.0 o.1) in
     let well = order.sound.well_formed in
-    let plain : o.0.kind ≡ Plain = order.plain (named_object v.scripts o.0) m in
+    let plain : o.0.kind ≡ Plain = order.alone.plain (named_object v.scripts o.0) m in
     let k = plain-named o.0.name (named_object v.scripts o.0).slots (subst (λ (kind : Kind). FitsName o.0.name kind (named_object v.scripts o.0).slots) plain (well.kinds (named_object v.scripts o.0) m)) in
     record {
       body = o.0;

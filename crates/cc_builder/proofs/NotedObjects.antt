@@ -64,7 +64,7 @@ note-native : (v : Keyed) (key : NKey) → IsInOrder [] v → (s : StandsAt v ke
 note-native v key order s =
     ap (to_note v.heap) (native-name v key s)
     ∙ ap (λ (o : Option HeapNative). option_map (filter (is_noted v.heap)) (option_map (λ (n : HeapNative). targets (native_edges n)) o)) s.found
-    ∙ ap (λ ys. Some (filter (is_noted v.heap) ys)) (targets-native s.body (order.unpreserved s.body (StandsAt-member v key.0 s)))
+    ∙ ap (λ ys. Some (filter (is_noted v.heap) ys)) (targets-native s.body (order.alone.unpreserved s.body (StandsAt-member v key.0 s)))
     ∙ ap Some (noted-contents v.heap s.body.slots)
     ∙ ap (λ slots. Some (flat_map (noted_content v.heap) slots)) (sym (native-slots v key s))
 

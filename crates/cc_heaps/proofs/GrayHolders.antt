@@ -164,7 +164,7 @@ module _ (p : Inside) (l : IsLinked p) where
         edges_if b = elim b [ true ↦ from_to (native n.number) (reflector n.number) ∷ [] | false ↦ [] ]
 
         unpreserved : n.preserved ≡ false
-        unpreserved = o.unpreserved (named_native p.scripts n) (Among-map (named_native p.scripts) n p.counted.natives m)
+        unpreserved = o.alone.unpreserved (named_native p.scripts n) (Among-map (named_native p.scripts) n p.counted.natives m)
 
         found : native_at (counts.heap_of p.counted) n.number ≡ Some n
         found = native_at-member (counts.heap_of p.counted) (IsRising-distinct (counts.heap_of p.counted) (rising-counted p owned o)) n m

@@ -57,7 +57,7 @@ module _ (owned : List ℕ) (v : Keyed) (o : IsInOrder owned v) where
   script-made : (x : Name) → Among x (script_names v.heap) → IsMadeObject v.heap.scripts_made x
   script-made x m =
       let f = Among-map_cases (λ (s : HeapScript). s.name) v.heap.scripts x m in
-      go x m f.0.slots (subst (λ (y : Name). FitsName y Plain f.0.slots) f.2 (subst (λ kind. FitsName f.0.name kind f.0.slots) (o.plain f.0 f.1) (o.sound.well_formed.kinds f.0 f.1)))
+      go x m f.0.slots (subst (λ (y : Name). FitsName y Plain f.0.slots) f.2 (subst (λ kind. FitsName f.0.name kind f.0.slots) (o.alone.plain f.0 f.1) (o.sound.well_formed.kinds f.0 f.1)))
     where
       go : (x : Name) → Among x (script_names v.heap) → (slots : Slots) → FitsName x Plain slots → IsMadeObject v.heap.scripts_made x
       go (name.Native k) m slots fits = absurd fits

@@ -75,7 +75,7 @@ AreObjects-parts owned p l o = record {
   one_name = l.one_name;
   script_names = l.script_names;
   whole = o.whole;
-  plain = λ q m. o.plain (named_object p.scripts q) (Among-map (named_object p.scripts) q p.scripts m);
+  plain = λ q m. o.alone.plain (named_object p.scripts q) (Among-map (named_object p.scripts) q p.scripts m);
 }
 
 -- the keys of natives are those of the counted heap
@@ -141,8 +141,10 @@ module _ (p : Inside) (objects : List Object) (l : IsLinked p) (same : HoldsSame
       one_key = a.one_key;
       whole = a.whole;
       limits = o.limits;
-      plain = each-map (λ q. q.kind ≡ Plain) (named_object objects) objects a.plain;
-      unpreserved = each-map (λ n. n.preserved ≡ false) (named_native objects) p.counted.natives
-          (λ n m. o.unpreserved (named_native p.scripts n) (Among-map (named_native p.scripts) n p.counted.natives m));
-      no_entries = refl;
+      alone = record {
+        plain = each-map (λ q. q.kind ≡ Plain) (named_object objects) objects a.plain;
+        unpreserved = each-map (λ n. n.preserved ≡ false) (named_native objects) p.counted.natives
+            (λ n m. o.alone.unpreserved (named_native p.scripts n) (Among-map (named_native p.scripts) n p.counted.natives m));
+        no_entries = refl;
+      };
     }

@@ -55,9 +55,11 @@ module _ (owned late : List ℕ) (v : Keyed) (o : IsInOrder owned v) (g : Heap) 
     one_key = o.one_key;
     whole = o.whole;
     limits = subst (λ l. (l.natives ≤ 1000000) × (l.scripts ≤ 1000000)) (sym rest.limits) o.limits;
-    plain = subst (λ (os : List HeapScript). (s : HeapScript) → Among s os → s.kind ≡ Plain) (sym rest.scripts) o.plain;
-    unpreserved = rest.unpreserved;
-    no_entries = rest.entries ∙ o.no_entries;
+    alone = record {
+      plain = subst (λ (os : List HeapScript). (s : HeapScript) → Among s os → s.kind ≡ Plain) (sym rest.scripts) o.alone.plain;
+      unpreserved = rest.unpreserved;
+      no_entries = rest.entries ∙ o.alone.no_entries;
+    };
   }
 
   -- heaps of the same natives
@@ -93,7 +95,7 @@ pub IsInOrder-add_ref : (owned : List ℕ) (v : Keyed) (k : ℕ) → Among (nati
 IsInOrder-add_ref owned v k there o =
     IsInOrder-with owned (k ∷ owned) v o (add_ref v.heap k).natives (add_ref v.heap k).buffer
     (add_ref-sound owned v.heap k there o.sound)
-    (each-add_ref Unpreserved v.heap k o.unpreserved)
+    (each-add_ref Unpreserved v.heap k o.alone.unpreserved)
     (numbers-changed v.heap k (λ n. record n { count = n.count + 1 }) (λ n. refl))
 
 -- one given up
@@ -101,14 +103,14 @@ pub IsInOrder-cascade : (owned : List ℕ) (v : Keyed) (k : ℕ) → IsInOrder (
 IsInOrder-cascade owned v k o =
     let f = cascade-frees owned v.heap k o.sound in
     IsInOrder-leave (k ∷ owned) owned f.0 v (cascade v.heap k).heap o (Leave-frees v.heap f.0 (cascade v.heap k) f.1)
-    (each-cascade Unpreserved v.heap k o.unpreserved) (cascade-sound owned v.heap k o.sound)
+    (each-cascade Unpreserved v.heap k o.alone.unpreserved) (cascade-sound owned v.heap k o.sound)
 
 -- a native that is owned unlinked
 pub IsInOrder-unlink : (owned : List ℕ) (v : Keyed) (k : ℕ) → IsInOrder (k ∷ owned) v → IsInOrder (k ∷ owned) (left_with v (unlink v.heap k).heap)
 IsInOrder-unlink owned v k o =
     let f = unlink-keeps (k ∷ owned) v.heap k o.sound (inl refl) in
     IsInOrder-leave (k ∷ owned) (k ∷ owned) f.0 v (unlink v.heap k).heap o f.2.leaves
-    (each-unlink Unpreserved (λ u i e. e) (λ u e. refl) v.heap k o.unpreserved) f.1
+    (each-unlink Unpreserved (λ u i e. e) (λ u e. refl) v.heap k o.alone.unpreserved) f.1
 
 -- counts do not read the buffer
 IsInOrder-buffer : (owned : List ℕ) (v : Keyed) (bs : List Buffered) → IsBuffer v.heap bs → IsInOrder owned v → IsInOrder owned (changed_to v (with_buffer v.heap bs))
@@ -120,7 +122,7 @@ IsInOrder-buffer owned v bs b o =
       none_zero = o.sound.none_zero;
       owned_there = o.sound.owned_there;
     })
-    o.unpreserved refl
+    o.alone.unpreserved refl
 
 -- a native that is suspected
 pub IsInOrder-suspect : (owned : List ℕ) (v : Keyed) (k : ℕ) → Among (native k) (native_names v.heap) → IsInOrder owned v →
@@ -151,7 +153,7 @@ pub IsInOrder-register : (v : Keyed) (r : ℕ) (x : Option Name) → r < 256 →
     IsInOrder (numbers_of (register v.heap (N r)) ++ []) (changed_to v (set_register v.heap (N r) x))
 IsInOrder-register v r x within there o =
     IsInOrder-changed (numbers_of x ++ []) (numbers_of (register v.heap (N r)) ++ []) v o (set_register v.heap (N r) x)
-    (record { limits = refl; scripts = refl; entries = refl; unpreserved = o.unpreserved })
+    (record { limits = refl; scripts = refl; entries = refl; unpreserved = o.alone.unpreserved })
     (native_register-sound [] v.heap r x within there o.sound) refl
 
 -- slot i of native k written, whose new reference is owned: what it held is owned
@@ -160,7 +162,7 @@ pub IsInOrder-slot : (v : Keyed) (k i : ℕ) (n : HeapNative) (x : Option Name) 
 IsInOrder-slot v k i n x found room there o =
     IsInOrder-with (numbers_of x ++ []) (numbers_of (get_or n.slots i None) ++ []) v o (change_native v.heap k (with_native_slot i x)).natives v.heap.buffer
     (native_slot-sound [] v.heap k i n x found room there o.sound)
-    (each-changed Unpreserved v.heap k (with_native_slot i x) (λ m e. e) o.unpreserved)
+    (each-changed Unpreserved v.heap k (with_native_slot i x) (λ m e. e) o.alone.unpreserved)
     (numbers-changed v.heap k (with_native_slot i x) (λ m. refl))
 
 -- a native made, with a key of its own: it is owned
@@ -169,7 +171,7 @@ pub IsInOrder-made : (v : Keyed) (n : ℕ) (keys : List (Option ℕ)) → n ≤ 
     IsInOrder ((v.heap.natives_made + 1) ∷ []) (record { heap = with_native v.heap n; keys = keys; scripts = v.scripts })
 IsInOrder-made v n keys few room k o =
     IsInOrder-keyed [] ((v.heap.natives_made + 1) ∷ []) v o (with_native v.heap n)
-    (record { limits = refl; scripts = refl; entries = refl; unpreserved = each-push (λ (m : HeapNative). m.preserved ≡ false) v.heap.natives new o.unpreserved refl })
+    (record { limits = refl; scripts = refl; entries = refl; unpreserved = each-push (λ (m : HeapNative). m.preserved ≡ false) v.heap.natives new o.alone.unpreserved refl })
     (with_native-sound [] v.heap n o.sound few room) keys k
   where
     new : HeapNative

@@ -66,7 +66,7 @@ module _ (owned : List ℕ) (p : Inside) (f : IsFit owned p) where
 
   no_reflector : (k : ℕ) → count_by (λ (s : HeapScript). same_name s.name (reflector k)) h.scripts ≡ 0
   no_reflector k = count_by-none (λ (s : HeapScript). same_name s.name (reflector k)) h.scripts
-      (λ s m. plain-reflector s.name s.kind s.slots k (o.plain s m) (o.sound.well_formed.kinds s m))
+      (λ s m. plain-reflector s.name s.kind s.slots k (o.alone.plain s m) (o.sound.well_formed.kinds s m))
 
   names : native_names h ≡ native_names alone
   names = native_names-shown p.scripts h alone

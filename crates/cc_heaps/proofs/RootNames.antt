@@ -168,7 +168,7 @@ module _ (p : Inside) (l : IsLinked p) (o : IsInOrder [] (keyed_of p)) where
     keyed = λ x m.
         let f = Among-flat_map_cases scripts_held_by (heap_of p).natives x m in
         let g = Among-map_cases (named_native p.scripts) p.counted.natives f.0 f.1 in
-        let quiet : g.0.preserved ≡ false = o.unpreserved (named_native p.scripts g.0) (Among-map (named_native p.scripts) g.0 p.counted.natives g.1) in
+        let quiet : g.0.preserved ≡ false = o.alone.unpreserved (named_native p.scripts g.0) (Among-map (named_native p.scripts) g.0 p.counted.natives g.1) in
         let h = held-in_slots (named_native p.scripts g.0) x quiet (subst (λ n. Among x (scripts_held_by n)) (sym g.2) f.2) in
         let k = slot-named p l g.0 x g.1 h.0 h.1 in
         (k.0, key-native p.counted.natives g.0 k.0 g.1 k.1, k.2);

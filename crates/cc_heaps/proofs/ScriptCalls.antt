@@ -89,7 +89,7 @@ module _ (p : Inside) (l : IsLinked p) (o : IsInOrder [] (keyed_of p)) where
   becomes-written : (f : Object → Object) → KeepsObjects f → (h : Heap) → with_named (heap_of p) (map f p.scripts) p.scripts_made ≡ h → IsSound [] h →
       AreWhole (map f p.scripts) → Becomes p (with_objects p (map f p.scripts) p.scripts_made) h
   becomes-written f keeps h e s whole = becomes (map f p.scripts) p.scripts_made h (KeepsNames-written f keeps p.scripts) e s
-      (one_key-written f keeps p.scripts l.one_key) whole (plain-written f keeps p.scripts o.plain)
+      (one_key-written f keeps p.scripts l.one_key) whole (plain-written f keeps p.scripts o.alone.plain)
 
   -- AN EXPOSURE
   pub becomes-exposed : (key : ℕ) → IsTrue (is_there p.scripts key) → (objects : List Object) → objects ≡ raised_among (keys_reached p.scripts (key ∷ [])) Black p.scripts →
@@ -156,9 +156,11 @@ module _ (p : Inside) (l : IsLinked p) (o : IsInOrder [] (keyed_of p)) where
       one_key = o.one_key;
       whole = o.whole;
       limits = o.limits;
-      plain = o.plain;
-      unpreserved = o.unpreserved;
-      no_entries = refl;
+      alone = record {
+        plain = o.alone.plain;
+        unpreserved = o.alone.unpreserved;
+        no_entries = refl;
+      };
     };
     linked = record {
       native_registers = l.native_registers;
@@ -277,4 +279,4 @@ becomes-made p l o key n vacant few room objects e =
     (IsNewScript-object (heap_of p) Plain n o.sound.well_formed (subst (λ i. i ≤ 64) (sym (length-replicate n None)) few) room) o.sound)
     (one_key-made p.scripts l.one_key o.whole key (p.scripts_made + 1) n vacant)
     (whole-made p.scripts l.one_key o.whole key (p.scripts_made + 1) n vacant)
-    (plain-made p.scripts l.one_key o.whole key (p.scripts_made + 1) n vacant o.plain))
+    (plain-made p.scripts l.one_key o.whole key (p.scripts_made + 1) n vacant o.alone.plain))

@@ -161,10 +161,12 @@ module _ (p : Inside) (objects : List Object) (made : ℕ) (kept : KeepsNames p.
       one_key = one;
       whole = whole;
       limits = o.limits;
-      plain = plain;
-      unpreserved = each-map (λ n. n.preserved ≡ false) (named_native objects) p.counted.natives
-          (λ n m. o.unpreserved (named_native p.scripts n) (Among-map (named_native p.scripts) n p.counted.natives m));
-      no_entries = refl;
+      alone = record {
+        plain = plain;
+        unpreserved = each-map (λ n. n.preserved ≡ false) (named_native objects) p.counted.natives
+            (λ n m. o.alone.unpreserved (named_native p.scripts n) (Among-map (named_native p.scripts) n p.counted.natives m));
+        no_entries = refl;
+      };
     }
       where
         numbers : (os : List Object) → map (λ n. n.number) (map (keyed_native os) (map (named_native os) p.counted.natives)) ≡ map (λ n. n.number) p.counted.natives

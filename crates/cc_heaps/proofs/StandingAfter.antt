@@ -204,7 +204,7 @@ module _ (v w : Keyed) (o : IsInOrder [] v) (p : IsInOrder [] w) where
   object-named : (y : Name) → Among y (script_names v.heap) → (k : ℕ) × (y ≡ object k)
   object-named y there =
       let f = Among-map_cases (λ (q : HeapScript). q.name) v.heap.scripts y there in
-      subst (λ z. (k : ℕ) × (z ≡ object k)) f.2 (plain-named f.0.name f.0.kind f.0.slots (o.plain f.0 f.1) (o.sound.well_formed.kinds f.0 f.1))
+      subst (λ z. (k : ℕ) × (z ≡ object k)) f.2 (plain-named f.0.name f.0.kind f.0.slots (o.alone.plain f.0 f.1) (o.sound.well_formed.kinds f.0 f.1))
 
   -- so has the one at a key
   name_at-object : (key : ℕ) → IsTrue (is_there v.scripts key) → (k : ℕ) × (name_at v.scripts key ≡ Some (object k))

@@ -140,7 +140,7 @@ module _ (p : Inside) (l : IsLinked p) (o : IsInOrder [] (keyed_of p)) (c : HasC
       ∙ sym (map-agree (named_object (left_objects p)) (named_object p.scripts) (left_objects p) named-left))
 
   swept : sweep (heap_of p) ≡ record { heap = with_named (heap_of p) (left_objects p); events = freed (unmarked (heap_of p)) }
-  swept = sweep-plain (heap_of p) o.sound.well_formed o.plain refl
+  swept = sweep-plain (heap_of p) o.sound.well_formed o.alone.plain refl
       ∙ ap (λ scripts. record { heap = record (heap_of p) { scripts = scripts }; events = freed (unmarked (heap_of p)) }) scripts-left
 
   -- THE SWEEP IS THAT OF THE DEFINITIONS

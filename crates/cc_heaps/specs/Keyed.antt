@@ -59,8 +59,15 @@ changed_to v h = record v { heap = h }
 abbrev pub left_with : Keyed → Heap → Keyed
 left_with v h = record v { heap = h; keys = map (key_left h) v.keys }
 
+-- NATIVES AND PLAIN SCRIPT OBJECTS ALONE are there: no reflector and no weak map was made, so no native is preserved, and
+-- there are no entries
+pub record HoldsPlainObjectsAlone (h : Heap) : Type 0 where
+  pub plain : (o : HeapScript) → Among o h.scripts → o.kind ≡ Plain
+  pub unpreserved : (n : HeapNative) → Among n h.natives → n.preserved ≡ false
+  pub no_entries : h.entries ≡ []
+
 -- THE JOINT FACTS, where these references are owned besides: the heaps are sound, each object stands at one key, slots of
--- script objects hold what is there, and limits keep their range. There are no reflectors and no weak maps yet.
+-- script objects hold what is there, limits keep their range, and natives and plain script objects alone are there.
 pub record IsInOrder (owned : List ℕ) (v : Keyed) : Type 0 where
   pub sound : IsSound owned v.heap
   pub keyed : HasKeys (counts_of v)
@@ -68,6 +75,4 @@ pub record IsInOrder (owned : List ℕ) (v : Keyed) : Type 0 where
   pub one_key : (key : ℕ) → count_by (λ o. o.key == key) v.scripts ≤ 1
   pub whole : AreWhole v.scripts
   pub limits : (v.heap.limits.natives ≤ 1000000) × (v.heap.limits.scripts ≤ 1000000)
-  pub plain : (o : HeapScript) → Among o v.heap.scripts → o.kind ≡ Plain
-  pub unpreserved : (n : HeapNative) → Among n v.heap.natives → n.preserved ≡ false
-  pub no_entries : v.heap.entries ≡ []
+  pub alone : HoldsPlainObjectsAlone v.heap

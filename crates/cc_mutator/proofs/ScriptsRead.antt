@@ -56,16 +56,16 @@ module _ (owned : List ℕ) (v : Keyed) (order : IsInOrder owned v) where
   -- the slots of a script object that is there
   slots-of_object : (o : HeapScript) → Among o v.heap.scripts → slots_in v.heap o.name ≡ Some o.slots
   slots-of_object o m =
-      let plain = plain-named o.name o.slots (subst (λ kind. FitsName o.name kind o.slots) (order.plain o m) (order.sound.well_formed.kinds o m)) in
+      let plain = plain-named o.name o.slots (subst (λ kind. FitsName o.name kind o.slots) (order.alone.plain o m) (order.sound.well_formed.kinds o m)) in
       let found : script_at v.heap (object plain.0) ≡ Some o =
       find-only (λ (p : HeapScript). same_name p.name (object plain.0)) v.heap.scripts o (one-name (object plain.0)) m
       (ap (λ x. same_name x (object plain.0)) plain.1 ∙ same_name-refl (object plain.0)) in
-      ap (slots_in v.heap) plain.1 ∙ (ap (λ f. option_and_then slots_of_script f) found ∙ ap (λ kind. slots_of_kind kind o.slots) (order.plain o m))
+      ap (slots_in v.heap) plain.1 ∙ (ap (λ f. option_and_then slots_of_script f) found ∙ ap (λ kind. slots_of_kind kind o.slots) (order.alone.plain o m))
 
   -- and they are few
   slots-of_object-few : (o : HeapScript) → Among o v.heap.scripts → length o.slots ≤ 64
   slots-of_object-few o m =
-      (plain-named o.name o.slots (subst (λ kind. FitsName o.name kind o.slots) (order.plain o m) (order.sound.well_formed.kinds o m))).2
+      (plain-named o.name o.slots (subst (λ kind. FitsName o.name kind o.slots) (order.alone.plain o m) (order.sound.well_formed.kinds o m))).2
 
   -- no register holds a weak map
   pub no_map : (r : ℕ) → is_map_in (objects_of v.heap) (register v.heap (S r)) ≡ false
@@ -86,7 +86,7 @@ module _ (owned : List ℕ) (v : Keyed) (order : IsInOrder owned v) where
       go (Some y) h =
           let f = Among-map_cases (λ (o : HeapScript). o.name) v.heap.scripts y (order.sound.well_formed.script_registers y (h y (inl refl))) in
           let o = f.0 in
-          let plain = plain-named o.name o.slots (subst (λ kind. FitsName o.name kind o.slots) (order.plain o f.1) (order.sound.well_formed.kinds o f.1)) in
+          let plain = plain-named o.name o.slots (subst (λ kind. FitsName o.name kind o.slots) (order.alone.plain o f.1) (order.sound.well_formed.kinds o f.1)) in
           ap (λ z. preserve v.heap (Some z)) (sym f.2 ∙ plain.1)
 
   module _ (r : ℕ) (key : SKey) (name : script_name v (Some key) ≡ register v.heap (S r)) (there : IsTrue (is_there v.scripts key.0)) where

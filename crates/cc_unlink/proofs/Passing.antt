@@ -134,9 +134,7 @@ IsInOrder-permuted early late v same i = record {
   one_key = i.one_key;
   whole = i.whole;
   limits = i.limits;
-  plain = i.plain;
-  unpreserved = i.unpreserved;
-  no_entries = i.no_entries;
+  alone = i.alone;
 }
 
 -- one that is owned may stand in front

@@ -37,9 +37,11 @@ empty-order l few = record {
   one_key = λ key. omega arith;
   whole = λ o q m. absurd m;
   limits = few;
-  plain = λ o m. absurd m;
-  unpreserved = λ n m. absurd m;
-  no_entries = refl;
+  alone = record {
+    plain = λ o m. absurd m;
+    unpreserved = λ n m. absurd m;
+    no_entries = refl;
+  };
 }
 
 module _ (natives : Vec (Option NKey)) (scripts : Vec (Option SKey)) (limits : Allowance) {counted : Counts} {objects : List Object}
