@@ -1,8 +1,7 @@
 -- THE WALK OVER THE NATIVES THAT HOLD A GRAY SCRIPT OBJECT, by keys.
-use Rattle.std.proofs.Common.{◌≡◌, ◌≢◌, ℕ, ◌<◌, Bool, true, false, cond, List, [], ◌∷◌, map, length, Option, Some, None, IsSome, refl, sym, ◌∙◌, ap, subst}
+use Rattle.std.proofs.Common.{◌≡◌, ◌≢◌, ℕ, ◌<◌, List, [], ◌∷◌, map, length, Option, Some, None, refl, sym, ◌∙◌, ap, subst}
 use Rattle.std.specs.List.{filter}
-use Rattle.cc_lists.specs.Members.{Among, with_last, with_all_last}
-use Rattle.cc_lists.proofs.Members.{Among-map, Among-map_cases, Among-filtered}
+use Rattle.cc_lists.specs.Members.{with_last, with_all_last}
 use Rattle.cc_names.specs.declared.number.NKey.{NKey}
 use Rattle.cc_names.specs.declared.name.Name.{Name}
 use Rattle.cc_names.specs.Names.{native, same_name}

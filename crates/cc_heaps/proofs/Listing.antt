@@ -1,9 +1,8 @@
 -- NATIVES LISTED one after the other, and then script objects: those listed so far, and those that are left.
-use Rattle.std.proofs.Common.{◌≡◌, ℕ, ◌+◌, ◌<◌, ◌≤◌, ◌==◌, Bool, true, false, List, [], ◌∷◌, ◌++◌, map, length, Option, Some, None, IfSome, option_map, refl, sym, ◌∙◌, ap, subst, inl, inr, arith, append-nil, length-append, nat_lt, count_by}
+use Rattle.std.proofs.Common.{◌≡◌, ℕ, ◌+◌, ◌<◌, ◌≤◌, true, List, [], ◌∷◌, ◌++◌, map, length, Option, Some, None, IfSome, option_map, refl, sym, ◌∙◌, ap, subst, arith, append-nil, length-append, nat_lt}
 use Rattle.std.specs.Prelude.{IsTrue}
 use Rattle.std.specs.List.{filter}
 use Rattle.std.specs.Option.{is_some, option_and_then}
-use Rattle.std.proofs.lemmas.Bool.{eq-eqb, lt-ltb, le-ltb, true≢false}
 use Rattle.std.proofs.lemmas.Grind.{flat_map-append}
 use Rattle.std.proofs.lemmas.List.{length-map, map-append, append_assoc}
 use Rattle.std.proofs.lemmas.Simd.{map-map}
@@ -12,8 +11,6 @@ use Rattle.cc_lists.specs.Walks.{HasDistinctKeys, first_key, left_at, next_key}
 use Rattle.cc_lists.proofs.Rising.{rising-distinct}
 use Rattle.cc_lists.proofs.RisingWalks.{next-above}
 use Rattle.cc_lists.proofs.Walks.{StandsAt, first-stands, left-first, left-next, next-stands, stands-at}
-use Rattle.cc_lists.proofs.Members.{Among-map, Among-right}
-use Rattle.cc_lists.proofs.Counting.{count_by-cons, count_by-some}
 use Rattle.cc_lists.proofs.ListWrites.{map-kept}
 use Rattle.cc_names.specs.declared.name.Name.{Name}
 use Rattle.cc_names.specs.declared.number.NKey.{NKey}
@@ -25,7 +22,6 @@ use Rattle.cc_model.specs.Texts.{text_of, texts_of}
 use Rattle.cc_model.specs.Heap.{HeapNative, HeapScript}
 use Rattle.cc_model.specs.WellFormed.{IsRising, native_names, script_names}
 use Rattle.cc_model.proofs.Tellings.{Tells-nil, Tells-trans}
-use Rattle.cc_laws_heap.proofs.Rising.{IsRising-tail, IsRising-first}
 use Rattle.cc_counted.specs.Counts.{Counts, number_at, the_number, number_or_none, first_number, number_after}
 use Rattle.cc_script.specs.Objects.{Object, is_there, name_at, first_key as first_object, key_after}
 use Rattle.cc_heaps.specs.Keyed.{IsInOrder, named_object}

@@ -1,23 +1,18 @@
 -- THE WALKS OVER ROOTS: over registers, over the slots of a native, and over natives by rising number.
-use Rattle.std.proofs.Common.{◌≡◌, ℕ, suc, ◌+◌, ◌<◌, ◌≤◌, ◌&&◌, Bool, true, false, List, [], ◌∷◌, ◌++◌, drop, get_or, length, map, nat_lt, Option, Some, None, IfSome, IsSome, refl, sym, ◌∙◌, ap, subst, inl, arith}
+use Rattle.std.proofs.Common.{◌≡◌, ℕ, suc, ◌+◌, ◌<◌, ◌≤◌, true, List, [], ◌∷◌, ◌++◌, drop, get_or, length, nat_lt, Option, Some, None, IfSome, IsSome, refl, sym, ◌∙◌, ap, subst, inl, arith}
 use Rattle.std.specs.List.{filter}
 use Rattle.std.specs.Option.{option_and_then, option_map}
-use Rattle.std.proofs.Math.Bool.{and-false}
-use Rattle.std.proofs.Math.Path.{fun_ext}
-use Rattle.std.proofs.lemmas.Bool.{ltb-true, lt-ltb, le-ltb}
 use Rattle.std.proofs.lemmas.List.{at_drop_more, drop_all}
 use Rattle.cc_lists.specs.Members.{Among}
-use Rattle.cc_lists.proofs.Members.{Among-map, Among-filtered, Among-passes}
-use Rattle.cc_lists.proofs.Searching.{filter-map, filter-true, filter-filter}
+use Rattle.cc_lists.proofs.Members.{Among-filtered}
+use Rattle.cc_lists.proofs.Searching.{filter-true}
 use Rattle.cc_lists.specs.Walks.{is_above}
 use Rattle.cc_lists.proofs.RisingWalks.{above-first}
 use Rattle.cc_names.specs.declared.number.NKey.{NKey}
 use Rattle.cc_names.specs.declared.number.SKey.{SKey}
 use Rattle.cc_names.specs.Names.{native}
 use Rattle.cc_model.specs.Heap.{HeapNative, native_at}
-use Rattle.cc_model.specs.WellFormed.{IsRising}
 use Rattle.cc_model.specs.Slots.{Slots}
-use Rattle.cc_laws_heap.proofs.Rising.{IsRising-filter, IsRising-first}
 use Rattle.cc_laws_heap.proofs.Natives.{IsRising-distinct, native_at-member}
 use Rattle.cc_counted.specs.declared.held.Held.{Held}
 use Rattle.cc_counted.specs.declared.held.Held.TheVariants as held

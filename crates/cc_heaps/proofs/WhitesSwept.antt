@@ -1,20 +1,15 @@
 -- WHITE OBJECTS ARE TAKEN OUT IN TURN, by keys: of those before the place to which a walk has come the white ones are gone,
 -- and they are told.
-use Rattle.std.proofs.Common.{◌≡◌, ℕ, suc, ◌+◌, ◌<◌, ◌≤◌, ◌==◌, Bool, true, false, not, ◌||◌, cond, if◌then◌else◌, List, [], ◌∷◌, ◌++◌, length, map, Option, Some, None, IfSome, option_map, refl, sym, ◌∙◌, ap, subst, inl, inr, arith, count_by, append-nil}
+use Rattle.std.proofs.Common.{◌≡◌, ℕ, ◌<◌, ◌≤◌, Bool, true, false, not, ◌||◌, if◌then◌else◌, List, [], ◌∷◌, ◌++◌, length, map, Option, Some, None, IfSome, option_map, refl, sym, ◌∙◌, ap, subst, arith, append-nil}
 use Rattle.std.specs.Prelude.{IsTrue}
 use Rattle.std.specs.List.{filter}
 use Rattle.std.specs.Option.{is_some}
-use Rattle.std.proofs.lemmas.Bool.{eq-eqb}
 use Rattle.std.proofs.lemmas.List.{map-append, append_assoc}
 use Rattle.std.proofs.lemmas.List.Elements.{filter-append}
 use Rattle.std.proofs.lemmas.Grind.{flat_map-append}
-use Rattle.cc_lists.specs.Members.{Among}
 use Rattle.cc_lists.specs.Walks.{left_at}
 use Rattle.cc_lists.proofs.Walks.{AreOthers, others-around, found-between, next-between, left-between, without-between}
 use Rattle.cc_lists.proofs.Members.{Among-filtered}
-use Rattle.cc_lists.proofs.Counting.{count_by-cons, count_by-append}
-use Rattle.cc_lists.proofs.CountsOf.{count_by-none_passes}
-use Rattle.cc_lists.proofs.Filtering.{filter-each}
 use Rattle.cc_names.specs.declared.name.Name.{Name}
 use Rattle.cc_names.specs.declared.number.SKey.{SKey}
 use Rattle.cc_model.specs.declared.item.Event.TheVariants.{Freed}

@@ -1,7 +1,6 @@
 -- A PASS OVER THE WHITE NATIVES by rising number: those that are left of it, that a step leaves them, and what is told.
 use Rattle.std.proofs.Common.{◌≡◌, ℕ, suc, ◌<◌, Bool, true, false, not, ◌==◌, List, [], ◌∷◌, ◌++◌, map, length, Option, Some, None, IsSome, IfSome, option_and_then, refl, sym, ◌∙◌, ap, subst, inl, inr, ◌⊎◌, ⊎_elim, arith}
 use Rattle.std.specs.List.{filter}
-use Rattle.std.proofs.lemmas.Bool.{false≢true}
 use Rattle.cc_lists.specs.Members.{Among, has}
 use Rattle.cc_lists.proofs.Members.{Among-filtered, has-among}
 use Rattle.cc_names.specs.declared.number.NKey.{NKey}

@@ -1,7 +1,6 @@
-use Rattle.std.proofs.Common.{ap, subst, sym}
+use Rattle.std.proofs.Common.{subst, sym}
 use Rattle.cc_model.specs.Heap.{suspect}
-use Rattle.cc_model.specs.WellFormed.{IsWellFormed}
-use Rattle.cc_heaps.specs.Keyed.{Keyed, the_number, changed_to}
+use Rattle.cc_heaps.specs.Keyed.{Keyed, the_number}
 use Rattle.cc_heaps.specs.Fields.{keyed_of}
 use Rattle.cc_heaps.specs.Standing.{KeepsColours, KeepsFresh, KeepsSuspected, StillStands}
 use Rattle.cc_heaps.proofs.Calls.{number-there, changed-keyed, changed-order, changed-linked, give_back-changes}

@@ -1,4 +1,4 @@
-use Rattle.std.proofs.Common.{◌<◌, sym, ◌∙◌, subst, arith}
+use Rattle.std.proofs.Common.{◌<◌, sym, subst, arith}
 use Rattle.cc_model.specs.declared.command.Command.TheVariants.{Script}
 use Rattle.cc_model.specs.Graph.{step}
 use Rattle.cc_heaps.specs.Keyed.{Keyed}

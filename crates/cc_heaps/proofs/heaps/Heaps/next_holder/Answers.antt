@@ -4,7 +4,7 @@ use Rattle.cc_heaps.specs.GrayHeld.{is_holder}
 use Rattle.cc_heaps.specs.Fields.{keyed_of}
 use Rattle.cc_heaps.proofs.Keying.{counts-back}
 use Rattle.cc_heaps.proofs.Listing.{none-left}
-use Rattle.cc_heaps.proofs.Registers.{live-there, there-live}
+use Rattle.cc_heaps.proofs.Registers.{live-there}
 use Rattle.cc_heaps.proofs.HolderWalk.{IsLooking-start, IsLooking-next, key-there, numbers_left-less, holder-found, holder-none}
 use Rattle.cc_heaps.proofs.heaps.Heaps.next_holder.Goals as goal
 

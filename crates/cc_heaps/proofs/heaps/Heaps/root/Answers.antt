@@ -1,4 +1,4 @@
-use Rattle.std.proofs.Common.{◌∷◌, arith, sym, subst}
+use Rattle.std.proofs.Common.{arith, sym, subst}
 use Rattle.cc_model.specs.Cascade.{add_ref}
 use Rattle.cc_heaps.specs.Keyed.{the_number, changed_to, Keyed}
 use Rattle.cc_heaps.specs.Fields.{keyed_of}

@@ -1,4 +1,4 @@
-use Rattle.std.proofs.Common.{◌≡◌, ℕ, ◌<◌, length, get_or, map, Option, Some, None, sym, ◌∙◌, ap, subst, arith}
+use Rattle.std.proofs.Common.{◌≡◌, ℕ, ◌<◌, length, get_or, map, Option, Some, None, sym, ◌∙◌, ap, subst}
 use Rattle.cc_names.specs.declared.name.Name.{Name}
 use Rattle.cc_names.specs.declared.number.NKey.{NKey}
 use Rattle.cc_names.specs.Names.{native}
@@ -10,8 +10,6 @@ use Rattle.cc_model.specs.Heap.{native_at, set_slot}
 use Rattle.cc_model.specs.Cascade.{take_up, let_go}
 use Rattle.cc_model.specs.End.{slots_now}
 use Rattle.cc_counted.specs.declared.held.Held.{Held}
-use Rattle.cc_counted.specs.Counts.{Counts}
-use Rattle.cc_counted.specs.Counts as counts
 use Rattle.cc_heaps.specs.Keyed.{Keyed, the_number, changed_to, left_with}
 use Rattle.cc_heaps.specs.Changes.{held_name, stored_in, IsBlackHeld}
 use Rattle.cc_heaps.proofs.SlotsHeld.{slots-taken}
