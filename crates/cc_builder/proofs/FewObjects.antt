@@ -3,7 +3,7 @@ use Rattle.std.proofs.Common.{◌≡◌, ℕ, zero, suc, ◌+◌, ◌<◌, ◌�
 use Rattle.std.proofs.lemmas.List.{length-map}
 use Rattle.cc_lists.specs.Members.{Among}
 use Rattle.cc_lists.proofs.Members.{Among-map, Among-left, Among-right}
-use Rattle.cc_lists.proofs.Counting.{count_by-below, count_by-cons, count_by-some, counted_is}
+use Rattle.cc_lists.proofs.Counting.{count_by-below, count_by-cons, count_by-some, counted_is, count_by-all}
 use Rattle.cc_names.specs.Names.{native, object, same_name}
 use Rattle.cc_names.specs.declared.name.Name.{Name}
 use Rattle.cc_names.specs.declared.name.Name.TheVariants as name
@@ -34,11 +34,6 @@ numbers_to-among (suc m) k low high = ⊎_elim
 numbers_to-length : (m : ℕ) → length (numbers_to m) ≡ m
 numbers_to-length zero = refl
 numbers_to-length (suc m) = ap suc (numbers_to-length m)
-
--- all are counted
-count_by-all : {X : Type 0} (xs : List X) → count_by (λ x. true) xs ≡ length xs
-count_by-all [] = refl
-count_by-all {X} (x ∷ xs) = omega (arith, count_by-cons (λ (y : X). true) x xs, count_by-all xs)
 
 -- things with distinct names of a list are no more than these
 distinct-few : {X : Type 0} (named : X → Name) (xs : List X) (ys : List Name) → ((y : Name) → count_by (λ x. same_name (named x) y) xs ≤ 1) →

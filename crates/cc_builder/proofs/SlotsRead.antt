@@ -3,6 +3,7 @@
 use Rattle.std.proofs.Common.{◌≡◌, ℕ, zero, suc, List, [], ◌∷◌, Option, Some, None, IsTrue, option_map, option_and_then, sym, ◌∙◌, ap, subst, inl, inr, get_or}
 use Rattle.std.proofs.Math.ListN.{get_or-map}
 use Rattle.cc_lists.specs.Members.{Among}
+use Rattle.cc_lists.proofs.Places.{among-get}
 use Rattle.cc_names.specs.declared.number.NKey.{NKey}
 use Rattle.cc_names.specs.declared.number.SKey.{SKey}
 use Rattle.cc_names.specs.Names.{object}
@@ -42,11 +43,6 @@ native-slot-read v c object key i r order there at same name live =
 
 -- WHAT WAS READ OF A SLOT OF A SCRIPT OBJECT
 
-key-among : (slots : List (Option ℕ)) (i q : ℕ) → get_or slots i None ≡ Some q → Among (Some q) slots
-key-among [] i q e = absurd (cc)
-key-among (x ∷ slots) zero q e = inl e
-key-among (x ∷ slots) (suc i) q e = inr (key-among slots i q e)
-
 -- the key that was read
 abbrev key_held : Option SKey → Option ℕ
 key_held r = option_map (λ (k : SKey). k.0) r
@@ -69,4 +65,4 @@ object-slot-read v scripts object key i r o order there at same read is =
     by_content : (o : Option SKey) (s : IsObjectAt v key.0) → key_held o ≡ get_or s.body.slots i None → name_held v.scripts (key_held o) ≡ get_or (held_slots v object) i None →
         (script_name v o ≡ get_or (held_slots v object) i None) × IsScriptThere v o
     by_content None s now name = (name, tt)
-    by_content (Some q) s now name = (name, order.whole s.body q.0 (IsObjectAt-member v key.0 s) (key-among s.body.slots i q.0 (sym now)))
+    by_content (Some q) s now name = (name, order.whole s.body q.0 (IsObjectAt-member v key.0 s) (among-get s.body.slots i q.0 (sym now)))

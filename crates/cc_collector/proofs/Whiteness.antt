@@ -17,6 +17,7 @@ use Rattle.cc_model.specs.Heap.{HeapNative}
 use Rattle.cc_model.specs.View.{View, view, counted, scripts_there, is_there}
 use Rattle.cc_model.specs.Snapshot.{traversed, Node, Snapshot, node_names, noted_to, is_above, is_seed, seeds, mapping_joint, black_in_rules, BlackIn, black_in, is_white, white_names, white_natives}
 use Rattle.cc_lists.proofs.Numbers.{number-exact}
+use Rattle.cc_lists.proofs.Filtering.{filter-agree}
 use Rattle.cc_graph.specs.Shown.{Vertex, Edge, Shown, number_of, edges_to, is_black}
 use Rattle.cc_heaps.specs.Keyed.{Keyed}
 use Rattle.cc_builder.specs.Building.{Built, HasNoSample, IsBuilt, state_by_sample, nodes_of, vertex_names, vertex_name, reference_of, snapshot_of}
@@ -27,11 +28,6 @@ use Rattle.cc_unlink.specs.Whites.{is_white_node, is_white_in, whites_of}
 use Rattle.cc_graph.proofs.MarkedNodes.{numbers-passing, passing-numbers}
 use Rattle.cc_builder.proofs.NodesByName.{name-at, node-at, distinct-number, IsNumberOf, number_from-some, number_from-none, node_behind, nodes-node_behind, names-node_behind, noted-same}
 use Rattle.cc_heaps.proofs.Reaching.{same-tests}
-
--- tests that agree on the members filter the same
-filter-alike : {X : Type 0} (p q : X → Bool) (xs : List X) → ((x : X) → Among x xs → p x ≡ q x) → filter p xs ≡ filter q xs
-filter-alike p q [] h = refl
-filter-alike p q (x ∷ xs) h = rw (h x (inl refl), filter-alike p q xs (λ y m. h y (inr m))) refl
 
 above-exceeds : (s : Snapshot) (x : Name) (noted : ℕ) (sampled : Option ℕ) → noted_to s x ≡ noted → is_above s x (state_by_sample sampled) ≡ exceeds noted sampled
 above-exceeds s x noted None e = refl
@@ -269,7 +265,7 @@ module _ (b : Built) (v : Keyed) (built : IsBuilt b v) (all : b.next ≡ length 
     -- THE LAW
     pub whites-are : whites_of g v.heap ≡ white_natives v.heap (snapshot_of b)
     unfolding white_natives
-    whites-are = ap (map (λ (n : HeapNative). n.number)) (filter-alike (is_white_in g) (λ n. has same_name (white_names (view v.heap) s) (native n.number)) v.heap.natives
+    whites-are = ap (map (λ (n : HeapNative). n.number)) (filter-agree (is_white_in g) (λ n. has same_name (white_names (view v.heap) s) (native n.number)) v.heap.natives
         (λ n there. sym (white-alike n there)))
 
 -- After what is touched became black in a graph that was built, and then what the scan makes black, what is white in it is
