@@ -1,5 +1,6 @@
 -- WHAT A COUNTED HEAP SHOWS: its natives and its buffer by names, and which native stands at which key.
 use Rattle.std.specs.Prelude.{ℕ, zero, Bool, true, List, [], ◌∷◌, map, filter, Option, Some, None, option_map, slice_index_or, nat_lt, is_some, if◌then◌else◌}
+use Rattle.cc_lists.specs.Walks.{first_key}
 use Rattle.cc_names.specs.Allowance.{Allowance}
 use Rattle.cc_names.specs.declared.name.Name.{Name}
 use Rattle.cc_names.specs.declared.number.NKey.{NKey}
@@ -101,8 +102,7 @@ count_of c key = count_at (native_at (heap_of c) (the_number c key))
 
 -- the first of the natives with a greater number than k
 abbrev pub first_number : List HeapNative → Option ℕ
-first_number [] = None
-first_number (n ∷ ns) = Some n.number
+first_number natives = first_key (λ n. n.number) natives
 
 abbrev pub number_after : Counts → ℕ → Option ℕ
 number_after c k = first_number (filter (λ n. nat_lt k n.number) c.natives)

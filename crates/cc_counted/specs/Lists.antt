@@ -1,7 +1,6 @@
 -- THE PARTS OF A COUNTED HEAP AS LISTS, by keys, and what they show by numbers.
 use Rattle.std.specs.Prelude.{◌≡◌, ◌⊎◌, ℕ, ◌+◌, ◌-◌, ◌≤◌, ◌==◌, true, false, not, List, [], ◌++◌, length, filter, ◌∷◌, map, flat_map, Option, Some, None, option_map, slice_index_or, slice_set}
 use Rattle.cc_lists.specs.Members.{Among}
-use Rattle.cc_lists.specs.Walks.{first_of}
 use Rattle.cc_model.specs.declared.item.Event.{Event}
 use Rattle.cc_model.specs.Slots.{Slots}
 use Rattle.cc_model.specs.Heap.{HeapNative, Buffered}
@@ -127,11 +126,6 @@ pub record LeavesCells (old new : List (Option Placed)) : Type 0 where
 pub record LeavesKeys (old new : List (Option Placed)) : Type 0 where
   pub as_many : length new ≡ length old
   pub each : (key : ℕ) → (number_at (keyed new) key ≡ None) ⊎ (number_at (keyed new) key ≡ number_at (keyed old) key)
-
--- the key behind a key
-abbrev pub key_behind : ℕ → List ℕ → Option ℕ
-key_behind key [] = None
-key_behind key (k ∷ ks) = elim (k == key) [ true ↦ first_of ks | false ↦ key_behind key ks ]
 
 -- the lists with a native made, which stands at a key of these cells
 abbrev pub made : Lists → List (Option Placed) → ℕ → Lists

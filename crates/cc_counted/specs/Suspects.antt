@@ -1,5 +1,6 @@
 -- THE BUFFER OF A COUNTED HEAP READ BY NUMBERS.
-use Rattle.std.specs.Prelude.{ℕ, Bool, true, false, ◌==◌, List, [], ◌∷◌, Option, Some, None}
+use Rattle.std.specs.Prelude.{ℕ, Bool, true, false, ◌==◌, List, [], ◌∷◌, Option}
+use Rattle.cc_lists.specs.Walks.{first_key, next_key}
 use Rattle.cc_model.specs.Heap.{Buffered}
 
 -- whether native k stands in the buffer
@@ -14,10 +15,8 @@ is_purple_in (b ∷ bs) k = elim (b.number == k) [ true ↦ b.purple | false ↦
 
 -- the number in front
 abbrev pub front_number : List Buffered → Option ℕ
-front_number [] = None
-front_number (b ∷ bs) = Some b.number
+front_number buffer = first_key (λ b. b.number) buffer
 
 -- the number behind k, in buffer order
 abbrev pub number_behind : List Buffered → ℕ → Option ℕ
-number_behind [] k = None
-number_behind (b ∷ bs) k = elim (b.number == k) [ true ↦ front_number bs | false ↦ number_behind bs k ]
+number_behind buffer k = next_key (λ b. b.number) buffer k
