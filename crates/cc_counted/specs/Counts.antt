@@ -60,6 +60,11 @@ native_held None = None
 native_held (Some (held.Native key)) = Some key
 native_held (Some (held.Script key)) = None
 
+-- what a native register holds, as a slot holds it
+abbrev pub held_of_native : Option NKey → Option Held
+held_of_native None = None
+held_of_native (Some key) = Some (held.Native key)
+
 -- limits that nothing looks at
 abbrev pub no_limits : Allowance
 no_limits = record { natives = 0; scripts = 0; bytes = 0 }

@@ -1,6 +1,6 @@
 //! What a slot of a native holds.
 ghost use Rattle.std.specs.Prelude.{◌≡◌};
-ghost use Rattle.cc_counted.specs.Counts.{native_held};
+ghost use Rattle.cc_counted.specs.Counts.{held_of_native, native_held};
 
 use cc_names::{NKey, SKey};
 
@@ -13,8 +13,20 @@ pub enum Held {
     Script(SKey),
 }
 
+impl Held {
+    /// What a native register holds, as a slot holds it.
+    pub fn of_native(content: Option<NKey>) -> Option<Held>
+        ensures { result ≡ held_of_native content }
+    {
+        match content {
+            Some(key) => Some(Held::Native(key)),
+            None => None,
+        }
+    }
+}
+
 /// The key of the native in a slot; none of an empty slot, and of one that holds a script object.
-pub(crate) fn native_held(slot: Option<Held>) -> Option<NKey>
+pub fn native_held(slot: Option<Held>) -> Option<NKey>
     ensures { result ≡ native_held slot }
 {
     match slot {

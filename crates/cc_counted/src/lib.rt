@@ -20,7 +20,7 @@ mod order;
 mod parts;
 
 pub use counted::Counted;
-pub use held::Held;
+pub use held::{Held, native_held};
 
 #[cfg(test)]
 mod tests;

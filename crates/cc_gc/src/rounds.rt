@@ -1,3 +1,4 @@
+//! Rounds of marking and sweeping.
 ghost use Rattle.std.specs.Prelude.{◌≡◌, []};
 ghost use Rattle.cc_model.specs.Colours.{HasColours, HasColourInvariant, marked};
 ghost use Rattle.cc_model.specs.Suspected.{IsSuspected};

@@ -1,3 +1,4 @@
+//! Tests of script collections.
 ghost use Rattle.std.specs.Prelude.{[]};
 ghost use Rattle.cc_heaps.specs.Keyed.{IsInOrder};
 ghost use Rattle.cc_heaps.specs.Changes.{IsScriptThere};

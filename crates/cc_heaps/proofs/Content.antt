@@ -17,13 +17,13 @@ use Rattle.cc_laws_heap.proofs.Owning.{IsIn}
 use Rattle.cc_laws_heap.specs.Sound.{numbers_of}
 use Rattle.cc_counted.specs.declared.held.Held.{Held}
 use Rattle.cc_counted.specs.declared.held.Held.TheVariants as held
-use Rattle.cc_counted.specs.Counts.{name_of, numbers_held, number_or_none, native_held}
+use Rattle.cc_counted.specs.Counts.{name_of, numbers_held, number_or_none, native_held, held_of_native}
 use Rattle.cc_counted.specs.Owning.{CallersOwn}
 use Rattle.cc_script.specs.Objects.{Object, object_at, name_at}
 use Rattle.cc_heaps.specs.declared.heaps.Heaps.TheInside.{Inside}
 use Rattle.cc_heaps.specs.Keyed.{Keyed, IsInOrder, named_object, number_at, the_number}
 use Rattle.cc_heaps.specs.Changes.{IsThere, native_name, held_name}
-use Rattle.cc_heaps.specs.Named.{IsHeldThere, held_by}
+use Rattle.cc_heaps.specs.Named.{IsHeldThere}
 use Rattle.cc_heaps.specs.Fields.{keyed_of}
 use Rattle.cc_heaps.proofs.Fit.{IsFit}
 use Rattle.cc_heaps.proofs.Calls.{number-named}
@@ -52,9 +52,9 @@ native-in owned v (Some key) o = go (number_at v key.0) refl
     go (Some k) e = λ y m. ⊎_elim (λ f. subst (λ z. Among z (native_names v.heap)) f (number-named v owned key.0 k o e)) (λ f. absurd f) m
 
 -- the same as a slot holds it
-pub held_by-name : (v : Keyed) (x : Option NKey) → held_name v (held_by x) ≡ native_name v x
-held_by-name v None = refl
-held_by-name v (Some key) = refl
+pub held_of_native-name : (v : Keyed) (x : Option NKey) → held_name v (held_of_native x) ≡ native_name v x
+held_of_native-name v None = refl
+held_of_native-name v (Some key) = refl
 
 -- What slots hold
 

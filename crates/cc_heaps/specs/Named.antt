@@ -8,8 +8,6 @@ use Rattle.cc_names.specs.declared.name.Name.TheVariants as name
 use Rattle.cc_names.specs.Names.{native}
 use Rattle.cc_model.specs.Slots.{Slots}
 use Rattle.cc_model.specs.Heap.{Heap, HeapNative}
-use Rattle.cc_counted.specs.declared.held.Held.{Held}
-use Rattle.cc_counted.specs.declared.held.Held.TheVariants as held
 use Rattle.cc_counted.specs.Counts.{Counts}
 use Rattle.cc_script.specs.Objects.{Object, is_there, name_at}
 use Rattle.cc_heaps.specs.Keyed.{named_objects}
@@ -72,8 +70,3 @@ heap_with r c objects = record {
   scripts_made = r.scripts_made;
   limits = r.limits;
 }
-
--- what a native register holds, as a slot holds it
-abbrev pub held_by : Option NKey → Option Held
-held_by None = None
-held_by (Some key) = Some (held.Native key)

@@ -1,3 +1,4 @@
+//! The heaps: their fields, what registers hold, and what a collection does to natives.
 ghost use Rattle.std.specs.Prelude.{◌≡◌, ◌<◌, ℕ, List, [], ◌∷◌, IsSome, IfOk, MatchOption, replicate, None};
 ghost use Rattle.cc_names.specs.declared.register.Reg.TheVariants.{N as n_register, S as s_register};
 ghost use Rattle.cc_names.specs.Names.{native};
@@ -32,7 +33,7 @@ use std::alloc::Global;
 use std::marker::Model;
 
 /// Both heaps by key, the 256 native registers and the 256 script registers, and how many objects were ever made. What
-/// registers and slots hold is there at each step.
+/// registers and slots of natives hold is there at each step.
 #[derive(Drop)]
 pub struct Heaps {
     native_registers: Vec<Option<NKey>>,

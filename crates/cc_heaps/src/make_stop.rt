@@ -1,3 +1,4 @@
+//! Why no object was made.
 /// Why no object was made.
 #[derive(Clone, Copy, Debug, PartialEq, Eq, Drop)]
 pub enum MakeStop {

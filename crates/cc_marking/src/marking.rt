@@ -1,3 +1,4 @@
+//! The script objects marked from two lists of roots.
 ghost use Rattle.std.specs.Prelude.{◌≡◌, ℕ, [], IsTrue};
 ghost use Rattle.cc_lists.specs.Members.{Among};
 ghost use Rattle.cc_script.specs.Objects.{AreWhole, is_there, raised_among};

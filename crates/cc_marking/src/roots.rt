@@ -1,3 +1,4 @@
+//! Where a marking begins.
 ghost use Rattle.std.specs.Prelude.{◌≡◌, ℕ, List, [], ◌∷◌, MatchOption};
 
 use cc_names::SKey;

@@ -1,3 +1,4 @@
+//! Tests of marking.
 ghost use Rattle.std.specs.Prelude.{◌≡◌, ◌≤◌, length, Some, IsTrue, IfSome};
 ghost use Rattle.cc_names.specs.declared.kind.Colour.TheVariants.{Black};
 ghost use Rattle.cc_script.specs.Objects.{AreWhole, colour_at, is_there};

@@ -1,6 +1,5 @@
 -- WHAT EACH KIND OF COMMAND COMES TO: it is refused, or it lacks memory, or it is carried out; and how contents are held.
 use Rattle.std.specs.Prelude.{◌≡◌, ◌≢◌, true, false, Bool, [], Option, Some, None}
-use Rattle.cc_names.specs.declared.number.NKey.{NKey}
 use Rattle.cc_names.specs.declared.number.SKey.{SKey}
 use Rattle.cc_model.specs.declared.command.Command.{Command}
 use Rattle.cc_model.specs.declared.item.Refusal.{Refusal}
@@ -28,13 +27,9 @@ pub record IsApplied (c : Command) (old new : Keyed) (reply : Reply) (before aft
 
 -- Contents of one kind alone
 
-abbrev pub held_native : Option NKey → Option Held
-held_native None = None
-held_native (Some key) = Some (held.Native key)
-
-abbrev pub held_script : Option SKey → Option Held
-held_script None = None
-held_script (Some key) = Some (held.Script key)
+abbrev pub held_of_script : Option SKey → Option Held
+held_of_script None = None
+held_of_script (Some key) = Some (held.Script key)
 
 abbrev pub is_native_held : Option Held → Bool
 is_native_held None = false

@@ -3,9 +3,10 @@ ghost use Rattle.std.specs.Prelude.{◌≡◌, ◌<◌, [], false, length, is_no
 ghost use Rattle.cc_names.specs.declared.register.Reg.TheVariants.{N as n_register, S as s_register};
 ghost use Rattle.cc_model.specs.Checks.{named_or_nothing, slot_at, slots_at};
 ghost use Rattle.cc_model.specs.Heap.{objects_of, register, source};
+ghost use Rattle.cc_counted.specs.Counts.{held_of_native};
 ghost use Rattle.cc_heaps.specs.Keyed.{IsInOrder};
 ghost use Rattle.cc_heaps.specs.Changes.{IsNativeThere, IsScriptThere, IsThere, held_name, native_name, script_name};
-ghost use Rattle.cc_mutator.specs.Commands.{held_native, held_script, is_native_held, is_script_held};
+ghost use Rattle.cc_mutator.specs.Commands.{held_of_script, is_native_held, is_script_held};
 
 use cc_counted::Held;
 use cc_heaps::Heaps;
@@ -71,19 +72,9 @@ pub(crate) fn script_content(heaps: &Heaps, r: u8, i: u32) -> Option<SKey>
     }
 }
 
-/// A content of a native register, as a slot of a native holds it.
-fn of_native(content: Option<NKey>) -> Option<Held>
-    ensures { result ≡ held_native content }
-{
-    match content {
-        Some(key) => Some(Held::Native(key)),
-        None => None,
-    }
-}
-
 /// A content of a script register, as a slot of a native holds it.
 fn of_script(content: Option<SKey>) -> Option<Held>
-    ensures { result ≡ held_script content }
+    ensures { result ≡ held_of_script content }
 {
     match content {
         Some(key) => Some(Held::Script(key)),
@@ -94,7 +85,7 @@ fn of_script(content: Option<SKey>) -> Option<Held>
 /// The native in a content that is no script object.
 pub(crate) fn as_native(content: Option<Held>) -> Option<NKey>
     requires { is_script_held content ≡ false }
-    ensures { held_native result ≡ content }
+    ensures { held_of_native result ≡ content }
 {
     match content {
         Some(Held::Native(key)) => Some(key),
@@ -106,7 +97,7 @@ pub(crate) fn as_native(content: Option<Held>) -> Option<NKey>
 /// The script object in a content that is no native.
 pub(crate) fn as_script(content: Option<Held>) -> Option<SKey>
     requires { is_native_held content ≡ false }
-    ensures { held_script result ≡ content }
+    ensures { held_of_script result ≡ content }
 {
     match content {
         Some(Held::Script(key)) => Some(key),
@@ -121,7 +112,7 @@ pub(crate) fn register_content(heaps: &Heaps, r: Reg) -> Option<Held>
     ensures there { IsThere heaps.now result }
 {
     match r {
-        Reg::N(k) => of_native(heaps.native_reg(k)),
+        Reg::N(k) => Held::of_native(heaps.native_reg(k)),
         Reg::S(k) => of_script(heaps.script_reg(k)),
     }
 }

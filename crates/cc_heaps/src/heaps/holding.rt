@@ -9,38 +9,16 @@ ghost use Rattle.cc_model.specs.Effects.{hold_native, put_in_register};
 ghost use Rattle.cc_model.specs.Telling.{TellsEvents};
 ghost use Rattle.cc_model.specs.Graph as graph;
 ghost use Rattle.cc_laws_heap.specs.Sound.{numbers_of};
-ghost use Rattle.cc_counted.specs.Counts.{native_held, slots_of};
+ghost use Rattle.cc_counted.specs.Counts.{slots_of};
 ghost use Rattle.cc_heaps.specs.Keyed.{IsInOrder, counts_of, number_at, the_number, changed_to, left_with};
 ghost use Rattle.cc_heaps.specs.Changes.{IsNativeThere, IsThere, held_name, native_name, stored_in, IsBlackHeld, KeepsKeys};
 ghost use Rattle.cc_heaps.specs.Standing.{IsReached, StandsAfter, KeepsFresh, KeepsSuspected, KeepsColours};
 ghost use Rattle.cc_heaps.specs.Few.{AreFew};
-ghost use Rattle.cc_heaps.specs.Named.{held_by};
 
 use crate::heaps::Heaps;
-use cc_counted::Held;
+use cc_counted::{Held, native_held};
 use cc_model::Notices;
 use cc_names::NKey;
-
-// What a register holds, as a slot holds it.
-fn to_slot(content: Option<NKey>) -> Option<Held>
-    ensures { result ≡ held_by content }
-{
-    match content {
-        Some(key) => Some(Held::Native(key)),
-        None => None,
-    }
-}
-
-// The native that is held, which alone is counted.
-fn native_of(content: Option<Held>) -> Option<NKey>
-    ensures { result ≡ native_held content }
-{
-    match content {
-        Some(Held::Native(key)) => Some(key),
-        Some(Held::Script(_)) => None,
-        None => None,
-    }
-}
 
 impl Heaps {
     // A reference to what a register or a slot is to hold.
@@ -50,7 +28,7 @@ impl Heaps {
         ensures heap { self.new ≡ changed_to self.old (take_up self.old.heap (held_name self.old content)) }
         ensures order { IsInOrder (numbers_of (held_name self.old content) ++ []) self.new }
     {
-        match native_of(content) {
+        match native_held(content) {
             Some(key) => self.root(key),
             None => {}
         }
@@ -64,7 +42,7 @@ impl Heaps {
         ensures told { TellsEvents (N.telling out.old) (N.telling out.new) (let_go self.old.heap (held_name self.old content)).events }
         ensures order { IsInOrder [] self.new }
     {
-        match native_of(content) {
+        match native_held(content) {
             Some(key) => self.unroot(key, out),
             None => {}
         }
@@ -93,7 +71,7 @@ impl Heaps {
         ensures order { IsInOrder [] self.new }
     {
         let held = self.replace_register(r, content);
-        self.let_go(to_slot(held), out);
+        self.let_go(Held::of_native(held), out);
     }
 
     // Slot i of a native written, whose new reference was taken before; what it held.
@@ -129,7 +107,7 @@ impl Heaps {
         ensures fresh { KeepsFresh self.old.heap self.new.heap }
         ensures suspected { KeepsSuspected self.old.heap self.new.heap }
     {
-        self.take_up(to_slot(content));
+        self.take_up(Held::of_native(content));
         self.put_in_register(r, content, out);
     }
 

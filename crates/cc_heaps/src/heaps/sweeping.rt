@@ -71,8 +71,8 @@ impl Heaps {
         ensures stands { StillStands self.old.heap self.new.heap }
         ensures invariant { HasColourInvariant (view self.new.heap) }
     {
-        // Weak maps are none yet: their dead entries will go first. Reflectors are none yet: each will give up the
-        // reference to its native once it is taken out.
+        // There are no weak maps yet: their dead entries will go first. There are no reflectors yet: each will give up
+        // the reference to its native once it is taken out.
         sweep_whites(&mut self.scripts, out)
     }
 }

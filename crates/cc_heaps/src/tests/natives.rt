@@ -1,3 +1,4 @@
+//! Natives made, held, deleted and unlinked.
 ghost use Rattle.std.specs.Prelude.{[], Some};
 ghost use Rattle.cc_heaps.specs.Keyed.{IsInOrder};
 ghost use Rattle.cc_heaps.specs.Changes.{IsNativeThere, IsThere};

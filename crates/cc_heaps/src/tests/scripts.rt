@@ -1,3 +1,4 @@
+//! Script objects made, held and exposed; the objects listed.
 ghost use Rattle.std.specs.Prelude.{[]};
 ghost use Rattle.cc_heaps.specs.Keyed.{IsInOrder};
 

@@ -12,20 +12,20 @@ use Rattle.cc_heaps.proofs.heaps.Heaps.let_go.Goals as goal
 pub returns-in-Some-clause-order : goal.returns-in-Some-clause-order
 returns-in-Some-clause-order g c =
     let v = c.args.self.now in
-    let is = held-native c.args.content c.in-Some.key (sym c.native_of.ensures ∙ c.in-Some.is) in
+    let is = held-native c.args.content c.in-Some.key (sym c.native_held.ensures ∙ c.in-Some.is) in
     c.unroot.ensures.order [] (subst (λ ks. IsInOrder (ks ++ []) v) (in-hand v c.args.content c.in-Some.key is c.requires.there) c.requires.order)
 
 pub returns-in-None-clause-heap : goal.returns-in-None-clause-heap
 returns-in-None-clause-heap g c =
     let v = c.args.self.now in
     let owned = numbers_of (held_name v c.args.content) ++ [] in
-    let none = held-no_native owned v c.requires.order c.args.content (sym c.native_of.ensures ∙ c.in-None.is) in
+    let none = held-no_native owned v c.requires.order c.args.content (sym c.native_held.ensures ∙ c.in-None.is) in
     sym (ap (λ o. left_with v o.heap) (let_go-none v.heap (held_name v c.args.content) none) ∙ left_with-same owned v c.requires.order)
 
 pub returns-in-None-clause-told : goal.returns-in-None-clause-told
 returns-in-None-clause-told g c =
     let v = c.args.self.now in
-    let none = held-no_native (numbers_of (held_name v c.args.content) ++ []) v c.requires.order c.args.content (sym c.native_of.ensures ∙ c.in-None.is) in
+    let none = held-no_native (numbers_of (held_name v c.args.content) ++ []) v c.requires.order c.args.content (sym c.native_held.ensures ∙ c.in-None.is) in
     let before = g.N.Notices.telling c.args.out.now in
     subst (λ o. Tells before before (texts_of (map of_event o.events))) (sym (let_go-none v.heap (held_name v c.args.content) none)) (search rules)
 
@@ -33,4 +33,4 @@ pub returns-in-None-clause-order : goal.returns-in-None-clause-order
 returns-in-None-clause-order g c =
     let v = c.args.self.now in
     let owned = numbers_of (held_name v c.args.content) ++ [] in
-    subst (λ ks. IsInOrder (ks ++ []) v) (held-no_native owned v c.requires.order c.args.content (sym c.native_of.ensures ∙ c.in-None.is)) c.requires.order
+    subst (λ ks. IsInOrder (ks ++ []) v) (held-no_native owned v c.requires.order c.args.content (sym c.native_held.ensures ∙ c.in-None.is)) c.requires.order

@@ -8,14 +8,14 @@ use Rattle.cc_model.specs.Heap.{Heap}
 use Rattle.cc_model.specs.Cascade.{take_up}
 use Rattle.cc_model.specs.Effects.{put_in_register, hold_native}
 use Rattle.cc_counted.specs.declared.held.Held.{Held}
+use Rattle.cc_counted.specs.Counts.{held_of_native}
 use Rattle.cc_heaps.specs.Keyed.{Keyed, changed_to, left_with}
 use Rattle.cc_heaps.specs.Changes.{held_name, native_name}
-use Rattle.cc_heaps.specs.Named.{held_by}
 use Rattle.cc_heaps.proofs.FewCounts.{few-alone}
 use Rattle.cc_heaps.proofs.Following.{Keeps, hold_native-keeps}
 use Rattle.cc_heaps.proofs.KeysKept.{KeepsKeys-left}
 use Rattle.cc_heaps.proofs.StandingAfter.{native_register-stands}
-use Rattle.cc_heaps.proofs.Content.{held_by-name, native-in}
+use Rattle.cc_heaps.proofs.Content.{held_of_native-name, native-in}
 use Rattle.cc_heaps.proofs.heaps.Heaps.set_native_reg.Given as given
 use Rattle.cc_heaps.proofs.heaps.Heaps.set_native_reg.Goals as goal
 
@@ -24,9 +24,9 @@ unfolding hold_native
 hold_native-is h d x = refl
 
 -- the new reference taken
-module _ (v mid : Keyed) (r : ℕ) (x : Option NKey) (item : Option Held) (is : item ≡ held_by x) (taken : mid ≡ changed_to v (take_up v.heap (held_name v item))) where
+module _ (v mid : Keyed) (r : ℕ) (x : Option NKey) (item : Option Held) (is : item ≡ held_of_native x) (taken : mid ≡ changed_to v (take_up v.heap (held_name v item))) where
   taken-is : mid ≡ changed_to v (take_up v.heap (native_name v x))
-  taken-is = taken ∙ ap (λ y. changed_to v (take_up v.heap y)) (ap (held_name v) is ∙ held_by-name v x)
+  taken-is = taken ∙ ap (λ y. changed_to v (take_up v.heap y)) (ap (held_name v) is ∙ held_of_native-name v x)
 
   held-is : put_in_register mid.heap r (native_name mid x) ≡ hold_native v.heap r (native_name v x)
   held-is = ap (λ (w : Keyed). put_in_register w.heap r (native_name w x)) taken-is ∙ sym (hold_native-is v.heap r (native_name v x))
@@ -37,12 +37,12 @@ module _ (v mid : Keyed) (r : ℕ) (x : Option NKey) (item : Option Held) (is : 
 pub returns-clause-heap : goal.returns-clause-heap
 returns-clause-heap g c =
     c.put_in_register.ensures.heap
-    ∙ held-keyed c.args.self.now c.take_up.new.self c.args.r c.args.content c.to_slot.result c.to_slot.ensures c.take_up.ensures.heap
+    ∙ held-keyed c.args.self.now c.take_up.new.self c.args.r c.args.content c.of_native.result c.of_native.ensures c.take_up.ensures.heap
 
 pub returns-clause-told : goal.returns-clause-told
 returns-clause-told g c =
     subst (λ o. Tells (g.N.Notices.telling c.args.out.now) (g.N.Notices.telling c.put_in_register.new.out) (texts_of (map of_event o.events)))
-    (held-is c.args.self.now c.take_up.new.self c.args.r c.args.content c.to_slot.result c.to_slot.ensures c.take_up.ensures.heap)
+    (held-is c.args.self.now c.take_up.new.self c.args.r c.args.content c.of_native.result c.of_native.ensures c.take_up.ensures.heap)
     c.put_in_register.ensures.told
 
 pub returns-clause-keys : goal.returns-clause-keys
