@@ -3,7 +3,7 @@ use Rattle.std.proofs.Common.{◌≡◌, ℕ, zero, suc, ◌+◌, ◌<◌, ◌�
 use Rattle.std.proofs.lemmas.List.{length-map}
 use Rattle.cc_lists.specs.Members.{Among}
 use Rattle.cc_lists.proofs.Members.{Among-map, Among-left, Among-right}
-use Rattle.cc_lists.proofs.Counting.{count_by-below, count_by-cons, count_by-some, counted_is, count_by-all}
+use Rattle.cc_lists.proofs.Counting.{count_by-below, count_by-some, counted_is, count_by-all}
 use Rattle.cc_names.specs.Names.{native, object, same_name}
 use Rattle.cc_names.specs.declared.name.Name.{Name}
 use Rattle.cc_names.specs.declared.name.Name.TheVariants as name

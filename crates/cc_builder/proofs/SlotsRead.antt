@@ -1,8 +1,7 @@
 -- THE NAME OF WHAT A SLOT HOLDS, from what the heaps of one kind each say of it: the counted heap shows script objects by
 -- their keys, and the script heap its slots by keys.
-use Rattle.std.proofs.Common.{◌≡◌, ℕ, zero, suc, List, [], ◌∷◌, Option, Some, None, IsTrue, option_map, option_and_then, sym, ◌∙◌, ap, subst, inl, inr, get_or}
+use Rattle.std.proofs.Common.{◌≡◌, ℕ, List, [], Option, Some, None, IsTrue, option_map, option_and_then, sym, ◌∙◌, ap, subst, get_or}
 use Rattle.std.proofs.Math.ListN.{get_or-map}
-use Rattle.cc_lists.specs.Members.{Among}
 use Rattle.cc_lists.proofs.Places.{among-get}
 use Rattle.cc_names.specs.declared.number.NKey.{NKey}
 use Rattle.cc_names.specs.declared.number.SKey.{SKey}
