@@ -13,8 +13,9 @@ use Rattle.cc_model.specs.Heap.{Heap, HeapScript}
 use Rattle.cc_model.specs.WellFormed.{FitsName, script_names}
 use Rattle.cc_graph.specs.Shown.{Vertex}
 use Rattle.cc_heaps.specs.Keyed.{Keyed, IsInOrder}
+use Rattle.cc_heaps.proofs.PlainNames.{plain-named}
 use Rattle.cc_builder.specs.Building.{Built, IsBuilt, WasMade}
-use Rattle.cc_builder.proofs.HeldObjects.{once-named, plain-named}
+use Rattle.cc_builder.proofs.HeldObjects.{once-named}
 
 -- the numbers from 1 to m
 abbrev numbers_to : ℕ → List ℕ

@@ -35,6 +35,7 @@ use Rattle.cc_script.specs.Objects as objects
 use Rattle.cc_heaps.specs.Keyed.{Keyed, IsInOrder, counts_of, keyed_name, keyed_native, name_held, named_object, number_at}
 use Rattle.cc_heaps.specs.Changes.{IsThere, IsNativeThere, IsScriptThere}
 use Rattle.cc_heaps.proofs.Calls.{number-named}
+use Rattle.cc_heaps.proofs.PlainNames.{plain-named}
 use Rattle.cc_builder.specs.BuildSteps.{the_name, held_slots}
 
 -- A native
@@ -100,12 +101,6 @@ once-named h well x = subst (λ n. n ≤ 1)
     (count_by-map (same_name x) (λ (o : HeapScript). o.name) h.scripts
     ∙ count_by-agree (λ (o : HeapScript). same_name x o.name) (λ (o : HeapScript). same_name o.name x) h.scripts (λ o m. same_name-sym x o.name))
     (well.distinct x)
-
--- a plain object's name has its number
-pub plain-named : (x : Name) (slots : Slots) → FitsName x Plain slots → (k : ℕ) × (x ≡ object k)
-plain-named (name.Native k) slots fits = absurd fits
-plain-named (name.Script k) slots fits = (k.0, refl)
-plain-named (name.Reflector k) slots fits = absurd fits
 
 -- a script object stands among the heaps' by name
 pub object-among : (v : Keyed) (o : Object) → IsInOrder [] v → Among o v.scripts → Among (named_object v.scripts o) v.heap.scripts

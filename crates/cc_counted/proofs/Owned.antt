@@ -1,5 +1,5 @@
 -- WHAT CALLERS OWN AFTER A CALL.
-use Rattle.std.proofs.Common.{◌≡◌, ◌<◌, ◌+◌, ◌≤◌, ℕ, zero, suc, true, false, List, [], ◌∷◌, ◌++◌, get_or, Option, Some, None, option_map, refl, sym, ◌∙◌, ap, subst, ⊎_elim, inl, inr, arith, count_by, MatchOption, is_some, Bool, append-nil, length, ◌⊎◌, map}
+use Rattle.std.proofs.Common.{◌≡◌, ◌<◌, ◌+◌, ◌≤◌, ℕ, true, false, List, [], ◌∷◌, ◌++◌, get_or, Option, Some, None, option_map, refl, sym, ◌∙◌, ap, subst, ⊎_elim, inl, inr, arith, count_by, MatchOption, is_some, Bool, append-nil, length, ◌⊎◌, map}
 use Rattle.std.specs.List.{flat_map}
 use Rattle.std.proofs.Math.ListN.{set}
 use Rattle.std.proofs.lemmas.Bool.{cases_lt}
@@ -25,7 +25,7 @@ use Rattle.cc_laws_heap.proofs.Owning.{IsCounted-add_ref}
 use Rattle.cc_laws_heap.proofs.Cascades.{one_at_zero-above, one_above_zero-above, above-one_at_zero}
 use Rattle.cc_laws_heap.proofs.Buffer.{places-with_mark_same, places-with_mark_other}
 use Rattle.cc_laws_heap.proofs.GiveUp.{living-one}
-use Rattle.cc_laws_heap.proofs.Making.{with_mark-cases, places-with_mark}
+use Rattle.cc_laws_heap.proofs.Making.{with_mark-cases, places-with_mark, contents-empty}
 use Rattle.cc_counted.specs.declared.held.Held.{Held}
 use Rattle.cc_counted.specs.Counts.{Counts, no_counts, number_at, the_number, is_live, numbers_held, heap_of, with_heap}
 use Rattle.cc_counted.specs.Owning.{AreOwned, Transfers, Makes}
@@ -160,11 +160,6 @@ pub owned-selected : (old new : Counts) (r : Option (NKey × Bool)) → MatchOpt
     × (new ≡ record old { buffer = new.buffer }) × (is_some (number_at old front.0.0) ≡ true)) → Transfers [] [] old new
 owned-selected old new None f others o = subst (AreOwned others) (sym f.1) o
 owned-selected old new (Some front) f others o = owned-front old new (record { number = the_number old front.0.0; purple = front.1 }) f.0 f.1 others o
-
--- nothing is in empty slots
-contents-empty : (size : ℕ) → contents (empty_slots size) ≡ []
-contents-empty zero = refl
-contents-empty (suc size) = contents-empty size
 
 -- A native is made: its one reference is the caller's.
 pub owned-made : (old new : Counts) (key number size : ℕ) → ((n : HeapNative) → Among n old.natives → n.number < number) →

@@ -125,11 +125,6 @@ take_up-none h (Some (name.Reflector k)) e = refl
 
 -- By whether a native is held
 
-pub held-native : (x : Option Held) (key : NKey) → native_held x ≡ Some key → x ≡ Some (held.Native key)
-held-native None key e = absurd (cc)
-held-native (Some (held.Native k)) key e = let same : k ≡ key = cc in ap (λ q. Some (held.Native q)) same
-held-native (Some (held.Script k)) key e = absurd (cc)
-
 -- script objects have no names of natives
 not-native : (x : Name) (kind : Kind) (slots : Slots) → FitsName x kind slots → is_native x ≡ false
 not-native (name.Native k) kind slots f = absurd f

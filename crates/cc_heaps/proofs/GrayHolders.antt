@@ -1,12 +1,12 @@
 -- WHO HOLDS A GRAY SCRIPT OBJECT, by keys and by names alike.
-use Rattle.std.proofs.Common.{◌≡◌, ℕ, zero, suc, ◌<◌, ◌≤◌, ◌==◌, Bool, true, false, cond, ◌||◌, List, [], ◌∷◌, ◌++◌, map, length, get_or, Option, Some, None, is_some, option_map, refl, sym, ◌∙◌, ap, subst, inl, inr, arith, count_by}
+use Rattle.std.proofs.Common.{◌≡◌, ℕ, zero, suc, ◌<◌, ◌≤◌, ◌==◌, Bool, true, false, ◌||◌, List, [], ◌∷◌, ◌++◌, map, length, get_or, Option, Some, None, is_some, option_map, refl, sym, ◌∙◌, ap, subst, inl, inr, arith, count_by}
 use Rattle.std.specs.List.{filter, find, list_any}
 use Rattle.std.specs.Option.{option_and_then, option_to_list}
 use Rattle.std.proofs.lemmas.Bool.{true≢false}
 use Rattle.std.proofs.lemmas.Simd.{map-map}
 use Rattle.cc_lists.specs.Members.{Among}
 use Rattle.cc_lists.proofs.Members.{Among-map, Among-filter, Among-filtered, Among-passes}
-use Rattle.cc_lists.proofs.Filtering.{find-among, find-passes}
+use Rattle.cc_lists.proofs.Filtering.{find-among, find-passes, filter-agree}
 use Rattle.cc_lists.proofs.Searching.{find-some, filter-map}
 use Rattle.cc_lists.proofs.ListWrites.{only-member, each-map}
 use Rattle.cc_lists.proofs.Counting.{count_by-map}
@@ -47,15 +47,6 @@ any-some p (x ∷ xs) d (suc k) l e = go (any-some p xs d k (omega (arith, l)) e
 pub any-none : {X : Type 0} (p : X → Bool) (xs : List X) (d : X) → ((k : ℕ) → k < length xs → p (get_or xs k d) ≡ false) → list_any p xs ≡ false
 any-none p [] d h = refl
 any-none p (x ∷ xs) d h = ap (λ b. b || list_any p xs) (h 0 (omega arith)) ∙ any-none p xs d (λ k l. h (suc k) (omega (arith, l)))
-
--- two tests that agree on the members keep the same
-filter-agree : {X : Type 0} (p q : X → Bool) (xs : List X) → ((x : X) → Among x xs → p x ≡ q x) → filter p xs ≡ filter q xs
-filter-agree p q [] h = refl
-filter-agree {X} p q (x ∷ xs) h = ap (λ b. cond b (x ∷ filter p xs) (filter p xs)) (h x (inl refl)) ∙ go (q x) (filter-agree p q xs (λ y m. h y (inr m)))
-  where
-    go : (b : Bool) → filter p xs ≡ filter q xs → cond b (x ∷ filter p xs) (filter p xs) ≡ cond b (x ∷ filter q xs) (filter q xs)
-    go true e = ap (λ ys. x ∷ ys) e
-    go false e = e
 
 -- what slots hold is there, as far as it is a script object
 pub held-in : (objects : List Object) (c : Counts) → ((n : HeapNative) (x : Name) → Among n c.natives → Among x (contents n.slots) → IsHeldThere objects x) →

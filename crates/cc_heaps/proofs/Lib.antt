@@ -1,5 +1,6 @@
 pub mod Fit
 pub mod Naming
+pub mod PlainNames
 pub mod Keying
 pub mod EachNative
 pub mod Keys

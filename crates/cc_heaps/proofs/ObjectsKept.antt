@@ -1,9 +1,8 @@
 -- SCRIPT OBJECTS ARE CHANGED OR TAKEN OUT, but none that a register or a native holds: these hold what they held, and the
 -- parts stay linked and in order.
-use Rattle.std.proofs.Common.{◌≡◌, ℕ, true, false, List, map, Option, Some, None, option_map, refl, sym, ◌∙◌, ap, subst}
+use Rattle.std.proofs.Common.{◌≡◌, ℕ, false, List, map, Option, Some, None, option_map, refl, sym, ◌∙◌, ap, subst}
 use Rattle.std.specs.Prelude.{IsTrue}
 use Rattle.std.specs.Option.{is_some, option_and_then}
-use Rattle.std.proofs.lemmas.Bool.{false≢true}
 use Rattle.cc_lists.specs.Members.{Among}
 use Rattle.cc_lists.proofs.Members.{Among-map}
 use Rattle.cc_lists.proofs.ListWrites.{each-map, map-agree}
@@ -17,12 +16,13 @@ use Rattle.cc_model.specs.Heap.{Heap, HeapNative}
 use Rattle.cc_laws_heap.specs.Sound.{IsSound}
 use Rattle.cc_counted.specs.Owning.{HasKeys}
 use Rattle.cc_script.specs.Objects.{Object, AreWhole, object_at, is_there, name_at}
+use Rattle.cc_script.proofs.Reaching.{among-held}
 use Rattle.cc_heaps.specs.Keyed.{IsInOrder, named_object, named_objects}
 use Rattle.cc_heaps.specs.Named.{own_name, named_native, script_named, IsHeldThere, IsScriptLive}
 use Rattle.cc_heaps.specs.Fields.{heap_of, keyed_of, IsLinked}
 use Rattle.cc_heaps.specs.declared.heaps.Heaps.TheInside.{Inside}
 use Rattle.cc_heaps.proofs.Keying.{counts-back}
-use Rattle.cc_heaps.proofs.Reaching.{HasOneKey, HasOneName, some-held}
+use Rattle.cc_heaps.proofs.Reaching.{HasOneKey, HasOneName}
 
 -- Objects by key
 
@@ -33,14 +33,6 @@ there-by_name objects key = go (object_at objects key)
     go : (o : Option Object) → is_some (option_map (λ (p : Object). p.name) o) ≡ is_some o
     go None = refl
     go (Some o) = refl
-
--- what is there has a name
-pub there-named : (objects : List Object) (key : ℕ) → IsTrue (is_there objects key) → (x : Name) × (name_at objects key ≡ Some x)
-there-named objects key t = go (object_at objects key) t
-  where
-    go : (o : Option Object) → is_some o ≡ true → (x : Name) × (option_map (λ (p : Object). p.name) o ≡ Some x)
-    go None e = absurd (false≢true e)
-    go (Some o) e = (o.name, refl)
 
 -- what keeps its name stays there
 pub there-kept : (os ps : List Object) (key : ℕ) → name_at ps key ≡ name_at os key → IsTrue (is_there os key) → IsTrue (is_there ps key)
@@ -98,7 +90,7 @@ module _ (p : Inside) (objects : List Object) (l : IsLinked p) (same : HoldsSame
     where
       at : (x : Option Name) → Among x n.slots → option_and_then (own_name objects) x ≡ option_and_then (own_name p.scripts) x
       at None i = refl
-      at (Some x) i = let j : Among x (contents n.slots) = some-held n.slots x i in content-same n x m j (l.held n x m j)
+      at (Some x) i = let j : Among x (contents n.slots) = among-held n.slots x i in content-same n x m j (l.held n x m j)
 
   -- THE HEAPS are as they were but for the script objects.
   pub heap-objects : heap_of (with_objects p objects) ≡ with_named (heap_of p) objects

@@ -1,5 +1,5 @@
 -- WHAT IS REACHED OVER SLOTS BY KEYS is what is reached by names, where no two script objects have one key or one name.
-use Rattle.std.proofs.Common.{◌≡◌, ℕ, ◌≤◌, Bool, true, false, List, [], ◌∷◌, map, Option, Some, None, option_map, refl, sym, ◌∙◌, ap, subst, inl, inr, ⊎_elim, count_by, ◌==◌}
+use Rattle.std.proofs.Common.{◌≡◌, ℕ, ◌≤◌, Bool, true, false, List, [], map, Option, Some, None, option_map, refl, sym, ◌∙◌, ap, subst, inl, ⊎_elim, count_by, ◌==◌}
 use Rattle.std.specs.List.{flat_map}
 use Rattle.std.specs.Option.{option_to_list}
 use Rattle.std.proofs.lemmas.Bool.{eqb-true, eq-eqb}
@@ -18,7 +18,8 @@ use Rattle.cc_model.specs.Slots.{contents, from_to}
 use Rattle.cc_model.specs.View.{script_slot_edges}
 use Rattle.cc_lists.proofs.Numbers.{number-exact}
 use Rattle.cc_script.specs.Objects.{Object, object_at, name_at}
-use Rattle.cc_script.specs.Walking.{slot_edges, edges, reach_rules, keys_reached, IsReachedOverSlots}
+use Rattle.cc_script.specs.Walking.{edges, reach_rules, keys_reached, IsReachedOverSlots}
+use Rattle.cc_script.proofs.Reaching.{edge-slot, slot-edge, held-among, among-held}
 use Rattle.cc_heaps.specs.Keyed.{name_held, named_object, named_objects}
 
 -- at most one object stands at a key, and at most one has a name
@@ -69,33 +70,9 @@ key-named objects one key x e o m n =
     m (subst (λ y. same_name y x ≡ true) (sym n) (same_name-refl x)) in
     ap (λ (p : Object). p.key) (sym same) ∙ f.2
 
--- what slots hold, at a place
-pub holds-some : {X : Type 0} (slots : List (Option X)) (x : X) → Among x (flat_map option_to_list slots) → Among (Some x) slots
-holds-some [] x m = m
-holds-some (None ∷ slots) x m = inr (holds-some slots x m)
-holds-some (Some y ∷ slots) x m = ⊎_elim (λ e. inl (ap (λ z. Some z) e)) (λ t. inr (holds-some slots x t)) m
-
-pub some-held : {X : Type 0} (slots : List (Option X)) (x : X) → Among (Some x) slots → Among x (flat_map option_to_list slots)
-some-held slots x m = Among-flat_map option_to_list (Some x) x slots m (inl refl)
-
 -- the edges over slots, by names
 abbrev pub named_edges : List Object → List (Name × Name)
 named_edges objects = flat_map script_slot_edges (named_objects objects)
-
--- an edge by keys is one from a slot of an object to a key
-edge-found : (objects : List Object) (k q : ℕ) → Among (k, q) (edges objects) → (o : Object) × Among o objects × (o.key ≡ k) × Among (Some q) o.slots
-edge-found objects k q m =
-    let f = Among-flat_map_cases slot_edges objects (k, q) m in
-    let g = Among-map_cases (λ r. (f.0.key, r)) (flat_map option_to_list f.0.slots) (k, q) f.2 in (
-      f.0,
-      f.1,
-      ap (λ (e : ℕ × ℕ). e.0) g.2,
-      subst (λ r. Among (Some r) f.0.slots) (ap (λ (e : ℕ × ℕ). e.1) g.2) (holds-some f.0.slots g.0 g.1),
-    )
-
-found-edge : (objects : List Object) (o : Object) (q : ℕ) → Among o objects → Among (Some q) o.slots → Among (o.key, q) (edges objects)
-found-edge objects o q m i = Among-flat_map slot_edges o (o.key, q) objects m
-    (Among-map (λ r. (o.key, r)) q (flat_map option_to_list o.slots) (some-held o.slots q i))
 
 -- an edge by names is one from a slot of an object to a key with a name
 named-found : (objects : List Object) (x y : Name) → Among (x, y) (named_edges objects) →
@@ -105,7 +82,7 @@ named-found objects x y m =
     let o = Among-map_cases (named_object objects) objects f.0 f.1 in
     let i : Among (x, y) (script_slot_edges (named_object objects o.0)) = subst (λ p. Among (x, y) (script_slot_edges p)) (sym o.2) f.2 in
     let g = Among-map_cases (from_to o.0.name) (contents (map (name_held objects) o.0.slots)) (x, y) i in
-    let s = Among-map_cases (name_held objects) o.0.slots (Some g.0) (holds-some (map (name_held objects) o.0.slots) g.0 g.1) in
+    let s = Among-map_cases (name_held objects) o.0.slots (Some g.0) (held-among (map (name_held objects) o.0.slots) g.0 g.1) in
     (o.0, o.1, ap (λ (e : Name × Name). e.0) g.2, go o.0 s.0 s.1 (s.2 ∙ ap (λ (e : Name × Name). Some e.1) g.2))
   where
     go : (o : Object) (s : Option ℕ) → Among s o.slots → name_held objects s ≡ Some y → (q : ℕ) × Among (Some q) o.slots × (name_at objects q ≡ Some y)
@@ -117,7 +94,7 @@ found-named : (objects : List Object) (o : Object) (q : ℕ) (y : Name) → Amon
 found-named objects o q y m i e = Among-flat_map script_slot_edges (named_object objects o) (o.name, y) (named_objects objects)
     (Among-map (named_object objects) o objects m)
     (Among-map (from_to o.name) y (contents (map (name_held objects) o.slots))
-    (some-held (map (name_held objects) o.slots) y
+    (among-held (map (name_held objects) o.slots) y
     (subst (λ s. Among s (map (name_held objects) o.slots)) e (Among-map (name_held objects) (Some q) o.slots i))))
 
 -- THE NAMES OF SOME KEYS, as a set: order and repeats are free, and a key at which nothing stands has none
@@ -133,7 +110,7 @@ module _ (objects : List Object) (one_key : HasOneKey objects) (one_name : HasOn
         (λ k i p n e. derive-root names (named_edges objects) [] p.name
         (roots.named k p.name i (subst (λ j. name_at objects j ≡ Some p.name) e (name_at-own objects one_key p n))))
         (λ k q i before p n e.
-        let f = edge-found objects k q i in
+        let f = edge-slot objects k q i in
         derive-along names (named_edges objects) [] f.0.name p.name
         (found-named objects f.0 q p.name f.1 f.3 (subst (λ j. name_at objects j ≡ Some p.name) e (name_at-own objects one_key p n)))
         (before f.0 f.1 f.2))
@@ -148,7 +125,7 @@ module _ (objects : List Object) (one_key : HasOneKey objects) (one_name : HasOn
         (λ x y i before p n e.
         let f = named-found objects x y i in
         subst (IsReachedOverSlots objects keys) (sym (key-named objects one_name f.3.0 y f.3.2 p n e))
-        (derive-along keys (edges objects) [] f.0.key f.3.0 (found-edge objects f.0 f.3.0 f.1 f.3.1) (before f.0 f.1 f.2)))
+        (derive-along keys (edges objects) [] f.0.key f.3.0 (slot-edge objects f.0 f.3.0 f.1 f.3.1) (before f.0 f.1 f.2)))
         (λ ps v i. absurd i) o.name d o m refl
 
     -- FROM ROOTS THAT ARE THE NAMES OF THE KEYS as a set

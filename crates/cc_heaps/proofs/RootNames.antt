@@ -21,13 +21,14 @@ use Rattle.cc_model.specs.Colours.{black_rules, black_names, scripts_held_by, sc
 use Rattle.cc_model.specs.WellFormed.{IsWellFormed, script_names}
 use Rattle.cc_lists.proofs.Numbers.{number-exact}
 use Rattle.cc_script.specs.Objects.{Object, is_there, name_at}
+use Rattle.cc_script.proofs.Reaching.{held-among, among-held}
 use Rattle.cc_marking.specs.Marking.{black_keys, marked_keys}
 use Rattle.cc_heaps.specs.Keyed.{IsInOrder, named_object}
 use Rattle.cc_heaps.specs.Named.{own_name, named_native, script_named, IsHeldThere}
 use Rattle.cc_heaps.specs.Fields.{heap_of, keyed_of, IsLinked}
 use Rattle.cc_heaps.specs.Roots.{keys_in_registers, key_in, keys_in, keys_held}
 use Rattle.cc_heaps.specs.declared.heaps.Heaps.TheInside.{Inside}
-use Rattle.cc_heaps.proofs.Reaching.{AreNamesOf, holds-some, some-held, name_at-own, name_at-found, reached-alike_from}
+use Rattle.cc_heaps.proofs.Reaching.{AreNamesOf, name_at-own, name_at-found, reached-alike_from}
 
 -- Keys that are held
 
@@ -35,11 +36,11 @@ use Rattle.cc_heaps.proofs.Reaching.{AreNamesOf, holds-some, some-held, name_at-
 pub register-key : (xs : List (Option SKey)) (k : ℕ) → Among k (keys_in_registers xs) → (key : SKey) × Among (Some key) xs × (key.0 ≡ k)
 register-key xs k m =
     let f = Among-map_cases (λ (key : SKey). key.0) (flat_map option_to_list xs) k m in
-    (f.0, holds-some xs f.0 f.1, f.2)
+    (f.0, held-among xs f.0 f.1, f.2)
 
 -- and each register gives its key
 pub key-register : (xs : List (Option SKey)) (key : SKey) → Among (Some key) xs → Among key.0 (keys_in_registers xs)
-key-register xs key m = Among-map (λ (key : SKey). key.0) key (flat_map option_to_list xs) (some-held xs key m)
+key-register xs key m = Among-map (λ (key : SKey). key.0) key (flat_map option_to_list xs) (among-held xs key m)
 
 -- the key of a name is that of a script object
 key_in-object : (x : Name) (k : ℕ) → Among k (key_in x) → x ≡ object k
@@ -74,11 +75,11 @@ module _ (p : Inside) (l : IsLinked p) where
   register-names = record {
     named = λ k x m e.
         let f = register-key p.script_registers.items k m in
-        some-held (map (script_named p.scripts) p.script_registers.items) x
+        among-held (map (script_named p.scripts) p.script_registers.items) x
         (subst (λ y. Among y (map (script_named p.scripts) p.script_registers.items)) (ap (name_at p.scripts) f.2 ∙ e)
         (Among-map (script_named p.scripts) (Some f.0) p.script_registers.items f.1));
     keyed = λ x m.
-        let f = Among-map_cases (script_named p.scripts) p.script_registers.items (Some x) (holds-some (map (script_named p.scripts) p.script_registers.items) x m) in
+        let f = Among-map_cases (script_named p.scripts) p.script_registers.items (Some x) (held-among (map (script_named p.scripts) p.script_registers.items) x m) in
         go x f.0 f.1 f.2;
   }
     where
@@ -91,7 +92,7 @@ module _ (p : Inside) (l : IsLinked p) where
   slot-named : (n : HeapNative) (x : Name) → Among n p.counted.natives → Among x (contents (named_native p.scripts n).slots) → is_script x ≡ true →
       (k : ℕ) × Among (object k) (contents n.slots) × (name_at p.scripts k ≡ Some x)
   slot-named n x m i s =
-      let f = Among-map_cases (λ (y : Option Name). option_and_then (own_name p.scripts) y) n.slots (Some x) (holds-some (named_native p.scripts n).slots x i) in
+      let f = Among-map_cases (λ (y : Option Name). option_and_then (own_name p.scripts) y) n.slots (Some x) (held-among (named_native p.scripts n).slots x i) in
       go f.0 f.1 f.2
     where
       held : (y : Name) → Among y (contents n.slots) → IsHeldThere p.scripts y → own_name p.scripts y ≡ Some x →
@@ -103,14 +104,14 @@ module _ (p : Inside) (l : IsLinked p) where
       go : (y : Option Name) → Among y n.slots → option_and_then (own_name p.scripts) y ≡ Some x →
           (k : ℕ) × Among (object k) (contents n.slots) × (name_at p.scripts k ≡ Some x)
       go None j e = absurd (cc)
-      go (Some y) j e = let i : Among y (contents n.slots) = some-held n.slots y j in held y i (l.held n y m i) e
+      go (Some y) j e = let i : Among y (contents n.slots) = among-held n.slots y j in held y i (l.held n y m i) e
 
   -- and the other way round
   pub named-slot : (n : HeapNative) (k : ℕ) (x : Name) → Among (object k) (contents n.slots) → name_at p.scripts k ≡ Some x → Among x (contents (named_native p.scripts n).slots)
   named-slot n k x i e =
-      some-held (named_native p.scripts n).slots x
+      among-held (named_native p.scripts n).slots x
       (subst (λ y. Among y (named_native p.scripts n).slots) e
-      (Among-map (λ (y : Option Name). option_and_then (own_name p.scripts) y) (Some (object k)) n.slots (holds-some n.slots (object k) i)))
+      (Among-map (λ (y : Option Name). option_and_then (own_name p.scripts) y) (Some (object k)) n.slots (held-among n.slots (object k) i)))
 
   -- a name of a script object is that of no native
   pub script-named : (k : ℕ) (x : Name) → name_at p.scripts k ≡ Some x → is_script x ≡ true

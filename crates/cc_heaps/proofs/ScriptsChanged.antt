@@ -15,20 +15,21 @@ use Rattle.cc_names.specs.declared.name.Name.{Name}
 use Rattle.cc_names.specs.declared.name.Name.TheVariants as name
 use Rattle.cc_names.specs.declared.kind.Kind.TheVariants.{Plain}
 use Rattle.cc_names.specs.Names.{native, same_name, is_native}
-use Rattle.cc_names.proofs.NameTests.{same_name-true, same_name-refl}
 use Rattle.cc_model.specs.Heap.{Heap, HeapNative, HeapScript}
 use Rattle.cc_model.specs.WellFormed.{IsRising, script_names}
 use Rattle.cc_laws_heap.specs.Sound.{IsSound}
 use Rattle.cc_laws_heap.proofs.ScriptsKept.{native-no_script}
+use Rattle.cc_laws_heap.proofs.NameLists.{same_name-sym}
 use Rattle.cc_counted.specs.Counts.{Counts}
 use Rattle.cc_counted.specs.Owning.{HasKeys}
 use Rattle.cc_script.specs.Objects.{Object, AreWhole, object_at, is_there, name_at}
+use Rattle.cc_script.proofs.Reaching.{among-held}
 use Rattle.cc_heaps.specs.Keyed.{IsInOrder, counts_of, keyed_native, named_object, named_objects}
 use Rattle.cc_heaps.specs.Changes.{KeepsKeys}
 use Rattle.cc_heaps.specs.Named.{own_name, named_native, script_named, IsHeldThere, IsScriptLive}
 use Rattle.cc_heaps.specs.Fields.{heap_of, keyed_of, IsLinked}
 use Rattle.cc_heaps.specs.declared.heaps.Heaps.TheInside.{Inside}
-use Rattle.cc_heaps.proofs.Reaching.{HasOneKey, same-tests, some-held}
+use Rattle.cc_heaps.proofs.Reaching.{HasOneKey}
 
 -- keys that have names keep them
 abbrev pub KeepsNames : List Object → List Object → Type 0
@@ -57,12 +58,6 @@ KeepsNames-there os ps kept key t = let n = there-named os key t in named-there 
 -- and has the name that it had
 pub KeepsNames-same : (os ps : List Object) → KeepsNames os ps → (key : ℕ) → IsTrue (is_there os key) → name_at ps key ≡ name_at os key
 KeepsNames-same os ps kept key t = let n = there-named os key t in kept key n.0 n.1 ∙ sym n.1
-
-pub same_name-turned : (x y : Name) → same_name x y ≡ same_name y x
-same_name-turned x y = same-tests (same_name x y) (same_name y x) (turned x y) (turned y x)
-  where
-    turned : (x y : Name) → same_name x y ≡ true → same_name y x ≡ true
-    turned x y e = subst (λ z. same_name z x ≡ true) (same_name-true x y e) (same_name-refl x)
 
 -- keys read the numbers of natives alone
 HasKeys-numbers : (c : Counts) (ns : List HeapNative) → map (λ n. n.number) ns ≡ map (λ n. n.number) c.natives → HasKeys c → HasKeys (record c { natives = ns })
@@ -103,7 +98,7 @@ module _ (p : Inside) (objects : List Object) (made : ℕ) (kept : KeepsNames p.
     where
       at : (x : Option Name) → Among x n.slots → option_and_then (own_name objects) x ≡ option_and_then (own_name p.scripts) x
       at None i = refl
-      at (Some x) i = held-kept x (l.held n x m (some-held n.slots x i))
+      at (Some x) i = held-kept x (l.held n x m (among-held n.slots x i))
 
   -- THE HEAPS are as they were but for the script objects.
   pub heap-objects : heap_of (with_objects p objects made) ≡ with_named (heap_of p) objects made
@@ -144,7 +139,7 @@ module _ (p : Inside) (objects : List Object) (made : ℕ) (kept : KeepsNames p.
         counted : (x : Name) → count_by (same_name x) (script_names (with_named (heap_of p) objects made)) ≡ count_by (λ o. same_name o.name x) objects
         counted x = count_by-map (same_name x) (λ (o : HeapScript). o.name) (named_objects objects)
             ∙ (count_by-map (λ (o : HeapScript). same_name x o.name) (named_object objects) objects
-            ∙ ap (λ t. count_by t objects) (fun_ext (λ (o : Object). same_name-turned x o.name)))
+            ∙ ap (λ t. count_by t objects) (fun_ext (λ (o : Object). same_name-sym x o.name)))
 
         no_native : (x : Name) → Among x (script_names (with_named (heap_of p) objects made)) → is_native x ≡ false
         no_native (name.Native k) m = absurd (native-no_script (with_named (heap_of p) objects made) k.0 s.well_formed m)

@@ -11,7 +11,6 @@ use Rattle.cc_names.specs.declared.name.Name.TheVariants as name
 use Rattle.cc_names.specs.declared.number.NKey.{NKey}
 use Rattle.cc_names.specs.declared.number.SKey.{SKey}
 use Rattle.cc_names.specs.declared.register.Reg.TheVariants.{N, S}
-use Rattle.cc_names.specs.declared.kind.Kind.{Kind}
 use Rattle.cc_names.specs.declared.kind.Kind.TheVariants.{Plain}
 use Rattle.cc_names.specs.Names.{native, object, is_native}
 use Rattle.cc_model.specs.declared.command.Command.{Command}
@@ -53,6 +52,7 @@ use Rattle.cc_heaps.specs.Standing.{IsReached, StandsAfter}
 use Rattle.cc_heaps.proofs.Content.{native-in}
 use Rattle.cc_heaps.proofs.Following.{name_at-there, script_name-there}
 use Rattle.cc_heaps.proofs.ScriptsChanged.{there-named}
+use Rattle.cc_heaps.proofs.PlainNames.{plain-named}
 
 -- What was made
 
@@ -170,12 +170,6 @@ module _ (h : Heap) (d n : ℕ) (s : IsSound [] h) (room : d < 256) (few : n ≤
 
 -- The heaps with their keys
 
--- a plain object's name is no reflector's
-plain-named : (y : Name) (kind : Kind) (slots : Slots) → kind ≡ Plain → FitsName y kind slots → (k : ℕ) × (y ≡ object k)
-plain-named (name.Native k) kind slots e f = absurd f
-plain-named (name.Script k) kind slots e f = (k.0, refl)
-plain-named (name.Reflector k) kind slots e f = absurd (subst (λ q. FitsName (name.Reflector k) q slots) e f)
-
 module _ (v w : Keyed) (o : IsInOrder [] v) (p : IsInOrder [] w) where
   -- where the heaps afterwards are well formed, as they are in order
   changed-stands : (k : Heap) (change : Graph → Graph) → w.heap ≡ k → (IsWellFormed k → StandsAfter v.heap k change) → StandsAfter v.heap w.heap change
@@ -204,7 +198,8 @@ module _ (v w : Keyed) (o : IsInOrder [] v) (p : IsInOrder [] w) where
   object-named : (y : Name) → Among y (script_names v.heap) → (k : ℕ) × (y ≡ object k)
   object-named y there =
       let f = Among-map_cases (λ (q : HeapScript). q.name) v.heap.scripts y there in
-      subst (λ z. (k : ℕ) × (z ≡ object k)) f.2 (plain-named f.0.name f.0.kind f.0.slots (o.alone.plain f.0 f.1) (o.sound.well_formed.kinds f.0 f.1))
+      let k = plain-named f.0.name f.0.slots (subst (λ kind. FitsName f.0.name kind f.0.slots) (o.alone.plain f.0 f.1) (o.sound.well_formed.kinds f.0 f.1)) in
+      (k.0, sym f.2 ∙ k.1)
 
   -- so has the one at a key
   name_at-object : (key : ℕ) → IsTrue (is_there v.scripts key) → (k : ℕ) × (name_at v.scripts key ≡ Some (object k))

@@ -1,9 +1,10 @@
 -- HEAPS GO ON STANDING FOR THE SAME GRAPHS, and the colours stay as they should be: where something changes that no graph
 -- sees, where references are taken and given up, where what no register reaches is unlinked, and in a sweep.
-use Rattle.std.proofs.Common.{◌≡◌, ◌≢◌, ℕ, Bool, List, [], ◌∷◌, map, Option, Some, None, refl, sym, ◌∙◌, ap, subst, inl, inr, IsSome, MatchOption}
+use Rattle.std.proofs.Common.{◌≡◌, ◌≢◌, ℕ, Bool, List, [], ◌∷◌, Option, Some, None, refl, sym, ◌∙◌, ap, subst, inl, IsSome, MatchOption}
 use Rattle.std.specs.List.{filter}
 use Rattle.cc_lists.specs.Members.{Among}
 use Rattle.cc_lists.proofs.Members.{Among-map, Among-map_cases, Among-filter, Among-filtered, Among-passes}
+use Rattle.cc_lists.proofs.ListWrites.{map-unchanged}
 use Rattle.cc_names.specs.declared.name.Name.{Name}
 use Rattle.cc_names.specs.declared.name.Name.TheVariants as name
 use Rattle.cc_names.specs.declared.number.NKey.{NKey}
@@ -160,11 +161,6 @@ module _ (owned : List ℕ) (h : Heap) (k : ℕ) (s : IsSound (k ∷ owned) h) w
       colours-beside h (unlink h k).heap s.well_formed u.1.well_formed u.2.leaves.beside
 
 -- Sweeps
-
--- a map that changes no member
-map-unchanged : {X : Type 0} (f : X → X) (xs : List X) → ((x : X) → Among x xs → f x ≡ x) → map f xs ≡ xs
-map-unchanged f [] same = refl
-map-unchanged f (x ∷ xs) same = ap (λ y. y ∷ map f xs) (same x (inl refl)) ∙ ap (λ ys. x ∷ ys) (map-unchanged f xs (λ y m. same y (inr m)))
 
 module _ (h : Heap) (c : HasColours h) (s : IsSound [] h) where
   -- heaps whose colours are those of marking are as marking would leave them

@@ -6,7 +6,7 @@ use Rattle.std.proofs.lemmas.Bool.{true≢false}
 use Rattle.std.proofs.lemmas.Simd.{map-map}
 use Rattle.cc_lists.specs.Members.{Among, has}
 use Rattle.cc_lists.proofs.Members.{Among-map, Among-map_cases, Among-filter, Among-filtered, Among-passes, has-there, has-among}
-use Rattle.cc_lists.proofs.Filtering.{count_by-filter-le}
+use Rattle.cc_lists.proofs.Filtering.{count_by-filter-le, filter-agree}
 use Rattle.cc_lists.proofs.Searching.{filter-map}
 use Rattle.cc_lists.proofs.ListWrites.{only-member, map-agree}
 use Rattle.cc_names.specs.declared.name.Name.{Name}
@@ -20,17 +20,18 @@ use Rattle.cc_laws_heap.proofs.MarkedKept.{marked-black, black-register, marked-
 use Rattle.cc_laws_heap.proofs.MarkedWellFormed.{is_spared}
 use Rattle.cc_laws_heap.proofs.Swept.{sweep-sound}
 use Rattle.cc_script.specs.Objects.{Object, name_at}
+use Rattle.cc_script.proofs.Reaching.{among-held}
 use Rattle.cc_heaps.specs.Keyed.{IsInOrder, name_held, named_object, named_objects}
 use Rattle.cc_heaps.specs.Changes.{KeepsKeys}
 use Rattle.cc_heaps.specs.Named.{named_native}
 use Rattle.cc_heaps.specs.Fields.{heap_of, keyed_of, IsLinked}
 use Rattle.cc_heaps.specs.Sweeping.{is_white, not_white, white_names, freed}
 use Rattle.cc_heaps.specs.declared.heaps.Heaps.TheInside.{Inside}
-use Rattle.cc_heaps.proofs.Agreeing.{filter-agree}
-use Rattle.cc_heaps.proofs.Reaching.{HasOneKey, same-tests, some-held, name_at-own, name_at-found}
-use Rattle.cc_heaps.proofs.ObjectsKept.{AreObjects, AreObjects-parts, HoldsSame, with_objects, with_named, there-kept, there-named, heap-objects, linked-objects, order-objects}
+use Rattle.cc_heaps.proofs.Reaching.{HasOneKey, same-tests, name_at-own, name_at-found}
+use Rattle.cc_heaps.proofs.ObjectsKept.{AreObjects, AreObjects-parts, HoldsSame, with_objects, with_named, there-kept, heap-objects, linked-objects, order-objects}
 use Rattle.cc_heaps.proofs.RootNames.{register-names, key-register, named-slot, script-named}
 use Rattle.cc_heaps.proofs.PlainSweeps.{sweep-plain}
+use Rattle.cc_heaps.proofs.ScriptsChanged.{there-named}
 
 -- whether an object stays
 abbrev stays : Object → Bool
@@ -103,7 +104,7 @@ module _ (p : Inside) (l : IsLinked p) (o : IsInOrder [] (keyed_of p)) (c : HasC
   slot-left q k m s i =
       let f = there-named p.scripts k (o.whole q k m i) in
       name-left k f.0 f.1 (marked-slot (heap_of p) (named_object p.scripts q) f.0 (Among-map (named_object p.scripts) q p.scripts m)
-      (some-held (map (name_held p.scripts) q.slots) f.0 (subst (λ y. Among y (map (name_held p.scripts) q.slots)) f.1 (Among-map (name_held p.scripts) (Some k) q.slots i)))
+      (among-held (map (name_held p.scripts) q.slots) f.0 (subst (λ y. Among y (map (name_held p.scripts) q.slots)) f.1 (Among-map (name_held p.scripts) (Some k) q.slots i)))
       (stays-marked q m s))
 
   objects-left : AreObjects (left_objects p)

@@ -32,18 +32,13 @@ use Rattle.cc_script.specs.Objects as objects
 use Rattle.cc_heaps.specs.Keyed.{Keyed, IsInOrder, name_held, named_object}
 use Rattle.cc_heaps.specs.Changes.{IsScriptThere, script_name}
 use Rattle.cc_heaps.proofs.ContentNames.{object-there}
+use Rattle.cc_heaps.proofs.PlainNames.{plain-named}
 
 -- the script object at a key, which a register holds
 pub record IsObjectAt (v : Keyed) (r key : ℕ) : Type 0 where
   pub object : Object
   pub at : object_at v.scripts key ≡ Some object
   pub held : register v.heap (S r) ≡ Some object.name
-
--- a plain object has the name of one, and at most 64 slots
-plain-named : (x : Name) (slots : Slots) → FitsName x Plain slots → (k : ℕ) × (x ≡ object k) × (length slots ≤ 64)
-plain-named (name.Native k) slots f = absurd f
-plain-named (name.Script k) slots f = (k.0, refl, f)
-plain-named (name.Reflector k) slots f = absurd f
 
 module _ (owned : List ℕ) (v : Keyed) (order : IsInOrder owned v) where
   -- script objects of one name are one

@@ -1,5 +1,5 @@
 -- WHAT IS REACHED OVER SLOTS: edges are slots, and where every slot holds what is there, all that is reached is there.
-use Rattle.std.proofs.Common.{◌≡◌, ℕ, true, List, [], ◌∷◌, Option, Some, None, refl, sym, ap, subst, inl, ⊎_elim}
+use Rattle.std.proofs.Common.{◌≡◌, ℕ, true, List, [], ◌∷◌, Option, Some, None, refl, sym, ap, subst, inl, inr, ⊎_elim}
 use Rattle.std.specs.List.{flat_map}
 use Rattle.std.specs.Option.{option_to_list}
 use Rattle.cc_lists.specs.Members.{Among}
@@ -9,17 +9,13 @@ use Rattle.cc_script.specs.Objects.{Object, is_there, AreWhole}
 use Rattle.cc_script.specs.Walking.{slot_edges, edges, IsReachedOverSlots}
 
 -- what slots hold
-pub held-among : (slots : List (Option ℕ)) (q : ℕ) → Among q (flat_map option_to_list slots) → Among (Some q) slots
-held-among slots q m =
-    let k = Among-flat_map_cases option_to_list slots q m in
-    subst (λ x. Among x slots) (one k.0 k.2) k.1
-  where
-    one : (x : Option ℕ) → Among q (option_to_list x) → x ≡ Some q
-    one None w = absurd w
-    one (Some r) w = ⊎_elim (λ e. ap Some e) (λ n. absurd n) w
+pub held-among : {X : Type 0} (slots : List (Option X)) (x : X) → Among x (flat_map option_to_list slots) → Among (Some x) slots
+held-among [] x m = m
+held-among (None ∷ slots) x m = inr (held-among slots x m)
+held-among (Some y ∷ slots) x m = ⊎_elim (λ e. inl (ap (λ z. Some z) e)) (λ t. inr (held-among slots x t)) m
 
-pub among-held : (slots : List (Option ℕ)) (q : ℕ) → Among (Some q) slots → Among q (flat_map option_to_list slots)
-among-held slots q m = Among-flat_map option_to_list (Some q) q slots m (inl refl)
+pub among-held : {X : Type 0} (slots : List (Option X)) (x : X) → Among (Some x) slots → Among x (flat_map option_to_list slots)
+among-held slots x m = Among-flat_map option_to_list (Some x) x slots m (inl refl)
 
 -- an edge is a slot
 pub slot-edge : (objects : List Object) (o : Object) (q : ℕ) → Among o objects → Among (Some q) o.slots → Among (o.key, q) (edges objects)

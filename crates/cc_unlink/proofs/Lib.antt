@@ -1,4 +1,3 @@
-pub mod LeftWith
 pub mod NextWhite
 pub mod Passing
 pub mod Promises

@@ -25,8 +25,7 @@ use Rattle.cc_unlink.specs.Whites.{whites_of, is_white_number, whites_above}
 use Rattle.cc_heaps.specs.Holders.{native_numbers, is_above, first_of}
 use Rattle.cc_heaps.proofs.Content.{number-some}
 use Rattle.cc_heaps.proofs.EventsTold.{Tells-more}
-use Rattle.cc_heaps.proofs.LeftWith.{key_left-there, left_with-same}
-use Rattle.cc_unlink.proofs.LeftWith.{number_at-left, left_with-then}
+use Rattle.cc_heaps.proofs.LeftWith.{key_left-there, left_with-same, number_at-left, left_with-then}
 use Rattle.cc_lists.proofs.Filtering.{filter-each}
 use Rattle.cc_lists.specs.Walks.{left_from}
 use Rattle.cc_lists.proofs.Searching.{filter-swap}

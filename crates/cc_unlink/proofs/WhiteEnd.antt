@@ -15,8 +15,8 @@ use Rattle.cc_laws_heap.proofs.EndingEvents.{TellsOf-nil}
 use Rattle.cc_laws_heap.proofs.Leaving.{Leave-refl, Leave-before}
 use Rattle.cc_laws_heap.proofs.TakingAway.{IsOnTheWay, unroot_each-sound}
 use Rattle.cc_heaps.specs.Keyed.{Keyed, IsInOrder, changed_to, left_with}
-use Rattle.cc_unlink.proofs.LeftWith.{left_with-then}
 use Rattle.cc_heaps.proofs.EventsTold.{Tells-more}
+use Rattle.cc_heaps.proofs.LeftWith.{left_with-then}
 
 -- what was told before the natives are unrooted stands in front
 unroot_each-after : (ks : List ℕ) (o : Outcome) → unroot_each ks o ≡ after o.events (unroot_each ks (silently o.heap))

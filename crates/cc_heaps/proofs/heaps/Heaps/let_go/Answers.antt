@@ -5,9 +5,10 @@ use Rattle.cc_model.specs.Texts.{texts_of}
 use Rattle.cc_laws_heap.specs.Sound.{numbers_of}
 use Rattle.cc_heaps.specs.Keyed.{left_with, IsInOrder}
 use Rattle.cc_heaps.specs.Changes.{held_name}
-use Rattle.cc_heaps.proofs.Content.{held-native, held-no_native, in-hand, let_go-none}
+use Rattle.cc_heaps.proofs.Content.{held-no_native, in-hand, let_go-none}
 use Rattle.cc_heaps.proofs.LeftWith.{left_with-same}
 use Rattle.cc_heaps.proofs.heaps.Heaps.let_go.Goals as goal
+use Rattle.cc_counted.proofs.Holding.{held-native}
 
 pub returns-in-Some-clause-order : goal.returns-in-Some-clause-order
 returns-in-Some-clause-order g c =

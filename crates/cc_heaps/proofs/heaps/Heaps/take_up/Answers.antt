@@ -1,8 +1,9 @@
 use Rattle.std.proofs.Common.{[], ◌++◌, sym, ◌∙◌, ap, subst}
 use Rattle.cc_heaps.specs.Keyed.{changed_to, IsInOrder}
 use Rattle.cc_heaps.specs.Changes.{held_name}
-use Rattle.cc_heaps.proofs.Content.{held-native, held-no_native, in-hand, take_up-none}
+use Rattle.cc_heaps.proofs.Content.{held-no_native, in-hand, take_up-none}
 use Rattle.cc_heaps.proofs.heaps.Heaps.take_up.Goals as goal
+use Rattle.cc_counted.proofs.Holding.{held-native}
 
 pub returns-in-Some-clause-order : goal.returns-in-Some-clause-order
 returns-in-Some-clause-order c =
