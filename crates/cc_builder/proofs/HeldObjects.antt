@@ -11,7 +11,6 @@ use Rattle.cc_lists.proofs.Filtering.{find-among, find-passes}
 use Rattle.cc_lists.proofs.Searching.{find-some, find-only, find-map}
 use Rattle.cc_lists.proofs.ListWrites.{only-member}
 use Rattle.cc_names.specs.declared.name.Name.{Name}
-use Rattle.cc_names.specs.declared.name.Name.TheVariants as name
 use Rattle.cc_names.specs.declared.number.NKey.{NKey}
 use Rattle.cc_names.specs.declared.number.SKey.{SKey}
 use Rattle.cc_names.specs.declared.kind.Colour.{Colour}
@@ -19,7 +18,6 @@ use Rattle.cc_names.specs.declared.kind.Kind.{Kind}
 use Rattle.cc_names.specs.declared.kind.Kind.TheVariants.{Plain}
 use Rattle.cc_names.specs.Names.{native, object, is_native, same_name}
 use Rattle.cc_names.proofs.NameTests.{same_name-refl}
-use Rattle.cc_model.specs.Slots.{Slots}
 use Rattle.cc_model.specs.Checks.{slots_or_none}
 use Rattle.cc_model.specs.Heap.{Heap, HeapNative, HeapScript, native_at, script_at, slots_of_kind, slots_of_script, slots_in, is_gray_colour, is_gray_in}
 use Rattle.cc_model.specs.WellFormed.{IsWellFormed, FitsName}

@@ -75,7 +75,7 @@ impl Build {
         ensures stands { StillStands heaps.old.heap heaps.new.heap }
         ensures colours { KeepsColours heaps.old.heap heaps.new.heap }
         ensures keys { KeepsKeys heaps.old heaps.new }
-        ensures few { AreFew heaps.new.heap }
+        ensures counts { AreFew heaps.new.heap }
         ensures unchanged { OnErr result (heaps.new ≡ heaps.old) }
         ensures refused { OnErr result (may_be_refused heaps.old.heap None ≡ true) }
     {
@@ -148,7 +148,7 @@ impl Build {
         ensures stands { StillStands heaps.old.heap heaps.new.heap }
         ensures colours { KeepsColours heaps.old.heap heaps.new.heap }
         ensures keys { KeepsKeys heaps.old heaps.new }
-        ensures few { AreFew heaps.new.heap }
+        ensures counts { AreFew heaps.new.heap }
     {
         let candidates = self.candidates;
         for i in 0..candidates {

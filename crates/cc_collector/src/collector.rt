@@ -56,7 +56,7 @@ impl Collector {
         ensures stands { StillStands heaps.old.heap heaps.new.heap }
         ensures suspected { IsSuspected (view heaps.old.heap) [] → IsSuspected (view heaps.new.heap) [] }
         ensures keys { KeepsKeys heaps.old heaps.new }
-        ensures few { AreFew heaps.new.heap }
+        ensures counts { AreFew heaps.new.heap }
         ensures order { IsInOrder [] heaps.new }
         ensures colours { HasColourInvariant (view heaps.new.heap) }
     {

@@ -130,8 +130,8 @@ number_of c at = option_and_then (λ (key : NKey). number_at c key.0) at
 abbrev pub IsNext : Counts → Option NKey → Option ℕ → Type 0
 IsNext c at k = number_of c at ≡ k
 
-abbrev pub IsThere : Counts → Option NKey → Type 0
-IsThere c at = IfSome at (λ (key : NKey). is_some (number_at c key.0) ≡ true)
+abbrev pub IsLiveKey : Counts → Option NKey → Type 0
+IsLiveKey c at = IfSome at (λ (key : NKey). is_some (number_at c key.0) ≡ true)
 
 -- those before the key are listed and counted
 abbrev pub AreNativesTold : Counts → Option ℕ → ℕ → Telling → Telling → Type 0
@@ -139,14 +139,14 @@ AreNativesTold c at count before after = AreTold HeapNative (λ n. native n.numb
 
 pub record NativesListed (c : Counts) (at : Option NKey) (count : ℕ) (before after : Telling) : Type 0 where
   pub walk : AreNativesTold c (number_of c at) count before after
-  pub there : IsThere c at
+  pub there : IsLiveKey c at
 
 -- the number of the first native is its key in this walk
 first_number-key : (ns : List HeapNative) → first_number ns ≡ first_key (λ (n : HeapNative). n.number) ns
 first_number-key [] = refl
 first_number-key (n ∷ ns) = refl
 
-pub no_natives-listed : (c : Counts) (at : Option NKey) (before : Telling) → IsNext c at (first_number c.natives) → IsThere c at → NativesListed c at 0 before before
+pub no_natives-listed : (c : Counts) (at : Option NKey) (before : Telling) → IsNext c at (first_number c.natives) → IsLiveKey c at → NativesListed c at 0 before before
 no_natives-listed c at before first there = record {
   walk = none-told (λ (n : HeapNative). native n.number) (λ (n : HeapNative). n.number) c.natives (number_of c at) before (first ∙ first_number-key c.natives);
   there = there;
@@ -155,7 +155,7 @@ no_natives-listed c at before first there = record {
 module _ (c : Counts) {at : Option NKey} {count : ℕ} {before after : Telling} where
   -- at a key one is left
   pub natives-few : (key : NKey) → at ≡ Some key → NativesListed c at count before after → count < length c.natives
-  natives-few key e k = go (number_at c key.0) refl (subst (IsThere c) e k.there)
+  natives-few key e k = go (number_at c key.0) refl (subst (IsLiveKey c) e k.there)
     where
       go : (o : Option ℕ) → number_at c key.0 ≡ o → is_some o ≡ true → count < length c.natives
       go None f s = absurd (cc)
@@ -164,7 +164,7 @@ module _ (c : Counts) {at : Option NKey} {count : ℕ} {before after : Telling} 
 
   -- one more listed
   pub natives-next : IsRising (numbers_of_natives c.natives) → (key : NKey) → at ≡ Some key → NativesListed c at count before after → (j : ℕ) → number_at c key.0 ≡ Some j →
-      {next : Option NKey} → IsNext c next (number_after c (the_number c key.0)) → IsThere c next → {later : Telling} → Tells after later (text_of (Listed (native j))) →
+      {next : Option NKey} → IsNext c next (number_after c (the_number c key.0)) → IsLiveKey c next → {later : Telling} → Tells after later (text_of (Listed (native j))) →
       NativesListed c next (count + 1) before later
   natives-next rising key e k j f {next} first there {later} told = record {
     walk = told-next (λ (n : HeapNative). native n.number) (λ (n : HeapNative). n.number) c.natives count before after j

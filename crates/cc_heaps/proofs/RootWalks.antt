@@ -69,8 +69,8 @@ natives_above c o = filter (λ n. is_above o n.number) c.natives
 abbrev pub IsNext : Counts → Option NKey → Option ℕ → Type 0
 IsNext c at k = option_and_then (λ (key : NKey). number_at c key.0) at ≡ k
 
-abbrev pub IsThere : Counts → Option NKey → Type 0
-IsThere c at = IfSome at (λ (key : NKey). IsSome (number_at c key.0))
+abbrev pub IsLiveKey : Counts → Option NKey → Type 0
+IsLiveKey c at = IfSome at (λ (key : NKey). IsSome (number_at c key.0))
 
 -- how many natives are left from a key on
 abbrev pub natives_left : Counts → Option NKey → ℕ
@@ -82,10 +82,10 @@ record Comes (c : Counts) (at : Option NKey) (ns : List HeapNative) : Type 0 whe
   keys : keys_from c at 0 ≡ keys_held ns
   left : natives_left c at ≡ length ns
 
-comes : (c : Counts) → HasKeys c → (o : Option ℕ) (at : Option NKey) → IsNext c at (first_number (natives_above c o)) → IsThere c at → Comes c at (natives_above c o)
+comes : (c : Counts) → HasKeys c → (o : Option ℕ) (at : Option NKey) → IsNext c at (first_number (natives_above c o)) → IsLiveKey c at → Comes c at (natives_above c o)
 comes c k o at = go at (natives_above c o) refl
   where
-    go : (at : Option NKey) (ns : List HeapNative) → natives_above c o ≡ ns → IsNext c at (first_number ns) → IsThere c at → Comes c at ns
+    go : (at : Option NKey) (ns : List HeapNative) → natives_above c o ≡ ns → IsNext c at (first_number ns) → IsLiveKey c at → Comes c at ns
     go None [] e first there = record { keys = refl; left = refl }
     go None (n ∷ ns) e first there = absurd (cc)
     go (Some key) [] e first there = absurd (cc)
@@ -103,7 +103,7 @@ natives_above-none : (c : Counts) → natives_above c None ≡ c.natives
 natives_above-none c = filter-true (λ (n : HeapNative). true) c.natives (λ n. refl)
 
 -- The walk begins at the first native.
-pub begins : (c : Counts) → HasKeys c → (at : Option NKey) → IsNext c at (first_number c.natives) → IsThere c at → keys_from c at 0 ≡ keys_held c.natives
+pub begins : (c : Counts) → HasKeys c → (at : Option NKey) → IsNext c at (first_number c.natives) → IsLiveKey c at → keys_from c at 0 ≡ keys_held c.natives
 begins c k at first there =
     (comes c k None at (first ∙ ap first_number (sym (natives_above-none c))) there).keys ∙ ap keys_held (natives_above-none c)
 
@@ -112,13 +112,13 @@ pub record GoesOn (c : Counts) (key : NKey) (at : Option NKey) : Type 0 where
   pub keys : keys_from c at 0 ≡ keys_held (natives_behind c key.0)
   pub fewer : natives_left c at < natives_left c (Some key)
 
-pub goes_on : (c : Counts) → HasKeys c → (key : NKey) (at : Option NKey) → IsNext c at (number_after c (the_number c key.0)) → IsThere c at → GoesOn c key at
+pub goes_on : (c : Counts) → HasKeys c → (key : NKey) (at : Option NKey) → IsNext c at (number_after c (the_number c key.0)) → IsLiveKey c at → GoesOn c key at
 goes_on c k key at next there =
     let f = comes c k (Some (the_number c key.0)) at next there in
     record { keys = f.keys; fewer = omega (arith, f.left) }
 
 -- the front of the slots of a native is a place, as long as it is there
-pub IsPlace-front : (c : Counts) → HasKeys c → (at : Option NKey) → IsThere c at → IsPlace c at 0
+pub IsPlace-front : (c : Counts) → HasKeys c → (at : Option NKey) → IsLiveKey c at → IsPlace c at 0
 IsPlace-front c k at there = record { keyed = k; there = there; within = front at }
   where
     front : (at : Option NKey) → IfSome at (λ key. 0 ≤ length (slots_of c key.0))

@@ -14,21 +14,18 @@ use Rattle.cc_counted.specs.Counts.{held_of_native}
 use Rattle.cc_script.specs.Objects.{Object, object_at, is_there, name_at}
 use Rattle.cc_heaps.specs.Keyed.{Keyed, IsInOrder, number_at, named_object}
 use Rattle.cc_heaps.specs.Changes.{IsThere, held_name, native_name, script_name}
+use Rattle.cc_heaps.proofs.Content.{held_of_native-name}
 use Rattle.cc_heaps.proofs.ContentNames.{object-there}
 use Rattle.cc_mutator.specs.Commands.{held_of_script, is_native_held, is_script_held}
 
--- a content of one kind has its name
-held-native_name : (v : Keyed) (x : Option NKey) → held_name v (held_of_native x) ≡ native_name v x
-held-native_name v None = refl
-held-native_name v (Some key) = refl
-
+-- a script object that is held has its name
 held-script_name : (v : Keyed) (x : Option SKey) → held_name v (held_of_script x) ≡ script_name v x
 held-script_name v None = refl
 held-script_name v (Some key) = refl
 
 -- the name of what is taken for a content of one kind
 pub as_native-named : (v : Keyed) (key : Option NKey) (x : Option Held) (y : Option Name) → held_of_native key ≡ x → held_name v x ≡ y → native_name v key ≡ y
-as_native-named v key x y is name = sym (held-native_name v key) ∙ (ap (held_name v) is ∙ name)
+as_native-named v key x y is name = sym (held_of_native-name v key) ∙ (ap (held_name v) is ∙ name)
 
 pub as_script-named : (v : Keyed) (key : Option SKey) (x : Option Held) (y : Option Name) → held_of_script key ≡ x → held_name v x ≡ y → script_name v key ≡ y
 as_script-named v key x y is name = sym (held-script_name v key) ∙ (ap (held_name v) is ∙ name)

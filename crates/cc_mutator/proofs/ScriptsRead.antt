@@ -13,14 +13,12 @@ use Rattle.cc_lists.proofs.Filtering.{find-among}
 use Rattle.cc_lists.proofs.Places.{among-get}
 use Rattle.cc_lists.proofs.Searching.{find-only}
 use Rattle.cc_names.specs.declared.name.Name.{Name}
-use Rattle.cc_names.specs.declared.name.Name.TheVariants as name
 use Rattle.cc_names.specs.declared.number.SKey.{SKey}
-use Rattle.cc_names.specs.declared.kind.Kind.TheVariants.{Plain}
 use Rattle.cc_names.specs.declared.kind.Colour.TheVariants.{Black}
 use Rattle.cc_names.specs.declared.register.Reg.TheVariants.{S}
 use Rattle.cc_names.specs.Names.{object, same_name}
 use Rattle.cc_names.proofs.NameTests.{same_name-refl}
-use Rattle.cc_model.specs.Slots.{Slots, contents}
+use Rattle.cc_model.specs.Slots.{contents}
 use Rattle.cc_model.specs.Checks.{is_map_in, slots_or_none, slot_at, slots_at}
 use Rattle.cc_model.specs.Heap.{HeapScript, objects_of, preserve, register, script_at, source, slots_in, slots_of_kind, slots_of_script}
 use Rattle.cc_model.specs.WellFormed.{FitsName}

@@ -124,7 +124,7 @@ pub fn collect_white<N: Notices>(graph: Graph, heaps: &mut Heaps, out: &mut N)
     ensures suspected { (s : Snapshot) → AreWhiteIn graph heaps.old.heap s → IsSuspected (view heaps.old.heap) s.candidates → IsSuspected (view heaps.new.heap) [] }
     ensures colours { KeepsColours heaps.old.heap heaps.new.heap }
     ensures keys { KeepsKeys heaps.old heaps.new }
-    ensures few { AreFew heaps.new.heap }
+    ensures counts { AreFew heaps.new.heap }
 {
     root_whites(&graph, heaps);
     unlink_whites(&graph, heaps, out);

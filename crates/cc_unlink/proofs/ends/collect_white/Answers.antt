@@ -43,5 +43,5 @@ returns-clause-colours g c = ended-colours c.args.graph c.args.heaps.now c.unroo
 pub returns-clause-keys : goal.returns-clause-keys
 returns-clause-keys g c = KeepsKeys-left c.args.heaps.now c.unroot_whites.new.heaps _ (ended g c)
 
-pub returns-clause-few : goal.returns-clause-few
-returns-clause-few g c = few-alone c.unroot_whites.new.heaps c.unroot_whites.ensures.order
+pub returns-clause-counts : goal.returns-clause-counts
+returns-clause-counts g c = few-alone c.unroot_whites.new.heaps c.unroot_whites.ensures.order

@@ -41,5 +41,5 @@ returns-clause-colours c = (unseen c).colours
 pub returns-clause-keys : goal.returns-clause-keys
 returns-clause-keys c = (unseen c).keys
 
-pub returns-clause-few : goal.returns-clause-few
-returns-clause-few c = few-alone c.loop-i.heaps c.loop-i.invariant.order
+pub returns-clause-counts : goal.returns-clause-counts
+returns-clause-counts c = few-alone c.loop-i.heaps c.loop-i.invariant.order

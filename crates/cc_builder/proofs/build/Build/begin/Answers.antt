@@ -57,11 +57,11 @@ returns-clause-colours c = (unseen c).colours
 pub returns-clause-keys : goal.returns-clause-keys
 returns-clause-keys c = (unseen c).keys
 
-pub returns-in_err-build-clause-few : goal.returns-in_err-build-clause-few
-returns-in_err-build-clause-few c = few-alone c.args.heaps.now c.requires.order
+pub returns-in_err-build-clause-counts : goal.returns-in_err-build-clause-counts
+returns-in_err-build-clause-counts c = few-alone c.args.heaps.now c.requires.order
 
-pub returns-in_err-add_holders-clause-few : goal.returns-in_err-add_holders-clause-few
-returns-in_err-add_holders-clause-few c = few-alone c.args.heaps.now c.requires.order
+pub returns-in_err-add_holders-clause-counts : goal.returns-in_err-add_holders-clause-counts
+returns-in_err-add_holders-clause-counts c = few-alone c.args.heaps.now c.requires.order
 
-pub returns-clause-few : goal.returns-clause-few
-returns-clause-few c = few-alone c.empty_buffer.new.heaps c.empty_buffer.ensures.order
+pub returns-clause-counts : goal.returns-clause-counts
+returns-clause-counts c = few-alone c.empty_buffer.new.heaps c.empty_buffer.ensures.order
