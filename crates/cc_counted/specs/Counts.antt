@@ -1,5 +1,5 @@
 -- WHAT A COUNTED HEAP SHOWS: its natives and its buffer by names, and which native stands at which key.
-use Rattle.std.specs.Prelude.{ℕ, zero, Bool, true, List, [], ◌∷◌, map, filter, Option, Some, None, option_map, slice_index_or, nat_lt, is_some, if◌then◌else◌}
+use Rattle.std.specs.Prelude.{ℕ, zero, Bool, true, false, List, [], ◌∷◌, ◌++◌, map, filter, Option, Some, None, option_map, slice_index_or, slice_set, nat_lt, is_some, if◌then◌else◌}
 use Rattle.cc_lists.specs.Walks.{first_key}
 use Rattle.cc_names.specs.Allowance.{Allowance}
 use Rattle.cc_names.specs.declared.name.Name.{Name}
@@ -11,20 +11,26 @@ use Rattle.cc_model.specs.Cascade.{cascade}
 use Rattle.cc_counted.specs.declared.held.Held.{Held}
 use Rattle.cc_counted.specs.declared.held.Held.TheVariants as held
 
--- natives by rising number, the buffer in order, and at each key the number of the native that stands there.
+-- natives by rising number, the buffer in order, at each key the number of the native that stands there, and at each key
+-- the key of that native's reflector in the script heap, where it has one.
 -- A SCRIPT OBJECT IN A SLOT, which stands at key q of its own heap, is named object q: its key in the place of a number.
 -- This heap knows no other name of it; crates above give it its own name.
 pub record Counts : Type 0 where
   pub natives : List HeapNative
   pub buffer : List Buffered
   pub keys : List (Option ℕ)
+  pub reflectors : List (Option ℕ)
 
 abbrev pub no_counts : Counts
-no_counts = record { natives = []; buffer = []; keys = [] }
+no_counts = record { natives = []; buffer = []; keys = []; reflectors = [] }
 
 -- the number of the native at a key
 abbrev pub number_at : Counts → ℕ → Option ℕ
 number_at c key = slice_index_or c.keys key None
+
+-- the key of the reflector of the native at a key
+abbrev pub reflector_at : Counts → ℕ → Option ℕ
+reflector_at c key = slice_index_or c.reflectors key None
 
 -- 0 where there is none
 abbrev pub number_or_none : Option ℕ → ℕ
@@ -82,9 +88,25 @@ abbrev pub key_left : Heap → Option ℕ → Option ℕ
 key_left h None = None
 key_left h (Some k) = if is_some (native_at h k) then Some k else None
 
+-- a key that holds nothing has no reflector
+abbrev pub reflectors_left : List (Option ℕ) → List (Option ℕ) → List (Option ℕ)
+reflectors_left [] reflectors = []
+reflectors_left (k ∷ ks) [] = []
+reflectors_left (None ∷ ks) (r ∷ rs) = None ∷ reflectors_left ks rs
+reflectors_left (Some k ∷ ks) (r ∷ rs) = r ∷ reflectors_left ks rs
+
 -- some natives are no more
 abbrev pub left_with : Counts → Heap → Counts
-left_with c h = record { natives = h.natives; buffer = h.buffer; keys = map (key_left h) c.keys }
+left_with c h = record {
+  natives = h.natives;
+  buffer = h.buffer;
+  keys = map (key_left h) c.keys;
+  reflectors = reflectors_left (map (key_left h) c.keys) c.reflectors;
+}
+
+-- the native at a key has this reflector, or none
+abbrev pub with_reflector : Counts → ℕ → Option ℕ → Counts
+with_reflector c key reflector = record c { reflectors = slice_set c.reflectors key reflector }
 
 -- after one reference to native k was given up
 abbrev pub released : Counts → ℕ → Outcome
@@ -97,6 +119,23 @@ slots_at (Some n) = n.slots
 -- the slots of the native at a key, and its count
 abbrev pub slots_of : Counts → ℕ → Slots
 slots_of c key = slots_at (native_at (heap_of c) (the_number c key))
+
+abbrev pub preserved_at : Option HeapNative → Bool
+preserved_at None = false
+preserved_at (Some n) = n.preserved
+
+-- whether the reflector of the native at a key is preserved
+abbrev pub preserved_of : Counts → ℕ → Bool
+preserved_of c key = preserved_at (native_at (heap_of c) (the_number c key))
+
+-- a reflector where it is preserved; as in slots, its key stands in the place of a number
+abbrev pub preserved_reflector : Bool → Option ℕ → Option Name
+preserved_reflector false reflector = None
+preserved_reflector true reflector = option_map object reflector
+
+-- THE REFERENCES OF THE NATIVE at a key as one list: its slots, then its reflector, where that is preserved
+abbrev pub references_of : Counts → ℕ → Slots
+references_of c key = slots_of c key ++ preserved_reflector (preserved_of c key) (reflector_at c key) ∷ []
 
 abbrev pub count_at : Option HeapNative → ℕ
 count_at None = 0

@@ -1,5 +1,5 @@
 -- THE PARTS OF A COUNTED HEAP AS LISTS, by keys, and what they show by numbers.
-use Rattle.std.specs.Prelude.{◌≡◌, ◌⊎◌, ℕ, ◌+◌, ◌-◌, ◌≤◌, ◌==◌, true, false, not, List, [], ◌++◌, length, filter, ◌∷◌, map, flat_map, Option, Some, None, option_map, slice_index_or, slice_set}
+use Rattle.std.specs.Prelude.{◌≡◌, ◌⊎◌, ℕ, ◌+◌, ◌-◌, ◌≤◌, ◌==◌, Bool, true, false, not, List, [], ◌++◌, length, filter, ◌∷◌, map, flat_map, Option, Some, None, option_map, option_and_then, slice_index_or, slice_set}
 use Rattle.cc_lists.specs.Members.{Among}
 use Rattle.cc_model.specs.declared.item.Event.{Event}
 use Rattle.cc_model.specs.Slots.{Slots}
@@ -10,10 +10,12 @@ use Rattle.cc_purple.specs.Marks.{Marked, with_mark, without_key}
 use Rattle.cc_counted.specs.declared.held.Held.{Held}
 use Rattle.cc_counted.specs.Counts.{Counts, no_counts, number_at, the_number, name_of, is_live, numbers_held, heap_of}
 
--- a native as it stands at its key: what its slots hold by keys
+-- a native as it stands at its key: what its slots hold by keys, and the key of its reflector
 pub record Placed : Type 0 where
   pub number : ℕ
   pub slots : List (Option Held)
+  pub preserved : Bool
+  pub reflector : Option ℕ
   pub count : ℕ
 
 -- the natives by key, their keys by rising number, the keys that wait to be deleted, and the marked keys of the buffer
@@ -38,6 +40,14 @@ with_one_more c = record c { count = c.count + 1 }
 -- with slot i written
 abbrev pub with_slot : ℕ → Option Held → Placed → Placed
 with_slot i x c = record c { slots = slice_set c.slots i x }
+
+-- preserved or not
+abbrev pub with_flag : Bool → Placed → Placed
+with_flag on c = record c { preserved = on }
+
+-- with a reflector, or without
+abbrev pub reflected_by : Option ℕ → Placed → Placed
+reflected_by reflector c = record c { reflector = reflector }
 
 -- the count at a key, and 0 where there is no native
 abbrev pub count_placed : Option Placed → ℕ
@@ -64,7 +74,7 @@ numbers_in c slots = flat_map (numbers_held c) slots
 -- a native by names
 abbrev pub shown : Counts → Option Placed → HeapNative
 shown c None = record { number = 0; slots = []; preserved = false; count = 0 }
-shown c (Some p) = record { number = p.number; slots = names_in c p.slots; preserved = false; count = p.count }
+shown c (Some p) = record { number = p.number; slots = names_in c p.slots; preserved = p.preserved; count = p.count }
 
 -- the native at a key by names
 abbrev pub shown_at : List (Option Placed) → ℕ → HeapNative
@@ -80,6 +90,7 @@ counts_of l = record {
   natives = map (shown_at l.cells) l.order;
   buffer = map (marked_number (keyed l.cells)) l.marks;
   keys = map (option_map (λ c. c.number)) l.cells;
+  reflectors = map (option_and_then (λ c. c.reflector)) l.cells;
 }
 
 -- and while natives are deleted

@@ -1,12 +1,12 @@
 -- WHICH REFERENCES CALLERS OWN: the count of a native is the slots that hold it and the references that are owned.
-use Rattle.std.specs.Prelude.{◌≡◌, ◌≢◌, ℕ, ◌+◌, ◌≤◌, ◌==◌, false, List, [], ◌∷◌, ◌++◌, map, count_by, Some, None}
+use Rattle.std.specs.Prelude.{◌≡◌, ◌≢◌, ℕ, ◌+◌, ◌≤◌, ◌==◌, false, List, [], ◌∷◌, ◌++◌, length, map, count_by, Some, None}
 use Rattle.cc_lists.specs.Members.{Among}
 use Rattle.cc_names.specs.Names.{native, same_name}
 use Rattle.cc_model.specs.Slots.{empty_slots}
 use Rattle.cc_model.specs.Heap.{HeapNative, Buffered, with_mark}
 use Rattle.cc_model.specs.WellFormed.{IsRising, native_names}
 use Rattle.cc_model.specs.Counts.{slots_of_natives, times}
-use Rattle.cc_counted.specs.Counts.{Counts, heap_of, number_at}
+use Rattle.cc_counted.specs.Counts.{Counts, heap_of, number_at, reflector_at}
 
 -- each native that is there stands at one key, and at each key that holds something a native that is there
 pub record HasKeys (c : Counts) : Type 0 where
@@ -41,3 +41,6 @@ pub record Makes (old new : Counts) (key number slots : ℕ) : Type 0 where
   pub others : (q : ℕ) → q ≢ key → number_at new q ≡ number_at old q
   pub vacant : number_at old key ≡ None
   pub keyed : HasKeys new
+  pub reflector : reflector_at new key ≡ None
+  pub other_reflectors : (q : ℕ) → q ≢ key → reflector_at new q ≡ reflector_at old q
+  pub as_many : length new.reflectors ≡ length new.keys

@@ -3,7 +3,7 @@ ghost use Rattle.std.specs.Prelude.{◌≡◌, ◌+◌, ◌<◌, ◌≤◌, leng
 ghost use Rattle.cc_counted.specs.Lists.{cell_at, count_placed, slots_placed, with_one_less, with_one_more, with_slot};
 
 use crate::held::Held;
-use cc_names::{NKey, NativeNo};
+use cc_names::{NKey, NativeNo, SKey};
 use slab::Slab;
 use std::marker::Model;
 
@@ -14,16 +14,21 @@ pub(crate) struct Cell {
     pub(crate) number: NativeNo,
     /// As many as it was made with, and no room for more.
     pub(crate) slots: Vec<Option<Held>>,
+    /// Whether its reflector is preserved.
+    pub(crate) preserved: bool,
+    /// Where its reflector stands in the script heap, while it has one.
+    pub(crate) reflector: Option<SKey>,
     /// How many slots hold it, and how many references to it callers own.
     pub(crate) count: u32,
 }
 
 impl Model for Cell {
+    ghost use Rattle.std.specs.Prelude.{option_map};
     ghost use Rattle.cc_counted.specs.Lists.{Placed};
 
     ghost Value = { Placed };
 
-    ghost view = { λ c. record { number = c.number.0; slots = c.slots.items; count = c.count } };
+    ghost view = { λ c. record { number = c.number.0; slots = c.slots.items; preserved = c.preserved; reflector = option_map (λ k. k.0) c.reflector; count = c.count } };
 }
 
 /// Lowers the count of the native at a key, and returns it.

@@ -5,10 +5,10 @@ ghost use Rattle.cc_model.specs.declared.item.Item.TheVariants.{Event};
 ghost use Rattle.cc_model.specs.Texts.{texts_of};
 ghost use Rattle.cc_model.specs.Telling.{Tells};
 ghost use Rattle.cc_model.specs.Slots.{empty_slots};
-ghost use Rattle.cc_model.specs.Heap.{HeapNative, set_slot, suspect, with_mark};
+ghost use Rattle.cc_model.specs.Heap.{HeapNative, set_preserved, set_slot, suspect, with_mark};
 ghost use Rattle.cc_model.specs.Cascade.{add_ref};
 ghost use Rattle.cc_model.specs.End.{unlink};
-ghost use Rattle.cc_counted.specs.Counts.{no_counts, number_at, the_number, name_of, is_live, numbers_held, heap_of, with_heap, left_with, released, slots_of, count_of, first_number, number_after};
+ghost use Rattle.cc_counted.specs.Counts.{no_counts, number_at, reflector_at, the_number, name_of, is_live, numbers_held, heap_of, with_heap, with_reflector, left_with, released, slots_of, count_of, preserved_of, references_of, first_number, number_after};
 ghost use Rattle.cc_counted.specs.Owning.{CallersOwn, AreOwned, Transfers, HasKeys};
 ghost use Rattle.cc_counted.specs.Suspects.{is_in_buffer, is_purple_in, front_number, number_behind};
 ghost use Rattle.cc_lists.specs.Members.{Among};
@@ -17,7 +17,7 @@ use crate::held::Held;
 use crate::order::{behind, key_at};
 use crate::parts::CountedParts;
 use cc_model::Notices;
-use cc_names::{NKey, NativeNo, NoMemory};
+use cc_names::{NKey, NativeNo, NoMemory, SKey};
 use std::alloc::Global;
 use std::marker::Model;
 
@@ -73,6 +73,9 @@ impl Counted {
         ensures key { IfOk result (λ key. number_at self.new key.0 ≡ Some no.0) }
         ensures others { IfOk result (λ key. (q : ℕ) → q ≢ key.0 → number_at self.new q ≡ number_at self.old q) }
         ensures vacant { IfOk result (λ key. number_at self.old key.0 ≡ None) }
+        ensures reflector { IfOk result (λ key. reflector_at self.new key.0 ≡ None) }
+        ensures other_reflectors { IfOk result (λ key. (q : ℕ) → q ≢ key.0 → reflector_at self.new q ≡ reflector_at self.old q) }
+        ensures as_many { OnOk result (length self.new.reflectors ≡ length self.new.keys) }
         ensures keyed { HasKeys self.old → HasKeys self.new }
         ensures owned { OnOk result (Transfers [] (no.0 ∷ []) self.old self.new) }
         ensures err { OnErr result (self.new ≡ self.old) }
@@ -137,6 +140,53 @@ impl Counted {
         self.parts.natives[key.0].slots.len() as u8
     }
 
+    /// Whether a native's reflector is preserved.
+    pub fn preserved(&self, key: NKey) -> bool
+        requires live { IsSome (number_at self.now key.0) }
+        ensures { result ≡ preserved_of self.now key.0 }
+    {
+        self.parts.natives[key.0].preserved
+    }
+
+    /// A native's reflector is preserved from then on, or is not. `unlink` ends it too.
+    pub fn set_preserved(&mut self, key: NKey, on: bool)
+        requires live { IsSome (number_at self.old key.0) }
+        ensures heap { self.new ≡ with_heap self.old (set_preserved (heap_of self.old) (the_number self.old key.0) on) }
+        ensures owned { Transfers [] [] self.old self.new }
+    {
+        self.parts.set_preserved(key, on);
+    }
+
+    /// Where a native's reflector stands in the script heap; none where it has none.
+    pub fn reflector(&self, key: NKey) -> Option<SKey>
+        requires live { IsSome (number_at self.now key.0) }
+        ensures { option_map (λ k. k.0) result ≡ reflector_at self.now key.0 }
+    {
+        self.parts.natives[key.0].reflector
+    }
+
+    /// A native has a reflector from then on, or none.
+    ///
+    /// This heap does not count it: who makes a reflector owns one reference to its native as long as that has it.
+    pub fn set_reflector(&mut self, key: NKey, to: Option<SKey>)
+        requires live { IsSome (number_at self.old key.0) }
+        ensures reflectors { self.new ≡ with_reflector self.old key.0 (option_map (λ k. k.0) to) }
+        ensures owned { Transfers [] [] self.old self.new }
+    {
+        self.parts.set_reflector(key, to);
+    }
+
+    /// What a native refers to, counted from 0: what each slot holds, in their order, and behind the last slot its
+    /// reflector, where that is preserved.
+    pub fn reference(&self, key: NKey, i: u8) -> Option<Held>
+        requires live { IsSome (number_at self.now key.0) }
+        requires within { i ≤ length (slots_of self.now key.0) }
+        ensures name { name_of self.now result ≡ slice_index_or (references_of self.now key.0) i None }
+        ensures live { IsTrue (is_live self.now result) }
+    {
+        self.parts.reference(key, i)
+    }
+
     /// The count of a native: the slots that hold it and the references that callers own.
     pub fn count(&self, key: NKey) -> u32
         requires live { IsSome (number_at self.now key.0) }
@@ -198,7 +248,8 @@ impl Counted {
 
     /// Tells that a native that the caller owns is unlinked, and empties its slots in rising order.
     ///
-    /// What a slot held is given up with its cascade before the next slot is emptied. The native itself stays.
+    /// What a slot held is given up with its cascade before the next slot is emptied. The native itself stays, and its
+    /// reflector is preserved no longer.
     pub fn unlink<N: Notices>(&mut self, key: NKey, out: &mut N)
         requires live { IsSome (number_at self.old key.0) }
         requires owned { CallersOwn (the_number self.old key.0 ∷ []) self.old }

@@ -13,6 +13,7 @@ use Rattle.cc_script.specs.Objects.{Object}
 pub record Placed : Type 0 where
   pub name : Name
   pub kind : Kind
+  pub native : Option ℕ
   pub slots : List (Option ℕ)
   pub colour : Colour
 
@@ -35,7 +36,7 @@ written i x c = record c { slots = slice_set c.slots i x }
 
 -- what is read where there is no object
 abbrev pub nothing_placed : Placed
-nothing_placed = record { name = object 0; kind = Plain; slots = []; colour = White }
+nothing_placed = record { name = object 0; kind = Plain; native = None; slots = []; colour = White }
 
 abbrev pub placed_or_nothing : Option Placed → Placed
 placed_or_nothing None = nothing_placed
@@ -47,7 +48,7 @@ slots_placed o = (placed_or_nothing o).slots
 
 -- an object with its key
 abbrev pub with_key : ℕ → Placed → Object
-with_key key c = record { key = key; name = c.name; kind = c.kind; slots = c.slots; colour = c.colour }
+with_key key c = record { key = key; name = c.name; kind = c.kind; native = c.native; slots = c.slots; colour = c.colour }
 
 abbrev pub shown_at : List (Option Placed) → ℕ → Object
 shown_at cells key = with_key key (placed_or_nothing (cell_at cells key))

@@ -1,24 +1,42 @@
--- THE SCRIPT OBJECTS AS A LIST, in order of making; each stands at a key, and its slots hold keys.
-use Rattle.std.specs.Prelude.{◌≡◌, IsTrue, ℕ, ◌==◌, Bool, true, false, not, List, [], map, filter, find, replicate, Option, Some, None, is_some, option_map, slice_set, if◌then◌else◌}
+-- THE SCRIPT OBJECTS AS A LIST, in order of making; each stands at a key, and its slots hold keys. A reflector has the
+-- key of its native, which stands in a heap of its own.
+use Rattle.std.specs.Prelude.{◌≡◌, IsTrue, ℕ, ◌==◌, Bool, true, false, not, List, [], map, filter, find, replicate, Option, Some, None, is_some, option_map, option_and_then, slice_set, if◌then◌else◌}
 use Rattle.cc_lists.specs.Members.{Among, has}
 use Rattle.cc_lists.specs.Walks as walks
 use Rattle.cc_names.specs.declared.name.Name.{Name}
 use Rattle.cc_names.specs.declared.kind.Kind.{Kind}
-use Rattle.cc_names.specs.declared.kind.Kind.TheVariants.{Plain}
+use Rattle.cc_names.specs.declared.kind.Kind.TheVariants.{Plain, Reflector, Map}
 use Rattle.cc_names.specs.declared.kind.Colour.{Colour}
 use Rattle.cc_names.specs.declared.kind.Colour.TheVariants.{White, Gray, Black}
-use Rattle.cc_names.specs.Names.{object}
+use Rattle.cc_names.specs.Names.{object, reflector}
 
 pub record Object : Type 0 where
   pub key : ℕ
   pub name : Name
   pub kind : Kind
+  pub native : Option ℕ
   pub slots : List (Option ℕ)
   pub colour : Colour
 
--- a plain object as it is made: with its number, black, so many slots empty
+-- an object as it is made: black, so many slots empty
+abbrev pub new_object : ℕ → Name → Kind → Option ℕ → ℕ → Object
+new_object key name kind native slots = record { key = key; name = name; kind = kind; native = native; slots = replicate slots None; colour = Black }
+
+-- a plain object with its number
 abbrev pub plain_object : ℕ → ℕ → ℕ → Object
-plain_object key number slots = record { key = key; name = object number; kind = Plain; slots = replicate slots None; colour = Black }
+plain_object key number slots = new_object key (object number) Plain None slots
+
+-- a weak map with its number; it has no slots
+abbrev pub map_object : ℕ → ℕ → Object
+map_object key number = new_object key (object number) Map None 0
+
+-- how many slots a reflector has
+abbrev pub slots_of_reflector : ℕ
+slots_of_reflector = 4
+
+-- the reflector of the native of a number, which stands at a key of the counted heap
+abbrev pub reflector_object : ℕ → ℕ → ℕ → Object
+reflector_object key native number = new_object key (reflector number) Reflector (Some native) slots_of_reflector
 
 -- Reading
 
@@ -36,6 +54,10 @@ kind_at objects key = option_map (λ o. o.kind) (object_at objects key)
 
 abbrev pub colour_at : List Object → ℕ → Option Colour
 colour_at objects key = option_map (λ o. o.colour) (object_at objects key)
+
+-- the key of the native of a reflector
+abbrev pub native_at : List Object → ℕ → Option ℕ
+native_at objects key = option_and_then (λ o. o.native) (object_at objects key)
 
 abbrev pub slots_or_none : Option Object → List (Option ℕ)
 slots_or_none None = []

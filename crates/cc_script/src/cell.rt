@@ -3,7 +3,7 @@ ghost use Rattle.std.specs.Prelude.{◌≡◌, ◌<◌, length, IsSome, option_m
 ghost use Rattle.cc_script.specs.Objects.{is_below as is_below_it};
 ghost use Rattle.cc_script.specs.Lists.{cell_at, painted, slots_placed, written};
 
-use cc_names::{Colour, Kind, Name, SKey};
+use cc_names::{Colour, Kind, NKey, Name, SKey};
 use slab::Slab;
 use std::marker::Model;
 
@@ -13,6 +13,8 @@ pub(crate) struct Cell {
     /// The name that it never shares with another.
     pub(crate) name: Name,
     pub(crate) kind: Kind,
+    /// Where its native stands, of a reflector.
+    pub(crate) native: Option<NKey>,
     /// As many as it was made with, and no room for more.
     pub(crate) slots: Vec<Option<SKey>>,
     pub(crate) colour: Colour,
@@ -24,7 +26,7 @@ impl Model for Cell {
 
     ghost Value = { Placed };
 
-    ghost view = { λ c. record { name = c.name; kind = c.kind; slots = map (option_map (λ k. k.0)) c.slots.items; colour = c.colour } };
+    ghost view = { λ c. record { name = c.name; kind = c.kind; native = option_map (λ k. k.0) c.native; slots = map (option_map (λ k. k.0)) c.slots.items; colour = c.colour } };
 }
 
 /// Whether a colour is below another: white below gray below black.

@@ -2,13 +2,13 @@
 ghost use Rattle.std.specs.Prelude.{◌≡◌, ℕ, ◌<◌, ◌≤◌, false, List, [], ◌∷◌, ◌++◌, length, Some, None, IfOk, IfSome, IsTrue, OnErr, OnOk, option_map, replicate, slice_index_or};
 ghost use Rattle.cc_lists.specs.Members.{Among};
 ghost use Rattle.cc_names.specs.declared.kind.Colour.TheVariants.{White};
-ghost use Rattle.cc_script.specs.Objects.{AreWhole, IsNotBelow, change_object, colour_at, is_there, plain_object, raised_among, slots_at, whitened, with_slot, without_object};
+ghost use Rattle.cc_script.specs.Objects.{AreWhole, IsNotBelow, change_object, colour_at, is_there, new_object, raised_among, slots_at, whitened, with_slot, without_object};
 ghost use Rattle.cc_script.specs.Walking.{keys_reached};
 ghost use Rattle.cc_script.specs.Marking.{raise_each, raise_key, raise_slot};
 
 use crate::cell::{Cell, is_below, paint, write};
 use crate::order::leave;
-use cc_names::{Colour, Kind, Name, NoMemory, SKey, ScriptNo};
+use cc_names::{Colour, Kind, NKey, Name, NoMemory, SKey};
 use slab::Slab;
 use std::alloc::Global;
 
@@ -58,12 +58,14 @@ impl ScriptParts {
     pub(crate) fn create(
         &mut self,
         alloc: Global,
-        no: ScriptNo,
+        name: Name,
+        kind: Kind,
+        native: Option<NKey>,
         slots: u8,
     ) -> Result<SKey, NoMemory>
         requires at_rest { IsAtRest self.old }
         requires slots { slots ≤ 64 }
-        ensures made { IfOk result (λ key. shows self.new ≡ shows self.old ++ plain_object key.0 no.0 slots ∷ []) }
+        ensures made { IfOk result (λ key. shows self.new ≡ shows self.old ++ new_object key.0 name kind (option_map (λ k. k.0) native) slots ∷ []) }
         ensures vacant { IfOk result (λ key. is_there (shows self.old) key.0 ≡ false) }
         ensures err { OnErr result (shows self.new ≡ shows self.old) }
         ensures at_rest { IsAtRest self.new }
@@ -71,8 +73,9 @@ impl ScriptParts {
         let empty = self.take_room(alloc, slots)?;
         let key = SKey(
             self.cells.insert_reserved(Cell {
-                name: Name::Script(no),
-                kind: Kind::Plain,
+                name,
+                kind,
+                native,
                 slots: empty,
                 colour: Colour::Black,
             }),

@@ -1,12 +1,12 @@
 //! The script heap as callers see it.
 ghost use Rattle.std.specs.Prelude.{◌≡◌, ◌<◌, ◌≤◌, false, List, [], ◌∷◌, ◌++◌, length, Some, None, option_map, slice_index_or, IsTrue, IfSome, IfOk, OnOk, OnErr};
 ghost use Rattle.cc_names.specs.declared.kind.Colour.TheVariants.{White, Black};
-ghost use Rattle.cc_script.specs.Objects.{AreWhole, change_object, colour_at, first_key, is_there, key_after, kind_at, name_at, plain_object, raised_among, slots_at, whitened, with_slot, without_object, IsNotBelow};
+ghost use Rattle.cc_script.specs.Objects.{AreWhole, change_object, colour_at, first_key, is_there, key_after, kind_at, map_object, name_at, native_at, plain_object, reflector_object, raised_among, slots_at, whitened, with_slot, without_object, IsNotBelow};
 ghost use Rattle.cc_script.specs.Walking.{keys_reached};
 
 use crate::order::{behind, key_at};
 use crate::parts::ScriptParts;
-use cc_names::{Colour, Kind, Name, NoMemory, SKey, ScriptNo};
+use cc_names::{Colour, Kind, NKey, Name, NativeNo, NoMemory, SKey, ScriptNo};
 use std::alloc::Global;
 use std::marker::Model;
 
@@ -43,14 +43,45 @@ impl Scripts {
 
     /// Makes a plain object with `slots` empty slots (0 to 64) and the number `no`. It is black, and goes last.
     ///
-    /// `NoMemory` changes nothing. No other call takes memory.
+    /// `NoMemory` changes nothing. Beside the three calls that make an object none takes memory.
     pub fn create_plain(&mut self, no: ScriptNo, slots: u8) -> Result<SKey, NoMemory>
         requires slots { slots ≤ 64 }
         ensures made { IfOk result (λ key. self.new ≡ self.old ++ plain_object key.0 no.0 slots ∷ []) }
         ensures vacant { IfOk result (λ key. is_there self.old key.0 ≡ false) }
         ensures err { OnErr result (self.new ≡ self.old) }
     {
-        self.parts.create(self.alloc, no, slots)
+        self.parts
+            .create(self.alloc, Name::Script(no), Kind::Plain, None, slots)
+    }
+
+    /// Makes the reflector of the native with the number `no`, which stands at the key `native` of its own heap. It has
+    /// four empty slots, is black, and goes last.
+    ///
+    /// `NoMemory` changes nothing.
+    pub fn create_reflector(&mut self, native: NKey, no: NativeNo) -> Result<SKey, NoMemory>
+        ensures made { IfOk result (λ key. self.new ≡ self.old ++ reflector_object key.0 native.0 no.0 ∷ []) }
+        ensures vacant { IfOk result (λ key. is_there self.old key.0 ≡ false) }
+        ensures err { OnErr result (self.new ≡ self.old) }
+    {
+        self.parts.create(
+            self.alloc,
+            Name::Reflector(no),
+            Kind::Reflector,
+            Some(native),
+            4,
+        )
+    }
+
+    /// Makes a weak map with the number `no`. It has no slots, is black, and goes last.
+    ///
+    /// `NoMemory` changes nothing.
+    pub fn create_map(&mut self, no: ScriptNo) -> Result<SKey, NoMemory>
+        ensures made { IfOk result (λ key. self.new ≡ self.old ++ map_object key.0 no.0 ∷ []) }
+        ensures vacant { IfOk result (λ key. is_there self.old key.0 ≡ false) }
+        ensures err { OnErr result (self.new ≡ self.old) }
+    {
+        self.parts
+            .create(self.alloc, Name::Script(no), Kind::Map, None, 0)
     }
 
     /// What an object is.
@@ -67,6 +98,14 @@ impl Scripts {
         ensures { name_at self.now key.0 ≡ Some result }
     {
         self.parts.cells[key.0].name
+    }
+
+    /// Where the native of a reflector stands in its own heap; none exactly of what is no reflector.
+    pub fn native_of(&self, key: SKey) -> Option<NKey>
+        requires live { IsTrue (is_there self.now key.0) }
+        ensures { option_map (λ k. k.0) result ≡ native_at self.now key.0 }
+    {
+        self.parts.cells[key.0].native
     }
 
     /// The colour of an object.
