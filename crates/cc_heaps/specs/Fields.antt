@@ -8,7 +8,7 @@ use Rattle.cc_names.specs.Names.{same_name, is_native}
 use Rattle.cc_model.specs.Slots.{contents}
 use Rattle.cc_model.specs.Heap.{Heap, HeapNative}
 use Rattle.cc_script.specs.Objects.{Object}
-use Rattle.cc_heaps.specs.Keyed.{Keyed}
+use Rattle.cc_heaps.specs.Keyed.{Keyed, reflectors_by}
 use Rattle.cc_heaps.specs.Named.{named, IsLive, script_named, IsScriptLive, IsHeldThere, Rest, heap_with}
 use Rattle.cc_heaps.specs.declared.heaps.Heaps.TheInside.{Inside}
 
@@ -27,8 +27,8 @@ heap_of p = heap_with (rest_of p) p.counted p.scripts
 abbrev pub keyed_of : Inside → Keyed
 keyed_of p = record { heap = heap_of p; keys = p.counted.keys; scripts = p.scripts }
 
--- THEY FIT TOGETHER: what registers and slots of natives hold is there, and no two script objects have one key or
--- one name
+-- THEY FIT TOGETHER: what registers and slots of natives hold is there, no two script objects have one key or one name,
+-- and each native has the key of the script object that is its reflector by name
 pub record IsLinked (p : Inside) : Type 0 where
   pub native_registers : (x : Option NKey) → Among x p.native_registers.items → IsLive p.counted.keys x
   pub script_registers : (x : Option SKey) → Among x p.script_registers.items → IsScriptLive p.scripts x
@@ -36,4 +36,5 @@ pub record IsLinked (p : Inside) : Type 0 where
   pub held : (n : HeapNative) (x : Name) → Among n p.counted.natives → Among x (contents n.slots) → IsHeldThere p.scripts x
   pub one_key : (key : ℕ) → count_by (λ o. o.key == key) p.scripts ≤ 1
   pub one_name : (x : Name) → count_by (λ o. same_name o.name x) p.scripts ≤ 1
+  pub reflectors : p.counted.reflectors ≡ reflectors_by p.scripts p.counted.keys
   pub script_names : (o : Object) → Among o p.scripts → is_native o.name ≡ false

@@ -1,9 +1,10 @@
 -- THE HEAPS WITH THEIR KEYS: the definitions' lists, which native stands at which key, and the script objects by key.
-use Rattle.std.specs.Prelude.{◌≡◌, ℕ, ◌≤◌, ◌==◌, true, false, List, [], map, find, Option, Some, option_map, option_and_then, count_by}
+use Rattle.std.specs.Prelude.{◌≡◌, ℕ, ◌≤◌, ◌==◌, true, false, List, [], map, find, Option, Some, None, option_map, option_and_then, count_by}
 use Rattle.cc_lists.specs.Members.{Among}
 use Rattle.cc_names.specs.declared.name.Name.{Name}
-use Rattle.cc_names.specs.declared.kind.Kind.TheVariants.{Plain}
-use Rattle.cc_names.specs.Names.{object, same_name, is_native}
+use Rattle.cc_names.specs.declared.name.Name.TheVariants as name
+use Rattle.cc_names.specs.declared.kind.Kind.TheVariants.{Map}
+use Rattle.cc_names.specs.Names.{object, reflector, same_name, is_native}
 use Rattle.cc_model.specs.Heap.{Heap, HeapNative, HeapScript}
 use Rattle.cc_laws_heap.specs.Sound.{IsSound}
 use Rattle.cc_counted.specs.Counts.{Counts, key_left}
@@ -40,9 +41,22 @@ keyed_name objects x = elim (is_native x) [ true ↦ Some x | false ↦ option_m
 abbrev pub keyed_native : List Object → HeapNative → HeapNative
 keyed_native objects n = record n { slots = map (λ x. option_and_then (keyed_name objects) x) n.slots }
 
--- THE COUNTED HEAP in them
+-- the key of the reflector of native k
+abbrev pub reflector_key : List Object → ℕ → Option ℕ
+reflector_key objects k = key_of objects (reflector k)
+
+-- of the native at each key
+abbrev pub reflectors_by : List Object → List (Option ℕ) → List (Option ℕ)
+reflectors_by objects keys = map (λ o. option_and_then (reflector_key objects) o) keys
+
+-- THE COUNTED HEAP in them: a native has the key of the script object that is its reflector by name
 abbrev pub counts_of : Keyed → Counts
-counts_of v = record { natives = map (keyed_native v.scripts) v.heap.natives; buffer = v.heap.buffer; keys = v.keys }
+counts_of v = record {
+  natives = map (keyed_native v.scripts) v.heap.natives;
+  buffer = v.heap.buffer;
+  keys = v.keys;
+  reflectors = reflectors_by v.scripts v.keys;
+}
 
 -- the number of the native at a key
 abbrev pub number_at : Keyed → ℕ → Option ℕ
@@ -59,20 +73,27 @@ changed_to v h = record v { heap = h }
 abbrev pub left_with : Keyed → Heap → Keyed
 left_with v h = record v { heap = h; keys = map (key_left h) v.keys }
 
--- NATIVES AND PLAIN SCRIPT OBJECTS ALONE are there: no reflector and no weak map was made, so no native is preserved, and
--- there are no entries
-pub record HoldsPlainObjectsAlone (h : Heap) : Type 0 where
-  pub plain : (o : HeapScript) → Among o h.scripts → o.kind ≡ Plain
-  pub unpreserved : (n : HeapNative) → Among n h.natives → n.preserved ≡ false
+-- a reflector has the key of its native, and other script objects have that of none
+abbrev pub Reflects : Keyed → Name → Option ℕ → Type 0
+Reflects v (name.Native k) key = ⊥
+Reflects v (name.Script k) key = key ≡ None
+Reflects v (name.Reflector k) None = ⊥
+Reflects v (name.Reflector k) (Some key) = number_at v key ≡ Some k.0
+
+-- NO WEAK MAP was made, so there are no entries
+pub record HasNoWeakMaps (h : Heap) : Type 0 where
+  pub no_maps : (o : HeapScript) → Among o h.scripts → ¬ (o.kind ≡ Map)
   pub no_entries : h.entries ≡ []
 
 -- THE JOINT FACTS, where these references are owned besides: the heaps are sound, each object stands at one key, slots of
--- script objects hold what is there, limits keep their range, and natives and plain script objects alone are there.
+-- script objects hold what is there, a reflector has the key of its native, limits keep their range, and there are no
+-- weak maps.
 pub record IsInOrder (owned : List ℕ) (v : Keyed) : Type 0 where
   pub sound : IsSound owned v.heap
   pub keyed : HasKeys (counts_of v)
   pub named : v.heap.scripts ≡ named_objects v.scripts
   pub one_key : (key : ℕ) → count_by (λ o. o.key == key) v.scripts ≤ 1
   pub whole : AreWhole v.scripts
+  pub reflecting : (o : Object) → Among o v.scripts → Reflects v o.name o.native
   pub limits : (v.heap.limits.natives ≤ 1000000) × (v.heap.limits.scripts ≤ 1000000)
-  pub alone : HoldsPlainObjectsAlone v.heap
+  pub without_maps : HasNoWeakMaps v.heap

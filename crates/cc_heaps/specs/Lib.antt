@@ -1,5 +1,6 @@
 pub mod Keyed
 pub mod Changes
+pub mod Places
 pub mod HasKey
 pub mod Holders
 pub mod Few

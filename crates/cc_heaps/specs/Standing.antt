@@ -1,9 +1,11 @@
 -- WHAT A CHANGE PROMISES: of the graph that the heaps stand for, of snapshots, of suspicion and of colours.
-use Rattle.std.specs.Prelude.{ℕ, List, Option, Some, None}
+use Rattle.std.specs.Prelude.{◌≡◌, ◌⊎◌, true, ℕ, List, Option, Some, None}
 use Rattle.cc_names.specs.declared.name.Name.{Name}
+use Rattle.cc_names.specs.declared.name.Name.TheVariants as name
+use Rattle.cc_names.specs.Names.{native}
 use Rattle.cc_model.specs.Graph.{Graph}
 use Rattle.cc_model.specs.WellMade.{IsWellMade}
-use Rattle.cc_model.specs.Heap.{Heap}
+use Rattle.cc_model.specs.Heap.{Heap, HeapNative, native_at}
 use Rattle.cc_model.specs.View.{view, ReachedIn}
 use Rattle.cc_model.specs.StandsFor.{StandsFor}
 use Rattle.cc_model.specs.Colours.{HasColourInvariant}
@@ -15,6 +17,20 @@ use Rattle.cc_model.specs.Suspected.{IsSuspected}
 abbrev pub IsReached : Heap → Option Name → Type 0
 IsReached h None = Unit {0}
 IsReached h (Some x) = ReachedIn (view h) x
+
+-- or it is the reflector of a native that is reached
+abbrev pub IsReachedOrReflects : Heap → Option Name → Type 0
+IsReachedOrReflects h None = Unit {0}
+IsReachedOrReflects h (Some (name.Native k)) = ReachedIn (view h) (name.Native k)
+IsReachedOrReflects h (Some (name.Script k)) = ReachedIn (view h) (name.Script k)
+IsReachedOrReflects h (Some (name.Reflector k)) = ReachedIn (view h) (name.Reflector k) ⊎ ReachedIn (view h) (native k.0)
+
+-- a slot of an object may be written: a reflector that is not preserved stays blank
+abbrev pub MayHold : Heap → Option Name → Type 0
+MayHold h None = Unit {0}
+MayHold h (Some (name.Native k)) = Unit {0}
+MayHold h (Some (name.Script k)) = Unit {0}
+MayHold h (Some (name.Reflector k)) = (n : HeapNative) → native_at h k.0 ≡ Some n → n.preserved ≡ true
 
 -- after a change the heaps stand for what it makes of each graph that they stood for, which is well made again
 abbrev pub StandsAfter : Heap → Heap → (Graph → Graph) → Type 0

@@ -21,6 +21,8 @@ mod holders;
 mod holding;
 mod making;
 mod marking;
+mod places;
+mod reflectors;
 mod roots;
 mod scripts;
 mod sweeping;

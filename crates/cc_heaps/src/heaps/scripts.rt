@@ -12,7 +12,7 @@ ghost use Rattle.cc_model.specs.Graph as graph;
 ghost use Rattle.cc_script.specs.Objects.{colour_at, is_there, name_at, slots_at};
 ghost use Rattle.cc_heaps.specs.Keyed.{IsInOrder};
 ghost use Rattle.cc_heaps.specs.Changes.{IsScriptThere, KeepsKeys, script_name};
-ghost use Rattle.cc_heaps.specs.Standing.{IsReached, StandsAfter, StillStands, KeepsFresh, KeepsSuspected, KeepsColours};
+ghost use Rattle.cc_heaps.specs.Standing.{IsReached, IsReachedOrReflects, MayHold, StandsAfter, StillStands, KeepsFresh, KeepsSuspected, KeepsColours};
 ghost use Rattle.cc_heaps.specs.Few.{AreFew};
 
 use crate::heaps::Heaps;
@@ -111,7 +111,7 @@ impl Heaps {
         ensures keys { KeepsKeys self.old self.new }
         ensures order { IsInOrder [] self.new }
         ensures counts { AreFew self.new.heap }
-        ensures stands { IsReached self.old.heap (script_name self.old content) →
+        ensures stands { IsReachedOrReflects self.old.heap (script_name self.old content) →
             StandsAfter self.old.heap self.new.heap (λ g. graph.set_register g (s_register r) (script_name self.old content)) }
         ensures colours { KeepsColours self.old.heap self.new.heap }
         ensures fresh { KeepsFresh self.old.heap self.new.heap }
@@ -121,7 +121,10 @@ impl Heaps {
         self.write_script_reg(r, content);
     }
 
-    /// Slot `i` of a script object, counted from 0, holds a black script object from then on, or nothing.
+    /// Slot `i` of a plain object or a reflector, counted from 0, holds a black script object from then on, or nothing.
+    ///
+    /// A reflector that is given contents is preserved before (`set_preserved`): one that is not is blank, so that it
+    /// can be made again. The heaps stand for the graph with the slot written where that is so.
     pub fn store_script(&mut self, key: SKey, i: u8, content: Option<SKey>)
         requires order { IsInOrder [] self.old }
         requires live { IsTrue (is_there self.old.scripts key.0) }
@@ -134,6 +137,7 @@ impl Heaps {
         ensures order { IsInOrder [] self.new }
         ensures counts { AreFew self.new.heap }
         ensures stands { IsReached self.old.heap (name_at self.old.scripts key.0) → IsReached self.old.heap (script_name self.old content) →
+            MayHold self.old.heap (name_at self.old.scripts key.0) →
             StandsAfter self.old.heap self.new.heap (λ g. graph.set_slot g (name_at self.old.scripts key.0) i (script_name self.old content)) }
         ensures colours { KeepsColours self.old.heap self.new.heap }
         ensures fresh { KeepsFresh self.old.heap self.new.heap }

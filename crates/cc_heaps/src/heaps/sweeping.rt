@@ -1,5 +1,5 @@
 //! White script objects swept.
-ghost use Rattle.std.specs.Prelude.{◌≡◌, ◌≤◌, ◌==◌, ℕ, [], count_by, Some, option_map, IfSome, IsTrue, if◌then◌else◌, ◌<◌};
+ghost use Rattle.std.specs.Prelude.{◌≡◌, ◌≤◌, ◌==◌, ℕ, [], count_by, map, Some, option_map, IfSome, IsTrue, if◌then◌else◌, ◌<◌};
 ghost use Rattle.cc_model.specs.declared.item.Event.TheVariants.{Freed};
 ghost use Rattle.cc_model.specs.declared.item.Item.TheVariants.{Event as of_event};
 ghost use Rattle.cc_model.specs.Telling.{Tells, TellsEvents};
@@ -9,6 +9,7 @@ ghost use Rattle.cc_model.specs.Colours.{HasColours, HasColourInvariant};
 ghost use Rattle.cc_model.specs.Sweep.{sweep, sweeps};
 ghost use Rattle.cc_model.specs.View.{view};
 ghost use Rattle.cc_script.specs.Objects.{colour_at, is_there, name_at, without_object};
+ghost use Rattle.cc_counted.specs.Counts.{key_left};
 ghost use Rattle.cc_heaps.specs.Keyed.{IsInOrder};
 ghost use Rattle.cc_heaps.specs.Changes.{KeepsKeys};
 ghost use Rattle.cc_heaps.specs.Sweeping.{are_some, freed, not_white, white_names};
@@ -55,7 +56,9 @@ fn sweep_whites<N: Notices>(scripts: &mut Scripts, out: &mut N) -> bool
 }
 
 impl Heaps {
-    /// Sweeps the white script objects, in order of making: each is told and removed. Whether something was swept.
+    /// Sweeps the white script objects, in order of making: each is told and removed. A reflector's native forgets it,
+    /// and the reference that it owned is given up, with all that it deletes, before the next object is swept. Whether
+    /// something was swept.
     ///
     /// Called where the colours are those of marking. Takes no memory.
     pub fn sweep<N: Notices>(&mut self, out: &mut N) -> bool
@@ -64,7 +67,7 @@ impl Heaps {
         ensures swept { result ≡ sweeps self.old.heap }
         ensures heap { self.new.heap ≡ (sweep self.old.heap).heap }
         ensures told { TellsEvents (N.telling out.old) (N.telling out.new) (sweep self.old.heap).events }
-        ensures natives { self.new.keys ≡ self.old.keys }
+        ensures natives { self.new.keys ≡ map (key_left self.new.heap) self.old.keys }
         ensures keys { KeepsKeys self.old self.new }
         ensures order { IsInOrder [] self.new }
         ensures counts { AreFew self.new.heap }
