@@ -3,7 +3,7 @@
 ghost use Rattle.std.specs.Prelude.{◌≡◌, ◌<◌, [], ◌∷◌, length, IsTrue, IfSome};
 ghost use Rattle.cc_model.specs.Lines.{without_return};
 ghost use Rattle.cc_model.specs.Tokens.{tokens_of};
-ghost use Rattle.cc_model.specs.Forms.{census_form, collect_form, copy_native_form, copy_script_form, drop_native_form, drop_script_form, expose_form, gc_form, get_native_form, get_script_form, native_form, put_none_form, put_script_form, script_form, set_native_form, set_none_form, set_script_form, take_form};
+ghost use Rattle.cc_model.specs.Forms.{census_form, collect_form, copy_native_form, copy_script_form, drop_native_form, drop_script_form, expose_form, gc_form, get_native_form, get_script_form, native_form, preserve_form, put_none_form, put_script_form, script_form, set_native_form, set_none_form, set_script_form, take_form, unwrap_form, wrap_form};
 ghost use Rattle.cc_model.specs.Ranges.{in_range};
 ghost use Rattle.cc_model.specs.Asks.{command_in, command_of};
 ghost use Rattle.cc_reader.specs.FormsNow.{forms_now, is_known};
@@ -141,6 +141,36 @@ fn read_take(after: &[u8]) -> Option<Command>
     Some(Command::Take(register, from, slot))
 }
 
+/// The command of the word `wrap`, by the tokens that stand behind it. None where they are in no form of it.
+fn read_wrap(after: &[u8]) -> Option<Command>
+    ensures form { result ≡ first_read (wrap_form ∷ []) (tokens_of after.now) }
+    ensures known { IfSome result (λ c. IsTrue (is_known c)) }
+    ensures in_range { IfSome result (λ c. IsTrue (in_range c)) }
+{
+    let (to, from) = two_tokens(after)?;
+    Some(Command::Wrap(script(to)?, native(from)?))
+}
+
+/// The command of the word `unwrap`, by the tokens that stand behind it. None where they are in no form of it.
+fn read_unwrap(after: &[u8]) -> Option<Command>
+    ensures form { result ≡ first_read (unwrap_form ∷ []) (tokens_of after.now) }
+    ensures known { IfSome result (λ c. IsTrue (is_known c)) }
+    ensures in_range { IfSome result (λ c. IsTrue (in_range c)) }
+{
+    let (to, from) = two_tokens(after)?;
+    Some(Command::Unwrap(native(to)?, script(from)?))
+}
+
+/// The command of the word `preserve`, by the tokens that stand behind it. None where they are in no form of it.
+fn read_preserve(after: &[u8]) -> Option<Command>
+    ensures form { result ≡ first_read (preserve_form ∷ []) (tokens_of after.now) }
+    ensures known { IfSome result (λ c. IsTrue (is_known c)) }
+    ensures in_range { IfSome result (λ c. IsTrue (in_range c)) }
+{
+    let register = one_token(after)?;
+    Some(Command::Preserve(script(register)?))
+}
+
 /// The command of the word `expose`, by the tokens that stand behind it. None where they are in no form of it.
 fn read_expose(after: &[u8]) -> Option<Command>
     ensures form { result ≡ first_read (expose_form ∷ []) (tokens_of after.now) }
@@ -211,6 +241,12 @@ fn read_word(word: &[u8], after: &[u8]) -> Option<Command>
         read_put(after)
     } else if word == b"take".as_slice() {
         read_take(after)
+    } else if word == b"wrap".as_slice() {
+        read_wrap(after)
+    } else if word == b"unwrap".as_slice() {
+        read_unwrap(after)
+    } else if word == b"preserve".as_slice() {
+        read_preserve(after)
     } else if word == b"expose".as_slice() {
         read_expose(after)
     } else if word == b"collect".as_slice() {

@@ -109,7 +109,30 @@ fn words_of_script_objects_are_parsed(rt: HostRuntime) {
         (b"GC", None),
         (b"collect", Some(Command::Collect)),
         (b"weakmap s0", None),
-        (b"wrap s0 n0", None),
+        (b"slice 0", None),
+    ];
+    for (line, want) in table.iter() {
+        assert_eq!(rt; parse(line), *want, "at {line:?}");
+    }
+}
+
+#[test]
+fn words_of_reflectors_are_parsed(rt: HostRuntime) {
+    let table: [(&[u8], Option<Command>); 14] = [
+        (b"wrap s1 n2", Some(Command::Wrap(1, 2))),
+        (b"wrap s255 n255", Some(Command::Wrap(255, 255))),
+        (b"wrap n1 s2", None),
+        (b"wrap s1 s2", None),
+        (b"wrap s1", None),
+        (b"wrap s1 none", None),
+        (b"unwrap n1 s2", Some(Command::Unwrap(1, 2))),
+        (b"unwrap s1 n2", None),
+        (b"unwrap n1 n2", None),
+        (b"unwrap n1 s2 0", None),
+        (b"preserve s7", Some(Command::Preserve(7))),
+        (b"preserve n7", None),
+        (b"preserve none", None),
+        (b"preserve", None),
     ];
     for (line, want) in table.iter() {
         assert_eq!(rt; parse(line), *want, "at {line:?}");
