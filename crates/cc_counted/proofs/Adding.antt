@@ -7,16 +7,18 @@ use Rattle.cc_purple.specs.Marks.{with_mark}
 use Rattle.cc_counted.specs.Counts.{Counts, the_number, heap_of, with_heap}
 use Rattle.cc_counted.specs.Lists.{Placed, Lists, cell_at, with_one_more, marked_number, counts_of, IsPlaced}
 use Rattle.cc_counted.proofs.Places.{the_number-cell}
-use Rattle.cc_counted.proofs.Changing.{keyed-changed, IsPlaced-changed, natives-changed}
+use Rattle.cc_counted.proofs.Changing.{keyed-changed, reflectors-changed, IsPlaced-changed, natives-changed}
 use Rattle.cc_counted.proofs.Marking.{buffer-with_mark, with_mark-there}
 
--- these natives, this buffer and these keys
-abbrev pub counts_with : List HeapNative → List Buffered → List (Option ℕ) → Counts
-counts_with ns bs ks = record { natives = ns; buffer = bs; keys = ks }
+-- these natives, this buffer, these keys and these reflectors
+abbrev pub counts_with : List HeapNative → List Buffered → List (Option ℕ) → List (Option ℕ) → Counts
+counts_with ns bs ks rs = record { natives = ns; buffer = bs; keys = ks; reflectors = rs }
 
 -- counts are the same where their lists are
-pub counts-same : (ns ms : List HeapNative) (bs cs : List Buffered) (ks js : List (Option ℕ)) → ns ≡ ms → bs ≡ cs → ks ≡ js → counts_with ns bs ks ≡ counts_with ms cs js
-counts-same ns ms bs cs ks js n b k = ap (λ xs. counts_with xs bs ks) n ∙ (ap (λ ys. counts_with ms ys ks) b ∙ ap (λ zs. counts_with ms cs zs) k)
+pub counts-same : (ns ms : List HeapNative) (bs cs : List Buffered) (ks js rs ss : List (Option ℕ)) → ns ≡ ms → bs ≡ cs → ks ≡ js → rs ≡ ss → counts_with ns bs ks rs ≡ counts_with ms cs js ss
+counts-same ns ms bs cs ks js rs ss n b k r =
+    ap (λ xs. counts_with xs bs ks rs) n
+    ∙ (ap (λ ys. counts_with ms ys ks rs) b ∙ (ap (λ zs. counts_with ms cs zs rs) k ∙ ap (λ ws. counts_with ms cs js ws) r))
 
 module _ (l : Lists) (p : IsPlaced l) (key : ℕ) (c : Placed) (at : cell_at l.cells key ≡ Some c) where
   abbrev number : ℕ
@@ -30,11 +32,12 @@ module _ (l : Lists) (p : IsPlaced l) (key : ℕ) (c : Placed) (at : cell_at l.c
       counts_of (record { cells = cells; order = l.order; queue = l.queue; marks = with_mark false key l.marks }) ≡ with_heap (counts_of l) (add_ref (heap_of (counts_of l)) (the_number (counts_of l) key))
   counts-added cells e =
       ap (λ cs. counts_of (record { cells = cs; order = l.order; queue = l.queue; marks = with_mark false key l.marks })) e
-      ∙ (counts-same _ _ _ _ _ _
+      ∙ (counts-same _ _ _ _ _ _ _ _
       (natives-changed l p key c (with_one_more c) at refl (λ n. record n { count = n.count + 1 }) refl)
       (ap (λ n. map (marked_number n) (with_mark false key l.marks)) (keyed-changed l p key c (with_one_more c) at refl)
       ∙ buffer-with_mark l p key c at false l.marks p.marked)
       (ap (λ (n : Counts). n.keys) (keyed-changed l p key c (with_one_more c) at refl))
+      (reflectors-changed l p key c (with_one_more c) at refl refl)
       ∙ ap (λ k. with_heap (counts_of l) (add_ref (heap_of (counts_of l)) k)) (sym same_number))
 
   pub placed-added : (cells : List (Option Placed)) → cells ≡ set l.cells key (Some (with_one_more c)) →
@@ -47,7 +50,7 @@ module _ (l : Lists) (p : IsPlaced l) (key : ℕ) (c : Placed) (at : cell_at l.c
   -- a mark alone
   pub counts-suspected : counts_of (record l { marks = with_mark true key l.marks }) ≡ with_heap (counts_of l) (suspect (heap_of (counts_of l)) (the_number (counts_of l) key))
   counts-suspected =
-      counts-same _ _ _ _ _ _ refl (buffer-with_mark l p key c at true l.marks p.marked) refl
+      counts-same _ _ _ _ _ _ _ _ refl (buffer-with_mark l p key c at true l.marks p.marked) refl refl
       ∙ ap (λ k. with_heap (counts_of l) (suspect (heap_of (counts_of l)) k)) (sym same_number)
 
   pub placed-marked : (purple : Bool) → IsPlaced (record l { marks = with_mark purple key l.marks })

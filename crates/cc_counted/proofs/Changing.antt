@@ -14,7 +14,7 @@ use Rattle.cc_purple.specs.Marks.{Marked}
 use Rattle.cc_counted.specs.declared.held.Held.{Held}
 use Rattle.cc_counted.specs.Counts.{no_counts, the_number, is_live}
 use Rattle.cc_model.specs.WellFormed.{IsRising}
-use Rattle.cc_counted.specs.Lists.{Placed, Lists, cell_at, without_count, keyed, shown, shown_at, IsPlaced}
+use Rattle.cc_counted.specs.Lists.{Placed, Lists, cell_at, reflector_placed, without_count, keyed, shown, shown_at, IsPlaced}
 use Rattle.cc_counted.proofs.Places.{cell_number, one_key}
 
 -- a key of a native is one of the list
@@ -32,6 +32,10 @@ module _ (l : Lists) (p : IsPlaced l) (key : ℕ) (c d : Placed) (at : cell_at l
     where
       number : cell_number (Some d) ≡ cell_number (cell_at l.cells key)
       number = ap Some same ∙ sym (ap cell_number at)
+
+  -- the reflector at each key is the same where the native keeps its own
+  pub reflectors-changed : d.reflector ≡ c.reflector → map reflector_placed changed_cells ≡ map reflector_placed l.cells
+  reflectors-changed e = map-set_same reflector_placed l.cells key (Some d) None (e ∙ sym (ap reflector_placed at))
 
   -- what stands at the key
   pub changed-same : cell_at changed_cells key ≡ Some d
@@ -95,3 +99,11 @@ module _ (l : Lists) (p : IsPlaced l) (key : ℕ) (c d : Placed) (at : cell_at l
           ap (shown (keyed l.cells)) (changed-other k t.1 ∙ g.1)
           ∙ (sym (there g.0 (λ s. t.1 (one_key l p k key g.0 c g.1 at s))) ∙ ap (λ o. changed_at c.number f (shown (keyed l.cells) o)) (sym g.1)))
           (eqb_tells k key)
+
+  -- nothing is shown of what changed where the native is shown as before
+  pub natives-kept : shown (keyed l.cells) (Some d) ≡ shown (keyed l.cells) (Some c) → map (shown_at changed_cells) l.order ≡ map (shown_at l.cells) l.order
+  natives-kept e = map-agree (shown_at changed_cells) (shown_at l.cells) l.order
+      (λ k m. ap (λ n. shown n (cell_at changed_cells k)) keyed-changed ∙ ⊎_elim
+      (λ t. ap (shown (keyed l.cells)) (ap (cell_at changed_cells) t.1 ∙ changed-same) ∙ (e ∙ ap (shown (keyed l.cells)) (sym (ap (cell_at l.cells) t.1 ∙ at))))
+      (λ t. ap (shown (keyed l.cells)) (changed-other k t.1))
+      (eqb_tells k key))

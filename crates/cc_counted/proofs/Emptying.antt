@@ -19,10 +19,10 @@ use Rattle.cc_laws_heap.proofs.Drain.{drain-balanced}
 use Rattle.cc_counted.specs.declared.held.Held.{Held}
 use Rattle.cc_counted.specs.declared.held.Held.TheVariants as held
 use Rattle.cc_counted.specs.Counts.{number_at, number_or_none, the_number, name_of, is_live, numbers_held, native_held, heap_of}
-use Rattle.cc_counted.specs.Lists.{Placed, Lists, cell_at, with_slot, without_count, keyed, counts_of, draining_of, IsPlaced, LeavesCells}
+use Rattle.cc_counted.specs.Lists.{Placed, Lists, cell_at, with_slot, reflector_placed, without_count, keyed, counts_of, draining_of, IsPlaced, LeavesCells}
 use Rattle.cc_counted.specs.Steps.{ComesTo, EmptiesSlot}
 use Rattle.cc_counted.proofs.Places.{number_at-cell, the_number-cell, native-key, one_key}
-use Rattle.cc_counted.proofs.Changing.{changed-same}
+use Rattle.cc_counted.proofs.Changing.{reflectors-changed, changed-same}
 use Rattle.cc_counted.proofs.Leaving.{LeavesKeys-kept, LeavesKeys-then, LeavesKeys-cells}
 use Rattle.cc_counted.proofs.Freeing.{IsBalanced-events}
 use Rattle.cc_counted.proofs.Holding.{numbers-none, let_go-none}
@@ -102,6 +102,9 @@ module _ (l : Lists) (p : IsPlaced l) (key : ℕ) (c : Placed) (at : cell_at l.c
   pub keyed-emptied : keyed cells ≡ keyed l.cells
   keyed-emptied = keyed-written l p key c at i within None cells e
 
+  reflectors-emptied : map reflector_placed cells ≡ map reflector_placed l.cells
+  reflectors-emptied = ap (map reflector_placed) e ∙ reflectors-changed l p key c (with_slot i None c) at refl refl
+
   pub cell-emptied : cell_at cells key ≡ Some (with_slot i None c)
   cell-emptied = ap (λ xs. cell_at xs key) e ∙ changed-same l p key c (with_slot i None c) at refl
 
@@ -125,7 +128,7 @@ module _ (l : Lists) (p : IsPlaced l) (key : ℕ) (c : Placed) (at : cell_at l.c
       there = cell-emptied;
       same = refl;
       placed = placed-emptied;
-      leaves = LeavesKeys-kept l.cells cells (ap length e ∙ length-set l.cells key (Some (with_slot i None c))) keyed-emptied;
+      leaves = LeavesKeys-kept l.cells cells (ap length e ∙ length-set l.cells key (Some (with_slot i None c))) keyed-emptied reflectors-emptied;
       balanced = λ more f.
           subst (λ ks. IsBalanced (ks ++ c.number ∷ more) (draining_of emptied_lists [])) (numbers-none (keyed l.cells) content none) (IsBalanced-emptied (c.number ∷ more) f);
       events = [];
@@ -167,7 +170,7 @@ module _ (l : Lists) (p : IsPlaced l) (key : ℕ) (c : Placed) (at : cell_at l.c
         same = stays.2;
         placed = t.placed;
         leaves = LeavesKeys-then l.cells cells new.cells
-            (LeavesKeys-kept l.cells cells (ap length e ∙ length-set l.cells key (Some (with_slot i None c))) keyed-emptied)
+            (LeavesKeys-kept l.cells cells (ap length e ∙ length-set l.cells key (Some (with_slot i None c))) keyed-emptied reflectors-emptied)
             (LeavesKeys-cells cells new.cells t.leaves);
         balanced = balanced;
         events = (cascade (heap_of (counts_of emptied_lists)) (the_number (keyed cells) j)).events;

@@ -1,24 +1,37 @@
 -- KEYS THAT COME TO HOLD NOTHING as natives leave: those of the natives that are no more.
-use Rattle.std.proofs.Common.{◌≡◌, ℕ, List, map, length, Option, Some, None, option_map, refl, sym, ◌∙◌, ap, subst, ⊎_elim, inl, inr}
+use Rattle.std.proofs.Common.{◌≡◌, ℕ, zero, suc, List, [], ◌∷◌, map, length, get_or, Option, Some, None, option_map, refl, sym, ◌∙◌, ap, subst, ⊎_elim, inl, inr}
 use Rattle.std.proofs.Math.ListN.{get_or-map}
 use Rattle.std.proofs.lemmas.List.{ext_get_or, length-map}
 use Rattle.cc_model.specs.Heap.{Heap, HeapNative, native_at}
 use Rattle.cc_laws_heap.proofs.Natives.{native_at-there, native_at-number}
-use Rattle.cc_counted.specs.Counts.{number_at, heap_of, key_left, left_with}
-use Rattle.cc_counted.specs.Lists.{Placed, Lists, cell_at, without_count, keyed, shown, counts_of, IsPlaced, LeavesCells, LeavesKeys}
+use Rattle.cc_counted.specs.Counts.{number_at, heap_of, key_left, reflectors_left, left_with}
+use Rattle.cc_counted.specs.Lists.{Placed, Lists, cell_at, reflector_placed, without_count, keyed, shown, counts_of, IsPlaced, LeavesCells, LeavesKeys}
 use Rattle.cc_counted.proofs.Places.{cell_number, number_at-cells, number_at-cell, number_at-found, one_key, native_at-cell, native-key}
 
 pub LeavesKeys-same : (cells : List (Option Placed)) → LeavesKeys cells cells
-LeavesKeys-same cells = record { as_many = refl; each = λ key. inr refl }
+LeavesKeys-same cells = record { as_many = refl; each = λ key. inr refl; reflectors = λ key c e. sym (ap reflector_placed e) }
 
-pub LeavesKeys-kept : (old new : List (Option Placed)) → length new ≡ length old → keyed new ≡ keyed old → LeavesKeys old new
-LeavesKeys-kept old new n e = record { as_many = n; each = λ key. inr (ap (λ c. number_at c key) e) }
+pub LeavesKeys-kept : (old new : List (Option Placed)) → length new ≡ length old → keyed new ≡ keyed old → map reflector_placed new ≡ map reflector_placed old → LeavesKeys old new
+LeavesKeys-kept old new n e r = record {
+  as_many = n;
+  each = λ key. inr (ap (λ c. number_at c key) e);
+  reflectors = λ key c at.
+      sym (ap reflector_placed at)
+      ∙ (sym (get_or-map reflector_placed new key None) ∙ (ap (λ rs. get_or rs key None) r ∙ get_or-map reflector_placed old key None));
+}
 
 pub LeavesKeys-then : (a b c : List (Option Placed)) → LeavesKeys a b → LeavesKeys b c → LeavesKeys a c
 LeavesKeys-then a b c p q = record {
   as_many = q.as_many ∙ p.as_many;
   each = λ key. ⊎_elim (λ none. inl none) (λ same. ⊎_elim (λ none. inl (same ∙ none)) (λ e. inr (same ∙ e)) (p.each key)) (q.each key);
+  reflectors = λ key x at. let f = before key x at in q.reflectors key x at ∙ (ap reflector_placed f.1 ∙ p.reflectors key f.0 f.1);
 }
+  where
+    -- what is still there was there in between
+    before : (key : ℕ) (x : Placed) → cell_at c key ≡ Some x → (y : Placed) × (cell_at b key ≡ Some y)
+    before key x at = ⊎_elim
+        (λ none. let bad : None ≡ Some x.number = sym none ∙ number_at-cell c key x at in absurd (cc))
+        (λ same. let f = number_at-found b key x.number (sym same ∙ number_at-cell c key x at) in (f.0, f.1)) (q.each key)
 
 pub LeavesCells-same : (cells : List (Option Placed)) → LeavesCells cells cells
 LeavesCells-same cells = record { as_many = refl; each = λ key. inr refl }
@@ -41,11 +54,29 @@ LeavesKeys-cells a b p = record {
       (λ none. inl (number_at-cells b key ∙ ap cell_number none))
       (λ same. inr (number_at-cells b key ∙ (sym (bare (cell_at b key)) ∙ (ap cell_number same ∙ (bare (cell_at a key) ∙ sym (number_at-cells a key))))))
       (p.each key);
+  reflectors = λ key c at. sym (ap reflector_placed at) ∙ ⊎_elim
+      (λ none. let bad : None ≡ Some c = sym none ∙ at in absurd (cc))
+      (λ same. sym (reflected (cell_at b key)) ∙ (ap reflector_placed same ∙ reflected (cell_at a key)))
+      (p.each key);
 }
   where
+    reflected : (o : Option Placed) → reflector_placed (option_map without_count o) ≡ reflector_placed o
+    reflected None = refl
+    reflected (Some c) = refl
+
     bare : (o : Option Placed) → cell_number (option_map without_count o) ≡ cell_number o
     bare None = refl
     bare (Some c) = refl
+
+-- where natives left, the reflectors that are left are those of the natives that stayed
+reflectors-left : (new old : List (Option Placed)) → length new ≡ length old → ((key : ℕ) (c : Placed) → cell_at new key ≡ Some c → c.reflector ≡ reflector_placed (cell_at old key)) →
+    map reflector_placed new ≡ reflectors_left (map cell_number new) (map reflector_placed old)
+reflectors-left [] old n e = refl
+reflectors-left (x ∷ new) [] n e = absurd (cc)
+reflectors-left (None ∷ new) (y ∷ old) n e = ap (λ rs. None ∷ rs) (reflectors-left new old (cc) (λ key. e (suc key)))
+reflectors-left (Some d ∷ new) (y ∷ old) n e =
+    ap (λ r. r ∷ map reflector_placed new) (e zero d refl)
+    ∙ ap (λ rs. reflector_placed y ∷ rs) (reflectors-left new old (cc) (λ key. e (suc key)))
 
 module _ (old new : Lists) (p : IsPlaced old) (q : IsPlaced new) (left : LeavesKeys old.cells new.cells) where
   abbrev heap : Heap
@@ -94,9 +125,15 @@ module _ (old new : Lists) (p : IsPlaced old) (q : IsPlaced new) (left : LeavesK
       after_same same None e = e ∙ sym (ap (key_left heap) (sym same ∙ e))
       after_same same (Some k) e = e ∙ sym (ap (key_left heap) (sym same ∙ e) ∙ there key k e)
 
-  -- WHAT IS LEFT: the natives and the buffer of the lists, and the keys of the natives that are still there
-  pub counts-left : counts_of new ≡ left_with (counts_of old) (heap_of (counts_of new))
-  counts-left = ap (λ ks. record { natives = (counts_of new).natives; buffer = (counts_of new).buffer; keys = ks })
-      (ext_get_or None (map cell_number new.cells) (map (key_left heap) (map cell_number old.cells))
+  keys-left : map cell_number new.cells ≡ map (key_left heap) (map cell_number old.cells)
+  keys-left =
+      ext_get_or None (map cell_number new.cells) (map (key_left heap) (map cell_number old.cells))
       (length-map new.cells cell_number ∙ (left.as_many ∙ sym (length-map (map cell_number old.cells) (key_left heap) ∙ length-map old.cells cell_number)))
-      (λ i l. key-left i ∙ sym (get_or-map (key_left heap) (map cell_number old.cells) i None)))
+      (λ i l. key-left i ∙ sym (get_or-map (key_left heap) (map cell_number old.cells) i None))
+
+  -- WHAT IS LEFT: the natives and the buffer of the lists, and the keys and the reflectors of the natives that are still there
+  pub counts-left : counts_of new ≡ left_with (counts_of old) (heap_of (counts_of new))
+  counts-left =
+      ap (λ ks. record { natives = (counts_of new).natives; buffer = (counts_of new).buffer; keys = ks; reflectors = map reflector_placed new.cells }) keys-left
+      ∙ ap (λ rs. record { natives = (counts_of new).natives; buffer = (counts_of new).buffer; keys = map (key_left heap) (map cell_number old.cells); reflectors = rs })
+      (reflectors-left new.cells old.cells left.as_many left.reflectors ∙ ap (λ ks. reflectors_left ks (map reflector_placed old.cells)) keys-left)

@@ -14,6 +14,7 @@ pub mod Balanced
 pub mod Reading
 pub mod Adding
 pub mod Writing
+pub mod Reflecting
 pub mod Making
 pub mod Ordering
 pub mod Buffering

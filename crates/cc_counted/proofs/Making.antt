@@ -1,7 +1,7 @@
 -- A NATIVE MADE at a key that held nothing.
 use Rattle.std.proofs.Common.{◌≡◌, ◌≢◌, ◌<◌, ◌≤◌, ℕ, zero, suc, List, [], ◌∷◌, ◌++◌, map, length, replicate, Option, Some, None, true, false, refl, sym, ◌∙◌, ap, subst, ⊎_elim, ◌⊎◌, inl, inr, arith}
 use Rattle.std.proofs.lemmas.Bool.Decides.{eqb_tells}
-use Rattle.std.proofs.lemmas.List.{map-append, length-replicate}
+use Rattle.std.proofs.lemmas.List.{map-append, length-map, length-replicate}
 use Rattle.cc_lists.specs.Members.{Among}
 use Rattle.cc_lists.proofs.Members.{Among-append, Among-left, Among-right, Among-map_cases}
 use Rattle.cc_model.specs.Slots.{empty_slots}
@@ -13,8 +13,8 @@ use Rattle.cc_laws_heap.proofs.Rising.{IsRising-tail, IsRising-first, IsRising-c
 use Rattle.cc_counted.specs.declared.held.Held.{Held}
 use Rattle.cc_counted.specs.Counts.{number_at, number_or_none, the_number, name_of, is_live, heap_of}
 use Rattle.cc_counted.specs.Owning.{HasKeys, Makes}
-use Rattle.cc_counted.specs.Lists.{Placed, Lists, cell_at, keyed, names_in, shown, shown_at, marked_number, counts_of, IsPlaced, made}
-use Rattle.cc_counted.proofs.Places.{cell_number, number_at-cells, number_at-cell, number_at-found, the_number-cell, natives-numbers, natives-rising, native_at-cell, native-key, one_key}
+use Rattle.cc_counted.specs.Lists.{Placed, Lists, cell_at, reflector_placed, keyed, names_in, shown, shown_at, marked_number, counts_of, IsPlaced, made}
+use Rattle.cc_counted.proofs.Places.{cell_number, number_at-cells, reflector_at-cells, number_at-cell, number_at-found, the_number-cell, natives-numbers, natives-rising, native_at-cell, native-key, one_key}
 use Rattle.cc_lists.proofs.ListWrites.{map-agree}
 use Rattle.cc_counted.proofs.Marking.{buffer-with_mark, with_mark-there}
 use Rattle.cc_counted.proofs.Each.{live-cell}
@@ -127,7 +127,7 @@ module _ (l : Lists) (p : IsPlaced l) (key : ℕ) (d : Placed) (cells : List (Op
     marked = λ m n. with_mark-there unmarked q key d at false l.marks q.marked m n;
   }
 
-  pub natives-made : (counts_of (made l cells key)).natives ≡ (counts_of l).natives ++ record { number = d.number; slots = empty_slots size; preserved = false; count = d.count } ∷ []
+  pub natives-made : (counts_of (made l cells key)).natives ≡ (counts_of l).natives ++ record { number = d.number; slots = empty_slots size; preserved = d.preserved; count = d.count } ∷ []
   natives-made =
       map-append (shown_at cells) l.order (key ∷ [])
       ∙ (ap (λ ns. ns ++ shown_at cells key ∷ []) (map-agree (shown_at cells) (shown_at l.cells) l.order each)
@@ -137,15 +137,15 @@ module _ (l : Lists) (p : IsPlaced l) (key : ℕ) (d : Placed) (cells : List (Op
       each k m =
           let f = p.in_order k m in
           ap (shown (keyed cells)) (others k (other-key k f.0 f.1) ∙ f.1)
-          ∙ (ap (λ ys. record { number = f.0.number; slots = ys; preserved = false; count = f.0.count })
+          ∙ (ap (λ ys. record { number = f.0.number; slots = ys; preserved = f.0.preserved; count = f.0.count })
           (names-same (keyed l.cells) (keyed cells) f.0.slots (λ x w. (slot-same x (p.held k f.0 x f.1 w)).0))
           ∙ ap (shown (keyed l.cells)) (sym f.1))
 
       names : names_in (keyed cells) d.slots ≡ empty_slots size
       names = ap (names_in (keyed cells)) empty ∙ map-replicate (name_of (keyed cells)) size None
 
-      last : shown_at cells key ≡ record { number = d.number; slots = empty_slots size; preserved = false; count = d.count }
-      last = ap (shown (keyed cells)) at ∙ ap (λ ys. record { number = d.number; slots = ys; preserved = false; count = d.count }) names
+      last : shown_at cells key ≡ record { number = d.number; slots = empty_slots size; preserved = d.preserved; count = d.count }
+      last = ap (shown (keyed cells)) at ∙ ap (λ ys. record { number = d.number; slots = ys; preserved = d.preserved; count = d.count }) names
 
   pub buffer-made : size ≤ 64 → (counts_of (made l cells key)).buffer ≡ heap.with_mark false d.number (counts_of l).buffer
   buffer-made few =
@@ -164,12 +164,17 @@ module _ (l : Lists) (p : IsPlaced l) (key : ℕ) (d : Placed) (cells : List (Op
   pub vacant-before : number_at (counts_of l) key ≡ None
   vacant-before = number_at-cells l.cells key ∙ ap cell_number vacant
 
-  pub Makes-made : size ≤ 64 → d.count ≡ 1 → Makes (counts_of l) (counts_of (made l cells key)) key d.number size
-  Makes-made few one = record {
-    natives = natives-made ∙ ap (λ n. (counts_of l).natives ++ record { number = d.number; slots = empty_slots size; preserved = false; count = n } ∷ []) one;
+  pub Makes-made : size ≤ 64 → d.preserved ≡ false → d.reflector ≡ None → d.count ≡ 1 → Makes (counts_of l) (counts_of (made l cells key)) key d.number size
+  Makes-made few off bare one = record {
+    natives = natives-made
+        ∙ (ap (λ on. (counts_of l).natives ++ record { number = d.number; slots = empty_slots size; preserved = on; count = d.count } ∷ []) off
+        ∙ ap (λ n. (counts_of l).natives ++ record { number = d.number; slots = empty_slots size; preserved = false; count = n } ∷ []) one);
     buffer = buffer-made few;
     there = key-made;
     others = others-made;
     vacant = vacant-before;
     keyed = HasKeys-placed (made l cells key) (placed-made few);
+    reflector = reflector_at-cells (made l cells key) key ∙ (ap reflector_placed at ∙ bare);
+    other_reflectors = λ k o. reflector_at-cells (made l cells key) k ∙ (ap reflector_placed (others k o) ∙ sym (reflector_at-cells l k));
+    as_many = length-map cells reflector_placed ∙ sym (length-map cells cell_number);
   }

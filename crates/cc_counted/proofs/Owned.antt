@@ -1,5 +1,5 @@
 -- WHAT CALLERS OWN AFTER A CALL.
-use Rattle.std.proofs.Common.{◌≡◌, ◌<◌, ◌+◌, ◌≤◌, ℕ, true, false, List, [], ◌∷◌, ◌++◌, get_or, Option, Some, None, option_map, refl, sym, ◌∙◌, ap, subst, ⊎_elim, inl, inr, arith, count_by, MatchOption, is_some, Bool, append-nil, length, ◌⊎◌, map}
+use Rattle.std.proofs.Common.{◌≡◌, ◌<◌, ◌+◌, ◌≤◌, ℕ, true, false, List, [], ◌∷◌, ◌++◌, get_or, Option, Some, None, option_map, refl, sym, ◌∙◌, ap, subst, ⊎_elim, inl, inr, arith, count_by, MatchOption, is_some, Bool, append-nil, length, ◌⊎◌, map, if◌then◌else◌, ◌==◌}
 use Rattle.std.specs.List.{flat_map}
 use Rattle.std.proofs.Math.ListN.{set}
 use Rattle.std.proofs.lemmas.Bool.{cases_lt}
@@ -8,17 +8,18 @@ use Rattle.std.proofs.lemmas.Grind.{flat_map-append}
 use Rattle.cc_lists.specs.Members.{Among}
 use Rattle.cc_lists.proofs.Members.{Among-map_cases, Among-append, Among-left, Among-right}
 use Rattle.cc_lists.proofs.Counting.{count_by-cons, counted_is}
+use Rattle.cc_lists.proofs.ListWrites.{flat_map-kept}
 use Rattle.cc_lists.proofs.Numbers.{at-each}
 use Rattle.cc_names.specs.declared.number.NKey.{NKey}
 use Rattle.cc_names.specs.Names.{native, same_name, number_of}
 use Rattle.cc_names.proofs.NameTests.{same_name-true}
 use Rattle.cc_model.specs.Slots.{contents, empty_slots}
-use Rattle.cc_model.specs.Heap.{Heap, HeapNative, Buffered, native_at, suspect, with_mark}
+use Rattle.cc_model.specs.Heap.{Heap, HeapNative, Buffered, native_at, set_preserved, suspect, with_mark}
 use Rattle.cc_model.specs.Cascade.{add_ref, at_rest}
 use Rattle.cc_model.specs.WellFormed.{native_names}
 use Rattle.cc_model.specs.Counts.{slots_of_natives, times}
 use Rattle.cc_laws_heap.specs.Balance.{waiting, living, IsBalanced, has_place, places}
-use Rattle.cc_laws_heap.proofs.Natives.{native_at-named, native_at-change_same, native_at-change_other, HasDistinctNumbers-change}
+use Rattle.cc_laws_heap.proofs.Natives.{changed_at, native_names-change, native_at-named, native_at-change_same, native_at-change_other, HasDistinctNumbers-change}
 use Rattle.cc_laws_heap.proofs.HoldsTheSame.{raise_native}
 use Rattle.cc_laws_heap.proofs.References.{times-cons_same, times-cons_other, times-among, times-some}
 use Rattle.cc_laws_heap.proofs.Owning.{IsCounted-add_ref}
@@ -27,7 +28,7 @@ use Rattle.cc_laws_heap.proofs.Buffer.{places-with_mark_same, places-with_mark_o
 use Rattle.cc_laws_heap.proofs.GiveUp.{living-one}
 use Rattle.cc_laws_heap.proofs.Making.{with_mark-cases, places-with_mark, contents-empty}
 use Rattle.cc_counted.specs.declared.held.Held.{Held}
-use Rattle.cc_counted.specs.Counts.{Counts, no_counts, number_at, the_number, is_live, numbers_held, heap_of, with_heap}
+use Rattle.cc_counted.specs.Counts.{Counts, no_counts, number_at, the_number, is_live, numbers_held, heap_of, with_heap, with_reflector}
 use Rattle.cc_counted.specs.Owning.{AreOwned, Transfers, Makes}
 use Rattle.cc_counted.specs.Lists.{Placed, Lists, cell_at, with_slot, keyed, shown, counts_of, draining_of, IsPlaced}
 use Rattle.cc_counted.proofs.Places.{the_number-cell, native_at-cell, natives-distinct}
@@ -35,6 +36,7 @@ use Rattle.cc_counted.proofs.Reading.{is_live-keyed}
 use Rattle.cc_counted.proofs.Holding.{held-same}
 use Rattle.cc_counted.proofs.Balanced.{balanced-owned, owned-balanced, IsBalanced-owned, owned-lists}
 use Rattle.cc_counted.proofs.SlotBalance.{IsBalanced-written}
+use Rattle.cc_counted.proofs.Reflecting.{flagged}
 
 -- of no natives none is owned
 pub owned-none : AreOwned [] no_counts
@@ -140,6 +142,55 @@ owned-written l p none key c at i within x live cells e others o =
   where
     same : (y : Option Held) → numbers_held (counts_of l) y ≡ numbers_held (keyed l.cells) y
     same y = (held-same (keyed l.cells) (counts_of l) y (λ k e. refl)).2
+
+-- Whether a reflector is preserved says nothing of what is owned.
+pub owned-flagged : (c : Counts) (k : ℕ) (on : Bool) → Transfers [] [] c (with_heap c (set_preserved (heap_of c) k on))
+owned-flagged c k on others o = record {
+  counts = λ n i.
+      let f = was n i in
+      f.3
+      ∙ (o.counts f.0 f.1
+      ∙ (ap (λ j. count_by (same_name (native j)) (slots_of_natives (heap_of c)) + times j others) (sym f.2)
+      ∙ ap (λ xs. count_by (same_name (native n.number)) xs + times n.number others) (sym slots)));
+  none_zero = λ n i. let f = was n i in subst (λ j. 1 ≤ j) (sym f.3) (o.none_zero f.0 f.1);
+  held_there = λ j i. stays j (o.held_there j (subst (λ xs. Among (native j) xs) slots i));
+  owned_there = λ j i. stays j (o.owned_there j i);
+  buffered = λ b i. stays b.number (o.buffered b i);
+  buffered_once = o.buffered_once;
+}
+  where
+    kept : {Y : Type 0} (h : HeapNative → Y) → ((n : HeapNative) → h (flagged on n) ≡ h n) → (n : HeapNative) → h (changed_at k (flagged on) n) ≡ h n
+    kept {Y} h same n = go (n.number == k)
+      where
+        go : (b : Bool) → h (if b then flagged on n else n) ≡ h n
+        go true = same n
+        go false = refl
+
+    was : (n : HeapNative) → Among n (set_preserved (heap_of c) k on).natives → (m : HeapNative) × Among m c.natives × (n.number ≡ m.number) × (n.count ≡ m.count)
+    was n i =
+        let f = Among-map_cases (changed_at k (flagged on)) c.natives n i in (
+          f.0,
+          f.1,
+          sym (ap (λ (m : HeapNative). m.number) f.2) ∙ kept (λ m. m.number) (λ m. refl) f.0,
+          sym (ap (λ (m : HeapNative). m.count) f.2) ∙ kept (λ m. m.count) (λ m. refl) f.0,
+        )
+
+    slots : slots_of_natives (set_preserved (heap_of c) k on) ≡ slots_of_natives (heap_of c)
+    slots = flat_map-kept (λ (n : HeapNative). contents n.slots) (changed_at k (flagged on)) c.natives (kept (λ n. contents n.slots) (λ n. refl))
+
+    stays : (j : ℕ) → Among (native j) (native_names (heap_of c)) → Among (native j) (native_names (set_preserved (heap_of c) k on))
+    stays j i = subst (λ xs. Among (native j) xs) (sym (native_names-change (heap_of c) k (flagged on) (λ n. refl))) i
+
+-- Nor does where it stands.
+pub owned-reflected : (c : Counts) (key : ℕ) (to : Option ℕ) → Transfers [] [] c (with_reflector c key to)
+owned-reflected c key to others o = record {
+  counts = o.counts;
+  none_zero = o.none_zero;
+  held_there = o.held_there;
+  owned_there = o.owned_there;
+  buffered = o.buffered;
+  buffered_once = o.buffered_once;
+}
 
 -- the front of the buffer leaves
 owned-front : (old new : Counts) (b : Buffered) → old.buffer ≡ b ∷ new.buffer → new ≡ record old { buffer = new.buffer } → Transfers [] [] old new

@@ -13,8 +13,8 @@ use Rattle.cc_model.specs.WellFormed.{IsRising}
 use Rattle.cc_laws_heap.proofs.Rising.{IsRising-once}
 use Rattle.cc_laws_heap.proofs.Natives.{IsRising-distinct, native_at-member}
 use Rattle.cc_laws_heap.specs.Balance.{HasDistinctNumbers}
-use Rattle.cc_counted.specs.Counts.{number_at, number_or_none, the_number, heap_of}
-use Rattle.cc_counted.specs.Lists.{Placed, Lists, cell_at, keyed, shown, shown_at, counts_of, IsPlaced}
+use Rattle.cc_counted.specs.Counts.{number_at, reflector_at, number_or_none, the_number, heap_of}
+use Rattle.cc_counted.specs.Lists.{Placed, Lists, cell_at, reflector_placed, keyed, shown, shown_at, counts_of, IsPlaced}
 
 -- the number of what stands at a key
 abbrev pub cell_number : Option Placed → Option ℕ
@@ -23,6 +23,10 @@ cell_number o = option_map (λ c. c.number) o
 -- the number at a key is that of the native there
 pub number_at-cells : (cells : List (Option Placed)) (key : ℕ) → number_at (keyed cells) key ≡ cell_number (cell_at cells key)
 number_at-cells cells key = get_or-map cell_number cells key None
+
+-- and the reflector that of the native there
+pub reflector_at-cells : (l : Lists) (key : ℕ) → reflector_at (counts_of l) key ≡ reflector_placed (cell_at l.cells key)
+reflector_at-cells l key = get_or-map reflector_placed l.cells key None
 
 -- where a native stands, its number does
 pub number_at-cell : (cells : List (Option Placed)) (key : ℕ) (c : Placed) → cell_at cells key ≡ Some c → number_at (keyed cells) key ≡ Some c.number

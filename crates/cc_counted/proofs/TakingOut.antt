@@ -1,5 +1,5 @@
 -- THE NATIVE IN FRONT OF THE QUEUE TAKEN OUT at its key, before its slots are given up: nothing holds it.
-use Rattle.std.proofs.Common.{◌≡◌, ◌≢◌, ℕ, zero, suc, ◌+◌, ◌<◌, ◌≤◌, Bool, true, false, not, List, ◌∷◌, map, Option, Some, None, option_map, refl, sym, ◌∙◌, ap, subst, inl, inr, arith, ◌==◌}
+use Rattle.std.proofs.Common.{◌≡◌, ◌≢◌, ℕ, zero, suc, ◌+◌, ◌<◌, ◌≤◌, Bool, true, not, List, ◌∷◌, map, Option, Some, None, option_map, refl, sym, ◌∙◌, ap, subst, inl, inr, arith, ◌==◌}
 use Rattle.std.specs.List.{filter}
 use Rattle.std.specs.Option.{option_to_list}
 use Rattle.std.proofs.lemmas.Bool.{eq-eqb, ne_eqb, true≢false}
@@ -153,7 +153,7 @@ module _ (owned : List ℕ) (l : Lists) (es : List Event) (p : IsPlaced l) (b : 
       ∙ sym (filter-map (λ (n : HeapNative). not (n.number == c.number)) (shown_at l.cells) l.order))
     where
       shown-same : (k : ℕ) (a : Placed) → cell_at l.cells k ≡ Some a → shown (keyed left.cells) (Some a) ≡ shown numbers (Some a)
-      shown-same k a e = ap (λ ys. record { number = a.number; slots = ys; preserved = false; count = a.count })
+      shown-same k a e = ap (λ ys. record { number = a.number; slots = ys; preserved = a.preserved; count = a.count })
           (names-same numbers (keyed left.cells) a.slots (λ x m. (slot-same k a x e m).0))
 
       each : (k : ℕ) → Among k (without key l.order) → shown_at left.cells k ≡ shown_at l.cells k

@@ -1,5 +1,5 @@
 -- A NATIVE UNLINKED: its slots emptied one after another; what is left to empty leads where all of it does.
-use Rattle.std.proofs.Common.{◌≡◌, ◌<◌, ◌≤◌, ◌+◌, ℕ, suc, List, [], ◌∷◌, ◌++◌, map, length, drop, drop-cons, get_or, Option, Some, None, Bool, true, false, if◌then◌else◌, refl, sym, ◌∙◌, ap, subst, ⊎_elim, arith, add-one, ◌==◌}
+use Rattle.std.proofs.Common.{◌≡◌, ◌<◌, ◌≤◌, ◌+◌, ℕ, suc, List, [], ◌∷◌, ◌++◌, map, length, drop, drop-cons, get_or, Option, Some, None, true, false, refl, sym, ◌∙◌, ap, subst, ⊎_elim, arith, add-one}
 use Rattle.std.specs.List.{flat_map}
 use Rattle.std.proofs.Math.ListN.{set}
 use Rattle.std.proofs.lemmas.List.{map-append, length-set, drop_all, drop-set-lt}
@@ -14,20 +14,21 @@ use Rattle.cc_model.specs.declared.item.Item.{Item}
 use Rattle.cc_model.specs.declared.item.Item.TheVariants.{Event as of_event}
 use Rattle.cc_model.specs.Texts.{text_of}
 use Rattle.cc_model.specs.Telling.{Telling, Tells}
-use Rattle.cc_model.specs.Heap.{Heap, HeapNative, Outcome, silently, after as told_before, native_at, set_preserved}
+use Rattle.cc_model.specs.Heap.{Heap, Outcome, silently, after as told_before, native_at, set_preserved}
 use Rattle.cc_model.specs.End.{empty_slot, empty_each, slots_now, without_preservation, unlink}
 use Rattle.cc_model.proofs.Tellings.{Tells-nil, Tells-trans}
 use Rattle.cc_laws_heap.specs.Balance.{IsBalanced}
 use Rattle.cc_counted.specs.declared.held.Held.{Held}
 use Rattle.cc_counted.specs.declared.held.Held.TheVariants as held
-use Rattle.cc_counted.specs.Counts.{number_at, name_of, is_live, heap_of}
-use Rattle.cc_counted.specs.Lists.{Placed, Lists, cell_at, keyed, names_in, shown, shown_at, counts_of, draining_of, IsPlaced, LeavesKeys}
+use Rattle.cc_counted.specs.Counts.{Counts, number_at, the_number, name_of, is_live, heap_of, with_heap, left_with}
+use Rattle.cc_counted.specs.Lists.{Placed, Lists, cell_at, keyed, names_in, counts_of, draining_of, IsPlaced, LeavesKeys}
 use Rattle.cc_counted.specs.Steps.{texts_of_events, EmptiesSlot, EmptiesEach}
-use Rattle.cc_counted.proofs.Places.{native_at-cell}
+use Rattle.cc_counted.proofs.Places.{the_number-cell, native_at-cell}
 use Rattle.cc_counted.proofs.Holding.{held-same}
 use Rattle.cc_counted.proofs.Each.{live-cell}
 use Rattle.cc_counted.proofs.Places.{number_at-cell}
-use Rattle.cc_counted.proofs.Leaving.{LeavesKeys-same, LeavesKeys-then}
+use Rattle.cc_counted.proofs.Leaving.{LeavesKeys-same, LeavesKeys-then, counts-left}
+use Rattle.cc_counted.proofs.Reflecting.{left-flagged}
 
 -- the lines of events one after another
 texts-append : (es fs : List Event) → texts_of_events (es ++ fs) ≡ texts_of_events es ++ texts_of_events fs
@@ -74,6 +75,9 @@ pub EmptiesSoFar-done : (start now : Lists) (key i : ℕ) (before after : Tellin
 EmptiesSoFar-done start now key i before after s past = record {
   was = s.was;
   was_there = s.was_there;
+  cell = s.cell;
+  there = s.there;
+  number = s.number;
   placed = s.placed;
   leaves = s.leaves;
   balanced = s.keeps;
@@ -165,40 +169,29 @@ module _ (start now next : Lists) (key i : ℕ) (before middle after : Telling) 
     told = subst (Tells before after) (sym (texts-append s.events f.events)) (Tells-trans before middle after (texts_of_events s.events) (texts_of_events f.events) s.told f.told);
   }
 
--- no native here is preserved
-unpreserved : (l : Lists) (k : ℕ) → set_preserved (heap_of (counts_of l)) k false ≡ heap_of (counts_of l)
-unpreserved l k = ap (λ ns. record (heap_of (counts_of l)) { natives = ns }) (each l.order)
-  where
-    change : HeapNative → HeapNative
-    change n = if n.number == k then record n { preserved = false } else n
-
-    same : (o : Option Placed) → change (shown (keyed l.cells) o) ≡ shown (keyed l.cells) o
-    same None = go (0 == k)
-      where
-        go : (b : Bool) → (if b then record (shown (keyed l.cells) None) { preserved = false } else shown (keyed l.cells) None) ≡ shown (keyed l.cells) None
-        go true = refl
-        go false = refl
-    same (Some c) = go (c.number == k)
-      where
-        go : (b : Bool) → (if b then record (shown (keyed l.cells) (Some c)) { preserved = false } else shown (keyed l.cells) (Some c)) ≡ shown (keyed l.cells) (Some c)
-        go true = refl
-        go false = refl
-
-    each : (keys : List ℕ) → map change (map (shown_at l.cells) keys) ≡ map (shown_at l.cells) keys
-    each [] = refl
-    each (key ∷ keys) = ap (λ n. n ∷ map change (map (shown_at l.cells) keys)) (same (cell_at l.cells key)) ∙ ap (λ ns. shown_at l.cells key ∷ ns) (each keys)
-
--- THE NATIVE IS UNLINKED once its slots are empty.
-pub unlinked : (old new : Lists) (key : ℕ) (before after : Telling) → IsPlaced old → (e : EmptiesEach old new key before after) →
-    unlink (heap_of (counts_of old)) e.was.number ≡ record { heap = heap_of (counts_of new); events = Unlinked (native e.was.number) ∷ e.events }
+-- THE NATIVE IS UNLINKED once its slots are empty and its reflector is preserved no longer.
+unlinked : (old mid : Lists) (key : ℕ) (before after : Telling) → IsPlaced old → (e : EmptiesEach old mid key before after) →
+    unlink (heap_of (counts_of old)) e.was.number ≡ record { heap = set_preserved (heap_of (counts_of mid)) e.was.number false; events = Unlinked (native e.was.number) ∷ e.events }
 unfolding unlink
-unlinked old new key before after p e =
+unlinked old mid key before after p e =
     let h : Heap = heap_of (counts_of old) in
     let k : ℕ = e.was.number in
     let slots : slots_now (native_at h k) ≡ names_in (keyed old.cells) e.was.slots = ap slots_now (native_at-cell old p key e.was e.was_there) in
     ap (λ xs. told_before (Unlinked (native k) ∷ []) (without_preservation k (empty_each k 0 xs (silently h)))) slots
-    ∙ (ap (λ o. told_before (Unlinked (native k) ∷ []) (without_preservation k o)) e.outcome
-    ∙ ap (λ (g : Heap). made g (Unlinked (native k) ∷ e.events)) (unpreserved new k))
-  where
-    made : Heap → List Event → Outcome
-    made g es = record { heap = g; events = es }
+    ∙ ap (λ o. told_before (Unlinked (native k) ∷ []) (without_preservation k o)) e.outcome
+
+module _ (old mid : Lists) (key : ℕ) (before after : Telling) (p : IsPlaced old) (e : EmptiesEach old mid key before after) where
+  -- so it is by the number at its key
+  pub unlinked-key : unlink (heap_of (counts_of old)) (the_number (counts_of old) key) ≡
+      record { heap = set_preserved (heap_of (counts_of mid)) e.was.number false; events = Unlinked (native e.was.number) ∷ e.events }
+  unlinked-key = ap (unlink (heap_of (counts_of old))) (the_number-cell old.cells key e.was e.was_there) ∙ unlinked old mid key before after p e
+
+  -- WHAT IS LEFT once the preservation ended
+  pub counts-unlinked : with_heap (counts_of mid) (set_preserved (heap_of (counts_of mid)) (the_number (counts_of mid) key) false) ≡
+      left_with (counts_of old) (unlink (heap_of (counts_of old)) (the_number (counts_of old) key)).heap
+  counts-unlinked =
+      let h : Heap = heap_of (counts_of mid) in
+      ap (λ k. with_heap (counts_of mid) (set_preserved h k false)) (the_number-cell mid.cells key e.cell e.there ∙ e.number)
+      ∙ (ap (λ (c : Counts). with_heap c (set_preserved h e.was.number false)) (counts-left old mid p e.placed e.leaves)
+      ∙ (left-flagged (counts_of old) h e.was.number false
+      ∙ ap (λ (o : Outcome). left_with (counts_of old) o.heap) (sym unlinked-key)))

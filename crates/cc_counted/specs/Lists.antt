@@ -59,6 +59,10 @@ abbrev pub slots_placed : Option Placed → List (Option Held)
 slots_placed None = []
 slots_placed (Some c) = c.slots
 
+-- the reflector at a key, and none where there is no native
+abbrev pub reflector_placed : Option Placed → Option ℕ
+reflector_placed o = option_and_then (λ c. c.reflector) o
+
 -- which number stands at which key, and nothing else
 abbrev pub keyed : List (Option Placed) → Counts
 keyed cells = record no_counts { keys = map (option_map (λ c. c.number)) cells }
@@ -133,10 +137,11 @@ pub record LeavesCells (old new : List (Option Placed)) : Type 0 where
   pub as_many : length new ≡ length old
   pub each : (key : ℕ) → (cell_at new key ≡ None) ⊎ (option_map without_count (cell_at new key) ≡ option_map without_count (cell_at old key))
 
--- some keys came to hold nothing, and no key changed otherwise
+-- some keys came to hold nothing, and no key changed otherwise, nor did the reflector of a native that stayed
 pub record LeavesKeys (old new : List (Option Placed)) : Type 0 where
   pub as_many : length new ≡ length old
   pub each : (key : ℕ) → (number_at (keyed new) key ≡ None) ⊎ (number_at (keyed new) key ≡ number_at (keyed old) key)
+  pub reflectors : (key : ℕ) (c : Placed) → cell_at new key ≡ Some c → c.reflector ≡ reflector_placed (cell_at old key)
 
 -- the lists with a native made, which stands at a key of these cells
 abbrev pub made : Lists → List (Option Placed) → ℕ → Lists

@@ -76,6 +76,9 @@ pub record EmptiesSlot (old new : Lists) (key i : ℕ) (before after : Telling) 
 pub record EmptiesEach (old new : Lists) (key : ℕ) (before after : Telling) : Type 0 where
   pub was : Placed
   pub was_there : cell_at old.cells key ≡ Some was
+  pub cell : Placed
+  pub there : cell_at new.cells key ≡ Some cell
+  pub number : cell.number ≡ was.number
   pub placed : IsPlaced new
   pub leaves : LeavesKeys old.cells new.cells
   pub balanced : (others : List ℕ) → IsBalanced (was.number ∷ others) (draining_of old []) → IsBalanced (was.number ∷ others) (draining_of new [])

@@ -1,6 +1,7 @@
-//! A native as it stands at its key: its number, its slots and its count.
-ghost use Rattle.std.specs.Prelude.{◌≡◌, ◌+◌, ◌<◌, ◌≤◌, length, None, IsSome, option_map, slice_index_or, slice_set};
-ghost use Rattle.cc_counted.specs.Lists.{cell_at, count_placed, slots_placed, with_one_less, with_one_more, with_slot};
+//! A native as it stands at its key: its number, its slots, its reflector and its count.
+ghost use Rattle.std.specs.Prelude.{◌≡◌, ◌+◌, ◌<◌, ◌≤◌, length, None, IsSome, IsTrue, option_map, slice_index_or, slice_set};
+ghost use Rattle.cc_counted.specs.Counts.{Counts, name_of, is_live, preserved_reflector};
+ghost use Rattle.cc_counted.specs.Lists.{cell_at, count_placed, slots_placed, with_one_less, with_one_more, with_slot, with_flag, reflected_by};
 
 use crate::held::Held;
 use cc_names::{NKey, NativeNo, SKey};
@@ -68,4 +69,33 @@ pub(crate) fn write(
     let old = cell.slots[i];
     cell.slots[i] = item;
     old
+}
+
+/// Writes whether the reflector of the native at a key is preserved.
+pub(crate) fn preserve(natives: &mut Slab<Cell>, key: NKey, on: bool)
+    requires live { IsSome (cell_at natives.old.slots key.0) }
+    ensures slots { natives.new.slots ≡ slice_set natives.old.slots key.0 (option_map (with_flag on) (cell_at natives.old.slots key.0)) }
+{
+    let cell = &mut natives[key.0];
+    cell.preserved = on;
+}
+
+/// Writes where the reflector of the native at a key stands.
+pub(crate) fn reflect(natives: &mut Slab<Cell>, key: NKey, to: Option<SKey>)
+    requires live { IsSome (cell_at natives.old.slots key.0) }
+    ensures slots { natives.new.slots ≡ slice_set natives.old.slots key.0 (option_map (reflected_by (option_map (λ k. k.0) to)) (cell_at natives.old.slots key.0)) }
+{
+    let cell = &mut natives[key.0];
+    cell.reflector = to;
+}
+
+/// The reflector of a native as a slot would hold it, where it is preserved.
+pub(crate) fn held_reflector(cell: &Cell) -> Option<Held>
+    ensures name { (c : Counts) → name_of c result ≡ preserved_reflector cell.now.preserved cell.now.reflector }
+    ensures live { (c : Counts) → IsTrue (is_live c result) }
+{
+    match cell.reflector {
+        Some(key) if cell.preserved => Some(Held::Script(key)),
+        _ => None,
+    }
 }

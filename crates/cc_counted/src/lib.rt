@@ -9,6 +9,10 @@
 //!
 //! A slot may hold a script object beside a native. It is not counted: to give up a slot that holds one gives up nothing.
 //!
+//! A native may have a reflector, a script object of which it keeps the key, and may preserve it: then it refers to it as
+//! to what its slots hold, until it is unlinked. This heap does not count reflectors, and a freed native takes its
+//! reflector's key along.
+//!
 //! `create` takes all memory that later calls may want: room in the queue and in the buffer for every native. No other
 //! call takes memory.
 #![tactic(auto)]

@@ -1,24 +1,24 @@
 //! The parts of the counted heap, and the steps of a cascade over them.
-ghost use Rattle.std.specs.Prelude.{◌≡◌, ℕ, ◌<◌, ◌≤◌, true, false, List, [], ◌∷◌, ◌++◌, length, Option, Some, None, IsSome, IsTrue, MatchOption, IfOk, OnOk, OnErr, replicate, slice_index_or};
+ghost use Rattle.std.specs.Prelude.{◌≡◌, ℕ, ◌<◌, ◌≤◌, true, false, List, [], ◌∷◌, ◌++◌, length, Option, Some, None, option_map, IsSome, IsTrue, MatchOption, IfOk, OnOk, OnErr, replicate, slice_index_or};
 ghost use Rattle.cc_lists.specs.Members.{Among};
 ghost use Rattle.cc_names.specs.Names.{native};
 ghost use Rattle.cc_model.specs.Telling.{Tells};
-ghost use Rattle.cc_model.specs.Heap.{HeapNative, set_slot, suspect};
+ghost use Rattle.cc_model.specs.Heap.{HeapNative, set_preserved, set_slot, suspect};
 ghost use Rattle.cc_model.specs.Cascade.{cascade, add_ref};
 ghost use Rattle.cc_model.specs.End.{unlink};
 ghost use Rattle.cc_laws_heap.specs.Balance.{IsBalanced};
 ghost use Rattle.cc_purple.specs.Marks.{marked_as};
 ghost use Rattle.cc_counted.specs.declared.held.Held.{Held};
-ghost use Rattle.cc_counted.specs.Counts.{no_counts, is_live, numbers_held, name_of, number_at, the_number, heap_of, with_heap, left_with, count_of, slots_of};
+ghost use Rattle.cc_counted.specs.Counts.{no_counts, is_live, numbers_held, name_of, number_at, the_number, heap_of, with_heap, with_reflector, left_with, count_of, slots_of, references_of};
 ghost use Rattle.cc_counted.specs.Owning.{CallersOwn, Transfers, Makes};
 ghost use Rattle.cc_counted.specs.Lists.{Placed, cell_at, slots_placed, keyed, numbers_in, draining_of, IsPlaced};
 ghost use Rattle.cc_counted.specs.Steps.{GivesUp, FreesFront, Drains, ComesTo, EmptiesSlot, EmptiesEach, texts_of_events};
 
-use crate::cell::{Cell, lower, raise, write};
+use crate::cell::{Cell, held_reflector, lower, preserve, raise, reflect, write};
 use crate::held::{Held, native_held};
 use crate::order::leave;
 use cc_model::{Event, Item, Notices};
-use cc_names::{NKey, Name, NativeNo, NoMemory};
+use cc_names::{NKey, Name, NativeNo, NoMemory, SKey};
 use cc_purple::Buffer;
 use slab::Slab;
 use std::alloc::Global;
@@ -167,6 +167,45 @@ impl CountedParts {
         write(&mut self.natives, key, i as usize, item)
     }
 
+    /// Writes whether the reflector of the native at a key is preserved.
+    pub(crate) fn set_preserved(&mut self, key: NKey, on: bool)
+        requires at_rest { IsAtRest self.old }
+        requires live { IsSome (number_at (shows self.old) key.0) }
+        ensures shows { shows self.new ≡ with_heap (shows self.old) (set_preserved (heap_of (shows self.old)) (the_number (shows self.old) key.0) on) }
+        ensures owned { Transfers [] [] (shows self.old) (shows self.new) }
+        ensures at_rest { IsAtRest self.new }
+    {
+        preserve(&mut self.natives, key, on);
+    }
+
+    /// Writes where the reflector of the native at a key stands.
+    pub(crate) fn set_reflector(&mut self, key: NKey, to: Option<SKey>)
+        requires at_rest { IsAtRest self.old }
+        requires live { IsSome (number_at (shows self.old) key.0) }
+        ensures shows { shows self.new ≡ with_reflector (shows self.old) key.0 (option_map (λ k. k.0) to) }
+        ensures owned { Transfers [] [] (shows self.old) (shows self.new) }
+        ensures at_rest { IsAtRest self.new }
+    {
+        reflect(&mut self.natives, key, to);
+    }
+
+    /// What slot `i` of the native at a key holds; behind the last slot its reflector, where that is preserved.
+    pub(crate) fn reference(&self, key: NKey, i: u8) -> Option<Held>
+        requires at_rest { IsAtRest self.now }
+        requires live { IsSome (number_at (shows self.now) key.0) }
+        requires within { i ≤ length (slots_of (shows self.now) key.0) }
+        ensures name { name_of (shows self.now) result ≡ slice_index_or (references_of (shows self.now) key.0) i None }
+        ensures live { IsTrue (is_live (shows self.now) result) }
+    {
+        let cell = &self.natives[key.0];
+        let place = i as usize;
+        if place < cell.slots.len() {
+            cell.slots[place]
+        } else {
+            held_reflector(cell)
+        }
+    }
+
     /// Takes the memory of one more native: so many empty slots, and room for it everywhere.
     fn take_room(&mut self, alloc: Global, slots: u8) -> Result<Vec<Option<Held>>, NoMemory>
         requires at_rest { IsAtRest self.old }
@@ -205,6 +244,8 @@ impl CountedParts {
             self.natives.insert_reserved(Cell {
                 number: no,
                 slots: empty,
+                preserved: false,
+                reflector: None,
                 count: 1,
             }),
         );
@@ -240,7 +281,7 @@ impl CountedParts {
         }
     }
 
-    /// Tells that a native that is owned is unlinked, and empties its slots.
+    /// Tells that a native that is owned is unlinked, empties its slots, and ends the preservation of its reflector.
     pub(crate) fn unlink<N: Notices>(&mut self, key: NKey, out: &mut N)
         requires at_rest { IsAtRest self.old }
         requires live { IsSome (number_at (shows self.old) key.0) }
@@ -255,6 +296,7 @@ impl CountedParts {
         let slots = cell.slots.len() as u8;
         out.tell(Item::Event(Event::Unlinked(Name::Native(number))));
         self.empty_each(key, slots, out);
+        self.set_preserved(key, false);
     }
 
     /// Takes out the front of the buffer with its mark.

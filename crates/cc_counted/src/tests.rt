@@ -99,3 +99,68 @@ fn native_holds_a_script_object_and_a_native(rt: HostRuntime) -> Result<(), Fail
     assert_eq!(rt; out.text(), b"- free #1\n- free #2\n".as_slice());
     Ok(())
 }
+
+#[test]
+fn native_keeps_and_preserves_its_reflector(rt: HostRuntime) -> Result<(), Fail> {
+    let mut heap = Counted::new(rt.alloc());
+    if let Ok(key) = heap.create(NativeNo(1), 0) {
+        assert_eq!(rt; heap.reflector(key), None);
+        assert!(rt; !heap.preserved(key));
+        heap.set_reflector(key, Some(SKey(4)));
+        heap.set_preserved(key, true);
+        assert_eq!(rt; heap.reflector(key), Some(SKey(4)));
+        assert!(rt; heap.preserved(key));
+        heap.set_reflector(key, None);
+        heap.set_preserved(key, false);
+        assert_eq!(rt; heap.reflector(key), None);
+        assert!(rt; !heap.preserved(key));
+    }
+    Ok(())
+}
+
+#[test]
+fn references_are_the_slots_and_the_preserved_reflector(rt: HostRuntime) -> Result<(), Fail> {
+    let mut heap = Counted::new(rt.alloc());
+    if let Ok(key) = heap.create(NativeNo(1), 1) {
+        let script = Some(Held::Script(SKey(1)));
+        let reflector = SKey(4);
+        assert_eq!(rt; heap.set_slot(key, 0, script), None);
+        heap.set_reflector(key, Some(reflector));
+        assert_eq!(rt; heap.reference(key, 0), script);
+        assert_eq!(rt; heap.reference(key, 1), None);
+        heap.set_preserved(key, true);
+        assert_eq!(rt; heap.reference(key, 0), script);
+        assert_eq!(rt; heap.reference(key, 1), Some(Held::Script(reflector)));
+    }
+    Ok(())
+}
+
+#[test]
+fn unlink_ends_the_preservation(rt: HostRuntime) -> Result<(), Fail> {
+    let mut heap = Counted::new(rt.alloc());
+    let mut out = Notebook::new(rt.alloc());
+    if let Ok(key) = heap.create(NativeNo(1), 0) {
+        heap.set_reflector(key, Some(SKey(4)));
+        heap.set_preserved(key, true);
+        heap.unlink(key, &mut out);
+        assert_eq!(rt; heap.number(key), Some(NativeNo(1)));
+        if heap.number(key).is_some() {
+            assert!(rt; !heap.preserved(key));
+            assert_eq!(rt; heap.reflector(key), Some(SKey(4)));
+        }
+    }
+    Ok(())
+}
+
+#[test]
+fn freed_native_takes_its_reflector_along(rt: HostRuntime) -> Result<(), Fail> {
+    let mut heap = Counted::new(rt.alloc());
+    let mut out = Notebook::new(rt.alloc());
+    let first = heap.create(NativeNo(1), 0)?;
+    heap.set_reflector(first, Some(SKey(4)));
+    heap.release(first, &mut out);
+    let second = heap.create(NativeNo(2), 0)?;
+    assert_eq!(rt; second, first);
+    assert_eq!(rt; heap.reflector(second), None);
+    Ok(())
+}

@@ -1,9 +1,6 @@
-use Rattle.std.proofs.Common.{◌≡◌, ◌≢◌, ℕ, ◌+◌, List, [], ◌∷◌, ◌++◌, Option, Some, None, refl, ap, sym, subst, ◌∙◌, arith}
+use Rattle.std.proofs.Common.{◌≡◌, ◌≢◌, ℕ, List, [], ◌∷◌, ◌++◌, Some, None, ap, sym, subst, ◌∙◌, arith}
 use Rattle.std.proofs.lemmas.Option.{none-some}
-use Rattle.cc_model.specs.Counts.{times}
 use Rattle.cc_laws_heap.proofs.References.{times-append, times-cons}
-use Rattle.cc_counted.specs.declared.held.Held.{Held}
-use Rattle.cc_counted.specs.declared.held.Held.TheVariants as held
 use Rattle.cc_counted.specs.Counts.{Counts, number_at, number_or_none, the_number, numbers_held}
 use Rattle.cc_counted.specs.Owning.{AreOwned}
 use Rattle.cc_counted.proofs.Owned.{owned-reordered}

@@ -1,4 +1,4 @@
-use Rattle.std.proofs.Common.{◌≡◌, ◌+◌, ℕ, List, [], ◌∷◌, ◌++◌, map, length, Option, false, refl, ap, sym, subst, ◌∙◌, inr, arith}
+use Rattle.std.proofs.Common.{◌≡◌, ◌+◌, ℕ, List, [], ◌∷◌, ◌++◌, map, length, Option, None, false, refl, ap, sym, subst, ◌∙◌, inr, arith}
 use Rattle.std.proofs.lemmas.List.{map-append, length-map, length_push}
 use Rattle.cc_names.specs.declared.number.NKey.{NKey}
 use Rattle.cc_purple.specs.Marks.{Buffered, Marked, with_mark}
@@ -45,7 +45,7 @@ returns-clause-makes c =
     let mid = lists_of c.take_room.new.self in
     let kept : mid ≡ l = c.take_room.ensures.kept in
     let key = c.insert_reserved.result in
-    let d : Placed = record { number = c.args.no.0; slots = c.in_ok-empty.empty.items; count = 1 } in
+    let d : Placed = record { number = c.args.no.0; slots = c.in_ok-empty.empty.items; preserved = false; reflector = None; count = 1 } in
     let cells = c.insert_reserved.new.self.slots in
     subst (λ (n : Lists). Makes (counts_of l) (counts_of n) key c.args.no.0 c.args.slots)
     (lists-made l cells key (map (λ (k : NKey). k.0) c.push_reserved.new.self.items) (map (λ (k : NKey). k.0) c.take_room.new.self.queue.items) c.touch.new.self.marks
@@ -56,7 +56,7 @@ returns-clause-makes c =
     (sym (ap (λ (l : Lists). cell_at l.cells key) kept) ∙ c.insert_reserved.ensures.was_vacant)
     c.insert_reserved.ensures.updates.changed
     (λ k o. c.insert_reserved.ensures.updates.others k o ∙ ap (λ (l : Lists). cell_at l.cells k) kept)
-    c.requires.above c.args.slots c.in_ok-empty.ensures.slots c.requires.slots refl)
+    c.requires.above c.args.slots c.in_ok-empty.ensures.slots c.requires.slots refl refl refl)
 
 pub returns-clause-at_rest : goal.returns-clause-at_rest
 returns-clause-at_rest c =
@@ -64,7 +64,7 @@ returns-clause-at_rest c =
     let mid = lists_of c.take_room.new.self in
     let kept : mid ≡ l = c.take_room.ensures.kept in
     let key = c.insert_reserved.result in
-    let d : Placed = record { number = c.args.no.0; slots = c.in_ok-empty.empty.items; count = 1 } in
+    let d : Placed = record { number = c.args.no.0; slots = c.in_ok-empty.empty.items; preserved = false; reflector = None; count = 1 } in
     let cells = c.insert_reserved.new.self.slots in
     let room : c.touch.new.self.room ≡ c.take_room.new.self.buffer.room = ap (λ (b : Buffered). b.room) c.touch.ensures in
     let long : length c.push_reserved.new.self.items ≡ length c.take_room.new.self.order.items + 1 = ap length c.push_reserved.ensures.items ∙ length_push c.take_room.new.self.order.items (record { 0 = key }) in

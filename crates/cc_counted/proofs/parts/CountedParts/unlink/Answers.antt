@@ -1,5 +1,5 @@
 use Rattle.cc_counted.specs.Owning.{AreOwned}
-use Rattle.std.proofs.Common.{◌≡◌, ◌≤◌, [], ◌∷◌, length, map, Some, ap, arith, sym, subst, ◌∙◌}
+use Rattle.std.proofs.Common.{◌≡◌, ◌≤◌, ℕ, [], ◌∷◌, length, map, Option, Some, is_some, ap, arith, sym, subst, ◌∙◌}
 use Rattle.cc_names.specs.declared.number.NKey.{NKey}
 use Rattle.cc_names.specs.Names.{native}
 use Rattle.cc_model.specs.declared.item.Event.TheVariants.{Unlinked}
@@ -7,17 +7,15 @@ use Rattle.cc_model.specs.declared.item.Item.TheVariants.{Event as of_event}
 use Rattle.cc_model.specs.Texts.{text_of}
 use Rattle.cc_model.specs.Telling.{Tells}
 use Rattle.cc_model.specs.Heap.{Outcome}
-use Rattle.cc_model.specs.End.{unlink}
 use Rattle.cc_model.proofs.Tellings.{Tells-trans}
 use Rattle.cc_laws_heap.specs.Balance.{IsBalanced}
-use Rattle.cc_counted.specs.Counts.{heap_of, left_with}
+use Rattle.cc_counted.specs.Counts.{the_number}
 use Rattle.cc_counted.specs.Lists.{Placed, counts_of, draining_of}
 use Rattle.cc_counted.specs.Parts.{lists_of}
 use Rattle.cc_counted.specs.Steps.{texts_of_events}
-use Rattle.cc_counted.proofs.Places.{the_number-cell}
+use Rattle.cc_counted.proofs.Places.{number_at-cell, the_number-cell}
 use Rattle.cc_counted.proofs.Balanced.{IsBalanced-owned}
-use Rattle.cc_counted.proofs.Leaving.{counts-left}
-use Rattle.cc_counted.proofs.Unlinking.{unlinked}
+use Rattle.cc_counted.proofs.Unlinking.{unlinked-key, counts-unlinked}
 use Rattle.cc_counted.proofs.Balanced.{owned-lists}
 use Rattle.cc_counted.proofs.parts.CountedParts.unlink.Goals as goal
 
@@ -36,39 +34,41 @@ empty_each-requires-clause-owned g c =
           (IsBalanced-owned l c.requires.at_rest.placed (ap (map (λ (k : NKey). k.0)) c.requires.at_rest.emptied) _ c.requires.owned.1),
     )
 
+pub set_preserved-requires-clause-live : goal.set_preserved-requires-clause-live
+set_preserved-requires-clause-live g c =
+    let mid = lists_of c.empty_each.new.self in
+    let e = c.empty_each.ensures.empties in
+    ap (λ (o : Option ℕ). is_some o) (number_at-cell mid.cells c.args.key.0 e.cell e.there)
+
 pub returns-clause-shows : goal.returns-clause-shows
 returns-clause-shows g c =
-    let l = lists_of c.args.self.now in
-    let new = lists_of c.empty_each.new.self in
-    let e = c.empty_each.ensures.empties in
-    let done = ap (unlink (heap_of (counts_of l))) (the_number-cell l.cells c.args.key.0 e.was e.was_there)
-    ∙ unlinked l new c.args.key.0 (g.N.Notices.telling c.tell.new.self) (g.N.Notices.telling c.empty_each.new.out) c.requires.at_rest.placed e in
-    counts-left l new c.requires.at_rest.placed e.placed e.leaves ∙ ap (λ (o : Outcome). left_with (counts_of l) o.heap) (sym done)
+    c.set_preserved.ensures.shows
+    ∙ counts-unlinked (lists_of c.args.self.now) (lists_of c.empty_each.new.self) c.args.key.0 (g.N.Notices.telling c.tell.new.self) (g.N.Notices.telling c.empty_each.new.out)
+    c.requires.at_rest.placed c.empty_each.ensures.empties
 
 pub returns-clause-told : goal.returns-clause-told
 returns-clause-told g c =
-    let l = lists_of c.args.self.now in
-    let new = lists_of c.empty_each.new.self in
     let e = c.empty_each.ensures.empties in
     let before = g.N.Notices.telling c.args.out.now in
     let middle = g.N.Notices.telling c.tell.new.self in
     let after = g.N.Notices.telling c.empty_each.new.out in
-    let done = ap (unlink (heap_of (counts_of l))) (the_number-cell l.cells c.args.key.0 e.was e.was_there) ∙ unlinked l new c.args.key.0 middle after c.requires.at_rest.placed e in
     let same : Some c.index-cell.result.now ≡ Some e.was = sym c.index-cell.ensures ∙ e.was_there in
     let cell : c.index-cell.result.now ≡ e.was = cc in
     let first : Tells before middle (text_of (of_event (Unlinked (native e.was.number)))) =
     subst (λ (p : Placed). Tells before middle (text_of (of_event (Unlinked (native p.number))))) (c.cell.view_is ∙ cell) c.tell.ensures in
-    subst (λ (o : Outcome). Tells before after (texts_of_events o.events)) (sym done)
+    subst (λ (o : Outcome). Tells before after (texts_of_events o.events))
+    (sym (unlinked-key (lists_of c.args.self.now) (lists_of c.empty_each.new.self) c.args.key.0 middle after c.requires.at_rest.placed e))
     (Tells-trans before middle after (text_of (of_event (Unlinked (native e.was.number)))) (texts_of_events e.events) first e.told)
 
 pub returns-clause-owned : goal.returns-clause-owned
 returns-clause-owned g c others o =
     let l = lists_of c.args.self.now in
-    let new = lists_of c.empty_each.new.self in
+    let mid = lists_of c.empty_each.new.self in
     let e = c.empty_each.ensures.empties in
     let number = the_number-cell l.cells c.args.key.0 e.was e.was_there in
-    subst (λ k. AreOwned (k ∷ others) (counts_of new)) (sym number)
-    (owned-lists new (ap (map (λ (k : NKey). k.0)) c.empty_each.ensures.at_rest.emptied) (e.was.number ∷ others)
+    c.set_preserved.ensures.owned (the_number (counts_of l) c.args.key.0 ∷ others)
+    (subst (λ k. AreOwned (k ∷ others) (counts_of mid)) (sym number)
+    (owned-lists mid (ap (map (λ (k : NKey). k.0)) c.empty_each.ensures.at_rest.emptied) (e.was.number ∷ others)
     (e.balanced others
     (IsBalanced-owned l c.requires.at_rest.placed (ap (map (λ (k : NKey). k.0)) c.requires.at_rest.emptied) (e.was.number ∷ others)
-    (subst (λ k. AreOwned (k ∷ others) (counts_of l)) number o))))
+    (subst (λ k. AreOwned (k ∷ others) (counts_of l)) number o)))))
