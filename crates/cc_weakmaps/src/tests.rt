@@ -1,0 +1,1 @@
+//! Each call once, by what it answers.
