@@ -1,7 +1,6 @@
 -- AT MOST ONE ENTRY for each map and key, as entries are set and taken out.
-use Rattle.std.proofs.Common.{◌≡◌, ℕ, ◌+◌, ◌≤◌, ◌==◌, Bool, true, false, cond, List, [], ◌∷◌, length, refl, sym, ◌∙◌, ap, subst, arith, count_by}
+use Rattle.std.proofs.Common.{◌≡◌, ℕ, ◌+◌, ◌≤◌, ◌==◌, Bool, true, false, cond, List, [], ◌∷◌, refl, sym, ◌∙◌, ap, subst, arith, count_by}
 use Rattle.std.specs.List.{filter, items_where_true}
-use Rattle.std.specs.List.Retain.{IsFiltered}
 use Rattle.std.proofs.lemmas.Bool.{and_parts, eqb-true}
 use Rattle.cc_lists.proofs.Counting.{count_by-cons}
 use Rattle.cc_lists.proofs.Filtering.{count_by-filter-le}

@@ -1,7 +1,7 @@
 //! The entries as callers see them.
 ghost use Rattle.std.specs.Prelude.{◌≡◌, ◌↔◌, ◌<◌, length, false, [], Some, option_map, slice_get, IfNone, IfSome, IsOk, IsTrue, OnErr, OnOk};
 ghost use Rattle.cc_weakmaps.specs.Entries.{HasOneEach, entry, has_value_in, value_in, with_entry, without_entry};
-ghost use Rattle.cc_weakmaps.specs.Living.{AreLiving};
+ghost use Rattle.cc_weakmaps.specs.Living.{AreLiving, MayBeAsked};
 ghost use Rattle.cc_weakmaps.specs.Places.{StandsAt};
 
 use crate::entry::Entry;
@@ -10,7 +10,7 @@ use std::alloc::Global;
 use std::marker::Model;
 
 /// The entries of all weak maps, in the order in which they were first set; at most one for each map and key.
-// O(n) for each call but `new`, `len`, `is_empty` and `entry`: a new entry looks for an old one first
+// O(n) for each call but `new`, `len`, `is_empty` and `entry`: an entry is looked for from the first on
 #[derive(Drop)]
 pub struct WeakMaps {
     entries: Vec<Entry>,
@@ -109,11 +109,11 @@ impl WeakMaps {
     ///
     /// `alive` says of a key whether the object that stands there lives.
     pub fn drop_dead<F: Fn(SKey) -> bool>(&mut self, alive: F)
-        requires { F.IsAlwaysCallable alive }
+        requires { MayBeAsked (F.pre alive) self.old }
         ensures entries { AreLiving (F.post alive) self.old self.new }
         ensures at_most_one { HasOneEach self.new }
     {
-        self.entries.retain(|entry| entry.stays(&alive));
+        keep_living(&mut self.entries, &alive);
     }
 }
 
@@ -129,4 +129,20 @@ fn place_of(entries: &[Entry], the_map: SKey, key: SKey) -> Option<usize>
         }
     }
     None
+}
+
+/// Keeps the entries of which map and key live, in order.
+fn keep_living<F: Fn(SKey) -> bool>(entries: &mut Vec<Entry>, alive: &F)
+    requires { MayBeAsked (F.pre alive.now) entries.old.items }
+    ensures { AreLiving (F.post alive.now) entries.old.items entries.new.items }
+{
+    let mut kept = 0;
+    for place in 0..entries.len() {
+        let entry = entries[place];
+        if entry.stays(alive) {
+            entries[kept] = entry;
+            kept += 1;
+        }
+    }
+    entries.truncate(kept);
 }

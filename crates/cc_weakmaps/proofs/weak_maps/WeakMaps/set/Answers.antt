@@ -1,5 +1,5 @@
 use Rattle.std.proofs.Common.{◌≡◌, false, List, [], ◌∷◌, ◌++◌, sym, subst, ◌∙◌, ap}
-use Rattle.cc_weakmaps.specs.Entries.{KeyedEntry, HasOneEach, entry, has_value_in, with_entry}
+use Rattle.cc_weakmaps.specs.Entries.{KeyedEntry, HasOneEach, entry, has_value_in}
 use Rattle.cc_weakmaps.specs.Places.{StandsAt}
 use Rattle.cc_weakmaps.proofs.Stands.{stands-set, absent-set}
 use Rattle.cc_weakmaps.proofs.OneEach.{HasOneEach-set}
