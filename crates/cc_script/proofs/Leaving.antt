@@ -46,6 +46,7 @@ module _ (l : Lists) (p : IsPlaced l) (key : ℕ) (c : Placed) (at : cell_at l.c
         let all : count_by (λ j. j == k) l.order ≤ 1 = p.once k in
         omega arith;
     small = λ k b e. p.small k b (left k b e).1;
+    reflected = λ k b e. p.reflected k b (left k b e).1;
   }
 
   pub objects-left : objects_of (taken_out l key) ≡ without_object (objects_of l) key

@@ -7,7 +7,7 @@ use Rattle.cc_names.specs.declared.kind.Kind.TheVariants.{Plain}
 use Rattle.cc_names.specs.declared.kind.Colour.{Colour}
 use Rattle.cc_names.specs.declared.kind.Colour.TheVariants.{White}
 use Rattle.cc_names.specs.Names.{object}
-use Rattle.cc_script.specs.Objects.{Object}
+use Rattle.cc_script.specs.Objects.{Object, FitsKind}
 
 -- an object as it stands at its key: what its slots hold by keys
 pub record Placed : Type 0 where
@@ -57,12 +57,14 @@ shown_at cells key = with_key key (placed_or_nothing (cell_at cells key))
 abbrev pub objects_of : Lists → List Object
 objects_of l = map (shown_at l.cells) l.order
 
--- THE LISTS FIT TOGETHER: the order has the keys of the objects, each once, and no object has more than 64 slots
+-- THE LISTS FIT TOGETHER: the order has the keys of the objects, each once, no object has more than 64 slots, and exactly
+-- reflectors have a native
 pub record IsPlaced (l : Lists) : Type 0 where
   pub in_order : (key : ℕ) → Among key l.order → (c : Placed) × (cell_at l.cells key ≡ Some c)
   pub ordered : (key : ℕ) (c : Placed) → cell_at l.cells key ≡ Some c → Among key l.order
   pub once : (key : ℕ) → count_by (λ k. k == key) l.order ≤ 1
   pub small : (key : ℕ) (c : Placed) → cell_at l.cells key ≡ Some c → length c.slots ≤ 64
+  pub reflected : (key : ℕ) (c : Placed) → cell_at l.cells key ≡ Some c → FitsKind c.kind c.native
 
 -- the keys but for one
 abbrev pub without_key : ℕ → List ℕ → List ℕ

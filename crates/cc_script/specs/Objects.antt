@@ -1,6 +1,6 @@
 -- THE SCRIPT OBJECTS AS A LIST, in order of making; each stands at a key, and its slots hold keys. A reflector has the
 -- key of its native, which stands in a heap of its own.
-use Rattle.std.specs.Prelude.{◌≡◌, IsTrue, ℕ, ◌==◌, Bool, true, false, not, List, [], map, filter, find, replicate, Option, Some, None, is_some, option_map, option_and_then, slice_set, if◌then◌else◌}
+use Rattle.std.specs.Prelude.{◌≡◌, ◌↔◌, IsSome, IsTrue, ℕ, ◌==◌, Bool, true, false, not, List, [], map, filter, find, replicate, Option, Some, None, is_some, option_map, option_and_then, slice_set, if◌then◌else◌}
 use Rattle.cc_lists.specs.Members.{Among, has}
 use Rattle.cc_lists.specs.Walks as walks
 use Rattle.cc_names.specs.declared.name.Name.{Name}
@@ -17,6 +17,10 @@ pub record Object : Type 0 where
   pub native : Option ℕ
   pub slots : List (Option ℕ)
   pub colour : Colour
+
+-- EXACTLY A REFLECTOR has a native
+abbrev pub FitsKind : Kind → Option ℕ → Type 0
+FitsKind kind native = IsSome native ↔ (kind ≡ Reflector)
 
 -- an object as it is made: black, so many slots empty
 abbrev pub new_object : ℕ → Name → Kind → Option ℕ → ℕ → Object

@@ -1,15 +1,19 @@
-//! The script heap: plain objects with slots and colours, in order of making.
+//! The script heap: plain objects, reflectors and weak maps with slots and colours, in order of making.
 //!
 //! An object stands at a key, which comes back for another one once it is gone; its name never does. Slots hold
-//! keys. Script marking makes all objects white (`clear_marks`) and raises what is reached from roots (`mark_from`);
+//! keys. Exactly a reflector has the key of a native, which stands in a heap of its own: this heap only keeps it, and
+//! whether that native is there is for those above to say. A weak map has no slots here; its entries stand in a crate of
+//! their own, so no walk of this heap goes over them.
+//!
+//! Script marking makes all objects white (`clear_marks`) and raises what is reached from roots (`mark_from`);
 //! between markings `expose` makes black what script touches, with all that it reaches over slots. What stays white is
 //! removed, one object after another.
 //!
 //! No object that isn't white holds one of a lower colour. So a walk may stop at each object that has the colour to which
 //! it raises.
 //!
-//! `create_plain` takes all memory that later calls may want: room on the stack of the walk for every object. No other
-//! call takes memory, at any depth.
+//! A call that makes an object takes all memory that later calls may want: room on the stack of the walk for every
+//! object. No other call takes memory, at any depth.
 #![tactic(auto)]
 
 mod cell;

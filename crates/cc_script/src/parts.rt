@@ -2,7 +2,7 @@
 ghost use Rattle.std.specs.Prelude.{◌≡◌, ℕ, ◌<◌, ◌≤◌, false, List, [], ◌∷◌, ◌++◌, length, Some, None, IfOk, IfSome, IsTrue, OnErr, OnOk, option_map, replicate, slice_index_or};
 ghost use Rattle.cc_lists.specs.Members.{Among};
 ghost use Rattle.cc_names.specs.declared.kind.Colour.TheVariants.{White};
-ghost use Rattle.cc_script.specs.Objects.{AreWhole, IsNotBelow, change_object, colour_at, is_there, new_object, raised_among, slots_at, whitened, with_slot, without_object};
+ghost use Rattle.cc_script.specs.Objects.{AreWhole, FitsKind, IsNotBelow, change_object, colour_at, is_there, new_object, raised_among, slots_at, whitened, with_slot, without_object};
 ghost use Rattle.cc_script.specs.Walking.{keys_reached};
 ghost use Rattle.cc_script.specs.Marking.{raise_each, raise_key, raise_slot};
 
@@ -65,6 +65,7 @@ impl ScriptParts {
     ) -> Result<SKey, NoMemory>
         requires at_rest { IsAtRest self.old }
         requires slots { slots ≤ 64 }
+        requires fits { FitsKind kind (option_map (λ k. k.0) native) }
         ensures made { IfOk result (λ key. shows self.new ≡ shows self.old ++ new_object key.0 name kind (option_map (λ k. k.0) native) slots ∷ []) }
         ensures vacant { IfOk result (λ key. is_there (shows self.old) key.0 ≡ false) }
         ensures err { OnErr result (shows self.new ≡ shows self.old) }

@@ -1,6 +1,7 @@
 //! The script heap as callers see it.
-ghost use Rattle.std.specs.Prelude.{◌≡◌, ◌<◌, ◌≤◌, false, List, [], ◌∷◌, ◌++◌, length, Some, None, option_map, slice_index_or, IsTrue, IfSome, IfOk, OnOk, OnErr};
+ghost use Rattle.std.specs.Prelude.{◌≡◌, ◌↔◌, ◌<◌, ◌≤◌, false, List, [], ◌∷◌, ◌++◌, length, Some, None, option_map, slice_index_or, IsSome, IsTrue, IfSome, IfOk, OnOk, OnErr};
 ghost use Rattle.cc_names.specs.declared.kind.Colour.TheVariants.{White, Black};
+ghost use Rattle.cc_names.specs.declared.kind.Kind.TheVariants.{Reflector};
 ghost use Rattle.cc_script.specs.Objects.{AreWhole, change_object, colour_at, first_key, is_there, key_after, kind_at, map_object, name_at, native_at, plain_object, reflector_object, raised_among, slots_at, whitened, with_slot, without_object, IsNotBelow};
 ghost use Rattle.cc_script.specs.Walking.{keys_reached};
 
@@ -103,7 +104,8 @@ impl Scripts {
     /// Where the native of a reflector stands in its own heap; none exactly of what is no reflector.
     pub fn native_of(&self, key: SKey) -> Option<NKey>
         requires live { IsTrue (is_there self.now key.0) }
-        ensures { option_map (λ k. k.0) result ≡ native_at self.now key.0 }
+        ensures native { option_map (λ k. k.0) result ≡ native_at self.now key.0 }
+        ensures exactly { IsSome result ↔ (kind_at self.now key.0 ≡ Some Reflector) }
     {
         self.parts.cells[key.0].native
     }

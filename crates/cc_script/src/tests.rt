@@ -4,7 +4,7 @@ ghost use Rattle.cc_script.specs.Objects.{AreWhole, is_there};
 ghost use Rattle.cc_script.specs.Tidy.{AllAreWhite, IsTidy, StayThere};
 
 use super::*;
-use cc_names::{Colour, Kind, Name, NoMemory, SKey, ScriptNo};
+use cc_names::{Colour, Kind, NKey, Name, NativeNo, NoMemory, SKey, ScriptNo};
 use std::test::Fail;
 
 /// Makes an object with one slot.
@@ -147,11 +147,53 @@ fn object_is_made_and_read(rt: HostRuntime) -> Result<(), Fail> {
     if let Ok(key) = made {
         assert_eq!(rt; heap.kind(key), Kind::Plain);
         assert_eq!(rt; heap.name(key), Name::Script(ScriptNo(7)));
+        assert_eq!(rt; heap.native_of(key), None);
         assert_eq!(rt; heap.colour(key), Colour::Black);
         assert_eq!(rt; heap.slots(key), 1);
         assert_eq!(rt; heap.first(), Some(key));
         assert_eq!(rt; heap.next(key), None);
     }
+    Ok(())
+}
+
+#[test]
+fn reflector_is_made_and_read(rt: HostRuntime) -> Result<(), Fail> {
+    let mut heap = Scripts::new(rt.alloc());
+    let made = heap.create_reflector(NKey(5), NativeNo(7));
+    assert!(rt; made.is_ok());
+    if let Some(key) = heap.first() {
+        assert_eq!(rt; heap.kind(key), Kind::Reflector);
+        assert_eq!(rt; heap.name(key), Name::Reflector(NativeNo(7)));
+        assert_eq!(rt; heap.native_of(key), Some(NKey(5)));
+        assert_eq!(rt; heap.colour(key), Colour::Black);
+        assert_eq!(rt; heap.slots(key), 4);
+        if heap.slots(key) == 4 {
+            assert_eq!(rt; heap.slot(key, 3), None);
+        }
+        return Ok(());
+    }
+    assert!(rt; false);
+    Ok(())
+}
+
+#[test]
+fn map_goes_behind_a_reflector(rt: HostRuntime) -> Result<(), Fail> {
+    let mut heap = Scripts::new(rt.alloc());
+    assert!(rt; heap.create_reflector(NKey(5), NativeNo(7)).is_ok());
+    assert!(rt; heap.create_map(ScriptNo(9)).is_ok());
+    if let Some(first) = heap.first() {
+        assert_eq!(rt; heap.kind(first), Kind::Reflector);
+        if let Some(key) = heap.next(first) {
+            assert_eq!(rt; heap.kind(key), Kind::Map);
+            assert_eq!(rt; heap.name(key), Name::Script(ScriptNo(9)));
+            assert_eq!(rt; heap.native_of(key), None);
+            assert_eq!(rt; heap.colour(key), Colour::Black);
+            assert_eq!(rt; heap.slots(key), 0);
+            assert_eq!(rt; heap.next(key), None);
+            return Ok(());
+        }
+    }
+    assert!(rt; false);
     Ok(())
 }
 

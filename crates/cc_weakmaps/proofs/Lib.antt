@@ -1,0 +1,4 @@
+pub mod Stands
+pub mod OneEach
+pub mod Staying
+pub mod Keeping

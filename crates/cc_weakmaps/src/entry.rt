@@ -1,0 +1,44 @@
+//! One entry.
+ghost use Rattle.std.specs.Prelude.{◌≡◌};
+ghost use Rattle.cc_weakmaps.specs.Entries.{is_entry_of};
+ghost use Rattle.cc_weakmaps.specs.Living.{Stays, script_key};
+
+use cc_names::SKey;
+use std::marker::Model;
+
+/// The value that a key has in a map.
+#[derive(Clone, Copy, Drop)]
+pub(crate) struct Entry {
+    pub(crate) the_map: SKey,
+    pub(crate) key: SKey,
+    pub(crate) value: SKey,
+}
+
+impl Model for Entry {
+    ghost use Rattle.cc_weakmaps.specs.Entries.{KeyedEntry, entry};
+    ghost use Rattle.cc_weakmaps.specs.Living.{script_key};
+
+    ghost Value = { KeyedEntry };
+
+    ghost view = { λ e. entry e.the_map.0 e.key.0 e.value.0 };
+
+    ghost inverse = { λ e. record { the_map = script_key e.the_map; key = script_key e.key; value = script_key e.value } };
+}
+
+impl Entry {
+    /// Whether it is the entry of a map and a key.
+    pub(crate) fn is_of(&self, the_map: SKey, key: SKey) -> bool
+        ensures { result ≡ is_entry_of the_map.0 key.0 self.now }
+    {
+        self.the_map == the_map && self.key == key
+    }
+
+    /// Whether both its map and its key live. `alive` says of a key whether the object that stands there does.
+    pub(crate) fn stays<F: Fn(SKey) -> bool>(&self, alive: &F) -> bool
+        requires the_map { F.pre alive.now (script_key self.now.the_map) }
+        requires key { F.pre alive.now (script_key self.now.key) }
+        ensures { Stays (F.post alive.now) self.now result }
+    {
+        alive(self.the_map) && alive(self.key)
+    }
+}
