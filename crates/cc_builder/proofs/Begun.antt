@@ -92,13 +92,13 @@ pub first-some_are : (v : Keyed) (xs ys : List Name) (k : ℕ) → IsInOrder [] 
 first-some_are v xs ys k order e =
     let h = v.heap in
     let candidate = subst (λ zs. Among (native k) zs) e (with_all_last-there same_name same_name-exact xs (native k ∷ ys) (native k) (inl refl)) in
-    ap some_are (first-names-holders h order.alone.no_entries)
+    ap some_are (first-names-holders h order.without_maps.no_entries)
     ∙ some-among (with_all_last same_name (candidate_names h) (holders_of h)) (native k)
     (with_all_last-keeps same_name same_name-exact (candidate_names h) (holders_of h) (native k) candidate)
 
 -- and a holder
 pub holders-some_are : (v : Keyed) → IsInOrder [] v → holders_of v.heap ≢ [] → some_are (first_names v.heap) ≡ true
-holders-some_are v order some = ap some_are (first-names-holders v.heap order.alone.no_entries) ∙ go (holders_of v.heap) some
+holders-some_are v order some = ap some_are (first-names-holders v.heap order.without_maps.no_entries) ∙ go (holders_of v.heap) some
   where
     go : (ys : List Name) → ys ≢ [] → some_are (with_all_last same_name (candidate_names v.heap) ys) ≡ true
     go [] some = absurd (some refl)
@@ -154,9 +154,9 @@ snapshot-begun b v xs order purple names next all edges =
     (map (reference_of vs) b.graph.edges) []
     (first-candidates b v xs order purple names all)
     (ap (λ n. nodes_of n vs) next ∙ nodes-new vs
-    ∙ ap (map new_node) (names ∙ ap (λ ys. with_all_last same_name ys (holders_of h)) purple ∙ sym (first-names-holders h order.alone.no_entries)))
+    ∙ ap (map new_node) (names ∙ ap (λ ys. with_all_last same_name ys (holders_of h)) purple ∙ sym (first-names-holders h order.without_maps.no_entries)))
     (ap (map (reference_of vs)) edges)
-    ∙ ap (λ ms. begun_of cs (map new_node (first_names h)) ms) (sym (no-mappings h order.alone.no_entries))
+    ∙ ap (λ ms. begun_of cs (map new_node (first_names h)) ms) (sym (no-mappings h order.without_maps.no_entries))
   where
     begun_of : List ℕ → List Node → List Mapping → Snapshot
     begun_of cs ns ms = record { candidates = cs; nodes = ns; references = []; mappings = ms }

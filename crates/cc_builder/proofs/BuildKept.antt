@@ -1,5 +1,6 @@
 -- What each step of a building keeps.
-use Rattle.std.proofs.Common.{◌≡◌, ℕ, ◌-◌, ◌<◌, ◌≤◌, List, [], ◌∷◌, ◌++◌, length, drop, Some, None, option_map, refl, sym, ◌∙◌, ap, subst, ⊎_elim, arith, count_by, length-append}
+use Rattle.std.proofs.Common.{◌≡◌, ℕ, ◌-◌, ◌<◌, ◌≤◌, false, List, [], ◌∷◌, ◌++◌, length, drop, Some, None, option_map, refl, sym, ◌∙◌, ap, subst, ⊎_elim, arith, count_by, length-append}
+use Rattle.std.proofs.lemmas.Bool.{true≢false}
 use Rattle.std.proofs.lemmas.List.{drop-append-le}
 use Rattle.cc_lists.specs.Members.{Among}
 use Rattle.cc_lists.proofs.Members.{Among-map, Among-append}
@@ -7,9 +8,10 @@ use Rattle.cc_lists.proofs.Counting.{count_by-map}
 use Rattle.cc_lists.proofs.CountsOf.{count_by-agree}
 use Rattle.cc_lists.proofs.OnceEach.{with_all_last-once}
 use Rattle.cc_names.specs.declared.name.Name.{Name}
+use Rattle.cc_names.specs.declared.name.Name.TheVariants as name
 use Rattle.cc_names.specs.Names.{native, is_native, number_of, same_name}
 use Rattle.cc_names.proofs.NameTests.{same_name-exact}
-use Rattle.cc_model.specs.Heap.{HeapScript}
+use Rattle.cc_model.specs.Heap.{Heap, HeapScript}
 use Rattle.cc_model.specs.WellFormed.{script_names}
 use Rattle.cc_laws_heap.proofs.Natives.{native_at-number}
 use Rattle.cc_laws_heap.proofs.NameLists.{same_name-sym}
@@ -102,6 +104,12 @@ IsBuilt-object b v x held built was =
 AreHeld-object : (b : Built) (v : Keyed) (x : Name) (held : Held) → AreHeld b.graph (HasKey v) → HasKey v x held → AreHeld (with_vertex_of b x held).graph (HasKey v)
 AreHeld-object b v x held are has = with_vertex-each (λ n. HasKey v n.name n.held) b.graph.nodes x held are has
 
+-- a script object that is in the heaps was made
+made-script : (h : Heap) (x : Name) → is_native x ≡ false → Among x (script_names h) → WasMade h x
+made-script h (name.Native k) e m = absurd (true≢false e)
+made-script h (name.Script k) e m = m
+made-script h (name.Reflector k) e m = m
+
 -- an object that is there was made, and is where its name says
 there-made : (v : Keyed) (object : Held) → IsInOrder [] v → IsThere v (Some object) → WasMade v.heap (the_name v object)
 there-made v (held.Native key) order there =
@@ -112,8 +120,8 @@ there-made v (held.Native key) order there =
     subst (λ x. WasMade v.heap x) (sym (native-name v key s)) (subst (λ k. WasMade v.heap (native k)) same bounds)
 there-made v (held.Script key) order there =
     let s = object-at v key order there in
-    subst (λ x. WasMade v.heap x) (sym (object-name v key s ∙ s.name))
-    (subst (λ x. Among x (script_names v.heap)) s.name
+    subst (λ x. WasMade v.heap x) (sym (object-name v key s))
+    (made-script v.heap s.body.name s.kind
     (Among-map (λ (o : HeapScript). o.name) (named_object v.scripts s.body) v.heap.scripts (object-among v s.body order (IsObjectAt-member v key.0 s))))
 
 there-key : (v : Keyed) (object : Held) → IsInOrder [] v → IsThere v (Some object) → HasKey v (the_name v object) object
@@ -122,7 +130,7 @@ there-key v (held.Native key) order there =
     subst (λ x. HasKey v x (held.Native key)) (sym (native-name v key s)) (refl, λ k e m. s.at ∙ ap Some (ap number_of e))
 there-key v (held.Script key) order there =
     let s = object-at v key order there in
-    subst (λ x. HasKey v x (held.Script key)) (sym (object-name v key s)) (ap is_native s.name, ap (option_map (λ (o : Object). o.name)) s.at)
+    subst (λ x. HasKey v x (held.Script key)) (sym (object-name v key s)) (s.kind, ap (option_map (λ (o : Object). o.name)) s.at)
 
 -- graphs are the same by their parts
 abbrev graph_of : List Vertex → List Edge → List ℕ → ℕ → Shown

@@ -1,21 +1,20 @@
 -- THERE ARE FEW OBJECTS: things with distinct names are no more than the names that there can be.
 use Rattle.std.proofs.Common.{◌≡◌, ℕ, zero, suc, ◌+◌, ◌<◌, ◌≤◌, true, List, [], ◌∷◌, ◌++◌, length, map, refl, sym, ap, subst, ◌⊎◌, ⊎_elim, inl, inr, arith, count_by, length-append}
+use Rattle.std.proofs.lemmas.Bool.{false≢true}
 use Rattle.std.proofs.lemmas.List.{length-map}
 use Rattle.cc_lists.specs.Members.{Among}
-use Rattle.cc_lists.proofs.Members.{Among-map, Among-left, Among-right}
+use Rattle.cc_lists.proofs.Members.{Among-map, Among-map_cases, Among-left, Among-right}
 use Rattle.cc_lists.proofs.Counting.{count_by-below, count_by-some, counted_is, count_by-all}
-use Rattle.cc_names.specs.Names.{native, object, same_name}
+use Rattle.cc_names.specs.Names.{native, object, reflector, number_of, same_name}
 use Rattle.cc_names.specs.declared.name.Name.{Name}
 use Rattle.cc_names.specs.declared.name.Name.TheVariants as name
-use Rattle.cc_names.specs.declared.kind.Kind.{Kind}
 use Rattle.cc_names.proofs.NameTests.{same_name-true, same_name-refl, same_name-exact}
-use Rattle.cc_model.specs.Heap.{Heap, HeapScript}
-use Rattle.cc_model.specs.WellFormed.{FitsName, script_names}
+use Rattle.cc_model.specs.Heap.{Heap, HeapNative, HeapScript}
+use Rattle.cc_model.specs.WellFormed.{script_names}
+use Rattle.cc_laws_heap.proofs.ScriptNames.{script_names-named, scripts-once}
 use Rattle.cc_graph.specs.Shown.{Vertex}
 use Rattle.cc_heaps.specs.Keyed.{Keyed, IsInOrder}
-use Rattle.cc_heaps.proofs.PlainNames.{plain-named}
 use Rattle.cc_builder.specs.Building.{Built, IsBuilt, WasMade}
-use Rattle.cc_builder.proofs.HeldObjects.{once-named}
 
 -- the numbers from 1 to m
 abbrev numbers_to : ℕ → List ℕ
@@ -52,21 +51,48 @@ distinct-few {X} named xs ys distinct among =
         count_by-some (λ z. same_name z y) y ys (subst (λ z. Among z ys) (same_name-true (named x.0) y x.2) (among x.0 x.1)) (same_name-refl y) in
         omega (arith, distinct y)
 
--- Script objects have numbers that were given to script objects, each its own
+-- Script objects have numbers that were given to script objects, and reflectors those of natives, each its own
 
-scripts-few : (v : Keyed) → IsInOrder [] v → length v.heap.scripts ≤ 1000000
+-- the names that script objects may have
+abbrev script_names_to : Heap → List Name
+script_names_to h = map object (numbers_to h.scripts_made) ++ map reflector (numbers_to h.natives_made)
+
+scripts-few : (v : Keyed) → IsInOrder [] v → length v.heap.scripts ≤ 2000000
 scripts-few v order =
     let well = order.sound.well_formed in
-    let few = distinct-few (λ (o : HeapScript). o.name) v.heap.scripts (map object (numbers_to v.heap.scripts_made)) (once-named v.heap well) numbered in
-    omega (arith, few, length-map (numbers_to v.heap.scripts_made) object, numbers_to-length v.heap.scripts_made, well.scripts_allowed, order.limits.1)
+    let objects = map object (numbers_to v.heap.scripts_made) in
+    let reflectors = map reflector (numbers_to v.heap.natives_made) in
+    omega (
+      arith,
+      distinct-few (λ (o : HeapScript). o.name) v.heap.scripts (script_names_to v.heap) (scripts-once v.heap well) (λ o m. among o.name (Among-map (λ (p : HeapScript). p.name) o v.heap.scripts m)),
+      length-append objects reflectors,
+      length-map (numbers_to v.heap.scripts_made) object,
+      length-map (numbers_to v.heap.natives_made) reflector,
+      numbers_to-length v.heap.scripts_made,
+      numbers_to-length v.heap.natives_made,
+      well.scripts_allowed,
+      well.natives_allowed,
+      order.limits.0,
+      order.limits.1,
+    )
   where
-    numbered : (o : HeapScript) → Among o v.heap.scripts → Among o.name (map object (numbers_to v.heap.scripts_made))
-    numbered o m =
+    -- a reflector has its native, whose number was given
+    reflector-among : (k : ℕ) → Among (reflector k) (script_names v.heap) → Among k (numbers_to v.heap.natives_made)
+    reflector-among k m =
         let well = order.sound.well_formed in
-        let k = plain-named o.name o.slots (subst (λ (kind : Kind). FitsName o.name kind o.slots) (order.alone.plain o m) (well.kinds o m)) in
-        let bounds = well.object_numbers k.0 (subst (λ x. Among x (script_names v.heap)) k.1 (Among-map (λ (p : HeapScript). p.name) o v.heap.scripts m)) in
-        subst (λ x. Among x (map object (numbers_to v.heap.scripts_made))) (sym k.1)
+        let n = Among-map_cases (λ (n : HeapNative). native n.number) v.heap.natives (native k) (well.reflected k m) in
+        let bounds = well.native_numbers n.0 n.1 in
+        let same : n.0.number ≡ k = ap number_of n.2 in
+        subst (λ j. Among j (numbers_to v.heap.natives_made)) same (numbers_to-among v.heap.natives_made n.0.number bounds.0 bounds.1)
+
+    among : (x : Name) → Among x (script_names v.heap) → Among x (script_names_to v.heap)
+    among (name.Native k) m = absurd (false≢true (script_names-named v.heap order.sound.well_formed (name.Native k) m))
+    among (name.Script k) m =
+        let bounds = order.sound.well_formed.object_numbers k.0 m in
+        Among-left (object k.0) (map object (numbers_to v.heap.scripts_made)) (map reflector (numbers_to v.heap.natives_made))
         (Among-map object k.0 (numbers_to v.heap.scripts_made) (numbers_to-among v.heap.scripts_made k.0 bounds.0 bounds.1))
+    among (name.Reflector k) m = Among-right (reflector k.0) (map object (numbers_to v.heap.scripts_made)) (map reflector (numbers_to v.heap.natives_made))
+        (Among-map reflector k.0 (numbers_to v.heap.natives_made) (reflector-among k.0 m))
 
 -- Nodes are those of objects that were made, each its own
 
@@ -90,5 +116,5 @@ made-few h vs distinct made =
     among (name.Reflector k) m = Among-right (name.Reflector k) (map native (numbers_to h.natives_made)) (script_names h) m
 
 -- so numbers of nodes do not run out
-pub nodes-limited : (b : Built) (v : Keyed) → IsInOrder [] v → IsBuilt b v → length b.graph.nodes ≤ 2000000
+pub nodes-limited : (b : Built) (v : Keyed) → IsInOrder [] v → IsBuilt b v → length b.graph.nodes ≤ 3000000
 nodes-limited b v order built = omega (arith, built.few, scripts-few v order, order.sound.well_formed.natives_allowed, order.limits.0)

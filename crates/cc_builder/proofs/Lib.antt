@@ -2,8 +2,8 @@ pub mod Begun
 pub mod BufferWalks
 pub mod BuildKept
 pub mod BuildNodes
+pub mod BuildPlaces
 pub mod BuildReads
-pub mod BuildSlots
 pub mod BuildSnapshots
 pub mod BuildStates
 pub mod BuildTraversed
@@ -16,5 +16,4 @@ pub mod HolderWalks
 pub mod NodesByName
 pub mod NotedObjects
 pub mod Promises
-pub mod SlotsRead
 pub mod Unsampled

@@ -1,16 +1,17 @@
 -- WHAT THE UNIT OF A NODE NOTES AND SAMPLES of an object that is there.
-use Rattle.std.proofs.Common.{◌≡◌, ℕ, Bool, true, false, cond, List, [], ◌∷◌, ◌++◌, map, Option, Some, None, IsTrue, is_some, option_map, option_to_list, refl, sym, ◌∙◌, ap, subst}
+use Rattle.std.proofs.Common.{◌≡◌, ℕ, true, false, [], ◌∷◌, ◌++◌, Option, Some, None, IsTrue, is_some, option_map, option_to_list, refl, sym, ◌∙◌, ap, subst}
 use Rattle.std.specs.List.{filter, flat_map}
-use Rattle.std.proofs.lemmas.List.{append-nil}
+use Rattle.std.proofs.lemmas.Bool.{true≢false}
+use Rattle.std.proofs.lemmas.List.Elements.{filter-append}
 use Rattle.cc_lists.specs.Members.{Among}
 use Rattle.cc_names.specs.declared.name.Name.{Name}
 use Rattle.cc_names.specs.declared.name.Name.TheVariants as name
 use Rattle.cc_names.specs.declared.number.NKey.{NKey}
 use Rattle.cc_names.specs.declared.number.SKey.{SKey}
-use Rattle.cc_names.specs.Names.{native, object, reflector, is_native, behind}
-use Rattle.cc_model.specs.Slots.{Slots, contents, from_to}
+use Rattle.cc_names.specs.Names.{native, is_native}
+use Rattle.cc_model.specs.Slots.{Slots, contents}
 use Rattle.cc_model.specs.Heap.{Heap, HeapNative, HeapScript, native_at, script_at}
-use Rattle.cc_model.specs.View.{slot_edges, script_slot_edges, native_edges, script_edges}
+use Rattle.cc_model.specs.View.{native_edges, script_edges}
 use Rattle.cc_model.specs.WellFormed.{native_names}
 use Rattle.cc_model.specs.Units.{is_noted, to_note, targets, sample}
 use Rattle.cc_laws_heap.proofs.Natives.{native_at-named}
@@ -19,70 +20,55 @@ use Rattle.cc_counted.specs.declared.held.Held.TheVariants as held
 use Rattle.cc_script.specs.Objects.{Object, object_at}
 use Rattle.cc_heaps.specs.Keyed.{Keyed, IsInOrder, named_object}
 use Rattle.cc_heaps.specs.Changes.{IsThere}
+use Rattle.cc_heaps.specs.Places.{places_of_native, places_of_script}
 use Rattle.cc_heaps.specs.HasKey.{HasKey}
+use Rattle.cc_heaps.proofs.PlaceEdges.{contents-places, contents-places_of_script}
 use Rattle.cc_builder.specs.BuildSteps.{contents_at, noted_content, sample_of, the_name}
 use Rattle.cc_builder.proofs.BuildStates.{IsSampleOf}
-use Rattle.cc_builder.proofs.HeldObjects.{StandsAt, StandsAt-member, stands-at, native-name, native-slots, shown-count, IsObjectAt, object-at, object-name, object-slots}
+use Rattle.cc_builder.proofs.HeldObjects.{StandsAt, stands-at, native-name, native-places, shown-count, IsObjectAt, object-at, object-name, object-places}
 
--- what an object refers to by its slots
-targets-slots : (x : Name) (ys : List Name) → targets (map (from_to x) ys) ≡ ys
-targets-slots x [] = refl
-targets-slots x (y ∷ ys) = ap (λ zs. y ∷ zs) (targets-slots x ys)
-
--- a native with no preserved reflector refers to what its slots hold
-targets-native : (n : HeapNative) → n.preserved ≡ false → targets (native_edges n) ≡ contents n.slots
-targets-native n e =
-    ap (λ b. targets (slot_edges (native n.number) n.slots ++ elim b [ true ↦ from_to (native n.number) (reflector n.number) ∷ [] | false ↦ [] ])) e
-    ∙ ap targets (append-nil (slot_edges (native n.number) n.slots))
-    ∙ targets-slots (native n.number) (contents n.slots)
-
--- so does a plain object
-targets-object : (o : HeapScript) (k : ℕ) → o.name ≡ object k → targets (script_edges o) ≡ contents o.slots
-targets-object o k e =
-    ap (λ x. targets (script_slot_edges o ++ map (λ i. from_to o.name (native i)) (behind x))) e
-    ∙ ap targets (append-nil (script_slot_edges o))
-    ∙ targets-slots o.name (contents o.slots)
-
--- what passes of the lists of each is what passes of all
-filter-append : {X : Type 0} (p : X → Bool) (xs ys : List X) → filter p (xs ++ ys) ≡ filter p xs ++ filter p ys
-filter-append p [] ys = refl
-filter-append p (x ∷ xs) ys = go (p x) (filter-append p xs ys)
-  where
-    go : (b : Bool) → filter p (xs ++ ys) ≡ filter p xs ++ filter p ys →
-        cond b (x ∷ filter p (xs ++ ys)) (filter p (xs ++ ys)) ≡ cond b (x ∷ filter p xs) (filter p xs) ++ filter p ys
-    go true ih = ap (λ zs. x ∷ zs) ih
-    go false ih = ih
-
-noted-contents : (h : Heap) (slots : Slots) → filter (is_noted h) (contents slots) ≡ flat_map (noted_content h) slots
+-- what is noted of all places together
+noted-contents : (h : Heap) (places : Slots) → filter (is_noted h) (contents places) ≡ flat_map (noted_content h) places
 noted-contents h [] = refl
-noted-contents h (y ∷ slots) =
-    filter-append (is_noted h) (option_to_list y) (contents slots) ∙ ap (λ xs. noted_content h y ++ xs) (noted-contents h slots)
+noted-contents h (y ∷ places) =
+    filter-append (is_noted h) (option_to_list y) (contents places) ∙ ap (λ xs. noted_content h y ++ xs) (noted-contents h places)
 
 -- What is noted
 
-note-native : (v : Keyed) (key : NKey) → IsInOrder [] v → (s : StandsAt v key.0) → to_note v.heap (the_name v (held.Native key)) ≡ Some (contents_at v (held.Native key))
-note-native v key order s =
+note-native : (v : Keyed) (key : NKey) → (s : StandsAt v key.0) → to_note v.heap (the_name v (held.Native key)) ≡ Some (contents_at v (held.Native key))
+note-native v key s =
     ap (to_note v.heap) (native-name v key s)
     ∙ ap (λ (o : Option HeapNative). option_map (filter (is_noted v.heap)) (option_map (λ (n : HeapNative). targets (native_edges n)) o)) s.found
-    ∙ ap (λ ys. Some (filter (is_noted v.heap) ys)) (targets-native s.body (order.alone.unpreserved s.body (StandsAt-member v key.0 s)))
-    ∙ ap Some (noted-contents v.heap s.body.slots)
-    ∙ ap (λ slots. Some (flat_map (noted_content v.heap) slots)) (sym (native-slots v key s))
+    ∙ ap (λ ys. Some (filter (is_noted v.heap) ys)) (sym (contents-places s.body))
+    ∙ ap Some (noted-contents v.heap (places_of_native s.body))
+    ∙ ap (λ places. Some (flat_map (noted_content v.heap) places)) (sym (native-places v key s))
+
+-- where a name is none of a native, what is noted is that of a script object
+note-script : (h : Heap) (x : Name) → is_native x ≡ false → to_note h x ≡ option_map (filter (is_noted h)) (option_map (λ o. targets (script_edges o)) (script_at h x))
+note-script h (name.Native k) e = absurd (true≢false e)
+note-script h (name.Script k) e = refl
+note-script h (name.Reflector k) e = refl
 
 note-object : (v : Keyed) (key : SKey) → (s : IsObjectAt v key.0) → to_note v.heap (the_name v (held.Script key)) ≡ Some (contents_at v (held.Script key))
 note-object v key s =
     let o = named_object v.scripts s.body in
-    ap (to_note v.heap) (object-name v key s ∙ s.name)
-    ∙ ap (λ x. option_map (filter (is_noted v.heap)) (option_map (λ (p : HeapScript). targets (script_edges p)) (script_at v.heap x))) (sym s.name)
+    ap (to_note v.heap) (object-name v key s)
+    ∙ note-script v.heap s.body.name s.kind
     ∙ ap (λ (p : Option HeapScript). option_map (filter (is_noted v.heap)) (option_map (λ (p : HeapScript). targets (script_edges p)) p)) s.found
-    ∙ ap (λ ys. Some (filter (is_noted v.heap) ys)) (targets-object o s.number s.name)
-    ∙ ap Some (noted-contents v.heap o.slots)
-    ∙ ap (λ slots. Some (flat_map (noted_content v.heap) slots)) (sym (object-slots v key s))
+    ∙ ap (λ ys. Some (filter (is_noted v.heap) ys)) (sym (contents-places_of_script o))
+    ∙ ap Some (noted-contents v.heap (places_of_script o))
+    ∙ ap (λ places. Some (flat_map (noted_content v.heap) places)) (sym (object-places v key s))
 
 pub note-there : (v : Keyed) (object : Held) → IsInOrder [] v → IsThere v (Some object) → to_note v.heap (the_name v object) ≡ Some (contents_at v object)
-note-there v (held.Native key) order there = note-native v key order (stands-at v key order there)
+note-there v (held.Native key) order there = note-native v key (stands-at v key order there)
 note-there v (held.Script key) order there = note-object v key (object-at v key order there)
 
 -- What is sampled
+
+sample-script : (h : Heap) (x : Name) → is_native x ≡ false → sample h x ≡ None
+sample-script h (name.Native k) e = absurd (true≢false e)
+sample-script h (name.Script k) e = refl
+sample-script h (name.Reflector k) e = refl
 
 pub sample-there : (v : Keyed) (object : Held) → IsInOrder [] v → IsThere v (Some object) → sample v.heap (the_name v object) ≡ sample_of v object
 sample-there v (held.Native key) order there =
@@ -92,11 +78,11 @@ sample-there v (held.Native key) order there =
     ∙ ap Some (sym (shown-count v key.0 s))
 sample-there v (held.Script key) order there =
     let s = object-at v key order there in
-    ap (sample v.heap) (object-name v key s ∙ s.name)
+    ap (sample v.heap) (object-name v key s) ∙ sample-script v.heap s.body.name s.kind
 
 pub sample-kind : (v : Keyed) (object : Held) → IsInOrder [] v → IsThere v (Some object) → IsSampleOf (sample_of v object) (the_name v object)
 sample-kind v (held.Native key) order there = ap is_native (native-name v key (stands-at v key order there))
-sample-kind v (held.Script key) order there = let s = object-at v key order there in ap is_native (object-name v key s ∙ s.name)
+sample-kind v (held.Script key) order there = let s = object-at v key order there in ap is_native (object-name v key s) ∙ s.kind
 
 -- Nothing is there to be noted where a native is no more
 

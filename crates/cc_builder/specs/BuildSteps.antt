@@ -2,9 +2,8 @@
 use Rattle.std.specs.Prelude.{ℕ, ◌+◌, ◌-◌, true, false, List, [], ◌∷◌, ◌++◌, map, filter, flat_map, Option, Some, None, option_to_list, slice_index_or}
 use Rattle.cc_names.specs.declared.name.Name.{Name}
 use Rattle.cc_names.specs.Names.{native}
-use Rattle.cc_model.specs.Checks.{slots_or_none}
-use Rattle.cc_model.specs.Heap.{Heap, slots_in}
-use Rattle.cc_model.specs.Slots.{Slots, from_to}
+use Rattle.cc_model.specs.Heap.{Heap}
+use Rattle.cc_model.specs.Slots.{from_to}
 use Rattle.cc_model.specs.Snapshot.{Snapshot}
 use Rattle.cc_model.specs.Units.{with_nodes, is_noted}
 use Rattle.cc_counted.specs.declared.held.Held.{Held}
@@ -13,6 +12,7 @@ use Rattle.cc_counted.specs.Counts as counts
 use Rattle.cc_graph.specs.Shown.{Vertex, with_vertex, with_sample, change_vertex}
 use Rattle.cc_heaps.specs.Keyed.{Keyed, counts_of}
 use Rattle.cc_heaps.specs.Changes.{held_name}
+use Rattle.cc_heaps.specs.Places.{places_at}
 use Rattle.cc_counted.specs.Suspects.{is_purple_in}
 use Rattle.cc_builder.specs.Building.{Built}
 
@@ -20,25 +20,21 @@ use Rattle.cc_builder.specs.Building.{Built}
 abbrev pub the_name : Keyed → Held → Name
 the_name v object = elim (held_name v (Some object)) [ None ↦ native 0 | Some x ↦ x ]
 
--- its slots
-abbrev pub held_slots : Keyed → Held → Slots
-held_slots v object = slots_or_none (slots_in v.heap (the_name v object))
-
 -- its count, where it is a native
 abbrev pub sample_of : Keyed → Held → Option ℕ
 sample_of v (held.Native key) = Some (counts.count_of (counts_of v) key.0)
 sample_of v (held.Script key) = None
 
--- what a slot holds, where a reference to it is noted: one name or none
+-- what a place has, where a reference to it is noted: one name or none
 abbrev pub noted_content : Heap → Option Name → List Name
 noted_content h x = filter (is_noted h) (option_to_list x)
 
-abbrev pub noted_slot : Keyed → Held → ℕ → List Name
-noted_slot v object i = noted_content v.heap (slice_index_or (held_slots v object) i None)
+abbrev pub noted_place : Keyed → Held → ℕ → List Name
+noted_place v object i = noted_content v.heap (slice_index_or (places_at v object) i None)
 
--- all that its slots hold so, in order
+-- all that an object's places have so, in order
 abbrev pub contents_at : Keyed → Held → List Name
-contents_at v object = flat_map (noted_content v.heap) (held_slots v object)
+contents_at v object = flat_map (noted_content v.heap) (places_at v object)
 
 -- the name of native k where it is purple in the buffer
 abbrev pub purple_name : Heap → ℕ → List Name

@@ -60,7 +60,8 @@ impl Model for Build {
 
 impl Build {
     /// Begins a collection: the purple natives of the buffer, in its order, become nodes (the candidates), then each
-    /// native that holds a gray script object, by rising number; and the buffer is emptied.
+    /// native that holds a gray script object, in a slot or as its preserved reflector, by rising number; and the buffer
+    /// is emptied.
     ///
     /// `NoMemory`, only where a node is added, leaves the buffer's contents, order and marks as they were.
     pub fn begin(alloc: Global, heaps: &mut Heaps) -> Result<Build, NoMemory>
@@ -85,7 +86,8 @@ impl Build {
         Ok(build)
     }
 
-    /// Each native that holds a gray script object becomes a node, by rising number, last, where it is none.
+    /// Each native that holds a gray script object, in a slot or as its preserved reflector, becomes a node, by rising
+    /// number, last, where it is none.
     ///
     /// `NoMemory` only where there is such a native.
     fn add_holders(&mut self, heaps: &Heaps) -> Result<(), NoMemory>

@@ -8,3 +8,6 @@
 mod build;
 
 pub use build::{Build, Step};
+
+#[cfg(test)]
+mod tests;

@@ -6,10 +6,11 @@ ghost use Rattle.cc_model.specs.End.{may_be_refused};
 ghost use Rattle.cc_laws_snapshot.specs.Kinds.{IsFreshIn};
 ghost use Rattle.cc_heaps.specs.Keyed.{IsInOrder};
 ghost use Rattle.cc_heaps.specs.Changes.{IsThere, held_name};
+ghost use Rattle.cc_heaps.specs.Places.{places_at};
 ghost use Rattle.cc_builder.specs.Building.{IsBuilt, IsNodeUnit, vertex_name, snapshot_of};
 ghost use Rattle.cc_graph.specs.Held.{AreHeld};
 ghost use Rattle.cc_heaps.specs.HasKey.{HasKey};
-ghost use Rattle.cc_builder.specs.BuildSteps.{contents_at, noting, noting_one, sample_of, noted_slot, held_slots, the_name, with_next_passed, with_room};
+ghost use Rattle.cc_builder.specs.BuildSteps.{contents_at, noting, noting_one, sample_of, noted_place, the_name, with_next_passed, with_room};
 
 use crate::build::{Build, Step};
 use cc_counted::Held;
@@ -18,7 +19,9 @@ use cc_names::{Colour, NoMemory};
 
 impl Build {
     /// One node: the first that is not traversed. The count of a native is sampled, and its references are noted: to
-    /// natives, and to script objects that are gray. What they lead to becomes a node, last, where it is none.
+    /// natives, to script objects that are gray, and to its preserved reflector where that is gray. Of a script object
+    /// those to gray ones are noted and, of a reflector, the one to its native. What they lead to becomes a node, last,
+    /// where it is none.
     ///
     /// `NoMemory` only where there is something to note; the build is then only to be abandoned.
     pub fn step(&mut self, heaps: &Heaps) -> Result<Step, NoMemory>
@@ -96,7 +99,7 @@ impl Build {
         self.reserve(references_of(heaps, object))?;
         let node = self.next;
         self.pass_next(sample_of(heaps, object));
-        self.note_slots(node, object, heaps)
+        self.note_places(node, object, heaps)
     }
 
     /// Room for so many references more.
@@ -125,9 +128,9 @@ impl Build {
         self.next += 1;
     }
 
-    /// What an object holds in its slots, as far as it is noted, becomes nodes, where it is none, and references of `node`
-    /// to it are noted.
-    fn note_slots(&mut self, node: u32, object: Held, heaps: &Heaps) -> Result<(), NoMemory>
+    /// What an object refers to, as far as it is noted, becomes nodes, where it is none, and references of `node` to it are
+    /// noted.
+    fn note_places(&mut self, node: u32, object: Held, heaps: &Heaps) -> Result<(), NoMemory>
         requires built { IsBuilt self.old heaps.now }
         requires held { AreHeld self.old.graph (HasKey heaps.now) }
         requires order { IsInOrder [] heaps.now }
@@ -141,31 +144,31 @@ impl Build {
         ensures built { IsBuilt self.new heaps.now }
         ensures held { AreHeld self.new.graph (HasKey heaps.now) }
     {
-        let slots = slot_count(heaps, object);
-        for i in 0..slots {
-            self.note_slot(node, object, i, heaps)?;
+        let places = heaps.places(object);
+        for i in 0..places {
+            self.note_place(node, object, i, heaps)?;
         }
         Ok(())
     }
 
-    /// What an object holds in its slot `i` becomes a node, where it is none, and a reference of `node` to it is noted;
-    /// nothing where the slot is empty or holds a black script object.
+    /// What an object refers to at place `i` becomes a node, where it is none, and a reference of `node` to it is noted;
+    /// nothing where the place is empty or has a black script object.
     ///
     /// `NoMemory` leaves the build as it was.
-    fn note_slot(&mut self, node: u32, object: Held, i: u8, heaps: &Heaps) -> Result<(), NoMemory>
+    fn note_place(&mut self, node: u32, object: Held, i: u8, heaps: &Heaps) -> Result<(), NoMemory>
         requires built { IsBuilt self.old heaps.now }
         requires held { AreHeld self.old.graph (HasKey heaps.now) }
         requires order { IsInOrder [] heaps.now }
         requires within { node < length self.old.graph.nodes }
         requires there { IsThere heaps.now (Some object) }
-        requires slot { i < length (held_slots heaps.now object) }
-        requires room { length (noted_slot heaps.now object i) ≤ self.old.graph.spare }
-        ensures noted { OnOk result (snapshot_of self.new ≡ noting (snapshot_of self.old) (vertex_name self.old.graph.nodes node) (noted_slot heaps.now object i)) }
+        requires place { i < length (places_at heaps.now object) }
+        requires room { length (noted_place heaps.now object i) ≤ self.old.graph.spare }
+        ensures noted { OnOk result (snapshot_of self.new ≡ noting (snapshot_of self.old) (vertex_name self.old.graph.nodes node) (noted_place heaps.now object i)) }
         ensures node { vertex_name self.new.graph.nodes node ≡ vertex_name self.old.graph.nodes node }
         ensures within { node < length self.new.graph.nodes }
-        ensures spare { OnOk result (self.new.graph.spare + length (noted_slot heaps.now object i) ≡ self.old.graph.spare) }
+        ensures spare { OnOk result (self.new.graph.spare + length (noted_place heaps.now object i) ≡ self.old.graph.spare) }
         ensures refused { OnErr result (self.new ≡ self.old) }
-        ensures held_there { OnErr result (noted_slot heaps.now object i ≢ []) }
+        ensures held_there { OnErr result (noted_place heaps.now object i ≢ []) }
         ensures next { self.new.next ≡ self.old.next }
         ensures built { IsBuilt self.new heaps.now }
         ensures held { AreHeld self.new.graph (HasKey heaps.now) }
@@ -210,35 +213,6 @@ fn sample_of(heaps: &Heaps, object: Held) -> Option<u32>
     }
 }
 
-/// How many slots an object has.
-fn slot_count(heaps: &Heaps, object: Held) -> u8
-    requires order { IsInOrder [] heaps.now }
-    requires there { IsThere heaps.now (Some object) }
-    ensures { result ≡ length (held_slots heaps.now object) }
-{
-    match object {
-        Held::Native(key) => heaps.counted().slots(key),
-        Held::Script(key) => heaps.scripts().slots(key),
-    }
-}
-
-/// What slot `i` of an object holds.
-fn content_of(heaps: &Heaps, object: Held, i: u8) -> Option<Held>
-    requires order { IsInOrder [] heaps.now }
-    requires there { IsThere heaps.now (Some object) }
-    requires slot { i < length (held_slots heaps.now object) }
-    ensures name { held_name heaps.now result ≡ slice_index_or (held_slots heaps.now object) i None }
-    ensures there { IsThere heaps.now result }
-{
-    match object {
-        Held::Native(key) => heaps.counted().slot(key, i),
-        Held::Script(key) => match heaps.scripts().slot(key, i) {
-            Some(content) => Some(Held::Script(content)),
-            None => None,
-        },
-    }
-}
-
 /// Whether references to an object are noted: to a native, and to a script object that is gray.
 fn is_noted(heaps: &Heaps, object: Held) -> bool
     requires order { IsInOrder [] heaps.now }
@@ -251,16 +225,16 @@ fn is_noted(heaps: &Heaps, object: Held) -> bool
     }
 }
 
-/// What slot `i` of an object holds, where a reference to it is noted.
+/// What an object refers to at place `i`, where the reference is noted.
 fn noted_at(heaps: &Heaps, object: Held, i: u8) -> Option<Held>
     requires order { IsInOrder [] heaps.now }
     requires there { IsThere heaps.now (Some object) }
-    requires slot { i < length (held_slots heaps.now object) }
-    ensures name { option_to_list (held_name heaps.now result) ≡ noted_slot heaps.now object i }
+    requires place { i < length (places_at heaps.now object) }
+    ensures name { option_to_list (held_name heaps.now result) ≡ noted_place heaps.now object i }
     ensures there { IsThere heaps.now result }
 {
-    match content_of(heaps, object, i) {
-        Some(content) if is_noted(heaps, content) => Some(content),
+    match heaps.place(object, i) {
+        Some(target) if is_noted(heaps, target) => Some(target),
         _ => None,
     }
 }
@@ -271,20 +245,20 @@ fn references_of(heaps: &Heaps, object: Held) -> usize
     requires there { IsThere heaps.now (Some object) }
     ensures { result ≡ length (contents_at heaps.now object) }
 {
-    let slots = slot_count(heaps, object);
+    let places = heaps.places(object);
     let mut references = 0;
-    for i in 0..slots {
+    for i in 0..places {
         references += references_at(heaps, object, i);
     }
     references
 }
 
-/// How many references of a slot are noted: 1 or none.
+/// How many references of a place are noted: 1 or none.
 fn references_at(heaps: &Heaps, object: Held, i: u8) -> usize
     requires order { IsInOrder [] heaps.now }
     requires there { IsThere heaps.now (Some object) }
-    requires slot { i < length (held_slots heaps.now object) }
-    ensures noted { result ≡ length (noted_slot heaps.now object i) }
+    requires place { i < length (places_at heaps.now object) }
+    ensures noted { result ≡ length (noted_place heaps.now object i) }
     ensures one { result ≤ 1 }
 {
     match noted_at(heaps, object, i) {

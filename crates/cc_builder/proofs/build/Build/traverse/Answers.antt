@@ -21,8 +21,8 @@ pass_next-requires-clause-few c =
     let v = c.args.heaps.now in
     omega (arith, nodes-limited c.reserve.new.self v c.requires.order (IsBuilt-roomed c.args.self.now c.reserve.new.self v c.in_ok-reserve.ensures.rest c.requires.built))
 
-pub note_slots-requires-clause-built : goal.note_slots-requires-clause-built
-note_slots-requires-clause-built c =
+pub note_places-requires-clause-built : goal.note_places-requires-clause-built
+note_places-requires-clause-built c =
     let b = c.args.self.now in
     let d = c.reserve.new.self in
     let v = c.args.heaps.now in
@@ -34,8 +34,8 @@ note_slots-requires-clause-built c =
     (subst (λ n. IsSampleOf n (vertex_name b.graph.nodes b.next)) (sym c.sample_of.ensures)
     (subst (IsSampleOf (sample_of v c.args.object)) c.requires.name (sample-kind v c.args.object c.requires.order c.requires.there)))))
 
-pub note_slots-requires-clause-held : goal.note_slots-requires-clause-held
-note_slots-requires-clause-held c =
+pub note_places-requires-clause-held : goal.note_places-requires-clause-held
+note_places-requires-clause-held c =
     let d = c.reserve.new.self in
     let v = c.args.heaps.now in
     subst (λ (a : Built). AreHeld a.graph (HasKey v)) (sym c.pass_next.ensures)
@@ -43,14 +43,14 @@ note_slots-requires-clause-held c =
 
 pub returns-clause-candidates : goal.returns-clause-candidates
 returns-clause-candidates c =
-    c.note_slots.ensures.candidates ∙ candidates-traversed c.args.self.now c.reserve.new.self c.pass_next.new.self c.sample_of.result c.in_ok-reserve.ensures.rest c.pass_next.ensures
+    c.note_places.ensures.candidates ∙ candidates-traversed c.args.self.now c.reserve.new.self c.pass_next.new.self c.sample_of.result c.in_ok-reserve.ensures.rest c.pass_next.ensures
 
 pub returns-clause-noted : goal.returns-clause-noted
 returns-clause-noted c =
     let b = c.args.self.now in
     let v = c.args.heaps.now in
     let rest = c.in_ok-reserve.ensures.rest in
-    on_ok_weaker c.note_slots.result
+    on_ok_weaker c.note_places.result
     (λ e. e ∙ noting-traversed b c.reserve.new.self c.pass_next.new.self c.sample_of.result (sample_of v c.args.object) c.self.inside.next (contents_at v c.args.object)
     rest c.pass_next.ensures (ap (λ (a : Built). a.next) (c.self.view_is ∙ rest)) c.sample_of.ensures)
-    c.note_slots.ensures.noted
+    c.note_places.ensures.noted

@@ -1,4 +1,4 @@
--- What is noted of an object's slots.
+-- What is noted of an object's places.
 use Rattle.std.proofs.Common.{◌≢◌, ℕ, zero, suc, List, [], ◌∷◌, ◌++◌, get_or, None, flat_map, refl}
 use Rattle.cc_model.specs.Heap.{Heap}
 use Rattle.cc_model.specs.Slots.{Slots}
@@ -13,8 +13,8 @@ right-some : {X : Type 0} (xs ys : List X) → ys ≢ [] → xs ++ ys ≢ []
 right-some [] ys some e = some e
 right-some (x ∷ xs) ys some e = cc
 
--- where something is noted of one slot, there is something to note
-pub contents-some : (h : Heap) (slots : Slots) (i : ℕ) → noted_content h (get_or slots i None) ≢ [] → flat_map (noted_content h) slots ≢ []
+-- where something is noted of one place, there is something to note
+pub contents-some : (h : Heap) (places : Slots) (i : ℕ) → noted_content h (get_or places i None) ≢ [] → flat_map (noted_content h) places ≢ []
 contents-some h [] i some = some
-contents-some h (x ∷ slots) zero some = left-some (noted_content h x) (flat_map (noted_content h) slots) some
-contents-some h (x ∷ slots) (suc i) some = right-some (noted_content h x) (flat_map (noted_content h) slots) (contents-some h slots i some)
+contents-some h (x ∷ places) zero some = left-some (noted_content h x) (flat_map (noted_content h) places) some
+contents-some h (x ∷ places) (suc i) some = right-some (noted_content h x) (flat_map (noted_content h) places) (contents-some h places i some)
