@@ -15,6 +15,7 @@ pub mod LeftWith
 pub mod ContentNames
 pub mod EventsTold
 pub mod SlotsHeld
+pub mod PlacesRead
 pub mod Made
 pub mod Reaching
 pub mod ScriptsChanged
