@@ -37,3 +37,7 @@ pub mod Following
 pub mod StandingStill
 pub mod StandingAfter
 pub mod KeysKept
+pub mod Reflecting
+pub mod ReflectingMade
+pub mod ReflectingPreserved
+pub mod ReflectingWritten
