@@ -38,3 +38,7 @@ pub mod Following
 pub mod StandingStill
 pub mod StandingAfter
 pub mod KeysKept
+pub mod Reflecting
+pub mod ReflectingMade
+pub mod ReflectingPreserved
+pub mod ReflectingWritten
