@@ -9,14 +9,14 @@ use Rattle.cc_model.specs.declared.item.Item.TheVariants.{Event as of_event}
 use Rattle.cc_model.specs.Telling.{Telling, Tells}
 use Rattle.cc_model.specs.Texts.{texts_of}
 use Rattle.cc_model.specs.Slots.{contents}
-use Rattle.cc_model.specs.Heap.{Heap, HeapNative, Outcome, native_at, suspect}
+use Rattle.cc_model.specs.Heap.{Heap, HeapNative, Outcome, native_at, set_preserved, suspect}
 use Rattle.cc_model.specs.Cascade.{add_ref, cascade}
 use Rattle.cc_model.specs.End.{unlink}
 use Rattle.cc_model.specs.WellFormed.{native_names}
 use Rattle.cc_model.specs.Counts.{times}
 use Rattle.cc_laws_heap.proofs.CountBound.{count-bound}
 use Rattle.cc_laws_heap.proofs.Natives.{native_at-there, native_at-number}
-use Rattle.cc_counted.specs.Counts.{Counts, key_left, number_or_none, count_at, with_heap}
+use Rattle.cc_counted.specs.Counts.{Counts, key_left, reflectors_left, number_or_none, count_at, with_heap}
 use Rattle.cc_counted.specs.Counts as counts
 use Rattle.cc_script.specs.Objects.{Object}
 use Rattle.cc_heaps.specs.declared.heaps.Heaps.TheInside.{Inside}
@@ -24,8 +24,8 @@ use Rattle.cc_heaps.specs.Keyed.{Keyed, IsInOrder, keyed_native, number_at, the_
 use Rattle.cc_heaps.specs.Named.{named, named_native}
 use Rattle.cc_heaps.specs.Fields.{heap_of, keyed_of, IsLinked}
 use Rattle.cc_heaps.proofs.Keying.{AreHeldThere}
-use Rattle.cc_heaps.proofs.Linked.{IsLinked-counted, held-add_ref, held-cascade, held-unlink, with_counted}
-use Rattle.cc_heaps.proofs.Naming.{native_at-shown, native_names-shown, add_ref-shown, cascade-shown, unlink-shown, outcome_shown, shown}
+use Rattle.cc_heaps.proofs.Linked.{IsLinked-counted, reflectors-left, held-add_ref, held-cascade, held-preserved, held-unlink, with_counted}
+use Rattle.cc_heaps.proofs.Naming.{native_at-shown, native_names-shown, add_ref-shown, set_preserved-shown, cascade-shown, unlink-shown, outcome_shown, shown}
 use Rattle.cc_heaps.proofs.Ordered.{IsInOrder-cascade, IsInOrder-unlink}
 use Rattle.cc_heaps.proofs.Registers.{AreLive-same, left-same, registers-same}
 
@@ -76,9 +76,9 @@ module _ {p : Inside} {next : Counts} {alone whole : Heap} (l : Changes p next a
   changed-order {owned} o = subst (IsInOrder owned) (sym changed-keyed) o
 
   pub changed-linked : IsLinked (with_counted p next)
-  changed-linked = subst (λ d. IsLinked (with_counted p d)) (sym l.is) (IsLinked-counted p (with_heap p.counted alone) l.linked.native_registers l.held l.linked)
+  changed-linked = subst (λ d. IsLinked (with_counted p d)) (sym l.is) (IsLinked-counted p (with_heap p.counted alone) l.linked.native_registers l.held l.linked.reflectors l.linked)
 
--- a reference to native k given back, and one more taken
+-- a native given back, one more reference to it taken, and its reflector preserved
 module _ (p : Inside) (l : IsLinked p) (k : ℕ) where
   pub give_back-changes : {next : Counts} → next ≡ with_heap p.counted (suspect (counts.heap_of p.counted) k) → Changes p next (suspect (counts.heap_of p.counted) k) (suspect (heap_of p) k)
   give_back-changes is = record { linked = l; is = is; beside = refl; held = l.held }
@@ -89,6 +89,15 @@ module _ (p : Inside) (l : IsLinked p) (k : ℕ) where
     is = is;
     beside = add_ref-shown p.scripts (heap_of p) (counts.heap_of p.counted) k;
     held = held-add_ref p.scripts (counts.heap_of p.counted) l.held k;
+  }
+
+  pub preserve-changes : {next : Counts} → next ≡ with_heap p.counted (set_preserved (counts.heap_of p.counted) k true) →
+      Changes p next (set_preserved (counts.heap_of p.counted) k true) (set_preserved (heap_of p) k true)
+  preserve-changes is = record {
+    linked = l;
+    is = is;
+    beside = set_preserved-shown p.scripts (heap_of p) (counts.heap_of p.counted) k true;
+    held = held-preserved p.scripts (counts.heap_of p.counted) l.held k true;
   }
 
 -- Natives left
@@ -142,7 +151,9 @@ module _ {p : Inside} {next : Counts} {owned : List ℕ} {call : Heap → Outcom
       (IsLinked-counted p (counts.left_with p.counted alone.heap)
       (AreLive-same p.counted.keys left_keys p.native_registers.items
       (left-same p.counted.keys alone.heap p.native_registers.items l.linked.native_registers registers-there) l.linked.native_registers)
-      l.held l.linked)
+      l.held
+      (ap (reflectors_left left_keys) l.linked.reflectors ∙ reflectors-left p.scripts alone.heap p.counted.keys)
+      l.linked)
 
 -- a reference to the native at a key given up, and that native unlinked
 module _ (p : Inside) (l : IsLinked p) (key : ℕ) (f : (owned : List ℕ) × IsInOrder (the_number (keyed_of p) key ∷ owned) (keyed_of p)) where

@@ -1,8 +1,10 @@
 -- WHAT CALLS DO TO SCRIPT OBJECTS AND SCRIPT REGISTERS: an exposure, a slot written, a register written, an object made.
 use Rattle.std.proofs.Common.{◌≡◌, ℕ, zero, suc, ◌+◌, ◌<◌, ◌≤◌, Bool, true, false, cond, List, [], ◌∷◌, ◌++◌, map, replicate, Option, Some, None, option_map, is_some, refl, sym, ◌∙◌, ap, subst, ⊎_elim, arith, count_by, ◌==◌}
 use Rattle.std.specs.Prelude.{IsTrue, slice_set}
-use Rattle.std.specs.Option.{option_or}
+use Rattle.std.specs.Option.{option_and_then, option_or}
+use Rattle.std.specs.List.{find}
 use Rattle.std.specs.Vec.{with_item}
+use Rattle.std.proofs.Math.Path.{fun_ext}
 use Rattle.std.proofs.lemmas.Bool.{eqb-true, eq-eqb, true≢false}
 use Rattle.std.proofs.lemmas.List.{length-replicate, length-set, map-set, map_push}
 use Rattle.std.proofs.lemmas.List.Folds.{find-append}
@@ -14,9 +16,9 @@ use Rattle.cc_lists.proofs.ListWrites.{each-push, Among-set_cases, map-agree}
 use Rattle.cc_names.specs.declared.name.Name.{Name}
 use Rattle.cc_names.specs.declared.number.SKey.{SKey}
 use Rattle.cc_names.specs.declared.register.Reg.TheVariants.{S as s_register}
-use Rattle.cc_names.specs.declared.kind.Kind.TheVariants.{Plain}
+use Rattle.cc_names.specs.declared.kind.Kind.TheVariants.{Plain, Map}
 use Rattle.cc_names.specs.declared.kind.Colour.TheVariants.{Black}
-use Rattle.cc_names.specs.Names.{object, is_native}
+use Rattle.cc_names.specs.Names.{object, reflector, same_name, is_native}
 use Rattle.cc_model.specs.Slots.{empty_slots}
 use Rattle.cc_model.specs.Heap.{Heap, HeapScript, set_register, set_slot}
 use Rattle.cc_model.specs.Effects.{with_object}
@@ -30,14 +32,15 @@ use Rattle.cc_laws_heap.proofs.ScriptsKept.{exposed-sound, script_slot-sound}
 use Rattle.cc_laws_heap.proofs.ScriptCommands.{blank, IsNewScript-object}
 use Rattle.cc_script.specs.Objects.{Object, AreWhole, change_object, is_there, name_at, object_at, plain_object, raised_among, with_slot}
 use Rattle.cc_script.specs.Walking.{keys_reached}
-use Rattle.cc_heaps.specs.Keyed.{Keyed, IsInOrder, name_held, named_object, named_objects}
+use Rattle.cc_heaps.specs.Keyed.{Keyed, IsInOrder, Reflects, key_of, name_held, named_object, named_objects, reflectors_by}
 use Rattle.cc_heaps.specs.Changes.{IsScriptThere, KeepsKeys, script_name}
 use Rattle.cc_heaps.specs.Named.{script_named, IsScriptLive}
 use Rattle.cc_heaps.specs.Fields.{heap_of, keyed_of, IsLinked}
 use Rattle.cc_heaps.specs.declared.heaps.Heaps.TheInside.{Inside}
+use Rattle.cc_heaps.proofs.Keys.{Reflects-kept}
 use Rattle.cc_heaps.proofs.Reaching.{HasOneKey, object_at-own, name_at-found}
 use Rattle.cc_heaps.proofs.ScriptsChanged.{KeepsNames, KeepsNames-there, KeepsNames-same, there-named, with_objects, with_named, heap-objects, keys-objects, linked-objects, order-objects}
-use Rattle.cc_heaps.proofs.ScriptWrites.{KeepsObjects, KeepsNames-written, one_key-written, plain-written, raise_among, KeepsObjects-raised, whole-raised, exposed-named, write_slot, KeepsObjects-slot, whole-slot, slot-named}
+use Rattle.cc_heaps.proofs.ScriptWrites.{KeepsObjects, KeepsNames-written, one_key-written, no_maps-written, reflectors-written, reflecting-written, raise_among, KeepsObjects-raised, whole-raised, exposed-named, write_slot, KeepsObjects-slot, whole-slot, slot-named}
 
 -- the second parts hold these heaps, fit together and are in order, and what is there keeps its key and its name
 pub record Becomes (p q : Inside) (h : Heap) : Type 0 where
@@ -75,21 +78,24 @@ nothing-exposed v (Some key) none = absurd (none key refl)
 module _ (p : Inside) (l : IsLinked p) (o : IsInOrder [] (keyed_of p)) where
   -- other script objects, as the definitions change them
   becomes : (objects : List Object) (made : ℕ) (h : Heap) → KeepsNames p.scripts objects → with_named (heap_of p) objects made ≡ h → IsSound [] h →
-      HasOneKey objects → AreWhole objects → ((s : HeapScript) → Among s (named_objects objects) → s.kind ≡ Plain) → Becomes p (with_objects p objects made) h
-  becomes objects made h kept e s one whole plain =
+      HasOneKey objects → AreWhole objects → ((s : HeapScript) → Among s (named_objects objects) → ¬ (s.kind ≡ Map)) →
+      reflectors_by objects p.counted.keys ≡ reflectors_by p.scripts p.counted.keys → ((q : Object) → Among q objects → Reflects (keyed_of p) q.name q.native) →
+      Becomes p (with_objects p objects made) h
+  becomes objects made h kept e s one whole no_maps reflectors reflecting =
       let sound : IsSound [] (with_named (heap_of p) objects made) = subst (IsSound []) (sym e) s in record {
         heap = heap-objects p objects made kept l ∙ e;
         names = kept;
         keys = keys-objects p objects made kept l;
-        order = order-objects p objects made kept l [] sound one whole plain o;
-        linked = linked-objects p objects made kept l [] sound one;
+        order = order-objects p objects made kept l [] sound one reflectors whole no_maps reflecting o;
+        linked = linked-objects p objects made kept l [] sound one reflectors;
       }
 
   -- each object written
   becomes-written : (f : Object → Object) → KeepsObjects f → (h : Heap) → with_named (heap_of p) (map f p.scripts) p.scripts_made ≡ h → IsSound [] h →
       AreWhole (map f p.scripts) → Becomes p (with_objects p (map f p.scripts) p.scripts_made) h
   becomes-written f keeps h e s whole = becomes (map f p.scripts) p.scripts_made h (KeepsNames-written f keeps p.scripts) e s
-      (one_key-written f keeps p.scripts l.one_key) whole (plain-written f keeps p.scripts o.alone.plain)
+      (one_key-written f keeps p.scripts l.one_key) whole (no_maps-written f keeps p.scripts o.without_maps.no_maps)
+      (reflectors-written f keeps p.scripts p.counted.keys) (reflecting-written f keeps p.scripts (keyed_of p) o.reflecting)
 
   -- AN EXPOSURE
   pub becomes-exposed : (key : ℕ) → IsTrue (is_there p.scripts key) → (objects : List Object) → objects ≡ raised_among (keys_reached p.scripts (key ∷ [])) Black p.scripts →
@@ -155,12 +161,9 @@ module _ (p : Inside) (l : IsLinked p) (o : IsInOrder [] (keyed_of p)) where
       named = refl;
       one_key = o.one_key;
       whole = o.whole;
+      reflecting = λ q m. Reflects-kept (keyed_of p) (keyed_of (with_register r content)) q.name q.native (λ key k is at. at) (o.reflecting q m);
       limits = o.limits;
-      alone = record {
-        plain = o.alone.plain;
-        unpreserved = o.alone.unpreserved;
-        no_entries = refl;
-      };
+      without_maps = record { no_maps = o.without_maps.no_maps; no_entries = refl };
     };
     linked = record {
       native_registers = l.native_registers;
@@ -172,6 +175,7 @@ module _ (p : Inside) (l : IsLinked p) (o : IsInOrder [] (keyed_of p)) where
       held = l.held;
       one_key = l.one_key;
       one_name = l.one_name;
+      reflectors = l.reflectors;
       script_names = l.script_names;
     };
   }
@@ -200,60 +204,63 @@ empty-named : (objects : List Object) (n : ℕ) → map (name_held objects) (rep
 empty-named objects zero = refl
 empty-named objects (suc n) = ap (λ slots. None ∷ slots) (empty-named objects n)
 
-module _ (objects : List Object) (one : HasOneKey objects) (whole : AreWhole objects) (key number n : ℕ) (vacant : is_there objects key ≡ false) where
+-- a new one at a key that held nothing, whose slots are empty
+module _ (objects : List Object) (one : HasOneKey objects) (whole : AreWhole objects) (new : Object) (n : ℕ) (empty : new.slots ≡ replicate n None)
+    (vacant : is_there objects new.key ≡ false) where
   -- with one more
   abbrev pub made_last : List Object
-  made_last = objects ++ plain_object key number n ∷ []
+  made_last = objects ++ new ∷ []
 
-  found-last : (k : ℕ) → object_at made_last k ≡ option_or (object_at objects k) (object_at (plain_object key number n ∷ []) k)
-  found-last k = find-append (λ o. o.key == k) objects (plain_object key number n ∷ [])
+  found-last : (k : ℕ) → object_at made_last k ≡ option_or (object_at objects k) (object_at (new ∷ []) k)
+  found-last k = find-append (λ o. o.key == k) objects (new ∷ [])
 
   pub KeepsNames-made : KeepsNames objects made_last
   KeepsNames-made k x e = ap (λ (o : Option Object). option_map (λ p. p.name) o) (found-last k) ∙ go (object_at objects k) e
     where
-      go : (o : Option Object) → option_map (λ p. p.name) o ≡ Some x → option_map (λ p. p.name) (option_or o (object_at (plain_object key number n ∷ []) k)) ≡ Some x
+      go : (o : Option Object) → option_map (λ p. p.name) o ≡ Some x → option_map (λ p. p.name) (option_or o (object_at (new ∷ []) k)) ≡ Some x
       go None f = absurd (cc)
       go (Some o) f = f
 
   -- it is what stands at its key
-  pub name_at-made : name_at made_last key ≡ Some (object number)
-  name_at-made = ap (λ (o : Option Object). option_map (λ p. p.name) o) (found-last key) ∙ go (object_at objects key) vacant
+  pub name_at-made : name_at made_last new.key ≡ Some new.name
+  name_at-made = ap (λ (o : Option Object). option_map (λ p. p.name) o) (found-last new.key) ∙ go (object_at objects new.key) vacant
     where
-      here : object_at (plain_object key number n ∷ []) key ≡ Some (plain_object key number n)
-      here = rw (eq-eqb key key refl) refl
+      here : object_at (new ∷ []) new.key ≡ Some new
+      here = rw (eq-eqb new.key new.key refl) refl
 
-      go : (o : Option Object) → is_some o ≡ false → option_map (λ p. p.name) (option_or o (object_at (plain_object key number n ∷ []) key)) ≡ Some (object number)
+      go : (o : Option Object) → is_some o ≡ false → option_map (λ p. p.name) (option_or o (object_at (new ∷ []) new.key)) ≡ Some new.name
       go None f = ap (λ (o : Option Object). option_map (λ p. p.name) o) here
       go (Some o) f = absurd (true≢false f)
 
-  one_key-made : HasOneKey made_last
-  one_key-made k = go (key == k) refl
+  pub one_key-made : HasOneKey made_last
+  one_key-made k = go (new.key == k) refl
     where
-      last : (b : Bool) → (key == k) ≡ b → count_by (λ o. o.key == k) made_last ≡ count_by (λ o. o.key == k) objects + cond b 1 0
-      last b e = rw (count_by-append (λ (o : Object). o.key == k) objects (plain_object key number n ∷ []), count_by-cons (λ (o : Object). o.key == k) (plain_object key number n) [], e) (omega arith)
+      last : (b : Bool) → (new.key == k) ≡ b → count_by (λ o. o.key == k) made_last ≡ count_by (λ o. o.key == k) objects + cond b 1 0
+      last b e = rw (count_by-append (λ (o : Object). o.key == k) objects (new ∷ []), count_by-cons (λ (o : Object). o.key == k) new [], e) (omega arith)
 
-      other : (key == k) ≡ true → (o : Object) → Among o objects → (o.key == k) ≡ false
+      other : (new.key == k) ≡ true → (o : Object) → Among o objects → (o.key == k) ≡ false
       other e o m = go (o.key == k) refl
         where
           go : (b : Bool) → (o.key == k) ≡ b → b ≡ false
           go false f = refl
           go true f =
-              let same : o.key ≡ key = eqb-true o.key k f ∙ sym (eqb-true key k e) in
-              let there : is_there objects key ≡ true = subst (λ j. is_there objects j ≡ true) same (ap is_some (object_at-own objects one o m)) in
+              let same : o.key ≡ new.key = eqb-true o.key k f ∙ sym (eqb-true new.key k e) in
+              let there : is_there objects new.key ≡ true = subst (λ j. is_there objects j ≡ true) same (ap is_some (object_at-own objects one o m)) in
               absurd (true≢false (sym there ∙ vacant))
 
-      go : (b : Bool) → (key == k) ≡ b → count_by (λ o. o.key == k) made_last ≤ 1
+      go : (b : Bool) → (new.key == k) ≡ b → count_by (λ o. o.key == k) made_last ≤ 1
       go true e = omega (arith, last true e, count_by-none (λ (o : Object). o.key == k) objects (other e))
       go false e = omega (arith, last false e, one k)
 
-  whole-made : AreWhole made_last
-  whole-made o q m = each-push (λ o. Among (Some q) o.slots → IsTrue (is_there made_last q)) objects (plain_object key number n)
-      (λ o i s. KeepsNames-there objects made_last KeepsNames-made q (whole o q i s)) (λ s. absurd (none-held n q s)) o m
+  pub whole-made : AreWhole made_last
+  whole-made o q m = each-push (λ o. Among (Some q) o.slots → IsTrue (is_there made_last q)) objects new
+      (λ o i s. KeepsNames-there objects made_last KeepsNames-made q (whole o q i s)) (λ s. absurd (none-held n q (subst (Among (Some q)) empty s))) o m
 
   -- by names it goes last too
-  named-made : named_objects made_last ≡ named_objects objects ++ blank (object number) Plain n ∷ []
-  named-made = map_push (named_object made_last) objects (plain_object key number n)
-      ∙ (λ i. map-agree (named_object made_last) (named_object objects) objects same i ++ record { name = object number; kind = Plain; slots = empty-named made_last n i; colour = Black } ∷ [])
+  pub named-made : named_objects made_last ≡ named_objects objects ++ record { name = new.name; kind = new.kind; slots = empty_slots n; colour = new.colour } ∷ []
+  named-made = map_push (named_object made_last) objects new
+      ∙ (λ i. map-agree (named_object made_last) (named_object objects) objects same i
+      ++ record { name = new.name; kind = new.kind; slots = (ap (map (name_held made_last)) empty ∙ empty-named made_last n) i; colour = new.colour } ∷ [])
     where
       at : (o : Object) → Among o objects → (x : Option ℕ) → Among x o.slots → name_held made_last x ≡ name_held objects x
       at o m None i = refl
@@ -262,21 +269,50 @@ module _ (objects : List Object) (one : HasOneKey objects) (whole : AreWhole obj
       same : (o : Object) → Among o objects → named_object made_last o ≡ named_object objects o
       same o m = ap (λ slots. record (named_object objects o) { slots = slots }) (map-agree (name_held made_last) (name_held objects) o.slots (at o m))
 
-  plain-made : ((s : HeapScript) → Among s (named_objects objects) → s.kind ≡ Plain) → (s : HeapScript) → Among s (named_objects made_last) → s.kind ≡ Plain
-  plain-made plain = subst (λ ss. (s : HeapScript) → Among s ss → s.kind ≡ Plain) (sym named-made)
-      (each-push (λ s. s.kind ≡ Plain) (named_objects objects) (blank (object number) Plain n) plain refl)
+  -- names other than its own have the keys that they had
+  pub key_of-made : (x : Name) → same_name new.name x ≡ false → key_of made_last x ≡ key_of objects x
+  key_of-made x other = ap (λ (o : Option Object). option_map (λ p. p.key) o) (find-append (λ o. same_name o.name x) objects (new ∷ [])
+      ∙ ap (option_or (find (λ o. same_name o.name x) objects)) none)
+      ∙ go (find (λ o. same_name o.name x) objects)
+    where
+      none : find (λ o. same_name o.name x) (new ∷ []) ≡ None
+      none = rw other refl
+
+      go : (o : Option Object) → option_map (λ (p : Object). p.key) (option_or o None) ≡ option_map (λ (p : Object). p.key) o
+      go None = refl
+      go (Some o) = refl
 
 -- AN OBJECT MADE
-pub becomes-made : (p : Inside) (l : IsLinked p) (o : IsInOrder [] (keyed_of p)) (key n : ℕ) → is_there p.scripts key ≡ false → n ≤ 64 → p.scripts_made < p.limits.scripts →
-    (objects : List Object) → objects ≡ p.scripts ++ plain_object key (p.scripts_made + 1) n ∷ [] →
-    Becomes p (with_objects p objects (p.scripts_made + 1)) (with_object (heap_of p) Plain n)
-becomes-made p l o key n vacant few room objects e =
-    subst (λ os. Becomes p (with_objects p os (p.scripts_made + 1)) (with_object (heap_of p) Plain n)) (sym e)
-    (becomes p l o (made_last p.scripts l.one_key o.whole key (p.scripts_made + 1) n vacant) (p.scripts_made + 1) (with_object (heap_of p) Plain n)
-    (KeepsNames-made p.scripts l.one_key o.whole key (p.scripts_made + 1) n vacant)
-    (ap (λ scripts. record (heap_of p) { scripts = scripts; scripts_made = p.scripts_made + 1 }) (named-made p.scripts l.one_key o.whole key (p.scripts_made + 1) n vacant))
-    (with_script-sound [] (heap_of p) (blank (object (p.scripts_made + 1)) Plain n) (p.scripts_made + 1)
-    (IsNewScript-object (heap_of p) Plain n o.sound.well_formed (subst (λ i. i ≤ 64) (sym (length-replicate n None)) few) room) o.sound)
-    (one_key-made p.scripts l.one_key o.whole key (p.scripts_made + 1) n vacant)
-    (whole-made p.scripts l.one_key o.whole key (p.scripts_made + 1) n vacant)
-    (plain-made p.scripts l.one_key o.whole key (p.scripts_made + 1) n vacant o.alone.plain))
+module _ (p : Inside) (l : IsLinked p) (o : IsInOrder [] (keyed_of p)) (key n : ℕ) (vacant : is_there p.scripts key ≡ false) where
+  abbrev new : Object
+  new = plain_object key (p.scripts_made + 1) n
+
+  abbrev objects : List Object
+  objects = p.scripts ++ new ∷ []
+
+  -- its name
+  pub name_at-plain : name_at objects key ≡ Some (object (p.scripts_made + 1))
+  name_at-plain = name_at-made p.scripts l.one_key o.whole new n refl vacant
+
+  named : named_objects objects ≡ named_objects p.scripts ++ blank (object (p.scripts_made + 1)) Plain n ∷ []
+  named = named-made p.scripts l.one_key o.whole new n refl vacant
+
+  -- it is no reflector
+  reflectors : reflectors_by objects p.counted.keys ≡ reflectors_by p.scripts p.counted.keys
+  reflectors = ap (λ its. map (λ j. option_and_then its j) p.counted.keys) (fun_ext (λ k. key_of-made p.scripts l.one_key o.whole new n refl vacant (reflector k) refl))
+
+  pub becomes-made : n ≤ 64 → p.scripts_made < p.limits.scripts → (os : List Object) → os ≡ objects →
+      Becomes p (with_objects p os (p.scripts_made + 1)) (with_object (heap_of p) Plain n)
+  becomes-made few room os e =
+      subst (λ os. Becomes p (with_objects p os (p.scripts_made + 1)) (with_object (heap_of p) Plain n)) (sym e)
+      (becomes p l o objects (p.scripts_made + 1) (with_object (heap_of p) Plain n)
+      (KeepsNames-made p.scripts l.one_key o.whole new n refl vacant)
+      (ap (λ scripts. record (heap_of p) { scripts = scripts; scripts_made = p.scripts_made + 1 }) named)
+      (with_script-sound [] (heap_of p) (blank (object (p.scripts_made + 1)) Plain n) (p.scripts_made + 1)
+      (IsNewScript-object (heap_of p) Plain n o.sound.well_formed (subst (λ i. i ≤ 64) (sym (length-replicate n None)) few) room) o.sound)
+      (one_key-made p.scripts l.one_key o.whole new n refl vacant)
+      (whole-made p.scripts l.one_key o.whole new n refl vacant)
+      (subst (λ ss. (s : HeapScript) → Among s ss → ¬ (s.kind ≡ Map)) (sym named)
+      (each-push (λ s. ¬ (s.kind ≡ Map)) (named_objects p.scripts) (blank (object (p.scripts_made + 1)) Plain n) o.without_maps.no_maps (λ f. absurd (cc))))
+      reflectors
+      (each-push (λ q. Reflects (keyed_of p) q.name q.native) p.scripts new o.reflecting refl))
