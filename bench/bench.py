@@ -91,6 +91,18 @@ def script_ring(size):
     return Shape(lines + ["put s0 0 s1", "drop s0", "drop s1", "drop s2"], ["gc"], size, 0)
 
 
+def reflector_ring(size):
+    """A ring through both heaps: each native holds the reflector of the next, and no register holds any of them. The
+    objects are the natives and their reflectors. A script collection makes the reflectors gray, one collection unlinks
+    the natives, and a script collection frees all."""
+    natives = size // 2
+    lines = ["native n0 1", "copy n1 n0"]
+    for _ in range(1, natives):
+        lines += ["native n2 1", "wrap s1 n2", "set n1 0 s1", "copy n1 n2"]
+    lines += ["wrap s1 n0", "set n1 0 s1", "drop s1", "drop n0", "drop n1", "drop n2"]
+    return Shape(lines, ["gc", "collect", "gc"], 2 * natives, natives)
+
+
 SHAPES = [
     ("chain, dropped", dropped_chain),
     ("one ring, collected", ring),
@@ -98,6 +110,7 @@ SHAPES = [
     ("chain from a cycle, collected", chain_from_pair),
     ("live chain, traversed", live_chain),
     ("ring of script objects, swept", script_ring),
+    ("ring through reflectors, collected and swept", reflector_ring),
 ]
 
 

@@ -197,3 +197,46 @@ fn a_script_object_that_holds_sixty_four_others_is_kept_by_a_native(
     swept(rt.alloc(), 65, &mut play)?;
     play.runs(&rt, "sixty-four others")
 }
+
+/// Natives 1 to `length`, each of which holds the reflector of the next, and the last that of the first; no register holds
+/// any of them.
+fn ring_through_reflectors(alloc: Global, length: u16) -> Result<Play, AllocError> {
+    let mut play = Play::new(alloc);
+    play.ask("native n0 1\ncopy n1 n0\n", "= #1\n= #1\n")?;
+    for k in 2..length as u32 + 1 {
+        play.ask(
+            "native n2 1\nwrap s1 n2\nset n1 0 s1\ncopy n1 n2\n",
+            format!(in alloc; "= #{k}\n= ~{k}\n= ok\n= #{k}\n")?.as_str(),
+        )?;
+    }
+    play.ask("wrap s1 n0\nset n1 0 s1\n", "= ~1\n= ok\n")?;
+    play.ask(
+        "drop s1\ndrop n0\ndrop n1\ndrop n2\n",
+        "= ok\n= ok\n= ok\n= ok\n",
+    )?;
+    Ok(play)
+}
+
+/// One collection unlinks the natives and frees nothing; the script collection after it frees each reflector and its
+/// native. The reflector of the first native was made last.
+#[test]
+fn a_ring_through_a_thousand_reflectors_is_freed(rt: HostRuntime) -> Result<(), Fail> {
+    let length = 1000u16;
+    let mut play = ring_through_reflectors(rt.alloc(), length)?;
+    play.ask("gc\ncollect\n", "= ok\n")?;
+    for k in 1..length as u32 + 1 {
+        play.ask(
+            "",
+            format!(in rt.alloc(); "- unlink #{k}\n")?.as_str(),
+        )?;
+    }
+    play.ask("gc\n", "= ok\n")?;
+    for k in 2..length as u32 + 1 {
+        play.ask(
+            "",
+            format!(in rt.alloc(); "- free ~{k}\n- free #{k}\n")?.as_str(),
+        )?;
+    }
+    play.ask("census\n", "- free ~1\n- free #1\n= ok\n= census 0\n")?;
+    play.runs(&rt, "a ring through reflectors")
+}

@@ -151,22 +151,22 @@ pub preserved_reflector_is_collected-audited : passes_audit default_limits ample
 unfolding all_of_a_run
 preserved_reflector_is_collected-audited = refl
 
--- An entry whose value alone holds its key is dropped, with both.
-pub entry_does_not_keep_its_key : plain_text version_one_forms default_limits ample input.entry_does_not_keep_its_key
-    ≡ codes "= @1\n= @2\n= @3\n= ok\n= ok\n= ok\n= ok\n- free @2\n- free @3\n= ok\n+ @1\n= census 1\n"
+-- Gc, collect and gc take two natives that hold each other through both reflectors and a plain object.
+pub cycle_of_two_natives_and_three_script_objects : plain_text version_one_forms default_limits ample input.cycle_of_two_natives_and_three_script_objects
+    ≡ codes "= #1\n= #2\n= ~1\n= ~2\n= @1\n= ok\n= ok\n= ok\n= ok\n= ok\n= ok\n= ok\n= ok\n= ok\n+ #1\n+ #2\n+ ~1\n+ ~2\n+ @1\n= census 5\n- unlink #1\n- unlink #2\n= ok\n- free ~1\n- free #1\n- free ~2\n- free #2\n- free @1\n= ok\n= census 0\n"
 unfolding all_of_a_run
-entry_does_not_keep_its_key = refl
+cycle_of_two_natives_and_three_script_objects = refl
 
-entry_does_not_keep_its_key-passes : passes_verdict default_limits ample input.entry_does_not_keep_its_key ≡ true
+cycle_of_two_natives_and_three_script_objects-passes : passes_verdict default_limits ample input.cycle_of_two_natives_and_three_script_objects ≡ true
 unfolding all_of_a_run
-entry_does_not_keep_its_key-passes = refl
+cycle_of_two_natives_and_three_script_objects-passes = refl
 
-pub entry_does_not_keep_its_key-lawful : IsLawfulRun default_limits ample input.entry_does_not_keep_its_key
-entry_does_not_keep_its_key-lawful = run-lawful default_limits ample input.entry_does_not_keep_its_key entry_does_not_keep_its_key-passes
+pub cycle_of_two_natives_and_three_script_objects-lawful : IsLawfulRun default_limits ample input.cycle_of_two_natives_and_three_script_objects
+cycle_of_two_natives_and_three_script_objects-lawful = run-lawful default_limits ample input.cycle_of_two_natives_and_three_script_objects cycle_of_two_natives_and_three_script_objects-passes
 
-pub entry_does_not_keep_its_key-quiet : IsQuietRun default_limits ample input.entry_does_not_keep_its_key
-entry_does_not_keep_its_key-quiet = run-quiet default_limits ample input.entry_does_not_keep_its_key entry_does_not_keep_its_key-passes
+pub cycle_of_two_natives_and_three_script_objects-quiet : IsQuietRun default_limits ample input.cycle_of_two_natives_and_three_script_objects
+cycle_of_two_natives_and_three_script_objects-quiet = run-quiet default_limits ample input.cycle_of_two_natives_and_three_script_objects cycle_of_two_natives_and_three_script_objects-passes
 
-pub entry_does_not_keep_its_key-audited : passes_audit default_limits ample input.entry_does_not_keep_its_key ≡ true
+pub cycle_of_two_natives_and_three_script_objects-audited : passes_audit default_limits ample input.cycle_of_two_natives_and_three_script_objects ≡ true
 unfolding all_of_a_run
-entry_does_not_keep_its_key-audited = refl
+cycle_of_two_natives_and_three_script_objects-audited = refl

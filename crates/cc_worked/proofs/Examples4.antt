@@ -11,6 +11,66 @@ use Rattle.cc_worked.proofs.Opened.{all_of_a_run}
 use Rattle.cc_worked.proofs.LawfulTest.{run-lawful}
 use Rattle.cc_worked.proofs.QuietTest.{run-quiet}
 
+-- Unwrap and preserve are refused for what is no reflector, and for an empty register before that.
+pub what_is_no_reflector_is_refused : plain_text version_one_forms default_limits ample input.what_is_no_reflector_is_refused
+    ≡ codes "= @1\n! kind\n! kind\n! empty\n! empty\n= #1\n! empty\n! empty\n= ~1\n= #1\n= ok\n+ #1\n+ @1\n+ ~1\n= census 3\n"
+unfolding all_of_a_run
+what_is_no_reflector_is_refused = refl
+
+what_is_no_reflector_is_refused-passes : passes_verdict default_limits ample input.what_is_no_reflector_is_refused ≡ true
+unfolding all_of_a_run
+what_is_no_reflector_is_refused-passes = refl
+
+pub what_is_no_reflector_is_refused-lawful : IsLawfulRun default_limits ample input.what_is_no_reflector_is_refused
+what_is_no_reflector_is_refused-lawful = run-lawful default_limits ample input.what_is_no_reflector_is_refused what_is_no_reflector_is_refused-passes
+
+pub what_is_no_reflector_is_refused-quiet : IsQuietRun default_limits ample input.what_is_no_reflector_is_refused
+what_is_no_reflector_is_refused-quiet = run-quiet default_limits ample input.what_is_no_reflector_is_refused what_is_no_reflector_is_refused-passes
+
+pub what_is_no_reflector_is_refused-audited : passes_audit default_limits ample input.what_is_no_reflector_is_refused ≡ true
+unfolding all_of_a_run
+what_is_no_reflector_is_refused-audited = refl
+
+-- A reflector that was swept and is made again has four empty slots.
+pub reflector_made_again_is_blank : plain_text version_one_forms default_limits ample input.reflector_made_again_is_blank
+    ≡ codes "= #1\n= ~1\n= @1\n= ok\n- free ~1\n= ok\n= ~1\n= none\n= none\n! slot\n= ok\n= ok\n- free ~1\n- free #1\n= ok\n"
+unfolding all_of_a_run
+reflector_made_again_is_blank = refl
+
+reflector_made_again_is_blank-passes : passes_verdict default_limits ample input.reflector_made_again_is_blank ≡ true
+unfolding all_of_a_run
+reflector_made_again_is_blank-passes = refl
+
+pub reflector_made_again_is_blank-lawful : IsLawfulRun default_limits ample input.reflector_made_again_is_blank
+reflector_made_again_is_blank-lawful = run-lawful default_limits ample input.reflector_made_again_is_blank reflector_made_again_is_blank-passes
+
+pub reflector_made_again_is_blank-quiet : IsQuietRun default_limits ample input.reflector_made_again_is_blank
+reflector_made_again_is_blank-quiet = run-quiet default_limits ample input.reflector_made_again_is_blank reflector_made_again_is_blank-passes
+
+pub reflector_made_again_is_blank-audited : passes_audit default_limits ample input.reflector_made_again_is_blank ≡ true
+unfolding all_of_a_run
+reflector_made_again_is_blank-audited = refl
+
+-- An entry whose value alone holds its key is dropped, with both.
+pub entry_does_not_keep_its_key : plain_text version_one_forms default_limits ample input.entry_does_not_keep_its_key
+    ≡ codes "= @1\n= @2\n= @3\n= ok\n= ok\n= ok\n= ok\n- free @2\n- free @3\n= ok\n+ @1\n= census 1\n"
+unfolding all_of_a_run
+entry_does_not_keep_its_key = refl
+
+entry_does_not_keep_its_key-passes : passes_verdict default_limits ample input.entry_does_not_keep_its_key ≡ true
+unfolding all_of_a_run
+entry_does_not_keep_its_key-passes = refl
+
+pub entry_does_not_keep_its_key-lawful : IsLawfulRun default_limits ample input.entry_does_not_keep_its_key
+entry_does_not_keep_its_key-lawful = run-lawful default_limits ample input.entry_does_not_keep_its_key entry_does_not_keep_its_key-passes
+
+pub entry_does_not_keep_its_key-quiet : IsQuietRun default_limits ample input.entry_does_not_keep_its_key
+entry_does_not_keep_its_key-quiet = run-quiet default_limits ample input.entry_does_not_keep_its_key entry_does_not_keep_its_key-passes
+
+pub entry_does_not_keep_its_key-audited : passes_audit default_limits ample input.entry_does_not_keep_its_key ≡ true
+unfolding all_of_a_run
+entry_does_not_keep_its_key-audited = refl
+
 -- A reflector that became a key lives as long as its native, and its entry with it.
 pub entry_preserves_its_reflector_key : plain_text version_one_forms default_limits ample input.entry_preserves_its_reflector_key
     ≡ codes "= #1\n= ~1\n= @1\n= @2\n= ok\n= ok\n= ok\n= ok\n= ~1\n= @2\n"
@@ -110,63 +170,3 @@ weak_map_has_no_slot_to_read-quiet = run-quiet default_limits ample input.weak_m
 pub weak_map_has_no_slot_to_read-audited : passes_audit default_limits ample input.weak_map_has_no_slot_to_read ≡ true
 unfolding all_of_a_run
 weak_map_has_no_slot_to_read-audited = refl
-
--- An entry is not looked up by an empty register.
-pub empty_key_is_refused : plain_text version_one_forms default_limits ample input.empty_key_is_refused
-    ≡ codes "= @1\n! empty\n= none\n"
-unfolding all_of_a_run
-empty_key_is_refused = refl
-
-empty_key_is_refused-passes : passes_verdict default_limits ample input.empty_key_is_refused ≡ true
-unfolding all_of_a_run
-empty_key_is_refused-passes = refl
-
-pub empty_key_is_refused-lawful : IsLawfulRun default_limits ample input.empty_key_is_refused
-empty_key_is_refused-lawful = run-lawful default_limits ample input.empty_key_is_refused empty_key_is_refused-passes
-
-pub empty_key_is_refused-quiet : IsQuietRun default_limits ample input.empty_key_is_refused
-empty_key_is_refused-quiet = run-quiet default_limits ample input.empty_key_is_refused empty_key_is_refused-passes
-
-pub empty_key_is_refused-audited : passes_audit default_limits ample input.empty_key_is_refused ≡ true
-unfolding all_of_a_run
-empty_key_is_refused-audited = refl
-
--- A collection with two nodes takes a unit to begin, one for each node, and one to end.
-pub two_cycle_takes_four_units : plain_text version_one_forms default_limits ample input.two_cycle_takes_four_units
-    ≡ codes "= #1\n= #2\n= ok\n= ok\n= ok\n= ok\n= ok\n= ok\n= ok\n- unlink #1\n- unlink #2\n- free #1\n- free #2\n= ok\n"
-unfolding all_of_a_run
-two_cycle_takes_four_units = refl
-
-two_cycle_takes_four_units-passes : passes_verdict default_limits ample input.two_cycle_takes_four_units ≡ true
-unfolding all_of_a_run
-two_cycle_takes_four_units-passes = refl
-
-pub two_cycle_takes_four_units-lawful : IsLawfulRun default_limits ample input.two_cycle_takes_four_units
-two_cycle_takes_four_units-lawful = run-lawful default_limits ample input.two_cycle_takes_four_units two_cycle_takes_four_units-passes
-
-pub two_cycle_takes_four_units-quiet : IsQuietRun default_limits ample input.two_cycle_takes_four_units
-two_cycle_takes_four_units-quiet = run-quiet default_limits ample input.two_cycle_takes_four_units two_cycle_takes_four_units-passes
-
-pub two_cycle_takes_four_units-audited : passes_audit default_limits ample input.two_cycle_takes_four_units ≡ true
-unfolding all_of_a_run
-two_cycle_takes_four_units-audited = refl
-
--- A native that stands in the buffer without the purple mark is no node, so a collection that begins with it alone takes two units.
-pub only_purple_natives_are_candidates : plain_text version_one_forms default_limits ample input.only_purple_natives_are_candidates
-    ≡ codes "= #1\n= ok\n= #2\n= ok\n= ok\n- unlink #2\n- free #2\n= ok\n"
-unfolding all_of_a_run
-only_purple_natives_are_candidates = refl
-
-only_purple_natives_are_candidates-passes : passes_verdict default_limits ample input.only_purple_natives_are_candidates ≡ true
-unfolding all_of_a_run
-only_purple_natives_are_candidates-passes = refl
-
-pub only_purple_natives_are_candidates-lawful : IsLawfulRun default_limits ample input.only_purple_natives_are_candidates
-only_purple_natives_are_candidates-lawful = run-lawful default_limits ample input.only_purple_natives_are_candidates only_purple_natives_are_candidates-passes
-
-pub only_purple_natives_are_candidates-quiet : IsQuietRun default_limits ample input.only_purple_natives_are_candidates
-only_purple_natives_are_candidates-quiet = run-quiet default_limits ample input.only_purple_natives_are_candidates only_purple_natives_are_candidates-passes
-
-pub only_purple_natives_are_candidates-audited : passes_audit default_limits ample input.only_purple_natives_are_candidates ≡ true
-unfolding all_of_a_run
-only_purple_natives_are_candidates-audited = refl

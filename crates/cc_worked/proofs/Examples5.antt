@@ -11,6 +11,66 @@ use Rattle.cc_worked.proofs.Opened.{all_of_a_run}
 use Rattle.cc_worked.proofs.LawfulTest.{run-lawful}
 use Rattle.cc_worked.proofs.QuietTest.{run-quiet}
 
+-- An entry is not looked up by an empty register.
+pub empty_key_is_refused : plain_text version_one_forms default_limits ample input.empty_key_is_refused
+    ≡ codes "= @1\n! empty\n= none\n"
+unfolding all_of_a_run
+empty_key_is_refused = refl
+
+empty_key_is_refused-passes : passes_verdict default_limits ample input.empty_key_is_refused ≡ true
+unfolding all_of_a_run
+empty_key_is_refused-passes = refl
+
+pub empty_key_is_refused-lawful : IsLawfulRun default_limits ample input.empty_key_is_refused
+empty_key_is_refused-lawful = run-lawful default_limits ample input.empty_key_is_refused empty_key_is_refused-passes
+
+pub empty_key_is_refused-quiet : IsQuietRun default_limits ample input.empty_key_is_refused
+empty_key_is_refused-quiet = run-quiet default_limits ample input.empty_key_is_refused empty_key_is_refused-passes
+
+pub empty_key_is_refused-audited : passes_audit default_limits ample input.empty_key_is_refused ≡ true
+unfolding all_of_a_run
+empty_key_is_refused-audited = refl
+
+-- A collection with two nodes takes a unit to begin, one for each node, and one to end.
+pub two_cycle_takes_four_units : plain_text version_one_forms default_limits ample input.two_cycle_takes_four_units
+    ≡ codes "= #1\n= #2\n= ok\n= ok\n= ok\n= ok\n= ok\n= ok\n= ok\n- unlink #1\n- unlink #2\n- free #1\n- free #2\n= ok\n"
+unfolding all_of_a_run
+two_cycle_takes_four_units = refl
+
+two_cycle_takes_four_units-passes : passes_verdict default_limits ample input.two_cycle_takes_four_units ≡ true
+unfolding all_of_a_run
+two_cycle_takes_four_units-passes = refl
+
+pub two_cycle_takes_four_units-lawful : IsLawfulRun default_limits ample input.two_cycle_takes_four_units
+two_cycle_takes_four_units-lawful = run-lawful default_limits ample input.two_cycle_takes_four_units two_cycle_takes_four_units-passes
+
+pub two_cycle_takes_four_units-quiet : IsQuietRun default_limits ample input.two_cycle_takes_four_units
+two_cycle_takes_four_units-quiet = run-quiet default_limits ample input.two_cycle_takes_four_units two_cycle_takes_four_units-passes
+
+pub two_cycle_takes_four_units-audited : passes_audit default_limits ample input.two_cycle_takes_four_units ≡ true
+unfolding all_of_a_run
+two_cycle_takes_four_units-audited = refl
+
+-- A native that stands in the buffer without the purple mark is no node, so a collection that begins with it alone takes two units.
+pub only_purple_natives_are_candidates : plain_text version_one_forms default_limits ample input.only_purple_natives_are_candidates
+    ≡ codes "= #1\n= ok\n= #2\n= ok\n= ok\n- unlink #2\n- free #2\n= ok\n"
+unfolding all_of_a_run
+only_purple_natives_are_candidates = refl
+
+only_purple_natives_are_candidates-passes : passes_verdict default_limits ample input.only_purple_natives_are_candidates ≡ true
+unfolding all_of_a_run
+only_purple_natives_are_candidates-passes = refl
+
+pub only_purple_natives_are_candidates-lawful : IsLawfulRun default_limits ample input.only_purple_natives_are_candidates
+only_purple_natives_are_candidates-lawful = run-lawful default_limits ample input.only_purple_natives_are_candidates only_purple_natives_are_candidates-passes
+
+pub only_purple_natives_are_candidates-quiet : IsQuietRun default_limits ample input.only_purple_natives_are_candidates
+only_purple_natives_are_candidates-quiet = run-quiet default_limits ample input.only_purple_natives_are_candidates only_purple_natives_are_candidates-passes
+
+pub only_purple_natives_are_candidates-audited : passes_audit default_limits ample input.only_purple_natives_are_candidates ≡ true
+unfolding all_of_a_run
+only_purple_natives_are_candidates-audited = refl
+
 -- A native that gets a reference is not purple any more, so a collection that begins with it alone takes two units.
 pub added_reference_ends_purple : plain_text version_one_forms default_limits ample input.added_reference_ends_purple
     ≡ codes "= #1\n= #1\n= ok\n= #1\n= ok\n= #2\n= ok\n= ok\n- unlink #2\n- free #2\n= ok\n"
@@ -110,63 +170,3 @@ candidates_come_before_holders-quiet = run-quiet default_limits ample input.cand
 pub candidates_come_before_holders-audited : passes_audit default_limits ample input.candidates_come_before_holders ≡ true
 unfolding all_of_a_run
 candidates_come_before_holders-audited = refl
-
--- An entry whose value was replaced keeps its place, so its members are looked at before those of an entry that was set in between.
-pub replaced_entry_keeps_its_place : plain_text version_one_forms default_limits ample input.replaced_entry_keeps_its_place
-    ≡ codes "= #1\n= @1\n= @2\n= @3\n= @4\n= ok\n= ok\n= ok\n= ok\n= ok\n= ok\n= ok\n= ok\n= ok\n= #2\n= ok\n= ok\n= ok\n= ok\n= @3\n- unlink #2\n- free #2\n= ok\n"
-unfolding all_of_a_run
-replaced_entry_keeps_its_place = refl
-
-replaced_entry_keeps_its_place-passes : passes_verdict default_limits ample input.replaced_entry_keeps_its_place ≡ true
-unfolding all_of_a_run
-replaced_entry_keeps_its_place-passes = refl
-
-pub replaced_entry_keeps_its_place-lawful : IsLawfulRun default_limits ample input.replaced_entry_keeps_its_place
-replaced_entry_keeps_its_place-lawful = run-lawful default_limits ample input.replaced_entry_keeps_its_place replaced_entry_keeps_its_place-passes
-
-pub replaced_entry_keeps_its_place-quiet : IsQuietRun default_limits ample input.replaced_entry_keeps_its_place
-replaced_entry_keeps_its_place-quiet = run-quiet default_limits ample input.replaced_entry_keeps_its_place replaced_entry_keeps_its_place-passes
-
-pub replaced_entry_keeps_its_place-audited : passes_audit default_limits ample input.replaced_entry_keeps_its_place ≡ true
-unfolding all_of_a_run
-replaced_entry_keeps_its_place-audited = refl
-
--- Collect ends the collection that runs and begins another, which takes what became garbage in between.
-pub collect_begins_one_of_its_own : plain_text version_one_forms default_limits ample input.collect_begins_one_of_its_own
-    ≡ codes "= #1\n= ok\n= ok\n= ok\n- unlink #1\n- free #1\n= ok\n"
-unfolding all_of_a_run
-collect_begins_one_of_its_own = refl
-
-collect_begins_one_of_its_own-passes : passes_verdict default_limits ample input.collect_begins_one_of_its_own ≡ true
-unfolding all_of_a_run
-collect_begins_one_of_its_own-passes = refl
-
-pub collect_begins_one_of_its_own-lawful : IsLawfulRun default_limits ample input.collect_begins_one_of_its_own
-collect_begins_one_of_its_own-lawful = run-lawful default_limits ample input.collect_begins_one_of_its_own collect_begins_one_of_its_own-passes
-
-pub collect_begins_one_of_its_own-quiet : IsQuietRun default_limits ample input.collect_begins_one_of_its_own
-collect_begins_one_of_its_own-quiet = run-quiet default_limits ample input.collect_begins_one_of_its_own collect_begins_one_of_its_own-passes
-
-pub collect_begins_one_of_its_own-audited : passes_audit default_limits ample input.collect_begins_one_of_its_own ≡ true
-unfolding all_of_a_run
-collect_begins_one_of_its_own-audited = refl
-
--- A native that was touched while a collection ran waits for the next one.
-pub touched_between_slices : plain_text version_one_forms default_limits ample input.touched_between_slices
-    ≡ codes "= #1\n= ok\n= #1\n= ok\n= ok\n= #1\n= ok\n= ok\n= ok\n- unlink #1\n- free #1\n= ok\n"
-unfolding all_of_a_run
-touched_between_slices = refl
-
-touched_between_slices-passes : passes_verdict default_limits ample input.touched_between_slices ≡ true
-unfolding all_of_a_run
-touched_between_slices-passes = refl
-
-pub touched_between_slices-lawful : IsLawfulRun default_limits ample input.touched_between_slices
-touched_between_slices-lawful = run-lawful default_limits ample input.touched_between_slices touched_between_slices-passes
-
-pub touched_between_slices-quiet : IsQuietRun default_limits ample input.touched_between_slices
-touched_between_slices-quiet = run-quiet default_limits ample input.touched_between_slices touched_between_slices-passes
-
-pub touched_between_slices-audited : passes_audit default_limits ample input.touched_between_slices ≡ true
-unfolding all_of_a_run
-touched_between_slices-audited = refl

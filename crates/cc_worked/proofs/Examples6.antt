@@ -3,13 +3,73 @@
 use Rattle.std.specs.Prelude.{◌≡◌, true, codes, refl}
 use Rattle.cc_model.specs.Forms.{version_one_forms}
 use Rattle.cc_model.specs.Run.{plain_text}
-use Rattle.cc_worked.specs.Examples.{default_limits, ample, refused_at, IsLawfulRun, IsQuietRun}
+use Rattle.cc_worked.specs.Examples.{default_limits, ample, IsLawfulRun, IsQuietRun}
 use Rattle.cc_worked.specs.Inputs as input
 use Rattle.cc_worked.specs.Verdict.{passes_verdict}
 use Rattle.cc_worked.specs.Audit.{passes_audit}
 use Rattle.cc_worked.proofs.Opened.{all_of_a_run}
 use Rattle.cc_worked.proofs.LawfulTest.{run-lawful}
 use Rattle.cc_worked.proofs.QuietTest.{run-quiet}
+
+-- An entry whose value was replaced keeps its place, so its members are looked at before those of an entry that was set in between.
+pub replaced_entry_keeps_its_place : plain_text version_one_forms default_limits ample input.replaced_entry_keeps_its_place
+    ≡ codes "= #1\n= @1\n= @2\n= @3\n= @4\n= ok\n= ok\n= ok\n= ok\n= ok\n= ok\n= ok\n= ok\n= ok\n= #2\n= ok\n= ok\n= ok\n= ok\n= @3\n- unlink #2\n- free #2\n= ok\n"
+unfolding all_of_a_run
+replaced_entry_keeps_its_place = refl
+
+replaced_entry_keeps_its_place-passes : passes_verdict default_limits ample input.replaced_entry_keeps_its_place ≡ true
+unfolding all_of_a_run
+replaced_entry_keeps_its_place-passes = refl
+
+pub replaced_entry_keeps_its_place-lawful : IsLawfulRun default_limits ample input.replaced_entry_keeps_its_place
+replaced_entry_keeps_its_place-lawful = run-lawful default_limits ample input.replaced_entry_keeps_its_place replaced_entry_keeps_its_place-passes
+
+pub replaced_entry_keeps_its_place-quiet : IsQuietRun default_limits ample input.replaced_entry_keeps_its_place
+replaced_entry_keeps_its_place-quiet = run-quiet default_limits ample input.replaced_entry_keeps_its_place replaced_entry_keeps_its_place-passes
+
+pub replaced_entry_keeps_its_place-audited : passes_audit default_limits ample input.replaced_entry_keeps_its_place ≡ true
+unfolding all_of_a_run
+replaced_entry_keeps_its_place-audited = refl
+
+-- Collect ends the collection that runs and begins another, which takes what became garbage in between.
+pub collect_begins_one_of_its_own : plain_text version_one_forms default_limits ample input.collect_begins_one_of_its_own
+    ≡ codes "= #1\n= ok\n= ok\n= ok\n- unlink #1\n- free #1\n= ok\n"
+unfolding all_of_a_run
+collect_begins_one_of_its_own = refl
+
+collect_begins_one_of_its_own-passes : passes_verdict default_limits ample input.collect_begins_one_of_its_own ≡ true
+unfolding all_of_a_run
+collect_begins_one_of_its_own-passes = refl
+
+pub collect_begins_one_of_its_own-lawful : IsLawfulRun default_limits ample input.collect_begins_one_of_its_own
+collect_begins_one_of_its_own-lawful = run-lawful default_limits ample input.collect_begins_one_of_its_own collect_begins_one_of_its_own-passes
+
+pub collect_begins_one_of_its_own-quiet : IsQuietRun default_limits ample input.collect_begins_one_of_its_own
+collect_begins_one_of_its_own-quiet = run-quiet default_limits ample input.collect_begins_one_of_its_own collect_begins_one_of_its_own-passes
+
+pub collect_begins_one_of_its_own-audited : passes_audit default_limits ample input.collect_begins_one_of_its_own ≡ true
+unfolding all_of_a_run
+collect_begins_one_of_its_own-audited = refl
+
+-- A native that was touched while a collection ran waits for the next one.
+pub touched_between_slices : plain_text version_one_forms default_limits ample input.touched_between_slices
+    ≡ codes "= #1\n= ok\n= #1\n= ok\n= ok\n= #1\n= ok\n= ok\n= ok\n- unlink #1\n- free #1\n= ok\n"
+unfolding all_of_a_run
+touched_between_slices = refl
+
+touched_between_slices-passes : passes_verdict default_limits ample input.touched_between_slices ≡ true
+unfolding all_of_a_run
+touched_between_slices-passes = refl
+
+pub touched_between_slices-lawful : IsLawfulRun default_limits ample input.touched_between_slices
+touched_between_slices-lawful = run-lawful default_limits ample input.touched_between_slices touched_between_slices-passes
+
+pub touched_between_slices-quiet : IsQuietRun default_limits ample input.touched_between_slices
+touched_between_slices-quiet = run-quiet default_limits ample input.touched_between_slices touched_between_slices-passes
+
+pub touched_between_slices-audited : passes_audit default_limits ample input.touched_between_slices ≡ true
+unfolding all_of_a_run
+touched_between_slices-audited = refl
 
 -- What script read from a native while a collection ran keeps what it holds.
 pub read_between_slices : plain_text version_one_forms default_limits ample input.read_between_slices
@@ -110,63 +170,3 @@ native_made_between_slices-quiet = run-quiet default_limits ample input.native_m
 pub native_made_between_slices-audited : passes_audit default_limits ample input.native_made_between_slices ≡ true
 unfolding all_of_a_run
 native_made_between_slices-audited = refl
-
--- Gc brings a collection that runs to its end before it marks.
-pub gc_ends_a_running_collection : plain_text version_one_forms default_limits ample input.gc_ends_a_running_collection
-    ≡ codes "= #1\n= ok\n= ok\n= ok\n- unlink #1\n- free #1\n= ok\n"
-unfolding all_of_a_run
-gc_ends_a_running_collection = refl
-
-gc_ends_a_running_collection-passes : passes_verdict default_limits ample input.gc_ends_a_running_collection ≡ true
-unfolding all_of_a_run
-gc_ends_a_running_collection-passes = refl
-
-pub gc_ends_a_running_collection-lawful : IsLawfulRun default_limits ample input.gc_ends_a_running_collection
-gc_ends_a_running_collection-lawful = run-lawful default_limits ample input.gc_ends_a_running_collection gc_ends_a_running_collection-passes
-
-pub gc_ends_a_running_collection-quiet : IsQuietRun default_limits ample input.gc_ends_a_running_collection
-gc_ends_a_running_collection-quiet = run-quiet default_limits ample input.gc_ends_a_running_collection gc_ends_a_running_collection-passes
-
-pub gc_ends_a_running_collection-audited : passes_audit default_limits ample input.gc_ends_a_running_collection ≡ true
-unfolding all_of_a_run
-gc_ends_a_running_collection-audited = refl
-
--- A collection whose begin is refused memory is abandoned, and nothing is forgotten.
-pub collect_refused_at_its_begin : plain_text version_one_forms default_limits (refused_at 2) input.collect_refused_at_its_begin
-    ≡ codes "= #1\n= ok\n= ok\n- abandon\n! nomem\n= ok\n- unlink #1\n- free #1\n= ok\n= ok\n= census 0\n"
-unfolding all_of_a_run
-collect_refused_at_its_begin = refl
-
-collect_refused_at_its_begin-passes : passes_verdict default_limits (refused_at 2) input.collect_refused_at_its_begin ≡ true
-unfolding all_of_a_run
-collect_refused_at_its_begin-passes = refl
-
-pub collect_refused_at_its_begin-lawful : IsLawfulRun default_limits (refused_at 2) input.collect_refused_at_its_begin
-collect_refused_at_its_begin-lawful = run-lawful default_limits (refused_at 2) input.collect_refused_at_its_begin collect_refused_at_its_begin-passes
-
-pub collect_refused_at_its_begin-quiet : IsQuietRun default_limits (refused_at 2) input.collect_refused_at_its_begin
-collect_refused_at_its_begin-quiet = run-quiet default_limits (refused_at 2) input.collect_refused_at_its_begin collect_refused_at_its_begin-passes
-
-pub collect_refused_at_its_begin-audited : passes_audit default_limits (refused_at 2) input.collect_refused_at_its_begin ≡ true
-unfolding all_of_a_run
-collect_refused_at_its_begin-audited = refl
-
--- A collection whose first node is refused memory is abandoned, and its candidate comes back.
-pub collect_refused_at_a_node : plain_text version_one_forms default_limits (refused_at 3) input.collect_refused_at_a_node
-    ≡ codes "= #1\n= ok\n= ok\n- abandon\n! nomem\n= ok\n- unlink #1\n- free #1\n= ok\n= ok\n= census 0\n"
-unfolding all_of_a_run
-collect_refused_at_a_node = refl
-
-collect_refused_at_a_node-passes : passes_verdict default_limits (refused_at 3) input.collect_refused_at_a_node ≡ true
-unfolding all_of_a_run
-collect_refused_at_a_node-passes = refl
-
-pub collect_refused_at_a_node-lawful : IsLawfulRun default_limits (refused_at 3) input.collect_refused_at_a_node
-collect_refused_at_a_node-lawful = run-lawful default_limits (refused_at 3) input.collect_refused_at_a_node collect_refused_at_a_node-passes
-
-pub collect_refused_at_a_node-quiet : IsQuietRun default_limits (refused_at 3) input.collect_refused_at_a_node
-collect_refused_at_a_node-quiet = run-quiet default_limits (refused_at 3) input.collect_refused_at_a_node collect_refused_at_a_node-passes
-
-pub collect_refused_at_a_node-audited : passes_audit default_limits (refused_at 3) input.collect_refused_at_a_node ≡ true
-unfolding all_of_a_run
-collect_refused_at_a_node-audited = refl

@@ -11,6 +11,66 @@ use Rattle.cc_worked.proofs.Opened.{all_of_a_run}
 use Rattle.cc_worked.proofs.LawfulTest.{run-lawful}
 use Rattle.cc_worked.proofs.QuietTest.{run-quiet}
 
+-- Gc brings a collection that runs to its end before it marks.
+pub gc_ends_a_running_collection : plain_text version_one_forms default_limits ample input.gc_ends_a_running_collection
+    ≡ codes "= #1\n= ok\n= ok\n= ok\n- unlink #1\n- free #1\n= ok\n"
+unfolding all_of_a_run
+gc_ends_a_running_collection = refl
+
+gc_ends_a_running_collection-passes : passes_verdict default_limits ample input.gc_ends_a_running_collection ≡ true
+unfolding all_of_a_run
+gc_ends_a_running_collection-passes = refl
+
+pub gc_ends_a_running_collection-lawful : IsLawfulRun default_limits ample input.gc_ends_a_running_collection
+gc_ends_a_running_collection-lawful = run-lawful default_limits ample input.gc_ends_a_running_collection gc_ends_a_running_collection-passes
+
+pub gc_ends_a_running_collection-quiet : IsQuietRun default_limits ample input.gc_ends_a_running_collection
+gc_ends_a_running_collection-quiet = run-quiet default_limits ample input.gc_ends_a_running_collection gc_ends_a_running_collection-passes
+
+pub gc_ends_a_running_collection-audited : passes_audit default_limits ample input.gc_ends_a_running_collection ≡ true
+unfolding all_of_a_run
+gc_ends_a_running_collection-audited = refl
+
+-- A collection whose begin is refused memory is abandoned, and nothing is forgotten.
+pub collect_refused_at_its_begin : plain_text version_one_forms default_limits (refused_at 2) input.collect_refused_at_its_begin
+    ≡ codes "= #1\n= ok\n= ok\n- abandon\n! nomem\n= ok\n- unlink #1\n- free #1\n= ok\n= ok\n= census 0\n"
+unfolding all_of_a_run
+collect_refused_at_its_begin = refl
+
+collect_refused_at_its_begin-passes : passes_verdict default_limits (refused_at 2) input.collect_refused_at_its_begin ≡ true
+unfolding all_of_a_run
+collect_refused_at_its_begin-passes = refl
+
+pub collect_refused_at_its_begin-lawful : IsLawfulRun default_limits (refused_at 2) input.collect_refused_at_its_begin
+collect_refused_at_its_begin-lawful = run-lawful default_limits (refused_at 2) input.collect_refused_at_its_begin collect_refused_at_its_begin-passes
+
+pub collect_refused_at_its_begin-quiet : IsQuietRun default_limits (refused_at 2) input.collect_refused_at_its_begin
+collect_refused_at_its_begin-quiet = run-quiet default_limits (refused_at 2) input.collect_refused_at_its_begin collect_refused_at_its_begin-passes
+
+pub collect_refused_at_its_begin-audited : passes_audit default_limits (refused_at 2) input.collect_refused_at_its_begin ≡ true
+unfolding all_of_a_run
+collect_refused_at_its_begin-audited = refl
+
+-- A collection whose first node is refused memory is abandoned, and its candidate comes back.
+pub collect_refused_at_a_node : plain_text version_one_forms default_limits (refused_at 3) input.collect_refused_at_a_node
+    ≡ codes "= #1\n= ok\n= ok\n- abandon\n! nomem\n= ok\n- unlink #1\n- free #1\n= ok\n= ok\n= census 0\n"
+unfolding all_of_a_run
+collect_refused_at_a_node = refl
+
+collect_refused_at_a_node-passes : passes_verdict default_limits (refused_at 3) input.collect_refused_at_a_node ≡ true
+unfolding all_of_a_run
+collect_refused_at_a_node-passes = refl
+
+pub collect_refused_at_a_node-lawful : IsLawfulRun default_limits (refused_at 3) input.collect_refused_at_a_node
+collect_refused_at_a_node-lawful = run-lawful default_limits (refused_at 3) input.collect_refused_at_a_node collect_refused_at_a_node-passes
+
+pub collect_refused_at_a_node-quiet : IsQuietRun default_limits (refused_at 3) input.collect_refused_at_a_node
+collect_refused_at_a_node-quiet = run-quiet default_limits (refused_at 3) input.collect_refused_at_a_node collect_refused_at_a_node-passes
+
+pub collect_refused_at_a_node-audited : passes_audit default_limits (refused_at 3) input.collect_refused_at_a_node ≡ true
+unfolding all_of_a_run
+collect_refused_at_a_node-audited = refl
+
 -- A collect that is refused memory while it ends the collection that runs begins no other, and the next one takes all.
 pub collect_stops_where_the_running_one_is_refused : plain_text version_one_forms default_limits (refused_at 3) input.collect_stops_where_the_running_one_is_refused
     ≡ codes "= #1\n= ok\n= ok\n= ok\n- abandon\n! nomem\n- unlink #1\n- free #1\n= ok\n"
@@ -110,63 +170,3 @@ what_takes_memory-quiet = run-quiet default_limits (refused_at 6) input.what_tak
 pub what_takes_memory-audited : passes_audit default_limits (refused_at 6) input.what_takes_memory ≡ true
 unfolding all_of_a_run
 what_takes_memory-audited = refl
-
--- A line with a token too many or too few is not in the grammar, and the next one is answered.
-pub wrong_number_of_tokens : plain_text version_one_forms default_limits ample input.wrong_number_of_tokens
-    ≡ codes "! line\n! line\n= #1\n"
-unfolding all_of_a_run
-wrong_number_of_tokens = refl
-
-wrong_number_of_tokens-passes : passes_verdict default_limits ample input.wrong_number_of_tokens ≡ true
-unfolding all_of_a_run
-wrong_number_of_tokens-passes = refl
-
-pub wrong_number_of_tokens-lawful : IsLawfulRun default_limits ample input.wrong_number_of_tokens
-wrong_number_of_tokens-lawful = run-lawful default_limits ample input.wrong_number_of_tokens wrong_number_of_tokens-passes
-
-pub wrong_number_of_tokens-quiet : IsQuietRun default_limits ample input.wrong_number_of_tokens
-wrong_number_of_tokens-quiet = run-quiet default_limits ample input.wrong_number_of_tokens wrong_number_of_tokens-passes
-
-pub wrong_number_of_tokens-audited : passes_audit default_limits ample input.wrong_number_of_tokens ≡ true
-unfolding all_of_a_run
-wrong_number_of_tokens-audited = refl
-
--- Tokens are parted by spaces, more than one too and at both ends, and a tab, a sign, a leading zero or a capital letter is not taken.
-pub spaces_part_tokens : plain_text version_one_forms default_limits ample input.spaces_part_tokens
-    ≡ codes "= #1\n! line\n! line\n! line\n! line\n! line\n! line\n! line\n! line\n= ok\n+ #1\n= census 1\n"
-unfolding all_of_a_run
-spaces_part_tokens = refl
-
-spaces_part_tokens-passes : passes_verdict default_limits ample input.spaces_part_tokens ≡ true
-unfolding all_of_a_run
-spaces_part_tokens-passes = refl
-
-pub spaces_part_tokens-lawful : IsLawfulRun default_limits ample input.spaces_part_tokens
-spaces_part_tokens-lawful = run-lawful default_limits ample input.spaces_part_tokens spaces_part_tokens-passes
-
-pub spaces_part_tokens-quiet : IsQuietRun default_limits ample input.spaces_part_tokens
-spaces_part_tokens-quiet = run-quiet default_limits ample input.spaces_part_tokens spaces_part_tokens-passes
-
-pub spaces_part_tokens-audited : passes_audit default_limits ample input.spaces_part_tokens ≡ true
-unfolding all_of_a_run
-spaces_part_tokens-audited = refl
-
--- Each register that must hold an object is refused where it is empty, and those that may be empty are not.
-pub empty_registers_are_refused : plain_text version_one_forms default_limits ample input.empty_registers_are_refused
-    ≡ codes "= #1\n= @1\n= @2\n! empty\n! empty\n! empty\n! empty\n! empty\n! empty\n! empty\n! empty\n! empty\n! empty\n! empty\n! empty\n! empty\n! empty\n! empty\n! empty\n! empty\n! empty\n! empty\n! empty\n= ok\n= none\n= none\n= none\n= none\n= none\n! kind\n= ~1\n"
-unfolding all_of_a_run
-empty_registers_are_refused = refl
-
-empty_registers_are_refused-passes : passes_verdict default_limits ample input.empty_registers_are_refused ≡ true
-unfolding all_of_a_run
-empty_registers_are_refused-passes = refl
-
-pub empty_registers_are_refused-lawful : IsLawfulRun default_limits ample input.empty_registers_are_refused
-empty_registers_are_refused-lawful = run-lawful default_limits ample input.empty_registers_are_refused empty_registers_are_refused-passes
-
-pub empty_registers_are_refused-quiet : IsQuietRun default_limits ample input.empty_registers_are_refused
-empty_registers_are_refused-quiet = run-quiet default_limits ample input.empty_registers_are_refused empty_registers_are_refused-passes
-
-pub empty_registers_are_refused-audited : passes_audit default_limits ample input.empty_registers_are_refused ≡ true
-unfolding all_of_a_run
-empty_registers_are_refused-audited = refl

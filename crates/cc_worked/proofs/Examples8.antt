@@ -3,13 +3,73 @@
 use Rattle.std.specs.Prelude.{◌≡◌, true, codes, refl}
 use Rattle.cc_model.specs.Forms.{version_one_forms}
 use Rattle.cc_model.specs.Run.{plain_text}
-use Rattle.cc_worked.specs.Examples.{limits, default_limits, ample, IsLawfulRun, IsQuietRun}
+use Rattle.cc_worked.specs.Examples.{default_limits, ample, IsLawfulRun, IsQuietRun}
 use Rattle.cc_worked.specs.Inputs as input
 use Rattle.cc_worked.specs.Verdict.{passes_verdict}
 use Rattle.cc_worked.specs.Audit.{passes_audit}
 use Rattle.cc_worked.proofs.Opened.{all_of_a_run}
 use Rattle.cc_worked.proofs.LawfulTest.{run-lawful}
 use Rattle.cc_worked.proofs.QuietTest.{run-quiet}
+
+-- A line with a token too many or too few is not in the grammar, and the next one is answered.
+pub wrong_number_of_tokens : plain_text version_one_forms default_limits ample input.wrong_number_of_tokens
+    ≡ codes "! line\n! line\n= #1\n"
+unfolding all_of_a_run
+wrong_number_of_tokens = refl
+
+wrong_number_of_tokens-passes : passes_verdict default_limits ample input.wrong_number_of_tokens ≡ true
+unfolding all_of_a_run
+wrong_number_of_tokens-passes = refl
+
+pub wrong_number_of_tokens-lawful : IsLawfulRun default_limits ample input.wrong_number_of_tokens
+wrong_number_of_tokens-lawful = run-lawful default_limits ample input.wrong_number_of_tokens wrong_number_of_tokens-passes
+
+pub wrong_number_of_tokens-quiet : IsQuietRun default_limits ample input.wrong_number_of_tokens
+wrong_number_of_tokens-quiet = run-quiet default_limits ample input.wrong_number_of_tokens wrong_number_of_tokens-passes
+
+pub wrong_number_of_tokens-audited : passes_audit default_limits ample input.wrong_number_of_tokens ≡ true
+unfolding all_of_a_run
+wrong_number_of_tokens-audited = refl
+
+-- Tokens are parted by spaces, more than one too and at both ends, and a tab, a sign, a leading zero or a capital letter is not taken.
+pub spaces_part_tokens : plain_text version_one_forms default_limits ample input.spaces_part_tokens
+    ≡ codes "= #1\n! line\n! line\n! line\n! line\n! line\n! line\n! line\n! line\n= ok\n+ #1\n= census 1\n"
+unfolding all_of_a_run
+spaces_part_tokens = refl
+
+spaces_part_tokens-passes : passes_verdict default_limits ample input.spaces_part_tokens ≡ true
+unfolding all_of_a_run
+spaces_part_tokens-passes = refl
+
+pub spaces_part_tokens-lawful : IsLawfulRun default_limits ample input.spaces_part_tokens
+spaces_part_tokens-lawful = run-lawful default_limits ample input.spaces_part_tokens spaces_part_tokens-passes
+
+pub spaces_part_tokens-quiet : IsQuietRun default_limits ample input.spaces_part_tokens
+spaces_part_tokens-quiet = run-quiet default_limits ample input.spaces_part_tokens spaces_part_tokens-passes
+
+pub spaces_part_tokens-audited : passes_audit default_limits ample input.spaces_part_tokens ≡ true
+unfolding all_of_a_run
+spaces_part_tokens-audited = refl
+
+-- Each register that must hold an object is refused where it is empty, and those that may be empty are not.
+pub empty_registers_are_refused : plain_text version_one_forms default_limits ample input.empty_registers_are_refused
+    ≡ codes "= #1\n= @1\n= @2\n! empty\n! empty\n! empty\n! empty\n! empty\n! empty\n! empty\n! empty\n! empty\n! empty\n! empty\n! empty\n! empty\n! empty\n! empty\n! empty\n! empty\n! empty\n! empty\n! empty\n= ok\n= none\n= none\n= none\n= none\n= none\n! kind\n= ~1\n"
+unfolding all_of_a_run
+empty_registers_are_refused = refl
+
+empty_registers_are_refused-passes : passes_verdict default_limits ample input.empty_registers_are_refused ≡ true
+unfolding all_of_a_run
+empty_registers_are_refused-passes = refl
+
+pub empty_registers_are_refused-lawful : IsLawfulRun default_limits ample input.empty_registers_are_refused
+empty_registers_are_refused-lawful = run-lawful default_limits ample input.empty_registers_are_refused empty_registers_are_refused-passes
+
+pub empty_registers_are_refused-quiet : IsQuietRun default_limits ample input.empty_registers_are_refused
+empty_registers_are_refused-quiet = run-quiet default_limits ample input.empty_registers_are_refused empty_registers_are_refused-passes
+
+pub empty_registers_are_refused-audited : passes_audit default_limits ample input.empty_registers_are_refused ≡ true
+unfolding all_of_a_run
+empty_registers_are_refused-audited = refl
 
 -- Each object of the wrong kind is refused.
 pub wrong_kinds_are_refused : plain_text version_one_forms default_limits ample input.wrong_kinds_are_refused
@@ -110,63 +170,3 @@ units_at_their_bounds-quiet = run-quiet default_limits ample input.units_at_thei
 pub units_at_their_bounds-audited : passes_audit default_limits ample input.units_at_their_bounds ≡ true
 unfolding all_of_a_run
 units_at_their_bounds-audited = refl
-
--- A line of 120 bytes is read and one of 121 is not, a comment and a carriage return counted.
-pub line_of_120_bytes_is_taken : plain_text version_one_forms default_limits ample input.line_of_120_bytes_is_taken
-    ≡ codes "= #1\n! long\n! long\n! line\n! long\n+ #1\n= census 1\n"
-unfolding all_of_a_run
-line_of_120_bytes_is_taken = refl
-
-line_of_120_bytes_is_taken-passes : passes_verdict default_limits ample input.line_of_120_bytes_is_taken ≡ true
-unfolding all_of_a_run
-line_of_120_bytes_is_taken-passes = refl
-
-pub line_of_120_bytes_is_taken-lawful : IsLawfulRun default_limits ample input.line_of_120_bytes_is_taken
-line_of_120_bytes_is_taken-lawful = run-lawful default_limits ample input.line_of_120_bytes_is_taken line_of_120_bytes_is_taken-passes
-
-pub line_of_120_bytes_is_taken-quiet : IsQuietRun default_limits ample input.line_of_120_bytes_is_taken
-line_of_120_bytes_is_taken-quiet = run-quiet default_limits ample input.line_of_120_bytes_is_taken line_of_120_bytes_is_taken-passes
-
-pub line_of_120_bytes_is_taken-audited : passes_audit default_limits ample input.line_of_120_bytes_is_taken ≡ true
-unfolding all_of_a_run
-line_of_120_bytes_is_taken-audited = refl
-
--- A last line that no line feed ends is answered, its carriage return dropped.
-pub last_line_needs_no_line_feed : plain_text version_one_forms default_limits ample input.last_line_needs_no_line_feed
-    ≡ codes "= #1\n+ #1\n= census 1\n"
-unfolding all_of_a_run
-last_line_needs_no_line_feed = refl
-
-last_line_needs_no_line_feed-passes : passes_verdict default_limits ample input.last_line_needs_no_line_feed ≡ true
-unfolding all_of_a_run
-last_line_needs_no_line_feed-passes = refl
-
-pub last_line_needs_no_line_feed-lawful : IsLawfulRun default_limits ample input.last_line_needs_no_line_feed
-last_line_needs_no_line_feed-lawful = run-lawful default_limits ample input.last_line_needs_no_line_feed last_line_needs_no_line_feed-passes
-
-pub last_line_needs_no_line_feed-quiet : IsQuietRun default_limits ample input.last_line_needs_no_line_feed
-last_line_needs_no_line_feed-quiet = run-quiet default_limits ample input.last_line_needs_no_line_feed last_line_needs_no_line_feed-passes
-
-pub last_line_needs_no_line_feed-audited : passes_audit default_limits ample input.last_line_needs_no_line_feed ≡ true
-unfolding all_of_a_run
-last_line_needs_no_line_feed-audited = refl
-
--- The limit of natives counts those that were freed.
-pub limit_counts_freed_natives : plain_text version_one_forms (limits 1 1000000 4294967295) ample input.limit_counts_freed_natives
-    ≡ codes "= #1\n- free #1\n= ok\n! full\n"
-unfolding all_of_a_run
-limit_counts_freed_natives = refl
-
-limit_counts_freed_natives-passes : passes_verdict (limits 1 1000000 4294967295) ample input.limit_counts_freed_natives ≡ true
-unfolding all_of_a_run
-limit_counts_freed_natives-passes = refl
-
-pub limit_counts_freed_natives-lawful : IsLawfulRun (limits 1 1000000 4294967295) ample input.limit_counts_freed_natives
-limit_counts_freed_natives-lawful = run-lawful (limits 1 1000000 4294967295) ample input.limit_counts_freed_natives limit_counts_freed_natives-passes
-
-pub limit_counts_freed_natives-quiet : IsQuietRun (limits 1 1000000 4294967295) ample input.limit_counts_freed_natives
-limit_counts_freed_natives-quiet = run-quiet (limits 1 1000000 4294967295) ample input.limit_counts_freed_natives limit_counts_freed_natives-passes
-
-pub limit_counts_freed_natives-audited : passes_audit (limits 1 1000000 4294967295) ample input.limit_counts_freed_natives ≡ true
-unfolding all_of_a_run
-limit_counts_freed_natives-audited = refl

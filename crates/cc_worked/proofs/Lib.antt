@@ -15,4 +15,5 @@ pub mod Examples6
 pub mod Examples7
 pub mod Examples8
 pub mod Examples9
+pub mod Examples10
 pub mod Examples

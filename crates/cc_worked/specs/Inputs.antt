@@ -94,6 +94,18 @@ exposed_reflector_waits_for_gc = codes "native n0 1\nwrap s0 n0\nset n0 0 s0\ndr
 abbrev pub preserved_reflector_is_collected : List ℕ
 preserved_reflector_is_collected = codes "native n0 0\nwrap s0 n0\npreserve s0\ndrop s0\ngc\ndrop n0\ngc\ncollect\ngc\n"
 
+-- Gc, collect and gc take two natives that hold each other through both reflectors and a plain object.
+abbrev pub cycle_of_two_natives_and_three_script_objects : List ℕ
+cycle_of_two_natives_and_three_script_objects = codes "native n0 1\nnative n1 1\nwrap s0 n0\nwrap s1 n1\nscript s2 1\nset n0 0 s2\nput s2 0 s1\nset n1 0 s0\ndrop s0\ndrop s1\ndrop s2\ndrop n0\ndrop n1\ngc\ncensus\ncollect\ngc\ncensus\n"
+
+-- Unwrap and preserve are refused for what is no reflector, and for an empty register before that.
+abbrev pub what_is_no_reflector_is_refused : List ℕ
+what_is_no_reflector_is_refused = codes "script s0 1\nunwrap n0 s0\npreserve s0\nunwrap n0 s9\npreserve s9\nnative n0 0\nunwrap n1 s9\nwrap s1 n5\nwrap s1 n0\nunwrap n1 s1\npreserve s1\ncensus\n"
+
+-- A reflector that was swept and is made again has four empty slots.
+abbrev pub reflector_made_again_is_blank : List ℕ
+reflector_made_again_is_blank = codes "native n0 1\nwrap s0 n0\nscript s1 0\ndrop s0\ngc\nwrap s0 n0\ntake s2 s0 0\ntake s2 s0 3\ntake s2 s0 4\ndrop n0\ndrop s0\ngc\n"
+
 -- An entry whose value alone holds its key is dropped, with both.
 abbrev pub entry_does_not_keep_its_key : List ℕ
 entry_does_not_keep_its_key = codes "weakmap s0\nscript s1 1\nscript s2 1\nput s2 0 s1\nwset s0 s1 s2\ndrop s1\ndrop s2\ngc\ncensus\n"
