@@ -1,9 +1,9 @@
 //! The entries of weak maps: which value a key has in which map.
 //!
-//! A weak map holds neither itself nor its keys, and a value only as long as both its map and its key live: whether they
-//! do is for those above to say. So its entries are no slots, and stand here, those of all maps in one list, in the order
-//! in which they were first set. There is at most one for each map and key. Maps, keys and values are script objects, by
-//! the keys at which they stand in their heap.
+//! A weak map holds none of its keys, and a value only as long as both the map and its key live: whether they do is for
+//! those above to say (`drop_dead` asks them). So its entries are no slots, and stand here, those of all maps in one list,
+//! in the order in which they were first set. There is at most one for each map and key. Maps, keys and values are script
+//! objects, by the keys at which they stand in their heap.
 //!
 //! `set` takes memory for a new entry; no other call takes any. Each call that looks for an entry goes over the list.
 #![tactic(auto)]
