@@ -27,6 +27,7 @@ pub mod NextHolder
 pub mod HolderWalk
 pub mod Agreeing
 pub mod RootWalks
+pub mod PlaceEdges
 pub mod ObjectsKept
 pub mod RootNames
 pub mod MarkedObjects
