@@ -26,6 +26,7 @@ pub mod GrayHolders
 pub mod NextHolder
 pub mod HolderWalk
 pub mod Agreeing
+pub mod References
 pub mod RootWalks
 pub mod PlaceEdges
 pub mod ObjectsKept
