@@ -30,6 +30,7 @@ pub mod References
 pub mod RootWalks
 pub mod PlaceEdges
 pub mod ReferenceNames
+pub mod HasReflector
 pub mod ObjectsKept
 pub mod RootNames
 pub mod MarkedObjects
