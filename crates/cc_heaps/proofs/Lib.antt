@@ -1,6 +1,5 @@
 pub mod Fit
 pub mod Naming
-pub mod PlainNames
 pub mod Keying
 pub mod EachNative
 pub mod Keys
@@ -15,11 +14,13 @@ pub mod LeftWith
 pub mod ContentNames
 pub mod EventsTold
 pub mod SlotsHeld
+pub mod PlacesRead
 pub mod Made
 pub mod Reaching
 pub mod ScriptsChanged
 pub mod ScriptWrites
 pub mod ScriptCalls
+pub mod ReflectorMade
 pub mod Listing
 pub mod Limited
 pub mod GrayHolders
@@ -41,3 +42,7 @@ pub mod Following
 pub mod StandingStill
 pub mod StandingAfter
 pub mod KeysKept
+pub mod Reflecting
+pub mod ReflectingMade
+pub mod ReflectingPreserved
+pub mod ReflectingWritten
