@@ -34,16 +34,16 @@ use Rattle.cc_laws_snapshot.proofs.NamesAndEdges.{edges-alike}
 use Rattle.cc_laws_snapshot.proofs.ReachedStays.{script-edge, reached-kept}
 use Rattle.cc_heaps.specs.Standing.{IsReached, StandsAfter, KeepsFresh, KeepsSuspected, KeepsColours}
 
--- native k is wrapped: its reflector is exposed where it has one, or made
-abbrev one_or_other : Heap → ℕ → Bool → Heap
-one_or_other h k b = elim b [ true ↦ exposed h (Some (reflector k)) | false ↦ with_reflector h k ]
+-- native k is wrapped: its reflector exposed where it has one, or made
+abbrev pub wrapped_by : Heap → ℕ → Bool → Heap
+wrapped_by h k b = elim b [ true ↦ exposed h (Some (reflector k)) | false ↦ with_reflector h k ]
 
 module _ (h : Heap) (k : ℕ) (s : IsSound [] h) (there : Among (native k) (native_names h)) where
   -- A NATIVE WRAPPED leaves the heaps sound.
   wrapped-stays_sound : IsSound [] (wrapped h (Some (native k)))
   wrapped-stays_sound = go (has_reflector h k) refl
     where
-      go : (b : Bool) → has_reflector h k ≡ b → IsSound [] (one_or_other h k b)
+      go : (b : Bool) → has_reflector h k ≡ b → IsSound [] (wrapped_by h k b)
       go true e = exposed-sound [] h (Some (reflector k)) s
       go false e = with_reflector-sound [] h k there e s
 
@@ -60,7 +60,7 @@ module _ (h : Heap) (k : ℕ) (s : IsSound [] h) (there : Among (native k) (nati
   module _ (none : has_reflector h k ≡ false) where
     -- A REFLECTOR MADE is that.
     as_wrapped-made : wrapped h (Some (native k)) ≡ with_reflector h k
-    as_wrapped-made = ap (one_or_other h k) none
+    as_wrapped-made = ap (wrapped_by h k) none
 
     pub reflector_made-sound : IsSound [] (with_reflector h k)
     reflector_made-sound = with_reflector-sound [] h k there none s
