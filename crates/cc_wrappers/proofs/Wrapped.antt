@@ -1,5 +1,5 @@
 -- WHAT A NATIVE WRAPPED GIVES: the reflector that it has, exposed, or a new one; and what a reflector preserved gives.
-use Rattle.std.proofs.Common.{◌≡◌, ◌==◌, ℕ, Bool, true, false, [], ◌∷◌, Option, Some, None, Result, Ok, Err, IfOk, OnOk, is_some, option_map, refl, sym, ◌∙◌, ap, subst, ⊎_elim, IsSome}
+use Rattle.std.proofs.Common.{◌≡◌, ◌==◌, ℕ, Bool, true, false, [], ◌∷◌, Option, Some, None, Result, Ok, Err, IfOk, OnOk, OnErr, is_some, option_map, refl, sym, ◌∙◌, ap, subst, ⊎_elim, IsSome}
 use Rattle.std.specs.Prelude.{IsTrue}
 use Rattle.std.specs.Option.{option_and_then}
 use Rattle.std.proofs.lemmas.Bool.{false≢true}
@@ -22,9 +22,9 @@ use Rattle.cc_model.specs.Entries.{joints}
 use Rattle.cc_model.specs.Exposure.{exposed}
 use Rattle.cc_model.specs.Effects.{with_reflector, wrapped}
 use Rattle.cc_model.specs.Graph as graph
-use Rattle.cc_model.specs.Heap.{Heap, HeapScript, has_reflector}
+use Rattle.cc_model.specs.Heap.{Heap, HeapScript, has_reflector, set_preserved}
 use Rattle.cc_model.specs.View.{view, ReachedIn}
-use Rattle.cc_model.specs.WellFormed.{script_names}
+use Rattle.cc_model.specs.WellFormed.{IsWellFormed, script_names}
 use Rattle.cc_laws_heap.proofs.ColourChanges.{IsHeldBlack, exposed-black}
 use Rattle.cc_laws_heap.proofs.Holding.{has_reflector-none}
 use Rattle.cc_laws_heap.proofs.ScriptCommands.{blank}
@@ -34,8 +34,9 @@ use Rattle.cc_counted.specs.Counts.{reflector_at}
 use Rattle.cc_script.specs.Objects.{Object, is_there, name_at, colour_at, native_at}
 use Rattle.cc_heaps.specs.Keyed.{Keyed, IsInOrder, Reflects, counts_of, number_at, the_number}
 use Rattle.cc_heaps.specs.Changes.{IsNativeThere, KeepsKeys, native_name}
-use Rattle.cc_heaps.specs.Standing.{IsReached, StandsAfter}
-use Rattle.cc_heaps.proofs.ReflectingMade.{wrapped_by, wrapped-stands}
+use Rattle.cc_heaps.specs.Standing.{IsReached, MayHold, StandsAfter}
+use Rattle.cc_heaps.proofs.ReflectingMade.{wrapped_by, wrapped-stands, exposed-reached, made-reached}
+use Rattle.cc_heaps.proofs.ReflectingPreserved.{preserved-reached}
 use Rattle.cc_wrappers.proofs.ReflectorKeys.{object-at, name-held, black-at, has_reflector-key, reflector-at, reflector_at-number}
 
 -- A native's reflector, by the key that the counted heap has
@@ -55,6 +56,11 @@ module _ (v : Keyed) (o : IsInOrder [] v) (key : ℕ) (live : IsSome (number_at 
 
   pub reflector-has : (r : ℕ) → reflector_at (counts_of v) key ≡ Some r → has_reflector v.heap number ≡ true
   reflector-has r e = has_reflector-key [] v o number ∙ ap is_some (sym (reflector_at-number v key live) ∙ e)
+
+-- what is handed in is reached still, where all that was reached is
+still-reached : (h g : Heap) (x : Option Name) → ((y : Name) → ReachedIn (view h) y → ReachedIn (view g) y) → IsReached h x → IsReached g x
+still-reached h g None kept d = tt
+still-reached h g (Some y) kept d = kept y d
 
 -- THE REFLECTOR THAT IS THERE, EXPOSED
 module _ (v w : Keyed) (o : IsInOrder [] v) (p : IsInOrder [] w) (k r : ℕ) (named : name_at v.scripts r ≡ Some (reflector k)) (has : has_reflector v.heap k ≡ true)
@@ -83,6 +89,11 @@ module _ (v w : Keyed) (o : IsInOrder [] v) (p : IsInOrder [] w) (k r : ℕ) (na
   exposed-stands d = subst (λ h. StandsAfter v.heap h (λ g. graph.wrapped g (Some (native k)))) (sym exposed-wrapped)
       (wrapped-stands v.heap k o.sound (o.sound.well_formed.reflected k (name-held [] v o r (reflector k) named)) d)
 
+  -- What is reached stays reached.
+  pub exposed-keeps_reached : (x : Option Name) → IsReached v.heap x → IsReached w.heap x
+  exposed-keeps_reached x d = subst (λ h. IsReached h x) (sym exposed-heap)
+      (still-reached v.heap (exposed v.heap (Some (reflector k))) x (exposed-reached v.heap (Some (reflector k)) o.sound) d)
+
 -- A REFLECTOR MADE
 module _ (v w : Keyed) (p : IsInOrder [] w) (k : ℕ) (none : has_reflector v.heap k ≡ false) where
   -- it is the last of the script objects, and black
@@ -101,6 +112,13 @@ module _ (v w : Keyed) (p : IsInOrder [] w) (k : ℕ) (none : has_reflector v.he
       IfOk result (λ made. name_at w.scripts made.0 ≡ Some (reflector k)) → IfOk result (λ made. colour_at w.scripts made.0 ≡ Some Black)
   made-colour (Ok made) e n = black-at [] w p made.0 (reflector k) n (subst (λ h. IsHeldBlack h.scripts (Some (reflector k))) (sym e) made-black)
   made-colour (Err stop) e n = tt
+
+  -- What is reached stays reached.
+  pub made-keeps_reached : (result : Result SKey NoMemory) → OnOk result (w.heap ≡ with_reflector v.heap k) → OnErr result (w ≡ v) →
+      (x : Option Name) → IsReached v.heap x → IsReached w.heap x
+  made-keeps_reached (Ok made) e f x d = subst (λ h. IsReached h x) (sym e)
+      (still-reached v.heap (with_reflector v.heap k) x (made-reached v.heap k (subst IsWellFormed e p.sound.well_formed)) d)
+  made-keeps_reached (Err stop) e f x d = subst (λ (u : Keyed). IsReached u.heap x) (sym f) d
 
 -- Natives of reflectors
 
@@ -157,3 +175,16 @@ found-has v o key k e = go (has_reflector v.heap k) refl
 -- the native of a reflector that is reached is reached
 pub behind-reached : (h : Heap) (k : ℕ) → Among (reflector k) (script_names h) → ReachedIn (view h) (reflector k) → ReachedIn (view h) (native k)
 behind-reached h k there d = derive-along (view h).registers (view h).edges (joints h.entries) (reflector k) (native k) (edge-from_reflector h k there) d
+
+-- What is no reflector holds what it may.
+pub no_reflector-may_hold : (h : Heap) (x : Option Name) → native_of x ≡ None → MayHold h x
+no_reflector-may_hold h None e = tt
+no_reflector-may_hold h (Some (name.Native k)) e = tt
+no_reflector-may_hold h (Some (name.Script k)) e = tt
+no_reflector-may_hold h (Some (name.Reflector k)) e = absurd (cc)
+
+-- a reflector preserved leaves what is handed in reached
+pub preserved-keeps_reached : (v : Keyed) (o : IsInOrder [] v) (key k : ℕ) → name_at v.scripts key ≡ Some (reflector k) → (x : Option Name) →
+    IsReached v.heap x → IsReached (set_preserved v.heap k true) x
+preserved-keeps_reached v o key k e x = still-reached v.heap (set_preserved v.heap k true) x
+    (preserved-reached v.heap k o.sound (name-held [] v o key (reflector k) e))

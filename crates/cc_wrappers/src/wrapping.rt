@@ -1,5 +1,6 @@
 //! Natives wrapped, and reflectors unwrapped and preserved.
-ghost use Rattle.std.specs.Prelude.{◌≡◌, true, false, [], Some, IsSome, IsTrue, IfOk, OnOk, OnErr, option_map};
+ghost use Rattle.std.specs.Prelude.{◌≡◌, true, false, [], Option, Some, IsSome, IsTrue, IfOk, OnOk, OnErr, option_map};
+ghost use Rattle.cc_names.specs.declared.name.Name.{Name};
 ghost use Rattle.cc_names.specs.declared.kind.Colour.TheVariants.{Black};
 ghost use Rattle.cc_names.specs.Names.{native, reflector, is_reflector};
 ghost use Rattle.cc_model.specs.Checks.{native_of};
@@ -9,7 +10,7 @@ ghost use Rattle.cc_model.specs.Heap.{has_reflector, preserve as preserved};
 ghost use Rattle.cc_script.specs.Objects.{colour_at, is_there, name_at};
 ghost use Rattle.cc_heaps.specs.Keyed.{IsInOrder, number_at, the_number, changed_to};
 ghost use Rattle.cc_heaps.specs.Changes.{IsNativeThere, IsScriptThere, KeepsKeys, native_name};
-ghost use Rattle.cc_heaps.specs.Standing.{IsReached, StandsAfter, KeepsFresh, KeepsSuspected, KeepsColours};
+ghost use Rattle.cc_heaps.specs.Standing.{IsReached, MayHold, StandsAfter, KeepsFresh, KeepsSuspected, KeepsColours};
 ghost use Rattle.cc_heaps.specs.Few.{AreFew};
 
 use cc_heaps::Heaps;
@@ -38,6 +39,7 @@ pub fn wrap(heaps: &mut Heaps, key: NKey) -> Result<SKey, NoMemory>
     ensures fresh { KeepsFresh heaps.old.heap heaps.new.heap }
     ensures suspected { IsReached heaps.old.heap (Some (native (the_number heaps.old key.0))) →
         KeepsSuspected heaps.old.heap heaps.new.heap }
+    ensures reached { (x : Option Name) → IsReached heaps.old.heap x → IsReached heaps.new.heap x }
 {
     match heaps.counted().reflector(key) {
         Some(there) => {
@@ -58,8 +60,8 @@ pub fn unwrap_of(heaps: &Heaps, key: SKey) -> Option<NKey>
     heaps.scripts().native_of(key)
 }
 
-/// A reflector is preserved from then on: its native holds it. Whether the object is a reflector; nothing changes where
-/// it is none.
+/// A reflector is preserved from then on: its native holds it, and it may hold something itself. Whether the object is a
+/// reflector; nothing changes where it is none.
 ///
 /// Snapshots stay fresh where the object is black, as each is that script hands out. Takes no memory.
 pub fn preserve(heaps: &mut Heaps, key: SKey) -> bool
@@ -76,6 +78,8 @@ pub fn preserve(heaps: &mut Heaps, key: SKey) -> bool
     ensures colours { KeepsColours heaps.old.heap heaps.new.heap }
     ensures fresh { colour_at heaps.old.scripts key.0 ≡ Some Black → KeepsFresh heaps.old.heap heaps.new.heap }
     ensures suspected { KeepsSuspected heaps.old.heap heaps.new.heap }
+    ensures reached { (x : Option Name) → IsReached heaps.old.heap x → IsReached heaps.new.heap x }
+    ensures may_hold { MayHold heaps.new.heap (name_at heaps.old.scripts key.0) }
 {
     match unwrap_of(heaps, key) {
         Some(native) => {

@@ -7,7 +7,7 @@ use Rattle.cc_counted.specs.Counts.{reflector_at}
 use Rattle.cc_script.specs.Objects.{name_at}
 use Rattle.cc_heaps.specs.Keyed.{counts_of, the_number}
 use Rattle.cc_heaps.proofs.ScriptsChanged.{named-there}
-use Rattle.cc_wrappers.proofs.Wrapped.{reflector-name, reflector-none, reflector-has, exposed-wrapped, exposed-name, exposed-colour, exposed-stands, made-wrapped, made-colour}
+use Rattle.cc_wrappers.proofs.Wrapped.{reflector-name, reflector-none, reflector-has, exposed-wrapped, exposed-name, exposed-colour, exposed-stands, exposed-keeps_reached, made-wrapped, made-colour, made-keeps_reached}
 use Rattle.cc_wrappers.proofs.wrapping.wrap.Goals as goal
 
 pub expose-requires-clause-live : goal.expose-requires-clause-live
@@ -58,6 +58,11 @@ returns-in-Some-clause-stands c =
     let v = c.args.heaps.now in
     exposed-stands v c.expose.new.self c.requires.order c.expose.ensures.order (the_number v c.args.key.0) c.in-Some.there.0 (named c) (has c) c.expose.ensures.heap c.expose.ensures.keys
 
+pub returns-in-Some-clause-reached : goal.returns-in-Some-clause-reached
+returns-in-Some-clause-reached c =
+    let v = c.args.heaps.now in
+    exposed-keeps_reached v c.expose.new.self c.requires.order c.expose.ensures.order (the_number v c.args.key.0) c.in-Some.there.0 (named c) (has c) c.expose.ensures.heap c.expose.ensures.keys
+
 -- A new one
 
 -- there was none
@@ -80,3 +85,9 @@ returns-in-None-clause-black c =
 
 pub returns-in-None-clause-lacks : goal.returns-in-None-clause-lacks
 returns-in-None-clause-lacks c = on_err_of c.new_reflector.result (lacks c)
+
+pub returns-in-None-clause-reached : goal.returns-in-None-clause-reached
+returns-in-None-clause-reached c =
+    let v = c.args.heaps.now in
+    made-keeps_reached v c.new_reflector.new.self c.new_reflector.ensures.order (the_number v c.args.key.0) (lacks c) c.new_reflector.result
+    c.new_reflector.ensures.heap c.new_reflector.ensures.same
