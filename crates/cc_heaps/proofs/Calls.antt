@@ -16,7 +16,7 @@ use Rattle.cc_model.specs.WellFormed.{native_names}
 use Rattle.cc_model.specs.Counts.{times}
 use Rattle.cc_laws_heap.proofs.CountBound.{count-bound}
 use Rattle.cc_laws_heap.proofs.Natives.{native_at-there, native_at-number}
-use Rattle.cc_counted.specs.Counts.{Counts, key_left, number_or_none, count_at, with_heap}
+use Rattle.cc_counted.specs.Counts.{Counts, key_left, reflectors_left, number_or_none, count_at, with_heap}
 use Rattle.cc_counted.specs.Counts as counts
 use Rattle.cc_script.specs.Objects.{Object}
 use Rattle.cc_heaps.specs.declared.heaps.Heaps.TheInside.{Inside}
@@ -24,7 +24,7 @@ use Rattle.cc_heaps.specs.Keyed.{Keyed, IsInOrder, keyed_native, number_at, the_
 use Rattle.cc_heaps.specs.Named.{named, named_native}
 use Rattle.cc_heaps.specs.Fields.{heap_of, keyed_of, IsLinked}
 use Rattle.cc_heaps.proofs.Keying.{AreHeldThere}
-use Rattle.cc_heaps.proofs.Linked.{IsLinked-counted, held-add_ref, held-cascade, held-unlink, with_counted}
+use Rattle.cc_heaps.proofs.Linked.{IsLinked-counted, reflectors-left, held-add_ref, held-cascade, held-unlink, with_counted}
 use Rattle.cc_heaps.proofs.Naming.{native_at-shown, native_names-shown, add_ref-shown, cascade-shown, unlink-shown, outcome_shown, shown}
 use Rattle.cc_heaps.proofs.Ordered.{IsInOrder-cascade, IsInOrder-unlink}
 use Rattle.cc_heaps.proofs.Registers.{AreLive-same, left-same, registers-same}
@@ -76,7 +76,7 @@ module _ {p : Inside} {next : Counts} {alone whole : Heap} (l : Changes p next a
   changed-order {owned} o = subst (IsInOrder owned) (sym changed-keyed) o
 
   pub changed-linked : IsLinked (with_counted p next)
-  changed-linked = subst (λ d. IsLinked (with_counted p d)) (sym l.is) (IsLinked-counted p (with_heap p.counted alone) l.linked.native_registers l.held l.linked)
+  changed-linked = subst (λ d. IsLinked (with_counted p d)) (sym l.is) (IsLinked-counted p (with_heap p.counted alone) l.linked.native_registers l.held l.linked.reflectors l.linked)
 
 -- a reference to native k given back, and one more taken
 module _ (p : Inside) (l : IsLinked p) (k : ℕ) where
@@ -142,7 +142,9 @@ module _ {p : Inside} {next : Counts} {owned : List ℕ} {call : Heap → Outcom
       (IsLinked-counted p (counts.left_with p.counted alone.heap)
       (AreLive-same p.counted.keys left_keys p.native_registers.items
       (left-same p.counted.keys alone.heap p.native_registers.items l.linked.native_registers registers-there) l.linked.native_registers)
-      l.held l.linked)
+      l.held
+      (ap (reflectors_left left_keys) l.linked.reflectors ∙ reflectors-left p.scripts alone.heap p.counted.keys)
+      l.linked)
 
 -- a reference to the native at a key given up, and that native unlinked
 module _ (p : Inside) (l : IsLinked p) (key : ℕ) (f : (owned : List ℕ) × IsInOrder (the_number (keyed_of p) key ∷ owned) (keyed_of p)) where

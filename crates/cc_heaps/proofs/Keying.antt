@@ -66,4 +66,4 @@ module _ (objects : List Object) (one_name : (x : Name) → count_by (λ (o : Ob
 
 -- What the parts count is the counted heap.
 pub counts-back : (p : Inside) → IsLinked p → counts_of (keyed_of p) ≡ p.counted
-counts-back p l = ap (λ ns. record p.counted { natives = ns }) (natives-back p.scripts l.one_name l.script_names p.counted.natives l.held)
+counts-back p l = λ i. record p.counted { natives = natives-back p.scripts l.one_name l.script_names p.counted.natives l.held i; reflectors = sym l.reflectors i }

@@ -1,32 +1,41 @@
--- KEYS OF NATIVES read numbers alone, and those of natives that are no more hold nothing.
-use Rattle.std.proofs.Common.{◌≡◌, ℕ, List, map, Option, Some, None, refl, sym, ◌∙◌, ap, subst, if◌then◌else◌}
+-- KEYS OF NATIVES read numbers alone, and those of natives that are no more hold nothing. Reflectors have the keys of their
+-- natives still where these are there.
+use Rattle.std.proofs.Common.{◌≡◌, ℕ, List, [], map, Option, Some, None, refl, sym, ◌∙◌, ap, subst, if◌then◌else◌}
 use Rattle.std.specs.Option.{is_some}
 use Rattle.std.proofs.Math.ListN.{get_or-map}
 use Rattle.std.proofs.lemmas.Simd.{map-map}
 use Rattle.cc_lists.specs.Members.{Among}
 use Rattle.cc_lists.proofs.Members.{Among-map, Among-map_cases}
 use Rattle.cc_lists.proofs.ListWrites.{map-kept}
-use Rattle.cc_names.specs.Names.{native}
-use Rattle.cc_model.specs.Heap.{Heap, HeapNative, Buffered, native_at, change_native}
-use Rattle.cc_model.specs.WellFormed.{IsRising, IsWellFormed, native_names}
-use Rattle.cc_laws_heap.proofs.Natives.{KeepsNumber, changed_at, changed_at-number, named-member, native_at-named, native_at-member, IsWellFormed-distinct}
+use Rattle.cc_names.specs.declared.name.Name.{Name}
+use Rattle.cc_names.specs.declared.name.Name.TheVariants as name
+use Rattle.cc_names.specs.Names.{native, reflector}
+use Rattle.cc_model.specs.Heap.{Heap, HeapNative, HeapScript, Buffered, native_at, change_native}
+use Rattle.cc_model.specs.WellFormed.{IsRising, IsWellFormed, native_names, script_names}
+use Rattle.cc_laws_heap.proofs.Natives.{KeepsNumber, changed_at, changed_at-number, named-found, named-member, native_at-named, native_at-member, IsWellFormed-distinct}
 use Rattle.cc_counted.specs.Counts.{Counts, key_left, number_at, heap_of}
 use Rattle.cc_counted.specs.Counts as counts
 use Rattle.cc_counted.specs.Owning.{HasKeys}
-use Rattle.cc_heaps.specs.Keyed.{Keyed, keyed_native, counts_of}
+use Rattle.cc_script.specs.Objects.{Object}
+use Rattle.cc_heaps.specs.Keyed.{Keyed, Reflects, keyed_native, counts_of, left_with, named_object, named_objects}
+use Rattle.cc_heaps.specs.Keyed as keyed
 
 -- the numbers of natives
 abbrev pub numbers_of_natives : List HeapNative → List ℕ
 numbers_of_natives ns = map (λ n. n.number) ns
+
+-- the natives of heaps, which stand at these keys; nothing is said of reflectors
+abbrev pub counts_in : Heap → List (Option ℕ) → Counts
+counts_in h keys = record { natives = h.natives; buffer = h.buffer; keys = keys; reflectors = [] }
 
 -- names by numbers
 names-by_numbers : (ns : List HeapNative) → map (λ (n : HeapNative). native n.number) ns ≡ map native (numbers_of_natives ns)
 names-by_numbers ns = sym (map-map native (λ (n : HeapNative). n.number) ns)
 
 -- keys read numbers alone
-pub HasKeys-numbers : (c : Counts) (ns : List HeapNative) (bs : List Buffered) → numbers_of_natives ns ≡ numbers_of_natives c.natives → HasKeys c →
-    HasKeys (record c { natives = ns; buffer = bs })
-HasKeys-numbers c ns bs same k = record {
+pub HasKeys-numbers : (c : Counts) (ns : List HeapNative) (bs : List Buffered) (rs : List (Option ℕ)) → numbers_of_natives ns ≡ numbers_of_natives c.natives → HasKeys c →
+    HasKeys (record c { natives = ns; buffer = bs; reflectors = rs })
+HasKeys-numbers c ns bs rs same k = record {
   key_of = λ n m.
       let f = Among-map_cases (λ (o : HeapNative). o.number) c.natives n.number
       (subst (λ is. Among n.number is) same (Among-map (λ (o : HeapNative). o.number) n ns m)) in
@@ -62,9 +71,9 @@ pub number_at-left : (c : Counts) (g : Heap) (key : ℕ) → number_at (counts.l
 number_at-left c g key = get_or-map (key_left g) c.keys key None
 
 -- the keys of the natives that left hold nothing
-pub HasKeys-left : (c : Counts) (g : Heap) → IsWellFormed g → ((k : ℕ) → Among (native k) (native_names g) → Among (native k) (native_names (heap_of c))) → HasKeys c →
-    HasKeys (counts.left_with c g)
-HasKeys-left c g w before k = record {
+pub HasKeys-left : (c : Counts) (g : Heap) (rs : List (Option ℕ)) → IsWellFormed g → ((k : ℕ) → Among (native k) (native_names g) → Among (native k) (native_names (heap_of c))) → HasKeys c →
+    HasKeys (record (counts.left_with c g) { reflectors = rs })
+HasKeys-left c g rs w before k = record {
   key_of = λ n m.
       let named : Among (native n.number) (native_names g) = Among-map (λ (o : HeapNative). native o.number) n g.natives m in
       let was = named-member (heap_of c) n.number (before n.number named) in
@@ -81,10 +90,37 @@ HasKeys-left c g w before k = record {
 }
 
 -- keys of natives that got their names, or whose script objects gave theirs back
-pub HasKeys-keyed : (v : Keyed) (g : Heap) (keys : List (Option ℕ)) → HasKeys (record { natives = g.natives; buffer = g.buffer; keys = keys }) →
-    HasKeys (counts_of (record { heap = g; keys = keys; scripts = v.scripts }))
-HasKeys-keyed v g keys k = HasKeys-numbers (record { natives = g.natives; buffer = g.buffer; keys = keys }) (map (keyed_native v.scripts) g.natives) g.buffer
+pub HasKeys-keyed : (v : Keyed) (g : Heap) (keys : List (Option ℕ)) → HasKeys (counts_in g keys) → HasKeys (counts_of (record { heap = g; keys = keys; scripts = v.scripts }))
+HasKeys-keyed v g keys k = HasKeys-numbers (counts_in g keys) (map (keyed_native v.scripts) g.natives) g.buffer (keyed.reflectors_by v.scripts keys)
     (map-map (λ (n : HeapNative). n.number) (keyed_native v.scripts) g.natives) k
 
-pub HasKeys-names : (v : Keyed) → HasKeys (counts_of v) → HasKeys (record { natives = v.heap.natives; buffer = v.heap.buffer; keys = v.keys })
-HasKeys-names v k = HasKeys-numbers (counts_of v) v.heap.natives v.heap.buffer (sym (map-map (λ (n : HeapNative). n.number) (keyed_native v.scripts) v.heap.natives)) k
+pub HasKeys-names : (v : Keyed) → HasKeys (counts_of v) → HasKeys (counts_in v.heap v.keys)
+HasKeys-names v k = HasKeys-numbers (counts_of v) v.heap.natives v.heap.buffer [] (sym (map-map (λ (n : HeapNative). n.number) (keyed_native v.scripts) v.heap.natives)) k
+
+-- Reflectors
+
+-- each reflector has the key of its native, and other script objects have that of none
+abbrev pub AreReflecting : Keyed → Type 0
+AreReflecting v = (o : Object) → Among o v.scripts → Reflects v o.name o.native
+
+-- a reflector's native stays at its key
+pub Reflects-kept : (v w : Keyed) (x : Name) (key : Option ℕ) → ((q k : ℕ) → x ≡ reflector k → keyed.number_at v q ≡ Some k → keyed.number_at w q ≡ Some k) →
+    Reflects v x key → Reflects w x key
+Reflects-kept v w (name.Native k) key kept r = absurd r
+Reflects-kept v w (name.Script k) key kept r = r
+Reflects-kept v w (name.Reflector k) None kept r = absurd r
+Reflects-kept v w (name.Reflector k) (Some q) kept r = kept q k.0 refl r
+
+-- an object that stands at a key has its name in the heaps
+pub object-name : (h : Heap) (objects : List Object) → h.scripts ≡ named_objects objects → (o : Object) → Among o objects → Among o.name (script_names h)
+object-name h objects e o m = subst (λ (ss : List HeapScript). Among o.name (map (λ s. s.name) ss)) (sym e)
+    (Among-map (λ (s : HeapScript). s.name) (named_object objects o) (named_objects objects) (Among-map (named_object objects) o objects m))
+
+-- where natives left, those of reflectors did not
+pub AreReflecting-left : (v : Keyed) (g : Heap) → g.scripts ≡ named_objects v.scripts → IsWellFormed g → AreReflecting v → AreReflecting (left_with v g)
+AreReflecting-left v g e w all o m = Reflects-kept v (left_with v g) o.name o.native stays (all o m)
+  where
+    stays : (q k : ℕ) → o.name ≡ reflector k → keyed.number_at v q ≡ Some k → keyed.number_at (left_with v g) q ≡ Some k
+    stays q k is at =
+        let f = named-found g k (w.reflected k (subst (λ x. Among x (script_names g)) is (object-name g v.scripts e o m))) in
+        number_at-left (counts_of v) g q ∙ (ap (key_left g) at ∙ key_left-there g k f.0 f.1)

@@ -1,17 +1,19 @@
--- THE PARTS STAY LINKED as their counted heap changes: what registers and slots hold is there.
-use Rattle.std.proofs.Common.{ℕ, List, set, Option, None, ⊎_elim}
-use Rattle.std.specs.Option.{option_to_list}
+-- THE PARTS STAY LINKED as their counted heap changes: what registers and slots hold is there, and natives that are left
+-- have their reflectors still.
+use Rattle.std.proofs.Common.{◌≡◌, ℕ, Bool, true, false, List, [], ◌∷◌, map, set, Option, Some, None, refl, ap, ⊎_elim, if◌then◌else◌}
+use Rattle.std.specs.Option.{is_some, option_and_then, option_to_list}
 use Rattle.cc_lists.specs.Members.{Among}
 use Rattle.cc_lists.proofs.ListWrites.{Among-flat_map_set}
 use Rattle.cc_names.specs.declared.name.Name.{Name}
 use Rattle.cc_model.specs.Slots.{Slots, contents}
-use Rattle.cc_model.specs.Heap.{Heap, HeapNative, with_native_slot, change_native}
+use Rattle.cc_model.specs.Heap.{Heap, HeapNative, native_at, with_native_slot, change_native, set_preserved}
 use Rattle.cc_model.specs.Cascade.{add_ref, cascade}
 use Rattle.cc_model.specs.End.{unlink}
 use Rattle.cc_laws_heap.specs.Freeing.{Uncounted}
-use Rattle.cc_counted.specs.Counts.{Counts}
+use Rattle.cc_counted.specs.Counts.{Counts, key_left, reflectors_left}
 use Rattle.cc_script.specs.Objects.{Object}
 use Rattle.cc_heaps.specs.declared.heaps.Heaps.TheInside.{Inside}
+use Rattle.cc_heaps.specs.Keyed.{reflector_key, reflectors_by}
 use Rattle.cc_heaps.specs.Named.{IsHeldThere}
 use Rattle.cc_heaps.specs.Fields.{IsLinked}
 use Rattle.cc_heaps.proofs.EachNative.{IsOfEach, each-add_ref, each-cascade, each-changed, each-unlink}
@@ -22,17 +24,32 @@ use Rattle.cc_heaps.proofs.Registers.{AreLive}
 abbrev pub with_counted : Inside → Counts → Inside
 with_counted p c = record p { counted = c }
 
--- they are linked where registers and slots of natives are
-pub IsLinked-counted : (p : Inside) (c : Counts) → AreLive c.keys p.native_registers.items → AreHeldThere p.scripts c.natives → IsLinked p → IsLinked (with_counted p c)
-IsLinked-counted p c live held l = record {
+-- they are linked where registers and slots of natives are, and each native has its reflector
+pub IsLinked-counted : (p : Inside) (c : Counts) → AreLive c.keys p.native_registers.items → AreHeldThere p.scripts c.natives →
+    c.reflectors ≡ reflectors_by p.scripts c.keys → IsLinked p → IsLinked (with_counted p c)
+IsLinked-counted p c live held reflectors l = record {
   native_registers = live;
   script_registers = l.script_registers;
   registers = l.registers;
   held = held;
   one_key = l.one_key;
   one_name = l.one_name;
+  reflectors = reflectors;
   script_names = l.script_names;
 }
+
+-- natives that left took the keys of their reflectors along
+pub reflectors-left : (objects : List Object) (h : Heap) (keys : List (Option ℕ)) →
+    reflectors_left (map (key_left h) keys) (reflectors_by objects keys) ≡ reflectors_by objects (map (key_left h) keys)
+reflectors-left objects h [] = refl
+reflectors-left objects h (None ∷ keys) = ap (λ rs. None ∷ rs) (reflectors-left objects h keys)
+reflectors-left objects h (Some k ∷ keys) = go (is_some (native_at h k)) (reflectors-left objects h keys)
+  where
+    go : (b : Bool) → reflectors_left (map (key_left h) keys) (reflectors_by objects keys) ≡ reflectors_by objects (map (key_left h) keys) →
+        reflectors_left ((if b then Some k else None) ∷ map (key_left h) keys) (reflector_key objects k ∷ reflectors_by objects keys) ≡
+        option_and_then (reflector_key objects) (if b then Some k else None) ∷ reflectors_by objects (map (key_left h) keys)
+    go true e = ap (λ rs. reflector_key objects k ∷ rs) e
+    go false e = ap (λ rs. None ∷ rs) e
 
 -- What natives hold
 
@@ -69,3 +86,7 @@ module _ (objects : List Object) (g : Heap) (held : AreHeldThere objects g.nativ
       AreHeldThere objects (change_native g k (with_native_slot i y)).natives
   held-slot k i y new = held-each objects (change_native g k (with_native_slot i y)).natives
       (each-changed Q g k (with_native_slot i y) (λ n h. HoldsThere-set objects n.slots i y new h) (each-held objects g.natives held))
+
+  pub held-preserved : (k : ℕ) (on : Bool) → AreHeldThere objects (set_preserved g k on).natives
+  held-preserved k on = held-each objects (set_preserved g k on).natives
+      (each-changed Q g k (λ n. record n { preserved = on }) (λ n h. h) (each-held objects g.natives held))

@@ -1,29 +1,36 @@
 -- A NATIVE MADE at a key that held nothing: it stands last, in the buffer too, and the registers hold what they held.
-use Rattle.std.proofs.Common.{◌≡◌, ◌≢◌, ℕ, zero, suc, ◌+◌, ◌<◌, ◌≤◌, false, List, [], ◌∷◌, ◌++◌, map, get_or, Option, Some, None, refl, sym, ◌∙◌, ap, subst}
+use Rattle.std.proofs.Common.{◌≡◌, ◌≢◌, ℕ, zero, suc, ◌+◌, ◌<◌, ◌≤◌, false, List, [], ◌∷◌, ◌++◌, map, length, get_or, Option, Some, None, option_map, refl, sym, ◌∙◌, ap, subst, ⊎_elim, arith}
+use Rattle.std.specs.Option.{option_and_then}
+use Rattle.std.specs.List.{find}
 use Rattle.std.proofs.Math.ListN.{get_or-map}
-use Rattle.std.proofs.lemmas.List.{map-append}
+use Rattle.std.proofs.lemmas.Bool.Decides.{eqb_tells}
+use Rattle.std.proofs.lemmas.List.{ext_get_or, length-map, map-append}
 use Rattle.std.proofs.lemmas.Simd.{map-map}
 use Rattle.cc_lists.specs.Members.{Among}
+use Rattle.cc_lists.proofs.Filtering.{find-among, find-passes}
 use Rattle.cc_lists.proofs.ListWrites.{each-push}
 use Rattle.cc_names.specs.declared.name.Name.{Name}
 use Rattle.cc_names.specs.declared.number.NKey.{NKey}
-use Rattle.cc_names.specs.Names.{native}
+use Rattle.cc_names.proofs.NameTests.{same_name-true}
+use Rattle.cc_names.specs.Names.{native, reflector, same_name}
 use Rattle.cc_model.specs.Slots.{contents, empty_slots}
 use Rattle.cc_model.specs.Heap.{Heap, HeapNative, with_mark}
 use Rattle.cc_model.specs.Effects.{put_in_register, with_native, make_native}
+use Rattle.cc_model.specs.WellFormed.{script_names}
 use Rattle.cc_laws_heap.proofs.Making.{contents-empty_none}
+use Rattle.cc_laws_heap.proofs.Natives.{named-member}
 use Rattle.cc_counted.specs.Counts.{Counts, key_left}
 use Rattle.cc_counted.specs.Counts as counts
 use Rattle.cc_counted.specs.Owning.{HasKeys}
 use Rattle.cc_script.specs.Objects.{Object, name_at}
 use Rattle.cc_heaps.specs.declared.heaps.Heaps.TheInside.{Inside}
-use Rattle.cc_heaps.specs.Keyed.{Keyed, IsInOrder, number_at, left_with}
+use Rattle.cc_heaps.specs.Keyed.{Keyed, IsInOrder, number_at, left_with, reflector_key, reflectors_by}
 use Rattle.cc_heaps.specs.Changes.{KeepsKeys}
 use Rattle.cc_heaps.specs.Named.{IsHeldThere, named, named_native}
 use Rattle.cc_heaps.specs.Fields.{keyed_of, IsLinked}
 use Rattle.cc_heaps.proofs.Fit.{IsFit}
 use Rattle.cc_heaps.proofs.Keying.{counts-back}
-use Rattle.cc_heaps.proofs.Keys.{HasKeys-numbers}
+use Rattle.cc_heaps.proofs.Keys.{HasKeys-numbers, counts_in, object-name}
 use Rattle.cc_heaps.proofs.LeftWith.{key_left-there}
 use Rattle.cc_heaps.proofs.Naming.{named_slots}
 use Rattle.cc_heaps.proofs.Ordered.{IsInOrder-made}
@@ -71,38 +78,79 @@ module _ (p : Inside) (f : IsFit [] p) (next : Counts) (slots : ℕ) (key : NKey
     scripts = p.scripts;
   }
 
-  pub made-linked : IsLinked made
-  made-linked = record {
-    native_registers = AreLive-same old_keys next.keys p.native_registers.items
-        (λ x m. made-same old_keys next.keys key.0 vacant others x (f.linked.native_registers x m)) f.linked.native_registers;
-    script_registers = f.linked.script_registers;
-    registers = f.linked.registers;
-    held = λ n x m. subst (λ ns. (o : HeapNative) → Among o ns → Among x (contents o.slots) → IsHeldThere p.scripts x) (sym natives)
-        (each-push (λ (o : HeapNative). Among x (contents o.slots) → IsHeldThere p.scripts x) p.counted.natives (made_native (p.natives_made + 1) slots)
-        (λ o a. f.linked.held o x a) (λ a. absurd (contents-empty_none slots x a))) n m;
-    one_key = f.linked.one_key;
-    one_name = f.linked.one_name;
-    script_names = f.linked.script_names;
-  }
-
-  -- keys are those of what is there and of the new native
-  made-keys : (HasKeys p.counted → HasKeys next) → HasKeys (record { natives = (with_native v.heap slots).natives; buffer = (with_native v.heap slots).buffer; keys = next.keys })
-  made-keys keyed =
-      subst (λ ns. HasKeys (record { natives = ns; buffer = (with_native v.heap slots).buffer; keys = next.keys })) named-natives
-      (HasKeys-numbers next (map (named_native p.scripts) next.natives) (with_native v.heap slots).buffer
-      (map-map (λ (n : HeapNative). n.number) (named_native p.scripts) next.natives) (keyed (subst HasKeys (counts-back p f.linked) f.order.keyed)))
-
-  pub made-fit : slots ≤ 64 → p.natives_made < p.limits.natives → (HasKeys p.counted → HasKeys next) → IsFit ((p.natives_made + 1) ∷ []) made
-  made-fit few room keyed = record {
-    order = subst (IsInOrder ((p.natives_made + 1) ∷ [])) (sym made-keyed) (IsInOrder-made v slots next.keys few room (made-keys keyed) f.order);
-    linked = made-linked;
-  }
-
   -- each native stays at its key
   pub made-kept : (q k : ℕ) → number_at v q ≡ Some k → number_at (keyed_of made) q ≡ Some k
   made-kept q k e = others q (λ s.
       let bad : None ≡ Some k = sym vacant ∙ (ap (λ j. get_or old_keys j None) (sym s) ∙ e) in
       absurd (cc)) ∙ e
+
+  -- no reflector has the next number
+  made-blank : reflector_key p.scripts (p.natives_made + 1) ≡ None
+  made-blank = go (find (λ (q : Object). same_name q.name (reflector (p.natives_made + 1))) p.scripts) refl
+    where
+      go : (o : Option Object) → find (λ (q : Object). same_name q.name (reflector (p.natives_made + 1))) p.scripts ≡ o → option_map (λ (q : Object). q.key) o ≡ None
+      go None e = refl
+      go (Some q) e =
+          let named : q.name ≡ reflector (p.natives_made + 1) =
+          same_name-true q.name (reflector (p.natives_made + 1)) (find-passes (λ (r : Object). same_name r.name (reflector (p.natives_made + 1))) p.scripts q e) in
+          let there : Among q.name (script_names v.heap) =
+          object-name v.heap p.scripts refl q (find-among (λ (r : Object). same_name r.name (reflector (p.natives_made + 1))) p.scripts q e) in
+          let n = named-member v.heap (p.natives_made + 1) (f.order.sound.well_formed.reflected (p.natives_made + 1) (subst (λ x. Among x (script_names v.heap)) named there)) in
+          absurd (omega (arith, n.2, f.order.sound.well_formed.native_numbers n.0 n.1))
+
+  module _ (at : counts.number_at next key.0 ≡ Some (p.natives_made + 1))
+      (none : counts.reflector_at next key.0 ≡ None)
+      (other_reflectors : (q : ℕ) → q ≢ key.0 → counts.reflector_at next q ≡ counts.reflector_at p.counted q)
+      (as_many : length next.reflectors ≡ length next.keys) where
+    -- each native has its reflector still, and the new one has none
+    made-reflectors : next.reflectors ≡ reflectors_by p.scripts next.keys
+    made-reflectors = ext_get_or None next.reflectors (reflectors_by p.scripts next.keys) (as_many ∙ sym (length-map next.keys its))
+        (λ q within. ⊎_elim (λ t. here q t.1) (λ t. there q t.1) (eqb_tells q key.0))
+      where
+        its : Option ℕ → Option ℕ
+        its o = option_and_then (reflector_key p.scripts) o
+
+        read : (keys : List (Option ℕ)) (q : ℕ) → get_or (reflectors_by p.scripts keys) q None ≡ its (get_or keys q None)
+        read keys q = get_or-map its keys q None
+
+        here : (q : ℕ) → q ≡ key.0 → get_or next.reflectors q None ≡ get_or (reflectors_by p.scripts next.keys) q None
+        here q e = subst (λ j. get_or next.reflectors j None ≡ get_or (reflectors_by p.scripts next.keys) j None) (sym e)
+            (none ∙ sym (read next.keys key.0 ∙ (ap its at ∙ made-blank)))
+
+        there : (q : ℕ) → q ≢ key.0 → get_or next.reflectors q None ≡ get_or (reflectors_by p.scripts next.keys) q None
+        there q e =
+            other_reflectors q e
+            ∙ (ap (λ rs. get_or rs q None) f.linked.reflectors
+            ∙ (read p.counted.keys q
+            ∙ (ap its (sym (others q e)) ∙ sym (read next.keys q))))
+
+    pub made-linked : IsLinked made
+    made-linked = record {
+      native_registers = AreLive-same old_keys next.keys p.native_registers.items
+          (λ x m. made-same old_keys next.keys key.0 vacant others x (f.linked.native_registers x m)) f.linked.native_registers;
+      script_registers = f.linked.script_registers;
+      registers = f.linked.registers;
+      held = λ n x m. subst (λ ns. (o : HeapNative) → Among o ns → Among x (contents o.slots) → IsHeldThere p.scripts x) (sym natives)
+          (each-push (λ (o : HeapNative). Among x (contents o.slots) → IsHeldThere p.scripts x) p.counted.natives (made_native (p.natives_made + 1) slots)
+          (λ o a. f.linked.held o x a) (λ a. absurd (contents-empty_none slots x a))) n m;
+      one_key = f.linked.one_key;
+      one_name = f.linked.one_name;
+      reflectors = made-reflectors;
+      script_names = f.linked.script_names;
+    }
+
+    -- keys are those of what is there and of the new native
+    made-keys : (HasKeys p.counted → HasKeys next) → HasKeys (counts_in (with_native v.heap slots) next.keys)
+    made-keys keyed =
+        subst (λ ns. HasKeys (record { natives = ns; buffer = (with_native v.heap slots).buffer; keys = next.keys; reflectors = [] })) named-natives
+        (HasKeys-numbers next (map (named_native p.scripts) next.natives) (with_native v.heap slots).buffer []
+        (map-map (λ (n : HeapNative). n.number) (named_native p.scripts) next.natives) (keyed (subst HasKeys (counts-back p f.linked) f.order.keyed)))
+
+    pub made-fit : slots ≤ 64 → p.natives_made < p.limits.natives → (HasKeys p.counted → HasKeys next) → IsFit ((p.natives_made + 1) ∷ []) made
+    made-fit few room keyed = record {
+      order = subst (IsInOrder ((p.natives_made + 1) ∷ [])) (sym made-keyed) (IsInOrder-made v slots next.keys few room (made-keys keyed) made-kept f.order);
+      linked = made-linked;
+    }
 
 -- In a register
 

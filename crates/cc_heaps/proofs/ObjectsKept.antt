@@ -9,7 +9,7 @@ use Rattle.cc_lists.proofs.ListWrites.{each-map, map-agree}
 use Rattle.cc_names.specs.declared.name.Name.{Name}
 use Rattle.cc_names.specs.declared.name.Name.TheVariants as name
 use Rattle.cc_names.specs.declared.number.SKey.{SKey}
-use Rattle.cc_names.specs.declared.kind.Kind.TheVariants.{Plain}
+use Rattle.cc_names.specs.declared.kind.Kind.TheVariants.{Map}
 use Rattle.cc_names.specs.Names.{object, is_native}
 use Rattle.cc_model.specs.Slots.{contents}
 use Rattle.cc_model.specs.Heap.{Heap, HeapNative}
@@ -17,11 +17,12 @@ use Rattle.cc_laws_heap.specs.Sound.{IsSound}
 use Rattle.cc_counted.specs.Owning.{HasKeys}
 use Rattle.cc_script.specs.Objects.{Object, AreWhole, object_at, is_there, name_at}
 use Rattle.cc_script.proofs.Reaching.{among-held}
-use Rattle.cc_heaps.specs.Keyed.{IsInOrder, named_object, named_objects}
+use Rattle.cc_heaps.specs.Keyed.{IsInOrder, Reflects, named_object, named_objects, reflectors_by}
 use Rattle.cc_heaps.specs.Named.{own_name, named_native, script_named, IsHeldThere, IsScriptLive}
 use Rattle.cc_heaps.specs.Fields.{heap_of, keyed_of, IsLinked}
 use Rattle.cc_heaps.specs.declared.heaps.Heaps.TheInside.{Inside}
 use Rattle.cc_heaps.proofs.Keying.{counts-back}
+use Rattle.cc_heaps.proofs.Keys.{Reflects-kept}
 use Rattle.cc_heaps.proofs.Reaching.{HasOneKey, HasOneName}
 
 -- Objects by key
@@ -44,7 +45,7 @@ pub record AreObjects (objects : List Object) : Type 0 where
   pub one_name : HasOneName objects
   pub script_names : (o : Object) → Among o objects → is_native o.name ≡ false
   pub whole : AreWhole objects
-  pub plain : (o : Object) → Among o objects → o.kind ≡ Plain
+  pub no_maps : (o : Object) → Among o objects → ¬ (o.kind ≡ Map)
 
 -- The parts with other objects
 
@@ -55,10 +56,12 @@ with_objects p objects = record p { scripts = objects }
 abbrev pub with_named : Heap → List Object → Heap
 with_named h objects = record h { scripts = named_objects objects }
 
--- what registers and natives hold has the name that it had
+-- what registers and natives hold has the name that it had, natives have the reflectors that they had, and these their natives
 pub record HoldsSame (p : Inside) (objects : List Object) : Type 0 where
   pub registers : (key : SKey) → Among (Some key) p.script_registers.items → name_at objects key.0 ≡ name_at p.scripts key.0
   pub natives : (n : HeapNative) (key : ℕ) → Among n p.counted.natives → Among (object key) (contents n.slots) → name_at objects key ≡ name_at p.scripts key
+  pub reflectors : reflectors_by objects p.counted.keys ≡ reflectors_by p.scripts p.counted.keys
+  pub reflecting : (o : Object) → Among o objects → Reflects (keyed_of p) o.name o.native
 
 -- the objects of parts that are linked and in order are as they have to be
 pub AreObjects-parts : (owned : List ℕ) (p : Inside) → IsLinked p → IsInOrder owned (keyed_of p) → AreObjects p.scripts
@@ -67,7 +70,7 @@ AreObjects-parts owned p l o = record {
   one_name = l.one_name;
   script_names = l.script_names;
   whole = o.whole;
-  plain = λ q m. o.alone.plain (named_object p.scripts q) (Among-map (named_object p.scripts) q p.scripts m);
+  no_maps = λ q m. o.without_maps.no_maps (named_object p.scripts q) (Among-map (named_object p.scripts) q p.scripts m);
 }
 
 -- the keys of natives are those of the counted heap
@@ -112,6 +115,7 @@ module _ (p : Inside) (objects : List Object) (l : IsLinked p) (same : HoldsSame
       held = λ n x m i. content n x m i (l.held n x m i);
       one_key = a.one_key;
       one_name = a.one_name;
+      reflectors = l.reflectors ∙ sym same.reflectors;
       script_names = a.script_names;
     }
       where
@@ -132,11 +136,7 @@ module _ (p : Inside) (objects : List Object) (l : IsLinked p) (same : HoldsSame
       named = refl;
       one_key = a.one_key;
       whole = a.whole;
+      reflecting = λ q m. Reflects-kept (keyed_of p) (keyed_of (with_objects p objects)) q.name q.native (λ key k is at. at) (same.reflecting q m);
       limits = o.limits;
-      alone = record {
-        plain = each-map (λ q. q.kind ≡ Plain) (named_object objects) objects a.plain;
-        unpreserved = each-map (λ n. n.preserved ≡ false) (named_native objects) p.counted.natives
-            (λ n m. o.alone.unpreserved (named_native p.scripts n) (Among-map (named_native p.scripts) n p.counted.natives m));
-        no_entries = refl;
-      };
+      without_maps = record { no_maps = each-map (λ q. ¬ (q.kind ≡ Map)) (named_object objects) objects a.no_maps; no_entries = refl };
     }

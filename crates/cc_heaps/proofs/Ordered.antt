@@ -1,21 +1,19 @@
 -- HEAPS WITH KEYS STAY IN ORDER as references are taken and given up, slots of natives and native registers are written, and
 -- the buffer changes: script objects stay as they are.
-use Rattle.std.proofs.Common.{◌≡◌, ℕ, ◌+◌, ◌<◌, ◌≤◌, ◌==◌, true, false, List, [], ◌∷◌, ◌++◌, map, length, get_or, Option, Some, None, refl, sym, ◌∙◌, subst, ⊎_elim, inl, inr, arith, count_by}
+use Rattle.std.proofs.Common.{◌≡◌, ℕ, ◌+◌, ◌<◌, ◌≤◌, ◌==◌, true, List, [], ◌∷◌, ◌++◌, map, length, get_or, Option, Some, None, refl, sym, ◌∙◌, subst, ⊎_elim, inl, inr, arith, count_by}
 use Rattle.cc_lists.specs.Members.{Among}
 use Rattle.cc_lists.proofs.Counting.{count_by-cons}
-use Rattle.cc_lists.proofs.ListWrites.{each-push}
 use Rattle.cc_names.specs.declared.name.Name.{Name}
 use Rattle.cc_names.specs.declared.register.Reg.TheVariants.{N}
-use Rattle.cc_names.specs.declared.kind.Kind.TheVariants.{Plain}
+use Rattle.cc_names.specs.declared.kind.Kind.TheVariants.{Map}
 use Rattle.cc_names.specs.Names.{native}
-use Rattle.cc_model.specs.Slots.{empty_slots}
 use Rattle.cc_model.specs.Heap.{Heap, HeapNative, HeapScript, Buffered, native_at, register, set_register, set_slot, change_native, with_native_slot, with_mark, suspect}
 use Rattle.cc_model.specs.Cascade.{add_ref, cascade}
 use Rattle.cc_model.specs.Effects.{with_native}
 use Rattle.cc_model.specs.End.{unlink}
 use Rattle.cc_model.specs.WellFormed.{IsWellFormed, native_names, names_there}
 use Rattle.cc_laws_heap.specs.Sound.{IsSound, numbers_of}
-use Rattle.cc_laws_heap.specs.Freeing.{SameBeside, Uncounted}
+use Rattle.cc_laws_heap.specs.Freeing.{SameBeside}
 use Rattle.cc_laws_heap.proofs.Making.{with_mark-cases, places-with_mark}
 use Rattle.cc_laws_heap.proofs.Kept.{IsBuffer, with_buffer, IsWellFormed-buffer}
 use Rattle.cc_laws_heap.proofs.Owning.{IsIn, add_ref-sound}
@@ -26,68 +24,59 @@ use Rattle.cc_laws_heap.proofs.Leaving.{Leave, Leave-before, Leave-frees}
 use Rattle.cc_laws_heap.proofs.Unlinking.{unlink-keeps}
 use Rattle.cc_counted.specs.Counts.{key_left}
 use Rattle.cc_counted.specs.Owning.{HasKeys}
-use Rattle.cc_heaps.specs.Keyed.{Keyed, IsInOrder, changed_to, left_with}
-use Rattle.cc_heaps.proofs.Keys.{numbers_of_natives, HasKeys-numbers, HasKeys-keyed, HasKeys-names, HasKeys-left, numbers-changed}
-use Rattle.cc_heaps.proofs.EachNative.{IsOfEach, each-add_ref, each-cascade, each-changed, each-unlink}
+use Rattle.cc_heaps.specs.Keyed.{Keyed, IsInOrder, changed_to, left_with, number_at}
+use Rattle.cc_heaps.proofs.Keys.{AreReflecting, AreReflecting-left, Reflects-kept, counts_in, numbers_of_natives, HasKeys-numbers, HasKeys-keyed, HasKeys-names, HasKeys-left, numbers-changed}
 
--- no native is preserved
-abbrev pub AreUnpreserved : List HeapNative → Type 0
-AreUnpreserved ns = IsOfEach (λ (u : Uncounted). u.preserved ≡ false) ns
-
--- all but natives, their registers and the buffer stays, and no native is preserved
+-- all but natives, their registers and the buffer stays
 pub record KeepsRest (h g : Heap) : Type 0 where
   pub limits : g.limits ≡ h.limits
   pub scripts : g.scripts ≡ h.scripts
   pub entries : g.entries ≡ h.entries
-  pub unpreserved : AreUnpreserved g.natives
 
-KeepsRest-beside : (h g : Heap) → SameBeside h g → AreUnpreserved g.natives → KeepsRest h g
-KeepsRest-beside h g b u = record { limits = b.limits; scripts = b.scripts; entries = b.entries; unpreserved = u }
+KeepsRest-beside : (h g : Heap) → SameBeside h g → KeepsRest h g
+KeepsRest-beside h g b = record { limits = b.limits; scripts = b.scripts; entries = b.entries }
 
 module _ (owned late : List ℕ) (v : Keyed) (o : IsInOrder owned v) (g : Heap) (rest : KeepsRest v.heap g) (sound : IsSound late g) where
   -- heaps with other keys
-  pub IsInOrder-keyed : (keys : List (Option ℕ)) → HasKeys (record { natives = g.natives; buffer = g.buffer; keys = keys }) →
+  pub IsInOrder-keyed : (keys : List (Option ℕ)) → HasKeys (counts_in g keys) → AreReflecting (record { heap = g; keys = keys; scripts = v.scripts }) →
       IsInOrder late (record { heap = g; keys = keys; scripts = v.scripts })
-  IsInOrder-keyed keys k = record {
+  IsInOrder-keyed keys k reflecting = record {
     sound = sound;
     keyed = HasKeys-keyed v g keys k;
     named = rest.scripts ∙ o.named;
     one_key = o.one_key;
     whole = o.whole;
+    reflecting = reflecting;
     limits = subst (λ l. (l.natives ≤ 1000000) × (l.scripts ≤ 1000000)) (sym rest.limits) o.limits;
-    alone = record {
-      plain = subst (λ (os : List HeapScript). (s : HeapScript) → Among s os → s.kind ≡ Plain) (sym rest.scripts) o.alone.plain;
-      unpreserved = rest.unpreserved;
-      no_entries = rest.entries ∙ o.alone.no_entries;
+    without_maps = record {
+      no_maps = subst (λ (os : List HeapScript). (s : HeapScript) → Among s os → ¬ (s.kind ≡ Map)) (sym rest.scripts) o.without_maps.no_maps;
+      no_entries = rest.entries ∙ o.without_maps.no_entries;
     };
   }
 
   -- heaps of the same natives
   pub IsInOrder-changed : numbers_of_natives g.natives ≡ numbers_of_natives v.heap.natives → IsInOrder late (changed_to v g)
   IsInOrder-changed numbers =
-      IsInOrder-keyed v.keys
-      (HasKeys-numbers (record { natives = v.heap.natives; buffer = v.heap.buffer; keys = v.keys }) g.natives g.buffer numbers (HasKeys-names v o.keyed))
+      IsInOrder-keyed v.keys (HasKeys-numbers (counts_in v.heap v.keys) g.natives g.buffer [] numbers (HasKeys-names v o.keyed))
+      (λ q m. Reflects-kept v (changed_to v g) q.name q.native (λ key k is at. at) (o.reflecting q m))
 
   -- heaps that natives left
   pub IsInOrder-left : ((k : ℕ) → Among (native k) (native_names g) → Among (native k) (native_names v.heap)) → IsInOrder late (left_with v g)
   IsInOrder-left before =
       IsInOrder-keyed (map (key_left g) v.keys)
-      (HasKeys-left (record { natives = v.heap.natives; buffer = v.heap.buffer; keys = v.keys }) g sound.well_formed before (HasKeys-names v o.keyed))
+      (HasKeys-left (counts_in v.heap v.keys) g [] sound.well_formed before (HasKeys-names v o.keyed))
+      (AreReflecting-left v g (rest.scripts ∙ o.named) sound.well_formed o.reflecting)
 
 -- other natives and another buffer alone
 IsInOrder-with : (owned late : List ℕ) (v : Keyed) → IsInOrder owned v → (ns : List HeapNative) (bs : List Buffered) → IsSound late (record v.heap { natives = ns; buffer = bs }) →
-    AreUnpreserved ns → numbers_of_natives ns ≡ numbers_of_natives v.heap.natives → IsInOrder late (changed_to v (record v.heap { natives = ns; buffer = bs }))
-IsInOrder-with owned late v o ns bs s u numbers = IsInOrder-changed owned late v o (record v.heap { natives = ns; buffer = bs })
-    (record { limits = refl; scripts = refl; entries = refl; unpreserved = u }) s numbers
+    numbers_of_natives ns ≡ numbers_of_natives v.heap.natives → IsInOrder late (changed_to v (record v.heap { natives = ns; buffer = bs }))
+IsInOrder-with owned late v o ns bs s numbers = IsInOrder-changed owned late v o (record v.heap { natives = ns; buffer = bs })
+    (record { limits = refl; scripts = refl; entries = refl }) s numbers
 
 -- what a step of Leave comes to
-IsInOrder-leave : (owned late freed : List ℕ) (v : Keyed) (g : Heap) → IsInOrder owned v → Leave v.heap freed g → AreUnpreserved g.natives → IsSound late g →
+IsInOrder-leave : (owned late freed : List ℕ) (v : Keyed) (g : Heap) → IsInOrder owned v → Leave v.heap freed g → IsSound late g →
     IsInOrder late (left_with v g)
-IsInOrder-leave owned late freed v g o l u s = IsInOrder-left owned late v o g (KeepsRest-beside v.heap g l.beside u) s (Leave-before v.heap freed g l)
-
--- the flag of preservation alone
-abbrev Unpreserved : Uncounted → Type 0
-Unpreserved u = u.preserved ≡ false
+IsInOrder-leave owned late freed v g o l s = IsInOrder-left owned late v o g (KeepsRest-beside v.heap g l.beside) s (Leave-before v.heap freed g l)
 
 -- one more reference taken
 pub IsInOrder-add_ref : (owned : List ℕ) (v : Keyed) (k : ℕ) → Among (native k) (native_names v.heap) → IsInOrder owned v →
@@ -95,7 +84,6 @@ pub IsInOrder-add_ref : (owned : List ℕ) (v : Keyed) (k : ℕ) → Among (nati
 IsInOrder-add_ref owned v k there o =
     IsInOrder-with owned (k ∷ owned) v o (add_ref v.heap k).natives (add_ref v.heap k).buffer
     (add_ref-sound owned v.heap k there o.sound)
-    (each-add_ref Unpreserved v.heap k o.alone.unpreserved)
     (numbers-changed v.heap k (λ n. record n { count = n.count + 1 }) (λ n. refl))
 
 -- one given up
@@ -103,14 +91,13 @@ pub IsInOrder-cascade : (owned : List ℕ) (v : Keyed) (k : ℕ) → IsInOrder (
 IsInOrder-cascade owned v k o =
     let f = cascade-frees owned v.heap k o.sound in
     IsInOrder-leave (k ∷ owned) owned f.0 v (cascade v.heap k).heap o (Leave-frees v.heap f.0 (cascade v.heap k) f.1)
-    (each-cascade Unpreserved v.heap k o.alone.unpreserved) (cascade-sound owned v.heap k o.sound)
+    (cascade-sound owned v.heap k o.sound)
 
 -- a native that is owned unlinked
 pub IsInOrder-unlink : (owned : List ℕ) (v : Keyed) (k : ℕ) → IsInOrder (k ∷ owned) v → IsInOrder (k ∷ owned) (left_with v (unlink v.heap k).heap)
 IsInOrder-unlink owned v k o =
     let f = unlink-keeps (k ∷ owned) v.heap k o.sound (inl refl) in
-    IsInOrder-leave (k ∷ owned) (k ∷ owned) f.0 v (unlink v.heap k).heap o f.2.leaves
-    (each-unlink Unpreserved (λ u i e. e) (λ u e. refl) v.heap k o.alone.unpreserved) f.1
+    IsInOrder-leave (k ∷ owned) (k ∷ owned) f.0 v (unlink v.heap k).heap o f.2.leaves f.1
 
 -- counts do not read the buffer
 IsInOrder-buffer : (owned : List ℕ) (v : Keyed) (bs : List Buffered) → IsBuffer v.heap bs → IsInOrder owned v → IsInOrder owned (changed_to v (with_buffer v.heap bs))
@@ -122,7 +109,7 @@ IsInOrder-buffer owned v bs b o =
       none_zero = o.sound.none_zero;
       owned_there = o.sound.owned_there;
     })
-    o.alone.unpreserved refl
+    refl
 
 -- a native that is suspected
 pub IsInOrder-suspect : (owned : List ℕ) (v : Keyed) (k : ℕ) → Among (native k) (native_names v.heap) → IsInOrder owned v →
@@ -153,7 +140,7 @@ pub IsInOrder-register : (v : Keyed) (r : ℕ) (x : Option Name) → r < 256 →
     IsInOrder (numbers_of (register v.heap (N r)) ++ []) (changed_to v (set_register v.heap (N r) x))
 IsInOrder-register v r x within there o =
     IsInOrder-changed (numbers_of x ++ []) (numbers_of (register v.heap (N r)) ++ []) v o (set_register v.heap (N r) x)
-    (record { limits = refl; scripts = refl; entries = refl; unpreserved = o.alone.unpreserved })
+    (record { limits = refl; scripts = refl; entries = refl })
     (native_register-sound [] v.heap r x within there o.sound) refl
 
 -- slot i of native k written, whose new reference is owned: what it held is owned
@@ -162,17 +149,14 @@ pub IsInOrder-slot : (v : Keyed) (k i : ℕ) (n : HeapNative) (x : Option Name) 
 IsInOrder-slot v k i n x found room there o =
     IsInOrder-with (numbers_of x ++ []) (numbers_of (get_or n.slots i None) ++ []) v o (change_native v.heap k (with_native_slot i x)).natives v.heap.buffer
     (native_slot-sound [] v.heap k i n x found room there o.sound)
-    (each-changed Unpreserved v.heap k (with_native_slot i x) (λ m e. e) o.alone.unpreserved)
     (numbers-changed v.heap k (with_native_slot i x) (λ m. refl))
 
 -- a native made, with a key of its own: it is owned
 pub IsInOrder-made : (v : Keyed) (n : ℕ) (keys : List (Option ℕ)) → n ≤ 64 → v.heap.natives_made < v.heap.limits.natives →
-    HasKeys (record { natives = (with_native v.heap n).natives; buffer = (with_native v.heap n).buffer; keys = keys }) → IsInOrder [] v →
+    HasKeys (counts_in (with_native v.heap n) keys) → ((q k : ℕ) → number_at v q ≡ Some k → get_or keys q None ≡ Some k) → IsInOrder [] v →
     IsInOrder ((v.heap.natives_made + 1) ∷ []) (record { heap = with_native v.heap n; keys = keys; scripts = v.scripts })
-IsInOrder-made v n keys few room k o =
+IsInOrder-made v n keys few room k kept o =
     IsInOrder-keyed [] ((v.heap.natives_made + 1) ∷ []) v o (with_native v.heap n)
-    (record { limits = refl; scripts = refl; entries = refl; unpreserved = each-push (λ (m : HeapNative). m.preserved ≡ false) v.heap.natives new o.alone.unpreserved refl })
+    (record { limits = refl; scripts = refl; entries = refl })
     (with_native-sound [] v.heap n o.sound few room) keys k
-  where
-    new : HeapNative
-    new = record { number = v.heap.natives_made + 1; slots = empty_slots n; preserved = false; count = 1 }
+    (λ q m. Reflects-kept v (record { heap = with_native v.heap n; keys = keys; scripts = v.scripts }) q.name q.native (λ key j is at. kept key j at) (o.reflecting q m))

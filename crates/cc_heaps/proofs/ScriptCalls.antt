@@ -1,8 +1,10 @@
 -- WHAT CALLS DO TO SCRIPT OBJECTS AND SCRIPT REGISTERS: an exposure, a slot written, a register written, an object made.
 use Rattle.std.proofs.Common.{◌≡◌, ℕ, zero, suc, ◌+◌, ◌<◌, ◌≤◌, Bool, true, false, cond, List, [], ◌∷◌, ◌++◌, map, replicate, Option, Some, None, option_map, is_some, refl, sym, ◌∙◌, ap, subst, ⊎_elim, arith, count_by, ◌==◌}
 use Rattle.std.specs.Prelude.{IsTrue, slice_set}
-use Rattle.std.specs.Option.{option_or}
+use Rattle.std.specs.Option.{option_and_then, option_or}
+use Rattle.std.specs.List.{find}
 use Rattle.std.specs.Vec.{with_item}
+use Rattle.std.proofs.Math.Path.{fun_ext}
 use Rattle.std.proofs.lemmas.Bool.{eqb-true, eq-eqb, true≢false}
 use Rattle.std.proofs.lemmas.List.{length-replicate, length-set, map-set, map_push}
 use Rattle.std.proofs.lemmas.List.Folds.{find-append}
@@ -14,9 +16,9 @@ use Rattle.cc_lists.proofs.ListWrites.{each-push, Among-set_cases, map-agree}
 use Rattle.cc_names.specs.declared.name.Name.{Name}
 use Rattle.cc_names.specs.declared.number.SKey.{SKey}
 use Rattle.cc_names.specs.declared.register.Reg.TheVariants.{S as s_register}
-use Rattle.cc_names.specs.declared.kind.Kind.TheVariants.{Plain}
+use Rattle.cc_names.specs.declared.kind.Kind.TheVariants.{Plain, Map}
 use Rattle.cc_names.specs.declared.kind.Colour.TheVariants.{Black}
-use Rattle.cc_names.specs.Names.{object, is_native}
+use Rattle.cc_names.specs.Names.{object, reflector, same_name, is_native}
 use Rattle.cc_model.specs.Slots.{empty_slots}
 use Rattle.cc_model.specs.Heap.{Heap, HeapScript, set_register, set_slot}
 use Rattle.cc_model.specs.Effects.{with_object}
@@ -30,14 +32,15 @@ use Rattle.cc_laws_heap.proofs.ScriptsKept.{exposed-sound, script_slot-sound}
 use Rattle.cc_laws_heap.proofs.ScriptCommands.{blank, IsNewScript-object}
 use Rattle.cc_script.specs.Objects.{Object, AreWhole, change_object, is_there, name_at, object_at, plain_object, raised_among, with_slot}
 use Rattle.cc_script.specs.Walking.{keys_reached}
-use Rattle.cc_heaps.specs.Keyed.{Keyed, IsInOrder, name_held, named_object, named_objects}
+use Rattle.cc_heaps.specs.Keyed.{Keyed, IsInOrder, Reflects, key_of, name_held, named_object, named_objects, reflectors_by}
 use Rattle.cc_heaps.specs.Changes.{IsScriptThere, KeepsKeys, script_name}
 use Rattle.cc_heaps.specs.Named.{script_named, IsScriptLive}
 use Rattle.cc_heaps.specs.Fields.{heap_of, keyed_of, IsLinked}
 use Rattle.cc_heaps.specs.declared.heaps.Heaps.TheInside.{Inside}
+use Rattle.cc_heaps.proofs.Keys.{Reflects-kept}
 use Rattle.cc_heaps.proofs.Reaching.{HasOneKey, object_at-own, name_at-found}
 use Rattle.cc_heaps.proofs.ScriptsChanged.{KeepsNames, KeepsNames-there, KeepsNames-same, there-named, with_objects, with_named, heap-objects, keys-objects, linked-objects, order-objects}
-use Rattle.cc_heaps.proofs.ScriptWrites.{KeepsObjects, KeepsNames-written, one_key-written, plain-written, raise_among, KeepsObjects-raised, whole-raised, exposed-named, write_slot, KeepsObjects-slot, whole-slot, slot-named}
+use Rattle.cc_heaps.proofs.ScriptWrites.{KeepsObjects, KeepsNames-written, one_key-written, no_maps-written, reflectors-written, reflecting-written, raise_among, KeepsObjects-raised, whole-raised, exposed-named, write_slot, KeepsObjects-slot, whole-slot, slot-named}
 
 -- the second parts hold these heaps, fit together and are in order, and what is there keeps its key and its name
 pub record Becomes (p q : Inside) (h : Heap) : Type 0 where
@@ -75,21 +78,24 @@ nothing-exposed v (Some key) none = absurd (none key refl)
 module _ (p : Inside) (l : IsLinked p) (o : IsInOrder [] (keyed_of p)) where
   -- other script objects, as the definitions change them
   becomes : (objects : List Object) (made : ℕ) (h : Heap) → KeepsNames p.scripts objects → with_named (heap_of p) objects made ≡ h → IsSound [] h →
-      HasOneKey objects → AreWhole objects → ((s : HeapScript) → Among s (named_objects objects) → s.kind ≡ Plain) → Becomes p (with_objects p objects made) h
-  becomes objects made h kept e s one whole plain =
+      HasOneKey objects → AreWhole objects → ((s : HeapScript) → Among s (named_objects objects) → ¬ (s.kind ≡ Map)) →
+      reflectors_by objects p.counted.keys ≡ reflectors_by p.scripts p.counted.keys → ((q : Object) → Among q objects → Reflects (keyed_of p) q.name q.native) →
+      Becomes p (with_objects p objects made) h
+  becomes objects made h kept e s one whole no_maps reflectors reflecting =
       let sound : IsSound [] (with_named (heap_of p) objects made) = subst (IsSound []) (sym e) s in record {
         heap = heap-objects p objects made kept l ∙ e;
         names = kept;
         keys = keys-objects p objects made kept l;
-        order = order-objects p objects made kept l [] sound one whole plain o;
-        linked = linked-objects p objects made kept l [] sound one;
+        order = order-objects p objects made kept l [] sound one reflectors whole no_maps reflecting o;
+        linked = linked-objects p objects made kept l [] sound one reflectors;
       }
 
   -- each object written
   becomes-written : (f : Object → Object) → KeepsObjects f → (h : Heap) → with_named (heap_of p) (map f p.scripts) p.scripts_made ≡ h → IsSound [] h →
       AreWhole (map f p.scripts) → Becomes p (with_objects p (map f p.scripts) p.scripts_made) h
   becomes-written f keeps h e s whole = becomes (map f p.scripts) p.scripts_made h (KeepsNames-written f keeps p.scripts) e s
-      (one_key-written f keeps p.scripts l.one_key) whole (plain-written f keeps p.scripts o.alone.plain)
+      (one_key-written f keeps p.scripts l.one_key) whole (no_maps-written f keeps p.scripts o.without_maps.no_maps)
+      (reflectors-written f keeps p.scripts p.counted.keys) (reflecting-written f keeps p.scripts (keyed_of p) o.reflecting)
 
   -- AN EXPOSURE
   pub becomes-exposed : (key : ℕ) → IsTrue (is_there p.scripts key) → (objects : List Object) → objects ≡ raised_among (keys_reached p.scripts (key ∷ [])) Black p.scripts →
@@ -155,12 +161,9 @@ module _ (p : Inside) (l : IsLinked p) (o : IsInOrder [] (keyed_of p)) where
       named = refl;
       one_key = o.one_key;
       whole = o.whole;
+      reflecting = λ q m. Reflects-kept (keyed_of p) (keyed_of (with_register r content)) q.name q.native (λ key k is at. at) (o.reflecting q m);
       limits = o.limits;
-      alone = record {
-        plain = o.alone.plain;
-        unpreserved = o.alone.unpreserved;
-        no_entries = refl;
-      };
+      without_maps = record { no_maps = o.without_maps.no_maps; no_entries = refl };
     };
     linked = record {
       native_registers = l.native_registers;
@@ -172,6 +175,7 @@ module _ (p : Inside) (l : IsLinked p) (o : IsInOrder [] (keyed_of p)) where
       held = l.held;
       one_key = l.one_key;
       one_name = l.one_name;
+      reflectors = l.reflectors;
       script_names = l.script_names;
     };
   }
@@ -262,9 +266,24 @@ module _ (objects : List Object) (one : HasOneKey objects) (whole : AreWhole obj
       same : (o : Object) → Among o objects → named_object made_last o ≡ named_object objects o
       same o m = ap (λ slots. record (named_object objects o) { slots = slots }) (map-agree (name_held made_last) (name_held objects) o.slots (at o m))
 
-  plain-made : ((s : HeapScript) → Among s (named_objects objects) → s.kind ≡ Plain) → (s : HeapScript) → Among s (named_objects made_last) → s.kind ≡ Plain
-  plain-made plain = subst (λ ss. (s : HeapScript) → Among s ss → s.kind ≡ Plain) (sym named-made)
-      (each-push (λ s. s.kind ≡ Plain) (named_objects objects) (blank (object number) Plain n) plain refl)
+  no_maps-made : ((s : HeapScript) → Among s (named_objects objects) → ¬ (s.kind ≡ Map)) → (s : HeapScript) → Among s (named_objects made_last) → ¬ (s.kind ≡ Map)
+  no_maps-made no_maps = subst (λ ss. (s : HeapScript) → Among s ss → ¬ (s.kind ≡ Map)) (sym named-made)
+      (each-push (λ s. ¬ (s.kind ≡ Map)) (named_objects objects) (blank (object number) Plain n) no_maps (λ e. absurd (cc)))
+
+  -- it is no reflector
+  reflectors-made : (keys : List (Option ℕ)) → reflectors_by made_last keys ≡ reflectors_by objects keys
+  reflectors-made keys = ap (λ its. map (λ o. option_and_then its o) keys) (fun_ext same)
+    where
+      go : (o : Option Object) → option_map (λ (p : Object). p.key) (option_or o None) ≡ option_map (λ (p : Object). p.key) o
+      go None = refl
+      go (Some o) = refl
+
+      same : (k : ℕ) → key_of made_last (reflector k) ≡ key_of objects (reflector k)
+      same k = ap (λ (o : Option Object). option_map (λ p. p.key) o) (find-append (λ o. same_name o.name (reflector k)) objects (plain_object key number n ∷ []))
+          ∙ go (find (λ o. same_name o.name (reflector k)) objects)
+
+  reflecting-made : (v : Keyed) → ((o : Object) → Among o objects → Reflects v o.name o.native) → (o : Object) → Among o made_last → Reflects v o.name o.native
+  reflecting-made v all = each-push (λ o. Reflects v o.name o.native) objects (plain_object key number n) all refl
 
 -- AN OBJECT MADE
 pub becomes-made : (p : Inside) (l : IsLinked p) (o : IsInOrder [] (keyed_of p)) (key n : ℕ) → is_there p.scripts key ≡ false → n ≤ 64 → p.scripts_made < p.limits.scripts →
@@ -279,4 +298,6 @@ becomes-made p l o key n vacant few room objects e =
     (IsNewScript-object (heap_of p) Plain n o.sound.well_formed (subst (λ i. i ≤ 64) (sym (length-replicate n None)) few) room) o.sound)
     (one_key-made p.scripts l.one_key o.whole key (p.scripts_made + 1) n vacant)
     (whole-made p.scripts l.one_key o.whole key (p.scripts_made + 1) n vacant)
-    (plain-made p.scripts l.one_key o.whole key (p.scripts_made + 1) n vacant o.alone.plain))
+    (no_maps-made p.scripts l.one_key o.whole key (p.scripts_made + 1) n vacant o.without_maps.no_maps)
+    (reflectors-made p.scripts l.one_key o.whole key (p.scripts_made + 1) n vacant p.counted.keys)
+    (reflecting-made p.scripts l.one_key o.whole key (p.scripts_made + 1) n vacant (keyed_of p) o.reflecting))

@@ -1,6 +1,7 @@
--- SCRIPT OBJECTS WRITTEN: each keeps its key, its name and its kind. An exposure and a slot written, by names.
+-- SCRIPT OBJECTS WRITTEN: each keeps its key, its name, its kind and its native. An exposure and a slot written, by names.
 use Rattle.std.proofs.Common.{◌≡◌, ℕ, ◌≤◌, Bool, true, false, List, [], ◌∷◌, map, Option, Some, None, option_map, refl, sym, ◌∙◌, ap, subst, inl, ⊎_elim, ◌==◌, if◌then◌else◌}
 use Rattle.std.specs.Prelude.{IsTrue}
+use Rattle.std.specs.Option.{option_and_then}
 use Rattle.std.specs.List.{find}
 use Rattle.std.proofs.Math.Path.{fun_ext}
 use Rattle.std.proofs.lemmas.Bool.{eqb-true, eq-eqb, true≢false}
@@ -12,16 +13,16 @@ use Rattle.cc_lists.proofs.Searching.{find-map}
 use Rattle.cc_lists.proofs.ListWrites.{each-map, count_by-kept_map, Among-set_cases, map-agree}
 use Rattle.cc_names.specs.declared.name.Name.{Name}
 use Rattle.cc_names.specs.declared.name.Name.TheVariants as name
-use Rattle.cc_names.specs.declared.kind.Kind.TheVariants.{Plain}
+use Rattle.cc_names.specs.declared.kind.Kind.TheVariants.{Map}
 use Rattle.cc_names.specs.declared.kind.Colour.{Colour}
 use Rattle.cc_names.specs.declared.kind.Colour.TheVariants.{White, Gray, Black}
-use Rattle.cc_names.specs.Names.{same_name, is_native}
+use Rattle.cc_names.specs.Names.{reflector, same_name, is_native}
 use Rattle.cc_names.proofs.NameTests.{same_name-true, same_name-refl}
 use Rattle.cc_model.specs.Heap.{Heap, HeapScript, change_script, set_slot, with_script_slot}
 use Rattle.cc_model.specs.Exposure.{as_black, exposed, exposed_names}
 use Rattle.cc_script.specs.Objects.{Object, AreWhole, change_object, is_below, is_there, name_at, raised, raised_among, with_colour, with_slot}
 use Rattle.cc_script.specs.Walking.{keys_reached}
-use Rattle.cc_heaps.specs.Keyed.{name_held, named_object, named_objects}
+use Rattle.cc_heaps.specs.Keyed.{Keyed, Reflects, key_of, name_held, named_object, named_objects, reflectors_by}
 use Rattle.cc_heaps.proofs.Reaching.{AreNamesOf, HasOneKey, HasOneName, key-named, name_at-own, reached-alike_from, same-tests}
 use Rattle.cc_heaps.proofs.ScriptsChanged.{KeepsNames, KeepsNames-there}
 
@@ -30,6 +31,7 @@ pub record KeepsObjects (f : Object → Object) : Type 0 where
   pub key : (o : Object) → (f o).key ≡ o.key
   pub name : (o : Object) → (f o).name ≡ o.name
   pub kind : (o : Object) → (f o).kind ≡ o.kind
+  pub native : (o : Object) → (f o).native ≡ o.native
 
 module _ (f : Object → Object) (keeps : KeepsObjects f) (objects : List Object) where
   -- keys have the names that they had
@@ -64,9 +66,27 @@ module _ (f : Object → Object) (keeps : KeepsObjects f) (objects : List Object
   pub one_key-written : HasOneKey objects → HasOneKey (map f objects)
   one_key-written one key = subst (λ n. n ≤ 1) (sym (count_by-kept_map (λ o. o.key == key) f objects (λ o. ap (λ k. k == key) (keeps.key o)))) (one key)
 
-  pub plain-written : ((o : HeapScript) → Among o (named_objects objects) → o.kind ≡ Plain) → (o : HeapScript) → Among o (named_objects (map f objects)) → o.kind ≡ Plain
-  plain-written plain = each-map (λ o. o.kind ≡ Plain) (named_object (map f objects)) (map f objects)
-      (each-map (λ o. o.kind ≡ Plain) f objects (λ o m. keeps.kind o ∙ plain (named_object objects o) (Among-map (named_object objects) o objects m)))
+  pub no_maps-written : ((o : HeapScript) → Among o (named_objects objects) → ¬ (o.kind ≡ Map)) → (o : HeapScript) → Among o (named_objects (map f objects)) → ¬ (o.kind ≡ Map)
+  no_maps-written no_maps = each-map (λ o. ¬ (o.kind ≡ Map)) (named_object (map f objects)) (map f objects)
+      (each-map (λ o. ¬ (o.kind ≡ Map)) f objects (λ o m e. no_maps (named_object objects o) (Among-map (named_object objects) o objects m) (sym (keeps.kind o) ∙ e)))
+
+  -- names have the keys that they had
+  pub key_of-written : (x : Name) → key_of (map f objects) x ≡ key_of objects x
+  key_of-written x = ap (λ (o : Option Object). option_map (λ p. p.key) o) (find-map (λ p. same_name p.name x) f objects)
+      ∙ (go (find (λ o. same_name (f o).name x) objects)
+      ∙ ap (λ (t : Object → Bool). option_map (λ p. p.key) (find t objects)) (fun_ext (λ (o : Object). ap (λ y. same_name y x) (keeps.name o))))
+    where
+      go : (o : Option Object) → option_map (λ p. p.key) (option_map f o) ≡ option_map (λ p. p.key) o
+      go None = refl
+      go (Some o) = ap (λ k. Some k) (keeps.key o)
+
+  -- so natives have the reflectors that they had, and these their natives
+  pub reflectors-written : (keys : List (Option ℕ)) → reflectors_by (map f objects) keys ≡ reflectors_by objects keys
+  reflectors-written keys = ap (λ its. map (λ o. option_and_then its o) keys) (fun_ext (λ k. key_of-written (reflector k)))
+
+  pub reflecting-written : (v : Keyed) → ((o : Object) → Among o objects → Reflects v o.name o.native) → (o : Object) → Among o (map f objects) → Reflects v o.name o.native
+  reflecting-written v all = each-map (λ o. Reflects v o.name o.native) f objects
+      (λ o m. subst (λ y. Reflects v y (f o).native) (sym (keeps.name o)) (subst (λ k. Reflects v o.name k) (sym (keeps.native o)) (all o m)))
 
   -- slots hold what is there, where each holds what is there before
   pub whole-written : ((o : Object) (q : ℕ) → Among o objects → Among (Some q) (f o).slots → IsTrue (is_there objects q)) → AreWhole (map f objects)
@@ -103,6 +123,7 @@ KeepsObjects-raised keys = record {
   key = λ o. raise-either (λ p. p.key ≡ o.key) keys o refl refl;
   name = λ o. raise-either (λ p. p.name ≡ o.name) keys o refl refl;
   kind = λ o. raise-either (λ p. p.kind ≡ o.kind) keys o refl refl;
+  native = λ o. raise-either (λ p. p.native ≡ o.native) keys o refl refl;
 }
 
 pub whole-raised : (keys : List ℕ) (objects : List Object) → AreWhole objects → AreWhole (map (raise_among keys) objects)
@@ -163,6 +184,7 @@ KeepsObjects-slot key i item = record {
   key = λ o. write-either (λ p. p.key ≡ o.key) key i item o refl refl;
   name = λ o. write-either (λ p. p.name ≡ o.name) key i item o refl refl;
   kind = λ o. write-either (λ p. p.kind ≡ o.kind) key i item o refl refl;
+  native = λ o. write-either (λ p. p.native ≡ o.native) key i item o refl refl;
 }
 
 -- what comes into a slot is there

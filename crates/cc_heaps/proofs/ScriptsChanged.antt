@@ -5,30 +5,28 @@ use Rattle.std.specs.Prelude.{IsTrue}
 use Rattle.std.specs.Option.{option_and_then}
 use Rattle.std.proofs.Math.Path.{fun_ext}
 use Rattle.std.proofs.lemmas.Bool.{false≢true}
-use Rattle.std.proofs.lemmas.Simd.{map-map}
 use Rattle.cc_lists.specs.Members.{Among}
-use Rattle.cc_lists.proofs.Members.{Among-map, Among-map_cases}
+use Rattle.cc_lists.proofs.Members.{Among-map}
 use Rattle.cc_lists.proofs.Counting.{count_by-map}
-use Rattle.cc_lists.proofs.ListWrites.{each-map, map-kept, map-agree}
+use Rattle.cc_lists.proofs.ListWrites.{map-kept, map-agree}
 use Rattle.cc_names.specs.declared.number.SKey.{SKey}
 use Rattle.cc_names.specs.declared.name.Name.{Name}
 use Rattle.cc_names.specs.declared.name.Name.TheVariants as name
-use Rattle.cc_names.specs.declared.kind.Kind.TheVariants.{Plain}
-use Rattle.cc_names.specs.Names.{native, same_name, is_native}
+use Rattle.cc_names.specs.declared.kind.Kind.TheVariants.{Map}
+use Rattle.cc_names.specs.Names.{same_name, is_native}
 use Rattle.cc_model.specs.Heap.{Heap, HeapNative, HeapScript}
-use Rattle.cc_model.specs.WellFormed.{IsRising, script_names}
+use Rattle.cc_model.specs.WellFormed.{script_names}
 use Rattle.cc_laws_heap.specs.Sound.{IsSound}
 use Rattle.cc_laws_heap.proofs.ScriptsKept.{native-no_script}
 use Rattle.cc_laws_heap.proofs.NameLists.{same_name-sym}
-use Rattle.cc_counted.specs.Counts.{Counts}
-use Rattle.cc_counted.specs.Owning.{HasKeys}
 use Rattle.cc_script.specs.Objects.{Object, AreWhole, object_at, is_there, name_at}
 use Rattle.cc_script.proofs.Reaching.{among-held}
-use Rattle.cc_heaps.specs.Keyed.{IsInOrder, counts_of, keyed_native, named_object, named_objects}
+use Rattle.cc_heaps.specs.Keyed.{IsInOrder, Reflects, counts_of, keyed_native, named_object, named_objects, reflectors_by}
 use Rattle.cc_heaps.specs.Changes.{KeepsKeys}
 use Rattle.cc_heaps.specs.Named.{own_name, named_native, script_named, IsHeldThere, IsScriptLive}
 use Rattle.cc_heaps.specs.Fields.{heap_of, keyed_of, IsLinked}
 use Rattle.cc_heaps.specs.declared.heaps.Heaps.TheInside.{Inside}
+use Rattle.cc_heaps.proofs.Keys.{HasKeys-numbers, Reflects-kept}
 use Rattle.cc_heaps.proofs.Reaching.{HasOneKey}
 
 -- keys that have names keep them
@@ -58,22 +56,6 @@ KeepsNames-there os ps kept key t = let n = there-named os key t in named-there 
 -- and has the name that it had
 pub KeepsNames-same : (os ps : List Object) → KeepsNames os ps → (key : ℕ) → IsTrue (is_there os key) → name_at ps key ≡ name_at os key
 KeepsNames-same os ps kept key t = let n = there-named os key t in kept key n.0 n.1 ∙ sym n.1
-
--- keys read the numbers of natives alone
-HasKeys-numbers : (c : Counts) (ns : List HeapNative) → map (λ n. n.number) ns ≡ map (λ n. n.number) c.natives → HasKeys c → HasKeys (record c { natives = ns })
-HasKeys-numbers c ns same k = record {
-  key_of = λ n m.
-      let f = Among-map_cases (λ (o : HeapNative). o.number) c.natives n.number
-      (subst (λ is. Among n.number is) same (Among-map (λ (o : HeapNative). o.number) n ns m)) in
-      let found = k.key_of f.0 f.1 in
-      (found.0, found.1 ∙ ap (λ i. Some i) f.2);
-  there = λ key j e. subst (λ names. Among (native j) names) names (k.there key j e);
-  one_key = k.one_key;
-  rising = subst IsRising (sym same) k.rising;
-}
-  where
-    names : map (λ (n : HeapNative). native n.number) c.natives ≡ map (λ (n : HeapNative). native n.number) ns
-    names = sym (map-map native (λ (n : HeapNative). n.number) c.natives) ∙ (ap (map native) (sym same) ∙ map-map native (λ (n : HeapNative). n.number) ns)
 
 -- THE PARTS with other script objects, so many of which were made
 abbrev pub with_objects : Inside → List Object → ℕ → Inside
@@ -114,7 +96,8 @@ module _ (p : Inside) (objects : List Object) (made : ℕ) (kept : KeepsNames p.
   pub keys-objects : KeepsKeys (keyed_of p) (keyed_of (with_objects p objects made))
   keys-objects = record { natives = λ key k e m. e; scripts = λ key x e m. kept key x e }
 
-  module _ (owned : List ℕ) (s : IsSound owned (with_named (heap_of p) objects made)) (one : HasOneKey objects) where
+  module _ (owned : List ℕ) (s : IsSound owned (with_named (heap_of p) objects made)) (one : HasOneKey objects)
+      (reflectors : reflectors_by objects p.counted.keys ≡ reflectors_by p.scripts p.counted.keys) where
     -- THE PARTS FIT TOGETHER
     pub linked-objects : IsLinked (with_objects p objects made)
     linked-objects = record {
@@ -124,6 +107,7 @@ module _ (p : Inside) (objects : List Object) (made : ℕ) (kept : KeepsNames p.
       held = λ n x m i. held x (l.held n x m i);
       one_key = one;
       one_name = λ x. subst (λ n. n ≤ 1) (counted x) (s.well_formed.distinct x);
+      reflectors = l.reflectors ∙ sym reflectors;
       script_names = λ o m. no_native o.name (Among-map (λ (q : HeapScript). q.name) (named_object objects o) (named_objects objects) (Among-map (named_object objects) o objects m));
     }
       where
@@ -146,22 +130,19 @@ module _ (p : Inside) (objects : List Object) (made : ℕ) (kept : KeepsNames p.
         no_native (name.Script k) m = refl
         no_native (name.Reflector k) m = refl
 
-    -- AND THEY STAY IN ORDER, where the new ones are plain and their slots hold what is there.
-    pub order-objects : AreWhole objects → ((o : HeapScript) → Among o (named_objects objects) → o.kind ≡ Plain) →
-        IsInOrder owned (keyed_of p) → IsInOrder owned (keyed_of (with_objects p objects made))
-    order-objects whole plain o = record {
+    -- AND THEY STAY IN ORDER, where none is a weak map, their slots hold what is there, and reflectors have their natives.
+    pub order-objects : AreWhole objects → ((o : HeapScript) → Among o (named_objects objects) → ¬ (o.kind ≡ Map)) →
+        ((o : Object) → Among o objects → Reflects (keyed_of p) o.name o.native) → IsInOrder owned (keyed_of p) → IsInOrder owned (keyed_of (with_objects p objects made))
+    order-objects whole no_maps reflecting o = record {
       sound = subst (IsSound owned) (sym heap-objects) s;
-      keyed = HasKeys-numbers (counts_of (keyed_of p)) (counts_of (keyed_of (with_objects p objects made))).natives (numbers objects ∙ sym (numbers p.scripts)) o.keyed;
+      keyed = HasKeys-numbers (counts_of (keyed_of p)) (counts_of (keyed_of (with_objects p objects made))).natives p.counted.buffer
+          (reflectors_by objects p.counted.keys) (numbers objects ∙ sym (numbers p.scripts)) o.keyed;
       named = refl;
       one_key = one;
       whole = whole;
+      reflecting = λ q m. Reflects-kept (keyed_of p) (keyed_of (with_objects p objects made)) q.name q.native (λ key k is at. at) (reflecting q m);
       limits = o.limits;
-      alone = record {
-        plain = plain;
-        unpreserved = each-map (λ n. n.preserved ≡ false) (named_native objects) p.counted.natives
-            (λ n m. o.alone.unpreserved (named_native p.scripts n) (Among-map (named_native p.scripts) n p.counted.natives m));
-        no_entries = refl;
-      };
+      without_maps = record { no_maps = no_maps; no_entries = refl };
     }
       where
         numbers : (os : List Object) → map (λ n. n.number) (map (keyed_native os) (map (named_native os) p.counted.natives)) ≡ map (λ n. n.number) p.counted.natives

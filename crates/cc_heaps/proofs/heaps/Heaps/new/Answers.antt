@@ -11,7 +11,7 @@ use Rattle.cc_laws_heap.specs.Sound.{IsSound}
 use Rattle.cc_counted.specs.Counts.{Counts, no_counts}
 use Rattle.cc_script.specs.Objects.{Object}
 use Rattle.cc_heaps.specs.declared.heaps.Heaps.TheInside.{Inside}
-use Rattle.cc_heaps.specs.Keyed.{Keyed, IsInOrder, named_object}
+use Rattle.cc_heaps.specs.Keyed.{Keyed, IsInOrder, named_object, reflectors_by}
 use Rattle.cc_heaps.specs.Named.{named, named_native, script_named, IsLive, IsScriptLive}
 use Rattle.cc_heaps.specs.Fields.{keyed_of, IsLinked}
 use Rattle.cc_heaps.proofs.Keying.{AreHeldThere}
@@ -36,12 +36,9 @@ empty-order l few = record {
   named = refl;
   one_key = λ key. omega arith;
   whole = λ o q m. absurd m;
+  reflecting = λ o m. absurd m;
   limits = few;
-  alone = record {
-    plain = λ o m. absurd m;
-    unpreserved = λ n m. absurd m;
-    no_entries = refl;
-  };
+  without_maps = record { no_maps = λ o m. absurd m; no_entries = refl };
 }
 
 module _ (natives : Vec (Option NKey)) (scripts : Vec (Option SKey)) (limits : Allowance) {counted : Counts} {objects : List Object}
@@ -83,6 +80,7 @@ module _ (natives : Vec (Option NKey)) (scripts : Vec (Option SKey)) (limits : A
     held = subst (λ (c : Counts). AreHeldThere objects c.natives) (sym none_counted) (λ n x m. absurd m);
     one_key = subst (λ os. (key : ℕ) → count_by (λ (o : Object). o.key == key) os ≤ 1) (sym none_made) (λ key. omega arith);
     one_name = subst (λ os. (x : Name) → count_by (λ (o : Object). same_name o.name x) os ≤ 1) (sym none_made) (λ x. omega arith);
+    reflectors = ap (λ (c : Counts). c.reflectors) none_counted ∙ sym (ap (λ (c : Counts). reflectors_by objects c.keys) none_counted);
     script_names = subst (λ os. (o : Object) → Among o os → is_native o.name ≡ false) (sym none_made) (λ o m. absurd m);
   }
 

@@ -36,11 +36,11 @@ invariant_of-self-2 c =
     let p = c.self.inside in
     let e = c.in_ok-key.ensures in
     (made-fit p (record { order = rw (← c.self.view_is) at c.requires.order; linked = c.self.invariant }) c.create.new.self c.args.slots c.in_ok-key.key e.natives e.buffer e.others e.vacant
-    c.requires.slots (rw (← c.self.view_is) at c.requires.allowed) e.keyed).linked
+    e.key e.reflector e.other_reflectors e.as_many c.requires.slots (rw (← c.self.view_is) at c.requires.allowed) e.keyed).linked
 
 pub returns-clause-order : goal.returns-clause-order
 returns-clause-order c =
     let p = c.self.inside in
     let e = c.in_ok-key.ensures in
     rw (← c.self.view_is) (made-fit p (record { order = rw (← c.self.view_is) at c.requires.order; linked = c.self.invariant }) c.create.new.self c.args.slots c.in_ok-key.key e.natives e.buffer e.others e.vacant
-    c.requires.slots (rw (← c.self.view_is) at c.requires.allowed) e.keyed).order
+    e.key e.reflector e.other_reflectors e.as_many c.requires.slots (rw (← c.self.view_is) at c.requires.allowed) e.keyed).order

@@ -40,6 +40,7 @@ module _ (p : Inside) (r : ℕ) (x : Option NKey) where
     held = l.held;
     one_key = l.one_key;
     one_name = l.one_name;
+    reflectors = l.reflectors;
     script_names = l.script_names;
   }
 
