@@ -26,7 +26,9 @@ pub mod GrayHolders
 pub mod NextHolder
 pub mod HolderWalk
 pub mod Agreeing
+pub mod References
 pub mod RootWalks
+pub mod PlaceEdges
 pub mod ObjectsKept
 pub mod RootNames
 pub mod MarkedObjects

@@ -1,4 +1,4 @@
--- THE WALKS OVER ROOTS: over registers, over the slots of a native, and over natives by rising number.
+-- THE WALKS OVER ROOTS: over registers, over the references of a native, and over natives by rising number.
 use Rattle.std.proofs.Common.{◌≡◌, ℕ, suc, ◌+◌, ◌<◌, ◌≤◌, true, List, [], ◌∷◌, ◌++◌, drop, get_or, length, nat_lt, Option, Some, None, IfSome, IsSome, refl, sym, ◌∙◌, ap, subst, inl, arith}
 use Rattle.std.specs.List.{filter}
 use Rattle.std.specs.Option.{option_and_then, option_map}
@@ -11,14 +11,14 @@ use Rattle.cc_lists.proofs.RisingWalks.{above-first}
 use Rattle.cc_names.specs.declared.number.NKey.{NKey}
 use Rattle.cc_names.specs.declared.number.SKey.{SKey}
 use Rattle.cc_names.specs.Names.{native}
-use Rattle.cc_model.specs.Heap.{HeapNative, native_at}
+use Rattle.cc_model.specs.Heap.{HeapNative}
 use Rattle.cc_model.specs.Slots.{Slots}
-use Rattle.cc_laws_heap.proofs.Natives.{IsRising-distinct, native_at-member}
 use Rattle.cc_counted.specs.declared.held.Held.{Held}
 use Rattle.cc_counted.specs.declared.held.Held.TheVariants as held
-use Rattle.cc_counted.specs.Counts.{Counts, number_at, the_number, number_or_none, name_of, heap_of, slots_at, slots_of, first_number, number_after}
+use Rattle.cc_counted.specs.Counts.{Counts, number_at, the_number, number_or_none, name_of, references_of, first_number, number_after}
 use Rattle.cc_counted.specs.Owning.{HasKeys}
-use Rattle.cc_heaps.specs.Roots.{keys_in_registers, keys_in, keys_held, natives_behind, keys_from, IsPlace}
+use Rattle.cc_heaps.specs.Roots.{keys_in_registers, keys_in, references_in, keys_held, natives_behind, keys_from, HaveFewSlots, IsPlace}
+use Rattle.cc_heaps.proofs.References.{references-found}
 
 -- Registers
 
@@ -31,15 +31,15 @@ keys_in_registers-more xs i x h e = at_drop_more keys_in_registers xs i None h �
 pub keys_in_registers-end : (xs : List (Option SKey)) (i : ℕ) → length xs ≤ i → keys_in_registers (drop i xs) ≡ []
 keys_in_registers-end xs i h = ap keys_in_registers (drop_all i xs h)
 
--- Slots of a native
+-- References of a native
 
--- the key of what a slot holds
+-- the key of what is held
 abbrev pub key_of_held : Option Held → List ℕ
 key_of_held None = []
 key_of_held (Some (held.Native key)) = []
 key_of_held (Some (held.Script key)) = key.0 ∷ []
 
--- the first slot, and those behind it
+-- the first reference, and those behind it
 keys_in-cons : (c : Counts) (x : Option Held) (ys : Slots) → keys_in (name_of c x ∷ ys) ≡ key_of_held x ++ keys_in ys
 keys_in-cons c None ys = refl
 keys_in-cons c (Some (held.Script key)) ys = refl
@@ -49,13 +49,13 @@ keys_in-cons c (Some (held.Native key)) ys = go (number_at c key.0)
     go None = refl
     go (Some k) = refl
 
--- slot i, and those behind it
+-- reference i, and those behind it
 pub keys_in-more : (c : Counts) (xs : Slots) (i : ℕ) (x : Option Held) → i < length xs → name_of c x ≡ get_or xs i None →
     keys_in (drop i xs) ≡ key_of_held x ++ keys_in (drop (i + 1) xs)
 keys_in-more c xs i x h e =
     at_drop_more keys_in xs i None h ∙ (ap (λ y. keys_in (y ∷ drop (i + 1) xs)) (sym e) ∙ keys_in-cons c x (drop (i + 1) xs))
 
--- no slot is left
+-- no reference is left
 pub keys_in-end : (xs : Slots) (i : ℕ) → length xs ≤ i → keys_in (drop i xs) ≡ []
 keys_in-end xs i h = ap keys_in (drop_all i xs h)
 
@@ -79,7 +79,7 @@ natives_left c (Some key) = suc (length (natives_behind c key.0))
 
 -- The walk comes to the natives above a number, of which it stands at the first.
 record Comes (c : Counts) (at : Option NKey) (ns : List HeapNative) : Type 0 where
-  keys : keys_from c at 0 ≡ keys_held ns
+  keys : keys_from c at 0 ≡ keys_held c ns
   left : natives_left c at ≡ length ns
 
 comes : (c : Counts) → HasKeys c → (o : Option ℕ) (at : Option NKey) → IsNext c at (first_number (natives_above c o)) → IsLiveKey c at → Comes c at (natives_above c o)
@@ -92,24 +92,23 @@ comes c k o at = go at (natives_above c o) refl
     go (Some key) (n ∷ ns) e first there =
         let named : the_number c key.0 ≡ n.number = ap number_or_none first in
         let member : Among n c.natives = Among-filtered (λ (m : HeapNative). is_above o m.number) n c.natives (subst (Among n) (sym e) (inl refl)) in
-        let slots : slots_of c key.0 ≡ n.slots =
-        ap (λ j. slots_at (native_at (heap_of c) j)) named ∙ ap slots_at (native_at-member (heap_of c) (IsRising-distinct (heap_of c) k.rising) n member) in
+        let references : references_of c key.0 ≡ references_in c n = references-found c k key.0 n member first in
         let behind : natives_behind c key.0 ≡ ns =
         ap (λ j. filter (λ (m : HeapNative). nat_lt j m.number) c.natives) named ∙ above-first (λ (m : HeapNative). m.number) c.natives k.rising o n ns e in
-        record { keys = λ i. keys_in (slots i) ++ keys_held (behind i); left = ap (λ ms. suc (length ms)) behind }
+        record { keys = λ i. keys_in (references i) ++ keys_held c (behind i); left = ap (λ ms. suc (length ms)) behind }
 
 -- all natives are above none
 natives_above-none : (c : Counts) → natives_above c None ≡ c.natives
 natives_above-none c = filter-true (λ (n : HeapNative). true) c.natives (λ n. refl)
 
 -- The walk begins at the first native.
-pub begins : (c : Counts) → HasKeys c → (at : Option NKey) → IsNext c at (first_number c.natives) → IsLiveKey c at → keys_from c at 0 ≡ keys_held c.natives
+pub begins : (c : Counts) → HasKeys c → (at : Option NKey) → IsNext c at (first_number c.natives) → IsLiveKey c at → keys_from c at 0 ≡ keys_held c c.natives
 begins c k at first there =
-    (comes c k None at (first ∙ ap first_number (sym (natives_above-none c))) there).keys ∙ ap keys_held (natives_above-none c)
+    (comes c k None at (first ∙ ap first_number (sym (natives_above-none c))) there).keys ∙ ap (keys_held c) (natives_above-none c)
 
 -- the next native comes behind one that is there: with it fewer are left
 pub record GoesOn (c : Counts) (key : NKey) (at : Option NKey) : Type 0 where
-  pub keys : keys_from c at 0 ≡ keys_held (natives_behind c key.0)
+  pub keys : keys_from c at 0 ≡ keys_held c (natives_behind c key.0)
   pub fewer : natives_left c at < natives_left c (Some key)
 
 pub goes_on : (c : Counts) → HasKeys c → (key : NKey) (at : Option NKey) → IsNext c at (number_after c (the_number c key.0)) → IsLiveKey c at → GoesOn c key at
@@ -117,14 +116,14 @@ goes_on c k key at next there =
     let f = comes c k (Some (the_number c key.0)) at next there in
     record { keys = f.keys; fewer = omega (arith, f.left) }
 
--- the front of the slots of a native is a place, as long as it is there
-pub IsPlace-front : (c : Counts) → HasKeys c → (at : Option NKey) → IsLiveKey c at → IsPlace c at 0
-IsPlace-front c k at there = record { keyed = k; there = there; within = front at }
+-- the front of the references of a native is a place, as long as it is there
+pub IsPlace-front : (c : Counts) → HasKeys c → HaveFewSlots c.natives → (at : Option NKey) → IsLiveKey c at → IsPlace c at 0
+IsPlace-front c k few at there = record { keyed = k; few_slots = few; there = there; within = front at }
   where
-    front : (at : Option NKey) → IfSome at (λ key. 0 ≤ length (slots_of c key.0))
+    front : (at : Option NKey) → IfSome at (λ key. 0 ≤ length (references_of c key.0))
     front None = tt
     front (Some key) = omega arith
 
--- where no slot holds a key any more, those that are left stand behind the native
-pub keys_from-behind : (c : Counts) (key : NKey) (i : ℕ) → keys_in (drop i (slots_of c key.0)) ≡ [] → keys_from c (Some key) i ≡ keys_held (natives_behind c key.0)
-keys_from-behind c key i e = ap (λ ks. ks ++ keys_held (natives_behind c key.0)) e
+-- where no reference holds a key any more, those that are left stand behind the native
+pub keys_from-behind : (c : Counts) (key : NKey) (i : ℕ) → keys_in (drop i (references_of c key.0)) ≡ [] → keys_from c (Some key) i ≡ keys_held c (natives_behind c key.0)
+keys_from-behind c key i e = ap (λ ks. ks ++ keys_held c (natives_behind c key.0)) e

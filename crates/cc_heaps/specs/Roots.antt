@@ -1,12 +1,14 @@
--- WHERE A MARKING BEGINS: the keys that script registers hold, and those that slots of natives hold.
-use Rattle.std.specs.Prelude.{ℕ, ◌≤◌, ◌∷◌, ◌++◌, List, [], drop, filter, flat_map, length, map, option_to_list, nat_lt, Option, Some, None, IfSome, IsSome}
+-- WHERE A MARKING BEGINS: the keys that script registers hold, and those that natives hold, in slots or as preserved
+-- reflectors.
+use Rattle.std.specs.Prelude.{ℕ, ◌≤◌, ◌==◌, true, false, ◌∷◌, ◌++◌, List, [], drop, filter, flat_map, length, map, option_to_list, nat_lt, Option, Some, None, IfSome, IsSome}
+use Rattle.cc_lists.specs.Members.{Among}
 use Rattle.cc_names.specs.declared.name.Name.{Name}
 use Rattle.cc_names.specs.declared.name.Name.TheVariants as name
 use Rattle.cc_names.specs.declared.number.NKey.{NKey}
 use Rattle.cc_names.specs.declared.number.SKey.{SKey}
 use Rattle.cc_model.specs.Slots.{Slots, contents}
 use Rattle.cc_model.specs.Heap.{HeapNative}
-use Rattle.cc_counted.specs.Counts.{Counts, number_at, the_number, slots_of}
+use Rattle.cc_counted.specs.Counts.{Counts, number_at, the_number, preserved_reflector, references_of}
 use Rattle.cc_counted.specs.Owning.{HasKeys}
 
 -- the keys that registers hold
@@ -23,21 +25,37 @@ key_in (name.Reflector k) = []
 abbrev pub keys_in : Slots → List ℕ
 keys_in slots = flat_map key_in (contents slots)
 
--- the keys that natives hold
-abbrev pub keys_held : List HeapNative → List ℕ
-keys_held natives = flat_map (λ n. keys_in n.slots) natives
+-- the key of the reflector of native k, which stands where the number k does
+abbrev pub reflector_by : List (Option ℕ) → List (Option ℕ) → ℕ → Option ℕ
+reflector_by [] reflectors k = None
+reflector_by (o ∷ os) [] k = None
+reflector_by (None ∷ os) (r ∷ rs) k = reflector_by os rs k
+reflector_by (Some j ∷ os) (r ∷ rs) k = elim (j == k) [ true ↦ r | false ↦ reflector_by os rs k ]
+
+-- the references of a native: its slots, then its reflector, where that is preserved
+abbrev pub references_in : Counts → HeapNative → Slots
+references_in c n = n.slots ++ preserved_reflector n.preserved (reflector_by c.keys c.reflectors n.number) ∷ []
+
+-- the keys that natives of a counted heap hold
+abbrev pub keys_held : Counts → List HeapNative → List ℕ
+keys_held c natives = flat_map (λ n. keys_in (references_in c n)) natives
 
 -- the natives with greater numbers than that at a key
 abbrev pub natives_behind : Counts → ℕ → List HeapNative
 natives_behind c key = filter (λ n. nat_lt (the_number c key) n.number) c.natives
 
--- the keys from slot i of the native at a key on, where there is one
+-- the keys from reference i of the native at a key on, where there is one
 abbrev pub keys_from : Counts → Option NKey → ℕ → List ℕ
 keys_from c None i = []
-keys_from c (Some key) i = keys_in (drop i (slots_of c key.0)) ++ keys_held (natives_behind c key.0)
+keys_from c (Some key) i = keys_in (drop i (references_of c key.0)) ++ keys_held c (natives_behind c key.0)
 
--- a native that is there, and a place in its slots or behind the last
+-- natives have at most 64 slots
+abbrev pub HaveFewSlots : List HeapNative → Type 0
+HaveFewSlots natives = (n : HeapNative) → Among n natives → length n.slots ≤ 64
+
+-- a native that is there, and a place among its references or behind the last
 pub record IsPlace (c : Counts) (at : Option NKey) (i : ℕ) : Type 0 where
   pub keyed : HasKeys c
+  pub few_slots : HaveFewSlots c.natives
   pub there : IfSome at (λ key. IsSome (number_at c key.0))
-  pub within : IfSome at (λ key. i ≤ length (slots_of c key.0))
+  pub within : IfSome at (λ key. i ≤ length (references_of c key.0))

@@ -7,7 +7,7 @@ ghost use Rattle.cc_heaps.specs.Standing.{StillStands};
 ghost use Rattle.cc_heaps.specs.Few.{AreFew};
 
 use crate::heaps::Heaps;
-use crate::heaps::roots::{RegisterRoots, SlotRoots};
+use crate::heaps::roots::{HeldRoots, RegisterRoots};
 use cc_marking::mark;
 
 impl Heaps {
@@ -24,7 +24,7 @@ impl Heaps {
         ensures colours { HasColours self.new.heap }
     {
         let mut registers = RegisterRoots::new(self.script_registers.as_slice());
-        let mut slots = SlotRoots::new(&self.counted);
-        mark(&mut self.scripts, &mut registers, &mut slots);
+        let mut held = HeldRoots::new(&self.counted);
+        mark(&mut self.scripts, &mut registers, &mut held);
     }
 }

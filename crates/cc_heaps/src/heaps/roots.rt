@@ -1,8 +1,8 @@
-//! Where a marking begins: what the script registers hold, and what natives hold.
+//! Where a marking begins: what the script registers hold, and what natives hold in slots or as preserved reflectors.
 ghost use Rattle.std.specs.Prelude.{◌≡◌, ◌≤◌, [], ◌∷◌, drop, length, Some, IsSome, IfSome, MatchOption};
-ghost use Rattle.cc_counted.specs.Counts.{number_at, slots_of};
+ghost use Rattle.cc_counted.specs.Counts.{number_at, references_of};
 ghost use Rattle.cc_counted.specs.Owning.{HasKeys};
-ghost use Rattle.cc_heaps.specs.Roots.{keys_from, keys_held, keys_in, keys_in_registers, IsPlace};
+ghost use Rattle.cc_heaps.specs.Roots.{keys_from, keys_held, keys_in, keys_in_registers, HaveFewSlots, IsPlace};
 
 use cc_counted::{Counted, Held};
 use cc_marking::Roots;
@@ -64,16 +64,16 @@ impl<'a> Roots for RegisterRoots<'a> {
     }
 }
 
-/// The script objects that natives hold, by rising number of the native, from a slot of one on. They are seen as
-/// their keys.
+/// The script objects that natives hold, by rising number of the native, from a reference of one on: those in its slots,
+/// then its preserved reflector. They are seen as their keys.
 #[derive(Drop)]
-pub(crate) struct SlotRoots<'a> {
+pub(crate) struct HeldRoots<'a> {
     counted: &'a Counted,
     native: Option<NKey>,
     next: u8,
 }
 
-impl<'a> Model for SlotRoots<'a> {
+impl<'a> Model for HeldRoots<'a> {
     ghost use Rattle.std.specs.Prelude.{List, ℕ};
     ghost use Rattle.cc_heaps.specs.Roots.{keys_from, IsPlace};
 
@@ -84,13 +84,14 @@ impl<'a> Model for SlotRoots<'a> {
     ghost invariant = { λ r. IsPlace r.counted.now r.native r.next };
 }
 
-impl<'a> SlotRoots<'a> {
+impl<'a> HeldRoots<'a> {
     /// What the natives of a heap hold.
-    pub(crate) fn new(counted: &'a Counted) -> SlotRoots<'a>
+    pub(crate) fn new(counted: &'a Counted) -> HeldRoots<'a>
         requires keyed { HasKeys counted.now }
-        ensures { result ≡ keys_held counted.now.natives }
+        requires few_slots { HaveFewSlots counted.now.natives }
+        ensures { result ≡ keys_held counted.now counted.now.natives }
     {
-        SlotRoots {
+        HeldRoots {
             counted,
             native: counted.first(),
             next: 0,
@@ -98,22 +99,23 @@ impl<'a> SlotRoots<'a> {
     }
 }
 
-// The first script object in the slots of a native from slot `next` on, and the slot behind it.
-fn slot_from(counted: &Counted, native: NKey, next: u8) -> Option<(SKey, u8)>
+// The first script object among the references of a native from place `next` on, and the place behind it.
+fn reference_from(counted: &Counted, native: NKey, next: u8) -> Option<(SKey, u8)>
     requires live { IsSome (number_at counted.now native.0) }
-    ensures place { IfSome result (λ found. found.1 ≤ length (slots_of counted.now native.0)) }
-    ensures left { MatchOption result (keys_in (drop next (slots_of counted.now native.0)) ≡ [])
-        (λ found. keys_in (drop next (slots_of counted.now native.0)) ≡ found.0.0 ∷ keys_in (drop found.1 (slots_of counted.now native.0))) }
+    requires few_slots { HaveFewSlots counted.now.natives }
+    ensures place { IfSome result (λ found. found.1 ≤ length (references_of counted.now native.0)) }
+    ensures left { MatchOption result (keys_in (drop next (references_of counted.now native.0)) ≡ [])
+        (λ found. keys_in (drop next (references_of counted.now native.0)) ≡ found.0.0 ∷ keys_in (drop found.1 (references_of counted.now native.0))) }
 {
-    for i in next..counted.slots(native) {
-        if let Some(Held::Script(key)) = counted.slot(native, i) {
+    for i in next..counted.slots(native) + 1 {
+        if let Some(Held::Script(key)) = counted.reference(native, i) {
             return Some((key, i + 1));
         }
     }
     None
 }
 
-// The first script object in the slots of natives from a place on, and the place behind it.
+// The first script object among the references of natives from a place on, and the place behind it.
 fn held_from(counted: &Counted, native: Option<NKey>, next: u8) -> Option<(SKey, NKey, u8)>
     requires { IsPlace counted.now native next }
     ensures place { IfSome result (λ found. IsPlace counted.now (Some found.1) found.2) }
@@ -123,7 +125,7 @@ fn held_from(counted: &Counted, native: Option<NKey>, next: u8) -> Option<(SKey,
     let mut at = native;
     let mut from = next;
     while let Some(key) = at {
-        if let Some((found, behind)) = slot_from(counted, key, from) {
+        if let Some((found, behind)) = reference_from(counted, key, from) {
             return Some((found, key, behind));
         }
         at = counted.next(key);
@@ -132,7 +134,7 @@ fn held_from(counted: &Counted, native: Option<NKey>, next: u8) -> Option<(SKey,
     None
 }
 
-impl<'a> Roots for SlotRoots<'a> {
+impl<'a> Roots for HeldRoots<'a> {
     ghost left = { λ r. r };
 
     fn next_root(&mut self) -> Option<SKey> {

@@ -14,10 +14,10 @@ loop-at-preserved c =
     let counted = c.args.counted.now in
     let further = goes_on counted c.requires.keyed c.in-Some.key c.next-at.result c.next-at.ensures.number c.next-at.ensures.live in
     record {
-      place = IsPlace-front counted c.requires.keyed c.next-at.result c.next-at.ensures.live;
+      place = IsPlace-front counted c.requires.keyed c.requires.few_slots c.next-at.result c.next-at.ensures.live;
       left =
           c.loop-at.invariant.left
           ∙ (ap (λ at. keys_from counted at c.loop-at.from) c.in-Some.is
-          ∙ (keys_from-behind counted c.in-Some.key c.loop-at.from c.in_default-slot_from.ensures.left
+          ∙ (keys_from-behind counted c.in-Some.key c.loop-at.from c.in_default-reference_from.ensures.left
           ∙ sym further.keys));
     }
