@@ -33,7 +33,7 @@ pub mod ObjectsKept
 pub mod RootNames
 pub mod MarkedObjects
 pub mod WhitesSwept
-pub mod PlainSweeps
+pub mod SweptNatives
 pub mod SweptObjects
 pub mod Following
 pub mod StandingStill
