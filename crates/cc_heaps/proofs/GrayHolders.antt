@@ -1,5 +1,5 @@
 -- WHO HOLDS A GRAY SCRIPT OBJECT, by keys and by names alike.
-use Rattle.std.proofs.Common.{◌≡◌, ℕ, zero, suc, ◌<◌, ◌≤◌, ◌==◌, Bool, true, false, ◌||◌, List, [], ◌∷◌, ◌++◌, map, length, get_or, Option, Some, None, is_some, option_map, refl, sym, ◌∙◌, ap, subst, inl, inr, arith, count_by}
+use Rattle.std.proofs.Common.{◌≡◌, ℕ, zero, suc, ◌<◌, ◌≤◌, ◌==◌, Bool, true, false, ◌||◌, List, [], ◌∷◌, ◌++◌, map, length, get_or, Option, Some, None, IsSome, is_some, option_map, refl, sym, ◌∙◌, ap, subst, inl, inr, arith, count_by}
 use Rattle.std.specs.List.{filter, find, list_any}
 use Rattle.std.specs.Option.{option_and_then, option_to_list}
 use Rattle.std.proofs.lemmas.Bool.{true≢false}
@@ -12,26 +12,31 @@ use Rattle.cc_lists.proofs.ListWrites.{only-member, each-map}
 use Rattle.cc_lists.proofs.Counting.{count_by-map}
 use Rattle.cc_names.specs.declared.name.Name.{Name}
 use Rattle.cc_names.specs.declared.name.Name.TheVariants as name
-use Rattle.cc_names.specs.Names.{native, reflector, same_name, is_native}
+use Rattle.cc_names.specs.Names.{native, same_name, is_native}
 use Rattle.cc_names.proofs.NameTests.{same_name-true, same_name-refl}
-use Rattle.cc_model.specs.Slots.{Slots, contents, from_to}
+use Rattle.cc_model.specs.Slots.{Slots, contents}
 use Rattle.cc_model.specs.Heap.{Heap, HeapNative, HeapScript, native_at, is_gray_colour, is_gray_in}
-use Rattle.cc_model.specs.View.{slot_edges}
+use Rattle.cc_model.specs.View.{native_edges}
+use Rattle.cc_model.specs.WellFormed.{IsWellFormed}
 use Rattle.cc_model.specs.Units.{holds_gray}
 use Rattle.cc_laws_heap.proofs.Natives.{IsRising-distinct, native_at-member}
-use Rattle.cc_counted.specs.Counts.{Counts, slots_at}
+use Rattle.cc_counted.specs.Counts.{Counts, references_of}
 use Rattle.cc_counted.specs.Counts as counts
+use Rattle.cc_counted.specs.Owning.{HasKeys}
 use Rattle.cc_script.specs.Objects.{Object, object_at}
-use Rattle.cc_heaps.specs.Keyed.{IsInOrder, named_object}
+use Rattle.cc_heaps.specs.Keyed.{named_object}
 use Rattle.cc_heaps.specs.Holders.{holder_numbers}
 use Rattle.cc_heaps.specs.GrayHeld.{IsHeldIn, is_gray_held, is_gray_if_there, is_holder, numbers_in}
 use Rattle.cc_heaps.specs.Named.{own_name, named_native, IsHeldThere}
-use Rattle.cc_heaps.specs.Fields.{heap_of, keyed_of, IsLinked}
+use Rattle.cc_heaps.specs.Fields.{heap_of, IsLinked}
+use Rattle.cc_heaps.specs.Roots.{references_in}
 use Rattle.cc_heaps.specs.declared.heaps.Heaps.TheInside.{Inside}
 use Rattle.cc_heaps.proofs.Reaching.{object_at-found, same-tests}
-use Rattle.cc_heaps.proofs.Listing.{rising-counted}
+use Rattle.cc_heaps.proofs.Naming.{name_in}
+use Rattle.cc_heaps.proofs.References.{native-found, references-found}
+use Rattle.cc_heaps.proofs.ReferenceNames.{references-there, contents-named}
 
--- Slots walked
+-- References walked
 
 -- one that passes is one of some
 pub any-some : {X : Type 0} (p : X → Bool) (xs : List X) (d : X) (k : ℕ) → k < length xs → p (get_or xs k d) ≡ true → list_any p xs ≡ true
@@ -48,21 +53,18 @@ pub any-none : {X : Type 0} (p : X → Bool) (xs : List X) (d : X) → ((k : ℕ
 any-none p [] d h = refl
 any-none p (x ∷ xs) d h = ap (λ b. b || list_any p xs) (h 0 (omega arith)) ∙ any-none p xs d (λ k l. h (suc k) (omega (arith, l)))
 
--- what slots hold is there, as far as it is a script object
-pub held-in : (objects : List Object) (c : Counts) → ((n : HeapNative) (x : Name) → Among n c.natives → Among x (contents n.slots) → IsHeldThere objects x) →
-    (k i : ℕ) → IsHeldIn objects (get_or (slots_at (native_at (counts.heap_of c) k)) i None)
-held-in objects c held k i = go (native_at (counts.heap_of c) k) refl
-  where
-    at : (slots : Slots) (i : ℕ) → ((x : Name) → Among x (contents slots) → IsHeldThere objects x) → IsHeldIn objects (get_or slots i None)
-    at [] i h = tt
-    at (None ∷ slots) zero h = tt
-    at (Some x ∷ slots) zero h = h x (inl refl)
-    at (None ∷ slots) (suc i) h = at slots i h
-    at (Some x ∷ slots) (suc i) h = at slots i (λ y m. h y (inr m))
+-- of some values
+list_any-map : {X Y : Type 0} (p : Y → Bool) (f : X → Y) (xs : List X) → list_any p (map f xs) ≡ list_any (λ x. p (f x)) xs
+list_any-map p f [] = refl
+list_any-map p f (x ∷ xs) = ap (λ b. p (f x) || b) (list_any-map p f xs)
 
-    go : (o : Option HeapNative) → native_at (counts.heap_of c) k ≡ o → IsHeldIn objects (get_or (slots_at o) i None)
-    go None e = tt
-    go (Some n) e = at n.slots i (λ x m. held n x (find-among (λ n. n.number == k) c.natives n e) m)
+-- whether native k of a counted heap holds a gray script object
+abbrev holds_found : List Object → Counts → Option HeapNative → Bool
+holds_found objects c None = false
+holds_found objects c (Some n) = list_any (is_gray_held objects) (references_in c n)
+
+abbrev pub holds : List Object → Counts → ℕ → Bool
+holds objects c k = holds_found objects c (native_at (counts.heap_of c) k)
 
 -- Gray by name
 
@@ -110,7 +112,7 @@ module _ (p : Inside) (l : IsLinked p) where
   no_script k = each-map (λ o. o.name ≡ native k → ⊥) (named_object p.scripts) p.scripts
       (λ o m e. true≢false (sym (ap is_native e) ∙ l.script_names o m))
 
-  -- what a slot holds is gray by key as it is by name
+  -- what a native refers to is gray by key as it is by name
   gray-alike : (x : Name) → IsHeldThere p.scripts x →
       (y : Name) × (own_name p.scripts x ≡ Some y) × (is_gray_in h y ≡ is_gray_held p.scripts (Some x))
   gray-alike (name.Native k) t = (name.Native k, refl, gray-none h one_name-named (name.Native k) (no_script k.0))
@@ -126,47 +128,57 @@ module _ (p : Inside) (l : IsLinked p) where
       )
   gray-alike (name.Reflector k) t = absurd t
 
-  -- so do slots
-  slots-alike : (z : Name) (slots : Slots) → ((x : Name) → Among x (contents slots) → IsHeldThere p.scripts x) →
-      list_any (λ e. is_gray_in h e.1) (map (from_to z) (contents (map (λ x. option_and_then (own_name p.scripts) x) slots)) ++ []) ≡ list_any (is_gray_held p.scripts) slots
-  slots-alike z [] t = refl
-  slots-alike z (None ∷ slots) t = slots-alike z slots t
-  slots-alike z (Some x ∷ slots) t =
+  -- so is one of some references
+  references-alike : (xs : Slots) → ((x : Name) → Among x (contents xs) → IsHeldThere p.scripts x) →
+      list_any (is_gray_in h) (contents (map (name_in p.scripts) xs)) ≡ list_any (is_gray_held p.scripts) xs
+  references-alike [] t = refl
+  references-alike (None ∷ xs) t = references-alike xs t
+  references-alike (Some x ∷ xs) t =
       let g = gray-alike x (t x (inl refl)) in
-      subst (λ (o : Option Name). list_any edge_gray (map (from_to z) (option_to_list o ++ contents (map (option_and_then (own_name p.scripts)) slots)) ++ []) ≡
-      list_any (is_gray_held p.scripts) (Some x ∷ slots)) (sym g.1)
-      (λ i. g.2 i || slots-alike z slots (λ y m. t y (inr m)) i)
-    where
-      edge_gray : Name × Name → Bool
-      edge_gray e = is_gray_in h e.1
+      subst (λ (o : Option Name). list_any (is_gray_in h) (option_to_list o ++ contents (map (name_in p.scripts) xs)) ≡ list_any (is_gray_held p.scripts) (Some x ∷ xs)) (sym g.1)
+      (λ i. g.2 i || references-alike xs (λ y m. t y (inr m)) i)
 
-  module _ (owned : List ℕ) (o : IsInOrder owned (keyed_of p)) where
-    -- a native holds a gray one by names as it does by keys
-    holder-alike : (n : HeapNative) → Among n p.counted.natives → holds_gray h (named_native p.scripts n) ≡ is_holder p.scripts p.counted n.number
-    holder-alike n m =
-        ap (λ b. list_any edge_gray (slot_edges (native n.number) (named_native p.scripts n).slots ++ edges_if b)) unpreserved
-        ∙ (slots-alike (native n.number) n.slots (λ x i. l.held n x m i)
-        ∙ ap (λ f. list_any (is_gray_held p.scripts) (slots_at f)) (sym found))
+  module _ (k : HasKeys p.counted) where
+    -- what a native refers to is there, as far as it is a script object
+    pub held-in : (key : ℕ) → IsSome (counts.number_at p.counted key) → (i : ℕ) → IsHeldIn p.scripts (get_or (references_of p.counted key) i None)
+    held-in key live i =
+        let f = native-found p.counted k key live in
+        subst (λ xs. IsHeldIn p.scripts (get_or xs i None)) (sym (references-found p.counted k key f.0 f.1 f.2))
+        (at (references_in p.counted f.0) i (λ x j. references-there p l k f.0 x f.1 j))
       where
-        edge_gray : Name × Name → Bool
-        edge_gray e = is_gray_in h e.1
+        at : (xs : Slots) (i : ℕ) → ((x : Name) → Among x (contents xs) → IsHeldThere p.scripts x) → IsHeldIn p.scripts (get_or xs i None)
+        at [] i t = tt
+        at (None ∷ xs) zero t = tt
+        at (Some x ∷ xs) zero t = t x (inl refl)
+        at (None ∷ xs) (suc i) t = at xs i t
+        at (Some x ∷ xs) (suc i) t = at xs i (λ y m. t y (inr m))
 
-        edges_if : Bool → List (Name × Name)
-        edges_if b = elim b [ true ↦ from_to (native n.number) (reflector n.number) ∷ [] | false ↦ [] ]
+    native_at-own : (n : HeapNative) → Among n p.counted.natives → native_at (counts.heap_of p.counted) n.number ≡ Some n
+    native_at-own n m = native_at-member (counts.heap_of p.counted) (IsRising-distinct (counts.heap_of p.counted) k.rising) n m
 
-        unpreserved : n.preserved ≡ false
-        unpreserved = o.alone.unpreserved (named_native p.scripts n) (Among-map (named_native p.scripts) n p.counted.natives m)
+    -- a native holds a gray one by its key as it does by its number
+    pub holder-numbered : (key : ℕ) → IsSome (counts.number_at p.counted key) → is_holder p.scripts p.counted key ≡ holds p.scripts p.counted (counts.the_number p.counted key)
+    holder-numbered key live =
+        let f = native-found p.counted k key live in
+        ap (list_any (is_gray_held p.scripts)) (references-found p.counted k key f.0 f.1 f.2)
+        ∙ ap (holds_found p.scripts p.counted) (sym (ap (λ o. native_at (counts.heap_of p.counted) (counts.number_or_none o)) f.2 ∙ native_at-own f.0 f.1))
 
-        found : native_at (counts.heap_of p.counted) n.number ≡ Some n
-        found = native_at-member (counts.heap_of p.counted) (IsRising-distinct (counts.heap_of p.counted) (rising-counted p owned o)) n m
+    module _ (w : IsWellFormed h) where
+      -- and by names
+      holder-alike : (n : HeapNative) → Among n p.counted.natives → holds_gray h (named_native p.scripts n) ≡ holds p.scripts p.counted n.number
+      holder-alike n m =
+          sym (list_any-map (is_gray_in h) (λ (e : Name × Name). e.1) (native_edges (named_native p.scripts n)))
+          ∙ (ap (list_any (is_gray_in h)) (sym (contents-named p l k w n m))
+          ∙ (references-alike (references_in p.counted n) (λ x i. references-there p l k n x m i)
+          ∙ ap (holds_found p.scripts p.counted) (sym (native_at-own n m))))
 
-    -- THE HOLDERS are the same.
-    pub holder_numbers-is : holder_numbers h ≡ filter (is_holder p.scripts p.counted) (numbers_in p.counted)
-    holder_numbers-is =
-        ap (map number) (filter-map (holds_gray h) (named_native p.scripts) p.counted.natives)
-        ∙ (map-map number (named_native p.scripts) (filter (λ n. holds_gray h (named_native p.scripts n)) p.counted.natives)
-        ∙ (ap (map number) (filter-agree (λ n. holds_gray h (named_native p.scripts n)) (λ n. is_holder p.scripts p.counted n.number) p.counted.natives holder-alike)
-        ∙ sym (filter-map (is_holder p.scripts p.counted) number p.counted.natives)))
-      where
-        number : HeapNative → ℕ
-        number n = n.number
+      -- THE HOLDERS are the same.
+      pub holder_numbers-is : holder_numbers h ≡ filter (holds p.scripts p.counted) (numbers_in p.counted)
+      holder_numbers-is =
+          ap (map number) (filter-map (holds_gray h) (named_native p.scripts) p.counted.natives)
+          ∙ (map-map number (named_native p.scripts) (filter (λ n. holds_gray h (named_native p.scripts n)) p.counted.natives)
+          ∙ (ap (map number) (filter-agree (λ n. holds_gray h (named_native p.scripts n)) (λ n. holds p.scripts p.counted n.number) p.counted.natives holder-alike)
+          ∙ sym (filter-map (holds p.scripts p.counted) number p.counted.natives)))
+        where
+          number : HeapNative → ℕ
+          number n = n.number

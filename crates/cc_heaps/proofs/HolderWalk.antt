@@ -9,20 +9,21 @@ use Rattle.cc_model.specs.WellFormed.{IsRising}
 use Rattle.cc_heaps.specs.Keyed.{IsInOrder, number_at, the_number}
 use Rattle.cc_heaps.specs.Named.{IsLive}
 use Rattle.cc_heaps.specs.Holders.{holder_after}
-use Rattle.cc_heaps.specs.GrayHeld.{is_holder, numbers_in}
+use Rattle.cc_heaps.specs.GrayHeld.{numbers_in}
 use Rattle.cc_heaps.specs.Fields.{heap_of, keyed_of, IsLinked}
 use Rattle.cc_heaps.specs.declared.heaps.Heaps.TheInside.{Inside}
 use Rattle.cc_heaps.proofs.Listing.{rising-counted}
 use Rattle.cc_heaps.proofs.Content.{number-some}
-use Rattle.cc_heaps.proofs.GrayHolders.{holder_numbers-is}
+use Rattle.cc_heaps.proofs.GrayHolders.{holds, holder_numbers-is}
+use Rattle.cc_heaps.proofs.ObjectsKept.{keys-counted}
 
 -- the number of a native, where there is one
 abbrev pub number_of_key : Inside → Option NKey → Option ℕ
 number_of_key p at = option_and_then (λ (k : NKey). number_at (keyed_of p) k.0) at
 
 -- whether a number is that of a holder
-abbrev pub holds : Inside → ℕ → Bool
-holds p k = is_holder p.scripts p.counted k
+abbrev pub is_holding : Inside → ℕ → Bool
+is_holding p k = holds p.scripts p.counted k
 
 -- the numbers that are left of the walk
 abbrev pub numbers_left : Inside → Option NKey → List ℕ
@@ -30,7 +31,7 @@ numbers_left p at = left_from (numbers_in p.counted) (number_of_key p at)
 
 -- the holder that is looked for is the first from a native on
 pub record IsLooking (p : Inside) (after at : Option NKey) : Type 0 where
-  pub looks : LooksFrom (holds p) (numbers_in p.counted) (number_of_key p after) (number_of_key p at)
+  pub looks : LooksFrom (is_holding p) (numbers_in p.counted) (number_of_key p after) (number_of_key p at)
   pub there : IsLive p.counted.keys at
 
 module _ (p : Inside) (owned : List ℕ) (o : IsInOrder owned (keyed_of p)) (after : Option NKey) where
@@ -41,7 +42,7 @@ module _ (p : Inside) (owned : List ℕ) (o : IsInOrder owned (keyed_of p)) (aft
   pub IsLooking-start : (next : Option NKey) → number_of_key p next ≡ first_of (filter (is_above (number_of_key p after)) (numbers_in p.counted)) →
       IsLive p.counted.keys next → IsLooking p after next
   IsLooking-start next e there = record {
-    looks = LooksFrom-start (numbers_in p.counted) rising (holds p) (number_of_key p after) (number_of_key p next) e;
+    looks = LooksFrom-start (numbers_in p.counted) rising (is_holding p) (number_of_key p after) (number_of_key p next) e;
     there = there;
   }
 
@@ -52,14 +53,14 @@ module _ (p : Inside) (owned : List ℕ) (o : IsInOrder owned (keyed_of p)) (aft
     key-number : number_at (keyed_of p) key.0 ≡ Some (the_number (keyed_of p) key.0)
     key-number = number-some (number_at (keyed_of p) key.0) key-there
 
-    key-looks : LooksFrom (holds p) (numbers_in p.counted) (number_of_key p after) (number_at (keyed_of p) key.0)
-    key-looks = subst (λ a. LooksFrom (holds p) (numbers_in p.counted) (number_of_key p after) (number_of_key p a)) is looking.looks
+    key-looks : LooksFrom (is_holding p) (numbers_in p.counted) (number_of_key p after) (number_at (keyed_of p) key.0)
+    key-looks = subst (λ a. LooksFrom (is_holding p) (numbers_in p.counted) (number_of_key p after) (number_of_key p a)) is looking.looks
 
     -- it goes on where one is no holder
-    pub IsLooking-next : holds p (the_number (keyed_of p) key.0) ≡ false → (next : Option NKey) →
+    pub IsLooking-next : is_holding p (the_number (keyed_of p) key.0) ≡ false → (next : Option NKey) →
         number_of_key p next ≡ first_of (filter (is_above (number_at (keyed_of p) key.0)) (numbers_in p.counted)) → IsLive p.counted.keys next → IsLooking p after next
     IsLooking-next w next e there = record {
-      looks = LooksFrom-next (numbers_in p.counted) rising (holds p) (number_of_key p after) (number_at (keyed_of p) key.0) (number_of_key p next) (the_number (keyed_of p) key.0) key-number key-looks w e;
+      looks = LooksFrom-next (numbers_in p.counted) rising (is_holding p) (number_of_key p after) (number_at (keyed_of p) key.0) (number_of_key p next) (the_number (keyed_of p) key.0) key-number key-looks w e;
       there = there;
     }
 
@@ -70,17 +71,17 @@ module _ (p : Inside) (owned : List ℕ) (o : IsInOrder owned (keyed_of p)) (aft
         (left_from-fewer (numbers_in p.counted) rising (number_at (keyed_of p) key.0) (number_of_key p next) (the_number (keyed_of p) key.0) key-number e)
 
   module _ (l : IsLinked p) where
-    after-is : first_of (filter (is_above (number_of_key p after)) (filter (holds p) (numbers_in p.counted))) ≡ holder_after (heap_of p) (number_of_key p after)
-    after-is = ap (λ ks. first_of (filter (is_above (number_of_key p after)) ks)) (sym (holder_numbers-is p l owned o))
+    after-is : first_of (filter (is_above (number_of_key p after)) (filter (is_holding p) (numbers_in p.counted))) ≡ holder_after (heap_of p) (number_of_key p after)
+    after-is = ap (λ ks. first_of (filter (is_above (number_of_key p after)) ks)) (sym (holder_numbers-is p l (keys-counted owned p l o) o.sound.well_formed))
 
     -- it ends with the first that is one,
-    pub holder-found : (at : Option NKey) (key : NKey) → at ≡ Some key → IsLooking p after at → holds p (the_number (keyed_of p) key.0) ≡ true →
+    pub holder-found : (at : Option NKey) (key : NKey) → at ≡ Some key → IsLooking p after at → is_holding p (the_number (keyed_of p) key.0) ≡ true →
         number_at (keyed_of p) key.0 ≡ holder_after (heap_of p) (number_of_key p after)
     holder-found at key is looking w =
-        LooksFrom-found (holds p) (numbers_in p.counted) (number_of_key p after) (number_at (keyed_of p) key.0) (the_number (keyed_of p) key.0) (key-number at key is looking) (key-looks at key is looking) w
+        LooksFrom-found (is_holding p) (numbers_in p.counted) (number_of_key p after) (number_at (keyed_of p) key.0) (the_number (keyed_of p) key.0) (key-number at key is looking) (key-looks at key is looking) w
         ∙ after-is
 
     -- or where none is left
     pub holder-none : (at : Option NKey) → at ≡ None → IsLooking p after at → None ≡ holder_after (heap_of p) (number_of_key p after)
     holder-none at is looking =
-        sym (subst (λ a. LooksFrom (holds p) (numbers_in p.counted) (number_of_key p after) (number_of_key p a)) is looking.looks) ∙ after-is
+        sym (subst (λ a. LooksFrom (is_holding p) (numbers_in p.counted) (number_of_key p after) (number_of_key p a)) is looking.looks) ∙ after-is

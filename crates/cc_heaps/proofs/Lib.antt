@@ -29,6 +29,7 @@ pub mod Agreeing
 pub mod References
 pub mod RootWalks
 pub mod PlaceEdges
+pub mod ReferenceNames
 pub mod ObjectsKept
 pub mod RootNames
 pub mod MarkedObjects

@@ -1,13 +1,15 @@
 -- A MARKING BY KEYS is the marking of the definitions: it gives each object the same colour, and changes nothing else.
 use Rattle.std.proofs.Common.{◌≡◌, ℕ, ◌≤◌, ◌==◌, false, List, [], ◌∷◌, map, Option, Some, None, option_map, refl, sym, ◌∙◌, ap, subst, inl, inr}
 use Rattle.std.specs.Prelude.{IsTrue}
+use Rattle.std.specs.List.{find}
 use Rattle.std.specs.Option.{option_and_then}
 use Rattle.std.proofs.Math.Path.{fun_ext}
 use Rattle.cc_lists.specs.Members.{Among}
 use Rattle.cc_lists.proofs.Searching.{find-map}
 use Rattle.cc_lists.proofs.ListWrites.{each-map, count_by-kept_map}
-use Rattle.cc_names.specs.declared.kind.Kind.TheVariants.{Plain}
-use Rattle.cc_names.specs.Names.{same_name, is_native}
+use Rattle.cc_names.specs.declared.kind.Kind.TheVariants.{Map}
+use Rattle.cc_names.specs.declared.name.Name.{Name}
+use Rattle.cc_names.specs.Names.{reflector, same_name, is_native}
 use Rattle.cc_model.specs.Colours as names
 use Rattle.cc_model.specs.Colours.{black_names, marked_names, marked}
 use Rattle.cc_laws_heap.specs.Sound.{IsSound}
@@ -15,7 +17,7 @@ use Rattle.cc_laws_heap.proofs.Marking.{colour_of, as_marked}
 use Rattle.cc_laws_heap.proofs.MarkingKeeps.{IsSound-marked}
 use Rattle.cc_script.specs.Objects.{Object, object_at, is_there, name_at, with_colour, colour_by, coloured_by}
 use Rattle.cc_marking.specs.Marking.{black_keys, marked_keys, marked_from}
-use Rattle.cc_heaps.specs.Keyed.{IsInOrder, named_object}
+use Rattle.cc_heaps.specs.Keyed.{IsInOrder, Reflects, key_of, named_object}
 use Rattle.cc_heaps.specs.Changes.{KeepsKeys}
 use Rattle.cc_heaps.specs.Fields.{heap_of, keyed_of, IsLinked}
 use Rattle.cc_heaps.specs.declared.heaps.Heaps.TheInside.{Inside}
@@ -38,6 +40,16 @@ module _ (blacks marks : List ℕ) where
       go None = refl
       go (Some o) = refl
 
+  -- and names their keys
+  key_of-coloured : (objects : List Object) (x : Name) → key_of (coloured_by blacks marks objects) x ≡ key_of objects x
+  key_of-coloured objects x =
+      ap (λ (o : Option Object). option_map (λ p. p.key) o) (find-map (λ (o : Object). same_name o.name x) recoloured objects)
+      ∙ go (find (λ (o : Object). same_name o.name x) objects)
+    where
+      go : (o : Option Object) → option_map (λ (p : Object). p.key) (option_map recoloured o) ≡ option_map (λ (p : Object). p.key) o
+      go None = refl
+      go (Some o) = refl
+
   -- and the objects are as they have to be
   AreObjects-coloured : (objects : List Object) → AreObjects objects → AreObjects (coloured_by blacks marks objects)
   AreObjects-coloured objects a = record {
@@ -46,7 +58,7 @@ module _ (blacks marks : List ℕ) where
     script_names = each-map (λ o. is_native o.name ≡ false) recoloured objects a.script_names;
     whole = λ o q m i. each-map (λ o. Among (Some q) o.slots → IsTrue (is_there (coloured_by blacks marks objects) q)) recoloured objects
         (λ p n j. there-kept objects (coloured_by blacks marks objects) q (name_at-coloured objects q) (a.whole p q n j)) o m i;
-    plain = each-map (λ o. o.kind ≡ Plain) recoloured objects a.plain;
+    no_maps = each-map (λ o. ¬ (o.kind ≡ Map)) recoloured objects a.no_maps;
   }
 
 -- The colours by keys are those by names
@@ -84,7 +96,12 @@ module _ (p : Inside) (l : IsLinked p) (o : IsInOrder [] (keyed_of p)) where
   marked-named = ap (λ scripts. record (heap_of p) { scripts = scripts }) (same-objects p.scripts (λ q m. m))
 
   holds-marked : HoldsSame p (marked_objects p)
-  holds-marked = record { registers = λ key m. name_at-coloured (blacks p) (marks p) p.scripts key.0; natives = λ n key m i. name_at-coloured (blacks p) (marks p) p.scripts key }
+  holds-marked = record {
+    registers = λ key m. name_at-coloured (blacks p) (marks p) p.scripts key.0;
+    natives = λ n key m i. name_at-coloured (blacks p) (marks p) p.scripts key;
+    reflectors = ap (λ (f : ℕ → Option ℕ). map (λ x. option_and_then f x) p.counted.keys) (fun_ext (λ k. key_of-coloured (blacks p) (marks p) p.scripts (reflector k)));
+    reflecting = each-map (λ q. Reflects (keyed_of p) q.name q.native) (recoloured (blacks p) (marks p)) p.scripts o.reflecting;
+  }
 
   objects-marked : AreObjects (marked_objects p)
   objects-marked = AreObjects-coloured (blacks p) (marks p) p.scripts (AreObjects-parts [] p l o)

@@ -20,7 +20,7 @@ targets-from x [] = refl
 targets-from x (y ∷ ys) = ap (λ zs. y ∷ zs) (targets-from x ys)
 
 -- what slots hold, and what one more holds
-contents-last : (slots : Slots) (last : Option Name) → contents (slots ++ last ∷ []) ≡ contents slots ++ option_to_list last
+pub contents-last : (slots : Slots) (last : Option Name) → contents (slots ++ last ∷ []) ≡ contents slots ++ option_to_list last
 contents-last slots last = flat_map-append option_to_list slots (last ∷ []) ∙ ap (λ ys. contents slots ++ ys) (one last)
   where
     one : (o : Option Name) → contents (o ∷ []) ≡ option_to_list o

@@ -1,10 +1,10 @@
 -- WHAT A NATIVE REFERS TO, by its key and by its number alike: its slots, and its reflector, where that is preserved.
-use Rattle.std.proofs.Common.{◌≡◌, ℕ, zero, suc, ◌+◌, ◌≤◌, ◌==◌, Bool, true, false, List, [], ◌∷◌, ◌++◌, length, get_or, length-append, Option, Some, None, refl, sym, ◌∙◌, ap, subst, arith}
-use Rattle.std.proofs.lemmas.Bool.{eq-eqb, eqb-true}
+use Rattle.std.proofs.Common.{◌≡◌, ℕ, zero, suc, ◌+◌, ◌≤◌, ◌==◌, Bool, true, false, List, [], ◌∷◌, ◌++◌, length, get_or, length-append, Option, Some, None, IsSome, refl, sym, ◌∙◌, ap, arith}
+use Rattle.std.proofs.lemmas.Bool.{eq-eqb, eqb-true, false≢true}
 use Rattle.cc_lists.specs.Members.{Among}
 use Rattle.cc_lists.proofs.Filtering.{find-among}
 use Rattle.cc_model.specs.Heap.{HeapNative, native_at}
-use Rattle.cc_laws_heap.proofs.Natives.{IsRising-distinct, native_at-member}
+use Rattle.cc_laws_heap.proofs.Natives.{IsRising-distinct, named-member, native_at-member}
 use Rattle.cc_counted.specs.Counts.{Counts, number_at, number_or_none, the_number, reflector_at, heap_of, slots_at, slots_of, preserved_at, preserved_of, preserved_reflector, references_of}
 use Rattle.cc_counted.specs.Owning.{HasKeys}
 use Rattle.cc_heaps.specs.Roots.{reflector_by, references_in, HaveFewSlots}
@@ -36,6 +36,14 @@ references-found c k key n m e = λ i. slots_at (found i) ++ preserved_reflector
 
     reflector : reflector_at c key ≡ reflector_by c.keys c.reflectors n.number
     reflector = sym (reflector_by-key c.keys c.reflectors key n.number e (λ p f. k.one_key p key n.number f e))
+
+-- at a key that is that of a native there is one
+pub native-found : (c : Counts) → HasKeys c → (key : ℕ) → IsSome (number_at c key) → (n : HeapNative) × Among n c.natives × (number_at c key ≡ Some n.number)
+native-found c k key live = go (number_at c key) refl live
+  where
+    go : (o : Option ℕ) → number_at c key ≡ o → IsSome o → (n : HeapNative) × Among n c.natives × (number_at c key ≡ Some n.number)
+    go None e t = absurd (false≢true t)
+    go (Some j) e t = let f = named-member (heap_of c) j (k.there key j e) in (f.0, f.1, e ∙ ap (λ i. Some i) (sym f.2))
 
 -- there is one more than slots
 pub length-references : (c : Counts) (key : ℕ) → length (references_of c key) ≡ length (slots_of c key) + 1

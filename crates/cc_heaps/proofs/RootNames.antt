@@ -11,23 +11,27 @@ use Rattle.cc_lists.proofs.Closure.{closure-derived}
 use Rattle.cc_names.specs.declared.name.Name.{Name}
 use Rattle.cc_names.specs.declared.name.Name.TheVariants as name
 use Rattle.cc_names.specs.declared.number.SKey.{SKey}
-use Rattle.cc_names.specs.Names.{native, object, reflector, same_name, is_script}
+use Rattle.cc_names.specs.Names.{object, same_name, is_script}
 use Rattle.cc_names.proofs.NameTests.{same_name-exact}
 use Rattle.cc_model.specs.Slots.{contents, from_to}
 use Rattle.cc_model.specs.Heap.{HeapNative, HeapScript}
-use Rattle.cc_model.specs.View.{slot_edges, preserved_edge, native_edges, script_slot_edges}
+use Rattle.cc_model.specs.View.{native_edges, script_slot_edges}
 use Rattle.cc_model.specs.Exposure.{slots_of_scripts}
 use Rattle.cc_model.specs.Colours.{black_rules, black_names, scripts_held_by, scripts_held, marked_names}
 use Rattle.cc_model.specs.WellFormed.{IsWellFormed, script_names}
 use Rattle.cc_lists.proofs.Numbers.{number-exact}
+use Rattle.cc_counted.specs.Counts.{Counts}
+use Rattle.cc_counted.specs.Owning.{HasKeys}
 use Rattle.cc_script.specs.Objects.{Object, is_there, name_at}
 use Rattle.cc_script.proofs.Reaching.{held-among, among-held}
 use Rattle.cc_marking.specs.Marking.{black_keys, marked_keys}
 use Rattle.cc_heaps.specs.Keyed.{IsInOrder, named_object}
-use Rattle.cc_heaps.specs.Named.{own_name, named_native, script_named, IsHeldThere}
+use Rattle.cc_heaps.specs.Named.{named_native, script_named}
 use Rattle.cc_heaps.specs.Fields.{heap_of, keyed_of, IsLinked}
-use Rattle.cc_heaps.specs.Roots.{keys_in_registers, key_in, keys_in, keys_held}
+use Rattle.cc_heaps.specs.Roots.{keys_in_registers, key_in, keys_in, references_in, keys_held}
 use Rattle.cc_heaps.specs.declared.heaps.Heaps.TheInside.{Inside}
+use Rattle.cc_heaps.proofs.ObjectsKept.{keys-counted}
+use Rattle.cc_heaps.proofs.ReferenceNames.{references-there, named-reference, reference-named}
 use Rattle.cc_heaps.proofs.Reaching.{AreNamesOf, name_at-own, name_at-found, reached-alike_from}
 
 -- Keys that are held
@@ -48,16 +52,16 @@ key_in-object (name.Native j) k m = absurd m
 key_in-object (name.Script j) k m = ⊎_elim (λ e. ap object e) (λ t. absurd t) m
 key_in-object (name.Reflector j) k m = absurd m
 
--- a key of natives stands in a slot of one
-pub native-key : (ns : List HeapNative) (k : ℕ) → Among k (keys_held ns) → (n : HeapNative) × Among n ns × Among (object k) (contents n.slots)
-native-key ns k m =
-    let f = Among-flat_map_cases (λ (n : HeapNative). keys_in n.slots) ns k m in
-    let g = Among-flat_map_cases key_in (contents f.0.slots) k f.2 in
-    (f.0, f.1, subst (λ x. Among x (contents f.0.slots)) (key_in-object g.0 k g.2) g.1)
+-- a key of natives is that of a reference of one
+pub native-key : (c : Counts) (ns : List HeapNative) (k : ℕ) → Among k (keys_held c ns) → (n : HeapNative) × Among n ns × Among (object k) (contents (references_in c n))
+native-key c ns k m =
+    let f = Among-flat_map_cases (λ (n : HeapNative). keys_in (references_in c n)) ns k m in
+    let g = Among-flat_map_cases key_in (contents (references_in c f.0)) k f.2 in
+    (f.0, f.1, subst (λ x. Among x (contents (references_in c f.0))) (key_in-object g.0 k g.2) g.1)
 
--- and each slot gives its key
-key-native : (ns : List HeapNative) (n : HeapNative) (k : ℕ) → Among n ns → Among (object k) (contents n.slots) → Among k (keys_held ns)
-key-native ns n k m i = Among-flat_map (λ (n : HeapNative). keys_in n.slots) n k ns m (Among-flat_map key_in (object k) k (contents n.slots) i (inl refl))
+-- and each reference gives its key
+key-native : (c : Counts) (ns : List HeapNative) (n : HeapNative) (k : ℕ) → Among n ns → Among (object k) (contents (references_in c n)) → Among k (keys_held c ns)
+key-native c ns n k m i = Among-flat_map (λ (n : HeapNative). keys_in (references_in c n)) n k ns m (Among-flat_map key_in (object k) k (contents (references_in c n)) i (inl refl))
 
 module _ (p : Inside) (l : IsLinked p) where
   -- what registers hold is there
@@ -65,8 +69,8 @@ module _ (p : Inside) (l : IsLinked p) where
   register-there k m = let f = register-key p.script_registers.items k m in subst (λ j. IsTrue (is_there p.scripts j)) f.2 (l.script_registers (Some f.0) f.1)
 
   -- and so is what natives hold
-  pub native-there : (k : ℕ) → Among k (keys_held p.counted.natives) → IsTrue (is_there p.scripts k)
-  native-there k m = let f = native-key p.counted.natives k m in l.held f.0 (object k) f.1 f.2
+  pub native-there : HasKeys p.counted → (k : ℕ) → Among k (keys_held p.counted p.counted.natives) → IsTrue (is_there p.scripts k)
+  native-there keyed k m = let f = native-key p.counted p.counted.natives k m in references-there p l keyed f.0 (object k) f.1 f.2
 
   -- Their names
 
@@ -88,31 +92,6 @@ module _ (p : Inside) (l : IsLinked p) where
       go x None i e = absurd (cc)
       go x (Some key) i e = (key.0, key-register p.script_registers.items key i, e)
 
-  -- what a native holds under its name, it holds under its key
-  slot-named : (n : HeapNative) (x : Name) → Among n p.counted.natives → Among x (contents (named_native p.scripts n).slots) → is_script x ≡ true →
-      (k : ℕ) × Among (object k) (contents n.slots) × (name_at p.scripts k ≡ Some x)
-  slot-named n x m i s =
-      let f = Among-map_cases (λ (y : Option Name). option_and_then (own_name p.scripts) y) n.slots (Some x) (held-among (named_native p.scripts n).slots x i) in
-      go f.0 f.1 f.2
-    where
-      held : (y : Name) → Among y (contents n.slots) → IsHeldThere p.scripts y → own_name p.scripts y ≡ Some x →
-          (k : ℕ) × Among (object k) (contents n.slots) × (name_at p.scripts k ≡ Some x)
-      held (name.Native k) j t e = let same : native k.0 ≡ x = cc in absurd (false≢true (ap is_script same ∙ s))
-      held (name.Script k) j t e = (k.0, j, e)
-      held (name.Reflector k) j t e = absurd t
-
-      go : (y : Option Name) → Among y n.slots → option_and_then (own_name p.scripts) y ≡ Some x →
-          (k : ℕ) × Among (object k) (contents n.slots) × (name_at p.scripts k ≡ Some x)
-      go None j e = absurd (cc)
-      go (Some y) j e = let i : Among y (contents n.slots) = among-held n.slots y j in held y i (l.held n y m i) e
-
-  -- and the other way round
-  pub named-slot : (n : HeapNative) (k : ℕ) (x : Name) → Among (object k) (contents n.slots) → name_at p.scripts k ≡ Some x → Among x (contents (named_native p.scripts n).slots)
-  named-slot n k x i e =
-      among-held (named_native p.scripts n).slots x
-      (subst (λ y. Among y (named_native p.scripts n).slots) e
-      (Among-map (λ (y : Option Name). option_and_then (own_name p.scripts) y) (Some (object k)) n.slots (held-among n.slots (object k) i)))
-
   -- a name of a script object is that of no native
   pub script-named : (k : ℕ) (x : Name) → name_at p.scripts k ≡ Some x → is_script x ≡ true
   script-named k x e =
@@ -129,51 +108,37 @@ AreNamesOf-append objects ks js xs ys a b = record {
       (Among-append x xs ys m);
 }
 
--- what a native that preserves nothing refers to, as far as it is a script object, stands in its slots
-held-in_slots : (n : HeapNative) (x : Name) → n.preserved ≡ false → Among x (scripts_held_by n) → Among x (contents n.slots) × (is_script x ≡ true)
-held-in_slots n x quiet m =
-    let f = Among-map_cases (λ (e : Name × Name). e.1) (native_edges n) x (Among-filtered is_script x (map (λ (e : Name × Name). e.1) (native_edges n)) m) in (
-      ⊎_elim
-          (λ i. let g = Among-map_cases (from_to (native n.number)) (contents n.slots) f.0 i in
-          subst (λ y. Among y (contents n.slots)) (ap (λ (e : Name × Name). e.1) g.2 ∙ f.2) g.1)
-          (λ i. absurd (none n.preserved quiet f.0 i))
-          (Among-append f.0 (slot_edges (native n.number) n.slots) (preserved_edge n) f.1),
-      Among-passes is_script x (map (λ (e : Name × Name). e.1) (native_edges n)) m,
-    )
-  where
-    none : (b : Bool) → b ≡ false → (e : Name × Name) → ¬ (Among e (elim b [ true ↦ from_to (native n.number) (reflector n.number) ∷ [] | false ↦ [] ]))
-    none true q e i = true≢false q
-    none false q e i = i
-
--- and the other way round
-slots-held : (n : HeapNative) (x : Name) → Among x (contents n.slots) → is_script x ≡ true → Among x (scripts_held_by n)
-slots-held n x i s = Among-filter is_script x (map (λ (e : Name × Name). e.1) (native_edges n))
-    (Among-map (λ (e : Name × Name). e.1) (native n.number, x) (native_edges n)
-    (Among-left (native n.number, x) (slot_edges (native n.number) n.slots) (preserved_edge n) (Among-map (from_to (native n.number)) x (contents n.slots) i))) s
-
 -- the keys of the roots
 abbrev pub black_roots : Inside → List ℕ
 black_roots p = keys_in_registers p.script_registers.items
 
 abbrev pub gray_roots : Inside → List ℕ
-gray_roots p = keys_held p.counted.natives
+gray_roots p = keys_held p.counted p.counted.natives
 
 module _ (p : Inside) (l : IsLinked p) (o : IsInOrder [] (keyed_of p)) where
   -- WHAT NATIVES HOLD
   native-names : AreNamesOf p.scripts (gray_roots p) (scripts_held (heap_of p))
   native-names = record {
     named = λ k x m e.
-        let f = native-key p.counted.natives k m in
+        let f = native-key p.counted p.counted.natives k m in
         Among-flat_map scripts_held_by (named_native p.scripts f.0) x (heap_of p).natives (Among-map (named_native p.scripts) f.0 p.counted.natives f.1)
-        (slots-held (named_native p.scripts f.0) x (named-slot p l f.0 k x f.2 e) (script-named p l k x e));
+        (Among-filter is_script x (targets_of (named_native p.scripts f.0)) (named-reference p l keyed w f.0 k x f.1 f.2 e) (script-named p l k x e));
     keyed = λ x m.
         let f = Among-flat_map_cases scripts_held_by (heap_of p).natives x m in
         let g = Among-map_cases (named_native p.scripts) p.counted.natives f.0 f.1 in
-        let quiet : g.0.preserved ≡ false = o.alone.unpreserved (named_native p.scripts g.0) (Among-map (named_native p.scripts) g.0 p.counted.natives g.1) in
-        let h = held-in_slots (named_native p.scripts g.0) x quiet (subst (λ n. Among x (scripts_held_by n)) (sym g.2) f.2) in
-        let k = slot-named p l g.0 x g.1 h.0 h.1 in
-        (k.0, key-native p.counted.natives g.0 k.0 g.1 k.1, k.2);
+        let i : Among x (scripts_held_by (named_native p.scripts g.0)) = subst (λ n. Among x (scripts_held_by n)) (sym g.2) f.2 in
+        let k = reference-named p l keyed w g.0 x g.1 (Among-filtered is_script x (targets_of (named_native p.scripts g.0)) i) (Among-passes is_script x (targets_of (named_native p.scripts g.0)) i) in
+        (k.0, key-native p.counted p.counted.natives g.0 k.0 g.1 k.1, k.2);
   }
+    where
+      keyed : HasKeys p.counted
+      keyed = keys-counted [] p l o
+
+      w : IsWellFormed (heap_of p)
+      w = o.sound.well_formed
+
+      targets_of : HeapNative → List Name
+      targets_of n = map (λ (e : Name × Name). e.1) (native_edges n)
 
   -- what is black has a name of a script object that is there
   black-there : (x : Name) → Among x (black_names (heap_of p)) → (q : Object) × Among q p.scripts × (q.name ≡ x)

@@ -1,7 +1,7 @@
-//! Natives that hold gray script objects.
+//! Natives that hold gray script objects, in slots or as preserved reflectors.
 ghost use Rattle.std.specs.Prelude.{◌≡◌, ℕ, List, filter, option_and_then, IsSome, ◌<◌, Some, None};
 ghost use Rattle.cc_counted.specs.Counts as counts;
-ghost use Rattle.cc_counted.specs.Counts.{name_of, the_number};
+ghost use Rattle.cc_counted.specs.Counts.{name_of};
 ghost use Rattle.cc_heaps.specs.Keyed.{IsInOrder, number_at, counts_of};
 ghost use Rattle.cc_heaps.specs.Changes.{IsNativeThere};
 ghost use Rattle.cc_heaps.specs.Holders.{first_of, holder_after, is_above};
@@ -26,7 +26,7 @@ fn native_above(counted: &Counted, after: Option<NKey>) -> Option<NKey>
 }
 
 impl Heaps {
-    // Whether what a slot of a native holds is a gray script object.
+    // Whether what a native refers to is a gray script object.
     fn is_gray(&self, content: Option<Held>) -> bool
         requires there { IsHeldIn self.now.scripts (name_of (counts_of self.now) content) }
         ensures { result ≡ is_gray_held self.now.scripts (name_of (counts_of self.now) content) }
@@ -39,19 +39,20 @@ impl Heaps {
 
     // Whether a native holds a gray script object.
     fn holds_gray(&self, key: NKey) -> bool
+        requires order { (owned : List ℕ) × IsInOrder owned self.now }
         requires live { IsSome (number_at self.now key.0) }
-        ensures { result ≡ is_holder self.now.scripts (counts_of self.now) (the_number (counts_of self.now) key.0) }
+        ensures { result ≡ is_holder self.now.scripts (counts_of self.now) key.0 }
     {
-        for i in 0..self.counted.slots(key) {
-            if self.is_gray(self.counted.slot(key, i)) {
+        for i in 0..self.counted.slots(key) + 1 {
+            if self.is_gray(self.counted.reference(key, i)) {
                 return true;
             }
         }
         false
     }
 
-    /// The native with the least number above that of `after` that holds a gray script object, of all where there is no
-    /// `after`; none exactly where there is no such one.
+    /// The native with the least number above that of `after` that holds a gray script object, in a slot or as its preserved
+    /// reflector, of all where there is no `after`; none exactly where there is no such one.
     pub fn next_holder(&self, after: Option<NKey>) -> Option<NKey>
         requires order { (owned : List ℕ) × IsInOrder owned self.now }
         requires there { IsNativeThere self.now after }

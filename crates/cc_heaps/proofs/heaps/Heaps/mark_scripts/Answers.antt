@@ -7,6 +7,7 @@ use Rattle.cc_heaps.specs.Changes.{KeepsKeys}
 use Rattle.cc_heaps.specs.Fields.{keyed_of, heap_of, IsLinked}
 use Rattle.cc_heaps.specs.Roots.{keys_in_registers}
 use Rattle.cc_heaps.proofs.ObjectsKept.{keys-counted, with_objects}
+use Rattle.cc_heaps.proofs.ReferenceNames.{few_slots-counted}
 use Rattle.cc_heaps.proofs.RootNames.{register-there, native-there}
 use Rattle.cc_heaps.proofs.MarkedObjects.{marked_objects, heap-marked, keys-marked, order-marked, linked-marked}
 use Rattle.cc_laws_heap.proofs.Marking.{HasColours-marked}
@@ -14,8 +15,10 @@ use Rattle.cc_heaps.proofs.FewCounts.{few-alone}
 use Rattle.cc_heaps.proofs.StandingStill.{marked-still}
 use Rattle.cc_heaps.proofs.heaps.Heaps.mark_scripts.Goals as goal
 
-pub new-slots-requires : goal.new-slots-requires
-new-slots-requires c = record { keyed = keys-counted [] c.self.inside c.self.invariant (rw (← c.self.view_is) at c.requires.order) }
+pub new-held-requires : goal.new-held-requires
+new-held-requires c =
+    let o = rw (← c.self.view_is) at c.requires.order in
+    record { keyed = keys-counted [] c.self.inside c.self.invariant o; few_slots = few_slots-counted c.self.inside o.sound.well_formed }
 
 -- the roots are the keys of registers, and those of natives
 registers : (c : goal.After-mark) → c.new-registers.result ≡ keys_in_registers c.self.inside.script_registers.items
@@ -30,12 +33,14 @@ mark-requires-clause-black c = λ k m.
     (subst (Among k) (c.new-registers.ensures ∙ ap keys_in_registers c.as_slice.ensures.value) m)
 
 pub mark-requires-clause-gray : goal.mark-requires-clause-gray
-mark-requires-clause-gray c = λ k m. native-there c.self.inside c.self.invariant k (subst (Among k) c.new-slots.ensures m)
+mark-requires-clause-gray c =
+    let o = rw (← c.self.view_is) at c.requires.order in
+    λ k m. native-there c.self.inside c.self.invariant (keys-counted [] c.self.inside c.self.invariant o) k (subst (Among k) c.new-held.ensures m)
 
 -- the objects are those of the marking
 objects : (c : goal.After-mark) → marked_objects c.self.inside ≡ c.mark.new.scripts
 objects c =
-    sym (c.mark.ensures.colours ∙ (λ i. marked_from (registers c i) (c.new-slots.ensures i) c.self.inside.scripts))
+    sym (c.mark.ensures.colours ∙ (λ i. marked_from (registers c i) (c.new-held.ensures i) c.self.inside.scripts))
 
 pub returns-clause-heap : goal.returns-clause-heap
 returns-clause-heap c =

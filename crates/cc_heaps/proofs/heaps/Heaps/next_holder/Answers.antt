@@ -2,7 +2,9 @@ use Rattle.std.proofs.Common.{◌≡◌, sym, subst, ◌∙◌}
 use Rattle.cc_counted.specs.Counts.{Counts, the_number}
 use Rattle.cc_heaps.specs.GrayHeld.{is_holder}
 use Rattle.cc_heaps.specs.Fields.{keyed_of}
+use Rattle.cc_heaps.proofs.GrayHolders.{holds, holder-numbered}
 use Rattle.cc_heaps.proofs.Keying.{counts-back}
+use Rattle.cc_heaps.proofs.ObjectsKept.{keys-counted}
 use Rattle.cc_heaps.proofs.Listing.{none-left}
 use Rattle.cc_heaps.proofs.Registers.{live-there}
 use Rattle.cc_heaps.proofs.HolderWalk.{IsLooking-start, IsLooking-next, key-there, numbers_left-less, holder-found, holder-none}
@@ -19,15 +21,16 @@ loop-next-init c =
 pub holds_gray-requires : goal.holds_gray-requires
 holds_gray-requires c =
     let f = rw (← c.self.view_is) at c.requires.order in
-    record { live = rw (← c.self.view_is) (key-there c.self.inside f.0 f.1 c.args.after c.loop-next.next c.in-Some.key c.in-Some.is c.loop-next.invariant) }
+    record { order = c.requires.order; live = rw (← c.self.view_is) (key-there c.self.inside f.0 f.1 c.args.after c.loop-next.next c.in-Some.key c.in-Some.is c.loop-next.invariant) }
 
 pub returns-then-holds_gray-clause-number : goal.returns-then-holds_gray-clause-number
 returns-then-holds_gray-clause-number c =
     let p = c.self.inside in
     let f = rw (← c.self.view_is) at c.requires.order in
-    let tested : c.holds_gray.result ≡ is_holder p.scripts p.counted (the_number p.counted c.in-Some.key.0) =
-    subst (λ (d : Counts). c.holds_gray.result ≡ is_holder p.scripts d (the_number d c.in-Some.key.0)) (counts-back p c.self.invariant)
-    (rw (← c.self.view_is) at c.holds_gray.ensures) in
+    let tested : c.holds_gray.result ≡ holds p.scripts p.counted (the_number p.counted c.in-Some.key.0) =
+    subst (λ (d : Counts). c.holds_gray.result ≡ is_holder p.scripts d c.in-Some.key.0) (counts-back p c.self.invariant) (rw (← c.self.view_is) at c.holds_gray.ensures)
+    ∙ holder-numbered p c.self.invariant (keys-counted f.0 p c.self.invariant f.1) c.in-Some.key.0
+    (key-there p f.0 f.1 c.args.after c.loop-next.next c.in-Some.key c.in-Some.is c.loop-next.invariant) in
     rw (← c.self.view_is)
     (holder-found p f.0 f.1 c.args.after c.self.invariant c.loop-next.next c.in-Some.key c.in-Some.is c.loop-next.invariant (sym tested ∙ c.if-holds_gray.true))
 
@@ -51,9 +54,10 @@ pub loop-next-preserved : goal.loop-next-preserved
 loop-next-preserved c =
     let p = c.self.inside in
     let f = rw (← c.self.view_is) at c.requires.order in
-    let tested : c.holds_gray.result ≡ is_holder p.scripts p.counted (the_number p.counted c.in-Some.key.0) =
-    subst (λ (d : Counts). c.holds_gray.result ≡ is_holder p.scripts d (the_number d c.in-Some.key.0)) (counts-back p c.self.invariant)
-    (rw (← c.self.view_is) at c.holds_gray.ensures) in
+    let tested : c.holds_gray.result ≡ holds p.scripts p.counted (the_number p.counted c.in-Some.key.0) =
+    subst (λ (d : Counts). c.holds_gray.result ≡ is_holder p.scripts d c.in-Some.key.0) (counts-back p c.self.invariant) (rw (← c.self.view_is) at c.holds_gray.ensures)
+    ∙ holder-numbered p c.self.invariant (keys-counted f.0 p c.self.invariant f.1) c.in-Some.key.0
+    (key-there p f.0 f.1 c.args.after c.loop-next.next c.in-Some.key c.in-Some.is c.loop-next.invariant) in
     IsLooking-next p f.0 f.1 c.args.after c.loop-next.next c.in-Some.key c.in-Some.is c.loop-next.invariant
     (sym tested ∙ c.if-holds_gray.false) c.native_above-next-in-Some.result c.native_above-next-in-Some.ensures.number c.native_above-next-in-Some.ensures.there
 
