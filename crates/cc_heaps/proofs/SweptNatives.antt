@@ -49,10 +49,13 @@ pub without_each-scripts : (xs : List Name) (h : Heap) → without_each xs h ≡
 without_each-scripts [] h = refl
 without_each-scripts (x ∷ xs) h = without_each-scripts xs (without_script h x)
 
+-- what was done to the counted heap, by the names of these script objects, with the rest of other heaps
+abbrev pub left_by : List Object → Heap → Left → Outcome
+left_by objects h l = record { heap = shown h objects (counts.heap_of l.counts); events = l.events }
+
 module _ (p : Inside) (scripts : AreScripts p.scripts) where
-  -- what was done to the counted heap, by names, with the rest of other heaps
-  abbrev pub left_named : Heap → Left → Outcome
-  left_named h l = record { heap = shown h p.scripts (counts.heap_of l.counts); events = l.events }
+  abbrev left_named : Heap → Left → Outcome
+  left_named h l = left_by p.scripts h l
 
   -- a native let go
   let_go-named : (h : Heap) (c : Counts) (x : Name) (key : Option ℕ) → Reflects (keyed_of p) x key →
