@@ -42,7 +42,7 @@ module _ (owned : List ℕ) (v : Keyed) (order : IsInOrder owned v) where
       (Among-map (named_object v.scripts) o v.scripts (find-among (λ (p : Object). p.key == key) v.scripts o e))
 
   -- The object at the key of a name has that name.
-  name-at_key : (y : Name) (q : ℕ) → key_of v.scripts y ≡ Some q → name_at v.scripts q ≡ Some y
+  pub name-at_key : (y : Name) (q : ℕ) → key_of v.scripts y ≡ Some q → name_at v.scripts q ≡ Some y
   name-at_key y q = go (find (λ (o : Object). same_name o.name y) v.scripts) refl
     where
       go : (f : Option Object) → find (λ (o : Object). same_name o.name y) v.scripts ≡ f → option_map (λ (o : Object). o.key) f ≡ Some q → name_at v.scripts q ≡ Some y
@@ -55,7 +55,7 @@ module _ (owned : List ℕ) (v : Keyed) (order : IsInOrder owned v) where
           ∙ ap (λ z. Some z) (same_name-true o.name y (find-passes (λ (p : Object). same_name p.name y) v.scripts o s))
 
   -- a name that is there has a key
-  key-of_name : (y : Name) → Among y (script_names v.heap) → (q : ℕ) × (key_of v.scripts y ≡ Some q)
+  pub key-of_name : (y : Name) → Among y (script_names v.heap) → (q : ℕ) × (key_of v.scripts y ≡ Some q)
   key-of_name y m =
       let s = Among-map_cases (λ (o : HeapScript). o.name) v.heap.scripts y m in
       let o = Among-map_cases (named_object v.scripts) v.scripts s.0 (subst (Among s.0) order.named s.1) in

@@ -15,6 +15,7 @@ pub mod LeftWith
 pub mod ContentNames
 pub mod EventsTold
 pub mod SlotsHeld
+pub mod PlacesRead
 pub mod Made
 pub mod Reaching
 pub mod ScriptsChanged
@@ -40,3 +41,7 @@ pub mod Following
 pub mod StandingStill
 pub mod StandingAfter
 pub mod KeysKept
+pub mod Reflecting
+pub mod ReflectingMade
+pub mod ReflectingPreserved
+pub mod ReflectingWritten

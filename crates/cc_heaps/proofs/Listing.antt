@@ -58,11 +58,11 @@ pub record AreTold (X : Type 0) (name : X → Name) (key : X → ℕ) (all : Lis
   pub told : Tells before after (listing listed)
   pub counted : count ≡ length listed
 
--- all are told
-pub record AreAllTold (names : List Name) (count : ℕ) (before after : Telling) : Type 0 where
+-- all are told, so many at most
+pub record AreAllTold (most : ℕ) (names : List Name) (count : ℕ) (before after : Telling) : Type 0 where
   pub told : Tells before after (listing names)
   pub counted : count ≡ length names
-  pub few : count ≤ 1000000
+  pub few : count ≤ most
 
 module _ {X : Type 0} (name : X → Name) (key : X → ℕ) (all : List X) where
   pub none-told : (at : Option ℕ) (before : Telling) → at ≡ first_key key all → AreTold X name key all at 0 before before
@@ -108,8 +108,8 @@ module _ {X : Type 0} (name : X → Name) (key : X → ℕ) (all : List X) where
           }
 
     -- none is left
-    pub told-all : AreTold X name key all None count before after → (names : List Name) → names ≡ map name all → length names ≤ 1000000 → AreAllTold names count before after
-    told-all k names same few =
+    pub told-all : AreTold X name key all None count before after → (names : List Name) → names ≡ map name all → (most : ℕ) → length names ≤ most → AreAllTold most names count before after
+    told-all k names same most few =
         let whole : k.listed ≡ names = sym (append-nil k.listed) ∙ (k.whole ∙ sym same) in
         let counted : count ≡ length names = k.counted ∙ ap length whole in
         record { told = subst (λ xs. Tells before after (listing xs)) whole k.told; counted = counted; few = omega (arith, counted, few) }
@@ -248,18 +248,18 @@ module _ (p : Inside) where
   pub native_names-limited : (owned : List ℕ) → IsInOrder owned (keyed_of p) → length (native_names (heap_of p)) ≤ 1000000
   native_names-limited owned o = omega (arith, natives-limited owned (keyed_of p) o, length-map (heap_of p).natives (λ (n : HeapNative). native n.number))
 
-  pub scripts-limited_to : (owned : List ℕ) → IsInOrder owned (keyed_of p) → length p.scripts ≤ 1000000
+  pub scripts-limited_to : (owned : List ℕ) → IsInOrder owned (keyed_of p) → length p.scripts ≤ 2000000
   scripts-limited_to owned o = omega (arith, scripts-limited owned (keyed_of p) o, ap length script_names-objects, length-map p.scripts (λ (o : Object). o.name))
 
   module _ (owned : List ℕ) (order : IsInOrder owned (keyed_of p)) {count : ℕ} {before after : Telling} where
     -- no key is left: all natives are listed
-    pub natives-all : {at : Option NKey} → ((key : NKey) → at ≡ Some key → ⊥) → NativesListed p.counted at count before after → AreAllTold (native_names (heap_of p)) count before after
+    pub natives-all : {at : Option NKey} → ((key : NKey) → at ≡ Some key → ⊥) → NativesListed p.counted at count before after → AreAllTold 1000000 (native_names (heap_of p)) count before after
     natives-all {at} none k = told-all (λ (n : HeapNative). native n.number) (λ (n : HeapNative). n.number) p.counted.natives count before after
         (subst (λ a. AreNativesTold p.counted (number_of p.counted a) count before after) (none-left at none) k.walk)
-        (native_names (heap_of p)) native_names-counted (native_names-limited owned order)
+        (native_names (heap_of p)) native_names-counted 1000000 (native_names-limited owned order)
 
     -- and so are all script objects
-    pub objects-all : {at : Option SKey} → ((key : SKey) → at ≡ Some key → ⊥) → ObjectsListed p.scripts at count before after → AreAllTold (script_names (heap_of p)) count before after
+    pub objects-all : {at : Option SKey} → ((key : SKey) → at ≡ Some key → ⊥) → ObjectsListed p.scripts at count before after → AreAllTold 2000000 (script_names (heap_of p)) count before after
     objects-all {at} none k = told-all (λ (o : Object). o.name) (λ (o : Object). o.key) p.scripts count before after
         (subst (λ a. AreObjectsTold p.scripts (option_map (λ (key : SKey). key.0) a) count before after) (none-left at none) k.walk)
-        (script_names (heap_of p)) script_names-objects (scripts-limited owned (keyed_of p) order)
+        (script_names (heap_of p)) script_names-objects 2000000 (scripts-limited owned (keyed_of p) order)

@@ -1,18 +1,16 @@
 -- WHAT A CHANGE MAKES OF THE GRAPHS THAT THE HEAPS STAND FOR. What is handed in is reached, so it was made, and the changed
 -- graph is well made; the changed heaps follow it, and are well formed, so they stand for it.
-use Rattle.std.proofs.Common.{◌≡◌, ℕ, ◌<◌, ◌≤◌, true, [], get_or, Option, Some, None, is_some, option_map, refl, sym, ◌∙◌, ap, subst, inl}
+use Rattle.std.proofs.Common.{◌≡◌, ℕ, ◌<◌, ◌≤◌, true, [], get_or, Option, Some, None, is_some, option_map, refl, sym, ap, subst, inl}
 use Rattle.std.specs.Prelude.{IsTrue}
 use Rattle.std.specs.Option.{option_and_then}
 use Rattle.std.proofs.lemmas.Bool.{false≢true, le-leb, lt-leb, lt-ltb}
-use Rattle.cc_lists.specs.Members.{Among}
-use Rattle.cc_lists.proofs.Members.{Among-map_cases}
 use Rattle.cc_names.specs.declared.name.Name.{Name}
 use Rattle.cc_names.specs.declared.name.Name.TheVariants as name
 use Rattle.cc_names.specs.declared.number.NKey.{NKey}
 use Rattle.cc_names.specs.declared.number.SKey.{SKey}
 use Rattle.cc_names.specs.declared.register.Reg.TheVariants.{N, S}
 use Rattle.cc_names.specs.declared.kind.Kind.TheVariants.{Plain}
-use Rattle.cc_names.specs.Names.{native, object, is_native}
+use Rattle.cc_names.specs.Names.{native, is_native}
 use Rattle.cc_model.specs.declared.command.Command.{Command}
 use Rattle.cc_model.specs.declared.command.Command.TheVariants.{Native, Script}
 use Rattle.cc_model.specs.Ranges.{in_range}
@@ -22,37 +20,36 @@ use Rattle.cc_model.specs.Graph as graph
 use Rattle.cc_model.specs.Graph.{Graph, GraphNative, GraphScript, native_in, script_in, step}
 use Rattle.cc_model.specs.Reached.{Reached}
 use Rattle.cc_model.specs.WellMade.{IsWellMade}
-use Rattle.cc_model.specs.Heap.{Heap, HeapScript, objects_of, native_at, set_slot}
+use Rattle.cc_model.specs.Heap.{Heap, objects_of, native_at, set_slot}
 use Rattle.cc_model.specs.Cascade.{take_up}
 use Rattle.cc_model.specs.End.{slots_now}
 use Rattle.cc_model.specs.Effects.{effects, hold_native, hold_script, make_native, make_object}
-use Rattle.cc_model.specs.WellFormed.{IsWellFormed, FitsName, native_names, script_names}
+use Rattle.cc_model.specs.WellFormed.{IsWellFormed, native_names, script_names}
 use Rattle.cc_model.specs.StandsFor.{Shape, shape_in, shape_of_native, shape_of_object, shape_of_reflector, script_shape, StandsFor}
 use Rattle.cc_laws_heap.specs.Sound.{IsSound}
 use Rattle.cc_laws_heap.proofs.Holds.{OfSome, OfSome-then}
 use Rattle.cc_laws_heap.proofs.Owning.{IsIn}
-use Rattle.cc_laws_heap.proofs.GraphReads.{Made, MadeNative, MadeScript}
-use Rattle.cc_laws_heap.proofs.GraphWrites.{IsWellMade-native_register, IsWellMade-script_register, IsWellMade-change_native, KeepsNative-slot, IsWellMade-script_slot}
+use Rattle.cc_laws_heap.proofs.GraphReads.{Made, MadeNative}
+use Rattle.cc_laws_heap.proofs.GraphWrites.{IsWellMade-native_register, IsWellMade-change_native, KeepsNative-slot}
 use Rattle.cc_laws_heap.proofs.GraphCommands.{step-well}
 use Rattle.cc_laws_heap.proofs.ReachedAlike.{in-reached}
-use Rattle.cc_laws_heap.proofs.ScriptsKept.{native-no_script}
 use Rattle.cc_laws_heap.proofs.Following.{Follows, stands-follows}
 use Rattle.cc_laws_heap.proofs.Standing.{follows-stands}
 use Rattle.cc_laws_heap.proofs.Changing.{Follows-left}
 use Rattle.cc_laws_heap.proofs.Unseen.{Leaves-take_up, Leaves-let_go}
 use Rattle.cc_laws_heap.proofs.SlotsWritten.{Follows-slot}
-use Rattle.cc_laws_heap.proofs.StepsAlike.{Follows-hold, Follows-hold_script}
+use Rattle.cc_laws_heap.proofs.StepsAlike.{Follows-hold}
 use Rattle.cc_laws_heap.proofs.CommandsStand.{command-stands}
 use Rattle.cc_laws_snapshot.proofs.SoundView.{native-name_of}
 use Rattle.cc_counted.specs.declared.held.Held.{Held}
 use Rattle.cc_script.specs.Objects.{is_there, name_at}
 use Rattle.cc_heaps.specs.Keyed.{Keyed, IsInOrder, left_with}
 use Rattle.cc_heaps.specs.Changes.{native_name, script_name, held_name, stored_in}
-use Rattle.cc_heaps.specs.Standing.{IsReached, StandsAfter}
+use Rattle.cc_heaps.specs.Standing.{IsReached, IsReachedOrReflects, MayHold, StandsAfter}
 use Rattle.cc_heaps.proofs.Content.{native-in}
 use Rattle.cc_heaps.proofs.Following.{name_at-there, script_name-there}
 use Rattle.cc_heaps.proofs.ScriptsChanged.{there-named}
-use Rattle.cc_heaps.proofs.PlainNames.{plain-named}
+use Rattle.cc_heaps.proofs.ReflectingWritten.{held_script-stands, slot_written-stands}
 
 -- What was made
 
@@ -98,16 +95,6 @@ module _ (h : Heap) (g : Graph) (w : IsWellFormed h) (m : IsWellMade g) (s : Sta
       named (name.Script k) e d = absurd (false≢true e)
       named (name.Reflector k) e d = absurd (false≢true e)
 
-  -- a script object, where it is that of one that is there
-  script-made : (x : Option Name) → IsIn (script_names h) x → IsReached h x → OfSome (MadeScript g) x
-  script-made None there r = tt
-  script-made (Some x) there r = named x (there x (inl refl)) (handed-made (Some x) r)
-    where
-      named : (y : Name) → Among y (script_names h) → Made g y → MadeScript g y
-      named (name.Native k) i d = absurd (native-no_script h k.0 w i)
-      named (name.Script k) i d = d
-      named (name.Reflector k) i d = d
-
 -- Changes of the heaps
 
 -- WELL FORMED HEAPS THAT FOLLOW what a change makes of each graph stand for it.
@@ -125,13 +112,6 @@ module _ (h : Heap) (w : IsWellFormed h) where
       (λ g m s. IsWellMade-native_register g d x m (native-made h g w m s x there r))
       (λ g m s t. Follows-hold (Reached g) h g d x x refl (handed-reached h g w m s x r) t)
 
-  -- A script register is written.
-  hold_script-stands : (d : ℕ) (x : Option Name) → IsIn (script_names h) x → IsReached h x → IsWellFormed (hold_script h d x) →
-      StandsAfter h (hold_script h d x) (λ g. graph.set_register g (S d) x)
-  hold_script-stands d x there r late = StandsAfter-from h (hold_script h d x) (λ g. graph.set_register g (S d) x) w late
-      (λ g m s. IsWellMade-script_register g d x m (script-made h g w m s x there r))
-      (λ g m s t. Follows-hold_script (Reached g) h g d x x refl (handed-reached h g w m s x r) t)
-
   -- A slot of a native is written.
   stored_in-stands : (k i : ℕ) (x : Option Name) → IsReached h (Some (native k)) → IsReached h x → IsWellFormed (stored_in h k i x).heap →
       StandsAfter h (stored_in h k i x).heap (λ g. graph.set_slot g (Some (native k)) i x)
@@ -141,14 +121,6 @@ module _ (h : Heap) (w : IsWellFormed h) where
       (Leaves-let_go (set_slot (take_up h x) (Some (native k)) i x) (get_or (slots_now (native_at (take_up h x) k)) i None))
       (Follows-slot (Reached g) (take_up h x) g (Some (native k)) i x (handed-reached h g w m s (Some (native k)) held) (handed-reached h g w m s x r)
       (λ j a e. absurd (cc)) (Follows-left (Reached g) h (take_up h x) g (Leaves-take_up h x) t)))
-
-  -- A slot of a script object that is no reflector is written.
-  object_slot-stands : (k i : ℕ) (x : Option Name) → IsIn (script_names h) x → IsReached h (Some (object k)) → IsReached h x →
-      IsWellFormed (set_slot h (Some (object k)) i x) → StandsAfter h (set_slot h (Some (object k)) i x) (λ g. graph.set_slot g (Some (object k)) i x)
-  object_slot-stands k i x there held r late = StandsAfter-from h (set_slot h (Some (object k)) i x) (λ g. graph.set_slot g (Some (object k)) i x) w late
-      (λ g m s. IsWellMade-script_slot g k i x m (script-made h g w m s x there r))
-      (λ g m s t. Follows-slot (Reached g) h g (Some (object k)) i x (handed-reached h g w m s (Some (object k)) held) (handed-reached h g w m s x r)
-      (λ j a e. absurd (cc)) t)
 
 -- A command that is not refused.
 command-stands_after : (h : Heap) (c : Command) → IsSound [] h → IsTrue (in_range c) → refusal_of (objects_of h) c ≡ None →
@@ -182,10 +154,10 @@ module _ (v w : Keyed) (o : IsInOrder [] v) (p : IsInOrder [] w) where
       (ap (λ (u : Keyed). u.heap) e) (hold_native-stands v.heap o.sound.well_formed d (native_name v x) (native-in [] v x o) r)
 
   -- A script register is written.
-  pub script_register-stands : (d : ℕ) (x : Option SKey) → w.heap ≡ hold_script v.heap d (script_name v x) → IsReached v.heap (script_name v x) →
+  pub script_register-stands : (d : ℕ) (x : Option SKey) → w.heap ≡ hold_script v.heap d (script_name v x) → IsReachedOrReflects v.heap (script_name v x) →
       StandsAfter v.heap w.heap (λ g. graph.set_register g (S d) (script_name v x))
-  script_register-stands d x e r = changed-stands (hold_script v.heap d (script_name v x)) (λ g. graph.set_register g (S d) (script_name v x)) e
-      (hold_script-stands v.heap o.sound.well_formed d (script_name v x) (script_name-there [] v o x) r)
+  script_register-stands d x e r = subst (λ k. StandsAfter v.heap k (λ g. graph.set_register g (S d) (script_name v x))) (sym e)
+      (held_script-stands v.heap d (script_name v x) o.sound (script_name-there [] v o x) r)
 
   -- A slot of a native is written with what is held.
   pub native_slot-stands : (k i : ℕ) (x : Option Held) → w ≡ left_with v (stored_in v.heap k i (held_name v x)).heap →
@@ -194,30 +166,15 @@ module _ (v w : Keyed) (o : IsInOrder [] v) (p : IsInOrder [] w) where
   native_slot-stands k i x e held r = changed-stands (stored_in v.heap k i (held_name v x)).heap (λ g. graph.set_slot g (Some (native k)) i (held_name v x))
       (ap (λ (u : Keyed). u.heap) e) (stored_in-stands v.heap o.sound.well_formed k i (held_name v x) held r)
 
-  -- each script object that is there has such a name
-  object-named : (y : Name) → Among y (script_names v.heap) → (k : ℕ) × (y ≡ object k)
-  object-named y there =
-      let f = Among-map_cases (λ (q : HeapScript). q.name) v.heap.scripts y there in
-      let k = plain-named f.0.name f.0.slots (subst (λ kind. FitsName f.0.name kind f.0.slots) (o.alone.plain f.0 f.1) (o.sound.well_formed.kinds f.0 f.1)) in
-      (k.0, sym f.2 ∙ k.1)
-
-  -- so has the one at a key
-  name_at-object : (key : ℕ) → IsTrue (is_there v.scripts key) → (k : ℕ) × (name_at v.scripts key ≡ Some (object k))
-  name_at-object key live = go (there-named v.scripts key live)
-    where
-      go : (y : Name) × (name_at v.scripts key ≡ Some y) → (k : ℕ) × (name_at v.scripts key ≡ Some (object k))
-      go n =
-          let k = object-named n.0 (subst (IsIn (script_names v.heap)) n.1 (name_at-there [] v o key) n.0 (inl refl)) in
-          (k.0, n.1 ∙ ap (λ y. Some y) k.1)
-
-  -- A slot of a script object is written.
+  -- A slot of a script object is written, where it may hold something.
   pub script_slot-stands : (key i : ℕ) (x : Option SKey) → IsTrue (is_there v.scripts key) → w.heap ≡ set_slot v.heap (name_at v.scripts key) i (script_name v x) →
-      IsReached v.heap (name_at v.scripts key) → IsReached v.heap (script_name v x) →
+      IsReached v.heap (name_at v.scripts key) → IsReached v.heap (script_name v x) → MayHold v.heap (name_at v.scripts key) →
       StandsAfter v.heap w.heap (λ g. graph.set_slot g (name_at v.scripts key) i (script_name v x))
-  script_slot-stands key i x live e held r =
-      let n = name_at-object key live in
-      subst (λ y. w.heap ≡ set_slot v.heap y i (script_name v x) → IsReached v.heap y → StandsAfter v.heap w.heap (λ g. graph.set_slot g y i (script_name v x)))
-      (sym n.1)
-      (λ f h. changed-stands (set_slot v.heap (Some (object n.0)) i (script_name v x)) (λ g. graph.set_slot g (Some (object n.0)) i (script_name v x)) f
-      (object_slot-stands v.heap o.sound.well_formed n.0 i (script_name v x) (script_name-there [] v o x) h r))
-      e held
+  script_slot-stands key i x live e =
+      let n = there-named v.scripts key live in
+      subst (λ k. IsReached v.heap (name_at v.scripts key) → IsReached v.heap (script_name v x) → MayHold v.heap (name_at v.scripts key) →
+      StandsAfter v.heap k (λ g. graph.set_slot g (name_at v.scripts key) i (script_name v x))) (sym e)
+      (subst (λ y. IsReached v.heap y → IsReached v.heap (script_name v x) → MayHold v.heap y →
+      StandsAfter v.heap (set_slot v.heap y i (script_name v x)) (λ g. graph.set_slot g y i (script_name v x))) (sym n.1)
+      (slot_written-stands v.heap n.0 i (script_name v x) o.sound
+      (subst (λ y. IsIn (script_names v.heap) y) n.1 (name_at-there [] v o key) n.0 (inl refl)) (script_name-there [] v o x)))

@@ -36,7 +36,7 @@ impl Heaps {
         requires order { IsInOrder [] self.now }
         ensures told { TellsItems (N.telling out.old) (N.telling out.new) (map Listed (script_names self.now.heap)) }
         ensures count { result ≡ length (script_names self.now.heap) }
-        ensures few { result ≤ 1000000 }
+        ensures few { result ≤ 2000000 }
     {
         let mut count = 0u32;
         let mut at = self.scripts.first();

@@ -1,0 +1,127 @@
+-- THE REFLECTOR OF A REACHED NATIVE, as far as it is in the heaps: they follow the graph over what is reached and the
+-- reflector. Preserved it is reached, and else it is blank.
+use Rattle.std.proofs.Common.{◌≡◌, ℕ, true, false, [], ◌∷◌, Option, Some, None, option_map, refl, sym, ◌∙◌, ap, subst, inl, inr, ◌⊎◌, ⊎_elim, is_some}
+use Rattle.std.specs.Option.{option_and_then}
+use Rattle.std.proofs.lemmas.Bool.{cases_Bool}
+use Rattle.cc_lists.specs.Members.{Among}
+use Rattle.cc_lists.proofs.Members.{Among-map_cases, Among-right, Among-append}
+use Rattle.cc_names.specs.declared.name.Name.{Name}
+use Rattle.cc_names.specs.declared.name.Name.TheVariants as name
+use Rattle.cc_names.specs.Names.{native, object, reflector}
+use Rattle.cc_model.specs.Slots.{Slots, contents, empty_slots, reflector_slots}
+use Rattle.cc_model.specs.Entries.{Entry}
+use Rattle.cc_model.specs.Graph.{Graph, GraphNative, GraphScript, native_in, script_in}
+use Rattle.cc_model.specs.Reached.{Reached}
+use Rattle.cc_model.specs.WellMade.{IsWellMade}
+use Rattle.cc_model.specs.Heap.{Heap, HeapScript}
+use Rattle.cc_model.specs.WellFormed.{IsWellFormed, FitsName, script_names}
+use Rattle.cc_model.specs.StandsFor.{Shape, shape_in, shape_of_object, shape_of_reflector, shape_of_held_script, script_shape, IsKept, StandsFor}
+use Rattle.cc_laws_heap.proofs.Holds.{OfSome, contents-empty}
+use Rattle.cc_laws_heap.proofs.Shapes.{further_of}
+use Rattle.cc_laws_heap.proofs.GraphReads.{MadeScript}
+use Rattle.cc_laws_heap.proofs.Owning.{IsIn}
+use Rattle.cc_laws_heap.proofs.Following.{Follows, stands-follows}
+use Rattle.cc_laws_heap.proofs.MadeAlike.{IsMade, Follows-made}
+
+-- what has a script object's name and a shape in the graph was made
+shape-made_script : (g : Graph) (x : Name) (s : Shape) → ¬ ((k : ℕ) × (x ≡ native k)) → shape_in g x ≡ Some s → MadeScript g x
+shape-made_script g (name.Native k) s other = absurd (other (k.0, refl))
+shape-made_script g (name.Script k) s other = go (script_in g k.0)
+  where
+    go : (o : Option GraphScript) → option_map shape_of_object o ≡ Some s → is_some o ≡ true
+    go None e = absurd (cc)
+    go (Some o) e = refl
+shape-made_script g (name.Reflector k) s other = go (native_in g k.0)
+  where
+    slots : (r : Option Slots) → option_map (λ slots. script_shape (Some slots)) r ≡ Some s → is_some r ≡ true
+    slots None e = absurd (cc)
+    slots (Some l) e = refl
+
+    go : (o : Option GraphNative) → option_and_then shape_of_reflector o ≡ Some s → is_some (option_and_then (λ (n : GraphNative). n.reflector) o) ≡ true
+    go None e = absurd (cc)
+    go (Some n) e = slots n.reflector e
+
+-- A script object of the heaps was made in the graph.
+pub there-made : (h : Heap) (g : Graph) (x : Name) → IsWellFormed h → StandsFor h g → Among x (script_names h) → MadeScript g x
+there-made h g x w s m =
+    let f = Among-map_cases (λ (o : HeapScript). o.name) h.scripts x m in
+    subst (MadeScript g) f.2 (shape-made_script g f.0.name (shape_of_held_script f.0)
+    (λ k. subst (λ y. FitsName y f.0.kind f.0.slots) k.1 (w.kinds f.0 f.1))
+    (sym (s.scripts f.0 f.1).shape))
+
+-- So was each that a register or a slot holds.
+pub held-made : (h : Heap) (g : Graph) (x : Option Name) → IsWellFormed h → StandsFor h g → IsIn (script_names h) x → OfSome (MadeScript g) x
+held-made h g None w s there = tt
+held-made h g (Some x) w s there = there-made h g x w s (there x (inl refl))
+
+-- the shape of a blank reflector
+abbrev blank_shape : Shape
+blank_shape = script_shape (Some (empty_slots reflector_slots))
+
+module _ (h : Heap) (g : Graph) (k : ℕ) (w : IsWellFormed h) (m : IsWellMade g) (s : StandsFor h g) (there : Among (reflector k) (script_names h)) (d : Reached g (native k)) where
+  -- the heaps follow the graph over what is reached
+  follows : Follows (Reached g) h g
+  follows = stands-follows h g w s
+
+  -- the native as it is in both
+  kept : IsKept h g (native k)
+  kept = s.reached (native k) d
+
+  -- the reflector as it is in the heaps
+  own : (o : HeapScript) × Among o h.scripts × (o.name ≡ reflector k)
+  own = Among-map_cases (λ (o : HeapScript). o.name) h.scripts (reflector k) there
+
+  -- and so in the graph
+  own-made : shape_in g (reflector k) ≡ Some (shape_of_held_script own.0)
+  own-made = ap (shape_in g) (sym own.2) ∙ follows.objects.scripts own.0 own.1
+
+  -- a preserved reflector is reached
+  preserved-reached : kept.shape.preserved ≡ true → Reached g (reflector k)
+  preserved-reached p = follows.closed.edges (native k) (reflector k) kept.shape d kept.made
+      (Among-right (reflector k) (contents (slots_of kept.shape.slots)) (further_of (native k) kept.shape)
+      (subst (λ b. Among (reflector k) (elim b [ true ↦ reflector k ∷ [] | false ↦ [] ])) (sym p) (inl refl)))
+    where
+      slots_of : Option Slots → Slots
+      slots_of None = []
+      slots_of (Some l) = l
+
+  -- one that is not preserved is blank, and no entry has it for a key
+  blank : kept.shape.preserved ≡ false → (shape_in g (reflector k) ≡ Some blank_shape) × ((e : Entry) → Among e g.entries → ¬ (e.key ≡ reflector k))
+  blank p =
+      let b = follows.blank k kept.shape (shape_of_held_script own.0) kept.made p own-made in
+      (own-made ∙ ap (λ l. Some (script_shape l)) b.0, b.1)
+
+  -- so it is as if it were made alike in both
+  as_made : kept.shape.preserved ≡ false → IsMade (Reached g) h h g g (reflector k) blank_shape
+  as_made p = record {
+    natives = λ n i. inl i;
+    scripts = λ o i. inl i;
+    others = λ z q. refl;
+    made = (blank p).0;
+    before = λ t e. (same t (sym e ∙ (blank p).0), refl);
+    targets = λ y i. ⊎_elim
+        (λ a. absurd (contents-empty reflector_slots y a))
+        (λ r. ⊎_elim (λ q. subst (Reached g) q d) (λ q. absurd q) r)
+        (Among-append y (contents (empty_slots reflector_slots)) (native k ∷ []) i);
+    no_entry = λ e i. (λ q. apart (sym (m.entries e i).the_map.1 ∙ q), (blank p).1 e i);
+    blank = λ j e. refl;
+    beside = follows.beside;
+    heap_entries = refl;
+    graph_entries = refl;
+    native_registers = refl;
+    script_registers = refl;
+  }
+    where
+      same : (t : Shape) → Some t ≡ Some blank_shape → t ≡ blank_shape
+      same t e = cc
+
+      apart : {a b : ℕ} → object a ≡ reflector b → ⊥
+      apart q = cc
+
+  -- THE HEAPS FOLLOW THE GRAPH over the native and its reflector: whatever follows from that, follows.
+  pub Follows-reflector : (Q : Type 0) → ((P : Name → Type 0) → P (native k) → P (reflector k) → Follows P h g → Q) → Q
+  Follows-reflector Q f = ⊎_elim
+      (λ p. f (Reached g) d (preserved-reached p) follows)
+      (λ p. f (λ z. Reached g z ⊎ (reflector k ≡ z)) (inl d) (inr refl)
+      (Follows-made (Reached g) h h g g (reflector k) blank_shape (as_made p) follows))
+      (cases_Bool kept.shape.preserved)

@@ -1,0 +1,108 @@
+-- WHAT COMES INTO A SLOT OF A SCRIPT OBJECT OR A SCRIPT REGISTER, a reflector among them: the heaps stand for the graph in
+-- which it is written.
+use Rattle.std.proofs.Common.{◌≡◌, ℕ, true, [], set, Option, Some, None, is_some, option_map, refl, sym, ◌∙◌, ap, subst, inl, ⊎_elim}
+use Rattle.cc_lists.specs.Members.{Among}
+use Rattle.cc_names.specs.declared.name.Name.{Name}
+use Rattle.cc_names.specs.declared.name.Name.TheVariants as name
+use Rattle.cc_names.specs.declared.register.Reg.TheVariants.{S}
+use Rattle.cc_names.specs.Names.{native, object, reflector}
+use Rattle.cc_model.specs.Slots.{Slots}
+use Rattle.cc_model.specs.Graph as graph
+use Rattle.cc_model.specs.Graph.{Graph, with_reflector_slot}
+use Rattle.cc_model.specs.Reached.{Reached}
+use Rattle.cc_model.specs.WellMade.{IsWellMade}
+use Rattle.cc_model.specs.Heap.{Heap, native_at, set_slot}
+use Rattle.cc_model.specs.Effects.{hold_script}
+use Rattle.cc_model.specs.WellFormed.{IsWellFormed, script_names}
+use Rattle.cc_model.specs.StandsFor.{Shape, shape_in, shape_of_held_native, StandsFor}
+use Rattle.cc_laws_heap.specs.Sound.{IsSound}
+use Rattle.cc_laws_heap.proofs.Changing.{option_map-found}
+use Rattle.cc_laws_heap.proofs.Following.{Follows, stands-follows}
+use Rattle.cc_laws_heap.proofs.GraphWrites.{IsWellMade-script_register, IsWellMade-change_native, IsWellMade-script_slot, KeepsNative-reflector_slot}
+use Rattle.cc_laws_heap.proofs.Holds.{OfSome}
+use Rattle.cc_laws_heap.proofs.Owning.{IsIn}
+use Rattle.cc_laws_heap.proofs.ReachedAlike.{in-reached}
+use Rattle.cc_laws_heap.proofs.ReachedReads.{native_of-reached}
+use Rattle.cc_laws_heap.proofs.ScriptsKept.{native-no_script, script_slot-sound, hold_script-sound}
+use Rattle.cc_laws_heap.proofs.SlotsWritten.{IsPreserved, Follows-slot}
+use Rattle.cc_laws_heap.proofs.Standing.{follows-stands}
+use Rattle.cc_laws_heap.proofs.StepsAlike.{Follows-hold_script}
+use Rattle.cc_heaps.specs.Standing.{IsReached, IsReachedOrReflects, MayHold, StandsAfter}
+use Rattle.cc_heaps.proofs.Reflecting.{there-made, held-made, Follows-reflector}
+
+-- what is handed in is reached in the graph
+handed-reached : (h : Heap) (g : Graph) (x : Option Name) → IsWellFormed h → IsWellMade g → StandsFor h g → IsReached h x → OfSome (Reached g) x
+handed-reached h g None w m s r = tt
+handed-reached h g (Some x) w m s r = in-reached h g w m s x r
+
+-- Script registers
+
+-- A SCRIPT REGISTER WRITTEN with what is reached, or with the reflector of a native that is: the heaps stand for the graph
+-- in which it is.
+pub held_script-stands : (h : Heap) (d : ℕ) (x : Option Name) → IsSound [] h → IsIn (script_names h) x → IsReachedOrReflects h x →
+    StandsAfter h (hold_script h d x) (λ g. graph.set_register g (S d) x)
+held_script-stands h d x s there r g m t = (well, go x there r)
+  where
+    well : IsWellMade (graph.set_register g (S d) x)
+    well = IsWellMade-script_register g d x m (held-made h g x s.well_formed t there)
+
+    stands : (P : Name → Type 0) (y : Option Name) → IsIn (script_names h) y → OfSome P y → Follows P h g → StandsFor (hold_script h d y) (graph.set_register g (S d) y)
+    stands P y in_it p f = follows-stands P (hold_script h d y) (graph.set_register g (S d) y) (hold_script-sound [] h d y in_it s).well_formed
+        (IsWellMade-script_register g d y m (held-made h g y s.well_formed t in_it)) (Follows-hold_script P h g d y y refl p f)
+
+    start : Follows (Reached g) h g
+    start = stands-follows h g s.well_formed t
+
+    go : (y : Option Name) → IsIn (script_names h) y → IsReachedOrReflects h y → StandsFor (hold_script h d y) (graph.set_register g (S d) y)
+    go None i q = stands (Reached g) None i tt start
+    go (Some (name.Native k)) i q = absurd (native-no_script h k.0 s.well_formed (i (native k.0) (inl refl)))
+    go (Some (name.Script k)) i q = stands (Reached g) (Some (object k.0)) i (in-reached h g s.well_formed m t (object k.0) q) start
+    go (Some (name.Reflector k)) i q = ⊎_elim
+        (λ a. stands (Reached g) (Some (reflector k.0)) i (in-reached h g s.well_formed m t (reflector k.0) a) start)
+        (λ a. Follows-reflector h g k.0 s.well_formed m t (i (reflector k.0) (inl refl)) (in-reached h g s.well_formed m t (native k.0) a)
+        (StandsFor (hold_script h d (Some (reflector k.0))) (graph.set_register g (S d) (Some (reflector k.0))))
+        (λ P p b f. stands P (Some (reflector k.0)) i b f)) q
+
+-- Slots of script objects
+
+-- a slot written takes no reflector away
+keeps_reflector : (i : ℕ) (y : Option Name) (o : Option Slots) → is_some o ≡ true → is_some (option_map (λ (slots : Slots). set slots i y) o) ≡ true
+keeps_reflector i y None e = e
+keeps_reflector i y (Some slots) e = refl
+
+-- a graph with a slot of a script object written is well made
+slot-well : (h : Heap) (g : Graph) (x : Name) (i : ℕ) (y : Option Name) → IsWellFormed h → IsWellMade g → StandsFor h g → Among x (script_names h) →
+    IsIn (script_names h) y → IsWellMade (graph.set_slot g (Some x) i y)
+slot-well h g (name.Native k) i y w m s at there = absurd (native-no_script h k.0 w at)
+slot-well h g (name.Script k) i y w m s at there = IsWellMade-script_slot g k.0 i y m (held-made h g y w s there)
+slot-well h g (name.Reflector k) i y w m s at there = IsWellMade-change_native g k.0 (with_reflector_slot i y)
+    (λ n r. keeps_reflector i y n.reflector r) m (KeepsNative-reflector_slot g k.0 i y (held-made h g y w s there))
+
+-- a reflector that is reached and may hold something is preserved in the graph
+preserved-in : (h : Heap) (g : Graph) (x : Name) → IsWellFormed h → IsWellMade g → StandsFor h g → Among x (script_names h) → Reached g x → MayHold h (Some x) → IsPreserved g x
+preserved-in h g (name.Native k) w m s at d may = λ j t e i. absurd (cc)
+preserved-in h g (name.Script k) w m s at d may = λ j t e i. absurd (cc)
+preserved-in h g (name.Reflector k) w m s at d may = λ j t e i.
+    let own = s.reached (native k.0) (native_of-reached g (Some (reflector k.0)) (there-made h g (reflector k.0) w s at) d) in
+    let found = option_map-found shape_of_held_native (native_at h k.0) own.shape own.there in
+    let kept : own.shape.preserved ≡ true = sym (ap (λ (v : Shape). v.preserved) found.2) ∙ may found.0 found.1 in
+    let one : j ≡ k.0 = cc in
+    let both : Some own.shape ≡ Some t = sym own.made ∙ (ap (λ a. shape_in g (native a)) (sym one) ∙ i) in
+    let same : own.shape ≡ t = cc in
+    sym (ap (λ (v : Shape). v.preserved) same) ∙ kept
+
+module _ (h : Heap) (x : Name) (i : ℕ) (y : Option Name) (s : IsSound [] h) (at : Among x (script_names h)) (there : IsIn (script_names h) y) where
+  -- A SLOT OF A SCRIPT OBJECT WRITTEN leaves the heaps sound.
+  pub slot_written-sound : IsSound [] (set_slot h (Some x) i y)
+  slot_written-sound = script_slot-sound [] h (Some x) i y (λ z m. ⊎_elim (λ e. subst (λ w. Among w (script_names h)) e at) (λ t. absurd t) m) there s
+
+  -- They stand for the graph in which it is written, where both are reached and the object may hold something.
+  pub slot_written-stands : IsReached h (Some x) → IsReached h y → MayHold h (Some x) → StandsAfter h (set_slot h (Some x) i y) (λ g. graph.set_slot g (Some x) i y)
+  slot_written-stands r q may g m t =
+      let well = slot-well h g x i y s.well_formed m t at there in
+      let d = in-reached h g s.well_formed m t x r in (
+        well,
+        follows-stands (Reached g) (set_slot h (Some x) i y) (graph.set_slot g (Some x) i y) slot_written-sound.well_formed well
+            (Follows-slot (Reached g) h g (Some x) i y d (handed-reached h g y s.well_formed m t q)
+            (preserved-in h g x s.well_formed m t at d may) (stands-follows h g s.well_formed t)),
+      )
