@@ -9,7 +9,7 @@ use Rattle.cc_model.specs.declared.item.Item.TheVariants.{Event as of_event}
 use Rattle.cc_model.specs.Telling.{Telling, Tells}
 use Rattle.cc_model.specs.Texts.{texts_of}
 use Rattle.cc_model.specs.Slots.{contents}
-use Rattle.cc_model.specs.Heap.{Heap, HeapNative, Outcome, native_at, suspect}
+use Rattle.cc_model.specs.Heap.{Heap, HeapNative, Outcome, native_at, set_preserved, suspect}
 use Rattle.cc_model.specs.Cascade.{add_ref, cascade}
 use Rattle.cc_model.specs.End.{unlink}
 use Rattle.cc_model.specs.WellFormed.{native_names}
@@ -24,8 +24,8 @@ use Rattle.cc_heaps.specs.Keyed.{Keyed, IsInOrder, keyed_native, number_at, the_
 use Rattle.cc_heaps.specs.Named.{named, named_native}
 use Rattle.cc_heaps.specs.Fields.{heap_of, keyed_of, IsLinked}
 use Rattle.cc_heaps.proofs.Keying.{AreHeldThere}
-use Rattle.cc_heaps.proofs.Linked.{IsLinked-counted, reflectors-left, held-add_ref, held-cascade, held-unlink, with_counted}
-use Rattle.cc_heaps.proofs.Naming.{native_at-shown, native_names-shown, add_ref-shown, cascade-shown, unlink-shown, outcome_shown, shown}
+use Rattle.cc_heaps.proofs.Linked.{IsLinked-counted, reflectors-left, held-add_ref, held-cascade, held-preserved, held-unlink, with_counted}
+use Rattle.cc_heaps.proofs.Naming.{native_at-shown, native_names-shown, add_ref-shown, set_preserved-shown, cascade-shown, unlink-shown, outcome_shown, shown}
 use Rattle.cc_heaps.proofs.Ordered.{IsInOrder-cascade, IsInOrder-unlink}
 use Rattle.cc_heaps.proofs.Registers.{AreLive-same, left-same, registers-same}
 
@@ -78,7 +78,7 @@ module _ {p : Inside} {next : Counts} {alone whole : Heap} (l : Changes p next a
   pub changed-linked : IsLinked (with_counted p next)
   changed-linked = subst (λ d. IsLinked (with_counted p d)) (sym l.is) (IsLinked-counted p (with_heap p.counted alone) l.linked.native_registers l.held l.linked.reflectors l.linked)
 
--- a reference to native k given back, and one more taken
+-- a native given back, one more reference to it taken, and its reflector preserved
 module _ (p : Inside) (l : IsLinked p) (k : ℕ) where
   pub give_back-changes : {next : Counts} → next ≡ with_heap p.counted (suspect (counts.heap_of p.counted) k) → Changes p next (suspect (counts.heap_of p.counted) k) (suspect (heap_of p) k)
   give_back-changes is = record { linked = l; is = is; beside = refl; held = l.held }
@@ -89,6 +89,15 @@ module _ (p : Inside) (l : IsLinked p) (k : ℕ) where
     is = is;
     beside = add_ref-shown p.scripts (heap_of p) (counts.heap_of p.counted) k;
     held = held-add_ref p.scripts (counts.heap_of p.counted) l.held k;
+  }
+
+  pub preserve-changes : {next : Counts} → next ≡ with_heap p.counted (set_preserved (counts.heap_of p.counted) k true) →
+      Changes p next (set_preserved (counts.heap_of p.counted) k true) (set_preserved (heap_of p) k true)
+  preserve-changes is = record {
+    linked = l;
+    is = is;
+    beside = set_preserved-shown p.scripts (heap_of p) (counts.heap_of p.counted) k true;
+    held = held-preserved p.scripts (counts.heap_of p.counted) l.held k true;
   }
 
 -- Natives left

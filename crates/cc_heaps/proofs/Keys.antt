@@ -2,14 +2,17 @@
 -- natives still where these are there.
 use Rattle.std.proofs.Common.{◌≡◌, ℕ, List, [], map, Option, Some, None, refl, sym, ◌∙◌, ap, subst, if◌then◌else◌}
 use Rattle.std.specs.Option.{is_some}
+use Rattle.std.specs.List.{find}
 use Rattle.std.proofs.Math.ListN.{get_or-map}
 use Rattle.std.proofs.lemmas.Simd.{map-map}
 use Rattle.cc_lists.specs.Members.{Among}
 use Rattle.cc_lists.proofs.Members.{Among-map, Among-map_cases}
+use Rattle.cc_lists.proofs.Filtering.{find-among, find-passes}
 use Rattle.cc_lists.proofs.ListWrites.{map-kept}
 use Rattle.cc_names.specs.declared.name.Name.{Name}
 use Rattle.cc_names.specs.declared.name.Name.TheVariants as name
-use Rattle.cc_names.specs.Names.{native, reflector}
+use Rattle.cc_names.specs.Names.{native, reflector, same_name}
+use Rattle.cc_names.proofs.NameTests.{same_name-true}
 use Rattle.cc_model.specs.Heap.{Heap, HeapNative, HeapScript, Buffered, native_at, change_native}
 use Rattle.cc_model.specs.WellFormed.{IsRising, IsWellFormed, native_names, script_names}
 use Rattle.cc_laws_heap.proofs.Natives.{KeepsNumber, changed_at, changed_at-number, named-found, named-member, native_at-named, native_at-member, IsWellFormed-distinct}
@@ -124,3 +127,14 @@ AreReflecting-left v g e w all o m = Reflects-kept v (left_with v g) o.name o.na
     stays q k is at =
         let f = named-found g k (w.reflected k (subst (λ x. Among x (script_names g)) is (object-name g v.scripts e o m))) in
         number_at-left (counts_of v) g q ∙ (ap (key_left g) at ∙ key_left-there g k f.0 f.1)
+
+-- a name that is not in the heaps is that of no object
+pub find-unnamed : (h : Heap) (objects : List Object) → h.scripts ≡ named_objects objects → (x : Name) → ¬ (Among x (script_names h)) →
+    find (λ o. same_name o.name x) objects ≡ None
+find-unnamed h objects e x none = go (find (λ (o : Object). same_name o.name x) objects) refl
+  where
+    go : (f : Option Object) → find (λ (o : Object). same_name o.name x) objects ≡ f → f ≡ None
+    go None s = refl
+    go (Some o) s =
+        let named : o.name ≡ x = same_name-true o.name x (find-passes (λ (q : Object). same_name q.name x) objects o s) in
+        absurd (none (subst (λ y. Among y (script_names h)) named (object-name h objects e o (find-among (λ (q : Object). same_name q.name x) objects o s))))

@@ -1,6 +1,5 @@
 pub mod Fit
 pub mod Naming
-pub mod PlainNames
 pub mod Keying
 pub mod EachNative
 pub mod Keys
@@ -21,6 +20,7 @@ pub mod Reaching
 pub mod ScriptsChanged
 pub mod ScriptWrites
 pub mod ScriptCalls
+pub mod ReflectorMade
 pub mod Listing
 pub mod Limited
 pub mod GrayHolders

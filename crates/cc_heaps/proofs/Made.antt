@@ -30,7 +30,7 @@ use Rattle.cc_heaps.specs.Named.{IsHeldThere, named, named_native}
 use Rattle.cc_heaps.specs.Fields.{keyed_of, IsLinked}
 use Rattle.cc_heaps.proofs.Fit.{IsFit}
 use Rattle.cc_heaps.proofs.Keying.{counts-back}
-use Rattle.cc_heaps.proofs.Keys.{HasKeys-numbers, counts_in, object-name}
+use Rattle.cc_heaps.proofs.Keys.{HasKeys-numbers, counts_in, find-unnamed}
 use Rattle.cc_heaps.proofs.LeftWith.{key_left-there}
 use Rattle.cc_heaps.proofs.Naming.{named_slots}
 use Rattle.cc_heaps.proofs.Ordered.{IsInOrder-made}
@@ -86,17 +86,9 @@ module _ (p : Inside) (f : IsFit [] p) (next : Counts) (slots : ℕ) (key : NKey
 
   -- no reflector has the next number
   made-blank : reflector_key p.scripts (p.natives_made + 1) ≡ None
-  made-blank = go (find (λ (q : Object). same_name q.name (reflector (p.natives_made + 1))) p.scripts) refl
-    where
-      go : (o : Option Object) → find (λ (q : Object). same_name q.name (reflector (p.natives_made + 1))) p.scripts ≡ o → option_map (λ (q : Object). q.key) o ≡ None
-      go None e = refl
-      go (Some q) e =
-          let named : q.name ≡ reflector (p.natives_made + 1) =
-          same_name-true q.name (reflector (p.natives_made + 1)) (find-passes (λ (r : Object). same_name r.name (reflector (p.natives_made + 1))) p.scripts q e) in
-          let there : Among q.name (script_names v.heap) =
-          object-name v.heap p.scripts refl q (find-among (λ (r : Object). same_name r.name (reflector (p.natives_made + 1))) p.scripts q e) in
-          let n = named-member v.heap (p.natives_made + 1) (f.order.sound.well_formed.reflected (p.natives_made + 1) (subst (λ x. Among x (script_names v.heap)) named there)) in
-          absurd (omega (arith, n.2, f.order.sound.well_formed.native_numbers n.0 n.1))
+  made-blank = ap (option_map (λ (q : Object). q.key)) (find-unnamed v.heap p.scripts refl (reflector (p.natives_made + 1)) (λ there.
+      let n = named-member v.heap (p.natives_made + 1) (f.order.sound.well_formed.reflected (p.natives_made + 1) there) in
+      absurd (omega (arith, n.2, f.order.sound.well_formed.native_numbers n.0 n.1))))
 
   module _ (at : counts.number_at next key.0 ≡ Some (p.natives_made + 1))
       (none : counts.reflector_at next key.0 ≡ None)

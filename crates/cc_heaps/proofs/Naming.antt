@@ -91,7 +91,7 @@ module _ (objects : List Object) where
       (λ n. ap (λ ss. record n { slots = ss }) (sym (map-set (name_in objects) n.slots i x)))
 
   -- A preservation that began or ended
-  set_preserved-shown : (h g : Heap) (k : ℕ) (on : Bool) → set_preserved (shown h objects g) k on ≡ shown h objects (set_preserved g k on)
+  pub set_preserved-shown : (h g : Heap) (k : ℕ) (on : Bool) → set_preserved (shown h objects g) k on ≡ shown h objects (set_preserved g k on)
   set_preserved-shown h g k on = change-named h g k (λ n. record n { preserved = on }) (λ n. record n { preserved = on }) (λ n. refl)
 
   -- A reference given up, by counts and numbers alone

@@ -6,18 +6,18 @@ use Rattle.cc_lists.proofs.Counting.{count_by-cons}
 use Rattle.cc_names.specs.declared.name.Name.{Name}
 use Rattle.cc_names.specs.declared.register.Reg.TheVariants.{N}
 use Rattle.cc_names.specs.declared.kind.Kind.TheVariants.{Map}
-use Rattle.cc_names.specs.Names.{native}
-use Rattle.cc_model.specs.Heap.{Heap, HeapNative, HeapScript, Buffered, native_at, register, set_register, set_slot, change_native, with_native_slot, with_mark, suspect}
+use Rattle.cc_names.specs.Names.{native, reflector}
+use Rattle.cc_model.specs.Heap.{Heap, HeapNative, HeapScript, Buffered, native_at, register, set_register, set_preserved, set_slot, change_native, with_native_slot, with_mark, suspect}
 use Rattle.cc_model.specs.Cascade.{add_ref, cascade}
 use Rattle.cc_model.specs.Effects.{with_native}
 use Rattle.cc_model.specs.End.{unlink}
-use Rattle.cc_model.specs.WellFormed.{IsWellFormed, native_names, names_there}
+use Rattle.cc_model.specs.WellFormed.{IsWellFormed, native_names, names_there, script_names}
 use Rattle.cc_laws_heap.specs.Sound.{IsSound, numbers_of}
 use Rattle.cc_laws_heap.specs.Freeing.{SameBeside}
 use Rattle.cc_laws_heap.proofs.Making.{with_mark-cases, places-with_mark}
 use Rattle.cc_laws_heap.proofs.Kept.{IsBuffer, with_buffer, IsWellFormed-buffer}
 use Rattle.cc_laws_heap.proofs.Owning.{IsIn, add_ref-sound}
-use Rattle.cc_laws_heap.proofs.Writes.{native_register-sound, native_slot-sound}
+use Rattle.cc_laws_heap.proofs.Writes.{native_register-sound, native_slot-sound, set_preserved-sound}
 use Rattle.cc_laws_heap.proofs.MadeSound.{with_native-sound}
 use Rattle.cc_laws_heap.proofs.Cascades.{cascade-sound, cascade-frees}
 use Rattle.cc_laws_heap.proofs.Leaving.{Leave, Leave-before, Leave-frees}
@@ -150,6 +150,14 @@ IsInOrder-slot v k i n x found room there o =
     IsInOrder-with (numbers_of x ++ []) (numbers_of (get_or n.slots i None) ++ []) v o (change_native v.heap k (with_native_slot i x)).natives v.heap.buffer
     (native_slot-sound [] v.heap k i n x found room there o.sound)
     (numbers-changed v.heap k (with_native_slot i x) (λ m. refl))
+
+-- a reflector that is there is preserved
+pub IsInOrder-preserved : (owned : List ℕ) (v : Keyed) (k : ℕ) → Among (reflector k) (script_names v.heap) → IsInOrder owned v →
+    IsInOrder owned (changed_to v (set_preserved v.heap k true))
+IsInOrder-preserved owned v k there o =
+    IsInOrder-with owned owned v o (set_preserved v.heap k true).natives v.heap.buffer
+    (set_preserved-sound owned v.heap k there o.sound)
+    (numbers-changed v.heap k (λ n. record n { preserved = true }) (λ n. refl))
 
 -- a native made, with a key of its own: it is owned
 pub IsInOrder-made : (v : Keyed) (n : ℕ) (keys : List (Option ℕ)) → n ≤ 64 → v.heap.natives_made < v.heap.limits.natives →

@@ -204,60 +204,63 @@ empty-named : (objects : List Object) (n : ℕ) → map (name_held objects) (rep
 empty-named objects zero = refl
 empty-named objects (suc n) = ap (λ slots. None ∷ slots) (empty-named objects n)
 
-module _ (objects : List Object) (one : HasOneKey objects) (whole : AreWhole objects) (key number n : ℕ) (vacant : is_there objects key ≡ false) where
+-- a new one at a key that held nothing, whose slots are empty
+module _ (objects : List Object) (one : HasOneKey objects) (whole : AreWhole objects) (new : Object) (n : ℕ) (empty : new.slots ≡ replicate n None)
+    (vacant : is_there objects new.key ≡ false) where
   -- with one more
   abbrev pub made_last : List Object
-  made_last = objects ++ plain_object key number n ∷ []
+  made_last = objects ++ new ∷ []
 
-  found-last : (k : ℕ) → object_at made_last k ≡ option_or (object_at objects k) (object_at (plain_object key number n ∷ []) k)
-  found-last k = find-append (λ o. o.key == k) objects (plain_object key number n ∷ [])
+  found-last : (k : ℕ) → object_at made_last k ≡ option_or (object_at objects k) (object_at (new ∷ []) k)
+  found-last k = find-append (λ o. o.key == k) objects (new ∷ [])
 
   pub KeepsNames-made : KeepsNames objects made_last
   KeepsNames-made k x e = ap (λ (o : Option Object). option_map (λ p. p.name) o) (found-last k) ∙ go (object_at objects k) e
     where
-      go : (o : Option Object) → option_map (λ p. p.name) o ≡ Some x → option_map (λ p. p.name) (option_or o (object_at (plain_object key number n ∷ []) k)) ≡ Some x
+      go : (o : Option Object) → option_map (λ p. p.name) o ≡ Some x → option_map (λ p. p.name) (option_or o (object_at (new ∷ []) k)) ≡ Some x
       go None f = absurd (cc)
       go (Some o) f = f
 
   -- it is what stands at its key
-  pub name_at-made : name_at made_last key ≡ Some (object number)
-  name_at-made = ap (λ (o : Option Object). option_map (λ p. p.name) o) (found-last key) ∙ go (object_at objects key) vacant
+  pub name_at-made : name_at made_last new.key ≡ Some new.name
+  name_at-made = ap (λ (o : Option Object). option_map (λ p. p.name) o) (found-last new.key) ∙ go (object_at objects new.key) vacant
     where
-      here : object_at (plain_object key number n ∷ []) key ≡ Some (plain_object key number n)
-      here = rw (eq-eqb key key refl) refl
+      here : object_at (new ∷ []) new.key ≡ Some new
+      here = rw (eq-eqb new.key new.key refl) refl
 
-      go : (o : Option Object) → is_some o ≡ false → option_map (λ p. p.name) (option_or o (object_at (plain_object key number n ∷ []) key)) ≡ Some (object number)
+      go : (o : Option Object) → is_some o ≡ false → option_map (λ p. p.name) (option_or o (object_at (new ∷ []) new.key)) ≡ Some new.name
       go None f = ap (λ (o : Option Object). option_map (λ p. p.name) o) here
       go (Some o) f = absurd (true≢false f)
 
-  one_key-made : HasOneKey made_last
-  one_key-made k = go (key == k) refl
+  pub one_key-made : HasOneKey made_last
+  one_key-made k = go (new.key == k) refl
     where
-      last : (b : Bool) → (key == k) ≡ b → count_by (λ o. o.key == k) made_last ≡ count_by (λ o. o.key == k) objects + cond b 1 0
-      last b e = rw (count_by-append (λ (o : Object). o.key == k) objects (plain_object key number n ∷ []), count_by-cons (λ (o : Object). o.key == k) (plain_object key number n) [], e) (omega arith)
+      last : (b : Bool) → (new.key == k) ≡ b → count_by (λ o. o.key == k) made_last ≡ count_by (λ o. o.key == k) objects + cond b 1 0
+      last b e = rw (count_by-append (λ (o : Object). o.key == k) objects (new ∷ []), count_by-cons (λ (o : Object). o.key == k) new [], e) (omega arith)
 
-      other : (key == k) ≡ true → (o : Object) → Among o objects → (o.key == k) ≡ false
+      other : (new.key == k) ≡ true → (o : Object) → Among o objects → (o.key == k) ≡ false
       other e o m = go (o.key == k) refl
         where
           go : (b : Bool) → (o.key == k) ≡ b → b ≡ false
           go false f = refl
           go true f =
-              let same : o.key ≡ key = eqb-true o.key k f ∙ sym (eqb-true key k e) in
-              let there : is_there objects key ≡ true = subst (λ j. is_there objects j ≡ true) same (ap is_some (object_at-own objects one o m)) in
+              let same : o.key ≡ new.key = eqb-true o.key k f ∙ sym (eqb-true new.key k e) in
+              let there : is_there objects new.key ≡ true = subst (λ j. is_there objects j ≡ true) same (ap is_some (object_at-own objects one o m)) in
               absurd (true≢false (sym there ∙ vacant))
 
-      go : (b : Bool) → (key == k) ≡ b → count_by (λ o. o.key == k) made_last ≤ 1
+      go : (b : Bool) → (new.key == k) ≡ b → count_by (λ o. o.key == k) made_last ≤ 1
       go true e = omega (arith, last true e, count_by-none (λ (o : Object). o.key == k) objects (other e))
       go false e = omega (arith, last false e, one k)
 
-  whole-made : AreWhole made_last
-  whole-made o q m = each-push (λ o. Among (Some q) o.slots → IsTrue (is_there made_last q)) objects (plain_object key number n)
-      (λ o i s. KeepsNames-there objects made_last KeepsNames-made q (whole o q i s)) (λ s. absurd (none-held n q s)) o m
+  pub whole-made : AreWhole made_last
+  whole-made o q m = each-push (λ o. Among (Some q) o.slots → IsTrue (is_there made_last q)) objects new
+      (λ o i s. KeepsNames-there objects made_last KeepsNames-made q (whole o q i s)) (λ s. absurd (none-held n q (subst (Among (Some q)) empty s))) o m
 
   -- by names it goes last too
-  named-made : named_objects made_last ≡ named_objects objects ++ blank (object number) Plain n ∷ []
-  named-made = map_push (named_object made_last) objects (plain_object key number n)
-      ∙ (λ i. map-agree (named_object made_last) (named_object objects) objects same i ++ record { name = object number; kind = Plain; slots = empty-named made_last n i; colour = Black } ∷ [])
+  pub named-made : named_objects made_last ≡ named_objects objects ++ record { name = new.name; kind = new.kind; slots = empty_slots n; colour = new.colour } ∷ []
+  named-made = map_push (named_object made_last) objects new
+      ∙ (λ i. map-agree (named_object made_last) (named_object objects) objects same i
+      ++ record { name = new.name; kind = new.kind; slots = (ap (map (name_held made_last)) empty ∙ empty-named made_last n) i; colour = new.colour } ∷ [])
     where
       at : (o : Object) → Among o objects → (x : Option ℕ) → Among x o.slots → name_held made_last x ≡ name_held objects x
       at o m None i = refl
@@ -266,38 +269,50 @@ module _ (objects : List Object) (one : HasOneKey objects) (whole : AreWhole obj
       same : (o : Object) → Among o objects → named_object made_last o ≡ named_object objects o
       same o m = ap (λ slots. record (named_object objects o) { slots = slots }) (map-agree (name_held made_last) (name_held objects) o.slots (at o m))
 
-  no_maps-made : ((s : HeapScript) → Among s (named_objects objects) → ¬ (s.kind ≡ Map)) → (s : HeapScript) → Among s (named_objects made_last) → ¬ (s.kind ≡ Map)
-  no_maps-made no_maps = subst (λ ss. (s : HeapScript) → Among s ss → ¬ (s.kind ≡ Map)) (sym named-made)
-      (each-push (λ s. ¬ (s.kind ≡ Map)) (named_objects objects) (blank (object number) Plain n) no_maps (λ e. absurd (cc)))
-
-  -- it is no reflector
-  reflectors-made : (keys : List (Option ℕ)) → reflectors_by made_last keys ≡ reflectors_by objects keys
-  reflectors-made keys = ap (λ its. map (λ o. option_and_then its o) keys) (fun_ext same)
+  -- names other than its own have the keys that they had
+  pub key_of-made : (x : Name) → same_name new.name x ≡ false → key_of made_last x ≡ key_of objects x
+  key_of-made x other = ap (λ (o : Option Object). option_map (λ p. p.key) o) (find-append (λ o. same_name o.name x) objects (new ∷ [])
+      ∙ ap (option_or (find (λ o. same_name o.name x) objects)) none)
+      ∙ go (find (λ o. same_name o.name x) objects)
     where
+      none : find (λ o. same_name o.name x) (new ∷ []) ≡ None
+      none = rw other refl
+
       go : (o : Option Object) → option_map (λ (p : Object). p.key) (option_or o None) ≡ option_map (λ (p : Object). p.key) o
       go None = refl
       go (Some o) = refl
 
-      same : (k : ℕ) → key_of made_last (reflector k) ≡ key_of objects (reflector k)
-      same k = ap (λ (o : Option Object). option_map (λ p. p.key) o) (find-append (λ o. same_name o.name (reflector k)) objects (plain_object key number n ∷ []))
-          ∙ go (find (λ o. same_name o.name (reflector k)) objects)
-
-  reflecting-made : (v : Keyed) → ((o : Object) → Among o objects → Reflects v o.name o.native) → (o : Object) → Among o made_last → Reflects v o.name o.native
-  reflecting-made v all = each-push (λ o. Reflects v o.name o.native) objects (plain_object key number n) all refl
-
 -- AN OBJECT MADE
-pub becomes-made : (p : Inside) (l : IsLinked p) (o : IsInOrder [] (keyed_of p)) (key n : ℕ) → is_there p.scripts key ≡ false → n ≤ 64 → p.scripts_made < p.limits.scripts →
-    (objects : List Object) → objects ≡ p.scripts ++ plain_object key (p.scripts_made + 1) n ∷ [] →
-    Becomes p (with_objects p objects (p.scripts_made + 1)) (with_object (heap_of p) Plain n)
-becomes-made p l o key n vacant few room objects e =
-    subst (λ os. Becomes p (with_objects p os (p.scripts_made + 1)) (with_object (heap_of p) Plain n)) (sym e)
-    (becomes p l o (made_last p.scripts l.one_key o.whole key (p.scripts_made + 1) n vacant) (p.scripts_made + 1) (with_object (heap_of p) Plain n)
-    (KeepsNames-made p.scripts l.one_key o.whole key (p.scripts_made + 1) n vacant)
-    (ap (λ scripts. record (heap_of p) { scripts = scripts; scripts_made = p.scripts_made + 1 }) (named-made p.scripts l.one_key o.whole key (p.scripts_made + 1) n vacant))
-    (with_script-sound [] (heap_of p) (blank (object (p.scripts_made + 1)) Plain n) (p.scripts_made + 1)
-    (IsNewScript-object (heap_of p) Plain n o.sound.well_formed (subst (λ i. i ≤ 64) (sym (length-replicate n None)) few) room) o.sound)
-    (one_key-made p.scripts l.one_key o.whole key (p.scripts_made + 1) n vacant)
-    (whole-made p.scripts l.one_key o.whole key (p.scripts_made + 1) n vacant)
-    (no_maps-made p.scripts l.one_key o.whole key (p.scripts_made + 1) n vacant o.without_maps.no_maps)
-    (reflectors-made p.scripts l.one_key o.whole key (p.scripts_made + 1) n vacant p.counted.keys)
-    (reflecting-made p.scripts l.one_key o.whole key (p.scripts_made + 1) n vacant (keyed_of p) o.reflecting))
+module _ (p : Inside) (l : IsLinked p) (o : IsInOrder [] (keyed_of p)) (key n : ℕ) (vacant : is_there p.scripts key ≡ false) where
+  abbrev new : Object
+  new = plain_object key (p.scripts_made + 1) n
+
+  abbrev objects : List Object
+  objects = p.scripts ++ new ∷ []
+
+  -- its name
+  pub name_at-plain : name_at objects key ≡ Some (object (p.scripts_made + 1))
+  name_at-plain = name_at-made p.scripts l.one_key o.whole new n refl vacant
+
+  named : named_objects objects ≡ named_objects p.scripts ++ blank (object (p.scripts_made + 1)) Plain n ∷ []
+  named = named-made p.scripts l.one_key o.whole new n refl vacant
+
+  -- it is no reflector
+  reflectors : reflectors_by objects p.counted.keys ≡ reflectors_by p.scripts p.counted.keys
+  reflectors = ap (λ its. map (λ j. option_and_then its j) p.counted.keys) (fun_ext (λ k. key_of-made p.scripts l.one_key o.whole new n refl vacant (reflector k) refl))
+
+  pub becomes-made : n ≤ 64 → p.scripts_made < p.limits.scripts → (os : List Object) → os ≡ objects →
+      Becomes p (with_objects p os (p.scripts_made + 1)) (with_object (heap_of p) Plain n)
+  becomes-made few room os e =
+      subst (λ os. Becomes p (with_objects p os (p.scripts_made + 1)) (with_object (heap_of p) Plain n)) (sym e)
+      (becomes p l o objects (p.scripts_made + 1) (with_object (heap_of p) Plain n)
+      (KeepsNames-made p.scripts l.one_key o.whole new n refl vacant)
+      (ap (λ scripts. record (heap_of p) { scripts = scripts; scripts_made = p.scripts_made + 1 }) named)
+      (with_script-sound [] (heap_of p) (blank (object (p.scripts_made + 1)) Plain n) (p.scripts_made + 1)
+      (IsNewScript-object (heap_of p) Plain n o.sound.well_formed (subst (λ i. i ≤ 64) (sym (length-replicate n None)) few) room) o.sound)
+      (one_key-made p.scripts l.one_key o.whole new n refl vacant)
+      (whole-made p.scripts l.one_key o.whole new n refl vacant)
+      (subst (λ ss. (s : HeapScript) → Among s ss → ¬ (s.kind ≡ Map)) (sym named)
+      (each-push (λ s. ¬ (s.kind ≡ Map)) (named_objects p.scripts) (blank (object (p.scripts_made + 1)) Plain n) o.without_maps.no_maps (λ f. absurd (cc))))
+      reflectors
+      (each-push (λ q. Reflects (keyed_of p) q.name q.native) p.scripts new o.reflecting refl))

@@ -6,7 +6,6 @@ use Rattle.std.specs.Option.{option_and_then}
 use Rattle.std.proofs.Math.Path.{fun_ext}
 use Rattle.std.proofs.lemmas.Bool.{false≢true}
 use Rattle.cc_lists.specs.Members.{Among}
-use Rattle.cc_lists.proofs.Members.{Among-map}
 use Rattle.cc_lists.proofs.Counting.{count_by-map}
 use Rattle.cc_lists.proofs.ListWrites.{map-kept, map-agree}
 use Rattle.cc_names.specs.declared.number.SKey.{SKey}
@@ -15,7 +14,7 @@ use Rattle.cc_names.specs.declared.name.Name.TheVariants as name
 use Rattle.cc_names.specs.declared.kind.Kind.TheVariants.{Map}
 use Rattle.cc_names.specs.Names.{same_name, is_native}
 use Rattle.cc_model.specs.Heap.{Heap, HeapNative, HeapScript}
-use Rattle.cc_model.specs.WellFormed.{script_names}
+use Rattle.cc_model.specs.WellFormed.{IsWellFormed, script_names}
 use Rattle.cc_laws_heap.specs.Sound.{IsSound}
 use Rattle.cc_laws_heap.proofs.ScriptsKept.{native-no_script}
 use Rattle.cc_laws_heap.proofs.NameLists.{same_name-sym}
@@ -26,7 +25,7 @@ use Rattle.cc_heaps.specs.Changes.{KeepsKeys}
 use Rattle.cc_heaps.specs.Named.{own_name, named_native, script_named, IsHeldThere, IsScriptLive}
 use Rattle.cc_heaps.specs.Fields.{heap_of, keyed_of, IsLinked}
 use Rattle.cc_heaps.specs.declared.heaps.Heaps.TheInside.{Inside}
-use Rattle.cc_heaps.proofs.Keys.{HasKeys-numbers, Reflects-kept}
+use Rattle.cc_heaps.proofs.Keys.{HasKeys-numbers, Reflects-kept, object-name}
 use Rattle.cc_heaps.proofs.Reaching.{HasOneKey}
 
 -- keys that have names keep them
@@ -96,19 +95,19 @@ module _ (p : Inside) (objects : List Object) (made : ℕ) (kept : KeepsNames p.
   pub keys-objects : KeepsKeys (keyed_of p) (keyed_of (with_objects p objects made))
   keys-objects = record { natives = λ key k e m. e; scripts = λ key x e m. kept key x e }
 
-  module _ (owned : List ℕ) (s : IsSound owned (with_named (heap_of p) objects made)) (one : HasOneKey objects)
-      (reflectors : reflectors_by objects p.counted.keys ≡ reflectors_by p.scripts p.counted.keys) where
-    -- THE PARTS FIT TOGETHER
-    pub linked-objects : IsLinked (with_objects p objects made)
-    linked-objects = record {
+  -- THE PARTS FIT TOGETHER, where natives have the keys of these reflectors
+  module _ (g : Heap) (same : g.scripts ≡ named_objects objects) (w : IsWellFormed g) (one : HasOneKey objects) where
+    pub linked-reflected : (reflectors : List (Option ℕ)) → reflectors ≡ reflectors_by objects p.counted.keys →
+        IsLinked (record (with_objects p objects made) { counted = record p.counted { reflectors = reflectors } })
+    linked-reflected reflectors its = record {
       native_registers = l.native_registers;
       script_registers = λ x m. register x (l.script_registers x m);
       registers = l.registers;
       held = λ n x m i. held x (l.held n x m i);
       one_key = one;
-      one_name = λ x. subst (λ n. n ≤ 1) (counted x) (s.well_formed.distinct x);
-      reflectors = l.reflectors ∙ sym reflectors;
-      script_names = λ o m. no_native o.name (Among-map (λ (q : HeapScript). q.name) (named_object objects o) (named_objects objects) (Among-map (named_object objects) o objects m));
+      one_name = λ x. subst (λ n. n ≤ 1) (counted x) (w.distinct x);
+      reflectors = its;
+      script_names = λ o m. no_native o.name (object-name g objects same o m);
     }
       where
         register : (x : Option SKey) → IsScriptLive p.scripts x → IsScriptLive objects x
@@ -120,15 +119,22 @@ module _ (p : Inside) (objects : List Object) (made : ℕ) (kept : KeepsNames p.
         held (name.Script k) t = KeepsNames-there p.scripts objects kept k.0 t
         held (name.Reflector k) t = t
 
-        counted : (x : Name) → count_by (same_name x) (script_names (with_named (heap_of p) objects made)) ≡ count_by (λ o. same_name o.name x) objects
-        counted x = count_by-map (same_name x) (λ (o : HeapScript). o.name) (named_objects objects)
+        counted : (x : Name) → count_by (same_name x) (script_names g) ≡ count_by (λ o. same_name o.name x) objects
+        counted x = ap (λ ss. count_by (same_name x) (map (λ (o : HeapScript). o.name) ss)) same
+            ∙ (count_by-map (same_name x) (λ (o : HeapScript). o.name) (named_objects objects)
             ∙ (count_by-map (λ (o : HeapScript). same_name x o.name) (named_object objects) objects
-            ∙ ap (λ t. count_by t objects) (fun_ext (λ (o : Object). same_name-sym x o.name)))
+            ∙ ap (λ t. count_by t objects) (fun_ext (λ (o : Object). same_name-sym x o.name))))
 
-        no_native : (x : Name) → Among x (script_names (with_named (heap_of p) objects made)) → is_native x ≡ false
-        no_native (name.Native k) m = absurd (native-no_script (with_named (heap_of p) objects made) k.0 s.well_formed m)
+        no_native : (x : Name) → Among x (script_names g) → is_native x ≡ false
+        no_native (name.Native k) m = absurd (native-no_script g k.0 w m)
         no_native (name.Script k) m = refl
         no_native (name.Reflector k) m = refl
+
+  module _ (owned : List ℕ) (s : IsSound owned (with_named (heap_of p) objects made)) (one : HasOneKey objects)
+      (reflectors : reflectors_by objects p.counted.keys ≡ reflectors_by p.scripts p.counted.keys) where
+    -- as where each has the reflector that it had
+    pub linked-objects : IsLinked (with_objects p objects made)
+    linked-objects = linked-reflected (with_named (heap_of p) objects made) refl s.well_formed one p.counted.reflectors (l.reflectors ∙ sym reflectors)
 
     -- AND THEY STAY IN ORDER, where none is a weak map, their slots hold what is there, and reflectors have their natives.
     pub order-objects : AreWhole objects → ((o : HeapScript) → Among o (named_objects objects) → ¬ (o.kind ≡ Map)) →

@@ -1,9 +1,9 @@
-use Rattle.std.proofs.Common.{◌+◌, [], sym, subst, ap, ◌∙◌}
+use Rattle.std.proofs.Common.{[], sym, subst, ap, ◌∙◌}
 use Rattle.cc_script.specs.Objects.{name_at}
 use Rattle.cc_heaps.specs.Keyed.{IsInOrder}
 use Rattle.cc_heaps.specs.Fields.{keyed_of, IsLinked}
 use Rattle.cc_heaps.proofs.ScriptsChanged.{with_objects}
-use Rattle.cc_heaps.proofs.ScriptCalls.{becomes-made, name_at-made}
+use Rattle.cc_heaps.proofs.ScriptCalls.{becomes-made, name_at-plain}
 use Rattle.cc_heaps.proofs.heaps.Heaps.add_plain.Goals as goal
 
 pub returns-in_err-key-clause-order : goal.returns-in_err-key-clause-order
@@ -18,7 +18,7 @@ pub returns-clause-name : goal.returns-clause-name
 returns-clause-name c =
     let p = c.self.inside in
     rw (← c.self.view_is) (ap (λ os. name_at os c.in_ok-key.key.0) c.in_ok-key.ensures.made
-    ∙ name_at-made p.scripts c.self.invariant.one_key (rw (← c.self.view_is) at c.requires.order).whole c.in_ok-key.key.0 (p.scripts_made + 1) c.args.slots c.in_ok-key.ensures.vacant)
+    ∙ name_at-plain p c.self.invariant (rw (← c.self.view_is) at c.requires.order) c.in_ok-key.key.0 c.args.slots c.in_ok-key.ensures.vacant)
 
 pub returns-clause-keys : goal.returns-clause-keys
 returns-clause-keys c =

@@ -1,0 +1,104 @@
+use Rattle.std.proofs.Common.{◌≡◌, [], Some, sym, ◌∙◌, ap, subst, arith}
+use Rattle.cc_names.specs.Names.{native}
+use Rattle.cc_model.specs.Graph as graph
+use Rattle.cc_heaps.specs.Keyed.{IsInOrder, Keyed, the_number}
+use Rattle.cc_heaps.specs.Fields.{keyed_of, IsLinked}
+use Rattle.cc_heaps.specs.Standing.{KeepsColours, KeepsFresh, KeepsSuspected, StandsAfter}
+use Rattle.cc_heaps.proofs.Calls.{count-fits, number-there}
+use Rattle.cc_heaps.proofs.FewCounts.{few-alone}
+use Rattle.cc_heaps.proofs.Owned.{callers-own}
+use Rattle.cc_heaps.proofs.ReflectingMade.{reflector_made-colours, reflector_made-keeps_fresh, reflector_made-keeps_suspected, reflector_made-stands}
+use Rattle.cc_heaps.proofs.ReflectorMade.{IsReflectorMade, reflector-made}
+use Rattle.cc_heaps.proofs.ScriptsChanged.{named-there, with_objects}
+use Rattle.cc_heaps.proofs.heaps.Heaps.new_reflector.Goals as goal
+
+-- No memory: the objects are as they were
+
+same : (c : goal.After-from_residual) → keyed_of (with_objects c.self.inside c.create_reflector.new.self c.self.inside.scripts_made) ≡ c.args.self.now
+same c = ap (λ os. keyed_of (with_objects c.self.inside os c.self.inside.scripts_made)) c.in_err-made.ensures.err ∙ c.self.view_is
+
+pub invariant_of-self : goal.invariant_of-self
+invariant_of-self c = subst (λ os. IsLinked (with_objects c.self.inside os c.self.inside.scripts_made)) (sym c.in_err-made.ensures.err) c.self.invariant
+
+pub returns-in_err-made-clause-order : goal.returns-in_err-made-clause-order
+returns-in_err-made-clause-order c = subst (IsInOrder []) (sym (same c)) c.requires.order
+
+pub returns-in_err-made-clause-counts : goal.returns-in_err-made-clause-counts
+returns-in_err-made-clause-counts c = few-alone _ (returns-in_err-made-clause-order c)
+
+pub returns-in_err-made-clause-colours : goal.returns-in_err-made-clause-colours
+returns-in_err-made-clause-colours c = subst (λ (w : Keyed). KeepsColours c.args.self.now.heap w.heap) (sym (same c)) (λ k. k)
+
+pub returns-in_err-made-clause-fresh : goal.returns-in_err-made-clause-fresh
+returns-in_err-made-clause-fresh c = subst (λ (w : Keyed). KeepsFresh c.args.self.now.heap w.heap) (sym (same c)) (λ s k. k)
+
+pub returns-in_err-made-clause-suspected : goal.returns-in_err-made-clause-suspected
+returns-in_err-made-clause-suspected c reached = subst (λ (w : Keyed). KeepsSuspected c.args.self.now.heap w.heap) (sym (same c)) (λ candidates k. k)
+
+-- The reference
+
+pub add_ref-requires-clause-below : goal.add_ref-requires-clause-below
+add_ref-requires-clause-below c =
+    let p = c.self.inside in
+    rw (c.set_reflector.ensures.reflectors) (omega (arith, count-fits [] p (the_number (keyed_of p) c.args.key.0) (rw (← c.self.view_is) at c.requires.order)))
+
+pub add_ref-requires-clause-owned : goal.add_ref-requires-clause-owned
+add_ref-requires-clause-owned c =
+    let f = callers-own [] c.self.inside (record { order = rw (← c.self.view_is) at c.requires.order; linked = c.self.invariant }) in
+    (f.0, c.set_reflector.ensures.owned f.0 f.1)
+
+-- The reflector
+
+made : (c : goal.After-add_ref) → IsReflectorMade c.self.inside (record c.self.inside { counted = c.add_ref.new.self; scripts = c.create_reflector.new.self })
+    (the_number (keyed_of c.self.inside) c.args.key.0) c.in_ok-made.made.0
+made c = reflector-made c.self.inside c.self.invariant (rw (← c.self.view_is) at c.requires.order) c.args.key (rw (← c.self.view_is) at c.requires.live)
+    (rw (← c.self.view_is) at c.requires.lacks) c.in_ok-made.made.0 c.in_ok-made.ensures.vacant c.in-Some.number.0 c.in-Some.ensures
+    c.create_reflector.new.self c.in_ok-made.ensures.made c.set_reflector.new.self c.set_reflector.ensures.reflectors c.add_ref.new.self c.add_ref.ensures.heap
+
+pub invariant_of-self-2 : goal.invariant_of-self-2
+invariant_of-self-2 c = (made c).linked
+
+pub returns-clause-heap : goal.returns-clause-heap
+returns-clause-heap c = rw (← c.self.view_is) ((made c).heap)
+
+pub returns-clause-name : goal.returns-clause-name
+returns-clause-name c = rw (← c.self.view_is) ((made c).name)
+
+pub returns-clause-there : goal.returns-clause-there
+returns-clause-there c = named-there c.create_reflector.new.self c.in_ok-made.made.0 _ ((made c).name)
+
+pub returns-clause-keys : goal.returns-clause-keys
+returns-clause-keys c = rw (← c.self.view_is) ((made c).keys)
+
+pub returns-clause-order : goal.returns-clause-order
+returns-clause-order c = (made c).order
+
+pub returns-clause-counts : goal.returns-clause-counts
+returns-clause-counts c = few-alone _ (returns-clause-order c)
+
+-- What the laws make of it
+
+pub returns-clause-stands : goal.returns-clause-stands
+returns-clause-stands c reached =
+    let v = c.args.self.now in
+    let k = the_number v c.args.key.0 in
+    subst (λ h. StandsAfter v.heap h (λ g. graph.wrapped g (Some (native k)))) (sym (returns-clause-heap c))
+    (reflector_made-stands v.heap k c.requires.order.sound (number-there [] v c.args.key.0 c.requires.order c.requires.live) c.requires.lacks reached)
+
+pub returns-clause-colours : goal.returns-clause-colours
+returns-clause-colours c =
+    let v = c.args.self.now in
+    subst (KeepsColours v.heap) (sym (returns-clause-heap c))
+    (reflector_made-colours v.heap (the_number v c.args.key.0) c.requires.order.sound (number-there [] v c.args.key.0 c.requires.order c.requires.live) c.requires.lacks)
+
+pub returns-clause-fresh : goal.returns-clause-fresh
+returns-clause-fresh c =
+    let v = c.args.self.now in
+    subst (KeepsFresh v.heap) (sym (returns-clause-heap c))
+    (reflector_made-keeps_fresh v.heap (the_number v c.args.key.0) c.requires.order.sound (number-there [] v c.args.key.0 c.requires.order c.requires.live) c.requires.lacks)
+
+pub returns-clause-suspected : goal.returns-clause-suspected
+returns-clause-suspected c reached =
+    let v = c.args.self.now in
+    subst (KeepsSuspected v.heap) (sym (returns-clause-heap c))
+    (reflector_made-keeps_suspected v.heap (the_number v c.args.key.0) c.requires.order.sound (number-there [] v c.args.key.0 c.requires.order c.requires.live) c.requires.lacks reached)
