@@ -31,6 +31,7 @@ pub mod References
 pub mod RootWalks
 pub mod PlaceEdges
 pub mod ReferenceNames
+pub mod HasReflector
 pub mod ObjectsKept
 pub mod RootNames
 pub mod MarkedObjects

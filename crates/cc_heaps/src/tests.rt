@@ -1,4 +1,5 @@
 //! Each call once, with ample memory.
 mod natives;
+mod preserved;
 mod rounds;
 mod scripts;
