@@ -8,14 +8,14 @@ returns-then-i-slots-clause-name c =
     let f = rw (← c.self.view_is) at c.requires.order in
     let live = rw (← c.self.view_is) at c.requires.there in
     rw (← c.self.view_is, c.of_native.ensures, c.if-i-slots.true ∙ c.slots.ensures)
-    (native-named c.self.inside f.0 c.self.invariant f.1 c.args.key live c.native_of.result c.native_of.ensures).0
+    (native-named c.self.inside f.0 c.self.invariant f.1 c.args.key live c.native_of.result c.native_of.ensures.native).0
 
 pub returns-then-i-slots-clause-there : goal.returns-then-i-slots-clause-there
 returns-then-i-slots-clause-there c =
     let f = rw (← c.self.view_is) at c.requires.order in
     let live = rw (← c.self.view_is) at c.requires.there in
     rw (← c.self.view_is, c.of_native.ensures)
-    (native-named c.self.inside f.0 c.self.invariant f.1 c.args.key live c.native_of.result c.native_of.ensures).1
+    (native-named c.self.inside f.0 c.self.invariant f.1 c.args.key live c.native_of.result c.native_of.ensures.native).1
 
 pub slot-requires-clause-within : goal.slot-requires-clause-within
 slot-requires-clause-within c =

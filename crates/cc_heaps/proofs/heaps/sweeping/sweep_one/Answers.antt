@@ -16,7 +16,7 @@ returns-in-White-clause-told g c o e =
     let after = g.N.Notices.telling c.let_native_go.new.out in
     let counted = c.args.counted.now in
     let named : c.name.result ≡ o.name = let both : Some c.name.result ≡ Some o.name = sym c.name.ensures ∙ ap (option_map (λ (p : Object). p.name)) e in cc in
-    let native = c.native_of-native.ensures ∙ ap (option_and_then (λ (p : Object). p.native)) e in
+    let native = c.native_of-native.ensures.native ∙ ap (option_and_then (λ (p : Object). p.native)) e in
     subst (λ (q : Object). TellsEvents before after (sweep_one counted counted q).events) (λ i. record o { name = named i; native = native i })
     (Tells-trans before (g.N.Notices.telling c.tell.new.self) after (text_of (of_event (Freed c.name.result)))
     (texts_of (map of_event (let_native_go counted counted (option_map (λ k. k.0) c.native_of-native.result)).events)) c.tell.ensures c.let_native_go.ensures.told)
