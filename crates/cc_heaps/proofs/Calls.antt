@@ -51,7 +51,7 @@ count-fits owned p k o = go (native_at (counts.heap_of p.counted) k) refl
         (native_at-there (heap_of p) k (named_native p.scripts n) (native_at-shown p.scripts (heap_of p) (counts.heap_of p.counted) k ∙ ap (option_map (named_native p.scripts)) e)))
 
 -- keys are left by numbers
-key_left-shown : (objects : List Object) (h g : Heap) (o : Option ℕ) → key_left g o ≡ key_left (shown h objects g) o
+pub key_left-shown : (objects : List Object) (h g : Heap) (o : Option ℕ) → key_left g o ≡ key_left (shown h objects g) o
 key_left-shown objects h g None = refl
 key_left-shown objects h g (Some k) = go (native_at g k) ∙ ap (λ o. if is_some o then Some k else None) (sym (native_at-shown objects h g k))
   where

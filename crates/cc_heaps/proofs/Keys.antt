@@ -57,7 +57,7 @@ pub numbers-changed : (h : Heap) (k : ℕ) (f : HeapNative → HeapNative) → K
 numbers-changed h k f keeps = map-kept (λ (n : HeapNative). n.number) (changed_at k f) h.natives (changed_at-number k f keeps)
 
 -- a key that is left has its number still
-key_left-some : (g : Heap) (o : Option ℕ) (k : ℕ) → key_left g o ≡ Some k → (o ≡ Some k) × ((n : HeapNative) × (native_at g k ≡ Some n))
+pub key_left-some : (g : Heap) (o : Option ℕ) (k : ℕ) → key_left g o ≡ Some k → (o ≡ Some k) × ((n : HeapNative) × (native_at g k ≡ Some n))
 key_left-some g None k e = absurd (cc)
 key_left-some g (Some j) k e = go (native_at g j) refl e
   where

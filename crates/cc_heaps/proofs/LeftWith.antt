@@ -20,14 +20,15 @@ key_left-there h k m = let f = named-found h k m in rw f.1 refl
 pub number_at-left : (v : Keyed) (h : Heap) (key : ℕ) → number_at (left_with v h) key ≡ key_left h (number_at v key)
 number_at-left v h key = get_or-map (key_left h) v.keys key None
 
+-- where the natives of all keys are there, all keys are left
+pub keys-there : (h : Heap) (keys : List (Option ℕ)) → ((key k : ℕ) → get_or keys key None ≡ Some k → Among (native k) (native_names h)) → map (key_left h) keys ≡ keys
+keys-there h [] there = refl
+keys-there h (None ∷ keys) there = ap (λ ks. None ∷ ks) (keys-there h keys (λ key k e. there (suc key) k e))
+keys-there h (Some j ∷ keys) there = rw (key_left-there h j (there zero j refl)) (ap (λ ks. Some j ∷ ks) (keys-there h keys (λ key k e. there (suc key) k e)))
+
 -- where none has left, keys are as they were
 pub left_with-same : (owned : List ℕ) (v : Keyed) → IsInOrder owned v → left_with v v.heap ≡ v
-left_with-same owned v o = ap (λ ks. record v { keys = ks }) (all v.keys (λ key k e. number-named v owned key k o e))
-  where
-    all : (keys : List (Option ℕ)) → ((key k : ℕ) → get_or keys key None ≡ Some k → Among (native k) (native_names v.heap)) → map (key_left v.heap) keys ≡ keys
-    all [] there = refl
-    all (None ∷ keys) there = ap (λ ks. None ∷ ks) (all keys (λ key k e. there (suc key) k e))
-    all (Some j ∷ keys) there = rw (key_left-there v.heap j (there zero j refl)) (ap (λ ks. Some j ∷ ks) (all keys (λ key k e. there (suc key) k e)))
+left_with-same owned v o = ap (λ ks. record v { keys = ks }) (keys-there v.heap v.keys (λ key k e. number-named v owned key k o e))
 
 -- a native that is owned after some left stays at its key
 pub number-stays : (owned : List ℕ) (v : Keyed) (h : Heap) (key : ℕ) → is_some (number_at v key) ≡ true → IsInOrder (the_number v key ∷ owned) (left_with v h) →
@@ -44,14 +45,18 @@ key_left-gone h k gone = go (native_at h k) refl
     go (Some n) e = absurd (gone (native_at-named h k n e))
 
 -- some natives leave, and then others: those that are there at the end were there between
+module _ (h g : Heap) (before : (k : ℕ) → Among (native k) (native_names g) → Among (native k) (native_names h)) where
+  pub key_left-then : (o : Option ℕ) → key_left g (key_left h o) ≡ key_left g o
+  key_left-then None = refl
+  key_left-then (Some k) = step (native_at h k) refl
+    where
+      step : (o : Option HeapNative) → native_at h k ≡ o → key_left g (if is_some o then Some k else None) ≡ key_left g (Some k)
+      step (Some n) e = refl
+      step None e = sym (key_left-gone g k (λ m. let f = named-found h k (before k m) in absurd (cc)))
+
+  pub keys-then : (keys : List (Option ℕ)) → map (key_left g) (map (key_left h) keys) ≡ map (key_left g) keys
+  keys-then keys = map-map (key_left g) (key_left h) keys ∙ ap (λ f. map f keys) (fun_ext key_left-then)
+
 pub left_with-then : (v : Keyed) (h g : Heap) → ((k : ℕ) → Among (native k) (native_names g) → Among (native k) (native_names h)) →
     left_with (left_with v h) g ≡ left_with v g
-left_with-then v h g before = ap (λ ks. record { heap = g; keys = ks; scripts = v.scripts }) (map-map (key_left g) (key_left h) v.keys ∙ ap (λ f. map f v.keys) (fun_ext both))
-  where
-    step : (k : ℕ) (o : Option HeapNative) → native_at h k ≡ o → key_left g (if is_some o then Some k else None) ≡ key_left g (Some k)
-    step k (Some n) e = refl
-    step k None e = sym (key_left-gone g k (λ m. let f = named-found h k (before k m) in absurd (cc)))
-
-    both : (o : Option ℕ) → key_left g (key_left h o) ≡ key_left g o
-    both None = refl
-    both (Some k) = step k (native_at h k) refl
+left_with-then v h g before = ap (λ ks. record { heap = g; keys = ks; scripts = v.scripts }) (keys-then h g before v.keys)

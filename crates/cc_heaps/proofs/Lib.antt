@@ -36,12 +36,13 @@ pub mod ObjectsKept
 pub mod RootNames
 pub mod MarkedObjects
 pub mod WhitesSwept
-pub mod PlainSweeps
+pub mod SweptNatives
 pub mod SweptObjects
 pub mod Following
 pub mod StandingStill
 pub mod StandingAfter
 pub mod KeysKept
+pub mod ReflectorsThere
 pub mod Reflecting
 pub mod ReflectingMade
 pub mod ReflectingPreserved

@@ -1,37 +1,62 @@
 -- A SWEEP BY KEYS is the sweep of the definitions, where the colours are those of marking: nothing that stays holds what
 -- goes, so what stays keeps its names.
-use Rattle.std.proofs.Common.{◌≡◌, ℕ, ◌==◌, Bool, true, false, not, List, [], map, Option, Some, None, refl, sym, ◌∙◌, ap, subst, arith}
-use Rattle.std.specs.List.{filter}
+use Rattle.std.proofs.Common.{◌≡◌, ℕ, ◌+◌, ◌==◌, Bool, true, false, not, List, [], ◌∷◌, ◌++◌, map, Option, Some, None, refl, sym, ◌∙◌, ap, subst, arith, inl, inr, ⊎_elim}
+use Rattle.std.specs.Prelude.{IsTrue}
+use Rattle.std.specs.List.{filter, flat_map}
+use Rattle.std.specs.Option.{option_and_then, option_to_list}
+use Rattle.std.proofs.Math.ListN.{get_or-map}
 use Rattle.std.proofs.lemmas.Bool.{true≢false}
+use Rattle.std.proofs.lemmas.List.{map-append}
 use Rattle.std.proofs.lemmas.Simd.{map-map}
 use Rattle.cc_lists.specs.Members.{Among, has}
-use Rattle.cc_lists.proofs.Members.{Among-map, Among-map_cases, Among-filter, Among-filtered, Among-passes, has-there, has-among}
+use Rattle.cc_lists.proofs.Members.{Among-map, Among-map_cases, Among-filter, Among-filtered, Among-passes, Among-flat_map_cases, has-there, has-among}
 use Rattle.cc_lists.proofs.Filtering.{count_by-filter-le, filter-agree}
 use Rattle.cc_lists.proofs.Searching.{filter-map}
-use Rattle.cc_lists.proofs.ListWrites.{only-member, map-agree}
+use Rattle.cc_lists.proofs.ListWrites.{each-map, only-member, map-agree}
 use Rattle.cc_names.specs.declared.name.Name.{Name}
-use Rattle.cc_names.specs.Names.{object, same_name}
+use Rattle.cc_names.specs.declared.name.Name.TheVariants as name
+use Rattle.cc_names.specs.declared.number.SKey.{SKey}
+use Rattle.cc_names.specs.declared.kind.Kind.TheVariants.{Map}
+use Rattle.cc_names.specs.Names.{native, object, reflector, same_name, behind}
 use Rattle.cc_names.proofs.NameTests.{same_name-refl, same_name-exact}
-use Rattle.cc_model.specs.Heap.{HeapScript, is_white_colour}
+use Rattle.cc_model.specs.Slots.{contents}
+use Rattle.cc_model.specs.Heap.{Heap, HeapNative, HeapScript, Outcome, is_white_colour}
 use Rattle.cc_model.specs.Colours.{IsMarked, HasColours}
+use Rattle.cc_model.specs.Counts.{times}
 use Rattle.cc_model.specs.Sweep.{unmarked, sweep}
+use Rattle.cc_model.specs.Sweep as model
+use Rattle.cc_model.specs.WellFormed.{IsWellFormed, native_names}
 use Rattle.cc_laws_heap.specs.Sound.{IsSound}
 use Rattle.cc_laws_heap.proofs.MarkedKept.{marked-black, black-register, marked-slot, marked-native_slot, marked-not_unmarked, marked-other}
 use Rattle.cc_laws_heap.proofs.MarkedWellFormed.{is_spared}
-use Rattle.cc_laws_heap.proofs.Swept.{sweep-sound}
+use Rattle.cc_laws_heap.proofs.Natives.{named-member}
+use Rattle.cc_laws_heap.proofs.References.{times-append}
+use Rattle.cc_laws_heap.proofs.Swept.{scripts-sweep, sweep-sound}
+use Rattle.cc_counted.specs.Counts.{Counts, number_at, number_or_none, the_number, key_left}
+use Rattle.cc_counted.specs.Counts as counts
+use Rattle.cc_counted.specs.Owning.{AreOwned, CallersOwn, HasKeys}
 use Rattle.cc_script.specs.Objects.{Object, name_at}
-use Rattle.cc_script.proofs.Reaching.{among-held}
-use Rattle.cc_heaps.specs.Keyed.{IsInOrder, name_held, named_object, named_objects}
+use Rattle.cc_script.proofs.Reaching.{among-held, held-among}
+use Rattle.cc_heaps.specs.Keyed.{Keyed, IsInOrder, Reflects, counts_of, left_with, name_held, named_object, named_objects, reflectors_by}
 use Rattle.cc_heaps.specs.Changes.{KeepsKeys}
-use Rattle.cc_heaps.specs.Named.{named_native}
+use Rattle.cc_heaps.specs.Named.{own_name, named_native, named, script_named, IsHeldThere, IsScriptLive}
 use Rattle.cc_heaps.specs.Fields.{heap_of, keyed_of, IsLinked}
-use Rattle.cc_heaps.specs.Sweeping.{is_white, not_white, white_names, freed}
+use Rattle.cc_heaps.specs.Sweeping.{Left, OwnEach, is_white, native_keys, not_white, sweep_each, swept_counts, untold, white_names, whites}
 use Rattle.cc_heaps.specs.declared.heaps.Heaps.TheInside.{Inside}
+use Rattle.cc_heaps.proofs.Calls.{key_left-shown, number-named}
+use Rattle.cc_heaps.proofs.EachNative.{IsOfEach}
+use Rattle.cc_heaps.proofs.Fit.{IsFit}
+use Rattle.cc_heaps.proofs.Keying.{AreHeldThere, counts-back}
+use Rattle.cc_heaps.proofs.Keys.{AreReflecting-left, HasKeys-keyed, HasKeys-left, HasKeys-names, Reflects-kept, counts_in}
+use Rattle.cc_heaps.proofs.LeftWith.{key_left-there, keys-there}
+use Rattle.cc_heaps.proofs.Naming.{native_names-shown, shown}
+use Rattle.cc_heaps.proofs.ObjectsKept.{AreObjects, AreObjects-parts, keys-counted, there-kept}
+use Rattle.cc_heaps.proofs.Owned.{AreOwned-permuted, all-owned, in_reflectors, in_registers}
 use Rattle.cc_heaps.proofs.Reaching.{HasOneKey, same-tests, name_at-own, name_at-found}
-use Rattle.cc_heaps.proofs.ObjectsKept.{AreObjects, AreObjects-parts, HoldsSame, with_objects, with_named, there-kept, heap-objects, linked-objects, order-objects}
-use Rattle.cc_heaps.proofs.RootNames.{register-names, key-register, named-slot, script-named}
-use Rattle.cc_heaps.proofs.PlainSweeps.{sweep-plain}
+use Rattle.cc_heaps.proofs.Registers.{AreLive, AreLive-same, left-same, registers-same}
+use Rattle.cc_heaps.proofs.RootNames.{register-names, key-register, script-named}
 use Rattle.cc_heaps.proofs.ScriptsChanged.{there-named}
+use Rattle.cc_heaps.proofs.SweptNatives.{IsLeftOf, IsLeftOf-each, each-named, each-swept, left_by, without_each, without_each-scripts, without_names, without_names-filter}
 
 -- whether an object stays
 abbrev stays : Object → Bool
@@ -41,10 +66,90 @@ stays o = not (is_white o)
 abbrev pub left_objects : Inside → List Object
 left_objects p = not_white p.scripts
 
+-- the parts afterwards
+abbrev pub swept_parts : Inside → Inside
+swept_parts p = record p { counted = (swept_counts p.counted p.scripts).counts; scripts = left_objects p }
+
 -- THE NAMES OF THE WHITE ONES are those that are not marked
 pub white-unmarked : (p : Inside) → white_names p.scripts ≡ unmarked (heap_of p)
 white-unmarked p = sym (ap (map (λ (o : HeapScript). o.name)) (filter-map (λ (o : HeapScript). is_white_colour o.colour) (named_object p.scripts) p.scripts)
     ∙ map-map (λ (o : HeapScript). o.name) (named_object p.scripts) (filter is_white p.scripts))
+
+-- a native's slot holds a key, and by names what stands at it
+named-slot : (p : Inside) (n : HeapNative) (k : ℕ) (x : Name) → Among (object k) (contents n.slots) → name_at p.scripts k ≡ Some x → Among x (contents (named_native p.scripts n).slots)
+named-slot p n k x i e =
+    among-held (named_native p.scripts n).slots x
+    (subst (λ y. Among y (named_native p.scripts n).slots) e
+    (Among-map (λ (y : Option Name). option_and_then (own_name p.scripts) y) (Some (object k)) n.slots (held-among n.slots (object k) i)))
+
+-- Who owns the references of natives
+
+-- by whether they are white, the natives behind some objects
+behind-parted : (k : ℕ) (os : List Object) → times k (flat_map behind (map (λ o. o.name) os)) ≡
+    times k (flat_map behind (white_names os)) + times k (flat_map behind (map (λ o. o.name) (not_white os)))
+behind-parted k [] = refl
+behind-parted k (o ∷ os) = go (is_white o) refl (behind-parted k os)
+  where
+    names : List Object → List Name
+    names ps = map (λ p. p.name) ps
+
+    go : (b : Bool) → is_white o ≡ b → times k (flat_map behind (names os)) ≡ times k (flat_map behind (white_names os)) + times k (flat_map behind (names (not_white os))) →
+        times k (flat_map behind (names (o ∷ os))) ≡ times k (flat_map behind (white_names (o ∷ os))) + times k (flat_map behind (names (not_white (o ∷ os))))
+    go true w ih = rw w (omega (arith, ih, times-append k (behind o.name) (flat_map behind (names os)), times-append k (behind o.name) (flat_map behind (white_names os))))
+    go false w ih = rw w (omega (arith, ih, times-append k (behind o.name) (flat_map behind (names os)), times-append k (behind o.name) (flat_map behind (names (not_white os)))))
+
+-- the numbers of the natives whose reflectors are among some objects are behind the names of these
+numbers-behind : (p : Inside) (os : List Object) → ((o : Object) → Among o os → Reflects (keyed_of p) o.name o.native) →
+    map (the_number p.counted) (native_keys os) ≡ flat_map behind (map (λ o. o.name) os)
+numbers-behind p [] all = refl
+numbers-behind p (o ∷ os) all =
+    map-append (the_number p.counted) (option_to_list o.native) (native_keys os)
+    ∙ (λ i. one o.name o.native (all o (inl refl)) i ++ numbers-behind p os (λ q m. all q (inr m)) i)
+  where
+    one : (x : Name) (key : Option ℕ) → Reflects (keyed_of p) x key → map (the_number p.counted) (option_to_list key) ≡ behind x
+    one (name.Native k) key r = absurd r
+    one (name.Script k) key r = ap (λ q. map (the_number p.counted) (option_to_list q)) r
+    one (name.Reflector k) None r = absurd r
+    one (name.Reflector k) (Some q) r = ap (λ o. number_or_none o ∷ []) r
+
+-- and the natives are there
+reflecting-there : (p : Inside) (x : Name) (key : Option ℕ) (q : ℕ) → Reflects (keyed_of p) x key → Among q (option_to_list key) → number_at p.counted q ≡ Some (the_number p.counted q)
+reflecting-there p (name.Native k) key q r m = absurd r
+reflecting-there p (name.Script k) key q r m = absurd (subst (λ s. Among q (option_to_list s)) r m)
+reflecting-there p (name.Reflector k) None q r m = absurd m
+reflecting-there p (name.Reflector k) (Some s) q r m = ⊎_elim (λ e. subst (λ t. number_at p.counted t ≡ Some (the_number p.counted t)) e (r ∙ ap (λ o. Some (number_or_none o)) (sym r))) (λ t. absurd t) m
+
+module _ (p : Inside) (l : IsLinked p) (o : IsInOrder [] (keyed_of p)) where
+  white-reflecting : (q : Object) → Among q (whites p.scripts) → Reflects (keyed_of p) q.name q.native
+  white-reflecting q m = o.reflecting q (Among-filtered is_white q p.scripts m)
+
+  -- WHITE REFLECTORS OWN THE REFERENCES to their natives.
+  pub whites-own : OwnEach p.counted (native_keys (whites p.scripts)) p.counted
+  whites-own = record {
+    there = λ key m.
+        let f = Among-flat_map_cases (λ (q : Object). option_to_list q.native) (whites p.scripts) key m in
+        reflecting-there p f.0.name f.0.native key (white-reflecting f.0 f.1) f.2;
+    owned = (
+      stay ++ in_registers p,
+      subst (λ ks. AreOwned (ks ++ (stay ++ in_registers p)) p.counted) (sym (numbers-behind p (whites p.scripts) white-reflecting))
+          (AreOwned-permuted (in_registers p ++ (in_reflectors p ++ [])) (go ++ (stay ++ in_registers p)) p.counted
+          (λ k. omega (
+            arith,
+            behind-parted k p.scripts,
+            times-append k go (stay ++ in_registers p),
+            times-append k stay (in_registers p),
+            times-append k (in_registers p) (in_reflectors p ++ []),
+            times-append k (in_reflectors p) [],
+          ))
+          (all-owned [] p (record { order = o; linked = l }))),
+    );
+  }
+    where
+      go : List ℕ
+      go = flat_map behind (white_names p.scripts)
+
+      stay : List ℕ
+      stay = flat_map behind (map (λ q. q.name) (not_white p.scripts))
 
 module _ (p : Inside) (l : IsLinked p) (o : IsInOrder [] (keyed_of p)) (c : HasColours (heap_of p)) where
   -- White or marked
@@ -86,18 +191,19 @@ module _ (p : Inside) (l : IsLinked p) (o : IsInOrder [] (keyed_of p)) (c : HasC
       let left : Among f.0 (left_objects p) = Among-filter stays f.0 p.scripts f.1 (marked-stays f.0 f.1 (subst (IsMarked (heap_of p)) (sym f.3) d)) in
       subst (λ j. name_at (left_objects p) j ≡ Some f.0.name) f.2 (name_at-own (left_objects p) one_key-left f.0 left) ∙ (ap (λ y. Some y) f.3 ∙ sym e)
 
-  -- so has each key that registers and natives hold,
-  holds-left : HoldsSame p (left_objects p)
-  holds-left = record {
-    registers = λ key m.
-        let f = there-named p.scripts key.0 (l.script_registers (Some key) m) in
-        name-left key.0 f.0 f.1 (marked-black (heap_of p) f.0 (black-register (heap_of p) f.0
-        ((register-names p l).named key.0 f.0 (key-register p.script_registers.items key m) f.1)));
-    natives = λ n key m i.
-        let f = there-named p.scripts key (l.held n (object key) m i) in
-        name-left key f.0 f.1 (marked-native_slot (heap_of p) (named_native p.scripts n) f.0 (Among-map (named_native p.scripts) n p.counted.natives m)
-        (named-slot p l n key f.0 i f.1) (script-named p l key f.0 f.1));
-  }
+  -- so has each key that registers hold,
+  register-left : (key : SKey) → Among (Some key) p.script_registers.items → name_at (left_objects p) key.0 ≡ name_at p.scripts key.0
+  register-left key m =
+      let f = there-named p.scripts key.0 (l.script_registers (Some key) m) in
+      name-left key.0 f.0 f.1 (marked-black (heap_of p) f.0 (black-register (heap_of p) f.0
+      ((register-names p l).named key.0 f.0 (key-register p.script_registers.items key m) f.1)))
+
+  -- each that natives hold,
+  native-left : (n : HeapNative) (key : ℕ) → Among n p.counted.natives → Among (object key) (contents n.slots) → name_at (left_objects p) key ≡ name_at p.scripts key
+  native-left n key m i =
+      let f = there-named p.scripts key (l.held n (object key) m i) in
+      name-left key f.0 f.1 (marked-native_slot (heap_of p) (named_native p.scripts n) f.0 (Among-map (named_native p.scripts) n p.counted.natives m)
+      (named-slot p n key f.0 i f.1) (script-named p l key f.0 f.1))
 
   -- and each that is in a slot of an object that stays
   slot-left : (q : Object) (k : ℕ) → Among q p.scripts → stays q ≡ true → Among (Some k) q.slots → name_at (left_objects p) k ≡ name_at p.scripts k
@@ -117,10 +223,10 @@ module _ (p : Inside) (l : IsLinked p) (o : IsInOrder [] (keyed_of p)) (c : HasC
         whole = λ q k m i.
             let before : Among q p.scripts = Among-filtered stays q p.scripts m in
             there-kept p.scripts (left_objects p) k (slot-left q k before (Among-passes stays q p.scripts m) i) (a.whole q k before i);
-        plain = λ q m. a.plain q (Among-filtered stays q p.scripts m);
+        no_maps = λ q m. a.no_maps q (Among-filtered stays q p.scripts m);
       }
 
-  -- The definitions' sweep
+  -- By names
 
   named-left : (q : Object) → Among q (left_objects p) → named_object (left_objects p) q ≡ named_object p.scripts q
   named-left q m = ap (λ slots. record { name = q.name; kind = q.kind; slots = slots; colour = q.colour }) (map-agree (name_held (left_objects p)) (name_held p.scripts) q.slots at)
@@ -140,27 +246,174 @@ module _ (p : Inside) (l : IsLinked p) (o : IsInOrder [] (keyed_of p)) (c : HasC
       ∙ (ap (map (named_object p.scripts)) (filter-agree (λ (q : Object). is_spared (unmarked (heap_of p)) (named_object p.scripts q)) stays p.scripts spared-stays)
       ∙ sym (map-agree (named_object (left_objects p)) (named_object p.scripts) (left_objects p) named-left))
 
-  swept : sweep (heap_of p) ≡ record { heap = with_named (heap_of p) (left_objects p); events = freed (unmarked (heap_of p)) }
-  swept = sweep-plain (heap_of p) o.sound.well_formed o.alone.plain refl
-      ∙ ap (λ scripts. record { heap = record (heap_of p) { scripts = scripts }; events = freed (unmarked (heap_of p)) }) scripts-left
+  -- Natives that are left
+
+  abbrev final : Left
+  final = swept_counts p.counted p.scripts
+
+  abbrev g : Heap
+  g = counts.heap_of final.counts
+
+  -- they hold what is there,
+  held-final : AreHeldThere p.scripts final.counts.natives
+  held-final n x m i = each-swept (λ u. (y : Name) → Among y (contents u.slots) → IsHeldThere p.scripts y) p.counted (whites p.scripts) (untold p.counted)
+      (λ k j y. l.held k y j) n m x i
+
+  -- under the same names,
+  final-left : (n : HeapNative) (key : ℕ) → Among n final.counts.natives → Among (object key) (contents n.slots) → name_at (left_objects p) key ≡ name_at p.scripts key
+  final-left n key m i = each-swept (λ u. (k : ℕ) → Among (object k) (contents u.slots) → name_at (left_objects p) k ≡ name_at p.scripts k) p.counted (whites p.scripts)
+      (untold p.counted) (λ r j k. native-left r k j) n m key i
+
+  native-same : (n : HeapNative) → Among n final.counts.natives → named_native (left_objects p) n ≡ named_native p.scripts n
+  native-same n m = ap (λ slots. record n { slots = slots }) (map-agree (option_and_then (own_name (left_objects p))) (option_and_then (own_name p.scripts)) n.slots at)
+    where
+      own : (x : Name) → Among x (contents n.slots) → IsHeldThere p.scripts x → own_name (left_objects p) x ≡ own_name p.scripts x
+      own (name.Native k) i t = refl
+      own (name.Script k) i t = final-left n k.0 m i
+      own (name.Reflector k) i t = absurd t
+
+      at : (x : Option Name) → Among x n.slots → option_and_then (own_name (left_objects p)) x ≡ option_and_then (own_name p.scripts) x
+      at None i = refl
+      at (Some x) i = let j : Among x (contents n.slots) = among-held n.slots x i in own x j (held-final n x m j)
+
+  -- stand at the keys at which they stood, and have their reflectors, as far as these are left.
+  final-keys : IsLeftOf p.counted final.counts (left_objects p)
+  final-keys = subst (IsLeftOf p.counted final.counts) same
+      (IsLeftOf-each p (keys-counted [] p l o) (whites p.scripts) p.scripts (untold p.counted) (white-reflecting p l o)
+      (record { keys = sym (keys-there (counts.heap_of p.counted) p.counted.keys (keys-counted [] p l o).there); reflectors = l.reflectors }))
+    where
+      spared : (q : Object) → Among q p.scripts → not (has same_name (white_names p.scripts) q.name) ≡ stays q
+      spared q m = ap (λ xs. not (has same_name xs q.name)) (white-unmarked p) ∙ spared-stays q m
+
+      same : without_names (white_names p.scripts) p.scripts ≡ left_objects p
+      same = without_names-filter (white_names p.scripts) p.scripts ∙ filter-agree (λ (q : Object). not (has same_name (white_names p.scripts) q.name)) stays p.scripts spared
+
+  -- The definitions' sweep
+
+  -- what is done to natives is what the definitions do to them
+  swept : sweep (heap_of p) ≡ left_by p.scripts (without_each (white_names p.scripts) (heap_of p)) final
+  unfolding sweep
+  swept =
+      ap (λ xs. model.sweep_each xs (left_by p.scripts (heap_of p) (untold p.counted))) (sym (white-unmarked p))
+      ∙ each-named p l.script_names (whites p.scripts) (heap_of p) (untold p.counted) (white-reflecting p l o)
+
+  scripts-swept : (sweep (heap_of p)).heap.scripts ≡ named_objects (left_objects p)
+  scripts-swept = scripts-sweep (heap_of p) ∙ scripts-left
+
+  -- the heaps afterwards, by the names that were
+  abbrev h : Heap
+  h = record (shown (heap_of p) p.scripts g) { scripts = named_objects (left_objects p) }
+
+  heap-swept : (sweep (heap_of p)).heap ≡ h
+  heap-swept =
+      let e : (sweep (heap_of p)).heap ≡ shown (without_each (white_names p.scripts) (heap_of p)) p.scripts g = ap (λ (t : Outcome). t.heap) swept in
+      e
+      ∙ (ap (λ f. shown f p.scripts g) (without_each-scripts (white_names p.scripts) (heap_of p))
+      ∙ ap (λ scripts. record (shown (heap_of p) p.scripts g) { scripts = scripts }) (sym (ap (λ (f : Heap). f.scripts) e) ∙ scripts-swept))
+
+  pub events-swept : final.events ≡ (sweep (heap_of p)).events
+  events-swept = sym (ap (λ (t : Outcome). t.events) swept)
+
+  sound : IsSound [] h
+  sound = subst (IsSound []) heap-swept (sweep-sound (heap_of p) c o.sound)
+
+  -- The parts afterwards
+
+  abbrev later : Inside
+  later = swept_parts p
+
+  registers-there : (y : Name) → Among y (contents (heap_of p).native_registers) → Among y (native_names g)
+  registers-there y m = subst (λ xs. Among y xs) (native_names-shown p.scripts (heap_of p) g) (sound.well_formed.native_registers y m)
+
+  heap-later : heap_of later ≡ h
+  heap-later = λ i. record h { native_registers = natives i; script_registers = scripts i; natives = held i }
+    where
+      natives : map (named final.counts.keys) p.native_registers.items ≡ map (named p.counted.keys) p.native_registers.items
+      natives = ap (λ keys. map (named keys) p.native_registers.items) final-keys.keys
+          ∙ registers-same p.counted.keys (map (key_left g) p.counted.keys) p.native_registers.items
+          (left-same p.counted.keys g p.native_registers.items l.native_registers registers-there)
+
+      script : (x : Option SKey) → Among x p.script_registers.items → script_named (left_objects p) x ≡ script_named p.scripts x
+      script None m = refl
+      script (Some key) m = register-left key m
+
+      scripts : map (script_named (left_objects p)) p.script_registers.items ≡ map (script_named p.scripts) p.script_registers.items
+      scripts = map-agree (script_named (left_objects p)) (script_named p.scripts) p.script_registers.items script
+
+      held : map (named_native (left_objects p)) final.counts.natives ≡ map (named_native p.scripts) final.counts.natives
+      held = map-agree (named_native (left_objects p)) (named_native p.scripts) final.counts.natives native-same
+
+  -- the natives that are left of heaps with the script objects that are left
+  abbrev before : Keyed
+  before = record { heap = heap_of p; keys = p.counted.keys; scripts = left_objects p }
+
+  keys-later : final.counts.keys ≡ map (key_left h) p.counted.keys
+  keys-later = final-keys.keys ∙ map-agree (key_left g) (key_left h) p.counted.keys (λ k m. key_left-shown p.scripts (heap_of p) g k)
+
+  keyed-later : keyed_of later ≡ left_with before h
+  keyed-later = λ i. record { heap = heap-later i; keys = keys-later i; scripts = left_objects p }
+
+  -- THE PARTS STAY LINKED,
+  pub linked-swept : IsLinked later
+  linked-swept = record {
+    native_registers = subst (λ keys. AreLive keys p.native_registers.items) (sym final-keys.keys)
+        (AreLive-same p.counted.keys (map (key_left g) p.counted.keys) p.native_registers.items
+        (left-same p.counted.keys g p.native_registers.items l.native_registers registers-there) l.native_registers);
+    script_registers = λ x m. register x m (l.script_registers x m);
+    registers = l.registers;
+    held = λ n x m i. content n x m i (held-final n x m i);
+    one_key = objects-left.one_key;
+    one_name = objects-left.one_name;
+    reflectors = final-keys.reflectors;
+    script_names = objects-left.script_names;
+  }
+    where
+      register : (x : Option SKey) → Among x p.script_registers.items → IsScriptLive p.scripts x → IsScriptLive (left_objects p) x
+      register None m t = t
+      register (Some key) m t = there-kept p.scripts (left_objects p) key.0 (register-left key m) t
+
+      content : (n : HeapNative) (x : Name) → Among n final.counts.natives → Among x (contents n.slots) → IsHeldThere p.scripts x → IsHeldThere (left_objects p) x
+      content n (name.Native k) m i t = t
+      content n (name.Script k) m i t = there-kept p.scripts (left_objects p) k.0 (final-left n k.0 m i) t
+      content n (name.Reflector k) m i t = t
+
+  -- natives that are left were there
+  natives-before : (k : ℕ) → Among (native k) (native_names h) → Among (native k) (native_names (heap_of p))
+  natives-before k m =
+      let f = named-member h k m in
+      let n = Among-map_cases (named_native p.scripts) final.counts.natives f.0 f.1 in
+      subst (λ j. Among (native j) (native_names (heap_of p))) (ap (λ (r : HeapNative). r.number) n.2 ∙ f.2)
+      (each-swept (λ u. Among (native u.number) (native_names (heap_of p))) p.counted (whites p.scripts) (untold p.counted)
+      (λ r i. subst (λ xs. Among (native r.number) xs) (sym (native_names-shown p.scripts (heap_of p) (counts.heap_of p.counted)))
+      (Among-map (λ (s : HeapNative). native s.number) r p.counted.natives i)) n.0 n.1)
+
+  -- and in order.
+  pub order-swept : IsInOrder [] (keyed_of later)
+  order-swept = subst (IsInOrder []) (sym keyed-later) (record {
+    sound = sound;
+    keyed = HasKeys-keyed before h (map (key_left h) p.counted.keys)
+        (HasKeys-left (counts_in (heap_of p) p.counted.keys) h [] sound.well_formed natives-before (HasKeys-names (keyed_of p) o.keyed));
+    named = refl;
+    one_key = objects-left.one_key;
+    whole = objects-left.whole;
+    reflecting = AreReflecting-left before h refl sound.well_formed
+        (λ q m. Reflects-kept (keyed_of p) before q.name q.native (λ s k is at. at) (o.reflecting q (Among-filtered stays q p.scripts m)));
+    limits = o.limits;
+    without_maps = record { no_maps = each-map (λ q. ¬ (q.kind ≡ Map)) (named_object (left_objects p)) (left_objects p) objects-left.no_maps; no_entries = refl };
+  })
 
   -- THE SWEEP IS THAT OF THE DEFINITIONS
-  pub heap-swept : heap_of (with_objects p (left_objects p)) ≡ (sweep (heap_of p)).heap
-  heap-swept = heap-objects p (left_objects p) l holds-left ∙ ap (λ s. s.heap) (sym swept)
+  pub heap-is : (keyed_of later).heap ≡ (sweep (heap_of p)).heap
+  heap-is = heap-later ∙ sym heap-swept
 
-  pub events-swept : freed (white_names p.scripts) ≡ (sweep (heap_of p)).events
-  events-swept = ap freed (white-unmarked p) ∙ ap (λ s. s.events) (sym swept)
-
-  pub linked-swept : IsLinked (with_objects p (left_objects p))
-  linked-swept = linked-objects p (left_objects p) l holds-left objects-left
-
-  pub order-swept : IsInOrder [] (keyed_of (with_objects p (left_objects p)))
-  order-swept = order-objects p (left_objects p) l holds-left objects-left [] (subst (IsSound []) (ap (λ s. s.heap) swept) (sweep-sound (heap_of p) c o.sound)) o
+  -- the keys of natives that are no more hold nothing
+  pub natives-swept : (keyed_of later).keys ≡ map (key_left (keyed_of later).heap) p.counted.keys
+  natives-swept = keys-later ∙ ap (λ f. map (key_left f) p.counted.keys) (sym heap-later)
 
   -- what is there before and after has the same key
-  pub keys-swept : KeepsKeys (keyed_of p) (keyed_of (with_objects p (left_objects p)))
-  keys-swept = record {
-    natives = λ key k e m. e;
+  pub keys-swept : KeepsKeys (keyed_of p) (keyed_of later)
+  keys-swept = subst (KeepsKeys (keyed_of p)) (sym keyed-later) (record {
+    natives = λ key k e m. get_or-map (key_left h) p.counted.keys key None ∙ (ap (key_left h) e ∙ key_left-there h k m);
     scripts = λ key x e m.
         let f = name_at-found p.scripts key x e in
         let g = Among-map_cases (λ (q : HeapScript). q.name) (named_objects (left_objects p)) x m in
@@ -171,4 +424,4 @@ module _ (p : Inside) (l : IsLinked p) (o : IsInOrder [] (keyed_of p)) (c : HasC
         f.1 (subst (λ y. same_name y x ≡ true) (sym f.3) (same_name-refl x)) in
         subst (λ j. name_at (left_objects p) j ≡ Some x) (ap (λ (q : Object). q.key) same ∙ f.2)
         (name_at-own (left_objects p) one_key-left r.0 r.1 ∙ ap (λ y. Some y) named);
-  }
+  })

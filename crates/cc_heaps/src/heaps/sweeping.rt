@@ -1,56 +1,76 @@
 //! White script objects swept.
-ghost use Rattle.std.specs.Prelude.{◌≡◌, ◌≤◌, ◌==◌, ℕ, [], count_by, map, Some, option_map, IfSome, IsTrue, if◌then◌else◌, ◌<◌};
-ghost use Rattle.cc_model.specs.declared.item.Event.TheVariants.{Freed};
-ghost use Rattle.cc_model.specs.declared.item.Item.TheVariants.{Event as of_event};
-ghost use Rattle.cc_model.specs.Telling.{Tells, TellsEvents};
-ghost use Rattle.cc_model.specs.Texts.{text_of};
-ghost use Rattle.cc_model.specs.Heap.{is_white_colour};
+ghost use Rattle.std.specs.Prelude.{◌≡◌, ◌≤◌, ◌==◌, ℕ, [], count_by, map, Some, option_map, option_to_list, IsTrue, if◌then◌else◌, ◌<◌};
+ghost use Rattle.cc_model.specs.Telling.{TellsEvents};
 ghost use Rattle.cc_model.specs.Colours.{HasColours, HasColourInvariant};
 ghost use Rattle.cc_model.specs.Sweep.{sweep, sweeps};
 ghost use Rattle.cc_model.specs.View.{view};
-ghost use Rattle.cc_script.specs.Objects.{colour_at, is_there, name_at, without_object};
-ghost use Rattle.cc_counted.specs.Counts.{key_left};
+ghost use Rattle.cc_script.specs.Objects.{Object, is_there, object_at, without_object};
+ghost use Rattle.cc_counted.specs.Counts.{key_left, the_number};
+ghost use Rattle.cc_counted.specs.Owning.{Transfers};
 ghost use Rattle.cc_heaps.specs.Keyed.{IsInOrder};
 ghost use Rattle.cc_heaps.specs.Changes.{KeepsKeys};
-ghost use Rattle.cc_heaps.specs.Sweeping.{are_some, freed, not_white, white_names};
+ghost use Rattle.cc_heaps.specs.Sweeping.{are_some, is_white, native_keys, native_keys_where, not_white, sweep_where, swept_counts, white_names, whites, OwnEach};
+ghost use Rattle.cc_heaps.specs.Sweeping.{let_native_go};
 ghost use Rattle.cc_heaps.specs.Standing.{StillStands};
 ghost use Rattle.cc_heaps.specs.Few.{AreFew};
 
 use crate::heaps::Heaps;
+use cc_counted::Counted;
 use cc_model::{Event, Item, Notices};
-use cc_names::{Colour, SKey};
+use cc_names::{Colour, NKey, SKey};
 use cc_script::Scripts;
 
-// Takes out an object where it is white, and tells so before. Whether it was.
-fn sweep_one<N: Notices>(scripts: &mut Scripts, key: SKey, out: &mut N) -> bool
+// A swept reflector's native forgets it, and the reference that the reflector owned is given up, with all that it deletes.
+fn let_native_go<N: Notices>(counted: &mut Counted, native: Option<NKey>, out: &mut N)
+    requires owned { OwnEach counted.old (option_to_list (option_map (λ k. k.0) native)) counted.old }
+    ensures natives { counted.new ≡ (let_native_go counted.old counted.old (option_map (λ k. k.0) native)).counts }
+    ensures told { TellsEvents (N.telling out.old) (N.telling out.new) (let_native_go counted.old counted.old (option_map (λ k. k.0) native)).events }
+    ensures owned { Transfers (map (the_number counted.old) (option_to_list (option_map (λ k. k.0) native))) [] counted.old counted.new }
+{
+    if let Some(key) = native {
+        counted.set_reflector(key, None);
+        counted.release(key, out);
+    }
+}
+
+// Takes out an object where it is white: it is told before, and a reflector lets its native go after. Whether it was.
+fn sweep_one<N: Notices>(counted: &mut Counted, scripts: &mut Scripts, key: SKey, out: &mut N) -> bool
     requires live { IsTrue (is_there scripts.old key.0) }
-    ensures white { option_map is_white_colour (colour_at scripts.old key.0) ≡ Some result }
+    requires owned { (o : Object) → object_at scripts.old key.0 ≡ Some o → OwnEach counted.old (native_keys_where (is_white o) o) counted.old }
+    ensures white { option_map is_white (object_at scripts.old key.0) ≡ Some result }
     ensures left { scripts.new ≡ (if result then without_object scripts.old key.0 else scripts.old) }
-    ensures told { IfSome (name_at scripts.old key.0)
-        (λ x. Tells (N.telling out.old) (N.telling out.new) (if result then text_of (of_event (Freed x)) else [])) }
+    ensures natives { (o : Object) → object_at scripts.old key.0 ≡ Some o → counted.new ≡ (sweep_where result counted.old counted.old o).counts }
+    ensures told { (o : Object) → object_at scripts.old key.0 ≡ Some o →
+        TellsEvents (N.telling out.old) (N.telling out.new) (sweep_where result counted.old counted.old o).events }
+    ensures owned { (o : Object) → object_at scripts.old key.0 ≡ Some o →
+        Transfers (map (the_number counted.old) (native_keys_where result o)) [] counted.old counted.new }
 {
     match scripts.colour(key) {
         Colour::White => {
+            let native = scripts.native_of(key);
             out.tell(Item::Event(Event::Freed(scripts.name(key))));
             scripts.remove(key);
+            let_native_go(counted, native, out);
             true
         }
         Colour::Gray | Colour::Black => false,
     }
 }
 
-// Takes out the white objects, and tells each, in order of making. Whether there were any.
-fn sweep_whites<N: Notices>(scripts: &mut Scripts, out: &mut N) -> bool
-    requires { (key : ℕ) → count_by (λ o. o.key == key) scripts.old ≤ 1 }
+// Sweeps the white objects, in order of making. Whether there were any.
+fn sweep_whites<N: Notices>(counted: &mut Counted, scripts: &mut Scripts, out: &mut N) -> bool
+    requires one { (key : ℕ) → count_by (λ o. o.key == key) scripts.old ≤ 1 }
+    requires owned { OwnEach counted.old (native_keys (whites scripts.old)) counted.old }
     ensures swept { result ≡ are_some (white_names scripts.old) }
     ensures left { scripts.new ≡ not_white scripts.old }
-    ensures told { TellsEvents (N.telling out.old) (N.telling out.new) (freed (white_names scripts.old)) }
+    ensures natives { counted.new ≡ (swept_counts counted.old scripts.old).counts }
+    ensures told { TellsEvents (N.telling out.old) (N.telling out.new) (swept_counts counted.old scripts.old).events }
 {
     let mut swept = false;
     let mut at = scripts.first();
     while let Some(key) = at {
         at = scripts.next(key);
-        swept |= sweep_one(scripts, key, out);
+        swept |= sweep_one(counted, scripts, key, out);
     }
     swept
 }
@@ -74,8 +94,7 @@ impl Heaps {
         ensures stands { StillStands self.old.heap self.new.heap }
         ensures invariant { HasColourInvariant (view self.new.heap) }
     {
-        // There are no weak maps yet: their dead entries will go first. There are no reflectors yet: each will give up
-        // the reference to its native once it is taken out.
-        sweep_whites(&mut self.scripts, out)
+        // There are no weak maps yet: their dead entries will go first.
+        sweep_whites(&mut self.counted, &mut self.scripts, out)
     }
 }

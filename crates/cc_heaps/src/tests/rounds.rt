@@ -6,7 +6,7 @@ ghost use Rattle.cc_script.specs.Objects.{colour_at, is_there};
 use crate::Heaps;
 use cc_counted::Held;
 use cc_model::Notebook;
-use cc_names::{Colour, Limits, Name, SKey, ScriptNo};
+use cc_names::{Colour, Limits, Name, NativeNo, SKey, ScriptNo};
 use cc_script::Scripts;
 use std::alloc::Global;
 use std::marker::Model;
@@ -59,6 +59,22 @@ impl World {
                 self.heaps.store_native(key, i, content, &mut self.out);
             }
         }
+    }
+
+    /// Script register `s` holds the reflector of what native register `r` holds, which has none so far.
+    fn reflect(&mut self, s: u8, r: u8) -> Result<(), Fail> {
+        if let Some(key) = self.heaps.native_reg(r) {
+            if self.heaps.counted().reflector(key).is_none() {
+                let made = self.heaps.new_reflector(key)?;
+                self.heaps.set_script_reg(s, Some(made));
+            }
+        }
+        Ok(())
+    }
+
+    /// Native register `r` holds nothing.
+    fn leave(&mut self, r: u8) {
+        self.heaps.set_native_reg(r, None, &mut self.out);
     }
 
     /// Script register `r` holds nothing.
@@ -145,6 +161,72 @@ fn what_nothing_holds_is_swept(rt: HostRuntime) -> Result<(), Fail> {
     assert!(rt; !world.round());
     assert_eq!(rt; world.out.text(), b"- free @3\n".as_slice());
     assert_eq!(rt; world.all_shown(), left);
+    Ok(())
+}
+
+/// The reflector of the native with a number, and its colour.
+fn reflecting(number: u32, colour: Colour) -> Option<(Name, Colour)> {
+    Some((Name::Reflector(NativeNo(number)), colour))
+}
+
+#[test]
+fn swept_reflector_frees_its_native(rt: HostRuntime) -> Result<(), Fail> {
+    let mut world = World::new(rt.alloc())?;
+    world.native(0, 1)?;
+    world.object(1, 0)?;
+    world.store(0, 0, 1);
+    world.let_go(1);
+    world.reflect(0, 0)?;
+    world.leave(0);
+    assert!(rt; !world.round());
+    assert_eq!(rt; world.out.text(), b"".as_slice());
+    world.let_go(0);
+    assert!(rt; world.round());
+    assert_eq!(rt; world.out.text(), b"- free ~1\n- free #1\n".as_slice());
+    assert_eq!(rt;
+        world.all_shown(),
+        [coloured(1, Colour::Gray), None, None, None]
+    );
+    assert!(rt; world.round());
+    assert_eq!(rt;
+        world.out.text(),
+        b"- free ~1\n- free #1\n- free @1\n".as_slice()
+    );
+    assert!(rt; !world.round());
+    Ok(())
+}
+
+#[test]
+fn native_is_freed_before_the_next_object_is_swept(rt: HostRuntime) -> Result<(), Fail> {
+    let mut world = World::new(rt.alloc())?;
+    world.native(0, 0)?;
+    world.reflect(0, 0)?;
+    world.object(1, 0)?;
+    world.leave(0);
+    world.let_go(0);
+    world.let_go(1);
+    assert!(rt; world.round());
+    assert_eq!(rt;
+        world.out.text(),
+        b"- free ~1\n- free #1\n- free @1\n".as_slice()
+    );
+    Ok(())
+}
+
+#[test]
+fn native_that_stays_forgets_its_reflector(rt: HostRuntime) -> Result<(), Fail> {
+    let mut world = World::new(rt.alloc())?;
+    world.native(0, 0)?;
+    world.reflect(0, 0)?;
+    world.let_go(0);
+    assert!(rt; world.round());
+    assert_eq!(rt; world.out.text(), b"- free ~1\n".as_slice());
+    assert_eq!(rt; world.all_shown(), [None, None, None, None]);
+    world.reflect(0, 0)?;
+    assert_eq!(rt;
+        world.all_shown(),
+        [reflecting(1, Colour::Black), None, None, None]
+    );
     Ok(())
 }
 

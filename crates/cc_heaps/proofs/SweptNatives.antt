@@ -1,0 +1,222 @@
+-- NATIVES IN A SWEEP: what becomes of the counted heap is what the definitions make of natives by their names, whatever the
+-- script objects are meanwhile. Keys are left where their natives are, and swept reflectors are those of no native.
+use Rattle.std.proofs.Common.{◌≡◌, ℕ, zero, suc, ◌==◌, Bool, true, false, not, ◌&&◌, ◌||◌, List, [], ◌∷◌, ◌++◌, map, get_or, set, Option, Some, None, option_map, refl, sym, ◌∙◌, ap, subst, arith, inl, inr, if◌then◌else◌}
+use Rattle.std.specs.List.{filter}
+use Rattle.std.specs.Option.{option_and_then}
+use Rattle.std.proofs.Math.ListN.{get_or-map}
+use Rattle.std.proofs.Math.Path.{fun_ext}
+use Rattle.std.proofs.lemmas.Bool.{eqb-true, eq-eqb}
+use Rattle.cc_lists.specs.Members.{Among, has}
+use Rattle.cc_lists.proofs.Members.{Among-map}
+use Rattle.cc_lists.proofs.ListWrites.{map-agree}
+use Rattle.cc_lists.proofs.Searching.{find-filter, find-dropped, filter-true, filter-filter}
+use Rattle.cc_names.specs.declared.name.Name.{Name}
+use Rattle.cc_names.specs.declared.name.Name.TheVariants as name
+use Rattle.cc_names.specs.Names.{native, reflector, same_name}
+use Rattle.cc_names.proofs.NameTests.{same_name-exact}
+use Rattle.cc_model.specs.declared.item.Event.TheVariants.{Freed}
+use Rattle.cc_model.specs.Heap.{Heap, HeapNative, Outcome, after}
+use Rattle.cc_model.specs.Cascade.{cascade}
+use Rattle.cc_model.specs.Sweep.{without_script}
+use Rattle.cc_model.specs.Sweep as model
+use Rattle.cc_model.specs.WellFormed.{native_names}
+use Rattle.cc_laws_heap.specs.Freeing.{Uncounted}
+use Rattle.cc_laws_heap.proofs.NameLists.{same_name-sym}
+use Rattle.cc_laws_heap.proofs.Natives.{named-member}
+use Rattle.cc_counted.specs.Counts.{Counts, number_at, number_or_none, the_number, key_left, left_with, released, with_reflector, reflectors_left}
+use Rattle.cc_counted.specs.Counts as counts
+use Rattle.cc_counted.specs.Owning.{HasKeys}
+use Rattle.cc_script.specs.Objects.{Object}
+use Rattle.cc_heaps.specs.declared.heaps.Heaps.TheInside.{Inside}
+use Rattle.cc_heaps.specs.Keyed.{Reflects, reflector_key, reflectors_by}
+use Rattle.cc_heaps.specs.Fields.{keyed_of}
+use Rattle.cc_heaps.specs.Sweeping.{Left, forgotten, let_native_go, sweep_each, then_sweep}
+use Rattle.cc_heaps.proofs.EachNative.{IsOfEach, each-cascade}
+use Rattle.cc_heaps.proofs.Keys.{key_left-some}
+use Rattle.cc_heaps.proofs.LeftWith.{keys-then}
+use Rattle.cc_heaps.proofs.Linked.{reflectors-left}
+use Rattle.cc_heaps.proofs.Naming.{AreScripts, shown, cascade-shown}
+
+-- By names
+
+-- the heaps without some script objects, one after the other
+abbrev pub without_each : List Name → Heap → Heap
+without_each [] h = h
+without_each (x ∷ xs) h = without_each xs (without_script h x)
+
+-- nothing else is changed
+pub without_each-scripts : (xs : List Name) (h : Heap) → without_each xs h ≡ record h { scripts = (without_each xs h).scripts }
+without_each-scripts [] h = refl
+without_each-scripts (x ∷ xs) h = without_each-scripts xs (without_script h x)
+
+-- what was done to the counted heap, by the names of these script objects, with the rest of other heaps
+abbrev pub left_by : List Object → Heap → Left → Outcome
+left_by objects h l = record { heap = shown h objects (counts.heap_of l.counts); events = l.events }
+
+module _ (p : Inside) (scripts : AreScripts p.scripts) where
+  abbrev left_named : Heap → Left → Outcome
+  left_named h l = left_by p.scripts h l
+
+  -- a native let go
+  let_go-named : (h : Heap) (c : Counts) (x : Name) (key : Option ℕ) → Reflects (keyed_of p) x key →
+      model.let_native_go (shown h p.scripts (counts.heap_of c)) x ≡ left_named h (let_native_go p.counted c key)
+  let_go-named h c (name.Native k) key r = absurd r
+  let_go-named h c (name.Script k) key r = ap (λ q. left_named h (let_native_go p.counted c q)) (sym r)
+  let_go-named h c (name.Reflector k) None r = absurd r
+  let_go-named h c (name.Reflector k) (Some q) r =
+      cascade-shown p.scripts scripts h (counts.heap_of c) k.0
+      ∙ ap (λ j. left_named h (record { counts = left_with c (cascade (counts.heap_of c) j).heap; events = (cascade (counts.heap_of c) j).events })) (sym (ap number_or_none r))
+
+  -- EACH IN TURN
+  pub each-named : (os : List Object) (h : Heap) (l : Left) → ((o : Object) → Among o os → Reflects (keyed_of p) o.name o.native) →
+      model.sweep_each (map (λ o. o.name) os) (left_named h l) ≡ left_named (without_each (map (λ o. o.name) os) h) (sweep_each p.counted os l)
+  each-named [] h l all = refl
+  each-named (o ∷ os) h l all =
+      ap (λ t. model.sweep_each (map (λ o. o.name) os) (after l.events (after (Freed o.name ∷ []) t)))
+      (let_go-named (without_script h o.name) l.counts o.name o.native (all o (inl refl)))
+      ∙ each-named os (without_script h o.name) (then_sweep p.counted l o) (λ q m. all q (inr m))
+
+-- What holds of each native
+
+module _ (Q : Uncounted → Type 0) (first : Counts) where
+  each-let_go : (c : Counts) (key : Option ℕ) → IsOfEach Q c.natives → IsOfEach Q (let_native_go first c key).counts.natives
+  each-let_go c None all = all
+  each-let_go c (Some q) all = each-cascade Q (counts.heap_of c) (the_number first q) all
+
+  pub each-swept : (os : List Object) (l : Left) → IsOfEach Q l.counts.natives → IsOfEach Q (sweep_each first os l).counts.natives
+  each-swept [] l all = all
+  each-swept (o ∷ os) l all = each-swept os (then_sweep first l o) (each-let_go l.counts o.native all)
+
+-- Reflectors
+
+-- the script objects but for one name, and but for some, one after the other
+abbrev without_name : Name → List Object → List Object
+without_name x objects = filter (λ o. not (same_name o.name x)) objects
+
+abbrev pub without_names : List Name → List Object → List Object
+without_names [] objects = objects
+without_names (x ∷ xs) objects = without_names xs (without_name x objects)
+
+pub without_names-filter : (xs : List Name) (objects : List Object) → without_names xs objects ≡ filter (λ o. not (has same_name xs o.name)) objects
+without_names-filter [] objects = sym (filter-true (λ (o : Object). not (has same_name [] o.name)) objects (λ o. refl))
+without_names-filter (x ∷ xs) objects =
+    without_names-filter xs (without_name x objects)
+    ∙ (filter-filter (λ (o : Object). not (has same_name xs o.name)) (λ o. not (same_name o.name x)) objects
+    ∙ ap (λ t. filter t objects) (fun_ext (λ (o : Object). neither (same_name o.name x) (has same_name xs o.name) ∙ ap (λ b. not (b || has same_name xs o.name)) (same_name-sym o.name x))))
+  where
+    neither : (b c : Bool) → (not b && not c) ≡ not (b || c)
+    neither true c = refl
+    neither false c = refl
+
+-- the reflector of a native is found by its own name alone
+reflector-other : (objects : List Object) (x : Name) (k : ℕ) → same_name (reflector k) x ≡ false → reflector_key (without_name x objects) k ≡ reflector_key objects k
+reflector-other objects x k other = ap (λ (o : Option Object). option_map (λ q. q.key) o)
+    (find-filter (λ (o : Object). same_name o.name (reflector k)) (λ o. not (same_name o.name x)) objects
+    (λ o e. ap not (ap (λ y. same_name y x) ((same_name-exact o.name (reflector k)).0 e) ∙ other)))
+
+reflector-gone : (objects : List Object) (k : ℕ) → reflector_key (without_name (reflector k) objects) k ≡ None
+reflector-gone objects k = ap (λ (o : Option Object). option_map (λ q. q.key) o)
+    (find-dropped (λ (o : Object). same_name o.name (reflector k)) (λ o. not (same_name o.name (reflector k))) objects (λ o e. negated (same_name o.name (reflector k)) e))
+  where
+    negated : (b : Bool) → not b ≡ true → b ≡ false
+    negated true e = sym e
+    negated false e = refl
+
+-- what is no reflector is that of no native
+reflectors-plain : (objects : List Object) (k : ℕ) (keys : List (Option ℕ)) → reflectors_by (without_name (name.Script (record { 0 = k })) objects) keys ≡ reflectors_by objects keys
+reflectors-plain objects k keys = map-agree (option_and_then (reflector_key (without_name (name.Script (record { 0 = k })) objects))) (option_and_then (reflector_key objects)) keys at
+  where
+    at : (x : Option ℕ) → Among x keys → option_and_then (reflector_key (without_name (name.Script (record { 0 = k })) objects)) x ≡ option_and_then (reflector_key objects) x
+    at None m = refl
+    at (Some j) m = reflector-other objects (name.Script (record { 0 = k })) j refl
+
+-- a reflector that is taken out is that of the native at one key alone
+reflectors-without : (objects : List Object) (k : ℕ) (keys : List (Option ℕ)) (key : ℕ) → ((q : ℕ) → get_or keys q None ≡ Some k → q ≡ key) →
+    ((j : ℕ) → get_or keys key None ≡ Some j → j ≡ k) → set (reflectors_by objects keys) key None ≡ reflectors_by (without_name (reflector k) objects) keys
+reflectors-without objects k keys key one same = go keys key one same
+  where
+    -- the reflector of another native
+    other : (x : Option ℕ) → ¬ (x ≡ Some k) → option_and_then (reflector_key objects) x ≡ option_and_then (reflector_key (without_name (reflector k) objects)) x
+    other None d = refl
+    other (Some j) d = sym (reflector-other objects (reflector k) j (apart (j == k) refl))
+      where
+        apart : (b : Bool) → (j == k) ≡ b → b ≡ false
+        apart true e = absurd (d (ap Some (eqb-true j k e)))
+        apart false e = refl
+
+    none : (x : Option ℕ) → ((j : ℕ) → x ≡ Some j → j ≡ k) → None ≡ option_and_then (reflector_key (without_name (reflector k) objects)) x
+    none None e = refl
+    none (Some j) e = sym (ap (reflector_key (without_name (reflector k) objects)) (e j refl) ∙ reflector-gone objects k)
+
+    others : (xs : List (Option ℕ)) → ((q : ℕ) → ¬ (get_or xs q None ≡ Some k)) → reflectors_by objects xs ≡ reflectors_by (without_name (reflector k) objects) xs
+    others [] d = refl
+    others (x ∷ xs) d = λ i. other x (d 0) i ∷ others xs (λ q. d (suc q)) i
+
+    go : (xs : List (Option ℕ)) (key : ℕ) → ((q : ℕ) → get_or xs q None ≡ Some k → q ≡ key) → ((j : ℕ) → get_or xs key None ≡ Some j → j ≡ k) →
+        set (reflectors_by objects xs) key None ≡ reflectors_by (without_name (reflector k) objects) xs
+    go [] key one same = refl
+    go (x ∷ xs) zero one same = λ i. none x same i ∷ others xs (λ q e. let bad : suc q ≡ 0 = one (suc q) e in absurd (omega (arith, bad))) i
+    go (x ∷ xs) (suc key) one same =
+        λ i. other x (λ e. let bad : 0 ≡ suc key = one 0 e in absurd (omega (arith, bad))) i ∷ go xs key (λ q e. let up : suc q ≡ suc key = one (suc q) e in omega (arith, up)) same i
+
+-- Keys
+
+-- the keys are those that are left of the first, and natives have these reflectors
+pub record IsLeftOf (first c : Counts) (objects : List Object) : Type 0 where
+  pub keys : c.keys ≡ map (key_left (counts.heap_of c)) first.keys
+  pub reflectors : c.reflectors ≡ reflectors_by objects c.keys
+
+module _ (p : Inside) (keyed : HasKeys p.counted) where
+  abbrev first : Counts
+  first = p.counted
+
+  -- a reference given up
+  module _ (c : Counts) (k : ℕ) where
+    abbrev g : Heap
+    g = (cascade (counts.heap_of c) k).heap
+
+    -- natives that are left were there
+    were-there : (j : ℕ) → Among (native j) (native_names g) → Among (native j) (native_names (counts.heap_of c))
+    were-there j m =
+        let f = named-member g j m in
+        subst (λ i. Among (native i) (native_names (counts.heap_of c))) f.2
+        (each-cascade (λ u. Among (native u.number) (native_names (counts.heap_of c))) (counts.heap_of c) k
+        (λ n i. Among-map (λ (o : HeapNative). native o.number) n c.natives i) f.0 f.1)
+
+  -- a native that forgets its reflector
+  IsLeftOf-forgotten : (c : Counts) (objects : List Object) (key k : ℕ) → number_at first key ≡ Some k → IsLeftOf first c objects →
+      IsLeftOf first (forgotten c key (the_number first key)).counts (without_name (reflector k) objects)
+  IsLeftOf-forgotten c objects key k at l = record {
+    keys = ap (map (key_left (g c number))) l.keys ∙ keys-then (counts.heap_of c) (g c number) (were-there c number) first.keys;
+    reflectors = ap (λ rs. reflectors_left (map (key_left (g c number)) c.keys) (set rs key None)) l.reflectors
+        ∙ (ap (reflectors_left (map (key_left (g c number)) c.keys)) (reflectors-without objects k c.keys key one same)
+        ∙ reflectors-left (without_name (reflector k) objects) (g c number) c.keys);
+  }
+    where
+      number : ℕ
+      number = the_number first key
+
+      -- a number at a key was there at first
+      was : (s j : ℕ) → number_at c s ≡ Some j → number_at first s ≡ Some j
+      was s j e = (key_left-some (counts.heap_of c) (number_at first s) j
+          (sym (ap (λ ks. get_or ks s None) l.keys ∙ get_or-map (key_left (counts.heap_of c)) first.keys s None) ∙ e)).0
+
+      one : (s : ℕ) → number_at c s ≡ Some k → s ≡ key
+      one s e = keyed.one_key s key k (was s k e) at
+
+      same : (j : ℕ) → number_at c key ≡ Some j → j ≡ k
+      same j e = let both : Some j ≡ Some k = sym (was key j e) ∙ at in cc
+
+  IsLeftOf-let_go : (c : Counts) (objects : List Object) (x : Name) (key : Option ℕ) → Reflects (keyed_of p) x key → IsLeftOf first c objects →
+      IsLeftOf first (let_native_go first c key).counts (without_name x objects)
+  IsLeftOf-let_go c objects (name.Native k) key r l = absurd r
+  IsLeftOf-let_go c objects (name.Script k) key r l = subst (λ q. IsLeftOf first (let_native_go first c q).counts (without_name (name.Script k) objects)) (sym r)
+      (record { keys = l.keys; reflectors = l.reflectors ∙ sym (reflectors-plain objects k.0 c.keys) })
+  IsLeftOf-let_go c objects (name.Reflector k) None r l = absurd r
+  IsLeftOf-let_go c objects (name.Reflector k) (Some q) r l = IsLeftOf-forgotten c objects q k.0 r l
+
+  pub IsLeftOf-each : (os objects : List Object) (l : Left) → ((o : Object) → Among o os → Reflects (keyed_of p) o.name o.native) → IsLeftOf first l.counts objects →
+      IsLeftOf first (sweep_each first os l).counts (without_names (map (λ o. o.name) os) objects)
+  IsLeftOf-each [] objects l all is = is
+  IsLeftOf-each (o ∷ os) objects l all is =
+      IsLeftOf-each os (without_name o.name objects) (then_sweep first l o) (λ q m. all q (inr m)) (IsLeftOf-let_go l.counts objects o.name o.native (all o (inl refl)) is)
