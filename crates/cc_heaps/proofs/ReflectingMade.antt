@@ -1,9 +1,10 @@
 -- A REFLECTOR MADE, OR EXPOSED WHERE IT IS THERE: the heaps stand for the graph in which the native is wrapped, the colour
 -- invariant stays, every snapshot that was fresh is fresh, and no unreached native is forgotten.
-use Rattle.std.proofs.Common.{◌≡◌, ℕ, Bool, true, false, [], ◌∷◌, Some, refl, sym, ap, subst, ⊎_elim}
+use Rattle.std.proofs.Common.{◌≡◌, ℕ, Bool, true, false, [], ◌∷◌, ◌++◌, Option, Some, None, refl, sym, ap, subst, ⊎_elim}
 use Rattle.std.specs.List.{flat_map}
 use Rattle.cc_lists.specs.Members.{Among}
 use Rattle.cc_lists.proofs.Members.{Among-left, Among-append, Among-flat_map_cases}
+use Rattle.cc_lists.proofs.ListWrites.{changed_where, changed_where-either, flat_map-kept}
 use Rattle.cc_names.specs.declared.name.Name.{Name}
 use Rattle.cc_names.specs.declared.kind.Kind.TheVariants.{Reflector}
 use Rattle.cc_names.specs.Names.{native, reflector}
@@ -13,19 +14,19 @@ use Rattle.cc_model.specs.Graph.{as_wrapped}
 use Rattle.cc_model.specs.Heap.{Heap, has_reflector}
 use Rattle.cc_model.specs.View.{view, native_edges, script_edges, ReachedIn}
 use Rattle.cc_model.specs.Cascade.{add_ref}
-use Rattle.cc_model.specs.Exposure.{exposed}
+use Rattle.cc_model.specs.Exposure.{exposed, exposed_names, as_black}
 use Rattle.cc_model.specs.Effects.{with_reflector, wrapped}
-use Rattle.cc_model.specs.WellFormed.{native_names}
+use Rattle.cc_model.specs.WellFormed.{IsWellFormed, native_names}
 use Rattle.cc_model.specs.StandsFor.{StandsFor}
 use Rattle.cc_laws_heap.specs.Sound.{IsSound}
 use Rattle.cc_laws_heap.proofs.Coloured.{AreColoured-from_view, HasColourInvariant-from}
-use Rattle.cc_laws_heap.proofs.ColourChanges.{AreColoured-push, exposed-coloured}
+use Rattle.cc_laws_heap.proofs.ColourChanges.{AreColoured-push}
 use Rattle.cc_laws_heap.proofs.GraphWrites.{IsWellMade-change_native, KeepsNative-wrapped}
 use Rattle.cc_laws_heap.proofs.HoldsTheSame.{HoldsTheSame-add_ref}
 use Rattle.cc_laws_heap.proofs.Making.{contents-empty_none}
 use Rattle.cc_laws_heap.proofs.ReachedAlike.{in-reached}
 use Rattle.cc_laws_heap.proofs.ScriptCommands.{blank, with_reflector-sound}
-use Rattle.cc_laws_heap.proofs.ScriptsKept.{exposed-sound}
+use Rattle.cc_laws_heap.proofs.ScriptsKept.{is_one_of, exposed-sound}
 use Rattle.cc_laws_heap.proofs.Standing.{follows-stands}
 use Rattle.cc_laws_heap.proofs.Wrapping.{Follows-wrapped}
 use Rattle.cc_laws_snapshot.proofs.KindsHeld.{reflector_made-suspected}
@@ -34,16 +35,45 @@ use Rattle.cc_laws_snapshot.proofs.NamesAndEdges.{edges-alike}
 use Rattle.cc_laws_snapshot.proofs.ReachedStays.{script-edge, reached-kept}
 use Rattle.cc_heaps.specs.Standing.{IsReached, StandsAfter, KeepsFresh, KeepsSuspected, KeepsColours}
 
--- native k is wrapped: its reflector is exposed where it has one, or made
-abbrev one_or_other : Heap → ℕ → Bool → Heap
-one_or_other h k b = elim b [ true ↦ exposed h (Some (reflector k)) | false ↦ with_reflector h k ]
+-- native k is wrapped: its reflector exposed where it has one, or made
+abbrev pub wrapped_by : Heap → ℕ → Bool → Heap
+wrapped_by h k b = elim b [ true ↦ exposed h (Some (reflector k)) | false ↦ with_reflector h k ]
+
+-- A reflector made takes nothing away from what is reached,
+pub made-reached : (h : Heap) (k : ℕ) → IsWellFormed (with_reflector h k) → (x : Name) → ReachedIn (view h) x → ReachedIn (view (with_reflector h k)) x
+made-reached h k w = reached-kept h (with_reflector h k) w (record {
+  registers = λ x i. i;
+  edges = λ x y r i e. more x y (subst (λ es. Among (x, y) es) (sym (edges-alike h (add_ref h k) (HoldsTheSame-add_ref h k))) e);
+  entries = λ e i a b. i;
+})
+  where
+    more : (x y : Name) → Among (x, y) (view (add_ref h k)).edges → Among (x, y) (view (with_reflector h k)).edges
+    more x y e = ⊎_elim
+        (λ l. Among-left (x, y) (flat_map native_edges (add_ref h k).natives) (flat_map script_edges (with_reflector h k).scripts) l)
+        (λ l. let f = Among-flat_map_cases script_edges h.scripts (x, y) l in
+        script-edge (with_reflector h k) f.0 x y (Among-left f.0 h.scripts (blank (reflector k) Reflector reflector_slots ∷ []) f.1) f.2)
+        (Among-append (x, y) (flat_map native_edges (add_ref h k).natives) (flat_map script_edges h.scripts) e)
+
+-- and neither does an exposure.
+pub exposed-reached : (h : Heap) (x : Option Name) → IsSound [] h → (y : Name) → ReachedIn (view h) y → ReachedIn (view (exposed h x)) y
+unfolding exposed
+exposed-reached h None s = λ y r. r
+exposed-reached h (Some x) s = reached-kept h (exposed h (Some x)) (exposed-sound [] h (Some x) s).well_formed (record {
+  registers = λ y i. i;
+  edges = λ y z r i e. subst (λ es. Among (y, z) (flat_map native_edges h.natives ++ es)) (sym edges) e;
+  entries = λ e i a b. i;
+})
+  where
+    edges : flat_map script_edges (exposed h (Some x)).scripts ≡ flat_map script_edges h.scripts
+    edges = flat_map-kept script_edges (changed_where (is_one_of (exposed_names h x)) as_black) h.scripts
+        (λ o. changed_where-either (λ p. script_edges p ≡ script_edges o) (is_one_of (exposed_names h x)) as_black o (λ e. refl) refl)
 
 module _ (h : Heap) (k : ℕ) (s : IsSound [] h) (there : Among (native k) (native_names h)) where
   -- A NATIVE WRAPPED leaves the heaps sound.
   wrapped-stays_sound : IsSound [] (wrapped h (Some (native k)))
   wrapped-stays_sound = go (has_reflector h k) refl
     where
-      go : (b : Bool) → has_reflector h k ≡ b → IsSound [] (one_or_other h k b)
+      go : (b : Bool) → has_reflector h k ≡ b → IsSound [] (wrapped_by h k b)
       go true e = exposed-sound [] h (Some (reflector k)) s
       go false e = with_reflector-sound [] h k there e s
 
@@ -60,7 +90,7 @@ module _ (h : Heap) (k : ℕ) (s : IsSound [] h) (there : Among (native k) (nati
   module _ (none : has_reflector h k ≡ false) where
     -- A REFLECTOR MADE is that.
     as_wrapped-made : wrapped h (Some (native k)) ≡ with_reflector h k
-    as_wrapped-made = ap (one_or_other h k) none
+    as_wrapped-made = ap (wrapped_by h k) none
 
     pub reflector_made-sound : IsSound [] (with_reflector h k)
     reflector_made-sound = with_reflector-sound [] h k there none s
@@ -78,21 +108,6 @@ module _ (h : Heap) (k : ℕ) (s : IsSound [] h) (there : Among (native k) (nati
     pub reflector_made-keeps_fresh : KeepsFresh h (with_reflector h k)
     reflector_made-keeps_fresh t = reflector_made-fresh [] h t k s there none
 
-    -- what is reached stays reached
-    made-reached : (x : Name) → ReachedIn (view h) x → ReachedIn (view (with_reflector h k)) x
-    made-reached = reached-kept h (with_reflector h k) reflector_made-sound.well_formed (record {
-      registers = λ x i. i;
-      edges = λ x y r i e. more x y (subst (λ es. Among (x, y) es) (sym (edges-alike h (add_ref h k) (HoldsTheSame-add_ref h k))) e);
-      entries = λ e i a b. i;
-    })
-      where
-        more : (x y : Name) → Among (x, y) (view (add_ref h k)).edges → Among (x, y) (view (with_reflector h k)).edges
-        more x y e = ⊎_elim
-            (λ l. Among-left (x, y) (flat_map native_edges (add_ref h k).natives) (flat_map script_edges (with_reflector h k).scripts) l)
-            (λ l. let f = Among-flat_map_cases script_edges h.scripts (x, y) l in
-            script-edge (with_reflector h k) f.0 x y (Among-left f.0 h.scripts (blank (reflector k) Reflector reflector_slots ∷ []) f.1) f.2)
-            (Among-append (x, y) (flat_map native_edges (add_ref h k).natives) (flat_map script_edges h.scripts) e)
-
     -- No unreached native is forgotten, where the native is reached.
     pub reflector_made-keeps_suspected : IsReached h (Some (native k)) → KeepsSuspected h (with_reflector h k)
-    reflector_made-keeps_suspected r candidates = reflector_made-suspected h candidates k s.well_formed (made-reached (native k) r)
+    reflector_made-keeps_suspected r candidates = reflector_made-suspected h candidates k s.well_formed (made-reached h k reflector_made-sound.well_formed (native k) r)

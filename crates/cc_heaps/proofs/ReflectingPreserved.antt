@@ -1,29 +1,34 @@
 -- A REFLECTOR PRESERVED that is there: the heaps stand for the graph in which it is, the colour invariant stays, every
 -- snapshot that was fresh is fresh where it is not gray, and no unreached native is forgotten.
-use Rattle.std.proofs.Common.{◌≡◌, ℕ, true, false, [], Some, sym, ◌∙◌, ap, is_some}
-use Rattle.std.specs.List.{filter}
+use Rattle.std.proofs.Common.{◌≡◌, ℕ, ◌==◌, Bool, true, false, [], ◌∷◌, Option, Some, None, option_map, refl, sym, ◌∙◌, ap, is_some, ⊎_elim}
+use Rattle.std.specs.List.{filter, flat_map}
 use Rattle.std.proofs.lemmas.Bool.{true≢false}
 use Rattle.cc_lists.specs.Members.{Among}
-use Rattle.cc_lists.proofs.Members.{Among-map_cases, Among-filter, Among-filtered, Among-passes}
+use Rattle.cc_lists.proofs.Members.{Among-map, Among-map_cases, Among-left, Among-right, Among-append, Among-flat_map_cases, Among-filter, Among-filtered, Among-passes}
+use Rattle.cc_lists.proofs.ListWrites.{changed_where, changed_where-either}
 use Rattle.cc_lists.proofs.Searching.{find-some}
+use Rattle.cc_names.specs.declared.name.Name.{Name}
 use Rattle.cc_names.specs.Names.{native, reflector, same_name}
 use Rattle.cc_names.proofs.NameTests.{same_name-refl}
+use Rattle.cc_model.specs.Slots.{from_to}
 use Rattle.cc_model.specs.Graph as graph
 use Rattle.cc_model.specs.Graph.{Graph, as_preserved}
-use Rattle.cc_model.specs.Heap.{Heap, HeapScript, set_preserved, is_gray_in, is_gray_colour}
-use Rattle.cc_model.specs.View.{view}
+use Rattle.cc_model.specs.Heap.{Heap, HeapNative, HeapScript, native_at, set_preserved, is_gray_in, is_gray_colour}
+use Rattle.cc_model.specs.View.{view, slot_edges, preserved_edge, native_edges, script_edges, ReachedIn}
 use Rattle.cc_model.specs.WellFormed.{script_names}
 use Rattle.cc_model.specs.StandsFor.{StandsFor}
 use Rattle.cc_laws_heap.specs.Sound.{IsSound}
 use Rattle.cc_laws_heap.proofs.Coloured.{AreColoured-from_view, HasColourInvariant-from}
 use Rattle.cc_laws_heap.proofs.GraphWrites.{IsWellMade-change_native, KeepsNative-preserved}
+use Rattle.cc_laws_heap.proofs.Natives.{native_at-change_same}
 use Rattle.cc_laws_heap.proofs.ReachedAlike.{in-reached}
 use Rattle.cc_laws_heap.proofs.SlotsWritten.{Follows-preserved}
 use Rattle.cc_laws_heap.proofs.Standing.{follows-stands}
 use Rattle.cc_laws_heap.proofs.Writes.{set_preserved-sound}
 use Rattle.cc_laws_snapshot.proofs.KindsHeld.{flag_written-suspected}
 use Rattle.cc_laws_snapshot.proofs.KindsWritten.{flag_written-fresh}
-use Rattle.cc_heaps.specs.Standing.{IsReached, StandsAfter, KeepsFresh, KeepsSuspected, KeepsColours}
+use Rattle.cc_laws_snapshot.proofs.ReachedStays.{native-edge, reached-kept}
+use Rattle.cc_heaps.specs.Standing.{IsReached, MayHold, StandsAfter, KeepsFresh, KeepsSuspected, KeepsColours}
 use Rattle.cc_heaps.proofs.Reflecting.{there-made, Follows-reflector}
 
 module _ (h : Heap) (k : ℕ) (s : IsSound [] h) (there : Among (reflector k) (script_names h)) where
@@ -65,3 +70,45 @@ module _ (h : Heap) (k : ℕ) (s : IsSound [] h) (there : Among (reflector k) (s
   -- No unreached native is forgotten.
   pub preserved-suspected : KeepsSuspected h (set_preserved h k true)
   preserved-suspected candidates = flag_written-suspected h candidates k true s.well_formed
+
+  -- WHAT IS REACHED STAYS REACHED: the native holds its reflector besides.
+  pub preserved-reached : (x : Name) → ReachedIn (view h) x → ReachedIn (view (set_preserved h k true)) x
+  preserved-reached = reached-kept h (set_preserved h k true) preserved-sound.well_formed (record {
+    registers = λ x i. i;
+    edges = λ x y r i e. ⊎_elim
+        (λ l. let f = Among-flat_map_cases native_edges h.natives (x, y) l in
+        native-edge (set_preserved h k true) (changed f.0) x y (Among-map changed f.0 h.natives f.1) (more f.0 (x, y) f.2))
+        (λ l. Among-right (x, y) (flat_map native_edges (set_preserved h k true).natives) (flat_map script_edges h.scripts) l)
+        (Among-append (x, y) (flat_map native_edges h.natives) (flat_map script_edges h.scripts) e);
+    entries = λ e i a b. i;
+  })
+    where
+      flagged : HeapNative → HeapNative
+      flagged n = record n { preserved = true }
+
+      changed : HeapNative → HeapNative
+      changed n = changed_where (λ (m : HeapNative). m.number == k) flagged n
+
+      kept : (n : HeapNative) (e : Name × Name) (b : Bool) → n.preserved ≡ b →
+          Among e (elim b [ true ↦ from_to (native n.number) (reflector n.number) ∷ [] | false ↦ [] ]) → Among e (preserved_edge (flagged n))
+      kept n e true p i = i
+      kept n e false p i = absurd i
+
+      more : (n : HeapNative) (e : Name × Name) → Among e (native_edges n) → Among e (native_edges (changed n))
+      more n e i = changed_where-either (λ m. Among e (native_edges m)) (λ (m : HeapNative). m.number == k) flagged n
+          (λ t. ⊎_elim
+          (λ l. Among-left e (slot_edges (native n.number) n.slots) (preserved_edge (flagged n)) l)
+          (λ l. Among-right e (slot_edges (native n.number) n.slots) (preserved_edge (flagged n)) (kept n e n.preserved refl l))
+          (Among-append e (slot_edges (native n.number) n.slots) (preserved_edge n) i))
+          i
+
+  -- It may hold something from then on.
+  pub preserved-may_hold : MayHold (set_preserved h k true) (Some (reflector k))
+  preserved-may_hold n e =
+      let f = option_map-some (native_at h k) n (sym (native_at-change_same h k (λ m. record m { preserved = true }) (λ m. refl)) ∙ e) in
+      ap (λ (m : HeapNative). m.preserved) (sym f.1)
+    where
+      option_map-some : (o : Option HeapNative) (n : HeapNative) → option_map (λ (m : HeapNative). record m { preserved = true }) o ≡ Some n →
+          (m : HeapNative) × (record m { preserved = true } ≡ n)
+      option_map-some None n e = absurd (cc)
+      option_map-some (Some m) n e = let same : record m { preserved = true } ≡ n = cc in (m, same)

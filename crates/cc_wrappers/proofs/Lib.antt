@@ -1,0 +1,2 @@
+pub mod ReflectorKeys
+pub mod Wrapped
