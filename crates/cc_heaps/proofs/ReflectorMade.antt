@@ -1,6 +1,6 @@
 -- A REFLECTOR MADE: the script heap has one object more, the native has its key, and one reference more. The parts fit
 -- together once all three are done.
-use Rattle.std.proofs.Common.{◌≡◌, ◌≢◌, ℕ, zero, suc, ◌+◌, ◌<◌, ◌≤◌, ◌==◌, Bool, true, false, List, [], ◌∷◌, ◌++◌, map, length, get_or, set, Option, Some, None, is_some, option_map, refl, sym, ◌∙◌, ap, subst, ⊎_elim, arith}
+use Rattle.std.proofs.Common.{◌≡◌, ◌≢◌, ℕ, zero, suc, ◌+◌, ◌<◌, true, false, List, [], ◌∷◌, ◌++◌, length, get_or, set, Option, Some, None, is_some, option_map, refl, sym, ◌∙◌, ap, subst, ⊎_elim, arith}
 use Rattle.std.specs.Option.{option_and_then, option_or}
 use Rattle.std.specs.List.{find}
 use Rattle.std.proofs.Math.ListN.{get_or-map}
@@ -17,7 +17,7 @@ use Rattle.cc_model.specs.Slots.{reflector_slots}
 use Rattle.cc_model.specs.Heap.{Heap, HeapScript, has_reflector}
 use Rattle.cc_model.specs.Cascade.{add_ref}
 use Rattle.cc_model.specs.Effects.{with_reflector, with_script}
-use Rattle.cc_model.specs.WellFormed.{native_names, script_names}
+use Rattle.cc_model.specs.WellFormed.{native_names}
 use Rattle.cc_laws_heap.specs.Sound.{IsSound}
 use Rattle.cc_laws_heap.proofs.Holding.{has_reflector-none}
 use Rattle.cc_laws_heap.proofs.ScriptCommands.{blank, with_reflector-sound}
@@ -25,7 +25,7 @@ use Rattle.cc_counted.specs.Counts.{Counts, number_or_none, with_heap}
 use Rattle.cc_counted.specs.Counts as counts
 use Rattle.cc_script.specs.Objects.{Object, is_there, name_at, reflector_object}
 use Rattle.cc_heaps.specs.declared.heaps.Heaps.TheInside.{Inside}
-use Rattle.cc_heaps.specs.Keyed.{Keyed, IsInOrder, Reflects, key_of, named_object, named_objects, number_at, reflector_key, reflectors_by, the_number}
+use Rattle.cc_heaps.specs.Keyed.{Keyed, IsInOrder, Reflects, key_of, named_objects, number_at, reflector_key, reflectors_by, the_number}
 use Rattle.cc_heaps.specs.Changes.{KeepsKeys}
 use Rattle.cc_heaps.specs.Fields.{heap_of, keyed_of, IsLinked}
 use Rattle.cc_heaps.proofs.Calls.{Changes, changed-keyed, changed-linked, number-there, root-changes}

@@ -1,10 +1,12 @@
 //! The two heaps together: counted natives, traced script objects, and the registers, which are the roots.
 //!
 //! `Heaps` has the registers, the counted heap and the script heap as its fields. They fit together at each step: what
-//! registers and slots of natives hold is there. They stand for lists by names, which are those of the definitions
-//! (`Keyed`), and each call that changes them is one equation with a function of the definitions. Natives hold natives by
-//! counted references, and script objects, which are not counted; script objects hold script objects. What comes into a
-//! script register is exposed.
+//! registers and slots of natives hold is there, and each native has the key of its reflector. They stand for lists by
+//! names, which are those of the definitions (`Keyed`), and each call that changes them is one equation with a function of
+//! the definitions. Natives hold natives by counted references, and script objects, which are not counted; script objects
+//! hold script objects. A native has at most one reflector, a script object that stands for it and owns one counted
+//! reference to it; the native refers to its reflector once that is preserved (`places` and `place` list what an object
+//! refers to). What comes into a script register is exposed. There are no weak maps.
 //!
 //! What the laws make of these equations is said beside them, for callers who know no law: for which graph the heaps
 //! stand afterwards (`stands`), that objects keep their keys, that no count is greater than all references there can
@@ -12,7 +14,8 @@
 //! these out. The calls that come while a collection runs say too that its snapshot stays fresh and that no native
 //! that nothing reaches is forgotten; `select_next`, `mark_scripts`, `sweep`, `root`, `unlink` and `unroot` are made
 //! where no snapshot is kept, and say neither. Some clauses need more of what is handed in: that it is reached from
-//! the registers (`IsReached`), or black. Then the clause says so; the call itself does not ask for it.
+//! the registers (`IsReached`), or reflects what is (`IsReachedOrReflects`), that it is black, or, of a reflector whose
+//! slot is written, that it is preserved (`MayHold`). Then the clause says so; the call itself does not ask for it.
 #![tactic(auto)]
 
 mod heaps;
