@@ -42,7 +42,6 @@ pub mod Following
 pub mod StandingStill
 pub mod StandingAfter
 pub mod KeysKept
-pub mod ReflectorsThere
 pub mod Reflecting
 pub mod ReflectingMade
 pub mod ReflectingPreserved

@@ -1,7 +1,6 @@
 -- A SWEEP BY KEYS is the sweep of the definitions, where the colours are those of marking: nothing that stays holds what
 -- goes, so what stays keeps its names.
 use Rattle.std.proofs.Common.{◌≡◌, ℕ, ◌+◌, ◌==◌, Bool, true, false, not, List, [], ◌∷◌, ◌++◌, map, Option, Some, None, refl, sym, ◌∙◌, ap, subst, arith, inl, inr, ⊎_elim}
-use Rattle.std.specs.Prelude.{IsTrue}
 use Rattle.std.specs.List.{filter, flat_map}
 use Rattle.std.specs.Option.{option_and_then, option_to_list}
 use Rattle.std.proofs.Math.ListN.{get_or-map}
@@ -17,7 +16,7 @@ use Rattle.cc_names.specs.declared.name.Name.{Name}
 use Rattle.cc_names.specs.declared.name.Name.TheVariants as name
 use Rattle.cc_names.specs.declared.number.SKey.{SKey}
 use Rattle.cc_names.specs.declared.kind.Kind.TheVariants.{Map}
-use Rattle.cc_names.specs.Names.{native, object, reflector, same_name, behind}
+use Rattle.cc_names.specs.Names.{native, object, same_name, behind}
 use Rattle.cc_names.proofs.NameTests.{same_name-refl, same_name-exact}
 use Rattle.cc_model.specs.Slots.{contents}
 use Rattle.cc_model.specs.Heap.{Heap, HeapNative, HeapScript, Outcome, is_white_colour}
@@ -25,28 +24,26 @@ use Rattle.cc_model.specs.Colours.{IsMarked, HasColours}
 use Rattle.cc_model.specs.Counts.{times}
 use Rattle.cc_model.specs.Sweep.{unmarked, sweep}
 use Rattle.cc_model.specs.Sweep as model
-use Rattle.cc_model.specs.WellFormed.{IsWellFormed, native_names}
+use Rattle.cc_model.specs.WellFormed.{native_names}
 use Rattle.cc_laws_heap.specs.Sound.{IsSound}
 use Rattle.cc_laws_heap.proofs.MarkedKept.{marked-black, black-register, marked-slot, marked-native_slot, marked-not_unmarked, marked-other}
 use Rattle.cc_laws_heap.proofs.MarkedWellFormed.{is_spared}
 use Rattle.cc_laws_heap.proofs.Natives.{named-member}
 use Rattle.cc_laws_heap.proofs.References.{times-append}
 use Rattle.cc_laws_heap.proofs.Swept.{scripts-sweep, sweep-sound}
-use Rattle.cc_counted.specs.Counts.{Counts, number_at, number_or_none, the_number, key_left}
+use Rattle.cc_counted.specs.Counts.{number_at, number_or_none, the_number, key_left}
 use Rattle.cc_counted.specs.Counts as counts
-use Rattle.cc_counted.specs.Owning.{AreOwned, CallersOwn, HasKeys}
+use Rattle.cc_counted.specs.Owning.{AreOwned}
 use Rattle.cc_script.specs.Objects.{Object, name_at}
 use Rattle.cc_script.proofs.Reaching.{among-held, held-among}
-use Rattle.cc_heaps.specs.Keyed.{Keyed, IsInOrder, Reflects, counts_of, left_with, name_held, named_object, named_objects, reflectors_by}
+use Rattle.cc_heaps.specs.Keyed.{Keyed, IsInOrder, Reflects, left_with, name_held, named_object, named_objects}
 use Rattle.cc_heaps.specs.Changes.{KeepsKeys}
 use Rattle.cc_heaps.specs.Named.{own_name, named_native, named, script_named, IsHeldThere, IsScriptLive}
 use Rattle.cc_heaps.specs.Fields.{heap_of, keyed_of, IsLinked}
 use Rattle.cc_heaps.specs.Sweeping.{Left, OwnEach, is_white, native_keys, not_white, sweep_each, swept_counts, untold, white_names, whites}
 use Rattle.cc_heaps.specs.declared.heaps.Heaps.TheInside.{Inside}
-use Rattle.cc_heaps.proofs.Calls.{key_left-shown, number-named}
-use Rattle.cc_heaps.proofs.EachNative.{IsOfEach}
-use Rattle.cc_heaps.proofs.Fit.{IsFit}
-use Rattle.cc_heaps.proofs.Keying.{AreHeldThere, counts-back}
+use Rattle.cc_heaps.proofs.Calls.{key_left-shown}
+use Rattle.cc_heaps.proofs.Keying.{AreHeldThere}
 use Rattle.cc_heaps.proofs.Keys.{AreReflecting-left, HasKeys-keyed, HasKeys-left, HasKeys-names, Reflects-kept, counts_in}
 use Rattle.cc_heaps.proofs.LeftWith.{key_left-there, keys-there}
 use Rattle.cc_heaps.proofs.Naming.{native_names-shown, shown}

@@ -1,6 +1,6 @@
 -- WHITE OBJECTS ARE SWEPT IN TURN, by keys: of those before the place to which a walk has come the white ones are gone, they
 -- are told, and their natives are let go. Natives whose reflectors come later stay until then, since these own references.
-use Rattle.std.proofs.Common.{◌≡◌, ℕ, ◌<◌, ◌≤◌, ◌==◌, Bool, true, false, not, ◌||◌, if◌then◌else◌, List, [], ◌∷◌, ◌++◌, length, map, get_or, Option, Some, None, option_map, refl, sym, ◌∙◌, ap, subst, arith, append-nil, inl, inr}
+use Rattle.std.proofs.Common.{◌≡◌, ℕ, ◌<◌, ◌≤◌, Bool, true, false, not, ◌||◌, if◌then◌else◌, List, [], ◌∷◌, ◌++◌, length, map, get_or, Option, Some, None, option_map, refl, sym, ◌∙◌, ap, subst, arith, append-nil, inl, inr}
 use Rattle.std.specs.Prelude.{IsTrue}
 use Rattle.std.specs.List.{filter}
 use Rattle.std.specs.Option.{is_some, option_to_list}
@@ -28,7 +28,7 @@ use Rattle.cc_laws_heap.proofs.Natives.{named-found}
 use Rattle.cc_counted.specs.Counts.{Counts, number_at, number_or_none, the_number, key_left, heap_of, released, with_reflector}
 use Rattle.cc_counted.specs.Owning.{AreOwned, CallersOwn, Transfers}
 use Rattle.cc_script.specs.Objects.{Object, object_at, is_there, first_key, key_after, without_object}
-use Rattle.cc_heaps.specs.Sweeping.{Left, OwnEach, are_some, forgotten, is_white, let_native_go, native_keys, native_keys_where, not_white, sweep_each, sweep_one, sweep_where, swept_counts, untold, white_names, whites}
+use Rattle.cc_heaps.specs.Sweeping.{Left, OwnEach, are_some, forgotten, is_white, let_native_go, native_keys, native_keys_where, not_white, sweep_each, sweep_one, sweep_where, swept_counts, white_names, whites}
 use Rattle.cc_heaps.proofs.Agreeing.{filter-one, filter-no_one}
 use Rattle.cc_heaps.proofs.Reaching.{HasOneKey}
 
@@ -100,7 +100,7 @@ OwnEach-front first c keys rest own =
       owned = (
         map (the_number first) rest ++ own.owned.0,
         subst (λ ks. AreOwned ks c) ((λ i. map-append (the_number first) keys rest i ++ own.owned.0) ∙ (append_assoc (map (the_number first) keys) (map (the_number first) rest) own.owned.0
-        ∙ ap (λ ks. ks ++ (map (the_number first) rest ++ own.owned.0)) (sym numbers))) own.owned.1,
+            ∙ ap (λ ks. ks ++ (map (the_number first) rest ++ own.owned.0)) (sym numbers))) own.owned.1,
       );
     }
 
@@ -149,8 +149,7 @@ Sweeps-end before now first counted at swept a b e s = go s.left refl
     go [] f =
         let whole : before ≡ s.seen = s.whole ∙ (ap (λ os. s.seen ++ os) f ∙ append-nil s.seen) in
         let natives : record { counts = counted; events = s.events } ≡ swept_counts first before =
-        ap (λ os. sweep_each first (whites os) (record { counts = counted; events = s.events })) (sym f) ∙ s.natives in
-        (
+        ap (λ os. sweep_each first (whites os) (record { counts = counted; events = s.events })) (sym f) ∙ s.natives in (
           s.found ∙ ap (λ os. are_some (white_names os)) (sym whole),
           s.rest ∙ (ap (λ os. not_white s.seen ++ os) f ∙ (append-nil (not_white s.seen) ∙ ap not_white (sym whole))),
           ap (λ (l : Left). l.counts) natives,

@@ -34,7 +34,12 @@ fn let_native_go<N: Notices>(counted: &mut Counted, native: Option<NKey>, out: &
 }
 
 // Takes out an object where it is white: it is told before, and a reflector lets its native go after. Whether it was.
-fn sweep_one<N: Notices>(counted: &mut Counted, scripts: &mut Scripts, key: SKey, out: &mut N) -> bool
+fn sweep_one<N: Notices>(
+    counted: &mut Counted,
+    scripts: &mut Scripts,
+    key: SKey,
+    out: &mut N,
+) -> bool
     requires live { IsTrue (is_there scripts.old key.0) }
     requires owned { (o : Object) → object_at scripts.old key.0 ≡ Some o → OwnEach counted.old (native_keys_where (is_white o) o) counted.old }
     ensures white { option_map is_white (object_at scripts.old key.0) ≡ Some result }

@@ -1,12 +1,10 @@
-use Rattle.std.proofs.Common.{◌≡◌, [], List, map, sym, ◌∙◌, ap, subst}
+use Rattle.std.proofs.Common.{◌≡◌, [], map, sym, ◌∙◌, ap, subst}
 use Rattle.cc_model.specs.declared.item.Item.TheVariants.{Event as of_event}
 use Rattle.cc_model.specs.Colours.{HasColours, HasColourInvariant}
 use Rattle.cc_model.specs.Telling.{Tells}
 use Rattle.cc_model.specs.Texts.{texts_of}
-use Rattle.cc_model.specs.Sweep.{sweep}
 use Rattle.cc_model.specs.View.{view}
-use Rattle.cc_counted.specs.Counts.{Counts, key_left}
-use Rattle.cc_script.specs.Objects.{Object}
+use Rattle.cc_counted.specs.Counts.{key_left}
 use Rattle.cc_heaps.specs.Keyed.{IsInOrder}
 use Rattle.cc_heaps.specs.Changes.{KeepsKeys}
 use Rattle.cc_heaps.specs.Fields.{keyed_of, heap_of, IsLinked}

@@ -1,7 +1,6 @@
 use Rattle.std.proofs.Common.{Option, ◌<◌, sym, subst}
 use Rattle.cc_names.specs.declared.number.SKey.{SKey}
-use Rattle.cc_heaps.proofs.WhitesSwept.{Stands, Sweeps-start, Sweeps-stands, Stands-there, Stands-owned, Sweeps-next, Sweeps-fewer, Sweeps-end, objects_left}
-use Rattle.cc_heaps.proofs.heaps.sweeping.sweep_whites.Given as given
+use Rattle.cc_heaps.proofs.WhitesSwept.{Sweeps-start, Sweeps-stands, Stands-there, Stands-owned, Sweeps-next, Sweeps-fewer, Sweeps-end, objects_left}
 use Rattle.cc_heaps.proofs.heaps.sweeping.sweep_whites.Goals as goal
 
 pub loop-at-init : goal.loop-at-init
@@ -11,8 +10,10 @@ pub next-at-requires : goal.next-at-requires
 next-at-requires g c =
     let stands = Sweeps-stands c.args.scripts.now c.loop-at.scripts c.args.counted.now c.loop-at.counted c.loop-at.at c.in-Some.key c.loop-at.swept
     (g.N.Notices.telling c.args.out.now) (g.N.Notices.telling c.loop-at.out) c.requires.one c.in-Some.is c.loop-at.invariant in
-    record { live = Stands-there c.args.scripts.now c.loop-at.scripts c.args.counted.now c.loop-at.counted c.in-Some.key.0 c.loop-at.swept
-    (g.N.Notices.telling c.args.out.now) (g.N.Notices.telling c.loop-at.out) stands }
+    record {
+      live = Stands-there c.args.scripts.now c.loop-at.scripts c.args.counted.now c.loop-at.counted c.in-Some.key.0 c.loop-at.swept
+          (g.N.Notices.telling c.args.out.now) (g.N.Notices.telling c.loop-at.out) stands;
+    }
 
 pub sweep_one-swept-requires : goal.sweep_one-swept-requires
 sweep_one-swept-requires g c =
@@ -20,9 +21,9 @@ sweep_one-swept-requires g c =
     (g.N.Notices.telling c.args.out.now) (g.N.Notices.telling c.loop-at.out) c.requires.one c.in-Some.is c.loop-at.invariant in
     record {
       live = Stands-there c.args.scripts.now c.loop-at.scripts c.args.counted.now c.loop-at.counted c.in-Some.key.0 c.loop-at.swept
-    (g.N.Notices.telling c.args.out.now) (g.N.Notices.telling c.loop-at.out) stands;
+          (g.N.Notices.telling c.args.out.now) (g.N.Notices.telling c.loop-at.out) stands;
       owned = Stands-owned c.args.scripts.now c.loop-at.scripts c.args.counted.now c.loop-at.counted c.in-Some.key.0 c.loop-at.swept
-    (g.N.Notices.telling c.args.out.now) (g.N.Notices.telling c.loop-at.out) stands;
+          (g.N.Notices.telling c.args.out.now) (g.N.Notices.telling c.loop-at.out) stands;
     }
 
 pub loop-at-smaller : goal.loop-at-smaller
