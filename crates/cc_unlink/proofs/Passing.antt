@@ -132,7 +132,8 @@ IsInOrder-permuted early late v same i = record {
   one_key = i.one_key;
   whole = i.whole;
   limits = i.limits;
-  alone = i.alone;
+  reflecting = i.reflecting;
+  without_maps = i.without_maps;
 }
 
 -- one that is owned may stand in front
