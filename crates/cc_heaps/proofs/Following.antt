@@ -38,10 +38,9 @@ use Rattle.cc_laws_heap.proofs.CommandsColours.{effects-coloured}
 use Rattle.cc_laws_heap.proofs.CommandsSound.{effects-sound}
 use Rattle.cc_laws_heap.proofs.Taken.{IsTaken}
 use Rattle.cc_laws_heap.proofs.NativeCommands.{names_there-take_up, hold_native-sound, make_native-sound}
-use Rattle.cc_laws_heap.proofs.NativesKeepScripts.{SameScripts, SameScripts-coloured, hold_native-scripts, make_native-scripts}
+use Rattle.cc_laws_heap.proofs.NativesKeepScripts.{SameScripts, SameScripts-coloured, hold_native-scripts, make_native-scripts, SameScripts-take_up}
 use Rattle.cc_laws_heap.proofs.Owning.{IsIn, let_go-sound, take_up-sound}
 use Rattle.cc_laws_heap.proofs.Cascades.{cascade-frees}
-use Rattle.cc_laws_heap.proofs.HoldsTheSame.{HoldsTheSame-take_up}
 use Rattle.cc_laws_heap.proofs.Writes.{native_slot-sound}
 use Rattle.cc_laws_heap.proofs.ScriptsKept.{exposed-sound, hold_script-sound, native-no_script, script_slot-sound}
 use Rattle.cc_laws_snapshot.specs.Losing.{IsLoyal}
@@ -213,12 +212,6 @@ let_go-scripts h (Some (name.Native k)) s =
 let_go-scripts h (Some (name.Script k)) s = record { scripts = refl; registers = refl }
 let_go-scripts h (Some (name.Reflector k)) s = record { scripts = refl; registers = refl }
 
--- and so does a reference taken
-take_up-scripts : (h : Heap) (x : Option Name) → SameScripts h (take_up h x)
-take_up-scripts h x =
-    let b = (HoldsTheSame-take_up h x).beside in
-    record { scripts = b.scripts; registers = b.script_registers }
-
 -- a slot whose new reference is taken
 module _ (t : Heap) (k i : ℕ) (x : Option Name) (n : HeapNative) (found : native_at t k ≡ Some n) (within : i < length n.slots)
     (there : IsIn (names_there t) x) (taken : AreTaken t x) (black : IsHeldBlack t.scripts x) (s : IsSound (numbers_of x ++ []) t) where
@@ -255,7 +248,7 @@ stored_in-follows h k i x within there black s = go (native_at t k) refl (subst 
     t = take_up h x
 
     same : SameScripts h t
-    same = take_up-scripts h x
+    same = SameScripts-take_up h x
 
     go : (o : Option HeapNative) → native_at t k ≡ o → i < length (slots_now o) → Follows h (let_go (change_native t k (with_native_slot i x)) (get_or (slots_now o) i None)).heap
     go None e l = absurd (omega arith)

@@ -38,7 +38,7 @@ SameScripts-trans : (h g f : Heap) → SameScripts h g → SameScripts g f → S
 SameScripts-trans h g f s t = record { scripts = t.scripts ∙ s.scripts; registers = t.registers ∙ s.registers }
 
 -- a reference taken leaves them
-SameScripts-take_up : (h : Heap) (x : Option Name) → SameScripts h (take_up h x)
+pub SameScripts-take_up : (h : Heap) (x : Option Name) → SameScripts h (take_up h x)
 SameScripts-take_up h x = SameScripts-beside h (take_up h x) (HoldsTheSame-take_up h x).beside
 
 -- what a register or a slot held is given up

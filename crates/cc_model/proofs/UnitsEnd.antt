@@ -266,7 +266,7 @@ units_done-stops (suc n) d enough = go (units_done-stops n) d.progress refl
     go ih refused e = λ f. absurd (cc)
 
 -- once a collection has ended, more units change nothing
-units_done-done : (n : ℕ) (d : UnitsDone) → d.progress ≢ went_on → units_done n d ≡ d
+pub units_done-done : (n : ℕ) (d : UnitsDone) → d.progress ≢ went_on → units_done n d ≡ d
 unfolding units_done
 units_done-done zero d stopped = refl
 units_done-done (suc n) d stopped = go d.progress refl
