@@ -5,18 +5,18 @@ use Rattle.cc_names.specs.declared.name.Name.{Name}
 use Rattle.cc_names.specs.declared.kind.Kind.TheVariants.{Plain}
 use Rattle.cc_names.specs.declared.register.Reg.{Reg}
 use Rattle.cc_names.specs.declared.register.Reg.TheVariants.{N, S}
-use Rattle.cc_names.specs.Names.{native, object}
+use Rattle.cc_names.specs.Names.{native, object, reflector}
 use Rattle.cc_model.specs.declared.command.Command.{Command}
 use Rattle.cc_model.specs.declared.command.Command.TheVariants as command
-use Rattle.cc_model.specs.declared.command.Command.TheVariants.{Native, Script, CopyNative, CopyScript, Drop, Set, Get, Put, Take, Expose}
+use Rattle.cc_model.specs.declared.command.Command.TheVariants.{Native, Script, CopyNative, CopyScript, Drop, Set, Get, Put, Take, Wrap, Unwrap, Preserve, Expose}
 use Rattle.cc_model.specs.declared.item.Refusal.{Refusal}
 use Rattle.cc_model.specs.declared.item.Refusal.TheVariants.{Full, NoMemory}
 use Rattle.cc_model.specs.declared.item.Reply.{Reply}
 use Rattle.cc_model.specs.declared.item.Reply.TheVariants.{Named, Done, Refused}
 use Rattle.cc_model.specs.Telling.{Telling, TellsEvents}
-use Rattle.cc_model.specs.Checks.{Objects, lacks_object, has_wrong_object, has_no_slot, has_wrong_content, is_full, slots_at, slot_at, named_or_nothing, refusal_of, reply_if_taken}
-use Rattle.cc_model.specs.Heap.{Heap, Outcome, register, source, objects_of, set_register, set_slot, preserve}
-use Rattle.cc_model.specs.Effects.{effects, hold_native, hold_script, make_native, make_object, store_native, takes_memory}
+use Rattle.cc_model.specs.Checks.{Objects, lacks_object, has_wrong_object, has_no_slot, has_wrong_content, is_full, slots_at, slot_at, native_of, reflector_of, named_or_nothing, refusal_of, reply_if_taken}
+use Rattle.cc_model.specs.Heap.{Heap, Outcome, register, source, objects_of, set_register, preserve}
+use Rattle.cc_model.specs.Effects.{effects, hold_native, hold_script, make_native, make_object, put_in_script, store_native, takes_memory, wrapped}
 use Rattle.cc_model.specs.Exposure.{exposed}
 use Rattle.cc_model.proofs.Tellings.{Tells-nil}
 use Rattle.cc_laws_heap.proofs.Taken.{IsTaken-from}
@@ -157,6 +157,15 @@ module _ (old new : Heap) (reply : Reply) (before after : Telling) where
     told = subst (λ y. Told (hold_native old d y)) e t;
   }
 
+  pub carried-unwrap : (d s : ℕ) (x : Option Name) → x ≡ native_of (register old (S s)) → reply ≡ named_or_nothing x →
+      new ≡ (hold_native old d x).heap → Told (hold_native old d x) → IsCarriedOut (Unwrap d s) old new reply before after
+  unfolding effects reply_if_taken
+  carried-unwrap d s x e r h t = record {
+    reply_is = r ∙ ap named_or_nothing e;
+    heap = h ∙ ap (λ y. (hold_native old d y).heap) e;
+    told = subst (λ y. Told (hold_native old d y)) e t;
+  }
+
 -- and tells nothing
 
 module _ (old new : Heap) (reply : Reply) (t : Telling) where
@@ -182,19 +191,28 @@ module _ (old new : Heap) (reply : Reply) (t : Telling) where
   unfolding effects reply_if_taken
   carried-get_script d s i x e r h = record { reply_is = r ∙ ap named_or_nothing e; heap = h ∙ ap (hold_script old d) e; told = Tells-nil t }
 
-  pub carried-put : (d i : ℕ) (from : Option ℕ) (x : Option Name) → x ≡ source old (option_map S from) → preserve old (register old (S d)) ≡ old → reply ≡ Done →
-      new ≡ set_slot old (register old (S d)) i x → IsCarriedOut (Put d i from) old new reply t t
+  pub carried-put : (d i : ℕ) (from : Option ℕ) (x : Option Name) → x ≡ source old (option_map S from) → reply ≡ Done →
+      new ≡ put_in_script old (register old (S d)) i x → IsCarriedOut (Put d i from) old new reply t t
   unfolding effects reply_if_taken
-  carried-put d i from x e same r h = record {
-    reply_is = r;
-    heap = h ∙ (ap (set_slot old (register old (S d)) i) e ∙ ap (λ g. set_slot g (register old (S d)) i (source old (option_map S from))) (sym same));
-    told = Tells-nil t;
-  }
+  carried-put d i from x e r h = record { reply_is = r; heap = h ∙ ap (put_in_script old (register old (S d)) i) e; told = Tells-nil t }
 
   pub carried-take : (d s i : ℕ) (x : Option Name) → x ≡ slot_at (objects_of old) (S s) i → reply ≡ named_or_nothing x →
       new ≡ hold_script old d x → IsCarriedOut (Take d s i) old new reply t t
   unfolding effects reply_if_taken
   carried-take d s i x e r h = record { reply_is = r ∙ ap named_or_nothing e; heap = h ∙ ap (hold_script old d) e; told = Tells-nil t }
+
+  pub carried-wrap : (d s k : ℕ) → register old (N s) ≡ Some (native k) → reply ≡ Named (reflector k) →
+      new ≡ set_register (wrapped old (Some (native k))) (S d) (Some (reflector k)) → IsCarriedOut (Wrap d s) old new reply t t
+  unfolding effects reply_if_taken
+  carried-wrap d s k held r h = record {
+    reply_is = r ∙ ap (λ x. named_or_nothing (reflector_of x)) (sym held);
+    heap = h ∙ ap (λ x. set_register (wrapped old x) (S d) (reflector_of x)) (sym held);
+    told = Tells-nil t;
+  }
+
+  pub carried-preserve : (s : ℕ) → reply ≡ Done → new ≡ preserve old (register old (S s)) → IsCarriedOut (Preserve s) old new reply t t
+  unfolding effects reply_if_taken
+  carried-preserve s r h = record { reply_is = r; heap = h; told = Tells-nil t }
 
   pub carried-expose : (s i : ℕ) (x : Option Name) → x ≡ slot_at (objects_of old) (N s) i → reply ≡ named_or_nothing x →
       new ≡ exposed old x → IsCarriedOut (Expose s i) old new reply t t

@@ -1,9 +1,17 @@
 -- WHAT FOLLOWS WHERE A COMMAND IS ANSWERED, by the laws: the reply is the graph's, the heaps go on standing for the graph,
 -- snapshots stay fresh, colours keep their invariant, and counts stay small.
-use Rattle.std.proofs.Common.{◌≡◌, ◌≢◌, Bool, true, false, [], Option, Some, None, IsTrue, refl, sym, ◌∙◌, ap, subst, inl, inr, ◌⊎◌, ⊎_elim, arith}
-use Rattle.std.proofs.lemmas.Bool.{false≢true}
+use Rattle.std.proofs.Common.{◌≡◌, ◌≢◌, ℕ, Bool, true, false, not, List, [], ◌++◌, Option, Some, None, IsTrue, refl, sym, ◌∙◌, ap, subst, inl, inr, ◌⊎◌, ⊎_elim, arith}
+use Rattle.std.specs.List.{filter}
+use Rattle.std.proofs.lemmas.Bool.{false≢true, not-true}
+use Rattle.cc_lists.specs.Members.{Among, has}
+use Rattle.cc_lists.proofs.Members.{Among-append, Among-filter, Among-map_cases, Among-right, has-among}
+use Rattle.cc_names.specs.declared.name.Name.{Name}
+use Rattle.cc_names.specs.declared.name.Name.TheVariants as name
+use Rattle.cc_names.specs.declared.register.Reg.TheVariants.{N}
+use Rattle.cc_names.specs.Names.{native, reflector, same_name, is_native, is_script}
+use Rattle.cc_names.proofs.NameTests.{same_name-exact}
 use Rattle.cc_model.specs.declared.command.Command.{Command}
-use Rattle.cc_model.specs.declared.command.Command.TheVariants.{Native, Script, CopyNative, CopyScript, Drop, Set, Get, Put, Take, Expose}
+use Rattle.cc_model.specs.declared.command.Command.TheVariants.{Native, Script, CopyNative, CopyScript, Drop, Set, Get, Put, Take, Wrap, Unwrap, Preserve, Expose}
 use Rattle.cc_model.specs.declared.item.Refusal.{Refusal}
 use Rattle.cc_model.specs.declared.item.Refusal.TheVariants.{NoMemory}
 use Rattle.cc_model.specs.declared.item.Reply.{Reply}
@@ -11,17 +19,20 @@ use Rattle.cc_model.specs.declared.item.Reply.TheVariants.{Refused}
 use Rattle.cc_model.specs.Telling.{Telling}
 use Rattle.cc_model.specs.AppliedNow.{is_applied}
 use Rattle.cc_model.specs.Ranges.{in_range}
-use Rattle.cc_model.specs.Checks.{refusal_of, refused_or, reply_if_taken}
+use Rattle.cc_model.specs.Checks.{refusal_of, reflector_of, refused_or, reply_if_taken}
 use Rattle.cc_model.specs.Colours.{HasColourInvariant}
-use Rattle.cc_model.specs.Effects.{effects, takes_memory}
+use Rattle.cc_model.specs.Effects.{effects, lacks_reflector, takes_memory}
 use Rattle.cc_model.specs.Fresh.{IsFresh}
 use Rattle.cc_model.specs.Graph.{Graph, step, reply_to, unless_refused, changed}
 use Rattle.cc_model.specs.Graph as graph
-use Rattle.cc_model.specs.Heap.{Heap, objects_of}
-use Rattle.cc_model.specs.Lawful.{State, RepliesWith, graph_after, is_without_memory, may_want_memory}
+use Rattle.cc_model.specs.Heap.{Heap, HeapNative, has_reflector, objects_of, register}
+use Rattle.cc_model.specs.Lawful.{State, RepliesWith, graph_after, is_listed, is_without_memory, may_want_memory}
+use Rattle.cc_model.specs.Listed.{census_order}
+use Rattle.cc_model.specs.Run.{census_names}
 use Rattle.cc_model.specs.Snapshot.{Snapshot}
 use Rattle.cc_model.specs.StandsFor.{StandsFor}
 use Rattle.cc_model.specs.View.{view}
+use Rattle.cc_model.specs.WellFormed.{native_names, script_names}
 use Rattle.cc_model.specs.WellMade.{IsWellMade}
 use Rattle.cc_model.proofs.Replies.{is_without_memory-true}
 use Rattle.cc_laws_heap.proofs.Taken.{IsTaken-from}
@@ -29,6 +40,7 @@ use Rattle.cc_laws_heap.proofs.Coloured.{AreColoured-from_view, HasColourInvaria
 use Rattle.cc_laws_heap.proofs.CommandsColours.{effects-coloured}
 use Rattle.cc_laws_heap.proofs.CommandsSound.{effects-sound}
 use Rattle.cc_laws_heap.proofs.GraphCommands.{step-well}
+use Rattle.cc_laws_heap.proofs.Holding.{has_reflector-none}
 use Rattle.cc_laws_heap.proofs.CommandsStand.{command-stands}
 use Rattle.cc_laws_heap.proofs.CountBound.{count-bound}
 use Rattle.cc_laws_heap.proofs.RepliesAlike.{refusal_of-alike, reply_if_taken-alike, objects-stand}
@@ -43,19 +55,46 @@ use Rattle.cc_mutator.specs.Commands.{IsApplied}
 with-memory : (r : Reply) → is_without_memory r ≡ false → r ≢ Refused NoMemory
 with-memory r e f = let t : is_without_memory r ≡ true = ap is_without_memory f in absurd (cc)
 
--- a command that takes memory here may want it
-takes-may_want : (h : Heap) (s : State) (c : Command) → IsTrue (is_applied c) → takes_memory h c ≡ true → IsTrue (may_want_memory s c)
-takes-may_want h s (Native d n) applied takes = refl
-takes-may_want h s (Script d n) applied takes = refl
-takes-may_want h s (CopyNative d r) applied takes = absurd (false≢true takes)
-takes-may_want h s (CopyScript d r) applied takes = absurd (false≢true takes)
-takes-may_want h s (Drop r) applied takes = absurd (false≢true takes)
-takes-may_want h s (Set d i r) applied takes = absurd (false≢true takes)
-takes-may_want h s (Get r n i) applied takes = absurd (false≢true takes)
-takes-may_want h s (Put d i r) applied takes = absurd (false≢true takes)
-takes-may_want h s (Take d r i) applied takes = absurd (false≢true takes)
-takes-may_want h s (Expose r i) applied takes = absurd (false≢true takes)
-takes-may_want h s _ applied takes = absurd (false≢true applied)
+-- what is listed as it is there is listed only where it is there: no reflector of a native that has none
+reflector-unlisted : (h : Heap) (names : List Name) (k : ℕ) → census_names h ≡ census_order names → has_reflector h k ≡ false → has same_name names (reflector k) ≡ false
+reflector-unlisted h names k listed none = go (has same_name names (reflector k)) refl
+  where
+    unnamed : Among (reflector k) (native_names h) → ⊥
+    unnamed m = let n = Among-map_cases (λ (n : HeapNative). native n.number) h.natives (reflector k) m in let e : native n.0.number ≡ reflector k = n.2 in cc
+
+    go : (b : Bool) → has same_name names (reflector k) ≡ b → b ≡ false
+    go false e = refl
+    go true e =
+        let member = has-among same_name same_name-exact names (reflector k) e in
+        let in_census : Among (reflector k) (census_order names) =
+        Among-right (reflector k) (filter is_native names) (filter is_script names) (Among-filter is_script (reflector k) names member refl) in
+        let there : Among (reflector k) (native_names h ++ script_names h) = subst (Among (reflector k)) (sym listed) in_census in
+        ⊎_elim (λ m. absurd (unnamed m)) (λ m. absurd (has_reflector-none h k none m)) (Among-append (reflector k) (native_names h) (script_names h) there)
+
+-- a command that takes memory here may want it, where the listed names are those that are there
+takes-may_want : (h : Heap) (s : State) (c : Command) → StandsFor h s.graph → census_names h ≡ census_order s.listed → IsTrue (is_applied c) → takes_memory h c ≡ true →
+    IsTrue (may_want_memory s c)
+takes-may_want h s (Native d n) stands listed applied takes = refl
+takes-may_want h s (Script d n) stands listed applied takes = refl
+takes-may_want h s (CopyNative d r) stands listed applied takes = absurd (false≢true takes)
+takes-may_want h s (CopyScript d r) stands listed applied takes = absurd (false≢true takes)
+takes-may_want h s (Drop r) stands listed applied takes = absurd (false≢true takes)
+takes-may_want h s (Set d i r) stands listed applied takes = absurd (false≢true takes)
+takes-may_want h s (Get r n i) stands listed applied takes = absurd (false≢true takes)
+takes-may_want h s (Put d i r) stands listed applied takes = absurd (false≢true takes)
+takes-may_want h s (Take d r i) stands listed applied takes = absurd (false≢true takes)
+takes-may_want h s (Wrap d n) stands listed applied takes =
+    subst (λ x. not (is_listed s.listed (reflector_of x)) ≡ true) ((objects-stand h s.graph stands).register (N n)) (go (register h (N n)) takes)
+  where
+    go : (x : Option Name) → lacks_reflector h x ≡ true → not (is_listed s.listed (reflector_of x)) ≡ true
+    go None e = absurd (false≢true e)
+    go (Some (name.Native k)) e = ap not (reflector-unlisted h s.listed k.0 listed (not-true (has_reflector h k.0) e))
+    go (Some (name.Script k)) e = absurd (false≢true e)
+    go (Some (name.Reflector k)) e = absurd (false≢true e)
+takes-may_want h s (Unwrap d r) stands listed applied takes = absurd (false≢true takes)
+takes-may_want h s (Preserve r) stands listed applied takes = absurd (false≢true takes)
+takes-may_want h s (Expose r i) stands listed applied takes = absurd (false≢true takes)
+takes-may_want h s _ stands listed applied takes = absurd (false≢true applied)
 
 module _ (c : Command) (old new : Keyed) (reply : Reply) (before after : Telling) (a : IsApplied c old new reply before after) where
   -- WHAT HAPPENED: nothing, or the effects of the command, where it is not refused
@@ -68,9 +107,9 @@ module _ (c : Command) (old new : Keyed) (reply : Reply) (before after : Telling
       go None e true f = inl (ap (λ (v : Keyed). v.heap) (a.memory (is_without_memory-true reply f)).2)
       go None e false f = inr (e, (a.done e (with-memory reply f)).heap)
 
-  -- THE REPLY IS THE GRAPH'S, for each graph that the heaps stand for, or want of memory
-  pub applied-replies : IsTrue (is_applied c) → (s : State) → StandsFor old.heap s.graph → RepliesWith s c reply
-  applied-replies applied s stands = go (refusal_of (objects_of old.heap) c) refl (is_without_memory reply) refl
+  -- THE REPLY IS THE GRAPH'S, for each graph that the heaps stand for, or want of memory, where the listed names are those there
+  pub applied-replies : IsTrue (is_applied c) → (s : State) → StandsFor old.heap s.graph → census_names old.heap ≡ census_order s.listed → RepliesWith s c reply
+  applied-replies applied s stands listed = go (refusal_of (objects_of old.heap) c) refl (is_without_memory reply) refl
     where
       alike : refusal_of (objects_of old.heap) c ≡ refusal_of (graph.objects_of s.graph) c
       alike = refusal_of-alike (objects_of old.heap) (graph.objects_of s.graph) (objects-stand old.heap s.graph stands) c
@@ -83,7 +122,7 @@ module _ (c : Command) (old new : Keyed) (reply : Reply) (before after : Telling
       go (Some r) e b f = inl ((a.refused r e).0 ∙ refusing (Some r) e)
       go None e true f =
           let without : reply ≡ Refused NoMemory = is_without_memory-true reply f in
-          inr (record { refused = without; command_may = takes-may_want old.heap s c applied (a.memory without).1; no_other = sym alike ∙ e })
+          inr (record { refused = without; command_may = takes-may_want old.heap s c stands listed applied (a.memory without).1; no_other = sym alike ∙ e })
       go None e false f = inl ((a.done e (with-memory reply f)).reply_is
           ∙ (reply_if_taken-alike (objects_of old.heap) (graph.objects_of s.graph) (objects-stand old.heap s.graph stands) c ∙ refusing None e))
 

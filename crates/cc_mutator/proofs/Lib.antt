@@ -3,6 +3,7 @@ pub mod NativesRead
 pub mod ScriptsRead
 pub mod Exposing
 pub mod Refusing
+pub mod Reflecting
 pub mod Storing
 pub mod Carrying
 pub mod Following

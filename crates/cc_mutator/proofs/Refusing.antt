@@ -1,14 +1,17 @@
 -- WHEN A COMMAND IS REFUSED, by the tests in their order.
-use Rattle.std.proofs.Common.{◌≡◌, ℕ, Bool, true, false, ◌||◌, [], ◌∷◌, map, length, nat_le, Option, Some, None, refl, sym, ◌∙◌, ap}
+use Rattle.std.proofs.Common.{◌≡◌, ℕ, Bool, true, false, not, ◌||◌, [], ◌∷◌, map, length, nat_le, Option, Some, None, is_some, option_map, refl, sym, ◌∙◌, ap}
 use Rattle.std.specs.Prelude.{is_none, option_to_list}
 use Rattle.std.specs.List.{list_any}
+use Rattle.cc_names.specs.declared.name.Name.{Name}
+use Rattle.cc_names.specs.declared.name.Name.TheVariants as name
 use Rattle.cc_names.specs.declared.register.Reg.{Reg}
 use Rattle.cc_names.specs.declared.register.Reg.TheVariants.{N, S}
+use Rattle.cc_names.specs.Names.{is_reflector}
 use Rattle.cc_model.specs.declared.command.Command.{Command}
-use Rattle.cc_model.specs.declared.command.Command.TheVariants.{CopyNative, CopyScript, Drop, Set, Get, Put, Take, Expose}
+use Rattle.cc_model.specs.declared.command.Command.TheVariants.{CopyNative, CopyScript, Drop, Set, Get, Put, Take, Wrap, Unwrap, Preserve, Expose}
 use Rattle.cc_model.specs.declared.item.Refusal.{Refusal}
 use Rattle.cc_model.specs.declared.item.Refusal.TheVariants.{Empty, Kind, Slot, Full}
-use Rattle.cc_model.specs.Checks.{Objects, slot_at, slots_at, lacks_object, has_wrong_object, has_no_slot, has_wrong_content, is_map_in, is_native_there, is_script_there, is_full, first_refusal, refusal_of}
+use Rattle.cc_model.specs.Checks.{Objects, slot_at, slots_at, lacks_object, has_wrong_object, has_no_slot, has_wrong_content, is_map_in, is_reflector_there, native_of, is_native_there, is_script_there, is_full, first_refusal, refusal_of}
 
 -- what is answered by the five tests
 abbrev pub refusal_by : Bool → Bool → Bool → Bool → Bool → Option Refusal
@@ -45,6 +48,30 @@ pub slot-there : (lacks slot : Bool) → refusal_by_slot lacks slot ≡ None →
 slot-there true slot e = absurd (cc)
 slot-there false true e = absurd (cc)
 slot-there false false e = refl
+
+-- what is answered of what a register holds: it must be there, and be a reflector
+abbrev pub refusal_by_kind : Option Name → Option Refusal
+refusal_by_kind x = first_refusal ((is_none x, Empty) ∷ (not (is_reflector_there x), Kind) ∷ [])
+
+object-alone : (lacks wrong : Bool) → refusal_by (lacks || false) wrong false false false ≡ first_refusal ((lacks, Empty) ∷ (wrong, Kind) ∷ [])
+object-alone true wrong = refl
+object-alone false true = refl
+object-alone false false = refl
+
+-- a reflector is not refused, and another object is
+pub kind-told : (x : Option Name) (b : Bool) → option_map is_reflector x ≡ Some b → refusal_by_kind x ≡ elim b [ true ↦ None | false ↦ Some Kind ]
+kind-told None b e = absurd (cc)
+kind-told (Some x) b e = let is : is_reflector x ≡ b = cc in ap (λ c. first_refusal ((not c, Kind) ∷ [])) is ∙ by b
+  where
+    by : (b : Bool) → first_refusal ((not b, Kind) ∷ []) ≡ elim b [ true ↦ None | false ↦ Some Kind ]
+    by true = refl
+    by false = refl
+
+-- it is a reflector where it has a native
+pub native-told : (x : Name) → option_map is_reflector (Some x) ≡ Some (is_some (native_of (Some x)))
+native-told (name.Native k) = refl
+native-told (name.Script k) = refl
+native-told (name.Reflector k) = refl
 
 -- the first of the tests
 pub refusal-by : (o : Objects) (c : Command) (lacks wrong slot content full : Bool) → lacks_object o c ≡ lacks → has_wrong_object o c ≡ wrong →
@@ -96,3 +123,18 @@ module _ (o : Objects) where
 
   pub refusal-take : (d s i : ℕ) → is_map_in o (o.register (S s)) ≡ false → refusal_of o (Take d s i) ≡ of_slot (S s) i
   refusal-take d s i m = refusal-by o (Take d s i) _ false _ _ _ refl m refl refl refl ∙ slot-source _ false _
+
+  -- a native wrapped
+  pub refusal-wrap : (d s : ℕ) → refusal_of o (Wrap d s) ≡ first_refusal ((is_none (o.register (N s)), Empty) ∷ [])
+  refusal-wrap d s = refusal-by o (Wrap d s) _ false false false false refl refl refl refl refl ∙ alone (is_none (o.register (N s)))
+    where
+      alone : (b : Bool) → refusal_by (b || false) false false false false ≡ first_refusal ((b, Empty) ∷ [])
+      alone true = refl
+      alone false = refl
+
+  -- a reflector unwrapped or preserved
+  pub refusal-unwrap : (d s : ℕ) → refusal_of o (Unwrap d s) ≡ refusal_by_kind (o.register (S s))
+  refusal-unwrap d s = refusal-by o (Unwrap d s) _ _ false false false refl refl refl refl refl ∙ object-alone _ _
+
+  pub refusal-preserve : (s : ℕ) → refusal_of o (Preserve s) ≡ refusal_by_kind (o.register (S s))
+  refusal-preserve s = refusal-by o (Preserve s) _ _ false false false refl refl refl refl refl ∙ object-alone _ _

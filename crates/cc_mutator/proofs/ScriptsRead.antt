@@ -1,36 +1,38 @@
 -- THE SCRIPT OBJECT THAT A REGISTER HOLDS, by its key: its slots, what they hold, and its colour.
-use Rattle.std.proofs.Common.{◌≡◌, ℕ, ◌==◌, ◌≤◌, true, false, List, map, length, get_or, count_by, Option, Some, None, is_some, option_map, option_and_then, IsTrue, IfSome, refl, sym, ◌∙◌, ap, subst, inl}
+use Rattle.std.proofs.Common.{◌≡◌, ℕ, ◌==◌, ◌≤◌, true, false, List, map, length, get_or, Option, Some, None, is_some, option_map, option_and_then, IsTrue, IfSome, refl, sym, ◌∙◌, ap, subst, inl, ⊎_elim, arith}
 use Rattle.std.specs.Option.{option_to_list}
 use Rattle.std.specs.Prelude.{is_none}
 use Rattle.std.proofs.Math.ListN.{get_or-map}
-use Rattle.std.proofs.Math.Path.{fun_ext}
 use Rattle.std.proofs.lemmas.Bool.{false≢true}
 use Rattle.std.proofs.lemmas.List.{length-map}
 use Rattle.cc_lists.specs.Members.{Among}
 use Rattle.cc_lists.proofs.Members.{Among-map_cases}
-use Rattle.cc_lists.proofs.Counting.{count_by-map}
 use Rattle.cc_lists.proofs.Filtering.{find-among}
+use Rattle.cc_lists.proofs.ListWrites.{only-member}
 use Rattle.cc_lists.proofs.Places.{among-get}
 use Rattle.cc_lists.proofs.Searching.{find-only}
 use Rattle.cc_names.specs.declared.name.Name.{Name}
+use Rattle.cc_names.specs.declared.name.Name.TheVariants as name
 use Rattle.cc_names.specs.declared.number.SKey.{SKey}
+use Rattle.cc_names.specs.declared.kind.Kind.{Kind}
+use Rattle.cc_names.specs.declared.kind.Kind.TheVariants.{Plain, Reflector, Map}
 use Rattle.cc_names.specs.declared.kind.Colour.TheVariants.{Black}
 use Rattle.cc_names.specs.declared.register.Reg.TheVariants.{S}
-use Rattle.cc_names.specs.Names.{object, same_name}
+use Rattle.cc_names.specs.Names.{is_script, same_name}
 use Rattle.cc_names.proofs.NameTests.{same_name-refl}
-use Rattle.cc_model.specs.Slots.{contents}
+use Rattle.cc_model.specs.Slots.{Slots, contents}
 use Rattle.cc_model.specs.Checks.{is_map_in, slots_or_none, slot_at, slots_at}
-use Rattle.cc_model.specs.Heap.{HeapScript, objects_of, preserve, register, script_at, source, slots_in, slots_of_kind, slots_of_script}
+use Rattle.cc_model.specs.Heap.{Heap, HeapScript, objects_of, register, script_at, source, slots_in, slots_of_kind, slots_of_script}
 use Rattle.cc_model.specs.WellFormed.{FitsName}
 use Rattle.cc_laws_heap.proofs.Coloured.{IsColoured}
-use Rattle.cc_laws_heap.proofs.NameLists.{same_name-sym}
+use Rattle.cc_laws_heap.proofs.ColourChanges.{IsHeldBlack}
+use Rattle.cc_laws_heap.proofs.ScriptNames.{script-named, scripts-once}
 use Rattle.cc_laws_heap.proofs.Writes.{contents-at}
 use Rattle.cc_script.specs.Objects.{Object, object_at, is_there, name_at, colour_at}
 use Rattle.cc_script.specs.Objects as objects
 use Rattle.cc_heaps.specs.Keyed.{Keyed, IsInOrder, name_held, named_object}
 use Rattle.cc_heaps.specs.Changes.{IsScriptThere, script_name}
 use Rattle.cc_heaps.proofs.ContentNames.{object-there}
-use Rattle.cc_heaps.proofs.PlainNames.{plain-named}
 
 -- the script object at a key, which a register holds
 pub record IsObjectAt (v : Keyed) (r key : ℕ) : Type 0 where
@@ -38,27 +40,41 @@ pub record IsObjectAt (v : Keyed) (r key : ℕ) : Type 0 where
   pub at : object_at v.scripts key ≡ Some object
   pub held : register v.heap (S r) ≡ Some object.name
 
-module _ (owned : List ℕ) (v : Keyed) (order : IsInOrder owned v) where
-  -- script objects of one name are one
-  one-name : (x : Name) → count_by (λ (o : HeapScript). same_name o.name x) v.heap.scripts ≤ 1
-  one-name x = subst (λ n. n ≤ 1)
-      (count_by-map (same_name x) (λ (o : HeapScript). o.name) v.heap.scripts
-      ∙ ap (λ p. count_by p v.heap.scripts) (fun_ext (λ (o : HeapScript). same_name-sym x o.name)))
-      (order.sound.well_formed.distinct x)
+-- a script object is found by its name
+slots_in-script : (h : Heap) (x : Name) → is_script x ≡ true → slots_in h x ≡ option_and_then slots_of_script (script_at h x)
+slots_in-script h (name.Native k) e = absurd (false≢true e)
+slots_in-script h (name.Script k) e = refl
+slots_in-script h (name.Reflector k) e = refl
 
+-- what is no weak map has slots
+slots_of_kind-no_map : (kind : Kind) (slots : Slots) → ¬ (kind ≡ Map) → slots_of_kind kind slots ≡ Some slots
+slots_of_kind-no_map Plain slots n = refl
+slots_of_kind-no_map Reflector slots n = refl
+slots_of_kind-no_map Map slots n = absurd (n refl)
+
+-- at most 64 of them: a reflector has four
+fits-few : (x : Name) (kind : Kind) (slots : Slots) → FitsName x kind slots → length slots ≤ 64
+fits-few (name.Native k) kind slots f = absurd f
+fits-few (name.Script k) Plain slots f = f
+fits-few (name.Script k) Map slots f = omega (arith, ap length f)
+fits-few (name.Script k) Reflector slots f = absurd f
+fits-few (name.Reflector k) Reflector slots f = omega (arith, f)
+fits-few (name.Reflector k) Plain slots f = absurd f
+fits-few (name.Reflector k) Map slots f = absurd f
+
+module _ (owned : List ℕ) (v : Keyed) (order : IsInOrder owned v) where
   -- the slots of a script object that is there
   slots-of_object : (o : HeapScript) → Among o v.heap.scripts → slots_in v.heap o.name ≡ Some o.slots
   slots-of_object o m =
-      let plain = plain-named o.name o.slots (subst (λ kind. FitsName o.name kind o.slots) (order.alone.plain o m) (order.sound.well_formed.kinds o m)) in
-      let found : script_at v.heap (object plain.0) ≡ Some o =
-      find-only (λ (p : HeapScript). same_name p.name (object plain.0)) v.heap.scripts o (one-name (object plain.0)) m
-      (ap (λ x. same_name x (object plain.0)) plain.1 ∙ same_name-refl (object plain.0)) in
-      ap (slots_in v.heap) plain.1 ∙ (ap (λ f. option_and_then slots_of_script f) found ∙ ap (λ kind. slots_of_kind kind o.slots) (order.alone.plain o m))
+      let well = order.sound.well_formed in
+      let found : script_at v.heap o.name ≡ Some o =
+      find-only (λ (p : HeapScript). same_name p.name o.name) v.heap.scripts o (scripts-once v.heap well o.name) m (same_name-refl o.name) in
+      slots_in-script v.heap o.name (script-named v.heap well o m)
+      ∙ (ap (λ f. option_and_then slots_of_script f) found ∙ slots_of_kind-no_map o.kind o.slots (order.without_maps.no_maps o m))
 
   -- and they are few
   slots-of_object-few : (o : HeapScript) → Among o v.heap.scripts → length o.slots ≤ 64
-  slots-of_object-few o m =
-      (plain-named o.name o.slots (subst (λ kind. FitsName o.name kind o.slots) (order.alone.plain o m) (order.sound.well_formed.kinds o m))).2
+  slots-of_object-few o m = fits-few o.name o.kind o.slots (order.sound.well_formed.kinds o m)
 
   -- no register holds a weak map
   pub no_map : (r : ℕ) → is_map_in (objects_of v.heap) (register v.heap (S r)) ≡ false
@@ -69,18 +85,6 @@ module _ (owned : List ℕ) (v : Keyed) (order : IsInOrder owned v) where
       go (Some y) h =
           let f = Among-map_cases (λ (o : HeapScript). o.name) v.heap.scripts y (order.sound.well_formed.script_registers y (h y (inl refl))) in
           ap (λ z. is_none (slots_in v.heap z)) (sym f.2) ∙ ap is_none (slots-of_object f.0 f.1)
-
-  -- nor a reflector, which a write would preserve
-  pub preserve-same : (r : ℕ) → preserve v.heap (register v.heap (S r)) ≡ v.heap
-  preserve-same r = go (register v.heap (S r)) (contents-at v.heap.script_registers r)
-    where
-      go : (x : Option Name) → ((y : Name) → Among y (option_to_list x) → Among y (contents v.heap.script_registers)) → preserve v.heap x ≡ v.heap
-      go None h = refl
-      go (Some y) h =
-          let f = Among-map_cases (λ (o : HeapScript). o.name) v.heap.scripts y (order.sound.well_formed.script_registers y (h y (inl refl))) in
-          let o = f.0 in
-          let plain = plain-named o.name o.slots (subst (λ kind. FitsName o.name kind o.slots) (order.alone.plain o f.1) (order.sound.well_formed.kinds o f.1)) in
-          ap (λ z. preserve v.heap (Some z)) (sym f.2 ∙ plain.1)
 
   module _ (r : ℕ) (key : SKey) (name : script_name v (Some key) ≡ register v.heap (S r)) (there : IsTrue (is_there v.scripts key.0)) where
     pub object-at : IsObjectAt v r key.0
@@ -152,3 +156,19 @@ module _ (owned : List ℕ) (v : Keyed) (order : IsInOrder owned v) where
       go : (o : Option Object) → option_map (λ (p : Object). p.name) o ≡ None → is_some o ≡ true → option_map (λ (p : Object). p.colour) o ≡ Some Black
       go None e t = absurd (false≢true t)
       go (Some o) e t = absurd (cc)
+
+  -- WHAT IS BLACK AT ITS KEY is black by its name.
+  pub key-black : (key : SKey) → IsTrue (is_there v.scripts key.0) → colour_at v.scripts key.0 ≡ Some Black → IsHeldBlack v.heap.scripts (script_name v (Some key))
+  key-black key there black = go (object_at v.scripts key.0) refl there
+    where
+      go : (o : Option Object) → object_at v.scripts key.0 ≡ o → is_some o ≡ true → IsHeldBlack v.heap.scripts (script_name v (Some key))
+      go None e t = absurd (false≢true t)
+      go (Some o) e t = λ p m i.
+          let held : script_name v (Some key) ≡ Some o.name = ap (λ (f : Option Object). option_map (λ (q : Object). q.name) f) e in
+          let coloured : Some Black ≡ Some o.colour = sym black ∙ ap (λ (f : Option Object). option_map (λ (q : Object). q.colour) f) e in
+          let same : o.name ≡ p.name = ⊎_elim (λ s. s) (λ n. absurd n) (subst (λ x. Among p.name (option_to_list x)) held i) in
+          let one : p ≡ named_object v.scripts o =
+          only-member (λ (q : HeapScript). same_name q.name o.name) v.heap.scripts p (named_object v.scripts o) (scripts-once v.heap order.sound.well_formed o.name) m
+          (ap (λ x. same_name x o.name) (sym same) ∙ same_name-refl o.name) (object-there owned v order key.0 o e) (same_name-refl o.name) in
+          let is : Black ≡ o.colour = cc in
+          ap (λ (q : HeapScript). q.colour) one ∙ sym is

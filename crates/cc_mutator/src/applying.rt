@@ -2,17 +2,19 @@
 ghost use Rattle.std.specs.Prelude.{◌≡◌, ◌≢◌, ◌<◌, ◌≤◌, IsTrue, IfSome, true, [], length, Some, None};
 ghost use Rattle.cc_names.specs.declared.kind.Colour.TheVariants.{Black};
 ghost use Rattle.cc_names.specs.declared.register.Reg.TheVariants.{N as n_register, S as s_register};
-ghost use Rattle.cc_model.specs.declared.command.Command.TheVariants.{Native, Script, CopyNative, CopyScript, Drop, Set, Get, Put, Take, Expose};
+ghost use Rattle.cc_model.specs.declared.command.Command.TheVariants.{Native, Script, CopyNative, CopyScript, Drop, Set, Get, Put, Take, Wrap, Unwrap, Preserve, Expose};
 ghost use Rattle.cc_model.specs.declared.item.Refusal.{Refusal};
 ghost use Rattle.cc_model.specs.declared.item.Refusal.TheVariants.{NoMemory as no_memory};
 ghost use Rattle.cc_model.specs.declared.item.Reply.TheVariants.{Refused as refused};
 ghost use Rattle.cc_model.specs.Telling.{Telling, TellsEvents};
 ghost use Rattle.cc_model.specs.Checks.{refusal_of, slots_at};
 ghost use Rattle.cc_model.specs.Colours.{HasColourInvariant};
-ghost use Rattle.cc_model.specs.Effects.{store_native, takes_memory};
+ghost use Rattle.cc_model.specs.Effects.{put_in_script, store_native, takes_memory};
 ghost use Rattle.cc_model.specs.Exposure.{exposed};
-ghost use Rattle.cc_model.specs.Heap.{objects_of, register, set_slot};
+ghost use Rattle.cc_model.specs.Heap.{objects_of, register};
 ghost use Rattle.cc_model.specs.Lawful.{State, RepliesWith, graph_after};
+ghost use Rattle.cc_model.specs.Listed.{census_order};
+ghost use Rattle.cc_model.specs.Run.{census_names};
 ghost use Rattle.cc_model.specs.AppliedNow.{is_applied};
 ghost use Rattle.cc_model.specs.Ranges.{in_range};
 ghost use Rattle.cc_model.specs.StandsFor.{StandsFor};
@@ -36,7 +38,7 @@ use crate::reads::{
 use cc_counted::Held;
 use cc_heaps::{Heaps, MakeStop};
 use cc_model::{Command, Notices, Refusal, Reply};
-use cc_names::{Reg, SKey};
+use cc_names::{NoMemory, Reg, SKey};
 
 /// Makes a native.
 fn make_native<N: Notices>(heaps: &mut Heaps, d: u8, slots: u8, out: &mut N) -> Reply
@@ -183,18 +185,21 @@ fn get<N: Notices>(heaps: &mut Heaps, d: Reg, s: u8, i: u32, out: &mut N) -> Rep
     }
 }
 
-/// Writes slot `i` of the script object in a register.
-fn store_plain(heaps: &mut Heaps, d: u8, i: u32, content: Option<SKey>)
+/// Writes slot `i` of the script object in a register; a reflector is preserved before, also where its slot is emptied.
+fn store_script(heaps: &mut Heaps, d: u8, i: u32, content: Option<SKey>)
     requires order { IsInOrder [] heaps.old }
     requires slot { i < length (slots_at (objects_of heaps.old.heap) (s_register d)) }
     requires there { IsScriptThere heaps.old content }
     requires black { IfSome content (λ k. colour_at heaps.old.scripts k.0 ≡ Some Black) }
-    ensures heap { heaps.new.heap ≡ set_slot heaps.old.heap (register heaps.old.heap (s_register d)) i (script_name heaps.old content) }
+    ensures heap { heaps.new.heap ≡ put_in_script heaps.old.heap (register heaps.old.heap (s_register d)) i (script_name heaps.old content) }
     ensures keys { KeepsKeys heaps.old heaps.new }
     ensures order { IsInOrder [] heaps.new }
 {
     match heaps.script_reg(d) {
-        Some(key) => heaps.store_script(key, i as u8, content),
+        Some(key) => {
+            let _is_reflector = cc_wrappers::preserve(heaps, key);
+            heaps.store_script(key, i as u8, content);
+        }
         None => unreachable!(),
     }
 }
@@ -209,7 +214,7 @@ fn put(heaps: &mut Heaps, d: u8, i: u32, from: Option<u8>) -> Reply
         return Reply::Refused(refusal);
     }
     let content = script_source(heaps, from);
-    store_plain(heaps, d, i, content);
+    store_script(heaps, d, i, content);
     Reply::Done
 }
 
@@ -225,6 +230,57 @@ fn take(heaps: &mut Heaps, d: u8, s: u8, i: u32) -> Reply
     let reply = naming_script(heaps, content);
     heaps.set_script_reg(d, content);
     reply
+}
+
+/// Puts the reflector of the native in a register into a script register; it is made where there is none.
+fn wrap(heaps: &mut Heaps, d: u8, s: u8) -> Reply
+    requires order { IsInOrder [] heaps.old }
+    requires colours { HasColourInvariant (view heaps.old.heap) }
+    ensures { (t : Telling) → IsApplied (Wrap d s) heaps.old heaps.new result t t }
+{
+    let Some(key) = heaps.native_reg(s) else {
+        return Reply::Refused(Refusal::Empty);
+    };
+    match cc_wrappers::wrap(heaps, key) {
+        Ok(made) => {
+            let reply = Reply::Named(heaps.scripts().name(made));
+            heaps.set_script_reg(d, Some(made));
+            reply
+        }
+        Err(NoMemory) => Reply::Refused(Refusal::NoMemory),
+    }
+}
+
+/// Puts the native of the reflector in a script register into a native register.
+fn unwrap<N: Notices>(heaps: &mut Heaps, d: u8, s: u8, out: &mut N) -> Reply
+    requires order { IsInOrder [] heaps.old }
+    ensures { IsApplied (Unwrap d s) heaps.old heaps.new result (N.telling out.old) (N.telling out.new) }
+{
+    let Some(object) = heaps.script_reg(s) else {
+        return Reply::Refused(Refusal::Empty);
+    };
+    let content = cc_wrappers::unwrap_of(heaps, object);
+    if content.is_none() {
+        return Reply::Refused(Refusal::Kind);
+    }
+    let reply = naming_native(heaps, content);
+    heaps.set_native_reg(d, content, out);
+    reply
+}
+
+/// Preserves the reflector in a register.
+fn preserve(heaps: &mut Heaps, s: u8) -> Reply
+    requires order { IsInOrder [] heaps.old }
+    ensures { (t : Telling) → IsApplied (Preserve s) heaps.old heaps.new result t t }
+{
+    let Some(key) = heaps.script_reg(s) else {
+        return Reply::Refused(Refusal::Empty);
+    };
+    if cc_wrappers::preserve(heaps, key) {
+        Reply::Done
+    } else {
+        Reply::Refused(Refusal::Kind)
+    }
 }
 
 /// Script touches what a slot held; nothing where the slot was empty.
@@ -272,6 +328,9 @@ fn answer<N: Notices>(heaps: &mut Heaps, command: &Command, out: &mut N) -> Repl
         Command::Get(d, s, i) => get(heaps, d, s, i, out),
         Command::Put(d, i, from) => put(heaps, d, i, from),
         Command::Take(d, s, i) => take(heaps, d, s, i),
+        Command::Wrap(d, s) => wrap(heaps, d, s),
+        Command::Unwrap(d, s) => unwrap(heaps, d, s, out),
+        Command::Preserve(s) => preserve(heaps, s),
         Command::Expose(s, i) => expose(heaps, s, i),
         _ => unreachable!(),
     }
@@ -279,12 +338,16 @@ fn answer<N: Notices>(heaps: &mut Heaps, command: &Command, out: &mut N) -> Repl
 
 /// Does a command of the mutator, and returns the reply to it. What it deletes is told first, however deep it goes.
 ///
-/// A command that is refused changes nothing and tells nothing. Memory is wanted by `native` and `script` alone, where
-/// they are not refused; without it they change nothing and tell nothing either.
+/// A command that is refused changes nothing and tells nothing. Memory is wanted by `native` and `script` alone, and by
+/// `wrap` where the native has no reflector, where they are not refused; without it they change nothing and tell nothing
+/// either.
 ///
 /// The reply is that of each graph that the heaps stand for, or it is want of memory where that graph does not refuse the
-/// command. Afterwards the heaps stand for the graph's step, or without memory for the graph as it was; each snapshot that
-/// was fresh is fresh, and no native that nothing reaches is forgotten, whatever the candidates of a running collection are.
+/// command. Beside the graph go the names that a census would list, which are those of the objects that are there: `wrap`
+/// wants memory only where the reflector is not among them.
+///
+/// Afterwards the heaps stand for the graph's step, or without memory for the graph as it was; each snapshot that was
+/// fresh is fresh, and no native that nothing reaches is forgotten, whatever the candidates of a running collection are.
 pub fn apply<N: Notices>(heaps: &mut Heaps, command: &Command, out: &mut N) -> Reply
     requires applied { IsTrue (is_applied command.now) }
     requires in_range { IsTrue (in_range command.now) }
@@ -297,7 +360,8 @@ pub fn apply<N: Notices>(heaps: &mut Heaps, command: &Command, out: &mut N) -> R
     ensures memory { result ≡ refused no_memory →
         (refusal_of (objects_of heaps.old.heap) command.now ≡ None) × (takes_memory heaps.old.heap command.now ≡ true)
         × (heaps.new ≡ heaps.old) × (N.telling out.new ≡ N.telling out.old) }
-    ensures replies { (s : State) → StandsFor heaps.old.heap s.graph → RepliesWith s command.now result }
+    ensures replies { (s : State) → StandsFor heaps.old.heap s.graph → census_names heaps.old.heap ≡ census_order s.listed →
+        RepliesWith s command.now result }
     ensures stands { StandsAfter heaps.old.heap heaps.new.heap (λ g. graph_after g command.now (Some result)) }
     ensures fresh { KeepsFresh heaps.old.heap heaps.new.heap }
     ensures suspected { KeepsSuspected heaps.old.heap heaps.new.heap }

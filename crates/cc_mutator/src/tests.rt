@@ -18,6 +18,8 @@ const NATIVE: Reply = Reply::Named(Name::Native(NativeNo(1)));
 
 const OBJECT: Reply = Reply::Named(Name::Script(ScriptNo(1)));
 
+const REFLECTOR: Reply = Reply::Named(Name::Reflector(NativeNo(1)));
+
 // At most two natives and two script objects may be made.
 fn empty_heaps(alloc: Global) -> Result<Heaps, NoMemory>
     ensures order { IfOk result (λ h. IsInOrder [] h) }
@@ -35,6 +37,14 @@ fn reply(heaps: &mut Heaps, command: Command, out: &mut Notebook) -> Reply
     ensures colours { HasColourInvariant (view heaps.new.heap) }
 {
     apply(heaps, &command, out)
+}
+
+// Whether the native in register 0 holds its reflector.
+fn is_preserved(heaps: &Heaps) -> bool {
+    match heaps.native_reg(0) {
+        Some(key) => heaps.counted().preserved(key),
+        None => false,
+    }
 }
 
 #[test]
@@ -129,6 +139,91 @@ fn slots_of_script_objects_are_written_and_read(rt: HostRuntime) -> Result<(), F
         assert_eq!(rt; reply(&mut heaps, Command::Take(1, 0, 0), &mut out), OBJECT);
         let empty = reply(&mut heaps, Command::Put(2, 0, None), &mut out);
         assert_eq!(rt; empty, Reply::Refused(Refusal::Empty));
+    }
+    Ok(())
+}
+
+#[test]
+fn native_has_one_reflector(rt: HostRuntime) -> Result<(), Fail> {
+    let mut out = Notebook::new(rt.alloc());
+    if let Ok(mut heaps) = empty_heaps(rt.alloc()) {
+        let _native = reply(&mut heaps, Command::Native(0, 0), &mut out);
+        assert_eq!(rt; reply(&mut heaps, Command::Wrap(0, 0), &mut out), REFLECTOR);
+        assert_eq!(rt; reply(&mut heaps, Command::Wrap(1, 0), &mut out), REFLECTOR);
+        assert_eq!(rt; reply(&mut heaps, Command::Script(2, 0), &mut out), OBJECT);
+        assert_eq!(rt;
+            reply(&mut heaps, Command::CopyScript(3, 1), &mut out),
+            REFLECTOR
+        );
+        let dropped = reply(&mut heaps, Command::Drop(Reg::N(0)), &mut out);
+        assert_eq!(rt; dropped, Reply::Done);
+        assert_eq!(rt; out.text(), b"".as_slice());
+        assert_eq!(rt; reply(&mut heaps, Command::Unwrap(1, 3), &mut out), NATIVE);
+        assert_eq!(rt;
+            reply(&mut heaps, Command::CopyNative(0, 1), &mut out),
+            NATIVE
+        );
+    }
+    Ok(())
+}
+
+#[test]
+fn only_reflectors_are_unwrapped_and_preserved(rt: HostRuntime) -> Result<(), Fail> {
+    let mut out = Notebook::new(rt.alloc());
+    if let Ok(mut heaps) = empty_heaps(rt.alloc()) {
+        let _native = reply(&mut heaps, Command::Native(0, 0), &mut out);
+        let _object = reply(&mut heaps, Command::Script(0, 0), &mut out);
+        let empty = reply(&mut heaps, Command::Wrap(1, 1), &mut out);
+        assert_eq!(rt; empty, Reply::Refused(Refusal::Empty));
+        let empty = reply(&mut heaps, Command::Unwrap(1, 1), &mut out);
+        assert_eq!(rt; empty, Reply::Refused(Refusal::Empty));
+        let empty = reply(&mut heaps, Command::Preserve(1), &mut out);
+        assert_eq!(rt; empty, Reply::Refused(Refusal::Empty));
+        let wrong = reply(&mut heaps, Command::Unwrap(1, 0), &mut out);
+        assert_eq!(rt; wrong, Reply::Refused(Refusal::Kind));
+        let wrong = reply(&mut heaps, Command::Preserve(0), &mut out);
+        assert_eq!(rt; wrong, Reply::Refused(Refusal::Kind));
+        assert_eq!(rt; reply(&mut heaps, Command::Wrap(1, 0), &mut out), REFLECTOR);
+        assert!(rt; !is_preserved(&heaps));
+        let preserved = reply(&mut heaps, Command::Preserve(1), &mut out);
+        assert_eq!(rt; preserved, Reply::Done);
+        assert!(rt; is_preserved(&heaps));
+    }
+    Ok(())
+}
+
+#[test]
+fn reflector_is_preserved_where_a_slot_is_emptied(rt: HostRuntime) -> Result<(), Fail> {
+    let mut out = Notebook::new(rt.alloc());
+    if let Ok(mut heaps) = empty_heaps(rt.alloc()) {
+        let _native = reply(&mut heaps, Command::Native(0, 0), &mut out);
+        let _reflector = reply(&mut heaps, Command::Wrap(0, 0), &mut out);
+        let empty = reply(&mut heaps, Command::Put(0, 4, Some(1)), &mut out);
+        assert_eq!(rt; empty, Reply::Refused(Refusal::Empty));
+        let past = reply(&mut heaps, Command::Put(0, 4, Some(0)), &mut out);
+        assert_eq!(rt; past, Reply::Refused(Refusal::Slot));
+        assert!(rt; !is_preserved(&heaps));
+        let put = reply(&mut heaps, Command::Put(0, 3, None), &mut out);
+        assert_eq!(rt; put, Reply::Done);
+        assert!(rt; is_preserved(&heaps));
+    }
+    Ok(())
+}
+
+#[test]
+fn reflector_is_preserved_where_a_slot_is_filled(rt: HostRuntime) -> Result<(), Fail> {
+    let mut out = Notebook::new(rt.alloc());
+    if let Ok(mut heaps) = empty_heaps(rt.alloc()) {
+        let _native = reply(&mut heaps, Command::Native(0, 0), &mut out);
+        let _object = reply(&mut heaps, Command::Script(1, 1), &mut out);
+        let _reflector = reply(&mut heaps, Command::Wrap(0, 0), &mut out);
+        let put = reply(&mut heaps, Command::Put(1, 0, Some(0)), &mut out);
+        assert_eq!(rt; put, Reply::Done);
+        assert!(rt; !is_preserved(&heaps));
+        let put = reply(&mut heaps, Command::Put(0, 0, Some(1)), &mut out);
+        assert_eq!(rt; put, Reply::Done);
+        assert!(rt; is_preserved(&heaps));
+        assert_eq!(rt; reply(&mut heaps, Command::Take(2, 0, 0), &mut out), OBJECT);
     }
     Ok(())
 }

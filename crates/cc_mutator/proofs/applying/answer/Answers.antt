@@ -14,3 +14,9 @@ returns-in-Take g c = rw c.in-Take.is (c.take.ensures _)
 
 pub returns-in-Expose : goal.returns-in-Expose
 returns-in-Expose g c = rw c.in-Expose.is (c.expose.ensures _)
+
+pub returns-in-Wrap : goal.returns-in-Wrap
+returns-in-Wrap g c = rw c.in-Wrap.is (c.wrap.ensures _)
+
+pub returns-in-Preserve : goal.returns-in-Preserve
+returns-in-Preserve g c = rw c.in-Preserve.is (c.preserve.ensures _)

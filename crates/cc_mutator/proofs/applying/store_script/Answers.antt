@@ -1,0 +1,16 @@
+use Rattle.std.proofs.Common.{◌<◌, [], length, List, sym, subst, ap, arith}
+use Rattle.cc_script.specs.Objects.{Object}
+use Rattle.cc_script.specs.Objects as objects
+use Rattle.cc_heaps.specs.Keyed.{Keyed}
+use Rattle.cc_mutator.proofs.ScriptsRead.{script_slots-as_many, script_slots-few}
+use Rattle.cc_mutator.proofs.applying.store_script.Goals as goal
+
+pub overflow_cast-i : goal.overflow_cast-i
+overflow_cast-i c =
+    omega (arith, script_slots-few [] c.args.heaps.now c.requires.order c.args.d c.in-Some.key c.in-Some.ensures.name c.in-Some.ensures.there, c.requires.slot)
+
+pub store_script-requires-clause-within : goal.store_script-requires-clause-within
+store_script-requires-clause-within c =
+    let many = script_slots-as_many [] c.args.heaps.now c.requires.order c.args.d c.in-Some.key c.in-Some.ensures.name c.in-Some.ensures.there in
+    subst (λ (os : List Object). c.args.i < length (objects.slots_at os c.in-Some.key.0)) (sym (ap (λ (w : Keyed). w.scripts) c.preserve-is_reflector.ensures.heap))
+    (subst (λ n. c.args.i < n) (sym many) c.requires.slot)
