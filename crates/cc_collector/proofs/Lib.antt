@@ -1,3 +1,7 @@
-pub mod Underway
-pub mod Units
+pub mod Rows
+pub mod Keeping
+pub mod Spared
+pub mod Coming
+pub mod NoneBack
+pub mod GoingOn
 pub mod Whiteness

@@ -1,40 +1,67 @@
--- WHAT A WHOLE COLLECTION COMES TO, as the plain run does it for some answers of memory.
-use Rattle.std.specs.Prelude.{◌≡◌, ℕ, ◌+◌, Bool, List, [], Option, Some, None}
+-- WHAT UNITS, COLLECTIONS AND `gc` COME TO, as the plain run does them for some answers of memory.
+use Rattle.std.specs.Prelude.{◌≡◌, ℕ, zero, suc, ◌+◌, Bool, ◌⊎◌, List, Result, Ok, Err}
+use Rattle.cc_lists.specs.Members.{Among}
+use Rattle.cc_names.specs.declared.name.Name.{Name}
+use Rattle.cc_names.specs.declared.no_memory.NoMemory.{NoMemory}
 use Rattle.cc_model.specs.Telling.{Telling, TellsEvents}
 use Rattle.cc_model.specs.declared.item.Event.{Event}
+use Rattle.cc_model.specs.declared.item.Event.TheVariants.{Unlinked, Freed}
+use Rattle.cc_model.specs.Graph.{Graph}
+use Rattle.cc_model.specs.WellMade.{IsWellMade}
+use Rattle.cc_model.specs.Reached.{Reached}
+use Rattle.cc_model.specs.StandsFor.{StandsFor}
 use Rattle.cc_model.specs.Heap.{Heap}
-use Rattle.cc_model.specs.Snapshot.{Snapshot}
-use Rattle.cc_model.specs.End.{Progress}
-use Rattle.cc_model.specs.Collecting.{Machine, UnitsDone, no_units, units_done, collect}
+use Rattle.cc_model.specs.End.{Progress, went_on, at_end, refused}
+use Rattle.cc_model.specs.Collecting.{Machine, UnitsDone, no_units, one_unit, slice, collect, gc}
 use Rattle.cc_laws_run.specs.Memory.{SameMachine, with_memory}
+use Rattle.cc_collector.specs.declared.collector.Ended.{Ended}
+use Rattle.cc_collector.specs.declared.collector.Ended.TheVariants.{Yes, No}
 
--- the heaps between two asks, while no collection runs
-abbrev pub idle_machine : Heap → Machine
-idle_machine h = record { heap = h; snapshot = None; memory = [] }
+-- what a slice answers, as progress
+abbrev pub progress_of : Result Ended NoMemory → Progress
+progress_of (Ok Yes) = at_end
+progress_of (Ok No) = went_on
+progress_of (Err e) = refused
 
--- a machine, and units done on it
-abbrev pub machine : Heap → Option Snapshot → List Bool → Machine
-machine h s memory = record { heap = h; snapshot = s; memory = memory }
+-- a unit counts where it was not refused
+abbrev pub counted_one : Progress → ℕ
+counted_one went_on = 1
+counted_one at_end = 1
+counted_one refused = 0
 
-abbrev pub done : Heap → Option Snapshot → List Bool → List Event → Progress → UnitsDone
-done h s memory events progress = record { machine = machine h s memory; events = events; progress = progress }
+-- HOW MANY OF n UNITS COUNT: those that are done until one ends the collection or is refused
+abbrev pub units_counted : ℕ → UnitsDone → ℕ
+units_counted zero d = 0
+units_counted (suc n) d = elim d.progress [
+  | went_on ↦ let e = one_unit d.machine d.events in counted_one e.progress + units_counted n e
+  | at_end ↦ 0
+  | refused ↦ 0
+]
 
--- A COLLECTION IS UNDERWAY from the heaps where it began: with any later answers of memory there are answers that lead here
-pub record IsUnderway (before now : Heap) (s : Snapshot) : Type 0 where
-  pub so_far : ℕ
-  pub memory : List Bool → List Bool
-  pub later : (rest : List Bool) (n : ℕ) →
-      units_done (so_far + n) (no_units (machine before None (memory rest))) ≡ units_done n (no_units (machine now (Some s) rest))
+-- what these events free or unlink is reached in no graph that the heaps stand for
+abbrev pub SparesReached : Heap → List Event → Type 0
+SparesReached h events = (g : Graph) (x : Name) → IsWellMade g → StandsFor h g →
+    Among (Freed x) events ⊎ Among (Unlinked x) events → ¬ (Reached g x)
 
--- A COLLECTION COMES TO ITS END, or is refused: after so many units nothing is left to do
-pub record HasStopped (before now : Heap) (events : List Event) (progress : Progress) : Type 0 where
-  pub units : ℕ
+-- from a machine units led to another, with the progress of the last, and what they tell is told; they spare what is reached
+pub record LedTo (d : UnitsDone) (old new : Machine) (progress : Progress) (before after : Telling) : Type 0 where
+  pub same : SameMachine d.machine new
+  pub came_to : d.progress ≡ progress
+  pub told : TellsEvents before after d.events
+  pub spares : SparesReached old.heap d.events
+
+-- A SLICE of so many units; the counter is raised by as many as count
+pub record IsSliced (units : ℕ) (old new : Machine) (progress : Progress) (steps steps_now : ℕ) (before after : Telling) : Type 0 where
   pub memory : List Bool
-  pub come : units_done units (no_units (machine before None memory)) ≡ done now None [] events progress
+  pub led : LedTo (slice units (with_memory old memory)) old new progress before after
+  pub counted : steps_now ≡ steps + units_counted units (no_units (with_memory old memory))
 
--- a collection from these heaps leads to those, with the progress of its last unit, and its events are told
-pub record IsCollected (old new : Heap) (progress : Progress) (before after : Telling) : Type 0 where
+-- A COLLECTION, before which a running one was ended
+pub record IsCollected (old new : Machine) (progress : Progress) (before after : Telling) : Type 0 where
   pub memory : List Bool
-  pub same : SameMachine (collect (with_memory (idle_machine old) memory)).machine (idle_machine new)
-  pub came_to : (collect (with_memory (idle_machine old) memory)).progress ≡ progress
-  pub told : TellsEvents before after (collect (with_memory (idle_machine old) memory)).events
+  pub led : LedTo (collect (with_memory old memory)) old new progress before after
+
+-- `gc`, which ended a running collection first, whatever that came to
+pub record IsSwept (old new : Machine) (before after : Telling) : Type 0 where
+  pub memory : List Bool
+  pub led : LedTo (gc (with_memory old memory)) old new (gc (with_memory old memory)).progress before after

@@ -1,14 +1,8 @@
-//! A collector, and a whole collection by it.
-ghost use Rattle.std.specs.Prelude.{◌≡◌, [], ◌∷◌, length, None, OnErr, OnOk};
-ghost use Rattle.cc_model.specs.declared.item.Event.TheVariants.{Abandoned};
-ghost use Rattle.cc_model.specs.Colours.{HasColourInvariant};
-ghost use Rattle.cc_model.specs.Heap.{Heap};
-ghost use Rattle.cc_model.specs.View.{view};
+//! A collector: slices, whole collections, and `gc`.
+ghost use Rattle.std.specs.Prelude.{◌≡◌, ◌≢◌, [], length, None, Some, Ok, OnErr, OnOk, true, is_some};
 ghost use Rattle.cc_model.specs.Snapshot.{white_natives};
-ghost use Rattle.cc_model.specs.Suspected.{IsSuspected};
-ghost use Rattle.cc_model.specs.Units.{first_untraversed};
-ghost use Rattle.cc_model.specs.End.{at_end, refused, give_back};
-ghost use Rattle.cc_laws_snapshot.specs.Kinds.{IsFreshIn};
+ghost use Rattle.cc_model.specs.End.{at_end, refused};
+ghost use Rattle.cc_laws_run.specs.Doomed.{IsSuspectedNow};
 ghost use Rattle.cc_graph.specs.Held.{AreHeld};
 ghost use Rattle.cc_heaps.specs.Keyed.{IsInOrder};
 ghost use Rattle.cc_heaps.specs.HasKey.{HasKey};
@@ -17,9 +11,13 @@ ghost use Rattle.cc_heaps.specs.Few.{AreFew};
 ghost use Rattle.cc_heaps.specs.Standing.{StillStands};
 ghost use Rattle.cc_builder.specs.Building.{IsBuilt, snapshot_of};
 ghost use Rattle.cc_unlink.specs.Whites.{whites_of};
-ghost use Rattle.cc_collector.specs.Collected.{IsCollected, IsUnderway, HasStopped};
+ghost use Rattle.cc_collector.specs.Kept.{RunsIn, machine_of};
+ghost use Rattle.cc_collector.specs.Collected.{IsSliced, IsCollected, IsSwept, progress_of};
+ghost use Rattle.cc_collector.specs.Units.{HasDoneUnit, HasDoneAll, HasFinished};
 
+use crate::steps::Steps;
 use cc_builder::{Build, Step};
+use cc_gc::collect_scripts;
 use cc_graph::Graph;
 use cc_heaps::Heaps;
 use cc_model::{Event, Item, Notices};
@@ -28,73 +26,205 @@ use cc_repair::mark_touched;
 use cc_scan::scan;
 use cc_unlink::collect_white;
 use std::alloc::Global;
+use std::marker::Model;
+use std::sync::ledger::Ledger;
 
-/// A collector of cycles. Between two calls it runs no collection.
+/// Whether the units of a slice reached the end of a collection.
+#[derive(Clone, Copy, Debug, PartialEq, Eq, Drop)]
+pub enum Ended {
+    Yes,
+    No,
+}
+
+/// A collector of cycles, with the collection that is running, if any.
 #[derive(Drop)]
 pub struct Collector {
     alloc: Global,
+    running: Option<Build>,
+}
+
+impl Model for Collector {
+    ghost use Rattle.std.specs.Prelude.{Option};
+    ghost use Rattle.cc_builder.specs.Building.{Built};
+
+    ghost Value = { Option Built };
+
+    ghost view = { λ c. c.running };
 }
 
 impl Collector {
-    /// A collector that takes its memory from `alloc`.
-    pub fn new(alloc: Global) -> Collector {
-        Collector { alloc }
+    /// A collector that takes its memory from `alloc`. No collection runs.
+    pub fn new(alloc: Global) -> Collector
+        ensures { result ≡ None }
+    {
+        Collector {
+            alloc,
+            running: None,
+        }
     }
 
-    /// A whole collection: its begin, a unit for each node, and its end. What it unlinks and frees is told.
+    /// Whether a collection runs.
+    pub fn running(&self) -> bool
+        ensures { result ≡ is_some self.now }
+    {
+        self.running.is_some()
+    }
+
+    /// Does `units` units of the running collection, or of one that begins here where none runs. They are fewer where one
+    /// ends the collection: no second one begins. `steps` counts them.
     ///
-    /// No register reaches any native that it unlinks: the heaps go on standing for the same graphs. No native that
-    /// nothing reaches is forgotten: what this collection leaves is a suspect of the next one.
+    /// `Ended::Yes` exactly where these units reached the end. What it unlinks and frees is told; no register reaches any of
+    /// it, whatever came between the units: the heaps go on standing for the same graphs. No native that nothing reaches is
+    /// forgotten.
     ///
-    /// `NoMemory`, where the collection wanted memory that was not there: it is abandoned, which is told, and its
-    /// suspects are suspects again.
-    pub fn whole<N: Notices>(&mut self, heaps: &mut Heaps, out: &mut N) -> Result<(), NoMemory>
-        requires order { IsInOrder [] heaps.old }
-        requires colours { HasColourInvariant (view heaps.old.heap) }
-        ensures done { OnOk result (IsCollected heaps.old.heap heaps.new.heap at_end (N.telling out.old) (N.telling out.new)) }
-        ensures refused { OnErr result (IsCollected heaps.old.heap heaps.new.heap refused (N.telling out.old) (N.telling out.new)) }
+    /// `NoMemory`, where a unit wanted memory that was not there: the collection is abandoned, which is told, and its
+    /// suspects are suspects again. That unit is not counted.
+    pub fn slice<N: Notices, L: Ledger>(
+        &mut self,
+        heaps: &mut Heaps,
+        units: u32,
+        out: &mut N,
+        steps: &mut Steps<L>,
+    ) -> Result<Ended, NoMemory>
+        requires runs { RunsIn heaps.old self.old }
+        ensures sliced { IsSliced units (machine_of heaps.old.heap self.old) (machine_of heaps.new.heap self.new) (progress_of result)
+            steps.old steps.new (N.telling out.old) (N.telling out.new) }
+        ensures over { result ≢ Ok Ended.No → self.new ≡ None }
         ensures stands { StillStands heaps.old.heap heaps.new.heap }
-        ensures suspected { IsSuspected (view heaps.old.heap) [] → IsSuspected (view heaps.new.heap) [] }
+        ensures suspected { IsSuspectedNow (machine_of heaps.old.heap self.old) → IsSuspectedNow (machine_of heaps.new.heap self.new) }
         ensures keys { KeepsKeys heaps.old heaps.new }
         ensures counts { AreFew heaps.new.heap }
-        ensures order { IsInOrder [] heaps.new }
-        ensures colours { HasColourInvariant (view heaps.new.heap) }
+        ensures runs { RunsIn heaps.new self.new }
     {
-        let begun = Build::begin(self.alloc, heaps);
-        let Ok(mut build) = begun else {
-            out.tell(Item::Event(Event::Abandoned));
-            return Err(NoMemory);
-        };
-        if traverse_all(&mut build, heaps).is_err() {
+        for _ in 0..units {
+            let ended = self.unit(heaps, out)?;
+            steps.tick();
+            if let Ended::Yes = ended {
+                return Ok(ended);
+            }
+        }
+        Ok(Ended::No)
+    }
+
+    /// A whole collection: its begin, a unit for each node, and its end. A collection that runs is ended first; where that
+    /// is refused memory, no other begins.
+    ///
+    /// `NoMemory` as in a slice. What the end of the first one did stays.
+    pub fn whole<N: Notices>(&mut self, heaps: &mut Heaps, out: &mut N) -> Result<(), NoMemory>
+        requires runs { RunsIn heaps.old self.old }
+        ensures done { OnOk result (IsCollected (machine_of heaps.old.heap self.old) (machine_of heaps.new.heap self.new) at_end (N.telling out.old) (N.telling out.new)) }
+        ensures refused { OnErr result (IsCollected (machine_of heaps.old.heap self.old) (machine_of heaps.new.heap self.new) refused (N.telling out.old) (N.telling out.new)) }
+        ensures over { self.new ≡ None }
+        ensures stands { StillStands heaps.old.heap heaps.new.heap }
+        ensures suspected { IsSuspectedNow (machine_of heaps.old.heap self.old) → IsSuspectedNow (machine_of heaps.new.heap self.new) }
+        ensures keys { KeepsKeys heaps.old heaps.new }
+        ensures counts { AreFew heaps.new.heap }
+        ensures runs { RunsIn heaps.new self.new }
+    {
+        self.finish_running(heaps, out)?;
+        self.go_to_end(heaps, out)
+    }
+
+    /// A script collection, before which a collection that runs is ended. Where that is refused memory it is abandoned,
+    /// which is told, and the script collection is done all the same.
+    pub fn gc<N: Notices>(&mut self, heaps: &mut Heaps, out: &mut N)
+        requires runs { RunsIn heaps.old self.old }
+        ensures swept { IsSwept (machine_of heaps.old.heap self.old) (machine_of heaps.new.heap self.new) (N.telling out.old) (N.telling out.new) }
+        ensures over { self.new ≡ None }
+        ensures stands { StillStands heaps.old.heap heaps.new.heap }
+        ensures suspected { IsSuspectedNow (machine_of heaps.old.heap self.old) → IsSuspectedNow (machine_of heaps.new.heap self.new) }
+        ensures keys { KeepsKeys heaps.old heaps.new }
+        ensures counts { AreFew heaps.new.heap }
+        ensures runs { RunsIn heaps.new self.new }
+    {
+        let _refused = self.finish_running(heaps, out);
+        collect_scripts(heaps, out);
+    }
+
+    /// Ends a collection that runs.
+    fn finish_running<N: Notices>(&mut self, heaps: &mut Heaps, out: &mut N) -> Result<(), NoMemory>
+        requires { RunsIn heaps.old self.old }
+        ensures done { OnOk result (HasFinished heaps.old self.old heaps.new (N.telling out.old) (N.telling out.new)) }
+        ensures refused { OnErr result (HasDoneAll heaps.old self.old heaps.new refused (N.telling out.old) (N.telling out.new)) }
+        ensures ran { OnErr result (is_some self.old ≡ true) }
+        ensures over { self.new ≡ None }
+    {
+        if self.running() {
+            return self.go_to_end(heaps, out);
+        }
+        Ok(())
+    }
+
+    /// Does units until one ends the collection. Where none runs, one begins.
+    fn go_to_end<N: Notices>(&mut self, heaps: &mut Heaps, out: &mut N) -> Result<(), NoMemory>
+        requires { RunsIn heaps.old self.old }
+        ensures done { OnOk result (HasDoneAll heaps.old self.old heaps.new at_end (N.telling out.old) (N.telling out.new)) }
+        ensures refused { OnErr result (HasDoneAll heaps.old self.old heaps.new refused (N.telling out.old) (N.telling out.new)) }
+        ensures over { self.new ≡ None }
+    {
+        'units: loop {
+            match self.unit(heaps, out)? {
+                Ended::Yes => return Ok(()),
+                Ended::No => {}
+            }
+        }
+    }
+
+    /// One unit: a begin where no collection runs, else one node, or the end where no node is left. A unit that is refused
+    /// memory abandons the collection, which is told.
+    fn unit<N: Notices>(&mut self, heaps: &mut Heaps, out: &mut N) -> Result<Ended, NoMemory>
+        requires { RunsIn heaps.old self.old }
+        ensures { HasDoneUnit heaps.old self.old heaps.new self.new (progress_of result) (N.telling out.old) (N.telling out.new) }
+    {
+        match self.running.take() {
+            None => self.begin(heaps, out),
+            Some(build) => self.go_on(build, heaps, out),
+        }
+    }
+
+    /// Begins a collection.
+    fn begin<N: Notices>(&mut self, heaps: &mut Heaps, out: &mut N) -> Result<Ended, NoMemory>
+        requires runs { RunsIn heaps.old None }
+        requires idle { self.old ≡ None }
+        ensures { HasDoneUnit heaps.old None heaps.new self.new (progress_of result) (N.telling out.old) (N.telling out.new) }
+    {
+        match Build::begin(self.alloc, heaps) {
+            Ok(build) => {
+                self.running = Some(build);
+                Ok(Ended::No)
+            }
+            Err(NoMemory) => {
+                out.tell(Item::Event(Event::Abandoned));
+                Err(NoMemory)
+            }
+        }
+    }
+
+    /// One node of a collection, or its end.
+    fn go_on<N: Notices>(
+        &mut self,
+        mut build: Build,
+        heaps: &mut Heaps,
+        out: &mut N,
+    ) -> Result<Ended, NoMemory>
+        requires runs { RunsIn heaps.old (Some build) }
+        requires idle { self.old ≡ None }
+        ensures { HasDoneUnit heaps.old (Some build) heaps.new self.new (progress_of result) (N.telling out.old) (N.telling out.new) }
+    {
+        let Ok(step) = build.step(heaps) else {
             build.abandon(heaps);
             out.tell(Item::Event(Event::Abandoned));
             return Err(NoMemory);
-        }
-        let graph = blackened(build, heaps);
-        collect_white(graph, heaps, out);
-        Ok(())
-    }
-}
-
-/// Traverses one node after another until none is left. Where memory is refused the build is to be abandoned.
-fn traverse_all(build: &mut Build, heaps: &Heaps) -> Result<(), NoMemory>
-    requires built { IsBuilt build.old heaps.now }
-    requires held { AreHeld build.old.graph (HasKey heaps.now) }
-    requires order { IsInOrder [] heaps.now }
-    ensures traversed { OnOk result (first_untraversed (snapshot_of build.new).nodes ≡ None) }
-    ensures behind { OnOk result (build.new.next ≡ length build.new.graph.nodes) }
-    ensures underway { OnOk result ((before : Heap) → IsUnderway before heaps.now.heap (snapshot_of build.old) → IsUnderway before heaps.now.heap (snapshot_of build.new)) }
-    ensures fresh { OnOk result (IsFreshIn heaps.now.heap (snapshot_of build.old) → IsFreshIn heaps.now.heap (snapshot_of build.new)) }
-    ensures refused { OnErr result ((before : Heap) → IsUnderway before heaps.now.heap (snapshot_of build.old) →
-        HasStopped before (give_back (snapshot_of build.new).candidates heaps.now.heap) (Abandoned ∷ []) refused) }
-    ensures candidates { (snapshot_of build.new).candidates ≡ (snapshot_of build.old).candidates }
-    ensures built { IsBuilt build.new heaps.now }
-    ensures held { AreHeld build.new.graph (HasKey heaps.now) }
-{
-    'nodes: loop {
-        match build.step(heaps)? {
-            Step::Complete => return Ok(()),
-            Step::Traversed | Step::Gone => {}
+        };
+        match step {
+            Step::Traversed | Step::Gone => {
+                self.running = Some(build);
+                Ok(Ended::No)
+            }
+            Step::Complete => {
+                collect_white(blackened(build, heaps), heaps, out);
+                Ok(Ended::Yes)
+            }
         }
     }
 }

@@ -1,32 +1,30 @@
-//! Whole collections over two natives that hold each other.
-ghost use Rattle.std.specs.Prelude.{[]};
-ghost use Rattle.cc_model.specs.Colours.{HasColourInvariant};
-ghost use Rattle.cc_model.specs.View.{view};
-ghost use Rattle.cc_heaps.specs.Keyed.{IsInOrder};
+//! Slices, whole collections and `gc` over natives that hold each other.
+ghost use Rattle.std.specs.Prelude.{◌≡◌, ◌<◌};
+ghost use Rattle.cc_collector.specs.Kept.{RunsIn};
 
-use crate::Collector;
+use crate::{Collector, Ended, Steps};
 use cc_counted::Held;
 use cc_heaps::Heaps;
 use cc_model::Notebook;
 use cc_names::Limits;
+use std::alloc::Global;
+use std::marker::Brand;
+use std::process::Abort;
+use std::sync::ledger::{Blank, Ledger};
 use std::test::Fail;
 
 // A native with one slot is made, which a register holds.
-fn make(heaps: &mut Heaps, r: u8, out: &mut Notebook)
-    requires order { IsInOrder [] heaps.old }
-    requires colours { HasColourInvariant (view heaps.old.heap) }
-    ensures order { IsInOrder [] heaps.new }
-    ensures colours { HasColourInvariant (view heaps.new.heap) }
+fn make(heaps: &mut Heaps, collector: &Collector, r: u8, out: &mut Notebook)
+    requires { RunsIn heaps.old collector.now }
+    ensures { RunsIn heaps.new collector.now }
 {
     let _made = heaps.new_native(r, 1, out);
 }
 
 // The slot of what a register holds holds what another holds.
-fn hold(heaps: &mut Heaps, d: u8, s: u8, out: &mut Notebook)
-    requires order { IsInOrder [] heaps.old }
-    requires colours { HasColourInvariant (view heaps.old.heap) }
-    ensures order { IsInOrder [] heaps.new }
-    ensures colours { HasColourInvariant (view heaps.new.heap) }
+fn hold(heaps: &mut Heaps, collector: &Collector, d: u8, s: u8, out: &mut Notebook)
+    requires { RunsIn heaps.old collector.now }
+    ensures { RunsIn heaps.new collector.now }
 {
     if let (Some(holder), Some(held)) = (heaps.native_reg(d), heaps.native_reg(s)) {
         if heaps.counted().slots(holder) == 1 {
@@ -35,27 +33,42 @@ fn hold(heaps: &mut Heaps, d: u8, s: u8, out: &mut Notebook)
     }
 }
 
+// A register holds what another holds.
+fn copy(heaps: &mut Heaps, collector: &Collector, d: u8, s: u8, out: &mut Notebook)
+    requires { RunsIn heaps.old collector.now }
+    ensures { RunsIn heaps.new collector.now }
+{
+    let content = heaps.native_reg(s);
+    heaps.set_native_reg(d, content, out);
+}
+
 // A register is empty from then on.
-fn empty(heaps: &mut Heaps, r: u8, out: &mut Notebook)
-    requires order { IsInOrder [] heaps.old }
-    requires colours { HasColourInvariant (view heaps.old.heap) }
-    ensures order { IsInOrder [] heaps.new }
-    ensures colours { HasColourInvariant (view heaps.new.heap) }
+fn empty(heaps: &mut Heaps, collector: &Collector, r: u8, out: &mut Notebook)
+    requires { RunsIn heaps.old collector.now }
+    ensures { RunsIn heaps.new collector.now }
 {
     heaps.set_native_reg(r, None, out);
 }
 
 // Two natives hold each other, and registers 0 and 1 hold them.
-fn make_two_cycle(heaps: &mut Heaps, out: &mut Notebook)
-    requires order { IsInOrder [] heaps.old }
-    requires colours { HasColourInvariant (view heaps.old.heap) }
-    ensures order { IsInOrder [] heaps.new }
-    ensures colours { HasColourInvariant (view heaps.new.heap) }
+fn make_two_cycle(heaps: &mut Heaps, collector: &Collector, out: &mut Notebook)
+    requires { RunsIn heaps.old collector.now }
+    ensures { RunsIn heaps.new collector.now }
 {
-    make(heaps, 0, out);
-    make(heaps, 1, out);
-    hold(heaps, 0, 1, out);
-    hold(heaps, 1, 0, out);
+    make(heaps, collector, 0, out);
+    make(heaps, collector, 1, out);
+    hold(heaps, collector, 0, 1, out);
+    hold(heaps, collector, 1, 0, out);
+}
+
+// The same, and no register holds them any more.
+fn drop_two_cycle(heaps: &mut Heaps, collector: &Collector, out: &mut Notebook)
+    requires { RunsIn heaps.old collector.now }
+    ensures { RunsIn heaps.new collector.now }
+{
+    make_two_cycle(heaps, collector, out);
+    empty(heaps, collector, 0, out);
+    empty(heaps, collector, 1, out);
 }
 
 #[test]
@@ -63,9 +76,7 @@ fn two_cycle_is_unlinked_and_then_freed(rt: HostRuntime) -> Result<(), Fail> {
     let mut out = Notebook::new(rt.alloc());
     let mut heaps = Heaps::new(rt.alloc(), Limits::new(2, 0, 0))?;
     let mut collector = Collector::new(rt.alloc());
-    make_two_cycle(&mut heaps, &mut out);
-    empty(&mut heaps, 0, &mut out);
-    empty(&mut heaps, 1, &mut out);
+    drop_two_cycle(&mut heaps, &collector, &mut out);
     assert_eq!(rt; collector.whole(&mut heaps, &mut out), Ok(()));
     assert_eq!(rt;
         out.text(),
@@ -80,10 +91,225 @@ fn two_cycle_that_a_register_holds_is_kept(rt: HostRuntime) -> Result<(), Fail> 
     let mut out = Notebook::new(rt.alloc());
     let mut heaps = Heaps::new(rt.alloc(), Limits::new(2, 0, 0))?;
     let mut collector = Collector::new(rt.alloc());
-    make_two_cycle(&mut heaps, &mut out);
-    empty(&mut heaps, 1, &mut out);
+    make_two_cycle(&mut heaps, &collector, &mut out);
+    empty(&mut heaps, &collector, 1, &mut out);
     assert_eq!(rt; collector.whole(&mut heaps, &mut out), Ok(()));
     assert_eq!(rt; out.text(), b"".as_slice());
     assert_eq!(rt; heaps.counted().first(), heaps.native_reg(0));
     Ok(())
+}
+
+// Begin, two nodes, and the end.
+fn collect_by_four_units<L: Ledger>(
+    rt: &impl Abort,
+    alloc: Global,
+    blank: Blank,
+) -> Result<(), Fail>
+    requires name { blank.name ≡ L.name }
+    requires parts { blank.parts ≡ L.parts }
+    requires some { 0 < L.parts }
+{
+    let mut steps = Steps::<L>::new(blank);
+    let mut out = Notebook::new(alloc);
+    let mut heaps = Heaps::new(alloc, Limits::new(2, 0, 0))?;
+    let mut collector = Collector::new(alloc);
+    drop_two_cycle(&mut heaps, &collector, &mut out);
+    assert_eq!(rt;
+        collector.slice(&mut heaps, 1, &mut out, &mut steps),
+        Ok(Ended::No)
+    );
+    assert!(rt; collector.running());
+    assert_eq!(rt;
+        collector.slice(&mut heaps, 1, &mut out, &mut steps),
+        Ok(Ended::No)
+    );
+    assert_eq!(rt;
+        collector.slice(&mut heaps, 1, &mut out, &mut steps),
+        Ok(Ended::No)
+    );
+    assert_eq!(rt; out.text(), b"".as_slice());
+    assert_eq!(rt;
+        collector.slice(&mut heaps, 1, &mut out, &mut steps),
+        Ok(Ended::Yes)
+    );
+    assert!(rt; !collector.running());
+    assert_eq!(rt;
+        out.text(),
+        b"- unlink #1\n- unlink #2\n- free #1\n- free #2\n".as_slice()
+    );
+    Ok(())
+}
+
+#[test]
+fn two_cycle_takes_four_units(rt: HostRuntime) -> Result<(), Fail> {
+    collect_by_four_units::<Brand>(&rt, rt.alloc(), Blank::new(1))
+}
+
+// A register hands the first of them on between two units, and is empty in the end.
+fn touch_between_units<L: Ledger>(rt: &impl Abort, alloc: Global, blank: Blank) -> Result<(), Fail>
+    requires name { blank.name ≡ L.name }
+    requires parts { blank.parts ≡ L.parts }
+    requires some { 0 < L.parts }
+{
+    let mut steps = Steps::<L>::new(blank);
+    let mut out = Notebook::new(alloc);
+    let mut heaps = Heaps::new(alloc, Limits::new(2, 0, 0))?;
+    let mut collector = Collector::new(alloc);
+    make_two_cycle(&mut heaps, &collector, &mut out);
+    copy(&mut heaps, &collector, 2, 0, &mut out);
+    empty(&mut heaps, &collector, 0, &mut out);
+    empty(&mut heaps, &collector, 1, &mut out);
+    assert_eq!(rt;
+        collector.slice(&mut heaps, 2, &mut out, &mut steps),
+        Ok(Ended::No)
+    );
+    copy(&mut heaps, &collector, 3, 2, &mut out);
+    empty(&mut heaps, &collector, 2, &mut out);
+    empty(&mut heaps, &collector, 3, &mut out);
+    assert_eq!(rt;
+        collector.slice(&mut heaps, 2, &mut out, &mut steps),
+        Ok(Ended::Yes)
+    );
+    assert_eq!(rt; out.text(), b"".as_slice());
+    assert_eq!(rt;
+        collector.slice(&mut heaps, 4, &mut out, &mut steps),
+        Ok(Ended::Yes)
+    );
+    assert_eq!(rt;
+        out.text(),
+        b"- unlink #1\n- unlink #2\n- free #1\n- free #2\n".as_slice()
+    );
+    Ok(())
+}
+
+#[test]
+fn touched_between_units_is_kept_until_the_next_collection(rt: HostRuntime) -> Result<(), Fail> {
+    touch_between_units::<Brand>(&rt, rt.alloc(), Blank::new(1))
+}
+
+// The native that is a node is freed, and the next one gets its key.
+fn reuse_a_key_between_units<L: Ledger>(
+    rt: &impl Abort,
+    alloc: Global,
+    blank: Blank,
+) -> Result<(), Fail>
+    requires name { blank.name ≡ L.name }
+    requires parts { blank.parts ≡ L.parts }
+    requires some { 0 < L.parts }
+{
+    let mut steps = Steps::<L>::new(blank);
+    let mut out = Notebook::new(alloc);
+    let mut heaps = Heaps::new(alloc, Limits::new(2, 0, 0))?;
+    let mut collector = Collector::new(alloc);
+    make(&mut heaps, &collector, 0, &mut out);
+    copy(&mut heaps, &collector, 1, 0, &mut out);
+    empty(&mut heaps, &collector, 1, &mut out);
+    assert_eq!(rt;
+        collector.slice(&mut heaps, 1, &mut out, &mut steps),
+        Ok(Ended::No)
+    );
+    empty(&mut heaps, &collector, 0, &mut out);
+    make(&mut heaps, &collector, 0, &mut out);
+    assert_eq!(rt;
+        collector.slice(&mut heaps, 1000000, &mut out, &mut steps),
+        Ok(Ended::Yes)
+    );
+    assert_eq!(rt; out.text(), b"- free #1\n".as_slice());
+    assert_eq!(rt; heaps.counted().first(), heaps.native_reg(0));
+    Ok(())
+}
+
+#[test]
+fn number_tells_a_reused_key_apart(rt: HostRuntime) -> Result<(), Fail> {
+    reuse_a_key_between_units::<Brand>(&rt, rt.alloc(), Blank::new(1))
+}
+
+// `gc` comes after the begin.
+fn sweep_after_a_begin<L: Ledger>(rt: &impl Abort, alloc: Global, blank: Blank) -> Result<(), Fail>
+    requires name { blank.name ≡ L.name }
+    requires parts { blank.parts ≡ L.parts }
+    requires some { 0 < L.parts }
+{
+    let mut steps = Steps::<L>::new(blank);
+    let mut out = Notebook::new(alloc);
+    let mut heaps = Heaps::new(alloc, Limits::new(2, 0, 0))?;
+    let mut collector = Collector::new(alloc);
+    drop_two_cycle(&mut heaps, &collector, &mut out);
+    assert_eq!(rt;
+        collector.slice(&mut heaps, 1, &mut out, &mut steps),
+        Ok(Ended::No)
+    );
+    collector.gc(&mut heaps, &mut out);
+    assert!(rt; !collector.running());
+    assert_eq!(rt;
+        out.text(),
+        b"- unlink #1\n- unlink #2\n- free #1\n- free #2\n".as_slice()
+    );
+    Ok(())
+}
+
+#[test]
+fn gc_ends_a_running_collection_first(rt: HostRuntime) -> Result<(), Fail> {
+    sweep_after_a_begin::<Brand>(&rt, rt.alloc(), Blank::new(1))
+}
+
+// The next slice begins anew.
+fn begin_after_the_end<L: Ledger>(rt: &impl Abort, alloc: Global, blank: Blank) -> Result<(), Fail>
+    requires name { blank.name ≡ L.name }
+    requires parts { blank.parts ≡ L.parts }
+    requires some { 0 < L.parts }
+{
+    let mut steps = Steps::<L>::new(blank);
+    let mut out = Notebook::new(alloc);
+    let mut heaps = Heaps::new(alloc, Limits::new(2, 0, 0))?;
+    let mut collector = Collector::new(alloc);
+    drop_two_cycle(&mut heaps, &collector, &mut out);
+    assert_eq!(rt;
+        collector.slice(&mut heaps, 1000000, &mut out, &mut steps),
+        Ok(Ended::Yes)
+    );
+    assert_eq!(rt;
+        collector.slice(&mut heaps, 1, &mut out, &mut steps),
+        Ok(Ended::No)
+    );
+    assert!(rt; collector.running());
+    Ok(())
+}
+
+#[test]
+fn slice_after_the_end_begins_a_collection(rt: HostRuntime) -> Result<(), Fail> {
+    begin_after_the_end::<Brand>(&rt, rt.alloc(), Blank::new(1))
+}
+
+// Two more natives that hold each other are dropped after the begin.
+fn collect_after_a_begin<L: Ledger>(
+    rt: &impl Abort,
+    alloc: Global,
+    blank: Blank,
+) -> Result<(), Fail>
+    requires name { blank.name ≡ L.name }
+    requires parts { blank.parts ≡ L.parts }
+    requires some { 0 < L.parts }
+{
+    let mut steps = Steps::<L>::new(blank);
+    let mut out = Notebook::new(alloc);
+    let mut heaps = Heaps::new(alloc, Limits::new(4, 0, 0))?;
+    let mut collector = Collector::new(alloc);
+    drop_two_cycle(&mut heaps, &collector, &mut out);
+    assert_eq!(rt;
+        collector.slice(&mut heaps, 1, &mut out, &mut steps),
+        Ok(Ended::No)
+    );
+    drop_two_cycle(&mut heaps, &collector, &mut out);
+    assert_eq!(rt; collector.whole(&mut heaps, &mut out), Ok(()));
+    assert_eq!(rt;
+        out.text(),
+        b"- unlink #1\n- unlink #2\n- free #1\n- free #2\n- unlink #3\n- unlink #4\n- free #3\n- free #4\n".as_slice()
+    );
+    Ok(())
+}
+
+#[test]
+fn whole_collection_comes_after_the_running_one(rt: HostRuntime) -> Result<(), Fail> {
+    collect_after_a_begin::<Brand>(&rt, rt.alloc(), Blank::new(1))
 }

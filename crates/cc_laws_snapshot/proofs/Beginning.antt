@@ -130,7 +130,7 @@ module _ (h : Heap) (sound : IsSound [] h) (coloured : HasColourInvariant (view 
       (Among-map (λ (n : HeapNative). native n.number) f.0 h.natives (Among-filtered (holds_gray h) f.0 h.natives f.1))
 
   -- each node is a native or a script object that is there
-  node-cases : (x : Name) → IsNode (begun h) x → Among x (native_names h) ⊎ IsScriptThere (view h) x
+  pub node-cases : (x : Name) → IsNode (begun h) x → Among x (native_names h) ⊎ IsScriptThere (view h) x
   node-cases x i = ⊎_elim
       (λ none. absurd none)
       (λ m. ⊎_elim

@@ -3,7 +3,7 @@
 ghost use Rattle.std.specs.Prelude.{◌≡◌, ◌<◌, [], ◌∷◌, length, IsTrue, IfSome};
 ghost use Rattle.cc_model.specs.Lines.{without_return};
 ghost use Rattle.cc_model.specs.Tokens.{tokens_of};
-ghost use Rattle.cc_model.specs.Forms.{census_form, collect_form, copy_native_form, copy_script_form, drop_native_form, drop_script_form, expose_form, gc_form, get_native_form, get_script_form, native_form, preserve_form, put_none_form, put_script_form, script_form, set_native_form, set_none_form, set_script_form, take_form, unwrap_form, wrap_form};
+ghost use Rattle.cc_model.specs.Forms.{census_form, collect_form, copy_native_form, copy_script_form, drop_native_form, drop_script_form, expose_form, gc_form, get_native_form, get_script_form, native_form, preserve_form, put_none_form, put_script_form, script_form, set_native_form, set_none_form, set_script_form, slice_form, take_form, unwrap_form, wrap_form};
 ghost use Rattle.cc_model.specs.Ranges.{in_range};
 ghost use Rattle.cc_model.specs.Asks.{command_in, command_of};
 ghost use Rattle.cc_reader.specs.FormsNow.{forms_now, is_known};
@@ -11,7 +11,7 @@ ghost use Rattle.cc_reader.specs.Words.{first_read};
 
 use crate::tokens::{
     native, next_token, number, one_token, register_of, script, slots_number, three_tokens,
-    two_tokens,
+    two_tokens, units_number,
 };
 use cc_model::Command;
 
@@ -183,6 +183,16 @@ fn read_expose(after: &[u8]) -> Option<Command>
     Some(Command::Expose(register, slot))
 }
 
+/// The command of the word `slice`, by the tokens that stand behind it. None where they are in no form of it.
+fn read_slice(after: &[u8]) -> Option<Command>
+    ensures form { result ≡ first_read (slice_form ∷ []) (tokens_of after.now) }
+    ensures known { IfSome result (λ c. IsTrue (is_known c)) }
+    ensures in_range { IfSome result (λ c. IsTrue (in_range c)) }
+{
+    let units = one_token(after)?;
+    Some(Command::Slice(units_number(units)?))
+}
+
 /// The command of the word `collect`, by the tokens that stand behind it. None where they are in no form of it.
 fn read_collect(after: &[u8]) -> Option<Command>
     ensures form { result ≡ first_read (collect_form ∷ []) (tokens_of after.now) }
@@ -249,6 +259,8 @@ fn read_word(word: &[u8], after: &[u8]) -> Option<Command>
         read_preserve(after)
     } else if word == b"expose".as_slice() {
         read_expose(after)
+    } else if word == b"slice".as_slice() {
+        read_slice(after)
     } else if word == b"collect".as_slice() {
         read_collect(after)
     } else if word == b"gc".as_slice() {

@@ -1,7 +1,7 @@
 //! The tokens of a line, and the numbers and registers that they name.
 
 ghost use Rattle.std.specs.Prelude.{◌≡◌, ◌≢◌, ◌<◌, ◌≤◌, [], ◌∷◌, length, slice_index, IsTrue, IfNone, IfSome};
-ghost use Rattle.cc_model.specs.Tokens.{digits_from, native_register, number_within, register_with, script_register, slots_number, tokens_of};
+ghost use Rattle.cc_model.specs.Tokens.{digits_from, native_register, number_within, register_with, script_register, slots_number, tokens_of, units_number};
 ghost use Rattle.cc_model.specs.Ranges.{is_reg};
 ghost use Rattle.cc_reader.specs.Words.{register_of};
 
@@ -85,6 +85,16 @@ pub(crate) fn slots_number(token: &[u8]) -> Option<u8>
 {
     let slots = number(token, 64)?;
     Some(slots as u8)
+}
+
+/// The number of units that a token spells, 1 to 1000000.
+pub(crate) fn units_number(token: &[u8]) -> Option<u32>
+    ensures { result ≡ units_number token.now }
+{
+    match number(token, 1_000_000)? {
+        0 => None,
+        units => Some(units),
+    }
 }
 
 /// The number of the register that a token names, where registers of its kind begin with this letter.

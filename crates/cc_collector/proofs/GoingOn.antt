@@ -1,0 +1,89 @@
+-- A RUNNING COLLECTION GOES ON over changed heaps.
+use Rattle.std.proofs.Common.{◌≡◌, ℕ, zero, suc, ◌≤◌, false, List, [], ◌∷◌, map, Option, Some, None, refl, sym, ap, subst, ⊎_elim, arith}
+use Rattle.cc_lists.specs.Members.{Among}
+use Rattle.cc_lists.proofs.Members.{Among-map}
+use Rattle.cc_names.specs.declared.name.Name.{Name}
+use Rattle.cc_names.specs.declared.name.Name.TheVariants as name
+use Rattle.cc_names.specs.Names.{native, is_native}
+use Rattle.cc_model.specs.WellFormed.{native_names, script_names}
+use Rattle.cc_model.specs.Snapshot.{Node}
+use Rattle.cc_model.specs.Fresh.{IsNode}
+use Rattle.cc_laws_snapshot.specs.Kinds.{IsFreshIn}
+use Rattle.cc_laws_snapshot.proofs.SoundView.{named-there}
+use Rattle.cc_counted.specs.declared.held.Held.{Held}
+use Rattle.cc_counted.specs.declared.held.Held.TheVariants as held
+use Rattle.cc_graph.specs.Shown.{Vertex}
+use Rattle.cc_graph.specs.Held.{AreHeld}
+use Rattle.cc_heaps.specs.Keyed.{Keyed, number_at}
+use Rattle.cc_heaps.specs.HasKey.{HasKey}
+use Rattle.cc_builder.specs.Building.{Built, IsBuilt, WasMade, vertex_names, nodes_of, snapshot_of}
+use Rattle.cc_builder.proofs.FewObjects.{made-few}
+use Rattle.cc_collector.proofs.NoneBack.{none-back}
+use Rattle.cc_collector.specs.Kept.{GoesOn, RunsIn, MayComeBetween}
+
+-- the names of nodes are those of the vertices
+names-nodes : (next : ℕ) (vs : List Vertex) → map (λ (n : Node). n.name) (nodes_of next vs) ≡ vertex_names vs
+names-nodes next [] = refl
+names-nodes zero (v ∷ vs) = ap (λ xs. v.name ∷ xs) (names-nodes zero vs)
+names-nodes (suc next) (v ∷ vs) = ap (λ xs. v.name ∷ xs) (names-nodes next vs)
+
+module _ (old new : Keyed) (b : Built) (r : RunsIn old (Some b)) (m : MayComeBetween old new) where
+  g : GoesOn old b
+  g = r.goes_on
+
+  fresh : IsFreshIn new.heap (snapshot_of b)
+  fresh = m.fresh (snapshot_of b) g.fresh
+
+  is-node : (n : Vertex) → Among n b.graph.nodes → IsNode (snapshot_of b) n.name
+  is-node n i = subst (Among n.name) (sym (names-nodes b.next b.graph.nodes)) (Among-map (λ (v : Vertex). v.name) n b.graph.nodes i)
+
+  -- its object was made, and is there where it is a script object
+  was-made : (x : Name) → IsNode (snapshot_of b) x → WasMade new.heap x
+  was-made (name.Native k) i = fresh.native_nodes k.0 i
+  was-made (name.Script k) i = named-there new.heap (name.Script k) (fresh.script_nodes (name.Script k) i refl)
+  was-made (name.Reflector k) i = named-there new.heap (name.Reflector k) (fresh.script_nodes (name.Reflector k) i refl)
+
+  made : (n : Vertex) → Among n b.graph.nodes → WasMade new.heap n.name
+  made n i = was-made n.name (is-node n i)
+
+  built : IsBuilt b new
+  built = record {
+    distinct = g.built.distinct;
+    made = made;
+    few = made-few new.heap b.graph.nodes g.built.distinct made;
+    behind = g.built.behind;
+    first = g.built.first;
+    closed = g.built.closed;
+    no_blacks = g.built.no_blacks;
+    unsampled = g.built.unsampled;
+    uncounted = g.built.uncounted;
+  }
+
+  -- it has the key that it had
+  has-key : (x : Name) (key : Held) → WasMade old.heap x → WasMade new.heap x → HasKey old x key → HasKey new x key
+  has-key x (held.Native key) was is has = (has.0, number)
+    where
+      number : (k : ℕ) → x ≡ native k → Among (native k) (native_names new.heap) → number_at new key.0 ≡ Some k
+      number k e i =
+          let earlier : (1 ≤ k) × (k ≤ old.heap.natives_made) = subst (WasMade old.heap) e was in
+          ⊎_elim
+          (λ there. m.keys.natives key.0 k (has.1 k e there) i)
+          (λ later. absurd (omega (arith, later, earlier.1)))
+          (none-back old.heap new.heap r.order.sound r.colours m.order.sound m.fresh k i)
+  has-key x (held.Script key) was is has = (has.0, m.keys.scripts key.0 x has.1 (script x has.0 is))
+    where
+      script : (x : Name) → is_native x ≡ false → WasMade new.heap x → Among x (script_names new.heap)
+      script (name.Native k) e is = cc
+      script (name.Script k) e is = is
+      script (name.Reflector k) e is = is
+
+  are-held : AreHeld b.graph (HasKey new)
+  are-held n i = has-key n.name n.held (g.built.made n i) (made n i) (g.held n i)
+
+  goes-on : GoesOn new b
+  goes-on = record { built = built; held = are-held; fresh = fresh }
+
+-- THE LAW
+pub RunsIn-between : (old new : Keyed) (c : Option Built) → RunsIn old c → MayComeBetween old new → RunsIn new c
+RunsIn-between old new None r m = record { order = m.order; colours = m.colours; goes_on = tt }
+RunsIn-between old new (Some b) r m = record { order = m.order; colours = m.colours; goes_on = goes-on old new b r m }

@@ -1,0 +1,260 @@
+-- WHAT UNITS KEEP, one after the other, and each of them.
+use Rattle.std.proofs.Common.{◌≡◌, ℕ, ◌+◌, Bool, true, false, ◌&&◌, not, List, [], ◌∷◌, length, map, Option, Some, None, refl, sym, ap, ◌∙◌, subst, arith, ◌==◌}
+use Rattle.cc_lists.specs.Members.{Among, has}
+use Rattle.cc_lists.proofs.Members.{Among-map, Among-map_cases, Among-filtered}
+use Rattle.cc_names.specs.declared.name.Name.{Name}
+use Rattle.cc_names.specs.Names.{native}
+use Rattle.cc_model.specs.declared.item.Event.TheVariants.{Abandoned}
+use Rattle.cc_model.specs.Telling.{Telling, TellsEvents}
+use Rattle.cc_model.specs.Heap.{Heap, HeapNative, HeapScript}
+use Rattle.cc_model.specs.WellFormed.{native_names, script_names}
+use Rattle.cc_model.specs.View.{view}
+use Rattle.cc_model.specs.Suspected.{IsSuspected}
+use Rattle.cc_model.specs.Sweep.{collect_scripts}
+use Rattle.cc_model.specs.Snapshot.{Snapshot, white_natives}
+use Rattle.cc_model.specs.Units.{begun, with_empty_buffer, first_untraversed}
+use Rattle.cc_model.specs.End.{went_on, at_end, refused, UnitDone, unit, may_be_refused, take_away, give_back, granted, abandoned, node_or_end, going_on}
+use Rattle.cc_model.proofs.Tellings.{Tells-nil}
+use Rattle.cc_laws_heap.specs.Ending.{TakesAway}
+use Rattle.cc_laws_heap.specs.Rounds.{is_not_among, FreesNames}
+use Rattle.cc_laws_heap.proofs.CollectedColours.{collect_scripts-frees}
+use Rattle.cc_laws_heap.proofs.TakingAway.{take_away-takes}
+use Rattle.cc_laws_snapshot.proofs.WhiteNatives.{white_natives-there, white_natives-unreached}
+use Rattle.cc_laws_snapshot.proofs.GivingBack.{give_back-buffer}
+use Rattle.cc_laws_run.specs.Running.{IsFreshNow}
+use Rattle.cc_laws_run.proofs.UnitLawful.{traversed-none}
+use Rattle.cc_graph.specs.Shown.{Shown}
+use Rattle.cc_heaps.specs.Keyed.{Keyed, changed_to, left_with}
+use Rattle.cc_heaps.specs.Changes.{KeepsKeys}
+use Rattle.cc_heaps.specs.Standing.{StillStands}
+use Rattle.cc_heaps.proofs.KeysKept.{KeepsKeys-same, KeepsKeys-changed, KeepsKeys-left}
+use Rattle.cc_heaps.proofs.FewCounts.{few-alone}
+use Rattle.cc_builder.specs.Building.{Built, IsNodeUnit, snapshot_of}
+use Rattle.cc_unlink.specs.Whites.{whites_of, AreUnreached, AreWhiteIn}
+use Rattle.cc_collector.specs.Kept.{RunsIn, GoesOn, machine_of, running_snapshot}
+use Rattle.cc_collector.specs.Units.{unit_came, Keeps, HasDoneUnit}
+
+-- Units one after the other
+
+-- nothing done
+pub Keeps-nothing : (v : Keyed) (c : Option Built) → RunsIn v c → Keeps v c v c
+Keeps-nothing v c r = record {
+  runs = r;
+  stands = λ g well stands. stands;
+  suspected = λ s. s;
+  keys = KeepsKeys-same v;
+  natives_left = λ x m. m;
+  scripts_left = λ x m. m;
+  counts = few-alone v r.order;
+}
+
+-- one after the other
+pub Keeps-then : (v : Keyed) (c : Option Built) (w : Keyed) (d : Option Built) (u : Keyed) (e : Option Built) → Keeps v c w d → Keeps w d u e → Keeps v c u e
+Keeps-then v c w d u e a b = record {
+  runs = b.runs;
+  stands = λ g well stands. b.stands g well (a.stands g well stands);
+  suspected = λ s. b.suspected (a.suspected s);
+  keys = record {
+    natives = λ key k at m. b.keys.natives key k (a.keys.natives key k at (b.natives_left (native k) m)) m;
+    scripts = λ key x at m. b.keys.scripts key x (a.keys.scripts key x at (b.scripts_left x m)) m;
+  };
+  natives_left = λ x m. a.natives_left x (b.natives_left x m);
+  scripts_left = λ x m. a.scripts_left x (b.scripts_left x m);
+  counts = b.counts;
+}
+
+-- and a script collection after it keeps the keys
+pub KeepsKeys-swept : (v : Keyed) (c : Option Built) (w u : Keyed) → Keeps v c w None → u.heap ≡ (collect_scripts w.heap).heap → KeepsKeys w u → KeepsKeys v u
+KeepsKeys-swept v c w u a heap keys = record {
+  natives = λ key k at m. keys.natives key k (a.keys.natives key k at (natives_left (native k) m)) m;
+  scripts = λ key x at m. keys.scripts key x (a.keys.scripts key x at (scripts_left x m)) m;
+}
+  where
+    xs : List Name
+    xs = (collect_scripts-frees w.heap a.runs.order.sound).0
+
+    frees : FreesNames w.heap xs (collect_scripts w.heap)
+    frees = (collect_scripts-frees w.heap a.runs.order.sound).1
+
+    natives_left : (x : Name) → Among x (native_names u.heap) → Among x (native_names w.heap)
+    natives_left x m = Among-filtered (is_not_among xs) x (native_names w.heap) (subst (Among x) (ap native_names heap ∙ frees.natives) m)
+
+    scripts_left : (x : Name) → Among x (script_names u.heap) → Among x (script_names w.heap)
+    scripts_left x m = Among-filtered (is_not_among xs) x (script_names w.heap) (subst (Among x) (ap script_names heap ∙ frees.scripts) m)
+
+-- the snapshot of the running collection is fresh
+pub RunsIn-fresh : (v : Keyed) (c : Option Built) → RunsIn v c → IsFreshNow v.heap (running_snapshot c)
+RunsIn-fresh v None r = tt
+RunsIn-fresh v (Some b) r = r.goes_on.fresh
+
+-- Each unit
+
+unit-granted : (h : Heap) (s : Option Snapshot) → unit h s true ≡ granted h s
+unfolding unit
+unit-granted h s = go (may_be_refused h s)
+  where
+    by_refusal : Bool → UnitDone
+    by_refusal b = elim b [ true ↦ abandoned h s | false ↦ granted h s ]
+
+    go : (b : Bool) → by_refusal (b && false) ≡ granted h s
+    go true = refl
+    go false = refl
+
+unit-refused : (h : Heap) (s : Option Snapshot) → may_be_refused h s ≡ true → unit h s false ≡ abandoned h s
+unfolding unit
+unit-refused h s e = ap (λ (b : Bool). elim (b && true) [ true ↦ abandoned h s | false ↦ granted h s ]) e
+
+-- the same natives and script objects
+same-natives : (v w : Keyed) (h : Heap) → w ≡ changed_to v h → native_names h ≡ native_names v.heap → (x : Name) → Among x (native_names w.heap) → Among x (native_names v.heap)
+same-natives v w h e same x m = subst (Among x) (ap (λ (k : Keyed). native_names k.heap) e ∙ same) m
+
+same-scripts : (v w : Keyed) (h : Heap) → w ≡ changed_to v h → script_names h ≡ script_names v.heap → (x : Name) → Among x (script_names w.heap) → Among x (script_names v.heap)
+same-scripts v w h e same x m = subst (Among x) (ap (λ (k : Keyed). script_names k.heap) e ∙ same) m
+
+-- A BEGIN
+pub begin-done : (v w : Keyed) (b : Built) (t : Telling) → RunsIn v None → w ≡ changed_to v (with_empty_buffer v.heap) → snapshot_of b ≡ begun v.heap → RunsIn w (Some b) →
+    StillStands v.heap w.heap → (IsSuspected (view v.heap) [] → IsSuspected (view w.heap) (snapshot_of b).candidates) → HasDoneUnit v None w (Some b) went_on t t
+begin-done v w b t r e s runs stands suspected = record {
+  events = [];
+  unit = record {
+    memory = true;
+    is = unit-granted v.heap None ∙ (ap (λ (h : Heap). going_on h (begun v.heap)) (sym (ap (λ (k : Keyed). k.heap) e)) ∙ ap (going_on w.heap) (sym s));
+  };
+  told = Tells-nil t;
+  keeps = record {
+    runs = runs;
+    stands = stands;
+    suspected = suspected;
+    keys = KeepsKeys-changed v w (with_empty_buffer v.heap) e;
+    natives_left = same-natives v w (with_empty_buffer v.heap) e refl;
+    scripts_left = same-scripts v w (with_empty_buffer v.heap) e refl;
+    counts = few-alone w runs.order;
+  };
+  fewer = λ _.
+      let made : w.heap.natives_made ≡ v.heap.natives_made = ap (λ (k : Keyed). k.heap.natives_made) e in
+      let scripts : length w.heap.scripts ≡ length v.heap.scripts = ap (λ (k : Keyed). length k.heap.scripts) e in
+      omega (arith, made, scripts);
+  over = λ f. absurd (f refl);
+}
+
+-- a begin that is refused
+pub begin-refused : (v : Keyed) (t t₁ : Telling) → RunsIn v None → may_be_refused v.heap None ≡ true → TellsEvents t t₁ (Abandoned ∷ []) → HasDoneUnit v None v None refused t t₁
+begin-refused v t t₁ r asks told = record {
+  events = Abandoned ∷ [];
+  unit = record { memory = false; is = unit-refused v.heap None asks };
+  told = told;
+  keeps = Keeps-nothing v None r;
+  fewer = λ e. cc;
+  over = λ f. refl;
+}
+
+-- ONE NODE
+pub node-done : (v : Keyed) (b d : Built) (t : Telling) → RunsIn v (Some b) → IsNodeUnit v.heap (snapshot_of b) (snapshot_of d) → GoesOn v d → (snapshot_of d).candidates ≡ (snapshot_of b).candidates →
+    d.next ≡ b.next + 1 → HasDoneUnit v (Some b) v (Some d) went_on t t
+node-done v b d t r u goes candidates next = record {
+  events = [];
+  unit = record {
+    memory = true;
+    is = unit-granted v.heap (Some (snapshot_of b))
+        ∙ (ap (node_or_end v.heap (snapshot_of b)) u.first_one ∙ ap (going_on v.heap) (sym u.after));
+  };
+  told = Tells-nil t;
+  keeps = record {
+    runs = runs;
+    stands = λ g well stands. stands;
+    suspected = λ s. subst (λ (ks : List ℕ). IsSuspected (view v.heap) ks) (sym candidates) s;
+    keys = KeepsKeys-same v;
+    natives_left = λ x m. m;
+    scripts_left = λ x m. m;
+    counts = few-alone v r.order;
+  };
+  fewer = λ _. omega (arith, next, goes.built.behind, goes.built.few);
+  over = λ f. absurd (f refl);
+}
+  where
+    runs : RunsIn v (Some d)
+    runs = record { order = r.order; colours = r.colours; goes_on = goes }
+
+-- A NODE THAT IS REFUSED
+pub node-refused : (v w : Keyed) (b : Built) (ks : List ℕ) (t t₁ : Telling) → RunsIn v (Some b) → may_be_refused v.heap (Some (snapshot_of b)) ≡ true →
+    ks ≡ (snapshot_of b).candidates → w ≡ changed_to v (give_back ks v.heap) → RunsIn w None → StillStands v.heap w.heap →
+    (IsSuspected (view v.heap) ks → IsSuspected (view w.heap) []) → TellsEvents t t₁ (Abandoned ∷ []) → HasDoneUnit v (Some b) w None refused t t₁
+node-refused v w b ks t t₁ r asks candidates e runs stands suspected told = record {
+  events = Abandoned ∷ [];
+  unit = record {
+    memory = false;
+    is = unit-refused v.heap (Some (snapshot_of b)) asks
+        ∙ ap (λ (h : Heap). unit_came (machine_of h None) (Abandoned ∷ []) refused) (ap (λ (js : List ℕ). give_back js v.heap) (sym candidates) ∙ sym (ap (λ (k : Keyed). k.heap) e));
+  };
+  told = told;
+  keeps = record {
+    runs = runs;
+    stands = stands;
+    suspected = λ s. suspected (subst (λ (js : List ℕ). IsSuspected (view v.heap) js) (sym candidates) s);
+    keys = KeepsKeys-changed v w (give_back ks v.heap) e;
+    natives_left = same-natives v w (give_back ks v.heap) e (ap native_names (give_back-buffer ks v.heap v.heap.buffer));
+    scripts_left = same-scripts v w (give_back ks v.heap) e (ap script_names (give_back-buffer ks v.heap v.heap.buffer));
+    counts = few-alone w runs.order;
+  };
+  fewer = λ f. cc;
+  over = λ f. refl;
+}
+
+-- THE END: the white natives of the graph are those of the snapshot, which is traversed
+module _ (v : Keyed) (b : Built) (g : Shown) (r : RunsIn v (Some b)) (traversed : first_untraversed (snapshot_of b).nodes ≡ None)
+    (whites : whites_of g v.heap ≡ white_natives v.heap (snapshot_of b)) where
+  -- they are white in a fresh snapshot,
+  pub are-white : AreWhiteIn g v.heap (snapshot_of b)
+  are-white = record { fresh = r.goes_on.fresh; traversed = traversed-none (snapshot_of b).nodes traversed; natives = whites }
+
+  -- so no register reaches them
+  pub are-unreached : AreUnreached v.heap (whites_of g v.heap)
+  are-unreached k m = white_natives-unreached v.heap (snapshot_of b) r.order.sound r.goes_on.fresh are-white.traversed k (subst (Among k) whites m)
+
+  pub end-done : (w : Keyed) (t t₁ : Telling) → w ≡ left_with v (take_away (whites_of g v.heap) v.heap).heap → RunsIn w None → StillStands v.heap w.heap →
+      (IsSuspected (view v.heap) (snapshot_of b).candidates → IsSuspected (view w.heap) []) → TellsEvents t t₁ (take_away (whites_of g v.heap) v.heap).events →
+      HasDoneUnit v (Some b) w None at_end t t₁
+  end-done w t t₁ e runs stands suspected told = record {
+    events = (take_away (whites_of g v.heap) v.heap).events;
+    unit = record {
+      memory = true;
+      is = unit-granted v.heap (Some (snapshot_of b))
+          ∙ (ap (node_or_end v.heap (snapshot_of b)) traversed
+          ∙ (ap (λ (ks : List ℕ). unit_came (machine_of (take_away ks v.heap).heap None) (take_away ks v.heap).events at_end) (sym whites)
+          ∙ ap (λ (h : Heap). unit_came (machine_of h None) (take_away (whites_of g v.heap) v.heap).events at_end) (sym heap)));
+    };
+    told = told;
+    keeps = record {
+      runs = runs;
+      stands = stands;
+      suspected = suspected;
+      keys = KeepsKeys-left v w (take_away (whites_of g v.heap) v.heap).heap e;
+      natives_left = natives_left;
+      scripts_left = λ x m. subst (λ (os : List HeapScript). Among x (map (λ o. o.name) os)) (ap (λ (h : Heap). h.scripts) heap ∙ takes.scripts) m;
+      counts = few-alone w runs.order;
+    };
+    fewer = λ f. cc;
+    over = λ f. refl;
+  }
+    where
+      heap : w.heap ≡ (take_away (whites_of g v.heap) v.heap).heap
+      heap = ap (λ (k : Keyed). k.heap) e
+
+      there : (k : ℕ) → Among k (whites_of g v.heap) → Among (native k) (native_names v.heap)
+      there k m = (white_natives-there v.heap (snapshot_of b) r.order.sound).there k (subst (Among k) whites m)
+
+      freed : List ℕ
+      freed = (take_away-takes v.heap (whites_of g v.heap) r.order.sound there).0
+
+      takes : TakesAway v.heap (whites_of g v.heap) freed (take_away (whites_of g v.heap) v.heap)
+      takes = (take_away-takes v.heap (whites_of g v.heap) r.order.sound there).1
+
+      natives_left : (x : Name) → Among x (native_names w.heap) → Among x (native_names v.heap)
+      natives_left x m =
+          let n = Among-map_cases (λ (n : HeapNative). native n.number) w.heap.natives x m in
+          let number : Among n.0.number (map (λ (n : HeapNative). n.number) v.heap.natives) =
+          Among-filtered (λ k. not (has ◌==◌ freed k)) n.0.number (map (λ (n : HeapNative). n.number) v.heap.natives)
+          (subst (Among n.0.number) (ap (λ (h : Heap). map (λ (n : HeapNative). n.number) h.natives) heap ∙ takes.natives)
+          (Among-map (λ (n : HeapNative). n.number) n.0 w.heap.natives n.1)) in
+          let o = Among-map_cases (λ (n : HeapNative). n.number) v.heap.natives n.0.number number in
+          subst (λ y. Among y (native_names v.heap)) (ap native o.2 ∙ n.2) (Among-map (λ (n : HeapNative). native n.number) o.0 v.heap.natives o.1)

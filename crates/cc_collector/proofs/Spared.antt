@@ -1,0 +1,102 @@
+-- WHAT A SLICE, A COLLECTION AND `gc` FREE OR UNLINK is reached in no graph that the heaps stand for.
+use Rattle.std.proofs.Common.{◌≡◌, ℕ, Bool, true, false, List, [], ◌∷◌, ◌++◌, Option, refl, sym, ap, ◌∙◌, subst, inl, inr, ◌⊎◌, ⊎_elim}
+use Rattle.std.specs.List.{filter}
+use Rattle.cc_lists.specs.Members.{Among}
+use Rattle.cc_names.specs.declared.name.Name.{Name}
+use Rattle.cc_names.specs.declared.name.Name.TheVariants as name
+use Rattle.cc_names.specs.Names.{is_native, is_script}
+use Rattle.cc_model.specs.declared.command.Command.{Command}
+use Rattle.cc_model.specs.declared.command.Command.TheVariants.{Slice, Collect, Gc}
+use Rattle.cc_model.specs.declared.item.Event.{Event}
+use Rattle.cc_model.specs.declared.item.Event.TheVariants.{Unlinked, Freed, Abandoned}
+use Rattle.cc_model.specs.Graph.{Graph}
+use Rattle.cc_model.specs.Reached.{Reached}
+use Rattle.cc_model.specs.StandsFor.{StandsFor}
+use Rattle.cc_model.specs.Heap.{Heap}
+use Rattle.cc_model.specs.WellFormed.{IsWellFormed, native_names, script_names, names_there}
+use Rattle.cc_model.specs.Listed.{census_order, after_event}
+use Rattle.cc_model.specs.Lawful.{MayBe, EachMayBe}
+use Rattle.cc_model.specs.Collecting.{slice, collect, gc}
+use Rattle.cc_model.specs.Run.{census_names}
+use Rattle.cc_laws_heap.proofs.ScriptNames.{script_names-named}
+use Rattle.cc_laws_snapshot.proofs.SoundView.{native-name_of}
+use Rattle.cc_laws_run.specs.Memory.{with_memory}
+use Rattle.cc_laws_run.proofs.UnitLawful.{RunsOn}
+use Rattle.cc_laws_run.proofs.UnitsLawful.{slice-lawful, collect-lawful}
+use Rattle.cc_laws_run.proofs.ScriptsLawful.{gc-lawful}
+use Rattle.cc_heaps.specs.Keyed.{Keyed}
+use Rattle.cc_builder.specs.Building.{Built}
+use Rattle.cc_collector.specs.Kept.{RunsIn, machine_of}
+use Rattle.cc_collector.specs.Collected.{SparesReached}
+use Rattle.cc_collector.proofs.Keeping.{RunsIn-fresh}
+
+-- Names that are all natives', and then such as are all script objects', are in census order
+
+-- what passes stays, and what does not goes
+filter-both : (p : Name → Bool) (xs ys : List Name) → ((x : Name) → Among x xs → p x ≡ true) → ((x : Name) → Among x ys → p x ≡ false) → filter p (xs ++ ys) ≡ xs
+filter-both p [] [] all none = refl
+filter-both p [] (y ∷ ys) all none = rw (none y (inl refl)) (filter-both p [] ys all (λ x m. none x (inr m)))
+filter-both p (x ∷ xs) ys all none = rw (all x (inl refl)) (ap (λ l. x ∷ l) (filter-both p xs ys (λ y m. all y (inr m)) none))
+
+-- and the other way round
+filter-later : (p : Name → Bool) (xs ys : List Name) → ((x : Name) → Among x xs → p x ≡ false) → ((x : Name) → Among x ys → p x ≡ true) → filter p (xs ++ ys) ≡ ys
+filter-later p [] [] none all = refl
+filter-later p [] (y ∷ ys) none all = rw (all y (inl refl)) (ap (λ l. y ∷ l) (filter-later p [] ys none (λ x m. all x (inr m))))
+filter-later p (x ∷ xs) ys none all = rw (none x (inl refl)) (filter-later p xs ys (λ y m. none y (inr m)) all)
+
+-- no name is both a native's and a script object's
+native-no_script : (x : Name) → is_native x ≡ true → is_script x ≡ false
+native-no_script (name.Native k) e = refl
+native-no_script (name.Script k) e = cc
+native-no_script (name.Reflector k) e = cc
+
+script-no_native : (x : Name) → is_script x ≡ true → is_native x ≡ false
+script-no_native (name.Native k) e = cc
+script-no_native (name.Script k) e = refl
+script-no_native (name.Reflector k) e = refl
+
+listed-there : (h : Heap) → IsWellFormed h → census_names h ≡ census_order (names_there h)
+listed-there h w =
+    ap (λ l. l ++ script_names h) (sym (filter-both is_native (native_names h) (script_names h) (native-name_of h) (λ x m. script-no_native x (script_names-named h w x m))))
+    ∙ ap (λ l. filter is_native (names_there h) ++ l)
+    (sym (filter-later is_script (native_names h) (script_names h) (λ x m. native-no_script x (native-name_of h x m)) (script_names-named h w)))
+
+-- Heaps with a running collection run beside each graph that they stand for
+runs-on : (v : Keyed) (c : Option Built) (g : Graph) → RunsIn v c → StandsFor v.heap g → RunsOn g (names_there v.heap) v.heap (machine_of v.heap c).snapshot
+runs-on v c g r stands = record {
+  sound = r.order.sound;
+  colours = r.colours;
+  fresh = RunsIn-fresh v c r;
+  stands = stands;
+  listed = listed-there v.heap r.order.sound.well_formed;
+}
+
+-- events that may be told spare what is reached
+each-spares : (g : Graph) (names : List Name) (c : Command) (es : List Event) → EachMayBe g names c es → (x : Name) → Among (Freed x) es ⊎ Among (Unlinked x) es → ¬ (Reached g x)
+each-spares g names c [] each x m = absurd (⊎_elim (λ l. l) (λ r. r) m)
+each-spares g names c (e ∷ es) each x m = ⊎_elim
+    (λ l. ⊎_elim (λ same. freed e each.0 same) (λ later. each-spares g (after_event names e) c es each.1 x (inl later)) l)
+    (λ r. ⊎_elim (λ same. unlinked e each.0 same) (λ later. each-spares g (after_event names e) c es each.1 x (inr later)) r) m
+  where
+    freed : (e : Event) → MayBe g names c e → e ≡ Freed x → ¬ (Reached g x)
+    freed (Freed y) may same = subst (λ z. ¬ (Reached g z)) (cc) may.1
+    freed (Unlinked y) may same = cc
+    freed Abandoned may same = cc
+
+    unlinked : (e : Event) → MayBe g names c e → e ≡ Unlinked x → ¬ (Reached g x)
+    unlinked (Freed y) may same = cc
+    unlinked (Unlinked y) may same = subst (λ z. ¬ (Reached g z)) (cc) may.1
+    unlinked Abandoned may same = cc
+
+module _ (v : Keyed) (c : Option Built) (r : RunsIn v c) (memory : List Bool) where
+  pub slice-spares : (n : ℕ) → SparesReached v.heap (slice n (with_memory (machine_of v.heap c) memory)).events
+  slice-spares n g x well stands m = each-spares g (names_there v.heap) (Slice n) (slice n (with_memory (machine_of v.heap c) memory)).events
+      (slice-lawful g well (Slice n) refl (names_there v.heap) n (with_memory (machine_of v.heap c) memory) (runs-on v c g r stands)).each x m
+
+  pub collect-spares : SparesReached v.heap (collect (with_memory (machine_of v.heap c) memory)).events
+  collect-spares g x well stands m = each-spares g (names_there v.heap) Collect (collect (with_memory (machine_of v.heap c) memory)).events
+      (collect-lawful g well Collect refl (names_there v.heap) (with_memory (machine_of v.heap c) memory) (runs-on v c g r stands)).each x m
+
+  pub gc-spares : SparesReached v.heap (gc (with_memory (machine_of v.heap c) memory)).events
+  gc-spares g x well stands m = each-spares g (names_there v.heap) Gc (gc (with_memory (machine_of v.heap c) memory)).events
+      (gc-lawful g well (names_there v.heap) (with_memory (machine_of v.heap c) memory) (runs-on v c g r stands)).each x m

@@ -1,0 +1,24 @@
+use Rattle.std.proofs.Common.{Option, None, sym, subst}
+use Rattle.cc_model.specs.End.{refused}
+use Rattle.cc_heaps.specs.Keyed.{Keyed}
+use Rattle.cc_builder.specs.Building.{Built}
+use Rattle.cc_collector.specs.Units.{HasDoneUnit}
+use Rattle.cc_collector.proofs.Keeping.{begin-done, begin-refused}
+use Rattle.cc_collector.proofs.collector.Collector.begin.Goals as goal
+
+pub returns-in-Ok : goal.returns-in-Ok
+returns-in-Ok g c =
+    let b = c.in-Ok.build in
+    let e = c.in-Ok.ensures in
+    begin-done c.args.heaps.now c.begin.new.heaps b (g.N.Notices.telling c.args.out.now) c.requires.runs e.heap e.snapshot
+    (record { order = e.order; colours = e.colours c.requires.runs.colours; goes_on = record { built = e.built; held = e.held; fresh = e.fresh c.requires.runs.colours } })
+    e.stands e.suspected
+
+pub returns-in-Err : goal.returns-in-Err
+returns-in-Err g c =
+    let v = c.args.heaps.now in
+    let t = g.N.Notices.telling c.args.out.now in
+    let t₁ = g.N.Notices.telling c.tell.new.self in
+    subst (λ (w : Keyed). HasDoneUnit v None w c.args.self.now refused t t₁) (sym c.in-Err.ensures.unchanged)
+    (subst (λ (d : Option Built). HasDoneUnit v None v d refused t t₁) (sym c.requires.idle)
+    (begin-refused v t t₁ c.requires.runs c.in-Err.ensures.refused c.tell.ensures))

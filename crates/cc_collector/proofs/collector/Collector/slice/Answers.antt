@@ -1,0 +1,100 @@
+use Rattle.std.specs.Prelude.{IsErr}
+use Rattle.std.proofs.Common.{◌≡◌, ℕ, Result, Ok, Err, refl, sym, ap, subst, arith}
+use Rattle.cc_names.specs.declared.no_memory.NoMemory.{NoMemory}
+use Rattle.cc_model.proofs.Tellings.{Tells-nil}
+use Rattle.cc_model.specs.End.{Progress, went_on, at_end, refused}
+use Rattle.cc_collector.specs.declared.collector.Ended.{Ended}
+use Rattle.cc_collector.specs.Kept.{machine_of}
+use Rattle.cc_collector.specs.Collected.{IsSliced, progress_of}
+use Rattle.cc_collector.specs.Units.{HasGoneOn, HasDoneUnit, Keeps}
+use Rattle.cc_collector.proofs.Rows.{HasGoneOn-none, HasGoneOn-more}
+use Rattle.cc_collector.proofs.Keeping.{Keeps-nothing, Keeps-then}
+use Rattle.cc_collector.proofs.Coming.{sliced-went_on, sliced-stopped, still-told}
+use Rattle.cc_collector.proofs.collector.Collector.slice.Given as given
+use Rattle.cc_collector.proofs.collector.Collector.slice.Goals as goal
+
+-- an error is progress that was refused
+err-refused : (r : Result Ended NoMemory) → IsErr r → progress_of r ≡ refused
+err-refused (Ok e) i = cc
+err-refused (Err e) i = refl
+
+pub loop-init : goal.loop-init
+loop-init g c = record {
+  gone_on = HasGoneOn-none (machine_of c.args.heaps.now.heap c.args.self.now);
+  told = Tells-nil (g.N.Notices.telling c.args.out.now);
+  counted = omega arith;
+  keeps = Keeps-nothing c.args.heaps.now c.args.self.now c.requires.runs;
+}
+
+-- A unit is refused
+
+pub returns-in_err-ended-clause-sliced : goal.returns-in_err-ended-clause-sliced
+returns-in_err-ended-clause-sliced g c =
+    let telling = g.N.Notices.telling in
+    let i = c.loop.invariant in
+    let v = c.args.heaps.now in
+    subst (λ (p : Progress). IsSliced c.args.units (machine_of v.heap c.args.self.now) (machine_of c.unit.new.heaps.heap c.unit.new.self) p c.args.steps.now c.loop.steps
+    (telling c.args.out.now) (telling c.unit.new.out)) (sym (err-refused c.from_residual.result c.from_residual.ensures.0))
+    (sliced-stopped v c.args.self.now c.requires.runs c.args.units c.loop.counter c.loop.heaps c.loop.self c.unit.new.heaps c.unit.new.self refused c.args.steps.now c.loop.steps
+    (telling c.args.out.now) (telling c.loop.out) (telling c.unit.new.out) (omega (arith, c.loop-test.true)) (λ e. cc) i.gone_on i.told c.in_err-ended.ensures (omega (arith, i.counted)))
+
+-- what is kept by the units until then
+err-keeps : (g : given.Over) (c : goal.After-from_residual g) → Keeps c.args.heaps.now c.args.self.now c.unit.new.heaps c.unit.new.self
+err-keeps g c = Keeps-then c.args.heaps.now c.args.self.now c.loop.heaps c.loop.self c.unit.new.heaps c.unit.new.self c.loop.invariant.keeps c.unit.ensures.keeps
+
+pub returns-in_err-ended-clause-suspected : goal.returns-in_err-ended-clause-suspected
+returns-in_err-ended-clause-suspected g c = λ s. (err-keeps g c).suspected s
+
+pub returns-in_err-ended-clause-keys : goal.returns-in_err-ended-clause-keys
+returns-in_err-ended-clause-keys g c = (err-keeps g c).keys
+
+-- A unit ends the collection
+
+pub returns-in-Yes-clause-sliced : goal.returns-in-Yes-clause-sliced
+returns-in-Yes-clause-sliced g c =
+    let telling = g.N.Notices.telling in
+    let i = c.loop.invariant in
+    let v = c.args.heaps.now in
+    let u : HasDoneUnit c.loop.heaps c.loop.self c.unit.new.heaps c.unit.new.self at_end (telling c.loop.out) (telling c.unit.new.out) =
+    subst (λ (p : Progress). HasDoneUnit c.loop.heaps c.loop.self c.unit.new.heaps c.unit.new.self p (telling c.loop.out) (telling c.unit.new.out))
+    (ap (λ (e : Ended). progress_of (Ok e)) c.in-Yes.is) c.in_ok-ended.ensures in
+    subst (λ (p : Progress). IsSliced c.args.units (machine_of v.heap c.args.self.now) (machine_of c.unit.new.heaps.heap c.unit.new.self) p c.args.steps.now c.tick.new.self
+    (telling c.args.out.now) (telling c.unit.new.out)) (sym (ap (λ (e : Ended). progress_of (Ok e)) c.in-Yes.is))
+    (sliced-stopped v c.args.self.now c.requires.runs c.args.units c.loop.counter c.loop.heaps c.loop.self c.unit.new.heaps c.unit.new.self at_end c.args.steps.now c.tick.new.self
+    (telling c.args.out.now) (telling c.loop.out) (telling c.unit.new.out) (omega (arith, c.loop-test.true)) (λ e. cc) i.gone_on i.told u (omega (arith, i.counted, c.tick.ensures)))
+
+pub returns-in-Yes-clause-suspected : goal.returns-in-Yes-clause-suspected
+returns-in-Yes-clause-suspected g c = λ s.
+    (Keeps-then c.args.heaps.now c.args.self.now c.loop.heaps c.loop.self c.unit.new.heaps c.unit.new.self c.loop.invariant.keeps c.unit.ensures.keeps).suspected s
+
+pub returns-in-Yes-clause-keys : goal.returns-in-Yes-clause-keys
+returns-in-Yes-clause-keys g c =
+    (Keeps-then c.args.heaps.now c.args.self.now c.loop.heaps c.loop.self c.unit.new.heaps c.unit.new.self c.loop.invariant.keeps c.unit.ensures.keeps).keys
+
+-- It goes on
+
+pub loop-preserved : goal.loop-preserved
+loop-preserved g c =
+    let telling = g.N.Notices.telling in
+    let i = c.loop.invariant in
+    let v = c.args.heaps.now in
+    let u : HasDoneUnit c.loop.heaps c.loop.self c.unit.new.heaps c.unit.new.self went_on (telling c.loop.out) (telling c.unit.new.out) =
+    subst (λ (p : Progress). HasDoneUnit c.loop.heaps c.loop.self c.unit.new.heaps c.unit.new.self p (telling c.loop.out) (telling c.unit.new.out))
+    (ap (λ (e : Ended). progress_of (Ok e)) c.in_default.is) c.in_ok-ended.ensures in
+    record {
+      gone_on = HasGoneOn-more c.loop.counter (machine_of v.heap c.args.self.now) (machine_of c.loop.heaps.heap c.loop.self) (machine_of c.unit.new.heaps.heap c.unit.new.self)
+          u.events i.gone_on u.unit;
+      told = still-told c.loop.heaps c.loop.self c.unit.new.heaps c.unit.new.self (telling c.args.out.now) (telling c.loop.out) (telling c.unit.new.out) i.told u;
+      counted = omega (arith, i.counted, c.tick.ensures);
+      keeps = Keeps-then v c.args.self.now c.loop.heaps c.loop.self c.unit.new.heaps c.unit.new.self i.keeps u.keeps;
+    }
+
+-- All units are done
+
+pub returns-clause-sliced : goal.returns-clause-sliced
+returns-clause-sliced g c =
+    let telling = g.N.Notices.telling in
+    let i = c.loop.invariant in
+    let all : c.loop.counter ≡ c.args.units = omega (arith, c.loop-test.false, c.loop.auto.counter-end) in
+    sliced-went_on c.args.heaps.now c.args.self.now c.requires.runs c.args.units c.loop.heaps c.loop.self c.args.steps.now c.loop.steps (telling c.args.out.now) (telling c.loop.out)
+    (subst (λ (k : ℕ). HasGoneOn k (machine_of c.args.heaps.now.heap c.args.self.now) (machine_of c.loop.heaps.heap c.loop.self)) all i.gone_on) i.told (omega (arith, all, i.counted))

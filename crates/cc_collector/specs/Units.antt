@@ -1,0 +1,84 @@
+-- ONE UNIT, AND UNITS TO THE END, over the heaps with their keys.
+use Rattle.std.specs.Prelude.{◌≡◌, ◌≢◌, ℕ, ◌+◌, ◌-◌, ◌<◌, Bool, true, false, List, length, Option, Some, None, is_some}
+use Rattle.cc_lists.specs.Members.{Among}
+use Rattle.cc_names.specs.declared.name.Name.{Name}
+use Rattle.cc_model.specs.Telling.{Telling, TellsEvents}
+use Rattle.cc_model.specs.declared.item.Event.{Event}
+use Rattle.cc_model.specs.WellFormed.{native_names, script_names}
+use Rattle.cc_model.specs.End.{Progress, went_on, at_end, UnitDone, unit}
+use Rattle.cc_model.specs.Collecting.{Machine, UnitsDone, no_units, units_done}
+use Rattle.cc_laws_run.specs.Memory.{with_memory}
+use Rattle.cc_laws_run.specs.Doomed.{IsSuspectedNow}
+use Rattle.cc_heaps.specs.Keyed.{Keyed}
+use Rattle.cc_heaps.specs.Changes.{KeepsKeys}
+use Rattle.cc_heaps.specs.Few.{AreFew}
+use Rattle.cc_heaps.specs.Standing.{StillStands}
+use Rattle.cc_builder.specs.Building.{Built}
+use Rattle.cc_collector.specs.Kept.{RunsIn, machine_of}
+use Rattle.cc_collector.specs.Collected.{units_counted}
+
+-- what a unit came to
+abbrev pub unit_came : Machine → List Event → Progress → UnitDone
+unit_came m events progress = record { heap = m.heap; snapshot = m.snapshot; events = events; progress = progress }
+
+-- ONE UNIT leads from one machine to another, for some answer of memory
+pub record IsUnit (old new : Machine) (events : List Event) (progress : Progress) : Type 0 where
+  pub memory : Bool
+  pub is : unit old.heap old.snapshot memory ≡ unit_came new events progress
+
+-- what units came to
+abbrev pub units_came : Machine → List Event → Progress → UnitsDone
+units_came m events progress = record { machine = m; events = events; progress = progress }
+
+-- SO MANY UNITS WENT ON: with any later answers of memory there are answers that lead here, and what follows follows
+pub record HasGoneOn (so_far : ℕ) (before now : Machine) : Type 0 where
+  pub memory : List Bool → List Bool
+  pub later : (rest : List Bool) (n : ℕ) →
+      units_done (so_far + n) (no_units (with_memory before (memory rest))) ≡ units_done n (no_units (with_memory now rest))
+  pub counted : (rest : List Bool) (n : ℕ) →
+      units_counted (so_far + n) (no_units (with_memory before (memory rest))) ≡ so_far + units_counted n (no_units (with_memory now rest))
+
+-- so many units, the last of which ended the collection or was refused, with any later answers of memory
+pub record HasStopped (before now : Machine) (events : List Event) (progress : Progress) : Type 0 where
+  pub units : ℕ
+  pub memory : List Bool → List Bool
+  pub come : (rest : List Bool) →
+      units_done units (no_units (with_memory before (memory rest))) ≡ units_came (with_memory now rest) events progress
+  pub stopped : progress ≢ went_on
+
+-- WHAT EACH UNIT KEEPS of the heaps and the running collection; it makes no object
+pub record Keeps (v : Keyed) (c : Option Built) (w : Keyed) (d : Option Built) : Type 0 where
+  pub runs : RunsIn w d
+  pub stands : StillStands v.heap w.heap
+  pub suspected : IsSuspectedNow (machine_of v.heap c) → IsSuspectedNow (machine_of w.heap d)
+  pub keys : KeepsKeys v w
+  pub natives_left : (x : Name) → Among x (native_names w.heap) → Among x (native_names v.heap)
+  pub scripts_left : (x : Name) → Among x (script_names w.heap) → Among x (script_names v.heap)
+  pub counts : AreFew w.heap
+
+-- how many units can be left: begin, one for each object that was made, and end
+abbrev pub units_left : Keyed → Option Built → ℕ
+units_left v None = v.heap.natives_made + length v.heap.scripts + 2
+units_left v (Some b) = v.heap.natives_made + length v.heap.scripts + 1 - b.next
+
+-- A UNIT IS DONE, and told
+pub record HasDoneUnit (v : Keyed) (c : Option Built) (w : Keyed) (d : Option Built) (progress : Progress) (before after : Telling) : Type 0 where
+  pub events : List Event
+  pub unit : IsUnit (machine_of v.heap c) (machine_of w.heap d) events progress
+  pub told : TellsEvents before after events
+  pub keeps : Keeps v c w d
+  pub fewer : progress ≡ went_on → units_left w d < units_left v c
+  pub over : progress ≢ went_on → d ≡ None
+
+-- UNITS ARE DONE TO THE END, or until one was refused, and told
+pub record HasDoneAll (v : Keyed) (c : Option Built) (w : Keyed) (progress : Progress) (before after : Telling) : Type 0 where
+  pub events : List Event
+  pub stopped : HasStopped (machine_of v.heap c) (machine_of w.heap None) events progress
+  pub told : TellsEvents before after events
+  pub keeps : Keeps v c w None
+
+-- a running collection IS FINISHED; where none runs nothing is done
+pub record HasFinished (v : Keyed) (c : Option Built) (w : Keyed) (before after : Telling) : Type 0 where
+  pub idle : is_some c ≡ false → (w ≡ v) × (after ≡ before)
+  pub ran : is_some c ≡ true → HasDoneAll v c w at_end before after
+  pub keeps : Keeps v c w None
