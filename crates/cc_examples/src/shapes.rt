@@ -240,3 +240,74 @@ fn a_ring_through_a_thousand_reflectors_is_freed(rt: HostRuntime) -> Result<(), 
     play.ask("census\n", "- free ~1\n- free #1\n= ok\n= census 0\n")?;
     play.runs(&rt, "a ring through reflectors")
 }
+
+/// A hundred natives that each hold themselves and another one. A collection has begun when registers let go of the
+/// others: each of these goes while its holder is unlinked, and the holders go when all of them are unlinked.
+#[test]
+fn natives_vanish_while_others_are_unlinked(rt: HostRuntime) -> Result<(), Fail> {
+    let pairs = 100u16;
+    let mut play = Play::new(rt.alloc());
+    for j in 1..pairs + 1 {
+        let holder = 2 * j as u32 - 1;
+        let held = 2 * j as u32;
+        play.ask(
+            format!(in rt.alloc(); "native n0 2\nnative n{j} 0\nset n0 0 n0\nset n0 1 n{j}\ndrop n0\n")?.as_str(),
+            format!(in rt.alloc(); "= #{holder}\n= #{held}\n= ok\n= ok\n= ok\n")?.as_str(),
+        )?;
+    }
+    play.ask("slice 1\n", "= ok\n")?;
+    for j in 1..pairs + 1 {
+        play.ask(
+            format!(in rt.alloc(); "drop n{j}\n")?.as_str(),
+            "= ok\n",
+        )?;
+    }
+    play.ask("slice 1000000\n", "")?;
+    for j in 1..pairs + 1 {
+        let holder = 2 * j as u32 - 1;
+        let held = 2 * j as u32;
+        play.ask(
+            "",
+            format!(in rt.alloc(); "- unlink #{holder}\n- free #{held}\n")?.as_str(),
+        )?;
+    }
+    for j in 1..pairs + 1 {
+        let holder = 2 * j as u32 - 1;
+        play.ask(
+            "",
+            format!(in rt.alloc(); "- free #{holder}\n")?.as_str(),
+        )?;
+    }
+    play.ask("", "= ok\n")?;
+    play.runs(&rt, "natives that vanish")
+}
+
+/// A native that all its slots and all registers hold is no suspect when a collection begins; all registers let go of it
+/// before that collection ends, which has no node. The next one finds it.
+#[test]
+fn a_native_that_everything_held_is_collected(rt: HostRuntime) -> Result<(), Fail> {
+    let mut play = Play::new(rt.alloc());
+    play.ask("native n0 64\n", "= #1\n")?;
+    for i in 0..64u16 {
+        play.ask(
+            format!(in rt.alloc(); "set n0 {i} n0\n")?.as_str(),
+            "= ok\n",
+        )?;
+    }
+    for j in 1..256u16 {
+        play.ask(
+            format!(in rt.alloc(); "copy n{j} n0\n")?.as_str(),
+            "= #1\n",
+        )?;
+    }
+    play.ask("slice 1\n", "= ok\n")?;
+    for j in 0..256u16 {
+        play.ask(
+            format!(in rt.alloc(); "drop n{j}\n")?.as_str(),
+            "= ok\n",
+        )?;
+    }
+    play.ask("slice 1\n", "= ok\n")?;
+    play.ask("collect\n", "- unlink #1\n- free #1\n= ok\n")?;
+    play.runs(&rt, "a native that everything held")
+}
