@@ -40,7 +40,7 @@ use Rattle.cc_heaps.specs.Keyed.{Keyed, IsInOrder, Reflects, left_with, name_hel
 use Rattle.cc_heaps.specs.Changes.{KeepsKeys}
 use Rattle.cc_heaps.specs.Named.{own_name, named_native, named, script_named, IsHeldThere, IsScriptLive}
 use Rattle.cc_heaps.specs.Fields.{heap_of, keyed_of, IsLinked}
-use Rattle.cc_heaps.specs.Sweeping.{Left, OwnEach, is_white, native_keys, not_white, sweep_each, swept_counts, untold, white_names, whites}
+use Rattle.cc_heaps.specs.Sweeping.{Left, OwnEach, is_white, native_keys, not_white, swept_counts, untold, white_names, whites}
 use Rattle.cc_heaps.specs.declared.heaps.Heaps.TheInside.{Inside}
 use Rattle.cc_heaps.proofs.Calls.{key_left-shown}
 use Rattle.cc_heaps.proofs.Keying.{AreHeldThere}

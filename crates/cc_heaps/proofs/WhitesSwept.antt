@@ -138,25 +138,6 @@ Sweeps-start before first at a own key = record {
   owned = own;
 }
 
--- at the end of the walk all are swept
-pub Sweeps-end : (before now : List Object) (first counted : Counts) (at : Option SKey) (swept : Bool) (a b : Telling) → at ≡ None →
-    Sweeps before now first counted at swept a b →
-    (swept ≡ are_some (white_names before)) × (now ≡ not_white before) × (counted ≡ (swept_counts first before).counts) × TellsEvents a b (swept_counts first before).events
-Sweeps-end before now first counted at swept a b e s = go s.left refl
-  where
-    go : (left : List Object) → s.left ≡ left →
-        (swept ≡ are_some (white_names before)) × (now ≡ not_white before) × (counted ≡ (swept_counts first before).counts) × TellsEvents a b (swept_counts first before).events
-    go [] f =
-        let whole : before ≡ s.seen = s.whole ∙ (ap (λ os. s.seen ++ os) f ∙ append-nil s.seen) in
-        let natives : record { counts = counted; events = s.events } ≡ swept_counts first before =
-        ap (λ os. sweep_each first (whites os) (record { counts = counted; events = s.events })) (sym f) ∙ s.natives in (
-          s.found ∙ ap (λ os. are_some (white_names os)) (sym whole),
-          s.rest ∙ (ap (λ os. not_white s.seen ++ os) f ∙ (append-nil (not_white s.seen) ∙ ap not_white (sym whole))),
-          ap (λ (l : Left). l.counts) natives,
-          subst (TellsEvents a b) (ap (λ (l : Left). l.events) natives) s.told,
-        )
-    go (o ∷ os) f = let bad : None ≡ Some o.key = sym (ap (option_map (λ (key : SKey). key.0)) e) ∙ (s.key ∙ ap first_key f) in absurd (cc)
-
 -- the object to which it has come
 pub record Stands (before now : List Object) (first counted : Counts) (key : ℕ) (swept : Bool) (a b : Telling) : Type 0 where
   pub seen : List Object

@@ -9,8 +9,7 @@ ghost use Rattle.cc_counted.specs.Counts.{key_left, the_number};
 ghost use Rattle.cc_counted.specs.Owning.{Transfers};
 ghost use Rattle.cc_heaps.specs.Keyed.{IsInOrder};
 ghost use Rattle.cc_heaps.specs.Changes.{KeepsKeys};
-ghost use Rattle.cc_heaps.specs.Sweeping.{are_some, is_white, native_keys, native_keys_where, not_white, sweep_where, swept_counts, white_names, whites, OwnEach};
-ghost use Rattle.cc_heaps.specs.Sweeping.{let_native_go};
+ghost use Rattle.cc_heaps.specs.Sweeping.{are_some, is_white, let_native_go, native_keys, native_keys_where, not_white, sweep_where, swept_counts, white_names, whites, OwnEach};
 ghost use Rattle.cc_heaps.specs.Standing.{StillStands};
 ghost use Rattle.cc_heaps.specs.Few.{AreFew};
 

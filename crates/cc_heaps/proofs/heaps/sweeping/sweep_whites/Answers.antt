@@ -1,6 +1,6 @@
 use Rattle.std.proofs.Common.{Option, ◌<◌, sym, subst}
 use Rattle.cc_names.specs.declared.number.SKey.{SKey}
-use Rattle.cc_heaps.proofs.WhitesSwept.{Sweeps-start, Sweeps-stands, Stands-there, Stands-owned, Sweeps-next, Sweeps-fewer, Sweeps-end, objects_left}
+use Rattle.cc_heaps.proofs.WhitesSwept.{Sweeps-start, Sweeps-stands, Stands-there, Stands-owned, Sweeps-next, Sweeps-fewer, objects_left}
 use Rattle.cc_heaps.proofs.heaps.sweeping.sweep_whites.Goals as goal
 
 pub loop-at-init : goal.loop-at-init
