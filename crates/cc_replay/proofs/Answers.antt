@@ -12,7 +12,7 @@ use Rattle.cc_model.specs.Answers.{Answer, items_of, all_items_of, text_of_answe
 use Rattle.cc_model.specs.Asks.{Ask, ask_of}
 use Rattle.cc_model.specs.Heap.{Heap, empty_heap}
 use Rattle.cc_model.specs.Snapshot.{Snapshot}
-use Rattle.cc_model.specs.Collecting.{Machine}
+use Rattle.cc_model.specs.Collecting.{Machine, empty_machine}
 use Rattle.cc_model.specs.Run.{do_ask}
 use Rattle.cc_model.proofs.Tellings.{Tells-nil, Tells-trans}
 use Rattle.cc_laws_run.specs.Memory.{with_memory, all_noes_told, SameMachine, IsDoneFor, AreDoneFor}
@@ -24,7 +24,6 @@ use Rattle.cc_reader.specs.FormsNow.{forms_now}
 use Rattle.cc_reader.specs.Pending.{Pending}
 use Rattle.cc_reader.specs.Given.{AreFirst, HasGiven}
 use Rattle.cc_reader.proofs.Given.{HasGiven-first}
-use Rattle.cc_collector.specs.Collected.{idle_machine}
 use Rattle.cc_replay.specs.Answering.{Answers, AreAnswered, GivesLine, LineIsAnswered, Moment}
 use Rattle.cc_replay.specs.Transcripts.{IsTranscript}
 
@@ -55,16 +54,16 @@ text_of_answers-more answers a =
     ∙ flat_map-append text_of (all_items_of answers) (items_of a)
 
 -- no line is answered yet
-AreAnswered-none : (h : Heap) (t : Telling) → AreAnswered h h [] t t
-AreAnswered-none h t = record { answers = []; done = record { heap = refl; snapshot = refl }; in_range = refl; told = Tells-nil t }
+AreAnswered-none : (k : Machine) (t : Telling) → AreAnswered k k [] t t
+AreAnswered-none k t = record { answers = []; done = record { heap = refl; snapshot = refl }; in_range = refl; told = Tells-nil t }
 
 -- ONE MORE LINE IS ANSWERED
-AreAnswered-more : (h₀ h₁ h₂ : Heap) (lines : List (List ℕ)) (line : List ℕ) (t₀ t₁ t₂ : Telling) →
-    AreAnswered h₀ h₁ lines t₀ t₁ → LineIsAnswered h₁ h₂ line t₁ t₂ → AreAnswered h₀ h₂ (lines ++ line ∷ []) t₀ t₂
-AreAnswered-more h₀ h₁ h₂ lines line t₀ t₁ t₂ a l = record {
+AreAnswered-more : (k₀ k₁ k₂ : Machine) (lines : List (List ℕ)) (line : List ℕ) (t₀ t₁ t₂ : Telling) →
+    AreAnswered k₀ k₁ lines t₀ t₁ → LineIsAnswered k₁ k₂ line t₁ t₂ → AreAnswered k₀ k₂ (lines ++ line ∷ []) t₀ t₂
+AreAnswered-more k₀ k₁ k₂ lines line t₀ t₁ t₂ a l = record {
   answers = a.answers ++ l.answered.answer ∷ [];
-  done = subst (λ (asks : List Ask). AreDoneFor (idle_machine h₀) asks (a.answers ++ l.answered.answer ∷ []) (idle_machine h₂)) (sym asks)
-      (AreDoneFor-more (idle_machine h₀) (idle_machine h₁) (idle_machine h₂) (map (ask_of forms_now) lines) a.answers (ask_of forms_now line) l.answered.answer a.done l.answered.done);
+  done = subst (λ (asks : List Ask). AreDoneFor k₀ asks (a.answers ++ l.answered.answer ∷ []) k₂) (sym asks)
+      (AreDoneFor-more k₀ k₁ k₂ (map (ask_of forms_now) lines) a.answers (ask_of forms_now line) l.answered.answer a.done l.answered.done);
   in_range = ap (list_all ask_in_range) asks ∙ (list_all-append ask_in_range (map (ask_of forms_now) lines) (ask_of forms_now line ∷ [])
       ∙ and_from _ _ a.in_range (and_from _ true l.in_range refl));
   told = subst (Tells t₀ t₂) (sym (text_of_answers-more a.answers l.answered.answer))
@@ -76,19 +75,19 @@ AreAnswered-more h₀ h₁ h₂ lines line t₀ t₁ t₂ a l = record {
 
 -- a reader that has given no line, with nothing answered
 pub Answers-none : (m : Moment) → Answers HasGiven m m
-Answers-none m = record { lines = λ start begun. ([], begun, AreAnswered-none m.heap m.telling) }
+Answers-none m = record { lines = λ start begun. ([], begun, AreAnswered-none m.machine m.telling) }
 
 -- where nothing moved since the last line, what holds of the lines holds of those that are answered
 pub Answers-still : (IsGiven : Option (List ℕ) → Option (List ℕ) → Pending → List (List ℕ) → Type 0) {m₀ m₁ m₂ : Moment} → Answers HasGiven m₀ m₁ →
     ((start : Option (List ℕ)) (given : List (List ℕ)) → HasGiven start m₁.left m₁.window given → IsGiven start m₂.left m₂.window given) →
-    (m₂.heap ≡ m₁.heap) × (m₂.telling ≡ m₁.telling) → Answers IsGiven m₀ m₂
+    (m₂.machine ≡ m₁.machine) × (m₂.telling ≡ m₁.telling) → Answers IsGiven m₀ m₂
 Answers-still IsGiven {m₀ = m₀} {m₁ = m₁} {m₂ = m₂} a given same = record {
   lines = λ start begun.
       let so_far = a.lines start begun in (
         so_far.0,
         given start so_far.0 so_far.1,
-        subst (λ (t : Telling). AreAnswered m₀.heap m₂.heap so_far.0 m₀.telling t) (sym same.1)
-            (subst (λ (h : Heap). AreAnswered m₀.heap h so_far.0 m₀.telling m₁.telling) (sym same.0) so_far.2),
+        subst (λ (t : Telling). AreAnswered m₀.machine m₂.machine so_far.0 m₀.telling t) (sym same.1)
+            (subst (λ (h : Machine). AreAnswered m₀.machine h so_far.0 m₀.telling m₁.telling) (sym same.0) so_far.2),
       );
 }
 
@@ -98,20 +97,20 @@ Answers-first {m₀ = m₀} {m₁ = m₁} a = Answers-still AreFirst {m₀ = m�
 
 -- one more line is given and answered
 pub Answers-more : {m₀ m₁ m₂ : Moment} → Answers HasGiven m₀ m₁ →
-    (line : List ℕ) × GivesLine m₁.left m₂.left m₁.window m₂.window line × LineIsAnswered m₁.heap m₂.heap line m₁.telling m₂.telling → Answers HasGiven m₀ m₂
+    (line : List ℕ) × GivesLine m₁.left m₂.left m₁.window m₂.window line × LineIsAnswered m₁.machine m₂.machine line m₁.telling m₂.telling → Answers HasGiven m₀ m₂
 Answers-more {m₀ = m₀} {m₁ = m₁} {m₂ = m₂} a l = record {
   lines = λ start begun.
       let so_far = a.lines start begun in (
         so_far.0 ++ l.0 ∷ [],
         l.1 start so_far.0 so_far.1,
-        AreAnswered-more m₀.heap m₁.heap m₂.heap so_far.0 l.0 m₀.telling m₁.telling m₂.telling so_far.2 l.2,
+        AreAnswered-more m₀.machine m₁.machine m₂.machine so_far.0 l.0 m₀.telling m₁.telling m₂.telling so_far.2 l.2,
       );
 }
 
 -- WHAT IS TOLD FOR LINES THAT ARE ANSWERED, from the empty heaps on, is a transcript of what they ask
-pub AreAnswered-transcript : (limits : Allowance) (h : Heap) (lines : List (List ℕ)) (t₀ t₁ : Telling) (a : AreAnswered (empty_heap limits) h lines t₀ t₁) →
+pub AreAnswered-transcript : (limits : Allowance) (k : Machine) (lines : List (List ℕ)) (t₀ t₁ : Telling) (a : AreAnswered (empty_machine limits []) k lines t₀ t₁) →
     IsTranscript limits (map (ask_of forms_now) lines) (text_of_answers a.answers)
-AreAnswered-transcript limits h lines t₀ t₁ a = record {
+AreAnswered-transcript limits k lines t₀ t₁ a = record {
   memory = o.memory;
   text_is = ap text_of_answers (sym o.answered);
   noes_are_told = o.said_no ∙ ap (all_noes_told asks) (sym o.answered);
@@ -122,5 +121,5 @@ AreAnswered-transcript limits h lines t₀ t₁ a = record {
     asks : List Ask
     asks = map (ask_of forms_now) lines
 
-    o : OneList (idle_machine (empty_heap limits)) (idle_machine h) asks a.answers
-    o = one_list (idle_machine (empty_heap limits)) (idle_machine h) asks a.answers a.done
+    o : OneList (empty_machine limits []) k asks a.answers
+    o = one_list (empty_machine limits []) k asks a.answers a.done

@@ -8,12 +8,11 @@ use Rattle.cc_model.specs.declared.item.Reply.TheVariants.{Refused}
 use Rattle.cc_model.specs.Telling.{Telling, TellsItems}
 use Rattle.cc_model.specs.Answers.{Answer, items_of, replying}
 use Rattle.cc_model.specs.Asks.{Ask, long, bad, command_of, taken_or_bad, longest_line, ask_of}
-use Rattle.cc_model.specs.Heap.{Heap}
+use Rattle.cc_model.specs.Collecting.{Machine}
 use Rattle.cc_model.specs.Run.{do_ask}
 use Rattle.cc_laws_run.specs.Memory.{IsDoneFor}
 use Rattle.cc_laws_run.specs.Running.{ask_in_range}
 use Rattle.cc_reader.specs.FormsNow.{forms_now}
-use Rattle.cc_collector.specs.Collected.{idle_machine}
 use Rattle.cc_replay.specs.Answering.{LineIsAnswered}
 
 -- a line of at most 120 bytes asks what its command says
@@ -30,27 +29,27 @@ ask_of-long : (line : List ℕ) → 120 < length line → ask_of forms_now line 
 ask_of-long line above = ap (λ b. elim b as (λ _. Ask) [ true ↦ long | false ↦ taken_or_bad (command_of forms_now line) ]) (lt-ltb longest_line (length line) above)
 
 -- a line that is too long, and one that is not in the grammar, change nothing
-IsDoneFor-long : (h : Heap) → IsDoneFor (idle_machine h) long (replying [] (Refused Long)) (idle_machine h)
+IsDoneFor-long : (m : Machine) → IsDoneFor m long (replying [] (Refused Long)) m
 unfolding do_ask
-IsDoneFor-long h = record { memory = []; answer = refl; after = record { heap = refl; snapshot = refl } }
+IsDoneFor-long m = record { memory = []; answer = refl; after = record { heap = refl; snapshot = refl } }
 
-IsDoneFor-bad : (h : Heap) → IsDoneFor (idle_machine h) bad (replying [] (Refused Line)) (idle_machine h)
+IsDoneFor-bad : (m : Machine) → IsDoneFor m bad (replying [] (Refused Line)) m
 unfolding do_ask
-IsDoneFor-bad h = record { memory = []; answer = refl; after = record { heap = refl; snapshot = refl } }
+IsDoneFor-bad m = record { memory = []; answer = refl; after = record { heap = refl; snapshot = refl } }
 
 -- so it is answered by its refusal alone
-answered-as : {ask : Ask} (answer : Answer) (h : Heap) (line : List ℕ) {before after : Telling} → ask_of forms_now line ≡ ask → IsDoneFor (idle_machine h) ask answer (idle_machine h) →
-    ask_in_range ask ≡ true → TellsItems before after (items_of answer) → LineIsAnswered h h line before after
-answered-as answer h line asks done in_range told = record {
-  answered = record { answer = answer; done = subst (λ a. IsDoneFor (idle_machine h) a answer (idle_machine h)) (sym asks) done; told = told };
+answered-as : {ask : Ask} (answer : Answer) (m : Machine) (line : List ℕ) {before after : Telling} → ask_of forms_now line ≡ ask → IsDoneFor m ask answer m →
+    ask_in_range ask ≡ true → TellsItems before after (items_of answer) → LineIsAnswered m m line before after
+answered-as answer m line asks done in_range told = record {
+  answered = record { answer = answer; done = subst (λ a. IsDoneFor m a answer m) (sym asks) done; told = told };
   in_range = ap ask_in_range asks ∙ in_range;
 }
 
-pub answered-long : (h : Heap) (line : List ℕ) {before after : Telling} → 120 < length line →
-    TellsItems before after (items_of (replying [] (Refused Long))) → LineIsAnswered h h line before after
-answered-long h line above told = answered-as (replying [] (Refused Long)) h line (ask_of-long line above) (IsDoneFor-long h) refl told
+pub answered-long : (m : Machine) (line : List ℕ) {before after : Telling} → 120 < length line →
+    TellsItems before after (items_of (replying [] (Refused Long))) → LineIsAnswered m m line before after
+answered-long m line above told = answered-as (replying [] (Refused Long)) m line (ask_of-long line above) (IsDoneFor-long m) refl told
 
-pub answered-bad : (h : Heap) (line : List ℕ) {before after : Telling} → length line ≤ 120 → command_of forms_now line ≡ None →
-    TellsItems before after (items_of (replying [] (Refused Line))) → LineIsAnswered h h line before after
-answered-bad h line short none told =
-    answered-as (replying [] (Refused Line)) h line (ask_of-short line short ∙ ap taken_or_bad none) (IsDoneFor-bad h) refl told
+pub answered-bad : (m : Machine) (line : List ℕ) {before after : Telling} → length line ≤ 120 → command_of forms_now line ≡ None →
+    TellsItems before after (items_of (replying [] (Refused Line))) → LineIsAnswered m m line before after
+answered-bad m line short none told =
+    answered-as (replying [] (Refused Line)) m line (ask_of-short line short ∙ ap taken_or_bad none) (IsDoneFor-bad m) refl told

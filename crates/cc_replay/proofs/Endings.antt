@@ -3,7 +3,7 @@ use Rattle.std.proofs.Common.{◌≡◌, ℕ, false, true, List, [], length, map
 use Rattle.cc_names.specs.Allowance.{Allowance}
 use Rattle.cc_model.specs.Answers.{text_of_answers}
 use Rattle.cc_model.specs.Asks.{ask_of}
-use Rattle.cc_model.specs.Heap.{Heap, empty_heap}
+use Rattle.cc_model.specs.Collecting.{Machine, empty_machine}
 use Rattle.cc_model.specs.Lines.{ended_lines_of}
 use Rattle.cc_outside.specs.Reads.{Reads}
 use Rattle.cc_reader.specs.FormsNow.{forms_now}
@@ -17,7 +17,7 @@ use Rattle.cc_replay.specs.Transcripts.{Ends, Writes, IsDone, AreFirstEnded, Are
 use Rattle.cc_replay.proofs.Answers.{AreAnswered-transcript}
 
 -- a run from a reader that begins, over empty heaps
-module _ (limits : Allowance) (m₀ m₁ : Moment) (r₀ r₁ : Reads) (begins : m₀.window ≡ nothing_read limits.bytes) (empty : m₀.heap ≡ empty_heap limits)
+module _ (limits : Allowance) (m₀ m₁ : Moment) (r₀ r₁ : Reads) (begins : m₀.window ≡ nothing_read limits.bytes) (empty : m₀.machine ≡ empty_machine limits [])
     (limit : m₁.window.limit ≡ m₀.window.limit) (reads : ReadsOn r₀ r₁ m₀.window m₁.window) where
   abbrev e : Ends
   e = record {
@@ -48,10 +48,10 @@ module _ (limits : Allowance) (m₀ m₁ : Moment) (r₀ r₁ : Reads) (begins :
 
   -- the lines that were given, answered from the empty heaps on
   module _ {IsGiven : Option (List ℕ) → Option (List ℕ) → Pending → List (List ℕ) → Type 0} (a : Answers IsGiven m₀ m₁) where
-    answered : (given : List (List ℕ)) × IsGiven m₀.left m₁.left m₁.window given × AreAnswered (empty_heap limits) m₁.heap given m₀.telling m₁.telling
+    answered : (given : List (List ℕ)) × IsGiven m₀.left m₁.left m₁.window given × AreAnswered (empty_machine limits []) m₁.machine given m₀.telling m₁.telling
     answered =
         let l = a.lines m₀.left (subst (λ (p : Pending). HasGiven m₀.left m₀.left p []) (sym begins) (HasGiven-none m₀.left limits.bytes)) in
-        (l.0, l.1, subst (λ (h : Heap). AreAnswered h m₁.heap l.0 m₀.telling m₁.telling) empty l.2)
+        (l.0, l.1, subst (λ (k : Machine). AreAnswered k m₁.machine l.0 m₀.telling m₁.telling) empty l.2)
 
     -- and what is written for them, where no write failed
     written : m₁.telling.broken ≡ false → (given : List (List ℕ)) × IsGiven m₀.left m₁.left m₁.window given × AreWritten given
@@ -61,7 +61,7 @@ module _ (limits : Allowance) (m₀ m₁ : Moment) (r₀ r₁ : Reads) (begins :
           l.1,
           record {
             text = text_of_answers l.2.answers;
-            transcript = AreAnswered-transcript limits m₁.heap l.0 m₀.telling m₁.telling l.2;
+            transcript = AreAnswered-transcript limits m₁.machine l.0 m₀.telling m₁.telling l.2;
             written = (l.2.told.whole whole).grown;
           },
         )
@@ -115,7 +115,7 @@ module _ (limits : Allowance) (m₀ m₁ : Moment) (r₀ r₁ : Reads) (begins :
         first = lines_read l.0 l.1;
         writes = record {
           text = text_of_answers l.2.answers;
-          transcript = AreAnswered-transcript limits m₁.heap l.0 m₀.telling m₁.telling l.2;
+          transcript = AreAnswered-transcript limits m₁.machine l.0 m₀.telling m₁.telling l.2;
           written = (l.2.told.broke unbroken broken).part;
         };
       }

@@ -1,11 +1,10 @@
 pub mod Answers
 pub mod Asks
+pub mod Beginning
 pub mod Causes
-pub mod CollectAnswered
 pub mod Endings
 pub mod FaultFree
 pub mod GivenWords
 pub mod OptionRows
 pub mod Replying
-pub mod BetweenAsks
 pub mod Tellings

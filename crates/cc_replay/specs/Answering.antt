@@ -4,13 +4,12 @@ use Rattle.std.specs.List.{list_all}
 use Rattle.cc_model.specs.Telling.{Telling, TellsItems}
 use Rattle.cc_model.specs.Answers.{Answer, all_items_of}
 use Rattle.cc_model.specs.Asks.{ask_of}
-use Rattle.cc_model.specs.Heap.{Heap}
+use Rattle.cc_model.specs.Collecting.{Machine}
 use Rattle.cc_laws_run.specs.Memory.{AreDoneFor}
 use Rattle.cc_laws_run.specs.Running.{ask_in_range}
 use Rattle.cc_reader.specs.FormsNow.{forms_now}
 use Rattle.cc_reader.specs.Pending.{Pending}
 use Rattle.cc_reader.specs.Given.{HasGiven}
-use Rattle.cc_collector.specs.Collected.{idle_machine}
 use Rattle.cc_replay.specs.Answered.{IsAnswered}
 
 -- one more line was given, whatever was given before
@@ -19,28 +18,28 @@ GivesLine left left_now old new line = (start : Option (List ℕ)) (lines : List
     HasGiven start left old lines → HasGiven start left_now new (lines ++ line ∷ [])
 
 -- a line is answered as the plain run answers it, and its numbers are in range
-pub record LineIsAnswered (old new : Heap) (line : List ℕ) (before after : Telling) : Type 0 where
+pub record LineIsAnswered (old new : Machine) (line : List ℕ) (before after : Telling) : Type 0 where
   pub answered : IsAnswered old new (ask_of forms_now line) before after
   pub in_range : IsTrue (ask_in_range (ask_of forms_now line))
 
--- what is read from and what answers: what the source has left, the reader, the heaps, and what was told
+-- what is read from and what answers: what the source has left, the reader, the machine, and what was told
 pub record Moment : Type 0 where
   pub left : Option (List ℕ)
   pub window : Pending
-  pub heap : Heap
+  pub machine : Machine
   pub telling : Telling
 
-abbrev pub moment : Option (List ℕ) → Pending → Heap → Telling → Moment
-moment left window heap telling = record { left = left; window = window; heap = heap; telling = telling }
+abbrev pub moment : Option (List ℕ) → Pending → Machine → Telling → Moment
+moment left window machine telling = record { left = left; window = window; machine = machine; telling = telling }
 
 -- these lines are answered, from one moment to another
-pub record AreAnswered (old new : Heap) (lines : List (List ℕ)) (before after : Telling) : Type 0 where
+pub record AreAnswered (old new : Machine) (lines : List (List ℕ)) (before after : Telling) : Type 0 where
   pub answers : List Answer
-  pub done : AreDoneFor (idle_machine old) (map (ask_of forms_now) lines) answers (idle_machine new)
+  pub done : AreDoneFor old (map (ask_of forms_now) lines) answers new
   pub in_range : IsTrue (list_all ask_in_range (map (ask_of forms_now) lines))
   pub told : TellsItems before after (all_items_of answers)
 
 -- from a moment at which a reader began to another, lines were given of which this holds, and all of them are answered
 pub record Answers (IsGiven : Option (List ℕ) → Option (List ℕ) → Pending → List (List ℕ) → Type 0) (old new : Moment) : Type 0 where
   pub lines : (start : Option (List ℕ)) → HasGiven start old.left old.window [] →
-      (given : List (List ℕ)) × IsGiven start new.left new.window given × AreAnswered old.heap new.heap given old.telling new.telling
+      (given : List (List ℕ)) × IsGiven start new.left new.window given × AreAnswered old.machine new.machine given old.telling new.telling

@@ -11,7 +11,8 @@ ghost use Rattle.cc_model.specs.Asks.{taken};
 ghost use Rattle.cc_model.specs.Heap.{empty_heap};
 ghost use Rattle.cc_reader.specs.FormsNow.{is_known};
 ghost use Rattle.cc_replay.specs.Answered.{IsAnswered};
-ghost use Rattle.cc_replay.specs.BetweenAsks.{IsBetweenAsks};
+ghost use Rattle.cc_builder.specs.Building.{Built};
+ghost use Rattle.cc_collector.specs.Kept.{RunsIn, machine_of};
 ghost use Rattle.cc_heaps.specs.Few.{AreFew};
 ghost use Rattle.cc_heaps.specs.Keyed.{IsInOrder};
 ghost use Rattle.cc_heaps.specs.Standing.{KeepsSuspected};
@@ -21,8 +22,7 @@ ghost use Rattle.cc_replay.specs.Transcripts.{ends, IsDone, StopsAtFault, StopsA
 
 use crate::outlet::Reports;
 use crate::status::Status;
-use cc_collector::Collector;
-use cc_gc::collect_scripts;
+use cc_collector::{Collector, Steps};
 use cc_heaps::Heaps;
 use cc_model::{Command, Item, Notices, Refusal, Reply};
 use cc_mutator::apply;
@@ -30,80 +30,121 @@ use cc_names::NoMemory;
 use cc_outside::Source;
 use cc_reader::{Line, Lines, ReadStop, parse};
 use std::alloc::Global;
+use std::marker::Brand;
+use std::sync::ledger::{Blank, Ledger};
 
 /// Answers `census`: lists what is there, and tells how many there are.
 fn answer_census<N: Notices>(heaps: &Heaps, out: &mut N)
     requires order { IsInOrder [] heaps.now }
-    ensures { IsAnswered heaps.now.heap heaps.now.heap (taken command.Census) (N.telling out.old) (N.telling out.new) }
+    ensures { (c : Option Built) → IsAnswered (machine_of heaps.now.heap c) (machine_of heaps.now.heap c) (taken command.Census) (N.telling out.old) (N.telling out.new) }
 {
     let count = heaps.census(out);
     out.tell(Item::Reply(Reply::Census(count)));
 }
 
-/// Answers `gc`.
-fn answer_gc<N: Notices>(heaps: &mut Heaps, out: &mut N)
-    requires rest { IsBetweenAsks heaps.old }
-    ensures answered { IsAnswered heaps.old.heap heaps.new.heap (taken command.Gc) (N.telling out.old) (N.telling out.new) }
-    ensures rest { IsBetweenAsks heaps.new }
+/// Answers `slice`. Nobody asks for its steps.
+fn answer_slice<L: Ledger, N: Notices>(
+    units: u32,
+    heaps: &mut Heaps,
+    collector: &mut Collector,
+    out: &mut N,
+    blank: Blank,
+)
+    requires runs { RunsIn heaps.old collector.old }
+    requires name { blank.name ≡ L.name }
+    requires parts { blank.parts ≡ L.parts }
+    requires some { 0 < L.parts }
+    ensures answered { IsAnswered (machine_of heaps.old.heap collector.old) (machine_of heaps.new.heap collector.new) (taken (command.Slice units)) (N.telling out.old) (N.telling out.new) }
+    ensures runs { RunsIn heaps.new collector.new }
 {
-    collect_scripts(heaps, out);
-    out.tell(Item::Reply(Reply::Done));
+    let mut steps = Steps::<L>::new(blank);
+    match collector.slice(heaps, units, out, &mut steps) {
+        Ok(_) => out.tell(Item::Reply(Reply::Done)),
+        Err(NoMemory) => out.tell(Item::Reply(Reply::Refused(Refusal::NoMemory))),
+    }
 }
 
 /// Answers `collect`.
-fn answer_collect<N: Notices>(alloc: Global, heaps: &mut Heaps, out: &mut N)
-    requires rest { IsBetweenAsks heaps.old }
-    ensures answered { IsAnswered heaps.old.heap heaps.new.heap (taken command.Collect) (N.telling out.old) (N.telling out.new) }
-    ensures rest { IsBetweenAsks heaps.new }
+fn answer_collect<N: Notices>(heaps: &mut Heaps, collector: &mut Collector, out: &mut N)
+    requires runs { RunsIn heaps.old collector.old }
+    ensures answered { IsAnswered (machine_of heaps.old.heap collector.old) (machine_of heaps.new.heap collector.new) (taken command.Collect) (N.telling out.old) (N.telling out.new) }
+    ensures runs { RunsIn heaps.new collector.new }
 {
-    match Collector::new(alloc).whole(heaps, out) {
+    match collector.whole(heaps, out) {
         Ok(()) => out.tell(Item::Reply(Reply::Done)),
         Err(NoMemory) => out.tell(Item::Reply(Reply::Refused(Refusal::NoMemory))),
     }
 }
 
+/// Answers `gc`.
+fn answer_gc<N: Notices>(heaps: &mut Heaps, collector: &mut Collector, out: &mut N)
+    requires runs { RunsIn heaps.old collector.old }
+    ensures answered { IsAnswered (machine_of heaps.old.heap collector.old) (machine_of heaps.new.heap collector.new) (taken command.Gc) (N.telling out.old) (N.telling out.new) }
+    ensures runs { RunsIn heaps.new collector.new }
+{
+    collector.gc(heaps, out);
+    out.tell(Item::Reply(Reply::Done));
+}
+
 /// Answers a command of the mutator: what it deletes is told, and then its reply. It forgets no native that nothing
 /// reaches, whatever the candidates of a running collection are.
-fn answer_mutator<N: Notices>(command: &Command, heaps: &mut Heaps, out: &mut N)
+fn answer_mutator<N: Notices>(
+    command: &Command,
+    heaps: &mut Heaps,
+    collector: &Collector,
+    out: &mut N,
+)
     requires applied { IsTrue (is_applied command.now) }
     requires in_range { IsTrue (in_range command.now) }
-    requires rest { IsBetweenAsks heaps.old }
-    ensures answered { IsAnswered heaps.old.heap heaps.new.heap (taken command.now) (N.telling out.old) (N.telling out.new) }
+    requires runs { RunsIn heaps.old collector.now }
+    ensures answered { IsAnswered (machine_of heaps.old.heap collector.now) (machine_of heaps.new.heap collector.now) (taken command.now) (N.telling out.old) (N.telling out.new) }
     ensures remembers { KeepsSuspected heaps.old.heap heaps.new.heap }
-    ensures rest { IsBetweenAsks heaps.new }
+    ensures runs { RunsIn heaps.new collector.now }
 {
     let reply = apply(heaps, command, out);
     out.tell(Item::Reply(reply));
 }
 
 /// Answers a command that the grammar gives.
-#[tactic(auto, using(crate::proofs::BetweenAsks::counts_few))]
-fn answer_command<N: Notices>(alloc: Global, command: Command, heaps: &mut Heaps, out: &mut N)
+fn answer_command<N: Notices>(
+    command: Command,
+    heaps: &mut Heaps,
+    collector: &mut Collector,
+    out: &mut N,
+)
     requires known { IsTrue (is_known command) }
     requires in_range { IsTrue (in_range command) }
-    requires rest { IsBetweenAsks heaps.old }
-    ensures answered { IsAnswered heaps.old.heap heaps.new.heap (taken command) (N.telling out.old) (N.telling out.new) }
+    requires runs { RunsIn heaps.old collector.old }
+    ensures answered { IsAnswered (machine_of heaps.old.heap collector.old) (machine_of heaps.new.heap collector.new) (taken command) (N.telling out.old) (N.telling out.new) }
     ensures counts { AreFew heaps.new.heap }
-    ensures rest { IsBetweenAsks heaps.new }
+    ensures runs { RunsIn heaps.new collector.new }
 {
     match command {
         Command::Nothing => {}
         Command::Census => answer_census(heaps, out),
-        Command::Collect => answer_collect(alloc, heaps, out),
-        Command::Gc => answer_gc(heaps, out),
-        _ => answer_mutator(&command, heaps, out),
+        Command::Slice(units) => {
+            answer_slice::<Brand, N>(units, heaps, collector, out, Blank::new(1))
+        }
+        Command::Collect => answer_collect(heaps, collector, out),
+        Command::Gc => answer_gc(heaps, collector, out),
+        _ => answer_mutator(&command, heaps, collector, out),
     }
 }
 
 /// Answers a line of at most 120 bytes.
-fn answer_text<N: Notices>(alloc: Global, text: &[u8], heaps: &mut Heaps, out: &mut N)
+fn answer_text<N: Notices>(
+    text: &[u8],
+    heaps: &mut Heaps,
+    collector: &mut Collector,
+    out: &mut N,
+)
     requires short { length text.now ≤ 120 }
-    requires rest { IsBetweenAsks heaps.old }
-    ensures answered { LineIsAnswered heaps.old.heap heaps.new.heap text.now (N.telling out.old) (N.telling out.new) }
-    ensures rest { IsBetweenAsks heaps.new }
+    requires runs { RunsIn heaps.old collector.old }
+    ensures answered { LineIsAnswered (machine_of heaps.old.heap collector.old) (machine_of heaps.new.heap collector.new) text.now (N.telling out.old) (N.telling out.new) }
+    ensures runs { RunsIn heaps.new collector.new }
 {
     match parse(text) {
-        Some(command) => answer_command(alloc, command, heaps, out),
+        Some(command) => answer_command(command, heaps, collector, out),
         None => out.tell(Item::Reply(Reply::Refused(Refusal::Line))),
     }
 }
@@ -119,16 +160,16 @@ enum Next {
 
 /// Reads the next line and answers it.
 fn answer_next<S: Source, N: Notices>(
-    alloc: Global,
     lines: &mut Lines<'_, S>,
     heaps: &mut Heaps,
+    collector: &mut Collector,
     out: &mut N,
 ) -> Result<Next, ReadStop>
     requires going { lines.old.stopped ≡ false }
-    requires rest { IsBetweenAsks heaps.old }
+    requires runs { RunsIn heaps.old collector.old }
     ensures answered { result ≡ Ok Next.Answered → (line : List ℕ)
         × GivesLine (S.left lines.old.source.now) (S.left lines.new.source.now) lines.old.window lines.new.window line
-        × LineIsAnswered heaps.old.heap heaps.new.heap line (N.telling out.old) (N.telling out.new) }
+        × LineIsAnswered (machine_of heaps.old.heap collector.old) (machine_of heaps.new.heap collector.new) line (N.telling out.old) (N.telling out.new) }
     ensures going_on { result ≡ Ok Next.Answered → lines.new.stopped ≡ false }
     ensures falls { result ≡ Ok Next.Answered → weight lines.new.window < weight lines.old.window }
     ensures whole { result ≡ Ok Next.End → (start : Option (List ℕ)) (given : List (List ℕ)) →
@@ -140,9 +181,9 @@ fn answer_next<S: Source, N: Notices>(
     ensures over { result ≡ Err ReadStop.Limit → (start : Option (List ℕ)) (given : List (List ℕ)) →
         HasGiven start (S.left lines.old.source.now) lines.old.window given →
         IsOver start (S.left lines.new.source.now) lines.new.window given }
-    ensures quiet { result ≡ Ok Next.End → (heaps.new ≡ heaps.old) × (N.telling out.new ≡ N.telling out.old) }
-    ensures still { OnErr result ((heaps.new ≡ heaps.old) × (N.telling out.new ≡ N.telling out.old)) }
-    ensures rest { IsBetweenAsks heaps.new }
+    ensures quiet { result ≡ Ok Next.End → (heaps.new ≡ heaps.old) × (collector.new ≡ collector.old) × (N.telling out.new ≡ N.telling out.old) }
+    ensures still { OnErr result ((heaps.new ≡ heaps.old) × (collector.new ≡ collector.old) × (N.telling out.new ≡ N.telling out.old)) }
+    ensures runs { RunsIn heaps.new collector.new }
     ensures limit { lines.new.window.limit ≡ lines.old.window.limit }
     ensures reads { ReadsOn (S.reads lines.old.source.now) (S.reads lines.new.source.now) lines.old.window lines.new.window }
     ensures same { lines.new.source.ghost_name ≡ lines.old.source.ghost_name }
@@ -157,7 +198,7 @@ fn answer_next<S: Source, N: Notices>(
             Ok(Next::Answered)
         }
         Line::Text => {
-            answer_text(alloc, lines.text(), heaps, out);
+            answer_text(lines.text(), heaps, collector, out);
             Ok(Next::Answered)
         }
     }
@@ -166,22 +207,22 @@ fn answer_next<S: Source, N: Notices>(
 /// Answers each line that is left, to the end of the source, or until a read fails, a write fails or the limit on bytes
 /// is passed.
 fn answer_all<S: Source, N: Reports>(
-    alloc: Global,
     lines: &mut Lines<'_, S>,
     heaps: &mut Heaps,
+    collector: &mut Collector,
     out: &mut N,
 ) -> Status
     requires going { lines.old.stopped ≡ false }
-    requires rest { IsBetweenAsks heaps.old }
+    requires runs { RunsIn heaps.old collector.old }
     requires whole { (N.telling out.old).broken ≡ false }
-    ensures done { result ≡ Status.Done → Answers IsWhole (moment (S.left lines.old.source.now) lines.old.window heaps.old.heap (N.telling out.old))
-        (moment (S.left lines.new.source.now) lines.new.window heaps.new.heap (N.telling out.new)) }
-    ensures fault { result ≡ Status.ReadFault → Answers IsBroken (moment (S.left lines.old.source.now) lines.old.window heaps.old.heap (N.telling out.old))
-        (moment (S.left lines.new.source.now) lines.new.window heaps.new.heap (N.telling out.new)) }
-    ensures over { result ≡ Status.Limit → Answers IsOver (moment (S.left lines.old.source.now) lines.old.window heaps.old.heap (N.telling out.old))
-        (moment (S.left lines.new.source.now) lines.new.window heaps.new.heap (N.telling out.new)) }
-    ensures first { result ≡ Status.WriteFault → Answers AreFirst (moment (S.left lines.old.source.now) lines.old.window heaps.old.heap (N.telling out.old))
-        (moment (S.left lines.new.source.now) lines.new.window heaps.new.heap (N.telling out.new)) }
+    ensures done { result ≡ Status.Done → Answers IsWhole (moment (S.left lines.old.source.now) lines.old.window (machine_of heaps.old.heap collector.old) (N.telling out.old))
+        (moment (S.left lines.new.source.now) lines.new.window (machine_of heaps.new.heap collector.new) (N.telling out.new)) }
+    ensures fault { result ≡ Status.ReadFault → Answers IsBroken (moment (S.left lines.old.source.now) lines.old.window (machine_of heaps.old.heap collector.old) (N.telling out.old))
+        (moment (S.left lines.new.source.now) lines.new.window (machine_of heaps.new.heap collector.new) (N.telling out.new)) }
+    ensures over { result ≡ Status.Limit → Answers IsOver (moment (S.left lines.old.source.now) lines.old.window (machine_of heaps.old.heap collector.old) (N.telling out.old))
+        (moment (S.left lines.new.source.now) lines.new.window (machine_of heaps.new.heap collector.new) (N.telling out.new)) }
+    ensures first { result ≡ Status.WriteFault → Answers AreFirst (moment (S.left lines.old.source.now) lines.old.window (machine_of heaps.old.heap collector.old) (N.telling out.old))
+        (moment (S.left lines.new.source.now) lines.new.window (machine_of heaps.new.heap collector.new) (N.telling out.new)) }
 
     ensures limit { lines.new.window.limit ≡ lines.old.window.limit }
     ensures reads { ReadsOn (S.reads lines.old.source.now) (S.reads lines.new.source.now) lines.old.window lines.new.window }
@@ -196,7 +237,7 @@ fn answer_all<S: Source, N: Reports>(
     ensures sink { (N.telling out.new).sink ≡ (N.telling out.old).sink }
 {
     'lines: loop {
-        match answer_next(alloc, lines, heaps, out) {
+        match answer_next(lines, heaps, collector, out) {
             Err(ReadStop::Fault) => return Status::ReadFault,
             Err(ReadStop::Limit) => return Status::Limit,
             Ok(Next::End) => return Status::Done,
@@ -247,5 +288,6 @@ pub(crate) fn answer_input<S: Source, N: Reports>(
     ensures source { lines.new.source.ghost_name ≡ lines.old.source.ghost_name }
     ensures sink { (N.telling out.new).sink ≡ (N.telling out.old).sink }
 {
-    answer_all(alloc, lines, heaps, out)
+    let mut collector = Collector::new(alloc);
+    answer_all(lines, heaps, &mut collector, out)
 }

@@ -2,17 +2,18 @@ use Rattle.std.proofs.Common.{refl}
 use Rattle.cc_model.specs.declared.item.Refusal.TheVariants.{NoMemory}
 use Rattle.cc_model.specs.declared.item.Reply.TheVariants.{Done, Refused}
 use Rattle.cc_model.specs.End.{at_end, refused}
-use Rattle.cc_replay.proofs.CollectAnswered.{IsCollected-answered}
+use Rattle.cc_collector.specs.Kept.{machine_of}
+use Rattle.cc_replay.proofs.Replying.{answered-collect}
 use Rattle.cc_replay.proofs.answering.answer_collect.Goals as goal
 
 pub returns-in-Ok-clause-answered : goal.returns-in-Ok-clause-answered
 returns-in-Ok-clause-answered g c =
     let telling = g.N.Notices.telling in
-    IsCollected-answered c.args.heaps.now.heap c.whole.new.heaps.heap at_end Done
-    (telling c.args.out.now) (telling c.whole.new.out) (telling c.tell.new.self) c.in-Ok.ensures.done refl c.tell.ensures
+    answered-collect (machine_of c.args.heaps.now.heap c.args.collector.now) (machine_of c.whole.new.heaps.heap c.whole.new.self) (telling c.args.out.now) (telling c.tell.new.self)
+    at_end Done (telling c.whole.new.out) c.in-Ok.ensures.done refl c.tell.ensures
 
 pub returns-in-Err-clause-answered : goal.returns-in-Err-clause-answered
 returns-in-Err-clause-answered g c =
     let telling = g.N.Notices.telling in
-    IsCollected-answered c.args.heaps.now.heap c.whole.new.heaps.heap refused (Refused NoMemory)
-    (telling c.args.out.now) (telling c.whole.new.out) (telling c.tell-in-Err.new.self) c.in-Err.ensures.refused refl c.tell-in-Err.ensures
+    answered-collect (machine_of c.args.heaps.now.heap c.args.collector.now) (machine_of c.whole.new.heaps.heap c.whole.new.self) (telling c.args.out.now) (telling c.tell-in-Err.new.self)
+    refused (Refused NoMemory) (telling c.whole.new.out) c.in-Err.ensures.refused refl c.tell-in-Err.ensures

@@ -1,29 +1,30 @@
-use Rattle.cc_replay.proofs.BetweenAsks.{IsBetweenAsks-empty}
 use Rattle.cc_replay.proofs.Causes.{over-answered, done-answered, reads-within, end-unread}
 use Rattle.cc_replay.proofs.Endings.{whole-done, broken-stops, over-stops, first-stops}
+use Rattle.cc_replay.proofs.Beginning.{runs-empty, machine-empty}
 use Rattle.cc_replay.proofs.answering.answer_input.Goals as goal
 
-pub answer_all-requires-clause-rest : goal.answer_all-requires-clause-rest
-answer_all-requires-clause-rest g c = IsBetweenAsks-empty c.args.heaps.now c.requires.order c.requires.empty
+-- nothing is there at the start, and no collection runs
+pub answer_all-requires-clause-runs : goal.answer_all-requires-clause-runs
+answer_all-requires-clause-runs g c = runs-empty c.args.heaps.now c.new-collector.result c.requires.order c.requires.empty c.new-collector.ensures
 
 pub returns-clause-done : goal.returns-clause-done
 returns-clause-done g c = λ status.
-    whole-done _ _ _ _ _ c.requires.start c.requires.empty c.answer_all.ensures.limit c.answer_all.ensures.reads (c.answer_all.ensures.done status)
+    whole-done _ _ _ _ _ c.requires.start (machine-empty c.args.heaps.now c.new-collector.result c.requires.empty c.new-collector.ensures) c.answer_all.ensures.limit c.answer_all.ensures.reads (c.answer_all.ensures.done status)
     (c.answer_all.ensures.whole (λ bad. cc))
 
 pub returns-clause-fault : goal.returns-clause-fault
 returns-clause-fault g c = λ status.
-    broken-stops _ _ _ _ _ c.requires.start c.requires.empty c.answer_all.ensures.limit c.answer_all.ensures.reads (c.answer_all.ensures.fault status)
+    broken-stops _ _ _ _ _ c.requires.start (machine-empty c.args.heaps.now c.new-collector.result c.requires.empty c.new-collector.ensures) c.answer_all.ensures.limit c.answer_all.ensures.reads (c.answer_all.ensures.fault status)
     (c.answer_all.ensures.whole (λ bad. cc))
 
 pub returns-clause-over : goal.returns-clause-over
 returns-clause-over g c = λ status.
-    over-stops _ _ _ _ _ c.requires.start c.requires.empty c.answer_all.ensures.limit c.answer_all.ensures.reads (c.answer_all.ensures.over status)
+    over-stops _ _ _ _ _ c.requires.start (machine-empty c.args.heaps.now c.new-collector.result c.requires.empty c.new-collector.ensures) c.answer_all.ensures.limit c.answer_all.ensures.reads (c.answer_all.ensures.over status)
     (c.answer_all.ensures.whole (λ bad. cc))
 
 pub returns-clause-front : goal.returns-clause-front
 returns-clause-front g c = λ status.
-    first-stops _ _ _ _ _ c.requires.start c.requires.empty c.answer_all.ensures.limit c.answer_all.ensures.reads (c.answer_all.ensures.first status)
+    first-stops _ _ _ _ _ c.requires.start (machine-empty c.args.heaps.now c.new-collector.result c.requires.empty c.new-collector.ensures) c.answer_all.ensures.limit c.answer_all.ensures.reads (c.answer_all.ensures.first status)
     c.requires.whole (c.answer_all.ensures.broken status)
 
 pub returns-clause-reads : goal.returns-clause-reads

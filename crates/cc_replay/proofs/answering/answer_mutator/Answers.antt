@@ -1,8 +1,17 @@
+use Rattle.cc_collector.proofs.GoingOn.{RunsIn-between}
 use Rattle.cc_replay.proofs.Replying.{answered-applied}
 use Rattle.cc_replay.proofs.answering.answer_mutator.Goals as goal
 
 pub returns-clause-answered : goal.returns-clause-answered
 returns-clause-answered g c =
     let telling = g.N.Notices.telling in
-    answered-applied c.args.command.now c.requires.applied c.args.heaps.now c.apply-reply.new.heaps (telling c.args.out.now) (telling c.apply-reply.new.out) (telling c.tell.new.self)
+    answered-applied c.args.command.now c.requires.applied c.args.heaps.now c.apply-reply.new.heaps c.args.collector.now
+    (telling c.args.out.now) (telling c.apply-reply.new.out) (telling c.tell.new.self)
     c.apply-reply.result c.apply-reply.ensures.refused c.apply-reply.ensures.done c.apply-reply.ensures.memory c.tell.ensures
+
+-- what a command changes may come between units
+pub returns-clause-runs : goal.returns-clause-runs
+returns-clause-runs g c =
+    let e = c.apply-reply.ensures in
+    RunsIn-between c.args.heaps.now c.apply-reply.new.heaps c.args.collector.now c.requires.runs
+    (record { order = e.order; colours = e.colours; fresh = e.fresh; keys = e.keys })

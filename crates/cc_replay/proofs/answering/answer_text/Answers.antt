@@ -1,6 +1,7 @@
 use Rattle.std.proofs.Common.{sym}
+use Rattle.cc_collector.specs.Kept.{machine_of}
 use Rattle.cc_replay.proofs.Asks.{answered-bad}
 use Rattle.cc_replay.proofs.answering.answer_text.Goals as goal
 
 pub returns-in-None-clause-answered : goal.returns-in-None-clause-answered
-returns-in-None-clause-answered g c = answered-bad c.args.heaps.now.heap c.args.text.now c.requires.short (sym c.in-None.ensures.command) c.tell.ensures
+returns-in-None-clause-answered g c = answered-bad (machine_of c.args.heaps.now.heap c.args.collector.now) c.args.text.now c.requires.short (sym c.in-None.ensures.command) c.tell.ensures
