@@ -8,6 +8,7 @@ pub mod RunsOn
 pub mod Unabandoned
 pub mod UnitsUse
 pub mod AsksUse
+pub mod Ample
 pub mod InARow
 pub mod RefusedUnits
 pub mod FreedListed

@@ -29,12 +29,14 @@ pub fn runs_compose()
         (SameMachine (machine_after (with_memory m memory) asks) n) × (noes memory ≡ all_noes_told asks answers) }
 {}
 
-/// With memory at every place nothing wants memory and no collection is abandoned. A refused unit drops the
+/// With memory at every place nothing wants memory and no collection is abandoned, and where memory never says no it is
+/// as if it were at every place. A refused unit drops the
 /// snapshot: each candidate that still exists is purple in the buffer again, a refused begin leaves the heaps.
 pub fn memory_decides_nothing_else()
     ensures replies { (m : Machine) (ask : Ask) → m.memory ≡ [] → ¬ ((do_ask m ask).answer.reply ≡ Some (Refused NoMemory)) }
     ensures none_abandoned { (m : Machine) (ask : Ask) → m.memory ≡ [] → ¬ (Among Abandoned (do_ask m ask).answer.events) }
     ensures memory_stays { (m : Machine) (ask : Ask) → m.memory ≡ [] → (do_ask m ask).machine.memory ≡ [] }
+    ensures ample { (m : Machine) (asks : List Ask) → noes m.memory ≡ 0 → turns m asks ≡ turns (with_memory m []) asks }
     ensures refused_begin { (h : Heap) (memory : Bool) → (unit h None memory).progress ≡ refused →
         ((unit h None memory).heap ≡ h) × ((unit h None memory).snapshot ≡ None) × ((unit h None memory).events ≡ Abandoned ∷ []) }
     ensures refused_node { (h : Heap) (s : Snapshot) (memory : Bool) → (unit h (Some s) memory).progress ≡ refused →

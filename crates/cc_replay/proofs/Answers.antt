@@ -10,13 +10,14 @@ use Rattle.cc_model.specs.Telling.{Telling, Tells}
 use Rattle.cc_model.specs.Texts.{text_of, texts_of}
 use Rattle.cc_model.specs.Answers.{Answer, items_of, all_items_of, text_of_answers}
 use Rattle.cc_model.specs.Asks.{Ask, ask_of}
-use Rattle.cc_model.specs.Heap.{Heap, empty_heap}
+use Rattle.cc_model.specs.Heap.{Heap}
 use Rattle.cc_model.specs.Snapshot.{Snapshot}
 use Rattle.cc_model.specs.Collecting.{Machine, empty_machine}
-use Rattle.cc_model.specs.Run.{do_ask}
+use Rattle.cc_model.specs.Run.{do_ask, plain_run}
 use Rattle.cc_model.proofs.Tellings.{Tells-nil, Tells-trans}
-use Rattle.cc_laws_run.specs.Memory.{with_memory, all_noes_told, SameMachine, IsDoneFor, AreDoneFor}
+use Rattle.cc_laws_run.specs.Memory.{with_memory, noes, all_noes_told, SameMachine, IsDoneFor, AreDoneFor}
 use Rattle.cc_laws_run.specs.Running.{ask_in_range}
+use Rattle.cc_laws_run.proofs.Ample.{turns-ample}
 use Rattle.cc_laws_run.proofs.InARow.{OneList, one_list}
 use Rattle.cc_laws_run.proofs.PlainLawful.{run-lawful}
 use Rattle.cc_laws_run.proofs.PlainQuiet.{run-quiet}
@@ -113,7 +114,8 @@ pub AreAnswered-transcript : (limits : Allowance) (k : Machine) (lines : List (L
 AreAnswered-transcript limits k lines t₀ t₁ a = record {
   memory = o.memory;
   text_is = ap text_of_answers (sym o.answered);
-  noes_are_told = o.said_no ∙ ap (all_noes_told asks) (sym o.answered);
+  noes_are_told = told;
+  with_all_memory = λ none. ap text_of_answers (sym o.answered ∙ turns-ample (empty_machine limits o.memory) asks (told ∙ none));
   lawful = run-lawful limits o.memory asks a.in_range;
   quiet = run-quiet limits o.memory asks a.in_range;
 }
@@ -123,3 +125,6 @@ AreAnswered-transcript limits k lines t₀ t₁ a = record {
 
     o : OneList (empty_machine limits []) k asks a.answers
     o = one_list (empty_machine limits []) k asks a.answers a.done
+
+    told : noes o.memory ≡ all_noes_told asks (plain_run limits o.memory asks)
+    told = o.said_no ∙ ap (all_noes_told asks) (sym o.answered)

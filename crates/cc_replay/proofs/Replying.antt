@@ -8,7 +8,7 @@ use Rattle.cc_model.specs.declared.item.Refusal.{Refusal}
 use Rattle.cc_model.specs.declared.item.Refusal.TheVariants.{NoMemory}
 use Rattle.cc_model.specs.declared.item.Reply.{Reply}
 use Rattle.cc_model.specs.declared.item.Reply.TheVariants.{Refused, Census, Done}
-use Rattle.cc_model.specs.Telling.{Telling, Tells, TellsItems, TellsEvents}
+use Rattle.cc_model.specs.Telling.{Telling, Tells, TellsItems}
 use Rattle.cc_model.specs.Texts.{text_of}
 use Rattle.cc_model.specs.Answers.{items_of}
 use Rattle.cc_model.specs.AppliedNow.{is_applied}
@@ -27,7 +27,7 @@ use Rattle.cc_mutator.specs.Applied.{IsCarriedOut}
 use Rattle.cc_reader.specs.FormsNow.{is_known}
 use Rattle.cc_replay.specs.Answered.{IsAnswered}
 use Rattle.cc_builder.specs.Building.{Built}
-use Rattle.cc_collector.specs.Kept.{machine_of, running_snapshot}
+use Rattle.cc_collector.specs.Kept.{machine_of}
 use Rattle.cc_collector.specs.Collected.{LedTo, IsSliced, IsCollected, IsSwept}
 use Rattle.cc_laws_run.specs.Memory.{with_memory}
 use Rattle.cc_replay.proofs.Tellings.{told-last}

@@ -15,11 +15,13 @@ use Rattle.cc_reader.specs.FormsNow.{forms_now}
 use Rattle.cc_reader.specs.HasRead.{ReadsBytes, ReadsToEnd}
 
 -- A TRANSCRIPT of these asks: the plain run for some answers of memory, which say no once for each want of memory
--- that is told and never else; it is lawful and quiet
+-- that is told and never else; it is lawful and quiet. Where no want of memory is told, its text is that of the plain run
+-- with memory at every place: these limits and asks alone decide it
 pub record IsTranscript (limits : Allowance) (asks : List Ask) (text : List ℕ) : Type 0 where
   pub memory : List Bool
   pub text_is : text ≡ text_of_answers (plain_run limits memory asks)
   pub noes_are_told : noes memory ≡ all_noes_told asks (plain_run limits memory asks)
+  pub with_all_memory : all_noes_told asks (plain_run limits memory asks) ≡ 0 → text ≡ text_of_answers (plain_run limits [] asks)
   pub lawful : IsLawful limits asks (plain_run limits memory asks)
   pub quiet : IsQuiet limits asks (plain_run limits memory asks)
 

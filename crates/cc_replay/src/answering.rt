@@ -132,12 +132,7 @@ fn answer_command<N: Notices>(
 }
 
 /// Answers a line of at most 120 bytes.
-fn answer_text<N: Notices>(
-    text: &[u8],
-    heaps: &mut Heaps,
-    collector: &mut Collector,
-    out: &mut N,
-)
+fn answer_text<N: Notices>(text: &[u8], heaps: &mut Heaps, collector: &mut Collector, out: &mut N)
     requires short { length text.now ≤ 120 }
     requires runs { RunsIn heaps.old collector.old }
     ensures answered { LineIsAnswered (machine_of heaps.old.heap collector.old) (machine_of heaps.new.heap collector.new) text.now (N.telling out.old) (N.telling out.new) }

@@ -5,6 +5,7 @@ use Rattle.cc_model.specs.Run.{do_ask}
 use Rattle.cc_laws_run.specs.Memory.{noes_of_reply}
 use Rattle.cc_laws_run.proofs.Unabandoned.{none-abandoned}
 use Rattle.cc_laws_run.proofs.AsksUse.{ask-use}
+use Rattle.cc_laws_run.proofs.Ample.{turns-ample}
 use Rattle.cc_laws_run.proofs.RefusedUnits.{refused_begin-leaves, refused_node-gives_back, give_back-purple}
 use Rattle.cc_laws_run.proofs.memory.memory_decides_nothing_else.Goals as goal
 
@@ -18,6 +19,9 @@ returns-clause-none_abandoned c = λ m ask e. none-abandoned (do_ask m ask).answ
 
 pub returns-clause-memory_stays : goal.returns-clause-memory_stays
 returns-clause-memory_stays c = λ m ask e. ((ask-use m ask).ample e).memory
+
+pub returns-clause-ample : goal.returns-clause-ample
+returns-clause-ample c = turns-ample
 
 pub returns-clause-refused_begin : goal.returns-clause-refused_begin
 returns-clause-refused_begin c = λ h memory e. refused_begin-leaves h memory e
