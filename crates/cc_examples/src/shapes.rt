@@ -225,10 +225,7 @@ fn a_ring_through_a_thousand_reflectors_is_freed(rt: HostRuntime) -> Result<(), 
     let mut play = ring_through_reflectors(rt.alloc(), length)?;
     play.ask("gc\ncollect\n", "= ok\n")?;
     for k in 1..length as u32 + 1 {
-        play.ask(
-            "",
-            format!(in rt.alloc(); "- unlink #{k}\n")?.as_str(),
-        )?;
+        play.ask("", format!(in rt.alloc(); "- unlink #{k}\n")?.as_str())?;
     }
     play.ask("gc\n", "= ok\n")?;
     for k in 2..length as u32 + 1 {
@@ -251,16 +248,15 @@ fn natives_vanish_while_others_are_unlinked(rt: HostRuntime) -> Result<(), Fail>
         let holder = 2 * j as u32 - 1;
         let held = 2 * j as u32;
         play.ask(
-            format!(in rt.alloc(); "native n0 2\nnative n{j} 0\nset n0 0 n0\nset n0 1 n{j}\ndrop n0\n")?.as_str(),
+            format!(in rt.alloc();
+                "native n0 2\nnative n{j} 0\nset n0 0 n0\nset n0 1 n{j}\ndrop n0\n"
+            )?.as_str(),
             format!(in rt.alloc(); "= #{holder}\n= #{held}\n= ok\n= ok\n= ok\n")?.as_str(),
         )?;
     }
     play.ask("slice 1\n", "= ok\n")?;
     for j in 1..pairs + 1 {
-        play.ask(
-            format!(in rt.alloc(); "drop n{j}\n")?.as_str(),
-            "= ok\n",
-        )?;
+        play.ask(format!(in rt.alloc(); "drop n{j}\n")?.as_str(), "= ok\n")?;
     }
     play.ask("slice 1000000\n", "")?;
     for j in 1..pairs + 1 {
@@ -273,10 +269,7 @@ fn natives_vanish_while_others_are_unlinked(rt: HostRuntime) -> Result<(), Fail>
     }
     for j in 1..pairs + 1 {
         let holder = 2 * j as u32 - 1;
-        play.ask(
-            "",
-            format!(in rt.alloc(); "- free #{holder}\n")?.as_str(),
-        )?;
+        play.ask("", format!(in rt.alloc(); "- free #{holder}\n")?.as_str())?;
     }
     play.ask("", "= ok\n")?;
     play.runs(&rt, "natives that vanish")
@@ -295,17 +288,11 @@ fn a_native_that_everything_held_is_collected(rt: HostRuntime) -> Result<(), Fai
         )?;
     }
     for j in 1..256u16 {
-        play.ask(
-            format!(in rt.alloc(); "copy n{j} n0\n")?.as_str(),
-            "= #1\n",
-        )?;
+        play.ask(format!(in rt.alloc(); "copy n{j} n0\n")?.as_str(), "= #1\n")?;
     }
     play.ask("slice 1\n", "= ok\n")?;
     for j in 0..256u16 {
-        play.ask(
-            format!(in rt.alloc(); "drop n{j}\n")?.as_str(),
-            "= ok\n",
-        )?;
+        play.ask(format!(in rt.alloc(); "drop n{j}\n")?.as_str(), "= ok\n")?;
     }
     play.ask("slice 1\n", "= ok\n")?;
     play.ask("collect\n", "- unlink #1\n- free #1\n= ok\n")?;
