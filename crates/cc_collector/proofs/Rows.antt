@@ -7,7 +7,7 @@ use Rattle.cc_model.specs.Snapshot.{Snapshot}
 use Rattle.cc_model.specs.Units.{first_untraversed}
 use Rattle.cc_model.specs.End.{Progress, went_on, at_end, refused, UnitDone, unit, may_be_refused, abandoned, granted, node_or_end}
 use Rattle.cc_model.specs.Collecting.{Machine, UnitsDone, no_units, one_unit, units_done, next_answer, later_answers, slice, collect, gc, to_the_end, enough_units, finish_running, unless_stopped, then_scripts}
-use Rattle.cc_model.proofs.UnitsEnd.{units_done-to_the_end}
+use Rattle.cc_model.proofs.UnitsEnd.{units_done-done, units_done-to_the_end}
 use Rattle.cc_laws_run.specs.Memory.{with_memory}
 use Rattle.cc_laws_run.proofs.UnitLawful.{unit-cases}
 use Rattle.cc_collector.specs.Collected.{counted_one, units_counted}
@@ -61,14 +61,6 @@ IsUnit-silent old new events progress u e =
 
 -- Units that stopped
 
--- what stopped does no more units,
-units_done-at_end : (n : ℕ) (m : Machine) (events : List Event) (p : Progress) → p ≢ went_on → units_done n (units_came m events p) ≡ units_came m events p
-unfolding units_done
-units_done-at_end zero m events p stopped = refl
-units_done-at_end (suc n) m events went_on stopped = absurd (stopped refl)
-units_done-at_end (suc n) m events at_end stopped = refl
-units_done-at_end (suc n) m events refused stopped = refl
-
 -- and counts none
 units_counted-at_end : (n : ℕ) (m : Machine) (events : List Event) (p : Progress) → p ≢ went_on → units_counted n (units_came m events p) ≡ 0
 units_counted-at_end zero m events p stopped = refl
@@ -84,8 +76,8 @@ units_done-more (suc n) k m events went_on =
     let more : suc n + k ≡ suc (n + k) = omega arith in
     let d = one_unit m events in
     subst (λ (j : ℕ). units_done j (units_came m events went_on) ≡ units_done k (units_done n d)) (sym more) (units_done-more n k d.machine d.events d.progress)
-units_done-more (suc n) k m events at_end = units_done-at_end (suc n + k) m events at_end (λ e. cc) ∙ sym (units_done-at_end k m events at_end (λ e. cc))
-units_done-more (suc n) k m events refused = units_done-at_end (suc n + k) m events refused (λ e. cc) ∙ sym (units_done-at_end k m events refused (λ e. cc))
+units_done-more (suc n) k m events at_end = units_done-done (suc n + k) (units_came m events at_end) (λ e. cc) ∙ sym (units_done-done k (units_came m events at_end) (λ e. cc))
+units_done-more (suc n) k m events refused = units_done-done (suc n + k) (units_came m events refused) (λ e. cc) ∙ sym (units_done-done k (units_came m events refused) (λ e. cc))
 
 -- Units that go on
 
@@ -156,7 +148,7 @@ unfolding slice units_done
 ComeTo-stopped n k before mid now events p g u stopped less = record {
   memory = memory;
   is = subst (λ (j : ℕ). units_done j (no_units (with_memory before memory)) ≡ units_came (with_memory now []) events p) all
-      (g.later answers (suc left) ∙ (ap (units_done left) led ∙ units_done-at_end left (with_memory now []) events p stopped));
+      (g.later answers (suc left) ∙ (ap (units_done left) led ∙ units_done-done left (units_came (with_memory now []) events p) stopped));
   counts = subst (λ (j : ℕ). units_counted j (no_units (with_memory before memory)) ≡ k + counted_one p) all
       (g.counted answers (suc left) ∙ (ap (λ (d : UnitsDone). k + (counted_one d.progress + units_counted left d)) led
       ∙ (ap (λ (c : ℕ). k + (counted_one p + c)) (units_counted-at_end left (with_memory now []) events p stopped) ∙ none)));
@@ -188,7 +180,7 @@ to_the_end-stopped : (before now : Machine) (events : List Event) (p : Progress)
 to_the_end-stopped before now events p s rest =
     sym (units_done-to_the_end (s.units + enough_units start) start (omega arith))
     ∙ (units_done-more s.units (enough_units start) start [] went_on
-    ∙ (ap (units_done (enough_units start)) (s.come rest) ∙ units_done-at_end (enough_units start) (with_memory now rest) events p s.stopped))
+    ∙ (ap (units_done (enough_units start)) (s.come rest) ∙ units_done-done (enough_units start) (units_came (with_memory now rest) events p) s.stopped))
   where
     start : Machine
     start = with_memory before (s.memory rest)
