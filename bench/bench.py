@@ -103,12 +103,20 @@ def reflector_ring(size):
     return Shape(lines, ["gc", "collect", "gc"], 2 * natives, natives)
 
 
+def live_chain_in_slices(size):
+    """The same, a unit at a time with a command between: a begin, a unit for each suspect, and the end. What is divided
+    by the objects is the time of one unit and that command."""
+    build, _ = chain(size)
+    return Shape(build, ["slice 1", "copy n254 n255"] * (size + 2), 0, 0)
+
+
 SHAPES = [
     ("chain, dropped", dropped_chain),
     ("one ring, collected", ring),
     ("cycles of two, collected", pairs),
     ("chain from a cycle, collected", chain_from_pair),
     ("live chain, traversed", live_chain),
+    ("live chain, a unit at a time", live_chain_in_slices),
     ("ring of script objects, swept", script_ring),
     ("ring through reflectors, collected and swept", reflector_ring),
 ]
