@@ -9,6 +9,7 @@ pub mod Unabandoned
 pub mod UnitsUse
 pub mod AsksUse
 pub mod Ample
+pub mod UnitsTaken
 pub mod InARow
 pub mod RefusedUnits
 pub mod FreedListed

@@ -5,3 +5,4 @@ pub mod Followed
 pub mod Missing
 pub mod Spent
 pub mod Premises
+pub mod UnitsTaken

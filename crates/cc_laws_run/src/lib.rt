@@ -11,6 +11,8 @@
 //! - `specs/Followed.antt`: one collection followed through asks (`first_collection`);
 //! - `specs/Missing.antt`: what a collection after `gc` unlinks (`lost`, `MissesNone`);
 //! - `specs/Spent.antt`: what it has unlinked (`IsSpent`), for `unlinked_are_gone_after_gc` alone;
+//! - `specs/UnitsTaken.antt`: how many units a collection has taken (`units_taken`), for `collections_take_a_unit_a_node`
+//!   alone;
 //! - `specs/Premises.antt`: what a script leaves (`IsLeftByAScript`), for the laws that say that premises can be met.
 #![tactic(auto)]
 
@@ -24,6 +26,7 @@ mod quiet;
 mod runs;
 mod spent;
 mod turns;
+mod units;
 
 pub use collections::collections_are_lawful;
 pub use doomed::commands_keep_doomed;
@@ -35,6 +38,7 @@ pub use quiet::{garbage_is_doomed, gc_collect_gc_is_quiet};
 pub use runs::{runs_after_gc_miss_nothing, runs_forget_nothing, runs_go_on};
 pub use spent::unlinked_are_gone_after_gc;
 pub use turns::commands_are_lawful;
+pub use units::collections_take_a_unit_a_node;
 
 #[cfg(test)]
 mod tests;

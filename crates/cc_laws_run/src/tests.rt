@@ -18,6 +18,7 @@ fn laws_can_be_called() {
     runs_after_gc_miss_nothing();
     runs_compose();
     memory_decides_nothing_else();
+    collections_take_a_unit_a_node();
     freshness_can_be_met();
     suspicion_can_be_met();
 }

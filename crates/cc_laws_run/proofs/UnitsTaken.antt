@@ -1,0 +1,104 @@
+-- EACH UNIT IS COUNTED by the nodes that are behind.
+use Rattle.std.proofs.Common.{◌≡◌, ℕ, zero, suc, ◌+◌, Bool, true, false, not, ◌&&◌, List, [], ◌∷◌, ◌++◌, length, map, Option, Some, None, refl, sym, ◌∙◌, ap, arith, count_by}
+use Rattle.std.proofs.lemmas.Bool.{not-true}
+use Rattle.cc_lists.specs.Members.{has}
+use Rattle.cc_lists.proofs.Counting.{count_by-cons, count_by-append}
+use Rattle.cc_names.specs.declared.name.Name.{Name}
+use Rattle.cc_names.specs.Names.{same_name}
+use Rattle.cc_model.specs.Heap.{Heap}
+use Rattle.cc_model.specs.Snapshot.{NodeState, gone, traversed, Node, Snapshot}
+use Rattle.cc_model.specs.Units.{first_names, new_node, begun, is_untraversed, first_untraversed, to_note, sample, with_state, with_node, with_nodes, after_node}
+use Rattle.cc_model.specs.End.{Progress, went_on, at_end, UnitDone, may_be_refused, abandoned, node_or_end, granted, unit}
+use Rattle.cc_laws_run.specs.UnitsTaken.{is_behind, nodes_behind, units_taken}
+
+-- the first untraversed node that gets a state is behind then
+behind-with_state : (state : NodeState) → is_untraversed state ≡ false → (ns : List Node) (x : Name) → first_untraversed ns ≡ Some x →
+    nodes_behind (with_state state ns) ≡ suc (nodes_behind ns)
+behind-with_state state closed [] x e = absurd (cc)
+behind-with_state state closed (n ∷ ns) x e = go (behind-with_state state closed ns x) (is_untraversed n.state) refl e
+  where
+    by_test : Bool → List Node
+    by_test true = record n { state = state } ∷ ns
+    by_test false = n ∷ with_state state ns
+
+    first : Bool → Option Name
+    first true = Some n.name
+    first false = first_untraversed ns
+
+    go : (first_untraversed ns ≡ Some x → nodes_behind (with_state state ns) ≡ suc (nodes_behind ns)) →
+        (b : Bool) → is_untraversed n.state ≡ b → first b ≡ Some x → nodes_behind (by_test b) ≡ suc (nodes_behind (n ∷ ns))
+    go ih true k f = rw (count_by-cons is_behind (record n { state = state }) ns, count_by-cons is_behind n ns, closed, k) (omega arith)
+    go ih false k f =
+        let rest : nodes_behind (with_state state ns) ≡ suc (nodes_behind ns) = ih f in
+        rw (count_by-cons is_behind n (with_state state ns), count_by-cons is_behind n ns, k) (omega (arith, rest))
+
+-- nodes that are added are not
+behind-with_node : (ns : List Node) (y : Name) → nodes_behind (with_node ns y) ≡ nodes_behind ns
+behind-with_node ns y = go (has same_name (map (λ (n : Node). n.name) ns) y)
+  where
+    by_test : Bool → List Node
+    by_test true = ns
+    by_test false = ns ++ new_node y ∷ []
+
+    go : (b : Bool) → nodes_behind (by_test b) ≡ nodes_behind ns
+    go true = refl
+    go false =
+        let more : nodes_behind (ns ++ new_node y ∷ []) ≡ nodes_behind ns + 0 = count_by-append is_behind ns (new_node y ∷ []) in
+        omega (arith, more)
+
+behind-with_nodes : (ns : List Node) (ys : List Name) → nodes_behind (with_nodes ns ys) ≡ nodes_behind ns
+behind-with_nodes ns [] = refl
+behind-with_nodes ns (y ∷ ys) = behind-with_nodes (with_node ns y) ys ∙ behind-with_node ns y
+
+behind-new : (xs : List Name) → nodes_behind (map new_node xs) ≡ 0
+behind-new [] = refl
+behind-new (x ∷ xs) = rw (count_by-cons is_behind (new_node x) (map new_node xs)) (omega (arith, behind-new xs))
+
+-- where no node is untraversed all are behind
+behind-all : (ns : List Node) → first_untraversed ns ≡ None → nodes_behind ns ≡ length ns
+behind-all [] e = refl
+behind-all (n ∷ ns) e = go (behind-all ns) (is_untraversed n.state) refl e
+  where
+    first : Bool → Option Name
+    first true = Some n.name
+    first false = first_untraversed ns
+
+    go : (first_untraversed ns ≡ None → nodes_behind ns ≡ length ns) → (b : Bool) → is_untraversed n.state ≡ b → first b ≡ None →
+        nodes_behind (n ∷ ns) ≡ suc (length ns)
+    go ih true k f = absurd (cc)
+    go ih false k f = rw (count_by-cons is_behind n ns, k) (omega (arith, ih f))
+
+-- the unit of a node
+behind-node : (h : Heap) (s : Snapshot) (x : Name) (o : Option (List Name)) → first_untraversed s.nodes ≡ Some x →
+    nodes_behind (after_node h s x o).nodes ≡ suc (nodes_behind s.nodes)
+behind-node h s x None e = behind-with_state gone refl s.nodes x e
+behind-node h s x (Some ys) e =
+    behind-with_nodes (with_state (traversed (sample h x)) s.nodes) ys ∙ behind-with_state (traversed (sample h x)) refl s.nodes x e
+
+-- what a unit that was granted came to
+abbrev pub CountsOn : Option Snapshot → UnitDone → Type 0
+CountsOn s u = u.progress ≡ went_on → units_taken u.snapshot ≡ suc (units_taken s)
+
+abbrev pub CountsAtEnd : Option Snapshot → UnitDone → Type 0
+CountsAtEnd s u = u.progress ≡ at_end → (t : Snapshot) × (s ≡ Some t) × (suc (units_taken s) ≡ length t.nodes + 2)
+
+node_or_end-counts : (h : Heap) (s : Snapshot) (o : Option Name) → first_untraversed s.nodes ≡ o → CountsOn (Some s) (node_or_end h s o) × CountsAtEnd (Some s) (node_or_end h s o)
+node_or_end-counts h s None e = (λ p. absurd (cc), λ p. (s, refl, omega (arith, behind-all s.nodes e)))
+node_or_end-counts h s (Some x) e = (λ p. ap suc (behind-node h s x (to_note h x) e), λ p. absurd (cc))
+
+granted-counts : (h : Heap) (s : Option Snapshot) → CountsOn s (granted h s) × CountsAtEnd s (granted h s)
+granted-counts h None = (λ p. ap suc (behind-new (first_names h)), λ p. absurd (cc))
+granted-counts h (Some s) = node_or_end-counts h s (first_untraversed s.nodes) refl
+
+-- EACH UNIT
+pub unit-counts : (h : Heap) (s : Option Snapshot) (memory : Bool) → CountsOn s (unit h s memory) × CountsAtEnd s (unit h s memory)
+unfolding unit
+unit-counts h s memory = go (may_be_refused h s && not memory)
+  where
+    by_test : Bool → UnitDone
+    by_test true = abandoned h s
+    by_test false = granted h s
+
+    go : (b : Bool) → CountsOn s (by_test b) × CountsAtEnd s (by_test b)
+    go true = (λ p. absurd (cc), λ p. absurd (cc))
+    go false = granted-counts h s
