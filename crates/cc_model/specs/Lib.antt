@@ -5,7 +5,7 @@ pub mod Lines
 pub mod Tokens
 pub mod Forms
 pub mod Ranges
-pub mod AppliedNow
+pub mod Mutating
 pub mod Asks
 pub mod Slots
 pub mod Entries

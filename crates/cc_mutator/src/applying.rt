@@ -15,7 +15,7 @@ ghost use Rattle.cc_model.specs.Heap.{objects_of, register};
 ghost use Rattle.cc_model.specs.Lawful.{State, RepliesWith, graph_after};
 ghost use Rattle.cc_model.specs.Listed.{census_order};
 ghost use Rattle.cc_model.specs.Run.{census_names};
-ghost use Rattle.cc_model.specs.AppliedNow.{is_applied};
+ghost use Rattle.cc_model.specs.Mutating.{is_applied};
 ghost use Rattle.cc_model.specs.Ranges.{in_range};
 ghost use Rattle.cc_model.specs.StandsFor.{StandsFor};
 ghost use Rattle.cc_model.specs.View.{view};

@@ -5,7 +5,7 @@ ghost use Rattle.cc_model.specs.Colours.{HasColourInvariant};
 ghost use Rattle.cc_model.specs.Ranges.{in_range};
 ghost use Rattle.cc_model.specs.View.{view};
 ghost use Rattle.cc_heaps.specs.Keyed.{IsInOrder};
-ghost use Rattle.cc_model.specs.AppliedNow.{is_applied};
+ghost use Rattle.cc_model.specs.Mutating.{is_applied};
 
 use super::*;
 use cc_heaps::Heaps;

@@ -2,7 +2,7 @@
 use Rattle.std.specs.Prelude.{Bool, true, List, [], ◌∷◌}
 use Rattle.cc_model.specs.declared.command.Command.{Command}
 use Rattle.cc_model.specs.declared.command.Command.TheVariants.{Nothing, Slice, Collect, Gc, Census}
-use Rattle.cc_model.specs.AppliedNow.{is_applied}
+use Rattle.cc_model.specs.Mutating.{is_applied}
 use Rattle.cc_model.specs.Forms.{Form, native_form, script_form, copy_native_form, copy_script_form, drop_native_form, drop_script_form, set_native_form, set_script_form, set_none_form, get_native_form, get_script_form, put_script_form, put_none_form, take_form, wrap_form, unwrap_form, preserve_form, expose_form, slice_form, collect_form, gc_form, census_form}
 
 -- THE FORMS THAT THE PROGRAM KNOWS NOW: a line of another form is not in its grammar

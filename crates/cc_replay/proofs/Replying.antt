@@ -11,7 +11,7 @@ use Rattle.cc_model.specs.declared.item.Reply.TheVariants.{Refused, Census, Done
 use Rattle.cc_model.specs.Telling.{Telling, Tells, TellsItems}
 use Rattle.cc_model.specs.Texts.{text_of}
 use Rattle.cc_model.specs.Answers.{items_of}
-use Rattle.cc_model.specs.AppliedNow.{is_applied}
+use Rattle.cc_model.specs.Mutating.{is_applied}
 use Rattle.cc_model.specs.Asks.{taken}
 use Rattle.cc_model.specs.Checks.{refusal_of, reply_if_taken}
 use Rattle.cc_model.specs.Heap.{objects_of}

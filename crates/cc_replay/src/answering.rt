@@ -16,7 +16,7 @@ ghost use Rattle.cc_collector.specs.Kept.{RunsIn, machine_of};
 ghost use Rattle.cc_heaps.specs.Few.{AreFew};
 ghost use Rattle.cc_heaps.specs.Keyed.{IsInOrder};
 ghost use Rattle.cc_heaps.specs.Standing.{KeepsSuspected};
-ghost use Rattle.cc_model.specs.AppliedNow.{is_applied};
+ghost use Rattle.cc_model.specs.Mutating.{is_applied};
 ghost use Rattle.cc_replay.specs.Answering.{GivesLine, LineIsAnswered, Answers, moment};
 ghost use Rattle.cc_replay.specs.Transcripts.{ends, IsDone, StopsAtFault, StopsAtLimit, StopsAtWrite};
 
