@@ -1,7 +1,7 @@
 //! Script objects made, held, written and exposed.
 ghost use Rattle.std.specs.Prelude.{◌≡◌, ◌+◌, ◌<◌, ◌≤◌, [], length, Some, Err, IsTrue, IfOk, IfSome, OnOk, OnErr};
 ghost use Rattle.cc_names.specs.declared.kind.Colour.TheVariants.{Black};
-ghost use Rattle.cc_names.specs.declared.kind.Kind.TheVariants.{Plain};
+ghost use Rattle.cc_names.specs.declared.kind.Kind.TheVariants.{Map, Plain};
 ghost use Rattle.cc_names.specs.declared.register.Reg.TheVariants.{S as s_register};
 ghost use Rattle.cc_names.specs.Names.{object};
 ghost use Rattle.cc_model.specs.Heap.{set_register, set_slot};
@@ -93,6 +93,57 @@ impl Heaps {
         }
         let name = Name::Script(ScriptNo(self.scripts_made + 1));
         match self.add_plain(slots) {
+            Ok(key) => {
+                self.write_script_reg(r, Some(key));
+                Ok(name)
+            }
+            Err(NoMemory) => Err(MakeStop::NoMemory),
+        }
+    }
+
+    // A weak map with the next number; its key.
+    fn add_map(&mut self) -> Result<SKey, NoMemory>
+        requires order { IsInOrder [] self.old }
+        requires room { self.old.heap.scripts_made < self.old.heap.limits.scripts }
+        ensures made { OnOk result (self.new.heap.scripts_made ≡ self.old.heap.scripts_made + 1) }
+        ensures heap { OnOk result (self.new.heap ≡ with_object self.old.heap Map 0) }
+        ensures name { IfOk result (λ key. name_at self.new.scripts key.0 ≡ Some (object (self.old.heap.scripts_made + 1))) }
+        ensures natives { self.new.keys ≡ self.old.keys }
+        ensures keys { KeepsKeys self.old self.new }
+        ensures same { OnErr result (self.new ≡ self.old) }
+        ensures order { IsInOrder [] self.new }
+    {
+        let number = ScriptNo(self.scripts_made + 1);
+        let key = self.scripts.create_map(number)?;
+        self.scripts_made += 1;
+        Ok(key)
+    }
+
+    /// Makes a weak map without entries, which register `r` holds from then on. Its name.
+    ///
+    /// `Full` exactly where as many plain objects and weak maps as the limit were ever made; `NoMemory` at any other
+    /// time. Neither changes anything.
+    pub fn new_map(&mut self, r: u8) -> Result<Name, MakeStop>
+        requires order { IsInOrder [] self.old }
+        ensures full { result ≡ Err MakeStop.Full → self.old.heap.limits.scripts ≤ self.old.heap.scripts_made }
+        ensures full_always { self.old.heap.limits.scripts ≤ self.old.heap.scripts_made → result ≡ Err MakeStop.Full }
+        ensures name { IfOk result (λ x. x ≡ object (self.old.heap.scripts_made + 1)) }
+        ensures heap { OnOk result (self.new.heap ≡ make_object self.old.heap r Map 0) }
+        ensures natives { self.new.keys ≡ self.old.keys }
+        ensures keys { KeepsKeys self.old self.new }
+        ensures same { OnErr result (self.new ≡ self.old) }
+        ensures order { IsInOrder [] self.new }
+        ensures counts { AreFew self.new.heap }
+        ensures stands { OnOk result (StandsAfter self.old.heap self.new.heap (λ g. graph.step g (command.WeakMap r))) }
+        ensures colours { KeepsColours self.old.heap self.new.heap }
+        ensures fresh { KeepsFresh self.old.heap self.new.heap }
+        ensures suspected { KeepsSuspected self.old.heap self.new.heap }
+    {
+        if self.scripts_made >= self.limits.scripts() {
+            return Err(MakeStop::Full);
+        }
+        let name = Name::Script(ScriptNo(self.scripts_made + 1));
+        match self.add_map() {
             Ok(key) => {
                 self.write_script_reg(r, Some(key));
                 Ok(name)
