@@ -1,14 +1,15 @@
 -- A SNAPSHOT THAT IS BEING BUILT, by the graph that holds it.
-use Rattle.std.specs.Prelude.{◌≡◌, ℕ, zero, suc, ◌+◌, ◌≤◌, ◌<◌, true, false, List, [], ◌∷◌, map, take, drop, flat_map, length, count_by, Option, Some, None, slice_index_or}
+use Rattle.std.specs.Prelude.{◌≡◌, ℕ, zero, suc, ◌+◌, ◌≤◌, ◌<◌, true, false, List, [], ◌∷◌, map, take, drop, flat_map, length, count_by, Option, Some, None, option_map, slice_index_or}
 use Rattle.cc_lists.specs.Members.{Among}
 use Rattle.cc_names.specs.declared.name.Name.{Name}
 use Rattle.cc_names.specs.declared.name.Name.TheVariants as name
 use Rattle.cc_names.specs.Names.{native, is_native, natives_in, same_name}
 use Rattle.cc_model.specs.Heap.{Heap}
 use Rattle.cc_model.specs.WellFormed.{script_names}
-use Rattle.cc_model.specs.Snapshot.{NodeState, untraversed, gone, traversed, Node, Snapshot}
+use Rattle.cc_model.specs.Snapshot.{NodeState, untraversed, gone, traversed, Node, Mapping, Snapshot}
 use Rattle.cc_model.specs.Units.{first_untraversed, to_note, after_node}
-use Rattle.cc_graph.specs.Shown.{Vertex, Edge, Shown}
+use Rattle.cc_graph.specs.Shown.{Vertex, Edge, Hyperedge, Shown}
+use Rattle.cc_graph.specs.Closed.{AreHyperedgesWithin}
 use Rattle.cc_heaps.specs.Keyed.{Keyed}
 
 -- the graph; the first nodes are the candidates; the nodes before `next` are traversed or gone
@@ -44,13 +45,17 @@ vertex_name vs i = slice_index_or (vertex_names vs) i (native 0)
 abbrev pub reference_of : List Vertex → Edge → Name × Name
 reference_of vs e = (vertex_name vs e.source, vertex_name vs e.target)
 
+-- a noted mapping by names
+abbrev pub mapping_of : List Vertex → Hyperedge → Mapping
+mapping_of vs m = record { the_map = option_map (vertex_name vs) m.the_map; key = option_map (vertex_name vs) m.key; value = vertex_name vs m.value }
+
 -- THE SNAPSHOT that a graph holds
 abbrev pub snapshot_of : Built → Snapshot
 snapshot_of b = record {
   candidates = flat_map natives_in (vertex_names (take b.candidates b.graph.nodes));
   nodes = nodes_of b.next b.graph.nodes;
   references = map (reference_of b.graph.nodes) b.graph.edges;
-  mappings = [];
+  mappings = map (mapping_of b.graph.nodes) b.graph.hyperedges;
 }
 
 -- an object that was made: a native whose number was given, or a script object that is in the heaps
@@ -72,6 +77,7 @@ pub record IsBuilt (b : Built) (v : Keyed) : Type 0 where
   pub behind : b.next ≤ length b.graph.nodes
   pub first : b.candidates ≤ length b.graph.nodes
   pub closed : (e : Edge) → Among e b.graph.edges → (e.source < length b.graph.nodes) × (e.target < length b.graph.nodes)
+  pub mapped : AreHyperedgesWithin (length b.graph.nodes) b.graph.hyperedges
   pub no_blacks : b.graph.blacks ≡ []
   -- a node that is not behind has no sample yet
   pub unsampled : (n : Vertex) → Among n (drop b.next b.graph.nodes) → n.sampled ≡ None

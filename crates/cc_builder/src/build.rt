@@ -60,8 +60,9 @@ impl Model for Build {
 
 impl Build {
     /// Begins a collection: the purple natives of the buffer, in its order, become nodes (the candidates), then each
-    /// native that holds a gray script object, in a slot or as its preserved reflector, by rising number; and the buffer
-    /// is emptied.
+    /// native that holds a gray script object, in a slot or as its preserved reflector, by rising number. Each entry of a
+    /// weak map whose value is gray is noted as a mapping, in the order in which entries were first set; its map and its
+    /// key, each where it is gray, and its value become nodes. And the buffer is emptied.
     ///
     /// `NoMemory`, only where a node is added, leaves the buffer's contents, order and marks as they were.
     pub fn begin(alloc: Global, heaps: &mut Heaps) -> Result<Build, NoMemory>
@@ -82,6 +83,7 @@ impl Build {
     {
         let mut build = Build::of_purple(alloc, heaps)?;
         build.add_holders(heaps)?;
+        build.add_mappings(heaps)?;
         empty_buffer(heaps);
         Ok(build)
     }
