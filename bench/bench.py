@@ -103,6 +103,23 @@ def reflector_ring(size):
     return Shape(lines, ["gc", "collect", "gc"], 2 * natives, natives)
 
 
+def entry_chain(size):
+    """A chain of entries in one map: each value is the next key. A register holds the map and the first key, so all live.
+    A script collection marks them in the order in which they were set."""
+    lines = ["weakmap s0", "script s1 0", "copy s3 s1"]
+    for _ in range(1, size):
+        lines += ["script s2 0", "wset s0 s3 s2", "copy s3 s2"]
+    return Shape(lines + ["drop s2", "drop s3"], ["gc"], 0, 0)
+
+
+def entry_chain_backwards(size):
+    """The same, set against the order: the last key's entry first."""
+    lines = ["weakmap s0", "script s3 0"]
+    for _ in range(1, size):
+        lines += ["script s2 0", "wset s0 s2 s3", "copy s3 s2"]
+    return Shape(lines + ["drop s2"], ["gc"], 0, 0)
+
+
 def live_chain_in_slices(size):
     """The same, a unit at a time with a command between: a begin, a unit for each suspect, and the end. What is divided
     by the objects is the time of one unit and that command."""
@@ -119,6 +136,8 @@ SHAPES = [
     ("live chain, a unit at a time", live_chain_in_slices),
     ("ring of script objects, swept", script_ring),
     ("ring through reflectors, collected and swept", reflector_ring),
+    ("chain of entries, marked", entry_chain),
+    ("chain of entries, marked against its order", entry_chain_backwards),
 ]
 
 
