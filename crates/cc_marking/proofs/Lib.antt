@@ -1,5 +1,6 @@
 pub mod Painting
 pub mod Raising
 pub mod MarkedFrom
-pub mod Whole
-pub mod LeastColours
+pub mod Marks
+pub mod Levels
+pub mod Passes

@@ -103,32 +103,3 @@ colours-in_steps blacks grays marks objects either =
         go false true = refl
         go false false = refl
 
--- what is marked is black, or the second roots reach it
-pub marked-either : (objects : List Object) (blacks grays : List ℕ) (key : ℕ) →
-    has ◌==◌ (marked_keys objects blacks grays) key ≡ (has ◌==◌ (keys_reached objects blacks) key || has ◌==◌ (keys_reached objects grays) key)
-marked-either objects blacks grays key =
-    has-together ◌==◌ number-exact (edges objects) (black_keys objects blacks) grays key
-    ∙ ap (λ b. b || has ◌==◌ (keys_reached objects grays) key) (has-again ◌==◌ number-exact (edges objects) blacks key)
-
--- A marking: white, then from the black roots, then from the gray ones.
-pub marked-by_steps : (blacks grays : List ℕ) (objects white black gray : List Object) →
-    gray ≡ raised_among (keys_reached black grays) Gray black → black ≡ raised_among (keys_reached white blacks) Black white → white ≡ whitened objects →
-    gray ≡ marked_from blacks grays objects
-marked-by_steps blacks grays objects white black gray grayed blackened cleared =
-    grayed
-    ∙ (ap (λ (keys : List ℕ). raised_among keys Gray black) same_grays
-    ∙ (ap (raised_among (keys_reached objects grays) Gray) blackened_from
-    ∙ colours-in_steps (keys_reached objects blacks) (keys_reached objects grays) (marked_keys objects blacks grays) objects (marked-either objects blacks grays)))
-  where
-    reached_white : (keys : List ℕ) → keys_reached white keys ≡ keys_reached objects keys
-    reached_white keys = ap (λ (os : List Object). keys_reached os keys) cleared ∙ keys_reached-painted (λ o. White) objects keys
-
-    same_grays : keys_reached black grays ≡ keys_reached objects grays
-    same_grays =
-        ap (λ (os : List Object). keys_reached os grays) blackened
-        ∙ (keys_reached-raised (keys_reached white blacks) Black white grays ∙ reached_white grays)
-
-    blackened_from : black ≡ raised_among (keys_reached objects blacks) Black (whitened objects)
-    blackened_from =
-        blackened
-        ∙ (ap (λ (keys : List ℕ). raised_among keys Black white) (reached_white blacks) ∙ ap (raised_among (keys_reached objects blacks) Black) cleared)
