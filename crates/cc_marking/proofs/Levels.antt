@@ -1,26 +1,23 @@
 -- WHAT HAS AT LEAST A COLOUR where objects are white, and where some of them were raised.
 use Rattle.std.specs.Prelude.{is_some, IsTrue}
 use Rattle.std.proofs.Common.{◌≡◌, ℕ, ◌==◌, Bool, true, false, not, cond, ◌||◌, ◌&&◌, List, [], map, Option, Some, None, option_map, refl, sym, ◌∙◌, ap, subst, inl, inr, ◌⊎◌, ⊎_elim}
-use Rattle.std.specs.List.{flat_map}
-use Rattle.std.specs.Option.{option_to_list}
 use Rattle.std.proofs.lemmas.Bool.{or_cases, or_left, or_right, and_parts, and_from, eq-eqb, false≢true}
 use Rattle.cc_lists.specs.Members.{Among, has}
 use Rattle.cc_lists.proofs.Filtering.{filter-nothing}
-use Rattle.cc_lists.proofs.ListWrites.{flat_map-kept}
 use Rattle.cc_lists.proofs.Searching.{find-some}
 use Rattle.cc_lists.proofs.Members.{Among-map, Among-map_cases, Among-filter, Among-passes}
 use Rattle.cc_names.specs.declared.kind.Colour.{Colour}
 use Rattle.cc_names.specs.declared.kind.Colour.TheVariants.{White}
 use Rattle.cc_script.specs.Objects.{Object, AreWhole, object_at, is_there, colour_at, is_below, with_colour, raised, raised_among, whitened}
-use Rattle.cc_script.specs.Walking.{slot_edges, edges}
+use Rattle.cc_script.specs.Walking.{edges}
 use Rattle.cc_script.proofs.Colours.{not_below-trans, raised-enough}
 use Rattle.cc_script.proofs.Keys.{object_at-among, object_at-key, object_at-map}
 use Rattle.cc_script.proofs.Reaching.{edge-slot}
 use Rattle.cc_script.proofs.Tidying.{white-whitened, white-there}
-use Rattle.cc_script.proofs.Walks.{risen, risen-key, risen-slots}
+use Rattle.cc_script.proofs.Walks.{risen, risen-key}
 use Rattle.cc_script.proofs.Wholeness.{there-object, there-whitened, whole-raised, whole-whitened}
 use Rattle.cc_marking.specs.Levels.{AreOrdered, has_at_least, is_at_least, keys_at_least}
-use Rattle.cc_marking.proofs.Raising.{at_least, risen-painted}
+use Rattle.cc_marking.proofs.Raising.{at_least, edges-raised, risen-painted}
 
 -- a member is there
 member-there : (objects : List Object) (o : Object) → Among o objects → IsTrue (is_there objects o.key)
@@ -69,15 +66,6 @@ module _ (to : Colour) (above : is_below White to ≡ true) (objects : List Obje
   }
 
 -- Raised objects
-
--- they hold what they held
-pub edges-raised : (keys : List ℕ) (to : Colour) (objects : List Object) → edges (raised_among keys to objects) ≡ edges objects
-edges-raised keys to objects = flat_map-kept slot_edges (risen keys to) objects each
-  where
-    each : (o : Object) → slot_edges (risen keys to o) ≡ slot_edges o
-    each o =
-        ap (λ (k : ℕ). map (λ (q : ℕ). (k, q)) (flat_map option_to_list (risen keys to o).slots)) (risen-key keys to o)
-        ∙ ap (λ (slots : List (Option ℕ)). map (λ (q : ℕ). (o.key, q)) (flat_map option_to_list slots)) (risen-slots keys to o)
 
 -- objects of one key and one colour have one colour then
 risen-colour : (keys : List ℕ) (to : Colour) (o p : Object) → o.key ≡ p.key → o.colour ≡ p.colour → (risen keys to o).colour ≡ (risen keys to p).colour

@@ -1,6 +1,9 @@
+pub mod There
 pub mod Painting
 pub mod Raising
-pub mod MarkedFrom
-pub mod Marks
+pub mod EachRoot
 pub mod Levels
+pub mod Marks
 pub mod Passes
+pub mod Steps
+pub mod LeastColours

@@ -13,7 +13,7 @@ use Rattle.cc_script.proofs.ReachedLeast.{reached-decided}
 use Rattle.cc_script.proofs.Reaching.{edge-slot}
 use Rattle.cc_weakmaps.specs.Entries.{KeyedEntry}
 use Rattle.cc_marking.specs.Marking.{IsMarkedFrom, AreEntriesThere, joint, joints, mark_rules, keys_marked}
-use Rattle.cc_marking.proofs.MarkedFrom.{AreThere}
+use Rattle.cc_marking.proofs.There.{AreThere}
 
 module _ (objects : List Object) (entries : List KeyedEntry) where
   -- the list has what the rules derive

@@ -24,13 +24,14 @@ use Rattle.cc_script.proofs.Keys.{object_at-among, object_at-key}
 use Rattle.cc_script.proofs.ReachedLeast.{reached-decided}
 use Rattle.cc_script.proofs.Reaching.{reached-root}
 use Rattle.cc_script.proofs.Walks.{risen}
-use Rattle.cc_script.proofs.Wholeness.{there-object, there-raised}
+use Rattle.cc_script.proofs.Wholeness.{there-object}
 use Rattle.cc_weakmaps.specs.Entries.{KeyedEntry}
 use Rattle.cc_marking.specs.Marking.{AreEntriesThere, IsMarkedFrom, keys_marked}
 use Rattle.cc_marking.specs.Levels.{AreFollowed, AreOrdered, IsRaised, has_at_least, is_at_least, is_due, keys_at_least}
-use Rattle.cc_marking.proofs.Levels.{AreOrdered-raised, at_least-cases, at_least-kept, at_least-listed, edges-raised, listed-at_least}
+use Rattle.cc_marking.proofs.There.{AreEntriesThere-kept, HaveSameKeys-raised}
+use Rattle.cc_marking.proofs.Levels.{AreOrdered-raised, at_least-cases, at_least-kept, at_least-listed, listed-at_least}
 use Rattle.cc_marking.proofs.Marks.{marked-again, marked-alike, marked-decided, marked-root, marked-value, marked-within, reached-leads, reached-marked}
-use Rattle.cc_marking.proofs.Raising.{raised-twice}
+use Rattle.cc_marking.proofs.Raising.{edges-raised, raised-twice}
 
 -- a list has what its two parts have
 has-append : (xs ys : List ℕ) (key : ℕ) → has ◌==◌ (xs ++ ys) key ≡ (has ◌==◌ xs key || has ◌==◌ ys key)
@@ -111,10 +112,7 @@ module _ (to : Colour) (entries : List KeyedEntry) where
 
   -- what entries name is there still
   pub IsRaised-there : (old now : List Object) → IsRaised to entries old now → AreEntriesThere old entries → AreEntriesThere now entries
-  IsRaised-there old now h there e m = record { the_map = still e.the_map (there e m).the_map; key = still e.key (there e m).key; value = still e.value (there e m).value }
-    where
-      still : (key : ℕ) → IsTrue (is_there old key) → IsTrue (is_there now key)
-      still key t = ap (λ os. is_there os key) h.raised ∙ (there-raised h.keys to old key ∙ t)
+  IsRaised-there old now h = AreEntriesThere-kept old now (HaveSameKeys-raised h.keys to old now h.raised) entries
 
   -- THE END: no entry is due
   module _ (old now : List Object) (h : IsRaised to entries old now) (ordered : AreOrdered to old) (followed : AreFollowed to now entries) where
@@ -209,5 +207,7 @@ module _ (to : Colour) (entries : List KeyedEntry) (old : List Object) where
   })
 
   -- all were gone over
-  pub IsPass-followed : (now : List Object) → IsPass to entries old false (length entries) now → AreFollowed to now entries
-  IsPass-followed now pass e m = let k = among-place e entries m in pass.followed refl k.0 e (slice_get_within entries k.0 e k.1) k.1
+  pub IsPass-followed : (any : Bool) (done : ℕ) (now : List Object) → length entries ≤ done → IsPass to entries old any done now → any ≡ false → AreFollowed to now entries
+  IsPass-followed any done now all pass none e m =
+      let k = among-place e entries m in
+      pass.followed none k.0 e (omega (arith, all, slice_get_within entries k.0 e k.1)) k.1
