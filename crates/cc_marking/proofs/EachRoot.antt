@@ -7,7 +7,7 @@ use Rattle.cc_names.specs.declared.kind.Colour.{Colour}
 use Rattle.cc_script.specs.Objects.{Object, AreWhole, raised_among}
 use Rattle.cc_script.specs.Walking.{edges, keys_reached}
 use Rattle.cc_script.proofs.Wholeness.{whole-raised}
-use Rattle.cc_marking.proofs.There.{AreThere, AreThere-kept, HaveSameKeys-raised}
+use Rattle.cc_marking.proofs.There.{AreThere, AreThere-stay, StayThere-raised}
 use Rattle.cc_marking.proofs.Raising.{keys_reached-raised, raised-none, raised-twice}
 
 -- what roots raise, and then others
@@ -35,7 +35,7 @@ LeadsTo-next to end key before left now next taken marked leads =
     let rest : AreThere left now = λ other m. leads.live other (subst (Among other) (sym taken) (inr m)) in
     record {
       raises = subst (λ (os : List Object). raised_among (keys_reached os left) to os ≡ end) (sym marked) (raised-from_both (key ∷ []) left to now ∙ all);
-      live = AreThere-kept now next (HaveSameKeys-raised marks to now next marked) left rest;
+      live = AreThere-stay now next (StayThere-raised marks to now next marked) left rest;
       whole = subst AreWhole (sym marked) (whole-raised marks to now leads.whole);
     }
 

@@ -7,3 +7,4 @@ pub mod Marks
 pub mod Passes
 pub mod Steps
 pub mod LeastColours
+pub mod TestHeaps

@@ -12,12 +12,12 @@ use Rattle.cc_lists.proofs.Closure.{closure-derived}
 use Rattle.cc_lists.proofs.Counting.{count_by-map}
 use Rattle.cc_lists.proofs.Filtering.{count_by-wider}
 use Rattle.cc_lists.proofs.ListWrites.{map-agree}
-use Rattle.cc_lists.proofs.Members.{Among-append, has-among, has-there}
+use Rattle.cc_lists.proofs.Members.{Among-append, has-among}
 use Rattle.cc_lists.proofs.Numbers.{number-exact}
 use Rattle.cc_lists.proofs.Places.{among-place, place-among}
 use Rattle.cc_names.specs.declared.kind.Colour.{Colour}
 use Rattle.cc_script.specs.Marking.{count_lower}
-use Rattle.cc_script.specs.Objects.{Object, object_at, is_there, colour_at, is_below, raised, raised_among}
+use Rattle.cc_script.specs.Objects.{Object, is_there, is_below, raised, raised_among}
 use Rattle.cc_script.specs.Walking.{reach_rules, edges, keys_reached}
 use Rattle.cc_script.proofs.Colours.{not_below-self, raised-enough, raised-keeps, raised-same}
 use Rattle.cc_script.proofs.Keys.{object_at-among, object_at-key}
@@ -28,7 +28,7 @@ use Rattle.cc_script.proofs.Wholeness.{there-object}
 use Rattle.cc_weakmaps.specs.Entries.{KeyedEntry}
 use Rattle.cc_marking.specs.Marking.{AreEntriesThere, IsMarkedFrom, keys_marked}
 use Rattle.cc_marking.specs.Levels.{AreFollowed, AreOrdered, IsRaised, has_at_least, is_at_least, is_due, keys_at_least}
-use Rattle.cc_marking.proofs.There.{AreEntriesThere-kept, HaveSameKeys-raised}
+use Rattle.cc_marking.proofs.There.{AreEntriesThere-stay, StayThere-raised}
 use Rattle.cc_marking.proofs.Levels.{AreOrdered-raised, at_least-cases, at_least-kept, at_least-listed, listed-at_least}
 use Rattle.cc_marking.proofs.Marks.{marked-again, marked-alike, marked-decided, marked-root, marked-value, marked-within, reached-leads, reached-marked}
 use Rattle.cc_marking.proofs.Raising.{edges-raised, raised-twice}
@@ -112,7 +112,7 @@ module _ (to : Colour) (entries : List KeyedEntry) where
 
   -- what entries name is there still
   pub IsRaised-there : (old now : List Object) → IsRaised to entries old now → AreEntriesThere old entries → AreEntriesThere now entries
-  IsRaised-there old now h = AreEntriesThere-kept old now (HaveSameKeys-raised h.keys to old now h.raised) entries
+  IsRaised-there old now h = AreEntriesThere-stay old now (StayThere-raised h.keys to old now h.raised) entries
 
   -- THE END: no entry is due
   module _ (old now : List Object) (h : IsRaised to entries old now) (ordered : AreOrdered to old) (followed : AreFollowed to now entries) where

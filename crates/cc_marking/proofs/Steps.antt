@@ -1,7 +1,7 @@
 -- A MARKING IN STEPS: roots and then entries, to one colour; and white objects to black, and then to gray.
 use Rattle.std.specs.Prelude.{IsTrue}
-use Rattle.std.proofs.Common.{◌≡◌, ℕ, ◌==◌, Bool, true, false, cond, ◌||◌, List, [], ◌∷◌, ◌++◌, refl, sym, ◌∙◌, ap, subst, ⊎_elim}
-use Rattle.std.proofs.lemmas.Bool.{or_cases, or_left, or_right, false≢true}
+use Rattle.std.proofs.Common.{◌≡◌, ℕ, ◌==◌, Bool, true, false, cond, ◌||◌, List, [], ◌++◌, refl, sym, ◌∙◌, ap, subst, ⊎_elim}
+use Rattle.std.proofs.lemmas.Bool.{or_cases, or_right, false≢true}
 use Rattle.std.proofs.lemmas.Bool.Decides.{same_from_decides}
 use Rattle.cc_lists.specs.Members.{Among, has}
 use Rattle.cc_lists.specs.Least.{system, closure}
@@ -11,14 +11,15 @@ use Rattle.cc_lists.proofs.Members.{Among-append, Among-left, Among-right, has-a
 use Rattle.cc_lists.proofs.Numbers.{number-exact}
 use Rattle.cc_names.specs.declared.kind.Colour.{Colour}
 use Rattle.cc_names.specs.declared.kind.Colour.TheVariants.{White, Gray, Black}
-use Rattle.cc_script.specs.Objects.{Object, AreWhole, is_there, is_below, with_colour, whitened, raised_among, colour_by, coloured_by}
+use Rattle.cc_script.specs.Objects.{Object, AreWhole, is_below, with_colour, whitened, raised_among, colour_by, coloured_by}
+use Rattle.cc_script.specs.Tidy.{StayThere}
 use Rattle.cc_script.specs.Walking.{slot_edges, edges, keys_reached}
 use Rattle.cc_script.proofs.Colours.{not_below-self}
 use Rattle.cc_script.proofs.ReachedLeast.{reached-decided}
 use Rattle.cc_weakmaps.specs.Entries.{KeyedEntry}
 use Rattle.cc_marking.specs.Marking.{AreEntriesThere, IsMarkedFrom, joints, keys_marked, black_keys, marked_keys, marked_from}
 use Rattle.cc_marking.specs.Levels.{AreOrdered, has_at_least, keys_at_least}
-use Rattle.cc_marking.proofs.There.{AreThere, AreThere-kept, AreEntriesThere-kept, HaveSameKeys, HaveSameKeys-raised, HaveSameKeys-whitened}
+use Rattle.cc_marking.proofs.There.{AreThere, StayThere-raised, StayThere-whitened}
 use Rattle.cc_marking.proofs.Painting.{painted, painted-alike, painted-twice}
 use Rattle.cc_marking.proofs.Raising.{at_least, edges-raised, raised_to, raised_among-painted, raised-twice}
 use Rattle.cc_marking.proofs.Levels.{AreOrdered-raised, AreOrdered-whitened, at_least-cases, at_least-kept, at_least-listed, at_least-risen, listed-at_least, white-none_listed, white-not_at_least}
@@ -144,10 +145,8 @@ module _ (objects : List Object) (entries : List KeyedEntry) (blacks : List ℕ)
       (ap (λ keys. keys_marked white entries (keys ++ blacks)) (ap (keys_at_least Black) cleared ∙ white-none_listed Black refl objects)
       ∙ keys_marked-alike objects white entries blacks (edges-white objects white cleared))
 
-  pub HaveSameKeys-black : HaveSameKeys objects now
-  HaveSameKeys-black = record {
-    same = λ key. (HaveSameKeys-raised black Black white now risen_black).same key ∙ (HaveSameKeys-whitened objects white cleared).same key;
-  }
+  pub StayThere-black : StayThere objects now
+  StayThere-black key there = StayThere-raised black Black white now risen_black key (StayThere-whitened objects white cleared key there)
 
   pub AreOrdered-black : AreWhole objects → AreOrdered Gray now
   AreOrdered-black whole = subst (AreOrdered Gray) (sym risen_black)
@@ -168,7 +167,7 @@ module _ (objects : List Object) (entries : List KeyedEntry) (blacks : List ℕ)
       let is_black : IsTrue (has ◌==◌ black key) = has-there ◌==◌ number-exact black key m in
       let here = marked-there objects entries whole there blacks live key ((marked-decided objects entries blacks key).0 is_black) in
       at_least-listed Gray now key (subst (λ os. IsTrue (has_at_least Gray os key)) (sym risen_black)
-      (at_least-risen black Black Gray refl white key ((HaveSameKeys-whitened objects white cleared).same key ∙ here) is_black))
+      (at_least-risen black Black Gray refl white key (StayThere-whitened objects white cleared key here) is_black))
 
   module _ (grays : List ℕ) (whole : AreWhole objects) (there : AreEntriesThere objects entries) (live : AreThere blacks objects) where
     abbrev gray_from : List ℕ

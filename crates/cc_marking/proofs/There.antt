@@ -4,6 +4,7 @@ use Rattle.std.proofs.Common.{◌≡◌, ℕ, List, ◌∙◌, ap}
 use Rattle.cc_lists.specs.Members.{Among}
 use Rattle.cc_names.specs.declared.kind.Colour.{Colour}
 use Rattle.cc_script.specs.Objects.{Object, is_there, whitened, raised_among}
+use Rattle.cc_script.specs.Tidy.{StayThere}
 use Rattle.cc_script.proofs.Wholeness.{there-raised, there-whitened}
 use Rattle.cc_weakmaps.specs.Entries.{KeyedEntry}
 use Rattle.cc_marking.specs.Marking.{AreEntriesThere}
@@ -12,23 +13,20 @@ use Rattle.cc_marking.specs.Marking.{AreEntriesThere}
 abbrev pub AreThere : List ℕ → List Object → Type 0
 AreThere keys objects = (key : ℕ) → Among key keys → IsTrue (is_there objects key)
 
--- the same keys are those of objects
-pub record HaveSameKeys (old new : List Object) : Type 0 where
-  pub same : (key : ℕ) → is_there new key ≡ is_there old key
+-- What was there is there
+pub StayThere-whitened : (objects white : List Object) → white ≡ whitened objects → StayThere objects white
+StayThere-whitened objects white cleared key there = ap (λ os. is_there os key) cleared ∙ (there-whitened objects key ∙ there)
 
-pub HaveSameKeys-whitened : (objects white : List Object) → white ≡ whitened objects → HaveSameKeys objects white
-HaveSameKeys-whitened objects white cleared = record { same = λ key. ap (λ os. is_there os key) cleared ∙ there-whitened objects key }
+pub StayThere-raised : (keys : List ℕ) (to : Colour) (objects now : List Object) → now ≡ raised_among keys to objects → StayThere objects now
+StayThere-raised keys to objects now risen key there = ap (λ os. is_there os key) risen ∙ (there-raised keys to objects key ∙ there)
 
-pub HaveSameKeys-raised : (keys : List ℕ) (to : Colour) (objects now : List Object) → now ≡ raised_among keys to objects → HaveSameKeys objects now
-HaveSameKeys-raised keys to objects now risen = record { same = λ key. ap (λ os. is_there os key) risen ∙ there-raised keys to objects key }
+module _ (old new : List Object) (stay : StayThere old new) where
+  pub AreThere-stay : (keys : List ℕ) → AreThere keys old → AreThere keys new
+  AreThere-stay keys there key m = stay key (there key m)
 
-module _ (old new : List Object) (h : HaveSameKeys old new) where
-  pub AreThere-kept : (keys : List ℕ) → AreThere keys old → AreThere keys new
-  AreThere-kept keys there key m = h.same key ∙ there key m
-
-  pub AreEntriesThere-kept : (entries : List KeyedEntry) → AreEntriesThere old entries → AreEntriesThere new entries
-  AreEntriesThere-kept entries there e m = record {
-    the_map = h.same e.the_map ∙ (there e m).the_map;
-    key = h.same e.key ∙ (there e m).key;
-    value = h.same e.value ∙ (there e m).value;
+  pub AreEntriesThere-stay : (entries : List KeyedEntry) → AreEntriesThere old entries → AreEntriesThere new entries
+  AreEntriesThere-stay entries there e m = record {
+    the_map = stay e.the_map (there e m).the_map;
+    key = stay e.key (there e m).key;
+    value = stay e.value (there e m).value;
   }

@@ -32,15 +32,10 @@ fn is_at_least(colour: Colour, to: Colour) -> bool
     colour == to || colour == Colour::Black || to == Colour::White
 }
 
-/// Raises the value of an entry, and all that it reaches over slots, to at least the colour `to`, where its map and its key
-/// have at least that and it has less. Answers whether it did.
-fn raise_value(
-    scripts: &mut Scripts,
-    the_map: SKey,
-    key: SKey,
-    value: SKey,
-    to: Colour,
-) -> bool
+/// Raises the value of an entry, and all that it reaches over slots, to at least the colour `to`, where map and key have at
+/// least that and the value has less. Answers whether it did.
+// so an entry gives its value the lesser colour of its map and its key, and gives its key none
+fn raise_value(scripts: &mut Scripts, the_map: SKey, key: SKey, value: SKey, to: Colour) -> bool
     requires there { IsEntryThere scripts.old (entry the_map.0 key.0 value.0) }
     requires whole { AreWhole scripts.old }
     ensures due { result ≡ is_due to scripts.old (entry the_map.0 key.0 value.0) }
@@ -74,9 +69,9 @@ fn raise_values(scripts: &mut Scripts, weak: &WeakMaps, to: Colour) -> bool
     raised
 }
 
-/// Raises to at least the colour `to` what a mark over slots and entries comes to from all that has at least that colour:
-/// it goes over the entries again and again until none is left to follow.
-// O(entries * passes) until entries have an index: a pass for each value that is raised, at worst
+/// Raises to at least the colour `to` what a mark over slots and entries comes to from all that has at least that colour.
+/// It goes over the entries again and again, until no value was left to raise.
+// O(entries * passes) until entries have an index; at worst a pass for each value that is raised, and one more
 fn mark_values(scripts: &mut Scripts, weak: &WeakMaps, to: Colour)
     requires entries { AreEntriesThere scripts.old weak.now }
     requires ordered { AreOrdered to scripts.old }
@@ -85,7 +80,8 @@ fn mark_values(scripts: &mut Scripts, weak: &WeakMaps, to: Colour)
     'passes: while raise_values(scripts, weak, to) {}
 }
 
-/// The same from the roots too.
+/// Raises to at least the colour `to` what a mark over slots and entries comes to from the roots, and from all that has at
+/// least that colour.
 fn mark_to<R: Roots>(scripts: &mut Scripts, weak: &WeakMaps, roots: &mut R, to: Colour)
     requires live { (key : ℕ) → Among key (R.left roots.old) → IsTrue (is_there scripts.old key) }
     requires entries { AreEntriesThere scripts.old weak.now }
@@ -100,12 +96,7 @@ fn mark_to<R: Roots>(scripts: &mut Scripts, weak: &WeakMaps, roots: &mut R, to: 
 /// Gives each script object its colour: black what a mark from `black` comes to, gray what else one from the black ones and
 /// `gray` comes to, white the rest. A mark goes over slots, and from a map and a key that are marked together to the value
 /// of their entry, which has at least the lesser of their two marks. Takes no memory, at any depth.
-pub fn mark<B: Roots, G: Roots>(
-    scripts: &mut Scripts,
-    weak: &WeakMaps,
-    black: &mut B,
-    gray: &mut G,
-)
+pub fn mark<B: Roots, G: Roots>(scripts: &mut Scripts, weak: &WeakMaps, black: &mut B, gray: &mut G)
     requires black { (key : ℕ) → Among key (B.left black.old) → IsTrue (is_there scripts.old key) }
     requires gray { (key : ℕ) → Among key (G.left gray.old) → IsTrue (is_there scripts.old key) }
     requires entries { AreEntriesThere scripts.old weak.now }

@@ -1,20 +1,20 @@
 use Rattle.std.proofs.Common.{◌≡◌, refl}
 use Rattle.cc_names.specs.declared.kind.Colour.TheVariants.{Black}
 use Rattle.cc_marking.specs.Marking.{marked_from}
-use Rattle.cc_marking.proofs.There.{AreThere-kept, AreEntriesThere-kept, HaveSameKeys-whitened}
-use Rattle.cc_marking.proofs.Steps.{AreOrdered-white, AreOrdered-black, HaveSameKeys-black, marked-by_steps}
+use Rattle.cc_marking.proofs.There.{AreThere-stay, AreEntriesThere-stay, StayThere-whitened}
+use Rattle.cc_marking.proofs.Steps.{AreOrdered-white, AreOrdered-black, StayThere-black, marked-by_steps}
 use Rattle.cc_marking.proofs.LeastColours.{marked-least}
 use Rattle.cc_marking.proofs.marking.mark.Given as given
 use Rattle.cc_marking.proofs.marking.mark.Goals as goal
 
 pub mark_to-requires-clause-live : goal.mark_to-requires-clause-live
 mark_to-requires-clause-live g c =
-    AreThere-kept c.args.scripts.now c.clear_marks.new.self (HaveSameKeys-whitened c.args.scripts.now c.clear_marks.new.self c.clear_marks.ensures)
+    AreThere-stay c.args.scripts.now c.clear_marks.new.self (StayThere-whitened c.args.scripts.now c.clear_marks.new.self c.clear_marks.ensures)
     (g.B.Roots.left c.args.black.now) c.requires.black
 
 pub mark_to-requires-clause-entries : goal.mark_to-requires-clause-entries
 mark_to-requires-clause-entries g c =
-    AreEntriesThere-kept c.args.scripts.now c.clear_marks.new.self (HaveSameKeys-whitened c.args.scripts.now c.clear_marks.new.self c.clear_marks.ensures)
+    AreEntriesThere-stay c.args.scripts.now c.clear_marks.new.self (StayThere-whitened c.args.scripts.now c.clear_marks.new.self c.clear_marks.ensures)
     c.args.weak.now c.requires.entries
 
 pub mark_to-requires-clause-ordered : goal.mark_to-requires-clause-ordered
@@ -22,15 +22,15 @@ mark_to-requires-clause-ordered g c = AreOrdered-white c.args.scripts.now c.clea
 
 pub mark_to-requires-2-clause-live : goal.mark_to-requires-2-clause-live
 mark_to-requires-2-clause-live g c =
-    AreThere-kept c.args.scripts.now c.mark_to.new.scripts
-    (HaveSameKeys-black c.args.scripts.now c.args.weak.now (g.B.Roots.left c.args.black.now)
+    AreThere-stay c.args.scripts.now c.mark_to.new.scripts
+    (StayThere-black c.args.scripts.now c.args.weak.now (g.B.Roots.left c.args.black.now)
     c.clear_marks.new.self c.mark_to.new.scripts c.clear_marks.ensures c.mark_to.ensures.raised)
     (g.G.Roots.left c.args.gray.now) c.requires.gray
 
 pub mark_to-requires-2-clause-entries : goal.mark_to-requires-2-clause-entries
 mark_to-requires-2-clause-entries g c =
-    AreEntriesThere-kept c.args.scripts.now c.mark_to.new.scripts
-    (HaveSameKeys-black c.args.scripts.now c.args.weak.now (g.B.Roots.left c.args.black.now)
+    AreEntriesThere-stay c.args.scripts.now c.mark_to.new.scripts
+    (StayThere-black c.args.scripts.now c.args.weak.now (g.B.Roots.left c.args.black.now)
     c.clear_marks.new.self c.mark_to.new.scripts c.clear_marks.ensures c.mark_to.ensures.raised)
     c.args.weak.now c.requires.entries
 

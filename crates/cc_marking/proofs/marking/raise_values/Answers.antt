@@ -1,4 +1,4 @@
-use Rattle.std.proofs.Common.{Bool, ◌≤◌, ◌+◌, ◌∙◌, sym, subst, length}
+use Rattle.std.proofs.Common.{Bool, ◌≤◌, ◌+◌, ◌∙◌, sym, subst}
 use Rattle.cc_lists.proofs.Places.{place-among}
 use Rattle.cc_marking.proofs.Passes.{IsPass, IsPass-start, IsPass-raised, IsPass-kept, IsPass-followed, IsRaised-there}
 use Rattle.cc_marking.proofs.marking.raise_values.Goals as goal
@@ -16,12 +16,12 @@ pub loop-i-preserved : goal.loop-i-preserved
 loop-i-preserved c =
     let IsSoFar : Bool → Type 0 = λ any. IsPass c.args.to c.args.weak.now c.args.scripts.now any (c.loop-i.i + 1) c.raise_value.new.scripts in
     elim c.if-raise_value.branch [
-    | then-raise_value w ↦ subst IsSoFar (sym w.raised-is)
-        (IsPass-raised c.args.to c.args.weak.now c.args.scripts.now c.loop-i.raised c.loop-i.i c.loop-i.scripts c.raise_value.new.scripts _ c.requires.entries
-        c.entry.ensures (sym c.raise_value.ensures.due ∙ w.if-raise_value.true) (c.raise_value.ensures.raised w.if-raise_value.true) c.loop-i.invariant)
-    | else-raise_value w ↦ subst IsSoFar (sym w.raised-is)
-        (IsPass-kept c.args.to c.args.weak.now c.args.scripts.now c.loop-i.raised c.loop-i.i c.loop-i.scripts c.raise_value.new.scripts _
-        c.entry.ensures (sym c.raise_value.ensures.due ∙ w.if-raise_value.false) (c.raise_value.ensures.kept w.if-raise_value.false) c.loop-i.invariant)
+      | then-raise_value w ↦ subst IsSoFar (sym w.raised-is)
+          (IsPass-raised c.args.to c.args.weak.now c.args.scripts.now c.loop-i.raised c.loop-i.i c.loop-i.scripts c.raise_value.new.scripts _ c.requires.entries
+          c.entry.ensures (sym c.raise_value.ensures.due ∙ w.if-raise_value.true) (c.raise_value.ensures.raised w.if-raise_value.true) c.loop-i.invariant)
+      | else-raise_value w ↦ subst IsSoFar (sym w.raised-is)
+          (IsPass-kept c.args.to c.args.weak.now c.args.scripts.now c.loop-i.raised c.loop-i.i c.loop-i.scripts c.raise_value.new.scripts _
+          c.entry.ensures (sym c.raise_value.ensures.due ∙ w.if-raise_value.false) (c.raise_value.ensures.kept w.if-raise_value.false) c.loop-i.invariant)
     ]
 
 pub returns-clause-followed : goal.returns-clause-followed
