@@ -1,17 +1,17 @@
 -- THE COLOURS THAT A MARKING LEAVES ARE THE LEAST SETS: the lists of keys have what the rules derive, and no more.
 use Rattle.std.specs.Prelude.{◌↔◌}
-use Rattle.std.proofs.Common.{◌≡◌, ℕ, ◌==◌, Bool, true, false, List, ◌++◌, refl, sym, ◌∙◌, subst}
+use Rattle.std.proofs.Common.{◌≡◌, ℕ, ◌==◌, Bool, true, false, List, ◌++◌, refl, sym, ◌∙◌, subst, ⊎_elim}
 use Rattle.std.proofs.lemmas.Bool.{true≢false}
 use Rattle.cc_lists.specs.Members.{Among, has}
-use Rattle.cc_lists.proofs.Closure.{closure-decides}
 use Rattle.cc_lists.proofs.ListWrites.{each-map}
+use Rattle.cc_lists.proofs.Members.{Among-append, Among-left, Among-right, has-among, has-there}
 use Rattle.cc_lists.proofs.Numbers.{number-exact}
-use Rattle.cc_lists.proofs.Together.{has-together}
 use Rattle.cc_names.specs.declared.kind.Colour.TheVariants.{Gray, Black}
 use Rattle.cc_script.specs.Objects.{Object, with_colour, colour_by}
-use Rattle.cc_script.specs.Walking.{IsReachedOverSlots, edges, reach_rules, keys_reached}
-use Rattle.cc_marking.specs.Marking.{AreLeast, black_keys, marked_keys, marked_from}
-use Rattle.cc_marking.proofs.MarkedFrom.{colour_by_tests, marked-either}
+use Rattle.cc_weakmaps.specs.Entries.{KeyedEntry}
+use Rattle.cc_marking.specs.Marking.{AreLeast, IsMarkedFrom, black_keys, marked_keys, marked_from}
+use Rattle.cc_marking.proofs.Marks.{marked-again, marked-decided, marked-root}
+use Rattle.cc_marking.proofs.Steps.{colour_by_tests}
 
 -- black by the first test
 by_tests-black : (b m : Bool) → (colour_by_tests b m ≡ Black) ↔ (b ≡ true)
@@ -25,48 +25,66 @@ by_tests-gray true m = (λ e. absurd (cc), λ e. absurd (true≢false e.0))
 by_tests-gray false true = (λ e. (refl, refl), λ e. refl)
 by_tests-gray false false = (λ e. absurd (cc), λ e. absurd (true≢false (sym e.1)))
 
-module _ (objects : List Object) (blacks grays : List ℕ) where
-  -- a key is black where the first roots reach it
-  black-decided : (key : ℕ) → (has ◌==◌ (black_keys objects blacks) key ≡ true) ↔ IsReachedOverSlots objects blacks key
-  black-decided key = closure-decides ◌==◌ number-exact (reach_rules objects blacks) key
+module _ (objects : List Object) (entries : List KeyedEntry) (blacks grays : List ℕ) where
+  abbrev black : List ℕ
+  black = black_keys objects entries blacks
 
-  -- and marked where both reach it
-  marked-decided : (key : ℕ) → (has ◌==◌ (marked_keys objects blacks grays) key ≡ true) ↔ IsReachedOverSlots objects (blacks ++ grays) key
-  marked-decided key = subst (λ b. (b ≡ true) ↔ IsReachedOverSlots objects (blacks ++ grays) key) (sym together)
-      (closure-decides ◌==◌ number-exact (reach_rules objects (blacks ++ grays)) key)
-    where
-      together : has ◌==◌ (marked_keys objects blacks grays) key ≡ has ◌==◌ (keys_reached objects (blacks ++ grays)) key
-      together = marked-either objects blacks grays key ∙ sym (has-together ◌==◌ number-exact (edges objects) blacks grays key)
+  abbrev marked : List ℕ
+  marked = marked_keys objects entries blacks grays
+
+  -- a key is black where a mark from the first roots comes to it,
+  black-decided : (key : ℕ) → (has ◌==◌ black key ≡ true) ↔ IsMarkedFrom objects entries blacks key
+  black-decided = marked-decided objects entries blacks
+
+  -- and marked where one from both does: from the black ones it comes no further than from the first roots
+  black-both : (key : ℕ) → Among key (black ++ grays) → IsMarkedFrom objects entries (blacks ++ grays) key
+  black-both key m = ⊎_elim
+      (λ l. marked-again objects entries blacks (blacks ++ grays) (λ x n. marked-root objects entries (blacks ++ grays) x (Among-left x blacks grays n)) key
+      ((black-decided key).0 (has-there ◌==◌ number-exact black key l)))
+      (λ r. marked-root objects entries (blacks ++ grays) key (Among-right key blacks grays r))
+      (Among-append key black grays m)
+
+  both-black : (key : ℕ) → Among key (blacks ++ grays) → IsMarkedFrom objects entries (black ++ grays) key
+  both-black key m = marked-root objects entries (black ++ grays) key (⊎_elim
+      (λ l. Among-left key black grays (has-among ◌==◌ number-exact black key ((black-decided key).1 (marked-root objects entries blacks key l))))
+      (λ r. Among-right key black grays r)
+      (Among-append key blacks grays m))
+
+  both-decided : (key : ℕ) → (has ◌==◌ marked key ≡ true) ↔ IsMarkedFrom objects entries (blacks ++ grays) key
+  both-decided key = let d = marked-decided objects entries (black ++ grays) key in (
+    λ e. marked-again objects entries (black ++ grays) (blacks ++ grays) black-both key (d.0 e),
+    λ r. d.1 (marked-again objects entries (blacks ++ grays) (black ++ grays) both-black key r),
+  )
 
   -- the colour of each object
-  marked-colour : (o : Object) → Among o (marked_from blacks grays objects) → o.colour ≡ colour_by (black_keys objects blacks) (marked_keys objects blacks grays) o.key
-  marked-colour = each-map (λ (o : Object). o.colour ≡ colour_by (black_keys objects blacks) (marked_keys objects blacks grays) o.key)
-      (λ o. with_colour (colour_by (black_keys objects blacks) (marked_keys objects blacks grays) o.key) o) objects (λ o m. refl)
+  marked-colour : (o : Object) → Among o (marked_from blacks grays entries objects) → o.colour ≡ colour_by black marked o.key
+  marked-colour = each-map (λ (o : Object). o.colour ≡ colour_by black marked o.key)
+      (λ o. with_colour (colour_by black marked o.key) o) objects (λ o m. refl)
 
   -- whether a key is black, and whether it is marked
   abbrev is_black : ℕ → Bool
-  is_black key = has ◌==◌ (black_keys objects blacks) key
+  is_black key = has ◌==◌ black key
 
   abbrev is_marked : ℕ → Bool
-  is_marked key = has ◌==◌ (marked_keys objects blacks grays) key
+  is_marked key = has ◌==◌ marked key
 
-  -- what the first roots do not reach is not black
-  unreached-not_black : (key : ℕ) → ¬ (IsReachedOverSlots objects blacks key) → is_black key ≡ false
-  unreached-not_black key none = go (is_black key) refl
+  -- what no mark from the first roots comes to is not black
+  unmarked-not_black : (key : ℕ) → ¬ (IsMarkedFrom objects entries blacks key) → is_black key ≡ false
+  unmarked-not_black key none = go (is_black key) refl
     where
       go : (b : Bool) → is_black key ≡ b → b ≡ false
       go true e = absurd (none ((black-decided key).0 e))
       go false e = refl
 
   -- THE LEAST SETS.
-  pub marked-least : (new : List Object) → new ≡ marked_from blacks grays objects → AreLeast blacks grays objects new
-  marked-least new e = subst (AreLeast blacks grays objects) (sym e) (record {
+  pub marked-least : (new : List Object) → new ≡ marked_from blacks grays entries objects → AreLeast blacks grays entries objects new
+  marked-least new e = subst (AreLeast blacks grays entries objects) (sym e) (record {
     black = λ o m. let c = marked-colour o m in let t = by_tests-black (is_black o.key) (is_marked o.key) in (
       λ is. (black-decided o.key).0 (t.0 (sym c ∙ is)),
       λ r. c ∙ t.1 ((black-decided o.key).1 r),
     );
     gray = λ o m. let c = marked-colour o m in let t = by_tests-gray (is_black o.key) (is_marked o.key) in (
-      λ is. let both = t.0 (sym c ∙ is) in ((marked-decided o.key).0 both.1, λ r. true≢false (sym ((black-decided o.key).1 r) ∙ both.0)),
-      λ r. c ∙ t.1 (unreached-not_black o.key r.1, (marked-decided o.key).1 r.0),
+      λ is. let both = t.0 (sym c ∙ is) in ((both-decided o.key).0 both.1, λ r. true≢false (sym ((black-decided o.key).1 r) ∙ both.0)),
+      λ r. c ∙ t.1 (unmarked-not_black o.key r.1, (both-decided o.key).1 r.0),
     );
   })

@@ -1,5 +1,10 @@
+pub mod There
 pub mod Painting
 pub mod Raising
-pub mod MarkedFrom
-pub mod Whole
+pub mod EachRoot
+pub mod Levels
+pub mod Marks
+pub mod Passes
+pub mod Steps
 pub mod LeastColours
+pub mod TestHeaps

@@ -1,13 +1,11 @@
--- OBJECTS WHOSE COLOURS ALONE CHANGE: their keys and slots stay, and so what is there and what is reached.
-use Rattle.std.proofs.Common.{◌≡◌, ℕ, ◌==◌, Bool, true, false, cond, List, [], ◌∷◌, ◌++◌, map, Some, refl, sym, ap, subst}
+-- OBJECTS WHOSE COLOURS ALONE CHANGE: their keys and slots stay, and so what is there.
+use Rattle.std.proofs.Common.{◌≡◌, ℕ, ◌==◌, Bool, true, false, cond, List, [], ◌∷◌, map, Some, refl, sym, ap, subst}
 use Rattle.std.specs.Prelude.{is_some, IsTrue}
 use Rattle.cc_lists.specs.Members.{Among}
-use Rattle.cc_lists.specs.Least.{system, closure}
 use Rattle.cc_lists.proofs.Members.{Among-map_cases}
 use Rattle.cc_lists.proofs.ListWrites.{map-agree}
 use Rattle.cc_names.specs.declared.kind.Colour.{Colour}
 use Rattle.cc_script.specs.Objects.{Object, object_at, is_there, AreWhole, with_colour}
-use Rattle.cc_script.specs.Walking.{slot_edges, edges, keys_reached}
 
 -- each object in the colour that a function gives it
 abbrev pub painted : (Object → Colour) → List Object → List Object
@@ -21,13 +19,6 @@ painted-alike f g objects same =
 pub painted-twice : (f g : Object → Colour) (objects : List Object) → painted g (painted f objects) ≡ painted (λ o. g (with_colour (f o) o)) objects
 painted-twice f g [] = refl
 painted-twice f g (o ∷ os) = ap (λ (ys : List Object). with_colour (g (with_colour (f o) o)) o ∷ ys) (painted-twice f g os)
-
-pub edges-painted : (f : Object → Colour) (objects : List Object) → edges (painted f objects) ≡ edges objects
-edges-painted f [] = refl
-edges-painted f (o ∷ os) = ap (λ es. slot_edges o ++ es) (edges-painted f os)
-
-pub keys_reached-painted : (f : Object → Colour) (objects : List Object) (keys : List ℕ) → keys_reached (painted f objects) keys ≡ keys_reached objects keys
-keys_reached-painted f objects keys = ap (λ es. closure ◌==◌ (system keys es [])) (edges-painted f objects)
 
 pub is_there-painted : (f : Object → Colour) (objects : List Object) (key : ℕ) → is_there (painted f objects) key ≡ is_there objects key
 is_there-painted f [] key = refl

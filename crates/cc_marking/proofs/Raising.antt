@@ -1,10 +1,15 @@
 -- OBJECTS RAISED TO A COLOUR are painted, and raised twice to one colour where they are raised at either time.
-use Rattle.std.proofs.Common.{◌≡◌, ℕ, ◌==◌, Bool, true, false, cond, ◌||◌, List, [], ◌∷◌, refl, sym, ◌∙◌, ap}
+use Rattle.std.proofs.Common.{◌≡◌, ℕ, ◌==◌, Bool, true, false, cond, ◌||◌, List, [], ◌∷◌, map, Option, refl, sym, ◌∙◌, ap}
+use Rattle.std.specs.List.{flat_map}
+use Rattle.std.specs.Option.{option_to_list}
 use Rattle.cc_lists.specs.Members.{has}
-use Rattle.cc_lists.proofs.ListWrites.{map-agree}
+use Rattle.cc_lists.specs.Least.{system, closure}
+use Rattle.cc_lists.proofs.ListWrites.{flat_map-kept, map-agree}
 use Rattle.cc_names.specs.declared.kind.Colour.{Colour}
 use Rattle.cc_names.specs.declared.kind.Colour.TheVariants.{White, Gray, Black}
 use Rattle.cc_script.specs.Objects.{Object, with_colour, is_below, raised, raised_among}
+use Rattle.cc_script.specs.Walking.{slot_edges, edges, keys_reached}
+use Rattle.cc_script.proofs.Walks.{risen, risen-key, risen-slots}
 use Rattle.cc_marking.proofs.Painting.{painted, painted-alike, painted-twice}
 
 -- at least this colour
@@ -15,22 +20,22 @@ at_least to colour = elim (is_below colour to) [ true ↦ to | false ↦ colour 
 abbrev pub raised_to : List ℕ → Colour → Object → Colour
 raised_to keys to o = cond (has ◌==◌ keys o.key) (at_least to o.colour) o.colour
 
-pub raised-painted : (to : Colour) (o : Object) → raised to o ≡ with_colour (at_least to o.colour) o
+raised-painted : (to : Colour) (o : Object) → raised to o ≡ with_colour (at_least to o.colour) o
 raised-painted to o = go (is_below o.colour to)
   where
     go : (b : Bool) → elim b [ true ↦ with_colour to o | false ↦ o ] ≡ with_colour (elim b [ true ↦ to | false ↦ o.colour ]) o
     go true = refl
     go false = refl
 
-pub raised_among-painted : (keys : List ℕ) (to : Colour) (objects : List Object) → raised_among keys to objects ≡ painted (raised_to keys to) objects
-raised_among-painted keys to objects = map-agree _ _ objects (λ o m. each o)
+pub risen-painted : (keys : List ℕ) (to : Colour) (o : Object) → risen keys to o ≡ with_colour (raised_to keys to o) o
+risen-painted keys to o = go (has ◌==◌ keys o.key)
   where
-    each : (o : Object) → cond (has ◌==◌ keys o.key) (raised to o) o ≡ with_colour (raised_to keys to o) o
-    each o = go (has ◌==◌ keys o.key)
-      where
-        go : (b : Bool) → cond b (raised to o) o ≡ with_colour (cond b (at_least to o.colour) o.colour) o
-        go true = raised-painted to o
-        go false = refl
+    go : (b : Bool) → cond b (raised to o) o ≡ with_colour (cond b (at_least to o.colour) o.colour) o
+    go true = raised-painted to o
+    go false = refl
+
+pub raised_among-painted : (keys : List ℕ) (to : Colour) (objects : List Object) → raised_among keys to objects ≡ painted (raised_to keys to) objects
+raised_among-painted keys to objects = map-agree _ _ objects (λ o m. risen-painted keys to o)
 
 -- none raised
 pub raised-none : (keys : List ℕ) (to : Colour) (objects : List Object) → ((key : ℕ) → has ◌==◌ keys key ≡ false) → raised_among keys to objects ≡ objects
@@ -67,3 +72,16 @@ raised-twice firsts seconds all to objects either =
         go true false = refl
         go false true = refl
         go false false = refl
+
+-- Raised objects hold what they held,
+pub edges-raised : (keys : List ℕ) (to : Colour) (objects : List Object) → edges (raised_among keys to objects) ≡ edges objects
+edges-raised keys to objects = flat_map-kept slot_edges (risen keys to) objects each
+  where
+    each : (o : Object) → slot_edges (risen keys to o) ≡ slot_edges o
+    each o =
+        ap (λ (k : ℕ). map (λ (q : ℕ). (k, q)) (flat_map option_to_list (risen keys to o).slots)) (risen-key keys to o)
+        ∙ ap (λ (slots : List (Option ℕ)). map (λ (q : ℕ). (o.key, q)) (flat_map option_to_list slots)) (risen-slots keys to o)
+
+-- and so reach what they reached.
+pub keys_reached-raised : (keys : List ℕ) (to : Colour) (objects : List Object) (from : List ℕ) → keys_reached (raised_among keys to objects) from ≡ keys_reached objects from
+keys_reached-raised keys to objects from = ap (λ es. closure ◌==◌ (system from es [])) (edges-raised keys to objects)

@@ -2,10 +2,12 @@
 ghost use Rattle.std.specs.Prelude.{◌≡◌, ◌≤◌, length, Some, IsTrue, IfSome};
 ghost use Rattle.cc_names.specs.declared.kind.Colour.TheVariants.{Black};
 ghost use Rattle.cc_script.specs.Objects.{AreWhole, colour_at, is_there};
+ghost use Rattle.cc_marking.specs.Marking.{AreEntriesThere};
 
 use super::*;
 use cc_names::{Colour, NoMemory, SKey, ScriptNo};
 use cc_script::Scripts;
+use cc_weakmaps::WeakMaps;
 use std::alloc::Global;
 use std::test::Fail;
 
@@ -30,21 +32,25 @@ impl Roots for Few {
     }
 }
 
-/// Objects with one slot each, named by their place in the order of making, from 0.
+/// Objects with one slot each, named by their place in the order of making, from 0, and entries among them: any object
+/// serves as a map here.
 #[derive(Drop)]
 struct Heap {
     scripts: Scripts,
+    weak: WeakMaps,
     ghost whole: { AreWhole scripts },
+    ghost entries: { AreEntriesThere scripts weak },
 }
 
 impl Heap {
-    /// So many objects, all black, that hold nothing.
+    /// So many objects, all black, that hold nothing, and no entries.
     fn of(alloc: Global, objects: u32) -> Result<Heap, NoMemory> {
         let mut scripts = Scripts::new(alloc);
         for number in 0..objects {
             scripts.create_plain(ScriptNo(number), 1)?;
         }
-        Ok(Heap { scripts })
+        let weak = WeakMaps::new(alloc);
+        Ok(Heap { scripts, weak })
     }
 
     /// Where an object is; none where there is none at this place.
@@ -89,6 +95,15 @@ impl Heap {
         }
     }
 
+    /// Sets the value that a key has in a map; nothing where one of the three is not there.
+    fn set(&mut self, the_map: usize, key: usize, value: usize) -> Result<(), NoMemory> {
+        let places = (self.key(the_map), self.key(key), self.key(value));
+        if let (Some(the_map), Some(key), Some(value)) = places {
+            self.weak.set(the_map, key, value)?;
+        }
+        Ok(())
+    }
+
     /// A root at one of these places; none where there are fewer.
     fn root(&self, places: &[usize], which: usize) -> Option<SKey>
         ensures { IfSome result (λ k. IsTrue (is_there self.now.scripts k.0)) }
@@ -109,7 +124,7 @@ impl Heap {
             first: self.root(gray, 0),
             second: self.root(gray, 1),
         };
-        mark(&mut self.scripts, &mut black, &mut gray);
+        mark(&mut self.scripts, &self.weak, &mut black, &mut gray);
     }
 
     fn colour(&self, place: usize) -> Option<Colour> {
@@ -201,5 +216,104 @@ fn marking_again_sees_that_slots_changed(rt: HostRuntime) -> Result<(), Fail> {
     heap.let_go(0);
     heap.mark(&[0], &[3]);
     assert_eq!(rt; heap.colours(), [BLACK, WHITE, GRAY, GRAY]);
+    Ok(())
+}
+
+#[test]
+fn black_map_and_black_key_blacken_the_value(rt: HostRuntime) -> Result<(), Fail> {
+    let mut heap = Heap::of(rt.alloc(), 4)?;
+    heap.set(0, 1, 2)?;
+    heap.hold(2, 3);
+    heap.mark(&[0, 1], &[]);
+    assert_eq!(rt; heap.colours(), [BLACK, BLACK, BLACK, BLACK]);
+    Ok(())
+}
+
+#[test]
+fn gray_map_or_gray_key_gives_at_most_gray(rt: HostRuntime) -> Result<(), Fail> {
+    let mut heap = Heap::of(rt.alloc(), 4)?;
+    heap.set(0, 1, 2)?;
+    heap.hold(2, 3);
+    heap.mark(&[0], &[1]);
+    assert_eq!(rt; heap.colours(), [BLACK, GRAY, GRAY, GRAY]);
+    heap.mark(&[1], &[0]);
+    assert_eq!(rt; heap.colours(), [GRAY, BLACK, GRAY, GRAY]);
+    heap.mark(&[], &[0, 1]);
+    assert_eq!(rt; heap.colours(), [GRAY, GRAY, GRAY, GRAY]);
+    Ok(())
+}
+
+#[test]
+fn entry_does_not_mark_its_key(rt: HostRuntime) -> Result<(), Fail> {
+    let mut heap = Heap::of(rt.alloc(), 4)?;
+    heap.set(0, 1, 2)?;
+    heap.hold(2, 1);
+    heap.mark(&[0], &[3]);
+    assert_eq!(rt; heap.colours(), [BLACK, WHITE, WHITE, GRAY]);
+    Ok(())
+}
+
+#[test]
+fn value_of_two_entries_has_the_greater_mark(rt: HostRuntime) -> Result<(), Fail> {
+    let mut heap = Heap::of(rt.alloc(), 4)?;
+    heap.set(0, 1, 3)?;
+    heap.set(0, 2, 3)?;
+    heap.mark(&[0], &[1]);
+    assert_eq!(rt; heap.colours(), [BLACK, GRAY, WHITE, GRAY]);
+    heap.mark(&[0, 2], &[1]);
+    assert_eq!(rt; heap.colours(), [BLACK, GRAY, BLACK, BLACK]);
+    Ok(())
+}
+
+#[test]
+fn value_that_is_its_own_key_stays_white(rt: HostRuntime) -> Result<(), Fail> {
+    let mut heap = Heap::of(rt.alloc(), 4)?;
+    heap.set(0, 1, 1)?;
+    heap.mark(&[0], &[]);
+    assert_eq!(rt; heap.colours(), [BLACK, WHITE, WHITE, WHITE]);
+    Ok(())
+}
+
+#[test]
+fn map_that_is_a_value_of_its_own_stays_white(rt: HostRuntime) -> Result<(), Fail> {
+    let mut heap = Heap::of(rt.alloc(), 4)?;
+    heap.set(0, 1, 0)?;
+    heap.mark(&[1], &[]);
+    assert_eq!(rt; heap.colours(), [WHITE, BLACK, WHITE, WHITE]);
+    Ok(())
+}
+
+#[test]
+fn map_that_is_a_key_of_its_own_marks_the_value(rt: HostRuntime) -> Result<(), Fail> {
+    let mut heap = Heap::of(rt.alloc(), 4)?;
+    heap.set(0, 0, 1)?;
+    heap.mark(&[], &[2]);
+    assert_eq!(rt; heap.colours(), [WHITE, WHITE, GRAY, WHITE]);
+    heap.mark(&[0], &[2]);
+    assert_eq!(rt; heap.colours(), [BLACK, BLACK, GRAY, WHITE]);
+    Ok(())
+}
+
+#[test]
+fn chain_of_entries_is_followed_in_order(rt: HostRuntime) -> Result<(), Fail> {
+    let mut heap = Heap::of(rt.alloc(), 4)?;
+    heap.set(0, 1, 2)?;
+    heap.set(0, 2, 3)?;
+    heap.mark(&[0, 1], &[]);
+    assert_eq!(rt; heap.colours(), [BLACK, BLACK, BLACK, BLACK]);
+    heap.mark(&[1], &[0]);
+    assert_eq!(rt; heap.colours(), [GRAY, BLACK, GRAY, GRAY]);
+    Ok(())
+}
+
+#[test]
+fn chain_of_entries_is_followed_against_the_order(rt: HostRuntime) -> Result<(), Fail> {
+    let mut heap = Heap::of(rt.alloc(), 4)?;
+    heap.set(0, 2, 3)?;
+    heap.set(0, 1, 2)?;
+    heap.mark(&[0, 1], &[]);
+    assert_eq!(rt; heap.colours(), [BLACK, BLACK, BLACK, BLACK]);
+    heap.mark(&[1], &[0]);
+    assert_eq!(rt; heap.colours(), [GRAY, BLACK, GRAY, GRAY]);
     Ok(())
 }

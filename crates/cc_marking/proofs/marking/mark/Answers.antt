@@ -1,37 +1,54 @@
-use Rattle.std.proofs.Common.{◌≡◌}
+use Rattle.std.proofs.Common.{◌≡◌, refl}
 use Rattle.cc_names.specs.declared.kind.Colour.TheVariants.{Black}
 use Rattle.cc_marking.specs.Marking.{marked_from}
-use Rattle.cc_marking.proofs.MarkedFrom.{AreThere-whitened, AreWhole-whitened, AreThere-raised, AreWhole-raised, marked-by_steps}
+use Rattle.cc_marking.proofs.There.{AreThere-stay, AreEntriesThere-stay, StayThere-whitened}
+use Rattle.cc_marking.proofs.Steps.{AreOrdered-white, AreOrdered-black, StayThere-black, marked-by_steps}
 use Rattle.cc_marking.proofs.LeastColours.{marked-least}
 use Rattle.cc_marking.proofs.marking.mark.Given as given
 use Rattle.cc_marking.proofs.marking.mark.Goals as goal
 
-pub mark_from_each-requires-clause-live : goal.mark_from_each-requires-clause-live
-mark_from_each-requires-clause-live g c =
-    AreThere-whitened (g.B.Roots.left c.args.black.now) c.args.scripts.now c.clear_marks.new.self c.clear_marks.ensures c.requires.black
+pub mark_to-requires-clause-live : goal.mark_to-requires-clause-live
+mark_to-requires-clause-live g c =
+    AreThere-stay c.args.scripts.now c.clear_marks.new.self (StayThere-whitened c.args.scripts.now c.clear_marks.new.self c.clear_marks.ensures)
+    (g.B.Roots.left c.args.black.now) c.requires.black
 
-pub mark_from_each-requires-clause-whole : goal.mark_from_each-requires-clause-whole
-mark_from_each-requires-clause-whole g c = AreWhole-whitened c.args.scripts.now c.clear_marks.new.self c.clear_marks.ensures c.requires.whole
+pub mark_to-requires-clause-entries : goal.mark_to-requires-clause-entries
+mark_to-requires-clause-entries g c =
+    AreEntriesThere-stay c.args.scripts.now c.clear_marks.new.self (StayThere-whitened c.args.scripts.now c.clear_marks.new.self c.clear_marks.ensures)
+    c.args.weak.now c.requires.entries
 
-pub mark_from_each-requires-2-clause-live : goal.mark_from_each-requires-2-clause-live
-mark_from_each-requires-2-clause-live g c =
-    let white = AreThere-whitened (g.G.Roots.left c.args.gray.now) c.args.scripts.now c.clear_marks.new.self c.clear_marks.ensures c.requires.gray in
-    AreThere-raised (g.G.Roots.left c.args.gray.now) _ Black c.clear_marks.new.self c.mark_from_each.new.scripts c.mark_from_each.ensures.raised white
+pub mark_to-requires-clause-ordered : goal.mark_to-requires-clause-ordered
+mark_to-requires-clause-ordered g c = AreOrdered-white c.args.scripts.now c.clear_marks.new.self c.clear_marks.ensures Black refl c.requires.whole
 
-pub mark_from_each-requires-2-clause-whole : goal.mark_from_each-requires-2-clause-whole
-mark_from_each-requires-2-clause-whole g c =
-    let white = AreWhole-whitened c.args.scripts.now c.clear_marks.new.self c.clear_marks.ensures c.requires.whole in
-    AreWhole-raised _ Black c.clear_marks.new.self c.mark_from_each.new.scripts c.mark_from_each.ensures.raised white
+pub mark_to-requires-2-clause-live : goal.mark_to-requires-2-clause-live
+mark_to-requires-2-clause-live g c =
+    AreThere-stay c.args.scripts.now c.mark_to.new.scripts
+    (StayThere-black c.args.scripts.now c.args.weak.now (g.B.Roots.left c.args.black.now)
+    c.clear_marks.new.self c.mark_to.new.scripts c.clear_marks.ensures c.mark_to.ensures.raised)
+    (g.G.Roots.left c.args.gray.now) c.requires.gray
 
-marked : (g : given.Over) (c : goal.After-mark_from_each-2 g) →
-    c.mark_from_each-2.new.scripts ≡ marked_from (g.B.Roots.left c.args.black.now) (g.G.Roots.left c.args.gray.now) c.args.scripts.now
+pub mark_to-requires-2-clause-entries : goal.mark_to-requires-2-clause-entries
+mark_to-requires-2-clause-entries g c =
+    AreEntriesThere-stay c.args.scripts.now c.mark_to.new.scripts
+    (StayThere-black c.args.scripts.now c.args.weak.now (g.B.Roots.left c.args.black.now)
+    c.clear_marks.new.self c.mark_to.new.scripts c.clear_marks.ensures c.mark_to.ensures.raised)
+    c.args.weak.now c.requires.entries
+
+pub mark_to-requires-2-clause-ordered : goal.mark_to-requires-2-clause-ordered
+mark_to-requires-2-clause-ordered g c =
+    AreOrdered-black c.args.scripts.now c.args.weak.now (g.B.Roots.left c.args.black.now)
+    c.clear_marks.new.self c.mark_to.new.scripts c.clear_marks.ensures c.mark_to.ensures.raised c.requires.whole
+
+marked : (g : given.Over) (c : goal.After-mark_to-2 g) →
+    c.mark_to-2.new.scripts ≡ marked_from (g.B.Roots.left c.args.black.now) (g.G.Roots.left c.args.gray.now) c.args.weak.now c.args.scripts.now
 marked g c =
-    marked-by_steps (g.B.Roots.left c.args.black.now) (g.G.Roots.left c.args.gray.now) c.args.scripts.now _ _ _
-    c.mark_from_each-2.ensures.raised c.mark_from_each.ensures.raised (cc)
+    marked-by_steps c.args.scripts.now c.args.weak.now (g.B.Roots.left c.args.black.now)
+    c.clear_marks.new.self c.mark_to.new.scripts c.clear_marks.ensures c.mark_to.ensures.raised
+    (g.G.Roots.left c.args.gray.now) c.requires.whole c.requires.entries c.requires.black c.mark_to-2.new.scripts c.mark_to-2.ensures.raised
 
 pub returns-clause-colours : goal.returns-clause-colours
 returns-clause-colours g c = marked g c
 
 pub returns-clause-least : goal.returns-clause-least
 returns-clause-least g c =
-    marked-least c.args.scripts.now (g.B.Roots.left c.args.black.now) (g.G.Roots.left c.args.gray.now) c.mark_from_each-2.new.scripts (marked g c)
+    marked-least c.args.scripts.now c.args.weak.now (g.B.Roots.left c.args.black.now) (g.G.Roots.left c.args.gray.now) c.mark_to-2.new.scripts (marked g c)

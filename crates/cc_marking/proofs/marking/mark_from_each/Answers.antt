@@ -1,4 +1,4 @@
-use Rattle.cc_marking.proofs.MarkedFrom.{LeadsTo-next, LeadsTo-done}
+use Rattle.cc_marking.proofs.EachRoot.{LeadsTo-next, LeadsTo-done}
 use Rattle.cc_marking.proofs.marking.mark_from_each.Goals as goal
 
 pub loop-key-preserved : goal.loop-key-preserved

@@ -1,7 +1,7 @@
 use Rattle.std.proofs.Common.{length}
 use Rattle.cc_script.specs.Objects.{raised_among}
 use Rattle.cc_script.specs.Walking.{keys_reached}
-use Rattle.cc_marking.proofs.MarkedFrom.{LeadsTo}
+use Rattle.cc_marking.proofs.EachRoot.{LeadsTo}
 use Rattle.cc_marking.proofs.marking.mark_from_each.Given as goal
 
 abbrev pub invariant-loop-key : goal.invariant-loop-key

@@ -1,0 +1,43 @@
+-- WHAT HAS AT LEAST A COLOUR, and how a marking raises more and more objects to it.
+use Rattle.std.specs.Prelude.{◌≡◌, IsTrue, ℕ, Bool, false, not, ◌&&◌, List, Option, Some, None, map, filter}
+use Rattle.cc_lists.specs.Members.{Among}
+use Rattle.cc_names.specs.declared.kind.Colour.{Colour}
+use Rattle.cc_script.specs.Objects.{Object, AreWhole, colour_at, is_below, raised_among}
+use Rattle.cc_script.specs.Walking.{edges}
+use Rattle.cc_weakmaps.specs.Entries.{KeyedEntry}
+use Rattle.cc_marking.specs.Marking.{IsMarkedFrom}
+
+-- a colour that is there and isn't below another
+abbrev pub is_at_least : Colour → Option Colour → Bool
+is_at_least to None = false
+is_at_least to (Some colour) = not (is_below colour to)
+
+-- whether the object at a key has at least a colour
+abbrev pub has_at_least : Colour → List Object → ℕ → Bool
+has_at_least to objects key = is_at_least to (colour_at objects key)
+
+-- the keys at which one has
+abbrev pub keys_at_least : Colour → List Object → List ℕ
+keys_at_least to objects = filter (has_at_least to objects) (map (λ o. o.key) objects)
+
+-- BEFORE AND AFTER each step of a marking that raises to a colour: slots hold what is there, what has the colour holds
+-- only such, and objects at one key have one colour
+pub record AreOrdered (to : Colour) (objects : List Object) : Type 0 where
+  pub whole : AreWhole objects
+  pub closed : (x y : ℕ) → Among (x, y) (edges objects) → IsTrue (has_at_least to objects x) → IsTrue (has_at_least to objects y)
+  pub alike : (o : Object) → Among o objects → colour_at objects o.key ≡ Some o.colour
+
+-- whether the value of an entry is still to be raised: its map and its key have the colour, and it hasn't
+abbrev pub is_due : Colour → List Object → KeyedEntry → Bool
+is_due to objects e = (has_at_least to objects e.the_map && has_at_least to objects e.key) && not (has_at_least to objects e.value)
+
+-- that of none of these is
+abbrev pub AreFollowed : Colour → List Object → List KeyedEntry → Type 0
+AreFollowed to objects es = (e : KeyedEntry) → Among e es → is_due to objects e ≡ false
+
+-- THE MARKING SO FAR: it raised what stands at some keys, and to each of these a mark comes from what had the colour
+pub record IsRaised (to : Colour) (entries : List KeyedEntry) (old new : List Object) : Type 0 where
+  pub keys : List ℕ
+  pub raised : new ≡ raised_among keys to old
+  pub derived : (key : ℕ) → Among key keys → IsMarkedFrom old entries (keys_at_least to old) key
+  pub ordered : AreOrdered to new
