@@ -64,6 +64,7 @@ fn mappings_are_known_by_place(rt: HostRuntime) -> Result<(), Fail> {
     assert_eq!(rt; graph.mapping(2), Some((Some(1), None, 2)));
     assert_eq!(rt; graph.mapping(3), Some((None, None, 1)));
     assert_eq!(rt; graph.mapping(4), None);
+    assert_eq!(rt; graph.mapping_count(), 4);
     assert!(rt; !graph.is_black(value));
     Ok(())
 }
