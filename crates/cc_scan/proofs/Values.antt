@@ -3,7 +3,7 @@ use Rattle.std.specs.Prelude.{slice_get}
 use Rattle.std.proofs.Common.{◌≡◌, ℕ, zero, suc, ◌+◌, ◌<◌, ◌≤◌, ◌==◌, ◌&&◌, Bool, true, false, List, [], ◌∷◌, ◌++◌, length, map, drop, drop-cons, add-one, Option, Some, None, refl, sym, ◌∙◌, ap, subst, inl, inr, ◌⊎◌, ⊎_elim, arith, option_map}
 use Rattle.std.specs.Option.{option_to_list}
 use Rattle.std.proofs.lemmas.Bool.{and_parts, and_from, true≢false}
-use Rattle.std.proofs.lemmas.List.{length_push, drop_all}
+use Rattle.std.proofs.lemmas.List.{length_push}
 use Rattle.std.proofs.lemmas.Option.{slice_get_within, get_or_from_slice_get}
 use Rattle.cc_lists.specs.Members.{Among, has, with_last}
 use Rattle.cc_lists.proofs.Members.{Among-append, Among-left, Among-right, has-among, has-there}
@@ -138,10 +138,12 @@ pub values-still : (blacks : List ℕ) (ms : List Hyperedge) → length (with_va
 values-still blacks [] short = (refl, λ m a. absurd a)
 values-still blacks (m ∷ ms) short =
     let one = value-still blacks m (omega (arith, short, length-values (with_value blacks m) ms)) in
-    let others = values-still (with_value blacks m) ms (omega (arith, short, length-value blacks m)) in
-    (others.0 ∙ one.0, λ n a. ⊎_elim
-    (λ e. subst (IsJoined blacks) e one.1)
-    (λ t. subst (λ bs. IsJoined bs n) one.0 (others.1 n t)) a)
+    let others = values-still (with_value blacks m) ms (omega (arith, short, length-value blacks m)) in (
+      others.0 ∙ one.0,
+      λ n a. ⊎_elim
+          (λ e. subst (IsJoined blacks) e one.1)
+          (λ t. subst (λ bs. IsJoined bs n) one.0 (others.1 n t)) a,
+    )
 
 -- The mappings from place j on are still to be gone over.
 pub record AreGoneOver (g₀ g : Shown) (j : ℕ) : Type 0 where
@@ -164,7 +166,3 @@ gone-next g₀ g new j h value rest = go (slice_get g₀.hyperedges j) refl (sym
           rest = rest ∙ ap (λ (z : Shown). record z { blacks = new.blacks }) h.rest;
           left = ap (λ bs. with_values bs (drop (j + 1) g₀.hyperedges)) (sym blacks) ∙ (sym (ap (with_values g.blacks) here) ∙ h.left);
         }
-
--- at the end
-pub gone-all : (g₀ g : Shown) (j : ℕ) → AreGoneOver g₀ g j → length g₀.hyperedges ≤ j → g.blacks ≡ with_values g₀.blacks g₀.hyperedges
-gone-all g₀ g j h past = sym (ap (with_values g.blacks) (drop_all j g₀.hyperedges past)) ∙ h.left
