@@ -1,4 +1,5 @@
-//! The black nodes of a graph: those held from elsewhere, and what black nodes lead to.
+//! The black nodes of a graph: those held from elsewhere, what black nodes lead to, and the values of mappings whose members
+//! are black.
 ghost use Rattle.std.specs.Prelude.{◌≡◌, ◌<◌, ◌≤◌, ◌==◌, ℕ, ◌↔◌, ◌⊎◌, IfSome, IsTrue, Some, [], length, map, filter, option_map, slice_get};
 ghost use Rattle.cc_lists.specs.Members.{Among, with_all_last};
 ghost use Rattle.cc_lists.specs.Least.{Least, system};
@@ -10,8 +11,10 @@ ghost use Rattle.cc_scan.specs.Steps.{IsFollowedTo, is_met, with_value, with_val
 use cc_graph::Graph;
 
 /// Makes black what may be held from outside the graph, and all that black nodes lead to, by references and by mappings.
-/// What is black stays black; the others are held by nodes alone that are not black either.
-// O(v * m) for m mappings, of which v give their values in turn after turn, until mappings have an index by their members
+/// What is black stays black; the others are held by nodes that are not black either, and by mappings of which the map or the
+/// key is not, alone. Takes no memory.
+// O(m * m) for m mappings that wait for one another against the order in which they were noted: each turn goes over all of
+// them, until they have an index by their members. The references of a node are followed once, whatever the turns.
 pub fn scan(graph: &mut Graph)
     ensures least { (i : ℕ) → IsTrue (shown.is_black graph.new i) ↔ Least (scan_rules graph.old) i }
     ensures rest { graph.new ≡ record graph.old { blacks = graph.new.blacks } }
@@ -21,7 +24,7 @@ pub fn scan(graph: &mut Graph)
     'turns: loop {
         place = blacken_reached(graph, place);
         blacken_values(graph);
-        // then no mapping gave a black node that is still to be followed
+        // no mapping gave a black node that is still to be followed
         if graph.black_at(place).is_none() {
             return;
         }
