@@ -1,14 +1,14 @@
 -- Black nodes give their targets, one after another: at the end what is black is the least set over what was black.
 use Rattle.std.specs.Prelude.{IsTrue, ◌↔◌, slice_get}
-use Rattle.std.proofs.Common.{◌≡◌, ℕ, ◌+◌, ◌<◌, ◌≤◌, ◌==◌, Bool, true, false, List, [], ◌∷◌, ◌++◌, length, map, filter, Some, None, refl, sym, ◌∙◌, ap, subst, inl, inr, ◌⊎◌, ⊎_elim, arith, count_by}
+use Rattle.std.proofs.Common.{◌≡◌, ℕ, ◌+◌, ◌<◌, ◌≤◌, ◌==◌, List, [], ◌∷◌, length, map, filter, Some, None, refl, sym, ◌∙◌, ap, subst, ◌⊎◌, ⊎_elim, arith}
 use Rattle.std.proofs.lemmas.Bool.{eqb-true, eq-eqb}
 use Rattle.std.proofs.lemmas.Bool.Decides.{eqb_tells}
 use Rattle.std.proofs.lemmas.Option.{slice_get_within, slice_get_cases}
-use Rattle.cc_lists.specs.Members.{Among, has, with_last, with_all_last}
+use Rattle.cc_lists.specs.Members.{Among, with_last, with_all_last}
 use Rattle.cc_lists.specs.Least.{Least, system}
-use Rattle.cc_lists.proofs.Members.{Among-map, Among-map_cases, Among-left, Among-right, Among-append, Among-filter, Among-filtered, Among-passes, has-among, has-there}
+use Rattle.cc_lists.proofs.Members.{Among-map, Among-map_cases, Among-filter, Among-filtered, Among-passes, has-among, has-there}
 use Rattle.cc_lists.proofs.Least.{derive-root, derive-along, derived-within}
-use Rattle.cc_lists.proofs.OnceEach.{with_all_last-keeps, with_all_last-there, with_all_last-cases, with_all_last-once}
+use Rattle.cc_lists.proofs.OnceEach.{with_all_last-keeps, with_all_last-there, with_all_last-cases}
 use Rattle.cc_lists.proofs.Numbers.{number-exact}
 use Rattle.cc_lists.proofs.Places.{once-few, among-place, place-among}
 use Rattle.cc_graph.specs.Shown.{Edge, Shown, is_black}

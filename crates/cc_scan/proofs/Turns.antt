@@ -1,7 +1,7 @@
 -- Turns of a scan: at the end what is black is what its rules derive.
 use Rattle.std.specs.Prelude.{IsTrue, ◌↔◌, slice_get}
 use Rattle.std.specs.Option.{is_some}
-use Rattle.std.proofs.Common.{◌≡◌, ℕ, ◌-◌, ◌<◌, ◌≤◌, ◌==◌, true, false, List, [], ◌++◌, length, map, Some, sym, ◌∙◌, ap, subst, inl, inr, ◌⊎◌, ⊎_elim, arith}
+use Rattle.std.proofs.Common.{◌≡◌, ℕ, ◌-◌, ◌<◌, ◌≤◌, true, false, List, [], ◌++◌, length, map, Some, sym, ◌∙◌, ap, subst, inl, inr, ◌⊎◌, ⊎_elim, arith}
 use Rattle.std.proofs.lemmas.Bool.{true≢false}
 use Rattle.std.proofs.lemmas.Option.{slice_get_within, slice_get_cases}
 use Rattle.cc_lists.specs.Members.{Among}
@@ -10,7 +10,7 @@ use Rattle.cc_lists.proofs.Members.{Among-map, Among-map_cases, Among-left, Amon
 use Rattle.cc_lists.proofs.Least.{derive-root, derive-along, derive-jointly, derived-within}
 use Rattle.cc_lists.proofs.Numbers.{number-exact}
 use Rattle.cc_lists.proofs.Places.{among-place, place-among}
-use Rattle.cc_graph.specs.Shown.{Edge, Hyperedge, Shown, is_black}
+use Rattle.cc_graph.specs.Shown.{Hyperedge, Shown, is_black}
 use Rattle.cc_graph.specs.Closed.{IsClosed}
 use Rattle.cc_scan.specs.Scanning.{held_elsewhere, edge_pair, hyperedge_rule, scan_rules}
 use Rattle.cc_scan.specs.Steps.{IsFollowedTo, with_values}

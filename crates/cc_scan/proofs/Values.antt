@@ -1,14 +1,14 @@
 -- Mappings are gone over: what becomes black by it, and where nothing does.
 use Rattle.std.specs.Prelude.{slice_get}
-use Rattle.std.proofs.Common.{◌≡◌, ℕ, zero, suc, ◌+◌, ◌<◌, ◌≤◌, ◌==◌, ◌&&◌, Bool, true, false, List, [], ◌∷◌, ◌++◌, length, map, drop, drop-cons, add-one, Option, Some, None, refl, sym, ◌∙◌, ap, subst, inl, inr, ◌⊎◌, ⊎_elim, arith, option_map}
+use Rattle.std.proofs.Common.{◌≡◌, ℕ, suc, ◌+◌, ◌≤◌, ◌==◌, ◌&&◌, Bool, true, false, List, [], ◌∷◌, ◌++◌, length, drop, drop-cons, add-one, Option, Some, None, refl, sym, ◌∙◌, ap, subst, inl, inr, ◌⊎◌, ⊎_elim, arith, option_map}
 use Rattle.std.specs.Option.{option_to_list}
 use Rattle.std.proofs.lemmas.Bool.{and_parts, and_from, true≢false}
 use Rattle.std.proofs.lemmas.List.{length_push}
 use Rattle.std.proofs.lemmas.Option.{slice_get_within, get_or_from_slice_get}
-use Rattle.cc_lists.specs.Members.{Among, has, with_last}
+use Rattle.cc_lists.specs.Members.{Among, has}
 use Rattle.cc_lists.proofs.Members.{Among-append, Among-left, Among-right, has-among, has-there}
 use Rattle.cc_lists.proofs.Numbers.{number-exact}
-use Rattle.cc_lists.proofs.OnceEach.{with_last-keeps, with_all_last-cases}
+use Rattle.cc_lists.proofs.OnceEach.{with_all_last-cases}
 use Rattle.cc_lists.proofs.Places.{place-append}
 use Rattle.cc_graph.specs.Shown.{Hyperedge, Shown, with_black}
 use Rattle.cc_scan.specs.Scanning.{hyperedge_rule}
