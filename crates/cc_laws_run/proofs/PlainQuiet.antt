@@ -114,7 +114,7 @@ ask-row row m s ask r suspected t = tt
 -- The census
 
 -- what is listed stands in census order
-listed-census_order : (names : List Name) (x : Name) → Among x names → Among x (census_order names)
+pub listed-census_order : (names : List Name) (x : Name) → Among x names → Among x (census_order names)
 listed-census_order names x m = go (is_native x) refl
   where
     go : (b : Bool) → is_native x ≡ b → Among x (census_order names)

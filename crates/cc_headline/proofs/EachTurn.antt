@@ -1,0 +1,165 @@
+-- EACH TURN OF A LAWFUL AND QUIET TRANSCRIPT: its answer is lawful in the state before it, and a census after the row is
+-- quiet there.
+use Rattle.std.proofs.Common.{◌≡◌, suc, Bool, true, false, List, [], ◌∷◌, ◌++◌, length, Option, Some, None, refl, sym, ◌∙◌, ap, subst, inl, inr, ◌⊎◌, ⊎_elim}
+use Rattle.std.proofs.lemmas.Bool.{true≢false}
+use Rattle.cc_lists.specs.Members.{Among}
+use Rattle.cc_names.specs.Allowance.{Allowance}
+use Rattle.cc_names.specs.declared.name.Name.{Name}
+use Rattle.cc_model.specs.declared.command.Command.{Command}
+use Rattle.cc_model.specs.declared.command.Command.TheVariants.{Nothing, Collect, Gc, Census}
+use Rattle.cc_model.specs.declared.item.Reply.{Reply}
+use Rattle.cc_model.specs.declared.item.Reply.TheVariants.{Done}
+use Rattle.cc_model.specs.declared.item.Event.{Event}
+use Rattle.cc_model.specs.declared.item.Event.TheVariants.{Unlinked, Freed}
+use Rattle.cc_model.specs.Answers.{Answer}
+use Rattle.cc_model.specs.Asks.{Ask, long, bad, taken}
+use Rattle.cc_model.specs.Graph.{Graph}
+use Rattle.cc_model.specs.Reached.{Reached}
+use Rattle.cc_model.specs.Lawful.{State, start, next, graph_after, MayBe, EachMayBe, ReplyAnswers, AnswersAsk, IsLawfulFrom, IsLawful}
+use Rattle.cc_model.specs.Listed.{after_event, census_order}
+use Rattle.cc_model.specs.Quiet.{Row, nothing_yet, after_gc, after_collect, after_all, row_after, CensusIsQuiet, IsQuietFrom, IsQuiet}
+use Rattle.cc_model.specs.Quiet as quiet
+use Rattle.cc_laws_run.specs.Running.{state_after}
+use Rattle.cc_laws_run.proofs.FreedListed.{census_order-listed}
+use Rattle.cc_laws_run.proofs.PlainQuiet.{listed-census_order}
+use Rattle.cc_headline.specs.Turns.{Turn, IsTurnOf, before, is_blank, spoken, HasJustCollected}
+use Rattle.cc_headline.specs.Headline.{CommandReplyIs, ReplyIs, ListsWhatIsThere, SparesReached, ListsReached, TellsOfAGraph}
+
+-- Lawful
+
+-- each ask has an answer
+lawful-length : (s : State) (asks : List Ask) (answers : List Answer) → IsLawfulFrom s asks answers → length asks ≡ length answers
+lawful-length s [] [] l = refl
+lawful-length s [] (a ∷ answers) l = absurd l
+lawful-length s (ask ∷ asks) [] l = absurd l
+lawful-length s (ask ∷ asks) (a ∷ answers) l = ap suc (lawful-length (next s ask a) asks answers l.1)
+
+-- which is lawful in the state before it
+lawful-turn : (s : State) (asked : List Ask) (told : List Answer) (ask : Ask) (a : Answer) (later : List Ask) (more : List Answer) →
+    length asked ≡ length told → IsLawfulFrom s (asked ++ ask ∷ later) (told ++ a ∷ more) → AnswersAsk (state_after s asked told) ask a
+lawful-turn s [] [] ask a later more e l = l.0
+lawful-turn s [] (b ∷ told) ask a later more e l = absurd (cc)
+lawful-turn s (c ∷ asked) [] ask a later more e l = absurd (cc)
+lawful-turn s (c ∷ asked) (b ∷ told) ask a later more e l = lawful-turn (next s c b) asked told ask a later more (cc) l.1
+
+-- its reply is the graph's
+command-reply-is : (s : State) (c : Command) (a : Answer) (reply : Option Reply) → ReplyAnswers s c a reply → CommandReplyIs s c reply
+command-reply-is s c a None l = l
+command-reply-is s c a (Some reply) l = l.replies
+
+reply-is : (s : State) (ask : Ask) (a : Answer) → AnswersAsk s ask a → ReplyIs s ask a.reply
+reply-is s long a l = ap (λ (b : Answer). b.reply) l
+reply-is s bad a l = ap (λ (b : Answer). b.reply) l
+reply-is s (taken Nothing) a l = ap (λ (b : Answer). b.reply) l
+reply-is s (taken Census) a l = tt
+reply-is s (taken c) a l = command-reply-is s c a a.reply l.1
+
+-- what it tells is not reached in the graph after it
+events-spare : (g : Graph) (names : List Name) (c : Command) (es : List Event) → EachMayBe g names c es →
+    (x : Name) → Among (Unlinked x) es ⊎ Among (Freed x) es → ¬ (Reached g x)
+events-spare g names c [] each x m = absurd (⊎_elim (λ i. i) (λ i. i) m)
+events-spare g names c (e ∷ es) each x m =
+    let rest : Among (Unlinked x) es ⊎ Among (Freed x) es → ¬ (Reached g x) = events-spare g (after_event names e) c es each.1 x in
+    ⊎_elim
+    (λ u. ⊎_elim (λ is. let first : MayBe g names c (Unlinked x) = subst (MayBe g names c) is each.0 in first.1) (λ i. rest (inl i)) u)
+    (λ f. ⊎_elim (λ is. let first : MayBe g names c (Freed x) = subst (MayBe g names c) is each.0 in first.1) (λ i. rest (inr i)) f) m
+
+command-spares : (s : State) (c : Command) (a : Answer) (reply : Option Reply) → ReplyAnswers s c a reply →
+    (x : Name) → Among (Unlinked x) a.events ⊎ Among (Freed x) a.events → ¬ (Reached (graph_after s.graph c reply) x)
+command-spares s c a None l = absurd l
+command-spares s c a (Some reply) l = events-spare (graph_after s.graph c (Some reply)) s.listed c a.events l.each
+
+-- an answer without events
+silent-spares : (s : State) (a : Answer) → a.events ≡ [] → SparesReached s a
+silent-spares s a e x m = absurd (⊎_elim (λ i. subst (Among (Unlinked x)) e i) (λ i. subst (Among (Freed x)) e i) m)
+
+answer-spares : (s : State) (ask : Ask) (a : Answer) → AnswersAsk s ask a → SparesReached (next s ask a) a
+answer-spares s long a l = silent-spares s a (ap (λ (b : Answer). b.events) l)
+answer-spares s bad a l = silent-spares s a (ap (λ (b : Answer). b.events) l)
+answer-spares s (taken Nothing) a l = silent-spares (next s (taken Nothing) a) a (ap (λ (b : Answer). b.events) l)
+answer-spares s (taken Census) a l = silent-spares (next s (taken Census) a) a (ap (λ (b : Answer). b.events) l)
+answer-spares s (taken c) a l = command-spares s c a a.reply l.1
+
+-- and a census lists what is there
+census-lists : (s : State) (ask : Ask) (a : Answer) → AnswersAsk s ask a → ListsWhatIsThere s ask a
+census-lists s ask a l e = subst (λ (k : Ask). AnswersAsk s k a) e l
+
+-- Quiet
+
+-- the row after asks and their answers
+abbrev rows_after : Row → List (Ask × Answer) → Row
+rows_after row [] = row
+rows_after row (t ∷ ts) = rows_after (row_after row t.0 t.1) ts
+
+rows_after-append : (row : Row) (ts us : List (Ask × Answer)) → rows_after row (ts ++ us) ≡ rows_after (rows_after row ts) us
+rows_after-append row [] us = refl
+rows_after-append row (t ∷ ts) us = rows_after-append (row_after row t.0 t.1) ts us
+
+-- a blank line leaves it
+blank-leaves : (row : Row) (ask : Ask) (a : Answer) → is_blank ask ≡ true → row_after row ask a ≡ row
+blank-leaves row long a e = absurd (true≢false (sym e))
+blank-leaves row bad a e = absurd (true≢false (sym e))
+blank-leaves row (taken Nothing) a e = refl
+blank-leaves row (taken c) a e = absurd (true≢false (sym e))
+
+-- `gc`, `collect` with `= ok`, and `gc` make it whole, whatever it was
+row-whole : (row : Row) (swept collected again : Answer) → collected.reply ≡ Some Done →
+    rows_after row ((taken Gc, swept) ∷ (taken Collect, collected) ∷ (taken Gc, again) ∷ []) ≡ after_all
+row-whole nothing_yet swept collected again ok = rw ok refl
+row-whole after_gc swept collected again ok = rw ok refl
+row-whole after_collect swept collected again ok = rw ok refl
+row-whole after_all swept collected again ok = rw ok refl
+
+-- a census after it is quiet in the state before it
+quiet-turn : (row : Row) (s : State) (asked : List Ask) (told : List Answer) (ask : Ask) (a : Answer) (later : List Ask) (more : List Answer) →
+    length asked ≡ length told → IsQuietFrom row s (asked ++ ask ∷ later) (told ++ a ∷ more) →
+    CensusIsQuiet (rows_after row (spoken asked told)) (state_after s asked told) ask
+quiet-turn row s [] [] ask a later more e q = q.0
+quiet-turn row s [] (b ∷ told) ask a later more e q = absurd (cc)
+quiet-turn row s (c ∷ asked) [] ask a later more e q = absurd (cc)
+quiet-turn row s (c ∷ asked) (b ∷ told) ask a later more e q =
+    go (quiet-turn (row_after row c b) (next s c b) asked told ask a later more (cc) q.1) (is_blank c) refl
+  where
+    go : CensusIsQuiet (rows_after (row_after row c b) (spoken asked told)) (state_after (next s c b) asked told) ask → (blank : Bool) → is_blank c ≡ blank →
+        CensusIsQuiet (rows_after row (elim blank as (λ _. List (Ask × Answer)) [ true ↦ spoken asked told | false ↦ (c, b) ∷ spoken asked told ]))
+        (state_after (next s c b) asked told) ask
+    go rest true is = subst (λ (r : Row). CensusIsQuiet (rows_after r (spoken asked told)) (state_after (next s c b) asked told) ask) (blank-leaves row c b is) rest
+    go rest false is = rest
+
+-- what a census lists, where exactly the reached names are listed
+census-reached : (s : State) (a : Answer) → a.listed ≡ census_order s.listed → quiet.ListsReached s → ListsReached s a
+census-reached s a e exact x = (
+  λ m. (exact x).0 (census_order-listed s.listed x (subst (Among x) e m)),
+  λ r. subst (Among x) (sym e) (listed-census_order s.listed x ((exact x).1 r)),
+)
+
+module _ (limits : Allowance) (asks : List Ask) (answers : List Answer) (l : IsLawful limits asks answers) (q : IsQuiet limits asks answers) where
+  lawful-at : (t : Turn) → IsTurnOf asks answers t → AnswersAsk (before limits t) t.ask t.answer
+  lawful-at t i = lawful-turn (start limits) t.asked t.told t.ask t.answer i.later i.told_later i.one_each
+      (subst (λ (told : List Answer). IsLawfulFrom (start limits) (t.asked ++ t.ask ∷ i.later) told) i.answers_are
+      (subst (λ (ks : List Ask). IsLawfulFrom (start limits) ks answers) i.asks_are l))
+
+  quiet-at : (t : Turn) → IsTurnOf asks answers t → CensusIsQuiet (rows_after nothing_yet (spoken t.asked t.told)) (before limits t) t.ask
+  quiet-at t i = quiet-turn nothing_yet (start limits) t.asked t.told t.ask t.answer i.later i.told_later i.one_each
+      (subst (λ (told : List Answer). IsQuietFrom nothing_yet (start limits) (t.asked ++ t.ask ∷ i.later) told) i.answers_are
+      (subst (λ (ks : List Ask). IsQuietFrom nothing_yet (start limits) ks answers) i.asks_are q))
+
+  exact-at : (t : Turn) → IsTurnOf asks answers t → HasJustCollected t.asked t.told → t.ask ≡ taken Census → quiet.ListsReached (before limits t)
+  exact-at t i j e = subst (λ (ask : Ask). CensusIsQuiet after_all (before limits t) ask) e
+      (subst (λ (row : Row). CensusIsQuiet row (before limits t) t.ask) whole (quiet-at t i))
+    where
+      whole : rows_after nothing_yet (spoken t.asked t.told) ≡ after_all
+      whole = ap (rows_after nothing_yet) j.are_last
+          ∙ (rows_after-append nothing_yet j.first ((taken Gc, j.swept) ∷ (taken Collect, j.collected) ∷ (taken Gc, j.swept_again) ∷ [])
+          ∙ row-whole (rows_after nothing_yet j.first) j.swept j.collected j.swept_again j.ok)
+
+  -- A LAWFUL AND QUIET TRANSCRIPT HAS EACH PART of the headline.
+  pub tells-of_a_graph : TellsOfAGraph limits asks answers
+  tells-of_a_graph = record {
+    one_each = lawful-length (start limits) asks answers l;
+    replies = λ t i. reply-is (before limits t) t.ask t.answer (lawful-at t i);
+    censuses = λ t i. census-lists (before limits t) t.ask t.answer (lawful-at t i);
+    spares = λ t i. answer-spares (before limits t) t.ask t.answer (lawful-at t i);
+    lists = λ t i j e. census-reached (before limits t) t.answer
+        (ap (λ (b : Answer). b.listed) (census-lists (before limits t) t.ask t.answer (lawful-at t i) e)) (exact-at t i j e);
+  }

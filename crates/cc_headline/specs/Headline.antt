@@ -1,0 +1,54 @@
+-- THE HEADLINE IN ITS PARTS: what it says of a transcript, in the order of the sentence.
+use Rattle.std.specs.Prelude.{◌≡◌, ◌↔◌, ◌⊎◌, List, length, Option, Some, None}
+use Rattle.cc_lists.specs.Members.{Among}
+use Rattle.cc_names.specs.Allowance.{Allowance}
+use Rattle.cc_names.specs.declared.name.Name.{Name}
+use Rattle.cc_model.specs.declared.command.Command.{Command}
+use Rattle.cc_model.specs.declared.command.Command.TheVariants.{Nothing, Census}
+use Rattle.cc_model.specs.declared.item.Refusal.TheVariants.{Long, Line}
+use Rattle.cc_model.specs.declared.item.Reply.{Reply}
+use Rattle.cc_model.specs.declared.item.Reply.TheVariants.{Refused}
+use Rattle.cc_model.specs.declared.item.Event.TheVariants.{Unlinked, Freed}
+use Rattle.cc_model.specs.Answers.{Answer}
+use Rattle.cc_model.specs.Asks.{Ask, long, bad, taken}
+use Rattle.cc_model.specs.Reached.{Reached}
+use Rattle.cc_model.specs.Lawful.{State, RepliesWith, census_of}
+use Rattle.cc_headline.specs.Turns.{Turn, IsTurnOf, before, after, HasJustCollected}
+
+-- a reply is the graph's, or it is want of memory where the graph does not refuse the command and the command may want
+-- some; of a census nothing is said here
+abbrev pub CommandReplyIs : State → Command → Option Reply → Type 0
+CommandReplyIs s c None = ⊥
+CommandReplyIs s c (Some reply) = RepliesWith s c reply
+
+abbrev pub ReplyIs : State → Ask → Option Reply → Type 0
+ReplyIs s long reply = reply ≡ Some (Refused Long)
+ReplyIs s bad reply = reply ≡ Some (Refused Line)
+ReplyIs s (taken Nothing) reply = reply ≡ None
+ReplyIs s (taken Census) reply = Unit {0}
+ReplyIs s (taken c) reply = CommandReplyIs s c reply
+
+-- a census lists the names of what was made and not freed, natives first, and says how many they are
+abbrev pub ListsWhatIsThere : State → Ask → Answer → Type 0
+ListsWhatIsThere s ask a = ask ≡ taken Census → a ≡ census_of s.listed
+
+-- nothing that is unlinked or freed is reached from the registers of the graph after the ask
+abbrev pub SparesReached : State → Answer → Type 0
+SparesReached s a = (x : Name) → Among (Unlinked x) a.events ⊎ Among (Freed x) a.events → ¬ (Reached s.graph x)
+
+-- what is listed is exactly what the registers of the graph reach
+abbrev pub ListsReached : State → Answer → Type 0
+ListsReached s a = (x : Name) → Among x a.listed ↔ Reached s.graph x
+
+-- IT IS THE TRANSCRIPT OF AN OBJECT GRAPH FROM WHICH NOTHING IS FREED: the graph begins empty, and each ask makes of it
+-- what the command means (`next`); nothing is ever taken out of it
+pub record TellsOfAGraph (limits : Allowance) (asks : List Ask) (answers : List Answer) : Type 0 where
+  -- each ask has an answer
+  pub one_each : length asks ≡ length answers
+  -- each reply but `! nomem` and the census is that graph's
+  pub replies : (t : Turn) → IsTurnOf asks answers t → ReplyIs (before limits t) t.ask t.answer.reply
+  pub censuses : (t : Turn) → IsTurnOf asks answers t → ListsWhatIsThere (before limits t) t.ask t.answer
+  -- nothing is unlinked or freed that a root then reaches
+  pub spares : (t : Turn) → IsTurnOf asks answers t → SparesReached (after limits t) t.answer
+  -- and after `gc`, `collect`, `gc` in a row, the `collect` not refused memory, the census lists exactly the reachable objects
+  pub lists : (t : Turn) → IsTurnOf asks answers t → HasJustCollected t.asked t.told → t.ask ≡ taken Census → ListsReached (before limits t) t.answer
