@@ -1,6 +1,6 @@
 -- WHAT CALLS DO TO SCRIPT OBJECTS AND SCRIPT REGISTERS: an exposure, a slot written, a register written, an object made.
 use Rattle.std.proofs.Common.{◌≡◌, ℕ, zero, suc, ◌+◌, ◌<◌, ◌≤◌, Bool, true, false, cond, List, [], ◌∷◌, ◌++◌, map, replicate, Option, Some, None, option_map, is_some, refl, sym, ◌∙◌, ap, subst, ⊎_elim, arith, count_by, ◌==◌}
-use Rattle.std.specs.Prelude.{IsTrue, slice_set}
+use Rattle.std.specs.Prelude.{IfSome, IsTrue, slice_set}
 use Rattle.std.specs.Option.{option_and_then, option_or}
 use Rattle.std.specs.List.{find}
 use Rattle.std.specs.Vec.{with_item}
@@ -16,23 +16,24 @@ use Rattle.cc_lists.proofs.ListWrites.{each-push, Among-set_cases, map-agree}
 use Rattle.cc_names.specs.declared.name.Name.{Name}
 use Rattle.cc_names.specs.declared.number.SKey.{SKey}
 use Rattle.cc_names.specs.declared.register.Reg.TheVariants.{S as s_register}
-use Rattle.cc_names.specs.declared.kind.Kind.TheVariants.{Plain}
+use Rattle.cc_names.specs.declared.kind.Kind.{Kind}
 use Rattle.cc_names.specs.declared.kind.Colour.TheVariants.{Black}
 use Rattle.cc_names.specs.Names.{object, reflector, same_name, is_native}
 use Rattle.cc_model.specs.Slots.{empty_slots}
 use Rattle.cc_model.specs.Heap.{Heap, HeapScript, set_register, set_slot}
 use Rattle.cc_model.specs.Effects.{with_object}
 use Rattle.cc_model.specs.Exposure.{exposed}
-use Rattle.cc_model.specs.WellFormed.{script_names}
+use Rattle.cc_model.specs.WellFormed.{FitsName, script_names}
 use Rattle.cc_laws_heap.specs.Sound.{IsSound}
 use Rattle.cc_laws_heap.proofs.Owning.{IsIn}
 use Rattle.cc_laws_heap.proofs.Writes.{script_register-sound}
 use Rattle.cc_laws_heap.proofs.MadeSound.{with_script-sound}
 use Rattle.cc_laws_heap.proofs.ScriptsKept.{exposed-sound, script_slot-sound}
 use Rattle.cc_laws_heap.proofs.ScriptCommands.{blank, IsNewScript-object}
-use Rattle.cc_script.specs.Objects.{Object, AreWhole, change_object, is_there, name_at, object_at, plain_object, raised_among, with_slot}
+use Rattle.cc_script.specs.Objects.{Object, AreWhole, change_object, is_there, name_at, object_at, raised_among, with_slot}
 use Rattle.cc_script.specs.Walking.{keys_reached}
 use Rattle.cc_heaps.specs.Keyed.{Keyed, IsInOrder, Reflects, key_of, name_held, named_object, named_objects, reflectors_by}
+use Rattle.cc_heaps.specs.Making.{kind_made, object_made, slots_made}
 use Rattle.cc_heaps.specs.Changes.{IsScriptThere, KeepsKeys, script_name}
 use Rattle.cc_heaps.specs.Named.{script_named, IsScriptLive}
 use Rattle.cc_heaps.specs.Fields.{heap_of, keyed_of, IsLinked}
@@ -283,34 +284,45 @@ module _ (objects : List Object) (one : HasOneKey objects) (whole : AreWhole obj
       go None = refl
       go (Some o) = refl
 
--- AN OBJECT MADE
-module _ (p : Inside) (l : IsLinked p) (o : IsInOrder [] (keyed_of p)) (key n : ℕ) (vacant : is_there p.scripts key ≡ false) where
+-- what is made fits its name, where it has at most 64 slots
+made-fits : (number : ℕ) (slots : Option ℕ) → IfSome slots (λ n. n ≤ 64) → FitsName (object number) (kind_made slots) (empty_slots (slots_made slots))
+made-fits number None few = refl
+made-fits number (Some n) few = subst (λ i. i ≤ 64) (sym (length-replicate n None)) few
+
+-- AN OBJECT MADE: a plain one or a weak map
+module _ (p : Inside) (l : IsLinked p) (o : IsInOrder [] (keyed_of p)) (key : ℕ) (slots : Option ℕ) (vacant : is_there p.scripts key ≡ false) where
   abbrev new : Object
-  new = plain_object key (p.scripts_made + 1) n
+  new = object_made key (p.scripts_made + 1) slots
+
+  abbrev n : ℕ
+  n = slots_made slots
+
+  abbrev kind : Kind
+  kind = kind_made slots
 
   abbrev objects : List Object
   objects = p.scripts ++ new ∷ []
 
   -- its name
-  pub name_at-plain : name_at objects key ≡ Some (object (p.scripts_made + 1))
-  name_at-plain = name_at-made p.scripts l.one_key o.whole new n refl vacant
+  pub name_at-object : name_at objects key ≡ Some (object (p.scripts_made + 1))
+  name_at-object = name_at-made p.scripts l.one_key o.whole new n refl vacant
 
-  named : named_objects objects ≡ named_objects p.scripts ++ blank (object (p.scripts_made + 1)) Plain n ∷ []
+  named : named_objects objects ≡ named_objects p.scripts ++ blank (object (p.scripts_made + 1)) kind n ∷ []
   named = named-made p.scripts l.one_key o.whole new n refl vacant
 
   -- it is no reflector
   reflectors : reflectors_by objects p.counted.keys ≡ reflectors_by p.scripts p.counted.keys
   reflectors = ap (λ its. map (λ j. option_and_then its j) p.counted.keys) (fun_ext (λ k. key_of-made p.scripts l.one_key o.whole new n refl vacant (reflector k) refl))
 
-  pub becomes-made : n ≤ 64 → p.scripts_made < p.limits.scripts → (os : List Object) → os ≡ objects →
-      Becomes p (with_objects p os (p.scripts_made + 1)) (with_object (heap_of p) Plain n)
+  pub becomes-made : IfSome slots (λ n. n ≤ 64) → p.scripts_made < p.limits.scripts → (os : List Object) → os ≡ objects →
+      Becomes p (with_objects p os (p.scripts_made + 1)) (with_object (heap_of p) kind n)
   becomes-made few room os e =
-      subst (λ os. Becomes p (with_objects p os (p.scripts_made + 1)) (with_object (heap_of p) Plain n)) (sym e)
-      (becomes p l o objects (p.scripts_made + 1) (with_object (heap_of p) Plain n)
+      subst (λ os. Becomes p (with_objects p os (p.scripts_made + 1)) (with_object (heap_of p) kind n)) (sym e)
+      (becomes p l o objects (p.scripts_made + 1) (with_object (heap_of p) kind n)
       (KeepsNames-made p.scripts l.one_key o.whole new n refl vacant)
       (ap (λ scripts. record (heap_of p) { scripts = scripts; scripts_made = p.scripts_made + 1 }) named)
-      (with_script-sound [] (heap_of p) (blank (object (p.scripts_made + 1)) Plain n) (p.scripts_made + 1)
-      (IsNewScript-object (heap_of p) Plain n o.sound.well_formed (subst (λ i. i ≤ 64) (sym (length-replicate n None)) few) room) o.sound)
+      (with_script-sound [] (heap_of p) (blank (object (p.scripts_made + 1)) kind n) (p.scripts_made + 1)
+      (IsNewScript-object (heap_of p) kind n o.sound.well_formed (made-fits (p.scripts_made + 1) slots few) room) o.sound)
       (one_key-made p.scripts l.one_key o.whole new n refl vacant)
       (whole-made p.scripts l.one_key o.whole new n refl vacant)
       reflectors
