@@ -1,4 +1,4 @@
--- THE GRAPH OF A COLLECTION AS LISTS: nodes by number, noted references, and which nodes are black.
+-- THE GRAPH OF A COLLECTION AS LISTS: nodes by number, noted references, noted mappings, and which nodes are black.
 use Rattle.std.specs.Prelude.{ℕ, suc, ◌+◌, ◌==◌, Bool, true, false, List, [], ◌∷◌, ◌++◌, drop, count_by, position, slice_get, slice_set, Option, Some, None, option_map}
 use Rattle.cc_lists.specs.Members.{has, with_last}
 use Rattle.cc_names.specs.declared.name.Name.{Name}
@@ -19,11 +19,22 @@ pub record Edge : Type 0 where
   pub source : ℕ
   pub target : ℕ
 
--- nodes are known by their place, from 0; references in the order in which they were noted, with repeats; the black
--- nodes in the order in which they became so, each once; and how many references there is room for
+-- a noted mapping: the numbers of the nodes of a map and of a key, each where it is a node, and of the value that they
+-- hold together
+pub record Hyperedge : Type 0 where
+  pub the_map : Option ℕ
+  pub key : Option ℕ
+  pub value : ℕ
+
+abbrev pub hyperedge : Option ℕ → Option ℕ → ℕ → Hyperedge
+hyperedge the_map key value = record { the_map = the_map; key = key; value = value }
+
+-- nodes are known by their place, from 0; references and mappings in the order in which they were noted, with repeats; the
+-- black nodes in the order in which they became so, each once; and how many references there is room for
 pub record Shown : Type 0 where
   pub nodes : List Vertex
   pub edges : List Edge
+  pub hyperedges : List Hyperedge
   pub blacks : List ℕ
   pub spare : ℕ
 

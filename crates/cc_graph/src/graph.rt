@@ -1,10 +1,11 @@
-//! The graph: nodes by number, noted references, and the list of black nodes.
+//! The graph: nodes by number, noted references, noted mappings, and the list of black nodes.
 
 ghost use Rattle.std.specs.Prelude.{◌≡◌, ◌+◌, ◌-◌, ◌<◌, ◌≤◌, ◌^◌, ◌==◌, ◌++◌, [], ◌∷◌, length, slice_get, option_map, IfOk, IfSome, IsOk, IsSome, OnErr, OnOk, Some, vec_capacity};
-ghost use Rattle.cc_graph.specs.Shown.{change_vertex, edges_to, is_black, number_of, place_from, with_black, with_sample, with_vertex};
+ghost use Rattle.cc_graph.specs.Shown.{change_vertex, edges_to, is_black, hyperedge, number_of, place_from, with_black, with_sample, with_vertex};
 ghost use Rattle.cc_graph.specs.Closed.{IsClosed};
 ghost use Rattle.cc_graph.specs.Kept.{IsWhole, vertices};
 
+use crate::mapping::Mapping;
 use crate::node::Node;
 use crate::reference::Reference;
 use cc_counted::Held;
@@ -12,17 +13,20 @@ use cc_names::{Name, NoMemory};
 use std::alloc::Global;
 use std::marker::Model;
 
-/// What a running collection has seen: nodes by number, from 0, noted references between them, and the black nodes.
+/// What a running collection has seen: nodes by number, from 0, noted references between them, noted mappings, and the
+/// black nodes.
 #[derive(Drop)]
 pub struct Graph {
     nodes: Vec<Node>,
     references: Vec<Reference>,
+    mappings: Vec<Mapping>,
     blacks: Vec<u32>,
 }
 
 impl Model for Graph {
     ghost use Rattle.std.specs.Prelude.{◌-◌, length, vec_capacity};
     ghost use Rattle.cc_graph.specs.Shown.{Shown};
+    ghost use Rattle.cc_graph.specs.Closed.{AreHyperedgesWithin};
     ghost use Rattle.cc_graph.specs.Kept.{IsWhole, vertices};
 
     ghost Value = { Shown };
@@ -30,23 +34,27 @@ impl Model for Graph {
     ghost view = { λ g. record {
       nodes = vertices g.nodes.items;
       edges = g.references.items;
+      hyperedges = g.mappings.items;
       blacks = g.blacks.items;
       spare = vec_capacity g.references - length g.references.items;
     } };
 
-    ghost invariant = { λ g. IsWhole g.nodes.items g.references.items g.blacks.items (vec_capacity g.blacks) };
+    ghost invariant = { λ g. IsWhole g.nodes.items g.references.items g.blacks.items (vec_capacity g.blacks)
+      × AreHyperedgesWithin (length g.nodes.items) g.mappings.items };
 }
 
 impl Graph {
-    /// A graph with no node and no reference.
+    /// A graph with no node, no reference and no mapping.
     pub fn new(alloc: Global) -> Graph
         ensures nodes { result.nodes ≡ [] }
         ensures edges { result.edges ≡ [] }
+        ensures hyperedges { result.hyperedges ≡ [] }
         ensures blacks { result.blacks ≡ [] }
     {
         Graph {
             nodes: Vec::new(alloc),
             references: Vec::new(alloc),
+            mappings: Vec::new(alloc),
             blacks: Vec::new(alloc),
         }
     }
@@ -63,6 +71,7 @@ impl Graph {
         ensures kept { length self.old.nodes ≤ length self.new.nodes }
         ensures grows { length self.new.nodes ≤ length self.old.nodes + 1 }
         ensures edges { self.new.edges ≡ self.old.edges }
+        ensures hyperedges { self.new.hyperedges ≡ self.old.hyperedges }
         ensures blacks { self.new.blacks ≡ self.old.blacks }
         ensures spare { self.new.spare ≡ self.old.spare }
         ensures err { OnErr result (self.new ≡ self.old) }
@@ -111,6 +120,28 @@ impl Graph {
     {
         self.references.push_reserved(Reference::new(from, to));
         self.nodes[to as usize].note();
+    }
+
+    /// A map and a key together hold a value, noted last: `value` is the number of its node, `the_map` and `key` those of
+    /// theirs, each where it is a node.
+    ///
+    /// `NoMemory` leaves everything as it was.
+    pub fn note_mapping(
+        &mut self,
+        the_map: Option<u32>,
+        key: Option<u32>,
+        value: u32,
+    ) -> Result<(), NoMemory>
+        requires the_map { IfSome the_map (λ i. i < length self.old.nodes) }
+        requires key { IfSome key (λ i. i < length self.old.nodes) }
+        requires value { value < length self.old.nodes }
+        ensures noted { OnOk result (self.new ≡ record self.old { hyperedges = self.old.hyperedges ++ hyperedge the_map key value ∷ [] }) }
+        ensures err { OnErr result (self.new ≡ self.old) }
+    {
+        self.mappings.reserve(1)?;
+        self.mappings
+            .push_reserved(Mapping::new(the_map, key, value));
+        Ok(())
     }
 
     /// The number of the first node of `name`; none where there is none.
@@ -202,6 +233,19 @@ impl Graph {
     {
         let reference = self.references.get(j)?;
         Some((reference.source(), reference.target()))
+    }
+
+    /// The numbers of the nodes of a noted mapping, by its place in the order in which they were noted, from 0: of its map
+    /// and of its key, each where it is a node, and of its value. None past the end.
+    pub fn mapping(&self, j: usize) -> Option<(Option<u32>, Option<u32>, u32)>
+        ensures value { option_map (λ m. hyperedge m.0 m.1 m.2) result ≡ slice_get self.now.hyperedges j }
+        ensures map_within { IfSome result (λ m. IfSome m.0 (λ i. i < length self.now.nodes)) }
+        ensures key_within { IfSome result (λ m. IfSome m.1 (λ i. i < length self.now.nodes)) }
+        ensures value_within { IfSome result (λ m. m.2 < length self.now.nodes) }
+        ensures closed { IsClosed self.now }
+    {
+        let mapping = self.mappings.get(j)?;
+        Some((mapping.the_map(), mapping.key(), mapping.value()))
     }
 
     /// The place of the first reference that a node has; none where it has none.

@@ -1,21 +1,26 @@
--- THE HEAPS WITH THEIR KEYS: the definitions' lists, which native stands at which key, and the script objects by key.
+-- THE HEAPS WITH THEIR KEYS: the definitions' lists, which native stands at which key, and the script objects and the
+-- entries of weak maps by key.
 use Rattle.std.specs.Prelude.{◌≡◌, ℕ, ◌≤◌, ◌==◌, true, false, List, [], map, find, Option, Some, None, option_map, option_and_then, count_by}
 use Rattle.cc_lists.specs.Members.{Among}
 use Rattle.cc_names.specs.declared.name.Name.{Name}
 use Rattle.cc_names.specs.declared.name.Name.TheVariants as name
-use Rattle.cc_names.specs.declared.kind.Kind.TheVariants.{Map}
 use Rattle.cc_names.specs.Names.{object, reflector, same_name, is_native}
+use Rattle.cc_model.specs.Entries.{Entry}
+use Rattle.cc_model.specs.Entries as entries
 use Rattle.cc_model.specs.Heap.{Heap, HeapNative, HeapScript}
 use Rattle.cc_laws_heap.specs.Sound.{IsSound}
 use Rattle.cc_counted.specs.Counts.{Counts, key_left}
 use Rattle.cc_counted.specs.Counts as counts
 use Rattle.cc_counted.specs.Owning.{HasKeys}
 use Rattle.cc_script.specs.Objects.{Object, AreWhole, name_at}
+use Rattle.cc_weakmaps.specs.Entries.{KeyedEntry}
+use Rattle.cc_marking.specs.Marking.{AreEntriesThere}
 
 pub record Keyed : Type 0 where
   pub heap : Heap
   pub keys : List (Option ℕ)
   pub scripts : List Object
+  pub entries : List KeyedEntry
 
 -- Script objects by names
 
@@ -28,6 +33,17 @@ named_object objects o = record { name = o.name; kind = o.kind; slots = map (nam
 
 abbrev pub named_objects : List Object → List HeapScript
 named_objects objects = map (named_object objects) objects
+
+-- the name of the object at a key; of what is not there, some name
+abbrev pub the_name_at : List Object → ℕ → Name
+the_name_at objects key = elim (name_at objects key) [ None ↦ object 0 | Some x ↦ x ]
+
+-- an entry by the names of its map, its key and its value
+abbrev pub named_entry : List Object → KeyedEntry → Entry
+named_entry objects e = entries.entry (the_name_at objects e.the_map) (the_name_at objects e.key) (the_name_at objects e.value)
+
+abbrev pub named_entries : List Object → List KeyedEntry → List Entry
+named_entries objects es = map (named_entry objects) es
 
 -- Natives as the counted heap shows them: there a script object has the key at which it stands for a number
 
@@ -80,14 +96,9 @@ Reflects v (name.Script k) key = key ≡ None
 Reflects v (name.Reflector k) None = ⊥
 Reflects v (name.Reflector k) (Some key) = number_at v key ≡ Some k.0
 
--- NO WEAK MAP was made, so there are no entries
-pub record HasNoWeakMaps (h : Heap) : Type 0 where
-  pub no_maps : (o : HeapScript) → Among o h.scripts → ¬ (o.kind ≡ Map)
-  pub no_entries : h.entries ≡ []
-
 -- THE JOINT FACTS, where these references are owned besides: the heaps are sound, each object stands at one key, slots of
--- script objects hold what is there, a reflector has the key of its native, limits keep their range, and there are no
--- weak maps.
+-- script objects hold what is there and entries name what is there, a reflector has the key of its native, and limits keep
+-- their range.
 pub record IsInOrder (owned : List ℕ) (v : Keyed) : Type 0 where
   pub sound : IsSound owned v.heap
   pub keyed : HasKeys (counts_of v)
@@ -96,4 +107,5 @@ pub record IsInOrder (owned : List ℕ) (v : Keyed) : Type 0 where
   pub whole : AreWhole v.scripts
   pub reflecting : (o : Object) → Among o v.scripts → Reflects v o.name o.native
   pub limits : (v.heap.limits.natives ≤ 1000000) × (v.heap.limits.scripts ≤ 1000000)
-  pub without_maps : HasNoWeakMaps v.heap
+  pub entries : v.heap.entries ≡ named_entries v.scripts v.entries
+  pub entries_there : AreEntriesThere v.scripts v.entries

@@ -1,5 +1,5 @@
 -- THE HEAPS BY NAMES, put together of what each part of them shows.
-use Rattle.std.specs.Prelude.{IsSome, IsTrue, ℕ, List, [], map, Option, Some, None, option_map, option_and_then, slice_index_or}
+use Rattle.std.specs.Prelude.{IsSome, IsTrue, ℕ, List, map, Option, Some, None, option_map, option_and_then, slice_index_or}
 use Rattle.cc_names.specs.Allowance.{Allowance}
 use Rattle.cc_names.specs.declared.number.NKey.{NKey}
 use Rattle.cc_names.specs.declared.number.SKey.{SKey}
@@ -10,7 +10,8 @@ use Rattle.cc_model.specs.Slots.{Slots}
 use Rattle.cc_model.specs.Heap.{Heap, HeapNative}
 use Rattle.cc_counted.specs.Counts.{Counts}
 use Rattle.cc_script.specs.Objects.{Object, is_there, name_at}
-use Rattle.cc_heaps.specs.Keyed.{named_objects}
+use Rattle.cc_weakmaps.specs.Entries.{KeyedEntry}
+use Rattle.cc_heaps.specs.Keyed.{named_entries, named_objects}
 
 -- which native stands at which key
 abbrev pub Keys : Type 0
@@ -58,13 +59,13 @@ pub record Rest : Type 0 where
   pub scripts_made : ℕ
   pub limits : Allowance
 
-abbrev pub heap_with : Rest → Counts → List Object → Heap
-heap_with r c objects = record {
+abbrev pub heap_with : Rest → Counts → List Object → List KeyedEntry → Heap
+heap_with r c objects es = record {
   native_registers = r.native_registers;
   script_registers = r.script_registers;
   natives = map (named_native objects) c.natives;
   scripts = named_objects objects;
-  entries = [];
+  entries = named_entries objects es;
   buffer = c.buffer;
   natives_made = r.natives_made;
   scripts_made = r.scripts_made;

@@ -7,10 +7,14 @@ use Rattle.cc_model.specs.declared.item.Event.TheVariants.{Freed}
 use Rattle.cc_model.specs.Heap.{is_white_colour}
 use Rattle.cc_counted.specs.Counts.{Counts, number_at, the_number, with_reflector, left_with, released}
 use Rattle.cc_counted.specs.Owning.{CallersOwn}
-use Rattle.cc_script.specs.Objects.{Object}
+use Rattle.cc_script.specs.Objects.{Object, object_at}
 
 abbrev pub is_white : Object → Bool
 is_white o = is_white_colour o.colour
+
+-- whether there is an object at a key, and it is not white
+abbrev pub is_marked : List Object → ℕ → Bool
+is_marked objects key = elim (object_at objects key) [ None ↦ false | Some o ↦ not (is_white o) ]
 
 -- the objects that stay
 abbrev pub not_white : List Object → List Object

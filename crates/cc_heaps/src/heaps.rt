@@ -17,6 +17,7 @@ ghost use Rattle.cc_heaps.specs.Standing.{StillStands, KeepsFresh, KeepsSuspecte
 ghost use Rattle.cc_heaps.specs.Few.{IsNotOwned, AreFewIfOwnedOnce};
 
 mod census;
+mod entries;
 mod holders;
 mod holding;
 mod making;
@@ -31,17 +32,19 @@ use cc_counted::Counted;
 use cc_model::Notices;
 use cc_names::{Limits, NKey, Name, NoMemory, SKey};
 use cc_script::Scripts;
+use cc_weakmaps::WeakMaps;
 use std::alloc::Global;
 use std::marker::Model;
 
-/// Both heaps by key, the 256 native registers and the 256 script registers, and how many objects were ever made. What
-/// registers and slots of natives hold is there at each step.
+/// Both heaps by key, the entries of weak maps, the 256 native registers and the 256 script registers, and how many objects
+/// were ever made. What registers and slots of natives hold is there at each step.
 #[derive(Drop)]
 pub struct Heaps {
     native_registers: Vec<Option<NKey>>,
     script_registers: Vec<Option<SKey>>,
     counted: Counted,
     scripts: Scripts,
+    weak: WeakMaps,
     natives_made: u32,
     scripts_made: u32,
     limits: Limits,
@@ -90,6 +93,7 @@ impl Heaps {
             script_registers: no_scripts(alloc)?,
             counted: Counted::new(alloc),
             scripts: Scripts::new(alloc),
+            weak: WeakMaps::new(alloc),
             natives_made: 0,
             scripts_made: 0,
             limits,
@@ -108,6 +112,13 @@ impl Heaps {
         ensures { result.now ≡ self.now.scripts }
     {
         &self.scripts
+    }
+
+    /// The entries of all weak maps, in the order in which they were first set.
+    pub fn weak(&self) -> &WeakMaps
+        ensures { result.now ≡ self.now.entries }
+    {
+        &self.weak
     }
 
     /// What a native register holds; none exactly where it is empty.

@@ -1,7 +1,9 @@
 //! Script marking: the colours that two lists of roots give to the script objects.
 //!
-//! What the first roots reach over slots becomes black: the registers give them. What the second roots reach, and is not
-//! black, becomes gray: the slots of natives give them. All else is white, and is swept.
+//! What a mark from the first roots comes to over slots becomes black: the registers give them. What one from the second
+//! roots comes to, and is not black, becomes gray: natives give them. A mark goes over the entries of weak maps too: an
+//! entry has the lesser mark of its map and its key, and its value has at least that. So an entry keeps its value while
+//! both live, and never keeps its own key. All else is white, and is swept.
 #![tactic(auto)]
 
 mod marking;

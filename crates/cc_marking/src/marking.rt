@@ -3,11 +3,12 @@ ghost use Rattle.std.specs.Prelude.{◌≡◌, ℕ, [], IsTrue};
 ghost use Rattle.cc_lists.specs.Members.{Among};
 ghost use Rattle.cc_script.specs.Objects.{AreWhole, is_there, raised_among};
 ghost use Rattle.cc_script.specs.Walking.{keys_reached};
-ghost use Rattle.cc_marking.specs.Marking.{AreLeast, marked_from};
+ghost use Rattle.cc_marking.specs.Marking.{AreEntriesThere, AreLeast, marked_from};
 
 use crate::roots::Roots;
 use cc_names::Colour;
 use cc_script::Scripts;
+use cc_weakmaps::WeakMaps;
 
 /// Raises what the roots reach over slots, one root after another, to at least the colour `to`.
 fn mark_from_each<R: Roots>(scripts: &mut Scripts, roots: &mut R, to: Colour)
@@ -21,14 +22,21 @@ fn mark_from_each<R: Roots>(scripts: &mut Scripts, roots: &mut R, to: Colour)
     }
 }
 
-/// Gives each script object its colour: black what `black` reaches over slots, gray what else the black ones and `gray`
-/// reach, white the rest. Takes no memory, at any depth.
-pub fn mark<B: Roots, G: Roots>(scripts: &mut Scripts, black: &mut B, gray: &mut G)
+/// Gives each script object its colour: black what a mark from `black` comes to, gray what else one from the black ones and
+/// `gray` comes to, white the rest. A mark goes over slots, and from a map and a key that are marked together to the value
+/// of their entry, which has at least the lesser of their two marks. Takes no memory, at any depth.
+pub fn mark<B: Roots, G: Roots>(
+    scripts: &mut Scripts,
+    weak: &WeakMaps,
+    black: &mut B,
+    gray: &mut G,
+)
     requires black { (key : ℕ) → Among key (B.left black.old) → IsTrue (is_there scripts.old key) }
     requires gray { (key : ℕ) → Among key (G.left gray.old) → IsTrue (is_there scripts.old key) }
+    requires entries { AreEntriesThere scripts.old weak.now }
     requires whole { AreWhole scripts.old }
-    ensures colours { scripts.new ≡ marked_from (B.left black.old) (G.left gray.old) scripts.old }
-    ensures least { AreLeast (B.left black.old) (G.left gray.old) scripts.old scripts.new }
+    ensures colours { scripts.new ≡ marked_from (B.left black.old) (G.left gray.old) weak.now scripts.old }
+    ensures least { AreLeast (B.left black.old) (G.left gray.old) weak.now scripts.old scripts.new }
     ensures black { B.left black.new ≡ [] }
     ensures gray { G.left gray.new ≡ [] }
 {

@@ -1,7 +1,7 @@
 -- WHAT BECOMES BLACK BY A SCAN, by the numbers of nodes.
-use Rattle.std.specs.Prelude.{ℕ, Bool, false, List, [], ◌++◌, map, Option, Some, None, nat_lt}
+use Rattle.std.specs.Prelude.{ℕ, Bool, false, List, ◌++◌, map, Option, Some, None, nat_lt, option_to_list}
 use Rattle.cc_lists.specs.Least.{Rule, system}
-use Rattle.cc_graph.specs.Shown.{Edge, Shown, edges_to}
+use Rattle.cc_graph.specs.Shown.{Edge, Hyperedge, Shown, edges_to}
 use Rattle.cc_graph.specs.Numbers.{numbers_where}
 
 -- whether more references were sampled than are noted to the node
@@ -16,6 +16,11 @@ held_elsewhere g = numbers_where (λ i v. exceeds (edges_to g.edges i) v.sampled
 abbrev pub edge_pair : Edge → ℕ × ℕ
 edge_pair e = (e.source, e.target)
 
--- what is black is black still; so is what is held from elsewhere, and what a black node's noted references lead to
+-- a mapping as a rule: its map and its key, where they are nodes, together give its value
+abbrev pub hyperedge_rule : Hyperedge → List ℕ × ℕ
+hyperedge_rule m = (option_to_list m.the_map ++ option_to_list m.key, m.value)
+
+-- what is black is black still; so is what is held from elsewhere, what a black node's noted references lead to, and the
+-- value of a noted mapping whose map and key are each black or no node
 abbrev pub scan_rules : Shown → List (Rule ℕ)
-scan_rules g = system (g.blacks ++ held_elsewhere g) (map edge_pair g.edges) []
+scan_rules g = system (g.blacks ++ held_elsewhere g) (map edge_pair g.edges) (map hyperedge_rule g.hyperedges)

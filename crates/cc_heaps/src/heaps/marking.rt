@@ -11,8 +11,9 @@ use crate::heaps::roots::{HeldRoots, RegisterRoots};
 use cc_marking::mark;
 
 impl Heaps {
-    /// Gives each script object its colour: black what the script registers reach over slots, gray what else natives hold
-    /// and what that reaches, white the rest. Takes no memory.
+    /// Gives each script object its colour: black what a mark from the script registers comes to, gray what else one from
+    /// what natives hold comes to, white the rest. A mark goes over slots, and from a map and a key that are marked
+    /// together to the value of their entry. Takes no memory.
     pub fn mark_scripts(&mut self)
         requires order { IsInOrder [] self.old }
         ensures heap { self.new.heap ≡ marked self.old.heap }
@@ -25,6 +26,6 @@ impl Heaps {
     {
         let mut registers = RegisterRoots::new(self.script_registers.as_slice());
         let mut held = HeldRoots::new(&self.counted);
-        mark(&mut self.scripts, &mut registers, &mut held);
+        mark(&mut self.scripts, &self.weak, &mut registers, &mut held);
     }
 }

@@ -9,7 +9,9 @@ ghost use Rattle.cc_counted.specs.Counts.{key_left, the_number};
 ghost use Rattle.cc_counted.specs.Owning.{Transfers};
 ghost use Rattle.cc_heaps.specs.Keyed.{IsInOrder};
 ghost use Rattle.cc_heaps.specs.Changes.{KeepsKeys};
-ghost use Rattle.cc_heaps.specs.Sweeping.{are_some, is_white, let_native_go, native_keys, native_keys_where, not_white, sweep_where, swept_counts, white_names, whites, OwnEach};
+ghost use Rattle.cc_weakmaps.specs.Living.{living};
+ghost use Rattle.cc_marking.specs.Marking.{AreEntriesThere};
+ghost use Rattle.cc_heaps.specs.Sweeping.{are_some, is_marked, is_white, let_native_go, native_keys, native_keys_where, not_white, sweep_where, swept_counts, white_names, whites, OwnEach};
 ghost use Rattle.cc_heaps.specs.Standing.{StillStands};
 ghost use Rattle.cc_heaps.specs.Few.{AreFew};
 
@@ -18,6 +20,7 @@ use cc_counted::Counted;
 use cc_model::{Event, Item, Notices};
 use cc_names::{Colour, NKey, SKey};
 use cc_script::Scripts;
+use cc_weakmaps::WeakMaps;
 
 // A swept reflector's native forgets it, and the reference that the reflector owned is given up, with all that it deletes.
 fn let_native_go<N: Notices>(counted: &mut Counted, native: Option<NKey>, out: &mut N)
@@ -79,10 +82,18 @@ fn sweep_whites<N: Notices>(counted: &mut Counted, scripts: &mut Scripts, out: &
     swept
 }
 
+// Drops the entries of which the map or the key is white.
+fn drop_dead(weak: &mut WeakMaps, scripts: &Scripts)
+    requires { AreEntriesThere scripts.now weak.old }
+    ensures { weak.new ≡ living (is_marked scripts.now) weak.old }
+{
+    weak.drop_dead(|key| scripts.colour(key) != Colour::White);
+}
+
 impl Heaps {
-    /// Sweeps the white script objects, in order of making: each is told and removed. A reflector's native forgets it,
-    /// and the reference that it owned is given up, with all that it deletes, before the next object is swept. Whether
-    /// something was swept.
+    /// Drops the entries whose map or key is white, and then sweeps the white script objects, in order of making: each is
+    /// told and removed. A reflector's native forgets it, and the reference that it owned is given up, with all that it
+    /// deletes, before the next object is swept. Whether something was swept.
     ///
     /// Called where the colours are those of marking. Takes no memory.
     pub fn sweep<N: Notices>(&mut self, out: &mut N) -> bool
@@ -98,7 +109,7 @@ impl Heaps {
         ensures stands { StillStands self.old.heap self.new.heap }
         ensures invariant { HasColourInvariant (view self.new.heap) }
     {
-        // There are no weak maps yet: their dead entries will go first.
+        drop_dead(&mut self.weak, &self.scripts);
         sweep_whites(&mut self.counted, &mut self.scripts, out)
     }
 }
