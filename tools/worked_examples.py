@@ -10,7 +10,7 @@ writes the output; the run is lawful; it is quiet; it passes the audit. An examp
 one theorem: what its input writes within the bytes allowed.
 
 In crates/cc_examples src/worked.rt gets the examples that the program can be run on: those in which no memory is
-refused, and no line begins with a word that the program doesn't know yet.
+refused.
 """
 import re
 import sys
@@ -20,8 +20,6 @@ ROOT = Path(__file__).resolve().parent.parent
 TABLE = ROOT / 'examples' / 'worked.txt'
 CRATE = ROOT / 'crates' / 'cc_worked'
 TESTS = ROOT / 'crates' / 'cc_examples' / 'src' / 'worked.rt'
-ALL_FORMS = ROOT / 'crates' / 'cc_model' / 'specs' / 'Forms.antt'
-FORMS_NOW = ROOT / 'crates' / 'cc_reader' / 'specs' / 'FormsNow.antt'
 EXAMPLES_IN_A_FILE = 8
 DEFAULT_LIMITS = (1000000, 1000000, 4294967295)
 STATUSES = {0: 'Done', 5: 'Limit'}
@@ -254,31 +252,14 @@ def file_of_modules(count):
 
 # The tests
 
-def listed_forms(path, name):
-    """The names of the forms in a list of forms."""
-    text = path.read_text(encoding='utf-8')
-    defined = re.search(rf'^{name} =\n((?:    .*\n)+)', text, re.MULTILINE)
-    if not defined:
-        raise TableError(f'{path.name} has no list {name}')
-    return re.findall(r'\w+_form\b', defined[1])
-
-
-def unknown_words():
-    """The words of the whole grammar of which the program doesn't know every form."""
-    word_of = dict(re.findall(r'^(\w+_form) = form \(codes "(\w+)"\)', ALL_FORMS.read_text(encoding='utf-8'), re.MULTILINE))
-    known = listed_forms(FORMS_NOW, 'forms_now')
-    return {word_of[form] for form in listed_forms(ALL_FORMS, 'version_one_forms') if form not in known}
-
-
 def plain_bytes(found):
     """The bytes themselves, as a text."""
     return ''.join(piece if isinstance(piece, str) else chr(piece[0]) * piece[1] for piece in found)
 
 
-def can_be_run(example, unknown):
-    """Whether the program knows all words, and no memory is refused."""
-    words = {line.split()[0] for line in plain_bytes(example.input).splitlines() if line.split()}
-    return example.refused is None and not words & unknown
+def can_be_run(example):
+    """Whether no memory is refused: the program gets all that it asks for."""
+    return example.refused is None
 
 
 def byte_string(found):
@@ -302,8 +283,7 @@ def test_case(example):
 
 
 def file_of_tests(examples):
-    unknown = unknown_words()
-    cases = [test_case(example) for example in examples if can_be_run(example, unknown)]
+    cases = [test_case(example) for example in examples if can_be_run(example)]
     return f"""//! The worked examples that the program can be run on: what each script makes it write.
 //!
 //! Made by tools/worked_examples.py from examples/worked.txt.

@@ -6,7 +6,7 @@ use crate::script::Example;
 use cc_replay::Status;
 use std::test::Fail;
 
-const EXAMPLES: [Example; 52] = [
+const EXAMPLES: [Example; 65] = [
     // Nothing is written for an empty input.
     Example {
         name: "empty_input",
@@ -267,6 +267,76 @@ const EXAMPLES: [Example; 52] = [
         output: b"= #1\n= ~1\n= @1\n= ok\n- free ~1\n= ok\n= ~1\n= none\n= none\n! slot\n= ok\n= ok\n- free ~1\n- free #1\n= ok\n",
         status: Status::Done,
     },
+    // An entry whose value alone holds its key is dropped, with both.
+    Example {
+        name: "entry_does_not_keep_its_key",
+        natives: 1000000,
+        scripts: 1000000,
+        bytes: 4294967295,
+        input: b"weakmap s0\nscript s1 1\nscript s2 1\nput s2 0 s1\nwset s0 s1 s2\ndrop s1\ndrop s2\ngc\ncensus\n",
+        output: b"= @1\n= @2\n= @3\n= ok\n= ok\n= ok\n= ok\n- free @2\n- free @3\n= ok\n+ @1\n= census 1\n",
+        status: Status::Done,
+    },
+    // A reflector that became a key lives as long as its native, and its entry with it.
+    Example {
+        name: "entry_preserves_its_reflector_key",
+        natives: 1000000,
+        scripts: 1000000,
+        bytes: 4294967295,
+        input: b"native n0 0\nwrap s1 n0\nweakmap s0\nscript s2 0\nwset s0 s1 s2\ndrop s1\ndrop s2\ngc\nwrap s1 n0\nwget s2 s0 s1\n",
+        output: b"= #1\n= ~1\n= @1\n= @2\n= ok\n= ok\n= ok\n= ok\n= ~1\n= @2\n",
+        status: Status::Done,
+    },
+    // Gc, collect and gc take a cycle that goes through an entry of a map that lives on.
+    Example {
+        name: "cycle_through_an_entry",
+        natives: 1000000,
+        scripts: 1000000,
+        bytes: 4294967295,
+        input: b"native n0 0\nwrap s1 n0\nweakmap s0\nscript s2 1\nput s2 0 s1\nwset s0 s1 s2\ndrop n0\ndrop s1\ndrop s2\ngc\ncollect\ngc\ncensus\n",
+        output: b"= #1\n= ~1\n= @1\n= @2\n= ok\n= ok\n= ok\n= ok\n= ok\n= ok\n- unlink #1\n= ok\n- free ~1\n- free #1\n- free @2\n= ok\n+ @1\n= census 1\n",
+        status: Status::Done,
+    },
+    // A collection keeps the value of an entry whose key a live native holds, and what the value leads to.
+    Example {
+        name: "value_lives_by_its_mapping",
+        natives: 1000000,
+        scripts: 1000000,
+        bytes: 4294967295,
+        input: b"native n0 1\nnative n1 0\nweakmap s0\nscript s1 0\nscript s2 1\nwrap s3 n1\nput s2 0 s3\nset n0 0 s1\nwset s0 s1 s2\ndrop s1\ndrop s2\ndrop s3\ndrop n1\ngc\ncollect\nget s1 n0 0\nwget s2 s0 s1\ntake s3 s2 0\nunwrap n1 s3\n",
+        output: b"= #1\n= #2\n= @1\n= @2\n= @3\n= ~2\n= ok\n= ok\n= ok\n= ok\n= ok\n= ok\n= ok\n= ok\n= ok\n= @2\n= @3\n= ~2\n= #2\n",
+        status: Status::Done,
+    },
+    // An entry's value is replaced, read and taken out; a register frees what it alone held when something else comes into it.
+    Example {
+        name: "entries_are_replaced_and_taken_out",
+        natives: 1000000,
+        scripts: 1000000,
+        bytes: 4294967295,
+        input: b"native n0 0\nnative n0 0\nweakmap s0\nscript s1 0\nscript s2 0\nwset s0 s1 s2\nwset s0 s1 s1\nwget s3 s0 s1\nwset s0 s1 none\nwget s3 s0 s1\ncopy s3 s3\ndrop s2\ngc\n",
+        output: b"= #1\n- free #1\n= #2\n= @1\n= @2\n= @3\n= ok\n= ok\n= @2\n= ok\n= none\n= none\n= ok\n- free @3\n= ok\n",
+        status: Status::Done,
+    },
+    // Reading a slot of a weak map is refused for the kind of the object, and not for the slot.
+    Example {
+        name: "weak_map_has_no_slot_to_read",
+        natives: 1000000,
+        scripts: 1000000,
+        bytes: 4294967295,
+        input: b"weakmap s0\ntake s1 s0 0\n",
+        output: b"= @1\n! kind\n",
+        status: Status::Done,
+    },
+    // An entry is not looked up by an empty register.
+    Example {
+        name: "empty_key_is_refused",
+        natives: 1000000,
+        scripts: 1000000,
+        bytes: 4294967295,
+        input: b"weakmap s0\nwget s1 s0 s9\nwget s1 s0 s0\n",
+        output: b"= @1\n! empty\n= none\n",
+        status: Status::Done,
+    },
     // A collection with two nodes takes a unit to begin, one for each node, and one to end.
     Example {
         name: "two_cycle_takes_four_units",
@@ -335,6 +405,16 @@ const EXAMPLES: [Example; 52] = [
         bytes: 4294967295,
         input: b"native n0 1\nset n0 0 n0\nnative n1 1\nscript s0 0\nset n1 0 s0\ndrop s0\ndrop n0\ngc\nslice 2\ndrop n1\nslice 2\n",
         output: b"= #1\n= ok\n= #2\n= @1\n= ok\n= ok\n= ok\n= ok\n= ok\n- free #2\n= ok\n- unlink #1\n- free #1\n= ok\n",
+        status: Status::Done,
+    },
+    // An entry whose value was replaced keeps its place, so its members are looked at before those of an entry that was set in between.
+    Example {
+        name: "replaced_entry_keeps_its_place",
+        natives: 1000000,
+        scripts: 1000000,
+        bytes: 4294967295,
+        input: b"native n0 2\nweakmap s0\nscript s1 0\nscript s2 1\nscript s3 0\nput s2 0 s3\nset n0 0 s1\nset n0 1 s2\nwset s0 s1 s2\nwset s0 s2 s2\nwset s0 s1 s1\ndrop s1\ndrop s2\ndrop s3\nnative n1 1\nset n1 0 n1\ndrop n1\ngc\nslice 4\nexpose n0 1\nslice 2\n",
+        output: b"= #1\n= @1\n= @2\n= @3\n= @4\n= ok\n= ok\n= ok\n= ok\n= ok\n= ok\n= ok\n= ok\n= ok\n= #2\n= ok\n= ok\n= ok\n= ok\n= @3\n- unlink #2\n- free #2\n= ok\n",
         status: Status::Done,
     },
     // Collect ends the collection that runs and begins another, which takes what became garbage in between.
@@ -437,6 +517,46 @@ const EXAMPLES: [Example; 52] = [
         output: b"= #1\n! line\n! line\n! line\n! line\n! line\n! line\n! line\n! line\n= ok\n+ #1\n= census 1\n",
         status: Status::Done,
     },
+    // Each register that must hold an object is refused where it is empty, and those that may be empty are not.
+    Example {
+        name: "empty_registers_are_refused",
+        natives: 1000000,
+        scripts: 1000000,
+        bytes: 4294967295,
+        input: b"native n0 1\nweakmap s0\nscript s1 1\nset n9 0 n0\nset n9 0 none\nset n0 0 n9\nset n0 0 s9\nget n1 n9 0\nexpose n9 0\nput s9 0 s1\nput s9 0 none\nput s1 0 s9\ntake s2 s9 0\nwrap s2 n9\nunwrap n1 s9\npreserve s9\nwset s9 s1 s1\nwset s0 s9 s1\nwset s0 s1 s9\nwset s9 s1 none\nwset s0 s9 none\nwget s2 s9 s1\nwget s2 s0 s9\ndrop n9\ncopy n9 n8\ncopy s9 s8\nget n9 n0 0\ntake s9 s1 0\nwget s9 s0 s1\nunwrap n9 s1\nwrap s9 n0\n",
+        output: b"= #1\n= @1\n= @2\n! empty\n! empty\n! empty\n! empty\n! empty\n! empty\n! empty\n! empty\n! empty\n! empty\n! empty\n! empty\n! empty\n! empty\n! empty\n! empty\n! empty\n! empty\n! empty\n! empty\n= ok\n= none\n= none\n= none\n= none\n= none\n! kind\n= ~1\n",
+        status: Status::Done,
+    },
+    // Each object of the wrong kind is refused.
+    Example {
+        name: "wrong_kinds_are_refused",
+        natives: 1000000,
+        scripts: 1000000,
+        bytes: 4294967295,
+        input: b"native n0 1\nwrap s0 n0\nweakmap s1\nscript s2 1\nput s1 0 s2\ntake s3 s1 0\nunwrap n1 s1\nunwrap n1 s2\npreserve s1\npreserve s2\nwset s0 s2 s2\nwset s2 s2 s2\nwset s2 s2 none\nwget s3 s0 s2\nwget s3 s2 s2\n",
+        output: b"= #1\n= ~1\n= @1\n= @2\n! kind\n! kind\n! kind\n! kind\n! kind\n! kind\n! kind\n! kind\n! kind\n! kind\n! kind\n",
+        status: Status::Done,
+    },
+    // An empty register is told before a wrong kind and a missing slot, a wrong kind before a missing slot, and this before what a slot holds.
+    Example {
+        name: "refusals_in_their_order",
+        natives: 1000000,
+        scripts: 1000000,
+        bytes: 4294967295,
+        input: b"weakmap s0\nscript s1 1\nnative n0 1\nput s0 0 s9\nwset s1 s9 s1\nwget s2 s1 s9\nset n0 9 s9\nput s0 9 s1\nset n0 0 n0\nget s9 n0 1\n",
+        output: b"= @1\n= @2\n= #1\n! empty\n! empty\n! empty\n! empty\n! kind\n= ok\n! slot\n",
+        status: Status::Done,
+    },
+    // What is refused, and what becomes of blank lines, comments, long lines and carriage returns.
+    Example {
+        name: "refusals_and_odd_lines",
+        natives: 1000000,
+        scripts: 1000000,
+        bytes: 4294967295,
+        input: b"native n0 1\nnative n1 0\nset n0 0 n1\nget s0 n0 0\nget s0 n0 7\nset n0 9 none\nset n0 9 n8\nexpose n0 0\nweakmap s0\nscript s1 0\nput s0 9 s1\nput s1 0 s0\nunwrap n0 s9\nunwrap n0 s1\nslice 0\ncollect now\n\n% note\naaaaaaaaaaaaaaaaaaaaaaaaaaaaaaaaaaaaaaaaaaaaaaaaaaaaaaaaaaaaaaaaaaaaaaaaaaaaaaaaaaaaaaaaaaaaaaaaaaaaaaaaaaaaaaaaaaaaaaaaa\ncensus\r\n",
+        output: b"= #1\n= #2\n= ok\n! kind\n! slot\n! slot\n! empty\n! kind\n= @1\n= @2\n! kind\n! slot\n! empty\n! kind\n! line\n! line\n! long\n+ #1\n+ #2\n+ @1\n+ @2\n= census 4\n",
+        status: Status::Done,
+    },
     // The greatest numbers of slots, indexes and registers are taken, and greater ones are not in the grammar.
     Example {
         name: "numbers_at_their_bounds",
@@ -495,6 +615,16 @@ const EXAMPLES: [Example; 52] = [
         bytes: 4294967295,
         input: b"script s0 0\ndrop s0\ngc\nscript s0 0\n",
         output: b"= @1\n= ok\n- free @1\n= ok\n! full\n",
+        status: Status::Done,
+    },
+    // Plain script objects and weak maps are counted together, up to the limit itself.
+    Example {
+        name: "limit_counts_weak_maps",
+        natives: 1000000,
+        scripts: 2,
+        bytes: 4294967295,
+        input: b"script s0 0\nweakmap s1\nweakmap s2\nscript s3 0\n",
+        output: b"= @1\n= @2\n! full\n! full\n",
         status: Status::Done,
     },
     // An input of as many bytes as may be read is read whole.

@@ -1,17 +1,18 @@
 -- WHAT FOLLOWS WHERE A COMMAND IS ANSWERED, by the laws: the reply is the graph's, the heaps go on standing for the graph,
 -- snapshots stay fresh, colours keep their invariant, and counts stay small.
 use Rattle.std.proofs.Common.{◌≡◌, ◌≢◌, ℕ, Bool, true, false, not, List, [], ◌++◌, Option, Some, None, IsTrue, refl, sym, ◌∙◌, ap, subst, inl, inr, ◌⊎◌, ⊎_elim, arith}
+use Rattle.std.specs.Option.{is_none}
 use Rattle.std.specs.List.{filter}
 use Rattle.std.proofs.lemmas.Bool.{false≢true, not-true}
 use Rattle.cc_lists.specs.Members.{Among, has}
 use Rattle.cc_lists.proofs.Members.{Among-append, Among-filter, Among-map_cases, Among-right, has-among}
 use Rattle.cc_names.specs.declared.name.Name.{Name}
 use Rattle.cc_names.specs.declared.name.Name.TheVariants as name
-use Rattle.cc_names.specs.declared.register.Reg.TheVariants.{N}
+use Rattle.cc_names.specs.declared.register.Reg.TheVariants.{N, S}
 use Rattle.cc_names.specs.Names.{native, reflector, same_name, is_native, is_script}
 use Rattle.cc_names.proofs.NameTests.{same_name-exact}
 use Rattle.cc_model.specs.declared.command.Command.{Command}
-use Rattle.cc_model.specs.declared.command.Command.TheVariants.{Native, Script, CopyNative, CopyScript, Drop, Set, Get, Put, Take, Wrap, Unwrap, Preserve, Expose}
+use Rattle.cc_model.specs.declared.command.Command.TheVariants.{Native, Script, WeakMap, CopyNative, CopyScript, Drop, Set, Get, Put, Take, Wrap, Unwrap, Preserve, SetEntry, GetEntry, Expose}
 use Rattle.cc_model.specs.declared.item.Refusal.{Refusal}
 use Rattle.cc_model.specs.declared.item.Refusal.TheVariants.{NoMemory}
 use Rattle.cc_model.specs.declared.item.Reply.{Reply}
@@ -49,6 +50,7 @@ use Rattle.cc_heaps.specs.Few.{AreFew}
 use Rattle.cc_heaps.specs.Standing.{StandsAfter}
 use Rattle.cc_heaps.specs.Keyed.{Keyed, IsInOrder}
 use Rattle.cc_mutator.specs.Commands.{IsApplied}
+use Rattle.cc_mutator.specs.Listing.{AreListedFor}
 
 -- Want of memory
 
@@ -71,11 +73,13 @@ reflector-unlisted h names k listed none = go (has same_name names (reflector k)
         let there : Among (reflector k) (native_names h ++ script_names h) = subst (Among (reflector k)) (sym listed) in_census in
         ⊎_elim (λ m. absurd (unnamed m)) (λ m. absurd (has_reflector-none h k none m)) (Among-append (reflector k) (native_names h) (script_names h) there)
 
--- a command that takes memory here may want it, where the listed names are those that are there
-takes-may_want : (h : Heap) (s : State) (c : Command) → StandsFor h s.graph → census_names h ≡ census_order s.listed → IsTrue (is_applied c) → takes_memory h c ≡ true →
+-- a command that takes memory here may want it: `wrap` where the listed names are those that are there, and `wset` where
+-- the graph has no entry either
+takes-may_want : (h : Heap) (s : State) (c : Command) → StandsFor h s.graph → AreListedFor c h s.listed → IsTrue (is_applied c) → takes_memory h c ≡ true →
     IsTrue (may_want_memory s c)
 takes-may_want h s (Native d n) stands listed applied takes = refl
 takes-may_want h s (Script d n) stands listed applied takes = refl
+takes-may_want h s (WeakMap d) stands listed applied takes = refl
 takes-may_want h s (CopyNative d r) stands listed applied takes = absurd (false≢true takes)
 takes-may_want h s (CopyScript d r) stands listed applied takes = absurd (false≢true takes)
 takes-may_want h s (Drop r) stands listed applied takes = absurd (false≢true takes)
@@ -93,6 +97,9 @@ takes-may_want h s (Wrap d n) stands listed applied takes =
     go (Some (name.Reflector k)) e = absurd (false≢true e)
 takes-may_want h s (Unwrap d r) stands listed applied takes = absurd (false≢true takes)
 takes-may_want h s (Preserve r) stands listed applied takes = absurd (false≢true takes)
+takes-may_want h s (SetEntry m k (Some v)) stands listed applied takes = ap is_none (sym ((objects-stand h s.graph stands).value (S m) (S k))) ∙ takes
+takes-may_want h s (SetEntry m k None) stands listed applied takes = absurd (false≢true takes)
+takes-may_want h s (GetEntry d m k) stands listed applied takes = absurd (false≢true takes)
 takes-may_want h s (Expose r i) stands listed applied takes = absurd (false≢true takes)
 takes-may_want h s _ stands listed applied takes = absurd (false≢true applied)
 
@@ -107,8 +114,8 @@ module _ (c : Command) (old new : Keyed) (reply : Reply) (before after : Telling
       go None e true f = inl (ap (λ (v : Keyed). v.heap) (a.memory (is_without_memory-true reply f)).2)
       go None e false f = inr (e, (a.done e (with-memory reply f)).heap)
 
-  -- THE REPLY IS THE GRAPH'S, for each graph that the heaps stand for, or want of memory, where the listed names are those there
-  pub applied-replies : IsTrue (is_applied c) → (s : State) → StandsFor old.heap s.graph → census_names old.heap ≡ census_order s.listed → RepliesWith s c reply
+  -- THE REPLY IS THE GRAPH'S, for each graph that the heaps stand for, or want of memory
+  pub applied-replies : IsTrue (is_applied c) → (s : State) → StandsFor old.heap s.graph → AreListedFor c old.heap s.listed → RepliesWith s c reply
   applied-replies applied s stands listed = go (refusal_of (objects_of old.heap) c) refl (is_without_memory reply) refl
     where
       alike : refusal_of (objects_of old.heap) c ≡ refusal_of (graph.objects_of s.graph) c

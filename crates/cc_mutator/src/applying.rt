@@ -13,8 +13,6 @@ ghost use Rattle.cc_model.specs.Effects.{put_in_script, store_native, takes_memo
 ghost use Rattle.cc_model.specs.Exposure.{exposed};
 ghost use Rattle.cc_model.specs.Heap.{objects_of, register};
 ghost use Rattle.cc_model.specs.Lawful.{State, RepliesWith, graph_after};
-ghost use Rattle.cc_model.specs.Listed.{census_order};
-ghost use Rattle.cc_model.specs.Run.{census_names};
 ghost use Rattle.cc_model.specs.Mutating.{is_applied};
 ghost use Rattle.cc_model.specs.Ranges.{in_range};
 ghost use Rattle.cc_model.specs.StandsFor.{StandsFor};
@@ -26,6 +24,7 @@ ghost use Rattle.cc_heaps.specs.Few.{AreFew};
 ghost use Rattle.cc_heaps.specs.Standing.{StandsAfter, KeepsFresh, KeepsSuspected};
 ghost use Rattle.cc_mutator.specs.Applied.{IsCarriedOut};
 ghost use Rattle.cc_mutator.specs.Commands.{IsApplied};
+ghost use Rattle.cc_mutator.specs.Listing.{AreListedFor};
 
 use crate::checks::{
     refusal_of_expose, refusal_of_get_native, refusal_of_get_script, refusal_of_put,
@@ -360,7 +359,7 @@ pub fn apply<N: Notices>(heaps: &mut Heaps, command: &Command, out: &mut N) -> R
     ensures memory { result ≡ refused no_memory →
         (refusal_of (objects_of heaps.old.heap) command.now ≡ None) × (takes_memory heaps.old.heap command.now ≡ true)
         × (heaps.new ≡ heaps.old) × (N.telling out.new ≡ N.telling out.old) }
-    ensures replies { (s : State) → StandsFor heaps.old.heap s.graph → census_names heaps.old.heap ≡ census_order s.listed →
+    ensures replies { (s : State) → StandsFor heaps.old.heap s.graph → AreListedFor command.now heaps.old.heap s.listed →
         RepliesWith s command.now result }
     ensures stands { StandsAfter heaps.old.heap heaps.new.heap (λ g. graph_after g command.now (Some result)) }
     ensures fresh { KeepsFresh heaps.old.heap heaps.new.heap }

@@ -1,4 +1,3 @@
-pub mod FormsNow
 pub mod Words
 pub mod Pending
 pub mod HasRead

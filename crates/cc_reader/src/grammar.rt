@@ -3,10 +3,9 @@
 ghost use Rattle.std.specs.Prelude.{◌≡◌, ◌<◌, [], ◌∷◌, length, IsTrue, IfSome};
 ghost use Rattle.cc_model.specs.Lines.{without_return};
 ghost use Rattle.cc_model.specs.Tokens.{tokens_of};
-ghost use Rattle.cc_model.specs.Forms.{census_form, collect_form, copy_native_form, copy_script_form, drop_native_form, drop_script_form, expose_form, gc_form, get_native_form, get_script_form, native_form, preserve_form, put_none_form, put_script_form, script_form, set_native_form, set_none_form, set_script_form, slice_form, take_form, unwrap_form, wrap_form};
+ghost use Rattle.cc_model.specs.Forms.{census_form, collect_form, copy_native_form, copy_script_form, drop_native_form, drop_script_form, expose_form, gc_form, get_entry_form, get_native_form, get_script_form, native_form, preserve_form, put_none_form, put_script_form, script_form, set_entry_form, set_native_form, set_none_form, set_script_form, slice_form, take_form, unset_entry_form, unwrap_form, version_one_forms, weak_map_form, wrap_form};
 ghost use Rattle.cc_model.specs.Ranges.{in_range};
 ghost use Rattle.cc_model.specs.Asks.{command_in, command_of};
-ghost use Rattle.cc_reader.specs.FormsNow.{forms_now, is_known};
 ghost use Rattle.cc_reader.specs.Words.{first_read};
 
 use crate::tokens::{
@@ -33,7 +32,6 @@ fn without_return(line: &[u8]) -> &[u8]
 /// The command of the word `native`, by the tokens that stand behind it. None where they are in no form of it.
 fn read_native(after: &[u8]) -> Option<Command>
     ensures form { result ≡ first_read (native_form ∷ []) (tokens_of after.now) }
-    ensures known { IfSome result (λ c. IsTrue (is_known c)) }
     ensures in_range { IfSome result (λ c. IsTrue (in_range c)) }
 {
     let (to, slots) = two_tokens(after)?;
@@ -43,17 +41,24 @@ fn read_native(after: &[u8]) -> Option<Command>
 /// The command of the word `script`, by the tokens that stand behind it. None where they are in no form of it.
 fn read_script(after: &[u8]) -> Option<Command>
     ensures form { result ≡ first_read (script_form ∷ []) (tokens_of after.now) }
-    ensures known { IfSome result (λ c. IsTrue (is_known c)) }
     ensures in_range { IfSome result (λ c. IsTrue (in_range c)) }
 {
     let (to, slots) = two_tokens(after)?;
     Some(Command::Script(script(to)?, slots_number(slots)?))
 }
 
+/// The command of the word `weakmap`, by the tokens that stand behind it. None where they are in no form of it.
+fn read_weak_map(after: &[u8]) -> Option<Command>
+    ensures form { result ≡ first_read (weak_map_form ∷ []) (tokens_of after.now) }
+    ensures in_range { IfSome result (λ c. IsTrue (in_range c)) }
+{
+    let to = one_token(after)?;
+    Some(Command::WeakMap(script(to)?))
+}
+
 /// The command of the word `copy`, by the tokens that stand behind it. None where they are in no form of it.
 fn read_copy(after: &[u8]) -> Option<Command>
     ensures form { result ≡ first_read (copy_native_form ∷ copy_script_form ∷ []) (tokens_of after.now) }
-    ensures known { IfSome result (λ c. IsTrue (is_known c)) }
     ensures in_range { IfSome result (λ c. IsTrue (in_range c)) }
 {
     let (to, from) = two_tokens(after)?;
@@ -66,7 +71,6 @@ fn read_copy(after: &[u8]) -> Option<Command>
 /// The command of the word `drop`, by the tokens that stand behind it. None where they are in no form of it.
 fn read_drop(after: &[u8]) -> Option<Command>
     ensures form { result ≡ first_read (drop_native_form ∷ drop_script_form ∷ []) (tokens_of after.now) }
-    ensures known { IfSome result (λ c. IsTrue (is_known c)) }
     ensures in_range { IfSome result (λ c. IsTrue (in_range c)) }
 {
     let register = one_token(after)?;
@@ -76,7 +80,6 @@ fn read_drop(after: &[u8]) -> Option<Command>
 /// The command of the word `set`, by the tokens that stand behind it. None where they are in no form of it.
 fn read_set(after: &[u8]) -> Option<Command>
     ensures form { result ≡ first_read (set_native_form ∷ set_script_form ∷ set_none_form ∷ []) (tokens_of after.now) }
-    ensures known { IfSome result (λ c. IsTrue (is_known c)) }
     ensures in_range { IfSome result (λ c. IsTrue (in_range c)) }
 {
     let (to, slot, from) = three_tokens(after)?;
@@ -97,7 +100,6 @@ fn read_set(after: &[u8]) -> Option<Command>
 /// The command of the word `get`, by the tokens that stand behind it. None where they are in no form of it.
 fn read_get(after: &[u8]) -> Option<Command>
     ensures form { result ≡ first_read (get_native_form ∷ get_script_form ∷ []) (tokens_of after.now) }
-    ensures known { IfSome result (λ c. IsTrue (is_known c)) }
     ensures in_range { IfSome result (λ c. IsTrue (in_range c)) }
 {
     let (to, from, slot) = three_tokens(after)?;
@@ -110,7 +112,6 @@ fn read_get(after: &[u8]) -> Option<Command>
 /// The command of the word `put`, by the tokens that stand behind it. None where they are in no form of it.
 fn read_put(after: &[u8]) -> Option<Command>
     ensures form { result ≡ first_read (put_script_form ∷ put_none_form ∷ []) (tokens_of after.now) }
-    ensures known { IfSome result (λ c. IsTrue (is_known c)) }
     ensures in_range { IfSome result (λ c. IsTrue (in_range c)) }
 {
     let (to, slot, from) = three_tokens(after)?;
@@ -131,7 +132,6 @@ fn read_put(after: &[u8]) -> Option<Command>
 /// The command of the word `take`, by the tokens that stand behind it. None where they are in no form of it.
 fn read_take(after: &[u8]) -> Option<Command>
     ensures form { result ≡ first_read (take_form ∷ []) (tokens_of after.now) }
-    ensures known { IfSome result (λ c. IsTrue (is_known c)) }
     ensures in_range { IfSome result (λ c. IsTrue (in_range c)) }
 {
     let (to, from, slot) = three_tokens(after)?;
@@ -144,7 +144,6 @@ fn read_take(after: &[u8]) -> Option<Command>
 /// The command of the word `wrap`, by the tokens that stand behind it. None where they are in no form of it.
 fn read_wrap(after: &[u8]) -> Option<Command>
     ensures form { result ≡ first_read (wrap_form ∷ []) (tokens_of after.now) }
-    ensures known { IfSome result (λ c. IsTrue (is_known c)) }
     ensures in_range { IfSome result (λ c. IsTrue (in_range c)) }
 {
     let (to, from) = two_tokens(after)?;
@@ -154,7 +153,6 @@ fn read_wrap(after: &[u8]) -> Option<Command>
 /// The command of the word `unwrap`, by the tokens that stand behind it. None where they are in no form of it.
 fn read_unwrap(after: &[u8]) -> Option<Command>
     ensures form { result ≡ first_read (unwrap_form ∷ []) (tokens_of after.now) }
-    ensures known { IfSome result (λ c. IsTrue (is_known c)) }
     ensures in_range { IfSome result (λ c. IsTrue (in_range c)) }
 {
     let (to, from) = two_tokens(after)?;
@@ -164,17 +162,44 @@ fn read_unwrap(after: &[u8]) -> Option<Command>
 /// The command of the word `preserve`, by the tokens that stand behind it. None where they are in no form of it.
 fn read_preserve(after: &[u8]) -> Option<Command>
     ensures form { result ≡ first_read (preserve_form ∷ []) (tokens_of after.now) }
-    ensures known { IfSome result (λ c. IsTrue (is_known c)) }
     ensures in_range { IfSome result (λ c. IsTrue (in_range c)) }
 {
     let register = one_token(after)?;
     Some(Command::Preserve(script(register)?))
 }
 
+/// The command of the word `wset`, by the tokens that stand behind it. None where they are in no form of it.
+fn read_set_entry(after: &[u8]) -> Option<Command>
+    ensures form { result ≡ first_read (set_entry_form ∷ unset_entry_form ∷ []) (tokens_of after.now) }
+    ensures in_range { IfSome result (λ c. IsTrue (in_range c)) }
+{
+    let (map, key, value) = three_tokens(after)?;
+    let map = script(map)?;
+    let key = script(key)?;
+    match script(value) {
+        Some(source) => Some(Command::SetEntry(map, key, Some(source))),
+        None => {
+            if value == b"none".as_slice() {
+                Some(Command::SetEntry(map, key, None))
+            } else {
+                None
+            }
+        }
+    }
+}
+
+/// The command of the word `wget`, by the tokens that stand behind it. None where they are in no form of it.
+fn read_get_entry(after: &[u8]) -> Option<Command>
+    ensures form { result ≡ first_read (get_entry_form ∷ []) (tokens_of after.now) }
+    ensures in_range { IfSome result (λ c. IsTrue (in_range c)) }
+{
+    let (to, map, key) = three_tokens(after)?;
+    Some(Command::GetEntry(script(to)?, script(map)?, script(key)?))
+}
+
 /// The command of the word `expose`, by the tokens that stand behind it. None where they are in no form of it.
 fn read_expose(after: &[u8]) -> Option<Command>
     ensures form { result ≡ first_read (expose_form ∷ []) (tokens_of after.now) }
-    ensures known { IfSome result (λ c. IsTrue (is_known c)) }
     ensures in_range { IfSome result (λ c. IsTrue (in_range c)) }
 {
     let (from, slot) = two_tokens(after)?;
@@ -186,7 +211,6 @@ fn read_expose(after: &[u8]) -> Option<Command>
 /// The command of the word `slice`, by the tokens that stand behind it. None where they are in no form of it.
 fn read_slice(after: &[u8]) -> Option<Command>
     ensures form { result ≡ first_read (slice_form ∷ []) (tokens_of after.now) }
-    ensures known { IfSome result (λ c. IsTrue (is_known c)) }
     ensures in_range { IfSome result (λ c. IsTrue (in_range c)) }
 {
     let units = one_token(after)?;
@@ -196,7 +220,6 @@ fn read_slice(after: &[u8]) -> Option<Command>
 /// The command of the word `collect`, by the tokens that stand behind it. None where they are in no form of it.
 fn read_collect(after: &[u8]) -> Option<Command>
     ensures form { result ≡ first_read (collect_form ∷ []) (tokens_of after.now) }
-    ensures known { IfSome result (λ c. IsTrue (is_known c)) }
     ensures in_range { IfSome result (λ c. IsTrue (in_range c)) }
 {
     match next_token(after) {
@@ -208,7 +231,6 @@ fn read_collect(after: &[u8]) -> Option<Command>
 /// The command of the word `gc`, by the tokens that stand behind it. None where they are in no form of it.
 fn read_gc(after: &[u8]) -> Option<Command>
     ensures form { result ≡ first_read (gc_form ∷ []) (tokens_of after.now) }
-    ensures known { IfSome result (λ c. IsTrue (is_known c)) }
     ensures in_range { IfSome result (λ c. IsTrue (in_range c)) }
 {
     match next_token(after) {
@@ -220,7 +242,6 @@ fn read_gc(after: &[u8]) -> Option<Command>
 /// The command of the word `census`, by the tokens that stand behind it. None where they are in no form of it.
 fn read_census(after: &[u8]) -> Option<Command>
     ensures form { result ≡ first_read (census_form ∷ []) (tokens_of after.now) }
-    ensures known { IfSome result (λ c. IsTrue (is_known c)) }
     ensures in_range { IfSome result (λ c. IsTrue (in_range c)) }
 {
     match next_token(after) {
@@ -231,14 +252,15 @@ fn read_census(after: &[u8]) -> Option<Command>
 
 /// The command of a word and what stands behind it.
 fn read_word(word: &[u8], after: &[u8]) -> Option<Command>
-    ensures form { result ≡ command_in forms_now word.now (tokens_of after.now) }
-    ensures known { IfSome result (λ c. IsTrue (is_known c)) }
+    ensures form { result ≡ command_in version_one_forms word.now (tokens_of after.now) }
     ensures in_range { IfSome result (λ c. IsTrue (in_range c)) }
 {
     if word == b"native".as_slice() {
         read_native(after)
     } else if word == b"script".as_slice() {
         read_script(after)
+    } else if word == b"weakmap".as_slice() {
+        read_weak_map(after)
     } else if word == b"copy".as_slice() {
         read_copy(after)
     } else if word == b"drop".as_slice() {
@@ -257,6 +279,10 @@ fn read_word(word: &[u8], after: &[u8]) -> Option<Command>
         read_unwrap(after)
     } else if word == b"preserve".as_slice() {
         read_preserve(after)
+    } else if word == b"wset".as_slice() {
+        read_set_entry(after)
+    } else if word == b"wget".as_slice() {
+        read_get_entry(after)
     } else if word == b"expose".as_slice() {
         read_expose(after)
     } else if word == b"slice".as_slice() {
@@ -277,8 +303,7 @@ fn read_word(word: &[u8], after: &[u8]) -> Option<Command>
 /// A carriage return at its end is dropped. A blank line and a comment, whose first token begins with `%`, are
 /// `Command::Nothing`. No memory is taken.
 pub fn parse(text: &[u8]) -> Option<Command>
-    ensures command { result ≡ command_of forms_now text.now }
-    ensures known { IfSome result (λ c. IsTrue (is_known c)) }
+    ensures command { result ≡ command_of version_one_forms text.now }
     ensures in_range { IfSome result (λ c. IsTrue (in_range c)) }
 {
     let line = without_return(text);

@@ -5,8 +5,9 @@
 //! Below it a `Window` holds the bytes that were taken and not yet used. Of a source with more bytes than the
 //! limit one byte above it is taken, to know that there is more, and it is never used.
 //!
-//! `parse` reads a line's command off its tokens. A further word of the grammar is a form in
-//! `specs/FormsNow.antt`, one arm in `grammar::read_word`, and one small function.
+//! `parse` reads a line's command off its tokens: of a line in any form of the grammar of version 1,
+//! `version_one_forms` of cc_model. Each word of the grammar is one arm in `grammar::read_word`, and one small
+//! function.
 #![tactic(auto)]
 
 mod grammar;

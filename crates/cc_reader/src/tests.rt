@@ -60,7 +60,7 @@ fn lines_are_parsed(rt: HostRuntime) {
 
 #[test]
 fn words_of_script_objects_are_parsed(rt: HostRuntime) {
-    let table: [(&[u8], Option<Command>); 40] = [
+    let table: [(&[u8], Option<Command>); 39] = [
         (b"script s0 64", Some(Command::Script(0, 64))),
         (b"script s255 0", Some(Command::Script(255, 0))),
         (b"script s0 65", None),
@@ -108,7 +108,6 @@ fn words_of_script_objects_are_parsed(rt: HostRuntime) {
         (b"gc now", None),
         (b"GC", None),
         (b"collect", Some(Command::Collect)),
-        (b"weakmap s0", None),
         (b"slice 0", None),
     ];
     for (line, want) in table.iter() {
@@ -133,6 +132,35 @@ fn words_of_reflectors_are_parsed(rt: HostRuntime) {
         (b"preserve n7", None),
         (b"preserve none", None),
         (b"preserve", None),
+    ];
+    for (line, want) in table.iter() {
+        assert_eq!(rt; parse(line), *want, "at {line:?}");
+    }
+}
+
+#[test]
+fn words_of_weak_maps_are_parsed(rt: HostRuntime) {
+    let table: [(&[u8], Option<Command>); 20] = [
+        (b"weakmap s0", Some(Command::WeakMap(0))),
+        (b"weakmap s255", Some(Command::WeakMap(255))),
+        (b"weakmap s256", None),
+        (b"weakmap n0", None),
+        (b"weakmap s0 1", None),
+        (b"weakmap", None),
+        (b"wset s1 s2 s3", Some(Command::SetEntry(1, 2, Some(3)))),
+        (b"wset s7 s7 s7", Some(Command::SetEntry(7, 7, Some(7)))),
+        (b"wset s1 s2 none", Some(Command::SetEntry(1, 2, None))),
+        (b"wset s1 s2 None", None),
+        (b"wset s1 none s3", None),
+        (b"wset n1 s2 s3", None),
+        (b"wset s1 n2 s3", None),
+        (b"wset s1 s2 n3", None),
+        (b"wset s1 s2", None),
+        (b"wget s1 s2 s3", Some(Command::GetEntry(1, 2, 3))),
+        (b"wget n1 s2 s3", None),
+        (b"wget s1 n2 s3", None),
+        (b"wget s1 s2 none", None),
+        (b"wget s1 s2 s3 s4", None),
     ];
     for (line, want) in table.iter() {
         assert_eq!(rt; parse(line), *want, "at {line:?}");

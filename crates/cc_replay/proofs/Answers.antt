@@ -21,7 +21,7 @@ use Rattle.cc_laws_run.proofs.Ample.{turns-ample}
 use Rattle.cc_laws_run.proofs.InARow.{OneList, one_list}
 use Rattle.cc_laws_run.proofs.PlainLawful.{run-lawful}
 use Rattle.cc_laws_run.proofs.PlainQuiet.{run-quiet}
-use Rattle.cc_reader.specs.FormsNow.{forms_now}
+use Rattle.cc_model.specs.Forms.{version_one_forms}
 use Rattle.cc_reader.specs.Pending.{Pending}
 use Rattle.cc_reader.specs.Given.{AreFirst, HasGiven}
 use Rattle.cc_reader.proofs.Given.{HasGiven-first}
@@ -64,15 +64,15 @@ AreAnswered-more : (k₀ k₁ k₂ : Machine) (lines : List (List ℕ)) (line : 
 AreAnswered-more k₀ k₁ k₂ lines line t₀ t₁ t₂ a l = record {
   answers = a.answers ++ l.answered.answer ∷ [];
   done = subst (λ (asks : List Ask). AreDoneFor k₀ asks (a.answers ++ l.answered.answer ∷ []) k₂) (sym asks)
-      (AreDoneFor-more k₀ k₁ k₂ (map (ask_of forms_now) lines) a.answers (ask_of forms_now line) l.answered.answer a.done l.answered.done);
-  in_range = ap (list_all ask_in_range) asks ∙ (list_all-append ask_in_range (map (ask_of forms_now) lines) (ask_of forms_now line ∷ [])
+      (AreDoneFor-more k₀ k₁ k₂ (map (ask_of version_one_forms) lines) a.answers (ask_of version_one_forms line) l.answered.answer a.done l.answered.done);
+  in_range = ap (list_all ask_in_range) asks ∙ (list_all-append ask_in_range (map (ask_of version_one_forms) lines) (ask_of version_one_forms line ∷ [])
       ∙ and_from _ _ a.in_range (and_from _ true l.in_range refl));
   told = subst (Tells t₀ t₂) (sym (text_of_answers-more a.answers l.answered.answer))
       (Tells-trans t₀ t₁ t₂ (text_of_answers a.answers) (texts_of (items_of l.answered.answer)) a.told l.answered.told);
 }
   where
-    asks : map (ask_of forms_now) (lines ++ line ∷ []) ≡ map (ask_of forms_now) lines ++ ask_of forms_now line ∷ []
-    asks = map-append (ask_of forms_now) lines (line ∷ [])
+    asks : map (ask_of version_one_forms) (lines ++ line ∷ []) ≡ map (ask_of version_one_forms) lines ++ ask_of version_one_forms line ∷ []
+    asks = map-append (ask_of version_one_forms) lines (line ∷ [])
 
 -- a reader that has given no line, with nothing answered
 pub Answers-none : (m : Moment) → Answers HasGiven m m
@@ -110,7 +110,7 @@ Answers-more {m₀ = m₀} {m₁ = m₁} {m₂ = m₂} a l = record {
 
 -- WHAT IS TOLD FOR LINES THAT ARE ANSWERED, from the empty heaps on, is a transcript of what they ask
 pub AreAnswered-transcript : (limits : Allowance) (k : Machine) (lines : List (List ℕ)) (t₀ t₁ : Telling) (a : AreAnswered (empty_machine limits []) k lines t₀ t₁) →
-    IsTranscript limits (map (ask_of forms_now) lines) (text_of_answers a.answers)
+    IsTranscript limits (map (ask_of version_one_forms) lines) (text_of_answers a.answers)
 AreAnswered-transcript limits k lines t₀ t₁ a = record {
   memory = o.memory;
   text_is = ap text_of_answers (sym o.answered);
@@ -121,7 +121,7 @@ AreAnswered-transcript limits k lines t₀ t₁ a = record {
 }
   where
     asks : List Ask
-    asks = map (ask_of forms_now) lines
+    asks = map (ask_of version_one_forms) lines
 
     o : OneList (empty_machine limits []) k asks a.answers
     o = one_list (empty_machine limits []) k asks a.answers a.done

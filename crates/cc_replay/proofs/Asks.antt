@@ -12,21 +12,21 @@ use Rattle.cc_model.specs.Collecting.{Machine}
 use Rattle.cc_model.specs.Run.{do_ask}
 use Rattle.cc_laws_run.specs.Memory.{IsDoneFor}
 use Rattle.cc_laws_run.specs.Running.{ask_in_range}
-use Rattle.cc_reader.specs.FormsNow.{forms_now}
+use Rattle.cc_model.specs.Forms.{version_one_forms}
 use Rattle.cc_replay.specs.Answering.{LineIsAnswered}
 
 -- a line of at most 120 bytes asks what its command says
-ask_of-short : (line : List ℕ) → length line ≤ 120 → ask_of forms_now line ≡ taken_or_bad (command_of forms_now line)
+ask_of-short : (line : List ℕ) → length line ≤ 120 → ask_of version_one_forms line ≡ taken_or_bad (command_of version_one_forms line)
 ask_of-short line short = go (nat_lt longest_line (length line)) refl
   where
     go : (b : Bool) → nat_lt longest_line (length line) ≡ b →
-        (elim b as (λ _. Ask) [ true ↦ long | false ↦ taken_or_bad (command_of forms_now line) ]) ≡ taken_or_bad (command_of forms_now line)
+        (elim b as (λ _. Ask) [ true ↦ long | false ↦ taken_or_bad (command_of version_one_forms line) ]) ≡ taken_or_bad (command_of version_one_forms line)
     go true e = absurd (omega (arith, ltb-true longest_line (length line) e))
     go false e = refl
 
 -- a longer one is too long
-ask_of-long : (line : List ℕ) → 120 < length line → ask_of forms_now line ≡ long
-ask_of-long line above = ap (λ b. elim b as (λ _. Ask) [ true ↦ long | false ↦ taken_or_bad (command_of forms_now line) ]) (lt-ltb longest_line (length line) above)
+ask_of-long : (line : List ℕ) → 120 < length line → ask_of version_one_forms line ≡ long
+ask_of-long line above = ap (λ b. elim b as (λ _. Ask) [ true ↦ long | false ↦ taken_or_bad (command_of version_one_forms line) ]) (lt-ltb longest_line (length line) above)
 
 -- a line that is too long, and one that is not in the grammar, change nothing
 IsDoneFor-long : (m : Machine) → IsDoneFor m long (replying [] (Refused Long)) m
@@ -38,7 +38,7 @@ unfolding do_ask
 IsDoneFor-bad m = record { memory = []; answer = refl; after = record { heap = refl; snapshot = refl } }
 
 -- so it is answered by its refusal alone
-answered-as : {ask : Ask} (answer : Answer) (m : Machine) (line : List ℕ) {before after : Telling} → ask_of forms_now line ≡ ask → IsDoneFor m ask answer m →
+answered-as : {ask : Ask} (answer : Answer) (m : Machine) (line : List ℕ) {before after : Telling} → ask_of version_one_forms line ≡ ask → IsDoneFor m ask answer m →
     ask_in_range ask ≡ true → TellsItems before after (items_of answer) → LineIsAnswered m m line before after
 answered-as answer m line asks done in_range told = record {
   answered = record { answer = answer; done = subst (λ a. IsDoneFor m a answer m) (sym asks) done; told = told };
@@ -49,7 +49,7 @@ pub answered-long : (m : Machine) (line : List ℕ) {before after : Telling} →
     TellsItems before after (items_of (replying [] (Refused Long))) → LineIsAnswered m m line before after
 answered-long m line above told = answered-as (replying [] (Refused Long)) m line (ask_of-long line above) (IsDoneFor-long m) refl told
 
-pub answered-bad : (m : Machine) (line : List ℕ) {before after : Telling} → length line ≤ 120 → command_of forms_now line ≡ None →
+pub answered-bad : (m : Machine) (line : List ℕ) {before after : Telling} → length line ≤ 120 → command_of version_one_forms line ≡ None →
     TellsItems before after (items_of (replying [] (Refused Line))) → LineIsAnswered m m line before after
 answered-bad m line short none told =
     answered-as (replying [] (Refused Line)) m line (ask_of-short line short ∙ ap taken_or_bad none) (IsDoneFor-bad m) refl told

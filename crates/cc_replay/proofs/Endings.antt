@@ -6,7 +6,7 @@ use Rattle.cc_model.specs.Asks.{ask_of}
 use Rattle.cc_model.specs.Collecting.{Machine, empty_machine}
 use Rattle.cc_model.specs.Lines.{ended_lines_of}
 use Rattle.cc_outside.specs.Reads.{Reads}
-use Rattle.cc_reader.specs.FormsNow.{forms_now}
+use Rattle.cc_model.specs.Forms.{version_one_forms}
 use Rattle.cc_reader.specs.Pending.{Pending, nothing_read}
 use Rattle.cc_reader.specs.Given
 use Rattle.cc_reader.specs.Given.{HasGiven, IsWhole, IsBroken, IsOver, AreFirst, LastUnended}
@@ -44,7 +44,7 @@ module _ (limits : Allowance) (m₀ m₁ : Moment) (r₀ r₁ : Reads) (begins :
 
   -- the text of a transcript of these lines is written
   abbrev AreWritten : List (List ℕ) → Type 0
-  AreWritten lines = Writes limits (map (ask_of forms_now) lines) m₀.telling.told m₁.telling.told
+  AreWritten lines = Writes limits (map (ask_of version_one_forms) lines) m₀.telling.told m₁.telling.told
 
   -- the lines that were given, answered from the empty heaps on
   module _ {IsGiven : Option (List ℕ) → Option (List ℕ) → Pending → List (List ℕ) → Type 0} (a : Answers IsGiven m₀ m₁) where

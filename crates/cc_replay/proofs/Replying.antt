@@ -24,7 +24,6 @@ use Rattle.cc_model.proofs.Replies.{is_without_memory-true}
 use Rattle.cc_model.proofs.Tellings.{Tells-nil}
 use Rattle.cc_heaps.specs.Keyed.{Keyed}
 use Rattle.cc_mutator.specs.Applied.{IsCarriedOut}
-use Rattle.cc_reader.specs.FormsNow.{is_known}
 use Rattle.cc_replay.specs.Answered.{IsAnswered}
 use Rattle.cc_builder.specs.Building.{Built}
 use Rattle.cc_collector.specs.Kept.{machine_of}
@@ -32,29 +31,29 @@ use Rattle.cc_collector.specs.Collected.{LedTo, IsSliced, IsCollected, IsSwept}
 use Rattle.cc_laws_run.specs.Memory.{with_memory}
 use Rattle.cc_replay.proofs.Tellings.{told-last}
 
--- A command that is known is one of the mutator, where it is none of these
-pub known-applied : (c : Command) → IsTrue (is_known c) → c ≢ command.Nothing → c ≢ command.Census → ((u : ℕ) → c ≢ command.Slice u) → c ≢ command.Collect → c ≢ command.Gc → IsTrue (is_applied c)
-known-applied command.Nothing known nothing census slice collect gc_one = absurd (nothing refl)
-known-applied (command.Native d n) known nothing census slice collect gc_one = refl
-known-applied (command.Script d n) known nothing census slice collect gc_one = refl
-known-applied (command.WeakMap d) known nothing census slice collect gc_one = known
-known-applied (command.CopyNative d s) known nothing census slice collect gc_one = refl
-known-applied (command.CopyScript d s) known nothing census slice collect gc_one = refl
-known-applied (command.Drop r) known nothing census slice collect gc_one = refl
-known-applied (command.Set d i r) known nothing census slice collect gc_one = refl
-known-applied (command.Get r s i) known nothing census slice collect gc_one = refl
-known-applied (command.Put d i s) known nothing census slice collect gc_one = refl
-known-applied (command.Take d s i) known nothing census slice collect gc_one = refl
-known-applied (command.Wrap d s) known nothing census slice collect gc_one = known
-known-applied (command.Unwrap d s) known nothing census slice collect gc_one = known
-known-applied (command.Preserve s) known nothing census slice collect gc_one = known
-known-applied (command.SetEntry m k v) known nothing census slice collect gc_one = known
-known-applied (command.GetEntry d m k) known nothing census slice collect gc_one = known
-known-applied (command.Expose s i) known nothing census slice collect gc_one = refl
-known-applied (command.Slice u) known nothing census slice collect gc_one = absurd (slice u refl)
-known-applied command.Collect known nothing census slice collect gc_one = absurd (collect refl)
-known-applied command.Gc known nothing census slice collect gc_one = absurd (gc_one refl)
-known-applied command.Census known nothing census slice collect gc_one = absurd (census refl)
+-- A command is one of the mutator, where it is none of these
+pub others-applied : (c : Command) → c ≢ command.Nothing → c ≢ command.Census → ((u : ℕ) → c ≢ command.Slice u) → c ≢ command.Collect → c ≢ command.Gc → IsTrue (is_applied c)
+others-applied command.Nothing nothing census slice collect gc_one = absurd (nothing refl)
+others-applied (command.Native d n) nothing census slice collect gc_one = refl
+others-applied (command.Script d n) nothing census slice collect gc_one = refl
+others-applied (command.WeakMap d) nothing census slice collect gc_one = refl
+others-applied (command.CopyNative d s) nothing census slice collect gc_one = refl
+others-applied (command.CopyScript d s) nothing census slice collect gc_one = refl
+others-applied (command.Drop r) nothing census slice collect gc_one = refl
+others-applied (command.Set d i r) nothing census slice collect gc_one = refl
+others-applied (command.Get r s i) nothing census slice collect gc_one = refl
+others-applied (command.Put d i s) nothing census slice collect gc_one = refl
+others-applied (command.Take d s i) nothing census slice collect gc_one = refl
+others-applied (command.Wrap d s) nothing census slice collect gc_one = refl
+others-applied (command.Unwrap d s) nothing census slice collect gc_one = refl
+others-applied (command.Preserve s) nothing census slice collect gc_one = refl
+others-applied (command.SetEntry m k v) nothing census slice collect gc_one = refl
+others-applied (command.GetEntry d m k) nothing census slice collect gc_one = refl
+others-applied (command.Expose s i) nothing census slice collect gc_one = refl
+others-applied (command.Slice u) nothing census slice collect gc_one = absurd (slice u refl)
+others-applied command.Collect nothing census slice collect gc_one = absurd (collect refl)
+others-applied command.Gc nothing census slice collect gc_one = absurd (gc_one refl)
+others-applied command.Census nothing census slice collect gc_one = absurd (census refl)
 
 -- and the plain run does it as such
 applied-mutates : (m : Machine) (c : Command) → IsTrue (is_applied c) → do_ask m (taken c) ≡ mutate m c

@@ -7,7 +7,7 @@ use Rattle.cc_model.specs.Asks.{ask_of}
 use Rattle.cc_model.specs.Collecting.{Machine}
 use Rattle.cc_laws_run.specs.Memory.{AreDoneFor}
 use Rattle.cc_laws_run.specs.Running.{ask_in_range}
-use Rattle.cc_reader.specs.FormsNow.{forms_now}
+use Rattle.cc_model.specs.Forms.{version_one_forms}
 use Rattle.cc_reader.specs.Pending.{Pending}
 use Rattle.cc_reader.specs.Given.{HasGiven}
 use Rattle.cc_replay.specs.Answered.{IsAnswered}
@@ -19,8 +19,8 @@ GivesLine left left_now old new line = (start : Option (List ℕ)) (lines : List
 
 -- a line is answered as the plain run answers it, and its numbers are in range
 pub record LineIsAnswered (old new : Machine) (line : List ℕ) (before after : Telling) : Type 0 where
-  pub answered : IsAnswered old new (ask_of forms_now line) before after
-  pub in_range : IsTrue (ask_in_range (ask_of forms_now line))
+  pub answered : IsAnswered old new (ask_of version_one_forms line) before after
+  pub in_range : IsTrue (ask_in_range (ask_of version_one_forms line))
 
 -- what is read from and what answers: what the source has left, the reader, the machine, and what was told
 pub record Moment : Type 0 where
@@ -35,8 +35,8 @@ moment left window machine telling = record { left = left; window = window; mach
 -- these lines are answered, from one moment to another
 pub record AreAnswered (old new : Machine) (lines : List (List ℕ)) (before after : Telling) : Type 0 where
   pub answers : List Answer
-  pub done : AreDoneFor old (map (ask_of forms_now) lines) answers new
-  pub in_range : IsTrue (list_all ask_in_range (map (ask_of forms_now) lines))
+  pub done : AreDoneFor old (map (ask_of version_one_forms) lines) answers new
+  pub in_range : IsTrue (list_all ask_in_range (map (ask_of version_one_forms) lines))
   pub told : TellsItems before after (all_items_of answers)
 
 -- from a moment at which a reader began to another, lines were given of which this holds, and all of them are answered

@@ -11,7 +11,7 @@ use Rattle.cc_model.specs.Quiet.{IsQuiet}
 use Rattle.cc_model.specs.Run.{plain_run}
 use Rattle.cc_laws_run.specs.Memory.{noes, all_noes_told}
 use Rattle.cc_outside.specs.Reads.{Reads}
-use Rattle.cc_reader.specs.FormsNow.{forms_now}
+use Rattle.cc_model.specs.Forms.{version_one_forms}
 use Rattle.cc_reader.specs.HasRead.{ReadsBytes, ReadsToEnd}
 
 -- A TRANSCRIPT of these asks: the plain run for some answers of memory, which say no once for each want of memory
@@ -66,7 +66,7 @@ pub record IsDone (limits : Allowance) (e : Ends) : Type 0 where
   pub at_end : IsAtEnd e.left_now
   pub within : length given ≤ limits.bytes
   pub reads : ReadsToEnd e.reads e.reads_now (length given)
-  pub writes : Writes limits (asks_of forms_now given) e.written e.written_now
+  pub writes : Writes limits (asks_of version_one_forms given) e.written e.written_now
 
 -- a read failed after these bytes: the lines that ended are answered; each read that was answered gave a byte
 pub record StopsAtFault (limits : Allowance) (e : Ends) : Type 0 where
@@ -74,7 +74,7 @@ pub record StopsAtFault (limits : Allowance) (e : Ends) : Type 0 where
   pub consumed : Consumes e.left e.left_now given
   pub within : length given ≤ limits.bytes
   pub reads : ReadsBytes e.reads e.reads_now (length given)
-  pub writes : Writes limits (ended forms_now given) e.written e.written_now
+  pub writes : Writes limits (ended version_one_forms given) e.written e.written_now
 
 -- one byte more than the limit was taken: the lines that ended within the limit are answered; each read that was
 -- answered gave a byte
@@ -83,7 +83,7 @@ pub record StopsAtLimit (limits : Allowance) (e : Ends) : Type 0 where
   pub consumed : Consumes e.left e.left_now given
   pub above : length given ≡ limits.bytes + 1
   pub reads : ReadsBytes e.reads e.reads_now (length given)
-  pub writes : Writes limits (ended forms_now (take limits.bytes given)) e.written e.written_now
+  pub writes : Writes limits (ended version_one_forms (take limits.bytes given)) e.written e.written_now
 
 -- these bytes were all, within the limit: one read said the end, and each other that was answered gave a byte
 pub record ReadsAll (limits : Allowance) (e : Ends) (given : List ℕ) : Type 0 where
@@ -112,4 +112,4 @@ pub record StopsAtWrite (limits : Allowance) (e : Ends) : Type 0 where
   pub most : length given ≤ limits.bytes + 1
   pub lines : List (List ℕ)
   pub first : AreFirstEnded limits e given lines ⊎ AreAllUnended limits e given lines
-  pub writes : WritesFront limits (map (ask_of forms_now) lines) e.written e.written_now
+  pub writes : WritesFront limits (map (ask_of version_one_forms) lines) e.written e.written_now

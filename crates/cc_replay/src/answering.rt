@@ -9,7 +9,6 @@ ghost use Rattle.cc_model.specs.declared.command.Command.TheVariants as command;
 ghost use Rattle.cc_model.specs.Ranges.{in_range};
 ghost use Rattle.cc_model.specs.Asks.{taken};
 ghost use Rattle.cc_model.specs.Heap.{empty_heap};
-ghost use Rattle.cc_reader.specs.FormsNow.{is_known};
 ghost use Rattle.cc_replay.specs.Answered.{IsAnswered};
 ghost use Rattle.cc_builder.specs.Building.{Built};
 ghost use Rattle.cc_collector.specs.Kept.{RunsIn, machine_of};
@@ -112,7 +111,6 @@ fn answer_command<N: Notices>(
     collector: &mut Collector,
     out: &mut N,
 )
-    requires known { IsTrue (is_known command) }
     requires in_range { IsTrue (in_range command) }
     requires runs { RunsIn heaps.old collector.old }
     ensures answered { IsAnswered (machine_of heaps.old.heap collector.old) (machine_of heaps.new.heap collector.new) (taken command) (N.telling out.old) (N.telling out.new) }

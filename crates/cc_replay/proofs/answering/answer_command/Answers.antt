@@ -4,7 +4,7 @@ use Rattle.cc_model.specs.Asks.{taken}
 use Rattle.cc_collector.specs.Kept.{machine_of}
 use Rattle.cc_replay.specs.Answered.{IsAnswered}
 use Rattle.cc_replay.proofs.Beginning.{counts_few}
-use Rattle.cc_replay.proofs.Replying.{known-applied, answered-nothing}
+use Rattle.cc_replay.proofs.Replying.{others-applied, answered-nothing}
 use Rattle.cc_replay.proofs.answering.answer_command.Goals as goal
 
 pub returns-in-Nothing-clause-answered : goal.returns-in-Nothing-clause-answered
@@ -14,7 +14,7 @@ returns-in-Nothing-clause-answered g c =
     subst (λ (x : Command). IsAnswered m m (taken x) before before) (sym c.in-Nothing.is) (answered-nothing m before)
 
 pub answer_mutator-requires-clause-applied : goal.answer_mutator-requires-clause-applied
-answer_mutator-requires-clause-applied g c = known-applied c.args.command c.requires.known
+answer_mutator-requires-clause-applied g c = others-applied c.args.command
     c.in_default.not-Nothing c.in_default.not-Census c.in_default.not-Slice c.in_default.not-Collect c.in_default.not-Gc
 
 -- no count is greater than all references there can be

@@ -1,0 +1,14 @@
+-- WHAT A COMMAND ASKS OF THE LISTED NAMES, where its reply is to be the graph's.
+use Rattle.std.specs.Prelude.{◌≡◌, List}
+use Rattle.cc_names.specs.declared.name.Name.{Name}
+use Rattle.cc_model.specs.declared.command.Command.{Command}
+use Rattle.cc_model.specs.declared.command.Command.TheVariants.{Wrap}
+use Rattle.cc_model.specs.Heap.{Heap}
+use Rattle.cc_model.specs.Listed.{census_order}
+use Rattle.cc_model.specs.Run.{census_names}
+
+-- `wrap`, which may want memory where its reflector is not listed, asks that those listed are those that are there; the
+-- other commands ask nothing
+abbrev pub AreListedFor : Command → Heap → List Name → Type 0
+AreListedFor (Wrap d s) h names = census_names h ≡ census_order names
+AreListedFor _ h names = Unit {0}
