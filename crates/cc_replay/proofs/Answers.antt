@@ -21,6 +21,7 @@ use Rattle.cc_laws_run.proofs.Ample.{turns-ample}
 use Rattle.cc_laws_run.proofs.InARow.{OneList, one_list}
 use Rattle.cc_laws_run.proofs.PlainLawful.{run-lawful}
 use Rattle.cc_laws_run.proofs.PlainQuiet.{run-quiet}
+use Rattle.cc_headline.proofs.EachTurn.{tells-of_a_graph}
 use Rattle.cc_model.specs.Forms.{version_one_forms}
 use Rattle.cc_reader.specs.Pending.{Pending}
 use Rattle.cc_reader.specs.Given.{AreFirst, HasGiven}
@@ -113,11 +114,12 @@ pub AreAnswered-transcript : (limits : Allowance) (k : Machine) (lines : List (L
     IsTranscript limits (map (ask_of version_one_forms) lines) (text_of_answers a.answers)
 AreAnswered-transcript limits k lines t₀ t₁ a = record {
   memory = o.memory;
-  text_is = ap text_of_answers (sym o.answered);
   noes_are_told = told;
-  with_all_memory = λ none. ap text_of_answers (sym o.answered ∙ turns-ample (empty_machine limits o.memory) asks (told ∙ none));
+  text_is = ap text_of_answers (sym o.answered);
+  tells = tells-of_a_graph limits asks (plain_run limits o.memory asks) (run-lawful limits o.memory asks a.in_range) (run-quiet limits o.memory asks a.in_range);
   lawful = run-lawful limits o.memory asks a.in_range;
   quiet = run-quiet limits o.memory asks a.in_range;
+  with_all_memory = λ none. ap text_of_answers (sym o.answered ∙ turns-ample (empty_machine limits o.memory) asks (told ∙ none));
 }
   where
     asks : List Ask

@@ -10,20 +10,26 @@ use Rattle.cc_model.specs.Lawful.{IsLawful}
 use Rattle.cc_model.specs.Quiet.{IsQuiet}
 use Rattle.cc_model.specs.Run.{plain_run}
 use Rattle.cc_laws_run.specs.Memory.{noes, all_noes_told}
+use Rattle.cc_headline.specs.Headline.{TellsOfAGraph}
 use Rattle.cc_outside.specs.Reads.{Reads}
 use Rattle.cc_model.specs.Forms.{version_one_forms}
 use Rattle.cc_reader.specs.HasRead.{ReadsBytes, ReadsToEnd}
 
--- A TRANSCRIPT of these asks: the plain run for some answers of memory, which say no once for each want of memory
--- that is told and never else; it is lawful and quiet. Where no want of memory is told, its text is that of the plain run
--- with memory at every place: these limits and asks alone decide it
+-- A TRANSCRIPT of these asks: the text of the plain run's answers, for some answers of memory
 pub record IsTranscript (limits : Allowance) (asks : List Ask) (text : List ℕ) : Type 0 where
+  -- memory says no once for each want of memory that is told, and never else
   pub memory : List Bool
-  pub text_is : text ≡ text_of_answers (plain_run limits memory asks)
   pub noes_are_told : noes memory ≡ all_noes_told asks (plain_run limits memory asks)
-  pub with_all_memory : all_noes_told asks (plain_run limits memory asks) ≡ 0 → text ≡ text_of_answers (plain_run limits [] asks)
+  -- what is written is the text of the answers
+  pub text_is : text ≡ text_of_answers (plain_run limits memory asks)
+  -- they tell of an object graph from which nothing is freed: each reply but `! nomem` and the census is that graph's, nothing
+  -- is unlinked or freed that a root then reaches, and after `gc`, `collect`, `gc` the census lists exactly what is reached
+  pub tells : TellsOfAGraph limits asks (plain_run limits memory asks)
+  -- the same along the asks, with the order of events and the places of abandonments
   pub lawful : IsLawful limits asks (plain_run limits memory asks)
   pub quiet : IsQuiet limits asks (plain_run limits memory asks)
+  -- where no want of memory is told, these limits and asks alone decide it: memory was there at every place
+  pub with_all_memory : all_noes_told asks (plain_run limits memory asks) ≡ 0 → text ≡ text_of_answers (plain_run limits [] asks)
 
 -- the text of a transcript of these asks was written
 pub record Writes (limits : Allowance) (asks : List Ask) (old new : Option (List ℕ)) : Type 0 where

@@ -84,41 +84,56 @@ pub fn run<'a, S: Source, K: Sink>(
     source: &mut S,
     sink: &mut K,
 ) -> Status
-    // What is written with each status is the text of a transcript, whole or up to where a write failed.
+    // For every input, what is written is the transcript of an object graph from which nothing is freed: of the whole input
+    // with `Done`,
     ensures done { result ≡ Status.Done → (limits : Allowance) × GivesLimits (map (λ w. w.now) words.entry.now) limits
         × IsDone limits (ends S.left S.reads K.written source.old source.new sink.old sink.new) }
+    // where a read failed, of the lines that ended,
     ensures fault { result ≡ Status.ReadFault → (limits : Allowance) × GivesLimits (map (λ w. w.now) words.entry.now) limits
         × StopsAtFault limits (ends S.left S.reads K.written source.old source.new sink.old sink.new) }
+    // where there are more bytes than the limit, of the lines that ended within it,
     ensures over { result ≡ Status.Limit → (limits : Allowance) × GivesLimits (map (λ w. w.now) words.entry.now) limits
         × StopsAtLimit limits (ends S.left S.reads K.written source.old source.new sink.old sink.new) }
+    // and where a write failed, a front of one.
     ensures front { result ≡ Status.WriteFault → (limits : Allowance) × GivesLimits (map (λ w. w.now) words.entry.now) limits
         × StopsAtWrite limits (ends S.left S.reads K.written source.old source.new sink.old sink.new) }
+    // Want of memory in setting up: nothing was read or written.
     ensures set_up { result ≡ Status.NoMemory → (source.new ≡ source.old) × (sink.new ≡ sink.old) }
 
-    // Usage is for words that are not taken, and then nothing is read or written.
+    // Usage comes only for words that are not taken,
     ensures usage { result ≡ Status.Usage → ¬ (IsTaken (map (λ w. w.now) words.entry.now)) }
+    // every other status but want of memory only for words that are,
     ensures taken { result ≢ Status.Usage → result ≢ Status.NoMemory → IsTaken (map (λ w. w.now) words.entry.now) }
+    // and with it nothing is read or written.
     ensures unread { result ≡ Status.Usage → (source.new ≡ source.old) × (sink.new ≡ sink.old) }
 
     // At most as many reads are answered as the limit on bytes, and one: for the byte above it, or for the end.
     ensures reads { (limits : Allowance) → GivesLimits (map (λ w. w.now) words.entry.now) limits →
         (S.reads source.new).answered ≤ (S.reads source.old).answered + limits.bytes + 1 }
+    // The end is read once where all was read,
     ensures end_read { result ≡ Status.Done → (S.reads source.new).ended ≡ raised (S.reads source.old).ended 1 }
+    // and not at all where a read failed or the limit was passed.
     ensures end_unread { result ≢ Status.Done → result ≢ Status.WriteFault → (S.reads source.new).ended ≡ (S.reads source.old).ended }
 
-    // Each fault has its cause.
+    // A fault of reading comes only where the source's count of faults rose,
     ensures read { result ≡ Status.ReadFault → Rose (S.faults source.old) (S.faults source.new) }
+    // which otherwise stays;
     ensures read_well { result ≢ Status.ReadFault → S.faults source.new ≡ S.faults source.old }
+    // a fault of writing only where the sink's rose,
     ensures write { result ≡ Status.WriteFault → Rose (K.faults sink.old) (K.faults sink.new) }
+    // which otherwise stays.
     ensures written_well { result ≢ Status.WriteFault → K.faults sink.new ≡ K.faults sink.old }
 
-    // And where there is the cause, there is the answer.
+    // And where there is the cause, there is the status: a count of the source that rose,
     ensures fault_always { S.faults source.old < S.faults source.new → result ≡ Status.ReadFault }
+    // a count of the sink that rose,
     ensures write_always { K.faults sink.old < K.faults sink.new → result ≡ Status.WriteFault }
+    // and where none rose, more bytes than the limit,
     ensures over_always { (bytes : List ℕ) (limits : Allowance) → S.left source.old ≡ Some bytes →
         IsTaken (map (λ w. w.now) words.entry.now) → GivesLimits (map (λ w. w.now) words.entry.now) limits → limits.bytes < length bytes →
         ¬ (Rose (S.faults source.old) (S.faults source.new)) → ¬ (Rose (K.faults sink.old) (K.faults sink.new)) →
         result ≢ Status.NoMemory → result ≡ Status.Limit }
+    // or at most as many: then all is answered.
     ensures done_always { (bytes : List ℕ) (limits : Allowance) → S.left source.old ≡ Some bytes →
         IsTaken (map (λ w. w.now) words.entry.now) → GivesLimits (map (λ w. w.now) words.entry.now) limits → length bytes ≤ limits.bytes →
         ¬ (Rose (S.faults source.old) (S.faults source.new)) → ¬ (Rose (K.faults sink.old) (K.faults sink.new)) →
