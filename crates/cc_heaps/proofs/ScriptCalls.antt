@@ -1,6 +1,6 @@
 -- WHAT CALLS DO TO SCRIPT OBJECTS AND SCRIPT REGISTERS: an exposure, a slot written, a register written, an object made.
 use Rattle.std.proofs.Common.{◌≡◌, ℕ, zero, suc, ◌+◌, ◌<◌, ◌≤◌, Bool, true, false, cond, List, [], ◌∷◌, ◌++◌, map, replicate, Option, Some, None, option_map, is_some, refl, sym, ◌∙◌, ap, subst, ⊎_elim, arith, count_by, ◌==◌}
-use Rattle.std.specs.Prelude.{IsTrue, slice_set}
+use Rattle.std.specs.Prelude.{IfSome, IsTrue, slice_set}
 use Rattle.std.specs.Option.{option_and_then, option_or}
 use Rattle.std.specs.List.{find}
 use Rattle.std.specs.Vec.{with_item}
@@ -16,23 +16,24 @@ use Rattle.cc_lists.proofs.ListWrites.{each-push, Among-set_cases, map-agree}
 use Rattle.cc_names.specs.declared.name.Name.{Name}
 use Rattle.cc_names.specs.declared.number.SKey.{SKey}
 use Rattle.cc_names.specs.declared.register.Reg.TheVariants.{S as s_register}
-use Rattle.cc_names.specs.declared.kind.Kind.TheVariants.{Plain, Map}
+use Rattle.cc_names.specs.declared.kind.Kind.{Kind}
 use Rattle.cc_names.specs.declared.kind.Colour.TheVariants.{Black}
 use Rattle.cc_names.specs.Names.{object, reflector, same_name, is_native}
 use Rattle.cc_model.specs.Slots.{empty_slots}
 use Rattle.cc_model.specs.Heap.{Heap, HeapScript, set_register, set_slot}
 use Rattle.cc_model.specs.Effects.{with_object}
 use Rattle.cc_model.specs.Exposure.{exposed}
-use Rattle.cc_model.specs.WellFormed.{script_names}
+use Rattle.cc_model.specs.WellFormed.{FitsName, script_names}
 use Rattle.cc_laws_heap.specs.Sound.{IsSound}
 use Rattle.cc_laws_heap.proofs.Owning.{IsIn}
 use Rattle.cc_laws_heap.proofs.Writes.{script_register-sound}
 use Rattle.cc_laws_heap.proofs.MadeSound.{with_script-sound}
 use Rattle.cc_laws_heap.proofs.ScriptsKept.{exposed-sound, script_slot-sound}
 use Rattle.cc_laws_heap.proofs.ScriptCommands.{blank, IsNewScript-object}
-use Rattle.cc_script.specs.Objects.{Object, AreWhole, change_object, is_there, name_at, object_at, plain_object, raised_among, with_slot}
+use Rattle.cc_script.specs.Objects.{Object, AreWhole, change_object, is_there, name_at, object_at, raised_among, with_slot}
 use Rattle.cc_script.specs.Walking.{keys_reached}
 use Rattle.cc_heaps.specs.Keyed.{Keyed, IsInOrder, Reflects, key_of, name_held, named_object, named_objects, reflectors_by}
+use Rattle.cc_heaps.specs.Making.{kind_made, object_made, slots_made}
 use Rattle.cc_heaps.specs.Changes.{IsScriptThere, KeepsKeys, script_name}
 use Rattle.cc_heaps.specs.Named.{script_named, IsScriptLive}
 use Rattle.cc_heaps.specs.Fields.{heap_of, keyed_of, IsLinked}
@@ -40,7 +41,7 @@ use Rattle.cc_heaps.specs.declared.heaps.Heaps.TheInside.{Inside}
 use Rattle.cc_heaps.proofs.Keys.{Reflects-kept}
 use Rattle.cc_heaps.proofs.Reaching.{HasOneKey, object_at-own, name_at-found}
 use Rattle.cc_heaps.proofs.ScriptsChanged.{KeepsNames, KeepsNames-there, KeepsNames-same, there-named, with_objects, with_named, heap-objects, keys-objects, linked-objects, order-objects}
-use Rattle.cc_heaps.proofs.ScriptWrites.{KeepsObjects, KeepsNames-written, one_key-written, no_maps-written, reflectors-written, reflecting-written, raise_among, KeepsObjects-raised, whole-raised, exposed-named, write_slot, KeepsObjects-slot, whole-slot, slot-named}
+use Rattle.cc_heaps.proofs.ScriptWrites.{KeepsObjects, KeepsNames-written, one_key-written, reflectors-written, reflecting-written, raise_among, KeepsObjects-raised, whole-raised, exposed-named, write_slot, KeepsObjects-slot, whole-slot, slot-named}
 
 -- the second parts hold these heaps, fit together and are in order, and what is there keeps its key and its name
 pub record Becomes (p q : Inside) (h : Heap) : Type 0 where
@@ -78,15 +79,15 @@ nothing-exposed v (Some key) none = absurd (none key refl)
 module _ (p : Inside) (l : IsLinked p) (o : IsInOrder [] (keyed_of p)) where
   -- other script objects, as the definitions change them
   becomes : (objects : List Object) (made : ℕ) (h : Heap) → KeepsNames p.scripts objects → with_named (heap_of p) objects made ≡ h → IsSound [] h →
-      HasOneKey objects → AreWhole objects → ((s : HeapScript) → Among s (named_objects objects) → ¬ (s.kind ≡ Map)) →
+      HasOneKey objects → AreWhole objects →
       reflectors_by objects p.counted.keys ≡ reflectors_by p.scripts p.counted.keys → ((q : Object) → Among q objects → Reflects (keyed_of p) q.name q.native) →
       Becomes p (with_objects p objects made) h
-  becomes objects made h kept e s one whole no_maps reflectors reflecting =
+  becomes objects made h kept e s one whole reflectors reflecting =
       let sound : IsSound [] (with_named (heap_of p) objects made) = subst (IsSound []) (sym e) s in record {
-        heap = heap-objects p objects made kept l ∙ e;
+        heap = heap-objects p objects made kept l o.entries_there ∙ e;
         names = kept;
         keys = keys-objects p objects made kept l;
-        order = order-objects p objects made kept l [] sound one reflectors whole no_maps reflecting o;
+        order = order-objects p objects made kept l [] sound one reflectors whole reflecting o;
         linked = linked-objects p objects made kept l [] sound one reflectors;
       }
 
@@ -94,7 +95,7 @@ module _ (p : Inside) (l : IsLinked p) (o : IsInOrder [] (keyed_of p)) where
   becomes-written : (f : Object → Object) → KeepsObjects f → (h : Heap) → with_named (heap_of p) (map f p.scripts) p.scripts_made ≡ h → IsSound [] h →
       AreWhole (map f p.scripts) → Becomes p (with_objects p (map f p.scripts) p.scripts_made) h
   becomes-written f keeps h e s whole = becomes (map f p.scripts) p.scripts_made h (KeepsNames-written f keeps p.scripts) e s
-      (one_key-written f keeps p.scripts l.one_key) whole (no_maps-written f keeps p.scripts o.without_maps.no_maps)
+      (one_key-written f keeps p.scripts l.one_key) whole
       (reflectors-written f keeps p.scripts p.counted.keys) (reflecting-written f keeps p.scripts (keyed_of p) o.reflecting)
 
   -- AN EXPOSURE
@@ -163,7 +164,8 @@ module _ (p : Inside) (l : IsLinked p) (o : IsInOrder [] (keyed_of p)) where
       whole = o.whole;
       reflecting = λ q m. Reflects-kept (keyed_of p) (keyed_of (with_register r content)) q.name q.native (λ key k is at. at) (o.reflecting q m);
       limits = o.limits;
-      without_maps = record { no_maps = o.without_maps.no_maps; no_entries = refl };
+      entries = refl;
+      entries_there = o.entries_there;
     };
     linked = record {
       native_registers = l.native_registers;
@@ -282,37 +284,46 @@ module _ (objects : List Object) (one : HasOneKey objects) (whole : AreWhole obj
       go None = refl
       go (Some o) = refl
 
--- AN OBJECT MADE
-module _ (p : Inside) (l : IsLinked p) (o : IsInOrder [] (keyed_of p)) (key n : ℕ) (vacant : is_there p.scripts key ≡ false) where
+-- what is made fits its name, where it has at most 64 slots
+made-fits : (number : ℕ) (slots : Option ℕ) → IfSome slots (λ n. n ≤ 64) → FitsName (object number) (kind_made slots) (empty_slots (slots_made slots))
+made-fits number None few = refl
+made-fits number (Some n) few = subst (λ i. i ≤ 64) (sym (length-replicate n None)) few
+
+-- AN OBJECT MADE: a plain one or a weak map
+module _ (p : Inside) (l : IsLinked p) (o : IsInOrder [] (keyed_of p)) (key : ℕ) (slots : Option ℕ) (vacant : is_there p.scripts key ≡ false) where
   abbrev new : Object
-  new = plain_object key (p.scripts_made + 1) n
+  new = object_made key (p.scripts_made + 1) slots
+
+  abbrev n : ℕ
+  n = slots_made slots
+
+  abbrev kind : Kind
+  kind = kind_made slots
 
   abbrev objects : List Object
   objects = p.scripts ++ new ∷ []
 
   -- its name
-  pub name_at-plain : name_at objects key ≡ Some (object (p.scripts_made + 1))
-  name_at-plain = name_at-made p.scripts l.one_key o.whole new n refl vacant
+  pub name_at-object : name_at objects key ≡ Some (object (p.scripts_made + 1))
+  name_at-object = name_at-made p.scripts l.one_key o.whole new n refl vacant
 
-  named : named_objects objects ≡ named_objects p.scripts ++ blank (object (p.scripts_made + 1)) Plain n ∷ []
+  named : named_objects objects ≡ named_objects p.scripts ++ blank (object (p.scripts_made + 1)) kind n ∷ []
   named = named-made p.scripts l.one_key o.whole new n refl vacant
 
   -- it is no reflector
   reflectors : reflectors_by objects p.counted.keys ≡ reflectors_by p.scripts p.counted.keys
   reflectors = ap (λ its. map (λ j. option_and_then its j) p.counted.keys) (fun_ext (λ k. key_of-made p.scripts l.one_key o.whole new n refl vacant (reflector k) refl))
 
-  pub becomes-made : n ≤ 64 → p.scripts_made < p.limits.scripts → (os : List Object) → os ≡ objects →
-      Becomes p (with_objects p os (p.scripts_made + 1)) (with_object (heap_of p) Plain n)
+  pub becomes-made : IfSome slots (λ n. n ≤ 64) → p.scripts_made < p.limits.scripts → (os : List Object) → os ≡ objects →
+      Becomes p (with_objects p os (p.scripts_made + 1)) (with_object (heap_of p) kind n)
   becomes-made few room os e =
-      subst (λ os. Becomes p (with_objects p os (p.scripts_made + 1)) (with_object (heap_of p) Plain n)) (sym e)
-      (becomes p l o objects (p.scripts_made + 1) (with_object (heap_of p) Plain n)
+      subst (λ os. Becomes p (with_objects p os (p.scripts_made + 1)) (with_object (heap_of p) kind n)) (sym e)
+      (becomes p l o objects (p.scripts_made + 1) (with_object (heap_of p) kind n)
       (KeepsNames-made p.scripts l.one_key o.whole new n refl vacant)
       (ap (λ scripts. record (heap_of p) { scripts = scripts; scripts_made = p.scripts_made + 1 }) named)
-      (with_script-sound [] (heap_of p) (blank (object (p.scripts_made + 1)) Plain n) (p.scripts_made + 1)
-      (IsNewScript-object (heap_of p) Plain n o.sound.well_formed (subst (λ i. i ≤ 64) (sym (length-replicate n None)) few) room) o.sound)
+      (with_script-sound [] (heap_of p) (blank (object (p.scripts_made + 1)) kind n) (p.scripts_made + 1)
+      (IsNewScript-object (heap_of p) kind n o.sound.well_formed (made-fits (p.scripts_made + 1) slots few) room) o.sound)
       (one_key-made p.scripts l.one_key o.whole new n refl vacant)
       (whole-made p.scripts l.one_key o.whole new n refl vacant)
-      (subst (λ ss. (s : HeapScript) → Among s ss → ¬ (s.kind ≡ Map)) (sym named)
-      (each-push (λ s. ¬ (s.kind ≡ Map)) (named_objects p.scripts) (blank (object (p.scripts_made + 1)) Plain n) o.without_maps.no_maps (λ f. absurd (cc))))
       reflectors
       (each-push (λ q. Reflects (keyed_of p) q.name q.native) p.scripts new o.reflecting refl))

@@ -1,7 +1,7 @@
 -- WHAT A CHANGE MAKES OF THE GRAPHS THAT THE HEAPS STAND FOR. What is handed in is reached, so it was made, and the changed
 -- graph is well made; the changed heaps follow it, and are well formed, so they stand for it.
 use Rattle.std.proofs.Common.{◌≡◌, ℕ, ◌<◌, ◌≤◌, true, [], get_or, Option, Some, None, is_some, option_map, refl, sym, ap, subst, inl}
-use Rattle.std.specs.Prelude.{IsTrue}
+use Rattle.std.specs.Prelude.{IfSome, IsTrue}
 use Rattle.std.specs.Option.{option_and_then}
 use Rattle.std.proofs.lemmas.Bool.{false≢true, le-leb, lt-leb, lt-ltb}
 use Rattle.cc_names.specs.declared.name.Name.{Name}
@@ -9,10 +9,9 @@ use Rattle.cc_names.specs.declared.name.Name.TheVariants as name
 use Rattle.cc_names.specs.declared.number.NKey.{NKey}
 use Rattle.cc_names.specs.declared.number.SKey.{SKey}
 use Rattle.cc_names.specs.declared.register.Reg.TheVariants.{N, S}
-use Rattle.cc_names.specs.declared.kind.Kind.TheVariants.{Plain}
 use Rattle.cc_names.specs.Names.{native, is_native}
 use Rattle.cc_model.specs.declared.command.Command.{Command}
-use Rattle.cc_model.specs.declared.command.Command.TheVariants.{Native, Script}
+use Rattle.cc_model.specs.declared.command.Command.TheVariants.{Native}
 use Rattle.cc_model.specs.Ranges.{in_range}
 use Rattle.cc_model.specs.Slots.{Slots}
 use Rattle.cc_model.specs.Checks.{refusal_of}
@@ -44,10 +43,11 @@ use Rattle.cc_laws_snapshot.proofs.SoundView.{native-name_of}
 use Rattle.cc_counted.specs.declared.held.Held.{Held}
 use Rattle.cc_script.specs.Objects.{is_there, name_at}
 use Rattle.cc_heaps.specs.Keyed.{Keyed, IsInOrder, left_with}
+use Rattle.cc_heaps.specs.Making.{kind_made, made_by, slots_made}
 use Rattle.cc_heaps.specs.Changes.{native_name, script_name, held_name, stored_in}
 use Rattle.cc_heaps.specs.Standing.{IsReached, IsReachedOrReflects, MayHold, StandsAfter}
 use Rattle.cc_heaps.proofs.Content.{native-in}
-use Rattle.cc_heaps.proofs.Following.{name_at-there, script_name-there}
+use Rattle.cc_heaps.proofs.Following.{made-ranges, made-effects, name_at-there, script_name-there}
 use Rattle.cc_heaps.proofs.ScriptsChanged.{there-named}
 use Rattle.cc_heaps.proofs.ReflectingWritten.{held_script-stands, slot_written-stands}
 
@@ -127,18 +127,24 @@ command-stands_after : (h : Heap) (c : Command) → IsSound [] h → IsTrue (in_
     StandsAfter h (effects h c).heap (λ g. step g c)
 command-stands_after h c s range taken g m t = (step-well g m c range, command-stands h g c s m t range taken)
 
-module _ (h : Heap) (d n : ℕ) (s : IsSound [] h) (room : d < 256) (few : n ≤ 64) where
-  -- A native is made.
-  pub make_native-stands : h.natives_made < h.limits.natives → StandsAfter h (make_native h d n).heap (λ g. step g (Native d n))
-  unfolding effects refusal_of
-  make_native-stands allowed = command-stands_after h (Native d n) s (rw (lt-ltb d 256 room, le-leb n 64 few) refl)
-      (rw (lt-leb h.limits.natives h.natives_made allowed) refl)
+-- A native is made.
+pub make_native-stands : (h : Heap) (d n : ℕ) → IsSound [] h → d < 256 → n ≤ 64 → h.natives_made < h.limits.natives →
+    StandsAfter h (make_native h d n).heap (λ g. step g (Native d n))
+unfolding effects refusal_of
+make_native-stands h d n s room few allowed = command-stands_after h (Native d n) s (rw (lt-ltb d 256 room, le-leb n 64 few) refl)
+    (rw (lt-leb h.limits.natives h.natives_made allowed) refl)
 
-  -- A plain script object is made.
-  pub make_object-stands : h.scripts_made < h.limits.scripts → StandsAfter h (make_object h d Plain n) (λ g. step g (Script d n))
-  unfolding effects refusal_of
-  make_object-stands allowed = command-stands_after h (Script d n) s (rw (lt-ltb d 256 room, le-leb n 64 few) refl)
-      (rw (lt-leb h.limits.scripts h.scripts_made allowed) refl)
+-- the command that makes a script object is not refused
+made-not_refused : (h : Heap) (d : ℕ) (slots : Option ℕ) → h.scripts_made < h.limits.scripts → refusal_of (objects_of h) (made_by d slots) ≡ None
+unfolding refusal_of
+made-not_refused h d None allowed = rw (lt-leb h.limits.scripts h.scripts_made allowed) refl
+made-not_refused h d (Some n) allowed = rw (lt-leb h.limits.scripts h.scripts_made allowed) refl
+
+-- A script object is made.
+pub make_object-stands : (h : Heap) (d : ℕ) (slots : Option ℕ) → IsSound [] h → d < 256 → IfSome slots (λ n. n ≤ 64) → h.scripts_made < h.limits.scripts →
+    StandsAfter h (make_object h d (kind_made slots) (slots_made slots)) (λ g. step g (made_by d slots))
+make_object-stands h d slots s room few allowed = subst (λ k. StandsAfter h k (λ g. step g (made_by d slots))) (made-effects h d slots)
+    (command-stands_after h (made_by d slots) s (made-ranges d slots room few) (made-not_refused h d slots allowed))
 
 -- The heaps with their keys
 

@@ -8,5 +8,6 @@ pub mod Named
 pub mod Fields
 pub mod GrayHeld
 pub mod Roots
+pub mod Making
 pub mod Sweeping
 pub mod Standing

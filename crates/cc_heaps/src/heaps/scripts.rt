@@ -1,5 +1,5 @@
 //! Script objects made, held, written and exposed.
-ghost use Rattle.std.specs.Prelude.{◌≡◌, ◌+◌, ◌<◌, ◌≤◌, [], length, Some, Err, IsTrue, IfOk, IfSome, OnOk, OnErr};
+ghost use Rattle.std.specs.Prelude.{◌≡◌, ◌+◌, ◌<◌, ◌≤◌, ◌++◌, ◌∷◌, [], false, length, Some, Err, IsTrue, IfOk, IfSome, OnOk, OnErr};
 ghost use Rattle.cc_names.specs.declared.kind.Colour.TheVariants.{Black};
 ghost use Rattle.cc_names.specs.declared.kind.Kind.TheVariants.{Map, Plain};
 ghost use Rattle.cc_names.specs.declared.register.Reg.TheVariants.{S as s_register};
@@ -11,6 +11,7 @@ ghost use Rattle.cc_model.specs.declared.command.Command.TheVariants as command;
 ghost use Rattle.cc_model.specs.Graph as graph;
 ghost use Rattle.cc_script.specs.Objects.{colour_at, is_there, name_at, slots_at};
 ghost use Rattle.cc_heaps.specs.Keyed.{IsInOrder};
+ghost use Rattle.cc_heaps.specs.Making.{kind_made, made_by, object_made, slots_made};
 ghost use Rattle.cc_heaps.specs.Changes.{IsScriptThere, KeepsKeys, script_name};
 ghost use Rattle.cc_heaps.specs.Standing.{IsReached, IsReachedOrReflects, MayHold, StandsAfter, StillStands, KeepsFresh, KeepsSuspected, KeepsColours};
 ghost use Rattle.cc_heaps.specs.Few.{AreFew};
@@ -18,6 +19,20 @@ ghost use Rattle.cc_heaps.specs.Few.{AreFew};
 use crate::heaps::Heaps;
 use crate::make_stop::MakeStop;
 use cc_names::{Name, NoMemory, SKey, ScriptNo};
+use cc_script::Scripts;
+
+// Makes a plain object with so many empty slots, or, where no number is given, a weak map; its key.
+fn create(scripts: &mut Scripts, number: ScriptNo, slots: Option<u8>) -> Result<SKey, NoMemory>
+    requires { IfSome slots (λ n. n ≤ 64) }
+    ensures made { IfOk result (λ key. scripts.new ≡ scripts.old ++ object_made key.0 number.0 slots ∷ []) }
+    ensures vacant { IfOk result (λ key. is_there scripts.old key.0 ≡ false) }
+    ensures err { OnErr result (scripts.new ≡ scripts.old) }
+{
+    match slots {
+        Some(slots) => scripts.create_plain(number, slots),
+        None => scripts.create_map(number),
+    }
+}
 
 impl Heaps {
     // A script register written. What it holds is exposed before.
@@ -48,13 +63,13 @@ impl Heaps {
         }
     }
 
-    // A plain object with the next number and so many empty slots; its key.
-    fn add_plain(&mut self, slots: u8) -> Result<SKey, NoMemory>
+    // A plain object with the next number and so many empty slots, or a weak map; its key.
+    fn add_object(&mut self, slots: Option<u8>) -> Result<SKey, NoMemory>
         requires order { IsInOrder [] self.old }
-        requires slots { slots ≤ 64 }
+        requires slots { IfSome slots (λ n. n ≤ 64) }
         requires room { self.old.heap.scripts_made < self.old.heap.limits.scripts }
         ensures made { OnOk result (self.new.heap.scripts_made ≡ self.old.heap.scripts_made + 1) }
-        ensures heap { OnOk result (self.new.heap ≡ with_object self.old.heap Plain slots) }
+        ensures heap { OnOk result (self.new.heap ≡ with_object self.old.heap (kind_made slots) (slots_made slots)) }
         ensures name { IfOk result (λ key. name_at self.new.scripts key.0 ≡ Some (object (self.old.heap.scripts_made + 1))) }
         ensures natives { self.new.keys ≡ self.old.keys }
         ensures keys { KeepsKeys self.old self.new }
@@ -62,9 +77,40 @@ impl Heaps {
         ensures order { IsInOrder [] self.new }
     {
         let number = ScriptNo(self.scripts_made + 1);
-        let key = self.scripts.create_plain(number, slots)?;
+        let key = create(&mut self.scripts, number, slots)?;
         self.scripts_made += 1;
         Ok(key)
+    }
+
+    // A plain object with so many empty slots, or a weak map, made and held by a register. Its name.
+    fn new_object(&mut self, r: u8, slots: Option<u8>) -> Result<Name, MakeStop>
+        requires order { IsInOrder [] self.old }
+        requires slots { IfSome slots (λ n. n ≤ 64) }
+        ensures full { result ≡ Err MakeStop.Full → self.old.heap.limits.scripts ≤ self.old.heap.scripts_made }
+        ensures full_always { self.old.heap.limits.scripts ≤ self.old.heap.scripts_made → result ≡ Err MakeStop.Full }
+        ensures name { IfOk result (λ x. x ≡ object (self.old.heap.scripts_made + 1)) }
+        ensures heap { OnOk result (self.new.heap ≡ make_object self.old.heap r (kind_made slots) (slots_made slots)) }
+        ensures natives { self.new.keys ≡ self.old.keys }
+        ensures keys { KeepsKeys self.old self.new }
+        ensures same { OnErr result (self.new ≡ self.old) }
+        ensures order { IsInOrder [] self.new }
+        ensures counts { AreFew self.new.heap }
+        ensures stands { OnOk result (StandsAfter self.old.heap self.new.heap (λ g. graph.step g (made_by r slots))) }
+        ensures colours { KeepsColours self.old.heap self.new.heap }
+        ensures fresh { KeepsFresh self.old.heap self.new.heap }
+        ensures suspected { KeepsSuspected self.old.heap self.new.heap }
+    {
+        if self.scripts_made >= self.limits.scripts() {
+            return Err(MakeStop::Full);
+        }
+        let name = Name::Script(ScriptNo(self.scripts_made + 1));
+        match self.add_object(slots) {
+            Ok(key) => {
+                self.write_script_reg(r, Some(key));
+                Ok(name)
+            }
+            Err(NoMemory) => Err(MakeStop::NoMemory),
+        }
     }
 
     /// Makes a plain script object with `slots` empty slots (0 to 64), which register `r` holds from then on. Its name.
@@ -88,35 +134,7 @@ impl Heaps {
         ensures fresh { KeepsFresh self.old.heap self.new.heap }
         ensures suspected { KeepsSuspected self.old.heap self.new.heap }
     {
-        if self.scripts_made >= self.limits.scripts() {
-            return Err(MakeStop::Full);
-        }
-        let name = Name::Script(ScriptNo(self.scripts_made + 1));
-        match self.add_plain(slots) {
-            Ok(key) => {
-                self.write_script_reg(r, Some(key));
-                Ok(name)
-            }
-            Err(NoMemory) => Err(MakeStop::NoMemory),
-        }
-    }
-
-    // A weak map with the next number; its key.
-    fn add_map(&mut self) -> Result<SKey, NoMemory>
-        requires order { IsInOrder [] self.old }
-        requires room { self.old.heap.scripts_made < self.old.heap.limits.scripts }
-        ensures made { OnOk result (self.new.heap.scripts_made ≡ self.old.heap.scripts_made + 1) }
-        ensures heap { OnOk result (self.new.heap ≡ with_object self.old.heap Map 0) }
-        ensures name { IfOk result (λ key. name_at self.new.scripts key.0 ≡ Some (object (self.old.heap.scripts_made + 1))) }
-        ensures natives { self.new.keys ≡ self.old.keys }
-        ensures keys { KeepsKeys self.old self.new }
-        ensures same { OnErr result (self.new ≡ self.old) }
-        ensures order { IsInOrder [] self.new }
-    {
-        let number = ScriptNo(self.scripts_made + 1);
-        let key = self.scripts.create_map(number)?;
-        self.scripts_made += 1;
-        Ok(key)
+        self.new_object(r, Some(slots))
     }
 
     /// Makes a weak map without entries, which register `r` holds from then on. Its name.
@@ -139,17 +157,7 @@ impl Heaps {
         ensures fresh { KeepsFresh self.old.heap self.new.heap }
         ensures suspected { KeepsSuspected self.old.heap self.new.heap }
     {
-        if self.scripts_made >= self.limits.scripts() {
-            return Err(MakeStop::Full);
-        }
-        let name = Name::Script(ScriptNo(self.scripts_made + 1));
-        match self.add_map() {
-            Ok(key) => {
-                self.write_script_reg(r, Some(key));
-                Ok(name)
-            }
-            Err(NoMemory) => Err(MakeStop::NoMemory),
-        }
+        self.new_object(r, None)
     }
 
     /// Register `r` holds a script object from then on, or nothing. What comes into it is exposed: it is black, with all

@@ -1,13 +1,13 @@
 use Rattle.std.proofs.Common.{◌<◌, sym, subst, arith}
-use Rattle.cc_model.specs.declared.command.Command.TheVariants.{Script}
 use Rattle.cc_model.specs.Graph.{step}
+use Rattle.cc_heaps.specs.Making.{made_by}
 use Rattle.cc_heaps.specs.Keyed.{Keyed}
 use Rattle.cc_heaps.specs.Few.{AreFew}
 use Rattle.cc_heaps.specs.Standing.{KeepsColours, KeepsFresh, KeepsSuspected, StandsAfter}
 use Rattle.cc_heaps.proofs.FewCounts.{few-alone}
 use Rattle.cc_heaps.proofs.Following.{make_object-keeps}
 use Rattle.cc_heaps.proofs.StandingAfter.{make_object-stands}
-use Rattle.cc_heaps.proofs.heaps.Heaps.new_plain.Goals as goal
+use Rattle.cc_heaps.proofs.heaps.Heaps.new_object.Goals as goal
 
 pub returns-in-Ok-clause-heap : goal.returns-in-Ok-clause-heap
 returns-in-Ok-clause-heap c = rw (c.write_script_reg.ensures.heap, c.in-Ok.ensures.heap, c.in-Ok.ensures.name)
@@ -40,7 +40,7 @@ pub returns-in-Ok-clause-stands : goal.returns-in-Ok-clause-stands
 returns-in-Ok-clause-stands c =
     let v = c.args.self.now in
     let allowed : v.heap.scripts_made < v.heap.limits.scripts = rw (← c.self.view_is) (omega (arith, c.if-self-scripts.false, c.scripts.ensures.same)) in
-    subst (λ h. StandsAfter v.heap h (λ e. step e (Script c.args.r c.args.slots))) (sym (returns-in-Ok-clause-heap c))
+    subst (λ h. StandsAfter v.heap h (λ e. step e (made_by c.args.r c.args.slots))) (sym (returns-in-Ok-clause-heap c))
     (make_object-stands v.heap c.args.r c.args.slots c.requires.order.sound c.ranges.r.fits c.requires.slots allowed)
 
 pub returns-in-Err-clause-counts : goal.returns-in-Err-clause-counts
