@@ -20,7 +20,7 @@ use Rattle.cc_weakmaps.specs.Living.{living}
 use Rattle.cc_marking.specs.Marking.{AreEntriesThere}
 use Rattle.cc_heaps.specs.Keyed.{IsInOrder, named_entry, named_entries, the_name_at}
 use Rattle.cc_heaps.specs.Fields.{heap_of, keyed_of, IsLinked}
-use Rattle.cc_heaps.specs.Sweeping.{is_marked, is_white}
+use Rattle.cc_heaps.specs.Sweeping.{is_marked}
 use Rattle.cc_heaps.specs.declared.heaps.Heaps.TheInside.{Inside}
 use Rattle.cc_heaps.proofs.ObjectsKept.{members, entry-same, entry-there}
 use Rattle.cc_heaps.proofs.ObjectsLeft.{left_objects, name-left, spared-stays, stays, stays-marked}

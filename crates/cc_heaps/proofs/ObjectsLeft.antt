@@ -1,59 +1,36 @@
 -- WHAT A SWEEP LEAVES OF THE SCRIPT OBJECTS, where the colours are those of marking: nothing that stays holds what goes,
 -- so what stays keeps its names.
-use Rattle.std.proofs.Common.{◌≡◌, ℕ, ◌+◌, ◌==◌, Bool, true, false, not, List, [], ◌∷◌, ◌++◌, map, Option, Some, None, refl, sym, ◌∙◌, ap, subst, arith, inl, inr, ⊎_elim}
-use Rattle.std.specs.List.{filter, flat_map}
-use Rattle.std.specs.Option.{option_and_then, option_to_list}
-use Rattle.std.proofs.Math.ListN.{get_or-map}
+use Rattle.std.proofs.Common.{◌≡◌, ℕ, ◌==◌, Bool, true, false, not, List, [], map, Option, Some, None, refl, sym, ◌∙◌, ap, subst, arith}
+use Rattle.std.specs.List.{filter}
+use Rattle.std.specs.Option.{option_and_then}
 use Rattle.std.proofs.lemmas.Bool.{true≢false}
-use Rattle.std.proofs.lemmas.List.{map-append}
 use Rattle.std.proofs.lemmas.Simd.{map-map}
 use Rattle.cc_lists.specs.Members.{Among, has}
-use Rattle.cc_lists.proofs.Members.{Among-map, Among-map_cases, Among-filter, Among-filtered, Among-passes, Among-flat_map_cases, has-there, has-among}
+use Rattle.cc_lists.proofs.Members.{Among-map, Among-map_cases, Among-filter, Among-filtered, Among-passes, has-there, has-among}
 use Rattle.cc_lists.proofs.Filtering.{count_by-filter-le, filter-agree}
 use Rattle.cc_lists.proofs.Searching.{filter-map}
-use Rattle.cc_lists.proofs.ListWrites.{each-map, only-member, map-agree}
+use Rattle.cc_lists.proofs.ListWrites.{only-member, map-agree}
 use Rattle.cc_names.specs.declared.name.Name.{Name}
-use Rattle.cc_names.specs.declared.name.Name.TheVariants as name
 use Rattle.cc_names.specs.declared.number.SKey.{SKey}
-use Rattle.cc_names.specs.declared.kind.Kind.TheVariants.{Map}
-use Rattle.cc_names.specs.Names.{native, object, same_name, behind}
+use Rattle.cc_names.specs.Names.{object, same_name}
 use Rattle.cc_names.proofs.NameTests.{same_name-refl, same_name-exact}
 use Rattle.cc_model.specs.Slots.{contents}
-use Rattle.cc_model.specs.Heap.{Heap, HeapNative, HeapScript, Outcome, is_white_colour}
+use Rattle.cc_model.specs.Heap.{HeapNative, HeapScript, is_white_colour}
 use Rattle.cc_model.specs.Colours.{IsMarked, HasColours}
-use Rattle.cc_model.specs.Counts.{times}
-use Rattle.cc_model.specs.Sweep.{unmarked, sweep}
-use Rattle.cc_model.specs.Sweep as model
-use Rattle.cc_model.specs.WellFormed.{native_names}
-use Rattle.cc_laws_heap.specs.Sound.{IsSound}
+use Rattle.cc_model.specs.Sweep.{unmarked}
 use Rattle.cc_laws_heap.proofs.MarkedKept.{marked-black, black-register, marked-slot, marked-native_slot, marked-not_unmarked, marked-other}
 use Rattle.cc_laws_heap.proofs.MarkedWellFormed.{is_spared}
-use Rattle.cc_laws_heap.proofs.Natives.{named-member}
-use Rattle.cc_laws_heap.proofs.References.{times-append}
-use Rattle.cc_laws_heap.proofs.Swept.{scripts-sweep, sweep-sound}
-use Rattle.cc_counted.specs.Counts.{number_at, number_or_none, the_number, key_left}
-use Rattle.cc_counted.specs.Counts as counts
-use Rattle.cc_counted.specs.Owning.{AreOwned}
 use Rattle.cc_script.specs.Objects.{Object, name_at}
 use Rattle.cc_script.proofs.Reaching.{among-held, held-among}
-use Rattle.cc_heaps.specs.Keyed.{Keyed, IsInOrder, Reflects, left_with, name_held, named_object, named_objects}
-use Rattle.cc_heaps.specs.Changes.{KeepsKeys}
-use Rattle.cc_heaps.specs.Named.{own_name, named_native, named, script_named, IsHeldThere, IsScriptLive}
+use Rattle.cc_heaps.specs.Keyed.{IsInOrder, name_held, named_object, named_objects}
+use Rattle.cc_heaps.specs.Named.{own_name, named_native}
 use Rattle.cc_heaps.specs.Fields.{heap_of, keyed_of, IsLinked}
-use Rattle.cc_heaps.specs.Sweeping.{Left, OwnEach, is_white, native_keys, not_white, swept_counts, untold, white_names, whites}
+use Rattle.cc_heaps.specs.Sweeping.{is_white, not_white, white_names}
 use Rattle.cc_heaps.specs.declared.heaps.Heaps.TheInside.{Inside}
-use Rattle.cc_heaps.proofs.Calls.{key_left-shown}
-use Rattle.cc_heaps.proofs.Keying.{AreHeldThere}
-use Rattle.cc_heaps.proofs.Keys.{AreReflecting-left, HasKeys-keyed, HasKeys-left, HasKeys-names, Reflects-kept, counts_in}
-use Rattle.cc_heaps.proofs.LeftWith.{key_left-there, keys-there}
-use Rattle.cc_heaps.proofs.Naming.{native_names-shown, shown}
-use Rattle.cc_heaps.proofs.ObjectsKept.{AreObjects, AreObjects-parts, keys-counted, there-kept}
-use Rattle.cc_heaps.proofs.Owned.{AreOwned-permuted, all-owned, in_reflectors, in_registers}
+use Rattle.cc_heaps.proofs.ObjectsKept.{AreObjects, AreObjects-parts, there-kept}
 use Rattle.cc_heaps.proofs.Reaching.{HasOneKey, same-tests, name_at-own, name_at-found}
-use Rattle.cc_heaps.proofs.Registers.{AreLive, AreLive-same, left-same, registers-same}
 use Rattle.cc_heaps.proofs.RootNames.{register-names, key-register, script-named}
 use Rattle.cc_heaps.proofs.ScriptsChanged.{there-named}
-use Rattle.cc_heaps.proofs.SweptNatives.{IsLeftOf, IsLeftOf-each, each-named, each-swept, left_by, without_each, without_each-scripts, without_names, without_names-filter}
 
 -- whether an object stays
 abbrev pub stays : Object → Bool
@@ -90,7 +67,7 @@ module _ (p : Inside) (l : IsLinked p) (o : IsInOrder [] (keyed_of p)) (c : HasC
       ap is_white (sym same) ∙ Among-passes is_white f.0 p.scripts f.1
 
   -- what is marked stays
-  pub marked-stays : (q : Object) → Among q p.scripts → IsMarked (heap_of p) q.name → stays q ≡ true
+  marked-stays : (q : Object) → Among q p.scripts → IsMarked (heap_of p) q.name → stays q ≡ true
   marked-stays q m d = go (is_white q) refl
     where
       go : (b : Bool) → is_white q ≡ b → not b ≡ true
@@ -130,7 +107,7 @@ module _ (p : Inside) (l : IsLinked p) (o : IsInOrder [] (keyed_of p)) (c : HasC
       (named-slot p n key f.0 i f.1) (script-named p l key f.0 f.1))
 
   -- and each that is in a slot of an object that stays
-  pub slot-left : (q : Object) (k : ℕ) → Among q p.scripts → stays q ≡ true → Among (Some k) q.slots → name_at (left_objects p) k ≡ name_at p.scripts k
+  slot-left : (q : Object) (k : ℕ) → Among q p.scripts → stays q ≡ true → Among (Some k) q.slots → name_at (left_objects p) k ≡ name_at p.scripts k
   slot-left q k m s i =
       let f = there-named p.scripts k (o.whole q k m i) in
       name-left k f.0 f.1 (marked-slot (heap_of p) (named_object p.scripts q) f.0 (Among-map (named_object p.scripts) q p.scripts m)

@@ -1,32 +1,26 @@
 -- A SWEEP BY KEYS is the sweep of the definitions, where the colours are those of marking: what is left keeps its names.
-use Rattle.std.proofs.Common.{◌≡◌, ℕ, ◌+◌, ◌==◌, Bool, true, false, not, List, [], ◌∷◌, ◌++◌, map, Option, Some, None, refl, sym, ◌∙◌, ap, subst, arith, inl, inr, ⊎_elim}
-use Rattle.std.specs.List.{filter, flat_map}
+use Rattle.std.proofs.Common.{◌≡◌, ℕ, ◌+◌, Bool, true, false, not, List, [], ◌∷◌, ◌++◌, map, Option, Some, None, refl, sym, ◌∙◌, ap, subst, arith, inl, inr, ⊎_elim}
+use Rattle.std.specs.List.{flat_map}
 use Rattle.std.specs.Option.{option_and_then, option_to_list}
 use Rattle.std.proofs.Math.ListN.{get_or-map}
-use Rattle.std.proofs.lemmas.Bool.{true≢false}
 use Rattle.std.proofs.lemmas.List.{map-append}
-use Rattle.std.proofs.lemmas.Simd.{map-map}
 use Rattle.cc_lists.specs.Members.{Among, has}
-use Rattle.cc_lists.proofs.Members.{Among-map, Among-map_cases, Among-filter, Among-filtered, Among-passes, Among-flat_map_cases, has-there, has-among}
-use Rattle.cc_lists.proofs.Filtering.{count_by-filter-le, filter-agree}
-use Rattle.cc_lists.proofs.Searching.{filter-map}
-use Rattle.cc_lists.proofs.ListWrites.{each-map, only-member, map-agree}
+use Rattle.cc_lists.proofs.Members.{Among-map, Among-map_cases, Among-filtered, Among-flat_map_cases}
+use Rattle.cc_lists.proofs.Filtering.{filter-agree}
+use Rattle.cc_lists.proofs.ListWrites.{only-member, map-agree}
 use Rattle.cc_names.specs.declared.name.Name.{Name}
 use Rattle.cc_names.specs.declared.name.Name.TheVariants as name
 use Rattle.cc_names.specs.declared.number.SKey.{SKey}
-use Rattle.cc_names.specs.declared.kind.Kind.TheVariants.{Map}
 use Rattle.cc_names.specs.Names.{native, object, same_name, behind}
-use Rattle.cc_names.proofs.NameTests.{same_name-refl, same_name-exact}
+use Rattle.cc_names.proofs.NameTests.{same_name-refl}
 use Rattle.cc_model.specs.Slots.{contents}
-use Rattle.cc_model.specs.Heap.{Heap, HeapNative, HeapScript, Outcome, is_white_colour}
-use Rattle.cc_model.specs.Colours.{IsMarked, HasColours}
+use Rattle.cc_model.specs.Heap.{Heap, HeapNative, HeapScript, Outcome}
+use Rattle.cc_model.specs.Colours.{HasColours}
 use Rattle.cc_model.specs.Counts.{times}
 use Rattle.cc_model.specs.Sweep.{unmarked, without_dead_entries, sweep}
 use Rattle.cc_model.specs.Sweep as model
 use Rattle.cc_model.specs.WellFormed.{native_names}
 use Rattle.cc_laws_heap.specs.Sound.{IsSound}
-use Rattle.cc_laws_heap.proofs.MarkedKept.{marked-black, black-register, marked-slot, marked-native_slot, marked-not_unmarked, marked-other}
-use Rattle.cc_laws_heap.proofs.MarkedWellFormed.{is_spared}
 use Rattle.cc_laws_heap.proofs.Natives.{named-member}
 use Rattle.cc_laws_heap.proofs.References.{times-append}
 use Rattle.cc_laws_heap.proofs.Swept.{scripts-sweep, sweep-sound}
@@ -34,7 +28,7 @@ use Rattle.cc_counted.specs.Counts.{number_at, number_or_none, the_number, key_l
 use Rattle.cc_counted.specs.Counts as counts
 use Rattle.cc_counted.specs.Owning.{AreOwned}
 use Rattle.cc_script.specs.Objects.{Object, name_at}
-use Rattle.cc_script.proofs.Reaching.{among-held, held-among}
+use Rattle.cc_script.proofs.Reaching.{among-held}
 use Rattle.cc_heaps.specs.Keyed.{Keyed, IsInOrder, Reflects, left_with, named_entries, named_object, named_objects}
 use Rattle.cc_heaps.specs.Changes.{KeepsKeys}
 use Rattle.cc_heaps.specs.Named.{own_name, named_native, named, script_named, IsHeldThere, IsScriptLive}
@@ -46,13 +40,12 @@ use Rattle.cc_heaps.proofs.Keying.{AreHeldThere}
 use Rattle.cc_heaps.proofs.Keys.{AreReflecting-left, HasKeys-keyed, HasKeys-left, HasKeys-names, Reflects-kept, counts_in}
 use Rattle.cc_heaps.proofs.LeftWith.{key_left-there, keys-there}
 use Rattle.cc_heaps.proofs.Naming.{native_names-shown, shown}
-use Rattle.cc_heaps.proofs.ObjectsKept.{AreObjects, AreObjects-parts, keys-counted, there-kept}
+use Rattle.cc_heaps.proofs.ObjectsKept.{keys-counted, there-kept}
 use Rattle.cc_heaps.proofs.Owned.{AreOwned-permuted, all-owned, in_reflectors, in_registers}
 use Rattle.cc_heaps.proofs.EntriesLeft.{entries-left, entries_there-left, left_entries}
 use Rattle.cc_heaps.proofs.ObjectsLeft.{left_objects, native-left, objects-left, one_key-left, register-left, scripts-left, spared-stays, stays, white-unmarked}
-use Rattle.cc_heaps.proofs.Reaching.{HasOneKey, same-tests, name_at-own, name_at-found}
+use Rattle.cc_heaps.proofs.Reaching.{name_at-own, name_at-found}
 use Rattle.cc_heaps.proofs.Registers.{AreLive, AreLive-same, left-same, registers-same}
-use Rattle.cc_heaps.proofs.RootNames.{register-names, key-register, script-named}
 use Rattle.cc_heaps.proofs.SweptNatives.{IsLeftOf, IsLeftOf-each, each-named, each-swept, left_by, without_each, without_each-scripts, without_names, without_names-filter}
 
 -- the parts afterwards
