@@ -39,6 +39,8 @@ pub mod RootNames
 pub mod MarkedObjects
 pub mod WhitesSwept
 pub mod SweptNatives
+pub mod ObjectsLeft
+pub mod EntriesLeft
 pub mod SweptObjects
 pub mod Following
 pub mod StandingStill

@@ -7,7 +7,6 @@ use Rattle.std.proofs.Math.Path.{fun_ext}
 use Rattle.cc_lists.specs.Members.{Among}
 use Rattle.cc_lists.proofs.Searching.{find-map}
 use Rattle.cc_lists.proofs.ListWrites.{each-map, count_by-kept_map}
-use Rattle.cc_names.specs.declared.kind.Kind.TheVariants.{Map}
 use Rattle.cc_names.specs.declared.name.Name.{Name}
 use Rattle.cc_names.specs.Names.{reflector, same_name, is_native}
 use Rattle.cc_model.specs.Colours as names
@@ -58,21 +57,20 @@ module _ (blacks marks : List ℕ) where
     script_names = each-map (λ o. is_native o.name ≡ false) recoloured objects a.script_names;
     whole = λ o q m i. each-map (λ o. Among (Some q) o.slots → IsTrue (is_there (coloured_by blacks marks objects) q)) recoloured objects
         (λ p n j. there-kept objects (coloured_by blacks marks objects) q (name_at-coloured objects q) (a.whole p q n j)) o m i;
-    no_maps = each-map (λ o. ¬ (o.kind ≡ Map)) recoloured objects a.no_maps;
   }
 
 -- The colours by keys are those by names
 
 -- the keys that are black, and those that are marked
 abbrev blacks : Inside → List ℕ
-blacks p = black_keys p.scripts (black_roots p)
+blacks p = black_keys p.scripts p.weak (black_roots p)
 
 abbrev marks : Inside → List ℕ
-marks p = marked_keys p.scripts (black_roots p) (gray_roots p)
+marks p = marked_keys p.scripts p.weak (black_roots p) (gray_roots p)
 
 -- the objects after marking
 abbrev pub marked_objects : Inside → List Object
-marked_objects p = marked_from (black_roots p) (gray_roots p) p.scripts
+marked_objects p = marked_from (black_roots p) (gray_roots p) p.weak p.scripts
 
 module _ (p : Inside) (l : IsLinked p) (o : IsInOrder [] (keyed_of p)) where
   same-colour : (q : Object) → Among q p.scripts → colour_by (blacks p) (marks p) q.key ≡ names.colour_by (black_names (heap_of p)) (marked_names (heap_of p)) q.name
@@ -99,6 +97,7 @@ module _ (p : Inside) (l : IsLinked p) (o : IsInOrder [] (keyed_of p)) where
   holds-marked = record {
     registers = λ key m. name_at-coloured (blacks p) (marks p) p.scripts key.0;
     natives = λ n key m i. name_at-coloured (blacks p) (marks p) p.scripts key;
+    entries = λ e key m i. name_at-coloured (blacks p) (marks p) p.scripts key;
     reflectors = ap (λ (f : ℕ → Option ℕ). map (λ x. option_and_then f x) p.counted.keys) (fun_ext (λ k. key_of-coloured (blacks p) (marks p) p.scripts (reflector k)));
     reflecting = each-map (λ q. Reflects (keyed_of p) q.name q.native) (recoloured (blacks p) (marks p)) p.scripts o.reflecting;
   }

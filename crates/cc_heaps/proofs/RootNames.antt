@@ -13,6 +13,7 @@ use Rattle.cc_names.specs.declared.number.SKey.{SKey}
 use Rattle.cc_names.specs.Names.{object, same_name, is_script}
 use Rattle.cc_names.proofs.NameTests.{same_name-exact}
 use Rattle.cc_model.specs.Slots.{contents, from_to}
+use Rattle.cc_model.specs.Entries.{joint, joints}
 use Rattle.cc_model.specs.Heap.{HeapNative, HeapScript}
 use Rattle.cc_model.specs.View.{native_edges, script_slot_edges}
 use Rattle.cc_model.specs.Exposure.{slots_of_scripts}
@@ -31,7 +32,7 @@ use Rattle.cc_heaps.specs.Roots.{keys_in_registers, key_in, keys_in, references_
 use Rattle.cc_heaps.specs.declared.heaps.Heaps.TheInside.{Inside}
 use Rattle.cc_heaps.proofs.ObjectsKept.{keys-counted}
 use Rattle.cc_heaps.proofs.ReferenceNames.{references-there, named-reference, reference-named}
-use Rattle.cc_heaps.proofs.Reaching.{AreNamesOf, name_at-own, name_at-found, reached-alike_from}
+use Rattle.cc_heaps.proofs.Reaching.{AreNamesOf, name_at-own, name_at-found, marked-alike_from}
 
 -- Keys that are held
 
@@ -144,29 +145,31 @@ module _ (p : Inside) (l : IsLinked p) (o : IsInOrder [] (keyed_of p)) where
   black-there x m =
       let w : IsWellFormed (heap_of p) = o.sound.well_formed in
       let there : Among x (script_names (heap_of p)) =
-      derived-within (contents (heap_of p).script_registers) (slots_of_scripts (heap_of p)) [] (λ y. Among y (script_names (heap_of p)))
+      derived-within (contents (heap_of p).script_registers) (slots_of_scripts (heap_of p)) (joints (heap_of p).entries) (λ y. Among y (script_names (heap_of p)))
       w.script_registers
       (λ y z i before.
       let f = Among-flat_map_cases script_slot_edges (heap_of p).scripts (y, z) i in
       let g = Among-map_cases (from_to f.0.name) (contents f.0.slots) (y, z) f.2 in
       w.script_contents f.0 z f.1 (subst (λ u. Among u (contents f.0.slots)) (ap (λ (e : Name × Name). e.1) g.2) g.1))
-      (λ ps v i. absurd i) x
+      (λ xs v i before.
+      let f = Among-map_cases joint (heap_of p).entries (xs, v) i in
+      subst (λ (r : List Name × Name). Among r.1 (script_names (heap_of p))) f.2 (w.entries f.0 f.1).value) x
       (closure-derived same_name same_name-exact (black_rules (heap_of p)) x m) in
       let f = Among-map_cases (λ (q : HeapScript). q.name) (heap_of p).scripts x there in
       let g = Among-map_cases (named_object p.scripts) p.scripts f.0 f.1 in
       (g.0, g.1, ap (λ (q : HeapScript). q.name) g.2 ∙ f.2)
 
   -- an object is black by its key where it is black by its name
-  pub black-alike : (q : Object) → Among q p.scripts → has ◌==◌ (black_keys p.scripts (black_roots p)) q.key ≡ has same_name (black_names (heap_of p)) q.name
-  black-alike = reached-alike_from p.scripts l.one_key l.one_name (black_roots p) (contents (heap_of p).script_registers) (register-names p l)
+  pub black-alike : (q : Object) → Among q p.scripts → has ◌==◌ (black_keys p.scripts p.weak (black_roots p)) q.key ≡ has same_name (black_names (heap_of p)) q.name
+  black-alike = marked-alike_from p.scripts l.one_key l.one_name p.weak o.entries_there (black_roots p) (contents (heap_of p).script_registers) (register-names p l)
 
   -- WHAT IS BLACK
-  black_names-names : AreNamesOf p.scripts (black_keys p.scripts (black_roots p)) (black_names (heap_of p))
+  black_names-names : AreNamesOf p.scripts (black_keys p.scripts p.weak (black_roots p)) (black_names (heap_of p))
   black_names-names = record {
     named = λ k x m e.
         let f = name_at-found p.scripts k x e in
-        let by_key : has ◌==◌ (black_keys p.scripts (black_roots p)) f.0.key ≡ true =
-        has-there ◌==◌ number-exact (black_keys p.scripts (black_roots p)) f.0.key (subst (λ j. Among j (black_keys p.scripts (black_roots p))) (sym f.2) m) in
+        let by_key : has ◌==◌ (black_keys p.scripts p.weak (black_roots p)) f.0.key ≡ true =
+        has-there ◌==◌ number-exact (black_keys p.scripts p.weak (black_roots p)) f.0.key (subst (λ j. Among j (black_keys p.scripts p.weak (black_roots p))) (sym f.2) m) in
         subst (λ y. Among y (black_names (heap_of p))) f.3
         (has-among same_name same_name-exact (black_names (heap_of p)) f.0.name (sym (black-alike f.0 f.1) ∙ by_key));
     keyed = λ x m.
@@ -174,13 +177,13 @@ module _ (p : Inside) (l : IsLinked p) (o : IsInOrder [] (keyed_of p)) where
         let by_name : has same_name (black_names (heap_of p)) f.0.name ≡ true =
         has-there same_name same_name-exact (black_names (heap_of p)) f.0.name (subst (λ y. Among y (black_names (heap_of p))) (sym f.2) m) in (
           f.0.key,
-          has-among ◌==◌ number-exact (black_keys p.scripts (black_roots p)) f.0.key (black-alike f.0 f.1 ∙ by_name),
+          has-among ◌==◌ number-exact (black_keys p.scripts p.weak (black_roots p)) f.0.key (black-alike f.0 f.1 ∙ by_name),
           name_at-own p.scripts l.one_key f.0 f.1 ∙ ap (λ y. Some y) f.2,
         );
   }
 
   -- and it is marked by its key where it is marked by its name
   pub marked-alike : (q : Object) → Among q p.scripts →
-      has ◌==◌ (marked_keys p.scripts (black_roots p) (gray_roots p)) q.key ≡ has same_name (marked_names (heap_of p)) q.name
-  marked-alike = reached-alike_from p.scripts l.one_key l.one_name (black_keys p.scripts (black_roots p) ++ gray_roots p) (black_names (heap_of p) ++ scripts_held (heap_of p))
-      (AreNamesOf-append p.scripts (black_keys p.scripts (black_roots p)) (gray_roots p) (black_names (heap_of p)) (scripts_held (heap_of p)) black_names-names native-names)
+      has ◌==◌ (marked_keys p.scripts p.weak (black_roots p) (gray_roots p)) q.key ≡ has same_name (marked_names (heap_of p)) q.name
+  marked-alike = marked-alike_from p.scripts l.one_key l.one_name p.weak o.entries_there (black_keys p.scripts p.weak (black_roots p) ++ gray_roots p) (black_names (heap_of p) ++ scripts_held (heap_of p))
+      (AreNamesOf-append p.scripts (black_keys p.scripts p.weak (black_roots p)) (gray_roots p) (black_names (heap_of p)) (scripts_held (heap_of p)) black_names-names native-names)

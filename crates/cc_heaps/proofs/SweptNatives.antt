@@ -97,16 +97,17 @@ abbrev pub without_names : List Name → List Object → List Object
 without_names [] objects = objects
 without_names (x ∷ xs) objects = without_names xs (without_name x objects)
 
+-- neither one nor the other
+pub neither : (b c : Bool) → (not b && not c) ≡ not (b || c)
+neither true c = refl
+neither false c = refl
+
 pub without_names-filter : (xs : List Name) (objects : List Object) → without_names xs objects ≡ filter (λ o. not (has same_name xs o.name)) objects
 without_names-filter [] objects = sym (filter-true (λ (o : Object). not (has same_name [] o.name)) objects (λ o. refl))
 without_names-filter (x ∷ xs) objects =
     without_names-filter xs (without_name x objects)
     ∙ (filter-filter (λ (o : Object). not (has same_name xs o.name)) (λ o. not (same_name o.name x)) objects
     ∙ ap (λ t. filter t objects) (fun_ext (λ (o : Object). neither (same_name o.name x) (has same_name xs o.name) ∙ ap (λ b. not (b || has same_name xs o.name)) (same_name-sym o.name x))))
-  where
-    neither : (b c : Bool) → (not b && not c) ≡ not (b || c)
-    neither true c = refl
-    neither false c = refl
 
 -- the reflector of a native is found by its own name alone
 reflector-other : (objects : List Object) (x : Name) (k : ℕ) → same_name (reflector k) x ≡ false → reflector_key (without_name x objects) k ≡ reflector_key objects k

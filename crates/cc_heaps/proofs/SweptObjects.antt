@@ -1,33 +1,26 @@
--- A SWEEP BY KEYS is the sweep of the definitions, where the colours are those of marking: nothing that stays holds what
--- goes, so what stays keeps its names.
-use Rattle.std.proofs.Common.{◌≡◌, ℕ, ◌+◌, ◌==◌, Bool, true, false, not, List, [], ◌∷◌, ◌++◌, map, Option, Some, None, refl, sym, ◌∙◌, ap, subst, arith, inl, inr, ⊎_elim}
-use Rattle.std.specs.List.{filter, flat_map}
+-- A SWEEP BY KEYS is the sweep of the definitions, where the colours are those of marking: what is left keeps its names.
+use Rattle.std.proofs.Common.{◌≡◌, ℕ, ◌+◌, Bool, true, false, not, List, [], ◌∷◌, ◌++◌, map, Option, Some, None, refl, sym, ◌∙◌, ap, subst, arith, inl, inr, ⊎_elim}
+use Rattle.std.specs.List.{flat_map}
 use Rattle.std.specs.Option.{option_and_then, option_to_list}
 use Rattle.std.proofs.Math.ListN.{get_or-map}
-use Rattle.std.proofs.lemmas.Bool.{true≢false}
 use Rattle.std.proofs.lemmas.List.{map-append}
-use Rattle.std.proofs.lemmas.Simd.{map-map}
 use Rattle.cc_lists.specs.Members.{Among, has}
-use Rattle.cc_lists.proofs.Members.{Among-map, Among-map_cases, Among-filter, Among-filtered, Among-passes, Among-flat_map_cases, has-there, has-among}
-use Rattle.cc_lists.proofs.Filtering.{count_by-filter-le, filter-agree}
-use Rattle.cc_lists.proofs.Searching.{filter-map}
-use Rattle.cc_lists.proofs.ListWrites.{each-map, only-member, map-agree}
+use Rattle.cc_lists.proofs.Members.{Among-map, Among-map_cases, Among-filtered, Among-flat_map_cases}
+use Rattle.cc_lists.proofs.Filtering.{filter-agree}
+use Rattle.cc_lists.proofs.ListWrites.{only-member, map-agree}
 use Rattle.cc_names.specs.declared.name.Name.{Name}
 use Rattle.cc_names.specs.declared.name.Name.TheVariants as name
 use Rattle.cc_names.specs.declared.number.SKey.{SKey}
-use Rattle.cc_names.specs.declared.kind.Kind.TheVariants.{Map}
 use Rattle.cc_names.specs.Names.{native, object, same_name, behind}
-use Rattle.cc_names.proofs.NameTests.{same_name-refl, same_name-exact}
+use Rattle.cc_names.proofs.NameTests.{same_name-refl}
 use Rattle.cc_model.specs.Slots.{contents}
-use Rattle.cc_model.specs.Heap.{Heap, HeapNative, HeapScript, Outcome, is_white_colour}
-use Rattle.cc_model.specs.Colours.{IsMarked, HasColours}
+use Rattle.cc_model.specs.Heap.{Heap, HeapNative, HeapScript, Outcome}
+use Rattle.cc_model.specs.Colours.{HasColours}
 use Rattle.cc_model.specs.Counts.{times}
-use Rattle.cc_model.specs.Sweep.{unmarked, sweep}
+use Rattle.cc_model.specs.Sweep.{unmarked, without_dead_entries, sweep}
 use Rattle.cc_model.specs.Sweep as model
 use Rattle.cc_model.specs.WellFormed.{native_names}
 use Rattle.cc_laws_heap.specs.Sound.{IsSound}
-use Rattle.cc_laws_heap.proofs.MarkedKept.{marked-black, black-register, marked-slot, marked-native_slot, marked-not_unmarked, marked-other}
-use Rattle.cc_laws_heap.proofs.MarkedWellFormed.{is_spared}
 use Rattle.cc_laws_heap.proofs.Natives.{named-member}
 use Rattle.cc_laws_heap.proofs.References.{times-append}
 use Rattle.cc_laws_heap.proofs.Swept.{scripts-sweep, sweep-sound}
@@ -35,8 +28,8 @@ use Rattle.cc_counted.specs.Counts.{number_at, number_or_none, the_number, key_l
 use Rattle.cc_counted.specs.Counts as counts
 use Rattle.cc_counted.specs.Owning.{AreOwned}
 use Rattle.cc_script.specs.Objects.{Object, name_at}
-use Rattle.cc_script.proofs.Reaching.{among-held, held-among}
-use Rattle.cc_heaps.specs.Keyed.{Keyed, IsInOrder, Reflects, left_with, name_held, named_object, named_objects}
+use Rattle.cc_script.proofs.Reaching.{among-held}
+use Rattle.cc_heaps.specs.Keyed.{Keyed, IsInOrder, Reflects, left_with, named_entries, named_object, named_objects}
 use Rattle.cc_heaps.specs.Changes.{KeepsKeys}
 use Rattle.cc_heaps.specs.Named.{own_name, named_native, named, script_named, IsHeldThere, IsScriptLive}
 use Rattle.cc_heaps.specs.Fields.{heap_of, keyed_of, IsLinked}
@@ -47,37 +40,17 @@ use Rattle.cc_heaps.proofs.Keying.{AreHeldThere}
 use Rattle.cc_heaps.proofs.Keys.{AreReflecting-left, HasKeys-keyed, HasKeys-left, HasKeys-names, Reflects-kept, counts_in}
 use Rattle.cc_heaps.proofs.LeftWith.{key_left-there, keys-there}
 use Rattle.cc_heaps.proofs.Naming.{native_names-shown, shown}
-use Rattle.cc_heaps.proofs.ObjectsKept.{AreObjects, AreObjects-parts, keys-counted, there-kept}
+use Rattle.cc_heaps.proofs.ObjectsKept.{keys-counted, there-kept}
 use Rattle.cc_heaps.proofs.Owned.{AreOwned-permuted, all-owned, in_reflectors, in_registers}
-use Rattle.cc_heaps.proofs.Reaching.{HasOneKey, same-tests, name_at-own, name_at-found}
+use Rattle.cc_heaps.proofs.EntriesLeft.{entries-left, entries_there-left, left_entries}
+use Rattle.cc_heaps.proofs.ObjectsLeft.{left_objects, native-left, objects-left, one_key-left, register-left, scripts-left, spared-stays, stays, white-unmarked}
+use Rattle.cc_heaps.proofs.Reaching.{name_at-own, name_at-found}
 use Rattle.cc_heaps.proofs.Registers.{AreLive, AreLive-same, left-same, registers-same}
-use Rattle.cc_heaps.proofs.RootNames.{register-names, key-register, script-named}
-use Rattle.cc_heaps.proofs.ScriptsChanged.{there-named}
 use Rattle.cc_heaps.proofs.SweptNatives.{IsLeftOf, IsLeftOf-each, each-named, each-swept, left_by, without_each, without_each-scripts, without_names, without_names-filter}
-
--- whether an object stays
-abbrev stays : Object → Bool
-stays o = not (is_white o)
-
--- the objects that are left
-abbrev pub left_objects : Inside → List Object
-left_objects p = not_white p.scripts
 
 -- the parts afterwards
 abbrev pub swept_parts : Inside → Inside
-swept_parts p = record p { counted = (swept_counts p.counted p.scripts).counts; scripts = left_objects p }
-
--- THE NAMES OF THE WHITE ONES are those that are not marked
-pub white-unmarked : (p : Inside) → white_names p.scripts ≡ unmarked (heap_of p)
-white-unmarked p = sym (ap (map (λ (o : HeapScript). o.name)) (filter-map (λ (o : HeapScript). is_white_colour o.colour) (named_object p.scripts) p.scripts)
-    ∙ map-map (λ (o : HeapScript). o.name) (named_object p.scripts) (filter is_white p.scripts))
-
--- a native's slot holds a key, and by names what stands at it
-named-slot : (p : Inside) (n : HeapNative) (k : ℕ) (x : Name) → Among (object k) (contents n.slots) → name_at p.scripts k ≡ Some x → Among x (contents (named_native p.scripts n).slots)
-named-slot p n k x i e =
-    among-held (named_native p.scripts n).slots x
-    (subst (λ y. Among y (named_native p.scripts n).slots) e
-    (Among-map (λ (y : Option Name). option_and_then (own_name p.scripts) y) (Some (object k)) n.slots (held-among n.slots (object k) i)))
+swept_parts p = record p { counted = (swept_counts p.counted p.scripts).counts; scripts = left_objects p; weak = left_entries p }
 
 -- Who owns the references of natives
 
@@ -149,100 +122,6 @@ module _ (p : Inside) (l : IsLinked p) (o : IsInOrder [] (keyed_of p)) where
       stay = flat_map behind (map (λ q. q.name) (not_white p.scripts))
 
 module _ (p : Inside) (l : IsLinked p) (o : IsInOrder [] (keyed_of p)) (c : HasColours (heap_of p)) where
-  -- White or marked
-
-  white-there : (q : Object) → Among q p.scripts → is_white q ≡ true → Among q.name (unmarked (heap_of p))
-  white-there q m w = subst (Among q.name) (white-unmarked p) (Among-map (λ (r : Object). r.name) q (filter is_white p.scripts) (Among-filter is_white q p.scripts m w))
-
-  there-white : (q : Object) → Among q p.scripts → Among q.name (unmarked (heap_of p)) → is_white q ≡ true
-  there-white q m i =
-      let f = Among-map_cases (λ (r : Object). r.name) (filter is_white p.scripts) q.name (subst (Among q.name) (sym (white-unmarked p)) i) in
-      let same : f.0 ≡ q = only-member (λ r. same_name r.name q.name) p.scripts f.0 q (l.one_name q.name)
-      (Among-filtered is_white f.0 p.scripts f.1) (subst (λ y. same_name y q.name ≡ true) (sym f.2) (same_name-refl q.name))
-      m (same_name-refl q.name) in
-      ap is_white (sym same) ∙ Among-passes is_white f.0 p.scripts f.1
-
-  -- what is marked stays
-  marked-stays : (q : Object) → Among q p.scripts → IsMarked (heap_of p) q.name → stays q ≡ true
-  marked-stays q m d = go (is_white q) refl
-    where
-      go : (b : Bool) → is_white q ≡ b → not b ≡ true
-      go true w = absurd (marked-not_unmarked (heap_of p) c q.name d (white-there q m w))
-      go false w = refl
-
-  -- and what stays is marked
-  stays-marked : (q : Object) → Among q p.scripts → stays q ≡ true → IsMarked (heap_of p) q.name
-  stays-marked q m s = marked-other (heap_of p) c q.name
-      (Among-map (λ (r : HeapScript). r.name) (named_object p.scripts q) (heap_of p).scripts (Among-map (named_object p.scripts) q p.scripts m))
-      (λ i. true≢false (sym s ∙ ap not (there-white q m i)))
-
-  -- Names that are kept
-
-  one_key-left : HasOneKey (left_objects p)
-  one_key-left key = omega (arith, l.one_key key, count_by-filter-le (λ (q : Object). q.key == key) stays p.scripts)
-
-  -- a key whose object is marked has its name still
-  name-left : (k : ℕ) (x : Name) → name_at p.scripts k ≡ Some x → IsMarked (heap_of p) x → name_at (left_objects p) k ≡ name_at p.scripts k
-  name-left k x e d =
-      let f = name_at-found p.scripts k x e in
-      let left : Among f.0 (left_objects p) = Among-filter stays f.0 p.scripts f.1 (marked-stays f.0 f.1 (subst (IsMarked (heap_of p)) (sym f.3) d)) in
-      subst (λ j. name_at (left_objects p) j ≡ Some f.0.name) f.2 (name_at-own (left_objects p) one_key-left f.0 left) ∙ (ap (λ y. Some y) f.3 ∙ sym e)
-
-  -- so has each key that registers hold,
-  register-left : (key : SKey) → Among (Some key) p.script_registers.items → name_at (left_objects p) key.0 ≡ name_at p.scripts key.0
-  register-left key m =
-      let f = there-named p.scripts key.0 (l.script_registers (Some key) m) in
-      name-left key.0 f.0 f.1 (marked-black (heap_of p) f.0 (black-register (heap_of p) f.0
-      ((register-names p l).named key.0 f.0 (key-register p.script_registers.items key m) f.1)))
-
-  -- each that natives hold,
-  native-left : (n : HeapNative) (key : ℕ) → Among n p.counted.natives → Among (object key) (contents n.slots) → name_at (left_objects p) key ≡ name_at p.scripts key
-  native-left n key m i =
-      let f = there-named p.scripts key (l.held n (object key) m i) in
-      name-left key f.0 f.1 (marked-native_slot (heap_of p) (named_native p.scripts n) f.0 (Among-map (named_native p.scripts) n p.counted.natives m)
-      (named-slot p n key f.0 i f.1) (script-named p l key f.0 f.1))
-
-  -- and each that is in a slot of an object that stays
-  slot-left : (q : Object) (k : ℕ) → Among q p.scripts → stays q ≡ true → Among (Some k) q.slots → name_at (left_objects p) k ≡ name_at p.scripts k
-  slot-left q k m s i =
-      let f = there-named p.scripts k (o.whole q k m i) in
-      name-left k f.0 f.1 (marked-slot (heap_of p) (named_object p.scripts q) f.0 (Among-map (named_object p.scripts) q p.scripts m)
-      (among-held (map (name_held p.scripts) q.slots) f.0 (subst (λ y. Among y (map (name_held p.scripts) q.slots)) f.1 (Among-map (name_held p.scripts) (Some k) q.slots i)))
-      (stays-marked q m s))
-
-  objects-left : AreObjects (left_objects p)
-  objects-left =
-      let a = AreObjects-parts [] p l o in
-      record {
-        one_key = one_key-left;
-        one_name = λ x. omega (arith, l.one_name x, count_by-filter-le (λ (q : Object). same_name q.name x) stays p.scripts);
-        script_names = λ q m. a.script_names q (Among-filtered stays q p.scripts m);
-        whole = λ q k m i.
-            let before : Among q p.scripts = Among-filtered stays q p.scripts m in
-            there-kept p.scripts (left_objects p) k (slot-left q k before (Among-passes stays q p.scripts m) i) (a.whole q k before i);
-        no_maps = λ q m. a.no_maps q (Among-filtered stays q p.scripts m);
-      }
-
-  -- By names
-
-  named-left : (q : Object) → Among q (left_objects p) → named_object (left_objects p) q ≡ named_object p.scripts q
-  named-left q m = ap (λ slots. record { name = q.name; kind = q.kind; slots = slots; colour = q.colour }) (map-agree (name_held (left_objects p)) (name_held p.scripts) q.slots at)
-    where
-      at : (x : Option ℕ) → Among x q.slots → name_held (left_objects p) x ≡ name_held p.scripts x
-      at None i = refl
-      at (Some k) i = slot-left q k (Among-filtered stays q p.scripts m) (Among-passes stays q p.scripts m) i
-
-  spared-stays : (q : Object) → Among q p.scripts → is_spared (unmarked (heap_of p)) (named_object p.scripts q) ≡ stays q
-  spared-stays q m = ap not (same-tests (has same_name (unmarked (heap_of p)) q.name) (is_white q)
-      (λ e. there-white q m (has-among same_name same_name-exact (unmarked (heap_of p)) q.name e))
-      (λ w. has-there same_name same_name-exact (unmarked (heap_of p)) q.name (white-there q m w)))
-
-  scripts-left : filter (is_spared (unmarked (heap_of p))) (heap_of p).scripts ≡ named_objects (left_objects p)
-  scripts-left =
-      filter-map (is_spared (unmarked (heap_of p))) (named_object p.scripts) p.scripts
-      ∙ (ap (map (named_object p.scripts)) (filter-agree (λ (q : Object). is_spared (unmarked (heap_of p)) (named_object p.scripts q)) stays p.scripts spared-stays)
-      ∙ sym (map-agree (named_object (left_objects p)) (named_object p.scripts) (left_objects p) named-left))
-
   -- Natives that are left
 
   abbrev final : Left
@@ -259,7 +138,7 @@ module _ (p : Inside) (l : IsLinked p) (o : IsInOrder [] (keyed_of p)) (c : HasC
   -- under the same names,
   final-left : (n : HeapNative) (key : ℕ) → Among n final.counts.natives → Among (object key) (contents n.slots) → name_at (left_objects p) key ≡ name_at p.scripts key
   final-left n key m i = each-swept (λ u. (k : ℕ) → Among (object k) (contents u.slots) → name_at (left_objects p) k ≡ name_at p.scripts k) p.counted (whites p.scripts)
-      (untold p.counted) (λ r j k. native-left r k j) n m key i
+      (untold p.counted) (λ r j k. native-left p l o c r k j) n m key i
 
   native-same : (n : HeapNative) → Among n final.counts.natives → named_native (left_objects p) n ≡ named_native p.scripts n
   native-same n m = ap (λ slots. record n { slots = slots }) (map-agree (option_and_then (own_name (left_objects p))) (option_and_then (own_name p.scripts)) n.slots at)
@@ -280,33 +159,37 @@ module _ (p : Inside) (l : IsLinked p) (o : IsInOrder [] (keyed_of p)) (c : HasC
       (record { keys = sym (keys-there (counts.heap_of p.counted) p.counted.keys (keys-counted [] p l o).there); reflectors = l.reflectors }))
     where
       spared : (q : Object) → Among q p.scripts → not (has same_name (white_names p.scripts) q.name) ≡ stays q
-      spared q m = ap (λ xs. not (has same_name xs q.name)) (white-unmarked p) ∙ spared-stays q m
+      spared q m = ap (λ xs. not (has same_name xs q.name)) (white-unmarked p) ∙ spared-stays p l o c q m
 
       same : without_names (white_names p.scripts) p.scripts ≡ left_objects p
       same = without_names-filter (white_names p.scripts) p.scripts ∙ filter-agree (λ (q : Object). not (has same_name (white_names p.scripts) q.name)) stays p.scripts spared
 
   -- The definitions' sweep
 
+  -- the dead entries go first
+  abbrev living_entries : Heap
+  living_entries = without_dead_entries (unmarked (heap_of p)) (heap_of p)
+
   -- what is done to natives is what the definitions do to them
-  swept : sweep (heap_of p) ≡ left_by p.scripts (without_each (white_names p.scripts) (heap_of p)) final
+  swept : sweep (heap_of p) ≡ left_by p.scripts (without_each (white_names p.scripts) living_entries) final
   unfolding sweep
   swept =
-      ap (λ xs. model.sweep_each xs (left_by p.scripts (heap_of p) (untold p.counted))) (sym (white-unmarked p))
-      ∙ each-named p l.script_names (whites p.scripts) (heap_of p) (untold p.counted) (white-reflecting p l o)
+      ap (λ xs. model.sweep_each xs (left_by p.scripts living_entries (untold p.counted))) (sym (white-unmarked p))
+      ∙ each-named p l.script_names (whites p.scripts) living_entries (untold p.counted) (white-reflecting p l o)
 
   scripts-swept : (sweep (heap_of p)).heap.scripts ≡ named_objects (left_objects p)
-  scripts-swept = scripts-sweep (heap_of p) ∙ scripts-left
+  scripts-swept = scripts-sweep (heap_of p) ∙ scripts-left p l o c
 
   -- the heaps afterwards, by the names that were
   abbrev h : Heap
-  h = record (shown (heap_of p) p.scripts g) { scripts = named_objects (left_objects p) }
+  h = record (shown (heap_of p) p.scripts g) { scripts = named_objects (left_objects p); entries = named_entries (left_objects p) (left_entries p) }
 
   heap-swept : (sweep (heap_of p)).heap ≡ h
   heap-swept =
-      let e : (sweep (heap_of p)).heap ≡ shown (without_each (white_names p.scripts) (heap_of p)) p.scripts g = ap (λ (t : Outcome). t.heap) swept in
+      let e : (sweep (heap_of p)).heap ≡ shown (without_each (white_names p.scripts) living_entries) p.scripts g = ap (λ (t : Outcome). t.heap) swept in
       e
-      ∙ (ap (λ f. shown f p.scripts g) (without_each-scripts (white_names p.scripts) (heap_of p))
-      ∙ ap (λ scripts. record (shown (heap_of p) p.scripts g) { scripts = scripts }) (sym (ap (λ (f : Heap). f.scripts) e) ∙ scripts-swept))
+      ∙ (ap (λ f. shown f p.scripts g) (without_each-scripts (white_names p.scripts) living_entries)
+      ∙ (λ i. record (shown (heap_of p) p.scripts g) { scripts = (sym (ap (λ (f : Heap). f.scripts) e) ∙ scripts-swept) i; entries = entries-left p l o c i }))
 
   pub events-swept : final.events ≡ (sweep (heap_of p)).events
   events-swept = sym (ap (λ (t : Outcome). t.events) swept)
@@ -332,7 +215,7 @@ module _ (p : Inside) (l : IsLinked p) (o : IsInOrder [] (keyed_of p)) (c : HasC
 
       script : (x : Option SKey) → Among x p.script_registers.items → script_named (left_objects p) x ≡ script_named p.scripts x
       script None m = refl
-      script (Some key) m = register-left key m
+      script (Some key) m = register-left p l o c key m
 
       scripts : map (script_named (left_objects p)) p.script_registers.items ≡ map (script_named p.scripts) p.script_registers.items
       scripts = map-agree (script_named (left_objects p)) (script_named p.scripts) p.script_registers.items script
@@ -342,13 +225,13 @@ module _ (p : Inside) (l : IsLinked p) (o : IsInOrder [] (keyed_of p)) (c : HasC
 
   -- the natives that are left of heaps with the script objects that are left
   abbrev before : Keyed
-  before = record { heap = heap_of p; keys = p.counted.keys; scripts = left_objects p }
+  before = record { heap = heap_of p; keys = p.counted.keys; scripts = left_objects p; entries = left_entries p }
 
   keys-later : final.counts.keys ≡ map (key_left h) p.counted.keys
   keys-later = final-keys.keys ∙ map-agree (key_left g) (key_left h) p.counted.keys (λ k m. key_left-shown p.scripts (heap_of p) g k)
 
   keyed-later : keyed_of later ≡ left_with before h
-  keyed-later = λ i. record { heap = heap-later i; keys = keys-later i; scripts = left_objects p }
+  keyed-later = λ i. record { heap = heap-later i; keys = keys-later i; scripts = left_objects p; entries = left_entries p }
 
   -- THE PARTS STAY LINKED,
   pub linked-swept : IsLinked later
@@ -359,15 +242,15 @@ module _ (p : Inside) (l : IsLinked p) (o : IsInOrder [] (keyed_of p)) (c : HasC
     script_registers = λ x m. register x m (l.script_registers x m);
     registers = l.registers;
     held = λ n x m i. content n x m i (held-final n x m i);
-    one_key = objects-left.one_key;
-    one_name = objects-left.one_name;
+    one_key = (objects-left p l o c).one_key;
+    one_name = (objects-left p l o c).one_name;
     reflectors = final-keys.reflectors;
-    script_names = objects-left.script_names;
+    script_names = (objects-left p l o c).script_names;
   }
     where
       register : (x : Option SKey) → Among x p.script_registers.items → IsScriptLive p.scripts x → IsScriptLive (left_objects p) x
       register None m t = t
-      register (Some key) m t = there-kept p.scripts (left_objects p) key.0 (register-left key m) t
+      register (Some key) m t = there-kept p.scripts (left_objects p) key.0 (register-left p l o c key m) t
 
       content : (n : HeapNative) (x : Name) → Among n final.counts.natives → Among x (contents n.slots) → IsHeldThere p.scripts x → IsHeldThere (left_objects p) x
       content n (name.Native k) m i t = t
@@ -391,12 +274,13 @@ module _ (p : Inside) (l : IsLinked p) (o : IsInOrder [] (keyed_of p)) (c : HasC
     keyed = HasKeys-keyed before h (map (key_left h) p.counted.keys)
         (HasKeys-left (counts_in (heap_of p) p.counted.keys) h [] sound.well_formed natives-before (HasKeys-names (keyed_of p) o.keyed));
     named = refl;
-    one_key = objects-left.one_key;
-    whole = objects-left.whole;
+    one_key = (objects-left p l o c).one_key;
+    whole = (objects-left p l o c).whole;
     reflecting = AreReflecting-left before h refl sound.well_formed
         (λ q m. Reflects-kept (keyed_of p) before q.name q.native (λ s k is at. at) (o.reflecting q (Among-filtered stays q p.scripts m)));
     limits = o.limits;
-    without_maps = record { no_maps = each-map (λ q. ¬ (q.kind ≡ Map)) (named_object (left_objects p)) (left_objects p) objects-left.no_maps; no_entries = refl };
+    entries = refl;
+    entries_there = entries_there-left p l o c;
   })
 
   -- THE SWEEP IS THAT OF THE DEFINITIONS
@@ -420,5 +304,5 @@ module _ (p : Inside) (l : IsLinked p) (o : IsInOrder [] (keyed_of p)) (c : HasC
         (Among-filtered stays r.0 p.scripts r.1) (subst (λ y. same_name y x ≡ true) (sym named) (same_name-refl x))
         f.1 (subst (λ y. same_name y x ≡ true) (sym f.3) (same_name-refl x)) in
         subst (λ j. name_at (left_objects p) j ≡ Some x) (ap (λ (q : Object). q.key) same ∙ f.2)
-        (name_at-own (left_objects p) one_key-left r.0 r.1 ∙ ap (λ y. Some y) named);
+        (name_at-own (left_objects p) (one_key-left p l o c) r.0 r.1 ∙ ap (λ y. Some y) named);
   })

@@ -1,4 +1,5 @@
 //! Each call once, with ample memory.
+mod entries_swept;
 mod natives;
 mod preserved;
 mod reflectors;

@@ -14,9 +14,9 @@ use std::test::Fail;
 
 /// Heaps in order, and what they told.
 #[derive(Drop)]
-struct World {
-    heaps: Heaps,
-    out: Notebook,
+pub(super) struct World {
+    pub(super) heaps: Heaps,
+    pub(super) out: Notebook,
 }
 
 impl Model for World {
@@ -32,7 +32,7 @@ impl Model for World {
 
 impl World {
     /// No objects.
-    fn new(alloc: Global) -> Result<World, Fail> {
+    pub(super) fn new(alloc: Global) -> Result<World, Fail> {
         Ok(World {
             heaps: Heaps::new(alloc, Limits::new(10, 10, 0))?,
             out: Notebook::new(alloc),
@@ -40,19 +40,19 @@ impl World {
     }
 
     /// Script register `r` holds a new plain object.
-    fn object(&mut self, r: u8, slots: u8) -> Result<(), Fail> {
+    pub(super) fn object(&mut self, r: u8, slots: u8) -> Result<(), Fail> {
         self.heaps.new_plain(r, slots.min(64))?;
         Ok(())
     }
 
     /// Native register `r` holds a new native.
-    fn native(&mut self, r: u8, slots: u8) -> Result<(), Fail> {
+    pub(super) fn native(&mut self, r: u8, slots: u8) -> Result<(), Fail> {
         self.heaps.new_native(r, slots.min(64), &mut self.out)?;
         Ok(())
     }
 
     /// Slot `i` of what native register `r` holds takes what script register `s` holds.
-    fn store(&mut self, r: u8, i: u8, s: u8) {
+    pub(super) fn store(&mut self, r: u8, i: u8, s: u8) {
         if let Some(key) = self.heaps.native_reg(r) {
             if i < self.heaps.counted().slots(key) {
                 let content = self.heaps.script_reg(s).map(Held::Script);
@@ -78,12 +78,12 @@ impl World {
     }
 
     /// Script register `r` holds nothing.
-    fn let_go(&mut self, r: u8) {
+    pub(super) fn let_go(&mut self, r: u8) {
         self.heaps.set_script_reg(r, None);
     }
 
     /// A marking, and the sweep after it. Whether something was swept.
-    fn round(&mut self) -> bool {
+    pub(super) fn round(&mut self) -> bool {
         self.heaps.mark_scripts();
         self.heaps.sweep(&mut self.out)
     }
@@ -97,12 +97,12 @@ impl World {
     }
 
     /// The names and the colours of the first four.
-    fn all_shown(&self) -> [Option<(Name, Colour)>; 4] {
+    pub(super) fn all_shown(&self) -> [Option<(Name, Colour)>; 4] {
         [self.shown(0), self.shown(1), self.shown(2), self.shown(3)]
     }
 
     /// Slot `i` of what script register `r` holds takes what script register `s` holds.
-    fn hold(&mut self, r: u8, i: u8, s: u8) {
+    pub(super) fn hold(&mut self, r: u8, i: u8, s: u8) {
         if let Some(key) = self.heaps.script_reg(r) {
             let content = self.black(s);
             if i < self.heaps.scripts().slots(key) {
@@ -136,7 +136,7 @@ fn key_of(scripts: &Scripts, place: usize) -> Option<SKey>
 }
 
 /// The plain object with a number, and its colour.
-fn coloured(number: u32, colour: Colour) -> Option<(Name, Colour)> {
+pub(super) fn coloured(number: u32, colour: Colour) -> Option<(Name, Colour)> {
     Some((Name::Script(ScriptNo(number)), colour))
 }
 

@@ -27,6 +27,9 @@ registers c = c.new-registers.ensures ∙ ap keys_in_registers c.as_slice.ensure
 pub mark-requires-clause-whole : goal.mark-requires-clause-whole
 mark-requires-clause-whole c = (rw (← c.self.view_is) at c.requires.order).whole
 
+pub mark-requires-clause-entries : goal.mark-requires-clause-entries
+mark-requires-clause-entries c = (rw (← c.self.view_is) at c.requires.order).entries_there
+
 pub mark-requires-clause-black : goal.mark-requires-clause-black
 mark-requires-clause-black c = λ k m.
     register-there c.self.inside c.self.invariant k
@@ -40,7 +43,7 @@ mark-requires-clause-gray c =
 -- the objects are those of the marking
 objects : (c : goal.After-mark) → marked_objects c.self.inside ≡ c.mark.new.scripts
 objects c =
-    sym (c.mark.ensures.colours ∙ (λ i. marked_from (registers c i) (c.new-held.ensures i) c.self.inside.scripts))
+    sym (c.mark.ensures.colours ∙ (λ i. marked_from (registers c i) (c.new-held.ensures i) c.self.inside.weak c.self.inside.scripts))
 
 pub returns-clause-heap : goal.returns-clause-heap
 returns-clause-heap c =

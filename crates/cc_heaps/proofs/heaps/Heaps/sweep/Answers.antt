@@ -12,19 +12,24 @@ use Rattle.cc_heaps.specs.Sweeping.{are_some}
 use Rattle.cc_heaps.specs.declared.heaps.Heaps.TheInside.{Inside}
 use Rattle.cc_heaps.proofs.FewCounts.{few-alone}
 use Rattle.cc_heaps.proofs.StandingStill.{sweep-still, sweep-invariant}
-use Rattle.cc_heaps.proofs.SweptObjects.{white-unmarked, whites-own, heap-is, events-swept, keys-swept, linked-swept, natives-swept, order-swept, swept_parts}
+use Rattle.cc_heaps.proofs.ObjectsLeft.{white-unmarked}
+use Rattle.cc_heaps.proofs.SweptObjects.{whites-own, heap-is, events-swept, keys-swept, linked-swept, natives-swept, order-swept, swept_parts}
 use Rattle.cc_heaps.proofs.heaps.Heaps.sweep.Given as given
 use Rattle.cc_heaps.proofs.heaps.Heaps.sweep.Goals as goal
 
 -- the parts afterwards
-swept-is : (g : given.Over) (c : goal.After-sweep_whites g) → record c.self.inside { counted = c.sweep_whites.new.counted; scripts = c.sweep_whites.new.scripts } ≡ swept_parts c.self.inside
-swept-is g c = λ i. record c.self.inside { counted = c.sweep_whites.ensures.natives i; scripts = c.sweep_whites.ensures.left i }
+swept-is : (g : given.Over) (c : goal.After-sweep_whites g) →
+    record c.self.inside { counted = c.sweep_whites.new.counted; scripts = c.sweep_whites.new.scripts; weak = c.drop_dead.new.weak } ≡ swept_parts c.self.inside
+swept-is g c = λ i. record c.self.inside { counted = c.sweep_whites.ensures.natives i; scripts = c.sweep_whites.ensures.left i; weak = c.drop_dead.ensures i }
 
 order : (g : given.Over) (c : goal.After-sweep_whites g) → IsInOrder [] (keyed_of c.self.inside)
 order g c = rw (← c.self.view_is) at c.requires.order
 
 colours : (g : given.Over) (c : goal.After-sweep_whites g) → HasColours (heap_of c.self.inside)
 colours g c = rw (← c.self.view_is) at c.requires.colours
+
+pub drop_dead-requires : goal.drop_dead-requires
+drop_dead-requires g c = (rw (← c.self.view_is) at c.requires.order).entries_there
 
 pub sweep_whites-requires : goal.sweep_whites-requires
 sweep_whites-requires g c = record { one = c.self.invariant.one_key; owned = whites-own c.self.inside c.self.invariant (rw (← c.self.view_is) at c.requires.order) }

@@ -1,0 +1,147 @@
+-- WHAT A SWEEP LEAVES OF THE SCRIPT OBJECTS, where the colours are those of marking: nothing that stays holds what goes,
+-- so what stays keeps its names.
+use Rattle.std.proofs.Common.{◌≡◌, ℕ, ◌==◌, Bool, true, false, not, List, [], map, Option, Some, None, refl, sym, ◌∙◌, ap, subst, arith}
+use Rattle.std.specs.List.{filter}
+use Rattle.std.specs.Option.{option_and_then}
+use Rattle.std.proofs.lemmas.Bool.{true≢false}
+use Rattle.std.proofs.lemmas.Simd.{map-map}
+use Rattle.cc_lists.specs.Members.{Among, has}
+use Rattle.cc_lists.proofs.Members.{Among-map, Among-map_cases, Among-filter, Among-filtered, Among-passes, has-there, has-among}
+use Rattle.cc_lists.proofs.Filtering.{count_by-filter-le, filter-agree}
+use Rattle.cc_lists.proofs.Searching.{filter-map}
+use Rattle.cc_lists.proofs.ListWrites.{only-member, map-agree}
+use Rattle.cc_names.specs.declared.name.Name.{Name}
+use Rattle.cc_names.specs.declared.number.SKey.{SKey}
+use Rattle.cc_names.specs.Names.{object, same_name}
+use Rattle.cc_names.proofs.NameTests.{same_name-refl, same_name-exact}
+use Rattle.cc_model.specs.Slots.{contents}
+use Rattle.cc_model.specs.Heap.{HeapNative, HeapScript, is_white_colour}
+use Rattle.cc_model.specs.Colours.{IsMarked, HasColours}
+use Rattle.cc_model.specs.Sweep.{unmarked}
+use Rattle.cc_laws_heap.proofs.MarkedKept.{marked-black, black-register, marked-slot, marked-native_slot, marked-not_unmarked, marked-other}
+use Rattle.cc_laws_heap.proofs.MarkedWellFormed.{is_spared}
+use Rattle.cc_script.specs.Objects.{Object, name_at}
+use Rattle.cc_script.proofs.Reaching.{among-held, held-among}
+use Rattle.cc_heaps.specs.Keyed.{IsInOrder, name_held, named_object, named_objects}
+use Rattle.cc_heaps.specs.Named.{own_name, named_native}
+use Rattle.cc_heaps.specs.Fields.{heap_of, keyed_of, IsLinked}
+use Rattle.cc_heaps.specs.Sweeping.{is_white, not_white, white_names}
+use Rattle.cc_heaps.specs.declared.heaps.Heaps.TheInside.{Inside}
+use Rattle.cc_heaps.proofs.ObjectsKept.{AreObjects, AreObjects-parts, there-kept}
+use Rattle.cc_heaps.proofs.Reaching.{HasOneKey, same-tests, name_at-own, name_at-found}
+use Rattle.cc_heaps.proofs.RootNames.{register-names, key-register, script-named}
+use Rattle.cc_heaps.proofs.ScriptsChanged.{there-named}
+
+-- whether an object stays
+abbrev pub stays : Object → Bool
+stays o = not (is_white o)
+
+-- the objects that are left
+abbrev pub left_objects : Inside → List Object
+left_objects p = not_white p.scripts
+
+-- THE NAMES OF THE WHITE ONES are those that are not marked
+pub white-unmarked : (p : Inside) → white_names p.scripts ≡ unmarked (heap_of p)
+white-unmarked p = sym (ap (map (λ (o : HeapScript). o.name)) (filter-map (λ (o : HeapScript). is_white_colour o.colour) (named_object p.scripts) p.scripts)
+    ∙ map-map (λ (o : HeapScript). o.name) (named_object p.scripts) (filter is_white p.scripts))
+
+-- a native's slot holds a key, and by names what stands at it
+named-slot : (p : Inside) (n : HeapNative) (k : ℕ) (x : Name) → Among (object k) (contents n.slots) → name_at p.scripts k ≡ Some x → Among x (contents (named_native p.scripts n).slots)
+named-slot p n k x i e =
+    among-held (named_native p.scripts n).slots x
+    (subst (λ y. Among y (named_native p.scripts n).slots) e
+    (Among-map (λ (y : Option Name). option_and_then (own_name p.scripts) y) (Some (object k)) n.slots (held-among n.slots (object k) i)))
+
+module _ (p : Inside) (l : IsLinked p) (o : IsInOrder [] (keyed_of p)) (c : HasColours (heap_of p)) where
+  -- White or marked
+
+  white-there : (q : Object) → Among q p.scripts → is_white q ≡ true → Among q.name (unmarked (heap_of p))
+  white-there q m w = subst (Among q.name) (white-unmarked p) (Among-map (λ (r : Object). r.name) q (filter is_white p.scripts) (Among-filter is_white q p.scripts m w))
+
+  there-white : (q : Object) → Among q p.scripts → Among q.name (unmarked (heap_of p)) → is_white q ≡ true
+  there-white q m i =
+      let f = Among-map_cases (λ (r : Object). r.name) (filter is_white p.scripts) q.name (subst (Among q.name) (sym (white-unmarked p)) i) in
+      let same : f.0 ≡ q = only-member (λ r. same_name r.name q.name) p.scripts f.0 q (l.one_name q.name)
+      (Among-filtered is_white f.0 p.scripts f.1) (subst (λ y. same_name y q.name ≡ true) (sym f.2) (same_name-refl q.name))
+      m (same_name-refl q.name) in
+      ap is_white (sym same) ∙ Among-passes is_white f.0 p.scripts f.1
+
+  -- what is marked stays
+  marked-stays : (q : Object) → Among q p.scripts → IsMarked (heap_of p) q.name → stays q ≡ true
+  marked-stays q m d = go (is_white q) refl
+    where
+      go : (b : Bool) → is_white q ≡ b → not b ≡ true
+      go true w = absurd (marked-not_unmarked (heap_of p) c q.name d (white-there q m w))
+      go false w = refl
+
+  -- and what stays is marked
+  pub stays-marked : (q : Object) → Among q p.scripts → stays q ≡ true → IsMarked (heap_of p) q.name
+  stays-marked q m s = marked-other (heap_of p) c q.name
+      (Among-map (λ (r : HeapScript). r.name) (named_object p.scripts q) (heap_of p).scripts (Among-map (named_object p.scripts) q p.scripts m))
+      (λ i. true≢false (sym s ∙ ap not (there-white q m i)))
+
+  -- Names that are kept
+
+  pub one_key-left : HasOneKey (left_objects p)
+  one_key-left key = omega (arith, l.one_key key, count_by-filter-le (λ (q : Object). q.key == key) stays p.scripts)
+
+  -- a key whose object is marked has its name still
+  pub name-left : (k : ℕ) (x : Name) → name_at p.scripts k ≡ Some x → IsMarked (heap_of p) x → name_at (left_objects p) k ≡ name_at p.scripts k
+  name-left k x e d =
+      let f = name_at-found p.scripts k x e in
+      let left : Among f.0 (left_objects p) = Among-filter stays f.0 p.scripts f.1 (marked-stays f.0 f.1 (subst (IsMarked (heap_of p)) (sym f.3) d)) in
+      subst (λ j. name_at (left_objects p) j ≡ Some f.0.name) f.2 (name_at-own (left_objects p) one_key-left f.0 left) ∙ (ap (λ y. Some y) f.3 ∙ sym e)
+
+  -- so has each key that registers hold,
+  pub register-left : (key : SKey) → Among (Some key) p.script_registers.items → name_at (left_objects p) key.0 ≡ name_at p.scripts key.0
+  register-left key m =
+      let f = there-named p.scripts key.0 (l.script_registers (Some key) m) in
+      name-left key.0 f.0 f.1 (marked-black (heap_of p) f.0 (black-register (heap_of p) f.0
+      ((register-names p l).named key.0 f.0 (key-register p.script_registers.items key m) f.1)))
+
+  -- each that natives hold,
+  pub native-left : (n : HeapNative) (key : ℕ) → Among n p.counted.natives → Among (object key) (contents n.slots) → name_at (left_objects p) key ≡ name_at p.scripts key
+  native-left n key m i =
+      let f = there-named p.scripts key (l.held n (object key) m i) in
+      name-left key f.0 f.1 (marked-native_slot (heap_of p) (named_native p.scripts n) f.0 (Among-map (named_native p.scripts) n p.counted.natives m)
+      (named-slot p n key f.0 i f.1) (script-named p l key f.0 f.1))
+
+  -- and each that is in a slot of an object that stays
+  slot-left : (q : Object) (k : ℕ) → Among q p.scripts → stays q ≡ true → Among (Some k) q.slots → name_at (left_objects p) k ≡ name_at p.scripts k
+  slot-left q k m s i =
+      let f = there-named p.scripts k (o.whole q k m i) in
+      name-left k f.0 f.1 (marked-slot (heap_of p) (named_object p.scripts q) f.0 (Among-map (named_object p.scripts) q p.scripts m)
+      (among-held (map (name_held p.scripts) q.slots) f.0 (subst (λ y. Among y (map (name_held p.scripts) q.slots)) f.1 (Among-map (name_held p.scripts) (Some k) q.slots i)))
+      (stays-marked q m s))
+
+  pub objects-left : AreObjects (left_objects p)
+  objects-left =
+      let a = AreObjects-parts [] p l o in
+      record {
+        one_key = one_key-left;
+        one_name = λ x. omega (arith, l.one_name x, count_by-filter-le (λ (q : Object). same_name q.name x) stays p.scripts);
+        script_names = λ q m. a.script_names q (Among-filtered stays q p.scripts m);
+        whole = λ q k m i.
+            let before : Among q p.scripts = Among-filtered stays q p.scripts m in
+            there-kept p.scripts (left_objects p) k (slot-left q k before (Among-passes stays q p.scripts m) i) (a.whole q k before i);
+      }
+
+  -- By names
+
+  named-left : (q : Object) → Among q (left_objects p) → named_object (left_objects p) q ≡ named_object p.scripts q
+  named-left q m = ap (λ slots. record { name = q.name; kind = q.kind; slots = slots; colour = q.colour }) (map-agree (name_held (left_objects p)) (name_held p.scripts) q.slots at)
+    where
+      at : (x : Option ℕ) → Among x q.slots → name_held (left_objects p) x ≡ name_held p.scripts x
+      at None i = refl
+      at (Some k) i = slot-left q k (Among-filtered stays q p.scripts m) (Among-passes stays q p.scripts m) i
+
+  pub spared-stays : (q : Object) → Among q p.scripts → is_spared (unmarked (heap_of p)) (named_object p.scripts q) ≡ stays q
+  spared-stays q m = ap not (same-tests (has same_name (unmarked (heap_of p)) q.name) (is_white q)
+      (λ e. there-white q m (has-among same_name same_name-exact (unmarked (heap_of p)) q.name e))
+      (λ w. has-there same_name same_name-exact (unmarked (heap_of p)) q.name (white-there q m w)))
+
+  pub scripts-left : filter (is_spared (unmarked (heap_of p))) (heap_of p).scripts ≡ named_objects (left_objects p)
+  scripts-left =
+      filter-map (is_spared (unmarked (heap_of p))) (named_object p.scripts) p.scripts
+      ∙ (ap (map (named_object p.scripts)) (filter-agree (λ (q : Object). is_spared (unmarked (heap_of p)) (named_object p.scripts q)) stays p.scripts spared-stays)
+      ∙ sym (map-agree (named_object (left_objects p)) (named_object p.scripts) (left_objects p) named-left))
