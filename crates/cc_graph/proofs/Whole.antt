@@ -1,6 +1,6 @@
 -- What is kept of the nodes stays right.
 use Rattle.std.proofs.Common.{◌≡◌, ◌≢◌, ℕ, ◌+◌, ◌<◌, ◌≤◌, zero, suc, Bool, true, false, cond, List, [], ◌∷◌, ◌++◌, length, get_or, refl, sym, ◌∙◌, ap, subst, inl, inr, ⊎_elim, arith, count_by, Some, None}
-use Rattle.std.specs.Prelude.{◌==◌, slice_get, nat_lt}
+use Rattle.std.specs.Prelude.{◌==◌, slice_get, nat_lt, Option, IfSome}
 use Rattle.std.proofs.Math.ListN.{set}
 use Rattle.std.proofs.lemmas.Bool.{ltb-true, eq-eqb, ne_eqb}
 use Rattle.std.proofs.lemmas.Bool.Decides.{eqb_tells}
@@ -16,8 +16,8 @@ use Rattle.cc_lists.proofs.CountsOf.{false-left, count_by-none}
 use Rattle.cc_lists.proofs.ListWrites.{each-push}
 use Rattle.cc_lists.proofs.Numbers.{number-exact}
 use Rattle.cc_lists.proofs.OnceEach.{with_all_last-once}
-use Rattle.cc_graph.specs.Shown.{Vertex, vertex, Edge, Shown, change_vertex, edges_to, number_of, with_black}
-use Rattle.cc_graph.specs.Closed.{IsWithin}
+use Rattle.cc_graph.specs.Shown.{Vertex, vertex, Edge, Hyperedge, Shown, change_vertex, edges_to, number_of, with_black}
+use Rattle.cc_graph.specs.Closed.{IsHyperedgeWithin, AreHyperedgesWithin, IsWithin, IsClosed}
 use Rattle.cc_names.proofs.NameTests.{same_name-refl}
 use Rattle.cc_graph.proofs.Walks.{number-last}
 use Rattle.cc_graph.specs.Kept.{Kept, added, vertices, IsRight, IsWhole}
@@ -83,9 +83,9 @@ pub length-vertices : (ks : List Kept) → length (vertices ks) ≡ length ks
 length-vertices ks = length-map ks (λ k. k.vertex)
 
 -- graphs with the same parts
-pub shown-same : (vs ws : List Vertex) (es fs : List Edge) (bs cs : List ℕ) (n m : ℕ) → vs ≡ ws → es ≡ fs → bs ≡ cs → n ≡ m →
-    ◌≡◌ {A = Shown} (record { nodes = vs; edges = es; blacks = bs; spare = n }) (record { nodes = ws; edges = fs; blacks = cs; spare = m })
-shown-same vs ws es fs bs cs n m a b c d = rw (a, b, c, d) refl
+pub shown-same : (vs ws : List Vertex) (es fs : List Edge) (ms : List Hyperedge) (bs cs : List ℕ) (n m : ℕ) → vs ≡ ws → es ≡ fs → bs ≡ cs → n ≡ m →
+    ◌≡◌ {A = Shown} (record { nodes = vs; edges = es; hyperedges = ms; blacks = bs; spare = n }) (record { nodes = ws; edges = fs; hyperedges = ms; blacks = cs; spare = m })
+shown-same vs ws es fs ms bs cs n m a b c d = rw (a, b, c, d) refl
 
 -- a node becomes black
 pub black-last : (bs : List ℕ) (i : ℕ) → has ◌==◌ bs i ≡ false → bs ++ i ∷ [] ≡ with_black bs i
@@ -124,25 +124,38 @@ within-more n m es bs w le = record {
   once = w.once;
 }
 
+-- a member of a mapping, where there is more room for it
+member-more : (n m : ℕ) (o : Option ℕ) → IfSome o (λ i. i < n) → n ≤ m → IfSome o (λ i. i < m)
+member-more n m None h le = h
+member-more n m (Some i) h le = omega (arith, h, le)
+
+hyperedges-more : (n m : ℕ) (ms : List Hyperedge) → AreHyperedgesWithin n ms → n ≤ m → AreHyperedgesWithin m ms
+hyperedges-more n m ms w le x a = record {
+  the_map = member-more n m x.the_map (w x a).the_map le;
+  key = member-more n m x.key (w x a).key le;
+  value = let h = (w x a).value in omega (arith, h, le);
+}
+
 -- a node is added
-pub whole-added : (ks : List Kept) (es : List Edge) (bs : List ℕ) (room more : ℕ) (x : Name) (h : Held) → IsWhole ks es bs room → length ks < 4294967295 → length ks + 1 ≤ more →
-    IsWhole (ks ++ added x h ∷ []) es bs more
-whole-added ks es bs room more x h w few enough = record {
+pub whole-added : (ks : List Kept) (es : List Edge) (ms : List Hyperedge) (bs : List ℕ) (room more : ℕ) (x : Name) (h : Held) → IsWhole ks es ms bs room → length ks < 4294967295 → length ks + 1 ≤ more →
+    IsWhole (ks ++ added x h ∷ []) es ms bs more
+whole-added ks es ms bs room more x h w few enough = record {
   few = omega (arith, few, length_push ks (added x h));
   right = each-added (IsRight es bs) ks (added x h) w.right (record {
     black = sym (has-none bs (length ks) (λ k m e. let l : k < length ks = w.within.members k m in omega (arith, l, e)));
     noted = sym (count_by-none (λ e. e.target == length ks) es (λ e m. ne_eqb e.target (length ks) (λ s. let l : e.target < length ks = w.within.targets e m in omega (arith, l, s))));
   });
   within = within-more (length ks) (length (ks ++ added x h ∷ [])) es bs w.within (omega (arith, length_push ks (added x h)));
+  mapped = hyperedges-more (length ks) (length (ks ++ added x h ∷ [])) ms w.mapped (omega (arith, length_push ks (added x h)));
   counted = w.counted ∙ (let step : count_by (λ k. k.black) (ks ++ added x h ∷ []) ≡ count_by (λ k. k.black) ks + 0 = count_by-append (λ k. k.black) ks (added x h ∷ []) in omega (arith, step));
   enough = omega (arith, enough, length_push ks (added x h));
 }
 
 -- a reference is noted
-pub whole-noted : (ks : List Kept) (es : List Edge) (bs : List ℕ) (room i j : ℕ) (d y : Kept) → IsWhole ks es bs room → i < length ks → j < length ks →
+pub whole-noted : (ks : List Kept) (es : List Edge) (ms : List Hyperedge) (bs : List ℕ) (room i j : ℕ) (d y : Kept) → IsWhole ks es ms bs room → i < length ks → j < length ks →
     y.black ≡ (get_or ks j d).black → y.noted ≡ (get_or ks j d).noted + 1 →
-    IsWhole (set ks j y) (es ++ record { source = i; target = j } ∷ []) bs room
-whole-noted ks es bs room i j d y w from to black noted = record {
+    IsWhole (set ks j y) (es ++ record { source = i; target = j } ∷ []) ms bs room
+whole-noted ks es ms bs room i j d y w from to black noted = record {
   few = omega (arith, w.few, length-set ks j y);
   right = each-set (IsRight (es ++ record { source = i; target = j } ∷ []) bs) ks j y to (record {
     black = black ∙ (w.right j d to).black;
@@ -165,6 +178,7 @@ whole-noted ks es bs room i j d y w from to black noted = record {
     members = λ k m. let l = w.within.members k m in omega (arith, l, length-set ks j y);
     once = w.within.once;
   };
+  mapped = hyperedges-more (length ks) (length (set ks j y)) ms w.mapped (omega (arith, length-set ks j y));
   counted =
       let step : count_by (λ k. k.black) (set ks j y) + cond (get_or ks j d).black 1 0 ≡ count_by (λ k. k.black) ks + cond y.black 1 0 = sum_by-set (λ k. cond k.black 1 0) ks j y d to in
       let same : cond {A = ℕ} y.black 1 0 ≡ cond (get_or ks j d).black 1 0 = ap (λ b. cond b 1 0) black in
@@ -173,16 +187,16 @@ whole-noted ks es bs room i j d y w from to black noted = record {
 }
 
 -- a node that is not black has room to become so
-pub whole-room : (ks : List Kept) (es : List Edge) (bs : List ℕ) (room i : ℕ) (d : Kept) → IsWhole ks es bs room → i < length ks → has ◌==◌ bs i ≡ false → length bs < room
-whole-room ks es bs room i d w inside off =
+pub whole-room : (ks : List Kept) (es : List Edge) (ms : List Hyperedge) (bs : List ℕ) (room i : ℕ) (d : Kept) → IsWhole ks es ms bs room → i < length ks → has ◌==◌ bs i ≡ false → length bs < room
+whole-room ks es ms bs room i d w inside off =
     let white : (get_or ks i d).black ≡ false = (w.right i d inside).black ∙ off in
     let fewer : count_by (λ k. k.black) ks < length ks = count_by-fewer (λ k. k.black) ks i d inside white in
     omega (arith, fewer, w.counted, w.enough)
 
 -- a node becomes black
-pub whole-blackened : (ks : List Kept) (es : List Edge) (bs : List ℕ) (room i : ℕ) (d y : Kept) → IsWhole ks es bs room → i < length ks → has ◌==◌ bs i ≡ false →
-    y.black ≡ true → y.noted ≡ (get_or ks i d).noted → IsWhole (set ks i y) es (bs ++ i ∷ []) room
-whole-blackened ks es bs room i d y w inside off black noted = record {
+pub whole-blackened : (ks : List Kept) (es : List Edge) (ms : List Hyperedge) (bs : List ℕ) (room i : ℕ) (d y : Kept) → IsWhole ks es ms bs room → i < length ks → has ◌==◌ bs i ≡ false →
+    y.black ≡ true → y.noted ≡ (get_or ks i d).noted → IsWhole (set ks i y) es ms (bs ++ i ∷ []) room
+whole-blackened ks es ms bs room i d y w inside off black noted = record {
   few = omega (arith, w.few, length-set ks i y);
   right = each-set (IsRight es (bs ++ i ∷ [])) ks i y inside (record {
     black = black ∙ sym (has-there ◌==◌ number-exact (bs ++ i ∷ []) i (Among-right i bs (i ∷ []) (inl refl)));
@@ -197,6 +211,7 @@ whole-blackened ks es bs room i d y w inside off black noted = record {
     members = each-push (λ k. k < length (set ks i y)) bs i (λ k m. let l = w.within.members k m in omega (arith, l, length-set ks i y)) (omega (arith, inside, length-set ks i y));
     once = λ k. subst (λ b. count_by (λ j. k == j) (elim b [ true ↦ bs | false ↦ bs ++ i ∷ [] ]) ≤ 1) off (with_all_last-once ◌==◌ number-exact bs (i ∷ []) k (w.within.once k));
   };
+  mapped = hyperedges-more (length ks) (length (set ks i y)) ms w.mapped (omega (arith, length-set ks i y));
   counted =
       let white : (get_or ks i d).black ≡ false = (w.right i d inside).black ∙ off in
       let step : count_by (λ k. k.black) (set ks i y) + cond (get_or ks i d).black 1 0 ≡ count_by (λ k. k.black) ks + cond y.black 1 0 = sum_by-set (λ k. cond k.black 1 0) ks i y d inside in
@@ -204,4 +219,42 @@ whole-blackened ks es bs room i d y w inside off black noted = record {
       let after : cond {A = ℕ} y.black 1 0 ≡ 1 = ap (λ b. cond b 1 0) black in
       omega (arith, w.counted, step, before, after, length_push bs i);
   enough = omega (arith, w.enough, length-set ks i y);
+}
+
+-- a node is shown otherwise
+pub whole-changed : (ks : List Kept) (es : List Edge) (ms : List Hyperedge) (bs : List ℕ) (room i : ℕ) (d y : Kept) → IsWhole ks es ms bs room → i < length ks →
+    y.black ≡ (get_or ks i d).black → y.noted ≡ (get_or ks i d).noted → IsWhole (set ks i y) es ms bs room
+whole-changed ks es ms bs room i d y w inside black noted = record {
+  few = omega (arith, w.few, length-set ks i y);
+  right = each-set (IsRight es bs) ks i y inside
+      (record { black = black ∙ (w.right i d inside).black; noted = noted ∙ (w.right i d inside).noted })
+      (λ k e within other. w.right k e within);
+  within = within-more (length ks) (length (set ks i y)) es bs w.within (omega (arith, length-set ks i y));
+  mapped = hyperedges-more (length ks) (length (set ks i y)) ms w.mapped (omega (arith, length-set ks i y));
+  counted =
+      let step : count_by (λ k. k.black) (set ks i y) + cond (get_or ks i d).black 1 0 ≡ count_by (λ k. k.black) ks + cond y.black 1 0 = sum_by-set (λ k. cond k.black 1 0) ks i y d inside in
+      let same : cond {A = ℕ} y.black 1 0 ≡ cond (get_or ks i d).black 1 0 = ap (λ b. cond b 1 0) black in
+      omega (arith, w.counted, step, same);
+  enough = omega (arith, w.enough, length-set ks i y);
+}
+
+-- a mapping is noted
+pub whole-mapped : (ks : List Kept) (es : List Edge) (ms : List Hyperedge) (bs : List ℕ) (room : ℕ) (m : Hyperedge) → IsWhole ks es ms bs room →
+    IsHyperedgeWithin (length ks) m → IsWhole ks es (ms ++ m ∷ []) bs room
+whole-mapped ks es ms bs room m w within = record {
+  few = w.few;
+  right = w.right;
+  within = w.within;
+  mapped = each-push (IsHyperedgeWithin (length ks)) ms m w.mapped within;
+  counted = w.counted;
+  enough = w.enough;
+}
+
+-- a whole graph is shown within its nodes
+pub whole-closed : (ks : List Kept) (es : List Edge) (ms : List Hyperedge) (bs : List ℕ) (room spare : ℕ) → IsWhole ks es ms bs room →
+    IsClosed (record { nodes = vertices ks; edges = es; hyperedges = ms; blacks = bs; spare = spare })
+whole-closed ks es ms bs room spare w = record {
+  few = rw (length-vertices ks) w.few;
+  within = subst (λ n. IsWithin n es bs) (sym (length-vertices ks)) w.within;
+  hyperedges = subst (λ n. AreHyperedgesWithin n ms) (sym (length-vertices ks)) w.mapped;
 }

@@ -26,7 +26,6 @@ pub struct Graph {
 impl Model for Graph {
     ghost use Rattle.std.specs.Prelude.{◌-◌, length, vec_capacity};
     ghost use Rattle.cc_graph.specs.Shown.{Shown};
-    ghost use Rattle.cc_graph.specs.Closed.{AreHyperedgesWithin};
     ghost use Rattle.cc_graph.specs.Kept.{IsWhole, vertices};
 
     ghost Value = { Shown };
@@ -39,8 +38,7 @@ impl Model for Graph {
       spare = vec_capacity g.references - length g.references.items;
     } };
 
-    ghost invariant = { λ g. IsWhole g.nodes.items g.references.items g.blacks.items (vec_capacity g.blacks)
-      × AreHyperedgesWithin (length g.nodes.items) g.mappings.items };
+    ghost invariant = { λ g. IsWhole g.nodes.items g.references.items g.mappings.items g.blacks.items (vec_capacity g.blacks) };
 }
 
 impl Graph {

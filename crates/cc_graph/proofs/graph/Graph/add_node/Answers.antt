@@ -11,7 +11,7 @@ invariant_of-self-2 c =
     omega (arith, subst (λ v. length v.nodes < 4294967295) (sym c.self.view_is) c.requires.few, length-vertices c.self.inside.nodes.items) in
     let enough : length c.self.inside.nodes.items + 1 ≤ vec_capacity c.reserve-2.new.self = search rules in
     rw (c.push_reserved.ensures.items, c.reserve.ensures.items, c.new.ensures, c.reserve-2.ensures.items)
-    (whole-added _ _ _ _ _ c.args.name c.args.held c.self.invariant few enough)
+    (whole-added _ _ _ _ _ _ c.args.name c.args.held c.self.invariant few enough)
 
 pub returns-clause-number : goal.returns-clause-number
 returns-clause-number c =

@@ -10,7 +10,7 @@ push_reserved-requires c =
     let inside : c.args.node < length c.self.inside.nodes.items =
     omega (arith, subst (λ v. c.args.node < length v.nodes) (sym c.self.view_is) c.requires, length-vertices c.self.inside.nodes.items) in
     let off : has ◌==◌ c.self.inside.blacks.items c.args.node ≡ false = ap (λ v. is_black v c.args.node) c.self.view_is ∙ (sym c.is_black.ensures ∙ c.if-is_black.false) in
-    let room : length c.self.inside.blacks.items < vec_capacity c.self.inside.blacks = whole-room _ _ _ _ c.args.node c.index_mut.result.now c.self.invariant inside off in
+    let room : length c.self.inside.blacks.items < vec_capacity c.self.inside.blacks = whole-room _ _ _ _ _ c.args.node c.index_mut.result.now c.self.invariant inside off in
     search rules
 
 pub invariant_of-self : goal.invariant_of-self
@@ -18,7 +18,7 @@ invariant_of-self c =
     let inside : c.args.node < length c.self.inside.nodes.items =
     omega (arith, subst (λ v. c.args.node < length v.nodes) (sym c.self.view_is) c.requires, length-vertices c.self.inside.nodes.items) in
     let off : has ◌==◌ c.self.inside.blacks.items c.args.node ≡ false = ap (λ v. is_black v c.args.node) c.self.view_is ∙ (sym c.is_black.ensures ∙ c.if-is_black.false) in
-    rw (c.push_reserved.ensures.items, c.push_reserved.ensures.capacity) (whole-blackened _ _ _ _ c.args.node c.index_mut.result.now c.blacken.new.self c.self.invariant inside off
+    rw (c.push_reserved.ensures.items, c.push_reserved.ensures.capacity) (whole-blackened _ _ _ _ _ c.args.node c.index_mut.result.now c.blacken.new.self c.self.invariant inside off
     (ap (λ k. k.black) c.blacken.ensures) (ap (λ k. k.noted) c.blacken.ensures ∙ ap (λ k. k.noted) c.index_mut.ensures.value))
 
 pub returns : goal.returns
@@ -28,5 +28,5 @@ returns c =
     let off : has ◌==◌ c.self.inside.blacks.items c.args.node ≡ false = ap (λ v. is_black v c.args.node) c.self.view_is ∙ (sym c.is_black.ensures ∙ c.if-is_black.false) in
     let kept = vertices-kept c.self.inside.nodes.items c.args.node c.index_mut.result.now c.blacken.new.self inside
     (ap (λ k. k.vertex) c.blacken.ensures ∙ ap (λ k. k.vertex) c.index_mut.ensures.value) in
-    shown-same _ _ _ _ _ _ _ _ kept refl (c.push_reserved.ensures.items ∙ black-last c.self.inside.blacks.items c.args.node off) refl
+    shown-same _ _ _ _ _ _ _ _ _ kept refl (c.push_reserved.ensures.items ∙ black-last c.self.inside.blacks.items c.args.node off) refl
     ∙ ap {A = Shown} {B = Shown} (λ v. record v { blacks = with_black v.blacks c.args.node }) c.self.view_is
