@@ -136,6 +136,7 @@ module _ {p : Inside} {next : Counts} {owned : List ℕ} {call : Heap → Outcom
         heap = record (shown v.heap p.scripts alone.heap) { native_registers = same i };
         keys = map (λ o. key_left-shown p.scripts v.heap alone.heap o i) p.counted.keys;
         scripts = p.scripts;
+        entries = p.weak;
       })
       ∙ ap (λ (o : Outcome). left_with v o.heap) (sym l.beside))
 

@@ -93,7 +93,7 @@ HasKeys-left c g rs w before k = record {
 }
 
 -- keys of natives that got their names, or whose script objects gave theirs back
-pub HasKeys-keyed : (v : Keyed) (g : Heap) (keys : List (Option ℕ)) → HasKeys (counts_in g keys) → HasKeys (counts_of (record { heap = g; keys = keys; scripts = v.scripts }))
+pub HasKeys-keyed : (v : Keyed) (g : Heap) (keys : List (Option ℕ)) → HasKeys (counts_in g keys) → HasKeys (counts_of (record v { heap = g; keys = keys }))
 HasKeys-keyed v g keys k = HasKeys-numbers (counts_in g keys) (map (keyed_native v.scripts) g.natives) g.buffer (keyed.reflectors_by v.scripts keys)
     (map-map (λ (n : HeapNative). n.number) (keyed_native v.scripts) g.natives) k
 

@@ -59,4 +59,4 @@ module _ (h g : Heap) (before : (k : ℕ) → Among (native k) (native_names g) 
 
 pub left_with-then : (v : Keyed) (h g : Heap) → ((k : ℕ) → Among (native k) (native_names g) → Among (native k) (native_names h)) →
     left_with (left_with v h) g ≡ left_with v g
-left_with-then v h g before = ap (λ ks. record { heap = g; keys = ks; scripts = v.scripts }) (keys-then h g before v.keys)
+left_with-then v h g before = ap (λ ks. record v { heap = g; keys = ks }) (keys-then h g before v.keys)

@@ -67,11 +67,12 @@ module _ (p : Inside) (f : IsFit [] p) (next : Counts) (slots : ℕ) (key : NKey
       ∙ (map-append (named_native p.scripts) p.counted.natives (made_native (p.natives_made + 1) slots ∷ [])
       ∙ ap (λ n. v.heap.natives ++ n ∷ []) (made-named p.scripts (p.natives_made + 1) slots))
 
-  pub made-keyed : keyed_of made ≡ record { heap = with_native v.heap slots; keys = next.keys; scripts = p.scripts }
+  pub made-keyed : keyed_of made ≡ record v { heap = with_native v.heap slots; keys = next.keys }
   made-keyed = λ i. record {
     heap = record (with_native v.heap slots) { native_registers = same i; natives = named-natives i; buffer = buffer i };
     keys = next.keys;
     scripts = p.scripts;
+    entries = p.weak;
   }
 
   -- each native stays at its key

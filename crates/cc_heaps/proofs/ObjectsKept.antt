@@ -1,23 +1,24 @@
--- SCRIPT OBJECTS ARE CHANGED OR TAKEN OUT, but none that a register or a native holds: these hold what they held, and the
--- parts stay linked and in order.
-use Rattle.std.proofs.Common.{◌≡◌, ℕ, false, List, map, Option, Some, None, option_map, refl, sym, ◌∙◌, ap, subst}
+-- SCRIPT OBJECTS ARE CHANGED OR TAKEN OUT, but none that a register or a native holds or an entry names: these hold and
+-- name what they did, and the parts stay linked and in order.
+use Rattle.std.proofs.Common.{◌≡◌, ℕ, false, List, [], ◌∷◌, map, Option, Some, None, option_map, refl, sym, ◌∙◌, ap, subst, inl, inr}
 use Rattle.std.specs.Prelude.{IsTrue}
 use Rattle.std.specs.Option.{is_some, option_and_then}
 use Rattle.cc_lists.specs.Members.{Among}
-use Rattle.cc_lists.proofs.Members.{Among-map}
-use Rattle.cc_lists.proofs.ListWrites.{each-map, map-agree}
+use Rattle.cc_lists.proofs.ListWrites.{map-agree}
 use Rattle.cc_names.specs.declared.name.Name.{Name}
 use Rattle.cc_names.specs.declared.name.Name.TheVariants as name
 use Rattle.cc_names.specs.declared.number.SKey.{SKey}
-use Rattle.cc_names.specs.declared.kind.Kind.TheVariants.{Map}
 use Rattle.cc_names.specs.Names.{object, is_native}
 use Rattle.cc_model.specs.Slots.{contents}
+use Rattle.cc_model.specs.Entries.{Entry, entry}
 use Rattle.cc_model.specs.Heap.{Heap, HeapNative}
 use Rattle.cc_laws_heap.specs.Sound.{IsSound}
 use Rattle.cc_counted.specs.Owning.{HasKeys}
 use Rattle.cc_script.specs.Objects.{Object, AreWhole, object_at, is_there, name_at}
 use Rattle.cc_script.proofs.Reaching.{among-held}
-use Rattle.cc_heaps.specs.Keyed.{IsInOrder, Reflects, named_object, named_objects, reflectors_by}
+use Rattle.cc_weakmaps.specs.Entries.{KeyedEntry}
+use Rattle.cc_marking.specs.Marking.{IsEntryThere}
+use Rattle.cc_heaps.specs.Keyed.{IsInOrder, Reflects, the_name_at, named_entry, named_entries, named_objects, reflectors_by}
 use Rattle.cc_heaps.specs.Named.{own_name, named_native, script_named, IsHeldThere, IsScriptLive}
 use Rattle.cc_heaps.specs.Fields.{heap_of, keyed_of, IsLinked}
 use Rattle.cc_heaps.specs.declared.heaps.Heaps.TheInside.{Inside}
@@ -45,7 +46,6 @@ pub record AreObjects (objects : List Object) : Type 0 where
   pub one_name : HasOneName objects
   pub script_names : (o : Object) → Among o objects → is_native o.name ≡ false
   pub whole : AreWhole objects
-  pub no_maps : (o : Object) → Among o objects → ¬ (o.kind ≡ Map)
 
 -- The parts with other objects
 
@@ -56,10 +56,16 @@ with_objects p objects = record p { scripts = objects }
 abbrev pub with_named : Heap → List Object → Heap
 with_named h objects = record h { scripts = named_objects objects }
 
--- what registers and natives hold has the name that it had, natives have the reflectors that they had, and these their natives
+-- the keys that an entry has
+abbrev pub members : KeyedEntry → List ℕ
+members e = e.the_map ∷ e.key ∷ e.value ∷ []
+
+-- what registers and natives hold and entries name has the name that it had, natives have the reflectors that they had, and
+-- these their natives
 pub record HoldsSame (p : Inside) (objects : List Object) : Type 0 where
   pub registers : (key : SKey) → Among (Some key) p.script_registers.items → name_at objects key.0 ≡ name_at p.scripts key.0
   pub natives : (n : HeapNative) (key : ℕ) → Among n p.counted.natives → Among (object key) (contents n.slots) → name_at objects key ≡ name_at p.scripts key
+  pub entries : (e : KeyedEntry) (key : ℕ) → Among e p.weak → Among key (members e) → name_at objects key ≡ name_at p.scripts key
   pub reflectors : reflectors_by objects p.counted.keys ≡ reflectors_by p.scripts p.counted.keys
   pub reflecting : (o : Object) → Among o objects → Reflects (keyed_of p) o.name o.native
 
@@ -70,7 +76,24 @@ AreObjects-parts owned p l o = record {
   one_name = l.one_name;
   script_names = l.script_names;
   whole = o.whole;
-  no_maps = λ q m. o.without_maps.no_maps (named_object p.scripts q) (Among-map (named_object p.scripts) q p.scripts m);
+}
+
+-- an entry has the names that it had, where its members do
+pub entry-same : (os ps : List Object) (e : KeyedEntry) → ((key : ℕ) → Among key (members e) → name_at os key ≡ name_at ps key) →
+    named_entry os e ≡ named_entry ps e
+entry-same os ps e same =
+    λ i. entry (at e.the_map (same e.the_map (inl refl)) i) (at e.key (same e.key (inr (inl refl))) i) (at e.value (same e.value (inr (inr (inl refl)))) i)
+  where
+    at : (key : ℕ) → name_at os key ≡ name_at ps key → the_name_at os key ≡ the_name_at ps key
+    at key e = ap (λ (o : Option Name). elim o as (λ _. Name) [ None ↦ object 0 | Some x ↦ x ]) e
+
+-- and what it names is there still
+pub entry-there : (os ps : List Object) (e : KeyedEntry) → ((key : ℕ) → Among key (members e) → name_at ps key ≡ name_at os key) →
+    IsEntryThere os e → IsEntryThere ps e
+entry-there os ps e same there = record {
+  the_map = there-kept os ps e.the_map (same e.the_map (inl refl)) there.the_map;
+  key = there-kept os ps e.key (same e.key (inr (inl refl))) there.key;
+  value = there-kept os ps e.value (same e.value (inr (inr (inl refl)))) there.value;
 }
 
 -- the keys of natives are those of the counted heap
@@ -97,8 +120,11 @@ module _ (p : Inside) (objects : List Object) (l : IsLinked p) (same : HoldsSame
 
   -- THE HEAPS are as they were but for the script objects.
   pub heap-objects : heap_of (with_objects p objects) ≡ with_named (heap_of p) objects
-  heap-objects = λ i. record (with_named (heap_of p) objects) { script_registers = registers i; natives = natives i }
+  heap-objects = λ i. record (with_named (heap_of p) objects) { script_registers = registers i; natives = natives i; entries = entries i }
     where
+      entries : named_entries objects p.weak ≡ named_entries p.scripts p.weak
+      entries = map-agree (named_entry objects) (named_entry p.scripts) p.weak (λ e m. entry-same objects p.scripts e (λ key i. same.entries e key m i))
+
       registers : map (script_named objects) p.script_registers.items ≡ map (script_named p.scripts) p.script_registers.items
       registers = map-agree (script_named objects) (script_named p.scripts) p.script_registers.items register-same
 
@@ -138,5 +164,6 @@ module _ (p : Inside) (objects : List Object) (l : IsLinked p) (same : HoldsSame
       whole = a.whole;
       reflecting = λ q m. Reflects-kept (keyed_of p) (keyed_of (with_objects p objects)) q.name q.native (λ key k is at. at) (same.reflecting q m);
       limits = o.limits;
-      without_maps = record { no_maps = each-map (λ q. ¬ (q.kind ≡ Map)) (named_object objects) objects a.no_maps; no_entries = refl };
+      entries = refl;
+      entries_there = λ e m. entry-there p.scripts objects e (λ key i. same.entries e key m i) (o.entries_there e m);
     }

@@ -5,9 +5,8 @@ use Rattle.cc_lists.specs.Members.{Among}
 use Rattle.cc_lists.proofs.Counting.{count_by-cons}
 use Rattle.cc_names.specs.declared.name.Name.{Name}
 use Rattle.cc_names.specs.declared.register.Reg.TheVariants.{N}
-use Rattle.cc_names.specs.declared.kind.Kind.TheVariants.{Map}
 use Rattle.cc_names.specs.Names.{native, reflector}
-use Rattle.cc_model.specs.Heap.{Heap, HeapNative, HeapScript, Buffered, native_at, register, set_register, set_preserved, set_slot, change_native, with_native_slot, with_mark, suspect}
+use Rattle.cc_model.specs.Heap.{Heap, HeapNative, Buffered, native_at, register, set_register, set_preserved, set_slot, change_native, with_native_slot, with_mark, suspect}
 use Rattle.cc_model.specs.Cascade.{add_ref, cascade}
 use Rattle.cc_model.specs.Effects.{with_native}
 use Rattle.cc_model.specs.End.{unlink}
@@ -38,8 +37,8 @@ KeepsRest-beside h g b = record { limits = b.limits; scripts = b.scripts; entrie
 
 module _ (owned late : List ℕ) (v : Keyed) (o : IsInOrder owned v) (g : Heap) (rest : KeepsRest v.heap g) (sound : IsSound late g) where
   -- heaps with other keys
-  pub IsInOrder-keyed : (keys : List (Option ℕ)) → HasKeys (counts_in g keys) → AreReflecting (record { heap = g; keys = keys; scripts = v.scripts }) →
-      IsInOrder late (record { heap = g; keys = keys; scripts = v.scripts })
+  pub IsInOrder-keyed : (keys : List (Option ℕ)) → HasKeys (counts_in g keys) → AreReflecting (record v { heap = g; keys = keys }) →
+      IsInOrder late (record v { heap = g; keys = keys })
   IsInOrder-keyed keys k reflecting = record {
     sound = sound;
     keyed = HasKeys-keyed v g keys k;
@@ -48,10 +47,8 @@ module _ (owned late : List ℕ) (v : Keyed) (o : IsInOrder owned v) (g : Heap) 
     whole = o.whole;
     reflecting = reflecting;
     limits = subst (λ l. (l.natives ≤ 1000000) × (l.scripts ≤ 1000000)) (sym rest.limits) o.limits;
-    without_maps = record {
-      no_maps = subst (λ (os : List HeapScript). (s : HeapScript) → Among s os → ¬ (s.kind ≡ Map)) (sym rest.scripts) o.without_maps.no_maps;
-      no_entries = rest.entries ∙ o.without_maps.no_entries;
-    };
+    entries = rest.entries ∙ o.entries;
+    entries_there = o.entries_there;
   }
 
   -- heaps of the same natives
@@ -162,9 +159,9 @@ IsInOrder-preserved owned v k there o =
 -- a native made, with a key of its own: it is owned
 pub IsInOrder-made : (v : Keyed) (n : ℕ) (keys : List (Option ℕ)) → n ≤ 64 → v.heap.natives_made < v.heap.limits.natives →
     HasKeys (counts_in (with_native v.heap n) keys) → ((q k : ℕ) → number_at v q ≡ Some k → get_or keys q None ≡ Some k) → IsInOrder [] v →
-    IsInOrder ((v.heap.natives_made + 1) ∷ []) (record { heap = with_native v.heap n; keys = keys; scripts = v.scripts })
+    IsInOrder ((v.heap.natives_made + 1) ∷ []) (record v { heap = with_native v.heap n; keys = keys })
 IsInOrder-made v n keys few room k kept o =
     IsInOrder-keyed [] ((v.heap.natives_made + 1) ∷ []) v o (with_native v.heap n)
     (record { limits = refl; scripts = refl; entries = refl })
     (with_native-sound [] v.heap n o.sound few room) keys k
-    (λ q m. Reflects-kept v (record { heap = with_native v.heap n; keys = keys; scripts = v.scripts }) q.name q.native (λ key j is at. kept key j at) (o.reflecting q m))
+    (λ q m. Reflects-kept v (record v { heap = with_native v.heap n; keys = keys }) q.name q.native (λ key j is at. kept key j at) (o.reflecting q m))

@@ -10,17 +10,17 @@ use Rattle.std.proofs.lemmas.List.{ext_get_or, get_or-set_same, get_or-set_other
 use Rattle.std.proofs.lemmas.List.Folds.{find-append}
 use Rattle.cc_lists.specs.Members.{Among}
 use Rattle.cc_lists.proofs.ListWrites.{each-push}
-use Rattle.cc_names.specs.declared.kind.Kind.TheVariants.{Reflector, Map}
+use Rattle.cc_names.specs.declared.kind.Kind.TheVariants.{Reflector}
 use Rattle.cc_names.specs.declared.number.NKey.{NKey}
 use Rattle.cc_names.specs.Names.{native, reflector, same_name}
 use Rattle.cc_model.specs.Slots.{reflector_slots}
-use Rattle.cc_model.specs.Heap.{Heap, HeapScript, has_reflector}
+use Rattle.cc_model.specs.Heap.{Heap, has_reflector}
 use Rattle.cc_model.specs.Cascade.{add_ref}
 use Rattle.cc_model.specs.Effects.{with_reflector, with_script}
 use Rattle.cc_model.specs.WellFormed.{native_names}
 use Rattle.cc_laws_heap.specs.Sound.{IsSound}
 use Rattle.cc_laws_heap.proofs.Holding.{has_reflector-none}
-use Rattle.cc_laws_heap.proofs.ScriptCommands.{blank, with_reflector-sound}
+use Rattle.cc_laws_heap.proofs.ScriptCommands.{with_reflector-sound}
 use Rattle.cc_counted.specs.Counts.{Counts, number_or_none, with_heap}
 use Rattle.cc_counted.specs.Counts as counts
 use Rattle.cc_script.specs.Objects.{Object, is_there, name_at, reflector_object}
@@ -33,7 +33,7 @@ use Rattle.cc_heaps.proofs.Content.{number-some}
 use Rattle.cc_heaps.proofs.Keys.{HasKeys-keyed, HasKeys-names, HasKeys-numbers, Reflects-kept, counts_in, find-unnamed, numbers-changed}
 use Rattle.cc_heaps.proofs.Linked.{with_counted}
 use Rattle.cc_heaps.proofs.ScriptCalls.{KeepsNames-made, key_of-made, name_at-made, named-made, one_key-made, whole-made}
-use Rattle.cc_heaps.proofs.ScriptsChanged.{KeepsNames, heap-objects, linked-reflected, with_objects}
+use Rattle.cc_heaps.proofs.ScriptsChanged.{KeepsNames, named_entries-kept, entries_there-kept, heap-objects, linked-reflected, with_objects}
 
 -- what reads as something is not past the end
 within-read : (keys : List (Option ℕ)) (q k : ℕ) → get_or keys q None ≡ Some k → q < length keys
@@ -152,11 +152,11 @@ module _ (p : Inside) (l : IsLinked p) (o : IsInOrder [] (keyed_of p)) (key : NK
     reflector-linked = changed-linked taken
 
     -- they hold the heaps in which the reflector is made,
-    pub reflector-keyed : keyed_of whole ≡ record { heap = made; keys = p.counted.keys; scripts = objects }
+    pub reflector-keyed : keyed_of whole ≡ record v { heap = made; scripts = objects }
     reflector-keyed =
         changed-keyed taken
-        ∙ ap (λ h. record { heap = add_ref h k; keys = p.counted.keys; scripts = objects })
-        (heap-objects p objects p.scripts_made kept l ∙ ap (λ scripts. record v.heap { scripts = scripts }) named)
+        ∙ ap (λ h. record v { heap = add_ref h k; scripts = objects })
+        (heap-objects p objects p.scripts_made kept l o.entries_there ∙ ap (λ scripts. record v.heap { scripts = scripts }) named)
 
     -- what is there keeps its key,
     pub reflector-keys : KeepsKeys v (keyed_of whole)
@@ -172,13 +172,11 @@ module _ (p : Inside) (l : IsLinked p) (o : IsInOrder [] (keyed_of p)) (key : NK
       named = sym named;
       one_key = one_key-made p.scripts l.one_key o.whole new reflector_slots refl vacant;
       whole = whole-made p.scripts l.one_key o.whole new reflector_slots refl vacant;
-      reflecting = each-push (λ (q : Object). Reflects (record { heap = made; keys = p.counted.keys; scripts = objects }) q.name q.native) p.scripts new
-          (λ q m. Reflects-kept v (record { heap = made; keys = p.counted.keys; scripts = objects }) q.name q.native (λ r j is e. e) (o.reflecting q m)) numbered;
+      reflecting = each-push (λ (q : Object). Reflects (record v { heap = made; scripts = objects }) q.name q.native) p.scripts new
+          (λ q m. Reflects-kept v (record v { heap = made; scripts = objects }) q.name q.native (λ r j is e. e) (o.reflecting q m)) numbered;
       limits = o.limits;
-      without_maps = record {
-        no_maps = each-push (λ (s : HeapScript). ¬ (s.kind ≡ Map)) v.heap.scripts (blank (reflector k) Reflector reflector_slots) o.without_maps.no_maps (λ e. absurd (cc));
-        no_entries = refl;
-      };
+      entries = sym (named_entries-kept p.scripts objects kept p.weak o.entries_there);
+      entries_there = entries_there-kept p.scripts objects kept p.weak o.entries_there;
     })
 
 -- the second parts are those in which the reflector of native k is made at a key

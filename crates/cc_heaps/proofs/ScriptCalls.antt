@@ -16,7 +16,7 @@ use Rattle.cc_lists.proofs.ListWrites.{each-push, Among-set_cases, map-agree}
 use Rattle.cc_names.specs.declared.name.Name.{Name}
 use Rattle.cc_names.specs.declared.number.SKey.{SKey}
 use Rattle.cc_names.specs.declared.register.Reg.TheVariants.{S as s_register}
-use Rattle.cc_names.specs.declared.kind.Kind.TheVariants.{Plain, Map}
+use Rattle.cc_names.specs.declared.kind.Kind.TheVariants.{Plain}
 use Rattle.cc_names.specs.declared.kind.Colour.TheVariants.{Black}
 use Rattle.cc_names.specs.Names.{object, reflector, same_name, is_native}
 use Rattle.cc_model.specs.Slots.{empty_slots}
@@ -40,7 +40,7 @@ use Rattle.cc_heaps.specs.declared.heaps.Heaps.TheInside.{Inside}
 use Rattle.cc_heaps.proofs.Keys.{Reflects-kept}
 use Rattle.cc_heaps.proofs.Reaching.{HasOneKey, object_at-own, name_at-found}
 use Rattle.cc_heaps.proofs.ScriptsChanged.{KeepsNames, KeepsNames-there, KeepsNames-same, there-named, with_objects, with_named, heap-objects, keys-objects, linked-objects, order-objects}
-use Rattle.cc_heaps.proofs.ScriptWrites.{KeepsObjects, KeepsNames-written, one_key-written, no_maps-written, reflectors-written, reflecting-written, raise_among, KeepsObjects-raised, whole-raised, exposed-named, write_slot, KeepsObjects-slot, whole-slot, slot-named}
+use Rattle.cc_heaps.proofs.ScriptWrites.{KeepsObjects, KeepsNames-written, one_key-written, reflectors-written, reflecting-written, raise_among, KeepsObjects-raised, whole-raised, exposed-named, write_slot, KeepsObjects-slot, whole-slot, slot-named}
 
 -- the second parts hold these heaps, fit together and are in order, and what is there keeps its key and its name
 pub record Becomes (p q : Inside) (h : Heap) : Type 0 where
@@ -78,15 +78,15 @@ nothing-exposed v (Some key) none = absurd (none key refl)
 module _ (p : Inside) (l : IsLinked p) (o : IsInOrder [] (keyed_of p)) where
   -- other script objects, as the definitions change them
   becomes : (objects : List Object) (made : ℕ) (h : Heap) → KeepsNames p.scripts objects → with_named (heap_of p) objects made ≡ h → IsSound [] h →
-      HasOneKey objects → AreWhole objects → ((s : HeapScript) → Among s (named_objects objects) → ¬ (s.kind ≡ Map)) →
+      HasOneKey objects → AreWhole objects →
       reflectors_by objects p.counted.keys ≡ reflectors_by p.scripts p.counted.keys → ((q : Object) → Among q objects → Reflects (keyed_of p) q.name q.native) →
       Becomes p (with_objects p objects made) h
-  becomes objects made h kept e s one whole no_maps reflectors reflecting =
+  becomes objects made h kept e s one whole reflectors reflecting =
       let sound : IsSound [] (with_named (heap_of p) objects made) = subst (IsSound []) (sym e) s in record {
-        heap = heap-objects p objects made kept l ∙ e;
+        heap = heap-objects p objects made kept l o.entries_there ∙ e;
         names = kept;
         keys = keys-objects p objects made kept l;
-        order = order-objects p objects made kept l [] sound one reflectors whole no_maps reflecting o;
+        order = order-objects p objects made kept l [] sound one reflectors whole reflecting o;
         linked = linked-objects p objects made kept l [] sound one reflectors;
       }
 
@@ -94,7 +94,7 @@ module _ (p : Inside) (l : IsLinked p) (o : IsInOrder [] (keyed_of p)) where
   becomes-written : (f : Object → Object) → KeepsObjects f → (h : Heap) → with_named (heap_of p) (map f p.scripts) p.scripts_made ≡ h → IsSound [] h →
       AreWhole (map f p.scripts) → Becomes p (with_objects p (map f p.scripts) p.scripts_made) h
   becomes-written f keeps h e s whole = becomes (map f p.scripts) p.scripts_made h (KeepsNames-written f keeps p.scripts) e s
-      (one_key-written f keeps p.scripts l.one_key) whole (no_maps-written f keeps p.scripts o.without_maps.no_maps)
+      (one_key-written f keeps p.scripts l.one_key) whole
       (reflectors-written f keeps p.scripts p.counted.keys) (reflecting-written f keeps p.scripts (keyed_of p) o.reflecting)
 
   -- AN EXPOSURE
@@ -163,7 +163,8 @@ module _ (p : Inside) (l : IsLinked p) (o : IsInOrder [] (keyed_of p)) where
       whole = o.whole;
       reflecting = λ q m. Reflects-kept (keyed_of p) (keyed_of (with_register r content)) q.name q.native (λ key k is at. at) (o.reflecting q m);
       limits = o.limits;
-      without_maps = record { no_maps = o.without_maps.no_maps; no_entries = refl };
+      entries = refl;
+      entries_there = o.entries_there;
     };
     linked = record {
       native_registers = l.native_registers;
@@ -312,7 +313,5 @@ module _ (p : Inside) (l : IsLinked p) (o : IsInOrder [] (keyed_of p)) (key n : 
       (IsNewScript-object (heap_of p) Plain n o.sound.well_formed (subst (λ i. i ≤ 64) (sym (length-replicate n None)) few) room) o.sound)
       (one_key-made p.scripts l.one_key o.whole new n refl vacant)
       (whole-made p.scripts l.one_key o.whole new n refl vacant)
-      (subst (λ ss. (s : HeapScript) → Among s ss → ¬ (s.kind ≡ Map)) (sym named)
-      (each-push (λ s. ¬ (s.kind ≡ Map)) (named_objects p.scripts) (blank (object (p.scripts_made + 1)) Plain n) o.without_maps.no_maps (λ f. absurd (cc))))
       reflectors
       (each-push (λ q. Reflects (keyed_of p) q.name q.native) p.scripts new o.reflecting refl))

@@ -8,12 +8,10 @@ use Rattle.std.proofs.lemmas.Bool.{eqb-true, eq-eqb, true≢false}
 use Rattle.std.proofs.lemmas.List.{map-set}
 use Rattle.std.proofs.lemmas.Simd.{map-map}
 use Rattle.cc_lists.specs.Members.{Among, has}
-use Rattle.cc_lists.proofs.Members.{Among-map}
 use Rattle.cc_lists.proofs.Searching.{find-map}
 use Rattle.cc_lists.proofs.ListWrites.{each-map, count_by-kept_map, Among-set_cases, map-agree}
 use Rattle.cc_names.specs.declared.name.Name.{Name}
 use Rattle.cc_names.specs.declared.name.Name.TheVariants as name
-use Rattle.cc_names.specs.declared.kind.Kind.TheVariants.{Map}
 use Rattle.cc_names.specs.declared.kind.Colour.{Colour}
 use Rattle.cc_names.specs.declared.kind.Colour.TheVariants.{White, Gray, Black}
 use Rattle.cc_names.specs.Names.{reflector, same_name, is_native}
@@ -65,10 +63,6 @@ module _ (f : Object → Object) (keeps : KeepsObjects f) (objects : List Object
 
   pub one_key-written : HasOneKey objects → HasOneKey (map f objects)
   one_key-written one key = subst (λ n. n ≤ 1) (sym (count_by-kept_map (λ o. o.key == key) f objects (λ o. ap (λ k. k == key) (keeps.key o)))) (one key)
-
-  pub no_maps-written : ((o : HeapScript) → Among o (named_objects objects) → ¬ (o.kind ≡ Map)) → (o : HeapScript) → Among o (named_objects (map f objects)) → ¬ (o.kind ≡ Map)
-  no_maps-written no_maps = each-map (λ o. ¬ (o.kind ≡ Map)) (named_object (map f objects)) (map f objects)
-      (each-map (λ o. ¬ (o.kind ≡ Map)) f objects (λ o m e. no_maps (named_object objects o) (Among-map (named_object objects) o objects m) (sym (keeps.kind o) ∙ e)))
 
   -- names have the keys that they had
   pub key_of-written : (x : Name) → key_of (map f objects) x ≡ key_of objects x

@@ -1,6 +1,6 @@
--- THE SCRIPT OBJECTS ARE CHANGED, or more are made: keys that have names keep them. Then registers and natives hold what
--- they held.
-use Rattle.std.proofs.Common.{◌≡◌, ℕ, ◌≤◌, true, false, List, map, Option, Some, None, option_map, is_some, refl, sym, ◌∙◌, ap, subst, count_by}
+-- THE SCRIPT OBJECTS ARE CHANGED, or more are made: keys that have names keep them. Then registers and natives hold, and
+-- entries name, what they did.
+use Rattle.std.proofs.Common.{◌≡◌, ℕ, ◌≤◌, true, false, List, map, Option, Some, None, option_map, is_some, refl, sym, ◌∙◌, ap, subst, ⊎_elim, count_by}
 use Rattle.std.specs.Prelude.{IsTrue}
 use Rattle.std.specs.Option.{option_and_then}
 use Rattle.std.proofs.Math.Path.{fun_ext}
@@ -11,7 +11,6 @@ use Rattle.cc_lists.proofs.ListWrites.{map-kept, map-agree}
 use Rattle.cc_names.specs.declared.number.SKey.{SKey}
 use Rattle.cc_names.specs.declared.name.Name.{Name}
 use Rattle.cc_names.specs.declared.name.Name.TheVariants as name
-use Rattle.cc_names.specs.declared.kind.Kind.TheVariants.{Map}
 use Rattle.cc_names.specs.Names.{same_name, is_native}
 use Rattle.cc_model.specs.Heap.{Heap, HeapNative, HeapScript}
 use Rattle.cc_model.specs.WellFormed.{IsWellFormed, script_names}
@@ -20,12 +19,15 @@ use Rattle.cc_laws_heap.proofs.ScriptsKept.{native-no_script}
 use Rattle.cc_laws_heap.proofs.NameLists.{same_name-sym}
 use Rattle.cc_script.specs.Objects.{Object, AreWhole, object_at, is_there, name_at}
 use Rattle.cc_script.proofs.Reaching.{among-held}
-use Rattle.cc_heaps.specs.Keyed.{IsInOrder, Reflects, counts_of, keyed_native, named_object, named_objects, reflectors_by}
+use Rattle.cc_weakmaps.specs.Entries.{KeyedEntry}
+use Rattle.cc_marking.specs.Marking.{AreEntriesThere, IsEntryThere}
+use Rattle.cc_heaps.specs.Keyed.{IsInOrder, Reflects, counts_of, keyed_native, named_entry, named_entries, named_object, named_objects, reflectors_by}
 use Rattle.cc_heaps.specs.Changes.{KeepsKeys}
 use Rattle.cc_heaps.specs.Named.{own_name, named_native, script_named, IsHeldThere, IsScriptLive}
 use Rattle.cc_heaps.specs.Fields.{heap_of, keyed_of, IsLinked}
 use Rattle.cc_heaps.specs.declared.heaps.Heaps.TheInside.{Inside}
 use Rattle.cc_heaps.proofs.Keys.{HasKeys-numbers, Reflects-kept, object-name}
+use Rattle.cc_heaps.proofs.ObjectsKept.{members, entry-same, entry-there}
 use Rattle.cc_heaps.proofs.Reaching.{HasOneKey}
 
 -- keys that have names keep them
@@ -56,6 +58,20 @@ KeepsNames-there os ps kept key t = let n = there-named os key t in named-there 
 pub KeepsNames-same : (os ps : List Object) → KeepsNames os ps → (key : ℕ) → IsTrue (is_there os key) → name_at ps key ≡ name_at os key
 KeepsNames-same os ps kept key t = let n = there-named os key t in kept key n.0 n.1 ∙ sym n.1
 
+-- an entry has the names that it had
+members-kept : (os ps : List Object) → KeepsNames os ps → (e : KeyedEntry) → IsEntryThere os e → (key : ℕ) → Among key (members e) → name_at ps key ≡ name_at os key
+members-kept os ps kept e t key m = KeepsNames-same os ps kept key (⊎_elim (at t.the_map) (⊎_elim (at t.key) (⊎_elim (at t.value) (λ n. absurd n))) m)
+  where
+    at : {k : ℕ} → IsTrue (is_there os k) → k ≡ key → IsTrue (is_there os key)
+    at u s = subst (λ j. IsTrue (is_there os j)) s u
+
+pub named_entries-kept : (os ps : List Object) → KeepsNames os ps → (es : List KeyedEntry) → AreEntriesThere os es → named_entries ps es ≡ named_entries os es
+named_entries-kept os ps kept es there = map-agree (named_entry ps) (named_entry os) es (λ e m. entry-same ps os e (members-kept os ps kept e (there e m)))
+
+-- and what it names is there still
+pub entries_there-kept : (os ps : List Object) → KeepsNames os ps → (es : List KeyedEntry) → AreEntriesThere os es → AreEntriesThere ps es
+entries_there-kept os ps kept es there e m = entry-there os ps e (members-kept os ps kept e (there e m)) (there e m)
+
 -- THE PARTS with other script objects, so many of which were made
 abbrev pub with_objects : Inside → List Object → ℕ → Inside
 with_objects p objects made = record p { scripts = objects; scripts_made = made }
@@ -82,8 +98,12 @@ module _ (p : Inside) (objects : List Object) (made : ℕ) (kept : KeepsNames p.
       at (Some x) i = held-kept x (l.held n x m (among-held n.slots x i))
 
   -- THE HEAPS are as they were but for the script objects.
-  pub heap-objects : heap_of (with_objects p objects made) ≡ with_named (heap_of p) objects made
-  heap-objects = λ i. record (with_named (heap_of p) objects made) { script_registers = registers i; natives = natives i }
+  pub heap-objects : AreEntriesThere p.scripts p.weak → heap_of (with_objects p objects made) ≡ with_named (heap_of p) objects made
+  heap-objects there = λ i. record (with_named (heap_of p) objects made) {
+    script_registers = registers i;
+    natives = natives i;
+    entries = named_entries-kept p.scripts objects kept p.weak there i;
+  }
     where
       registers : map (script_named objects) p.script_registers.items ≡ map (script_named p.scripts) p.script_registers.items
       registers = map-agree (script_named objects) (script_named p.scripts) p.script_registers.items register-kept
@@ -136,11 +156,11 @@ module _ (p : Inside) (objects : List Object) (made : ℕ) (kept : KeepsNames p.
     pub linked-objects : IsLinked (with_objects p objects made)
     linked-objects = linked-reflected (with_named (heap_of p) objects made) refl s.well_formed one p.counted.reflectors (l.reflectors ∙ sym reflectors)
 
-    -- AND THEY STAY IN ORDER, where none is a weak map, their slots hold what is there, and reflectors have their natives.
-    pub order-objects : AreWhole objects → ((o : HeapScript) → Among o (named_objects objects) → ¬ (o.kind ≡ Map)) →
+    -- AND THEY STAY IN ORDER, where their slots hold what is there, and reflectors have their natives.
+    pub order-objects : AreWhole objects →
         ((o : Object) → Among o objects → Reflects (keyed_of p) o.name o.native) → IsInOrder owned (keyed_of p) → IsInOrder owned (keyed_of (with_objects p objects made))
-    order-objects whole no_maps reflecting o = record {
-      sound = subst (IsSound owned) (sym heap-objects) s;
+    order-objects whole reflecting o = record {
+      sound = subst (IsSound owned) (sym (heap-objects o.entries_there)) s;
       keyed = HasKeys-numbers (counts_of (keyed_of p)) (counts_of (keyed_of (with_objects p objects made))).natives p.counted.buffer
           (reflectors_by objects p.counted.keys) (numbers objects ∙ sym (numbers p.scripts)) o.keyed;
       named = refl;
@@ -148,7 +168,8 @@ module _ (p : Inside) (objects : List Object) (made : ℕ) (kept : KeepsNames p.
       whole = whole;
       reflecting = λ q m. Reflects-kept (keyed_of p) (keyed_of (with_objects p objects made)) q.name q.native (λ key k is at. at) (reflecting q m);
       limits = o.limits;
-      without_maps = record { no_maps = no_maps; no_entries = refl };
+      entries = refl;
+      entries_there = entries_there-kept p.scripts objects kept p.weak o.entries_there;
     }
       where
         numbers : (os : List Object) → map (λ n. n.number) (map (keyed_native os) (map (named_native os) p.counted.natives)) ≡ map (λ n. n.number) p.counted.natives

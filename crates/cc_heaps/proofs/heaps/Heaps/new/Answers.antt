@@ -10,8 +10,9 @@ use Rattle.cc_model.specs.Heap.{Heap, empty_heap}
 use Rattle.cc_laws_heap.specs.Sound.{IsSound}
 use Rattle.cc_counted.specs.Counts.{Counts, no_counts}
 use Rattle.cc_script.specs.Objects.{Object}
+use Rattle.cc_weakmaps.specs.Entries.{KeyedEntry}
 use Rattle.cc_heaps.specs.declared.heaps.Heaps.TheInside.{Inside}
-use Rattle.cc_heaps.specs.Keyed.{Keyed, IsInOrder, named_object, reflectors_by}
+use Rattle.cc_heaps.specs.Keyed.{Keyed, IsInOrder, named_entry, named_object, reflectors_by}
 use Rattle.cc_heaps.specs.Named.{named, named_native, script_named, IsLive, IsScriptLive}
 use Rattle.cc_heaps.specs.Fields.{keyed_of, IsLinked}
 use Rattle.cc_heaps.proofs.Keying.{AreHeldThere}
@@ -24,7 +25,7 @@ use Rattle.cc_heaps.proofs.heaps.Heaps.new.Goals as goal
 -- Nothing is there yet
 
 abbrev empty_keyed : Allowance → Keyed
-empty_keyed l = record { heap = empty_heap l; keys = []; scripts = [] }
+empty_keyed l = record { heap = empty_heap l; keys = []; scripts = []; entries = [] }
 
 empty-sound : (l : Allowance) → IsSound [] (empty_heap l)
 empty-sound l = search rules
@@ -38,13 +39,14 @@ empty-order l few = record {
   whole = λ o q m. absurd m;
   reflecting = λ o m. absurd m;
   limits = few;
-  without_maps = record { no_maps = λ o m. absurd m; no_entries = refl };
+  entries = refl;
+  entries_there = λ e m. absurd m;
 }
 
-module _ (natives : Vec (Option NKey)) (scripts : Vec (Option SKey)) (limits : Allowance) {counted : Counts} {objects : List Object}
-    (no_natives : natives.items ≡ replicate 256 None) (no_scripts : scripts.items ≡ replicate 256 None) (none_counted : counted ≡ no_counts) (none_made : objects ≡ []) where
+module _ (natives : Vec (Option NKey)) (scripts : Vec (Option SKey)) (limits : Allowance) {counted : Counts} {objects : List Object} {weak : List KeyedEntry}
+    (no_natives : natives.items ≡ replicate 256 None) (no_scripts : scripts.items ≡ replicate 256 None) (none_counted : counted ≡ no_counts) (none_made : objects ≡ []) (none_set : weak ≡ []) where
   abbrev p : Inside
-  p = record { native_registers = natives; script_registers = scripts; counted = counted; scripts = objects; natives_made = 0; scripts_made = 0; limits = limits }
+  p = record { native_registers = natives; script_registers = scripts; counted = counted; scripts = objects; weak = weak; natives_made = 0; scripts_made = 0; limits = limits }
 
   empty-is : keyed_of p ≡ empty_keyed limits
   empty-is =
@@ -54,7 +56,7 @@ module _ (natives : Vec (Option NKey)) (scripts : Vec (Option SKey)) (limits : A
           script_registers = map (script_named (none_made i)) scripts.items;
           natives = map (named_native (none_made i)) (none_counted i).natives;
           scripts = map (named_object (none_made i)) (none_made i);
-          entries = [];
+          entries = map (named_entry (none_made i)) (none_set i);
           buffer = (none_counted i).buffer;
           natives_made = 0;
           scripts_made = 0;
@@ -62,6 +64,7 @@ module _ (natives : Vec (Option NKey)) (scripts : Vec (Option SKey)) (limits : A
         };
         keys = (none_counted i).keys;
         scripts = none_made i;
+        entries = none_set i;
       })
       ∙ (λ i. record {
         heap = record (empty_heap limits) {
@@ -70,6 +73,7 @@ module _ (natives : Vec (Option NKey)) (scripts : Vec (Option SKey)) (limits : A
         };
         keys = [];
         scripts = [];
+        entries = [];
       })
 
   empty-linked : IsLinked p
@@ -86,16 +90,16 @@ module _ (natives : Vec (Option NKey)) (scripts : Vec (Option SKey)) (limits : A
 
 pub returns-clause-empty : goal.returns-clause-empty
 returns-clause-empty c =
-    ap (λ (v : Keyed). v.heap) (empty-is c.in_ok-no_natives.field-0 c.in_ok-no_scripts.field-0 c.args.limits c.in_ok-no_natives.ensures c.in_ok-no_scripts.ensures c.new.ensures.natives c.new-2.ensures)
+    ap (λ (v : Keyed). v.heap) (empty-is c.in_ok-no_natives.field-0 c.in_ok-no_scripts.field-0 c.args.limits c.in_ok-no_natives.ensures c.in_ok-no_scripts.ensures c.new.ensures.natives c.new-2.ensures c.new-3.ensures)
 
 pub returns-clause-order : goal.returns-clause-order
 returns-clause-order c =
-    subst (IsInOrder []) (sym (empty-is c.in_ok-no_natives.field-0 c.in_ok-no_scripts.field-0 c.args.limits c.in_ok-no_natives.ensures c.in_ok-no_scripts.ensures c.new.ensures.natives c.new-2.ensures))
+    subst (IsInOrder []) (sym (empty-is c.in_ok-no_natives.field-0 c.in_ok-no_scripts.field-0 c.args.limits c.in_ok-no_natives.ensures c.in_ok-no_scripts.ensures c.new.ensures.natives c.new-2.ensures c.new-3.ensures))
     (empty-order c.args.limits (omega (arith, c.natives.ensures.same, c.natives.ensures.within), omega (arith, c.scripts.ensures.same, c.scripts.ensures.within)))
 
 pub invariant_of-result : goal.invariant_of-result
 invariant_of-result c =
-    empty-linked c.in_ok-no_natives.field-0 c.in_ok-no_scripts.field-0 c.args.limits c.in_ok-no_natives.ensures c.in_ok-no_scripts.ensures c.new.ensures.natives c.new-2.ensures
+    empty-linked c.in_ok-no_natives.field-0 c.in_ok-no_scripts.field-0 c.args.limits c.in_ok-no_natives.ensures c.in_ok-no_scripts.ensures c.new.ensures.natives c.new-2.ensures c.new-3.ensures
 
 pub returns-clause-stands : goal.returns-clause-stands
 returns-clause-stands c = subst (λ (h : Heap). StandsFor h (empty_graph c.args.limits)) (sym (returns-clause-empty c)) (empty-stands c.args.limits)
