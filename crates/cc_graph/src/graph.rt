@@ -246,6 +246,13 @@ impl Graph {
         Some((mapping.the_map(), mapping.key(), mapping.value()))
     }
 
+    /// How many mappings are noted.
+    pub fn mapping_count(&self) -> usize
+        ensures { result ≡ length self.now.hyperedges }
+    {
+        self.mappings.len()
+    }
+
     /// The place of the first reference that a node has; none where it has none.
     pub fn first_from(&self, i: u32) -> Option<usize>
         requires { i < length self.now.nodes }

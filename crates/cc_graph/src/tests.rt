@@ -1,4 +1,4 @@
-//! Tests of the graph: names and numbers, references, and what becomes black.
+//! Tests of the graph: names and numbers, references, mappings, and what becomes black.
 
 use super::*;
 use cc_counted::Held;
@@ -44,6 +44,28 @@ fn references_are_noted_as_often_as_they_are_held(rt: HostRuntime) -> Result<(),
     assert_eq!(rt; graph.first_from(one), Some(0));
     assert_eq!(rt; graph.next_from(0), Some(2));
     assert_eq!(rt; graph.next_from(2), None);
+    Ok(())
+}
+
+#[test]
+fn mappings_are_known_by_place(rt: HostRuntime) -> Result<(), Fail> {
+    let mut graph = Graph::new(rt.alloc());
+    let key = graph.add_node(Name::Script(ScriptNo(7)), Held::Script(SKey(0)))?;
+    let value = graph.add_node(Name::Script(ScriptNo(8)), Held::Script(SKey(1)))?;
+    let the_map = graph.add_node(Name::Script(ScriptNo(9)), Held::Script(SKey(2)))?;
+    assert_eq!(rt; graph.mapping(0), None);
+    assert_eq!(rt; graph.note_mapping(Some(the_map), Some(key), value), Ok(()));
+    assert_eq!(rt; graph.note_mapping(None, Some(value), key), Ok(()));
+    assert_eq!(rt; graph.note_mapping(Some(value), None, the_map), Ok(()));
+    assert_eq!(rt; graph.note_mapping(None, None, value), Ok(()));
+    graph.add_node(Name::Script(ScriptNo(3)), Held::Script(SKey(3)))?;
+    assert_eq!(rt; graph.mapping(0), Some((Some(2), Some(0), 1)));
+    assert_eq!(rt; graph.mapping(1), Some((None, Some(1), 0)));
+    assert_eq!(rt; graph.mapping(2), Some((Some(1), None, 2)));
+    assert_eq!(rt; graph.mapping(3), Some((None, None, 1)));
+    assert_eq!(rt; graph.mapping(4), None);
+    assert_eq!(rt; graph.mapping_count(), 4);
+    assert!(rt; !graph.is_black(value));
     Ok(())
 }
 

@@ -1,3 +1,5 @@
 pub mod BlackenedTargets
 pub mod NotedPlaces
 pub mod Spreading
+pub mod Turns
+pub mod Values

@@ -5,3 +5,6 @@
 mod scanning;
 
 pub use scanning::scan;
+
+#[cfg(test)]
+mod tests;

@@ -1,21 +1,34 @@
-//! The black nodes of a graph: those held from elsewhere, and what black nodes lead to.
-ghost use Rattle.std.specs.Prelude.{◌≡◌, ◌<◌, ◌==◌, ℕ, ◌↔◌, ◌⊎◌, IsTrue, Some, [], length, map, filter, option_map, slice_get};
+//! The black nodes of a graph: those held from elsewhere, what black nodes lead to, and the values of mappings whose members
+//! are black.
+ghost use Rattle.std.specs.Prelude.{◌≡◌, ◌<◌, ◌≤◌, ◌==◌, ℕ, ◌↔◌, ◌⊎◌, IfSome, IsTrue, Some, [], length, map, filter, option_map, slice_get};
 ghost use Rattle.cc_lists.specs.Members.{Among, with_all_last};
 ghost use Rattle.cc_lists.specs.Least.{Least, system};
 ghost use Rattle.cc_graph.specs.Shown.{edges_to};
 ghost use Rattle.cc_graph.specs.Shown as shown;
 ghost use Rattle.cc_scan.specs.Scanning.{exceeds, held_elsewhere, edge_pair, scan_rules};
+ghost use Rattle.cc_scan.specs.Steps.{IsFollowedTo, is_met, with_value, with_values};
 
 use cc_graph::Graph;
 
-/// Makes black what may be held from outside the graph, and all that black nodes lead to. What is black stays black; the
-/// others are held by nodes alone that are not black either.
+/// Makes black what may be held from outside the graph, and all that black nodes lead to, by references and by mappings.
+/// What is black stays black; the others are held by nodes that are not black either, and by mappings of which the map or the
+/// key is not, alone. Takes no memory.
+// O(m * m) for m mappings that wait for one another against the order in which they were noted: each turn goes over all of
+// them, until they have an index by their members. The references of a node are followed once, whatever the turns.
 pub fn scan(graph: &mut Graph)
     ensures least { (i : ℕ) → IsTrue (shown.is_black graph.new i) ↔ Least (scan_rules graph.old) i }
     ensures rest { graph.new ≡ record graph.old { blacks = graph.new.blacks } }
 {
     blacken_held_elsewhere(graph);
-    blacken_reached(graph);
+    let mut place = 0;
+    'turns: loop {
+        place = blacken_reached(graph, place);
+        blacken_values(graph);
+        // no mapping gave a black node that is still to be followed
+        if graph.black_at(place).is_none() {
+            return;
+        }
+    }
 }
 
 /// Makes black each node with more sampled references than are noted to it: some of them are from elsewhere.
@@ -41,18 +54,22 @@ fn is_held_elsewhere(graph: &Graph, i: u32) -> bool
     }
 }
 
-/// Makes black what black nodes lead to, and what that leads to in turn: each black node gives the targets of its
-/// references once, and those that became black by it come behind it on the list.
-fn blacken_reached(graph: &mut Graph)
+/// Makes black what black nodes lead to by references, and what that leads to in turn: each black node from the place `start`
+/// of their list on gives the targets of its references, once, and those that became black by it come behind it. The nodes
+/// before `start` gave theirs already. The answer is the end of the list.
+fn blacken_reached(graph: &mut Graph, start: u32) -> u32
+    requires { IsFollowedTo graph.old start }
     ensures least { (i : ℕ) → IsTrue (shown.is_black graph.new i) ↔ Least (system graph.old.blacks (map edge_pair graph.old.edges) []) i }
+    ensures longer { length graph.old.blacks ≤ length graph.new.blacks }
+    ensures end { result ≡ length graph.new.blacks }
     ensures rest { graph.new ≡ record graph.old { blacks = graph.new.blacks } }
 {
-    for i in 0..graph.len() {
-        let Some(node) = graph.black_at(i) else {
-            return
-        };
+    let mut place = start;
+    while let Some(node) = graph.black_at(place) {
         blacken_targets(graph, node);
+        place += 1;
     }
+    place
 }
 
 /// Makes black the target of each reference that a node has, in the order in which they were noted.
@@ -68,5 +85,41 @@ fn blacken_targets(graph: &mut Graph, node: u32)
         };
         graph.blacken(target);
         place = graph.next_from(j);
+    }
+}
+
+/// Goes over the mappings once, in the order in which they were noted: the value of each becomes black where its map and its
+/// key are each black or no node.
+fn blacken_values(graph: &mut Graph)
+    ensures blacks { graph.new.blacks ≡ with_values graph.old.blacks graph.old.hyperedges }
+    ensures rest { graph.new ≡ record graph.old { blacks = graph.new.blacks } }
+{
+    for j in 0..graph.mapping_count() {
+        blacken_value(graph, j);
+    }
+}
+
+/// Makes black the value of the mapping at a place, where its map and its key are each black or no node.
+fn blacken_value(graph: &mut Graph, j: usize)
+    requires { j < length graph.old.hyperedges }
+    ensures blacks { option_map (λ m. with_value graph.old.blacks m) (slice_get graph.old.hyperedges j) ≡ Some graph.new.blacks }
+    ensures rest { graph.new ≡ record graph.old { blacks = graph.new.blacks } }
+{
+    let Some((the_map, key, value)) = graph.mapping(j) else {
+        unreachable!()
+    };
+    if is_met(graph, the_map) && is_met(graph, key) {
+        graph.blacken(value);
+    }
+}
+
+/// Whether a member of a mapping, its map or its key, is black or no node.
+fn is_met(graph: &Graph, member: Option<u32>) -> bool
+    requires { IfSome member (λ i. i < length graph.now.nodes) }
+    ensures { result ≡ is_met graph.now.blacks member }
+{
+    match member {
+        Some(i) => graph.is_black(i),
+        None => true,
     }
 }
