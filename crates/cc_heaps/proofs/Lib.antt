@@ -18,8 +18,10 @@ pub mod PlacesRead
 pub mod Made
 pub mod Reaching
 pub mod ScriptsChanged
+pub mod EntryNames
 pub mod ScriptWrites
 pub mod ScriptCalls
+pub mod EntriesSet
 pub mod ReflectorMade
 pub mod Listing
 pub mod Limited
@@ -43,6 +45,7 @@ pub mod SweptObjects
 pub mod Following
 pub mod StandingStill
 pub mod StandingAfter
+pub mod EntriesFollow
 pub mod KeysKept
 pub mod Reflecting
 pub mod ReflectingMade

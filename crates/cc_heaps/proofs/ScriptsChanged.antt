@@ -28,7 +28,7 @@ use Rattle.cc_heaps.specs.Fields.{heap_of, keyed_of, IsLinked}
 use Rattle.cc_heaps.specs.declared.heaps.Heaps.TheInside.{Inside}
 use Rattle.cc_heaps.proofs.Keys.{HasKeys-numbers, Reflects-kept, object-name}
 use Rattle.cc_heaps.proofs.ObjectsKept.{members, entry-same, entry-there}
-use Rattle.cc_heaps.proofs.Reaching.{HasOneKey}
+use Rattle.cc_heaps.proofs.Reaching.{HasOneKey, HasOneName}
 
 -- keys that have names keep them
 abbrev pub KeepsNames : List Object → List Object → Type 0
@@ -71,6 +71,16 @@ named_entries-kept os ps kept es there = map-agree (named_entry ps) (named_entry
 -- and what it names is there still
 pub entries_there-kept : (os ps : List Object) → KeepsNames os ps → (es : List KeyedEntry) → AreEntriesThere os es → AreEntriesThere ps es
 entries_there-kept os ps kept es there e m = entry-there os ps e (members-kept os ps kept e (there e m)) (there e m)
+
+-- no two objects have one name, where no two script objects of the heaps have
+pub HasOneName-named : (h : Heap) (objects : List Object) → h.scripts ≡ named_objects objects → IsWellFormed h → HasOneName objects
+HasOneName-named h objects named w x = subst (λ n. n ≤ 1) counted (w.distinct x)
+  where
+    counted : count_by (same_name x) (script_names h) ≡ count_by (λ o. same_name o.name x) objects
+    counted = ap (λ ss. count_by (same_name x) (map (λ (o : HeapScript). o.name) ss)) named
+        ∙ (count_by-map (same_name x) (λ (o : HeapScript). o.name) (named_objects objects)
+        ∙ (count_by-map (λ (o : HeapScript). same_name x o.name) (named_object objects) objects
+        ∙ ap (λ t. count_by t objects) (fun_ext (λ (o : Object). same_name-sym x o.name))))
 
 -- THE PARTS with other script objects, so many of which were made
 abbrev pub with_objects : Inside → List Object → ℕ → Inside
@@ -125,7 +135,7 @@ module _ (p : Inside) (objects : List Object) (made : ℕ) (kept : KeepsNames p.
       registers = l.registers;
       held = λ n x m i. held x (l.held n x m i);
       one_key = one;
-      one_name = λ x. subst (λ n. n ≤ 1) (counted x) (w.distinct x);
+      one_name = HasOneName-named g objects same w;
       reflectors = its;
       script_names = λ o m. no_native o.name (object-name g objects same o m);
     }
@@ -138,12 +148,6 @@ module _ (p : Inside) (objects : List Object) (made : ℕ) (kept : KeepsNames p.
         held (name.Native k) t = t
         held (name.Script k) t = KeepsNames-there p.scripts objects kept k.0 t
         held (name.Reflector k) t = t
-
-        counted : (x : Name) → count_by (same_name x) (script_names g) ≡ count_by (λ o. same_name o.name x) objects
-        counted x = ap (λ ss. count_by (same_name x) (map (λ (o : HeapScript). o.name) ss)) same
-            ∙ (count_by-map (same_name x) (λ (o : HeapScript). o.name) (named_objects objects)
-            ∙ (count_by-map (λ (o : HeapScript). same_name x o.name) (named_object objects) objects
-            ∙ ap (λ t. count_by t objects) (fun_ext (λ (o : Object). same_name-sym x o.name))))
 
         no_native : (x : Name) → Among x (script_names g) → is_native x ≡ false
         no_native (name.Native k) m = absurd (native-no_script g k.0 w m)

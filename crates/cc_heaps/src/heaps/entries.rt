@@ -2,12 +2,13 @@
 ghost use Rattle.std.specs.Prelude.{◌≡◌, [], None, Some, IsOk, IsSome, IsTrue, OnErr, OnOk};
 ghost use Rattle.cc_names.specs.declared.kind.Kind.TheVariants.{Map};
 ghost use Rattle.cc_model.specs.Checks.{value_at};
-ghost use Rattle.cc_model.specs.Heap.{objects_of};
+ghost use Rattle.cc_model.specs.Entries.{with_entry};
+ghost use Rattle.cc_model.specs.Heap.{objects_of, preserve};
 ghost use Rattle.cc_model.specs.Effects.{set_entry};
 ghost use Rattle.cc_model.specs.Graph as graph;
 ghost use Rattle.cc_script.specs.Objects.{is_there, kind_at, name_at};
 ghost use Rattle.cc_counted.specs.declared.held.Held.TheVariants as held;
-ghost use Rattle.cc_heaps.specs.Keyed.{IsInOrder};
+ghost use Rattle.cc_heaps.specs.Keyed.{IsInOrder, changed_to, the_name_at};
 ghost use Rattle.cc_heaps.specs.Changes.{IsBlackHeld, KeepsKeys};
 ghost use Rattle.cc_heaps.specs.Standing.{IsReached, StandsAfter, KeepsFresh, KeepsSuspected, KeepsColours};
 ghost use Rattle.cc_heaps.specs.Few.{AreFew};
@@ -16,6 +17,36 @@ use crate::heaps::Heaps;
 use cc_names::{NoMemory, SKey};
 
 impl Heaps {
+    // An entry keeps its place with another value, or goes last where there was none. Its key is not preserved.
+    fn put_entry(&mut self, the_map: SKey, key: SKey, value: SKey) -> Result<(), NoMemory>
+        requires order { IsInOrder [] self.old }
+        requires the_map { kind_at self.old.scripts the_map.0 ≡ Some Map }
+        requires key { IsTrue (is_there self.old.scripts key.0) }
+        requires value { IsTrue (is_there self.old.scripts value.0) }
+        ensures heap { OnOk result (self.new.heap ≡ record self.old.heap {
+            entries = with_entry self.old.heap.entries (the_name_at self.old.scripts the_map.0) (the_name_at self.old.scripts key.0) (the_name_at self.old.scripts value.0)
+        }) }
+        ensures in_place { IsSome (value_at (objects_of self.old.heap) (name_at self.old.scripts the_map.0) (name_at self.old.scripts key.0)) → IsOk result }
+        ensures natives { self.new.keys ≡ self.old.keys }
+        ensures scripts { self.new.scripts ≡ self.old.scripts }
+        ensures same { OnErr result (self.new ≡ self.old) }
+        ensures order { IsInOrder [] self.new }
+    {
+        self.weak.set(the_map, key, value)
+    }
+
+    // A script object that is a reflector is preserved.
+    fn preserve(&mut self, key: SKey)
+        requires order { IsInOrder [] self.old }
+        requires live { IsTrue (is_there self.old.scripts key.0) }
+        ensures heap { self.new ≡ changed_to self.old (preserve self.old.heap (name_at self.old.scripts key.0)) }
+        ensures order { IsInOrder [] self.new }
+    {
+        if let Some(native) = self.scripts.native_of(key) {
+            self.set_preserved(native);
+        }
+    }
+
     /// A key has a value in a weak map from then on: its entry keeps its place, or goes last where there was none. A key that
     /// is a reflector is preserved: one that is not preserved is the key of no entry, so that it can be made again.
     ///
@@ -40,10 +71,8 @@ impl Heaps {
         ensures fresh { IsBlackHeld self.old (Some (held.Script key)) → IsBlackHeld self.old (Some (held.Script value)) → KeepsFresh self.old.heap self.new.heap }
         ensures suspected { KeepsSuspected self.old.heap self.new.heap }
     {
-        self.weak.set(the_map, key, value)?;
-        if let Some(native) = self.scripts.native_of(key) {
-            self.counted.set_preserved(native, true);
-        }
+        self.put_entry(the_map, key, value)?;
+        self.preserve(key);
         Ok(())
     }
 

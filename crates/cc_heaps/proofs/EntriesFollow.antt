@@ -1,0 +1,232 @@
+-- WHAT FOLLOWS FROM AN ENTRY SET OR TAKEN OUT: the heaps stand for the graph in which it is, the colour invariant stays, every
+-- snapshot that was fresh is fresh where neither key nor value is gray, and no unreached native is forgotten.
+use Rattle.std.proofs.Common.{◌≡◌, ℕ, Bool, not, List, [], Option, Some, None, refl, sym, ◌∙◌, ap, subst, inl, inr, ⊎_elim, arith, option_map}
+use Rattle.std.specs.Prelude.{IfSome, IsTrue}
+use Rattle.std.specs.Option.{option_and_then}
+use Rattle.cc_lists.specs.Members.{Among}
+use Rattle.cc_lists.proofs.Members.{Among-filtered}
+use Rattle.cc_lists.proofs.Filtering.{count_by-filter-le}
+use Rattle.cc_names.specs.declared.name.Name.{Name}
+use Rattle.cc_names.specs.declared.name.Name.TheVariants as name
+use Rattle.cc_names.specs.declared.kind.Kind.TheVariants.{Reflector, Map}
+use Rattle.cc_names.specs.Names.{object}
+use Rattle.cc_model.specs.Slots.{Slots}
+use Rattle.cc_model.specs.Entries.{Entry, entry, is_entry_of, with_entry, without_entry}
+use Rattle.cc_model.specs.Graph as graph
+use Rattle.cc_model.specs.Graph.{Graph, GraphNative, GraphScript, plain_object, weak_map, as_preserved, native_in, script_in}
+use Rattle.cc_model.specs.Reached.{Reached}
+use Rattle.cc_model.specs.WellMade.{IsWellMade, IsMadeEntry}
+use Rattle.cc_model.specs.Heap.{Heap, preserve}
+use Rattle.cc_model.specs.Effects.{set_entry}
+use Rattle.cc_model.specs.WellFormed.{HasMembers, script_names}
+use Rattle.cc_model.specs.StandsFor.{StandsFor, kind_in, kind_of, reflector_kind}
+use Rattle.cc_laws_heap.specs.Sound.{IsSound}
+use Rattle.cc_laws_heap.proofs.Coloured.{AreColoured-from_view, HasColourInvariant-from}
+use Rattle.cc_laws_heap.proofs.ColourChanges.{IsHeldBlack}
+use Rattle.cc_laws_heap.proofs.EntriesKept.{without_entry-sound}
+use Rattle.cc_laws_heap.proofs.EntryLists.{entries_of-set, with_entry-cases}
+use Rattle.cc_laws_heap.proofs.Following.{stands-follows}
+use Rattle.cc_laws_heap.proofs.GraphParts.{Grows, IsMadeEntry-grows, IsWellMade-entries}
+use Rattle.cc_laws_heap.proofs.GraphReads.{MadeScript}
+use Rattle.cc_laws_heap.proofs.GraphWrites.{Grows-change_native, IsWellMade-change_native, KeepsNative-preserved}
+use Rattle.cc_laws_heap.proofs.Holds.{OfSome}
+use Rattle.cc_laws_heap.proofs.NativesKeepScripts.{SameScripts, SameScripts-coloured}
+use Rattle.cc_laws_heap.proofs.ReachedAlike.{in-reached}
+use Rattle.cc_laws_heap.proofs.ReachedReads.{script-behind}
+use Rattle.cc_laws_heap.proofs.ScriptsKept.{native-no_script}
+use Rattle.cc_laws_heap.proofs.Standing.{follows-stands}
+use Rattle.cc_laws_heap.proofs.StepsAlike.{Follows-set_entry}
+use Rattle.cc_laws_snapshot.proofs.GentleBut.{AreGentle}
+use Rattle.cc_laws_snapshot.proofs.KindsFresh.{fresh-coloured}
+use Rattle.cc_laws_snapshot.proofs.KindsHeld.{entry_written-suspected}
+use Rattle.cc_laws_snapshot.proofs.ScriptParts.{not_gray-held, set_entry-gentle}
+use Rattle.cc_script.specs.Objects.{is_there, kind_at, name_at}
+use Rattle.cc_heaps.specs.Keyed.{Keyed, IsInOrder, changed_to, the_name_at}
+use Rattle.cc_heaps.specs.Standing.{IsReached, StandsAfter, KeepsColours, KeepsFresh, KeepsSuspected}
+use Rattle.cc_heaps.proofs.EntriesSet.{entry-members, map-there, the_name-among}
+use Rattle.cc_heaps.proofs.EntryNames.{the_name-there}
+use Rattle.cc_heaps.proofs.Reflecting.{there-made}
+
+-- The graph
+
+-- what is of the kind of a weak map is one
+kind-map : (g : Graph) (x : Name) → kind_in g x ≡ Some Map → (j : ℕ) × (x ≡ object j) × (script_in g j ≡ Some weak_map)
+kind-map g (name.Native k) e = absurd (cc)
+kind-map g (name.Script k) e = (k.0, refl, go (script_in g k.0) e)
+  where
+    go : (o : Option GraphScript) → option_map kind_of o ≡ Some Map → o ≡ Some weak_map
+    go None f = absurd (cc)
+    go (Some (plain_object slots)) f = absurd (cc)
+    go (Some weak_map) f = refl
+kind-map g (name.Reflector k) e = absurd (go (native_in g k.0) e)
+  where
+    slots : (n : GraphNative) (r : Option Slots) → option_map (λ slots. Reflector) r ≡ Some Map → ⊥
+    slots n None f = absurd (cc)
+    slots n (Some l) f = absurd (cc)
+
+    go : (o : Option GraphNative) → option_and_then reflector_kind o ≡ Some Map → ⊥
+    go None f = absurd (cc)
+    go (Some n) f = slots n n.reflector f
+
+-- a reflector preserved leaves the graph well made, and weak maps weak maps
+preserved-well : (g : Graph) (x : Name) → MadeScript g x → IsWellMade g → IsWellMade (graph.preserve g (Some x)) × Grows g (graph.preserve g (Some x))
+preserved-well g (name.Native k) m w = (w, record { made = λ x i. i; maps = λ k i. i })
+preserved-well g (name.Script k) m w = (w, record { made = λ x i. i; maps = λ k i. i })
+preserved-well g (name.Reflector k) m w = (IsWellMade-change_native g k.0 as_preserved (λ n r. r) w (KeepsNative-preserved g k.0 m), Grows-change_native g k.0 as_preserved (λ n r. r))
+
+module _ (h : Heap) (m k : Name) (s : IsSound [] h) where
+  -- a graph that the heaps stand for is well made with an entry of what is there, or with one less
+  set-well : (v : Option Name) → OfSome (λ x. HasMembers h (entry m k x)) v → (g : Graph) → IsWellMade g → StandsFor h g → IsWellMade (graph.set_entry g (Some m) (Some k) v)
+  set-well None there g w t = IsWellMade-entries g (without_entry g.entries m k) w
+      (λ e i. w.entries e (Among-filtered (λ f. not (is_entry_of m k f)) e g.entries i))
+      (λ a b. omega (arith, count_by-filter-le (is_entry_of a b) (λ e. not (is_entry_of m k e)) g.entries, w.one_entry a b))
+  set-well (Some x) there g w t =
+      let kept = preserved-well g k key w in
+      IsWellMade-entries (graph.preserve g (Some k)) (with_entry g.entries m k x) kept.0
+      (λ e i. IsMadeEntry-grows g (graph.preserve g (Some k)) kept.1 e
+      (⊎_elim (λ same. subst (IsMadeEntry g) same new) (w.entries e) (with_entry-cases g.entries m k x e i)))
+      (entries_of-set g.entries m k x w.one_entry)
+    where
+      key : MadeScript g k
+      key = there-made h g k s.well_formed t there.key
+
+      the_map : kind_in g m ≡ Some Map
+      the_map =
+          let f = there.the_map in
+          ap (kind_in g) (sym f.2) ∙ ((t.scripts f.0 f.1).kind ∙ ap (λ kind. Some kind) f.3)
+
+      new : IsMadeEntry g (entry m k x)
+      new = record { the_map = kind-map g m the_map; key = key; value = there-made h g x s.well_formed t there.value }
+
+  module _ (v : Option Name) (after : IsSound [] (set_entry h (Some m) (Some k) v)) where
+    -- THE HEAPS STAND FOR THE GRAPH with the entry set, or without it, where all that is handed in is reached.
+    set-stands : OfSome (λ x. HasMembers h (entry m k x)) v → Among k (script_names h) → IsReached h (Some m) → IsReached h (Some k) → IsReached h v →
+        StandsAfter h (set_entry h (Some m) (Some k) v) (λ g. graph.set_entry g (Some m) (Some k) v)
+    set-stands there at a b c g w t =
+        let well = set-well v there g w t in
+        let key = in-reached h g s.well_formed w t k b in (
+          well,
+          follows-stands (Reached g) (set_entry h (Some m) (Some k) v) (graph.set_entry g (Some m) (Some k) v) after.well_formed well
+              (Follows-set_entry (Reached g) h g (Some m) (Some k) v (in-reached h g s.well_formed w t m a) key
+              (script-behind g (Some k) (there-made h g k s.well_formed t at) key) (reached v c) w.one_entry (stands-follows h g s.well_formed t)),
+        )
+      where
+        reached : (x : Option Name) → IsReached h x → OfSome (Reached g) x
+        reached None r = tt
+        reached (Some x) r = in-reached h g s.well_formed w t x r
+
+    -- script objects and script registers are as they were
+    same_scripts : SameScripts h (set_entry h (Some m) (Some k) v)
+    same_scripts = go v k
+      where
+        go : (v : Option Name) (x : Name) → SameScripts h (set_entry h (Some m) (Some x) v)
+        go None x = record { scripts = refl; registers = refl }
+        go (Some y) (name.Native j) = record { scripts = refl; registers = refl }
+        go (Some y) (name.Script j) = record { scripts = refl; registers = refl }
+        go (Some y) (name.Reflector j) = record { scripts = refl; registers = refl }
+
+    -- The colour invariant stays.
+    set-colours : KeepsColours h (set_entry h (Some m) (Some k) v)
+    set-colours c = HasColourInvariant-from (set_entry h (Some m) (Some k) v) after.well_formed
+        (SameScripts-coloured h (set_entry h (Some m) (Some k) v) same_scripts (AreColoured-from_view h s.well_formed c))
+
+    -- No unreached native is forgotten.
+    set-suspected : KeepsSuspected h (set_entry h (Some m) (Some k) v)
+    set-suspected candidates = entry_written-suspected h candidates m k v s.well_formed
+
+    -- A gentle change keeps snapshots fresh.
+    gentle-fresh : AreGentle h (set_entry h (Some m) (Some k) v) → KeepsFresh h (set_entry h (Some m) (Some k) v)
+    gentle-fresh gentle t f = fresh-coloured h (set_entry h (Some m) (Some k) v) s.well_formed after.well_formed gentle
+        (SameScripts-coloured h (set_entry h (Some m) (Some k) v) same_scripts) t f
+
+    -- Every snapshot that was fresh is fresh, where key and value are black,
+    set-fresh : IsHeldBlack h.scripts (Some k) → IsHeldBlack h.scripts v → KeepsFresh h (set_entry h (Some m) (Some k) v)
+    set-fresh a b = gentle-fresh (set_entry-gentle h (Some m) (Some k) v (not_gray-held h (Some k) a) (not_gray-held h v b))
+
+  -- or where an entry is taken out.
+  unset-fresh : KeepsFresh h (set_entry h (Some m) (Some k) None)
+  unset-fresh = gentle-fresh None (without_entry-sound [] h m k s) (record {
+    made_more = omega arith;
+    outside = λ u c i o l. (i, o);
+    as_often = λ u w c i o l. refl;
+    gray_edge = λ x y i g. (i, g);
+    gray_entry = λ e i g. (Among-filtered (λ (f : Entry). not (is_entry_of m k f)) e h.entries i, g);
+    black_stays = λ x i. i;
+    scripts_stay = λ x i. i;
+    lives = λ i c l. inl (c, l);
+  })
+
+-- WHAT A CALL KEEPS that sets an entry, or takes one out
+pub record SetKeeps (h g : Heap) (m k v : Option Name) : Type 0 where
+  pub stands : IsReached h m → IsReached h k → IsReached h v → StandsAfter h g (λ f. graph.set_entry f m k v)
+  pub colours : KeepsColours h g
+  pub suspected : KeepsSuspected h g
+  pub fresh : IsHeldBlack h.scripts k → IsHeldBlack h.scripts v → KeepsFresh h g
+  pub fresh_without : v ≡ None → KeepsFresh h g
+
+set-keeps : (h : Heap) (m k : Name) (v : Option Name) → IsSound [] h → IsSound [] (set_entry h (Some m) (Some k) v) →
+    OfSome (λ x. HasMembers h (entry m k x)) v → Among k (script_names h) → SetKeeps h (set_entry h (Some m) (Some k) v) (Some m) (Some k) v
+set-keeps h m k v s after there at = record {
+  stands = set-stands h m k s v after there at;
+  colours = set-colours h m k s v after;
+  suspected = set-suspected h m k s v after;
+  fresh = set-fresh h m k s v after;
+  fresh_without = λ e. subst (λ x. KeepsFresh h (set_entry h (Some m) (Some k) x)) (sym e) (unset-fresh h m k s);
+}
+
+-- by keys, of what is there
+module _ (v w : Keyed) (o : IsInOrder [] v) (p : IsInOrder [] w) (m k : ℕ) (is_map : kind_at v.scripts m ≡ Some Map) (k-there : IsTrue (is_there v.scripts k))
+    (x : Option ℕ) (x-there : IfSome x (λ q. IsTrue (is_there v.scripts q))) where
+  abbrev named : Option ℕ → Option Name
+  named y = option_and_then (name_at v.scripts) y
+
+  the_map : name_at v.scripts m ≡ Some (the_name_at v.scripts m)
+  the_map = the_name-there v.scripts m (map-there v.scripts m is_map)
+
+  key : name_at v.scripts k ≡ Some (the_name_at v.scripts k)
+  key = the_name-there v.scripts k k-there
+
+  value : named x ≡ option_map (the_name_at v.scripts) x
+  value = go x x-there
+    where
+      go : (y : Option ℕ) → IfSome y (λ q. IsTrue (is_there v.scripts q)) → named y ≡ option_map (the_name_at v.scripts) y
+      go None t = refl
+      go (Some q) t = the_name-there v.scripts q t
+
+  members : OfSome (λ y. HasMembers v.heap (entry (the_name_at v.scripts m) (the_name_at v.scripts k) y)) (option_map (the_name_at v.scripts) x)
+  members = go x x-there
+    where
+      go : (y : Option ℕ) → IfSome y (λ q. IsTrue (is_there v.scripts q)) →
+          OfSome (λ z. HasMembers v.heap (entry (the_name_at v.scripts m) (the_name_at v.scripts k) z)) (option_map (the_name_at v.scripts) y)
+      go None t = tt
+      go (Some q) t = entry-members [] v o m k q is_map k-there t
+
+  pub entry-keeps : w.heap ≡ set_entry v.heap (name_at v.scripts m) (name_at v.scripts k) (named x) →
+      SetKeeps v.heap w.heap (name_at v.scripts m) (name_at v.scripts k) (named x)
+  entry-keeps e =
+      let P : Option Name → Option Name → Option Name → Type 0 = λ a b c. SetKeeps v.heap (set_entry v.heap a b c) a b c in
+      let after = subst (IsSound []) (e ∙ (λ i. set_entry v.heap (the_map i) (key i) (value i))) p.sound in
+      subst (λ g. SetKeeps v.heap g (name_at v.scripts m) (name_at v.scripts k) (named x)) (sym e)
+      (subst (λ a. P a (name_at v.scripts k) (named x)) (sym the_map)
+      (subst (λ b. P (Some (the_name_at v.scripts m)) b (named x)) (sym key)
+      (subst (P (Some (the_name_at v.scripts m)) (Some (the_name_at v.scripts k))) (sym value)
+      (set-keeps v.heap (the_name_at v.scripts m) (the_name_at v.scripts k) (option_map (the_name_at v.scripts) x) o.sound after members (the_name-among [] v o k k-there)))))
+
+-- AN ENTRY SET first and then its key preserved is both at once.
+preserve-entries : (h : Heap) (es : List Entry) (x : Name) → preserve (record h { entries = es }) (Some x) ≡ record (preserve h (Some x)) { entries = es }
+preserve-entries h es (name.Native j) = refl
+preserve-entries h es (name.Script j) = refl
+preserve-entries h es (name.Reflector j) = refl
+
+pub set-preserved : (v mid w : Keyed) (m k x : ℕ) → IsTrue (is_there v.scripts m) → IsTrue (is_there v.scripts k) → IsTrue (is_there v.scripts x) →
+    mid.heap ≡ record v.heap { entries = with_entry v.heap.entries (the_name_at v.scripts m) (the_name_at v.scripts k) (the_name_at v.scripts x) } → mid.scripts ≡ v.scripts →
+    w ≡ changed_to mid (preserve mid.heap (name_at mid.scripts k)) → w.heap ≡ set_entry v.heap (name_at v.scripts m) (name_at v.scripts k) (name_at v.scripts x)
+set-preserved v mid w m k x s t u heap scripts e =
+    ap (λ (i : Keyed). i.heap) e
+    ∙ ((λ i. preserve (heap i) (name_at (scripts i) k))
+    ∙ ((λ i. preserve after (the_name-there v.scripts k t i))
+    ∙ (preserve-entries v.heap after.entries (the_name_at v.scripts k)
+    ∙ (λ i. set_entry v.heap (sym (the_name-there v.scripts m s) i) (sym (the_name-there v.scripts k t) i) (sym (the_name-there v.scripts x u) i)))))
+  where
+    after : Heap
+    after = record v.heap { entries = with_entry v.heap.entries (the_name_at v.scripts m) (the_name_at v.scripts k) (the_name_at v.scripts x) }

@@ -1,0 +1,184 @@
+-- AN ENTRY SET OR TAKEN OUT BY KEYS, which is set or taken out by names, and its key, preserved where it is a reflector.
+use Rattle.std.proofs.Common.{◌≡◌, ℕ, Bool, true, false, List, [], Option, Some, None, Result, Ok, Err, OnOk, OnErr, is_some, option_map, refl, sym, ◌∙◌, ap, subst}
+use Rattle.std.specs.Prelude.{IsTrue, IsSome}
+use Rattle.std.specs.Option.{option_and_then}
+use Rattle.std.proofs.lemmas.Bool.{false≢true, true≢false}
+use Rattle.cc_lists.specs.Members.{Among}
+use Rattle.cc_lists.proofs.Members.{Among-map}
+use Rattle.cc_names.specs.declared.name.Name.{Name}
+use Rattle.cc_names.specs.declared.name.Name.TheVariants as name
+use Rattle.cc_names.specs.declared.number.NKey.{NKey}
+use Rattle.cc_names.specs.declared.kind.Kind.TheVariants.{Map}
+use Rattle.cc_names.specs.Names.{reflector}
+use Rattle.cc_model.specs.Entries as model
+use Rattle.cc_model.specs.Entries.{Entry}
+use Rattle.cc_model.specs.Heap.{Heap, HeapScript, has_reflector, preserve, set_preserved}
+use Rattle.cc_model.specs.Effects.{set_entry}
+use Rattle.cc_model.specs.WellFormed.{HasMembers, script_names}
+use Rattle.cc_laws_heap.specs.Sound.{IsSound}
+use Rattle.cc_laws_heap.proofs.EntriesKept.{with_entry-sound, without_entry-sound}
+use Rattle.cc_laws_heap.proofs.Holding.{has_reflector-none}
+use Rattle.cc_laws_heap.proofs.Kept.{with_entries}
+use Rattle.cc_script.specs.Objects.{Object, is_there, kind_at, name_at, native_at, object_at}
+use Rattle.cc_weakmaps.specs.Entries.{KeyedEntry, with_entry, without_entry}
+use Rattle.cc_marking.specs.Marking.{AreEntriesThere}
+use Rattle.cc_heaps.specs.declared.heaps.Heaps.TheInside.{Inside}
+use Rattle.cc_heaps.specs.Keyed.{Keyed, IsInOrder, Reflects, named_entries, named_object, named_objects, number_at, the_name_at, the_number}
+use Rattle.cc_heaps.specs.Fields.{heap_of, keyed_of, IsLinked}
+use Rattle.cc_heaps.proofs.EntryNames.{the_name-there, with_entry-named, without_entry-named, entries_there-set, entries_there-without}
+use Rattle.cc_heaps.proofs.Keys.{Reflects-kept, object-name}
+use Rattle.cc_heaps.proofs.Reaching.{name_at-found, object_at-found}
+use Rattle.cc_heaps.proofs.ScriptCalls.{Becomes, name-among}
+
+-- What an entry names by names
+
+module _ (owned : List ℕ) (v : Keyed) (o : IsInOrder owned v) where
+  -- what is there has its name in the heaps
+  pub the_name-among : (key : ℕ) → IsTrue (is_there v.scripts key) → Among (the_name_at v.scripts key) (script_names v.heap)
+  the_name-among key t =
+      let f = name_at-found v.scripts key (the_name_at v.scripts key) (the_name-there v.scripts key t) in
+      subst (λ x. Among x (script_names v.heap)) f.3 (object-name v.heap v.scripts o.named f.0 f.1)
+
+  -- a weak map is one in the heaps
+  the_map-among : (key : ℕ) → kind_at v.scripts key ≡ Some Map →
+      (s : HeapScript) × Among s v.heap.scripts × (s.name ≡ the_name_at v.scripts key) × (s.kind ≡ Map)
+  the_map-among key is = go (object_at v.scripts key) refl is
+    where
+      go : (f : Option Object) → object_at v.scripts key ≡ f → option_map (λ (q : Object). q.kind) f ≡ Some Map →
+          (s : HeapScript) × Among s v.heap.scripts × (s.name ≡ the_name_at v.scripts key) × (s.kind ≡ Map)
+      go None e k = absurd (cc)
+      go (Some q) e k = (
+        named_object v.scripts q,
+        subst (Among (named_object v.scripts q)) (sym o.named) (Among-map (named_object v.scripts) q v.scripts (object_at-found v.scripts key q e).0),
+        rw (e, the_name_at) refl,
+        (cc),
+      )
+
+  pub entry-members : (m k x : ℕ) → kind_at v.scripts m ≡ Some Map → IsTrue (is_there v.scripts k) → IsTrue (is_there v.scripts x) →
+      HasMembers v.heap (model.entry (the_name_at v.scripts m) (the_name_at v.scripts k) (the_name_at v.scripts x))
+  entry-members m k x is s t = record { the_map = the_map-among m is; key = the_name-among k s; value = the_name-among x t }
+
+-- a weak map is there
+pub map-there : (objects : List Object) (key : ℕ) → kind_at objects key ≡ Some Map → IsTrue (is_there objects key)
+map-there objects key is = go (object_at objects key) is
+  where
+    go : (f : Option Object) → option_map (λ (q : Object). q.kind) f ≡ Some Map → is_some f ≡ true
+    go None e = absurd (cc)
+    go (Some q) e = refl
+
+-- The parts with other entries
+
+abbrev pub with_weak : Inside → List KeyedEntry → Inside
+with_weak p es = record p { weak = es }
+
+module _ (p : Inside) (l : IsLinked p) (o : IsInOrder [] (keyed_of p)) where
+  -- what is changed by keys is changed by names
+  becomes-entries : (es : List KeyedEntry) (named : List Entry) → named_entries p.scripts es ≡ named → IsSound [] (with_entries (heap_of p) named) → AreEntriesThere p.scripts es →
+      Becomes p (with_weak p es) (with_entries (heap_of p) named)
+  becomes-entries es named e s there = record {
+    heap = ap (with_entries (heap_of p)) e;
+    names = λ key x at. at;
+    keys = record { natives = λ key k at m. at; scripts = λ key x at m. at };
+    order = record {
+      sound = subst (λ n. IsSound [] (with_entries (heap_of p) n)) (sym e) s;
+      keyed = o.keyed;
+      named = refl;
+      one_key = o.one_key;
+      whole = o.whole;
+      reflecting = λ q m. Reflects-kept (keyed_of p) (keyed_of (with_weak p es)) q.name q.native (λ key k is at. at) (o.reflecting q m);
+      limits = o.limits;
+      entries = refl;
+      entries_there = there;
+    };
+    linked = record {
+      native_registers = l.native_registers;
+      script_registers = l.script_registers;
+      registers = l.registers;
+      held = l.held;
+      one_key = l.one_key;
+      one_name = l.one_name;
+      reflectors = l.reflectors;
+      script_names = l.script_names;
+    };
+  }
+
+  module _ (m k : ℕ) (is_map : kind_at p.scripts m ≡ Some Map) (k-there : IsTrue (is_there p.scripts k)) where
+    m-there : IsTrue (is_there p.scripts m)
+    m-there = map-there p.scripts m is_map
+
+    -- AN ENTRY IS SET,
+    pub becomes-set : (v : ℕ) → IsTrue (is_there p.scripts v) → (es : List KeyedEntry) → es ≡ with_entry p.weak m k v →
+        Becomes p (with_weak p es) (with_entries (heap_of p) (model.with_entry (heap_of p).entries (the_name_at p.scripts m) (the_name_at p.scripts k) (the_name_at p.scripts v)))
+    becomes-set v v-there es e = becomes-entries es (model.with_entry (heap_of p).entries (the_name_at p.scripts m) (the_name_at p.scripts k) (the_name_at p.scripts v))
+        (ap (named_entries p.scripts) e ∙ with_entry-named p.scripts l.one_name m k m-there k-there v p.weak o.entries_there)
+        (with_entry-sound [] (heap_of p) (the_name_at p.scripts m) (the_name_at p.scripts k) (the_name_at p.scripts v) (entry-members [] (keyed_of p) o m k v is_map k-there v-there) o.sound)
+        (subst (AreEntriesThere p.scripts) (sym e)
+        (entries_there-set p.scripts p.weak o.entries_there m k v (record { the_map = m-there; key = k-there; value = v-there })))
+
+    -- or memory was wanting, and then it is not; the parts stay in order
+    pub order-set : {E : Type 0} (v : ℕ) → IsTrue (is_there p.scripts v) → (es : List KeyedEntry) (result : Result (Unit {0}) E) →
+        OnOk result (es ≡ with_entry p.weak m k v) → OnErr result (es ≡ p.weak) → IsInOrder [] (keyed_of (with_weak p es))
+    order-set v v-there es (Ok x) set same = (becomes-set v v-there es set).order
+    order-set v v-there es (Err x) set same = subst (λ fs. IsInOrder [] (keyed_of (with_weak p fs))) (sym same) o
+
+    -- OR TAKEN OUT.
+    pub becomes-unset : (es : List KeyedEntry) → es ≡ without_entry p.weak m k → Becomes p (with_weak p es) (set_entry (heap_of p) (name_at p.scripts m) (name_at p.scripts k) None)
+    becomes-unset es e = subst (Becomes p (with_weak p es)) (λ i. set_entry (heap_of p) (sym (the_name-there p.scripts m m-there) i) (sym (the_name-there p.scripts k k-there) i) None)
+        (becomes-entries es (model.without_entry (heap_of p).entries (the_name_at p.scripts m) (the_name_at p.scripts k))
+        (ap (named_entries p.scripts) e ∙ without_entry-named p.scripts l.one_name m k m-there k-there p.weak o.entries_there)
+        (without_entry-sound [] (heap_of p) (the_name_at p.scripts m) (the_name_at p.scripts k) o.sound)
+        (subst (AreEntriesThere p.scripts) (sym e) (entries_there-without p.scripts p.weak o.entries_there m k)))
+
+-- Reflectors preserved
+
+module _ (owned : List ℕ) (v : Keyed) (o : IsInOrder owned v) (key : ℕ) (t : IsTrue (is_there v.scripts key)) where
+  -- a script object with a native is its reflector,
+  native-reflector : (r : NKey) → Some r.0 ≡ native_at v.scripts key → IsSome (number_at v r.0) × (name_at v.scripts key ≡ Some (reflector (the_number v r.0)))
+  native-reflector r e = go (object_at v.scripts key) refl e
+    where
+      named : (x : Name) (n : Option ℕ) → Reflects v x n → Some r.0 ≡ n → IsSome (number_at v r.0) × (Some x ≡ Some (reflector (the_number v r.0)))
+      named (name.Native k) n d f = absurd d
+      named (name.Script k) n d f = absurd (cc)
+      named (name.Reflector k) None d f = absurd d
+      named (name.Reflector k) (Some j) d f =
+          let same : r.0 ≡ j = cc in
+          let at : number_at v r.0 ≡ Some k.0 = ap (number_at v) same ∙ d in
+          rw at (refl, refl)
+
+      go : (f : Option Object) → object_at v.scripts key ≡ f → Some r.0 ≡ option_and_then (λ (q : Object). q.native) f →
+          IsSome (number_at v r.0) × (option_map (λ (q : Object). q.name) f ≡ Some (reflector (the_number v r.0)))
+      go None f e = absurd (cc)
+      go (Some q) f e = named q.name q.native (o.reflecting q (object_at-found v.scripts key q f).0) e
+
+  -- as it is read,
+  pub native-read : (p : Inside) → keyed_of p ≡ v → (found : Option NKey) (r : NKey) → found ≡ Some r → option_map (λ (n : NKey). n.0) found ≡ native_at p.scripts key →
+      IsSome (number_at v r.0) × (name_at v.scripts key ≡ Some (reflector (the_number v r.0)))
+  native-read p is found r e at =
+      native-reflector r (ap (option_map (λ (n : NKey). n.0)) (sym e) ∙ subst (λ (w : Keyed). option_map (λ (n : NKey). n.0) found ≡ native_at w.scripts key) is at)
+
+  -- which the heaps have,
+  pub reflector-there : (k : ℕ) → name_at v.scripts key ≡ Some (reflector k) → has_reflector v.heap k ≡ true
+  reflector-there k named = go (has_reflector v.heap k) refl
+    where
+      go : (b : Bool) → has_reflector v.heap k ≡ b → b ≡ true
+      go true e = refl
+      go false e = absurd (has_reflector-none v.heap k e (subst (λ x. Among x (script_names v.heap)) is (the_name-among owned v o key t)))
+        where
+          is : the_name_at v.scripts key ≡ reflector k
+          is = let both : Some (the_name_at v.scripts key) ≡ Some (reflector k) = sym (the_name-there v.scripts key t) ∙ named in cc
+
+  -- and one without is none
+  pub no_native-preserved : (p : Inside) → keyed_of p ≡ v → (found : Option NKey) → found ≡ None → option_map (λ (n : NKey). n.0) found ≡ native_at p.scripts key →
+      (h : Heap) → preserve h (name_at v.scripts key) ≡ h
+  no_native-preserved p is found none at h = go (object_at v.scripts key) refl
+      (sym (ap (option_map (λ (n : NKey). n.0)) (sym none) ∙ subst (λ (w : Keyed). option_map (λ (n : NKey). n.0) found ≡ native_at w.scripts key) is at))
+    where
+      named : (x : Name) (n : Option ℕ) → Reflects v x n → n ≡ None → preserve h (Some x) ≡ h
+      named (name.Native k) n d f = absurd d
+      named (name.Script k) n d f = refl
+      named (name.Reflector k) None d f = absurd d
+      named (name.Reflector k) (Some j) d f = absurd (cc)
+
+      go : (f : Option Object) → object_at v.scripts key ≡ f → option_and_then (λ (q : Object). q.native) f ≡ None → preserve h (option_map (λ (q : Object). q.name) f) ≡ h
+      go None f e = refl
+      go (Some q) f e = named q.name q.native (o.reflecting q (object_at-found v.scripts key q f).0) e

@@ -1,0 +1,222 @@
+-- ENTRIES OF WEAK MAPS BY KEYS ARE THOSE BY NAMES, where no two script objects have one name: an entry is set, taken out and
+-- looked for alike. A script object is a weak map where the definitions say that it has no slots.
+use Rattle.std.proofs.Common.{◌≡◌, ◌↔◌, ℕ, ◌==◌, Bool, true, false, not, ◌&&◌, List, [], ◌∷◌, map, Option, Some, None, option_map, refl, sym, ◌∙◌, ap, subst, inl, inr, ⊎_elim}
+use Rattle.std.specs.Prelude.{IsTrue}
+use Rattle.std.specs.Option.{is_none, is_some, option_and_then}
+use Rattle.std.specs.List.{filter, find}
+use Rattle.std.proofs.lemmas.Bool.{eqb-true, eq-eqb, false≢true}
+use Rattle.cc_lists.specs.Members.{Among}
+use Rattle.cc_lists.proofs.Filtering.{filter-agree}
+use Rattle.cc_lists.proofs.Members.{Among-filtered, Among-map}
+use Rattle.cc_lists.proofs.Searching.{filter-map, find-map, find-only}
+use Rattle.cc_names.specs.declared.name.Name.{Name}
+use Rattle.cc_names.specs.declared.name.Name.TheVariants as name
+use Rattle.cc_names.specs.declared.number.SKey.{SKey}
+use Rattle.cc_names.specs.declared.kind.Kind.{Kind}
+use Rattle.cc_names.specs.declared.kind.Kind.TheVariants.{Plain, Reflector, Map}
+use Rattle.cc_names.specs.Names.{object, same_name}
+use Rattle.cc_names.proofs.NameTests.{same_name-true, same_name-refl}
+use Rattle.cc_model.specs.Entries as model
+use Rattle.cc_model.specs.Entries.{Entry}
+use Rattle.cc_model.specs.Slots.{Slots}
+use Rattle.cc_model.specs.Checks.{is_map_in, value_at}
+use Rattle.cc_model.specs.Heap.{Heap, HeapScript, objects_of, script_at, slots_in, slots_of_kind, slots_of_script}
+use Rattle.cc_model.specs.WellFormed.{script_names}
+use Rattle.cc_laws_heap.proofs.ScriptsKept.{native-no_script}
+use Rattle.cc_script.specs.Objects.{Object, is_there, kind_at, name_at, object_at}
+use Rattle.cc_weakmaps.specs.Entries.{KeyedEntry, entry, has_value_in, is_entry_of, value_in, with_entry, without_entry}
+use Rattle.cc_marking.specs.Marking.{IsEntryThere, AreEntriesThere}
+use Rattle.cc_heaps.specs.Keyed.{Keyed, IsInOrder, the_name_at, named_entry, named_entries, named_object, named_objects}
+use Rattle.cc_heaps.specs.Changes.{IsScriptThere, script_name}
+use Rattle.cc_heaps.proofs.Keys.{object-name}
+use Rattle.cc_heaps.proofs.Reaching.{HasOneName, key-named, name_at-found, object_at-found, same-tests}
+use Rattle.cc_heaps.proofs.ScriptsChanged.{HasOneName-named, there-named}
+
+-- what is there has its name
+pub the_name-there : (objects : List Object) (key : ℕ) → IsTrue (is_there objects key) → name_at objects key ≡ Some (the_name_at objects key)
+the_name-there objects key t = go (name_at objects key) (there-named objects key t)
+  where
+    go : (o : Option Name) → (x : Name) × (o ≡ Some x) → o ≡ Some (elim o as (λ _. Name) [ None ↦ object 0 | Some x ↦ x ])
+    go None n = absurd (cc)
+    go (Some x) n = refl
+
+-- Entries changed and read
+
+module _ (objects : List Object) (one_name : HasOneName objects) where
+  -- two keys are one where their names are
+  same-key : (a b : ℕ) → IsTrue (is_there objects a) → IsTrue (is_there objects b) → same_name (the_name_at objects a) (the_name_at objects b) ≡ (a == b)
+  same-key a b s t = same-tests (same_name (the_name_at objects a) (the_name_at objects b)) (a == b)
+      (λ e.
+      let f = name_at-found objects a (the_name_at objects a) (the_name-there objects a s) in
+      let named : f.0.name ≡ the_name_at objects b = f.3 ∙ same_name-true (the_name_at objects a) (the_name_at objects b) e in
+      eq-eqb a b (sym f.2 ∙ key-named objects one_name b (the_name_at objects b) (the_name-there objects b t) f.0 f.1 named))
+      (λ e. subst (λ c. same_name (the_name_at objects a) (the_name_at objects c) ≡ true) (eqb-true a b e) (same_name-refl (the_name_at objects a)))
+
+  module _ (m k : ℕ) (m-there : IsTrue (is_there objects m)) (k-there : IsTrue (is_there objects k)) where
+    abbrev x : Name
+    x = the_name_at objects m
+
+    abbrev y : Name
+    y = the_name_at objects k
+
+    -- it is told of an entry alike whether it is that of a map and a key
+    is_entry_of-named : (e : KeyedEntry) → IsEntryThere objects e → model.is_entry_of x y (named_entry objects e) ≡ is_entry_of m k e
+    is_entry_of-named e t = λ i. same-key e.the_map m t.the_map m-there i && same-key e.key k t.key k-there i
+
+    -- AN ENTRY IS SET,
+    pub with_entry-named : (v : ℕ) (es : List KeyedEntry) → AreEntriesThere objects es →
+        named_entries objects (with_entry es m k v) ≡ model.with_entry (named_entries objects es) x y (the_name_at objects v)
+    with_entry-named v [] t = refl
+    with_entry-named v (e ∷ es) t = go (with_entry-named v es (λ f i. t f (inr i))) (is_entry_of m k e)
+        ∙ ap (λ b. elim b [ true ↦ new ∷ named_entries objects es | false ↦ named_entry objects e ∷ model.with_entry (named_entries objects es) x y (the_name_at objects v) ])
+        (sym (is_entry_of-named e (t e (inl refl))))
+      where
+        new : Entry
+        new = model.entry x y (the_name_at objects v)
+
+        go : named_entries objects (with_entry es m k v) ≡ model.with_entry (named_entries objects es) x y (the_name_at objects v) → (b : Bool) →
+            named_entries objects (elim b [ true ↦ entry m k v ∷ es | false ↦ e ∷ with_entry es m k v ]) ≡
+            elim b [ true ↦ new ∷ named_entries objects es | false ↦ named_entry objects e ∷ model.with_entry (named_entries objects es) x y (the_name_at objects v) ]
+        go ih true = refl
+        go ih false = ap (λ fs. named_entry objects e ∷ fs) ih
+
+    -- OR TAKEN OUT,
+    pub without_entry-named : (es : List KeyedEntry) → AreEntriesThere objects es →
+        named_entries objects (without_entry es m k) ≡ model.without_entry (named_entries objects es) x y
+    without_entry-named es t = ap (named_entries objects) (filter-agree (λ e. not (is_entry_of m k e)) (λ e. not (model.is_entry_of x y (named_entry objects e))) es
+        (λ e i. ap not (sym (is_entry_of-named e (t e i)))))
+        ∙ sym (filter-map (λ e. not (model.is_entry_of x y e)) (named_entry objects) es)
+
+    -- AND ITS VALUE IS FOUND alike.
+    pub value_in-named : (es : List KeyedEntry) → AreEntriesThere objects es → model.value_in (named_entries objects es) x y ≡ option_map (the_name_at objects) (value_in es m k)
+    value_in-named [] t = refl
+    value_in-named (e ∷ es) t =
+        ap (λ b. elim b [ true ↦ Some (the_name_at objects e.value) | false ↦ model.value_in (named_entries objects es) x y ]) (is_entry_of-named e (t e (inl refl)))
+        ∙ go (value_in-named es (λ f i. t f (inr i))) (is_entry_of m k e)
+      where
+        go : model.value_in (named_entries objects es) x y ≡ option_map (the_name_at objects) (value_in es m k) → (b : Bool) →
+            elim b [ true ↦ Some (the_name_at objects e.value) | false ↦ model.value_in (named_entries objects es) x y ] ≡
+            option_map (the_name_at objects) (elim b [ true ↦ Some e.value | false ↦ value_in es m k ])
+        go ih true = refl
+        go ih false = ih
+
+-- What entries name
+
+module _ (objects : List Object) (es : List KeyedEntry) (there : AreEntriesThere objects es) (m k : ℕ) where
+  -- what entries name is there after one of what is there was set,
+  pub entries_there-set : (v : ℕ) → IsEntryThere objects (entry m k v) → AreEntriesThere objects (with_entry es m k v)
+  entries_there-set v new = each es there
+    where
+      each : (fs : List KeyedEntry) → AreEntriesThere objects fs → AreEntriesThere objects (with_entry fs m k v)
+      each [] old e i = ⊎_elim (λ s. subst (IsEntryThere objects) s new) (λ n. absurd n) i
+      each (f ∷ fs) old e i = go (each fs (λ d j. old d (inr j)) e) (is_entry_of m k f) i
+        where
+          go : (Among e (with_entry fs m k v) → IsEntryThere objects e) → (b : Bool) →
+              Among e (elim b [ true ↦ entry m k v ∷ fs | false ↦ f ∷ with_entry fs m k v ]) → IsEntryThere objects e
+          go ih true j = ⊎_elim (λ s. subst (IsEntryThere objects) s new) (λ r. old e (inr r)) j
+          go ih false j = ⊎_elim (λ s. old e (inl s)) ih j
+
+  -- and after one was taken out,
+  pub entries_there-without : AreEntriesThere objects (without_entry es m k)
+  entries_there-without e i = there e (Among-filtered (λ f. not (is_entry_of m k f)) e es i)
+
+  -- and so is the value of a map and a key
+  pub value_in-there : (v : ℕ) → value_in es m k ≡ Some v → IsTrue (is_there objects v)
+  value_in-there v = each es there
+    where
+      each : (fs : List KeyedEntry) → AreEntriesThere objects fs → value_in fs m k ≡ Some v → IsTrue (is_there objects v)
+      each [] old e = absurd (cc)
+      each (f ∷ fs) old e = go (each fs (λ d j. old d (inr j))) (is_entry_of m k f) e
+        where
+          go : (value_in fs m k ≡ Some v → IsTrue (is_there objects v)) → (b : Bool) →
+              elim b [ true ↦ Some f.value | false ↦ value_in fs m k ] ≡ Some v → IsTrue (is_there objects v)
+          go ih true d = let same : f.value ≡ v = cc in subst (λ j. IsTrue (is_there objects j)) same (old f (inl refl)).value
+          go ih false d = ih d
+
+-- The heaps with their keys
+
+module _ (owned : List ℕ) (v : Keyed) (o : IsInOrder owned v) where
+  -- no two script objects have one name
+  pub one_name-order : HasOneName v.scripts
+  one_name-order = HasOneName-named v.heap v.scripts o.named o.sound.well_formed
+
+  -- THE VALUE OF A MAP AND A KEY has the name that the definitions give,
+  pub value_at-named : (m k : ℕ) → IsTrue (is_there v.scripts m) → IsTrue (is_there v.scripts k) →
+      value_at (objects_of v.heap) (name_at v.scripts m) (name_at v.scripts k) ≡ option_and_then (name_at v.scripts) (value_in v.entries m k)
+  value_at-named m k s t =
+      (λ i. value_at (objects_of v.heap) (the_name-there v.scripts m s i) (the_name-there v.scripts k t i))
+      ∙ (ap (λ es. model.value_in es (the_name_at v.scripts m) (the_name_at v.scripts k)) o.entries
+      ∙ (value_in-named v.scripts one_name-order m k s t v.entries o.entries_there
+      ∙ go (value_in v.entries m k) refl))
+    where
+      go : (f : Option ℕ) → value_in v.entries m k ≡ f → option_map (the_name_at v.scripts) f ≡ option_and_then (name_at v.scripts) f
+      go None e = refl
+      go (Some j) e = sym (the_name-there v.scripts j (value_in-there v.scripts v.entries o.entries_there m k j e))
+
+  -- there is one alike,
+  pub has_value-named : (m k : ℕ) → IsTrue (is_there v.scripts m) → IsTrue (is_there v.scripts k) →
+      is_some (value_at (objects_of v.heap) (name_at v.scripts m) (name_at v.scripts k)) ≡ has_value_in v.entries m k
+  has_value-named m k s t = ap is_some (value_at-named m k s t) ∙ go (value_in v.entries m k) refl
+    where
+      go : (f : Option ℕ) → value_in v.entries m k ≡ f → is_some (option_and_then (name_at v.scripts) f) ≡ is_some f
+      go None e = refl
+      go (Some j) e = ap is_some (the_name-there v.scripts j (value_in-there v.scripts v.entries o.entries_there m k j e))
+
+  -- and it is there, as it is read of the entries.
+  pub value-read : (m k : ℕ) → IsTrue (is_there v.scripts m) → IsTrue (is_there v.scripts k) → (found : Option SKey) → option_map (λ (j : SKey). j.0) found ≡ value_in v.entries m k →
+      (script_name v found ≡ value_at (objects_of v.heap) (name_at v.scripts m) (name_at v.scripts k)) × IsScriptThere v found
+  value-read m k s t found e = (name found ∙ (ap (option_and_then (name_at v.scripts)) e ∙ sym (value_at-named m k s t)), there found e)
+    where
+      name : (f : Option SKey) → script_name v f ≡ option_and_then (name_at v.scripts) (option_map (λ (j : SKey). j.0) f)
+      name None = refl
+      name (Some j) = refl
+
+      there : (f : Option SKey) → option_map (λ (j : SKey). j.0) f ≡ value_in v.entries m k → IsScriptThere v f
+      there None d = tt
+      there (Some j) d = value_in-there v.scripts v.entries o.entries_there m k j.0 (sym d)
+
+  -- The kind of what is there
+
+  -- a script object is found by its name
+  script_at-named : (q : Object) → Among q v.scripts → script_at v.heap q.name ≡ Some (named_object v.scripts q)
+  script_at-named q m = ap (find (λ (s : HeapScript). same_name s.name q.name)) o.named
+      ∙ (find-map (λ (s : HeapScript). same_name s.name q.name) (named_object v.scripts) v.scripts
+      ∙ ap (option_map (named_object v.scripts)) (find-only (λ (s : Object). same_name s.name q.name) v.scripts q (one_name-order q.name) m (same_name-refl q.name)))
+
+  -- and its slots
+  slots_in-named : (q : Object) → Among q v.scripts → slots_in v.heap q.name ≡ slots_of_script (named_object v.scripts q)
+  slots_in-named q m = go q.name (object-name v.heap v.scripts o.named q m) (script_at-named q m)
+    where
+      go : (x : Name) → Among x (script_names v.heap) → script_at v.heap x ≡ Some (named_object v.scripts q) → slots_in v.heap x ≡ slots_of_script (named_object v.scripts q)
+      go (name.Native k) i e = absurd (native-no_script v.heap k.0 o.sound.well_formed i)
+      go (name.Script k) i e = ap (option_and_then slots_of_script) e
+      go (name.Reflector k) i e = ap (option_and_then slots_of_script) e
+
+  -- A WEAK MAP IS WHAT IS THERE AND HAS NO SLOTS.
+  pub map-named : (key : ℕ) (x : Name) → name_at v.scripts key ≡ Some x → (slots_in v.heap x ≡ None) ↔ (kind_at v.scripts key ≡ Some Map)
+  map-named key x = go (object_at v.scripts key) refl
+    where
+      kind : (q : Kind) (slots : Slots) → (slots_of_kind q slots ≡ None) ↔ (Some q ≡ Some Map)
+      kind Plain slots = (λ e. absurd (cc), λ e. absurd (cc))
+      kind Reflector slots = (λ e. absurd (cc), λ e. absurd (cc))
+      kind Map slots = (λ e. refl, λ e. refl)
+
+      go : (f : Option Object) → object_at v.scripts key ≡ f → option_map (λ q. q.name) f ≡ Some x → (slots_in v.heap x ≡ None) ↔ (option_map (λ (q : Object). q.kind) f ≡ Some Map)
+      go None f e = absurd (cc)
+      go (Some q) f e =
+          let named : q.name ≡ x = cc in
+          let slots = slots_in-named q (object_at-found v.scripts key q f).0 in
+          let both = kind q.kind (named_object v.scripts q).slots in
+          subst (λ z. (slots_in v.heap z ≡ None) ↔ (Some q.kind ≡ Some Map)) named ((λ n. both.0 (sym slots ∙ n)), (λ n. slots ∙ both.1 n))
+
+  -- which the check of a command asks
+  pub is_map-named : (key : ℕ) → IsTrue (is_there v.scripts key) → IsTrue (is_map_in (objects_of v.heap) (name_at v.scripts key)) ↔ (kind_at v.scripts key ≡ Some Map)
+  is_map-named key t =
+      let n = the_name-there v.scripts key t in
+      let both = map-named key (the_name_at v.scripts key) n in
+      subst (λ y. IsTrue (is_map_in (objects_of v.heap) y) ↔ (kind_at v.scripts key ≡ Some Map)) (sym n)
+      ((λ e. both.0 (none (slots_in v.heap (the_name_at v.scripts key)) e)), (λ e. ap is_none (both.1 e)))
+    where
+      none : (s : Option Slots) → is_none s ≡ true → s ≡ None
+      none None e = refl
+      none (Some s) e = absurd (false≢true e)
