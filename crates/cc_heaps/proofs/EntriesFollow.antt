@@ -44,7 +44,7 @@ use Rattle.cc_script.specs.Objects.{is_there, kind_at, name_at}
 use Rattle.cc_heaps.specs.Keyed.{Keyed, IsInOrder, changed_to, the_name_at}
 use Rattle.cc_heaps.specs.Standing.{IsReached, StandsAfter, KeepsColours, KeepsFresh, KeepsSuspected}
 use Rattle.cc_heaps.proofs.EntriesSet.{entry-members, map-there, the_name-among}
-use Rattle.cc_heaps.proofs.EntryNames.{the_name-there}
+use Rattle.cc_heaps.proofs.Reaching.{the_name-there}
 use Rattle.cc_heaps.proofs.Reflecting.{there-made}
 
 -- The graph

@@ -25,9 +25,9 @@ use Rattle.cc_marking.specs.Marking.{AreEntriesThere}
 use Rattle.cc_heaps.specs.declared.heaps.Heaps.TheInside.{Inside}
 use Rattle.cc_heaps.specs.Keyed.{Keyed, IsInOrder, Reflects, named_entries, named_object, named_objects, number_at, the_name_at, the_number}
 use Rattle.cc_heaps.specs.Fields.{heap_of, keyed_of, IsLinked}
-use Rattle.cc_heaps.proofs.EntryNames.{the_name-there, with_entry-named, without_entry-named, entries_there-set, entries_there-without}
+use Rattle.cc_heaps.proofs.EntryNames.{with_entry-named, without_entry-named, entries_there-set, entries_there-without}
 use Rattle.cc_heaps.proofs.Keys.{Reflects-kept, object-name}
-use Rattle.cc_heaps.proofs.Reaching.{name_at-found, object_at-found}
+use Rattle.cc_heaps.proofs.Reaching.{name_at-found, object_at-found, the_name-there}
 use Rattle.cc_heaps.proofs.ScriptCalls.{Becomes, name-among}
 
 -- What an entry names by names

@@ -29,16 +29,8 @@ use Rattle.cc_marking.specs.Marking.{IsEntryThere, AreEntriesThere}
 use Rattle.cc_heaps.specs.Keyed.{Keyed, IsInOrder, the_name_at, named_entry, named_entries, named_object, named_objects}
 use Rattle.cc_heaps.specs.Changes.{IsScriptThere, script_name}
 use Rattle.cc_heaps.proofs.Keys.{object-name}
-use Rattle.cc_heaps.proofs.Reaching.{HasOneName, key-named, name_at-found, object_at-found, same-tests}
-use Rattle.cc_heaps.proofs.ScriptsChanged.{HasOneName-named, there-named}
-
--- what is there has its name
-pub the_name-there : (objects : List Object) (key : ℕ) → IsTrue (is_there objects key) → name_at objects key ≡ Some (the_name_at objects key)
-the_name-there objects key t = go (name_at objects key) (there-named objects key t)
-  where
-    go : (o : Option Name) → (x : Name) × (o ≡ Some x) → o ≡ Some (elim o as (λ _. Name) [ None ↦ object 0 | Some x ↦ x ])
-    go None n = absurd (cc)
-    go (Some x) n = refl
+use Rattle.cc_heaps.proofs.Reaching.{HasOneName, key-named, name_at-found, object_at-found, same-tests, the_name-there}
+use Rattle.cc_heaps.proofs.ScriptsChanged.{HasOneName-named}
 
 -- Entries changed and read
 
