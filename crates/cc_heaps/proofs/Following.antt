@@ -64,7 +64,7 @@ use Rattle.cc_counted.specs.declared.held.Held.{Held}
 use Rattle.cc_counted.specs.declared.held.Held.TheVariants as held
 use Rattle.cc_script.specs.Objects.{Object, colour_at, is_there, name_at, object_at}
 use Rattle.cc_heaps.specs.Keyed.{Keyed, keyed_name, keyed_native, IsInOrder, counts_of, left_with, named_object, the_number}
-use Rattle.cc_heaps.specs.Making.{kind_made, made_by, slots_made}
+use Rattle.cc_heaps.specs.Making.{kind_to_make, command_to_make, slots_to_make}
 use Rattle.cc_heaps.specs.Changes.{IsBlackHeld, held_name, script_name, stored_in}
 use Rattle.cc_heaps.proofs.Content.{held-in, native-in}
 use Rattle.cc_heaps.proofs.Reaching.{name_at-found, object_at-found}
@@ -140,36 +140,36 @@ script_slot-keeps h (name.Reflector k) i y at there black s = script_slot h (ref
     (script_slot-sound [] h (Some (reflector k.0)) i y (λ z m. ⊎_elim (λ e. subst (λ w. Among w (script_names h)) e at) (λ t. absurd t) m) there s).well_formed there black s
 
 -- the command that makes a script object is in its ranges, and is taken
-pub made-ranges : (d : ℕ) (slots : Option ℕ) → d < 256 → IfSome slots (λ n. n ≤ 64) → IsTrue (in_range (made_by d slots))
+pub made-ranges : (d : ℕ) (slots : Option ℕ) → d < 256 → IfSome slots (λ n. n ≤ 64) → IsTrue (in_range (command_to_make d slots))
 made-ranges d None room few = lt-ltb d 256 room
 made-ranges d (Some n) room few = rw (lt-ltb d 256 room, le-leb n 64 few) refl
 
-made-taken : (h : Heap) (d : ℕ) (slots : Option ℕ) → h.scripts_made < h.limits.scripts → IsTaken (objects_of h) (made_by d slots)
+made-taken : (h : Heap) (d : ℕ) (slots : Option ℕ) → h.scripts_made < h.limits.scripts → IsTaken (objects_of h) (command_to_make d slots)
 made-taken h d None allowed = record { objects = refl; kinds = refl; slot = refl; content = refl; room = lt-leb h.limits.scripts h.scripts_made allowed }
 made-taken h d (Some n) allowed = record { objects = refl; kinds = refl; slot = refl; content = refl; room = lt-leb h.limits.scripts h.scripts_made allowed }
 
 -- it makes it
-pub made-effects : (h : Heap) (d : ℕ) (slots : Option ℕ) → (effects h (made_by d slots)).heap ≡ make_object h d (kind_made slots) (slots_made slots)
+pub made-effects : (h : Heap) (d : ℕ) (slots : Option ℕ) → (effects h (command_to_make d slots)).heap ≡ make_object h d (kind_to_make slots) (slots_to_make slots)
 unfolding effects
 made-effects h d None = refl
 made-effects h d (Some n) = refl
 
 -- A script object is made.
 pub make_object-keeps : (h : Heap) (d : ℕ) (slots : Option ℕ) → d < 256 → IfSome slots (λ n. n ≤ 64) → h.scripts_made < h.limits.scripts → IsSound [] h →
-    Keeps h (make_object h d (kind_made slots) (slots_made slots))
+    Keeps h (make_object h d (kind_to_make slots) (slots_to_make slots))
 make_object-keeps h d slots room few allowed s = record {
   follows = subst (Follows h) (made-effects h d slots) (record {
-    colours = λ c. HasColourInvariant-from (effects h (made_by d slots)).heap (effects-sound h (made_by d slots) s ranges taken).well_formed
-        (effects-coloured h (made_by d slots) s (AreColoured-from_view h s.well_formed c) ranges taken);
-    fresh = λ t f. effects-fresh h t (made_by d slots) s f ranges taken;
+    colours = λ c. HasColourInvariant-from (effects h (command_to_make d slots)).heap (effects-sound h (command_to_make d slots) s ranges taken).well_formed
+        (effects-coloured h (command_to_make d slots) s (AreColoured-from_view h s.well_formed c) ranges taken);
+    fresh = λ t f. effects-fresh h t (command_to_make d slots) s f ranges taken;
   });
-  suspected = λ candidates. object_made-suspected h candidates d (kind_made slots) (slots_made slots) s.well_formed;
+  suspected = λ candidates. object_made-suspected h candidates d (kind_to_make slots) (slots_to_make slots) s.well_formed;
 }
   where
-    ranges : IsTrue (in_range (made_by d slots))
+    ranges : IsTrue (in_range (command_to_make d slots))
     ranges = made-ranges d slots room few
 
-    taken : IsTaken (objects_of h) (made_by d slots)
+    taken : IsTaken (objects_of h) (command_to_make d slots)
     taken = made-taken h d slots allowed
 
 -- Natives

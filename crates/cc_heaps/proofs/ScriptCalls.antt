@@ -33,7 +33,7 @@ use Rattle.cc_laws_heap.proofs.ScriptCommands.{blank, IsNewScript-object}
 use Rattle.cc_script.specs.Objects.{Object, AreWhole, change_object, is_there, name_at, object_at, raised_among, with_slot}
 use Rattle.cc_script.specs.Walking.{keys_reached}
 use Rattle.cc_heaps.specs.Keyed.{Keyed, IsInOrder, Reflects, key_of, name_held, named_object, named_objects, reflectors_by}
-use Rattle.cc_heaps.specs.Making.{kind_made, object_made, slots_made}
+use Rattle.cc_heaps.specs.Making.{kind_to_make, object_to_make, slots_to_make}
 use Rattle.cc_heaps.specs.Changes.{IsScriptThere, KeepsKeys, script_name}
 use Rattle.cc_heaps.specs.Named.{script_named, IsScriptLive}
 use Rattle.cc_heaps.specs.Fields.{heap_of, keyed_of, IsLinked}
@@ -285,20 +285,20 @@ module _ (objects : List Object) (one : HasOneKey objects) (whole : AreWhole obj
       go (Some o) = refl
 
 -- what is made fits its name, where it has at most 64 slots
-made-fits : (number : ℕ) (slots : Option ℕ) → IfSome slots (λ n. n ≤ 64) → FitsName (object number) (kind_made slots) (empty_slots (slots_made slots))
+made-fits : (number : ℕ) (slots : Option ℕ) → IfSome slots (λ n. n ≤ 64) → FitsName (object number) (kind_to_make slots) (empty_slots (slots_to_make slots))
 made-fits number None few = refl
 made-fits number (Some n) few = subst (λ i. i ≤ 64) (sym (length-replicate n None)) few
 
 -- AN OBJECT MADE: a plain one or a weak map
 module _ (p : Inside) (l : IsLinked p) (o : IsInOrder [] (keyed_of p)) (key : ℕ) (slots : Option ℕ) (vacant : is_there p.scripts key ≡ false) where
   abbrev new : Object
-  new = object_made key (p.scripts_made + 1) slots
+  new = object_to_make key (p.scripts_made + 1) slots
 
   abbrev n : ℕ
-  n = slots_made slots
+  n = slots_to_make slots
 
   abbrev kind : Kind
-  kind = kind_made slots
+  kind = kind_to_make slots
 
   abbrev objects : List Object
   objects = p.scripts ++ new ∷ []

@@ -43,7 +43,7 @@ use Rattle.cc_laws_snapshot.proofs.SoundView.{native-name_of}
 use Rattle.cc_counted.specs.declared.held.Held.{Held}
 use Rattle.cc_script.specs.Objects.{is_there, name_at}
 use Rattle.cc_heaps.specs.Keyed.{Keyed, IsInOrder, left_with}
-use Rattle.cc_heaps.specs.Making.{kind_made, made_by, slots_made}
+use Rattle.cc_heaps.specs.Making.{kind_to_make, command_to_make, slots_to_make}
 use Rattle.cc_heaps.specs.Changes.{native_name, script_name, held_name, stored_in}
 use Rattle.cc_heaps.specs.Standing.{IsReached, IsReachedOrReflects, MayHold, StandsAfter}
 use Rattle.cc_heaps.proofs.Content.{native-in}
@@ -135,16 +135,16 @@ make_native-stands h d n s room few allowed = command-stands_after h (Native d n
     (rw (lt-leb h.limits.natives h.natives_made allowed) refl)
 
 -- the command that makes a script object is not refused
-made-not_refused : (h : Heap) (d : ℕ) (slots : Option ℕ) → h.scripts_made < h.limits.scripts → refusal_of (objects_of h) (made_by d slots) ≡ None
+made-not_refused : (h : Heap) (d : ℕ) (slots : Option ℕ) → h.scripts_made < h.limits.scripts → refusal_of (objects_of h) (command_to_make d slots) ≡ None
 unfolding refusal_of
 made-not_refused h d None allowed = rw (lt-leb h.limits.scripts h.scripts_made allowed) refl
 made-not_refused h d (Some n) allowed = rw (lt-leb h.limits.scripts h.scripts_made allowed) refl
 
 -- A script object is made.
 pub make_object-stands : (h : Heap) (d : ℕ) (slots : Option ℕ) → IsSound [] h → d < 256 → IfSome slots (λ n. n ≤ 64) → h.scripts_made < h.limits.scripts →
-    StandsAfter h (make_object h d (kind_made slots) (slots_made slots)) (λ g. step g (made_by d slots))
-make_object-stands h d slots s room few allowed = subst (λ k. StandsAfter h k (λ g. step g (made_by d slots))) (made-effects h d slots)
-    (command-stands_after h (made_by d slots) s (made-ranges d slots room few) (made-not_refused h d slots allowed))
+    StandsAfter h (make_object h d (kind_to_make slots) (slots_to_make slots)) (λ g. step g (command_to_make d slots))
+make_object-stands h d slots s room few allowed = subst (λ k. StandsAfter h k (λ g. step g (command_to_make d slots))) (made-effects h d slots)
+    (command-stands_after h (command_to_make d slots) s (made-ranges d slots room few) (made-not_refused h d slots allowed))
 
 -- The heaps with their keys
 

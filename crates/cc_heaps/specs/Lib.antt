@@ -1,5 +1,6 @@
 pub mod Keyed
 pub mod Changes
+pub mod Making
 pub mod Places
 pub mod HasKey
 pub mod Holders
@@ -8,6 +9,5 @@ pub mod Named
 pub mod Fields
 pub mod GrayHeld
 pub mod Roots
-pub mod Making
 pub mod Sweeping
 pub mod Standing

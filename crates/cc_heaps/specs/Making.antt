@@ -7,20 +7,20 @@ use Rattle.cc_model.specs.declared.command.Command.{Command}
 use Rattle.cc_model.specs.declared.command.Command.TheVariants.{Script, WeakMap}
 use Rattle.cc_script.specs.Objects.{Object, new_object}
 
-abbrev pub kind_made : Option ℕ → Kind
-kind_made None = Map
-kind_made (Some n) = Plain
+abbrev pub kind_to_make : Option ℕ → Kind
+kind_to_make None = Map
+kind_to_make (Some n) = Plain
 
 -- how many slots it has
-abbrev pub slots_made : Option ℕ → ℕ
-slots_made None = 0
-slots_made (Some n) = n
+abbrev pub slots_to_make : Option ℕ → ℕ
+slots_to_make None = 0
+slots_to_make (Some n) = n
 
 -- the object at its key, with its number
-abbrev pub object_made : ℕ → ℕ → Option ℕ → Object
-object_made key number slots = new_object key (object number) (kind_made slots) None (slots_made slots)
+abbrev pub object_to_make : ℕ → ℕ → Option ℕ → Object
+object_to_make key number slots = new_object key (object number) (kind_to_make slots) None (slots_to_make slots)
 
 -- the command that makes it
-abbrev pub made_by : ℕ → Option ℕ → Command
-made_by r None = WeakMap r
-made_by r (Some n) = Script r n
+abbrev pub command_to_make : ℕ → Option ℕ → Command
+command_to_make r None = WeakMap r
+command_to_make r (Some n) = Script r n

@@ -3,11 +3,13 @@
 //! `Heaps` has the registers, the counted heap, the script heap and the entries of weak maps as its fields. They fit
 //! together at each step: what registers and slots of natives hold is there, and each native has the key of its reflector.
 //! They stand for lists by names, which are those of the definitions (`Keyed`), and each call that changes them is one
-//! equation with a function of the definitions. Natives hold natives by counted references, and script objects, which are
-//! not counted; script objects hold script objects. A native has at most one reflector, a script object that stands for it and owns one counted
-//! reference to it; the native refers to its reflector once that is preserved (`places` and `place` list what an object
-//! refers to). What comes into a script register is exposed. A weak map holds nothing by itself: an entry keeps its value
-//! while its map and its key live, and never its own key.
+//! equation with a function of the definitions.
+//!
+//! Natives hold natives by counted references, and script objects, which are not counted; script objects hold script
+//! objects. A native has at most one reflector, a script object that stands for it and owns one counted reference to it;
+//! the native refers to its reflector once that is preserved (`places` and `place` list what an object refers to). What
+//! comes into a script register is exposed. A weak map holds nothing by itself: an entry keeps its value while its map and
+//! its key live, and never its own key.
 //!
 //! What the laws make of these equations is said beside them, for callers who know no law: for which graph the heaps
 //! stand afterwards (`stands`), that objects keep their keys, that no count is greater than all references there can

@@ -11,7 +11,7 @@ ghost use Rattle.cc_model.specs.declared.command.Command.TheVariants as command;
 ghost use Rattle.cc_model.specs.Graph as graph;
 ghost use Rattle.cc_script.specs.Objects.{colour_at, is_there, name_at, slots_at};
 ghost use Rattle.cc_heaps.specs.Keyed.{IsInOrder};
-ghost use Rattle.cc_heaps.specs.Making.{kind_made, made_by, object_made, slots_made};
+ghost use Rattle.cc_heaps.specs.Making.{kind_to_make, command_to_make, object_to_make, slots_to_make};
 ghost use Rattle.cc_heaps.specs.Changes.{IsScriptThere, KeepsKeys, script_name};
 ghost use Rattle.cc_heaps.specs.Standing.{IsReached, IsReachedOrReflects, MayHold, StandsAfter, StillStands, KeepsFresh, KeepsSuspected, KeepsColours};
 ghost use Rattle.cc_heaps.specs.Few.{AreFew};
@@ -24,7 +24,7 @@ use cc_script::Scripts;
 // Makes a plain object with so many empty slots, or, where no number is given, a weak map; its key.
 fn create(scripts: &mut Scripts, number: ScriptNo, slots: Option<u8>) -> Result<SKey, NoMemory>
     requires { IfSome slots (λ n. n ≤ 64) }
-    ensures made { IfOk result (λ key. scripts.new ≡ scripts.old ++ object_made key.0 number.0 slots ∷ []) }
+    ensures made { IfOk result (λ key. scripts.new ≡ scripts.old ++ object_to_make key.0 number.0 slots ∷ []) }
     ensures vacant { IfOk result (λ key. is_there scripts.old key.0 ≡ false) }
     ensures err { OnErr result (scripts.new ≡ scripts.old) }
 {
@@ -69,7 +69,7 @@ impl Heaps {
         requires slots { IfSome slots (λ n. n ≤ 64) }
         requires room { self.old.heap.scripts_made < self.old.heap.limits.scripts }
         ensures made { OnOk result (self.new.heap.scripts_made ≡ self.old.heap.scripts_made + 1) }
-        ensures heap { OnOk result (self.new.heap ≡ with_object self.old.heap (kind_made slots) (slots_made slots)) }
+        ensures heap { OnOk result (self.new.heap ≡ with_object self.old.heap (kind_to_make slots) (slots_to_make slots)) }
         ensures name { IfOk result (λ key. name_at self.new.scripts key.0 ≡ Some (object (self.old.heap.scripts_made + 1))) }
         ensures natives { self.new.keys ≡ self.old.keys }
         ensures keys { KeepsKeys self.old self.new }
@@ -89,13 +89,13 @@ impl Heaps {
         ensures full { result ≡ Err MakeStop.Full → self.old.heap.limits.scripts ≤ self.old.heap.scripts_made }
         ensures full_always { self.old.heap.limits.scripts ≤ self.old.heap.scripts_made → result ≡ Err MakeStop.Full }
         ensures name { IfOk result (λ x. x ≡ object (self.old.heap.scripts_made + 1)) }
-        ensures heap { OnOk result (self.new.heap ≡ make_object self.old.heap r (kind_made slots) (slots_made slots)) }
+        ensures heap { OnOk result (self.new.heap ≡ make_object self.old.heap r (kind_to_make slots) (slots_to_make slots)) }
         ensures natives { self.new.keys ≡ self.old.keys }
         ensures keys { KeepsKeys self.old self.new }
         ensures same { OnErr result (self.new ≡ self.old) }
         ensures order { IsInOrder [] self.new }
         ensures counts { AreFew self.new.heap }
-        ensures stands { OnOk result (StandsAfter self.old.heap self.new.heap (λ g. graph.step g (made_by r slots))) }
+        ensures stands { OnOk result (StandsAfter self.old.heap self.new.heap (λ g. graph.step g (command_to_make r slots))) }
         ensures colours { KeepsColours self.old.heap self.new.heap }
         ensures fresh { KeepsFresh self.old.heap self.new.heap }
         ensures suspected { KeepsSuspected self.old.heap self.new.heap }

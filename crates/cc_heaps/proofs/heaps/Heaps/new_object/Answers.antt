@@ -1,6 +1,6 @@
 use Rattle.std.proofs.Common.{◌<◌, sym, subst, arith}
 use Rattle.cc_model.specs.Graph.{step}
-use Rattle.cc_heaps.specs.Making.{made_by}
+use Rattle.cc_heaps.specs.Making.{command_to_make}
 use Rattle.cc_heaps.specs.Keyed.{Keyed}
 use Rattle.cc_heaps.specs.Few.{AreFew}
 use Rattle.cc_heaps.specs.Standing.{KeepsColours, KeepsFresh, KeepsSuspected, StandsAfter}
@@ -40,7 +40,7 @@ pub returns-in-Ok-clause-stands : goal.returns-in-Ok-clause-stands
 returns-in-Ok-clause-stands c =
     let v = c.args.self.now in
     let allowed : v.heap.scripts_made < v.heap.limits.scripts = rw (← c.self.view_is) (omega (arith, c.if-self-scripts.false, c.scripts.ensures.same)) in
-    subst (λ h. StandsAfter v.heap h (λ e. step e (made_by c.args.r c.args.slots))) (sym (returns-in-Ok-clause-heap c))
+    subst (λ h. StandsAfter v.heap h (λ e. step e (command_to_make c.args.r c.args.slots))) (sym (returns-in-Ok-clause-heap c))
     (make_object-stands v.heap c.args.r c.args.slots c.requires.order.sound c.ranges.r.fits c.requires.slots allowed)
 
 pub returns-in-Err-clause-counts : goal.returns-in-Err-clause-counts
