@@ -1,22 +1,23 @@
 -- COMMANDS ANSWERED: they are refused, or lack memory, or are carried out by what they do.
 use Rattle.std.proofs.Common.{◌≡◌, ◌≢◌, ℕ, ◌+◌, ◌<◌, ◌≤◌, Bool, true, false, [], length, nat_le, Option, Some, None, option_map, refl, sym, ◌∙◌, ap, subst}
-use Rattle.std.proofs.lemmas.Bool.{leb-true, leb-false, le-leb, lt-leb}
+use Rattle.std.specs.Option.{is_none}
+use Rattle.std.proofs.lemmas.Bool.{leb-true, leb-false, le-leb, lt-leb, not-false, or_parts}
 use Rattle.cc_names.specs.declared.name.Name.{Name}
-use Rattle.cc_names.specs.declared.kind.Kind.TheVariants.{Plain}
+use Rattle.cc_names.specs.declared.kind.Kind.TheVariants.{Plain, Map}
 use Rattle.cc_names.specs.declared.register.Reg.{Reg}
 use Rattle.cc_names.specs.declared.register.Reg.TheVariants.{N, S}
 use Rattle.cc_names.specs.Names.{native, object, reflector}
 use Rattle.cc_model.specs.declared.command.Command.{Command}
 use Rattle.cc_model.specs.declared.command.Command.TheVariants as command
-use Rattle.cc_model.specs.declared.command.Command.TheVariants.{Native, Script, CopyNative, CopyScript, Drop, Set, Get, Put, Take, Wrap, Unwrap, Preserve, Expose}
+use Rattle.cc_model.specs.declared.command.Command.TheVariants.{Native, Script, WeakMap, CopyNative, CopyScript, Drop, Set, Get, Put, Take, Wrap, Unwrap, Preserve, SetEntry, GetEntry, Expose}
 use Rattle.cc_model.specs.declared.item.Refusal.{Refusal}
 use Rattle.cc_model.specs.declared.item.Refusal.TheVariants.{Full, NoMemory}
 use Rattle.cc_model.specs.declared.item.Reply.{Reply}
 use Rattle.cc_model.specs.declared.item.Reply.TheVariants.{Named, Done, Refused}
 use Rattle.cc_model.specs.Telling.{Telling, TellsEvents}
-use Rattle.cc_model.specs.Checks.{Objects, lacks_object, has_wrong_object, has_no_slot, has_wrong_content, is_full, slots_at, slot_at, native_of, reflector_of, named_or_nothing, refusal_of, reply_if_taken}
+use Rattle.cc_model.specs.Checks.{Objects, lacks_object, has_wrong_object, has_no_slot, has_wrong_content, is_full, is_map_in, slots_at, slot_at, value_at, native_of, reflector_of, named_or_nothing, refusal_of, reply_if_taken}
 use Rattle.cc_model.specs.Heap.{Heap, Outcome, register, source, objects_of, set_register, preserve}
-use Rattle.cc_model.specs.Effects.{effects, hold_native, hold_script, make_native, make_object, put_in_script, store_native, takes_memory, wrapped}
+use Rattle.cc_model.specs.Effects.{effects, hold_native, hold_script, make_native, make_object, put_in_script, set_entry, store_native, takes_memory, wrapped}
 use Rattle.cc_model.specs.Exposure.{exposed}
 use Rattle.cc_model.proofs.Tellings.{Tells-nil}
 use Rattle.cc_laws_heap.proofs.Taken.{IsTaken-from}
@@ -173,6 +174,10 @@ module _ (old new : Heap) (reply : Reply) (t : Telling) where
   unfolding effects reply_if_taken
   carried-script d n r h = record { reply_is = r; heap = h; told = Tells-nil t }
 
+  pub carried-map : (d : ℕ) → reply ≡ Named (object (old.scripts_made + 1)) → new ≡ make_object old d Map 0 → IsCarriedOut (WeakMap d) old new reply t t
+  unfolding effects reply_if_taken
+  carried-map d r h = record { reply_is = r; heap = h; told = Tells-nil t }
+
   pub carried-copy_script : (d s : ℕ) (x : Option Name) → x ≡ register old (S s) → exposed old x ≡ old → reply ≡ named_or_nothing x →
       new ≡ hold_script old d x → IsCarriedOut (CopyScript d s) old new reply t t
   unfolding effects reply_if_taken
@@ -214,6 +219,16 @@ module _ (old new : Heap) (reply : Reply) (t : Telling) where
   unfolding effects reply_if_taken
   carried-preserve s r h = record { reply_is = r; heap = h; told = Tells-nil t }
 
+  pub carried-set_entry : (m k : ℕ) (from : Option ℕ) (x : Option Name) → x ≡ source old (option_map S from) → reply ≡ Done →
+      new ≡ set_entry old (register old (S m)) (register old (S k)) x → IsCarriedOut (SetEntry m k from) old new reply t t
+  unfolding effects reply_if_taken
+  carried-set_entry m k from x e r h = record { reply_is = r; heap = h ∙ ap (set_entry old (register old (S m)) (register old (S k))) e; told = Tells-nil t }
+
+  pub carried-get_entry : (d m k : ℕ) (x : Option Name) → x ≡ value_at (objects_of old) (register old (S m)) (register old (S k)) → reply ≡ named_or_nothing x →
+      new ≡ hold_script old d x → IsCarriedOut (GetEntry d m k) old new reply t t
+  unfolding effects reply_if_taken
+  carried-get_entry d m k x e r h = record { reply_is = r ∙ ap named_or_nothing e; heap = h ∙ ap (hold_script old d) e; told = Tells-nil t }
+
   pub carried-expose : (s i : ℕ) (x : Option Name) → x ≡ slot_at (objects_of old) (N s) i → reply ≡ named_or_nothing x →
       new ≡ exposed old x → IsCarriedOut (Expose s i) old new reply t t
   unfolding effects reply_if_taken
@@ -247,6 +262,12 @@ module _ (h : Heap) where
   pub room-script : (d n : ℕ) → h.scripts_made < h.limits.scripts → refusal_of (objects_of h) (Script d n) ≡ None
   room-script d n few = refusal-by (objects_of h) (Script d n) false false false false false refl refl refl refl (lt-leb _ _ few)
 
+  pub full-map : (d : ℕ) → h.limits.scripts ≤ h.scripts_made → refusal_of (objects_of h) (WeakMap d) ≡ Some Full
+  full-map d few = refusal-by (objects_of h) (WeakMap d) false false false false true refl refl refl refl (le-leb _ _ few)
+
+  pub room-map : (d : ℕ) → h.scripts_made < h.limits.scripts → refusal_of (objects_of h) (WeakMap d) ≡ None
+  room-map d few = refusal-by (objects_of h) (WeakMap d) false false false false false refl refl refl refl (lt-leb _ _ few)
+
   pub slot-set : (d i : ℕ) (from : Option Reg) → refusal_of (objects_of h) (Set d i from) ≡ None → i < length (slots_at (objects_of h) (N d))
   slot-set d i from e = leb-false (length (slots_at (objects_of h) (N d))) i (IsTaken-from (objects_of h) (Set d i from) e).slot
 
@@ -261,3 +282,10 @@ module _ (h : Heap) where
 
   pub slot-take : (d s i : ℕ) → refusal_of (objects_of h) (Take d s i) ≡ None → i < length (slots_at (objects_of h) (S s))
   slot-take d s i e = leb-false (length (slots_at (objects_of h) (S s))) i (IsTaken-from (objects_of h) (Take d s i) e).slot
+
+  -- the map and the key of an entry that may be set
+  pub map-set_entry : (m k : ℕ) (from : Option ℕ) → refusal_of (objects_of h) (SetEntry m k from) ≡ None → is_map_in (objects_of h) (register h (S m)) ≡ true
+  map-set_entry m k from e = not-false _ (IsTaken-from (objects_of h) (SetEntry m k from) e).kinds
+
+  pub key-set_entry : (m k : ℕ) (from : Option ℕ) → refusal_of (objects_of h) (SetEntry m k from) ≡ None → is_none (register h (S k)) ≡ false
+  key-set_entry m k from e = (or_parts _ _ (or_parts _ _ (IsTaken-from (objects_of h) (SetEntry m k from) e).objects).1).0

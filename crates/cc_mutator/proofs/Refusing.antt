@@ -8,7 +8,7 @@ use Rattle.cc_names.specs.declared.register.Reg.{Reg}
 use Rattle.cc_names.specs.declared.register.Reg.TheVariants.{N, S}
 use Rattle.cc_names.specs.Names.{is_reflector}
 use Rattle.cc_model.specs.declared.command.Command.{Command}
-use Rattle.cc_model.specs.declared.command.Command.TheVariants.{CopyNative, CopyScript, Drop, Set, Get, Put, Take, Wrap, Unwrap, Preserve, Expose}
+use Rattle.cc_model.specs.declared.command.Command.TheVariants.{CopyNative, CopyScript, Drop, Set, Get, Put, Take, Wrap, Unwrap, Preserve, SetEntry, GetEntry, Expose}
 use Rattle.cc_model.specs.declared.item.Refusal.{Refusal}
 use Rattle.cc_model.specs.declared.item.Refusal.TheVariants.{Empty, Kind, Slot, Full}
 use Rattle.cc_model.specs.Checks.{Objects, slot_at, slots_at, lacks_object, has_wrong_object, has_no_slot, has_wrong_content, is_map_in, is_reflector_there, native_of, is_native_there, is_script_there, is_full, first_refusal, refusal_of}
@@ -26,12 +26,39 @@ abbrev pub or_source : Bool → Option Refusal → Option Refusal
 or_source true q = Some Empty
 or_source false q = q
 
+-- what is answered by the tests of a slot of a script object
+abbrev pub refusal_by_script_slot : Bool → Bool → Bool → Option Refusal
+refusal_by_script_slot lacks wrong slot = first_refusal ((lacks, Empty) ∷ (wrong, Kind) ∷ (slot, Slot) ∷ [])
+
 slot-source : (lacks source slot : Bool) → refusal_by (lacks || source) false slot false false ≡ or_source source (refusal_by_slot lacks slot)
 slot-source true true slot = refl
 slot-source true false slot = refl
 slot-source false true slot = refl
 slot-source false false true = refl
 slot-source false false false = refl
+
+script_slot-source : (lacks source wrong slot : Bool) → refusal_by (lacks || source) wrong slot false false ≡ or_source source (refusal_by_script_slot lacks wrong slot)
+script_slot-source true true wrong slot = refl
+script_slot-source true false wrong slot = refl
+script_slot-source false true wrong slot = refl
+script_slot-source false false true slot = refl
+script_slot-source false false false true = refl
+script_slot-source false false false false = refl
+
+-- where it is no weak map they are those of a slot
+pub script_slot-plain : (lacks wrong slot : Bool) → wrong ≡ false → refusal_by_slot lacks slot ≡ refusal_by_script_slot lacks wrong slot
+script_slot-plain lacks true slot e = absurd (cc)
+script_slot-plain true false slot e = refl
+script_slot-plain false false slot e = refl
+
+-- a weak map is there
+pub map-some : (o : Objects) (x : Option Name) → is_map_in o x ≡ true → is_none x ≡ false
+map-some o None e = absurd (cc)
+map-some o (Some x) e = refl
+
+-- and its slots are not read
+pub script_slot-map : (o : Objects) (x : Option Name) (slot : Bool) → is_map_in o x ≡ true → Some Kind ≡ refusal_by_script_slot (is_none x) (is_map_in o x) slot
+script_slot-map o x slot e = sym (ap (λ lacks. refusal_by_script_slot lacks (is_map_in o x) slot) (map-some o x e) ∙ ap (λ wrong. refusal_by_script_slot false wrong slot) e)
 
 -- with what the slot holds
 abbrev pub or_content : Bool → Option Refusal → Option Refusal
@@ -48,6 +75,15 @@ pub slot-there : (lacks slot : Bool) → refusal_by_slot lacks slot ≡ None →
 slot-there true slot e = absurd (cc)
 slot-there false true e = absurd (cc)
 slot-there false false e = refl
+
+entry-source : (a b source wrong : Bool) → refusal_by (a || (b || source)) wrong false false false ≡ or_source source (first_refusal ((a || b, Empty) ∷ (wrong, Kind) ∷ []))
+entry-source true b true wrong = refl
+entry-source true b false wrong = refl
+entry-source false true true wrong = refl
+entry-source false true false wrong = refl
+entry-source false false true wrong = refl
+entry-source false false false true = refl
+entry-source false false false false = refl
 
 -- what is answered of what a register holds: it must be there, and be a reflector
 abbrev pub refusal_by_kind : Option Name → Option Refusal
@@ -115,14 +151,33 @@ module _ (o : Objects) where
   pub refusal-get_script : (d s i : ℕ) → refusal_of o (Expose s i) ≡ refusal_of o (Get (S d) s i)
   refusal-get_script d s i = refusal-by o (Expose s i) _ _ _ _ _ refl refl refl refl refl ∙ sym (refusal-by o (Get (S d) s i) _ _ _ _ _ refl refl refl refl refl)
 
-  -- a slot of a script object written or read, where no register holds a weak map
-  pub refusal-put : (d i : ℕ) (from : Option ℕ) → is_map_in o (o.register (S d)) ≡ false → (b : Bool) →
-      list_any (λ r. is_none (o.register r)) (map S (option_to_list from)) ≡ b → refusal_of o (Put d i from) ≡ or_source b (of_slot (S d) i)
-  refusal-put d i from m b e =
-      refusal-by o (Put d i from) (is_none (o.register (S d)) || b) false _ _ _ (λ j. is_none (o.register (S d)) || e j) m refl refl refl ∙ slot-source _ b _
+  -- by the tests of a slot of the script object that a register holds
+  abbrev of_script_slot : ℕ → ℕ → Option Refusal
+  of_script_slot r i = refusal_by_script_slot (is_none (o.register (S r))) (is_map_in o (o.register (S r))) (nat_le (length (slots_at o (S r))) i)
 
-  pub refusal-take : (d s i : ℕ) → is_map_in o (o.register (S s)) ≡ false → refusal_of o (Take d s i) ≡ of_slot (S s) i
-  refusal-take d s i m = refusal-by o (Take d s i) _ false _ _ _ refl m refl refl refl ∙ slot-source _ false _
+  -- a slot of a script object written or read
+  pub refusal-put : (d i : ℕ) (from : Option ℕ) (b : Bool) → list_any (λ r. is_none (o.register r)) (map S (option_to_list from)) ≡ b →
+      refusal_of o (Put d i from) ≡ or_source b (of_script_slot d i)
+  refusal-put d i from b e =
+      refusal-by o (Put d i from) (is_none (o.register (S d)) || b) _ _ _ _ (λ j. is_none (o.register (S d)) || e j) refl refl refl refl ∙ script_slot-source _ b _ _
+
+  pub refusal-take : (d s i : ℕ) → refusal_of o (Take d s i) ≡ of_script_slot s i
+  refusal-take d s i = refusal-by o (Take d s i) _ _ _ _ _ refl refl refl refl refl ∙ script_slot-source (is_none (o.register (S s))) false (is_map_in o (o.register (S s))) (nat_le (length (slots_at o (S s))) i)
+
+  -- by the tests of the map and the key that two registers hold
+  abbrev of_entry : ℕ → ℕ → Option Refusal
+  of_entry m k = first_refusal ((is_none (o.register (S m)) || is_none (o.register (S k)), Empty) ∷ (not (is_map_in o (o.register (S m))), Kind) ∷ [])
+
+  -- an entry set or taken out, or read
+  pub refusal-set_entry : (m k : ℕ) (from : Option ℕ) (b : Bool) → list_any (λ r. is_none (o.register r)) (map S (option_to_list from)) ≡ b →
+      refusal_of o (SetEntry m k from) ≡ or_source b (of_entry m k)
+  refusal-set_entry m k from b e =
+      refusal-by o (SetEntry m k from) (is_none (o.register (S m)) || (is_none (o.register (S k)) || b)) _ _ _ _
+      (λ j. is_none (o.register (S m)) || (is_none (o.register (S k)) || e j)) refl refl refl refl
+      ∙ entry-source _ _ b _
+
+  pub refusal-get_entry : (d m k : ℕ) → refusal_of o (GetEntry d m k) ≡ of_entry m k
+  refusal-get_entry d m k = refusal-by o (GetEntry d m k) _ _ _ _ _ refl refl refl refl refl ∙ entry-source _ _ false _
 
   -- a native wrapped
   pub refusal-wrap : (d s : ℕ) → refusal_of o (Wrap d s) ≡ first_refusal ((is_none (o.register (N s)), Empty) ∷ [])

@@ -1,12 +1,10 @@
 -- THE SCRIPT OBJECT THAT A REGISTER HOLDS, by its key: its slots, what they hold, and its colour.
-use Rattle.std.proofs.Common.{◌≡◌, ℕ, ◌==◌, ◌≤◌, true, false, List, map, length, get_or, Option, Some, None, is_some, option_map, option_and_then, IsTrue, IfSome, refl, sym, ◌∙◌, ap, subst, inl, ⊎_elim, arith}
+use Rattle.std.proofs.Common.{◌≡◌, ℕ, ◌==◌, ◌≤◌, Bool, true, false, List, map, length, get_or, Option, Some, None, is_some, option_map, option_and_then, IsTrue, IfSome, refl, sym, ◌∙◌, ap, subst, inl, ⊎_elim, arith}
 use Rattle.std.specs.Option.{option_to_list}
-use Rattle.std.specs.Prelude.{is_none}
 use Rattle.std.proofs.Math.ListN.{get_or-map}
 use Rattle.std.proofs.lemmas.Bool.{false≢true}
 use Rattle.std.proofs.lemmas.List.{length-map}
 use Rattle.cc_lists.specs.Members.{Among}
-use Rattle.cc_lists.proofs.Members.{Among-map_cases}
 use Rattle.cc_lists.proofs.Filtering.{find-among}
 use Rattle.cc_lists.proofs.ListWrites.{only-member}
 use Rattle.cc_lists.proofs.Places.{among-get}
@@ -20,7 +18,7 @@ use Rattle.cc_names.specs.declared.kind.Colour.TheVariants.{Black}
 use Rattle.cc_names.specs.declared.register.Reg.TheVariants.{S}
 use Rattle.cc_names.specs.Names.{is_script, same_name}
 use Rattle.cc_names.proofs.NameTests.{same_name-refl}
-use Rattle.cc_model.specs.Slots.{Slots, contents}
+use Rattle.cc_model.specs.Slots.{Slots}
 use Rattle.cc_model.specs.Checks.{is_map_in, slots_or_none, slot_at, slots_at}
 use Rattle.cc_model.specs.Heap.{Heap, HeapScript, objects_of, register, script_at, source, slots_in, slots_of_kind, slots_of_script}
 use Rattle.cc_model.specs.WellFormed.{FitsName}
@@ -28,11 +26,13 @@ use Rattle.cc_laws_heap.proofs.Coloured.{IsColoured}
 use Rattle.cc_laws_heap.proofs.ColourChanges.{IsHeldBlack}
 use Rattle.cc_laws_heap.proofs.ScriptNames.{script-named, scripts-once}
 use Rattle.cc_laws_heap.proofs.Writes.{contents-at}
-use Rattle.cc_script.specs.Objects.{Object, object_at, is_there, name_at, colour_at}
+use Rattle.cc_script.specs.Objects.{Object, object_at, is_there, kind_at, name_at, colour_at}
 use Rattle.cc_script.specs.Objects as objects
 use Rattle.cc_heaps.specs.Keyed.{Keyed, IsInOrder, name_held, named_object}
 use Rattle.cc_heaps.specs.Changes.{IsScriptThere, script_name}
 use Rattle.cc_heaps.proofs.ContentNames.{object-there}
+use Rattle.cc_heaps.proofs.EntryNames.{is_map-named}
+use Rattle.cc_heaps.proofs.Reaching.{same-tests}
 
 -- the script object at a key, which a register holds
 pub record IsObjectAt (v : Keyed) (r key : ℕ) : Type 0 where
@@ -46,11 +46,28 @@ slots_in-script h (name.Native k) e = absurd (false≢true e)
 slots_in-script h (name.Script k) e = refl
 slots_in-script h (name.Reflector k) e = refl
 
--- what is no weak map has slots
-slots_of_kind-no_map : (kind : Kind) (slots : Slots) → ¬ (kind ≡ Map) → slots_of_kind kind slots ≡ Some slots
-slots_of_kind-no_map Plain slots n = refl
-slots_of_kind-no_map Reflector slots n = refl
-slots_of_kind-no_map Map slots n = absurd (n refl)
+abbrev pub is_map_kind : Kind → Bool
+is_map_kind Plain = false
+is_map_kind Reflector = false
+is_map_kind Map = true
+
+is_map_kind-true : (kind : Kind) → is_map_kind kind ≡ true → kind ≡ Map
+is_map_kind-true Plain e = absurd (cc)
+is_map_kind-true Reflector e = absurd (cc)
+is_map_kind-true Map e = refl
+
+is_map_kind-some : (kind : Kind) → Some kind ≡ Some Map → is_map_kind kind ≡ true
+is_map_kind-some Plain e = absurd (cc)
+is_map_kind-some Reflector e = absurd (cc)
+is_map_kind-some Map e = refl
+
+-- a weak map has none, and what is no weak map has its own
+kind-slots : (x : Name) (kind : Kind) (slots : Slots) → FitsName x kind slots → slots_or_none (slots_of_kind kind slots) ≡ slots
+kind-slots x Plain slots f = refl
+kind-slots x Reflector slots f = refl
+kind-slots (name.Script k) Map slots f = sym f
+kind-slots (name.Native k) Map slots f = absurd f
+kind-slots (name.Reflector k) Map slots f = absurd f
 
 -- at most 64 of them: a reflector has four
 fits-few : (x : Name) (kind : Kind) (slots : Slots) → FitsName x kind slots → length slots ≤ 64
@@ -64,27 +81,17 @@ fits-few (name.Reflector k) Map slots f = absurd f
 
 module _ (owned : List ℕ) (v : Keyed) (order : IsInOrder owned v) where
   -- the slots of a script object that is there
-  slots-of_object : (o : HeapScript) → Among o v.heap.scripts → slots_in v.heap o.name ≡ Some o.slots
+  slots-of_object : (o : HeapScript) → Among o v.heap.scripts → slots_or_none (slots_in v.heap o.name) ≡ o.slots
   slots-of_object o m =
       let well = order.sound.well_formed in
       let found : script_at v.heap o.name ≡ Some o =
       find-only (λ (p : HeapScript). same_name p.name o.name) v.heap.scripts o (scripts-once v.heap well o.name) m (same_name-refl o.name) in
-      slots_in-script v.heap o.name (script-named v.heap well o m)
-      ∙ (ap (λ f. option_and_then slots_of_script f) found ∙ slots_of_kind-no_map o.kind o.slots (order.without_maps.no_maps o m))
+      ap slots_or_none (slots_in-script v.heap o.name (script-named v.heap well o m) ∙ ap (λ f. option_and_then slots_of_script f) found)
+      ∙ kind-slots o.name o.kind o.slots (well.kinds o m)
 
   -- and they are few
   slots-of_object-few : (o : HeapScript) → Among o v.heap.scripts → length o.slots ≤ 64
   slots-of_object-few o m = fits-few o.name o.kind o.slots (order.sound.well_formed.kinds o m)
-
-  -- no register holds a weak map
-  pub no_map : (r : ℕ) → is_map_in (objects_of v.heap) (register v.heap (S r)) ≡ false
-  no_map r = go (register v.heap (S r)) (contents-at v.heap.script_registers r)
-    where
-      go : (x : Option Name) → ((y : Name) → Among y (option_to_list x) → Among y (contents v.heap.script_registers)) → is_map_in (objects_of v.heap) x ≡ false
-      go None h = refl
-      go (Some y) h =
-          let f = Among-map_cases (λ (o : HeapScript). o.name) v.heap.scripts y (order.sound.well_formed.script_registers y (h y (inl refl))) in
-          ap (λ z. is_none (slots_in v.heap z)) (sym f.2) ∙ ap is_none (slots-of_object f.0 f.1)
 
   module _ (r : ℕ) (key : SKey) (name : script_name v (Some key) ≡ register v.heap (S r)) (there : IsTrue (is_there v.scripts key.0)) where
     pub object-at : IsObjectAt v r key.0
@@ -98,11 +105,19 @@ module _ (owned : List ℕ) (v : Keyed) (order : IsInOrder owned v) where
     stands : Among (named_object v.scripts object-at.object) v.heap.scripts
     stands = object-there owned v order key.0 object-at.object object-at.at
 
+    -- whether it is a weak map, as the checks of a command ask
+    pub map-told : (kind : Kind) → kind_at v.scripts key.0 ≡ Some kind → is_map_kind kind ≡ is_map_in (objects_of v.heap) (register v.heap (S r))
+    map-told kind is =
+        let both = is_map-named owned v order key.0 there in
+        same-tests (is_map_kind kind) (is_map_in (objects_of v.heap) (register v.heap (S r)))
+        (λ e. subst (λ x. is_map_in (objects_of v.heap) x ≡ true) name (both.1 (is ∙ ap (λ k. Some k) (is_map_kind-true kind e))))
+        (λ e. is_map_kind-some kind (sym is ∙ both.0 (subst (λ x. is_map_in (objects_of v.heap) x ≡ true) (sym name) e)))
+
     -- its slots by names
     pub script_slots-named : slots_at (objects_of v.heap) (S r) ≡ map (name_held v.scripts) object-at.object.slots
     script_slots-named =
         ap (λ o. slots_or_none (option_and_then (slots_in v.heap) o)) object-at.held
-        ∙ ap slots_or_none (slots-of_object (named_object v.scripts object-at.object) stands)
+        ∙ slots-of_object (named_object v.scripts object-at.object) stands
 
     -- and by keys
     pub script_slots-keyed : objects.slots_at v.scripts key.0 ≡ object-at.object.slots

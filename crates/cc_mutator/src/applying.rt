@@ -1,15 +1,15 @@
 //! Each command of the mutator, done on the heaps.
-ghost use Rattle.std.specs.Prelude.{◌≡◌, ◌≢◌, ◌<◌, ◌≤◌, IsTrue, IfSome, true, [], length, Some, None};
+ghost use Rattle.std.specs.Prelude.{◌≡◌, ◌≢◌, ◌<◌, ◌≤◌, IsTrue, IsSome, IfSome, OnErr, OnOk, is_none, false, true, [], length, Some, None};
 ghost use Rattle.cc_names.specs.declared.kind.Colour.TheVariants.{Black};
 ghost use Rattle.cc_names.specs.declared.register.Reg.TheVariants.{N as n_register, S as s_register};
-ghost use Rattle.cc_model.specs.declared.command.Command.TheVariants.{Native, Script, CopyNative, CopyScript, Drop, Set, Get, Put, Take, Wrap, Unwrap, Preserve, Expose};
+ghost use Rattle.cc_model.specs.declared.command.Command.TheVariants.{Native, Script, WeakMap, CopyNative, CopyScript, Drop, Set, Get, Put, Take, Wrap, Unwrap, Preserve, SetEntry, GetEntry, Expose};
 ghost use Rattle.cc_model.specs.declared.item.Refusal.{Refusal};
 ghost use Rattle.cc_model.specs.declared.item.Refusal.TheVariants.{NoMemory as no_memory};
 ghost use Rattle.cc_model.specs.declared.item.Reply.TheVariants.{Refused as refused};
 ghost use Rattle.cc_model.specs.Telling.{Telling, TellsEvents};
-ghost use Rattle.cc_model.specs.Checks.{refusal_of, slots_at};
+ghost use Rattle.cc_model.specs.Checks.{is_map_in, refusal_of, slots_at, value_at};
 ghost use Rattle.cc_model.specs.Colours.{HasColourInvariant};
-ghost use Rattle.cc_model.specs.Effects.{put_in_script, store_native, takes_memory};
+ghost use Rattle.cc_model.specs.Effects.{put_in_script, set_entry as entry_set, store_native, takes_memory};
 ghost use Rattle.cc_model.specs.Exposure.{exposed};
 ghost use Rattle.cc_model.specs.Heap.{objects_of, register};
 ghost use Rattle.cc_model.specs.Lawful.{State, RepliesWith, graph_after};
@@ -27,12 +27,12 @@ ghost use Rattle.cc_mutator.specs.Commands.{IsApplied};
 ghost use Rattle.cc_mutator.specs.Listing.{AreListedFor};
 
 use crate::checks::{
-    refusal_of_expose, refusal_of_get_native, refusal_of_get_script, refusal_of_put,
-    refusal_of_set, refusal_of_take,
+    refusal_of_expose, refusal_of_get_entry, refusal_of_get_native, refusal_of_get_script,
+    refusal_of_put, refusal_of_set, refusal_of_set_entry, refusal_of_take,
 };
 use crate::reads::{
-    as_native, as_script, naming_native, naming_script, native_content, script_content,
-    script_source, source_content,
+    as_native, as_script, entry_value, naming_native, naming_script, native_content,
+    script_content, script_source, source_content,
 };
 use cc_counted::Held;
 use cc_heaps::{Heaps, MakeStop};
@@ -59,6 +59,18 @@ fn make_plain(heaps: &mut Heaps, d: u8, slots: u8) -> Reply
     ensures { (t : Telling) → IsApplied (Script d slots) heaps.old heaps.new result t t }
 {
     match heaps.new_plain(d, slots) {
+        Ok(name) => Reply::Named(name),
+        Err(MakeStop::Full) => Reply::Refused(Refusal::Full),
+        Err(MakeStop::NoMemory) => Reply::Refused(Refusal::NoMemory),
+    }
+}
+
+/// Makes a weak map.
+fn make_map(heaps: &mut Heaps, d: u8) -> Reply
+    requires order { IsInOrder [] heaps.old }
+    ensures { (t : Telling) → IsApplied (WeakMap d) heaps.old heaps.new result t t }
+{
+    match heaps.new_map(d) {
         Ok(name) => Reply::Named(name),
         Err(MakeStop::Full) => Reply::Refused(Refusal::Full),
         Err(MakeStop::NoMemory) => Reply::Refused(Refusal::NoMemory),
@@ -282,6 +294,63 @@ fn preserve(heaps: &mut Heaps, s: u8) -> Reply
     }
 }
 
+/// Gives the key in a register a value in the weak map in another; without one it has no value from then on.
+fn write_entry(heaps: &mut Heaps, m: u8, k: u8, value: Option<SKey>) -> Result<(), NoMemory>
+    requires order { IsInOrder [] heaps.old }
+    requires the_map { IsTrue (is_map_in (objects_of heaps.old.heap) (register heaps.old.heap (s_register m))) }
+    requires key { is_none (register heaps.old.heap (s_register k)) ≡ false }
+    requires value { IsScriptThere heaps.old value }
+    ensures heap { OnOk result (heaps.new.heap ≡ entry_set heaps.old.heap (register heaps.old.heap (s_register m)) (register heaps.old.heap (s_register k)) (script_name heaps.old value)) }
+    ensures keys { KeepsKeys heaps.old heaps.new }
+    ensures order { IsInOrder [] heaps.new }
+    ensures same { OnErr result (heaps.new ≡ heaps.old) }
+    ensures some { OnErr result (IsSome value) }
+    ensures none { OnErr result (value_at (objects_of heaps.old.heap) (register heaps.old.heap (s_register m)) (register heaps.old.heap (s_register k)) ≡ None) }
+{
+    let Some(the_map) = heaps.script_reg(m) else {
+        unreachable!();
+    };
+    let Some(key) = heaps.script_reg(k) else {
+        unreachable!();
+    };
+    match value {
+        Some(value) => heaps.set_entry(the_map, key, value),
+        None => {
+            heaps.unset_entry(the_map, key);
+            Ok(())
+        }
+    }
+}
+
+/// Writes what a source gives as the value of the key in a register in the weak map in another.
+fn set_entry(heaps: &mut Heaps, m: u8, k: u8, from: Option<u8>) -> Reply
+    requires order { IsInOrder [] heaps.old }
+    ensures { (t : Telling) → IsApplied (SetEntry m k from) heaps.old heaps.new result t t }
+{
+    if let Some(refusal) = refusal_of_set_entry(heaps, m, k, from) {
+        return Reply::Refused(refusal);
+    }
+    let value = script_source(heaps, from);
+    match write_entry(heaps, m, k, value) {
+        Ok(()) => Reply::Done,
+        Err(NoMemory) => Reply::Refused(Refusal::NoMemory),
+    }
+}
+
+/// Reads the value of the key in a register in the weak map in another into a script register.
+fn get_entry(heaps: &mut Heaps, d: u8, m: u8, k: u8) -> Reply
+    requires order { IsInOrder [] heaps.old }
+    ensures { (t : Telling) → IsApplied (GetEntry d m k) heaps.old heaps.new result t t }
+{
+    if let Some(refusal) = refusal_of_get_entry(heaps, d, m, k) {
+        return Reply::Refused(refusal);
+    }
+    let content = entry_value(heaps, m, k);
+    let reply = naming_script(heaps, content);
+    heaps.set_script_reg(d, content);
+    reply
+}
+
 /// Script touches what a slot held; nothing where the slot was empty.
 fn touch(heaps: &mut Heaps, content: Option<SKey>)
     requires order { IsInOrder [] heaps.old }
@@ -320,6 +389,7 @@ fn answer<N: Notices>(heaps: &mut Heaps, command: &Command, out: &mut N) -> Repl
     match *command {
         Command::Native(d, slots) => make_native(heaps, d, slots, out),
         Command::Script(d, slots) => make_plain(heaps, d, slots),
+        Command::WeakMap(d) => make_map(heaps, d),
         Command::CopyNative(d, s) => copy_native(heaps, d, s, out),
         Command::CopyScript(d, s) => copy_script(heaps, d, s),
         Command::Drop(r) => empty(heaps, r, out),
@@ -330,6 +400,8 @@ fn answer<N: Notices>(heaps: &mut Heaps, command: &Command, out: &mut N) -> Repl
         Command::Wrap(d, s) => wrap(heaps, d, s),
         Command::Unwrap(d, s) => unwrap(heaps, d, s, out),
         Command::Preserve(s) => preserve(heaps, s),
+        Command::SetEntry(m, k, from) => set_entry(heaps, m, k, from),
+        Command::GetEntry(d, m, k) => get_entry(heaps, d, m, k),
         Command::Expose(s, i) => expose(heaps, s, i),
         _ => unreachable!(),
     }
@@ -337,13 +409,13 @@ fn answer<N: Notices>(heaps: &mut Heaps, command: &Command, out: &mut N) -> Repl
 
 /// Does a command of the mutator, and returns the reply to it. What it deletes is told first, however deep it goes.
 ///
-/// A command that is refused changes nothing and tells nothing. Memory is wanted by `native` and `script` alone, and by
-/// `wrap` where the native has no reflector, where they are not refused; without it they change nothing and tell nothing
-/// either.
+/// A command that is refused changes nothing and tells nothing. Memory is wanted by `native`, `script` and `weakmap`, by
+/// `wrap` where the native has no reflector, and by `wset` with a value where the map has no entry of the key, where they
+/// are not refused; by no other command. Without it they change nothing and tell nothing either.
 ///
 /// The reply is that of each graph that the heaps stand for, or it is want of memory where that graph does not refuse the
-/// command. Beside the graph go the names that a census would list, which are those of the objects that are there: `wrap`
-/// wants memory only where the reflector is not among them.
+/// command, and a command of this kind may want it: `wset` where the graph's map has no entry of the key, and `wrap` where
+/// the reflector is not listed. Of `wrap` alone this asks that a census would list exactly what is there.
 ///
 /// Afterwards the heaps stand for the graph's step, or without memory for the graph as it was; each snapshot that was
 /// fresh is fresh, and no native that nothing reaches is forgotten, whatever the candidates of a running collection are.

@@ -1,10 +1,10 @@
 //! When a command is refused, by the causes in their order.
-ghost use Rattle.std.specs.Prelude.{◌≡◌, ◌<◌, [], ◌∷◌, length, map, nat_le, is_none, option_to_list};
+ghost use Rattle.std.specs.Prelude.{◌≡◌, ◌<◌, ◌||◌, [], ◌∷◌, length, map, nat_le, not, is_none, option_to_list};
 ghost use Rattle.std.specs.List.{list_any};
 ghost use Rattle.cc_names.specs.declared.register.Reg.TheVariants.{N as n_register, S as s_register};
-ghost use Rattle.cc_model.specs.declared.command.Command.TheVariants.{Set, Get, Put, Take, Expose};
-ghost use Rattle.cc_model.specs.declared.item.Refusal.TheVariants.{Empty as empty, Slot as no_slot};
-ghost use Rattle.cc_model.specs.Checks.{first_refusal, is_native_there, is_script_there, refusal_of, slot_at, slots_at};
+ghost use Rattle.cc_model.specs.declared.command.Command.TheVariants.{Set, Get, Put, Take, SetEntry, GetEntry, Expose};
+ghost use Rattle.cc_model.specs.declared.item.Refusal.TheVariants.{Empty as empty, Kind as wrong_kind, Slot as no_slot};
+ghost use Rattle.cc_model.specs.Checks.{first_refusal, is_map_in, is_native_there, is_script_there, refusal_of, slot_at, slots_at};
 ghost use Rattle.cc_model.specs.Heap.{objects_of, register};
 ghost use Rattle.cc_heaps.specs.Keyed.{IsInOrder};
 ghost use Rattle.cc_mutator.specs.Commands.{is_native_held, is_script_held};
@@ -13,7 +13,7 @@ use crate::reads::{is_empty, native_content, slots};
 use cc_counted::Held;
 use cc_heaps::Heaps;
 use cc_model::Refusal;
-use cc_names::Reg;
+use cc_names::{Kind, Reg};
 
 /// Whether a source is a register that is empty.
 fn is_source_empty(heaps: &Heaps, from: Option<Reg>) -> bool
@@ -91,6 +91,45 @@ fn refusal_of_slot(heaps: &Heaps, r: Reg, i: u32) -> Option<Refusal>
     None
 }
 
+/// Whether a script register holds a weak map.
+fn holds_map(heaps: &Heaps, r: u8) -> bool
+    requires { IsInOrder [] heaps.now }
+    ensures { result ≡ is_map_in (objects_of heaps.now.heap) (register heaps.now.heap (s_register r)) }
+{
+    match heaps.script_reg(r) {
+        Some(key) => heaps.scripts().kind(key) == Kind::Map,
+        None => false,
+    }
+}
+
+/// Why slot `i` of the script object in a register is neither read nor written: a weak map has no slots.
+fn refusal_of_script_slot(heaps: &Heaps, r: u8, i: u32) -> Option<Refusal>
+    requires { IsInOrder [] heaps.now }
+    ensures { result ≡ first_refusal ((is_none (register heaps.now.heap (s_register r)), empty)
+        ∷ (is_map_in (objects_of heaps.now.heap) (register heaps.now.heap (s_register r)), wrong_kind)
+        ∷ (nat_le (length (slots_at (objects_of heaps.now.heap) (s_register r))) i, no_slot) ∷ []) }
+{
+    if holds_map(heaps, r) {
+        return Some(Refusal::Kind);
+    }
+    refusal_of_slot(heaps, Reg::S(r), i)
+}
+
+/// Why an entry is neither set nor read, whatever its value is: a register is empty, or the first holds no weak map.
+fn refusal_of_entry(heaps: &Heaps, m: u8, k: u8) -> Option<Refusal>
+    requires { IsInOrder [] heaps.now }
+    ensures { result ≡ first_refusal ((is_none (register heaps.now.heap (s_register m)) || is_none (register heaps.now.heap (s_register k)), empty)
+        ∷ (not (is_map_in (objects_of heaps.now.heap) (register heaps.now.heap (s_register m))), wrong_kind) ∷ []) }
+{
+    if is_empty(heaps, Reg::S(m)) || is_empty(heaps, Reg::S(k)) {
+        return Some(Refusal::Empty);
+    }
+    if !holds_map(heaps, m) {
+        return Some(Refusal::Kind);
+    }
+    None
+}
+
 /// Why `set` is refused.
 pub(crate) fn refusal_of_set(heaps: &Heaps, d: u8, i: u32, from: Option<Reg>) -> Option<Refusal>
     requires { IsInOrder [] heaps.now }
@@ -146,7 +185,7 @@ pub(crate) fn refusal_of_put(heaps: &Heaps, d: u8, i: u32, from: Option<u8>) -> 
     if is_script_source_empty(heaps, from) {
         return Some(Refusal::Empty);
     }
-    refusal_of_slot(heaps, Reg::S(d), i)
+    refusal_of_script_slot(heaps, d, i)
 }
 
 /// Why `take` is refused.
@@ -154,5 +193,24 @@ pub(crate) fn refusal_of_take(heaps: &Heaps, d: u8, s: u8, i: u32) -> Option<Ref
     requires { IsInOrder [] heaps.now }
     ensures { result ≡ refusal_of (objects_of heaps.now.heap) (Take d s i) }
 {
-    refusal_of_slot(heaps, Reg::S(s), i)
+    refusal_of_script_slot(heaps, s, i)
+}
+
+/// Why `wset` is refused.
+pub(crate) fn refusal_of_set_entry(heaps: &Heaps, m: u8, k: u8, from: Option<u8>) -> Option<Refusal>
+    requires { IsInOrder [] heaps.now }
+    ensures { result ≡ refusal_of (objects_of heaps.now.heap) (SetEntry m k from) }
+{
+    if is_script_source_empty(heaps, from) {
+        return Some(Refusal::Empty);
+    }
+    refusal_of_entry(heaps, m, k)
+}
+
+/// Why `wget` is refused.
+pub(crate) fn refusal_of_get_entry(heaps: &Heaps, d: u8, m: u8, k: u8) -> Option<Refusal>
+    requires { IsInOrder [] heaps.now }
+    ensures { result ≡ refusal_of (objects_of heaps.now.heap) (GetEntry d m k) }
+{
+    refusal_of_entry(heaps, m, k)
 }

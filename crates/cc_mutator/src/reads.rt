@@ -1,7 +1,7 @@
 //! What registers and slots hold, by keys and by names.
 ghost use Rattle.std.specs.Prelude.{◌≡◌, ◌<◌, [], false, length, is_none, option_map};
 ghost use Rattle.cc_names.specs.declared.register.Reg.TheVariants.{N as n_register, S as s_register};
-ghost use Rattle.cc_model.specs.Checks.{named_or_nothing, slot_at, slots_at};
+ghost use Rattle.cc_model.specs.Checks.{named_or_nothing, slot_at, slots_at, value_at};
 ghost use Rattle.cc_model.specs.Heap.{objects_of, register, source};
 ghost use Rattle.cc_counted.specs.Counts.{held_of_native};
 ghost use Rattle.cc_heaps.specs.Keyed.{IsInOrder};
@@ -70,6 +70,17 @@ pub(crate) fn script_content(heaps: &Heaps, r: u8, i: u32) -> Option<SKey>
         Some(key) => heaps.scripts().slot(key, i as u8),
         None => unreachable!(),
     }
+}
+
+/// The value that the key in a register has in the weak map in another. None exactly where it has none.
+pub(crate) fn entry_value(heaps: &Heaps, m: u8, k: u8) -> Option<SKey>
+    requires { IsInOrder [] heaps.now }
+    ensures name { script_name heaps.now result ≡ value_at (objects_of heaps.now.heap) (register heaps.now.heap (s_register m)) (register heaps.now.heap (s_register k)) }
+    ensures there { IsScriptThere heaps.now result }
+{
+    let the_map = heaps.script_reg(m)?;
+    let key = heaps.script_reg(k)?;
+    heaps.weak().get(the_map, key)
 }
 
 /// A content of a script register, as a slot of a native holds it.

@@ -144,6 +144,104 @@ fn slots_of_script_objects_are_written_and_read(rt: HostRuntime) -> Result<(), F
 }
 
 #[test]
+fn entries_are_set_read_and_taken_out(rt: HostRuntime) -> Result<(), Fail> {
+    let mut out = Notebook::new(rt.alloc());
+    if let Ok(mut heaps) = empty_heaps(rt.alloc()) {
+        assert_eq!(rt; reply(&mut heaps, Command::WeakMap(0), &mut out), OBJECT);
+        let _key = reply(&mut heaps, Command::Script(1, 0), &mut out);
+        let none = reply(&mut heaps, Command::GetEntry(2, 0, 1), &mut out);
+        assert_eq!(rt; none, Reply::Nothing);
+        let set = reply(&mut heaps, Command::SetEntry(0, 1, Some(0)), &mut out);
+        assert_eq!(rt; set, Reply::Done);
+        let value = reply(&mut heaps, Command::GetEntry(2, 0, 1), &mut out);
+        assert_eq!(rt; value, OBJECT);
+        assert_eq!(rt;
+            reply(&mut heaps, Command::CopyScript(3, 2), &mut out),
+            OBJECT
+        );
+        let set = reply(&mut heaps, Command::SetEntry(0, 1, Some(1)), &mut out);
+        assert_eq!(rt; set, Reply::Done);
+        let value = reply(&mut heaps, Command::GetEntry(2, 0, 1), &mut out);
+        assert_eq!(rt; value, Reply::Named(Name::Script(ScriptNo(2))));
+        let other = reply(&mut heaps, Command::GetEntry(2, 0, 0), &mut out);
+        assert_eq!(rt; other, Reply::Nothing);
+        let unset = reply(&mut heaps, Command::SetEntry(0, 1, None), &mut out);
+        assert_eq!(rt; unset, Reply::Done);
+        let none = reply(&mut heaps, Command::GetEntry(3, 0, 1), &mut out);
+        assert_eq!(rt; none, Reply::Nothing);
+        assert_eq!(rt;
+            reply(&mut heaps, Command::CopyScript(4, 3), &mut out),
+            Reply::Nothing
+        );
+    }
+    Ok(())
+}
+
+#[test]
+fn weak_maps_have_no_slots(rt: HostRuntime) -> Result<(), Fail> {
+    let mut out = Notebook::new(rt.alloc());
+    if let Ok(mut heaps) = empty_heaps(rt.alloc()) {
+        let _object = reply(&mut heaps, Command::Script(0, 1), &mut out);
+        let _map = reply(&mut heaps, Command::WeakMap(1), &mut out);
+        let full = reply(&mut heaps, Command::WeakMap(2), &mut out);
+        assert_eq!(rt; full, Reply::Refused(Refusal::Full));
+        let wrong = reply(&mut heaps, Command::Put(1, 0, Some(0)), &mut out);
+        assert_eq!(rt; wrong, Reply::Refused(Refusal::Kind));
+        let wrong = reply(&mut heaps, Command::Put(1, 0, None), &mut out);
+        assert_eq!(rt; wrong, Reply::Refused(Refusal::Kind));
+        let empty = reply(&mut heaps, Command::Put(1, 0, Some(2)), &mut out);
+        assert_eq!(rt; empty, Reply::Refused(Refusal::Empty));
+        let wrong = reply(&mut heaps, Command::Take(0, 1, 0), &mut out);
+        assert_eq!(rt; wrong, Reply::Refused(Refusal::Kind));
+    }
+    Ok(())
+}
+
+#[test]
+fn only_weak_maps_have_entries(rt: HostRuntime) -> Result<(), Fail> {
+    let mut out = Notebook::new(rt.alloc());
+    if let Ok(mut heaps) = empty_heaps(rt.alloc()) {
+        let _object = reply(&mut heaps, Command::Script(0, 1), &mut out);
+        let _map = reply(&mut heaps, Command::WeakMap(1), &mut out);
+        let wrong = reply(&mut heaps, Command::SetEntry(0, 1, Some(0)), &mut out);
+        assert_eq!(rt; wrong, Reply::Refused(Refusal::Kind));
+        let wrong = reply(&mut heaps, Command::SetEntry(0, 1, None), &mut out);
+        assert_eq!(rt; wrong, Reply::Refused(Refusal::Kind));
+        let wrong = reply(&mut heaps, Command::GetEntry(0, 0, 1), &mut out);
+        assert_eq!(rt; wrong, Reply::Refused(Refusal::Kind));
+        let empty = reply(&mut heaps, Command::SetEntry(0, 2, Some(0)), &mut out);
+        assert_eq!(rt; empty, Reply::Refused(Refusal::Empty));
+        let empty = reply(&mut heaps, Command::SetEntry(1, 0, Some(2)), &mut out);
+        assert_eq!(rt; empty, Reply::Refused(Refusal::Empty));
+        let empty = reply(&mut heaps, Command::GetEntry(0, 2, 0), &mut out);
+        assert_eq!(rt; empty, Reply::Refused(Refusal::Empty));
+        let empty = reply(&mut heaps, Command::GetEntry(0, 1, 2), &mut out);
+        assert_eq!(rt; empty, Reply::Refused(Refusal::Empty));
+    }
+    Ok(())
+}
+
+#[test]
+fn key_is_preserved_where_it_gets_a_value(rt: HostRuntime) -> Result<(), Fail> {
+    let mut out = Notebook::new(rt.alloc());
+    if let Ok(mut heaps) = empty_heaps(rt.alloc()) {
+        let _native = reply(&mut heaps, Command::Native(0, 0), &mut out);
+        let _reflector = reply(&mut heaps, Command::Wrap(0, 0), &mut out);
+        let _map = reply(&mut heaps, Command::WeakMap(1), &mut out);
+        let _object = reply(&mut heaps, Command::Script(2, 0), &mut out);
+        let unset = reply(&mut heaps, Command::SetEntry(1, 0, None), &mut out);
+        assert_eq!(rt; unset, Reply::Done);
+        let set = reply(&mut heaps, Command::SetEntry(1, 2, Some(0)), &mut out);
+        assert_eq!(rt; set, Reply::Done);
+        assert!(rt; !is_preserved(&heaps));
+        let set = reply(&mut heaps, Command::SetEntry(1, 0, Some(2)), &mut out);
+        assert_eq!(rt; set, Reply::Done);
+        assert!(rt; is_preserved(&heaps));
+    }
+    Ok(())
+}
+
+#[test]
 fn native_has_one_reflector(rt: HostRuntime) -> Result<(), Fail> {
     let mut out = Notebook::new(rt.alloc());
     if let Ok(mut heaps) = empty_heaps(rt.alloc()) {
