@@ -238,6 +238,65 @@ fn a_ring_through_a_thousand_reflectors_is_freed(rt: HostRuntime) -> Result<(), 
     play.runs(&rt, "a ring through reflectors")
 }
 
+/// A weak map in s0, and objects 2 to `length` + 2 in a chain of its entries: each is the key of the next, from object 2 on,
+/// which s1 holds. The entries are set in the order of the chain.
+fn entries_in_order(alloc: Global, length: u16) -> Result<Play, AllocError> {
+    let mut play = Play::new(alloc);
+    play.ask(
+        "weakmap s0\nscript s1 0\ncopy s2 s1\n",
+        "= @1\n= @2\n= @2\n",
+    )?;
+    for k in 3..length as u32 + 3 {
+        play.ask(
+            "script s3 0\nwset s0 s2 s3\ncopy s2 s3\n",
+            format!(in alloc; "= @{k}\n= ok\n= @{k}\n")?.as_str(),
+        )?;
+    }
+    play.ask("drop s2\ndrop s3\n", "= ok\n= ok\n")?;
+    Ok(play)
+}
+
+/// The same from the last object on, which s1 holds, to object 2. The entries are set against the order of the chain.
+fn entries_against_the_order(alloc: Global, length: u16) -> Result<Play, AllocError> {
+    let mut play = Play::new(alloc);
+    play.ask("weakmap s0\nscript s1 0\n", "= @1\n= @2\n")?;
+    for k in 3..length as u32 + 3 {
+        play.ask(
+            "script s2 0\nwset s0 s2 s1\ncopy s1 s2\n",
+            format!(in alloc; "= @{k}\n= ok\n= @{k}\n")?.as_str(),
+        )?;
+    }
+    play.ask("drop s2\n", "= ok\n")?;
+    Ok(play)
+}
+
+/// One `gc` keeps what the chain leads to; the one after its first key is dropped frees all but the map.
+fn kept_and_then_swept(alloc: Global, length: u16, play: &mut Play) -> Result<(), AllocError> {
+    play.ask("gc\ndrop s1\ngc\ncensus\n", "= ok\n= ok\n")?;
+    for k in 2..length as u32 + 3 {
+        play.ask("", format!(in alloc; "- free @{k}\n")?.as_str())?;
+    }
+    play.ask("", "= ok\n+ @1\n= census 1\n")
+}
+
+#[test]
+fn a_chain_of_a_thousand_entries_is_marked_by_one_gc(rt: HostRuntime) -> Result<(), Fail> {
+    let length = 1000u16;
+    let mut play = entries_in_order(rt.alloc(), length)?;
+    kept_and_then_swept(rt.alloc(), length, &mut play)?;
+    play.runs(&rt, "a chain of entries")
+}
+
+#[test]
+fn a_chain_of_a_thousand_entries_against_the_order_is_marked_by_one_gc(
+    rt: HostRuntime,
+) -> Result<(), Fail> {
+    let length = 1000u16;
+    let mut play = entries_against_the_order(rt.alloc(), length)?;
+    kept_and_then_swept(rt.alloc(), length, &mut play)?;
+    play.runs(&rt, "a chain of entries against the order")
+}
+
 /// A hundred natives that each hold themselves and another one. A collection has begun when registers let go of the
 /// others: each of these goes while its holder is unlinked, and the holders go when all of them are unlinked.
 #[test]

@@ -6,7 +6,7 @@ use crate::script::Example;
 use cc_replay::Status;
 use std::test::Fail;
 
-const EXAMPLES: [Example; 65] = [
+const EXAMPLES: [Example; 73] = [
     // Nothing is written for an empty input.
     Example {
         name: "empty_input",
@@ -337,6 +337,66 @@ const EXAMPLES: [Example; 65] = [
         output: b"= @1\n! empty\n= none\n",
         status: Status::Done,
     },
+    // Writing a slot of a weak map, or emptying it, is refused for the kind of the object, but first for an empty register.
+    Example {
+        name: "weak_map_has_no_slot_to_write",
+        natives: 1000000,
+        scripts: 1000000,
+        bytes: 4294967295,
+        input: b"weakmap s0\nput s0 0 s0\nput s0 0 none\nput s0 0 s9\nput s9 0 s0\ntake s1 s0 64\n",
+        output: b"= @1\n! kind\n! kind\n! empty\n! empty\n! kind\n",
+        status: Status::Done,
+    },
+    // A weak map that is the value of an entry of another one lives by it, and so do the values of its own entries.
+    Example {
+        name: "map_reached_through_an_entry_alone",
+        natives: 1000000,
+        scripts: 1000000,
+        bytes: 4294967295,
+        input: b"weakmap s0\nweakmap s1\nscript s2 0\nscript s3 0\nscript s4 0\nwset s0 s2 s1\nwset s1 s3 s4\ndrop s1\ndrop s4\ngc\nwget s1 s0 s2\nwget s4 s1 s3\ndrop s1\ndrop s4\nwset s0 s2 none\ngc\ncensus\n",
+        output: b"= @1\n= @2\n= @3\n= @4\n= @5\n= ok\n= ok\n= ok\n= ok\n= ok\n= @2\n= @5\n= ok\n= ok\n= ok\n- free @2\n- free @5\n= ok\n+ @1\n+ @3\n+ @4\n= census 3\n",
+        status: Status::Done,
+    },
+    // The entry of a map that is freed is dropped, while its key and its value live on.
+    Example {
+        name: "entry_goes_with_its_map",
+        natives: 1000000,
+        scripts: 1000000,
+        bytes: 4294967295,
+        input: b"weakmap s0\nscript s1 0\nscript s2 0\nwset s0 s1 s2\ndrop s0\ngc\nweakmap s0\nwget s3 s0 s1\ncensus\n",
+        output: b"= @1\n= @2\n= @3\n= ok\n= ok\n- free @1\n= ok\n= @4\n= none\n+ @2\n+ @3\n+ @4\n= census 3\n",
+        status: Status::Done,
+    },
+    // A weak map that is its own key keeps the value as long as it lives.
+    Example {
+        name: "map_is_its_own_key",
+        natives: 1000000,
+        scripts: 1000000,
+        bytes: 4294967295,
+        input: b"weakmap s0\nscript s1 0\nwset s0 s0 s1\ndrop s1\ngc\nwget s1 s0 s0\ndrop s1\ndrop s0\ngc\n",
+        output: b"= @1\n= @2\n= ok\n= ok\n= ok\n= @2\n= ok\n= ok\n- free @1\n- free @2\n= ok\n",
+        status: Status::Done,
+    },
+    // The value of two entries lives by the one whose key lives, and goes when that key goes too.
+    Example {
+        name: "two_entries_have_one_value",
+        natives: 1000000,
+        scripts: 1000000,
+        bytes: 4294967295,
+        input: b"weakmap s0\nscript s1 0\nscript s2 0\nscript s3 0\nwset s0 s1 s3\nwset s0 s2 s3\ndrop s3\ndrop s1\ngc\nwget s3 s0 s2\ndrop s3\ndrop s2\ngc\n",
+        output: b"= @1\n= @2\n= @3\n= @4\n= ok\n= ok\n= ok\n= ok\n- free @2\n= ok\n= @4\n= ok\n= ok\n- free @3\n- free @4\n= ok\n",
+        status: Status::Done,
+    },
+    // An entry does not keep a value that is its own key.
+    Example {
+        name: "value_is_its_own_key",
+        natives: 1000000,
+        scripts: 1000000,
+        bytes: 4294967295,
+        input: b"weakmap s0\nscript s1 0\nwset s0 s1 s1\ngc\nwget s2 s0 s1\ndrop s1\ndrop s2\ngc\ncensus\n",
+        output: b"= @1\n= @2\n= ok\n= ok\n= @2\n= ok\n= ok\n- free @2\n= ok\n+ @1\n= census 1\n",
+        status: Status::Done,
+    },
     // A collection with two nodes takes a unit to begin, one for each node, and one to end.
     Example {
         name: "two_cycle_takes_four_units",
@@ -417,6 +477,16 @@ const EXAMPLES: [Example; 65] = [
         output: b"= #1\n= @1\n= @2\n= @3\n= @4\n= ok\n= ok\n= ok\n= ok\n= ok\n= ok\n= ok\n= ok\n= ok\n= #2\n= ok\n= ok\n= ok\n= ok\n= @3\n- unlink #2\n- free #2\n= ok\n",
         status: Status::Done,
     },
+    // An entry that was taken out and set again goes last, so its members are looked at after those of an entry that was set in between.
+    Example {
+        name: "entry_set_again_goes_last",
+        natives: 1000000,
+        scripts: 1000000,
+        bytes: 4294967295,
+        input: b"native n0 2\nweakmap s0\nscript s1 0\nscript s2 1\nscript s3 0\nput s2 0 s3\nset n0 0 s1\nset n0 1 s2\nwset s0 s1 s1\nwset s0 s2 s2\nwset s0 s1 none\nwset s0 s1 s1\ndrop s1\ndrop s2\ndrop s3\nnative n1 1\nset n1 0 n1\ndrop n1\ngc\nslice 4\nexpose n0 1\nslice 2\nslice 1\n",
+        output: b"= #1\n= @1\n= @2\n= @3\n= @4\n= ok\n= ok\n= ok\n= ok\n= ok\n= ok\n= ok\n= ok\n= ok\n= ok\n= #2\n= ok\n= ok\n= ok\n= ok\n= @3\n= ok\n- unlink #2\n- free #2\n= ok\n",
+        status: Status::Done,
+    },
     // Collect ends the collection that runs and begins another, which takes what became garbage in between.
     Example {
         name: "collect_begins_one_of_its_own",
@@ -425,6 +495,16 @@ const EXAMPLES: [Example; 65] = [
         bytes: 4294967295,
         input: b"native n0 1\nset n0 0 n0\nslice 1\ndrop n0\ncollect\n",
         output: b"= #1\n= ok\n= ok\n= ok\n- unlink #1\n- free #1\n= ok\n",
+        status: Status::Done,
+    },
+    // The numbers of what a collect unlinks begin anew where it has ended the collection that ran, and runs one of its own.
+    Example {
+        name: "collect_ends_one_and_takes_more_in_its_own",
+        natives: 1000000,
+        scripts: 1000000,
+        bytes: 4294967295,
+        input: b"native n0 1\nset n0 0 n0\nnative n1 1\nset n1 0 n1\ndrop n1\nslice 1\ndrop n0\ncollect\n",
+        output: b"= #1\n= ok\n= #2\n= ok\n= ok\n= ok\n= ok\n- unlink #2\n- free #2\n- unlink #1\n- free #1\n= ok\n",
         status: Status::Done,
     },
     // A native that was touched while a collection ran waits for the next one.

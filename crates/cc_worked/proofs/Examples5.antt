@@ -31,6 +31,126 @@ pub empty_key_is_refused-audited : passes_audit default_limits ample input.empty
 unfolding all_of_a_run
 empty_key_is_refused-audited = refl
 
+-- Writing a slot of a weak map, or emptying it, is refused for the kind of the object, but first for an empty register.
+pub weak_map_has_no_slot_to_write : plain_text version_one_forms default_limits ample input.weak_map_has_no_slot_to_write
+    ≡ codes "= @1\n! kind\n! kind\n! empty\n! empty\n! kind\n"
+unfolding all_of_a_run
+weak_map_has_no_slot_to_write = refl
+
+weak_map_has_no_slot_to_write-passes : passes_verdict default_limits ample input.weak_map_has_no_slot_to_write ≡ true
+unfolding all_of_a_run
+weak_map_has_no_slot_to_write-passes = refl
+
+pub weak_map_has_no_slot_to_write-lawful : IsLawfulRun default_limits ample input.weak_map_has_no_slot_to_write
+weak_map_has_no_slot_to_write-lawful = run-lawful default_limits ample input.weak_map_has_no_slot_to_write weak_map_has_no_slot_to_write-passes
+
+pub weak_map_has_no_slot_to_write-quiet : IsQuietRun default_limits ample input.weak_map_has_no_slot_to_write
+weak_map_has_no_slot_to_write-quiet = run-quiet default_limits ample input.weak_map_has_no_slot_to_write weak_map_has_no_slot_to_write-passes
+
+pub weak_map_has_no_slot_to_write-audited : passes_audit default_limits ample input.weak_map_has_no_slot_to_write ≡ true
+unfolding all_of_a_run
+weak_map_has_no_slot_to_write-audited = refl
+
+-- A weak map that is the value of an entry of another one lives by it, and so do the values of its own entries.
+pub map_reached_through_an_entry_alone : plain_text version_one_forms default_limits ample input.map_reached_through_an_entry_alone
+    ≡ codes "= @1\n= @2\n= @3\n= @4\n= @5\n= ok\n= ok\n= ok\n= ok\n= ok\n= @2\n= @5\n= ok\n= ok\n= ok\n- free @2\n- free @5\n= ok\n+ @1\n+ @3\n+ @4\n= census 3\n"
+unfolding all_of_a_run
+map_reached_through_an_entry_alone = refl
+
+map_reached_through_an_entry_alone-passes : passes_verdict default_limits ample input.map_reached_through_an_entry_alone ≡ true
+unfolding all_of_a_run
+map_reached_through_an_entry_alone-passes = refl
+
+pub map_reached_through_an_entry_alone-lawful : IsLawfulRun default_limits ample input.map_reached_through_an_entry_alone
+map_reached_through_an_entry_alone-lawful = run-lawful default_limits ample input.map_reached_through_an_entry_alone map_reached_through_an_entry_alone-passes
+
+pub map_reached_through_an_entry_alone-quiet : IsQuietRun default_limits ample input.map_reached_through_an_entry_alone
+map_reached_through_an_entry_alone-quiet = run-quiet default_limits ample input.map_reached_through_an_entry_alone map_reached_through_an_entry_alone-passes
+
+pub map_reached_through_an_entry_alone-audited : passes_audit default_limits ample input.map_reached_through_an_entry_alone ≡ true
+unfolding all_of_a_run
+map_reached_through_an_entry_alone-audited = refl
+
+-- The entry of a map that is freed is dropped, while its key and its value live on.
+pub entry_goes_with_its_map : plain_text version_one_forms default_limits ample input.entry_goes_with_its_map
+    ≡ codes "= @1\n= @2\n= @3\n= ok\n= ok\n- free @1\n= ok\n= @4\n= none\n+ @2\n+ @3\n+ @4\n= census 3\n"
+unfolding all_of_a_run
+entry_goes_with_its_map = refl
+
+entry_goes_with_its_map-passes : passes_verdict default_limits ample input.entry_goes_with_its_map ≡ true
+unfolding all_of_a_run
+entry_goes_with_its_map-passes = refl
+
+pub entry_goes_with_its_map-lawful : IsLawfulRun default_limits ample input.entry_goes_with_its_map
+entry_goes_with_its_map-lawful = run-lawful default_limits ample input.entry_goes_with_its_map entry_goes_with_its_map-passes
+
+pub entry_goes_with_its_map-quiet : IsQuietRun default_limits ample input.entry_goes_with_its_map
+entry_goes_with_its_map-quiet = run-quiet default_limits ample input.entry_goes_with_its_map entry_goes_with_its_map-passes
+
+pub entry_goes_with_its_map-audited : passes_audit default_limits ample input.entry_goes_with_its_map ≡ true
+unfolding all_of_a_run
+entry_goes_with_its_map-audited = refl
+
+-- A weak map that is its own key keeps the value as long as it lives.
+pub map_is_its_own_key : plain_text version_one_forms default_limits ample input.map_is_its_own_key
+    ≡ codes "= @1\n= @2\n= ok\n= ok\n= ok\n= @2\n= ok\n= ok\n- free @1\n- free @2\n= ok\n"
+unfolding all_of_a_run
+map_is_its_own_key = refl
+
+map_is_its_own_key-passes : passes_verdict default_limits ample input.map_is_its_own_key ≡ true
+unfolding all_of_a_run
+map_is_its_own_key-passes = refl
+
+pub map_is_its_own_key-lawful : IsLawfulRun default_limits ample input.map_is_its_own_key
+map_is_its_own_key-lawful = run-lawful default_limits ample input.map_is_its_own_key map_is_its_own_key-passes
+
+pub map_is_its_own_key-quiet : IsQuietRun default_limits ample input.map_is_its_own_key
+map_is_its_own_key-quiet = run-quiet default_limits ample input.map_is_its_own_key map_is_its_own_key-passes
+
+pub map_is_its_own_key-audited : passes_audit default_limits ample input.map_is_its_own_key ≡ true
+unfolding all_of_a_run
+map_is_its_own_key-audited = refl
+
+-- The value of two entries lives by the one whose key lives, and goes when that key goes too.
+pub two_entries_have_one_value : plain_text version_one_forms default_limits ample input.two_entries_have_one_value
+    ≡ codes "= @1\n= @2\n= @3\n= @4\n= ok\n= ok\n= ok\n= ok\n- free @2\n= ok\n= @4\n= ok\n= ok\n- free @3\n- free @4\n= ok\n"
+unfolding all_of_a_run
+two_entries_have_one_value = refl
+
+two_entries_have_one_value-passes : passes_verdict default_limits ample input.two_entries_have_one_value ≡ true
+unfolding all_of_a_run
+two_entries_have_one_value-passes = refl
+
+pub two_entries_have_one_value-lawful : IsLawfulRun default_limits ample input.two_entries_have_one_value
+two_entries_have_one_value-lawful = run-lawful default_limits ample input.two_entries_have_one_value two_entries_have_one_value-passes
+
+pub two_entries_have_one_value-quiet : IsQuietRun default_limits ample input.two_entries_have_one_value
+two_entries_have_one_value-quiet = run-quiet default_limits ample input.two_entries_have_one_value two_entries_have_one_value-passes
+
+pub two_entries_have_one_value-audited : passes_audit default_limits ample input.two_entries_have_one_value ≡ true
+unfolding all_of_a_run
+two_entries_have_one_value-audited = refl
+
+-- An entry does not keep a value that is its own key.
+pub value_is_its_own_key : plain_text version_one_forms default_limits ample input.value_is_its_own_key
+    ≡ codes "= @1\n= @2\n= ok\n= ok\n= @2\n= ok\n= ok\n- free @2\n= ok\n+ @1\n= census 1\n"
+unfolding all_of_a_run
+value_is_its_own_key = refl
+
+value_is_its_own_key-passes : passes_verdict default_limits ample input.value_is_its_own_key ≡ true
+unfolding all_of_a_run
+value_is_its_own_key-passes = refl
+
+pub value_is_its_own_key-lawful : IsLawfulRun default_limits ample input.value_is_its_own_key
+value_is_its_own_key-lawful = run-lawful default_limits ample input.value_is_its_own_key value_is_its_own_key-passes
+
+pub value_is_its_own_key-quiet : IsQuietRun default_limits ample input.value_is_its_own_key
+value_is_its_own_key-quiet = run-quiet default_limits ample input.value_is_its_own_key value_is_its_own_key-passes
+
+pub value_is_its_own_key-audited : passes_audit default_limits ample input.value_is_its_own_key ≡ true
+unfolding all_of_a_run
+value_is_its_own_key-audited = refl
+
 -- A collection with two nodes takes a unit to begin, one for each node, and one to end.
 pub two_cycle_takes_four_units : plain_text version_one_forms default_limits ample input.two_cycle_takes_four_units
     ≡ codes "= #1\n= #2\n= ok\n= ok\n= ok\n= ok\n= ok\n= ok\n= ok\n- unlink #1\n- unlink #2\n- free #1\n- free #2\n= ok\n"
@@ -50,123 +170,3 @@ two_cycle_takes_four_units-quiet = run-quiet default_limits ample input.two_cycl
 pub two_cycle_takes_four_units-audited : passes_audit default_limits ample input.two_cycle_takes_four_units ≡ true
 unfolding all_of_a_run
 two_cycle_takes_four_units-audited = refl
-
--- A native that stands in the buffer without the purple mark is no node, so a collection that begins with it alone takes two units.
-pub only_purple_natives_are_candidates : plain_text version_one_forms default_limits ample input.only_purple_natives_are_candidates
-    ≡ codes "= #1\n= ok\n= #2\n= ok\n= ok\n- unlink #2\n- free #2\n= ok\n"
-unfolding all_of_a_run
-only_purple_natives_are_candidates = refl
-
-only_purple_natives_are_candidates-passes : passes_verdict default_limits ample input.only_purple_natives_are_candidates ≡ true
-unfolding all_of_a_run
-only_purple_natives_are_candidates-passes = refl
-
-pub only_purple_natives_are_candidates-lawful : IsLawfulRun default_limits ample input.only_purple_natives_are_candidates
-only_purple_natives_are_candidates-lawful = run-lawful default_limits ample input.only_purple_natives_are_candidates only_purple_natives_are_candidates-passes
-
-pub only_purple_natives_are_candidates-quiet : IsQuietRun default_limits ample input.only_purple_natives_are_candidates
-only_purple_natives_are_candidates-quiet = run-quiet default_limits ample input.only_purple_natives_are_candidates only_purple_natives_are_candidates-passes
-
-pub only_purple_natives_are_candidates-audited : passes_audit default_limits ample input.only_purple_natives_are_candidates ≡ true
-unfolding all_of_a_run
-only_purple_natives_are_candidates-audited = refl
-
--- A native that gets a reference is not purple any more, so a collection that begins with it alone takes two units.
-pub added_reference_ends_purple : plain_text version_one_forms default_limits ample input.added_reference_ends_purple
-    ≡ codes "= #1\n= #1\n= ok\n= #1\n= ok\n= #2\n= ok\n= ok\n- unlink #2\n- free #2\n= ok\n"
-unfolding all_of_a_run
-added_reference_ends_purple = refl
-
-added_reference_ends_purple-passes : passes_verdict default_limits ample input.added_reference_ends_purple ≡ true
-unfolding all_of_a_run
-added_reference_ends_purple-passes = refl
-
-pub added_reference_ends_purple-lawful : IsLawfulRun default_limits ample input.added_reference_ends_purple
-added_reference_ends_purple-lawful = run-lawful default_limits ample input.added_reference_ends_purple added_reference_ends_purple-passes
-
-pub added_reference_ends_purple-quiet : IsQuietRun default_limits ample input.added_reference_ends_purple
-added_reference_ends_purple-quiet = run-quiet default_limits ample input.added_reference_ends_purple added_reference_ends_purple-passes
-
-pub added_reference_ends_purple-audited : passes_audit default_limits ample input.added_reference_ends_purple ≡ true
-unfolding all_of_a_run
-added_reference_ends_purple-audited = refl
-
--- A purple native that is freed leaves the buffer, so a collection that begins then takes two units.
-pub freed_native_leaves_the_buffer : plain_text version_one_forms default_limits ample input.freed_native_leaves_the_buffer
-    ≡ codes "= #1\n= #1\n= ok\n- free #1\n= ok\n= ok\n= #2\n= ok\n= ok\n- unlink #2\n- free #2\n= ok\n"
-unfolding all_of_a_run
-freed_native_leaves_the_buffer = refl
-
-freed_native_leaves_the_buffer-passes : passes_verdict default_limits ample input.freed_native_leaves_the_buffer ≡ true
-unfolding all_of_a_run
-freed_native_leaves_the_buffer-passes = refl
-
-pub freed_native_leaves_the_buffer-lawful : IsLawfulRun default_limits ample input.freed_native_leaves_the_buffer
-freed_native_leaves_the_buffer-lawful = run-lawful default_limits ample input.freed_native_leaves_the_buffer freed_native_leaves_the_buffer-passes
-
-pub freed_native_leaves_the_buffer-quiet : IsQuietRun default_limits ample input.freed_native_leaves_the_buffer
-freed_native_leaves_the_buffer-quiet = run-quiet default_limits ample input.freed_native_leaves_the_buffer freed_native_leaves_the_buffer-passes
-
-pub freed_native_leaves_the_buffer-audited : passes_audit default_limits ample input.freed_native_leaves_the_buffer ≡ true
-unfolding all_of_a_run
-freed_native_leaves_the_buffer-audited = refl
-
--- A black script object that a native holds is no node, so a collection with that native alone takes three units.
-pub black_objects_are_not_looked_at : plain_text version_one_forms default_limits ample input.black_objects_are_not_looked_at
-    ≡ codes "= #1\n= @1\n= ok\n= #1\n= ok\n= ok\n= #2\n= ok\n= ok\n- unlink #2\n- free #2\n= ok\n"
-unfolding all_of_a_run
-black_objects_are_not_looked_at = refl
-
-black_objects_are_not_looked_at-passes : passes_verdict default_limits ample input.black_objects_are_not_looked_at ≡ true
-unfolding all_of_a_run
-black_objects_are_not_looked_at-passes = refl
-
-pub black_objects_are_not_looked_at-lawful : IsLawfulRun default_limits ample input.black_objects_are_not_looked_at
-black_objects_are_not_looked_at-lawful = run-lawful default_limits ample input.black_objects_are_not_looked_at black_objects_are_not_looked_at-passes
-
-pub black_objects_are_not_looked_at-quiet : IsQuietRun default_limits ample input.black_objects_are_not_looked_at
-black_objects_are_not_looked_at-quiet = run-quiet default_limits ample input.black_objects_are_not_looked_at black_objects_are_not_looked_at-passes
-
-pub black_objects_are_not_looked_at-audited : passes_audit default_limits ample input.black_objects_are_not_looked_at ≡ true
-unfolding all_of_a_run
-black_objects_are_not_looked_at-audited = refl
-
--- A native that becomes purple once more keeps its place in the buffer, so it is looked at before those that became purple in between.
-pub marked_again_keeps_its_place_in_the_buffer : plain_text version_one_forms default_limits ample input.marked_again_keeps_its_place_in_the_buffer
-    ≡ codes "= #1\n= ok\n= #1\n= ok\n= #2\n= #3\n= ok\n= #2\n= ok\n= ok\n= ok\n= ok\n- unlink #1\n- free #1\n= ok\n"
-unfolding all_of_a_run
-marked_again_keeps_its_place_in_the_buffer = refl
-
-marked_again_keeps_its_place_in_the_buffer-passes : passes_verdict default_limits ample input.marked_again_keeps_its_place_in_the_buffer ≡ true
-unfolding all_of_a_run
-marked_again_keeps_its_place_in_the_buffer-passes = refl
-
-pub marked_again_keeps_its_place_in_the_buffer-lawful : IsLawfulRun default_limits ample input.marked_again_keeps_its_place_in_the_buffer
-marked_again_keeps_its_place_in_the_buffer-lawful = run-lawful default_limits ample input.marked_again_keeps_its_place_in_the_buffer marked_again_keeps_its_place_in_the_buffer-passes
-
-pub marked_again_keeps_its_place_in_the_buffer-quiet : IsQuietRun default_limits ample input.marked_again_keeps_its_place_in_the_buffer
-marked_again_keeps_its_place_in_the_buffer-quiet = run-quiet default_limits ample input.marked_again_keeps_its_place_in_the_buffer marked_again_keeps_its_place_in_the_buffer-passes
-
-pub marked_again_keeps_its_place_in_the_buffer-audited : passes_audit default_limits ample input.marked_again_keeps_its_place_in_the_buffer ≡ true
-unfolding all_of_a_run
-marked_again_keeps_its_place_in_the_buffer-audited = refl
-
--- Candidates are looked at before the natives that hold gray objects, of which one is freed meanwhile.
-pub candidates_come_before_holders : plain_text version_one_forms default_limits ample input.candidates_come_before_holders
-    ≡ codes "= #1\n= ok\n= #2\n= @1\n= ok\n= ok\n= ok\n= ok\n= ok\n- free #2\n= ok\n- unlink #1\n- free #1\n= ok\n"
-unfolding all_of_a_run
-candidates_come_before_holders = refl
-
-candidates_come_before_holders-passes : passes_verdict default_limits ample input.candidates_come_before_holders ≡ true
-unfolding all_of_a_run
-candidates_come_before_holders-passes = refl
-
-pub candidates_come_before_holders-lawful : IsLawfulRun default_limits ample input.candidates_come_before_holders
-candidates_come_before_holders-lawful = run-lawful default_limits ample input.candidates_come_before_holders candidates_come_before_holders-passes
-
-pub candidates_come_before_holders-quiet : IsQuietRun default_limits ample input.candidates_come_before_holders
-candidates_come_before_holders-quiet = run-quiet default_limits ample input.candidates_come_before_holders candidates_come_before_holders-passes
-
-pub candidates_come_before_holders-audited : passes_audit default_limits ample input.candidates_come_before_holders ≡ true
-unfolding all_of_a_run
-candidates_come_before_holders-audited = refl

@@ -11,6 +11,126 @@ use Rattle.cc_worked.proofs.Opened.{all_of_a_run}
 use Rattle.cc_worked.proofs.LawfulTest.{run-lawful}
 use Rattle.cc_worked.proofs.QuietTest.{run-quiet}
 
+-- A native that stands in the buffer without the purple mark is no node, so a collection that begins with it alone takes two units.
+pub only_purple_natives_are_candidates : plain_text version_one_forms default_limits ample input.only_purple_natives_are_candidates
+    ≡ codes "= #1\n= ok\n= #2\n= ok\n= ok\n- unlink #2\n- free #2\n= ok\n"
+unfolding all_of_a_run
+only_purple_natives_are_candidates = refl
+
+only_purple_natives_are_candidates-passes : passes_verdict default_limits ample input.only_purple_natives_are_candidates ≡ true
+unfolding all_of_a_run
+only_purple_natives_are_candidates-passes = refl
+
+pub only_purple_natives_are_candidates-lawful : IsLawfulRun default_limits ample input.only_purple_natives_are_candidates
+only_purple_natives_are_candidates-lawful = run-lawful default_limits ample input.only_purple_natives_are_candidates only_purple_natives_are_candidates-passes
+
+pub only_purple_natives_are_candidates-quiet : IsQuietRun default_limits ample input.only_purple_natives_are_candidates
+only_purple_natives_are_candidates-quiet = run-quiet default_limits ample input.only_purple_natives_are_candidates only_purple_natives_are_candidates-passes
+
+pub only_purple_natives_are_candidates-audited : passes_audit default_limits ample input.only_purple_natives_are_candidates ≡ true
+unfolding all_of_a_run
+only_purple_natives_are_candidates-audited = refl
+
+-- A native that gets a reference is not purple any more, so a collection that begins with it alone takes two units.
+pub added_reference_ends_purple : plain_text version_one_forms default_limits ample input.added_reference_ends_purple
+    ≡ codes "= #1\n= #1\n= ok\n= #1\n= ok\n= #2\n= ok\n= ok\n- unlink #2\n- free #2\n= ok\n"
+unfolding all_of_a_run
+added_reference_ends_purple = refl
+
+added_reference_ends_purple-passes : passes_verdict default_limits ample input.added_reference_ends_purple ≡ true
+unfolding all_of_a_run
+added_reference_ends_purple-passes = refl
+
+pub added_reference_ends_purple-lawful : IsLawfulRun default_limits ample input.added_reference_ends_purple
+added_reference_ends_purple-lawful = run-lawful default_limits ample input.added_reference_ends_purple added_reference_ends_purple-passes
+
+pub added_reference_ends_purple-quiet : IsQuietRun default_limits ample input.added_reference_ends_purple
+added_reference_ends_purple-quiet = run-quiet default_limits ample input.added_reference_ends_purple added_reference_ends_purple-passes
+
+pub added_reference_ends_purple-audited : passes_audit default_limits ample input.added_reference_ends_purple ≡ true
+unfolding all_of_a_run
+added_reference_ends_purple-audited = refl
+
+-- A purple native that is freed leaves the buffer, so a collection that begins then takes two units.
+pub freed_native_leaves_the_buffer : plain_text version_one_forms default_limits ample input.freed_native_leaves_the_buffer
+    ≡ codes "= #1\n= #1\n= ok\n- free #1\n= ok\n= ok\n= #2\n= ok\n= ok\n- unlink #2\n- free #2\n= ok\n"
+unfolding all_of_a_run
+freed_native_leaves_the_buffer = refl
+
+freed_native_leaves_the_buffer-passes : passes_verdict default_limits ample input.freed_native_leaves_the_buffer ≡ true
+unfolding all_of_a_run
+freed_native_leaves_the_buffer-passes = refl
+
+pub freed_native_leaves_the_buffer-lawful : IsLawfulRun default_limits ample input.freed_native_leaves_the_buffer
+freed_native_leaves_the_buffer-lawful = run-lawful default_limits ample input.freed_native_leaves_the_buffer freed_native_leaves_the_buffer-passes
+
+pub freed_native_leaves_the_buffer-quiet : IsQuietRun default_limits ample input.freed_native_leaves_the_buffer
+freed_native_leaves_the_buffer-quiet = run-quiet default_limits ample input.freed_native_leaves_the_buffer freed_native_leaves_the_buffer-passes
+
+pub freed_native_leaves_the_buffer-audited : passes_audit default_limits ample input.freed_native_leaves_the_buffer ≡ true
+unfolding all_of_a_run
+freed_native_leaves_the_buffer-audited = refl
+
+-- A black script object that a native holds is no node, so a collection with that native alone takes three units.
+pub black_objects_are_not_looked_at : plain_text version_one_forms default_limits ample input.black_objects_are_not_looked_at
+    ≡ codes "= #1\n= @1\n= ok\n= #1\n= ok\n= ok\n= #2\n= ok\n= ok\n- unlink #2\n- free #2\n= ok\n"
+unfolding all_of_a_run
+black_objects_are_not_looked_at = refl
+
+black_objects_are_not_looked_at-passes : passes_verdict default_limits ample input.black_objects_are_not_looked_at ≡ true
+unfolding all_of_a_run
+black_objects_are_not_looked_at-passes = refl
+
+pub black_objects_are_not_looked_at-lawful : IsLawfulRun default_limits ample input.black_objects_are_not_looked_at
+black_objects_are_not_looked_at-lawful = run-lawful default_limits ample input.black_objects_are_not_looked_at black_objects_are_not_looked_at-passes
+
+pub black_objects_are_not_looked_at-quiet : IsQuietRun default_limits ample input.black_objects_are_not_looked_at
+black_objects_are_not_looked_at-quiet = run-quiet default_limits ample input.black_objects_are_not_looked_at black_objects_are_not_looked_at-passes
+
+pub black_objects_are_not_looked_at-audited : passes_audit default_limits ample input.black_objects_are_not_looked_at ≡ true
+unfolding all_of_a_run
+black_objects_are_not_looked_at-audited = refl
+
+-- A native that becomes purple once more keeps its place in the buffer, so it is looked at before those that became purple in between.
+pub marked_again_keeps_its_place_in_the_buffer : plain_text version_one_forms default_limits ample input.marked_again_keeps_its_place_in_the_buffer
+    ≡ codes "= #1\n= ok\n= #1\n= ok\n= #2\n= #3\n= ok\n= #2\n= ok\n= ok\n= ok\n= ok\n- unlink #1\n- free #1\n= ok\n"
+unfolding all_of_a_run
+marked_again_keeps_its_place_in_the_buffer = refl
+
+marked_again_keeps_its_place_in_the_buffer-passes : passes_verdict default_limits ample input.marked_again_keeps_its_place_in_the_buffer ≡ true
+unfolding all_of_a_run
+marked_again_keeps_its_place_in_the_buffer-passes = refl
+
+pub marked_again_keeps_its_place_in_the_buffer-lawful : IsLawfulRun default_limits ample input.marked_again_keeps_its_place_in_the_buffer
+marked_again_keeps_its_place_in_the_buffer-lawful = run-lawful default_limits ample input.marked_again_keeps_its_place_in_the_buffer marked_again_keeps_its_place_in_the_buffer-passes
+
+pub marked_again_keeps_its_place_in_the_buffer-quiet : IsQuietRun default_limits ample input.marked_again_keeps_its_place_in_the_buffer
+marked_again_keeps_its_place_in_the_buffer-quiet = run-quiet default_limits ample input.marked_again_keeps_its_place_in_the_buffer marked_again_keeps_its_place_in_the_buffer-passes
+
+pub marked_again_keeps_its_place_in_the_buffer-audited : passes_audit default_limits ample input.marked_again_keeps_its_place_in_the_buffer ≡ true
+unfolding all_of_a_run
+marked_again_keeps_its_place_in_the_buffer-audited = refl
+
+-- Candidates are looked at before the natives that hold gray objects, of which one is freed meanwhile.
+pub candidates_come_before_holders : plain_text version_one_forms default_limits ample input.candidates_come_before_holders
+    ≡ codes "= #1\n= ok\n= #2\n= @1\n= ok\n= ok\n= ok\n= ok\n= ok\n- free #2\n= ok\n- unlink #1\n- free #1\n= ok\n"
+unfolding all_of_a_run
+candidates_come_before_holders = refl
+
+candidates_come_before_holders-passes : passes_verdict default_limits ample input.candidates_come_before_holders ≡ true
+unfolding all_of_a_run
+candidates_come_before_holders-passes = refl
+
+pub candidates_come_before_holders-lawful : IsLawfulRun default_limits ample input.candidates_come_before_holders
+candidates_come_before_holders-lawful = run-lawful default_limits ample input.candidates_come_before_holders candidates_come_before_holders-passes
+
+pub candidates_come_before_holders-quiet : IsQuietRun default_limits ample input.candidates_come_before_holders
+candidates_come_before_holders-quiet = run-quiet default_limits ample input.candidates_come_before_holders candidates_come_before_holders-passes
+
+pub candidates_come_before_holders-audited : passes_audit default_limits ample input.candidates_come_before_holders ≡ true
+unfolding all_of_a_run
+candidates_come_before_holders-audited = refl
+
 -- An entry whose value was replaced keeps its place, so its members are looked at before those of an entry that was set in between.
 pub replaced_entry_keeps_its_place : plain_text version_one_forms default_limits ample input.replaced_entry_keeps_its_place
     ≡ codes "= #1\n= @1\n= @2\n= @3\n= @4\n= ok\n= ok\n= ok\n= ok\n= ok\n= ok\n= ok\n= ok\n= ok\n= #2\n= ok\n= ok\n= ok\n= ok\n= @3\n- unlink #2\n- free #2\n= ok\n"
@@ -31,142 +151,22 @@ pub replaced_entry_keeps_its_place-audited : passes_audit default_limits ample i
 unfolding all_of_a_run
 replaced_entry_keeps_its_place-audited = refl
 
--- Collect ends the collection that runs and begins another, which takes what became garbage in between.
-pub collect_begins_one_of_its_own : plain_text version_one_forms default_limits ample input.collect_begins_one_of_its_own
-    ≡ codes "= #1\n= ok\n= ok\n= ok\n- unlink #1\n- free #1\n= ok\n"
+-- An entry that was taken out and set again goes last, so its members are looked at after those of an entry that was set in between.
+pub entry_set_again_goes_last : plain_text version_one_forms default_limits ample input.entry_set_again_goes_last
+    ≡ codes "= #1\n= @1\n= @2\n= @3\n= @4\n= ok\n= ok\n= ok\n= ok\n= ok\n= ok\n= ok\n= ok\n= ok\n= ok\n= #2\n= ok\n= ok\n= ok\n= ok\n= @3\n= ok\n- unlink #2\n- free #2\n= ok\n"
 unfolding all_of_a_run
-collect_begins_one_of_its_own = refl
+entry_set_again_goes_last = refl
 
-collect_begins_one_of_its_own-passes : passes_verdict default_limits ample input.collect_begins_one_of_its_own ≡ true
+entry_set_again_goes_last-passes : passes_verdict default_limits ample input.entry_set_again_goes_last ≡ true
 unfolding all_of_a_run
-collect_begins_one_of_its_own-passes = refl
+entry_set_again_goes_last-passes = refl
 
-pub collect_begins_one_of_its_own-lawful : IsLawfulRun default_limits ample input.collect_begins_one_of_its_own
-collect_begins_one_of_its_own-lawful = run-lawful default_limits ample input.collect_begins_one_of_its_own collect_begins_one_of_its_own-passes
+pub entry_set_again_goes_last-lawful : IsLawfulRun default_limits ample input.entry_set_again_goes_last
+entry_set_again_goes_last-lawful = run-lawful default_limits ample input.entry_set_again_goes_last entry_set_again_goes_last-passes
 
-pub collect_begins_one_of_its_own-quiet : IsQuietRun default_limits ample input.collect_begins_one_of_its_own
-collect_begins_one_of_its_own-quiet = run-quiet default_limits ample input.collect_begins_one_of_its_own collect_begins_one_of_its_own-passes
+pub entry_set_again_goes_last-quiet : IsQuietRun default_limits ample input.entry_set_again_goes_last
+entry_set_again_goes_last-quiet = run-quiet default_limits ample input.entry_set_again_goes_last entry_set_again_goes_last-passes
 
-pub collect_begins_one_of_its_own-audited : passes_audit default_limits ample input.collect_begins_one_of_its_own ≡ true
+pub entry_set_again_goes_last-audited : passes_audit default_limits ample input.entry_set_again_goes_last ≡ true
 unfolding all_of_a_run
-collect_begins_one_of_its_own-audited = refl
-
--- A native that was touched while a collection ran waits for the next one.
-pub touched_between_slices : plain_text version_one_forms default_limits ample input.touched_between_slices
-    ≡ codes "= #1\n= ok\n= #1\n= ok\n= ok\n= #1\n= ok\n= ok\n= ok\n- unlink #1\n- free #1\n= ok\n"
-unfolding all_of_a_run
-touched_between_slices = refl
-
-touched_between_slices-passes : passes_verdict default_limits ample input.touched_between_slices ≡ true
-unfolding all_of_a_run
-touched_between_slices-passes = refl
-
-pub touched_between_slices-lawful : IsLawfulRun default_limits ample input.touched_between_slices
-touched_between_slices-lawful = run-lawful default_limits ample input.touched_between_slices touched_between_slices-passes
-
-pub touched_between_slices-quiet : IsQuietRun default_limits ample input.touched_between_slices
-touched_between_slices-quiet = run-quiet default_limits ample input.touched_between_slices touched_between_slices-passes
-
-pub touched_between_slices-audited : passes_audit default_limits ample input.touched_between_slices ≡ true
-unfolding all_of_a_run
-touched_between_slices-audited = refl
-
--- What script read from a native while a collection ran keeps what it holds.
-pub read_between_slices : plain_text version_one_forms default_limits ample input.read_between_slices
-    ≡ codes "= #1\n= @1\n= @2\n= ok\n= ok\n= ok\n= ok\n= ok\n= ok\n= @1\n= ok\n= ok\n= @2\n"
-unfolding all_of_a_run
-read_between_slices = refl
-
-read_between_slices-passes : passes_verdict default_limits ample input.read_between_slices ≡ true
-unfolding all_of_a_run
-read_between_slices-passes = refl
-
-pub read_between_slices-lawful : IsLawfulRun default_limits ample input.read_between_slices
-read_between_slices-lawful = run-lawful default_limits ample input.read_between_slices read_between_slices-passes
-
-pub read_between_slices-quiet : IsQuietRun default_limits ample input.read_between_slices
-read_between_slices-quiet = run-quiet default_limits ample input.read_between_slices read_between_slices-passes
-
-pub read_between_slices-audited : passes_audit default_limits ample input.read_between_slices ≡ true
-unfolding all_of_a_run
-read_between_slices-audited = refl
-
--- A native lives by its reflector, which script touched while the collection ran.
-pub native_lives_by_an_exposed_reflector : plain_text version_one_forms default_limits ample input.native_lives_by_an_exposed_reflector
-    ≡ codes "= #1\n= #2\n= #3\n= ~2\n= ok\n= ok\n= ok\n= ok\n= ok\n= ok\n= ok\n= ok\n= ~2\n= ok\n- unlink #3\n- free #3\n= ok\n= #2\n"
-unfolding all_of_a_run
-native_lives_by_an_exposed_reflector = refl
-
-native_lives_by_an_exposed_reflector-passes : passes_verdict default_limits ample input.native_lives_by_an_exposed_reflector ≡ true
-unfolding all_of_a_run
-native_lives_by_an_exposed_reflector-passes = refl
-
-pub native_lives_by_an_exposed_reflector-lawful : IsLawfulRun default_limits ample input.native_lives_by_an_exposed_reflector
-native_lives_by_an_exposed_reflector-lawful = run-lawful default_limits ample input.native_lives_by_an_exposed_reflector native_lives_by_an_exposed_reflector-passes
-
-pub native_lives_by_an_exposed_reflector-quiet : IsQuietRun default_limits ample input.native_lives_by_an_exposed_reflector
-native_lives_by_an_exposed_reflector-quiet = run-quiet default_limits ample input.native_lives_by_an_exposed_reflector native_lives_by_an_exposed_reflector-passes
-
-pub native_lives_by_an_exposed_reflector-audited : passes_audit default_limits ample input.native_lives_by_an_exposed_reflector ≡ true
-unfolding all_of_a_run
-native_lives_by_an_exposed_reflector-audited = refl
-
--- A native that gets a reference after it was sampled is touched, so it is not looked at with an old count.
-pub copied_after_its_node_was_traversed : plain_text version_one_forms default_limits ample input.copied_after_its_node_was_traversed
-    ≡ codes "= #1\n= ok\n= #1\n= ok\n= ok\n= #1\n= ok\n= ok\n= ok\n- unlink #1\n- free #1\n= ok\n"
-unfolding all_of_a_run
-copied_after_its_node_was_traversed = refl
-
-copied_after_its_node_was_traversed-passes : passes_verdict default_limits ample input.copied_after_its_node_was_traversed ≡ true
-unfolding all_of_a_run
-copied_after_its_node_was_traversed-passes = refl
-
-pub copied_after_its_node_was_traversed-lawful : IsLawfulRun default_limits ample input.copied_after_its_node_was_traversed
-copied_after_its_node_was_traversed-lawful = run-lawful default_limits ample input.copied_after_its_node_was_traversed copied_after_its_node_was_traversed-passes
-
-pub copied_after_its_node_was_traversed-quiet : IsQuietRun default_limits ample input.copied_after_its_node_was_traversed
-copied_after_its_node_was_traversed-quiet = run-quiet default_limits ample input.copied_after_its_node_was_traversed copied_after_its_node_was_traversed-passes
-
-pub copied_after_its_node_was_traversed-audited : passes_audit default_limits ample input.copied_after_its_node_was_traversed ≡ true
-unfolding all_of_a_run
-copied_after_its_node_was_traversed-audited = refl
-
--- Unlinking one white native may free the one that comes next in the walk.
-pub native_vanishes_inside_an_unlink : plain_text version_one_forms default_limits ample input.native_vanishes_inside_an_unlink
-    ≡ codes "= #1\n= #2\n= ok\n= ok\n= ok\n= ok\n= ok\n- unlink #1\n- free #2\n- free #1\n= ok\n"
-unfolding all_of_a_run
-native_vanishes_inside_an_unlink = refl
-
-native_vanishes_inside_an_unlink-passes : passes_verdict default_limits ample input.native_vanishes_inside_an_unlink ≡ true
-unfolding all_of_a_run
-native_vanishes_inside_an_unlink-passes = refl
-
-pub native_vanishes_inside_an_unlink-lawful : IsLawfulRun default_limits ample input.native_vanishes_inside_an_unlink
-native_vanishes_inside_an_unlink-lawful = run-lawful default_limits ample input.native_vanishes_inside_an_unlink native_vanishes_inside_an_unlink-passes
-
-pub native_vanishes_inside_an_unlink-quiet : IsQuietRun default_limits ample input.native_vanishes_inside_an_unlink
-native_vanishes_inside_an_unlink-quiet = run-quiet default_limits ample input.native_vanishes_inside_an_unlink native_vanishes_inside_an_unlink-passes
-
-pub native_vanishes_inside_an_unlink-audited : passes_audit default_limits ample input.native_vanishes_inside_an_unlink ≡ true
-unfolding all_of_a_run
-native_vanishes_inside_an_unlink-audited = refl
-
--- A native made while a collection runs is kept, and the cycle that the collection began with is taken.
-pub native_made_between_slices : plain_text version_one_forms default_limits ample input.native_made_between_slices
-    ≡ codes "= #1\n= ~1\n= ok\n= ok\n= ok\n= ok\n= ok\n= #2\n- unlink #1\n= ok\n- free ~1\n- free #1\n= ok\n+ #2\n= census 1\n"
-unfolding all_of_a_run
-native_made_between_slices = refl
-
-native_made_between_slices-passes : passes_verdict default_limits ample input.native_made_between_slices ≡ true
-unfolding all_of_a_run
-native_made_between_slices-passes = refl
-
-pub native_made_between_slices-lawful : IsLawfulRun default_limits ample input.native_made_between_slices
-native_made_between_slices-lawful = run-lawful default_limits ample input.native_made_between_slices native_made_between_slices-passes
-
-pub native_made_between_slices-quiet : IsQuietRun default_limits ample input.native_made_between_slices
-native_made_between_slices-quiet = run-quiet default_limits ample input.native_made_between_slices native_made_between_slices-passes
-
-pub native_made_between_slices-audited : passes_audit default_limits ample input.native_made_between_slices ≡ true
-unfolding all_of_a_run
-native_made_between_slices-audited = refl
+entry_set_again_goes_last-audited = refl

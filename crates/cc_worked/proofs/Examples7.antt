@@ -3,7 +3,7 @@
 use Rattle.std.specs.Prelude.{◌≡◌, true, codes, refl}
 use Rattle.cc_model.specs.Forms.{version_one_forms}
 use Rattle.cc_model.specs.Run.{plain_text}
-use Rattle.cc_worked.specs.Examples.{default_limits, ample, refused_at, IsLawfulRun, IsQuietRun}
+use Rattle.cc_worked.specs.Examples.{default_limits, ample, IsLawfulRun, IsQuietRun}
 use Rattle.cc_worked.specs.Inputs as input
 use Rattle.cc_worked.specs.Verdict.{passes_verdict}
 use Rattle.cc_worked.specs.Audit.{passes_audit}
@@ -11,162 +11,162 @@ use Rattle.cc_worked.proofs.Opened.{all_of_a_run}
 use Rattle.cc_worked.proofs.LawfulTest.{run-lawful}
 use Rattle.cc_worked.proofs.QuietTest.{run-quiet}
 
--- Gc brings a collection that runs to its end before it marks.
-pub gc_ends_a_running_collection : plain_text version_one_forms default_limits ample input.gc_ends_a_running_collection
+-- Collect ends the collection that runs and begins another, which takes what became garbage in between.
+pub collect_begins_one_of_its_own : plain_text version_one_forms default_limits ample input.collect_begins_one_of_its_own
     ≡ codes "= #1\n= ok\n= ok\n= ok\n- unlink #1\n- free #1\n= ok\n"
 unfolding all_of_a_run
-gc_ends_a_running_collection = refl
+collect_begins_one_of_its_own = refl
 
-gc_ends_a_running_collection-passes : passes_verdict default_limits ample input.gc_ends_a_running_collection ≡ true
+collect_begins_one_of_its_own-passes : passes_verdict default_limits ample input.collect_begins_one_of_its_own ≡ true
 unfolding all_of_a_run
-gc_ends_a_running_collection-passes = refl
+collect_begins_one_of_its_own-passes = refl
 
-pub gc_ends_a_running_collection-lawful : IsLawfulRun default_limits ample input.gc_ends_a_running_collection
-gc_ends_a_running_collection-lawful = run-lawful default_limits ample input.gc_ends_a_running_collection gc_ends_a_running_collection-passes
+pub collect_begins_one_of_its_own-lawful : IsLawfulRun default_limits ample input.collect_begins_one_of_its_own
+collect_begins_one_of_its_own-lawful = run-lawful default_limits ample input.collect_begins_one_of_its_own collect_begins_one_of_its_own-passes
 
-pub gc_ends_a_running_collection-quiet : IsQuietRun default_limits ample input.gc_ends_a_running_collection
-gc_ends_a_running_collection-quiet = run-quiet default_limits ample input.gc_ends_a_running_collection gc_ends_a_running_collection-passes
+pub collect_begins_one_of_its_own-quiet : IsQuietRun default_limits ample input.collect_begins_one_of_its_own
+collect_begins_one_of_its_own-quiet = run-quiet default_limits ample input.collect_begins_one_of_its_own collect_begins_one_of_its_own-passes
 
-pub gc_ends_a_running_collection-audited : passes_audit default_limits ample input.gc_ends_a_running_collection ≡ true
+pub collect_begins_one_of_its_own-audited : passes_audit default_limits ample input.collect_begins_one_of_its_own ≡ true
 unfolding all_of_a_run
-gc_ends_a_running_collection-audited = refl
+collect_begins_one_of_its_own-audited = refl
 
--- A collection whose begin is refused memory is abandoned, and nothing is forgotten.
-pub collect_refused_at_its_begin : plain_text version_one_forms default_limits (refused_at 2) input.collect_refused_at_its_begin
-    ≡ codes "= #1\n= ok\n= ok\n- abandon\n! nomem\n= ok\n- unlink #1\n- free #1\n= ok\n= ok\n= census 0\n"
+-- The numbers of what a collect unlinks begin anew where it has ended the collection that ran, and runs one of its own.
+pub collect_ends_one_and_takes_more_in_its_own : plain_text version_one_forms default_limits ample input.collect_ends_one_and_takes_more_in_its_own
+    ≡ codes "= #1\n= ok\n= #2\n= ok\n= ok\n= ok\n= ok\n- unlink #2\n- free #2\n- unlink #1\n- free #1\n= ok\n"
 unfolding all_of_a_run
-collect_refused_at_its_begin = refl
+collect_ends_one_and_takes_more_in_its_own = refl
 
-collect_refused_at_its_begin-passes : passes_verdict default_limits (refused_at 2) input.collect_refused_at_its_begin ≡ true
+collect_ends_one_and_takes_more_in_its_own-passes : passes_verdict default_limits ample input.collect_ends_one_and_takes_more_in_its_own ≡ true
 unfolding all_of_a_run
-collect_refused_at_its_begin-passes = refl
+collect_ends_one_and_takes_more_in_its_own-passes = refl
 
-pub collect_refused_at_its_begin-lawful : IsLawfulRun default_limits (refused_at 2) input.collect_refused_at_its_begin
-collect_refused_at_its_begin-lawful = run-lawful default_limits (refused_at 2) input.collect_refused_at_its_begin collect_refused_at_its_begin-passes
+pub collect_ends_one_and_takes_more_in_its_own-lawful : IsLawfulRun default_limits ample input.collect_ends_one_and_takes_more_in_its_own
+collect_ends_one_and_takes_more_in_its_own-lawful = run-lawful default_limits ample input.collect_ends_one_and_takes_more_in_its_own collect_ends_one_and_takes_more_in_its_own-passes
 
-pub collect_refused_at_its_begin-quiet : IsQuietRun default_limits (refused_at 2) input.collect_refused_at_its_begin
-collect_refused_at_its_begin-quiet = run-quiet default_limits (refused_at 2) input.collect_refused_at_its_begin collect_refused_at_its_begin-passes
+pub collect_ends_one_and_takes_more_in_its_own-quiet : IsQuietRun default_limits ample input.collect_ends_one_and_takes_more_in_its_own
+collect_ends_one_and_takes_more_in_its_own-quiet = run-quiet default_limits ample input.collect_ends_one_and_takes_more_in_its_own collect_ends_one_and_takes_more_in_its_own-passes
 
-pub collect_refused_at_its_begin-audited : passes_audit default_limits (refused_at 2) input.collect_refused_at_its_begin ≡ true
+pub collect_ends_one_and_takes_more_in_its_own-audited : passes_audit default_limits ample input.collect_ends_one_and_takes_more_in_its_own ≡ true
 unfolding all_of_a_run
-collect_refused_at_its_begin-audited = refl
+collect_ends_one_and_takes_more_in_its_own-audited = refl
 
--- A collection whose first node is refused memory is abandoned, and its candidate comes back.
-pub collect_refused_at_a_node : plain_text version_one_forms default_limits (refused_at 3) input.collect_refused_at_a_node
-    ≡ codes "= #1\n= ok\n= ok\n- abandon\n! nomem\n= ok\n- unlink #1\n- free #1\n= ok\n= ok\n= census 0\n"
+-- A native that was touched while a collection ran waits for the next one.
+pub touched_between_slices : plain_text version_one_forms default_limits ample input.touched_between_slices
+    ≡ codes "= #1\n= ok\n= #1\n= ok\n= ok\n= #1\n= ok\n= ok\n= ok\n- unlink #1\n- free #1\n= ok\n"
 unfolding all_of_a_run
-collect_refused_at_a_node = refl
+touched_between_slices = refl
 
-collect_refused_at_a_node-passes : passes_verdict default_limits (refused_at 3) input.collect_refused_at_a_node ≡ true
+touched_between_slices-passes : passes_verdict default_limits ample input.touched_between_slices ≡ true
 unfolding all_of_a_run
-collect_refused_at_a_node-passes = refl
+touched_between_slices-passes = refl
 
-pub collect_refused_at_a_node-lawful : IsLawfulRun default_limits (refused_at 3) input.collect_refused_at_a_node
-collect_refused_at_a_node-lawful = run-lawful default_limits (refused_at 3) input.collect_refused_at_a_node collect_refused_at_a_node-passes
+pub touched_between_slices-lawful : IsLawfulRun default_limits ample input.touched_between_slices
+touched_between_slices-lawful = run-lawful default_limits ample input.touched_between_slices touched_between_slices-passes
 
-pub collect_refused_at_a_node-quiet : IsQuietRun default_limits (refused_at 3) input.collect_refused_at_a_node
-collect_refused_at_a_node-quiet = run-quiet default_limits (refused_at 3) input.collect_refused_at_a_node collect_refused_at_a_node-passes
+pub touched_between_slices-quiet : IsQuietRun default_limits ample input.touched_between_slices
+touched_between_slices-quiet = run-quiet default_limits ample input.touched_between_slices touched_between_slices-passes
 
-pub collect_refused_at_a_node-audited : passes_audit default_limits (refused_at 3) input.collect_refused_at_a_node ≡ true
+pub touched_between_slices-audited : passes_audit default_limits ample input.touched_between_slices ≡ true
 unfolding all_of_a_run
-collect_refused_at_a_node-audited = refl
+touched_between_slices-audited = refl
 
--- A collect that is refused memory while it ends the collection that runs begins no other, and the next one takes all.
-pub collect_stops_where_the_running_one_is_refused : plain_text version_one_forms default_limits (refused_at 3) input.collect_stops_where_the_running_one_is_refused
-    ≡ codes "= #1\n= ok\n= ok\n= ok\n- abandon\n! nomem\n- unlink #1\n- free #1\n= ok\n"
+-- What script read from a native while a collection ran keeps what it holds.
+pub read_between_slices : plain_text version_one_forms default_limits ample input.read_between_slices
+    ≡ codes "= #1\n= @1\n= @2\n= ok\n= ok\n= ok\n= ok\n= ok\n= ok\n= @1\n= ok\n= ok\n= @2\n"
 unfolding all_of_a_run
-collect_stops_where_the_running_one_is_refused = refl
+read_between_slices = refl
 
-collect_stops_where_the_running_one_is_refused-passes : passes_verdict default_limits (refused_at 3) input.collect_stops_where_the_running_one_is_refused ≡ true
+read_between_slices-passes : passes_verdict default_limits ample input.read_between_slices ≡ true
 unfolding all_of_a_run
-collect_stops_where_the_running_one_is_refused-passes = refl
+read_between_slices-passes = refl
 
-pub collect_stops_where_the_running_one_is_refused-lawful : IsLawfulRun default_limits (refused_at 3) input.collect_stops_where_the_running_one_is_refused
-collect_stops_where_the_running_one_is_refused-lawful = run-lawful default_limits (refused_at 3) input.collect_stops_where_the_running_one_is_refused collect_stops_where_the_running_one_is_refused-passes
+pub read_between_slices-lawful : IsLawfulRun default_limits ample input.read_between_slices
+read_between_slices-lawful = run-lawful default_limits ample input.read_between_slices read_between_slices-passes
 
-pub collect_stops_where_the_running_one_is_refused-quiet : IsQuietRun default_limits (refused_at 3) input.collect_stops_where_the_running_one_is_refused
-collect_stops_where_the_running_one_is_refused-quiet = run-quiet default_limits (refused_at 3) input.collect_stops_where_the_running_one_is_refused collect_stops_where_the_running_one_is_refused-passes
+pub read_between_slices-quiet : IsQuietRun default_limits ample input.read_between_slices
+read_between_slices-quiet = run-quiet default_limits ample input.read_between_slices read_between_slices-passes
 
-pub collect_stops_where_the_running_one_is_refused-audited : passes_audit default_limits (refused_at 3) input.collect_stops_where_the_running_one_is_refused ≡ true
+pub read_between_slices-audited : passes_audit default_limits ample input.read_between_slices ≡ true
 unfolding all_of_a_run
-collect_stops_where_the_running_one_is_refused-audited = refl
+read_between_slices-audited = refl
 
--- A collect that is refused memory in its own collection has ended the one that ran.
-pub collect_refused_in_its_own : plain_text version_one_forms default_limits (refused_at 5) input.collect_refused_in_its_own
-    ≡ codes "= #1\n= ok\n= ok\n= ok\n= #2\n= ok\n= ok\n- unlink #1\n- free #1\n- abandon\n! nomem\n- unlink #2\n- free #2\n= ok\n"
+-- A native lives by its reflector, which script touched while the collection ran.
+pub native_lives_by_an_exposed_reflector : plain_text version_one_forms default_limits ample input.native_lives_by_an_exposed_reflector
+    ≡ codes "= #1\n= #2\n= #3\n= ~2\n= ok\n= ok\n= ok\n= ok\n= ok\n= ok\n= ok\n= ok\n= ~2\n= ok\n- unlink #3\n- free #3\n= ok\n= #2\n"
 unfolding all_of_a_run
-collect_refused_in_its_own = refl
+native_lives_by_an_exposed_reflector = refl
 
-collect_refused_in_its_own-passes : passes_verdict default_limits (refused_at 5) input.collect_refused_in_its_own ≡ true
+native_lives_by_an_exposed_reflector-passes : passes_verdict default_limits ample input.native_lives_by_an_exposed_reflector ≡ true
 unfolding all_of_a_run
-collect_refused_in_its_own-passes = refl
+native_lives_by_an_exposed_reflector-passes = refl
 
-pub collect_refused_in_its_own-lawful : IsLawfulRun default_limits (refused_at 5) input.collect_refused_in_its_own
-collect_refused_in_its_own-lawful = run-lawful default_limits (refused_at 5) input.collect_refused_in_its_own collect_refused_in_its_own-passes
+pub native_lives_by_an_exposed_reflector-lawful : IsLawfulRun default_limits ample input.native_lives_by_an_exposed_reflector
+native_lives_by_an_exposed_reflector-lawful = run-lawful default_limits ample input.native_lives_by_an_exposed_reflector native_lives_by_an_exposed_reflector-passes
 
-pub collect_refused_in_its_own-quiet : IsQuietRun default_limits (refused_at 5) input.collect_refused_in_its_own
-collect_refused_in_its_own-quiet = run-quiet default_limits (refused_at 5) input.collect_refused_in_its_own collect_refused_in_its_own-passes
+pub native_lives_by_an_exposed_reflector-quiet : IsQuietRun default_limits ample input.native_lives_by_an_exposed_reflector
+native_lives_by_an_exposed_reflector-quiet = run-quiet default_limits ample input.native_lives_by_an_exposed_reflector native_lives_by_an_exposed_reflector-passes
 
-pub collect_refused_in_its_own-audited : passes_audit default_limits (refused_at 5) input.collect_refused_in_its_own ≡ true
+pub native_lives_by_an_exposed_reflector-audited : passes_audit default_limits ample input.native_lives_by_an_exposed_reflector ≡ true
 unfolding all_of_a_run
-collect_refused_in_its_own-audited = refl
+native_lives_by_an_exposed_reflector-audited = refl
 
--- Gc abandons a collection that is refused memory, says so first, and sweeps all the same.
-pub gc_goes_on_where_the_running_one_is_refused : plain_text version_one_forms default_limits (refused_at 4) input.gc_goes_on_where_the_running_one_is_refused
-    ≡ codes "= #1\n= ok\n= ok\n= @1\n= ok\n= ok\n- abandon\n- free @1\n= ok\n- unlink #1\n- free #1\n= ok\n"
+-- A native that gets a reference after it was sampled is touched, so it is not looked at with an old count.
+pub copied_after_its_node_was_traversed : plain_text version_one_forms default_limits ample input.copied_after_its_node_was_traversed
+    ≡ codes "= #1\n= ok\n= #1\n= ok\n= ok\n= #1\n= ok\n= ok\n= ok\n- unlink #1\n- free #1\n= ok\n"
 unfolding all_of_a_run
-gc_goes_on_where_the_running_one_is_refused = refl
+copied_after_its_node_was_traversed = refl
 
-gc_goes_on_where_the_running_one_is_refused-passes : passes_verdict default_limits (refused_at 4) input.gc_goes_on_where_the_running_one_is_refused ≡ true
+copied_after_its_node_was_traversed-passes : passes_verdict default_limits ample input.copied_after_its_node_was_traversed ≡ true
 unfolding all_of_a_run
-gc_goes_on_where_the_running_one_is_refused-passes = refl
+copied_after_its_node_was_traversed-passes = refl
 
-pub gc_goes_on_where_the_running_one_is_refused-lawful : IsLawfulRun default_limits (refused_at 4) input.gc_goes_on_where_the_running_one_is_refused
-gc_goes_on_where_the_running_one_is_refused-lawful = run-lawful default_limits (refused_at 4) input.gc_goes_on_where_the_running_one_is_refused gc_goes_on_where_the_running_one_is_refused-passes
+pub copied_after_its_node_was_traversed-lawful : IsLawfulRun default_limits ample input.copied_after_its_node_was_traversed
+copied_after_its_node_was_traversed-lawful = run-lawful default_limits ample input.copied_after_its_node_was_traversed copied_after_its_node_was_traversed-passes
 
-pub gc_goes_on_where_the_running_one_is_refused-quiet : IsQuietRun default_limits (refused_at 4) input.gc_goes_on_where_the_running_one_is_refused
-gc_goes_on_where_the_running_one_is_refused-quiet = run-quiet default_limits (refused_at 4) input.gc_goes_on_where_the_running_one_is_refused gc_goes_on_where_the_running_one_is_refused-passes
+pub copied_after_its_node_was_traversed-quiet : IsQuietRun default_limits ample input.copied_after_its_node_was_traversed
+copied_after_its_node_was_traversed-quiet = run-quiet default_limits ample input.copied_after_its_node_was_traversed copied_after_its_node_was_traversed-passes
 
-pub gc_goes_on_where_the_running_one_is_refused-audited : passes_audit default_limits (refused_at 4) input.gc_goes_on_where_the_running_one_is_refused ≡ true
+pub copied_after_its_node_was_traversed-audited : passes_audit default_limits ample input.copied_after_its_node_was_traversed ≡ true
 unfolding all_of_a_run
-gc_goes_on_where_the_running_one_is_refused-audited = refl
+copied_after_its_node_was_traversed-audited = refl
 
--- A weak map is not made where memory is refused, and the next one gets the number.
-pub weak_map_takes_memory : plain_text version_one_forms default_limits (refused_at 1) input.weak_map_takes_memory
-    ≡ codes "! nomem\n= census 0\n= @1\n"
+-- Unlinking one white native may free the one that comes next in the walk.
+pub native_vanishes_inside_an_unlink : plain_text version_one_forms default_limits ample input.native_vanishes_inside_an_unlink
+    ≡ codes "= #1\n= #2\n= ok\n= ok\n= ok\n= ok\n= ok\n- unlink #1\n- free #2\n- free #1\n= ok\n"
 unfolding all_of_a_run
-weak_map_takes_memory = refl
+native_vanishes_inside_an_unlink = refl
 
-weak_map_takes_memory-passes : passes_verdict default_limits (refused_at 1) input.weak_map_takes_memory ≡ true
+native_vanishes_inside_an_unlink-passes : passes_verdict default_limits ample input.native_vanishes_inside_an_unlink ≡ true
 unfolding all_of_a_run
-weak_map_takes_memory-passes = refl
+native_vanishes_inside_an_unlink-passes = refl
 
-pub weak_map_takes_memory-lawful : IsLawfulRun default_limits (refused_at 1) input.weak_map_takes_memory
-weak_map_takes_memory-lawful = run-lawful default_limits (refused_at 1) input.weak_map_takes_memory weak_map_takes_memory-passes
+pub native_vanishes_inside_an_unlink-lawful : IsLawfulRun default_limits ample input.native_vanishes_inside_an_unlink
+native_vanishes_inside_an_unlink-lawful = run-lawful default_limits ample input.native_vanishes_inside_an_unlink native_vanishes_inside_an_unlink-passes
 
-pub weak_map_takes_memory-quiet : IsQuietRun default_limits (refused_at 1) input.weak_map_takes_memory
-weak_map_takes_memory-quiet = run-quiet default_limits (refused_at 1) input.weak_map_takes_memory weak_map_takes_memory-passes
+pub native_vanishes_inside_an_unlink-quiet : IsQuietRun default_limits ample input.native_vanishes_inside_an_unlink
+native_vanishes_inside_an_unlink-quiet = run-quiet default_limits ample input.native_vanishes_inside_an_unlink native_vanishes_inside_an_unlink-passes
 
-pub weak_map_takes_memory-audited : passes_audit default_limits (refused_at 1) input.weak_map_takes_memory ≡ true
+pub native_vanishes_inside_an_unlink-audited : passes_audit default_limits ample input.native_vanishes_inside_an_unlink ≡ true
 unfolding all_of_a_run
-weak_map_takes_memory-audited = refl
+native_vanishes_inside_an_unlink-audited = refl
 
--- Each of five commands takes memory once, and what changes no more than contents takes none.
-pub what_takes_memory : plain_text version_one_forms default_limits (refused_at 6) input.what_takes_memory
-    ≡ codes "= #1\n= @1\n= @2\n= ~1\n= ok\n= ~1\n= ok\n= ok\n= ok\n= #1\n= ok\n! nomem\n"
+-- A native made while a collection runs is kept, and the cycle that the collection began with is taken.
+pub native_made_between_slices : plain_text version_one_forms default_limits ample input.native_made_between_slices
+    ≡ codes "= #1\n= ~1\n= ok\n= ok\n= ok\n= ok\n= ok\n= #2\n- unlink #1\n= ok\n- free ~1\n- free #1\n= ok\n+ #2\n= census 1\n"
 unfolding all_of_a_run
-what_takes_memory = refl
+native_made_between_slices = refl
 
-what_takes_memory-passes : passes_verdict default_limits (refused_at 6) input.what_takes_memory ≡ true
+native_made_between_slices-passes : passes_verdict default_limits ample input.native_made_between_slices ≡ true
 unfolding all_of_a_run
-what_takes_memory-passes = refl
+native_made_between_slices-passes = refl
 
-pub what_takes_memory-lawful : IsLawfulRun default_limits (refused_at 6) input.what_takes_memory
-what_takes_memory-lawful = run-lawful default_limits (refused_at 6) input.what_takes_memory what_takes_memory-passes
+pub native_made_between_slices-lawful : IsLawfulRun default_limits ample input.native_made_between_slices
+native_made_between_slices-lawful = run-lawful default_limits ample input.native_made_between_slices native_made_between_slices-passes
 
-pub what_takes_memory-quiet : IsQuietRun default_limits (refused_at 6) input.what_takes_memory
-what_takes_memory-quiet = run-quiet default_limits (refused_at 6) input.what_takes_memory what_takes_memory-passes
+pub native_made_between_slices-quiet : IsQuietRun default_limits ample input.native_made_between_slices
+native_made_between_slices-quiet = run-quiet default_limits ample input.native_made_between_slices native_made_between_slices-passes
 
-pub what_takes_memory-audited : passes_audit default_limits (refused_at 6) input.what_takes_memory ≡ true
+pub native_made_between_slices-audited : passes_audit default_limits ample input.native_made_between_slices ≡ true
 unfolding all_of_a_run
-what_takes_memory-audited = refl
+native_made_between_slices-audited = refl

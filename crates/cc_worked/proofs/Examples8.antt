@@ -3,7 +3,7 @@
 use Rattle.std.specs.Prelude.{◌≡◌, true, codes, refl}
 use Rattle.cc_model.specs.Forms.{version_one_forms}
 use Rattle.cc_model.specs.Run.{plain_text}
-use Rattle.cc_worked.specs.Examples.{default_limits, ample, IsLawfulRun, IsQuietRun}
+use Rattle.cc_worked.specs.Examples.{default_limits, ample, refused_at, IsLawfulRun, IsQuietRun}
 use Rattle.cc_worked.specs.Inputs as input
 use Rattle.cc_worked.specs.Verdict.{passes_verdict}
 use Rattle.cc_worked.specs.Audit.{passes_audit}
@@ -11,162 +11,162 @@ use Rattle.cc_worked.proofs.Opened.{all_of_a_run}
 use Rattle.cc_worked.proofs.LawfulTest.{run-lawful}
 use Rattle.cc_worked.proofs.QuietTest.{run-quiet}
 
--- A line with a token too many or too few is not in the grammar, and the next one is answered.
-pub wrong_number_of_tokens : plain_text version_one_forms default_limits ample input.wrong_number_of_tokens
-    ≡ codes "! line\n! line\n= #1\n"
+-- Gc brings a collection that runs to its end before it marks.
+pub gc_ends_a_running_collection : plain_text version_one_forms default_limits ample input.gc_ends_a_running_collection
+    ≡ codes "= #1\n= ok\n= ok\n= ok\n- unlink #1\n- free #1\n= ok\n"
 unfolding all_of_a_run
-wrong_number_of_tokens = refl
+gc_ends_a_running_collection = refl
 
-wrong_number_of_tokens-passes : passes_verdict default_limits ample input.wrong_number_of_tokens ≡ true
+gc_ends_a_running_collection-passes : passes_verdict default_limits ample input.gc_ends_a_running_collection ≡ true
 unfolding all_of_a_run
-wrong_number_of_tokens-passes = refl
+gc_ends_a_running_collection-passes = refl
 
-pub wrong_number_of_tokens-lawful : IsLawfulRun default_limits ample input.wrong_number_of_tokens
-wrong_number_of_tokens-lawful = run-lawful default_limits ample input.wrong_number_of_tokens wrong_number_of_tokens-passes
+pub gc_ends_a_running_collection-lawful : IsLawfulRun default_limits ample input.gc_ends_a_running_collection
+gc_ends_a_running_collection-lawful = run-lawful default_limits ample input.gc_ends_a_running_collection gc_ends_a_running_collection-passes
 
-pub wrong_number_of_tokens-quiet : IsQuietRun default_limits ample input.wrong_number_of_tokens
-wrong_number_of_tokens-quiet = run-quiet default_limits ample input.wrong_number_of_tokens wrong_number_of_tokens-passes
+pub gc_ends_a_running_collection-quiet : IsQuietRun default_limits ample input.gc_ends_a_running_collection
+gc_ends_a_running_collection-quiet = run-quiet default_limits ample input.gc_ends_a_running_collection gc_ends_a_running_collection-passes
 
-pub wrong_number_of_tokens-audited : passes_audit default_limits ample input.wrong_number_of_tokens ≡ true
+pub gc_ends_a_running_collection-audited : passes_audit default_limits ample input.gc_ends_a_running_collection ≡ true
 unfolding all_of_a_run
-wrong_number_of_tokens-audited = refl
+gc_ends_a_running_collection-audited = refl
 
--- Tokens are parted by spaces, more than one too and at both ends, and a tab, a sign, a leading zero or a capital letter is not taken.
-pub spaces_part_tokens : plain_text version_one_forms default_limits ample input.spaces_part_tokens
-    ≡ codes "= #1\n! line\n! line\n! line\n! line\n! line\n! line\n! line\n! line\n= ok\n+ #1\n= census 1\n"
+-- A collection whose begin is refused memory is abandoned, and nothing is forgotten.
+pub collect_refused_at_its_begin : plain_text version_one_forms default_limits (refused_at 2) input.collect_refused_at_its_begin
+    ≡ codes "= #1\n= ok\n= ok\n- abandon\n! nomem\n= ok\n- unlink #1\n- free #1\n= ok\n= ok\n= census 0\n"
 unfolding all_of_a_run
-spaces_part_tokens = refl
+collect_refused_at_its_begin = refl
 
-spaces_part_tokens-passes : passes_verdict default_limits ample input.spaces_part_tokens ≡ true
+collect_refused_at_its_begin-passes : passes_verdict default_limits (refused_at 2) input.collect_refused_at_its_begin ≡ true
 unfolding all_of_a_run
-spaces_part_tokens-passes = refl
+collect_refused_at_its_begin-passes = refl
 
-pub spaces_part_tokens-lawful : IsLawfulRun default_limits ample input.spaces_part_tokens
-spaces_part_tokens-lawful = run-lawful default_limits ample input.spaces_part_tokens spaces_part_tokens-passes
+pub collect_refused_at_its_begin-lawful : IsLawfulRun default_limits (refused_at 2) input.collect_refused_at_its_begin
+collect_refused_at_its_begin-lawful = run-lawful default_limits (refused_at 2) input.collect_refused_at_its_begin collect_refused_at_its_begin-passes
 
-pub spaces_part_tokens-quiet : IsQuietRun default_limits ample input.spaces_part_tokens
-spaces_part_tokens-quiet = run-quiet default_limits ample input.spaces_part_tokens spaces_part_tokens-passes
+pub collect_refused_at_its_begin-quiet : IsQuietRun default_limits (refused_at 2) input.collect_refused_at_its_begin
+collect_refused_at_its_begin-quiet = run-quiet default_limits (refused_at 2) input.collect_refused_at_its_begin collect_refused_at_its_begin-passes
 
-pub spaces_part_tokens-audited : passes_audit default_limits ample input.spaces_part_tokens ≡ true
+pub collect_refused_at_its_begin-audited : passes_audit default_limits (refused_at 2) input.collect_refused_at_its_begin ≡ true
 unfolding all_of_a_run
-spaces_part_tokens-audited = refl
+collect_refused_at_its_begin-audited = refl
 
--- Each register that must hold an object is refused where it is empty, and those that may be empty are not.
-pub empty_registers_are_refused : plain_text version_one_forms default_limits ample input.empty_registers_are_refused
-    ≡ codes "= #1\n= @1\n= @2\n! empty\n! empty\n! empty\n! empty\n! empty\n! empty\n! empty\n! empty\n! empty\n! empty\n! empty\n! empty\n! empty\n! empty\n! empty\n! empty\n! empty\n! empty\n! empty\n! empty\n= ok\n= none\n= none\n= none\n= none\n= none\n! kind\n= ~1\n"
+-- A collection whose first node is refused memory is abandoned, and its candidate comes back.
+pub collect_refused_at_a_node : plain_text version_one_forms default_limits (refused_at 3) input.collect_refused_at_a_node
+    ≡ codes "= #1\n= ok\n= ok\n- abandon\n! nomem\n= ok\n- unlink #1\n- free #1\n= ok\n= ok\n= census 0\n"
 unfolding all_of_a_run
-empty_registers_are_refused = refl
+collect_refused_at_a_node = refl
 
-empty_registers_are_refused-passes : passes_verdict default_limits ample input.empty_registers_are_refused ≡ true
+collect_refused_at_a_node-passes : passes_verdict default_limits (refused_at 3) input.collect_refused_at_a_node ≡ true
 unfolding all_of_a_run
-empty_registers_are_refused-passes = refl
+collect_refused_at_a_node-passes = refl
 
-pub empty_registers_are_refused-lawful : IsLawfulRun default_limits ample input.empty_registers_are_refused
-empty_registers_are_refused-lawful = run-lawful default_limits ample input.empty_registers_are_refused empty_registers_are_refused-passes
+pub collect_refused_at_a_node-lawful : IsLawfulRun default_limits (refused_at 3) input.collect_refused_at_a_node
+collect_refused_at_a_node-lawful = run-lawful default_limits (refused_at 3) input.collect_refused_at_a_node collect_refused_at_a_node-passes
 
-pub empty_registers_are_refused-quiet : IsQuietRun default_limits ample input.empty_registers_are_refused
-empty_registers_are_refused-quiet = run-quiet default_limits ample input.empty_registers_are_refused empty_registers_are_refused-passes
+pub collect_refused_at_a_node-quiet : IsQuietRun default_limits (refused_at 3) input.collect_refused_at_a_node
+collect_refused_at_a_node-quiet = run-quiet default_limits (refused_at 3) input.collect_refused_at_a_node collect_refused_at_a_node-passes
 
-pub empty_registers_are_refused-audited : passes_audit default_limits ample input.empty_registers_are_refused ≡ true
+pub collect_refused_at_a_node-audited : passes_audit default_limits (refused_at 3) input.collect_refused_at_a_node ≡ true
 unfolding all_of_a_run
-empty_registers_are_refused-audited = refl
+collect_refused_at_a_node-audited = refl
 
--- Each object of the wrong kind is refused.
-pub wrong_kinds_are_refused : plain_text version_one_forms default_limits ample input.wrong_kinds_are_refused
-    ≡ codes "= #1\n= ~1\n= @1\n= @2\n! kind\n! kind\n! kind\n! kind\n! kind\n! kind\n! kind\n! kind\n! kind\n! kind\n! kind\n"
+-- A candidate that is freed before its collection is abandoned does not come back with the others, so the next collection takes three units.
+pub freed_candidate_does_not_come_back : plain_text version_one_forms default_limits (refused_at 4) input.freed_candidate_does_not_come_back
+    ≡ codes "= #1\n= #1\n= ok\n= #2\n= ok\n= ok\n= ok\n- free #1\n= ok\n- abandon\n! nomem\n= ok\n- unlink #2\n- free #2\n= ok\n= census 0\n"
 unfolding all_of_a_run
-wrong_kinds_are_refused = refl
+freed_candidate_does_not_come_back = refl
 
-wrong_kinds_are_refused-passes : passes_verdict default_limits ample input.wrong_kinds_are_refused ≡ true
+freed_candidate_does_not_come_back-passes : passes_verdict default_limits (refused_at 4) input.freed_candidate_does_not_come_back ≡ true
 unfolding all_of_a_run
-wrong_kinds_are_refused-passes = refl
+freed_candidate_does_not_come_back-passes = refl
 
-pub wrong_kinds_are_refused-lawful : IsLawfulRun default_limits ample input.wrong_kinds_are_refused
-wrong_kinds_are_refused-lawful = run-lawful default_limits ample input.wrong_kinds_are_refused wrong_kinds_are_refused-passes
+pub freed_candidate_does_not_come_back-lawful : IsLawfulRun default_limits (refused_at 4) input.freed_candidate_does_not_come_back
+freed_candidate_does_not_come_back-lawful = run-lawful default_limits (refused_at 4) input.freed_candidate_does_not_come_back freed_candidate_does_not_come_back-passes
 
-pub wrong_kinds_are_refused-quiet : IsQuietRun default_limits ample input.wrong_kinds_are_refused
-wrong_kinds_are_refused-quiet = run-quiet default_limits ample input.wrong_kinds_are_refused wrong_kinds_are_refused-passes
+pub freed_candidate_does_not_come_back-quiet : IsQuietRun default_limits (refused_at 4) input.freed_candidate_does_not_come_back
+freed_candidate_does_not_come_back-quiet = run-quiet default_limits (refused_at 4) input.freed_candidate_does_not_come_back freed_candidate_does_not_come_back-passes
 
-pub wrong_kinds_are_refused-audited : passes_audit default_limits ample input.wrong_kinds_are_refused ≡ true
+pub freed_candidate_does_not_come_back-audited : passes_audit default_limits (refused_at 4) input.freed_candidate_does_not_come_back ≡ true
 unfolding all_of_a_run
-wrong_kinds_are_refused-audited = refl
+freed_candidate_does_not_come_back-audited = refl
 
--- An empty register is told before a wrong kind and a missing slot, a wrong kind before a missing slot, and this before what a slot holds.
-pub refusals_in_their_order : plain_text version_one_forms default_limits ample input.refusals_in_their_order
-    ≡ codes "= @1\n= @2\n= #1\n! empty\n! empty\n! empty\n! empty\n! kind\n= ok\n! slot\n"
+-- A collect that is refused memory while it ends the collection that runs begins no other, and the next one takes all.
+pub collect_stops_where_the_running_one_is_refused : plain_text version_one_forms default_limits (refused_at 3) input.collect_stops_where_the_running_one_is_refused
+    ≡ codes "= #1\n= ok\n= ok\n= ok\n- abandon\n! nomem\n- unlink #1\n- free #1\n= ok\n"
 unfolding all_of_a_run
-refusals_in_their_order = refl
+collect_stops_where_the_running_one_is_refused = refl
 
-refusals_in_their_order-passes : passes_verdict default_limits ample input.refusals_in_their_order ≡ true
+collect_stops_where_the_running_one_is_refused-passes : passes_verdict default_limits (refused_at 3) input.collect_stops_where_the_running_one_is_refused ≡ true
 unfolding all_of_a_run
-refusals_in_their_order-passes = refl
+collect_stops_where_the_running_one_is_refused-passes = refl
 
-pub refusals_in_their_order-lawful : IsLawfulRun default_limits ample input.refusals_in_their_order
-refusals_in_their_order-lawful = run-lawful default_limits ample input.refusals_in_their_order refusals_in_their_order-passes
+pub collect_stops_where_the_running_one_is_refused-lawful : IsLawfulRun default_limits (refused_at 3) input.collect_stops_where_the_running_one_is_refused
+collect_stops_where_the_running_one_is_refused-lawful = run-lawful default_limits (refused_at 3) input.collect_stops_where_the_running_one_is_refused collect_stops_where_the_running_one_is_refused-passes
 
-pub refusals_in_their_order-quiet : IsQuietRun default_limits ample input.refusals_in_their_order
-refusals_in_their_order-quiet = run-quiet default_limits ample input.refusals_in_their_order refusals_in_their_order-passes
+pub collect_stops_where_the_running_one_is_refused-quiet : IsQuietRun default_limits (refused_at 3) input.collect_stops_where_the_running_one_is_refused
+collect_stops_where_the_running_one_is_refused-quiet = run-quiet default_limits (refused_at 3) input.collect_stops_where_the_running_one_is_refused collect_stops_where_the_running_one_is_refused-passes
 
-pub refusals_in_their_order-audited : passes_audit default_limits ample input.refusals_in_their_order ≡ true
+pub collect_stops_where_the_running_one_is_refused-audited : passes_audit default_limits (refused_at 3) input.collect_stops_where_the_running_one_is_refused ≡ true
 unfolding all_of_a_run
-refusals_in_their_order-audited = refl
+collect_stops_where_the_running_one_is_refused-audited = refl
 
--- What is refused, and what becomes of blank lines, comments, long lines and carriage returns.
-pub refusals_and_odd_lines : plain_text version_one_forms default_limits ample input.refusals_and_odd_lines
-    ≡ codes "= #1\n= #2\n= ok\n! kind\n! slot\n! slot\n! empty\n! kind\n= @1\n= @2\n! kind\n! slot\n! empty\n! kind\n! line\n! line\n! long\n+ #1\n+ #2\n+ @1\n+ @2\n= census 4\n"
+-- A collect that is refused memory in its own collection has ended the one that ran.
+pub collect_refused_in_its_own : plain_text version_one_forms default_limits (refused_at 5) input.collect_refused_in_its_own
+    ≡ codes "= #1\n= ok\n= ok\n= ok\n= #2\n= ok\n= ok\n- unlink #1\n- free #1\n- abandon\n! nomem\n- unlink #2\n- free #2\n= ok\n"
 unfolding all_of_a_run
-refusals_and_odd_lines = refl
+collect_refused_in_its_own = refl
 
-refusals_and_odd_lines-passes : passes_verdict default_limits ample input.refusals_and_odd_lines ≡ true
+collect_refused_in_its_own-passes : passes_verdict default_limits (refused_at 5) input.collect_refused_in_its_own ≡ true
 unfolding all_of_a_run
-refusals_and_odd_lines-passes = refl
+collect_refused_in_its_own-passes = refl
 
-pub refusals_and_odd_lines-lawful : IsLawfulRun default_limits ample input.refusals_and_odd_lines
-refusals_and_odd_lines-lawful = run-lawful default_limits ample input.refusals_and_odd_lines refusals_and_odd_lines-passes
+pub collect_refused_in_its_own-lawful : IsLawfulRun default_limits (refused_at 5) input.collect_refused_in_its_own
+collect_refused_in_its_own-lawful = run-lawful default_limits (refused_at 5) input.collect_refused_in_its_own collect_refused_in_its_own-passes
 
-pub refusals_and_odd_lines-quiet : IsQuietRun default_limits ample input.refusals_and_odd_lines
-refusals_and_odd_lines-quiet = run-quiet default_limits ample input.refusals_and_odd_lines refusals_and_odd_lines-passes
+pub collect_refused_in_its_own-quiet : IsQuietRun default_limits (refused_at 5) input.collect_refused_in_its_own
+collect_refused_in_its_own-quiet = run-quiet default_limits (refused_at 5) input.collect_refused_in_its_own collect_refused_in_its_own-passes
 
-pub refusals_and_odd_lines-audited : passes_audit default_limits ample input.refusals_and_odd_lines ≡ true
+pub collect_refused_in_its_own-audited : passes_audit default_limits (refused_at 5) input.collect_refused_in_its_own ≡ true
 unfolding all_of_a_run
-refusals_and_odd_lines-audited = refl
+collect_refused_in_its_own-audited = refl
 
--- The greatest numbers of slots, indexes and registers are taken, and greater ones are not in the grammar.
-pub numbers_at_their_bounds : plain_text version_one_forms default_limits ample input.numbers_at_their_bounds
-    ≡ codes "= #1\n= ok\n! slot\n! slot\n! line\n! line\n! line\n! line\n= #2\n! line\n= none\n= ok\n"
+-- Gc abandons a collection that is refused memory, says so first, and sweeps all the same.
+pub gc_goes_on_where_the_running_one_is_refused : plain_text version_one_forms default_limits (refused_at 4) input.gc_goes_on_where_the_running_one_is_refused
+    ≡ codes "= #1\n= ok\n= ok\n= @1\n= ok\n= ok\n- abandon\n- free @1\n= ok\n- unlink #1\n- free #1\n= ok\n"
 unfolding all_of_a_run
-numbers_at_their_bounds = refl
+gc_goes_on_where_the_running_one_is_refused = refl
 
-numbers_at_their_bounds-passes : passes_verdict default_limits ample input.numbers_at_their_bounds ≡ true
+gc_goes_on_where_the_running_one_is_refused-passes : passes_verdict default_limits (refused_at 4) input.gc_goes_on_where_the_running_one_is_refused ≡ true
 unfolding all_of_a_run
-numbers_at_their_bounds-passes = refl
+gc_goes_on_where_the_running_one_is_refused-passes = refl
 
-pub numbers_at_their_bounds-lawful : IsLawfulRun default_limits ample input.numbers_at_their_bounds
-numbers_at_their_bounds-lawful = run-lawful default_limits ample input.numbers_at_their_bounds numbers_at_their_bounds-passes
+pub gc_goes_on_where_the_running_one_is_refused-lawful : IsLawfulRun default_limits (refused_at 4) input.gc_goes_on_where_the_running_one_is_refused
+gc_goes_on_where_the_running_one_is_refused-lawful = run-lawful default_limits (refused_at 4) input.gc_goes_on_where_the_running_one_is_refused gc_goes_on_where_the_running_one_is_refused-passes
 
-pub numbers_at_their_bounds-quiet : IsQuietRun default_limits ample input.numbers_at_their_bounds
-numbers_at_their_bounds-quiet = run-quiet default_limits ample input.numbers_at_their_bounds numbers_at_their_bounds-passes
+pub gc_goes_on_where_the_running_one_is_refused-quiet : IsQuietRun default_limits (refused_at 4) input.gc_goes_on_where_the_running_one_is_refused
+gc_goes_on_where_the_running_one_is_refused-quiet = run-quiet default_limits (refused_at 4) input.gc_goes_on_where_the_running_one_is_refused gc_goes_on_where_the_running_one_is_refused-passes
 
-pub numbers_at_their_bounds-audited : passes_audit default_limits ample input.numbers_at_their_bounds ≡ true
+pub gc_goes_on_where_the_running_one_is_refused-audited : passes_audit default_limits (refused_at 4) input.gc_goes_on_where_the_running_one_is_refused ≡ true
 unfolding all_of_a_run
-numbers_at_their_bounds-audited = refl
+gc_goes_on_where_the_running_one_is_refused-audited = refl
 
--- One unit and a million are taken, and neither none nor more are in the grammar.
-pub units_at_their_bounds : plain_text version_one_forms default_limits ample input.units_at_their_bounds
-    ≡ codes "! line\n= ok\n= ok\n! line\n"
+-- A weak map is not made where memory is refused, and the next one gets the number.
+pub weak_map_takes_memory : plain_text version_one_forms default_limits (refused_at 1) input.weak_map_takes_memory
+    ≡ codes "! nomem\n= census 0\n= @1\n"
 unfolding all_of_a_run
-units_at_their_bounds = refl
+weak_map_takes_memory = refl
 
-units_at_their_bounds-passes : passes_verdict default_limits ample input.units_at_their_bounds ≡ true
+weak_map_takes_memory-passes : passes_verdict default_limits (refused_at 1) input.weak_map_takes_memory ≡ true
 unfolding all_of_a_run
-units_at_their_bounds-passes = refl
+weak_map_takes_memory-passes = refl
 
-pub units_at_their_bounds-lawful : IsLawfulRun default_limits ample input.units_at_their_bounds
-units_at_their_bounds-lawful = run-lawful default_limits ample input.units_at_their_bounds units_at_their_bounds-passes
+pub weak_map_takes_memory-lawful : IsLawfulRun default_limits (refused_at 1) input.weak_map_takes_memory
+weak_map_takes_memory-lawful = run-lawful default_limits (refused_at 1) input.weak_map_takes_memory weak_map_takes_memory-passes
 
-pub units_at_their_bounds-quiet : IsQuietRun default_limits ample input.units_at_their_bounds
-units_at_their_bounds-quiet = run-quiet default_limits ample input.units_at_their_bounds units_at_their_bounds-passes
+pub weak_map_takes_memory-quiet : IsQuietRun default_limits (refused_at 1) input.weak_map_takes_memory
+weak_map_takes_memory-quiet = run-quiet default_limits (refused_at 1) input.weak_map_takes_memory weak_map_takes_memory-passes
 
-pub units_at_their_bounds-audited : passes_audit default_limits ample input.units_at_their_bounds ≡ true
+pub weak_map_takes_memory-audited : passes_audit default_limits (refused_at 1) input.weak_map_takes_memory ≡ true
 unfolding all_of_a_run
-units_at_their_bounds-audited = refl
+weak_map_takes_memory-audited = refl

@@ -3,7 +3,7 @@
 use Rattle.std.specs.Prelude.{◌≡◌, true, codes, refl}
 use Rattle.cc_model.specs.Forms.{version_one_forms}
 use Rattle.cc_model.specs.Run.{plain_text}
-use Rattle.cc_worked.specs.Examples.{limits, default_limits, ample, refused_at, text_within, IsLawfulRun, IsQuietRun}
+use Rattle.cc_worked.specs.Examples.{default_limits, ample, refused_at, IsLawfulRun, IsQuietRun}
 use Rattle.cc_worked.specs.Inputs as input
 use Rattle.cc_worked.specs.Verdict.{passes_verdict}
 use Rattle.cc_worked.specs.Audit.{passes_audit}
@@ -11,148 +11,162 @@ use Rattle.cc_worked.proofs.Opened.{all_of_a_run}
 use Rattle.cc_worked.proofs.LawfulTest.{run-lawful}
 use Rattle.cc_worked.proofs.QuietTest.{run-quiet}
 
--- A line of 120 bytes is read and one of 121 is not, a comment and a carriage return counted.
-pub line_of_120_bytes_is_taken : plain_text version_one_forms default_limits ample input.line_of_120_bytes_is_taken
-    ≡ codes "= #1\n! long\n! long\n! line\n! long\n+ #1\n= census 1\n"
+-- Each of five commands takes memory once, and what changes no more than contents takes none.
+pub what_takes_memory : plain_text version_one_forms default_limits (refused_at 6) input.what_takes_memory
+    ≡ codes "= #1\n= @1\n= @2\n= ~1\n= ok\n= ~1\n= ok\n= ok\n= ok\n= #1\n= ok\n! nomem\n"
 unfolding all_of_a_run
-line_of_120_bytes_is_taken = refl
+what_takes_memory = refl
 
-line_of_120_bytes_is_taken-passes : passes_verdict default_limits ample input.line_of_120_bytes_is_taken ≡ true
+what_takes_memory-passes : passes_verdict default_limits (refused_at 6) input.what_takes_memory ≡ true
 unfolding all_of_a_run
-line_of_120_bytes_is_taken-passes = refl
+what_takes_memory-passes = refl
 
-pub line_of_120_bytes_is_taken-lawful : IsLawfulRun default_limits ample input.line_of_120_bytes_is_taken
-line_of_120_bytes_is_taken-lawful = run-lawful default_limits ample input.line_of_120_bytes_is_taken line_of_120_bytes_is_taken-passes
+pub what_takes_memory-lawful : IsLawfulRun default_limits (refused_at 6) input.what_takes_memory
+what_takes_memory-lawful = run-lawful default_limits (refused_at 6) input.what_takes_memory what_takes_memory-passes
 
-pub line_of_120_bytes_is_taken-quiet : IsQuietRun default_limits ample input.line_of_120_bytes_is_taken
-line_of_120_bytes_is_taken-quiet = run-quiet default_limits ample input.line_of_120_bytes_is_taken line_of_120_bytes_is_taken-passes
+pub what_takes_memory-quiet : IsQuietRun default_limits (refused_at 6) input.what_takes_memory
+what_takes_memory-quiet = run-quiet default_limits (refused_at 6) input.what_takes_memory what_takes_memory-passes
 
-pub line_of_120_bytes_is_taken-audited : passes_audit default_limits ample input.line_of_120_bytes_is_taken ≡ true
+pub what_takes_memory-audited : passes_audit default_limits (refused_at 6) input.what_takes_memory ≡ true
 unfolding all_of_a_run
-line_of_120_bytes_is_taken-audited = refl
+what_takes_memory-audited = refl
 
--- A last line that no line feed ends is answered, its carriage return dropped.
-pub last_line_needs_no_line_feed : plain_text version_one_forms default_limits ample input.last_line_needs_no_line_feed
-    ≡ codes "= #1\n+ #1\n= census 1\n"
+-- A line with a token too many or too few is not in the grammar, and the next one is answered.
+pub wrong_number_of_tokens : plain_text version_one_forms default_limits ample input.wrong_number_of_tokens
+    ≡ codes "! line\n! line\n= #1\n"
 unfolding all_of_a_run
-last_line_needs_no_line_feed = refl
+wrong_number_of_tokens = refl
 
-last_line_needs_no_line_feed-passes : passes_verdict default_limits ample input.last_line_needs_no_line_feed ≡ true
+wrong_number_of_tokens-passes : passes_verdict default_limits ample input.wrong_number_of_tokens ≡ true
 unfolding all_of_a_run
-last_line_needs_no_line_feed-passes = refl
+wrong_number_of_tokens-passes = refl
 
-pub last_line_needs_no_line_feed-lawful : IsLawfulRun default_limits ample input.last_line_needs_no_line_feed
-last_line_needs_no_line_feed-lawful = run-lawful default_limits ample input.last_line_needs_no_line_feed last_line_needs_no_line_feed-passes
+pub wrong_number_of_tokens-lawful : IsLawfulRun default_limits ample input.wrong_number_of_tokens
+wrong_number_of_tokens-lawful = run-lawful default_limits ample input.wrong_number_of_tokens wrong_number_of_tokens-passes
 
-pub last_line_needs_no_line_feed-quiet : IsQuietRun default_limits ample input.last_line_needs_no_line_feed
-last_line_needs_no_line_feed-quiet = run-quiet default_limits ample input.last_line_needs_no_line_feed last_line_needs_no_line_feed-passes
+pub wrong_number_of_tokens-quiet : IsQuietRun default_limits ample input.wrong_number_of_tokens
+wrong_number_of_tokens-quiet = run-quiet default_limits ample input.wrong_number_of_tokens wrong_number_of_tokens-passes
 
-pub last_line_needs_no_line_feed-audited : passes_audit default_limits ample input.last_line_needs_no_line_feed ≡ true
+pub wrong_number_of_tokens-audited : passes_audit default_limits ample input.wrong_number_of_tokens ≡ true
 unfolding all_of_a_run
-last_line_needs_no_line_feed-audited = refl
+wrong_number_of_tokens-audited = refl
 
--- The limit of natives counts those that were freed.
-pub limit_counts_freed_natives : plain_text version_one_forms (limits 1 1000000 4294967295) ample input.limit_counts_freed_natives
-    ≡ codes "= #1\n- free #1\n= ok\n! full\n"
+-- Tokens are parted by spaces, more than one too and at both ends, and a tab, a sign, a leading zero or a capital letter is not taken.
+pub spaces_part_tokens : plain_text version_one_forms default_limits ample input.spaces_part_tokens
+    ≡ codes "= #1\n! line\n! line\n! line\n! line\n! line\n! line\n! line\n! line\n= ok\n+ #1\n= census 1\n"
 unfolding all_of_a_run
-limit_counts_freed_natives = refl
+spaces_part_tokens = refl
 
-limit_counts_freed_natives-passes : passes_verdict (limits 1 1000000 4294967295) ample input.limit_counts_freed_natives ≡ true
+spaces_part_tokens-passes : passes_verdict default_limits ample input.spaces_part_tokens ≡ true
 unfolding all_of_a_run
-limit_counts_freed_natives-passes = refl
+spaces_part_tokens-passes = refl
 
-pub limit_counts_freed_natives-lawful : IsLawfulRun (limits 1 1000000 4294967295) ample input.limit_counts_freed_natives
-limit_counts_freed_natives-lawful = run-lawful (limits 1 1000000 4294967295) ample input.limit_counts_freed_natives limit_counts_freed_natives-passes
+pub spaces_part_tokens-lawful : IsLawfulRun default_limits ample input.spaces_part_tokens
+spaces_part_tokens-lawful = run-lawful default_limits ample input.spaces_part_tokens spaces_part_tokens-passes
 
-pub limit_counts_freed_natives-quiet : IsQuietRun (limits 1 1000000 4294967295) ample input.limit_counts_freed_natives
-limit_counts_freed_natives-quiet = run-quiet (limits 1 1000000 4294967295) ample input.limit_counts_freed_natives limit_counts_freed_natives-passes
+pub spaces_part_tokens-quiet : IsQuietRun default_limits ample input.spaces_part_tokens
+spaces_part_tokens-quiet = run-quiet default_limits ample input.spaces_part_tokens spaces_part_tokens-passes
 
-pub limit_counts_freed_natives-audited : passes_audit (limits 1 1000000 4294967295) ample input.limit_counts_freed_natives ≡ true
+pub spaces_part_tokens-audited : passes_audit default_limits ample input.spaces_part_tokens ≡ true
 unfolding all_of_a_run
-limit_counts_freed_natives-audited = refl
+spaces_part_tokens-audited = refl
 
--- The limit of script objects counts those that were freed.
-pub limit_counts_freed_script_objects : plain_text version_one_forms (limits 1000000 1 4294967295) ample input.limit_counts_freed_script_objects
-    ≡ codes "= @1\n= ok\n- free @1\n= ok\n! full\n"
+-- Each register that must hold an object is refused where it is empty, and those that may be empty are not.
+pub empty_registers_are_refused : plain_text version_one_forms default_limits ample input.empty_registers_are_refused
+    ≡ codes "= #1\n= @1\n= @2\n! empty\n! empty\n! empty\n! empty\n! empty\n! empty\n! empty\n! empty\n! empty\n! empty\n! empty\n! empty\n! empty\n! empty\n! empty\n! empty\n! empty\n! empty\n! empty\n! empty\n= ok\n= none\n= none\n= none\n= none\n= none\n! kind\n= ~1\n"
 unfolding all_of_a_run
-limit_counts_freed_script_objects = refl
+empty_registers_are_refused = refl
 
-limit_counts_freed_script_objects-passes : passes_verdict (limits 1000000 1 4294967295) ample input.limit_counts_freed_script_objects ≡ true
+empty_registers_are_refused-passes : passes_verdict default_limits ample input.empty_registers_are_refused ≡ true
 unfolding all_of_a_run
-limit_counts_freed_script_objects-passes = refl
+empty_registers_are_refused-passes = refl
 
-pub limit_counts_freed_script_objects-lawful : IsLawfulRun (limits 1000000 1 4294967295) ample input.limit_counts_freed_script_objects
-limit_counts_freed_script_objects-lawful = run-lawful (limits 1000000 1 4294967295) ample input.limit_counts_freed_script_objects limit_counts_freed_script_objects-passes
+pub empty_registers_are_refused-lawful : IsLawfulRun default_limits ample input.empty_registers_are_refused
+empty_registers_are_refused-lawful = run-lawful default_limits ample input.empty_registers_are_refused empty_registers_are_refused-passes
 
-pub limit_counts_freed_script_objects-quiet : IsQuietRun (limits 1000000 1 4294967295) ample input.limit_counts_freed_script_objects
-limit_counts_freed_script_objects-quiet = run-quiet (limits 1000000 1 4294967295) ample input.limit_counts_freed_script_objects limit_counts_freed_script_objects-passes
+pub empty_registers_are_refused-quiet : IsQuietRun default_limits ample input.empty_registers_are_refused
+empty_registers_are_refused-quiet = run-quiet default_limits ample input.empty_registers_are_refused empty_registers_are_refused-passes
 
-pub limit_counts_freed_script_objects-audited : passes_audit (limits 1000000 1 4294967295) ample input.limit_counts_freed_script_objects ≡ true
+pub empty_registers_are_refused-audited : passes_audit default_limits ample input.empty_registers_are_refused ≡ true
 unfolding all_of_a_run
-limit_counts_freed_script_objects-audited = refl
+empty_registers_are_refused-audited = refl
 
--- Plain script objects and weak maps are counted together, up to the limit itself.
-pub limit_counts_weak_maps : plain_text version_one_forms (limits 1000000 2 4294967295) ample input.limit_counts_weak_maps
-    ≡ codes "= @1\n= @2\n! full\n! full\n"
+-- Each object of the wrong kind is refused.
+pub wrong_kinds_are_refused : plain_text version_one_forms default_limits ample input.wrong_kinds_are_refused
+    ≡ codes "= #1\n= ~1\n= @1\n= @2\n! kind\n! kind\n! kind\n! kind\n! kind\n! kind\n! kind\n! kind\n! kind\n! kind\n! kind\n"
 unfolding all_of_a_run
-limit_counts_weak_maps = refl
+wrong_kinds_are_refused = refl
 
-limit_counts_weak_maps-passes : passes_verdict (limits 1000000 2 4294967295) ample input.limit_counts_weak_maps ≡ true
+wrong_kinds_are_refused-passes : passes_verdict default_limits ample input.wrong_kinds_are_refused ≡ true
 unfolding all_of_a_run
-limit_counts_weak_maps-passes = refl
+wrong_kinds_are_refused-passes = refl
 
-pub limit_counts_weak_maps-lawful : IsLawfulRun (limits 1000000 2 4294967295) ample input.limit_counts_weak_maps
-limit_counts_weak_maps-lawful = run-lawful (limits 1000000 2 4294967295) ample input.limit_counts_weak_maps limit_counts_weak_maps-passes
+pub wrong_kinds_are_refused-lawful : IsLawfulRun default_limits ample input.wrong_kinds_are_refused
+wrong_kinds_are_refused-lawful = run-lawful default_limits ample input.wrong_kinds_are_refused wrong_kinds_are_refused-passes
 
-pub limit_counts_weak_maps-quiet : IsQuietRun (limits 1000000 2 4294967295) ample input.limit_counts_weak_maps
-limit_counts_weak_maps-quiet = run-quiet (limits 1000000 2 4294967295) ample input.limit_counts_weak_maps limit_counts_weak_maps-passes
+pub wrong_kinds_are_refused-quiet : IsQuietRun default_limits ample input.wrong_kinds_are_refused
+wrong_kinds_are_refused-quiet = run-quiet default_limits ample input.wrong_kinds_are_refused wrong_kinds_are_refused-passes
 
-pub limit_counts_weak_maps-audited : passes_audit (limits 1000000 2 4294967295) ample input.limit_counts_weak_maps ≡ true
+pub wrong_kinds_are_refused-audited : passes_audit default_limits ample input.wrong_kinds_are_refused ≡ true
 unfolding all_of_a_run
-limit_counts_weak_maps-audited = refl
+wrong_kinds_are_refused-audited = refl
 
--- A command that is refused for a limit wants no memory.
-pub full_comes_before_want_of_memory : plain_text version_one_forms (limits 1 1000000 4294967295) (refused_at 2) input.full_comes_before_want_of_memory
-    ≡ codes "= #1\n! full\n! nomem\n"
+-- An empty register is told before a wrong kind and a missing slot, a wrong kind before a missing slot, and this before what a slot holds.
+pub refusals_in_their_order : plain_text version_one_forms default_limits ample input.refusals_in_their_order
+    ≡ codes "= @1\n= @2\n= #1\n! empty\n! empty\n! empty\n! empty\n! kind\n= ok\n! slot\n"
 unfolding all_of_a_run
-full_comes_before_want_of_memory = refl
+refusals_in_their_order = refl
 
-full_comes_before_want_of_memory-passes : passes_verdict (limits 1 1000000 4294967295) (refused_at 2) input.full_comes_before_want_of_memory ≡ true
+refusals_in_their_order-passes : passes_verdict default_limits ample input.refusals_in_their_order ≡ true
 unfolding all_of_a_run
-full_comes_before_want_of_memory-passes = refl
+refusals_in_their_order-passes = refl
 
-pub full_comes_before_want_of_memory-lawful : IsLawfulRun (limits 1 1000000 4294967295) (refused_at 2) input.full_comes_before_want_of_memory
-full_comes_before_want_of_memory-lawful = run-lawful (limits 1 1000000 4294967295) (refused_at 2) input.full_comes_before_want_of_memory full_comes_before_want_of_memory-passes
+pub refusals_in_their_order-lawful : IsLawfulRun default_limits ample input.refusals_in_their_order
+refusals_in_their_order-lawful = run-lawful default_limits ample input.refusals_in_their_order refusals_in_their_order-passes
 
-pub full_comes_before_want_of_memory-quiet : IsQuietRun (limits 1 1000000 4294967295) (refused_at 2) input.full_comes_before_want_of_memory
-full_comes_before_want_of_memory-quiet = run-quiet (limits 1 1000000 4294967295) (refused_at 2) input.full_comes_before_want_of_memory full_comes_before_want_of_memory-passes
+pub refusals_in_their_order-quiet : IsQuietRun default_limits ample input.refusals_in_their_order
+refusals_in_their_order-quiet = run-quiet default_limits ample input.refusals_in_their_order refusals_in_their_order-passes
 
-pub full_comes_before_want_of_memory-audited : passes_audit (limits 1 1000000 4294967295) (refused_at 2) input.full_comes_before_want_of_memory ≡ true
+pub refusals_in_their_order-audited : passes_audit default_limits ample input.refusals_in_their_order ≡ true
 unfolding all_of_a_run
-full_comes_before_want_of_memory-audited = refl
+refusals_in_their_order-audited = refl
 
--- An input of as many bytes as may be read is read whole.
-pub input_of_exactly_the_bytes_allowed : plain_text version_one_forms (limits 1000000 1000000 12) ample input.input_of_exactly_the_bytes_allowed
-    ≡ codes "= #1\n"
+-- What is refused, and what becomes of blank lines, comments, long lines and carriage returns.
+pub refusals_and_odd_lines : plain_text version_one_forms default_limits ample input.refusals_and_odd_lines
+    ≡ codes "= #1\n= #2\n= ok\n! kind\n! slot\n! slot\n! empty\n! kind\n= @1\n= @2\n! kind\n! slot\n! empty\n! kind\n! line\n! line\n! long\n+ #1\n+ #2\n+ @1\n+ @2\n= census 4\n"
 unfolding all_of_a_run
-input_of_exactly_the_bytes_allowed = refl
+refusals_and_odd_lines = refl
 
-input_of_exactly_the_bytes_allowed-passes : passes_verdict (limits 1000000 1000000 12) ample input.input_of_exactly_the_bytes_allowed ≡ true
+refusals_and_odd_lines-passes : passes_verdict default_limits ample input.refusals_and_odd_lines ≡ true
 unfolding all_of_a_run
-input_of_exactly_the_bytes_allowed-passes = refl
+refusals_and_odd_lines-passes = refl
 
-pub input_of_exactly_the_bytes_allowed-lawful : IsLawfulRun (limits 1000000 1000000 12) ample input.input_of_exactly_the_bytes_allowed
-input_of_exactly_the_bytes_allowed-lawful = run-lawful (limits 1000000 1000000 12) ample input.input_of_exactly_the_bytes_allowed input_of_exactly_the_bytes_allowed-passes
+pub refusals_and_odd_lines-lawful : IsLawfulRun default_limits ample input.refusals_and_odd_lines
+refusals_and_odd_lines-lawful = run-lawful default_limits ample input.refusals_and_odd_lines refusals_and_odd_lines-passes
 
-pub input_of_exactly_the_bytes_allowed-quiet : IsQuietRun (limits 1000000 1000000 12) ample input.input_of_exactly_the_bytes_allowed
-input_of_exactly_the_bytes_allowed-quiet = run-quiet (limits 1000000 1000000 12) ample input.input_of_exactly_the_bytes_allowed input_of_exactly_the_bytes_allowed-passes
+pub refusals_and_odd_lines-quiet : IsQuietRun default_limits ample input.refusals_and_odd_lines
+refusals_and_odd_lines-quiet = run-quiet default_limits ample input.refusals_and_odd_lines refusals_and_odd_lines-passes
 
-pub input_of_exactly_the_bytes_allowed-audited : passes_audit (limits 1000000 1000000 12) ample input.input_of_exactly_the_bytes_allowed ≡ true
+pub refusals_and_odd_lines-audited : passes_audit default_limits ample input.refusals_and_odd_lines ≡ true
 unfolding all_of_a_run
-input_of_exactly_the_bytes_allowed-audited = refl
+refusals_and_odd_lines-audited = refl
 
--- An input of one byte more ends the run after the lines that end within the limit.
-pub input_of_one_byte_more : text_within version_one_forms (limits 1000000 1000000 12) ample input.input_of_one_byte_more
-    ≡ codes "= #1\n"
+-- The greatest numbers of slots, indexes and registers are taken, and greater ones are not in the grammar.
+pub numbers_at_their_bounds : plain_text version_one_forms default_limits ample input.numbers_at_their_bounds
+    ≡ codes "= #1\n= ok\n! slot\n! slot\n! line\n! line\n! line\n! line\n= #2\n! line\n= none\n= ok\n"
 unfolding all_of_a_run
-input_of_one_byte_more = refl
+numbers_at_their_bounds = refl
+
+numbers_at_their_bounds-passes : passes_verdict default_limits ample input.numbers_at_their_bounds ≡ true
+unfolding all_of_a_run
+numbers_at_their_bounds-passes = refl
+
+pub numbers_at_their_bounds-lawful : IsLawfulRun default_limits ample input.numbers_at_their_bounds
+numbers_at_their_bounds-lawful = run-lawful default_limits ample input.numbers_at_their_bounds numbers_at_their_bounds-passes
+
+pub numbers_at_their_bounds-quiet : IsQuietRun default_limits ample input.numbers_at_their_bounds
+numbers_at_their_bounds-quiet = run-quiet default_limits ample input.numbers_at_their_bounds numbers_at_their_bounds-passes
+
+pub numbers_at_their_bounds-audited : passes_audit default_limits ample input.numbers_at_their_bounds ≡ true
+unfolding all_of_a_run
+numbers_at_their_bounds-audited = refl

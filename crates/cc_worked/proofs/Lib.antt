@@ -16,4 +16,5 @@ pub mod Examples7
 pub mod Examples8
 pub mod Examples9
 pub mod Examples10
+pub mod Examples11
 pub mod Examples

@@ -134,6 +134,30 @@ weak_map_has_no_slot_to_read = codes "weakmap s0\ntake s1 s0 0\n"
 abbrev pub empty_key_is_refused : List ℕ
 empty_key_is_refused = codes "weakmap s0\nwget s1 s0 s9\nwget s1 s0 s0\n"
 
+-- Writing a slot of a weak map, or emptying it, is refused for the kind of the object, but first for an empty register.
+abbrev pub weak_map_has_no_slot_to_write : List ℕ
+weak_map_has_no_slot_to_write = codes "weakmap s0\nput s0 0 s0\nput s0 0 none\nput s0 0 s9\nput s9 0 s0\ntake s1 s0 64\n"
+
+-- A weak map that is the value of an entry of another one lives by it, and so do the values of its own entries.
+abbrev pub map_reached_through_an_entry_alone : List ℕ
+map_reached_through_an_entry_alone = codes "weakmap s0\nweakmap s1\nscript s2 0\nscript s3 0\nscript s4 0\nwset s0 s2 s1\nwset s1 s3 s4\ndrop s1\ndrop s4\ngc\nwget s1 s0 s2\nwget s4 s1 s3\ndrop s1\ndrop s4\nwset s0 s2 none\ngc\ncensus\n"
+
+-- The entry of a map that is freed is dropped, while its key and its value live on.
+abbrev pub entry_goes_with_its_map : List ℕ
+entry_goes_with_its_map = codes "weakmap s0\nscript s1 0\nscript s2 0\nwset s0 s1 s2\ndrop s0\ngc\nweakmap s0\nwget s3 s0 s1\ncensus\n"
+
+-- A weak map that is its own key keeps the value as long as it lives.
+abbrev pub map_is_its_own_key : List ℕ
+map_is_its_own_key = codes "weakmap s0\nscript s1 0\nwset s0 s0 s1\ndrop s1\ngc\nwget s1 s0 s0\ndrop s1\ndrop s0\ngc\n"
+
+-- The value of two entries lives by the one whose key lives, and goes when that key goes too.
+abbrev pub two_entries_have_one_value : List ℕ
+two_entries_have_one_value = codes "weakmap s0\nscript s1 0\nscript s2 0\nscript s3 0\nwset s0 s1 s3\nwset s0 s2 s3\ndrop s3\ndrop s1\ngc\nwget s3 s0 s2\ndrop s3\ndrop s2\ngc\n"
+
+-- An entry does not keep a value that is its own key.
+abbrev pub value_is_its_own_key : List ℕ
+value_is_its_own_key = codes "weakmap s0\nscript s1 0\nwset s0 s1 s1\ngc\nwget s2 s0 s1\ndrop s1\ndrop s2\ngc\ncensus\n"
+
 -- A collection with two nodes takes a unit to begin, one for each node, and one to end.
 abbrev pub two_cycle_takes_four_units : List ℕ
 two_cycle_takes_four_units = codes "native n0 1\nnative n1 1\nset n0 0 n1\nset n1 0 n0\ndrop n0\ndrop n1\nslice 1\nslice 1\nslice 1\nslice 1\n"
@@ -166,9 +190,17 @@ candidates_come_before_holders = codes "native n0 1\nset n0 0 n0\nnative n1 1\ns
 abbrev pub replaced_entry_keeps_its_place : List ℕ
 replaced_entry_keeps_its_place = codes "native n0 2\nweakmap s0\nscript s1 0\nscript s2 1\nscript s3 0\nput s2 0 s3\nset n0 0 s1\nset n0 1 s2\nwset s0 s1 s2\nwset s0 s2 s2\nwset s0 s1 s1\ndrop s1\ndrop s2\ndrop s3\nnative n1 1\nset n1 0 n1\ndrop n1\ngc\nslice 4\nexpose n0 1\nslice 2\n"
 
+-- An entry that was taken out and set again goes last, so its members are looked at after those of an entry that was set in between.
+abbrev pub entry_set_again_goes_last : List ℕ
+entry_set_again_goes_last = codes "native n0 2\nweakmap s0\nscript s1 0\nscript s2 1\nscript s3 0\nput s2 0 s3\nset n0 0 s1\nset n0 1 s2\nwset s0 s1 s1\nwset s0 s2 s2\nwset s0 s1 none\nwset s0 s1 s1\ndrop s1\ndrop s2\ndrop s3\nnative n1 1\nset n1 0 n1\ndrop n1\ngc\nslice 4\nexpose n0 1\nslice 2\nslice 1\n"
+
 -- Collect ends the collection that runs and begins another, which takes what became garbage in between.
 abbrev pub collect_begins_one_of_its_own : List ℕ
 collect_begins_one_of_its_own = codes "native n0 1\nset n0 0 n0\nslice 1\ndrop n0\ncollect\n"
+
+-- The numbers of what a collect unlinks begin anew where it has ended the collection that ran, and runs one of its own.
+abbrev pub collect_ends_one_and_takes_more_in_its_own : List ℕ
+collect_ends_one_and_takes_more_in_its_own = codes "native n0 1\nset n0 0 n0\nnative n1 1\nset n1 0 n1\ndrop n1\nslice 1\ndrop n0\ncollect\n"
 
 -- A native that was touched while a collection ran waits for the next one.
 abbrev pub touched_between_slices : List ℕ
@@ -205,6 +237,10 @@ collect_refused_at_its_begin = codes "native n0 1\nset n0 0 n0\ndrop n0\ncollect
 -- A collection whose first node is refused memory is abandoned, and its candidate comes back.
 abbrev pub collect_refused_at_a_node : List ℕ
 collect_refused_at_a_node = codes "native n0 1\nset n0 0 n0\ndrop n0\ncollect\ngc\ncollect\ngc\ncensus\n"
+
+-- A candidate that is freed before its collection is abandoned does not come back with the others, so the next collection takes three units.
+abbrev pub freed_candidate_does_not_come_back : List ℕ
+freed_candidate_does_not_come_back = codes "native n0 0\ncopy n1 n0\ndrop n1\nnative n1 1\nset n1 0 n1\ndrop n1\nslice 1\ndrop n0\nslice 9\nslice 2\nslice 1\ncensus\n"
 
 -- A collect that is refused memory while it ends the collection that runs begins no other, and the next one takes all.
 abbrev pub collect_stops_where_the_running_one_is_refused : List ℕ
