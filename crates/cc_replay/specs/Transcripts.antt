@@ -10,7 +10,7 @@ use Rattle.cc_model.specs.Lawful.{IsLawful}
 use Rattle.cc_model.specs.Quiet.{IsQuiet}
 use Rattle.cc_model.specs.Run.{plain_run}
 use Rattle.cc_laws_run.specs.Memory.{noes, all_noes_told}
-use Rattle.cc_headline.specs.Headline.{TellsOfAGraph}
+use Rattle.cc_laws_headline.specs.Headline.{TellsOfAGraph}
 use Rattle.cc_outside.specs.Reads.{Reads}
 use Rattle.cc_model.specs.Forms.{version_one_forms}
 use Rattle.cc_reader.specs.HasRead.{ReadsBytes, ReadsToEnd}

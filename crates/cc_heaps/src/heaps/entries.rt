@@ -24,7 +24,7 @@ impl Heaps {
         requires key { IsTrue (is_there self.old.scripts key.0) }
         requires value { IsTrue (is_there self.old.scripts value.0) }
         ensures heap { OnOk result (self.new.heap ≡ record self.old.heap {
-            entries = with_entry self.old.heap.entries (the_name_at self.old.scripts the_map.0) (the_name_at self.old.scripts key.0) (the_name_at self.old.scripts value.0)
+          entries = with_entry self.old.heap.entries (the_name_at self.old.scripts the_map.0) (the_name_at self.old.scripts key.0) (the_name_at self.old.scripts value.0);
         }) }
         ensures in_place { IsSome (value_at (objects_of self.old.heap) (name_at self.old.scripts the_map.0) (name_at self.old.scripts key.0)) → IsOk result }
         ensures natives { self.new.keys ≡ self.old.keys }

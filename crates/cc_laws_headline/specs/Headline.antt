@@ -13,7 +13,7 @@ use Rattle.cc_model.specs.Answers.{Answer}
 use Rattle.cc_model.specs.Asks.{Ask, long, bad, taken}
 use Rattle.cc_model.specs.Reached.{Reached}
 use Rattle.cc_model.specs.Lawful.{State, RepliesWith, census_of}
-use Rattle.cc_headline.specs.Turns.{Turn, IsTurnOf, before, after, HasJustCollected}
+use Rattle.cc_laws_headline.specs.Turns.{Turn, IsTurnOf, before, after, HasJustCollected}
 
 -- a reply is the graph's, or it is want of memory where the graph does not refuse the command and the command may want
 -- some; of a census nothing is said here

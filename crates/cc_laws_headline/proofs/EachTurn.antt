@@ -22,8 +22,8 @@ use Rattle.cc_model.specs.Quiet as quiet
 use Rattle.cc_laws_run.specs.Running.{state_after}
 use Rattle.cc_laws_run.proofs.FreedListed.{census_order-listed}
 use Rattle.cc_laws_run.proofs.PlainQuiet.{listed-census_order}
-use Rattle.cc_headline.specs.Turns.{Turn, IsTurnOf, before, is_blank, spoken, HasJustCollected}
-use Rattle.cc_headline.specs.Headline.{CommandReplyIs, ReplyIs, ListsWhatIsThere, SparesReached, ListsReached, TellsOfAGraph}
+use Rattle.cc_laws_headline.specs.Turns.{Turn, IsTurnOf, before, is_blank, spoken, HasJustCollected}
+use Rattle.cc_laws_headline.specs.Headline.{CommandReplyIs, ReplyIs, ListsWhatIsThere, SparesReached, ListsReached, TellsOfAGraph}
 
 -- Lawful
 

@@ -1,5 +1,0 @@
-use Rattle.cc_headline.proofs.EachTurn.{tells-of_a_graph}
-use Rattle.cc_headline.proofs.headline.lawful_transcripts_tell_of_a_graph.Goals as goal
-
-pub returns : goal.returns
-returns c = λ limits asks answers l q. tells-of_a_graph limits asks answers l q
