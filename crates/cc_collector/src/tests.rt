@@ -1,12 +1,15 @@
-//! Slices, whole collections and `gc` over natives that hold each other.
-ghost use Rattle.std.specs.Prelude.{◌≡◌, ◌<◌};
+//! Slices, whole collections and `gc` over natives that hold each other, and over entries of weak maps.
+ghost use Rattle.std.specs.Prelude.{◌≡◌, ◌<◌, ◌≤◌, [], None, Some, IfOk, IfSome};
+ghost use Rattle.cc_names.specs.declared.kind.Colour.TheVariants.{Black};
+ghost use Rattle.cc_script.specs.Objects.{colour_at};
+ghost use Rattle.cc_heaps.specs.Changes.{IsScriptThere};
 ghost use Rattle.cc_collector.specs.Kept.{RunsIn};
 
 use crate::{Collector, Ended, Steps};
 use cc_counted::Held;
 use cc_heaps::Heaps;
 use cc_model::Notebook;
-use cc_names::Limits;
+use cc_names::{Colour, Kind, Limits, NoMemory, SKey};
 use std::alloc::Global;
 use std::marker::Brand;
 use std::process::Abort;
@@ -312,4 +315,132 @@ fn collect_after_a_begin<L: Ledger>(
 #[test]
 fn whole_collection_comes_after_the_running_one(rt: HostRuntime) -> Result<(), Fail> {
     collect_after_a_begin::<Brand>(&rt, rt.alloc(), Blank::new(1))
+}
+
+// Heaps in which so many natives and two plain objects or weak maps may be made.
+fn no_objects(alloc: Global, natives: u32) -> Result<Heaps, NoMemory>
+    requires { natives ≤ 1000000 }
+    ensures runs { IfOk result (λ heaps. RunsIn heaps None) }
+    ensures none { IfOk result (λ heaps. heaps.scripts ≡ []) }
+{
+    Heaps::new(alloc, Limits::new(natives, 2, 0))
+}
+
+// What a native register holds has a reflector, which register s0 holds.
+fn wrap(heaps: &mut Heaps, r: u8)
+    requires runs { RunsIn heaps.old None }
+    requires none { heaps.old.scripts ≡ [] }
+    ensures { RunsIn heaps.new None }
+{
+    if let Some(key) = heaps.native_reg(r) {
+        if let Ok(reflector) = heaps.new_reflector(key) {
+            heaps.set_script_reg(0, Some(reflector));
+        }
+    }
+}
+
+// What register `key` holds has what register `value` holds as its value in the weak map that register `the_map` holds.
+fn set_entry(heaps: &mut Heaps, the_map: u8, key: u8, value: u8)
+    requires { RunsIn heaps.old None }
+    ensures { RunsIn heaps.new None }
+{
+    if let (Some(the_map), Some(key), Some(value)) = (
+        heaps.script_reg(the_map),
+        heaps.script_reg(key),
+        heaps.script_reg(value),
+    ) {
+        if heaps.scripts().kind(the_map) == Kind::Map {
+            let _set = heaps.set_entry(the_map, key, value);
+        }
+    }
+}
+
+// What a script register holds, where that is black.
+fn black_key(heaps: &Heaps, r: u8) -> Option<SKey>
+    ensures there { IsScriptThere heaps.now result }
+    ensures black { IfSome result (λ key. colour_at heaps.now.scripts key.0 ≡ Some Black) }
+{
+    let key = heaps.script_reg(r)?;
+    match heaps.scripts().colour(key) {
+        Colour::Black => Some(key),
+        _ => None,
+    }
+}
+
+// The slot of what register `d` holds holds what register `s` holds.
+fn hold_script(heaps: &mut Heaps, d: u8, s: u8)
+    requires { RunsIn heaps.old None }
+    ensures { RunsIn heaps.new None }
+{
+    if let (Some(holder), Some(held)) = (heaps.script_reg(d), black_key(heaps, s)) {
+        if heaps.scripts().slots(holder) == 1 {
+            heaps.store_script(holder, 0, Some(held));
+        }
+    }
+}
+
+// The slot of what register n0 holds holds what a script register holds.
+fn hold_in_native(heaps: &mut Heaps, s: u8, out: &mut Notebook)
+    requires { RunsIn heaps.old None }
+    ensures { RunsIn heaps.new None }
+{
+    if let (Some(holder), Some(held)) = (heaps.native_reg(0), black_key(heaps, s)) {
+        if heaps.counted().slots(holder) == 1 {
+            heaps.store_native(holder, 0, Some(Held::Script(held)), out);
+        }
+    }
+}
+
+// The reflector of a native is the key of an entry whose value holds it. No register holds them, but one holds the map.
+#[test]
+fn cycle_through_an_entry_goes(rt: HostRuntime) -> Result<(), Fail> {
+    let mut out = Notebook::new(rt.alloc());
+    let mut heaps = no_objects(rt.alloc(), 1)?;
+    let mut collector = Collector::new(rt.alloc());
+    let _native = heaps.new_native(0, 0, &mut out);
+    wrap(&mut heaps, 0);
+    let _map = heaps.new_map(1);
+    let _value = heaps.new_plain(2, 1);
+    set_entry(&mut heaps, 1, 0, 2);
+    hold_script(&mut heaps, 2, 0);
+    heaps.set_native_reg(0, None, &mut out);
+    heaps.set_script_reg(0, None);
+    heaps.set_script_reg(2, None);
+    collector.gc(&mut heaps, &mut out);
+    assert_eq!(rt; out.text(), b"".as_slice());
+    assert_eq!(rt; collector.whole(&mut heaps, &mut out), Ok(()));
+    assert_eq!(rt; out.text(), b"- unlink #1\n".as_slice());
+    collector.gc(&mut heaps, &mut out);
+    assert_eq!(rt;
+        out.text(),
+        b"- unlink #1\n- free ~1\n- free #1\n- free @2\n".as_slice()
+    );
+    assert!(rt; heaps.weak().is_empty());
+    assert_eq!(rt; heaps.scripts().first(), heaps.script_reg(1));
+    Ok(())
+}
+
+// The reflector of a native is the value of an entry, and nothing else holds it. The key is held by a native in a register.
+#[test]
+fn native_of_a_value_is_kept_by_the_mapping_alone(rt: HostRuntime) -> Result<(), Fail> {
+    let mut out = Notebook::new(rt.alloc());
+    let mut heaps = no_objects(rt.alloc(), 2)?;
+    let mut collector = Collector::new(rt.alloc());
+    let _holder = heaps.new_native(0, 1, &mut out);
+    let _native = heaps.new_native(1, 0, &mut out);
+    wrap(&mut heaps, 1);
+    let _map = heaps.new_map(1);
+    let _key = heaps.new_plain(2, 0);
+    set_entry(&mut heaps, 1, 2, 0);
+    hold_in_native(&mut heaps, 2, &mut out);
+    heaps.set_native_reg(1, None, &mut out);
+    heaps.set_script_reg(0, None);
+    heaps.set_script_reg(2, None);
+    collector.gc(&mut heaps, &mut out);
+    assert_eq!(rt; collector.whole(&mut heaps, &mut out), Ok(()));
+    assert_eq!(rt; out.text(), b"".as_slice());
+    heaps.set_script_reg(1, None);
+    collector.gc(&mut heaps, &mut out);
+    assert_eq!(rt; out.text(), b"- free ~2\n- free #2\n- free @1\n".as_slice());
+    Ok(())
 }
