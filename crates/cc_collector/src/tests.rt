@@ -1,5 +1,5 @@
 //! Slices, whole collections and `gc` over natives that hold each other, and over entries of weak maps.
-ghost use Rattle.std.specs.Prelude.{◌≡◌, ◌<◌, [], None, Some, IfSome};
+ghost use Rattle.std.specs.Prelude.{◌≡◌, ◌<◌, ◌≤◌, [], None, Some, IfOk, IfSome};
 ghost use Rattle.cc_names.specs.declared.kind.Colour.TheVariants.{Black};
 ghost use Rattle.cc_script.specs.Objects.{colour_at};
 ghost use Rattle.cc_heaps.specs.Changes.{IsScriptThere};
@@ -9,7 +9,7 @@ use crate::{Collector, Ended, Steps};
 use cc_counted::Held;
 use cc_heaps::Heaps;
 use cc_model::Notebook;
-use cc_names::{Colour, Kind, Limits, SKey};
+use cc_names::{Colour, Kind, Limits, NoMemory, SKey};
 use std::alloc::Global;
 use std::marker::Brand;
 use std::process::Abort;
@@ -317,6 +317,15 @@ fn whole_collection_comes_after_the_running_one(rt: HostRuntime) -> Result<(), F
     collect_after_a_begin::<Brand>(&rt, rt.alloc(), Blank::new(1))
 }
 
+// Heaps in which so many natives and two plain objects or weak maps may be made.
+fn no_objects(alloc: Global, natives: u32) -> Result<Heaps, NoMemory>
+    requires { natives ≤ 1000000 }
+    ensures runs { IfOk result (λ heaps. RunsIn heaps None) }
+    ensures none { IfOk result (λ heaps. heaps.scripts ≡ []) }
+{
+    Heaps::new(alloc, Limits::new(natives, 2, 0))
+}
+
 // What a native register holds has a reflector, which register s0 holds.
 fn wrap(heaps: &mut Heaps, r: u8)
     requires runs { RunsIn heaps.old None }
@@ -386,7 +395,7 @@ fn hold_in_native(heaps: &mut Heaps, s: u8, out: &mut Notebook)
 #[test]
 fn cycle_through_an_entry_goes(rt: HostRuntime) -> Result<(), Fail> {
     let mut out = Notebook::new(rt.alloc());
-    let mut heaps = Heaps::new(rt.alloc(), Limits::new(1, 2, 0))?;
+    let mut heaps = no_objects(rt.alloc(), 1)?;
     let mut collector = Collector::new(rt.alloc());
     let _native = heaps.new_native(0, 0, &mut out);
     wrap(&mut heaps, 0);
@@ -415,7 +424,7 @@ fn cycle_through_an_entry_goes(rt: HostRuntime) -> Result<(), Fail> {
 #[test]
 fn native_of_a_value_is_kept_by_the_mapping_alone(rt: HostRuntime) -> Result<(), Fail> {
     let mut out = Notebook::new(rt.alloc());
-    let mut heaps = Heaps::new(rt.alloc(), Limits::new(2, 2, 0))?;
+    let mut heaps = no_objects(rt.alloc(), 2)?;
     let mut collector = Collector::new(rt.alloc());
     let _holder = heaps.new_native(0, 1, &mut out);
     let _native = heaps.new_native(1, 0, &mut out);

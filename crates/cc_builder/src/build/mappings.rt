@@ -71,6 +71,8 @@ impl Build {
 
     /// An entry is noted as a mapping: its map and its key, each where it is gray, and its value become nodes, last, where
     /// they are none.
+    ///
+    /// `NoMemory` may leave some of them as nodes.
     fn note_entry(
         &mut self,
         the_map: SKey,
@@ -101,7 +103,7 @@ impl Build {
         Ok(())
     }
 
-    /// A script object becomes a node, last, where it is gray and none. The number of its node, where it is gray.
+    /// A script object becomes a node, last, where it is gray and none. The number of its node; none where it is not gray.
     fn add_gray(&mut self, object: SKey, heaps: &Heaps) -> Result<Option<u32>, NoMemory>
         requires built { IsBuilt self.old heaps.now }
         requires held { AreHeld self.old.graph (HasKey heaps.now) }
