@@ -5,6 +5,7 @@ use Rattle.std.proofs.lemmas.List.{drop-append-le}
 use Rattle.cc_lists.specs.Members.{Among}
 use Rattle.cc_lists.proofs.Members.{Among-map, Among-append}
 use Rattle.cc_lists.proofs.Counting.{count_by-map}
+use Rattle.cc_lists.proofs.ListWrites.{each-push}
 use Rattle.cc_lists.proofs.CountsOf.{count_by-agree}
 use Rattle.cc_lists.proofs.OnceEach.{with_all_last-once}
 use Rattle.cc_names.specs.declared.name.Name.{Name}
@@ -17,15 +18,16 @@ use Rattle.cc_laws_heap.proofs.Natives.{native_at-number}
 use Rattle.cc_laws_heap.proofs.NameLists.{same_name-sym}
 use Rattle.cc_counted.specs.declared.held.Held.{Held}
 use Rattle.cc_counted.specs.declared.held.Held.TheVariants as held
-use Rattle.cc_graph.specs.Shown.{Shown, Vertex, Edge, vertex, with_vertex}
+use Rattle.cc_graph.specs.Shown.{Shown, Vertex, Edge, Hyperedge, vertex, with_vertex}
+use Rattle.cc_graph.specs.Closed.{IsHyperedgeWithin}
 use Rattle.cc_script.specs.Objects.{Object}
 use Rattle.cc_heaps.specs.Keyed.{Keyed, IsInOrder, named_object}
 use Rattle.cc_heaps.specs.Changes.{IsThere}
 use Rattle.cc_builder.specs.Building.{Built, vertex_names, IsBuilt, WasMade}
 use Rattle.cc_graph.specs.Held.{AreHeld}
 use Rattle.cc_heaps.specs.HasKey.{HasKey}
-use Rattle.cc_builder.specs.BuildSteps.{the_name, with_vertex_of, with_reference}
-use Rattle.cc_builder.proofs.BuildNodes.{with_vertex-either, names-with_vertex}
+use Rattle.cc_builder.specs.BuildSteps.{the_name, with_vertex_of, with_reference, with_mapping}
+use Rattle.cc_builder.proofs.BuildNodes.{with_vertex-either, names-with_vertex, AreHyperedgesWithin-more}
 use Rattle.cc_builder.proofs.BuildSnapshots.{HasEndsWithin}
 use Rattle.cc_builder.proofs.FewObjects.{made-few}
 use Rattle.cc_builder.proofs.HeldObjects.{stands-at, StandsAt-member, native-name, object-at, IsObjectAt-member, object-among, object-name}
@@ -33,7 +35,7 @@ use Rattle.cc_builder.proofs.Unsampled.{HasNoSample-vertex}
 
 -- what a snapshot needs of a build
 pub IsBuilt-closed : (b : Built) (v : Keyed) → IsBuilt b v → HasEndsWithin b
-IsBuilt-closed b v built = record { behind = built.behind; first = built.first; closed = built.closed }
+IsBuilt-closed b v built = record { behind = built.behind; first = built.first; closed = built.closed; mapped = built.mapped }
 
 -- over the same nodes it is a build still, with other references, candidates and nodes behind, where these are right
 pub IsBuilt-with : (b : Built) (v : Keyed) (edges : List Edge) (spare candidates next : ℕ) → IsBuilt b v → next ≤ length b.graph.nodes → candidates ≤ length b.graph.nodes →
@@ -47,6 +49,7 @@ IsBuilt-with b v edges spare candidates next built behind first closed unsampled
       behind = behind;
       first = first;
       closed = closed;
+      mapped = built.mapped;
       no_blacks = built.no_blacks;
       unsampled = unsampled;
       uncounted = built.uncounted;
@@ -83,6 +86,7 @@ IsBuilt-object b v x held built was =
       behind = omega (arith, built.behind, longer);
       first = omega (arith, built.first, longer);
       closed = λ e m. let old = built.closed e m in (omega (arith, old.0, longer), omega (arith, old.1, longer));
+      mapped = AreHyperedgesWithin-more (length vs) (length ws) b.graph.hyperedges longer built.mapped;
       no_blacks = built.no_blacks;
       unsampled = with_vertex-either (λ us. (n : Vertex) → Among n (drop b.next us) → n.sampled ≡ None) vs x held
           (λ _. built.unsampled)
@@ -133,13 +137,14 @@ there-key v (held.Script key) order there =
     subst (λ x. HasKey v x (held.Script key)) (sym (object-name v key s)) (s.kind, ap (option_map (λ (o : Object). o.name)) s.at)
 
 -- graphs are the same by their parts
-abbrev graph_of : List Vertex → List Edge → List ℕ → ℕ → Shown
-graph_of nodes edges blacks spare = record { nodes = nodes; edges = edges; blacks = blacks; spare = spare }
+abbrev graph_of : List Vertex → List Edge → List Hyperedge → List ℕ → ℕ → Shown
+graph_of nodes edges hyperedges blacks spare = record { nodes = nodes; edges = edges; hyperedges = hyperedges; blacks = blacks; spare = spare }
 
-graph-same : (g h : Shown) → g.nodes ≡ h.nodes → g.edges ≡ h.edges → g.blacks ≡ h.blacks → g.spare ≡ h.spare → g ≡ h
-graph-same g h n e b s =
-    ap (λ x. graph_of x g.edges g.blacks g.spare) n ∙ ap (λ x. graph_of h.nodes x g.blacks g.spare) e
-    ∙ ap (λ x. graph_of h.nodes h.edges x g.spare) b ∙ ap (λ x. graph_of h.nodes h.edges h.blacks x) s
+graph-same : (g h : Shown) → g.nodes ≡ h.nodes → g.edges ≡ h.edges → g.hyperedges ≡ h.hyperedges → g.blacks ≡ h.blacks → g.spare ≡ h.spare → g ≡ h
+graph-same g h n e m b s =
+    ap (λ x. graph_of x g.edges g.hyperedges g.blacks g.spare) n ∙ ap (λ x. graph_of h.nodes x g.hyperedges g.blacks g.spare) e
+    ∙ ap (λ x. graph_of h.nodes h.edges x g.blacks g.spare) m
+    ∙ ap (λ x. graph_of h.nodes h.edges h.hyperedges x g.spare) b ∙ ap (λ x. graph_of h.nodes h.edges h.hyperedges h.blacks x) s
 
 -- a build by its parts
 abbrev pub built_of : Shown → ℕ → ℕ → Built
@@ -149,11 +154,12 @@ built_of g candidates next = record { graph = g; candidates = candidates; next =
 pub record IsAdded (b : Built) (x : Name) (held : Held) (g : Shown) : Type 0 where
   pub nodes : g.nodes ≡ with_vertex b.graph.nodes x held
   pub edges : g.edges ≡ b.graph.edges
+  pub hyperedges : g.hyperedges ≡ b.graph.hyperedges
   pub blacks : g.blacks ≡ b.graph.blacks
   pub spare : g.spare ≡ b.graph.spare
 
 IsAdded-graph : (b : Built) (x : Name) (held : Held) (g : Shown) → IsAdded b x held g → g ≡ (with_vertex_of b x held).graph
-IsAdded-graph b x held g added = graph-same g (with_vertex_of b x held).graph added.nodes added.edges added.blacks added.spare
+IsAdded-graph b x held g added = graph-same g (with_vertex_of b x held).graph added.nodes added.edges added.hyperedges added.blacks added.spare
 
 pub IsAdded-built : {b c : Built} {v : Keyed} {object : Held} {g : Shown} → b ≡ c → IsBuilt c v → IsInOrder [] v → IsThere v (Some object) → IsAdded b (the_name v object) object g →
     IsBuilt (record b { graph = g }) v
@@ -176,3 +182,20 @@ IsBuilt-reference b v i j built l m =
     closed e n = ⊎_elim (λ old. built.closed e old)
         (λ r. ⊎_elim (λ (same : record { source = i; target = j } ≡ e). subst (λ (f : Edge). (f.source < length b.graph.nodes) × (f.target < length b.graph.nodes)) same (l, m)) (λ none. absurd none) r)
         (Among-append e b.graph.edges (record { source = i; target = j } ∷ []) n)
+
+-- A mapping is noted
+
+pub IsBuilt-mapping : (b : Built) (v : Keyed) (m : Hyperedge) → IsBuilt b v → IsHyperedgeWithin (length b.graph.nodes) m → IsBuilt (with_mapping b m) v
+IsBuilt-mapping b v m built within =
+    record {
+      distinct = built.distinct;
+      made = built.made;
+      few = built.few;
+      behind = built.behind;
+      first = built.first;
+      closed = built.closed;
+      mapped = each-push (IsHyperedgeWithin (length b.graph.nodes)) b.graph.hyperedges m built.mapped within;
+      no_blacks = built.no_blacks;
+      unsampled = built.unsampled;
+      uncounted = built.uncounted;
+    }

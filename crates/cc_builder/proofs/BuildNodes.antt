@@ -1,14 +1,17 @@
 -- The nodes of a graph by number and by name.
-use Rattle.std.proofs.Common.{◌≡◌, ℕ, suc, ◌+◌, ◌<◌, ◌≤◌, Bool, true, false, ◌||◌, List, [], ◌∷◌, ◌++◌, map, length, take, Option, Some, None, is_some, refl, sym, ◌∙◌, ap, subst, inl, inr, arith}
+use Rattle.std.proofs.Common.{◌≡◌, ℕ, suc, ◌+◌, ◌<◌, ◌≤◌, Bool, true, false, ◌||◌, List, [], ◌∷◌, ◌++◌, map, length, take, Option, Some, None, IfSome, is_some, option_map, refl, sym, ◌∙◌, ap, subst, inl, inr, arith}
 use Rattle.std.proofs.Math.ListN.{get_or-append}
 use Rattle.std.proofs.lemmas.List.{map_push, length-map, take-append-le}
 use Rattle.cc_lists.specs.Members.{Among, has, with_last}
+use Rattle.cc_lists.proofs.ListWrites.{map-agree}
 use Rattle.cc_names.specs.declared.name.Name.{Name}
 use Rattle.cc_names.specs.Names.{native, same_name}
 use Rattle.cc_names.proofs.NameTests.{same_name-true}
 use Rattle.cc_counted.specs.declared.held.Held.{Held}
-use Rattle.cc_graph.specs.Shown.{Vertex, Edge, vertex, number_from, number_of, with_vertex}
-use Rattle.cc_builder.specs.Building.{vertex_names, vertex_name, reference_of}
+use Rattle.cc_model.specs.Snapshot.{Mapping}
+use Rattle.cc_graph.specs.Shown.{Vertex, Edge, Hyperedge, vertex, number_from, number_of, with_vertex}
+use Rattle.cc_graph.specs.Closed.{AreHyperedgesWithin, IsHyperedgeWithin}
+use Rattle.cc_builder.specs.Building.{vertex_names, vertex_name, reference_of, mapping_of}
 
 -- a node of a name has a number where the name stands among the names
 number_from-has : (i : ℕ) (vs : List Vertex) (x : Name) → is_some (number_from i vs x) ≡ has same_name (vertex_names vs) x
@@ -77,6 +80,46 @@ references-append vs ws (e ∷ es) closed =
   where
     pair_of : Name → Name → Name × Name
     pair_of x y = (x, y)
+
+-- and the noted mappings
+
+-- a mapping by the names of its members' numbers
+abbrev pub mapping_by : (ℕ → Name) → Hyperedge → Mapping
+mapping_by named m = record { the_map = option_map named m.the_map; key = option_map named m.key; value = named m.value }
+
+-- where the names of numbers below a bound are alike, those of an optional one are
+pub member-alike : (named other : ℕ → Name) (count : ℕ) (o : Option ℕ) → IfSome o (λ i. i < count) → ((i : ℕ) → i < count → named i ≡ other i) → option_map named o ≡ option_map other o
+member-alike named other count None l e = refl
+member-alike named other count (Some i) l e = ap Some (e i l)
+
+-- mappings are the same by their parts
+abbrev pub mapping_parts : Option Name → Option Name → Name → Mapping
+mapping_parts the_map key value = record { the_map = the_map; key = key; value = value }
+
+pub mapping-same : (m n k l : Option Name) (x y : Name) → m ≡ n → k ≡ l → x ≡ y → mapping_parts m k x ≡ mapping_parts n l y
+mapping-same m n k l x y e f g = ap (λ o. mapping_parts o k x) e ∙ ap (λ o. mapping_parts n o x) f ∙ ap (mapping_parts n l) g
+
+mapping-alike : (named other : ℕ → Name) (count : ℕ) (m : Hyperedge) → IsHyperedgeWithin count m → ((i : ℕ) → i < count → named i ≡ other i) → mapping_by named m ≡ mapping_by other m
+mapping-alike named other count m within e = mapping-same
+    (option_map named m.the_map) (option_map other m.the_map) (option_map named m.key) (option_map other m.key) (named m.value) (other m.value)
+    (member-alike named other count m.the_map within.the_map e) (member-alike named other count m.key within.key e) (e m.value within.value)
+
+pub mappings-alike : (vs ws : List Vertex) (ms : List Hyperedge) → AreHyperedgesWithin (length vs) ms → ((i : ℕ) → i < length vs → vertex_name ws i ≡ vertex_name vs i) →
+    map (mapping_of ws) ms ≡ map (mapping_of vs) ms
+mappings-alike vs ws ms within alike =
+    map-agree (mapping_of ws) (mapping_of vs) ms (λ m i. mapping-alike (vertex_name ws) (vertex_name vs) (length vs) m (within m i) alike)
+
+-- mappings within so many nodes are within more
+pub AreHyperedgesWithin-more : (n m : ℕ) (ms : List Hyperedge) → n ≤ m → AreHyperedgesWithin n ms → AreHyperedgesWithin m ms
+AreHyperedgesWithin-more n m ms l within h i = record {
+  the_map = member-more h.the_map (within h i).the_map;
+  key = member-more h.key (within h i).key;
+  value = omega (arith, (within h i).value, l);
+}
+  where
+    member-more : (o : Option ℕ) → IfSome o (λ i. i < n) → IfSome o (λ i. i < m)
+    member-more None below = below
+    member-more (Some i) below = omega (arith, below, l)
 
 -- and the first nodes
 pub first-append : (vs ws : List Vertex) (n : ℕ) → n ≤ length vs → vertex_names (take n (vs ++ ws)) ≡ vertex_names (take n vs)

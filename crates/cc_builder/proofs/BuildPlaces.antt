@@ -5,11 +5,11 @@ use Rattle.cc_model.specs.Slots.{Slots}
 use Rattle.cc_builder.specs.BuildSteps.{noted_content}
 
 -- two lists of which one has something have something
-left-some : {X : Type 0} (xs ys : List X) → xs ≢ [] → xs ++ ys ≢ []
+pub left-some : {X : Type 0} (xs ys : List X) → xs ≢ [] → xs ++ ys ≢ []
 left-some [] ys some e = some refl
 left-some (x ∷ xs) ys some e = cc
 
-right-some : {X : Type 0} (xs ys : List X) → ys ≢ [] → xs ++ ys ≢ []
+pub right-some : {X : Type 0} (xs ys : List X) → ys ≢ [] → xs ++ ys ≢ []
 right-some [] ys some e = some e
 right-some (x ∷ xs) ys some e = cc
 

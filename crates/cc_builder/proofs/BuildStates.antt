@@ -12,7 +12,7 @@ use Rattle.cc_builder.specs.BuildSteps.{sampled_at}
 use Rattle.cc_builder.proofs.BuildNodes.{with_vertex-either}
 
 -- the names of the nodes
-names-nodes_of : (next : ℕ) (vs : List Vertex) → map (λ (n : Node). n.name) (nodes_of next vs) ≡ vertex_names vs
+pub names-nodes_of : (next : ℕ) (vs : List Vertex) → map (λ (n : Node). n.name) (nodes_of next vs) ≡ vertex_names vs
 names-nodes_of next [] = refl
 names-nodes_of zero (v ∷ vs) = ap (λ xs. v.name ∷ xs) (names-nodes_of zero vs)
 names-nodes_of (suc next) (v ∷ vs) = ap (λ xs. v.name ∷ xs) (names-nodes_of next vs)

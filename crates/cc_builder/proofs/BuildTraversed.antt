@@ -15,6 +15,7 @@ use Rattle.cc_heaps.specs.HasKey.{HasKey}
 use Rattle.cc_builder.specs.BuildSteps.{noting, sampled_at, with_next_passed, with_room}
 use Rattle.cc_builder.proofs.BuildStates.{IsSampleOf, names-passed}
 use Rattle.cc_builder.proofs.BuildSnapshots.{first-names}
+use Rattle.cc_builder.proofs.BuildNodes.{AreHyperedgesWithin-more}
 use Rattle.cc_builder.proofs.BuildReads.{slice_get-among}
 use Rattle.cc_builder.proofs.BuildKept.{IsBuilt-with, named}
 use Rattle.cc_builder.proofs.Unsampled.{HasNoSample-passed}
@@ -90,6 +91,7 @@ IsBuilt-traversed b v count built l kind =
       behind = omega (arith, many);
       first = omega (arith, built.first, many);
       closed = λ e m. let old = built.closed e m in (omega (arith, old.0, many), omega (arith, old.1, many));
+      mapped = AreHyperedgesWithin-more (length vs) (length ws) b.graph.hyperedges (omega (arith, many)) built.mapped;
       no_blacks = built.no_blacks;
       unsampled = λ n m. unsampled-more b v built n (subst (λ us. Among n us) (passed-drop vs b.next count) m);
       uncounted = HasNoSample-passed vs b.next count (sampled-native count (vertex_name vs b.next) kind) built.uncounted;

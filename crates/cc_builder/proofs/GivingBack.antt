@@ -94,6 +94,7 @@ IsBuilt-same b v w s built =
       behind = built.behind;
       first = built.first;
       closed = built.closed;
+      mapped = built.mapped;
       no_blacks = built.no_blacks;
       unsampled = built.unsampled;
       uncounted = built.uncounted;

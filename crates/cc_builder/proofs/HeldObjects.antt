@@ -1,7 +1,8 @@
 -- An object that is there, by its name in the heaps: what stands there, and its places.
-use Rattle.std.proofs.Common.{◌≡◌, ℕ, Bool, true, false, ◌||◌, List, [], Option, Some, None, IsSome, is_some, option_map, option_and_then, refl, sym, ◌∙◌, ap, subst, find, ◌==◌}
+use Rattle.std.proofs.Common.{◌≡◌, ℕ, Bool, true, false, ◌||◌, List, [], Option, Some, None, IsSome, IsTrue, is_some, option_map, option_and_then, refl, sym, ◌∙◌, ap, subst, find, ◌==◌}
 use Rattle.std.specs.List.{filter}
 use Rattle.std.proofs.lemmas.Bool.{false≢true, true≢false}
+use denote.Enum.Bare.{sameb}
 use Rattle.cc_lists.specs.Members.{Among}
 use Rattle.cc_lists.proofs.Members.{Among-map, Among-filter, Among-filtered, Among-passes}
 use Rattle.cc_lists.proofs.Filtering.{find-among, find-passes}
@@ -11,8 +12,10 @@ use Rattle.cc_names.specs.declared.name.Name.{Name}
 use Rattle.cc_names.specs.declared.name.Name.TheVariants as name
 use Rattle.cc_names.specs.declared.number.NKey.{NKey}
 use Rattle.cc_names.specs.declared.number.SKey.{SKey}
+use Rattle.cc_names.specs.contracts.kind.Colour.{the_type}
 use Rattle.cc_names.specs.declared.kind.Colour.{Colour}
-use Rattle.cc_names.specs.Names.{native, is_native, is_script, same_name}
+use Rattle.cc_names.specs.declared.kind.Colour.TheVariants.{White, Gray, Black}
+use Rattle.cc_names.specs.Names.{native, object, is_native, is_script, same_name}
 use Rattle.cc_names.proofs.NameTests.{same_name-refl}
 use Rattle.cc_model.specs.Checks.{slots_or_none}
 use Rattle.cc_model.specs.Heap.{Heap, HeapNative, HeapScript, native_at, script_at, is_gray_colour, is_gray_in}
@@ -25,7 +28,7 @@ use Rattle.cc_counted.specs.declared.held.Held.TheVariants as held
 use Rattle.cc_counted.specs.Counts.{heap_of, number_or_none, count_at, count_of}
 use Rattle.cc_counted.specs.Counts as counts
 use Rattle.cc_script.specs.Objects.{Object, object_at, colour_at}
-use Rattle.cc_heaps.specs.Keyed.{Keyed, IsInOrder, counts_of, keyed_native, named_object, number_at}
+use Rattle.cc_heaps.specs.Keyed.{Keyed, IsInOrder, counts_of, keyed_native, named_object, number_at, the_name_at}
 use Rattle.cc_heaps.specs.Changes.{IsThere, IsNativeThere, IsScriptThere}
 use Rattle.cc_heaps.specs.Places.{places_of_native, places_of_script, places_in, places_at}
 use Rattle.cc_heaps.proofs.Calls.{number-named}
@@ -144,16 +147,44 @@ gray-named h o well m = by_colour (is_gray_colour o.colour) refl
         ap is_some f.1
     by_colour false e = none (find gray named) refl e
 
+-- the test of gray
+gray-same : (colour : Colour) → sameb the_type colour Gray ≡ is_gray_colour colour
+gray-same White = refl
+gray-same Gray = refl
+gray-same Black = refl
+
+-- whether it is gray, as its colour was read
+gray-read : (v : Keyed) (scripts : List Object) (key : SKey) (colour : Colour) → IsInOrder [] v → scripts ≡ v.scripts → colour_at scripts key.0 ≡ Some colour →
+    (s : IsObjectAt v key.0) → is_gray_in v.heap s.body.name ≡ sameb the_type colour Gray
+gray-read v scripts key colour order same read s =
+    let coloured : Some s.body.colour ≡ Some colour = sym (ap (option_map (λ (o : Object). o.colour)) s.at) ∙ sym (ap (λ os. colour_at os key.0) same) ∙ read in
+    let colour_is : s.body.colour ≡ colour = cc in
+    gray-named v.heap (named_object v.scripts s.body) order.sound.well_formed (object-among v s.body order (IsObjectAt-member v key.0 s))
+    ∙ ap is_gray_colour colour_is
+    ∙ sym (gray-same colour)
+
 -- Whether references to a script object are noted
 
 pub object-noted : (v : Keyed) (scripts : List Object) (object : Held) (key : SKey) (colour : Colour) → IsInOrder [] v → IsThere v (Some object) → object ≡ held.Script key → scripts ≡ v.scripts →
-    colour_at scripts key.0 ≡ Some colour → is_noted v.heap (the_name v object) ≡ is_gray_colour colour
+    colour_at scripts key.0 ≡ Some colour → is_noted v.heap (the_name v object) ≡ sameb the_type colour Gray
 object-noted v scripts object key colour order there at same read =
     let s = object-at v key order (subst (λ o. IsThere v (Some o)) at there) in
-    let coloured : Some s.body.colour ≡ Some colour = sym (ap (option_map (λ (o : Object). o.colour)) s.at) ∙ sym (ap (λ os. colour_at os key.0) same) ∙ read in
-    let colour_is : s.body.colour ≡ colour = cc in
     ap (λ o. is_noted v.heap (the_name v o)) at
     ∙ ap (is_noted v.heap) (object-name v key s)
     ∙ ap (λ b. b || is_gray_in v.heap s.body.name) s.kind
-    ∙ gray-named v.heap (named_object v.scripts s.body) order.sound.well_formed (object-among v s.body order (IsObjectAt-member v key.0 s))
-    ∙ ap is_gray_colour colour_is
+    ∙ gray-read v scripts key colour order same read s
+
+-- Whether a script object is gray by its name
+
+pub name-at_key : (v : Keyed) (key : SKey) → IsScriptThere v (Some key) → the_name v (held.Script key) ≡ the_name_at v.scripts key.0
+name-at_key v key there = go (object_at v.scripts key.0) there
+  where
+    go : (o : Option Object) → IsTrue (is_some o) → ◌≡◌ {A = Name} (elim (option_map (λ (p : Object). p.name) o) [ None ↦ native 0 | Some x ↦ x ]) (elim (option_map (λ (p : Object). p.name) o) [ None ↦ object 0 | Some x ↦ x ])
+    go None some = absurd (cc)
+    go (Some p) some = refl
+
+pub object-gray : (v : Keyed) (scripts : List Object) (key : SKey) (colour : Colour) → IsInOrder [] v → IsScriptThere v (Some key) → scripts ≡ v.scripts →
+    colour_at scripts key.0 ≡ Some colour → is_gray_in v.heap (the_name_at v.scripts key.0) ≡ sameb the_type colour Gray
+object-gray v scripts key colour order there same read =
+    let s = object-at v key order there in
+    ap (is_gray_in v.heap) (sym (name-at_key v key there) ∙ object-name v key s) ∙ gray-read v scripts key colour order same read s

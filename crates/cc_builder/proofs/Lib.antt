@@ -9,6 +9,7 @@ pub mod BuildStates
 pub mod BuildTraversed
 pub mod BuildUnits
 pub mod BuildWalks
+pub mod EntryMappings
 pub mod FewObjects
 pub mod GivingBack
 pub mod HeldObjects

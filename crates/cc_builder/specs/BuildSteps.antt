@@ -1,16 +1,17 @@
 -- The steps by which a snapshot is built.
-use Rattle.std.specs.Prelude.{ℕ, ◌+◌, ◌-◌, true, false, List, [], ◌∷◌, ◌++◌, map, filter, flat_map, Option, Some, None, option_to_list, slice_index_or}
+use Rattle.std.specs.Prelude.{ℕ, ◌+◌, ◌-◌, true, false, List, [], ◌∷◌, ◌++◌, map, filter, flat_map, Option, Some, None, option_to_list, slice_get, slice_index_or}
 use Rattle.cc_names.specs.declared.name.Name.{Name}
 use Rattle.cc_names.specs.Names.{native}
-use Rattle.cc_model.specs.Heap.{Heap}
 use Rattle.cc_model.specs.Slots.{from_to}
-use Rattle.cc_model.specs.Snapshot.{Snapshot}
-use Rattle.cc_model.specs.Units.{with_nodes, is_noted}
+use Rattle.cc_model.specs.Entries.{Entry}
+use Rattle.cc_model.specs.Heap.{Heap, is_gray_in}
+use Rattle.cc_model.specs.Snapshot.{Mapping, Snapshot}
+use Rattle.cc_model.specs.Units.{with_nodes, is_noted, mapping_of}
 use Rattle.cc_counted.specs.declared.held.Held.{Held}
 use Rattle.cc_counted.specs.declared.held.Held.TheVariants as held
 use Rattle.cc_counted.specs.Counts as counts
-use Rattle.cc_graph.specs.Shown.{Vertex, with_vertex, with_sample, change_vertex}
-use Rattle.cc_heaps.specs.Keyed.{Keyed, counts_of}
+use Rattle.cc_graph.specs.Shown.{Vertex, Hyperedge, with_vertex, with_sample, change_vertex}
+use Rattle.cc_heaps.specs.Keyed.{Keyed, counts_of, named_entry}
 use Rattle.cc_heaps.specs.Changes.{held_name}
 use Rattle.cc_heaps.specs.Places.{places_at}
 use Rattle.cc_counted.specs.Suspects.{is_purple_in}
@@ -48,6 +49,10 @@ with_vertex_of b x held = record b { graph = record b.graph { nodes = with_verte
 abbrev pub with_reference : Built → ℕ → ℕ → Built
 with_reference b source target = record b { graph = record b.graph { edges = b.graph.edges ++ record { source = source; target = target } ∷ []; spare = b.graph.spare - 1 } }
 
+-- a mapping noted last
+abbrev pub with_mapping : Built → Hyperedge → Built
+with_mapping b m = record b { graph = record b.graph { hyperedges = b.graph.hyperedges ++ m ∷ [] } }
+
 -- room for other so many references
 abbrev pub with_room : ℕ → Built → Built
 with_room spare b = record b { graph = record b.graph { spare = spare } }
@@ -67,3 +72,11 @@ noting s x ys = record s { nodes = with_nodes s.nodes ys; references = s.referen
 
 abbrev pub noting_one : Snapshot → Name → Name → Snapshot
 noting_one s x y = noting s x (y ∷ [])
+
+-- the mappings of an entry: one where its value is gray, else none
+abbrev pub mappings_in : Heap → Entry → List Mapping
+mappings_in h e = elim (is_gray_in h e.value) [ true ↦ mapping_of h e ∷ [] | false ↦ [] ]
+
+-- those of the entry at a place
+abbrev pub mappings_at : Keyed → ℕ → List Mapping
+mappings_at v i = elim (slice_get v.entries i) [ None ↦ [] | Some e ↦ mappings_in v.heap (named_entry v.scripts e) ]

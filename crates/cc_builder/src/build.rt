@@ -21,6 +21,7 @@ ghost use Rattle.cc_graph.specs.Held.{AreHeld};
 ghost use Rattle.cc_heaps.specs.HasKey.{HasKey};
 ghost use Rattle.cc_builder.specs.BuildSteps.{purple_name, the_name, with_vertex_of};
 
+mod mappings;
 mod traversing;
 
 use cc_counted::Held;
@@ -98,6 +99,7 @@ impl Build {
         requires order { IsInOrder [] heaps.now }
         ensures names { OnOk result (vertex_names self.new.graph.nodes ≡ with_all_last same_name (vertex_names self.old.graph.nodes) (holders_of heaps.now.heap)) }
         ensures edges { self.new.graph.edges ≡ self.old.graph.edges }
+        ensures hyperedges { self.new.graph.hyperedges ≡ self.old.graph.hyperedges }
         ensures next { self.new.next ≡ self.old.next }
         ensures candidates { self.new.candidates ≡ self.old.candidates }
         ensures refused { OnErr result (holders_of heaps.now.heap ≢ []) }
@@ -119,6 +121,7 @@ impl Build {
         requires order { IsInOrder [] heaps.now }
         ensures names { IfOk result (λ b. vertex_names b.graph.nodes ≡ with_all_last same_name [] (map native (candidates_of heaps.now.heap))) }
         ensures edges { IfOk result (λ b. b.graph.edges ≡ []) }
+        ensures hyperedges { IfOk result (λ b. b.graph.hyperedges ≡ []) }
         ensures next { IfOk result (λ b. b.next ≡ 0) }
         ensures candidates { IfOk result (λ b. b.candidates ≡ length b.graph.nodes) }
         ensures built { IfOk result (λ b. IsBuilt b heaps.now) }
@@ -222,6 +225,7 @@ impl Build {
         requires live { IsSome (number_at heaps.now key.0) }
         ensures names { OnOk result (vertex_names self.new.graph.nodes ≡ with_all_last same_name (vertex_names self.old.graph.nodes) (purple_name heaps.now.heap (the_number heaps.now key.0))) }
         ensures edges { self.new.graph.edges ≡ self.old.graph.edges }
+        ensures hyperedges { self.new.graph.hyperedges ≡ self.old.graph.hyperedges }
         ensures next { self.new.next ≡ self.old.next }
         ensures candidates { self.new.candidates ≡ self.old.candidates }
         ensures refused { OnErr result (is_purple_in heaps.now.heap.buffer (the_number heaps.now key.0) ≡ true) }

@@ -1,12 +1,11 @@
 -- A RUNNING COLLECTION GOES ON over changed heaps.
-use Rattle.std.proofs.Common.{◌≡◌, ℕ, zero, suc, ◌≤◌, false, List, [], ◌∷◌, map, Option, Some, None, refl, sym, ap, subst, ⊎_elim, arith}
+use Rattle.std.proofs.Common.{◌≡◌, ℕ, ◌≤◌, false, Option, Some, None, refl, sym, subst, ⊎_elim, arith}
 use Rattle.cc_lists.specs.Members.{Among}
 use Rattle.cc_lists.proofs.Members.{Among-map}
 use Rattle.cc_names.specs.declared.name.Name.{Name}
 use Rattle.cc_names.specs.declared.name.Name.TheVariants as name
 use Rattle.cc_names.specs.Names.{native, is_native}
 use Rattle.cc_model.specs.WellFormed.{native_names, script_names}
-use Rattle.cc_model.specs.Snapshot.{Node}
 use Rattle.cc_model.specs.Fresh.{IsNode}
 use Rattle.cc_laws_snapshot.specs.Kinds.{IsFreshIn}
 use Rattle.cc_laws_snapshot.proofs.SoundView.{named-there}
@@ -16,16 +15,11 @@ use Rattle.cc_graph.specs.Shown.{Vertex}
 use Rattle.cc_graph.specs.Held.{AreHeld}
 use Rattle.cc_heaps.specs.Keyed.{Keyed, number_at}
 use Rattle.cc_heaps.specs.HasKey.{HasKey}
-use Rattle.cc_builder.specs.Building.{Built, IsBuilt, WasMade, vertex_names, nodes_of, snapshot_of}
+use Rattle.cc_builder.specs.Building.{Built, IsBuilt, WasMade, snapshot_of}
+use Rattle.cc_builder.proofs.BuildStates.{names-nodes_of}
 use Rattle.cc_builder.proofs.FewObjects.{made-few}
 use Rattle.cc_collector.proofs.NoneBack.{none-back}
 use Rattle.cc_collector.specs.Kept.{GoesOn, RunsIn, MayComeBetween}
-
--- the names of nodes are those of the vertices
-names-nodes : (next : ℕ) (vs : List Vertex) → map (λ (n : Node). n.name) (nodes_of next vs) ≡ vertex_names vs
-names-nodes next [] = refl
-names-nodes zero (v ∷ vs) = ap (λ xs. v.name ∷ xs) (names-nodes zero vs)
-names-nodes (suc next) (v ∷ vs) = ap (λ xs. v.name ∷ xs) (names-nodes next vs)
 
 module _ (old new : Keyed) (b : Built) (r : RunsIn old (Some b)) (m : MayComeBetween old new) where
   g : GoesOn old b
@@ -35,7 +29,7 @@ module _ (old new : Keyed) (b : Built) (r : RunsIn old (Some b)) (m : MayComeBet
   fresh = m.fresh (snapshot_of b) g.fresh
 
   is-node : (n : Vertex) → Among n b.graph.nodes → IsNode (snapshot_of b) n.name
-  is-node n i = subst (Among n.name) (sym (names-nodes b.next b.graph.nodes)) (Among-map (λ (v : Vertex). v.name) n b.graph.nodes i)
+  is-node n i = subst (Among n.name) (sym (names-nodes_of b.next b.graph.nodes)) (Among-map (λ (v : Vertex). v.name) n b.graph.nodes i)
 
   -- its object was made, and is there where it is a script object
   was-made : (x : Name) → IsNode (snapshot_of b) x → WasMade new.heap x
@@ -54,6 +48,7 @@ module _ (old new : Keyed) (b : Built) (r : RunsIn old (Some b)) (m : MayComeBet
     behind = g.built.behind;
     first = g.built.first;
     closed = g.built.closed;
+    mapped = g.built.mapped;
     no_blacks = g.built.no_blacks;
     unsampled = g.built.unsampled;
     uncounted = g.built.uncounted;

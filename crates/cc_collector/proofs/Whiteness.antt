@@ -1,29 +1,30 @@
 -- WHAT IS WHITE IN A GRAPH IS WHITE IN THE SNAPSHOT that it holds.
-use Rattle.std.specs.Prelude.{IsTrue, ◌↔◌, slice_get, nat_lt, not, ◌||◌}
+use Rattle.std.specs.Prelude.{IfSome, IsTrue, ◌↔◌, ◌<◌, slice_get, nat_lt, not, ◌||◌, option_map, option_to_list}
 use Rattle.std.proofs.Common.{◌≡◌, ℕ, Bool, true, false, List, [], ◌++◌, length, map, filter, Option, Some, None, refl, sym, ◌∙◌, ap, subst, inr, ◌⊎◌, ⊎_elim, arith, ◌==◌}
 use Rattle.std.proofs.lemmas.Bool.{false≢true, and_parts, and_from, or_cases, or_left, or_right}
+use Rattle.std.proofs.lemmas.List.{map-append}
 use Rattle.cc_lists.specs.Members.{Among, has}
 use Rattle.cc_lists.specs.Least.{Least, system}
 use Rattle.cc_lists.proofs.Members.{Among-map, Among-map_cases, Among-left, Among-right, Among-append, Among-filter, Among-filtered, Among-passes, has-among, has-there}
 use Rattle.cc_lists.proofs.CountsOf.{false-left}
 use Rattle.cc_lists.proofs.Closure.{closure-decides}
-use Rattle.cc_lists.proofs.Least.{derive-root, derive-along, derived-within}
-use Rattle.cc_lists.proofs.Together.{derived-from}
+use Rattle.cc_lists.proofs.Least.{derive-root, derive-along, derive-jointly, derived-within}
 use Rattle.cc_lists.proofs.Places.{among-place, place-among}
 use Rattle.cc_names.specs.declared.name.Name.{Name}
 use Rattle.cc_names.specs.Names.{native, is_native, same_name}
 use Rattle.cc_names.proofs.NameTests.{same_name-exact}
 use Rattle.cc_model.specs.Heap.{HeapNative}
 use Rattle.cc_model.specs.View.{View, view, counted, scripts_there, is_there}
-use Rattle.cc_model.specs.Snapshot.{traversed, Node, Snapshot, node_names, noted_to, is_above, is_seed, seeds, mapping_joint, black_in_rules, BlackIn, black_in, is_white, white_names, white_natives}
+use Rattle.cc_model.specs.Snapshot.{traversed, Mapping, Node, Snapshot, node_names, noted_to, is_above, is_seed, seeds, mapping_joint, black_in_rules, BlackIn, black_in, is_white, white_names, white_natives}
 use Rattle.cc_lists.proofs.Numbers.{number-exact}
 use Rattle.cc_lists.proofs.Filtering.{filter-agree}
-use Rattle.cc_graph.specs.Shown.{Vertex, Edge, Shown, number_of, edges_to, is_black}
+use Rattle.cc_graph.specs.Shown.{Vertex, Edge, Hyperedge, Shown, number_of, edges_to, is_black}
 use Rattle.cc_heaps.specs.Keyed.{Keyed}
-use Rattle.cc_builder.specs.Building.{Built, HasNoSample, IsBuilt, state_by_sample, nodes_of, vertex_names, vertex_name, reference_of, snapshot_of}
+use Rattle.cc_builder.specs.Building.{Built, HasNoSample, IsBuilt, state_by_sample, nodes_of, vertex_names, vertex_name, reference_of, mapping_of, snapshot_of}
 use Rattle.cc_graph.specs.Numbers.{numbers_where}
+use Rattle.cc_graph.specs.Closed.{IsHyperedgeWithin}
 use Rattle.cc_repair.specs.Touched.{is_touched, touched}
-use Rattle.cc_scan.specs.Scanning.{exceeds, held_elsewhere, edge_pair, scan_rules}
+use Rattle.cc_scan.specs.Scanning.{exceeds, held_elsewhere, edge_pair, hyperedge_rule, scan_rules}
 use Rattle.cc_unlink.specs.Whites.{is_white_node, is_white_in, whites_of}
 use Rattle.cc_graph.proofs.MarkedNodes.{numbers-passing, passing-numbers}
 use Rattle.cc_builder.proofs.NodesByName.{name-at, node-at, distinct-number, IsNumberOf, number_from-some, number_from-none, node_behind, nodes-node_behind, names-node_behind, noted-same}
@@ -49,12 +50,39 @@ seed-of v s w noted e uncounted = go (is_native w.name) uncounted
     go true f = ap (λ z. has same_name v.buffer w.name || z) (above-exceeds s w.name noted w.sampled e)
     go false f = or-none (has same_name v.black w.name) ∙ ap (λ o. has same_name v.black w.name || exceeds noted o) (sym (f refl))
 
+-- roots that others derive derive no more than these
+derived-from : {X : Type 0} (edges : List (X × X)) (entries : List (List X × X)) (xs ys : List X) → ((x : X) → Among x xs → Least (system ys edges entries) x) →
+    (x : X) → Least (system xs edges entries) x → Least (system ys edges entries) x
+derived-from edges entries xs ys f = derived-within xs edges entries (Least (system ys edges entries)) f
+    (λ x y e d. derive-along ys edges entries x y e d) (λ ps x m g. derive-jointly ys edges entries ps x m g)
+
+-- The members of a mapping that together give its value
+
+abbrev premises : Hyperedge → List ℕ
+premises m = (hyperedge_rule m).0
+
+-- their names are those by names
+option-names : (f : ℕ → Name) (o : Option ℕ) → option_to_list (option_map f o) ≡ map f (option_to_list o)
+option-names f None = refl
+option-names f (Some i) = refl
+
+-- each is a node
+within-all : (count : ℕ) (m : Hyperedge) → IsHyperedgeWithin count m → (i : ℕ) → Among i (premises m) → i < count
+within-all count m within i h = ⊎_elim (λ l. option-within m.the_map within.the_map l) (λ r. option-within m.key within.key r) (Among-append i (option_to_list m.the_map) (option_to_list m.key) h)
+  where
+    option-within : (o : Option ℕ) → IfSome o (λ j. j < count) → Among i (option_to_list o) → i < count
+    option-within None below h = absurd h
+    option-within (Some j) below h = ⊎_elim (λ (e : j ≡ i). subst (λ k. k < count) e below) (λ none. absurd none) h
+
 module _ (b : Built) (v : Keyed) (built : IsBuilt b v) (all : b.next ≡ length b.graph.nodes) where
   abbrev ns : List Vertex
   ns = b.graph.nodes
 
   abbrev es : List Edge
   es = b.graph.edges
+
+  abbrev js : List (List ℕ × ℕ)
+  js = map hyperedge_rule b.graph.hyperedges
 
   abbrev s : Snapshot
   s = snapshot_of b
@@ -63,7 +91,7 @@ module _ (b : Built) (v : Keyed) (built : IsBuilt b v) (all : b.next ≡ length 
   roots = touched b.graph v.heap ++ held_elsewhere b.graph
 
   abbrev IsFromRoots : ℕ → Type 0
-  IsFromRoots = Least (system roots (map edge_pair es) [])
+  IsFromRoots = Least (system roots (map edge_pair es) js)
 
   the_nodes : s.nodes ≡ map node_behind ns
   the_nodes = ap (λ n. nodes_of n ns) all ∙ nodes-node_behind ns
@@ -104,6 +132,13 @@ module _ (b : Built) (v : Keyed) (built : IsBuilt b v) (all : b.next ≡ length 
       (Among-filter (is_seed (view v.heap) s) (node_behind w) s.nodes
       (subst (Among (node_behind w)) (sym the_nodes) (Among-map node_behind w ns (place-among w ns i at))) seed)
 
+  -- the names of a mapping's members
+  premises-named : (m : Hyperedge) → (mapping_joint (mapping_of ns m)).0 ≡ map (vertex_name ns) (premises m)
+  premises-named m =
+      ap (λ xs. xs ++ option_to_list (option_map (vertex_name ns) m.key)) (option-names (vertex_name ns) m.the_map)
+      ∙ ap (λ xs. map (vertex_name ns) (option_to_list m.the_map) ++ xs) (option-names (vertex_name ns) m.key)
+      ∙ sym (map-append (vertex_name ns) (option_to_list m.the_map) (option_to_list m.key))
+
   -- A node that is reached from the roots is black in the snapshot,
   record IsBlackNode (i : ℕ) : Type 0 where
     node : Vertex
@@ -111,12 +146,12 @@ module _ (b : Built) (v : Keyed) (built : IsBuilt b v) (all : b.next ≡ length 
     black : BlackIn (view v.heap) s node.name
 
   reached-black : (i : ℕ) → IsFromRoots i → IsBlackNode i
-  reached-black = derived-within roots (map edge_pair es) [] IsBlackNode
+  reached-black = derived-within roots (map edge_pair es) js IsBlackNode
       (λ i m.
       let k = root-seed i m in
       record { node = k.0; there = k.1; black = derive-root (seeds (view v.heap) s) s.references (map mapping_joint s.mappings) k.0.name (seed-there i k.0 k.1 k.2) })
       (λ i j m h. follow i j h (Among-map_cases edge_pair es (i, j) m))
-      (λ ps i m. absurd m)
+      (λ ps i m h. together ps i h (Among-map_cases hyperedge_rule b.graph.hyperedges (ps, i) m))
     where
       along_edge : (e : Edge) → Among e es → IsBlackNode e.source → IsBlackNode e.target
       along_edge e m h =
@@ -134,6 +169,30 @@ module _ (b : Built) (v : Keyed) (built : IsBuilt b v) (all : b.next ≡ length 
       follow : (i j : ℕ) → IsBlackNode i → (e : Edge) × Among e es × (edge_pair e ≡ (i, j)) → IsBlackNode j
       follow i j h k = subst IsBlackNode (ap (λ (z : ℕ × ℕ). z.1) k.2) (along_edge k.0 k.1 (subst IsBlackNode (sym (ap (λ (z : ℕ × ℕ). z.0) k.2)) h))
 
+      -- the value of a mapping whose members are black
+      by_mapping : (m : Hyperedge) → Among m b.graph.hyperedges → ((i : ℕ) → Among i (premises m) → IsBlackNode i) → IsBlackNode m.value
+      by_mapping m i h =
+          let t = node-at ns m.value (built.mapped m i).value in
+          let named : List Name = (mapping_joint (mapping_of ns m)).0 in
+          record {
+            node = t.0;
+            there = t.1;
+            black = subst (BlackIn (view v.heap) s) (name-at ns m.value t.0 t.1)
+                (derive-jointly (seeds (view v.heap) s) s.references (map mapping_joint s.mappings) named (vertex_name ns m.value)
+                (Among-map mapping_joint (mapping_of ns m) s.mappings (Among-map (mapping_of ns) m b.graph.hyperedges i))
+                (λ x l. member x (Among-map_cases (vertex_name ns) (premises m) x (subst (Among x) (premises-named m) l))));
+          }
+        where
+          member : (x : Name) → (i : ℕ) × Among i (premises m) × (vertex_name ns i ≡ x) → BlackIn (view v.heap) s x
+          member x k =
+              let n = h k.0 k.1 in
+              subst (BlackIn (view v.heap) s) (sym (name-at ns k.0 n.node n.there) ∙ k.2) n.black
+
+      together : (ps : List ℕ) (i : ℕ) → ((j : ℕ) → Among j ps → IsBlackNode j) → (m : Hyperedge) × Among m b.graph.hyperedges × (hyperedge_rule m ≡ (ps, i)) → IsBlackNode i
+      together ps i h k =
+          subst IsBlackNode (ap (λ (z : List ℕ × ℕ). z.1) k.2)
+          (by_mapping k.0 k.1 (λ j l. h j (subst (Among j) (ap (λ (z : List ℕ × ℕ). z.0) k.2) l)))
+
   -- and what is black in the snapshot is such a node's name.
   record IsReachedName (x : Name) : Type 0 where
     number : ℕ
@@ -146,7 +205,7 @@ module _ (b : Built) (v : Keyed) (built : IsBuilt b v) (all : b.next ≡ length 
   black-reached = derived-within (seeds (view v.heap) s) s.references (map mapping_joint s.mappings) IsReachedName
       (λ x m. from_seed x (Among-map_cases (λ (n : Node). n.name) (filter (is_seed (view v.heap) s) s.nodes) x m))
       (λ x y m h. follow x y h (Among-map_cases (reference_of ns) es (x, y) m))
-      (λ ps x m. absurd m)
+      (λ ps x m h. together ps x h (Among-map_cases mapping_joint s.mappings (ps, x) m))
     where
       from_seed : (x : Name) → (n : Node) × Among n (filter (is_seed (view v.heap) s) s.nodes) × (n.name ≡ x) → IsReachedName x
       from_seed x n =
@@ -159,7 +218,7 @@ module _ (b : Built) (v : Keyed) (built : IsBuilt b v) (all : b.next ≡ length 
             node = w.0;
             there = at.1;
             name = ap (λ (z : Node). z.name) w.2 ∙ n.2;
-            reached = derive-root roots (map edge_pair es) [] at.0 (seed-root at.0 w.0 at.1 seed);
+            reached = derive-root roots (map edge_pair es) js at.0 (seed-root at.0 w.0 at.1 seed);
           }
 
       follow : (x y : Name) → IsReachedName x → (e : Edge) × Among e es × (reference_of ns e ≡ (x, y)) → IsReachedName y
@@ -174,8 +233,38 @@ module _ (b : Built) (v : Keyed) (built : IsBuilt b v) (all : b.next ≡ length 
             node = t.0;
             there = t.1;
             name = second;
-            reached = derive-along roots (map edge_pair es) [] k.0.source k.0.target (Among-map edge_pair k.0 es k.1) (subst IsFromRoots same h.reached);
+            reached = derive-along roots (map edge_pair es) js k.0.source k.0.target (Among-map edge_pair k.0 es k.1) (subst IsFromRoots same h.reached);
           }
+
+      -- a number whose node has the name of one that is reached
+      reached-number : (i : ℕ) → i < length ns → IsReachedName (vertex_name ns i) → IsFromRoots i
+      reached-number i l h =
+          let w = node-at ns i l in
+          subst IsFromRoots (distinct-number ns built.distinct h.number i h.node w.0 h.there w.1 (h.name ∙ name-at ns i w.0 w.1)) h.reached
+
+      by_mapping : (m : Hyperedge) → Among m b.graph.hyperedges → ((x : Name) → Among x (mapping_joint (mapping_of ns m)).0 → IsReachedName x) → IsReachedName (vertex_name ns m.value)
+      by_mapping m i h =
+          let t = node-at ns m.value (built.mapped m i).value in
+          record {
+            number = m.value;
+            node = t.0;
+            there = t.1;
+            name = sym (name-at ns m.value t.0 t.1);
+            reached = derive-jointly roots (map edge_pair es) js (premises m) m.value (Among-map hyperedge_rule m b.graph.hyperedges i)
+                (λ j l. reached-number j (within-all (length ns) m (built.mapped m i) j l)
+                (h (vertex_name ns j) (subst (Among (vertex_name ns j)) (sym (premises-named m)) (Among-map (vertex_name ns) j (premises m) l))));
+          }
+
+      of_mapping : (ps : List Name) (x : Name) → ((y : Name) → Among y ps → IsReachedName y) → (m : Hyperedge) → Among m b.graph.hyperedges →
+          mapping_joint (mapping_of ns m) ≡ (ps, x) → IsReachedName x
+      of_mapping ps x h m i e =
+          subst IsReachedName (ap (λ (z : List Name × Name). z.1) e)
+          (by_mapping m i (λ y l. h y (subst (Among y) (ap (λ (z : List Name × Name). z.0) e) l)))
+
+      together : (ps : List Name) (x : Name) → ((y : Name) → Among y ps → IsReachedName y) → (m : Mapping) × Among m s.mappings × (mapping_joint m ≡ (ps, x)) → IsReachedName x
+      together ps x h k =
+          let m = Among-map_cases (mapping_of ns) b.graph.hyperedges k.0 k.1 in
+          of_mapping ps x h m.0 m.1 (ap mapping_joint m.2 ∙ k.2)
 
   -- Black in the snapshot is reached from the roots.
   black-node : (i : ℕ) (w : Vertex) → slice_get ns i ≡ Some w → BlackIn (view v.heap) s w.name ↔ IsFromRoots i
@@ -190,25 +279,36 @@ module _ (b : Built) (v : Keyed) (built : IsBuilt b v) (all : b.next ≡ length 
         subst (λ (z : Vertex). BlackIn (view v.heap) s z.name) same h.black,
   )
 
-  module _ (g m : Shown) (nodes : g.nodes ≡ b.graph.nodes) (m_nodes : m.nodes ≡ b.graph.nodes) (m_edges : m.edges ≡ b.graph.edges)
+  module _ (g m : Shown) (nodes : g.nodes ≡ b.graph.nodes) (m_nodes : m.nodes ≡ b.graph.nodes) (m_edges : m.edges ≡ b.graph.edges) (m_hyperedges : m.hyperedges ≡ b.graph.hyperedges)
       (touched_first : (i : ℕ) → IsTrue (is_black m i) ↔ Among i (touched b.graph v.heap))
       (scanned : (i : ℕ) → IsTrue (is_black g i) ↔ Least (scan_rules m) i) where
     held_same : held_elsewhere m ≡ held_elsewhere b.graph
     held_same = ap (λ l. numbers_where (λ i w. exceeds (edges_to l i) w.sampled) 0 m.nodes) m_edges ∙ ap (numbers_where (λ i w. exceeds (edges_to es i) w.sampled) 0) m_nodes
 
+    abbrev m_roots : List ℕ
+    m_roots = m.blacks ++ held_elsewhere m
+
+    -- what the scan derives, over the graph that was built
+    rules-same : scan_rules m ≡ system m_roots (map edge_pair es) js
+    rules-same =
+        ap (λ l. system m_roots (map edge_pair l) (map hyperedge_rule m.hyperedges)) m_edges
+        ∙ ap (λ l. system m_roots (map edge_pair es) (map hyperedge_rule l)) m_hyperedges
+
     black-reached_in : (i : ℕ) → IsTrue (is_black g i) ↔ IsFromRoots i
     black-reached_in i = (
-      λ e. derived-from (map edge_pair es) (m.blacks ++ held_elsewhere m) roots (λ x l. derive-root roots (map edge_pair es) [] x (into x l)) i (subst (λ l. Least (system (m.blacks ++ held_elsewhere m) (map edge_pair l) []) i) m_edges ((scanned i).0 e)),
-      λ d. (scanned i).1 (subst (λ l. Least (system (m.blacks ++ held_elsewhere m) (map edge_pair l) []) i) (sym m_edges) (derived-from (map edge_pair es) roots (m.blacks ++ held_elsewhere m) (λ x l. derive-root (m.blacks ++ held_elsewhere m) (map edge_pair es) [] x (back x l)) i d)),
+      λ e. derived-from (map edge_pair es) js m_roots roots (λ x l. derive-root roots (map edge_pair es) js x (into x l)) i
+          (subst (λ rs. Least rs i) rules-same ((scanned i).0 e)),
+      λ d. (scanned i).1
+          (subst (λ rs. Least rs i) (sym rules-same) (derived-from (map edge_pair es) js roots m_roots (λ x l. derive-root m_roots (map edge_pair es) js x (back x l)) i d)),
     )
       where
-        into : (x : ℕ) → Among x (m.blacks ++ held_elsewhere m) → Among x roots
+        into : (x : ℕ) → Among x m_roots → Among x roots
         into x m₁ = ⊎_elim
             (λ l. Among-left x (touched b.graph v.heap) (held_elsewhere b.graph) ((touched_first x).0 (has-there _ number-exact m.blacks x l)))
             (λ r. Among-right x (touched b.graph v.heap) (held_elsewhere b.graph) (subst (Among x) held_same r))
             (Among-append x m.blacks (held_elsewhere m) m₁)
 
-        back : (x : ℕ) → Among x roots → Among x (m.blacks ++ held_elsewhere m)
+        back : (x : ℕ) → Among x roots → Among x m_roots
         back x m₁ = ⊎_elim
             (λ l. Among-left x m.blacks (held_elsewhere m) (has-among _ number-exact m.blacks x ((touched_first x).1 l)))
             (λ r. Among-right x m.blacks (held_elsewhere m) (subst (Among x) (sym held_same) r))
@@ -275,7 +375,7 @@ pub whites-found : (b : Built) (v : Keyed) (m g : Shown) → IsBuilt b v → b.n
     ((i : ℕ) → IsTrue (is_black g i) ↔ Least (scan_rules m) i) → g ≡ record m { blacks = g.blacks } →
     whites_of g v.heap ≡ white_natives v.heap (snapshot_of b)
 whites-found b v m g built all marked kept least rest =
-    whites-are b v built all g m (ap (λ (z : Shown). z.nodes) rest ∙ m_nodes) m_nodes (ap (λ (z : Shown). z.edges) kept)
+    whites-are b v built all g m (ap (λ (z : Shown). z.nodes) rest ∙ m_nodes) m_nodes (ap (λ (z : Shown). z.edges) kept) (ap (λ (z : Shown). z.hyperedges) kept)
     (λ i. (λ e. ⊎_elim (λ o. absurd (none i o)) (λ t. t) ((marked i).0 e), λ t. (marked i).1 (inr t))) least
   where
     m_nodes : m.nodes ≡ b.graph.nodes

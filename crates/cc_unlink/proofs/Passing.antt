@@ -133,7 +133,8 @@ IsInOrder-permuted early late v same i = record {
   whole = i.whole;
   limits = i.limits;
   reflecting = i.reflecting;
-  without_maps = i.without_maps;
+  entries = i.entries;
+  entries_there = i.entries_there;
 }
 
 -- one that is owned may stand in front

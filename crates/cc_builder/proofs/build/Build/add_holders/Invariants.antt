@@ -19,6 +19,7 @@ invariant-holders l = record {
   there : IsNativeThere l.heaps l.holder;
   found : (after : Option ℕ) × (stands l.heaps l.holder ≡ holder_after l.heaps.heap after);
   edges : l.self.graph.edges ≡ l.fn.self.graph.edges;
+  hyperedges : l.self.graph.hyperedges ≡ l.fn.self.graph.hyperedges;
   next : l.self.next ≡ l.fn.self.next;
   candidates : l.self.candidates ≡ l.fn.self.candidates;
   built : IsBuilt l.self l.heaps;

@@ -16,13 +16,13 @@ pub returns-clause-built : goal.returns-clause-built
 returns-clause-built c =
     let e = c.in_ok-node.ensures in
     IsAdded-built {object = c.args.object} c.self.view_is c.requires.built c.requires.order c.requires.there
-    (record { nodes = e.nodes ∙ ap (λ x. with_vertex c.self.inside.graph.nodes x c.args.object) c.name_of-name.ensures; edges = e.edges; blacks = e.blacks; spare = e.spare })
+    (record { nodes = e.nodes ∙ ap (λ x. with_vertex c.self.inside.graph.nodes x c.args.object) c.name_of-name.ensures; edges = e.edges; hyperedges = e.hyperedges; blacks = e.blacks; spare = e.spare })
 
 pub returns-clause-held : goal.returns-clause-held
 returns-clause-held c =
     let e = c.in_ok-node.ensures in
     IsAdded-held c.args.heaps.now {object = c.args.object} c.self.view_is c.requires.held c.requires.order c.requires.there
-    (record { nodes = e.nodes ∙ ap (λ x. with_vertex c.self.inside.graph.nodes x c.args.object) c.name_of-name.ensures; edges = e.edges; blacks = e.blacks; spare = e.spare })
+    (record { nodes = e.nodes ∙ ap (λ x. with_vertex c.self.inside.graph.nodes x c.args.object) c.name_of-name.ensures; edges = e.edges; hyperedges = e.hyperedges; blacks = e.blacks; spare = e.spare })
 
 pub returns-in_err-node-clause-held : goal.returns-in_err-node-clause-held
 returns-in_err-node-clause-held c =

@@ -23,7 +23,7 @@ returns-in_err-add_purple-clause-refused c =
     let i = is-at v c.buffer.suspect key c.in-Some.is l.live l.there in
     let k = the_number v key.0 in
     on_err_of c.from_residual.result
-    (first-some_are v xs (purple_names (buffer_from v.heap.buffer (number_behind v.heap.buffer k))) k c.requires.order
+    (first-some_are v.heap xs (purple_names (buffer_from v.heap.buffer (number_behind v.heap.buffer k))) k
     (turn-purple v c.buffer.suspect key xs (with_all_last same_name [] (purple_names v.heap.buffer)) c.requires.order i c.in_err-add_purple.ensures.refused l.names))
 
 pub buffer-smaller : goal.buffer-smaller
@@ -51,6 +51,7 @@ buffer-preserved c =
       live = live;
       there = read-there v r (number_behind v.heap.buffer k) next live (after-there v.heap.buffer k);
       edges = c.in_ok-add_purple.ensures.edges ∙ l.edges;
+      hyperedges = c.in_ok-add_purple.ensures.hyperedges ∙ l.hyperedges;
       next = c.in_ok-add_purple.ensures.next ∙ l.next;
       built = c.in_ok-add_purple.ensures.built;
       held = c.in_ok-add_purple.ensures.held;
@@ -66,6 +67,9 @@ returns-clause-names c =
 
 pub returns-clause-edges : goal.returns-clause-edges
 returns-clause-edges c = ap (λ (a : Built). a.graph.edges) c.build-2.view_is ∙ c.buffer.invariant.edges
+
+pub returns-clause-hyperedges : goal.returns-clause-hyperedges
+returns-clause-hyperedges c = ap (λ (a : Built). a.graph.hyperedges) c.build-2.view_is ∙ c.buffer.invariant.hyperedges
 
 pub returns-clause-next : goal.returns-clause-next
 returns-clause-next c = ap (λ (a : Built). a.next) c.build-2.view_is ∙ c.buffer.invariant.next

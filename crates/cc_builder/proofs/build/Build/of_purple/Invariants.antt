@@ -19,6 +19,7 @@ invariant-buffer l =
       live : IfSome l.suspect (λ (k : NKey). IsSome (number_at l.heaps k.0));
       there : IfSome l.suspect (λ (k : NKey). is_in_buffer buffer (the_number l.heaps k.0) ≡ true);
       edges : l.build.graph.edges ≡ [];
+      hyperedges : l.build.graph.hyperedges ≡ [];
       next : l.build.next ≡ 0;
       built : IsBuilt l.build l.heaps;
       held : AreHeld l.build.graph (HasKey l.heaps);

@@ -1,0 +1,64 @@
+use Rattle.std.proofs.Common.{◌≡◌, IsTrue, [], ◌∷◌, ◌++◌, flat_map, map, sym, ◌∙◌, ap, subst}
+use Rattle.std.proofs.lemmas.List.{append-nil}
+use Rattle.cc_lists.specs.Members.{with_all_last}
+use Rattle.cc_lists.proofs.KnownBytes.{on_err_of}
+use Rattle.cc_names.specs.Names.{same_name}
+use Rattle.cc_model.specs.Units.{members_of}
+use Rattle.cc_model.specs.Units as units
+use Rattle.cc_weakmaps.specs.Entries.{entry}
+use Rattle.cc_script.specs.Objects.{is_there}
+use Rattle.cc_heaps.specs.Keyed.{named_entry}
+use Rattle.cc_builder.specs.Building.{mapping_of, vertex_names}
+use Rattle.cc_builder.specs.BuildSteps.{mappings_at}
+use Rattle.cc_builder.proofs.EntryMappings.{entry-there, noted-none, noted-one}
+use Rattle.cc_builder.proofs.build.Build.add_mapping.Goals as goal
+
+pub colour-requires : goal.colour-requires
+colour-requires c =
+    let there = entry-there c.args.heaps.now c.weak.result.now c.args.i (entry c.entry.result.0.0 c.entry.result.1.0 c.entry.result.2.0) c.weak.ensures c.entry.ensures c.requires.order in
+    record { live = subst (λ os. IsTrue (is_there os c.entry.result.2.0)) (sym c.scripts.ensures) there.value }
+
+pub note_entry-requires-clause-the_map : goal.note_entry-requires-clause-the_map
+note_entry-requires-clause-the_map c =
+    (entry-there c.args.heaps.now c.weak.result.now c.args.i (entry c.entry.result.0.0 c.entry.result.1.0 c.entry.result.2.0) c.weak.ensures c.entry.ensures c.requires.order).the_map
+
+pub note_entry-requires-clause-key : goal.note_entry-requires-clause-key
+note_entry-requires-clause-key c =
+    (entry-there c.args.heaps.now c.weak.result.now c.args.i (entry c.entry.result.0.0 c.entry.result.1.0 c.entry.result.2.0) c.weak.ensures c.entry.ensures c.requires.order).key
+
+-- where the value is gray, the entry is noted
+one : (c : goal.In_ok-note_entry) → mappings_at c.args.heaps.now c.args.i ≡ units.mapping_of c.args.heaps.now.heap (named_entry c.args.heaps.now.scripts (entry c.entry.result.0.0 c.entry.result.1.0 c.entry.result.2.0)) ∷ []
+one c =
+    noted-one c.args.heaps.now c.weak.result.now c.args.i (entry c.entry.result.0.0 c.entry.result.1.0 c.entry.result.2.0) c.weak.ensures c.entry.ensures
+    c.requires.order c.scripts.result.now c.colour.result c.scripts.ensures c.colour.ensures (sym c.eq.ensures ∙ c.if-eq.true)
+
+pub returns-in_err-note_entry-clause-refused : goal.returns-in_err-note_entry-clause-refused
+returns-in_err-note_entry-clause-refused c =
+    let noted = noted-one c.args.heaps.now c.weak.result.now c.args.i (entry c.entry.result.0.0 c.entry.result.1.0 c.entry.result.2.0) c.weak.ensures c.entry.ensures
+    c.requires.order c.scripts.result.now c.colour.result c.scripts.ensures c.colour.ensures (sym c.eq.ensures ∙ c.if-eq.true) in
+    on_err_of c.from_residual.result (λ none. cc)
+
+pub returns-in_ok-note_entry-clause-names : goal.returns-in_ok-note_entry-clause-names
+returns-in_ok-note_entry-clause-names c =
+    let xs = vertex_names c.args.self.now.graph.nodes in
+    c.in_ok-note_entry.ensures.names
+    ∙ ap (with_all_last same_name xs) (sym (ap (flat_map members_of) (one c) ∙ append-nil _))
+
+pub returns-in_ok-note_entry-clause-mappings : goal.returns-in_ok-note_entry-clause-mappings
+returns-in_ok-note_entry-clause-mappings c =
+    let ms = map (mapping_of c.args.self.now.graph.nodes) c.args.self.now.graph.hyperedges in
+    c.in_ok-note_entry.ensures.mappings ∙ ap (λ ns. ms ++ ns) (sym (one c))
+
+-- where it is not, nothing is
+none : (c : goal.Else-eq) → mappings_at c.args.heaps.now c.args.i ≡ []
+none c =
+    noted-none c.args.heaps.now c.weak.result.now c.args.i (entry c.entry.result.0.0 c.entry.result.1.0 c.entry.result.2.0) c.weak.ensures c.entry.ensures
+    c.requires.order c.scripts.result.now c.colour.result c.scripts.ensures c.colour.ensures (sym c.eq.ensures ∙ c.if-eq.false)
+
+pub returns-else-eq-clause-names : goal.returns-else-eq-clause-names
+returns-else-eq-clause-names c = sym (ap (λ ms. with_all_last same_name (vertex_names c.args.self.now.graph.nodes) (flat_map members_of ms)) (none c))
+
+pub returns-else-eq-clause-mappings : goal.returns-else-eq-clause-mappings
+returns-else-eq-clause-mappings c =
+    let ms = map (mapping_of c.args.self.now.graph.nodes) c.args.self.now.graph.hyperedges in
+    sym (ap (λ ns. ms ++ ns) (none c) ∙ append-nil ms)

@@ -1,0 +1,127 @@
+//! The entries of weak maps with a gray value, noted as mappings.
+ghost use Rattle.std.specs.Prelude.{◌≡◌, ◌≢◌, ◌<◌, ◌++◌, ◌∷◌, [], length, map, flat_map, IsTrue, IfOk, IfSome, OnOk, OnErr, Some, option_map, option_to_list};
+ghost use Rattle.cc_lists.specs.Members.{with_all_last};
+ghost use Rattle.cc_names.specs.Names.{same_name};
+ghost use Rattle.cc_model.specs.Units.{if_gray, mappings_of, members_of};
+ghost use Rattle.cc_model.specs.Units as units;
+ghost use Rattle.cc_script.specs.Objects.{is_there};
+ghost use Rattle.cc_graph.specs.Held.{AreHeld};
+ghost use Rattle.cc_heaps.specs.Keyed.{IsInOrder, named_entry, the_name_at};
+ghost use Rattle.cc_weakmaps.specs.Entries.{entry};
+ghost use Rattle.cc_heaps.specs.HasKey.{HasKey};
+ghost use Rattle.cc_builder.specs.Building.{IsBuilt, mapping_of, vertex_name, vertex_names};
+ghost use Rattle.cc_builder.specs.BuildSteps.{mappings_at};
+
+use crate::build::Build;
+use cc_counted::Held;
+use cc_heaps::Heaps;
+use cc_names::{Colour, NoMemory, SKey};
+
+impl Build {
+    /// Each entry of a weak map whose value is gray is noted as a mapping, in the order in which entries were first set.
+    /// Its map and its key, each where it is gray, and its value become nodes, in this order, last, where they are none.
+    ///
+    /// `NoMemory` only where there is such an entry.
+    pub(super) fn add_mappings(&mut self, heaps: &Heaps) -> Result<(), NoMemory>
+        requires built { IsBuilt self.old heaps.now }
+        requires held { AreHeld self.old.graph (HasKey heaps.now) }
+        requires order { IsInOrder [] heaps.now }
+        ensures names { OnOk result (vertex_names self.new.graph.nodes
+            ≡ with_all_last same_name (vertex_names self.old.graph.nodes) (flat_map members_of (mappings_of heaps.now.heap))) }
+        ensures mappings { OnOk result (map (mapping_of self.new.graph.nodes) self.new.graph.hyperedges
+            ≡ map (mapping_of self.old.graph.nodes) self.old.graph.hyperedges ++ mappings_of heaps.now.heap) }
+        ensures edges { self.new.graph.edges ≡ self.old.graph.edges }
+        ensures next { self.new.next ≡ self.old.next }
+        ensures candidates { self.new.candidates ≡ self.old.candidates }
+        ensures refused { OnErr result (mappings_of heaps.now.heap ≢ []) }
+        ensures built { IsBuilt self.new heaps.now }
+        ensures held { AreHeld self.new.graph (HasKey heaps.now) }
+    {
+        for i in 0..heaps.weak().len() {
+            self.add_mapping(i, heaps)?;
+        }
+        Ok(())
+    }
+
+    /// The entry at place `i`, counted from 0, is noted where its value is gray.
+    ///
+    /// `NoMemory` only where it is.
+    fn add_mapping(&mut self, i: usize, heaps: &Heaps) -> Result<(), NoMemory>
+        requires built { IsBuilt self.old heaps.now }
+        requires held { AreHeld self.old.graph (HasKey heaps.now) }
+        requires order { IsInOrder [] heaps.now }
+        requires within { i < length heaps.now.entries }
+        ensures names { OnOk result (vertex_names self.new.graph.nodes
+            ≡ with_all_last same_name (vertex_names self.old.graph.nodes) (flat_map members_of (mappings_at heaps.now i))) }
+        ensures mappings { OnOk result (map (mapping_of self.new.graph.nodes) self.new.graph.hyperedges
+            ≡ map (mapping_of self.old.graph.nodes) self.old.graph.hyperedges ++ mappings_at heaps.now i) }
+        ensures edges { self.new.graph.edges ≡ self.old.graph.edges }
+        ensures next { self.new.next ≡ self.old.next }
+        ensures candidates { self.new.candidates ≡ self.old.candidates }
+        ensures refused { OnErr result (mappings_at heaps.now i ≢ []) }
+        ensures built { IsBuilt self.new heaps.now }
+        ensures held { AreHeld self.new.graph (HasKey heaps.now) }
+    {
+        let (the_map, key, value) = heaps.weak().entry(i);
+        if heaps.scripts().colour(value) == Colour::Gray {
+            self.note_entry(the_map, key, value, heaps)?;
+        }
+        Ok(())
+    }
+
+    /// An entry is noted as a mapping: its map and its key, each where it is gray, and its value become nodes, last, where
+    /// they are none.
+    fn note_entry(
+        &mut self,
+        the_map: SKey,
+        key: SKey,
+        value: SKey,
+        heaps: &Heaps,
+    ) -> Result<(), NoMemory>
+        requires built { IsBuilt self.old heaps.now }
+        requires held { AreHeld self.old.graph (HasKey heaps.now) }
+        requires order { IsInOrder [] heaps.now }
+        requires the_map { IsTrue (is_there heaps.now.scripts the_map.0) }
+        requires key { IsTrue (is_there heaps.now.scripts key.0) }
+        requires value { IsTrue (is_there heaps.now.scripts value.0) }
+        ensures names { OnOk result (vertex_names self.new.graph.nodes
+            ≡ with_all_last same_name (vertex_names self.old.graph.nodes) (members_of (units.mapping_of heaps.now.heap (named_entry heaps.now.scripts (entry the_map.0 key.0 value.0))))) }
+        ensures mappings { OnOk result (map (mapping_of self.new.graph.nodes) self.new.graph.hyperedges
+            ≡ map (mapping_of self.old.graph.nodes) self.old.graph.hyperedges ++ units.mapping_of heaps.now.heap (named_entry heaps.now.scripts (entry the_map.0 key.0 value.0)) ∷ []) }
+        ensures edges { self.new.graph.edges ≡ self.old.graph.edges }
+        ensures next { self.new.next ≡ self.old.next }
+        ensures candidates { self.new.candidates ≡ self.old.candidates }
+        ensures built { IsBuilt self.new heaps.now }
+        ensures held { AreHeld self.new.graph (HasKey heaps.now) }
+    {
+        let the_map = self.add_gray(the_map, heaps)?;
+        let key = self.add_gray(key, heaps)?;
+        let value = self.add_object(Held::Script(value), heaps)?;
+        self.graph.note_mapping(the_map, key, value)?;
+        Ok(())
+    }
+
+    /// A script object becomes a node, last, where it is gray and none. The number of its node, where it is gray.
+    fn add_gray(&mut self, object: SKey, heaps: &Heaps) -> Result<Option<u32>, NoMemory>
+        requires built { IsBuilt self.old heaps.now }
+        requires held { AreHeld self.old.graph (HasKey heaps.now) }
+        requires order { IsInOrder [] heaps.now }
+        requires there { IsTrue (is_there heaps.now.scripts object.0) }
+        ensures names { OnOk result (vertex_names self.new.graph.nodes
+            ≡ with_all_last same_name (vertex_names self.old.graph.nodes) (option_to_list (if_gray heaps.now.heap (the_name_at heaps.now.scripts object.0)))) }
+        ensures number { IfOk result (λ i. option_map (vertex_name self.new.graph.nodes) i ≡ if_gray heaps.now.heap (the_name_at heaps.now.scripts object.0)) }
+        ensures within { IfOk result (λ i. IfSome i (λ k. k < length self.new.graph.nodes)) }
+        ensures edges { self.new.graph.edges ≡ self.old.graph.edges }
+        ensures hyperedges { self.new.graph.hyperedges ≡ self.old.graph.hyperedges }
+        ensures next { self.new.next ≡ self.old.next }
+        ensures candidates { self.new.candidates ≡ self.old.candidates }
+        ensures built { IsBuilt self.new heaps.now }
+        ensures held { AreHeld self.new.graph (HasKey heaps.now) }
+    {
+        if heaps.scripts().colour(object) == Colour::Gray {
+            let node = self.add_object(Held::Script(object), heaps)?;
+            return Ok(Some(node));
+        }
+        Ok(None)
+    }
+}
