@@ -1,6 +1,8 @@
 pub mod Rows
 pub mod Keeping
 pub mod Spared
+pub mod EndSpares
+pub mod UnitsSpare
 pub mod Coming
 pub mod NoneBack
 pub mod GoingOn

@@ -6,6 +6,7 @@ use Rattle.cc_names.specs.declared.name.Name.{Name}
 use Rattle.cc_names.specs.declared.name.Name.TheVariants as name
 use Rattle.cc_model.specs.declared.item.Event.{Event}
 use Rattle.cc_model.specs.declared.item.Event.TheVariants.{Unlinked, Freed, Abandoned}
+use Rattle.cc_model.specs.Telling.{Telling}
 use Rattle.cc_model.specs.Heap.{Heap, Buffered}
 use Rattle.cc_model.specs.View.{view}
 use Rattle.cc_model.specs.WellFormed.{IsWellFormed, names_there}
@@ -31,9 +32,15 @@ use Rattle.cc_laws_run.proofs.BufferStands.{IsSound-buffer, HasColourInvariant-b
 use Rattle.cc_laws_run.proofs.UnitLawful.{unit-cases, traversed-none}
 use Rattle.cc_laws_run.proofs.QuietUnits.{with_empty_buffer-sound}
 use Rattle.cc_laws_run.proofs.HoldingUnits.{units_done-keep}
+use Rattle.cc_laws_run.specs.Memory.{with_memory}
+use Rattle.cc_heaps.specs.Keyed.{Keyed}
+use Rattle.cc_builder.specs.Building.{Built}
 use Rattle.cc_gc.specs.Sparing.{KeepsWhatIsReached, SparesWhatIsReached}
 use Rattle.cc_gc.proofs.Sparing.{keeps-same, keeps-then, spares-nothing, spares-then}
 use Rattle.cc_gc.proofs.RoundsSpare.{collect_scripts-keeps, collect_scripts-spares}
+use Rattle.cc_collector.specs.Kept.{RunsIn, machine_of}
+use Rattle.cc_collector.specs.Collected.{LedTo, IsSliced, IsCollected, IsSwept, TellsWhatLeaves}
+use Rattle.cc_collector.proofs.Keeping.{RunsIn-fresh}
 use Rattle.cc_collector.proofs.EndSpares.{take_away-keeps_reached, take_away-spares}
 
 -- Another buffer
@@ -262,3 +269,56 @@ module _ (m : Machine) (sound : IsSound [] m.heap) (colours : HasColourInvariant
         keeps = keeps-then m.heap h k first.keeps (collect_scripts-keeps h first.sound);
         spares = spares-then m.heap h k d.events (collect_scripts h).events first.keeps (collect_scripts-keeps h first.sound) first.spares (collect_scripts-spares h first.sound);
       }
+
+-- Collectors
+
+module _ (v : Keyed) (c : Option Built) (r : RunsIn v c) (memory : List Bool) where
+  -- the units of a collector that runs
+  abbrev start : Machine
+  start = with_memory (machine_of v.heap c) memory
+
+  pub slice-units : (n : ℕ) → UnitsSpare v.heap (slice n (with_memory (machine_of v.heap c) memory))
+  slice-units n = slice-spare start r.order.sound r.colours (RunsIn-fresh v c r) n
+
+  pub collect-units : UnitsSpare v.heap (collect (with_memory (machine_of v.heap c) memory))
+  collect-units = collect-spare start r.order.sound r.colours (RunsIn-fresh v c r)
+
+  pub gc-units : UnitsSpare v.heap (gc (with_memory (machine_of v.heap c) memory))
+  gc-units = gc-spare start r.order.sound r.colours (RunsIn-fresh v c r)
+
+-- what units led to keeps what is reached, where the units do
+led-keeps : (d : UnitsDone) (old new : Machine) (p : Progress) (t t₁ : Telling) → UnitsSpare old.heap d → LedTo d old new p t t₁ → KeepsWhatIsReached old.heap new.heap
+led-keeps d old new p t t₁ u l = subst (KeepsWhatIsReached old.heap) l.same.heap u.keeps
+
+-- what they told was told
+led-tells : (d : UnitsDone) (old new : Machine) (p : Progress) (t t₁ : Telling) → LedTo d old new p t t₁ → TellsWhatLeaves old.heap new.heap t t₁
+led-tells d old new p t t₁ l = record { events = d.events; told = l.told; unreached = l.unreached }
+
+module _ (v : Keyed) (c : Option Built) (r : RunsIn v c) (new : Machine) (t t₁ : Telling) where
+  -- A SLICE KEEPS WHAT IS REACHED,
+  pub sliced-keeps : (n : ℕ) (p : Progress) (steps steps_now : ℕ) → IsSliced n (machine_of v.heap c) new p steps steps_now t t₁ → KeepsWhatIsReached v.heap new.heap
+  sliced-keeps n p steps steps_now s =
+      led-keeps (slice n (with_memory (machine_of v.heap c) s.memory)) (machine_of v.heap c) new p t t₁ (slice-units v c r s.memory n) s.led
+
+  -- so does a collection,
+  pub collected-keeps : (p : Progress) → IsCollected (machine_of v.heap c) new p t t₁ → KeepsWhatIsReached v.heap new.heap
+  collected-keeps p s = led-keeps (collect (with_memory (machine_of v.heap c) s.memory)) (machine_of v.heap c) new p t t₁ (collect-units v c r s.memory) s.led
+
+  -- and `gc`.
+  pub swept-keeps : IsSwept (machine_of v.heap c) new t t₁ → KeepsWhatIsReached v.heap new.heap
+  swept-keeps s =
+      let d : UnitsDone = gc (with_memory (machine_of v.heap c) s.memory) in
+      led-keeps d (machine_of v.heap c) new d.progress t t₁ (gc-units v c r s.memory) s.led
+
+-- A SLICE TELLS WHAT LEAVES,
+pub sliced-tells : (n : ℕ) (old new : Machine) (p : Progress) (steps steps_now : ℕ) (t t₁ : Telling) → IsSliced n old new p steps steps_now t t₁ →
+    TellsWhatLeaves old.heap new.heap t t₁
+sliced-tells n old new p steps steps_now t t₁ s = led-tells (slice n (with_memory old s.memory)) old new p t t₁ s.led
+
+-- so does a collection,
+pub collected-tells : (old new : Machine) (p : Progress) (t t₁ : Telling) → IsCollected old new p t t₁ → TellsWhatLeaves old.heap new.heap t t₁
+collected-tells old new p t t₁ s = led-tells (collect (with_memory old s.memory)) old new p t t₁ s.led
+
+-- and `gc`.
+pub swept-tells : (old new : Machine) (t t₁ : Telling) → IsSwept old new t t₁ → TellsWhatLeaves old.heap new.heap t t₁
+swept-tells old new t t₁ s = led-tells (gc (with_memory old s.memory)) old new (gc (with_memory old s.memory)).progress t t₁ s.led
