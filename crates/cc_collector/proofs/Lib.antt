@@ -4,6 +4,7 @@ pub mod Spared
 pub mod EndSpares
 pub mod UnitsSpare
 pub mod Coming
+pub mod Settling
 pub mod NoneBack
 pub mod GoingOn
 pub mod Whiteness
