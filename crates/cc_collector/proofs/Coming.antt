@@ -14,12 +14,14 @@ use Rattle.cc_model.proofs.Tellings.{Tells-trans}
 use Rattle.cc_laws_run.specs.Memory.{with_memory}
 use Rattle.cc_heaps.specs.Keyed.{Keyed}
 use Rattle.cc_builder.specs.Building.{Built}
+use Rattle.cc_gc.specs.Sparing.{SparesWhatIsReached}
 use Rattle.cc_collector.specs.Kept.{RunsIn, machine_of}
 use Rattle.cc_collector.specs.Collected.{counted_one, SparesReached, LedTo, IsSliced, IsCollected, IsSwept}
 use Rattle.cc_collector.specs.Units.{units_came, HasGoneOn, HasStopped, Keeps, HasDoneUnit, HasDoneAll, HasFinished}
 use Rattle.cc_collector.proofs.Rows.{IsUnit-silent, ComeTo, ComeTo-went_on, ComeTo-stopped, HasStopped-from, collect-alone, collect-refused, collect-both, gc-alone, gc-after}
 use Rattle.cc_collector.proofs.Keeping.{Keeps-then}
 use Rattle.cc_collector.proofs.Spared.{slice-spares, collect-spares, gc-spares}
+use Rattle.cc_collector.proofs.UnitsSpare.{UnitsSpare, slice-units, collect-units, gc-units}
 
 -- events told, and then others
 pub told-both : (a b c : Telling) (es fs : List Event) → TellsEvents a b es → TellsEvents b c fs → TellsEvents a c (es ++ fs)
@@ -35,12 +37,13 @@ still-told v c w d t t₁ t₂ told u =
 
 -- what units came to, said in other words
 led-by : (d : UnitsDone) (old new : Machine) (events : List Event) (p : Progress) (t t₁ : Telling) → d ≡ units_came (with_memory new []) events p → SparesReached old.heap d.events →
-    TellsEvents t t₁ events → LedTo d old new p t t₁
-led-by d old new events p t t₁ is spares told = record {
+    UnitsSpare old.heap d → TellsEvents t t₁ events → LedTo d old new p t t₁
+led-by d old new events p t t₁ is spares unreached told = record {
   same = record { heap = ap (λ (e : UnitsDone). e.machine.heap) is; snapshot = ap (λ (e : UnitsDone). e.machine.snapshot) is };
   came_to = ap (λ (e : UnitsDone). e.progress) is;
   told = subst (TellsEvents t t₁) (sym (ap (λ (e : UnitsDone). e.events) is)) told;
   spares = spares;
+  unreached = subst (λ (k : Heap). SparesWhatIsReached old.heap k d.events) (ap (λ (e : UnitsDone). e.machine.heap) is) unreached.spares;
 }
 
 -- a running collection has a snapshot
@@ -60,7 +63,7 @@ module _ (v : Keyed) (c : Option Built) (r : RunsIn v c) where
       IsSliced n (machine_of v.heap c) (machine_of w.heap d) p steps (steps + counted) t t₁
   come-sliced n w d events p counted steps t t₁ come told = record {
     memory = come.memory;
-    led = led-by (slice n (with_memory (machine_of v.heap c) come.memory)) (machine_of v.heap c) (machine_of w.heap d) events p t t₁ come.is (slice-spares v c r come.memory n) told;
+    led = led-by (slice n (with_memory (machine_of v.heap c) come.memory)) (machine_of v.heap c) (machine_of w.heap d) events p t t₁ come.is (slice-spares v c r come.memory n) (slice-units v c r come.memory n) told;
     counted = ap (λ (k : ℕ). steps + k) (sym come.counts);
   }
 
@@ -102,7 +105,7 @@ module _ (v : Keyed) (c : Option Built) (r : RunsIn v c) where
     memory = a.stopped.memory [];
     led = led-by (collect (with_memory (machine_of v.heap c) (a.stopped.memory []))) (machine_of v.heap c) (machine_of w.heap None) a.events p t t₁
         (collect-alone (machine_of v.heap c) (machine_of w.heap None) a.events p a.stopped (ap (λ (d : Option Built). (machine_of v.heap d).snapshot) none))
-        (collect-spares v c r (a.stopped.memory [])) a.told;
+        (collect-spares v c r (a.stopped.memory [])) (collect-units v c r (a.stopped.memory [])) a.told;
   }
 
   -- where the end of the running one is refused
@@ -111,7 +114,7 @@ module _ (v : Keyed) (c : Option Built) (r : RunsIn v c) where
     memory = a.stopped.memory [];
     led = led-by (collect (with_memory (machine_of v.heap c) (a.stopped.memory []))) (machine_of v.heap c) (machine_of w.heap None) a.events refused t t₁
         (collect-refused (machine_of v.heap c) (machine_of w.heap None) a.events a.stopped (some-runs v.heap c some))
-        (collect-spares v c r (a.stopped.memory [])) a.told;
+        (collect-spares v c r (a.stopped.memory [])) (collect-units v c r (a.stopped.memory [])) a.told;
   }
 
   -- and after a running one
@@ -121,7 +124,7 @@ module _ (v : Keyed) (c : Option Built) (r : RunsIn v c) where
     memory = a.stopped.memory (b.stopped.memory []);
     led = led-by (collect (with_memory (machine_of v.heap c) (a.stopped.memory (b.stopped.memory [])))) (machine_of v.heap c) (machine_of w.heap None) (a.events ++ b.events) p t t₂
         (collect-both (machine_of v.heap c) (machine_of m.heap None) (machine_of w.heap None) a.events b.events p a.stopped b.stopped (some-runs v.heap c some))
-        (collect-spares v c r (a.stopped.memory (b.stopped.memory []))) (told-both t t₁ t₂ a.events b.events a.told b.told);
+        (collect-spares v c r (a.stopped.memory (b.stopped.memory []))) (collect-units v c r (a.stopped.memory (b.stopped.memory []))) (told-both t t₁ t₂ a.events b.events a.told b.told);
   }
 
   -- so it is after a running one was finished, if any
@@ -153,6 +156,8 @@ module _ (v : Keyed) (c : Option Built) (r : RunsIn v c) where
       came_to = refl;
       told = subst (TellsEvents t t₁) (sym (ap (λ (e : UnitsDone). e.events) is)) told;
       spares = gc-spares v c r memory;
+      unreached = subst (λ (k : Heap). SparesWhatIsReached v.heap k (gc (with_memory (machine_of v.heap c) memory)).events)
+          (ap (λ (e : UnitsDone). e.machine.heap) is ∙ sym heap) (gc-units v c r memory).spares;
     };
   }
 

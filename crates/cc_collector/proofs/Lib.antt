@@ -1,7 +1,10 @@
 pub mod Rows
 pub mod Keeping
 pub mod Spared
+pub mod EndSpares
+pub mod UnitsSpare
 pub mod Coming
+pub mod Settling
 pub mod NoneBack
 pub mod GoingOn
 pub mod Whiteness

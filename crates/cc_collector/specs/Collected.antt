@@ -14,6 +14,7 @@ use Rattle.cc_model.specs.Heap.{Heap}
 use Rattle.cc_model.specs.End.{Progress, went_on, at_end, refused}
 use Rattle.cc_model.specs.Collecting.{Machine, UnitsDone, no_units, one_unit, slice, collect, gc}
 use Rattle.cc_laws_run.specs.Memory.{SameMachine, with_memory}
+use Rattle.cc_gc.specs.Sparing.{SparesWhatIsReached}
 use Rattle.cc_collector.specs.declared.collector.Ended.{Ended}
 use Rattle.cc_collector.specs.declared.collector.Ended.TheVariants.{Yes, No}
 
@@ -43,12 +44,14 @@ abbrev pub SparesReached : Heap → List Event → Type 0
 SparesReached h events = (g : Graph) (x : Name) → IsWellMade g → StandsFor h g →
     Among (Freed x) events ⊎ Among (Unlinked x) events → ¬ (Reached g x)
 
--- from a machine units led to another, with the progress of the last, and what they tell is told; they spare what is reached
+-- from a machine units led to another, with the progress of the last, and what they tell is told; they spare what is reached,
+-- in each graph that the heaps stand for, and from the registers
 pub record LedTo (d : UnitsDone) (old new : Machine) (progress : Progress) (before after : Telling) : Type 0 where
   pub same : SameMachine d.machine new
   pub came_to : d.progress ≡ progress
   pub told : TellsEvents before after d.events
   pub spares : SparesReached old.heap d.events
+  pub unreached : SparesWhatIsReached old.heap new.heap d.events
 
 -- A SLICE of so many units; the counter is raised by as many as count
 pub record IsSliced (units : ℕ) (old new : Machine) (progress : Progress) (steps steps_now : ℕ) (before after : Telling) : Type 0 where
@@ -65,3 +68,9 @@ pub record IsCollected (old new : Machine) (progress : Progress) (before after :
 pub record IsSwept (old new : Machine) (before after : Telling) : Type 0 where
   pub memory : List Bool
   pub led : LedTo (gc (with_memory old memory)) old new (gc (with_memory old memory)).progress before after
+
+-- WHAT IS TOLD, without the definitions: no register reaches what is unlinked or freed, and what is freed is all that leaves
+pub record TellsWhatLeaves (old new : Heap) (before after : Telling) : Type 0 where
+  pub events : List Event
+  pub told : TellsEvents before after events
+  pub unreached : SparesWhatIsReached old new events

@@ -1,3 +1,4 @@
 pub mod Kept
 pub mod Collected
 pub mod Units
+pub mod Settled

@@ -11,8 +11,10 @@ ghost use Rattle.cc_heaps.specs.Few.{AreFew};
 ghost use Rattle.cc_heaps.specs.Standing.{StillStands};
 ghost use Rattle.cc_builder.specs.Building.{IsBuilt, snapshot_of};
 ghost use Rattle.cc_unlink.specs.Whites.{whites_of};
+ghost use Rattle.cc_gc.specs.Sparing.{KeepsWhatIsReached};
+ghost use Rattle.cc_collector.specs.Settled.{HasWhatIsReached, IsSettled, IsUnsettled};
 ghost use Rattle.cc_collector.specs.Kept.{RunsIn, machine_of};
-ghost use Rattle.cc_collector.specs.Collected.{IsSliced, IsCollected, IsSwept, progress_of};
+ghost use Rattle.cc_collector.specs.Collected.{IsSliced, IsCollected, IsSwept, TellsWhatLeaves, progress_of};
 ghost use Rattle.cc_collector.specs.Units.{HasDoneUnit, HasDoneAll, HasFinished};
 
 use crate::steps::Steps;
@@ -90,6 +92,8 @@ impl Collector {
         ensures sliced { IsSliced units (machine_of heaps.old.heap self.old) (machine_of heaps.new.heap self.new) (progress_of result)
             steps.old steps.new (N.telling out.old) (N.telling out.new) }
         ensures over { result ≢ Ok Ended.No → self.new ≡ None }
+        ensures keeps { KeepsWhatIsReached heaps.old.heap heaps.new.heap }
+        ensures tells { TellsWhatLeaves heaps.old.heap heaps.new.heap (N.telling out.old) (N.telling out.new) }
         ensures stands { StillStands heaps.old.heap heaps.new.heap }
         ensures suspected { IsSuspectedNow (machine_of heaps.old.heap self.old) → IsSuspectedNow (machine_of heaps.new.heap self.new) }
         ensures keys { KeepsKeys heaps.old heaps.new }
@@ -115,6 +119,8 @@ impl Collector {
         ensures done { OnOk result (IsCollected (machine_of heaps.old.heap self.old) (machine_of heaps.new.heap self.new) at_end (N.telling out.old) (N.telling out.new)) }
         ensures refused { OnErr result (IsCollected (machine_of heaps.old.heap self.old) (machine_of heaps.new.heap self.new) refused (N.telling out.old) (N.telling out.new)) }
         ensures over { self.new ≡ None }
+        ensures keeps { KeepsWhatIsReached heaps.old.heap heaps.new.heap }
+        ensures tells { TellsWhatLeaves heaps.old.heap heaps.new.heap (N.telling out.old) (N.telling out.new) }
         ensures stands { StillStands heaps.old.heap heaps.new.heap }
         ensures suspected { IsSuspectedNow (machine_of heaps.old.heap self.old) → IsSuspectedNow (machine_of heaps.new.heap self.new) }
         ensures keys { KeepsKeys heaps.old heaps.new }
@@ -131,6 +137,8 @@ impl Collector {
         requires runs { RunsIn heaps.old self.old }
         ensures swept { IsSwept (machine_of heaps.old.heap self.old) (machine_of heaps.new.heap self.new) (N.telling out.old) (N.telling out.new) }
         ensures over { self.new ≡ None }
+        ensures keeps { KeepsWhatIsReached heaps.old.heap heaps.new.heap }
+        ensures tells { TellsWhatLeaves heaps.old.heap heaps.new.heap (N.telling out.old) (N.telling out.new) }
         ensures stands { StillStands heaps.old.heap heaps.new.heap }
         ensures suspected { IsSuspectedNow (machine_of heaps.old.heap self.old) → IsSuspectedNow (machine_of heaps.new.heap self.new) }
         ensures keys { KeepsKeys heaps.old heaps.new }
@@ -139,6 +147,29 @@ impl Collector {
     {
         let _refused = self.finish_running(heaps, out);
         collect_scripts(heaps, out);
+    }
+
+    /// Leaves in the heaps exactly what the registers reach: `gc`, a whole collection, and `gc`, in a row.
+    pub fn settle<N: Notices>(&mut self, heaps: &mut Heaps, out: &mut N) -> Result<(), NoMemory>
+        requires runs { RunsIn heaps.old self.old }
+        ensures exact { OnOk result (IsSuspectedNow (machine_of heaps.old.heap self.old) → HasWhatIsReached heaps.new.heap) }
+        ensures done { OnOk result (IsSettled (machine_of heaps.old.heap self.old) (machine_of heaps.new.heap self.new) (N.telling out.old) (N.telling out.new)) }
+        ensures refused { OnErr result (IsUnsettled (machine_of heaps.old.heap self.old) (machine_of heaps.new.heap self.new) (N.telling out.old) (N.telling out.new)) }
+        ensures over { self.new ≡ None }
+        ensures keeps { KeepsWhatIsReached heaps.old.heap heaps.new.heap }
+        ensures tells { TellsWhatLeaves heaps.old.heap heaps.new.heap (N.telling out.old) (N.telling out.new) }
+        ensures stands { StillStands heaps.old.heap heaps.new.heap }
+        ensures suspected { IsSuspectedNow (machine_of heaps.old.heap self.old) → IsSuspectedNow (machine_of heaps.new.heap self.new) }
+        ensures keys { KeepsKeys heaps.old heaps.new }
+        ensures counts { AreFew heaps.new.heap }
+        ensures runs { RunsIn heaps.new self.new }
+    {
+        // what script objects alone hold that nothing reaches must be a suspect, or the collection misses it
+        self.gc(heaps, out);
+        self.whole(heaps, out)?;
+        // what natives alone held that are unlinked now is still there
+        self.gc(heaps, out);
+        Ok(())
     }
 
     /// Ends a collection that runs.

@@ -1,1 +1,3 @@
 pub mod RoundsLeft
+pub mod Sparing
+pub mod RoundsSpare

@@ -9,6 +9,7 @@ ghost use Rattle.cc_heaps.specs.Changes.{KeepsKeys};
 ghost use Rattle.cc_heaps.specs.Standing.{StillStands};
 ghost use Rattle.cc_model.specs.Telling.{TellsEvents};
 ghost use Rattle.cc_heaps.specs.Few.{AreFew};
+ghost use Rattle.cc_gc.specs.Sparing.{KeepsWhatIsReached, SparesWhatIsReached};
 
 use cc_heaps::Heaps;
 use cc_model::Notices;
@@ -28,13 +29,19 @@ fn round<N: Notices>(heaps: &mut Heaps, out: &mut N) -> bool
 
 /// A whole script collection: marks and sweeps, again and again, until a round sweeps nothing. What is swept is told.
 ///
-/// Afterwards no script object is white: each is reached from a script register, or a native holds what reaches it.
-/// The heaps go on standing for the same graph: nothing that a register reaches is taken out. Where no collection runs,
-/// no native that nothing reaches is forgotten. Takes no memory.
+/// What the registers reach stays as it was: each such object is there, with its slots, its flag and its key, and an entry
+/// of a reached map and a reached key keeps its value. No register reaches what is freed, before or after, and what is
+/// freed is all that leaves. Afterwards no script object is white: each is reached from a script register, or a native
+/// holds what reaches it. The heaps go on standing for the same graph.
+///
+/// No native that nothing reaches is forgotten, where no collection runs: if a suspect led to each of them, or a script
+/// object that nothing reaches did, then that is so afterwards, and the next collection can find them. Takes no memory.
 pub fn collect_scripts<N: Notices>(heaps: &mut Heaps, out: &mut N)
     requires order { IsInOrder [] heaps.old }
     ensures heap { heaps.new.heap ≡ (collected heaps.old.heap).heap }
     ensures told { TellsEvents (N.telling out.old) (N.telling out.new) (collected heaps.old.heap).events }
+    ensures keeps { KeepsWhatIsReached heaps.old.heap heaps.new.heap }
+    ensures spares { SparesWhatIsReached heaps.old.heap heaps.new.heap (collected heaps.old.heap).events }
     ensures stands { StillStands heaps.old.heap heaps.new.heap }
     ensures suspected { IsSuspected (view heaps.old.heap) [] → IsSuspected (view heaps.new.heap) [] }
     ensures colours { HasColours heaps.new.heap }

@@ -1,5 +1,9 @@
-use Rattle.std.proofs.Common.{true, sym, ◌∙◌}
+use Rattle.std.proofs.Common.{true, sym, subst, ◌∙◌}
+use Rattle.cc_model.specs.Heap.{Heap}
+use Rattle.cc_model.specs.Sweep.{collect_scripts}
+use Rattle.cc_gc.specs.Sparing.{KeepsWhatIsReached, SparesWhatIsReached}
 use Rattle.cc_gc.proofs.RoundsLeft.{IsRound, IsCollecting-start, IsCollecting-fewer, IsCollecting-next, IsCollected-last}
+use Rattle.cc_gc.proofs.RoundsSpare.{collect_scripts-keeps, collect_scripts-spares}
 use Rattle.cc_gc.proofs.rounds.collect_scripts.Given as given
 use Rattle.cc_gc.proofs.rounds.collect_scripts.Goals as goal
 
@@ -22,11 +26,15 @@ rounds-preserved g c = record { steps = IsCollecting-next _ _ _ _ _ _ c.rounds.i
 pub returns : goal.returns
 returns g c =
     let e = c.round.ensures in
-    let done = IsCollected-last _ _ _ _ _ _ c.rounds.invariant.steps c.requires.order.sound
+    let h : Heap = c.args.heaps.now.heap in
+    let sound = c.requires.order.sound in
+    let done = IsCollected-last _ _ _ _ _ _ c.rounds.invariant.steps sound
     (record { swept_is = sym c.rounds-test.false ∙ e.swept; heap = e.heap; told = e.told; keys = e.keys; order = e.order }) in
     record {
       heap = done.heap;
       told = done.told;
+      keeps = subst (KeepsWhatIsReached h) (sym done.heap) (collect_scripts-keeps h sound);
+      spares = subst (λ k. SparesWhatIsReached h k (collect_scripts h).events) (sym done.heap) (collect_scripts-spares h sound);
       stands = done.stands;
       suspected = done.suspected;
       colours = done.colours;

@@ -6,6 +6,7 @@ use Rattle.cc_collector.specs.Kept.{machine_of}
 use Rattle.cc_collector.specs.Collected.{IsSwept}
 use Rattle.cc_collector.specs.Units.{Keeps}
 use Rattle.cc_collector.proofs.Keeping.{KeepsKeys-swept}
+use Rattle.cc_collector.proofs.UnitsSpare.{swept-keeps, swept-tells}
 use Rattle.cc_collector.proofs.Coming.{swept, swept-refused}
 use Rattle.cc_collector.proofs.collector.Collector.gc.Given as given
 use Rattle.cc_collector.proofs.collector.Collector.gc.Goals as goal
@@ -30,6 +31,12 @@ returns-clause-swept g c =
     (λ a. swept v b c.requires.runs f.new.heaps w t t₁ t₂ a c.collect_scripts.ensures.heap c.collect_scripts.ensures.told)
     (λ a some. swept-refused v b c.requires.runs f.new.heaps w t t₁ t₂ some a c.collect_scripts.ensures.heap c.collect_scripts.ensures.told)
     f.ensures.done f.ensures.refused f.ensures.ran)
+
+pub returns-clause-keeps : goal.returns-clause-keeps
+returns-clause-keeps g c = swept-keeps _ _ c.requires.runs _ _ _ (returns-clause-swept g c)
+
+pub returns-clause-tells : goal.returns-clause-tells
+returns-clause-tells g c = swept-tells _ _ _ _ (returns-clause-swept g c)
 
 -- what is kept until the script collection
 keeps : (g : given.Over) (c : goal.After-collect_scripts g) → Keeps c.args.heaps.now c.args.self.now c.finish_running-refused.new.heaps None

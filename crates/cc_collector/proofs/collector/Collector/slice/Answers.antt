@@ -9,6 +9,7 @@ use Rattle.cc_collector.specs.Collected.{IsSliced, progress_of}
 use Rattle.cc_collector.specs.Units.{HasGoneOn, HasDoneUnit, Keeps}
 use Rattle.cc_collector.proofs.Rows.{HasGoneOn-none, HasGoneOn-more}
 use Rattle.cc_collector.proofs.Keeping.{Keeps-nothing, Keeps-then}
+use Rattle.cc_collector.proofs.UnitsSpare.{sliced-keeps, sliced-tells}
 use Rattle.cc_collector.proofs.Coming.{sliced-went_on, sliced-stopped, still-told}
 use Rattle.cc_collector.proofs.collector.Collector.slice.Given as given
 use Rattle.cc_collector.proofs.collector.Collector.slice.Goals as goal
@@ -38,6 +39,12 @@ returns-in_err-ended-clause-sliced g c =
     (sliced-stopped v c.args.self.now c.requires.runs c.args.units c.loop.counter c.loop.heaps c.loop.self c.unit.new.heaps c.unit.new.self refused c.args.steps.now c.loop.steps
     (telling c.args.out.now) (telling c.loop.out) (telling c.unit.new.out) (omega (arith, c.loop-test.true)) (λ e. cc) i.gone_on i.told c.in_err-ended.ensures (omega (arith, i.counted)))
 
+pub returns-in_err-ended-clause-keeps : goal.returns-in_err-ended-clause-keeps
+returns-in_err-ended-clause-keeps g c = sliced-keeps _ _ c.requires.runs _ _ _ _ _ _ _ (returns-in_err-ended-clause-sliced g c)
+
+pub returns-in_err-ended-clause-tells : goal.returns-in_err-ended-clause-tells
+returns-in_err-ended-clause-tells g c = sliced-tells _ _ _ _ _ _ _ _ (returns-in_err-ended-clause-sliced g c)
+
 -- what is kept by the units until then
 err-keeps : (g : given.Over) (c : goal.After-from_residual g) → Keeps c.args.heaps.now c.args.self.now c.unit.new.heaps c.unit.new.self
 err-keeps g c = Keeps-then c.args.heaps.now c.args.self.now c.loop.heaps c.loop.self c.unit.new.heaps c.unit.new.self c.loop.invariant.keeps c.unit.ensures.keeps
@@ -62,6 +69,12 @@ returns-in-Yes-clause-sliced g c =
     (telling c.args.out.now) (telling c.unit.new.out)) (sym (ap (λ (e : Ended). progress_of (Ok e)) c.in-Yes.is))
     (sliced-stopped v c.args.self.now c.requires.runs c.args.units c.loop.counter c.loop.heaps c.loop.self c.unit.new.heaps c.unit.new.self at_end c.args.steps.now c.tick.new.self
     (telling c.args.out.now) (telling c.loop.out) (telling c.unit.new.out) (omega (arith, c.loop-test.true)) (λ e. cc) i.gone_on i.told u (omega (arith, i.counted, c.tick.ensures)))
+
+pub returns-in-Yes-clause-keeps : goal.returns-in-Yes-clause-keeps
+returns-in-Yes-clause-keeps g c = sliced-keeps _ _ c.requires.runs _ _ _ _ _ _ _ (returns-in-Yes-clause-sliced g c)
+
+pub returns-in-Yes-clause-tells : goal.returns-in-Yes-clause-tells
+returns-in-Yes-clause-tells g c = sliced-tells _ _ _ _ _ _ _ _ (returns-in-Yes-clause-sliced g c)
 
 pub returns-in-Yes-clause-suspected : goal.returns-in-Yes-clause-suspected
 returns-in-Yes-clause-suspected g c = λ s.
@@ -98,3 +111,9 @@ returns-clause-sliced g c =
     let all : c.loop.counter ≡ c.args.units = omega (arith, c.loop-test.false, c.loop.auto.counter-end) in
     sliced-went_on c.args.heaps.now c.args.self.now c.requires.runs c.args.units c.loop.heaps c.loop.self c.args.steps.now c.loop.steps (telling c.args.out.now) (telling c.loop.out)
     (subst (λ (k : ℕ). HasGoneOn k (machine_of c.args.heaps.now.heap c.args.self.now) (machine_of c.loop.heaps.heap c.loop.self)) all i.gone_on) i.told (omega (arith, all, i.counted))
+
+pub returns-clause-keeps : goal.returns-clause-keeps
+returns-clause-keeps g c = sliced-keeps _ _ c.requires.runs _ _ _ _ _ _ _ (returns-clause-sliced g c)
+
+pub returns-clause-tells : goal.returns-clause-tells
+returns-clause-tells g c = sliced-tells _ _ _ _ _ _ _ _ (returns-clause-sliced g c)

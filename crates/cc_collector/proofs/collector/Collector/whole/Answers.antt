@@ -7,6 +7,7 @@ use Rattle.cc_collector.specs.Kept.{machine_of}
 use Rattle.cc_collector.specs.Collected.{IsCollected}
 use Rattle.cc_collector.specs.Units.{Keeps, HasDoneAll}
 use Rattle.cc_collector.proofs.Keeping.{Keeps-then}
+use Rattle.cc_collector.proofs.UnitsSpare.{collected-keeps, collected-tells}
 use Rattle.cc_collector.proofs.Coming.{collected, collected-refused}
 use Rattle.cc_collector.proofs.collector.Collector.whole.Given as given
 use Rattle.cc_collector.proofs.collector.Collector.whole.Goals as goal
@@ -27,16 +28,26 @@ on_both (Err e) p q = q
 
 -- The end of the running collection is refused
 
-pub returns-in_err-finish_running-clause-refused : goal.returns-in_err-finish_running-clause-refused
-returns-in_err-finish_running-clause-refused g c =
+-- what this comes to
+first-refused : (g : given.Over) (c : goal.After-from_residual g) → let telling = g.N.Notices.telling in let f = c.finish_running in
+    IsCollected (machine_of c.args.heaps.now.heap c.args.self.now) (machine_of f.new.heaps.heap f.new.self) refused (telling c.args.out.now) (telling f.new.out)
+first-refused g c =
     let telling = g.N.Notices.telling in
     let v = c.args.heaps.now in
     let w = c.finish_running.new.heaps in
     let t = telling c.args.out.now in
     let t₁ = telling c.finish_running.new.out in
-    on_err_of c.from_residual.result
-    (subst (λ (d : Option Built). IsCollected (machine_of v.heap c.args.self.now) (machine_of w.heap d) refused t t₁) (sym c.finish_running.ensures.over)
-    (collected-refused v c.args.self.now c.requires.runs w t t₁ c.in_err-finish_running.ensures.ran c.in_err-finish_running.ensures.refused))
+    subst (λ (d : Option Built). IsCollected (machine_of v.heap c.args.self.now) (machine_of w.heap d) refused t t₁) (sym c.finish_running.ensures.over)
+    (collected-refused v c.args.self.now c.requires.runs w t t₁ c.in_err-finish_running.ensures.ran c.in_err-finish_running.ensures.refused)
+
+pub returns-in_err-finish_running-clause-refused : goal.returns-in_err-finish_running-clause-refused
+returns-in_err-finish_running-clause-refused g c = on_err_of c.from_residual.result (first-refused g c)
+
+pub returns-in_err-finish_running-clause-keeps : goal.returns-in_err-finish_running-clause-keeps
+returns-in_err-finish_running-clause-keeps g c = collected-keeps _ _ c.requires.runs _ _ _ _ (first-refused g c)
+
+pub returns-in_err-finish_running-clause-tells : goal.returns-in_err-finish_running-clause-tells
+returns-in_err-finish_running-clause-tells g c = collected-tells _ _ _ _ _ (first-refused g c)
 
 pub returns-in_err-finish_running-clause-suspected : goal.returns-in_err-finish_running-clause-suspected
 returns-in_err-finish_running-clause-suspected g c = λ s.
@@ -73,6 +84,16 @@ returns-clause-refused g c =
     (collected v c.args.self.now c.requires.runs m w refused t t₁ t₂ c.in_ok-finish_running.ensures.done
     (subst (λ (d : Option Built). HasDoneAll m d w refused t₁ t₂) c.finish_running.ensures.over a)))
     c.go_to_end.ensures.refused
+
+pub returns-clause-keeps : goal.returns-clause-keeps
+returns-clause-keeps g c = on_both c.go_to_end.result
+    (on_ok-then c.go_to_end.result (λ a. collected-keeps _ _ c.requires.runs _ _ _ _ a) (returns-clause-done g c))
+    (on_err-then c.go_to_end.result (λ a. collected-keeps _ _ c.requires.runs _ _ _ _ a) (returns-clause-refused g c))
+
+pub returns-clause-tells : goal.returns-clause-tells
+returns-clause-tells g c = on_both c.go_to_end.result
+    (on_ok-then c.go_to_end.result (λ a. collected-tells _ _ _ _ _ a) (returns-clause-done g c))
+    (on_err-then c.go_to_end.result (λ a. collected-tells _ _ _ _ _ a) (returns-clause-refused g c))
 
 -- what is kept, however the second one came out
 keeps : (g : given.Over) (c : goal.After-go_to_end g) → Keeps c.args.heaps.now c.args.self.now c.go_to_end.new.heaps c.go_to_end.new.self

@@ -1,0 +1,324 @@
+-- UNITS OF A COLLECTION SPARE WHAT IS REACHED: those of a slice, of a whole collection, and those that `gc` ends first.
+use Rattle.std.proofs.Common.{◌≡◌, ◌≢◌, ℕ, Bool, true, false, List, [], ◌∷◌, ◌++◌, Option, Some, None, is_some, refl, sym, ap, subst, ⊎_elim}
+use Rattle.std.proofs.lemmas.Bool.{true≢false}
+use Rattle.cc_lists.specs.Members.{Among}
+use Rattle.cc_names.specs.declared.name.Name.{Name}
+use Rattle.cc_names.specs.declared.name.Name.TheVariants as name
+use Rattle.cc_model.specs.declared.item.Event.{Event}
+use Rattle.cc_model.specs.declared.item.Event.TheVariants.{Unlinked, Freed, Abandoned}
+use Rattle.cc_model.specs.Telling.{Telling}
+use Rattle.cc_model.specs.Heap.{Heap, Buffered}
+use Rattle.cc_model.specs.View.{view}
+use Rattle.cc_model.specs.WellFormed.{IsWellFormed, names_there}
+use Rattle.cc_model.specs.Colours.{HasColourInvariant}
+use Rattle.cc_model.specs.StandsFor.{shape_at}
+use Rattle.cc_model.specs.Snapshot.{Snapshot, white_natives}
+use Rattle.cc_model.specs.Units.{first_untraversed}
+use Rattle.cc_model.specs.Sweep.{collect_scripts}
+use Rattle.cc_model.specs.End.{Progress, went_on, at_end, refused, UnitDone, abandoned, node_or_end, granted, unit, give_back}
+use Rattle.cc_model.specs.Fresh.{IsTraversed}
+use Rattle.cc_model.specs.Collecting.{Machine, UnitsDone, no_units, next_answer, one_unit, units_done, enough_units, to_the_end, finish_running, slice, starting_anew, collect, gc}
+use Rattle.cc_model.proofs.UnitsEnd.{to_the_end-stops}
+use Rattle.cc_laws_heap.specs.Sound.{IsSound}
+use Rattle.cc_laws_heap.proofs.Kept.{IsBuffer, with_buffer}
+use Rattle.cc_laws_heap.proofs.CollectedColours.{collect_scripts-sound, collect_scripts-invariant}
+use Rattle.cc_laws_snapshot.proofs.Beginning.{begun-fresh}
+use Rattle.cc_laws_snapshot.proofs.NodeUnit.{after_node-fresh}
+use Rattle.cc_laws_snapshot.proofs.GivingBack.{give_back-buffer, given_back, given_back-buffer}
+use Rattle.cc_laws_snapshot.proofs.WhiteNatives.{white_natives-there, white_natives-unreached, taking_white-sound, taking_white-colours}
+use Rattle.cc_laws_snapshot.proofs.ReachedStays.{reached-there}
+use Rattle.cc_laws_run.specs.Running.{IsFreshNow}
+use Rattle.cc_laws_run.proofs.BufferStands.{IsSound-buffer, HasColourInvariant-buffer}
+use Rattle.cc_laws_run.proofs.UnitLawful.{unit-cases, traversed-none}
+use Rattle.cc_laws_run.proofs.QuietUnits.{with_empty_buffer-sound}
+use Rattle.cc_laws_run.proofs.HoldingUnits.{units_done-keep}
+use Rattle.cc_laws_run.specs.Memory.{with_memory}
+use Rattle.cc_heaps.specs.Keyed.{Keyed}
+use Rattle.cc_builder.specs.Building.{Built}
+use Rattle.cc_gc.specs.Sparing.{KeepsWhatIsReached, SparesWhatIsReached}
+use Rattle.cc_gc.proofs.Sparing.{keeps-same, keeps-then, spares-nothing, spares-then}
+use Rattle.cc_gc.proofs.RoundsSpare.{collect_scripts-keeps, collect_scripts-spares}
+use Rattle.cc_collector.specs.Kept.{RunsIn, machine_of}
+use Rattle.cc_collector.specs.Collected.{LedTo, IsSliced, IsCollected, IsSwept, TellsWhatLeaves}
+use Rattle.cc_collector.proofs.Keeping.{RunsIn-fresh}
+use Rattle.cc_collector.proofs.EndSpares.{take_away-keeps_reached, take_away-spares}
+
+-- Another buffer
+
+-- the shape of an object does not read the buffer
+shape-buffer : (h : Heap) (bs : List Buffered) (x : Name) → shape_at (with_buffer h bs) x ≡ shape_at h x
+shape-buffer h bs (name.Native k) = refl
+shape-buffer h bs (name.Script k) = refl
+shape-buffer h bs (name.Reflector k) = refl
+
+-- nor does what is reached
+keeps-buffer : (h : Heap) (bs : List Buffered) → IsWellFormed h → KeepsWhatIsReached h (with_buffer h bs)
+keeps-buffer h bs w = record {
+  native_registers = refl;
+  script_registers = refl;
+  alike = λ x. (λ r. r, λ r. r);
+  there = λ x r. reached-there h w x r;
+  shape = λ x r. shape-buffer h bs x;
+  value = λ m k a b. refl;
+}
+
+-- natives that go back change the buffer alone
+give_back-is : (h : Heap) (ks : List ℕ) → give_back ks h ≡ with_buffer h (given_back ks h h.buffer)
+give_back-is h ks = give_back-buffer ks h h.buffer
+
+-- An abandonment frees and unlinks nothing.
+spares-abandoned : (h k : Heap) → names_there k ≡ names_there h → SparesWhatIsReached h k (Abandoned ∷ [])
+spares-abandoned h k e = record {
+  unlinked = λ x m. absurd (none (Unlinked x) (λ f. cc) m);
+  freed = λ x m. absurd (none (Freed x) (λ f. cc) m);
+  left = λ x. (λ m. (subst (Among x) e m, none (Freed x) (λ f. cc)), λ p. subst (Among x) (sym e) p.0);
+}
+  where
+    none : (f : Event) → Abandoned ≢ f → ¬ (Among f (Abandoned ∷ []))
+    none f other m = ⊎_elim (λ same. other same) (λ n. n) m
+
+-- One unit
+
+-- the heaps stay sound and coloured and their snapshot fresh, no collection runs where units stopped, and what is reached is spared
+pub record IsSparing (g h : Heap) (s : Option Snapshot) (events : List Event) (p : Progress) : Type 0 where
+  pub sound : IsSound [] h
+  pub colours : HasColourInvariant (view h)
+  pub fresh : IsFreshNow h s
+  pub stopped : p ≢ went_on → s ≡ None
+  pub keeps : KeepsWhatIsReached g h
+  pub spares : SparesWhatIsReached g h events
+
+-- what a unit came to is such
+abbrev UnitSpares : Heap → UnitDone → Type 0
+UnitSpares g u = IsSparing g u.heap u.snapshot u.events u.progress
+
+module _ (h : Heap) (sound : IsSound [] h) (colours : HasColourInvariant (view h)) where
+  -- where the buffer alone changes
+  with_buffer-sound : (bs : List Buffered) → IsBuffer h bs → IsSound [] (with_buffer h bs)
+  with_buffer-sound bs b = IsSound-buffer h bs sound b
+
+  -- the buffer with natives that went back
+  given : (ks : List ℕ) → IsBuffer h (given_back ks h h.buffer)
+  given ks = given_back-buffer h ks h.buffer (record { there = sound.well_formed.buffered; once = sound.well_formed.buffered_once })
+
+  -- an abandonment
+  abandoned-spares : (s : Option Snapshot) → UnitSpares h (abandoned h s)
+  abandoned-spares None = record {
+    sound = sound;
+    colours = colours;
+    fresh = tt;
+    stopped = λ d. refl;
+    keeps = keeps-same h sound.well_formed;
+    spares = spares-abandoned h h refl;
+  }
+  abandoned-spares (Some s) =
+      let bs : List Buffered = given_back s.candidates h h.buffer in
+      let same : with_buffer h bs ≡ give_back s.candidates h = sym (give_back-is h s.candidates) in
+      record {
+        sound = subst (IsSound []) same (with_buffer-sound bs (given s.candidates));
+        colours = subst (λ k. HasColourInvariant (view k)) same (HasColourInvariant-buffer h bs colours);
+        fresh = tt;
+        stopped = λ d. refl;
+        keeps = subst (KeepsWhatIsReached h) same (keeps-buffer h bs sound.well_formed);
+        spares = spares-abandoned h (give_back s.candidates h) (ap names_there (give_back-is h s.candidates));
+      }
+
+  -- the unit of a node, or the end
+  node_or_end-spares : (s : Snapshot) → IsFreshNow h (Some s) → (o : Option Name) → first_untraversed s.nodes ≡ o → UnitSpares h (node_or_end h s o)
+  node_or_end-spares s fresh None e =
+      let all : IsTraversed s = traversed-none s.nodes e in
+      let there = (white_natives-there h s sound).there in
+      let out = white_natives-unreached h s sound fresh all in
+      record {
+        sound = taking_white-sound h s sound fresh all;
+        colours = taking_white-colours h s sound fresh all;
+        fresh = tt;
+        stopped = λ d. refl;
+        keeps = take_away-keeps_reached h (white_natives h s) sound there out;
+        spares = take_away-spares h (white_natives h s) sound there out;
+      }
+  node_or_end-spares s fresh (Some x) e = record {
+    sound = sound;
+    colours = colours;
+    fresh = after_node-fresh h s x sound fresh e;
+    stopped = λ d. absurd (d refl);
+    keeps = keeps-same h sound.well_formed;
+    spares = spares-nothing h h refl;
+  }
+
+  -- a unit that has its memory
+  granted-spares : (s : Option Snapshot) → IsFreshNow h s → UnitSpares h (granted h s)
+  granted-spares None fresh = record {
+    sound = with_empty_buffer-sound h sound;
+    colours = HasColourInvariant-buffer h [] colours;
+    fresh = begun-fresh h sound colours;
+    stopped = λ d. absurd (d refl);
+    keeps = keeps-buffer h [] sound.well_formed;
+    spares = spares-nothing h (with_buffer h []) refl;
+  }
+  granted-spares (Some s) fresh = node_or_end-spares s fresh (first_untraversed s.nodes) refl
+
+  -- ANY UNIT
+  unit-spares : (s : Option Snapshot) (memory : Bool) → IsFreshNow h s → UnitSpares h (unit h s memory)
+  unit-spares s memory fresh = unit-cases h s memory (UnitSpares h) (abandoned-spares s) (granted-spares s fresh)
+
+-- Several units
+
+-- what units came to is such
+abbrev pub UnitsSpare : Heap → UnitsDone → Type 0
+UnitsSpare g d = IsSparing g d.machine.heap d.machine.snapshot d.events d.progress
+
+-- one more
+one_unit-spares : (g : Heap) (d : UnitsDone) → d.progress ≡ went_on → UnitsSpare g d → UnitsSpare g (one_unit d.machine d.events)
+one_unit-spares g d e k =
+    let h : Heap = d.machine.heap in
+    let done : UnitDone = unit h d.machine.snapshot (next_answer d.machine.memory) in
+    let u : UnitSpares h done = unit-spares h k.sound k.colours d.machine.snapshot (next_answer d.machine.memory) k.fresh in
+    record {
+      sound = u.sound;
+      colours = u.colours;
+      fresh = u.fresh;
+      stopped = u.stopped;
+      keeps = keeps-then g h done.heap k.keeps u.keeps;
+      spares = spares-then g h done.heap d.events done.events k.keeps u.keeps k.spares u.spares;
+    }
+
+-- any number
+units_done-spare : (g : Heap) (n : ℕ) (d : UnitsDone) → UnitsSpare g d → UnitsSpare g (units_done n d)
+units_done-spare g = units_done-keep (UnitsSpare g) (one_unit-spares g)
+
+module _ (m : Machine) (sound : IsSound [] m.heap) (colours : HasColourInvariant (view m.heap)) (fresh : IsFreshNow m.heap m.snapshot) where
+  -- none
+  no_units-spare : UnitsSpare m.heap (no_units m)
+  no_units-spare = record {
+    sound = sound;
+    colours = colours;
+    fresh = fresh;
+    stopped = λ d. absurd (d refl);
+    keeps = keeps-same m.heap sound.well_formed;
+    spares = spares-nothing m.heap m.heap refl;
+  }
+
+  -- THOSE OF A SLICE
+  pub slice-spare : (n : ℕ) → UnitsSpare m.heap (slice n m)
+  unfolding slice
+  slice-spare n = units_done-spare m.heap n (no_units m) no_units-spare
+
+  -- those that end a running collection, and none runs then
+  finish-spare : UnitsSpare m.heap (finish_running m) × ((finish_running m).machine.snapshot ≡ None)
+  finish-spare = go (is_some m.snapshot) refl
+    where
+      finished : Bool → UnitsDone
+      finished true = to_the_end (no_units m)
+      finished false = no_units m
+
+      none : (s : Option Snapshot) → is_some s ≡ false → s ≡ None
+      none None e = refl
+      none (Some s) e = absurd (true≢false e)
+
+      go : (b : Bool) → is_some m.snapshot ≡ b → UnitsSpare m.heap (finished b) × ((finished b).machine.snapshot ≡ None)
+      go true e =
+          let k : UnitsSpare m.heap (to_the_end (no_units m)) = units_done-spare m.heap (enough_units m) (no_units m) no_units-spare in
+          (k, k.stopped (to_the_end-stops m))
+      go false e = (no_units-spare, none m.snapshot e)
+
+  -- THOSE OF A WHOLE COLLECTION
+  pub collect-spare : UnitsSpare m.heap (collect m)
+  unfolding collect
+  collect-spare = go (finish_running m).progress
+    where
+      d : UnitsDone
+      d = finish_running m
+
+      first : UnitsSpare m.heap d
+      first = finish-spare.0
+
+      anew : UnitsSpare m.heap (starting_anew d)
+      anew = record {
+        sound = first.sound;
+        colours = first.colours;
+        fresh = first.fresh;
+        stopped = λ e. absurd (e refl);
+        keeps = first.keeps;
+        spares = first.spares;
+      }
+
+      stopped_by : Progress → UnitsDone
+      stopped_by refused = d
+      stopped_by went_on = to_the_end (starting_anew d)
+      stopped_by at_end = to_the_end (starting_anew d)
+
+      go : (p : Progress) → UnitsSpare m.heap (stopped_by p)
+      go refused = first
+      go went_on = units_done-spare m.heap (enough_units (starting_anew d).machine) (starting_anew d) anew
+      go at_end = units_done-spare m.heap (enough_units (starting_anew d).machine) (starting_anew d) anew
+
+  -- AND THE SCRIPT COLLECTION AFTER THOSE THAT END A RUNNING ONE
+  pub gc-spare : UnitsSpare m.heap (gc m)
+  unfolding gc
+  gc-spare =
+      let d : UnitsDone = finish_running m in
+      let first : UnitsSpare m.heap d = finish-spare.0 in
+      let h : Heap = d.machine.heap in
+      let k : Heap = (collect_scripts h).heap in
+      record {
+        sound = collect_scripts-sound h first.sound;
+        colours = collect_scripts-invariant h first.sound;
+        fresh = subst (IsFreshNow k) (sym finish-spare.1) tt;
+        stopped = first.stopped;
+        keeps = keeps-then m.heap h k first.keeps (collect_scripts-keeps h first.sound);
+        spares = spares-then m.heap h k d.events (collect_scripts h).events first.keeps (collect_scripts-keeps h first.sound) first.spares (collect_scripts-spares h first.sound);
+      }
+
+-- Collectors
+
+module _ (v : Keyed) (c : Option Built) (r : RunsIn v c) (memory : List Bool) where
+  -- the units of a collector that runs
+  abbrev start : Machine
+  start = with_memory (machine_of v.heap c) memory
+
+  pub slice-units : (n : ℕ) → UnitsSpare v.heap (slice n (with_memory (machine_of v.heap c) memory))
+  slice-units n = slice-spare start r.order.sound r.colours (RunsIn-fresh v c r) n
+
+  pub collect-units : UnitsSpare v.heap (collect (with_memory (machine_of v.heap c) memory))
+  collect-units = collect-spare start r.order.sound r.colours (RunsIn-fresh v c r)
+
+  pub gc-units : UnitsSpare v.heap (gc (with_memory (machine_of v.heap c) memory))
+  gc-units = gc-spare start r.order.sound r.colours (RunsIn-fresh v c r)
+
+-- what units led to keeps what is reached, where the units do
+led-keeps : (d : UnitsDone) (old new : Machine) (p : Progress) (t t₁ : Telling) → UnitsSpare old.heap d → LedTo d old new p t t₁ → KeepsWhatIsReached old.heap new.heap
+led-keeps d old new p t t₁ u l = subst (KeepsWhatIsReached old.heap) l.same.heap u.keeps
+
+-- what they told was told
+led-tells : (d : UnitsDone) (old new : Machine) (p : Progress) (t t₁ : Telling) → LedTo d old new p t t₁ → TellsWhatLeaves old.heap new.heap t t₁
+led-tells d old new p t t₁ l = record { events = d.events; told = l.told; unreached = l.unreached }
+
+module _ (v : Keyed) (c : Option Built) (r : RunsIn v c) (new : Machine) (t t₁ : Telling) where
+  -- A SLICE KEEPS WHAT IS REACHED,
+  pub sliced-keeps : (n : ℕ) (p : Progress) (steps steps_now : ℕ) → IsSliced n (machine_of v.heap c) new p steps steps_now t t₁ → KeepsWhatIsReached v.heap new.heap
+  sliced-keeps n p steps steps_now s =
+      led-keeps (slice n (with_memory (machine_of v.heap c) s.memory)) (machine_of v.heap c) new p t t₁ (slice-units v c r s.memory n) s.led
+
+  -- so does a collection,
+  pub collected-keeps : (p : Progress) → IsCollected (machine_of v.heap c) new p t t₁ → KeepsWhatIsReached v.heap new.heap
+  collected-keeps p s = led-keeps (collect (with_memory (machine_of v.heap c) s.memory)) (machine_of v.heap c) new p t t₁ (collect-units v c r s.memory) s.led
+
+  -- and `gc`.
+  pub swept-keeps : IsSwept (machine_of v.heap c) new t t₁ → KeepsWhatIsReached v.heap new.heap
+  swept-keeps s =
+      let d : UnitsDone = gc (with_memory (machine_of v.heap c) s.memory) in
+      led-keeps d (machine_of v.heap c) new d.progress t t₁ (gc-units v c r s.memory) s.led
+
+-- A SLICE TELLS WHAT LEAVES,
+pub sliced-tells : (n : ℕ) (old new : Machine) (p : Progress) (steps steps_now : ℕ) (t t₁ : Telling) → IsSliced n old new p steps steps_now t t₁ →
+    TellsWhatLeaves old.heap new.heap t t₁
+sliced-tells n old new p steps steps_now t t₁ s = led-tells (slice n (with_memory old s.memory)) old new p t t₁ s.led
+
+-- so does a collection,
+pub collected-tells : (old new : Machine) (p : Progress) (t t₁ : Telling) → IsCollected old new p t t₁ → TellsWhatLeaves old.heap new.heap t t₁
+collected-tells old new p t t₁ s = led-tells (collect (with_memory old s.memory)) old new p t t₁ s.led
+
+-- and `gc`.
+pub swept-tells : (old new : Machine) (t t₁ : Telling) → IsSwept old new t t₁ → TellsWhatLeaves old.heap new.heap t t₁
+swept-tells old new t t₁ s = led-tells (gc (with_memory old s.memory)) old new (gc (with_memory old s.memory)).progress t t₁ s.led

@@ -1,0 +1,38 @@
+use Rattle.cc_gc.proofs.Sparing.{keeps-then}
+use Rattle.cc_collector.proofs.Settling.{tells-then, keys-then, settled-exact}
+use Rattle.cc_collector.proofs.collector.Collector.settle.Goals as goal
+
+-- The collection is refused
+
+pub returns-in_err-whole-clause-tells : goal.returns-in_err-whole-clause-tells
+returns-in_err-whole-clause-tells g c = tells-then _ _ _ _ _ _ c.gc.ensures.keeps c.whole.ensures.keeps c.gc.ensures.tells c.whole.ensures.tells
+
+pub returns-in_err-whole-clause-suspected : goal.returns-in_err-whole-clause-suspected
+returns-in_err-whole-clause-suspected g c = λ s. c.whole.ensures.suspected (c.gc.ensures.suspected s)
+
+pub returns-in_err-whole-clause-keys : goal.returns-in_err-whole-clause-keys
+returns-in_err-whole-clause-keys g c = keys-then _ _ _ _ _ c.gc.ensures.runs.order.sound.well_formed c.whole.ensures.runs.order.sound.well_formed
+    c.whole.ensures.tells c.gc.ensures.keys c.whole.ensures.keys
+
+-- All is done
+
+pub returns-clause-exact : goal.returns-clause-exact
+returns-clause-exact g c = λ s. settled-exact _ _ _ _ _ c.requires.runs s (record {
+  second = _;
+  told_second = _;
+  collected = record { first = _; told_first = _; swept = c.gc.ensures.swept; collected = c.in_ok-whole.ensures.done };
+  swept = c.gc-2.ensures.swept;
+})
+
+-- what is told until the collection has ended
+pub returns-clause-tells : goal.returns-clause-tells
+returns-clause-tells g c = tells-then _ _ _ _ _ _ c.gc.ensures.keeps (keeps-then _ _ _ c.whole.ensures.keeps c.gc-2.ensures.keeps) c.gc.ensures.tells
+    (tells-then _ _ _ _ _ _ c.whole.ensures.keeps c.gc-2.ensures.keeps c.whole.ensures.tells c.gc-2.ensures.tells)
+
+pub returns-clause-suspected : goal.returns-clause-suspected
+returns-clause-suspected g c = λ s. c.gc-2.ensures.suspected (c.whole.ensures.suspected (c.gc.ensures.suspected s))
+
+pub returns-clause-keys : goal.returns-clause-keys
+returns-clause-keys g c = keys-then _ _ _ _ _ c.whole.ensures.runs.order.sound.well_formed c.gc-2.ensures.runs.order.sound.well_formed c.gc-2.ensures.tells
+    (keys-then _ _ _ _ _ c.gc.ensures.runs.order.sound.well_formed c.whole.ensures.runs.order.sound.well_formed c.whole.ensures.tells c.gc.ensures.keys c.whole.ensures.keys)
+    c.gc-2.ensures.keys
