@@ -5,6 +5,7 @@ pub mod EndSpares
 pub mod UnitsSpare
 pub mod Coming
 pub mod Settling
+pub mod NothingLeft
 pub mod NoneBack
 pub mod GoingOn
 pub mod Whiteness

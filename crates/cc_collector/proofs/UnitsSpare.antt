@@ -253,6 +253,11 @@ module _ (m : Machine) (sound : IsSound [] m.heap) (colours : HasColourInvariant
       go went_on = units_done-spare m.heap (enough_units (starting_anew d).machine) (starting_anew d) anew
       go at_end = units_done-spare m.heap (enough_units (starting_anew d).machine) (starting_anew d) anew
 
+  -- `gc` is a script collection of what these leave, and no collection runs then
+  pub gc-swept : (h : Heap) × ((gc m).machine.heap ≡ (collect_scripts h).heap) × ((gc m).machine.snapshot ≡ None)
+  unfolding gc
+  gc-swept = ((finish_running m).machine.heap, refl, finish-spare.1)
+
   -- AND THE SCRIPT COLLECTION AFTER THOSE THAT END A RUNNING ONE
   pub gc-spare : UnitsSpare m.heap (gc m)
   unfolding gc

@@ -2,6 +2,7 @@
 ghost use Rattle.std.specs.Prelude.{◌≡◌, ◌≢◌, [], length, None, Some, Ok, OnErr, OnOk, true, is_some};
 ghost use Rattle.cc_model.specs.Snapshot.{white_natives};
 ghost use Rattle.cc_model.specs.End.{at_end, refused};
+ghost use Rattle.cc_model.specs.Sweep.{collect_scripts as collected};
 ghost use Rattle.cc_laws_run.specs.Doomed.{IsSuspectedNow};
 ghost use Rattle.cc_graph.specs.Held.{AreHeld};
 ghost use Rattle.cc_heaps.specs.Keyed.{IsInOrder};
@@ -155,6 +156,7 @@ impl Collector {
         ensures exact { OnOk result (IsSuspectedNow (machine_of heaps.old.heap self.old) → HasWhatIsReached heaps.new.heap) }
         ensures done { OnOk result (IsSettled (machine_of heaps.old.heap self.old) (machine_of heaps.new.heap self.new) (N.telling out.old) (N.telling out.new)) }
         ensures refused { OnErr result (IsUnsettled (machine_of heaps.old.heap self.old) (machine_of heaps.new.heap self.new) (N.telling out.old) (N.telling out.new)) }
+        ensures swept { OnErr result ((collected heaps.new.heap).events ≡ []) }
         ensures over { self.new ≡ None }
         ensures keeps { KeepsWhatIsReached heaps.old.heap heaps.new.heap }
         ensures tells { TellsWhatLeaves heaps.old.heap heaps.new.heap (N.telling out.old) (N.telling out.new) }

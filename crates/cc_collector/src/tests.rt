@@ -1,15 +1,24 @@
+<<<<<<< HEAD
 //! Slices, whole collections and `gc` over natives that hold each other, and over entries of weak maps.
 ghost use Rattle.std.specs.Prelude.{◌≡◌, ◌<◌, ◌≤◌, [], None, Some, IfOk, IfSome};
 ghost use Rattle.cc_names.specs.declared.kind.Colour.TheVariants.{Black};
 ghost use Rattle.cc_script.specs.Objects.{colour_at};
 ghost use Rattle.cc_heaps.specs.Changes.{IsScriptThere};
+=======
+//! Slices, whole collections, `gc` and settling, over natives that hold each other and over both heaps.
+ghost use Rattle.std.specs.Prelude.{◌≡◌, ◌<◌};
+>>>>>>> 754621c284a6575e61d0cc8e43e2bbfe63cec068
 ghost use Rattle.cc_collector.specs.Kept.{RunsIn};
 
 use crate::{Collector, Ended, Steps};
 use cc_counted::Held;
 use cc_heaps::Heaps;
 use cc_model::Notebook;
+<<<<<<< HEAD
 use cc_names::{Colour, Kind, Limits, NoMemory, SKey};
+=======
+use cc_names::{Colour, Limits};
+>>>>>>> 754621c284a6575e61d0cc8e43e2bbfe63cec068
 use std::alloc::Global;
 use std::marker::Brand;
 use std::process::Abort;
@@ -51,6 +60,66 @@ fn empty(heaps: &mut Heaps, collector: &Collector, r: u8, out: &mut Notebook)
     ensures { RunsIn heaps.new collector.now }
 {
     heaps.set_native_reg(r, None, out);
+}
+
+// A script register holds the reflector of what a register holds, which has none so far.
+fn reflect(heaps: &mut Heaps, collector: &Collector, r: u8)
+    requires { RunsIn heaps.old collector.now }
+    ensures { RunsIn heaps.new collector.now }
+{
+    if let Some(native) = heaps.native_reg(r) {
+        if heaps.counted().reflector(native).is_none() {
+            if let Ok(made) = heaps.new_reflector(native) {
+                heaps.set_script_reg(r, Some(made));
+            }
+        }
+    }
+}
+
+// A plain object without slots is made, which a script register holds.
+fn make_plain(heaps: &mut Heaps, collector: &Collector, r: u8)
+    requires { RunsIn heaps.old collector.now }
+    ensures { RunsIn heaps.new collector.now }
+{
+    let _made = heaps.new_plain(r, 0);
+}
+
+// What a script register holds goes into the slot of what the native register of its number holds.
+fn hand_over(heaps: &mut Heaps, collector: &Collector, r: u8, out: &mut Notebook)
+    requires { RunsIn heaps.old collector.now }
+    ensures { RunsIn heaps.new collector.now }
+{
+    if let (Some(holder), Some(held)) = (heaps.native_reg(r), heaps.script_reg(r)) {
+        if heaps.counted().slots(holder) == 1 {
+            if let Colour::Black = heaps.scripts().colour(held) {
+                heaps.store_native(holder, 0, Some(Held::Script(held)), out);
+            }
+        }
+    }
+}
+
+// A script register is empty from then on.
+fn empty_script(heaps: &mut Heaps, collector: &Collector, r: u8)
+    requires { RunsIn heaps.old collector.now }
+    ensures { RunsIn heaps.new collector.now }
+{
+    heaps.set_script_reg(r, None);
+}
+
+// A native and its reflector hold each other, and register 0 holds the native; register 1 holds a native that holds a plain
+// object. No script register holds anything.
+fn make_over_both_heaps(heaps: &mut Heaps, collector: &Collector, out: &mut Notebook)
+    requires { RunsIn heaps.old collector.now }
+    ensures { RunsIn heaps.new collector.now }
+{
+    make(heaps, collector, 0, out);
+    reflect(heaps, collector, 0);
+    hand_over(heaps, collector, 0, out);
+    empty_script(heaps, collector, 0);
+    make(heaps, collector, 1, out);
+    make_plain(heaps, collector, 1);
+    hand_over(heaps, collector, 1, out);
+    empty_script(heaps, collector, 1);
 }
 
 // Two natives hold each other, and registers 0 and 1 hold them.
@@ -317,6 +386,7 @@ fn whole_collection_comes_after_the_running_one(rt: HostRuntime) -> Result<(), F
     collect_after_a_begin::<Brand>(&rt, rt.alloc(), Blank::new(1))
 }
 
+<<<<<<< HEAD
 // Heaps in which so many natives and two plain objects or weak maps may be made.
 fn no_objects(alloc: Global, natives: u32) -> Result<Heaps, NoMemory>
     requires { natives ≤ 1000000 }
@@ -444,3 +514,51 @@ fn native_of_a_value_is_kept_by_the_mapping_alone(rt: HostRuntime) -> Result<(),
     assert_eq!(rt; out.text(), b"- free ~2\n- free #2\n- free @1\n".as_slice());
     Ok(())
 }
+=======
+#[test]
+fn settled_heaps_have_what_is_reached(rt: HostRuntime) -> Result<(), Fail> {
+    let mut out = Notebook::new(rt.alloc());
+    let mut heaps = Heaps::new(rt.alloc(), Limits::new(2, 1, 0))?;
+    let mut collector = Collector::new(rt.alloc());
+    make_over_both_heaps(&mut heaps, &collector, &mut out);
+    empty(&mut heaps, &collector, 0, &mut out);
+    assert_eq!(rt; collector.settle(&mut heaps, &mut out), Ok(()));
+    assert_eq!(rt; heaps.census(&mut out), 2);
+    assert_eq!(rt;
+        out.text(),
+        b"- unlink #1\n- free ~1\n- free #1\n+ #2\n+ @1\n".as_slice()
+    );
+    Ok(())
+}
+
+// `settle` comes after the begin.
+fn settle_after_a_begin<L: Ledger>(rt: &impl Abort, alloc: Global, blank: Blank) -> Result<(), Fail>
+    requires name { blank.name ≡ L.name }
+    requires parts { blank.parts ≡ L.parts }
+    requires some { 0 < L.parts }
+{
+    let mut steps = Steps::<L>::new(blank);
+    let mut out = Notebook::new(alloc);
+    let mut heaps = Heaps::new(alloc, Limits::new(4, 0, 0))?;
+    let mut collector = Collector::new(alloc);
+    drop_two_cycle(&mut heaps, &collector, &mut out);
+    assert_eq!(rt;
+        collector.slice(&mut heaps, 1, &mut out, &mut steps),
+        Ok(Ended::No)
+    );
+    drop_two_cycle(&mut heaps, &collector, &mut out);
+    assert_eq!(rt; collector.settle(&mut heaps, &mut out), Ok(()));
+    assert!(rt; !collector.running());
+    assert_eq!(rt;
+        out.text(),
+        b"- unlink #1\n- unlink #2\n- free #1\n- free #2\n- unlink #3\n- unlink #4\n- free #3\n- free #4\n".as_slice()
+    );
+    assert_eq!(rt; heaps.counted().first(), None);
+    Ok(())
+}
+
+#[test]
+fn settling_ends_a_running_collection_first(rt: HostRuntime) -> Result<(), Fail> {
+    settle_after_a_begin::<Brand>(&rt, rt.alloc(), Blank::new(1))
+}
+>>>>>>> 754621c284a6575e61d0cc8e43e2bbfe63cec068

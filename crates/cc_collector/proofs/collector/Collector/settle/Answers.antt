@@ -1,11 +1,17 @@
+use Rattle.cc_lists.proofs.KnownBytes.{on_err_of}
 use Rattle.cc_gc.proofs.Sparing.{keeps-then}
 use Rattle.cc_collector.proofs.Settling.{tells-then, keys-then, settled-exact}
+use Rattle.cc_collector.proofs.NothingLeft.{unsettled-silent}
 use Rattle.cc_collector.proofs.collector.Collector.settle.Goals as goal
 
 -- The collection is refused
 
 pub returns-in_err-whole-clause-tells : goal.returns-in_err-whole-clause-tells
 returns-in_err-whole-clause-tells g c = tells-then _ _ _ _ _ _ c.gc.ensures.keeps c.whole.ensures.keeps c.gc.ensures.tells c.whole.ensures.tells
+
+pub returns-in_err-whole-clause-swept : goal.returns-in_err-whole-clause-swept
+returns-in_err-whole-clause-swept g c = on_err_of c.from_residual.result
+    (unsettled-silent _ _ _ _ _ c.requires.runs (record { first = _; told_first = _; swept = c.gc.ensures.swept; collected = c.in_err-whole.ensures.refused }))
 
 pub returns-in_err-whole-clause-suspected : goal.returns-in_err-whole-clause-suspected
 returns-in_err-whole-clause-suspected g c = λ s. c.whole.ensures.suspected (c.gc.ensures.suspected s)
