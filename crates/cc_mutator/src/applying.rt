@@ -295,6 +295,8 @@ fn preserve(heaps: &mut Heaps, s: u8) -> Reply
 }
 
 /// Gives the key in a register a value in the weak map in another; without one it has no value from then on.
+///
+/// `NoMemory` changes nothing, and comes only where a value is given to a key that had none.
 fn write_entry(heaps: &mut Heaps, m: u8, k: u8, value: Option<SKey>) -> Result<(), NoMemory>
     requires order { IsInOrder [] heaps.old }
     requires the_map { IsTrue (is_map_in (objects_of heaps.old.heap) (register heaps.old.heap (s_register m))) }
@@ -414,8 +416,8 @@ fn answer<N: Notices>(heaps: &mut Heaps, command: &Command, out: &mut N) -> Repl
 /// are not refused; by no other command. Without it they change nothing and tell nothing either.
 ///
 /// The reply is that of each graph that the heaps stand for, or it is want of memory where that graph does not refuse the
-/// command, and a command of this kind may want it: `wset` where the graph's map has no entry of the key, and `wrap` where
-/// the reflector is not listed. Of `wrap` alone this asks that a census would list exactly what is there.
+/// command, and memory may be wanted by the graph too: by `wset` where the graph's map has no entry of the key, and by
+/// `wrap` where the reflector is not listed. Only for `wrap` are the listed names to be those of the objects that are there.
 ///
 /// Afterwards the heaps stand for the graph's step, or without memory for the graph as it was; each snapshot that was
 /// fresh is fresh, and no native that nothing reaches is forgotten, whatever the candidates of a running collection are.

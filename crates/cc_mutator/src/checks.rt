@@ -110,9 +110,10 @@ fn refusal_of_script_slot(heaps: &Heaps, r: u8, i: u32) -> Option<Refusal>
         ∷ (nat_le (length (slots_at (objects_of heaps.now.heap) (s_register r))) i, no_slot) ∷ []) }
 {
     if holds_map(heaps, r) {
-        return Some(Refusal::Kind);
+        Some(Refusal::Kind)
+    } else {
+        refusal_of_slot(heaps, Reg::S(r), i)
     }
-    refusal_of_slot(heaps, Reg::S(r), i)
 }
 
 /// Why an entry is neither set nor read, whatever its value is: a register is empty, or the first holds no weak map.

@@ -9,5 +9,5 @@ returns-then-holds_map c =
     let h = c.args.heaps.now.heap in
     script_slot-map (objects_of h) (register h (S c.args.r)) _ (sym c.holds_map.ensures ∙ c.if-holds_map.true)
 
-pub returns : goal.returns
-returns c = c.refusal_of_slot.ensures ∙ script_slot-plain _ _ _ (sym c.holds_map.ensures ∙ c.if-holds_map.false)
+pub returns-else-holds_map : goal.returns-else-holds_map
+returns-else-holds_map c = c.refusal_of_slot.ensures ∙ script_slot-plain _ _ _ (sym c.holds_map.ensures ∙ c.if-holds_map.false)
