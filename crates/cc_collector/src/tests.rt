@@ -1,24 +1,16 @@
-<<<<<<< HEAD
-//! Slices, whole collections and `gc` over natives that hold each other, and over entries of weak maps.
+//! Slices, whole collections, `gc` and settling, over natives that hold each other, over both heaps, and over entries of
+//! weak maps.
 ghost use Rattle.std.specs.Prelude.{◌≡◌, ◌<◌, ◌≤◌, [], None, Some, IfOk, IfSome};
 ghost use Rattle.cc_names.specs.declared.kind.Colour.TheVariants.{Black};
 ghost use Rattle.cc_script.specs.Objects.{colour_at};
 ghost use Rattle.cc_heaps.specs.Changes.{IsScriptThere};
-=======
-//! Slices, whole collections, `gc` and settling, over natives that hold each other and over both heaps.
-ghost use Rattle.std.specs.Prelude.{◌≡◌, ◌<◌};
->>>>>>> 754621c284a6575e61d0cc8e43e2bbfe63cec068
 ghost use Rattle.cc_collector.specs.Kept.{RunsIn};
 
 use crate::{Collector, Ended, Steps};
 use cc_counted::Held;
 use cc_heaps::Heaps;
 use cc_model::Notebook;
-<<<<<<< HEAD
 use cc_names::{Colour, Kind, Limits, NoMemory, SKey};
-=======
-use cc_names::{Colour, Limits};
->>>>>>> 754621c284a6575e61d0cc8e43e2bbfe63cec068
 use std::alloc::Global;
 use std::marker::Brand;
 use std::process::Abort;
@@ -386,7 +378,6 @@ fn whole_collection_comes_after_the_running_one(rt: HostRuntime) -> Result<(), F
     collect_after_a_begin::<Brand>(&rt, rt.alloc(), Blank::new(1))
 }
 
-<<<<<<< HEAD
 // Heaps in which so many natives and two plain objects or weak maps may be made.
 fn no_objects(alloc: Global, natives: u32) -> Result<Heaps, NoMemory>
     requires { natives ≤ 1000000 }
@@ -514,7 +505,7 @@ fn native_of_a_value_is_kept_by_the_mapping_alone(rt: HostRuntime) -> Result<(),
     assert_eq!(rt; out.text(), b"- free ~2\n- free #2\n- free @1\n".as_slice());
     Ok(())
 }
-=======
+
 #[test]
 fn settled_heaps_have_what_is_reached(rt: HostRuntime) -> Result<(), Fail> {
     let mut out = Notebook::new(rt.alloc());
@@ -561,4 +552,3 @@ fn settle_after_a_begin<L: Ledger>(rt: &impl Abort, alloc: Global, blank: Blank)
 fn settling_ends_a_running_collection_first(rt: HostRuntime) -> Result<(), Fail> {
     settle_after_a_begin::<Brand>(&rt, rt.alloc(), Blank::new(1))
 }
->>>>>>> 754621c284a6575e61d0cc8e43e2bbfe63cec068
