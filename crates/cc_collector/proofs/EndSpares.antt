@@ -1,6 +1,6 @@
 -- THE END OF A COLLECTION SPARES WHAT IS REACHED, where no register reaches what it takes away.
-use Rattle.std.proofs.Common.{◌≡◌, ◌==◌, ℕ, Bool, true, false, not, List, [], ◌∷◌, ◌++◌, map, refl, sym, ◌∙◌, ap, subst, inl, inr, ⊎_elim}
-use Rattle.std.specs.List.{filter, flat_map}
+use Rattle.std.proofs.Common.{◌≡◌, ◌==◌, ℕ, true, not, List, [], ◌++◌, map, refl, sym, ◌∙◌, ap, subst, inl, ⊎_elim}
+use Rattle.std.specs.List.{flat_map}
 use Rattle.std.proofs.lemmas.Bool.{cases_Bool}
 use Rattle.cc_lists.specs.Members.{Among, has}
 use Rattle.cc_lists.proofs.Members.{Among-map, Among-map_cases, Among-left, Among-right, Among-append, Among-filter, Among-flat_map, Among-flat_map_cases, has-among, Among_or_not}
@@ -20,7 +20,6 @@ use Rattle.cc_model.specs.End.{take_away}
 use Rattle.cc_model.specs.StandsFor.{shape_at}
 use Rattle.cc_laws_heap.specs.Sound.{IsSound}
 use Rattle.cc_laws_heap.specs.Ending.{TakesAway, freed_in, freed_numbers}
-use Rattle.cc_laws_heap.proofs.Natives.{named-member}
 use Rattle.cc_laws_heap.proofs.Leaving.{Leave, is_left, numbers_there, numbers_there-named, Leave-before, Leave-not_freed}
 use Rattle.cc_laws_heap.proofs.TakingAway.{on_the_way-end, take_away-sound, take_away-takes}
 use Rattle.cc_laws_snapshot.proofs.ReachedStays.{reached-there, reached-kept, native-place, native_edges-alike, native-edge}

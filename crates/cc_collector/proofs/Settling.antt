@@ -1,5 +1,5 @@
 -- SETTLED HEAPS have exactly what the registers reach.
-use Rattle.std.proofs.Common.{◌≡◌, ◌≢◌, ◌++◌, [], Option, None, refl, sym, ◌∙◌, ap, subst}
+use Rattle.std.proofs.Common.{◌≡◌, ◌≢◌, ◌++◌, [], Option, None, refl, sym, ◌∙◌, subst}
 use Rattle.cc_lists.specs.Members.{Among}
 use Rattle.cc_lists.proofs.Members.{Among-map_cases, Among-left, Among-right}
 use Rattle.cc_names.specs.declared.name.Name.{Name}
@@ -10,7 +10,7 @@ use Rattle.cc_model.specs.View.{view}
 use Rattle.cc_model.specs.WellFormed.{IsWellFormed, native_names, script_names, names_there}
 use Rattle.cc_model.specs.Sweep.{collect_scripts}
 use Rattle.cc_model.specs.Suspected.{IsSuspected}
-use Rattle.cc_model.specs.End.{Progress, at_end, refused}
+use Rattle.cc_model.specs.End.{at_end, refused}
 use Rattle.cc_model.specs.Collecting.{Machine, collect, gc}
 use Rattle.cc_laws_heap.specs.Sound.{IsSound}
 use Rattle.cc_laws_heap.proofs.CollectedColours.{collect_scripts-sound}

@@ -1,6 +1,6 @@
 -- WHAT IS WHITE IN A GRAPH IS WHITE IN THE SNAPSHOT that it holds.
 use Rattle.std.specs.Prelude.{IfSome, IsTrue, ◌↔◌, ◌<◌, slice_get, nat_lt, not, ◌||◌, option_map, option_to_list}
-use Rattle.std.proofs.Common.{◌≡◌, ℕ, Bool, true, false, List, [], ◌++◌, length, map, filter, Option, Some, None, refl, sym, ◌∙◌, ap, subst, inr, ◌⊎◌, ⊎_elim, arith, ◌==◌}
+use Rattle.std.proofs.Common.{◌≡◌, ℕ, Bool, true, false, List, ◌++◌, length, map, filter, Option, Some, None, refl, sym, ◌∙◌, ap, subst, inr, ◌⊎◌, ⊎_elim, arith, ◌==◌}
 use Rattle.std.proofs.lemmas.Bool.{false≢true, and_parts, and_from, or_cases, or_left, or_right}
 use Rattle.std.proofs.lemmas.List.{map-append}
 use Rattle.cc_lists.specs.Members.{Among, has}

@@ -40,6 +40,17 @@ pub enum Ended {
 }
 
 /// A collector of cycles, with the collection that is running, if any.
+///
+/// `slice`, `whole`, `gc` and `settle` promise of the heaps, also where memory was refused:
+///
+/// - What the registers reach stays as it was (`keeps`): they hold what they held and reach the same objects, each of which
+///   is there with its slots and its flag, and a reached map has the same value for a reached key. What stays keeps its key
+///   (`keys`).
+/// - No register reaches what is told as unlinked or freed, neither before the call nor after it; and what is told as freed
+///   is all that leaves (`tells`).
+/// - No native that nothing reaches is forgotten (`suspected`): references lead to it from a suspect, from a script object
+///   that nothing reaches either, or from a candidate of the running collection, if that was so of each before. So a later
+///   collection can find it. It is so of empty heaps, and the calls of `Heaps` on what is reached keep it.
 #[derive(Drop)]
 pub struct Collector {
     alloc: Global,
@@ -77,8 +88,7 @@ impl Collector {
     /// ends the collection: no second one begins. `steps` counts them.
     ///
     /// `Ended::Yes` exactly where these units reached the end. What it unlinks and frees is told; no register reaches any of
-    /// it, whatever came between the units: the heaps go on standing for the same graphs. No native that nothing reaches is
-    /// forgotten.
+    /// it, whatever came between the units: the heaps go on standing for the same graphs.
     ///
     /// `NoMemory`, where a unit wanted memory that was not there: the collection is abandoned, which is told, and its
     /// suspects are suspects again. That unit is not counted.
@@ -150,7 +160,12 @@ impl Collector {
         collect_scripts(heaps, out);
     }
 
-    /// Leaves in the heaps exactly what the registers reach: `gc`, a whole collection, and `gc`, in a row.
+    /// Leaves in the heaps exactly what the registers reach, where no native was forgotten before (`suspected`): `gc`, which
+    /// ends a collection that runs, then a whole collection, then `gc`.
+    ///
+    /// `NoMemory`, where the whole collection was refused memory: it is abandoned, which is told, and its suspects are
+    /// suspects again. What was freed until then stays freed. The last `gc` is left out, for it would free nothing
+    /// (`swept`). It can be called again as soon as there is memory.
     pub fn settle<N: Notices>(&mut self, heaps: &mut Heaps, out: &mut N) -> Result<(), NoMemory>
         requires runs { RunsIn heaps.old self.old }
         ensures exact { OnOk result (IsSuspectedNow (machine_of heaps.old.heap self.old) → HasWhatIsReached heaps.new.heap) }
@@ -166,10 +181,10 @@ impl Collector {
         ensures counts { AreFew heaps.new.heap }
         ensures runs { RunsIn heaps.new self.new }
     {
-        // what script objects alone hold that nothing reaches must be a suspect, or the collection misses it
+        // a native that only unreached script objects hold need be no suspect: once they are gone it is one
         self.gc(heaps, out);
         self.whole(heaps, out)?;
-        // what natives alone held that are unlinked now is still there
+        // script objects that only unlinked natives held are still there, and hold what they reflect
         self.gc(heaps, out);
         Ok(())
     }

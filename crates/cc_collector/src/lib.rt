@@ -7,7 +7,10 @@
 //!
 //! The begin, each object and the end are units of work. `slice` does some of them, and commands of the mutator may come
 //! before the next ones; `whole` does all of them in a row; `gc` ends what is running, then collects script objects
-//! (`cc_gc`).
+//! (`cc_gc`). `settle` does all that it takes to leave in the heaps exactly what the registers reach.
+//!
+//! Who has a collector in a program of its own needs of `specs` what is said of the registers: `Sparing` of `cc_gc`,
+//! `TellsWhatLeaves` (`Collected`), and `HasWhatIsReached` (`Settled`).
 #![tactic(auto)]
 
 mod between;

@@ -8,7 +8,7 @@ use Rattle.cc_names.specs.Names.{native, is_script}
 use Rattle.cc_model.specs.declared.item.Event.{Event}
 use Rattle.cc_model.specs.declared.item.Event.TheVariants.{Unlinked, Freed}
 use Rattle.cc_model.specs.Slots.{contents}
-use Rattle.cc_model.specs.Entries.{Entry, is_entry_of, value_in}
+use Rattle.cc_model.specs.Entries.{value_in}
 use Rattle.cc_model.specs.Heap.{Heap, HeapNative, HeapScript, Outcome, silently}
 use Rattle.cc_model.specs.View.{view, native_edges, script_edges, ReachedIn}
 use Rattle.cc_model.specs.WellFormed.{native_names, script_names, names_there}
@@ -30,7 +30,7 @@ use Rattle.cc_laws_heap.proofs.CollectedColours.{collect_scripts-sound, collect_
 use Rattle.cc_laws_heap.proofs.Swept.{scripts-sweep}
 use Rattle.cc_laws_snapshot.proofs.ReachedStays.{reached-there, reached-kept, script-place, native_edges-alike, native-edge, script-edge}
 use Rattle.cc_laws_run.proofs.QuietRounds.{round-keeps}
-use Rattle.cc_gc.specs.Sparing.{KeepsWhatIsReached, IsUnreached, SparesWhatIsReached}
+use Rattle.cc_gc.specs.Sparing.{KeepsWhatIsReached, SparesWhatIsReached}
 use Rattle.cc_gc.proofs.Sparing.{HoldsNoMore, no_more-reached, native-shape, script-shape, keeps-same, keeps-then, unreached-after}
 
 -- A round

@@ -34,8 +34,9 @@ fn round<N: Notices>(heaps: &mut Heaps, out: &mut N) -> bool
 /// freed is all that leaves. Afterwards no script object is white: each is reached from a script register, or a native
 /// holds what reaches it. The heaps go on standing for the same graph.
 ///
-/// No native that nothing reaches is forgotten, where no collection runs: if a suspect led to each of them, or a script
-/// object that nothing reaches did, then that is so afterwards, and the next collection can find them. Takes no memory.
+/// No native that nothing reaches is forgotten, where no collection runs: references lead to it from a suspect, or from a
+/// script object that nothing reaches either, if that was so of each before. So the next collection can find it. Takes no
+/// memory.
 pub fn collect_scripts<N: Notices>(heaps: &mut Heaps, out: &mut N)
     requires order { IsInOrder [] heaps.old }
     ensures heap { heaps.new.heap ≡ (collected heaps.old.heap).heap }
