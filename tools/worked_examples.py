@@ -21,6 +21,7 @@ TABLE = ROOT / 'examples' / 'worked.txt'
 CRATE = ROOT / 'crates' / 'cc_worked'
 TESTS = ROOT / 'crates' / 'cc_examples' / 'src' / 'worked.rt'
 EXAMPLES_IN_A_FILE = 8
+EXAMPLES_IN_A_TEST = 20
 DEFAULT_LIMITS = (1000000, 1000000, 4294967295)
 STATUSES = {0: 'Done', 5: 'Limit'}
 STATUS_LIMIT = 5
@@ -282,27 +283,33 @@ def test_case(example):
 """
 
 
+def test_of_part(number, cases):
+    return f"""
+const EXAMPLES_{number}: [Example; {len(cases)}] = [
+{''.join(cases)}];
+
+#[test]
+fn worked_examples_{number}_are_answered(rt: HostRuntime) -> Result<(), Fail> {{
+    for example in EXAMPLES_{number}.iter() {{
+        example.is_answered(&rt)?;
+    }}
+    Ok(())
+}}
+"""
+
+
 def file_of_tests(examples):
     cases = [test_case(example) for example in examples if can_be_run(example)]
-    return f"""//! The worked examples that the program can be run on: what each script makes it write.
+    parts = [cases[i:i + EXAMPLES_IN_A_TEST] for i in range(0, len(cases), EXAMPLES_IN_A_TEST)]
+    return """//! The worked examples that the program can be run on: what each script makes it write. They stand in some tables, since
+//! the check of a large one takes more steps than it may.
 //!
 //! Made by tools/worked_examples.py from examples/worked.txt.
 
 use crate::script::Example;
 use cc_replay::Status;
 use std::test::Fail;
-
-const EXAMPLES: [Example; {len(cases)}] = [
-{''.join(cases)}];
-
-#[test]
-fn worked_examples_are_answered(rt: HostRuntime) -> Result<(), Fail> {{
-    for example in EXAMPLES.iter() {{
-        example.is_answered(&rt)?;
-    }}
-    Ok(())
-}}
-"""
+""" + ''.join(test_of_part(number, part) for number, part in enumerate(parts, 1))
 
 
 def files(examples):
