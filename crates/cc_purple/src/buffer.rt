@@ -1,172 +1,154 @@
 //! The buffer of suspects.
-ghost use Rattle.std.specs.Prelude.{◌≡◌, ◌+◌, ◌<◌, ◌≤◌, drop, length, false, true, [], ◌∷◌, vec_capacity, IfNone, IfSome, IsOk, OnOk, MatchOption, option_map};
-ghost use Rattle.cc_purple.specs.Marks.{Buffered, HasPlaceFor, first_key, holds_key, is_purple, key_after, marked_as, with_mark, without_key};
-ghost use Rattle.cc_purple.specs.Places.{StandsAt};
+ghost use Rattle.std.specs.Prelude.{◌≡◌, ◌==◌, true, false, [], IsTrue, List, ℕ, drop, option_map};
+ghost use Rattle.cc_lists.specs.Members.{with_last};
+ghost use Rattle.cc_chain.specs.Links.{HasNone, Links, is_live, is_linked, SameLive};
+ghost use Rattle.cc_lists.specs.Walks.{first_of};
+ghost use Rattle.cc_chain.specs.Chains.{IsChain, IsSomeChain};
+ghost use Rattle.cc_purple.specs.Stores.{Marks};
+ghost use Rattle.cc_purple.specs.Marks.{Marked, first_key, holds_key, is_purple, key_after, marked_as, with_mark, without_key};
+ghost use Rattle.cc_purple.specs.Buffers.{IsBuffer, IsSomeBuffer};
 
-use crate::mark::Mark;
-use cc_names::{NKey, NoMemory};
-use std::alloc::Global;
-use std::marker::Model;
+use crate::store::{MarkStore, Suspects};
+use cc_chain::Chain;
+use cc_names::NKey;
 
-/// The suspects in buffer order, each with the purple mark or without.
-///
-/// A key may stand in it where there is a place: it is there already, or there is room for one more.
-// O(n) per call until the buffer is a chain: each walks the vector
+/// The suspects in buffer order, each with the purple mark or without. Links and marks are kept in the store.
 #[derive(Drop)]
 pub struct Buffer {
-    entries: Vec<Mark>,
-}
-
-impl Model for Buffer {
-    ghost use Rattle.std.specs.Prelude.{vec_capacity};
-    ghost use Rattle.cc_purple.specs.Marks.{Buffered};
-
-    ghost Value = { Buffered };
-
-    ghost view = { λ b. record { marks = b.entries.items; room = vec_capacity b.entries } };
+    keys: Chain<Suspects>,
 }
 
 impl Buffer {
-    /// An empty buffer, with room for no key.
-    pub fn new(alloc: Global) -> Buffer
-        ensures { result ≡ record { marks = []; room = 0 } }
+    /// An empty buffer, for a store that holds no list.
+    pub fn new() -> Buffer
+        ensures { (links : Links) (marks : Marks) → HasNone links → IsBuffer links marks result [] }
     {
-        Buffer {
-            entries: Vec::new(alloc),
-        }
-    }
-
-    /// Takes room for `n` keys in all. What it holds is unchanged either way.
-    ///
-    /// `NoMemory` where the room is not to be had.
-    pub fn reserve(&mut self, n: usize) -> Result<(), NoMemory>
-        ensures marks { self.new.marks ≡ self.old.marks }
-        ensures kept { self.old.room ≤ self.new.room }
-        ensures room { OnOk result (n ≤ self.new.room) }
-        ensures no_need { n ≤ self.old.room → IsOk result }
-    {
-        if n > self.entries.capacity() {
-            self.entries.reserve(n - self.entries.len())?;
-        }
-        Ok(())
+        Buffer { keys: Chain::new() }
     }
 
     /// The key is in the buffer with the purple mark: it keeps its place, or goes last.
-    pub fn suspect(&mut self, key: NKey)
-        requires { HasPlaceFor self.old key.0 }
-        ensures { self.new ≡ record self.old { marks = with_mark true key.0 self.old.marks } }
+    pub fn suspect<T: MarkStore>(&mut self, store: &mut T, key: NKey)
+        requires buffer { IsSomeBuffer (T.links store.old) (T.marks store.old) self.old }
+        requires live { IsTrue (is_live (T.links store.old) key.0) }
+        ensures marks { (ms : List Marked) → IsBuffer (T.links store.old) (T.marks store.old) self.old ms →
+            IsBuffer (T.links store.new) (T.marks store.new) self.new (with_mark true key.0 ms) }
+        ensures live { SameLive (T.links store.old) (T.links store.new) }
+        ensures beside { T.beside store.new ≡ T.beside store.old }
     {
-        mark(&mut self.entries, key, true);
+        self.put(store, key, true);
     }
 
     /// The key is in the buffer without the purple mark: it keeps its place, or goes last.
-    pub fn touch(&mut self, key: NKey)
-        requires { HasPlaceFor self.old key.0 }
-        ensures { self.new ≡ record self.old { marks = with_mark false key.0 self.old.marks } }
+    pub fn touch<T: MarkStore>(&mut self, store: &mut T, key: NKey)
+        requires buffer { IsSomeBuffer (T.links store.old) (T.marks store.old) self.old }
+        requires live { IsTrue (is_live (T.links store.old) key.0) }
+        ensures marks { (ms : List Marked) → IsBuffer (T.links store.old) (T.marks store.old) self.old ms →
+            IsBuffer (T.links store.new) (T.marks store.new) self.new (with_mark false key.0 ms) }
+        ensures live { SameLive (T.links store.old) (T.links store.new) }
+        ensures beside { T.beside store.new ≡ T.beside store.old }
     {
-        mark(&mut self.entries, key, false);
+        self.put(store, key, false);
     }
 
     /// A key that was taken out comes back with the purple mark: it goes last, or keeps its place where it is here again.
-    pub fn give_back(&mut self, key: NKey)
-        requires { HasPlaceFor self.old key.0 }
-        ensures { self.new ≡ record self.old { marks = with_mark true key.0 self.old.marks } }
+    pub fn give_back<T: MarkStore>(&mut self, store: &mut T, key: NKey)
+        requires buffer { IsSomeBuffer (T.links store.old) (T.marks store.old) self.old }
+        requires live { IsTrue (is_live (T.links store.old) key.0) }
+        ensures marks { (ms : List Marked) → IsBuffer (T.links store.old) (T.marks store.old) self.old ms →
+            IsBuffer (T.links store.new) (T.marks store.new) self.new (with_mark true key.0 ms) }
+        ensures live { SameLive (T.links store.old) (T.links store.new) }
+        ensures beside { T.beside store.new ≡ T.beside store.old }
     {
-        self.suspect(key);
+        self.suspect(store, key);
     }
 
     /// The key is not in the buffer; the others stay in order.
-    pub fn forget(&mut self, key: NKey)
-        ensures { self.new ≡ record self.old { marks = without_key key.0 self.old.marks } }
+    pub fn forget<T: MarkStore>(&mut self, store: &mut T, key: NKey)
+        requires buffer { IsSomeBuffer (T.links store.old) (T.marks store.old) self.old }
+        requires live { IsTrue (is_live (T.links store.old) key.0) }
+        ensures marks { (ms : List Marked) → IsBuffer (T.links store.old) (T.marks store.old) self.old ms →
+            IsBuffer (T.links store.new) (T.marks store.new) self.new (without_key key.0 ms) }
+        ensures live { SameLive (T.links store.old) (T.links store.new) }
+        ensures beside { T.beside store.new ≡ T.beside store.old }
     {
-        self.entries.retain(|mark| mark.key() != key);
+        if self.keys.holds(store, key.0) {
+            self.keys.unlink_at(store, key.0);
+        }
     }
 
     /// Takes out the front and its mark; none exactly where the buffer is empty.
-    pub fn select_next(&mut self) -> Option<(NKey, bool)>
-        ensures { MatchOption result ((self.old.marks ≡ []) × (self.new ≡ self.old))
-            (λ front. (self.old.marks ≡ marked_as front.0.0 front.1 ∷ self.new.marks) × (self.new.room ≡ self.old.room)) }
+    pub fn select_next<T: MarkStore>(&mut self, store: &mut T) -> Option<(NKey, bool)>
+        requires { IsSomeBuffer (T.links store.old) (T.marks store.old) self.old }
+        ensures front { (ms : List Marked) → IsBuffer (T.links store.old) (T.marks store.old) self.old ms →
+            option_map (λ front. marked_as front.0.0 front.1) result ≡ first_of ms }
+        ensures marks { (ms : List Marked) → IsBuffer (T.links store.old) (T.marks store.old) self.old ms →
+            IsBuffer (T.links store.new) (T.marks store.new) self.new (drop 1 ms) }
+        ensures live { SameLive (T.links store.old) (T.links store.new) }
+        ensures beside { T.beside store.new ≡ T.beside store.old }
     {
-        if self.entries.is_empty() {
-            return None;
-        }
-        let front = self.entries.remove(0);
-        Some((front.key(), front.purple()))
+        let key = self.keys.pop_front(store)?;
+        Some((NKey(key), store.mark(key)))
     }
 
-    /// Whether the key is in the buffer.
-    #[tactic(auto, using(crate::proofs::Stands::stands))]
-    pub fn holds(&self, key: NKey) -> bool
-        ensures { result ≡ holds_key self.now.marks key.0 }
+    /// Whether a live key is in the buffer.
+    pub fn holds<T: MarkStore>(&self, store: &T, key: NKey) -> bool
+        requires { IsTrue (is_live (T.links store.now) key.0) }
+        ensures { (ms : List Marked) → IsBuffer (T.links store.now) (T.marks store.now) self.now ms →
+            result ≡ holds_key ms key.0 }
     {
-        place_of(self.entries.as_slice(), key).is_some()
+        self.keys.holds(store, key.0)
     }
 
-    /// Whether the key is in the buffer with the purple mark.
-    #[tactic(auto, using(crate::proofs::Stands::stands))]
-    pub fn purple(&self, key: NKey) -> bool
-        ensures { result ≡ is_purple self.now.marks key.0 }
+    /// Whether a live key is in the buffer with the purple mark.
+    pub fn purple<T: MarkStore>(&self, store: &T, key: NKey) -> bool
+        requires { IsTrue (is_live (T.links store.now) key.0) }
+        ensures { (ms : List Marked) → IsBuffer (T.links store.now) (T.marks store.now) self.now ms →
+            result ≡ is_purple ms key.0 }
     {
-        match place_of(self.entries.as_slice(), key) {
-            Some(place) => self.entries[place].purple(),
-            None => false,
-        }
+        self.holds(store, key) && store.mark(key.0)
     }
 
     /// The first key in buffer order; none exactly where the buffer is empty.
-    pub fn first(&self) -> Option<NKey>
-        ensures { option_map (λ k. k.0) result ≡ first_key self.now.marks }
+    pub fn first<T: MarkStore>(&self, store: &T) -> Option<NKey>
+        ensures { (ms : List Marked) → IsBuffer (T.links store.now) (T.marks store.now) self.now ms →
+            option_map (λ k. k.0) result ≡ first_key ms }
     {
-        key_at(self.entries.as_slice(), 0)
+        Some(NKey(self.keys.first(store)?))
     }
 
     /// The key after `key`, which must be in the buffer, in buffer order; none exactly where `key` is last.
-    #[tactic(auto, using(crate::proofs::Stands::stands))]
-    pub fn next(&self, key: NKey) -> Option<NKey>
-        requires { holds_key self.now.marks key.0 ≡ true }
-        ensures { option_map (λ k. k.0) result ≡ key_after self.now.marks key.0 }
+    pub fn next<T: MarkStore>(&self, store: &T, key: NKey) -> Option<NKey>
+        requires { IsTrue (is_linked (T.links store.now) key.0) }
+        ensures { (ms : List Marked) → IsBuffer (T.links store.now) (T.marks store.now) self.now ms →
+            option_map (λ k. k.0) result ≡ key_after ms key.0 }
     {
-        match place_of(self.entries.as_slice(), key) {
-            Some(place) => key_at(self.entries.as_slice(), place + 1),
-            None => None,
+        Some(NKey(self.keys.next(store, key.0)?))
+    }
+
+    /// A live key is in the buffer: it keeps its place, or goes last.
+    fn enter<T: MarkStore>(&mut self, store: &mut T, key: usize)
+        requires chain { IsSomeChain (T.links store.old) self.old.keys }
+        requires live { IsTrue (is_live (T.links store.old) key) }
+        ensures keys { (keys : List ℕ) → IsChain (T.links store.old) self.old.keys keys →
+            IsChain (T.links store.new) self.new.keys (with_last ◌==◌ keys key) }
+        ensures live { SameLive (T.links store.old) (T.links store.new) }
+        ensures rest { T.rest store.new ≡ T.rest store.old }
+    {
+        if !self.keys.holds(store, key) {
+            self.keys.push_back(store, key);
         }
     }
-}
 
-/// Where the key stands, counted from 0.
-#[tactic(auto, using(crate::proofs::Stands::stands))]
-fn place_of(entries: &[Mark], key: NKey) -> Option<usize>
-    ensures found { IfSome result (λ place. StandsAt entries.now key.0 place) }
-    ensures none { IfNone result (holds_key entries.now key.0 ≡ false) }
-{
-    for i in 0..entries.len() {
-        if entries[i].key() == key {
-            return Some(i);
-        }
-    }
-    None
-}
-
-/// The key at a place, counted from 0.
-fn key_at(entries: &[Mark], place: usize) -> Option<NKey>
-    ensures { option_map (λ k. k.0) result ≡ first_key (drop place entries.now) }
-{
-    if place < entries.len() {
-        Some(entries[place].key())
-    } else {
-        None
-    }
-}
-
-/// Puts a mark to a key, which keeps its place or goes last.
-#[tactic(auto, using(crate::proofs::Stands::stands))]
-fn mark(entries: &mut Vec<Mark>, key: NKey, purple: bool)
-    requires { HasPlaceFor (record { marks = entries.old.items; room = vec_capacity entries.old }) key.0 }
-    ensures marks { entries.new.items ≡ with_mark purple key.0 entries.old.items }
-    ensures room { vec_capacity entries.new ≡ vec_capacity entries.old }
-{
-    match place_of(entries.as_slice(), key) {
-        Some(place) => entries[place] = Mark::new(key, purple),
-        None => entries.push_reserved(Mark::new(key, purple)),
+    /// Puts a mark to a live key, which keeps its place or goes last.
+    fn put<T: MarkStore>(&mut self, store: &mut T, key: NKey, purple: bool)
+        requires buffer { IsSomeBuffer (T.links store.old) (T.marks store.old) self.old }
+        requires live { IsTrue (is_live (T.links store.old) key.0) }
+        ensures marks { (ms : List Marked) → IsBuffer (T.links store.old) (T.marks store.old) self.old ms →
+            IsBuffer (T.links store.new) (T.marks store.new) self.new (with_mark purple key.0 ms) }
+        ensures live { SameLive (T.links store.old) (T.links store.new) }
+        ensures beside { T.beside store.new ≡ T.beside store.old }
+    {
+        self.enter(store, key.0);
+        store.set_mark(key.0, purple);
     }
 }

@@ -1,35 +1,197 @@
-//! Each call once, by what it answers.
+//! The buffer through a vector of cells.
+ghost use Rattle.std.specs.Prelude.{◌≡◌, replicate, IfOk, IsTrue, true, false, None};
+ghost use Rattle.cc_chain.specs.Links.{is_live};
+ghost use Rattle.cc_purple.specs.Buffers.{IsSomeBuffer};
 
 use super::*;
+use cc_chain::{Link, LinkStore};
 use cc_names::NKey;
+use std::alloc::{AllocError, Global};
 use std::test::Fail;
+
+/// What a store has for one key.
+#[derive(Clone, Copy, Drop)]
+struct Cell {
+    link: Option<Link>,
+    purple: bool,
+    count: u32,
+}
+
+/// A store in a vector: the live keys are its places.
+#[derive(Drop)]
+struct Cells {
+    cells: Vec<Cell>,
+}
+
+impl LinkStore<Suspects> for Cells {
+    ghost use Rattle.std.specs.Prelude.{ℕ, Bool, Option};
+    ghost use Rattle.cc_chain.specs.Stores.{part_at};
+
+    ghost links = { λ s. part_at (λ c. c.link) s.cells.items };
+
+    ghost Rest = { (ℕ → Option Bool) × (ℕ → Option ℕ) };
+
+    ghost rest = { λ s. (part_at (λ c. c.purple) s.cells.items, part_at (λ c. c.count) s.cells.items) };
+
+    fn get(&self, key: usize) -> Option<Link> {
+        self.cells[key].link
+    }
+
+    fn set(&mut self, key: usize, link: Option<Link>) {
+        self.cells[key].link = link;
+    }
+}
+
+impl MarkStore for Cells {
+    ghost use Rattle.std.specs.Prelude.{ℕ, Option, false};
+    ghost use Rattle.std.specs.Option.{unwrap_or};
+    ghost use Rattle.std.proofs.Common.{ap};
+    ghost use Rattle.cc_chain.specs.Stores.{part_at};
+
+    ghost marks = { λ s k. unwrap_or (part_at (λ c. c.purple) s.cells.items k) false };
+
+    ghost Beside = { ℕ → Option ℕ };
+
+    ghost beside = { λ s. part_at (λ c. c.count) s.cells.items };
+
+    fn mark(&self, key: usize) -> bool {
+        self.cells[key].purple
+    }
+
+    fn set_mark(&mut self, key: usize, on: bool) {
+        self.cells[key].purple = on;
+    }
+
+    ghost marks_in_rest = { λ s t e. ap (λ r k. unwrap_or (r.0 k) false) e };
+
+    ghost beside_in_rest = { λ s t e. ap (λ r. r.1) e };
+}
+
+/// Cells of so many keys, each without a mark and in no list.
+fn free(alloc: Global, keys: usize) -> Result<Vec<Cell>, AllocError>
+    ensures { IfOk result (λ cells. cells.items ≡ replicate keys (record { link = None; purple = false; count = 1 })) }
+{
+    vec![in alloc; Cell {
+        link: None,
+        purple: false,
+        count: 1
+    }; keys]
+}
+
+/// A buffer with its store. A key that is not live is left alone.
+#[derive(Drop)]
+struct Kept {
+    store: Cells,
+    buffer: Buffer,
+}
+
+impl Kept {
+    fn new(alloc: Global, keys: usize) -> Result<Kept, AllocError>
+        ensures { IfOk result (λ kept. IsSomeBuffer (⟦<Cells as LinkStore<Suspects>>⟧.links kept.store) (⟦<Cells as MarkStore>⟧.marks kept.store) kept.buffer) }
+    {
+        Ok(Kept {
+            store: Cells {
+                cells: free(alloc, keys)?,
+            },
+            buffer: Buffer::new(),
+        })
+    }
+
+    fn has(&self, key: usize) -> bool
+        ensures { result ≡ true → IsTrue (is_live (⟦<Cells as LinkStore<Suspects>>⟧.links self.now.store) key) }
+    {
+        key < self.store.cells.len()
+    }
+
+    fn suspect(&mut self, key: usize)
+        requires { IsSomeBuffer (⟦<Cells as LinkStore<Suspects>>⟧.links self.old.store) (⟦<Cells as MarkStore>⟧.marks self.old.store) self.old.buffer }
+        ensures { IsSomeBuffer (⟦<Cells as LinkStore<Suspects>>⟧.links self.new.store) (⟦<Cells as MarkStore>⟧.marks self.new.store) self.new.buffer }
+    {
+        if self.has(key) {
+            self.buffer.suspect(&mut self.store, NKey(key));
+        }
+    }
+
+    fn touch(&mut self, key: usize)
+        requires { IsSomeBuffer (⟦<Cells as LinkStore<Suspects>>⟧.links self.old.store) (⟦<Cells as MarkStore>⟧.marks self.old.store) self.old.buffer }
+        ensures { IsSomeBuffer (⟦<Cells as LinkStore<Suspects>>⟧.links self.new.store) (⟦<Cells as MarkStore>⟧.marks self.new.store) self.new.buffer }
+    {
+        if self.has(key) {
+            self.buffer.touch(&mut self.store, NKey(key));
+        }
+    }
+
+    fn give_back(&mut self, key: usize)
+        requires { IsSomeBuffer (⟦<Cells as LinkStore<Suspects>>⟧.links self.old.store) (⟦<Cells as MarkStore>⟧.marks self.old.store) self.old.buffer }
+        ensures { IsSomeBuffer (⟦<Cells as LinkStore<Suspects>>⟧.links self.new.store) (⟦<Cells as MarkStore>⟧.marks self.new.store) self.new.buffer }
+    {
+        if self.has(key) {
+            self.buffer.give_back(&mut self.store, NKey(key));
+        }
+    }
+
+    fn forget(&mut self, key: usize)
+        requires { IsSomeBuffer (⟦<Cells as LinkStore<Suspects>>⟧.links self.old.store) (⟦<Cells as MarkStore>⟧.marks self.old.store) self.old.buffer }
+        ensures { IsSomeBuffer (⟦<Cells as LinkStore<Suspects>>⟧.links self.new.store) (⟦<Cells as MarkStore>⟧.marks self.new.store) self.new.buffer }
+    {
+        if self.has(key) {
+            self.buffer.forget(&mut self.store, NKey(key));
+        }
+    }
+
+    fn select_next(&mut self) -> Option<(NKey, bool)>
+        requires { IsSomeBuffer (⟦<Cells as LinkStore<Suspects>>⟧.links self.old.store) (⟦<Cells as MarkStore>⟧.marks self.old.store) self.old.buffer }
+        ensures { IsSomeBuffer (⟦<Cells as LinkStore<Suspects>>⟧.links self.new.store) (⟦<Cells as MarkStore>⟧.marks self.new.store) self.new.buffer }
+    {
+        self.buffer.select_next(&mut self.store)
+    }
+
+    fn holds(&self, key: usize) -> bool {
+        self.has(key) && self.buffer.holds(&self.store, NKey(key))
+    }
+
+    fn purple(&self, key: usize) -> bool {
+        self.has(key) && self.buffer.purple(&self.store, NKey(key))
+    }
+
+    fn first(&self) -> Option<NKey> {
+        self.buffer.first(&self.store)
+    }
+
+    fn next(&self, key: usize) -> Option<NKey> {
+        if key < self.store.cells.len() && self.store.get(key).is_some() {
+            self.buffer.next(&self.store, NKey(key))
+        } else {
+            None
+        }
+    }
+}
 
 #[test]
 fn suspects_keep_their_places_and_lose_or_gain_the_mark(rt: HostRuntime) -> Result<(), Fail> {
-    let mut buffer = Buffer::new(rt.alloc());
-    assert_eq!(rt; buffer.first(), None);
-    assert_eq!(rt; buffer.select_next(), None);
-    assert_eq!(rt; buffer.reserve(3), Ok(()));
-    buffer.suspect(NKey(7));
-    buffer.suspect(NKey(2));
-    buffer.touch(NKey(7));
-    buffer.touch(NKey(5));
-    assert_eq!(rt; buffer.first(), Some(NKey(7)));
-    assert_eq!(rt; buffer.next(NKey(7)), Some(NKey(2)));
-    assert_eq!(rt; buffer.next(NKey(2)), Some(NKey(5)));
-    assert_eq!(rt; buffer.next(NKey(5)), None);
-    assert!(rt; buffer.holds(NKey(7)));
-    assert!(rt; !buffer.purple(NKey(7)));
-    assert!(rt; buffer.purple(NKey(2)));
-    assert!(rt; !buffer.holds(NKey(3)));
-    assert!(rt; !buffer.purple(NKey(3)));
-    buffer.suspect(NKey(5));
-    buffer.forget(NKey(2));
-    buffer.forget(NKey(3));
-    assert_eq!(rt; buffer.select_next(), Some((NKey(7), false)));
-    buffer.give_back(NKey(7));
-    assert_eq!(rt; buffer.select_next(), Some((NKey(5), true)));
-    assert_eq!(rt; buffer.select_next(), Some((NKey(7), true)));
-    assert_eq!(rt; buffer.select_next(), None);
+    let mut kept = Kept::new(rt.alloc(), 8)?;
+    assert_eq!(rt; kept.first(), None);
+    assert_eq!(rt; kept.select_next(), None);
+    kept.suspect(7);
+    kept.suspect(2);
+    kept.touch(7);
+    kept.touch(5);
+    assert_eq!(rt; kept.first(), Some(NKey(7)));
+    assert_eq!(rt; kept.next(7), Some(NKey(2)));
+    assert_eq!(rt; kept.next(2), Some(NKey(5)));
+    assert_eq!(rt; kept.next(5), None);
+    assert!(rt; kept.holds(7));
+    assert!(rt; !kept.purple(7));
+    assert!(rt; kept.purple(2));
+    assert!(rt; !kept.holds(3));
+    assert!(rt; !kept.purple(3));
+    kept.suspect(5);
+    kept.forget(2);
+    kept.forget(3);
+    assert_eq!(rt; kept.select_next(), Some((NKey(7), false)));
+    kept.give_back(7);
+    assert_eq!(rt; kept.select_next(), Some((NKey(5), true)));
+    assert_eq!(rt; kept.select_next(), Some((NKey(7), true)));
+    assert_eq!(rt; kept.select_next(), None);
     Ok(())
 }

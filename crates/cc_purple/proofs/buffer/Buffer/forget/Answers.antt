@@ -1,9 +1,10 @@
-use Rattle.std.proofs.Common.{◌≡◌, rules, refl}
-use Rattle.std.proofs.lemmas.Fn.{filter_same}
-use Rattle.cc_purple.specs.Marks.{without_key}
+use Rattle.cc_purple.specs.Marks.{keys_of}
+use Rattle.cc_purple.proofs.Buffers.{buffer-absent, buffer-forget}
 use Rattle.cc_purple.proofs.buffer.Buffer.forget.Goals as goal
 
-pub returns : goal.returns
-returns c =
-    let kept : c.retain.new.self.items ≡ without_key c.args.key.0 c.self.inside.entries.items = filter_same _ _ _ (λ x b f' k. search rules) _ _ c.retain.ensures.filtered in
-    rw (← c.self.view_is, kept, c.retain.ensures.capacity) refl
+pub returns-then-holds-clause-marks : goal.returns-then-holds-clause-marks
+returns-then-holds-clause-marks g c ms b =
+    buffer-forget _ _ _ ms b c.args.key.0 _ _ _ (c.unlink_at.ensures.keys (keys_of ms) b.keys) (g.met.T.MarkStore.marks_in_rest _ _ c.unlink_at.ensures.rest)
+
+pub returns-else-holds-clause-marks : goal.returns-else-holds-clause-marks
+returns-else-holds-clause-marks g c ms b = buffer-absent _ _ _ ms b c.args.key.0 (c.if-holds.ensures.keys (keys_of ms) b.keys)

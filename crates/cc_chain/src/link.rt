@@ -1,0 +1,8 @@
+//! The link of a key.
+
+/// The neighbours of a key in a list: none at an end.
+#[derive(Clone, Copy, Debug, PartialEq, Eq, Drop)]
+pub struct Link {
+    pub before: Option<usize>,
+    pub after: Option<usize>,
+}
