@@ -44,8 +44,8 @@ impl Play {
 
 /// Each native holds the one before it; the last command gives up the last reference to the last of them.
 #[test]
-fn a_chain_of_ten_thousand_is_freed_by_one_drop(rt: HostRuntime) -> Result<(), Fail> {
-    let length = 10000u32;
+fn a_chain_of_two_hundred_thousand_is_freed_by_one_drop(rt: HostRuntime) -> Result<(), Fail> {
+    let length = 200000u32;
     let mut play = Play::new(rt.alloc());
     play.ask("native n0 1\n", "= #1\n")?;
     for k in 2..length + 1 {
@@ -129,10 +129,10 @@ fn a_ring_that_is_held_is_kept(rt: HostRuntime) -> Result<(), Fail> {
 }
 
 /// Script objects 1 to `length`, each of which holds the one before it. The first is in s0 and the last in s1.
-fn grown_in_script(alloc: Global, length: u16) -> Result<Play, AllocError> {
+fn grown_in_script(alloc: Global, length: u32) -> Result<Play, AllocError> {
     let mut play = Play::new(alloc);
     play.ask("script s0 1\ncopy s1 s0\n", "= @1\n= @1\n")?;
-    for k in 2..length as u32 + 1 {
+    for k in 2..=length {
         play.ask(
             "script s2 1\nput s2 0 s1\ncopy s1 s2\n",
             format!(in alloc; "= @{k}\n= ok\n= @{k}\n")?.as_str(),
@@ -143,9 +143,9 @@ fn grown_in_script(alloc: Global, length: u16) -> Result<Play, AllocError> {
 }
 
 /// Script objects 1 to `length` are swept by one `gc`, in order of making, and nothing is left.
-fn swept(alloc: Global, length: u16, play: &mut Play) -> Result<(), AllocError> {
+fn swept(alloc: Global, length: u32, play: &mut Play) -> Result<(), AllocError> {
     play.ask("gc\ncensus\n", "")?;
-    for k in 1..length as u32 + 1 {
+    for k in 1..=length {
         play.ask("", format!(in alloc; "- free @{k}\n")?.as_str())?;
     }
     play.ask("", "= ok\n= census 0\n")
@@ -153,7 +153,7 @@ fn swept(alloc: Global, length: u16, play: &mut Play) -> Result<(), AllocError> 
 
 #[test]
 fn a_chain_of_ten_thousand_script_objects_is_swept_by_one_gc(rt: HostRuntime) -> Result<(), Fail> {
-    let length = 10000u16;
+    let length = 10000u32;
     let mut play = grown_in_script(rt.alloc(), length)?;
     play.ask("drop s0\ngc\ndrop s1\n", "= ok\n= ok\n= ok\n")?;
     swept(rt.alloc(), length, &mut play)?;
@@ -161,8 +161,10 @@ fn a_chain_of_ten_thousand_script_objects_is_swept_by_one_gc(rt: HostRuntime) ->
 }
 
 #[test]
-fn a_ring_of_ten_thousand_script_objects_is_swept_by_one_gc(rt: HostRuntime) -> Result<(), Fail> {
-    let length = 10000u16;
+fn a_ring_of_two_hundred_thousand_script_objects_is_swept_by_one_gc(
+    rt: HostRuntime,
+) -> Result<(), Fail> {
+    let length = 200000u32;
     let mut play = grown_in_script(rt.alloc(), length)?;
     play.ask(
         "put s0 0 s1\ndrop s0\ngc\ndrop s1\n",
@@ -200,10 +202,10 @@ fn a_script_object_that_holds_sixty_four_others_is_kept_by_a_native(
 
 /// Natives 1 to `length`, each of which holds the reflector of the next, and the last that of the first; no register holds
 /// any of them.
-fn ring_through_reflectors(alloc: Global, length: u16) -> Result<Play, AllocError> {
+fn ring_through_reflectors(alloc: Global, length: u32) -> Result<Play, AllocError> {
     let mut play = Play::new(alloc);
     play.ask("native n0 1\ncopy n1 n0\n", "= #1\n= #1\n")?;
-    for k in 2..length as u32 + 1 {
+    for k in 2..=length {
         play.ask(
             "native n2 1\nwrap s1 n2\nset n1 0 s1\ncopy n1 n2\n",
             format!(in alloc; "= #{k}\n= ~{k}\n= ok\n= #{k}\n")?.as_str(),
@@ -220,15 +222,15 @@ fn ring_through_reflectors(alloc: Global, length: u16) -> Result<Play, AllocErro
 /// One collection unlinks the natives and frees nothing; the script collection after it frees each reflector and its
 /// native. The reflector of the first native was made last.
 #[test]
-fn a_ring_through_a_thousand_reflectors_is_freed(rt: HostRuntime) -> Result<(), Fail> {
-    let length = 1000u16;
+fn a_ring_through_a_hundred_thousand_reflectors_is_freed(rt: HostRuntime) -> Result<(), Fail> {
+    let length = 100000u32;
     let mut play = ring_through_reflectors(rt.alloc(), length)?;
     play.ask("gc\ncollect\n", "= ok\n")?;
-    for k in 1..length as u32 + 1 {
+    for k in 1..=length {
         play.ask("", format!(in rt.alloc(); "- unlink #{k}\n")?.as_str())?;
     }
     play.ask("gc\n", "= ok\n")?;
-    for k in 2..length as u32 + 1 {
+    for k in 2..=length {
         play.ask(
             "",
             format!(in rt.alloc(); "- free ~{k}\n- free #{k}\n")?.as_str(),
