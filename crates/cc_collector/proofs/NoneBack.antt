@@ -17,9 +17,10 @@ use Rattle.cc_model.specs.Snapshot.{NodeState, untraversed, gone, traversed, Nod
 use Rattle.cc_model.specs.Units.{begun, with_empty_buffer}
 use Rattle.cc_model.specs.Fresh.{IsFresh, IsNode, IsLiving, MemberIsNode, node}
 use Rattle.cc_laws_heap.specs.Sound.{IsSound}
+use Rattle.cc_laws_heap.proofs.ScriptNames.{script_names-named}
 use Rattle.cc_laws_snapshot.specs.Kinds.{IsFreshIn}
 use Rattle.cc_laws_snapshot.proofs.Beginning.{begun-fresh, node-cases}
-use Rattle.cc_laws_snapshot.proofs.SoundView.{living-native, script-name_of, named-there}
+use Rattle.cc_laws_snapshot.proofs.SoundView.{living-native, named-there}
 use Rattle.cc_heaps.specs.Standing.{KeepsFresh}
 
 module _ (h : Heap) (sound : IsSound [] h) (coloured : HasColourInvariant (view h)) (k : ℕ) (least : 1 ≤ k) (made : k ≤ h.natives_made)
@@ -33,7 +34,7 @@ module _ (h : Heap) (sound : IsSound [] h) (coloured : HasColourInvariant (view 
 
   -- it was no node
   no-node : ¬ (IsNode (begun h) (native k))
-  no-node i = ⊎_elim dead (λ s. native-no_script (script-name_of h (native k) sound.well_formed (named-there h (native k) s))) (node-cases h sound coloured (native k) i)
+  no-node i = ⊎_elim dead (λ s. native-no_script (script_names-named h sound.well_formed (native k) (named-there h (native k) s))) (node-cases h sound coloured (native k) i)
     where
       native-no_script : is_script (native k) ≡ true → ⊥
       native-no_script e = cc

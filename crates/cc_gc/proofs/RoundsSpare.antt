@@ -28,7 +28,8 @@ use Rattle.cc_laws_heap.proofs.RoundsEnd.{next_round, rounds-keep}
 use Rattle.cc_laws_heap.proofs.RoundsStand.{spared-from}
 use Rattle.cc_laws_heap.proofs.CollectedColours.{collect_scripts-sound, collect_scripts-frees}
 use Rattle.cc_laws_heap.proofs.Swept.{scripts-sweep}
-use Rattle.cc_laws_snapshot.proofs.ReachedStays.{reached-there, reached-kept, script-place, native_edges-alike, native-edge, script-edge}
+use Rattle.cc_laws_snapshot.proofs.ReachedStays.{reached-there, reached-kept, native_edges-alike, native-edge, script-edge}
+use Rattle.cc_laws_snapshot.proofs.SoundView.{script-place}
 use Rattle.cc_laws_run.proofs.QuietRounds.{round-keeps}
 use Rattle.cc_gc.specs.Sparing.{KeepsWhatIsReached, SparesWhatIsReached}
 use Rattle.cc_gc.proofs.Sparing.{HoldsNoMore, no_more-reached, native-shape, script-shape, keeps-same, keeps-then, unreached-after}

@@ -27,7 +27,7 @@ use Rattle.cc_laws_heap.proofs.GraphWrites.{IsWellMade-native_register, IsWellMa
 use Rattle.cc_laws_heap.proofs.GraphReads.{Made, MadeNative, MadeScript, MadeScript-made, native_register-made, script_register-made, register-made, source-made, script_source-made, slot_at-made, script_slot_at-made, no_script-made, no_native-made, native_of-made, value_at-made}
 
 -- a slot written takes no reflector away
-KeepsReflector-slot : (i : ℕ) (x : Option Name) (o : Option Slots) → is_some o ≡ true → is_some (option_map (λ (slots : Slots). set slots i x) o) ≡ true
+pub KeepsReflector-slot : (i : ℕ) (x : Option Name) (o : Option Slots) → is_some o ≡ true → is_some (option_map (λ (slots : Slots). set slots i x) o) ≡ true
 KeepsReflector-slot i x None e = e
 KeepsReflector-slot i x (Some slots) e = refl
 

@@ -19,7 +19,7 @@ use Rattle.cc_model.specs.Fresh.{node, IsNode, IsScriptThere, MemberOf, IsMappin
 use Rattle.cc_laws_heap.specs.Sound.{IsSound}
 use Rattle.cc_laws_snapshot.proofs.NamePairs.{native-no_script}
 use Rattle.cc_laws_heap.proofs.ViewEdges.{native_edges-are, script_edges-are}
-use Rattle.cc_laws_snapshot.proofs.OwnEdges.{script-named}
+use Rattle.cc_laws_heap.proofs.ScriptNames.{script-named}
 use Rattle.cc_laws_snapshot.proofs.SoundView.{IsSound-view, black-or_gray, living-named, native-name_of}
 use Rattle.cc_laws_snapshot.proofs.States.{untraversed-not_traversed, untraversed-not_gone}
 use Rattle.cc_lists.proofs.OnceEach.{with_all_last-there, with_all_last-cases, with_all_last-once}
@@ -152,7 +152,7 @@ module _ (h : Heap) (sound : IsSound [] h) (coloured : HasColourInvariant (view 
       (λ r.
       let f = Among-flat_map_cases script_edges h.scripts (native i, y) r in
       let script : is_script (native i) ≡ true =
-      subst (λ z. is_script z ≡ true) (script_edges-are f.0 (native i) y f.2).0 (script-named h f.0 sound.well_formed f.1) in
+      subst (λ z. is_script z ≡ true) (script_edges-are f.0 (native i) y f.2).0 (script-named h sound.well_formed f.0 f.1) in
       absurd (native-no_script (native i) refl script))
       (Among-append (native i, y) (flat_map native_edges h.natives) (flat_map script_edges h.scripts) m)
 
