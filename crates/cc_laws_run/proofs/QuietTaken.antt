@@ -21,13 +21,13 @@ use Rattle.cc_lists.proofs.Numbers.{number-exact}
 use Rattle.cc_laws_heap.proofs.Natives.{named-member}
 use Rattle.cc_laws_heap.proofs.HoldsTheSame.{HoldsTheSame-add_ref}
 use Rattle.cc_laws_heap.proofs.Cascades.{cascade-sound, cascade-frees}
-use Rattle.cc_laws_heap.proofs.Holds.{contents-empty}
 use Rattle.cc_laws_heap.proofs.StandingOn.{uncounted-emptied}
 use Rattle.cc_laws_heap.proofs.Leaving.{IsOf, IsOf-alike, IsOf-frees}
 use Rattle.cc_laws_heap.proofs.Unlinking.{unlink-keeps}
 use Rattle.cc_laws_heap.proofs.TakingAway.{root_each-sound, on_the_way-unlinked, on_the_way-end}
 use Rattle.cc_laws_heap.proofs.ViewEdges.{native_edges-are}
 use Rattle.cc_laws_heap.proofs.References.{native-there}
+use Rattle.cc_laws_heap.proofs.Making.{contents-empty_none}
 use Rattle.cc_laws_snapshot.proofs.WhiteNatives.{white_natives-there, white_natives-unreached}
 use Rattle.cc_laws_run.specs.Doomed.{IsDoomed}
 use Rattle.cc_laws_run.proofs.DoomedWhite.{doomed-white_native}
@@ -144,7 +144,7 @@ module _ (h : Heap) (ks : List ℕ) (s : IsSound [] h) (there : (k : ℕ) → Am
   -- an empty native has no edges
   pub emptied-none : (n : HeapNative) (x y : Name) → IsEmptied n → ¬ (Among (x, y) (native_edges n))
   emptied-none n x y e m = ⊎_elim
-      (λ i. contents-empty (length n.slots) y (subst (λ xs. Among y (contents xs)) e.slots i))
+      (λ i. contents-empty_none (length n.slots) y (subst (λ xs. Among y (contents xs)) e.slots i))
       (λ p. false≢true (sym e.preserved ∙ p.0))
       (native_edges-are n x y m).1
 
