@@ -2,6 +2,7 @@
 use Rattle.std.proofs.Common.{◌≡◌, ◌≢◌, ℕ, zero, suc, List, [], ◌∷◌, map, Option, Some, None, IsSome, option_map, refl, sym, ◌∙◌, ap, subst, inl, inr, slice_get}
 use Rattle.std.proofs.lemmas.Option.{get_or_from_slice_get, slice_get-map}
 use Rattle.cc_lists.specs.Members.{Among}
+use Rattle.cc_lists.proofs.Places.{place-among}
 use Rattle.cc_names.specs.declared.number.NativeNo.{NativeNo}
 use Rattle.cc_names.specs.declared.number.NKey.{NKey}
 use Rattle.cc_names.specs.declared.name.Name.{Name}
@@ -55,14 +56,9 @@ pub node-read_in : {a b : Built} → a ≡ b → (i : ℕ) {x : Name} {y : Held}
     option_map (λ (v : Vertex). v.held) (slice_get a.graph.nodes i) ≡ Some y → IsNodeAt b.graph.nodes i x y
 node-read_in {a} {b} same i {x} {y} name held = subst (λ (c : Built). IsNodeAt c.graph.nodes i x y) same (node-read a.graph.nodes i x y name held)
 
--- what is at a place stands in the list
-pub slice_get-among : {X : Type 0} (xs : List X) (i : ℕ) (x : X) → slice_get xs i ≡ Some x → Among x xs
-slice_get-among [] i x e = absurd (cc)
-slice_get-among (y ∷ ys) zero x e = inl (cc)
-slice_get-among (y ∷ ys) (suc i) x e = inr (slice_get-among ys i x e)
-
+-- a node that was read is one of them
 IsNodeAt-among : {vs : List Vertex} {i : ℕ} {x : Name} {y : Held} (n : IsNodeAt vs i x y) → Among n.node vs
-IsNodeAt-among {vs} {i} n = slice_get-among vs i n.node n.at
+IsNodeAt-among {vs} {i} n = place-among n.node vs i n.at
 
 pub IsNodeAt-name : {vs : List Vertex} {i : ℕ} {x : Name} {y : Held} → IsNodeAt vs i x y → vertex_name vs i ≡ x
 IsNodeAt-name {vs} {i} {x} n =

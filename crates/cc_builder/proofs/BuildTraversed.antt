@@ -5,6 +5,7 @@ use Rattle.std.proofs.Math.Numerals.{lt-add-one}
 use Rattle.std.proofs.lemmas.List.{length-set, drop-set-lt}
 use Rattle.cc_lists.specs.Members.{Among}
 use Rattle.cc_lists.proofs.ListWrites.{Among-set_cases}
+use Rattle.cc_lists.proofs.Places.{place-among}
 use Rattle.cc_names.specs.declared.name.Name.{Name}
 use Rattle.cc_names.specs.Names.{native, is_native, natives_in, same_name}
 use Rattle.cc_graph.specs.Shown.{Vertex, with_sample, change_vertex}
@@ -16,7 +17,6 @@ use Rattle.cc_builder.specs.BuildSteps.{noting, sampled_at, with_next_passed, wi
 use Rattle.cc_builder.proofs.BuildStates.{IsSampleOf, names-passed}
 use Rattle.cc_builder.proofs.BuildSnapshots.{first-names}
 use Rattle.cc_builder.proofs.BuildNodes.{AreHyperedgesWithin-more}
-use Rattle.cc_builder.proofs.BuildReads.{slice_get-among}
 use Rattle.cc_builder.proofs.BuildKept.{IsBuilt-with, named}
 use Rattle.cc_builder.proofs.Unsampled.{HasNoSample-passed}
 
@@ -27,7 +27,7 @@ change_vertex-each P vs i f old new = go (slice_get vs i) refl
   where
     go : (o : Option Vertex) → slice_get vs i ≡ o → (n : Vertex) → Among n (elim o [ None ↦ vs | Some w ↦ set vs i (f w) ]) → P n
     go None e = old
-    go (Some w) e = λ n m. ⊎_elim (λ (same : f w ≡ n). subst P same (new w (slice_get-among vs i w e))) (λ l. old n l) (Among-set_cases vs i (f w) n m)
+    go (Some w) e = λ n m. ⊎_elim (λ (same : f w ≡ n). subst P same (new w (place-among w vs i e))) (λ l. old n l) (Among-set_cases vs i (f w) n m)
 
 -- there are as many
 change_vertex-length : (vs : List Vertex) (i : ℕ) (f : Vertex → Vertex) → length (change_vertex vs i f) ≡ length vs

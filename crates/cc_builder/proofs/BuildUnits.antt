@@ -1,6 +1,7 @@
 -- A step of a build is the unit of a node.
 use Rattle.std.proofs.Common.{◌≡◌, ◌≢◌, ℕ, zero, suc, ◌+◌, ◌<◌, true, List, [], ◌∷◌, length, drop, Some, None, refl, sym, ◌∙◌, ap, subst, inl, arith, slice_get}
 use Rattle.cc_lists.specs.Members.{Among}
+use Rattle.cc_lists.proofs.Places.{place-among}
 use Rattle.cc_names.specs.declared.name.Name.{Name}
 use Rattle.cc_names.specs.Names.{is_native}
 use Rattle.cc_model.specs.Snapshot.{traversed}
@@ -16,7 +17,7 @@ use Rattle.cc_heaps.specs.HasKey.{HasKey}
 use Rattle.cc_builder.specs.BuildSteps.{contents_at, noting, sample_of, the_name, with_next_passed}
 use Rattle.cc_builder.proofs.BuildStates.{IsSampleOf, first-some}
 use Rattle.cc_builder.proofs.BuildSnapshots.{snapshot-traversed, snapshot-passed}
-use Rattle.cc_builder.proofs.BuildReads.{IsNodeAt-name, slice_get-among}
+use Rattle.cc_builder.proofs.BuildReads.{IsNodeAt-name}
 use Rattle.cc_builder.proofs.NotedObjects.{note-there, sample-there, sample-kind, key-there, key-name}
 
 -- what the unit of a name notes, where it is that of an object that is there
@@ -78,7 +79,7 @@ gone-unit b v built are order l gone =
     let w = slice_get-some vs b.next l in
     let x = vertex_name vs b.next in
     let named : x ≡ w.0.name = IsNodeAt-name {vs = vs} {i = b.next} {x = w.0.name} {y = w.0.held} (record { node = w.0; at = w.1; name = refl; held = refl }) in
-    let kind = gone-native v w.0.name w.0.held order (are w.0 (slice_get-among vs b.next w.0 w.1)) (ap (to_note v.heap) (sym named) ∙ gone) in
+    let kind = gone-native v w.0.name w.0.held order (are w.0 (place-among w.0 vs b.next w.1)) (ap (to_note v.heap) (sym named) ∙ gone) in
     record {
       node = x;
       first_one = first-some b.next vs l;

@@ -8,6 +8,7 @@ use Rattle.std.proofs.lemmas.List.{drop_all, get_or-take, length-map, map_push, 
 use Rattle.std.proofs.lemmas.Option.{slice_get-get_or}
 use denote.Enum.Bare.{sameb}
 use Rattle.cc_lists.specs.Members.{with_last, with_all_last}
+use Rattle.cc_lists.proofs.Places.{place-among}
 use Rattle.cc_names.specs.contracts.kind.Colour.{the_type}
 use Rattle.cc_names.specs.declared.kind.Colour.{Colour}
 use Rattle.cc_names.specs.declared.kind.Colour.TheVariants.{Gray}
@@ -34,7 +35,6 @@ use Rattle.cc_builder.specs.BuildSteps.{mappings_at, mappings_in, the_name, with
 use Rattle.cc_builder.proofs.Begun.{with_all_last-append, with_all_last-first, with_all_last-longer}
 use Rattle.cc_builder.proofs.BuildNodes.{mapping-same, mappings-alike, member-alike, names-with_vertex, number_of-at}
 use Rattle.cc_builder.proofs.BuildPlaces.{left-some, right-some}
-use Rattle.cc_builder.proofs.BuildReads.{slice_get-among}
 use Rattle.cc_builder.proofs.HeldObjects.{name-at_key, object-gray}
 
 -- Nodes that go last leave the first ones as they are
@@ -183,7 +183,7 @@ module _ (v : Keyed) (es : List KeyedEntry) (i : ℕ) (e : KeyedEntry) (same : e
 
   -- what it names is there
   pub entry-there : IsInOrder [] v → IsEntryThere v.scripts e
-  entry-there order = order.entries_there e (slice_get-among v.entries i e read)
+  entry-there order = order.entries_there e (place-among e v.entries i read)
 
   -- whether its value is gray, as its colour was read
   value-gray : IsInOrder [] v → (objects : List Object) (colour : Colour) → objects ≡ v.scripts → colour_at objects e.value ≡ Some colour →

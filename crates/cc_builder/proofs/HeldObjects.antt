@@ -1,7 +1,7 @@
 -- An object that is there, by its name in the heaps: what stands there, and its places.
 use Rattle.std.proofs.Common.{◌≡◌, ℕ, Bool, true, false, ◌||◌, List, [], Option, Some, None, IsSome, IsTrue, is_some, option_map, option_and_then, refl, sym, ◌∙◌, ap, subst, find, ◌==◌}
 use Rattle.std.specs.List.{filter}
-use Rattle.std.proofs.lemmas.Bool.{false≢true, true≢false}
+use Rattle.std.proofs.lemmas.Bool.{false≢true, true≢false, not-true}
 use denote.Enum.Bare.{sameb}
 use Rattle.cc_lists.specs.Members.{Among}
 use Rattle.cc_lists.proofs.Members.{Among-map, Among-filter, Among-filtered, Among-passes}
@@ -87,12 +87,6 @@ pub record IsObjectAt (v : Keyed) (key : ℕ) : Type 0 where
 pub object-among : (v : Keyed) (o : Object) → IsInOrder [] v → Among o v.scripts → Among (named_object v.scripts o) v.heap.scripts
 object-among v o order m = subst (λ os. Among (named_object v.scripts o) os) (sym order.named) (Among-map (named_object v.scripts) o v.scripts m)
 
--- a script object's name is none of a native
-script-no_native : (x : Name) → is_script x ≡ true → is_native x ≡ false
-script-no_native (name.Native k) e = absurd (false≢true e)
-script-no_native (name.Script k) e = refl
-script-no_native (name.Reflector k) e = refl
-
 pub object-at : (v : Keyed) (key : SKey) → IsInOrder [] v → IsScriptThere v (Some key) → IsObjectAt v key.0
 object-at v key order there =
     let o = some-is (object_at v.scripts key.0) there in
@@ -101,7 +95,7 @@ object-at v key order there =
     record {
       body = o.0;
       at = o.1;
-      kind = script-no_native o.0.name (script-named v.heap well (named_object v.scripts o.0) m);
+      kind = not-true (is_native o.0.name) (script-named v.heap well (named_object v.scripts o.0) m);
       found = find-only (λ (p : HeapScript). same_name p.name o.0.name) v.heap.scripts (named_object v.scripts o.0) (scripts-once v.heap well o.0.name) m (same_name-refl o.0.name);
     }
 

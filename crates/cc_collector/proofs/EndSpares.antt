@@ -22,7 +22,8 @@ use Rattle.cc_laws_heap.specs.Sound.{IsSound}
 use Rattle.cc_laws_heap.specs.Ending.{TakesAway, freed_in, freed_numbers}
 use Rattle.cc_laws_heap.proofs.Leaving.{Leave, is_left, numbers_there, numbers_there-named, Leave-before, Leave-not_freed}
 use Rattle.cc_laws_heap.proofs.TakingAway.{on_the_way-end, take_away-sound, take_away-takes}
-use Rattle.cc_laws_snapshot.proofs.ReachedStays.{reached-there, reached-kept, native-place, native_edges-alike, native-edge}
+use Rattle.cc_laws_heap.proofs.References.{native-there}
+use Rattle.cc_laws_snapshot.proofs.ReachedStays.{reached-there, reached-kept, native_edges-alike, native-edge}
 use Rattle.cc_laws_run.proofs.QuietTaken.{taken-emptied, others-kept, emptied-none, take_away-keeps}
 use Rattle.cc_gc.specs.Sparing.{KeepsWhatIsReached, SparesWhatIsReached}
 use Rattle.cc_gc.proofs.Sparing.{HoldsNoMore, no_more-reached, native-shape, script-shape, unreached-before, unreached-after}
@@ -143,7 +144,7 @@ module _ (h : Heap) (ks : List ℕ) (s : IsSound [] h) (there : (k : ℕ) → Am
             let freed : Among k.0 all = subst (Among k.0) told
             (Among-flat_map freed_in (Freed x) k.0 (take_away ks h).events m (subst (λ y. Among k.0 (natives_in y)) (sym k.1) (inl refl))) in
             Leave-not_freed h all end leaves k.0
-            (native-place end end-sound.well_formed k.0 (subst (λ y. Among y (names_there end)) k.1 there_now)) freed
+            (native-there end k.0 end-sound.well_formed (subst (λ y. Among y (names_there end)) k.1 there_now)) freed
 
         before : (x : Name) → Among x (names_there end) → Among x (names_there h)
         before x m = ⊎_elim

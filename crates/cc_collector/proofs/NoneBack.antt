@@ -17,9 +17,11 @@ use Rattle.cc_model.specs.Snapshot.{NodeState, untraversed, gone, traversed, Nod
 use Rattle.cc_model.specs.Units.{begun, with_empty_buffer}
 use Rattle.cc_model.specs.Fresh.{IsFresh, IsNode, IsLiving, MemberIsNode, node}
 use Rattle.cc_laws_heap.specs.Sound.{IsSound}
+use Rattle.cc_laws_heap.proofs.ScriptNames.{script_names-named}
 use Rattle.cc_laws_snapshot.specs.Kinds.{IsFreshIn}
 use Rattle.cc_laws_snapshot.proofs.Beginning.{begun-fresh, node-cases}
-use Rattle.cc_laws_snapshot.proofs.SoundView.{living-native, script-name_of, named-there}
+use Rattle.cc_laws_snapshot.proofs.SoundView.{living-native, named-there}
+use Rattle.cc_laws_snapshot.proofs.States.{gone-not_traversed}
 use Rattle.cc_heaps.specs.Standing.{KeepsFresh}
 
 module _ (h : Heap) (sound : IsSound [] h) (coloured : HasColourInvariant (view h)) (k : ℕ) (least : 1 ≤ k) (made : k ≤ h.natives_made)
@@ -33,7 +35,7 @@ module _ (h : Heap) (sound : IsSound [] h) (coloured : HasColourInvariant (view 
 
   -- it was no node
   no-node : ¬ (IsNode (begun h) (native k))
-  no-node i = ⊎_elim dead (λ s. native-no_script (script-name_of h (native k) sound.well_formed (named-there h (native k) s))) (node-cases h sound coloured (native k) i)
+  no-node i = ⊎_elim dead (λ s. native-no_script (script_names-named h sound.well_formed (native k) (named-there h (native k) s))) (node-cases h sound coloured (native k) i)
     where
       native-no_script : is_script (native k) ≡ true → ⊥
       native-no_script e = cc
@@ -46,14 +48,11 @@ module _ (h : Heap) (sound : IsSound [] h) (coloured : HasColourInvariant (view 
   other-state : (x : Name) (a : NodeState) → (gone ≡ a → ⊥) → Among (node x a) with_gone.nodes → Among (node x a) (begun h).nodes
   other-state x a other i = ⊎_elim (λ e. absurd (other (ap (λ (n : Node). n.state) e))) (λ l. l) i
 
-  gone-traversed : (n : Option ℕ) → gone ≡ traversed n → ⊥
-  gone-traversed n e = cc
-
   is-fresh : IsFreshIn h with_gone
   is-fresh = record {
-    sampled = λ u c n out i. begun_is.sampled u c n (out.0, λ l. l) (other-state u (traversed n) (gone-traversed n) i);
-    as_held = λ u c w out t. begun_is.as_held u c w (out.0, λ l. l) (t.0, other-state w (traversed t.0) (gone-traversed t.0) t.1);
-    gray_noted = λ w y t e g. begun_is.gray_noted w y (t.0, other-state w (traversed t.0) (gone-traversed t.0) t.1) e g;
+    sampled = λ u c n out i. begun_is.sampled u c n (out.0, λ l. l) (other-state u (traversed n) (gone-not_traversed n) i);
+    as_held = λ u c w out t. begun_is.as_held u c w (out.0, λ l. l) (t.0, other-state w (traversed t.0) (gone-not_traversed t.0) t.1);
+    gray_noted = λ w y t e g. begun_is.gray_noted w y (t.0, other-state w (traversed t.0) (gone-not_traversed t.0) t.1) e g;
     gray_held = λ i y e g. inr (begun_is.gray_held i y e g);
     gray_value = λ e m g. let n = begun_is.gray_value e m g in (n.0, n.1, record { value = n.2.value; the_map = n.2.the_map; key = n.2.key });
     colours = coloured;

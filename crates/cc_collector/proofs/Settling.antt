@@ -14,8 +14,10 @@ use Rattle.cc_model.specs.End.{at_end, refused}
 use Rattle.cc_model.specs.Collecting.{Machine, collect, gc}
 use Rattle.cc_laws_heap.specs.Sound.{IsSound}
 use Rattle.cc_laws_heap.proofs.CollectedColours.{collect_scripts-sound}
-use Rattle.cc_laws_snapshot.proofs.SoundView.{script-name_of}
-use Rattle.cc_laws_snapshot.proofs.ReachedStays.{IsTidy, reached-there, native-place, script-place}
+use Rattle.cc_laws_heap.proofs.ScriptNames.{script_names-named}
+use Rattle.cc_laws_heap.proofs.References.{native-there}
+use Rattle.cc_laws_snapshot.proofs.ReachedStays.{IsTidy, reached-there}
+use Rattle.cc_laws_snapshot.proofs.SoundView.{script-place}
 use Rattle.cc_laws_run.specs.Doomed.{IsSuspectedNow}
 use Rattle.cc_laws_run.specs.Memory.{with_memory}
 use Rattle.cc_laws_run.proofs.QuietRounds.{collected-reached}
@@ -55,11 +57,10 @@ keys-then u v w t t₁ well well_now told a b = KeepsKeys-then u v w a b natives
     natives x m =
         let f = Among-map_cases (λ (n : HeapNative). native n.number) w.heap.natives x m in
         subst (λ y. Among y (native_names v.heap)) f.2
-        (native-place v.heap well f.0.number
-        (before (native f.0.number) (subst (λ y. Among y (names_there w.heap)) (sym f.2) (Among-left x (native_names w.heap) (script_names w.heap) m))))
+        (native-there v.heap f.0.number well (before (native f.0.number) (subst (λ y. Among y (names_there w.heap)) (sym f.2) (Among-left x (native_names w.heap) (script_names w.heap) m))))
 
     scripts : (x : Name) → Among x (script_names w.heap) → Among x (script_names v.heap)
-    scripts x m = script-place v.heap x (script-name_of w.heap x well_now m) (before x (Among-right x (native_names w.heap) (script_names w.heap) m))
+    scripts x m = script-place v.heap x (script_names-named w.heap well_now x m) (before x (Among-right x (native_names w.heap) (script_names w.heap) m))
 
 -- `gc`, a collection that was not refused, and `gc`
 

@@ -1,6 +1,7 @@
 -- WHAT A SLICE, A COLLECTION AND `gc` FREE OR UNLINK is reached in no graph that the heaps stand for.
-use Rattle.std.proofs.Common.{◌≡◌, ℕ, Bool, true, false, List, [], ◌∷◌, ◌++◌, Option, refl, sym, ap, ◌∙◌, subst, inl, inr, ◌⊎◌, ⊎_elim}
+use Rattle.std.proofs.Common.{◌≡◌, ℕ, Bool, true, false, not, List, [], ◌∷◌, ◌++◌, Option, refl, sym, ap, ◌∙◌, subst, inl, inr, ◌⊎◌, ⊎_elim}
 use Rattle.std.specs.List.{filter}
+use Rattle.std.proofs.lemmas.Bool.{not-true}
 use Rattle.cc_lists.specs.Members.{Among}
 use Rattle.cc_names.specs.declared.name.Name.{Name}
 use Rattle.cc_names.specs.declared.name.Name.TheVariants as name
@@ -24,42 +25,19 @@ use Rattle.cc_laws_run.specs.Memory.{with_memory}
 use Rattle.cc_laws_run.proofs.UnitLawful.{RunsOn}
 use Rattle.cc_laws_run.proofs.UnitsLawful.{slice-lawful, collect-lawful}
 use Rattle.cc_laws_run.proofs.ScriptsLawful.{gc-lawful}
+use Rattle.cc_laws_run.proofs.Listing.{filter-first, filter-second}
 use Rattle.cc_heaps.specs.Keyed.{Keyed}
 use Rattle.cc_builder.specs.Building.{Built}
 use Rattle.cc_collector.specs.Kept.{RunsIn, machine_of}
 use Rattle.cc_collector.specs.Collected.{SparesReached}
 use Rattle.cc_collector.proofs.Keeping.{RunsIn-fresh}
 
--- Names that are all natives', and then such as are all script objects', are in census order
-
--- what passes stays, and what does not goes
-filter-both : (p : Name → Bool) (xs ys : List Name) → ((x : Name) → Among x xs → p x ≡ true) → ((x : Name) → Among x ys → p x ≡ false) → filter p (xs ++ ys) ≡ xs
-filter-both p [] [] all none = refl
-filter-both p [] (y ∷ ys) all none = rw (none y (inl refl)) (filter-both p [] ys all (λ x m. none x (inr m)))
-filter-both p (x ∷ xs) ys all none = rw (all x (inl refl)) (ap (λ l. x ∷ l) (filter-both p xs ys (λ y m. all y (inr m)) none))
-
--- and the other way round
-filter-later : (p : Name → Bool) (xs ys : List Name) → ((x : Name) → Among x xs → p x ≡ false) → ((x : Name) → Among x ys → p x ≡ true) → filter p (xs ++ ys) ≡ ys
-filter-later p [] [] none all = refl
-filter-later p [] (y ∷ ys) none all = rw (all y (inl refl)) (ap (λ l. y ∷ l) (filter-later p [] ys none (λ x m. all x (inr m))))
-filter-later p (x ∷ xs) ys none all = rw (none x (inl refl)) (filter-later p xs ys (λ y m. none y (inr m)) all)
-
--- no name is both a native's and a script object's
-native-no_script : (x : Name) → is_native x ≡ true → is_script x ≡ false
-native-no_script (name.Native k) e = refl
-native-no_script (name.Script k) e = cc
-native-no_script (name.Reflector k) e = cc
-
-script-no_native : (x : Name) → is_script x ≡ true → is_native x ≡ false
-script-no_native (name.Native k) e = cc
-script-no_native (name.Script k) e = refl
-script-no_native (name.Reflector k) e = refl
-
+-- what is there, natives and then script objects, is in census order
 listed-there : (h : Heap) → IsWellFormed h → census_names h ≡ census_order (names_there h)
 listed-there h w =
-    ap (λ l. l ++ script_names h) (sym (filter-both is_native (native_names h) (script_names h) (native-name_of h) (λ x m. script-no_native x (script_names-named h w x m))))
+    ap (λ l. l ++ script_names h) (sym (filter-first is_native (native_names h) (script_names h) (native-name_of h) (λ x m. not-true (is_native x) (script_names-named h w x m))))
     ∙ ap (λ l. filter is_native (names_there h) ++ l)
-    (sym (filter-later is_script (native_names h) (script_names h) (λ x m. native-no_script x (native-name_of h x m)) (script_names-named h w)))
+    (sym (filter-second is_script (native_names h) (script_names h) (λ x m. ap not (native-name_of h x m)) (script_names-named h w)))
 
 -- Heaps with a running collection run beside each graph that they stand for
 runs-on : (v : Keyed) (c : Option Built) (g : Graph) → RunsIn v c → StandsFor v.heap g → RunsOn g (names_there v.heap) v.heap (machine_of v.heap c).snapshot

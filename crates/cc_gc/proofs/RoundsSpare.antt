@@ -28,8 +28,9 @@ use Rattle.cc_laws_heap.proofs.RoundsEnd.{next_round, rounds-keep}
 use Rattle.cc_laws_heap.proofs.RoundsStand.{spared-from}
 use Rattle.cc_laws_heap.proofs.CollectedColours.{collect_scripts-sound, collect_scripts-frees}
 use Rattle.cc_laws_heap.proofs.Swept.{scripts-sweep}
-use Rattle.cc_laws_snapshot.proofs.ReachedStays.{reached-there, reached-kept, script-place, native_edges-alike, native-edge, script-edge}
-use Rattle.cc_laws_run.proofs.QuietRounds.{round-keeps}
+use Rattle.cc_laws_snapshot.proofs.ReachedStays.{reached-there, reached-kept, native_edges-alike, native-edge, script-edge}
+use Rattle.cc_laws_snapshot.proofs.SoundView.{script-place}
+use Rattle.cc_laws_run.proofs.QuietRounds.{round-keeps, left-not_dead}
 use Rattle.cc_gc.specs.Sparing.{KeepsWhatIsReached, SparesWhatIsReached}
 use Rattle.cc_gc.proofs.Sparing.{HoldsNoMore, no_more-reached, native-shape, script-shape, keeps-same, keeps-then, unreached-after}
 
@@ -71,17 +72,9 @@ module _ (h : Heap) (s : IsSound [] h) where
   round-there : (x : Name) → ReachedIn (view h) x → Among x (names_there next)
   round-there x r = reached-there next next-sound.well_formed x (reached-kept h next next-sound.well_formed (round-keeps h s) x r)
 
-  -- a script object that is left was marked
-  left-marked : (x : Name) → Among x (script_names next) → ¬ (Among x (unmarked (marked h)))
-  left-marked x m =
-      let dead : List Name = unmarked (marked h) in
-      let f = Among-map_cases (λ (o : HeapScript). o.name) next.scripts x m in
-      let i : Among f.0 (filter (is_spared dead) (marked h).scripts) = subst (λ os. Among f.0 os) (scripts-sweep (marked h)) f.1 in
-      subst (λ z. ¬ (Among z dead)) f.2 (is_not_among-apart dead f.0.name (Among-passes (is_spared dead) f.0 (marked h).scripts i))
-
-  -- so one that is reached was
+  -- a script object that is reached was marked
   reached-marked : (x : Name) → is_script x ≡ true → ReachedIn (view h) x → ¬ (Among x (unmarked (marked h)))
-  reached-marked x script r = left-marked x (script-place next x script (round-there x r))
+  reached-marked x script r = left-not_dead h s x (script-place next x script (round-there x r))
 
   -- a native that is left has its shape
   left-native : (x : Name) → Among x (native_names next) → shape_at next x ≡ shape_at h x

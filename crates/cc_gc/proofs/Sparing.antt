@@ -17,7 +17,7 @@ use Rattle.cc_laws_heap.specs.Freeing.{Uncounted}
 use Rattle.cc_laws_heap.proofs.Leaving.{IsOf}
 use Rattle.cc_laws_heap.proofs.Coloured.{one-script}
 use Rattle.cc_laws_heap.proofs.ScriptNames.{script-named}
-use Rattle.cc_laws_heap.proofs.HeapShapes.{shape_at-native, shape_at-found, there-shape_at}
+use Rattle.cc_laws_heap.proofs.HeapShapes.{shape_at-native, shape_at-found, there-shape_at, shape_at-script}
 use Rattle.cc_laws_snapshot.proofs.ReachedStays.{reached-there}
 use Rattle.cc_gc.specs.Sparing.{KeepsWhatIsReached, IsUnreached, SparesWhatIsReached}
 
@@ -53,16 +53,7 @@ native-shape h k w v n m p =
     ∙ (ap (λ (u : Uncounted). Some (shape_of_uncounted u)) (sym p.2)
     ∙ (sym (shape_at-native h w p.0 p.1) ∙ ap (λ (u : Uncounted). shape_at h (native u.number)) p.2))
 
--- a script object that is there has its shape under its name
-shape_at-script : (h : Heap) → IsWellFormed h → (o : HeapScript) → Among o h.scripts → shape_at h o.name ≡ Some (shape_of_held_script o)
-shape_at-script h w o m =
-    let t = there-shape_at h w o.name (Among-right o.name (native_names h) (script_names h) (Among-map (λ (p : HeapScript). p.name) o h.scripts m)) in
-    ⊎_elim
-    (λ f. absurd (false≢true (subst (λ y. is_script y ≡ true) (sym f.2) (script-named h w o m))))
-    (λ f. t.1 ∙ ap Some (sym f.3 ∙ ap shape_of_held_script (one-script h o f.0 w m f.1 f.2)))
-    (shape_at-found h o.name t.0 t.1)
-
--- so one that is as it was has its shape
+-- a script object that is as it was has its shape
 pub script-shape : (h k : Heap) → IsWellFormed h → IsWellFormed k → (o p : HeapScript) → Among o h.scripts → Among p k.scripts →
     o.name ≡ p.name → shape_of_held_script o ≡ shape_of_held_script p → shape_at k p.name ≡ shape_at h p.name
 script-shape h k w v o p m i name shape =

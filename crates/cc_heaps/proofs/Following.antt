@@ -41,13 +41,13 @@ use Rattle.cc_laws_heap.proofs.Owning.{IsIn, let_go-sound, take_up-sound}
 use Rattle.cc_laws_heap.proofs.Cascades.{cascade-frees}
 use Rattle.cc_laws_heap.proofs.Writes.{native_slot-sound}
 use Rattle.cc_laws_heap.proofs.ScriptsKept.{exposed-sound, hold_script-sound, native-no_script, script_slot-sound}
+use Rattle.cc_laws_heap.proofs.ScriptNames.{script-named}
 use Rattle.cc_laws_snapshot.specs.Losing.{IsLoyal}
 use Rattle.cc_laws_snapshot.proofs.CommandsGentle.{effects-fresh}
 use Rattle.cc_laws_snapshot.proofs.GentleBut.{AreGentle, AreGentle-then, IsGentleBut-then}
 use Rattle.cc_laws_snapshot.proofs.CascadesGentle.{let_go-gentle, let_go-caught}
 use Rattle.cc_laws_snapshot.proofs.NativeParts.{AreTaken, take_up-taken, take_up-gentle, native_slot-gentle}
 use Rattle.cc_laws_snapshot.proofs.NamePairs.{native-no_script as native-is_no_script}
-use Rattle.cc_laws_snapshot.proofs.OwnEdges.{script-named}
 use Rattle.cc_laws_snapshot.proofs.SoundView.{native-name_of}
 use Rattle.cc_laws_snapshot.proofs.KindsFresh.{fresh-coloured, fresh-more}
 use Rattle.cc_laws_snapshot.proofs.Marked.{with_mark-keeps}
@@ -332,7 +332,7 @@ module _ (owned : List ℕ) (v : Keyed) (o : IsInOrder owned v) where
   held_name-black None b = λ s m i. absurd i
   held_name-black (Some (held.Script key)) b = name_at-black key.0 b
   held_name-black (Some (held.Native key)) b = λ s m i.
-      absurd (native-is_no_script s.name (native-name_of v.heap s.name (native-in owned v (Some key) o s.name i)) (script-named v.heap s o.sound.well_formed m))
+      absurd (native-is_no_script s.name (native-name_of v.heap s.name (native-in owned v (Some key) o s.name i)) (script-named v.heap o.sound.well_formed s m))
 
 -- A slot of the script object at a key is written.
 pub object_slot-keeps : (v : Keyed) (o : IsInOrder [] v) (key i : ℕ) (x : Option SKey) → IsTrue (is_there v.scripts key) →

@@ -1,5 +1,5 @@
 -- A NATIVE HAS A REFLECTOR by its name where the counted heap has a key for it.
-use Rattle.std.proofs.Common.{◌≡◌, ℕ, Bool, Option, Some, None, IsSome, option_map, refl, sym, ◌∙◌, ap}
+use Rattle.std.proofs.Common.{◌≡◌, ℕ, Option, Some, None, IsSome, option_map, refl, sym, ◌∙◌, ap}
 use Rattle.std.specs.List.{find}
 use Rattle.std.specs.Option.{is_some, option_and_then}
 use Rattle.std.proofs.Math.ListN.{get_or-map}
@@ -13,7 +13,8 @@ use Rattle.cc_script.specs.Objects.{Object}
 use Rattle.cc_heaps.specs.Keyed.{Keyed, reflector_key, named_object, named_objects, counts_of, number_at, the_number}
 
 module _ (v : Keyed) (named : v.heap.scripts ≡ named_objects v.scripts) where
-  has_reflector-named : (k : ℕ) → has_reflector v.heap k ≡ is_some (reflector_key v.scripts k)
+  -- a native has a reflector by name where it has the key of one
+  pub has_reflector-named : (k : ℕ) → has_reflector v.heap k ≡ is_some (reflector_key v.scripts k)
   has_reflector-named k =
       ap (λ os. is_some (find (λ (o : HeapScript). same_name o.name (reflector k)) os)) named
       ∙ (ap is_some (find-map (λ (o : HeapScript). same_name o.name (reflector k)) (named_object v.scripts) v.scripts)

@@ -16,12 +16,13 @@ use Rattle.cc_model.specs.WellMade.{IsWellMade}
 use Rattle.cc_model.specs.Heap.{Heap, HeapScript}
 use Rattle.cc_model.specs.WellFormed.{IsWellFormed, FitsName, script_names}
 use Rattle.cc_model.specs.StandsFor.{Shape, shape_in, shape_of_object, shape_of_reflector, shape_of_held_script, script_shape, IsKept, StandsFor}
-use Rattle.cc_laws_heap.proofs.Holds.{OfSome, contents-empty}
+use Rattle.cc_laws_heap.proofs.Holds.{OfSome}
 use Rattle.cc_laws_heap.proofs.Shapes.{further_of}
 use Rattle.cc_laws_heap.proofs.GraphReads.{MadeScript}
 use Rattle.cc_laws_heap.proofs.Owning.{IsIn}
 use Rattle.cc_laws_heap.proofs.Following.{Follows, stands-follows}
 use Rattle.cc_laws_heap.proofs.MadeAlike.{IsMade, Follows-made}
+use Rattle.cc_laws_heap.proofs.Making.{contents-empty_none}
 
 -- what has a script object's name and a shape in the graph was made
 shape-made_script : (g : Graph) (x : Name) (s : Shape) → ¬ ((k : ℕ) × (x ≡ native k)) → shape_in g x ≡ Some s → MadeScript g x
@@ -100,7 +101,7 @@ module _ (h : Heap) (g : Graph) (k : ℕ) (w : IsWellFormed h) (m : IsWellMade g
     made = (blank p).0;
     before = λ t e. (same t (sym e ∙ (blank p).0), refl);
     targets = λ y i. ⊎_elim
-        (λ a. absurd (contents-empty reflector_slots y a))
+        (λ a. absurd (contents-empty_none reflector_slots y a))
         (λ r. ⊎_elim (λ q. subst (Reached g) q d) (λ q. absurd q) r)
         (Among-append y (contents (empty_slots reflector_slots)) (native k ∷ []) i);
     no_entry = λ e i. (λ q. apart (sym (m.entries e i).the_map.1 ∙ q), (blank p).1 e i);

@@ -1,12 +1,11 @@
 -- WHAT COMES INTO A SLOT OF A SCRIPT OBJECT OR A SCRIPT REGISTER, a reflector among them: the heaps stand for the graph in
 -- which it is written.
-use Rattle.std.proofs.Common.{◌≡◌, ℕ, true, [], set, Option, Some, None, is_some, option_map, refl, sym, ◌∙◌, ap, subst, inl, ⊎_elim}
+use Rattle.std.proofs.Common.{◌≡◌, ℕ, true, [], Option, Some, None, refl, sym, ◌∙◌, ap, subst, inl, ⊎_elim}
 use Rattle.cc_lists.specs.Members.{Among}
 use Rattle.cc_names.specs.declared.name.Name.{Name}
 use Rattle.cc_names.specs.declared.name.Name.TheVariants as name
 use Rattle.cc_names.specs.declared.register.Reg.TheVariants.{S}
 use Rattle.cc_names.specs.Names.{native, object, reflector}
-use Rattle.cc_model.specs.Slots.{Slots}
 use Rattle.cc_model.specs.Graph as graph
 use Rattle.cc_model.specs.Graph.{Graph, with_reflector_slot}
 use Rattle.cc_model.specs.Reached.{Reached}
@@ -27,6 +26,7 @@ use Rattle.cc_laws_heap.proofs.ScriptsKept.{native-no_script, script_slot-sound,
 use Rattle.cc_laws_heap.proofs.SlotsWritten.{IsPreserved, Follows-slot}
 use Rattle.cc_laws_heap.proofs.Standing.{follows-stands}
 use Rattle.cc_laws_heap.proofs.StepsAlike.{Follows-hold_script}
+use Rattle.cc_laws_heap.proofs.GraphCommands.{KeepsReflector-slot}
 use Rattle.cc_heaps.specs.Standing.{IsReached, IsReachedOrReflects, MayHold, StandsAfter}
 use Rattle.cc_heaps.proofs.Reflecting.{there-made, held-made, Follows-reflector}
 
@@ -65,18 +65,13 @@ held_script-stands h d x s there r g m t = (well, go x there r)
 
 -- Slots of script objects
 
--- a slot written takes no reflector away
-keeps_reflector : (i : ℕ) (y : Option Name) (o : Option Slots) → is_some o ≡ true → is_some (option_map (λ (slots : Slots). set slots i y) o) ≡ true
-keeps_reflector i y None e = e
-keeps_reflector i y (Some slots) e = refl
-
 -- a graph with a slot of a script object written is well made
 slot-well : (h : Heap) (g : Graph) (x : Name) (i : ℕ) (y : Option Name) → IsWellFormed h → IsWellMade g → StandsFor h g → Among x (script_names h) →
     IsIn (script_names h) y → IsWellMade (graph.set_slot g (Some x) i y)
 slot-well h g (name.Native k) i y w m s at there = absurd (native-no_script h k.0 w at)
 slot-well h g (name.Script k) i y w m s at there = IsWellMade-script_slot g k.0 i y m (held-made h g y w s there)
 slot-well h g (name.Reflector k) i y w m s at there = IsWellMade-change_native g k.0 (with_reflector_slot i y)
-    (λ n r. keeps_reflector i y n.reflector r) m (KeepsNative-reflector_slot g k.0 i y (held-made h g y w s there))
+    (λ n r. KeepsReflector-slot i y n.reflector r) m (KeepsNative-reflector_slot g k.0 i y (held-made h g y w s there))
 
 -- a reflector that is reached and may hold something is preserved in the graph
 preserved-in : (h : Heap) (g : Graph) (x : Name) → IsWellFormed h → IsWellMade g → StandsFor h g → Among x (script_names h) → Reached g x → MayHold h (Some x) → IsPreserved g x

@@ -71,12 +71,12 @@ abbrev pub is_black : HeapScript → Bool
 is_black o = is_black_colour o.colour
 
 -- the name of an object of a colour stands among those of the colour
-names_with-there : (p : HeapScript → Bool) (scripts : List HeapScript) (o : HeapScript) → Among o scripts → p o ≡ true →
+pub names_with-there : (p : HeapScript → Bool) (scripts : List HeapScript) (o : HeapScript) → Among o scripts → p o ≡ true →
     Among o.name (names_with p scripts)
 names_with-there p scripts o m e = Among-map (λ (q : HeapScript). q.name) o (filter p scripts) (Among-filter p o scripts m e)
 
 -- and a name there is that of an object of the colour
-names_with-is : (p : HeapScript → Bool) (scripts : List HeapScript) (x : Name) → Among x (names_with p scripts) →
+pub names_with-is : (p : HeapScript → Bool) (scripts : List HeapScript) (x : Name) → Among x (names_with p scripts) →
     (o : HeapScript) × Among o scripts × (p o ≡ true) × (o.name ≡ x)
 names_with-is p scripts x m =
     let f = Among-map_cases (λ (q : HeapScript). q.name) (filter p scripts) x m in
@@ -90,23 +90,23 @@ one-script h o p w m n e = only-member (λ (q : HeapScript). same_name o.name q.
 
 -- From the view
 
+-- what a script object has in a slot is an edge of the view
+pub edge-from_script_slot : (h : Heap) (o : HeapScript) (x : Name) → Among o h.scripts → Among x (contents o.slots) → Among (o.name, x) (view h).edges
+edge-from_script_slot h o x m i = Among-right (from_to o.name x) (flat_map native_edges h.natives) (flat_map script_edges h.scripts)
+    (Among-flat_map script_edges o (from_to o.name x) h.scripts m
+    (Among-left (from_to o.name x) (script_slot_edges o) (map (λ k. from_to o.name (native k)) (behind o.name))
+    (Among-map (from_to o.name) x (contents o.slots) i)))
+
 module _ (h : Heap) (w : IsWellFormed h) (c : HasColourInvariant (view h)) where
   -- no script object is white
   none-white : (o : HeapScript) → Among o h.scripts → o.colour ≢ White
   none-white o m e = subst (λ xs. Among o.name xs) c.none_white (names_with-there is_white h.scripts o m (rw e refl))
 
-  -- what a script object has in a slot is an edge of the view
-  slot-edge : (o : HeapScript) (x : Name) → Among o h.scripts → Among x (contents o.slots) → Among (o.name, x) (view h).edges
-  slot-edge o x m i = Among-right (from_to o.name x) (flat_map native_edges h.natives) (flat_map script_edges h.scripts)
-      (Among-flat_map script_edges o (from_to o.name x) h.scripts m
-      (Among-left (from_to o.name x) (script_slot_edges o) (map (λ k. from_to o.name (native k)) (behind o.name))
-      (Among-map (from_to o.name) x (contents o.slots) i)))
-
   -- The invariant of the view is that of the script objects,
   pub AreColoured-from_view : IsColoured h
   AreColoured-from_view = record {
     black_to_black = λ o p m n e i. black-left p.colour (none-white p n)
-        (λ g. c.black_to_black o.name p.name (names_with-there is_black h.scripts o m (rw e refl)) (slot-edge o p.name m i)
+        (λ g. c.black_to_black o.name p.name (names_with-there is_black h.scripts o m (rw e refl)) (edge-from_script_slot h o p.name m i)
         (names_with-there is_gray h.scripts p n (rw g refl)));
     held_black = λ o m i.
         let black : Among o.name (view h).black =

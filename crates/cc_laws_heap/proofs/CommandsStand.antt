@@ -28,7 +28,7 @@ use Rattle.cc_model.specs.Effects.{effects, put_in_register, hold_native, store_
 use Rattle.cc_model.specs.WellFormed.{IsWellFormed, names_there, native_names}
 use Rattle.cc_model.specs.StandsFor.{StandsFor}
 use Rattle.cc_laws_heap.specs.Sound.{IsSound}
-use Rattle.cc_laws_heap.proofs.Holds.{OfSome, OfSome-then, contents-get, contents-empty}
+use Rattle.cc_laws_heap.proofs.Holds.{OfSome, OfSome-then, contents-get}
 use Rattle.cc_laws_heap.proofs.GraphReads.{MadeNative, native_register-made, script_register-made}
 use Rattle.cc_laws_heap.proofs.GraphCommands.{step-well}
 use Rattle.cc_laws_heap.proofs.References.{native-there}
@@ -47,6 +47,7 @@ use Rattle.cc_laws_heap.proofs.NewObjects.{next_native, next_object, Follows-nat
 use Rattle.cc_laws_heap.proofs.Unseen.{Leaves-exposed}
 use Rattle.cc_laws_heap.proofs.Wrapping.{Follows-wrapped}
 use Rattle.cc_laws_heap.proofs.StepsAlike.{Follows-script_register, Follows-put, Follows-hold, Follows-hold_script, Follows-store, Follows-preserve, Follows-put_script, Follows-set_entry}
+use Rattle.cc_laws_heap.proofs.Making.{contents-empty_none}
 
 module _ (h : Heap) (g : Graph) (w : IsWellFormed h) (m : IsWellMade g) (s : StandsFor h g) where
   -- the heaps follow the graph
@@ -197,8 +198,8 @@ freed-unreached h g c x sound m s r t told d =
 
 -- nothing is reached in the empty graph
 empty-unreached : (limits : Allowance) (x : Name) → Reached (empty_graph limits) x → ⊥
-empty-unreached limits _ (held (N r) x e) = contents-empty 256 x (contents-get (empty_slots 256) r x e)
-empty-unreached limits _ (held (S r) x e) = contents-empty 256 x (contents-get (empty_slots 256) r x e)
+empty-unreached limits _ (held (N r) x e) = contents-empty_none 256 x (contents-get (empty_slots 256) r x e)
+empty-unreached limits _ (held (S r) x e) = contents-empty_none 256 x (contents-get (empty_slots 256) r x e)
 empty-unreached limits _ (edge x y d i) = empty-unreached limits x d
 empty-unreached limits _ (value e i a b) = i
 

@@ -19,15 +19,16 @@ use Rattle.cc_model.specs.Checks.{slot_at, value_at, native_of, reflector_of, is
 use Rattle.cc_model.specs.Graph.{Graph, GraphScript, plain_object, weak_map, native_in, script_in, slots_in, objects_of, register, source, set_slot, preserve, wrapped, set_entry, as_preserved, as_wrapped, with_slot, with_reflector_slot, with_native, with_script, empty_graph, changed, unless_refused, step}
 use Rattle.cc_model.specs.WellMade.{IsWellMade, IsMadeEntry}
 use Rattle.cc_laws_heap.proofs.Taken.{IsTaken, IsTaken-from}
-use Rattle.cc_laws_heap.proofs.Holds.{OfSome, OfSome-then, contents-empty}
+use Rattle.cc_laws_heap.proofs.Holds.{OfSome, OfSome-then}
 use Rattle.cc_laws_heap.proofs.Numbered.{numbered-nothing, numbered-push, numbered-change}
 use Rattle.cc_laws_heap.proofs.EntryLists.{with_entry-cases, entries_of-set}
 use Rattle.cc_laws_heap.proofs.GraphParts.{is_some-found, was_made-native, was_made-script, was_made-reflector, reflector-made, Grows, is_made_script-grows, IsMadeEntry-grows, IsWellMade-entries}
 use Rattle.cc_laws_heap.proofs.GraphWrites.{IsWellMade-native_register, IsWellMade-script_register, set_native-is, Grows-change_native, IsWellMade-change_native, KeepsNative-slot, KeepsNative-reflector_slot, KeepsNative-preserved, KeepsNative-wrapped, IsWellMade-script_slot, IsWellMade-with_native, IsWellMade-with_script, ScriptFits-plain, ScriptFits-map}
 use Rattle.cc_laws_heap.proofs.GraphReads.{Made, MadeNative, MadeScript, MadeScript-made, native_register-made, script_register-made, register-made, source-made, script_source-made, slot_at-made, script_slot_at-made, no_script-made, no_native-made, native_of-made, value_at-made}
+use Rattle.cc_laws_heap.proofs.Making.{contents-empty_none}
 
 -- a slot written takes no reflector away
-KeepsReflector-slot : (i : ℕ) (x : Option Name) (o : Option Slots) → is_some o ≡ true → is_some (option_map (λ (slots : Slots). set slots i x) o) ≡ true
+pub KeepsReflector-slot : (i : ℕ) (x : Option Name) (o : Option Slots) → is_some o ≡ true → is_some (option_map (λ (slots : Slots). set slots i x) o) ≡ true
 KeepsReflector-slot i x None e = e
 KeepsReflector-slot i x (Some slots) e = refl
 
@@ -177,8 +178,8 @@ module _ (g : Graph) (w : IsWellMade g) where
 pub empty-well : (limits : Allowance) → IsWellMade (empty_graph limits)
 empty-well limits = record {
   registers = (refl, refl);
-  native_registers = λ x m. absurd (contents-empty 256 x m);
-  script_registers = λ x m. absurd (contents-empty 256 x m);
+  native_registers = λ x m. absurd (contents-empty_none 256 x m);
+  script_registers = λ x m. absurd (contents-empty_none 256 x m);
   native_slots = λ k n e. absurd (numbered-nothing k n e);
   native_contents = λ k n x e m. absurd (numbered-nothing k n e);
   preserved = λ k n e. absurd (numbered-nothing k n e);

@@ -11,9 +11,10 @@ use Rattle.cc_names.specs.Names.{reflector}
 use Rattle.cc_model.specs.Slots.{Slots, contents, empty_slots, reflector_slots}
 use Rattle.cc_model.specs.Graph.{Graph, GraphNative, GraphScript, plain_object, weak_map, numbered, native_in, script_in, set_register, set_native, set_script, with_slot, with_reflector_slot, as_preserved, as_wrapped, slots_or_blank, with_script_slot, with_native, with_script}
 use Rattle.cc_model.specs.WellMade.{IsWellMade, was_made, is_made_native, is_made_script}
-use Rattle.cc_laws_heap.proofs.Holds.{OfSome, OfSome-then, contents-set, contents-empty}
+use Rattle.cc_laws_heap.proofs.Holds.{OfSome, OfSome-then, contents-set}
 use Rattle.cc_laws_heap.proofs.Numbered.{set_numbered, change_numbered, numbered-change, numbered-change_other, length-change, numbered-push_old, numbered-push_cases}
 use Rattle.cc_laws_heap.proofs.GraphParts.{NativeFits, ScriptFits, IsWellMade-native, IsWellMade-script, Grows, is_made_script-grows, NativeFits-grows, ScriptFits-grows, IsWellMade-registers, with_natives, Grows-natives, IsWellMade-natives, with_scripts, Grows-scripts, IsWellMade-scripts}
+use Rattle.cc_laws_heap.proofs.Making.{contents-empty_none}
 
 -- Registers
 
@@ -146,7 +147,7 @@ KeepsNative-wrapped g k n here e more t = record {
         (x : Name) → Among x (contents slots) → IsTrue (is_made_script e x)
     holds None r slots s x m =
         let same : empty_slots reflector_slots ≡ slots = cc in
-        absurd (contents-empty reflector_slots x (subst (λ l. Among x (contents l)) (sym same) m))
+        absurd (contents-empty_none reflector_slots x (subst (λ l. Among x (contents l)) (sym same) m))
     holds (Some old) r slots s x m = t.reflector_held slots x (r ∙ s) m
 
 -- One script object changed
@@ -225,7 +226,7 @@ IsWellMade-with_native g n w few room = IsWellMade-natives g ns w (record {
     fits : (k : ℕ) → NativeFits (with_natives g ns) k made
     fits k = record {
       slots = subst (λ l. l ≤ 64) (sym (length-replicate n None)) few;
-      held = λ x m. absurd (contents-empty n x m);
+      held = λ x m. absurd (contents-empty_none n x m);
       preserved = λ e. absurd (false≢true e);
       reflector = λ slots e. absurd (cc);
       reflector_held = λ slots x e m. absurd (cc);
@@ -253,7 +254,7 @@ IsWellMade-with_script g o w fits room = IsWellMade-scripts g os w (record {
 pub ScriptFits-plain : (n : ℕ) → n ≤ 64 → (e : Graph) → ScriptFits e (plain_object (empty_slots n))
 ScriptFits-plain n few e = record {
   slots = λ slots s. let same : empty_slots n ≡ slots = cc in subst (λ l. length l ≤ 64) same (subst (λ l. l ≤ 64) (sym (length-replicate n None)) few);
-  held = λ slots x s m. let same : empty_slots n ≡ slots = cc in absurd (contents-empty n x (subst (λ l. Among x (contents l)) (sym same) m));
+  held = λ slots x s m. let same : empty_slots n ≡ slots = cc in absurd (contents-empty_none n x (subst (λ l. Among x (contents l)) (sym same) m));
 }
 
 -- and so does a weak map

@@ -29,7 +29,7 @@ script_at-member : (h : Heap) → IsWellFormed h → (o : HeapScript) → Among 
 script_at-member h w o m = find-only (λ (p : HeapScript). same_name p.name o.name) h.scripts o (scripts-once h w o.name) m (same_name-refl o.name)
 
 -- and has its shape there
-shape_at-script : (h : Heap) → IsWellFormed h → (o : HeapScript) → Among o h.scripts → shape_at h o.name ≡ Some (shape_of_held_script o)
+pub shape_at-script : (h : Heap) → IsWellFormed h → (o : HeapScript) → Among o h.scripts → shape_at h o.name ≡ Some (shape_of_held_script o)
 shape_at-script h w o m = go o.name refl (w.kinds o m)
   where
     go : (x : Name) → o.name ≡ x → FitsName x o.kind o.slots → shape_at h x ≡ Some (shape_of_held_script o)

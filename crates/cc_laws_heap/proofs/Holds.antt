@@ -56,8 +56,3 @@ contents-place (None ∷ slots) x m = let k = contents-place slots x m in (suc k
 contents-place (Some y ∷ slots) x m = ⊎_elim
     (λ e. (0, ap (λ z. Some z) e))
     (λ t. let k = contents-place slots x t in (suc k.0, k.1)) m
-
--- empty slots hold nothing
-pub contents-empty : (n : ℕ) (x : Name) → ¬ (Among x (contents (empty_slots n)))
-contents-empty zero x m = m
-contents-empty (suc n) x m = contents-empty n x m

@@ -29,7 +29,7 @@ pub contents-empty_none : (n : ℕ) (x : Name) → ¬ (Among x (contents (empty_
 contents-empty_none n x m = subst (λ xs. Among x xs) (contents-empty n) m
 
 -- a number above all others may go last
-IsRising-push : (xs : List ℕ) (k : ℕ) → IsRising xs → ((j : ℕ) → Among j xs → j < k) → IsRising (xs ++ k ∷ [])
+pub IsRising-push : (xs : List ℕ) (k : ℕ) → IsRising xs → ((j : ℕ) → Among j xs → j < k) → IsRising (xs ++ k ∷ [])
 IsRising-push [] k r below = tt
 IsRising-push (i ∷ js) k r below = IsRising-cons i (js ++ k ∷ [])
     (λ j m. ⊎_elim (λ l. IsRising-first i js r j l) (λ t. ⊎_elim (λ e. subst (λ l. i < l) e (below i (inl refl))) (λ n. absurd n) t)

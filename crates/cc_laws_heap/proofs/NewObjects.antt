@@ -19,12 +19,12 @@ use Rattle.cc_model.specs.WellMade.{IsWellMade, was_made}
 use Rattle.cc_model.specs.Heap.{Heap, HeapNative, HeapScript, slots_of_kind}
 use Rattle.cc_model.specs.Effects as effects
 use Rattle.cc_model.specs.StandsFor.{shape_in, shape_of_native, shape_of_object, shape_of_reflector, shape_of_held_native, shape_of_held_script, native_shape, script_shape}
-use Rattle.cc_laws_heap.proofs.Holds.{contents-empty}
 use Rattle.cc_laws_heap.proofs.Numbered.{numbered-next, numbered-push, numbered-push_other}
 use Rattle.cc_laws_heap.proofs.Shapes.{edges_of_shape}
 use Rattle.cc_laws_heap.proofs.GraphReads.{MadeScript-made}
 use Rattle.cc_laws_heap.proofs.Following.{AgreesBeside, Follows}
 use Rattle.cc_laws_heap.proofs.MadeAlike.{IsMade, Follows-made}
+use Rattle.cc_laws_heap.proofs.Making.{contents-empty_none}
 
 -- what was never made has no entry
 pub unmade-no_entry : (g : Graph) → IsWellMade g → (x : Name) → ¬ (IsTrue (was_made g x)) → (d : Entry) → Among d g.entries → (d.the_map ≢ x) × (d.key ≢ x)
@@ -57,7 +57,7 @@ IsMade-native P h g n w b = record {
   others = others;
   made = ap (option_map shape_of_native) (numbered-push g.natives (new_native n));
   before = λ t i. let none : None ≡ Some t = sym (ap (option_map shape_of_native) (numbered-next g.natives)) ∙ i in absurd (cc);
-  targets = λ y i. ⊎_elim (λ l. absurd (contents-empty n y l)) (λ r. absurd r) (Among-append y (contents (empty_slots n)) [] i);
+  targets = λ y i. ⊎_elim (λ l. absurd (contents-empty_none n y l)) (λ r. absurd r) (Among-append y (contents (empty_slots n)) [] i);
   no_entry = unmade-no_entry g w (next_native g) (λ m. true≢false (sym m ∙ ap is_some (numbered-next g.natives)));
   blank = λ j e. absurd (apart e);
   beside = record {
@@ -147,7 +147,7 @@ pub Follows-plain : (P : Name → Type 0) (h : Heap) (g : Graph) (n : ℕ) → I
     Follows (λ z. P z ⊎ (next_object g ≡ z)) (effects.with_object h Plain n) (graph.with_script g (plain_object (empty_slots n)))
 Follows-plain P h g n w t = Follows-made P h (effects.with_object h Plain n) g (graph.with_script g (plain_object (empty_slots n))) (next_object g) (script_shape (Some (empty_slots n)))
     (IsMade-script P h g Plain n (plain_object (empty_slots n)) refl
-    (λ y i. ⊎_elim (λ l. contents-empty n y l) (λ r. r) (Among-append y (contents (empty_slots n)) [] i)) w t.beside) t
+    (λ y i. ⊎_elim (λ l. contents-empty_none n y l) (λ r. r) (Among-append y (contents (empty_slots n)) [] i)) w t.beside) t
 
 -- A WEAK MAP MADE.
 pub Follows-map : (P : Name → Type 0) (h : Heap) (g : Graph) → IsWellMade g → Follows P h g →

@@ -20,7 +20,6 @@ use Rattle.cc_model.specs.Exposure.{exposed}
 use Rattle.cc_model.specs.Effects as effects
 use Rattle.cc_model.specs.WellFormed.{IsWellFormed}
 use Rattle.cc_model.specs.StandsFor.{Shape, shape_in, shape_at, shape_of_native, shape_of_reflector, shape_of_held_script, script_shape, IsKept, StandsFor}
-use Rattle.cc_laws_heap.proofs.Holds.{contents-empty}
 use Rattle.cc_laws_heap.proofs.Numbered.{change_numbered, numbered-change, numbered-change_other}
 use Rattle.cc_laws_heap.proofs.Shapes.{further_of}
 use Rattle.cc_laws_heap.proofs.GraphParts.{with_natives}
@@ -31,6 +30,7 @@ use Rattle.cc_laws_heap.proofs.Writing.{numbered-changed, SameGraphBeside-native
 use Rattle.cc_laws_heap.proofs.MadeAlike.{IsMade, Follows-made}
 use Rattle.cc_laws_heap.proofs.NewObjects.{unmade-no_entry, last-cases}
 use Rattle.cc_laws_heap.proofs.Unseen.{Leaves-refl, Leaves-add_ref, Leaves-exposed}
+use Rattle.cc_laws_heap.proofs.Making.{contents-empty_none}
 
 -- a graph in which native k was wrapped
 abbrev pub with_wrapped : Graph → ℕ → Graph
@@ -162,7 +162,7 @@ module _ (h : Heap) (g : Graph) (k : ℕ) (w : IsWellFormed h) (m : IsWellMade g
     others = wrapped-others g k;
     made = wrapped-made g k n i ∙ ap (λ (l : Slots). Some (script_shape (Some l))) (blank-made p);
     before = λ t e. (sym (same-shape t e) ∙ ap (λ (l : Slots). script_shape (Some l)) (blank-made p), refl);
-    targets = λ y l. ⊎_elim (λ a. absurd (contents-empty reflector_slots y a)) (λ r. ⊎_elim (λ q. subst (Reached g) q d) (λ q. absurd q) r)
+    targets = λ y l. ⊎_elim (λ a. absurd (contents-empty_none reflector_slots y a)) (λ r. ⊎_elim (λ q. subst (Reached g) q d) (λ q. absurd q) r)
         (Among-append y (contents (empty_slots reflector_slots)) (native k ∷ []) l);
     no_entry = no-entry p;
     blank = λ j e. refl;

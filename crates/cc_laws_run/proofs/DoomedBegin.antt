@@ -29,14 +29,15 @@ use Rattle.cc_laws_heap.proofs.MarkedKept.{marked-other}
 use Rattle.cc_laws_heap.proofs.CollectedColours.{collect_scripts-sound, collect_scripts-colours, collect_scripts-unmarked, collect_scripts-invariant}
 use Rattle.cc_laws_heap.proofs.ViewEdges.{native_edges-are}
 use Rattle.cc_laws_heap.proofs.Coloured.{is_black-true}
+use Rattle.cc_laws_heap.proofs.References.{native-there}
 use Rattle.cc_laws_snapshot.proofs.Edges.{edge-of}
-use Rattle.cc_laws_snapshot.proofs.SoundView.{living-named, there-named, named-there, black-or_gray}
+use Rattle.cc_laws_snapshot.proofs.SoundView.{living-named, there-named, named-there, black-or_gray, script-place}
 use Rattle.cc_laws_snapshot.proofs.NodeUnit.{gray-tested}
 use Rattle.cc_laws_snapshot.proofs.Beginning.{begun-fresh}
 use Rattle.cc_laws_run.specs.Doomed.{IsMember, IsDoomed, garbage}
 use Rattle.cc_laws_snapshot.proofs.KindsLoyal.{reached_cases}
 use Rattle.cc_laws_snapshot.proofs.SweepLoses.{collect_scripts-suspected}
-use Rattle.cc_laws_snapshot.proofs.ReachedStays.{script-place, native-place, script-edge}
+use Rattle.cc_laws_snapshot.proofs.ReachedStays.{script-edge}
 
 -- Garbage
 
@@ -265,7 +266,7 @@ module _ (h : Heap) (sound : IsSound [] h) (c : HasColours h) (none : unmarked h
   -- ALL GARBAGE IS DOOMED by the snapshot begun.
   pub begun-doomed : IsDoomed (view (with_empty_buffer h)) (begun h) (garbage h)
   begun-doomed = record {
-    natives = λ i b. living-named h i (native-place h sound.well_formed i (garbage-is_there h (native i) b));
+    natives = λ i b. living-named h i (native-there h i sound.well_formed (garbage-is_there h (native i) b));
     scripts = λ x b e. there-named h x (script-place h x e (garbage-is_there h x b));
     unregistered = λ x b m. garbage-out h x b (derive-root (view h).registers (view h).edges (joints h.entries) x m);
     unbuffered = λ x b m. m;

@@ -4,8 +4,7 @@ use Rattle.std.proofs.lemmas.List.{length-append}
 use Rattle.std.proofs.lemmas.Grind.{flat_map-append}
 use Rattle.cc_lists.specs.Members.{Among}
 use Rattle.cc_lists.proofs.Members.{Among-left, Among-right, Among-append, Among-filter, Among-flat_map}
-use Rattle.cc_lists.proofs.Counting.{count_by-append, count_by-some}
-use Rattle.std.proofs.lemmas.Bool.{eq-eqb}
+use Rattle.cc_lists.proofs.Counting.{count_by-append}
 use Rattle.cc_names.specs.declared.name.Name.{Name}
 use Rattle.cc_names.specs.Names.{native, same_name, natives_in}
 use Rattle.cc_model.specs.declared.command.Command.{Command}
@@ -17,6 +16,7 @@ use Rattle.cc_model.specs.Listed.{after_event, after_events}
 use Rattle.cc_model.specs.Lawful.{MayBe, EachMayBe, unlinked_in, unlinked_numbers}
 use Rattle.cc_laws_heap.specs.Ending.{freed_in, freed_numbers, NamesNative}
 use Rattle.cc_laws_heap.proofs.NameLists.{same_name-other}
+use Rattle.cc_laws_heap.proofs.References.{times-some}
 
 -- One list of events after another
 
@@ -94,10 +94,6 @@ named-numbers e es k m named = ⊎_elim
     (λ f. inl (Among-flat_map freed_in e k es m f))
     (λ u. inr (Among-flat_map unlinked_in e k es m u))
     (named-number e k named)
-
--- what stands in a list of numbers is counted
-times-some : (k : ℕ) (ks : List ℕ) → Among k ks → 1 ≤ times k ks
-times-some k ks m = count_by-some (λ j. j == k) k ks m (eq-eqb k k refl)
 
 -- how often a number is freed in two lists of events
 times-append : (k : ℕ) (es fs : List Event) → times k (freed_numbers (es ++ fs)) ≡ times k (freed_numbers es) + times k (freed_numbers fs)

@@ -97,7 +97,7 @@ native_names-numbers [] = refl
 native_names-numbers (n ∷ ns) = ap (λ l. native n.number ∷ l) (native_names-numbers ns)
 
 -- a number stands in a list where its native stands among theirs
-has-native : (ks : List ℕ) (j : ℕ) → has same_name (map native ks) (native j) ≡ has ◌==◌ ks j
+pub has-native : (ks : List ℕ) (j : ℕ) → has same_name (map native ks) (native j) ≡ has ◌==◌ ks j
 has-native [] j = refl
 has-native (k ∷ ks) j = ap (λ b. (k == j) || b) (has-native ks j)
 

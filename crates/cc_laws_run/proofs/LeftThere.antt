@@ -22,8 +22,8 @@ use Rattle.cc_laws_heap.specs.Sound.{IsSound}
 use Rattle.cc_laws_heap.proofs.MarkedKept.{marked-other}
 use Rattle.cc_laws_heap.proofs.CollectedColours.{collect_scripts-sound, collect_scripts-colours, collect_scripts-unmarked}
 use Rattle.cc_laws_heap.proofs.ViewEdges.{native_edges-are}
-use Rattle.cc_laws_snapshot.proofs.SoundView.{IsSound-view}
-use Rattle.cc_laws_snapshot.proofs.ReachedStays.{script-place, native-edge}
+use Rattle.cc_laws_snapshot.proofs.SoundView.{IsSound-view, script-place}
+use Rattle.cc_laws_snapshot.proofs.ReachedStays.{native-edge}
 use Rattle.cc_laws_run.proofs.DoomedBegin.{edge-there, slot-edge}
 
 -- what registers have, and natives that hold something, is passed on over edges and entries

@@ -21,7 +21,7 @@ use Rattle.cc_laws_heap.proofs.Freed.{freed_event}
 -- Filters of two lists one after the other
 
 -- where the first list passes and the second does not, the first is left
-filter-first : {X : Type 0} (p : X → Bool) (xs ys : List X) → ((x : X) → Among x xs → p x ≡ true) → ((y : X) → Among y ys → p y ≡ false) →
+pub filter-first : {X : Type 0} (p : X → Bool) (xs ys : List X) → ((x : X) → Among x xs → p x ≡ true) → ((y : X) → Among y ys → p y ≡ false) →
     filter p (xs ++ ys) ≡ xs
 filter-first p [] ys all none = filter-nothing p ys none
 filter-first p (x ∷ xs) ys all none = rw (all x (inl refl)) (ap (λ zs. x ∷ zs) (filter-first p xs ys (λ z m. all z (inr m)) none))

@@ -28,7 +28,8 @@ use Rattle.cc_laws_heap.proofs.ViewEdges.{native_edges-are}
 use Rattle.cc_laws_run.specs.Doomed.{IsMember, IsDoomed, KeepsReflectors, garbage}
 use Rattle.cc_laws_run.specs.Missing.{lost}
 use Rattle.cc_laws_snapshot.proofs.KindsLoyal.{reached_cases}
-use Rattle.cc_laws_snapshot.proofs.ReachedStays.{script-place, native-edge}
+use Rattle.cc_laws_snapshot.proofs.ReachedStays.{native-edge}
+use Rattle.cc_laws_snapshot.proofs.SoundView.{script-place}
 use Rattle.cc_laws_run.proofs.DoomedBegin.{out-unreached, garbage-is_there, garbage-out}
 use Rattle.cc_laws_run.proofs.TouchedViews.{edge-cases}
 

@@ -1,18 +1,18 @@
 -- THE NAMES OF ALL OBJECTS AFTER A COMMAND: what it told as freed is there no more, what it made goes last.
-use Rattle.std.proofs.Common.{◌≡◌, ℕ, ◌+◌, ◌<◌, ◌≤◌, Bool, true, false, not, ◌||◌, List, [], ◌∷◌, ◌++◌, map, length, Option, Some, None, refl, sym, ◌∙◌, ap, subst, arith, option_map, slice_index_or, ◌==◌}
+use Rattle.std.proofs.Common.{◌≡◌, ℕ, ◌+◌, ◌<◌, ◌≤◌, Bool, true, false, not, List, [], ◌∷◌, ◌++◌, map, length, Option, Some, None, refl, sym, ◌∙◌, ap, subst, arith, option_map, slice_index_or}
 use Rattle.std.specs.Prelude.{IsTrue}
 use Rattle.std.specs.List.{filter}
 use Rattle.std.proofs.Math.Path.{fun_ext}
 use Rattle.std.proofs.lemmas.Bool.{ltb-true, leb-false}
 use Rattle.std.proofs.lemmas.List.{append-nil, map_push}
 use Rattle.std.proofs.lemmas.Simd.{map-map}
-use Rattle.cc_lists.specs.Members.{Among, has}
+use Rattle.cc_lists.specs.Members.{Among}
 use Rattle.cc_names.specs.declared.name.Name.{Name}
 use Rattle.cc_names.specs.declared.name.Name.TheVariants as name
 use Rattle.cc_names.specs.declared.register.Reg.TheVariants.{N, S}
 use Rattle.cc_names.specs.declared.kind.Kind.{Kind}
 use Rattle.cc_names.specs.declared.kind.Kind.TheVariants.{Plain, Reflector, Map}
-use Rattle.cc_names.specs.Names.{native, object, reflector, same_name}
+use Rattle.cc_names.specs.Names.{native, object, reflector}
 use Rattle.cc_model.specs.declared.command.Command.{Command}
 use Rattle.cc_model.specs.declared.command.Command.TheVariants.{Nothing, Native, Script, WeakMap, CopyNative, CopyScript, Drop, Set, Get, Put, Take, Wrap, Unwrap, Preserve, SetEntry, GetEntry, Expose, Slice, Collect, Gc, Census}
 use Rattle.cc_model.specs.Slots.{reflector_slots}
@@ -44,6 +44,7 @@ use Rattle.cc_laws_heap.proofs.Taken.{IsTaken}
 use Rattle.cc_laws_heap.proofs.CommandsSound.{below-first, few-slots}
 use Rattle.cc_laws_run.proofs.Listing.{after_events-freed}
 use Rattle.cc_laws_run.proofs.NamesKept.{SameNames, SameNames-refl, SameNames-trans, SameNames-alike, SameNames-change_native, SameNames-preserve, SameNames-put_in_script, SameNames-set_entry, SameNames-exposed}
+use Rattle.cc_laws_run.proofs.FreedListed.{has-native}
 
 -- these natives and script objects went last, then the natives ks were told freed, each once, and are there no more; all
 -- others are there, in their order
@@ -73,11 +74,6 @@ NamesAfter-same h g s = ([], NamesAfter-scripts h g [] s.natives (s.scripts ∙ 
 
 -- Natives freed
 
--- a native stands among names of natives where its number stands among theirs
-has-natives : (ks : List ℕ) (k : ℕ) → has same_name (map native ks) (native k) ≡ has ◌==◌ ks k
-has-natives [] k = refl
-has-natives (j ∷ ks) k = ap (λ b. (j == k) || b) (has-natives ks k)
-
 -- names of natives by their numbers
 native_names-numbers : (h : Heap) → native_names h ≡ map native (numbers_there h)
 native_names-numbers h = sym (map-map native (λ (n : HeapNative). n.number) h.natives)
@@ -86,7 +82,7 @@ native_names-numbers h = sym (map-map native (λ (n : HeapNative). n.number) h.n
 native_names-freed : (h : Heap) (ks : List ℕ) (o : Outcome) → Frees h ks o → native_names o.heap ≡ after_events (native_names h) (map freed_event ks)
 native_names-freed h ks o f =
     native_names-numbers o.heap
-    ∙ (ap (map native) ((Leave-frees h ks o f).numbers ∙ ap (λ p. filter p (numbers_there h)) (fun_ext (λ k. ap not (sym (has-natives ks k)))))
+    ∙ (ap (map native) ((Leave-frees h ks o f).numbers ∙ ap (λ p. filter p (numbers_there h)) (fun_ext (λ k. ap not (sym (has-native ks k)))))
     ∙ (sym (filter-map (is_not_among (map native ks)) native (numbers_there h))
     ∙ (ap (filter (is_not_among (map native ks))) (sym (native_names-numbers h))
     ∙ sym (after_events-freed ks (native_names h)))))

@@ -15,7 +15,7 @@ use Rattle.cc_model.specs.Colours.{marked}
 use Rattle.cc_model.specs.Sweep.{unmarked, sweep, collect_scripts}
 use Rattle.cc_laws_heap.specs.Sound.{IsSound}
 use Rattle.cc_laws_heap.proofs.NameLists.{is_not_among-apart}
-use Rattle.cc_laws_heap.proofs.ScriptNames.{entry-named}
+use Rattle.cc_laws_heap.proofs.ScriptNames.{entry-named, script-named}
 use Rattle.cc_laws_heap.proofs.MarkedWellFormed.{is_spared, is_spared_entry}
 use Rattle.cc_laws_heap.proofs.MarkingKeeps.{round-sound, round-frees}
 use Rattle.cc_laws_heap.proofs.RoundParts.{round-natives, round-scripts, round-entries}
@@ -24,10 +24,10 @@ use Rattle.cc_laws_heap.proofs.Swept.{scripts-sweep}
 use Rattle.cc_laws_heap.proofs.ViewEdges.{script_edges-are}
 use Rattle.cc_laws_heap.proofs.Coloured.{one-script}
 use Rattle.cc_laws_heap.proofs.RoundsStand.{spared-from}
-use Rattle.cc_laws_snapshot.proofs.OwnEdges.{script-named}
 use Rattle.cc_laws_run.proofs.QuietTaken.{edge-stays}
 use Rattle.cc_laws_run.proofs.LeftThere.{collected-has}
-use Rattle.cc_laws_snapshot.proofs.ReachedStays.{IsTidy, KeepsReached, reached-kept, script-place, native_edges-alike, native-edge_of, native-edge, script-edge}
+use Rattle.cc_laws_snapshot.proofs.ReachedStays.{IsTidy, KeepsReached, reached-kept, native_edges-alike, native-edge_of, native-edge, script-edge}
+use Rattle.cc_laws_snapshot.proofs.SoundView.{script-place}
 
 -- A round
 
@@ -41,7 +41,7 @@ module _ (h : Heap) (s : IsSound [] h) where
   next-sound = round-sound h s
 
   -- a script object that is left was marked
-  left-not_dead : (x : Name) → Among x (script_names next) → ¬ (Among x (unmarked (marked h)))
+  pub left-not_dead : (x : Name) → Among x (script_names next) → ¬ (Among x (unmarked (marked h)))
   left-not_dead x m =
       let dead : List Name = unmarked (marked h) in
       let f = Among-map_cases (λ (o : HeapScript). o.name) next.scripts x m in
@@ -56,7 +56,7 @@ module _ (h : Heap) (s : IsSound [] h) where
   script-kept : (o : HeapScript) (x y : Name) → Among o h.scripts → Among (x, y) (script_edges o) → Among x (names_there next) → Among (x, y) (view next).edges
   script-kept o x y m e there =
       let start : o.name ≡ x = (script_edges-are o x y e).0 in
-      let script : is_script x ≡ true = subst (λ z. is_script z ≡ true) start (script-named h o s.well_formed m) in
+      let script : is_script x ≡ true = subst (λ z. is_script z ≡ true) start (script-named h s.well_formed o m) in
       let k = Among-map_cases (λ (p : HeapScript). p.name) next.scripts x (script-place next x script there) in
       let p = round-scripts h k.0 k.1 in
       let same : p.0 ≡ o = one-script h o p.0 s.well_formed m p.1 (ap (λ (q : HeapScript). q.name) p.2 ∙ (k.2 ∙ sym start)) in

@@ -21,25 +21,26 @@ use Rattle.cc_lists.proofs.Numbers.{number-exact}
 use Rattle.cc_laws_heap.proofs.Natives.{named-member}
 use Rattle.cc_laws_heap.proofs.HoldsTheSame.{HoldsTheSame-add_ref}
 use Rattle.cc_laws_heap.proofs.Cascades.{cascade-sound, cascade-frees}
-use Rattle.cc_laws_heap.proofs.Holds.{contents-empty}
 use Rattle.cc_laws_heap.proofs.StandingOn.{uncounted-emptied}
 use Rattle.cc_laws_heap.proofs.Leaving.{IsOf, IsOf-alike, IsOf-frees}
 use Rattle.cc_laws_heap.proofs.Unlinking.{unlink-keeps}
 use Rattle.cc_laws_heap.proofs.TakingAway.{root_each-sound, on_the_way-unlinked, on_the_way-end}
 use Rattle.cc_laws_heap.proofs.ViewEdges.{native_edges-are}
+use Rattle.cc_laws_heap.proofs.References.{native-there}
+use Rattle.cc_laws_heap.proofs.Making.{contents-empty_none}
 use Rattle.cc_laws_snapshot.proofs.WhiteNatives.{white_natives-there, white_natives-unreached}
 use Rattle.cc_laws_run.specs.Doomed.{IsDoomed}
 use Rattle.cc_laws_run.proofs.DoomedWhite.{doomed-white_native}
 use Rattle.cc_laws_snapshot.proofs.KindsLoyal.{reached_cases}
 use Rattle.cc_laws_snapshot.proofs.SoundView.{one-native}
-use Rattle.cc_laws_snapshot.proofs.ReachedStays.{IsTidy, KeepsReached, reached-kept, native-place, native_edges-alike, native-edge, native-edge_of}
+use Rattle.cc_laws_snapshot.proofs.ReachedStays.{IsTidy, KeepsReached, reached-kept, native_edges-alike, native-edge, native-edge_of}
 
 -- what a native held it goes on holding in heaps in which natives of its number are as it was
 pub edge-stays : (h k : Heap) → IsWellFormed h → IsWellFormed k → (n : HeapNative) (x y : Name) → Among n h.natives → Among (x, y) (native_edges n) →
     Among x (names_there k) → ((o : HeapNative) → Among o k.natives → o.number ≡ n.number → IsOf h o) → Among (x, y) (view k).edges
 edge-stays h k w v n x y m e left of =
     let start : native n.number ≡ x = (native_edges-are n x y e).0 in
-    let o = named-member k n.number (native-place k v n.number (subst (λ z. Among z (names_there k)) (sym start) left)) in
+    let o = named-member k n.number (native-there k n.number v (subst (λ z. Among z (names_there k)) (sym start) left)) in
     let p = of o.0 o.1 o.2 in
     let same : p.0 ≡ n = one-native h p.0 n w p.1 m (ap (λ (u : Uncounted). u.number) p.2 ∙ o.2) in
     let edges : native_edges n ≡ native_edges o.0 = native_edges-alike n o.0 (ap uncounted (sym same) ∙ p.2) in
@@ -143,7 +144,7 @@ module _ (h : Heap) (ks : List ℕ) (s : IsSound [] h) (there : (k : ℕ) → Am
   -- an empty native has no edges
   pub emptied-none : (n : HeapNative) (x y : Name) → IsEmptied n → ¬ (Among (x, y) (native_edges n))
   emptied-none n x y e m = ⊎_elim
-      (λ i. contents-empty (length n.slots) y (subst (λ xs. Among y (contents xs)) e.slots i))
+      (λ i. contents-empty_none (length n.slots) y (subst (λ xs. Among y (contents xs)) e.slots i))
       (λ p. false≢true (sym e.preserved ∙ p.0))
       (native_edges-are n x y m).1
 

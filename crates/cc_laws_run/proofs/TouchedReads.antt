@@ -4,7 +4,7 @@ use Rattle.std.proofs.Common.{◌≡◌, ℕ, Bool, true, false, List, [], ◌�
 use Rattle.std.specs.Option.{option_to_list, option_and_then}
 use Rattle.std.proofs.lemmas.Bool.{and_parts}
 use Rattle.cc_lists.specs.Members.{Among}
-use Rattle.cc_lists.proofs.Members.{Among-map, Among-left, Among-right}
+use Rattle.cc_lists.proofs.Members.{Among-left, Among-right}
 use Rattle.cc_lists.proofs.Filtering.{find-among, find-passes}
 use Rattle.cc_names.specs.declared.name.Name.{Name}
 use Rattle.cc_names.specs.declared.name.Name.TheVariants as name
@@ -12,26 +12,21 @@ use Rattle.cc_names.specs.declared.register.Reg.{Reg}
 use Rattle.cc_names.specs.declared.register.Reg.TheVariants.{N, S}
 use Rattle.cc_names.specs.declared.kind.Kind.{Kind}
 use Rattle.cc_names.specs.declared.kind.Kind.TheVariants.{Plain, Reflector, Map}
-use Rattle.cc_names.specs.Names.{native, object, reflector, behind, same_name}
+use Rattle.cc_names.specs.Names.{native, object, reflector, same_name}
 use Rattle.cc_names.proofs.NameTests.{same_name-true}
-use Rattle.cc_model.specs.Slots.{contents, from_to}
+use Rattle.cc_model.specs.Slots.{contents}
 use Rattle.cc_model.specs.Entries.{Entry, is_entry_of, value_in}
 use Rattle.cc_model.specs.Checks.{slots_or_none, slot_at, value_at, native_of, reflector_of}
 use Rattle.cc_model.specs.Heap.{Heap, HeapNative, HeapScript, native_at, script_at, slots_in, slots_of_script, slots_of_kind, register, objects_of, source}
-use Rattle.cc_model.specs.View.{view, script_slot_edges}
+use Rattle.cc_model.specs.View.{view}
 use Rattle.cc_model.specs.WellFormed.{IsWellFormed}
 use Rattle.cc_laws_heap.proofs.Natives.{native_at-there, native_at-number}
 use Rattle.cc_laws_heap.proofs.Writes.{contents-at}
 use Rattle.cc_laws_heap.proofs.Holding.{script_register-there}
-use Rattle.cc_laws_snapshot.proofs.ReachedStays.{script-edge}
+use Rattle.cc_laws_heap.proofs.Coloured.{edge-from_script_slot}
 use Rattle.cc_laws_run.specs.Doomed.{KeepsReflectors}
 use Rattle.cc_laws_snapshot.proofs.Handing.{edge-from_slot, edge-from_reflector}
 use Rattle.cc_laws_run.proofs.TouchedParts.{IsUntouched}
-
--- a script object that has it in a slot refers to it
-pub edge-from_script_slot : (h : Heap) (o : HeapScript) (y : Name) → Among o h.scripts → Among y (contents o.slots) → Among (o.name, y) (view h).edges
-edge-from_script_slot h o y there m = script-edge h o o.name y there
-    (Among-left (o.name, y) (script_slot_edges o) (map (λ k. from_to o.name (native k)) (behind o.name)) (Among-map (from_to o.name) y (contents o.slots) m))
 
 -- the value of a map and a key is that of their entry
 pub value_in-entry : (es : List Entry) (m k y : Name) → Among y (option_to_list (value_in es m k)) →

@@ -15,8 +15,8 @@ use Rattle.cc_model.specs.WellFormed.{native_names, script_names}
 use Rattle.cc_model.specs.Snapshot.{Snapshot, node_names}
 use Rattle.cc_model.specs.Fresh.{IsLiving, IsScriptThere}
 use Rattle.cc_laws_heap.proofs.ViewEdges.{native_edges-are, script_edges-are}
+use Rattle.cc_laws_heap.proofs.Coloured.{names_with-is}
 use Rattle.cc_laws_snapshot.proofs.SoundView.{living-native, named-there, there-named}
-use Rattle.cc_laws_snapshot.proofs.ScriptsChange.{names_with-cases}
 use Rattle.cc_laws_snapshot.proofs.ReachedStays.{native-edge, script-edge}
 use Rattle.cc_laws_run.specs.Doomed.{IsDoomed}
 use Rattle.cc_laws_snapshot.proofs.NamesAndEdges.{living-of_named}
@@ -154,7 +154,7 @@ module _ (ds : List Name) (h : Heap) where
     registers = λ x m r. r;
     buffer = λ x m r. r;
     black = λ x m r.
-        let f = names_with-cases (λ o. is_black_colour o.colour) ss x r in
+        let f = names_with-is (λ o. is_black_colour o.colour) ss x r in
         subst (λ z. Among z (view h).black) f.3 (dark f.0 f.1 (subst (λ z. Among z ds) (sym f.3) m) f.2);
     edges = λ x y m e. ⊎_elim (λ f. native-edge h f.0 x y f.1 f.2) (λ f. old f.0 x y f.1 m f.2) (edge-cases g x y e);
     entries = λ e m i. i;

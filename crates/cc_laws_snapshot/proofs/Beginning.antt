@@ -13,13 +13,14 @@ use Rattle.cc_model.specs.Heap.{Heap, HeapNative, Buffered, is_gray_in}
 use Rattle.cc_model.specs.View.{View, view, native_edges, script_edges}
 use Rattle.cc_model.specs.Colours.{HasColourInvariant}
 use Rattle.cc_model.specs.WellFormed.{native_names}
-use Rattle.cc_model.specs.Snapshot.{NodeState, untraversed, gone, traversed, Node, Mapping, Snapshot, node_names}
+use Rattle.cc_model.specs.Snapshot.{NodeState, untraversed, gone, traversed, Node, Mapping, node_names}
 use Rattle.cc_model.specs.Units.{candidates_of, holds_gray, holders_of, if_gray, mapping_of, mappings_of, members_of, first_names, new_node, begun, with_empty_buffer}
-use Rattle.cc_model.specs.Fresh.{node, IsNode, IsScriptThere, MemberOf, IsMappingOf, MemberIsNode, HasNodes, IsFresh}
+use Rattle.cc_model.specs.Fresh.{node, IsNode, IsScriptThere, MemberOf, IsMappingOf, HasNodes, IsFresh}
+use Rattle.cc_model.proofs.MemberNodes.{member-node}
 use Rattle.cc_laws_heap.specs.Sound.{IsSound}
 use Rattle.cc_laws_snapshot.proofs.NamePairs.{native-no_script}
 use Rattle.cc_laws_heap.proofs.ViewEdges.{native_edges-are, script_edges-are}
-use Rattle.cc_laws_snapshot.proofs.OwnEdges.{script-named}
+use Rattle.cc_laws_heap.proofs.ScriptNames.{script-named}
 use Rattle.cc_laws_snapshot.proofs.SoundView.{IsSound-view, black-or_gray, living-named, native-name_of}
 use Rattle.cc_laws_snapshot.proofs.States.{untraversed-not_traversed, untraversed-not_gone}
 use Rattle.cc_lists.proofs.OnceEach.{with_all_last-there, with_all_last-cases, with_all_last-once}
@@ -58,11 +59,6 @@ member-is h y x m = go (is_gray_in h y) m
     go : (b : Bool) → Among x (option_to_list (elim b [ true ↦ Some y | false ↦ None ])) → y ≡ x
     go true i = ⊎_elim (λ e. e) (λ t. absurd t) i
     go false i = absurd i
-
--- a member is a node where what stands in the list of it is
-member-node : (s : Snapshot) (o : Option Name) → ((x : Name) → Among x (option_to_list o) → IsNode s x) → MemberIsNode s o
-member-node s None h = tt
-member-node s (Some x) h = h x (inl refl)
 
 module _ (h : Heap) (sound : IsSound [] h) (coloured : HasColourInvariant (view h)) where
   -- the view after the begin: nothing is in the buffer
@@ -152,7 +148,7 @@ module _ (h : Heap) (sound : IsSound [] h) (coloured : HasColourInvariant (view 
       (λ r.
       let f = Among-flat_map_cases script_edges h.scripts (native i, y) r in
       let script : is_script (native i) ≡ true =
-      subst (λ z. is_script z ≡ true) (script_edges-are f.0 (native i) y f.2).0 (script-named h f.0 sound.well_formed f.1) in
+      subst (λ z. is_script z ≡ true) (script_edges-are f.0 (native i) y f.2).0 (script-named h sound.well_formed f.0 f.1) in
       absurd (native-no_script (native i) refl script))
       (Among-append (native i, y) (flat_map native_edges h.natives) (flat_map script_edges h.scripts) m)
 

@@ -23,8 +23,8 @@ use Rattle.cc_laws_heap.proofs.CommandsSound.{below-first, few-slots, effects-so
 use Rattle.cc_laws_heap.proofs.Coloured.{IsColoured, AreColoured-from_view, HasColourInvariant-from}
 use Rattle.cc_laws_heap.proofs.ColourChanges.{IsHeldBlack}
 use Rattle.cc_laws_heap.proofs.CommandsColours.{effects-coloured}
+use Rattle.cc_laws_heap.proofs.ScriptNames.{script-named}
 use Rattle.cc_laws_snapshot.proofs.NamePairs.{native-no_script}
-use Rattle.cc_laws_snapshot.proofs.OwnEdges.{script-named}
 use Rattle.cc_laws_snapshot.proofs.SoundView.{native-name_of}
 use Rattle.cc_laws_snapshot.proofs.GentleKeeps.{fresh-kept}
 use Rattle.cc_laws_snapshot.proofs.GentleBut.{AreGentle, AreGentle-refl, IsGentle-from}
@@ -37,7 +37,7 @@ use Rattle.cc_laws_snapshot.proofs.NativesHeld.{put_in_register-gentle, hold_nat
 -- no script object has a native's name
 no_script-held : (h : Heap) (d : ℕ) → IsWellFormed h → IsHeldBlack h.scripts (register h (N d))
 no_script-held h d w o m i =
-    absurd (native-no_script o.name (native-name_of h o.name (native_register-there h d w o.name i)) (script-named h o w m))
+    absurd (native-no_script o.name (native-name_of h o.name (native_register-there h d w o.name i)) (script-named h w o m))
 
 -- script registers hold black ones
 script_register-pale : (h : Heap) (d : ℕ) → IsColoured h → IsNotGray h (register h (S d))

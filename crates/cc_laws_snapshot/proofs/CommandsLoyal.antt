@@ -29,9 +29,10 @@ use Rattle.cc_laws_heap.proofs.Holding.{IsIn-natives, IsIn-no_script, native_reg
 use Rattle.cc_laws_heap.proofs.NativeCommands.{IsIn-take_up, IsIn-made, HasSlot, HasSlot-take_up, put_in_slot-written, names_there-take_up}
 use Rattle.cc_laws_heap.proofs.CommandsSound.{below-first, few-slots}
 use Rattle.cc_laws_heap.proofs.Taken.{IsTaken}
+use Rattle.cc_laws_heap.proofs.ScriptsKept.{native-no_script}
 use Rattle.cc_laws_snapshot.specs.Losing.{IsLoyal}
 use Rattle.cc_laws_snapshot.proofs.ReachedStays.{written-reached}
-use Rattle.cc_laws_snapshot.proofs.Handing.{script-no_native, register-reached, handed-loyal}
+use Rattle.cc_laws_snapshot.proofs.Handing.{register-reached, handed-loyal}
 use Rattle.cc_laws_snapshot.proofs.Handed.{TakesUp-take_up, TakesUp-with_native, made-living, Hands-register, Hands-slot, Still, Hands-still}
 use Rattle.cc_laws_snapshot.proofs.StillNatives.{Still-refl, Still-script_register, Still-exposed, Still-hold_script, Still-preserve, Still-set_entry, Still-put_in_script, Still-make_object, Hands-wrapped}
 
@@ -112,7 +113,7 @@ effects-loyal h (Get (S d) q i) s r t u = still-loyal h (hold_script h d (slot_a
     (Still-hold_script h d (slot_at (objects_of h) (N q) i))
 effects-loyal h (Put d i q) s r t u = still-loyal h (put_in_script h (register h (S d)) i (source h (option_map S q))) s u
     (Still-put_in_script h (register h (S d)) i (source h (option_map S q))
-    (λ k m. script-no_native h k s.well_formed (script_register-there h d s.well_formed (native k) m)))
+    (λ k m. native-no_script h k s.well_formed (script_register-there h d s.well_formed (native k) m)))
 effects-loyal h (Take d q i) s r t u = still-loyal h (hold_script h d (slot_at (objects_of h) (S q) i)) s u
     (Still-hold_script h d (slot_at (objects_of h) (S q) i))
 effects-loyal h (Wrap d q) s r t u = handed-loyal [] None h (set_register (wrapped h (register h (N q))) (S d) (reflector_of (register h (N q)))) s.well_formed u

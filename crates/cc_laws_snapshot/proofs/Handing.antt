@@ -17,9 +17,9 @@ use Rattle.cc_model.specs.WellFormed.{IsWellFormed, native_names, script_names}
 use Rattle.cc_model.specs.Fresh.{IsLiving}
 use Rattle.cc_laws_heap.specs.Sound.{IsSound, numbers_of}
 use Rattle.cc_laws_heap.proofs.Owning.{let_go-sound}
+use Rattle.cc_laws_heap.proofs.ScriptsKept.{native-no_script as script-no_native}
 use Rattle.cc_laws_snapshot.proofs.NamePairs.{native-no_script}
 use Rattle.cc_laws_snapshot.proofs.Edges.{edge-of}
-use Rattle.cc_laws_snapshot.proofs.SoundView.{script-name_of}
 use Rattle.cc_laws_snapshot.specs.Losing.{PurpleOrGone, Loses, IsLoyal}
 use Rattle.cc_laws_snapshot.proofs.BufferMarks.{IsPurple}
 use Rattle.cc_laws_snapshot.proofs.NamesAndEdges.{named-of_living, living-number, living-of_named}
@@ -29,10 +29,6 @@ use Rattle.cc_laws_snapshot.proofs.ReachedStays.{cascade-reached}
 use Rattle.cc_laws_snapshot.proofs.CascadeLoses.{cascade-loses}
 
 -- Edges to natives
-
--- a native is the same as none of the script objects
-pub script-no_native : (h : Heap) (i : ℕ) → IsWellFormed h → ¬ (Among (native i) (script_names h))
-script-no_native h i w m = native-no_script (native i) refl (script-name_of h (native i) w m)
 
 -- what refers to a native: a native that has it in a slot, or its reflector
 pub edge-to : (h : Heap) (x : Name) (i : ℕ) → IsWellFormed h → Among (x, native i) (view h).edges →

@@ -26,12 +26,13 @@ use Rattle.cc_laws_heap.proofs.NativeCommands.{IsIn-made}
 use Rattle.cc_laws_heap.proofs.HoldsTheSame.{HoldsTheSame-add_ref, native_names-alike}
 use Rattle.cc_lists.proofs.ListWrites.{changed_where, changed_where-either, map-kept}
 use Rattle.cc_laws_heap.proofs.ScriptCommands.{blank}
+use Rattle.cc_laws_heap.proofs.ScriptsKept.{native-no_script}
 use Rattle.cc_laws_snapshot.specs.Losing.{PurpleOrGone, IsLoyal}
 use Rattle.cc_laws_snapshot.specs.KindsSuspected.{IsSuspectedIn, IsReachedNative}
 use Rattle.cc_laws_snapshot.proofs.BufferMarks.{IsPurple, buffer-place}
 use Rattle.cc_laws_snapshot.proofs.NamesAndEdges.{living-same}
 use Rattle.cc_laws_snapshot.proofs.LoyalSuspected.{loyal-suspected}
-use Rattle.cc_laws_snapshot.proofs.Handing.{script-no_native, edge-to, edge-from_slot, edge-from_reflector, handed-loyal}
+use Rattle.cc_laws_snapshot.proofs.Handing.{edge-to, edge-from_slot, edge-from_reflector, handed-loyal}
 use Rattle.cc_laws_snapshot.proofs.Handed.{TakesUp, TakesUp-nothing, TakesUp-add_ref, TakesUp-with_native, made-living, Hands-register, Still}
 use Rattle.cc_laws_snapshot.proofs.StillNatives.{Still-refl, Still-script_last, Still-exposed, Still-change_script, Still-flag, Still-set_entry, Still-make_object}
 use Rattle.cc_laws_snapshot.proofs.KindsLoyal.{HasScriptNames, HasScriptNames-well_formed, buffers-suspected}
@@ -91,7 +92,7 @@ taken-suspected h i g candidates x w named t names s reached =
     held j m = ⊎_elim
         (λ n. Among-left (native j) (contents g.native_registers) (contents g.script_registers)
         (subst (λ z. Among (native j) (contents z)) (sym (s.registers ∙ t.registers)) n))
-        (λ n. absurd (script-no_native h j w (w.script_registers (native j) n)))
+        (λ n. absurd (native-no_script h j w (w.script_registers (native j) n)))
         (Among-append (native j) (contents h.native_registers) (contents h.script_registers) m)
 
     marked : (j : ℕ) → IsPurple h j → PurpleOrGone (view g) j ⊎ ReachedIn (view g) (native j)

@@ -19,8 +19,9 @@ use Rattle.cc_model.specs.Suspected.{is_unreached, unreached_scripts, IsCovered,
 use Rattle.cc_laws_snapshot.proofs.NamePairs.{native-no_script}
 use Rattle.cc_laws_snapshot.proofs.Edges.{edge-of}
 use Rattle.cc_laws_snapshot.proofs.KindsFresh.{with_buffer}
-use Rattle.cc_laws_snapshot.proofs.SoundView.{there-script, named-there, script-name_of}
+use Rattle.cc_laws_snapshot.proofs.SoundView.{there-script, named-there}
 use Rattle.cc_laws_snapshot.specs.Losing.{PurpleOrGone, IsLoyal}
+use Rattle.cc_laws_heap.proofs.ScriptNames.{script_names-named}
 
 -- the registers reach an object, or they do not
 pub reached_cases : (v : View) (x : Name) → ReachedIn v x ⊎ (¬ (ReachedIn v x))
@@ -46,11 +47,11 @@ HasScriptNames h = (x : Name) → Among x (script_names h) → is_script x ≡ t
 
 -- so it is in well formed heaps
 pub HasScriptNames-well_formed : (h : Heap) → IsWellFormed h → HasScriptNames h
-HasScriptNames-well_formed h w x m = script-name_of h x w m
+HasScriptNames-well_formed h w x m = script_names-named h w x m
 
 -- and for values of entries
 HasScriptValues-well_formed : (h : Heap) → IsWellFormed h → HasScriptValues (view h)
-HasScriptValues-well_formed h w e m = script-name_of h e.value w (w.entries e m).value
+HasScriptValues-well_formed h w e m = script_names-named h w e.value (w.entries e m).value
 
 -- the heaps' view is named, whatever stands in the buffer
 IsNamed-buffers : (h : Heap) (buffer purple : List Name) → HasScriptNames h → IsNamed (with_buffer buffer purple (view h))

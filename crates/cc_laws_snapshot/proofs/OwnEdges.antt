@@ -13,16 +13,11 @@ use Rattle.cc_model.specs.View.{view, between, native_edges, script_edges}
 use Rattle.cc_model.specs.WellFormed.{IsWellFormed}
 use Rattle.cc_model.specs.Units.{targets, edges_in}
 use Rattle.cc_lists.proofs.Filtering.{find-among, find-passes}
-use Rattle.cc_laws_heap.proofs.ScriptNames.{scripts-once}
-use Rattle.cc_laws_heap.proofs.ScriptNames as script_names
+use Rattle.cc_laws_heap.proofs.ScriptNames.{script-named, scripts-once}
 use Rattle.cc_laws_heap.proofs.Natives.{native_at-there, native_at-number, IsWellFormed-distinct}
 use Rattle.cc_lists.proofs.CountsOf.{false-left, count_by-none, count_by-agree, count_by-flat_map_none, count_by-flat_map_only}
 use Rattle.cc_laws_snapshot.proofs.NamePairs.{native-no_script, between-true}
 use Rattle.cc_laws_heap.proofs.ViewEdges.{native_edges-are, script_edges-are}
-
--- a script object's name is no native's
-pub script-named : (h : Heap) (o : HeapScript) → IsWellFormed h → Among o h.scripts → is_script o.name ≡ true
-script-named h o w m = script_names.script-named h w o m
 
 -- the names to which x refers: each as often as there is an edge from x to it
 abbrev pub HasTargets : Heap → Name → List Name → Type 0
@@ -68,7 +63,7 @@ HasTargets-native h k n w e u =
 
     no_script : (o : HeapScript) → Among o h.scripts → count_by test (script_edges o) ≡ 0
     no_script o i = none-between (native k) u (script_edges o) (λ y z j s.
-        native-no_script (native k) refl (subst (λ x. is_script x ≡ true) ((script_edges-are o y z j).0 ∙ s) (script-named h o w i)))
+        native-no_script (native k) refl (subst (λ x. is_script x ≡ true) ((script_edges-are o y z j).0 ∙ s) (script-named h w o i)))
 
 -- what a script object that is there refers to
 HasTargets-script : (h : Heap) (x : Name) (o : HeapScript) → IsWellFormed h → script_at h x ≡ Some o → HasTargets h x (targets (script_edges o))
@@ -79,7 +74,7 @@ HasTargets-script h x o w e u =
     count_by-flat_map_only test script_edges named h.scripts o (scripts-once h w x) there (find-passes named h.scripts o e) other in
     let natives : count_by test (flat_map native_edges h.natives) ≡ 0 = count_by-flat_map_none test native_edges h.natives
     (λ n i. none-between x u (native_edges n) (λ y z j s.
-    native-no_script (native n.number) refl (subst (λ v. is_script v ≡ true) (same ∙ sym ((native_edges-are n y z j).0 ∙ s)) (script-named h o w there)))) in
+    native-no_script (native n.number) refl (subst (λ v. is_script v ≡ true) (same ∙ sym ((native_edges-are n y z j).0 ∙ s)) (script-named h w o there)))) in
     let here : count_by (λ y. same_name y u) (targets (script_edges o)) ≡ count_by test (script_edges o) =
     all-between x u (script_edges o) (λ y z m. sym (script_edges-are o y z m).0 ∙ same) in
     omega (arith, count_by-append test (flat_map native_edges h.natives) (flat_map script_edges h.scripts))

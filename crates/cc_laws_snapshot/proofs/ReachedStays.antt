@@ -22,21 +22,12 @@ use Rattle.cc_laws_heap.proofs.Cascades.{cascade-sound, cascade-frees}
 use Rattle.cc_laws_heap.proofs.Leaving.{IsOf, IsOf-frees}
 use Rattle.cc_laws_snapshot.proofs.NamePairs.{native-no_script}
 use Rattle.cc_laws_heap.proofs.ViewEdges.{native_edges-are, script_edges-are}
-use Rattle.cc_laws_snapshot.proofs.OwnEdges.{script-named}
+use Rattle.cc_laws_heap.proofs.ScriptNames.{script-named}
+use Rattle.cc_laws_heap.proofs.References.{native-there}
 use Rattle.cc_laws_snapshot.proofs.NamesAndEdges.{edges-alike}
-use Rattle.cc_laws_snapshot.proofs.SoundView.{one-native, edge-target, native-name_of, script-name_of}
+use Rattle.cc_laws_snapshot.proofs.SoundView.{one-native, edge-target}
 
--- Places and edges
-
--- a native that is there has a native's place
-pub native-place : (h : Heap) → IsWellFormed h → (i : ℕ) → Among (native i) (names_there h) → Among (native i) (native_names h)
-native-place h w i m = ⊎_elim (λ l. l) (λ r. absurd (native-no_script (native i) refl (script-name_of h (native i) w r)))
-    (Among-append (native i) (native_names h) (script_names h) m)
-
--- a script object that is there has a script object's place
-pub script-place : (h : Heap) (x : Name) → is_script x ≡ true → Among x (names_there h) → Among x (script_names h)
-script-place h x e m = ⊎_elim (λ l. absurd (native-no_script x (native-name_of h x l) e)) (λ r. r)
-    (Among-append x (native_names h) (script_names h) m)
+-- Edges
 
 -- the edges of a native, without its count
 abbrev edges_of_uncounted : Uncounted → List (Name × Name)
@@ -64,7 +55,7 @@ native-edge_of h i y w m = ⊎_elim
     (λ r.
     let f = Among-flat_map_cases script_edges h.scripts (native i, y) r in
     absurd (native-no_script (native i) refl
-    (subst (λ z. is_script z ≡ true) (script_edges-are f.0 (native i) y f.2).0 (script-named h f.0 w f.1))))
+    (subst (λ z. is_script z ≡ true) (script_edges-are f.0 (native i) y f.2).0 (script-named h w f.0 f.1))))
     (Among-append (native i, y) (flat_map native_edges h.natives) (flat_map script_edges h.scripts) m)
 
 -- What is kept
@@ -135,7 +126,7 @@ module _ (h k : Heap) (w : IsWellFormed h) (v : IsWellFormed k) (b : SameBeside 
   native-left : (n : HeapNative) (x y : Name) → Among n h.natives → Among (x, y) (native_edges n) → Among x (names_there k) → Among (x, y) (view k).edges
   native-left n x y m e there =
       let start : native n.number ≡ x = (native_edges-are n x y e).0 in
-      let found = named-member k n.number (native-place k v n.number (subst (λ z. Among z (names_there k)) (sym start) there)) in
+      let found = named-member k n.number (native-there k n.number v (subst (λ z. Among z (names_there k)) (sym start) there)) in
       let p = of found.0 found.1 in
       let same : p.0 ≡ n = one-native h p.0 n w p.1 m (ap (λ (u : Uncounted). u.number) p.2 ∙ found.2) in
       let edges : native_edges n ≡ native_edges found.0 = native_edges-alike n found.0 (ap uncounted (sym same) ∙ p.2) in

@@ -33,13 +33,13 @@ use Rattle.cc_laws_heap.proofs.ColourChanges.{IsHeldBlack}
 use Rattle.cc_laws_snapshot.proofs.Marked.{names_in, with_mark-there}
 use Rattle.cc_laws_snapshot.proofs.GentleBut.{AreGentle, AreGentle-refl, AreGentle-then}
 use Rattle.cc_laws_snapshot.proofs.NativeParts.{IsNotGray, register-gentle, add_ref-gentle, preserve-gentle}
-use Rattle.cc_laws_heap.proofs.Coloured.{is_gray, is_black}
-use Rattle.cc_laws_snapshot.proofs.ScriptsChange.{names_with-cases, ScriptsGently-each, ScriptsGently-push, AreGentle-scripts}
+use Rattle.cc_laws_heap.proofs.Coloured.{is_gray, is_black, names_with-is}
+use Rattle.cc_laws_snapshot.proofs.ScriptsChange.{ScriptsGently-each, ScriptsGently-push, AreGentle-scripts}
 
 -- what is black is not gray
 pub not_gray-held : (h : Heap) (x : Option Name) → IsHeldBlack h.scripts x → IsNotGray h x
 not_gray-held h x black y m g =
-    let f = names_with-cases is_gray h.scripts y g in
+    let f = names_with-is is_gray h.scripts y g in
     false≢true (sym (ap is_gray_colour (black f.0 f.1 (subst (λ z. Among z (option_to_list x)) (sym f.3) m))) ∙ f.2)
 
 -- Exposures

@@ -1,11 +1,11 @@
 -- WHEN A CHANGE OF SCRIPT OBJECTS IS GENTLE.
 use Rattle.std.proofs.Common.{◌≡◌, ℕ, Bool, true, List, [], ◌∷◌, ◌++◌, map, sym, ◌∙◌, ap, subst, inl, ⊎_elim, arith, count_by}
-use Rattle.std.specs.List.{filter, flat_map}
+use Rattle.std.specs.List.{flat_map}
 use Rattle.std.proofs.lemmas.Bool.{false≢true}
 use Rattle.std.proofs.lemmas.Grind.{flat_map-append}
 use Rattle.std.proofs.lemmas.List.Folds.{flat_map-map}
 use Rattle.cc_lists.specs.Members.{Among}
-use Rattle.cc_lists.proofs.Members.{Among-map, Among-map_cases, Among-left, Among-right, Among-append, Among-filter, Among-filtered, Among-passes, Among-flat_map, Among-flat_map_cases}
+use Rattle.cc_lists.proofs.Members.{Among-map, Among-map_cases, Among-left, Among-right, Among-append, Among-flat_map, Among-flat_map_cases}
 use Rattle.cc_lists.proofs.Counting.{count_by-append, count_by-map}
 use Rattle.cc_names.specs.declared.name.Name.{Name}
 use Rattle.cc_names.specs.declared.kind.Colour.TheVariants.{Black}
@@ -14,7 +14,7 @@ use Rattle.cc_model.specs.Slots.{Slots, contents, from_to}
 use Rattle.cc_model.specs.Heap.{Heap, HeapScript, is_gray_colour}
 use Rattle.cc_model.specs.View.{view, between, names_with, slot_edges, native_edges, script_slot_edges, script_edges}
 use Rattle.cc_model.specs.WellFormed.{IsWellFormed, script_names}
-use Rattle.cc_laws_heap.proofs.Coloured.{is_gray, is_black}
+use Rattle.cc_laws_heap.proofs.Coloured.{is_gray, is_black, names_with-there, names_with-is}
 use Rattle.cc_laws_heap.proofs.Kept.{ChangesScripts, script_names-kept}
 use Rattle.cc_lists.proofs.ListWrites.{each-map, each-push}
 use Rattle.cc_laws_heap.proofs.ScriptsKept.{native-no_script}
@@ -28,17 +28,6 @@ use Rattle.cc_laws_snapshot.proofs.GentleBut.{AreGentle}
 -- the heaps with other script objects, once so many were made
 abbrev pub with_those_scripts : Heap → List HeapScript → ℕ → Heap
 with_those_scripts h os made = record h { scripts = os; scripts_made = made }
-
--- the name of a script object that passes a test is among those that do
-names_with-in : (p : HeapScript → Bool) (os : List HeapScript) (o : HeapScript) → Among o os → p o ≡ true → Among o.name (names_with p os)
-names_with-in p os o m e = Among-map (λ (q : HeapScript). q.name) o (filter p os) (Among-filter p o os m e)
-
--- and each name there is that of one
-pub names_with-cases : (p : HeapScript → Bool) (os : List HeapScript) (x : Name) → Among x (names_with p os) →
-    (o : HeapScript) × Among o os × (p o ≡ true) × (o.name ≡ x)
-names_with-cases p os x m =
-    let f = Among-map_cases (λ (q : HeapScript). q.name) (filter p os) x m in
-    (f.0, Among-filtered p f.0 os f.1, Among-passes p f.0 os f.1, f.2)
 
 -- natives outside the buffer are held as often, no gray object is held that was not or becomes gray, black stays black
 pub record ScriptsGently (h : Heap) (os : List HeapScript) : Type 0 where
@@ -70,7 +59,7 @@ AreGentle-scripts h os made g = record {
     was,
   );
   gray_entry = λ e m c. (m, gray_before e.value c);
-  black_stays = λ x m. let f = names_with-cases is_black h.scripts x m in subst (λ y. Among y (names_with is_black os)) f.3 (g.black f.0 f.1 f.2);
+  black_stays = λ x m. let f = names_with-is is_black h.scripts x m in subst (λ y. Among y (names_with is_black os)) f.3 (g.black f.0 f.1 f.2);
   scripts_stay = λ x m. there-named (with_those_scripts h os made) x (g.names x (named-there h x m));
   lives = λ i c m. inl (c, m);
 }
@@ -79,7 +68,7 @@ AreGentle-scripts h os made g = record {
     natives = flat_map native_edges h.natives
 
     gray_before : (y : Name) → Among y (names_with is_gray os) → Among y (view h).gray
-    gray_before y c = let f = names_with-cases is_gray os y c in subst (λ z. Among z (view h).gray) f.3 (g.gray f.0 f.1 f.2)
+    gray_before y c = let f = names_with-is is_gray os y c in subst (λ z. Among z (view h).gray) f.3 (g.gray f.0 f.1 f.2)
 
 -- Each script object changed
 
@@ -113,9 +102,9 @@ ScriptsGently-each h f v c = record {
       Among-flat_map script_edges m.0 e h.scripts m.1
       (held m.0 e (subst (λ (o : HeapScript). Among e (script_edges o)) (sym m.2) n.2) y);
   gray = each-map (λ o. is_gray o ≡ true → Among o.name (view h).gray) f h.scripts
-      (λ o m e. subst (λ x. Among x (view h).gray) (sym (c.changes.name o)) (names_with-in is_gray h.scripts o m (c.gray o e)));
+      (λ o m e. subst (λ x. Among x (view h).gray) (sym (c.changes.name o)) (names_with-there is_gray h.scripts o m (c.gray o e)));
   black = λ o m e. subst (λ x. Among x (names_with is_black (map f h.scripts))) (c.changes.name o)
-      (names_with-in is_black (map f h.scripts) (f o) (Among-map f o h.scripts m) (c.black o e));
+      (names_with-there is_black (map f h.scripts) (f o) (Among-map f o h.scripts m) (c.black o e));
   names = λ x m. subst (λ xs. Among x xs) (sym (script_names-kept h f c.changes)) m;
 }
   where
@@ -167,8 +156,8 @@ ScriptsGently-push h o v is_it empty taken = record {
       (λ r. let b = behind-edge e r in absurd (native-no_script h b.0 v (subst (λ x. Among x (script_names h)) (sym b.2) (gray-named e.1 g))))
       (Among-append e (flat_map script_edges h.scripts) last (subst (λ es. Among e es) (flat_map-append script_edges h.scripts (o ∷ [])) i));
   gray = each-push (λ p. is_gray p ≡ true → Among p.name (view h).gray) h.scripts o
-      (λ p m e. names_with-in is_gray h.scripts p m e) (λ e. absurd (false≢true (sym (ap is_gray_colour is_it) ∙ e)));
-  black = λ p m e. names_with-in is_black (h.scripts ++ o ∷ []) p (Among-left p h.scripts (o ∷ []) m) e;
+      (λ p m e. names_with-there is_gray h.scripts p m e) (λ e. absurd (false≢true (sym (ap is_gray_colour is_it) ∙ e)));
+  black = λ p m e. names_with-there is_black (h.scripts ++ o ∷ []) p (Among-left p h.scripts (o ∷ []) m) e;
   names = λ x m. let f = Among-map_cases (λ (p : HeapScript). p.name) h.scripts x m in
       subst (λ y. Among y (map (λ (p : HeapScript). p.name) (h.scripts ++ o ∷ []))) f.2
       (Among-map (λ (p : HeapScript). p.name) f.0 (h.scripts ++ o ∷ []) (Among-left f.0 h.scripts (o ∷ []) f.1));

@@ -23,9 +23,9 @@ use Rattle.cc_laws_heap.proofs.Natives.{native_at-member, IsWellFormed-distinct}
 use Rattle.cc_laws_heap.proofs.References.{native-there}
 use Rattle.cc_lists.proofs.CountsOf.{false-left, count_by-none, count_by-agree, count_by-flat_map_same, count_by-flat_map_test}
 use Rattle.cc_laws_heap.proofs.NameLists.{same_name-sym}
+use Rattle.cc_laws_heap.proofs.ScriptNames.{script-named, script_names-named}
 use Rattle.cc_laws_snapshot.proofs.NamePairs.{native-no_script}
 use Rattle.cc_laws_snapshot.proofs.Edges.{edge-of}
-use Rattle.cc_laws_snapshot.proofs.OwnEdges.{script-named}
 
 -- `made` is how many natives were ever made
 pub record IsSoundView (made : ℕ) (v : View) : Type 0 where
@@ -101,12 +101,6 @@ named-there h x m = ⊎_elim
     (Among-append x (view h).gray (view h).white r))
     (Among-append x (view h).black ((view h).gray ++ (view h).white) m)
 
--- a script object's name is no native's
-pub script-name_of : (h : Heap) (x : Name) → IsWellFormed h → Among x (script_names h) → is_script x ≡ true
-script-name_of h x w m =
-    let f = Among-map_cases (λ (o : HeapScript). o.name) h.scripts x m in
-    subst (λ z. is_script z ≡ true) f.2 (script-named h f.0 w f.1)
-
 -- a native's name is no script object's
 pub native-name_of : (h : Heap) (x : Name) → Among x (native_names h) → is_native x ≡ true
 native-name_of h x m =
@@ -128,14 +122,14 @@ edge-target h x y w m = ⊎_elim
 edge-source : (h : Heap) (i : ℕ) (y : Name) → IsWellFormed h → Among (native i, y) (view h).edges → Among (native i) (native_names h)
 edge-source h i y w m = ⊎_elim
     (λ a. subst (λ z. Among z (native_names h)) a.2 (Among-map (λ (n : HeapNative). native n.number) a.0 h.natives a.1))
-    (λ a. absurd (native-no_script (native i) refl (subst (λ z. is_script z ≡ true) a.2 (script-named h a.0 w a.1))))
+    (λ a. absurd (native-no_script (native i) refl (subst (λ z. is_script z ≡ true) a.2 (script-named h w a.0 a.1))))
     (edge-of h (native i) y m)
 
 -- what holds script objects alone holds no native
 none-native : (h : Heap) (k : ℕ) (xs : List Name) → IsWellFormed h → ((x : Name) → Among x xs → Among x (script_names h)) → count_by (same_name (native k)) xs ≡ 0
 none-native h k xs w h-in = count_by-none (same_name (native k)) xs
     (λ x m. false-left (same_name (native k) x) (λ e.
-    native-no_script (native k) refl (subst (λ z. is_script z ≡ true) (sym (same_name-true (native k) x e)) (script-name_of h x w (h-in x m)))))
+    native-no_script (native k) refl (subst (λ z. is_script z ≡ true) (sym (same_name-true (native k) x e)) (script_names-named h w x (h-in x m)))))
 
 -- edges lead to a native as often as the native stands among what they lead to
 to-targets : (x : Name) (k : ℕ) (ys : List Name) → count_by (to (native k)) (map (from_to x) ys) ≡ count_by (same_name (native k)) ys
@@ -194,7 +188,7 @@ one-native h m n w a b e =
 -- what a register holds that is a native is there
 register-named : (h : Heap) (i : ℕ) → IsWellFormed h → Among (native i) (view h).registers → Among (native i) (native_names h)
 register-named h i w m = ⊎_elim (w.native_registers (native i))
-    (λ r. absurd (native-no_script (native i) refl (script-name_of h (native i) w (w.script_registers (native i) r))))
+    (λ r. absurd (native-no_script (native i) refl (script_names-named h w (native i) (w.script_registers (native i) r))))
     (Among-append (native i) (contents h.native_registers) (contents h.script_registers) m)
 
 -- the number of a native that is there was made
@@ -204,8 +198,8 @@ named-made h i w m =
     subst (λ k. (1 ≤ k) × (k ≤ h.natives_made)) (ap number_of f.2) (w.native_numbers f.0 f.1)
 
 -- a script object's name that is there is one of the script objects'
-script-named_there : (h : Heap) (x : Name) → is_script x ≡ true → Among x (names_there h) → Among x (script_names h)
-script-named_there h x e m = ⊎_elim (λ l. absurd (native-no_script x (native-name_of h x l) e)) (λ r. r) (Among-append x (native_names h) (script_names h) m)
+pub script-place : (h : Heap) (x : Name) → is_script x ≡ true → Among x (names_there h) → Among x (script_names h)
+script-place h x e m = ⊎_elim (λ l. absurd (native-no_script x (native-name_of h x l) e)) (λ r. r) (Among-append x (native_names h) (script_names h) m)
 
 -- The view of sound heaps is sound.
 pub IsSound-view : (h : Heap) → IsSound [] h → IsSoundView h.natives_made (view h)
@@ -221,11 +215,11 @@ IsSound-view h s = record {
       let here : f.0.count ≡ count_by (same_name (native f.0.number)) (view h).registers + count_by (to (native f.0.number)) (view h).edges =
       omega (arith, s.counts f.0 f.1, refs_to-view h f.0.number w) in
       sym f.3 ∙ subst (λ z. f.0.count ≡ count_by (same_name z) (view h).registers + count_by (to z) (view h).edges) f.2 here;
-  scripts = λ x m. script-name_of h x w (named-there h x m);
+  scripts = λ x m. script_names-named h w x (named-there h x m);
   held_lives = λ i m. living-named h i (register-named h i w m);
   source_lives = λ i y m. living-named h i (edge-source h i y w m);
   target_lives = λ x i m. living-named h i (native-there h i w (edge-target h x (native i) w m));
-  target_there = λ x y m e. there-named h y (script-named_there h y e (edge-target h x y w m));
+  target_there = λ x y m e. there-named h y (script-place h y e (edge-target h x y w m));
   map_there = λ e m. let o = (w.entries e m).the_map in subst (IsScriptThere (view h)) o.2 (there-script h o.0 o.1);
   key_there = λ e m. there-named h e.key (w.entries e m).key;
   value_there = λ e m. there-named h e.value (w.entries e m).value;

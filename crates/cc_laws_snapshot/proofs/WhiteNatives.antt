@@ -1,5 +1,5 @@
 -- THE NATIVES THAT ARE WHITE: they are there, by rising number, and no register reaches them.
-use Rattle.std.proofs.Common.{◌≡◌, ℕ, Bool, true, false, cond, List, [], ◌∷◌, map, sym, subst, inl, ◌⊎◌, ⊎_elim, refl, ◌∙◌}
+use Rattle.std.proofs.Common.{◌≡◌, ℕ, Bool, List, [], sym, subst, inl, ◌⊎◌, ⊎_elim, refl, ◌∙◌}
 use Rattle.std.specs.List.{filter}
 use Rattle.cc_lists.specs.Members.{Among, has}
 use Rattle.cc_lists.proofs.Members.{Among-map, Among-map_cases, Among-filtered, Among-passes, Among-flat_map, has-among}
@@ -12,7 +12,7 @@ use Rattle.cc_model.specs.WellMade.{IsWellMade}
 use Rattle.cc_model.specs.Reached.{Reached}
 use Rattle.cc_model.specs.Heap.{Heap, HeapNative}
 use Rattle.cc_model.specs.View.{view, ReachedIn}
-use Rattle.cc_model.specs.WellFormed.{IsRising, native_names, names_there}
+use Rattle.cc_model.specs.WellFormed.{native_names, names_there}
 use Rattle.cc_model.specs.Colours.{HasColourInvariant}
 use Rattle.cc_model.specs.End.{take_away}
 use Rattle.cc_model.specs.StandsFor.{StandsFor, shape_at}
@@ -21,7 +21,7 @@ use Rattle.cc_model.specs.Snapshot.{Snapshot, IsWhite, white_names, white_native
 use Rattle.cc_model.specs.Fresh.{IsFresh, IsTraversed}
 use Rattle.cc_laws_heap.specs.Sound.{IsSound}
 use Rattle.cc_laws_heap.specs.Ending.{AreThere, TakesAway}
-use Rattle.cc_laws_heap.proofs.Rising.{IsRising-tail, IsRising-first, IsRising-cons}
+use Rattle.cc_lists.proofs.Rising.{rising-part}
 use Rattle.cc_laws_heap.proofs.ReachedAlike.{reached-there, reached-in}
 use Rattle.cc_laws_heap.proofs.Coloured.{AreColoured-from_view, HasColourInvariant-from}
 use Rattle.cc_laws_heap.proofs.NativesKeepScripts.{SameScripts-coloured}
@@ -29,19 +29,6 @@ use Rattle.cc_laws_heap.proofs.TakingAway.{take_away-sound, take_away-takes}
 use Rattle.cc_laws_heap.proofs.EndsStand.{take_away-stands, take_away-unreached}
 use Rattle.cc_laws_snapshot.proofs.SoundView.{IsSound-view}
 use Rattle.cc_laws_snapshot.proofs.Unreached.{white-unreached}
-
--- where numbers rise along a list, they rise along a part of it
-IsRising-part : {X : Type 0} (f : X → ℕ) (p : X → Bool) (xs : List X) → IsRising (map f xs) → IsRising (map f (filter p xs))
-IsRising-part f p [] r = tt
-IsRising-part {X} f p (x ∷ xs) r = go (p x) (IsRising-part f p xs (IsRising-tail (f x) (map f xs) r))
-  where
-    below : (j : ℕ) → Among j (map f (filter p xs)) → Among j (map f xs)
-    below j m = let k = Among-map_cases f (filter p xs) j m in
-        subst (λ i. Among i (map f xs)) k.2 (Among-map f k.0 xs (Among-filtered p k.0 xs k.1))
-
-    go : (b : Bool) → IsRising (map f (filter p xs)) → IsRising (map f (cond b (x ∷ filter p xs) (filter p xs)))
-    go true rest = IsRising-cons (f x) (map f (filter p xs)) (λ j m. IsRising-first (f x) (map f xs) r j (below j m)) rest
-    go false rest = rest
 
 -- the white natives are white
 white_natives-white : (h : Heap) (s : Snapshot) (k : ℕ) → Among k (white_natives h s) → IsWhite (view h) s (native k)
@@ -56,7 +43,7 @@ white_natives-white h s k m =
 pub white_natives-there : (h : Heap) (s : Snapshot) → IsSound [] h → AreThere (white_natives h s) h
 unfolding white_natives
 white_natives-there h s sound = record {
-  rising = IsRising-part (λ (n : HeapNative). n.number) passes h.natives sound.well_formed.rising;
+  rising = rising-part (λ (n : HeapNative). n.number) passes h.natives sound.well_formed.rising;
   there = λ k m.
       let f = Among-map_cases (λ (n : HeapNative). n.number) (filter passes h.natives) k m in
       subst (λ j. Among (native j) (native_names h)) f.2

@@ -21,7 +21,7 @@ ghost use Rattle.cc_laws_snapshot.specs.Losing.{IsLoyal};
 /// Each command that is not refused keeps every unreached native suspected, for each list of candidates.
 pub fn commands_keep_suspected()
     ensures start { (limits : Allowance) → IsSuspected (view (empty_heap limits)) [] }
-    ensures command { (h : Heap) (c : Command) (candidates : List ℕ) → IsSound [] h → HasColourInvariant (view h) → IsTrue (in_range c) →
+    ensures command { (h : Heap) (c : Command) (candidates : List ℕ) → IsSound [] h → IsTrue (in_range c) →
         refusal_of (objects_of h) c ≡ None → IsSuspected (view h) candidates → IsSuspected (view (effects h c).heap) candidates }
 {}
 

@@ -5,3 +5,4 @@ pub mod Rounds
 pub mod UnitsEnd
 pub mod Replies
 pub mod Opened
+pub mod MemberNodes

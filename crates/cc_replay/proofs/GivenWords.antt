@@ -29,6 +29,7 @@ use Rattle.clap.proofs.WalkLemmas.{both, one_text-rows}
 use Rattle.cc_replay.specs.Words.{IsTaken, app, bytes_option, natives_option, number_option, scripts_option, text_for, IsNumber}
 use Rattle.cc_replay.proofs.FaultFree.{is_sound_level, takes-no_fault}
 use Rattle.cc_replay.proofs.OptionRows.{AreOptions, HasText, IsOption, has_default, level_text}
+use Rattle.cc_lists.proofs.Tests.{premise-holds}
 
 app_is_simple : is_simple app ≡ true
 unfolding clap_on_literals
@@ -101,10 +102,6 @@ wants_subcommand : (built app).top.subcommand_required ≡ true
 unfolding clap_on_literals
 wants_subcommand = refl
 
-wanted_is_there : (wanted has : Bool) → wanted ≡ true → (not wanted || has) ≡ true → has ≡ true
-wanted_is_there true has w e = e
-wanted_is_there false has w e = cc
-
 -- words that are taken enter `replay`
 replay_entered : (words : List Text) → IsTaken words → Enters built_replay (subcommand_of app words)
 replay_entered words e =
@@ -122,7 +119,7 @@ replay_entered words e =
     let c = both (list_all Takes.default_passes top.rules) _ b.1 in
     let d = both (not top.arg_required_else_help || (has || list_any (λ r. explicit_source r.source) rows)) _ c.1 in
     let f = both (not top.subcommand_required || has) _ d.1 in
-    entered_is (built app) built_replay stop subcommand_is (wanted_is_there top.subcommand_required has wants_subcommand f.0) l.0
+    entered_is (built app) built_replay stop subcommand_is (premise-holds top.subcommand_required has f.0 wants_subcommand) l.0
 
 -- ---- the three options
 

@@ -4,7 +4,7 @@ use Rattle.std.specs.Prelude.{⊤, encode_utf8, slice_get, find, fold}
 use Rattle.std.specs.Option.{option_map_or}
 use Rattle.std.specs.List.{list_all, list_any}
 use Rattle.std.specs.Str.{bytes_eq, chars}
-use Rattle.std.proofs.lemmas.Bool.{leb-true, ne_eqb}
+use Rattle.std.proofs.lemmas.Bool.{leb-true, ne_eqb, or_right}
 use Rattle.std.proofs.lemmas.Slice.Eq.{bytes_eq-Decides}
 use Rattle.clap.specs.Lexer.{long_of, short_of}
 use Rattle.clap.specs.Facts.{parser_of_value, unwrap_or_range}
@@ -21,6 +21,7 @@ use Rattle.clap.specs.declared.builder.value_parser.Reading.{Reading}
 use Rattle.clap.specs.declared.parser.matches.ValueSource.{ValueSource}
 use Rattle.clap.specs.declared.parser.matches.ValueSource.TheVariants.{CommandLine, DefaultValue}
 use Rattle.clap.proofs.WalkLemmas.{both}
+use Rattle.cc_lists.proofs.Tests.{second-passes}
 
 or_later : (t x y : Bool) → (x ≡ true → y ≡ true) → (t || x) ≡ true → (t || y) ≡ true
 or_later true x y later e = refl
@@ -28,14 +29,6 @@ or_later false x y later e = later e
 
 not_empty : {X : Type 0} (x : X) (xs : List X) → is_empty (x ∷ xs) ≡ false
 not_empty x xs = ne_eqb _ _ (λ e. omega arith)
-
-other_holds : (t x : Bool) → t ≡ false → (t || x) ≡ true → x ≡ true
-other_holds true x none e = cc
-other_holds false x none e = e
-
-or_right : (t x : Bool) → x ≡ true → (t || x) ≡ true
-or_right true x e = refl
-or_right false x e = e
 
 module _ (id : Text) (q : ValueParser) where
   -- an option that wants a value, and that q reads if it has the id
@@ -294,7 +287,7 @@ module _ (id : Text) (q : ValueParser) where
       given (v ∷ vs) e =
           with_values_fits a.id (reading_by a) DefaultValue (v ∷ vs) rows
           (λ same. (
-            values_start a (v ∷ vs) (is.parser same).0 (is.parser same).1 (omega arith) (both (not (is_request (action_of a))) _ (other_holds _ _ (not_empty v vs) e)).1,
+            values_start a (v ∷ vs) (is.parser same).0 (is.parser same).1 (omega arith) (both (not (is_request (action_of a))) _ (second-passes _ _ e (not_empty v vs))).1,
             ap (λ o. reading_of (parser_of_value o)) (is.parser same).0,
           )) all
 

@@ -6,6 +6,7 @@ use Rattle.std.proofs.lemmas.Bool.{and_parts, and_from, not-true, false≢true, 
 use Rattle.cc_lists.specs.Members.{Among, has}
 use Rattle.cc_lists.proofs.Members.{has-among, has-there, Among-map, Among-map_cases, Among-left, Among-right}
 use Rattle.cc_lists.proofs.Counting.{counted_is}
+use Rattle.cc_lists.proofs.Tests.{second-passes, premise-holds}
 use Rattle.cc_names.specs.declared.name.Name.{Name}
 use Rattle.cc_names.specs.declared.name.Name.TheVariants as name
 use Rattle.cc_names.specs.Names.{native, same_name, is_native, is_script}
@@ -14,10 +15,11 @@ use Rattle.cc_model.specs.Entries.{Entry}
 use Rattle.cc_model.specs.View.{View, between, scripts_there}
 use Rattle.cc_model.specs.Snapshot.{Snapshot, Node, Mapping, untraversed, gone, traversed, node_names}
 use Rattle.cc_model.specs.Units.{members_of}
-use Rattle.cc_model.specs.Fresh.{node, IsNode, IsTraversedNode, IsOutside, IsLiving, IsScriptThere, MemberOf, IsMappingOf, MemberIsNode, HasNodes, done_first, IsFresh}
+use Rattle.cc_model.specs.Fresh.{node, IsNode, IsTraversedNode, IsOutside, IsLiving, IsScriptThere, MemberOf, IsMappingOf, HasNodes, done_first, IsFresh}
+use Rattle.cc_model.proofs.MemberNodes.{member-node}
 use Rattle.cc_worked.specs.HeapTests.{all_among, is_made, is_black_to_gray, is_native_or_black, has_no_black_to_gray}
 use Rattle.cc_worked.specs.SnapshotTests.{is_traversed, is_gone, is_sampled_as, is_noted_as_held, native_is_fresh, same_reference, is_noted, edge_is_fresh, is_member_of, is_mapping_of, entry_is_fresh, notes_nothing, is_dead_native, was_made_or_there, node_is_fresh, reference_is_fresh, mapping_is_fresh, has_all_nodes, is_fresh}
-use Rattle.cc_worked.proofs.Passing.{second-passes, premise-holds, list_all-each, list_any-some, list_any-none, all_among-each, has-absent, absent-has}
+use Rattle.cc_worked.proofs.Passing.{list_all-each, list_any-some, list_any-none, all_among-each, has-absent, absent-has}
 
 -- a reference by its ends
 abbrev pair : Name → Name → Name × Name
@@ -50,11 +52,6 @@ is_mapping_of-true v e m h =
       the_map = is_member_of-true v m.the_map e.the_map l.0;
       key = is_member_of-true v m.key e.key l.1;
     }
-
--- A member whose names are all nodes is a node, where it is there.
-member-node : (s : Snapshot) (member : Option Name) → ((x : Name) → Among x (option_to_list member) → IsNode s x) → MemberIsNode s member
-member-node s None f = tt
-member-node s (Some x) f = f x (inl refl)
 
 -- The members of a mapping are nodes where all its names are.
 mapping-nodes : (s : Snapshot) (m : Mapping) → ((x : Name) → Among x (members_of m) → IsNode s x) → HasNodes s m

@@ -1,5 +1,5 @@
--- What tests that pass say: of two tests, and of the members of lists.
-use Rattle.std.proofs.Common.{◌≡◌, Bool, true, false, not, ◌||◌, List, [], ◌∷◌, refl, sym, ◌∙◌, subst, inl, inr, ⊎_elim}
+-- What tests that pass say of the members of lists.
+use Rattle.std.proofs.Common.{◌≡◌, Bool, true, false, List, [], ◌∷◌, refl, sym, ◌∙◌, subst, inl, inr, ⊎_elim}
 use Rattle.std.specs.List.{list_all, list_any}
 use Rattle.std.proofs.lemmas.Bool.{and_parts, or_cases, or_parts, false≢true, true≢false, cases_Bool}
 use Rattle.cc_lists.specs.Members.{Among, has}
@@ -8,16 +8,6 @@ use Rattle.cc_names.specs.declared.name.Name.{Name}
 use Rattle.cc_names.specs.Names.{same_name}
 use Rattle.cc_names.proofs.NameTests.{same_name-exact}
 use Rattle.cc_worked.specs.HeapTests.{all_among}
-
--- Where one of two tests passes and the first does not, the second does.
-pub second-passes : (a b : Bool) → (a || b) ≡ true → a ≡ false → b ≡ true
-second-passes true b h e = absurd (true≢false e)
-second-passes false b h e = h
-
--- Where a test passes only under a premise that holds, it passes.
-pub premise-holds : (a b : Bool) → (not a || b) ≡ true → a ≡ true → b ≡ true
-premise-holds true b h e = h
-premise-holds false b h e = absurd (false≢true e)
 
 -- What passes for all members of a list passes for each.
 pub list_all-each : {X : Type 0} (p : X → Bool) (xs : List X) → list_all p xs ≡ true → (x : X) → Among x xs → p x ≡ true

@@ -4,13 +4,14 @@ use Rattle.std.proofs.lemmas.Bool.{and_parts, or_cases, not-true, not_from_true,
 use Rattle.cc_lists.specs.Members.{Among, has}
 use Rattle.cc_lists.specs.Least.{system}
 use Rattle.cc_lists.proofs.Closure.{closure-decides}
+use Rattle.cc_lists.proofs.Tests.{second-passes}
 use Rattle.cc_names.specs.declared.name.Name.{Name}
 use Rattle.cc_names.specs.Names.{native, same_name}
 use Rattle.cc_names.proofs.NameTests.{same_name-exact}
 use Rattle.cc_model.specs.View.{View, ReachedIn, reached_in, view_rules}
 use Rattle.cc_model.specs.Suspected.{unreached_scripts, is_unreached, IsCovered, IsFromCandidate, IsSuspected}
 use Rattle.cc_worked.specs.SnapshotTests.{covered_names, names_from_candidates, is_looked_after, is_suspected}
-use Rattle.cc_worked.proofs.Passing.{list_all-each, second-passes, absent-has}
+use Rattle.cc_worked.proofs.Passing.{list_all-each, absent-has}
 
 -- A name for which the test of being unreached says no is reached.
 unreached-false : (v : View) (x : Name) → is_unreached v x ≡ false → ReachedIn v x

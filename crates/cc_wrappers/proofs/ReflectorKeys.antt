@@ -83,17 +83,7 @@ module _ (owned : List ℕ) (v : Keyed) (o : IsInOrder owned v) where
 
   -- Reflectors of natives
 
-  -- A native has a reflector by name where it has the key of one,
-  pub has_reflector-key : (k : ℕ) → has_reflector v.heap k ≡ is_some (reflector_key v.scripts k)
-  has_reflector-key k = ap (λ os. is_some (find (λ (s : HeapScript). same_name s.name (reflector k)) os)) o.named
-      ∙ (ap is_some (find-map (λ (s : HeapScript). same_name s.name (reflector k)) (named_object v.scripts) v.scripts)
-      ∙ go (find (λ (q : Object). same_name q.name (reflector k)) v.scripts))
-    where
-      go : (f : Option Object) → is_some (option_map (named_object v.scripts) f) ≡ is_some (option_map (λ (q : Object). q.key) f)
-      go None = refl
-      go (Some q) = refl
-
-  -- and at that key it stands.
+  -- at the key of a native's reflector it stands
   pub reflector-at : (k r : ℕ) → reflector_key v.scripts k ≡ Some r → name_at v.scripts r ≡ Some (reflector k)
   reflector-at k r e = go (find (λ (q : Object). same_name q.name (reflector k)) v.scripts) refl e
     where

@@ -37,7 +37,8 @@ use Rattle.cc_heaps.specs.Changes.{IsNativeThere, KeepsKeys, native_name}
 use Rattle.cc_heaps.specs.Standing.{IsReached, MayHold, StandsAfter}
 use Rattle.cc_heaps.proofs.ReflectingMade.{wrapped_by, wrapped-stands, exposed-reached, made-reached}
 use Rattle.cc_heaps.proofs.ReflectingPreserved.{preserved-reached}
-use Rattle.cc_wrappers.proofs.ReflectorKeys.{object-at, name-held, black-at, has_reflector-key, reflector-at, reflector_at-number}
+use Rattle.cc_heaps.proofs.HasReflector.{has_reflector-named}
+use Rattle.cc_wrappers.proofs.ReflectorKeys.{object-at, name-held, black-at, reflector-at, reflector_at-number}
 
 -- A native's reflector, by the key that the counted heap has
 
@@ -52,10 +53,10 @@ module _ (v : Keyed) (o : IsInOrder [] v) (key : ℕ) (live : IsSome (number_at 
 
   -- and where it has none, there is none.
   pub reflector-none : reflector_at (counts_of v) key ≡ None → has_reflector v.heap number ≡ false
-  reflector-none e = has_reflector-key [] v o number ∙ ap is_some (sym (reflector_at-number v key live) ∙ e)
+  reflector-none e = has_reflector-named v o.named number ∙ ap is_some (sym (reflector_at-number v key live) ∙ e)
 
   pub reflector-has : (r : ℕ) → reflector_at (counts_of v) key ≡ Some r → has_reflector v.heap number ≡ true
-  reflector-has r e = has_reflector-key [] v o number ∙ ap is_some (sym (reflector_at-number v key live) ∙ e)
+  reflector-has r e = has_reflector-named v o.named number ∙ ap is_some (sym (reflector_at-number v key live) ∙ e)
 
 -- what is handed in is reached still, where all that was reached is
 still-reached : (h g : Heap) (x : Option Name) → ((y : Name) → ReachedIn (view h) y → ReachedIn (view g) y) → IsReached h x → IsReached g x
