@@ -121,8 +121,8 @@ def entry_chain_backwards(size):
 
 
 def live_chain_in_slices(size):
-    """The same, a unit at a time with a command between: a begin, a unit for each suspect, and the end. What is divided
-    by the objects is the time of one unit and that command."""
+    """The live chain, a unit at a time with a command between: a begin, a unit for each suspect, and the end. What is
+    divided by the objects is the time of one unit and that command."""
     build, _ = chain(size)
     return Shape(build, ["slice 1", "copy n254 n255"] * (size + 2), 0, 0)
 

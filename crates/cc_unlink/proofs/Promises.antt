@@ -10,13 +10,13 @@ use Rattle.cc_model.specs.End.{take_away}
 use Rattle.cc_laws_heap.proofs.Coloured.{AreColoured-from_view, HasColourInvariant-from}
 use Rattle.cc_laws_heap.proofs.EndsStand.{take_away-stands}
 use Rattle.cc_laws_heap.proofs.NativesKeepScripts.{SameScripts-coloured}
-use Rattle.cc_laws_heap.proofs.ReachedAlike.{reached-in}
+use Rattle.cc_laws_heap.proofs.ReachedAlike.{reached-in, reached-there}
 use Rattle.cc_laws_heap.proofs.TakingAway.{take_away-sound, take_away-takes}
 use Rattle.cc_laws_snapshot.proofs.EndSuspected.{end-suspected}
 use Rattle.cc_graph.specs.Shown.{Shown}
 use Rattle.cc_heaps.specs.Keyed.{Keyed, IsInOrder, left_with}
 use Rattle.cc_heaps.specs.Standing.{StillStands, KeepsColours}
-use Rattle.cc_unlink.specs.Whites.{whites_of, AreUnreached, AreWhiteIn}
+use Rattle.cc_unlink.specs.Whites.{whites_of, AreUnreached, AreWhiteIn, KeepsReached}
 use Rattle.cc_unlink.proofs.Passing.{whites_of-there}
 
 module _ (g : Shown) (v w : Keyed) (order : IsInOrder [] v) (e : w ≡ left_with v (take_away (whites_of g v.heap) v.heap).heap) where
@@ -28,6 +28,20 @@ module _ (g : Shown) (v w : Keyed) (order : IsInOrder [] v) (e : w ≡ left_with
   ended-stands unreached = subst (λ (u : Keyed). StillStands v.heap u.heap) (sym e)
       (λ h m t. take_away-stands v.heap h (whites_of g v.heap) order.sound there m t
       (λ k i r. unreached k i (reached-in v.heap h order.sound.well_formed m t (native k) r)))
+
+  -- and what is reached stays, with its slots and its flag:
+  pub ended-reached : AreUnreached v.heap (whites_of g v.heap) → KeepsReached v.heap w.heap
+  ended-reached unreached h x m t r =
+      let before = t.reached x r in
+      let stands = ended-stands unreached h m t in
+      let left = stands.reached x r in (
+        reached-there w.heap h x stands r,
+        left.there ∙ (sym left.made ∙ (before.made ∙ sym before.there)),
+      )
+
+  -- no script object is changed.
+  pub ended-objects : w.heap.scripts ≡ v.heap.scripts
+  ended-objects = ap (λ (u : Keyed). u.heap.scripts) e ∙ (take_away-takes v.heap (whites_of g v.heap) order.sound there).1.scripts
 
   -- The colours stay.
   pub ended-colours : KeepsColours v.heap w.heap

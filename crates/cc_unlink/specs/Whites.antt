@@ -1,7 +1,13 @@
 -- THE WHITE NATIVES, by rising number.
 use Rattle.std.specs.Prelude.{◌≡◌, ℕ, Bool, false, not, List, map, filter, Option, Some, None}
+use Rattle.cc_names.specs.declared.name.Name.{Name}
 use Rattle.cc_names.specs.Names.{native}
 use Rattle.cc_lists.specs.Members.{Among}
+use Rattle.cc_model.specs.Graph.{Graph}
+use Rattle.cc_model.specs.WellMade.{IsWellMade}
+use Rattle.cc_model.specs.Reached.{Reached}
+use Rattle.cc_model.specs.WellFormed.{names_there}
+use Rattle.cc_model.specs.StandsFor.{StandsFor, shape_at}
 use Rattle.cc_model.specs.Heap.{Heap, HeapNative}
 use Rattle.cc_model.specs.View.{view, ReachedIn}
 use Rattle.cc_model.specs.Snapshot.{Snapshot, white_natives}
@@ -33,6 +39,11 @@ whites_above g h at = filter (is_above at) (whites_of g h)
 -- no register reaches any of these natives
 abbrev pub AreUnreached : Heap → List ℕ → Type 0
 AreUnreached h ks = (k : ℕ) → Among k ks → ¬ (ReachedIn (view h) (native k))
+
+-- what a graph's registers reach is there, with the slots and the flag that it had
+abbrev pub KeepsReached : Heap → Heap → Type 0
+KeepsReached old new = (g : Graph) (x : Name) → IsWellMade g → StandsFor old g → Reached g x →
+    Among x (names_there new) × (shape_at new x ≡ shape_at old x)
 
 -- the white natives of a graph are those of a snapshot, which is fresh and traversed
 pub record AreWhiteIn (g : Shown) (h : Heap) (s : Snapshot) : Type 0 where

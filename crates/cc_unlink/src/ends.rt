@@ -8,7 +8,7 @@ ghost use Rattle.cc_model.specs.Suspected.{IsSuspected};
 ghost use Rattle.cc_model.specs.End.{root_each, unlink_each, unroot_each, take_away};
 ghost use Rattle.cc_counted.specs.Counts as counts;
 ghost use Rattle.cc_heaps.specs.Keyed.{IsInOrder, number_at, changed_to, left_with};
-ghost use Rattle.cc_unlink.specs.Whites.{AreUnreached, AreWhiteIn, whites_of, is_white_number, whites_above};
+ghost use Rattle.cc_unlink.specs.Whites.{AreUnreached, AreWhiteIn, KeepsReached, whites_of, is_white_number, whites_above};
 ghost use Rattle.cc_heaps.specs.Changes.{KeepsKeys};
 ghost use Rattle.cc_heaps.specs.Few.{AreFew};
 ghost use Rattle.cc_heaps.specs.Standing.{StillStands, KeepsColours};
@@ -113,14 +113,17 @@ fn unroot_whites<N: Notices>(graph: &Graph, heaps: &mut Heaps, out: &mut N)
 /// THE END OF A COLLECTION: all white natives are rooted, then unlinked, then unrooted, so that none of them is deleted
 /// before all of them are unlinked. It takes no memory.
 ///
-/// Where no register reaches any of them the heaps go on standing for the same graphs. Where they are the white natives of
-/// a snapshot that is fresh and traversed, no native that nothing reaches is forgotten.
+/// Where no register reaches any of them the heaps go on standing for the same graphs, and what is reached stays, with its
+/// slots and its flag. Script objects stay in any case, with their slots and colours. Where they are the white natives of a
+/// snapshot that is fresh and traversed, no native that nothing reaches is forgotten.
 pub fn collect_white<N: Notices>(graph: Graph, heaps: &mut Heaps, out: &mut N)
     requires order { IsInOrder [] heaps.old }
     ensures heap { heaps.new ≡ left_with heaps.old (take_away (whites_of graph heaps.old.heap) heaps.old.heap).heap }
     ensures told { TellsEvents (N.telling out.old) (N.telling out.new) (take_away (whites_of graph heaps.old.heap) heaps.old.heap).events }
     ensures order { IsInOrder [] heaps.new }
     ensures stands { AreUnreached heaps.old.heap (whites_of graph heaps.old.heap) → StillStands heaps.old.heap heaps.new.heap }
+    ensures reached { AreUnreached heaps.old.heap (whites_of graph heaps.old.heap) → KeepsReached heaps.old.heap heaps.new.heap }
+    ensures objects { heaps.new.heap.scripts ≡ heaps.old.heap.scripts }
     ensures suspected { (s : Snapshot) → AreWhiteIn graph heaps.old.heap s → IsSuspected (view heaps.old.heap) s.candidates → IsSuspected (view heaps.new.heap) [] }
     ensures colours { KeepsColours heaps.old.heap heaps.new.heap }
     ensures keys { KeepsKeys heaps.old heaps.new }

@@ -3,13 +3,73 @@
 use Rattle.std.specs.Prelude.{◌≡◌, true, codes, refl}
 use Rattle.cc_model.specs.Forms.{version_one_forms}
 use Rattle.cc_model.specs.Run.{plain_text}
-use Rattle.cc_worked.specs.Examples.{limits, default_limits, ample, refused_at, IsLawfulRun, IsQuietRun}
+use Rattle.cc_worked.specs.Examples.{limits, default_limits, ample, IsLawfulRun, IsQuietRun}
 use Rattle.cc_worked.specs.Inputs as input
 use Rattle.cc_worked.specs.Verdict.{passes_verdict}
 use Rattle.cc_worked.specs.Audit.{passes_audit}
 use Rattle.cc_worked.proofs.Opened.{all_of_a_run}
 use Rattle.cc_worked.proofs.LawfulTest.{run-lawful}
 use Rattle.cc_worked.proofs.QuietTest.{run-quiet}
+
+-- An empty register is told before a wrong kind and a missing slot, a wrong kind before a missing slot, and this before what a slot holds.
+pub refusals_in_their_order : plain_text version_one_forms default_limits ample input.refusals_in_their_order
+    ≡ codes "= @1\n= @2\n= #1\n! empty\n! empty\n! empty\n! empty\n! kind\n= ok\n! slot\n"
+unfolding all_of_a_run
+refusals_in_their_order = refl
+
+refusals_in_their_order-passes : passes_verdict default_limits ample input.refusals_in_their_order ≡ true
+unfolding all_of_a_run
+refusals_in_their_order-passes = refl
+
+pub refusals_in_their_order-lawful : IsLawfulRun default_limits ample input.refusals_in_their_order
+refusals_in_their_order-lawful = run-lawful default_limits ample input.refusals_in_their_order refusals_in_their_order-passes
+
+pub refusals_in_their_order-quiet : IsQuietRun default_limits ample input.refusals_in_their_order
+refusals_in_their_order-quiet = run-quiet default_limits ample input.refusals_in_their_order refusals_in_their_order-passes
+
+pub refusals_in_their_order-audited : passes_audit default_limits ample input.refusals_in_their_order ≡ true
+unfolding all_of_a_run
+refusals_in_their_order-audited = refl
+
+-- What is refused, and what becomes of blank lines, comments, long lines and carriage returns.
+pub refusals_and_odd_lines : plain_text version_one_forms default_limits ample input.refusals_and_odd_lines
+    ≡ codes "= #1\n= #2\n= ok\n! kind\n! slot\n! slot\n! empty\n! kind\n= @1\n= @2\n! kind\n! slot\n! empty\n! kind\n! line\n! line\n! long\n+ #1\n+ #2\n+ @1\n+ @2\n= census 4\n"
+unfolding all_of_a_run
+refusals_and_odd_lines = refl
+
+refusals_and_odd_lines-passes : passes_verdict default_limits ample input.refusals_and_odd_lines ≡ true
+unfolding all_of_a_run
+refusals_and_odd_lines-passes = refl
+
+pub refusals_and_odd_lines-lawful : IsLawfulRun default_limits ample input.refusals_and_odd_lines
+refusals_and_odd_lines-lawful = run-lawful default_limits ample input.refusals_and_odd_lines refusals_and_odd_lines-passes
+
+pub refusals_and_odd_lines-quiet : IsQuietRun default_limits ample input.refusals_and_odd_lines
+refusals_and_odd_lines-quiet = run-quiet default_limits ample input.refusals_and_odd_lines refusals_and_odd_lines-passes
+
+pub refusals_and_odd_lines-audited : passes_audit default_limits ample input.refusals_and_odd_lines ≡ true
+unfolding all_of_a_run
+refusals_and_odd_lines-audited = refl
+
+-- The greatest numbers of slots, indexes, registers and units are taken, and greater ones are not in the grammar.
+pub numbers_at_their_bounds : plain_text version_one_forms default_limits ample input.numbers_at_their_bounds
+    ≡ codes "= #1\n= ok\n! slot\n! slot\n! line\n! line\n! line\n! line\n= #2\n! line\n= none\n= ok\n= ok\n! line\n"
+unfolding all_of_a_run
+numbers_at_their_bounds = refl
+
+numbers_at_their_bounds-passes : passes_verdict default_limits ample input.numbers_at_their_bounds ≡ true
+unfolding all_of_a_run
+numbers_at_their_bounds-passes = refl
+
+pub numbers_at_their_bounds-lawful : IsLawfulRun default_limits ample input.numbers_at_their_bounds
+numbers_at_their_bounds-lawful = run-lawful default_limits ample input.numbers_at_their_bounds numbers_at_their_bounds-passes
+
+pub numbers_at_their_bounds-quiet : IsQuietRun default_limits ample input.numbers_at_their_bounds
+numbers_at_their_bounds-quiet = run-quiet default_limits ample input.numbers_at_their_bounds numbers_at_their_bounds-passes
+
+pub numbers_at_their_bounds-audited : passes_audit default_limits ample input.numbers_at_their_bounds ≡ true
+unfolding all_of_a_run
+numbers_at_their_bounds-audited = refl
 
 -- One unit and a million are taken, and neither none nor more are in the grammar.
 pub units_at_their_bounds : plain_text version_one_forms default_limits ample input.units_at_their_bounds
@@ -110,63 +170,3 @@ limit_counts_freed_script_objects-quiet = run-quiet (limits 1000000 1 4294967295
 pub limit_counts_freed_script_objects-audited : passes_audit (limits 1000000 1 4294967295) ample input.limit_counts_freed_script_objects ≡ true
 unfolding all_of_a_run
 limit_counts_freed_script_objects-audited = refl
-
--- Plain script objects and weak maps are counted together, up to the limit itself.
-pub limit_counts_weak_maps : plain_text version_one_forms (limits 1000000 2 4294967295) ample input.limit_counts_weak_maps
-    ≡ codes "= @1\n= @2\n! full\n! full\n"
-unfolding all_of_a_run
-limit_counts_weak_maps = refl
-
-limit_counts_weak_maps-passes : passes_verdict (limits 1000000 2 4294967295) ample input.limit_counts_weak_maps ≡ true
-unfolding all_of_a_run
-limit_counts_weak_maps-passes = refl
-
-pub limit_counts_weak_maps-lawful : IsLawfulRun (limits 1000000 2 4294967295) ample input.limit_counts_weak_maps
-limit_counts_weak_maps-lawful = run-lawful (limits 1000000 2 4294967295) ample input.limit_counts_weak_maps limit_counts_weak_maps-passes
-
-pub limit_counts_weak_maps-quiet : IsQuietRun (limits 1000000 2 4294967295) ample input.limit_counts_weak_maps
-limit_counts_weak_maps-quiet = run-quiet (limits 1000000 2 4294967295) ample input.limit_counts_weak_maps limit_counts_weak_maps-passes
-
-pub limit_counts_weak_maps-audited : passes_audit (limits 1000000 2 4294967295) ample input.limit_counts_weak_maps ≡ true
-unfolding all_of_a_run
-limit_counts_weak_maps-audited = refl
-
--- A command that is refused for a limit wants no memory.
-pub full_comes_before_want_of_memory : plain_text version_one_forms (limits 1 1000000 4294967295) (refused_at 2) input.full_comes_before_want_of_memory
-    ≡ codes "= #1\n! full\n! nomem\n"
-unfolding all_of_a_run
-full_comes_before_want_of_memory = refl
-
-full_comes_before_want_of_memory-passes : passes_verdict (limits 1 1000000 4294967295) (refused_at 2) input.full_comes_before_want_of_memory ≡ true
-unfolding all_of_a_run
-full_comes_before_want_of_memory-passes = refl
-
-pub full_comes_before_want_of_memory-lawful : IsLawfulRun (limits 1 1000000 4294967295) (refused_at 2) input.full_comes_before_want_of_memory
-full_comes_before_want_of_memory-lawful = run-lawful (limits 1 1000000 4294967295) (refused_at 2) input.full_comes_before_want_of_memory full_comes_before_want_of_memory-passes
-
-pub full_comes_before_want_of_memory-quiet : IsQuietRun (limits 1 1000000 4294967295) (refused_at 2) input.full_comes_before_want_of_memory
-full_comes_before_want_of_memory-quiet = run-quiet (limits 1 1000000 4294967295) (refused_at 2) input.full_comes_before_want_of_memory full_comes_before_want_of_memory-passes
-
-pub full_comes_before_want_of_memory-audited : passes_audit (limits 1 1000000 4294967295) (refused_at 2) input.full_comes_before_want_of_memory ≡ true
-unfolding all_of_a_run
-full_comes_before_want_of_memory-audited = refl
-
--- An input of as many bytes as may be read is read whole.
-pub input_of_exactly_the_bytes_allowed : plain_text version_one_forms (limits 1000000 1000000 12) ample input.input_of_exactly_the_bytes_allowed
-    ≡ codes "= #1\n"
-unfolding all_of_a_run
-input_of_exactly_the_bytes_allowed = refl
-
-input_of_exactly_the_bytes_allowed-passes : passes_verdict (limits 1000000 1000000 12) ample input.input_of_exactly_the_bytes_allowed ≡ true
-unfolding all_of_a_run
-input_of_exactly_the_bytes_allowed-passes = refl
-
-pub input_of_exactly_the_bytes_allowed-lawful : IsLawfulRun (limits 1000000 1000000 12) ample input.input_of_exactly_the_bytes_allowed
-input_of_exactly_the_bytes_allowed-lawful = run-lawful (limits 1000000 1000000 12) ample input.input_of_exactly_the_bytes_allowed input_of_exactly_the_bytes_allowed-passes
-
-pub input_of_exactly_the_bytes_allowed-quiet : IsQuietRun (limits 1000000 1000000 12) ample input.input_of_exactly_the_bytes_allowed
-input_of_exactly_the_bytes_allowed-quiet = run-quiet (limits 1000000 1000000 12) ample input.input_of_exactly_the_bytes_allowed input_of_exactly_the_bytes_allowed-passes
-
-pub input_of_exactly_the_bytes_allowed-audited : passes_audit (limits 1000000 1000000 12) ample input.input_of_exactly_the_bytes_allowed ≡ true
-unfolding all_of_a_run
-input_of_exactly_the_bytes_allowed-audited = refl

@@ -111,6 +111,26 @@ pub map_is_its_own_key-audited : passes_audit default_limits ample input.map_is_
 unfolding all_of_a_run
 map_is_its_own_key-audited = refl
 
+-- An entry does not keep its map, also where that is its value.
+pub map_is_a_value_of_its_own : plain_text version_one_forms default_limits ample input.map_is_a_value_of_its_own
+    ≡ codes "= @1\n= @2\n= ok\n= @1\n= ok\n= ok\n- free @1\n= ok\n+ @2\n= census 1\n"
+unfolding all_of_a_run
+map_is_a_value_of_its_own = refl
+
+map_is_a_value_of_its_own-passes : passes_verdict default_limits ample input.map_is_a_value_of_its_own ≡ true
+unfolding all_of_a_run
+map_is_a_value_of_its_own-passes = refl
+
+pub map_is_a_value_of_its_own-lawful : IsLawfulRun default_limits ample input.map_is_a_value_of_its_own
+map_is_a_value_of_its_own-lawful = run-lawful default_limits ample input.map_is_a_value_of_its_own map_is_a_value_of_its_own-passes
+
+pub map_is_a_value_of_its_own-quiet : IsQuietRun default_limits ample input.map_is_a_value_of_its_own
+map_is_a_value_of_its_own-quiet = run-quiet default_limits ample input.map_is_a_value_of_its_own map_is_a_value_of_its_own-passes
+
+pub map_is_a_value_of_its_own-audited : passes_audit default_limits ample input.map_is_a_value_of_its_own ≡ true
+unfolding all_of_a_run
+map_is_a_value_of_its_own-audited = refl
+
 -- The value of two entries lives by the one whose key lives, and goes when that key goes too.
 pub two_entries_have_one_value : plain_text version_one_forms default_limits ample input.two_entries_have_one_value
     ≡ codes "= @1\n= @2\n= @3\n= @4\n= ok\n= ok\n= ok\n= ok\n- free @2\n= ok\n= @4\n= ok\n= ok\n- free @3\n- free @4\n= ok\n"
@@ -150,23 +170,3 @@ value_is_its_own_key-quiet = run-quiet default_limits ample input.value_is_its_o
 pub value_is_its_own_key-audited : passes_audit default_limits ample input.value_is_its_own_key ≡ true
 unfolding all_of_a_run
 value_is_its_own_key-audited = refl
-
--- A collection with two nodes takes a unit to begin, one for each node, and one to end.
-pub two_cycle_takes_four_units : plain_text version_one_forms default_limits ample input.two_cycle_takes_four_units
-    ≡ codes "= #1\n= #2\n= ok\n= ok\n= ok\n= ok\n= ok\n= ok\n= ok\n- unlink #1\n- unlink #2\n- free #1\n- free #2\n= ok\n"
-unfolding all_of_a_run
-two_cycle_takes_four_units = refl
-
-two_cycle_takes_four_units-passes : passes_verdict default_limits ample input.two_cycle_takes_four_units ≡ true
-unfolding all_of_a_run
-two_cycle_takes_four_units-passes = refl
-
-pub two_cycle_takes_four_units-lawful : IsLawfulRun default_limits ample input.two_cycle_takes_four_units
-two_cycle_takes_four_units-lawful = run-lawful default_limits ample input.two_cycle_takes_four_units two_cycle_takes_four_units-passes
-
-pub two_cycle_takes_four_units-quiet : IsQuietRun default_limits ample input.two_cycle_takes_four_units
-two_cycle_takes_four_units-quiet = run-quiet default_limits ample input.two_cycle_takes_four_units two_cycle_takes_four_units-passes
-
-pub two_cycle_takes_four_units-audited : passes_audit default_limits ample input.two_cycle_takes_four_units ≡ true
-unfolding all_of_a_run
-two_cycle_takes_four_units-audited = refl

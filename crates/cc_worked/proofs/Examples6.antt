@@ -11,6 +11,26 @@ use Rattle.cc_worked.proofs.Opened.{all_of_a_run}
 use Rattle.cc_worked.proofs.LawfulTest.{run-lawful}
 use Rattle.cc_worked.proofs.QuietTest.{run-quiet}
 
+-- A collection with two nodes takes a unit to begin, one for each node, and one to end.
+pub two_cycle_takes_four_units : plain_text version_one_forms default_limits ample input.two_cycle_takes_four_units
+    ≡ codes "= #1\n= #2\n= ok\n= ok\n= ok\n= ok\n= ok\n= ok\n= ok\n- unlink #1\n- unlink #2\n- free #1\n- free #2\n= ok\n"
+unfolding all_of_a_run
+two_cycle_takes_four_units = refl
+
+two_cycle_takes_four_units-passes : passes_verdict default_limits ample input.two_cycle_takes_four_units ≡ true
+unfolding all_of_a_run
+two_cycle_takes_four_units-passes = refl
+
+pub two_cycle_takes_four_units-lawful : IsLawfulRun default_limits ample input.two_cycle_takes_four_units
+two_cycle_takes_four_units-lawful = run-lawful default_limits ample input.two_cycle_takes_four_units two_cycle_takes_four_units-passes
+
+pub two_cycle_takes_four_units-quiet : IsQuietRun default_limits ample input.two_cycle_takes_four_units
+two_cycle_takes_four_units-quiet = run-quiet default_limits ample input.two_cycle_takes_four_units two_cycle_takes_four_units-passes
+
+pub two_cycle_takes_four_units-audited : passes_audit default_limits ample input.two_cycle_takes_four_units ≡ true
+unfolding all_of_a_run
+two_cycle_takes_four_units-audited = refl
+
 -- A native that stands in the buffer without the purple mark is no node, so a collection that begins with it alone takes two units.
 pub only_purple_natives_are_candidates : plain_text version_one_forms default_limits ample input.only_purple_natives_are_candidates
     ≡ codes "= #1\n= ok\n= #2\n= ok\n= ok\n- unlink #2\n- free #2\n= ok\n"
@@ -150,23 +170,3 @@ replaced_entry_keeps_its_place-quiet = run-quiet default_limits ample input.repl
 pub replaced_entry_keeps_its_place-audited : passes_audit default_limits ample input.replaced_entry_keeps_its_place ≡ true
 unfolding all_of_a_run
 replaced_entry_keeps_its_place-audited = refl
-
--- An entry that was taken out and set again goes last, so its members are looked at after those of an entry that was set in between.
-pub entry_set_again_goes_last : plain_text version_one_forms default_limits ample input.entry_set_again_goes_last
-    ≡ codes "= #1\n= @1\n= @2\n= @3\n= @4\n= ok\n= ok\n= ok\n= ok\n= ok\n= ok\n= ok\n= ok\n= ok\n= ok\n= #2\n= ok\n= ok\n= ok\n= ok\n= @3\n= ok\n- unlink #2\n- free #2\n= ok\n"
-unfolding all_of_a_run
-entry_set_again_goes_last = refl
-
-entry_set_again_goes_last-passes : passes_verdict default_limits ample input.entry_set_again_goes_last ≡ true
-unfolding all_of_a_run
-entry_set_again_goes_last-passes = refl
-
-pub entry_set_again_goes_last-lawful : IsLawfulRun default_limits ample input.entry_set_again_goes_last
-entry_set_again_goes_last-lawful = run-lawful default_limits ample input.entry_set_again_goes_last entry_set_again_goes_last-passes
-
-pub entry_set_again_goes_last-quiet : IsQuietRun default_limits ample input.entry_set_again_goes_last
-entry_set_again_goes_last-quiet = run-quiet default_limits ample input.entry_set_again_goes_last entry_set_again_goes_last-passes
-
-pub entry_set_again_goes_last-audited : passes_audit default_limits ample input.entry_set_again_goes_last ≡ true
-unfolding all_of_a_run
-entry_set_again_goes_last-audited = refl

@@ -11,6 +11,26 @@ use Rattle.cc_worked.proofs.Opened.{all_of_a_run}
 use Rattle.cc_worked.proofs.LawfulTest.{run-lawful}
 use Rattle.cc_worked.proofs.QuietTest.{run-quiet}
 
+-- An entry that was taken out and set again goes last, so its members are looked at after those of an entry that was set in between.
+pub entry_set_again_goes_last : plain_text version_one_forms default_limits ample input.entry_set_again_goes_last
+    ≡ codes "= #1\n= @1\n= @2\n= @3\n= @4\n= ok\n= ok\n= ok\n= ok\n= ok\n= ok\n= ok\n= ok\n= ok\n= ok\n= #2\n= ok\n= ok\n= ok\n= ok\n= @3\n= ok\n- unlink #2\n- free #2\n= ok\n"
+unfolding all_of_a_run
+entry_set_again_goes_last = refl
+
+entry_set_again_goes_last-passes : passes_verdict default_limits ample input.entry_set_again_goes_last ≡ true
+unfolding all_of_a_run
+entry_set_again_goes_last-passes = refl
+
+pub entry_set_again_goes_last-lawful : IsLawfulRun default_limits ample input.entry_set_again_goes_last
+entry_set_again_goes_last-lawful = run-lawful default_limits ample input.entry_set_again_goes_last entry_set_again_goes_last-passes
+
+pub entry_set_again_goes_last-quiet : IsQuietRun default_limits ample input.entry_set_again_goes_last
+entry_set_again_goes_last-quiet = run-quiet default_limits ample input.entry_set_again_goes_last entry_set_again_goes_last-passes
+
+pub entry_set_again_goes_last-audited : passes_audit default_limits ample input.entry_set_again_goes_last ≡ true
+unfolding all_of_a_run
+entry_set_again_goes_last-audited = refl
+
 -- Collect ends the collection that runs and begins another, which takes what became garbage in between.
 pub collect_begins_one_of_its_own : plain_text version_one_forms default_limits ample input.collect_begins_one_of_its_own
     ≡ codes "= #1\n= ok\n= ok\n= ok\n- unlink #1\n- free #1\n= ok\n"
@@ -131,42 +151,22 @@ pub copied_after_its_node_was_traversed-audited : passes_audit default_limits am
 unfolding all_of_a_run
 copied_after_its_node_was_traversed-audited = refl
 
--- Unlinking one white native may free the one that comes next in the walk.
-pub native_vanishes_inside_an_unlink : plain_text version_one_forms default_limits ample input.native_vanishes_inside_an_unlink
-    ≡ codes "= #1\n= #2\n= ok\n= ok\n= ok\n= ok\n= ok\n- unlink #1\n- free #2\n- free #1\n= ok\n"
+-- A native that was looked at and is freed before the end counts as it was sampled: it was held, so this collection keeps what it led to.
+pub freed_after_its_node_was_traversed : plain_text version_one_forms default_limits ample input.freed_after_its_node_was_traversed
+    ≡ codes "= #1\n= ~1\n= #2\n= ok\n= ok\n= ok\n= ok\n= ok\n- free #2\n= ok\n= ok\n- free ~1\n- free #1\n= ok\n= census 0\n"
 unfolding all_of_a_run
-native_vanishes_inside_an_unlink = refl
+freed_after_its_node_was_traversed = refl
 
-native_vanishes_inside_an_unlink-passes : passes_verdict default_limits ample input.native_vanishes_inside_an_unlink ≡ true
+freed_after_its_node_was_traversed-passes : passes_verdict default_limits ample input.freed_after_its_node_was_traversed ≡ true
 unfolding all_of_a_run
-native_vanishes_inside_an_unlink-passes = refl
+freed_after_its_node_was_traversed-passes = refl
 
-pub native_vanishes_inside_an_unlink-lawful : IsLawfulRun default_limits ample input.native_vanishes_inside_an_unlink
-native_vanishes_inside_an_unlink-lawful = run-lawful default_limits ample input.native_vanishes_inside_an_unlink native_vanishes_inside_an_unlink-passes
+pub freed_after_its_node_was_traversed-lawful : IsLawfulRun default_limits ample input.freed_after_its_node_was_traversed
+freed_after_its_node_was_traversed-lawful = run-lawful default_limits ample input.freed_after_its_node_was_traversed freed_after_its_node_was_traversed-passes
 
-pub native_vanishes_inside_an_unlink-quiet : IsQuietRun default_limits ample input.native_vanishes_inside_an_unlink
-native_vanishes_inside_an_unlink-quiet = run-quiet default_limits ample input.native_vanishes_inside_an_unlink native_vanishes_inside_an_unlink-passes
+pub freed_after_its_node_was_traversed-quiet : IsQuietRun default_limits ample input.freed_after_its_node_was_traversed
+freed_after_its_node_was_traversed-quiet = run-quiet default_limits ample input.freed_after_its_node_was_traversed freed_after_its_node_was_traversed-passes
 
-pub native_vanishes_inside_an_unlink-audited : passes_audit default_limits ample input.native_vanishes_inside_an_unlink ≡ true
+pub freed_after_its_node_was_traversed-audited : passes_audit default_limits ample input.freed_after_its_node_was_traversed ≡ true
 unfolding all_of_a_run
-native_vanishes_inside_an_unlink-audited = refl
-
--- A native made while a collection runs is kept, and the cycle that the collection began with is taken.
-pub native_made_between_slices : plain_text version_one_forms default_limits ample input.native_made_between_slices
-    ≡ codes "= #1\n= ~1\n= ok\n= ok\n= ok\n= ok\n= ok\n= #2\n- unlink #1\n= ok\n- free ~1\n- free #1\n= ok\n+ #2\n= census 1\n"
-unfolding all_of_a_run
-native_made_between_slices = refl
-
-native_made_between_slices-passes : passes_verdict default_limits ample input.native_made_between_slices ≡ true
-unfolding all_of_a_run
-native_made_between_slices-passes = refl
-
-pub native_made_between_slices-lawful : IsLawfulRun default_limits ample input.native_made_between_slices
-native_made_between_slices-lawful = run-lawful default_limits ample input.native_made_between_slices native_made_between_slices-passes
-
-pub native_made_between_slices-quiet : IsQuietRun default_limits ample input.native_made_between_slices
-native_made_between_slices-quiet = run-quiet default_limits ample input.native_made_between_slices native_made_between_slices-passes
-
-pub native_made_between_slices-audited : passes_audit default_limits ample input.native_made_between_slices ≡ true
-unfolding all_of_a_run
-native_made_between_slices-audited = refl
+freed_after_its_node_was_traversed-audited = refl

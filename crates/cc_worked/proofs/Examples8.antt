@@ -11,6 +11,46 @@ use Rattle.cc_worked.proofs.Opened.{all_of_a_run}
 use Rattle.cc_worked.proofs.LawfulTest.{run-lawful}
 use Rattle.cc_worked.proofs.QuietTest.{run-quiet}
 
+-- Unlinking one white native may free the one that comes next in the walk.
+pub native_vanishes_inside_an_unlink : plain_text version_one_forms default_limits ample input.native_vanishes_inside_an_unlink
+    ≡ codes "= #1\n= #2\n= ok\n= ok\n= ok\n= ok\n= ok\n- unlink #1\n- free #2\n- free #1\n= ok\n"
+unfolding all_of_a_run
+native_vanishes_inside_an_unlink = refl
+
+native_vanishes_inside_an_unlink-passes : passes_verdict default_limits ample input.native_vanishes_inside_an_unlink ≡ true
+unfolding all_of_a_run
+native_vanishes_inside_an_unlink-passes = refl
+
+pub native_vanishes_inside_an_unlink-lawful : IsLawfulRun default_limits ample input.native_vanishes_inside_an_unlink
+native_vanishes_inside_an_unlink-lawful = run-lawful default_limits ample input.native_vanishes_inside_an_unlink native_vanishes_inside_an_unlink-passes
+
+pub native_vanishes_inside_an_unlink-quiet : IsQuietRun default_limits ample input.native_vanishes_inside_an_unlink
+native_vanishes_inside_an_unlink-quiet = run-quiet default_limits ample input.native_vanishes_inside_an_unlink native_vanishes_inside_an_unlink-passes
+
+pub native_vanishes_inside_an_unlink-audited : passes_audit default_limits ample input.native_vanishes_inside_an_unlink ≡ true
+unfolding all_of_a_run
+native_vanishes_inside_an_unlink-audited = refl
+
+-- A native made while a collection runs is kept, and the cycle that the collection began with is taken.
+pub native_made_between_slices : plain_text version_one_forms default_limits ample input.native_made_between_slices
+    ≡ codes "= #1\n= ~1\n= ok\n= ok\n= ok\n= ok\n= ok\n= #2\n- unlink #1\n= ok\n- free ~1\n- free #1\n= ok\n+ #2\n= census 1\n"
+unfolding all_of_a_run
+native_made_between_slices = refl
+
+native_made_between_slices-passes : passes_verdict default_limits ample input.native_made_between_slices ≡ true
+unfolding all_of_a_run
+native_made_between_slices-passes = refl
+
+pub native_made_between_slices-lawful : IsLawfulRun default_limits ample input.native_made_between_slices
+native_made_between_slices-lawful = run-lawful default_limits ample input.native_made_between_slices native_made_between_slices-passes
+
+pub native_made_between_slices-quiet : IsQuietRun default_limits ample input.native_made_between_slices
+native_made_between_slices-quiet = run-quiet default_limits ample input.native_made_between_slices native_made_between_slices-passes
+
+pub native_made_between_slices-audited : passes_audit default_limits ample input.native_made_between_slices ≡ true
+unfolding all_of_a_run
+native_made_between_slices-audited = refl
+
 -- Gc brings a collection that runs to its end before it marks.
 pub gc_ends_a_running_collection : plain_text version_one_forms default_limits ample input.gc_ends_a_running_collection
     ≡ codes "= #1\n= ok\n= ok\n= ok\n- unlink #1\n- free #1\n= ok\n"
@@ -130,43 +170,3 @@ collect_refused_in_its_own-quiet = run-quiet default_limits (refused_at 5) input
 pub collect_refused_in_its_own-audited : passes_audit default_limits (refused_at 5) input.collect_refused_in_its_own ≡ true
 unfolding all_of_a_run
 collect_refused_in_its_own-audited = refl
-
--- Gc abandons a collection that is refused memory, says so first, and sweeps all the same.
-pub gc_goes_on_where_the_running_one_is_refused : plain_text version_one_forms default_limits (refused_at 4) input.gc_goes_on_where_the_running_one_is_refused
-    ≡ codes "= #1\n= ok\n= ok\n= @1\n= ok\n= ok\n- abandon\n- free @1\n= ok\n- unlink #1\n- free #1\n= ok\n"
-unfolding all_of_a_run
-gc_goes_on_where_the_running_one_is_refused = refl
-
-gc_goes_on_where_the_running_one_is_refused-passes : passes_verdict default_limits (refused_at 4) input.gc_goes_on_where_the_running_one_is_refused ≡ true
-unfolding all_of_a_run
-gc_goes_on_where_the_running_one_is_refused-passes = refl
-
-pub gc_goes_on_where_the_running_one_is_refused-lawful : IsLawfulRun default_limits (refused_at 4) input.gc_goes_on_where_the_running_one_is_refused
-gc_goes_on_where_the_running_one_is_refused-lawful = run-lawful default_limits (refused_at 4) input.gc_goes_on_where_the_running_one_is_refused gc_goes_on_where_the_running_one_is_refused-passes
-
-pub gc_goes_on_where_the_running_one_is_refused-quiet : IsQuietRun default_limits (refused_at 4) input.gc_goes_on_where_the_running_one_is_refused
-gc_goes_on_where_the_running_one_is_refused-quiet = run-quiet default_limits (refused_at 4) input.gc_goes_on_where_the_running_one_is_refused gc_goes_on_where_the_running_one_is_refused-passes
-
-pub gc_goes_on_where_the_running_one_is_refused-audited : passes_audit default_limits (refused_at 4) input.gc_goes_on_where_the_running_one_is_refused ≡ true
-unfolding all_of_a_run
-gc_goes_on_where_the_running_one_is_refused-audited = refl
-
--- A weak map is not made where memory is refused, and the next one gets the number.
-pub weak_map_takes_memory : plain_text version_one_forms default_limits (refused_at 1) input.weak_map_takes_memory
-    ≡ codes "! nomem\n= census 0\n= @1\n"
-unfolding all_of_a_run
-weak_map_takes_memory = refl
-
-weak_map_takes_memory-passes : passes_verdict default_limits (refused_at 1) input.weak_map_takes_memory ≡ true
-unfolding all_of_a_run
-weak_map_takes_memory-passes = refl
-
-pub weak_map_takes_memory-lawful : IsLawfulRun default_limits (refused_at 1) input.weak_map_takes_memory
-weak_map_takes_memory-lawful = run-lawful default_limits (refused_at 1) input.weak_map_takes_memory weak_map_takes_memory-passes
-
-pub weak_map_takes_memory-quiet : IsQuietRun default_limits (refused_at 1) input.weak_map_takes_memory
-weak_map_takes_memory-quiet = run-quiet default_limits (refused_at 1) input.weak_map_takes_memory weak_map_takes_memory-passes
-
-pub weak_map_takes_memory-audited : passes_audit default_limits (refused_at 1) input.weak_map_takes_memory ≡ true
-unfolding all_of_a_run
-weak_map_takes_memory-audited = refl

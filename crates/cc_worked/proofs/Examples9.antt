@@ -11,6 +11,66 @@ use Rattle.cc_worked.proofs.Opened.{all_of_a_run}
 use Rattle.cc_worked.proofs.LawfulTest.{run-lawful}
 use Rattle.cc_worked.proofs.QuietTest.{run-quiet}
 
+-- Gc abandons a collection that is refused memory, says so first, and sweeps all the same.
+pub gc_goes_on_where_the_running_one_is_refused : plain_text version_one_forms default_limits (refused_at 4) input.gc_goes_on_where_the_running_one_is_refused
+    ≡ codes "= #1\n= ok\n= ok\n= @1\n= ok\n= ok\n- abandon\n- free @1\n= ok\n- unlink #1\n- free #1\n= ok\n"
+unfolding all_of_a_run
+gc_goes_on_where_the_running_one_is_refused = refl
+
+gc_goes_on_where_the_running_one_is_refused-passes : passes_verdict default_limits (refused_at 4) input.gc_goes_on_where_the_running_one_is_refused ≡ true
+unfolding all_of_a_run
+gc_goes_on_where_the_running_one_is_refused-passes = refl
+
+pub gc_goes_on_where_the_running_one_is_refused-lawful : IsLawfulRun default_limits (refused_at 4) input.gc_goes_on_where_the_running_one_is_refused
+gc_goes_on_where_the_running_one_is_refused-lawful = run-lawful default_limits (refused_at 4) input.gc_goes_on_where_the_running_one_is_refused gc_goes_on_where_the_running_one_is_refused-passes
+
+pub gc_goes_on_where_the_running_one_is_refused-quiet : IsQuietRun default_limits (refused_at 4) input.gc_goes_on_where_the_running_one_is_refused
+gc_goes_on_where_the_running_one_is_refused-quiet = run-quiet default_limits (refused_at 4) input.gc_goes_on_where_the_running_one_is_refused gc_goes_on_where_the_running_one_is_refused-passes
+
+pub gc_goes_on_where_the_running_one_is_refused-audited : passes_audit default_limits (refused_at 4) input.gc_goes_on_where_the_running_one_is_refused ≡ true
+unfolding all_of_a_run
+gc_goes_on_where_the_running_one_is_refused-audited = refl
+
+-- A weak map is not made where memory is refused, and the next one gets the number.
+pub weak_map_takes_memory : plain_text version_one_forms default_limits (refused_at 1) input.weak_map_takes_memory
+    ≡ codes "! nomem\n= census 0\n= @1\n"
+unfolding all_of_a_run
+weak_map_takes_memory = refl
+
+weak_map_takes_memory-passes : passes_verdict default_limits (refused_at 1) input.weak_map_takes_memory ≡ true
+unfolding all_of_a_run
+weak_map_takes_memory-passes = refl
+
+pub weak_map_takes_memory-lawful : IsLawfulRun default_limits (refused_at 1) input.weak_map_takes_memory
+weak_map_takes_memory-lawful = run-lawful default_limits (refused_at 1) input.weak_map_takes_memory weak_map_takes_memory-passes
+
+pub weak_map_takes_memory-quiet : IsQuietRun default_limits (refused_at 1) input.weak_map_takes_memory
+weak_map_takes_memory-quiet = run-quiet default_limits (refused_at 1) input.weak_map_takes_memory weak_map_takes_memory-passes
+
+pub weak_map_takes_memory-audited : passes_audit default_limits (refused_at 1) input.weak_map_takes_memory ≡ true
+unfolding all_of_a_run
+weak_map_takes_memory-audited = refl
+
+-- A new entry that is refused memory is not there, and its key is not preserved: a blank reflector is swept, though its native lives.
+pub refused_entry_preserves_nothing : plain_text version_one_forms default_limits (refused_at 5) input.refused_entry_preserves_nothing
+    ≡ codes "= #1\n= ~1\n= @1\n= @2\n! nomem\n= none\n= ok\n- free ~1\n= ok\n= ~1\n= none\n= ok\n= @2\n= ok\n= ok\n= ~1\n= @2\n"
+unfolding all_of_a_run
+refused_entry_preserves_nothing = refl
+
+refused_entry_preserves_nothing-passes : passes_verdict default_limits (refused_at 5) input.refused_entry_preserves_nothing ≡ true
+unfolding all_of_a_run
+refused_entry_preserves_nothing-passes = refl
+
+pub refused_entry_preserves_nothing-lawful : IsLawfulRun default_limits (refused_at 5) input.refused_entry_preserves_nothing
+refused_entry_preserves_nothing-lawful = run-lawful default_limits (refused_at 5) input.refused_entry_preserves_nothing refused_entry_preserves_nothing-passes
+
+pub refused_entry_preserves_nothing-quiet : IsQuietRun default_limits (refused_at 5) input.refused_entry_preserves_nothing
+refused_entry_preserves_nothing-quiet = run-quiet default_limits (refused_at 5) input.refused_entry_preserves_nothing refused_entry_preserves_nothing-passes
+
+pub refused_entry_preserves_nothing-audited : passes_audit default_limits (refused_at 5) input.refused_entry_preserves_nothing ≡ true
+unfolding all_of_a_run
+refused_entry_preserves_nothing-audited = refl
+
 -- Each of five commands takes memory once, and what changes no more than contents takes none.
 pub what_takes_memory : plain_text version_one_forms default_limits (refused_at 6) input.what_takes_memory
     ≡ codes "= #1\n= @1\n= @2\n= ~1\n= ok\n= ~1\n= ok\n= ok\n= ok\n= #1\n= ok\n! nomem\n"
@@ -110,63 +170,3 @@ wrong_kinds_are_refused-quiet = run-quiet default_limits ample input.wrong_kinds
 pub wrong_kinds_are_refused-audited : passes_audit default_limits ample input.wrong_kinds_are_refused ≡ true
 unfolding all_of_a_run
 wrong_kinds_are_refused-audited = refl
-
--- An empty register is told before a wrong kind and a missing slot, a wrong kind before a missing slot, and this before what a slot holds.
-pub refusals_in_their_order : plain_text version_one_forms default_limits ample input.refusals_in_their_order
-    ≡ codes "= @1\n= @2\n= #1\n! empty\n! empty\n! empty\n! empty\n! kind\n= ok\n! slot\n"
-unfolding all_of_a_run
-refusals_in_their_order = refl
-
-refusals_in_their_order-passes : passes_verdict default_limits ample input.refusals_in_their_order ≡ true
-unfolding all_of_a_run
-refusals_in_their_order-passes = refl
-
-pub refusals_in_their_order-lawful : IsLawfulRun default_limits ample input.refusals_in_their_order
-refusals_in_their_order-lawful = run-lawful default_limits ample input.refusals_in_their_order refusals_in_their_order-passes
-
-pub refusals_in_their_order-quiet : IsQuietRun default_limits ample input.refusals_in_their_order
-refusals_in_their_order-quiet = run-quiet default_limits ample input.refusals_in_their_order refusals_in_their_order-passes
-
-pub refusals_in_their_order-audited : passes_audit default_limits ample input.refusals_in_their_order ≡ true
-unfolding all_of_a_run
-refusals_in_their_order-audited = refl
-
--- What is refused, and what becomes of blank lines, comments, long lines and carriage returns.
-pub refusals_and_odd_lines : plain_text version_one_forms default_limits ample input.refusals_and_odd_lines
-    ≡ codes "= #1\n= #2\n= ok\n! kind\n! slot\n! slot\n! empty\n! kind\n= @1\n= @2\n! kind\n! slot\n! empty\n! kind\n! line\n! line\n! long\n+ #1\n+ #2\n+ @1\n+ @2\n= census 4\n"
-unfolding all_of_a_run
-refusals_and_odd_lines = refl
-
-refusals_and_odd_lines-passes : passes_verdict default_limits ample input.refusals_and_odd_lines ≡ true
-unfolding all_of_a_run
-refusals_and_odd_lines-passes = refl
-
-pub refusals_and_odd_lines-lawful : IsLawfulRun default_limits ample input.refusals_and_odd_lines
-refusals_and_odd_lines-lawful = run-lawful default_limits ample input.refusals_and_odd_lines refusals_and_odd_lines-passes
-
-pub refusals_and_odd_lines-quiet : IsQuietRun default_limits ample input.refusals_and_odd_lines
-refusals_and_odd_lines-quiet = run-quiet default_limits ample input.refusals_and_odd_lines refusals_and_odd_lines-passes
-
-pub refusals_and_odd_lines-audited : passes_audit default_limits ample input.refusals_and_odd_lines ≡ true
-unfolding all_of_a_run
-refusals_and_odd_lines-audited = refl
-
--- The greatest numbers of slots, indexes and registers are taken, and greater ones are not in the grammar.
-pub numbers_at_their_bounds : plain_text version_one_forms default_limits ample input.numbers_at_their_bounds
-    ≡ codes "= #1\n= ok\n! slot\n! slot\n! line\n! line\n! line\n! line\n= #2\n! line\n= none\n= ok\n"
-unfolding all_of_a_run
-numbers_at_their_bounds = refl
-
-numbers_at_their_bounds-passes : passes_verdict default_limits ample input.numbers_at_their_bounds ≡ true
-unfolding all_of_a_run
-numbers_at_their_bounds-passes = refl
-
-pub numbers_at_their_bounds-lawful : IsLawfulRun default_limits ample input.numbers_at_their_bounds
-numbers_at_their_bounds-lawful = run-lawful default_limits ample input.numbers_at_their_bounds numbers_at_their_bounds-passes
-
-pub numbers_at_their_bounds-quiet : IsQuietRun default_limits ample input.numbers_at_their_bounds
-numbers_at_their_bounds-quiet = run-quiet default_limits ample input.numbers_at_their_bounds numbers_at_their_bounds-passes
-
-pub numbers_at_their_bounds-audited : passes_audit default_limits ample input.numbers_at_their_bounds ≡ true
-unfolding all_of_a_run
-numbers_at_their_bounds-audited = refl

@@ -150,6 +150,10 @@ entry_goes_with_its_map = codes "weakmap s0\nscript s1 0\nscript s2 0\nwset s0 s
 abbrev pub map_is_its_own_key : List ℕ
 map_is_its_own_key = codes "weakmap s0\nscript s1 0\nwset s0 s0 s1\ndrop s1\ngc\nwget s1 s0 s0\ndrop s1\ndrop s0\ngc\n"
 
+-- An entry does not keep its map, also where that is its value.
+abbrev pub map_is_a_value_of_its_own : List ℕ
+map_is_a_value_of_its_own = codes "weakmap s0\nscript s1 0\nwset s0 s1 s0\nwget s2 s0 s1\ndrop s2\ndrop s0\ngc\ncensus\n"
+
 -- The value of two entries lives by the one whose key lives, and goes when that key goes too.
 abbrev pub two_entries_have_one_value : List ℕ
 two_entries_have_one_value = codes "weakmap s0\nscript s1 0\nscript s2 0\nscript s3 0\nwset s0 s1 s3\nwset s0 s2 s3\ndrop s3\ndrop s1\ngc\nwget s3 s0 s2\ndrop s3\ndrop s2\ngc\n"
@@ -218,6 +222,10 @@ native_lives_by_an_exposed_reflector = codes "native n0 1\nnative n1 0\nnative n
 abbrev pub copied_after_its_node_was_traversed : List ℕ
 copied_after_its_node_was_traversed = codes "native n0 1\nset n0 0 n0\ncopy n1 n0\ndrop n1\nslice 2\ncopy n2 n0\nslice 5\ndrop n0\ndrop n2\ncollect\n"
 
+-- A native that was looked at and is freed before the end counts as it was sampled: it was held, so this collection keeps what it led to.
+abbrev pub freed_after_its_node_was_traversed : List ℕ
+freed_after_its_node_was_traversed = codes "native n0 0\nwrap s0 n0\nnative n1 1\nset n1 0 s0\ndrop s0\ndrop n0\ngc\nslice 3\ndrop n1\nslice 2\ngc\ncensus\n"
+
 -- Unlinking one white native may free the one that comes next in the walk.
 abbrev pub native_vanishes_inside_an_unlink : List ℕ
 native_vanishes_inside_an_unlink = codes "native n0 2\nnative n1 0\nset n0 0 n0\nset n0 1 n1\ndrop n0\nslice 1\ndrop n1\nslice 10\n"
@@ -258,6 +266,10 @@ gc_goes_on_where_the_running_one_is_refused = codes "native n0 1\nset n0 0 n0\nd
 abbrev pub weak_map_takes_memory : List ℕ
 weak_map_takes_memory = codes "weakmap s0\ncensus\nweakmap s0\n"
 
+-- A new entry that is refused memory is not there, and its key is not preserved: a blank reflector is swept, though its native lives.
+abbrev pub refused_entry_preserves_nothing : List ℕ
+refused_entry_preserves_nothing = codes "native n0 0\nwrap s1 n0\nweakmap s0\nscript s2 0\nwset s0 s1 s2\nwget s3 s0 s1\ndrop s1\ngc\nwrap s1 n0\nwget s3 s0 s1\nwset s0 s1 s2\nwget s3 s0 s1\ndrop s1\ngc\nwrap s1 n0\nwget s3 s0 s1\n"
+
 -- Each of five commands takes memory once, and what changes no more than contents takes none.
 abbrev pub what_takes_memory : List ℕ
 what_takes_memory = codes "native n0 0\nscript s0 0\nweakmap s1\nwrap s2 n0\nwset s1 s2 s0\nwrap s3 n0\nwset s1 s2 s2\nput s2 0 s0\nwset s1 s2 none\ncopy n1 n0\ngc\nnative n1 0\n"
@@ -286,9 +298,9 @@ refusals_in_their_order = codes "weakmap s0\nscript s1 1\nnative n0 1\nput s0 0 
 abbrev pub refusals_and_odd_lines : List ℕ
 refusals_and_odd_lines = codes "native n0 1\nnative n1 0\nset n0 0 n1\nget s0 n0 0\nget s0 n0 7\nset n0 9 none\nset n0 9 n8\nexpose n0 0\nweakmap s0\nscript s1 0\nput s0 9 s1\nput s1 0 s0\nunwrap n0 s9\nunwrap n0 s1\nslice 0\ncollect now\n\n% note\n" ++ replicate 121 97 ++ codes "\ncensus" ++ replicate 1 13 ++ codes "\n"
 
--- The greatest numbers of slots, indexes and registers are taken, and greater ones are not in the grammar.
+-- The greatest numbers of slots, indexes, registers and units are taken, and greater ones are not in the grammar.
 abbrev pub numbers_at_their_bounds : List ℕ
-numbers_at_their_bounds = codes "native n0 64\nset n0 63 n0\nset n0 64 n0\nset n0 4294967295 n0\nset n0 4294967296 n0\nnative n0 65\nnative n0 01\nnative n256 0\nnative n255 0\ncopy n1 s0\ncopy n1 n7\ndrop n7\n"
+numbers_at_their_bounds = codes "native n0 64\nset n0 63 n0\nset n0 64 n0\nset n0 4294967295 n0\nset n0 4294967296 n0\nnative n0 65\nnative n0 01\nnative n256 0\nnative n255 0\ncopy n1 s0\ncopy n1 n7\ndrop n7\nslice 1000000\nslice 1000001\n"
 
 -- One unit and a million are taken, and neither none nor more are in the grammar.
 abbrev pub units_at_their_bounds : List ℕ

@@ -2,7 +2,7 @@ use Rattle.std.proofs.Common.{◌≡◌}
 use Rattle.cc_model.specs.End.{take_away}
 use Rattle.cc_heaps.specs.Keyed.{left_with}
 use Rattle.cc_heaps.proofs.KeysKept.{KeepsKeys-left}
-use Rattle.cc_unlink.proofs.Promises.{ended-stands, ended-suspected, ended-colours}
+use Rattle.cc_unlink.proofs.Promises.{ended-stands, ended-reached, ended-objects, ended-suspected, ended-colours}
 use Rattle.cc_heaps.proofs.FewCounts.{few-alone}
 use Rattle.cc_unlink.specs.Whites.{whites_of}
 use Rattle.cc_unlink.proofs.WhiteEnd.{WhiteEnd-heap, WhiteEnd-told}
@@ -33,6 +33,12 @@ returns-clause-told g c =
 
 pub returns-clause-stands : goal.returns-clause-stands
 returns-clause-stands g c = ended-stands c.args.graph c.args.heaps.now c.unroot_whites.new.heaps c.requires.order (ended g c)
+
+pub returns-clause-reached : goal.returns-clause-reached
+returns-clause-reached g c = ended-reached c.args.graph c.args.heaps.now c.unroot_whites.new.heaps c.requires.order (ended g c)
+
+pub returns-clause-objects : goal.returns-clause-objects
+returns-clause-objects g c = ended-objects c.args.graph c.args.heaps.now c.unroot_whites.new.heaps c.requires.order (ended g c)
 
 pub returns-clause-suspected : goal.returns-clause-suspected
 returns-clause-suspected g c = ended-suspected c.args.graph c.args.heaps.now c.unroot_whites.new.heaps c.requires.order (ended g c)
