@@ -13,8 +13,8 @@ use Rattle.cc_model.specs.View.{view, buffered}
 use Rattle.cc_model.specs.WellFormed.{native_names}
 use Rattle.cc_model.specs.Snapshot.{Snapshot}
 use Rattle.cc_model.specs.Units.{begun, candidates_of, with_empty_buffer, first_untraversed, to_note, after_node}
-use Rattle.cc_model.specs.End.{Progress, went_on, at_end, refused, UnitDone, give_back, heap_given_back, abandoned, node_or_end, granted, unit}
-use Rattle.cc_model.specs.Collecting.{Machine, UnitsDone, no_units, next_answer, one_unit, units_done, enough_units, to_the_end, finish_running, slice, starting_anew, unless_stopped, collect}
+use Rattle.cc_model.specs.End.{Progress, went_on, at_end, refused, UnitDone, give_back, heap_given_back, node_or_end, granted, unit}
+use Rattle.cc_model.specs.Collecting.{Machine, UnitsDone, no_units, next_answer, one_unit, units_done, enough_units, to_the_end, finish_running, slice, starting_anew, collect}
 use Rattle.cc_laws_heap.proofs.Kept.{with_buffer}
 use Rattle.cc_laws_snapshot.proofs.GivingBack.{given_back, given_back-purple, give_back-buffer}
 use Rattle.cc_laws_run.specs.Doomed.{candidates_now}

@@ -1,7 +1,7 @@
 -- ASKS IN A ROW, from a machine that runs and from the empty one: it runs on and forgets nothing, and a collection after `gc` misses nothing.
 use Rattle.std.specs.Prelude.{IsTrue}
 use Rattle.std.specs.List.{list_all}
-use Rattle.std.proofs.Common.{◌≡◌, ◌≢◌, ℕ, Bool, true, List, [], ◌∷◌, ◌++◌, refl, sym, ◌∙◌, subst}
+use Rattle.std.proofs.Common.{◌≡◌, ◌≢◌, Bool, true, List, [], ◌∷◌, ◌++◌, refl, sym, ◌∙◌, subst}
 use Rattle.std.proofs.lemmas.Bool.{false≢true, and_parts}
 use Rattle.cc_lists.specs.Members.{Among}
 use Rattle.cc_lists.proofs.Members.{Among-right}
@@ -16,7 +16,7 @@ use Rattle.cc_model.specs.Lawful.{State, start, next}
 use Rattle.cc_model.specs.Collecting.{Machine, empty_machine, gc}
 use Rattle.cc_model.specs.Run.{Turn, do_ask, turns, machine_after, plain_run}
 use Rattle.cc_laws_run.specs.Running.{IsRunning, ask_in_range, state_after}
-use Rattle.cc_laws_run.specs.Doomed.{IsDoomedNow, IsSuspectedNow, KeepsReflectors, garbage}
+use Rattle.cc_laws_run.specs.Doomed.{IsDoomedNow, IsSuspectedNow, KeepsReflectors}
 use Rattle.cc_laws_run.specs.Followed.{first_collection}
 use Rattle.cc_laws_run.specs.Missing.{asks_nothing, begins_one, after_asks, AreTold, BeginsAfterGc, MissesNone, MissesNothing, lost}
 use Rattle.cc_laws_run.specs.Spent.{IsSpent}
@@ -145,7 +145,7 @@ module _ (limits : Allowance) (memory : List Bool) (before blanks : List Ask) (a
   told-later es t = (
     t.0,
     subst (Among t.0) (sym (turns-append (empty_machine limits memory) (before ++ taken Gc ∷ blanks) (ask ∷ asks)))
-    (Among-right t.0 (plain_run limits memory (before ++ taken Gc ∷ blanks)) (turns start_of (ask ∷ asks)) t.1),
+        (Among-right t.0 (plain_run limits memory (before ++ taken Gc ∷ blanks)) (turns start_of (ask ∷ asks)) t.1),
     t.2,
     t.3,
   )

@@ -32,9 +32,7 @@ mod units;
 
 pub use collections::collections_are_lawful;
 pub use doomed::commands_keep_doomed;
-pub use memory::{
-    memory_decides_nothing_else, refused_collections_are_given_up, runs_compose,
-};
+pub use memory::{memory_decides_nothing_else, refused_collections_are_given_up, runs_compose};
 pub use misses::collections_after_gc_miss_nothing;
 pub use plain_run::{asks_keep_suspected, plain_run_is_lawful};
 pub use premises::{freshness_can_be_met, suspicion_can_be_met};
