@@ -4,6 +4,7 @@ pub mod Spared
 pub mod EndSpares
 pub mod UnitsSpare
 pub mod Coming
+pub mod GivingUp
 pub mod Settling
 pub mod NothingLeft
 pub mod NoneBack

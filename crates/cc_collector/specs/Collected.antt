@@ -12,7 +12,8 @@ use Rattle.cc_model.specs.Reached.{Reached}
 use Rattle.cc_model.specs.StandsFor.{StandsFor}
 use Rattle.cc_model.specs.Heap.{Heap}
 use Rattle.cc_model.specs.End.{Progress, went_on, at_end, refused}
-use Rattle.cc_model.specs.Collecting.{Machine, UnitsDone, no_units, one_unit, slice, collect, gc}
+use Rattle.cc_model.specs.Collecting.{Machine, UnitsDone, no_units, one_unit, finish_running, slice, collect, gc}
+use Rattle.cc_laws_run.specs.GivenUp.{IsGivenUp}
 use Rattle.cc_laws_run.specs.Memory.{SameMachine, with_memory}
 use Rattle.cc_gc.specs.Sparing.{SparesWhatIsReached}
 use Rattle.cc_collector.specs.declared.collector.Ended.{Ended}
@@ -63,6 +64,14 @@ pub record IsSliced (units : ℕ) (old new : Machine) (progress : Progress) (ste
 pub record IsCollected (old new : Machine) (progress : Progress) (before after : Telling) : Type 0 where
   pub memory : List Bool
   pub led : LedTo (collect (with_memory old memory)) old new progress before after
+
+-- what the collection left that was begun where the running one had ended, or where none ran, and that was given up
+abbrev pub IsLaterGivenUp : UnitsDone → Heap → Type 0
+IsLaterGivenUp ended h = (¬ (ended.progress ≡ refused)) × IsGivenUp ended.machine.heap ended.machine.snapshot h
+
+-- A COLLECTION GIVEN UP left these heaps: the one that ran, or that later one, for some answers of memory
+abbrev pub IsCollectGivenUp : Machine → Heap → Type 0
+IsCollectGivenUp old h = IsGivenUp old.heap old.snapshot h ⊎ ((memory : List Bool) × IsLaterGivenUp (finish_running (with_memory old memory)) h)
 
 -- `gc`, which ended a running collection first, whatever that came to
 pub record IsSwept (old new : Machine) (before after : Telling) : Type 0 where

@@ -4,6 +4,7 @@ ghost use Rattle.cc_model.specs.Snapshot.{white_natives};
 ghost use Rattle.cc_model.specs.End.{at_end, refused};
 ghost use Rattle.cc_model.specs.Sweep.{collect_scripts as collected};
 ghost use Rattle.cc_laws_run.specs.Doomed.{IsSuspectedNow};
+ghost use Rattle.cc_laws_run.specs.GivenUp.{IsGivenUp};
 ghost use Rattle.cc_graph.specs.Held.{AreHeld};
 ghost use Rattle.cc_heaps.specs.Keyed.{IsInOrder};
 ghost use Rattle.cc_heaps.specs.HasKey.{HasKey};
@@ -14,8 +15,8 @@ ghost use Rattle.cc_builder.specs.Building.{IsBuilt, snapshot_of};
 ghost use Rattle.cc_unlink.specs.Whites.{whites_of};
 ghost use Rattle.cc_gc.specs.Sparing.{KeepsWhatIsReached};
 ghost use Rattle.cc_collector.specs.Settled.{HasWhatIsReached, IsSettled, IsUnsettled};
-ghost use Rattle.cc_collector.specs.Kept.{RunsIn, machine_of};
-ghost use Rattle.cc_collector.specs.Collected.{IsSliced, IsCollected, IsSwept, TellsWhatLeaves, progress_of};
+ghost use Rattle.cc_collector.specs.Kept.{RunsIn, machine_of, running_snapshot};
+ghost use Rattle.cc_collector.specs.Collected.{IsSliced, IsCollected, IsCollectGivenUp, IsSwept, TellsWhatLeaves, progress_of};
 ghost use Rattle.cc_collector.specs.Units.{HasDoneUnit, HasDoneAll, HasFinished};
 
 use crate::steps::Steps;
@@ -91,7 +92,7 @@ impl Collector {
     /// it, whatever came between the units: the heaps go on standing for the same graphs.
     ///
     /// `NoMemory`, where a unit wanted memory that was not there: the collection is abandoned, which is told, and its
-    /// suspects are suspects again. That unit is not counted.
+    /// suspects are suspects again; nothing else changes (`given_up`). That unit is not counted.
     pub fn slice<N: Notices, L: Ledger>(
         &mut self,
         heaps: &mut Heaps,
@@ -102,6 +103,7 @@ impl Collector {
         requires runs { RunsIn heaps.old self.old }
         ensures sliced { IsSliced units (machine_of heaps.old.heap self.old) (machine_of heaps.new.heap self.new) (progress_of result)
             steps.old steps.new (N.telling out.old) (N.telling out.new) }
+        ensures given_up { OnErr result (IsGivenUp heaps.old.heap (running_snapshot self.old) heaps.new.heap) }
         ensures over { result ≢ Ok Ended.No → self.new ≡ None }
         ensures keeps { KeepsWhatIsReached heaps.old.heap heaps.new.heap }
         ensures tells { TellsWhatLeaves heaps.old.heap heaps.new.heap (N.telling out.old) (N.telling out.new) }
@@ -129,6 +131,7 @@ impl Collector {
         requires runs { RunsIn heaps.old self.old }
         ensures done { OnOk result (IsCollected (machine_of heaps.old.heap self.old) (machine_of heaps.new.heap self.new) at_end (N.telling out.old) (N.telling out.new)) }
         ensures refused { OnErr result (IsCollected (machine_of heaps.old.heap self.old) (machine_of heaps.new.heap self.new) refused (N.telling out.old) (N.telling out.new)) }
+        ensures given_up { OnErr result (IsCollectGivenUp (machine_of heaps.old.heap self.old) heaps.new.heap) }
         ensures over { self.new ≡ None }
         ensures keeps { KeepsWhatIsReached heaps.old.heap heaps.new.heap }
         ensures tells { TellsWhatLeaves heaps.old.heap heaps.new.heap (N.telling out.old) (N.telling out.new) }

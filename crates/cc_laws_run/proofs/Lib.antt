@@ -18,6 +18,7 @@ pub mod RunsOfNumbers
 pub mod BufferStands
 pub mod UnitLawful
 pub mod HoldingUnits
+pub mod GivingUp
 pub mod UnitsLawful
 pub mod ScriptsLawful
 pub mod CollectionsLawful

@@ -1,14 +1,14 @@
 -- ASKS IN A ROW, from a machine that runs and from the empty one: it runs on and forgets nothing, and a collection after `gc` misses nothing.
 use Rattle.std.specs.Prelude.{IsTrue}
 use Rattle.std.specs.List.{list_all}
-use Rattle.std.proofs.Common.{◌≡◌, ◌≢◌, ℕ, Bool, true, List, [], ◌∷◌, ◌++◌, refl, sym, ◌∙◌, subst}
+use Rattle.std.proofs.Common.{◌≡◌, ◌≢◌, Bool, true, List, [], ◌∷◌, ◌++◌, refl, sym, ◌∙◌, subst}
 use Rattle.std.proofs.lemmas.Bool.{false≢true, and_parts}
 use Rattle.cc_lists.specs.Members.{Among}
+use Rattle.cc_lists.proofs.Members.{Among-right}
 use Rattle.cc_names.specs.Allowance.{Allowance}
 use Rattle.cc_names.specs.declared.name.Name.{Name}
-use Rattle.cc_names.specs.Names.{native}
 use Rattle.cc_model.specs.declared.command.Command.TheVariants.{Nothing, Gc}
-use Rattle.cc_model.specs.declared.item.Event.TheVariants.{Unlinked}
+use Rattle.cc_model.specs.declared.item.Event.{Event}
 use Rattle.cc_model.specs.Asks.{Ask, taken}
 use Rattle.cc_model.specs.WellFormed.{names_there}
 use Rattle.cc_model.specs.End.{at_end, refused}
@@ -16,15 +16,16 @@ use Rattle.cc_model.specs.Lawful.{State, start, next}
 use Rattle.cc_model.specs.Collecting.{Machine, empty_machine, gc}
 use Rattle.cc_model.specs.Run.{Turn, do_ask, turns, machine_after, plain_run}
 use Rattle.cc_laws_run.specs.Running.{IsRunning, ask_in_range, state_after}
-use Rattle.cc_laws_run.specs.Doomed.{IsDoomedNow, IsSuspectedNow, KeepsReflectors, garbage}
+use Rattle.cc_laws_run.specs.Doomed.{IsDoomedNow, IsSuspectedNow, KeepsReflectors}
 use Rattle.cc_laws_run.specs.Followed.{first_collection}
-use Rattle.cc_laws_run.specs.Missing.{asks_nothing, begins_one, BeginsAfterGc, MissesNone, lost}
+use Rattle.cc_laws_run.specs.Missing.{asks_nothing, begins_one, after_asks, AreTold, BeginsAfterGc, MissesNone, MissesNothing, lost}
 use Rattle.cc_laws_run.specs.Spent.{IsSpent}
-use Rattle.cc_laws_run.proofs.InARow.{machine_after-append}
+use Rattle.cc_laws_run.proofs.InARow.{turns-append, machine_after-append}
 use Rattle.cc_laws_run.proofs.RunsOn.{empty-runs}
 use Rattle.cc_laws_run.proofs.PlainLawful.{any-runs}
 use Rattle.cc_laws_run.proofs.PlainQuiet.{empty-suspected}
 use Rattle.cc_laws_run.proofs.AsksSuspected.{ask-suspected}
+use Rattle.cc_laws_run.proofs.FirstCollection.{first_collection-told}
 use Rattle.cc_laws_run.proofs.MissesLost.{native-lost, lost-keeps}
 use Rattle.cc_laws_run.proofs.FollowedAsks.{asks-follow, after_gc-runs, after_gc-follows, begin-runs, followed-misses, followed-spent, followed-gone}
 
@@ -130,23 +131,41 @@ module _ (limits : Allowance) (memory : List Bool) (before blanks : List Ask) (a
   unfolding do_ask
   then_gc = machine_after-append (empty_machine limits memory) before (taken Gc ∷ blanks) ∙ blanks-leave (gc first).machine blanks b.between
 
-  -- A COLLECTION AFTER `gc` MISSES NOTHING in any run.
-  pub run-misses : let m = machine_after (empty_machine limits memory) (before ++ taken Gc ∷ blanks) in MissesNone (lost m.heap) m (ask ∷ asks)
-  run-misses = subst (λ (m : Machine). MissesNone (lost m.heap) m (ask ∷ asks)) (sym then_gc)
+  -- the run from there on
+  abbrev start_of : Machine
+  start_of = after_asks limits memory (before ++ taken Gc ∷ blanks)
+
+  misses : MissesNone (lost start_of.heap) start_of (ask ∷ asks)
+  misses = subst (λ (m : Machine). MissesNone (lost m.heap) m (ask ∷ asks)) (sym then_gc)
       (after_gc-misses first (state_after (start limits) before (plain_run limits memory before)) ask asks
       (run-runs limits memory before b.before_it) (run-suspected limits memory before b.before_it) b.begins b.after_it)
 
-  -- EVERY NATIVE that was unreached is told unlinked.
-  pub run-unlinks : let m = machine_after (empty_machine limits memory) (before ++ taken Gc ∷ blanks) in
-      let c = first_collection m (ask ∷ asks) in
-      c.progress ≡ at_end → (k : ℕ) → Among (native k) (garbage m.heap) → Among (Unlinked (native k)) c.events
-  run-unlinks e k i = run-misses.unlinks e k (native-lost (machine_after (empty_machine limits memory) (before ++ taken Gc ∷ blanks)).heap k i)
+  -- what it tells is told by the answers of the whole run, behind the earlier ones
+  told-later : (es : List Event) → AreTold es (turns start_of (ask ∷ asks)) → AreTold es (plain_run limits memory ((before ++ taken Gc ∷ blanks) ++ ask ∷ asks))
+  told-later es t = (
+    t.0,
+    subst (Among t.0) (sym (turns-append (empty_machine limits memory) (before ++ taken Gc ∷ blanks) (ask ∷ asks)))
+        (Among-right t.0 (plain_run limits memory (before ++ taken Gc ∷ blanks)) (turns start_of (ask ∷ asks)) t.1),
+    t.2,
+    t.3,
+  )
 
-  -- AND GONE after the next `gc`.
-  pub run-gone : let m = machine_after (empty_machine limits memory) (before ++ taken Gc ∷ blanks) in
-      let all = ask ∷ (asks ++ taken Gc ∷ []) in
-      (first_collection m all).progress ≢ refused → (x : Name) → Among x (lost m.heap) → ¬ (Among x (names_there (machine_after m all).heap))
-  run-gone = subst (λ (m : Machine). let all = ask ∷ (asks ++ taken Gc ∷ []) in
+  -- what was lost is gone after the next `gc`
+  lost-gone : let all = ask ∷ (asks ++ taken Gc ∷ []) in
+      (first_collection start_of all).progress ≢ refused → (x : Name) → Among x (lost start_of.heap) → ¬ (Among x (names_there (machine_after start_of all).heap))
+  lost-gone = subst (λ (m : Machine). let all = ask ∷ (asks ++ taken Gc ∷ []) in
       (first_collection m all).progress ≢ refused → (x : Name) → Among x (lost m.heap) → ¬ (Among x (names_there (machine_after m all).heap))) (sym then_gc)
       (after_gc-gone first (state_after (start limits) before (plain_run limits memory before)) ask asks
       (run-runs limits memory before b.before_it) (run-suspected limits memory before b.before_it) b.begins b.after_it)
+
+  -- A COLLECTION AFTER `gc` MISSES NOTHING in any run.
+  pub run-misses_nothing : MissesNothing limits memory (before ++ taken Gc ∷ blanks) (ask ∷ asks)
+  run-misses_nothing = record {
+    unlinked = λ e k i. misses.unlinks e k (native-lost start_of.heap k i);
+    told = λ stopped. told-later (first_collection start_of (ask ∷ asks)).events (first_collection-told start_of (ask ∷ asks) stopped);
+    goes_on = λ e. subst (λ (m : Machine). IsDoomedNow m (lost start_of.heap))
+        (sym (machine_after-append (empty_machine limits memory) (before ++ taken Gc ∷ blanks) (ask ∷ asks))) (misses.goes_on e);
+    abandoned = misses.abandoned;
+    gone = λ u x i. subst (λ (m : Machine). ¬ (Among x (names_there m.heap)))
+        (sym (machine_after-append (empty_machine limits memory) (before ++ taken Gc ∷ blanks) (ask ∷ (asks ++ taken Gc ∷ [])))) (lost-gone u x i);
+  }

@@ -1,5 +1,6 @@
 pub mod Running
 pub mod Memory
+pub mod GivenUp
 pub mod Doomed
 pub mod Followed
 pub mod Missing

@@ -1,20 +1,22 @@
 -- WHAT A COLLECTION AFTER `gc` UNLINKS.
-use Rattle.std.specs.Prelude.{◌≡◌, ◌↔◌, suc, IsTrue, Bool, true, false, List, ◌++◌, filter}
+use Rattle.std.specs.Prelude.{◌≡◌, ◌↔◌, suc, IsTrue, Bool, true, false, List, [], ◌∷◌, ◌++◌, filter}
 use Rattle.std.specs.List.{list_all}
 use Rattle.cc_lists.specs.Members.{Among}
+use Rattle.cc_names.specs.Allowance.{Allowance}
 use Rattle.cc_names.specs.declared.name.Name.{Name}
 use Rattle.cc_names.specs.Names.{native, behind}
-use Rattle.cc_model.specs.declared.command.Command.TheVariants.{Nothing, Slice, Collect}
+use Rattle.cc_model.specs.declared.command.Command.TheVariants.{Nothing, Slice, Collect, Gc}
 use Rattle.cc_model.specs.declared.item.Event.{Event}
 use Rattle.cc_model.specs.declared.item.Event.TheVariants.{Abandoned}
 use Rattle.cc_model.specs.Answers.{Answer}
 use Rattle.cc_model.specs.Asks.{Ask, taken}
 use Rattle.cc_model.specs.Heap.{Heap}
 use Rattle.cc_model.specs.View.{view}
+use Rattle.cc_model.specs.WellFormed.{names_there}
 use Rattle.cc_model.specs.Suspected.{is_unreached}
 use Rattle.cc_model.specs.End.{went_on, at_end, refused}
-use Rattle.cc_model.specs.Collecting.{Machine}
-use Rattle.cc_model.specs.Run.{machine_after}
+use Rattle.cc_model.specs.Collecting.{Machine, UnitsDone, empty_machine}
+use Rattle.cc_model.specs.Run.{machine_after, plain_run}
 use Rattle.cc_laws_run.specs.Running.{ask_in_range}
 use Rattle.cc_laws_run.specs.Doomed.{IsDoomedNow, AreUnlinked, garbage}
 use Rattle.cc_laws_run.specs.Followed.{first_collection}
@@ -53,3 +55,29 @@ pub record MissesNone (ds : List Name) (m : Machine) (asks : List Ask) : Type 0 
 -- an answer begins with these events
 abbrev pub AreTold : List Event → List Answer → Type 0
 AreTold es answers = (a : Answer) × Among a answers × (rest : List Event) × (a.events ≡ es ++ rest)
+
+-- the machine after these asks, from the empty heaps on
+abbrev pub after_asks : Allowance → List Bool → List Ask → Machine
+after_asks limits memory asks = machine_after (empty_machine limits memory) asks
+
+-- the collection that runs after the earlier asks, or that the later ones begin, followed through these
+abbrev pub collection_of : Allowance → List Bool → List Ask → List Ask → UnitsDone
+collection_of limits memory earlier asks = first_collection (after_asks limits memory earlier) asks
+
+-- NOTHING IS MISSED, in the run of the earlier asks and then of these, by the collection that these begin
+pub record MissesNothing (limits : Allowance) (memory : List Bool) (earlier asks : List Ask) : Type 0 where
+  -- where it ended, every native that was unreached when it began is told unlinked
+  pub unlinked : (collection_of limits memory earlier asks).progress ≡ at_end →
+      AreUnlinked (garbage (after_asks limits memory earlier).heap) (collection_of limits memory earlier asks).events
+  -- by an answer of the run
+  pub told : ¬ ((collection_of limits memory earlier asks).progress ≡ went_on) →
+      AreTold (collection_of limits memory earlier asks).events (plain_run limits memory (earlier ++ asks))
+  -- where it goes on, it can't miss them
+  pub goes_on : (collection_of limits memory earlier asks).progress ≡ went_on →
+      IsDoomedNow (after_asks limits memory (earlier ++ asks)) (lost (after_asks limits memory earlier).heap)
+  -- it was refused memory exactly where it has told that it is abandoned
+  pub abandoned : (collection_of limits memory earlier asks).progress ≡ refused ↔ Among Abandoned (collection_of limits memory earlier asks).events
+  -- and after the `gc` that comes next, or that ends it, none of them is in the heaps, unless it was abandoned
+  pub gone : ¬ ((collection_of limits memory earlier (asks ++ taken Gc ∷ [])).progress ≡ refused) →
+      (x : Name) → Among x (lost (after_asks limits memory earlier).heap) →
+      ¬ (Among x (names_there (after_asks limits memory (earlier ++ (asks ++ taken Gc ∷ []))).heap))

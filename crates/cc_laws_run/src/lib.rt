@@ -6,6 +6,8 @@
 //!
 //! - `specs/Running.antt`: a machine that runs beside a graph (`IsRunning`), for almost every law;
 //! - `specs/Memory.antt`: what memory answers, for `runs_compose` alone;
+//! - `specs/GivenUp.antt`: what a collection that was refused memory leaves (`IsGivenUp`), for
+//!   `refused_collections_are_given_up` alone;
 //! - `specs/Doomed.antt`: no unreached native is forgotten (`IsSuspectedNow`), and names that a collection can't miss
 //!   (`IsDoomedNow`);
 //! - `specs/Followed.antt`: one collection followed through asks (`first_collection`);
@@ -30,7 +32,7 @@ mod units;
 
 pub use collections::collections_are_lawful;
 pub use doomed::commands_keep_doomed;
-pub use memory::{memory_decides_nothing_else, runs_compose};
+pub use memory::{memory_decides_nothing_else, refused_collections_are_given_up, runs_compose};
 pub use misses::collections_after_gc_miss_nothing;
 pub use plain_run::{asks_keep_suspected, plain_run_is_lawful};
 pub use premises::{freshness_can_be_met, suspicion_can_be_met};

@@ -1,6 +1,6 @@
 //! What the answers of memory decide, and what not.
 
-ghost use Rattle.std.specs.Prelude.{◌≡◌, ◌++◌, ℕ, Bool, IsTrue, List, [], ◌∷◌, Some, None};
+ghost use Rattle.std.specs.Prelude.{◌≡◌, ◌⊎◌, ◌++◌, ℕ, Bool, IsTrue, List, [], ◌∷◌, Option, Some, None};
 ghost use Rattle.cc_lists.specs.Members.{Among};
 ghost use Rattle.cc_names.specs.Allowance.{Allowance};
 ghost use Rattle.cc_names.specs.Names.{native};
@@ -14,8 +14,10 @@ ghost use Rattle.cc_model.specs.View.{view};
 ghost use Rattle.cc_model.specs.WellFormed.{native_names};
 ghost use Rattle.cc_model.specs.Snapshot.{Snapshot};
 ghost use Rattle.cc_model.specs.End.{give_back, heap_given_back, refused, unit};
-ghost use Rattle.cc_model.specs.Collecting.{Machine};
+ghost use Rattle.cc_model.specs.Collecting.{Machine, collect, finish_running, slice};
 ghost use Rattle.cc_model.specs.Run.{do_ask, machine_after, turns};
+ghost use Rattle.cc_laws_run.specs.Doomed.{candidates_now};
+ghost use Rattle.cc_laws_run.specs.GivenUp.{CollectGivesUp, GivesUp, IsGivenUp};
 ghost use Rattle.cc_laws_run.specs.Memory.{AreDoneFor, SameMachine, all_noes_told, noes, with_memory};
 
 /// The plain run of asks in a row is that of the first, and then of the rest from the machine that is left.
@@ -43,4 +45,16 @@ pub fn memory_decides_nothing_else()
         ((unit h (Some s) memory).heap ≡ give_back s.candidates h) × ((unit h (Some s) memory).snapshot ≡ None) × ((unit h (Some s) memory).events ≡ Abandoned ∷ []) }
     ensures given_back { (h : Heap) (candidates : List ℕ) (k : ℕ) → Among k candidates → Among (native k) (native_names h) →
         Among (native k) (view (give_back candidates h)).purple }
+{}
+
+/// Over whole asks: a slice or a collection that was refused memory gave the collection up. So did the end of a running one
+/// under `gc`, which goes on. The heaps are those from before the ask but for the buffer, in which each native that was purple,
+/// and each candidate of the collection that ran, is purple, where it is there.
+pub fn refused_collections_are_given_up()
+    ensures slice { (n : ℕ) (m : Machine) → (slice n m).progress ≡ refused → GivesUp m [] (slice n m) }
+    ensures collect { (m : Machine) → (collect m).progress ≡ refused → CollectGivesUp m (collect m) }
+    ensures gc { (m : Machine) → (finish_running m).progress ≡ refused → GivesUp m [] (finish_running m) }
+    ensures suspects { (h : Heap) (s : Option Snapshot) (k : Heap) → IsGivenUp h s k → (i : ℕ) → Among (native i) (native_names h) →
+        Among (native i) (view h).purple ⊎ Among i (candidates_now s) → Among (native i) (view k).purple }
+    ensures rest { (h : Heap) (s : Option Snapshot) (k : Heap) → IsGivenUp h s k → k ≡ record h { buffer = k.buffer } }
 {}

@@ -1,23 +1,16 @@
 //! What holds after any asks in range, from the empty heaps on.
 
-ghost use Rattle.std.specs.Prelude.{◌≡◌, ◌++◌, ℕ, Bool, IsTrue, List, [], ◌∷◌};
+ghost use Rattle.std.specs.Prelude.{◌++◌, Bool, IsTrue, List, ◌∷◌};
 ghost use Rattle.std.specs.List.{list_all};
-ghost use Rattle.cc_lists.specs.Members.{Among};
 ghost use Rattle.cc_names.specs.Allowance.{Allowance};
-ghost use Rattle.cc_names.specs.declared.name.Name.{Name};
-ghost use Rattle.cc_names.specs.Names.{native};
 ghost use Rattle.cc_model.specs.declared.command.Command.TheVariants.{Gc};
-ghost use Rattle.cc_model.specs.declared.item.Event.TheVariants.{Unlinked};
 ghost use Rattle.cc_model.specs.Asks.{Ask, taken};
-ghost use Rattle.cc_model.specs.WellFormed.{names_there};
-ghost use Rattle.cc_model.specs.End.{at_end, refused};
 ghost use Rattle.cc_model.specs.Lawful.{start};
 ghost use Rattle.cc_model.specs.Collecting.{empty_machine};
 ghost use Rattle.cc_model.specs.Run.{machine_after, plain_run};
 ghost use Rattle.cc_laws_run.specs.Running.{IsRunning, ask_in_range, state_after};
-ghost use Rattle.cc_laws_run.specs.Doomed.{IsSuspectedNow, garbage};
-ghost use Rattle.cc_laws_run.specs.Followed.{first_collection};
-ghost use Rattle.cc_laws_run.specs.Missing.{BeginsAfterGc, MissesNone, lost};
+ghost use Rattle.cc_laws_run.specs.Doomed.{IsSuspectedNow};
+ghost use Rattle.cc_laws_run.specs.Missing.{BeginsAfterGc, MissesNothing};
 
 /// After any asks in range the machine runs: its heaps are sound and stand for the graph that the replies make, its
 /// snapshot is fresh, and its objects are those that a census would list.
@@ -32,20 +25,11 @@ pub fn runs_forget_nothing()
         IsSuspectedNow (machine_after (empty_machine limits memory) asks) }
 {}
 
-/// A COLLECTION AFTER `gc` MISSES NOTHING, in any run from the empty heaps: every native that was unreached when it began is
-/// told unlinked at its end, unless this collection was abandoned, and after the `gc` that comes next, or that ends it,
-/// none of them is in the heaps.
+/// A COLLECTION AFTER `gc` MISSES NOTHING, in any run from the empty heaps: for all limits, answers of memory and asks in
+/// range, with blank lines and comments between `gc` and the ask that begins the collection. Every native that was
+/// unreached when it began is told unlinked at its end, unless this collection was abandoned, and after the `gc` that comes
+/// next, or that ends it, none of them is in the heaps.
 pub fn runs_after_gc_miss_nothing()
-    ensures misses_none { (limits : Allowance) (memory : List Bool) (before blanks : List Ask) (ask : Ask) (asks : List Ask) →
-        BeginsAfterGc before blanks ask asks → let m = machine_after (empty_machine limits memory) (before ++ taken Gc ∷ blanks) in
-        MissesNone (lost m.heap) m (ask ∷ asks) }
-    ensures unlinked { (limits : Allowance) (memory : List Bool) (before blanks : List Ask) (ask : Ask) (asks : List Ask) →
-        BeginsAfterGc before blanks ask asks → let m = machine_after (empty_machine limits memory) (before ++ taken Gc ∷ blanks) in
-        let c = first_collection m (ask ∷ asks) in
-        c.progress ≡ at_end → (k : ℕ) → Among (native k) (garbage m.heap) → Among (Unlinked (native k)) c.events }
-    ensures gone { (limits : Allowance) (memory : List Bool) (before blanks : List Ask) (ask : Ask) (asks : List Ask) →
-        BeginsAfterGc before blanks ask asks → let m = machine_after (empty_machine limits memory) (before ++ taken Gc ∷ blanks) in
-        let all = ask ∷ (asks ++ taken Gc ∷ []) in
-        ¬ ((first_collection m all).progress ≡ refused) → (x : Name) → Among x (lost m.heap) →
-        ¬ (Among x (names_there (machine_after m all).heap)) }
+    ensures { (limits : Allowance) (memory : List Bool) (before blanks : List Ask) (ask : Ask) (asks : List Ask) →
+        BeginsAfterGc before blanks ask asks → MissesNothing limits memory (before ++ taken Gc ∷ blanks) (ask ∷ asks) }
 {}

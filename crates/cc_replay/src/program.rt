@@ -84,8 +84,8 @@ pub fn run<'a, S: Source, K: Sink>(
     source: &mut S,
     sink: &mut K,
 ) -> Status
-    // For every input, what is written is the transcript of an object graph from which nothing is freed: of the whole input
-    // with `Done`,
+    // For every input, what is written is the transcript of an object graph from which nothing is freed; each further part of
+    // the sentence is a field of `TellsOfAGraph`, of the same answers: of the whole input with `Done`,
     ensures done { result ≡ Status.Done → (limits : Allowance) × GivesLimits (map (λ w. w.now) words.entry.now) limits
         × IsDone limits (ends S.left S.reads K.written source.old source.new sink.old sink.new) }
     // where a read failed, of the lines that ended,

@@ -1,5 +1,6 @@
 use Rattle.std.specs.Prelude.{IsErr}
 use Rattle.std.proofs.Common.{◌≡◌, ℕ, Result, Ok, Err, refl, sym, ap, subst, arith}
+use Rattle.cc_lists.proofs.KnownBytes.{on_err_of}
 use Rattle.cc_names.specs.declared.no_memory.NoMemory.{NoMemory}
 use Rattle.cc_model.proofs.Tellings.{Tells-nil}
 use Rattle.cc_model.specs.End.{Progress, went_on, at_end, refused}
@@ -7,6 +8,7 @@ use Rattle.cc_collector.specs.declared.collector.Ended.{Ended}
 use Rattle.cc_collector.specs.Kept.{machine_of}
 use Rattle.cc_collector.specs.Collected.{IsSliced, progress_of}
 use Rattle.cc_collector.specs.Units.{HasGoneOn, HasDoneUnit, Keeps}
+use Rattle.cc_collector.proofs.GivingUp.{sliced-given_up}
 use Rattle.cc_collector.proofs.Rows.{HasGoneOn-none, HasGoneOn-more}
 use Rattle.cc_collector.proofs.Keeping.{Keeps-nothing, Keeps-then}
 use Rattle.cc_collector.proofs.UnitsSpare.{sliced-keeps, sliced-tells}
@@ -38,6 +40,16 @@ returns-in_err-ended-clause-sliced g c =
     (telling c.args.out.now) (telling c.unit.new.out)) (sym (err-refused c.from_residual.result c.from_residual.ensures.0))
     (sliced-stopped v c.args.self.now c.requires.runs c.args.units c.loop.counter c.loop.heaps c.loop.self c.unit.new.heaps c.unit.new.self refused c.args.steps.now c.loop.steps
     (telling c.args.out.now) (telling c.loop.out) (telling c.unit.new.out) (omega (arith, c.loop-test.true)) (λ e. cc) i.gone_on i.told c.in_err-ended.ensures (omega (arith, i.counted)))
+
+pub returns-in_err-ended-clause-given_up : goal.returns-in_err-ended-clause-given_up
+returns-in_err-ended-clause-given_up g c =
+    let telling = g.N.Notices.telling in
+    let v = c.args.heaps.now in
+    on_err_of c.from_residual.result
+    (sliced-given_up c.args.units (machine_of v.heap c.args.self.now) (machine_of c.unit.new.heaps.heap c.unit.new.self) c.args.steps.now c.loop.steps
+    (telling c.args.out.now) (telling c.unit.new.out)
+    (subst (λ (p : Progress). IsSliced c.args.units (machine_of v.heap c.args.self.now) (machine_of c.unit.new.heaps.heap c.unit.new.self) p c.args.steps.now c.loop.steps
+    (telling c.args.out.now) (telling c.unit.new.out)) (err-refused c.from_residual.result c.from_residual.ensures.0) (returns-in_err-ended-clause-sliced g c)))
 
 pub returns-in_err-ended-clause-keeps : goal.returns-in_err-ended-clause-keeps
 returns-in_err-ended-clause-keeps g c = sliced-keeps _ _ c.requires.runs _ _ _ _ _ _ _ (returns-in_err-ended-clause-sliced g c)

@@ -6,6 +6,7 @@ use Rattle.cc_builder.specs.Building.{Built}
 use Rattle.cc_collector.specs.Kept.{machine_of}
 use Rattle.cc_collector.specs.Collected.{IsCollected}
 use Rattle.cc_collector.specs.Units.{Keeps, HasDoneAll}
+use Rattle.cc_collector.proofs.GivingUp.{collected-given_up}
 use Rattle.cc_collector.proofs.Keeping.{Keeps-then}
 use Rattle.cc_collector.proofs.UnitsSpare.{collected-keeps, collected-tells}
 use Rattle.cc_collector.proofs.Coming.{collected, collected-refused}
@@ -42,6 +43,9 @@ first-refused g c =
 
 pub returns-in_err-finish_running-clause-refused : goal.returns-in_err-finish_running-clause-refused
 returns-in_err-finish_running-clause-refused g c = on_err_of c.from_residual.result (first-refused g c)
+
+pub returns-in_err-finish_running-clause-given_up : goal.returns-in_err-finish_running-clause-given_up
+returns-in_err-finish_running-clause-given_up g c = on_err_of c.from_residual.result (collected-given_up _ _ _ _ (first-refused g c))
 
 pub returns-in_err-finish_running-clause-keeps : goal.returns-in_err-finish_running-clause-keeps
 returns-in_err-finish_running-clause-keeps g c = collected-keeps _ _ c.requires.runs _ _ _ _ (first-refused g c)
@@ -84,6 +88,9 @@ returns-clause-refused g c =
     (collected v c.args.self.now c.requires.runs m w refused t t₁ t₂ c.in_ok-finish_running.ensures.done
     (subst (λ (d : Option Built). HasDoneAll m d w refused t₁ t₂) c.finish_running.ensures.over a)))
     c.go_to_end.ensures.refused
+
+pub returns-clause-given_up : goal.returns-clause-given_up
+returns-clause-given_up g c = on_err-then c.go_to_end.result (λ a. collected-given_up _ _ _ _ a) (returns-clause-refused g c)
 
 pub returns-clause-keeps : goal.returns-clause-keeps
 returns-clause-keeps g c = on_both c.go_to_end.result

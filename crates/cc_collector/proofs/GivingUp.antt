@@ -1,0 +1,23 @@
+-- WHAT SLICES AND COLLECTIONS LEAVE that were refused memory.
+use Rattle.std.proofs.Common.{ℕ, inl, inr, subst, ⊎_elim}
+use Rattle.cc_model.specs.Telling.{Telling}
+use Rattle.cc_model.specs.Heap.{Heap}
+use Rattle.cc_model.specs.End.{refused}
+use Rattle.cc_model.specs.Collecting.{Machine}
+use Rattle.cc_laws_run.specs.Memory.{with_memory}
+use Rattle.cc_laws_run.specs.GivenUp.{IsGivenUp}
+use Rattle.cc_laws_run.proofs.GivingUp.{slice-gives_up, collect-gives_up}
+use Rattle.cc_collector.specs.Collected.{IsSliced, IsCollected, IsCollectGivenUp}
+
+-- A slice
+pub sliced-given_up : (n : ℕ) (old new : Machine) (steps steps_now : ℕ) (t t₁ : Telling) → IsSliced n old new refused steps steps_now t t₁ →
+    IsGivenUp old.heap old.snapshot new.heap
+sliced-given_up n old new steps steps_now t t₁ s = subst (IsGivenUp old.heap old.snapshot) s.led.same.heap
+    (slice-gives_up n (with_memory old s.memory) s.led.came_to).heap
+
+-- A collection
+pub collected-given_up : (old new : Machine) (t t₁ : Telling) → IsCollected old new refused t t₁ → IsCollectGivenUp old new.heap
+collected-given_up old new t t₁ c = subst (IsCollectGivenUp old) c.led.same.heap (⊎_elim
+    (λ g. inl g.heap)
+    (λ g. inr (c.memory, (g.0, g.1.heap)))
+    (collect-gives_up (with_memory old c.memory) c.led.came_to))
