@@ -6,9 +6,9 @@ use Rattle.std.proofs.lemmas.Bool.{true≢false, eqb-true, eq-eqb, ne_eqb}
 use Rattle.std.proofs.Props.{props}
 use Rattle.std.proofs.lemmas.Bool.Decides.{eqb_tells}
 use Rattle.cc_lists.specs.Members.{Among, has, without}
-use Rattle.cc_lists.proofs.Counting.{count_by-all, count_by-below, count_by-cons, count_by-some, counted_is}
+use Rattle.cc_lists.proofs.Counting.{count_by-cons}
 use Rattle.cc_lists.proofs.CountsOf.{count_by-none}
-use Rattle.cc_lists.proofs.Numbers.{number-exact}
+use Rattle.cc_lists.proofs.Places.{once-few}
 use Rattle.cc_chain.specs.declared.link.Link.{Link}
 use Rattle.cc_chain.specs.Links.{AreBelow, Links, is_live, is_linked, link_at, is_key, with_link, with_changed, with_before, with_after, IsFree, SameLinks}
 use Rattle.cc_chain.specs.declared.chain.Chain.{Chain}
@@ -169,51 +169,19 @@ module _ {R : Type 0} (links : Links) (chain : Chain R) (keys : List ℕ) (c : I
   pub chain-walked : (n : ℕ) → length keys ≤ n → walked n links chain.first ≡ keys
   chain-walked n enough = rw c.first (walked-from links n None keys c.differ (λ k m. c.linked k) enough)
 
--- A list of distinct numbers below n has at most n of them
-
-abbrev below : ℕ → List ℕ
-below zero = []
-below (suc n) = n ∷ below n
-
-length-below : (n : ℕ) → length (below n) ≡ n
-length-below zero = refl
-length-below (suc n) = ap suc (length-below n)
-
-below-among : (n k : ℕ) → k < n → Among k (below n)
-below-among zero k l = absurd (omega arith)
-below-among (suc n) k l = ⊎_elim (λ s. inl (sym (eqb-true k n s.0))) (λ o. inr (below-among n k (omega (arith, o.1)))) (eqb_tells k n)
-
-differ-once : (v : ℕ) (keys : List ℕ) → AllDiffer keys → count_by (λ k. k == v) keys ≤ 1
-differ-once v [] d = omega arith
-differ-once v (k ∷ ks) d = ⊎_elim
-    (λ s. let none : count_by (λ j. j == v) ks ≡ 0 = count_by-none (λ j. j == v) ks (λ j m. ne_eqb j v (λ e. d.0 (subst (λ z. Among z ks) (e ∙ sym s.1) m))) in
-    rw (count_by-cons (λ j. j == v) k ks, s.0, none) (omega arith))
-    (λ o. rw (count_by-cons (λ j. j == v) k ks, o.0) (omega (arith, differ-once v ks d.1)))
-    (eqb_tells k v)
-
-pub distinct-short : (n : ℕ) (keys : List ℕ) → AllDiffer keys → ((k : ℕ) → Among k keys → k < n) → length keys ≤ n
-distinct-short n keys d small = omega (
-  arith,
-  length-below n,
-  count_by-all keys,
-  count_by-all (below n),
-  count_by-below ◌==◌ number-exact (λ (k : ℕ). true) (λ k. k) (λ (k : ℕ). true) (λ k. k) keys (below n) few,
-)
-  where
-    few : (v : ℕ) → count_by (λ k. k == v) keys ≤ count_by (λ k. k == v) (below n)
-    few v = go (count_by (λ k. k == v) keys) refl
-      where
-        go : (c : ℕ) → count_by (λ k. k == v) keys ≡ c → c ≤ count_by (λ k. k == v) (below n)
-        go zero e = omega arith
-        go (suc c) e =
-            let met = counted_is (λ k. k == v) keys (omega (arith, e)) in
-            let some : Among v keys = subst (λ z. Among z keys) (eqb-true met.0 v met.2) met.1 in
-            omega (arith, differ-once v keys d, count_by-some (λ k. k == v) v (below n) (below-among n v (small v some)) (eq-eqb v v refl))
+-- Distinct keys stand once each
+differ-once : (keys : List ℕ) (v : ℕ) → AllDiffer keys → count_by (λ k. v == k) keys ≤ 1
+differ-once [] v d = omega arith
+differ-once (k ∷ ks) v d = ⊎_elim
+    (λ s. let none : count_by (λ j. v == j) ks ≡ 0 = count_by-none (λ j. v == j) ks (λ j m. ne_eqb v j (λ e. d.0 (subst (λ z. Among z ks) (sym e ∙ s.1) m))) in
+    rw (count_by-cons (λ j. v == j) k ks, s.0, none) (omega arith))
+    (λ o. rw (count_by-cons (λ j. v == j) k ks, o.0) (omega (arith, differ-once ks v d.1)))
+    (eqb_tells v k)
 
 -- Where each live key is below n, the list is read in n steps
 pub chain-bounded : {R : Type 0} (links : Links) (chain : Chain R) (keys : List ℕ) (n : ℕ) → IsChain links chain keys → AreBelow n links →
     walked n links chain.first ≡ keys
-chain-bounded links chain keys n c small = chain-walked links chain keys c n (distinct-short n keys c.differ (λ k m. small k (chain-live links chain keys c k m)))
+chain-bounded links chain keys n c small = chain-walked links chain keys c n (once-few n keys (λ v. differ-once keys v c.differ) (λ k m. small k (chain-live links chain keys c k m)))
 
 -- A chain is told by the links alone
 pub chain-kept : {R : Type 0} (links new : Links) (chain : Chain R) (keys : List ℕ) → SameLinks links new → IsChain links chain keys → IsChain new chain keys

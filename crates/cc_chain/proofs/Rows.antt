@@ -40,9 +40,9 @@ without-first key xs n = rw (eq-eqb key key refl) (without-absent key xs n)
 pub without-leaves : (key : ℕ) (xs : List ℕ) → ¬ (Among key (without ◌==◌ key xs))
 without-leaves key xs m = true≢false (sym (Among-passes (λ x. not (x == key)) key xs m) ∙ rw (eq-eqb key key refl) refl)
 
-pub first-among : (xs : List ℕ) (k : ℕ) → is_key (first_of xs) k ≡ true → Among k xs
-first-among [] k e = true≢false (sym e)
-first-among (x ∷ xs) k e = inl (eqb-true x k e)
+pub first_is-among : (xs : List ℕ) (k : ℕ) → is_key (first_of xs) k ≡ true → Among k xs
+first_is-among [] k e = true≢false (sym e)
+first_is-among (x ∷ xs) k e = inl (eqb-true x k e)
 
 pub last-among : (before : Option ℕ) (xs : List ℕ) (k : ℕ) → is_key (last_or before xs) k ≡ true → (is_key before k ≡ true) ⊎ Among k xs
 last-among before [] k e = inl e
@@ -96,7 +96,7 @@ pub after-among : (before : Option ℕ) (xs : List ℕ) (k : ℕ) (link : Link) 
     is_key link.after j ≡ true → Among j xs
 after-among before [] k link j found e = absurd (cc)
 after-among before (x ∷ xs) k link j found e = ⊎_elim
-    (λ h. inr (first-among xs j (subst (λ (l : Link). is_key l.after j ≡ true) (sym h.1) e)))
+    (λ h. inr (first_is-among xs j (subst (λ (l : Link). is_key l.after j ≡ true) (sym h.1) e)))
     (λ t. inr (after-among (Some x) xs k link j t.1 e))
     (link_from-cases before x xs k link found)
 

@@ -4,6 +4,7 @@ use Rattle.std.specs.Prelude.{◌==◌}
 use Rattle.std.proofs.lemmas.Bool.{true≢false, eqb-true, eq-eqb, ne_eqb}
 use Rattle.cc_lists.specs.Members.{Among, without}
 use Rattle.cc_lists.specs.Walks.{first_of}
+use Rattle.cc_lists.proofs.Walks.{first-among}
 use Rattle.cc_chain.specs.Chains.{AllDiffer, behind}
 
 -- another key leaves
@@ -33,10 +34,7 @@ pub behind-first : (keys : List ℕ) (key : ℕ) → first_of keys ≡ Some key 
 behind-first [] key e = refl
 behind-first (k ∷ ks) key e = let same : k ≡ key = cc in rw (eq-eqb k key same) refl
 
-first-stands : (keys : List ℕ) (key : ℕ) → first_of keys ≡ Some key → Among key keys
-first-stands [] key e = absurd (cc)
-first-stands (k ∷ ks) key e = let same : k ≡ key = cc in inl same
-
+-- what stands behind a key stands in the list
 behind-stands : (keys : List ℕ) (key after : ℕ) → Among after (behind key keys) → Among after keys
 behind-stands [] key after m = m
 behind-stands (k ∷ ks) key after m = go (behind-stands ks key after) (k == key) m
@@ -54,5 +52,5 @@ behind-next (k ∷ ks) key after d e =
   where
     go : (first_of (behind key ks) ≡ Some after → behind after ks ≡ drop 1 (behind key ks)) → (b : Bool) → first_of (if b then ks else behind key ks) ≡ Some after →
         Among after ks × (behind after ks ≡ drop 1 (if b then ks else behind key ks))
-    go ih true f = (first-stands ks after f, behind-first ks after f)
-    go ih false f = (behind-stands ks key after (first-stands (behind key ks) after f), ih f)
+    go ih true f = (first-among ks after f, behind-first ks after f)
+    go ih false f = (behind-stands ks key after (first-among (behind key ks) after f), ih f)

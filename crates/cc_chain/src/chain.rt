@@ -1,8 +1,8 @@
 //! The chain: its two ends, and what it does to the links of its keys.
 ghost use Rattle.std.specs.Prelude.{◌≡◌, ◌==◌, None, IsTrue, IfSome, List, ℕ, [], ◌∷◌, ◌++◌, drop};
 ghost use Rattle.cc_lists.specs.Members.{has, without};
-ghost use Rattle.cc_chain.specs.Links.{HasNone, Links, is_live, is_linked, IsFree, SameLive, with_after, with_before, with_changed};
 ghost use Rattle.cc_lists.specs.Walks.{first_of};
+ghost use Rattle.cc_chain.specs.Links.{HasNone, Links, is_live, is_linked, IsFree, SameLive, with_after, with_before, with_changed};
 ghost use Rattle.cc_chain.specs.Chains.{IsChain, IsSomeChain, behind, with_next, with_previous};
 
 use crate::link::Link;
@@ -11,7 +11,8 @@ use std::marker::PhantomData;
 
 /// A list of distinct keys, kept in a store by the links of its keys. It has the two ends alone.
 ///
-/// Each call takes the store that the list is kept in. `R` names the list among those that the store holds.
+/// Each call takes the store that the list is kept in; nothing else may write its links there. `R` names the list among
+/// those that the store holds.
 #[derive(Drop)]
 pub struct Chain<R> {
     first: Option<usize>,
@@ -20,7 +21,7 @@ pub struct Chain<R> {
 }
 
 impl<R> Chain<R> {
-    /// An empty list, for a store that holds no list.
+    /// An empty list, for a store in which no key has a link for it.
     pub fn new() -> Chain<R>
         ensures { (links : Links) → HasNone links → IsChain links result [] }
     {
@@ -106,7 +107,7 @@ impl<R> Chain<R> {
         store.get(key).is_some()
     }
 
-    /// After `before` comes `after`: with none before it, it is the first, and with none after it, the list ends.
+    /// Behind `before` stands `after` now, or none. With none before, `after` is the first of the list.
     fn set_next<T: LinkStore<R>>(
         &mut self,
         store: &mut T,
@@ -124,7 +125,7 @@ impl<R> Chain<R> {
         }
     }
 
-    /// Before `after` comes `before`: with none after it, it is the last, and with none before it, the list begins.
+    /// In front of `after` stands `before` now, or none. With none after, `before` is the last of the list.
     fn set_previous<T: LinkStore<R>>(
         &mut self,
         store: &mut T,
@@ -143,7 +144,7 @@ impl<R> Chain<R> {
     }
 }
 
-/// Writes what comes after a live key, if it has a link.
+/// Writes what stands behind a live key, if it has a link.
 fn set_after<R, T: LinkStore<R>>(store: &mut T, key: usize, after: Option<usize>)
     requires { IsTrue (is_live (T.links store.old) key) }
     ensures links { T.links store.new ≡ with_changed (T.links store.old) (Some key) (with_after after) }
@@ -154,7 +155,7 @@ fn set_after<R, T: LinkStore<R>>(store: &mut T, key: usize, after: Option<usize>
     }
 }
 
-/// Writes what comes before a live key, if it has a link.
+/// Writes what stands before a live key, if it has a link.
 fn set_before<R, T: LinkStore<R>>(store: &mut T, key: usize, before: Option<usize>)
     requires { IsTrue (is_live (T.links store.old) key) }
     ensures links { T.links store.new ≡ with_changed (T.links store.old) (Some key) (with_before before) }

@@ -1,8 +1,8 @@
 //! What the words of this crate's contracts mean.
 ghost use Rattle.std.specs.Prelude.{◌≡◌, ◌≢◌, ◌==◌, ◌≤◌, ℕ, List, [], ◌∷◌, ◌++◌, Some, drop, length};
 ghost use Rattle.cc_lists.specs.Members.{Among, without};
-ghost use Rattle.cc_chain.specs.Links.{AreBelow, Links, SameLinks};
 ghost use Rattle.cc_lists.specs.Walks.{first_of};
+ghost use Rattle.cc_chain.specs.Links.{AreBelow, Links, SameLinks};
 ghost use Rattle.cc_chain.specs.Chains.{AllDiffer, IsChain, behind, walked};
 
 use crate::chain::Chain;

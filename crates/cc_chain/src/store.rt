@@ -6,12 +6,13 @@ use crate::link::Link;
 
 /// A store in which each live key has a link for the list `R`, or none where it is not in that list.
 ///
-/// `R` is a type that names a list; a store that holds several implements the trait once for each.
+/// `R` is a type that names a list, and has no other use; a store that holds several implements the trait once for each.
+/// Which keys are live is told by the links, so a store whose keys come and go shows that here.
 pub trait LinkStore<R> {
     /// The link of each live key.
     ghost links: { Self → Links };
 
-    /// What else the store holds.
+    /// What else the store holds: all that no call of a chain may change.
     ghost Rest: { Type 0 };
 
     ghost rest: { Self → Rest };

@@ -1,8 +1,8 @@
 //! The buffer of suspects.
 ghost use Rattle.std.specs.Prelude.{◌≡◌, ◌==◌, true, false, [], IsTrue, List, ℕ, drop, option_map};
 ghost use Rattle.cc_lists.specs.Members.{with_last};
-ghost use Rattle.cc_chain.specs.Links.{HasNone, Links, is_live, is_linked, SameLive};
 ghost use Rattle.cc_lists.specs.Walks.{first_of};
+ghost use Rattle.cc_chain.specs.Links.{HasNone, Links, is_live, is_linked, SameLive};
 ghost use Rattle.cc_chain.specs.Chains.{IsChain, IsSomeChain};
 ghost use Rattle.cc_purple.specs.Stores.{Marks};
 ghost use Rattle.cc_purple.specs.Marks.{Marked, first_key, holds_key, is_purple, key_after, marked_as, with_mark, without_key};
@@ -12,14 +12,15 @@ use crate::store::{MarkStore, Suspects};
 use cc_chain::Chain;
 use cc_names::NKey;
 
-/// The suspects in buffer order, each with the purple mark or without. Links and marks are kept in the store.
+/// The suspects in buffer order, each with the purple mark or without. Links and marks are kept in the store, which each
+/// call takes; nothing else may write those of its keys.
 #[derive(Drop)]
 pub struct Buffer {
     keys: Chain<Suspects>,
 }
 
 impl Buffer {
-    /// An empty buffer, for a store that holds no list.
+    /// An empty buffer, for a store in which no key has a link for it. Which keys have the mark does not matter.
     pub fn new() -> Buffer
         ensures { (links : Links) (marks : Marks) → HasNone links → IsBuffer links marks result [] }
     {
@@ -76,7 +77,7 @@ impl Buffer {
         }
     }
 
-    /// Takes out the front and its mark; none exactly where the buffer is empty.
+    /// Takes out the front, and answers it with its mark; none exactly where the buffer is empty.
     pub fn select_next<T: MarkStore>(&mut self, store: &mut T) -> Option<(NKey, bool)>
         requires { IsSomeBuffer (T.links store.old) (T.marks store.old) self.old }
         ensures front { (ms : List Marked) → IsBuffer (T.links store.old) (T.marks store.old) self.old ms →

@@ -8,12 +8,13 @@ use cc_chain::LinkStore;
 /// The list of suspects, among those that a store holds.
 pub struct Suspects;
 
-/// A store of links in which each live key also has a mark or none.
+/// A store of links in which each live key also has the purple mark or none. That of a key that is not in the buffer says
+/// nothing.
 pub trait MarkStore: LinkStore<Suspects> {
     /// Which keys have the mark.
     ghost marks: { Self → Marks };
 
-    /// What the store holds beside links and marks.
+    /// What the store holds beside links and marks: all that no call of the buffer may change.
     ghost Beside: { Type 0 };
 
     ghost beside: { Self → Beside };
