@@ -1,9 +1,8 @@
 -- AN OBJECT MADE in the slab, and put last in the order.
-use Rattle.std.proofs.Common.{◌≡◌, ◌≢◌, ℕ, List, ◌∷◌, [], ◌++◌, Option, Some, None, option_map, sym, ◌∙◌, ap, subst}
+use Rattle.std.proofs.Common.{◌≡◌, ◌≢◌, ℕ, List, ◌∷◌, [], ◌++◌, Option, Some, None, sym, ◌∙◌, ap, subst}
 use Rattle.std.specs.Prelude.{slice_index_or}
 use Rattle.slab.specs.Slab.{Slab}
 use Rattle.cc_chain.specs.declared.chain.Chain.{Chain}
-use Rattle.cc_chain.specs.Links.{IsFree}
 use Rattle.cc_chain.specs.Chains.{IsChain}
 use Rattle.cc_chain.proofs.Slots.{chain-made}
 use Rattle.cc_script.specs.declared.links.Order.{Order}
@@ -17,10 +16,7 @@ use Rattle.cc_script.proofs.Chained.{lists-are, waiting-are, chained-are}
 module _ (p : ScriptParts) (h : IsChained p) (mid : List (Option Linked)) (key : ℕ) (x : Linked) (unordered : x.order ≡ None) (idle : x.waiting ≡ None)
     (vacant : slice_index_or p.cells.slots key None ≡ None) (at : slice_index_or mid key None ≡ Some x)
     (others : (k : ℕ) → k ≢ key → slice_index_or mid k None ≡ slice_index_or p.cells.slots k None) where
-  -- it is in no list, and both lists are what they were
-  pub free-joined : IsFree (order_links mid) key
-  free-joined = ap (option_map (λ (c : Linked). c.order)) at ∙ ap Some unordered
-
+  -- both lists are what they were
   pub order-joined : IsChain (order_links mid) p.order (lists_of p).order
   order-joined = chain-made (λ (c : Linked). c.order) p.cells.slots mid p.order (lists_of p).order h.order key x unordered vacant at others
 

@@ -4,7 +4,7 @@ pub mod Changing
 pub mod Painting
 pub mod Writing
 pub mod Whitening
-pub mod Fading
+pub mod Stepping
 pub mod Making
 pub mod Leaving
 pub mod Reading

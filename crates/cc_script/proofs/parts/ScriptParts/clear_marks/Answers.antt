@@ -11,7 +11,7 @@ use Rattle.cc_script.specs.Cells.{cells_of, order_links}
 use Rattle.cc_script.specs.Parts.{lists_of, shows}
 use Rattle.cc_script.proofs.Painting.{IsPlaced-painted, objects-painted}
 use Rattle.cc_script.proofs.Whitening.{IsFading, fading-start, fading-next, fading-end}
-use Rattle.cc_script.proofs.Fading.{left_of, walk-begins, walk-stands, walk-among, walk-left, walk-next_stands}
+use Rattle.cc_script.proofs.Stepping.{left_of, walk-begins, walk-stands, walk-among, walk-left, walk-next_stands}
 use Rattle.cc_script.proofs.Chained.{order-kept, lists-kept, waiting-same, chained-kept}
 use Rattle.cc_script.proofs.InOrder.{HasColourOrder-whitened}
 use Rattle.cc_script.proofs.parts.ScriptParts.clear_marks.Goals as goal

@@ -2,7 +2,7 @@ use Rattle.std.proofs.Common.{◌≡◌, [], length}
 use Rattle.cc_script.specs.Lists.{IsPlaced}
 use Rattle.cc_script.specs.Parts.{lists_of, marking_of, shows, IsChained, TakesNoMemory}
 use Rattle.cc_script.proofs.Whitening.{IsFading}
-use Rattle.cc_script.proofs.Fading.{left_of, StandsFirst}
+use Rattle.cc_script.proofs.Stepping.{left_of, StandsFirst}
 use Rattle.cc_script.proofs.parts.ScriptParts.clear_marks.Given as goal
 
 abbrev pub invariant-loop-at : goal.invariant-loop-at

@@ -1,4 +1,4 @@
--- A WALK OVER THE ORDER that makes all white: what is left at its start, at each key, and at the next.
+-- A WALK OVER THE ORDER, key after key: what is left of it at its start, at each key, and at the next.
 use Rattle.std.proofs.Common.{◌≡◌, ℕ, List, ◌∷◌, Option, Some, sym, ◌∙◌, ap, subst}
 use Rattle.cc_lists.specs.Members.{Among}
 use Rattle.cc_lists.specs.Walks.{first_of, HasDistinctKeys, first_key, next_key, left_at}
