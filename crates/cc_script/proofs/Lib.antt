@@ -4,9 +4,14 @@ pub mod Changing
 pub mod Painting
 pub mod Writing
 pub mod Whitening
+pub mod Stepping
 pub mod Making
 pub mod Leaving
 pub mod Reading
+pub mod Linking
+pub mod Chained
+pub mod Joining
+pub mod Parting
 pub mod Ordering
 pub mod Colours
 pub mod InOrder

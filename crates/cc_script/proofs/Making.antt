@@ -1,4 +1,4 @@
--- AN OBJECT MADE at a key that held nothing.
+-- NO OBJECTS, and one made at a key that held nothing.
 use Rattle.std.proofs.Common.{◌≡◌, ◌≢◌, ℕ, ◌≤◌, List, [], ◌∷◌, ◌++◌, length, Option, Some, None, refl, sym, ◌∙◌, ap, subst, ⊎_elim, ◌⊎◌, inl, inr, arith, count_by, ◌==◌}
 use Rattle.std.proofs.lemmas.Bool.{ne_eqb}
 use Rattle.std.proofs.lemmas.Bool.Decides.{eqb_tells}
@@ -11,6 +11,20 @@ use Rattle.cc_lists.proofs.ListWrites.{map-agree}
 use Rattle.cc_script.specs.Objects.{FitsKind}
 use Rattle.cc_script.specs.Lists.{Placed, Lists, cell_at, placed_or_nothing, with_key, shown_at, objects_of, made, IsPlaced}
 
+-- no object
+abbrev pub no_lists : Lists
+no_lists = record { cells = []; order = [] }
+
+pub IsPlaced-none : IsPlaced no_lists
+IsPlaced-none = record {
+  in_order = λ k m. absurd m;
+  ordered = λ k c e. absurd (cc);
+  once = λ k. omega arith;
+  small = λ k c e. absurd (cc);
+  reflected = λ k c e. absurd (cc);
+}
+
+-- one more
 module _ (l : Lists) (p : IsPlaced l) (key : ℕ) (d : Placed) (cells : List (Option Placed)) (vacant : cell_at l.cells key ≡ None) (at : cell_at cells key ≡ Some d)
     (others : (k : ℕ) → k ≢ key → cell_at cells k ≡ cell_at l.cells k) where
   -- a key of an object is another

@@ -1,22 +1,29 @@
--- THE OBJECTS IN ORDER: the key behind a key.
-use Rattle.std.proofs.Common.{◌≡◌, ℕ, true, List, map, Option, Some, None, option_map, IfSome, sym, ◌∙◌, ap, ◌==◌}
+-- THE OBJECTS IN ORDER: the first key, and the key behind a key.
+use Rattle.std.proofs.Common.{◌≡◌, ℕ, true, Some, sym, ◌∙◌, ap, ◌==◌, List}
 use Rattle.std.specs.Option.{is_some}
 use Rattle.std.proofs.lemmas.Bool.{eq-eqb}
-use Rattle.cc_lists.specs.Walks.{next_key}
+use Rattle.cc_lists.specs.Members.{Among}
+use Rattle.cc_lists.specs.Walks.{first_of}
 use Rattle.cc_lists.proofs.Searching.{find-some}
-use Rattle.cc_lists.proofs.Walks.{next_key-among, next_key-map}
-use Rattle.cc_names.specs.declared.number.SKey.{SKey}
-use Rattle.cc_script.specs.Objects.{Object, key_after, is_there}
-use Rattle.cc_script.specs.Lists.{Placed, shown_at}
+use Rattle.cc_lists.proofs.Walks.{first_key-map, first_key-among, next_key-among, next_key-map}
+use Rattle.cc_chain.specs.Chains.{behind}
+use Rattle.cc_chain.proofs.Slots.{first_key-of, next_key-behind}
+use Rattle.cc_script.specs.Objects.{Object, first_key, key_after, is_there}
+use Rattle.cc_script.specs.Lists.{Lists, shown_at, objects_of}
 
--- it is that of the object that was made next,
-pub behind-shown : (cells : List (Option Placed)) (order : List SKey) (key : ℕ) →
-    key_after (map (shown_at cells) (map (λ (k : SKey). k.0) order)) key ≡ next_key (λ (k : SKey). k.0) order key
-behind-shown cells order key = next_key-map (λ (o : Object). o.key) (shown_at cells) (map (λ (k : SKey). k.0) order) key ∙ next_key-map (λ (k : ℕ). k) (λ (k : SKey). k.0) order key
+-- they are those of the order,
+pub first-shown : (l : Lists) → first_key (objects_of l) ≡ first_of l.order
+first-shown l = first_key-map (λ (o : Object). o.key) (shown_at l.cells) l.order ∙ first_key-of l.order
 
--- which is there
-pub live-after : (objects : List Object) (key : ℕ) (o : Option SKey) → option_map (λ (k : SKey). k.0) o ≡ key_after objects key → IfSome o (λ k. is_there objects k.0 ≡ true)
-live-after objects key None e = tt
-live-after objects key (Some k) e =
-    let f = next_key-among (λ (o : Object). o.key) objects key k.0 (sym e) in
-    ap is_some (find-some (λ (o : Object). o.key == k.0) objects f.0 f.1 (eq-eqb f.0.key k.0 f.2)).1
+pub behind-shown : (l : Lists) (key : ℕ) → key_after (objects_of l) key ≡ first_of (behind key l.order)
+behind-shown l key = next_key-map (λ (o : Object). o.key) (shown_at l.cells) l.order key ∙ next_key-behind l.order key
+
+-- and of objects that are there
+stands : (objects : List Object) (key : ℕ) → (o : Object) × Among o objects × (o.key ≡ key) → is_there objects key ≡ true
+stands objects key f = ap is_some (find-some (λ (o : Object). o.key == key) objects f.0 f.1 (eq-eqb f.0.key key f.2)).1
+
+pub live-first : (objects : List Object) (key : ℕ) → Some key ≡ first_key objects → is_there objects key ≡ true
+live-first objects key e = stands objects key (first_key-among (λ (o : Object). o.key) objects key (sym e))
+
+pub live-after : (objects : List Object) (key next : ℕ) → Some next ≡ key_after objects key → is_there objects next ≡ true
+live-after objects key next e = stands objects next (next_key-among (λ (o : Object). o.key) objects key next (sym e))

@@ -1,12 +1,14 @@
 -- ONE OBJECT RAISED: what stays as it is, and what of the walk is spent.
-use Rattle.std.proofs.Common.{◌≡◌, ℕ, ◌+◌, ◌<◌, ◌≤◌, Bool, true, false, List, [], ◌∷◌, ◌++◌, map, length, get_or, drop, drop-cons, add-one, Option, Some, None, option_map, is_some, refl, sym, ◌∙◌, ap, subst, arith, count_by, ◌==◌, if◌then◌else◌}
+use Rattle.std.proofs.Common.{◌≡◌, ℕ, ◌+◌, ◌<◌, ◌≤◌, Bool, true, false, List, [], ◌∷◌, ◌++◌, map, length, get_or, drop, drop-cons, add-one, Option, Some, None, option_map, is_some, refl, sym, ◌∙◌, ap, subst, arith, count_by, ⊎_elim, inl, inr, ◌==◌, if◌then◌else◌}
 use Rattle.std.proofs.lemmas.List.{length_push}
 use Rattle.std.proofs.lemmas.Bool.{true≢false, false≢true}
+use Rattle.cc_lists.specs.Members.{Among}
+use Rattle.cc_lists.proofs.Members.{Among-append}
 use Rattle.cc_lists.proofs.Counting.{count_by-map}
 use Rattle.cc_lists.proofs.Filtering.{count_by-wider}
 use Rattle.cc_names.specs.declared.kind.Colour.{Colour}
 use Rattle.cc_script.specs.Objects.{Object, object_at, is_there, slots_at, slots_or_none, change_object, is_below, raised}
-use Rattle.cc_script.specs.Marking.{Marking, is_lower, raise_key, raise_slot, raise_each, count_lower, to_come, to_do}
+use Rattle.cc_script.specs.Marking.{Marking, is_lower, raise_key, raise_slot, raise_each, count_lower, to_do, AreRaised}
 use Rattle.cc_script.proofs.Keys.{object_at-among, object_at-key, object_at-map, changed_at, changed_at-key, changed_at-same}
 use Rattle.cc_script.proofs.Colours.{raised-key, raised-slots, raised-enough, raised-keeps}
 
@@ -29,7 +31,7 @@ module _ (g : Object → Object) (keeps_key : (o : Object) → (g o).key ≡ o.k
 -- The two cases
 
 pub raise_key-lower : (to : Colour) (key : ℕ) (m : Marking) → is_lower to (object_at m.objects key) ≡ true →
-    raise_key to key m ≡ record { objects = change_object m.objects key (raised to); stack = m.stack ++ key ∷ [] }
+    raise_key to key m ≡ record { objects = change_object m.objects key (raised to); waiting = m.waiting ++ key ∷ [] }
 raise_key-lower to key m e = rw (e, raise_key) refl
 
 pub raise_key-enough : (to : Colour) (key : ℕ) (m : Marking) → is_lower to (object_at m.objects key) ≡ false → raise_key to key m ≡ m
@@ -108,29 +110,61 @@ raise_each-more to slots i m within =
     let first : drop i slots ≡ get_or slots i None ∷ drop (i + 1) slots = drop-cons slots i None within ∙ ap (λ j. get_or slots i None ∷ drop j slots) (sym (add-one i)) in
     sym (ap (λ xs. raise_each to xs m) first)
 
--- What is spent: no more are to come, and no more is to be done.
-pub record Spends (to : Colour) (old new : Marking) : Type 0 where
-  pub coming : to_come to new ≤ to_come to old
-  pub doing : to_do to new ≤ to_do to old
-
-pub Spends-same : (to : Colour) (m : Marking) → Spends to m m
-Spends-same to m = record { coming = omega arith; doing = omega arith }
-
-pub Spends-then : (to : Colour) (a b c : Marking) → Spends to a b → Spends to b c → Spends to a c
-Spends-then to a b c p q = record { coming = omega (arith, p.coming, q.coming); doing = omega (arith, p.doing, q.doing) }
-
--- an object that is raised comes onto the stack, and is one less that may come
-pub raise_key-spends : (to : Colour) (key : ℕ) (m : Marking) → Spends to m (raise_key to key m)
+-- No more is to be done: an object that is raised waits, and is one less that may be raised
+pub raise_key-spends : (to : Colour) (key : ℕ) (m : Marking) → to_do to (raise_key to key m) ≤ to_do to m
 raise_key-spends to key m = go (is_lower to (object_at m.objects key)) refl
   where
-    go : (b : Bool) → is_lower to (object_at m.objects key) ≡ b → Spends to m (raise_key to key m)
-    go true e =
-        let less : count_lower to (change_object m.objects key (raised to)) < count_lower to m.objects = fewer-lower to key m.objects e in
-        let long : length (m.stack ++ key ∷ []) ≡ length m.stack + 1 = length_push m.stack key in
-        subst (Spends to m) (sym (raise_key-lower to key m e)) (record { coming = omega arith; doing = omega arith })
-    go false e = subst (Spends to m) (sym (raise_key-enough to key m e)) (Spends-same to m)
+    go : (b : Bool) → is_lower to (object_at m.objects key) ≡ b → to_do to (raise_key to key m) ≤ to_do to m
+    go true e = omega (arith, ap (to_do to) (raise_key-lower to key m e), fewer-lower to key m.objects e, length_push m.waiting key)
+    go false e = omega (arith, ap (to_do to) (raise_key-enough to key m e))
 
-pub raise_each-spends : (to : Colour) (xs : List (Option ℕ)) (m : Marking) → Spends to m (raise_each to xs m)
-raise_each-spends to [] m = Spends-same to m
+pub raise_each-spends : (to : Colour) (xs : List (Option ℕ)) (m : Marking) → to_do to (raise_each to xs m) ≤ to_do to m
+raise_each-spends to [] m = omega arith
 raise_each-spends to (None ∷ xs) m = raise_each-spends to xs m
-raise_each-spends to (Some key ∷ xs) m = Spends-then to m (raise_key to key m) (raise_each to xs (raise_key to key m)) (raise_key-spends to key m) (raise_each-spends to xs (raise_key to key m))
+raise_each-spends to (Some key ∷ xs) m = omega (arith, raise_each-spends to xs (raise_key to key m), raise_key-spends to key m)
+
+-- What waits was raised
+
+pub raised-none : (to : Colour) (objects : List Object) (waiting : List ℕ) → waiting ≡ [] → AreRaised to (record { objects = objects; waiting = waiting })
+raised-none to objects waiting e k n = absurd (subst (Among k) e n)
+
+-- the first leaves,
+pub raised-front : (to : Colour) (m : Marking) (key : ℕ) (ks : List ℕ) → m.waiting ≡ key ∷ ks → AreRaised to m → AreRaised to (record { objects = m.objects; waiting = ks })
+raised-front to m key ks front h k n = h k (subst (Among k) (sym front) (inr n))
+
+-- and one that is raised comes
+pub raise_key-raised : (to : Colour) (key : ℕ) (m : Marking) → AreRaised to m → AreRaised to (raise_key to key m)
+raise_key-raised to key m h = go (is_lower to (object_at m.objects key)) refl
+  where
+    after : List Object
+    after = change_object m.objects key (raised to)
+
+    found : (k : ℕ) → object_at after k ≡ option_map (one_raised to key) (object_at m.objects k)
+    found k = object_at-map (one_raised to key) (one_raised-key to key) m.objects k
+
+    stays : (k : ℕ) → is_lower to (object_at m.objects k) ≡ false → is_lower to (object_at after k) ≡ false
+    stays k e = ap (is_lower to) (found k) ∙ each (object_at m.objects k) e
+      where
+        each : (o : Option Object) → is_lower to o ≡ false → is_lower to (option_map (one_raised to key) o) ≡ false
+        each None f = refl
+        each (Some o) f = either (o.key == key)
+          where
+            either : (b : Bool) → is_below (if b then raised to o else o).colour to ≡ false
+            either true = raised-enough to o
+            either false = f
+
+    here : is_lower to (object_at after key) ≡ false
+    here = ap (is_lower to) (found key) ∙ each (object_at m.objects key) refl
+      where
+        each : (o : Option Object) → object_at m.objects key ≡ o → is_lower to (option_map (one_raised to key) o) ≡ false
+        each None e = refl
+        each (Some o) e = ap (λ (z : Object). is_below z.colour to) (changed_at-same key (raised to) o (object_at-key m.objects key o e)) ∙ raised-enough to o
+
+    go : (b : Bool) → is_lower to (object_at m.objects key) ≡ b → AreRaised to (raise_key to key m)
+    go true e = subst (AreRaised to) (sym (raise_key-lower to key m e))
+        (λ k n. ⊎_elim (λ t. stays k (h k t)) (λ t. ⊎_elim (λ s. subst (λ j. is_lower to (object_at after j) ≡ false) s here) (λ x. absurd x) t) (Among-append k m.waiting (key ∷ []) n))
+    go false e = subst (AreRaised to) (sym (raise_key-enough to key m e)) h
+
+-- one that is lower does not wait
+pub lower-absent : (to : Colour) (key : ℕ) (m : Marking) → AreRaised to m → is_lower to (object_at m.objects key) ≡ true → ¬ (Among key m.waiting)
+lower-absent to key m h e n = true≢false (sym e ∙ h key n)

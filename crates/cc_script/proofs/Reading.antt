@@ -21,17 +21,3 @@ slot-read items slots i x same within read =
 -- it stands among the slots
 pub slot-among : (slots : List (Option ℕ)) (i : ℕ) (x : Option ℕ) → i < length slots → get_or slots i None ≡ x → Among x slots
 slot-among slots i x within e = subst (λ y. Among y slots) e (Among-contains (get_or slots i None) slots (Contains-get_or slots i None within))
-
--- The keys of an order, by places
-
-pub place-among : (items : List SKey) (place : ℕ) (x : SKey) → place < length items → x ≡ get_or items place x → Among x.0 (map (λ (k : SKey). k.0) items)
-place-among items place x within read =
-    Among-map (λ (k : SKey). k.0) x items (subst (λ y. Among y items) (sym read) (Among-contains (get_or items place x) items (Contains-get_or items place x within)))
-
-pub take-place : (items : List SKey) (place : ℕ) (x : SKey) → place < length items → x ≡ get_or items place x →
-    take (place + 1) (map (λ (k : SKey). k.0) items) ≡ take place (map (λ (k : SKey). k.0) items) ++ x.0 ∷ []
-take-place items place x within read =
-    let keys : List ℕ = map (λ (k : SKey). k.0) items in
-    let inside : place < length keys = subst (λ n. place < n) (sym (length-map items (λ (k : SKey). k.0))) within in
-    ap (λ n. take n keys) (add-one place)
-    ∙ (take-suc keys place x.0 inside ∙ ap (λ k. take place keys ++ k ∷ []) (get_or-map (λ (k : SKey). k.0) items place x ∙ ap (λ (k : SKey). k.0) (sym read)))

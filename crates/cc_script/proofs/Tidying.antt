@@ -1,6 +1,8 @@
 -- HEAPS OF TESTS stay tidy as objects are made and hold one another; and white ones, as they are taken out.
-use Rattle.std.proofs.Common.{◌≡◌, ℕ, ◌<◌, Bool, true, false, List, [], ◌∷◌, ◌++◌, length, Option, Some, None, option_map, refl, sym, ◌∙◌, ap, subst, ⊎_elim, arith, not, ◌==◌}
+use Rattle.std.proofs.Common.{◌≡◌, ◌≢◌, is_some, ℕ, ◌<◌, Bool, true, false, List, [], ◌∷◌, ◌++◌, length, Option, Some, None, option_map, refl, sym, ◌∙◌, ap, subst, ⊎_elim, arith, not, ◌==◌}
+use Rattle.std.proofs.lemmas.Bool.{eqb-true, ne_eqb}
 use Rattle.std.proofs.lemmas.List.{length-set}
+use Rattle.cc_lists.proofs.Searching.{find-filter}
 use Rattle.cc_lists.proofs.Members.{Among-append, Among-map_cases, Among-filtered}
 use Rattle.cc_names.specs.declared.kind.Colour.{Colour}
 use Rattle.cc_names.specs.declared.kind.Colour.TheVariants.{White, Black}
@@ -64,3 +66,10 @@ white-there objects key white live =
 
 pub white-without : (objects : List Object) (key : ℕ) → AllAreWhite objects → AllAreWhite (without_object objects key)
 white-without objects key white o m = white o (Among-filtered (λ (z : Object). not (z.key == key)) o objects m)
+
+-- what is there stays there while another leaves
+pub there-without : (objects : List Object) (key q : ℕ) → q ≢ key → is_there (without_object objects key) q ≡ is_there objects q
+there-without objects key q other = ap is_some (find-filter (λ (z : Object). z.key == q) (λ (z : Object). not (z.key == key)) objects (λ z e. ap not (kept z e)))
+  where
+    kept : (z : Object) → (z.key == q) ≡ true → (z.key == key) ≡ false
+    kept z e = ne_eqb z.key key (λ s. other (sym (eqb-true z.key q e) ∙ s))

@@ -97,20 +97,20 @@ module _ (before : List Object) (root : ℕ) (to : Colour) where
       go false h = inr (ap (is_lower to) (sym (found ∙ same (object_at before q) refl h)) ∙ e)
 
   -- THE WALK SO FAR: these keys were raised, each is reached, and what the slots of each hold was met, but for those
-  -- that stand on the stack or are in hand.
+  -- that wait or are in hand.
   pub record IsMarking (hand : List ℕ) (m : Marking) : Type 0 where
     pub keys : List ℕ
     pub objects : m.objects ≡ raised_among keys to before
     pub reached : (k : ℕ) → Among k keys → IsReachedOverSlots before (root ∷ []) k
-    pub stacked : (k : ℕ) → Among k m.stack → Among k keys
-    pub followed : (k q : ℕ) → Among k keys → Among (Some q) (slots_at before k) → (Among k hand ⊎ Among k m.stack) ⊎ IsMet keys q
+    pub waits : (k : ℕ) → Among k m.waiting → Among k keys
+    pub followed : (k q : ℕ) → Among k keys → Among (Some q) (slots_at before k) → (Among k hand ⊎ Among k m.waiting) ⊎ IsMet keys q
 
-  pub marking-start : IsMarking [] (record { objects = before; stack = [] })
+  pub marking-start : IsMarking [] (record { objects = before; waiting = [] })
   marking-start = record {
     keys = [];
     objects = sym (map-id before);
     reached = λ k m. absurd m;
-    stacked = λ k m. absurd m;
+    waits = λ k m. absurd m;
     followed = λ k q m s. absurd m;
   }
 
@@ -128,11 +128,11 @@ module _ (before : List Object) (root : ℕ) (to : Colour) where
   pub raise_key-marks : (hand : List ℕ) (m : Marking) (h : IsMarking hand m) (q : ℕ) → IsReachedOverSlots before (root ∷ []) q → Raises hand h.keys q (raise_key to q m)
   raise_key-marks hand m h q r = go (is_lower to (object_at m.objects q)) refl
     where
-      mine : (j p : ℕ) → Among j (q ∷ h.keys) → Among (Some p) (slots_at before j) → (Among j hand ⊎ Among j (m.stack ++ q ∷ [])) ⊎ IsMet (q ∷ h.keys) p
+      mine : (j p : ℕ) → Among j (q ∷ h.keys) → Among (Some p) (slots_at before j) → (Among j hand ⊎ Among j (m.waiting ++ q ∷ [])) ⊎ IsMet (q ∷ h.keys) p
       mine j p w s = ⊎_elim
-          (λ e. inl (inr (Among-right j m.stack (q ∷ []) (inl e))))
+          (λ e. inl (inr (Among-right j m.waiting (q ∷ []) (inl e))))
           (λ t. ⊎_elim
-          (λ x. inl (⊎_elim (λ y. inl y) (λ y. inr (Among-left j m.stack (q ∷ []) y)) x))
+          (λ x. inl (⊎_elim (λ y. inl y) (λ y. inr (Among-left j m.waiting (q ∷ []) y)) x))
           (λ x. inr (met-more h.keys (q ∷ h.keys) (λ k n. inr n) p x))
           (h.followed j p t s)) w
 
@@ -142,7 +142,7 @@ module _ (before : List Object) (root : ℕ) (to : Colour) where
           keys = q ∷ h.keys;
           objects = ap (λ os. change_object os q (raised to)) h.objects ∙ raised-more h.keys to q before;
           reached = λ k n. ⊎_elim (λ s. subst (IsReachedOverSlots before (root ∷ [])) s r) (λ t. h.reached k t) n;
-          stacked = λ k n. ⊎_elim (λ t. inr (h.stacked k t)) (λ t. ⊎_elim (λ s. inl s) (λ x. absurd x) t) (Among-append k m.stack (q ∷ []) n);
+          waits = λ k n. ⊎_elim (λ t. inr (h.waits k t)) (λ t. ⊎_elim (λ s. inl s) (λ x. absurd x) t) (Among-append k m.waiting (q ∷ []) n);
           followed = mine;
         };
         met = inl (inl refl);
@@ -182,36 +182,36 @@ module _ (before : List Object) (root : ℕ) (to : Colour) where
     pub marking : IsMarking [] m
     pub begun : IsMet marking.keys root
 
-  pub walk-start : IsWalk (raise_key to root (record { objects = before; stack = [] }))
+  pub walk-start : IsWalk (raise_key to root (record { objects = before; waiting = [] }))
   walk-start =
-      let f = raise_key-marks [] (record { objects = before; stack = [] }) marking-start root (reached-root before root) in
+      let f = raise_key-marks [] (record { objects = before; waiting = [] }) marking-start root (reached-root before root) in
       record { marking = f.after; begun = f.met }
 
   -- what is there, is there throughout
   pub walk-there : (m : Marking) → IsWalk m → (q : ℕ) → is_there m.objects q ≡ is_there before q
   walk-there m w q = ap (λ os. is_there os q) w.marking.objects ∙ is_there-kept (risen w.marking.keys to) (risen-key w.marking.keys to) (risen-slots w.marking.keys to) before q
 
-  -- an object taken from the stack, and what its slots hold raised
-  module _ (m : Marking) (w : IsWalk m) (ks : List ℕ) (key : ℕ) (top : m.stack ≡ ks ++ key ∷ []) where
+  -- the first that waits looked into: what its slots hold raised
+  module _ (m : Marking) (w : IsWalk m) (key : ℕ) (ks : List ℕ) (front : m.waiting ≡ key ∷ ks) where
     abbrev rest : Marking
-    rest = record { objects = m.objects; stack = ks }
+    rest = record { objects = m.objects; waiting = ks }
 
     abbrev taken : IsMarking (key ∷ []) rest
     taken = record {
       keys = w.marking.keys;
       objects = w.marking.objects;
       reached = w.marking.reached;
-      stacked = λ k n. w.marking.stacked k (subst (Among k) (sym top) (Among-left k ks (key ∷ []) n));
+      waits = λ k n. w.marking.waits k (subst (Among k) (sym front) (inr n));
       followed = λ k q n s. ⊎_elim
           (λ t. inl (⊎_elim
           (λ x. absurd x)
-          (λ x. ⊎_elim (λ y. inr y) (λ y. inl y) (Among-append k ks (key ∷ []) (subst (Among k) top x))) t))
+          (λ x. ⊎_elim (λ e. inl (inl e)) (λ y. inr y) (subst (Among k) front x)) t))
           (λ t. inr t)
           (w.marking.followed k q n s);
     }
 
     stood : Among key w.marking.keys
-    stood = w.marking.stacked key (subst (Among key) (sym top) (Among-right key ks (key ∷ []) (inl refl)))
+    stood = w.marking.waits key (subst (Among key) (sym front) (inl refl))
 
     -- it is reached, and so is what its slots hold
     pub walk-reached : IsReachedOverSlots before (root ∷ []) key
@@ -225,7 +225,7 @@ module _ (before : List Object) (root : ℕ) (to : Colour) where
         let f = slot-object before key q (subst (λ xs. Among (Some q) xs) walk-slots n) in
         reached-slot before root f.0 q (object_at-among before key f.0 f.1) f.2 (subst (IsReachedOverSlots before (root ∷ [])) (sym (object_at-key before key f.0 f.1)) walk-reached)
 
-    pub walk-next : IsWalk (raise_each to (slots_at m.objects key) (record { objects = m.objects; stack = ks }))
+    pub walk-next : IsWalk (raise_each to (slots_at m.objects key) (record { objects = m.objects; waiting = ks }))
     walk-next =
         let s = raise_each-marks (key ∷ []) (slots_at m.objects key) rest taken walk-held in
         record {
@@ -233,7 +233,7 @@ module _ (before : List Object) (root : ℕ) (to : Colour) where
             keys = s.after.keys;
             objects = s.after.objects;
             reached = s.after.reached;
-            stacked = s.after.stacked;
+            waits = s.after.waits;
             followed = λ k q n t. ⊎_elim
                 (λ x. ⊎_elim
                 (λ y. ⊎_elim
@@ -246,8 +246,8 @@ module _ (before : List Object) (root : ℕ) (to : Colour) where
           begun = met-more w.marking.keys s.after.keys s.more root w.begun;
         }
 
-  -- THE END: where nothing stands on the stack, all that is reached was met
-  module _ (own : (o : Object) → Among o before → object_at before o.key ≡ Some o) (ordered : HasColourOrder before) (m : Marking) (w : IsWalk m) (emptied : m.stack ≡ []) where
+  -- THE END: where nothing waits, all that is reached was met
+  module _ (own : (o : Object) → Among o before → object_at before o.key ≡ Some o) (ordered : HasColourOrder before) (m : Marking) (w : IsWalk m) (emptied : m.waiting ≡ []) where
     abbrev keys : List ℕ
     keys = w.marking.keys
 

@@ -1,11 +1,11 @@
 -- ALL OBJECTS MADE WHITE, one key after another.
-use Rattle.std.proofs.Common.{◌≡◌, ℕ, Bool, true, false, ◌||◌, List, [], ◌∷◌, ◌++◌, map, refl, sym, ◌∙◌, ap, subst, ⊎_elim, inl, inr, ◌==◌, if◌then◌else◌}
+use Rattle.std.proofs.Common.{◌≡◌, ℕ, Bool, true, false, ◌||◌, List, [], ◌∷◌, map, ◌⊎◌, refl, sym, ◌∙◌, ap, subst, ⊎_elim, inl, inr, ◌==◌, if◌then◌else◌}
 use Rattle.std.proofs.lemmas.Bool.{ne_eqb}
 use Rattle.std.proofs.lemmas.Bool.Decides.{eqb_tells}
 use Rattle.std.proofs.lemmas.List.{map-id}
 use Rattle.std.proofs.lemmas.Simd.{map-map}
 use Rattle.cc_lists.specs.Members.{Among, has}
-use Rattle.cc_lists.proofs.Members.{Among-append, Among-map_cases, has-there}
+use Rattle.cc_lists.proofs.Members.{Among-map_cases, has-there}
 use Rattle.cc_lists.proofs.ListWrites.{map-agree}
 use Rattle.cc_lists.proofs.Numbers.{number-exact}
 use Rattle.cc_names.specs.declared.kind.Colour.TheVariants.{White}
@@ -43,28 +43,31 @@ faded-more keys k objects = map-map (changed_at k (with_colour White)) (faded ke
         ap (λ b. if b then with_colour White (faded keys o) else faded keys o) other ∙ ap (λ b. if b then with_colour White o else o) (sym there))
         (eqb_tells k o.key)
 
--- what stood at these keys is white, and at no others but those that were so, in another order
-pub record IsFading (before objects : List Object) (done : List ℕ) : Type 0 where
+-- what stood at these keys is white, and at no others but those that were so; each key of the order is one of them, or
+-- is left
+pub record IsFading (before objects : List Object) (order left : List ℕ) : Type 0 where
   pub keys : List ℕ
   pub shown : objects ≡ map (faded keys) before
-  pub covers : (k : ℕ) → Among k done → Among k keys
+  pub covers : (k : ℕ) → Among k order → Among k keys ⊎ Among k left
 
-pub fading-start : (before : List Object) → IsFading before before []
-fading-start before = record { keys = []; shown = sym (map-id before); covers = λ k m. m }
+pub fading-start : (before : List Object) (order left : List ℕ) → left ≡ order → IsFading before before order left
+fading-start before order left all = record { keys = []; shown = sym (map-id before); covers = λ k m. inr (subst (Among k) (sym all) m) }
 
-pub fading-next : (before objects : List Object) (done : List ℕ) (key : ℕ) → IsFading before objects done → IsFading before (change_object objects key (with_colour White)) (done ++ key ∷ [])
-fading-next before objects done key h = record {
+pub fading-next : (before objects : List Object) (order left rest : List ℕ) (key : ℕ) → left ≡ key ∷ rest → IsFading before objects order left →
+    IsFading before (change_object objects key (with_colour White)) order rest
+fading-next before objects order left rest key first h = record {
   keys = key ∷ h.keys;
   shown = ap (λ os. change_object os key (with_colour White)) h.shown ∙ faded-more h.keys key before;
-  covers = λ k m. ⊎_elim (λ t. inr (h.covers k t)) (λ t. ⊎_elim (λ e. inl e) (λ x. absurd x) t) (Among-append k done (key ∷ []) m);
+  covers = λ k m. ⊎_elim (λ t. inl (inr t)) (λ t. ⊎_elim (λ e. inl (inl e)) (λ r. inr r) (subst (Among k) first t)) (h.covers k m);
 }
 
--- where it is all keys, all is white
-pub fading-end : (l : Lists) (objects : List Object) → IsFading (objects_of l) objects l.order → objects ≡ whitened (objects_of l)
+-- where none is left, all is white
+pub fading-end : (l : Lists) (objects : List Object) → IsFading (objects_of l) objects l.order [] → objects ≡ whitened (objects_of l)
 fading-end l objects h = h.shown ∙ map-agree (faded h.keys) (with_colour White) (objects_of l) each
   where
     each : (o : Object) → Among o (objects_of l) → faded h.keys o ≡ with_colour White o
     each o m =
         let k = Among-map_cases (shown_at l.cells) l.order o m in
-        let there : has ◌==◌ h.keys o.key ≡ true = has-there ◌==◌ number-exact h.keys o.key (h.covers o.key (subst (λ j. Among j l.order) (ap (λ (z : Object). z.key) k.2) k.1)) in
+        let mine : Among o.key h.keys = ⊎_elim (λ t. t) (λ t. absurd t) (h.covers o.key (subst (λ j. Among j l.order) (ap (λ (z : Object). z.key) k.2) k.1)) in
+        let there : has ◌==◌ h.keys o.key ≡ true = has-there ◌==◌ number-exact h.keys o.key mine in
         rw there refl

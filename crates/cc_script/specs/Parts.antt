@@ -1,15 +1,16 @@
 -- The parts of a script heap as they lie in memory, as the lists that they stand for; between two calls, and in a walk.
-use Rattle.std.specs.Prelude.{◌≡◌, ◌+◌, ◌<◌, ◌≤◌, List, [], map, length, vec_len, vec_capacity}
-use Rattle.slab.specs.Slab.{HasRoomFor}
+use Rattle.std.specs.Prelude.{◌≡◌, List, [], length}
 use Rattle.cc_names.specs.declared.kind.Colour.{Colour}
+use Rattle.cc_chain.specs.Chains.{IsChain, walked}
 use Rattle.cc_script.specs.declared.parts.ScriptParts.{ScriptParts}
 use Rattle.cc_script.specs.Objects.{Object}
 use Rattle.cc_script.specs.Lists.{Lists, objects_of, IsPlaced}
 use Rattle.cc_script.specs.ColourOrder.{HasColourOrder}
-use Rattle.cc_script.specs.Marking.{Marking, to_come}
+use Rattle.cc_script.specs.Marking.{Marking, AreRaised}
+use Rattle.cc_script.specs.Cells.{cells_of, order_links, waiting_links}
 
 abbrev pub lists_of : ScriptParts → Lists
-lists_of p = record { cells = p.cells.slots; order = map (λ k. k.0) p.order.items }
+lists_of p = record { cells = cells_of p.cells.slots; order = walked (length p.cells.slots) (order_links p.cells.slots) p.order.first }
 
 -- what the parts show
 abbrev pub shows : ScriptParts → List Object
@@ -17,27 +18,26 @@ shows p = objects_of (lists_of p)
 
 -- and in a walk
 abbrev pub marking_of : ScriptParts → Marking
-marking_of p = record { objects = shows p; stack = map (λ k. k.0) p.stack.items }
+marking_of p = record { objects = shows p; waiting = walked (length p.cells.slots) (waiting_links p.cells.slots) p.waiting.first }
 
--- the stack has room for all objects
-abbrev pub HasRoom : ScriptParts → Type 0
-HasRoom p = length p.order.items ≤ vec_capacity p.stack
+-- each chain is the list that is read from it
+pub record IsChained (p : ScriptParts) : Type 0 where
+  pub order : IsChain (order_links p.cells.slots) p.order (lists_of p).order
+  pub waiting : IsChain (waiting_links p.cells.slots) p.waiting (marking_of p).waiting
 
--- and for one more, which takes no memory then
-pub record HasRoomForOne (p : ScriptParts) : Type 0 where
-  pub cells : HasRoomFor p.cells 1
-  pub order : vec_len p.order < vec_capacity p.order
-  pub stack : length p.order.items + 1 ≤ vec_capacity p.stack
-
--- the parts fit together, the colours are in order, no object waits to be looked into, and there is room
+-- the parts fit together, the colours are in order, and no object waits to be looked into
 pub record IsAtRest (p : ScriptParts) : Type 0 where
   pub placed : IsPlaced (lists_of p)
+  pub chained : IsChained p
   pub coloured : HasColourOrder (shows p)
-  pub emptied : p.stack.items ≡ []
-  pub room : HasRoom p
+  pub emptied : (marking_of p).waiting ≡ []
 
--- the parts fit together, and there is room for all objects that may come onto the stack
+-- the parts fit together, and what waits to be looked into was raised
 pub record IsUnderWay (to : Colour) (p : ScriptParts) : Type 0 where
   pub placed : IsPlaced (lists_of p)
-  pub room : HasRoom p
-  pub few : to_come to (marking_of p) ≤ length p.order.items
+  pub chained : IsChained p
+  pub raised : AreRaised to (marking_of p)
+
+-- the slab, which alone grows, holds as much memory as it did
+abbrev pub TakesNoMemory : ScriptParts → ScriptParts → Type 0
+TakesNoMemory old new = new.cells.capacity ≡ old.cells.capacity

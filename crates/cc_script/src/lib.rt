@@ -12,13 +12,14 @@
 //! No object that isn't white holds one of a lower colour. So a walk may stop at each object that has the colour to which
 //! it raises.
 //!
-//! A call that makes an object takes all memory that later calls may want: room on the stack of the walk for every
-//! object. No other call takes memory, at any depth.
+//! Each object has its neighbours in order of making and in the list of those that a walk has yet to look into. So a
+//! call that makes an object takes the object's own memory, and no other call takes any, at any depth; and an object
+//! leaves, and the next one is found, by a look at its neighbours alone.
 #![tactic(auto)]
 
 mod cell;
 mod laws;
-mod order;
+mod links;
 mod parts;
 mod scripts;
 

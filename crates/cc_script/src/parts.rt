@@ -1,30 +1,31 @@
 //! The parts of the script heap, and the walk that raises colours.
-ghost use Rattle.std.specs.Prelude.{◌≡◌, ℕ, ◌<◌, ◌≤◌, false, List, [], ◌∷◌, ◌++◌, length, Some, None, IfOk, IfSome, IsTrue, OnErr, OnOk, option_map, replicate, slice_index_or};
+ghost use Rattle.std.specs.Prelude.{◌≡◌, ℕ, ◌<◌, ◌≤◌, false, List, [], ◌∷◌, ◌++◌, length, Some, None, IfOk, IfSome, IsTrue, OnErr, option_map, replicate, slice_index_or};
 ghost use Rattle.cc_lists.specs.Members.{Among};
 ghost use Rattle.cc_names.specs.declared.kind.Colour.TheVariants.{White};
-ghost use Rattle.cc_script.specs.Objects.{AreWhole, FitsKind, IsNotBelow, change_object, colour_at, is_there, new_object, raised_among, slots_at, whitened, with_slot, without_object};
+ghost use Rattle.cc_script.specs.Objects.{AreWhole, FitsKind, IsNotBelow, change_object, colour_at, first_key, is_there, key_after, new_object, raised_among, slots_at, whitened, with_slot, without_object};
 ghost use Rattle.cc_script.specs.Walking.{keys_reached};
+ghost use Rattle.cc_script.specs.Lists.{IsPlaced, cell_at};
 ghost use Rattle.cc_script.specs.Marking.{raise_each, raise_key, raise_slot};
 
 use crate::cell::{Cell, is_below, paint, write};
-use crate::order::leave;
+use crate::links::{Order, Waiting};
+use cc_chain::Chain;
 use cc_names::{Colour, Kind, NKey, Name, NoMemory, SKey};
 use slab::Slab;
 use std::alloc::Global;
 
-/// The objects by key, their keys in order of making, and the keys of those that a walk raised and has not looked into.
+/// The objects by key, their list in order of making, and the list of those that a walk raised and has not looked into.
 ///
-/// The stack has room for every object, so that no walk takes memory.
+/// Both lists go through the objects, so the slab alone takes memory.
 #[derive(Drop)]
 pub(crate) struct ScriptParts {
-    pub(crate) cells: Slab<Cell>,
-    // O(n) for each object that leaves, until the order is a chain
-    pub(crate) order: Vec<SKey>,
-    pub(crate) stack: Vec<SKey>,
+    cells: Slab<Cell>,
+    order: Chain<Order>,
+    waiting: Chain<Waiting>,
 }
 
 impl ScriptParts {
-    ghost use Rattle.cc_script.specs.Parts.{lists_of, shows, marking_of, HasRoom, HasRoomForOne, IsAtRest, IsUnderWay};
+    ghost use Rattle.cc_script.specs.Parts.{lists_of, shows, marking_of, IsAtRest, IsUnderWay, TakesNoMemory};
 
     /// No objects.
     pub(crate) fn new(alloc: Global) -> ScriptParts
@@ -33,25 +34,9 @@ impl ScriptParts {
     {
         ScriptParts {
             cells: Slab::new(alloc),
-            order: Vec::new(alloc),
-            stack: Vec::new(alloc),
+            order: Chain::new(),
+            waiting: Chain::new(),
         }
-    }
-
-    /// Takes the memory of one more object: gives its empty slots, so many, and makes room for it in each list.
-    fn take_room(&mut self, alloc: Global, slots: u8) -> Result<Vec<Option<SKey>>, NoMemory>
-        requires at_rest { IsAtRest self.old }
-        ensures kept { lists_of self.new ≡ lists_of self.old }
-        ensures at_rest { IsAtRest self.new }
-        ensures room { OnOk result (HasRoomForOne self.new) }
-        ensures slots { IfOk result (λ v. v.items ≡ replicate slots None) }
-    {
-        let empty = vec![in alloc; None; slots as usize]?;
-        self.cells.reserve(1)?;
-        self.order.reserve(1)?;
-        let most = self.order.len() + 1;
-        self.stack.reserve(most)?;
-        Ok(empty)
     }
 
     /// Makes a black object with so many empty slots, which goes last.
@@ -71,18 +56,49 @@ impl ScriptParts {
         ensures err { OnErr result (shows self.new ≡ shows self.old) }
         ensures at_rest { IsAtRest self.new }
     {
-        let empty = self.take_room(alloc, slots)?;
-        let key = SKey(
-            self.cells.insert_reserved(Cell {
-                name,
-                kind,
-                native,
-                slots: empty,
-                colour: Colour::Black,
-            }),
-        );
-        self.order.push_reserved(key);
-        Ok(key)
+        let empty = empty_slots(alloc, slots)?;
+        self.cells.reserve(1)?;
+        let key = self.cells.insert_reserved(Cell {
+            name,
+            kind,
+            native,
+            slots: empty,
+            colour: Colour::Black,
+            order: None,
+            waiting: None,
+        });
+        self.order.push_back(&mut self.cells, key);
+        Ok(SKey(key))
+    }
+
+    /// The object at a key.
+    pub(crate) fn cell(&self, key: SKey) -> &Cell
+        requires placed { IsPlaced (lists_of self.now) }
+        requires live { IsTrue (is_there (shows self.now) key.0) }
+        ensures { cell_at (lists_of self.now).cells key.0 ≡ Some result.now.placed }
+    {
+        &self.cells[key.0]
+    }
+
+    /// The object that was made first; none exactly where there is none.
+    pub(crate) fn first(&self) -> Option<SKey>
+        requires at_rest { IsAtRest self.now }
+        ensures key { option_map (λ k. k.0) result ≡ first_key (shows self.now) }
+        ensures live { IfSome result (λ k. IsTrue (is_there (shows self.now) k.0)) }
+    {
+        let key = self.order.first(&self.cells)?;
+        Some(SKey(key))
+    }
+
+    /// The object that was made next after another; none exactly where that is the last.
+    pub(crate) fn next(&self, key: SKey) -> Option<SKey>
+        requires at_rest { IsAtRest self.now }
+        requires live { IsTrue (is_there (shows self.now) key.0) }
+        ensures key { option_map (λ k. k.0) result ≡ key_after (shows self.now) key.0 }
+        ensures live { IfSome result (λ k. IsTrue (is_there (shows self.now) k.0)) }
+    {
+        let next = self.order.next(&self.cells, key.0)?;
+        Some(SKey(next))
     }
 
     /// Writes slot `i` of the object at a key.
@@ -94,6 +110,7 @@ impl ScriptParts {
         requires colours { IfSome item (λ k. IsNotBelow (colour_at (shows self.old) k.0) (colour_at (shows self.old) key.0)) }
         ensures shows { shows self.new ≡ change_object (shows self.old) key.0 (with_slot i (option_map (λ k. k.0) item)) }
         ensures at_rest { IsAtRest self.new }
+        ensures memory { TakesNoMemory self.old self.new }
     {
         write(&mut self.cells, key, i as usize, item);
     }
@@ -103,10 +120,12 @@ impl ScriptParts {
         requires at_rest { IsAtRest self.old }
         ensures shows { shows self.new ≡ whitened (shows self.old) }
         ensures at_rest { IsAtRest self.new }
+        ensures memory { TakesNoMemory self.old self.new }
     {
-        for place in 0..self.order.len() {
-            let key = self.order[place];
-            paint(&mut self.cells, key, Colour::White);
+        let mut at = self.order.first(&self.cells);
+        while let Some(key) = at {
+            paint(&mut self.cells, SKey(key), Colour::White);
+            at = self.order.next(&self.cells, key);
         }
     }
 
@@ -116,21 +135,23 @@ impl ScriptParts {
         requires white { colour_at (shows self.old) key.0 ≡ Some White }
         ensures shows { shows self.new ≡ without_object (shows self.old) key.0 }
         ensures at_rest { IsAtRest self.new }
+        ensures memory { TakesNoMemory self.old self.new }
     {
+        self.order.unlink_at(&mut self.cells, key.0);
         let _cell = self.cells.remove(key.0);
-        leave(&mut self.order, key);
     }
 
-    /// Raises the object at a key where it is below `to`, and puts it onto the stack then.
+    /// Raises the object at a key where it is below `to`; it waits last then.
     fn raise(&mut self, key: SKey, to: Colour)
         requires under_way { IsUnderWay to self.old }
         requires live { IsTrue (is_there (shows self.old) key.0) }
         ensures raises { marking_of self.new ≡ raise_key to key.0 (marking_of self.old) }
         ensures under_way { IsUnderWay to self.new }
+        ensures memory { TakesNoMemory self.old self.new }
     {
-        if is_below(self.cells[key.0].colour, to) {
+        if is_below(self.cell(key).colour, to) {
             paint(&mut self.cells, key, to);
-            self.stack.push_reserved(key);
+            self.waiting.push_back(&mut self.cells, key.0);
         }
     }
 
@@ -142,8 +163,9 @@ impl ScriptParts {
         requires held { (q : ℕ) → Among (Some q) (slots_at (shows self.old) key.0) → IsTrue (is_there (shows self.old) q) }
         ensures raises { marking_of self.new ≡ raise_slot to (slice_index_or (slots_at (shows self.old) key.0) i None) (marking_of self.old) }
         ensures under_way { IsUnderWay to self.new }
+        ensures memory { TakesNoMemory self.old self.new }
     {
-        if let Some(item) = self.cells[key.0].slots[i] {
+        if let Some(item) = self.cell(key).slots[i] {
             self.raise(item, to);
         }
     }
@@ -155,8 +177,9 @@ impl ScriptParts {
         requires held { (q : ℕ) → Among (Some q) (slots_at (shows self.old) key.0) → IsTrue (is_there (shows self.old) q) }
         ensures raises { marking_of self.new ≡ raise_each to (slots_at (shows self.old) key.0) (marking_of self.old) }
         ensures under_way { IsUnderWay to self.new }
+        ensures memory { TakesNoMemory self.old self.new }
     {
-        let slots = self.cells[key.0].slots.len();
+        let slots = self.cell(key).slots.len();
         for i in 0..slots {
             self.raise_slot(key, i, to);
         }
@@ -169,10 +192,19 @@ impl ScriptParts {
         requires whole { AreWhole (shows self.old) }
         ensures shows { shows self.new ≡ raised_among (keys_reached (shows self.old) (key.0 ∷ [])) to (shows self.old) }
         ensures at_rest { IsAtRest self.new }
+        ensures memory { TakesNoMemory self.old self.new }
     {
         self.raise(key, to);
-        while let Some(next) = self.stack.pop() {
-            self.raise_each(next, to);
+        while let Some(next) = self.waiting.pop_front(&mut self.cells) {
+            self.raise_each(SKey(next), to);
         }
     }
+}
+
+/// The slots of a new object: so many, and nothing in them.
+fn empty_slots(alloc: Global, slots: u8) -> Result<Vec<Option<SKey>>, NoMemory>
+    ensures { IfOk result (λ v. v.items ≡ replicate slots None) }
+{
+    let empty = vec![in alloc; None; slots as usize]?;
+    Ok(empty)
 }

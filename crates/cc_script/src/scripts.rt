@@ -5,7 +5,6 @@ ghost use Rattle.cc_names.specs.declared.kind.Kind.TheVariants.{Reflector};
 ghost use Rattle.cc_script.specs.Objects.{AreWhole, change_object, colour_at, first_key, is_there, key_after, kind_at, map_object, name_at, native_at, plain_object, reflector_object, raised_among, slots_at, whitened, with_slot, without_object, IsNotBelow};
 ghost use Rattle.cc_script.specs.Walking.{keys_reached};
 
-use crate::order::{behind, key_at};
 use crate::parts::ScriptParts;
 use cc_names::{Colour, Kind, NKey, Name, NativeNo, NoMemory, SKey, ScriptNo};
 use std::alloc::Global;
@@ -90,7 +89,7 @@ impl Scripts {
         requires live { IsTrue (is_there self.now key.0) }
         ensures { kind_at self.now key.0 ≡ Some result }
     {
-        self.parts.cells[key.0].kind
+        self.parts.cell(key).kind
     }
 
     /// The name of an object.
@@ -98,7 +97,7 @@ impl Scripts {
         requires live { IsTrue (is_there self.now key.0) }
         ensures { name_at self.now key.0 ≡ Some result }
     {
-        self.parts.cells[key.0].name
+        self.parts.cell(key).name
     }
 
     /// Where the native of a reflector stands in its own heap; none exactly of what is no reflector.
@@ -107,7 +106,7 @@ impl Scripts {
         ensures native { option_map (λ k. k.0) result ≡ native_at self.now key.0 }
         ensures exactly { IsSome result ↔ (kind_at self.now key.0 ≡ Some Reflector) }
     {
-        self.parts.cells[key.0].native
+        self.parts.cell(key).native
     }
 
     /// The colour of an object.
@@ -115,7 +114,7 @@ impl Scripts {
         requires live { IsTrue (is_there self.now key.0) }
         ensures { colour_at self.now key.0 ≡ Some result }
     {
-        self.parts.cells[key.0].colour
+        self.parts.cell(key).colour
     }
 
     /// How many slots an object has: 0 to 64.
@@ -123,7 +122,7 @@ impl Scripts {
         requires live { IsTrue (is_there self.now key.0) }
         ensures { result ≡ length (slots_at self.now key.0) }
     {
-        self.parts.cells[key.0].slots.len() as u8
+        self.parts.cell(key).slots.len() as u8
     }
 
     /// What slot `i` of an object holds, counted from 0.
@@ -132,7 +131,7 @@ impl Scripts {
         requires within { i < length (slots_at self.now key.0) }
         ensures { option_map (λ k. k.0) result ≡ slice_index_or (slots_at self.now key.0) i None }
     {
-        self.parts.cells[key.0].slots[i as usize]
+        self.parts.cell(key).slots[i as usize]
     }
 
     /// Puts `item`, or nothing, into slot `i` of an object, counted from 0. Its colour isn't lower than the object's.
@@ -151,7 +150,7 @@ impl Scripts {
         ensures key { option_map (λ k. k.0) result ≡ first_key self.now }
         ensures live { IfSome result (λ k. IsTrue (is_there self.now k.0)) }
     {
-        key_at(self.parts.order.as_slice(), 0)
+        self.parts.first()
     }
 
     /// The object that was made next after another; none exactly where that is the last.
@@ -160,7 +159,7 @@ impl Scripts {
         ensures key { option_map (λ k. k.0) result ≡ key_after self.now key.0 }
         ensures live { IfSome result (λ k. IsTrue (is_there self.now k.0)) }
     {
-        behind(self.parts.order.as_slice(), key)
+        self.parts.next(key)
     }
 
     /// Makes all objects white.

@@ -138,6 +138,56 @@ fn remove_first(heap: &mut Scripts, times: u32)
     }
 }
 
+/// Takes out an object, unless it is `kept`.
+fn remove_other(heap: &mut Scripts, key: SKey, kept: SKey)
+    requires white { AllAreWhite heap.old }
+    requires live { IsTrue (is_there heap.old key.0) }
+    requires kept { IsTrue (is_there heap.old kept.0) }
+    ensures white { AllAreWhite heap.new }
+    ensures kept { IsTrue (is_there heap.new kept.0) }
+{
+    if key.0 != kept.0 {
+        heap.remove(key);
+    }
+}
+
+/// Takes out the object behind one.
+fn remove_behind(heap: &mut Scripts, key: SKey)
+    requires white { AllAreWhite heap.old }
+    requires live { IsTrue (is_there heap.old key.0) }
+    ensures white { AllAreWhite heap.new }
+    ensures live { IsTrue (is_there heap.new key.0) }
+{
+    if let Some(next) = heap.next(key) {
+        remove_other(heap, next, key);
+    }
+}
+
+/// Takes out the first object, unless it is the one at a key.
+fn remove_before(heap: &mut Scripts, key: SKey)
+    requires white { AllAreWhite heap.old }
+    requires live { IsTrue (is_there heap.old key.0) }
+    ensures white { AllAreWhite heap.new }
+    ensures live { IsTrue (is_there heap.new key.0) }
+{
+    if let Some(first) = heap.first() {
+        remove_other(heap, first, key);
+    }
+}
+
+/// Takes out the object behind one and the first of all, so many times.
+fn remove_around(heap: &mut Scripts, key: SKey, times: u32)
+    requires white { AllAreWhite heap.old }
+    requires live { IsTrue (is_there heap.old key.0) }
+    ensures white { AllAreWhite heap.new }
+    ensures live { IsTrue (is_there heap.new key.0) }
+{
+    for _ in 0..times {
+        remove_behind(heap, key);
+        remove_before(heap, key);
+    }
+}
+
 #[test]
 fn object_is_made_and_read(rt: HostRuntime) -> Result<(), Fail> {
     let mut heap = Scripts::new(rt.alloc());
@@ -308,6 +358,28 @@ fn ten_thousand_are_walked_and_swept(rt: HostRuntime) -> Result<(), Fail> {
         assert_eq!(rt; count(&heap, 20_000), 10_000);
         remove_first(&mut heap, 10_000);
         assert_eq!(rt; heap.first(), None);
+    }
+    Ok(())
+}
+
+#[test]
+fn walk_goes_on_while_others_leave(rt: HostRuntime) -> Result<(), Fail> {
+    let mut heap = Scripts::new(rt.alloc());
+    let made = make_row(&mut heap);
+    assert!(rt; made.is_ok());
+    if let Ok(row) = made {
+        whiten(&mut heap);
+        remove_around(&mut heap, row.middle, 40_000);
+        assert_eq!(rt; count(&heap, 100_000), 20_000);
+        if let Some(first) = heap.first() {
+            assert_eq!(rt; heap.name(first), Name::Script(ScriptNo(39_999)));
+        }
+        if let Some(next) = heap.next(row.middle) {
+            assert_eq!(rt; heap.name(next), Name::Script(ScriptNo(40_000)));
+        }
+        remove_around(&mut heap, row.middle, 20_000);
+        assert_eq!(rt; heap.first(), Some(row.middle));
+        assert_eq!(rt; heap.next(row.middle), None);
     }
     Ok(())
 }

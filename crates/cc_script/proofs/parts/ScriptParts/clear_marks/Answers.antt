@@ -1,67 +1,98 @@
-use Rattle.std.proofs.Common.{◌≡◌, ◌+◌, ◌<◌, ◌≤◌, ℕ, List, [], ◌∷◌, ◌++◌, map, take, length, is_some, refl, ap, sym, subst, ◌∙◌, arith}
-use Rattle.std.proofs.lemmas.List.{length-map, take_all}
-use Rattle.cc_names.specs.declared.number.SKey.{SKey}
+use Rattle.std.proofs.Common.{◌≡◌, ℕ, List, ◌∷◌, [], length, is_some, refl, ap, sym, subst, ◌∙◌, arith}
 use Rattle.cc_names.specs.declared.kind.Colour.TheVariants.{White}
-use Rattle.cc_script.specs.Objects.{change_object, with_colour}
+use Rattle.cc_lists.specs.Members.{Among}
+use Rattle.cc_lists.specs.Walks.{first_of}
+use Rattle.cc_chain.specs.Chains.{behind}
+use Rattle.cc_chain.proofs.Slots.{among-linked}
+use Rattle.cc_script.specs.Objects.{Object, with_colour}
 use Rattle.cc_script.specs.ColourOrder.{HasColourOrder}
+use Rattle.cc_script.specs.Lists.{Lists, objects_of, IsPlaced}
+use Rattle.cc_script.specs.Cells.{cells_of, order_links}
 use Rattle.cc_script.specs.Parts.{lists_of, shows}
-use Rattle.cc_script.proofs.Reading.{place-among, take-place}
 use Rattle.cc_script.proofs.Painting.{IsPlaced-painted, objects-painted}
 use Rattle.cc_script.proofs.Whitening.{IsFading, fading-start, fading-next, fading-end}
+use Rattle.cc_script.proofs.Stepping.{left_of, walk-begins, walk-stands, walk-among, walk-left, walk-next_stands}
+use Rattle.cc_script.proofs.Chained.{order-kept, lists-kept, waiting-same, chained-kept}
 use Rattle.cc_script.proofs.InOrder.{HasColourOrder-whitened}
 use Rattle.cc_script.proofs.parts.ScriptParts.clear_marks.Goals as goal
 
-pub loop-place-init : goal.loop-place-init
-loop-place-init c = record {
-  fading = fading-start (shows c.args.self.now);
-  placed = c.requires.at_rest.placed;
-  same_order = refl;
-  same_stack = refl;
-  has_room = c.requires.at_rest.room;
-}
+pub loop-at-init : goal.loop-at-init
+loop-at-init c =
+    let p = c.args.self.now in
+    let order = (lists_of p).order in
+    let begins = c.first-at.ensures order c.requires.at_rest.chained.order in
+    record {
+      fading = fading-start (shows p) order (left_of order c.first-at.result) (walk-begins order c.first-at.result begins);
+      stands = walk-stands order c.first-at.result begins;
+      same_order = refl;
+      placed = c.requires.at_rest.placed;
+      chained = c.requires.at_rest.chained;
+      none_wait = c.requires.at_rest.emptied;
+      memory = refl;
+    }
 
 pub paint-requires : goal.paint-requires
 paint-requires c =
-    let here : c.loop-place.place < length c.loop-place.self.order.items =
-    omega (arith, c.loop-place-test.true, c.len-place-end.ensures, ap length c.loop-place.invariant.same_order, c.args.self.now.order.ok.0) in
-    let f = c.loop-place.invariant.placed.in_order c.index-key.result.now.0 (place-among c.loop-place.self.order.items c.loop-place.place c.index-key.result.now here c.index-key.ensures) in
+    let order = (lists_of c.args.self.now).order in
+    let i = c.loop-at.invariant in
+    let among = walk-among order c.loop-at.at c.in-Some.key c.in-Some.is i.stands in
+    let f = i.placed.in_order c.in-Some.key (subst (Among c.in-Some.key) (sym i.same_order) among) in
     record { live = ap is_some f.1 }
 
-pub loop-place-preserved : goal.loop-place-preserved
-loop-place-preserved c =
+pub next-at-requires : goal.next-at-requires
+next-at-requires c =
+    let order = (lists_of c.args.self.now).order in
+    let i = c.loop-at.invariant in
+    let changes = c.paint.ensures.changes in
+    let among = walk-among order c.loop-at.at c.in-Some.key c.in-Some.is i.stands in
+    among-linked (order_links c.paint.new.cells.slots) c.loop-at.self.order (lists_of c.loop-at.self).order
+    (order-kept c.loop-at.self i.chained c.paint.new.cells changes.order changes.waiting) c.in-Some.key (subst (Among c.in-Some.key) (sym i.same_order) among)
+
+pub loop-at-smaller : goal.loop-at-smaller
+loop-at-smaller c =
+    let order = (lists_of c.args.self.now).order in
+    let key = c.in-Some.key in
+    let i = c.loop-at.invariant in
+    let changes = c.paint.ensures.changes in
+    let on = c.next-at.ensures (lists_of c.loop-at.self).order (order-kept c.loop-at.self i.chained c.paint.new.cells changes.order changes.waiting)
+    ∙ ap (λ ks. first_of (behind key ks)) i.same_order in
+    omega (arith, ap length (walk-left order c.loop-at.at c.requires.at_rest.placed.once key c.in-Some.is i.stands c.next-at.result on))
+
+pub loop-at-preserved : goal.loop-at-preserved
+loop-at-preserved c =
     let before = shows c.args.self.now in
-    let l = lists_of c.loop-place.self in
-    let p = c.loop-place.invariant.placed in
-    let key = c.index-key.result.now in
-    let here : c.loop-place.place < length c.loop-place.self.order.items =
-    omega (arith, c.loop-place-test.true, c.len-place-end.ensures, ap length c.loop-place.invariant.same_order, c.args.self.now.order.ok.0) in
-    let f = p.in_order key.0 (place-among c.loop-place.self.order.items c.loop-place.place key here c.index-key.ensures) in
-    let shown = objects-painted l p key.0 f.0 f.1 White c.paint.new.cells.slots c.paint.ensures.slots (with_colour White) refl in
-    let order : List SKey → List ℕ = λ ks. map (λ (k : SKey). k.0) ks in
-    let done = take-place c.loop-place.self.order.items c.loop-place.place key here c.index-key.ensures in
-    let more : take (c.loop-place.place + 1) (order c.args.self.now.order.items) ≡ take c.loop-place.place (order c.args.self.now.order.items) ++ key.0 ∷ [] =
-    ap (λ ks. take (c.loop-place.place + 1) (order ks)) (sym c.loop-place.invariant.same_order) ∙ (done ∙ ap (λ ks. take c.loop-place.place (order ks) ++ key.0 ∷ []) c.loop-place.invariant.same_order) in
+    let order = (lists_of c.args.self.now).order in
+    let key = c.in-Some.key in
+    let p = c.loop-at.self in
+    let l = lists_of p in
+    let i = c.loop-at.invariant in
+    let changes = c.paint.ensures.changes in
+    let among = walk-among order c.loop-at.at key c.in-Some.is i.stands in
+    let f = i.placed.in_order key (subst (Among key) (sym i.same_order) among) in
+    let on = c.next-at.ensures l.order (order-kept p i.chained c.paint.new.cells changes.order changes.waiting) ∙ ap (λ ks. first_of (behind key ks)) i.same_order in
+    let kept = lists-kept p i.chained c.paint.new.cells changes.order changes.waiting in
+    let shown = ap objects_of kept ∙ objects-painted l i.placed key f.0 f.1 White (cells_of c.paint.new.cells.slots) changes.cells (with_colour White) refl in
+    let left = walk-left order c.loop-at.at c.requires.at_rest.placed.once key c.in-Some.is i.stands c.next-at.result on in
     record {
-      fading = subst (λ os. IsFading before os (take (c.loop-place.place + 1) (order c.args.self.now.order.items))) (sym shown)
-          (subst (IsFading before (change_object (shows c.loop-place.self) key.0 (with_colour White))) (sym more)
-          (fading-next before (shows c.loop-place.self) (take c.loop-place.place (order c.args.self.now.order.items)) key.0 c.loop-place.invariant.fading));
-      placed = IsPlaced-painted l p key.0 f.0 f.1 White c.paint.new.cells.slots c.paint.ensures.slots;
-      same_order = c.loop-place.invariant.same_order;
-      same_stack = c.loop-place.invariant.same_stack;
-      has_room = c.loop-place.invariant.has_room;
+      fading = subst (λ (os : List Object). IsFading before os order (left_of order c.next-at.result)) (sym shown)
+          (fading-next before (shows p) order (left_of order c.loop-at.at) (left_of order c.next-at.result) key left i.fading);
+      stands = walk-next_stands order c.loop-at.at c.requires.at_rest.placed.once key c.in-Some.is i.stands c.next-at.result on;
+      same_order = ap (λ (m : Lists). m.order) kept ∙ i.same_order;
+      placed = subst IsPlaced (sym kept) (IsPlaced-painted l i.placed key f.0 f.1 White (cells_of c.paint.new.cells.slots) changes.cells);
+      chained = chained-kept p i.chained c.paint.new.cells changes.order changes.waiting;
+      none_wait = waiting-same p i.chained c.paint.new.cells changes.order changes.waiting ∙ i.none_wait;
+      memory = changes.capacity ∙ i.memory;
     }
 
 pub returns-clause-shows : goal.returns-clause-shows
 returns-clause-shows c =
     let l = lists_of c.args.self.now in
-    let past : length l.order ≤ c.loop-place.place =
-    omega (arith, c.loop-place-test.false, c.len-place-end.ensures, c.args.self.now.order.ok.0, length-map c.args.self.now.order.items (λ (k : SKey). k.0)) in
-    fading-end l (shows c.loop-place.self) (subst (IsFading (shows c.args.self.now) (shows c.loop-place.self)) (take_all c.loop-place.place l.order past) c.loop-place.invariant.fading)
+    fading-end l (shows c.loop-at.self) (subst (IsFading (shows c.args.self.now) (shows c.loop-at.self) l.order) (ap (left_of l.order) c.in_default.is) c.loop-at.invariant.fading)
 
 pub returns-clause-at_rest : goal.returns-clause-at_rest
 returns-clause-at_rest c = record {
-  placed = c.loop-place.invariant.placed;
+  placed = c.loop-at.invariant.placed;
+  chained = c.loop-at.invariant.chained;
   coloured = subst HasColourOrder (sym (returns-clause-shows c)) (HasColourOrder-whitened (shows c.args.self.now));
-  emptied = c.loop-place.invariant.same_stack ∙ c.requires.at_rest.emptied;
-  room = c.loop-place.invariant.has_room;
+  emptied = c.loop-at.invariant.none_wait;
 }

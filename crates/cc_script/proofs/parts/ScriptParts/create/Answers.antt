@@ -1,18 +1,22 @@
-use Rattle.std.proofs.Common.{◌≡◌, ◌+◌, ◌≤◌, ℕ, zero, suc, List, [], ◌∷◌, ◌++◌, map, length, replicate, Option, None, option_map, refl, ap, sym, subst, ◌∙◌, arith}
-use Rattle.std.proofs.lemmas.List.{map-append, length-replicate, length_push}
-use Rattle.cc_names.specs.declared.number.SKey.{SKey}
+use Rattle.std.proofs.Common.{◌≡◌, ◌≢◌, ◌≤◌, ℕ, zero, suc, List, [], ◌∷◌, ◌++◌, map, length, replicate, Option, None, option_map, refl, ap, sym, subst, ◌∙◌, arith}
+use Rattle.std.specs.Prelude.{slice_index_or}
+use Rattle.slab.specs.Slab.{Slab}
+use Rattle.std.proofs.lemmas.List.{length-replicate}
 use Rattle.cc_names.specs.declared.number.NKey.{NKey}
 use Rattle.cc_names.specs.declared.name.Name.{Name}
 use Rattle.cc_names.specs.declared.kind.Kind.{Kind}
 use Rattle.cc_names.specs.declared.kind.Colour.TheVariants.{Black}
 use Rattle.cc_script.specs.Objects.{new_object}
 use Rattle.cc_script.specs.ColourOrder.{HasColourOrder}
-use Rattle.cc_script.specs.Lists.{Placed, Lists, cell_at, with_key, objects_of, IsPlaced, made}
-use Rattle.cc_script.specs.Parts.{lists_of, shows}
+use Rattle.cc_script.specs.Lists.{Placed, cell_at, with_key, objects_of, IsPlaced}
+use Rattle.cc_script.specs.Cells.{Linked, cells_of}
+use Rattle.cc_script.specs.Parts.{lists_of, marking_of, shows}
 use Rattle.cc_script.proofs.Places.{is_there-none}
 use Rattle.cc_script.proofs.Making.{IsPlaced-made, objects-made}
 use Rattle.cc_script.proofs.InOrder.{HasColourOrder-made}
 use Rattle.cc_script.proofs.Reading.{held_key}
+use Rattle.cc_script.proofs.Linking.{cell-vacant}
+use Rattle.cc_script.proofs.Joining.{order-joined, vacant-joined, at-joined, others-joined, lists-joined, waiting-after, chained-joined}
 use Rattle.cc_script.proofs.parts.ScriptParts.create.Goals as goal
 
 -- an empty slot, and some
@@ -27,57 +31,69 @@ empty-slots (suc n) = ap (λ ys. None ∷ ys) (empty-slots n)
 abbrev new_placed : Name → Kind → Option ℕ → List (Option ℕ) → Placed
 new_placed name kind native slots = record { name = name; kind = kind; native = native; slots = slots; colour = Black }
 
--- the lists with it
-lists-made : (l mid : Lists) (cells : List (Option Placed)) (key : SKey) (ks after : List SKey) → mid ≡ l → mid.order ≡ map (λ (k : SKey). k.0) ks → after ≡ ks ++ key ∷ [] →
-    made l cells key.0 ≡ record { cells = cells; order = map (λ (k : SKey). k.0) after }
-lists-made l mid cells key ks after kept is pushed =
-    ap (λ xs. record { cells = cells; order = xs })
-    (sym (ap (map (λ (k : SKey). k.0)) pushed ∙ (map-append (λ (k : SKey). k.0) ks (key ∷ []) ∙ ap (λ xs. xs ++ key.0 ∷ []) (sym is ∙ ap (λ (l : Lists). l.order) kept))))
+abbrev new_linked : Name → Kind → Option ℕ → List (Option ℕ) → Linked
+new_linked name kind native slots = record { placed = new_placed name kind native slots; order = None; waiting = None }
+
+pub push_back-requires-clause-chain : goal.push_back-requires-clause-chain
+push_back-requires-clause-chain c =
+    let p = c.args.self.now in
+    let key = c.insert_reserved-key.result in
+    let same : c.reserve.new.self.slots ≡ p.cells.slots = ap (λ (s : Slab Linked). s.slots) c.reserve.ensures.rest_kept in
+    let x = new_linked c.args.name c.args.kind (option_map (λ (k : NKey). k.0) c.args.native) (map held_key c.in_ok-empty.empty.items) in
+    let vacant = ap (λ (xs : List (Option Linked)). slice_index_or xs key None) (sym same) ∙ c.insert_reserved-key.ensures.was_vacant in
+    let others = λ (k : ℕ) (o : k ≢ key). c.insert_reserved-key.ensures.updates.others k o ∙ ap (λ (xs : List (Option Linked)). slice_index_or xs k None) same in
+    ((lists_of p).order, order-joined p c.requires.at_rest.chained c.insert_reserved-key.new.self.slots key x refl refl vacant c.insert_reserved-key.ensures.updates.changed others)
 
 pub returns-clause-made : goal.returns-clause-made
 returns-clause-made c =
-    let l = lists_of c.args.self.now in
-    let mid = lists_of c.take_room.new.self in
-    let kept : mid ≡ l = c.take_room.ensures.kept in
-    let key = c.insert_reserved.result in
+    let p = c.args.self.now in
+    let l = lists_of p in
+    let h = c.requires.at_rest.chained in
+    let key = c.insert_reserved-key.result in
+    let mid = c.insert_reserved-key.new.self.slots in
+    let at = c.insert_reserved-key.ensures.updates.changed in
+    let same : c.reserve.new.self.slots ≡ p.cells.slots = ap (λ (s : Slab Linked). s.slots) c.reserve.ensures.rest_kept in
     let native = option_map (λ (k : NKey). k.0) c.args.native in
-    let d : Placed = new_placed c.args.name c.args.kind native (map held_key c.in_ok-empty.empty.items) in
-    let cells = c.insert_reserved.new.self.slots in
-    let empty : d.slots ≡ replicate c.args.slots None = ap (map held_key) c.in_ok-empty.ensures.slots ∙ empty-slots c.args.slots in
-    ap objects_of (sym (lists-made l mid cells (record { 0 = key }) c.take_room.new.self.order.items c.push_reserved.new.self.items kept refl c.push_reserved.ensures.items))
-    ∙ (objects-made l c.requires.at_rest.placed key d cells
-    (sym (ap (λ (l : Lists). cell_at l.cells key) kept) ∙ c.insert_reserved.ensures.was_vacant)
-    c.insert_reserved.ensures.updates.changed
-    (λ k o. c.insert_reserved.ensures.updates.others k o ∙ ap (λ (l : Lists). cell_at l.cells k) kept)
-    ∙ ap (λ ys. shows c.args.self.now ++ with_key key (new_placed c.args.name c.args.kind native ys) ∷ []) empty)
+    let x = new_linked c.args.name c.args.kind native (map held_key c.in_ok-empty.empty.items) in
+    let vacant = ap (λ (xs : List (Option Linked)). slice_index_or xs key None) (sym same) ∙ c.insert_reserved-key.ensures.was_vacant in
+    let others = λ (k : ℕ) (o : k ≢ key). c.insert_reserved-key.ensures.updates.others k o ∙ ap (λ (xs : List (Option Linked)). slice_index_or xs k None) same in
+    let pushed = c.push_back.ensures.keys l.order (order-joined p h mid key x refl refl vacant at others) in
+    let empty : x.placed.slots ≡ replicate c.args.slots None = ap (map held_key) c.in_ok-empty.ensures ∙ empty-slots c.args.slots in
+    ap objects_of (lists-joined p h mid key x refl refl vacant at others c.push_back.new.store c.push_back.new.self _ pushed c.push_back.ensures.rest)
+    ∙ (objects-made l c.requires.at_rest.placed key x.placed (cells_of mid) (vacant-joined p h mid key x refl refl vacant at others)
+    (at-joined p h mid key x refl refl vacant at others) (others-joined p h mid key x refl refl vacant at others)
+    ∙ ap (λ ys. shows p ++ with_key key (new_placed c.args.name c.args.kind native ys) ∷ []) empty)
 
 pub returns-clause-vacant : goal.returns-clause-vacant
 returns-clause-vacant c =
-    let l = lists_of c.args.self.now in
-    is_there-none l c.requires.at_rest.placed c.insert_reserved.result
-    (sym (ap (λ (l : Lists). cell_at l.cells c.insert_reserved.result) c.take_room.ensures.kept) ∙ c.insert_reserved.ensures.was_vacant)
+    let p = c.args.self.now in
+    let key = c.insert_reserved-key.result in
+    let same : c.reserve.new.self.slots ≡ p.cells.slots = ap (λ (s : Slab Linked). s.slots) c.reserve.ensures.rest_kept in
+    let vacant = ap (λ (xs : List (Option Linked)). slice_index_or xs key None) (sym same) ∙ c.insert_reserved-key.ensures.was_vacant in
+    is_there-none (lists_of p) c.requires.at_rest.placed key (cell-vacant p.cells.slots key vacant)
 
 pub returns-clause-at_rest : goal.returns-clause-at_rest
 returns-clause-at_rest c =
-    let l = lists_of c.args.self.now in
-    let mid = lists_of c.take_room.new.self in
-    let kept : mid ≡ l = c.take_room.ensures.kept in
-    let key = c.insert_reserved.result in
+    let p = c.args.self.now in
+    let l = lists_of p in
+    let h = c.requires.at_rest.chained in
+    let key = c.insert_reserved-key.result in
+    let mid = c.insert_reserved-key.new.self.slots in
+    let at = c.insert_reserved-key.ensures.updates.changed in
+    let same : c.reserve.new.self.slots ≡ p.cells.slots = ap (λ (s : Slab Linked). s.slots) c.reserve.ensures.rest_kept in
     let native = option_map (λ (k : NKey). k.0) c.args.native in
-    let d : Placed = new_placed c.args.name c.args.kind native (map held_key c.in_ok-empty.empty.items) in
-    let cells = c.insert_reserved.new.self.slots in
-    let empty : d.slots ≡ replicate c.args.slots None = ap (map held_key) c.in_ok-empty.ensures.slots ∙ empty-slots c.args.slots in
-    let few : length d.slots ≤ 64 = omega (arith, ap length empty, length-replicate c.args.slots nothing, c.requires.slots) in
-    let long : length c.push_reserved.new.self.items ≡ length c.take_room.new.self.order.items + 1 = ap length c.push_reserved.ensures.items ∙ length_push c.take_room.new.self.order.items (record { 0 = key }) in
+    let x = new_linked c.args.name c.args.kind native (map held_key c.in_ok-empty.empty.items) in
+    let vacant = ap (λ (xs : List (Option Linked)). slice_index_or xs key None) (sym same) ∙ c.insert_reserved-key.ensures.was_vacant in
+    let others = λ (k : ℕ) (o : k ≢ key). c.insert_reserved-key.ensures.updates.others k o ∙ ap (λ (xs : List (Option Linked)). slice_index_or xs k None) same in
+    let pushed = c.push_back.ensures.keys l.order (order-joined p h mid key x refl refl vacant at others) in
+    let empty : x.placed.slots ≡ replicate c.args.slots None = ap (map held_key) c.in_ok-empty.ensures ∙ empty-slots c.args.slots in
+    let few : length x.placed.slots ≤ 64 = omega (arith, ap length empty, length-replicate c.args.slots nothing, c.requires.slots) in
     record {
-      placed = subst IsPlaced (lists-made l mid cells (record { 0 = key }) c.take_room.new.self.order.items c.push_reserved.new.self.items kept refl c.push_reserved.ensures.items)
-          (IsPlaced-made l c.requires.at_rest.placed key d cells
-          (sym (ap (λ (l : Lists). cell_at l.cells key) kept) ∙ c.insert_reserved.ensures.was_vacant)
-          c.insert_reserved.ensures.updates.changed
-          (λ k o. c.insert_reserved.ensures.updates.others k o ∙ ap (λ (l : Lists). cell_at l.cells k) kept)
-          few c.requires.fits);
+      placed = subst IsPlaced (sym (lists-joined p h mid key x refl refl vacant at others c.push_back.new.store c.push_back.new.self _ pushed c.push_back.ensures.rest))
+          (IsPlaced-made l c.requires.at_rest.placed key x.placed (cells_of mid) (vacant-joined p h mid key x refl refl vacant at others)
+          (at-joined p h mid key x refl refl vacant at others) (others-joined p h mid key x refl refl vacant at others) few c.requires.fits);
+      chained = chained-joined p h mid key x refl refl vacant at others c.push_back.new.store c.push_back.new.self _ pushed c.push_back.ensures.rest;
       coloured = subst HasColourOrder (sym (returns-clause-made c))
-          (HasColourOrder-made (shows c.args.self.now) (new_object key c.args.name c.args.kind native c.args.slots) c.args.slots refl c.requires.at_rest.coloured);
-      emptied = c.take_room.ensures.at_rest.emptied;
-      room = omega (arith, c.in_ok-empty.ensures.room.stack, long);
+          (HasColourOrder-made (shows p) (new_object key c.args.name c.args.kind native c.args.slots) c.args.slots refl c.requires.at_rest.coloured);
+      emptied = waiting-after p h mid key x refl refl vacant at others c.push_back.new.store c.push_back.new.self _ pushed c.push_back.ensures.rest ∙ c.requires.at_rest.emptied;
     }

@@ -1,65 +1,88 @@
-use Rattle.std.proofs.Common.{◌≡◌, ◌<◌, ℕ, List, [], ◌∷◌, ◌++◌, map, true, false, ap, sym, ◌∙◌, arith}
-use Rattle.std.proofs.lemmas.List.{length-map, map-append}
-use Rattle.cc_names.specs.declared.number.SKey.{SKey}
-use Rattle.cc_script.specs.Objects.{Object, object_at, is_below, raised, change_object}
-use Rattle.cc_script.specs.Lists.{Placed, with_key}
-use Rattle.cc_script.specs.Marking.{Marking, is_lower, count_lower, to_come}
+use Rattle.std.proofs.Common.{◌≡◌, ℕ, List, [], ◌∷◌, ◌++◌, true, false, ap, sym, subst, ◌∙◌}
+use Rattle.cc_chain.specs.Links.{is_live}
+use Rattle.cc_chain.proofs.Slots.{absent-free, held-live}
+use Rattle.cc_script.specs.declared.parts.ScriptParts.{ScriptParts}
+use Rattle.cc_script.specs.Objects.{Object, object_at, is_below, raised}
+use Rattle.cc_script.specs.Lists.{with_key, objects_of, IsPlaced}
+use Rattle.cc_script.specs.Cells.{Linked, cells_of, waiting_links}
+use Rattle.cc_script.specs.Marking.{Marking, is_lower, raise_key, AreRaised}
 use Rattle.cc_script.specs.Parts.{lists_of, shows, marking_of}
 use Rattle.cc_script.proofs.Places.{object_at-placed, live-some}
+use Rattle.cc_script.proofs.Linking.{cell-held}
 use Rattle.cc_script.proofs.Painting.{IsPlaced-painted, objects-painted}
 use Rattle.cc_script.proofs.Colours.{raised-below}
-use Rattle.cc_script.proofs.Raising.{fewer-lower, raise_key-lower, raise_key-enough, raise_key-spends}
+use Rattle.cc_script.proofs.Chained.{waiting-kept, lists-kept, chained-kept, lists-waiting, marking-waiting, chained-waiting}
+use Rattle.cc_script.proofs.Raising.{raise_key-lower, raise_key-enough, raise_key-raised, lower-absent}
 use Rattle.cc_script.proofs.parts.ScriptParts.raise.Goals as goal
 
--- a walk of the same objects and stack
+-- a walk of these objects
 abbrev marking : List Object → List ℕ → Marking
-marking objects stack = record { objects = objects; stack = stack }
+marking objects waiting = record { objects = objects; waiting = waiting }
 
-same-marking : (objects objects' : List Object) (stack stack' : List ℕ) → objects ≡ objects' → stack ≡ stack' → marking objects stack ≡ marking objects' stack'
-same-marking objects objects' stack stack' e f = ap (λ os. marking os stack) e ∙ ap (λ ks. marking objects' ks) f
+pub paint-requires : goal.paint-requires
+paint-requires c = record { live = live-some (lists_of c.args.self.now) c.requires.under_way.placed c.args.key.0 c.requires.live }
 
-pub index-requires : goal.index-requires
-index-requires c = live-some (lists_of c.args.self.now) c.requires.under_way.placed c.args.key.0 c.requires.live
+pub push_back-requires-clause-chain : goal.push_back-requires-clause-chain
+push_back-requires-clause-chain c =
+    let p = c.args.self.now in
+    let changes = c.paint.ensures.changes in
+    ((marking_of p).waiting, waiting-kept p c.requires.under_way.chained c.paint.new.cells changes.order changes.waiting)
 
-pub push_reserved-requires : goal.push_reserved-requires
-push_reserved-requires c =
-    let l = lists_of c.args.self.now in
-    let below : is_below c.index.result.now.colour c.args.to ≡ true = ap (λ (z : Placed). is_below z.colour c.args.to) (sym c.behind-self.view_is) ∙ (sym c.is_below.ensures ∙ c.if-is_below.true) in
-    let lower : is_lower c.args.to (object_at (shows c.args.self.now) c.args.key.0) ≡ true =
-    ap (is_lower c.args.to) (object_at-placed l c.requires.under_way.placed c.args.key.0 c.index.result.now c.index.ensures) ∙ below in
-    let less : count_lower c.args.to (change_object (shows c.args.self.now) c.args.key.0 (raised c.args.to)) < count_lower c.args.to (shows c.args.self.now) =
-    fewer-lower c.args.to c.args.key.0 (shows c.args.self.now) lower in
-    omega (arith, c.requires.under_way.few, c.requires.under_way.room, length-map c.args.self.now.stack.items (λ (k : SKey). k.0), c.args.self.now.stack.ok.0)
+pub push_back-requires-clause-free : goal.push_back-requires-clause-free
+push_back-requires-clause-free c =
+    let p = c.args.self.now in
+    let changes = c.paint.ensures.changes in
+    let below : is_below c.cell.result.now.placed.colour c.args.to ≡ true =
+    ap (λ (z : Linked). is_below z.placed.colour c.args.to) (sym c.behind-self.view_is) ∙ (sym c.is_below.ensures ∙ c.if-is_below.true) in
+    let lower : is_lower c.args.to (object_at (shows p) c.args.key.0) ≡ true =
+    ap (is_lower c.args.to) (object_at-placed (lists_of p) c.requires.under_way.placed c.args.key.0 c.cell.result.now.placed c.cell.ensures) ∙ below in
+    let live = held-live (λ (z : Linked). z.waiting) p.cells.slots c.args.key.0
+    (cell-held p.cells.slots c.args.key.0 (live-some (lists_of p) c.requires.under_way.placed c.args.key.0 c.requires.live)) in
+    absent-free (waiting_links c.paint.new.cells.slots) p.waiting (marking_of p).waiting
+    (waiting-kept p c.requires.under_way.chained c.paint.new.cells changes.order changes.waiting) c.args.key.0
+    (lower-absent c.args.to c.args.key.0 (marking_of p) c.requires.under_way.raised lower)
+    (ap (λ links. is_live links c.args.key.0) changes.waiting ∙ live)
 
 pub returns-then-is_below-clause-raises : goal.returns-then-is_below-clause-raises
 returns-then-is_below-clause-raises c =
-    let l = lists_of c.args.self.now in
-    let p = c.requires.under_way.placed in
-    let below : is_below c.index.result.now.colour c.args.to ≡ true = ap (λ (z : Placed). is_below z.colour c.args.to) (sym c.behind-self.view_is) ∙ (sym c.is_below.ensures ∙ c.if-is_below.true) in
-    let lower : is_lower c.args.to (object_at (shows c.args.self.now) c.args.key.0) ≡ true =
-    ap (is_lower c.args.to) (object_at-placed l p c.args.key.0 c.index.result.now c.index.ensures) ∙ below in
-    same-marking (shows (record { cells = c.paint.new.cells; order = c.args.self.now.order; stack = c.push_reserved.new.self })) (change_object (shows c.args.self.now) c.args.key.0 (raised c.args.to))
-    (map (λ (k : SKey). k.0) c.push_reserved.new.self.items) ((marking_of c.args.self.now).stack ++ c.args.key.0 ∷ [])
-    (objects-painted l p c.args.key.0 c.index.result.now c.index.ensures c.args.to c.paint.new.cells.slots c.paint.ensures.slots (raised c.args.to)
-    (raised-below c.args.to (with_key c.args.key.0 c.index.result.now) below))
-    (ap (map (λ (k : SKey). k.0)) c.push_reserved.ensures.items ∙ map-append (λ (k : SKey). k.0) c.args.self.now.stack.items (c.args.key ∷ []))
-    ∙ sym (raise_key-lower c.args.to c.args.key.0 (marking_of c.args.self.now) lower)
+    let p = c.args.self.now in
+    let l = lists_of p in
+    let h = c.requires.under_way.chained in
+    let at = c.requires.under_way.placed in
+    let changes = c.paint.ensures.changes in
+    let below : is_below c.cell.result.now.placed.colour c.args.to ≡ true =
+    ap (λ (z : Linked). is_below z.placed.colour c.args.to) (sym c.behind-self.view_is) ∙ (sym c.is_below.ensures ∙ c.if-is_below.true) in
+    let lower : is_lower c.args.to (object_at (shows p) c.args.key.0) ≡ true = ap (is_lower c.args.to) (object_at-placed l at c.args.key.0 c.cell.result.now.placed c.cell.ensures) ∙ below in
+    let painted : ScriptParts = record { cells = c.paint.new.cells; order = p.order; waiting = p.waiting } in
+    let pushed = c.push_back.ensures.keys (marking_of p).waiting (waiting-kept p h c.paint.new.cells changes.order changes.waiting) in
+    let objects = ap objects_of (lists-kept p h c.paint.new.cells changes.order changes.waiting)
+    ∙ objects-painted l at c.args.key.0 c.cell.result.now.placed c.cell.ensures c.args.to (cells_of c.paint.new.cells.slots) changes.cells (raised c.args.to)
+    (raised-below c.args.to (with_key c.args.key.0 c.cell.result.now.placed) below) in
+    marking-waiting painted (chained-kept p h c.paint.new.cells changes.order changes.waiting) c.push_back.new.store c.push_back.new.self _ pushed c.push_back.ensures.rest
+    ∙ (ap (λ os. marking os ((marking_of p).waiting ++ c.args.key.0 ∷ [])) objects ∙ sym (raise_key-lower c.args.to c.args.key.0 (marking_of p) lower))
+
+pub returns-then-is_below-clause-under_way : goal.returns-then-is_below-clause-under_way
+returns-then-is_below-clause-under_way c =
+    let p = c.args.self.now in
+    let l = lists_of p in
+    let h = c.requires.under_way.chained in
+    let at = c.requires.under_way.placed in
+    let changes = c.paint.ensures.changes in
+    let painted : ScriptParts = record { cells = c.paint.new.cells; order = p.order; waiting = p.waiting } in
+    let kept = chained-kept p h c.paint.new.cells changes.order changes.waiting in
+    let pushed = c.push_back.ensures.keys (marking_of p).waiting (waiting-kept p h c.paint.new.cells changes.order changes.waiting) in
+    record {
+      placed = subst IsPlaced (sym (lists-waiting painted kept c.push_back.new.store c.push_back.new.self _ pushed c.push_back.ensures.rest
+          ∙ lists-kept p h c.paint.new.cells changes.order changes.waiting))
+          (IsPlaced-painted l at c.args.key.0 c.cell.result.now.placed c.cell.ensures c.args.to (cells_of c.paint.new.cells.slots) changes.cells);
+      chained = chained-waiting painted kept c.push_back.new.store c.push_back.new.self _ pushed c.push_back.ensures.rest;
+      raised = subst (AreRaised c.args.to) (sym (returns-then-is_below-clause-raises c)) (raise_key-raised c.args.to c.args.key.0 (marking_of p) c.requires.under_way.raised);
+    }
 
 pub returns-else-is_below-clause-raises : goal.returns-else-is_below-clause-raises
 returns-else-is_below-clause-raises c =
     let l = lists_of c.args.self.now in
-    let below : is_below c.index.result.now.colour c.args.to ≡ false = ap (λ (z : Placed). is_below z.colour c.args.to) (sym c.behind-self.view_is) ∙ (sym c.is_below.ensures ∙ c.if-is_below.false) in
+    let below : is_below c.cell.result.now.placed.colour c.args.to ≡ false =
+    ap (λ (z : Linked). is_below z.placed.colour c.args.to) (sym c.behind-self.view_is) ∙ (sym c.is_below.ensures ∙ c.if-is_below.false) in
     sym (raise_key-enough c.args.to c.args.key.0 (marking_of c.args.self.now)
-    (ap (is_lower c.args.to) (object_at-placed l c.requires.under_way.placed c.args.key.0 c.index.result.now c.index.ensures) ∙ below))
-
-pub returns-then-is_below-clause-under_way : goal.returns-then-is_below-clause-under_way
-returns-then-is_below-clause-under_way c =
-    let l = lists_of c.args.self.now in
-    let p = c.requires.under_way.placed in
-    let raises = returns-then-is_below-clause-raises c in
-    let spends = raise_key-spends c.args.to c.args.key.0 (marking_of c.args.self.now) in
-    record {
-      placed = IsPlaced-painted l p c.args.key.0 c.index.result.now c.index.ensures c.args.to c.paint.new.cells.slots c.paint.ensures.slots;
-      room = omega (arith, c.requires.under_way.room, c.push_reserved.ensures.capacity);
-      few = omega (arith, ap (to_come c.args.to) raises, spends.coming, c.requires.under_way.few);
-    }
+    (ap (is_lower c.args.to) (object_at-placed l c.requires.under_way.placed c.args.key.0 c.cell.result.now.placed c.cell.ensures) ∙ below))

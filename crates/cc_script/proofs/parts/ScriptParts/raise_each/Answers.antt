@@ -1,7 +1,7 @@
 use Rattle.std.proofs.Common.{◌≡◌, ◌+◌, ◌<◌, ◌≤◌, length, get_or, drop, None, ap, sym, ◌∙◌, arith}
 use Rattle.std.proofs.lemmas.List.{length-map, drop_all}
 use Rattle.cc_script.specs.Objects.{is_there, slots_at}
-use Rattle.cc_script.specs.Lists.{Placed}
+use Rattle.cc_script.specs.Cells.{Linked}
 use Rattle.cc_script.specs.Marking.{Marking, raise_slot, raise_each}
 use Rattle.cc_script.specs.Parts.{lists_of, shows, marking_of}
 use Rattle.cc_script.proofs.Places.{live-some, slots_at-placed}
@@ -9,17 +9,14 @@ use Rattle.cc_script.proofs.Reading.{held_key}
 use Rattle.cc_script.proofs.Raising.{raise_slot-there, raise_slot-slots, raise_each-more}
 use Rattle.cc_script.proofs.parts.ScriptParts.raise_each.Goals as goal
 
-pub index-requires : goal.index-requires
-index-requires c = live-some (lists_of c.args.self.now) c.requires.under_way.placed c.args.key.0 c.requires.live
-
 pub raise_slot-requires-clause-within : goal.raise_slot-requires-clause-within
 raise_slot-requires-clause-within c =
-    let slots = slots_at-placed (lists_of c.args.self.now) c.requires.under_way.placed c.args.key.0 c.index.result.now c.index.ensures in
+    let slots = slots_at-placed (lists_of c.args.self.now) c.requires.under_way.placed c.args.key.0 c.cell.result.now.placed c.cell.ensures in
     omega (
       arith,
       ap length c.loop-i.invariant.same_slots,
       ap length slots,
-      ap (λ (z : Placed). length z.slots) c.behind-self.view_is,
+      ap (λ (z : Linked). length z.placed.slots) c.behind-self.view_is,
       length-map c.behind-self.inside.slots.items held_key,
       c.behind-self.inside.slots.ok.0,
       c.len-slots.ensures,
@@ -31,8 +28,8 @@ loop-i-preserved c =
     let within : c.loop-i.i < length slots =
     omega (
       arith,
-      ap length (slots_at-placed (lists_of c.args.self.now) c.requires.under_way.placed c.args.key.0 c.index.result.now c.index.ensures),
-      ap (λ (z : Placed). length z.slots) c.behind-self.view_is,
+      ap length (slots_at-placed (lists_of c.args.self.now) c.requires.under_way.placed c.args.key.0 c.cell.result.now.placed c.cell.ensures),
+      ap (λ (z : Linked). length z.placed.slots) c.behind-self.view_is,
       length-map c.behind-self.inside.slots.items held_key,
       c.behind-self.inside.slots.ok.0,
       c.len-slots.ensures,
@@ -46,16 +43,17 @@ loop-i-preserved c =
       there = λ q. ap (λ (z : Marking). is_there z.objects q) raises
           ∙ (raise_slot-there c.args.to (get_or slots c.loop-i.i None) (marking_of c.loop-i.self) q ∙ c.loop-i.invariant.there q);
       under_way = c.raise_slot.ensures.under_way;
+      memory = c.raise_slot.ensures.memory ∙ c.loop-i.invariant.memory;
     }
 
 pub returns-clause-raises : goal.returns-clause-raises
 returns-clause-raises c =
-    let slots = slots_at-placed (lists_of c.args.self.now) c.requires.under_way.placed c.args.key.0 c.index.result.now c.index.ensures in
+    let slots = slots_at-placed (lists_of c.args.self.now) c.requires.under_way.placed c.args.key.0 c.cell.result.now.placed c.cell.ensures in
     let past : length (slots_at (shows c.args.self.now) c.args.key.0) ≤ c.loop-i.i =
     omega (
       arith,
       ap length slots,
-      ap (λ (z : Placed). length z.slots) c.behind-self.view_is,
+      ap (λ (z : Linked). length z.placed.slots) c.behind-self.view_is,
       length-map c.behind-self.inside.slots.items held_key,
       c.behind-self.inside.slots.ok.0,
       c.len-slots.ensures,

@@ -1,37 +1,62 @@
-use Rattle.std.proofs.Common.{◌≡◌, ℕ, List, map, Option, None, ap, sym, subst, ◌∙◌, arith}
-use Rattle.std.proofs.Math.ListN.{set}
-use Rattle.cc_names.specs.declared.number.SKey.{SKey}
+use Rattle.std.proofs.Common.{is_some, ap, sym, subst, ◌∙◌}
+use Rattle.cc_chain.proofs.Slots.{among-linked}
 use Rattle.cc_script.specs.ColourOrder.{HasColourOrder}
-use Rattle.cc_script.specs.Lists.{Placed, Lists, objects_of, IsPlaced, taken_out, without_key}
+use Rattle.cc_script.specs.Lists.{cell_at, objects_of, IsPlaced}
+use Rattle.cc_script.specs.Cells.{Beside, order_links}
 use Rattle.cc_script.specs.Parts.{lists_of, shows}
-use Rattle.cc_script.proofs.Places.{live-some}
+use Rattle.cc_script.proofs.Places.{live-cell, live-some}
 use Rattle.cc_script.proofs.Keys.{coloured-there}
 use Rattle.cc_script.proofs.Leaving.{IsPlaced-left, objects-left}
+use Rattle.cc_script.proofs.Linking.{cell-held}
+use Rattle.cc_script.proofs.Parting.{lists-parted, waiting-left, chained-parted}
 use Rattle.cc_script.proofs.InOrder.{HasColourOrder-without}
 use Rattle.cc_script.proofs.parts.ScriptParts.remove.Goals as goal
 
--- the lists with one object taken out
-same-lists : (l : Lists) (key : ℕ) (order : List ℕ) (cells : List (Option Placed)) → cells ≡ set l.cells key None → order ≡ without_key key l.order →
-    taken_out l key ≡ record { cells = cells; order = order }
-same-lists l key order cells e f =
-    ap (λ xs. record { cells = xs; order = without_key key l.order }) (sym e) ∙ ap (λ xs. record { cells = cells; order = xs }) (sym f)
+pub unlink_at-requires-clause-chain : goal.unlink_at-requires-clause-chain
+unlink_at-requires-clause-chain c = ((lists_of c.args.self.now).order, c.requires.at_rest.chained.order)
+
+pub unlink_at-requires-clause-linked : goal.unlink_at-requires-clause-linked
+unlink_at-requires-clause-linked c =
+    let p = c.args.self.now in
+    let l = lists_of p in
+    let f = live-cell l c.requires.at_rest.placed c.args.key.0 (coloured-there (shows p) c.args.key.0 _ c.requires.white) in
+    among-linked (order_links p.cells.slots) p.order l.order c.requires.at_rest.chained.order c.args.key.0 (c.requires.at_rest.placed.ordered c.args.key.0 f.0 f.1)
 
 pub remove-cell-requires : goal.remove-cell-requires
-remove-cell-requires c = live-some (lists_of c.args.self.now) c.requires.at_rest.placed c.args.key.0 (coloured-there (shows c.args.self.now) c.args.key.0 _ c.requires.white)
+remove-cell-requires c =
+    let p = c.args.self.now in
+    cell-held c.unlink_at.new.store.slots c.args.key.0
+    (ap (λ (b : Beside). is_some (cell_at b.cells c.args.key.0)) c.unlink_at.ensures.rest
+    ∙ live-some (lists_of p) c.requires.at_rest.placed c.args.key.0 (coloured-there (shows p) c.args.key.0 _ c.requires.white))
 
 pub returns-clause-shows : goal.returns-clause-shows
 returns-clause-shows c =
-    let l = lists_of c.args.self.now in
-    ap objects_of (sym (same-lists l c.args.key.0 (map (λ (k : SKey). k.0) c.leave.new.order.items) c.remove-cell.new.self.slots c.remove-cell.ensures.slots c.leave.ensures.keys))
-    ∙ objects-left l c.requires.at_rest.placed c.args.key.0 c.remove-cell.result c.remove-cell.ensures.value
+    let p = c.args.self.now in
+    let l = lists_of p in
+    let h = c.requires.at_rest.chained in
+    let f = live-cell l c.requires.at_rest.placed c.args.key.0 (coloured-there (shows p) c.args.key.0 _ c.requires.white) in
+    let unlinked = c.unlink_at.ensures.keys l.order h.order in
+    let removed = c.remove-cell.ensures in
+    ap objects_of (lists-parted p h c.requires.at_rest.emptied c.args.key.0 c.unlink_at.new.store c.unlink_at.new.self unlinked c.unlink_at.ensures.rest
+    c.remove-cell.result removed.value c.remove-cell.new.self removed.slots removed.updates.changed removed.updates.others)
+    ∙ objects-left l c.requires.at_rest.placed c.args.key.0 f.0 f.1
 
 pub returns-clause-at_rest : goal.returns-clause-at_rest
 returns-clause-at_rest c =
-    let l = lists_of c.args.self.now in
+    let p = c.args.self.now in
+    let l = lists_of p in
+    let h = c.requires.at_rest.chained in
+    let f = live-cell l c.requires.at_rest.placed c.args.key.0 (coloured-there (shows p) c.args.key.0 _ c.requires.white) in
+    let unlinked = c.unlink_at.ensures.keys l.order h.order in
+    let removed = c.remove-cell.ensures in
     record {
-      placed = subst IsPlaced (same-lists l c.args.key.0 (map (λ (k : SKey). k.0) c.leave.new.order.items) c.remove-cell.new.self.slots c.remove-cell.ensures.slots c.leave.ensures.keys)
-          (IsPlaced-left l c.requires.at_rest.placed c.args.key.0 c.remove-cell.result c.remove-cell.ensures.value);
-      coloured = subst HasColourOrder (sym (returns-clause-shows c)) (HasColourOrder-without (shows c.args.self.now) c.args.key.0 c.requires.at_rest.coloured c.requires.white);
-      emptied = c.requires.at_rest.emptied;
-      room = omega (arith, c.requires.at_rest.room, c.leave.ensures.fewer);
+      placed = subst IsPlaced
+          (sym (lists-parted p h c.requires.at_rest.emptied c.args.key.0 c.unlink_at.new.store c.unlink_at.new.self unlinked c.unlink_at.ensures.rest
+          c.remove-cell.result removed.value c.remove-cell.new.self removed.slots removed.updates.changed removed.updates.others))
+          (IsPlaced-left l c.requires.at_rest.placed c.args.key.0 f.0 f.1);
+      chained = chained-parted p h c.requires.at_rest.emptied c.args.key.0 c.unlink_at.new.store c.unlink_at.new.self unlinked c.unlink_at.ensures.rest
+          c.remove-cell.result removed.value c.remove-cell.new.self removed.slots removed.updates.changed removed.updates.others;
+      coloured = subst HasColourOrder (sym (returns-clause-shows c)) (HasColourOrder-without (shows p) c.args.key.0 c.requires.at_rest.coloured c.requires.white);
+      emptied = waiting-left p h c.requires.at_rest.emptied c.args.key.0 c.unlink_at.new.store c.unlink_at.new.self unlinked c.unlink_at.ensures.rest
+          c.remove-cell.result removed.value c.remove-cell.new.self removed.slots removed.updates.changed removed.updates.others ∙ c.requires.at_rest.emptied;
     }

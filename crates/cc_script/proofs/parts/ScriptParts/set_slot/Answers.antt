@@ -1,11 +1,13 @@
-use Rattle.std.proofs.Common.{◌≡◌, length, ap, sym, subst, true, arith}
+use Rattle.std.proofs.Common.{◌≡◌, length, ap, sym, subst, true, ◌∙◌, arith}
 use Rattle.cc_script.specs.Objects.{is_there, colour_at, IsNotBelow}
 use Rattle.cc_script.specs.ColourOrder.{HasColourOrder}
-use Rattle.cc_script.specs.Lists.{slots_placed}
+use Rattle.cc_script.specs.Lists.{slots_placed, objects_of, IsPlaced}
+use Rattle.cc_script.specs.Cells.{cells_of}
 use Rattle.cc_script.specs.Parts.{lists_of, shows}
 use Rattle.cc_script.proofs.Places.{live-cell, live-some, slots_at-placed, object_at-own}
 use Rattle.cc_script.proofs.Reading.{held_key}
 use Rattle.cc_script.proofs.Writing.{IsPlaced-written, objects-written, each-held}
+use Rattle.cc_script.proofs.Chained.{lists-kept, waiting-same, chained-kept}
 use Rattle.cc_script.proofs.InOrder.{HasColourOrder-written}
 use Rattle.cc_script.proofs.parts.ScriptParts.set_slot.Goals as goal
 
@@ -20,21 +22,27 @@ write-requires-clause-within c =
 
 pub returns-clause-shows : goal.returns-clause-shows
 returns-clause-shows c =
-    let l = lists_of c.args.self.now in
+    let p = c.args.self.now in
+    let l = lists_of p in
+    let changes = c.write.ensures.changes in
     let f = live-cell l c.requires.at_rest.placed c.args.key.0 c.requires.live in
-    objects-written l c.requires.at_rest.placed c.args.key.0 f.0 f.1 c.args.i (held_key c.args.item) c.write.new.cells.slots c.write.ensures.slots
+    ap objects_of (lists-kept p c.requires.at_rest.chained c.write.new.cells changes.order changes.waiting)
+    ∙ objects-written l c.requires.at_rest.placed c.args.key.0 f.0 f.1 c.args.i (held_key c.args.item) (cells_of c.write.new.cells.slots) changes.cells
 
 pub returns-clause-at_rest : goal.returns-clause-at_rest
 returns-clause-at_rest c =
-    let l = lists_of c.args.self.now in
-    let objects = shows c.args.self.now in
+    let p = c.args.self.now in
+    let l = lists_of p in
+    let objects = shows p in
+    let changes = c.write.ensures.changes in
     let f = live-cell l c.requires.at_rest.placed c.args.key.0 c.requires.live in
     record {
-      placed = IsPlaced-written l c.requires.at_rest.placed c.args.key.0 f.0 f.1 c.args.i (held_key c.args.item) c.write.new.cells.slots c.write.ensures.slots;
+      placed = subst IsPlaced (sym (lists-kept p c.requires.at_rest.chained c.write.new.cells changes.order changes.waiting))
+          (IsPlaced-written l c.requires.at_rest.placed c.args.key.0 f.0 f.1 c.args.i (held_key c.args.item) (cells_of c.write.new.cells.slots) changes.cells);
+      chained = chained-kept p c.requires.at_rest.chained c.write.new.cells changes.order changes.waiting;
       coloured = subst HasColourOrder (sym (returns-clause-shows c))
           (HasColourOrder-written objects c.requires.at_rest.coloured (object_at-own l c.requires.at_rest.placed) c.args.key.0 c.args.i (held_key c.args.item)
           (each-held (λ q. is_there objects q ≡ true) c.args.item c.requires.item_live)
           (each-held (λ q. IsNotBelow (colour_at objects q) (colour_at objects c.args.key.0)) c.args.item c.requires.colours));
-      emptied = c.requires.at_rest.emptied;
-      room = c.requires.at_rest.room;
+      emptied = waiting-same p c.requires.at_rest.chained c.write.new.cells changes.order changes.waiting ∙ c.requires.at_rest.emptied;
     }

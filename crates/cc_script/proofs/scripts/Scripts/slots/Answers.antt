@@ -1,36 +1,32 @@
 use Rattle.std.proofs.Common.{◌≡◌, ◌≤◌, List, length, true, ap, sym, subst, ◌∙◌, arith}
 use Rattle.std.proofs.lemmas.List.{length-map}
 use Rattle.cc_script.specs.Objects.{Object, is_there, slots_at}
-use Rattle.cc_script.specs.Lists.{Placed}
+use Rattle.cc_script.specs.Cells.{Linked}
 use Rattle.cc_script.specs.Parts.{lists_of}
 use Rattle.cc_script.proofs.Places.{live-some, slots_at-placed}
 use Rattle.cc_script.proofs.Reading.{held_key}
 use Rattle.cc_script.proofs.scripts.Scripts.slots.Goals as goal
 
-pub index-requires : goal.index-requires
-index-requires c =
-    live-some (lists_of c.self.inside.parts) c.self.invariant.placed c.args.key.0 (subst (λ (v : List Object). is_there v c.args.key.0 ≡ true) (sym c.self.view_is) c.requires.live)
-
 pub overflow_cast-result : goal.overflow_cast-result
 overflow_cast-result c =
-    let few : length c.index.result.now.slots ≤ 64 = c.self.invariant.placed.small c.args.key.0 c.index.result.now c.index.ensures in
+    let few : length c.cell.result.now.placed.slots ≤ 64 = c.self.invariant.placed.small c.args.key.0 c.cell.result.now.placed c.cell.ensures in
     omega (
       arith,
       c.len.ensures,
       c.behind-self.inside.slots.ok.0,
       length-map c.behind-self.inside.slots.items held_key,
-      ap (λ (p : Placed). length p.slots) c.behind-self.view_is,
+      ap (λ (p : Linked). length p.placed.slots) c.behind-self.view_is,
     )
 
 pub returns : goal.returns
 returns c =
-    let long : c.len.result ≡ length c.index.result.now.slots =
+    let long : c.len.result ≡ length c.cell.result.now.placed.slots =
     omega (
       arith,
       c.len.ensures,
       c.behind-self.inside.slots.ok.0,
       length-map c.behind-self.inside.slots.items held_key,
-      ap (λ (p : Placed). length p.slots) c.behind-self.view_is,
+      ap (λ (p : Linked). length p.placed.slots) c.behind-self.view_is,
     ) in
     subst (λ (v : List Object). c.len.result ≡ length (slots_at v c.args.key.0)) c.self.view_is
-    (long ∙ ap length (sym (slots_at-placed (lists_of c.self.inside.parts) c.self.invariant.placed c.args.key.0 c.index.result.now c.index.ensures)))
+    (long ∙ ap length (sym (slots_at-placed (lists_of c.self.inside.parts) c.self.invariant.placed c.args.key.0 c.cell.result.now.placed c.cell.ensures)))

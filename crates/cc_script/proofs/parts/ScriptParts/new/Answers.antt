@@ -1,0 +1,24 @@
+use Rattle.std.proofs.Common.{[], ap, sym, subst}
+use Rattle.cc_chain.proofs.Slots.{slots-none}
+use Rattle.cc_script.specs.declared.parts.ScriptParts.{ScriptParts}
+use Rattle.cc_script.specs.ColourOrder.{HasColourOrder}
+use Rattle.cc_script.specs.Lists.{Lists, objects_of, IsPlaced}
+use Rattle.cc_script.specs.Cells.{Linked, cells_of}
+use Rattle.cc_script.proofs.Making.{no_lists, IsPlaced-none}
+use Rattle.cc_script.proofs.InOrder.{HasColourOrder-none}
+use Rattle.cc_script.proofs.Chained.{lists-are, waiting-are, chained-are}
+use Rattle.cc_script.proofs.parts.ScriptParts.new.Goals as goal
+
+pub returns-clause-at_rest : goal.returns-clause-at_rest
+returns-clause-at_rest c =
+    let p : ScriptParts = record { cells = c.new.result; order = c.new-2.result; waiting = c.new-3.result } in
+    let cells = ap cells_of c.new.ensures.empty in
+    let order = c.new-2.ensures _ (slots-none (λ (z : Linked). z.order) c.new.result.slots c.new.ensures.empty) in
+    let waiting = c.new-3.ensures _ (slots-none (λ (z : Linked). z.waiting) c.new.result.slots c.new.ensures.empty) in
+    let lists = lists-are p no_lists [] cells order waiting in
+    record {
+      placed = subst IsPlaced (sym lists) IsPlaced-none;
+      chained = chained-are p no_lists [] cells order waiting;
+      coloured = subst (λ (l : Lists). HasColourOrder (objects_of l)) (sym lists) HasColourOrder-none;
+      emptied = waiting-are p no_lists [] cells order waiting;
+    }
