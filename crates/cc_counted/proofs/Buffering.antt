@@ -1,6 +1,7 @@
 -- THE BUFFER READ by keys and by numbers.
-use Rattle.std.proofs.Common.{◌≡◌, ℕ, List, [], ◌∷◌, map, Option, Some, None, option_map, option_and_then, is_some, IfSome, MatchOption, Bool, true, false, refl, sym, ◌∙◌, ap, subst, inl, inr, ◌==◌}
+use Rattle.std.proofs.Common.{◌≡◌, ℕ, List, [], ◌∷◌, drop, map, Option, Some, None, option_map, option_and_then, is_some, IfSome, MatchOption, Bool, true, false, refl, sym, ◌∙◌, ap, subst, inl, inr, ◌==◌}
 use Rattle.cc_lists.specs.Members.{Among}
+use Rattle.cc_lists.specs.Walks.{first_of}
 use Rattle.cc_names.specs.declared.number.NKey.{NKey}
 use Rattle.cc_model.specs.Heap.{Buffered}
 use Rattle.cc_purple.specs.Marks.{Marked, marked_as, holds_key, is_purple, first_key, key_after}
@@ -103,35 +104,63 @@ live-behind l p key o e = live-mark l p o (key_after l.marks key) e (after-there
 
 -- The front taken out.
 module _ (l : Lists) (p : IsPlaced l) (m : Marked) (ms : List Marked) (front : l.marks ≡ m ∷ ms) where
-  pub placed-selected : IsPlaced (record l { marks = ms })
-  placed-selected = record {
-    in_order = p.in_order;
-    ordered = p.ordered;
-    rising = p.rising;
-    small = p.small;
-    held = p.held;
-    queued = p.queued;
-    marked = λ n w. p.marked n (subst (λ xs. Among n xs) (sym front) (inr w));
-  }
-
   pub buffer-selected : (counts_of l).buffer ≡ record { number = the_number (counts_of l) m.key; purple = m.purple } ∷ (counts_of (record l { marks = ms })).buffer
   buffer-selected = ap (map (marked_number (keyed l.cells))) front
 
   pub live-selected : is_some (number_at (counts_of l) m.key) ≡ true
   live-selected = ap is_some (number-there l p m.key (p.marked m (subst (λ xs. Among m xs) (sym front) (inl refl))))
 
+-- the front taken out, if there was one
+pub placed-front : (old new : Lists) → IsPlaced old → new ≡ record old { marks = drop 1 old.marks } → IsPlaced new
+placed-front old new p e = subst IsPlaced (sym e) (record {
+  in_order = p.in_order;
+  ordered = p.ordered;
+  rising = p.rising;
+  small = p.small;
+  held = p.held;
+  queued = p.queued;
+  marked = λ m n. p.marked m (later old.marks m n);
+})
+  where
+    later : (ms : List Marked) (m : Marked) → Among m (drop 1 ms) → Among m ms
+    later [] m n = n
+    later (x ∷ xs) m n = inr n
+
+front-taken : (old new : Lists) (o : Option (NKey × Bool)) → option_map (λ (front : NKey × Bool). marked_as front.0.0 front.1) o ≡ first_of old.marks → new ≡ record old { marks = drop 1 old.marks } →
+    MatchOption o ((old.marks ≡ []) × (counts_of new ≡ counts_of old)) (λ front. old ≡ record new { marks = marked_as front.0.0 front.1 ∷ new.marks })
+front-taken old new o f e = go old.marks refl o f
+  where
+    left : (ms : List Marked) → old.marks ≡ ms → new ≡ record old { marks = drop 1 ms }
+    left ms m = e ∙ ap (λ (xs : List Marked). record old { marks = drop 1 xs }) m
+
+    go : (ms : List Marked) → old.marks ≡ ms → (o : Option (NKey × Bool)) → option_map (λ (front : NKey × Bool). marked_as front.0.0 front.1) o ≡ first_of ms →
+        MatchOption o ((old.marks ≡ []) × (counts_of new ≡ counts_of old)) (λ front. old ≡ record new { marks = marked_as front.0.0 front.1 ∷ new.marks })
+    go [] m None g = (m, ap (λ (l : Lists). counts_of l) (left [] m ∙ ap (λ (xs : List Marked). record old { marks = xs }) (sym m)))
+    go [] m (Some front) g = absurd (cc)
+    go (x ∷ xs) m None g = absurd (cc)
+    go (x ∷ xs) m (Some front) g =
+        let same : marked_as front.0.0 front.1 ≡ x = cc in
+        ap (λ (ys : List Marked). record old { marks = ys }) (m ∙ ap (λ (y : Marked). y ∷ xs) (sym same))
+        ∙ ap (λ (l : Lists). record l { marks = marked_as front.0.0 front.1 ∷ l.marks }) (sym (left (x ∷ xs) m))
+
 -- what is known once the front was taken out, by whether there was one
 pub selected : (old new : Lists) → IsPlaced old → (o : Option (NKey × Bool)) →
-    MatchOption o ((old.marks ≡ []) × (counts_of new ≡ counts_of old)) (λ front. old ≡ record new { marks = marked_as front.0.0 front.1 ∷ new.marks }) →
+    option_map (λ (front : NKey × Bool). marked_as front.0.0 front.1) o ≡ first_of old.marks → new ≡ record old { marks = drop 1 old.marks } →
     MatchOption o (((counts_of old).buffer ≡ []) × (counts_of new ≡ counts_of old))
     (λ front. ((counts_of old).buffer ≡ record { number = the_number (counts_of old) front.0.0; purple = front.1 } ∷ (counts_of new).buffer)
     × (counts_of new ≡ record (counts_of old) { buffer = (counts_of new).buffer }) × (is_some (number_at (counts_of old) front.0.0) ≡ true))
-selected old new p None h = (ap (map (marked_number (keyed old.cells))) h.0, h.1)
-selected old new p (Some front) e =
-    let m : Marked = marked_as front.0.0 front.1 in
-    let marks : old.marks ≡ m ∷ new.marks = ap (λ (l : Lists). l.marks) e in
-    let same : record old { marks = new.marks } ≡ new = ap (λ (l : Lists). record l { marks = new.marks }) e in (
-      buffer-selected old p m new.marks marks ∙ ap (λ (l : Lists). record { number = the_number (counts_of old) front.0.0; purple = front.1 } ∷ (counts_of l).buffer) same,
-      ap (λ (l : Lists). counts_of l) (sym same) ∙ ap (λ (l : Lists). record (counts_of old) { buffer = (counts_of l).buffer }) same,
-      live-selected old p m new.marks marks,
-    )
+selected old new p o f e = go o (front-taken old new o f e)
+  where
+    go : (o : Option (NKey × Bool)) → MatchOption o ((old.marks ≡ []) × (counts_of new ≡ counts_of old)) (λ front. old ≡ record new { marks = marked_as front.0.0 front.1 ∷ new.marks }) →
+        MatchOption o (((counts_of old).buffer ≡ []) × (counts_of new ≡ counts_of old))
+        (λ front. ((counts_of old).buffer ≡ record { number = the_number (counts_of old) front.0.0; purple = front.1 } ∷ (counts_of new).buffer)
+        × (counts_of new ≡ record (counts_of old) { buffer = (counts_of new).buffer }) × (is_some (number_at (counts_of old) front.0.0) ≡ true))
+    go None h = (ap (map (marked_number (keyed old.cells))) h.0, h.1)
+    go (Some front) t =
+        let m : Marked = marked_as front.0.0 front.1 in
+        let marks : old.marks ≡ m ∷ new.marks = ap (λ (l : Lists). l.marks) t in
+        let same : record old { marks = new.marks } ≡ new = ap (λ (l : Lists). record l { marks = new.marks }) t in (
+          buffer-selected old p m new.marks marks ∙ ap (λ (l : Lists). record { number = the_number (counts_of old) front.0.0; purple = front.1 } ∷ (counts_of l).buffer) same,
+          ap (λ (l : Lists). counts_of l) (sym same) ∙ ap (λ (l : Lists). record (counts_of old) { buffer = (counts_of l).buffer }) same,
+          live-selected old p m new.marks marks,
+        )

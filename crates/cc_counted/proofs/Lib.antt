@@ -1,9 +1,10 @@
+pub mod Nodes
+pub mod Threading
 pub mod Places
 pub mod Changing
 pub mod Marking
 pub mod GivingUp
 pub mod Holding
-pub mod Room
 pub mod TakingOut
 pub mod StepsOf
 pub mod Each

@@ -1,20 +1,45 @@
 -- THE NATIVES IN ORDER: the key behind a key is that of the native with the next greater number.
-use Rattle.std.proofs.Common.{◌≡◌, ℕ, List, [], ◌∷◌, ◌++◌, map, Option, Some, None, option_map, option_and_then, is_some, IfSome, true, refl, sym, ◌∙◌, ap, subst, inl, inr, arith, ◌==◌, nat_lt}
+use Rattle.std.proofs.Common.{◌≡◌, ℕ, List, [], ◌∷◌, ◌++◌, map, Option, Some, None, option_map, option_and_then, is_some, IfSome, Bool, true, false, if◌then◌else◌, refl, sym, ◌∙◌, ap, subst, inl, inr, arith, ◌==◌, nat_lt}
 use Rattle.std.specs.List.{filter}
 use Rattle.std.proofs.lemmas.Bool.{eqb-true, eq-eqb}
 use Rattle.std.proofs.lemmas.List.{map-append}
 use Rattle.cc_lists.specs.Members.{Among}
-use Rattle.cc_lists.specs.Walks.{HasDistinctKeys, IsRising, first_key, next_key}
+use Rattle.cc_lists.specs.Walks.{HasDistinctKeys, IsRising, first_of, first_key, next_key}
 use Rattle.cc_lists.proofs.Members.{Among-right}
 use Rattle.cc_lists.proofs.Filtering.{count_by-weaker}
 use Rattle.cc_lists.proofs.Rising.{rising-distinct}
 use Rattle.cc_lists.proofs.RisingWalks.{between-above}
-use Rattle.cc_lists.proofs.Walks.{IsBetween, among-between, others-around, next-between}
+use Rattle.cc_lists.proofs.Walks.{IsBetween, among-between, next_key-among, others-around, next-between}
+use Rattle.cc_chain.specs.Chains.{behind}
 use Rattle.cc_model.specs.Heap.{HeapNative}
 use Rattle.cc_names.specs.declared.number.NKey.{NKey}
 use Rattle.cc_counted.specs.Counts.{number_at, the_number, first_number, number_after}
 use Rattle.cc_counted.specs.Lists.{Placed, Lists, cell_at, keyed, shown_at, counts_of, IsPlaced}
 use Rattle.cc_counted.proofs.Places.{number_at-cell, the_number-cell, shown-number, natives-rising}
+
+-- the first key of a list, and the key behind another
+first_of-key : (keys : List ℕ) → first_of keys ≡ first_key (λ k. k) keys
+first_of-key [] = refl
+first_of-key (k ∷ ks) = refl
+
+behind-next_key : (keys : List ℕ) (key : ℕ) → first_of (behind key keys) ≡ next_key (λ k. k) keys key
+behind-next_key [] key = refl
+behind-next_key (k ∷ ks) key = go (behind-next_key ks key) (k == key)
+  where
+    go : first_of (behind key ks) ≡ next_key (λ k. k) ks key → (b : Bool) →
+        first_of (if b then ks else behind key ks) ≡ (elim b [ true ↦ first_key (λ k. k) ks | false ↦ next_key (λ k. k) ks key ])
+    go ih true = first_of-key ks
+    go ih false = ih
+
+-- they stand in the list
+pub first-among : (keys : List ℕ) (key : ℕ) → first_of keys ≡ Some key → Among key keys
+first-among [] key e = absurd (cc)
+first-among (k ∷ ks) key e = let same : k ≡ key = cc in inl same
+
+pub behind-among : (keys : List ℕ) (key j : ℕ) → first_of (behind key keys) ≡ Some j → Among j keys
+behind-among keys key j e =
+    let f = next_key-among (λ (k : ℕ). k) keys key j (sym (behind-next_key keys key) ∙ e) in
+    subst (λ i. Among i keys) f.2 f.1
 
 module _ (l : Lists) (p : IsPlaced l) where
   abbrev number : ℕ → ℕ
@@ -26,7 +51,7 @@ module _ (l : Lists) (p : IsPlaced l) where
 
   -- the first of some natives
   pub number-first : (keys : List ℕ) → ((key : ℕ) → Among key keys → (c : Placed) × (cell_at l.cells key ≡ Some c)) →
-      option_and_then (number_at (counts_of l)) (first_key (λ k. k) keys) ≡ first_number (map (shown_at l.cells) keys)
+      option_and_then (number_at (counts_of l)) (first_of keys) ≡ first_number (map (shown_at l.cells) keys)
   number-first [] there = refl
   number-first (k ∷ ks) there = number-there k (there k (inl refl)) ∙ ap Some (sym (shown-number l.cells k))
 
@@ -42,9 +67,11 @@ module _ (l : Lists) (p : IsPlaced l) where
     b : IsBetween ℕ key l.order
     b = among-between key l.order (p.ordered key at.0 at.1)
 
-    key-behind : next_key (λ k. k) l.order key ≡ first_key (λ k. k) b.behind
-    key-behind = ap (λ ks. next_key (λ k. k) ks key) b.whole
-        ∙ next-between (λ (k : ℕ). k) key b.behind b.before (others-around (λ (k : ℕ). k) b.before key b.behind (subst (HasDistinctKeys (λ k. k)) b.whole keys-distinct)).0
+    key-behind : first_of (behind key l.order) ≡ first_of b.behind
+    key-behind = behind-next_key l.order key
+        ∙ (ap (λ ks. next_key (λ k. k) ks key) b.whole
+        ∙ next-between (λ (k : ℕ). k) key b.behind b.before (others-around (λ (k : ℕ). k) b.before key b.behind (subst (HasDistinctKeys (λ k. k)) b.whole keys-distinct)).0)
+        ∙ sym (first_of-key b.behind)
 
     natives-whole : (counts_of l).natives ≡ map (shown_at l.cells) b.before ++ shown_at l.cells key ∷ map (shown_at l.cells) b.behind
     natives-whole = ap (map (shown_at l.cells)) b.whole ∙ map-append (shown_at l.cells) b.before (key ∷ b.behind)
@@ -54,7 +81,7 @@ module _ (l : Lists) (p : IsPlaced l) where
         ∙ between-above (λ (n : HeapNative). n.number) (map (shown_at l.cells) b.before) (shown_at l.cells key) (map (shown_at l.cells) b.behind)
         (subst (λ ns. IsRising (map (λ (n : HeapNative). n.number) ns)) natives-whole (natives-rising l p))
 
-    pub number-next : option_and_then (number_at (counts_of l)) (next_key (λ k. k) l.order key) ≡ number_after (counts_of l) (the_number (counts_of l) key)
+    pub number-next : option_and_then (number_at (counts_of l)) (first_of (behind key l.order)) ≡ number_after (counts_of l) (the_number (counts_of l) key)
     number-next = ap (option_and_then (number_at (counts_of l))) key-behind
         ∙ (number-first b.behind (λ k m. p.in_order k (subst (Among k) (sym b.whole) (Among-right k b.before (key ∷ b.behind) (inr m))))
         ∙ ap first_number (sym natives-behind))

@@ -1,20 +1,22 @@
--- One reference given up, in the words of the contracts: what is left, and why it has room.
-use Rattle.std.proofs.Common.{◌≡◌, ℕ, ◌<◌, ◌≤◌, true, List, [], ◌∷◌, ◌++◌, length, Option, Some, option_map, refl, sym, ◌∙◌, ap, subst, arith}
+-- One reference given up, in the words of the contracts: what is left, and why its native does not wait yet.
+use Rattle.std.proofs.Common.{◌≡◌, ℕ, ◌≤◌, List, [], ◌∷◌, ◌++◌, map, Option, Some, option_map, refl, sym, ◌∙◌, true, ap, subst, arith}
 use Rattle.std.proofs.Math.ListN.{set}
-use Rattle.std.proofs.lemmas.List.{length-set, length_push}
+use Rattle.std.proofs.lemmas.List.{length-set}
 use Rattle.cc_model.specs.Cascade.{give_up}
 use Rattle.cc_model.specs.Heap.{native_at}
-use Rattle.cc_laws_heap.proofs.References.{times-cons_same}
-use Rattle.cc_laws_heap.proofs.GiveUp.{IsBalanced-give_up}
-use Rattle.cc_laws_heap.specs.Balance.{IsBalanced, count_of}
-use Rattle.cc_purple.specs.Marks.{Marked, with_mark, without_key, HasPlaceFor}
+use Rattle.cc_lists.specs.Members.{Among}
+use Rattle.cc_lists.proofs.Members.{Among-map}
+use Rattle.cc_model.specs.Counts.{times}
+use Rattle.cc_laws_heap.proofs.References.{times-cons_same, times-some}
+use Rattle.cc_laws_heap.proofs.Cascades.{one_at_zero-above}
+use Rattle.cc_laws_heap.specs.Balance.{IsBalanced, count_of, waiting as waits}
+use Rattle.cc_purple.specs.Marks.{Marked, with_mark, without_key}
 use Rattle.cc_counted.specs.Counts.{the_number, heap_of}
-use Rattle.cc_counted.specs.Lists.{Placed, Lists, cell_at, with_one_less, count_placed, keyed, counts_of, draining_of, IsPlaced, suspected, waiting}
+use Rattle.cc_counted.specs.Lists.{Placed, Lists, cell_at, with_one_less, count_placed, keyed, shown, counts_of, draining_of, IsPlaced, suspected, waiting}
 use Rattle.cc_counted.specs.Steps.{GivesUp}
 use Rattle.cc_counted.proofs.Places.{the_number-cell, native_at-cell}
 use Rattle.cc_counted.proofs.Changing.{keyed-changed, cells-changed}
 use Rattle.cc_counted.proofs.GivingUp.{give_up-suspected, give_up-waiting, IsPlaced-suspected, IsPlaced-waiting}
-use Rattle.cc_counted.proofs.Room.{queue-short, marks-short, HasPlaceFor-marked}
 
 module _ (l : Lists) (p : IsPlaced l) (key : ℕ) (c : Placed) (at : cell_at l.cells key ≡ Some c) where
   -- the count at the key
@@ -22,15 +24,13 @@ module _ (l : Lists) (p : IsPlaced l) (key : ℕ) (c : Placed) (at : cell_at l.c
   count-placed = ap count_placed at
 
   -- the cells after the count fell
-  lowered : (cells : List (Option Placed)) → cells ≡ set l.cells key (option_map with_one_less (cell_at l.cells key)) → set l.cells key (Some (with_one_less c)) ≡ cells
-  lowered cells e = ap (λ o. set l.cells key (option_map with_one_less o)) (sym at) ∙ sym e
+  lowered : set l.cells key (Some (with_one_less c)) ≡ set l.cells key (option_map with_one_less (cell_at l.cells key))
+  lowered = ap (λ o. set l.cells key (option_map with_one_less o)) (sym at)
 
-  pub GivesUp-suspected : 2 ≤ c.count → (cells : List (Option Placed)) (marks : List Marked) →
-      cells ≡ set l.cells key (option_map with_one_less (cell_at l.cells key)) → marks ≡ with_mark true key l.marks →
-      GivesUp l (record { cells = cells; order = l.order; queue = l.queue; marks = marks }) (the_number (keyed l.cells) key ∷ [])
-  GivesUp-suspected more cells marks e f =
-      subst (λ xs. GivesUp l (record { cells = xs; order = l.order; queue = l.queue; marks = marks }) (the_number (keyed l.cells) key ∷ [])) (lowered cells e)
-      (subst (λ ms. GivesUp l (record { cells = set l.cells key (Some (with_one_less c)); order = l.order; queue = l.queue; marks = ms }) (the_number (keyed l.cells) key ∷ [])) (sym f)
+  pub GivesUp-suspected : 2 ≤ c.count → (new : Lists) →
+      new ≡ record l { cells = set l.cells key (option_map with_one_less (cell_at l.cells key)); marks = with_mark true key l.marks } → GivesUp l new (the_number (keyed l.cells) key ∷ [])
+  GivesUp-suspected more new e =
+      subst (λ n. GivesUp l n (the_number (keyed l.cells) key ∷ [])) (ap (λ xs. record l { cells = xs; marks = with_mark true key l.marks }) lowered ∙ sym e)
       (record {
         draining = λ es. give_up-suspected l p key c at more es ∙ ap (give_up (draining_of l es)) (sym (the_number-cell l.cells key c at));
         placed = IsPlaced-suspected l p key c at;
@@ -38,15 +38,14 @@ module _ (l : Lists) (p : IsPlaced l) (key : ℕ) (c : Placed) (at : cell_at l.c
         order = refl;
         as_many = length-set l.cells key (Some (with_one_less c));
         cells = cells-changed l p key c (with_one_less c) at refl refl;
-      }))
+      })
 
-  pub GivesUp-waiting : c.count ≡ 1 → (cells : List (Option Placed)) (queue : List ℕ) (marks : List Marked) →
-      cells ≡ set l.cells key (option_map with_one_less (cell_at l.cells key)) → queue ≡ l.queue ++ key ∷ [] → marks ≡ without_key key l.marks →
-      GivesUp l (record { cells = cells; order = l.order; queue = queue; marks = marks }) (the_number (keyed l.cells) key ∷ [])
-  GivesUp-waiting one cells queue marks e q f =
-      subst (λ xs. GivesUp l (record { cells = xs; order = l.order; queue = queue; marks = marks }) (the_number (keyed l.cells) key ∷ [])) (lowered cells e)
-      (subst (λ ks. GivesUp l (record { cells = set l.cells key (Some (with_one_less c)); order = l.order; queue = ks; marks = marks }) (the_number (keyed l.cells) key ∷ [])) (sym q)
-      (subst (λ ms. GivesUp l (record { cells = set l.cells key (Some (with_one_less c)); order = l.order; queue = l.queue ++ key ∷ []; marks = ms }) (the_number (keyed l.cells) key ∷ [])) (sym f)
+  pub GivesUp-waiting : c.count ≡ 1 → (new : Lists) →
+      new ≡ record l { cells = set l.cells key (option_map with_one_less (cell_at l.cells key)); queue = l.queue ++ key ∷ []; marks = without_key key l.marks } →
+      GivesUp l new (the_number (keyed l.cells) key ∷ [])
+  GivesUp-waiting one new e =
+      subst (λ n. GivesUp l n (the_number (keyed l.cells) key ∷ []))
+      (ap (λ xs. record l { cells = xs; queue = l.queue ++ key ∷ []; marks = without_key key l.marks }) lowered ∙ sym e)
       (record {
         draining = λ es. give_up-waiting l p key c at one es ∙ ap (give_up (draining_of l es)) (sym (the_number-cell l.cells key c at));
         placed = IsPlaced-waiting l p key c at;
@@ -54,7 +53,7 @@ module _ (l : Lists) (p : IsPlaced l) (key : ℕ) (c : Placed) (at : cell_at l.c
         order = refl;
         as_many = length-set l.cells key (Some (with_one_less c));
         cells = cells-changed l p key c (with_one_less c) at refl refl;
-      })))
+      })
 
   module _ (owned : List ℕ) (b : IsBalanced (c.number ∷ owned) (draining_of l [])) where
     -- the reference that is given up is counted
@@ -63,16 +62,11 @@ module _ (l : Lists) (p : IsPlaced l) (key : ℕ) (c : Placed) (at : cell_at l.c
         let found : count_of (native_at (heap_of (counts_of l)) c.number) ≡ c.count = ap count_of (native_at-cell l p key c at) in
         omega (arith, b.counts c.number, times-cons_same c.number owned)
 
-    -- a mark has a place
-    pub place : (room : ℕ) → 2 ≤ c.count → length l.order ≤ room → HasPlaceFor (record { marks = l.marks; room = room }) key
-    place room more fits =
-        let after : IsBalanced owned (draining_of (suspected l key c) []) =
-        subst (IsBalanced owned) (sym (give_up-suspected l p key c at more [])) (IsBalanced-give_up owned (draining_of l []) c.number b) in
-        HasPlaceFor-marked true key room l.marks (omega (arith, marks-short owned (suspected l key c) [] after))
-
-    -- and a native that waits too
-    pub queue-place : c.count ≡ 1 → length l.queue < length l.order
-    queue-place one =
-        let after : IsBalanced owned (draining_of (waiting l key c) []) =
-        subst (IsBalanced owned) (sym (give_up-waiting l p key c at one [])) (IsBalanced-give_up owned (draining_of l []) c.number b) in
-        omega (arith, queue-short owned (waiting l key c) [] after, length_push l.queue key)
+    -- and a native that is counted does not wait
+    pub idle : ¬ (Among key l.queue)
+    idle m =
+        let found : native_at (heap_of (counts_of l)) c.number ≡ Some (shown (keyed l.cells) (Some c)) = native_at-cell l p key c at in
+        let some : 1 ≤ times c.number (map (the_number (keyed l.cells)) l.queue) =
+        times-some c.number (map (the_number (keyed l.cells)) l.queue)
+        (subst (λ k. Among k (map (the_number (keyed l.cells)) l.queue)) (the_number-cell l.cells key c at) (Among-map (the_number (keyed l.cells)) key l.queue m)) in
+        omega (arith, b.queue c.number, ap waits found, one_at_zero-above c.count counted)

@@ -68,7 +68,7 @@ module _ (owned : List ℕ) (l : Lists) (es : List Event) (p : IsPlaced l) (b : 
   no_refs = omega (arith, b.counts c.number, ap count_of found, count-zero)
 
   -- it waits only once
-  not_behind : (k : ℕ) → Among k ks → k ≢ key
+  pub not_behind : (k : ℕ) → Among k ks → k ≢ key
   not_behind k m e =
       let one : 1 ≤ times c.number (map (the_number numbers) ks) =
       times-some c.number (map (the_number numbers) ks)
@@ -77,7 +77,7 @@ module _ (owned : List ℕ) (l : Lists) (es : List Event) (p : IsPlaced l) (b : 
       omega (arith, waits_once, waits_by_count)
 
   -- and is not in the buffer
-  not_marked : (m : Marked) → Among m l.marks → m.key ≢ key
+  pub not_marked : (m : Marked) → Among m l.marks → m.key ≢ key
   not_marked m n e =
       let same : (marked_number numbers m).number ≡ c.number = ap (the_number numbers) e ∙ the_number-cell l.cells key c at in
       let one : 0 < places c.number d.heap.buffer =

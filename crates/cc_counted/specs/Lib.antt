@@ -2,6 +2,8 @@ pub mod Counts
 pub mod Owning
 pub mod Suspects
 pub mod Lists
-pub mod Parts
+pub mod Stored
+pub mod Nodes
+pub mod Natives
 pub mod Steps
 pub mod Resting

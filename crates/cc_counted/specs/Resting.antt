@@ -1,16 +1,14 @@
 -- A counted heap between two calls.
 use Rattle.std.specs.Prelude.{◌≡◌, []}
-use Rattle.cc_counted.specs.declared.parts.CountedParts.{CountedParts}
 use Rattle.cc_counted.specs.Counts.{Counts}
 use Rattle.cc_counted.specs.Lists.{counts_of, IsPlaced}
-use Rattle.cc_counted.specs.Parts.{lists_of, HasRoom}
+use Rattle.cc_counted.specs.Stored.{Stored}
 
--- what the parts show
-abbrev pub shows : CountedParts → Counts
-shows p = counts_of (lists_of p)
+-- what the natives show
+abbrev pub shows : Stored → Counts
+shows s = counts_of s.lists
 
--- the parts fit together, no native waits, and there is room
-pub record IsAtRest (p : CountedParts) : Type 0 where
-  pub placed : IsPlaced (lists_of p)
-  pub emptied : p.queue.items ≡ []
-  pub room : HasRoom p
+-- the lists fit together, and no native waits
+pub record IsAtRest (s : Stored) : Type 0 where
+  pub placed : IsPlaced s.lists
+  pub emptied : s.lists.queue ≡ []

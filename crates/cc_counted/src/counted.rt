@@ -14,8 +14,7 @@ ghost use Rattle.cc_counted.specs.Suspects.{is_in_buffer, is_purple_in, front_nu
 ghost use Rattle.cc_lists.specs.Members.{Among};
 
 use crate::held::Held;
-use crate::order::{behind, key_at};
-use crate::parts::CountedParts;
+use crate::natives::Natives;
 use cc_model::Notices;
 use cc_names::{NKey, NativeNo, NoMemory, SKey};
 use std::alloc::Global;
@@ -32,7 +31,7 @@ use std::marker::Model;
 /// of its key, in the place of a number. Crates above give it its own name, and see to it that it is there.
 #[derive(Drop)]
 pub struct Counted {
-    parts: CountedParts,
+    natives: Natives,
     alloc: Global,
 }
 
@@ -43,9 +42,9 @@ impl Model for Counted {
 
     ghost use Rattle.cc_counted.specs.Resting.{shows, IsAtRest};
 
-    ghost view = { λ c. shows c.parts };
+    ghost view = { λ c. shows c.natives };
 
-    ghost invariant = { λ c. IsAtRest c.parts };
+    ghost invariant = { λ c. IsAtRest c.natives };
 }
 
 impl Counted {
@@ -55,7 +54,7 @@ impl Counted {
         ensures owned { AreOwned [] result }
     {
         Counted {
-            parts: CountedParts::new(alloc),
+            natives: Natives::new(alloc),
             alloc,
         }
     }
@@ -80,7 +79,7 @@ impl Counted {
         ensures owned { OnOk result (Transfers [] (no.0 ∷ []) self.old self.new) }
         ensures err { OnErr result (self.new ≡ self.old) }
     {
-        self.parts.create(self.alloc, no, slots)
+        self.natives.create(self.alloc, no, slots)
     }
 
     /// Takes one more reference, which the caller owns. The native stands in the buffer without the purple mark.
@@ -91,7 +90,7 @@ impl Counted {
         ensures heap { self.new ≡ with_heap self.old (add_ref (heap_of self.old) (the_number self.old key.0)) }
         ensures owned { Transfers [] (the_number self.old key.0 ∷ []) self.old self.new }
     {
-        self.parts.add_ref(key);
+        self.natives.add_ref(key);
     }
 
     /// Gives up one reference that the caller owns, and deletes what then has none, cascade and all.
@@ -102,7 +101,7 @@ impl Counted {
         ensures told { Tells (N.telling out.old) (N.telling out.new) (texts_of (map Event (released self.old (the_number self.old key.0)).events)) }
         ensures owned { Transfers (the_number self.old key.0 ∷ []) [] self.old self.new }
     {
-        self.parts.release(key, out);
+        self.natives.release(key, out);
     }
 
     /// What slot `i` of a native holds, counted from 0. The reference stays the slot's.
@@ -112,7 +111,7 @@ impl Counted {
         ensures name { name_of self.now result ≡ slice_index_or (slots_of self.now key.0) i None }
         ensures live { IsTrue (is_live self.now result) }
     {
-        self.parts.natives[key.0].slots[i as usize]
+        self.natives.at(key).slots[i as usize]
     }
 
     /// Puts `item` into slot `i` of a native, counted from 0, and returns what the slot held.
@@ -129,7 +128,7 @@ impl Counted {
         ensures live { IsTrue (is_live self.old result) }
         ensures owned { Transfers (numbers_held self.old item) (numbers_held self.old result) self.old self.new }
     {
-        self.parts.set_slot(key, i, item)
+        self.natives.set_slot(key, i, item)
     }
 
     /// How many slots a native has: 0 to 64.
@@ -137,7 +136,7 @@ impl Counted {
         requires live { IsSome (number_at self.now key.0) }
         ensures { result ≡ length (slots_of self.now key.0) }
     {
-        self.parts.natives[key.0].slots.len() as u8
+        self.natives.at(key).slots.len() as u8
     }
 
     /// Whether a native's reflector is preserved.
@@ -145,7 +144,7 @@ impl Counted {
         requires live { IsSome (number_at self.now key.0) }
         ensures { result ≡ preserved_of self.now key.0 }
     {
-        self.parts.natives[key.0].preserved
+        self.natives.at(key).preserved
     }
 
     /// A native's reflector is preserved from then on, or is not. `unlink` ends it too.
@@ -154,7 +153,7 @@ impl Counted {
         ensures heap { self.new ≡ with_heap self.old (set_preserved (heap_of self.old) (the_number self.old key.0) on) }
         ensures owned { Transfers [] [] self.old self.new }
     {
-        self.parts.set_preserved(key, on);
+        self.natives.set_preserved(key, on);
     }
 
     /// Where a native's reflector stands in the script heap; none where it has none.
@@ -162,7 +161,7 @@ impl Counted {
         requires live { IsSome (number_at self.now key.0) }
         ensures { option_map (λ k. k.0) result ≡ reflector_at self.now key.0 }
     {
-        self.parts.natives[key.0].reflector
+        self.natives.at(key).reflector
     }
 
     /// A native has a reflector from then on, or none.
@@ -173,7 +172,7 @@ impl Counted {
         ensures reflectors { self.new ≡ with_reflector self.old key.0 (option_map (λ k. k.0) to) }
         ensures owned { Transfers [] [] self.old self.new }
     {
-        self.parts.set_reflector(key, to);
+        self.natives.set_reflector(key, to);
     }
 
     /// What a native refers to, counted from 0: what each slot holds, in their order, and behind the last slot its
@@ -184,7 +183,7 @@ impl Counted {
         ensures name { name_of self.now result ≡ slice_index_or (references_of self.now key.0) i None }
         ensures live { IsTrue (is_live self.now result) }
     {
-        self.parts.reference(key, i)
+        self.natives.reference(key, i)
     }
 
     /// The count of a native: the slots that hold it and the references that callers own.
@@ -192,7 +191,7 @@ impl Counted {
         requires live { IsSome (number_at self.now key.0) }
         ensures { result ≡ count_of self.now key.0 }
     {
-        self.parts.natives[key.0].count
+        self.natives.at(key).count
     }
 
     /// The number of the native at a key; none exactly where the key holds nothing.
@@ -201,10 +200,7 @@ impl Counted {
     pub fn number(&self, key: NKey) -> Option<NativeNo>
         ensures { option_map (λ n. n.0) result ≡ number_at self.now key.0 }
     {
-        match self.parts.natives.get(key.0) {
-            Some(cell) => Some(cell.number),
-            None => None,
-        }
+        self.natives.number(key)
     }
 
     /// The native with the least number; none exactly where there is none.
@@ -212,7 +208,7 @@ impl Counted {
         ensures number { option_and_then (λ k. number_at self.now k.0) result ≡ first_number self.now.natives }
         ensures live { IfSome result (λ k. IsSome (number_at self.now k.0)) }
     {
-        key_at(self.parts.order.as_slice(), 0)
+        self.natives.first()
     }
 
     /// The native with the next greater number; none exactly where there is none.
@@ -221,7 +217,7 @@ impl Counted {
         ensures number { option_and_then (λ k. number_at self.now k.0) result ≡ number_after self.now (the_number self.now key.0) }
         ensures live { IfSome result (λ k. IsSome (number_at self.now k.0)) }
     {
-        behind(self.parts.order.as_slice(), key)
+        self.natives.next(key)
     }
 
     /// Roots a native for a collection: one more reference, which the caller owns, and no purple mark.
@@ -257,7 +253,7 @@ impl Counted {
         ensures told { Tells (N.telling out.old) (N.telling out.new) (texts_of (map Event (unlink (heap_of self.old) (the_number self.old key.0)).events)) }
         ensures owned { Transfers (the_number self.old key.0 ∷ []) (the_number self.old key.0 ∷ []) self.old self.new }
     {
-        self.parts.unlink(key, out);
+        self.natives.unlink(key, out);
     }
 
     /// Takes out the front of the buffer with its mark; none exactly where the buffer is empty.
@@ -266,7 +262,7 @@ impl Counted {
             (λ front. (self.old.buffer ≡ record { number = the_number self.old front.0.0; purple = front.1 } ∷ self.new.buffer) × (self.new ≡ record self.old { buffer = self.new.buffer }) × IsSome (number_at self.old front.0.0)) }
         ensures owned { Transfers [] [] self.old self.new }
     {
-        self.parts.select_next()
+        self.natives.select_next()
     }
 
     /// A native that `select_next` took out goes back into the buffer with the purple mark; one that is there keeps its place.
@@ -276,7 +272,7 @@ impl Counted {
         ensures heap { self.new ≡ with_heap self.old (suspect (heap_of self.old) (the_number self.old key.0)) }
         ensures owned { Transfers [] [] self.old self.new }
     {
-        self.parts.give_back(key);
+        self.natives.give_back(key);
     }
 
     /// Whether a native stands in the buffer.
@@ -284,7 +280,7 @@ impl Counted {
         requires live { IsSome (number_at self.now key.0) }
         ensures { result ≡ is_in_buffer self.now.buffer (the_number self.now key.0) }
     {
-        self.parts.buffer.holds(key)
+        self.natives.holds(key)
     }
 
     /// Whether a native stands in the buffer with the purple mark.
@@ -292,7 +288,7 @@ impl Counted {
         requires live { IsSome (number_at self.now key.0) }
         ensures { result ≡ is_purple_in self.now.buffer (the_number self.now key.0) }
     {
-        self.parts.buffer.purple(key)
+        self.natives.purple(key)
     }
 
     /// The native in front of the buffer; none exactly where the buffer is empty.
@@ -300,7 +296,7 @@ impl Counted {
         ensures number { option_and_then (λ k. number_at self.now k.0) result ≡ front_number self.now.buffer }
         ensures live { IfSome result (λ k. IsSome (number_at self.now k.0)) }
     {
-        self.parts.buffer.first()
+        self.natives.first_suspect()
     }
 
     /// The native behind a native of the buffer, in buffer order; none exactly where that is the last.
@@ -310,6 +306,6 @@ impl Counted {
         ensures number { option_and_then (λ k. number_at self.now k.0) result ≡ number_behind self.now.buffer (the_number self.now key.0) }
         ensures live { IfSome result (λ k. IsSome (number_at self.now k.0)) }
     {
-        self.parts.buffer.next(key)
+        self.natives.next_suspect(key)
     }
 }

@@ -13,15 +13,16 @@
 //! to what its slots hold, until it is unlinked. This heap does not count reflectors, and a freed native takes its
 //! reflector's key along.
 //!
-//! `create` takes all memory that later calls may want: room in the queue and in the buffer for every native. No other
-//! call takes memory.
+//! The natives by rising number, the queue and the buffer are chains through the natives themselves: what joins or leaves
+//! one looks at its neighbours alone. `create` takes the native's own memory, and no other call takes any.
 #![tactic(auto)]
 
+mod cascade;
 mod cell;
 mod counted;
 mod held;
-mod order;
-mod parts;
+mod natives;
+mod node;
 
 pub use counted::Counted;
 pub use held::{Held, native_held};

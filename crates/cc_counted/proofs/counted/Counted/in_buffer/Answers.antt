@@ -2,7 +2,6 @@ use Rattle.std.proofs.Common.{◌≡◌, ap, sym, subst, ◌∙◌, is_some, tru
 use Rattle.cc_counted.specs.Counts.{Counts, number_at, the_number}
 use Rattle.cc_counted.specs.Suspects.{is_in_buffer}
 use Rattle.cc_counted.specs.Lists.{counts_of}
-use Rattle.cc_counted.specs.Parts.{lists_of}
 use Rattle.cc_counted.proofs.Places.{the_number-cell}
 use Rattle.cc_counted.proofs.Reading.{live-found}
 use Rattle.cc_counted.proofs.Buffering.{in_buffer-number}
@@ -10,7 +9,7 @@ use Rattle.cc_counted.proofs.counted.Counted.in_buffer.Goals as goal
 
 pub returns : goal.returns
 returns c =
-    let l = lists_of c.self.inside.parts in
+    let l = c.self.inside.natives.lists in
     let f = live-found l c.args.key.0 (subst (λ (v : Counts). is_some (number_at v c.args.key.0) ≡ true) (sym c.self.view_is) c.requires.live) in
     subst (λ (v : Counts). c.holds.result ≡ is_in_buffer v.buffer (the_number v c.args.key.0)) c.self.view_is
     (c.holds.ensures ∙ (in_buffer-number l c.self.invariant.placed c.args.key.0 f.0 f.1 l.marks c.self.invariant.placed.marked

@@ -1,0 +1,246 @@
+-- THE LISTS READ BACK: where the nodes have the links of some lists, those are the lists.
+use Rattle.std.proofs.Common.{◌≡◌, ◌≢◌, ℕ, true, false, List, [], ◌∷◌, ◌++◌, map, length, Option, Some, None, option_map, is_some, get_or, refl, sym, ◌∙◌, ap, subst, ◌==◌}
+use Rattle.std.proofs.Math.ListN.{set}
+use Rattle.std.proofs.lemmas.Bool.{eq-eqb, ne_eqb, true≢false}
+use Rattle.std.proofs.lemmas.List.{get_or-set_other}
+use Rattle.std.specs.Option.{option_flatten}
+use Rattle.slab.specs.Slab.{Slab}
+use Rattle.cc_lists.specs.Members.{Among, without}
+use Rattle.cc_lists.proofs.Members.{Among-map_cases}
+use Rattle.cc_chain.specs.declared.link.Link.{Link}
+use Rattle.cc_chain.specs.declared.chain.Chain.{Chain}
+use Rattle.cc_chain.specs.Chains.{AllDiffer, IsChain}
+use Rattle.cc_chain.specs.Stores.{slot_at}
+use Rattle.cc_chain.proofs.Rows.{without-leaves}
+use Rattle.cc_chain.proofs.Chains.{chain-bounded, chain-live}
+use Rattle.cc_purple.specs.declared.buffer.Buffer.{Buffer}
+use Rattle.cc_purple.specs.Stores.{Marks}
+use Rattle.cc_purple.specs.Marks.{Marked, marked_as, holds_key, is_purple, keys_of}
+use Rattle.cc_purple.specs.Buffers.{IsBuffer}
+use Rattle.cc_purple.proofs.Marks.{holds-among}
+use Rattle.cc_counted.specs.declared.node.Node.{Node}
+use Rattle.cc_counted.specs.declared.node.Nodes.{Nodes}
+use Rattle.cc_counted.specs.declared.node.Order.{Order}
+use Rattle.cc_counted.specs.declared.node.Queue.{Queue}
+use Rattle.cc_counted.specs.declared.natives.Natives.TheInside.{Inside}
+use Rattle.cc_counted.specs.Lists.{Placed, Lists, cell_at}
+use Rattle.cc_counted.specs.Stored.{Stored, Inserts, with_lists}
+use Rattle.cc_counted.specs.Nodes.{Threads, beside_order, beside_queue, beside_suspects, without_marks, cells_of, order_links, queue_links, suspect_links, marks_in}
+use Rattle.cc_counted.specs.Natives.{slots_in, lists_of, stored_of, IsChained}
+use Rattle.cc_counted.proofs.Nodes.{cell_at-node, part-below, cells-written, cells-gone, links-kept, marks-kept, chain-beside, buffer-beside, vacated, unlinked-absent}
+
+-- the marks of distinct keys
+marks-read : (marks : Marks) (ms : List Marked) → AllDiffer (keys_of ms) → ((key : ℕ) → holds_key ms key ≡ true → marks key ≡ is_purple ms key) →
+    map (λ key. marked_as key (marks key)) (keys_of ms) ≡ ms
+marks-read marks [] d agree = refl
+marks-read marks (m ∷ ms) d agree =
+    let same : (m.key == m.key) ≡ true = eq-eqb m.key m.key refl in
+    let here : marks m.key ≡ m.purple = agree m.key (rw (holds_key, same) refl) ∙ rw (is_purple, same) refl in
+    ap (λ p. marked_as m.key p ∷ map (λ key. marked_as key (marks key)) (keys_of ms)) here ∙ ap (λ xs. m ∷ xs) (marks-read marks ms d.1 later)
+  where
+    later : (key : ℕ) → holds_key ms key ≡ true → marks key ≡ is_purple ms key
+    later key h =
+        let other : (m.key == key) ≡ false = ne_eqb m.key key (λ s. d.0 (subst (λ k. Among k (keys_of ms)) (sym s) (holds-among ms key h))) in
+        agree key (rw (holds_key, other) h) ∙ rw (is_purple, other) refl
+
+stored-same : (c d : List (Option Placed)) (o p q r : List ℕ) (m n : List Marked) (j k : ℕ) → c ≡ d → o ≡ p → q ≡ r → m ≡ n → j ≡ k →
+    ◌≡◌ {A = Stored} (record { lists = record { cells = c; order = o; queue = q; marks = m }; capacity = j }) (record { lists = record { cells = d; order = p; queue = r; marks = n }; capacity = k })
+stored-same c d o p q r m n j k e f g h i = rw (e, f, g, h, i) refl
+
+-- WHERE THE NODES HAVE THE LINKS OF SOME LISTS, they stand for these
+pub stored-are : (n : Inside) (s : Stored) → cells_of (slots_in n) ≡ s.lists.cells → IsChain (order_links (slots_in n)) n.order s.lists.order →
+    IsChain (queue_links (slots_in n)) n.queue s.lists.queue → IsBuffer (suspect_links (slots_in n)) (marks_in (slots_in n)) n.buffer s.lists.marks →
+    n.nodes.slab.capacity ≡ s.capacity → (stored_of n ≡ s) × IsChained n
+stored-are n s cells o q b capacity = (
+  stored-same _ _ _ _ _ _ _ _ _ _ cells order queue marks capacity,
+  record {
+    order = subst (λ l. IsChain (order_links (slots_in n)) n.order l) (sym order) o;
+    queue = subst (λ l. IsChain (queue_links (slots_in n)) n.queue l) (sym queue) q;
+    buffer = subst (λ l. IsBuffer (suspect_links (slots_in n)) (marks_in (slots_in n)) n.buffer l) (sym marks) b;
+  },
+)
+  where
+    order : (lists_of n).order ≡ s.lists.order
+    order = chain-bounded (order_links (slots_in n)) n.order s.lists.order (length (slots_in n)) o (part-below (λ (n : Node). n.order) (slots_in n))
+
+    queue : (lists_of n).queue ≡ s.lists.queue
+    queue = chain-bounded (queue_links (slots_in n)) n.queue s.lists.queue (length (slots_in n)) q (part-below (λ (n : Node). n.queue) (slots_in n))
+
+    marks : (lists_of n).marks ≡ s.lists.marks
+    marks =
+        ap (map (λ key. marked_as key (marks_in (slots_in n) key)))
+        (chain-bounded (suspect_links (slots_in n)) n.buffer.keys (keys_of s.lists.marks) (length (slots_in n)) b.keys (part-below (λ (n : Node). n.suspects) (slots_in n)))
+        ∙ marks-read (marks_in (slots_in n)) s.lists.marks b.keys.differ b.agree
+
+-- no natives
+pub chained-none : (n : Inside) → slots_in n ≡ [] → IsChain (order_links (slots_in n)) n.order [] → IsChain (queue_links (slots_in n)) n.queue [] →
+    IsBuffer (suspect_links (slots_in n)) (marks_in (slots_in n)) n.buffer [] → IsChained n
+chained-none n none o q b =
+    (stored-are n (record { lists = record { cells = []; order = []; queue = []; marks = [] }; capacity = n.nodes.slab.capacity }) (ap cells_of none) o q b refl).1
+
+-- THE NATIVES n WERE THESE
+module _ (n : Inside) (i : IsChained n) (s : Stored) (was : stored_of n ≡ s) where
+  -- A native written at its key
+  module _ (key : ℕ) (node : Node) (at : get_or (slots_in n) key None ≡ Some node) (change : Placed → Placed) (cell : Placed) (e : cell ≡ change node.cell) where
+    abbrev node_written : Node
+    node_written = record node { cell = cell }
+
+    abbrev pub written : Inside
+    written = record n { nodes = record n.nodes { slab = record n.nodes.slab { slots = set (slots_in n) key (Some node_written) } } }
+
+    pub stored-written : (stored_of written ≡ with_lists s (record s.lists { cells = set s.lists.cells key (option_map change (cell_at s.lists.cells key)) })) × IsChained written
+    stored-written =
+        subst (λ (t : Stored). (stored_of written ≡ with_lists t (record t.lists { cells = set t.lists.cells key (option_map change (cell_at t.lists.cells key)) })) × IsChained written) was
+        (stored-are written (with_lists (stored_of n) (record (lists_of n) { cells = set (lists_of n).cells key (option_map change (cell_at (lists_of n).cells key)) }))
+        (cells-written (slots_in n) key node node_written at ∙ ap (set (cells_of (slots_in n)) key) changed)
+        (subst (λ l. IsChain l n.order (lists_of n).order) (sym (links-kept (slots_in n) key node node_written at (λ (n : Node). n.order) refl)) i.order)
+        (subst (λ l. IsChain l n.queue (lists_of n).queue) (sym (links-kept (slots_in n) key node node_written at (λ (n : Node). n.queue) refl)) i.queue)
+        (subst (λ l. IsBuffer l (marks_in (slots_in written)) n.buffer (lists_of n).marks) (sym (links-kept (slots_in n) key node node_written at (λ (n : Node). n.suspects) refl))
+        (subst (λ m. IsBuffer (suspect_links (slots_in n)) m n.buffer (lists_of n).marks) (sym (marks-kept (slots_in n) key node node_written at refl)) i.buffer))
+        refl)
+      where
+        changed : Some cell ≡ option_map change (cell_at (cells_of (slots_in n)) key)
+        changed = ap Some e ∙ ap (option_map change) (sym (cell_at-node (slots_in n) key ∙ ap (option_map (λ (n : Node). n.cell)) at))
+
+  -- The order changed, and nothing else,
+  module _ (v : Nodes) (rest : beside_order v.slab ≡ beside_order n.nodes.slab) where
+    pub queue-beside : IsChain (queue_links v.slab.slots) n.queue (lists_of n).queue
+    queue-beside = subst (λ l. IsChain l n.queue (lists_of n).queue) (sym (ap (λ (t : Threads). t.queue) rest)) i.queue
+
+    pub buffer-beside_order : IsBuffer (suspect_links v.slab.slots) (marks_in v.slab.slots) n.buffer (lists_of n).marks
+    buffer-beside_order =
+        subst (λ l. IsBuffer l (marks_in v.slab.slots) n.buffer (lists_of n).marks) (sym (ap (λ (t : Threads). t.suspects) rest))
+        (subst (λ m. IsBuffer (suspect_links (slots_in n)) m n.buffer (lists_of n).marks) (sym (ap (λ (t : Threads). t.marks) rest)) i.buffer)
+
+  -- or the queue,
+  pub stored-queue : (v : Nodes) (q : Chain Queue) (change : List ℕ → List ℕ) → beside_queue v.slab ≡ beside_queue n.nodes.slab →
+      IsChain (queue_links v.slab.slots) q (change (lists_of n).queue) →
+      (stored_of (record n { nodes = v; queue = q }) ≡ with_lists s (record s.lists { queue = change s.lists.queue })) × IsChained (record n { nodes = v; queue = q })
+  stored-queue v q change rest chain =
+      subst (λ (t : Stored). (stored_of (record n { nodes = v; queue = q }) ≡ with_lists t (record t.lists { queue = change t.lists.queue })) × IsChained (record n { nodes = v; queue = q })) was
+      (stored-are (record n { nodes = v; queue = q }) (with_lists (stored_of n) (record (lists_of n) { queue = change (lists_of n).queue }))
+      (ap (λ (t : Threads). t.cells) rest)
+      (subst (λ l. IsChain l n.order (lists_of n).order) (sym (ap (λ (t : Threads). t.order) rest)) i.order)
+      chain
+      (subst (λ l. IsBuffer l (marks_in v.slab.slots) n.buffer (lists_of n).marks) (sym (ap (λ (t : Threads). t.suspects) rest))
+      (subst (λ m. IsBuffer (suspect_links (slots_in n)) m n.buffer (lists_of n).marks) (sym (ap (λ (t : Threads). t.marks) rest)) i.buffer))
+      (ap (λ (t : Threads). t.capacity) rest))
+
+  -- or the buffer
+  pub stored-buffer : (v : Nodes) (b : Buffer) (change : List Marked → List Marked) → without_marks (beside_suspects v.slab) ≡ without_marks (beside_suspects n.nodes.slab) →
+      IsBuffer (suspect_links v.slab.slots) (marks_in v.slab.slots) b (change (lists_of n).marks) →
+      (stored_of (record n { nodes = v; buffer = b }) ≡ with_lists s (record s.lists { marks = change s.lists.marks })) × IsChained (record n { nodes = v; buffer = b })
+  stored-buffer v b change rest buffer =
+      subst (λ (t : Stored). (stored_of (record n { nodes = v; buffer = b }) ≡ with_lists t (record t.lists { marks = change t.lists.marks })) × IsChained (record n { nodes = v; buffer = b })) was
+      (stored-are (record n { nodes = v; buffer = b }) (with_lists (stored_of n) (record (lists_of n) { marks = change (lists_of n).marks }))
+      (ap (λ (t : Threads). t.cells) rest)
+      (subst (λ l. IsChain l n.order (lists_of n).order) (sym (ap (λ (t : Threads). t.order) rest)) i.order)
+      (subst (λ l. IsChain l n.queue (lists_of n).queue) (sym (ap (λ (t : Threads). t.queue) rest)) i.queue)
+      buffer
+      (ap (λ (t : Threads). t.capacity) rest))
+
+-- the slab took memory
+pub chained-reserved : (n : Inside) → IsChained n → (t : Slab Node) → t ≡ record n.nodes.slab { capacity = t.capacity } → IsChained (record n { nodes = record n.nodes { slab = t } })
+chained-reserved n i t e =
+    subst (λ (u : Slab Node). IsChained (record n { nodes = record n.nodes { slab = u } })) (sym e)
+    (record { order = i.order; queue = i.queue; buffer = i.buffer })
+
+-- the natives after the order changed
+abbrev pub inserted : Inside → Nodes → Chain Order → Inside
+inserted n v o = record n { nodes = v; order = o }
+
+-- A NATIVE CAME to stand at a key that held nothing, in no list, once there was room,
+module _ (n : Inside) (i : IsChained n) (t u : Slab Node) (reserved : t ≡ record n.nodes.slab { capacity = t.capacity }) (key : ℕ) (cell : Placed) (was_vacant : get_or t.slots key None ≡ None)
+    (there : get_or u.slots key None ≡ Some (record { cell = cell; order = None; queue = None; suspects = None; purple = false }))
+    (others_stayed : (k : ℕ) → k ≢ key → get_or u.slots k None ≡ get_or t.slots k None) where
+  vacant : get_or (slots_in n) key None ≡ None
+  vacant = sym (ap (λ (s : Slab Node). get_or s.slots key None) reserved) ∙ was_vacant
+
+  others : (k : ℕ) → k ≢ key → get_or u.slots k None ≡ get_or (slots_in n) k None
+  others k o = others_stayed k o ∙ ap (λ (s : Slab Node). get_or s.slots k None) reserved
+
+  unlinked : (part : Node → Option Link) → part (record { cell = cell; order = None; queue = None; suspects = None; purple = false }) ≡ None →
+      option_flatten (slot_at part u.slots key) ≡ option_flatten (slot_at part (slots_in n) key)
+  unlinked part none = ap (λ o. option_flatten (option_map part o)) there ∙ (none ∙ sym (ap (λ o. option_flatten (option_map part o)) vacant))
+
+  pub order-inserted : IsChain (order_links u.slots) n.order (lists_of n).order
+  order-inserted = chain-beside (slots_in n) u.slots key others (λ (n : Node). n.order) n.order (lists_of n).order (unlinked (λ (n : Node). n.order) refl) i.order
+
+  -- and last in the order
+  module _ (v : Nodes) (o : Chain Order) (rest : beside_order v.slab ≡ beside_order u) (chain : IsChain (order_links v.slab.slots) o ((lists_of n).order ++ key ∷ [])) where
+    cells : cells_of v.slab.slots ≡ cells_of u.slots
+    cells = ap (λ (t : Threads). t.cells) rest
+
+    elsewhere : (j : ℕ) → holds_key (lists_of n).marks j ≡ true → j ≢ key
+    elsewhere j h e =
+        let live : is_some (suspect_links (slots_in n) j) ≡ true = chain-live (suspect_links (slots_in n)) n.buffer.keys (keys_of (lists_of n).marks) i.buffer.keys j (holds-among (lists_of n).marks j h) in
+        true≢false (sym live ∙ (ap (λ k. is_some (suspect_links (slots_in n) k)) e ∙ ap (λ o. is_some (option_map (λ (n : Node). n.suspects) o)) vacant))
+
+    both : (stored_of (inserted n v o) ≡ record { lists = record (lists_of n) { cells = cells_of v.slab.slots; order = (lists_of n).order ++ key ∷ [] }; capacity = v.slab.capacity }) × IsChained (inserted n v o)
+    both = stored-are (inserted n v o) (record { lists = record (lists_of n) { cells = cells_of v.slab.slots; order = (lists_of n).order ++ key ∷ [] }; capacity = v.slab.capacity })
+        refl
+        chain
+        (subst (λ l. IsChain l n.queue (lists_of n).queue) (sym (ap (λ (t : Threads). t.queue) rest))
+        (chain-beside (slots_in n) u.slots key others (λ (n : Node). n.queue) n.queue (lists_of n).queue (unlinked (λ (n : Node). n.queue) refl) i.queue))
+        (subst (λ l. IsBuffer l (marks_in v.slab.slots) n.buffer (lists_of n).marks) (sym (ap (λ (t : Threads). t.suspects) rest))
+        (subst (λ m. IsBuffer (suspect_links u.slots) m n.buffer (lists_of n).marks) (sym (ap (λ (t : Threads). t.marks) rest))
+        (buffer-beside (slots_in n) u.slots key others n.buffer (lists_of n).marks (unlinked (λ (n : Node). n.suspects) refl) elsewhere i.buffer)))
+        refl
+
+    pub chained-inserted : IsChained (inserted n v o)
+    chained-inserted = both.1
+
+    pub inserts : (s : Stored) → stored_of n ≡ s → Inserts s.lists (lists_of (inserted n v o)) key cell
+    inserts s was = subst (λ (t : Stored). Inserts t.lists (lists_of (inserted n v o)) key cell) was (record {
+      vacant = cell_at-node (slots_in n) key ∙ ap (option_map (λ (n : Node). n.cell)) vacant;
+      there = ap (λ cs. cell_at cs key) cells ∙ (cell_at-node u.slots key ∙ ap (option_map (λ (n : Node). n.cell)) there);
+      others = λ k o. ap (λ cs. cell_at cs k) cells
+          ∙ (cell_at-node u.slots k ∙ (ap (option_map (λ (n : Node). n.cell)) (others k o) ∙ sym (cell_at-node (slots_in n) k)));
+      lists = ap (λ (t : Stored). t.lists) both.0;
+    })
+
+-- A NATIVE LEFT the order and its key, and was in no other list
+module _ (n : Inside) (i : IsChained n) (s : Stored) (was : stored_of n ≡ s) (key : ℕ) (idle : ¬ (Among key s.lists.queue)) (unmarked : (m : Marked) → Among m s.lists.marks → m.key ≢ key)
+    (v : Nodes) (o : Chain Order) (rest : beside_order v.slab ≡ beside_order n.nodes.slab) (chain : IsChain (order_links v.slab.slots) o (without ◌==◌ key (lists_of n).order))
+    (u : Slab Node) (gone : u.slots ≡ set v.slab.slots key None) (capacity : u.capacity ≡ v.slab.capacity) where
+  abbrev pub removed : Inside
+  removed = record n { nodes = record v { slab = u }; order = o }
+
+  others_stay : (k : ℕ) → k ≢ key → get_or u.slots k None ≡ get_or v.slab.slots k None
+  others_stay k o = ap (λ xs. get_or xs k None) gone ∙ get_or-set_other v.slab.slots key k None None o
+
+  nothing : get_or u.slots key None ≡ None
+  nothing = ap (λ xs. get_or xs key None) gone ∙ vacated v.slab.slots key
+
+  absent : {R : Type 0} (part : Node → Option Link) (c : Chain R) (keys : List ℕ) → IsChain (slot_at part v.slab.slots) c keys → ¬ (Among key keys) →
+      option_flatten (slot_at part u.slots key) ≡ option_flatten (slot_at part v.slab.slots key)
+  absent part c keys d a = ap (λ o. option_flatten (option_map part o)) nothing ∙ sym (unlinked-absent (slot_at part v.slab.slots) c keys d key a)
+
+  not-held : (j : ℕ) → holds_key (lists_of n).marks j ≡ true → j ≢ key
+  not-held j h e =
+      let f = Among-map_cases (λ (m : Marked). m.key) (lists_of n).marks j (holds-among (lists_of n).marks j h) in
+      unmarked f.0 (subst (λ (t : Stored). Among f.0 t.lists.marks) was f.1) (f.2 ∙ e)
+
+  not-marked : ¬ (Among key (keys_of (lists_of n).marks))
+  not-marked m =
+      let f = Among-map_cases (λ (m : Marked). m.key) (lists_of n).marks key m in
+      unmarked f.0 (subst (λ (t : Stored). Among f.0 t.lists.marks) was f.1) f.2
+
+  pub stored-removed : (stored_of removed ≡ with_lists s (record s.lists { cells = set s.lists.cells key None; order = without ◌==◌ key s.lists.order })) × IsChained removed
+  stored-removed =
+      subst (λ (t : Stored). (stored_of removed ≡ with_lists t (record t.lists { cells = set t.lists.cells key None; order = without ◌==◌ key t.lists.order })) × IsChained removed) was
+      (stored-are removed (with_lists (stored_of n) (record (lists_of n) { cells = set (lists_of n).cells key None; order = without ◌==◌ key (lists_of n).order }))
+      (ap cells_of gone ∙ (cells-gone v.slab.slots key ∙ ap (λ (t : Threads). set t.cells key None) rest))
+      (chain-beside v.slab.slots u.slots key others_stay (λ (n : Node). n.order) o (without ◌==◌ key (lists_of n).order)
+      (absent (λ (n : Node). n.order) o (without ◌==◌ key (lists_of n).order) chain (without-leaves key (lists_of n).order)) chain)
+      (chain-beside v.slab.slots u.slots key others_stay (λ (n : Node). n.queue) n.queue (lists_of n).queue
+      (absent (λ (n : Node). n.queue) n.queue (lists_of n).queue queue (λ m. idle (subst (λ (t : Stored). Among key t.lists.queue) was m))) queue)
+      (buffer-beside v.slab.slots u.slots key others_stay n.buffer (lists_of n).marks
+      (absent (λ (n : Node). n.suspects) n.buffer.keys (keys_of (lists_of n).marks) buffer.keys not-marked) not-held buffer)
+      (capacity ∙ ap (λ (t : Threads). t.capacity) rest))
+    where
+      queue : IsChain (queue_links v.slab.slots) n.queue (lists_of n).queue
+      queue = queue-beside n i s was v rest
+
+      buffer : IsBuffer (suspect_links v.slab.slots) (marks_in v.slab.slots) n.buffer (lists_of n).marks
+      buffer = buffer-beside_order n i s was v rest

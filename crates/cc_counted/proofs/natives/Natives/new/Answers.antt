@@ -1,0 +1,10 @@
+use Rattle.std.proofs.Common.{refl, ◌∙◌, ap}
+use Rattle.std.specs.Option.{option_flatten}
+use Rattle.cc_counted.proofs.Threading.{chained-none}
+use Rattle.cc_counted.proofs.natives.Natives.new.Goals as goal
+
+pub invariant_of-result : goal.invariant_of-result
+invariant_of-result c = chained-none _ c.new.ensures.empty
+    (c.new-2.ensures _ (λ key. rw (c.new.ensures.empty) refl))
+    (c.new-3.ensures _ (λ key. rw (c.new.ensures.empty) refl))
+    (c.new-4.ensures _ _ (λ key. rw (c.new.ensures.empty) refl))

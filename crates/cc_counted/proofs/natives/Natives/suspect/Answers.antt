@@ -1,0 +1,11 @@
+use Rattle.std.proofs.Common.{true}
+use Rattle.cc_purple.specs.Marks.{with_mark}
+use Rattle.cc_counted.specs.Natives.{lists_of}
+use Rattle.cc_counted.proofs.Threading.{stored-buffer}
+use Rattle.cc_counted.proofs.natives.Natives.suspect.Goals as goal
+
+pub invariant_of-self : goal.invariant_of-self
+invariant_of-self c = (stored-buffer c.self.inside c.self.invariant _ c.self.view_is c.suspect.new.store _ (with_mark true c.args.key.0) c.suspect.ensures.beside (c.suspect.ensures.marks (lists_of c.self.inside).marks c.self.invariant.buffer)).1
+
+pub returns : goal.returns
+returns c = (stored-buffer c.self.inside c.self.invariant _ c.self.view_is c.suspect.new.store _ (with_mark true c.args.key.0) c.suspect.ensures.beside (c.suspect.ensures.marks (lists_of c.self.inside).marks c.self.invariant.buffer)).0

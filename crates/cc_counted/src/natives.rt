@@ -1,0 +1,298 @@
+//! The natives by key, and the lists that go through them.
+ghost use Rattle.std.specs.Prelude.{◌≡◌, ◌≢◌, ◌==◌, true, false, ℕ, ◌+◌, ◌<◌, ◌≤◌, List, [], ◌∷◌, ◌++◌, length, drop, Some, None, option_map, IsSome, IsTrue, IfOk, OnErr, replicate, slice_index_or, slice_set};
+ghost use Rattle.cc_lists.specs.Members.{Among};
+ghost use Rattle.cc_lists.specs.Walks.{first_of};
+ghost use Rattle.cc_chain.specs.Chains.{behind};
+ghost use Rattle.cc_purple.specs.Marks.{Marked, marked_as, first_key, holds_key, is_purple, key_after, with_mark, without_key};
+ghost use Rattle.cc_counted.specs.Lists.{cell_at, count_placed, slots_placed, with_one_less, with_one_more, with_slot, with_flag, reflected_by, without};
+ghost use Rattle.cc_counted.specs.Stored.{Inserts, with_lists};
+
+use crate::cell::Cell;
+use crate::held::Held;
+use crate::node::{Node, Nodes, Order, Queue};
+use cc_chain::Chain;
+use cc_names::{NKey, NativeNo, NoMemory, SKey};
+use cc_purple::Buffer;
+use slab::Slab;
+use std::alloc::{AllocError, Global};
+use std::marker::Model;
+
+/// The natives by key; all of them by rising number, those that wait to be deleted, and the buffer of suspects.
+///
+/// The lists go through the natives themselves, so `insert` alone takes memory.
+#[derive(Drop)]
+pub(crate) struct Natives {
+    nodes: Nodes,
+    order: Chain<Order>,
+    queue: Chain<Queue>,
+    buffer: Buffer,
+}
+
+impl Model for Natives {
+    ghost use Rattle.cc_counted.specs.Stored.{Stored};
+
+    ghost Value = { Stored };
+
+    ghost use Rattle.cc_counted.specs.Natives.{stored_of, IsChained};
+
+    ghost view = { stored_of };
+
+    ghost invariant = { IsChained };
+}
+
+impl Natives {
+    /// No natives.
+    pub(crate) fn new(alloc: Global) -> Natives
+        ensures { result.lists ≡ record { cells = []; order = []; queue = []; marks = [] } }
+    {
+        Natives {
+            nodes: Nodes {
+                slab: Slab::new(alloc),
+            },
+            order: Chain::new(),
+            queue: Chain::new(),
+            buffer: Buffer::new(),
+        }
+    }
+
+    // A native
+
+    /// The native at a key.
+    pub(crate) fn at(&self, key: NKey) -> &Cell
+        requires { IsSome (cell_at self.now.lists.cells key.0) }
+        ensures { cell_at self.now.lists.cells key.0 ≡ Some result.now }
+    {
+        &self.nodes.slab[key.0].cell
+    }
+
+    /// The number of the native at a key; none where the key holds nothing.
+    pub(crate) fn number(&self, key: NKey) -> Option<NativeNo>
+        ensures { option_map (λ n. n.0) result ≡ option_map (λ c. c.number) (cell_at self.now.lists.cells key.0) }
+    {
+        match self.nodes.slab.get(key.0) {
+            Some(node) => Some(node.cell.number),
+            None => None,
+        }
+    }
+
+    /// Lowers the count of the native at a key, and returns it.
+    pub(crate) fn lower(&mut self, key: NKey) -> u32
+        requires { 1 ≤ count_placed (cell_at self.old.lists.cells key.0) }
+        ensures lists { self.new ≡ with_lists self.old (record self.old.lists { cells = slice_set self.old.lists.cells key.0 (option_map with_one_less (cell_at self.old.lists.cells key.0)) }) }
+        ensures count { result + 1 ≡ count_placed (cell_at self.old.lists.cells key.0) }
+    {
+        let cell = &mut self.nodes.slab[key.0].cell;
+        cell.count -= 1;
+        cell.count
+    }
+
+    /// Raises the count of the native at a key.
+    pub(crate) fn raise(&mut self, key: NKey)
+        requires live { IsSome (cell_at self.old.lists.cells key.0) }
+        requires below { count_placed (cell_at self.old.lists.cells key.0) < 4294967295 }
+        ensures { self.new ≡ with_lists self.old (record self.old.lists { cells = slice_set self.old.lists.cells key.0 (option_map with_one_more (cell_at self.old.lists.cells key.0)) }) }
+    {
+        let cell = &mut self.nodes.slab[key.0].cell;
+        cell.count += 1;
+    }
+
+    /// Writes slot `i` of the native at a key, and returns what it held.
+    pub(crate) fn write(&mut self, key: NKey, i: usize, item: Option<Held>) -> Option<Held>
+        requires live { IsSome (cell_at self.old.lists.cells key.0) }
+        requires within { i < length (slots_placed (cell_at self.old.lists.cells key.0)) }
+        ensures lists { self.new ≡ with_lists self.old (record self.old.lists { cells = slice_set self.old.lists.cells key.0 (option_map (with_slot i item) (cell_at self.old.lists.cells key.0)) }) }
+        ensures value { result ≡ slice_index_or (slots_placed (cell_at self.old.lists.cells key.0)) i None }
+    {
+        let cell = &mut self.nodes.slab[key.0].cell;
+        let old = cell.slots[i];
+        cell.slots[i] = item;
+        old
+    }
+
+    /// Writes whether the reflector of the native at a key is preserved.
+    pub(crate) fn preserve(&mut self, key: NKey, on: bool)
+        requires { IsSome (cell_at self.old.lists.cells key.0) }
+        ensures { self.new ≡ with_lists self.old (record self.old.lists { cells = slice_set self.old.lists.cells key.0 (option_map (with_flag on) (cell_at self.old.lists.cells key.0)) }) }
+    {
+        let cell = &mut self.nodes.slab[key.0].cell;
+        cell.preserved = on;
+    }
+
+    /// Writes where the reflector of the native at a key stands.
+    pub(crate) fn reflect(&mut self, key: NKey, to: Option<SKey>)
+        requires { IsSome (cell_at self.old.lists.cells key.0) }
+        ensures { self.new ≡ with_lists self.old (record self.old.lists { cells = slice_set self.old.lists.cells key.0 (option_map (reflected_by (option_map (λ k. k.0) to)) (cell_at self.old.lists.cells key.0)) }) }
+    {
+        let cell = &mut self.nodes.slab[key.0].cell;
+        cell.reflector = to;
+    }
+
+    // The order
+
+    /// Makes a native with so many empty slots, no reflector and count one, which goes last in the order.
+    pub(crate) fn insert(
+        &mut self,
+        alloc: Global,
+        no: NativeNo,
+        slots: u8,
+    ) -> Result<NKey, NoMemory>
+        ensures inserts { IfOk result (λ key. Inserts self.old.lists self.new.lists key.0
+            (record { number = no.0; slots = replicate slots None; preserved = false; reflector = None; count = 1 })) }
+        ensures err { OnErr result (self.new.lists ≡ self.old.lists) }
+    {
+        let empty = empty_slots(alloc, slots)?;
+        self.nodes.slab.reserve(1)?;
+        let key = self.nodes.slab.insert_reserved(Node {
+            cell: Cell {
+                number: no,
+                slots: empty,
+                preserved: false,
+                reflector: None,
+                count: 1,
+            },
+            order: None,
+            queue: None,
+            suspects: None,
+            purple: false,
+        });
+        self.order.push_back(&mut self.nodes, key);
+        Ok(NKey(key))
+    }
+
+    /// Takes out a native that neither waits nor is in the buffer.
+    pub(crate) fn remove(&mut self, key: NKey) -> Cell
+        requires live { IsSome (cell_at self.old.lists.cells key.0) }
+        requires order { Among key.0 self.old.lists.order }
+        requires queue { ¬ (Among key.0 self.old.lists.queue) }
+        requires buffer { (m : Marked) → Among m self.old.lists.marks → m.key ≢ key.0 }
+        ensures value { cell_at self.old.lists.cells key.0 ≡ Some result }
+        ensures lists { self.new ≡ with_lists self.old (record self.old.lists { cells = slice_set self.old.lists.cells key.0 None; order = without key.0 self.old.lists.order }) }
+    {
+        self.order.unlink_at(&mut self.nodes, key.0);
+        let node = self.nodes.slab.remove(key.0);
+        node.cell
+    }
+
+    /// The key of the native with the least number.
+    pub(crate) fn first(&self) -> Option<NKey>
+        ensures { option_map (λ k. k.0) result ≡ first_of self.now.lists.order }
+    {
+        match self.order.first(&self.nodes) {
+            Some(key) => Some(NKey(key)),
+            None => None,
+        }
+    }
+
+    /// The key behind one of the order.
+    pub(crate) fn next(&self, key: NKey) -> Option<NKey>
+        requires { Among key.0 self.now.lists.order }
+        ensures { option_map (λ k. k.0) result ≡ first_of (behind key.0 self.now.lists.order) }
+    {
+        match self.order.next(&self.nodes, key.0) {
+            Some(next) => Some(NKey(next)),
+            None => None,
+        }
+    }
+
+    // The queue
+
+    /// The native at a key, which does not wait, waits from then on.
+    pub(crate) fn wait(&mut self, key: NKey)
+        requires live { IsSome (cell_at self.old.lists.cells key.0) }
+        requires queue { ¬ (Among key.0 self.old.lists.queue) }
+        ensures { self.new ≡ with_lists self.old (record self.old.lists { queue = self.old.lists.queue ++ key.0 ∷ [] }) }
+    {
+        self.queue.push_back(&mut self.nodes, key.0);
+    }
+
+    /// Whether a native waits.
+    pub(crate) fn some_wait(&self) -> bool
+        ensures some { result ≡ true → 0 < length self.now.lists.queue }
+        ensures none { result ≡ false → self.now.lists.queue ≡ [] }
+    {
+        self.queue.first(&self.nodes).is_some()
+    }
+
+    /// The native that has waited longest waits no longer.
+    pub(crate) fn next_waiting(&mut self) -> Option<NKey>
+        ensures first { option_map (λ k. k.0) result ≡ first_of self.old.lists.queue }
+        ensures lists { self.new ≡ with_lists self.old (record self.old.lists { queue = drop 1 self.old.lists.queue }) }
+    {
+        match self.queue.pop_front(&mut self.nodes) {
+            Some(key) => Some(NKey(key)),
+            None => None,
+        }
+    }
+
+    // The buffer
+
+    /// The native at a key is in the buffer with the purple mark: it keeps its place, or goes last.
+    pub(crate) fn suspect(&mut self, key: NKey)
+        requires { IsSome (cell_at self.old.lists.cells key.0) }
+        ensures { self.new ≡ with_lists self.old (record self.old.lists { marks = with_mark true key.0 self.old.lists.marks }) }
+    {
+        self.buffer.suspect(&mut self.nodes, key);
+    }
+
+    /// The native at a key is in the buffer without the mark: it keeps its place, or goes last.
+    pub(crate) fn touch(&mut self, key: NKey)
+        requires { IsSome (cell_at self.old.lists.cells key.0) }
+        ensures { self.new ≡ with_lists self.old (record self.old.lists { marks = with_mark false key.0 self.old.lists.marks }) }
+    {
+        self.buffer.touch(&mut self.nodes, key);
+    }
+
+    /// The native at a key is not in the buffer.
+    pub(crate) fn forget(&mut self, key: NKey)
+        requires { IsSome (cell_at self.old.lists.cells key.0) }
+        ensures { self.new ≡ with_lists self.old (record self.old.lists { marks = without_key key.0 self.old.lists.marks }) }
+    {
+        self.buffer.forget(&mut self.nodes, key);
+    }
+
+    /// Takes out the front of the buffer with its mark.
+    pub(crate) fn select_next(&mut self) -> Option<(NKey, bool)>
+        ensures front { option_map (λ front. marked_as front.0.0 front.1) result ≡ first_of self.old.lists.marks }
+        ensures lists { self.new ≡ with_lists self.old (record self.old.lists { marks = drop 1 self.old.lists.marks }) }
+    {
+        self.buffer.select_next(&mut self.nodes)
+    }
+
+    /// Whether the native at a key is in the buffer.
+    pub(crate) fn holds(&self, key: NKey) -> bool
+        requires { IsSome (cell_at self.now.lists.cells key.0) }
+        ensures { result ≡ holds_key self.now.lists.marks key.0 }
+    {
+        self.buffer.holds(&self.nodes, key)
+    }
+
+    /// Whether the native at a key is in the buffer with the purple mark.
+    pub(crate) fn purple(&self, key: NKey) -> bool
+        requires { IsSome (cell_at self.now.lists.cells key.0) }
+        ensures { result ≡ is_purple self.now.lists.marks key.0 }
+    {
+        self.buffer.purple(&self.nodes, key)
+    }
+
+    /// The first key of the buffer.
+    pub(crate) fn first_suspect(&self) -> Option<NKey>
+        ensures { option_map (λ k. k.0) result ≡ first_key self.now.lists.marks }
+    {
+        self.buffer.first(&self.nodes)
+    }
+
+    /// The key behind one of the buffer.
+    pub(crate) fn next_suspect(&self, key: NKey) -> Option<NKey>
+        requires { IsTrue (holds_key self.now.lists.marks key.0) }
+        ensures { option_map (λ k. k.0) result ≡ key_after self.now.lists.marks key.0 }
+    {
+        self.buffer.next(&self.nodes, key)
+    }
+}
+
+/// So many empty slots, and no room for more.
+fn empty_slots(alloc: Global, slots: u8) -> Result<Vec<Option<Held>>, AllocError>
+    ensures { IfOk result (λ v. v.items ≡ replicate slots None) }
+{
+    vec![in alloc; None; slots as usize]
+}
