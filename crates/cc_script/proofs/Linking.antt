@@ -1,12 +1,12 @@
 -- THE SLAB WRITTEN at a key: the object or a link there changes, and all else stays.
 use Rattle.std.proofs.Common.{◌≡◌, ℕ, List, Option, Some, None, option_map, is_some, set, true, refl, sym, ◌∙◌, ap}
-use Rattle.std.specs.Prelude.{IsTrue, slice_index_or}
+use Rattle.std.specs.Prelude.{slice_index_or}
 use Rattle.slab.specs.Slab.{Slab, get}
 use Rattle.cc_chain.specs.Links.{Links}
 use Rattle.cc_chain.proofs.Stores.{slot_at-kept}
 use Rattle.cc_chain.proofs.Slots.{parts-read, parts-set, parts-held}
 use Rattle.cc_script.specs.Lists.{Placed, cell_at}
-use Rattle.cc_script.specs.Cells.{Linked, Beside, Changes, cells_of, order_links, waiting_links}
+use Rattle.cc_script.specs.Cells.{Linked, Beside, Changes, cells_of}
 
 abbrev object_in : Linked → Placed
 object_in c = c.placed

@@ -1,5 +1,5 @@
 -- AN OBJECT TAKEN OUT of the order, and then out of the slab, while none waits.
-use Rattle.std.proofs.Common.{◌≡◌, ◌≢◌, ℕ, List, [], Option, Some, None, set, sym, ◌∙◌, ap, subst}
+use Rattle.std.proofs.Common.{◌≡◌, ◌≢◌, ℕ, [], Some, None, set, sym, ◌∙◌, ap, subst}
 use Rattle.std.specs.Prelude.{◌==◌, slice_index_or}
 use Rattle.slab.specs.Slab.{Slab}
 use Rattle.cc_lists.specs.Members.{Among, without}

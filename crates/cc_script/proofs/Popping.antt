@@ -1,5 +1,5 @@
 -- THE FIRST THAT WAITS taken out of the list.
-use Rattle.std.proofs.Common.{◌≡◌, ◌<◌, ℕ, List, [], ◌∷◌, length, drop, Option, Some, None, refl, sym, ◌∙◌, ap, arith}
+use Rattle.std.proofs.Common.{◌≡◌, ◌<◌, ℕ, List, [], ◌∷◌, length, drop, Some, None, refl, ap, arith}
 use Rattle.cc_lists.specs.Walks.{first_of}
 use Rattle.cc_names.specs.declared.kind.Colour.{Colour}
 use Rattle.cc_script.specs.Objects.{Object}

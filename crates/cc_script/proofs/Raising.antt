@@ -1,5 +1,5 @@
 -- ONE OBJECT RAISED: what stays as it is, and what of the walk is spent.
-use Rattle.std.proofs.Common.{◌≡◌, ℕ, ◌+◌, ◌<◌, ◌≤◌, Bool, true, false, List, [], ◌∷◌, ◌++◌, map, length, get_or, drop, drop-cons, add-one, Option, Some, None, option_map, is_some, refl, sym, ◌∙◌, ap, subst, arith, count_by, ⊎_elim, inl, inr, ◌==◌, if◌then◌else◌}
+use Rattle.std.proofs.Common.{◌≡◌, ℕ, ◌+◌, ◌<◌, ◌≤◌, Bool, true, false, List, [], ◌∷◌, ◌++◌, map, length, get_or, drop, drop-cons, add-one, Option, Some, None, option_map, is_some, refl, sym, ◌∙◌, ap, subst, arith, count_by, ⊎_elim, inr, ◌==◌, if◌then◌else◌}
 use Rattle.std.proofs.lemmas.List.{length_push}
 use Rattle.std.proofs.lemmas.Bool.{true≢false, false≢true}
 use Rattle.cc_lists.specs.Members.{Among}

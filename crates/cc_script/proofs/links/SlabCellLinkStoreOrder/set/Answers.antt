@@ -10,5 +10,5 @@ returns-clause-rest c =
     let slots = c.args.self.now.slots in
     let read = c.index_mut.ensures.value in
     beside-same _ _ _ _ _
-        (parts-kept (λ (z : Linked). z.placed) slots c.args.key _ _ read (ap (λ (z : Linked). z.placed) c.behind-self.view_is))
-        (slot_at-kept (λ (z : Linked). z.waiting) slots c.args.key _ _ read (ap (λ (z : Linked). z.waiting) c.behind-self.view_is))
+    (parts-kept (λ (z : Linked). z.placed) slots c.args.key _ _ read (ap (λ (z : Linked). z.placed) c.behind-self.view_is))
+    (slot_at-kept (λ (z : Linked). z.waiting) slots c.args.key _ _ read (ap (λ (z : Linked). z.waiting) c.behind-self.view_is))

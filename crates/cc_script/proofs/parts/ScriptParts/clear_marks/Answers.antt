@@ -1,4 +1,4 @@
-use Rattle.std.proofs.Common.{◌≡◌, ℕ, List, ◌∷◌, [], length, is_some, refl, ap, sym, subst, ◌∙◌, arith}
+use Rattle.std.proofs.Common.{List, length, is_some, refl, ap, sym, subst, ◌∙◌, arith}
 use Rattle.cc_names.specs.declared.kind.Colour.TheVariants.{White}
 use Rattle.cc_lists.specs.Members.{Among}
 use Rattle.cc_lists.specs.Walks.{first_of}

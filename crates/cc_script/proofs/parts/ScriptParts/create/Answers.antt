@@ -8,15 +8,15 @@ use Rattle.cc_names.specs.declared.kind.Kind.{Kind}
 use Rattle.cc_names.specs.declared.kind.Colour.TheVariants.{Black}
 use Rattle.cc_script.specs.Objects.{new_object}
 use Rattle.cc_script.specs.ColourOrder.{HasColourOrder}
-use Rattle.cc_script.specs.Lists.{Placed, cell_at, with_key, objects_of, IsPlaced}
+use Rattle.cc_script.specs.Lists.{Placed, with_key, objects_of, IsPlaced}
 use Rattle.cc_script.specs.Cells.{Linked, cells_of}
-use Rattle.cc_script.specs.Parts.{lists_of, marking_of, shows}
+use Rattle.cc_script.specs.Parts.{lists_of, shows}
 use Rattle.cc_script.proofs.Places.{is_there-none}
 use Rattle.cc_script.proofs.Making.{IsPlaced-made, objects-made}
 use Rattle.cc_script.proofs.InOrder.{HasColourOrder-made}
 use Rattle.cc_script.proofs.Reading.{held_key}
 use Rattle.cc_script.proofs.Linking.{cell-vacant}
-use Rattle.cc_script.proofs.Joining.{order-joined, vacant-joined, at-joined, others-joined, lists-joined, waiting-after, chained-joined}
+use Rattle.cc_script.proofs.Joining.{joined, order-joined, vacant-joined, at-joined, others-joined, lists-joined, waiting-after, chained-joined}
 use Rattle.cc_script.proofs.parts.ScriptParts.create.Goals as goal
 
 -- an empty slot, and some
@@ -31,69 +31,50 @@ empty-slots (suc n) = ap (λ ys. None ∷ ys) (empty-slots n)
 abbrev new_placed : Name → Kind → Option ℕ → List (Option ℕ) → Placed
 new_placed name kind native slots = record { name = name; kind = kind; native = native; slots = slots; colour = Black }
 
-abbrev new_linked : Name → Kind → Option ℕ → List (Option ℕ) → Linked
-new_linked name kind native slots = record { placed = new_placed name kind native slots; order = None; waiting = None }
-
 pub push_back-requires-clause-chain : goal.push_back-requires-clause-chain
 push_back-requires-clause-chain c =
     let p = c.args.self.now in
-    let key = c.insert_reserved-key.result in
-    let same : c.reserve.new.self.slots ≡ p.cells.slots = ap (λ (s : Slab Linked). s.slots) c.reserve.ensures.rest_kept in
-    let x = new_linked c.args.name c.args.kind (option_map (λ (k : NKey). k.0) c.args.native) (map held_key c.in_ok-empty.empty.items) in
-    let vacant = ap (λ (xs : List (Option Linked)). slice_index_or xs key None) (sym same) ∙ c.insert_reserved-key.ensures.was_vacant in
-    let others = λ (k : ℕ) (o : k ≢ key). c.insert_reserved-key.ensures.updates.others k o ∙ ap (λ (xs : List (Option Linked)). slice_index_or xs k None) same in
-    ((lists_of p).order, order-joined p c.requires.at_rest.chained c.insert_reserved-key.new.self.slots key x refl refl vacant c.insert_reserved-key.ensures.updates.changed others)
+    let same = ap (λ (s : Slab Linked). s.slots) c.reserve.ensures.rest_kept in
+    let j = joined p _ _ _ _ same c.insert_reserved-key.ensures.was_vacant c.insert_reserved-key.ensures.updates refl refl in
+    ((lists_of p).order, order-joined p c.requires.at_rest.chained _ _ _ j)
 
 pub returns-clause-made : goal.returns-clause-made
 returns-clause-made c =
     let p = c.args.self.now in
     let l = lists_of p in
     let h = c.requires.at_rest.chained in
-    let key = c.insert_reserved-key.result in
-    let mid = c.insert_reserved-key.new.self.slots in
-    let at = c.insert_reserved-key.ensures.updates.changed in
-    let same : c.reserve.new.self.slots ≡ p.cells.slots = ap (λ (s : Slab Linked). s.slots) c.reserve.ensures.rest_kept in
+    let same = ap (λ (s : Slab Linked). s.slots) c.reserve.ensures.rest_kept in
+    let j = joined p _ _ _ _ same c.insert_reserved-key.ensures.was_vacant c.insert_reserved-key.ensures.updates refl refl in
+    let pushed = c.push_back.ensures.keys l.order (order-joined p h _ _ _ j) in
     let native = option_map (λ (k : NKey). k.0) c.args.native in
-    let x = new_linked c.args.name c.args.kind native (map held_key c.in_ok-empty.empty.items) in
-    let vacant = ap (λ (xs : List (Option Linked)). slice_index_or xs key None) (sym same) ∙ c.insert_reserved-key.ensures.was_vacant in
-    let others = λ (k : ℕ) (o : k ≢ key). c.insert_reserved-key.ensures.updates.others k o ∙ ap (λ (xs : List (Option Linked)). slice_index_or xs k None) same in
-    let pushed = c.push_back.ensures.keys l.order (order-joined p h mid key x refl refl vacant at others) in
-    let empty : x.placed.slots ≡ replicate c.args.slots None = ap (map held_key) c.in_ok-empty.ensures ∙ empty-slots c.args.slots in
-    ap objects_of (lists-joined p h mid key x refl refl vacant at others c.push_back.new.store c.push_back.new.self _ pushed c.push_back.ensures.rest)
-    ∙ (objects-made l c.requires.at_rest.placed key x.placed (cells_of mid) (vacant-joined p h mid key x refl refl vacant at others)
-    (at-joined p h mid key x refl refl vacant at others) (others-joined p h mid key x refl refl vacant at others)
-    ∙ ap (λ ys. shows p ++ with_key key (new_placed c.args.name c.args.kind native ys) ∷ []) empty)
+    let empty = ap (map held_key) c.in_ok-empty.ensures ∙ empty-slots c.args.slots in
+    ap objects_of (lists-joined p h _ _ _ j c.push_back.new.store c.push_back.new.self _ pushed c.push_back.ensures.rest)
+    ∙ (objects-made l c.requires.at_rest.placed _ _ _ (vacant-joined p h _ _ _ j) (at-joined p h _ _ _ j) (others-joined p h _ _ _ j)
+    ∙ ap (λ ys. shows p ++ with_key c.insert_reserved-key.result (new_placed c.args.name c.args.kind native ys) ∷ []) empty)
 
 pub returns-clause-vacant : goal.returns-clause-vacant
 returns-clause-vacant c =
     let p = c.args.self.now in
-    let key = c.insert_reserved-key.result in
-    let same : c.reserve.new.self.slots ≡ p.cells.slots = ap (λ (s : Slab Linked). s.slots) c.reserve.ensures.rest_kept in
-    let vacant = ap (λ (xs : List (Option Linked)). slice_index_or xs key None) (sym same) ∙ c.insert_reserved-key.ensures.was_vacant in
-    is_there-none (lists_of p) c.requires.at_rest.placed key (cell-vacant p.cells.slots key vacant)
+    let same = ap (λ (s : Slab Linked). s.slots) c.reserve.ensures.rest_kept in
+    let j = joined p _ _ _ _ same c.insert_reserved-key.ensures.was_vacant c.insert_reserved-key.ensures.updates refl refl in
+    is_there-none (lists_of p) c.requires.at_rest.placed c.insert_reserved-key.result (vacant-joined p c.requires.at_rest.chained _ _ _ j)
 
 pub returns-clause-at_rest : goal.returns-clause-at_rest
 returns-clause-at_rest c =
     let p = c.args.self.now in
     let l = lists_of p in
     let h = c.requires.at_rest.chained in
-    let key = c.insert_reserved-key.result in
-    let mid = c.insert_reserved-key.new.self.slots in
-    let at = c.insert_reserved-key.ensures.updates.changed in
-    let same : c.reserve.new.self.slots ≡ p.cells.slots = ap (λ (s : Slab Linked). s.slots) c.reserve.ensures.rest_kept in
+    let same = ap (λ (s : Slab Linked). s.slots) c.reserve.ensures.rest_kept in
+    let j = joined p _ _ _ _ same c.insert_reserved-key.ensures.was_vacant c.insert_reserved-key.ensures.updates refl refl in
+    let pushed = c.push_back.ensures.keys l.order (order-joined p h _ _ _ j) in
     let native = option_map (λ (k : NKey). k.0) c.args.native in
-    let x = new_linked c.args.name c.args.kind native (map held_key c.in_ok-empty.empty.items) in
-    let vacant = ap (λ (xs : List (Option Linked)). slice_index_or xs key None) (sym same) ∙ c.insert_reserved-key.ensures.was_vacant in
-    let others = λ (k : ℕ) (o : k ≢ key). c.insert_reserved-key.ensures.updates.others k o ∙ ap (λ (xs : List (Option Linked)). slice_index_or xs k None) same in
-    let pushed = c.push_back.ensures.keys l.order (order-joined p h mid key x refl refl vacant at others) in
-    let empty : x.placed.slots ≡ replicate c.args.slots None = ap (map held_key) c.in_ok-empty.ensures ∙ empty-slots c.args.slots in
-    let few : length x.placed.slots ≤ 64 = omega (arith, ap length empty, length-replicate c.args.slots nothing, c.requires.slots) in
+    let empty : map held_key c.in_ok-empty.empty.items ≡ replicate c.args.slots None = ap (map held_key) c.in_ok-empty.ensures ∙ empty-slots c.args.slots in
+    let few : length (map held_key c.in_ok-empty.empty.items) ≤ 64 = omega (arith, ap length empty, length-replicate c.args.slots nothing, c.requires.slots) in
     record {
-      placed = subst IsPlaced (sym (lists-joined p h mid key x refl refl vacant at others c.push_back.new.store c.push_back.new.self _ pushed c.push_back.ensures.rest))
-          (IsPlaced-made l c.requires.at_rest.placed key x.placed (cells_of mid) (vacant-joined p h mid key x refl refl vacant at others)
-          (at-joined p h mid key x refl refl vacant at others) (others-joined p h mid key x refl refl vacant at others) few c.requires.fits);
-      chained = chained-joined p h mid key x refl refl vacant at others c.push_back.new.store c.push_back.new.self _ pushed c.push_back.ensures.rest;
+      placed = subst IsPlaced (sym (lists-joined p h _ _ _ j c.push_back.new.store c.push_back.new.self _ pushed c.push_back.ensures.rest))
+          (IsPlaced-made l c.requires.at_rest.placed _ _ _ (vacant-joined p h _ _ _ j) (at-joined p h _ _ _ j) (others-joined p h _ _ _ j) few c.requires.fits);
+      chained = chained-joined p h _ _ _ j c.push_back.new.store c.push_back.new.self _ pushed c.push_back.ensures.rest;
       coloured = subst HasColourOrder (sym (returns-clause-made c))
-          (HasColourOrder-made (shows p) (new_object key c.args.name c.args.kind native c.args.slots) c.args.slots refl c.requires.at_rest.coloured);
-      emptied = waiting-after p h mid key x refl refl vacant at others c.push_back.new.store c.push_back.new.self _ pushed c.push_back.ensures.rest ∙ c.requires.at_rest.emptied;
+          (HasColourOrder-made (shows p) (new_object c.insert_reserved-key.result c.args.name c.args.kind native c.args.slots) c.args.slots refl c.requires.at_rest.coloured);
+      emptied = waiting-after p h _ _ _ j c.push_back.new.store c.push_back.new.self _ pushed c.push_back.ensures.rest ∙ c.requires.at_rest.emptied;
     }

@@ -5,7 +5,7 @@ use Rattle.cc_script.specs.declared.parts.ScriptParts.{ScriptParts}
 use Rattle.cc_script.specs.Objects.{Object, object_at, is_below, raised}
 use Rattle.cc_script.specs.Lists.{with_key, objects_of, IsPlaced}
 use Rattle.cc_script.specs.Cells.{Linked, cells_of, waiting_links}
-use Rattle.cc_script.specs.Marking.{Marking, is_lower, raise_key, AreRaised}
+use Rattle.cc_script.specs.Marking.{Marking, is_lower, AreRaised}
 use Rattle.cc_script.specs.Parts.{lists_of, shows, marking_of}
 use Rattle.cc_script.proofs.Places.{object_at-placed, live-some}
 use Rattle.cc_script.proofs.Linking.{cell-held}

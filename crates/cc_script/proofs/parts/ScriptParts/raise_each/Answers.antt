@@ -4,7 +4,7 @@ use Rattle.cc_script.specs.Objects.{is_there, slots_at}
 use Rattle.cc_script.specs.Cells.{Linked}
 use Rattle.cc_script.specs.Marking.{Marking, raise_slot, raise_each}
 use Rattle.cc_script.specs.Parts.{lists_of, shows, marking_of}
-use Rattle.cc_script.proofs.Places.{live-some, slots_at-placed}
+use Rattle.cc_script.proofs.Places.{slots_at-placed}
 use Rattle.cc_script.proofs.Reading.{held_key}
 use Rattle.cc_script.proofs.Raising.{raise_slot-there, raise_slot-slots, raise_each-more}
 use Rattle.cc_script.proofs.parts.ScriptParts.raise_each.Goals as goal

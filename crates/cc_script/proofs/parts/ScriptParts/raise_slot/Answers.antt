@@ -4,7 +4,7 @@ use Rattle.cc_script.specs.Objects.{slots_at}
 use Rattle.cc_script.specs.Cells.{Linked}
 use Rattle.cc_script.specs.Marking.{raise_slot}
 use Rattle.cc_script.specs.Parts.{lists_of, shows, marking_of}
-use Rattle.cc_script.proofs.Places.{live-some, slots_at-placed}
+use Rattle.cc_script.proofs.Places.{slots_at-placed}
 use Rattle.cc_script.proofs.Reading.{held_key, slot-read, slot-among}
 use Rattle.cc_script.proofs.parts.ScriptParts.raise_slot.Goals as goal
 

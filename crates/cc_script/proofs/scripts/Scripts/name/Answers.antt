@@ -1,8 +1,8 @@
-use Rattle.std.proofs.Common.{◌≡◌, List, Some, option_map, true, ap, sym, subst, ◌∙◌}
-use Rattle.cc_script.specs.Objects.{Object, is_there, name_at}
+use Rattle.std.proofs.Common.{◌≡◌, List, Some, option_map, ap, sym, subst, ◌∙◌}
+use Rattle.cc_script.specs.Objects.{Object, name_at}
 use Rattle.cc_script.specs.Cells.{Linked}
 use Rattle.cc_script.specs.Parts.{lists_of}
-use Rattle.cc_script.proofs.Places.{live-some, object_at-placed}
+use Rattle.cc_script.proofs.Places.{object_at-placed}
 use Rattle.cc_script.proofs.scripts.Scripts.name.Goals as goal
 
 pub returns : goal.returns

@@ -1,11 +1,11 @@
-use Rattle.std.proofs.Common.{◌≡◌, ◌↔◌, ℕ, List, Option, Some, None, option_map, option_and_then, is_some, IsSome, true, refl, ap, sym, subst, ◌∙◌}
+use Rattle.std.proofs.Common.{◌≡◌, ◌↔◌, ℕ, List, Option, Some, None, option_map, option_and_then, is_some, IsSome, refl, ap, sym, subst, ◌∙◌}
 use Rattle.cc_names.specs.declared.kind.Kind.{Kind}
 use Rattle.cc_names.specs.declared.kind.Kind.TheVariants.{Reflector}
 use Rattle.cc_names.specs.declared.number.NKey.{NKey}
-use Rattle.cc_script.specs.Objects.{Object, FitsKind, is_there, kind_at, native_at}
+use Rattle.cc_script.specs.Objects.{Object, FitsKind, kind_at, native_at}
 use Rattle.cc_script.specs.Cells.{Linked}
 use Rattle.cc_script.specs.Parts.{lists_of}
-use Rattle.cc_script.proofs.Places.{live-some, object_at-placed}
+use Rattle.cc_script.proofs.Places.{object_at-placed}
 use Rattle.cc_script.proofs.scripts.Scripts.native_of.Goals as goal
 
 -- the key of a native, by its number

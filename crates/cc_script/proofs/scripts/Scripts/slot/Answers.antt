@@ -1,9 +1,9 @@
-use Rattle.std.proofs.Common.{◌≡◌, ◌<◌, List, length, true, ap, sym, subst, ◌∙◌, arith}
+use Rattle.std.proofs.Common.{◌<◌, List, length, ap, sym, subst, ◌∙◌, arith}
 use Rattle.std.proofs.lemmas.List.{length-map}
-use Rattle.cc_script.specs.Objects.{Object, is_there, slots_at}
+use Rattle.cc_script.specs.Objects.{Object, slots_at}
 use Rattle.cc_script.specs.Cells.{Linked}
 use Rattle.cc_script.specs.Parts.{lists_of}
-use Rattle.cc_script.proofs.Places.{live-some, slots_at-placed}
+use Rattle.cc_script.proofs.Places.{slots_at-placed}
 use Rattle.cc_script.proofs.Reading.{held_key, slot-read}
 use Rattle.cc_script.proofs.scripts.Scripts.slot.Goals as goal
 
