@@ -1,6 +1,6 @@
 //! The pool: values by place, in blocks.
 
-ghost use Rattle.std.specs.Prelude.{◌≡◌, ◌+◌, ◌<◌, ◌≤◌, ◌==◌, ◌++◌, [], ◌∷◌, length, slice_index_or, slice_set, IsOk, OnErr, OnOk};
+ghost use Rattle.std.specs.Prelude.{◌≡◌, ◌+◌, ◌<◌, ◌≤◌, ◌^◌, ◌==◌, ◌++◌, [], ◌∷◌, length, slice_index_or, slice_set, IsOk, OnErr, OnOk};
 ghost use Rattle.cc_pool.specs.Blocks.{HasMore, HasOneMore};
 
 use cc_names::NoMemory;
@@ -48,7 +48,9 @@ impl<T: Drop, const N: usize> Pool<T, N> {
 
     /// How many values there are.
     pub fn len(&self) -> usize
-        ensures { result ≡ length self.now.items }
+        ensures count { result ≡ length self.now.items }
+        ensures within { result ≤ self.now.capacity }
+        ensures small { self.now.capacity < 2 ^ 64 }
     {
         self.len
     }
@@ -66,6 +68,7 @@ impl<T: Drop, const N: usize> Pool<T, N> {
     pub fn reserve(&mut self, additional: usize) -> Result<(), NoMemory>
         ensures items { self.new.items ≡ self.old.items }
         ensures room { OnOk result (length self.new.items + additional ≤ self.new.capacity) }
+        ensures within { length self.old.items ≤ self.old.capacity }
         ensures kept { self.old.capacity ≤ self.new.capacity }
         ensures no_need { length self.old.items + additional ≤ self.old.capacity → IsOk result }
         ensures had_room { length self.old.items + additional ≤ self.old.capacity → self.new ≡ self.old }

@@ -48,3 +48,38 @@ returns-clause-had_room g c h =
     let count = counted g.row.N _ _ _ _ c.self.invariant c.self.view_is in
     let room = ap (λ p. p.capacity) c.self.view_is in
     absurd (omega (arith, count, room, h, c.if-additional-spare.false))
+
+pub returns-then-additional-spare-clause-within : goal.returns-then-additional-spare-clause-within
+returns-then-additional-spare-clause-within g c =
+    let count = counted g.row.N _ _ _ _ c.self.invariant c.self.view_is in
+    let room = ap (λ p. p.capacity) c.self.view_is in
+    let fits : c.self.inside.len ≤ c.self.inside.capacity = blocks-fit g.row.N _ _ _ c.self.invariant.blocks in
+    omega (arith, count, room, fits)
+
+pub returns-in_err-more-clause-within : goal.returns-in_err-more-clause-within
+returns-in_err-more-clause-within g c =
+    let count = counted g.row.N _ _ _ _ c.self.invariant c.self.view_is in
+    let room = ap (λ p. p.capacity) c.self.view_is in
+    let fits : c.self.inside.len ≤ c.self.inside.capacity = blocks-fit g.row.N _ _ _ c.self.invariant.blocks in
+    omega (arith, count, room, fits)
+
+pub returns-in_err-capacity-clause-within : goal.returns-in_err-capacity-clause-within
+returns-in_err-capacity-clause-within g c =
+    let count = counted g.row.N _ _ _ _ c.self.invariant c.self.view_is in
+    let room = ap (λ p. p.capacity) c.self.view_is in
+    let fits : c.self.inside.len ≤ c.self.inside.capacity = blocks-fit g.row.N _ _ _ c.self.invariant.blocks in
+    omega (arith, count, room, fits)
+
+pub returns-in_err-add_blocks-clause-within : goal.returns-in_err-add_blocks-clause-within
+returns-in_err-add_blocks-clause-within g c =
+    let count = counted g.row.N _ _ _ _ c.self.invariant c.self.view_is in
+    let room = ap (λ p. p.capacity) c.self.view_is in
+    let fits : c.self.inside.len ≤ c.self.inside.capacity = blocks-fit g.row.N _ _ _ c.self.invariant.blocks in
+    omega (arith, count, room, fits)
+
+pub returns-clause-within : goal.returns-clause-within
+returns-clause-within g c =
+    let count = counted g.row.N _ _ _ _ c.self.invariant c.self.view_is in
+    let room = ap (λ p. p.capacity) c.self.view_is in
+    let fits : c.self.inside.len ≤ c.self.inside.capacity = blocks-fit g.row.N _ _ _ c.self.invariant.blocks in
+    omega (arith, count, room, fits)
