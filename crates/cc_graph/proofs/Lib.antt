@@ -1,3 +1,6 @@
 pub mod MarkedNodes
-pub mod Walks
+pub mod NodesByName
+pub mod Chains
+pub mod Lists
+pub mod Numbering
 pub mod Whole

@@ -3,13 +3,15 @@
 ghost use Rattle.std.specs.Prelude.{◌≡◌, ◌+◌, ◌-◌, ◌<◌, ◌≤◌, ◌^◌, ◌==◌, ◌++◌, [], ◌∷◌, length, slice_get, option_map, IfOk, IfSome, IsOk, IsSome, OnErr, OnOk, Some, vec_capacity};
 ghost use Rattle.cc_graph.specs.Shown.{change_vertex, edges_to, is_black, hyperedge, number_of, place_from, with_black, with_sample, with_vertex};
 ghost use Rattle.cc_graph.specs.Closed.{IsClosed};
-ghost use Rattle.cc_graph.specs.Kept.{IsWhole, vertices};
+ghost use Rattle.cc_graph.specs.Kept.{with_next};
 
 use crate::mapping::Mapping;
-use crate::node::Node;
+use crate::mappings::Mappings;
+use crate::nodes::Nodes;
 use crate::reference::Reference;
 use cc_counted::Held;
 use cc_names::{Name, NoMemory};
+use cc_pool::Pool;
 use std::alloc::Global;
 use std::marker::Model;
 
@@ -17,28 +19,27 @@ use std::marker::Model;
 /// black nodes.
 #[derive(Drop)]
 pub struct Graph {
-    nodes: Vec<Node>,
-    references: Vec<Reference>,
-    mappings: Vec<Mapping>,
-    blacks: Vec<u32>,
+    nodes: Nodes,
+    references: Pool<Reference, 512>,
+    mappings: Mappings,
 }
 
 impl Model for Graph {
-    ghost use Rattle.std.specs.Prelude.{◌-◌, length, vec_capacity};
+    ghost use Rattle.std.specs.Prelude.{◌-◌, length};
     ghost use Rattle.cc_graph.specs.Shown.{Shown};
-    ghost use Rattle.cc_graph.specs.Kept.{IsWhole, vertices};
+    ghost use Rattle.cc_graph.specs.Kept.{IsWhole, edges, vertices};
 
     ghost Value = { Shown };
 
     ghost view = { λ g. record {
-      nodes = vertices g.nodes.items;
-      edges = g.references.items;
-      hyperedges = g.mappings.items;
-      blacks = g.blacks.items;
-      spare = vec_capacity g.references - length g.references.items;
+      nodes = vertices g.nodes.nodes;
+      edges = edges g.references.items;
+      hyperedges = g.mappings;
+      blacks = g.nodes.blacks;
+      spare = g.references.capacity - length g.references.items;
     } };
 
-    ghost invariant = { λ g. IsWhole g.nodes.items g.references.items g.mappings.items g.blacks.items (vec_capacity g.blacks) };
+    ghost invariant = { λ g. IsWhole g.nodes.nodes g.references.items g.mappings g.nodes.blacks };
 }
 
 impl Graph {
@@ -50,10 +51,9 @@ impl Graph {
         ensures blacks { result.blacks ≡ [] }
     {
         Graph {
-            nodes: Vec::new(alloc),
-            references: Vec::new(alloc),
-            mappings: Vec::new(alloc),
-            blacks: Vec::new(alloc),
+            nodes: Nodes::new(alloc),
+            references: Pool::new(alloc),
+            mappings: Mappings::new(alloc),
         }
     }
 
@@ -78,11 +78,7 @@ impl Graph {
         if let Some(node) = self.node_of(&name) {
             return Ok(node);
         }
-        let number = self.len();
-        self.nodes.reserve(1)?;
-        self.blacks
-            .reserve(self.nodes.len() + 1 - self.blacks.len())?;
-        self.nodes.push_reserved(Node::new(name, held));
+        let number = self.nodes.add(name, held)?;
         Ok(number)
     }
 
@@ -96,8 +92,7 @@ impl Graph {
         ensures no_need { edges ≤ self.old.spare → IsOk result }
         ensures err { OnErr result (self.new ≡ self.old) }
     {
-        self.references.reserve(edges)?;
-        Ok(())
+        self.references.reserve(edges)
     }
 
     /// The node's count was `count` when it was traversed.
@@ -106,7 +101,9 @@ impl Graph {
         ensures sampled { self.new ≡ record self.old { nodes = change_vertex self.old.nodes node (with_sample count) } }
         ensures count { length self.new.nodes ≡ length self.old.nodes }
     {
-        self.nodes[node as usize].sample(count);
+        let mut sampled = self.nodes.at(node);
+        sampled.sample(count);
+        self.nodes.put(node, sampled);
     }
 
     /// The node `from` has a reference to the node `to`, noted last. Takes no memory (`reserve` took it).
@@ -116,8 +113,19 @@ impl Graph {
         requires room { 0 < self.old.spare }
         ensures { self.new ≡ record self.old { edges = self.old.edges ++ record { source = from; target = to } ∷ []; spare = self.old.spare - 1 } }
     {
-        self.references.push_reserved(Reference::new(from, to));
-        self.nodes[to as usize].note();
+        let place = self.references.len();
+        let mut target = self.nodes.at(to);
+        target.note();
+        self.nodes.put(to, target);
+        let mut source = self.nodes.at(from);
+        link(&mut self.references, source.last, place);
+        source.chain(place);
+        self.nodes.put(from, source);
+        self.references.push(Reference {
+            source: from,
+            target: to,
+            next: None,
+        });
     }
 
     /// A map and a key together hold a value, noted last: `value` is the number of its node, `the_map` and `key` those of
@@ -136,9 +144,7 @@ impl Graph {
         ensures noted { OnOk result (self.new ≡ record self.old { hyperedges = self.old.hyperedges ++ hyperedge the_map key value ∷ [] }) }
         ensures err { OnErr result (self.new ≡ self.old) }
     {
-        self.mappings.reserve(1)?;
-        self.mappings
-            .push_reserved(Mapping::new(the_map, key, value));
+        self.mappings.note(Mapping::new(the_map, key, value))?;
         Ok(())
     }
 
@@ -147,7 +153,7 @@ impl Graph {
         ensures number { result ≡ number_of self.now.nodes name.now }
         ensures within { IfSome result (λ i. i < length self.now.nodes) }
     {
-        node_of(self.nodes.as_slice(), name)
+        self.nodes.number_of(name)
     }
 
     /// How many nodes there are.
@@ -155,14 +161,14 @@ impl Graph {
         ensures count { result ≡ length self.now.nodes }
         ensures closed { IsClosed self.now }
     {
-        self.nodes.len() as u32
+        self.nodes.len()
     }
 
     /// Whether there is no node.
     pub fn is_empty(&self) -> bool
         ensures { result ≡ (length self.now.nodes == 0) }
     {
-        self.nodes.is_empty()
+        self.nodes.len() == 0
     }
 
     /// Whether the node is black.
@@ -170,7 +176,7 @@ impl Graph {
         requires { node < length self.now.nodes }
         ensures { result ≡ is_black self.now node }
     {
-        self.nodes[node as usize].is_black()
+        self.nodes.at(node).black
     }
 
     /// The node is black from now on, and goes last on the list of black ones, once. Takes no memory (`add_node` took it).
@@ -181,8 +187,7 @@ impl Graph {
         if self.is_black(node) {
             return;
         }
-        self.nodes[node as usize].blacken();
-        self.blacks.push_reserved(node);
+        self.nodes.blacken(node);
     }
 
     /// The number of a black node by its place on the list of black ones, from 0; none past its end.
@@ -191,8 +196,7 @@ impl Graph {
         ensures within { IfSome result (λ k. k < length self.now.nodes) }
         ensures closed { IsClosed self.now }
     {
-        let node = self.blacks.get(i as usize)?;
-        Some(*node)
+        self.nodes.black_at(i)
     }
 
     /// The name of a node, and where its object stands.
@@ -201,8 +205,8 @@ impl Graph {
         ensures name { option_map (λ v. v.name) (slice_get self.now.nodes i) ≡ Some result.0 }
         ensures held { option_map (λ v. v.held) (slice_get self.now.nodes i) ≡ Some result.1 }
     {
-        let node = &self.nodes[i as usize];
-        (node.name(), node.held())
+        let node = self.nodes.at(i);
+        (node.name, node.held)
     }
 
     /// The count that was sampled of a node; none where none was.
@@ -210,7 +214,7 @@ impl Graph {
         requires { i < length self.now.nodes }
         ensures { option_map (λ v. v.sampled) (slice_get self.now.nodes i) ≡ Some result }
     {
-        self.nodes[i as usize].sampled()
+        self.nodes.at(i).sampled
     }
 
     /// How many noted references lead to a node, each as often as it was noted.
@@ -218,7 +222,7 @@ impl Graph {
         requires { i < length self.now.nodes }
         ensures { result ≡ edges_to self.now.edges i }
     {
-        self.nodes[i as usize].noted()
+        self.nodes.at(i).noted
     }
 
     /// The numbers of the two nodes of a noted reference, by its place in the order in which they were noted, from 0:
@@ -229,8 +233,11 @@ impl Graph {
         ensures target_within { IfSome result (λ e. e.1 < length self.now.nodes) }
         ensures closed { IsClosed self.now }
     {
-        let reference = self.references.get(j)?;
-        Some((reference.source(), reference.target()))
+        if j >= self.references.len() {
+            return None;
+        }
+        let reference = self.references.at(j);
+        Some((reference.source, reference.target))
     }
 
     /// The numbers of the nodes of a noted mapping, by its place in the order in which they were noted, from 0: of its map
@@ -260,7 +267,7 @@ impl Graph {
         ensures within { IfSome result (λ j. j < length self.now.edges) }
         ensures source { IfSome result (λ j. option_map (λ e. e.source) (slice_get self.now.edges j) ≡ Some i) }
     {
-        place_from(self.references.as_slice(), i, 0)
+        self.nodes.at(i).first
     }
 
     /// The place, behind `j`, of the next reference of the node that has the one at `j`; none where that is its last.
@@ -271,43 +278,18 @@ impl Graph {
         ensures behind { IfSome result (λ k. j < k) }
         ensures source { IfSome result (λ k. option_map (λ e. e.source) (slice_get self.now.edges k) ≡ option_map (λ e. e.source) (slice_get self.now.edges j)) }
     {
-        place_from(
-            self.references.as_slice(),
-            self.references[j].source(),
-            j + 1,
-        )
+        self.references.at(j).next
     }
 }
 
-/// The number of the first node of a name.
-// O(n) until nodes have an index
-#[tactic(auto, using(crate::proofs::Walks::walks))]
-fn node_of(nodes: &[Node], name: &Name) -> Option<u32>
-    requires { length nodes.now < 2 ^ 32 }
-    ensures number { result ≡ number_of (vertices nodes.now) name.now }
-    ensures within { IfSome result (λ i. i < length nodes.now) }
+/// The next reference after the last one of a node, where it has one, is at this place.
+fn link(references: &mut Pool<Reference, 512>, last: Option<usize>, place: usize)
+    requires { IfSome last (λ l. l < length references.old.items) }
+    ensures { references.new ≡ record references.old { items = with_next references.old.items last place } }
 {
-    for i in 0..nodes.len() {
-        if nodes[i].is_of(name) {
-            return Some(i as u32);
-        }
+    if let Some(last) = last {
+        let mut linked = *references.at(last);
+        linked.next = Some(place);
+        references.set(last, linked);
     }
-    None
-}
-
-/// The first place, from `start` on, of a reference that a node has.
-// O(e) until references are chained
-fn place_from(references: &[Reference], node: u32, start: usize) -> Option<usize>
-    requires { start ≤ length references.now }
-    ensures place { result ≡ place_from references.now node start }
-    ensures within { IfSome result (λ j. j < length references.now) }
-    ensures behind { IfSome result (λ j. start ≤ j) }
-    ensures source { IfSome result (λ j. option_map (λ e. e.source) (slice_get references.now j) ≡ Some node) }
-{
-    for j in start..references.len() {
-        if references[j].source() == node {
-            return Some(j);
-        }
-    }
-    None
 }

@@ -12,7 +12,9 @@
 
 mod graph;
 mod mapping;
+mod mappings;
 mod node;
+mod nodes;
 mod reference;
 
 pub use graph::Graph;

@@ -1,34 +1,32 @@
-//! A node, with its count of noted references.
+//! A node, with what is kept of it.
 
-ghost use Rattle.std.specs.Prelude.{◌≡◌, ◌+◌, ◌<◌, ◌^◌, true};
-ghost use Rattle.cc_names.specs.Names.{same_name};
-ghost use Rattle.cc_graph.specs.Shown.{with_sample};
-ghost use Rattle.cc_graph.specs.Kept.{added};
+ghost use Rattle.std.specs.Prelude.{◌≡◌, ◌+◌, ◌<◌, ◌^◌, Some, true};
+ghost use Rattle.cc_graph.specs.Kept.{added, chained};
 
 use cc_counted::Held;
 use cc_names::Name;
-use std::marker::Model;
 
 /// A node, with what is kept of it so that no list has to be walked.
-#[derive(Drop)]
+#[derive(Clone, Copy, Drop)]
 pub(crate) struct Node {
-    name: Name,
-    held: Held,
-    sampled: Option<u32>,
-    black: bool,
-    noted: usize,
-}
-
-impl Model for Node {
-    ghost use Rattle.cc_graph.specs.Kept.{Kept};
-
-    ghost Value = { Kept };
-
-    ghost view = { λ n. record { vertex = record { name = n.name; held = n.held; sampled = n.sampled }; black = n.black; noted = n.noted } };
+    /// the name of the object
+    pub(crate) name: Name,
+    /// where the object stands
+    pub(crate) held: Held,
+    /// the count that was sampled; none where none was
+    pub(crate) sampled: Option<u32>,
+    /// whether it is black
+    pub(crate) black: bool,
+    /// how many noted references lead to it
+    pub(crate) noted: usize,
+    /// the place of the first reference that it has
+    pub(crate) first: Option<usize>,
+    /// the place of the last one
+    pub(crate) last: Option<usize>,
 }
 
 impl Node {
-    /// A node that was not sampled, is not black, and to which no reference leads.
+    /// A node that was not sampled, is not black, and has no reference, as none leads to it.
     pub(crate) fn new(name: Name, held: Held) -> Node
         ensures { result ≡ added name held }
     {
@@ -38,54 +36,14 @@ impl Node {
             sampled: None,
             black: false,
             noted: 0,
+            first: None,
+            last: None,
         }
-    }
-
-    /// The name of the object.
-    pub(crate) fn name(&self) -> Name
-        ensures { result ≡ self.now.vertex.name }
-    {
-        self.name
-    }
-
-    /// Whether the object has this name.
-    pub(crate) fn is_of(&self, name: &Name) -> bool
-        ensures { result ≡ same_name self.now.vertex.name name.now }
-    {
-        self.name == *name
-    }
-
-    /// Where the object stands.
-    pub(crate) fn held(&self) -> Held
-        ensures { result ≡ self.now.vertex.held }
-    {
-        self.held
-    }
-
-    /// The count that was sampled; none where none was.
-    pub(crate) fn sampled(&self) -> Option<u32>
-        ensures { result ≡ self.now.vertex.sampled }
-    {
-        self.sampled
-    }
-
-    /// Whether it is black.
-    pub(crate) fn is_black(&self) -> bool
-        ensures { result ≡ self.now.black }
-    {
-        self.black
-    }
-
-    /// How many noted references lead to it.
-    pub(crate) fn noted(&self) -> usize
-        ensures { result ≡ self.now.noted }
-    {
-        self.noted
     }
 
     /// Takes a count, in place of one that was there.
     pub(crate) fn sample(&mut self, count: u32)
-        ensures { self.new ≡ record self.old { vertex = with_sample count self.old.vertex } }
+        ensures { self.new ≡ record self.old { sampled = Some count } }
     {
         self.sampled = Some(count);
     }
@@ -103,5 +61,13 @@ impl Node {
         ensures { self.new ≡ record self.old { noted = self.old.noted + 1 } }
     {
         self.noted += 1;
+    }
+
+    /// It has one more reference, at this place, behind all that it has.
+    pub(crate) fn chain(&mut self, place: usize)
+        ensures { self.new ≡ chained self.old place }
+    {
+        self.first = self.first.or(Some(place));
+        self.last = Some(place);
     }
 }

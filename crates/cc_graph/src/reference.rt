@@ -1,43 +1,12 @@
 //! A noted reference.
 
-ghost use Rattle.std.specs.Prelude.{◌≡◌};
-
-use std::marker::Model;
-
-/// A noted reference: the number of the node that has it, and of the one that it leads to.
-#[derive(Drop)]
+/// A noted reference.
+#[derive(Clone, Copy, Drop)]
 pub(crate) struct Reference {
-    source: u32,
-    target: u32,
-}
-
-impl Model for Reference {
-    ghost use Rattle.cc_graph.specs.Shown.{Edge};
-
-    ghost Value = { Edge };
-
-    ghost view = { λ r. record { source = r.source; target = r.target } };
-}
-
-impl Reference {
-    /// A reference that `source` has to `target`.
-    pub(crate) fn new(source: u32, target: u32) -> Reference
-        ensures { result ≡ record { source = source; target = target } }
-    {
-        Reference { source, target }
-    }
-
-    /// The node that has it.
-    pub(crate) fn source(&self) -> u32
-        ensures { result ≡ self.now.source }
-    {
-        self.source
-    }
-
-    /// The node that it leads to.
-    pub(crate) fn target(&self) -> u32
-        ensures { result ≡ self.now.target }
-    {
-        self.target
-    }
+    /// the number of the node that has it
+    pub(crate) source: u32,
+    /// the number of the one that it leads to
+    pub(crate) target: u32,
+    /// the place of the next one of the same source; none where it is the last
+    pub(crate) next: Option<usize>,
 }

@@ -1,0 +1,7 @@
+use Rattle.std.proofs.Common.{◌≡◌, ◌≤◌, ap, arith, length}
+use Rattle.cc_graph.proofs.graph.Graph.reserve.Goals as goal
+
+pub returns-clause-no_need : goal.returns-clause-no_need
+returns-clause-no_need c h =
+    let spare = ap (λ v. v.spare) c.self.view_is in
+    c.reserve.ensures.no_need (omega (arith, spare, h, c.reserve.ensures.within))

@@ -1,0 +1,152 @@
+//! The nodes by number and by name, and the list of black ones.
+
+ghost use Rattle.std.specs.Prelude.{◌≡◌, ◌+◌, ◌<◌, ◌≤◌, ◌^◌, ◌==◌, ◌++◌, [], ◌∷◌, length, slice_get, slice_index_or, slice_set, false, true, Some, None, if◌then◌else◌, IfOk, IfSome, OnErr, OnOk};
+ghost use Rattle.cc_lists.specs.Members.{has};
+ghost use Rattle.cc_names.specs.declared.name.Name.{Name};
+ghost use Rattle.cc_names.specs.Names.{same_name};
+ghost use Rattle.cc_graph.specs.declared.node.Node.{Node};
+ghost use Rattle.cc_graph.specs.Shown.{number_of};
+ghost use Rattle.cc_graph.specs.Kept.{added, number_at, vertices, with_black_node};
+
+use crate::node::Node;
+use cc_counted::Held;
+use cc_names::{Name, NoMemory};
+use cc_pool::Pool;
+use std::alloc::Global;
+use std::collections::BTreeMap;
+use std::marker::Model;
+
+/// The nodes, known by number and by name, and the black ones in the order in which they became so.
+///
+/// `add` alone takes memory, also for the day on which the node becomes black.
+#[derive(Drop)]
+pub(crate) struct Nodes {
+    nodes: Pool<Node, 256>,
+    blacks: Pool<u32, 256>,
+    // the number of each node by its name
+    numbers: BTreeMap<Name, u32>,
+}
+
+impl Model for Nodes {
+    ghost use Rattle.cc_graph.specs.Kept.{Numbered, IsNumbered};
+
+    ghost Value = { Numbered };
+
+    ghost view = { λ n. record { nodes = n.nodes.items; blacks = n.blacks.items; node_room = n.nodes.capacity; black_room = n.blacks.capacity } };
+
+    ghost invariant = { λ n. IsNumbered n.nodes.items n.blacks.items n.blacks.capacity n.numbers.entries };
+}
+
+impl Nodes {
+    /// No node.
+    pub(crate) fn new(alloc: Global) -> Nodes
+        ensures { result ≡ record { nodes = []; blacks = []; node_room = 0; black_room = 0 } }
+    {
+        Nodes {
+            nodes: Pool::new(alloc),
+            blacks: Pool::new(alloc),
+            numbers: BTreeMap::new(alloc),
+        }
+    }
+
+    /// A node of a name of which there is none goes last. Its number is how many there were.
+    ///
+    /// `NoMemory` leaves the nodes as they were.
+    pub(crate) fn add(&mut self, name: Name, held: Held) -> Result<u32, NoMemory>
+        requires few { length self.old.nodes < 4294967295 }
+        requires absent { number_of (vertices self.old.nodes) name ≡ None }
+        ensures nodes { OnOk result (self.new.nodes ≡ self.old.nodes ++ added name held ∷ []) }
+        ensures number { IfOk result (λ i. i ≡ length self.old.nodes) }
+        ensures blacks { self.new.blacks ≡ self.old.blacks }
+        ensures err { OnErr result (self.new.nodes ≡ self.old.nodes) }
+    {
+        let number = self.nodes.len() as u32;
+        self.nodes.reserve(1)?;
+        self.blacks
+            .reserve(self.nodes.len() + 1 - self.blacks.len())?;
+        add_number(&mut self.numbers, name, number)?;
+        self.nodes.push(Node::new(name, held));
+        Ok(number)
+    }
+
+    /// The number of the node of a name; none where there is none.
+    pub(crate) fn number_of(&self, name: &Name) -> Option<u32>
+        ensures number { result ≡ number_of (vertices self.now.nodes) name.now }
+        ensures within { IfSome result (λ i. i < length self.now.nodes) }
+    {
+        number_of(&self.numbers, name)
+    }
+
+    /// How many nodes there are.
+    pub(crate) fn len(&self) -> u32
+        ensures count { result ≡ length self.now.nodes }
+        ensures few { length self.now.nodes < 2 ^ 32 }
+    {
+        self.nodes.len() as u32
+    }
+
+    /// The node with a number.
+    pub(crate) fn at(&self, i: u32) -> Node
+        requires { i < length self.now.nodes }
+        ensures value { result ≡ slice_index_or self.now.nodes i result }
+        ensures black { result.black ≡ has ◌==◌ self.now.blacks i }
+    {
+        *self.nodes.at(i as usize)
+    }
+
+    /// What is kept of the node with a number is this from now on. Its name and its being black or not stay.
+    pub(crate) fn put(&mut self, i: u32, node: Node)
+        requires within { i < length self.old.nodes }
+        requires name { node.name ≡ (slice_index_or self.old.nodes i node).name }
+        requires black { node.black ≡ (slice_index_or self.old.nodes i node).black }
+        ensures { self.new ≡ record self.old { nodes = slice_set self.old.nodes i node } }
+    {
+        self.nodes.set(i as usize, node);
+    }
+
+    /// A node that is not black becomes so, and goes last on the list of black ones.
+    pub(crate) fn blacken(&mut self, i: u32)
+        requires within { i < length self.old.nodes }
+        requires white { has ◌==◌ self.old.blacks i ≡ false }
+        ensures { self.new ≡ record self.old { nodes = with_black_node self.old.nodes i; blacks = self.old.blacks ++ i ∷ [] } }
+    {
+        let mut node = *self.nodes.at(i as usize);
+        node.blacken();
+        self.nodes.set(i as usize, node);
+        self.blacks.push(i);
+    }
+
+    /// The number of a black node by its place on the list of black ones, from 0; none past its end.
+    pub(crate) fn black_at(&self, i: u32) -> Option<u32>
+        ensures { result ≡ slice_get self.now.blacks i }
+    {
+        if i as usize >= self.blacks.len() {
+            return None;
+        }
+        Some(*self.blacks.at(i as usize))
+    }
+}
+
+/// The number of a name.
+fn number_of(numbers: &BTreeMap<Name, u32>, name: &Name) -> Option<u32>
+    ensures { result ≡ number_at numbers.now.entries name.now }
+{
+    let number = numbers.get(name)?;
+    Some(*number)
+}
+
+/// A name that has no number gets one.
+fn add_number(
+    numbers: &mut BTreeMap<Name, u32>,
+    name: Name,
+    number: u32,
+) -> Result<(), NoMemory>
+    requires absent { number_at numbers.old.entries name ≡ None }
+    ensures added { OnOk result ((x : Name) → number_at numbers.new.entries x ≡ (if same_name name x then Some number else number_at numbers.old.entries x)) }
+    ensures err { OnErr result (numbers.new.entries ≡ numbers.old.entries) }
+{
+    match numbers.insert(name, number) {
+        Ok(_) => Ok(()),
+        Err(_) => Err(NoMemory),
+    }
+}

@@ -1,0 +1,142 @@
+//! The pool: values by place, in blocks.
+
+ghost use Rattle.std.specs.Prelude.{◌≡◌, ◌+◌, ◌<◌, ◌≤◌, ◌^◌, ◌==◌, ◌++◌, [], ◌∷◌, length, slice_index_or, slice_set, IsOk, OnErr, OnOk};
+ghost use Rattle.cc_pool.specs.Blocks.{HasMore, HasOneMore};
+
+use cc_names::NoMemory;
+use std::alloc::Global;
+use std::marker::Model;
+
+/// Values by place, from 0, in blocks of `N`, which is above 0.
+///
+/// A block is a vector that was made with room for `N` values and is never given more: so it stays where it is.
+#[derive(Drop)]
+pub struct Pool<T, const N: usize> {
+    // all before the one in which the next value goes are full, and all behind it are empty
+    blocks: Vec<Vec<T>>,
+    len: usize,
+    // how many values the blocks have room for
+    capacity: usize,
+}
+
+impl<T, const N: usize> Model for Pool<T, N> {
+    ghost use Rattle.cc_pool.specs.Pooled.{Pooled, pooled_code};
+
+    ghost Value = { Pooled T };
+
+    ghost coded = { pooled_code T.code };
+
+    ghost use Rattle.cc_pool.specs.Blocks.{joined, IsPooled};
+
+    ghost view = { λ p. record { items = joined p.blocks.items; capacity = p.capacity } };
+
+    ghost invariant = { λ p. IsPooled N p.len p.capacity p.blocks.items };
+}
+
+impl<T: Drop, const N: usize> Pool<T, N> {
+    /// A pool with no value, and room for none.
+    pub fn new(alloc: Global) -> Pool<T, N>
+        requires { 0 < N }
+        ensures { result ≡ record { items = []; capacity = 0 } }
+    {
+        Pool {
+            blocks: Vec::new(alloc),
+            len: 0,
+            capacity: 0,
+        }
+    }
+
+    /// How many values there are.
+    pub fn len(&self) -> usize
+        ensures count { result ≡ length self.now.items }
+        ensures within { result ≤ self.now.capacity }
+        ensures small { self.now.capacity < 2 ^ 64 }
+    {
+        self.len
+    }
+
+    /// Whether there is no value.
+    pub fn is_empty(&self) -> bool
+        ensures { result ≡ (length self.now.items == 0) }
+    {
+        self.len == 0
+    }
+
+    /// Room for `additional` more values, in whole blocks.
+    ///
+    /// `NoMemory` where one of them is not to be had; the room is then what it was.
+    pub fn reserve(&mut self, additional: usize) -> Result<(), NoMemory>
+        ensures items { self.new.items ≡ self.old.items }
+        ensures room { OnOk result (length self.new.items + additional ≤ self.new.capacity) }
+        ensures within { length self.old.items ≤ self.old.capacity }
+        ensures kept { self.old.capacity ≤ self.new.capacity }
+        ensures no_need { length self.old.items + additional ≤ self.old.capacity → IsOk result }
+        ensures had_room { length self.old.items + additional ≤ self.old.capacity → self.new ≡ self.old }
+        ensures err { OnErr result (self.new ≡ self.old) }
+    {
+        let spare = self.capacity - self.len;
+        if additional <= spare {
+            return Ok(());
+        }
+        let count = (additional - spare - 1) / N + 1;
+        let more = N.checked_mul(count).ok_or(NoMemory)?;
+        let capacity = self.capacity.checked_add(more).ok_or(NoMemory)?;
+        add_blocks::<T, N>(&mut self.blocks, count)?;
+        self.capacity = capacity;
+        Ok(())
+    }
+
+    /// A value goes last. Takes no memory (`reserve` took it).
+    pub fn push(&mut self, value: T)
+        requires { length self.old.items < self.old.capacity }
+        ensures { self.new ≡ record self.old { items = self.old.items ++ value ∷ [] } }
+    {
+        self.blocks[self.len / N].push_reserved(value);
+        self.len += 1;
+    }
+
+    /// The value at a place.
+    pub fn at(&self, i: usize) -> &T
+        requires { i < length self.now.items }
+        ensures { result.now ≡ slice_index_or self.now.items i result.now }
+    {
+        &self.blocks[i / N][i % N]
+    }
+
+    /// Another value at a place, in place of the one that is there. Takes no memory.
+    pub fn set(&mut self, i: usize, value: T)
+        requires { i < length self.old.items }
+        ensures { self.new ≡ record self.old { items = slice_set self.old.items i value } }
+    {
+        self.blocks[i / N][i % N] = value;
+    }
+}
+
+// So many more blocks, which are empty. Where one is not to be had, none is taken.
+fn add_blocks<T: Drop, const N: usize>(
+    blocks: &mut Vec<Vec<T>>,
+    count: usize,
+) -> Result<(), NoMemory>
+    ensures added { OnOk result (HasMore N count blocks.old.items blocks.new.items) }
+    ensures err { OnErr result (blocks.new.items ≡ blocks.old.items) }
+{
+    let had = blocks.len();
+    for _ in 0..count {
+        if add_block::<T, N>(blocks).is_err() {
+            blocks.truncate(had);
+            return Err(NoMemory);
+        }
+    }
+    Ok(())
+}
+
+// One more block, which is empty, in its place in the list.
+fn add_block<T, const N: usize>(blocks: &mut Vec<Vec<T>>) -> Result<(), NoMemory>
+    ensures added { OnOk result (HasOneMore N blocks.old.items blocks.new.items) }
+    ensures err { OnErr result (blocks.new.items ≡ blocks.old.items) }
+{
+    blocks.reserve(1)?;
+    let block = Vec::with_capacity(*blocks.allocator(), N)?;
+    blocks.push_reserved(block);
+    Ok(())
+}
