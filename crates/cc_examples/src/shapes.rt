@@ -1,8 +1,8 @@
 //! Shapes of objects that are deep or long.
 
-use crate::script::{replays, source_of};
-use cc_names::Limits;
-use cc_replay::Status;
+use crate::script::source_of;
+use cc_outside::BytesSink;
+use cc_replay::{Status, run};
 use std::alloc::{AllocError, Global};
 use std::process::Abort;
 use std::test::Fail;
@@ -28,17 +28,20 @@ impl Play {
         self.wanted.extend_from_slice(answers.as_bytes())
     }
 
+    /// The program writes these answers, and nothing else, with no limits of its own in its words.
     fn runs(self, rt: &(impl Abort + AllocGlobal), name: &str) -> Result<(), Fail> {
         let mut source = source_of(rt.alloc(), self.script);
         let wanted = self.wanted.as_slice();
-        replays(
-            rt,
-            name,
-            Limits::widest(),
-            &mut source,
-            wanted,
-            Status::Done,
-        )
+        let mut sink = BytesSink::new(
+            rt.alloc(),
+            wanted.len().saturating_add(4096),
+            Vec::new(rt.alloc()),
+        )?;
+        let words = ["ccreplay", "replay"];
+        let ended = run(rt.alloc(), &words, &mut source, &mut sink);
+        assert_eq!(rt; sink.written(), wanted, "at {name}");
+        assert_eq!(rt; ended, Status::Done, "at {name}");
+        Ok(())
     }
 }
 
