@@ -1,5 +1,5 @@
 -- WHAT A WRITE TO A NODE LEAVES of the natives, the links and the marks.
-use Rattle.std.proofs.Common.{◌≡◌, ◌≢◌, ℕ, Bool, true, false, zero, suc, List, [], ◌∷◌, map, length, Option, Some, None, option_map, is_some, get_or, refl, sym, ◌∙◌, ap, if◌then◌else◌}
+use Rattle.std.proofs.Common.{◌≡◌, ◌≢◌, ℕ, Bool, true, false, zero, suc, List, [], ◌∷◌, length, Option, Some, None, option_map, is_some, get_or, refl, sym, ◌∙◌, ap}
 use Rattle.std.specs.Prelude.{IsTrue, ◌==◌}
 use Rattle.std.specs.Option.{option_flatten, unwrap_or}
 use Rattle.std.proofs.Math.ListN.{set, get_or-map}
@@ -24,7 +24,7 @@ use Rattle.cc_purple.specs.Marks.{Marked, holds_key}
 use Rattle.cc_purple.specs.Buffers.{IsBuffer}
 use Rattle.cc_counted.specs.declared.node.Node.{Node}
 use Rattle.cc_counted.specs.Lists.{Placed, cell_at}
-use Rattle.cc_counted.specs.Nodes.{Threads, cells_of, order_links, queue_links, suspect_links, marks_in}
+use Rattle.cc_counted.specs.Nodes.{Threads, cells_of, suspect_links, marks_in}
 
 -- what is read is the same where each part is
 pub threads-same : (c d : List (Option Placed)) (o p q r s t : Links) (m n : Marks) (k : ℕ) → c ≡ d → o ≡ p → q ≡ r → s ≡ t → m ≡ n →

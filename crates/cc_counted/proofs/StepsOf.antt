@@ -1,5 +1,5 @@
 -- One reference given up, in the words of the contracts: what is left, and why its native does not wait yet.
-use Rattle.std.proofs.Common.{◌≡◌, ℕ, ◌≤◌, List, [], ◌∷◌, ◌++◌, map, Option, Some, option_map, refl, sym, ◌∙◌, true, ap, subst, arith}
+use Rattle.std.proofs.Common.{◌≡◌, ℕ, ◌≤◌, List, [], ◌∷◌, ◌++◌, map, Some, option_map, refl, sym, ◌∙◌, true, ap, subst, arith}
 use Rattle.std.proofs.Math.ListN.{set}
 use Rattle.std.proofs.lemmas.List.{length-set}
 use Rattle.cc_model.specs.Cascade.{give_up}
@@ -10,9 +10,9 @@ use Rattle.cc_model.specs.Counts.{times}
 use Rattle.cc_laws_heap.proofs.References.{times-cons_same, times-some}
 use Rattle.cc_laws_heap.proofs.Cascades.{one_at_zero-above}
 use Rattle.cc_laws_heap.specs.Balance.{IsBalanced, count_of, waiting as waits}
-use Rattle.cc_purple.specs.Marks.{Marked, with_mark, without_key}
+use Rattle.cc_purple.specs.Marks.{with_mark, without_key}
 use Rattle.cc_counted.specs.Counts.{the_number, heap_of}
-use Rattle.cc_counted.specs.Lists.{Placed, Lists, cell_at, with_one_less, count_placed, keyed, shown, counts_of, draining_of, IsPlaced, suspected, waiting}
+use Rattle.cc_counted.specs.Lists.{Placed, Lists, cell_at, with_one_less, count_placed, keyed, shown, counts_of, draining_of, IsPlaced}
 use Rattle.cc_counted.specs.Steps.{GivesUp}
 use Rattle.cc_counted.proofs.Places.{the_number-cell, native_at-cell}
 use Rattle.cc_counted.proofs.Changing.{keyed-changed, cells-changed}

@@ -23,8 +23,8 @@ use Rattle.cc_counted.specs.declared.node.Nodes.{Nodes}
 use Rattle.cc_counted.specs.declared.node.Order.{Order}
 use Rattle.cc_counted.specs.declared.node.Queue.{Queue}
 use Rattle.cc_counted.specs.declared.natives.Natives.TheInside.{Inside}
-use Rattle.cc_counted.specs.Lists.{Placed, Lists, cell_at}
-use Rattle.cc_counted.specs.Stored.{Stored, Inserts, with_lists}
+use Rattle.cc_counted.specs.Lists.{Placed, cell_at}
+use Rattle.cc_counted.specs.Stored.{Stored, Inserts, with_cell, with_queue, with_marks, without_cell}
 use Rattle.cc_counted.specs.Nodes.{Threads, beside_order, beside_queue, beside_suspects, without_marks, cells_of, order_links, queue_links, suspect_links, marks_in}
 use Rattle.cc_counted.specs.Natives.{slots_in, lists_of, stored_of, IsChained}
 use Rattle.cc_counted.proofs.Nodes.{cell_at-node, part-below, cells-written, cells-gone, links-kept, marks-kept, chain-beside, buffer-beside, vacated, unlinked-absent}
@@ -88,10 +88,10 @@ module _ (n : Inside) (i : IsChained n) (s : Stored) (was : stored_of n ≡ s) w
     abbrev pub written : Inside
     written = record n { nodes = record n.nodes { slab = record n.nodes.slab { slots = set (slots_in n) key (Some node_written) } } }
 
-    pub stored-written : (stored_of written ≡ with_lists s (record s.lists { cells = set s.lists.cells key (option_map change (cell_at s.lists.cells key)) })) × IsChained written
+    pub stored-written : (stored_of written ≡ with_cell key change s) × IsChained written
     stored-written =
-        subst (λ (t : Stored). (stored_of written ≡ with_lists t (record t.lists { cells = set t.lists.cells key (option_map change (cell_at t.lists.cells key)) })) × IsChained written) was
-        (stored-are written (with_lists (stored_of n) (record (lists_of n) { cells = set (lists_of n).cells key (option_map change (cell_at (lists_of n).cells key)) }))
+        subst (λ (t : Stored). (stored_of written ≡ with_cell key change t) × IsChained written) was
+        (stored-are written (with_cell key change (stored_of n))
         (cells-written (slots_in n) key node node_written at ∙ ap (set (cells_of (slots_in n)) key) changed)
         (subst (λ l. IsChain l n.order (lists_of n).order) (sym (links-kept (slots_in n) key node node_written at (λ (n : Node). n.order) refl)) i.order)
         (subst (λ l. IsChain l n.queue (lists_of n).queue) (sym (links-kept (slots_in n) key node node_written at (λ (n : Node). n.queue) refl)) i.queue)
@@ -115,10 +115,10 @@ module _ (n : Inside) (i : IsChained n) (s : Stored) (was : stored_of n ≡ s) w
   -- or the queue,
   pub stored-queue : (v : Nodes) (q : Chain Queue) (change : List ℕ → List ℕ) → beside_queue v.slab ≡ beside_queue n.nodes.slab →
       IsChain (queue_links v.slab.slots) q (change (lists_of n).queue) →
-      (stored_of (record n { nodes = v; queue = q }) ≡ with_lists s (record s.lists { queue = change s.lists.queue })) × IsChained (record n { nodes = v; queue = q })
+      (stored_of (record n { nodes = v; queue = q }) ≡ with_queue change s) × IsChained (record n { nodes = v; queue = q })
   stored-queue v q change rest chain =
-      subst (λ (t : Stored). (stored_of (record n { nodes = v; queue = q }) ≡ with_lists t (record t.lists { queue = change t.lists.queue })) × IsChained (record n { nodes = v; queue = q })) was
-      (stored-are (record n { nodes = v; queue = q }) (with_lists (stored_of n) (record (lists_of n) { queue = change (lists_of n).queue }))
+      subst (λ (t : Stored). (stored_of (record n { nodes = v; queue = q }) ≡ with_queue change t) × IsChained (record n { nodes = v; queue = q })) was
+      (stored-are (record n { nodes = v; queue = q }) (with_queue change (stored_of n))
       (ap (λ (t : Threads). t.cells) rest)
       (subst (λ l. IsChain l n.order (lists_of n).order) (sym (ap (λ (t : Threads). t.order) rest)) i.order)
       chain
@@ -129,10 +129,10 @@ module _ (n : Inside) (i : IsChained n) (s : Stored) (was : stored_of n ≡ s) w
   -- or the buffer
   pub stored-buffer : (v : Nodes) (b : Buffer) (change : List Marked → List Marked) → without_marks (beside_suspects v.slab) ≡ without_marks (beside_suspects n.nodes.slab) →
       IsBuffer (suspect_links v.slab.slots) (marks_in v.slab.slots) b (change (lists_of n).marks) →
-      (stored_of (record n { nodes = v; buffer = b }) ≡ with_lists s (record s.lists { marks = change s.lists.marks })) × IsChained (record n { nodes = v; buffer = b })
+      (stored_of (record n { nodes = v; buffer = b }) ≡ with_marks change s) × IsChained (record n { nodes = v; buffer = b })
   stored-buffer v b change rest buffer =
-      subst (λ (t : Stored). (stored_of (record n { nodes = v; buffer = b }) ≡ with_lists t (record t.lists { marks = change t.lists.marks })) × IsChained (record n { nodes = v; buffer = b })) was
-      (stored-are (record n { nodes = v; buffer = b }) (with_lists (stored_of n) (record (lists_of n) { marks = change (lists_of n).marks }))
+      subst (λ (t : Stored). (stored_of (record n { nodes = v; buffer = b }) ≡ with_marks change t) × IsChained (record n { nodes = v; buffer = b })) was
+      (stored-are (record n { nodes = v; buffer = b }) (with_marks change (stored_of n))
       (ap (λ (t : Threads). t.cells) rest)
       (subst (λ l. IsChain l n.order (lists_of n).order) (sym (ap (λ (t : Threads). t.order) rest)) i.order)
       (subst (λ l. IsChain l n.queue (lists_of n).queue) (sym (ap (λ (t : Threads). t.queue) rest)) i.queue)
@@ -226,10 +226,10 @@ module _ (n : Inside) (i : IsChained n) (s : Stored) (was : stored_of n ≡ s) (
       let f = Among-map_cases (λ (m : Marked). m.key) (lists_of n).marks key m in
       unmarked f.0 (subst (λ (t : Stored). Among f.0 t.lists.marks) was f.1) f.2
 
-  pub stored-removed : (stored_of removed ≡ with_lists s (record s.lists { cells = set s.lists.cells key None; order = without ◌==◌ key s.lists.order })) × IsChained removed
+  pub stored-removed : (stored_of removed ≡ without_cell key s) × IsChained removed
   stored-removed =
-      subst (λ (t : Stored). (stored_of removed ≡ with_lists t (record t.lists { cells = set t.lists.cells key None; order = without ◌==◌ key t.lists.order })) × IsChained removed) was
-      (stored-are removed (with_lists (stored_of n) (record (lists_of n) { cells = set (lists_of n).cells key None; order = without ◌==◌ key (lists_of n).order }))
+      subst (λ (t : Stored). (stored_of removed ≡ without_cell key t) × IsChained removed) was
+      (stored-are removed (without_cell key (stored_of n))
       (ap cells_of gone ∙ (cells-gone v.slab.slots key ∙ ap (λ (t : Threads). set t.cells key None) rest))
       (chain-beside v.slab.slots u.slots key others_stay (λ (n : Node). n.order) o (without ◌==◌ key (lists_of n).order)
       (absent (λ (n : Node). n.order) o (without ◌==◌ key (lists_of n).order) chain (without-leaves key (lists_of n).order)) chain)

@@ -1,5 +1,5 @@
 -- THE NATIVES OF A COUNTED HEAP AS THEIR LISTS: each list is read from its first key by the links.
-use Rattle.std.specs.Prelude.{ℕ, List, Option, map, length}
+use Rattle.std.specs.Prelude.{List, Option, map, length}
 use Rattle.cc_chain.specs.Chains.{IsChain, walked}
 use Rattle.cc_purple.specs.Marks.{marked_as}
 use Rattle.cc_purple.specs.Buffers.{IsBuffer}

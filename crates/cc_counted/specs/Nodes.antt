@@ -1,5 +1,5 @@
 -- WHAT THE NODES OF A SLAB HOLD, read part by part.
-use Rattle.std.specs.Prelude.{ℕ, Bool, false, List, Option, None, map, option_map}
+use Rattle.std.specs.Prelude.{ℕ, false, List, Option, None, map, option_map}
 use Rattle.std.specs.Option.{unwrap_or}
 use Rattle.slab.specs.Slab.{Slab}
 use Rattle.cc_chain.specs.Links.{Links}

@@ -1,11 +1,11 @@
 //! The natives by key, and the lists that go through them.
-ghost use Rattle.std.specs.Prelude.{◌≡◌, ◌≢◌, ◌==◌, true, false, ℕ, ◌+◌, ◌<◌, ◌≤◌, List, [], ◌∷◌, ◌++◌, length, drop, Some, None, option_map, IsSome, IsTrue, IfOk, OnErr, replicate, slice_index_or, slice_set};
+ghost use Rattle.std.specs.Prelude.{◌≡◌, ◌≢◌, true, false, ◌+◌, ◌<◌, ◌≤◌, [], ◌∷◌, ◌++◌, length, drop, Some, None, option_map, IsSome, IsTrue, IfOk, OnErr, replicate, slice_index_or};
 ghost use Rattle.cc_lists.specs.Members.{Among};
 ghost use Rattle.cc_lists.specs.Walks.{first_of};
 ghost use Rattle.cc_chain.specs.Chains.{behind};
 ghost use Rattle.cc_purple.specs.Marks.{Marked, marked_as, first_key, holds_key, is_purple, key_after, with_mark, without_key};
-ghost use Rattle.cc_counted.specs.Lists.{cell_at, count_placed, slots_placed, with_one_less, with_one_more, with_slot, with_flag, reflected_by, without};
-ghost use Rattle.cc_counted.specs.Stored.{Inserts, with_lists};
+ghost use Rattle.cc_counted.specs.Lists.{cell_at, count_placed, slots_placed, with_one_less, with_one_more, with_slot, with_flag, reflected_by};
+ghost use Rattle.cc_counted.specs.Stored.{Inserts, with_cell, with_queue, with_marks, without_cell};
 
 use crate::cell::Cell;
 use crate::held::Held;
@@ -78,7 +78,7 @@ impl Natives {
     /// Lowers the count of the native at a key, and returns it.
     pub(crate) fn lower(&mut self, key: NKey) -> u32
         requires { 1 ≤ count_placed (cell_at self.old.lists.cells key.0) }
-        ensures lists { self.new ≡ with_lists self.old (record self.old.lists { cells = slice_set self.old.lists.cells key.0 (option_map with_one_less (cell_at self.old.lists.cells key.0)) }) }
+        ensures lists { self.new ≡ with_cell key.0 with_one_less self.old }
         ensures count { result + 1 ≡ count_placed (cell_at self.old.lists.cells key.0) }
     {
         let cell = &mut self.nodes.slab[key.0].cell;
@@ -90,7 +90,7 @@ impl Natives {
     pub(crate) fn raise(&mut self, key: NKey)
         requires live { IsSome (cell_at self.old.lists.cells key.0) }
         requires below { count_placed (cell_at self.old.lists.cells key.0) < 4294967295 }
-        ensures { self.new ≡ with_lists self.old (record self.old.lists { cells = slice_set self.old.lists.cells key.0 (option_map with_one_more (cell_at self.old.lists.cells key.0)) }) }
+        ensures { self.new ≡ with_cell key.0 with_one_more self.old }
     {
         let cell = &mut self.nodes.slab[key.0].cell;
         cell.count += 1;
@@ -100,7 +100,7 @@ impl Natives {
     pub(crate) fn write(&mut self, key: NKey, i: usize, item: Option<Held>) -> Option<Held>
         requires live { IsSome (cell_at self.old.lists.cells key.0) }
         requires within { i < length (slots_placed (cell_at self.old.lists.cells key.0)) }
-        ensures lists { self.new ≡ with_lists self.old (record self.old.lists { cells = slice_set self.old.lists.cells key.0 (option_map (with_slot i item) (cell_at self.old.lists.cells key.0)) }) }
+        ensures lists { self.new ≡ with_cell key.0 (with_slot i item) self.old }
         ensures value { result ≡ slice_index_or (slots_placed (cell_at self.old.lists.cells key.0)) i None }
     {
         let cell = &mut self.nodes.slab[key.0].cell;
@@ -112,7 +112,7 @@ impl Natives {
     /// Writes whether the reflector of the native at a key is preserved.
     pub(crate) fn preserve(&mut self, key: NKey, on: bool)
         requires { IsSome (cell_at self.old.lists.cells key.0) }
-        ensures { self.new ≡ with_lists self.old (record self.old.lists { cells = slice_set self.old.lists.cells key.0 (option_map (with_flag on) (cell_at self.old.lists.cells key.0)) }) }
+        ensures { self.new ≡ with_cell key.0 (with_flag on) self.old }
     {
         let cell = &mut self.nodes.slab[key.0].cell;
         cell.preserved = on;
@@ -121,7 +121,7 @@ impl Natives {
     /// Writes where the reflector of the native at a key stands.
     pub(crate) fn reflect(&mut self, key: NKey, to: Option<SKey>)
         requires { IsSome (cell_at self.old.lists.cells key.0) }
-        ensures { self.new ≡ with_lists self.old (record self.old.lists { cells = slice_set self.old.lists.cells key.0 (option_map (reflected_by (option_map (λ k. k.0) to)) (cell_at self.old.lists.cells key.0)) }) }
+        ensures { self.new ≡ with_cell key.0 (reflected_by (option_map (λ k. k.0) to)) self.old }
     {
         let cell = &mut self.nodes.slab[key.0].cell;
         cell.reflector = to;
@@ -166,7 +166,7 @@ impl Natives {
         requires queue { ¬ (Among key.0 self.old.lists.queue) }
         requires buffer { (m : Marked) → Among m self.old.lists.marks → m.key ≢ key.0 }
         ensures value { cell_at self.old.lists.cells key.0 ≡ Some result }
-        ensures lists { self.new ≡ with_lists self.old (record self.old.lists { cells = slice_set self.old.lists.cells key.0 None; order = without key.0 self.old.lists.order }) }
+        ensures lists { self.new ≡ without_cell key.0 self.old }
     {
         self.order.unlink_at(&mut self.nodes, key.0);
         let node = self.nodes.slab.remove(key.0);
@@ -200,7 +200,7 @@ impl Natives {
     pub(crate) fn wait(&mut self, key: NKey)
         requires live { IsSome (cell_at self.old.lists.cells key.0) }
         requires queue { ¬ (Among key.0 self.old.lists.queue) }
-        ensures { self.new ≡ with_lists self.old (record self.old.lists { queue = self.old.lists.queue ++ key.0 ∷ [] }) }
+        ensures { self.new ≡ with_queue (λ keys. keys ++ key.0 ∷ []) self.old }
     {
         self.queue.push_back(&mut self.nodes, key.0);
     }
@@ -216,7 +216,7 @@ impl Natives {
     /// The native that has waited longest waits no longer.
     pub(crate) fn next_waiting(&mut self) -> Option<NKey>
         ensures first { option_map (λ k. k.0) result ≡ first_of self.old.lists.queue }
-        ensures lists { self.new ≡ with_lists self.old (record self.old.lists { queue = drop 1 self.old.lists.queue }) }
+        ensures lists { self.new ≡ with_queue (drop 1) self.old }
     {
         match self.queue.pop_front(&mut self.nodes) {
             Some(key) => Some(NKey(key)),
@@ -229,7 +229,7 @@ impl Natives {
     /// The native at a key is in the buffer with the purple mark: it keeps its place, or goes last.
     pub(crate) fn suspect(&mut self, key: NKey)
         requires { IsSome (cell_at self.old.lists.cells key.0) }
-        ensures { self.new ≡ with_lists self.old (record self.old.lists { marks = with_mark true key.0 self.old.lists.marks }) }
+        ensures { self.new ≡ with_marks (with_mark true key.0) self.old }
     {
         self.buffer.suspect(&mut self.nodes, key);
     }
@@ -237,7 +237,7 @@ impl Natives {
     /// The native at a key is in the buffer without the mark: it keeps its place, or goes last.
     pub(crate) fn touch(&mut self, key: NKey)
         requires { IsSome (cell_at self.old.lists.cells key.0) }
-        ensures { self.new ≡ with_lists self.old (record self.old.lists { marks = with_mark false key.0 self.old.lists.marks }) }
+        ensures { self.new ≡ with_marks (with_mark false key.0) self.old }
     {
         self.buffer.touch(&mut self.nodes, key);
     }
@@ -245,7 +245,7 @@ impl Natives {
     /// The native at a key is not in the buffer.
     pub(crate) fn forget(&mut self, key: NKey)
         requires { IsSome (cell_at self.old.lists.cells key.0) }
-        ensures { self.new ≡ with_lists self.old (record self.old.lists { marks = without_key key.0 self.old.lists.marks }) }
+        ensures { self.new ≡ with_marks (without_key key.0) self.old }
     {
         self.buffer.forget(&mut self.nodes, key);
     }
@@ -253,7 +253,7 @@ impl Natives {
     /// Takes out the front of the buffer with its mark.
     pub(crate) fn select_next(&mut self) -> Option<(NKey, bool)>
         ensures front { option_map (λ front. marked_as front.0.0 front.1) result ≡ first_of self.old.lists.marks }
-        ensures lists { self.new ≡ with_lists self.old (record self.old.lists { marks = drop 1 self.old.lists.marks }) }
+        ensures lists { self.new ≡ with_marks (drop 1) self.old }
     {
         self.buffer.select_next(&mut self.nodes)
     }

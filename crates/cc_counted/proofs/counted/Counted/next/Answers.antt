@@ -1,4 +1,4 @@
-use Rattle.std.proofs.Common.{◌≡◌, option_and_then, is_some, IfSome, true, ap, sym, subst, ◌∙◌}
+use Rattle.std.proofs.Common.{◌≡◌, option_and_then, is_some, IfSome, true, sym, subst, ◌∙◌}
 use Rattle.cc_lists.specs.Walks.{first_of}
 use Rattle.cc_chain.specs.Chains.{behind}
 use Rattle.cc_names.specs.declared.number.NKey.{NKey}

@@ -1,5 +1,4 @@
-use Rattle.std.proofs.Common.{◌≡◌, [], ◌∷◌, map, true, ap, sym, subst, is_some}
-use Rattle.cc_names.specs.declared.number.NKey.{NKey}
+use Rattle.std.proofs.Common.{◌≡◌, [], ◌∷◌, true, sym, subst, is_some}
 use Rattle.cc_laws_heap.specs.Balance.{IsBalanced}
 use Rattle.cc_counted.specs.Counts.{Counts, number_at, the_number}
 use Rattle.cc_counted.specs.Owning.{CallersOwn, AreOwned}

@@ -1,4 +1,4 @@
-use Rattle.std.proofs.Common.{◌≡◌, ℕ, [], ◌∷◌, ◌++◌, replicate, None, false, refl, ap, sym, subst, ◌∙◌}
+use Rattle.std.proofs.Common.{◌≡◌, ℕ, replicate, None, false, refl, ap, sym, subst, ◌∙◌}
 use Rattle.cc_purple.specs.Marks.{with_mark}
 use Rattle.cc_counted.specs.Owning.{Makes}
 use Rattle.cc_counted.specs.Lists.{Placed, Lists, counts_of, IsPlaced, made}

@@ -10,8 +10,8 @@ loop-self-init g c = record {
 
 pub loop-self-smaller : goal.loop-self-smaller
 loop-self-smaller g c = fewer c.args.self.now.lists c.loop-self.self.lists c.free_front.new.self.lists
-      (g.N.Notices.telling c.args.out.now) (g.N.Notices.telling c.loop-self.out) (g.N.Notices.telling c.free_front.new.out)
-      c.loop-self.invariant.so_far c.free_front.ensures.frees
+    (g.N.Notices.telling c.args.out.now) (g.N.Notices.telling c.loop-self.out) (g.N.Notices.telling c.free_front.new.out)
+    c.loop-self.invariant.so_far c.free_front.ensures.frees
 
 pub loop-self-preserved : goal.loop-self-preserved
 loop-self-preserved g c = record {

@@ -1,5 +1,4 @@
-use Rattle.std.proofs.Common.{◌≡◌, ◌≢◌, ℕ, List, [], ◌∷◌, ◌++◌, drop, Option, Some, None, is_some, refl, ap, sym, subst, ◌∙◌, inl, true}
-use Rattle.std.proofs.Math.ListN.{set}
+use Rattle.std.proofs.Common.{◌≡◌, ◌≢◌, ℕ, List, [], ◌∷◌, ◌++◌, drop, Option, Some, is_some, refl, ap, sym, subst, ◌∙◌, inl, true}
 use Rattle.cc_lists.specs.Members.{Among}
 use Rattle.cc_lists.specs.Walks.{first_of}
 use Rattle.cc_names.specs.Names.{native}
@@ -11,8 +10,8 @@ use Rattle.cc_laws_heap.specs.Balance.{IsBalanced}
 use Rattle.cc_purple.specs.Marks.{Marked}
 use Rattle.cc_counted.specs.declared.held.Held.{Held}
 use Rattle.cc_counted.specs.Counts.{is_live}
-use Rattle.cc_counted.specs.Lists.{Placed, Lists, cell_at, keyed, numbers_in, draining_of, IsPlaced, without, taken_out}
-use Rattle.cc_counted.specs.Stored.{Stored, with_lists}
+use Rattle.cc_counted.specs.Lists.{Placed, Lists, cell_at, keyed, numbers_in, draining_of, IsPlaced, taken_out}
+use Rattle.cc_counted.specs.Stored.{Stored, with_queue, without_cell}
 use Rattle.cc_counted.specs.Steps.{GivesUp}
 use Rattle.cc_counted.proofs.TakingOut.{not_behind, not_marked}
 use Rattle.cc_counted.proofs.Freeing.{freed-placed, freed-live, freed-balanced, FreesFront-freed}
@@ -28,13 +27,12 @@ front-there : (l : Lists) → IsPlaced l → (key : ℕ) (keys : List ℕ) → l
 front-there l p key keys front = p.queued key (subst (λ ks. Among key ks) (sym front) (inl refl))
 
 -- the lists with the native in front taken out
-left-lists : (s mid new : Stored) (key : ℕ) → mid ≡ with_lists s (record s.lists { queue = drop 1 s.lists.queue }) →
-    new ≡ with_lists mid (record mid.lists { cells = set mid.lists.cells key None; order = without key mid.lists.order }) → taken_out s.lists key (drop 1 s.lists.queue) ≡ new.lists
+left-lists : (s mid new : Stored) (key : ℕ) → mid ≡ with_queue (drop 1) s → new ≡ without_cell key mid → taken_out s.lists key (drop 1 s.lists.queue) ≡ new.lists
 left-lists s mid new key e f =
-    sym (ap (λ (t : Stored). t.lists) f ∙ ap (λ (t : Stored). record t.lists { cells = set t.lists.cells key None; order = without key t.lists.order }) e)
+    sym (ap (λ (t : Stored). t.lists) f ∙ ap (λ (t : Stored). (without_cell key t).lists) e)
 
 -- the native at the key is still there before
-still-there : (s mid : Stored) (key : ℕ) (c : Placed) → mid ≡ with_lists s (record s.lists { queue = drop 1 s.lists.queue }) → cell_at mid.lists.cells key ≡ Some c → cell_at s.lists.cells key ≡ Some c
+still-there : (s mid : Stored) (key : ℕ) (c : Placed) → mid ≡ with_queue (drop 1) s → cell_at mid.lists.cells key ≡ Some c → cell_at s.lists.cells key ≡ Some c
 still-there s mid key c e at = sym (ap (λ (t : Stored). cell_at t.lists.cells key) e) ∙ at
 
 pub remove-cell-requires-clause-live : goal.remove-cell-requires-clause-live

@@ -1,7 +1,7 @@
 use Rattle.std.proofs.Common.{◌≡◌, ◌≤◌, ℕ, [], ◌∷◌, ◌++◌, List, true, ap, arith, sym, subst, ◌∙◌}
 use Rattle.cc_lists.specs.Members.{Among}
 use Rattle.cc_purple.specs.Marks.{with_mark, without_key}
-use Rattle.cc_counted.specs.Stored.{Stored}
+use Rattle.cc_counted.specs.Stored.{Stored, with_queue, with_marks}
 use Rattle.cc_counted.proofs.StepsOf.{count-placed, GivesUp-suspected, GivesUp-waiting, counted, idle}
 use Rattle.cc_counted.proofs.natives.Natives.give_up.Goals as goal
 
@@ -22,7 +22,7 @@ returns-then-lower-gt0-clause-gives_up c =
     let (owned, placed, at, balance) = c.requires.balanced in
     let more : 2 ≤ placed.count = omega (arith, c.lower.ensures.count, count-placed l c.requires.placed c.args.key.0 placed at, c.if-lower-gt0.true) in
     GivesUp-suspected l c.requires.placed c.args.key.0 placed at more c.suspect.new.self.lists
-    (ap (λ (s : Stored). s.lists) c.suspect.ensures ∙ ap (λ (s : Stored). record s.lists { marks = with_mark true c.args.key.0 s.lists.marks }) c.lower.ensures.lists)
+    (ap (λ (s : Stored). s.lists) (c.suspect.ensures ∙ ap (with_marks (with_mark true c.args.key.0)) c.lower.ensures.lists))
 
 pub returns-else-lower-gt0-clause-gives_up : goal.returns-else-lower-gt0-clause-gives_up
 returns-else-lower-gt0-clause-gives_up c =
@@ -30,6 +30,5 @@ returns-else-lower-gt0-clause-gives_up c =
     let (owned, placed, at, balance) = c.requires.balanced in
     let one : placed.count ≡ 1 = omega (arith, c.lower.ensures.count, count-placed l c.requires.placed c.args.key.0 placed at, c.if-lower-gt0.false) in
     GivesUp-waiting l c.requires.placed c.args.key.0 placed at one c.wait.new.self.lists
-    (ap (λ (s : Stored). s.lists) c.wait.ensures
-    ∙ (ap (λ (s : Stored). record s.lists { queue = s.lists.queue ++ c.args.key.0 ∷ [] }) c.forget.ensures
-    ∙ ap (λ (s : Stored). record s.lists { queue = s.lists.queue ++ c.args.key.0 ∷ []; marks = without_key c.args.key.0 s.lists.marks }) c.lower.ensures.lists))
+    (ap (λ (s : Stored). s.lists) (c.wait.ensures
+    ∙ ap (with_queue (λ keys. keys ++ c.args.key.0 ∷ [])) (c.forget.ensures ∙ ap (with_marks (without_key c.args.key.0)) c.lower.ensures.lists)))

@@ -1,5 +1,4 @@
-use Rattle.std.proofs.Common.{refl, ◌∙◌, ap}
-use Rattle.std.specs.Option.{option_flatten}
+use Rattle.std.proofs.Common.{refl}
 use Rattle.cc_counted.proofs.Threading.{chained-none}
 use Rattle.cc_counted.proofs.natives.Natives.new.Goals as goal
 

@@ -1,4 +1,4 @@
-use Rattle.std.proofs.Common.{[], ◌∷◌, map, ap, sym, subst}
+use Rattle.std.proofs.Common.{[], ◌∷◌, sym, subst}
 use Rattle.cc_laws_heap.specs.Balance.{IsBalanced}
 use Rattle.cc_counted.specs.Counts.{the_number}
 use Rattle.cc_counted.specs.Lists.{keyed, draining_of}

@@ -1,6 +1,5 @@
-use Rattle.std.proofs.Common.{◌≡◌, ◌≢◌, sym, subst}
+use Rattle.std.proofs.Common.{sym, subst}
 use Rattle.cc_lists.specs.Members.{Among}
-use Rattle.cc_purple.specs.Marks.{Marked}
 use Rattle.cc_counted.specs.Stored.{Stored}
 use Rattle.cc_counted.specs.Nodes.{order_links}
 use Rattle.cc_counted.specs.Natives.{slots_in, lists_of}

@@ -1,4 +1,4 @@
-use Rattle.std.proofs.Common.{◌≡◌, ◌<◌, ℕ, List, Option, Some, None, length, get_or, ap, ◌∙◌, option_map, arith, subst, sym}
+use Rattle.std.proofs.Common.{◌≡◌, ◌<◌, ℕ, Option, Some, None, length, get_or, ap, ◌∙◌, option_map, arith, subst, sym}
 use Rattle.std.proofs.Math.ListN.{set}
 use Rattle.cc_counted.specs.declared.held.Held.{Held}
 use Rattle.cc_counted.specs.Counts.{name_of, is_live, numbers_held}
