@@ -7,11 +7,11 @@ use Rattle.cc_chain.specs.Chains.{IsChain}
 use Rattle.cc_chain.proofs.Slots.{chain-made}
 use Rattle.cc_script.specs.declared.links.Order.{Order}
 use Rattle.cc_script.specs.declared.parts.ScriptParts.{ScriptParts}
-use Rattle.cc_script.specs.Lists.{Lists, cell_at, made}
+use Rattle.cc_script.specs.Lists.{cell_at, made}
 use Rattle.cc_script.specs.Cells.{Linked, Beside, cells_of, order_links, waiting_links, beside_order}
 use Rattle.cc_script.specs.Parts.{lists_of, marking_of, IsChained}
 use Rattle.cc_script.proofs.Linking.{cell-read, cell-vacant, cell-other}
-use Rattle.cc_script.proofs.Chained.{lists-are, waiting-are, chained-are}
+use Rattle.cc_script.proofs.Chained.{AreLists, are-lists}
 
 -- the slab has one object more, which is in no list
 pub record IsJoined (p : ScriptParts) (mid : List (Option Linked)) (key : ℕ) (x : Linked) : Type 0 where
@@ -50,25 +50,10 @@ module _ (p : ScriptParts) (h : IsChained p) (mid : List (Option Linked)) (key :
   others-joined k o = cell-other p.cells.slots mid k (j.others k o)
 
   -- and it goes last
-  module _ (cells : Slab Linked) (order : Chain Order) (capacity : ℕ) (pushed : IsChain (order_links cells.slots) order ((lists_of p).order ++ key ∷ []))
-      (rest : beside_order cells ≡ record { cells = cells_of mid; other = waiting_links mid; capacity = capacity }) where
-    abbrev after : ScriptParts
-    after = record { cells = cells; order = order; waiting = p.waiting }
-
-    abbrev lists : Lists
-    lists = made (lists_of p) (cells_of mid) key
-
-    same_cells : cells_of cells.slots ≡ cells_of mid
-    same_cells = ap (λ (b : Beside). b.cells) rest
-
-    same_waiting : IsChain (waiting_links cells.slots) p.waiting (marking_of p).waiting
-    same_waiting = subst (λ links. IsChain links p.waiting (marking_of p).waiting) (sym (ap (λ (b : Beside). b.other) rest)) waiting-joined
-
-    pub lists-joined : lists_of (record { cells = cells; order = order; waiting = p.waiting }) ≡ made (lists_of p) (cells_of mid) key
-    lists-joined = lists-are after lists (marking_of p).waiting same_cells pushed same_waiting
-
-    pub waiting-after : (marking_of (record { cells = cells; order = order; waiting = p.waiting })).waiting ≡ (marking_of p).waiting
-    waiting-after = waiting-are after lists (marking_of p).waiting same_cells pushed same_waiting
-
-    pub chained-joined : IsChained (record { cells = cells; order = order; waiting = p.waiting })
-    chained-joined = chained-are after lists (marking_of p).waiting same_cells pushed same_waiting
+  pub lists-joined : (cells : Slab Linked) (order : Chain Order) (capacity : ℕ) → IsChain (order_links cells.slots) order ((lists_of p).order ++ key ∷ []) →
+      beside_order cells ≡ record { cells = cells_of mid; other = waiting_links mid; capacity = capacity } →
+      AreLists (record { cells = cells; order = order; waiting = p.waiting }) (made (lists_of p) (cells_of mid) key) (marking_of p).waiting
+  lists-joined cells order capacity pushed rest = are-lists (record { cells = cells; order = order; waiting = p.waiting }) (made (lists_of p) (cells_of mid) key) (marking_of p).waiting
+      (ap (λ (b : Beside). b.cells) rest)
+      pushed
+      (subst (λ links. IsChain links p.waiting (marking_of p).waiting) (sym (ap (λ (b : Beside). b.other) rest)) waiting-joined)

@@ -12,7 +12,7 @@ use Rattle.cc_script.specs.Parts.{lists_of, shows}
 use Rattle.cc_script.proofs.Painting.{IsPlaced-painted, objects-painted}
 use Rattle.cc_script.proofs.Whitening.{IsFading, fading-start, fading-next, fading-end}
 use Rattle.cc_script.proofs.Stepping.{left_of, walk-begins, walk-stands, walk-among, walk-left, walk-next_stands}
-use Rattle.cc_script.proofs.Chained.{order-kept, lists-kept, waiting-same, chained-kept}
+use Rattle.cc_script.proofs.Chained.{order-kept, lists-kept}
 use Rattle.cc_script.proofs.InOrder.{HasColourOrder-whitened}
 use Rattle.cc_script.proofs.parts.ScriptParts.clear_marks.Goals as goal
 
@@ -70,17 +70,17 @@ loop-at-preserved c =
     let among = walk-among order c.loop-at.at key c.in-Some.is i.stands in
     let f = i.placed.in_order key (subst (Among key) (sym i.same_order) among) in
     let on = c.next-at.ensures l.order (order-kept p i.chained c.paint.new.cells changes.order changes.waiting) ∙ ap (λ ks. first_of (behind key ks)) i.same_order in
-    let kept = lists-kept p i.chained c.paint.new.cells changes.order changes.waiting in
-    let shown = ap objects_of kept ∙ objects-painted l i.placed key f.0 f.1 White (cells_of c.paint.new.cells.slots) changes.cells (with_colour White) refl in
+    let a = lists-kept p i.chained c.paint.new.cells changes.order changes.waiting in
+    let shown = ap objects_of a.lists ∙ objects-painted l i.placed key f.0 f.1 White (cells_of c.paint.new.cells.slots) changes.cells (with_colour White) refl in
     let left = walk-left order c.loop-at.at c.requires.at_rest.placed.once key c.in-Some.is i.stands c.next-at.result on in
     record {
       fading = subst (λ (os : List Object). IsFading before os order (left_of order c.next-at.result)) (sym shown)
           (fading-next before (shows p) order (left_of order c.loop-at.at) (left_of order c.next-at.result) key left i.fading);
       stands = walk-next_stands order c.loop-at.at c.requires.at_rest.placed.once key c.in-Some.is i.stands c.next-at.result on;
-      same_order = ap (λ (m : Lists). m.order) kept ∙ i.same_order;
-      placed = subst IsPlaced (sym kept) (IsPlaced-painted l i.placed key f.0 f.1 White (cells_of c.paint.new.cells.slots) changes.cells);
-      chained = chained-kept p i.chained c.paint.new.cells changes.order changes.waiting;
-      none_wait = waiting-same p i.chained c.paint.new.cells changes.order changes.waiting ∙ i.none_wait;
+      same_order = ap (λ (m : Lists). m.order) a.lists ∙ i.same_order;
+      placed = subst IsPlaced (sym a.lists) (IsPlaced-painted l i.placed key f.0 f.1 White (cells_of c.paint.new.cells.slots) changes.cells);
+      chained = a.chained;
+      none_wait = a.waits ∙ i.none_wait;
       memory = changes.capacity ∙ i.memory;
     }
 

@@ -1,5 +1,4 @@
-use Rattle.std.proofs.Common.{◌≡◌, ◌≢◌, ◌≤◌, ℕ, zero, suc, List, [], ◌∷◌, ◌++◌, map, length, replicate, Option, None, option_map, refl, ap, sym, subst, ◌∙◌, arith}
-use Rattle.std.specs.Prelude.{slice_index_or}
+use Rattle.std.proofs.Common.{◌≡◌, ◌≤◌, ℕ, zero, suc, List, [], ◌∷◌, ◌++◌, map, length, replicate, Option, None, option_map, refl, ap, sym, subst, ◌∙◌, arith}
 use Rattle.slab.specs.Slab.{Slab}
 use Rattle.std.proofs.lemmas.List.{length-replicate}
 use Rattle.cc_names.specs.declared.number.NKey.{NKey}
@@ -9,14 +8,13 @@ use Rattle.cc_names.specs.declared.kind.Colour.TheVariants.{Black}
 use Rattle.cc_script.specs.Objects.{new_object}
 use Rattle.cc_script.specs.ColourOrder.{HasColourOrder}
 use Rattle.cc_script.specs.Lists.{Placed, with_key, objects_of, IsPlaced}
-use Rattle.cc_script.specs.Cells.{Linked, cells_of}
+use Rattle.cc_script.specs.Cells.{Linked}
 use Rattle.cc_script.specs.Parts.{lists_of, shows}
 use Rattle.cc_script.proofs.Places.{is_there-none}
 use Rattle.cc_script.proofs.Making.{IsPlaced-made, objects-made}
 use Rattle.cc_script.proofs.InOrder.{HasColourOrder-made}
 use Rattle.cc_script.proofs.Reading.{held_key}
-use Rattle.cc_script.proofs.Linking.{cell-vacant}
-use Rattle.cc_script.proofs.Joining.{joined, order-joined, vacant-joined, at-joined, others-joined, lists-joined, waiting-after, chained-joined}
+use Rattle.cc_script.proofs.Joining.{joined, order-joined, vacant-joined, at-joined, others-joined, lists-joined}
 use Rattle.cc_script.proofs.parts.ScriptParts.create.Goals as goal
 
 -- an empty slot, and some
@@ -48,7 +46,7 @@ returns-clause-made c =
     let pushed = c.push_back.ensures.keys l.order (order-joined p h _ _ _ j) in
     let native = option_map (λ (k : NKey). k.0) c.args.native in
     let empty = ap (map held_key) c.in_ok-empty.ensures ∙ empty-slots c.args.slots in
-    ap objects_of (lists-joined p h _ _ _ j c.push_back.new.store c.push_back.new.self _ pushed c.push_back.ensures.rest)
+    ap objects_of (lists-joined p h _ _ _ j c.push_back.new.store c.push_back.new.self _ pushed c.push_back.ensures.rest).lists
     ∙ (objects-made l c.requires.at_rest.placed _ _ _ (vacant-joined p h _ _ _ j) (at-joined p h _ _ _ j) (others-joined p h _ _ _ j)
     ∙ ap (λ ys. shows p ++ with_key c.insert_reserved-key.result (new_placed c.args.name c.args.kind native ys) ∷ []) empty)
 
@@ -70,11 +68,12 @@ returns-clause-at_rest c =
     let native = option_map (λ (k : NKey). k.0) c.args.native in
     let empty : map held_key c.in_ok-empty.empty.items ≡ replicate c.args.slots None = ap (map held_key) c.in_ok-empty.ensures ∙ empty-slots c.args.slots in
     let few : length (map held_key c.in_ok-empty.empty.items) ≤ 64 = omega (arith, ap length empty, length-replicate c.args.slots nothing, c.requires.slots) in
+    let a = lists-joined p h _ _ _ j c.push_back.new.store c.push_back.new.self _ pushed c.push_back.ensures.rest in
     record {
-      placed = subst IsPlaced (sym (lists-joined p h _ _ _ j c.push_back.new.store c.push_back.new.self _ pushed c.push_back.ensures.rest))
+      placed = subst IsPlaced (sym a.lists)
           (IsPlaced-made l c.requires.at_rest.placed _ _ _ (vacant-joined p h _ _ _ j) (at-joined p h _ _ _ j) (others-joined p h _ _ _ j) few c.requires.fits);
-      chained = chained-joined p h _ _ _ j c.push_back.new.store c.push_back.new.self _ pushed c.push_back.ensures.rest;
+      chained = a.chained;
       coloured = subst HasColourOrder (sym (returns-clause-made c))
           (HasColourOrder-made (shows p) (new_object c.insert_reserved-key.result c.args.name c.args.kind native c.args.slots) c.args.slots refl c.requires.at_rest.coloured);
-      emptied = waiting-after p h _ _ _ j c.push_back.new.store c.push_back.new.self _ pushed c.push_back.ensures.rest ∙ c.requires.at_rest.emptied;
+      emptied = a.waits ∙ c.requires.at_rest.emptied;
     }

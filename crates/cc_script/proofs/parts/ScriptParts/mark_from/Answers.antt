@@ -11,7 +11,7 @@ use Rattle.cc_script.proofs.Reaching.{reached-there}
 use Rattle.cc_script.proofs.Raising.{raise_each-spends, raised-none, raised-front}
 use Rattle.cc_script.proofs.Walks.{IsWalk, walk-start, walk-reached, walk-held, walk-next, walk-end, walk-there, walk-coloured}
 use Rattle.cc_script.proofs.Popping.{front-popped, none-popped, popped-does}
-use Rattle.cc_script.proofs.Chained.{lists-waiting, marking-waiting, chained-waiting}
+use Rattle.cc_script.proofs.Chained.{lists-waiting, marking-is}
 use Rattle.cc_script.proofs.parts.ScriptParts.mark_from.Goals as goal
 
 pub raise-requires-clause-under_way : goal.raise-requires-clause-under_way
@@ -39,11 +39,12 @@ raise_each-requires-clause-under_way c =
     let m = marking_of p in
     let u = c.loop-next.invariant.under_way in
     let popped = c.pop_front.ensures.keys m.waiting u.chained.waiting in
+    let a = lists-waiting p u.chained c.pop_front.new.store c.pop_front.new.self _ popped c.pop_front.ensures.rest in
     let front = front-popped m.waiting c.in-Some.next (c.in-Some.ensures.first m.waiting u.chained.waiting) in
     record {
-      placed = subst IsPlaced (sym (lists-waiting p u.chained c.pop_front.new.store c.pop_front.new.self _ popped c.pop_front.ensures.rest)) u.placed;
-      chained = chained-waiting p u.chained c.pop_front.new.store c.pop_front.new.self _ popped c.pop_front.ensures.rest;
-      raised = subst (AreRaised c.args.to) (sym (marking-waiting p u.chained c.pop_front.new.store c.pop_front.new.self _ popped c.pop_front.ensures.rest))
+      placed = subst IsPlaced (sym a.lists) u.placed;
+      chained = a.chained;
+      raised = subst (AreRaised c.args.to) (sym (marking-is _ _ _ a))
           (raised-front c.args.to m c.in-Some.next (drop 1 m.waiting) front u.raised);
     }
 
@@ -54,8 +55,9 @@ raise_each-requires-clause-live c =
     let m = marking_of p in
     let u = c.loop-next.invariant.under_way in
     let popped = c.pop_front.ensures.keys m.waiting u.chained.waiting in
+    let a = lists-waiting p u.chained c.pop_front.new.store c.pop_front.new.self _ popped c.pop_front.ensures.rest in
     let front = front-popped m.waiting c.in-Some.next (c.in-Some.ensures.first m.waiting u.chained.waiting) in
-    ap (λ (l : Lists). is_there (objects_of l) c.in-Some.next) (lists-waiting p u.chained c.pop_front.new.store c.pop_front.new.self _ popped c.pop_front.ensures.rest)
+    ap (λ (l : Lists). is_there (objects_of l) c.in-Some.next) a.lists
     ∙ (walk-there before c.args.key.0 c.args.to m c.loop-next.invariant.walk c.in-Some.next
     ∙ reached-there before c.requires.whole c.args.key.0 c.requires.live c.in-Some.next
     (walk-reached before c.args.key.0 c.args.to m c.loop-next.invariant.walk c.in-Some.next (drop 1 m.waiting) front))
@@ -67,8 +69,9 @@ raise_each-requires-clause-held c q n =
     let m = marking_of p in
     let u = c.loop-next.invariant.under_way in
     let popped = c.pop_front.ensures.keys m.waiting u.chained.waiting in
+    let a = lists-waiting p u.chained c.pop_front.new.store c.pop_front.new.self _ popped c.pop_front.ensures.rest in
     let front = front-popped m.waiting c.in-Some.next (c.in-Some.ensures.first m.waiting u.chained.waiting) in
-    let lists = lists-waiting p u.chained c.pop_front.new.store c.pop_front.new.self _ popped c.pop_front.ensures.rest in
+    let lists = a.lists in
     ap (λ (l : Lists). is_there (objects_of l) q) lists
     ∙ (walk-there before c.args.key.0 c.args.to m c.loop-next.invariant.walk q
     ∙ reached-there before c.requires.whole c.args.key.0 c.requires.live q
@@ -81,10 +84,11 @@ loop-next-smaller c =
     let m = marking_of p in
     let u = c.loop-next.invariant.under_way in
     let popped = c.pop_front.ensures.keys m.waiting u.chained.waiting in
+    let a = lists-waiting p u.chained c.pop_front.new.store c.pop_front.new.self _ popped c.pop_front.ensures.rest in
     let front = front-popped m.waiting c.in-Some.next (c.in-Some.ensures.first m.waiting u.chained.waiting) in
     let rest : Marking = record { objects = shows p; waiting = drop 1 m.waiting } in
-    let lists = lists-waiting p u.chained c.pop_front.new.store c.pop_front.new.self _ popped c.pop_front.ensures.rest in
-    let marks = marking-waiting p u.chained c.pop_front.new.store c.pop_front.new.self _ popped c.pop_front.ensures.rest in
+    let lists = a.lists in
+    let marks = marking-is _ _ _ a in
     let raises : marking_of c.raise_each.new.self ≡ raise_each c.args.to (slots_at (shows p) c.in-Some.next) rest =
     c.raise_each.ensures.raises ∙ (λ i. raise_each c.args.to (slots_at (objects_of (lists i)) c.in-Some.next) (marks i)) in
     omega (
@@ -101,10 +105,11 @@ loop-next-preserved c =
     let m = marking_of p in
     let u = c.loop-next.invariant.under_way in
     let popped = c.pop_front.ensures.keys m.waiting u.chained.waiting in
+    let a = lists-waiting p u.chained c.pop_front.new.store c.pop_front.new.self _ popped c.pop_front.ensures.rest in
     let front = front-popped m.waiting c.in-Some.next (c.in-Some.ensures.first m.waiting u.chained.waiting) in
     let rest : Marking = record { objects = shows p; waiting = drop 1 m.waiting } in
-    let lists = lists-waiting p u.chained c.pop_front.new.store c.pop_front.new.self _ popped c.pop_front.ensures.rest in
-    let marks = marking-waiting p u.chained c.pop_front.new.store c.pop_front.new.self _ popped c.pop_front.ensures.rest in
+    let lists = a.lists in
+    let marks = marking-is _ _ _ a in
     let raises : marking_of c.raise_each.new.self ≡ raise_each c.args.to (slots_at (shows p) c.in-Some.next) rest =
     c.raise_each.ensures.raises ∙ (λ i. raise_each c.args.to (slots_at (objects_of (lists i)) c.in-Some.next) (marks i)) in
     record {
@@ -121,8 +126,9 @@ returns-clause-shows c =
     let m = marking_of p in
     let u = c.loop-next.invariant.under_way in
     let popped = c.pop_front.ensures.keys m.waiting u.chained.waiting in
+    let a = lists-waiting p u.chained c.pop_front.new.store c.pop_front.new.self _ popped c.pop_front.ensures.rest in
     let emptied = none-popped m.waiting (sym c.in_default.is ∙ c.pop_front.ensures.first m.waiting u.chained.waiting) in
-    ap objects_of (lists-waiting p u.chained c.pop_front.new.store c.pop_front.new.self _ popped c.pop_front.ensures.rest)
+    ap objects_of a.lists
     ∙ walk-end before c.args.key.0 c.args.to (object_at-own (lists_of c.args.self.now) c.requires.at_rest.placed) c.requires.at_rest.coloured m c.loop-next.invariant.walk emptied
 
 pub returns-clause-at_rest : goal.returns-clause-at_rest
@@ -132,13 +138,14 @@ returns-clause-at_rest c =
     let m = marking_of p in
     let u = c.loop-next.invariant.under_way in
     let popped = c.pop_front.ensures.keys m.waiting u.chained.waiting in
+    let a = lists-waiting p u.chained c.pop_front.new.store c.pop_front.new.self _ popped c.pop_front.ensures.rest in
     let emptied = none-popped m.waiting (sym c.in_default.is ∙ c.pop_front.ensures.first m.waiting u.chained.waiting) in
     record {
-      placed = subst IsPlaced (sym (lists-waiting p u.chained c.pop_front.new.store c.pop_front.new.self _ popped c.pop_front.ensures.rest)) u.placed;
-      chained = chained-waiting p u.chained c.pop_front.new.store c.pop_front.new.self _ popped c.pop_front.ensures.rest;
+      placed = subst IsPlaced (sym a.lists) u.placed;
+      chained = a.chained;
       coloured = subst HasColourOrder (sym (returns-clause-shows c))
           (walk-coloured before c.args.key.0 c.args.to (object_at-own (lists_of c.args.self.now) c.requires.at_rest.placed) c.requires.at_rest.coloured c.requires.whole);
-      emptied = ap (λ (z : Marking). z.waiting) (marking-waiting p u.chained c.pop_front.new.store c.pop_front.new.self _ popped c.pop_front.ensures.rest) ∙ ap (drop 1) emptied;
+      emptied = a.waits ∙ ap (drop 1) emptied;
     }
 
 pub returns-clause-memory : goal.returns-clause-memory

@@ -6,7 +6,7 @@ use Rattle.cc_script.specs.Lists.{Lists, objects_of, IsPlaced}
 use Rattle.cc_script.specs.Cells.{Linked, cells_of}
 use Rattle.cc_script.proofs.Making.{no_lists, IsPlaced-none}
 use Rattle.cc_script.proofs.InOrder.{HasColourOrder-none}
-use Rattle.cc_script.proofs.Chained.{lists-are, waiting-are, chained-are}
+use Rattle.cc_script.proofs.Chained.{are-lists}
 use Rattle.cc_script.proofs.parts.ScriptParts.new.Goals as goal
 
 pub returns-clause-at_rest : goal.returns-clause-at_rest
@@ -15,10 +15,10 @@ returns-clause-at_rest c =
     let cells = ap cells_of c.new.ensures.empty in
     let order = c.new-2.ensures _ (slots-none (λ (z : Linked). z.order) c.new.result.slots c.new.ensures.empty) in
     let waiting = c.new-3.ensures _ (slots-none (λ (z : Linked). z.waiting) c.new.result.slots c.new.ensures.empty) in
-    let lists = lists-are p no_lists [] cells order waiting in
+    let a = are-lists p no_lists [] cells order waiting in
     record {
-      placed = subst IsPlaced (sym lists) IsPlaced-none;
-      chained = chained-are p no_lists [] cells order waiting;
-      coloured = subst (λ (l : Lists). HasColourOrder (objects_of l)) (sym lists) HasColourOrder-none;
-      emptied = waiting-are p no_lists [] cells order waiting;
+      placed = subst IsPlaced (sym a.lists) IsPlaced-none;
+      chained = a.chained;
+      coloured = subst (λ (l : Lists). HasColourOrder (objects_of l)) (sym a.lists) HasColourOrder-none;
+      emptied = a.waits;
     }

@@ -1,7 +1,6 @@
 use Rattle.std.proofs.Common.{◌≡◌, ℕ, List, [], ◌∷◌, ◌++◌, true, false, ap, sym, subst, ◌∙◌}
 use Rattle.cc_chain.specs.Links.{is_live}
 use Rattle.cc_chain.proofs.Slots.{absent-free, held-live}
-use Rattle.cc_script.specs.declared.parts.ScriptParts.{ScriptParts}
 use Rattle.cc_script.specs.Objects.{Object, object_at, is_below, raised}
 use Rattle.cc_script.specs.Lists.{with_key, objects_of, IsPlaced}
 use Rattle.cc_script.specs.Cells.{Linked, cells_of, waiting_links}
@@ -11,7 +10,7 @@ use Rattle.cc_script.proofs.Places.{object_at-placed, live-some}
 use Rattle.cc_script.proofs.Linking.{cell-held}
 use Rattle.cc_script.proofs.Painting.{IsPlaced-painted, objects-painted}
 use Rattle.cc_script.proofs.Colours.{raised-below}
-use Rattle.cc_script.proofs.Chained.{waiting-kept, lists-kept, chained-kept, lists-waiting, marking-waiting, chained-waiting}
+use Rattle.cc_script.proofs.Chained.{waiting-kept, lists-kept, lists-waiting, marking-is}
 use Rattle.cc_script.proofs.Raising.{raise_key-lower, raise_key-enough, raise_key-raised, lower-absent}
 use Rattle.cc_script.proofs.parts.ScriptParts.raise.Goals as goal
 
@@ -53,12 +52,12 @@ returns-then-is_below-clause-raises c =
     let below : is_below c.cell.result.now.placed.colour c.args.to ≡ true =
     ap (λ (z : Linked). is_below z.placed.colour c.args.to) (sym c.behind-self.view_is) ∙ (sym c.is_below.ensures ∙ c.if-is_below.true) in
     let lower : is_lower c.args.to (object_at (shows p) c.args.key.0) ≡ true = ap (is_lower c.args.to) (object_at-placed l at c.args.key.0 c.cell.result.now.placed c.cell.ensures) ∙ below in
-    let painted : ScriptParts = record { cells = c.paint.new.cells; order = p.order; waiting = p.waiting } in
+    let painted = lists-kept p h c.paint.new.cells changes.order changes.waiting in
     let pushed = c.push_back.ensures.keys (marking_of p).waiting (waiting-kept p h c.paint.new.cells changes.order changes.waiting) in
-    let objects = ap objects_of (lists-kept p h c.paint.new.cells changes.order changes.waiting)
+    let objects = ap objects_of painted.lists
     ∙ objects-painted l at c.args.key.0 c.cell.result.now.placed c.cell.ensures c.args.to (cells_of c.paint.new.cells.slots) changes.cells (raised c.args.to)
     (raised-below c.args.to (with_key c.args.key.0 c.cell.result.now.placed) below) in
-    marking-waiting painted (chained-kept p h c.paint.new.cells changes.order changes.waiting) c.push_back.new.store c.push_back.new.self _ pushed c.push_back.ensures.rest
+    marking-is _ _ _ (lists-waiting (record p { cells = c.paint.new.cells }) painted.chained c.push_back.new.store c.push_back.new.self _ pushed c.push_back.ensures.rest)
     ∙ (ap (λ os. marking os ((marking_of p).waiting ++ c.args.key.0 ∷ [])) objects ∙ sym (raise_key-lower c.args.to c.args.key.0 (marking_of p) lower))
 
 pub returns-then-is_below-clause-under_way : goal.returns-then-is_below-clause-under_way
@@ -66,16 +65,14 @@ returns-then-is_below-clause-under_way c =
     let p = c.args.self.now in
     let l = lists_of p in
     let h = c.requires.under_way.chained in
-    let at = c.requires.under_way.placed in
     let changes = c.paint.ensures.changes in
-    let painted : ScriptParts = record { cells = c.paint.new.cells; order = p.order; waiting = p.waiting } in
-    let kept = chained-kept p h c.paint.new.cells changes.order changes.waiting in
+    let painted = lists-kept p h c.paint.new.cells changes.order changes.waiting in
     let pushed = c.push_back.ensures.keys (marking_of p).waiting (waiting-kept p h c.paint.new.cells changes.order changes.waiting) in
+    let a = lists-waiting (record p { cells = c.paint.new.cells }) painted.chained c.push_back.new.store c.push_back.new.self _ pushed c.push_back.ensures.rest in
     record {
-      placed = subst IsPlaced (sym (lists-waiting painted kept c.push_back.new.store c.push_back.new.self _ pushed c.push_back.ensures.rest
-          ∙ lists-kept p h c.paint.new.cells changes.order changes.waiting))
-          (IsPlaced-painted l at c.args.key.0 c.cell.result.now.placed c.cell.ensures c.args.to (cells_of c.paint.new.cells.slots) changes.cells);
-      chained = chained-waiting painted kept c.push_back.new.store c.push_back.new.self _ pushed c.push_back.ensures.rest;
+      placed = subst IsPlaced (sym (a.lists ∙ painted.lists))
+          (IsPlaced-painted l c.requires.under_way.placed c.args.key.0 c.cell.result.now.placed c.cell.ensures c.args.to (cells_of c.paint.new.cells.slots) changes.cells);
+      chained = a.chained;
       raised = subst (AreRaised c.args.to) (sym (returns-then-is_below-clause-raises c)) (raise_key-raised c.args.to c.args.key.0 (marking_of p) c.requires.under_way.raised);
     }
 

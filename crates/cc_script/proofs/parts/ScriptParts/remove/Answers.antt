@@ -8,7 +8,7 @@ use Rattle.cc_script.proofs.Places.{live-cell, live-some}
 use Rattle.cc_script.proofs.Keys.{coloured-there}
 use Rattle.cc_script.proofs.Leaving.{IsPlaced-left, objects-left}
 use Rattle.cc_script.proofs.Linking.{cell-held}
-use Rattle.cc_script.proofs.Parting.{lists-parted, waiting-left, chained-parted}
+use Rattle.cc_script.proofs.Parting.{lists-parted}
 use Rattle.cc_script.proofs.InOrder.{HasColourOrder-without}
 use Rattle.cc_script.proofs.parts.ScriptParts.remove.Goals as goal
 
@@ -35,11 +35,9 @@ returns-clause-shows c =
     let l = lists_of p in
     let h = c.requires.at_rest.chained in
     let f = live-cell l c.requires.at_rest.placed c.args.key.0 (coloured-there (shows p) c.args.key.0 _ c.requires.white) in
-    let unlinked = c.unlink_at.ensures.keys l.order h.order in
     let removed = c.remove-cell.ensures in
-    ap objects_of (lists-parted p h c.requires.at_rest.emptied c.args.key.0 c.unlink_at.new.store c.unlink_at.new.self unlinked c.unlink_at.ensures.rest
-    c.remove-cell.result removed.value c.remove-cell.new.self removed.slots removed.updates.changed removed.updates.others)
-    ∙ objects-left l c.requires.at_rest.placed c.args.key.0 f.0 f.1
+    let a = lists-parted p h c.requires.at_rest.emptied c.args.key.0 _ _ (c.unlink_at.ensures.keys l.order h.order) c.unlink_at.ensures.rest _ _ removed.value removed.slots removed.updates in
+    ap objects_of a.lists ∙ objects-left l c.requires.at_rest.placed c.args.key.0 f.0 f.1
 
 pub returns-clause-at_rest : goal.returns-clause-at_rest
 returns-clause-at_rest c =
@@ -47,16 +45,11 @@ returns-clause-at_rest c =
     let l = lists_of p in
     let h = c.requires.at_rest.chained in
     let f = live-cell l c.requires.at_rest.placed c.args.key.0 (coloured-there (shows p) c.args.key.0 _ c.requires.white) in
-    let unlinked = c.unlink_at.ensures.keys l.order h.order in
     let removed = c.remove-cell.ensures in
+    let a = lists-parted p h c.requires.at_rest.emptied c.args.key.0 _ _ (c.unlink_at.ensures.keys l.order h.order) c.unlink_at.ensures.rest _ _ removed.value removed.slots removed.updates in
     record {
-      placed = subst IsPlaced
-          (sym (lists-parted p h c.requires.at_rest.emptied c.args.key.0 c.unlink_at.new.store c.unlink_at.new.self unlinked c.unlink_at.ensures.rest
-          c.remove-cell.result removed.value c.remove-cell.new.self removed.slots removed.updates.changed removed.updates.others))
-          (IsPlaced-left l c.requires.at_rest.placed c.args.key.0 f.0 f.1);
-      chained = chained-parted p h c.requires.at_rest.emptied c.args.key.0 c.unlink_at.new.store c.unlink_at.new.self unlinked c.unlink_at.ensures.rest
-          c.remove-cell.result removed.value c.remove-cell.new.self removed.slots removed.updates.changed removed.updates.others;
+      placed = subst IsPlaced (sym a.lists) (IsPlaced-left l c.requires.at_rest.placed c.args.key.0 f.0 f.1);
+      chained = a.chained;
       coloured = subst HasColourOrder (sym (returns-clause-shows c)) (HasColourOrder-without (shows p) c.args.key.0 c.requires.at_rest.coloured c.requires.white);
-      emptied = waiting-left p h c.requires.at_rest.emptied c.args.key.0 c.unlink_at.new.store c.unlink_at.new.self unlinked c.unlink_at.ensures.rest
-          c.remove-cell.result removed.value c.remove-cell.new.self removed.slots removed.updates.changed removed.updates.others ∙ c.requires.at_rest.emptied;
+      emptied = a.waits ∙ c.requires.at_rest.emptied;
     }

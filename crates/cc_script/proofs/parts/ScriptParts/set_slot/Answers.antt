@@ -7,7 +7,7 @@ use Rattle.cc_script.specs.Parts.{lists_of, shows}
 use Rattle.cc_script.proofs.Places.{live-cell, live-some, slots_at-placed, object_at-own}
 use Rattle.cc_script.proofs.Reading.{held_key}
 use Rattle.cc_script.proofs.Writing.{IsPlaced-written, objects-written, each-held}
-use Rattle.cc_script.proofs.Chained.{lists-kept, waiting-same, chained-kept}
+use Rattle.cc_script.proofs.Chained.{lists-kept}
 use Rattle.cc_script.proofs.InOrder.{HasColourOrder-written}
 use Rattle.cc_script.proofs.parts.ScriptParts.set_slot.Goals as goal
 
@@ -26,7 +26,7 @@ returns-clause-shows c =
     let l = lists_of p in
     let changes = c.write.ensures.changes in
     let f = live-cell l c.requires.at_rest.placed c.args.key.0 c.requires.live in
-    ap objects_of (lists-kept p c.requires.at_rest.chained c.write.new.cells changes.order changes.waiting)
+    ap objects_of (lists-kept p c.requires.at_rest.chained c.write.new.cells changes.order changes.waiting).lists
     ∙ objects-written l c.requires.at_rest.placed c.args.key.0 f.0 f.1 c.args.i (held_key c.args.item) (cells_of c.write.new.cells.slots) changes.cells
 
 pub returns-clause-at_rest : goal.returns-clause-at_rest
@@ -36,13 +36,14 @@ returns-clause-at_rest c =
     let objects = shows p in
     let changes = c.write.ensures.changes in
     let f = live-cell l c.requires.at_rest.placed c.args.key.0 c.requires.live in
+    let a = lists-kept p c.requires.at_rest.chained c.write.new.cells changes.order changes.waiting in
     record {
-      placed = subst IsPlaced (sym (lists-kept p c.requires.at_rest.chained c.write.new.cells changes.order changes.waiting))
+      placed = subst IsPlaced (sym a.lists)
           (IsPlaced-written l c.requires.at_rest.placed c.args.key.0 f.0 f.1 c.args.i (held_key c.args.item) (cells_of c.write.new.cells.slots) changes.cells);
-      chained = chained-kept p c.requires.at_rest.chained c.write.new.cells changes.order changes.waiting;
+      chained = a.chained;
       coloured = subst HasColourOrder (sym (returns-clause-shows c))
           (HasColourOrder-written objects c.requires.at_rest.coloured (object_at-own l c.requires.at_rest.placed) c.args.key.0 c.args.i (held_key c.args.item)
           (each-held (λ q. is_there objects q ≡ true) c.args.item c.requires.item_live)
           (each-held (λ q. IsNotBelow (colour_at objects q) (colour_at objects c.args.key.0)) c.args.item c.requires.colours));
-      emptied = waiting-same p c.requires.at_rest.chained c.write.new.cells changes.order changes.waiting ∙ c.requires.at_rest.emptied;
+      emptied = a.waits ∙ c.requires.at_rest.emptied;
     }
