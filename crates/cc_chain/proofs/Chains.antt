@@ -1,5 +1,5 @@
 -- A chain after each call: what its store has then is the list that the call leaves.
-use Rattle.std.proofs.Common.{◌≡◌, ℕ, ◌+◌, ◌<◌, count_by, Bool, true, false, not, zero, suc, ◌≤◌, List, [], ◌∷◌, ◌++◌, length, arith, Option, Some, None, is_some, drop, refl, sym, ◌∙◌, ap, subst, inl, inr, ⊎_elim, if◌then◌else◌}
+use Rattle.std.proofs.Common.{◌≡◌, ℕ, ◌+◌, count_by, Bool, true, false, not, zero, suc, ◌≤◌, List, [], ◌∷◌, ◌++◌, length, arith, Option, Some, None, is_some, drop, refl, sym, ◌∙◌, ap, subst, inl, inr, ⊎_elim, if◌then◌else◌}
 use Rattle.std.specs.Prelude.{◌==◌, IsTrue, IfSome}
 use Rattle.std.specs.Option.{option_flatten}
 use Rattle.std.proofs.lemmas.Bool.{true≢false, eqb-true, eq-eqb, ne_eqb}
