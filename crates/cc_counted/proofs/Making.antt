@@ -10,6 +10,7 @@ use Rattle.cc_model.specs.Heap as heap
 use Rattle.cc_model.specs.WellFormed.{IsRising}
 use Rattle.cc_laws_heap.proofs.Natives.{native_at-named}
 use Rattle.cc_laws_heap.proofs.Rising.{IsRising-tail, IsRising-first, IsRising-cons}
+use Rattle.cc_laws_heap.proofs.Making.{IsRising-push}
 use Rattle.cc_counted.specs.declared.held.Held.{Held}
 use Rattle.cc_counted.specs.Counts.{number_at, number_or_none, the_number, name_of, is_live, heap_of}
 use Rattle.cc_counted.specs.Owning.{HasKeys, Makes}
@@ -34,14 +35,6 @@ HasKeys-placed l p = record {
       one_key l p a b c.0 d.0 c.1 d.1 (c.2 ∙ sym d.2);
   rising = natives-rising l p;
 }
-
--- a number above all goes last
-pub IsRising-last : (ks : List ℕ) (n : ℕ) → IsRising ks → ((k : ℕ) → Among k ks → k < n) → IsRising (ks ++ n ∷ [])
-IsRising-last [] n r above = tt
-IsRising-last (k ∷ ks) n r above =
-    IsRising-cons k (ks ++ n ∷ [])
-    (λ j m. ⊎_elim (λ t. IsRising-first k ks r j t) (λ t. ⊎_elim (λ e. subst (λ i. k < i) e (above k (inl refl))) (λ x. absurd x) t) (Among-append j ks (n ∷ []) m))
-    (IsRising-last ks n (IsRising-tail k ks r) (λ j m. above j (inr m)))
 
 -- a function over a list of one value
 map-replicate : {X Y : Type 0} (f : X → Y) (n : ℕ) (x : X) → map f (replicate n x) ≡ replicate n (f x)
@@ -105,7 +98,7 @@ module _ (l : Lists) (p : IsPlaced l) (key : ℕ) (d : Placed) (cells : List (Op
     ordered = λ k c e. ⊎_elim
         (λ t. Among-right k l.order (key ∷ []) (inl (sym t.0)))
         (λ t. Among-left k l.order (key ∷ []) (p.ordered k c t)) (cell-cases k c e);
-    rising = subst IsRising (sym numbers-made) (IsRising-last (map (the_number (keyed l.cells)) l.order) d.number p.rising below);
+    rising = subst IsRising (sym numbers-made) (IsRising-push (map (the_number (keyed l.cells)) l.order) d.number p.rising below);
     small = λ k c e. ⊎_elim
         (λ t. let long : length d.slots ≡ size = ap length empty ∙ length-replicate size None in subst (λ (c : Placed). length c.slots ≤ 64) (sym t.1) (omega arith))
         (λ t. p.small k c t) (cell-cases k c e);
