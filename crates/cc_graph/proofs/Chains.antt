@@ -217,6 +217,7 @@ pub place-new : (es : List Edge) (e : Edge) (i start : ℕ) → start ≤ length
 place-new es e i start l same = place-pushed es e i start l ∙ ap (λ b. or_place (place_from es i start) b (length es)) (eq-eqb e.source i same)
 
 pub last-new : (es : List Edge) (e : Edge) (i : ℕ) → e.source ≡ i → IsLast (es ++ e ∷ []) i (Some (length es))
-last-new es e i same =
-    (ap (option_map (λ e. e.source)) (slice-last es e) ∙ ap Some same,
-    subst (λ n. place_from (es ++ e ∷ []) i n ≡ None) (length_push es e) (place-past (es ++ e ∷ []) i))
+last-new es e i same = (
+  ap (option_map (λ e. e.source)) (slice-last es e) ∙ ap Some same,
+  subst (λ n. place_from (es ++ e ∷ []) i n ≡ None) (length_push es e) (place-past (es ++ e ∷ []) i),
+)

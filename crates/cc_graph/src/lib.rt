@@ -8,6 +8,10 @@
 //!
 //! Nodes, references and mappings are only ever added. Memory is taken by `add_node`, also for the day on which the node
 //! becomes black, by `reserve` for references, and by `note_mapping`; no other call takes any.
+//!
+//! Nodes and references stand in blocks that never move, and no call walks them: names lead to numbers by a map, a node
+//! keeps how many references lead to it and the places of its first and last one, and a reference that of the next one
+//! of its node.
 #![tactic(auto)]
 
 mod graph;

@@ -110,9 +110,9 @@ impl Nodes {
         requires white { has ◌==◌ self.old.blacks i ≡ false }
         ensures { self.new ≡ record self.old { nodes = with_black_node self.old.nodes i; blacks = self.old.blacks ++ i ∷ [] } }
     {
-        let mut node = *self.nodes.at(i as usize);
-        node.blacken();
-        self.nodes.set(i as usize, node);
+        let mut black = *self.nodes.at(i as usize);
+        black.blacken();
+        self.nodes.set(i as usize, black);
         self.blacks.push(i);
     }
 
@@ -136,11 +136,7 @@ fn number_of(numbers: &BTreeMap<Name, u32>, name: &Name) -> Option<u32>
 }
 
 /// A name that has no number gets one.
-fn add_number(
-    numbers: &mut BTreeMap<Name, u32>,
-    name: Name,
-    number: u32,
-) -> Result<(), NoMemory>
+fn add_number(numbers: &mut BTreeMap<Name, u32>, name: Name, number: u32) -> Result<(), NoMemory>
     requires absent { number_at numbers.old.entries name ≡ None }
     ensures added { OnOk result ((x : Name) → number_at numbers.new.entries x ≡ (if same_name name x then Some number else number_at numbers.old.entries x)) }
     ensures err { OnErr result (numbers.new.entries ≡ numbers.old.entries) }

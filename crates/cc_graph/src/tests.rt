@@ -5,6 +5,8 @@ use cc_counted::Held;
 use cc_names::{NKey, Name, NativeNo, SKey, ScriptNo};
 use std::test::Fail;
 
+mod made;
+
 #[test]
 fn nodes_are_known_by_name_and_number(rt: HostRuntime) -> Result<(), Fail> {
     let mut graph = Graph::new(rt.alloc());

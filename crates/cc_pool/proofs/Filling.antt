@@ -112,10 +112,14 @@ blocks-pushed size n c zero j d y (b ∷ bs) h e below l more room =
     (record { values = omega (arith, more, h.0.values, e, below); room = room ∙ h.0.room }, (h.1.0, subst (λ z. AreBlocks size z (c - size) bs) none h.1.1))
 blocks-pushed size n c (suc k) j d y (b ∷ bs) h e below l more room =
     let step : size * suc k ≡ size * k + size = mul-suc size k in
-    let next : n - size + 1 ≡ n + 1 - size = omega (arith, step, e) in
-    (record { values = omega (arith, h.0.values, step, e); room = h.0.room }, (h.1.0,
-    subst (λ z. AreBlocks size z (c - size) (set bs k y)) next
-    (blocks-pushed size (n - size) (c - size) k j d y bs h.1.1 (omega (arith, step, e)) below (omega (arith, step, e, l)) more room)))
+    let next : n - size + 1 ≡ n + 1 - size = omega (arith, step, e) in (
+      record { values = omega (arith, h.0.values, step, e); room = h.0.room },
+      (
+        h.1.0,
+        subst (λ z. AreBlocks size z (c - size) (set bs k y)) next
+            (blocks-pushed size (n - size) (c - size) k j d y bs h.1.1 (omega (arith, step, e)) below (omega (arith, step, e, l)) more room),
+      ),
+    )
 
 pub joined-pushed : {X Z : Type 0} (size n c k j : ℕ) (d y : Vec X Z) (x : X) (bs : List (Vec X Z)) → AreBlocks size n c bs → size * k + j ≡ n → j < size → n < c →
     y.items ≡ (get_or bs k d).items ++ x ∷ [] → joined (set bs k y) ≡ joined bs ++ x ∷ []
