@@ -6,7 +6,9 @@ Build the program first (it stays as crates/ccreplay/out/ccreplay), and then nam
     (cd crates/ccreplay && rt run -- replay < /dev/null)
     bench/bench.py [SIZE ..]
 
-CCREPLAY names another program. RUNS is how often each script is run (7 if left out); the quickest run counts.
+CCREPLAY names another program. RUNS is how often each script is run (7 if left out); the quickest run counts. ONLY and
+EXCEPT are parts of names, with commas between: only shapes with one of the first are timed, and none with one of the
+second.
 
 A shape is a script in two parts: the first builds N objects, and the second, its last lines, has them collected, swept,
 or traversed, where they are live. The whole script is timed, and the first part alone. Columns:
@@ -29,6 +31,8 @@ import time
 ROOT = os.path.dirname(os.path.dirname(os.path.abspath(__file__)))
 PROGRAM = os.environ.get("CCREPLAY", f"{ROOT}/crates/ccreplay/out/ccreplay")
 RUNS = int(os.environ.get("RUNS", "7"))
+ONLY = [it for it in os.environ.get("ONLY", "").split(",") if it]
+EXCEPT = [it for it in os.environ.get("EXCEPT", "").split(",") if it]
 
 
 class Shape:
@@ -52,6 +56,14 @@ def dropped_chain(size):
     build, last = chain(size)
     others = [f"drop {it}" for it in ("n0", "n1", "n2") if it != last]
     return Shape(build + others, [f"drop {last}"], size, 0)
+
+
+def made_beside_a_chain(size):
+    """Beside a chain that lives: a native is made, touched, suspected and, with its last reference, forgotten; as often
+    as the chain has natives."""
+    build, _ = chain(size)
+    turn = ["native n254 0", "copy n253 n254", "drop n253", "drop n254"]
+    return Shape(build, turn * size, size, 0)
 
 
 def ring(size):
@@ -129,6 +141,7 @@ def live_chain_in_slices(size):
 
 SHAPES = [
     ("chain, dropped", dropped_chain),
+    ("made and let go, beside a live chain", made_beside_a_chain),
     ("one ring, collected", ring),
     ("cycles of two, collected", pairs),
     ("chain from a cycle, collected", chain_from_pair),
@@ -191,6 +204,8 @@ def main():
     print("|---|---:|---:|---:|---:|---:|---:|---:|")
     with tempfile.TemporaryDirectory(prefix="ccreplay-bench-") as folder:
         for name, made in SHAPES:
+            if ONLY and not any(it in name for it in ONLY) or any(it in name for it in EXCEPT):
+                continue
             least = None
             for size in sizes:
                 shape = made(size)
