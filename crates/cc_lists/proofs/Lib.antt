@@ -14,4 +14,4 @@ pub mod Together
 pub mod Rising
 pub mod Walks
 pub mod RisingWalks
-pub mod Tests
+pub mod Booleans

@@ -29,7 +29,7 @@ use Rattle.clap.proofs.WalkLemmas.{both, one_text-rows}
 use Rattle.cc_replay.specs.Words.{IsTaken, app, bytes_option, natives_option, number_option, scripts_option, text_for, IsNumber}
 use Rattle.cc_replay.proofs.FaultFree.{is_sound_level, takes-no_fault}
 use Rattle.cc_replay.proofs.OptionRows.{AreOptions, HasText, IsOption, has_default, level_text}
-use Rattle.cc_lists.proofs.Tests.{premise-holds}
+use Rattle.cc_lists.proofs.Booleans.{premise-holds}
 
 app_is_simple : is_simple app ≡ true
 unfolding clap_on_literals

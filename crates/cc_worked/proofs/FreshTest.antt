@@ -6,7 +6,7 @@ use Rattle.std.proofs.lemmas.Bool.{and_parts, and_from, not-true, false≢true, 
 use Rattle.cc_lists.specs.Members.{Among, has}
 use Rattle.cc_lists.proofs.Members.{has-among, has-there, Among-map, Among-map_cases, Among-left, Among-right}
 use Rattle.cc_lists.proofs.Counting.{counted_is}
-use Rattle.cc_lists.proofs.Tests.{second-passes, premise-holds}
+use Rattle.cc_lists.proofs.Booleans.{second-passes, premise-holds}
 use Rattle.cc_names.specs.declared.name.Name.{Name}
 use Rattle.cc_names.specs.declared.name.Name.TheVariants as name
 use Rattle.cc_names.specs.Names.{native, same_name, is_native, is_script}

@@ -4,7 +4,7 @@ use Rattle.std.proofs.lemmas.Bool.{and_parts, or_cases, not-true, not_from_true,
 use Rattle.cc_lists.specs.Members.{Among, has}
 use Rattle.cc_lists.specs.Least.{system}
 use Rattle.cc_lists.proofs.Closure.{closure-decides}
-use Rattle.cc_lists.proofs.Tests.{second-passes}
+use Rattle.cc_lists.proofs.Booleans.{second-passes}
 use Rattle.cc_names.specs.declared.name.Name.{Name}
 use Rattle.cc_names.specs.Names.{native, same_name}
 use Rattle.cc_names.proofs.NameTests.{same_name-exact}
