@@ -207,6 +207,9 @@ fn refused_growth_leaves_the_graph_as_it_was(rt: HostRuntime) -> Result<(), Fail
     for j in 0..1026 {
         assert!(rt; grow_references(&mut graph, 513, j));
     }
+    if graph.len() < 514 {
+        return Err(Fail::new("a node is lost"));
+    }
     assert_eq!(rt; graph.noted_to(513), 1026);
     Ok(())
 }
