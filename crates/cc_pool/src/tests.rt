@@ -1,5 +1,4 @@
 //! Tests of the pool, across the borders of its blocks.
-ghost use Rattle.std.specs.Prelude.{◌≡◌, IfOk, length};
 
 use super::*;
 use cc_names::NoMemory;
@@ -7,9 +6,7 @@ use std::alloc::Global;
 use std::test::Fail;
 
 /// A pool of squares in blocks of four.
-fn squares(alloc: Global, count: u32) -> Result<Pool<u64, 4>, NoMemory>
-    ensures { IfOk result (λ pool. length pool.items ≡ count) }
-{
+fn squares(alloc: Global, count: u32) -> Result<Pool<u64, 4>, NoMemory> {
     let mut pool = Pool::new(alloc);
     for i in 0..count {
         pool.reserve(1)?;
@@ -18,18 +15,36 @@ fn squares(alloc: Global, count: u32) -> Result<Pool<u64, 4>, NoMemory>
     Ok(pool)
 }
 
+/// The value at a place; none past the end.
+fn value(pool: &Pool<u64, 4>, place: usize) -> Option<u64> {
+    if place < pool.len() {
+        Some(*pool.at(place))
+    } else {
+        None
+    }
+}
+
+/// Writes the value at a place, where there is one.
+fn write(pool: &mut Pool<u64, 4>, place: usize, value: u64) {
+    if place < pool.len() {
+        pool.set(place, value);
+    }
+}
+
 #[test]
 fn values_are_known_by_place(rt: HostRuntime) -> Result<(), Fail> {
-    for count in [1, 3, 4, 5, 7, 8, 9, 40] {
+    for count in [1u32, 3, 4, 5, 7, 8, 9, 40] {
         let mut pool = squares(rt.alloc(), count)?;
         assert!(rt; !pool.is_empty());
-        for i in 0..pool.len() {
-            assert_eq!(rt; *pool.at(i), i as u64 * i as u64);
+        assert_eq!(rt; pool.len(), count as usize);
+        for i in 0..count {
+            assert_eq!(rt; value(&pool, i as usize), Some(i as u64 * i as u64));
         }
-        let last = pool.len() - 1;
-        pool.set(last, 7);
-        assert_eq!(rt; *pool.at(last), 7);
-        assert_eq!(rt; pool.len(), last + 1);
+        assert_eq!(rt; value(&pool, count as usize), None);
+        let last = (count as usize).saturating_sub(1);
+        write(&mut pool, last, 7);
+        assert_eq!(rt; value(&pool, last), Some(7));
+        assert_eq!(rt; pool.len(), count as usize);
     }
     Ok(())
 }
@@ -43,7 +58,7 @@ fn several_blocks_are_reserved_at_once(rt: HostRuntime) -> Result<(), Fail> {
         assert_eq!(rt; pool.reserve(1), Ok(()));
         pool.push(i);
     }
-    assert_eq!(rt; *pool.at(8), 8);
+    assert_eq!(rt; value(&pool, 8), Some(8));
     assert_eq!(rt; pool.reserve(usize::MAX), Err(NoMemory));
     assert_eq!(rt; pool.len(), 9);
     Ok(())
