@@ -16,7 +16,7 @@ use Rattle.cc_heaps.specs.Keyed.{Keyed}
 use Rattle.cc_builder.specs.Building.{Built}
 use Rattle.cc_gc.specs.Sparing.{SparesWhatIsReached}
 use Rattle.cc_collector.specs.Kept.{RunsIn, machine_of}
-use Rattle.cc_collector.specs.Collected.{counted_one, SparesReached, LedTo, IsSliced, IsCollected, IsSwept}
+use Rattle.cc_collector.specs.Collected.{counted_one, SparesInEachGraph, LedTo, IsSliced, IsCollected, IsSwept}
 use Rattle.cc_collector.specs.Units.{units_came, HasGoneOn, HasStopped, Keeps, HasDoneUnit, HasDoneAll, HasFinished}
 use Rattle.cc_collector.proofs.Rows.{IsUnit-silent, ComeTo, ComeTo-went_on, ComeTo-stopped, HasStopped-from, collect-alone, collect-refused, collect-both, gc-alone, gc-after}
 use Rattle.cc_collector.proofs.Keeping.{Keeps-then}
@@ -36,7 +36,7 @@ still-told v c w d t t₁ t₂ told u =
     subst (TellsEvents t t₂) (IsUnit-silent (machine_of v.heap c) (machine_of w.heap d) u.events went_on u.unit refl) (told-both t t₁ t₂ [] u.events told u.told)
 
 -- what units came to, said in other words
-led-by : (d : UnitsDone) (old new : Machine) (events : List Event) (p : Progress) (t t₁ : Telling) → d ≡ units_came (with_memory new []) events p → SparesReached old.heap d.events →
+led-by : (d : UnitsDone) (old new : Machine) (events : List Event) (p : Progress) (t t₁ : Telling) → d ≡ units_came (with_memory new []) events p → SparesInEachGraph old.heap d.events →
     UnitsSpare old.heap d → TellsEvents t t₁ events → LedTo d old new p t t₁
 led-by d old new events p t t₁ is spares unreached told = record {
   same = record { heap = ap (λ (e : UnitsDone). e.machine.heap) is; snapshot = ap (λ (e : UnitsDone). e.machine.snapshot) is };

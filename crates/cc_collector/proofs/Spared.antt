@@ -29,7 +29,7 @@ use Rattle.cc_laws_run.proofs.Listing.{filter-first, filter-second}
 use Rattle.cc_heaps.specs.Keyed.{Keyed}
 use Rattle.cc_builder.specs.Building.{Built}
 use Rattle.cc_collector.specs.Kept.{RunsIn, machine_of}
-use Rattle.cc_collector.specs.Collected.{SparesReached}
+use Rattle.cc_collector.specs.Collected.{SparesInEachGraph}
 use Rattle.cc_collector.proofs.Keeping.{RunsIn-fresh}
 
 -- what is there, natives and then script objects, is in census order
@@ -67,14 +67,14 @@ each-spares g names c (e ∷ es) each x m = ⊎_elim
     unlinked Abandoned may same = cc
 
 module _ (v : Keyed) (c : Option Built) (r : RunsIn v c) (memory : List Bool) where
-  pub slice-spares : (n : ℕ) → SparesReached v.heap (slice n (with_memory (machine_of v.heap c) memory)).events
+  pub slice-spares : (n : ℕ) → SparesInEachGraph v.heap (slice n (with_memory (machine_of v.heap c) memory)).events
   slice-spares n g x well stands m = each-spares g (names_there v.heap) (Slice n) (slice n (with_memory (machine_of v.heap c) memory)).events
       (slice-lawful g well (Slice n) refl (names_there v.heap) n (with_memory (machine_of v.heap c) memory) (runs-on v c g r stands)).each x m
 
-  pub collect-spares : SparesReached v.heap (collect (with_memory (machine_of v.heap c) memory)).events
+  pub collect-spares : SparesInEachGraph v.heap (collect (with_memory (machine_of v.heap c) memory)).events
   collect-spares g x well stands m = each-spares g (names_there v.heap) Collect (collect (with_memory (machine_of v.heap c) memory)).events
       (collect-lawful g well Collect refl (names_there v.heap) (with_memory (machine_of v.heap c) memory) (runs-on v c g r stands)).each x m
 
-  pub gc-spares : SparesReached v.heap (gc (with_memory (machine_of v.heap c) memory)).events
+  pub gc-spares : SparesInEachGraph v.heap (gc (with_memory (machine_of v.heap c) memory)).events
   gc-spares g x well stands m = each-spares g (names_there v.heap) Gc (gc (with_memory (machine_of v.heap c) memory)).events
       (gc-lawful g well (names_there v.heap) (with_memory (machine_of v.heap c) memory) (runs-on v c g r stands)).each x m

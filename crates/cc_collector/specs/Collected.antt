@@ -41,8 +41,8 @@ units_counted (suc n) d = elim d.progress [
 ]
 
 -- what these events free or unlink is reached in no graph that the heaps stand for
-abbrev pub SparesReached : Heap → List Event → Type 0
-SparesReached h events = (g : Graph) (x : Name) → IsWellMade g → StandsFor h g →
+abbrev pub SparesInEachGraph : Heap → List Event → Type 0
+SparesInEachGraph h events = (g : Graph) (x : Name) → IsWellMade g → StandsFor h g →
     Among (Freed x) events ⊎ Among (Unlinked x) events → ¬ (Reached g x)
 
 -- from a machine units led to another, with the progress of the last, and what they tell is told; they spare what is reached,
@@ -51,7 +51,7 @@ pub record LedTo (d : UnitsDone) (old new : Machine) (progress : Progress) (befo
   pub same : SameMachine d.machine new
   pub came_to : d.progress ≡ progress
   pub told : TellsEvents before after d.events
-  pub spares : SparesReached old.heap d.events
+  pub spares : SparesInEachGraph old.heap d.events
   pub unreached : SparesWhatIsReached old.heap new.heap d.events
 
 -- A SLICE of so many units; the counter is raised by as many as count

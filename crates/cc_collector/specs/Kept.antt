@@ -6,6 +6,7 @@ use Rattle.cc_model.specs.Colours.{HasColourInvariant}
 use Rattle.cc_model.specs.Snapshot.{Snapshot}
 use Rattle.cc_model.specs.Collecting.{Machine}
 use Rattle.cc_laws_snapshot.specs.Kinds.{IsFreshIn}
+use Rattle.cc_laws_run.specs.Doomed.{IsSuspectedNow}
 use Rattle.cc_graph.specs.Held.{AreHeld}
 use Rattle.cc_heaps.specs.Keyed.{Keyed, IsInOrder}
 use Rattle.cc_heaps.specs.HasKey.{HasKey}
@@ -20,6 +21,11 @@ running_snapshot c = option_map snapshot_of c
 -- the heaps and the running collection, as the plain run has them
 abbrev pub machine_of : Heap → Option Built → Machine
 machine_of h c = record { heap = h; snapshot = running_snapshot c; memory = [] }
+
+-- NOTHING IS FORGOTTEN between these: if references led to each native that nothing reaches from a suspect, from a script
+-- object that nothing reaches either, or from a candidate of the running collection, they do so now
+abbrev pub ForgetsNothing : Machine → Machine → Type 0
+ForgetsNothing old new = IsSuspectedNow old → IsSuspectedNow new
 
 -- a build goes on over these heaps: its nodes stand for objects under their keys, and its snapshot is fresh
 pub record GoesOn (v : Keyed) (b : Built) : Type 0 where

@@ -8,13 +8,12 @@ use Rattle.cc_model.specs.WellFormed.{native_names, script_names}
 use Rattle.cc_model.specs.End.{Progress, went_on, at_end, UnitDone, unit}
 use Rattle.cc_model.specs.Collecting.{Machine, UnitsDone, no_units, units_done}
 use Rattle.cc_laws_run.specs.Memory.{with_memory}
-use Rattle.cc_laws_run.specs.Doomed.{IsSuspectedNow}
 use Rattle.cc_heaps.specs.Keyed.{Keyed}
 use Rattle.cc_heaps.specs.Changes.{KeepsKeys}
 use Rattle.cc_heaps.specs.Few.{AreFew}
 use Rattle.cc_heaps.specs.Standing.{StillStands}
 use Rattle.cc_builder.specs.Building.{Built}
-use Rattle.cc_collector.specs.Kept.{RunsIn, machine_of}
+use Rattle.cc_collector.specs.Kept.{ForgetsNothing, RunsIn, machine_of}
 use Rattle.cc_collector.specs.Collected.{units_counted}
 
 -- what a unit came to
@@ -50,7 +49,7 @@ pub record HasStopped (before now : Machine) (events : List Event) (progress : P
 pub record Keeps (v : Keyed) (c : Option Built) (w : Keyed) (d : Option Built) : Type 0 where
   pub runs : RunsIn w d
   pub stands : StillStands v.heap w.heap
-  pub suspected : IsSuspectedNow (machine_of v.heap c) → IsSuspectedNow (machine_of w.heap d)
+  pub suspected : ForgetsNothing (machine_of v.heap c) (machine_of w.heap d)
   pub keys : KeepsKeys v w
   pub natives_left : (x : Name) → Among x (native_names w.heap) → Among x (native_names v.heap)
   pub scripts_left : (x : Name) → Among x (script_names w.heap) → Among x (script_names v.heap)

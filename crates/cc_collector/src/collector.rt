@@ -15,7 +15,7 @@ ghost use Rattle.cc_builder.specs.Building.{IsBuilt, snapshot_of};
 ghost use Rattle.cc_unlink.specs.Whites.{whites_of};
 ghost use Rattle.cc_gc.specs.Sparing.{KeepsWhatIsReached};
 ghost use Rattle.cc_collector.specs.Settled.{HasWhatIsReached, IsSettled, IsUnsettled};
-ghost use Rattle.cc_collector.specs.Kept.{RunsIn, machine_of, running_snapshot};
+ghost use Rattle.cc_collector.specs.Kept.{ForgetsNothing, RunsIn, machine_of, running_snapshot};
 ghost use Rattle.cc_collector.specs.Collected.{IsSliced, IsCollected, IsCollectGivenUp, IsSwept, TellsWhatLeaves, progress_of};
 ghost use Rattle.cc_collector.specs.Units.{HasDoneUnit, HasDoneAll, HasFinished};
 
@@ -108,7 +108,7 @@ impl Collector {
         ensures keeps { KeepsWhatIsReached heaps.old.heap heaps.new.heap }
         ensures tells { TellsWhatLeaves heaps.old.heap heaps.new.heap (N.telling out.old) (N.telling out.new) }
         ensures stands { StillStands heaps.old.heap heaps.new.heap }
-        ensures suspected { IsSuspectedNow (machine_of heaps.old.heap self.old) → IsSuspectedNow (machine_of heaps.new.heap self.new) }
+        ensures suspected { ForgetsNothing (machine_of heaps.old.heap self.old) (machine_of heaps.new.heap self.new) }
         ensures keys { KeepsKeys heaps.old heaps.new }
         ensures counts { AreFew heaps.new.heap }
         ensures runs { RunsIn heaps.new self.new }
@@ -136,7 +136,7 @@ impl Collector {
         ensures keeps { KeepsWhatIsReached heaps.old.heap heaps.new.heap }
         ensures tells { TellsWhatLeaves heaps.old.heap heaps.new.heap (N.telling out.old) (N.telling out.new) }
         ensures stands { StillStands heaps.old.heap heaps.new.heap }
-        ensures suspected { IsSuspectedNow (machine_of heaps.old.heap self.old) → IsSuspectedNow (machine_of heaps.new.heap self.new) }
+        ensures suspected { ForgetsNothing (machine_of heaps.old.heap self.old) (machine_of heaps.new.heap self.new) }
         ensures keys { KeepsKeys heaps.old heaps.new }
         ensures counts { AreFew heaps.new.heap }
         ensures runs { RunsIn heaps.new self.new }
@@ -154,7 +154,7 @@ impl Collector {
         ensures keeps { KeepsWhatIsReached heaps.old.heap heaps.new.heap }
         ensures tells { TellsWhatLeaves heaps.old.heap heaps.new.heap (N.telling out.old) (N.telling out.new) }
         ensures stands { StillStands heaps.old.heap heaps.new.heap }
-        ensures suspected { IsSuspectedNow (machine_of heaps.old.heap self.old) → IsSuspectedNow (machine_of heaps.new.heap self.new) }
+        ensures suspected { ForgetsNothing (machine_of heaps.old.heap self.old) (machine_of heaps.new.heap self.new) }
         ensures keys { KeepsKeys heaps.old heaps.new }
         ensures counts { AreFew heaps.new.heap }
         ensures runs { RunsIn heaps.new self.new }
@@ -179,7 +179,7 @@ impl Collector {
         ensures keeps { KeepsWhatIsReached heaps.old.heap heaps.new.heap }
         ensures tells { TellsWhatLeaves heaps.old.heap heaps.new.heap (N.telling out.old) (N.telling out.new) }
         ensures stands { StillStands heaps.old.heap heaps.new.heap }
-        ensures suspected { IsSuspectedNow (machine_of heaps.old.heap self.old) → IsSuspectedNow (machine_of heaps.new.heap self.new) }
+        ensures suspected { ForgetsNothing (machine_of heaps.old.heap self.old) (machine_of heaps.new.heap self.new) }
         ensures keys { KeepsKeys heaps.old heaps.new }
         ensures counts { AreFew heaps.new.heap }
         ensures runs { RunsIn heaps.new self.new }

@@ -1,1 +1,1 @@
-pub mod EachTurn
+pub mod EachExchange

@@ -13,7 +13,7 @@ use Rattle.cc_model.specs.Answers.{Answer}
 use Rattle.cc_model.specs.Asks.{Ask, long, bad, taken}
 use Rattle.cc_model.specs.Reached.{Reached}
 use Rattle.cc_model.specs.Lawful.{State, RepliesWith, census_of}
-use Rattle.cc_laws_headline.specs.Turns.{Turn, IsTurnOf, before, after, HasJustCollected}
+use Rattle.cc_laws_headline.specs.Exchanges.{Exchange, IsExchangeOf, before, after, HasJustCollected}
 
 -- a reply is the graph's, or it is want of memory where the graph does not refuse the command and the command may want
 -- some; of a census nothing is said here
@@ -37,8 +37,8 @@ abbrev pub SparesReached : State → Answer → Type 0
 SparesReached s a = (x : Name) → Among (Unlinked x) a.events ⊎ Among (Freed x) a.events → ¬ (Reached s.graph x)
 
 -- what is listed is exactly what the registers of the graph reach
-abbrev pub ListsReached : State → Answer → Type 0
-ListsReached s a = (x : Name) → Among x a.listed ↔ Reached s.graph x
+abbrev pub CensusIsExact : State → Answer → Type 0
+CensusIsExact s a = (x : Name) → Among x a.listed ↔ Reached s.graph x
 
 -- IT IS THE TRANSCRIPT OF AN OBJECT GRAPH FROM WHICH NOTHING IS FREED: the graph begins empty, and each ask makes of it
 -- what the command means (`next`); nothing is ever taken out of it
@@ -46,9 +46,9 @@ pub record TellsOfAGraph (limits : Allowance) (asks : List Ask) (answers : List 
   -- each ask has an answer
   pub one_each : length asks ≡ length answers
   -- each reply but `! nomem` and the census is that graph's
-  pub replies : (t : Turn) → IsTurnOf asks answers t → ReplyIs (before limits t) t.ask t.answer.reply
-  pub censuses : (t : Turn) → IsTurnOf asks answers t → ListsWhatIsThere (before limits t) t.ask t.answer
+  pub replies : (t : Exchange) → IsExchangeOf asks answers t → ReplyIs (before limits t) t.ask t.answer.reply
+  pub censuses : (t : Exchange) → IsExchangeOf asks answers t → ListsWhatIsThere (before limits t) t.ask t.answer
   -- nothing is unlinked or freed that a root then reaches
-  pub spares : (t : Turn) → IsTurnOf asks answers t → SparesReached (after limits t) t.answer
+  pub spares : (t : Exchange) → IsExchangeOf asks answers t → SparesReached (after limits t) t.answer
   -- and after `gc`, `collect`, `gc` in a row, the `collect` not refused memory, the census lists exactly the reachable objects
-  pub lists : (t : Turn) → IsTurnOf asks answers t → HasJustCollected t.asked t.told → t.ask ≡ taken Census → ListsReached (before limits t) t.answer
+  pub lists : (t : Exchange) → IsExchangeOf asks answers t → HasJustCollected t.asked t.told → t.ask ≡ taken Census → CensusIsExact (before limits t) t.answer

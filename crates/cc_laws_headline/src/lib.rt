@@ -2,7 +2,7 @@
 //! nothing is freed.
 //!
 //! The definitions of lawful and quiet go along the asks (`cc_model`, `specs/Lawful` and `specs/Quiet`). Here each part of
-//! the sentence is said of each line by itself (`specs/Headline`: `TellsOfAGraph`, over `specs/Turns`), and a law says that
+//! the sentence is said of each line by itself (`specs/Headline`: `TellsOfAGraph`, over `specs/Exchanges`), and a law says that
 //! a lawful and quiet transcript has all parts.
 #![tactic(auto)]
 

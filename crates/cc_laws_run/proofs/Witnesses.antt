@@ -22,7 +22,7 @@ use Rattle.cc_model.proofs.Opened.{all_of_a_run}
 use Rattle.cc_laws_heap.specs.Sound.{IsSound}
 use Rattle.cc_laws_run.specs.Running.{IsRunning, IsFreshNow, state_after}
 use Rattle.cc_laws_run.specs.Doomed.{IsSuspectedNow}
-use Rattle.cc_laws_run.specs.Premises.{machine_of, IsLeftByAScript}
+use Rattle.cc_laws_run.specs.Premises.{machine_left_by, IsLeftByAScript}
 use Rattle.cc_laws_run.proofs.PlainRanges.{asks_of-range}
 use Rattle.cc_laws_run.proofs.WholeRuns.{run-runs, run-suspected}
 
@@ -32,7 +32,7 @@ enough = record { natives = 100; scripts = 100; bytes = 1000 }
 
 -- the machine that a script leaves, where memory is never refused
 abbrev left_by : List ℕ → Machine
-left_by input = machine_of enough [] input
+left_by input = machine_left_by enough [] input
 
 -- A script leaves it.
 left_by-left : (input : List ℕ) → IsLeftByAScript (left_by input)

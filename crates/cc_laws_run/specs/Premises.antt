@@ -7,9 +7,9 @@ use Rattle.cc_model.specs.Collecting.{Machine, empty_machine}
 use Rattle.cc_model.specs.Run.{machine_after}
 
 -- the machine that a script leaves, from the empty heaps
-abbrev pub machine_of : Allowance → List Bool → List ℕ → Machine
-machine_of limits memory input = machine_after (empty_machine limits memory) (asks_of version_one_forms input)
+abbrev pub machine_left_by : Allowance → List Bool → List ℕ → Machine
+machine_left_by limits memory input = machine_after (empty_machine limits memory) (asks_of version_one_forms input)
 
 -- some script leaves this machine
 abbrev pub IsLeftByAScript : Machine → Type 0
-IsLeftByAScript m = (limits : Allowance) × (memory : List Bool) × (input : List ℕ) × (machine_of limits memory input ≡ m)
+IsLeftByAScript m = (limits : Allowance) × (memory : List Bool) × (input : List ℕ) × (machine_left_by limits memory input ≡ m)

@@ -8,8 +8,8 @@ use Rattle.cc_outside.specs.Reads.{Reads}
 use Rattle.cc_model.specs.Lines.{ended_by, line_after, last_line, lines_of, ended_from, ended_lines_of, rest_from}
 use Rattle.cc_reader.specs.Pending.{Pending, nothing_read}
 use Rattle.cc_reader.specs.HasRead.{HasRead}
-use Rattle.cc_reader.specs.Given.{AreEnded, LastUnended, AreLinesOf, HasGiven, IsWhole, IsBroken, IsOver, AreFirst}
-use Rattle.cc_reader.specs.Used.{HasUsed, Uses, IsSpent, Begins}
+use Rattle.cc_reader.specs.Given.{AreEnded, LastUnended, AreLinesOf, HasGiven, AreAllGiven, IsBroken, IsOver, AreFirst}
+use Rattle.cc_reader.specs.Used.{HasUsed, Uses, IsUsedUp, Begins}
 use Rattle.cc_reader.proofs.Cutting.{ended_from-append, lines_of-ended, ended_from-byte, rest_from-append, lines_from-ended}
 use Rattle.cc_reader.proofs.Using.{used-all}
 
@@ -104,7 +104,7 @@ last_line-some [] n = absurd (n refl)
 last_line-some (b ∷ line) n = refl
 
 -- a line begins
-pub Begins-line : (now : Option (List ℕ)) (p : Pending) → (IsSpent p → ⊥) → Begins now now p p []
+pub Begins-line : (now : Option (List ℕ)) (p : Pending) → (IsUsedUp p → ⊥) → Begins now now p p []
 Begins-line now p n = λ start lines h. record {
   used = h.used;
   has_used = used_of start now p lines h;
@@ -137,7 +137,7 @@ Begins-ended before mid now p q r line b begun uses e going = λ start lines h.
     }))
 
 -- the end ends a line that has a byte
-pub Begins-last : (before mid now : Option (List ℕ)) (p q r : Pending) (line : List ℕ) → Begins before mid p q line → Uses mid now q r [] → IsSpent r → line ≢ [] →
+pub Begins-last : (before mid now : Option (List ℕ)) (p q r : Pending) (line : List ℕ) → Begins before mid p q line → Uses mid now q r [] → IsUsedUp r → line ≢ [] →
     (start : Option (List ℕ)) (lines : List (List ℕ)) → HasGiven start before p lines → HasGiven start now r (lines ++ line ∷ [])
 Begins-last before mid now p q r line begun uses s n = λ start lines h.
     let k = begun start lines h in
@@ -151,7 +151,7 @@ Begins-last before mid now p q r line begun uses s n = λ start lines h.
     }))
 
 -- where all is used and the source at its end, these lines of the bytes used are all
-whole_of : (start now : Option (List ℕ)) (p : Pending) (lines : List (List ℕ)) (used : List ℕ) → IsSpent p → HasUsed start now p used → lines ≡ lines_of used → IsWhole start now p lines
+whole_of : (start now : Option (List ℕ)) (p : Pending) (lines : List (List ℕ)) (used : List ℕ) → IsUsedUp p → HasUsed start now p used → lines ≡ lines_of used → AreAllGiven start now p lines
 whole_of start now p lines used s h is =
     let e = h.at_end s.1 in
     record {
@@ -165,13 +165,13 @@ whole_of start now p lines used s h is =
     }
 
 -- where all is used and the source at its end, all lines were given
-pub whole-spent : (start now : Option (List ℕ)) (p : Pending) (lines : List (List ℕ)) → IsSpent p → HasGiven start now p lines → IsWhole start now p lines
+pub whole-spent : (start now : Option (List ℕ)) (p : Pending) (lines : List (List ℕ)) → IsUsedUp p → HasGiven start now p lines → AreAllGiven start now p lines
 whole-spent start now p lines s h = whole_of start now p lines h.used s (used_of start now p lines h)
     (⊎_elim (λ (w : AreEnded p lines h.used). w.lines_are ∙ sym (lines_of-ended h.used w.no_rest)) (λ (w : LastUnended p lines h.used). w.lines_are) h.cut)
 
 -- where a line is not begun, and all is used and the source at its end, all lines were given
-pub Begins-whole : (before mid now : Option (List ℕ)) (p q r : Pending) → Begins before mid p q [] → Uses mid now q r [] → IsSpent r →
-    (start : Option (List ℕ)) (lines : List (List ℕ)) → HasGiven start before p lines → IsWhole start now r lines
+pub Begins-whole : (before mid now : Option (List ℕ)) (p q r : Pending) → Begins before mid p q [] → Uses mid now q r [] → IsUsedUp r →
+    (start : Option (List ℕ)) (lines : List (List ℕ)) → HasGiven start before p lines → AreAllGiven start now r lines
 Begins-whole before mid now p q r begun uses s = λ start lines h.
     let k = begun start lines h in
     whole_of start now r lines (k.used ++ []) s (uses start k.used k.has_used)

@@ -33,7 +33,7 @@ pub record HasGiven (start now : Option (List ℕ)) (p : Pending) (lines : List 
   pub at_end : p.ended ≡ true → IsAtEnd now × (p.taken ≤ p.limit)
 
 -- the source is at its end, and these were all lines
-pub record IsWhole (start now : Option (List ℕ)) (p : Pending) (lines : List (List ℕ)) : Type 0 where
+pub record AreAllGiven (start now : Option (List ℕ)) (p : Pending) (lines : List (List ℕ)) : Type 0 where
   pub given : List ℕ
   pub consumed : Consumes start now given
   pub counted : length given ≡ p.taken
@@ -61,7 +61,7 @@ pub record IsOver (start now : Option (List ℕ)) (p : Pending) (lines : List (L
   pub lines_are : lines ≡ ended_lines_of (take p.limit given)
 
 -- these are the first of the lines that ended within the limit, and no read has said the end
-pub record AreFirstEnded (p : Pending) (lines : List (List ℕ)) (given : List ℕ) : Type 0 where
+pub record AreFirstGiven (p : Pending) (lines : List (List ℕ)) (given : List ℕ) : Type 0 where
   pub going : p.ended ≡ false
   pub more : List (List ℕ)
   pub lines_are : lines ++ more ≡ ended_lines_of (take p.limit given)
@@ -74,4 +74,4 @@ pub record AreFirst (start now : Option (List ℕ)) (p : Pending) (lines : List 
   pub counted : length given ≡ p.taken
   pub most : length given ≤ p.limit + 1
   pub at_end : p.ended ≡ true → IsAtEnd now × (length given ≤ p.limit)
-  pub first : AreFirstEnded p lines given ⊎ LastUnended p lines given
+  pub first : AreFirstGiven p lines given ⊎ LastUnended p lines given

@@ -30,8 +30,8 @@ pub record Refills (before now : Option (List ℕ)) (p q : Pending) : Type 0 whe
   pub at_end : q.ended ≡ true → IsAtEnd now × (q.taken ≤ q.limit)
 
 -- nothing is pending, and the source is at its end
-abbrev pub IsSpent : Pending → Type 0
-IsSpent p = (p.bytes ≡ []) × (p.ended ≡ true)
+abbrev pub IsUsedUp : Pending → Type 0
+IsUsedUp p = (p.bytes ≡ []) × (p.ended ≡ true)
 
 -- these lines were given, and this is the line so far
 pub record HasBegun (start now : Option (List ℕ)) (p : Pending) (lines : List (List ℕ)) (line : List ℕ) : Type 0 where

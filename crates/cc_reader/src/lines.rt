@@ -4,8 +4,8 @@ ghost use Rattle.std.specs.Prelude.{◌≡◌, ◌≢◌, ℕ, ◌<◌, ◌≤�
 ghost use Rattle.cc_lists.specs.Faults.{Rose};
 ghost use Rattle.cc_reader.specs.HasRead.{HasRead, ReadsOn};
 ghost use Rattle.cc_reader.specs.Pending.{nothing_read, weight};
-ghost use Rattle.cc_reader.specs.Given.{HasGiven, IsBroken, IsOver, IsWhole};
-ghost use Rattle.cc_reader.specs.Used.{IsKept, IsSpent};
+ghost use Rattle.cc_reader.specs.Given.{HasGiven, IsBroken, IsOver, AreAllGiven};
+ghost use Rattle.cc_reader.specs.Used.{IsKept, IsUsedUp};
 
 use crate::read_stop::ReadStop;
 use crate::window::Window;
@@ -48,14 +48,14 @@ fn next_line<S: Source>(
     ensures long { result ≡ Ok Line.TooLong → (line : List ℕ) × (120 < length line) × ((start : Option (List ℕ)) (lines : List (List ℕ)) →
         HasGiven start (S.left source.old) window.old lines → HasGiven start (S.left source.new) window.new (lines ++ line ∷ [])) }
     ensures whole { result ≡ Ok Line.End → (start : Option (List ℕ)) (lines : List (List ℕ)) →
-        HasGiven start (S.left source.old) window.old lines → IsWhole start (S.left source.new) window.new lines }
+        HasGiven start (S.left source.old) window.old lines → AreAllGiven start (S.left source.new) window.new lines }
     ensures broken { result ≡ Err ReadStop.Fault → (start : Option (List ℕ)) (lines : List (List ℕ)) →
         HasGiven start (S.left source.old) window.old lines → IsBroken start (S.left source.new) window.new lines }
     ensures over { result ≡ Err ReadStop.Limit → (start : Option (List ℕ)) (lines : List (List ℕ)) →
         HasGiven start (S.left source.old) window.old lines → IsOver start (S.left source.new) window.new lines }
     ensures counted { result ≡ Err ReadStop.Limit → window.new.limit < window.new.taken }
-    ensures spent { IsSpent window.old → result ≡ Ok Line.End }
-    ensures unread { IsSpent window.old → source.new ≡ source.old }
+    ensures spent { IsUsedUp window.old → result ≡ Ok Line.End }
+    ensures unread { IsUsedUp window.old → source.new ≡ source.old }
     ensures limit { window.new.limit ≡ window.old.limit }
     ensures reads { ReadsOn (S.reads source.old) (S.reads source.new) window.old window.new }
     ensures falls { IfOk result (λ line. line ≢ Line.End → weight window.new < weight window.old) }
@@ -135,7 +135,7 @@ impl<'a, S: Source> Lines<'a, S> {
             HasGiven start (S.left self.new.source.now) self.new.window (lines ++ line ∷ [])) }
         ensures whole { result ≡ Ok Line.End → (start : Option (List ℕ)) (lines : List (List ℕ)) →
             HasGiven start (S.left self.old.source.now) self.old.window lines →
-            IsWhole start (S.left self.new.source.now) self.new.window lines }
+            AreAllGiven start (S.left self.new.source.now) self.new.window lines }
         ensures broken { result ≡ Err ReadStop.Fault → (start : Option (List ℕ)) (lines : List (List ℕ)) →
             HasGiven start (S.left self.old.source.now) self.old.window lines →
             IsBroken start (S.left self.new.source.now) self.new.window lines }
@@ -143,8 +143,8 @@ impl<'a, S: Source> Lines<'a, S> {
             HasGiven start (S.left self.old.source.now) self.old.window lines →
             IsOver start (S.left self.new.source.now) self.new.window lines }
         ensures counted { result ≡ Err ReadStop.Limit → self.new.window.limit < self.new.window.taken }
-        ensures spent { IsSpent self.old.window → result ≡ Ok Line.End }
-        ensures unread { IsSpent self.old.window → self.new.source.now ≡ self.old.source.now }
+        ensures spent { IsUsedUp self.old.window → result ≡ Ok Line.End }
+        ensures unread { IsUsedUp self.old.window → self.new.source.now ≡ self.old.source.now }
         ensures reads { ReadsOn (S.reads self.old.source.now) (S.reads self.new.source.now) self.old.window self.new.window }
         ensures falls { IfOk result (λ line. line ≢ Line.End → weight self.new.window < weight self.old.window) }
         ensures calm { OnOk result (S.faults self.new.source.now ≡ S.faults self.old.source.now) }

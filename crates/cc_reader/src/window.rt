@@ -4,7 +4,7 @@ ghost use Rattle.std.specs.Prelude.{◌≡◌, ◌+◌, ◌≤◌, ◌<◌, ◌�
 ghost use Rattle.cc_lists.specs.Faults.{Rose};
 ghost use Rattle.cc_reader.specs.HasRead.{ReadsOn};
 ghost use Rattle.cc_reader.specs.Pending.{nothing_read, weight};
-ghost use Rattle.cc_reader.specs.Used.{IsSpent, Refills, Uses};
+ghost use Rattle.cc_reader.specs.Used.{IsUsedUp, Refills, Uses};
 
 use crate::read_stop::ReadStop;
 use cc_outside::{Failed, Source};
@@ -71,7 +71,7 @@ impl Window {
 
     /// Whether nothing is pending and the source is at its end.
     pub(crate) fn is_spent(&self) -> bool
-        ensures { IsTrue result ↔ IsSpent self.now }
+        ensures { IsTrue result ↔ IsUsedUp self.now }
     {
         self.is_empty() && self.ended
     }
@@ -96,7 +96,7 @@ impl Window {
         ensures some { result ≡ Ok true → 0 < length self.new.bytes }
         ensures falls { result ≡ Ok true → weight self.new < weight self.old }
         ensures going { result ≡ Ok true → self.new.ended ≡ false }
-        ensures end { result ≡ Ok false → IsSpent self.new }
+        ensures end { result ≡ Ok false → IsUsedUp self.new }
         ensures none { OnErr result (self.new.bytes ≡ []) }
         ensures below { result ≡ Err ReadStop.Fault → self.new.taken ≤ self.new.limit }
         ensures over { result ≡ Err ReadStop.Limit → self.new.limit < self.new.taken }
@@ -131,7 +131,7 @@ impl Window {
         ensures uses { Uses (S.left source.old) (S.left source.new) self.old self.new [] }
         ensures some { result ≡ Ok true → 0 < length self.new.bytes }
         ensures going { result ≡ Ok true → self.new.ended ≡ false }
-        ensures end { result ≡ Ok false → IsSpent self.new }
+        ensures end { result ≡ Ok false → IsUsedUp self.new }
         ensures none { OnErr result (self.new.bytes ≡ []) }
         ensures below { result ≡ Err ReadStop.Fault → self.new.taken ≤ self.new.limit }
         ensures over { result ≡ Err ReadStop.Limit → self.new.limit < self.new.taken }
@@ -163,7 +163,7 @@ impl Window {
         ensures end { result ≡ Ok None → Uses (S.left source.old) (S.left source.new) self.old self.new [] }
         ensures stop { OnErr result (Uses (S.left source.old) (S.left source.new) self.old self.new []) }
         ensures going { IfOk result (λ r. IsSome r → self.new.ended ≡ false) }
-        ensures spent { result ≡ Ok None → IsSpent self.new }
+        ensures spent { result ≡ Ok None → IsUsedUp self.new }
         ensures none { OnErr result (self.new.bytes ≡ []) }
         ensures below { result ≡ Err ReadStop.Fault → self.new.taken ≤ self.new.limit }
         ensures over { result ≡ Err ReadStop.Limit → self.new.limit < self.new.taken }

@@ -9,7 +9,7 @@ use Rattle.cc_outside.specs.Reads.{Reads}
 use Rattle.cc_model.specs.Forms.{version_one_forms}
 use Rattle.cc_reader.specs.Pending.{Pending, nothing_read}
 use Rattle.cc_reader.specs.Given
-use Rattle.cc_reader.specs.Given.{HasGiven, IsWhole, IsBroken, IsOver, AreFirst, LastUnended}
+use Rattle.cc_reader.specs.Given.{HasGiven, AreAllGiven, IsBroken, IsOver, AreFirst, LastUnended}
 use Rattle.cc_reader.specs.HasRead.{HasRead, ReadsBytes, ReadsOn, ReadsToEnd}
 use Rattle.cc_reader.proofs.Given.{HasGiven-none, HasRead-none}
 use Rattle.cc_replay.specs.Answering.{Answers, AreAnswered, Moment}
@@ -67,7 +67,7 @@ module _ (limits : Allowance) (m₀ m₁ : Moment) (r₀ r₁ : Reads) (begins :
         )
 
   -- the source is at its end
-  pub whole-done : Answers IsWhole m₀ m₁ → m₁.telling.broken ≡ false → IsDone limits e
+  pub whole-done : Answers AreAllGiven m₀ m₁ → m₁.telling.broken ≡ false → IsDone limits e
   whole-done a whole =
       let l = written a whole in
       record {
@@ -122,7 +122,7 @@ module _ (limits : Allowance) (m₀ m₁ : Moment) (r₀ r₁ : Reads) (begins :
     where
       lines_read : (lines : List (List ℕ)) (f : AreFirst m₀.left m₁.left m₁.window lines) → AreFirstEnded limits e f.given lines ⊎ AreAllUnended limits e f.given lines
       lines_read lines f = ⊎_elim
-          (λ (w : Given.AreFirstEnded m₁.window lines f.given). inl (record {
+          (λ (w : Given.AreFirstGiven m₁.window lines f.given). inl (record {
             reads = read_bytes f.given f.counted w.going;
             more = w.more;
             first = w.lines_are ∙ ap (λ n. ended_lines_of (take n f.given)) bytes;

@@ -4,7 +4,7 @@ ghost use Rattle.std.specs.Prelude.{◌≡◌, ◌≢◌, ◌<◌, ◌≤◌, �
 ghost use Rattle.cc_lists.specs.Faults.{Rose};
 ghost use Rattle.cc_reader.specs.HasRead.{ReadsOn};
 ghost use Rattle.cc_reader.specs.Pending.{nothing_read, weight};
-ghost use Rattle.cc_reader.specs.Given.{HasGiven, IsBroken, IsOver, IsWhole, AreFirst};
+ghost use Rattle.cc_reader.specs.Given.{HasGiven, IsBroken, IsOver, AreAllGiven, AreFirst};
 ghost use Rattle.cc_model.specs.declared.command.Command.TheVariants as command;
 ghost use Rattle.cc_model.specs.Ranges.{in_range};
 ghost use Rattle.cc_model.specs.Asks.{taken};
@@ -167,7 +167,7 @@ fn answer_next<S: Source, N: Notices>(
     ensures falls { result ≡ Ok Next.Answered → weight lines.new.window < weight lines.old.window }
     ensures whole { result ≡ Ok Next.End → (start : Option (List ℕ)) (given : List (List ℕ)) →
         HasGiven start (S.left lines.old.source.now) lines.old.window given →
-        IsWhole start (S.left lines.new.source.now) lines.new.window given }
+        AreAllGiven start (S.left lines.new.source.now) lines.new.window given }
     ensures fault { result ≡ Err ReadStop.Fault → (start : Option (List ℕ)) (given : List (List ℕ)) →
         HasGiven start (S.left lines.old.source.now) lines.old.window given →
         IsBroken start (S.left lines.new.source.now) lines.new.window given }
@@ -208,7 +208,7 @@ fn answer_all<S: Source, N: Reports>(
     requires going { lines.old.stopped ≡ false }
     requires runs { RunsIn heaps.old collector.old }
     requires whole { (N.telling out.old).broken ≡ false }
-    ensures done { result ≡ Status.Done → Answers IsWhole (moment (S.left lines.old.source.now) lines.old.window (machine_of heaps.old.heap collector.old) (N.telling out.old))
+    ensures done { result ≡ Status.Done → Answers AreAllGiven (moment (S.left lines.old.source.now) lines.old.window (machine_of heaps.old.heap collector.old) (N.telling out.old))
         (moment (S.left lines.new.source.now) lines.new.window (machine_of heaps.new.heap collector.new) (N.telling out.new)) }
     ensures fault { result ≡ Status.ReadFault → Answers IsBroken (moment (S.left lines.old.source.now) lines.old.window (machine_of heaps.old.heap collector.old) (N.telling out.old))
         (moment (S.left lines.new.source.now) lines.new.window (machine_of heaps.new.heap collector.new) (N.telling out.new)) }

@@ -1,4 +1,4 @@
-use Rattle.cc_laws_headline.proofs.EachTurn.{tells-of_a_graph}
+use Rattle.cc_laws_headline.proofs.EachExchange.{tells-of_a_graph}
 use Rattle.cc_laws_headline.proofs.headline.lawful_transcripts_tell_of_a_graph.Goals as goal
 
 pub returns : goal.returns

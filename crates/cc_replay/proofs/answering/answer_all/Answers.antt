@@ -1,6 +1,6 @@
 use Rattle.std.proofs.Common.{◌≡◌, Option, Ok, Err, refl, sym, ap, ◌∙◌}
 use Rattle.cc_model.specs.Telling.{Telling}
-use Rattle.cc_reader.specs.Given.{IsWhole, IsBroken, IsOver}
+use Rattle.cc_reader.specs.Given.{AreAllGiven, IsBroken, IsOver}
 use Rattle.cc_heaps.specs.Keyed.{Keyed}
 use Rattle.cc_builder.specs.Building.{Built}
 use Rattle.cc_collector.specs.Kept.{machine_of}
@@ -28,7 +28,7 @@ lines-init g c = record {
 pub returns-in-Ok-End-clause-done : goal.returns-in-Ok-End-clause-done
 returns-in-Ok-End-clause-done g c = λ _.
     let was = c.in-Ok-End.is ∙ ap Ok c.in-Ok-End.field-0-is in
-    Answers-still IsWhole c.lines.invariant.lines (c.answer_next.ensures.whole was) (still_machine (c.answer_next.ensures.quiet was))
+    Answers-still AreAllGiven c.lines.invariant.lines (c.answer_next.ensures.whole was) (still_machine (c.answer_next.ensures.quiet was))
 
 pub returns-in-Err-Fault-clause-fault : goal.returns-in-Err-Fault-clause-fault
 returns-in-Err-Fault-clause-fault g c = λ _.

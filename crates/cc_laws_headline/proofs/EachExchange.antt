@@ -22,8 +22,8 @@ use Rattle.cc_model.specs.Quiet as quiet
 use Rattle.cc_laws_run.specs.Running.{state_after}
 use Rattle.cc_laws_run.proofs.FreedListed.{census_order-listed}
 use Rattle.cc_laws_run.proofs.PlainQuiet.{listed-census_order}
-use Rattle.cc_laws_headline.specs.Turns.{Turn, IsTurnOf, before, is_blank, spoken, HasJustCollected}
-use Rattle.cc_laws_headline.specs.Headline.{CommandReplyIs, ReplyIs, ListsWhatIsThere, SparesReached, ListsReached, TellsOfAGraph}
+use Rattle.cc_laws_headline.specs.Exchanges.{Exchange, IsExchangeOf, before, is_blank, spoken, HasJustCollected}
+use Rattle.cc_laws_headline.specs.Headline.{CommandReplyIs, ReplyIs, ListsWhatIsThere, SparesReached, CensusIsExact, TellsOfAGraph}
 
 -- Lawful
 
@@ -127,24 +127,24 @@ quiet-turn row s (c ∷ asked) (b ∷ told) ask a later more e q =
     go rest false is = rest
 
 -- what a census lists, where exactly the reached names are listed
-census-reached : (s : State) (a : Answer) → a.listed ≡ census_order s.listed → quiet.ListsReached s → ListsReached s a
+census-reached : (s : State) (a : Answer) → a.listed ≡ census_order s.listed → quiet.ListsReached s → CensusIsExact s a
 census-reached s a e exact x = (
   λ m. (exact x).0 (census_order-listed s.listed x (subst (Among x) e m)),
   λ r. subst (Among x) (sym e) (listed-census_order s.listed x ((exact x).1 r)),
 )
 
 module _ (limits : Allowance) (asks : List Ask) (answers : List Answer) (l : IsLawful limits asks answers) (q : IsQuiet limits asks answers) where
-  lawful-at : (t : Turn) → IsTurnOf asks answers t → AnswersAsk (before limits t) t.ask t.answer
+  lawful-at : (t : Exchange) → IsExchangeOf asks answers t → AnswersAsk (before limits t) t.ask t.answer
   lawful-at t i = lawful-turn (start limits) t.asked t.told t.ask t.answer i.later i.told_later i.one_each
       (subst (λ (told : List Answer). IsLawfulFrom (start limits) (t.asked ++ t.ask ∷ i.later) told) i.answers_are
       (subst (λ (ks : List Ask). IsLawfulFrom (start limits) ks answers) i.asks_are l))
 
-  quiet-at : (t : Turn) → IsTurnOf asks answers t → CensusIsQuiet (rows_after nothing_yet (spoken t.asked t.told)) (before limits t) t.ask
+  quiet-at : (t : Exchange) → IsExchangeOf asks answers t → CensusIsQuiet (rows_after nothing_yet (spoken t.asked t.told)) (before limits t) t.ask
   quiet-at t i = quiet-turn nothing_yet (start limits) t.asked t.told t.ask t.answer i.later i.told_later i.one_each
       (subst (λ (told : List Answer). IsQuietFrom nothing_yet (start limits) (t.asked ++ t.ask ∷ i.later) told) i.answers_are
       (subst (λ (ks : List Ask). IsQuietFrom nothing_yet (start limits) ks answers) i.asks_are q))
 
-  exact-at : (t : Turn) → IsTurnOf asks answers t → HasJustCollected t.asked t.told → t.ask ≡ taken Census → quiet.ListsReached (before limits t)
+  exact-at : (t : Exchange) → IsExchangeOf asks answers t → HasJustCollected t.asked t.told → t.ask ≡ taken Census → quiet.ListsReached (before limits t)
   exact-at t i j e = subst (λ (ask : Ask). CensusIsQuiet after_all (before limits t) ask) e
       (subst (λ (row : Row). CensusIsQuiet row (before limits t) t.ask) whole (quiet-at t i))
     where

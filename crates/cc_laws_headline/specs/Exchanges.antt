@@ -9,14 +9,14 @@ use Rattle.cc_model.specs.Lawful.{State, start, next}
 use Rattle.cc_laws_run.specs.Running.{state_after}
 
 -- an ask and its answer, and all asks before it with theirs
-pub record Turn : Type 0 where
+pub record Exchange : Type 0 where
   pub asked : List Ask
   pub told : List Answer
   pub ask : Ask
   pub answer : Answer
 
 -- it is one of these asks, and has its answer
-pub record IsTurnOf (asks : List Ask) (answers : List Answer) (t : Turn) : Type 0 where
+pub record IsExchangeOf (asks : List Ask) (answers : List Answer) (t : Exchange) : Type 0 where
   pub later : List Ask
   pub told_later : List Answer
   pub asks_are : asks ≡ t.asked ++ t.ask ∷ later
@@ -24,10 +24,10 @@ pub record IsTurnOf (asks : List Ask) (answers : List Answer) (t : Turn) : Type 
   pub one_each : length t.asked ≡ length t.told
 
 -- the graph and the names that a census would list, before it and after it
-abbrev pub before : Allowance → Turn → State
+abbrev pub before : Allowance → Exchange → State
 before limits t = state_after (start limits) t.asked t.told
 
-abbrev pub after : Allowance → Turn → State
+abbrev pub after : Allowance → Exchange → State
 after limits t = next (before limits t) t.ask t.answer
 
 -- a blank line or a comment
