@@ -1,13 +1,16 @@
 -- Items told one after another.
-use Rattle.std.proofs.Common.{◌≡◌, ℕ, List, [], ◌∷◌, ◌++◌, Bool, true, false, Option, Some, None, refl, sym, ◌∙◌, ap, subst, append_assoc}
+use Rattle.std.proofs.Common.{◌≡◌, ℕ, List, [], ◌∷◌, ◌++◌, map, Bool, true, false, Option, Some, None, refl, sym, ◌∙◌, ap, subst, append_assoc}
 use Rattle.std.proofs.lemmas.Grind.{flat_map-append}
+use Rattle.std.proofs.lemmas.List.{map-append}
 use Rattle.cc_lists.proofs.KnownBytes.{Appends-nil, Appends-trans}
 use Rattle.std.specs.Io.KnownBytes.{Appends}
 use Rattle.cc_lists.specs.Faults.{Rose}
+use Rattle.cc_model.specs.declared.item.Event.{Event}
 use Rattle.cc_model.specs.declared.item.Item.{Item}
+use Rattle.cc_model.specs.declared.item.Item.TheVariants.{Event as of_event}
 use Rattle.cc_model.specs.declared.sums.Sums.{Sums}
 use Rattle.cc_model.specs.Summed.{summed, sums_after, with_item}
-use Rattle.cc_model.specs.Telling.{Telling, Tells, Broke, Grew}
+use Rattle.cc_model.specs.Telling.{Telling, Tells, TellsEvents, Broke, Grew}
 use Rattle.cc_model.specs.Texts.{text_of, texts_of}
 
 -- the lines of items, and of others after them
@@ -93,3 +96,7 @@ Tells-trans a b c x y p q = record {
   whole = join_whole a b c x y b.broken refl p q;
   broke = join_broke a b c x y b.broken refl p q;
 }
+
+-- EVENTS TOLD ONE AFTER THE OTHER.
+pub TellsEvents-trans : (a b c : Telling) (es fs : List Event) → TellsEvents a b es → TellsEvents b c fs → TellsEvents a c (es ++ fs)
+TellsEvents-trans a b c es fs p q = subst (Tells a c) (sym (map-append of_event es fs)) (Tells-trans a b c (map of_event es) (map of_event fs) p q)

@@ -7,4 +7,3 @@ pub mod FaultFree
 pub mod GivenWords
 pub mod OptionRows
 pub mod Replying
-pub mod Tellings

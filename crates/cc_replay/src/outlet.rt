@@ -1,6 +1,6 @@
 //! A sink that items are told to, each as one line.
 
-ghost use Rattle.std.specs.Prelude.{◌≡◌, OnErr, OnOk};
+ghost use Rattle.std.specs.Prelude.{◌≡◌, None, OnErr, OnOk};
 ghost use Rattle.std.specs.Io.KnownBytes.{Appends};
 ghost use Rattle.cc_lists.specs.Faults.{Rose};
 ghost use Rattle.cc_model.specs.Telling.{AppendsFront};
@@ -44,6 +44,7 @@ impl<'a, K: Sink> Notices for Outlet<'a, K> {
       broken = o.broken;
       faults = K.faults o.sink.now;
       sink = o.sink.ghost_name;
+      sums = None;
     } };
 
     fn tell(&mut self, item: Item) {
