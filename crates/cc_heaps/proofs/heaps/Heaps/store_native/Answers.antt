@@ -1,4 +1,4 @@
-use Rattle.std.proofs.Common.{◌≡◌, ℕ, ◌<◌, length, get_or, map, Option, Some, None, sym, ◌∙◌, ap, subst}
+use Rattle.std.proofs.Common.{◌≡◌, ℕ, ◌<◌, length, get_or, Option, Some, None, sym, ◌∙◌, ap, subst}
 use Rattle.cc_names.specs.declared.name.Name.{Name}
 use Rattle.cc_names.specs.declared.number.NKey.{NKey}
 use Rattle.cc_names.specs.Names.{native}
