@@ -1,15 +1,15 @@
 -- The lines of a made script, as a reader of lines cuts them.
-use Rattle.std.proofs.Common.{◌≡◌, ℕ, zero, suc, ◌+◌, ◌*◌, ◌≤◌, Bool, true, false, not, ◌&&◌, ◌==◌, List, [], ◌∷◌, ◌++◌, length, map, refl, sym, ap, ◌∙◌, arith, lit≤, append_assoc, append-nil, length-append, nat_le, if◌then◌else◌}
+use Rattle.std.proofs.Common.{◌≡◌, ℕ, zero, suc, ◌+◌, ◌*◌, ◌≤◌, Bool, true, false, not, ◌==◌, List, [], ◌∷◌, ◌++◌, length, map, refl, sym, ap, ◌∙◌, arith, lit≤, append_assoc, append-nil, length-append, nat_le, if◌then◌else◌}
 use Rattle.std.specs.List.{All, list_all}
 use Rattle.std.proofs.lemmas.Bool.{and_parts, false≢true, leb-true}
 use Rattle.std.proofs.lemmas.List.Folds.{list_all-map}
 use Rattle.cc_model.specs.Asks.{ask_of, asks_of, command_of}
 use Rattle.cc_model.specs.Forms.{version_one_forms}
-use Rattle.cc_model.specs.Lines.{ended_by, line_after, lines_from as cut_from, lines_of}
+use Rattle.cc_model.specs.Lines.{lines_from as cut_from, lines_of}
 use Rattle.rand_pcg.specs.Lcg.{Lcg}
 use Rattle.cc_made.specs.Asked.{is_command, tail_asks}
 use Rattle.cc_made.specs.Forms.{forms}
-use Rattle.cc_made.specs.Made.{ended, lines_from, made_line, script_of, tail}
+use Rattle.cc_made.specs.Made.{lines_from, made_line, script_of, tail}
 use Rattle.cc_made.proofs.Passing.{all-made, form_passes, passes-made}
 use Rattle.cc_made.proofs.Tables.{passes-at}
 
@@ -25,7 +25,7 @@ cut-inside : (so_far : List ℕ) (b : ℕ) (after : List ℕ) → is_inside b �
 cut-inside so_far b after h = go (b == 10) h
   where
     go : (ends : Bool) → not ends ≡ true →
-      (if ends then so_far ∷ [] else []) ++ cut_from (if ends then [] else so_far ++ b ∷ []) after ≡ cut_from (so_far ++ b ∷ []) after
+        (if ends then so_far ∷ [] else []) ++ cut_from (if ends then [] else so_far ++ b ∷ []) after ≡ cut_from (so_far ++ b ∷ []) after
     go true h = absurd (false≢true h)
     go false h = refl
 
@@ -98,7 +98,7 @@ tail-made (suc count) words = ap (λ l. ask_of version_one_forms (made_line word
 
 -- the asks of the script's bytes are those of its lines
 pub asks-made : (count : ℕ) (words : Lcg) →
-  asks_of version_one_forms (script_of (lines_from count words)) ≡ map (ask_of version_one_forms) (lines_from count words)
+    asks_of version_one_forms (script_of (lines_from count words)) ≡ map (ask_of version_one_forms) (lines_from count words)
 asks-made count words = ap (map (ask_of version_one_forms)) (cut-script (lines_from count words) (uncut-made count words))
 
 -- each is short

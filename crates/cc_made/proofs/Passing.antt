@@ -26,7 +26,7 @@ abbrev pub form_passes : (List ℕ → Bool) → Form → Bool
 form_passes p f = all_pass p f.operands f.word
 
 passes-with : (p : List ℕ → Bool) (os : List Operand) (text : List ℕ) (words : Lcg) → all_pass p os text ≡ true →
-  p (with_operands os (record { text = text; words = words })).text ≡ true
+    p (with_operands os (record { text = text; words = words })).text ≡ true
 passes-with p [] text words all = all
 passes-with p (Native ∷ os) text words all =
     passes-with p os _ (rest words) (passes-eight (λ n. all_pass p os (text ++ codes " n" ++ (48 + n) ∷ [])) (next_word words) all)
@@ -46,6 +46,6 @@ passes-made p all words =
 
 -- and so does each line of a script where the tail's lines pass it too
 pub all-made : (p : List ℕ → Bool) → list_all (form_passes p) forms ≡ true → list_all p tail ≡ true →
-  (count : ℕ) (words : Lcg) → list_all p (lines_from count words) ≡ true
+    (count : ℕ) (words : Lcg) → list_all p (lines_from count words) ≡ true
 all-made p all last zero words = last
 all-made p all last (suc count) words = and_from _ _ (passes-made p all words) (all-made p all last count (made_line words).words)

@@ -12,3 +12,6 @@ pub use laws::{
     known_scripts_are_made, made_scripts_are_cut_into_their_lines, made_scripts_ask_commands,
 };
 pub use made_source::MadeSource;
+
+#[cfg(test)]
+mod tests;
