@@ -3,11 +3,11 @@ use Rattle.std.proofs.Common.{◌≡◌, ℕ, zero, suc, ◌+◌, ◌*◌, ◌�
 use Rattle.std.specs.List.{All, list_all}
 use Rattle.std.proofs.lemmas.Bool.{and_parts, false≢true, leb-true}
 use Rattle.std.proofs.lemmas.List.Folds.{list_all-map}
-use Rattle.cc_model.specs.Asks.{ask_of, asks_of, command_of}
+use Rattle.cc_model.specs.Asks.{Ask, ask_of, asks_of, command_of}
 use Rattle.cc_model.specs.Forms.{version_one_forms}
 use Rattle.cc_model.specs.Lines.{lines_from as cut_from, lines_of}
 use Rattle.rand_pcg.specs.Lcg.{Lcg}
-use Rattle.cc_made.specs.Asked.{is_command, tail_asks}
+use Rattle.cc_made.specs.Asked.{fills_of_eight, is_command, tail_asks}
 use Rattle.cc_made.specs.Forms.{forms}
 use Rattle.cc_made.specs.Made.{lines_from, made_line, script_of, tail}
 use Rattle.cc_made.proofs.Passing.{all-made, form_passes, passes-made}
@@ -68,24 +68,23 @@ bytes-made (suc count) words =
     let others = script_of (lines_from count (made_line words).words) in
     omega (arith, short-made words, bytes-made count (made_line words).words, length-append (line ++ 10 ∷ []) others, length-append line (10 ∷ []))
 
--- what they ask
-abbrev pub asks_command : List ℕ → Bool
-asks_command line = is_command (ask_of version_one_forms line)
+-- a test that each ask passes
+pub asks-pass : (test : Ask → Bool) → list_all (form_passes (λ line. test (ask_of version_one_forms line))) forms ≡ true → list_all (λ line. test (ask_of version_one_forms line)) tail ≡ true →
+  (count : ℕ) (words : Lcg) → list_all test (map (ask_of version_one_forms) (lines_from count words)) ≡ true
+asks-pass test all last count words =
+    list_all-map test (ask_of version_one_forms) (lines_from count words) ∙ all-made (λ line. test (ask_of version_one_forms line)) all last count words
 
-forms-ask : list_all (form_passes asks_command) forms ≡ true
+pub commands-made : (count : ℕ) (words : Lcg) → list_all is_command (map (ask_of version_one_forms) (lines_from count words)) ≡ true
 unfolding command_of
-forms-ask = refl
+commands-made = asks-pass is_command refl refl
+
+pub registers-made : (count : ℕ) (words : Lcg) → list_all fills_of_eight (map (ask_of version_one_forms) (lines_from count words)) ≡ true
+unfolding command_of
+registers-made = asks-pass fills_of_eight refl refl
 
 tail-asks : map (ask_of version_one_forms) tail ≡ tail_asks
 unfolding command_of
 tail-asks = refl
-
-tail-commands : list_all asks_command tail ≡ true
-unfolding command_of
-tail-commands = refl
-
-pub commands-made : (count : ℕ) (words : Lcg) → list_all is_command (map (ask_of version_one_forms) (lines_from count words)) ≡ true
-commands-made count words = list_all-map is_command (ask_of version_one_forms) (lines_from count words) ∙ all-made asks_command forms-ask tail-commands count words
 
 -- what stands before the tail
 abbrev pub drawn_lines : ℕ → Lcg → List (List ℕ)

@@ -5,7 +5,7 @@ ghost use Rattle.std.specs.List.{list_all};
 ghost use Rattle.cc_model.specs.Asks.{Ask, asks_of};
 ghost use Rattle.cc_model.specs.Forms.{version_one_forms};
 ghost use Rattle.cc_model.specs.Lines.{lines_of};
-ghost use Rattle.cc_made.specs.Asked.{is_command, tail_asks};
+ghost use Rattle.cc_made.specs.Asked.{fills_of_eight, is_command, tail_asks};
 ghost use Rattle.cc_made.specs.Known.{four_of_the_greatest, thirty_of_111, three_of_seven};
 ghost use Rattle.cc_made.specs.Made.{made_lines, made_script, tail};
 
@@ -19,11 +19,12 @@ pub fn made_scripts_are_cut_into_their_lines()
     ensures within { (seed count : ℕ) → count ≤ 1000000 → length (made_script seed count) ≤ 2 ^ 32 - 1 }
 {}
 
-/// Each line of a made script asks a command: none is blank, a comment, too long or not in the grammar. The last twenty
-/// let go of the registers, collect, and take a census.
+/// Each line of a made script asks a command: none is blank, a comment, too long or not in the grammar. They fill the
+/// first eight registers of each bank alone; and the last twenty empty these, collect, and take a census.
 pub fn made_scripts_ask_commands()
     ensures many { (seed count : ℕ) → length (asks_of version_one_forms (made_script seed count)) ≡ count + 20 }
     ensures commands { (seed count : ℕ) → IsTrue (list_all is_command (asks_of version_one_forms (made_script seed count))) }
+    ensures registers { (seed count : ℕ) → IsTrue (list_all fills_of_eight (asks_of version_one_forms (made_script seed count))) }
     ensures tail { (seed count : ℕ) → (asks : List Ask) × (asks_of version_one_forms (made_script seed count) ≡ asks ++ tail_asks) }
 {}
 
