@@ -6,8 +6,8 @@ use borrow.Rule.Slice.PartMut.{put_mid}
 
 -- the first g elements are filled, and m more go into the rest of the buffer
 pub filled-more : (left old buf part : List ℕ) (g m : ℕ) → g ≤ length left → buf ≡ take g left ++ drop g old →
-  part ≡ take m (drop g left) ++ drop m (take (length buf - g) (drop g buf)) →
-  put_mid g (length buf - g) buf part ≡ take (g + m) left ++ drop (g + m) old
+    part ≡ take m (drop g left) ++ drop m (take (length buf - g) (drop g buf)) →
+    put_mid g (length buf - g) buf part ≡ take (g + m) left ++ drop (g + m) old
 filled-more left old buf part g m within is more =
     let front : take g buf ≡ take g left = ap (take g) is ∙ take_at (take g left) (drop g old) g (length-take-le g left within) in
     let back : drop g buf ≡ drop g old = ap (drop g) is ∙ drop_at (take g left) (drop g old) g (length-take-le g left within) in

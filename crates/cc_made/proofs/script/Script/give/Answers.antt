@@ -14,7 +14,7 @@ pieces-preserved c =
     let part = drop given buf in
     record {
       filled = filled-more left c.args.buf.now buf c.give_piece-count.new.buf given count done.within done.filled
-        (more.filled ∙ ap (λ l. take count l ++ drop count (take (length buf - given) part)) done.rest);
+          (more.filled ∙ ap (λ l. take count l ++ drop count (take (length buf - given) part)) done.rest);
       rest = more.rest ∙ ap (drop count) done.rest ∙ drop-drop count given left;
       within = omega (arith, done.within, more.within, ap length done.rest, length-drop given left);
       room = omega (arith, more.bound, length-take (length buf - given) part, length-drop given buf, c.pieces-test.true, c.pieces.auto.buf);
