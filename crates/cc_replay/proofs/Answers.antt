@@ -26,7 +26,7 @@ use Rattle.cc_reader.specs.Pending.{Pending}
 use Rattle.cc_reader.specs.Given.{AreFirst, HasGiven}
 use Rattle.cc_reader.proofs.Given.{HasGiven-first}
 use Rattle.cc_replay.specs.Answering.{Answers, AreAnswered, GivesLine, LineIsAnswered, Moment}
-use Rattle.cc_replay.specs.Transcripts.{IsTranscript}
+use Rattle.cc_replay.specs.Transcripts.{IsRun, IsTranscript}
 
 -- the same machine does an ask in the same way
 IsDoneFor-same : (m k n : Machine) (ask : Ask) (a : Answer) → SameMachine m k → IsDoneFor k ask a n → IsDoneFor m ask a n
@@ -106,18 +106,18 @@ Answers-more {m₀ = m₀} {m₁ = m₁} {m₂ = m₂} a l = record {
       );
 }
 
--- WHAT IS TOLD FOR LINES THAT ARE ANSWERED, from the empty heaps on, is a transcript of what they ask
-pub AreAnswered-transcript : (limits : Allowance) (k : Machine) (lines : List (List ℕ)) (t₀ t₁ : Telling) (a : AreAnswered (empty_machine limits []) k lines t₀ t₁) →
-    IsTranscript limits (map (ask_of version_one_forms) lines) (text_of_answers a.answers)
-AreAnswered-transcript limits k lines t₀ t₁ a = record {
+-- LINES THAT ARE ANSWERED, from the empty heaps on: their answers are a run of what they ask
+pub AreAnswered-run : (limits : Allowance) (k : Machine) (lines : List (List ℕ)) (t₀ t₁ : Telling) (a : AreAnswered (empty_machine limits []) k lines t₀ t₁) →
+    IsRun limits (map (ask_of version_one_forms) lines) a.answers
+AreAnswered-run limits k lines t₀ t₁ a = subst (IsRun limits asks) o.answered (record {
   memory = o.memory;
   noes_are_told = told;
-  text_is = ap text_of_answers (sym o.answered);
+  answers_are = refl;
   tells = tells-of_a_graph limits asks (plain_run limits o.memory asks) (run-lawful limits o.memory asks a.in_range) (run-quiet limits o.memory asks a.in_range);
   lawful = run-lawful limits o.memory asks a.in_range;
   quiet = run-quiet limits o.memory asks a.in_range;
-  with_all_memory = λ none. ap text_of_answers (sym o.answered ∙ turns-ample (empty_machine limits o.memory) asks (told ∙ none));
-}
+  with_all_memory = λ none. turns-ample (empty_machine limits o.memory) asks (told ∙ none);
+})
   where
     asks : List Ask
     asks = map (ask_of version_one_forms) lines
@@ -127,3 +127,8 @@ AreAnswered-transcript limits k lines t₀ t₁ a = record {
 
     told : noes o.memory ≡ all_noes_told asks (plain_run limits o.memory asks)
     told = o.said_no ∙ ap (all_noes_told asks) (sym o.answered)
+
+-- what is told for them is a transcript
+pub AreAnswered-transcript : (limits : Allowance) (k : Machine) (lines : List (List ℕ)) (t₀ t₁ : Telling) (a : AreAnswered (empty_machine limits []) k lines t₀ t₁) →
+    IsTranscript limits (map (ask_of version_one_forms) lines) (text_of_answers a.answers)
+AreAnswered-transcript limits k lines t₀ t₁ a = record { answers = a.answers; run = AreAnswered-run limits k lines t₀ t₁ a; text_is = refl }
