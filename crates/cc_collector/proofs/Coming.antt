@@ -1,16 +1,12 @@
 -- WHAT SLICES, COLLECTIONS AND `gc` COME TO, by what their units did and told.
-use Rattle.std.proofs.Common.{◌≡◌, ◌≢◌, ℕ, ◌+◌, ◌<◌, Bool, true, false, List, [], ◌++◌, map, Option, Some, None, is_some, refl, sym, ap, ◌∙◌, subst, arith}
-use Rattle.std.proofs.lemmas.Grind.{flat_map-append}
-use Rattle.std.proofs.lemmas.List.{map-append}
+use Rattle.std.proofs.Common.{◌≡◌, ◌≢◌, ℕ, ◌+◌, ◌<◌, Bool, true, false, List, [], ◌++◌, Option, Some, None, is_some, refl, sym, ap, ◌∙◌, subst, arith}
 use Rattle.cc_model.specs.declared.item.Event.{Event}
-use Rattle.cc_model.specs.declared.item.Item.TheVariants.{Event as of_event}
-use Rattle.cc_model.specs.Telling.{Telling, Tells, TellsEvents}
-use Rattle.cc_model.specs.Texts.{text_of, texts_of}
+use Rattle.cc_model.specs.Telling.{Telling, TellsEvents}
 use Rattle.cc_model.specs.Heap.{Heap}
 use Rattle.cc_model.specs.End.{Progress, went_on, at_end, refused}
 use Rattle.cc_model.specs.Sweep.{collect_scripts}
 use Rattle.cc_model.specs.Collecting.{Machine, UnitsDone, slice, collect, gc, then_scripts}
-use Rattle.cc_model.proofs.Tellings.{Tells-trans}
+use Rattle.cc_model.proofs.Tellings.{TellsEvents-trans}
 use Rattle.cc_laws_run.specs.Memory.{with_memory}
 use Rattle.cc_heaps.specs.Keyed.{Keyed}
 use Rattle.cc_builder.specs.Building.{Built}
@@ -23,17 +19,10 @@ use Rattle.cc_collector.proofs.Keeping.{Keeps-then}
 use Rattle.cc_collector.proofs.Spared.{slice-spares, collect-spares, gc-spares}
 use Rattle.cc_collector.proofs.UnitsSpare.{UnitsSpare, slice-units, collect-units, gc-units}
 
--- events told, and then others
-pub told-both : (a b c : Telling) (es fs : List Event) → TellsEvents a b es → TellsEvents b c fs → TellsEvents a c (es ++ fs)
-told-both a b c es fs p q = subst (Tells a c) (sym whole) (Tells-trans a b c (texts_of (map of_event es)) (texts_of (map of_event fs)) p q)
-  where
-    whole : texts_of (map of_event (es ++ fs)) ≡ texts_of (map of_event es) ++ texts_of (map of_event fs)
-    whole = ap texts_of (map-append of_event es fs) ∙ flat_map-append text_of (map of_event es) (map of_event fs)
-
 -- a unit that goes on tells nothing
 pub still-told : (v : Keyed) (c : Option Built) (w : Keyed) (d : Option Built) (t t₁ t₂ : Telling) → TellsEvents t t₁ [] → HasDoneUnit v c w d went_on t₁ t₂ → TellsEvents t t₂ []
 still-told v c w d t t₁ t₂ told u =
-    subst (TellsEvents t t₂) (IsUnit-silent (machine_of v.heap c) (machine_of w.heap d) u.events went_on u.unit refl) (told-both t t₁ t₂ [] u.events told u.told)
+    subst (TellsEvents t t₂) (IsUnit-silent (machine_of v.heap c) (machine_of w.heap d) u.events went_on u.unit refl) (TellsEvents-trans t t₁ t₂ [] u.events told u.told)
 
 -- what units came to, said in other words
 led-by : (d : UnitsDone) (old new : Machine) (events : List Event) (p : Progress) (t t₁ : Telling) → d ≡ units_came (with_memory new []) events p → SparesInEachGraph old.heap d.events →
@@ -83,7 +72,7 @@ module _ (v : Keyed) (c : Option Built) (r : RunsIn v c) where
       subst (λ (j : ℕ). IsSliced n (machine_of v.heap c) (machine_of w.heap d) p steps j t t₂) sum
       (come-sliced n w d u.events p (k + counted_one p) steps t t₂
       (ComeTo-stopped n k (machine_of v.heap c) (machine_of m.heap b) (machine_of w.heap d) u.events p g u.unit stopped less)
-      (told-both t t₁ t₂ [] u.events told u.told))
+      (TellsEvents-trans t t₁ t₂ [] u.events told u.told))
 
   -- Units to the end
 
@@ -93,7 +82,7 @@ module _ (v : Keyed) (c : Option Built) (r : RunsIn v c) where
     events = u.events;
     stopped = subst (λ (e : Option Built). HasStopped (machine_of v.heap c) (machine_of w.heap e) u.events p) (u.over stopped)
         (HasStopped-from k (machine_of v.heap c) (machine_of m.heap b) (machine_of w.heap d) u.events p g u.unit stopped);
-    told = told-both t t₁ t₂ [] u.events told u.told;
+    told = TellsEvents-trans t t₁ t₂ [] u.events told u.told;
     keeps = subst (Keeps v c w) (u.over stopped) (Keeps-then v c m b w d keeps u.keeps);
   }
 
@@ -124,7 +113,7 @@ module _ (v : Keyed) (c : Option Built) (r : RunsIn v c) where
     memory = a.stopped.memory (b.stopped.memory []);
     led = led-by (collect (with_memory (machine_of v.heap c) (a.stopped.memory (b.stopped.memory [])))) (machine_of v.heap c) (machine_of w.heap None) (a.events ++ b.events) p t t₂
         (collect-both (machine_of v.heap c) (machine_of m.heap None) (machine_of w.heap None) a.events b.events p a.stopped b.stopped (some-runs v.heap c some))
-        (collect-spares v c r (a.stopped.memory (b.stopped.memory []))) (collect-units v c r (a.stopped.memory (b.stopped.memory []))) (told-both t t₁ t₂ a.events b.events a.told b.told);
+        (collect-spares v c r (a.stopped.memory (b.stopped.memory []))) (collect-units v c r (a.stopped.memory (b.stopped.memory []))) (TellsEvents-trans t t₁ t₂ a.events b.events a.told b.told);
   }
 
   -- so it is after a running one was finished, if any
@@ -167,7 +156,7 @@ module _ (v : Keyed) (c : Option Built) (r : RunsIn v c) where
   swept-after m w p t t₁ t₂ some a heap told =
       swept-by w (a.stopped.memory []) (units_came (machine_of m.heap None) a.events p) t t₂
       (gc-after (machine_of v.heap c) (machine_of m.heap None) a.events p a.stopped (some-runs v.heap c some)) refl heap
-      (told-both t t₁ t₂ a.events (collect_scripts m.heap).events a.told told)
+      (TellsEvents-trans t t₁ t₂ a.events (collect_scripts m.heap).events a.told told)
 
   -- where none runs
   swept-alone : (w : Keyed) (t t₁ : Telling) → c ≡ None → w.heap ≡ (collect_scripts v.heap).heap → TellsEvents t t₁ (collect_scripts v.heap).events →

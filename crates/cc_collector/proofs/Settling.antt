@@ -12,6 +12,7 @@ use Rattle.cc_model.specs.Sweep.{collect_scripts}
 use Rattle.cc_model.specs.Suspected.{IsSuspected}
 use Rattle.cc_model.specs.End.{at_end, refused}
 use Rattle.cc_model.specs.Collecting.{Machine, collect, gc}
+use Rattle.cc_model.proofs.Tellings.{TellsEvents-trans}
 use Rattle.cc_laws_heap.specs.Sound.{IsSound}
 use Rattle.cc_laws_heap.proofs.CollectedColours.{collect_scripts-sound}
 use Rattle.cc_laws_heap.proofs.ScriptNames.{script_names-named}
@@ -32,7 +33,6 @@ use Rattle.cc_collector.specs.Kept.{RunsIn, machine_of}
 use Rattle.cc_collector.specs.Collected.{TellsWhatLeaves}
 use Rattle.cc_collector.specs.Settled.{HasWhatIsReached, IsSettled}
 use Rattle.cc_collector.proofs.Keeping.{RunsIn-fresh}
-use Rattle.cc_collector.proofs.Coming.{told-both}
 
 -- One call after the other
 
@@ -41,7 +41,7 @@ pub tells-then : (h g k : Heap) (t t₁ t₂ : Telling) → KeepsWhatIsReached h
     TellsWhatLeaves h k t t₂
 tells-then h g k t t₁ t₂ a b s r = record {
   events = s.events ++ r.events;
-  told = told-both t t₁ t₂ s.events r.events s.told r.told;
+  told = TellsEvents-trans t t₁ t₂ s.events r.events s.told r.told;
   unreached = spares-then h g k s.events r.events a b s.unreached r.unreached;
 }
 

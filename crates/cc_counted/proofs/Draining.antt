@@ -1,34 +1,22 @@
 -- THE QUEUE DRAINED: what is left to drain leads where all of it does, and each step takes a native out.
-use Rattle.std.proofs.Common.{◌≡◌, ℕ, suc, ◌-◌, ◌<◌, ◌≤◌, List, [], ◌∷◌, ◌++◌, map, length, refl, sym, ◌∙◌, ap, subst, inr, arith, append-nil}
-use Rattle.std.specs.List.{flat_map}
-use Rattle.std.proofs.lemmas.List.{map-append}
-use Rattle.std.proofs.lemmas.Grind.{flat_map-append}
+use Rattle.std.proofs.Common.{◌≡◌, ℕ, suc, ◌-◌, ◌<◌, ◌≤◌, List, [], ◌∷◌, ◌++◌, map, length, refl, sym, ◌∙◌, ap, subst, inr, arith}
 use Rattle.cc_names.specs.Names.{native}
 use Rattle.cc_model.specs.declared.item.Event.{Event}
 use Rattle.cc_model.specs.declared.item.Event.TheVariants.{Freed}
-use Rattle.cc_model.specs.declared.item.Item.{Item}
-use Rattle.cc_model.specs.declared.item.Item.TheVariants.{Event as of_event}
-use Rattle.cc_model.specs.Texts.{text_of}
-use Rattle.cc_model.specs.Telling.{Telling, Tells}
+use Rattle.cc_model.specs.Telling.{Telling, TellsEvents}
 use Rattle.cc_model.specs.Cascade.{Draining, give_up, free_front, drain, at_rest, drained, cascade}
-use Rattle.cc_model.proofs.Tellings.{Tells-nil, Tells-trans}
+use Rattle.cc_model.proofs.Tellings.{Tells-nil, TellsEvents-trans}
 use Rattle.cc_model.proofs.Draining.{drain-done}
 use Rattle.cc_laws_heap.specs.Balance.{IsBalanced}
 use Rattle.cc_laws_heap.proofs.FreeFront.{IsBalanced-free_front}
 use Rattle.cc_laws_heap.proofs.Drain.{free_front-fewer}
 use Rattle.cc_counted.specs.Counts.{the_number, heap_of, left_with}
 use Rattle.cc_counted.specs.Lists.{Lists, keyed, counts_of, draining_of, IsPlaced, LeavesCells}
-use Rattle.cc_counted.specs.Steps.{GivesUp, FreesFront, texts_of_events, Drains, ComesTo}
+use Rattle.cc_counted.specs.Steps.{GivesUp, FreesFront, Drains, ComesTo}
 use Rattle.cc_counted.proofs.Balanced.{resting}
 use Rattle.cc_counted.proofs.Places.{length-natives}
 use Rattle.cc_counted.proofs.Freeing.{IsBalanced-events}
 use Rattle.cc_counted.proofs.Leaving.{LeavesCells-same, LeavesCells-then, LeavesKeys-cells, counts-left}
-
--- the lines of events with one more
-pub texts-last : (es : List Event) (e : Event) → texts_of_events (es ++ e ∷ []) ≡ texts_of_events es ++ text_of (of_event e)
-texts-last es e =
-    ap (λ (is : List Item). flat_map text_of is) (map-append of_event es (e ∷ []))
-    ∙ (flat_map-append text_of (map of_event es) (of_event e ∷ []) ∙ ap (λ t. texts_of_events es ++ t) (append-nil (text_of (of_event e))))
 
 -- some steps of a drain are done
 pub record DrainsSoFar (start now : Lists) (before after : Telling) : Type 0 where
@@ -39,7 +27,7 @@ pub record DrainsSoFar (start now : Lists) (before after : Telling) : Type 0 whe
   pub placed : IsPlaced now
   pub leaves : LeavesCells start.cells now.cells
   pub balanced : (owned : List ℕ) × IsBalanced owned (draining_of now [])
-  pub told : Tells before after (texts_of_events events)
+  pub told : TellsEvents before after events
 
 pub DrainsSoFar-start : (start : Lists) (before : Telling) → IsPlaced start → (owned : List ℕ) × IsBalanced owned (draining_of start []) → DrainsSoFar start start before before
 DrainsSoFar-start start before p b = record {
@@ -97,8 +85,7 @@ module _ (start now next : Lists) (before middle after : Telling) (s : DrainsSoF
       IsBalanced-events owned (draining_of next (s.events ++ Freed (native f.number) ∷ [])) []
           (subst (IsBalanced owned) (sym (f.draining s.events)) (IsBalanced-free_front owned d f.number f.behind balance f.front)),
     );
-    told = subst (Tells before after) (sym (texts-last s.events (Freed (native f.number))))
-        (Tells-trans before middle after (texts_of_events s.events) (text_of (of_event (Freed (native f.number)))) s.told f.told);
+    told = TellsEvents-trans before middle after s.events (Freed (native f.number) ∷ []) s.told f.told;
   }
     where
       whole : suc (s.steps - 1) ≡ s.steps
@@ -121,5 +108,5 @@ ComesTo-cascade old mid new before after k p none g r =
       emptied = r.emptied;
       placed = r.placed;
       leaves = left;
-      told = subst (λ es. Tells before after (texts_of_events es)) (ap (λ (d : Draining). d.events) all) r.told;
+      told = subst (TellsEvents before after) (ap (λ (d : Draining). d.events) all) r.told;
     }

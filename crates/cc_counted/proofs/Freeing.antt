@@ -6,9 +6,7 @@ use Rattle.cc_lists.specs.Members.{Among}
 use Rattle.cc_names.specs.Names.{native}
 use Rattle.cc_model.specs.declared.item.Event.{Event}
 use Rattle.cc_model.specs.declared.item.Event.TheVariants.{Freed}
-use Rattle.cc_model.specs.declared.item.Item.TheVariants.{Event as of_event}
-use Rattle.cc_model.specs.Texts.{text_of}
-use Rattle.cc_model.specs.Telling.{Telling, Tells}
+use Rattle.cc_model.specs.Telling.{Telling, TellsEvents}
 use Rattle.cc_model.specs.Heap.{native_at}
 use Rattle.cc_model.specs.Cascade.{Draining, give_up_each, natives_of_slots, told_free, without_native, free_front}
 use Rattle.cc_model.specs.Counts.{times}
@@ -100,7 +98,7 @@ module _ (l : Lists) (p : IsPlaced l) (owned : List ℕ) (b : IsBalanced owned (
           (eqb_tells k key);
     }
 
-    pub FreesFront-freed : (before now : Telling) → Tells before now (text_of (of_event (Freed (native c.number)))) → FreesFront l after before now
+    pub FreesFront-freed : (before now : Telling) → TellsEvents before now (Freed (native c.number) ∷ []) → FreesFront l after before now
     FreesFront-freed before now t = record {
       number = number;
       behind = behind;

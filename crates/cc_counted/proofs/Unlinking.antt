@@ -1,38 +1,29 @@
 -- A NATIVE UNLINKED: its slots emptied one after another; what is left to empty leads where all of it does.
-use Rattle.std.proofs.Common.{◌≡◌, ◌<◌, ◌≤◌, ◌+◌, ℕ, suc, List, [], ◌∷◌, ◌++◌, map, length, drop, drop-cons, get_or, Option, Some, None, true, false, refl, sym, ◌∙◌, ap, subst, ⊎_elim, arith, add-one}
-use Rattle.std.specs.List.{flat_map}
+use Rattle.std.proofs.Common.{◌≡◌, ◌<◌, ◌≤◌, ◌+◌, ℕ, suc, List, [], ◌∷◌, ◌++◌, length, drop, drop-cons, get_or, Option, Some, None, true, false, refl, sym, ◌∙◌, ap, subst, ⊎_elim, arith, add-one}
 use Rattle.std.proofs.Math.ListN.{set}
-use Rattle.std.proofs.lemmas.List.{map-append, length-set, drop_all, drop-set-lt}
+use Rattle.std.proofs.lemmas.List.{length-set, drop_all, drop-set-lt}
 use Rattle.std.proofs.lemmas.List.Elements.{Contains-get_or}
-use Rattle.std.proofs.lemmas.Grind.{flat_map-append}
 use Rattle.cc_lists.specs.Members.{Among}
 use Rattle.cc_lists.proofs.Members.{Among-contains}
 use Rattle.cc_names.specs.Names.{native}
 use Rattle.cc_model.specs.declared.item.Event.{Event}
 use Rattle.cc_model.specs.declared.item.Event.TheVariants.{Unlinked}
-use Rattle.cc_model.specs.declared.item.Item.{Item}
-use Rattle.cc_model.specs.declared.item.Item.TheVariants.{Event as of_event}
-use Rattle.cc_model.specs.Texts.{text_of}
-use Rattle.cc_model.specs.Telling.{Telling, Tells}
+use Rattle.cc_model.specs.Telling.{Telling, TellsEvents}
 use Rattle.cc_model.specs.Heap.{Heap, Outcome, silently, after as told_before, native_at, set_preserved}
 use Rattle.cc_model.specs.End.{empty_slot, empty_each, slots_now, without_preservation, unlink}
-use Rattle.cc_model.proofs.Tellings.{Tells-nil, Tells-trans}
+use Rattle.cc_model.proofs.Tellings.{Tells-nil, TellsEvents-trans}
 use Rattle.cc_laws_heap.specs.Balance.{IsBalanced}
 use Rattle.cc_counted.specs.declared.held.Held.{Held}
 use Rattle.cc_counted.specs.declared.held.Held.TheVariants as held
 use Rattle.cc_counted.specs.Counts.{Counts, number_at, the_number, name_of, is_live, heap_of, with_heap, left_with}
 use Rattle.cc_counted.specs.Lists.{Placed, Lists, cell_at, keyed, names_in, counts_of, draining_of, IsPlaced, LeavesKeys}
-use Rattle.cc_counted.specs.Steps.{texts_of_events, EmptiesSlot, EmptiesEach}
+use Rattle.cc_counted.specs.Steps.{EmptiesSlot, EmptiesEach}
 use Rattle.cc_counted.proofs.Places.{the_number-cell, native_at-cell}
 use Rattle.cc_counted.proofs.Holding.{held-same}
 use Rattle.cc_counted.proofs.Each.{live-cell}
 use Rattle.cc_counted.proofs.Places.{number_at-cell}
 use Rattle.cc_counted.proofs.Leaving.{LeavesKeys-same, LeavesKeys-then, counts-left}
 use Rattle.cc_counted.proofs.Reflecting.{left-flagged}
-
--- the lines of events one after another
-texts-append : (es fs : List Event) → texts_of_events (es ++ fs) ≡ texts_of_events es ++ texts_of_events fs
-texts-append es fs = ap (λ (is : List Item). flat_map text_of is) (map-append of_event es fs) ∙ flat_map-append text_of (map of_event es) (map of_event fs)
 
 -- slots from the i-th on are left to empty
 pub record EmptiesSoFar (start now : Lists) (key i : ℕ) (before after : Telling) : Type 0 where
@@ -50,7 +41,7 @@ pub record EmptiesSoFar (start now : Lists) (key i : ℕ) (before after : Tellin
   pub events : List Event
   pub rest : empty_each was.number i (names_in (keyed start.cells) (drop i was.slots)) (record { heap = heap_of (counts_of now); events = events })
       ≡ empty_each was.number 0 (names_in (keyed start.cells) was.slots) (silently (heap_of (counts_of start)))
-  pub told : Tells before after (texts_of_events events)
+  pub told : TellsEvents before after events
 
 pub EmptiesSoFar-start : (start : Lists) (key : ℕ) (before : Telling) → IsPlaced start →
     (others : List ℕ) × (c : Placed) × (cell_at start.cells key ≡ Some c) × IsBalanced (c.number ∷ others) (draining_of start []) → EmptiesSoFar start start key 0 before before
@@ -166,7 +157,7 @@ module _ (start now next : Lists) (key i : ℕ) (before middle after : Telling) 
         ∙ (ap (λ o. empty_each number (suc i) (names (i + 1)) (told_before s.events o)) (sym step)
         ∙ (ap (λ xs. empty_each number i (names_in (keyed start.cells) xs) (record { heap = heap_of (counts_of now); events = s.events })) (sym (dropped s.was.slots within))
         ∙ s.rest));
-    told = subst (Tells before after) (sym (texts-append s.events f.events)) (Tells-trans before middle after (texts_of_events s.events) (texts_of_events f.events) s.told f.told);
+    told = TellsEvents-trans before middle after s.events f.events s.told f.told;
   }
 
 -- THE NATIVE IS UNLINKED once its slots are empty and its reflector is preserved no longer.

@@ -3,9 +3,7 @@ use Rattle.std.specs.Prelude.{◌≡◌, ℕ, List, [], ◌∷◌, ◌++◌, map
 use Rattle.cc_names.specs.Names.{native}
 use Rattle.cc_model.specs.declared.item.Event.{Event}
 use Rattle.cc_model.specs.declared.item.Event.TheVariants.{Freed}
-use Rattle.cc_model.specs.declared.item.Item.TheVariants.{Event as of_event}
-use Rattle.cc_model.specs.Texts.{text_of, texts_of}
-use Rattle.cc_model.specs.Telling.{Telling, Tells}
+use Rattle.cc_model.specs.Telling.{Telling, TellsEvents}
 use Rattle.cc_model.specs.Heap.{Outcome, silently}
 use Rattle.cc_model.specs.End.{empty_slot, empty_each}
 use Rattle.cc_laws_heap.specs.Balance.{IsBalanced}
@@ -34,11 +32,7 @@ pub record FreesFront (old new : Lists) (before after : Telling) : Type 0 where
   pub draining : (events : List Event) → draining_of new (events ++ Freed (native number) ∷ []) ≡ free_front (draining_of old events) number behind
   pub placed : IsPlaced new
   pub leaves : LeavesCells old.cells new.cells
-  pub told : Tells before after (text_of (of_event (Freed (native number))))
-
--- the lines of events
-abbrev pub texts_of_events : List Event → List ℕ
-texts_of_events events = texts_of (map of_event events)
+  pub told : TellsEvents before after (Freed (native number) ∷ [])
 
 -- the queue was drained
 pub record Drains (old new : Lists) (before after : Telling) : Type 0 where
@@ -47,7 +41,7 @@ pub record Drains (old new : Lists) (before after : Telling) : Type 0 where
   pub emptied : new.queue ≡ []
   pub placed : IsPlaced new
   pub leaves : LeavesCells old.cells new.cells
-  pub told : Tells before after (texts_of_events events)
+  pub told : TellsEvents before after events
 
 -- something was done that deletes natives, and came to this outcome
 pub record ComesTo (old new : Lists) (before after : Telling) (done : Outcome) : Type 0 where
@@ -56,7 +50,7 @@ pub record ComesTo (old new : Lists) (before after : Telling) (done : Outcome) :
   pub emptied : new.queue ≡ []
   pub placed : IsPlaced new
   pub leaves : LeavesCells old.cells new.cells
-  pub told : Tells before after (texts_of_events done.events)
+  pub told : TellsEvents before after done.events
 
 -- slot i of the native at a key was emptied, and what was in it given up with its cascade; the native stayed
 pub record EmptiesSlot (old new : Lists) (key i : ℕ) (before after : Telling) : Type 0 where
@@ -70,7 +64,7 @@ pub record EmptiesSlot (old new : Lists) (key i : ℕ) (before after : Telling) 
   pub balanced : (others : List ℕ) → IsBalanced (was.number ∷ others) (draining_of old []) → IsBalanced (was.number ∷ others) (draining_of new [])
   pub events : List Event
   pub outcome : empty_slot (heap_of (counts_of old)) was.number i (name_of (keyed old.cells) (slice_index_or was.slots i None)) ≡ record { heap = heap_of (counts_of new); events = events }
-  pub told : Tells before after (texts_of_events events)
+  pub told : TellsEvents before after events
 
 -- all slots of the native at a key were emptied so
 pub record EmptiesEach (old new : Lists) (key : ℕ) (before after : Telling) : Type 0 where
@@ -84,4 +78,4 @@ pub record EmptiesEach (old new : Lists) (key : ℕ) (before after : Telling) : 
   pub balanced : (others : List ℕ) → IsBalanced (was.number ∷ others) (draining_of old []) → IsBalanced (was.number ∷ others) (draining_of new [])
   pub events : List Event
   pub outcome : empty_each was.number 0 (names_in (keyed old.cells) was.slots) (silently (heap_of (counts_of old))) ≡ record { heap = heap_of (counts_of new); events = events }
-  pub told : Tells before after (texts_of_events events)
+  pub told : TellsEvents before after events

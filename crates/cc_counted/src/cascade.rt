@@ -2,7 +2,7 @@
 ghost use Rattle.std.specs.Prelude.{◌≡◌, ℕ, ◌<◌, ◌≤◌, true, List, [], ◌∷◌, ◌++◌, length, Option, Some, None, option_map, IsSome, IsTrue, IfOk, OnOk, OnErr, slice_index_or};
 ghost use Rattle.cc_lists.specs.Members.{Among};
 ghost use Rattle.cc_names.specs.Names.{native};
-ghost use Rattle.cc_model.specs.Telling.{Tells};
+ghost use Rattle.cc_model.specs.Telling.{TellsEvents};
 ghost use Rattle.cc_model.specs.Heap.{HeapNative, set_preserved, set_slot, suspect};
 ghost use Rattle.cc_model.specs.Cascade.{cascade, add_ref};
 ghost use Rattle.cc_model.specs.End.{unlink};
@@ -13,7 +13,7 @@ ghost use Rattle.cc_counted.specs.Owning.{CallersOwn, Transfers, Makes};
 ghost use Rattle.cc_counted.specs.Lists.{Placed, cell_at, slots_placed, keyed, numbers_in, draining_of, IsPlaced};
 ghost use Rattle.cc_counted.specs.Stored.{TakesNoMemory};
 ghost use Rattle.cc_counted.specs.Resting.{shows, IsAtRest};
-ghost use Rattle.cc_counted.specs.Steps.{GivesUp, FreesFront, Drains, ComesTo, EmptiesSlot, EmptiesEach, texts_of_events};
+ghost use Rattle.cc_counted.specs.Steps.{GivesUp, FreesFront, Drains, ComesTo, EmptiesSlot, EmptiesEach};
 
 use crate::cell::held_reflector;
 use crate::held::{Held, native_held};
@@ -222,7 +222,7 @@ impl Natives {
         requires live { IsSome (number_at (shows self.old) key.0) }
         requires owned { CallersOwn (the_number (shows self.old) key.0 ∷ []) (shows self.old) }
         ensures shows { shows self.new ≡ left_with (shows self.old) (unlink (heap_of (shows self.old)) (the_number (shows self.old) key.0)).heap }
-        ensures told { Tells (N.telling out.old) (N.telling out.new) (texts_of_events (unlink (heap_of (shows self.old)) (the_number (shows self.old) key.0)).events) }
+        ensures told { TellsEvents (N.telling out.old) (N.telling out.new) (unlink (heap_of (shows self.old)) (the_number (shows self.old) key.0)).events }
         ensures owned { Transfers (the_number (shows self.old) key.0 ∷ []) (the_number (shows self.old) key.0 ∷ []) (shows self.old) (shows self.new) }
         ensures at_rest { IsAtRest self.new }
         ensures memory { TakesNoMemory self.old self.new }

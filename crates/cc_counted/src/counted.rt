@@ -1,9 +1,7 @@
 //! The counted heap as callers see it.
-ghost use Rattle.std.specs.Prelude.{◌≡◌, ◌≢◌, false, ℕ, ◌+◌, ◌<◌, ◌≤◌, List, [], ◌∷◌, ◌++◌, length, map, Some, None, option_map, option_and_then, slice_index_or, IsSome, IsTrue, IfSome, MatchOption, OnOk, IfOk, OnErr};
+ghost use Rattle.std.specs.Prelude.{◌≡◌, ◌≢◌, false, ℕ, ◌+◌, ◌<◌, ◌≤◌, List, [], ◌∷◌, ◌++◌, length, Some, None, option_map, option_and_then, slice_index_or, IsSome, IsTrue, IfSome, MatchOption, OnOk, IfOk, OnErr};
 ghost use Rattle.cc_names.specs.Names.{native};
-ghost use Rattle.cc_model.specs.declared.item.Item.TheVariants.{Event};
-ghost use Rattle.cc_model.specs.Texts.{texts_of};
-ghost use Rattle.cc_model.specs.Telling.{Tells};
+ghost use Rattle.cc_model.specs.Telling.{TellsEvents};
 ghost use Rattle.cc_model.specs.Slots.{empty_slots};
 ghost use Rattle.cc_model.specs.Heap.{HeapNative, set_preserved, set_slot, suspect, with_mark};
 ghost use Rattle.cc_model.specs.Cascade.{add_ref};
@@ -98,7 +96,7 @@ impl Counted {
         requires live { IsSome (number_at self.old key.0) }
         requires owned { CallersOwn (the_number self.old key.0 ∷ []) self.old }
         ensures heap { self.new ≡ left_with self.old (released self.old (the_number self.old key.0)).heap }
-        ensures told { Tells (N.telling out.old) (N.telling out.new) (texts_of (map Event (released self.old (the_number self.old key.0)).events)) }
+        ensures told { TellsEvents (N.telling out.old) (N.telling out.new) (released self.old (the_number self.old key.0)).events }
         ensures owned { Transfers (the_number self.old key.0 ∷ []) [] self.old self.new }
     {
         self.natives.release(key, out);
@@ -236,7 +234,7 @@ impl Counted {
         requires live { IsSome (number_at self.old key.0) }
         requires owned { CallersOwn (the_number self.old key.0 ∷ []) self.old }
         ensures heap { self.new ≡ left_with self.old (released self.old (the_number self.old key.0)).heap }
-        ensures told { Tells (N.telling out.old) (N.telling out.new) (texts_of (map Event (released self.old (the_number self.old key.0)).events)) }
+        ensures told { TellsEvents (N.telling out.old) (N.telling out.new) (released self.old (the_number self.old key.0)).events }
         ensures owned { Transfers (the_number self.old key.0 ∷ []) [] self.old self.new }
     {
         self.release(key, out);
@@ -250,7 +248,7 @@ impl Counted {
         requires live { IsSome (number_at self.old key.0) }
         requires owned { CallersOwn (the_number self.old key.0 ∷ []) self.old }
         ensures heap { self.new ≡ left_with self.old (unlink (heap_of self.old) (the_number self.old key.0)).heap }
-        ensures told { Tells (N.telling out.old) (N.telling out.new) (texts_of (map Event (unlink (heap_of self.old) (the_number self.old key.0)).events)) }
+        ensures told { TellsEvents (N.telling out.old) (N.telling out.new) (unlink (heap_of self.old) (the_number self.old key.0)).events }
         ensures owned { Transfers (the_number self.old key.0 ∷ []) (the_number self.old key.0 ∷ []) self.old self.new }
     {
         self.natives.unlink(key, out);

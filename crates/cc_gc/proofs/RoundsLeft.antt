@@ -1,28 +1,25 @@
 -- THE ROUNDS THAT ARE LEFT GIVE WHAT ALL OF THEM GIVE.
-use Rattle.std.proofs.Common.{◌≡◌, ℕ, zero, suc, ◌<◌, Bool, true, false, List, [], ◌++◌, map, length, refl, sym, ◌∙◌, ap, subst, arith}
+use Rattle.std.proofs.Common.{◌≡◌, ℕ, zero, suc, ◌<◌, Bool, true, false, List, [], ◌++◌, length, refl, sym, ◌∙◌, ap, subst, arith}
 use Rattle.cc_lists.specs.Members.{Among}
 use Rattle.cc_lists.proofs.Members.{Among-filtered}
 use Rattle.cc_names.specs.declared.name.Name.{Name}
 use Rattle.cc_model.specs.declared.item.Event.{Event}
-use Rattle.cc_model.specs.declared.item.Item.TheVariants.{Event as of_event}
 use Rattle.cc_model.specs.Heap.{Heap, Outcome, after}
 use Rattle.cc_model.specs.Colours.{marked, HasColours, HasColourInvariant}
 use Rattle.cc_model.specs.StandsFor.{StandsFor}
 use Rattle.cc_model.specs.Suspected.{IsSuspected}
 use Rattle.cc_model.specs.Sweep.{sweep, sweeps, rounds, collect_scripts}
-use Rattle.cc_model.specs.Telling.{Telling, Tells}
-use Rattle.cc_model.specs.Texts.{texts_of}
+use Rattle.cc_model.specs.Telling.{Telling, TellsEvents}
 use Rattle.cc_model.specs.View.{view}
 use Rattle.cc_model.specs.WellFormed.{native_names, script_names}
 use Rattle.cc_model.proofs.Rounds.{length-marked, length-sweep-less}
-use Rattle.cc_model.proofs.Tellings.{Tells-nil}
+use Rattle.cc_model.proofs.Tellings.{Tells-nil, TellsEvents-trans}
 use Rattle.cc_laws_heap.specs.Sound.{IsSound}
 use Rattle.cc_laws_heap.specs.Rounds.{is_not_among}
 use Rattle.cc_laws_heap.proofs.MarkingKeeps.{script_names-marked, round-frees}
 use Rattle.cc_laws_heap.proofs.CollectedColours.{collect_scripts-colours, collect_scripts-invariant}
 use Rattle.cc_laws_heap.proofs.RoundsStand.{collect_scripts-stands}
 use Rattle.cc_laws_snapshot.proofs.SweepLoses.{collect_scripts-suspected}
-use Rattle.cc_heaps.proofs.EventsTold.{Tells-more}
 use Rattle.cc_heaps.specs.Keyed.{Keyed, IsInOrder}
 use Rattle.cc_heaps.specs.Changes.{KeepsKeys}
 use Rattle.cc_heaps.specs.Few.{AreFew}
@@ -71,7 +68,7 @@ pub record IsCollecting (old now : Keyed) (before here : Telling) : Type 0 where
   pub events : List Event
   pub enough : length now.heap.scripts < left
   pub rest : rounds left (record { heap = now.heap; events = events }) ≡ collect_scripts old.heap
-  pub told : Tells before here (texts_of (map of_event events))
+  pub told : TellsEvents before here events
   pub keys : KeepsKeys old now
   pub order : IsInOrder [] now
 
@@ -91,14 +88,14 @@ IsCollecting-start v t order = record {
 pub record IsRound (v w : Keyed) (t u : Telling) (swept : Bool) : Type 0 where
   pub swept_is : swept ≡ sweeps (marked v.heap)
   pub heap : w.heap ≡ (sweep (marked v.heap)).heap
-  pub told : Tells t u (texts_of (map of_event (sweep (marked v.heap)).events))
+  pub told : TellsEvents t u (sweep (marked v.heap)).events
   pub keys : KeepsKeys v w
   pub order : IsInOrder [] w
 
 -- what the whole collection does
 pub record IsCollected (old new : Keyed) (before after : Telling) : Type 0 where
   pub heap : new.heap ≡ (collect_scripts old.heap).heap
-  pub told : Tells before after (texts_of (map of_event (collect_scripts old.heap).events))
+  pub told : TellsEvents before after (collect_scripts old.heap).events
   pub stands : StillStands old.heap new.heap
   pub suspected : IsSuspected (view old.heap) [] → IsSuspected (view new.heap) []
   pub colours : HasColours new.heap
@@ -144,7 +141,7 @@ module _ (old v w : Keyed) (b t u : Telling) (c : IsCollecting old v b t) where
         rest = ap (λ h. rounds n (outcome h (c.events ++ (sweep (marked v.heap)).events))) r.heap
             ∙ (sym (rounds-sweeps n (outcome v.heap c.events) (sym r.swept_is))
             ∙ (ap (λ m. rounds m (outcome v.heap c.events)) (sym e) ∙ c.rest));
-        told = Tells-more b t u c.events (sweep (marked v.heap)).events c.told r.told;
+        told = TellsEvents-trans b t u c.events (sweep (marked v.heap)).events c.told r.told;
         keys = keys-then true r;
         order = r.order;
       }
@@ -165,7 +162,7 @@ module _ (old v w : Keyed) (b t u : Telling) (c : IsCollecting old v b t) where
       let last = collected-last r in
       record {
         heap = ap (λ (o : Outcome). o.heap) last;
-        told = subst (λ (o : Outcome). Tells b u (texts_of (map of_event o.events))) last (Tells-more b t u c.events (sweep (marked v.heap)).events c.told r.told);
+        told = subst (λ (o : Outcome). TellsEvents b u o.events) last (TellsEvents-trans b t u c.events (sweep (marked v.heap)).events c.told r.told);
         stands = λ g made stands. subst (λ (o : Outcome). StandsFor o.heap g) (sym last) (collect_scripts-stands old.heap g s made stands);
         suspected = λ suspected. subst (λ (o : Outcome). IsSuspected (view o.heap) []) (sym last) (collect_scripts-suspected old.heap s suspected);
         colours = subst (λ (o : Outcome). HasColours o.heap) (sym last) (collect_scripts-colours old.heap);

@@ -5,9 +5,7 @@ use Rattle.std.proofs.lemmas.Simd.{map-map}
 use Rattle.cc_lists.specs.Members.{Among}
 use Rattle.cc_names.specs.declared.name.Name.{Name}
 use Rattle.cc_names.specs.Names.{native}
-use Rattle.cc_model.specs.declared.item.Item.TheVariants.{Event as of_event}
-use Rattle.cc_model.specs.Telling.{Telling, Tells}
-use Rattle.cc_model.specs.Texts.{texts_of}
+use Rattle.cc_model.specs.Telling.{Telling, TellsEvents}
 use Rattle.cc_model.specs.Slots.{contents}
 use Rattle.cc_model.specs.Heap.{Heap, HeapNative, Outcome, native_at, set_preserved, suspect}
 use Rattle.cc_model.specs.Cascade.{add_ref, cascade}
@@ -141,8 +139,8 @@ module _ {p : Inside} {next : Counts} {owned : List ℕ} {call : Heap → Outcom
       ∙ ap (λ (o : Outcome). left_with v o.heap) (sym l.beside))
 
   -- what is told of them
-  pub left-told : {before after : Telling} → Tells before after (texts_of (map of_event alone.events)) → Tells before after (texts_of (map of_event (call (heap_of p)).events))
-  left-told {before} {after} told = subst (λ es. Tells before after (texts_of (map of_event es))) (sym (ap (λ (o : Outcome). o.events) l.beside)) told
+  pub left-told : {before after : Telling} → TellsEvents before after alone.events → TellsEvents before after (call (heap_of p)).events
+  left-told {before} {after} told = subst (TellsEvents before after) (sym (ap (λ (o : Outcome). o.events) l.beside)) told
 
   pub left-order : IsInOrder owned (keyed_of (with_counted p next))
   left-order = subst (IsInOrder owned) (sym left-keyed) l.after

@@ -12,7 +12,6 @@ pub mod FewCounts
 pub mod Content
 pub mod LeftWith
 pub mod ContentNames
-pub mod EventsTold
 pub mod SlotsHeld
 pub mod PlacesRead
 pub mod Made

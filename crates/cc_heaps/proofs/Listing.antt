@@ -3,7 +3,6 @@ use Rattle.std.proofs.Common.{◌≡◌, ℕ, ◌+◌, ◌<◌, ◌≤◌, true,
 use Rattle.std.specs.Prelude.{IsTrue}
 use Rattle.std.specs.List.{filter}
 use Rattle.std.specs.Option.{is_some, option_and_then}
-use Rattle.std.proofs.lemmas.Grind.{flat_map-append}
 use Rattle.std.proofs.lemmas.List.{length-map, map-append, append_assoc}
 use Rattle.std.proofs.lemmas.Simd.{map-map}
 use Rattle.cc_lists.specs.Members.{Among}
@@ -16,9 +15,9 @@ use Rattle.cc_names.specs.declared.name.Name.{Name}
 use Rattle.cc_names.specs.declared.number.NKey.{NKey}
 use Rattle.cc_names.specs.declared.number.SKey.{SKey}
 use Rattle.cc_names.specs.Names.{native}
+use Rattle.cc_model.specs.declared.item.Item.{Item}
 use Rattle.cc_model.specs.declared.item.Item.TheVariants.{Listed}
 use Rattle.cc_model.specs.Telling.{Telling, Tells}
-use Rattle.cc_model.specs.Texts.{text_of, texts_of}
 use Rattle.cc_model.specs.Heap.{HeapNative, HeapScript}
 use Rattle.cc_model.specs.WellFormed.{IsRising, native_names, script_names}
 use Rattle.cc_model.proofs.Tellings.{Tells-nil, Tells-trans}
@@ -33,20 +32,17 @@ use Rattle.cc_heaps.proofs.Reaching.{HasOneKey, name_at-own}
 
 -- What is told
 
--- the lines of some names
-abbrev pub listing : List Name → List ℕ
-listing names = texts_of (map Listed names)
-
-pub listing-append : (xs ys : List Name) → listing (xs ++ ys) ≡ listing xs ++ listing ys
-listing-append xs ys = ap texts_of (map-append Listed xs ys) ∙ flat_map-append text_of (map Listed xs) (map Listed ys)
+-- the items of some names
+abbrev pub listing : List Name → List Item
+listing names = map Listed names
 
 -- some names listed, and then others
 pub told-both : (a b c : Telling) (xs ys : List Name) → Tells a b (listing xs) → Tells b c (listing ys) → Tells a c (listing (xs ++ ys))
-told-both a b c xs ys s t = subst (Tells a c) (sym (listing-append xs ys)) (Tells-trans a b c (listing xs) (listing ys) s t)
+told-both a b c xs ys s t = subst (Tells a c) (sym (map-append Listed xs ys)) (Tells-trans a b c (listing xs) (listing ys) s t)
 
 -- one more
-told-last : (a b c : Telling) (xs : List Name) (y : Name) → Tells a b (listing xs) → Tells b c (text_of (Listed y)) → Tells a c (listing (xs ++ y ∷ []))
-told-last a b c xs y s t = told-both a b c xs (y ∷ []) s (subst (Tells b c) (sym (append-nil (text_of (Listed y)))) t)
+told-last : (a b c : Telling) (xs : List Name) (y : Name) → Tells a b (listing xs) → Tells b c (Listed y ∷ []) → Tells a c (listing (xs ++ y ∷ []))
+told-last a b c xs y s t = told-both a b c xs (y ∷ []) s t
 
 -- The members of a list told one after the other
 
@@ -92,7 +88,7 @@ module _ {X : Type 0} (name : X → Name) (key : X → ℕ) (all : List X) where
 
       -- one more told
       pub told-next : HasDistinctKeys key all → (next : Option ℕ) (later : Telling) →
-          ((x : X) → Among x all → key x ≡ j → (next ≡ next_key key all (key x)) × Tells after later (text_of (Listed (name x)))) →
+          ((x : X) → Among x all → key x ≡ j → (next ≡ next_key key all (key x)) × Tells after later (Listed (name x) ∷ [])) →
           AreTold X name key all next (count + 1) before later
       told-next once next later step =
           let x = s.this in
@@ -164,7 +160,7 @@ module _ (c : Counts) {at : Option NKey} {count : ℕ} {before after : Telling} 
 
   -- one more listed
   pub natives-next : IsRising (numbers_of_natives c.natives) → (key : NKey) → at ≡ Some key → NativesListed c at count before after → (j : ℕ) → number_at c key.0 ≡ Some j →
-      {next : Option NKey} → IsNext c next (number_after c (the_number c key.0)) → IsLiveKey c next → {later : Telling} → Tells after later (text_of (Listed (native j))) →
+      {next : Option NKey} → IsNext c next (number_after c (the_number c key.0)) → IsLiveKey c next → {later : Telling} → Tells after later (Listed (native j) ∷ []) →
       NativesListed c next (count + 1) before later
   natives-next rising key e k j f {next} first there {later} told = record {
     walk = told-next (λ (n : HeapNative). native n.number) (λ (n : HeapNative). n.number) c.natives count before after j
@@ -174,7 +170,7 @@ module _ (c : Counts) {at : Option NKey} {count : ℕ} {before after : Telling} 
               ∙ (first_number-key (filter (λ p. nat_lt (the_number c key.0) p.number) c.natives)
               ∙ (ap (λ i. first_key (λ (p : HeapNative). p.number) (filter (λ p. nat_lt i p.number) c.natives)) (ap number_or_none f ∙ sym here)
               ∙ sym (next-above (λ (p : HeapNative). p.number) c.natives rising n m))),
-          subst (λ i. Tells after later (text_of (Listed (native i)))) (sym here) told,
+          subst (λ i. Tells after later (Listed (native i) ∷ [])) (sym here) told,
         ));
     there = there;
   }
@@ -213,7 +209,7 @@ module _ (os : List Object) {at : Option SKey} {count : ℕ} {before after : Tel
 
   -- one more listed
   pub objects-next : HasOneKey os → (key : SKey) → at ≡ Some key → ObjectsListed os at count before after → (x : Name) → name_at os key.0 ≡ Some x →
-      {next : Option SKey} → IsNextObject next (key_after os key.0) → IsObjectThere os next → {later : Telling} → Tells after later (text_of (Listed x)) →
+      {next : Option SKey} → IsNextObject next (key_after os key.0) → IsObjectThere os next → {later : Telling} → Tells after later (Listed x ∷ []) →
       ObjectsListed os next (count + 1) before later
   objects-next one key e k x f {next} first there {later} told = record {
     walk = told-next (λ (o : Object). o.name) (λ (o : Object). o.key) os count before after key.0
@@ -221,7 +217,7 @@ module _ (os : List Object) {at : Option SKey} {count : ℕ} {before after : Tel
         one (option_map (λ (key : SKey). key.0) next) later (λ o m here.
         let named : Some x ≡ Some o.name = sym f ∙ (ap (name_at os) (sym here) ∙ name_at-own os one o m) in
         let is : x ≡ o.name = cc in
-        (first ∙ ap (key_after os) (sym here), subst (λ y. Tells after later (text_of (Listed y))) is told));
+        (first ∙ ap (key_after os) (sym here), subst (λ y. Tells after later (Listed y ∷ [])) is told));
     there = there;
   }
 

@@ -7,7 +7,6 @@ use Rattle.std.specs.Option.{is_some, option_to_list}
 use Rattle.std.proofs.Math.ListN.{get_or-map}
 use Rattle.std.proofs.lemmas.List.{map-append, append_assoc}
 use Rattle.std.proofs.lemmas.List.Elements.{filter-append}
-use Rattle.std.proofs.lemmas.Grind.{flat_map-append}
 use Rattle.cc_lists.specs.Members.{Among}
 use Rattle.cc_lists.specs.Walks.{left_at}
 use Rattle.cc_lists.proofs.Walks.{AreOthers, others-around, found-between, next-between, left-between, without-between}
@@ -18,12 +17,10 @@ use Rattle.cc_names.specs.declared.number.SKey.{SKey}
 use Rattle.cc_names.specs.Names.{native}
 use Rattle.cc_model.specs.declared.item.Event.{Event}
 use Rattle.cc_model.specs.declared.item.Event.TheVariants.{Freed}
-use Rattle.cc_model.specs.declared.item.Item.TheVariants.{Event as of_event}
 use Rattle.cc_model.specs.Heap.{Heap, HeapNative, native_at}
-use Rattle.cc_model.specs.Telling.{Telling, Tells, TellsEvents}
-use Rattle.cc_model.specs.Texts.{text_of, texts_of}
+use Rattle.cc_model.specs.Telling.{Telling, TellsEvents}
 use Rattle.cc_model.specs.WellFormed.{native_names}
-use Rattle.cc_model.proofs.Tellings.{Tells-nil, Tells-trans}
+use Rattle.cc_model.proofs.Tellings.{Tells-nil, TellsEvents-trans}
 use Rattle.cc_laws_heap.proofs.Natives.{named-found}
 use Rattle.cc_counted.specs.Counts.{Counts, number_at, number_or_none, the_number, key_left, heap_of, released, with_reflector}
 use Rattle.cc_counted.specs.Owning.{AreOwned, CallersOwn, Transfers}
@@ -50,12 +47,6 @@ white_names-append xs ys = ap (map (λ (o : Object). o.name)) (filter-append is_
 are_some-append : (xs ys : List Name) → are_some (xs ++ ys) ≡ (are_some xs || are_some ys)
 are_some-append [] ys = refl
 are_some-append (x ∷ xs) ys = refl
-
--- What is told
-
-events-then : (a b c : Telling) (xs ys : List Event) → TellsEvents a b xs → TellsEvents b c ys → TellsEvents a c (xs ++ ys)
-events-then a b c xs ys p q = subst (Tells a c) (sym (ap texts_of (map-append of_event xs ys) ∙ flat_map-append text_of (map of_event xs) (map of_event ys)))
-    (Tells-trans a b c (texts_of (map of_event xs)) (texts_of (map of_event ys)) p q)
 
 -- Who owns the references
 
@@ -270,7 +261,7 @@ module _ (before now : List Object) (first counted : Counts) (key : ℕ) (swept 
           natives =
               ap (λ d. sweep_each first (whites s.behind) (record { counts = d; events = s.events ++ (sweep_one first counted s.this).events })) is
               ∙ (ap (λ os. sweep_each first os (record { counts = counted; events = s.events })) (sym (white-first s.this s.behind w)) ∙ s.natives);
-          told = events-then a b c s.events (sweep_one first counted s.this).events s.told (subst (λ (l : Left). TellsEvents b c l.events) same t);
+          told = TellsEvents-trans a b c s.events (sweep_one first counted s.this).events s.told (subst (λ (l : Left). TellsEvents b c l.events) same t);
           owned = OwnEach-next first counted next s.this.native (native_keys (whites s.behind)) mine is own;
         }
 
@@ -287,7 +278,7 @@ module _ (before now : List Object) (first counted : Counts) (key : ℕ) (swept 
       natives =
           (λ i. sweep_each first (whites s.behind) (record { counts = n i; events = append-nil s.events i }))
           ∙ (ap (λ os. sweep_each first os (record { counts = counted; events = s.events })) (sym (other-first s.this s.behind w)) ∙ s.natives);
-      told = events-then a b c s.events [] s.told t;
+      told = TellsEvents-trans a b c s.events [] s.told t;
       owned = subst (OwnEach first (native_keys (whites s.behind))) (sym n) (subst (λ os. OwnEach first (native_keys os) counted) (other-first s.this s.behind w) s.owned);
     }
 

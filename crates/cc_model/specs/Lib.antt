@@ -1,5 +1,6 @@
 pub mod Texts
 pub mod Answers
+pub mod Summed
 pub mod Telling
 pub mod Lines
 pub mod Tokens

@@ -5,15 +5,19 @@ use Rattle.cc_lists.specs.Faults.{Rose}
 use Rattle.cc_model.specs.declared.item.Event.{Event}
 use Rattle.cc_model.specs.declared.item.Item.{Item}
 use Rattle.cc_model.specs.declared.item.Item.TheVariants.{Event as of_event}
+use Rattle.cc_model.specs.declared.sums.Sums.{Sums}
 use Rattle.cc_model.specs.Texts.{texts_of}
+use Rattle.cc_model.specs.Summed.{sums_after}
 
 -- the bytes so far, where they are known; whether a write failed; how many writes failed;
--- and which reference to a sink the receiver holds, by its ghost name (any number where it holds none)
+-- which reference to a sink the receiver holds, by its ghost name (any number where it holds none);
+-- and the sums of a summary over the items so far, where the receiver tells them
 pub record Telling : Type 0 where
   pub told : Option (List ℕ)
   pub broken : Bool
   pub faults : ℕ
   pub sink : ℕ
+  pub sums : Option Sums
 
 -- the bytes grew by a front of the text
 pub record AppendsFront (old new : Option (List ℕ)) (text : List ℕ) : Type 0 where
@@ -22,27 +26,33 @@ pub record AppendsFront (old new : Option (List ℕ)) (text : List ℕ) : Type 0
   pub whole : text ≡ front ++ rest
   pub grown : Appends old new front
 
--- the text was told whole
-pub record Grew (old new : Telling) (text : List ℕ) : Type 0 where
-  pub grown : Appends old.told new.told text
+-- the sums, where they are told, grew by a front of the items
+pub record SumsFront (old new : Option Sums) (items : List Item) : Type 0 where
+  pub front : List Item
+  pub rest : List Item
+  pub whole : items ≡ front ++ rest
+  pub summed : new ≡ sums_after front old
+
+-- the items were told whole: the bytes grew by their lines, and the sums by their parts
+pub record Grew (old new : Telling) (items : List Item) : Type 0 where
+  pub grown : Appends old.told new.told (texts_of items)
   pub faults : new.faults ≡ old.faults
+  pub summed : new.sums ≡ sums_after items old.sums
 
--- a write failed within the text
-pub record Broke (old new : Telling) (text : List ℕ) : Type 0 where
-  pub part : AppendsFront old.told new.told text
+-- a write failed within their lines
+pub record Broke (old new : Telling) (items : List Item) : Type 0 where
+  pub part : AppendsFront old.told new.told (texts_of items)
   pub rose : Rose old.faults new.faults
+  pub summed : SumsFront old.sums new.sums items
 
--- THE TEXT IS TOLD: whole, or up to where it broke; a receiver that is broken changes no more
-pub record Tells (old new : Telling) (text : List ℕ) : Type 0 where
+-- THESE ITEMS ARE TOLD, each by its line and its part of the sums: whole, or up to where it broke; a receiver that is
+-- broken changes no more
+pub record Tells (old new : Telling) (items : List Item) : Type 0 where
   pub sink : new.sink ≡ old.sink
   pub stays : old.broken ≡ true → new ≡ old
-  pub whole : new.broken ≡ false → Grew old new text
-  pub broke : old.broken ≡ false → new.broken ≡ true → Broke old new text
-
--- THESE ITEMS ARE TOLD, each by its line
-abbrev pub TellsItems : Telling → Telling → List Item → Type 0
-TellsItems old new items = Tells old new (texts_of items)
+  pub whole : new.broken ≡ false → Grew old new items
+  pub broke : old.broken ≡ false → new.broken ≡ true → Broke old new items
 
 -- THESE EVENTS ARE TOLD
 abbrev pub TellsEvents : Telling → Telling → List Event → Type 0
-TellsEvents old new events = TellsItems old new (map of_event events)
+TellsEvents old new events = Tells old new (map of_event events)

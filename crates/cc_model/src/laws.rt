@@ -12,6 +12,7 @@ ghost use Rattle.cc_model.specs.Cascade.{drained};
 ghost use Rattle.cc_model.specs.Sweep.{rounds};
 ghost use Rattle.cc_model.specs.End.{went_on};
 ghost use Rattle.cc_model.specs.Collecting.{Machine, enough_units, no_units, to_the_end, units_done};
+ghost use Rattle.cc_model.specs.declared.item.Item.{Item};
 ghost use Rattle.cc_model.specs.Telling.{Telling, Tells};
 
 /// What the registers of a graph reach, by one rule each for registers, edges and entries, is the least set
@@ -32,8 +33,8 @@ pub fn bounds_suffice()
     ensures units { (n : ℕ) (m : Machine) → enough_units m ≤ n → units_done n (no_units m) ≡ to_the_end (no_units m) }
 {}
 
-/// Texts told one after the other are one text told.
+/// Items told one after the other are told together.
 pub fn telling_composes()
     ensures nothing { (a : Telling) → Tells a a [] }
-    ensures one_then_other { (a b c : Telling) (x y : List ℕ) → Tells a b x → Tells b c y → Tells a c (x ++ y) }
+    ensures one_then_other { (a b c : Telling) (x y : List Item) → Tells a b x → Tells b c y → Tells a c (x ++ y) }
 {}

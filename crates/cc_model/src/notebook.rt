@@ -1,6 +1,6 @@
 //! A receiver of items that keeps their lines in memory.
 
-ghost use Rattle.std.specs.Prelude.{◌≡◌, false, []};
+ghost use Rattle.std.specs.Prelude.{◌≡◌, false, [], None};
 
 use crate::item::{Item, write_item};
 use crate::notices::Notices;
@@ -19,18 +19,18 @@ pub struct Notebook {
 }
 
 impl Model for Notebook {
-    ghost use Rattle.std.specs.Prelude.{Some};
+    ghost use Rattle.std.specs.Prelude.{Some, None};
     ghost use Rattle.cc_model.specs.Telling.{Telling};
 
     ghost Value = { Telling };
 
-    ghost view = { λ n. record { told = Some n.text.items; broken = n.broken; faults = n.faults; sink = 0 } };
+    ghost view = { λ n. record { told = Some n.text.items; broken = n.broken; faults = n.faults; sink = 0; sums = None } };
 }
 
 impl Notebook {
     /// An empty notebook.
     pub fn new(alloc: Global) -> Notebook
-        ensures { result ≡ record { told = Some []; broken = false; faults = 0; sink = 0 } }
+        ensures { result ≡ record { told = Some []; broken = false; faults = 0; sink = 0; sums = None } }
     {
         Notebook {
             text: Vec::new(alloc),

@@ -1,10 +1,6 @@
--- Counts that stand still at their greatest value.
-use Rattle.std.specs.Prelude.{ℕ, ◌+◌, min, cond, is_ok, Result}
-use Rattle.cc_lists.specs.Faults.{greatest_count}
-
--- n more, or the greatest count
-abbrev pub raised : ℕ → ℕ → ℕ
-raised count n = min (count + n) greatest_count
+-- Counts of faults after a call; they stand still at their greatest value.
+use Rattle.std.specs.Prelude.{ℕ, cond, is_ok, Result}
+pub use Rattle.cc_lists.specs.Faults.{raised}
 
 -- the count of faults after a call: one more where it failed
 abbrev pub faults_after : {T E : Type 0} → ℕ → Result T E → ℕ

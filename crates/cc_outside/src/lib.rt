@@ -27,6 +27,7 @@ pub use bytes_sink::BytesSink;
 pub use bytes_source::BytesSource;
 pub use count_sink::CountSink;
 pub use failed::Failed;
+pub use read_counts::ReadCounts;
 pub use sink::Sink;
 pub use source::Source;
 pub use standard::{StdSink, StdSource};

@@ -8,7 +8,7 @@ use std::marker::Model;
 /// How many reads were answered, how many of them gave no byte, and how many of those said that the source is at its
 /// end. Each count stays at 18446744073709551615.
 #[derive(Drop)]
-pub(crate) struct ReadCounts {
+pub struct ReadCounts {
     answered: u64,
     empty: u64,
     ended: u64,
@@ -24,7 +24,7 @@ impl Model for ReadCounts {
 
 impl ReadCounts {
     /// Before the first read.
-    pub(crate) fn new() -> ReadCounts
+    pub fn new() -> ReadCounts
         ensures { result ≡ no_reads }
     {
         ReadCounts {
@@ -35,21 +35,21 @@ impl ReadCounts {
     }
 
     /// How many reads were answered.
-    pub(crate) fn answered(&self) -> u64
+    pub fn answered(&self) -> u64
         ensures { result ≡ self.now.answered }
     {
         self.answered
     }
 
     /// How many reads said the end.
-    pub(crate) fn ended(&self) -> u64
+    pub fn ended(&self) -> u64
         ensures { result ≡ self.now.ended }
     {
         self.ended
     }
 
     /// Counts a read of `count` bytes into a buffer of `room` bytes: of none into one that is not empty it is the end.
-    pub(crate) fn count(&mut self, room: usize, count: usize)
+    pub fn count(&mut self, room: usize, count: usize)
         ensures { self.new ≡ read_more self.old room count }
     {
         self.answered = self.answered.saturating_add(1);

@@ -7,7 +7,6 @@ use Rattle.std.proofs.lemmas.List.{map-append}
 use Rattle.std.proofs.lemmas.List.Folds.{list_all-append}
 use Rattle.cc_names.specs.Allowance.{Allowance}
 use Rattle.cc_model.specs.Telling.{Telling, Tells}
-use Rattle.cc_model.specs.Texts.{text_of, texts_of}
 use Rattle.cc_model.specs.Answers.{Answer, items_of, all_items_of, text_of_answers}
 use Rattle.cc_model.specs.Asks.{Ask, ask_of}
 use Rattle.cc_model.specs.Heap.{Heap}
@@ -27,7 +26,7 @@ use Rattle.cc_reader.specs.Pending.{Pending}
 use Rattle.cc_reader.specs.Given.{AreFirst, HasGiven}
 use Rattle.cc_reader.proofs.Given.{HasGiven-first}
 use Rattle.cc_replay.specs.Answering.{Answers, AreAnswered, GivesLine, LineIsAnswered, Moment}
-use Rattle.cc_replay.specs.Transcripts.{IsTranscript}
+use Rattle.cc_replay.specs.Transcripts.{IsRun, IsTranscript}
 
 -- the same machine does an ask in the same way
 IsDoneFor-same : (m k n : Machine) (ask : Ask) (a : Answer) → SameMachine m k → IsDoneFor k ask a n → IsDoneFor m ask a n
@@ -49,11 +48,9 @@ AreDoneFor-more m k n [] (b ∷ bs) ask a done d = absurd done
 AreDoneFor-more m k n (x ∷ xs) [] ask a done d = absurd done
 AreDoneFor-more m k n (x ∷ xs) (b ∷ bs) ask a done d = (done.0, done.1, AreDoneFor-more done.0 k n xs bs ask a done.2 d)
 
--- what is written for one more answer
-text_of_answers-more : (answers : List Answer) (a : Answer) → text_of_answers (answers ++ a ∷ []) ≡ text_of_answers answers ++ texts_of (items_of a)
-text_of_answers-more answers a =
-    ap texts_of (flat_map-append items_of answers (a ∷ []) ∙ ap (λ items. all_items_of answers ++ items) (append-nil (items_of a)))
-    ∙ flat_map-append text_of (all_items_of answers) (items_of a)
+-- the items of one more answer
+all_items_of-more : (answers : List Answer) (a : Answer) → all_items_of (answers ++ a ∷ []) ≡ all_items_of answers ++ items_of a
+all_items_of-more answers a = flat_map-append items_of answers (a ∷ []) ∙ ap (λ items. all_items_of answers ++ items) (append-nil (items_of a))
 
 -- no line is answered yet
 AreAnswered-none : (k : Machine) (t : Telling) → AreAnswered k k [] t t
@@ -68,8 +65,8 @@ AreAnswered-more k₀ k₁ k₂ lines line t₀ t₁ t₂ a l = record {
       (AreDoneFor-more k₀ k₁ k₂ (map (ask_of version_one_forms) lines) a.answers (ask_of version_one_forms line) l.answered.answer a.done l.answered.done);
   in_range = ap (list_all ask_in_range) asks ∙ (list_all-append ask_in_range (map (ask_of version_one_forms) lines) (ask_of version_one_forms line ∷ [])
       ∙ and_from _ _ a.in_range (and_from _ true l.in_range refl));
-  told = subst (Tells t₀ t₂) (sym (text_of_answers-more a.answers l.answered.answer))
-      (Tells-trans t₀ t₁ t₂ (text_of_answers a.answers) (texts_of (items_of l.answered.answer)) a.told l.answered.told);
+  told = subst (Tells t₀ t₂) (sym (all_items_of-more a.answers l.answered.answer))
+      (Tells-trans t₀ t₁ t₂ (all_items_of a.answers) (items_of l.answered.answer) a.told l.answered.told);
 }
   where
     asks : map (ask_of version_one_forms) (lines ++ line ∷ []) ≡ map (ask_of version_one_forms) lines ++ ask_of version_one_forms line ∷ []
@@ -109,18 +106,18 @@ Answers-more {m₀ = m₀} {m₁ = m₁} {m₂ = m₂} a l = record {
       );
 }
 
--- WHAT IS TOLD FOR LINES THAT ARE ANSWERED, from the empty heaps on, is a transcript of what they ask
-pub AreAnswered-transcript : (limits : Allowance) (k : Machine) (lines : List (List ℕ)) (t₀ t₁ : Telling) (a : AreAnswered (empty_machine limits []) k lines t₀ t₁) →
-    IsTranscript limits (map (ask_of version_one_forms) lines) (text_of_answers a.answers)
-AreAnswered-transcript limits k lines t₀ t₁ a = record {
+-- LINES THAT ARE ANSWERED, from the empty heaps on: their answers are a run of what they ask
+pub AreAnswered-run : (limits : Allowance) (k : Machine) (lines : List (List ℕ)) (t₀ t₁ : Telling) (a : AreAnswered (empty_machine limits []) k lines t₀ t₁) →
+    IsRun limits (map (ask_of version_one_forms) lines) a.answers
+AreAnswered-run limits k lines t₀ t₁ a = subst (IsRun limits asks) o.answered (record {
   memory = o.memory;
   noes_are_told = told;
-  text_is = ap text_of_answers (sym o.answered);
+  answers_are = refl;
   tells = tells-of_a_graph limits asks (plain_run limits o.memory asks) (run-lawful limits o.memory asks a.in_range) (run-quiet limits o.memory asks a.in_range);
   lawful = run-lawful limits o.memory asks a.in_range;
   quiet = run-quiet limits o.memory asks a.in_range;
-  with_all_memory = λ none. ap text_of_answers (sym o.answered ∙ turns-ample (empty_machine limits o.memory) asks (told ∙ none));
-}
+  with_all_memory = λ none. turns-ample (empty_machine limits o.memory) asks (told ∙ none);
+})
   where
     asks : List Ask
     asks = map (ask_of version_one_forms) lines
@@ -130,3 +127,8 @@ AreAnswered-transcript limits k lines t₀ t₁ a = record {
 
     told : noes o.memory ≡ all_noes_told asks (plain_run limits o.memory asks)
     told = o.said_no ∙ ap (all_noes_told asks) (sym o.answered)
+
+-- what is told for them is a transcript
+pub AreAnswered-transcript : (limits : Allowance) (k : Machine) (lines : List (List ℕ)) (t₀ t₁ : Telling) (a : AreAnswered (empty_machine limits []) k lines t₀ t₁) →
+    IsTranscript limits (map (ask_of version_one_forms) lines) (text_of_answers a.answers)
+AreAnswered-transcript limits k lines t₀ t₁ a = record { answers = a.answers; run = AreAnswered-run limits k lines t₀ t₁ a; text_is = refl }

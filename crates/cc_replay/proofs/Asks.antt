@@ -5,7 +5,7 @@ use Rattle.std.proofs.lemmas.Bool.{lt-ltb}
 use Rattle.std.proofs.lemmas.Bool.{ltb-true}
 use Rattle.cc_model.specs.declared.item.Refusal.TheVariants.{Long, Line}
 use Rattle.cc_model.specs.declared.item.Reply.TheVariants.{Refused}
-use Rattle.cc_model.specs.Telling.{Telling, TellsItems}
+use Rattle.cc_model.specs.Telling.{Telling, Tells}
 use Rattle.cc_model.specs.Answers.{Answer, items_of, replying}
 use Rattle.cc_model.specs.Asks.{Ask, long, bad, command_of, taken_or_bad, longest_line, ask_of}
 use Rattle.cc_model.specs.Collecting.{Machine}
@@ -39,17 +39,17 @@ IsDoneFor-bad m = record { memory = []; answer = refl; after = record { heap = r
 
 -- so it is answered by its refusal alone
 answered-as : {ask : Ask} (answer : Answer) (m : Machine) (line : List ℕ) {before after : Telling} → ask_of version_one_forms line ≡ ask → IsDoneFor m ask answer m →
-    ask_in_range ask ≡ true → TellsItems before after (items_of answer) → LineIsAnswered m m line before after
+    ask_in_range ask ≡ true → Tells before after (items_of answer) → LineIsAnswered m m line before after
 answered-as answer m line asks done in_range told = record {
   answered = record { answer = answer; done = subst (λ a. IsDoneFor m a answer m) (sym asks) done; told = told };
   in_range = ap ask_in_range asks ∙ in_range;
 }
 
 pub answered-long : (m : Machine) (line : List ℕ) {before after : Telling} → 120 < length line →
-    TellsItems before after (items_of (replying [] (Refused Long))) → LineIsAnswered m m line before after
+    Tells before after (items_of (replying [] (Refused Long))) → LineIsAnswered m m line before after
 answered-long m line above told = answered-as (replying [] (Refused Long)) m line (ask_of-long line above) (IsDoneFor-long m) refl told
 
 pub answered-bad : (m : Machine) (line : List ℕ) {before after : Telling} → length line ≤ 120 → command_of version_one_forms line ≡ None →
-    TellsItems before after (items_of (replying [] (Refused Line))) → LineIsAnswered m m line before after
+    Tells before after (items_of (replying [] (Refused Line))) → LineIsAnswered m m line before after
 answered-bad m line short none told =
     answered-as (replying [] (Refused Line)) m line (ask_of-short line short ∙ ap taken_or_bad none) (IsDoneFor-bad m) refl told

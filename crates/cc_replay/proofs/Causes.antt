@@ -1,5 +1,5 @@
 -- WHERE THERE IS THE CAUSE, THERE IS THE ANSWER: by cases on the status.
-use Rattle.std.proofs.Common.{◌≡◌, ◌≢◌, ℕ, ◌+◌, ◌<◌, ◌≤◌, ⊎_elim, List, [], length, length-append, Option, Some, None, refl, ap, arith}
+use Rattle.std.proofs.Common.{◌≡◌, ◌≢◌, ℕ, ◌+◌, ◌<◌, ◌≤◌, ⊎_elim, List, [], ◌++◌, length, length-append, append-nil, Option, Some, None, refl, sym, ap, ◌∙◌, arith}
 use Rattle.std.specs.Io.KnownBytes.{Consumes, IsAtEnd}
 use Rattle.cc_names.specs.Allowance.{Allowance}
 use Rattle.cc_replay.specs.declared.status.Status.{Status}
@@ -39,13 +39,12 @@ taken-length bytes (Some xs) (Some ys) given e c =
     omega (arith, ap (λ (zs : List ℕ). length zs) same, ap (λ (zs : List ℕ). length zs) c, length-append given ys)
 
 -- at the end all of them were taken
-whole-length : (bytes : List ℕ) (left now : Option (List ℕ)) (given : List ℕ) → left ≡ Some bytes → Consumes left now given → IsAtEnd now → length bytes ≡ length given
-whole-length bytes None now given e c end = let bad : None ≡ Some bytes = e in cc
-whole-length bytes (Some xs) None given e c end = absurd c
-whole-length bytes (Some xs) (Some ys) given e c end =
+pub whole-bytes : (bytes : List ℕ) (left now : Option (List ℕ)) (given : List ℕ) → left ≡ Some bytes → Consumes left now given → IsAtEnd now → given ≡ bytes
+whole-bytes bytes None now given e c end = let bad : None ≡ Some bytes = e in cc
+whole-bytes bytes (Some xs) None given e c end = absurd c
+whole-bytes bytes (Some xs) (Some ys) given e c end =
     let same : xs ≡ bytes = cc in
-    let none : ys ≡ [] = end in
-    omega (arith, ap (λ (zs : List ℕ). length zs) same, ap (λ (zs : List ℕ). length zs) c, length-append given ys, ap (λ (zs : List ℕ). length zs) none)
+    sym (append-nil given) ∙ (sym (ap (λ (zs : List ℕ). given ++ zs) end) ∙ (sym c ∙ same))
 
 -- with no fault an input above the limit is answered so
 pub over-answered : (s : Status) (limits : Allowance) (e : Ends) (bytes : List ℕ) (P Q : Type 0) →
@@ -54,7 +53,7 @@ pub over-answered : (s : Status) (limits : Allowance) (e : Ends) (bytes : List �
 over-answered Limit limits e bytes P Q read write done usage memory left above p q = refl
 over-answered Done limits e bytes P Q read write done usage memory left above p q =
     let d = done refl in
-    absurd (omega (arith, d.within, whole-length bytes e.left e.left_now d.given left d.consumed d.at_end))
+    absurd (omega (arith, d.within, ap (λ (zs : List ℕ). length zs) (whole-bytes bytes e.left e.left_now d.given left d.consumed d.at_end)))
 over-answered Usage limits e bytes P Q read write done usage memory left above p q = absurd (usage refl)
 over-answered ReadFault limits e bytes P Q read write done usage memory left above p q = absurd (p (read refl))
 over-answered WriteFault limits e bytes P Q read write done usage memory left above p q = absurd (q (write refl))

@@ -1,10 +1,10 @@
 -- HOW A RUN ENDS: from lines that were given and answered to what is written for the bytes taken.
-use Rattle.std.proofs.Common.{◌≡◌, ℕ, false, true, List, [], length, map, take, Option, sym, ap, ◌∙◌, subst, ◌⊎◌, ⊎_elim, inl, inr, arith}
+use Rattle.std.proofs.Common.{◌≡◌, ℕ, false, true, List, [], length, map, take, Option, Some, sym, ap, ◌∙◌, subst, ◌⊎◌, ⊎_elim, inl, inr, arith}
 use Rattle.cc_names.specs.Allowance.{Allowance}
 use Rattle.cc_model.specs.Answers.{text_of_answers}
-use Rattle.cc_model.specs.Asks.{ask_of}
+use Rattle.cc_model.specs.Asks.{ask_of, asks_of}
 use Rattle.cc_model.specs.Collecting.{Machine, empty_machine}
-use Rattle.cc_model.specs.Lines.{ended_lines_of}
+use Rattle.cc_model.specs.Lines.{ended_lines_of, lines_of}
 use Rattle.cc_outside.specs.Reads.{Reads}
 use Rattle.cc_model.specs.Forms.{version_one_forms}
 use Rattle.cc_reader.specs.Pending.{Pending, nothing_read}
@@ -13,8 +13,9 @@ use Rattle.cc_reader.specs.Given.{HasGiven, AreAllGiven, IsBroken, IsOver, AreFi
 use Rattle.cc_reader.specs.HasRead.{HasRead, ReadsBytes, ReadsOn, ReadsToEnd}
 use Rattle.cc_reader.proofs.Given.{HasGiven-none, HasRead-none}
 use Rattle.cc_replay.specs.Answering.{Answers, AreAnswered, Moment}
-use Rattle.cc_replay.specs.Transcripts.{Ends, Writes, IsDone, AreFirstEnded, AreAllUnended, StopsAtFault, StopsAtLimit, StopsAtWrite}
-use Rattle.cc_replay.proofs.Answers.{AreAnswered-transcript}
+use Rattle.cc_replay.specs.Transcripts.{Counts, Ends, Writes, IsDone, AreFirstEnded, AreAllUnended, StopsAtFault, StopsAtLimit, StopsAtWrite}
+use Rattle.cc_replay.proofs.Answers.{AreAnswered-run, AreAnswered-transcript}
+use Rattle.cc_replay.proofs.Causes.{whole-bytes}
 
 -- a run from a reader that begins, over empty heaps
 module _ (limits : Allowance) (m₀ m₁ : Moment) (r₀ r₁ : Reads) (begins : m₀.window ≡ nothing_read limits.bytes) (empty : m₀.machine ≡ empty_machine limits [])
@@ -78,6 +79,19 @@ module _ (limits : Allowance) (m₀ m₁ : Moment) (r₀ r₁ : Reads) (begins :
         reads = read_to_end l.1.given l.1.counted l.1.ended;
         writes = subst AreWritten l.1.lines_are l.2;
       }
+
+  -- and the answers to known bytes are counted
+  pub whole-counts : Answers IsWhole m₀ m₁ → m₁.telling.broken ≡ false → (bytes : List ℕ) → m₀.left ≡ Some bytes →
+      Counts limits (asks_of version_one_forms bytes) m₀.telling.sums m₁.telling.sums
+  whole-counts a whole bytes known =
+      let l = answered a in
+      subst (λ lines. Counts limits (map (ask_of version_one_forms) lines) m₀.telling.sums m₁.telling.sums)
+      (l.1.lines_are ∙ ap lines_of (whole-bytes bytes m₀.left m₁.left l.1.given known l.1.consumed l.1.at_end))
+      (record {
+        answers = l.2.answers;
+        run = AreAnswered-run limits m₁.machine l.0 m₀.telling m₁.telling l.2;
+        summed = (l.2.told.whole whole).summed;
+      })
 
   -- a read failed
   pub broken-stops : Answers IsBroken m₀ m₁ → m₁.telling.broken ≡ false → StopsAtFault limits e

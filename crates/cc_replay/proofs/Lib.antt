@@ -6,5 +6,5 @@ pub mod Endings
 pub mod FaultFree
 pub mod GivenWords
 pub mod OptionRows
+pub mod Pieces
 pub mod Replying
-pub mod Tellings

@@ -8,8 +8,7 @@ use Rattle.cc_model.specs.declared.item.Refusal.{Refusal}
 use Rattle.cc_model.specs.declared.item.Refusal.TheVariants.{NoMemory}
 use Rattle.cc_model.specs.declared.item.Reply.{Reply}
 use Rattle.cc_model.specs.declared.item.Reply.TheVariants.{Refused, Census, Done}
-use Rattle.cc_model.specs.Telling.{Telling, Tells, TellsItems}
-use Rattle.cc_model.specs.Texts.{text_of}
+use Rattle.cc_model.specs.Telling.{Telling, Tells}
 use Rattle.cc_model.specs.Answers.{items_of}
 use Rattle.cc_model.specs.Mutating.{is_applied}
 use Rattle.cc_model.specs.Asks.{taken}
@@ -21,7 +20,7 @@ use Rattle.cc_model.specs.Run.{Turn, answering, with_effects, if_granted, unless
 use Rattle.cc_model.specs.Collecting.{Machine, UnitsDone, slice, collect, gc, reply_to_units}
 use Rattle.cc_model.specs.End.{Progress}
 use Rattle.cc_model.proofs.Replies.{is_without_memory-true}
-use Rattle.cc_model.proofs.Tellings.{Tells-nil}
+use Rattle.cc_model.proofs.Tellings.{Tells-nil, Tells-trans}
 use Rattle.cc_heaps.specs.Keyed.{Keyed}
 use Rattle.cc_mutator.specs.Applied.{IsCarriedOut}
 use Rattle.cc_replay.specs.Answered.{IsAnswered}
@@ -29,7 +28,6 @@ use Rattle.cc_builder.specs.Building.{Built}
 use Rattle.cc_collector.specs.Kept.{machine_of}
 use Rattle.cc_collector.specs.Collected.{LedTo, IsSliced, IsCollected, IsSwept}
 use Rattle.cc_laws_run.specs.Memory.{with_memory}
-use Rattle.cc_replay.proofs.Tellings.{told-last}
 
 -- A command is one of the mutator, where it is none of these
 pub others-applied : (c : Command) → c ≢ command.Nothing → c ≢ command.Census → ((u : ℕ) → c ≢ command.Slice u) → c ≢ command.Collect → c ≢ command.Gc → IsTrue (is_applied c)
@@ -98,7 +96,7 @@ denied m c false e = absurd (cc)
 module _ (old new : Machine) (before after : Telling) where
   -- by the turn
   by_turn : (c : Command) (memory : List Bool) (t : Turn) → do_ask (with_memory old memory) (taken c) ≡ t → t.machine.heap ≡ new.heap → t.machine.snapshot ≡ new.snapshot →
-      TellsItems before after (items_of t.answer) → IsAnswered old new (taken c) before after
+      Tells before after (items_of t.answer) → IsAnswered old new (taken c) before after
   by_turn c memory t e h s told = record {
     answer = t.answer;
     done = record {
@@ -112,43 +110,43 @@ module _ (old new : Machine) (before after : Telling) where
   module _ (c : Command) (applied : IsTrue (is_applied c)) (same_snapshot : new.snapshot ≡ old.snapshot) where
     -- a command of the mutator carried out
     answered-done : (mid : Telling) (r : Reply) → refusal_of (objects_of old.heap) c ≡ None →
-        IsCarriedOut c old.heap new.heap r before mid → Tells mid after (text_of (of_reply r)) → IsAnswered old new (taken c) before after
+        IsCarriedOut c old.heap new.heap r before mid → Tells mid after (of_reply r ∷ []) → IsAnswered old new (taken c) before after
     answered-done mid r none d t =
         let m = with_memory old [] in
         by_turn c [] (with_effects m (reply_if_taken (objects_of old.heap) c) (effects old.heap c))
         (applied-mutates m c applied ∙ (mutate-by m c None none ∙ granted old c (takes_memory old.heap c)))
         (sym d.heap) (sym same_snapshot)
-        (subst (λ (x : Reply). TellsItems before after (map of_event (effects old.heap c).events ++ of_reply x ∷ [])) d.reply_is
-        (told-last before mid after (map of_event (effects old.heap c).events) (of_reply r) d.told t))
+        (subst (λ (x : Reply). Tells before after (map of_event (effects old.heap c).events ++ of_reply x ∷ [])) d.reply_is
+        (Tells-trans before mid after (map of_event (effects old.heap c).events) (of_reply r ∷ []) d.told t))
 
     -- refused memory
     answered-denied : refusal_of (objects_of old.heap) c ≡ None → takes_memory old.heap c ≡ true → new.heap ≡ old.heap →
-        Tells before after (text_of (of_reply (Refused NoMemory))) → IsAnswered old new (taken c) before after
+        Tells before after (of_reply (Refused NoMemory) ∷ []) → IsAnswered old new (taken c) before after
     answered-denied none takes same t =
         by_turn c (false ∷ []) (answering (with_memory old []) [] (Refused NoMemory))
         (applied-mutates (with_memory old (false ∷ [])) c applied ∙ (mutate-by (with_memory old (false ∷ [])) c None none ∙ denied old c (takes_memory old.heap c) takes))
         (sym same) (sym same_snapshot)
-        (told-last before before after [] (of_reply (Refused NoMemory)) (Tells-nil before) t)
+        t
 
     -- refused by the checks
     answered-refused : (r : Refusal) → refusal_of (objects_of old.heap) c ≡ Some r → new.heap ≡ old.heap →
-        Tells before after (text_of (of_reply (Refused r))) → IsAnswered old new (taken c) before after
+        Tells before after (of_reply (Refused r) ∷ []) → IsAnswered old new (taken c) before after
     answered-refused r e same t =
         by_turn c [] (answering (with_memory old []) [] (Refused r))
         (applied-mutates (with_memory old []) c applied ∙ mutate-by (with_memory old []) c (Some r) e)
         (sym same) (sym same_snapshot)
-        (told-last before before after [] (of_reply (Refused r)) (Tells-nil before) t)
+        t
 
   -- what units came to, answered by a reply
   answered-units : (c : Command) (memory : List Bool) (d : UnitsDone) (p : Progress) (reply : Reply) (mid : Telling) → LedTo d old new p before mid →
-      do_ask (with_memory old memory) (taken c) ≡ answering d.machine d.events reply → Tells mid after (text_of (of_reply reply)) → IsAnswered old new (taken c) before after
+      do_ask (with_memory old memory) (taken c) ≡ answering d.machine d.events reply → Tells mid after (of_reply reply ∷ []) → IsAnswered old new (taken c) before after
   answered-units c memory d p reply mid led e t =
       by_turn c memory (answering d.machine d.events reply) e led.same.heap led.same.snapshot
-      (told-last before mid after (map of_event d.events) (of_reply reply) led.told t)
+      (Tells-trans before mid after (map of_event d.events) (of_reply reply ∷ []) led.told t)
 
   -- a slice
   pub answered-slice : (units : ℕ) (p : Progress) (steps steps_now : ℕ) (reply : Reply) (mid : Telling) → IsSliced units old new p steps steps_now before mid →
-      reply_to_units p ≡ reply → Tells mid after (text_of (of_reply reply)) → IsAnswered old new (taken (command.Slice units)) before after
+      reply_to_units p ≡ reply → Tells mid after (of_reply reply ∷ []) → IsAnswered old new (taken (command.Slice units)) before after
   unfolding do_ask
   answered-slice units p steps steps_now reply mid s replies t =
       let d = slice units (with_memory old s.memory) in
@@ -156,25 +154,25 @@ module _ (old new : Machine) (before after : Telling) where
 
   -- a collection
   pub answered-collect : (p : Progress) (reply : Reply) (mid : Telling) → IsCollected old new p before mid →
-      reply_to_units p ≡ reply → Tells mid after (text_of (of_reply reply)) → IsAnswered old new (taken command.Collect) before after
+      reply_to_units p ≡ reply → Tells mid after (of_reply reply ∷ []) → IsAnswered old new (taken command.Collect) before after
   unfolding do_ask
   answered-collect p reply mid s replies t =
       let d = collect (with_memory old s.memory) in
       answered-units command.Collect s.memory d p reply mid s.led (ap (answering d.machine d.events) (ap reply_to_units s.led.came_to ∙ replies)) t
 
   -- `gc`
-  pub answered-gc : (mid : Telling) → IsSwept old new before mid → Tells mid after (text_of (of_reply Done)) → IsAnswered old new (taken command.Gc) before after
+  pub answered-gc : (mid : Telling) → IsSwept old new before mid → Tells mid after (of_reply Done ∷ []) → IsAnswered old new (taken command.Gc) before after
   unfolding do_ask
   answered-gc mid s t =
       let d = gc (with_memory old s.memory) in
       answered-units command.Gc s.memory d d.progress Done mid s.led refl t
 
 -- the census
-pub answered-census : (m : Machine) (before mid after : Telling) → TellsItems before mid (map Listed (census_names m.heap)) →
-    Tells mid after (text_of (of_reply (Census (length (census_names m.heap))))) → IsAnswered m m (taken command.Census) before after
+pub answered-census : (m : Machine) (before mid after : Telling) → Tells before mid (map Listed (census_names m.heap)) →
+    Tells mid after (of_reply (Census (length (census_names m.heap))) ∷ []) → IsAnswered m m (taken command.Census) before after
 unfolding do_ask
 answered-census m before mid after listed t = by_turn m m before after command.Census [] (take_census (with_memory m []) (census_names m.heap)) refl refl refl
-    (told-last before mid after (map Listed (census_names m.heap)) (of_reply (Census (length (census_names m.heap)))) listed t)
+    (Tells-trans before mid after (map Listed (census_names m.heap)) (of_reply (Census (length (census_names m.heap))) ∷ []) listed t)
 
 -- nothing asked
 pub answered-nothing : (m : Machine) (before : Telling) → IsAnswered m m (taken command.Nothing) before before
@@ -186,12 +184,12 @@ pub answered-applied : (c : Command) → IsTrue (is_applied c) → (old new : Ke
     ((cause : Refusal) → refusal_of (objects_of old.heap) c ≡ Some cause → (r ≡ Refused cause) × (new ≡ old) × (mid ≡ before)) →
     (refusal_of (objects_of old.heap) c ≡ None → r ≢ Refused NoMemory → IsCarriedOut c old.heap new.heap r before mid) →
     (r ≡ Refused NoMemory → (refusal_of (objects_of old.heap) c ≡ None) × (takes_memory old.heap c ≡ true) × (new ≡ old) × (mid ≡ before)) →
-    Tells mid after (text_of (of_reply r)) → IsAnswered (machine_of old.heap kept) (machine_of new.heap kept) (taken c) before after
+    Tells mid after (of_reply r ∷ []) → IsAnswered (machine_of old.heap kept) (machine_of new.heap kept) (taken c) before after
 answered-applied c applied old new kept before mid after r refused done memory t = by_checks (refusal_of (objects_of old.heap) c) refl
   where
     -- nothing was told before the reply
-    after_reply : (s : Reply) → r ≡ s → mid ≡ before → Tells before after (text_of (of_reply s))
-    after_reply s e silent = subst (λ (x : Telling). Tells x after (text_of (of_reply s))) silent (subst (λ (x : Reply). Tells mid after (text_of (of_reply x))) e t)
+    after_reply : (s : Reply) → r ≡ s → mid ≡ before → Tells before after (of_reply s ∷ [])
+    after_reply s e silent = subst (λ (x : Telling). Tells x after (of_reply s ∷ [])) silent (subst (λ (x : Reply). Tells mid after (of_reply x ∷ [])) e t)
 
     by_memory : refusal_of (objects_of old.heap) c ≡ None → (b : Bool) → is_without_memory r ≡ b → IsAnswered (machine_of old.heap kept) (machine_of new.heap kept) (taken c) before after
     by_memory none true e =

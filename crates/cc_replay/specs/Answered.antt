@@ -1,5 +1,5 @@
 -- What is answered to one ask.
-use Rattle.cc_model.specs.Telling.{Telling, TellsItems}
+use Rattle.cc_model.specs.Telling.{Telling, Tells}
 use Rattle.cc_model.specs.Answers.{Answer, items_of}
 use Rattle.cc_model.specs.Asks.{Ask}
 use Rattle.cc_model.specs.Collecting.{Machine}
@@ -10,4 +10,4 @@ use Rattle.cc_laws_run.specs.Memory.{IsDoneFor}
 pub record IsAnswered (old new : Machine) (ask : Ask) (before after : Telling) : Type 0 where
   pub answer : Answer
   pub done : IsDoneFor old ask answer new
-  pub told : TellsItems before after (items_of answer)
+  pub told : Tells before after (items_of answer)

@@ -1,7 +1,7 @@
 -- How lines are answered, one after the other.
 use Rattle.std.specs.Prelude.{ℕ, IsTrue, List, [], ◌∷◌, ◌++◌, map, Option}
 use Rattle.std.specs.List.{list_all}
-use Rattle.cc_model.specs.Telling.{Telling, TellsItems}
+use Rattle.cc_model.specs.Telling.{Telling, Tells}
 use Rattle.cc_model.specs.Answers.{Answer, all_items_of}
 use Rattle.cc_model.specs.Asks.{ask_of}
 use Rattle.cc_model.specs.Collecting.{Machine}
@@ -37,7 +37,7 @@ pub record AreAnswered (old new : Machine) (lines : List (List ℕ)) (before aft
   pub answers : List Answer
   pub done : AreDoneFor old (map (ask_of version_one_forms) lines) answers new
   pub in_range : IsTrue (list_all ask_in_range (map (ask_of version_one_forms) lines))
-  pub told : TellsItems before after (all_items_of answers)
+  pub told : Tells before after (all_items_of answers)
 
 -- from a moment at which a reader began to another, lines were given of which this holds, and all of them are answered
 pub record Answers (IsGiven : Option (List ℕ) → Option (List ℕ) → Pending → List (List ℕ) → Type 0) (old new : Moment) : Type 0 where

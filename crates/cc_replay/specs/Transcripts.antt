@@ -3,7 +3,9 @@ use Rattle.std.specs.Prelude.{◌≡◌, ◌≢◌, ℕ, ◌+◌, ◌≤◌, ◌
 use Rattle.std.specs.Io.KnownBytes.{Appends, Consumes, IsAtEnd}
 use Rattle.cc_names.specs.Allowance.{Allowance}
 use Rattle.cc_model.specs.Telling.{AppendsFront}
-use Rattle.cc_model.specs.Answers.{text_of_answers}
+use Rattle.cc_model.specs.declared.sums.Sums.{Sums}
+use Rattle.cc_model.specs.Summed.{sums_after}
+use Rattle.cc_model.specs.Answers.{Answer, all_items_of, text_of_answers}
 use Rattle.cc_model.specs.Asks.{Ask, ask_of, asks_of, ended}
 use Rattle.cc_model.specs.Lines.{lines_of, ended_lines_of, rest_from}
 use Rattle.cc_model.specs.Lawful.{IsLawful}
@@ -15,21 +17,32 @@ use Rattle.cc_outside.specs.Reads.{Reads}
 use Rattle.cc_model.specs.Forms.{version_one_forms}
 use Rattle.cc_reader.specs.HasRead.{ReadsBytes, ReadsToEnd}
 
--- A TRANSCRIPT of these asks: the text of the plain run's answers, for some answers of memory
-pub record IsTranscript (limits : Allowance) (asks : List Ask) (text : List ℕ) : Type 0 where
+-- A RUN of these asks: the plain run's answers, for some answers of memory
+pub record IsRun (limits : Allowance) (asks : List Ask) (answers : List Answer) : Type 0 where
   -- memory says no once for each want of memory that is told, and never else
   pub memory : List Bool
-  pub noes_are_told : noes memory ≡ all_noes_told asks (plain_run limits memory asks)
-  -- what is written is the text of the answers
-  pub text_is : text ≡ text_of_answers (plain_run limits memory asks)
+  pub noes_are_told : noes memory ≡ all_noes_told asks answers
+  pub answers_are : answers ≡ plain_run limits memory asks
   -- they tell of an object graph from which nothing is freed: each reply but `! nomem` and the census is that graph's, nothing
   -- is unlinked or freed that a root then reaches, and after `gc`, `collect`, `gc` the census lists exactly what is reached
-  pub tells : TellsOfAGraph limits asks (plain_run limits memory asks)
+  pub tells : TellsOfAGraph limits asks answers
   -- the same along the asks, with the order of events and the places of abandonments
-  pub lawful : IsLawful limits asks (plain_run limits memory asks)
-  pub quiet : IsQuiet limits asks (plain_run limits memory asks)
-  -- where no want of memory is told, these limits and asks alone decide it: memory was there at every place
-  pub with_all_memory : all_noes_told asks (plain_run limits memory asks) ≡ 0 → text ≡ text_of_answers (plain_run limits [] asks)
+  pub lawful : IsLawful limits asks answers
+  pub quiet : IsQuiet limits asks answers
+  -- where no want of memory is told, these limits and asks alone decide them: memory was there at every place
+  pub with_all_memory : all_noes_told asks answers ≡ 0 → answers ≡ plain_run limits [] asks
+
+-- A TRANSCRIPT of these asks: the text of such answers
+pub record IsTranscript (limits : Allowance) (asks : List Ask) (text : List ℕ) : Type 0 where
+  pub answers : List Answer
+  pub run : IsRun limits asks answers
+  pub text_is : text ≡ text_of_answers answers
+
+-- such answers were counted: sums, where they are told, grew by their items
+pub record Counts (limits : Allowance) (asks : List Ask) (old new : Option Sums) : Type 0 where
+  pub answers : List Answer
+  pub run : IsRun limits asks answers
+  pub summed : new ≡ sums_after (all_items_of answers) old
 
 -- the text of a transcript of these asks was written
 pub record Writes (limits : Allowance) (asks : List Ask) (old new : Option (List ℕ)) : Type 0 where

@@ -7,7 +7,8 @@ ghost use Rattle.cc_reader.specs.Pending.{nothing_read, weight};
 ghost use Rattle.cc_reader.specs.Given.{HasGiven, IsBroken, IsOver, AreAllGiven, AreFirst};
 ghost use Rattle.cc_model.specs.declared.command.Command.TheVariants as command;
 ghost use Rattle.cc_model.specs.Ranges.{in_range};
-ghost use Rattle.cc_model.specs.Asks.{taken};
+ghost use Rattle.cc_model.specs.Asks.{asks_of, taken};
+ghost use Rattle.cc_model.specs.Forms.{version_one_forms};
 ghost use Rattle.cc_model.specs.Heap.{empty_heap};
 ghost use Rattle.cc_replay.specs.Answered.{IsAnswered};
 ghost use Rattle.cc_builder.specs.Building.{Built};
@@ -17,7 +18,7 @@ ghost use Rattle.cc_heaps.specs.Keyed.{IsInOrder};
 ghost use Rattle.cc_heaps.specs.Standing.{KeepsSuspected};
 ghost use Rattle.cc_model.specs.Mutating.{is_applied};
 ghost use Rattle.cc_replay.specs.Answering.{GivesLine, LineIsAnswered, Answers, moment};
-ghost use Rattle.cc_replay.specs.Transcripts.{ends, IsDone, StopsAtFault, StopsAtLimit, StopsAtWrite};
+ghost use Rattle.cc_replay.specs.Transcripts.{ends, Counts, IsDone, StopsAtFault, StopsAtLimit, StopsAtWrite};
 
 use crate::outlet::Reports;
 use crate::status::Status;
@@ -256,6 +257,8 @@ pub(crate) fn answer_input<S: Source, N: Reports>(
     requires empty { heaps.old.heap ≡ empty_heap heaps.old.heap.limits }
     requires whole { (N.telling out.old).broken ≡ false }
     ensures done { result ≡ Status.Done → IsDone heaps.old.heap.limits (ends S.left S.reads (λ n. (N.telling n).told) lines.old.source.now lines.new.source.now out.old out.new) }
+    ensures counted { result ≡ Status.Done → (bytes : List ℕ) → S.left lines.old.source.now ≡ Some bytes →
+        Counts heaps.old.heap.limits (asks_of version_one_forms bytes) (N.telling out.old).sums (N.telling out.new).sums }
     ensures fault { result ≡ Status.ReadFault → StopsAtFault heaps.old.heap.limits (ends S.left S.reads (λ n. (N.telling n).told) lines.old.source.now lines.new.source.now out.old out.new) }
     ensures over { result ≡ Status.Limit → StopsAtLimit heaps.old.heap.limits (ends S.left S.reads (λ n. (N.telling n).told) lines.old.source.now lines.new.source.now out.old out.new) }
     ensures front { result ≡ Status.WriteFault → StopsAtWrite heaps.old.heap.limits (ends S.left S.reads (λ n. (N.telling n).told) lines.old.source.now lines.new.source.now out.old out.new) }

@@ -2,10 +2,13 @@
 #![tactic(auto)]
 
 mod answering;
+mod making;
 mod outlet;
 mod program;
 mod status;
+mod summary;
 mod words;
 
+pub use making::make;
 pub use program::{replay, run};
 pub use status::Status;

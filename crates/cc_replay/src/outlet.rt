@@ -1,16 +1,16 @@
 //! A sink that items are told to, each as one line.
 
-ghost use Rattle.std.specs.Prelude.{◌≡◌, OnErr, OnOk};
+ghost use Rattle.std.specs.Prelude.{◌≡◌, None, OnErr, OnOk};
 ghost use Rattle.std.specs.Io.KnownBytes.{Appends};
 ghost use Rattle.cc_lists.specs.Faults.{Rose};
 ghost use Rattle.cc_model.specs.Telling.{AppendsFront};
 
-use cc_model::{Item, Notices, write_item};
+use cc_model::{Counter, Item, Notices, write_item};
 use cc_names::LineBuf;
 use cc_outside::{Failed, Sink};
 
 /// Writes all the bytes, going on with the rest where the sink takes less.
-fn write_all<K: Sink>(sink: &mut K, bytes: &[u8]) -> Result<(), Failed>
+pub(crate) fn write_all<K: Sink>(sink: &mut K, bytes: &[u8]) -> Result<(), Failed>
     ensures whole { OnOk result (Appends (K.written sink.old) (K.written sink.new) bytes.now) }
     ensures calm { OnOk result (K.faults sink.new ≡ K.faults sink.old) }
     ensures part { OnErr result (AppendsFront (K.written sink.old) (K.written sink.new) bytes.now) }
@@ -44,6 +44,7 @@ impl<'a, K: Sink> Notices for Outlet<'a, K> {
       broken = o.broken;
       faults = K.faults o.sink.now;
       sink = o.sink.ghost_name;
+      sums = None;
     } };
 
     fn tell(&mut self, item: Item) {
@@ -61,5 +62,12 @@ impl<'a, K: Sink> Notices for Outlet<'a, K> {
 impl<'a, K: Sink> Reports for Outlet<'a, K> {
     fn is_broken(&self) -> bool {
         self.broken
+    }
+}
+
+impl Reports for Counter {
+    /// Never: a counter writes nothing.
+    fn is_broken(&self) -> bool {
+        false
     }
 }

@@ -1,15 +1,13 @@
 -- A PASS OVER THE WHITE NATIVES by rising number: those that are left of it, that a step leaves them, and what is told.
-use Rattle.std.proofs.Common.{◌≡◌, ℕ, suc, ◌<◌, Bool, true, false, not, ◌==◌, List, [], ◌∷◌, ◌++◌, map, length, Option, Some, None, IsSome, IfSome, option_and_then, refl, sym, ◌∙◌, ap, subst, inl, inr, ◌⊎◌, ⊎_elim, arith}
+use Rattle.std.proofs.Common.{◌≡◌, ℕ, suc, ◌<◌, Bool, true, false, not, ◌==◌, List, [], ◌∷◌, ◌++◌, length, Option, Some, None, IsSome, IfSome, option_and_then, refl, sym, ◌∙◌, ap, subst, inl, inr, ◌⊎◌, ⊎_elim, arith}
 use Rattle.std.specs.List.{filter}
 use Rattle.cc_lists.specs.Members.{Among, has}
 use Rattle.cc_lists.proofs.Members.{Among-filtered, has-among}
 use Rattle.cc_names.specs.declared.number.NKey.{NKey}
 use Rattle.cc_names.specs.Names.{native}
 use Rattle.cc_model.specs.declared.item.Event.{Event}
-use Rattle.cc_model.specs.declared.item.Item.TheVariants.{Event as of_event}
-use Rattle.cc_model.specs.Texts.{texts_of}
-use Rattle.cc_model.specs.Telling.{Telling, Tells}
-use Rattle.cc_model.proofs.Tellings.{Tells-nil}
+use Rattle.cc_model.specs.Telling.{Telling, TellsEvents}
+use Rattle.cc_model.proofs.Tellings.{Tells-nil, TellsEvents-trans}
 use Rattle.cc_model.specs.Heap.{Heap, Outcome, silently, after}
 use Rattle.cc_model.specs.WellFormed.{IsRising, native_names}
 use Rattle.cc_model.specs.Counts.{times}
@@ -24,7 +22,6 @@ use Rattle.cc_heaps.specs.Keyed.{Keyed, IsInOrder, number_at, the_number, left_w
 use Rattle.cc_unlink.specs.Whites.{whites_of, is_white_number, whites_above}
 use Rattle.cc_heaps.specs.Holders.{native_numbers, is_above, first_of}
 use Rattle.cc_heaps.proofs.Content.{number-some}
-use Rattle.cc_heaps.proofs.EventsTold.{Tells-more}
 use Rattle.cc_heaps.proofs.LeftWith.{key_left-there, left_with-same, number_at-left, left_with-then}
 use Rattle.cc_lists.proofs.Filtering.{filter-each}
 use Rattle.cc_lists.specs.Walks.{left_from}
@@ -161,7 +158,7 @@ pub record IsPassing (each : List ℕ → Outcome → Outcome) (g : Shown) (firs
   pub live : IsNext v next
   pub events : List Event
   pub goes : each (whites_from g v next) (so_far v events) ≡ each (whites_of g first.heap) (silently first.heap)
-  pub told : Tells before now (texts_of (map of_event events))
+  pub told : TellsEvents before now events
 
 -- at the begin
 pub IsPassing-start : (each : List ℕ → Outcome → Outcome) (g : Shown) (v : Keyed) (next : Option NKey) (now : Telling) → IsInOrder (whites_of g v.heap) v →
@@ -180,7 +177,7 @@ pub IsPassing-next : {each : List ℕ → Outcome → Outcome} (step : Heap → 
     (next : Option NKey) → whites_from g v (Some key) ≡ the_number v key.0 ∷ whites_from g v next → IsNext v next →
     (freed : List ℕ) → Leave v.heap freed (step v.heap (the_number v key.0)).heap →
     ((j : ℕ) → Among j (whites_from g v next) → Among (native j) (native_names (step v.heap (the_number v key.0)).heap)) →
-    (later : Telling) → Tells now later (texts_of (map of_event (step v.heap (the_number v key.0)).events)) →
+    (later : Telling) → TellsEvents now later (step v.heap (the_number v key.0)).events →
     IsPassing each g first (left_with v (step v.heap (the_number v key.0)).heap) next before later
     × (whites_from g (left_with v (step v.heap (the_number v key.0)).heap) next ≡ whites_from g v next)
 IsPassing-next {each} step one {g} {first} {v} {key} {before} {now} i next rest live freed leaves there later tell = (
@@ -190,7 +187,7 @@ IsPassing-next {each} step one {g} {first} {v} {key} {before} {now} i next rest 
     events = i.events ++ o.events;
     goes = ap (λ ks. each ks (so_far (left_with v o.heap) (i.events ++ o.events))) left.0
         ∙ (sym (one (the_number v key.0) (whites_from g v next) (so_far v i.events)) ∙ (ap (λ ks. each ks (so_far v i.events)) (sym rest) ∙ i.goes));
-    told = Tells-more before now later i.events o.events i.told tell;
+    told = TellsEvents-trans before now later i.events o.events i.told tell;
   },
   left.0,
 )

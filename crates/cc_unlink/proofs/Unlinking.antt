@@ -1,10 +1,8 @@
 -- THE WHITE NATIVES UNLINKED ONE AFTER ANOTHER, while all of them are rooted.
-use Rattle.std.proofs.Common.{◌≡◌, ℕ, ◌<◌, List, ◌∷◌, map, length, Option, Some, None, refl, sym, ◌∙◌, subst, inr}
+use Rattle.std.proofs.Common.{◌≡◌, ℕ, ◌<◌, List, ◌∷◌, length, Option, Some, None, refl, sym, ◌∙◌, subst, inr}
 use Rattle.cc_lists.specs.Members.{Among}
 use Rattle.cc_names.specs.declared.number.NKey.{NKey}
-use Rattle.cc_model.specs.declared.item.Item.TheVariants.{Event as of_event}
-use Rattle.cc_model.specs.Texts.{texts_of}
-use Rattle.cc_model.specs.Telling.{Telling, Tells}
+use Rattle.cc_model.specs.Telling.{Telling, TellsEvents}
 use Rattle.cc_model.specs.Heap.{Outcome}
 use Rattle.cc_model.specs.End.{unlink, unlink_each}
 use Rattle.cc_model.specs.Counts.{times}
@@ -54,7 +52,7 @@ module _ {g : Shown} {first v : Keyed} {key : NKey} {before now : Telling} (i : 
   -- A STEP: the next one after it was found, and the native is unlinked.
   pub IsUnlinking-next : (next : Option NKey) → number_of_next v next ≡ first_of (whites_above g v.heap (number_at v key.0)) → IsNext v next →
       {w : Keyed} {later : Telling} → w ≡ left_with v (unlink v.heap (the_number v key.0)).heap →
-      Tells now later (texts_of (map of_event (unlink v.heap (the_number v key.0)).events)) →
+      TellsEvents now later (unlink v.heap (the_number v key.0)).events →
       ((owned : List ℕ) → IsInOrder (the_number v key.0 ∷ owned) v → IsInOrder (the_number v key.0 ∷ owned) w) →
       IsUnlinking g first w next before later × (length (whites_from g w next) < length (whites_from g v (Some key)))
   IsUnlinking-next next e live {w} {later} is tell order =

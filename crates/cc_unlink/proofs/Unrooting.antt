@@ -1,9 +1,7 @@
 -- THE WHITE NATIVES UNROOTED ONE AFTER ANOTHER: those that are left are rooted.
-use Rattle.std.proofs.Common.{◌≡◌, ℕ, ◌<◌, List, ◌∷◌, map, length, Option, Some, None, refl, sym, subst}
+use Rattle.std.proofs.Common.{◌≡◌, ℕ, ◌<◌, List, ◌∷◌, length, Option, Some, None, refl, sym, subst}
 use Rattle.cc_names.specs.declared.number.NKey.{NKey}
-use Rattle.cc_model.specs.declared.item.Item.TheVariants.{Event as of_event}
-use Rattle.cc_model.specs.Texts.{texts_of}
-use Rattle.cc_model.specs.Telling.{Telling, Tells}
+use Rattle.cc_model.specs.Telling.{Telling, TellsEvents}
 use Rattle.cc_model.specs.Cascade.{cascade}
 use Rattle.cc_model.specs.End.{unroot_each}
 use Rattle.cc_laws_heap.proofs.Cascades.{cascade-frees, cascade-sound}
@@ -38,7 +36,7 @@ module _ {g : Shown} {first v : Keyed} {key : NKey} {before now : Telling} (i : 
 
   -- A STEP: the next one after it was found, and the native is unrooted.
   pub IsUnrooting-next : IsNext v next → {w : Keyed} {later : Telling} → w ≡ left_with v (cascade v.heap (the_number v key.0)).heap →
-      Tells now later (texts_of (map of_event (cascade v.heap (the_number v key.0)).events)) →
+      TellsEvents now later (cascade v.heap (the_number v key.0)).events →
       ((owned : List ℕ) → IsInOrder (the_number v key.0 ∷ owned) v → IsInOrder owned w) →
       IsUnrooting g first w next before later × (length (whites_from g w next) < length (whites_from g v (Some key)))
   IsUnrooting-next live {w} {later} is tell order =

@@ -1,21 +1,19 @@
 -- THE THREE PASSES ARE THE END OF A COLLECTION: what they leave and what they tell, one after another.
-use Rattle.std.proofs.Common.{◌≡◌, ℕ, List, [], ◌∷◌, ◌++◌, map, sym, ◌∙◌, ap, subst, append_assoc}
+use Rattle.std.proofs.Common.{◌≡◌, ℕ, List, [], ◌∷◌, ◌++◌, sym, ◌∙◌, ap, subst, append_assoc}
 use Rattle.std.proofs.lemmas.List.{append-nil}
 use Rattle.cc_lists.specs.Members.{Among}
 use Rattle.cc_names.specs.Names.{native}
-use Rattle.cc_model.specs.declared.item.Item.TheVariants.{Event as of_event}
-use Rattle.cc_model.specs.Texts.{texts_of}
-use Rattle.cc_model.specs.Telling.{Telling, Tells}
+use Rattle.cc_model.specs.Telling.{Telling, TellsEvents}
 use Rattle.cc_model.specs.Heap.{Heap, Outcome, silently, after}
 use Rattle.cc_model.specs.Cascade.{cascade}
 use Rattle.cc_model.specs.End.{root_each, unlink_each, unroot_each, take_away}
 use Rattle.cc_model.specs.WellFormed.{native_names}
+use Rattle.cc_model.proofs.Tellings.{TellsEvents-trans}
 use Rattle.cc_laws_heap.specs.Sound.{IsSound}
 use Rattle.cc_laws_heap.proofs.EndingEvents.{TellsOf-nil}
 use Rattle.cc_laws_heap.proofs.Leaving.{Leave-refl, Leave-before}
 use Rattle.cc_laws_heap.proofs.TakingAway.{IsOnTheWay, unroot_each-sound}
 use Rattle.cc_heaps.specs.Keyed.{Keyed, IsInOrder, changed_to, left_with}
-use Rattle.cc_heaps.proofs.EventsTold.{Tells-more}
 use Rattle.cc_heaps.proofs.LeftWith.{left_with-then}
 
 -- what was told before the natives are unrooted stands in front
@@ -69,12 +67,12 @@ module _ (ks : List ℕ) (first rooted unlinked unrooted : Keyed)
       all = ap (λ h. (unroot_each ks (silently h)).heap) unlinked_heap ∙ sym (ap (λ (o : Outcome). o.heap) (take_away-parts ks first.heap))
 
   -- AND WHAT THEY TELL
-  pub WhiteEnd-told : (before between now : Telling) → Tells before between (texts_of (map of_event (unlink_each ks (silently rooted.heap)).events)) →
-      Tells between now (texts_of (map of_event (unroot_each ks (silently unlinked.heap)).events)) →
-      Tells before now (texts_of (map of_event (take_away ks first.heap).events))
+  pub WhiteEnd-told : (before between now : Telling) → TellsEvents before between (unlink_each ks (silently rooted.heap)).events →
+      TellsEvents between now (unroot_each ks (silently unlinked.heap)).events →
+      TellsEvents before now (take_away ks first.heap).events
   WhiteEnd-told before between now t u =
-      subst (λ es. Tells before now (texts_of (map of_event es))) all
-      (Tells-more before between now (unlink_each ks (silently rooted.heap)).events (unroot_each ks (silently unlinked.heap)).events t u)
+      subst (TellsEvents before now) all
+      (TellsEvents-trans before between now (unlink_each ks (silently rooted.heap)).events (unroot_each ks (silently unlinked.heap)).events t u)
     where
       all : (unlink_each ks (silently rooted.heap)).events ++ (unroot_each ks (silently unlinked.heap)).events ≡ (take_away ks first.heap).events
       all = ap (λ (v : Keyed). (unlink_each ks (silently v.heap)).events ++ (unroot_each ks (silently unlinked.heap)).events) root

@@ -3,7 +3,7 @@ ghost use Rattle.std.specs.Prelude.{◌≡◌, ◌≤◌, [], length, map, ◌+�
 ghost use Rattle.cc_model.specs.declared.item.Item.TheVariants.{Listed};
 ghost use Rattle.cc_model.specs.WellFormed.{native_names, script_names};
 ghost use Rattle.cc_model.specs.Run.{census_names};
-ghost use Rattle.cc_model.specs.Telling.{TellsItems};
+ghost use Rattle.cc_model.specs.Telling.{Tells};
 ghost use Rattle.cc_heaps.specs.Keyed.{IsInOrder};
 
 use crate::heaps::Heaps;
@@ -14,7 +14,7 @@ impl Heaps {
     // Each native by rising number; how many there are.
     fn list_natives<N: Notices>(&self, out: &mut N) -> u32
         requires order { IsInOrder [] self.now }
-        ensures told { TellsItems (N.telling out.old) (N.telling out.new) (map Listed (native_names self.now.heap)) }
+        ensures told { Tells (N.telling out.old) (N.telling out.new) (map Listed (native_names self.now.heap)) }
         ensures count { result ≡ length (native_names self.now.heap) }
         ensures few { result ≤ 1000000 }
     {
@@ -34,7 +34,7 @@ impl Heaps {
     // Each script object in order of making; how many there are.
     fn list_scripts<N: Notices>(&self, out: &mut N) -> u32
         requires order { IsInOrder [] self.now }
-        ensures told { TellsItems (N.telling out.old) (N.telling out.new) (map Listed (script_names self.now.heap)) }
+        ensures told { Tells (N.telling out.old) (N.telling out.new) (map Listed (script_names self.now.heap)) }
         ensures count { result ≡ length (script_names self.now.heap) }
         ensures few { result ≤ 2000000 }
     {
@@ -51,7 +51,7 @@ impl Heaps {
     /// Lists each native by rising number, then each script object in order of making. How many there are.
     pub fn census<N: Notices>(&self, out: &mut N) -> u32
         requires order { IsInOrder [] self.now }
-        ensures told { TellsItems (N.telling out.old) (N.telling out.new) (map Listed (census_names self.now.heap)) }
+        ensures told { Tells (N.telling out.old) (N.telling out.new) (map Listed (census_names self.now.heap)) }
         ensures count { result ≡ length (census_names self.now.heap) }
     {
         let natives = self.list_natives(out);

@@ -1,5 +1,5 @@
 use Rattle.cc_replay.proofs.Causes.{over-answered, done-answered, reads-within, end-unread}
-use Rattle.cc_replay.proofs.Endings.{whole-done, broken-stops, over-stops, first-stops}
+use Rattle.cc_replay.proofs.Endings.{whole-counts, whole-done, broken-stops, over-stops, first-stops}
 use Rattle.cc_replay.proofs.Beginning.{runs-empty, machine-empty}
 use Rattle.cc_replay.proofs.answering.answer_input.Goals as goal
 
@@ -10,6 +10,11 @@ answer_all-requires-clause-runs g c = runs-empty c.args.heaps.now c.new-collecto
 pub returns-clause-done : goal.returns-clause-done
 returns-clause-done g c = λ status.
     whole-done _ _ _ _ _ c.requires.start (machine-empty c.args.heaps.now c.new-collector.result c.requires.empty c.new-collector.ensures) c.answer_all.ensures.limit c.answer_all.ensures.reads (c.answer_all.ensures.done status)
+    (c.answer_all.ensures.whole (λ bad. cc))
+
+pub returns-clause-counted : goal.returns-clause-counted
+returns-clause-counted g c = λ status.
+    whole-counts _ _ _ _ _ c.requires.start (machine-empty c.args.heaps.now c.new-collector.result c.requires.empty c.new-collector.ensures) c.answer_all.ensures.limit c.answer_all.ensures.reads (c.answer_all.ensures.done status)
     (c.answer_all.ensures.whole (λ bad. cc))
 
 pub returns-clause-fault : goal.returns-clause-fault

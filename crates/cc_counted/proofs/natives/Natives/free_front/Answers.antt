@@ -4,7 +4,6 @@ use Rattle.cc_lists.specs.Walks.{first_of}
 use Rattle.cc_names.specs.Names.{native}
 use Rattle.cc_model.specs.declared.item.Event.TheVariants.{Freed}
 use Rattle.cc_model.specs.declared.item.Item.TheVariants.{Event as of_event}
-use Rattle.cc_model.specs.Texts.{text_of}
 use Rattle.cc_model.specs.Telling.{Tells}
 use Rattle.cc_laws_heap.specs.Balance.{IsBalanced}
 use Rattle.cc_purple.specs.Marks.{Marked}
@@ -118,7 +117,7 @@ returns-in-Some-clause-frees g c =
     let after = c.give_up_each.new.self.lists in
     let P : Lists → Type 0 = λ before. GivesUp before after (numbers_in (keyed before.cells) c.as_slice.result.now) in
     let Q : List (Option Held) → Type 0 = λ xs. GivesUp left after (numbers_in (keyed left.cells) xs) in
-    let T : Placed → Type 0 = λ p. Tells (g.N.Notices.telling c.args.out.now) (g.N.Notices.telling c.tell.new.self) (text_of (of_event (Freed (native p.number)))) in
+    let T : Placed → Type 0 = λ p. Tells (g.N.Notices.telling c.args.out.now) (g.N.Notices.telling c.tell.new.self) (of_event (Freed (native p.number)) ∷ []) in
     FreesFront-freed s.lists c.requires.placed owned balance key (drop 1 s.lists.queue) c.remove-cell.result (still-there s mid key _ c.in-Some.ensures.lists c.remove-cell.ensures.value)
     (front-others s.lists.queue key c.in-Some.ensures.first)
     after (subst Q slots (subst P (sym (left-lists s mid c.remove-cell.new.self key c.in-Some.ensures.lists c.remove-cell.ensures.lists)) c.give_up_each.ensures.gives_up))

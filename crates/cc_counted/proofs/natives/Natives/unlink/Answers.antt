@@ -3,14 +3,12 @@ use Rattle.std.proofs.Common.{◌≡◌, ◌≤◌, ℕ, [], ◌∷◌, length, 
 use Rattle.cc_names.specs.Names.{native}
 use Rattle.cc_model.specs.declared.item.Event.TheVariants.{Unlinked}
 use Rattle.cc_model.specs.declared.item.Item.TheVariants.{Event as of_event}
-use Rattle.cc_model.specs.Texts.{text_of}
-use Rattle.cc_model.specs.Telling.{Tells}
+use Rattle.cc_model.specs.Telling.{Tells, TellsEvents}
 use Rattle.cc_model.specs.Heap.{Outcome}
-use Rattle.cc_model.proofs.Tellings.{Tells-trans}
+use Rattle.cc_model.proofs.Tellings.{TellsEvents-trans}
 use Rattle.cc_laws_heap.specs.Balance.{IsBalanced}
 use Rattle.cc_counted.specs.Counts.{the_number}
 use Rattle.cc_counted.specs.Lists.{Placed, counts_of, draining_of}
-use Rattle.cc_counted.specs.Steps.{texts_of_events}
 use Rattle.cc_counted.proofs.Places.{number_at-cell, the_number-cell}
 use Rattle.cc_counted.proofs.Balanced.{IsBalanced-owned}
 use Rattle.cc_counted.proofs.Unlinking.{unlinked-key, counts-unlinked}
@@ -52,11 +50,11 @@ returns-clause-told g c =
     let after = g.N.Notices.telling c.empty_each.new.out in
     let same : Some c.at-cell.result.now ≡ Some e.was = sym c.at-cell.ensures ∙ e.was_there in
     let cell : c.at-cell.result.now ≡ e.was = cc in
-    let first : Tells before middle (text_of (of_event (Unlinked (native e.was.number)))) =
-    subst (λ (p : Placed). Tells before middle (text_of (of_event (Unlinked (native p.number))))) (c.cell.view_is ∙ cell) c.tell.ensures in
-    subst (λ (o : Outcome). Tells before after (texts_of_events o.events))
+    let first : Tells before middle (of_event (Unlinked (native e.was.number)) ∷ []) =
+    subst (λ (p : Placed). Tells before middle (of_event (Unlinked (native p.number)) ∷ [])) (c.cell.view_is ∙ cell) c.tell.ensures in
+    subst (λ (o : Outcome). TellsEvents before after o.events)
     (sym (unlinked-key c.args.self.now.lists c.empty_each.new.self.lists c.args.key.0 middle after c.requires.at_rest.placed e))
-    (Tells-trans before middle after (text_of (of_event (Unlinked (native e.was.number)))) (texts_of_events e.events) first e.told)
+    (TellsEvents-trans before middle after (Unlinked (native e.was.number) ∷ []) e.events first e.told)
 
 pub returns-clause-owned : goal.returns-clause-owned
 returns-clause-owned g c others o =

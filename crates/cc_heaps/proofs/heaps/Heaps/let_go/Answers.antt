@@ -1,7 +1,5 @@
-use Rattle.std.proofs.Common.{[], ◌++◌, map, rules, sym, ◌∙◌, ap, subst}
-use Rattle.cc_model.specs.declared.item.Item.TheVariants.{Event as of_event}
-use Rattle.cc_model.specs.Telling.{Tells}
-use Rattle.cc_model.specs.Texts.{texts_of}
+use Rattle.std.proofs.Common.{[], ◌++◌, rules, sym, ◌∙◌, ap, subst}
+use Rattle.cc_model.specs.Telling.{TellsEvents}
 use Rattle.cc_laws_heap.specs.Sound.{numbers_of}
 use Rattle.cc_heaps.specs.Keyed.{left_with, IsInOrder}
 use Rattle.cc_heaps.specs.Changes.{held_name}
@@ -28,7 +26,7 @@ returns-in-None-clause-told g c =
     let v = c.args.self.now in
     let none = held-no_native (numbers_of (held_name v c.args.content) ++ []) v c.requires.order c.args.content (sym c.native_held.ensures ∙ c.in-None.is) in
     let before = g.N.Notices.telling c.args.out.now in
-    subst (λ o. Tells before before (texts_of (map of_event o.events))) (sym (let_go-none v.heap (held_name v c.args.content) none)) (search rules)
+    subst (λ o. TellsEvents before before o.events) (sym (let_go-none v.heap (held_name v c.args.content) none)) (search rules)
 
 pub returns-in-None-clause-order : goal.returns-in-None-clause-order
 returns-in-None-clause-order g c =

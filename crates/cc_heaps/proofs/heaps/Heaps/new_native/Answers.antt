@@ -1,9 +1,7 @@
-use Rattle.std.proofs.Common.{◌<◌, Some, map, arith, sym, ◌∙◌, ap, subst}
+use Rattle.std.proofs.Common.{◌<◌, Some, arith, sym, ◌∙◌, ap, subst}
 use Rattle.cc_model.specs.declared.command.Command.TheVariants.{Native}
 use Rattle.cc_model.specs.Graph.{step}
-use Rattle.cc_model.specs.declared.item.Item.TheVariants.{Event as of_event}
-use Rattle.cc_model.specs.Telling.{Tells}
-use Rattle.cc_model.specs.Texts.{texts_of}
+use Rattle.cc_model.specs.Telling.{TellsEvents}
 use Rattle.cc_model.specs.Effects.{put_in_register}
 use Rattle.cc_heaps.specs.Keyed.{Keyed}
 use Rattle.cc_heaps.specs.Changes.{native_name}
@@ -25,7 +23,7 @@ returns-in-Ok-clause-heap g c =
 pub returns-in-Ok-clause-told : goal.returns-in-Ok-clause-told
 returns-in-Ok-clause-told g c =
     let mid = c.put.new.self in
-    subst (λ o. Tells (g.N.Notices.telling c.args.out.now) (g.N.Notices.telling c.put_in_register.new.out) (texts_of (map of_event o.events)))
+    subst (λ o. TellsEvents (g.N.Notices.telling c.args.out.now) (g.N.Notices.telling c.put_in_register.new.out) o.events)
     (made-is c.args.self.now.heap mid.heap (native_name mid (Some c.in-Ok.key)) c.args.r c.args.slots c.in-Ok.ensures.heap c.in-Ok.ensures.name)
     c.put_in_register.ensures.told
 

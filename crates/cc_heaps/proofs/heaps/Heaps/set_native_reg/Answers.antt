@@ -1,9 +1,7 @@
-use Rattle.std.proofs.Common.{◌≡◌, ℕ, [], map, Option, refl, sym, ◌∙◌, ap, subst}
+use Rattle.std.proofs.Common.{◌≡◌, ℕ, [], Option, refl, sym, ◌∙◌, ap, subst}
 use Rattle.cc_names.specs.declared.name.Name.{Name}
 use Rattle.cc_names.specs.declared.number.NKey.{NKey}
-use Rattle.cc_model.specs.declared.item.Item.TheVariants.{Event as of_event}
-use Rattle.cc_model.specs.Telling.{Tells}
-use Rattle.cc_model.specs.Texts.{texts_of}
+use Rattle.cc_model.specs.Telling.{TellsEvents}
 use Rattle.cc_model.specs.Heap.{Heap}
 use Rattle.cc_model.specs.Cascade.{take_up}
 use Rattle.cc_model.specs.Effects.{put_in_register, hold_native}
@@ -41,7 +39,7 @@ returns-clause-heap g c =
 
 pub returns-clause-told : goal.returns-clause-told
 returns-clause-told g c =
-    subst (λ o. Tells (g.N.Notices.telling c.args.out.now) (g.N.Notices.telling c.put_in_register.new.out) (texts_of (map of_event o.events)))
+    subst (λ o. TellsEvents (g.N.Notices.telling c.args.out.now) (g.N.Notices.telling c.put_in_register.new.out) o.events)
     (held-is c.args.self.now c.take_up.new.self c.args.r c.args.content c.of_native.result c.of_native.ensures c.take_up.ensures.heap)
     c.put_in_register.ensures.told
 

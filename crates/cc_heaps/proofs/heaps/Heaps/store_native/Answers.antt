@@ -1,10 +1,8 @@
-use Rattle.std.proofs.Common.{◌≡◌, ℕ, ◌<◌, length, get_or, map, Option, Some, None, sym, ◌∙◌, ap, subst}
+use Rattle.std.proofs.Common.{◌≡◌, ℕ, ◌<◌, length, get_or, Option, Some, None, sym, ◌∙◌, ap, subst}
 use Rattle.cc_names.specs.declared.name.Name.{Name}
 use Rattle.cc_names.specs.declared.number.NKey.{NKey}
 use Rattle.cc_names.specs.Names.{native}
-use Rattle.cc_model.specs.declared.item.Item.TheVariants.{Event as of_event}
-use Rattle.cc_model.specs.Telling.{Tells}
-use Rattle.cc_model.specs.Texts.{texts_of}
+use Rattle.cc_model.specs.Telling.{TellsEvents}
 use Rattle.cc_model.specs.Slots.{Slots}
 use Rattle.cc_model.specs.Heap.{native_at, set_slot}
 use Rattle.cc_model.specs.Cascade.{take_up, let_go}
@@ -60,7 +58,7 @@ returns-clause-heap g c =
 
 pub returns-clause-told : goal.returns-clause-told
 returns-clause-told g c =
-    subst (λ o. Tells (g.N.Notices.telling c.args.out.now) (g.N.Notices.telling c.let_go.new.out) (texts_of (map of_event o.events)))
+    subst (λ o. TellsEvents (g.N.Notices.telling c.args.out.now) (g.N.Notices.telling c.let_go.new.out) o.events)
     (stored-is c.args.self.now c.take_up.new.self c.replace_slot-held.new.self c.args.key c.args.i c.args.content c.replace_slot-held.result
     c.take_up.ensures.heap c.replace_slot-held.ensures.heap c.replace_slot-held.ensures.held)
     c.let_go.ensures.told

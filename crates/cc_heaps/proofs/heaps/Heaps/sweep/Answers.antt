@@ -1,8 +1,6 @@
 use Rattle.std.proofs.Common.{◌≡◌, [], map, sym, ◌∙◌, ap, subst}
-use Rattle.cc_model.specs.declared.item.Item.TheVariants.{Event as of_event}
 use Rattle.cc_model.specs.Colours.{HasColours, HasColourInvariant}
-use Rattle.cc_model.specs.Telling.{Tells}
-use Rattle.cc_model.specs.Texts.{texts_of}
+use Rattle.cc_model.specs.Telling.{TellsEvents}
 use Rattle.cc_model.specs.View.{view}
 use Rattle.cc_counted.specs.Counts.{key_left}
 use Rattle.cc_heaps.specs.Keyed.{IsInOrder}
@@ -42,7 +40,7 @@ returns-clause-heap g c = rw (← c.self.view_is) (ap heap_of (swept-is g c) ∙
 
 pub returns-clause-told : goal.returns-clause-told
 returns-clause-told g c =
-    rw (← c.self.view_is) (subst (λ events. Tells (g.N.Notices.telling c.args.out.now) (g.N.Notices.telling c.sweep_whites.new.out) (texts_of (map of_event events)))
+    rw (← c.self.view_is) (subst (TellsEvents (g.N.Notices.telling c.args.out.now) (g.N.Notices.telling c.sweep_whites.new.out))
     (events-swept c.self.inside c.self.invariant (order g c) (colours g c)) c.sweep_whites.ensures.told)
 
 pub returns-clause-natives : goal.returns-clause-natives

@@ -1,0 +1,4 @@
+pub mod Filling
+pub mod Lines
+pub mod Passing
+pub mod Tables

@@ -1,0 +1,5 @@
+pub mod Forms
+pub mod Made
+pub mod Pieces
+pub mod Asked
+pub mod Known
