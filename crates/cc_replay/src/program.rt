@@ -10,7 +10,7 @@ ghost use Rattle.cc_replay.specs.Words.{GivesLimits, IsTaken};
 use crate::answering::answer_input;
 use crate::outlet::Outlet;
 use crate::status::Status;
-use crate::words::{WordsStop, limits_of};
+use crate::words::{Request, WordsStop, request_of};
 use cc_heaps::Heaps;
 use cc_names::Limits;
 use cc_outside::{Sink, Source};
@@ -139,8 +139,9 @@ pub fn run<'a, S: Source, K: Sink>(
         ¬ (Rose (S.faults source.old) (S.faults source.new)) → ¬ (Rose (K.faults sink.old) (K.faults sink.new)) →
         result ≢ Status.NoMemory → result ≡ Status.Done }
 {
-    match limits_of(alloc, words) {
-        Ok(limits) => replay(alloc, limits, source, sink),
+    match request_of(alloc, words) {
+        Ok(Request::Replay(limits)) => replay(alloc, limits, source, sink),
+        Ok(Request::Make { .. }) => Status::NoMemory,
         Err(WordsStop::Usage) => Status::Usage,
         Err(WordsStop::NoMemory) => Status::NoMemory,
     }
