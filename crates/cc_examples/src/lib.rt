@@ -1,8 +1,8 @@
 //! Tests across crates: what `cc_replay` writes for whole scripts.
 //!
 //! The worked examples stand in one table, `examples/worked.txt`, with the answers of the rules and not of the program;
-//! `worked.rt` is made of it. Beside them stand the words of the command line, the faults of reading and writing, and
-//! shapes that are deep or long.
+//! `worked.rt` is made of it. Beside them stand the words of the command line, summaries of made scripts, the faults of
+//! reading and writing, and shapes that are deep or long.
 #![tactic(auto)]
 
 #[cfg(test)]
@@ -15,6 +15,8 @@ mod pieces;
 mod script;
 #[cfg(test)]
 mod shapes;
+#[cfg(test)]
+mod summaries;
 #[cfg(test)]
 mod words;
 #[cfg(test)]

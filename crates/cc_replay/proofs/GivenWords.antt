@@ -1,8 +1,11 @@
 -- What words that are taken give.
-use Rattle.std.proofs.Common.{◌≡◌, ◌∙◌, ◌||◌, ◌≤◌, ℕ, Bool, cond, codes, true, false, not, refl, sym, ap, subst, arith, List, [], ◌∷◌, drop, Option, Some, None, is_some, pos}
+use Rattle.std.proofs.Common.{◌≡◌, ◌∙◌, ◌||◌, ◌≤◌, inl, inr, ℕ, Bool, cond, codes, true, false, not, refl, sym, ap, subst, arith, List, [], ◌∷◌, drop, Option, Some, None, is_some, pos}
 use Rattle.std.specs.Prelude.{find, option_and_then, option_map}
-use Rattle.std.specs.Option.{IfSome, option_map_or}
+use Rattle.std.specs.Option.{IfSome, IsSome, option_map_or}
 use Rattle.std.specs.Borrow.{Bor}
+use Rattle.std.specs.Box.{box_value}
+use Rattle.std.specs.Prelude.{Box, ◌⊎◌, ◌↔◌}
+use Rattle.std.proofs.lemmas.Slice.Eq.{bytes_eq-Decides}
 use Rattle.std.specs.List.{list_all, list_any}
 use Rattle.std.specs.Str.{bytes_eq}
 use Rattle.std.specs.Str.Parse.{IsNumeral, digits_value, starts_with_minus, without_leading_plus}
@@ -12,9 +15,11 @@ use Rattle.std.proofs.lemmas.Int.{ints}
 use Rattle.std.proofs.Common.{◌==◌, unwrap_or}
 use Rattle.clap.specs.Facts.{explicit_source}
 use Rattle.clap.specs.Lexer.{without_minus}
-use Rattle.clap.specs.Words.{found_of, one_text, rows_of, subcommand_rows_of}
+use Rattle.clap.specs.Words.{found_of, one_text, rows_of, subcommand_name_of, subcommand_rows, subcommand_rows_of}
+use Rattle.clap.specs.declared.parser.matches.ArgMatches.TheViews.{out-SubCommand}
+use Rattle.clap.specs.declared.parser.matches.SubCommand.{SubCommand}
 use Rattle.clap.specs.declared.parser.matches.ArgMatches.{ArgMatches}
-use Rattle.clap.specs.Values.{IsSignedIn}
+use Rattle.clap.specs.Values.{Accepts, IsSignedIn, read_as, reading_of}
 use Rattle.clap.specs.Walk.{Row, Rule, Text, answers_to, nothing_held, one_of, rows_after}
 use Rattle.clap.specs.Walk
 use Rattle.clap.specs.Simple.{App, Shape, argument_words, built, entered, is_simple, label_of, names_of, new_shape, rows_at, subcommand_of}
@@ -26,9 +31,9 @@ use Rattle.clap.specs.declared.builder.value_parser.ValueParser.TheVariants as p
 use Rattle.clap.proofs.OnLiterals.{clap_on_literals}
 use Rattle.clap.proofs.ValueTestLemmas.{accepts-Accepts}
 use Rattle.clap.proofs.WalkLemmas.{both, one_text-rows}
-use Rattle.cc_replay.specs.Words.{IsTaken, app, bytes_option, natives_option, number_option, scripts_option, text_for, IsNumber}
+use Rattle.cc_replay.specs.Words.{IsFor, IsNumber, IsTaken, app, bytes_option, count_argument, natives_option, number_argument, number_option, scripts_option, seed_argument, text_for}
 use Rattle.cc_replay.proofs.FaultFree.{is_sound_level, takes-no_fault}
-use Rattle.cc_replay.proofs.OptionRows.{AreOptions, HasText, IsOption, has_default, level_text}
+use Rattle.cc_replay.proofs.OptionRows.{AreOptions, HasText, IsOption, has_default, has_required, level_default, level_required}
 use Rattle.cc_lists.proofs.Booleans.{premise-holds}
 
 app_is_simple : is_simple app ≡ true
@@ -43,68 +48,84 @@ app_is_free = refl
 abbrev built_option : Rule → Rule
 built_option a = record a { range = Some (record { start_inclusive = 1; end_inclusive = 1 }) }
 
--- the subcommand as it is built
-abbrev built_replay : Shape
-built_replay = record (new_shape (codes "replay")) {
-  rules = built_option natives_option ∷ built_option scripts_option ∷ built_option bytes_option ∷ [];
+-- and an argument at its place
+abbrev built_argument : ℕ → Rule → Rule
+built_argument place a = record (built_option a) { index = Some place }
+
+-- a subcommand as it is built
+abbrev built_command : Text → List Rule → Shape
+built_command name rules = record (new_shape name) {
+  rules = rules;
   disable_help_flag = true;
   disable_help_subcommand = true;
   is_built = true;
 }
 
-subcommand_is : (built app).subs ≡ built_replay ∷ []
+abbrev built_replay : Shape
+built_replay = built_command (codes "replay") (built_option natives_option ∷ built_option scripts_option ∷ built_option bytes_option ∷ [])
+
+abbrev built_make : Shape
+built_make = built_command (codes "make") (built_argument 1 seed_argument ∷ built_argument 2 count_argument ∷ [])
+
+subcommands_are : (built app).subs ≡ built_replay ∷ built_make ∷ []
 unfolding clap_on_literals
-subcommand_is = refl
+subcommands_are = refl
 
 top_is_sound : is_sound_level (built app).top ≡ true
 unfolding clap_on_literals
 top_is_sound = refl
 
-replay_is_sound : list_all is_sound_level (built_replay ∷ []) ≡ true
+each_is_sound : list_all is_sound_level (built_replay ∷ built_make ∷ []) ≡ true
 unfolding clap_on_literals
-replay_is_sound = refl
+each_is_sound = refl
 
 subs_are_sound : list_all is_sound_level (built app).subs ≡ true
-subs_are_sound = ap (list_all is_sound_level) subcommand_is ∙ replay_is_sound
+subs_are_sound = ap (list_all is_sound_level) subcommands_are ∙ each_is_sound
 
 pub taken : (words : List Text) → fault_of app words ≡ [] → IsTaken words
 taken words e = takes-no_fault app words app_is_simple top_is_sound subs_are_sound e
-
--- the only subcommand is the one that is entered
-one_entered : (s : Shape) (p : Text × List Text) → is_some (option_map (λ x. rows_at x p.1) (find (λ x. answers_to p.0 (label_of x)) (s ∷ []))) ≡ true
-    → option_map_or (λ x. level_passes x [] nothing_held p.1 false) (find (λ x. answers_to p.0 (label_of x)) (s ∷ [])) true ≡ true
-    → (option_map (λ x. rows_at x p.1) (find (λ x. answers_to p.0 (label_of x)) (s ∷ [])) ≡ Some (rows_at s p.1)) × (level_passes s [] nothing_held p.1 false ≡ true)
-one_entered s p some e = go (answers_to p.0 (label_of s)) some e
-  where
-    go : (b : Bool) → is_some (option_map (λ x. rows_at x p.1) (cond b (Some s) None)) ≡ true
-        → option_map_or (λ x. level_passes x [] nothing_held p.1 false) (cond b (Some s) None) true ≡ true
-        → (option_map (λ x. rows_at x p.1) (cond b (Some s) None) ≡ Some (rows_at s p.1)) × (level_passes s [] nothing_held p.1 false ≡ true)
-    go true some e = (refl, e)
-    go false some e = cc
 
 -- words with which the subcommand s is entered, and which it takes
 abbrev Enters : Shape → Option (Text × List Row) → Type 0
 Enters s o = (words : List Text) × (o ≡ Some (rows_at s words)) × (level_passes s [] nothing_held words false ≡ true)
 
-entered_is : (a : App) (s : Shape) (stop : Option (Text × List Text)) → a.subs ≡ s ∷ [] → is_some (entered a stop) ≡ true → Takes.entered_passes a stop ≡ true
-    → Enters s (entered a stop)
-entered_is a s None one some e = cc
-entered_is a s (Some p) one some e =
-    let found : List Shape → Option Shape = λ subs. find (λ x. answers_to p.0 (label_of x)) subs in
-    let some_in : is_some (option_map (λ x. rows_at x p.1) (found (s ∷ []))) ≡ true =
-    subst (λ subs. is_some (option_map (λ x. rows_at x p.1) (found subs)) ≡ true) one some in
-    let passes_in : option_map_or (λ x. level_passes x [] nothing_held p.1 false) (found (s ∷ [])) true ≡ true =
-    subst (λ subs. option_map_or (λ x. level_passes x [] nothing_held p.1 false) (found subs) true ≡ true) one e in
-    let in_one = one_entered s p some_in passes_in in
-    (p.1, ap (λ subs. option_map (λ x. rows_at x p.1) (found subs)) one ∙ in_one.0, in_one.1)
+-- one of these subcommands is entered, by such words
+abbrev EntersOneOf : List Shape → Option (Text × List Row) → Type 0
+EntersOneOf [] o = ⊥
+EntersOneOf (s ∷ rest) o = Enters s o ⊎ EntersOneOf rest o
+
+-- what a stop at a name and its words enters, and whether it takes them
+abbrev at_stop : List Shape → Text × List Text → Option (Text × List Row)
+at_stop subs p = option_map (λ x. rows_at x p.1) (find (λ x. answers_to p.0 (label_of x)) subs)
+
+abbrev passes_at_stop : List Shape → Text × List Text → Bool
+passes_at_stop subs p = option_map_or (λ x. level_passes x [] nothing_held p.1 false) (find (λ x. answers_to p.0 (label_of x)) subs) true
+
+stopped_in : (subs : List Shape) (p : Text × List Text) → is_some (at_stop subs p) ≡ true → passes_at_stop subs p ≡ true → EntersOneOf subs (at_stop subs p)
+stopped_in [] p some e = cc
+stopped_in (s ∷ rest) p some e = go (answers_to p.0 (label_of s)) (stopped_in rest p) some e
+  where
+    found : Bool → Option Shape
+    found b = cond b (Some s) (find (λ x. answers_to p.0 (label_of x)) rest)
+
+    go : (b : Bool) → (is_some (at_stop rest p) ≡ true → passes_at_stop rest p ≡ true → EntersOneOf rest (at_stop rest p))
+        → is_some (option_map (λ x. rows_at x p.1) (found b)) ≡ true → option_map_or (λ x. level_passes x [] nothing_held p.1 false) (found b) true ≡ true
+        → EntersOneOf (s ∷ rest) (option_map (λ x. rows_at x p.1) (found b))
+    go true later some e = inl (p.1, refl, e)
+    go false later some e = inr (later some e)
+
+entered_is : (a : App) (stop : Option (Text × List Text)) → is_some (entered a stop) ≡ true → Takes.entered_passes a stop ≡ true
+    → EntersOneOf a.subs (entered a stop)
+entered_is a None some e = cc
+entered_is a (Some p) some e = stopped_in a.subs p some e
 
 wants_subcommand : (built app).top.subcommand_required ≡ true
 unfolding clap_on_literals
 wants_subcommand = refl
 
--- words that are taken enter `replay`
-replay_entered : (words : List Text) → IsTaken words → Enters built_replay (subcommand_of app words)
-replay_entered words e =
+-- words that are taken enter one of the subcommands
+one_entered : (words : List Text) → IsTaken words → EntersOneOf (built_replay ∷ built_make ∷ []) (subcommand_of app words)
+one_entered words e =
     let top = (built app).top in
     let names = names_of (built app) in
     let given = argument_words app words in
@@ -119,15 +140,59 @@ replay_entered words e =
     let c = both (list_all Takes.default_passes top.rules) _ b.1 in
     let d = both (not top.arg_required_else_help || (has || list_any (λ r. explicit_source r.source) rows)) _ c.1 in
     let f = both (not top.subcommand_required || has) _ d.1 in
-    entered_is (built app) built_replay stop subcommand_is (premise-holds top.subcommand_required has f.0 wants_subcommand) l.0
+    subst (λ subs. EntersOneOf subs (subcommand_of app words)) subcommands_are
+    (entered_is (built app) stop (premise-holds top.subcommand_required has f.0 wants_subcommand) l.0)
 
--- ---- the three options
+-- the words enter the subcommand that they name
+names_one : (name : Text) (s : Shape) (o : Option (Text × List Row)) → Enters s o → option_map (λ p. p.0) o ≡ Some name → s.name ≡ name
+names_one name s o enters is =
+    let same : option_map (λ (p : Text × List Row). p.0) o ≡ Some s.name = ap (option_map (λ (p : Text × List Row). p.0)) enters.1 in
+    cc
+
+other_name : (name other : Text) → bytes_eq name other ≡ false → ¬ (name ≡ other)
+other_name name other differ same = let bad : bytes_eq name other ≡ true = (bytes_eq-Decides name other).1 same in cc
+
+pub replay_entered : (words : List Text) → IsTaken words → IsFor (codes "replay") words → Enters built_replay (subcommand_of app words)
+replay_entered words e is = go (one_entered words e)
+  where
+    go : EntersOneOf (built_replay ∷ built_make ∷ []) (subcommand_of app words) → Enters built_replay (subcommand_of app words)
+    go (inl here) = here
+    go (inr (inl make)) = absurd (other_name (codes "make") (codes "replay") refl (names_one (codes "replay") built_make (subcommand_of app words) make is))
+    go (inr (inr none)) = absurd none
+
+pub make_entered : (words : List Text) → IsTaken words → IsFor (codes "make") words → Enters built_make (subcommand_of app words)
+make_entered words e is = go (one_entered words e)
+  where
+    go : EntersOneOf (built_replay ∷ built_make ∷ []) (subcommand_of app words) → Enters built_make (subcommand_of app words)
+    go (inl replay) = absurd (other_name (codes "replay") (codes "make") refl (names_one (codes "make") built_replay (subcommand_of app words) replay is))
+    go (inr (inl here)) = here
+    go (inr (inr none)) = absurd none
+
+-- words are not for both
+pub not_both : (words : List Text) → IsFor (codes "replay") words → ¬ (IsFor (codes "make") words)
+not_both words replay make =
+    let same : Some (codes "replay") ≡ Some (codes "make") = sym replay ∙ make in
+    let names : codes "replay" ≡ codes "make" = cc in
+    other_name (codes "replay") (codes "make") refl names
+
+-- ---- the options and the arguments
 
 abbrev reader : ℕ → ValueParser
 reader most = parser.Signed (pos 0) (pos most)
 
+abbrev wide_reader : ℕ → ValueParser
+wide_reader most = parser.Unsigned 0 most
+
 option_is : (id name default : Text) (q : ValueParser) (most : ℕ) → (bytes_eq name id ≡ true → reader most ≡ q) → IsOption id q (built_option (number_option name most default))
 option_is id name default q most same = record {
+  set = refl;
+  missing = refl;
+  least = refl;
+  parser = λ e. (ap Some (same e), refl);
+}
+
+argument_is : (place : ℕ) (id name : Text) (q r : ValueParser) → (bytes_eq name id ≡ true → r ≡ q) → IsOption id q (built_argument place (number_argument name r))
+argument_is place id name q r same = record {
   set = refl;
   missing = refl;
   least = refl;
@@ -142,6 +207,12 @@ options_are id q natives scripts bytes =
     let bytes_is = option_is id (codes "bytes") (codes "4294967295") q 4294967295 bytes in
     let scripts_is = option_is id (codes "scripts") (codes "1000000") q 1000000 scripts in
     (option_is id (codes "natives") (codes "1000000") q 1000000 natives, (scripts_is, (bytes_is, tt)))
+
+arguments_are : (id : Text) (q : ValueParser) → (bytes_eq (codes "seed") id ≡ true → wide_reader 18446744073709551615 ≡ q)
+    → (bytes_eq (codes "count") id ≡ true → reader 1000000 ≡ q) → AreOptions id q built_make.rules
+arguments_are id q seed count =
+    let count_is = argument_is 2 id (codes "count") q (reader 1000000) count in
+    (argument_is 1 id (codes "seed") q (wide_reader 18446744073709551615) seed, (count_is, tt))
 
 -- ---- a number in a range, by its text
 
@@ -178,82 +249,112 @@ up_to most t h = subst (IsUpTo most) (sym (minus_off t)) (go (starts_with_minus 
         let value : digits_value 10 (without_leading_plus t) ≤ most = omega (arith, ints) in
         rw minus (numeral, value)
 
--- the words give the option a number up to `most`
+-- what a getter reads of a text that q takes is a number up to `most`
+abbrev ReadsUpTo : ℕ → ValueParser → Type 0
+ReadsUpTo most q = (t : Text) → Accepts false q t → IsUpTo most (read_as (reading_of q) t)
+
+wide_up_to : (most : ℕ) → ReadsUpTo most (wide_reader most)
+wide_up_to most t h = (h.0, h.3)
+
+-- the words give the option or the argument a number up to `most`
 abbrev pub HasNumber : Text → ℕ → List Text → Type 0
-HasNumber option most words = (n : ℕ) × IsNumber (text_for option words) n × (n ≤ most)
+HasNumber name most words = (n : ℕ) × IsNumber (text_for name words) n × (n ≤ most)
 
--- all words that are taken give it one
-abbrev pub GivesNumber : Text → ℕ → Type 0
-GivesNumber option most = (words : List Text) → IsTaken words → HasNumber option most words
+-- all words for this subcommand that are taken give it one
+abbrev pub GivesNumber : Text → Text → ℕ → Type 0
+GivesNumber subcommand name most = (words : List Text) → IsTaken words → IsFor subcommand words → HasNumber name most words
 
-number_in : (id : Text) (most : ℕ) (words rest : List Text) → subcommand_of app words ≡ Some (rows_at built_replay rest)
-    → HasText id (reader most) (rows_after built_replay.rules [] rest) → HasNumber id most words
-number_in id most words rest is t =
-    let range = up_to most t.text (accepts-Accepts false (reader most) t.text t.accepted) in (
-      digits_value 10 (without_leading_plus (without_minus t.text)),
+number_in : (id : Text) (q : ValueParser) (most : ℕ) (s : Shape) (words rest : List Text) → ReadsUpTo most q → subcommand_of app words ≡ Some (rows_at s rest)
+    → HasText id q (rows_after s.rules [] rest) → HasNumber id most words
+number_in id q most s words rest reads is t =
+    let range = reads t.text (accepts-Accepts false q t.text t.accepted) in (
+      digits_value 10 (without_leading_plus (read_as (reading_of q) t.text)),
       record {
-        text = without_minus t.text;
-        is = ap (option_and_then (λ replay. one_of id replay.1)) is ∙ t.read;
+        text = read_as (reading_of q) t.text;
+        is = ap (option_and_then (λ named. one_of id named.1)) is ∙ t.read;
         numeral = range.0;
         value = refl;
       },
       range.1,
     )
 
-number_of : (id : Text) (most : ℕ) → AreOptions id (reader most) built_replay.rules → has_default id (reader most) built_replay.rules ≡ true → GivesNumber id most
-number_of id most are default words taken =
-    let enters = replay_entered words taken in
-    number_in id most words enters.0 enters.1 (level_text id (reader most) built_replay enters.0 are default enters.2)
+number_of : (id : Text) (most : ℕ) → AreOptions id (reader most) built_replay.rules → has_default id (reader most) built_replay.rules ≡ true
+    → GivesNumber (codes "replay") id most
+number_of id most are default words taken is =
+    let enters = replay_entered words taken is in
+    number_in id (reader most) most built_replay words enters.0 (up_to most) enters.1 (level_default id (reader most) built_replay enters.0 are default enters.2)
 
-pub natives_number : GivesNumber (codes "natives") 1000000
+pub natives_number : GivesNumber (codes "replay") (codes "natives") 1000000
 natives_number = number_of (codes "natives") 1000000 (options_are _ _ (λ e. refl) (λ e. refl) (λ e. cc)) refl
 
-pub scripts_number : GivesNumber (codes "scripts") 1000000
+pub scripts_number : GivesNumber (codes "replay") (codes "scripts") 1000000
 scripts_number = number_of (codes "scripts") 1000000 (options_are _ _ (λ e. refl) (λ e. refl) (λ e. cc)) refl
 
-pub bytes_number : GivesNumber (codes "bytes") 4294967295
+pub bytes_number : GivesNumber (codes "replay") (codes "bytes") 4294967295
 bytes_number = number_of (codes "bytes") 4294967295 (options_are _ _ (λ e. cc) (λ e. cc) (λ e. refl)) refl
+
+made_number : (id : Text) (q : ValueParser) (most : ℕ) → ReadsUpTo most q → AreOptions id q built_make.rules → has_required id q built_make.rules ≡ true
+    → GivesNumber (codes "make") id most
+made_number id q most reads are required words taken is =
+    let enters = make_entered words taken is in
+    number_in id q most built_make words enters.0 reads enters.1 (level_required id q built_make enters.0 are required enters.2)
+
+pub seed_number : GivesNumber (codes "make") (codes "seed") 18446744073709551615
+seed_number = made_number (codes "seed") (wide_reader 18446744073709551615) _ (wide_up_to _) (arguments_are _ _ (λ e. refl) (λ e. cc)) refl
+
+pub count_number : GivesNumber (codes "make") (codes "count") 1000000
+count_number = made_number (codes "count") (reader 1000000) _ (up_to _) (arguments_are _ _ (λ e. cc) (λ e. refl)) refl
 
 -- ---- what the getters read of the matches
 
 -- the rows of the subcommand give the same texts as the words
 text_of_rows : (option : Text) (entered : Option (Text × List Row)) (rows : List Row) → option_map (λ p. p.1) entered ≡ Some rows
-    → option_and_then (λ replay. one_of option replay.1) entered ≡ one_of option rows
+    → option_and_then (λ named. one_of option named.1) entered ≡ one_of option rows
 text_of_rows option None rows e = cc
 text_of_rows option (Some p) rows e =
     let same : p.1 ≡ rows = cc in
     ap (one_of option) same
 
 -- one text is one number
-same_number : (given : Option Text) (n m : ℕ) → IsNumber given n → IsNumber given m → n ≡ m
+pub same_number : (given : Option Text) (n m : ℕ) → IsNumber given n → IsNumber given m → n ≡ m
 same_number given n m a b =
     let same : Some a.text ≡ Some b.text = sym a.is ∙ b.is in
     let text : a.text ≡ b.text = cc in
     a.value ∙ ap (λ t. digits_value 10 (without_leading_plus t)) text ∙ sym b.value
 
-module _ (words : List Text) (m : ArgMatches) {sub : Option (Bor ArgMatches)} {replay : Bor ArgMatches} (rows : subcommand_rows_of m ≡ subcommand_of app words)
-    (found : IfSome sub (λ r. option_map (λ p. p.1) (subcommand_rows_of m) ≡ Some (rows_of (found_of r.now)))) (is : sub ≡ Some replay) where
-  -- what a getter reads for the option is the text for it
-  text_read : (option : Text) → text_for option words ≡ one_text (found_of replay.now) option
-  text_read option =
-      let same : option_map (λ p. p.1) (subcommand_rows_of m) ≡ Some (rows_of (found_of replay.now)) = rw is at found in
-      text_of_rows option (subcommand_of app words) (rows_of (found_of replay.now)) (ap (option_map (λ p. p.1)) (sym rows) ∙ same)
-      ∙ sym (one_text-rows (found_of replay.now) option)
+-- the name of the subcommand stands beside its rows
+name_of_rows : {Z : Type 0} (o : Option (Box SubCommand Z)) → option_map (λ b. (out-SubCommand (box_value b)).name.now) o ≡ option_map (λ p. p.0) (subcommand_rows o)
+name_of_rows None = refl
+name_of_rows (Some b) = refl
 
-  -- there is a number for it, of 32 bits
-  pub number_there : (option : Text) (most : ℕ) → most ≤ 4294967295 → GivesNumber option most → IsTaken words
-      → (n : ℕ) × IsNumber (one_text (found_of replay.now) option) n × (n ≤ 4294967295)
-  number_there option most room gives taken =
-      let h = gives words taken in
-      (h.0, subst (λ given. IsNumber given h.0) (text_read option) h.1, omega (arith, h.2))
+module _ (words : List Text) (m : ArgMatches) {subcommand : Text} {sub : Option (Bor ArgMatches)} {named : Bor ArgMatches}
+    (rows : subcommand_rows_of m ≡ subcommand_of app words) (met : IsSome sub ↔ (subcommand_name_of m ≡ Some subcommand))
+    (found : IfSome sub (λ r. option_map (λ p. p.1) (subcommand_rows_of m) ≡ Some (rows_of (found_of r.now)))) (is : sub ≡ Some named) where
+  -- the words are for the subcommand whose matches were found
+  pub is_for : IsFor subcommand words
+  is_for = ap (option_map (λ p. p.0)) (sym rows) ∙ (sym (name_of_rows _) ∙ met.0 (rw is refl))
+
+  -- what a getter reads for the name is the text for it
+  text_read : (name : Text) → text_for name words ≡ one_text (found_of named.now) name
+  text_read name =
+      let same : option_map (λ p. p.1) (subcommand_rows_of m) ≡ Some (rows_of (found_of named.now)) = rw is at found in
+      text_of_rows name (subcommand_of app words) (rows_of (found_of named.now)) (ap (option_map (λ p. p.1)) (sym rows) ∙ same)
+      ∙ sym (one_text-rows (found_of named.now) name)
+
+  -- there is a number for it, and room for the number
+  pub number_there : (name : Text) (most room : ℕ) → most ≤ room → GivesNumber subcommand name most → IsTaken words
+      → (n : ℕ) × IsNumber (one_text (found_of named.now) name) n × (n ≤ room)
+  number_there name most room within gives taken =
+      let h = gives words taken is_for in
+      (h.0, subst (λ given. IsNumber given h.0) (text_read name) h.1, omega (arith, within, h.2))
 
   -- the number that was read is the one that the words give
-  pub number_given : (option : Text) {n limit : ℕ} → limit ≡ n → IsNumber (one_text (found_of replay.now) option) n → IsNumber (text_for option words) limit
-  number_given option {n} same read = rw same (subst (λ given. IsNumber given n) (sym (text_read option)) read)
+  pub number_given : (name : Text) {n limit : ℕ} → limit ≡ n → IsNumber (one_text (found_of named.now) name) n → IsNumber (text_for name words) limit
+  number_given name {n} same read = rw same (subst (λ given. IsNumber given n) (sym (text_read name)) read)
 
-  -- and is in the option's range
-  pub number_within : (option : Text) (most : ℕ) {n : ℕ} → GivesNumber option most → IsTaken words → IsNumber (one_text (found_of replay.now) option) n → n ≤ most
-  number_within option most {n} gives taken read =
-      let h = gives words taken in
-      let same : n ≡ h.0 = same_number (text_for option words) n h.0 (number_given option refl read) h.1 in
+  -- and is in its range
+  pub number_within : (name : Text) (most : ℕ) {n : ℕ} → GivesNumber subcommand name most → IsTaken words → IsNumber (one_text (found_of named.now) name) n → n ≤ most
+  number_within name most {n} gives taken read =
+      let h = gives words taken is_for in
+      let same : n ≡ h.0 = same_number (text_for name words) n h.0 (number_given name refl read) h.1 in
       rw same h.2

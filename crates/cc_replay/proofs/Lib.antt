@@ -5,6 +5,9 @@ pub mod Causes
 pub mod Endings
 pub mod FaultFree
 pub mod GivenWords
+pub mod MadeRuns
 pub mod OptionRows
 pub mod Pieces
 pub mod Replying
+pub mod Totals
+pub mod Wants

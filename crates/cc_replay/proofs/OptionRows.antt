@@ -1,4 +1,4 @@
--- What a level whose arguments are all options of one value has for one of them: a text that its parser takes.
+-- What a level whose arguments all want one value has for one of them: a text that its parser takes.
 use Rattle.std.proofs.Common.{◌≡◌, ◌&&◌, ◌||◌, ◌++◌, ◌≤◌, ℕ, Bool, cond, true, false, not, zero, suc, refl, sym, ap, subst, arith, List, [], ◌∷◌, length, drop, Option, Some, None, is_some, nat_le}
 use Rattle.std.specs.Prelude.{⊤, encode_utf8, slice_get, find, fold}
 use Rattle.std.specs.Option.{option_map_or}
@@ -7,14 +7,14 @@ use Rattle.std.specs.Str.{bytes_eq, chars}
 use Rattle.std.proofs.lemmas.Bool.{leb-true, ne_eqb, or_right}
 use Rattle.std.proofs.lemmas.Slice.Eq.{bytes_eq-Decides}
 use Rattle.clap.specs.Lexer.{long_of, short_of}
-use Rattle.clap.specs.Facts.{parser_of_value, unwrap_or_range}
+use Rattle.clap.specs.Facts.{explicit_source, parser_of_value, unwrap_or_range}
 use Rattle.clap.specs.Values.{is_request, read_as, reading_of}
 use Rattle.clap.specs.ValueTests.{accepts}
 use Rattle.clap.specs.Walk
 use Rattle.clap.specs.Walk.{Held, Names, Outcome, Row, Rule, Step, Text, Waiting, Walk, action_of, arg_by_id, arg_by_index, arg_by_long, arg_by_short, at_row, attached_value, default_rows, done, finished, has_row, idle, is_empty, is_pending, more_values, most_values, next, nothing_held, one_of, option, plain, positional, reacted, reading_by, refused, rows_after, settled, subcommand, subcommand_met, takes_several, takes_values, to_positional, trailing, used, value, values_or_missing, waits, walk_from, walked, with_default, with_values, without, word_met}
 use Rattle.clap.specs.Simple.{Shape}
 use Rattle.clap.specs.Takes
-use Rattle.clap.specs.Takes.{default_passes, level_passes, use_passes, values_pass}
+use Rattle.clap.specs.Takes.{default_passes, is_given, level_passes, use_passes, values_pass}
 use Rattle.clap.specs.declared.builder.action.ArgAction.TheVariants.{Set}
 use Rattle.clap.specs.declared.builder.value_parser.ValueParser.{ValueParser}
 use Rattle.clap.specs.declared.builder.value_parser.Reading.{Reading}
@@ -27,11 +27,16 @@ or_later : (t x y : Bool) → (x ≡ true → y ≡ true) → (t || x) ≡ true 
 or_later true x y later e = refl
 or_later false x y later e = later e
 
+-- no subcommand lifts what is required
+not_lifted : (negates all : Bool) → ((negates && false) || all) ≡ true → all ≡ true
+not_lifted false all e = e
+not_lifted true all e = e
+
 not_empty : {X : Type 0} (x : X) (xs : List X) → is_empty (x ∷ xs) ≡ false
 not_empty x xs = ne_eqb _ _ (λ e. omega arith)
 
 module _ (id : Text) (q : ValueParser) where
-  -- an option that wants a value, and that q reads if it has the id
+  -- an option or an argument that wants a value, and that q reads if it has the id
   pub record IsOption (a : Rule) : Type 0 where
     pub set : action_of a ≡ Set
     pub missing : a.missing ≡ []
@@ -358,6 +363,32 @@ module _ (id : Text) (q : ValueParser) where
       go true true s n later e = later e
       go true false s n later e = defaults_keep rest (with_default rows a) (default_gives a rows s n)
 
+  -- one of the arguments has the id and must be given
+  abbrev pub has_required : List Rule → Bool
+  has_required c = list_any (λ a. bytes_eq a.id id && a.required) c
+
+  -- what is given has a row
+  given_has : (k : Text) (rows : List Row) → is_given k rows ≡ true → has_row k rows ≡ true
+  given_has k [] e = cc
+  given_has k (r ∷ rs) e = go (bytes_eq r.id k) (given_has k rs) e
+    where
+      go : (b : Bool) → (is_given k rs ≡ true → has_row k rs ≡ true)
+          → option_map_or (λ (q : Row). explicit_source q.source) (cond b (Some r) (find (λ q. bytes_eq q.id k) rs)) false ≡ true → (b || has_row k rs) ≡ true
+      go true later e = refl
+      go false later e = later e
+
+  required_give : (rows : List Row) (c : List Rule) → has_required c ≡ true → list_all (λ a. not a.required || is_given a.id rows) c ≡ true → has_row id rows ≡ true
+  required_give rows [] e given = cc
+  required_give rows (a ∷ rest) e given =
+      let p = both (not a.required || is_given a.id rows) _ given in
+      go (bytes_eq a.id id) a.required refl (λ later. required_give rows rest later p.1) p.0 e
+    where
+      go : (same wanted : Bool) → bytes_eq a.id id ≡ same → (has_required rest ≡ true → has_row id rows ≡ true) → (not wanted || is_given a.id rows) ≡ true
+          → ((same && wanted) || has_required rest) ≡ true → has_row id rows ≡ true
+      go false wanted s later first e = later e
+      go true false s later first e = later e
+      go true true s later first e = subst (λ k. has_row k rows ≡ true) ((bytes_eq-Decides a.id id).0 s) (given_has a.id rows first)
+
   -- ---- what the level has for the id
 
   -- a text that q takes is what a getter reads of the rows
@@ -391,15 +422,33 @@ module _ (id : Text) (q : ValueParser) where
             accepted = t.accepted;
           }
 
-  -- a level that takes the words has a text for an option with a default
-  pub level_text : (s : Shape) (words : List Text) → AreOptions s.rules → has_default s.rules ≡ true → level_passes s [] nothing_held words false ≡ true
-      → HasText (rows_after s.rules [] words)
-  level_text s words are default e =
+  -- the rows of a level that takes the words
+  level_fits : (s : Shape) (words : List Text) → AreOptions s.rules → level_passes s [] nothing_held words false ≡ true → AllFit (rows_after s.rules [] words)
+  level_fits s words are e =
       let end = (Walk.walk s.rules [] nothing_held words).held in
       let a = both (Takes.walk_passes s [] (walk_from nothing_held) words) _ e in
       let b = both (Takes.settle_passes s.rules s.args_override_self end) _ a.1 in
       let c = both (list_all default_passes s.rules) _ b.1 in
       let walked = walk_fits s [] (walk_from nothing_held) words are a.0 tt in
-      let rows = (settled s.rules end).rows in
-      text_in (fold with_default rows s.rules) (defaults_give s.rules rows default)
-      (defaults_fit s.rules rows are c.0 (settled_fits s.rules s.args_override_self end are b.0 walked))
+      defaults_fit s.rules (settled s.rules end).rows are c.0 (settled_fits s.rules s.args_override_self end are b.0 walked)
+
+  -- it has a text for an option with a default
+  pub level_default : (s : Shape) (words : List Text) → AreOptions s.rules → has_default s.rules ≡ true → level_passes s [] nothing_held words false ≡ true
+      → HasText (rows_after s.rules [] words)
+  level_default s words are default e =
+      let rows = (settled s.rules (Walk.walk s.rules [] nothing_held words).held).rows in
+      text_in (rows_after s.rules [] words) (defaults_give s.rules rows default) (level_fits s words are e)
+
+  -- and for one that must be given
+  pub level_required : (s : Shape) (words : List Text) → AreOptions s.rules → has_required s.rules ≡ true → level_passes s [] nothing_held words false ≡ true
+      → HasText (rows_after s.rules [] words)
+  level_required s words are required e =
+      let rows = rows_after s.rules [] words in
+      let end = (Walk.walk s.rules [] nothing_held words).held in
+      let a = both (Takes.walk_passes s [] (walk_from nothing_held) words) _ e in
+      let b = both (Takes.settle_passes s.rules s.args_override_self end) _ a.1 in
+      let c = both (list_all default_passes s.rules) _ b.1 in
+      let d = both (not s.arg_required_else_help || list_any (λ r. explicit_source r.source) rows) _ c.1 in
+      let f = both (not s.subcommand_required || false) _ d.1 in
+      let g = both (list_all (λ a. a.is_free) s.rules) _ f.1 in
+      text_in rows (required_give rows s.rules required (not_lifted s.subcommand_negates_reqs _ g.1)) (level_fits s words are e)

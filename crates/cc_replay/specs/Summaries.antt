@@ -53,6 +53,9 @@ pub record IsMadeRun (seed count : ℕ) (sums : Sums) : Type 0 where
   pub answers : List Answer
   pub run : IsRun widest (made_asks seed count) answers
   pub sums_are : sums ≡ sums_of answers
+  -- each line of the script is a command and has one reply: `= ok`, a name, `= none`, a refusal, `! nomem`, or, once, the census
+  pub commands : sums.commands ≡ count + 20
+  pub replies : sums.ok + sums.named + sums.none + sums.refused + sums.nomem + 1 ≡ sums.commands
   -- where no want of memory and no abandonment is counted, seed and count alone decide them: memory was there at every place
   pub with_all_memory : sums.nomem ≡ 0 → sums.abandoned ≡ 0 → sums ≡ sums_of (plain_run widest [] (made_asks seed count))
 

@@ -1,11 +1,14 @@
--- The words of the command line that are taken, and the limits that they give.
-use Rattle.std.specs.Prelude.{◌≡◌, ℕ, true, List, [], ◌∷◌, Option, Some, pos, codes, option_and_then}
+-- The words of the command line that are taken, and what they ask for.
+use Rattle.std.specs.Prelude.{◌≡◌, ℕ, ◌≤◌, true, List, [], ◌∷◌, Option, Some, pos, codes, option_and_then, option_map}
 use Rattle.std.specs.Str.Parse.{IsNumeral, digits_value, without_leading_plus}
 use Rattle.clap.specs.Words.{App, Rule, Text, new_app, new_rule, with_rule, with_subcommand, subcommand_of, takes, one_of}
 use Rattle.clap.specs.Simple.{Shape, on_top}
 use Rattle.clap.specs.declared.builder.action.ArgAction.TheVariants.{Set}
+use Rattle.clap.specs.declared.builder.value_parser.ValueParser.{ValueParser}
 use Rattle.clap.specs.declared.builder.value_parser.ValueParser.TheVariants as parser
 use Rattle.cc_names.specs.Allowance.{Allowance}
+use Rattle.cc_replay.specs.declared.words.Request.{Request}
+use Rattle.cc_replay.specs.declared.words.Request.TheVariants.{Replay, Make}
 
 -- an option `--NAME N`, a whole number from 0 to `most`, with this default
 abbrev pub number_option : Text → ℕ → Text → Rule
@@ -32,9 +35,29 @@ bytes_option = number_option (codes "bytes") 4294967295 (codes "4294967295")
 abbrev pub replay_app : App
 replay_app = with_rule (with_rule (with_rule (new_app (codes "replay")) natives_option) scripts_option) bytes_option
 
--- the program `ccreplay`, as far as it names its subcommand
+-- an argument that must be given, a whole number that `reader` takes; its place alone tells it from the others
+abbrev pub number_argument : Text → ValueParser → Rule
+number_argument name reader = record (new_rule name) {
+  required = true;
+  action = Some Set;
+  parser = Some reader;
+}
+
+-- the number from which a script is drawn
+abbrev pub seed_argument : Rule
+seed_argument = number_argument (codes "seed") (parser.Unsigned 0 18446744073709551615)
+
+-- how many lines of it are drawn
+abbrev pub count_argument : Rule
+count_argument = number_argument (codes "count") (parser.Signed (pos 0) (pos 1000000))
+
+-- the subcommand `make`, with its two arguments
+abbrev pub make_app : App
+make_app = with_rule (with_rule (new_app (codes "make")) seed_argument) count_argument
+
+-- the program `ccreplay`, as far as it names its subcommands
 abbrev pub optional_app : App
-optional_app = with_subcommand (new_app (codes "ccreplay")) replay_app.top
+optional_app = with_subcommand (with_subcommand (new_app (codes "ccreplay")) replay_app.top) make_app.top
 
 -- a subcommand is required, and there is no help: a wish for it is a faulty command line
 abbrev pub without_help : Shape → Shape
@@ -48,10 +71,14 @@ app = on_top without_help optional_app
 abbrev pub IsTaken : List Text → Type 0
 IsTaken words = takes app words ≡ true
 
--- the text that the subcommand has for an option: what the words give it, or its default; a first minus, which only a
--- zero can have, is left off
+-- the words name this subcommand
+abbrev pub IsFor : Text → List Text → Type 0
+IsFor subcommand words = option_map (λ named. named.0) (subcommand_of app words) ≡ Some subcommand
+
+-- the text that the subcommand has for an option or an argument: what the words give it, or its default; a first minus,
+-- which only a zero can have, is left off
 abbrev pub text_for : Text → List Text → Option Text
-text_for option words = option_and_then (λ replay. one_of option replay.1) (subcommand_of app words)
+text_for name words = option_and_then (λ named. one_of name named.1) (subcommand_of app words)
 
 -- the text is there and is a number in decimal digits, where a plus may stand first
 pub record IsNumber (given : Option Text) (n : ℕ) : Type 0 where
@@ -60,8 +87,21 @@ pub record IsNumber (given : Option Text) (n : ℕ) : Type 0 where
   pub numeral : IsNumeral 10 (without_leading_plus text)
   pub value : n ≡ digits_value 10 (without_leading_plus text)
 
--- the words give these limits
+-- the words are for `replay`, and give these limits
 pub record GivesLimits (words : List Text) (limits : Allowance) : Type 0 where
+  pub subcommand : IsFor (codes "replay") words
   pub natives : IsNumber (text_for (codes "natives") words) limits.natives
   pub scripts : IsNumber (text_for (codes "scripts") words) limits.scripts
   pub bytes : IsNumber (text_for (codes "bytes") words) limits.bytes
+
+-- the words are for `make`, and give this seed and this count
+pub record GivesMade (words : List Text) (seed count : ℕ) : Type 0 where
+  pub subcommand : IsFor (codes "make") words
+  pub seed_is : IsNumber (text_for (codes "seed") words) seed
+  pub count_is : IsNumber (text_for (codes "count") words) count
+  pub within : count ≤ 1000000
+
+-- the words ask for this
+abbrev pub GivesRequest : List Text → Request → Type 0
+GivesRequest words (Replay limits) = GivesLimits words limits
+GivesRequest words (Make seed count) = GivesMade words seed count

@@ -1,16 +1,18 @@
 //! A whole run: by limits, and by the words of a command line.
 
-ghost use Rattle.std.specs.Prelude.{◌≡◌, ◌≢◌, ◌<◌, ◌≤◌, ◌+◌, ℕ, List, length, map, Some};
+ghost use Rattle.std.specs.Prelude.{◌≡◌, ◌≢◌, ◌<◌, ◌≤◌, ◌+◌, ◌⊎◌, ℕ, List, length, map, Some};
 ghost use Rattle.cc_names.specs.Allowance.{Allowance};
 ghost use Rattle.cc_lists.specs.Faults.{Rose};
 ghost use Rattle.cc_outside.specs.Counted.{raised};
 ghost use Rattle.cc_replay.specs.Transcripts.{ends, IsDone, StopsAtFault, StopsAtLimit, StopsAtWrite};
-ghost use Rattle.cc_replay.specs.Words.{GivesLimits, IsTaken};
+ghost use Rattle.cc_replay.specs.Words.{GivesLimits, GivesMade, IsTaken};
+ghost use Rattle.cc_replay.specs.Summaries.{WritesSummary, WritesSummaryFront};
 
 use crate::answering::answer_input;
+use crate::making::make;
 use crate::outlet::Outlet;
 use crate::status::Status;
-use crate::words::{WordsStop, limits_of};
+use crate::words::{Request, WordsStop, request_of};
 use cc_heaps::Heaps;
 use cc_names::Limits;
 use cc_outside::{Sink, Source};
@@ -72,12 +74,13 @@ pub fn replay<S: Source, K: Sink>(
     answer_input(alloc, &mut lines, &mut heaps, &mut out)
 }
 
-/// Reads the words of a command line, the program's name first, and answers the source's lines as they say.
+/// Reads the words of a command line, the program's name first, and answers the source's lines, or a made script, as they
+/// say: for the words of `replay` as `replay` does, for those of `make` as `make` does.
 ///
 /// Want of memory is answered for the words and for setting up alone. A command that wants memory later is refused by
-/// a line of the output.
+/// its answer.
 ///
-/// The source is read as `replay` reads it.
+/// For the words of `replay` the source is read as `replay` reads it, for those of `make` not at all.
 pub fn run<'a, S: Source, K: Sink>(
     alloc: Global,
     words: &'a [&'a str],
@@ -85,9 +88,13 @@ pub fn run<'a, S: Source, K: Sink>(
     sink: &mut K,
 ) -> Status
     // For every input, what is written is the transcript of an object graph from which nothing is freed; each further part of
-    // the sentence is a field of `TellsOfAGraph`, of the same answers: of the whole input with `Done`,
-    ensures done { result ≡ Status.Done → (limits : Allowance) × GivesLimits (map (λ w. w.now) words.entry.now) limits
-        × IsDone limits (ends S.left S.reads K.written source.old source.new sink.old sink.new) }
+    // the sentence is a field of `TellsOfAGraph`, of the same answers: of the whole input with `Done`; or, for the words of
+    // `make`, it is the summary of one,
+    ensures done { result ≡ Status.Done →
+        ((limits : Allowance) × GivesLimits (map (λ w. w.now) words.entry.now) limits
+            × IsDone limits (ends S.left S.reads K.written source.old source.new sink.old sink.new))
+        ⊎ ((seed count : ℕ) × GivesMade (map (λ w. w.now) words.entry.now) seed count
+            × WritesSummary seed count (K.written sink.old) (K.written sink.new)) }
     // where a read failed, of the lines that ended,
     ensures fault { result ≡ Status.ReadFault → (limits : Allowance) × GivesLimits (map (λ w. w.now) words.entry.now) limits
         × StopsAtFault limits (ends S.left S.reads K.written source.old source.new sink.old sink.new) }
@@ -95,8 +102,11 @@ pub fn run<'a, S: Source, K: Sink>(
     ensures over { result ≡ Status.Limit → (limits : Allowance) × GivesLimits (map (λ w. w.now) words.entry.now) limits
         × StopsAtLimit limits (ends S.left S.reads K.written source.old source.new sink.old sink.new) }
     // and where a write failed, a front of one.
-    ensures front { result ≡ Status.WriteFault → (limits : Allowance) × GivesLimits (map (λ w. w.now) words.entry.now) limits
-        × StopsAtWrite limits (ends S.left S.reads K.written source.old source.new sink.old sink.new) }
+    ensures front { result ≡ Status.WriteFault →
+        ((limits : Allowance) × GivesLimits (map (λ w. w.now) words.entry.now) limits
+            × StopsAtWrite limits (ends S.left S.reads K.written source.old source.new sink.old sink.new))
+        ⊎ ((seed count : ℕ) × GivesMade (map (λ w. w.now) words.entry.now) seed count
+            × WritesSummaryFront seed count (K.written sink.old) (K.written sink.new)) }
     // Want of memory in setting up: nothing was read or written.
     ensures set_up { result ≡ Status.NoMemory → (source.new ≡ source.old) × (sink.new ≡ sink.old) }
 
@@ -111,9 +121,12 @@ pub fn run<'a, S: Source, K: Sink>(
     ensures reads { (limits : Allowance) → GivesLimits (map (λ w. w.now) words.entry.now) limits →
         (S.reads source.new).answered ≤ (S.reads source.old).answered + limits.bytes + 1 }
     // The end is read once where all was read,
-    ensures end_read { result ≡ Status.Done → (S.reads source.new).ended ≡ raised (S.reads source.old).ended 1 }
+    ensures end_read { (limits : Allowance) → GivesLimits (map (λ w. w.now) words.entry.now) limits →
+        result ≡ Status.Done → (S.reads source.new).ended ≡ raised (S.reads source.old).ended 1 }
     // and not at all where a read failed or the limit was passed.
     ensures end_unread { result ≢ Status.Done → result ≢ Status.WriteFault → (S.reads source.new).ended ≡ (S.reads source.old).ended }
+    // For the words of `make` nothing is read.
+    ensures no_source { (seed count : ℕ) → GivesMade (map (λ w. w.now) words.entry.now) seed count → source.new ≡ source.old }
 
     // A fault of reading comes only where the source's count of faults rose,
     ensures read { result ≡ Status.ReadFault → Rose (S.faults source.old) (S.faults source.new) }
@@ -138,9 +151,13 @@ pub fn run<'a, S: Source, K: Sink>(
         IsTaken (map (λ w. w.now) words.entry.now) → GivesLimits (map (λ w. w.now) words.entry.now) limits → length bytes ≤ limits.bytes →
         ¬ (Rose (S.faults source.old) (S.faults source.new)) → ¬ (Rose (K.faults sink.old) (K.faults sink.new)) →
         result ≢ Status.NoMemory → result ≡ Status.Done }
+    // A made script is always answered whole.
+    ensures made_always { (seed count : ℕ) → IsTaken (map (λ w. w.now) words.entry.now) → GivesMade (map (λ w. w.now) words.entry.now) seed count →
+        ¬ (Rose (K.faults sink.old) (K.faults sink.new)) → result ≢ Status.NoMemory → result ≡ Status.Done }
 {
-    match limits_of(alloc, words) {
-        Ok(limits) => replay(alloc, limits, source, sink),
+    match request_of(alloc, words) {
+        Ok(Request::Replay(limits)) => replay(alloc, limits, source, sink),
+        Ok(Request::Make { seed, count }) => make(alloc, seed, count, sink),
         Err(WordsStop::Usage) => Status::Usage,
         Err(WordsStop::NoMemory) => Status::NoMemory,
     }

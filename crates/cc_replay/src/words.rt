@@ -1,14 +1,29 @@
 //! The words of the command line.
 ghost use Rattle.std.specs.Prelude.{◌≡◌, ℕ, ◌≤◌, IfOk, OnOk, Err, false, map};
 ghost use Rattle.clap.specs.Words.{app_of, found_of, one_text, rule_of, subcommand_of, subcommand_rows_of};
-ghost use Rattle.cc_replay.specs.Words.{app, optional_app, replay_app, number_option, GivesLimits, IsNumber, IsTaken};
+ghost use Rattle.cc_replay.specs.Words.{app, make_app, optional_app, replay_app, number_argument, number_option, GivesRequest, IsNumber, IsTaken};
 
 use cc_names::Limits;
+use clap::builder::ValueParser;
 use clap::error::ErrorKind;
 use clap::{Arg, ArgAction, ArgMatches, Command};
 use std::alloc::{AllocError, Global};
 
-/// Why the words give no limits.
+/// What a command line asks for.
+#[derive(Clone, Copy, Debug, PartialEq, Eq, Drop)]
+pub(crate) enum Request {
+    /// `replay`: the answers to the lines of the source, within these limits.
+    Replay(Limits),
+    /// `make`: the summary of the answers to a made script.
+    Make {
+        /// The number from which the script is drawn.
+        seed: u64,
+        /// How many lines of it are drawn, 0 to 1000000.
+        count: u32,
+    },
+}
+
+/// Why the words ask for nothing.
 #[derive(Clone, Copy, Debug, PartialEq, Eq, Drop)]
 pub(crate) enum WordsStop {
     /// The words are not taken.
@@ -39,12 +54,37 @@ fn replay_command<'a>(alloc: Global) -> Result<Command<'a>, AllocError>
         .arg(number_option(alloc, "bytes", u32::MAX, "4294967295"))
 }
 
-/// The program `ccreplay`, as far as it names its subcommand.
+/// An argument that must be given, a whole number that `reader` takes.
+fn number_argument<'a>(alloc: Global, name: &'a str, reader: ValueParser<'a>) -> Arg<'a>
+    ensures rule { rule_of result ≡ number_argument name.entry.now reader.entry }
+    ensures local { result.global ≡ false }
+{
+    Arg::new(alloc, name)
+        .required(true)
+        .action(ArgAction::Set)
+        .value_parser(reader)
+}
+
+/// The subcommand `make`, with its two arguments.
+fn make_command<'a>(alloc: Global) -> Result<Command<'a>, AllocError>
+    ensures { IfOk result (λ c. app_of c ≡ make_app) }
+{
+    let seed = clap::value_parser!(u64);
+    let count = clap::value_parser!(u32).range(0..=1_000_000);
+    Command::new(alloc, "make")
+        .arg(number_argument(alloc, "seed", seed))?
+        .arg(number_argument(alloc, "count", count))
+}
+
+/// The program `ccreplay`, as far as it names its subcommands.
 fn optional_command<'a>(alloc: Global) -> Result<Command<'a>, AllocError>
     ensures { IfOk result (λ c. app_of c ≡ optional_app) }
 {
     let replay = replay_command(alloc)?;
-    Command::new(alloc, "ccreplay").subcommand(replay)
+    let make = make_command(alloc)?;
+    Command::new(alloc, "ccreplay")
+        .subcommand(replay)?
+        .subcommand(make)
 }
 
 /// The program `ccreplay`: a subcommand is required, and there is no help.
@@ -78,28 +118,41 @@ fn matches_of<'a>(alloc: Global, words: &'a [&'a str]) -> Result<ArgMatches<'a>,
     }
 }
 
-/// The number that the subcommand has for an option. There must be one, of 32 bits.
-fn number_of(replay: &ArgMatches<'_>, option: &str) -> u32
-    requires given { (n : ℕ) × IsNumber (one_text (found_of replay.now) option.now) n × (n ≤ 4294967295) }
-    ensures { IsNumber (one_text (found_of replay.now) option.now) result }
+/// The number that the subcommand has for an option or an argument. There must be one, of 32 bits.
+fn number_of(named: &ArgMatches<'_>, name: &str) -> u32
+    requires given { (n : ℕ) × IsNumber (one_text (found_of named.now) name.now) n × (n ≤ 4294967295) }
+    ensures { IsNumber (one_text (found_of named.now) name.now) result }
 {
-    replay.get_one::<u32>(option).unwrap()
+    named.get_one::<u32>(name).unwrap()
 }
 
-/// The limits that the words give. The program's name is the first word.
+/// The same, of 64 bits.
+fn wide_number_of(named: &ArgMatches<'_>, name: &str) -> u64
+    requires given { (n : ℕ) × IsNumber (one_text (found_of named.now) name.now) n × (n ≤ 18446744073709551615) }
+    ensures { IsNumber (one_text (found_of named.now) name.now) result }
+{
+    named.get_one::<u64>(name).unwrap()
+}
+
+/// What the words ask for. The program's name is the first word.
 ///
 /// `Usage` where the words are not taken, as in a wish for help. `NoMemory` only where memory is refused.
-pub(crate) fn limits_of<'a>(alloc: Global, words: &'a [&'a str]) -> Result<Limits, WordsStop>
+pub(crate) fn request_of<'a>(alloc: Global, words: &'a [&'a str]) -> Result<Request, WordsStop>
     ensures usage { result ≡ Err WordsStop.Usage → ¬ IsTaken (map (λ w. w.now) words.entry.now) }
     ensures taken { OnOk result (IsTaken (map (λ w. w.now) words.entry.now)) }
-    ensures limits { IfOk result (λ limits. GivesLimits (map (λ w. w.now) words.entry.now) limits) }
+    ensures request { IfOk result (λ request. GivesRequest (map (λ w. w.now) words.entry.now) request) }
 {
     let matches = matches_of(alloc, words)?;
+    if let Some(make) = matches.subcommand_matches("make") {
+        let seed = wide_number_of(make, "seed");
+        let count = number_of(make, "count");
+        return Ok(Request::Make { seed, count });
+    }
     let replay = matches.subcommand_matches("replay").unwrap();
     let natives = number_of(replay, "natives");
     let scripts = number_of(replay, "scripts");
     let bytes = number_of(replay, "bytes");
-    Ok(Limits::new(natives, scripts, bytes))
+    Ok(Request::Replay(Limits::new(natives, scripts, bytes)))
 }
 
 #[cfg(test)]

@@ -1,13 +1,26 @@
-//! Command lines, and the limits that they give or that they are not taken.
+//! Command lines, and what they ask for or that they are not taken.
 
 use super::*;
 
+/// The widest limits, asked of `replay`.
+fn most() -> Result<Request, WordsStop> {
+    Ok(Request::Replay(Limits::widest()))
+}
+
+/// Narrow limits, asked of `replay`.
+fn few() -> Result<Request, WordsStop> {
+    Ok(Request::Replay(Limits::new(1, 0, 12)))
+}
+
+/// A seed and a count, asked of `make`.
+fn made(seed: u64, count: u32) -> Result<Request, WordsStop> {
+    Ok(Request::Make { seed, count })
+}
+
 #[test]
-fn words_give_limits_or_are_not_taken(rt: HostRuntime) {
-    let most = Limits::new(1_000_000, 1_000_000, u32::MAX);
-    let few = Limits::new(1, 0, 12);
-    let cases: [(&[&str], Result<Limits, WordsStop>); 25] = [
-        (&["ccreplay", "replay"], Ok(most)),
+fn words_of_replay_give_limits_or_are_not_taken(rt: HostRuntime) {
+    let cases: [(&[&str], Result<Request, WordsStop>); 25] = [
+        (&["ccreplay", "replay"], most()),
         (
             &[
                 "ccreplay",
@@ -19,7 +32,7 @@ fn words_give_limits_or_are_not_taken(rt: HostRuntime) {
                 "--bytes",
                 "12",
             ],
-            Ok(few),
+            few(),
         ),
         (
             &[
@@ -29,7 +42,7 @@ fn words_give_limits_or_are_not_taken(rt: HostRuntime) {
                 "--scripts=+0",
                 "--natives=001",
             ],
-            Ok(few),
+            few(),
         ),
         (
             &[
@@ -38,7 +51,7 @@ fn words_give_limits_or_are_not_taken(rt: HostRuntime) {
                 "--natives=1000000",
                 "--bytes=4294967295",
             ],
-            Ok(most),
+            most(),
         ),
         (
             &[
@@ -48,10 +61,10 @@ fn words_give_limits_or_are_not_taken(rt: HostRuntime) {
                 "--scripts=-0",
                 "--bytes=12",
             ],
-            Ok(few),
+            few(),
         ),
-        (&["", "replay"], Ok(most)),
-        (&["ccreplay", "replay", "--"], Ok(most)),
+        (&["", "replay"], most()),
+        (&["ccreplay", "replay", "--"], most()),
         (&[], Err(WordsStop::Usage)),
         (&["ccreplay"], Err(WordsStop::Usage)),
         (&["replay"], Err(WordsStop::Usage)),
@@ -90,6 +103,57 @@ fn words_give_limits_or_are_not_taken(rt: HostRuntime) {
         ),
     ];
     for (at, (words, wanted)) in cases.iter().enumerate() {
-        assert_eq!(rt; limits_of(rt.alloc(), words), *wanted, "at {at}");
+        assert_eq!(rt; request_of(rt.alloc(), words), *wanted, "at {at}");
+    }
+}
+
+#[test]
+fn words_of_make_give_a_seed_and_a_count_or_are_not_taken(rt: HostRuntime) {
+    let cases: [(&[&str], Result<Request, WordsStop>); 24] = [
+        (&["ccreplay", "make", "7", "0"], made(7, 0)),
+        (&["ccreplay", "make", "7", "1000000"], made(7, 1_000_000)),
+        (
+            &["ccreplay", "make", "18446744073709551615", "0"],
+            made(u64::MAX, 0),
+        ),
+        (
+            &["ccreplay", "make", "4294967303", "0"],
+            made(4_294_967_303, 0),
+        ),
+        (&["ccreplay", "make", "0", "7"], made(0, 7)),
+        (&["ccreplay", "make", "+7", "00"], made(7, 0)),
+        (&["ccreplay", "make", "--", "7", "-0"], made(7, 0)),
+        (&["", "make", "7", "0"], made(7, 0)),
+        (&["ccreplay", "make", "7", "1000001"], Err(WordsStop::Usage)),
+        (&["ccreplay", "make", "7"], Err(WordsStop::Usage)),
+        (&["ccreplay", "make"], Err(WordsStop::Usage)),
+        (&["make", "7", "0"], Err(WordsStop::Usage)),
+        (&["ccreplay", "make", "7", "0", "0"], Err(WordsStop::Usage)),
+        (&["ccreplay", "make", "-1", "0"], Err(WordsStop::Usage)),
+        (
+            &["ccreplay", "make", "--", "-1", "0"],
+            Err(WordsStop::Usage),
+        ),
+        (&["ccreplay", "make", "7", "-1"], Err(WordsStop::Usage)),
+        (&["ccreplay", "make", "x", "0"], Err(WordsStop::Usage)),
+        (&["ccreplay", "make", "7", "x"], Err(WordsStop::Usage)),
+        (&["ccreplay", "make", "", "0"], Err(WordsStop::Usage)),
+        (
+            &["ccreplay", "make", "18446744073709551616", "0"],
+            Err(WordsStop::Usage),
+        ),
+        (
+            &["ccreplay", "make", "--seed", "7", "--count", "0"],
+            Err(WordsStop::Usage),
+        ),
+        (
+            &["ccreplay", "make", "7", "0", "--natives", "1"],
+            Err(WordsStop::Usage),
+        ),
+        (&["ccreplay", "make", "--help"], Err(WordsStop::Usage)),
+        (&["ccreplay", "replay", "7", "0"], Err(WordsStop::Usage)),
+    ];
+    for (at, (words, wanted)) in cases.iter().enumerate() {
+        assert_eq!(rt; request_of(rt.alloc(), words), *wanted, "at {at}");
     }
 }
