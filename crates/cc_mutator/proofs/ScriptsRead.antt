@@ -81,7 +81,7 @@ fits-few (name.Reflector k) Map slots f = absurd f
 
 module _ (owned : List ℕ) (v : Keyed) (order : IsInOrder owned v) where
   -- the slots of a script object that is there
-  slots-of_object : (o : HeapScript) → Among o v.heap.scripts → slots_or_none (slots_in v.heap o.name) ≡ o.slots
+  pub slots-of_object : (o : HeapScript) → Among o v.heap.scripts → slots_or_none (slots_in v.heap o.name) ≡ o.slots
   slots-of_object o m =
       let well = order.sound.well_formed in
       let found : script_at v.heap o.name ≡ Some o =
