@@ -14,3 +14,4 @@ pub mod ClosureKeys
 pub mod Calls
 pub mod Beginning
 pub mod Idle
+pub mod Freed

@@ -2,3 +2,4 @@ pub mod Words
 pub mod Changes
 pub mod Shown
 pub mod Stops
+pub mod Told

@@ -16,7 +16,7 @@ use Rattle.cc_heaps.specs.Keyed.{Keyed}
 use Rattle.cc_builder.specs.Building.{Built}
 use Rattle.cc_collector.specs.Kept.{RunsIn, machine_of}
 use Rattle.cc_document.specs.declared.variable.Variable.{Variable}
-use Rattle.cc_document.specs.Words.{element_slots, elements, parent_slot, listener_slot, child_slot}
+use Rattle.cc_document.specs.Words.{element_slots, elements, parent_slot, listener_slot, child_slot, spoken_slot, data_register, closure_register, wrapper_register}
 
 -- the heaps, and the running collection
 pub record Parts : Type 0 where
@@ -30,7 +30,7 @@ parts v c = record { heaps = v; running = c }
 pub record IsDocument (g : Graph) : Type 0 where
   pub elements : (k : ℕ) (n : GraphNative) → native_in g k ≡ Some n → length n.slots ≡ element_slots
   pub map_number : ℕ
-  pub map_held : register g (S 0) ≡ Some (object map_number)
+  pub map_held : register g (S data_register) ≡ Some (object map_number)
   pub map_made : script_in g map_number ≡ Some weak_map
 
 -- THE DOCUMENT IS THIS GRAPH: the heaps stand for it, the collector runs in them and forgets nothing
@@ -47,7 +47,7 @@ IsShown p = (g : Graph) × Shows p g
 
 -- no script register but that of the weak map of all data holds anything: no closure is being made
 abbrev pub IsIdle : Keyed → Type 0
-IsIdle v = (r : ℕ) → r ≢ 0 → heap.register v.heap (S r) ≡ None
+IsIdle v = (r : ℕ) → r ≢ data_register → heap.register v.heap (S r) ≡ None
 
 -- WHAT A DOCUMENT KEEPS between its calls
 abbrev pub IsKept : Parts → Type 0
@@ -89,7 +89,7 @@ made_in v g = step g (Native v element_slots)
 
 -- a script register holds the reflector of the element in a variable
 abbrev pub wrapping : ℕ → Graph → Graph
-wrapping v g = set_register (wrapped g (register g (N v))) (S 2) (reflector_of (register g (N v)))
+wrapping v g = set_register (wrapped g (register g (N v))) (S wrapper_register) (reflector_of (register g (N v)))
 
 -- a script register is empty
 abbrev pub without : ℕ → Graph → Graph
@@ -97,26 +97,26 @@ without r g = set_register g (S r) None
 
 -- a closure is made
 abbrev pub making_closure : Graph → Graph
-making_closure g = step g (Script 1 1)
+making_closure g = step g (Script closure_register 1)
 
 -- a register holds a closure
 pub record HasClosure (g : Graph) : Type 0 where
   pub number : ℕ
-  pub held : register g (S 1) ≡ Some (object number)
+  pub held : register g (S closure_register) ≡ Some (object number)
 
 -- and it is new: its one slot is empty
 pub record HasNewClosure (g : Graph) : Type 0 where
   pub number : ℕ
-  pub held : register g (S 1) ≡ Some (object number)
+  pub held : register g (S closure_register) ≡ Some (object number)
   pub made : script_in g number ≡ Some (plain_object (None ∷ []))
 
 -- it holds the reflector
 abbrev pub closing : Graph → Graph
-closing g = set_slot g (register g (S 1)) 0 (register g (S 2))
+closing g = set_slot g (register g (S closure_register)) spoken_slot (register g (S wrapper_register))
 
 -- the closure is the value of the reflector in the weak map
 abbrev pub entering : Graph → Graph
-entering g = set_entry g (register g (S 0)) (register g (S 2)) (register g (S 1))
+entering g = set_entry g (register g (S data_register)) (register g (S wrapper_register)) (register g (S closure_register))
 
 -- Calls, by their steps
 
@@ -129,17 +129,17 @@ removed parent place child g = written parent (child_slot place) None (written c
 
 -- a script register holds a closure that speaks of the element in a variable
 abbrev pub closed_over : ℕ → Graph → Graph
-closed_over about g = without 2 (closing (making_closure (wrapping about g)))
+closed_over about g = without wrapper_register (closing (making_closure (wrapping about g)))
 
 -- the element in a variable has it for its listener; or for its data
 abbrev pub listened : ℕ → ℕ → Graph → Graph
-listened to about g = without 1 (written to listener_slot (Some (S 1)) (closed_over about g))
+listened to about g = without closure_register (written to listener_slot (Some (S closure_register)) (closed_over about g))
 
 abbrev pub entered : ℕ → Graph → Graph
-entered of g = without 2 (entering (wrapping of g))
+entered of g = without wrapper_register (entering (wrapping of g))
 
 abbrev pub with_data : ℕ → ℕ → Graph → Graph
-with_data of about g = without 1 (entered of (closed_over about g))
+with_data of about g = without closure_register (entered of (closed_over about g))
 
 -- THE EMPTY DOCUMENT
 abbrev pub empty_document : Allowance → Graph

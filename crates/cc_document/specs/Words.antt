@@ -23,6 +23,20 @@ child_slot place = place + 2
 abbrev pub element_slots : ℕ
 element_slots = 10
 
+-- the slot of a closure: the reflector of the element of which it speaks
+abbrev pub spoken_slot : ℕ
+spoken_slot = 0
+
+-- script registers of the host: the weak map of all data; a closure while it is made; a reflector meanwhile
+abbrev pub data_register : ℕ
+data_register = 0
+
+abbrev pub closure_register : ℕ
+closure_register = 1
+
+abbrev pub wrapper_register : ℕ
+wrapper_register = 2
+
 -- the number of an element
 abbrev pub element_of : Option Name → Option ℕ
 element_of None = None
@@ -49,8 +63,8 @@ child_of o x place = element_of (slot_of o x (child_slot place))
 abbrev pub spoken_of : Objects → Option Name → Option ℕ
 spoken_of o None = None
 spoken_of o (Some (name.Native k)) = None
-spoken_of o (Some (name.Script k)) = element_of (native_of (slot_of o (Some (name.Script k)) 0))
-spoken_of o (Some (name.Reflector k)) = element_of (native_of (slot_of o (Some (name.Reflector k)) 0))
+spoken_of o (Some (name.Script k)) = element_of (native_of (slot_of o (Some (name.Script k)) spoken_slot))
+spoken_of o (Some (name.Reflector k)) = element_of (native_of (slot_of o (Some (name.Reflector k)) spoken_slot))
 
 -- THE ELEMENT OF WHICH A LISTENER SPEAKS
 abbrev pub listener_of : Objects → Option Name → Option ℕ
@@ -58,7 +72,7 @@ listener_of o x = spoken_of o (slot_of o x listener_slot)
 
 -- THE ELEMENT OF WHICH THE DATA OF AN ELEMENT SPEAKS: a weak map has the data by the element's reflector
 abbrev pub data_of : Objects → Option Name → Option ℕ
-data_of o x = spoken_of o (value_at o (o.register (S 0)) (reflector_of x))
+data_of o x = spoken_of o (value_at o (o.register (S data_register)) (reflector_of x))
 
 -- the element with a number, and the one that is there or not
 abbrev pub element : ℕ → Option Name

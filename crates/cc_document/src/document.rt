@@ -16,6 +16,7 @@ ghost use Rattle.cc_document.specs.Words.{places, in_variable, element, elements
 ghost use Rattle.cc_document.specs.Changes.{Between, IsAsBefore, IsAssigned, IsAppended, IsRemoved, IsHeard, HasData};
 ghost use Rattle.cc_document.specs.Stops.{StopsBeginning, StopsMaking, StopsAppending, StopsRemoving, StopsListening};
 ghost use Rattle.cc_document.specs.Shown.{Shows, ShowsChanged, StillShows, IsIdle, empty_document};
+ghost use Rattle.cc_document.specs.Told.{TellsWhatIsFreed};
 
 use crate::error::DocumentError;
 use crate::reading::{data_of, element_at, element_in, listener_of, place_of};
@@ -113,6 +114,7 @@ impl Document {
         ensures stops { (e : DocumentError) → result ≡ Err e → (g : Graph) → Shows self.old g → StopsMaking (objects_of g) e }
         ensures full { (g : Graph) → Shows self.old g → g.limits.natives ≤ length g.natives → result ≡ Err Full }
         ensures same { OnErr result (self.new ≡ self.old) }
+        ensures tells { TellsWhatIsFreed self.new.heaps.heap (N.telling out.old) (N.telling out.new) }
     {
         match self.heaps.new_native(into.0, SLOTS, out)? {
             Name::Native(number) => Ok(number),
@@ -134,6 +136,7 @@ impl Document {
             Between (IsAppended o p) (element_of (in_variable o parent.0)) (element_of (in_variable o child.0)))) }
         ensures stops { (e : DocumentError) → result ≡ Err e → (g : Graph) → Shows self.old g → StopsAppending (objects_of g) parent.0 child.0 e }
         ensures same { OnErr result (self.new ≡ self.old) }
+        ensures tells { TellsWhatIsFreed self.new.heaps.heap (N.telling out.old) (N.telling out.new) }
     {
         if self.element(parent).is_none() || self.element(child).is_none() {
             return Err(DocumentError::Empty);
@@ -165,6 +168,7 @@ impl Document {
             Between (IsRemoved o p) (element_of (in_variable o parent.0)) (element_of (in_variable o child.0)))) }
         ensures stops { (e : DocumentError) → result ≡ Err e → (g : Graph) → Shows self.old g → StopsRemoving (objects_of g) parent.0 child.0 e }
         ensures same { OnErr result (self.new ≡ self.old) }
+        ensures tells { TellsWhatIsFreed self.new.heaps.heap (N.telling out.old) (N.telling out.new) }
     {
         let removed = self.element(child);
         if self.element(parent).is_none() || removed.is_none() {
@@ -194,6 +198,7 @@ impl Document {
             Between (IsHeard o p) (element_of (in_variable o to.0)) (element_of (in_variable o about.0)))) }
         ensures stops { (e : DocumentError) → result ≡ Err e → (g : Graph) → Shows self.old g → StopsListening (objects_of g) to.0 about.0 e }
         ensures same { OnErr result (ShowsChanged self.old self.new IsAsBefore) }
+        ensures tells { TellsWhatIsFreed self.new.heaps.heap (N.telling out.old) (N.telling out.new) }
     {
         if self.element(to).is_none() || self.element(about).is_none() {
             return Err(DocumentError::Empty);
@@ -231,7 +236,8 @@ impl Document {
     /// A variable holds the child at a place, 0 to 7, of the element in another, or nothing where there is none.
     pub fn visit_child<N: Notices>(&mut self, into: Variable, of: Variable, place: u8, out: &mut N)
         requires within { place < places }
-        ensures { ShowsChanged self.old self.new (λ o p. IsAssigned o p into.0 (elements (child_of o (in_variable o of.0) place))) }
+        ensures assigned { ShowsChanged self.old self.new (λ o p. IsAssigned o p into.0 (elements (child_of o (in_variable o of.0) place))) }
+        ensures tells { TellsWhatIsFreed self.new.heaps.heap (N.telling out.old) (N.telling out.new) }
     {
         let Document { heaps, collector } = self;
         visit(heaps, collector, into, of, place + CHILDREN, out);
@@ -239,7 +245,8 @@ impl Document {
 
     /// A variable holds the parent of the element in another, or nothing where it has none.
     pub fn visit_parent<N: Notices>(&mut self, into: Variable, of: Variable, out: &mut N)
-        ensures { ShowsChanged self.old self.new (λ o p. IsAssigned o p into.0 (elements (parent_of o (in_variable o of.0)))) }
+        ensures assigned { ShowsChanged self.old self.new (λ o p. IsAssigned o p into.0 (elements (parent_of o (in_variable o of.0)))) }
+        ensures tells { TellsWhatIsFreed self.new.heaps.heap (N.telling out.old) (N.telling out.new) }
     {
         let Document { heaps, collector } = self;
         visit(heaps, collector, into, of, PARENT, out);
@@ -247,7 +254,8 @@ impl Document {
 
     /// A variable holds nothing from then on.
     pub fn let_go<N: Notices>(&mut self, variable: Variable, out: &mut N)
-        ensures { ShowsChanged self.old self.new (λ o p. IsAssigned o p variable.0 None) }
+        ensures assigned { ShowsChanged self.old self.new (λ o p. IsAssigned o p variable.0 None) }
+        ensures tells { TellsWhatIsFreed self.new.heaps.heap (N.telling out.old) (N.telling out.new) }
     {
         self.heaps.set_native_reg(variable.0, None, out);
     }

@@ -13,23 +13,22 @@ const CHILD: Variable = Variable(1);
 
 const NEXT: Variable = Variable(2);
 
-// An element is the child of the one in `CHILD`, which holds it from then on.
+// A new element is the child of the one in `CHILD`, which holds the new one from then on. Then comes a frame of 10 units.
 fn grow(document: &mut Document, out: &mut Notebook) -> Result<(), DocumentError> {
     document.new_element(NEXT, out)?;
     document.append(CHILD, NEXT, out)?;
     document.visit_child(CHILD, CHILD, 0, out);
+    document.frame(10, out)?;
     Ok(())
 }
 
-// A hundred such elements. The last of them listens to what becomes of the root, and has data that speak of itself. Ten
-// units of a collection come after that.
+// A hundred such elements. The last of them has a listener that speaks of the root, and data that speak of itself.
 fn grow_a_hundred(document: &mut Document, out: &mut Notebook) -> Result<(), DocumentError> {
     for _ in 0..100 {
         grow(document, out)?;
     }
     document.listen(CHILD, ROOT, out)?;
     document.put_data(CHILD, CHILD)?;
-    document.frame(10, out)?;
     Ok(())
 }
 
@@ -89,7 +88,7 @@ fn removed_child_that_its_listener_speaks_of_goes(rt: HostRuntime) -> Result<(),
 #[test]
 fn half_of_a_large_document_goes_in_frames(rt: HostRuntime) -> Result<(), Fail> {
     let mut out = Notebook::new(rt.alloc());
-    let made = two_branches(rt.alloc(), 10, &mut out);
+    let made = two_branches(rt.alloc(), 50, &mut out);
     assert!(rt; made.is_ok());
     if let Ok(mut document) = made {
         document.visit_child(CHILD, ROOT, 0, &mut out);
@@ -97,9 +96,9 @@ fn half_of_a_large_document_goes_in_frames(rt: HostRuntime) -> Result<(), Fail> 
         document.let_go(CHILD, &mut out);
         assert_eq!(rt; document.settle(&mut out), Ok(()));
         // the root and its reflector, the weak map, the other branch, and for each hundred of it a listener, data and a reflector
-        assert_eq!(rt; document.census(&mut out), 2 + 1 + (1 + 1000) + 3 * 10);
+        assert_eq!(rt; document.census(&mut out), 2 + 1 + (1 + 5000) + 3 * 50);
         assert_eq!(rt; document.child(ROOT, 0), None);
-        assert_eq!(rt; document.child(ROOT, 1), Some(NativeNo(1003)));
+        assert_eq!(rt; document.child(ROOT, 1), Some(NativeNo(5003)));
     }
     Ok(())
 }

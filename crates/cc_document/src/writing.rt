@@ -8,9 +8,10 @@ ghost use Rattle.cc_names.specs.declared.register.Reg.TheVariants.{S as s_regist
 ghost use Rattle.cc_model.specs.Heap as heap;
 ghost use Rattle.cc_model.specs.Graph.{Graph, objects_of};
 ghost use Rattle.cc_document.specs.declared.error.DocumentError.{DocumentError};
-ghost use Rattle.cc_document.specs.Words.{element_slots, element_of, slot_of, in_variable};
+ghost use Rattle.cc_document.specs.Words.{element_slots, listener_slot, data_register, closure_register, element_of, slot_of, in_variable};
 ghost use Rattle.cc_document.specs.Changes.{IsLeft};
 ghost use Rattle.cc_document.specs.Stops.{IsScriptFull, StopsClosing, StopsMakingClosure, StopsWrapping};
+ghost use Rattle.cc_document.specs.Told.{TellsWhatIsFreed, NoneCame};
 ghost use Rattle.cc_document.specs.Shown.{Shows, IsShown, IsShownWith, ShowsAfter, ShowsChanged, HasClosure, HasNewClosure, parts, register_of, written, gone_to, wrapping, without, making_closure, closing, closed_over, entering, entered};
 
 use crate::error::DocumentError;
@@ -34,7 +35,9 @@ pub(crate) fn write<N: Notices>(
 )
     requires shown { IsShown (parts heaps.old collector.now) }
     requires within { i < element_slots }
-    ensures { ShowsAfter (parts heaps.old collector.now) (parts heaps.new collector.now) (written of.0 i (register_of from)) }
+    ensures shows { ShowsAfter (parts heaps.old collector.now) (parts heaps.new collector.now) (written of.0 i (register_of from)) }
+    ensures tells { TellsWhatIsFreed heaps.new.heap (N.telling out.old) (N.telling out.new) }
+    ensures none_came { NoneCame heaps.old.heap heaps.new.heap }
 {
     let content = key_in(heaps, from);
     if let Some(element) = heaps.native_reg(of.0) {
@@ -53,8 +56,9 @@ pub(crate) fn visit<N: Notices>(
 )
     requires shown { IsShown (parts heaps.old collector.now) }
     requires within { i < element_slots }
-    ensures { (g : Graph) → Shows (parts heaps.old collector.now) g →
+    ensures shows { (g : Graph) → Shows (parts heaps.old collector.now) g →
         Shows (parts heaps.new collector.now) (gone_to into.0 (element_of (slot_of (objects_of g) (in_variable (objects_of g) of.0) i)) g) }
+    ensures tells { TellsWhatIsFreed heaps.new.heap (N.telling out.old) (N.telling out.new) }
 {
     let element = key_at(heaps, collector, of, i);
     heaps.set_native_reg(into.0, element, out);
@@ -68,7 +72,8 @@ pub(crate) fn hand_over<N: Notices>(
     out: &mut N,
 )
     requires shown { IsShownWith (parts heaps.old collector.now) HasClosure }
-    ensures { ShowsAfter (parts heaps.old collector.now) (parts heaps.new collector.now) (written to.0 1 (Some (s_register 1))) }
+    ensures shows { ShowsAfter (parts heaps.old collector.now) (parts heaps.new collector.now) (written to.0 listener_slot (Some (s_register closure_register))) }
+    ensures tells { TellsWhatIsFreed heaps.new.heap (N.telling out.old) (N.telling out.new) }
 {
     if let (Some(element), Some(closure)) = (heaps.native_reg(to.0), heaps.script_reg(CLOSURE)) {
         heaps.store_native(element, LISTENER, Some(Held::Script(closure)), out);
@@ -78,8 +83,9 @@ pub(crate) fn hand_over<N: Notices>(
 /// A script register is empty from then on.
 pub(crate) fn empty(heaps: &mut Heaps, collector: &Collector, r: u8)
     requires shown { IsShown (parts heaps.old collector.now) }
-    requires r { r ≢ 0 }
-    ensures { ShowsAfter (parts heaps.old collector.now) (parts heaps.new collector.now) (without r) }
+    requires r { r ≢ data_register }
+    ensures shows { ShowsAfter (parts heaps.old collector.now) (parts heaps.new collector.now) (without r) }
+    ensures none_came { NoneCame heaps.old.heap heaps.new.heap }
 {
     heaps.set_script_reg(r, None);
 }

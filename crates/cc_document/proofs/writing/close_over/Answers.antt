@@ -21,7 +21,7 @@ pub returns-in-Err-clause-same : goal.returns-in-Err-clause-same
 returns-in-Err-clause-same c = λ g s.
     let h = wrapping c.args.about.0 g in
     let t = c.in_ok-wrap_into_register.ensures.wrapped g s in
-    let u = c.empty.ensures h (subst (λ (w : Keyed). Shows (parts w c.args.collector.now) h) (sym c.in-Err.ensures.same) t) in
+    let u = c.empty.ensures.shows h (subst (λ (w : Keyed). Shows (parts w c.args.collector.now) h) (sym c.in-Err.ensures.same) t) in
     (without 2 h, u, record { before = unwrapped-reads g c.args.about.0 s.well.registers.1; scripts = unwrapped-left g c.args.about.0 s.well.registers.1 })
 
 pub empty-requires-2-clause-shown : goal.empty-requires-2-clause-shown
@@ -33,10 +33,10 @@ pub returns-clause-closed : goal.returns-clause-closed
 returns-clause-closed c = λ g s.
     let h = wrapping c.args.about.0 g in
     let m = making_closure h in
-    c.empty-2.ensures (closing m) (c.close.ensures m (c.in_default.ensures.made h (c.in_ok-wrap_into_register.ensures.wrapped g s)))
+    c.empty-2.ensures.shows (closing m) (c.close.ensures m (c.in_default.ensures.made h (c.in_ok-wrap_into_register.ensures.wrapped g s)))
 
 pub returns-clause-has : goal.returns-clause-has
 returns-clause-has c =
     let m = c.in_default.ensures.has in
     let n = m.2 in
-    (without 2 (closing m.0), c.empty-2.ensures (closing m.0) (c.close.ensures m.0 m.1), closure-closed m.0 (record { number = n.number; held = n.held }))
+    (without 2 (closing m.0), c.empty-2.ensures.shows (closing m.0) (c.close.ensures m.0 m.1), closure-closed m.0 (record { number = n.number; held = n.held }))

@@ -31,10 +31,10 @@ returns-in_err-entered-clause-same c = err-of c.from_residual-in_err-entered.res
     let h = wrapping c.args.of.0 g in
     let t = c.in_ok-wrap_into_register.ensures.wrapped g s in
     let same = c.in_err-entered.ensures.same in
-    let u = c.empty.ensures h (subst (λ (w : Keyed). Shows (parts w c.args.collector.now) h) (sym same) t) in
+    let u = c.empty.ensures.shows h (subst (λ (w : Keyed). Shows (parts w c.args.collector.now) h) (sym same) t) in
     (without 2 h, u, record { before = unwrapped-reads g c.args.of.0 s.well.registers.1; scripts = unwrapped-left g c.args.of.0 s.well.registers.1 }))
 
 pub returns-clause-entered : goal.returns-clause-entered
 returns-clause-entered c = λ g s.
     let h = wrapping c.args.of.0 g in
-    c.empty.ensures (entering h) (c.in_ok-entered.ensures.entered h (c.in_ok-wrap_into_register.ensures.wrapped g s))
+    c.empty.ensures.shows (entering h) (c.in_ok-entered.ensures.entered h (c.in_ok-wrap_into_register.ensures.wrapped g s))

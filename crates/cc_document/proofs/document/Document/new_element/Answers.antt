@@ -9,6 +9,8 @@ use Rattle.cc_document.specs.Shown.{Shows, parts, made_in}
 use Rattle.cc_document.proofs.Assigning.{made-reads}
 use Rattle.cc_document.proofs.Documents.{made_in-document}
 use Rattle.cc_document.proofs.Holding.{room-for_native}
+use Rattle.cc_document.proofs.Freed.{nothing-told, make_native-tells}
+use Rattle.cc_document.specs.Told.{TellsWhatIsFreed}
 use Rattle.cc_document.proofs.Idle.{idle-after, made_in-left}
 use Rattle.cc_document.proofs.Steps.{Shows-step}
 use Rattle.cc_document.proofs.document.Document.new_element.Goals as goal
@@ -44,3 +46,14 @@ returns-clause-made g c = λ k s.
           (record { order = e.order; colours = e.colours; fresh = e.fresh; keys = e.keys; suspected = e.suspected; stands = e.stands }) k t (made_in-document k t.document r),
       subst (IsAssigned (graph.objects_of k) (graph.objects_of (made_in r k)) r) (sym numbered) (made-reads k r (omega (arith, within, t.well.registers.0)) (room-for_native (graph.objects_of k) r room)),
     )
+
+pub returns-in_err-number-clause-tells : goal.returns-in_err-number-clause-tells
+returns-in_err-number-clause-tells g c =
+    subst (TellsWhatIsFreed c.new_native.new.self.heap (g.N.Notices.telling c.args.out.now)) (sym c.in_err-number.ensures.silent)
+    (nothing-told c.new_native.new.self.heap (g.N.Notices.telling c.args.out.now))
+
+pub returns-clause-tells : goal.returns-clause-tells
+returns-clause-tells g c =
+    let e = c.in_ok-number.ensures in
+    make_native-tells c.self.inside.heaps.heap c.new_native.new.self.heap c.args.into.0 10
+    (g.N.Notices.telling c.args.out.now) (g.N.Notices.telling c.new_native.new.out) e.heap e.order.sound.well_formed e.told

@@ -24,7 +24,7 @@ returns-clause-has c = λ k s.
     let h = closed_over w k in
     let one = c.in_ok-close_over.ensures.closed k t in
     let two = c.in_default.ensures.entered h one in
-    let three = c.empty-2.ensures (entered v h) two in
+    let three = c.empty-2.ensures.shows (entered v h) two in
     let here : is_some (element_of (register k (N v))) ≡ true = read-some c.element.result (element_of (register k (N v))) c.is_none.result (c.element.ensures k s) c.is_none.ensures c.if-is_none.false in
     let there : is_some (element_of (register k (N w))) ≡ true =
     read-some c.element-else-is_none.result (element_of (register k (N w))) c.is_none-else-is_none.result (c.element-else-is_none.ensures k s) c.is_none-else-is_none.ensures c.if-is_none-2.false in
@@ -59,7 +59,7 @@ invariant_of-self-in-Err c =
     let s = c.self.invariant.0 in
     let b = c.self.inside.collector in
     let x = c.in-Err.ensures.same (closed_over c.args.about.0 s.0) (c.in_ok-close_over.ensures.closed s.0 s.1) in
-    let t = c.empty.ensures x.0 x.1 in
+    let t = c.empty.ensures.shows x.0 x.1 in
     ((without 1 x.0, t), idle-after c.self.inside.heaps c.empty.new.heaps b b s.0 (without 1 x.0) s.1 t (left-closed s.0 x.0 c.args.about.0 s.1.well.registers.1 x.2.scripts) c.self.invariant.1)
 
 pub returns-in-Err-clause-stops : goal.returns-in-Err-clause-stops
@@ -94,7 +94,7 @@ returns-in-Err-clause-same c = λ k s.
     let b = element-found (register k (N w)) there in
     let closed = closed_over-reads k w b.0 t.well.registers.1 b.1 room in (
       without 1 x.0,
-      c.empty.ensures x.0 x.1,
+      c.empty.ensures.shows x.0 x.1,
       as_before-then k h (without 1 x.0) (closed_over-before k h b.0 t.well closed) (as_before-then h x.0 (without 1 x.0) x.2.before (without-before x.0)),
     )
 
@@ -111,5 +111,5 @@ invariant_of-self-2 c =
     let h = closed_over c.args.about.0 s.0 in
     let one = c.in_ok-close_over.ensures.closed s.0 s.1 in
     let k = with_data c.args.of.0 c.args.about.0 s.0 in
-    let t = c.empty-2.ensures (entered c.args.of.0 h) (c.in_default.ensures.entered h one) in
+    let t = c.empty-2.ensures.shows (entered c.args.of.0 h) (c.in_default.ensures.entered h one) in
     ((k, t), idle-after c.self.inside.heaps c.empty-2.new.heaps b b s.0 k s.1 t (with_data-left s.0 c.args.of.0 c.args.about.0 s.1.well.registers.1 one.well.registers.1) c.self.invariant.1)

@@ -11,5 +11,5 @@ invariant_of-self g c =
     let o = objects_of s.0 in
     let b = c.self.inside.collector in
     let k = gone_to c.args.into.0 (element_of (slot_of o (in_variable o c.args.of.0) 0)) s.0 in
-    let t = c.visit.ensures s.0 s.1 in
+    let t = c.visit.ensures.shows s.0 s.1 in
     ((k, t), idle-after c.self.inside.heaps c.visit.new.heaps b b s.0 k s.1 t (λ r. inl refl) c.self.invariant.1)
