@@ -1,0 +1,142 @@
+-- A GRAPH IS A DOCUMENT STILL after each step.
+use Rattle.std.proofs.Common.{◌≡◌, ◌≢◌, ℕ, ◌+◌, false, List, length, Option, Some, None, option_map, refl, sym, ◌∙◌, ap, subst, ⊎_elim}
+use Rattle.std.proofs.lemmas.Bool.Decides.{eqb_tells}
+use Rattle.std.proofs.lemmas.List.{length-set, get_or-set_other}
+use Rattle.cc_names.specs.declared.name.Name.{Name}
+use Rattle.cc_names.specs.declared.name.Name.TheVariants as name
+use Rattle.cc_names.specs.declared.register.Reg.TheVariants.{N, S}
+use Rattle.cc_names.specs.declared.register.Reg.{Reg}
+use Rattle.cc_names.specs.Names.{native, object}
+use Rattle.cc_model.specs.declared.command.Command.TheVariants.{Native, Script}
+use Rattle.cc_model.specs.declared.item.Refusal.{Refusal}
+use Rattle.cc_model.specs.Slots.{empty_slots}
+use Rattle.cc_model.specs.Entries.{Entry, with_entry, without_entry}
+use Rattle.cc_model.specs.Checks.{refusal_of, reflector_of}
+use Rattle.cc_model.specs.Graph.{Graph, GraphNative, GraphScript, plain_object, weak_map, numbered, native_in, script_in, objects_of, register, source, set_register, set_native, set_script, set_slot, with_slot, with_reflector_slot, as_preserved, as_wrapped, with_script_slot, with_native, with_script, wrapped, preserve, set_entry, changed, unless_refused, step}
+use Rattle.cc_laws_heap.proofs.GraphWrites.{set_native-is, set_script-is}
+use Rattle.cc_laws_heap.proofs.Numbered.{change_numbered, numbered-change, numbered-change_other, numbered-push_old, numbered-push_cases}
+use Rattle.cc_document.specs.Words.{element_slots, elements}
+use Rattle.cc_document.specs.Shown.{IsDocument, written, gone_to, made_in, wrapping, without, making_closure, closing}
+
+module _ (g : Graph) (d : IsDocument g) where
+  -- a native changed, with as many slots as before
+  change_native-document : (k : ℕ) (f : GraphNative → GraphNative) → ((n : GraphNative) → length (f n).slots ≡ length n.slots) →
+      IsDocument (set_native g k (option_map f (native_in g k)))
+  change_native-document k f few = subst IsDocument (sym (set_native-is g k (option_map f (native_in g k)))) (record {
+    elements = λ j n e. ⊎_elim
+        (λ t. now (native_in g k) refl n (sym (numbered-change g.natives k f) ∙ (ap (numbered (change_numbered g.natives k f)) (sym t.1) ∙ e)))
+        (λ t. d.elements j n (sym (numbered-change_other g.natives k f j t.1) ∙ e))
+        (eqb_tells j k);
+    map_number = d.map_number;
+    map_held = d.map_held;
+    map_made = d.map_made;
+  })
+    where
+      now : (o : Option GraphNative) → native_in g k ≡ o → (n : GraphNative) → option_map f o ≡ Some n → length n.slots ≡ element_slots
+      now None e n i = absurd (cc)
+      now (Some m) e n i = let same : f m ≡ n = cc in subst (λ (x : GraphNative). length x.slots ≡ element_slots) same (few m ∙ d.elements k m e)
+
+  -- a slot of a script object written
+  script_slot-document : (k i : ℕ) (x : Option Name) → IsDocument (set_script g k (option_map (with_script_slot i x) (script_in g k)))
+  script_slot-document k i x = subst IsDocument (sym (set_script-is g k (option_map f (script_in g k)))) (record {
+    elements = d.elements;
+    map_number = d.map_number;
+    map_held = d.map_held;
+    map_made = ⊎_elim
+        (λ t. ap (numbered (change_numbered g.scripts k f)) t.1 ∙ (numbered-change g.scripts k f ∙ ap (option_map f) (ap (script_in g) (sym t.1) ∙ d.map_made)))
+        (λ t. numbered-change_other g.scripts k f d.map_number t.1 ∙ d.map_made)
+        (eqb_tells d.map_number k);
+  })
+    where
+      f : GraphScript → GraphScript
+      f o = with_script_slot i x o
+
+  -- a slot of any object
+  pub slot-document : (x : Option Name) (i : ℕ) (y : Option Name) → IsDocument (set_slot g x i y)
+  slot-document None i y = d
+  slot-document (Some (name.Native k)) i y = change_native-document k.0 (with_slot i y) (λ n. length-set n.slots i y)
+  slot-document (Some (name.Script k)) i y = script_slot-document k.0 i y
+  slot-document (Some (name.Reflector k)) i y = change_native-document k.0 (with_reflector_slot i y) (λ n. refl)
+
+  -- a register, but for that of the weak map
+  pub native_register-document : (r : ℕ) (x : Option Name) → IsDocument (set_register g (N r) x)
+  native_register-document r x = record { elements = d.elements; map_number = d.map_number; map_held = d.map_held; map_made = d.map_made }
+
+  pub script_register-document : (r : ℕ) (x : Option Name) → r ≢ 0 → IsDocument (set_register g (S r) x)
+  script_register-document r x ne = record {
+    elements = d.elements;
+    map_number = d.map_number;
+    map_held = get_or-set_other g.script_registers r 0 x None (λ e. ne (sym e)) ∙ d.map_held;
+    map_made = d.map_made;
+  }
+
+  pub wrapped-document : (x : Option Name) → IsDocument (wrapped g x)
+  wrapped-document None = d
+  wrapped-document (Some (name.Native k)) = change_native-document k.0 as_wrapped (λ n. refl)
+  wrapped-document (Some (name.Script k)) = d
+  wrapped-document (Some (name.Reflector k)) = d
+
+  preserve-document : (x : Option Name) → IsDocument (preserve g x)
+  preserve-document None = d
+  preserve-document (Some (name.Native k)) = d
+  preserve-document (Some (name.Script k)) = d
+  preserve-document (Some (name.Reflector k)) = change_native-document k.0 as_preserved (λ n. refl)
+
+  plain-document : (o : GraphScript) → IsDocument (with_script g o)
+  plain-document o = record {
+    elements = d.elements;
+    map_number = d.map_number;
+    map_held = d.map_held;
+    map_made = numbered-push_old g.scripts o d.map_number weak_map d.map_made;
+  }
+
+  native-document : IsDocument (with_native g element_slots)
+  native-document = record {
+    elements = λ k n e. ⊎_elim (d.elements k n) (λ t. subst (λ (m : GraphNative). length m.slots ≡ element_slots) t.1 refl)
+        (numbered-push_cases g.natives (record { slots = empty_slots element_slots; preserved = false; reflector = None }) k n e);
+    map_number = d.map_number;
+    map_held = d.map_held;
+    map_made = d.map_made;
+  }
+
+-- other entries
+entries-document : (g : Graph) (es : List Entry) → IsDocument g → IsDocument (record g { entries = es })
+entries-document g es d = record { elements = d.elements; map_number = d.map_number; map_held = d.map_held; map_made = d.map_made }
+
+module _ (g : Graph) (d : IsDocument g) where
+  pub written-document : (v i : ℕ) (from : Option Reg) → IsDocument (written v i from g)
+  written-document v i from = slot-document g d (register g (N v)) i (source g from)
+
+  pub gone_to-document : (v : ℕ) (e : Option ℕ) → IsDocument (gone_to v e g)
+  gone_to-document v e = native_register-document g d v (elements e)
+
+  pub wrapping-document : (v : ℕ) → IsDocument (wrapping v g)
+  wrapping-document v = script_register-document (wrapped g (register g (N v))) (wrapped-document g d (register g (N v))) 2 (reflector_of (register g (N v))) (λ e. cc)
+
+  pub without-document : (r : ℕ) → r ≢ 0 → IsDocument (without r g)
+  without-document r ne = script_register-document g d r None ne
+
+  pub closing-document : IsDocument (closing g)
+  closing-document = slot-document g d (register g (S 1)) 0 (register g (S 2))
+
+  pub making_closure-document : IsDocument (making_closure g)
+  unfolding changed
+  making_closure-document = go (refusal_of (objects_of g) (Script 1 1))
+    where
+      go : (o : Option Refusal) → IsDocument (unless_refused o g (changed g (Script 1 1)))
+      go None = script_register-document (with_script g (plain_object (empty_slots 1))) (plain-document g d (plain_object (empty_slots 1))) 1 (Some (object (length g.scripts + 1))) (λ e. cc)
+      go (Some refusal) = d
+
+  pub made_in-document : (v : ℕ) → IsDocument (made_in v g)
+  unfolding changed
+  made_in-document v = go (refusal_of (objects_of g) (Native v element_slots))
+    where
+      go : (o : Option Refusal) → IsDocument (unless_refused o g (changed g (Native v element_slots)))
+      go None = native_register-document (with_native g element_slots) (native-document g d) v (Some (native (length g.natives + 1)))
+      go (Some refusal) = d
+
+  pub set_entry-document : (m k v : Option Name) → IsDocument (set_entry g m k v)
+  set_entry-document None k v = d
+  set_entry-document (Some m) None v = d
+  set_entry-document (Some m) (Some k) None = entries-document g (without_entry g.entries m k) d
+  set_entry-document (Some m) (Some k) (Some v) = entries-document (preserve g (Some k)) (with_entry g.entries m k v) (preserve-document g d (Some k))

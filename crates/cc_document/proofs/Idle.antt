@@ -1,0 +1,152 @@
+-- SCRIPT REGISTERS AFTER EACH CALL hold what they held, or nothing; so no closure stays in one.
+use Rattle.std.proofs.Common.{◌≡◌, ◌≢◌, ℕ, zero, suc, ◌+◌, ◌⊎◌, List, [], ◌∷◌, length, set, get_or, Option, Some, None, option_map, refl, sym, ◌∙◌, ap, inl, inr, ⊎_elim}
+use Rattle.std.proofs.lemmas.Bool.Decides.{eqb_tells}
+use Rattle.std.proofs.lemmas.List.{get_or-set_other}
+use Rattle.cc_names.specs.declared.name.Name.{Name}
+use Rattle.cc_names.specs.declared.name.Name.TheVariants as name
+use Rattle.cc_names.specs.declared.register.Reg.{Reg}
+use Rattle.cc_names.specs.declared.register.Reg.TheVariants.{N, S}
+use Rattle.cc_names.specs.Names.{native, object}
+use Rattle.cc_model.specs.declared.command.Command.TheVariants.{Native, Script, WeakMap}
+use Rattle.cc_model.specs.declared.item.Refusal.{Refusal}
+use Rattle.cc_model.specs.Checks.{refusal_of}
+use Rattle.cc_model.specs.Graph.{Graph, GraphNative, GraphScript, native_in, script_in, objects_of, register, source, set_native, set_script, set_slot, with_slot, with_reflector_slot, with_script_slot, as_preserved, preserve, set_entry, changed, unless_refused}
+use Rattle.cc_model.specs.Heap as heap
+use Rattle.cc_heaps.specs.Keyed.{Keyed}
+use Rattle.cc_builder.specs.Building.{Built}
+use Rattle.cc_document.specs.Words.{element_slots}
+use Rattle.cc_document.specs.Changes.{LetsScripts}
+use Rattle.cc_document.specs.Shown.{Shows, IsIdle, parts, written, wrapping, without, making_closure, closing, entering, made_in, closed_over, listened, entered, with_data, appended, removed}
+use Rattle.cc_document.proofs.Closures.{wrapping-reads}
+use Rattle.cc_document.proofs.Reached.{alike}
+
+-- a slot written leaves registers, and so does an entry
+native-registers : (g : Graph) (k : ℕ) (o : Option GraphNative) (r : Reg) → register (set_native g k o) r ≡ register g r
+native-registers g k None r = refl
+native-registers g k (Some n) (N r) = refl
+native-registers g k (Some n) (S r) = refl
+
+script-registers : (g : Graph) (k : ℕ) (o : Option GraphScript) (r : Reg) → register (set_script g k o) r ≡ register g r
+script-registers g k None r = refl
+script-registers g k (Some n) (N r) = refl
+script-registers g k (Some n) (S r) = refl
+
+slot-registers : (g : Graph) (x : Option Name) (i : ℕ) (y : Option Name) (r : Reg) → register (set_slot g x i y) r ≡ register g r
+slot-registers g None i y r = refl
+slot-registers g (Some (name.Native k)) i y r = native-registers g k.0 (option_map (with_slot i y) (native_in g k.0)) r
+slot-registers g (Some (name.Script k)) i y r = script-registers g k.0 (option_map (with_script_slot i y) (script_in g k.0)) r
+slot-registers g (Some (name.Reflector k)) i y r = native-registers g k.0 (option_map (with_reflector_slot i y) (native_in g k.0)) r
+
+preserve-registers : (g : Graph) (x : Option Name) (r : Reg) → register (preserve g x) r ≡ register g r
+preserve-registers g None r = refl
+preserve-registers g (Some (name.Native k)) r = refl
+preserve-registers g (Some (name.Script k)) r = refl
+preserve-registers g (Some (name.Reflector k)) r = native-registers g k.0 (option_map as_preserved (native_in g k.0)) r
+
+entry-registers : (g : Graph) (m k v : Option Name) (r : ℕ) → register (set_entry g m k v) (S r) ≡ register g (S r)
+entry-registers g None k v r = refl
+entry-registers g (Some m) None v r = refl
+entry-registers g (Some m) (Some k) None r = refl
+entry-registers g (Some m) (Some k) (Some v) r = preserve-registers g (Some k) (S r)
+
+-- a register that was emptied is empty
+emptied : (l : List (Option Name)) (r : ℕ) → get_or (set l r None) r None ≡ None
+emptied [] r = refl
+emptied (x ∷ l) zero = refl
+emptied (x ∷ l) (suc r) = emptied l r
+
+-- and the others hold what they held
+without-lets : (g : Graph) (e r : ℕ) → ((r ≡ e) × (register (without e g) (S r) ≡ None)) ⊎ ((r ≢ e) × (register (without e g) (S r) ≡ register g (S r)))
+without-lets g e r = ⊎_elim
+    (λ t. inl (t.1, ap (λ i. get_or (set g.script_registers e None) i None) t.1 ∙ emptied g.script_registers e))
+    (λ t. inr (t.1, get_or-set_other g.script_registers e r None None t.1))
+    (eqb_tells r e)
+
+-- Calls
+
+pub lets-then : (g k l : Graph) → LetsScripts (objects_of g) (objects_of k) → LetsScripts (objects_of k) (objects_of l) → LetsScripts (objects_of g) (objects_of l)
+lets-then g k l p q r = ⊎_elim (λ s. ⊎_elim (λ t. inl (s ∙ t)) (λ n. inr (s ∙ n)) (p r)) (λ n. inr n) (q r)
+
+pub without-left : (g : Graph) (e : ℕ) → LetsScripts (objects_of g) (objects_of (without e g))
+without-left g e r = ⊎_elim (λ t. inr t.1) (λ t. inl t.1) (without-lets g e r)
+
+pub appended-left : (g : Graph) (parent place child : ℕ) → LetsScripts (objects_of g) (objects_of (appended parent place child g))
+appended-left g parent place child r =
+    let k = written child 0 (Some (N parent)) g in
+    inl (slot-registers k (register k (N parent)) (place + 2) (source k (Some (N child))) (S r) ∙ slot-registers g (register g (N child)) 0 (source g (Some (N parent))) (S r))
+
+pub removed-left : (g : Graph) (parent place child : ℕ) → LetsScripts (objects_of g) (objects_of (removed parent place child g))
+removed-left g parent place child r =
+    let k = written child 0 None g in
+    inl (slot-registers k (register k (N parent)) (place + 2) None (S r) ∙ slot-registers g (register g (N child)) 0 None (S r))
+
+pub made_in-left : (g : Graph) (v : ℕ) → LetsScripts (objects_of g) (objects_of (made_in v g))
+unfolding changed
+made_in-left g v r = inl (go (refusal_of (objects_of g) (Native v element_slots)))
+  where
+    go : (o : Option Refusal) → register (unless_refused o g (changed g (Native v element_slots))) (S r) ≡ register g (S r)
+    go None = refl
+    go (Some refusal) = refl
+
+-- a closure is made in its register alone
+making-others : (g : Graph) (r : ℕ) → r ≢ 1 → register (making_closure g) (S r) ≡ register g (S r)
+unfolding changed
+making-others g r ne = go (refusal_of (objects_of g) (Script 1 1))
+  where
+    go : (o : Option Refusal) → register (unless_refused o g (changed g (Script 1 1))) (S r) ≡ register g (S r)
+    go None = get_or-set_other g.script_registers 1 r (Some (object (length g.scripts + 1))) None ne
+    go (Some refusal) = refl
+
+-- a reflector that was in its register meanwhile is not there any more
+pub unwrapped-left : (g : Graph) (v : ℕ) → length g.script_registers ≡ 256 → LetsScripts (objects_of g) (objects_of (without 2 (wrapping v g)))
+unwrapped-left g v enough r = ⊎_elim (λ t. inr t.1) (λ t. inl (t.1 ∙ (wrapping-reads g v enough).others r t.0)) (without-lets (wrapping v g) 2 r)
+
+closed_over-others : (g : Graph) (about r : ℕ) → length g.script_registers ≡ 256 → r ≢ 1 →
+    (register (closed_over about g) (S r) ≡ register g (S r)) ⊎ (register (closed_over about g) (S r) ≡ None)
+closed_over-others g about r enough ne =
+    let h = wrapping about g in
+    let m = making_closure h in
+    ⊎_elim
+    (λ t. inr t.1)
+    (λ t. inl (t.1 ∙ (slot-registers m (register m (S 1)) 0 (register m (S 2)) (S r) ∙ (making-others h r ne ∙ (wrapping-reads g about enough).others r t.0))))
+    (without-lets (closing m) 2 r)
+
+pub listened-left : (g : Graph) (to about : ℕ) → length g.script_registers ≡ 256 → LetsScripts (objects_of g) (objects_of (listened to about g))
+listened-left g to about enough r =
+    let h = closed_over about g in
+    let l = written to 1 (Some (S 1)) h in
+    ⊎_elim
+    (λ t. inr t.1)
+    (λ t.
+    let same = t.1 ∙ slot-registers h (register h (N to)) 1 (source h (Some (S 1))) (S r) in
+    ⊎_elim (λ s. inl (same ∙ s)) (λ n. inr (same ∙ n)) (closed_over-others g about r enough t.0))
+    (without-lets l 1 r)
+
+pub with_data-left : (g : Graph) (of about : ℕ) → length g.script_registers ≡ 256 → length (closed_over about g).script_registers ≡ 256 →
+    LetsScripts (objects_of g) (objects_of (with_data of about g))
+with_data-left g of about enough many r =
+    let h = closed_over about g in
+    let x = wrapping of h in
+    ⊎_elim
+    (λ t. inr t.1)
+    (λ t. ⊎_elim
+    (λ u. inr (t.1 ∙ u.1))
+    (λ u.
+    let same = t.1 ∙ (u.1 ∙ (entry-registers x (register x (S 0)) (register x (S 2)) (register x (S 1)) r ∙ (wrapping-reads h of many).others r u.0)) in
+    ⊎_elim (λ s. inl (same ∙ s)) (λ n. inr (same ∙ n)) (closed_over-others g about r enough t.0))
+    (without-lets (entering x) 2 r))
+    (without-lets (entered of h) 1 r)
+
+-- where a closure was made and let go
+pub left-closed : (g k : Graph) (about : ℕ) → length g.script_registers ≡ 256 → LetsScripts (objects_of (closed_over about g)) (objects_of k) → LetsScripts (objects_of g) (objects_of (without 1 k))
+left-closed g k about enough p r = ⊎_elim
+    (λ t. inr t.1)
+    (λ t. ⊎_elim
+    (λ s. ⊎_elim (λ u. inl (t.1 ∙ (s ∙ u))) (λ n. inr (t.1 ∙ (s ∙ n))) (closed_over-others g about r enough t.0))
+    (λ n. inr (t.1 ∙ n)) (p r))
+    (without-lets k 1 r)
+
+-- NO CLOSURE IS BEING MADE after a call, where none was before.
+pub idle-after : (v w : Keyed) (b c : Option Built) (g k : Graph) → Shows (parts v b) g → Shows (parts w c) k → LetsScripts (objects_of g) (objects_of k) → IsIdle v → IsIdle w
+idle-after v w b c g k s t lets idle r ne =
+    (alike w c k t).register (S r) ∙ ⊎_elim (λ same. same ∙ (sym ((alike v b g s).register (S r)) ∙ idle r ne)) (λ n. n) (lets r)

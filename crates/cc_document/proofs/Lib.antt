@@ -1,0 +1,17 @@
+pub mod Reached
+pub mod Documents
+pub mod Steps
+pub mod Alike
+pub mod Appending
+pub mod Values
+pub mod Closures
+pub mod ReadAlike
+pub mod Assigning
+pub mod Holding
+pub mod ElementNames
+pub mod Outcomes
+pub mod ClosureKeys
+pub mod Calls
+pub mod Beginning
+pub mod Idle
+pub mod Freed

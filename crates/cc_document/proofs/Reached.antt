@@ -1,0 +1,72 @@
+-- WHAT VARIABLES LEAD TO IS REACHED, and elements have their slots.
+use Rattle.std.proofs.Common.{◌≡◌, ℕ, [], true, length, Option, Some, None, is_some, IsTrue, IsSome, refl, sym, ◌∙◌, ap, subst}
+use Rattle.std.specs.Option.{option_and_then}
+use Rattle.std.proofs.lemmas.Bool.{false≢true}
+use Rattle.cc_names.specs.declared.name.Name.{Name}
+use Rattle.cc_names.specs.declared.name.Name.TheVariants as name
+use Rattle.cc_names.specs.declared.number.NKey.{NKey}
+use Rattle.cc_names.specs.declared.register.Reg.{Reg}
+use Rattle.cc_names.specs.declared.register.Reg.TheVariants.{N, S}
+use Rattle.cc_names.specs.Names.{native}
+use Rattle.cc_model.specs.Checks.{slots_or_none, slots_at, slot_at}
+use Rattle.cc_model.specs.Graph as graph
+use Rattle.cc_model.specs.Graph.{Graph, GraphNative, native_in}
+use Rattle.cc_model.specs.Reached.{Reached}
+use Rattle.cc_model.specs.Heap as heap
+use Rattle.cc_laws_heap.proofs.Holds.{OfSome}
+use Rattle.cc_laws_heap.proofs.GraphReads.{MadeNative, native_register-made}
+use Rattle.cc_laws_heap.proofs.ReachedAlike.{reached-in}
+use Rattle.cc_laws_heap.proofs.ReachedReads.{register-reached, slot_at-reached}
+use Rattle.cc_laws_heap.proofs.RepliesAlike.{AreAlike, objects-stand, slot_at-alike}
+use Rattle.cc_counted.specs.Counts.{slots_of}
+use Rattle.cc_heaps.specs.Keyed.{Keyed, number_at, counts_of}
+use Rattle.cc_heaps.specs.Changes.{native_name}
+use Rattle.cc_heaps.specs.Standing.{IsReached}
+use Rattle.cc_builder.specs.Building.{Built}
+use Rattle.cc_mutator.proofs.NativesRead.{native-at, slots-as_many}
+use Rattle.cc_document.specs.Words.{element_slots}
+use Rattle.cc_document.specs.Shown.{Shows, parts}
+
+module _ (v : Keyed) (c : Option Built) (g : Graph) (s : Shows (parts v c) g) where
+  -- the heaps read as the graph does
+  pub alike : AreAlike (heap.objects_of v.heap) (graph.objects_of g)
+  alike = objects-stand v.heap g s.stands
+
+  reached-some : (o : Option Name) → OfSome (Reached g) o → IsReached v.heap o
+  reached-some None d = tt
+  reached-some (Some x) d = reached-in v.heap g s.runs.order.sound.well_formed s.well s.stands x d
+
+  -- what a register holds
+  pub register-is_reached : (r : Reg) → IsReached v.heap (heap.register v.heap r)
+  register-is_reached r = subst (IsReached v.heap) (sym (alike.register r)) (reached-some (graph.register g r) (register-reached g r))
+
+  -- and what a slot of that holds
+  pub slot-is_reached : (r : Reg) (i : ℕ) → IsReached v.heap (slot_at (heap.objects_of v.heap) r i)
+  slot-is_reached r i = subst (IsReached v.heap) (sym (slot_at-alike (heap.objects_of v.heap) (graph.objects_of g) alike r i))
+      (reached-some (slot_at (graph.objects_of g) r i) (slot_at-reached g r i))
+
+  -- the slots of the element in a variable
+  pub slots-of_variable : (r : ℕ) → is_some (graph.register g (N r)) ≡ true → length (slots_at (graph.objects_of g) (N r)) ≡ element_slots
+  slots-of_variable r = go (graph.register g (N r)) (native_register-made g s.well r)
+    where
+      of_native : (k : ℕ) (o : Option GraphNative) → native_in g k ≡ o → is_some o ≡ true →
+          length (slots_or_none (option_and_then (λ (n : GraphNative). Some n.slots) o)) ≡ element_slots
+      of_native k None e t = absurd (false≢true t)
+      of_native k (Some n) e t = s.document.elements k n e
+
+      go : (o : Option Name) → OfSome (MadeNative g) o → is_some o ≡ true → length (slots_or_none (option_and_then (graph.slots_in g) o)) ≡ element_slots
+      go None m t = absurd (false≢true t)
+      go (Some (name.Native k)) m t = of_native k.0 (native_in g k.0) refl m
+      go (Some (name.Script k)) m t = absurd (false≢true m)
+      go (Some (name.Reflector k)) m t = absurd (false≢true m)
+
+  module _ (r : ℕ) (key : NKey) (name : native_name v (Some key) ≡ heap.register v.heap (N r)) (there : IsSome (number_at v key.0)) where
+    -- the graph's variable holds it too
+    pub variable-holds : graph.register g (N r) ≡ Some (native (native-at [] v s.runs.order r key name there).number)
+    variable-holds = sym (alike.register (N r)) ∙ (native-at [] v s.runs.order r key name there).held
+
+    -- ITS SLOTS, by the key that the variable holds
+    pub slots-of_key : length (slots_of (counts_of v) key.0) ≡ element_slots
+    slots-of_key =
+        slots-as_many [] v s.runs.order r key name there
+        ∙ (ap (λ o. length (slots_or_none o)) (alike.slots (N r)) ∙ slots-of_variable r (ap is_some variable-holds))

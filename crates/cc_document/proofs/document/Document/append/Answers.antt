@@ -1,0 +1,49 @@
+use Rattle.std.proofs.Common.{◌≡◌, ◌<◌, true, Some, None, is_some, sym, ◌∙◌, ap, subst}
+use Rattle.cc_names.specs.declared.register.Reg.TheVariants.{N}
+use Rattle.cc_model.specs.Graph.{Graph, objects_of, register}
+use Rattle.cc_document.specs.Words.{element, element_of, parent_of, child_of}
+use Rattle.cc_document.specs.Changes.{Between, IsAppended}
+use Rattle.cc_document.specs.Shown.{Shows, parts, written, appended}
+use Rattle.cc_document.proofs.Appending.{appended-reads}
+use Rattle.cc_document.proofs.Calls.{read-some, read-none, between-from}
+use Rattle.cc_document.proofs.Freed.{tells-then}
+use Rattle.cc_document.proofs.Idle.{idle-after, appended-left}
+use Rattle.cc_document.proofs.document.Document.append.Goals as goal
+
+pub returns-clause-appended : goal.returns-clause-appended
+returns-clause-appended g c = λ k s.
+    let t = subst (λ p. Shows p k) (sym c.self.view_is) s in
+    let v = c.args.parent.0 in
+    let w = c.args.child.0 in
+    let o = objects_of k in
+    let place = c.in-Some.place in
+    let one = c.write.ensures.shows k t in
+    let two = c.write-2.ensures.shows (written w 0 (Some (N v)) k) one in
+    let here : is_some (element_of (register k (N v))) ≡ true = read-some c.element.result (element_of (register k (N v))) c.is_none.result (c.element.ensures k s) c.is_none.ensures c.if-is_none.false in
+    let there : is_some (element_of (register k (N w))) ≡ true =
+    read-some c.element-else-is_none.result (element_of (register k (N w))) c.is_none-else-is_none.result (c.element-else-is_none.ensures k s) c.is_none-else-is_none.ensures c.if-is_none-2.false in
+    let alone : parent_of o (register k (N w)) ≡ None = read-none c.parent.result (parent_of o (register k (N w))) c.is_some.result (c.parent.ensures k s) c.is_some.ensures c.if-is_some.false in
+    let free : child_of o (register k (N v)) place ≡ None = c.in-Some.ensures.found k s in (
+      appended v place w k,
+      two,
+      between-from (IsAppended o (objects_of (appended v place w k))) (register k (N v)) (register k (N w)) here there
+          (λ a b in-parent in-child. appended-reads k t.well t.document v w a b place in-parent in-child c.in-Some.ensures.within
+          (subst (λ x. child_of o x place ≡ None) in-parent free) (subst (λ x. parent_of o x ≡ None) in-child alone)),
+    )
+
+pub invariant_of-self : goal.invariant_of-self
+invariant_of-self g c =
+    let s = c.self.invariant.0 in
+    let v = c.args.parent.0 in
+    let w = c.args.child.0 in
+    let b = c.self.inside.collector in
+    let k = appended v c.in-Some.place w s.0 in
+    let t = c.write-2.ensures.shows (written w 0 (Some (N v)) s.0) (c.write.ensures.shows s.0 s.1) in
+    ((k, t), idle-after c.self.inside.heaps c.write-2.new.heaps b b s.0 k s.1 t (appended-left s.0 v c.in-Some.place w) c.self.invariant.1)
+
+pub returns-clause-tells : goal.returns-clause-tells
+returns-clause-tells g c =
+    let s = c.self.invariant.0 in
+    let t = c.write-2.ensures.shows (written c.args.child.0 0 (Some (N c.args.parent.0)) s.0) (c.write.ensures.shows s.0 s.1) in
+    tells-then c.write.new.heaps.heap c.write-2.new.heaps.heap t.runs.order.sound.well_formed c.write-2.ensures.none_came
+    (g.N.Notices.telling c.args.out.now) (g.N.Notices.telling c.write.new.out) (g.N.Notices.telling c.write-2.new.out) c.write.ensures.tells c.write-2.ensures.tells

@@ -1,0 +1,39 @@
+use Rattle.std.proofs.Common.{rules, ◌<◌, length, Option, None, refl, inl, sym, subst, arith}
+use Rattle.cc_names.specs.declared.register.Reg.TheVariants.{N}
+use Rattle.cc_model.specs.Graph.{Graph, set_register}
+use Rattle.cc_document.specs.Shown.{Shows, parts}
+use Rattle.cc_document.proofs.Assigning.{assigned-reads}
+use Rattle.cc_document.proofs.Documents.{native_register-document}
+use Rattle.cc_document.proofs.Freed.{hold_native-tells}
+use Rattle.cc_document.proofs.Idle.{idle-after}
+use Rattle.cc_document.proofs.Steps.{Shows-step}
+use Rattle.cc_document.proofs.document.Document.let_go.Goals as goal
+
+pub invariant_of-self : goal.invariant_of-self
+invariant_of-self g c =
+    let s = c.self.invariant.0 in
+    let e = c.set_native_reg.ensures in
+    let v = c.self.inside.heaps in
+    let w = c.set_native_reg.new.self in
+    let b = c.self.inside.collector in
+    let k = set_register s.0 (N c.args.variable.0) None in
+    let t = Shows-step v w b (λ h. set_register h (N c.args.variable.0) None)
+    (record { order = e.order; colours = e.colours; fresh = e.fresh; keys = e.keys; suspected = e.suspected; stands = e.stands tt }) s.0 s.1 (native_register-document s.0 s.1.document c.args.variable.0 None) in
+    ((k, t), idle-after v w b b s.0 k s.1 t (λ r. inl refl) c.self.invariant.1)
+
+pub returns-clause-assigned : goal.returns-clause-assigned
+returns-clause-assigned g c = λ k s.
+    let t = subst (λ p. Shows p k) (sym c.self.view_is) s in
+    let e = c.set_native_reg.ensures in
+    let within : c.args.variable.0 < 256 = search rules in (
+      set_register k (N c.args.variable.0) None,
+      Shows-step c.self.inside.heaps c.set_native_reg.new.self c.self.inside.collector (λ h. set_register h (N c.args.variable.0) None)
+          (record { order = e.order; colours = e.colours; fresh = e.fresh; keys = e.keys; suspected = e.suspected; stands = e.stands tt }) k t (native_register-document k t.document c.args.variable.0 None),
+      assigned-reads k c.args.variable.0 None (omega (arith, within, s.well.registers.0)),
+    )
+
+pub returns-clause-tells : goal.returns-clause-tells
+returns-clause-tells g c =
+    let e = c.set_native_reg.ensures in
+    hold_native-tells c.self.inside.heaps c.set_native_reg.new.self c.args.variable.0 None
+    (g.N.Notices.telling c.args.out.now) (g.N.Notices.telling c.set_native_reg.new.out) e.heap e.order e.told

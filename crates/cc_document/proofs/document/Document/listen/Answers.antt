@@ -1,0 +1,71 @@
+use Rattle.std.proofs.Common.{◌≡◌, ◌≤◌, true, Some, None, Err, is_some, refl, sym, ◌∙◌, ap, subst}
+use Rattle.cc_names.specs.declared.register.Reg.TheVariants.{N, S}
+use Rattle.cc_model.specs.Graph.{Graph, objects_of, register}
+use Rattle.cc_document.specs.Words.{element_of}
+use Rattle.cc_document.specs.Changes.{IsHeard}
+use Rattle.cc_document.specs.Stops.{StopsListening}
+use Rattle.cc_document.specs.Shown.{Shows, IsShown, parts, written, without, closed_over, listened}
+use Rattle.cc_document.proofs.Closures.{closed_over-reads, listened-reads, room-wrapped}
+use Rattle.cc_document.proofs.Calls.{read-some, between-from}
+use Rattle.cc_document.proofs.Freed.{tells-later}
+use Rattle.cc_document.proofs.Idle.{idle-after, listened-left}
+use Rattle.cc_document.proofs.Outcomes.{err-of}
+use Rattle.cc_document.proofs.Reached.{alike}
+use Rattle.cc_document.proofs.document.Document.listen.Goals as goal
+
+pub returns-clause-listens : goal.returns-clause-listens
+returns-clause-listens g c = λ k s.
+    let p = c.self.inside in
+    let t = subst (λ p. Shows p k) (sym c.self.view_is) s in
+    let v = c.args.to.0 in
+    let w = c.args.about.0 in
+    let a = alike p.heaps p.collector k t in
+    let h = closed_over w k in
+    let one = c.in_ok-close_over.ensures.closed k t in
+    let two = c.hand_over.ensures.shows h one in
+    let three = c.empty.ensures.shows (written v 1 (Some (S 1)) h) two in
+    let here : is_some (element_of (register k (N v))) ≡ true = read-some c.element.result (element_of (register k (N v))) c.is_none.result (c.element.ensures k s) c.is_none.ensures c.if-is_none.false in
+    let there : is_some (element_of (register k (N w))) ≡ true =
+    read-some c.element-else-is_none.result (element_of (register k (N w))) c.is_none-else-is_none.result (c.element-else-is_none.ensures k s) c.is_none-else-is_none.ensures c.if-is_none-2.false in
+    let room = room-wrapped k w t.well.registers.1 (λ full. c.in_ok-close_over.ensures.room (rw (a.limits, a.scripts_made) full)) in (
+      listened v w k,
+      three,
+      between-from (IsHeard (objects_of k) (objects_of (listened v w k))) (register k (N v)) (register k (N w)) here there
+          (λ i j in-to in-about. listened-reads k h t.well one.well one.document j (closed_over-reads k w j t.well.registers.1 in-about room) v i in-to),
+    )
+
+pub empty-requires-clause-shown : goal.empty-requires-clause-shown
+empty-requires-clause-shown g c =
+    let s = c.self.invariant.0 in
+    let h = closed_over c.args.about.0 s.0 in
+    (written c.args.to.0 1 (Some (S 1)) h, c.hand_over.ensures.shows h (c.in_ok-close_over.ensures.closed s.0 s.1))
+
+pub invariant_of-self : goal.invariant_of-self
+invariant_of-self g c =
+    let s = c.self.invariant.0 in
+    let b = c.self.inside.collector in
+    let x = c.in_err-close_over.ensures.same s.0 s.1 in
+    ((x.0, x.1), idle-after c.self.inside.heaps c.close_over.new.heaps b b s.0 x.0 s.1 x.1 x.2.scripts c.self.invariant.1)
+
+pub invariant_of-self-2 : goal.invariant_of-self-2
+invariant_of-self-2 g c =
+    let s = c.self.invariant.0 in
+    let b = c.self.inside.collector in
+    let h = closed_over c.args.about.0 s.0 in
+    let k = listened c.args.to.0 c.args.about.0 s.0 in
+    let t = c.empty.ensures.shows (written c.args.to.0 1 (Some (S 1)) h) (c.hand_over.ensures.shows h (c.in_ok-close_over.ensures.closed s.0 s.1)) in
+    ((k, t), idle-after c.self.inside.heaps c.empty.new.heaps b b s.0 k s.1 t (listened-left s.0 c.args.to.0 c.args.about.0 s.1.well.registers.1) c.self.invariant.1)
+
+pub returns-in_err-close_over-clause-same : goal.returns-in_err-close_over-clause-same
+returns-in_err-close_over-clause-same g c = err-of c.from_residual.result (λ k s.
+    let t = subst (λ p. Shows p k) (sym c.self.view_is) s in
+    let x = c.in_err-close_over.ensures.same k t in
+    (x.0, x.1, x.2.before))
+
+pub returns-clause-tells : goal.returns-clause-tells
+returns-clause-tells g c =
+    let s = c.self.invariant.0 in
+    let h = closed_over c.args.about.0 s.0 in
+    let t = c.empty.ensures.shows (written c.args.to.0 1 (Some (S 1)) h) (c.hand_over.ensures.shows h (c.in_ok-close_over.ensures.closed s.0 s.1)) in
+    tells-later c.hand_over.new.heaps.heap c.empty.new.heaps.heap t.runs.order.sound.well_formed c.empty.ensures.none_came
+    (g.N.Notices.telling c.args.out.now) (g.N.Notices.telling c.hand_over.new.out) c.hand_over.ensures.tells

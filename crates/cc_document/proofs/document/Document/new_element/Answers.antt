@@ -1,0 +1,59 @@
+use Rattle.std.proofs.Common.{rules, ◌≡◌, ◌<◌, ◌≤◌, ◌+◌, length, Ok, Err, Some, sym, ◌∙◌, ap, subst, arith}
+use Rattle.cc_names.specs.Names.{native}
+use Rattle.cc_model.specs.Graph as graph
+use Rattle.cc_model.specs.Graph.{Graph}
+use Rattle.cc_laws_heap.proofs.RepliesAlike.{objects-stand}
+use Rattle.cc_document.specs.Words.{element}
+use Rattle.cc_document.specs.Changes.{IsAssigned}
+use Rattle.cc_document.specs.Shown.{Shows, parts, made_in}
+use Rattle.cc_document.proofs.Assigning.{made-reads}
+use Rattle.cc_document.proofs.Documents.{made_in-document}
+use Rattle.cc_document.proofs.Holding.{room-for_native}
+use Rattle.cc_document.proofs.Freed.{nothing-told, make_native-tells}
+use Rattle.cc_document.specs.Told.{TellsWhatIsFreed}
+use Rattle.cc_document.proofs.Idle.{idle-after, made_in-left}
+use Rattle.cc_document.proofs.Steps.{Shows-step}
+use Rattle.cc_document.proofs.document.Document.new_element.Goals as goal
+
+pub invariant_of-self-2 : goal.invariant_of-self-2
+invariant_of-self-2 g c =
+    let s = c.self.invariant.0 in
+    let e = c.in_ok-number.ensures in
+    let v = c.self.inside.heaps in
+    let w = c.new_native.new.self in
+    let b = c.self.inside.collector in
+    let k = made_in c.args.into.0 s.0 in
+    let t = Shows-step v w b (made_in c.args.into.0)
+    (record { order = e.order; colours = e.colours; fresh = e.fresh; keys = e.keys; suspected = e.suspected; stands = e.stands }) s.0 s.1 (made_in-document s.0 s.1.document c.args.into.0) in
+    ((k, t), idle-after v w b b s.0 k s.1 t (made_in-left s.0 c.args.into.0) c.self.invariant.1)
+
+pub returns-clause-made : goal.returns-clause-made
+returns-clause-made g c = λ k s.
+    let v = c.self.inside.heaps in
+    let r = c.args.into.0 in
+    let t = subst (λ p. Shows p k) (sym c.self.view_is) s in
+    let e = c.in_ok-number.ensures in
+    let within : r < 256 = search rules in
+    let a = objects-stand v.heap k t.stands in
+    let room : ¬ ((graph.objects_of k).limits.natives ≤ (graph.objects_of k).natives_made) = λ h.
+    let full = c.new_native.ensures.full_always (rw (a.limits, a.natives_made) h) in
+    let made = c.in_ok-number.was in
+    cc in
+    let named : native c.in-Native.number.0 ≡ native (v.heap.natives_made + 1) = sym c.in-Native.is ∙ e.name in
+    let numbered : element c.in-Native.number.0 ≡ element (length k.natives + 1) = ap (λ x. Some x) named ∙ ap (λ n. element (n + 1)) a.natives_made in (
+      made_in r k,
+      Shows-step v c.new_native.new.self c.self.inside.collector (made_in r)
+          (record { order = e.order; colours = e.colours; fresh = e.fresh; keys = e.keys; suspected = e.suspected; stands = e.stands }) k t (made_in-document k t.document r),
+      subst (IsAssigned (graph.objects_of k) (graph.objects_of (made_in r k)) r) (sym numbered) (made-reads k r (omega (arith, within, t.well.registers.0)) (room-for_native (graph.objects_of k) r room)),
+    )
+
+pub returns-in_err-number-clause-tells : goal.returns-in_err-number-clause-tells
+returns-in_err-number-clause-tells g c =
+    subst (TellsWhatIsFreed c.new_native.new.self.heap (g.N.Notices.telling c.args.out.now)) (sym c.in_err-number.ensures.silent)
+    (nothing-told c.new_native.new.self.heap (g.N.Notices.telling c.args.out.now))
+
+pub returns-clause-tells : goal.returns-clause-tells
+returns-clause-tells g c =
+    let e = c.in_ok-number.ensures in
+    make_native-tells c.self.inside.heaps.heap c.new_native.new.self.heap c.args.into.0 10
+    (g.N.Notices.telling c.args.out.now) (g.N.Notices.telling c.new_native.new.out) e.heap e.order.sound.well_formed e.told

@@ -1,0 +1,115 @@
+use Rattle.std.proofs.Common.{◌≡◌, ◌≤◌, true, Some, None, Err, is_some, refl, sym, ◌∙◌, ap, subst}
+use Rattle.cc_names.specs.declared.register.Reg.TheVariants.{N, S}
+use Rattle.cc_model.specs.Graph.{Graph, objects_of, register}
+use Rattle.cc_model.specs.Heap as heap
+use Rattle.cc_document.specs.Words.{element_of}
+use Rattle.cc_document.specs.Changes.{IsAsBefore, HasData}
+use Rattle.cc_document.specs.Stops.{StopsListening}
+use Rattle.cc_document.specs.Shown.{Shows, IsShown, parts, without, closed_over, entered, with_data}
+use Rattle.cc_document.proofs.Assigning.{as_before-then}
+use Rattle.cc_document.proofs.Closures.{closed_over-reads, closed_over-before, with_data-reads, room-wrapped, without-before}
+use Rattle.cc_document.proofs.Calls.{read-some, between-from, element-found, stops-entering}
+use Rattle.cc_document.proofs.Idle.{idle-after, with_data-left, left-closed}
+use Rattle.cc_document.proofs.Outcomes.{err-of, stopped-alike}
+use Rattle.cc_document.proofs.Reached.{alike}
+use Rattle.cc_document.proofs.document.Document.put_data.Goals as goal
+
+pub returns-clause-has : goal.returns-clause-has
+returns-clause-has c = λ k s.
+    let p = c.self.inside in
+    let t = subst (λ p. Shows p k) (sym c.self.view_is) s in
+    let v = c.args.of.0 in
+    let w = c.args.about.0 in
+    let a = alike p.heaps p.collector k t in
+    let h = closed_over w k in
+    let one = c.in_ok-close_over.ensures.closed k t in
+    let two = c.in_default.ensures.entered h one in
+    let three = c.empty-2.ensures.shows (entered v h) two in
+    let here : is_some (element_of (register k (N v))) ≡ true = read-some c.element.result (element_of (register k (N v))) c.is_none.result (c.element.ensures k s) c.is_none.ensures c.if-is_none.false in
+    let there : is_some (element_of (register k (N w))) ≡ true =
+    read-some c.element-else-is_none.result (element_of (register k (N w))) c.is_none-else-is_none.result (c.element-else-is_none.ensures k s) c.is_none-else-is_none.ensures c.if-is_none-2.false in
+    let room = room-wrapped k w t.well.registers.1 (λ full. c.in_ok-close_over.ensures.room (rw (a.limits, a.scripts_made) full)) in (
+      with_data v w k,
+      three,
+      between-from (HasData (objects_of k) (objects_of (with_data v w k))) (register k (N v)) (register k (N w)) here there
+          (λ i j in-of in-about. with_data-reads k h t.well one.well one.document j (closed_over-reads k w j t.well.registers.1 in-about room) v i in-of t.document),
+    )
+
+pub empty-requires-clause-shown : goal.empty-requires-clause-shown
+empty-requires-clause-shown c =
+    let s = c.self.invariant.0 in
+    let x = c.in-Err.ensures.same (closed_over c.args.about.0 s.0) (c.in_ok-close_over.ensures.closed s.0 s.1) in
+    (x.0, x.1)
+
+pub invariant_of-self : goal.invariant_of-self
+invariant_of-self c =
+    let s = c.self.invariant.0 in
+    let b = c.self.inside.collector in
+    let x = c.in_err-close_over.ensures.same s.0 s.1 in
+    ((x.0, x.1), idle-after c.self.inside.heaps c.close_over.new.heaps b b s.0 x.0 s.1 x.1 x.2.scripts c.self.invariant.1)
+
+pub returns-in_err-close_over-clause-same : goal.returns-in_err-close_over-clause-same
+returns-in_err-close_over-clause-same c = err-of c.from_residual.result (λ k s.
+    let t = subst (λ p. Shows p k) (sym c.self.view_is) s in
+    let x = c.in_err-close_over.ensures.same k t in
+    (x.0, x.1, x.2.before))
+
+pub invariant_of-self-in-Err : goal.invariant_of-self-in-Err
+invariant_of-self-in-Err c =
+    let s = c.self.invariant.0 in
+    let b = c.self.inside.collector in
+    let x = c.in-Err.ensures.same (closed_over c.args.about.0 s.0) (c.in_ok-close_over.ensures.closed s.0 s.1) in
+    let t = c.empty.ensures.shows x.0 x.1 in
+    ((without 1 x.0, t), idle-after c.self.inside.heaps c.empty.new.heaps b b s.0 (without 1 x.0) s.1 t (left-closed s.0 x.0 c.args.about.0 s.1.well.registers.1 x.2.scripts) c.self.invariant.1)
+
+pub returns-in-Err-clause-stops : goal.returns-in-Err-clause-stops
+returns-in-Err-clause-stops c = λ e is k s.
+    let p = c.self.inside in
+    let t = subst (λ p. Shows p k) (sym c.self.view_is) s in
+    let v = c.args.of.0 in
+    let w = c.args.about.0 in
+    let a = alike p.heaps p.collector k t in
+    let h = closed_over w k in
+    let one = c.in_ok-close_over.ensures.closed k t in
+    let there = read-some c.element-else-is_none.result (element_of (register k (N w))) c.is_none-else-is_none.result (c.element-else-is_none.ensures k s) c.is_none-else-is_none.ensures c.if-is_none-2.false in
+    let room = room-wrapped k w t.well.registers.1 (λ full. c.in_ok-close_over.ensures.room (rw (a.limits, a.scripts_made) full)) in
+    let b = element-found (register k (N w)) there in
+    let closed = closed_over-reads k w b.0 t.well.registers.1 b.1 room in
+    let q = c.close_over.new.heaps in
+    let same = (alike q p.collector h one).register (N v) ∙ closed.variables v in
+    stopped-alike (StopsListening (objects_of k) v w) (Err c.in-Err.stop) c.in-Err.stop refl
+    (stops-entering (objects_of k) (heap.objects_of q.heap) v w c.in-Err.stop (λ n. ap element_of (sym same) ∙ n) (c.enter.ensures.stops c.in-Err.stop c.in-Err.is)) e is
+
+pub returns-in-Err-clause-same : goal.returns-in-Err-clause-same
+returns-in-Err-clause-same c = λ k s.
+    let p = c.self.inside in
+    let t = subst (λ p. Shows p k) (sym c.self.view_is) s in
+    let w = c.args.about.0 in
+    let a = alike p.heaps p.collector k t in
+    let h = closed_over w k in
+    let one = c.in_ok-close_over.ensures.closed k t in
+    let x = c.in-Err.ensures.same h one in
+    let there = read-some c.element-else-is_none.result (element_of (register k (N w))) c.is_none-else-is_none.result (c.element-else-is_none.ensures k s) c.is_none-else-is_none.ensures c.if-is_none-2.false in
+    let room = room-wrapped k w t.well.registers.1 (λ full. c.in_ok-close_over.ensures.room (rw (a.limits, a.scripts_made) full)) in
+    let b = element-found (register k (N w)) there in
+    let closed = closed_over-reads k w b.0 t.well.registers.1 b.1 room in (
+      without 1 x.0,
+      c.empty.ensures.shows x.0 x.1,
+      as_before-then k h (without 1 x.0) (closed_over-before k h b.0 t.well closed) (as_before-then h x.0 (without 1 x.0) x.2.before (without-before x.0)),
+    )
+
+pub empty-requires-2-clause-shown : goal.empty-requires-2-clause-shown
+empty-requires-2-clause-shown c =
+    let s = c.self.invariant.0 in
+    let h = closed_over c.args.about.0 s.0 in
+    (entered c.args.of.0 h, c.in_default.ensures.entered h (c.in_ok-close_over.ensures.closed s.0 s.1))
+
+pub invariant_of-self-2 : goal.invariant_of-self-2
+invariant_of-self-2 c =
+    let s = c.self.invariant.0 in
+    let b = c.self.inside.collector in
+    let h = closed_over c.args.about.0 s.0 in
+    let one = c.in_ok-close_over.ensures.closed s.0 s.1 in
+    let k = with_data c.args.of.0 c.args.about.0 s.0 in
+    let t = c.empty-2.ensures.shows (entered c.args.of.0 h) (c.in_default.ensures.entered h one) in
+    ((k, t), idle-after c.self.inside.heaps c.empty-2.new.heaps b b s.0 k s.1 t (with_data-left s.0 c.args.of.0 c.args.about.0 s.1.well.registers.1 one.well.registers.1) c.self.invariant.1)

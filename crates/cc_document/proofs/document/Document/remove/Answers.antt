@@ -1,0 +1,57 @@
+use Rattle.std.proofs.Common.{◌≡◌, ◌<◌, true, Err, Some, None, refl, is_some, sym, ◌∙◌, ap, subst}
+use Rattle.cc_names.specs.declared.register.Reg.TheVariants.{N}
+use Rattle.cc_model.specs.Graph.{Graph, objects_of, register}
+use Rattle.cc_document.specs.Words.{element, element_of, child_of}
+use Rattle.cc_document.specs.Changes.{Between, IsRemoved}
+use Rattle.cc_document.specs.Shown.{Shows, parts, written, removed}
+use Rattle.cc_document.proofs.Appending.{removed-reads}
+use Rattle.cc_document.proofs.Calls.{read-some, between-from}
+use Rattle.cc_document.specs.declared.error.DocumentError.TheVariants.{NoChild}
+use Rattle.cc_document.specs.Stops.{StopsRemoving}
+use Rattle.cc_document.proofs.Outcomes.{stopped-alike}
+use Rattle.cc_document.proofs.Freed.{tells-then}
+use Rattle.cc_document.proofs.Idle.{idle-after, removed-left}
+use Rattle.cc_document.proofs.document.Document.remove.Goals as goal
+
+pub returns-clause-removed : goal.returns-clause-removed
+returns-clause-removed g c = λ k s.
+    let t = subst (λ p. Shows p k) (sym c.self.view_is) s in
+    let v = c.args.parent.0 in
+    let w = c.args.child.0 in
+    let o = objects_of k in
+    let place = c.in-Some.place in
+    let one = c.write.ensures.shows k t in
+    let two = c.write-2.ensures.shows (written w 0 None k) one in
+    let here : is_some (element_of (register k (N v))) ≡ true = read-some c.element.result (element_of (register k (N v))) c.is_none.result (c.element.ensures k s) c.is_none.ensures c.if-is_none.false in
+    let there : is_some (element_of (register k (N w))) ≡ true =
+    read-some c.element-removed.result (element_of (register k (N w))) c.is_none-else-is_none.result (c.element-removed.ensures k s) c.is_none-else-is_none.ensures c.if-is_none-2.false in
+    let was : child_of o (register k (N v)) place ≡ element_of (register k (N w)) = c.in-Some.ensures.found k s ∙ c.element-removed.ensures k s in (
+      removed v place w k,
+      two,
+      between-from (IsRemoved o (objects_of (removed v place w k))) (register k (N v)) (register k (N w)) here there
+          (λ a b in-parent in-child. removed-reads k t.well t.document v w a b place in-parent in-child c.in-Some.ensures.within
+          (subst (λ x. child_of o x place ≡ element_of (register k (N w))) in-parent was ∙ ap element_of in-child)),
+    )
+
+pub returns-in_default-clause-stops : goal.returns-in_default-clause-stops
+returns-in_default-clause-stops g c = λ e is k s.
+    let o = objects_of k in
+    stopped-alike (StopsRemoving o c.args.parent.0 c.args.child.0) (Err NoChild) NoChild refl
+    (λ place within t. c.place.ensures.none c.in_default.is k s place within (t ∙ sym (c.element-removed.ensures k s))) e is
+
+pub invariant_of-self : goal.invariant_of-self
+invariant_of-self g c =
+    let s = c.self.invariant.0 in
+    let v = c.args.parent.0 in
+    let w = c.args.child.0 in
+    let b = c.self.inside.collector in
+    let k = removed v c.in-Some.place w s.0 in
+    let t = c.write-2.ensures.shows (written w 0 None s.0) (c.write.ensures.shows s.0 s.1) in
+    ((k, t), idle-after c.self.inside.heaps c.write-2.new.heaps b b s.0 k s.1 t (removed-left s.0 v c.in-Some.place w) c.self.invariant.1)
+
+pub returns-clause-tells : goal.returns-clause-tells
+returns-clause-tells g c =
+    let s = c.self.invariant.0 in
+    let t = c.write-2.ensures.shows (written c.args.child.0 0 None s.0) (c.write.ensures.shows s.0 s.1) in
+    tells-then c.write.new.heaps.heap c.write-2.new.heaps.heap t.runs.order.sound.well_formed c.write-2.ensures.none_came
+    (g.N.Notices.telling c.args.out.now) (g.N.Notices.telling c.write.new.out) (g.N.Notices.telling c.write-2.new.out) c.write.ensures.tells c.write-2.ensures.tells

@@ -1,0 +1,40 @@
+use Rattle.std.proofs.Common.{◌≡◌, ◌⊎◌, sym, ap, subst, inl, inr, ⊎_elim}
+use Rattle.std.proofs.lemmas.Result.{err_from_is_err_and}
+use Rattle.cc_model.specs.Graph.{Graph, objects_of}
+use Rattle.cc_model.specs.Heap as heap
+use Rattle.cc_heaps.specs.Keyed.{Keyed}
+use Rattle.cc_document.specs.Changes.{IsAsBefore}
+use Rattle.cc_document.specs.Stops.{StopsWrapping, out_of_memory}
+use Rattle.cc_document.specs.Shown.{Shows, IsShown, ShowsAfter, HasClosure, parts, wrapping, without, entering}
+use Rattle.cc_document.proofs.Closures.{closure-wrapped, unwrapped-reads}
+use Rattle.cc_document.proofs.Idle.{unwrapped-left}
+use Rattle.cc_document.proofs.Outcomes.{either-of, stopped-by, err-of}
+use Rattle.cc_document.proofs.writing.enter.Goals as goal
+
+pub empty-requires-clause-shown : goal.empty-requires-clause-shown
+empty-requires-clause-shown c =
+    let known = c.requires.shown in
+    let h = wrapping c.args.of.0 known.0 in
+    let s = c.in_ok-wrap_into_register.ensures.wrapped known.0 known.1 in
+    let e = c.put_entry-entered.ensures in
+    ⊎_elim
+    (λ t. (entering h, t h s))
+    (λ t. subst (λ (w : Keyed). IsShown (parts w c.args.collector.now)) (sym t) (h, s))
+    (either-of c.put_entry-entered.result _ _ e.entered e.same)
+
+pub returns-in_err-entered-clause-stops : goal.returns-in_err-entered-clause-stops
+returns-in_err-entered-clause-stops c =
+    stopped-by (StopsWrapping (heap.objects_of c.args.heaps.now.heap) c.args.of.0) c.from_residual-in_err-entered.result out_of_memory c.from_residual-in_err-entered.ensures.1 tt
+
+pub returns-in_err-entered-clause-same : goal.returns-in_err-entered-clause-same
+returns-in_err-entered-clause-same c = err-of c.from_residual-in_err-entered.result (λ g s.
+    let h = wrapping c.args.of.0 g in
+    let t = c.in_ok-wrap_into_register.ensures.wrapped g s in
+    let same = c.in_err-entered.ensures.same in
+    let u = c.empty.ensures.shows h (subst (λ (w : Keyed). Shows (parts w c.args.collector.now) h) (sym same) t) in
+    (without 2 h, u, record { before = unwrapped-reads g c.args.of.0 s.well.registers.1; scripts = unwrapped-left g c.args.of.0 s.well.registers.1 }))
+
+pub returns-clause-entered : goal.returns-clause-entered
+returns-clause-entered c = λ g s.
+    let h = wrapping c.args.of.0 g in
+    c.empty.ensures.shows (entering h) (c.in_ok-entered.ensures.entered h (c.in_ok-wrap_into_register.ensures.wrapped g s))

@@ -1,0 +1,33 @@
+use Rattle.std.proofs.Common.{◌<◌, Some, sym, subst, arith}
+use Rattle.cc_names.specs.declared.register.Reg.TheVariants.{S}
+use Rattle.cc_counted.specs.declared.held.Held.TheVariants as held
+use Rattle.cc_heaps.specs.Changes.{held_name}
+use Rattle.cc_heaps.specs.Keyed.{the_number}
+use Rattle.cc_document.proofs.Freed.{stored-tells}
+use Rattle.cc_document.proofs.Holding.{script-black}
+use Rattle.cc_document.proofs.Reached.{slots-of_key}
+use Rattle.cc_document.proofs.Steps.{Shows-written}
+use Rattle.cc_document.proofs.writing.hand_over.Goals as goal
+
+pub store_native-requires-clause-within : goal.store_native-requires-clause-within
+store_native-requires-clause-within g c =
+    let s = c.requires.shown in
+    let n = c.in-Some-Some in
+    subst (λ m. 1 < m) (sym (slots-of_key c.args.heaps.now c.args.collector.now s.0 s.1 c.args.to.0 n.element n.ensures.name n.ensures.there)) (omega arith)
+
+pub returns-in-Some-Some-clause-shows : goal.returns-in-Some-Some-clause-shows
+returns-in-Some-Some-clause-shows g c = λ k s.
+    let v = c.args.heaps.now in
+    let e = c.store_native.ensures in
+    let n = c.in-Some-Some in
+    Shows-written v c.store_native.new.self c.args.collector.now c.args.to.0 1 (Some (S 1)) n.element (Some (held.Script n.closure)) n.ensures.name n.ensures.there n.ensures'.name
+    (script-black v c.args.collector.now k s 1 (Some n.closure) n.ensures'.name n.ensures'.there)
+    (record { order = e.order; colours = e.colours; fresh = e.fresh; keys = e.keys; suspected = e.suspected; stands = e.stands }) k s
+
+pub returns-in-Some-Some-clause-tells : goal.returns-in-Some-Some-clause-tells
+returns-in-Some-Some-clause-tells g c =
+    let v = c.args.heaps.now in
+    let e = c.store_native.ensures in
+    let n = c.in-Some-Some in
+    stored-tells v c.store_native.new.self (the_number v n.element.0) 1 (held_name v (Some (held.Script n.closure)))
+    (g.N.Notices.telling c.args.out.now) (g.N.Notices.telling c.store_native.new.out) e.heap e.order e.told

@@ -1,0 +1,26 @@
+use Rattle.std.proofs.Common.{◌≡◌, ◌≤◌}
+use Rattle.cc_laws_heap.proofs.RepliesAlike.{objects-stand}
+use Rattle.cc_model.specs.Graph as graph
+use Rattle.cc_document.specs.Shown.{making_closure}
+use Rattle.cc_document.proofs.Closures.{new_closure-made}
+use Rattle.cc_document.proofs.Documents.{making_closure-document}
+use Rattle.cc_document.proofs.Holding.{room-for_script}
+use Rattle.cc_document.proofs.Steps.{Shows-step}
+use Rattle.cc_document.proofs.writing.make_closure.Goals as goal
+
+pub returns-clause-made : goal.returns-clause-made
+returns-clause-made c = λ g s.
+    let e = c.in_ok-new_plain.ensures in
+    Shows-step c.args.heaps.now c.new_plain.new.self c.args.collector.now making_closure
+    (record { order = e.order; colours = e.colours; fresh = e.fresh; keys = e.keys; suspected = e.suspected; stands = e.stands }) g s (making_closure-document g s.document)
+
+pub returns-clause-has : goal.returns-clause-has
+returns-clause-has c =
+    let v = c.args.heaps.now in
+    let s = c.requires.shown in
+    let a = objects-stand v.heap s.0 s.1.stands in
+    let room : ¬ ((graph.objects_of s.0).limits.scripts ≤ (graph.objects_of s.0).scripts_made) = λ h.
+    let full = c.new_plain.ensures.full_always (rw (a.limits, a.scripts_made) h) in
+    let made = c.in_ok-new_plain.was in
+    cc in
+    (making_closure s.0, returns-clause-made c s.0 s.1, new_closure-made s.0 s.1.well.registers.1 (room-for_script (graph.objects_of s.0) room))

@@ -1,0 +1,38 @@
+use Rattle.std.proofs.Common.{◌∙◌, sym, ap, subst}
+use Rattle.cc_names.specs.declared.register.Reg.TheVariants.{N}
+use Rattle.cc_model.specs.Checks.{slot_at}
+use Rattle.cc_model.specs.Graph.{set_register}
+use Rattle.cc_model.specs.Heap.{objects_of}
+use Rattle.cc_heaps.specs.Changes.{native_name}
+use Rattle.cc_heaps.specs.Standing.{IsReached}
+use Rattle.cc_document.specs.Words.{element_of, elements}
+use Rattle.cc_document.specs.Shown.{Shows, parts}
+use Rattle.cc_document.proofs.Documents.{native_register-document}
+use Rattle.cc_document.proofs.ElementNames.{element-is_reached}
+use Rattle.cc_document.proofs.Freed.{hold_native-tells}
+use Rattle.cc_document.proofs.Reached.{slot-is_reached}
+use Rattle.cc_document.proofs.ReadAlike.{slot-alike}
+use Rattle.cc_document.proofs.Steps.{Shows-step}
+use Rattle.cc_document.proofs.writing.visit.Goals as goal
+
+pub returns-clause-shows : goal.returns-clause-shows
+returns-clause-shows g c = λ k s.
+    let v = c.args.heaps.now in
+    let w = c.set_native_reg.new.self in
+    let b = c.args.collector.now in
+    let e = c.set_native_reg.ensures in
+    let x = native_name v c.key_at-element.result in
+    let reached = subst (IsReached v.heap) (sym c.key_at-element.ensures.name)
+    (element-is_reached v.heap (slot_at (objects_of v.heap) (N c.args.of.0) c.args.i) (slot-is_reached v b k s (N c.args.of.0) c.args.i)) in
+    let same = c.key_at-element.ensures.name ∙ ap (λ y. elements (element_of y)) (slot-alike v b k s c.args.of.0 c.args.i) in
+    subst (λ y. Shows (parts w b) (set_register k (N c.args.into.0) y)) same
+    (Shows-step v w b (λ h. set_register h (N c.args.into.0) x)
+    (record { order = e.order; colours = e.colours; fresh = e.fresh; keys = e.keys; suspected = e.suspected; stands = e.stands reached })
+    k s (native_register-document k s.document c.args.into.0 x))
+
+pub returns-clause-tells : goal.returns-clause-tells
+returns-clause-tells g c =
+    let v = c.args.heaps.now in
+    let e = c.set_native_reg.ensures in
+    hold_native-tells v c.set_native_reg.new.self c.args.into.0 (native_name v c.key_at-element.result)
+    (g.N.Notices.telling c.args.out.now) (g.N.Notices.telling c.set_native_reg.new.out) e.heap e.order e.told

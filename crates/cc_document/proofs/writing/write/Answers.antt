@@ -1,0 +1,41 @@
+use Rattle.std.proofs.Common.{◌≡◌, ◌<◌, sym, ◌∙◌, ap, subst}
+use Rattle.cc_counted.specs.Counts.{held_of_native}
+use Rattle.cc_heaps.specs.Changes.{IsBlackHeld, held_name}
+use Rattle.cc_heaps.specs.Keyed.{the_number}
+use Rattle.cc_document.specs.Shown.{register_of}
+use Rattle.cc_document.proofs.Appending.{appended-reads}
+use Rattle.cc_document.proofs.Closures.{listened-reads}
+use Rattle.cc_document.proofs.ReadAlike.{data-alike}
+use Rattle.cc_document.proofs.Assigning.{made-reads}
+use Rattle.cc_document.proofs.Freed.{stored-tells, stored-none_came}
+use Rattle.cc_document.proofs.Reached.{slots-of_key}
+use Rattle.cc_document.proofs.Steps.{Shows-written, native-held, native-black}
+use Rattle.cc_document.proofs.writing.write.Goals as goal
+
+pub store_native-requires-clause-within : goal.store_native-requires-clause-within
+store_native-requires-clause-within g c =
+    let s = c.requires.shown in
+    subst (λ n. c.args.i < n) (sym (slots-of_key c.args.heaps.now c.args.collector.now s.0 s.1 c.args.of.0 c.in-Some.element c.in-Some.ensures.name c.in-Some.ensures.there)) c.requires.within
+
+pub returns-in-Some-clause-shows : goal.returns-in-Some-clause-shows
+returns-in-Some-clause-shows g c = λ k s.
+    let v = c.args.heaps.now in
+    let e = c.store_native.ensures in
+    let x = c.of_native.result in
+    let is : x ≡ held_of_native c.key_in-content.result = c.of_native.ensures in
+    Shows-written v c.store_native.new.self c.args.collector.now c.args.of.0 c.args.i (register_of c.args.from) c.in-Some.element x c.in-Some.ensures.name c.in-Some.ensures.there
+    (ap (held_name v) is ∙ (native-held v c.key_in-content.result ∙ c.key_in-content.ensures.name))
+    (subst (IsBlackHeld v) (sym is) (native-black v c.key_in-content.result))
+    (record { order = e.order; colours = e.colours; fresh = e.fresh; keys = e.keys; suspected = e.suspected; stands = e.stands }) k s
+
+pub returns-in-Some-clause-tells : goal.returns-in-Some-clause-tells
+returns-in-Some-clause-tells g c =
+    let v = c.args.heaps.now in
+    let e = c.store_native.ensures in
+    stored-tells v c.store_native.new.self (the_number v c.in-Some.element.0) c.args.i (held_name v c.of_native.result)
+    (g.N.Notices.telling c.args.out.now) (g.N.Notices.telling c.store_native.new.out) e.heap e.order e.told
+
+pub returns-in-Some-clause-none_came : goal.returns-in-Some-clause-none_came
+returns-in-Some-clause-none_came g c =
+    let v = c.args.heaps.now in
+    stored-none_came v c.store_native.new.self (the_number v c.in-Some.element.0) c.args.i (held_name v c.of_native.result) c.store_native.ensures.heap

@@ -1,0 +1,354 @@
+//! A document: its calls.
+ghost use Rattle.std.specs.Prelude.{◌≡◌, ◌≢◌, ◌+◌, ◌<◌, ◌≤◌, ℕ, None, Err, OnOk, OnErr, IfOk, IfSome, length, map, option_map, is_some};
+ghost use Rattle.cc_model.specs.declared.item.Item.TheVariants.{Listed};
+ghost use Rattle.cc_model.specs.Graph.{Graph, objects_of};
+ghost use Rattle.cc_model.specs.Run.{census_names};
+ghost use Rattle.cc_model.specs.Telling.{Tells};
+ghost use Rattle.cc_gc.specs.Sparing.{KeepsWhatIsReached};
+ghost use Rattle.cc_collector.specs.Settled.{HasWhatIsReached};
+ghost use Rattle.cc_collector.specs.Collected.{IsSliced, IsSwept, TellsWhatLeaves, progress_of};
+ghost use Rattle.cc_collector.specs.Kept.{RunsIn, machine_of};
+ghost use Rattle.cc_heaps.specs.Standing.{StillStands};
+ghost use Rattle.cc_laws_run.specs.Doomed.{IsSuspectedNow};
+ghost use Rattle.cc_document.specs.declared.error.DocumentError.{DocumentError};
+ghost use Rattle.cc_document.specs.declared.error.DocumentError.TheVariants.{Full};
+ghost use Rattle.cc_document.specs.Words.{places, in_variable, element, elements, element_of, parent_of, child_of, listener_of, data_of};
+ghost use Rattle.cc_document.specs.Changes.{Between, IsAsBefore, IsAssigned, IsAppended, IsRemoved, IsHeard, HasData};
+ghost use Rattle.cc_document.specs.Stops.{StopsBeginning, StopsMaking, StopsAppending, StopsRemoving, StopsListening};
+ghost use Rattle.cc_document.specs.Shown.{Shows, ShowsChanged, StillShows, IsIdle, empty_document};
+ghost use Rattle.cc_document.specs.Told.{TellsWhatIsFreed};
+
+use crate::error::DocumentError;
+use crate::reading::{data_of, element_at, element_in, listener_of, place_of};
+use crate::variable::{CHILDREN, CLOSURE, DATA, PARENT, SLOTS, Variable};
+use crate::writing::{close_over, empty, enter, hand_over, visit, write};
+use cc_collector::{Collector, Ended, Steps};
+use cc_heaps::Heaps;
+use cc_model::Notices;
+use cc_names::{Limits, Name, NativeNo, NoMemory};
+use std::alloc::Global;
+use std::marker::{Brand, Model};
+use std::sync::ledger::{Blank, Ledger};
+
+/// A document: the two heaps with its elements, listeners and data, and their collector.
+#[derive(Drop)]
+pub struct Document {
+    heaps: Heaps,
+    collector: Collector,
+}
+
+impl Model for Document {
+    ghost use Rattle.cc_document.specs.Shown.{Parts, IsKept, parts};
+
+    ghost Value = { Parts };
+
+    ghost view = { λ d. parts d.heaps d.collector };
+
+    ghost invariant = { λ d. IsKept (parts d.heaps d.collector) };
+}
+
+impl Document {
+    /// A document without elements. As many elements may ever be made as the limits say of natives, and as many listeners
+    /// and data as they say of script objects, less one, which is the weak map of all data.
+    ///
+    /// `Full` where the limits allow no script object, else `NoMemory`.
+    pub fn new(alloc: Global, limits: Limits) -> Result<Document, DocumentError>
+        ensures empty { IfOk result (λ d. Shows d (empty_document limits)) }
+        ensures stops { (e : DocumentError) → result ≡ Err e → StopsBeginning limits e }
+    {
+        let mut heaps = Heaps::new(alloc, limits)?;
+        heaps.new_map(DATA)?;
+        Ok(Document {
+            heaps,
+            collector: Collector::new(alloc),
+        })
+    }
+
+    /// The element that a variable holds.
+    pub fn element(&self, at: Variable) -> Option<NativeNo>
+        ensures { (g : Graph) → Shows self.now g → option_map (λ n. n.0) result ≡ element_of (in_variable (objects_of g) at.0) }
+    {
+        element_in(&self.heaps, at)
+    }
+
+    /// The parent of the element in a variable.
+    pub fn parent(&self, of: Variable) -> Option<NativeNo>
+        ensures { (g : Graph) → Shows self.now g → option_map (λ n. n.0) result ≡ parent_of (objects_of g) (in_variable (objects_of g) of.0) }
+    {
+        element_at(&self.heaps, &self.collector, of, PARENT)
+    }
+
+    /// The child at a place, 0 to 7, of the element in a variable.
+    pub fn child(&self, of: Variable, place: u8) -> Option<NativeNo>
+        requires within { place < places }
+        ensures { (g : Graph) → Shows self.now g → option_map (λ n. n.0) result ≡ child_of (objects_of g) (in_variable (objects_of g) of.0) place }
+    {
+        element_at(&self.heaps, &self.collector, of, place + CHILDREN)
+    }
+
+    /// The element of which the listener of the element in a variable speaks; none where it has no listener.
+    pub fn listener(&self, of: Variable) -> Option<NativeNo>
+        ensures { (g : Graph) → Shows self.now g → option_map (λ n. n.0) result ≡ listener_of (objects_of g) (in_variable (objects_of g) of.0) }
+    {
+        listener_of(&self.heaps, &self.collector, of)
+    }
+
+    /// The element of which the data of the element in a variable speaks; none where it has no data.
+    pub fn data(&self, of: Variable) -> Option<NativeNo>
+        ensures { (g : Graph) → Shows self.now g → option_map (λ n. n.0) result ≡ data_of (objects_of g) (in_variable (objects_of g) of.0) }
+    {
+        data_of(&self.heaps, &self.collector, of)
+    }
+
+    /// Makes an element, which a variable holds from then on: without parent, children, listener or data. Its number.
+    ///
+    /// `Full` exactly where as many elements as the limit were ever made; `NoMemory` at any other time. Neither changes
+    /// anything.
+    pub fn new_element<N: Notices>(
+        &mut self,
+        into: Variable,
+        out: &mut N,
+    ) -> Result<NativeNo, DocumentError>
+        ensures made { IfOk result (λ n. ShowsChanged self.old self.new (λ o p. IsAssigned o p into.0 (element n.0))) }
+        ensures number { IfOk result (λ n. (g : Graph) → Shows self.old g → n.0 ≡ length g.natives + 1) }
+        ensures stops { (e : DocumentError) → result ≡ Err e → (g : Graph) → Shows self.old g → StopsMaking (objects_of g) e }
+        ensures full { (g : Graph) → Shows self.old g → g.limits.natives ≤ length g.natives → result ≡ Err Full }
+        ensures same { OnErr result (self.new ≡ self.old) }
+        ensures tells { TellsWhatIsFreed self.new.heaps.heap (N.telling out.old) (N.telling out.new) }
+    {
+        match self.heaps.new_native(into.0, SLOTS, out)? {
+            Name::Native(number) => Ok(number),
+            Name::Script(_) | Name::Reflector(_) => unreachable!(),
+        }
+    }
+
+    /// The element in one variable is a child of that in another from then on, at a place that was free.
+    ///
+    /// `Empty` where a variable holds nothing, `HasParent` where the child has a parent, `NoPlace` where each place has a
+    /// child. None of them changes anything. Takes no memory.
+    pub fn append<N: Notices>(
+        &mut self,
+        parent: Variable,
+        child: Variable,
+        out: &mut N,
+    ) -> Result<(), DocumentError>
+        ensures appended { OnOk result (ShowsChanged self.old self.new (λ o p.
+            Between (IsAppended o p) (element_of (in_variable o parent.0)) (element_of (in_variable o child.0)))) }
+        ensures stops { (e : DocumentError) → result ≡ Err e → (g : Graph) → Shows self.old g → StopsAppending (objects_of g) parent.0 child.0 e }
+        ensures same { OnErr result (self.new ≡ self.old) }
+        ensures tells { TellsWhatIsFreed self.new.heaps.heap (N.telling out.old) (N.telling out.new) }
+    {
+        if self.element(parent).is_none() || self.element(child).is_none() {
+            return Err(DocumentError::Empty);
+        }
+        if self.parent(child).is_some() {
+            return Err(DocumentError::HasParent);
+        }
+        let Some(place) = self.place(parent, None) else {
+            return Err(DocumentError::NoPlace);
+        };
+        let Document { heaps, collector } = self;
+        write(heaps, collector, child, PARENT, Some(parent), out);
+        write(heaps, collector, parent, place + CHILDREN, Some(child), out);
+        Ok(())
+    }
+
+    /// The element in one variable is a child of that in another no more, and has no parent. It stays in the variable; what
+    /// no variable leads to then is for the collector.
+    ///
+    /// `Empty` where a variable holds nothing, `NoChild` where no place of the one has the other. Neither changes anything.
+    /// Takes no memory.
+    pub fn remove<N: Notices>(
+        &mut self,
+        parent: Variable,
+        child: Variable,
+        out: &mut N,
+    ) -> Result<(), DocumentError>
+        ensures removed { OnOk result (ShowsChanged self.old self.new (λ o p.
+            Between (IsRemoved o p) (element_of (in_variable o parent.0)) (element_of (in_variable o child.0)))) }
+        ensures stops { (e : DocumentError) → result ≡ Err e → (g : Graph) → Shows self.old g → StopsRemoving (objects_of g) parent.0 child.0 e }
+        ensures same { OnErr result (self.new ≡ self.old) }
+        ensures tells { TellsWhatIsFreed self.new.heaps.heap (N.telling out.old) (N.telling out.new) }
+    {
+        let removed = self.element(child);
+        if self.element(parent).is_none() || removed.is_none() {
+            return Err(DocumentError::Empty);
+        }
+        let Some(place) = self.place(parent, removed) else {
+            return Err(DocumentError::NoChild);
+        };
+        let Document { heaps, collector } = self;
+        write(heaps, collector, child, PARENT, None, out);
+        write(heaps, collector, parent, place + CHILDREN, None, out);
+        Ok(())
+    }
+
+    /// The element in one variable has a new listener from then on, which closes over the element in another: it holds the
+    /// reflector of that.
+    ///
+    /// `Empty` where a variable holds nothing, `Full` where as many listeners and data as the limit were ever made,
+    /// `NoMemory` at any other time. The document is as it was then.
+    pub fn listen<N: Notices>(
+        &mut self,
+        to: Variable,
+        about: Variable,
+        out: &mut N,
+    ) -> Result<(), DocumentError>
+        ensures listens { OnOk result (ShowsChanged self.old self.new (λ o p.
+            Between (IsHeard o p) (element_of (in_variable o to.0)) (element_of (in_variable o about.0)))) }
+        ensures stops { (e : DocumentError) → result ≡ Err e → (g : Graph) → Shows self.old g → StopsListening (objects_of g) to.0 about.0 e }
+        ensures same { OnErr result (ShowsChanged self.old self.new IsAsBefore) }
+        ensures tells { TellsWhatIsFreed self.new.heaps.heap (N.telling out.old) (N.telling out.new) }
+    {
+        if self.element(to).is_none() || self.element(about).is_none() {
+            return Err(DocumentError::Empty);
+        }
+        let Document { heaps, collector } = self;
+        close_over(heaps, collector, about)?;
+        hand_over(heaps, collector, to, out);
+        empty(heaps, collector, CLOSURE);
+        Ok(())
+    }
+
+    /// The element in one variable has data from then on that speak of the element in another, in place of those that it
+    /// had. They go with the element.
+    ///
+    /// `Empty`, `Full` and `NoMemory` as at `listen`.
+    pub fn put_data(&mut self, of: Variable, about: Variable) -> Result<(), DocumentError>
+        ensures has { OnOk result (ShowsChanged self.old self.new (λ o p.
+            Between (HasData o p) (element_of (in_variable o of.0)) (element_of (in_variable o about.0)))) }
+        ensures stops { (e : DocumentError) → result ≡ Err e → (g : Graph) → Shows self.old g → StopsListening (objects_of g) of.0 about.0 e }
+        ensures same { OnErr result (ShowsChanged self.old self.new IsAsBefore) }
+    {
+        if self.element(of).is_none() || self.element(about).is_none() {
+            return Err(DocumentError::Empty);
+        }
+        let Document { heaps, collector } = self;
+        close_over(heaps, collector, about)?;
+        if let Err(stop) = enter(heaps, collector, of) {
+            empty(heaps, collector, CLOSURE);
+            return Err(stop);
+        }
+        empty(heaps, collector, CLOSURE);
+        Ok(())
+    }
+
+    /// A variable holds the child at a place, 0 to 7, of the element in another, or nothing where there is none.
+    pub fn visit_child<N: Notices>(&mut self, into: Variable, of: Variable, place: u8, out: &mut N)
+        requires within { place < places }
+        ensures assigned { ShowsChanged self.old self.new (λ o p. IsAssigned o p into.0 (elements (child_of o (in_variable o of.0) place))) }
+        ensures tells { TellsWhatIsFreed self.new.heaps.heap (N.telling out.old) (N.telling out.new) }
+    {
+        let Document { heaps, collector } = self;
+        visit(heaps, collector, into, of, place + CHILDREN, out);
+    }
+
+    /// A variable holds the parent of the element in another, or nothing where it has none.
+    pub fn visit_parent<N: Notices>(&mut self, into: Variable, of: Variable, out: &mut N)
+        ensures assigned { ShowsChanged self.old self.new (λ o p. IsAssigned o p into.0 (elements (parent_of o (in_variable o of.0)))) }
+        ensures tells { TellsWhatIsFreed self.new.heaps.heap (N.telling out.old) (N.telling out.new) }
+    {
+        let Document { heaps, collector } = self;
+        visit(heaps, collector, into, of, PARENT, out);
+    }
+
+    /// A variable holds nothing from then on.
+    pub fn let_go<N: Notices>(&mut self, variable: Variable, out: &mut N)
+        ensures assigned { ShowsChanged self.old self.new (λ o p. IsAssigned o p variable.0 None) }
+        ensures tells { TellsWhatIsFreed self.new.heaps.heap (N.telling out.old) (N.telling out.new) }
+    {
+        self.heaps.set_native_reg(variable.0, None, out);
+    }
+
+    /// Whether a collection runs.
+    pub fn is_collecting(&self) -> bool
+        ensures { result ≡ is_some self.now.running }
+    {
+        self.collector.running()
+    }
+
+    /// Traces the script objects, and frees those that nothing leads to: see `Collector::gc`. To be called now and then
+    /// where no collection runs: one that begins later takes what goes through script objects only where that was traced
+    /// since script touched it. One that runs is ended first. The document is as it was.
+    pub fn trace<N: Notices>(&mut self, out: &mut N)
+        ensures same { StillShows self.old self.new }
+        ensures keeps { KeepsWhatIsReached self.old.heaps.heap self.new.heaps.heap }
+        ensures tells { TellsWhatLeaves self.old.heaps.heap self.new.heaps.heap (N.telling out.old) (N.telling out.new) }
+        ensures swept { IsSwept (machine_of self.old.heaps.heap self.old.running) (machine_of self.new.heaps.heap self.new.running) (N.telling out.old) (N.telling out.new) }
+    {
+        self.collector.gc(&mut self.heaps, out);
+    }
+
+    /// A few units of a collection, to be called in each frame of the host: see `Collector::slice`.
+    ///
+    /// The document is as it was. `Ended::Yes` where a collection came to its end. `NoMemory`, where memory was wanted: the
+    /// collection is given up, and nothing is lost or forgotten.
+    pub fn frame<N: Notices>(&mut self, units: u32, out: &mut N) -> Result<Ended, NoMemory>
+        ensures same { StillShows self.old self.new }
+        ensures keeps { KeepsWhatIsReached self.old.heaps.heap self.new.heaps.heap }
+        ensures tells { TellsWhatLeaves self.old.heaps.heap self.new.heaps.heap (N.telling out.old) (N.telling out.new) }
+        ensures sliced { (steps : ℕ) × IsSliced units (machine_of self.old.heaps.heap self.old.running) (machine_of self.new.heaps.heap self.new.running)
+            (progress_of result) 0 steps (N.telling out.old) (N.telling out.new) }
+    {
+        let Document { heaps, collector } = self;
+        slice::<Brand, N>(heaps, collector, units, out, Blank::new(1))
+    }
+
+    /// Leaves in the heaps exactly what the variables lead to, with the weak map of all data, which is all that script
+    /// registers hold (`idle`): see `Collector::settle`.
+    ///
+    /// The document is as it was. `NoMemory`, where memory was wanted: nothing is lost or forgotten.
+    pub fn settle<N: Notices>(&mut self, out: &mut N) -> Result<(), NoMemory>
+        ensures same { StillShows self.old self.new }
+        ensures exact { OnOk result (HasWhatIsReached self.new.heaps.heap) }
+        ensures idle { IsIdle self.new.heaps }
+        ensures keeps { KeepsWhatIsReached self.old.heaps.heap self.new.heaps.heap }
+        ensures tells { TellsWhatLeaves self.old.heaps.heap self.new.heaps.heap (N.telling out.old) (N.telling out.new) }
+    {
+        self.collector.settle(&mut self.heaps, out)
+    }
+
+    /// Lists each element by rising number, then each script object in order of making, whether anything leads to them or
+    /// not. How many there are.
+    pub fn census<N: Notices>(&self, out: &mut N) -> u32
+        ensures told { Tells (N.telling out.old) (N.telling out.new) (map Listed (census_names self.now.heaps.heap)) }
+        ensures count { result ≡ length (census_names self.now.heaps.heap) }
+    {
+        self.heaps.census(out)
+    }
+
+    /// A place of the element in a variable that has this child, or none.
+    fn place(&self, parent: Variable, child: Option<NativeNo>) -> Option<u8>
+        ensures within { IfSome result (λ place. place < places) }
+        ensures found { IfSome result (λ place. (g : Graph) → Shows self.now g →
+            child_of (objects_of g) (in_variable (objects_of g) parent.0) place ≡ option_map (λ n. n.0) child) }
+        ensures none { result ≡ None → (g : Graph) → Shows self.now g → (place : ℕ) → place < places →
+            child_of (objects_of g) (in_variable (objects_of g) parent.0) place ≢ option_map (λ n. n.0) child }
+    {
+        place_of(&self.heaps, &self.collector, parent, child)
+    }
+}
+
+/// Units of a collection that nobody counts.
+fn slice<L: Ledger, N: Notices>(
+    heaps: &mut Heaps,
+    collector: &mut Collector,
+    units: u32,
+    out: &mut N,
+    blank: Blank,
+) -> Result<Ended, NoMemory>
+    requires runs { RunsIn heaps.old collector.old }
+    requires name { blank.name ≡ L.name }
+    requires parts { blank.parts ≡ L.parts }
+    requires some { 0 < L.parts }
+    ensures sliced { (steps : ℕ) × IsSliced units (machine_of heaps.old.heap collector.old) (machine_of heaps.new.heap collector.new)
+        (progress_of result) 0 steps (N.telling out.old) (N.telling out.new) }
+    ensures keeps { KeepsWhatIsReached heaps.old.heap heaps.new.heap }
+    ensures tells { TellsWhatLeaves heaps.old.heap heaps.new.heap (N.telling out.old) (N.telling out.new) }
+    ensures stands { StillStands heaps.old.heap heaps.new.heap }
+    ensures suspected { IsSuspectedNow (machine_of heaps.old.heap collector.old) → IsSuspectedNow (machine_of heaps.new.heap collector.new) }
+    ensures runs { RunsIn heaps.new collector.new }
+{
+    let mut steps = Steps::<L>::new(blank);
+    collector.slice(heaps, units, out, &mut steps)
+}
