@@ -20,7 +20,7 @@ use Rattle.cc_laws_run.proofs.Ample.{turns-ample}
 use Rattle.cc_laws_run.proofs.InARow.{OneList, one_list}
 use Rattle.cc_laws_run.proofs.PlainLawful.{run-lawful}
 use Rattle.cc_laws_run.proofs.PlainQuiet.{run-quiet}
-use Rattle.cc_laws_headline.proofs.EachTurn.{tells-of_a_graph}
+use Rattle.cc_laws_headline.proofs.EachExchange.{tells-of_a_graph}
 use Rattle.cc_model.specs.Forms.{version_one_forms}
 use Rattle.cc_reader.specs.Pending.{Pending}
 use Rattle.cc_reader.specs.Given.{AreFirst, HasGiven}
