@@ -9,6 +9,9 @@
 #![tactic(auto)]
 
 mod entry;
+mod index;
+mod lasts;
+mod links;
 mod weak_maps;
 
 pub use weak_maps::WeakMaps;
