@@ -1,17 +1,16 @@
 -- ENTRIES AND THEIR INDEX, as entries are read, added, replaced and taken out.
-use Rattle.std.proofs.Common.{◌≡◌, ℕ, ◌+◌, ◌<◌, ◌≤◌, ◌==◌, zero, suc, Bool, true, false, ◌||◌, List, [], ◌∷◌, ◌++◌, length, get_or, take, drop, Option, Some, None, refl, sym, ◌∙◌, ap, subst, arith, inl, inr, ⊎_elim}
+use Rattle.std.proofs.Common.{◌≡◌, ℕ, ◌+◌, ◌<◌, ◌≤◌, ◌==◌, zero, suc, Bool, true, false, ◌||◌, List, [], ◌∷◌, ◌++◌, length, get_or, take, Option, Some, None, refl, sym, ◌∙◌, ap, subst, arith, inl, inr, ⊎_elim}
 use Rattle.std.specs.Prelude.{remove, IfNone}
 use Rattle.std.specs.List.{items_where_true}
 use Rattle.std.proofs.Math.ListN.{set}
 use Rattle.std.proofs.lemmas.Bool.{eqb-true}
 use Rattle.std.proofs.lemmas.Bool.Decides.{eqb_tells}
 use Rattle.std.proofs.lemmas.List.{length_push, length-set, get_or_append_left, get_or-take, get_or-set_same, get_or-set_other}
-use Rattle.std.proofs.lemmas.List.Edits.{length-remove}
 use Rattle.cc_lists.specs.Members.{Among}
 use Rattle.cc_lists.proofs.Members.{Among-append}
 use Rattle.cc_names.specs.declared.number.SKey.{SKey}
-use Rattle.cc_weakmaps.specs.Entries.{KeyedEntry, HasOneEach, entry, has_value_in, is_entry_of, with_entry}
-use Rattle.cc_weakmaps.specs.Index.{has_object, is_known, last_kept, place_below, AreKnown, IsIndexed, IsKept, IsPlaceOf}
+use Rattle.cc_weakmaps.specs.Entries.{KeyedEntry, HasOneEach, entry, has_value_in, is_entry_of}
+use Rattle.cc_weakmaps.specs.Index.{is_known, last_kept, place_below, AreKnown, IsIndexed, IsKept, IsPlaceOf}
 use Rattle.cc_weakmaps.specs.Living.{AreLiving}
 use Rattle.cc_weakmaps.specs.Places.{StandsAt}
 use Rattle.cc_weakmaps.specs.declared.links.Links.{Links}
@@ -19,7 +18,6 @@ use Rattle.cc_weakmaps.proofs.Below.{place-has, place-within}
 use Rattle.cc_weakmaps.proofs.Indexed.{indexed-alike, indexed-known}
 use Rattle.cc_weakmaps.proofs.OneEach.{HasOneEach-set, same-map}
 use Rattle.cc_weakmaps.proofs.Stands.{absent-set, stands-set, stands-within}
-use Rattle.cc_weakmaps.proofs.Staying.{HasOneEach-living}
 
 pub if_none-always : {X : Type 0} (o : Option X) (P : Type 0) → P → IfNone o P
 if_none-always None P h = h
@@ -54,13 +52,14 @@ kept-set es links kept m k v place s h = record {
   indexed = subst (IsIndexed (set es place (entry m k v)) links kept) (sym (length-set es place (entry m k v)))
       (indexed-alike es (set es place (entry m k v)) links links kept kept (length es) (omega arith) (omega (arith, length-set es place (entry m k v)))
       (λ j d l. ⊎_elim
-          (λ t. let same : j ≡ place = t.1 in
-          let both = same-map m k (get_or es place d) (at es place s d) in
-          subst (λ z. ((get_or (set es place (entry m k v)) z d).the_map ≡ (get_or es z d).the_map) × ((get_or (set es place (entry m k v)) z d).key ≡ (get_or es z d).key)) (sym same)
-          (ap (λ x. x.the_map) (get_or-set_same es place (entry m k v) d (stands-within es m k place s)) ∙ sym both.0,
-          ap (λ x. x.key) (get_or-set_same es place (entry m k v) d (stands-within es m k place s)) ∙ sym both.1))
-          (λ t. (ap (λ x. x.the_map) (get_or-set_other es place j (entry m k v) d t.1), ap (λ x. x.key) (get_or-set_other es place j (entry m k v) d t.1)))
-          (eqb_tells j place))
+      (λ t. let same : j ≡ place = t.1 in
+      let both = same-map m k (get_or es place d) (at es place s d) in
+      subst (λ z. ((get_or (set es place (entry m k v)) z d).the_map ≡ (get_or es z d).the_map) × ((get_or (set es place (entry m k v)) z d).key ≡ (get_or es z d).key)) (sym same) (
+        ap (λ x. x.the_map) (get_or-set_same es place (entry m k v) d (stands-within es m k place s)) ∙ sym both.0,
+        ap (λ x. x.key) (get_or-set_same es place (entry m k v) d (stands-within es m k place s)) ∙ sym both.1,
+      ))
+      (λ t. (ap (λ x. x.the_map) (get_or-set_other es place j (entry m k v) d t.1), ap (λ x. x.key) (get_or-set_other es place j (entry m k v) d t.1)))
+      (eqb_tells j place))
       (λ j d l. refl) (λ j. refl) h.indexed);
 }
   where

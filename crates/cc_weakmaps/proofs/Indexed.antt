@@ -1,13 +1,12 @@
 -- THE INDEX, as entries are put in it and taken out, one at a time.
-use Rattle.std.proofs.Common.{◌≡◌, ℕ, ◌+◌, ◌<◌, ◌≤◌, ◌==◌, zero, suc, Bool, true, false, ◌||◌, cond, List, [], ◌∷◌, ◌++◌, length, get_or, Option, Some, None, refl, sym, ◌∙◌, ap, subst, arith, inl, inr, ◌⊎◌, ⊎_elim, option_map, if◌then◌else◌, add-one}
+use Rattle.std.proofs.Common.{◌≡◌, ℕ, ◌+◌, ◌<◌, ◌≤◌, ◌==◌, suc, Bool, true, false, ◌||◌, cond, List, [], length, get_or, Option, Some, refl, sym, ◌∙◌, ap, subst, arith, ⊎_elim, option_map, if◌then◌else◌, add-one}
 use Rattle.std.specs.Prelude.{slice_get}
 use Rattle.std.proofs.Math.ListN.{set}
-use Rattle.std.proofs.lemmas.Bool.{true≢false, eqb-true, eq-eqb}
+use Rattle.std.proofs.lemmas.Bool.{eqb-true, eq-eqb}
 use Rattle.std.proofs.lemmas.Bool.Decides.{eqb_tells}
 use Rattle.std.proofs.lemmas.List.{get_or-set_same, get_or-set_other}
 use Rattle.std.proofs.lemmas.Option.{slice_get-get_or}
 use Rattle.std.proofs.lemmas.List.Elements.{Contains-get_or}
-use Rattle.cc_lists.specs.Members.{Among}
 use Rattle.cc_lists.proofs.Members.{Among-contains}
 use Rattle.cc_weakmaps.specs.Entries.{KeyedEntry}
 use Rattle.cc_weakmaps.specs.Index.{has_object, is_known, last_kept, place_below, AreKnown, IsIndexed}
@@ -129,7 +128,7 @@ pub known-still : (es : List KeyedEntry) (kept left : List (ℕ × Option ℕ)) 
 known-still es kept left h same e m = let both = h e m in (same e.the_map ∙ both.0, same e.key ∙ both.1)
 
 module _ (es : List KeyedEntry) (links : List Links) (kept between left : List (ℕ × Option ℕ)) (i m k : ℕ) (e : KeyedEntry) (within : i < length es)
-  (map : m ≡ (get_or es i e).the_map) (key : k ≡ (get_or es i e).key) where
+    (map : m ≡ (get_or es i e).the_map) (key : k ≡ (get_or es i e).key) where
   pub put-in : (link : Links) → i < length links → link.by_map ≡ last_kept kept m → link.by_key ≡ last_kept kept k →
       ((j : ℕ) → last_kept between j ≡ (if m == j then Some i else last_kept kept j)) →
       ((j : ℕ) → last_kept left j ≡ (if k == j then Some i else last_kept between j)) →

@@ -1,6 +1,6 @@
 -- The last places that are kept, as one changes.
 use Rattle.std.proofs.Common.{◌≡◌, ℕ, ◌==◌, Bool, true, false, cond, List, refl, sym, ◌∙◌, ap, subst, Option, Some, None, if◌then◌else◌}
-use Rattle.std.specs.Prelude.{is_some, filter, IsSome}
+use Rattle.std.specs.Prelude.{is_some, filter}
 use Rattle.std.specs.Map.{lookup, keys_of}
 use Rattle.std.specs.Cmp.{eq_by_cmp_equiv, unsigned_ties, nat_cmp_total}
 use Rattle.std.specs.Ordering.{is_eq, nat_cmp}

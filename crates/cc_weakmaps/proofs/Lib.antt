@@ -7,3 +7,4 @@ pub mod Below
 pub mod Indexed
 pub mod Sought
 pub mod Changes
+pub mod Looked

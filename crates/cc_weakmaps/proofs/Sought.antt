@@ -1,5 +1,5 @@
 -- The entry of a map and a key is looked for on both chains at once.
-use Rattle.std.proofs.Common.{◌≡◌, ℕ, ◌+◌, ◌==◌, ◌<◌, ◌≤◌, zero, suc, Bool, true, false, List, [], ◌∷◌, ◌++◌, length, get_or, take, drop, count_by, Option, Some, None, refl, sym, ◌∙◌, ap, subst, arith, cond, not, inl, inr, ◌⊎◌, ⊎_elim, is_some}
+use Rattle.std.proofs.Common.{◌≡◌, ℕ, ◌+◌, ◌<◌, ◌≤◌, zero, suc, Bool, true, false, List, [], ◌∷◌, length, get_or, count_by, Option, Some, None, refl, sym, ◌∙◌, ap, subst, arith, not, ⊎_elim, is_some}
 use Rattle.std.specs.Prelude.{filter, remove, nat_lt, IfSome}
 use Rattle.std.proofs.lemmas.Bool.{true≢false, cases_Bool, ltb-true, ltb-false}
 use Rattle.std.proofs.lemmas.Bool.Decides.{eqb_tells}

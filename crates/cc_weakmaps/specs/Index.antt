@@ -1,5 +1,5 @@
 -- WHERE THE ENTRIES OF AN OBJECT STAND: the places, counted from 0, of the entries that have it for their map or their key.
-use Rattle.std.specs.Prelude.{◌≡◌, ℕ, zero, suc, ◌<◌, ◌≤◌, ◌==◌, Bool, true, false, ◌||◌, List, length, get_or, slice_get, Option, Some, None, option_map, is_some}
+use Rattle.std.specs.Prelude.{◌≡◌, ℕ, zero, suc, ◌<◌, ◌==◌, Bool, true, false, ◌||◌, List, length, get_or, slice_get, Option, Some, None, option_map, is_some}
 use Rattle.std.specs.Map.{lookup}
 use Rattle.std.specs.Ordering.{is_eq, nat_cmp}
 use Rattle.cc_lists.specs.Members.{Among}

@@ -45,7 +45,12 @@ pub(crate) fn take_out(lasts: &mut Lasts, links: &[Links], entries: &[Entry], pl
 }
 
 /// Puts the entries from a place on into the index, which has those before it. Takes no memory.
-pub(crate) fn put_in_from(lasts: &mut Lasts, links: &mut Vec<Links>, entries: &[Entry], start: usize)
+pub(crate) fn put_in_from(
+    lasts: &mut Lasts,
+    links: &mut Vec<Links>,
+    entries: &[Entry],
+    start: usize,
+)
     requires within { start ≤ length entries.now }
     requires room { length entries.now ≤ length links.old.items }
     requires known { AreKnown entries.now lasts.old }

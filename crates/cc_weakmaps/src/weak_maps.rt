@@ -155,7 +155,12 @@ impl WeakMaps {
         ensures entries { AreLiving (F.post alive) self.old self.new }
         ensures at_most_one { HasOneEach self.new }
     {
-        take_out_from(&mut self.lasts, self.links.as_slice(), self.entries.as_slice(), 0);
+        take_out_from(
+            &mut self.lasts,
+            self.links.as_slice(),
+            self.entries.as_slice(),
+            0,
+        );
         keep_living(&mut self.entries, &alive);
         put_in_from(&mut self.lasts, &mut self.links, self.entries.as_slice(), 0);
         self.links.truncate(self.entries.len());
@@ -201,7 +206,12 @@ impl WeakMaps {
             by_map: None,
             by_key: None,
         });
-        put_in(&mut self.lasts, &mut self.links, self.entries.as_slice(), place);
+        put_in(
+            &mut self.lasts,
+            &mut self.links,
+            self.entries.as_slice(),
+            place,
+        );
         Ok(())
     }
 
@@ -211,9 +221,19 @@ impl WeakMaps {
         ensures entries { self.new ≡ remove self.old place }
         ensures at_most_one { HasOneEach self.new }
     {
-        take_out_from(&mut self.lasts, self.links.as_slice(), self.entries.as_slice(), place);
+        take_out_from(
+            &mut self.lasts,
+            self.links.as_slice(),
+            self.entries.as_slice(),
+            place,
+        );
         self.entries.remove(place);
-        put_in_from(&mut self.lasts, &mut self.links, self.entries.as_slice(), place);
+        put_in_from(
+            &mut self.lasts,
+            &mut self.links,
+            self.entries.as_slice(),
+            place,
+        );
         self.links.truncate(self.entries.len());
     }
 }

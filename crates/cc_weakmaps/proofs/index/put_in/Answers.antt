@@ -1,5 +1,4 @@
-use Rattle.std.proofs.Common.{◌≡◌, ◌<◌, ◌∙◌, ap, sym, arith, length, get_or, true}
-use Rattle.cc_weakmaps.specs.Index.{is_known}
+use Rattle.std.proofs.Common.{◌∙◌, ap, arith}
 use Rattle.cc_weakmaps.proofs.Indexed.{known-at, put-in}
 use Rattle.cc_weakmaps.proofs.index.put_in.Goals as goal
 
@@ -8,7 +7,7 @@ keep-requires c =
     let here = c.entry.view_is ∙ c.index-entries-place.is in
     record {
       known = (known-at c.args.entries.now c.args.lasts.now c.args.place c.entry.inside.the_map.0 c.entry.inside.key.0 c.index-entries-place.result
-      c.requires.known c.requires.within (ap (λ e. e.the_map) here) (ap (λ e. e.key) here)).0;
+          c.requires.known c.requires.within (ap (λ e. e.the_map) here) (ap (λ e. e.key) here)).0;
     }
 
 pub keep-requires-2 : goal.keep-requires-2
@@ -16,8 +15,8 @@ keep-requires-2 c =
     let here = c.entry.view_is ∙ c.index-entries-place.is in
     record {
       known = c.keep.ensures.known c.entry.inside.key.0
-      ∙ (known-at c.args.entries.now c.args.lasts.now c.args.place c.entry.inside.the_map.0 c.entry.inside.key.0 c.index-entries-place.result
-      c.requires.known c.requires.within (ap (λ e. e.the_map) here) (ap (λ e. e.key) here)).1;
+          ∙ (known-at c.args.entries.now c.args.lasts.now c.args.place c.entry.inside.the_map.0 c.entry.inside.key.0 c.index-entries-place.result
+          c.requires.known c.requires.within (ap (λ e. e.the_map) here) (ap (λ e. e.key) here)).1;
     }
 
 pub returns-clause-indexed : goal.returns-clause-indexed

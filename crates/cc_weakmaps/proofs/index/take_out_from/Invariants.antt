@@ -1,4 +1,4 @@
-use Rattle.std.proofs.Common.{◌≡◌, ◌≤◌, length}
+use Rattle.std.proofs.Common.{◌≤◌, length}
 use Rattle.cc_weakmaps.specs.Index.{AreKnown, IsIndexed}
 use Rattle.cc_weakmaps.proofs.index.take_out_from.Given as goal
 

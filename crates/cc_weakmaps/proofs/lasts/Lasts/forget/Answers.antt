@@ -1,5 +1,4 @@
-use Rattle.std.proofs.Common.{◌≡◌, ◌∙◌, ℕ, ap, sym, false, not, None}
-use Rattle.std.specs.Prelude.{is_some}
+use Rattle.std.proofs.Common.{◌≡◌, ◌∙◌, ap, sym, not, None}
 use Rattle.cc_weakmaps.specs.Index.{last_kept}
 use Rattle.cc_weakmaps.proofs.Kept.{none-left, last-stays}
 use Rattle.cc_weakmaps.proofs.lasts.Lasts.forget.Goals as goal

@@ -1,6 +1,6 @@
-use Rattle.std.proofs.Common.{rules, ◌≡◌, ℕ, ◌==◌, true, None, Some, sym, ◌∙◌, ap, subst, refl}
+use Rattle.std.proofs.Common.{rules, ◌∙◌, ap}
 use Rattle.std.proofs.lemmas.Map.Entries.{filter_from_retain_pairs}
-use Rattle.cc_weakmaps.specs.Index.{is_known, last_kept}
+use Rattle.cc_weakmaps.specs.Index.{last_kept}
 use Rattle.cc_weakmaps.proofs.Kept.{last-filtered}
 use Rattle.cc_weakmaps.proofs.lasts.Lasts.forget_all.Goals as goal
 

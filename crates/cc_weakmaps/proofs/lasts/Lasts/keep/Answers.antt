@@ -1,7 +1,7 @@
-use Rattle.std.proofs.Common.{rules, ◌≡◌, ℕ, ◌==◌, true, false, None, Some, sym, ◌∙◌, ap, subst, if◌then◌else◌, true≢false}
-use Rattle.std.specs.Prelude.{is_some, IsSome}
+use Rattle.std.proofs.Common.{rules, ◌==◌, Some, sym, ◌∙◌, ap, if◌then◌else◌, true≢false}
+use Rattle.std.specs.Prelude.{is_some}
 use Rattle.cc_weakmaps.specs.Index.{is_known, last_kept}
-use Rattle.cc_weakmaps.proofs.Kept.{kept_of, last-put, unknown-put}
+use Rattle.cc_weakmaps.proofs.Kept.{last-put, unknown-put}
 use Rattle.cc_weakmaps.proofs.lasts.Lasts.keep.Goals as goal
 use Rattle.cc_weakmaps.proofs.lasts.Lasts.keep.Goals.{in-Some, in_default}
 

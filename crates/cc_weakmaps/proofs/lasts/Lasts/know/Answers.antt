@@ -1,5 +1,4 @@
-use Rattle.std.proofs.Common.{rules, ◌≡◌, ℕ, ◌==◌, true, false, None, Some, sym, ◌∙◌, ap, subst}
-use Rattle.std.specs.Prelude.{is_some}
+use Rattle.std.proofs.Common.{None, Some, sym, ◌∙◌, ap}
 use Rattle.cc_weakmaps.specs.Index.{is_known, last_kept}
 use Rattle.cc_weakmaps.proofs.Kept.{last-known, last-stays, known-put}
 use Rattle.cc_weakmaps.proofs.lasts.Lasts.know.Goals as goal

@@ -1,8 +1,8 @@
-use Rattle.std.proofs.Common.{◌≡◌, ◌∙◌, ◌+◌, ◌++◌, ◌∷◌, [], ap, subst, sym, arith, length, false, true, None, List, ℕ}
-use Rattle.cc_weakmaps.specs.Entries.{KeyedEntry, HasOneEach, has_value_in}
-use Rattle.cc_weakmaps.specs.Index.{is_known, last_kept, AreKnown, IsIndexed, IsKept}
+use Rattle.std.proofs.Common.{◌≡◌, ◌∙◌, ◌+◌, ◌++◌, ◌∷◌, [], ap, subst, sym, arith, length, false, None, List}
+use Rattle.cc_weakmaps.specs.Entries.{KeyedEntry, has_value_in}
+use Rattle.cc_weakmaps.specs.Index.{is_known, AreKnown, IsIndexed, IsKept}
 use Rattle.cc_weakmaps.specs.declared.links.Links.{Links}
-use Rattle.cc_weakmaps.proofs.Changes.{added-known, added-indexed, added-kept, kept-same}
+use Rattle.cc_weakmaps.proofs.Changes.{added-known, added-indexed, added-kept}
 use Rattle.cc_weakmaps.proofs.weak_maps.WeakMaps.add.Goals as goal
 
 abbrev link : Links

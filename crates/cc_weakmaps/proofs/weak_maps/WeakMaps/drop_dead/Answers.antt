@@ -1,6 +1,5 @@
-use Rattle.std.proofs.Common.{◌≡◌, ◌<◌, ◌≤◌, ◌∙◌, ap, subst, sym, arith, length, take, List, refl, ℕ}
-use Rattle.std.specs.Prelude.{Option}
-use Rattle.cc_weakmaps.specs.Entries.{KeyedEntry, HasOneEach}
+use Rattle.std.proofs.Common.{◌≡◌, ◌≤◌, ap, subst, sym, arith, length, take, List}
+use Rattle.cc_weakmaps.specs.Entries.{KeyedEntry}
 use Rattle.cc_weakmaps.specs.Index.{AreKnown, IsIndexed, IsKept}
 use Rattle.cc_weakmaps.specs.declared.links.Links.{Links}
 use Rattle.cc_weakmaps.proofs.Changes.{fewer-known, fewer-kept, living-part, living-fewer}
@@ -33,7 +32,8 @@ invariant_of-self g c =
     let all : IsKept fs (take (length fs) put.links.items) left =
     fewer-kept fs put.links.items put.lasts left (HasOneEach-living (goal.F-post g c.args.alive) es fs c.keep_living.ensures c.self.invariant.at_most_one)
     (omega (arith, fewer, c.put_in_from.ensures.count, c.self.invariant.as_many)) indexed c.forget_all.ensures in
-    subst (λ (ls : List Links). IsKept fs ls left) (sym (c.truncate.ensures.items ∙ ap (λ n. take n put.links.items) len)) all
+    let cut : ◌≡◌ {A = List Links} c.truncate.new.self.items (take (length fs) put.links.items) = subst (λ n. ◌≡◌ {A = List Links} c.truncate.new.self.items (take n put.links.items)) len c.truncate.ensures.items in
+    subst (λ (ls : List Links). IsKept fs ls left) (sym cut) all
 
 pub returns-clause-at_most_one : goal.returns-clause-at_most_one
 returns-clause-at_most_one g c = (invariant_of-self g c).at_most_one

@@ -1,4 +1,4 @@
-use Rattle.std.proofs.Common.{◌≡◌, ◌<◌, ◌∙◌, ap, length}
+use Rattle.std.proofs.Common.{◌∙◌, ap, length}
 use Rattle.cc_weakmaps.specs.Index.{place_below}
 use Rattle.cc_weakmaps.proofs.Below.{below-there, below-below}
 use Rattle.cc_weakmaps.proofs.weak_maps.WeakMaps.first_with.Goals as goal

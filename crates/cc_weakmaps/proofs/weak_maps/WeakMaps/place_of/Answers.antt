@@ -1,4 +1,4 @@
-use Rattle.std.proofs.Common.{◌≡◌, ◌<◌, ◌≤◌, ◌∙◌, suc, ap, subst, sym, arith, length, false, List, Some, None, Option, ℕ}
+use Rattle.std.proofs.Common.{◌≡◌, ◌<◌, ◌∙◌, ap, subst, sym, arith, length, false, List}
 use Rattle.cc_weakmaps.specs.Entries.{KeyedEntry, has_value_in, is_entry_of}
 use Rattle.cc_weakmaps.specs.Index.{place_below, IsPlaceOf}
 use Rattle.cc_weakmaps.specs.Places.{StandsAt}

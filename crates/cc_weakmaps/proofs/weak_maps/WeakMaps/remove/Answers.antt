@@ -1,7 +1,7 @@
-use Rattle.std.proofs.Common.{◌≡◌, ◌<◌, ◌≤◌, ◌∙◌, ◌+◌, ap, subst, sym, arith, length, take, List, refl, ℕ}
-use Rattle.std.specs.Prelude.{remove, Option}
+use Rattle.std.proofs.Common.{◌≡◌, ◌<◌, ◌∙◌, ◌+◌, ap, subst, sym, arith, length, take, List, refl}
+use Rattle.std.specs.Prelude.{remove}
 use Rattle.std.proofs.lemmas.List.Edits.{length-remove}
-use Rattle.cc_weakmaps.specs.Entries.{KeyedEntry, HasOneEach}
+use Rattle.cc_weakmaps.specs.Entries.{KeyedEntry}
 use Rattle.cc_weakmaps.specs.Index.{AreKnown, IsIndexed, IsKept}
 use Rattle.cc_weakmaps.specs.declared.links.Links.{Links}
 use Rattle.cc_weakmaps.proofs.Changes.{fewer-known, fewer-indexed, fewer-kept, remove-part, remove-front}
@@ -40,8 +40,9 @@ invariant_of-self c =
     let all : IsKept fs (take (length fs) put.links.items) put.lasts =
     fewer-kept fs put.links.items put.lasts put.lasts (HasOneEach-remove es c.args.place c.self.invariant.at_most_one)
     (omega (arith, fewer, c.put_in_from.ensures.count, c.self.invariant.as_many)) indexed (λ k. refl) in
+    let cut : ◌≡◌ {A = List Links} c.truncate.new.self.items (take (length fs) put.links.items) = subst (λ n. ◌≡◌ {A = List Links} c.truncate.new.self.items (take n put.links.items)) len c.truncate.ensures.items in
     subst (λ (xs : List KeyedEntry). IsKept xs c.truncate.new.self.items put.lasts) (sym c.remove.ensures.items)
-    (subst (λ (ls : List Links). IsKept fs ls put.lasts) (sym (c.truncate.ensures.items ∙ ap (λ n. take n put.links.items) len)) all)
+    (subst (λ (ls : List Links). IsKept fs ls put.lasts) (sym cut) all)
 
 pub returns-clause-at_most_one : goal.returns-clause-at_most_one
 returns-clause-at_most_one c = (invariant_of-self c).at_most_one

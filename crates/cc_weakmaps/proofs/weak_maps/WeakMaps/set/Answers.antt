@@ -1,5 +1,5 @@
-use Rattle.std.proofs.Common.{◌≡◌, List, sym, subst, ◌∙◌, ap}
-use Rattle.cc_weakmaps.specs.Entries.{KeyedEntry, HasOneEach}
+use Rattle.std.proofs.Common.{List, sym, subst}
+use Rattle.cc_weakmaps.specs.Entries.{KeyedEntry}
 use Rattle.cc_weakmaps.specs.Places.{StandsAt}
 use Rattle.cc_weakmaps.proofs.Changes.{kept-set}
 use Rattle.cc_weakmaps.proofs.weak_maps.WeakMaps.set.Goals as goal

@@ -1,5 +1,4 @@
-use Rattle.std.proofs.Common.{◌≡◌, ◌∙◌, sym, ap, List}
-use Rattle.cc_weakmaps.specs.Entries.{KeyedEntry, HasOneEach}
+use Rattle.std.proofs.Common.{◌∙◌, sym}
 use Rattle.cc_weakmaps.proofs.Sought.{without-removed, without-absent}
 use Rattle.cc_weakmaps.proofs.weak_maps.WeakMaps.unset.Goals as goal
 
