@@ -2,3 +2,9 @@ pub mod Stands
 pub mod OneEach
 pub mod Staying
 pub mod Keeping
+pub mod Kept
+pub mod Below
+pub mod Indexed
+pub mod Sought
+pub mod Changes
+pub mod Looked

@@ -1,13 +1,13 @@
 -- AT MOST ONE ENTRY for each map and key, as entries are set and taken out.
-use Rattle.std.proofs.Common.{◌≡◌, ℕ, ◌+◌, ◌≤◌, ◌==◌, Bool, true, false, cond, List, [], ◌∷◌, refl, sym, ◌∙◌, ap, subst, arith, count_by}
-use Rattle.std.specs.List.{filter, items_where_true}
+use Rattle.std.proofs.Common.{◌≡◌, ℕ, ◌+◌, ◌≤◌, ◌==◌, zero, suc, Bool, true, false, cond, List, [], ◌∷◌, refl, sym, ◌∙◌, ap, subst, arith, count_by}
+use Rattle.std.specs.List.{filter, items_where_true, remove}
 use Rattle.std.proofs.lemmas.Bool.{and_parts, eqb-true}
 use Rattle.cc_lists.proofs.Counting.{count_by-cons}
 use Rattle.cc_lists.proofs.Filtering.{count_by-filter-le}
 use Rattle.cc_weakmaps.specs.Entries.{KeyedEntry, HasOneEach, entry, is_entry_of, with_entry}
 
 -- the entry of a map and a key has these
-same-map : (m k : ℕ) (e : KeyedEntry) → is_entry_of m k e ≡ true → (e.the_map ≡ m) × (e.key ≡ k)
+pub same-map : (m k : ℕ) (e : KeyedEntry) → is_entry_of m k e ≡ true → (e.the_map ≡ m) × (e.key ≡ k)
 same-map m k e is = let both = and_parts (e.the_map == m) (e.key == k) is in (eqb-true e.the_map m both.0, eqb-true e.key k both.1)
 
 -- so another value in its place is counted where it is
@@ -70,4 +70,17 @@ HasOneEach-where_true bs old new e h = record {
   at_most = λ n j.
       let part : count_by (is_entry_of n j) (items_where_true bs old) ≤ count_by (is_entry_of n j) old = count_by-where_true (is_entry_of n j) bs old in
       omega (arith, part, ap (count_by (is_entry_of n j)) e, h.at_most n j);
+}
+
+-- One entry less
+
+count_by-remove : {X : Type 0} (p : X → Bool) (xs : List X) (i : ℕ) → count_by p (remove xs i) ≤ count_by p xs
+count_by-remove p [] zero = omega arith
+count_by-remove p [] (suc i) = omega arith
+count_by-remove p (x ∷ xs) zero = omega (arith, count_by-cons p x xs)
+count_by-remove p (x ∷ xs) (suc i) = omega (arith, count_by-cons p x xs, count_by-cons p x (remove xs i), count_by-remove p xs i)
+
+pub HasOneEach-remove : (es : List KeyedEntry) (i : ℕ) → HasOneEach es → HasOneEach (remove es i)
+HasOneEach-remove es i h = record {
+  at_most = λ n j. let part : count_by (is_entry_of n j) (remove es i) ≤ count_by (is_entry_of n j) es = count_by-remove (is_entry_of n j) es i in omega (arith, part, h.at_most n j);
 }

@@ -5,10 +5,16 @@
 //! in the order in which they were first set. There is at most one for each map and key. Maps, keys and values are script
 //! objects, by the keys at which they stand in their heap.
 //!
-//! `set` takes memory for a new entry; no other call takes any. Each call that looks for an entry goes over the list.
+//! An index leads from an object to the entries that have it for their map or their key (`first_with`, `next_with`): who
+//! marks an object looks at these alone.
+//!
+//! `set` takes memory for a new entry; no other call takes any.
 #![tactic(auto)]
 
 mod entry;
+mod index;
+mod lasts;
+mod links;
 mod weak_maps;
 
 pub use weak_maps::WeakMaps;

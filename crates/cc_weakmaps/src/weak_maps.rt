@@ -1,30 +1,40 @@
 //! The entries as callers see them.
-ghost use Rattle.std.specs.Prelude.{◌≡◌, ◌↔◌, ◌<◌, length, false, [], Some, option_map, slice_get, IfNone, IfSome, IsOk, IsTrue, OnErr, OnOk};
+ghost use Rattle.std.specs.Prelude.{◌≡◌, ◌↔◌, ◌<◌, ◌++◌, ◌∷◌, length, remove, false, [], Some, option_map, slice_get, IfNone, IfSome, IsOk, IsTrue, OnErr, OnOk};
 ghost use Rattle.cc_weakmaps.specs.Entries.{HasOneEach, entry, has_value_in, value_in, with_entry, without_entry};
 ghost use Rattle.cc_weakmaps.specs.Living.{AreLiving, MayBeAsked};
+ghost use Rattle.cc_weakmaps.specs.Index.{IsPlaceOf, place_below};
 ghost use Rattle.cc_weakmaps.specs.Places.{StandsAt};
 
 use crate::entry::Entry;
+use crate::index::{put_in, put_in_from, take_out_from};
+use crate::lasts::Lasts;
+use crate::links::Links;
 use cc_names::{NoMemory, SKey};
 use std::alloc::Global;
 use std::marker::Model;
 
 /// The entries of all weak maps, in the order in which they were first set; at most one for each map and key.
-// O(n) for each call but `new`, `len`, `is_empty` and `entry`: an entry is looked for from the first on
+// An entry is looked for by its map and its key at once, in as many steps as the one of the two has entries that has fewer.
+// `unset` of an entry moves those behind it one place down, and gives each its place in the index anew: O(k log n) for k of
+// them, and so is `drop_dead` for all.
 #[derive(Drop)]
 pub struct WeakMaps {
     entries: Vec<Entry>,
+    // of each entry, where those before it stand that have its map or its key
+    links: Vec<Links>,
+    lasts: Lasts,
 }
 
 impl Model for WeakMaps {
     ghost use Rattle.std.specs.Prelude.{List};
-    ghost use Rattle.cc_weakmaps.specs.Entries.{HasOneEach, KeyedEntry};
+    ghost use Rattle.cc_weakmaps.specs.Entries.{KeyedEntry};
+    ghost use Rattle.cc_weakmaps.specs.Index.{IsKept};
 
     ghost Value = { List KeyedEntry };
 
     ghost view = { λ w. w.entries.items };
 
-    ghost invariant = { λ w. HasOneEach w.entries.items };
+    ghost invariant = { λ w. IsKept w.entries.items w.links.items w.lasts };
 }
 
 impl WeakMaps {
@@ -34,6 +44,8 @@ impl WeakMaps {
     {
         WeakMaps {
             entries: Vec::new(alloc),
+            links: Vec::new(alloc),
+            lasts: Lasts::new(alloc),
         }
     }
 
@@ -52,22 +64,24 @@ impl WeakMaps {
             key,
             value,
         };
-        match place_of(self.entries.as_slice(), the_map, key) {
+        match self.place_of(the_map, key) {
             Some(place) => self.entries[place] = entry,
-            None => {
-                self.entries.reserve(1)?;
-                self.entries.push_reserved(entry);
-            }
+            None => self.add(entry)?,
         }
         Ok(())
     }
 
     /// A key has no value in a map from then on; later entries close up.
+    #[tactic(auto, using(crate::proofs::Stands::stands))]
     pub fn unset(&mut self, the_map: SKey, key: SKey)
         ensures entries { self.new ≡ without_entry self.old the_map.0 key.0 }
         ensures at_most_one { HasOneEach self.new }
     {
-        self.entries.retain(|entry| !entry.is_of(the_map, key));
+        if let Some(place) = self.place_of(the_map, key) {
+            self.remove(place);
+            self.lasts.forget(the_map.0);
+            self.lasts.forget(key.0);
+        }
     }
 
     /// The value that a key has in a map; none where it has none.
@@ -75,7 +89,7 @@ impl WeakMaps {
     pub fn get(&self, the_map: SKey, key: SKey) -> Option<SKey>
         ensures { option_map (λ k. k.0) result ≡ value_in self.now the_map.0 key.0 }
     {
-        match place_of(self.entries.as_slice(), the_map, key) {
+        match self.place_of(the_map, key) {
             Some(place) => Some(self.entries[place].value),
             None => None,
         }
@@ -105,6 +119,34 @@ impl WeakMaps {
         (entry.the_map, entry.key, entry.value)
     }
 
+    /// The place of an entry that has an object for its map or its key: of the last one; none where there is none. From it
+    /// `next_with` goes on to the others.
+    pub fn first_with(&self, object: SKey) -> Option<usize>
+        ensures place { result ≡ place_below self.now object.0 (length self.now) }
+        ensures there { IfSome result (IsPlaceOf self.now object.0) }
+        ensures within { IfSome result (λ i. i < length self.now) }
+    {
+        self.lasts.last(object.0)
+    }
+
+    /// The last place before this one of an entry that has the object; none where this is the first of them.
+    ///
+    /// So from `first_with` on each of its entries comes once, by falling places.
+    pub fn next_with(&self, object: SKey, place: usize) -> Option<usize>
+        requires { IsPlaceOf self.now object.0 place }
+        ensures place { result ≡ place_below self.now object.0 place }
+        ensures there { IfSome result (IsPlaceOf self.now object.0) }
+        ensures within { IfSome result (λ i. i < length self.now) }
+        ensures before { IfSome result (λ i. i < place) }
+    {
+        let links = self.links[place];
+        if self.entries[place].the_map == object {
+            links.by_map
+        } else {
+            links.by_key
+        }
+    }
+
     /// Drops each entry of which the map or the key does not live, and keeps the others in order.
     ///
     /// `alive` says of a key whether the object that stands there lives.
@@ -113,22 +155,87 @@ impl WeakMaps {
         ensures entries { AreLiving (F.post alive) self.old self.new }
         ensures at_most_one { HasOneEach self.new }
     {
+        take_out_from(
+            &mut self.lasts,
+            self.links.as_slice(),
+            self.entries.as_slice(),
+            0,
+        );
         keep_living(&mut self.entries, &alive);
+        put_in_from(&mut self.lasts, &mut self.links, self.entries.as_slice(), 0);
+        self.links.truncate(self.entries.len());
+        self.lasts.forget_all();
     }
-}
 
-/// Where the entry of a map and a key stands, counted from 0.
-#[tactic(auto, using(crate::proofs::Stands::stands))]
-fn place_of(entries: &[Entry], the_map: SKey, key: SKey) -> Option<usize>
-    ensures found { IfSome result (λ place. StandsAt entries.now the_map.0 key.0 place) }
-    ensures none { IfNone result (has_value_in entries.now the_map.0 key.0 ≡ false) }
-{
-    for i in 0..entries.len() {
-        if entries[i].is_of(the_map, key) {
-            return Some(i);
+    /// Where the entry of a map and a key stands, counted from 0.
+    #[tactic(auto, using(crate::proofs::Stands::stands))]
+    fn place_of(&self, the_map: SKey, key: SKey) -> Option<usize>
+        ensures found { IfSome result (λ place. StandsAt self.now the_map.0 key.0 place) }
+        ensures none { IfNone result (has_value_in self.now the_map.0 key.0 ≡ false) }
+        ensures at_most_one { HasOneEach self.now }
+    {
+        let mut of_map = self.first_with(the_map);
+        let mut of_key = self.first_with(key);
+        while let Some(place) = of_map {
+            let other = of_key?;
+            if self.entries[place].is_of(the_map, key) {
+                return Some(place);
+            }
+            if self.entries[other].is_of(the_map, key) {
+                return Some(other);
+            }
+            of_map = self.next_with(the_map, place);
+            of_key = self.next_with(key, other);
         }
+        None
     }
-    None
+
+    /// A new entry goes last. `NoMemory` changes nothing.
+    fn add(&mut self, entry: Entry) -> Result<(), NoMemory>
+        requires { has_value_in self.old entry.the_map entry.key ≡ false }
+        ensures entries { OnOk result (self.new ≡ self.old ++ entry ∷ []) }
+        ensures err { OnErr result (self.new ≡ self.old) }
+        ensures at_most_one { HasOneEach self.new }
+    {
+        self.entries.reserve(1)?;
+        self.links.reserve(1)?;
+        self.lasts.know_both(entry.the_map.0, entry.key.0)?;
+        let place = self.entries.len();
+        self.entries.push_reserved(entry);
+        self.links.push_reserved(Links {
+            by_map: None,
+            by_key: None,
+        });
+        put_in(
+            &mut self.lasts,
+            &mut self.links,
+            self.entries.as_slice(),
+            place,
+        );
+        Ok(())
+    }
+
+    /// Takes out the entry at a place; later ones close up.
+    fn remove(&mut self, place: usize)
+        requires { place < length self.old }
+        ensures entries { self.new ≡ remove self.old place }
+        ensures at_most_one { HasOneEach self.new }
+    {
+        take_out_from(
+            &mut self.lasts,
+            self.links.as_slice(),
+            self.entries.as_slice(),
+            place,
+        );
+        self.entries.remove(place);
+        put_in_from(
+            &mut self.lasts,
+            &mut self.links,
+            self.entries.as_slice(),
+            place,
+        );
+        self.links.truncate(self.entries.len());
+    }
 }
 
 /// Keeps the entries of which map and key live, in order.

@@ -1,0 +1,150 @@
+-- ENTRIES AND THEIR INDEX, as entries are read, added, replaced and taken out.
+use Rattle.std.proofs.Common.{◌≡◌, ℕ, ◌+◌, ◌<◌, ◌≤◌, ◌==◌, zero, suc, Bool, true, false, ◌||◌, List, [], ◌∷◌, ◌++◌, length, get_or, take, Option, Some, None, refl, sym, ◌∙◌, ap, subst, arith, inl, inr, ⊎_elim}
+use Rattle.std.specs.Prelude.{remove, IfNone}
+use Rattle.std.specs.List.{items_where_true}
+use Rattle.std.proofs.Math.ListN.{set}
+use Rattle.std.proofs.lemmas.Bool.{eqb-true}
+use Rattle.std.proofs.lemmas.Bool.Decides.{eqb_tells}
+use Rattle.std.proofs.lemmas.List.{length_push, length-set, get_or_append_left, get_or-take, get_or-set_same, get_or-set_other}
+use Rattle.cc_lists.specs.Members.{Among}
+use Rattle.cc_lists.proofs.Members.{Among-append}
+use Rattle.cc_names.specs.declared.number.SKey.{SKey}
+use Rattle.cc_weakmaps.specs.Entries.{KeyedEntry, HasOneEach, entry, has_value_in, is_entry_of}
+use Rattle.cc_weakmaps.specs.Index.{is_known, last_kept, place_below, AreKnown, IsIndexed, IsKept, IsPlaceOf}
+use Rattle.cc_weakmaps.specs.Living.{AreLiving}
+use Rattle.cc_weakmaps.specs.Places.{StandsAt}
+use Rattle.cc_weakmaps.specs.declared.links.Links.{Links}
+use Rattle.cc_weakmaps.proofs.Below.{place-has, place-within}
+use Rattle.cc_weakmaps.proofs.Indexed.{indexed-alike, indexed-known}
+use Rattle.cc_weakmaps.proofs.OneEach.{HasOneEach-set, same-map}
+use Rattle.cc_weakmaps.proofs.Stands.{absent-set, stands-set, stands-within}
+
+pub if_none-always : {X : Type 0} (o : Option X) (P : Type 0) → P → IfNone o P
+if_none-always None P h = h
+if_none-always (Some x) P h = tt
+
+-- The chains, as they are read
+
+module _ (es : List KeyedEntry) (links : List Links) (kept : List (ℕ × Option ℕ)) (h : IsIndexed es links kept (length es)) (object place : ℕ) (there : IsPlaceOf es object place) (e : KeyedEntry) (d : Links) where
+  pub next-by_map : (get_or es place e).the_map ≡ object → (get_or links place d).by_map ≡ place_below es object place
+  next-by_map same = h.by_map place e d (place-within es object place there) ∙ ap (λ k. place_below es k place) same
+
+  pub next-by_key : ((get_or es place e).the_map == object) ≡ false → (get_or links place d).by_key ≡ place_below es object place
+  next-by_key other =
+      let same : ((get_or es place e).key == object) ≡ true = sym (ap (λ b. b || (get_or es place e).key == object) other) ∙ place-has es object place e there in
+      h.by_key place e d (place-within es object place there) ∙ ap (λ k. place_below es k place) (eqb-true _ _ same)
+
+-- Other last places that say the same
+
+pub kept-same : (es : List KeyedEntry) (links : List Links) (kept left : List (ℕ × Option ℕ)) → ((k : ℕ) → last_kept left k ≡ last_kept kept k) → IsKept es links kept → IsKept es links left
+kept-same es links kept left same h = record {
+  at_most_one = h.at_most_one;
+  as_many = h.as_many;
+  indexed = indexed-alike es es links links kept left (length es) (omega arith) (omega arith) (λ j d l. (refl, refl)) (λ j d l. refl) same h.indexed;
+}
+
+-- A value is replaced
+
+pub kept-set : (es : List KeyedEntry) (links : List Links) (kept : List (ℕ × Option ℕ)) (m k v place : ℕ) → StandsAt es m k place → IsKept es links kept → IsKept (set es place (entry m k v)) links kept
+kept-set es links kept m k v place s h = record {
+  at_most_one = subst HasOneEach (stands-set es m k place v s) (HasOneEach-set es m k v h.at_most_one);
+  as_many = h.as_many ∙ sym (length-set es place (entry m k v));
+  indexed = subst (IsIndexed (set es place (entry m k v)) links kept) (sym (length-set es place (entry m k v)))
+      (indexed-alike es (set es place (entry m k v)) links links kept kept (length es) (omega arith) (omega (arith, length-set es place (entry m k v)))
+      (λ j d l. ⊎_elim
+      (λ t. let same : j ≡ place = t.1 in
+      let both = same-map m k (get_or es place d) (at es place s d) in
+      subst (λ z. ((get_or (set es place (entry m k v)) z d).the_map ≡ (get_or es z d).the_map) × ((get_or (set es place (entry m k v)) z d).key ≡ (get_or es z d).key)) (sym same) (
+        ap (λ x. x.the_map) (get_or-set_same es place (entry m k v) d (stands-within es m k place s)) ∙ sym both.0,
+        ap (λ x. x.key) (get_or-set_same es place (entry m k v) d (stands-within es m k place s)) ∙ sym both.1,
+      ))
+      (λ t. (ap (λ x. x.the_map) (get_or-set_other es place j (entry m k v) d t.1), ap (λ x. x.key) (get_or-set_other es place j (entry m k v) d t.1)))
+      (eqb_tells j place))
+      (λ j d l. refl) (λ j. refl) h.indexed);
+}
+  where
+    at : (xs : List KeyedEntry) (i : ℕ) → StandsAt xs m k i → (d : KeyedEntry) → is_entry_of m k (get_or xs i d) ≡ true
+    at [] i s d = absurd s
+    at (x ∷ xs) zero s d = s
+    at (x ∷ xs) (suc i) s d = at xs i s.1 d
+
+-- An entry is added
+
+module _ (es : List KeyedEntry) (links : List Links) (kept left : List (ℕ × Option ℕ)) (x : KeyedEntry) (link : Links) (h : IsKept es links kept) where
+  pub added-known : is_known left x.the_map ≡ true → is_known left x.key ≡ true → ((k : ℕ) → is_known kept k ≡ true → is_known left k ≡ true) → AreKnown (es ++ x ∷ []) left
+  added-known map key others e m = ⊎_elim
+      (λ old. let both = indexed-known es links kept h.indexed e old in (others e.the_map both.0, others e.key both.1))
+      (λ new. ⊎_elim (λ same. (subst (λ y. is_known left y.the_map ≡ true) same map, subst (λ y. is_known left y.key ≡ true) same key)) (λ f. absurd f) new)
+      (Among-append e es (x ∷ []) m)
+
+  pub added-indexed : ((k : ℕ) → last_kept left k ≡ last_kept kept k) → IsIndexed (es ++ x ∷ []) (links ++ link ∷ []) left (length es)
+  added-indexed same = indexed-alike es (es ++ x ∷ []) links (links ++ link ∷ []) kept left (length es) (omega arith) (omega (arith, length_push es x))
+      (λ j d l. (ap (λ y. y.the_map) (get_or_append_left es (x ∷ []) d j l), ap (λ y. y.key) (get_or_append_left es (x ∷ []) d j l)))
+      (λ j d l. get_or_append_left links (link ∷ []) d j (omega (arith, l, h.as_many))) same h.indexed
+
+  pub added-kept : (others : List Links) (put : List (ℕ × Option ℕ)) → has_value_in es x.the_map x.key ≡ false → length others ≡ length (links ++ link ∷ []) →
+      IsIndexed (es ++ x ∷ []) others put (length es + 1) → IsKept (es ++ x ∷ []) others put
+  added-kept others put absent count indexed = record {
+    at_most_one = subst HasOneEach (absent-set es x.the_map x.key x.value absent) (HasOneEach-set es x.the_map x.key x.value h.at_most_one);
+    as_many = omega (arith, count, length_push es x, length_push links link, h.as_many);
+    indexed = subst (IsIndexed (es ++ x ∷ []) others put) (sym (length_push es x)) indexed;
+  }
+
+-- Entries are taken out
+
+module _ (es fs : List KeyedEntry) (links : List Links) (left : List (ℕ × Option ℕ)) where
+  pub fewer-known : ((e : KeyedEntry) → Among e fs → Among e es) → AreKnown es left → AreKnown fs left
+  fewer-known part h e m = h e (part e m)
+
+  -- the front is as it was
+  pub fewer-indexed : (n : ℕ) → n ≤ length es → n ≤ length fs → ((j : ℕ) (d : KeyedEntry) → j < n → get_or fs j d ≡ get_or es j d) → IsIndexed es links left n → IsIndexed fs links left n
+  fewer-indexed n el fl same h = indexed-alike es fs links links left left n el fl
+      (λ j d l. (ap (λ x. x.the_map) (same j d l), ap (λ x. x.key) (same j d l))) (λ j d l. refl) (λ k. refl) h
+
+-- with as many links as there are entries left
+pub fewer-kept : (fs : List KeyedEntry) (links : List Links) (kept left : List (ℕ × Option ℕ)) → HasOneEach fs → length fs ≤ length links → IsIndexed fs links kept (length fs) →
+    ((k : ℕ) → last_kept left k ≡ last_kept kept k) → IsKept fs (take (length fs) links) left
+fewer-kept fs links kept left once room h same = record {
+  at_most_one = once;
+  as_many = length_take (length fs) links room;
+  indexed = indexed-alike fs fs links (take (length fs) links) kept left (length fs) (omega arith) (omega arith) (λ j d l. (refl, refl))
+      (λ j d l. get_or-take (length fs) links j d l) same h;
+}
+  where
+    length_take : {X : Type 0} (n : ℕ) (xs : List X) → n ≤ length xs → length (take n xs) ≡ n
+    length_take zero xs l = refl
+    length_take (suc n) [] l = absurd (omega (arith, l))
+    length_take (suc n) (x ∷ xs) l = ap suc (length_take n xs (omega (arith, l)))
+
+-- one of them
+pub remove-part : {X : Type 0} (xs : List X) (i : ℕ) (x : X) → Among x (remove xs i) → Among x xs
+remove-part [] zero x m = m
+remove-part [] (suc i) x m = m
+remove-part (y ∷ ys) zero x m = inr m
+remove-part (y ∷ ys) (suc i) x m = ⊎_elim (λ same. inl same) (λ r. inr (remove-part ys i x r)) m
+
+pub remove-front : {X : Type 0} (xs : List X) (i j : ℕ) (d : X) → j < i → get_or (remove xs i) j d ≡ get_or xs j d
+remove-front xs zero j d l = absurd (omega (arith, l))
+remove-front [] (suc i) j d l = refl
+remove-front (x ∷ xs) (suc i) zero d l = refl
+remove-front (x ∷ xs) (suc i) (suc j) d l = remove-front xs i j d (omega (arith, l))
+
+-- those that do not stay
+pub where_true-part : {X : Type 0} (bs : List Bool) (xs : List X) (x : X) → Among x (items_where_true bs xs) → Among x xs
+where_true-part [] xs x m = absurd m
+where_true-part (b ∷ bs) [] x m = absurd m
+where_true-part (true ∷ bs) (y ∷ ys) x m = ⊎_elim (λ same. inl same) (λ r. inr (where_true-part bs ys x r)) m
+where_true-part (false ∷ bs) (y ∷ ys) x m = inr (where_true-part bs ys x m)
+
+where_true-fewer : {X : Type 0} (bs : List Bool) (xs : List X) → length (items_where_true bs xs) ≤ length xs
+where_true-fewer [] xs = omega arith
+where_true-fewer (b ∷ bs) [] = omega arith
+where_true-fewer (true ∷ bs) (y ∷ ys) = omega (arith, where_true-fewer bs ys)
+where_true-fewer (false ∷ bs) (y ∷ ys) = omega (arith, where_true-fewer bs ys)
+
+module _ (answers : SKey → Bool → Type 0) (es fs : List KeyedEntry) (h : AreLiving answers es fs) where
+  pub living-part : (e : KeyedEntry) → Among e fs → Among e es
+  living-part e m = where_true-part h.filtered.0 es e (subst (Among e) h.filtered.4 m)
+
+  pub living-fewer : length fs ≤ length es
+  living-fewer = omega (arith, ap length h.filtered.4, where_true-fewer h.filtered.0 es)

@@ -1,0 +1,109 @@
+-- HOW OFTEN ENTRIES ARE LOOKED AT by who goes over the entries of objects, of each object once: at most twice each.
+use Rattle.std.proofs.Common.{◌≡◌, ℕ, ◌+◌, ◌*◌, ◌≤◌, ◌==◌, zero, suc, Bool, true, false, ◌||◌, cond, List, [], ◌∷◌, length, count_by, Option, Some, None, option_map, refl, sym, ◌∙◌, ap, subst, arith}
+use Rattle.std.specs.Prelude.{slice_get}
+use Rattle.std.proofs.lemmas.Bool.{true≢false, eqb-true, eq-eqb}
+use Rattle.cc_lists.proofs.Counting.{count_by-cons}
+use Rattle.cc_weakmaps.specs.Entries.{KeyedEntry}
+use Rattle.cc_weakmaps.specs.Index.{has_object, place_below}
+
+-- how many sides entries have, maps and keys, that pass no test
+abbrev pub sides_left : (ℕ → Bool) → List KeyedEntry → ℕ
+sides_left looked [] = 0
+sides_left looked (e ∷ es) = cond (looked e.the_map) 0 1 + (cond (looked e.key) 0 1 + sides_left looked es)
+
+-- at first at most two for each entry
+pub sides-all : (looked : ℕ → Bool) (es : List KeyedEntry) → sides_left looked es ≤ 2 * length es
+sides-all looked [] = omega arith
+sides-all looked (e ∷ es) = go (looked e.the_map) (looked e.key) (sides-all looked es)
+  where
+    go : (a b : Bool) → sides_left looked es ≤ 2 * length es → cond a 0 1 + (cond b 0 1 + sides_left looked es) ≤ 2 * suc (length es)
+    go true true h = omega (arith, h)
+    go true false h = omega (arith, h)
+    go false true h = omega (arith, h)
+    go false false h = omega (arith, h)
+
+-- one object more: at least as many sides less as it has entries
+pub sides-fewer : (before after : ℕ → Bool) (k : ℕ) (es : List KeyedEntry) → before k ≡ false → ((j : ℕ) → after j ≡ (before j || k == j)) →
+    sides_left after es + count_by (has_object k) es ≤ sides_left before es
+sides-fewer before after k [] off more = omega arith
+sides-fewer before after k (e ∷ es) off more =
+    omega (
+      arith,
+      sides-fewer before after k es off more,
+      count_by-cons (has_object k) e es,
+      side e.the_map e.key (k == e.the_map) refl (k == e.key) refl,
+    )
+  where
+    weight : Bool → ℕ
+    weight b = cond b 0 1
+
+    fewer : (d f : Bool) → weight (d || f) ≤ weight d
+    fewer true f = omega arith
+    fewer false true = omega arith
+    fewer false false = omega arith
+
+    read : (j : ℕ) (b c : Bool) → before j ≡ b → (k == j) ≡ c → after j ≡ (b || c)
+    read j b c p q = more j ∙ (ap (λ x. x || k == j) p ∙ ap (λ x. b || x) q)
+
+    -- a side that is k is left before, and not after
+    gone : (i : ℕ) → (k == i) ≡ true → (weight (before i) ≡ 1) × (weight (after i) ≡ 0)
+    gone i same =
+        let off_i : before i ≡ false = subst (λ z. before z ≡ false) (eqb-true k i same) off in
+        (ap weight off_i, ap weight (read i false true off_i same))
+
+    kept : (i : ℕ) → weight (after i) ≤ weight (before i)
+    kept i = let e : weight (after i) ≡ weight (before i || k == i) = ap weight (more i) in omega (arith, e, fewer (before i) (k == i))
+
+    turned : (i : ℕ) (c : Bool) → (k == i) ≡ c → (i == k) ≡ c
+    turned i true q = eq-eqb i k (sym (eqb-true k i q))
+    turned i false q = go (i == k) refl
+      where
+        go : (b : Bool) → (i == k) ≡ b → b ≡ false
+        go true e = absurd (true≢false (sym (eq-eqb k i (sym (eqb-true i k e))) ∙ q))
+        go false e = refl
+
+    side : (i j : ℕ) (c : Bool) → (k == i) ≡ c → (f : Bool) → (k == j) ≡ f → weight (after i) + weight (after j) + cond (i == k || j == k) 1 0 ≤ weight (before i) + weight (before j)
+    side i j true q f s =
+        let g = gone i q in
+        let e : ◌≡◌ {A = ℕ} (cond (i == k || j == k) 1 0) 1 = ap (λ b. cond (b || j == k) 1 0) (turned i true q) in
+        omega (arith, g.0, g.1, e, kept j)
+    side i j false q true s =
+        let g = gone j s in
+        let e : ◌≡◌ {A = ℕ} (cond (i == k || j == k) 1 0) 1 = ap (λ b. cond (b || j == k) 1 0) (turned i false q) ∙ ap (λ b. cond b 1 0) (turned j true s) in
+        omega (arith, g.0, g.1, e, kept i)
+    side i j false q false s =
+        let e : ◌≡◌ {A = ℕ} (cond (i == k || j == k) 1 0) 0 = ap (λ b. cond (b || j == k) 1 0) (turned i false q) ∙ ap (λ b. cond b 1 0) (turned j false s) in
+        omega (arith, e, kept i, kept j)
+
+-- Over the chain of one object
+
+abbrev test_weight : Option Bool → ℕ
+test_weight o = elim o [ None ↦ 0 | Some b ↦ cond b 1 0 ]
+
+-- how many places below n are its places
+abbrev pub count_below : List KeyedEntry → ℕ → ℕ → ℕ
+count_below es k zero = 0
+count_below es k (suc n) = test_weight (option_map (has_object k) (slice_get es n)) + count_below es k n
+
+-- the next place is one of them, and the others are below it
+pub count-next : (es : List KeyedEntry) (k n i : ℕ) → place_below es k n ≡ Some i → count_below es k n ≡ 1 + count_below es k i
+count-next es k zero i e = absurd (cc)
+count-next es k (suc n) i e = go (count-next es k n i) (option_map (has_object k) (slice_get es n)) e
+  where
+    go : (place_below es k n ≡ Some i → count_below es k n ≡ 1 + count_below es k i) → (o : Option Bool) →
+        ◌≡◌ {A = Option ℕ} (elim o [ None ↦ place_below es k n | Some b ↦ elim b [ true ↦ Some n | false ↦ place_below es k n ] ]) (Some i) →
+        test_weight o + count_below es k n ≡ 1 + count_below es k i
+    go ih None f = let rest = ih f in omega (arith, rest)
+    go ih (Some true) f = let same : n ≡ i = cc in ap (λ z. 1 + count_below es k z) same
+    go ih (Some false) f = let rest = ih f in omega (arith, rest)
+
+count-cons : (e : KeyedEntry) (es : List KeyedEntry) (k n : ℕ) → count_below (e ∷ es) k (suc n) ≡ cond (has_object k e) 1 0 + count_below es k n
+count-cons e es k zero = refl
+count-cons e es k (suc n) =
+    let ih = count-cons e es k n in
+    omega (arith, ih)
+
+-- below the end they are all
+pub count-all : (es : List KeyedEntry) (k : ℕ) → count_below es k (length es) ≡ count_by (has_object k) es
+count-all [] k = refl
+count-all (e ∷ es) k = count-cons e es k (length es) ∙ (ap (λ n. cond (has_object k e) 1 0 + n) (count-all es k) ∙ sym (count_by-cons (has_object k) e es))

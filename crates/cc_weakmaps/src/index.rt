@@ -1,0 +1,79 @@
+//! The index of entries by the objects that they have for their map or their key.
+//!
+//! Each entry has the last places before it of its map and of its key, and of each object the last place of all is kept:
+//! so from an object a chain goes through its entries, from the last one to the first. Entries come into the index in order
+//! and leave it from its end, each in two steps of the map of last places.
+ghost use Rattle.std.specs.Prelude.{◌≡◌, ◌+◌, ◌<◌, ◌≤◌, length};
+ghost use Rattle.cc_weakmaps.specs.Index.{AreKnown, IsIndexed};
+
+use crate::entry::Entry;
+use crate::lasts::Lasts;
+use crate::links::Links;
+
+/// Puts the entry at a place into the index, which has those before it.
+pub(crate) fn put_in(lasts: &mut Lasts, links: &mut Vec<Links>, entries: &[Entry], place: usize)
+    requires within { place < length entries.now }
+    requires room { length entries.now ≤ length links.old.items }
+    requires known { AreKnown entries.now lasts.old }
+    requires indexed { IsIndexed entries.now links.old.items lasts.old place }
+    ensures indexed { IsIndexed entries.now links.new.items lasts.new (place + 1) }
+    ensures count { length links.new.items ≡ length links.old.items }
+    ensures known { AreKnown entries.now lasts.new }
+{
+    let entry = entries[place];
+    links[place] = Links {
+        by_map: lasts.last(entry.the_map.0),
+        by_key: lasts.last(entry.key.0),
+    };
+    lasts.keep(entry.the_map.0, Some(place));
+    lasts.keep(entry.key.0, Some(place));
+}
+
+/// Takes the entry at a place out of the index, of which it is the last.
+pub(crate) fn take_out(lasts: &mut Lasts, links: &[Links], entries: &[Entry], place: usize)
+    requires within { place < length entries.now }
+    requires count { length links.now ≡ length entries.now }
+    requires known { AreKnown entries.now lasts.old }
+    requires indexed { IsIndexed entries.now links.now lasts.old (place + 1) }
+    ensures indexed { IsIndexed entries.now links.now lasts.new place }
+    ensures known { AreKnown entries.now lasts.new }
+{
+    let entry = entries[place];
+    let before = links[place];
+    lasts.keep(entry.the_map.0, before.by_map);
+    lasts.keep(entry.key.0, before.by_key);
+}
+
+/// Puts the entries from a place on into the index, which has those before it. Takes no memory.
+pub(crate) fn put_in_from(
+    lasts: &mut Lasts,
+    links: &mut Vec<Links>,
+    entries: &[Entry],
+    start: usize,
+)
+    requires within { start ≤ length entries.now }
+    requires room { length entries.now ≤ length links.old.items }
+    requires known { AreKnown entries.now lasts.old }
+    requires indexed { IsIndexed entries.now links.old.items lasts.old start }
+    ensures indexed { IsIndexed entries.now links.new.items lasts.new (length entries.now) }
+    ensures count { length links.new.items ≡ length links.old.items }
+{
+    for place in start..entries.len() {
+        put_in(lasts, links, entries, place);
+    }
+}
+
+/// Takes the entries from a place on out of the index, which has all, the last one first. Takes no memory.
+pub(crate) fn take_out_from(lasts: &mut Lasts, links: &[Links], entries: &[Entry], start: usize)
+    requires within { start ≤ length entries.now }
+    requires count { length links.now ≡ length entries.now }
+    requires indexed { IsIndexed entries.now links.now lasts.old (length entries.now) }
+    ensures indexed { IsIndexed entries.now links.now lasts.new start }
+    ensures known { AreKnown entries.now lasts.new }
+{
+    let mut end = entries.len();
+    while end > start {
+        end -= 1;
+        take_out(lasts, links, entries, end);
+    }
+}
