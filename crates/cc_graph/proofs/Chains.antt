@@ -1,13 +1,17 @@
--- The places of the references that a node has.
-use Rattle.std.proofs.Common.{◌≡◌, ◌≢◌, ℕ, ◌+◌, ◌-◌, ◌<◌, ◌≤◌, ◌==◌, zero, suc, Bool, true, false, cond, List, [], ◌∷◌, ◌++◌, length, get_or, drop, refl, sym, ◌∙◌, ap, subst, arith, Some, None, length-drop, option_map, inl, inr, ⊎_elim}
+-- Chains: the places of the elements that pass a test stay right.
+use Rattle.std.proofs.Common.{◌≡◌, ◌≢◌, ℕ, ◌+◌, ◌-◌, ◌<◌, ◌≤◌, zero, suc, Bool, true, false, cond, List, [], ◌∷◌, ◌++◌, length, map, get_or, drop, refl, sym, ◌∙◌, ap, subst, arith, Some, None, length-drop, option_map, inl, inr, ⊎_elim}
 use Rattle.std.specs.Prelude.{Option, IfSome, position, nat_lt, not, slice_get}
 use Rattle.std.specs.List.{position_or_len}
-use Rattle.std.proofs.lemmas.Bool.{cases_Bool, true≢false, eqb-true, eq-eqb, ne_eqb, lt-ltb, le-ltb, ltb-true, ltb-false}
-use Rattle.std.proofs.lemmas.List.{drop-append-le, get_or-drop, length_push}
-use Rattle.std.proofs.lemmas.Option.{slice_get-get_or, slice_get_within}
+use Rattle.std.proofs.Math.ListN.{set}
+use Rattle.std.proofs.lemmas.Bool.{cases_Bool, true≢false, lt-ltb, le-ltb, ltb-true, ltb-false}
+use Rattle.std.proofs.lemmas.List.{drop-append-le, get_or-drop, get_or-map, length-map, length-set, length_push, map-set, set-get_or}
+use Rattle.std.proofs.lemmas.Option.{slice_get-get_or, slice_get_within, same_Some}
 use Rattle.cc_lists.specs.Members.{Among}
-use Rattle.cc_graph.specs.Shown.{Edge, place_from}
-use Rattle.cc_graph.specs.Kept.{IsLast}
+use Rattle.cc_lists.proofs.Members.{Among-map}
+use Rattle.cc_graph.specs.declared.chain.Chain.{Chain}
+use Rattle.cc_graph.specs.Shown.{place_by}
+use Rattle.cc_graph.specs.Kept.{IsChain, IsLast, chained, no_chain, with_link}
+use Rattle.cc_graph.proofs.Lists.{each-set, each-added, among-at}
 
 -- The first that passes
 
@@ -79,113 +83,123 @@ position-passes {X} p (x ∷ xs) k d e = go (λ j. position-passes p xs j d) k (
         let inside : j < length xs = rest.0 in
         subst (λ z. (z < length (x ∷ xs)) × (p (get_or (x ∷ xs) z d) ≡ true)) next (omega (arith, inside), rest.1)
 
--- References
+-- Places
 
--- one more reference
-pub place-pushed : (es : List Edge) (e : Edge) (i start : ℕ) → start ≤ length es →
-    place_from (es ++ e ∷ []) i start ≡ or_place (place_from es i start) (e.source == i) (length es)
-place-pushed es e i start l =
-    ap (λ xs. option_map (λ k. start + k) (position (λ e. e.source == i) xs)) (drop-append-le start es (e ∷ []) l)
-    ∙ (ap (option_map (λ k. start + k)) (position-pushed (λ e. e.source == i) (drop start es) e)
-    ∙ go (position (λ e. e.source == i) (drop start es)) (e.source == i))
+-- one more element
+pub place-pushed : {X : Type 0} (p : X → Bool) (xs : List X) (x : X) (start : ℕ) → start ≤ length xs →
+    place_by p (xs ++ x ∷ []) start ≡ or_place (place_by p xs start) (p x) (length xs)
+place-pushed p xs x start l =
+    ap (λ ys. option_map (λ k. start + k) (position p ys)) (drop-append-le start xs (x ∷ []) l)
+    ∙ (ap (option_map (λ k. start + k)) (position-pushed p (drop start xs) x)
+    ∙ go (position p (drop start xs)) (p x))
   where
-    go : (o : Option ℕ) (b : Bool) → option_map (λ k. start + k) (or_place o b (length (drop start es))) ≡ or_place (option_map (λ k. start + k) o) b (length es)
+    go : (o : Option ℕ) (b : Bool) → option_map (λ k. start + k) (or_place o b (length (drop start xs))) ≡ or_place (option_map (λ k. start + k) o) b (length xs)
     go (Some k) b = refl
-    go None true = let all : start + length (drop start es) ≡ length es = omega (arith, length-drop start es, l) in ap Some all
+    go None true = let all : start + length (drop start xs) ≡ length xs = omega (arith, length-drop start xs, l) in ap Some all
     go None false = refl
 
--- past all references there is none
-pub place-past : (es : List Edge) (i : ℕ) → place_from es i (length es) ≡ None
-place-past [] i = refl
-place-past (e ∷ es) i = go (position (λ e. e.source == i) (drop (length es) es)) (place-past es i)
+-- past all there is none
+pub place-past : {X : Type 0} (p : X → Bool) (xs : List X) → place_by p xs (length xs) ≡ None
+place-past p [] = refl
+place-past p (x ∷ xs) = go (position p (drop (length xs) xs)) (place-past p xs)
   where
-    go : (o : Option ℕ) → option_map (λ k. length es + k) o ≡ None → option_map (λ k. suc (length es) + k) o ≡ None
+    go : (o : Option ℕ) → option_map (λ k. length xs + k) o ≡ None → option_map (λ k. suc (length xs) + k) o ≡ None
     go None h = refl
     go (Some k) h = absurd (cc)
 
--- where a node has none from a place on, each from there on is another's
-pub place-passed : (es : List Edge) (i start j : ℕ) (d : Edge) → place_from es i start ≡ None → start ≤ j → j < length es → (get_or es j d).source ≢ i
-place-passed es i start j d none from inside same =
-    go (position (λ e. e.source == i) (drop start es)) refl none
+-- where there is none from a place on, no element from there on passes
+pub place-passed : {X : Type 0} (p : X → Bool) (xs : List X) (start j : ℕ) (d : X) → place_by p xs start ≡ None → start ≤ j → j < length xs → p (get_or xs j d) ≡ false
+place-passed p xs start j d none from inside = go (position p (drop start xs)) refl none
   where
-    rest : get_or (drop start es) (j - start) d ≡ get_or es j d
-    rest = get_or-drop start es (j - start) d ∙ (let at : start + (j - start) ≡ j = omega (arith, from) in ap (λ k. get_or es k d) at)
+    rest : get_or (drop start xs) (j - start) d ≡ get_or xs j d
+    rest = get_or-drop start xs (j - start) d ∙ (let at : start + (j - start) ≡ j = omega (arith, from) in ap (λ k. get_or xs k d) at)
 
-    go : (o : Option ℕ) → position (λ e. e.source == i) (drop start es) ≡ o → option_map (λ k. start + k) o ≡ None → ⊥
+    go : (o : Option ℕ) → position p (drop start xs) ≡ o → option_map (λ k. start + k) o ≡ None → p (get_or xs j d) ≡ false
     go (Some k) q h = absurd (cc)
-    go None q h =
-        let off : ((get_or (drop start es) (j - start) d).source == i) ≡ false =
-        position-passed (λ e. e.source == i) (drop start es) (j - start) d q (omega (arith, length-drop start es, from, inside)) in
-        let on : ((get_or es j d).source == i) ≡ true = eq-eqb _ _ same in
-        true≢false (sym on ∙ (ap (λ e. e.source == i) (sym rest) ∙ off))
+    go None q h = ap p (sym rest) ∙ position-passed p (drop start xs) (j - start) d q (omega (arith, length-drop start xs, from, inside))
 
--- where it has one, that is its
-pub place-found : (es : List Edge) (i start j : ℕ) (d : Edge) → start ≤ length es → place_from es i start ≡ Some j → (start ≤ j) × (j < length es) × ((get_or es j d).source ≡ i)
-place-found es i start j d l found = go (position (λ e. e.source == i) (drop start es)) refl found
+-- nor is there one of none
+nowhere : {X : Type 0} (p : X → Bool) (start j : ℕ) → Some j ≡ place_by p [] start → ⊥
+nowhere p zero j e = absurd (cc)
+nowhere p (suc s) j e = absurd (cc)
+
+-- where there is one, its element passes
+pub place-found : {X : Type 0} (p : X → Bool) (xs : List X) (start j : ℕ) (d : X) → start ≤ length xs → place_by p xs start ≡ Some j →
+    (start ≤ j) × (j < length xs) × (p (get_or xs j d) ≡ true)
+place-found p xs start j d l found = go (position p (drop start xs)) refl found
   where
-    go : (o : Option ℕ) → position (λ e. e.source == i) (drop start es) ≡ o → option_map (λ k. start + k) o ≡ Some j → (start ≤ j) × (j < length es) × ((get_or es j d).source ≡ i)
+    go : (o : Option ℕ) → position p (drop start xs) ≡ o → option_map (λ k. start + k) o ≡ Some j → (start ≤ j) × (j < length xs) × (p (get_or xs j d) ≡ true)
     go None q h = absurd (cc)
     go (Some k) q h =
         let at : start + k ≡ j = cc in
-        let found = position-passes (λ e. e.source == i) (drop start es) k d q in
-        let inside : k < length (drop start es) = found.0 in
-        let here : (get_or es (start + k) d).source ≡ i = ap (λ e. e.source) (sym (get_or-drop start es k d)) ∙ eqb-true _ _ found.1 in
-        (omega (arith, at), omega (arith, at, inside, length-drop start es, l), subst (λ z. (get_or es z d).source ≡ i) at here)
+        let found = position-passes p (drop start xs) k d q in
+        let inside : k < length (drop start xs) = found.0 in
+        let here : p (get_or xs (start + k) d) ≡ true = ap p (sym (get_or-drop start xs k d)) ∙ found.1 in
+        (omega (arith, at), omega (arith, at, inside, length-drop start xs, l), subst (λ z. p (get_or xs z d) ≡ true) at here)
 
 -- the same, as readers see it
-pub place-source : (es : List Edge) (i start : ℕ) (o : Option ℕ) → start ≤ length es → o ≡ place_from es i start →
-    IfSome o (λ j. option_map (λ e. e.source) (slice_get es j) ≡ Some i)
-place-source es i start None l e = tt
-place-source [] i start (Some j) l e = absurd (go start e)
-  where
-    go : (s : ℕ) → Some j ≡ place_from [] i s → ⊥
-    go zero e = absurd (cc)
-    go (suc s) e = absurd (cc)
-place-source (d ∷ es) i start (Some j) l e =
-    let found = place-found (d ∷ es) i start j d l (sym e) in
-    ap (option_map (λ e. e.source)) (slice_get-get_or (d ∷ es) j d found.1) ∙ ap Some found.2
+pub place-within : {X : Type 0} (p : X → Bool) (xs : List X) (start : ℕ) (o : Option ℕ) → start ≤ length xs → o ≡ place_by p xs start → IfSome o (λ j. j < length xs)
+place-within p xs start None l e = tt
+place-within p [] start (Some j) l e = absurd (nowhere p start j e)
+place-within p (x ∷ xs) start (Some j) l e = (place-found p (x ∷ xs) start j x l (sym e)).1
 
--- a node that no reference has has no place
-pub place-none : (es : List Edge) (i : ℕ) → ((e : Edge) → Among e es → e.source ≢ i) → place_from es i 0 ≡ None
-place-none es i others = ap (option_map (λ k. 0 + k)) (go es others)
-  where
-    go : (xs : List Edge) → ((e : Edge) → Among e xs → e.source ≢ i) → position (λ e. e.source == i) xs ≡ None
-    go [] h = refl
-    go (x ∷ xs) h =
-        position-cons (λ e. e.source == i) x xs
-        ∙ (ap (λ b. cond b (Some 0) (option_map suc (position (λ e. e.source == i) xs))) (ne_eqb x.source i (h x (inl refl)))
-        ∙ ap (option_map suc) (go xs (λ e m. h e (inr m))))
+pub place-passes : {X : Type 0} (p : X → Bool) (xs : List X) (start : ℕ) (o : Option ℕ) → start ≤ length xs → o ≡ place_by p xs start →
+    IfSome o (λ j. option_map p (slice_get xs j) ≡ Some true)
+place-passes p xs start None l e = tt
+place-passes p [] start (Some j) l e = absurd (nowhere p start j e)
+place-passes p (x ∷ xs) start (Some j) l e =
+    let found = place-found p (x ∷ xs) start j x l (sym e) in ap (option_map p) (slice_get-get_or (x ∷ xs) j x found.1) ∙ ap Some found.2
 
--- The last reference of a node
+pub place-behind : {X : Type 0} (p : X → Bool) (xs : List X) (j : ℕ) (o : Option ℕ) → j + 1 ≤ length xs → o ≡ place_by p xs (j + 1) → IfSome o (λ k. j < k)
+place-behind p xs j None l e = tt
+place-behind p [] j (Some k) l e = absurd (omega (arith, l))
+place-behind p (x ∷ xs) j (Some k) l e = let from : j + 1 ≤ k = (place-found p (x ∷ xs) (j + 1) k x l (sym e)).0 in omega (arith, from)
 
--- it is one of those that there are
-pub last-within : (es : List Edge) (i : ℕ) (o : Option ℕ) → IsLast es i o → IfSome o (λ l. l < length es)
-last-within es i None h = tt
-last-within es i (Some l) h = go (slice_get es l) refl h.0
+-- an element that passes is one of those that there are
+pub passes-within : {X : Type 0} (p : X → Bool) (xs : List X) (j : ℕ) → option_map p (slice_get xs j) ≡ Some true → j < length xs
+passes-within p xs j e = go (slice_get xs j) refl e
   where
-    go : (o : Option Edge) → slice_get es l ≡ o → option_map (λ e. e.source) o ≡ Some i → l < length es
+    go : (o : Option _) → slice_get xs j ≡ o → option_map p o ≡ Some true → j < length xs
     go None q e = absurd (cc)
-    go (Some x) q e = slice_get_within es l x q
+    go (Some x) q e = slice_get_within xs j x q
 
--- and the node's
-pub last-source : (es : List Edge) (i l : ℕ) (d : Edge) → IsLast es i (Some l) → (get_or es l d).source ≡ i
-last-source es i l d h =
-    let inside : l < length es = last-within es i (Some l) h in
-    let read : option_map (λ e. e.source) (Some (get_or es l d)) ≡ Some i = ap (option_map (λ e. e.source)) (sym (slice_get-get_or es l d inside)) ∙ h.0 in
+-- where no element passes there is none
+pub place-none : {X : Type 0} (p : X → Bool) (xs : List X) → ((x : X) → Among x xs → p x ≡ false) → place_by p xs 0 ≡ None
+place-none p xs others = ap (option_map (λ k. 0 + k)) (go xs others)
+  where
+    go : (ys : List _) → ((x : _) → Among x ys → p x ≡ false) → position p ys ≡ None
+    go [] h = refl
+    go (y ∷ ys) h =
+        position-cons p y ys
+        ∙ (ap (λ b. cond b (Some 0) (option_map suc (position p ys))) (h y (inl refl))
+        ∙ ap (option_map suc) (go ys (λ x m. h x (inr m))))
+
+-- The last
+
+-- it is one of those that there are,
+pub last-within : {X : Type 0} (p : X → Bool) (xs : List X) (o : Option ℕ) → IsLast p xs o → IfSome o (λ l. l < length xs)
+last-within p xs None h = tt
+last-within p xs (Some l) h = passes-within p xs l h.0
+
+-- and passes
+pub last-passes : {X : Type 0} (p : X → Bool) (xs : List X) (l : ℕ) (d : X) → IsLast p xs (Some l) → p (get_or xs l d) ≡ true
+last-passes p xs l d h =
+    let inside : l < length xs = last-within p xs (Some l) h in
+    let read : option_map p (Some (get_or xs l d)) ≡ Some true = ap (option_map p) (sym (slice_get-get_or xs l d inside)) ∙ h.0 in
     cc
 
--- a reference of the node behind which it has none is the last
-pub last-only : (es : List Edge) (i j : ℕ) (d : Edge) (o : Option ℕ) → IsLast es i o → j < length es → (get_or es j d).source ≡ i → place_from es i (j + 1) ≡ None →
-    o ≡ Some j
-last-only es i j d None h inside same none = absurd (place-passed es i 0 j d h (omega arith) inside same)
-last-only es i j d (Some l) h inside same none =
-    let there : l < length es = last-within es i (Some l) h in
-    let before : ¬ (l < j) = λ less. place-passed es i (l + 1) j d h.1 (omega (arith, less)) inside same in
-    let behind : ¬ (j < l) = λ more. place-passed es i (j + 1) l d none (omega (arith, more)) there (last-source es i l d h) in
+-- one that passes and behind which none does is the last
+pub last-only : {X : Type 0} (p : X → Bool) (xs : List X) (j : ℕ) (d : X) (o : Option ℕ) → IsLast p xs o → j < length xs → p (get_or xs j d) ≡ true →
+    place_by p xs (j + 1) ≡ None → o ≡ Some j
+last-only p xs j d None h inside passes none = absurd (true≢false (sym passes ∙ place-passed p xs 0 j d h (omega arith) inside))
+last-only p xs j d (Some l) h inside passes none =
+    let there : l < length xs = last-within p xs (Some l) h in
+    let before : ¬ (l < j) = λ less. true≢false (sym passes ∙ place-passed p xs (l + 1) j d h.1 (omega (arith, less)) inside) in
+    let behind : ¬ (j < l) = λ more. true≢false (sym (last-passes p xs l d h) ∙ place-passed p xs (j + 1) l d none (omega (arith, more)) there) in
     let at : l ≡ j = omega (arith, before, behind) in
     ap Some at
 
--- One more reference
+-- One more element
 
 slice-front : {X : Type 0} (xs : List X) (y : X) (k : ℕ) → k < length xs → slice_get (xs ++ y ∷ []) k ≡ slice_get xs k
 slice-front [] y k l = absurd (omega (arith, l))
@@ -196,28 +210,158 @@ slice-last : {X : Type 0} (xs : List X) (y : X) → slice_get (xs ++ y ∷ []) (
 slice-last [] y = refl
 slice-last (x ∷ xs) y = slice-last xs y
 
--- of another node changes nothing of this one
-pub place-other : (es : List Edge) (e : Edge) (i start : ℕ) → start ≤ length es → e.source ≢ i → place_from (es ++ e ∷ []) i start ≡ place_from es i start
-place-other es e i start l other =
-    place-pushed es e i start l ∙ (ap (λ b. or_place (place_from es i start) b (length es)) (ne_eqb e.source i other) ∙ go (place_from es i start))
+-- that does not pass changes nothing;
+place-other : {X : Type 0} (p : X → Bool) (xs : List X) (x : X) (start : ℕ) → start ≤ length xs → p x ≡ false → place_by p (xs ++ x ∷ []) start ≡ place_by p xs start
+place-other p xs x start l other =
+    place-pushed p xs x start l ∙ (ap (λ b. or_place (place_by p xs start) b (length xs)) other ∙ go (place_by p xs start))
   where
-    go : (o : Option ℕ) → or_place o false (length es) ≡ o
+    go : (o : Option ℕ) → or_place o false (length xs) ≡ o
     go None = refl
     go (Some k) = refl
 
-pub last-other : (es : List Edge) (e : Edge) (i : ℕ) (o : Option ℕ) → IsLast es i o → e.source ≢ i → IsLast (es ++ e ∷ []) i o
-last-other es e i None h other = place-other es e i 0 (omega arith) other ∙ h
-last-other es e i (Some l) h other =
-    let inside : l < length es = last-within es i (Some l) h in
-    (ap (option_map (λ e. e.source)) (slice-front es e l inside) ∙ h.0, place-other es e i (l + 1) (omega (arith, inside)) other ∙ h.1)
+last-other : {X : Type 0} (p : X → Bool) (xs : List X) (x : X) (o : Option ℕ) → IsLast p xs o → p x ≡ false → IsLast p (xs ++ x ∷ []) o
+last-other p xs x None h other = place-other p xs x 0 (omega arith) other ∙ h
+last-other p xs x (Some l) h other =
+    let inside : l < length xs = last-within p xs (Some l) h in
+    (ap (option_map p) (slice-front xs x l inside) ∙ h.0, place-other p xs x (l + 1) (omega (arith, inside)) other ∙ h.1)
 
--- is the node's next where it had none, and its last
-pub place-new : (es : List Edge) (e : Edge) (i start : ℕ) → start ≤ length es → e.source ≡ i →
-    place_from (es ++ e ∷ []) i start ≡ or_place (place_from es i start) true (length es)
-place-new es e i start l same = place-pushed es e i start l ∙ ap (λ b. or_place (place_from es i start) b (length es)) (eq-eqb e.source i same)
+-- that passes is the next where there was none, and the last
+place-new : {X : Type 0} (p : X → Bool) (xs : List X) (x : X) (start : ℕ) → start ≤ length xs → p x ≡ true →
+    place_by p (xs ++ x ∷ []) start ≡ or_place (place_by p xs start) true (length xs)
+place-new p xs x start l passes = place-pushed p xs x start l ∙ ap (λ b. or_place (place_by p xs start) b (length xs)) passes
 
-pub last-new : (es : List Edge) (e : Edge) (i : ℕ) → e.source ≡ i → IsLast (es ++ e ∷ []) i (Some (length es))
-last-new es e i same = (
-  ap (option_map (λ e. e.source)) (slice-last es e) ∙ ap Some same,
-  subst (λ n. place_from (es ++ e ∷ []) i n ≡ None) (length_push es e) (place-past (es ++ e ∷ []) i),
+last-new : {X : Type 0} (p : X → Bool) (xs : List X) (x : X) → p x ≡ true → IsLast p (xs ++ x ∷ []) (Some (length xs))
+last-new p xs x passes = (
+  ap (option_map p) (slice-last xs x) ∙ ap Some passes,
+  subst (λ n. place_by p (xs ++ x ∷ []) n ≡ None) (length_push xs x) (place-past p (xs ++ x ∷ [])),
 )
+
+-- One element is linked to the next
+
+module _ {I : Type 0} (set_next : I → ℕ → I) where
+  with_link-at : (is : List I) (l n : ℕ) (d : I) → l < length is → with_link set_next is (Some l) n ≡ set is l (set_next (get_or is l d) n)
+  with_link-at is l n d inside = ap (λ o. elim o [ None ↦ is | Some r ↦ set is l (set_next r n) ]) (slice_get-get_or is l d inside)
+
+  pub length-with_link : (is : List I) (o : Option ℕ) (n : ℕ) → length (with_link set_next is o n) ≡ length is
+  length-with_link is None n = refl
+  length-with_link is (Some l) n = go (slice_get is l)
+    where
+      go : (r : Option I) → length {A = I} (elim r [ None ↦ is | Some s ↦ set is l (set_next s n) ]) ≡ length is
+      go None = refl
+      go (Some s) = length-set is l (set_next s n)
+
+  -- which makes no difference to what is shown
+  pub shown-with_link : {X : Type 0} (shown : I → X) → ((r : I) (n : ℕ) → shown (set_next r n) ≡ shown r) → (is : List I) (o : Option ℕ) (n : ℕ) →
+      map shown (with_link set_next is o n) ≡ map shown is
+  shown-with_link shown same is None n = refl
+  shown-with_link shown same is (Some l) n = go (slice_get is l) refl
+    where
+      go : (r : Option I) → slice_get is l ≡ r → map shown (elim r [ None ↦ is | Some s ↦ set is l (set_next s n) ]) ≡ map shown is
+      go None e = refl
+      go (Some s) e =
+          let inside : l < length is = slice_get_within is l s e in
+          let here : s ≡ get_or is l s = same_Some _ _ (sym e ∙ slice_get-get_or is l s inside) in
+          map-set shown is l (set_next s n)
+          ∙ (ap (set (map shown is) l) (same s n ∙ (ap shown here ∙ sym (get_or-map shown is l s (shown s) inside)))
+          ∙ set-get_or (map shown is) l (shown s))
+
+-- Chains
+
+module _ {X I : Type 0} (shown : I → X) (p : X → Bool) (next : I → Option ℕ) where
+  -- what an element's link is, where it passes
+  abbrev IsLinked : List X → ℕ → I → Type 0
+  IsLinked xs j r = p (shown r) ≡ true → next r ≡ place_by p xs (j + 1)
+
+  -- where no element passes there is no chain,
+  pub chain-none : (is : List I) → ((x : X) → Among x (map shown is) → p x ≡ false) → IsChain shown p next (map shown is) is no_chain
+  chain-none is others = record {
+    first = sym (place-none p (map shown is) others);
+    last = place-none p (map shown is) others;
+    links = λ j d l passes. absurd (true≢false (sym passes ∙ others (shown (get_or is j d)) (Among-map shown (get_or is j d) is (among-at is j d l))));
+  }
+
+  -- and one that does not pass changes none
+  pub chain-other : (xs : List X) (is : List I) (c : Chain) (x : X) → IsChain shown p next xs is c → length is ≤ length xs → p x ≡ false → IsChain shown p next (xs ++ x ∷ []) is c
+  chain-other xs is c x h few other = record {
+    first = h.first ∙ sym (place-other p xs x 0 (omega arith) other);
+    last = last-other p xs x c.last h.last other;
+    links = λ j d l passes. h.links j d l passes ∙ sym (place-other p xs x (j + 1) (omega (arith, l, few)) other);
+  }
+
+  -- an element comes that was shown already
+  pub chain-pushed : (xs : List X) (is : List I) (c : Chain) (y : I) → IsChain shown p next xs is c → length xs ≡ length is + 1 → next y ≡ None →
+      IsChain shown p next xs (is ++ y ∷ []) c
+  chain-pushed xs is c y h longer none = record {
+    first = h.first;
+    last = h.last;
+    links = each-added (IsLinked xs) is y h.links (λ passes. none ∙ sym (subst (λ n. place_by p xs n ≡ None) longer (place-past p xs)));
+  }
+
+  module _ (set_next : I → ℕ → I) (same : (r : I) (n : ℕ) → shown (set_next r n) ≡ shown r) where
+    -- an element is linked to the next one of another chain
+    pub chain-linked : (xs : List X) (is : List I) (c : Chain) (o : Option ℕ) (n : ℕ) → IsChain shown p next xs is c →
+        ((l : ℕ) (r : I) → o ≡ Some l → slice_get is l ≡ Some r → p (shown r) ≡ true → next (set_next r n) ≡ next r) →
+        IsChain shown p next xs (with_link set_next is o n) c
+    chain-linked xs is c None n h kept = h
+    chain-linked xs is c (Some l) n h kept = go (slice_get is l) refl
+      where
+        go : (r : Option I) → slice_get is l ≡ r → IsChain shown p next xs (elim r [ None ↦ is | Some s ↦ set is l (set_next s n) ]) c
+        go None e = h
+        go (Some s) e =
+            let inside : l < length is = slice_get_within is l s e in
+            let here : s ≡ get_or is l s = same_Some _ _ (sym e ∙ slice_get-get_or is l s inside) in
+            record {
+              first = h.first;
+              last = h.last;
+              links = each-set (IsLinked xs) is l (set_next s n) inside
+                  (λ passes.
+                  let passed : p (shown s) ≡ true = ap p (sym (same s n)) ∙ passes in
+                  kept l s refl e passed ∙ (ap next here ∙ h.links l s inside (ap (λ r. p (shown r)) (sym here) ∙ passed)))
+                  (λ j d m apart. h.links j d m);
+            }
+
+    -- the last one is linked to a new one, which passes
+    pub chain-new : (is : List I) (c : Chain) (x : X) (n : ℕ) → IsChain shown p next (map shown is) is c → p x ≡ true → n ≡ length is →
+        ((r : I) (n : ℕ) → next (set_next r n) ≡ Some n) → IsChain shown p next (map shown is ++ x ∷ []) (with_link set_next is c.last n) (chained c n)
+    chain-new is c x n h passes count new = record {
+      first = begins c.first (place_by p (map shown is) 0) h.first ∙ sym (place-new p (map shown is) x 0 (omega arith) passes);
+      last = subst (λ m. IsLast p (map shown is ++ x ∷ []) (Some m)) (sym shown_count) (last-new p (map shown is) x passes);
+      links = linked c.last h.last;
+    }
+      where
+        shown_count : n ≡ length (map shown is)
+        shown_count = omega (arith, count, length-map is shown)
+
+        begins : (o q : Option ℕ) → o ≡ q → elim o [ Some i ↦ Some i | None ↦ Some n ] ≡ or_place q true (length (map shown is))
+        begins o None f = ap (λ z. elim z [ Some i ↦ Some i | None ↦ Some n ]) f ∙ ap Some shown_count
+        begins o (Some k) f = ap (λ z. elim z [ Some i ↦ Some i | None ↦ Some n ]) f
+
+        at : (j : ℕ) (d : I) → j < length is → get_or (map shown is) j (shown d) ≡ shown (get_or is j d)
+        at j d l = get_or-map shown is j d (shown d) l
+
+        -- one that is not the last keeps its next
+        stays : (o : Option ℕ) → IsLast p (map shown is) o → (j : ℕ) (d : I) → j < length is → o ≢ Some j → IsLinked (map shown is ++ x ∷ []) j (get_or is j d)
+        stays o last j d l apart passed =
+            h.links j d l passed
+            ∙ (go (place_by p (map shown is) (j + 1)) refl
+            ∙ sym (place-new p (map shown is) x (j + 1) (omega (arith, l, length-map is shown)) passes))
+          where
+            go : (q : Option ℕ) → place_by p (map shown is) (j + 1) ≡ q → q ≡ or_place q true (length (map shown is))
+            go None e = absurd (apart (last-only p (map shown is) j (shown d) o last (omega (arith, l, length-map is shown)) (ap p (at j d l) ∙ passed) e))
+            go (Some k) e = refl
+
+        linked : (o : Option ℕ) → IsLast p (map shown is) o → (j : ℕ) (d : I) → j < length (with_link set_next is o n) →
+            IsLinked (map shown is ++ x ∷ []) j (get_or (with_link set_next is o n) j d)
+        linked None last j d l = stays None last j d l (λ e. absurd (cc))
+        linked (Some l) last j d m =
+            let there : l < length (map shown is) = last-within p (map shown is) (Some l) last in
+            let inside : l < length is = omega (arith, there, length-map is shown) in
+            subst (λ ys. IsLinked (map shown is ++ x ∷ []) j (get_or ys j d)) (sym (with_link-at set_next is l n d inside))
+            (each-set (IsLinked (map shown is ++ x ∷ [])) is l (set_next (get_or is l d) n) inside
+            (λ passed.
+            new (get_or is l d) n
+            ∙ (ap Some shown_count
+            ∙ (ap (λ q. or_place q true (length (map shown is))) (sym last.1)
+            ∙ sym (place-new p (map shown is) x (l + 1) (omega (arith, there)) passes))))
+            (λ k e less other. stays (Some l) last k e less (λ s. other (sym (same_Some _ _ s)))) j d
+            (omega (arith, m, length-with_link set_next is (Some l) n, length-set is l (set_next (get_or is l d) n))))

@@ -3,4 +3,5 @@ pub mod NodesByName
 pub mod Chains
 pub mod Lists
 pub mod Numbering
+pub mod Mappings
 pub mod Whole

@@ -1,31 +1,33 @@
 -- What is kept of nodes and references stays right.
-use Rattle.std.proofs.Common.{◌≡◌, ◌≢◌, ℕ, ◌+◌, ◌<◌, ◌≤◌, zero, suc, Bool, true, false, cond, List, [], ◌∷◌, ◌++◌, length, get_or, refl, sym, ◌∙◌, ap, subst, inl, inr, ⊎_elim, arith, count_by, Some, None}
-use Rattle.std.specs.Prelude.{◌==◌, slice_get, nat_lt, Option, IfSome}
+use Rattle.std.proofs.Common.{◌≡◌, ◌≢◌, ℕ, ◌+◌, ◌<◌, ◌≤◌, zero, suc, Bool, true, false, cond, List, [], ◌∷◌, ◌++◌, length, map, get_or, refl, sym, ◌∙◌, ap, subst, inl, inr, arith, count_by, Some, None, option_map}
+use Rattle.std.specs.Prelude.{◌==◌, slice_get, Option, IfSome}
 use Rattle.std.proofs.Math.ListN.{set}
-use Rattle.std.proofs.lemmas.Bool.{ltb-true, eq-eqb, ne_eqb}
-use Rattle.std.proofs.lemmas.Bool.Decides.{eqb_tells}
+use Rattle.std.proofs.lemmas.Bool.{eqb-true, eq-eqb, ne_eqb}
 use Rattle.std.proofs.lemmas.List.{length-set, length-map, length_push, get_or-map, map-set, map_push, set-get_or}
-use Rattle.std.proofs.lemmas.List.Sums.{count_by-le-length}
-use Rattle.std.proofs.lemmas.Option.{slice_get-get_or, slice_get_within}
+use Rattle.std.proofs.lemmas.Option.{slice_get-get_or, slice_get_within, same_Some}
 use Rattle.cc_names.specs.declared.name.Name.{Name}
 use Rattle.cc_names.specs.Names.{same_name}
 use Rattle.cc_names.proofs.NameTests.{same_name-refl}
 use Rattle.cc_counted.specs.declared.held.Held.{Held}
 use Rattle.cc_lists.specs.Members.{Among, has}
+use Rattle.cc_lists.proofs.Members.{Among-map}
 use Rattle.cc_lists.proofs.Counting.{count_by-append}
 use Rattle.cc_lists.proofs.CountsOf.{count_by-none}
 use Rattle.cc_lists.proofs.ListWrites.{each-push}
 use Rattle.cc_lists.proofs.Numbers.{number-exact}
 use Rattle.cc_lists.proofs.OnceEach.{with_all_last-once}
+use Rattle.cc_graph.specs.declared.chain.Chain.{Chain}
+use Rattle.cc_graph.specs.declared.mapping.Mapping.{Mapping}
 use Rattle.cc_graph.specs.declared.node.Node.{Node}
 use Rattle.cc_graph.specs.declared.reference.Reference.{Reference}
 use Rattle.cc_graph.specs.Shown.{Vertex, Edge, Hyperedge, Shown, change_vertex, edges_to, number_of, place_from, with_black}
 use Rattle.cc_graph.specs.Closed.{IsHyperedgeWithin, AreHyperedgesWithin, IsWithin, IsClosed}
-use Rattle.cc_graph.specs.Kept.{added, chained, with_black_node, vertex_of, edge_of, with_next, vertices, edges, IsLast, IsRight, IsLinked, IsWhole}
+use Rattle.cc_graph.specs.Kept.{added, no_chain, with_black_node, with_next, with_reference, vertex_of, edge_of, hyperedge_of, vertices, edges, hyperedges, chain_of, but_mapping, but_mappings, IsChain, IsLast, AreReferences, AreMappings, IsWhole}
 use Rattle.cc_graph.proofs.Lists.{each-set, each-added, among-at}
 use Rattle.cc_graph.proofs.NodesByName.{number-pushed, or_last}
 use Rattle.cc_graph.proofs.Numbering.{length-vertices, vertices-pushed}
-use Rattle.cc_graph.proofs.Chains.{or_place, place-past, place-none, place-found, last-within, last-source, last-only, place-other, last-other, place-new, last-new}
+use Rattle.cc_graph.proofs.Chains.{chain-linked, chain-new, chain-none, chain-other, chain-pushed, last-passes, length-with_link, place-passes, shown-with_link}
+use Rattle.cc_graph.proofs.Mappings.{chain-set, mappings-added, mappings-pushed, mappings-same}
 
 -- what holds of each element holds of what a read within the list gives
 pub each-read : {X : Type 0} (P : X → Type 0) (xs : List X) (i : ℕ) (d : X) → ((x : X) → Among x xs → P x) → i < length xs → P (get_or xs i d)
@@ -48,10 +50,25 @@ pub edge-at : (rs : List Reference) (j : ℕ) (d : Reference) → j < length rs 
     get_or (edges rs) j (edge_of d) ≡ edge_of (get_or rs j d)
 edge-at rs j d inside = get_or-map edge_of rs j d (edge_of d) inside
 
+-- a mapping as it is shown
+pub mapping-at : (ms : List Mapping) (j : ℕ) (d : Mapping) → j < length ms →
+    get_or (hyperedges ms) j (hyperedge_of d) ≡ hyperedge_of (get_or ms j d)
+mapping-at ms j d inside = get_or-map hyperedge_of ms j d (hyperedge_of d) inside
+
+-- is within the nodes
+pub mapping-within : (ms : List Mapping) (n j : ℕ) (m : Mapping) → AreHyperedgesWithin n (hyperedges ms) → j < length ms → m ≡ get_or ms j m →
+    IsHyperedgeWithin n (hyperedge_of m)
+mapping-within ms n j m within inside at =
+    subst (λ z. IsHyperedgeWithin n (hyperedge_of z)) (sym at) (within (hyperedge_of (get_or ms j m)) (Among-map hyperedge_of (get_or ms j m) ms (among-at ms j m inside)))
+
 -- graphs with the same parts
 pub shown-same : (vs ws : List Vertex) (es fs : List Edge) (ms : List Hyperedge) (bs cs : List ℕ) (n m : ℕ) → vs ≡ ws → es ≡ fs → bs ≡ cs → n ≡ m →
     ◌≡◌ {A = Shown} (record { nodes = vs; edges = es; hyperedges = ms; blacks = bs; spare = n }) (record { nodes = ws; edges = fs; hyperedges = ms; blacks = cs; spare = m })
 shown-same vs ws es fs ms bs cs n m a b c d = rw (a, b, c, d) refl
+
+pub shown-mapped : (vs ws : List Vertex) (es : List Edge) (ms ns : List Hyperedge) (bs cs : List ℕ) (n : ℕ) → vs ≡ ws → ms ≡ ns → bs ≡ cs →
+    ◌≡◌ {A = Shown} (record { nodes = vs; edges = es; hyperedges = ms; blacks = bs; spare = n }) (record { nodes = ws; edges = es; hyperedges = ns; blacks = cs; spare = n })
+shown-mapped vs ws es ms ns bs cs n a b c = rw (a, b, c) refl
 
 -- a node becomes black
 pub black-last : (bs : List ℕ) (i : ℕ) → has ◌==◌ bs i ≡ false → bs ++ i ∷ [] ≡ with_black bs i
@@ -119,45 +136,41 @@ hyperedges-more n m ms w le x a = record {
 }
 
 -- a node is added
-pub whole-added : (ks : List Node) (rs : List Reference) (ms : List Hyperedge) (bs : List ℕ) (x : Name) (h : Held) → IsWhole ks rs ms bs → length ks < 4294967295 →
-    IsWhole (ks ++ added x h ∷ []) rs ms bs
-whole-added ks rs ms bs x h w few = record {
+pub whole-added : (ks : List Node) (rs : List Reference) (ms : List Mapping) (loose : Chain) (bs : List ℕ) (x : Name) (h : Held) → IsWhole ks rs ms loose bs →
+    length ks < 4294967295 → IsWhole (ks ++ added x h ∷ []) rs ms loose bs
+whole-added ks rs ms loose bs x h w few = record {
   few = omega (arith, few, length_push ks (added x h));
-  right = each-added (IsRight (edges rs)) ks (added x h) w.right (record {
-    noted = sym (count_by-none (λ e. e.target == length ks) (edges rs) (λ e m. ne_eqb e.target (length ks) (λ s. let l : e.target < length ks = w.within.targets e m in omega (arith, l, s))));
-    first = sym none;
-    last = none;
-  });
-  linked = w.linked;
+  noted = each-added (λ i k. k.noted ≡ edges_to (edges rs) i) ks (added x h) w.noted
+      (sym (count_by-none (λ e. e.target == length ks) (edges rs) (λ e m. ne_eqb e.target (length ks) (λ s. let l : e.target < length ks = w.within.targets e m in omega (arith, l, s)))));
+  referring = each-added (λ i k. AreReferences i (edges rs) rs k.references) ks (added x h) w.referring
+      (chain-none edge_of (λ e. e.source == length ks) (λ r. r.next) rs
+      (λ e m. ne_eqb e.source (length ks) (λ s. let l : e.source < length ks = w.within.sources e m in absurd (omega (arith, l, s)))));
+  mapping = mappings-added ks loose ms (added x h) w.mapping refl w.mapped;
   within = within-more (length ks) (length (ks ++ added x h ∷ [])) (edges rs) bs w.within (omega (arith, length_push ks (added x h)));
-  mapped = hyperedges-more (length ks) (length (ks ++ added x h ∷ [])) ms w.mapped (omega (arith, length_push ks (added x h)));
+  mapped = hyperedges-more (length ks) (length (ks ++ added x h ∷ [])) (hyperedges ms) w.mapped (omega (arith, length_push ks (added x h)));
 }
-  where
-    none : place_from (edges rs) (length ks) 0 ≡ None
-    none = place-none (edges rs) (length ks) (λ e m s. let l : e.source < length ks = w.within.sources e m in omega (arith, l, s))
 
--- what is kept of a node changes, but for what the references say of it
-pub whole-put : (ks : List Node) (rs : List Reference) (ms : List Hyperedge) (bs : List ℕ) (i : ℕ) (d y : Node) → IsWhole ks rs ms bs → i < length ks →
-    y.noted ≡ (get_or ks i d).noted → y.first ≡ (get_or ks i d).first → y.last ≡ (get_or ks i d).last → IsWhole (set ks i y) rs ms bs
-whole-put ks rs ms bs i d y w inside noted first last = record {
+-- a node changes, but for what is kept of references and mappings
+pub whole-put : (ks : List Node) (rs : List Reference) (ms : List Mapping) (loose : Chain) (bs : List ℕ) (i : ℕ) (d y : Node) → IsWhole ks rs ms loose bs → i < length ks →
+    y.noted ≡ (get_or ks i d).noted → y.references ≡ (get_or ks i d).references → y.mappings ≡ (get_or ks i d).mappings → IsWhole (set ks i y) rs ms loose bs
+whole-put ks rs ms loose bs i d y w inside noted references mappings = record {
   few = omega (arith, w.few, length-set ks i y);
-  right = each-set (IsRight (edges rs)) ks i y inside (record {
-    noted = noted ∙ (w.right i d inside).noted;
-    first = first ∙ (w.right i d inside).first;
-    last = subst (IsLast (edges rs) i) (sym last) (w.right i d inside).last;
-  }) (λ k e within other. w.right k e within);
-  linked = w.linked;
+  noted = each-set (λ j k. k.noted ≡ edges_to (edges rs) j) ks i y inside (noted ∙ w.noted i d inside) (λ j e within other. w.noted j e within);
+  referring = each-set (λ j k. AreReferences j (edges rs) rs k.references) ks i y inside
+      (subst (AreReferences i (edges rs) rs) (sym references) (w.referring i d inside)) (λ j e within other. w.referring j e within);
+  mapping = mappings-same (chain_of ks loose) (chain_of (set ks i y) loose) (λ n. hyperedges ms) ms (chain-set ks loose i d y inside mappings) w.mapping;
   within = within-more (length ks) (length (set ks i y)) (edges rs) bs w.within (omega (arith, length-set ks i y));
-  mapped = hyperedges-more (length ks) (length (set ks i y)) ms w.mapped (omega (arith, length-set ks i y));
+  mapped = hyperedges-more (length ks) (length (set ks i y)) (hyperedges ms) w.mapped (omega (arith, length-set ks i y));
 }
 
 -- one more is black
-pub whole-blackened : (ks : List Node) (rs : List Reference) (ms : List Hyperedge) (bs : List ℕ) (i : ℕ) → IsWhole ks rs ms bs → i < length ks → has ◌==◌ bs i ≡ false →
-    IsWhole ks rs ms (bs ++ i ∷ [])
-whole-blackened ks rs ms bs i w inside off = record {
+pub whole-blackened : (ks : List Node) (rs : List Reference) (ms : List Mapping) (loose : Chain) (bs : List ℕ) (i : ℕ) → IsWhole ks rs ms loose bs → i < length ks →
+    has ◌==◌ bs i ≡ false → IsWhole ks rs ms loose (bs ++ i ∷ [])
+whole-blackened ks rs ms loose bs i w inside off = record {
   few = w.few;
-  right = w.right;
-  linked = w.linked;
+  noted = w.noted;
+  referring = w.referring;
+  mapping = w.mapping;
   within = record {
     sources = w.within.sources;
     targets = w.within.targets;
@@ -168,197 +181,172 @@ whole-blackened ks rs ms bs i w inside off = record {
 }
 
 -- the node knows it
-pub whole-black_node : (ks : List Node) (rs : List Reference) (ms : List Hyperedge) (bs : List ℕ) (i : ℕ) → IsWhole ks rs ms bs → IsWhole (with_black_node ks i) rs ms bs
-whole-black_node ks rs ms bs i w = go (slice_get ks i) refl
+pub whole-black_node : (ks : List Node) (rs : List Reference) (ms : List Mapping) (loose : Chain) (bs : List ℕ) (i : ℕ) → IsWhole ks rs ms loose bs →
+    IsWhole (with_black_node ks i) rs ms loose bs
+whole-black_node ks rs ms loose bs i w = go (slice_get ks i) refl
   where
-    go : (o : Option Node) → slice_get ks i ≡ o → IsWhole (elim o [ None ↦ ks | Some k ↦ set ks i (record k { black = true }) ]) rs ms bs
+    go : (o : Option Node) → slice_get ks i ≡ o → IsWhole (elim o [ None ↦ ks | Some k ↦ set ks i (record k { black = true }) ]) rs ms loose bs
     go None e = w
     go (Some k) e =
         let inside : i < length ks = slice_get_within ks i k e in
         let read : Some k ≡ Some (get_or ks i k) = sym e ∙ slice_get-get_or ks i k inside in
         let here : k ≡ get_or ks i k = cc in
-        whole-put ks rs ms bs i k (record k { black = true }) w inside (ap (λ n. n.noted) here) (ap (λ n. n.first) here) (ap (λ n. n.last) here)
+        whole-put ks rs ms loose bs i k (record k { black = true }) w inside (ap (λ n. n.noted) here) (ap (λ n. n.references) here) (ap (λ n. n.mappings) here)
 
--- a mapping is noted
-pub whole-mapped : (ks : List Node) (rs : List Reference) (ms : List Hyperedge) (bs : List ℕ) (m : Hyperedge) → IsWhole ks rs ms bs →
-    IsHyperedgeWithin (length ks) m → IsWhole ks rs (ms ++ m ∷ []) bs
-whole-mapped ks rs ms bs m w within = record {
-  few = w.few;
-  right = w.right;
-  linked = w.linked;
-  within = w.within;
-  mapped = each-push (IsHyperedgeWithin (length ks)) ms m w.mapped within;
+-- A mapping is noted: what is kept of nodes but for their mappings stays
+
+but-length : (ks ls : List Node) → but_mappings ls ≡ but_mappings ks → length ls ≡ length ks
+but-length ks ls same = sym (length-map ls but_mapping) ∙ (ap length same ∙ length-map ks but_mapping)
+
+but-at : (ks ls : List Node) (i : ℕ) (d : Node) → but_mappings ls ≡ but_mappings ks → i < length ks → but_mapping (get_or ls i d) ≡ but_mapping (get_or ks i d)
+but-at ks ls i d same inside =
+    sym (get_or-map but_mapping ls i d (but_mapping d) (omega (arith, inside, but-length ks ls same)))
+    ∙ (ap (λ xs. get_or xs i (but_mapping d)) same ∙ get_or-map but_mapping ks i d (but_mapping d) inside)
+
+-- they are shown as they were
+pub but-shown : (ks ls : List Node) → but_mappings ls ≡ but_mappings ks → vertices ls ≡ vertices ks
+but-shown ks ls same = sym (over ls) ∙ (ap vertices same ∙ over ks)
+  where
+    over : (xs : List Node) → vertices (but_mappings xs) ≡ vertices xs
+    over [] = refl
+    over (x ∷ xs) = ap (λ vs. vertex_of x ∷ vs) (over xs)
+
+pub whole-mapped : (ks ls : List Node) (rs : List Reference) (ms ns : List Mapping) (loose free : Chain) (bs : List ℕ) (m : Hyperedge) (y : Mapping) → IsWhole ks rs ms loose bs →
+    IsHyperedgeWithin (length ks) m → but_mappings ls ≡ but_mappings ks → hyperedges ns ≡ hyperedges ms →
+    AreMappings (chain_of ls free) (λ n. hyperedges ms ++ m ∷ []) ns → hyperedge_of y ≡ m → y.next_of_map ≡ None → y.next_of_key ≡ None →
+    IsWhole ls rs (ns ++ y ∷ []) free bs
+whole-mapped ks ls rs ms ns loose free bs m y w within same shown chains is no_map no_key = record {
+  few = omega (arith, w.few, but-length ks ls same);
+  noted = λ i d l. let inside : i < length ks = omega (arith, l, but-length ks ls same) in ap (λ (k : Node). k.noted) (but-at ks ls i d same inside) ∙ w.noted i d inside;
+  referring = λ i d l. let inside : i < length ks = omega (arith, l, but-length ks ls same) in
+      subst (AreReferences i (edges rs) rs) (sym (ap (λ (k : Node). k.references) (but-at ks ls i d same inside))) (w.referring i d inside);
+  mapping = mappings-pushed (chain_of ls free) ns m y (hyperedges ms) chains shown is no_map no_key;
+  within = within-more (length ks) (length ls) (edges rs) bs w.within (omega (arith, but-length ks ls same));
+  mapped = subst (AreHyperedgesWithin (length ls)) (sym (map_push hyperedge_of ns y ∙ (ap (λ xs. xs ++ hyperedge_of y ∷ []) shown ∙ ap (λ z. hyperedges ms ++ z ∷ []) is)))
+      (hyperedges-more (length ks) (length ls) (hyperedges ms ++ m ∷ []) (each-push (IsHyperedgeWithin (length ks)) (hyperedges ms) m w.mapped within) (omega (arith, but-length ks ls same)));
 }
 
 -- A reference is noted
 
-with_next-at : (rs : List Reference) (l n : ℕ) (d : Reference) → l < length rs → with_next rs (Some l) n ≡ set rs l (record (get_or rs l d) { next = Some n })
-with_next-at rs l n d inside = ap (λ o. elim o [ None ↦ rs | Some r ↦ set rs l (record r { next = Some n }) ]) (slice_get-get_or rs l d inside)
-
-pub length-with_next : (rs : List Reference) (o : Option ℕ) (n : ℕ) → length (with_next rs o n) ≡ length rs
-length-with_next rs None n = refl
-length-with_next rs (Some l) n = go (slice_get rs l)
-  where
-    go : (r : Option Reference) → length {A = Reference} (elim r [ None ↦ rs | Some s ↦ set rs l (record s { next = Some n }) ]) ≡ length rs
-    go None = refl
-    go (Some s) = length-set rs l (record s { next = Some n })
-
--- the next one makes no difference to what is shown
-edges-with_next : (rs : List Reference) (o : Option ℕ) (n : ℕ) → edges (with_next rs o n) ≡ edges rs
-edges-with_next rs None n = refl
-edges-with_next rs (Some l) n = go (slice_get rs l) refl
-  where
-    go : (r : Option Reference) → slice_get rs l ≡ r → edges (elim r [ None ↦ rs | Some s ↦ set rs l (record s { next = Some n }) ]) ≡ edges rs
-    go None e = refl
-    go (Some s) e =
-        let inside : l < length rs = slice_get_within rs l s e in
-        let here : s ≡ get_or rs l s = one (sym e ∙ slice_get-get_or rs l s inside) in
-        map-set edge_of rs l (record s { next = Some n })
-        ∙ (ap (set (edges rs) l) (ap edge_of here ∙ sym (get_or-map edge_of rs l s (edge_of s) inside))
-        ∙ set-get_or (edges rs) l (edge_of s))
-      where
-        one : {x y : Reference} → Some x ≡ Some y → x ≡ y
-        one f = cc
-
 -- the references with one more, as they are shown
 pub edges-noted : (rs : List Reference) (o : Option ℕ) (n : ℕ) (r : Reference) → edges (with_next rs o n ++ r ∷ []) ≡ edges rs ++ edge_of r ∷ []
-edges-noted rs o n r = map_push edge_of (with_next rs o n) r ∙ ap (λ es. es ++ edge_of r ∷ []) (edges-with_next rs o n)
+edges-noted rs o n r =
+    map_push edge_of (with_next rs o n) r ∙ ap (λ es. es ++ edge_of r ∷ []) (shown-with_link (λ r n. record r { next = Some n }) edge_of (λ r n. refl) rs o n)
 
--- a reference that is not the last of its node keeps its next one
-linked-kept : (rs : List Reference) (e : Edge) (o : Option ℕ) (j : ℕ) (d : Reference) → ((j : ℕ) (d : Reference) → j < length rs → IsLinked (edges rs) j (get_or rs j d)) →
-    IsLast (edges rs) e.source o → j < length rs → o ≢ Some j → IsLinked (edges rs ++ e ∷ []) j (get_or rs j d)
-linked-kept rs e o j d linked last inside apart = ⊎_elim
-    (λ t. there (sym t.1) (place_from (edges rs) (get_or rs j d).source (j + 1)) refl)
-    (λ f. linked j d inside ∙ sym (place-other (edges rs) e (get_or rs j d).source (j + 1) (omega (arith, inside, length-edges rs)) (λ s. f.1 (sym s))))
-    (eqb_tells (get_or rs j d).source e.source)
+pub length-with_next : (rs : List Reference) (o : Option ℕ) (n : ℕ) → length (with_next rs o n) ≡ length rs
+length-with_next rs o n = length-with_link (λ r n. record r { next = Some n }) rs o n
+
+-- the places of references, as readers see them
+pub place-source : (es : List Edge) (i start : ℕ) (o : Option ℕ) → start ≤ length es → o ≡ place_from es i start →
+    IfSome o (λ j. option_map (λ e. e.source) (slice_get es j) ≡ Some i)
+place-source es i start None l e = tt
+place-source es i start (Some j) l e = go (slice_get es j) (place-passes (λ e. e.source == i) es start (Some j) l e)
   where
-    there : e.source ≡ (get_or rs j d).source → (p : Option ℕ) → place_from (edges rs) (get_or rs j d).source (j + 1) ≡ p → IsLinked (edges rs ++ e ∷ []) j (get_or rs j d)
-    there same None q = absurd (apart (last-only (edges rs) e.source j (edge_of d) o last (omega (arith, inside, length-edges rs))
-        (ap (λ x. x.source) (edge-at rs j d inside) ∙ sym same) (ap (λ i. place_from (edges rs) i (j + 1)) same ∙ q)))
-    there same (Some k) q =
-        linked j d inside
-        ∙ (q
-        ∙ (sym (ap (λ p. or_place p true (length (edges rs))) q)
-        ∙ sym (place-new (edges rs) e (get_or rs j d).source (j + 1) (omega (arith, inside, length-edges rs)) same)))
+    go : (o : Option Edge) → option_map (λ e. e.source == i) o ≡ Some true → option_map (λ e. e.source) o ≡ Some i
+    go None h = absurd (cc)
+    go (Some x) h = ap Some (eqb-true x.source i (same_Some _ _ h))
 
--- and the last one has the new one
-linked-all : (rs : List Reference) (e : Edge) (o : Option ℕ) → ((j : ℕ) (d : Reference) → j < length rs → IsLinked (edges rs) j (get_or rs j d)) →
-    IsLast (edges rs) e.source o → (j : ℕ) (d : Reference) → j < length (with_next rs o (length rs)) → IsLinked (edges rs ++ e ∷ []) j (get_or (with_next rs o (length rs)) j d)
-linked-all rs e None linked last j d inside = linked-kept rs e None j d linked last inside (λ s. absurd (cc))
-linked-all rs e (Some l) linked last j d inside =
-    let there : l < length (edges rs) = last-within (edges rs) e.source (Some l) last in
-    let within : l < length rs = omega (arith, there, length-edges rs) in
-    let y : Reference = record (get_or rs l d) { next = Some (length rs) } in
-    subst (λ xs. IsLinked (edges rs ++ e ∷ []) j (get_or xs j d)) (sym (with_next-at rs l (length rs) d within))
-    (each-set (IsLinked (edges rs ++ e ∷ [])) rs l y within (new within) (λ k x below other. linked-kept rs e (Some l) k x linked last below (λ s. other (one (sym s)))) j d
-    (omega (arith, inside, length-with_next rs (Some l) (length rs), length-set rs l y)))
-  where
-    one : {x y : ℕ} → Some x ≡ Some y → x ≡ y
-    one f = cc
-
-    new : l < length rs → Some (length rs) ≡ place_from (edges rs ++ e ∷ []) (get_or rs l d).source (l + 1)
-    new within =
-        let same : e.source ≡ (get_or rs l d).source = sym (last-source (edges rs) e.source l (edge_of d) last) ∙ ap (λ x. x.source) (edge-at rs l d within) in
-        let none : place_from (edges rs) (get_or rs l d).source (l + 1) ≡ None = ap (λ i. place_from (edges rs) i (l + 1)) (sym same) ∙ last.1 in
-        let count : length rs ≡ length (edges rs) = sym (length-edges rs) in
-        ap Some count
-        ∙ (sym (ap (λ p. or_place p true (length (edges rs))) none)
-        ∙ sym (place-new (edges rs) e (get_or rs l d).source (l + 1) (omega (arith, within, length-edges rs)) same))
-
--- what is kept of a node while a reference is noted: those that lead to it are counted, and the new one is not yet chained
-record IsCounted (es fs : List Edge) (i : ℕ) (k : Node) : Type 0 where
-  noted : k.noted ≡ edges_to fs i
-  first : k.first ≡ place_from es i 0
-  last : IsLast es i k.last
+-- the next one of the node that has a reference
+pub next-kept : (ks : List Node) (rs : List Reference) (j : ℕ) (d : Reference) → ((i : ℕ) (d : Node) → i < length ks → AreReferences i (edges rs) rs (get_or ks i d).references) →
+    ((e : Edge) → Among e (edges rs) → e.source < length ks) → j < length rs → (get_or rs j d).next ≡ place_from (edges rs) (get_or rs j d).source (j + 1)
+next-kept [] rs j d each sources inside =
+    let l : (get_or rs j d).source < 0 = sources (edge_of (get_or rs j d)) (Among-map edge_of (get_or rs j d) rs (among-at rs j d inside)) in absurd (omega (arith, l))
+next-kept (k ∷ ks) rs j d each sources inside =
+    (each (get_or rs j d).source k (sources (edge_of (get_or rs j d)) (Among-map edge_of (get_or rs j d) rs (among-at rs j d inside)))).links j d inside
+    (eq-eqb (get_or rs j d).source (get_or rs j d).source refl)
 
 -- the node that it leads to counts one more
-counted-all : (ks : List Node) (es : List Edge) (e : Edge) (d t : Node) → ((i : ℕ) (d : Node) → i < length ks → IsRight es i (get_or ks i d)) → e.target < length ks →
-    t.noted ≡ (get_or ks e.target d).noted + 1 → t.first ≡ (get_or ks e.target d).first → t.last ≡ (get_or ks e.target d).last →
-    (i : ℕ) (d : Node) → i < length (set ks e.target t) → IsCounted es (es ++ e ∷ []) i (get_or (set ks e.target t) i d)
-counted-all ks es e d t right inside noted first last = each-set (IsCounted es (es ++ e ∷ [])) ks e.target t inside (record {
-  noted =
-      let old : (get_or ks e.target d).noted ≡ edges_to es e.target = (right e.target d inside).noted in
-      let step : edges_to (es ++ e ∷ []) e.target ≡ edges_to es e.target + (0 + cond (e.target == e.target) 1 0) = count_by-append (λ x. x.target == e.target) es (e ∷ []) in
-      let one : cond {A = ℕ} (e.target == e.target) 1 0 ≡ 1 = rw (eq-eqb e.target e.target refl) refl in
-      omega (arith, noted, old, step, one);
-  first = first ∙ (right e.target d inside).first;
-  last = subst (IsLast es e.target) (sym last) (right e.target d inside).last;
-}) (λ k x within other. record {
-  noted =
-      let old : (get_or ks k x).noted ≡ edges_to es k = (right k x within).noted in
-      let step : edges_to (es ++ e ∷ []) k ≡ edges_to es k + (0 + cond (e.target == k) 1 0) = count_by-append (λ x. x.target == k) es (e ∷ []) in
-      let none : cond {A = ℕ} (e.target == k) 1 0 ≡ 0 = rw (ne_eqb e.target k (λ s. other (sym s))) refl in
-      omega (arith, old, step, none);
-  first = (right k x within).first;
-  last = (right k x within).last;
-})
+noted-all : (ks : List Node) (es : List Edge) (e : Edge) (d t : Node) → ((i : ℕ) (d : Node) → i < length ks → (get_or ks i d).noted ≡ edges_to es i) → e.target < length ks →
+    t.noted ≡ (get_or ks e.target d).noted + 1 → (i : ℕ) (d : Node) → i < length (set ks e.target t) → (get_or (set ks e.target t) i d).noted ≡ edges_to (es ++ e ∷ []) i
+noted-all ks es e d t noted inside more = each-set (λ i k. k.noted ≡ edges_to (es ++ e ∷ []) i) ks e.target t inside
+    (let old : (get_or ks e.target d).noted ≡ edges_to es e.target = noted e.target d inside in
+    let step : edges_to (es ++ e ∷ []) e.target ≡ edges_to es e.target + (0 + cond (e.target == e.target) 1 0) = count_by-append (λ x. x.target == e.target) es (e ∷ []) in
+    let one : cond {A = ℕ} (e.target == e.target) 1 0 ≡ 1 = rw (eq-eqb e.target e.target refl) refl in
+    omega (arith, more, old, step, one))
+    (λ k x within other.
+    let old : (get_or ks k x).noted ≡ edges_to es k = noted k x within in
+    let step : edges_to (es ++ e ∷ []) k ≡ edges_to es k + (0 + cond (e.target == k) 1 0) = count_by-append (λ x. x.target == k) es (e ∷ []) in
+    let none : cond {A = ℕ} (e.target == k) 1 0 ≡ 0 = rw (ne_eqb e.target k (λ s. other (sym s))) refl in
+    omega (arith, old, step, none))
 
--- and the node that has it chains it
-chained-all : (ks : List Node) (es : List Edge) (e : Edge) (n : ℕ) (d : Node) → ((i : ℕ) (d : Node) → i < length ks → IsCounted es (es ++ e ∷ []) i (get_or ks i d)) →
-    e.source < length ks → n ≡ length es → (i : ℕ) (x : Node) → i < length (set ks e.source (chained (get_or ks e.source d) n)) →
-    IsRight (es ++ e ∷ []) i (get_or (set ks e.source (chained (get_or ks e.source d) n)) i x)
-chained-all ks es e n d counted inside count = each-set (IsRight (es ++ e ∷ [])) ks e.source (chained (get_or ks e.source d) n) inside (record {
-  noted = (counted e.source d inside).noted;
-  first = begins (get_or ks e.source d).first (place_from es e.source 0) (counted e.source d inside).first ∙ sym (place-new es e e.source 0 (omega arith) refl);
-  last = subst (λ m. IsLast (es ++ e ∷ []) e.source (Some m)) (sym count) (last-new es e e.source refl);
-}) (λ k x within other. record {
-  noted = (counted k x within).noted;
-  first = (counted k x within).first ∙ sym (place-other es e k 0 (omega arith) (λ s. other (sym s)));
-  last = last-other es e k (get_or ks k x).last (counted k x within).last (λ s. other (sym s));
-})
+-- a node of which no more than what leads to it changed
+kept-all : (P : ℕ → Chain → Type 0) (ks : List Node) (to : ℕ) (d t : Node) → ((i : ℕ) (d : Node) → i < length ks → P i (get_or ks i d).references) → to < length ks →
+    t.references ≡ (get_or ks to d).references → (i : ℕ) (d : Node) → i < length (set ks to t) → P i (get_or (set ks to t) i d).references
+kept-all P ks to d t each inside same = each-set (λ i k. P i k.references) ks to t inside (subst (P to) (sym same) (each to d inside)) (λ k x within other. each k x within)
+
+-- the node that has it chains it, and the others keep their chains
+referring-all : (ks : List Node) (rs : List Reference) (from n : ℕ) (s : Node) (r : Reference) → ((i : ℕ) (d : Node) → i < length ks → AreReferences i (edges rs) rs (get_or ks i d).references) →
+    from < length ks → n ≡ length rs → s ≡ get_or ks from s → r.source ≡ from → r.next ≡ None →
+    (i : ℕ) (x : Node) → i < length (set ks from (with_reference s n)) →
+    AreReferences i (edges rs ++ edge_of r ∷ []) (with_next rs s.references.last n ++ r ∷ []) (get_or (set ks from (with_reference s n)) i x).references
+referring-all ks rs from n s r each inside count read source none i x l =
+    chain-pushed edge_of (λ e. e.source == i) (λ r. r.next) (edges rs ++ edge_of r ∷ []) (with_next rs s.references.last n) _ r
+    (each-set (λ j k. AreReferences j (edges rs ++ edge_of r ∷ []) (with_next rs s.references.last n) k.references) ks from (with_reference s n) inside
+    (chain-new edge_of (λ e. e.source == from) (λ r. r.next) (λ r n. record r { next = Some n }) (λ r n. refl) rs s.references (edge_of r) n own
+    (eq-eqb r.source from source) count (λ r n. refl))
+    (λ j d within other.
+    chain-linked edge_of (λ e. e.source == j) (λ r. r.next) (λ r n. record r { next = Some n }) (λ r n. refl) (edges rs ++ edge_of r ∷ []) rs _ s.references.last n
+    (chain-other edge_of (λ e. e.source == j) (λ r. r.next) (edges rs) rs _ (edge_of r) (each j d within) (omega (arith, length-edges rs))
+    (ne_eqb r.source j (λ e. other (sym e ∙ source))))
+    (λ l q last there passes. absurd (other (sym (eqb-true q.source j passes) ∙ its l q last there))))
+    i x l)
+    (omega (arith, length_push (edges rs) (edge_of r), length-edges rs, length-with_next rs s.references.last n)) none
   where
-    begins : (o p : Option ℕ) → o ≡ p → elim o [ Some i ↦ Some i | None ↦ Some n ] ≡ or_place p true (length es)
-    begins o None f = ap (λ z. elim z [ Some i ↦ Some i | None ↦ Some n ]) f ∙ ap Some count
-    begins o (Some k) f = ap (λ z. elim z [ Some i ↦ Some i | None ↦ Some n ]) f
+    own : AreReferences from (edges rs) rs s.references
+    own = subst (λ k. AreReferences from (edges rs) rs k.references) (sym read) (each from s inside)
+
+    -- the last reference of the node is its own
+    its : (l : ℕ) (q : Reference) → s.references.last ≡ Some l → slice_get rs l ≡ Some q → q.source ≡ from
+    its l q last there =
+        let within : l < length rs = slice_get_within rs l q there in
+        let here : q ≡ get_or rs l q = same_Some _ _ (sym there ∙ slice_get-get_or rs l q within) in
+        let passes : ((get_or (edges rs) l (edge_of q)).source == from) ≡ true =
+        last-passes (λ e. e.source == from) (edges rs) l (edge_of q) (subst (IsLast (λ e. e.source == from) (edges rs)) last own.last) in
+        ap (λ z. z.source) here ∙ (ap (λ z. z.source) (sym (edge-at rs l q within)) ∙ eqb-true _ _ passes)
 
 -- the whole
-pub whole-noted : (ks : List Node) (rs : List Reference) (ms : List Hyperedge) (bs : List ℕ) (from to n : ℕ) (d t s : Node) → IsWhole ks rs ms bs → from < length ks →
-    to < length ks → n ≡ length rs → t.noted ≡ (get_or ks to d).noted + 1 → t.first ≡ (get_or ks to d).first → t.last ≡ (get_or ks to d).last →
+pub whole-noted : (ks : List Node) (rs : List Reference) (ms : List Mapping) (loose : Chain) (bs : List ℕ) (from to n : ℕ) (d t s : Node) → IsWhole ks rs ms loose bs → from < length ks →
+    to < length ks → n ≡ length rs → t.noted ≡ (get_or ks to d).noted + 1 → t.references ≡ (get_or ks to d).references → t.mappings ≡ (get_or ks to d).mappings →
     s ≡ get_or (set ks to t) from s →
-    IsWhole (set (set ks to t) from (chained s n)) (with_next rs s.last n ++ record { source = from; target = to; next = None } ∷ []) ms bs
-whole-noted ks rs ms bs from to n d t s w here there count noted first last read =
+    IsWhole (set (set ks to t) from (with_reference s n)) (with_next rs s.references.last n ++ record { source = from; target = to; next = None } ∷ []) ms loose bs
+whole-noted ks rs ms loose bs from to n d t s w here there count noted references mappings read =
     let r : Reference = record { source = from; target = to; next = None } in
     let e : Edge = record { source = from; target = to } in
-    let fs : List Edge = edges rs ++ e ∷ [] in
     let between : List Node = set ks to t in
-    let after : List Node = set between from (chained s n) in
-    let shown : edges (with_next rs s.last n ++ r ∷ []) ≡ fs = edges-noted rs s.last n r in
-    let shown_count : n ≡ length (edges rs) = omega (arith, count, length-edges rs) in
-    let as_many : length after ≡ length ks = omega (arith, length-set ks to t, length-set between from (chained s n)) in
-    let counted = counted-all ks (edges rs) e d t w.right there noted first last in
-    let right = chained-all between (edges rs) e n s counted (omega (arith, here, length-set ks to t)) shown_count in
-    let is_last : IsLast (edges rs) from s.last = subst (λ k. IsLast (edges rs) from k.last) (sym read) (counted from s (omega (arith, here, length-set ks to t))).last in
-    let linked = linked-all rs e s.last w.linked is_last in
-    let past : length fs ≡ n + 1 = omega (arith, length_push (edges rs) e, shown_count) in
+    let after : List Node = set between from (with_reference s n) in
+    let shown : edges (with_next rs s.references.last n ++ r ∷ []) ≡ edges rs ++ e ∷ [] = edges-noted rs s.references.last n r in
+    let as_many : length after ≡ length ks = omega (arith, length-set ks to t, length-set between from (with_reference s n)) in
+    let inside : from < length between = omega (arith, here, length-set ks to t) in
+    let counted = noted-all ks (edges rs) e d t w.noted there noted in
     record {
       few = omega (arith, w.few, as_many);
-      right = λ i x l. subst (λ es. IsRight es i (get_or after i x)) (sym shown)
-          (subst (λ k. IsRight fs i (get_or (set between from (chained k n)) i x)) (sym read)
-          (right i x (subst (λ k. i < length (set between from (chained k n))) read l)));
-      linked = λ j x l. subst (λ es. IsLinked es j (get_or (with_next rs s.last n ++ r ∷ []) j x)) (sym shown)
-          (each-added (IsLinked fs) (with_next rs s.last n) r
-          (λ k y m. subst (λ z. IsLinked fs k (get_or (with_next rs s.last z) k y)) (sym count) (linked k y (subst (λ z. k < length (with_next rs s.last z)) count m)))
-          (sym (subst (λ z. place_from fs from z ≡ None) (omega (arith, past, count, length-with_next rs s.last n)) (place-past fs from))) j x l);
+      noted = subst (λ es. (i : ℕ) (x : Node) → i < length after → (get_or after i x).noted ≡ edges_to es i) (sym shown)
+          (each-set (λ i k. k.noted ≡ edges_to (edges rs ++ e ∷ []) i) between from (with_reference s n) inside
+          (subst (λ k. k.noted ≡ edges_to (edges rs ++ e ∷ []) from) (sym read) (counted from s inside)) (λ j x l other. counted j x l));
+      referring = subst (λ es. (i : ℕ) (x : Node) → i < length after → AreReferences i es (with_next rs s.references.last n ++ r ∷ []) (get_or after i x).references) (sym shown)
+          (referring-all between rs from n s r (kept-all (λ i c. AreReferences i (edges rs) rs c) ks to d t w.referring there references) inside count read refl refl);
+      mapping = mappings-same (chain_of ks loose) (chain_of after loose) (λ n. hyperedges ms) ms
+          (λ o. chain-set between loose from s (with_reference s n) inside (ap (λ k. k.mappings) read) o ∙ chain-set ks loose to d t there mappings o) w.mapping;
       within = subst (λ es. IsWithin (length after) es bs) (sym shown) (record {
         sources = each-push (λ x. x.source < length after) (edges rs) e (λ x m. let l = w.within.sources x m in omega (arith, l, as_many)) (omega (arith, here, as_many));
         targets = each-push (λ x. x.target < length after) (edges rs) e (λ x m. let l = w.within.targets x m in omega (arith, l, as_many)) (omega (arith, there, as_many));
         members = λ k m. let l = w.within.members k m in omega (arith, l, as_many);
         once = w.within.once;
       });
-      mapped = hyperedges-more (length ks) (length after) ms w.mapped (omega (arith, as_many));
+      mapped = hyperedges-more (length ks) (length after) (hyperedges ms) w.mapped (omega (arith, as_many));
     }
 
 -- the nodes are shown as they were
 pub vertices-noted : (ks : List Node) (from to n : ℕ) (d t s : Node) → from < length ks → to < length ks → vertex_of t ≡ vertex_of (get_or ks to d) →
-    s ≡ get_or (set ks to t) from s → vertices (set (set ks to t) from (chained s n)) ≡ vertices ks
+    s ≡ get_or (set ks to t) from s → vertices (set (set ks to t) from (with_reference s n)) ≡ vertices ks
 vertices-noted ks from to n d t s here there shown read =
-    vertices-kept (set ks to t) from s (chained s n) (omega (arith, here, length-set ks to t)) (ap vertex_of read) ∙ vertices-kept ks to d t there shown
+    vertices-kept (set ks to t) from s (with_reference s n) (omega (arith, here, length-set ks to t)) (ap vertex_of read) ∙ vertices-kept ks to d t there shown
 
 -- a whole graph is shown within its nodes
-pub whole-closed : (ks : List Node) (rs : List Reference) (ms : List Hyperedge) (bs : List ℕ) (spare : ℕ) → IsWhole ks rs ms bs →
-    IsClosed (record { nodes = vertices ks; edges = edges rs; hyperedges = ms; blacks = bs; spare = spare })
-whole-closed ks rs ms bs spare w = record {
+pub whole-closed : (ks : List Node) (rs : List Reference) (ms : List Mapping) (loose : Chain) (bs : List ℕ) (spare : ℕ) → IsWhole ks rs ms loose bs →
+    IsClosed (record { nodes = vertices ks; edges = edges rs; hyperedges = hyperedges ms; blacks = bs; spare = spare })
+whole-closed ks rs ms loose bs spare w = record {
   few = omega (arith, w.few, length-vertices ks);
   within = subst (λ n. IsWithin n (edges rs) bs) (sym (length-vertices ks)) w.within;
-  hyperedges = subst (λ n. AreHyperedgesWithin n ms) (sym (length-vertices ks)) w.mapped;
+  hyperedges = subst (λ n. AreHyperedgesWithin n (hyperedges ms)) (sym (length-vertices ks)) w.mapped;
 }

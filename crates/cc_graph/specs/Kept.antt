@@ -5,27 +5,62 @@ use Rattle.cc_lists.specs.Members.{Among, has}
 use Rattle.cc_names.specs.declared.name.Name.{Name}
 use Rattle.cc_names.specs.Names.{same_name}
 use Rattle.cc_counted.specs.declared.held.Held.{Held}
+use Rattle.cc_graph.specs.declared.chain.Chain.{Chain}
+use Rattle.cc_graph.specs.declared.mapping.Mapping.{Mapping}
 use Rattle.cc_graph.specs.declared.node.Node.{Node}
 use Rattle.cc_graph.specs.declared.reference.Reference.{Reference}
-use Rattle.cc_graph.specs.Shown.{Vertex, Edge, Hyperedge, edges_to, number_of, place_from}
+use Rattle.cc_graph.specs.Shown.{Vertex, Edge, Hyperedge, hyperedge, edges_to, number_of, place_by, is_with}
 use Rattle.cc_graph.specs.Closed.{IsWithin, AreHyperedgesWithin}
+
+-- CHAINS: of the elements of a list that pass a test the places of the first and the last are kept, and for each of them
+-- the place of the next
+
+-- of none
+abbrev pub no_chain : Chain
+no_chain = record { first = None; last = None }
+
+-- with one more, behind all that there are
+abbrev pub chained : Chain → ℕ → Chain
+chained c place = record { first = elim c.first [ Some i ↦ Some i | None ↦ Some place ]; last = Some place }
+
+-- the elements, where the one at a place, if any, has this one for its next
+abbrev pub with_link : {I : Type 0} → (I → ℕ → I) → List I → Option ℕ → ℕ → List I
+with_link set_next is None place = is
+with_link set_next is (Some l) place = elim (slice_get is l) [ None ↦ is | Some r ↦ slice_set is l (set_next r place) ]
+
+-- the last of those that pass: none where none passes
+abbrev pub IsLast : {X : Type 0} → (X → Bool) → List X → Option ℕ → Type 0
+IsLast p xs None = place_by p xs 0 ≡ None
+IsLast p xs (Some l) = (option_map p (slice_get xs l) ≡ Some true) × (place_by p xs (l + 1) ≡ None)
+
+-- what is kept is right, for the list as it is shown: of one that is shown longer the next may be kept already
+pub record IsChain {X I : Type 0} (shown : I → X) (p : X → Bool) (next : I → Option ℕ) (xs : List X) (is : List I) (c : Chain) : Type 0 where
+  pub first : c.first ≡ place_by p xs 0
+  pub last : IsLast p xs c.last
+  pub links : (j : ℕ) (d : I) → j < length is → p (shown (get_or is j d)) ≡ true → next (get_or is j d) ≡ place_by p xs (j + 1)
+
+-- NODES
 
 -- a node that was just added
 abbrev pub added : Name → Held → Node
-added name held = record { name = name; held = held; sampled = None; black = false; noted = 0; first = None; last = None }
+added name held = record { name = name; held = held; sampled = None; black = false; noted = 0; references = no_chain; mappings = no_chain }
 
 -- the nodes, of which the one with a number is black
 abbrev pub with_black_node : List Node → ℕ → List Node
 with_black_node ks i = elim (slice_get ks i) [ None ↦ ks | Some k ↦ slice_set ks i (record k { black = true }) ]
 
--- a node that has one more reference, behind all that it has
-abbrev pub chained : Node → ℕ → Node
-chained k place = record k { first = elim k.first [ Some i ↦ Some i | None ↦ Some place ]; last = Some place }
+-- a node that has one more reference, and one that is the map or the key of one more mapping, behind all others
+abbrev pub with_reference : Node → ℕ → Node
+with_reference k place = record k { references = chained k.references place }
+
+abbrev pub with_mapping : Node → ℕ → Node
+with_mapping k place = record k { mappings = chained k.mappings place }
+
+-- REFERENCES
 
 -- the references, where the one at a place, if any, has this one for its next
 abbrev pub with_next : List Reference → Option ℕ → ℕ → List Reference
-with_next rs None place = rs
-with_next rs (Some l) place = elim (slice_get rs l) [ None ↦ rs | Some r ↦ slice_set rs l (record r { next = Some place }) ]
+with_next rs o place = with_link (λ r n. record r { next = Some n }) rs o place
 
 -- what is shown of a node, and of a reference
 abbrev pub vertex_of : Node → Vertex
@@ -66,25 +101,78 @@ pub record IsNumbered (nodes : List Node) (blacks : List ℕ) (room : ℕ) (numb
 
 -- References by the node that has them
 
--- the last of the references that a node has: none where it has none
-abbrev pub IsLast : List Edge → ℕ → Option ℕ → Type 0
-IsLast es i None = place_from es i 0 ≡ None
-IsLast es i (Some l) = (option_map (λ e. e.source) (slice_get es l) ≡ Some i) × (place_from es i (l + 1) ≡ None)
+abbrev pub AreReferences : ℕ → List Edge → List Reference → Chain → Type 0
+AreReferences i es rs c = IsChain edge_of (λ e. e.source == i) (λ r. r.next) es rs c
 
--- what is kept of the node with a number is what the references say
-pub record IsRight (es : List Edge) (i : ℕ) (k : Node) : Type 0 where
-  pub noted : k.noted ≡ edges_to es i
-  pub first : k.first ≡ place_from es i 0
-  pub last : IsLast es i k.last
+-- Mappings by the nodes of their map and key
 
--- and what is kept of the reference at a place
-abbrev pub IsLinked : List Edge → ℕ → Reference → Type 0
-IsLinked es j r = r.next ≡ place_from es r.source (j + 1)
+-- whether two nodes are the same, or both are none
+abbrev pub same_node : Option ℕ → Option ℕ → Bool
+same_node None None = true
+same_node (Some i) (Some k) = i == k
+same_node _ _ = false
 
--- so it is for each, and references, black nodes and mappings are between nodes
-pub record IsWhole (nodes : List Node) (references : List Reference) (hyperedges : List Hyperedge) (blacks : List ℕ) : Type 0 where
+-- what is shown of a mapping
+abbrev pub hyperedge_of : Mapping → Hyperedge
+hyperedge_of m = hyperedge m.the_map m.key m.value
+
+abbrev pub hyperedges : List Mapping → List Hyperedge
+hyperedges ms = map hyperedge_of ms
+
+-- A mapping with both stands in two chains, its map's and its key's; where they are the same node in one, the map's. One
+-- that has neither stands in the chain of those, as if none were its map.
+
+-- the next one with a node, and with another next one
+abbrev pub next_with : Option ℕ → Mapping → Option ℕ
+next_with node m = elim (same_node m.the_map node) [ true ↦ m.next_of_map | false ↦ m.next_of_key ]
+
+abbrev pub with_next_with : Option ℕ → Mapping → ℕ → Mapping
+with_next_with node m place = elim (same_node m.the_map node) [ true ↦ record m { next_of_map = Some place } | false ↦ record m { next_of_key = Some place } ]
+
+-- the first of the nodes with which a mapping is chained, and whether there is no second
+abbrev pub first_member : Option ℕ → Option ℕ → Option ℕ
+first_member None key = key
+first_member (Some i) key = Some i
+
+abbrev pub is_one : Option ℕ → Option ℕ → Bool
+is_one (Some i) (Some k) = i == k
+is_one _ _ = true
+
+-- the chain of a node, and for none that of the mappings with neither a map nor a key
+abbrev pub chain_of : List Node → Chain → Option ℕ → Option Chain
+chain_of ks loose None = Some loose
+chain_of ks loose (Some i) = option_map (λ k. k.mappings) (slice_get ks i)
+
+-- its last
+abbrev pub last_of : Option Chain → Option ℕ
+last_of None = None
+last_of (Some c) = c.last
+
+-- one more goes last in it
+abbrev pub nodes_with : List Node → Option ℕ → ℕ → List Node
+nodes_with ks None place = ks
+nodes_with ks (Some i) place = elim (slice_get ks i) [ None ↦ ks | Some k ↦ slice_set ks i (with_mapping k place) ]
+
+abbrev pub loose_with : Chain → Option ℕ → ℕ → Chain
+loose_with loose None place = chained loose place
+loose_with loose (Some i) place = loose
+
+-- all chains are right, each for the mappings that are shown to it
+abbrev pub AreMappings : (Option ℕ → Option Chain) → (Option ℕ → List Hyperedge) → List Mapping → Type 0
+AreMappings chain shown ms = (node : Option ℕ) (c : Chain) → chain node ≡ Some c → IsChain hyperedge_of (is_with node) (next_with node) (shown node) ms c
+
+-- what is kept of nodes but for the chains of their mappings
+abbrev pub but_mapping : Node → Node
+but_mapping k = record k { mappings = no_chain }
+
+abbrev pub but_mappings : List Node → List Node
+but_mappings ks = map but_mapping ks
+
+-- So it is for each, and references, black nodes and mappings are between nodes
+pub record IsWhole (nodes : List Node) (references : List Reference) (mappings : List Mapping) (loose : Chain) (blacks : List ℕ) : Type 0 where
   pub few : length nodes < 2 ^ 32
-  pub right : (i : ℕ) (d : Node) → i < length nodes → IsRight (edges references) i (get_or nodes i d)
-  pub linked : (j : ℕ) (d : Reference) → j < length references → IsLinked (edges references) j (get_or references j d)
+  pub noted : (i : ℕ) (d : Node) → i < length nodes → (get_or nodes i d).noted ≡ edges_to (edges references) i
+  pub referring : (i : ℕ) (d : Node) → i < length nodes → AreReferences i (edges references) references (get_or nodes i d).references
+  pub mapping : AreMappings (chain_of nodes loose) (λ node. hyperedges mappings) mappings
   pub within : IsWithin (length nodes) (edges references) blacks
-  pub mapped : AreHyperedgesWithin (length nodes) hyperedges
+  pub mapped : AreHyperedgesWithin (length nodes) (hyperedges mappings)

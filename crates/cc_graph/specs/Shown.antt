@@ -1,5 +1,5 @@
 -- THE GRAPH OF A COLLECTION AS LISTS: nodes by number, noted references, noted mappings, and which nodes are black.
-use Rattle.std.specs.Prelude.{ℕ, suc, ◌+◌, ◌==◌, Bool, true, false, List, [], ◌∷◌, ◌++◌, drop, count_by, position, slice_get, slice_set, Option, Some, None, option_map}
+use Rattle.std.specs.Prelude.{ℕ, suc, ◌+◌, ◌==◌, Bool, true, false, ◌&&◌, ◌||◌, List, [], ◌∷◌, ◌++◌, drop, count_by, position, slice_get, slice_set, Option, Some, None, is_none, option_map}
 use Rattle.cc_lists.specs.Members.{has, with_last}
 use Rattle.cc_names.specs.declared.name.Name.{Name}
 use Rattle.cc_names.specs.Names.{same_name}
@@ -68,6 +68,25 @@ is_black g i = has ◌==◌ g.blacks i
 abbrev pub with_black : List ℕ → ℕ → List ℕ
 with_black blacks i = with_last ◌==◌ blacks i
 
+-- the first place, from a place on, of an element that passes a test
+abbrev pub place_by : {X : Type 0} → (X → Bool) → List X → ℕ → Option ℕ
+place_by p xs start = option_map (λ k. start + k) (position p (drop start xs))
+
 -- the first place, from a place on, of a reference that a node has
 abbrev pub place_from : List Edge → ℕ → ℕ → Option ℕ
-place_from es i start = option_map (λ k. start + k) (position (λ e. e.source == i) (drop start es))
+place_from es i start = place_by (λ e. e.source == i) es start
+
+-- whether a member of a mapping, its map or its key, is this node
+abbrev pub is_node : Option ℕ → ℕ → Bool
+is_node None i = false
+is_node (Some k) i = k == i
+
+-- whether a node is the map or the key of a mapping; and for none, whether the mapping has neither a map nor a key
+abbrev pub is_with : Option ℕ → Hyperedge → Bool
+is_with None m = is_none m.the_map && is_none m.key
+is_with (Some i) m = is_node m.the_map i || is_node m.key i
+
+-- the first place, from a place on, of a mapping of which a node is the map or the key; and for none, of one that has
+-- neither
+abbrev pub place_with : List Hyperedge → Option ℕ → ℕ → Option ℕ
+place_with ms node start = place_by (is_with node) ms start

@@ -1,12 +1,12 @@
 //! The graph: nodes by number, noted references, noted mappings, and the list of black nodes.
 
-ghost use Rattle.std.specs.Prelude.{◌≡◌, ◌+◌, ◌-◌, ◌<◌, ◌≤◌, ◌^◌, ◌==◌, ◌++◌, [], ◌∷◌, length, slice_get, option_map, IfOk, IfSome, IsOk, IsSome, OnErr, OnOk, Some, vec_capacity};
-ghost use Rattle.cc_graph.specs.Shown.{change_vertex, edges_to, is_black, hyperedge, number_of, place_from, with_black, with_sample, with_vertex};
+ghost use Rattle.std.specs.Prelude.{◌≡◌, ℕ, ◌+◌, ◌-◌, ◌<◌, ◌≤◌, ◌^◌, ◌==◌, ◌++◌, [], ◌∷◌, length, slice_get, option_map, true, IfOk, IfSome, IsOk, IsSome, OnErr, OnOk, Some, vec_capacity};
+ghost use Rattle.cc_graph.specs.Shown.{change_vertex, edges_to, is_black, is_with, hyperedge, number_of, place_from, place_with, with_black, with_sample, with_vertex};
 ghost use Rattle.cc_graph.specs.Closed.{IsClosed};
-ghost use Rattle.cc_graph.specs.Kept.{with_next};
+ghost use Rattle.cc_graph.specs.Kept.{AreMappings, but_mappings, chain_of, first_member, hyperedges, is_one, last_of, loose_with, nodes_with, with_link, with_next, with_next_with};
 
+use crate::chain::Chain;
 use crate::mapping::Mapping;
-use crate::mappings::Mappings;
 use crate::nodes::Nodes;
 use crate::reference::Reference;
 use cc_counted::Held;
@@ -21,25 +21,27 @@ use std::marker::Model;
 pub struct Graph {
     nodes: Nodes,
     references: Pool<Reference, 512>,
-    mappings: Mappings,
+    mappings: Pool<Mapping, 256>,
+    // the mappings with neither a map nor a key
+    loose: Chain,
 }
 
 impl Model for Graph {
     ghost use Rattle.std.specs.Prelude.{◌-◌, length};
     ghost use Rattle.cc_graph.specs.Shown.{Shown};
-    ghost use Rattle.cc_graph.specs.Kept.{IsWhole, edges, vertices};
+    ghost use Rattle.cc_graph.specs.Kept.{IsWhole, edges, hyperedges, vertices};
 
     ghost Value = { Shown };
 
     ghost view = { λ g. record {
       nodes = vertices g.nodes.nodes;
       edges = edges g.references.items;
-      hyperedges = g.mappings;
+      hyperedges = hyperedges g.mappings.items;
       blacks = g.nodes.blacks;
       spare = g.references.capacity - length g.references.items;
     } };
 
-    ghost invariant = { λ g. IsWhole g.nodes.nodes g.references.items g.mappings g.nodes.blacks };
+    ghost invariant = { λ g. IsWhole g.nodes.nodes g.references.items g.mappings.items g.loose g.nodes.blacks };
 }
 
 impl Graph {
@@ -53,7 +55,8 @@ impl Graph {
         Graph {
             nodes: Nodes::new(alloc),
             references: Pool::new(alloc),
-            mappings: Mappings::new(alloc),
+            mappings: Pool::new(alloc),
+            loose: Chain::new(),
         }
     }
 
@@ -118,8 +121,8 @@ impl Graph {
         target.note();
         self.nodes.put(to, target);
         let mut source = self.nodes.at(from);
-        link(&mut self.references, source.last, place);
-        source.chain(place);
+        link(&mut self.references, source.references.last, place);
+        source.add_reference(place);
         self.nodes.put(from, source);
         self.references.push(Reference {
             source: from,
@@ -144,7 +147,15 @@ impl Graph {
         ensures noted { OnOk result (self.new ≡ record self.old { hyperedges = self.old.hyperedges ++ hyperedge the_map key value ∷ [] }) }
         ensures err { OnErr result (self.new ≡ self.old) }
     {
-        self.mappings.note(Mapping::new(the_map, key, value))?;
+        self.mappings.reserve(1)?;
+        chain_members(
+            &mut self.nodes,
+            &mut self.loose,
+            &mut self.mappings,
+            the_map,
+            key,
+        );
+        self.mappings.push(Mapping::new(the_map, key, value));
         Ok(())
     }
 
@@ -249,8 +260,11 @@ impl Graph {
         ensures value_within { IfSome result (λ m. m.2 < length self.now.nodes) }
         ensures closed { IsClosed self.now }
     {
-        let mapping = self.mappings.get(j)?;
-        Some((mapping.the_map(), mapping.key(), mapping.value()))
+        if j >= self.mappings.len() {
+            return None;
+        }
+        let mapping = self.mappings.at(j);
+        Some((mapping.the_map, mapping.key, mapping.value))
     }
 
     /// How many mappings are noted.
@@ -267,7 +281,7 @@ impl Graph {
         ensures within { IfSome result (λ j. j < length self.now.edges) }
         ensures source { IfSome result (λ j. option_map (λ e. e.source) (slice_get self.now.edges j) ≡ Some i) }
     {
-        self.nodes.at(i).first
+        self.nodes.at(i).references.first
     }
 
     /// The place, behind `j`, of the next reference of the node that has the one at `j`; none where that is its last.
@@ -279,6 +293,29 @@ impl Graph {
         ensures source { IfSome result (λ k. option_map (λ e. e.source) (slice_get self.now.edges k) ≡ option_map (λ e. e.source) (slice_get self.now.edges j)) }
     {
         self.references.at(j).next
+    }
+
+    /// The place of the first mapping whose map or key is this node; for none, of the first one that has neither a map nor
+    /// a key. None where there is no such one.
+    pub fn first_with(&self, node: Option<u32>) -> Option<usize>
+        requires { IfSome node (λ i. i < length self.now.nodes) }
+        ensures place { result ≡ place_with self.now.hyperedges node 0 }
+        ensures within { IfSome result (λ j. j < length self.now.hyperedges) }
+        ensures member { IfSome result (λ j. option_map (is_with node) (slice_get self.now.hyperedges j) ≡ Some true) }
+    {
+        chain_of(&self.nodes, &self.loose, node).first
+    }
+
+    /// The place, behind `place`, of the next mapping whose map or key is the node that the one at `place` has for its map
+    /// or key; for none, where that one has neither, of the next such one. None where that is the last.
+    pub fn next_with(&self, node: Option<u32>, place: usize) -> Option<usize>
+        requires { option_map (is_with node) (slice_get self.now.hyperedges place) ≡ Some true }
+        ensures place { result ≡ place_with self.now.hyperedges node (place + 1) }
+        ensures within { IfSome result (λ k. k < length self.now.hyperedges) }
+        ensures behind { IfSome result (λ k. place < k) }
+        ensures member { IfSome result (λ k. option_map (is_with node) (slice_get self.now.hyperedges k) ≡ Some true) }
+    {
+        self.mappings.at(place).next_with(node)
     }
 }
 
@@ -292,4 +329,91 @@ fn link(references: &mut Pool<Reference, 512>, last: Option<usize>, place: usize
         linked.next = Some(place);
         references.set(last, linked);
     }
+}
+
+/// The mapping of a map and a key that goes last, and is still to come, is chained behind the others of each. It takes no
+/// memory.
+fn chain_members(
+    nodes: &mut Nodes,
+    loose: &mut Chain,
+    mappings: &mut Pool<Mapping, 256>,
+    the_map: Option<u32>,
+    key: Option<u32>,
+)
+    requires the_map { IfSome the_map (λ i. i < length nodes.old.nodes) }
+    requires key { IfSome key (λ i. i < length nodes.old.nodes) }
+    requires chained { AreMappings (chain_of nodes.old.nodes loose.old) (λ node. hyperedges mappings.old.items) mappings.old.items }
+    ensures chained { (value : ℕ) → AreMappings (chain_of nodes.new.nodes loose.new)
+        (λ node. hyperedges mappings.old.items ++ hyperedge the_map key value ∷ []) mappings.new.items }
+    ensures nodes { but_mappings nodes.new.nodes ≡ but_mappings nodes.old.nodes }
+    ensures blacks { nodes.new.blacks ≡ nodes.old.blacks }
+    ensures shown { hyperedges mappings.new.items ≡ hyperedges mappings.old.items }
+    ensures room { mappings.new.capacity ≡ mappings.old.capacity }
+{
+    let place = mappings.len();
+    chain(nodes, loose, mappings, the_map.or(key), place);
+    if is_one(the_map, key) {
+        return;
+    }
+    chain(nodes, loose, mappings, key, place);
+}
+
+/// Whether a map and a key are the same node, or one of them is none.
+fn is_one(the_map: Option<u32>, key: Option<u32>) -> bool
+    ensures { result ≡ is_one the_map key }
+{
+    match (the_map, key) {
+        (Some(the_map), Some(key)) => the_map == key,
+        _ => true,
+    }
+}
+
+/// The mapping at this place is chained behind the others of a node; for none, behind those with neither a map nor a key.
+fn chain(
+    nodes: &mut Nodes,
+    loose: &mut Chain,
+    mappings: &mut Pool<Mapping, 256>,
+    node: Option<u32>,
+    place: usize,
+)
+    requires node { IfSome node (λ i. i < length nodes.old.nodes) }
+    requires last { IfSome (last_of (chain_of nodes.old.nodes loose.old node)) (λ l. l < length mappings.old.items) }
+    ensures nodes { nodes.new ≡ record nodes.old { nodes = nodes_with nodes.old.nodes node place } }
+    ensures loose { loose.new ≡ loose_with loose.old node place }
+    ensures mappings { mappings.new ≡ record mappings.old {
+      items = with_link (with_next_with node) mappings.old.items (last_of (chain_of nodes.old.nodes loose.old node)) place;
+    } }
+{
+    if let Some(last) = chain_of(nodes, loose, node).last {
+        let mut linked = *mappings.at(last);
+        linked.link(node, place);
+        mappings.set(last, linked);
+    }
+    add_mapping(nodes, loose, node, place);
+}
+
+/// The mappings of a node; for none, those with neither a map nor a key.
+fn chain_of(nodes: &Nodes, loose: &Chain, node: Option<u32>) -> Chain
+    requires { IfSome node (λ i. i < length nodes.now.nodes) }
+    ensures { chain_of nodes.now.nodes loose.now node ≡ Some result }
+{
+    match node {
+        Some(i) => nodes.at(i).mappings,
+        None => *loose,
+    }
+}
+
+/// One more mapping of a node stands at this place; for none, one more with neither a map nor a key.
+fn add_mapping(nodes: &mut Nodes, loose: &mut Chain, node: Option<u32>, place: usize)
+    requires { IfSome node (λ i. i < length nodes.old.nodes) }
+    ensures nodes { nodes.new ≡ record nodes.old { nodes = nodes_with nodes.old.nodes node place } }
+    ensures loose { loose.new ≡ loose_with loose.old node place }
+{
+    let Some(i) = node else {
+        loose.add(place);
+        return;
+    };
+    let mut kept = nodes.at(i);
+    kept.add_mapping(place);
+    nodes.put(i, kept);
 }

@@ -9,14 +9,15 @@
 //! Nodes, references and mappings are only ever added. Memory is taken by `add_node`, also for the day on which the node
 //! becomes black, by `reserve` for references, and by `note_mapping`; no other call takes any.
 //!
-//! Nodes and references stand in blocks that never move, and no call walks them: names lead to numbers by a map, a node
-//! keeps how many references lead to it and the places of its first and last one, and a reference that of the next one
-//! of its node.
+//! Nodes, references and mappings stand in blocks that never move, and no call walks them: names lead to numbers by a map,
+//! a node keeps how many references lead to it and the places of its first and last one, and a reference that of the next
+//! one of its node. So for mappings: a node keeps the places of the first and the last of those whose map or key it is, and
+//! each mapping that of its map's next one and that of its key's.
 #![tactic(auto)]
 
+mod chain;
 mod graph;
 mod mapping;
-mod mappings;
 mod node;
 mod nodes;
 mod reference;

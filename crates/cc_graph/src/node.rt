@@ -1,8 +1,9 @@
 //! A node, with what is kept of it.
 
 ghost use Rattle.std.specs.Prelude.{◌≡◌, ◌+◌, ◌<◌, ◌^◌, Some, true};
-ghost use Rattle.cc_graph.specs.Kept.{added, chained};
+ghost use Rattle.cc_graph.specs.Kept.{added, with_mapping, with_reference};
 
+use crate::chain::Chain;
 use cc_counted::Held;
 use cc_names::Name;
 
@@ -19,14 +20,14 @@ pub(crate) struct Node {
     pub(crate) black: bool,
     /// how many noted references lead to it
     pub(crate) noted: usize,
-    /// the place of the first reference that it has
-    pub(crate) first: Option<usize>,
-    /// the place of the last one
-    pub(crate) last: Option<usize>,
+    /// the references that it has
+    pub(crate) references: Chain,
+    /// the mappings whose map or key it is
+    pub(crate) mappings: Chain,
 }
 
 impl Node {
-    /// A node that was not sampled, is not black, and has no reference, as none leads to it.
+    /// A node that was not sampled, is not black, and has no reference and no mapping, as no reference leads to it.
     pub(crate) fn new(name: Name, held: Held) -> Node
         ensures { result ≡ added name held }
     {
@@ -36,8 +37,8 @@ impl Node {
             sampled: None,
             black: false,
             noted: 0,
-            first: None,
-            last: None,
+            references: Chain::new(),
+            mappings: Chain::new(),
         }
     }
 
@@ -64,10 +65,16 @@ impl Node {
     }
 
     /// It has one more reference, at this place, behind all that it has.
-    pub(crate) fn chain(&mut self, place: usize)
-        ensures { self.new ≡ chained self.old place }
+    pub(crate) fn add_reference(&mut self, place: usize)
+        ensures { self.new ≡ with_reference self.old place }
     {
-        self.first = self.first.or(Some(place));
-        self.last = Some(place);
+        self.references.add(place);
+    }
+
+    /// It is the map or the key of one more mapping, at this place, behind all others.
+    pub(crate) fn add_mapping(&mut self, place: usize)
+        ensures { self.new ≡ with_mapping self.old place }
+    {
+        self.mappings.add(place);
     }
 }

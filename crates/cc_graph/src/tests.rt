@@ -6,6 +6,7 @@ use cc_names::{NKey, Name, NativeNo, SKey, ScriptNo};
 use std::test::Fail;
 
 mod made;
+mod mappings;
 
 #[test]
 fn nodes_are_known_by_name_and_number(rt: HostRuntime) -> Result<(), Fail> {
@@ -68,6 +69,23 @@ fn mappings_are_known_by_place(rt: HostRuntime) -> Result<(), Fail> {
     assert_eq!(rt; graph.mapping(4), None);
     assert_eq!(rt; graph.mapping_count(), 4);
     assert!(rt; !graph.is_black(value));
+    Ok(())
+}
+
+#[test]
+fn mappings_are_found_by_their_nodes(rt: HostRuntime) -> Result<(), Fail> {
+    let mut graph = Graph::new(rt.alloc());
+    let one = graph.add_node(Name::Script(ScriptNo(7)), Held::Script(SKey(0)))?;
+    let other = graph.add_node(Name::Script(ScriptNo(8)), Held::Script(SKey(1)))?;
+    assert_eq!(rt; graph.first_with(Some(one)), None);
+    assert_eq!(rt; graph.first_with(None), None);
+    assert_eq!(rt; graph.note_mapping(Some(one), Some(other), one), Ok(()));
+    assert_eq!(rt; graph.note_mapping(None, None, other), Ok(()));
+    assert_eq!(rt; graph.note_mapping(Some(one), Some(one), other), Ok(()));
+    assert_eq!(rt; graph.note_mapping(None, Some(other), one), Ok(()));
+    assert_eq!(rt; graph.first_with(Some(one)), Some(0));
+    assert_eq!(rt; graph.first_with(Some(other)), Some(0));
+    assert_eq!(rt; graph.first_with(None), Some(1));
     Ok(())
 }
 

@@ -1,5 +1,7 @@
-pub mod BlackenedTargets
-pub mod NotedPlaces
-pub mod Spreading
-pub mod Turns
+pub mod Passing
+pub mod Longer
 pub mod Values
+pub mod BlackenedTargets
+pub mod LookedAt
+pub mod Looks
+pub mod Scanned

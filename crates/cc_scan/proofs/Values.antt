@@ -1,45 +1,16 @@
--- Mappings are gone over: what becomes black by it, and where nothing does.
-use Rattle.std.specs.Prelude.{slice_get}
-use Rattle.std.proofs.Common.{◌≡◌, ℕ, suc, ◌+◌, ◌≤◌, ◌==◌, ◌&&◌, Bool, true, false, List, [], ◌∷◌, ◌++◌, length, drop, drop-cons, add-one, Option, Some, None, refl, sym, ◌∙◌, ap, subst, inl, inr, ◌⊎◌, ⊎_elim, arith, option_map}
-use Rattle.std.specs.Option.{option_to_list}
-use Rattle.std.proofs.lemmas.Bool.{and_parts, and_from, true≢false}
-use Rattle.std.proofs.lemmas.List.{length_push}
-use Rattle.std.proofs.lemmas.Option.{slice_get_within, get_or_from_slice_get}
+-- The values of mappings whose map and key are each black or no node become black.
+use Rattle.std.proofs.Common.{◌≡◌, ℕ, ◌==◌, ◌&&◌, Bool, true, false, List, [], ◌∷◌, ◌++◌, Option, Some, None, refl, sym, ◌∙◌, ap, subst, inl, inr, ◌⊎◌, ⊎_elim}
+use Rattle.std.specs.Prelude.{◌||◌}
+use Rattle.std.specs.Option.{option_to_list, is_none}
+use Rattle.std.proofs.lemmas.Bool.{and_parts, and_from, true≢false, eq-eqb, or_left, or_right}
 use Rattle.cc_lists.specs.Members.{Among, has}
 use Rattle.cc_lists.proofs.Members.{Among-append, Among-left, Among-right, has-among, has-there}
 use Rattle.cc_lists.proofs.Numbers.{number-exact}
-use Rattle.cc_lists.proofs.OnceEach.{with_all_last-cases}
-use Rattle.cc_lists.proofs.Places.{place-append}
-use Rattle.cc_graph.specs.Shown.{Hyperedge, Shown, with_black}
+use Rattle.cc_lists.proofs.OnceEach.{with_all_last-cases, with_all_last-there}
+use Rattle.cc_graph.specs.Shown.{Hyperedge, is_node, is_with, with_black}
 use Rattle.cc_scan.specs.Scanning.{hyperedge_rule}
 use Rattle.cc_scan.specs.Steps.{is_met, with_value, with_values}
-
--- A number that goes last
-
--- others keep their places
-pub place-black : (blacks : List ℕ) (n place x : ℕ) → slice_get blacks place ≡ Some x → slice_get (with_black blacks n) place ≡ Some x
-place-black blacks n place x e = go (has ◌==◌ blacks n)
-  where
-    go : (b : Bool) → slice_get (elim b [ true ↦ blacks | false ↦ blacks ++ n ∷ [] ]) place ≡ Some x
-    go true = e
-    go false = place-append x blacks (n ∷ []) place e
-
--- the list is not shorter,
-pub length-black : (blacks : List ℕ) (n : ℕ) → length blacks ≤ length (with_black blacks n)
-length-black blacks n = go (has ◌==◌ blacks n)
-  where
-    go : (b : Bool) → length blacks ≤ length {A = ℕ} (elim b [ true ↦ blacks | false ↦ blacks ++ n ∷ [] ])
-    go true = omega arith
-    go false = omega (arith, length_push blacks n)
-
--- and where it is not longer the number was there
-black-still : (blacks : List ℕ) (n : ℕ) → length (with_black blacks n) ≤ length blacks → (with_black blacks n ≡ blacks) × Among n blacks
-black-still blacks n short = go (has ◌==◌ blacks n) refl short
-  where
-    go : (b : Bool) → has ◌==◌ blacks n ≡ b → length {A = ℕ} (elim b [ true ↦ blacks | false ↦ blacks ++ n ∷ [] ]) ≤ length blacks →
-        (elim b [ true ↦ blacks | false ↦ blacks ++ n ∷ [] ] ≡ blacks) × Among n blacks
-    go true e s = (refl, has-among ◌==◌ number-exact blacks n e)
-    go false e s = absurd (omega (arith, s, length_push blacks n))
+use Rattle.cc_scan.proofs.Longer.{longer-stays, longer-value, longer-values}
 
 -- nothing else comes to the list
 black-cases : (blacks : List ℕ) (n x : ℕ) → Among x (with_black blacks n) → Among x blacks ⊎ (n ≡ x)
@@ -56,11 +27,11 @@ black-met : (blacks : List ℕ) (o : Option ℕ) → ((i : ℕ) → Among i (opt
 black-met blacks None h = refl
 black-met blacks (Some k) h = has-there ◌==◌ number-exact blacks k (h k (inl refl))
 
-abbrev are_met : List ℕ → Hyperedge → Bool
+abbrev pub are_met : List ℕ → Hyperedge → Bool
 are_met blacks m = is_met blacks m.the_map && is_met blacks m.key
 
 -- the members are met where the premises of the mapping's rule are black
-abbrev ArePremises : List ℕ → Hyperedge → Type 0
+abbrev pub ArePremises : List ℕ → Hyperedge → Type 0
 ArePremises blacks m = (i : ℕ) → Among i (hyperedge_rule m).0 → Among i blacks
 
 met-premises : (blacks : List ℕ) (m : Hyperedge) → are_met blacks m ≡ true → ArePremises blacks m
@@ -73,25 +44,30 @@ premises-met blacks m h = and_from (is_met blacks m.the_map) (is_met blacks m.ke
     (black-met blacks m.the_map (λ i a. h i (Among-left i (option_to_list m.the_map) (option_to_list m.key) a)))
     (black-met blacks m.key (λ i a. h i (Among-right i (option_to_list m.the_map) (option_to_list m.key) a)))
 
+-- a premise is the map or the key of its mapping,
+pub premise-with : (m : Hyperedge) (i : ℕ) → Among i (hyperedge_rule m).0 → is_with (Some i) m ≡ true
+premise-with m i a = ⊎_elim
+    (λ l. or_left (is_node m.the_map i) (is_node m.key i) (at m.the_map l))
+    (λ r. or_right (is_node m.the_map i) (is_node m.key i) (at m.key r))
+    (Among-append i (option_to_list m.the_map) (option_to_list m.key) a)
+  where
+    at : (o : Option ℕ) → Among i (option_to_list o) → is_node o i ≡ true
+    at None l = absurd l
+    at (Some k) l = ⊎_elim (λ same. eq-eqb k i same) (λ t. absurd t) l
+
+-- and a mapping without premises has neither
+pub premise-none : (m : Hyperedge) → ((i : ℕ) → Among i (hyperedge_rule m).0 → ⊥) → is_with None m ≡ true
+premise-none m none = and_from (is_none m.the_map) (is_none m.key)
+    (at m.the_map (λ i a. none i (Among-left i (option_to_list m.the_map) (option_to_list m.key) a)))
+    (at m.key (λ i a. none i (Among-right i (option_to_list m.the_map) (option_to_list m.key) a)))
+  where
+    at : (o : Option ℕ) → ((i : ℕ) → Among i (option_to_list o) → ⊥) → is_none o ≡ true
+    at None h = refl
+    at (Some k) h = absurd (h k (inl refl))
+
 -- A mapping
 
--- black nodes keep their places,
-value-place : (blacks : List ℕ) (m : Hyperedge) (place x : ℕ) → slice_get blacks place ≡ Some x → slice_get (with_value blacks m) place ≡ Some x
-value-place blacks m place x e = go (are_met blacks m)
-  where
-    go : (b : Bool) → slice_get (elim b [ true ↦ with_black blacks m.value | false ↦ blacks ]) place ≡ Some x
-    go true = place-black blacks m.value place x e
-    go false = e
-
--- their list is not shorter,
-length-value : (blacks : List ℕ) (m : Hyperedge) → length blacks ≤ length (with_value blacks m)
-length-value blacks m = go (are_met blacks m)
-  where
-    go : (b : Bool) → length blacks ≤ length {A = ℕ} (elim b [ true ↦ with_black blacks m.value | false ↦ blacks ])
-    go true = length-black blacks m.value
-    go false = omega arith
-
--- its value alone comes to it, where the premises are black,
+-- its value alone comes to the list, where the premises are black,
 value-cases : (blacks : List ℕ) (m : Hyperedge) (i : ℕ) → Among i (with_value blacks m) → Among i blacks ⊎ (ArePremises blacks m × (m.value ≡ i))
 value-cases blacks m i a = go (are_met blacks m) refl a
   where
@@ -100,27 +76,15 @@ value-cases blacks m i a = go (are_met blacks m) refl a
     go true e l = ⊎_elim (λ o. inl o) (λ same. inr (met-premises blacks m e, same)) (black-cases blacks m.value i l)
     go false e l = inl l
 
--- and where it is not longer, the value of such a mapping was black
-abbrev pub IsJoined : List ℕ → Hyperedge → Type 0
-IsJoined blacks m = ArePremises blacks m → Among m.value blacks
-
-value-still : (blacks : List ℕ) (m : Hyperedge) → length (with_value blacks m) ≤ length blacks → (with_value blacks m ≡ blacks) × IsJoined blacks m
-value-still blacks m short = go (are_met blacks m) refl short
+-- and where they are it does
+value-comes : (blacks : List ℕ) (m : Hyperedge) → ArePremises blacks m → Among m.value (with_value blacks m)
+value-comes blacks m h = go (are_met blacks m) (premises-met blacks m h)
   where
-    go : (b : Bool) → are_met blacks m ≡ b → length {A = ℕ} (elim b [ true ↦ with_black blacks m.value | false ↦ blacks ]) ≤ length blacks →
-        (elim b [ true ↦ with_black blacks m.value | false ↦ blacks ] ≡ blacks) × IsJoined blacks m
-    go true e s = let k = black-still blacks m.value s in (k.0, λ h. k.1)
-    go false e s = (refl, λ h. absurd (true≢false (sym (premises-met blacks m h) ∙ e)))
+    go : (b : Bool) → b ≡ true → Among m.value (elim b [ true ↦ with_black blacks m.value | false ↦ blacks ])
+    go true e = with_all_last-there ◌==◌ number-exact blacks (m.value ∷ []) m.value (inl refl)
+    go false e = absurd (true≢false (sym e))
 
 -- Mappings one after another: the same
-
-pub values-place : (blacks : List ℕ) (ms : List Hyperedge) (place x : ℕ) → slice_get blacks place ≡ Some x → slice_get (with_values blacks ms) place ≡ Some x
-values-place blacks [] place x e = e
-values-place blacks (m ∷ ms) place x e = values-place (with_value blacks m) ms place x (value-place blacks m place x e)
-
-pub length-values : (blacks : List ℕ) (ms : List Hyperedge) → length blacks ≤ length (with_values blacks ms)
-length-values blacks [] = omega arith
-length-values blacks (m ∷ ms) = omega (arith, length-value blacks m, length-values (with_value blacks m) ms)
 
 -- what holds of the black ones, and goes over from the premises of a mapping to its value, holds of those that come
 pub values-within : (P : ℕ → Type 0) (blacks : List ℕ) (ms : List Hyperedge) → ((i : ℕ) → Among i blacks → P i) →
@@ -133,36 +97,10 @@ values-within P blacks (m ∷ ms) each over = values-within P (with_value blacks
     (value-cases blacks m i a))
     (λ n t. over n (inr t))
 
-pub values-still : (blacks : List ℕ) (ms : List Hyperedge) → length (with_values blacks ms) ≤ length blacks →
-    (with_values blacks ms ≡ blacks) × ((m : Hyperedge) → Among m ms → IsJoined blacks m)
-values-still blacks [] short = (refl, λ m a. absurd a)
-values-still blacks (m ∷ ms) short =
-    let one = value-still blacks m (omega (arith, short, length-values (with_value blacks m) ms)) in
-    let others = values-still (with_value blacks m) ms (omega (arith, short, length-value blacks m)) in (
-      others.0 ∙ one.0,
-      λ n a. ⊎_elim
-          (λ e. subst (IsJoined blacks) e one.1)
-          (λ t. subst (λ bs. IsJoined bs n) one.0 (others.1 n t)) a,
-    )
-
--- The mappings from place j on are still to be gone over.
-pub record AreGoneOver (g₀ g : Shown) (j : ℕ) : Type 0 where
-  pub rest : g ≡ record g₀ { blacks = g.blacks }
-  pub left : with_values g.blacks (drop j g₀.hyperedges) ≡ with_values g₀.blacks g₀.hyperedges
-
--- after the one at place j
-pub gone-next : (g₀ g new : Shown) (j : ℕ) → AreGoneOver g₀ g j → option_map (λ m. with_value g.blacks m) (slice_get g.hyperedges j) ≡ Some new.blacks →
-    new ≡ record g { blacks = new.blacks } → AreGoneOver g₀ new (j + 1)
-gone-next g₀ g new j h value rest = go (slice_get g₀.hyperedges j) refl (sym (ap (λ (z : Shown). option_map (λ m. with_value g.blacks m) (slice_get z.hyperedges j)) h.rest) ∙ value)
-  where
-    go : (o : Option Hyperedge) → slice_get g₀.hyperedges j ≡ o → option_map (λ m. with_value g.blacks m) o ≡ Some new.blacks → AreGoneOver g₀ new (j + 1)
-    go None at e = absurd (cc)
-    go (Some m) at e =
-        let blacks : with_value g.blacks m ≡ new.blacks = cc in
-        let here : drop j g₀.hyperedges ≡ m ∷ drop (j + 1) g₀.hyperedges =
-        drop-cons g₀.hyperedges j m (slice_get_within g₀.hyperedges j m at)
-        ∙ (ap (λ n. n ∷ drop (suc j) g₀.hyperedges) (get_or_from_slice_get g₀.hyperedges j m m at) ∙ ap (λ k. m ∷ drop k g₀.hyperedges) (sym (add-one j))) in
-        record {
-          rest = rest ∙ ap (λ (z : Shown). record z { blacks = new.blacks }) h.rest;
-          left = ap (λ bs. with_values bs (drop (j + 1) g₀.hyperedges)) (sym blacks) ∙ (sym (ap (with_values g.blacks) here) ∙ h.left);
-        }
+pub values-come : (blacks : List ℕ) (ms : List Hyperedge) (m : Hyperedge) → Among m ms → ArePremises blacks m → Among m.value (with_values blacks ms)
+values-come blacks [] m a h = absurd a
+values-come blacks (n ∷ ms) m a h = ⊎_elim
+    (λ same. longer-stays (with_value blacks n) (with_values (with_value blacks n) ms) (longer-values (with_value blacks n) ms) m.value
+    (subst (λ z. Among m.value (with_value blacks z)) (sym same) (value-comes blacks m h)))
+    (λ t. values-come (with_value blacks n) ms m t (λ i p. longer-stays blacks (with_value blacks n) (longer-value blacks n) i (h i p)))
+    a

@@ -1,14 +1,7 @@
--- THE STEPS OF A SCAN: black nodes are followed in the order in which they became black, and mappings in that in which they
--- were noted.
-use Rattle.std.specs.Prelude.{ℕ, ◌<◌, ◌≤◌, ◌≡◌, ◌==◌, ◌&&◌, Bool, true, false, List, [], ◌∷◌, length, map, Option, Some, None, slice_get}
-use Rattle.cc_lists.specs.Members.{Among, has}
-use Rattle.cc_graph.specs.Shown.{Hyperedge, Shown, with_black}
-use Rattle.cc_scan.specs.Scanning.{edge_pair}
-
--- what the black nodes before a place on their list lead to is black too
-pub record IsFollowedTo (g : Shown) (place : ℕ) : Type 0 where
-  pub within : place ≤ length g.blacks
-  pub followed : (i k m : ℕ) → i < place → slice_get g.blacks i ≡ Some k → Among (k, m) (map edge_pair g.edges) → Among m g.blacks
+-- THE STEPS OF A SCAN: values of mappings become black one after another.
+use Rattle.std.specs.Prelude.{ℕ, ◌==◌, ◌&&◌, Bool, true, false, List, [], ◌∷◌, Option, Some, None}
+use Rattle.cc_lists.specs.Members.{has}
+use Rattle.cc_graph.specs.Shown.{Hyperedge, with_black}
 
 -- whether a member of a mapping, its map or its key, is black or no node
 abbrev pub is_met : List ℕ → Option ℕ → Bool

@@ -1,33 +1,37 @@
 //! The black nodes of a graph: those held from elsewhere, what black nodes lead to, and the values of mappings whose members
 //! are black.
-ghost use Rattle.std.specs.Prelude.{◌≡◌, ◌<◌, ◌≤◌, ◌==◌, ℕ, ◌↔◌, ◌⊎◌, IfSome, IsTrue, Some, [], length, map, filter, option_map, slice_get};
+ghost use Rattle.std.specs.Prelude.{◌≡◌, ◌+◌, ◌*◌, ◌<◌, ◌≤◌, ◌==◌, ℕ, ◌↔◌, ◌⊎◌, IfSome, IsTrue, Some, length, map, filter, option_map, slice_get};
 ghost use Rattle.cc_lists.specs.Members.{Among, with_all_last};
-ghost use Rattle.cc_lists.specs.Least.{Least, system};
-ghost use Rattle.cc_graph.specs.Shown.{edges_to};
+ghost use Rattle.cc_lists.specs.Least.{Least};
+ghost use Rattle.cc_graph.specs.Shown.{edges_to, is_with};
 ghost use Rattle.cc_graph.specs.Shown as shown;
-ghost use Rattle.cc_scan.specs.Scanning.{exceeds, held_elsewhere, edge_pair, scan_rules};
-ghost use Rattle.cc_scan.specs.Steps.{IsFollowedTo, is_met, with_value, with_values};
+ghost use Rattle.cc_scan.specs.Scanning.{exceeds, held_elsewhere, scan_rules};
+ghost use Rattle.cc_scan.specs.Steps.{is_met, with_value, with_values};
 
 use cc_graph::Graph;
+use cc_steps::Steps;
+use std::sync::ledger::Ledger;
 
 /// Makes black what may be held from outside the graph, and all that black nodes lead to, by references and by mappings.
 /// What is black stays black; the others are held by nodes that are not black either, and by mappings of which the map or the
 /// key is not, alone. Takes no memory.
-// O(m * m) for m mappings that wait for one another against the order in which they were noted: each turn goes over all of
-// them, until they have an index by their members. The references of a node are followed once, whatever the turns.
-pub fn scan(graph: &mut Graph)
+///
+/// `steps` counts the mappings that are looked at, each as often: when its map becomes black and when its key does; one
+/// with neither a map nor a key at the start. So it takes at most twice as many steps as there are mappings.
+// Each black node is followed once, in the order in which they became black.
+pub fn scan<L: Ledger>(graph: &mut Graph, steps: &mut Steps<L>)
     ensures least { (i : ℕ) → IsTrue (shown.is_black graph.new i) ↔ Least (scan_rules graph.old) i }
     ensures rest { graph.new ≡ record graph.old { blacks = graph.new.blacks } }
+    ensures steps { steps.new ≤ steps.old + 2 * length graph.old.hyperedges }
 {
     blacken_held_elsewhere(graph);
+    // the mappings that no black node leads to, for want of a map and a key
+    blacken_values(graph, None, steps);
     let mut place = 0;
-    'turns: loop {
-        place = blacken_reached(graph, place);
-        blacken_values(graph);
-        // no mapping gave a black node that is still to be followed
-        if graph.black_at(place).is_none() {
-            return;
-        }
+    while let Some(node) = graph.black_at(place) {
+        blacken_targets(graph, node);
+        blacken_values(graph, Some(node), steps);
+        place += 1;
     }
 }
 
@@ -54,24 +58,6 @@ fn is_held_elsewhere(graph: &Graph, i: u32) -> bool
     }
 }
 
-/// Makes black what black nodes lead to by references, and what that leads to in turn: each black node from the place `start`
-/// of their list on gives the targets of its references, once, and those that became black by it come behind it. The nodes
-/// before `start` gave theirs already. The answer is the end of the list.
-fn blacken_reached(graph: &mut Graph, start: u32) -> u32
-    requires { IsFollowedTo graph.old start }
-    ensures least { (i : ℕ) → IsTrue (shown.is_black graph.new i) ↔ Least (system graph.old.blacks (map edge_pair graph.old.edges) []) i }
-    ensures longer { length graph.old.blacks ≤ length graph.new.blacks }
-    ensures end { result ≡ length graph.new.blacks }
-    ensures rest { graph.new ≡ record graph.old { blacks = graph.new.blacks } }
-{
-    let mut place = start;
-    while let Some(node) = graph.black_at(place) {
-        blacken_targets(graph, node);
-        place += 1;
-    }
-    place
-}
-
 /// Makes black the target of each reference that a node has, in the order in which they were noted.
 fn blacken_targets(graph: &mut Graph, node: u32)
     requires { node < length graph.old.nodes }
@@ -88,14 +74,19 @@ fn blacken_targets(graph: &mut Graph, node: u32)
     }
 }
 
-/// Goes over the mappings once, in the order in which they were noted: the value of each becomes black where its map and its
-/// key are each black or no node.
-fn blacken_values(graph: &mut Graph)
-    ensures blacks { graph.new.blacks ≡ with_values graph.old.blacks graph.old.hyperedges }
+/// Looks at each mapping whose map or key a node is, for none at those that have neither, in the order in which they were
+/// noted: the value becomes black where its map and its key are each black or no node. Each takes one step.
+fn blacken_values<L: Ledger>(graph: &mut Graph, node: Option<u32>, steps: &mut Steps<L>)
+    requires { IfSome node (λ i. i < length graph.old.nodes) }
+    ensures blacks { graph.new.blacks ≡ with_values graph.old.blacks (filter (is_with node) graph.old.hyperedges) }
     ensures rest { graph.new ≡ record graph.old { blacks = graph.new.blacks } }
+    ensures steps { steps.new ≡ steps.old + length (filter (is_with node) graph.old.hyperedges) }
 {
-    for j in 0..graph.mapping_count() {
+    let mut place = graph.first_with(node);
+    while let Some(j) = place {
+        steps.tick();
         blacken_value(graph, j);
+        place = graph.next_with(node, j);
     }
 }
 

@@ -1,10 +1,33 @@
 //! Tests of the scan: what is held from elsewhere, chains of references, and mappings.
 
+ghost use Rattle.std.specs.Prelude.{◌≡◌, ◌<◌, length};
+
 use super::*;
 use cc_counted::Held;
 use cc_graph::Graph;
 use cc_names::{NKey, Name, NativeNo, SKey, ScriptNo};
+use cc_steps::Steps;
+use std::marker::Brand;
+use std::sync::ledger::{Blank, Ledger};
 use std::test::Fail;
+
+/// Scans with a counter that nobody asks.
+fn scanned<L: Ledger>(graph: &mut Graph, blank: Blank)
+    requires name { blank.name ≡ L.name }
+    requires parts { blank.parts ≡ L.parts }
+    requires some { 0 < L.parts }
+    ensures { length graph.new.nodes ≡ length graph.old.nodes }
+{
+    let mut steps = Steps::<L>::new(blank);
+    scan(graph, &mut steps);
+}
+
+/// Scans with one of its own.
+fn scan_all(graph: &mut Graph)
+    ensures { length graph.new.nodes ≡ length graph.old.nodes }
+{
+    scanned::<Brand>(graph, Blank::new(1));
+}
 
 #[test]
 fn held_from_elsewhere_and_what_it_holds(rt: HostRuntime) -> Result<(), Fail> {
@@ -19,7 +42,7 @@ fn held_from_elsewhere_and_what_it_holds(rt: HostRuntime) -> Result<(), Fail> {
     graph.note_edge(within, holder);
     graph.note_edge(holder, held);
     graph.note_edge(held, within);
-    scan(&mut graph);
+    scan_all(&mut graph);
     assert!(rt; graph.is_black(held));
     assert!(rt; graph.is_black(within));
     assert!(rt; graph.is_black(holder));
@@ -37,7 +60,7 @@ fn held_by_one_another_alone(rt: HostRuntime) -> Result<(), Fail> {
     graph.sample(other, 1);
     graph.note_edge(one, other);
     graph.note_edge(other, one);
-    scan(&mut graph);
+    scan_all(&mut graph);
     assert_eq!(rt; graph.black_at(0), None);
     Ok(())
 }
@@ -52,7 +75,7 @@ fn chain_of_references_against_their_order(rt: HostRuntime) -> Result<(), Fail> 
     graph.note_edge(middle, last);
     graph.note_edge(first, middle);
     graph.blacken(first);
-    scan(&mut graph);
+    scan_all(&mut graph);
     assert_eq!(rt; graph.black_at(1), Some(middle));
     assert_eq!(rt; graph.black_at(2), Some(last));
     Ok(())
@@ -66,11 +89,11 @@ fn mapping_of_map_and_key(rt: HostRuntime) -> Result<(), Fail> {
     let key = graph.add_node(Name::Script(ScriptNo(3)), Held::Script(SKey(3)))?;
     graph.note_mapping(Some(the_map), Some(key), value)?;
     graph.blacken(the_map);
-    scan(&mut graph);
+    scan_all(&mut graph);
     assert!(rt; !graph.is_black(value));
     assert!(rt; !graph.is_black(key));
     graph.blacken(key);
-    scan(&mut graph);
+    scan_all(&mut graph);
     assert!(rt; graph.is_black(value));
     Ok(())
 }
@@ -83,11 +106,11 @@ fn mapping_of_one_member_or_none(rt: HostRuntime) -> Result<(), Fail> {
     let by_none = graph.add_node(Name::Script(ScriptNo(3)), Held::Script(SKey(3)))?;
     graph.note_mapping(None, Some(key), by_key)?;
     graph.note_mapping(None, None, by_none)?;
-    scan(&mut graph);
+    scan_all(&mut graph);
     assert!(rt; !graph.is_black(by_key));
     assert!(rt; graph.is_black(by_none));
     graph.blacken(key);
-    scan(&mut graph);
+    scan_all(&mut graph);
     assert!(rt; graph.is_black(by_key));
     Ok(())
 }
@@ -104,7 +127,7 @@ fn chain_of_mappings_against_their_order(rt: HostRuntime) -> Result<(), Fail> {
     graph.note_mapping(Some(first), Some(second), third)?;
     graph.note_mapping(Some(held), None, second)?;
     graph.note_mapping(None, None, first)?;
-    scan(&mut graph);
+    scan_all(&mut graph);
     assert_eq!(rt; graph.black_at(0), Some(first));
     assert_eq!(rt; graph.black_at(1), Some(held));
     assert_eq!(rt; graph.black_at(2), Some(second));

@@ -1,4 +1,5 @@
-use Rattle.cc_scan.proofs.BlackenedTargets.{AreFollowed, places_left}
+use Rattle.cc_scan.proofs.BlackenedTargets.{AreFollowed}
+use Rattle.cc_scan.proofs.Passing.{places_left}
 use Rattle.cc_scan.proofs.scanning.blacken_targets.Given as goal
 
 abbrev pub invariant-loop-place : goal.invariant-loop-place

@@ -1,25 +1,30 @@
-use Rattle.std.specs.Option.{is_some}
-use Rattle.std.proofs.Common.{not, sym, ◌∙◌, ap}
-use Rattle.cc_scan.proofs.Turns.{scan-start, scan-next, scan-end, scan-smaller}
+use Rattle.std.proofs.Common.{◌<◌, ◌^◌, subst, arith, length}
+use Rattle.cc_graph.specs.Shown.{Shown}
+use Rattle.cc_scan.proofs.Scanned.{scan-all, scan-below, scan-few, scan-next, scan-start}
 use Rattle.cc_scan.proofs.scanning.scan.Goals as goal
 
-pub turns-init : goal.turns-init
-turns-init c = scan-start c.args.graph.now c.blacken_held_elsewhere.new.graph c.blacken_held_elsewhere.ensures.rest c.blacken_held_elsewhere.ensures.marked
+pub loop-node-init : goal.loop-node-init
+loop-node-init g c = scan-start c.args.graph.now c.blacken_held_elsewhere.new.graph c.blacken_values.new.graph c.args.steps.now c.blacken_values.new.steps
+    c.blacken_held_elsewhere.ensures.rest c.blacken_held_elsewhere.ensures.marked c.blacken_values.ensures.blacks c.blacken_values.ensures.rest c.blacken_values.ensures.steps
 
-pub turns-preserved : goal.turns-preserved
-turns-preserved c = scan-next c.args.graph.now c.turns.graph c.blacken_reached-place.new.graph c.blacken_values.new.graph c.turns.place c.blacken_reached-place.result c.turns.invariant
-    c.blacken_reached-place.ensures.least c.blacken_reached-place.ensures.end c.blacken_reached-place.ensures.rest
-    c.blacken_values.ensures.blacks c.blacken_values.ensures.rest
+pub loop-node-preserved : goal.loop-node-preserved
+loop-node-preserved g c = scan-next c.args.graph.now c.loop-node.graph c.blacken_targets.new.graph c.blacken_values-in-Some.new.graph c.loop-node.place c.in-Some.node
+    c.args.steps.now c.loop-node.steps c.blacken_values-in-Some.new.steps c.loop-node.invariant (cc) c.blacken_targets.ensures.blacks c.blacken_targets.ensures.rest
+    c.blacken_values-in-Some.ensures.blacks c.blacken_values-in-Some.ensures.rest c.blacken_values-in-Some.ensures.steps
 
-pub turns-smaller : goal.turns-smaller
-turns-smaller c = scan-smaller c.args.graph.now c.turns.graph c.blacken_reached-place.new.graph c.blacken_values.new.graph c.turns.place c.blacken_reached-place.result c.turns.invariant
-    c.blacken_reached-place.ensures.least c.blacken_reached-place.ensures.end c.blacken_reached-place.ensures.rest
-    c.blacken_values.ensures.blacks c.blacken_values.ensures.rest
-    c.blacken_reached-place.ensures.longer c.black_at.ensures.closed
-    (sym (ap is_some c.black_at.ensures.value) ∙ (c.is_none.ensures ∙ ap not c.if-is_none.false))
+pub overflow_add-place : goal.overflow_add-place
+overflow_add-place g c =
+    let below = scan-below c.args.graph.now c.loop-node.graph c.loop-node.place c.in-Some.node c.args.steps.now c.loop-node.steps c.loop-node.invariant c.black_at.ensures.closed (cc) in
+    let few : length c.args.graph.now.nodes < 2 ^ 32 = subst (λ (z : Shown). length z.nodes < 2 ^ 32) c.loop-node.invariant.rest c.black_at.ensures.closed.few in
+    omega arith
 
-pub returns-then-is_none-clause-least : goal.returns-then-is_none-clause-least
-returns-then-is_none-clause-least c = scan-end c.args.graph.now c.turns.graph c.blacken_reached-place.new.graph c.blacken_values.new.graph c.turns.place c.blacken_reached-place.result c.turns.invariant
-    c.blacken_reached-place.ensures.least c.blacken_reached-place.ensures.end c.blacken_reached-place.ensures.rest
-    c.blacken_values.ensures.blacks c.blacken_values.ensures.rest
-    (sym (ap is_some c.black_at.ensures.value) ∙ (c.is_none.ensures ∙ ap not c.if-is_none.true))
+pub loop-node-smaller : goal.loop-node-smaller
+loop-node-smaller g c =
+    let below = scan-below c.args.graph.now c.loop-node.graph c.loop-node.place c.in-Some.node c.args.steps.now c.loop-node.steps c.loop-node.invariant c.black_at.ensures.closed (cc) in
+    omega arith
+
+pub returns-clause-least : goal.returns-clause-least
+returns-clause-least g c = scan-all c.args.graph.now c.loop-node.graph c.loop-node.place c.args.steps.now c.loop-node.steps c.loop-node.invariant (cc)
+
+pub returns-clause-steps : goal.returns-clause-steps
+returns-clause-steps g c = scan-few c.args.graph.now c.loop-node.graph c.loop-node.place c.args.steps.now c.loop-node.steps c.loop-node.invariant (cc) c.black_at.ensures.closed

@@ -1,9 +1,9 @@
 use Rattle.std.proofs.Common.{◌-◌, length}
-use Rattle.cc_scan.proofs.Turns.{IsScanned}
+use Rattle.cc_scan.proofs.Scanned.{IsScanned}
 use Rattle.cc_scan.proofs.scanning.scan.Given as goal
 
-abbrev pub invariant-turns : goal.invariant-turns
-invariant-turns l = IsScanned l.fn.graph l.graph l.place
+abbrev pub invariant-loop-node : goal.invariant-loop-node
+invariant-loop-node g l = IsScanned l.fn.graph l.graph l.place l.fn.steps l.steps
 
-abbrev pub decreases-turns : goal.decreases-turns
-decreases-turns l = length l.fn.graph.nodes - length l.graph.blacks
+abbrev pub decreases-loop-node : goal.decreases-loop-node
+decreases-loop-node g l = length l.fn.graph.nodes - l.place

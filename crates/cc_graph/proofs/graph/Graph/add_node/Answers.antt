@@ -9,7 +9,7 @@ pub invariant_of-self-2 : goal.invariant_of-self-2
 invariant_of-self-2 c =
     let count = ap (λ v. length v.nodes) c.self.view_is in
     let few : length c.self.inside.nodes.nodes < 4294967295 = omega (arith, count, length-vertices c.self.inside.nodes.nodes, c.requires.few) in
-    rw (c.in_ok-number.ensures.nodes, c.add.ensures.blacks) (whole-added _ _ _ _ c.args.name c.args.held c.self.invariant few)
+    rw (c.in_ok-number.ensures.nodes, c.add.ensures.blacks) (whole-added _ _ _ _ _ c.args.name c.args.held c.self.invariant few)
 
 pub returns-clause-number : goal.returns-clause-number
 returns-clause-number c =

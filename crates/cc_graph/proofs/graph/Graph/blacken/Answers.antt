@@ -11,7 +11,7 @@ invariant_of-self c =
     let count = ap (λ v. length v.nodes) c.self.view_is in
     let inside : c.args.node < length c.self.inside.nodes.nodes = omega (arith, count, length-vertices c.self.inside.nodes.nodes, c.requires) in
     let off : has ◌==◌ c.self.inside.nodes.blacks c.args.node ≡ false = ap (λ v. is_black v c.args.node) c.self.view_is ∙ (sym c.is_black.ensures ∙ c.if-is_black.false) in
-    rw c.blacken.ensures (whole-black_node _ _ _ _ c.args.node (whole-blackened _ _ _ _ c.args.node c.self.invariant inside off))
+    rw c.blacken.ensures (whole-black_node _ _ _ _ _ c.args.node (whole-blackened _ _ _ _ _ c.args.node c.self.invariant inside off))
 
 pub returns : goal.returns
 returns c =

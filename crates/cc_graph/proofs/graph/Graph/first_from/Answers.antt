@@ -3,14 +3,14 @@ use Rattle.std.specs.Prelude.{IfSome, slice_get}
 use Rattle.cc_graph.specs.Shown.{place_from}
 use Rattle.cc_graph.specs.Kept.{edges}
 use Rattle.cc_graph.proofs.Numbering.{length-vertices}
-use Rattle.cc_graph.proofs.Chains.{place-source}
+use Rattle.cc_graph.proofs.Whole.{place-source}
 use Rattle.cc_graph.proofs.graph.Graph.first_from.Goals as goal
 
 pub returns-clause-source : goal.returns-clause-source
 returns-clause-source c =
     let count = ap (λ v. length v.nodes) c.self.view_is in
     let inside : c.args.i < length c.self.inside.nodes.nodes = omega (arith, count, length-vertices c.self.inside.nodes.nodes, c.requires) in
-    let first : c.at.result.first ≡ place_from (edges c.self.inside.references.items) c.args.i 0 =
-    ap (λ k. k.first) c.at.ensures.value ∙ (c.self.invariant.right c.args.i c.at.result inside).first in
-    subst (λ v. IfSome c.at.result.first (λ j. option_map (λ e. e.source) (slice_get v.edges j) ≡ Some c.args.i)) c.self.view_is
-    (place-source (edges c.self.inside.references.items) c.args.i 0 c.at.result.first (omega arith) first)
+    let first : c.at.result.references.first ≡ place_from (edges c.self.inside.references.items) c.args.i 0 =
+    ap (λ k. k.references.first) c.at.ensures.value ∙ (c.self.invariant.referring c.args.i c.at.result inside).first in
+    subst (λ v. IfSome c.at.result.references.first (λ j. option_map (λ e. e.source) (slice_get v.edges j) ≡ Some c.args.i)) c.self.view_is
+    (place-source (edges c.self.inside.references.items) c.args.i 0 c.at.result.references.first (omega arith) first)

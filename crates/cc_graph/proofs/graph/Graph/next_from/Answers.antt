@@ -1,22 +1,44 @@
-use Rattle.std.proofs.Common.{◌≡◌, ◌<◌, ◌≤◌, ◌+◌, ◌∙◌, ap, subst, sym, arith, length, option_map, Some}
+use Rattle.std.proofs.Common.{◌≡◌, ◌<◌, ◌≤◌, ◌+◌, ◌∙◌, ◌==◌, ap, subst, sym, arith, length, option_map, Some}
 use Rattle.std.specs.Prelude.{IfSome, slice_get}
 use Rattle.std.proofs.lemmas.Option.{slice_get-get_or}
-use Rattle.cc_graph.specs.Shown.{place_from}
-use Rattle.cc_graph.specs.Kept.{edge_of, edges, IsLinked}
-use Rattle.cc_graph.proofs.Whole.{edge-at, length-edges}
-use Rattle.cc_graph.proofs.Chains.{place-source}
+use Rattle.cc_graph.specs.Shown.{Edge, Shown, place_from}
+use Rattle.cc_graph.specs.Kept.{edge_of, edges}
+use Rattle.cc_graph.proofs.Whole.{edge-at, length-edges, next-kept, place-source}
+use Rattle.cc_graph.proofs.Chains.{place-behind, place-within}
 use Rattle.cc_graph.proofs.graph.Graph.next_from.Goals as goal
+
+inside : (c : goal.After-result-1) → c.args.j < length c.self.inside.references.items
+inside c = let count = ap (λ v. length v.edges) c.self.view_is in omega (arith, count, length-edges c.self.inside.references.items, c.requires)
+
+next : (c : goal.After-result-1) → c.at.result.now.next ≡ place_from (edges c.self.inside.references.items) c.at.result.now.source (c.args.j + 1)
+next c =
+    ap (λ r. r.next) c.at.ensures
+    ∙ (next-kept c.self.inside.nodes.nodes c.self.inside.references.items c.args.j c.at.result.now c.self.invariant.referring c.self.invariant.within.sources (inside c)
+    ∙ ap (λ r. place_from (edges c.self.inside.references.items) r.source (c.args.j + 1)) (sym c.at.ensures))
+
+here : (c : goal.After-result-1) → slice_get (edges c.self.inside.references.items) c.args.j ≡ Some (edge_of c.at.result.now)
+here c =
+    slice_get-get_or (edges c.self.inside.references.items) c.args.j (edge_of c.at.result.now) (omega (arith, inside c, length-edges c.self.inside.references.items))
+    ∙ ap Some (edge-at c.self.inside.references.items c.args.j c.at.result.now (inside c) ∙ ap edge_of (sym c.at.ensures))
+
+pub returns-clause-place : goal.returns-clause-place
+returns-clause-place c =
+    subst (λ (v : Shown). option_map (λ e. place_from v.edges e.source (c.args.j + 1)) (slice_get v.edges c.args.j) ≡ Some c.at.result.now.next) c.self.view_is
+    (ap (option_map (λ e. place_from (edges c.self.inside.references.items) e.source (c.args.j + 1))) (here c) ∙ ap Some (sym (next c)))
+
+pub returns-clause-within : goal.returns-clause-within
+returns-clause-within c =
+    subst (λ (v : Shown). IfSome c.at.result.now.next (λ k. k < length v.edges)) c.self.view_is
+    (place-within (λ (e : Edge). e.source == c.at.result.now.source) (edges c.self.inside.references.items) (c.args.j + 1) c.at.result.now.next
+    (omega (arith, inside c, length-edges c.self.inside.references.items)) (next c))
+
+pub returns-clause-behind : goal.returns-clause-behind
+returns-clause-behind c =
+    place-behind (λ (e : Edge). e.source == c.at.result.now.source) (edges c.self.inside.references.items) c.args.j c.at.result.now.next
+    (omega (arith, inside c, length-edges c.self.inside.references.items)) (next c)
 
 pub returns-clause-source : goal.returns-clause-source
 returns-clause-source c =
-    let count = ap (λ v. length v.edges) c.self.view_is in
-    let inside : c.args.j < length c.self.inside.references.items = omega (arith, count, length-edges c.self.inside.references.items, c.requires) in
-    let next : c.at.result.now.next ≡ place_from (edges c.self.inside.references.items) c.at.result.now.source (c.args.j + 1) =
-    subst (IsLinked (edges c.self.inside.references.items) c.args.j) (sym c.at.ensures) (c.self.invariant.linked c.args.j c.at.result.now inside) in
-    let here : option_map (λ e. e.source) (slice_get (edges c.self.inside.references.items) c.args.j) ≡ Some c.at.result.now.source =
-    ap (option_map (λ e. e.source)) (slice_get-get_or (edges c.self.inside.references.items) c.args.j (edge_of c.at.result.now) (omega (arith, inside, length-edges c.self.inside.references.items))
-    ∙ ap Some (edge-at c.self.inside.references.items c.args.j c.at.result.now inside))
-    ∙ ap (λ r. Some r.source) (sym c.at.ensures) in
-    subst (λ v. IfSome c.at.result.now.next (λ k. option_map (λ e. e.source) (slice_get v.edges k) ≡ option_map (λ e. e.source) (slice_get v.edges c.args.j))) c.self.view_is
-    (subst (λ o. IfSome c.at.result.now.next (λ k. option_map (λ e. e.source) (slice_get (edges c.self.inside.references.items) k) ≡ o)) (sym here)
-    (place-source (edges c.self.inside.references.items) c.at.result.now.source (c.args.j + 1) c.at.result.now.next (omega (arith, inside, length-edges c.self.inside.references.items)) next))
+    subst (λ (v : Shown). IfSome c.at.result.now.next (λ k. option_map (λ e. e.source) (slice_get v.edges k) ≡ option_map (λ e. e.source) (slice_get v.edges c.args.j))) c.self.view_is
+    (subst (λ o. IfSome c.at.result.now.next (λ k. option_map (λ e. e.source) (slice_get (edges c.self.inside.references.items) k) ≡ o)) (sym (ap (option_map (λ e. e.source)) (here c)))
+    (place-source (edges c.self.inside.references.items) c.at.result.now.source (c.args.j + 1) c.at.result.now.next (omega (arith, inside c, length-edges c.self.inside.references.items)) (next c)))
