@@ -1,11 +1,14 @@
 //! A collector: slices, whole collections, and `gc`.
-ghost use Rattle.std.specs.Prelude.{◌≡◌, ◌≢◌, [], length, None, Some, Ok, OnErr, OnOk, true, is_some};
+ghost use Rattle.std.specs.Prelude.{◌≡◌, ◌≢◌, ◌<◌, ◌↔◌, ℕ, [], length, None, Some, Ok, IsTrue, OnErr, OnOk, true, is_some};
+ghost use Rattle.cc_lists.specs.Least.{Least};
 ghost use Rattle.cc_model.specs.Snapshot.{white_natives};
 ghost use Rattle.cc_model.specs.End.{at_end, refused};
 ghost use Rattle.cc_model.specs.Sweep.{collect_scripts as collected};
 ghost use Rattle.cc_laws_run.specs.Doomed.{IsSuspectedNow};
 ghost use Rattle.cc_laws_run.specs.GivenUp.{IsGivenUp};
 ghost use Rattle.cc_graph.specs.Held.{AreHeld};
+ghost use Rattle.cc_graph.specs.Shown.{is_black};
+ghost use Rattle.cc_scan.specs.Scanning.{scan_rules};
 ghost use Rattle.cc_heaps.specs.Keyed.{IsInOrder};
 ghost use Rattle.cc_heaps.specs.HasKey.{HasKey};
 ghost use Rattle.cc_heaps.specs.Changes.{KeepsKeys};
@@ -19,7 +22,6 @@ ghost use Rattle.cc_collector.specs.Kept.{ForgetsNothing, RunsIn, machine_of, ru
 ghost use Rattle.cc_collector.specs.Collected.{IsSliced, IsCollected, IsCollectGivenUp, IsSwept, TellsWhatLeaves, progress_of};
 ghost use Rattle.cc_collector.specs.Units.{HasDoneUnit, HasDoneAll, HasFinished};
 
-use crate::steps::Steps;
 use cc_builder::{Build, Step};
 use cc_gc::collect_scripts;
 use cc_graph::Graph;
@@ -28,10 +30,11 @@ use cc_model::{Event, Item, Notices};
 use cc_names::NoMemory;
 use cc_repair::mark_touched;
 use cc_scan::scan;
+use cc_steps::Steps;
 use cc_unlink::collect_white;
 use std::alloc::Global;
-use std::marker::Model;
-use std::sync::ledger::Ledger;
+use std::marker::{Brand, Model};
+use std::sync::ledger::{Blank, Ledger};
 
 /// Whether the units of a slice reached the end of a collection.
 #[derive(Clone, Copy, Debug, PartialEq, Eq, Drop)]
@@ -290,6 +293,18 @@ fn blackened(build: Build, heaps: &Heaps) -> Graph
 {
     let mut graph = build.finish();
     mark_touched(&mut graph, heaps);
-    scan(&mut graph);
+    scan_uncounted::<Brand>(&mut graph, Blank::new(1));
     graph
+}
+
+/// Scans a graph. Nobody asks for its steps.
+fn scan_uncounted<L: Ledger>(graph: &mut Graph, blank: Blank)
+    requires name { blank.name ≡ L.name }
+    requires parts { blank.parts ≡ L.parts }
+    requires some { 0 < L.parts }
+    ensures least { (i : ℕ) → IsTrue (is_black graph.new i) ↔ Least (scan_rules graph.old) i }
+    ensures rest { graph.new ≡ record graph.old { blacks = graph.new.blacks } }
+{
+    let mut steps = Steps::<L>::new(blank);
+    scan(graph, &mut steps);
 }

@@ -15,11 +15,10 @@
 
 mod between;
 mod collector;
-mod steps;
 
 pub use between::running_collections_go_on;
 pub use collector::{Collector, Ended};
-pub use steps::Steps;
+pub use cc_steps::Steps;
 
 #[cfg(test)]
 mod tests;

@@ -14,7 +14,7 @@ pub returns : goal.returns
 returns c =
     let v = c.args.heaps.now in
     let m = c.mark_touched.new.graph in
-    whites-found c.args.build v m c.scan.new.graph c.requires.built c.requires.behind
+    whites-found c.args.build v m c.scan_uncounted.new.graph c.requires.built c.requires.behind
     (subst (λ (g : Shown). (i : ℕ) → IsTrue (is_black m i) ↔ (IsTrue (is_black g i) ⊎ Among i (touched g v.heap))) c.finish-graph.ensures c.mark_touched.ensures.marked)
     (subst (λ (g : Shown). m ≡ record g { blacks = m.blacks }) c.finish-graph.ensures c.mark_touched.ensures.rest)
-    c.scan.ensures.least c.scan.ensures.rest
+    c.scan_uncounted.ensures.least c.scan_uncounted.ensures.rest
