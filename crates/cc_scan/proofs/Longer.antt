@@ -1,8 +1,8 @@
 -- The list of black nodes becomes longer: what stands on it keeps its place.
 use Rattle.std.specs.Prelude.{slice_get}
-use Rattle.std.proofs.Common.{◌≡◌, ℕ, zero, suc, ◌+◌, ◌≤◌, ◌==◌, ◌&&◌, Bool, true, false, List, [], ◌∷◌, ◌++◌, length, take, Some, None, refl, sym, ◌∙◌, ap, subst, arith, add-one}
+use Rattle.std.proofs.Common.{◌≡◌, ℕ, zero, suc, ◌+◌, ◌≤◌, ◌==◌, ◌&&◌, Bool, true, false, List, [], ◌∷◌, ◌++◌, length, take, Some, refl, sym, ◌∙◌, ap, subst, arith, add-one}
 use Rattle.std.proofs.lemmas.List.{append_assoc, append-nil, length-append}
-use Rattle.cc_lists.specs.Members.{Among, has, with_last, with_all_last}
+use Rattle.cc_lists.specs.Members.{Among, has, with_all_last}
 use Rattle.cc_lists.proofs.Members.{Among-left}
 use Rattle.cc_graph.specs.Shown.{Hyperedge, with_black}
 use Rattle.cc_scan.specs.Steps.{is_met, with_value, with_values}

@@ -1,8 +1,8 @@
 -- The mappings of a node are looked at one after another, by place.
-use Rattle.std.specs.Prelude.{slice_get, is_some}
-use Rattle.std.proofs.Common.{◌≡◌, ℕ, suc, ◌+◌, ◌≤◌, true, List, [], ◌∷◌, length, drop, filter, Option, Some, None, option_map, refl, sym, ◌∙◌, ap, subst, arith}
+use Rattle.std.specs.Prelude.{slice_get}
+use Rattle.std.proofs.Common.{◌≡◌, ℕ, suc, ◌+◌, ◌≤◌, true, length, drop, filter, Option, Some, None, option_map, refl, sym, ◌∙◌, ap, subst, arith}
 use Rattle.std.proofs.lemmas.Option.{same_Some}
-use Rattle.cc_graph.specs.Shown.{Hyperedge, Shown, is_with, place_with}
+use Rattle.cc_graph.specs.Shown.{Shown, is_with, place_with}
 use Rattle.cc_scan.specs.Steps.{with_value, with_values}
 use Rattle.cc_scan.proofs.Passing.{IsNextPlace, place-next, place-none}
 

@@ -1,9 +1,8 @@
 -- The values of mappings whose map and key are each black or no node become black.
-use Rattle.std.proofs.Common.{◌≡◌, ℕ, ◌==◌, ◌&&◌, Bool, true, false, List, [], ◌∷◌, ◌++◌, Option, Some, None, refl, sym, ◌∙◌, ap, subst, inl, inr, ◌⊎◌, ⊎_elim}
-use Rattle.std.specs.Prelude.{◌||◌}
+use Rattle.std.proofs.Common.{◌≡◌, ℕ, ◌==◌, ◌&&◌, Bool, true, false, List, [], ◌∷◌, Option, Some, None, refl, sym, subst, inl, inr, ◌⊎◌, ⊎_elim}
 use Rattle.std.specs.Option.{option_to_list, is_none}
 use Rattle.std.proofs.lemmas.Bool.{and_parts, and_from, true≢false, eq-eqb, or_left, or_right}
-use Rattle.cc_lists.specs.Members.{Among, has}
+use Rattle.cc_lists.specs.Members.{Among}
 use Rattle.cc_lists.proofs.Members.{Among-append, Among-left, Among-right, has-among, has-there}
 use Rattle.cc_lists.proofs.Numbers.{number-exact}
 use Rattle.cc_lists.proofs.OnceEach.{with_all_last-cases, with_all_last-there}

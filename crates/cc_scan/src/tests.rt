@@ -5,7 +5,7 @@ ghost use Rattle.std.specs.Prelude.{◌≡◌, ◌<◌, length};
 use super::*;
 use cc_counted::Held;
 use cc_graph::Graph;
-use cc_names::{NKey, Name, NativeNo, SKey, ScriptNo};
+use cc_names::{NKey, Name, NativeNo, NoMemory, SKey, ScriptNo};
 use cc_steps::Steps;
 use std::marker::Brand;
 use std::sync::ledger::{Blank, Ledger};
@@ -132,5 +132,38 @@ fn chain_of_mappings_against_their_order(rt: HostRuntime) -> Result<(), Fail> {
     assert_eq!(rt; graph.black_at(1), Some(held));
     assert_eq!(rt; graph.black_at(2), Some(second));
     assert_eq!(rt; graph.black_at(3), Some(third));
+    Ok(())
+}
+
+/// So many script objects, of which the first is the map and each other the key of the next one: in the order of the keys
+/// or against it.
+fn chain(graph: &mut Graph, count: u32, backwards: bool) -> Result<(), NoMemory> {
+    for i in 0..count {
+        if graph.len() < 100_000 {
+            graph.add_node(Name::Script(ScriptNo(i)), Held::Script(SKey(i as usize)))?;
+        }
+    }
+    for k in 1..count {
+        let i = if backwards { count - k } else { k };
+        if i < graph.len().saturating_sub(1) {
+            graph.note_mapping(Some(0), Some(i), i + 1)?;
+        }
+    }
+    Ok(())
+}
+
+#[test]
+fn long_chain_of_mappings_of_one_map(rt: HostRuntime) -> Result<(), Fail> {
+    for backwards in [false, true] {
+        let mut graph = Graph::new(rt.alloc());
+        chain(&mut graph, 50_000, backwards)?;
+        if graph.len() < 2 {
+            return Err(Fail::new("a node is lost"));
+        }
+        graph.blacken(0);
+        graph.blacken(1);
+        scan_all(&mut graph);
+        assert_eq!(rt; graph.black_at(49_999), Some(49_999));
+    }
     Ok(())
 }

@@ -1,4 +1,4 @@
-use Rattle.std.proofs.Common.{◌<◌, subst, sym, arith}
+use Rattle.std.proofs.Common.{subst, sym, arith}
 use Rattle.cc_scan.proofs.LookedAt.{AreLookedAt, looked-count, looked-end, looked-member, looked-next, looked-start, looked-within}
 use Rattle.cc_scan.proofs.scanning.blacken_values.Goals as goal
 
