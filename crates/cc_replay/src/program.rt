@@ -139,10 +139,13 @@ pub fn run<'a, S: Source, K: Sink>(
         ¬ (Rose (S.faults source.old) (S.faults source.new)) → ¬ (Rose (K.faults sink.old) (K.faults sink.new)) →
         result ≢ Status.NoMemory → result ≡ Status.Done }
 {
-    match request_of(alloc, words) {
-        Ok(Request::Replay(limits)) => replay(alloc, limits, source, sink),
-        Ok(Request::Make { .. }) => Status::NoMemory,
-        Err(WordsStop::Usage) => Status::Usage,
-        Err(WordsStop::NoMemory) => Status::NoMemory,
+    let request = match request_of(alloc, words) {
+        Ok(request) => request,
+        Err(WordsStop::Usage) => return Status::Usage,
+        Err(WordsStop::NoMemory) => return Status::NoMemory,
+    };
+    match request {
+        Request::Replay(limits) => replay(alloc, limits, source, sink),
+        Request::Make { .. } => Status::NoMemory,
     }
 }
