@@ -14,6 +14,7 @@ mod script;
 
 pub use laws::{
     known_scripts_are_made, made_scripts_are_cut_into_their_lines, made_scripts_ask_commands,
+    made_scripts_leave_nothing,
 };
 pub use made_source::MadeSource;
 
