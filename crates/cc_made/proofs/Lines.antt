@@ -2,7 +2,7 @@
 use Rattle.std.proofs.Common.{◌≡◌, ℕ, zero, suc, ◌+◌, ◌*◌, ◌≤◌, Bool, true, false, not, ◌==◌, List, [], ◌∷◌, ◌++◌, length, map, refl, sym, ap, ◌∙◌, arith, lit≤, append_assoc, append-nil, length-append, nat_le, if◌then◌else◌}
 use Rattle.std.specs.List.{All, list_all}
 use Rattle.std.proofs.lemmas.Bool.{and_parts, false≢true, leb-true}
-use Rattle.std.proofs.lemmas.List.Folds.{list_all-map}
+use Rattle.std.proofs.lemmas.List.Folds.{list_all-append, list_all-map}
 use Rattle.cc_model.specs.Asks.{Ask, ask_of, asks_of, command_of}
 use Rattle.cc_model.specs.Forms.{version_one_forms}
 use Rattle.cc_model.specs.Lines.{lines_from as cut_from, lines_of}
@@ -70,7 +70,7 @@ bytes-made (suc count) words =
 
 -- a test that each ask passes
 pub asks-pass : (test : Ask → Bool) → list_all (form_passes (λ line. test (ask_of version_one_forms line))) forms ≡ true → list_all (λ line. test (ask_of version_one_forms line)) tail ≡ true →
-  (count : ℕ) (words : Lcg) → list_all test (map (ask_of version_one_forms) (lines_from count words)) ≡ true
+    (count : ℕ) (words : Lcg) → list_all test (map (ask_of version_one_forms) (lines_from count words)) ≡ true
 asks-pass test all last count words =
     list_all-map test (ask_of version_one_forms) (lines_from count words) ∙ all-made (λ line. test (ask_of version_one_forms line)) all last count words
 
@@ -91,6 +91,10 @@ abbrev pub drawn_lines : ℕ → Lcg → List (List ℕ)
 drawn_lines zero words = []
 drawn_lines (suc count) words = (made_line words).text ∷ drawn_lines count (made_line words).words
 
+pub many-drawn : (count : ℕ) (words : Lcg) → length (drawn_lines count words) ≡ count
+many-drawn zero words = refl
+many-drawn (suc count) words = ap (λ n. suc n) (many-drawn count (made_line words).words)
+
 pub tail-made : (count : ℕ) (words : Lcg) → map (ask_of version_one_forms) (lines_from count words) ≡ map (ask_of version_one_forms) (drawn_lines count words) ++ tail_asks
 tail-made zero words = tail-asks
 tail-made (suc count) words = ap (λ l. ask_of version_one_forms (made_line words).text ∷ l) (tail-made count (made_line words).words)
@@ -103,3 +107,10 @@ asks-made count words = ap (map (ask_of version_one_forms)) (cut-script (lines_f
 -- each is short
 pub each-short : (count : ℕ) (words : Lcg) → All (λ line. length line ≤ 13) (lines_from count words)
 each-short count words = λ k d within. leb-true _ _ (passes-at is_short (lines_from count words) k d within (all-made is_short refl refl count words))
+
+-- what stands before the tail fills the first eight registers alone
+pub drawn-fill : (count : ℕ) (words : Lcg) → list_all fills_of_eight (map (ask_of version_one_forms) (drawn_lines count words)) ≡ true
+drawn-fill count words =
+    let all : list_all fills_of_eight (map (ask_of version_one_forms) (drawn_lines count words) ++ tail_asks) ≡ true =
+    ap (list_all fills_of_eight) (sym (tail-made count words)) ∙ registers-made count words in
+    (and_parts _ _ (sym (list_all-append fills_of_eight (map (ask_of version_one_forms) (drawn_lines count words)) tail_asks) ∙ all)).0

@@ -7,7 +7,7 @@ use Rattle.cc_made.specs.Forms.{Form, form_at}
 use Rattle.rand_pcg.specs.Lcg.{Lcg, increment_of, started}
 use Rattle.rand_pcg.specs.Pcg.{multiplier_64, pcg32}
 
--- THE GENERATOR at the start: the second stream, so the same words as `Pcg32::new(seed, 1)`
+-- THE GENERATOR at the start: that of `Pcg32::new(seed, 1)`
 unfoldable pub seeded : ℕ → Lcg
 seeded seed = started 64 multiplier_64 seed (increment_of 64 1)
 
@@ -50,7 +50,7 @@ of_form form words = with_operands form.operands (record { text = form.word; wor
 abbrev pub made_line : Lcg → Draft
 made_line words = of_form (form_at (next_word words % 20)) (rest words)
 
--- THE TAIL: all eight registers of both banks let go, then collections, then the census
+-- THE TAIL: the first eight registers of both banks are emptied, then all that is left is collected and counted
 abbrev pub tail : List (List ℕ)
 tail =
     codes "drop n0"

@@ -2,10 +2,15 @@
 
 ghost use Rattle.std.specs.Prelude.{◌≡◌, ℕ, ◌+◌, ◌*◌, ◌^◌, ◌-◌, ◌≤◌, IsTrue, List, ◌++◌, length, All};
 ghost use Rattle.std.specs.List.{list_all};
+ghost use Rattle.cc_names.specs.Allowance.{Allowance};
+ghost use Rattle.cc_model.specs.Answers.{Answer};
 ghost use Rattle.cc_model.specs.Asks.{Ask, asks_of};
 ghost use Rattle.cc_model.specs.Forms.{version_one_forms};
+ghost use Rattle.cc_model.specs.Lawful.{IsLawful};
 ghost use Rattle.cc_model.specs.Lines.{lines_of};
+ghost use Rattle.cc_model.specs.Quiet.{IsQuiet};
 ghost use Rattle.cc_made.specs.Asked.{fills_of_eight, is_command, tail_asks};
+ghost use Rattle.cc_made.specs.Ending.{LeavesNothing};
 ghost use Rattle.cc_made.specs.Known.{four_of_the_greatest, thirty_of_111, three_of_seven};
 ghost use Rattle.cc_made.specs.Made.{made_lines, made_script, tail};
 
@@ -26,6 +31,14 @@ pub fn made_scripts_ask_commands()
     ensures commands { (seed count : ℕ) → IsTrue (list_all is_command (asks_of version_one_forms (made_script seed count))) }
     ensures registers { (seed count : ℕ) → IsTrue (list_all fills_of_eight (asks_of version_one_forms (made_script seed count))) }
     ensures tail { (seed count : ℕ) → (asks : List Ask) × (asks_of version_one_forms (made_script seed count) ≡ asks ++ tail_asks) }
+{}
+
+/// In each lawful and quiet transcript of a made script the last census lists nothing, where the tail's `collect` was not
+/// given up: no register holds anything by then.
+pub fn made_scripts_leave_nothing()
+    ensures { (seed count : ℕ) (limits : Allowance) (answers : List Answer) →
+        IsLawful limits (asks_of version_one_forms (made_script seed count)) answers →
+        IsQuiet limits (asks_of version_one_forms (made_script seed count)) answers → LeavesNothing count answers }
 {}
 
 /// Some made scripts are those that were worked out apart from the definition.

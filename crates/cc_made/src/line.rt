@@ -1,7 +1,7 @@
 //! One made line.
 
 ghost use Rattle.std.specs.Prelude.{◌≡◌, ◌+◌, ◌≤◌, [], ◌∷◌, ◌++◌, length};
-ghost use Rattle.cc_made.specs.Made.{ended, made_line, next_word, rest, with_operand};
+ghost use Rattle.cc_made.specs.Made.{ended, made_line, next_word, rest, seeded, with_operand};
 
 use crate::form::Form;
 use crate::operand::Operand;
@@ -9,7 +9,16 @@ use cc_names::LineBuf;
 use rand_core::utils::NextWord;
 use rand_pcg::Pcg32;
 
+/// The generator of the words of a script.
+#[tactic(auto, unfolding(crate::specs::Made::seeded))]
+pub(crate) fn seeded(seed: u64) -> Pcg32
+    ensures { result ≡ seeded seed }
+{
+    Pcg32::new(seed, 1)
+}
+
 /// Draws a word.
+#[tactic(auto, unfolding(crate::specs::Made::next_word, crate::specs::Made::rest))]
 fn draw(words: &mut Pcg32) -> u32
     ensures word { result ≡ next_word words.old }
     ensures rest { words.new ≡ rest words.old }

@@ -4,7 +4,7 @@ ghost use Rattle.std.specs.Prelude.{◌≡◌, ◌≤◌, ◌<◌, [], ◌++◌,
 ghost use Rattle.cc_made.specs.Made.{lines_from, made_script, script_of};
 ghost use Rattle.cc_made.specs.Pieces.{after, text_of};
 
-use crate::line::made_line;
+use crate::line::{made_line, seeded};
 use cc_names::LineBuf;
 use rand_pcg::Pcg32;
 use std::marker::Model;
@@ -71,11 +71,10 @@ impl Model for Script {
 
 impl Script {
     /// The whole script of `count` lines and the tail, by the words of a generator that is seeded with `seed`.
-    pub(crate) fn new(seed: u64, count: u32) -> Script
+    pub(crate) fn new(seed: u64, mut count: u32) -> Script
         ensures { result ≡ made_script seed count }
     {
-        let mut words = Pcg32::new(seed, 1);
-        let mut count = count;
+        let mut words = seeded(seed);
         let piece = Piece::next(&mut words, &mut count);
         Script {
             piece,

@@ -83,5 +83,6 @@ fn a_long_script_is_the_reference_script(rt: HostRuntime) {
 fn laws_can_be_called() {
     made_scripts_are_cut_into_their_lines();
     made_scripts_ask_commands();
+    made_scripts_leave_nothing();
     known_scripts_are_made();
 }

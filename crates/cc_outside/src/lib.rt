@@ -9,7 +9,8 @@
 //!
 //! A source may tell which bytes it has left, and a sink which bytes it was given: those in memory do,
 //! standard input and output do not. `BytesSource` and `BytesSink` fail at the calls that they are told to,
-//! for tests of what a program does then; `SureSource` and `CountSink` never fail.
+//! for tests of what a program does then; `SureSource` and `CountSink` never fail. `ReadCounts` counts the reads of a source
+//! that stands in another crate.
 #![tactic(auto)]
 
 mod bytes_sink;

@@ -1,5 +1,5 @@
 -- What words that are taken give.
-use Rattle.std.proofs.Common.{◌≡◌, ◌∙◌, ◌||◌, ◌≤◌, inl, inr, ℕ, Bool, cond, codes, true, false, not, refl, sym, ap, subst, arith, List, [], ◌∷◌, drop, Option, Some, None, is_some, pos}
+use Rattle.std.proofs.Common.{◌≡◌, ◌∙◌, ◌||◌, ◌≤◌, inl, inr, ℕ, Bool, cond, codes, true, false, not, refl, sym, ap, ap₂, subst, arith, List, [], ◌∷◌, drop, Option, Some, None, is_some, pos}
 use Rattle.std.specs.Prelude.{find, option_and_then, option_map}
 use Rattle.std.specs.Option.{IfSome, IsSome, option_map_or}
 use Rattle.std.specs.Borrow.{Bor}
@@ -31,7 +31,10 @@ use Rattle.clap.specs.declared.builder.value_parser.ValueParser.TheVariants as p
 use Rattle.clap.proofs.OnLiterals.{clap_on_literals}
 use Rattle.clap.proofs.ValueTestLemmas.{accepts-Accepts}
 use Rattle.clap.proofs.WalkLemmas.{both, one_text-rows}
-use Rattle.cc_replay.specs.Words.{IsFor, IsNumber, IsTaken, app, bytes_option, count_argument, natives_option, number_argument, number_option, scripts_option, seed_argument, text_for}
+use Rattle.cc_names.specs.Allowance.{Allowance}
+use Rattle.cc_replay.specs.declared.words.Request.{Request}
+use Rattle.cc_replay.specs.declared.words.Request.TheVariants.{Replay, Make}
+use Rattle.cc_replay.specs.Words.{GivesRequest, IsFor, IsNumber, IsTaken, app, bytes_option, count_argument, natives_option, number_argument, number_option, scripts_option, seed_argument, text_for}
 use Rattle.cc_replay.proofs.FaultFree.{is_sound_level, takes-no_fault}
 use Rattle.cc_replay.proofs.OptionRows.{AreOptions, HasText, IsOption, has_default, has_required, level_default, level_required}
 use Rattle.cc_lists.proofs.Booleans.{premise-holds}
@@ -167,13 +170,6 @@ make_entered words e is = go (one_entered words e)
     go (inl replay) = absurd (other_name (codes "replay") (codes "make") refl (names_one (codes "make") built_replay (subcommand_of app words) replay is))
     go (inr (inl here)) = here
     go (inr (inr none)) = absurd none
-
--- words are not for both
-pub not_both : (words : List Text) → IsFor (codes "replay") words → ¬ (IsFor (codes "make") words)
-not_both words replay make =
-    let same : Some (codes "replay") ≡ Some (codes "make") = sym replay ∙ make in
-    let names : codes "replay" ≡ codes "make" = cc in
-    other_name (codes "replay") (codes "make") refl names
 
 -- ---- the options and the arguments
 
@@ -316,11 +312,31 @@ text_of_rows option (Some p) rows e =
     ap (one_of option) same
 
 -- one text is one number
-pub same_number : (given : Option Text) (n m : ℕ) → IsNumber given n → IsNumber given m → n ≡ m
+same_number : (given : Option Text) (n m : ℕ) → IsNumber given n → IsNumber given m → n ≡ m
 same_number given n m a b =
     let same : Some a.text ≡ Some b.text = sym a.is ∙ b.is in
     let text : a.text ≡ b.text = cc in
     a.value ∙ ap (λ t. digits_value 10 (without_leading_plus t)) text ∙ sym b.value
+
+-- words are not for both subcommands
+not_both : (words : List Text) → IsFor (codes "replay") words → ¬ (IsFor (codes "make") words)
+not_both words replay make =
+    let same : Some (codes "replay") ≡ Some (codes "make") = sym replay ∙ make in
+    let names : codes "replay" ≡ codes "make" = cc in
+    other_name (codes "replay") (codes "make") refl names
+
+same_limits : (l m : Allowance) → l.natives ≡ m.natives → l.scripts ≡ m.scripts → l.bytes ≡ m.bytes → l ≡ m
+same_limits l m natives scripts bytes =
+    ap (λ n. record { natives = n; scripts = l.scripts; bytes = l.bytes }) natives
+    ∙ ap₂ (λ s b. record { natives = m.natives; scripts = s; bytes = b }) scripts bytes
+
+-- what the words ask for is one thing alone
+pub one_request : (words : List Text) (a b : Request) → GivesRequest words a → GivesRequest words b → a ≡ b
+one_request words (Replay l) (Replay m) g h =
+    ap Replay (same_limits l m (same_number _ _ _ g.natives h.natives) (same_number _ _ _ g.scripts h.scripts) (same_number _ _ _ g.bytes h.bytes))
+one_request words (Replay l) (Make seed count) g h = absurd (not_both words g.subcommand h.subcommand)
+one_request words (Make seed count) (Replay m) g h = absurd (not_both words h.subcommand g.subcommand)
+one_request words (Make seed count) (Make other many) g h = ap₂ Make (same_number _ _ _ g.seed_is h.seed_is) (same_number _ _ _ g.count_is h.count_is)
 
 -- the name of the subcommand stands beside its rows
 name_of_rows : {Z : Type 0} (o : Option (Box SubCommand Z)) → option_map (λ b. (out-SubCommand (box_value b)).name.now) o ≡ option_map (λ p. p.0) (subcommand_rows o)

@@ -19,6 +19,7 @@ use Rattle.cc_made.proofs.Lines.{asks-made, commands-made, drawn_lines, many-mad
 use Rattle.cc_made.proofs.Passing.{passes-made}
 use Rattle.cc_replay.specs.Transcripts.{Counts, IsRun}
 use Rattle.cc_replay.specs.Summaries.{IsMadeRun, made_asks, sums_of, widest}
+use Rattle.cc_replay.proofs.MadeEnds.{collected-nothing, leaves-nothing, nothing-left}
 use Rattle.cc_replay.proofs.Totals.{asks_census, kinds, sums-lawful}
 use Rattle.cc_replay.proofs.Wants.{none-told}
 
@@ -71,6 +72,10 @@ made-run seed count few limits wide sums c = record {
   sums_are = sums_are;
   commands = ap (λ (s : Sums). s.commands) sums_are ∙ (counts.0 ∙ many-asked seed count);
   replies = omega (arith, ap kinds sums_are, ap (λ (s : Sums). s.commands) sums_are, counts.0, counts.1, one-census seed count);
+  census = λ swept collected swept_again last are ok. ap (λ (s : Sums). s.census) sums_are
+      ∙ collected-nothing count c.answers (leaves-nothing seed count widest c.answers run.lawful run.quiet) swept collected swept_again last are ok;
+  nothing_left = λ nomem. ap (λ (s : Sums). s.census) sums_are
+      ∙ nothing-left seed count widest c.answers run.lawful run.quiet (ap (λ (s : Sums). s.nomem) (sym sums_are) ∙ nomem);
   with_all_memory = λ nomem abandoned. sums_are ∙ ap sums_of (run.with_all_memory (none-told (made_asks seed count) c.answers
       (ap (λ (s : Sums). s.nomem) (sym sums_are) ∙ nomem) (ap (λ (s : Sums). s.abandoned) (sym sums_are) ∙ abandoned)));
 }

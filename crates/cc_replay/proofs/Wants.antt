@@ -19,69 +19,105 @@ use Rattle.cc_model.specs.Asks.{Ask, taken}
 use Rattle.cc_laws_run.specs.Memory.{noes_of_reply, noes_told, all_noes_told}
 use Rattle.cc_replay.specs.Summaries.{sums_of}
 
--- an item that tells a want of memory, or an abandonment
-abbrev is_want : Item → Bool
-is_want (of_event event) = is_abandonment event
-is_want (Listed name) = false
-is_want (of_reply reply) = is_without_memory reply
+-- an item that tells a want of memory, and one that tells an abandonment
+abbrev pub is_unmet : Item → Bool
+is_unmet (of_event event) = false
+is_unmet (Listed name) = false
+is_unmet (of_reply reply) = is_without_memory reply
+
+abbrev is_given_up : Item → Bool
+is_given_up (of_event event) = is_abandonment event
+is_given_up (Listed name) = false
+is_given_up (of_reply reply) = false
 
 -- a count that was raised is not zero
 raised-some : (n : ℕ) → raised n 1 ≡ 0 → ⊥
 raised-some n e = omega (arith, e)
 
--- where an item leaves no want of memory counted, none was counted before, and it tells none
-item-before : (item : Item) (s : Sums) → (with_item item s).nomem ≡ 0 → (with_item item s).abandoned ≡ 0 →
-    (s.nomem ≡ 0) × (s.abandoned ≡ 0) × (is_want item ≡ false)
-item-before (of_event (Unlinked x)) s n a = (n, a, refl)
-item-before (of_event (Freed x)) s n a = (n, a, refl)
-item-before (of_event Abandoned) s n a = absurd (raised-some s.abandoned a)
-item-before (Listed x) s n a = (n, a, refl)
-item-before (of_reply (Named x)) s n a = (n, a, refl)
-item-before (of_reply Nothing) s n a = (n, a, refl)
-item-before (of_reply Done) s n a = (n, a, refl)
-item-before (of_reply (Census k)) s n a = (n, a, refl)
-item-before (of_reply (Refused Long)) s n a = (n, a, refl)
-item-before (of_reply (Refused Line)) s n a = (n, a, refl)
-item-before (of_reply (Refused Empty)) s n a = (n, a, refl)
-item-before (of_reply (Refused Kind)) s n a = (n, a, refl)
-item-before (of_reply (Refused Slot)) s n a = (n, a, refl)
-item-before (of_reply (Refused Full)) s n a = (n, a, refl)
-item-before (of_reply (Refused NoMemory)) s n a = absurd (raised-some s.nomem n)
+-- where an item leaves none counted, none was counted before, and it is none
+unmet-before : (item : Item) (s : Sums) → (with_item item s).nomem ≡ 0 → (s.nomem ≡ 0) × (is_unmet item ≡ false)
+unmet-before (of_event (Unlinked x)) s n = (n, refl)
+unmet-before (of_event (Freed x)) s n = (n, refl)
+unmet-before (of_event Abandoned) s n = (n, refl)
+unmet-before (Listed x) s n = (n, refl)
+unmet-before (of_reply (Refused Long)) s n = (n, refl)
+unmet-before (of_reply (Refused Line)) s n = (n, refl)
+unmet-before (of_reply (Refused Empty)) s n = (n, refl)
+unmet-before (of_reply (Refused Kind)) s n = (n, refl)
+unmet-before (of_reply (Refused Slot)) s n = (n, refl)
+unmet-before (of_reply (Refused Full)) s n = (n, refl)
+unmet-before (of_reply (Refused NoMemory)) s n = absurd (raised-some s.nomem n)
+unmet-before (of_reply reply) s n = (n, refl)
 
--- where items leave none counted, none was counted before, and they tell none
-items-before : (items : List Item) (s : Sums) → (summed items s).nomem ≡ 0 → (summed items s).abandoned ≡ 0 →
-    (s.nomem ≡ 0) × (s.abandoned ≡ 0) × (count_by is_want items ≡ 0)
-items-before [] s n a = (n, a, refl)
-items-before (item ∷ items) s n a =
-    let after = items-before items (with_item item s) n a in
-    let before = item-before item s after.0 after.1 in
-    (before.0, before.1, omega (arith, count_by-cons is_want item items, ap {B = ℕ} (λ (b : Bool). cond b 1 0) before.2, after.2))
+given_up-before : (item : Item) (s : Sums) → (with_item item s).abandoned ≡ 0 → (s.abandoned ≡ 0) × (is_given_up item ≡ false)
+given_up-before (of_event (Unlinked x)) s a = (a, refl)
+given_up-before (of_event (Freed x)) s a = (a, refl)
+given_up-before (of_event Abandoned) s a = absurd (raised-some s.abandoned a)
+given_up-before (Listed x) s a = (a, refl)
+given_up-before (of_reply (Refused Long)) s a = (a, refl)
+given_up-before (of_reply (Refused Line)) s a = (a, refl)
+given_up-before (of_reply (Refused Empty)) s a = (a, refl)
+given_up-before (of_reply (Refused Kind)) s a = (a, refl)
+given_up-before (of_reply (Refused Slot)) s a = (a, refl)
+given_up-before (of_reply (Refused Full)) s a = (a, refl)
+given_up-before (of_reply (Refused NoMemory)) s a = (a, refl)
+given_up-before (of_reply reply) s a = (a, refl)
+
+-- where a count is zero after items, none of them is counted there
+none-counted : (count : Sums → ℕ) (test : Item → Bool) → ((item : Item) (s : Sums) → count (with_item item s) ≡ 0 → (count s ≡ 0) × (test item ≡ false)) →
+    (items : List Item) (s : Sums) → count (summed items s) ≡ 0 → (count s ≡ 0) × (count_by test items ≡ 0)
+none-counted count test before [] s e = (e, refl)
+none-counted count test before (item ∷ items) s e =
+    let after = none-counted count test before items (with_item item s) e in
+    let first = before item s after.0 in
+    (first.0, omega (arith, count_by-cons test item items, ap {B = ℕ} (λ (b : Bool). cond b 1 0) first.1, after.1))
+
+pub none-unmet : (items : List Item) (s : Sums) → (summed items s).nomem ≡ 0 → count_by is_unmet items ≡ 0
+none-unmet items s e = (none-counted (λ (t : Sums). t.nomem) is_unmet unmet-before items s e).1
+
+none-given_up : (items : List Item) (s : Sums) → (summed items s).abandoned ≡ 0 → count_by is_given_up items ≡ 0
+none-given_up items s e = (none-counted (λ (t : Sums). t.abandoned) is_given_up given_up-before items s e).1
 
 -- what an answer tells of memory is among its items
-in-reply : (r : Option Reply) → noes_of_reply r ≤ count_by is_want (map of_reply (option_to_list r))
+in-reply : (r : Option Reply) → noes_of_reply r ≤ count_by is_unmet (map of_reply (option_to_list r))
 in-reply None = omega arith
 in-reply (Some (Refused NoMemory)) = omega arith
 in-reply (Some reply) = omega arith
 
-in-answer : (a : Answer) → count_by is_abandonment a.events + noes_of_reply a.reply ≤ count_by is_want (items_of a)
-in-answer a = omega (
+pub reply-counted : (a : Answer) → noes_of_reply a.reply ≤ count_by is_unmet (items_of a)
+reply-counted a = omega (
   arith,
-  count_by-append is_want (map of_event a.events) (map Listed a.listed ++ map of_reply (option_to_list a.reply)),
-  count_by-append is_want (map Listed a.listed) (map of_reply (option_to_list a.reply)),
-  count_by-map is_want of_event a.events,
+  count_by-append is_unmet (map of_event a.events) (map Listed a.listed ++ map of_reply (option_to_list a.reply)),
+  count_by-append is_unmet (map Listed a.listed) (map of_reply (option_to_list a.reply)),
   in-reply a.reply,
+)
+
+events-counted : (a : Answer) → count_by is_abandonment a.events ≤ count_by is_given_up (items_of a)
+events-counted a = omega (
+  arith,
+  count_by-append is_given_up (map of_event a.events) (map Listed a.listed ++ map of_reply (option_to_list a.reply)),
+  count_by-map is_given_up of_event a.events,
 )
 
 in-ask : (ask : Ask) (a : Answer) → noes_told ask a ≤ count_by is_abandonment a.events + noes_of_reply a.reply
 in-ask (taken Gc) a = omega arith
 in-ask ask a = omega arith
 
-in-answers : (asks : List Ask) (answers : List Answer) → all_noes_told asks answers ≤ count_by is_want (all_items_of answers)
+in-answers : (asks : List Ask) (answers : List Answer) →
+    all_noes_told asks answers ≤ count_by is_given_up (all_items_of answers) + count_by is_unmet (all_items_of answers)
 in-answers [] answers = omega arith
 in-answers (ask ∷ asks) [] = omega arith
-in-answers (ask ∷ asks) (a ∷ answers) =
-    omega (arith, in-ask ask a, in-answer a, in-answers asks answers, count_by-append is_want (items_of a) (all_items_of answers))
+in-answers (ask ∷ asks) (a ∷ answers) = omega (
+  arith,
+  in-ask ask a,
+  reply-counted a,
+  events-counted a,
+  in-answers asks answers,
+  count_by-append is_unmet (items_of a) (all_items_of answers),
+  count_by-append is_given_up (items_of a) (all_items_of answers),
+)
 
 -- SUMS THAT COUNT NO WANT OF MEMORY AND NO ABANDONMENT are of answers that tell none
 pub none-told : (asks : List Ask) (answers : List Answer) → (sums_of answers).nomem ≡ 0 → (sums_of answers).abandoned ≡ 0 → all_noes_told asks answers ≡ 0
-none-told asks answers n a = omega (arith, in-answers asks answers, (items-before (all_items_of answers) none_summed n a).2)
+none-told asks answers n a =
+    omega (arith, in-answers asks answers, none-unmet (all_items_of answers) none_summed n, none-given_up (all_items_of answers) none_summed a)

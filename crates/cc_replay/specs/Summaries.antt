@@ -1,8 +1,9 @@
 -- THE SUMMARY OF A MADE RUN: the plain run's answers to a made script, counted, in ten lines.
-use Rattle.std.specs.Prelude.{◌≡◌, ℕ, ◌+◌, List, [], ◌∷◌, ◌++◌, codes, decimal, flat_map, Option}
+use Rattle.std.specs.Prelude.{◌≡◌, ℕ, ◌+◌, List, [], ◌∷◌, ◌++◌, codes, decimal, drop, flat_map, Option, Some}
 use Rattle.std.specs.Io.KnownBytes.{Appends}
 use Rattle.cc_names.specs.Allowance.{Allowance}
 use Rattle.cc_model.specs.declared.sums.Sums.{Sums}
+use Rattle.cc_model.specs.declared.item.Reply.TheVariants.{Done}
 use Rattle.cc_model.specs.Summed.{none_summed, summed}
 use Rattle.cc_model.specs.Telling.{AppendsFront}
 use Rattle.cc_model.specs.Answers.{Answer, all_items_of}
@@ -56,6 +57,11 @@ pub record IsMadeRun (seed count : ℕ) (sums : Sums) : Type 0 where
   -- each line of the script is a command and has one reply: `= ok`, a name, `= none`, a refusal, `! nomem`, or, once, the census
   pub commands : sums.commands ≡ count + 20
   pub replies : sums.ok + sums.named + sums.none + sums.refused + sums.nomem + 1 ≡ sums.commands
+  -- where the `collect` of the tail, which is two before the census, is answered `= ok`, that counts nothing;
+  pub census : (swept collected swept_again last : Answer) → drop (count + 16) answers ≡ swept ∷ collected ∷ swept_again ∷ last ∷ [] →
+    collected.reply ≡ Some Done → sums.census ≡ 0
+  -- and so it is where no want of memory is counted
+  pub nothing_left : sums.nomem ≡ 0 → sums.census ≡ 0
   -- where no want of memory and no abandonment is counted, seed and count alone decide them: memory was there at every place
   pub with_all_memory : sums.nomem ≡ 0 → sums.abandoned ≡ 0 → sums ≡ sums_of (plain_run widest [] (made_asks seed count))
 

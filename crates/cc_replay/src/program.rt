@@ -155,10 +155,13 @@ pub fn run<'a, S: Source, K: Sink>(
     ensures made_always { (seed count : ℕ) → IsTaken (map (λ w. w.now) words.entry.now) → GivesMade (map (λ w. w.now) words.entry.now) seed count →
         ¬ (Rose (K.faults sink.old) (K.faults sink.new)) → result ≢ Status.NoMemory → result ≡ Status.Done }
 {
-    match request_of(alloc, words) {
-        Ok(Request::Replay(limits)) => replay(alloc, limits, source, sink),
-        Ok(Request::Make { seed, count }) => make(alloc, seed, count, sink),
-        Err(WordsStop::Usage) => Status::Usage,
-        Err(WordsStop::NoMemory) => Status::NoMemory,
+    let request = match request_of(alloc, words) {
+        Ok(request) => request,
+        Err(WordsStop::Usage) => return Status::Usage,
+        Err(WordsStop::NoMemory) => return Status::NoMemory,
+    };
+    match request {
+        Request::Replay(limits) => replay(alloc, limits, source, sink),
+        Request::Make { seed, count } => make(alloc, seed, count, sink),
     }
 }

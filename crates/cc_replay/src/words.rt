@@ -141,6 +141,7 @@ pub(crate) fn request_of<'a>(alloc: Global, words: &'a [&'a str]) -> Result<Requ
     ensures usage { result ≡ Err WordsStop.Usage → ¬ IsTaken (map (λ w. w.now) words.entry.now) }
     ensures taken { OnOk result (IsTaken (map (λ w. w.now) words.entry.now)) }
     ensures request { IfOk result (λ request. GivesRequest (map (λ w. w.now) words.entry.now) request) }
+    ensures only { IfOk result (λ request. (other : Request) → GivesRequest (map (λ w. w.now) words.entry.now) other → other ≡ request) }
 {
     let matches = matches_of(alloc, words)?;
     if let Some(make) = matches.subcommand_matches("make") {

@@ -109,7 +109,7 @@ fn words_of_replay_give_limits_or_are_not_taken(rt: HostRuntime) {
 
 #[test]
 fn words_of_make_give_a_seed_and_a_count_or_are_not_taken(rt: HostRuntime) {
-    let cases: [(&[&str], Result<Request, WordsStop>); 24] = [
+    let cases: [(&[&str], Result<Request, WordsStop>); 25] = [
         (&["ccreplay", "make", "7", "0"], made(7, 0)),
         (&["ccreplay", "make", "7", "1000000"], made(7, 1_000_000)),
         (
@@ -135,6 +135,7 @@ fn words_of_make_give_a_seed_and_a_count_or_are_not_taken(rt: HostRuntime) {
             Err(WordsStop::Usage),
         ),
         (&["ccreplay", "make", "7", "-1"], Err(WordsStop::Usage)),
+        (&["ccreplay", "make", "7", "-0"], Err(WordsStop::Usage)),
         (&["ccreplay", "make", "x", "0"], Err(WordsStop::Usage)),
         (&["ccreplay", "make", "7", "x"], Err(WordsStop::Usage)),
         (&["ccreplay", "make", "", "0"], Err(WordsStop::Usage)),

@@ -1,5 +1,5 @@
 use Rattle.std.proofs.Common.{arith, codes, map, refl}
-use Rattle.cc_replay.proofs.GivenWords.{bytes_number, count_number, is_for, natives_number, number_given, number_there, number_within, scripts_number, seed_number}
+use Rattle.cc_replay.proofs.GivenWords.{bytes_number, count_number, is_for, natives_number, number_given, number_there, number_within, one_request, scripts_number, seed_number}
 use Rattle.cc_replay.proofs.words.request_of.Goals as goal
 
 pub wide_number_of-seed-requires : goal.wide_number_of-seed-requires
@@ -26,6 +26,9 @@ returns-in-Some-clause-request c =
       count_is = number_given words _ rows met found c.in-Some.is (codes "count") refl c.number_of-count.ensures;
       within = number_within words _ rows met found c.in-Some.is (codes "count") 1000000 count_number c.in_ok-matches.ensures.taken c.number_of-count.ensures;
     }
+
+pub returns-in-Some-clause-only : goal.returns-in-Some-clause-only
+returns-in-Some-clause-only c other given = one_request (map (λ w. w.now) c.args.words.now) other _ given (returns-in-Some-clause-request c)
 
 pub number_of-natives-requires : goal.number_of-natives-requires
 number_of-natives-requires c = record {
@@ -65,3 +68,6 @@ returns-clause-request c =
       scripts = number_given words _ rows met found c.unwrap-replay.ensures (codes "scripts") c.new.ensures.scripts c.number_of-scripts.ensures;
       bytes = number_given words _ rows met found c.unwrap-replay.ensures (codes "bytes") c.new.ensures.bytes c.number_of-bytes.ensures;
     }
+
+pub returns-clause-only : goal.returns-clause-only
+returns-clause-only c other given = one_request (map (λ w. w.now) c.args.words.now) other _ given (returns-clause-request c)

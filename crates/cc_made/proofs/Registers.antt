@@ -1,0 +1,205 @@
+-- Which registers of a graph are empty while a made script runs.
+use Rattle.std.proofs.Common.{◌≡◌, ◌⊎◌, ℕ, zero, suc, ◌<◌, ◌≤◌, Bool, true, false, List, [], ◌∷◌, Option, None, Some, get_or, set, refl, ap, sym, ◌∙◌, arith, inl, inr, ⊎_elim}
+use Rattle.std.proofs.lemmas.Bool.{false≢true, ltb-true}
+use Rattle.std.proofs.lemmas.Bool.Decides.{leb_tells}
+use Rattle.std.proofs.lemmas.List.{get_or-set_other}
+use Rattle.cc_names.specs.Allowance.{Allowance}
+use Rattle.cc_names.specs.declared.name.Name.{Name}
+use Rattle.cc_names.specs.declared.name.Name.TheVariants as name
+use Rattle.cc_names.specs.declared.register.Reg.{Reg}
+use Rattle.cc_names.specs.declared.register.Reg.TheVariants.{N, S}
+use Rattle.cc_model.specs.declared.command.Command.{Command}
+use Rattle.cc_model.specs.declared.command.Command.TheVariants.{Nothing, Native, Script, WeakMap, CopyNative, CopyScript, Drop, Set, Get, Put, Take, Wrap, Unwrap, Preserve, SetEntry, GetEntry, Expose, Slice, Collect, Gc, Census}
+use Rattle.cc_model.specs.declared.item.Refusal.{Refusal}
+use Rattle.cc_model.specs.declared.item.Reply.{Reply}
+use Rattle.cc_model.specs.Answers.{Answer}
+use Rattle.cc_model.specs.Asks.{Ask, long, bad, taken}
+use Rattle.cc_model.specs.Checks.{refusal_of, reply_if_taken}
+use Rattle.cc_model.specs.Graph.{Graph, GraphNative, GraphScript, changed, empty_graph, objects_of, preserve, register, set_entry, set_native, set_register, set_script, set_slot, step, unless_refused, wrapped}
+use Rattle.cc_model.specs.Slots.{empty_slots}
+use Rattle.cc_model.specs.Lawful.{AnswersTaken, ReplyAnswers, State, graph_after, is_without_memory, next}
+use Rattle.cc_model.specs.Reached.{Reached, held, edge, value}
+use Rattle.cc_made.specs.Asked.{filled_by, fills_of_eight, is_of_eight}
+
+-- the first registers of each bank, so many of them, and all from the eighth on are empty
+pub record HasEmptied (natives scripts : ℕ) (g : Graph) : Type 0 where
+  pub in_natives : (r : ℕ) → (r < natives) ⊎ (8 ≤ r) → register g (N r) ≡ None
+  pub in_scripts : (r : ℕ) → (r < scripts) ⊎ (8 ≤ r) → register g (S r) ≡ None
+
+-- no register is filled at the beginning
+none-at : (n r : ℕ) → get_or (empty_slots n) r None ≡ None
+none-at zero r = refl
+none-at (suc n) zero = refl
+none-at (suc n) (suc r) = none-at n r
+
+pub none-filled : (limits : Allowance) → HasEmptied 0 0 (empty_graph limits)
+none-filled limits = record { in_natives = λ r i. none-at 256 r; in_scripts = λ r i. none-at 256 r }
+
+-- both have the same registers
+pub record SameBanks (g h : Graph) : Type 0 where
+  pub natives : h.native_registers ≡ g.native_registers
+  pub scripts : h.script_registers ≡ g.script_registers
+
+same : (g : Graph) → SameBanks g g
+same g = record { natives = refl; scripts = refl }
+
+native-banks : (g : Graph) (k : ℕ) (n : Option GraphNative) → SameBanks g (set_native g k n)
+native-banks g k None = record { natives = refl; scripts = refl }
+native-banks g k (Some n) = record { natives = refl; scripts = refl }
+
+script-banks : (g : Graph) (k : ℕ) (o : Option GraphScript) → SameBanks g (set_script g k o)
+script-banks g k None = record { natives = refl; scripts = refl }
+script-banks g k (Some o) = record { natives = refl; scripts = refl }
+
+preserve-banks : (g : Graph) (x : Option Name) → SameBanks g (preserve g x)
+preserve-banks g None = same g
+preserve-banks g (Some (name.Native k)) = same g
+preserve-banks g (Some (name.Script k)) = same g
+preserve-banks g (Some (name.Reflector k)) = native-banks g k.0 _
+
+wrapped-banks : (g : Graph) (x : Option Name) → SameBanks g (wrapped g x)
+wrapped-banks g None = same g
+wrapped-banks g (Some (name.Native k)) = native-banks g k.0 _
+wrapped-banks g (Some (name.Script k)) = same g
+wrapped-banks g (Some (name.Reflector k)) = same g
+
+slot-banks : (g : Graph) (x : Option Name) (i : ℕ) (y : Option Name) → SameBanks g (set_slot g x i y)
+slot-banks g None i y = same g
+slot-banks g (Some (name.Native k)) i y = native-banks g k.0 _
+slot-banks g (Some (name.Script k)) i y = script-banks g k.0 _
+slot-banks g (Some (name.Reflector k)) i y = native-banks g k.0 _
+
+entry-banks : (g : Graph) (m k v : Option Name) → SameBanks g (set_entry g m k v)
+entry-banks g None k v = same g
+entry-banks g (Some m) None v = same g
+entry-banks g (Some m) (Some k) None = record { natives = refl; scripts = refl }
+entry-banks g (Some m) (Some k) (Some v) = record { natives = (preserve-banks g (Some k)).natives; scripts = (preserve-banks g (Some k)).scripts }
+
+banks-then : (f g h : Graph) → SameBanks f g → SameBanks g h → SameBanks f h
+banks-then f g h p q = record { natives = q.natives ∙ p.natives; scripts = q.scripts ∙ p.scripts }
+
+-- the same are empty where the registers are the same
+kept : (a b : ℕ) (g h : Graph) → SameBanks g h → HasEmptied a b g → HasEmptied a b h
+kept a b g h s e = record {
+  in_natives = λ r i. ap (λ l. get_or l r None) s.natives ∙ e.in_natives r i;
+  in_scripts = λ r i. ap (λ l. get_or l r None) s.scripts ∙ e.in_scripts r i;
+}
+
+-- one of the eight is filled
+filled : (g h : Graph) (r : Reg) (x : Option Name) → SameBanks g h → is_of_eight (Some r) ≡ true → HasEmptied 0 0 g → HasEmptied 0 0 (set_register h r x)
+filled g h (N d) x s low e =
+    let below : d < 8 = ltb-true _ _ low in
+    record {
+      in_natives = λ r i. get_or-set_other h.native_registers d r x None (λ same. ⊎_elim (λ none. omega (arith, none)) (λ far. omega (arith, far, same, below)) i)
+          ∙ (kept 0 0 g h s e).in_natives r i;
+      in_scripts = (kept 0 0 g h s e).in_scripts;
+    }
+filled g h (S d) x s low e =
+    let below : d < 8 = ltb-true _ _ low in
+    record {
+      in_natives = (kept 0 0 g h s e).in_natives;
+      in_scripts = λ r i. get_or-set_other h.script_registers d r x None (λ same. ⊎_elim (λ none. omega (arith, none)) (λ far. omega (arith, far, same, below)) i)
+          ∙ (kept 0 0 g h s e).in_scripts r i;
+    }
+
+-- a slot that is emptied is empty, and so is each that was
+set-none : {X : Type 0} (xs : List (Option X)) (i j : ℕ) → ((j ≡ i → ⊥) → get_or xs j None ≡ None) → get_or (set xs i None) j None ≡ None
+set-none [] i j h = refl
+set-none (x ∷ xs) zero zero h = refl
+set-none (x ∷ xs) zero (suc j) h = h (λ e. omega (arith, e))
+set-none (x ∷ xs) (suc i) zero h = h (λ e. omega (arith, e))
+set-none (x ∷ xs) (suc i) (suc j) h = set-none xs i j (λ other. h (λ e. other (omega (arith, e))))
+
+-- one is emptied
+emptied : (g : Graph) (r : Reg) → HasEmptied 0 0 g → HasEmptied 0 0 (set_register g r None)
+emptied g (N d) e = record {
+  in_natives = λ r i. set-none g.native_registers d r (λ other. e.in_natives r i);
+  in_scripts = e.in_scripts;
+}
+emptied g (S d) e = record {
+  in_natives = e.in_natives;
+  in_scripts = λ r i. set-none g.script_registers d r (λ other. e.in_scripts r i);
+}
+
+-- the next one is emptied
+before-next : (a r : ℕ) → (r < suc a) ⊎ (8 ≤ r) → (r ≡ a → ⊥) → (r < a) ⊎ (8 ≤ r)
+before-next a r i other = ⊎_elim (λ near. inl (omega (arith, near, other))) (λ far. inr far) i
+
+pub next-native-emptied : (a b : ℕ) (g : Graph) → HasEmptied a b g → HasEmptied (suc a) b (set_register g (N a) None)
+next-native-emptied a b g e = record {
+  in_natives = λ r i. set-none g.native_registers a r (λ other. e.in_natives r (before-next a r i other));
+  in_scripts = e.in_scripts;
+}
+
+pub next-script-emptied : (a b : ℕ) (g : Graph) → HasEmptied a b g → HasEmptied a (suc b) (set_register g (S b) None)
+next-script-emptied a b g e = record {
+  in_natives = e.in_natives;
+  in_scripts = λ r i. set-none g.script_registers b r (λ other. e.in_scripts r (before-next b r i other));
+}
+
+-- a command that fills one of the eight, or none
+changed-kept : (g : Graph) (c : Command) → is_of_eight (filled_by c) ≡ true → HasEmptied 0 0 g → HasEmptied 0 0 (changed g c)
+unfolding changed
+changed-kept g (Native d n) low e = filled g _ (N d) _ (record { natives = refl; scripts = refl }) low e
+changed-kept g (Script d n) low e = filled g _ (S d) _ (record { natives = refl; scripts = refl }) low e
+changed-kept g (WeakMap d) low e = filled g _ (S d) _ (record { natives = refl; scripts = refl }) low e
+changed-kept g (CopyNative d s) low e = filled g g (N d) _ (same g) low e
+changed-kept g (CopyScript d s) low e = filled g g (S d) _ (same g) low e
+changed-kept g (Drop r) low e = emptied g r e
+changed-kept g (Set d i r) low e = kept 0 0 g _ (slot-banks g _ i _) e
+changed-kept g (Get r s i) low e = filled g g r _ (same g) low e
+changed-kept g (Put d i s) low e = kept 0 0 g _ (banks-then g _ _ (preserve-banks g _) (slot-banks _ _ i _)) e
+changed-kept g (Take d s i) low e = filled g g (S d) _ (same g) low e
+changed-kept g (Wrap d s) low e = filled g _ (S d) _ (wrapped-banks g _) low e
+changed-kept g (Unwrap d s) low e = filled g g (N d) _ (same g) low e
+changed-kept g (Preserve s) low e = kept 0 0 g _ (preserve-banks g _) e
+changed-kept g (SetEntry m k v) low e = kept 0 0 g _ (entry-banks g _ _ _) e
+changed-kept g (GetEntry d m k) low e = filled g g (S d) _ (same g) low e
+changed-kept g (Expose s i) low e = e
+changed-kept g Nothing low e = e
+changed-kept g (Slice u) low e = e
+changed-kept g Collect low e = e
+changed-kept g Gc low e = e
+changed-kept g Census low e = e
+
+-- after a reply the graph is as it was, or as the command changes it
+pub left-or-changed : (P : Graph → Type 0) (g : Graph) (c : Command) (reply : Option Reply) → P g → P (changed g c) → P (graph_after g c reply)
+left-or-changed P g c None left new = left
+left-or-changed P g c (Some reply) left new = go (is_without_memory reply)
+  where
+    stepped : (refusal : Option Refusal) → P (unless_refused refusal g (changed g c))
+    stepped None = new
+    stepped (Some refusal) = left
+
+    go : (wants : Bool) → P (elim wants [ true ↦ g | false ↦ step g c ])
+    go true = left
+    go false = stepped (refusal_of (objects_of g) c)
+
+-- no ask of a made script fills another
+pub next-kept : (s : State) (ask : Ask) (a : Answer) → fills_of_eight ask ≡ true → HasEmptied 0 0 s.graph → HasEmptied 0 0 (next s ask a).graph
+next-kept s long a low e = e
+next-kept s bad a low e = e
+next-kept s (taken c) a low e = left-or-changed (HasEmptied 0 0) s.graph c a.reply e (changed-kept s.graph c low e)
+
+-- a register that is let go is emptied: that wants no memory, and is not refused
+pub drop-done : (s : State) (r : Reg) (a : Answer) → AnswersTaken s (Drop r) a → graph_after s.graph (Drop r) a.reply ≡ set_register s.graph r None
+unfolding changed refusal_of reply_if_taken
+drop-done s r a answered = go a.reply answered.1
+  where
+    go : (reply : Option Reply) → ReplyAnswers s (Drop r) a reply → graph_after s.graph (Drop r) reply ≡ set_register s.graph r None
+    go None p = absurd p
+    go (Some reply) p = ⊎_elim (λ e. ap (λ y. graph_after s.graph (Drop r) (Some y)) e) (λ wants. absurd (false≢true wants.command_may)) p.replies
+
+-- a register is one of the eight or beyond them
+near-or-far : (r : ℕ) → (r < 8) ⊎ (8 ≤ r)
+near-or-far r = ⊎_elim (λ far. inr far.1) (λ near. inl near.1) (leb_tells 8 r)
+
+all-empty : (g : Graph) → HasEmptied 8 8 g → (r : Reg) → register g r ≡ None
+all-empty g e (N r) = e.in_natives r (near-or-far r)
+all-empty g e (S r) = e.in_scripts r (near-or-far r)
+
+-- where all registers are empty nothing is reached
+pub none-reached : (g : Graph) → HasEmptied 8 8 g → (x : Name) → Reached g x → ⊥
+none-reached g e _ (held r x h) = let none : None ≡ Some x = sym (all-empty g e r) ∙ h in cc
+none-reached g e _ (edge y z reached among) = none-reached g e y reached
+none-reached g e _ (value entry among map_reached key_reached) = none-reached g e entry.key key_reached
