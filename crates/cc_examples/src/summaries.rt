@@ -7,7 +7,12 @@ use std::process::Abort;
 use std::test::Fail;
 
 /// Runs `make` with these words, and compares what is written with the summary. The source is not read.
-fn makes(rt: &(impl Abort + AllocGlobal), seed: &str, count: &str, summary: &str) -> Result<(), Fail> {
+fn makes(
+    rt: &(impl Abort + AllocGlobal),
+    seed: &str,
+    count: &str,
+    summary: &str,
+) -> Result<(), Fail> {
     let mut source = SureSource::new(b"census\n".to_vec(rt.alloc())?);
     let mut sink = BytesSink::new(rt.alloc(), 300, Vec::new(rt.alloc()))?;
     let words = ["ccreplay", "make", seed, count];

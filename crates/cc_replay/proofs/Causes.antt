@@ -1,5 +1,5 @@
 -- WHERE THERE IS THE CAUSE, THERE IS THE ANSWER: by cases on the status.
-use Rattle.std.proofs.Common.{◌≡◌, ◌≢◌, ℕ, ◌+◌, ◌<◌, ◌≤◌, ⊎_elim, List, [], ◌++◌, length, length-append, append-nil, Option, Some, None, refl, sym, ap, ◌∙◌, arith}
+use Rattle.std.proofs.Common.{◌≡◌, ◌≢◌, ℕ, ◌+◌, ◌<◌, ◌≤◌, ⊎_elim, List, ◌++◌, length, length-append, append-nil, Option, Some, None, refl, sym, ap, ◌∙◌, arith}
 use Rattle.std.specs.Io.KnownBytes.{Consumes, IsAtEnd}
 use Rattle.cc_names.specs.Allowance.{Allowance}
 use Rattle.cc_replay.specs.declared.status.Status.{Status}

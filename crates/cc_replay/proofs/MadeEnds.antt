@@ -1,8 +1,7 @@
 -- HOW A MADE RUN ENDS: where its last `collect` is done, its census counts nothing.
-use Rattle.std.proofs.Common.{◌≡◌, ℕ, ◌+◌, ◌≤◌, Bool, true, false, List, [], ◌∷◌, ◌++◌, length, map, take, drop, Option, Some, None, refl, sym, ap, ◌∙◌, subst, arith, append_assoc, length-append, ◌⊎◌, ⊎_elim, inl, inr, flat_map, count_by}
+use Rattle.std.proofs.Common.{◌≡◌, ℕ, ◌+◌, ◌≤◌, List, [], ◌∷◌, ◌++◌, length, map, take, drop, Option, Some, None, refl, sym, ap, ◌∙◌, subst, arith, append_assoc, length-append, ◌⊎◌, ⊎_elim, inl, inr, count_by}
 use Rattle.std.proofs.lemmas.Grind.{flat_map-append}
 use Rattle.std.proofs.lemmas.List.{length-map, take-append-drop}
-use Rattle.std.proofs.lemmas.Bool.{false≢true}
 use Rattle.cc_lists.proofs.Counting.{count_by-append}
 use Rattle.cc_names.specs.Allowance.{Allowance}
 use Rattle.cc_model.specs.declared.sums.Sums.{Sums}
@@ -16,7 +15,7 @@ use Rattle.cc_model.specs.Answers.{Answer, all_items_of, items_of}
 use Rattle.cc_model.specs.Asks.{Ask, ask_of, taken}
 use Rattle.cc_model.specs.Checks.{refusal_of, reply_if_taken}
 use Rattle.cc_model.specs.Forms.{version_one_forms}
-use Rattle.cc_model.specs.Lawful.{IsLawful, IsLawfulFrom, ReplyAnswers, RepliesWith, State, WantsMemory, census_of, next, start}
+use Rattle.cc_model.specs.Lawful.{IsLawful, IsLawfulFrom, ReplyAnswers, State, WantsMemory, census_of, next, start}
 use Rattle.cc_model.specs.Quiet.{IsQuiet}
 use Rattle.cc_model.specs.Summed.{none_summed, summed, with_item}
 use Rattle.cc_laws_run.specs.Memory.{noes_of_reply}
@@ -110,9 +109,9 @@ nothing-left seed count limits answers lawful quiet nomem =
     let words = seeded seed in
     let drawn = map (ask_of version_one_forms) (drawn_lines count words) in
     let are : made_asks seed count ≡ (drawn ++ take 16 tail_asks) ++ drop 16 tail_asks =
-        asks-made count words ∙ (tail-made count words ∙ sym (append_assoc drawn (take 16 tail_asks) (drop 16 tail_asks))) in
+    asks-made count words ∙ (tail-made count words ∙ sym (append_assoc drawn (take 16 tail_asks) (drop 16 tail_asks))) in
     let many : length (drawn ++ take 16 tail_asks) ≡ count + 16 =
-        length-append drawn (take 16 tail_asks) ∙ ap (λ (n : ℕ). n + 16) (length-map (drawn_lines count words) (ask_of version_one_forms) ∙ many-drawn count words) in
+    length-append drawn (take 16 tail_asks) ∙ ap (λ (n : ℕ). n + 16) (length-map (drawn_lines count words) (ask_of version_one_forms) ∙ many-drawn count words) in
     let rest = lawful-rest (start limits) (drawn ++ take 16 tail_asks) (drop 16 tail_asks) answers (subst (λ (asks : List Ask). IsLawful limits asks answers) are lawful) in
     last-four (count + 16) answers rest.0 (drop (count + 16) answers) refl (subst (λ (n : ℕ). IsLawfulFrom rest.0 (drop 16 tail_asks) (drop n answers)) many rest.1)
     (collected-nothing count answers (leaves-nothing seed count limits answers lawful quiet)) nomem

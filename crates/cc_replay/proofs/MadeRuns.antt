@@ -1,5 +1,5 @@
 -- THE SUMS OF A MADE RUN: what is counted for what a made script asks.
-use Rattle.std.proofs.Common.{◌≡◌, ℕ, zero, suc, ◌+◌, ◌≤◌, true, false, not, Bool, List, [], ◌∷◌, ◌++◌, length, map, Option, Some, refl, sym, ap, ◌∙◌, subst, arith, count_by, cond}
+use Rattle.std.proofs.Common.{◌≡◌, ℕ, zero, suc, ◌+◌, ◌≤◌, true, false, not, Bool, List, length, map, Option, Some, refl, sym, ap, ◌∙◌, subst, arith, count_by, cond}
 use Rattle.std.specs.List.{list_all}
 use Rattle.std.proofs.lemmas.Bool.{false≢true}
 use Rattle.std.proofs.lemmas.List.{length-map}
@@ -8,13 +8,11 @@ use Rattle.cc_lists.proofs.Counting.{count_by-append, count_by-cons}
 use Rattle.cc_names.specs.Allowance.{Allowance}
 use Rattle.cc_model.specs.declared.sums.Sums.{Sums}
 use Rattle.cc_model.specs.Summed.{none_summed, summed}
-use Rattle.cc_model.specs.Answers.{Answer, all_items_of}
+use Rattle.cc_model.specs.Answers.{all_items_of}
 use Rattle.cc_model.specs.Asks.{Ask, ask_of, command_of}
 use Rattle.cc_model.specs.Forms.{version_one_forms}
 use Rattle.cc_model.specs.Lawful.{start}
-use Rattle.cc_laws_run.specs.Memory.{all_noes_told}
 use Rattle.cc_made.specs.Asked.{is_command, tail_asks}
-use Rattle.cc_made.specs.Forms.{forms}
 use Rattle.cc_made.specs.Made.{lines_from, made_line, made_script, seeded}
 use Rattle.cc_made.proofs.Lines.{asks-made, bytes-made, commands-made, drawn_lines, many-made, tail-made}
 use Rattle.cc_made.proofs.Passing.{passes-made}
@@ -33,7 +31,6 @@ commands-asked seed count = ap (list_all is_command) (asks-made count (seeded se
 many-asked : (seed count : ℕ) → length (made_asks seed count) ≡ count + 20
 many-asked seed count =
     ap length (asks-made count (seeded seed)) ∙ (length-map (lines_from count (seeded seed)) (ask_of version_one_forms) ∙ many-made count (seeded seed))
-
 
 -- no line that is drawn asks for a census
 drawn-no_census : (words : _) → not (asks_census (ask_of version_one_forms (made_line words).text)) ≡ true

@@ -1,16 +1,16 @@
 -- HOW MANY REPLIES ARE COUNTED: one for each command, each with its kind.
-use Rattle.std.proofs.Common.{◌≡◌, ◌≢◌, ℕ, ◌+◌, ◌≤◌, Bool, true, false, List, [], ◌∷◌, ◌++◌, length, map, Option, Some, None, refl, sym, ap, ◌∙◌, subst, arith, option_to_list, flat_map, count_by, cond, ⊎_elim}
+use Rattle.std.proofs.Common.{◌≡◌, ℕ, ◌+◌, ◌≤◌, Bool, true, false, List, [], ◌∷◌, ◌++◌, length, map, Option, Some, None, refl, ap, ◌∙◌, arith, option_to_list, count_by, cond, ⊎_elim}
 use Rattle.std.specs.List.{list_all}
 use Rattle.std.proofs.lemmas.Bool.{and_parts, false≢true}
-use Rattle.cc_lists.specs.Faults.{raised, greatest_count}
-use Rattle.cc_lists.proofs.Counting.{count_by-append, count_by-cons, count_by-map}
+use Rattle.cc_lists.specs.Faults.{greatest_count}
+use Rattle.cc_lists.proofs.Counting.{count_by-append, count_by-cons}
 use Rattle.cc_names.specs.declared.name.Name.{Name}
 use Rattle.cc_names.specs.declared.register.Reg.TheVariants.{N, S}
 use Rattle.cc_model.specs.declared.sums.Sums.{Sums}
 use Rattle.cc_model.specs.declared.item.Refusal.{Refusal}
 use Rattle.cc_model.specs.declared.item.Refusal.TheVariants.{Long, Line, Empty, Kind, Slot, Full, NoMemory}
 use Rattle.cc_model.specs.declared.item.Reply.{Reply}
-use Rattle.cc_model.specs.declared.item.Reply.TheVariants.{Named, Nothing, Done, Census, Refused}
+use Rattle.cc_model.specs.declared.item.Reply.TheVariants.{Census, Refused}
 use Rattle.cc_model.specs.declared.item.Event.{Event}
 use Rattle.cc_model.specs.declared.item.Event.TheVariants.{Unlinked, Freed, Abandoned}
 use Rattle.cc_model.specs.declared.item.Item.{Item}
@@ -21,7 +21,7 @@ use Rattle.cc_model.specs.declared.command.Command.TheVariants.{CopyNative, Copy
 use Rattle.cc_model.specs.Summed.{none_summed, summed, with_item}
 use Rattle.cc_model.specs.Checks.{Objects, refusal_of, refused_or, reply_if_taken, named_or_nothing, slot_at, value_at, reflector_of, native_of}
 use Rattle.cc_model.specs.Graph.{objects_of}
-use Rattle.cc_model.specs.Lawful.{State, AnswersAsk, AnswersCommand, AnswersTaken, IsLawfulFrom, RepliesWith, ReplyAnswers, WantsMemory, census_of, next}
+use Rattle.cc_model.specs.Lawful.{State, AnswersAsk, IsLawfulFrom, RepliesWith, ReplyAnswers, WantsMemory, next}
 use Rattle.cc_model.specs.Answers.{Answer, items_of, all_items_of}
 use Rattle.cc_model.specs.Asks.{Ask, long, bad, taken}
 use Rattle.cc_made.specs.Asked.{is_command}
@@ -134,7 +134,7 @@ graph-no_count (Some refusal) reply without = refl
 lawful-no_count : (s : State) (c : Command) (reply : Reply) → RepliesWith s c reply → is_count reply ≡ false
 lawful-no_count s c reply r = ⊎_elim
     (λ (same : reply ≡ refused_or (refusal_of (objects_of s.graph) c) (reply_if_taken (objects_of s.graph) c)).
-        ap is_count same ∙ graph-no_count (refusal_of (objects_of s.graph) c) (reply_if_taken (objects_of s.graph) c) (taken-no_count (objects_of s.graph) c))
+    ap is_count same ∙ graph-no_count (refusal_of (objects_of s.graph) c) (reply_if_taken (objects_of s.graph) c) (taken-no_count (objects_of s.graph) c))
     (λ (w : WantsMemory s c reply). ap is_count w.refused)
     r
 
@@ -175,10 +175,10 @@ all-answers s [] [] are l = (refl, refl)
 all-answers s [] (a ∷ answers) are l = absurd l
 all-answers s (ask ∷ asks) [] are l = absurd l
 all-answers s (ask ∷ asks) (a ∷ answers) are l =
-    let one = one-answer s ask a (and_parts _ _ are).0 l.0 in
+    let parts = and_parts (is_command ask) (list_all is_command asks) are in
+    let one = one-answer s ask a parts.0 l.0 in
     let others : (count_by is_reply (all_items_of answers) ≡ length asks) × (count_by is_census (all_items_of answers) ≡ count_by asks_census asks) =
-        all-answers (next s ask a) asks answers (and_parts _ _ are).1 l.1 in
-    (
+    all-answers (next s ask a) asks answers parts.1 l.1 in (
       omega (arith, count_by-append is_reply (items_of a) (all_items_of answers), one.0, others.0),
       omega (arith, count_by-append is_census (items_of a) (all_items_of answers), one.1, others.1, count_by-cons asks_census ask asks),
     )
@@ -191,5 +191,5 @@ sums-lawful s asks answers are l few =
     let few_replies : count_by is_reply (all_items_of answers) ≤ greatest_count = omega (arith, few, counts.0) in
     let commands : (sums_of answers).commands ≡ 0 + count_by is_reply (all_items_of answers) = all-commands (all_items_of answers) none_summed (omega (arith, few_replies)) in
     let kinds_are : kinds (sums_of answers) + count_by is_census (all_items_of answers) ≡ 0 + count_by is_reply (all_items_of answers) =
-        all-kinds (all_items_of answers) none_summed (omega (arith, few_replies)) in
+    all-kinds (all_items_of answers) none_summed (omega (arith, few_replies)) in
     (omega (arith, commands, counts.0), omega (arith, kinds_are, counts.0, counts.1))

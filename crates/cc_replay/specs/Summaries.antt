@@ -59,7 +59,7 @@ pub record IsMadeRun (seed count : ℕ) (sums : Sums) : Type 0 where
   pub replies : sums.ok + sums.named + sums.none + sums.refused + sums.nomem + 1 ≡ sums.commands
   -- where the `collect` of the tail, which is two before the census, is answered `= ok`, that counts nothing;
   pub census : (swept collected swept_again last : Answer) → drop (count + 16) answers ≡ swept ∷ collected ∷ swept_again ∷ last ∷ [] →
-    collected.reply ≡ Some Done → sums.census ≡ 0
+      collected.reply ≡ Some Done → sums.census ≡ 0
   -- and so it is where no want of memory is counted
   pub nothing_left : sums.nomem ≡ 0 → sums.census ≡ 0
   -- where no want of memory and no abandonment is counted, seed and count alone decide them: memory was there at every place

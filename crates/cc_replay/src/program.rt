@@ -92,9 +92,9 @@ pub fn run<'a, S: Source, K: Sink>(
     // `make`, it is the summary of one,
     ensures done { result ≡ Status.Done →
         ((limits : Allowance) × GivesLimits (map (λ w. w.now) words.entry.now) limits
-            × IsDone limits (ends S.left S.reads K.written source.old source.new sink.old sink.new))
+        × IsDone limits (ends S.left S.reads K.written source.old source.new sink.old sink.new))
         ⊎ ((seed count : ℕ) × GivesMade (map (λ w. w.now) words.entry.now) seed count
-            × WritesSummary seed count (K.written sink.old) (K.written sink.new)) }
+        × WritesSummary seed count (K.written sink.old) (K.written sink.new)) }
     // where a read failed, of the lines that ended,
     ensures fault { result ≡ Status.ReadFault → (limits : Allowance) × GivesLimits (map (λ w. w.now) words.entry.now) limits
         × StopsAtFault limits (ends S.left S.reads K.written source.old source.new sink.old sink.new) }
@@ -104,9 +104,9 @@ pub fn run<'a, S: Source, K: Sink>(
     // and where a write failed, a front of one.
     ensures front { result ≡ Status.WriteFault →
         ((limits : Allowance) × GivesLimits (map (λ w. w.now) words.entry.now) limits
-            × StopsAtWrite limits (ends S.left S.reads K.written source.old source.new sink.old sink.new))
+        × StopsAtWrite limits (ends S.left S.reads K.written source.old source.new sink.old sink.new))
         ⊎ ((seed count : ℕ) × GivesMade (map (λ w. w.now) words.entry.now) seed count
-            × WritesSummaryFront seed count (K.written sink.old) (K.written sink.new)) }
+        × WritesSummaryFront seed count (K.written sink.old) (K.written sink.new)) }
     // Want of memory in setting up: nothing was read or written.
     ensures set_up { result ≡ Status.NoMemory → (source.new ≡ source.old) × (sink.new ≡ sink.old) }
 

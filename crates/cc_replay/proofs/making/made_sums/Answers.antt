@@ -15,15 +15,15 @@ wide h l empty natives scripts bytes = ap (λ (k : Heap). k.limits) empty ∙ wi
 pub prove-unreachable-requires : goal.prove-unreachable-requires
 prove-unreachable-requires c =
     let limits = wide c.in_ok-heaps.heaps.heap c.widest-limits.result c.in_ok-heaps.ensures.empty
-        c.widest-limits.ensures.natives c.widest-limits.ensures.scripts c.widest-limits.ensures.bytes in
+    c.widest-limits.ensures.natives c.widest-limits.ensures.scripts c.widest-limits.ensures.bytes in
     let done = made-done c.args.seed c.args.count c.requires c.answer_input-status.result _ c.in_ok-heaps.heaps.heap.limits
-        (ap (λ (r : SureReading). Some r.left) (c.new-lines.ensures.now ∙ c.new-source.ensures)) limits c.answer_input-status.ensures.done_always in
+    (ap (λ (r : SureReading). Some r.left) (c.new-lines.ensures.now ∙ c.new-source.ensures)) limits c.answer_input-status.ensures.done_always in
     true≢false (sym (rw done at (c.if-prove.ensures)))
 
 pub returns : goal.returns
 returns c =
     let limits = wide c.in_ok-heaps.heaps.heap c.widest-limits.result c.in_ok-heaps.ensures.empty
-        c.widest-limits.ensures.natives c.widest-limits.ensures.scripts c.widest-limits.ensures.bytes in
+    c.widest-limits.ensures.natives c.widest-limits.ensures.scripts c.widest-limits.ensures.bytes in
     let given = ap (λ (r : SureReading). Some r.left) (c.new-lines.ensures.now ∙ c.new-source.ensures) in
     let done = made-done c.args.seed c.args.count c.requires c.answer_input-status.result _ c.in_ok-heaps.heaps.heap.limits given limits c.answer_input-status.ensures.done_always in
     made-run c.args.seed c.args.count c.requires c.in_ok-heaps.heaps.heap.limits limits c.new-counter.result c.answer_input-status.new.out c.sums.result

@@ -5,7 +5,7 @@ use Rattle.std.specs.Io.KnownBytes.{Appends}
 use Rattle.cc_lists.proofs.KnownBytes.{on_err_of}
 use Rattle.cc_model.specs.Telling.{AppendsFront}
 use Rattle.cc_replay.specs.declared.summary.Line.{Line}
-use Rattle.cc_replay.specs.Summaries.{line_of, summary_lines, summary_text}
+use Rattle.cc_replay.specs.Summaries.{line_of}
 use Rattle.cc_replay.proofs.Pieces.{written-more, written-part}
 use Rattle.cc_replay.proofs.summary.write_summary.Goals as goal
 
@@ -31,6 +31,6 @@ pub returns-in_err-write_all-clause-part : goal.returns-in_err-write_all-clause-
 returns-in_err-write_all-clause-part g c =
     let written = g.K.Sink.written in
     let part = written-part (λ (l : Line). line_of (named l)) c.lines_of.result c.lines.line-index _ (place_within c.lines_of.result _ c.lines.line-index c.lines_of.ensures.lines c.lines-test.true)
-        _ _ _ c.lines.invariant.grown (subst (AppendsFront (written c.lines.sink) (written c.write_all.new.sink)) (c.bytes.ensures ∙ c.text_of.ensures) c.in_err-write_all.ensures.part) in
+    _ _ _ c.lines.invariant.grown (subst (AppendsFront (written c.lines.sink) (written c.write_all.new.sink)) (c.bytes.ensures ∙ c.text_of.ensures) c.in_err-write_all.ensures.part) in
     on_err_of c.from_residual.result (subst (AppendsFront (written c.args.sink.now) (written c.write_all.new.sink))
-        (sym (flat_map-map line_of named c.lines_of.result) ∙ ap (flat_map line_of) c.lines_of.ensures.lines) part)
+    (sym (flat_map-map line_of named c.lines_of.result) ∙ ap (flat_map line_of) c.lines_of.ensures.lines) part)
