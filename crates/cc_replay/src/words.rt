@@ -104,7 +104,7 @@ fn command<'a>(alloc: Global) -> Result<Command<'a>, AllocError>
 fn matches_of<'a>(alloc: Global, words: &'a [&'a str]) -> Result<ArgMatches<'a>, WordsStop>
     ensures usage { result ≡ Err WordsStop.Usage → ¬ IsTaken (map (λ w. w.now) words.entry.now) }
     ensures taken { OnOk result (IsTaken (map (λ w. w.now) words.entry.now)) }
-    ensures replay { IfOk result (λ m. subcommand_rows_of m ≡ subcommand_of app (map (λ w. w.now) words.entry.now)) }
+    ensures named { IfOk result (λ m. subcommand_rows_of m ≡ subcommand_of app (map (λ w. w.now) words.entry.now)) }
 {
     let Ok(command) = command(alloc) else {
         return Err(WordsStop::NoMemory);
@@ -126,7 +126,7 @@ fn number_of(named: &ArgMatches<'_>, name: &str) -> u32
     named.get_one::<u32>(name).unwrap()
 }
 
-/// The same, of 64 bits.
+/// The number that the subcommand has for an argument. There must be one, of 64 bits.
 fn wide_number_of(named: &ArgMatches<'_>, name: &str) -> u64
     requires given { (n : ℕ) × IsNumber (one_text (found_of named.now) name.now) n × (n ≤ 18446744073709551615) }
     ensures { IsNumber (one_text (found_of named.now) name.now) result }
