@@ -1,5 +1,5 @@
 //! `ccreplay` drives the cycle collector from a script of commands on standard input, one reply a command on
-//! standard output.
+//! standard output; or from a made script, with a summary of the replies on standard output.
 //!
 //! All of it is `cc_replay::run`, whose contract says what is written. This file hands it the words of the command
 //! line and the standard streams, says on standard error why a run was not done, and ends with the run's status.
@@ -33,7 +33,7 @@ fn words(rt: &HostRuntime) -> Result<Vec<String>, Status> {
     Ok(words)
 }
 
-/// Replays the script of standard input to standard output.
+/// Does what the words say: replays the script of standard input, or a made one, to standard output.
 fn replay(rt: &HostRuntime, words: &Vec<String>) -> Status {
     let Ok(words) = words
         .iter()
