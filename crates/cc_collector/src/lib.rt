@@ -17,8 +17,8 @@ mod between;
 mod collector;
 
 pub use between::running_collections_go_on;
-pub use collector::{Collector, Ended};
 pub use cc_steps::Steps;
+pub use collector::{Collector, Ended};
 
 #[cfg(test)]
 mod tests;
