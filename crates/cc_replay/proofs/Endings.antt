@@ -81,7 +81,7 @@ module _ (limits : Allowance) (m₀ m₁ : Moment) (r₀ r₁ : Reads) (begins :
       }
 
   -- and the answers to known bytes are counted
-  pub whole-counts : Answers IsWhole m₀ m₁ → m₁.telling.broken ≡ false → (bytes : List ℕ) → m₀.left ≡ Some bytes →
+  pub whole-counts : Answers AreAllGiven m₀ m₁ → m₁.telling.broken ≡ false → (bytes : List ℕ) → m₀.left ≡ Some bytes →
       Counts limits (asks_of version_one_forms bytes) m₀.telling.sums m₁.telling.sums
   whole-counts a whole bytes known =
       let l = answered a in
