@@ -22,3 +22,4 @@ pub mod Popping
 pub mod Wholeness
 pub mod Tidying
 pub mod ReachedLeast
+pub mod Underway

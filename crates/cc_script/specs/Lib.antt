@@ -6,3 +6,4 @@ pub mod Marking
 pub mod Cells
 pub mod Parts
 pub mod Tidy
+pub mod Underway

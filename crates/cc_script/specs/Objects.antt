@@ -83,6 +83,10 @@ key_after objects key = walks.next_key (λ o. o.key) objects key
 abbrev pub AreWhole : List Object → Type 0
 AreWhole objects = (o : Object) (q : ℕ) → Among o objects → Among (Some q) o.slots → IsTrue (is_there objects q)
 
+-- each object stands at a key of its own
+abbrev pub HaveOwnKeys : List Object → Type 0
+HaveOwnKeys objects = (o : Object) → Among o objects → object_at objects o.key ≡ Some o
+
 -- Writing
 
 -- the object at a key changed

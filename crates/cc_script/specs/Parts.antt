@@ -7,6 +7,7 @@ use Rattle.cc_script.specs.Objects.{Object}
 use Rattle.cc_script.specs.Lists.{Lists, objects_of, IsPlaced}
 use Rattle.cc_script.specs.ColourOrder.{HasColourOrder}
 use Rattle.cc_script.specs.Marking.{Marking, AreRaised}
+use Rattle.cc_script.specs.Underway.{IsMarked}
 use Rattle.cc_script.specs.Cells.{cells_of, order_links, waiting_links}
 
 abbrev pub lists_of : ScriptParts → Lists
@@ -41,3 +42,8 @@ pub record IsUnderWay (to : Colour) (p : ScriptParts) : Type 0 where
 -- the slab, which alone grows, holds as much memory as it did
 abbrev pub TakesNoMemory : ScriptParts → ScriptParts → Type 0
 TakesNoMemory old new = new.cells.capacity ≡ old.cells.capacity
+
+-- and the objects are marked in this colour
+pub record IsBegun (to : Colour) (p : ScriptParts) : Type 0 where
+  pub under_way : IsUnderWay to p
+  pub marked : IsMarked to (marking_of p)

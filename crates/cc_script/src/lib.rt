@@ -20,10 +20,12 @@
 mod cell;
 mod laws;
 mod links;
+mod marking;
 mod parts;
 mod scripts;
 
 pub use laws::raised_is_least;
+pub use marking::Marking;
 pub use scripts::Scripts;
 
 #[cfg(test)]

@@ -3,6 +3,8 @@ ghost use Rattle.std.specs.Prelude.{◌≡◌, ℕ, ◌<◌, ◌≤◌, false, L
 ghost use Rattle.cc_lists.specs.Members.{Among};
 ghost use Rattle.cc_names.specs.declared.kind.Colour.TheVariants.{White};
 ghost use Rattle.cc_script.specs.Objects.{AreWhole, FitsKind, IsNotBelow, change_object, colour_at, first_key, is_there, key_after, new_object, raised_among, slots_at, whitened, with_slot, without_object};
+ghost use Rattle.cc_lists.specs.Walks.{first_of};
+ghost use Rattle.cc_script.specs.Underway.{with_first_looked_into};
 ghost use Rattle.cc_script.specs.Walking.{keys_reached};
 ghost use Rattle.cc_script.specs.Lists.{IsPlaced, cell_at};
 ghost use Rattle.cc_script.specs.Marking.{raise_each, raise_key, raise_slot};
@@ -25,7 +27,7 @@ pub(crate) struct ScriptParts {
 }
 
 impl ScriptParts {
-    ghost use Rattle.cc_script.specs.Parts.{lists_of, shows, marking_of, IsAtRest, IsUnderWay, TakesNoMemory};
+    ghost use Rattle.cc_script.specs.Parts.{lists_of, shows, marking_of, IsAtRest, IsBegun, IsUnderWay, TakesNoMemory};
 
     /// No objects.
     pub(crate) fn new(alloc: Global) -> ScriptParts
@@ -142,7 +144,7 @@ impl ScriptParts {
     }
 
     /// Raises the object at a key where it is below `to`; it waits last then.
-    fn raise(&mut self, key: SKey, to: Colour)
+    pub(crate) fn raise(&mut self, key: SKey, to: Colour)
         requires under_way { IsUnderWay to self.old }
         requires live { IsTrue (is_there (shows self.old) key.0) }
         ensures raises { marking_of self.new ≡ raise_key to key.0 (marking_of self.old) }
@@ -183,6 +185,20 @@ impl ScriptParts {
         for i in 0..slots {
             self.raise_slot(key, i, to);
         }
+    }
+
+    /// Takes out the first of those that wait, and raises in the same way what its slots hold; none exactly where none waits.
+    pub(crate) fn look_into_first(&mut self, to: Colour) -> Option<SKey>
+        requires begun { IsBegun to self.old }
+        requires whole { AreWhole (shows self.old) }
+        ensures first { option_map (λ k. k.0) result ≡ first_of (marking_of self.old).waiting }
+        ensures looked { marking_of self.new ≡ with_first_looked_into to (marking_of self.old) }
+        ensures begun { IsBegun to self.new }
+        ensures memory { TakesNoMemory self.old self.new }
+    {
+        let key = self.waiting.pop_front(&mut self.cells)?;
+        self.raise_each(SKey(key), to);
+        Some(SKey(key))
     }
 
     /// Raises the object at a key, and all that it reaches over slots, to at least the colour `to`.

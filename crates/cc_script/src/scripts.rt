@@ -2,13 +2,15 @@
 ghost use Rattle.std.specs.Prelude.{◌≡◌, ◌↔◌, ◌<◌, ◌≤◌, false, List, [], ◌∷◌, ◌++◌, length, Some, None, option_map, slice_index_or, IsSome, IsTrue, IfSome, IfOk, OnOk, OnErr};
 ghost use Rattle.cc_names.specs.declared.kind.Colour.TheVariants.{White, Black};
 ghost use Rattle.cc_names.specs.declared.kind.Kind.TheVariants.{Reflector};
-ghost use Rattle.cc_script.specs.Objects.{AreWhole, change_object, colour_at, first_key, is_there, key_after, kind_at, map_object, name_at, native_at, plain_object, reflector_object, raised_among, slots_at, whitened, with_slot, without_object, IsNotBelow};
+ghost use Rattle.cc_script.specs.Objects.{AreWhole, HaveOwnKeys, change_object, colour_at, first_key, is_there, key_after, kind_at, map_object, name_at, native_at, plain_object, reflector_object, raised_among, slots_at, whitened, with_slot, without_object, IsNotBelow};
 ghost use Rattle.cc_script.specs.Walking.{keys_reached};
 
+use crate::marking::Marking;
 use crate::parts::ScriptParts;
 use cc_names::{Colour, Kind, NKey, Name, NativeNo, NoMemory, SKey, ScriptNo};
 use std::alloc::Global;
 use std::marker::Model;
+use std::mem;
 
 /// The script objects by key, in order of making.
 #[derive(Drop)]
@@ -176,6 +178,24 @@ impl Scripts {
         ensures { self.new ≡ raised_among (keys_reached self.old (key.0 ∷ [])) to self.old }
     {
         self.parts.mark_from(key, to);
+    }
+
+    /// Hands over the objects to be marked in the colour `to`. `end_marking` gives them back; until then this heap has none.
+    pub fn start_marking(&mut self, to: Colour) -> Marking
+        ensures marking { result ≡ record { objects = self.old; waiting = []; to = to } }
+        ensures own { HaveOwnKeys self.old }
+        ensures left { self.new ≡ [] }
+    {
+        let parts = mem::replace(&mut self.parts, ScriptParts::new(self.alloc));
+        Marking::begin(parts, to)
+    }
+
+    /// Takes back the objects that were marked. No object waits to be looked into. What this heap had meanwhile is gone.
+    pub fn end_marking(&mut self, marking: Marking)
+        requires done { marking.waiting ≡ [] }
+        ensures { self.new ≡ marking.objects }
+    {
+        self.parts = marking.into_parts();
     }
 
     /// Makes an object black that script touches, with all that it reaches over slots.

@@ -388,3 +388,42 @@ fn walk_goes_on_while_others_leave(rt: HostRuntime) -> Result<(), Fail> {
 fn law_can_be_called() {
     raised_is_least();
 }
+
+/// Marks an object and all that it reaches, one object after another; whether they came as they should: the holder first,
+/// then what it holds.
+fn mark_two(marking: &mut Marking, holder: SKey, held: SKey) -> bool
+    requires whole { AreWhole marking.old.objects }
+    requires holder { IsTrue (is_there marking.old.objects holder.0) }
+    requires held { IsTrue (is_there marking.old.objects held.0) }
+{
+    marking.start(holder);
+    marking.start(holder);
+    let first = marking.next_marked();
+    let second = marking.next_marked();
+    let none = marking.next_marked();
+    let gray = marking.colour(holder) == Colour::Gray && marking.colour(held) == Colour::Gray;
+    gray && first == Some(holder) && second == Some(held) && none.is_none()
+}
+
+#[test]
+fn objects_are_marked_one_after_another(rt: HostRuntime) -> Result<(), Fail> {
+    let mut heap = Scripts::new(rt.alloc());
+    let held = make(&mut heap, 1)?;
+    let holder = make(&mut heap, 2)?;
+    hold(&mut heap, holder, held);
+    whiten(&mut heap);
+    let mut marking = heap.start_marking(Colour::Gray);
+    assert_eq!(rt; heap.first(), None);
+    assert!(rt; mark_two(&mut marking, holder, held));
+    Ok(())
+}
+
+#[test]
+fn marked_objects_are_given_back(rt: HostRuntime) -> Result<(), Fail> {
+    let mut heap = Scripts::new(rt.alloc());
+    let key = make(&mut heap, 1)?;
+    let marking = heap.start_marking(Colour::Gray);
+    heap.end_marking(marking);
+    assert_eq!(rt; heap.first(), Some(key));
+    Ok(())
+}
