@@ -20,12 +20,12 @@ use Rattle.cc_marking.specs.Levels.{AreOrdered, has_at_least, is_at_least, keys_
 use Rattle.cc_marking.proofs.Raising.{at_least, edges-raised, risen-painted}
 
 -- a member is there
-member-there : (objects : List Object) (o : Object) → Among o objects → IsTrue (is_there objects o.key)
+pub member-there : (objects : List Object) (o : Object) → Among o objects → IsTrue (is_there objects o.key)
 member-there objects o m = ap is_some (find-some (λ (z : Object). z.key == o.key) objects o m (eq-eqb o.key o.key refl)).1
 
 module _ (to : Colour) (objects : List Object) (key : ℕ) where
   -- what has a colour is there,
-  pub at_least-there : IsTrue (has_at_least to objects key) → IsTrue (is_there objects key)
+  at_least-there : IsTrue (has_at_least to objects key) → IsTrue (is_there objects key)
   at_least-there = go (object_at objects key)
     where
       go : (o : Option Object) → IsTrue (is_at_least to (option_map (λ (z : Object). z.colour) o)) → IsTrue (is_some o)

@@ -1,10 +1,12 @@
 pub mod There
 pub mod Painting
 pub mod Raising
-pub mod EachRoot
+pub mod Looked
 pub mod Levels
 pub mod Marks
-pub mod Passes
+pub mod Started
+pub mod Underway
+pub mod Turns
 pub mod Steps
 pub mod LeastColours
 pub mod TestHeaps

@@ -8,8 +8,7 @@ use Rattle.cc_lists.proofs.Least.{derive-root, derive-along, derive-jointly, der
 use Rattle.cc_lists.proofs.Members.{Among-map, Among-map_cases}
 use Rattle.cc_lists.proofs.Numbers.{number-exact}
 use Rattle.cc_script.specs.Objects.{Object, AreWhole, is_there}
-use Rattle.cc_script.specs.Walking.{IsReachedOverSlots, edges, keys_reached}
-use Rattle.cc_script.proofs.ReachedLeast.{reached-decided}
+use Rattle.cc_script.specs.Walking.{edges}
 use Rattle.cc_script.proofs.Reaching.{edge-slot}
 use Rattle.cc_weakmaps.specs.Entries.{KeyedEntry}
 use Rattle.cc_marking.specs.Marking.{IsMarkedFrom, AreEntriesThere, joint, joints, mark_rules, keys_marked}
@@ -49,10 +48,6 @@ module _ (objects : List Object) (entries : List KeyedEntry) where
       (key : ℕ) → IsMarkedFrom objects entries xs key → IsMarkedFrom objects entries ys key
   marked-again xs ys f = marked-within xs (IsMarkedFrom objects entries ys) f (marked-along ys) (marked-value ys)
 
-  -- slots alone are enough
-  pub reached-marked : (keys : List ℕ) (key : ℕ) → IsReachedOverSlots objects keys key → IsMarkedFrom objects entries keys key
-  reached-marked keys = derived-within keys (edges objects) [] (IsMarkedFrom objects entries keys) (marked-root keys) (marked-along keys) (λ ps v m g. absurd m)
-
   -- only what is there is marked
   pub marked-there : AreWhole objects → AreEntriesThere objects entries → (keys : List ℕ) → AreThere keys objects →
       (key : ℕ) → IsMarkedFrom objects entries keys key → IsTrue (is_there objects key)
@@ -65,10 +60,8 @@ pub marked-alike : (old new : List Object) (entries : List KeyedEntry) (keys : L
     (key : ℕ) → IsMarkedFrom new entries keys key → IsMarkedFrom old entries keys key
 marked-alike old new entries keys same key d = subst (λ es. Least (system keys es (joints entries)) key) same d
 
--- What is reached, and what is marked, leads to such keys alone.
-module _ (objects : List Object) (keys : List ℕ) (x y : ℕ) (edge : Among (x, y) (edges objects)) where
-  pub reached-leads : IsTrue (has ◌==◌ (keys_reached objects keys) x) → IsTrue (has ◌==◌ (keys_reached objects keys) y)
-  reached-leads h = (reached-decided objects keys y).1 (derive-along keys (edges objects) [] x y edge ((reached-decided objects keys x).0 h))
-
-  pub marked-leads : (entries : List KeyedEntry) → IsTrue (has ◌==◌ (keys_marked objects entries keys) x) → IsTrue (has ◌==◌ (keys_marked objects entries keys) y)
-  marked-leads entries h = (marked-decided objects entries keys y).1 (marked-along objects entries keys x y edge ((marked-decided objects entries keys x).0 h))
+-- What is marked leads to such keys alone.
+pub marked-leads : (objects : List Object) (keys : List ℕ) (x y : ℕ) → Among (x, y) (edges objects) → (entries : List KeyedEntry) →
+    IsTrue (has ◌==◌ (keys_marked objects entries keys) x) → IsTrue (has ◌==◌ (keys_marked objects entries keys) y)
+marked-leads objects keys x y edge entries h =
+    (marked-decided objects entries keys y).1 (marked-along objects entries keys x y edge ((marked-decided objects entries keys x).0 h))

@@ -1,14 +1,13 @@
 -- OBJECTS RAISED TO A COLOUR are painted, and raised twice to one colour where they are raised at either time.
-use Rattle.std.proofs.Common.{◌≡◌, ℕ, ◌==◌, Bool, true, false, cond, ◌||◌, List, [], ◌∷◌, map, Option, refl, sym, ◌∙◌, ap}
+use Rattle.std.proofs.Common.{◌≡◌, ℕ, ◌==◌, Bool, true, false, cond, ◌||◌, List, map, Option, refl, sym, ◌∙◌, ap}
 use Rattle.std.specs.List.{flat_map}
 use Rattle.std.specs.Option.{option_to_list}
 use Rattle.cc_lists.specs.Members.{has}
-use Rattle.cc_lists.specs.Least.{system, closure}
 use Rattle.cc_lists.proofs.ListWrites.{flat_map-kept, map-agree}
 use Rattle.cc_names.specs.declared.kind.Colour.{Colour}
 use Rattle.cc_names.specs.declared.kind.Colour.TheVariants.{White, Gray, Black}
 use Rattle.cc_script.specs.Objects.{Object, with_colour, is_below, raised, raised_among}
-use Rattle.cc_script.specs.Walking.{slot_edges, edges, keys_reached}
+use Rattle.cc_script.specs.Walking.{slot_edges, edges}
 use Rattle.cc_script.proofs.Walks.{risen, risen-key, risen-slots}
 use Rattle.cc_marking.proofs.Painting.{painted, painted-alike, painted-twice}
 
@@ -36,11 +35,6 @@ risen-painted keys to o = go (has ◌==◌ keys o.key)
 
 pub raised_among-painted : (keys : List ℕ) (to : Colour) (objects : List Object) → raised_among keys to objects ≡ painted (raised_to keys to) objects
 raised_among-painted keys to objects = map-agree _ _ objects (λ o m. risen-painted keys to o)
-
--- none raised
-pub raised-none : (keys : List ℕ) (to : Colour) (objects : List Object) → ((key : ℕ) → has ◌==◌ keys key ≡ false) → raised_among keys to objects ≡ objects
-raised-none keys to [] none = refl
-raised-none keys to (o ∷ os) none = rw (none o.key) (ap (λ (ys : List Object). o ∷ ys) (raised-none keys to os none))
 
 at_least-twice : (to colour : Colour) → at_least to (at_least to colour) ≡ at_least to colour
 at_least-twice White White = refl
@@ -73,7 +67,7 @@ raised-twice firsts seconds all to objects either =
         go false true = refl
         go false false = refl
 
--- Raised objects hold what they held,
+-- Raised objects hold what they held.
 pub edges-raised : (keys : List ℕ) (to : Colour) (objects : List Object) → edges (raised_among keys to objects) ≡ edges objects
 edges-raised keys to objects = flat_map-kept slot_edges (risen keys to) objects each
   where
@@ -81,7 +75,3 @@ edges-raised keys to objects = flat_map-kept slot_edges (risen keys to) objects 
     each o =
         ap (λ (k : ℕ). map (λ (q : ℕ). (k, q)) (flat_map option_to_list (risen keys to o).slots)) (risen-key keys to o)
         ∙ ap (λ (slots : List (Option ℕ)). map (λ (q : ℕ). (o.key, q)) (flat_map option_to_list slots)) (risen-slots keys to o)
-
--- and so reach what they reached.
-pub keys_reached-raised : (keys : List ℕ) (to : Colour) (objects : List Object) (from : List ℕ) → keys_reached (raised_among keys to objects) from ≡ keys_reached objects from
-keys_reached-raised keys to objects from = ap (λ es. closure ◌==◌ (system from es [])) (edges-raised keys to objects)

@@ -1,100 +1,30 @@
--- A MARKING IN STEPS: roots and then entries, to one colour; and white objects to black, and then to gray.
+-- A MARKING IN STEPS: white objects to black, and then to gray.
 use Rattle.std.specs.Prelude.{IsTrue}
-use Rattle.std.proofs.Common.{◌≡◌, ℕ, ◌==◌, Bool, true, false, cond, ◌||◌, List, [], ◌++◌, refl, sym, ◌∙◌, ap, subst, ⊎_elim}
-use Rattle.std.proofs.lemmas.Bool.{or_cases, or_right, false≢true}
+use Rattle.std.proofs.Common.{◌≡◌, ℕ, ◌==◌, Bool, true, false, cond, ◌||◌, not, ◌&&◌, List, ◌++◌, Option, Some, None, refl, sym, ◌∙◌, ap, subst, ⊎_elim}
+use Rattle.std.proofs.lemmas.Bool.{and_parts, or_cases, or_right, false≢true}
 use Rattle.std.proofs.lemmas.Bool.Decides.{same_from_decides}
 use Rattle.cc_lists.specs.Members.{Among, has}
 use Rattle.cc_lists.specs.Least.{system, closure}
-use Rattle.cc_lists.proofs.Least.{derive-root}
 use Rattle.cc_lists.proofs.ListWrites.{flat_map-kept}
 use Rattle.cc_lists.proofs.Members.{Among-append, Among-left, Among-right, has-among, has-there}
 use Rattle.cc_lists.proofs.Numbers.{number-exact}
 use Rattle.cc_names.specs.declared.kind.Colour.{Colour}
 use Rattle.cc_names.specs.declared.kind.Colour.TheVariants.{White, Gray, Black}
-use Rattle.cc_script.specs.Objects.{Object, AreWhole, is_below, with_colour, whitened, raised_among, colour_by, coloured_by}
+use Rattle.cc_script.specs.Objects.{Object, AreWhole, colour_at, is_below, with_colour, whitened, raised_among, colour_by, coloured_by}
 use Rattle.cc_script.specs.Tidy.{StayThere}
-use Rattle.cc_script.specs.Walking.{slot_edges, edges, keys_reached}
-use Rattle.cc_script.proofs.Colours.{not_below-self}
-use Rattle.cc_script.proofs.ReachedLeast.{reached-decided}
+use Rattle.cc_script.specs.Walking.{slot_edges, edges}
 use Rattle.cc_weakmaps.specs.Entries.{KeyedEntry}
 use Rattle.cc_marking.specs.Marking.{AreEntriesThere, IsMarkedFrom, joints, keys_marked, black_keys, marked_keys, marked_from}
-use Rattle.cc_marking.specs.Levels.{AreOrdered, has_at_least, keys_at_least}
+use Rattle.cc_marking.specs.Levels.{AreFollowed, AreOrdered, has_at_least, is_at_least, is_due, keys_at_least}
 use Rattle.cc_marking.proofs.There.{AreThere, StayThere-raised, StayThere-whitened}
 use Rattle.cc_marking.proofs.Painting.{painted, painted-alike, painted-twice}
-use Rattle.cc_marking.proofs.Raising.{at_least, edges-raised, raised_to, raised_among-painted, raised-twice}
-use Rattle.cc_marking.proofs.Levels.{AreOrdered-raised, AreOrdered-whitened, at_least-cases, at_least-kept, at_least-listed, at_least-risen, listed-at_least, white-none_listed, white-not_at_least}
-use Rattle.cc_marking.proofs.Marks.{marked-again, marked-alike, marked-decided, marked-leads, marked-root, marked-there, reached-leads, reached-marked}
+use Rattle.cc_marking.proofs.Raising.{at_least, edges-raised, raised_to, raised_among-painted}
+use Rattle.cc_marking.proofs.Levels.{AreOrdered-raised, AreOrdered-whitened, at_least-cases, at_least-listed, at_least-risen, listed-at_least, white-none_listed, white-not_at_least}
+use Rattle.cc_marking.proofs.Marks.{marked-again, marked-alike, marked-decided, marked-leads, marked-root, marked-there, marked-value}
 
 -- objects that hold the same have the same lists of what is marked
 keys_marked-alike : (old new : List Object) (entries : List KeyedEntry) (keys : List ℕ) → edges new ≡ edges old → keys_marked new entries keys ≡ keys_marked old entries keys
 keys_marked-alike old new entries keys same = ap (λ es. closure ◌==◌ (system keys es (joints entries))) same
-
--- ROOTS, AND THEN ENTRIES, to one colour
-module _ (to : Colour) (objects : List Object) (entries : List KeyedEntry) (roots : List ℕ) (live : AreThere roots objects) (ordered : AreOrdered to objects) where
-  -- what the roots reach was raised
-  abbrev reached : List ℕ
-  reached = keys_reached objects roots
-
-  abbrev rooted : List Object
-  rooted = raised_among reached to objects
-
-  pub AreOrdered-rooted : AreOrdered to rooted
-  AreOrdered-rooted = AreOrdered-raised reached to to (not_below-self to) objects (λ x y edge h. reached-leads objects roots x y edge h) ordered
-
-  -- what a mark comes to from all that has the colour, and from the roots
-  abbrev from_all : List ℕ
-  from_all = keys_at_least to objects ++ roots
-
-  abbrev IsFrom : ℕ → Type 0
-  IsFrom = IsMarkedFrom objects entries from_all
-
-  -- the roots and what they reach, what has the colour after them, and all that a mark from there comes to are from these
-  reached-from : (key : ℕ) → IsTrue (has ◌==◌ reached key) → IsFrom key
-  reached-from key h = marked-again objects entries roots from_all
-      (λ x n. marked-root objects entries from_all x (Among-right x (keys_at_least to objects) roots n)) key
-      (reached-marked objects entries roots key ((reached-decided objects roots key).0 h))
-
-  rooted-from : (key : ℕ) → Among key (keys_at_least to rooted) → IsFrom key
-  rooted-from key m = ⊎_elim
-      (λ had. marked-root objects entries from_all key (Among-left key (keys_at_least to objects) roots (at_least-listed to objects key had)))
-      (reached-from key)
-      (at_least-cases reached to to (not_below-self to) objects key (listed-at_least to rooted key m))
-
-  later-from : (key : ℕ) → IsMarkedFrom objects entries (keys_at_least to rooted) key → IsFrom key
-  later-from = marked-again objects entries (keys_at_least to rooted) from_all rooted-from
-
-  -- and these have the colour after the roots
-  from-rooted : (key : ℕ) → Among key from_all → Among key (keys_at_least to rooted)
-  from-rooted key m = at_least-listed to rooted key (⊎_elim
-      (λ had. at_least-kept reached to to (not_below-self to) objects key (listed-at_least to objects key had))
-      (λ root. at_least-risen reached to to (not_below-self to) objects key (live key root)
-      ((reached-decided objects roots key).1 (derive-root roots (edges objects) [] key root)))
-      (Among-append key (keys_at_least to objects) roots m))
-
-  from-later : (key : ℕ) → IsFrom key → IsMarkedFrom objects entries (keys_at_least to rooted) key
-  from-later = marked-again objects entries from_all (keys_at_least to rooted) (λ x m. marked-root objects entries (keys_at_least to rooted) x (from-rooted x m))
-
-  -- so it is raised with the roots, or later
-  abbrev later : List ℕ
-  later = keys_marked objects entries (keys_at_least to rooted)
-
-  either : (key : ℕ) → has ◌==◌ (keys_marked objects entries from_all) key ≡ (has ◌==◌ reached key || has ◌==◌ later key)
-  either key =
-      let all_decided = marked-decided objects entries from_all key in
-      let later_decided = marked-decided objects entries (keys_at_least to rooted) key in
-      same_from_decides {P = IsFrom key} _ _
-      (all_decided.0, all_decided.1) (
-        λ e. ⊎_elim (reached-from key) (λ r. later-from key (later_decided.0 r)) (or_cases (has ◌==◌ reached key) (has ◌==◌ later key) e),
-        λ d. or_right (has ◌==◌ reached key) (has ◌==◌ later key) (later_decided.1 (from-later key d)),
-      )
-
-  pub marked-rooted : (now next : List Object) → now ≡ rooted → next ≡ raised_among (keys_marked now entries (keys_at_least to now)) to now →
-      next ≡ raised_among (keys_marked objects entries from_all) to objects
-  marked-rooted now next taken marked =
-      marked
-      ∙ (ap (λ os. raised_among (keys_marked os entries (keys_at_least to os)) to os) taken
-      ∙ (ap (λ keys. raised_among keys to rooted) (keys_marked-alike objects rooted entries (keys_at_least to rooted) (edges-raised reached to objects))
-      ∙ raised-twice reached later (keys_marked objects entries from_all) to objects either))
 
 -- WHITE OBJECTS, what first roots then raise to black, and what second roots then raise to gray
 
@@ -132,6 +62,12 @@ module _ (objects : List Object) (white : List Object) (cleared : white ≡ whit
   pub AreOrdered-white : (to : Colour) → is_below White to ≡ true → AreWhole objects → AreOrdered to white
   AreOrdered-white to above whole = subst (AreOrdered to) (sym cleared) (AreOrdered-whitened to above objects whole)
 
+  -- none of them is due
+  pub AreFollowed-white : (to : Colour) → is_below White to ≡ true → (entries : List KeyedEntry) → AreFollowed to white entries
+  AreFollowed-white to above entries e m =
+      ap (λ b. (b && has_at_least to white e.key) && not (has_at_least to white e.value))
+      (ap (λ os. has_at_least to os e.the_map) cleared ∙ white-not_at_least to above objects e.the_map)
+
 module _ (objects : List Object) (entries : List KeyedEntry) (blacks : List ℕ) (white now : List Object) (cleared : white ≡ whitened objects)
     (blackened : now ≡ raised_among (keys_marked white entries (keys_at_least Black white ++ blacks)) Black white) where
   -- THE BLACK ONES are those that a mark from the first roots comes to
@@ -168,6 +104,26 @@ module _ (objects : List Object) (entries : List KeyedEntry) (blacks : List ℕ)
       let here = marked-there objects entries whole there blacks live key ((marked-decided objects entries blacks key).0 is_black) in
       at_least-listed Gray now key (subst (λ os. IsTrue (has_at_least Gray os key)) (sym risen_black)
       (at_least-risen black Black Gray refl white key (StayThere-whitened objects white cleared key here) is_black))
+
+  -- So no entry is due to gray,
+  pub AreFollowed-black : AreWhole objects → AreEntriesThere objects entries → AreThere blacks objects → AreFollowed Gray now entries
+  AreFollowed-black whole there live e m = go (has_at_least Gray now e.the_map && has_at_least Gray now e.key) refl
+    where
+      is_black : (key : ℕ) → IsTrue (has_at_least Gray now key) → IsMarkedFrom objects entries blacks key
+      is_black key h = (marked-decided objects entries blacks key).0 (has-there ◌==◌ number-exact black key (gray_before key (at_least-listed Gray now key h)))
+
+      none : (b c : Bool) → b ≡ true → (c && not b) ≡ false
+      none true true e = refl
+      none true false e = refl
+      none false c e = absurd (false≢true e)
+
+      go : (b : Bool) → (has_at_least Gray now e.the_map && has_at_least Gray now e.key) ≡ b → is_due Gray now e ≡ false
+      go false f = ap (λ b. b && not (has_at_least Gray now e.value)) f
+      go true f =
+          let each = and_parts (has_at_least Gray now e.the_map) (has_at_least Gray now e.key) f in
+          let value = marked-value objects entries blacks e m (is_black e.the_map each.0) (is_black e.key each.1) in
+          let marked = has-among ◌==◌ number-exact black e.value ((marked-decided objects entries blacks e.value).1 value) in
+          none (has_at_least Gray now e.value) (has_at_least Gray now e.the_map && has_at_least Gray now e.key) (listed-at_least Gray now e.value (before_gray whole there live e.value marked))
 
   module _ (grays : List ℕ) (whole : AreWhole objects) (there : AreEntriesThere objects entries) (live : AreThere blacks objects) where
     abbrev gray_from : List ℕ
@@ -212,3 +168,13 @@ module _ (objects : List Object) (entries : List KeyedEntry) (blacks : List ℕ)
         grayed
         ∙ (ap (raised_among gray Gray) (risen_black ∙ ap (raised_among black Black) cleared)
         ∙ colours-in_steps black gray (marked_keys objects entries blacks grays) objects marked-either)
+
+-- what is black is at least gray
+pub black-gray : (objects : List Object) (key : ℕ) → IsTrue (has_at_least Black objects key) → IsTrue (has_at_least Gray objects key)
+black-gray objects key = go (colour_at objects key)
+  where
+    go : (o : Option Colour) → IsTrue (is_at_least Black o) → IsTrue (is_at_least Gray o)
+    go None h = absurd (false≢true h)
+    go (Some White) h = absurd (false≢true h)
+    go (Some Gray) h = refl
+    go (Some Black) h = refl

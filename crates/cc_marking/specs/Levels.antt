@@ -1,11 +1,10 @@
--- WHAT HAS AT LEAST A COLOUR, and how a marking raises more and more objects to it.
+-- WHAT HAS AT LEAST A COLOUR, and which entries have yet to give it to their values.
 use Rattle.std.specs.Prelude.{◌≡◌, IsTrue, ℕ, Bool, false, not, ◌&&◌, List, Option, Some, None, map, filter}
 use Rattle.cc_lists.specs.Members.{Among}
 use Rattle.cc_names.specs.declared.kind.Colour.{Colour}
-use Rattle.cc_script.specs.Objects.{Object, AreWhole, colour_at, is_below, raised_among}
+use Rattle.cc_script.specs.Objects.{Object, AreWhole, colour_at, is_below}
 use Rattle.cc_script.specs.Walking.{edges}
 use Rattle.cc_weakmaps.specs.Entries.{KeyedEntry}
-use Rattle.cc_marking.specs.Marking.{IsMarkedFrom}
 
 -- a colour that is there and isn't below another
 abbrev pub is_at_least : Colour → Option Colour → Bool
@@ -34,10 +33,3 @@ is_due to objects e = (has_at_least to objects e.the_map && has_at_least to obje
 -- that of none of these is
 abbrev pub AreFollowed : Colour → List Object → List KeyedEntry → Type 0
 AreFollowed to objects es = (e : KeyedEntry) → Among e es → is_due to objects e ≡ false
-
--- THE MARKING SO FAR: it raised what stands at some keys, and to each of these a mark comes from what had the colour
-pub record IsRaised (to : Colour) (entries : List KeyedEntry) (old new : List Object) : Type 0 where
-  pub keys : List ℕ
-  pub raised : new ≡ raised_among keys to old
-  pub derived : (key : ℕ) → Among key keys → IsMarkedFrom old entries (keys_at_least to old) key
-  pub ordered : AreOrdered to new

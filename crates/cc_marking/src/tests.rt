@@ -1,5 +1,5 @@
 //! Tests of marking.
-ghost use Rattle.std.specs.Prelude.{◌≡◌, ◌≤◌, length, Some, IsTrue, IfSome};
+ghost use Rattle.std.specs.Prelude.{◌≡◌, ◌<◌, ◌≤◌, length, Some, IsTrue, IfSome};
 ghost use Rattle.cc_names.specs.declared.kind.Colour.TheVariants.{Black};
 ghost use Rattle.cc_script.specs.Objects.{AreWhole, colour_at, is_there};
 ghost use Rattle.cc_marking.specs.Marking.{AreEntriesThere};
@@ -7,8 +7,11 @@ ghost use Rattle.cc_marking.specs.Marking.{AreEntriesThere};
 use super::*;
 use cc_names::{Colour, NoMemory, SKey, ScriptNo};
 use cc_script::Scripts;
+use cc_steps::Steps;
 use cc_weakmaps::WeakMaps;
 use std::alloc::Global;
+use std::marker::Brand;
+use std::sync::ledger::{Blank, Ledger};
 use std::test::Fail;
 
 /// At most two roots.
@@ -111,8 +114,11 @@ impl Heap {
         self.key(*places.get(which)?)
     }
 
-    /// Marks from the objects at these places, at most two of each.
-    fn mark(&mut self, black: &[usize], gray: &[usize])
+    /// Marks from the objects at these places, at most two of each, and counts.
+    fn mark_counting<L: Ledger>(&mut self, black: &[usize], gray: &[usize], blank: Blank)
+        requires name { blank.name ≡ L.name }
+        requires parts { blank.parts ≡ L.parts }
+        requires some { 0 < L.parts }
         requires black { length black.now ≤ 2 }
         requires gray { length gray.now ≤ 2 }
     {
@@ -124,7 +130,22 @@ impl Heap {
             first: self.root(gray, 0),
             second: self.root(gray, 1),
         };
-        mark(&mut self.scripts, &self.weak, &mut black, &mut gray);
+        let mut steps = Steps::<L>::new(blank);
+        mark(
+            &mut self.scripts,
+            &self.weak,
+            &mut black,
+            &mut gray,
+            &mut steps,
+        );
+    }
+
+    /// The same with a counter of its own.
+    fn mark(&mut self, black: &[usize], gray: &[usize])
+        requires black { length black.now ≤ 2 }
+        requires gray { length gray.now ≤ 2 }
+    {
+        self.mark_counting::<Brand>(black, gray, Blank::new(1));
     }
 
     fn colour(&self, place: usize) -> Option<Colour> {

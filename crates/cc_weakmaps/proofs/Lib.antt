@@ -7,4 +7,3 @@ pub mod Below
 pub mod Indexed
 pub mod Sought
 pub mod Changes
-pub mod Looked

@@ -1,20 +1,85 @@
-use Rattle.std.proofs.Common.{subst, sym}
-use Rattle.cc_marking.specs.Levels.{AreOrdered}
-use Rattle.cc_marking.proofs.There.{AreEntriesThere-stay, StayThere-raised}
-use Rattle.cc_marking.proofs.Steps.{AreOrdered-rooted, marked-rooted}
+use Rattle.std.proofs.Common.{◌≡◌, [], ◌∷◌, length, drop, sym, ◌∙◌, ap, subst}
+use Rattle.cc_names.specs.declared.kind.Colour.{Colour}
+use Rattle.cc_script.specs.Objects.{AreWhole, is_there, slots_at}
+use Rattle.cc_script.specs.Marking.{Marking, raise_each}
+use Rattle.cc_script.specs.Underway.{Underway, marks_of, with_first_looked_into}
+use Rattle.cc_script.proofs.Popping.{front-popped, none-popped}
+use Rattle.cc_script.proofs.Underway.{first-looked}
+use Rattle.cc_script.proofs.Wholeness.{there-raised}
+use Rattle.cc_marking.specs.Looking.{with_all_started, with_values}
+use Rattle.cc_marking.proofs.There.{AreEntriesThere-stay}
+use Rattle.cc_marking.proofs.Turns.{none-looked, turn-spends}
+use Rattle.cc_marking.proofs.Underway.{IsUnderWay, under_way-begins, under_way-turns, under_way-ends, under_way-spent}
+use Rattle.cc_marking.proofs.marking.mark_to.Given as given
 use Rattle.cc_marking.proofs.marking.mark_to.Goals as goal
+
+pub start_each-requires-clause-whole : goal.start_each-requires-clause-whole
+start_each-requires-clause-whole g c = subst (λ (u : Underway). AreWhole u.objects) (sym c.start_marking-marking.ensures.marking) c.requires.ordered.whole
+
+pub loop-key-init : goal.loop-key-init
+loop-key-init g c = (
+  under_way-begins c.args.to c.args.weak.now c.args.scripts.now (g.R.Roots.left c.args.roots.now) c.requires.ordered c.requires.followed c.requires.live c.args.steps.now (marks_of c.start_each.new.marking)
+      (c.start_each.ensures.started ∙ ap (λ (u : Underway). with_all_started u.to (g.R.Roots.left c.args.roots.now) (marks_of u)) c.start_marking-marking.ensures.marking),
+  c.start_each.ensures.colour ∙ ap (λ (u : Underway). u.to) c.start_marking-marking.ensures.marking,
+  c.start_each.ensures.whole,
+)
+
+-- the first of those that wait
+module _ (g : given.Over) (c : goal.After-mark_values g) where
+  abbrev m : Marking
+  m = marks_of c.loop-key.marking
+
+  front : m.waiting ≡ c.in-Some.key.0 ∷ drop 1 m.waiting
+  front = front-popped m.waiting c.in-Some.key.0 c.in-Some.ensures.first
+
+  abbrev slotted : Marking
+  slotted = raise_each c.args.to (slots_at m.objects c.in-Some.key.0) (record { objects = m.objects; waiting = drop 1 m.waiting })
+
+  slotted-is : marks_of c.next_marked.new.self ≡ slotted
+  slotted-is =
+      ap marks_of c.in-Some.ensures.looked
+      ∙ (ap (λ (to : Colour). with_first_looked_into to m) c.loop-key.invariant.1
+      ∙ first-looked c.args.to m c.in-Some.key.0 (drop 1 m.waiting) front)
+
+  valued-is : marks_of c.mark_values.new.marking ≡ with_values c.args.to c.args.weak.now c.in-Some.key.0 (length c.args.weak.now) slotted
+  valued-is = c.mark_values.ensures.valued ∙ ap (with_values c.args.to c.args.weak.now c.in-Some.key.0 (length c.args.weak.now)) slotted-is
 
 pub mark_values-requires-clause-entries : goal.mark_values-requires-clause-entries
 mark_values-requires-clause-entries g c =
-    AreEntriesThere-stay c.args.scripts.now c.mark_from_each.new.scripts
-    (StayThere-raised _ c.args.to c.args.scripts.now c.mark_from_each.new.scripts c.mark_from_each.ensures.raised) c.args.weak.now c.requires.entries
+    let u = c.loop-key.invariant.0 in
+    AreEntriesThere-stay c.args.scripts.now c.next_marked.new.self.objects
+    (λ k h. c.in-Some.ensures.there k ∙ (ap (λ os. is_there os k) u.raised ∙ (there-raised u.keys c.args.to c.args.scripts.now k ∙ h))) c.args.weak.now c.requires.entries
 
-pub mark_values-requires-clause-ordered : goal.mark_values-requires-clause-ordered
-mark_values-requires-clause-ordered g c =
-    subst (AreOrdered c.args.to) (sym c.mark_from_each.ensures.raised)
-    (AreOrdered-rooted c.args.to c.args.scripts.now c.args.weak.now (g.R.Roots.left c.args.roots.now) c.requires.live c.requires.ordered)
+pub loop-key-smaller : goal.loop-key-smaller
+loop-key-smaller g c =
+    turn-spends c.args.to c.args.weak.now (m g c) c.in-Some.key.0 (drop 1 (m g c).waiting) (front g c) (marks_of c.mark_values.new.marking) (valued-is g c)
+
+pub loop-key-preserved : goal.loop-key-preserved
+loop-key-preserved g c = (
+  subst (λ n. IsUnderWay c.args.to c.args.weak.now c.args.scripts.now (g.R.Roots.left c.args.roots.now) c.args.steps.now n (marks_of c.mark_values.new.marking)) (sym c.mark_values.ensures.steps)
+      (under_way-turns c.args.to c.args.weak.now c.args.scripts.now (g.R.Roots.left c.args.roots.now) c.requires.ordered c.start_marking-marking.ensures.own c.requires.entries
+      c.args.steps.now c.loop-key.steps (m g c) c.loop-key.invariant.0 c.in-Some.key.0 (drop 1 (m g c).waiting) (front g c) (marks_of c.mark_values.new.marking) (valued-is g c)),
+  c.mark_values.ensures.colour ∙ (ap (λ (u : Underway). u.to) c.in-Some.ensures.looked ∙ c.loop-key.invariant.1),
+  c.mark_values.ensures.whole,
+)
+
+-- none waits
+module _ (g : given.Over) (c : goal.After-end_marking g) where
+  emptied : (marks_of c.loop-key.marking).waiting ≡ []
+  emptied = none-popped c.loop-key.marking.waiting c.in_default.ensures.first
+
+  end-is : c.end_marking.new.self ≡ c.loop-key.marking.objects
+  end-is =
+      c.end_marking.ensures
+      ∙ (ap (λ (u : Underway). u.objects) c.in_default.ensures.looked
+      ∙ ap (λ (z : Marking). z.objects) (none-looked c.loop-key.marking.to (marks_of c.loop-key.marking) emptied))
 
 pub returns-clause-raised : goal.returns-clause-raised
 returns-clause-raised g c =
-    marked-rooted c.args.to c.args.scripts.now c.args.weak.now (g.R.Roots.left c.args.roots.now) c.requires.live c.requires.ordered
-    c.mark_from_each.new.scripts c.mark_values.new.scripts c.mark_from_each.ensures.raised c.mark_values.ensures
+    end-is g c
+    ∙ under_way-ends c.args.to c.args.weak.now c.args.scripts.now (g.R.Roots.left c.args.roots.now) c.requires.ordered c.args.steps.now c.loop-key.steps (marks_of c.loop-key.marking) c.loop-key.invariant.0 (emptied g c)
+
+pub returns-clause-steps : goal.returns-clause-steps
+returns-clause-steps g c =
+    let spent = under_way-spent c.args.to c.args.weak.now c.args.scripts.now (g.R.Roots.left c.args.roots.now) c.requires.ordered c.args.steps.now c.loop-key.steps (marks_of c.loop-key.marking) c.loop-key.invariant.0 (emptied g c) in
+    rw (end-is g c) spent

@@ -1,19 +1,36 @@
-use Rattle.cc_marking.proofs.Passes.{IsRaised-start, IsRaised-then, IsRaised-there, IsRaised-end}
+use Rattle.std.proofs.Common.{subst, sym}
+use Rattle.cc_lists.proofs.Places.{place-among}
+use Rattle.cc_weakmaps.proofs.Below.{place-within}
+use Rattle.cc_marking.proofs.Turns.{IsLooking, looking-begins, looking-done, looking-next, looking-place}
+use Rattle.cc_marking.proofs.There.{AreEntriesThere-stay}
+use Rattle.std.proofs.Common.{◌∙◌}
 use Rattle.cc_marking.proofs.marking.mark_values.Goals as goal
 
-pub passes-init : goal.passes-init
-passes-init c = IsRaised-start c.args.to c.args.weak.now c.args.scripts.now c.requires.ordered
+pub loop-place-init : goal.loop-place-init
+loop-place-init g c = looking-begins c.args.to c.args.weak.now c.args.object.0 c.args.marking.now c.args.steps.now c.first_with-place.result c.first_with-place.ensures.place c.requires.whole
 
-pub raise_values-requires-clause-entries : goal.raise_values-requires-clause-entries
-raise_values-requires-clause-entries c =
-    IsRaised-there c.args.to c.args.weak.now c.args.scripts.now c.passes.scripts c.passes.invariant c.requires.entries
+pub entry-requires : goal.entry-requires
+entry-requires g c = record { within = place-within c.args.weak.now c.args.object.0 c.in-Some.i (looking-place c.args.to c.args.weak.now c.args.object.0 c.args.marking.now c.args.steps.now c.loop-place.marking c.loop-place.steps c.loop-place.place c.in-Some.i c.in-Some.is c.loop-place.invariant) }
 
-pub passes-preserved : goal.passes-preserved
-passes-preserved c =
-    IsRaised-then c.args.to c.args.weak.now c.args.scripts.now c.passes.scripts c.raise_values.new.scripts c.passes.invariant c.raise_values.ensures.raised
+pub mark_value-requires-clause-there : goal.mark_value-requires-clause-there
+mark_value-requires-clause-there g c =
+    AreEntriesThere-stay c.args.marking.now.objects c.loop-place.marking.objects (λ k h. c.loop-place.invariant.there k ∙ h) c.args.weak.now c.requires.entries _
+    (place-among _ c.args.weak.now c.in-Some.i c.entry.ensures)
 
-pub returns : goal.returns
-returns c =
-    IsRaised-end c.args.to c.args.weak.now c.args.scripts.now c.raise_values.new.scripts
-    (IsRaised-then c.args.to c.args.weak.now c.args.scripts.now c.passes.scripts c.raise_values.new.scripts c.passes.invariant c.raise_values.ensures.raised)
-    c.requires.ordered (c.raise_values.ensures.followed c.passes-test.false)
+pub next_with-place-requires : goal.next_with-place-requires
+next_with-place-requires g c = looking-place c.args.to c.args.weak.now c.args.object.0 c.args.marking.now c.args.steps.now c.loop-place.marking c.loop-place.steps c.loop-place.place c.in-Some.i c.in-Some.is c.loop-place.invariant
+
+pub loop-place-preserved : goal.loop-place-preserved
+loop-place-preserved g c =
+    subst (λ n. IsLooking c.args.to c.args.weak.now c.args.object.0 c.args.marking.now c.args.steps.now c.mark_value.new.marking n c.next_with-place.result) (sym c.tick.ensures)
+    (looking-next c.args.to c.args.weak.now c.args.object.0 c.args.marking.now c.args.steps.now c.loop-place.marking c.loop-place.steps c.loop-place.place c.in-Some.i c.in-Some.is _ c.mark_value.new.marking c.next_with-place.result
+    c.entry.ensures c.next_with-place.ensures.place c.mark_value.ensures.valued c.mark_value.ensures.colour c.mark_value.ensures.there c.mark_value.ensures.whole
+    c.loop-place.invariant)
+
+pub returns-clause-valued : goal.returns-clause-valued
+returns-clause-valued g c =
+    (looking-done c.args.to c.args.weak.now c.args.object.0 c.args.marking.now c.args.steps.now c.loop-place.marking c.loop-place.steps c.loop-place.place c.in_default.is c.loop-place.invariant).0
+
+pub returns-clause-steps : goal.returns-clause-steps
+returns-clause-steps g c =
+    (looking-done c.args.to c.args.weak.now c.args.object.0 c.args.marking.now c.args.steps.now c.loop-place.marking c.loop-place.steps c.loop-place.place c.in_default.is c.loop-place.invariant).1

@@ -1,9 +1,9 @@
-use Rattle.cc_script.specs.Marking.{count_lower}
-use Rattle.cc_marking.specs.Levels.{IsRaised}
+use Rattle.cc_weakmaps.proofs.Sought.{places_left}
+use Rattle.cc_marking.proofs.Turns.{IsLooking}
 use Rattle.cc_marking.proofs.marking.mark_values.Given as goal
 
-abbrev pub invariant-passes : goal.invariant-passes
-invariant-passes l = IsRaised l.to l.weak l.initial.scripts l.scripts
+abbrev pub invariant-loop-place : goal.invariant-loop-place
+invariant-loop-place g l = IsLooking l.to l.weak l.object.0 l.initial.marking l.initial.steps l.marking l.steps l.place
 
-abbrev pub decreases-passes : goal.decreases-passes
-decreases-passes l = count_lower l.to l.scripts
+abbrev pub decreases-loop-place : goal.decreases-loop-place
+decreases-loop-place g l = places_left l.place

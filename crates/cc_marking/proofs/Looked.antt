@@ -5,11 +5,7 @@ use Rattle.std.proofs.lemmas.Bool.{true≢false, eqb-true, eq-eqb}
 use Rattle.cc_lists.proofs.Counting.{count_by-cons}
 use Rattle.cc_weakmaps.specs.Entries.{KeyedEntry}
 use Rattle.cc_weakmaps.specs.Index.{has_object, place_below}
-
--- how many sides entries have, maps and keys, that pass no test
-abbrev pub sides_left : (ℕ → Bool) → List KeyedEntry → ℕ
-sides_left looked [] = 0
-sides_left looked (e ∷ es) = cond (looked e.the_map) 0 1 + (cond (looked e.key) 0 1 + sides_left looked es)
+use Rattle.cc_marking.specs.Looking.{sides_left}
 
 -- at first at most two for each entry
 pub sides-all : (looked : ℕ → Bool) (es : List KeyedEntry) → sides_left looked es ≤ 2 * length es
@@ -103,7 +99,32 @@ count-cons e es k (suc n) =
     let ih = count-cons e es k n in
     omega (arith, ih)
 
+-- none is one where there is no last place
+pub count-none : (es : List KeyedEntry) (k n : ℕ) → place_below es k n ≡ None → count_below es k n ≡ 0
+count-none es k zero e = refl
+count-none es k (suc n) e = go (count-none es k n) (option_map (has_object k) (slice_get es n)) e
+  where
+    go : (place_below es k n ≡ None → count_below es k n ≡ 0) → (o : Option Bool) →
+        ◌≡◌ {A = Option ℕ} (elim o [ None ↦ place_below es k n | Some b ↦ elim b [ true ↦ Some n | false ↦ place_below es k n ] ]) None →
+        test_weight o + count_below es k n ≡ 0
+    go ih None f = let rest = ih f in omega (arith, rest)
+    go ih (Some true) f = absurd (cc)
+    go ih (Some false) f = let rest = ih f in omega (arith, rest)
+
 -- below the end they are all
 pub count-all : (es : List KeyedEntry) (k : ℕ) → count_below es k (length es) ≡ count_by (has_object k) es
 count-all [] k = refl
 count-all (e ∷ es) k = count-cons e es k (length es) ∙ (ap (λ n. cond (has_object k e) 1 0 + n) (count-all es k) ∙ sym (count_by-cons (has_object k) e es))
+
+-- a test that passes more leaves no more sides
+pub sides-less : (before after : ℕ → Bool) (es : List KeyedEntry) → ((k : ℕ) → before k ≡ true → after k ≡ true) → sides_left after es ≤ sides_left before es
+sides-less before after [] more = omega arith
+sides-less before after (e ∷ es) more = omega (arith, sides-less before after es more, side e.the_map, side e.key)
+  where
+    side : (k : ℕ) → cond (after k) 0 1 ≤ cond (before k) 0 1
+    side k = go (before k) refl (after k) refl
+      where
+        go : (a : Bool) → before k ≡ a → (b : Bool) → after k ≡ b → cond b 0 1 ≤ cond a 0 1
+        go a p true q = omega arith
+        go false p false q = omega arith
+        go true p false q = absurd (true≢false (sym (more k p) ∙ q))
