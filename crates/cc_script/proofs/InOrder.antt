@@ -4,16 +4,15 @@ use Rattle.std.specs.List.{find}
 use Rattle.std.proofs.Math.ListN.{set}
 use Rattle.std.proofs.lemmas.Bool.{ne_eqb, true≢false, false≢true}
 use Rattle.std.proofs.lemmas.Bool.Decides.{eqb_tells}
-use Rattle.cc_lists.specs.Members.{Among, has}
+use Rattle.cc_lists.specs.Members.{Among}
 use Rattle.cc_lists.proofs.Members.{Among-append, Among-filtered, Among-map_cases}
 use Rattle.cc_lists.proofs.ListWrites.{Among-set_cases}
 use Rattle.cc_lists.proofs.Searching.{find-filter}
 use Rattle.cc_names.specs.declared.kind.Colour.{Colour}
 use Rattle.cc_names.specs.declared.kind.Colour.TheVariants.{White}
-use Rattle.cc_script.specs.Objects.{Object, object_at, is_there, colour_at, change_object, with_slot, with_colour, without_object, whitened, raised, raised_among, is_below, AreWhole, IsNotBelow}
+use Rattle.cc_script.specs.Objects.{Object, object_at, is_there, colour_at, change_object, with_slot, with_colour, without_object, whitened, is_below, IsNotBelow}
 use Rattle.cc_script.specs.ColourOrder.{HasColourOrder}
-use Rattle.cc_script.proofs.Keys.{object_at-key, object_at-map, changed_at, changed_at-key, changed_at-same}
-use Rattle.cc_script.proofs.Colours.{raised-key, raised-slots, raised-enough, raised-keeps, raised-below, raised-same}
+use Rattle.cc_script.proofs.Keys.{object_at-map, changed_at, changed_at-key, changed_at-same}
 
 -- no objects
 pub HasColourOrder-none : HasColourOrder []
@@ -133,78 +132,3 @@ HasColourOrder-without objects key h white = record {
     kept z q e other = ⊎_elim
         (λ t. absurd (true≢false (sym e ∙ ne_eqb z.key q (λ s. other (sym s ∙ t.1)))))
         (λ t. t.0) (eqb_tells z.key key)
-
--- objects raised at keys that hold only such keys
-module _ (objects : List Object) (h : HasColourOrder objects) (own : (o : Object) → Among o objects → object_at objects o.key ≡ Some o)
-    (keys : List ℕ) (to : Colour) (whole : AreWhole objects)
-    (closed : (o : Object) (q : ℕ) → Among o objects → Among (Some q) o.slots → has ◌==◌ keys o.key ≡ true → has ◌==◌ keys q ≡ true) where
-  abbrev risen : Object → Object
-  risen o = if has ◌==◌ keys o.key then raised to o else o
-
-  risen-key : (o : Object) → (risen o).key ≡ o.key
-  risen-key o = go (has ◌==◌ keys o.key)
-    where
-      go : (b : Bool) → (if b then raised to o else o).key ≡ o.key
-      go true = raised-key to o
-      go false = refl
-
-  risen-slots : (o : Object) → (risen o).slots ≡ o.slots
-  risen-slots o = go (has ◌==◌ keys o.key)
-    where
-      go : (b : Bool) → (if b then raised to o else o).slots ≡ o.slots
-      go true = raised-slots to o
-      go false = refl
-
-  -- it isn't lower than it was
-  risen-keeps : (o : Object) (c : Colour) → is_below o.colour c ≡ false → is_below (risen o).colour c ≡ false
-  risen-keeps o c e = go (has ◌==◌ keys o.key)
-    where
-      go : (b : Bool) → is_below (if b then raised to o else o).colour c ≡ false
-      go true = raised-keeps to o c e
-      go false = e
-
-  found-risen : (q : ℕ) (d : Object) → object_at objects q ≡ Some d → object_at (raised_among keys to objects) q ≡ Some (risen d)
-  found-risen q d e = object_at-map risen risen-key objects q ∙ ap (option_map risen) e
-
-  -- of an object that stays as it is
-  stays : (o : Object) (q : ℕ) → Among o objects → Among (Some q) o.slots → is_below White o.colour ≡ true →
-      (d : Object) × (object_at (raised_among keys to objects) q ≡ Some d) × (is_below d.colour o.colour ≡ false)
-  stays o q m s above = let f = h.held o q m above s in (risen f.0, found-risen q f.0 f.1, risen-keeps f.0 o.colour f.2)
-
-  -- of one that is raised
-  rises : (o : Object) (q : ℕ) → Among o objects → Among (Some q) o.slots → has ◌==◌ keys o.key ≡ true → is_below o.colour to ≡ true →
-      (d : Object) × (object_at (raised_among keys to objects) q ≡ Some d) × (is_below d.colour to ≡ false)
-  rises o q m s e lower = go (object_at objects q) refl
-    where
-      go : (a : Option Object) → object_at objects q ≡ a → (d : Object) × (object_at (raised_among keys to objects) q ≡ Some d) × (is_below d.colour to ≡ false)
-      go None f = let bad : is_there objects q ≡ false = rw f refl in absurd (false≢true (sym bad ∙ whole o q m s))
-      go (Some d) f =
-          let there : has ◌==◌ keys d.key ≡ true = ap (has ◌==◌ keys) (object_at-key objects q d f) ∙ closed o q m s e in
-          let same : risen d ≡ raised to d = rw there refl in
-          (risen d, found-risen q d f, ap (λ (z : Object). is_below z.colour to) same ∙ raised-enough to d)
-
-  each : (o : Object) (q : ℕ) → Among o objects → Among (Some q) o.slots → is_below White (risen o).colour ≡ true →
-      (d : Object) × (object_at (raised_among keys to objects) q ≡ Some d) × (is_below d.colour (risen o).colour ≡ false)
-  each o q m s above = go (has ◌==◌ keys o.key) refl (is_below o.colour to) refl
-    where
-      as_it_is : risen o ≡ o → (d : Object) × (object_at (raised_among keys to objects) q ≡ Some d) × (is_below d.colour (risen o).colour ≡ false)
-      as_it_is same =
-          let f = stays o q m s (ap (λ (z : Object). is_below White z.colour) (sym same) ∙ above) in
-          (f.0, f.1, ap (λ (z : Object). is_below f.0.colour z.colour) same ∙ f.2)
-
-      go : (b : Bool) → has ◌==◌ keys o.key ≡ b → (c : Bool) → is_below o.colour to ≡ c →
-          (d : Object) × (object_at (raised_among keys to objects) q ≡ Some d) × (is_below d.colour (risen o).colour ≡ false)
-      go true e true f =
-          let same : risen o ≡ with_colour to o = rw e (raised-below to o f) in
-          let r = rises o q m s e f in
-          (r.0, r.1, ap (λ (z : Object). is_below r.0.colour z.colour) same ∙ r.2)
-      go true e false f = as_it_is (rw e (raised-same to o f))
-      go false e c f = as_it_is (rw e refl)
-
-  pub HasColourOrder-raised : HasColourOrder (raised_among keys to objects)
-  HasColourOrder-raised = record {
-    held = λ o q m above s.
-        let k = Among-map_cases risen objects o m in
-        let f = each k.0 q k.1 (subst (λ xs. Among (Some q) xs) (ap (λ (z : Object). z.slots) (sym k.2) ∙ risen-slots k.0) s) (ap (λ (z : Object). is_below White z.colour) k.2 ∙ above) in
-        (f.0, f.1, ap (λ (z : Object). is_below f.0.colour z.colour) (sym k.2) ∙ f.2);
-  }

@@ -34,9 +34,6 @@ module _ (l : Lists) (p : IsPlaced l) where
   pub is_there-none : (key : ℕ) → cell_at l.cells key ≡ None → is_there (objects_of l) key ≡ false
   is_there-none key e = ap is_some (object_at-cell key ∙ ap (option_map (with_key key)) e)
 
-  pub live-ordered : (key : ℕ) → Among key l.order → is_there (objects_of l) key ≡ true
-  live-ordered key m = let f = p.in_order key m in ap is_some (object_at-placed key f.0 f.1)
-
   -- its slots
   pub slots_at-placed : (key : ℕ) (c : Placed) → cell_at l.cells key ≡ Some c → slots_at (objects_of l) key ≡ c.slots
   slots_at-placed key c e = ap slots_or_none (object_at-placed key c e)

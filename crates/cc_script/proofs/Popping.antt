@@ -1,5 +1,6 @@
 -- THE FIRST THAT WAITS taken out of the list.
-use Rattle.std.proofs.Common.{◌≡◌, ◌<◌, ℕ, List, [], ◌∷◌, length, drop, Some, None, refl, ap, arith}
+use Rattle.std.proofs.Common.{◌≡◌, ◌<◌, ℕ, List, [], ◌∷◌, length, drop, Some, None, is_some, false, refl, ap, arith}
+use Rattle.std.proofs.lemmas.Bool.{true≢false}
 use Rattle.cc_lists.specs.Walks.{first_of}
 use Rattle.cc_names.specs.declared.kind.Colour.{Colour}
 use Rattle.cc_script.specs.Objects.{Object}
@@ -14,6 +15,10 @@ front-popped (k ∷ ks) key e = let same : k ≡ key = cc in ap (λ j. j ∷ ks)
 pub none-popped : (waiting : List ℕ) → None ≡ first_of waiting → waiting ≡ []
 none-popped [] e = refl
 none-popped (k ∷ ks) e = absurd (cc)
+
+pub none-first : (waiting : List ℕ) → is_some (first_of waiting) ≡ false → waiting ≡ []
+none-first [] e = refl
+none-first (k ∷ ks) e = absurd (true≢false e)
 
 -- less is to be done
 pub popped-does : (to : Colour) (objects : List Object) (waiting ks : List ℕ) (key : ℕ) → waiting ≡ key ∷ ks →

@@ -1,11 +1,11 @@
 -- WHAT IS REACHED OVER SLOTS: edges are slots, and where every slot holds what is there, all that is reached is there.
-use Rattle.std.proofs.Common.{◌≡◌, ℕ, true, List, [], ◌∷◌, Option, Some, None, refl, sym, ap, subst, inl, inr, ⊎_elim}
+use Rattle.std.proofs.Common.{◌≡◌, ℕ, List, [], ◌∷◌, Option, Some, None, refl, sym, ap, subst, inl, inr, ⊎_elim}
 use Rattle.std.specs.List.{flat_map}
 use Rattle.std.specs.Option.{option_to_list}
 use Rattle.cc_lists.specs.Members.{Among}
 use Rattle.cc_lists.proofs.Members.{Among-map, Among-map_cases, Among-flat_map, Among-flat_map_cases}
 use Rattle.cc_lists.proofs.Least.{derived-within, derive-root, derive-along}
-use Rattle.cc_script.specs.Objects.{Object, is_there, AreWhole}
+use Rattle.cc_script.specs.Objects.{Object}
 use Rattle.cc_script.specs.Walking.{slot_edges, edges, IsReachedOverSlots}
 
 -- what slots hold
@@ -43,7 +43,3 @@ reached-within objects root P first step = derived-within (root ∷ []) (edges o
     (λ x m. ⊎_elim (λ e. subst P e first) (λ n. absurd n) m)
     (λ x y m h. let k = edge-slot objects x y m in step k.0 y k.1 k.3 (subst P (sym k.2) h))
     (λ ps v m. absurd m)
-
-pub reached-there : (objects : List Object) → AreWhole objects → (root : ℕ) → is_there objects root ≡ true →
-    (k : ℕ) → IsReachedOverSlots objects (root ∷ []) k → is_there objects k ≡ true
-reached-there objects whole root live = reached-within objects root (λ k. is_there objects k ≡ true) live (λ o q m s h. whole o q m s)

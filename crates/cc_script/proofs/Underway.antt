@@ -1,17 +1,19 @@
 -- MARKING, one object after another: what waits has the colour, and only that may hold what is lower.
-use Rattle.std.proofs.Common.{◌≡◌, ℕ, Bool, true, false, List, [], ◌∷◌, ◌++◌, map, Option, Some, None, option_map, is_some, refl, sym, ◌∙◌, ap, subst, inl, inr, ◌⊎◌, ⊎_elim, ◌==◌, if◌then◌else◌}
+use Rattle.std.proofs.Common.{◌≡◌, ℕ, ◌<◌, Bool, true, false, List, [], ◌∷◌, ◌++◌, Option, Some, None, option_map, is_some, refl, sym, ◌∙◌, ap, subst, inl, inr, ◌⊎◌, ⊎_elim, ◌==◌, if◌then◌else◌, arith}
 use Rattle.std.proofs.lemmas.Bool.{true≢false, eqb-true}
 use Rattle.cc_lists.specs.Members.{Among}
+use Rattle.cc_lists.specs.Walks.{first_of}
 use Rattle.cc_lists.proofs.Members.{Among-append, Among-left, Among-right, Among-map_cases}
 use Rattle.cc_names.specs.declared.kind.Colour.{Colour}
 use Rattle.cc_names.specs.declared.kind.Colour.TheVariants.{White}
-use Rattle.cc_script.specs.Objects.{Object, AreWhole, object_at, is_there, colour_at, slots_at, slots_or_none, change_object, is_below, raised, with_colour}
+use Rattle.cc_script.specs.Objects.{Object, AreWhole, object_at, is_there, colour_at, slots_at, slots_or_none, is_below, raised}
 use Rattle.cc_script.specs.ColourOrder.{HasColourOrder}
-use Rattle.cc_script.specs.Marking.{Marking, is_lower, raise_key, raise_slot, raise_each, AreRaised}
+use Rattle.cc_script.specs.Marking.{Marking, is_lower, raise_key, raise_each, to_do}
 use Rattle.cc_script.specs.Underway.{IsOrderedBut, IsMarked, with_first_looked_into}
 use Rattle.cc_script.proofs.Keys.{object_at-map, object_at-among, object_at-key, changed_at, changed_at-key, changed_at-same}
 use Rattle.cc_script.proofs.Colours.{raised-key, raised-slots, raised-same, raised-below, raised-enough, raised-keeps, not_below-self}
-use Rattle.cc_script.proofs.Raising.{raise_key-lower, raise_key-enough, raise_key-there, lower-some}
+use Rattle.cc_script.proofs.Raising.{raise_key-lower, raise_key-enough, raise_key-there, raise_each-spends, lower-some}
+use Rattle.cc_script.proofs.Popping.{popped-does}
 
 -- an object after some were raised: not below what it was not below, and the same where it had the colour
 pub record IsAfter (to : Colour) (d e : Object) : Type 0 where
@@ -247,3 +249,14 @@ module _ (to : Colour) where
       go : (ks : List ℕ) → is_there (looked_by m ks).objects q ≡ is_there m.objects q
       go [] = refl
       go (k ∷ ks) = there-each (slots_at m.objects k) (record { objects = m.objects; waiting = ks }) q
+
+  -- less is to be done then, and nothing is done where none waits
+  pub looked-spends : (m : Marking) → is_some (first_of m.waiting) ≡ true → to_do to (with_first_looked_into to m) < to_do to m
+  looked-spends m = go m.waiting
+    where
+      go : (ks : List ℕ) → is_some (first_of ks) ≡ true → to_do to (looked_by m ks) < to_do to (record { objects = m.objects; waiting = ks })
+      go [] some = absurd (true≢false (sym some))
+      go (k ∷ ks) some = omega (arith, popped-does to m.objects (k ∷ ks) ks k refl, raise_each-spends to (slots_at m.objects k) (record { objects = m.objects; waiting = ks }))
+
+  pub looked-none : (m : Marking) → m.waiting ≡ [] → with_first_looked_into to m ≡ m
+  looked-none m none = ap (looked_by m) none

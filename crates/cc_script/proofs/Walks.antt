@@ -11,15 +11,15 @@ use Rattle.cc_lists.proofs.ListWrites.{map-agree}
 use Rattle.cc_lists.proofs.Numbers.{number-exact}
 use Rattle.cc_names.specs.declared.kind.Colour.{Colour}
 use Rattle.cc_names.specs.declared.kind.Colour.TheVariants.{White}
-use Rattle.cc_script.specs.Objects.{Object, object_at, is_there, slots_at, slots_or_none, change_object, is_below, raised, raised_among, AreWhole}
+use Rattle.cc_script.specs.Objects.{Object, object_at, slots_at, slots_or_none, change_object, is_below, raised, raised_among}
 use Rattle.cc_script.specs.Walking.{reach_rules, keys_reached, IsReachedOverSlots}
 use Rattle.cc_script.specs.ColourOrder.{HasColourOrder}
 use Rattle.cc_script.specs.Marking.{Marking, is_lower, raise_key, raise_each}
+use Rattle.cc_script.specs.Underway.{with_first_looked_into}
 use Rattle.cc_script.proofs.Keys.{object_at-among, object_at-key, object_at-map, changed_at, changed_at-same}
 use Rattle.cc_script.proofs.Colours.{not_below-trans, not_below-cases, not_below-white, raised-key, raised-slots, raised-again, raised-same}
-use Rattle.cc_script.proofs.InOrder.{HasColourOrder-raised}
 use Rattle.cc_script.proofs.Reaching.{reached-root, reached-slot, reached-within}
-use Rattle.cc_script.proofs.Raising.{raise_key-lower, raise_key-enough, is_there-kept, slots_at-kept}
+use Rattle.cc_script.proofs.Raising.{raise_key-lower, raise_key-enough, slots_at-kept}
 
 -- Objects raised at some keys
 
@@ -187,10 +187,6 @@ module _ (before : List Object) (root : ℕ) (to : Colour) where
       let f = raise_key-marks [] (record { objects = before; waiting = [] }) marking-start root (reached-root before root) in
       record { marking = f.after; begun = f.met }
 
-  -- what is there, is there throughout
-  pub walk-there : (m : Marking) → IsWalk m → (q : ℕ) → is_there m.objects q ≡ is_there before q
-  walk-there m w q = ap (λ os. is_there os q) w.marking.objects ∙ is_there-kept (risen w.marking.keys to) (risen-key w.marking.keys to) (risen-slots w.marking.keys to) before q
-
   -- the first that waits looked into: what its slots hold raised
   module _ (m : Marking) (w : IsWalk m) (key : ℕ) (ks : List ℕ) (front : m.waiting ≡ key ∷ ks) where
     abbrev rest : Marking
@@ -214,18 +210,18 @@ module _ (before : List Object) (root : ℕ) (to : Colour) where
     stood = w.marking.waits key (subst (Among key) (sym front) (inl refl))
 
     -- it is reached, and so is what its slots hold
-    pub walk-reached : IsReachedOverSlots before (root ∷ []) key
+    walk-reached : IsReachedOverSlots before (root ∷ []) key
     walk-reached = w.marking.reached key stood
 
-    pub walk-slots : slots_at m.objects key ≡ slots_at before key
+    walk-slots : slots_at m.objects key ≡ slots_at before key
     walk-slots = marking-slots [] m w.marking key
 
-    pub walk-held : (q : ℕ) → Among (Some q) (slots_at m.objects key) → IsReachedOverSlots before (root ∷ []) q
+    walk-held : (q : ℕ) → Among (Some q) (slots_at m.objects key) → IsReachedOverSlots before (root ∷ []) q
     walk-held q n =
         let f = slot-object before key q (subst (λ xs. Among (Some q) xs) walk-slots n) in
         reached-slot before root f.0 q (object_at-among before key f.0 f.1) f.2 (subst (IsReachedOverSlots before (root ∷ [])) (sym (object_at-key before key f.0 f.1)) walk-reached)
 
-    pub walk-next : IsWalk (raise_each to (slots_at m.objects key) (record { objects = m.objects; waiting = ks }))
+    walk-next : IsWalk (raise_each to (slots_at m.objects key) (record { objects = m.objects; waiting = ks }))
     walk-next =
         let s = raise_each-marks (key ∷ []) (slots_at m.objects key) rest taken walk-held in
         record {
@@ -245,6 +241,13 @@ module _ (before : List Object) (root : ℕ) (to : Colour) where
           };
           begun = met-more w.marking.keys s.after.keys s.more root w.begun;
         }
+
+  pub walk-looked : (m : Marking) → IsWalk m → IsWalk (with_first_looked_into to m)
+  walk-looked m w = go m.waiting refl
+    where
+      go : (ks : List ℕ) → m.waiting ≡ ks → IsWalk (elim ks [ [] ↦ m | k ∷ ks ↦ raise_each to (slots_at m.objects k) (record { objects = m.objects; waiting = ks }) ])
+      go [] e = w
+      go (k ∷ ks) e = walk-next m w k ks e
 
   -- THE END: where nothing waits, all that is reached was met
   module _ (own : (o : Object) → Among o before → object_at before o.key ≡ Some o) (ordered : HasColourOrder before) (m : Marking) (w : IsWalk m) (emptied : m.waiting ≡ []) where
@@ -293,13 +296,3 @@ module _ (before : List Object) (root : ℕ) (to : Colour) where
 
     pub walk-end : m.objects ≡ raised_among (keys_reached before (root ∷ [])) to before
     walk-end = w.marking.objects ∙ map-agree (risen keys to) (risen (keys_reached before (root ∷ [])) to) before each
-
-  -- the colours are in order then
-  pub walk-coloured : ((o : Object) → Among o before → object_at before o.key ≡ Some o) → HasColourOrder before → AreWhole before → HasColourOrder (raised_among (keys_reached before (root ∷ [])) to before)
-  walk-coloured own ordered whole = HasColourOrder-raised before ordered own (keys_reached before (root ∷ [])) to whole closed
-    where
-      decides : (k : ℕ) → (has ◌==◌ (keys_reached before (root ∷ [])) k ≡ true → IsReachedOverSlots before (root ∷ []) k) × (IsReachedOverSlots before (root ∷ []) k → has ◌==◌ (keys_reached before (root ∷ [])) k ≡ true)
-      decides k = closure-decides ◌==◌ number-exact (reach_rules before (root ∷ [])) k
-
-      closed : (o : Object) (q : ℕ) → Among o before → Among (Some q) o.slots → has ◌==◌ (keys_reached before (root ∷ [])) o.key ≡ true → has ◌==◌ (keys_reached before (root ∷ [])) q ≡ true
-      closed o q n s e = (decides q).1 (reached-slot before root o q n s ((decides o.key).0 e))

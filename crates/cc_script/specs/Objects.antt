@@ -83,7 +83,7 @@ key_after objects key = walks.next_key (λ o. o.key) objects key
 abbrev pub AreWhole : List Object → Type 0
 AreWhole objects = (o : Object) (q : ℕ) → Among o objects → Among (Some q) o.slots → IsTrue (is_there objects q)
 
--- each object stands at a key of its own
+-- what stands at the key of an object is that object
 abbrev pub HaveOwnKeys : List Object → Type 0
 HaveOwnKeys objects = (o : Object) → Among o objects → object_at objects o.key ≡ Some o
 

@@ -5,9 +5,9 @@
 //! whether that native is there is for those above to say. A weak map has no slots here; its entries stand in a crate of
 //! their own, so no walk of this heap goes over them.
 //!
-//! Script marking makes all objects white (`clear_marks`) and raises what is reached from roots (`mark_from`);
-//! between markings `expose` makes black what script touches, with all that it reaches over slots. What stays white is
-//! removed, one object after another.
+//! Script marking makes all objects white (`clear_marks`) and raises what is reached from roots, at once (`mark_from`) or
+//! one object after another (`start_marking`, with a type of its own); between markings `expose` makes black what script
+//! touches, with all that it reaches over slots. What stays white is removed, one object after another.
 //!
 //! No object that isn't white holds one of a lower colour. So a walk may stop at each object that has the colour to which
 //! it raises.

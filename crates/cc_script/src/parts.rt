@@ -211,9 +211,7 @@ impl ScriptParts {
         ensures memory { TakesNoMemory self.old self.new }
     {
         self.raise(key, to);
-        while let Some(next) = self.waiting.pop_front(&mut self.cells) {
-            self.raise_each(SKey(next), to);
-        }
+        while self.look_into_first(to).is_some() {}
     }
 }
 

@@ -180,7 +180,7 @@ impl Scripts {
         self.parts.mark_from(key, to);
     }
 
-    /// Hands over the objects to be marked in the colour `to`. `end_marking` gives them back; until then this heap has none.
+    /// Hands over all objects, to be marked in the colour `to`, and has none itself then. `end_marking` takes them back.
     pub fn start_marking(&mut self, to: Colour) -> Marking
         ensures marking { result ≡ record { objects = self.old; waiting = []; to = to } }
         ensures own { HaveOwnKeys self.old }

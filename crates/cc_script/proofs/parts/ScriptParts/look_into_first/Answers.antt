@@ -1,4 +1,4 @@
-use Rattle.std.proofs.Common.{◌≡◌, ℕ, List, [], ◌∷◌, Option, Some, drop, ap, sym, subst, ◌∙◌, refl, inl}
+use Rattle.std.proofs.Common.{◌≡◌, ℕ, List, Option, Some, drop, ap, sym, subst, ◌∙◌, refl, inl}
 use Rattle.cc_lists.specs.Members.{Among}
 use Rattle.cc_script.specs.Objects.{Object, object_at, is_there, slots_at}
 use Rattle.cc_script.specs.Lists.{Lists, objects_of, IsPlaced}

@@ -1,14 +1,16 @@
+use Rattle.cc_script.specs.Objects.{AreWhole}
 use Rattle.cc_script.specs.Marking.{to_do}
-use Rattle.cc_script.specs.Parts.{shows, marking_of, IsUnderWay, TakesNoMemory}
+use Rattle.cc_script.specs.Parts.{shows, marking_of, IsBegun, TakesNoMemory}
 use Rattle.cc_script.proofs.Walks.{IsWalk}
 use Rattle.cc_script.proofs.parts.ScriptParts.mark_from.Given as goal
 
-abbrev pub invariant-loop-next : goal.invariant-loop-next
-invariant-loop-next l = record {
+abbrev pub invariant-loop-to : goal.invariant-loop-to
+invariant-loop-to l = record {
   walk : IsWalk (shows l.fn.self) l.fn.key.0 l.to (marking_of l.self);
-  under_way : IsUnderWay l.to l.self;
+  begun : IsBegun l.to l.self;
+  whole : AreWhole (shows l.self);
   memory : TakesNoMemory l.fn.self l.self;
 }
 
-abbrev pub decreases-loop-next : goal.decreases-loop-next
-decreases-loop-next l = to_do l.to (marking_of l.self)
+abbrev pub decreases-loop-to : goal.decreases-loop-to
+decreases-loop-to l = to_do l.to (marking_of l.self)
