@@ -1,5 +1,5 @@
 -- HOW A DOCUMENT READS AFTER A STEP, where it is read from its graph.
-use Rattle.std.proofs.Common.{◌≡◌, ◌≢◌, ℕ, ◌+◌, ◌<◌, Bool, true, false, ◌⊎◌, length, get_or, List, [], ◌∷◌, ◌++◌, Option, Some, None, is_some, option_map, refl, sym, ◌∙◌, ap, subst, ⊎_elim}
+use Rattle.std.proofs.Common.{◌≡◌, ◌≢◌, ℕ, ◌+◌, ◌<◌, ◌⊎◌, length, get_or, List, [], ◌∷◌, ◌++◌, Option, Some, None, option_map, refl, sym, ◌∙◌, ap, subst, ⊎_elim}
 use Rattle.std.specs.Option.{option_and_then}
 use Rattle.std.proofs.lemmas.Bool.Decides.{eqb_tells}
 use Rattle.std.proofs.lemmas.List.{length-set, get_or-set_same, get_or-set_other}
@@ -9,9 +9,8 @@ use Rattle.cc_names.specs.declared.register.Reg.{Reg}
 use Rattle.cc_names.specs.declared.register.Reg.TheVariants.{N, S}
 use Rattle.cc_names.specs.Names.{native, object, reflector}
 use Rattle.cc_model.specs.Slots.{Slots}
-use Rattle.cc_model.specs.Entries.{Entry}
 use Rattle.cc_model.specs.Checks.{slots_or_none, native_of}
-use Rattle.cc_model.specs.Graph.{Graph, GraphNative, GraphScript, plain_object, weak_map, numbered, native_in, script_in, slots_of_script, objects_of, register, set_native, set_script, set_slot, with_slot, as_preserved, as_wrapped, with_script_slot, slots_or_blank, with_script, wrapped, preserve}
+use Rattle.cc_model.specs.Graph.{Graph, GraphNative, GraphScript, plain_object, numbered, native_in, script_in, slots_of_script, objects_of, register, set_native, set_slot, with_slot, as_preserved, as_wrapped, with_script_slot, slots_or_blank, with_script, wrapped, preserve}
 use Rattle.cc_laws_heap.proofs.GraphWrites.{set_native-is, set_script-is}
 use Rattle.cc_laws_heap.proofs.GraphParts.{with_natives, with_scripts}
 use Rattle.cc_laws_heap.proofs.Numbered.{change_numbered, numbered-change, numbered-change_other, numbered-push_other, numbered-next, numbered-push}

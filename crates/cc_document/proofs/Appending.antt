@@ -1,9 +1,9 @@
 -- AN ELEMENT APPENDED, AND REMOVED, in the host's words.
-use Rattle.std.proofs.Common.{◌≡◌, ◌≢◌, ℕ, ◌+◌, ◌<◌, ◌⊎◌, true, Option, Some, None, is_some, IsTrue, refl, sym, ◌∙◌, ap, subst, inl, inr, arith}
+use Rattle.std.proofs.Common.{◌≡◌, ◌≢◌, ℕ, ◌+◌, ◌<◌, ◌⊎◌, Option, Some, None, refl, sym, ◌∙◌, ap, subst, inl, inr, arith}
 use Rattle.cc_names.specs.declared.name.Name.{Name}
 use Rattle.cc_names.specs.declared.register.Reg.{Reg}
 use Rattle.cc_names.specs.declared.register.Reg.TheVariants.{N, S}
-use Rattle.cc_names.specs.Names.{native, reflector}
+use Rattle.cc_names.specs.Names.{reflector}
 use Rattle.cc_model.specs.Entries.{value_in}
 use Rattle.cc_model.specs.Checks.{value_at}
 use Rattle.cc_model.specs.Graph.{Graph, GraphNative, native_in, objects_of, register, source, set_slot}
@@ -11,7 +11,7 @@ use Rattle.cc_model.specs.WellMade.{IsWellMade}
 use Rattle.cc_laws_heap.proofs.Holds.{OfSome}
 use Rattle.cc_laws_heap.proofs.GraphParts.{is_some-found}
 use Rattle.cc_laws_heap.proofs.GraphReads.{MadeNative, native_register-made}
-use Rattle.cc_document.specs.Words.{places, element, element_of, slot_of, spoken_of, parent_of, child_of, data_of}
+use Rattle.cc_document.specs.Words.{places, element, element_of, slot_of, spoken_of, parent_of, child_of}
 use Rattle.cc_document.specs.Changes.{IsAppended, IsRemoved, SameData}
 use Rattle.cc_document.specs.Shown.{IsDocument, written, appended, removed}
 use Rattle.cc_document.proofs.Alike.{IsWritten, slot-written}

@@ -1,5 +1,5 @@
 -- A VARIABLE ASSIGNED, in the host's words: with an element that is there, with a new one, or with nothing.
-use Rattle.std.proofs.Common.{◌≡◌, ℕ, zero, suc, ◌+◌, ◌<◌, false, length, get_or, List, [], ◌∷◌, ◌++◌, Option, Some, None, option_map, refl, sym, ◌∙◌, ap, subst, ⊎_elim}
+use Rattle.std.proofs.Common.{◌≡◌, ℕ, zero, suc, ◌+◌, ◌<◌, false, length, get_or, [], ◌∷◌, ◌++◌, Option, Some, None, option_map, refl, sym, ◌∙◌, ap, subst, ⊎_elim}
 use Rattle.std.specs.Option.{option_and_then}
 use Rattle.std.proofs.lemmas.Bool.Decides.{eqb_tells}
 use Rattle.std.proofs.lemmas.List.{get_or-set_same, get_or-set_other}
@@ -10,7 +10,7 @@ use Rattle.cc_names.specs.Names.{native}
 use Rattle.cc_model.specs.declared.command.Command.TheVariants.{Native}
 use Rattle.cc_model.specs.Slots.{empty_slots}
 use Rattle.cc_model.specs.Checks.{refusal_of, native_of}
-use Rattle.cc_model.specs.Graph.{Graph, GraphNative, numbered, native_in, objects_of, register, set_register, with_native, changed, unless_refused}
+use Rattle.cc_model.specs.Graph.{Graph, GraphNative, native_in, objects_of, set_register, with_native, changed, unless_refused}
 use Rattle.cc_laws_heap.proofs.Numbered.{numbered-next, numbered-push, numbered-push_other}
 use Rattle.cc_document.specs.Words.{element, element_of, element_slots, slot_of, spoken_of}
 use Rattle.cc_document.specs.Changes.{IsAsBefore, IsAssigned}

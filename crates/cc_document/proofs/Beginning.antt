@@ -6,12 +6,11 @@ use Rattle.cc_names.specs.Allowance.{Allowance}
 use Rattle.cc_names.specs.declared.register.Reg.TheVariants.{S}
 use Rattle.cc_names.specs.Names.{object}
 use Rattle.cc_model.specs.declared.command.Command.TheVariants.{WeakMap}
-use Rattle.cc_model.specs.Checks.{refusal_of}
 use Rattle.cc_model.specs.Colours.{HasColourInvariant}
 use Rattle.cc_model.specs.View.{view}
 use Rattle.cc_model.specs.Suspected.{IsSuspected}
 use Rattle.cc_model.specs.StandsFor.{StandsFor}
-use Rattle.cc_model.specs.Graph.{Graph, weak_map, empty_graph, objects_of, register, set_register, with_script, changed, unless_refused, step}
+use Rattle.cc_model.specs.Graph.{weak_map, empty_graph, objects_of, register, set_register, with_script, changed, unless_refused, step}
 use Rattle.cc_laws_heap.proofs.GraphCommands.{empty-well}
 use Rattle.cc_laws_heap.proofs.Numbered.{numbered-nothing}
 use Rattle.cc_heaps.specs.Keyed.{Keyed, IsInOrder}

@@ -1,5 +1,5 @@
 -- CLOSURES AND DATA BY THEIR KEYS: of which element one speaks, and which is the data of an element.
-use Rattle.std.proofs.Common.{◌≡◌, ℕ, ◌==◌, ◌<◌, [], ◌∷◌, List, map, length, get_or, Option, Some, None, is_some, option_map, IsTrue, IsSome, refl, sym, ◌∙◌, ap, subst, arith}
+use Rattle.std.proofs.Common.{◌≡◌, ℕ, ◌==◌, ◌<◌, [], ◌∷◌, List, length, get_or, Option, Some, None, option_map, IsTrue, IsSome, refl, sym, ◌∙◌, ap, subst, arith}
 use Rattle.std.specs.Option.{option_and_then}
 use Rattle.std.proofs.Math.ListN.{get_or-map}
 use Rattle.std.proofs.lemmas.Bool.{false≢true}
@@ -10,15 +10,15 @@ use Rattle.cc_names.specs.declared.name.Name.{Name}
 use Rattle.cc_names.specs.declared.name.Name.TheVariants as name
 use Rattle.cc_names.specs.declared.number.NKey.{NKey}
 use Rattle.cc_names.specs.declared.register.Reg.TheVariants.{N, S}
-use Rattle.cc_names.specs.Names.{native, object, reflector}
+use Rattle.cc_names.specs.Names.{native, reflector}
 use Rattle.cc_model.specs.Slots.{Slots}
 use Rattle.cc_model.specs.Entries.{value_in}
 use Rattle.cc_model.specs.Checks.{Objects, slots_or_none, native_of, reflector_of, value_at}
 use Rattle.cc_model.specs.WellFormed.{script_names}
-use Rattle.cc_model.specs.Heap.{HeapScript, objects_of, register, slots_in}
+use Rattle.cc_model.specs.Heap.{objects_of, register}
 use Rattle.cc_laws_heap.proofs.EntryLists.{found-among}
 use Rattle.cc_counted.specs.Counts.{number_or_none, reflector_at}
-use Rattle.cc_script.specs.Objects.{Object, object_at, is_there, name_at}
+use Rattle.cc_script.specs.Objects.{Object, is_there, name_at}
 use Rattle.cc_script.specs.Objects as objects
 use Rattle.cc_heaps.specs.Keyed.{Keyed, IsInOrder, Reflects, counts_of, named_object, name_held, number_at, the_number, reflector_key}
 use Rattle.cc_heaps.specs.Changes.{native_name}

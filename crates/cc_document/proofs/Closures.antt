@@ -4,21 +4,19 @@ use Rattle.std.proofs.lemmas.Bool.{and_parts, false≢true}
 use Rattle.std.proofs.lemmas.List.{length-set, get_or-set_same, get_or-set_other}
 use Rattle.cc_names.specs.declared.name.Name.{Name}
 use Rattle.cc_names.specs.declared.register.Reg.TheVariants.{N, S}
-use Rattle.cc_names.specs.Names.{native, object, reflector, is_script}
+use Rattle.cc_names.specs.Names.{object, reflector, is_script}
 use Rattle.cc_model.specs.declared.command.Command.TheVariants.{Script}
-use Rattle.cc_model.specs.declared.item.Refusal.{Refusal}
 use Rattle.cc_model.specs.Entries.{Entry, value_in, with_entry}
-use Rattle.cc_model.specs.Slots.{empty_slots}
 use Rattle.cc_model.specs.Checks.{refusal_of, native_of, reflector_of, value_at}
 use Rattle.cc_model.specs.Graph.{Graph, GraphNative, plain_object, native_in, script_in, objects_of, register, set_register, set_slot, set_entry, with_script, wrapped, preserve, changed, unless_refused}
 use Rattle.cc_model.specs.WellMade.{IsWellMade, was_made}
 use Rattle.cc_laws_heap.proofs.Holds.{OfSome, contents-at}
 use Rattle.cc_laws_heap.proofs.EntryLists.{found-among}
 use Rattle.cc_laws_heap.proofs.Numbered.{numbered-next, numbered-push}
-use Rattle.cc_document.specs.Words.{element, element_of, slot_of, spoken_of, listener_of, data_of}
+use Rattle.cc_document.specs.Words.{element, element_of, slot_of, spoken_of}
 use Rattle.cc_document.specs.Changes.{IsAsBefore, IsHeard, HasData}
-use Rattle.cc_document.specs.Shown.{IsDocument, HasClosure, HasNewClosure, written, wrapping, without, making_closure, closing, entering, closed_over, listened, entered, with_data}
-use Rattle.cc_document.proofs.Alike.{AreAlike, AreAlike-then, StaysAlike, wrapped-alike, preserve-alike, plain-alike, IsClosed, closure-written, slot_in}
+use Rattle.cc_document.specs.Shown.{IsDocument, HasClosure, HasNewClosure, written, wrapping, without, making_closure, closing, entering, closed_over, entered}
+use Rattle.cc_document.proofs.Alike.{AreAlike, AreAlike-then, wrapped-alike, preserve-alike, plain-alike, IsClosed, closure-written, slot_in}
 use Rattle.cc_document.proofs.Appending.{element-made, data-alike, value-alike, written-reads}
 use Rattle.cc_document.proofs.Holding.{room-for_script}
 use Rattle.cc_document.proofs.Values.{value-own, value-other}

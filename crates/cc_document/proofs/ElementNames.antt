@@ -1,9 +1,8 @@
 -- ELEMENTS AND SCRIPT OBJECTS BY THEIR KEYS, in the host's words.
-use Rattle.std.proofs.Common.{◌≡◌, ℕ, ◌==◌, [], Option, Some, None, option_map, refl, sym, ◌∙◌, ap, subst}
+use Rattle.std.proofs.Common.{◌≡◌, ℕ, ◌==◌, [], Option, Some, None, option_map, refl, sym, ◌∙◌, ap}
 use Rattle.cc_lists.proofs.Filtering.{find-among}
 use Rattle.cc_names.specs.declared.name.Name.{Name}
 use Rattle.cc_names.specs.declared.name.Name.TheVariants as name
-use Rattle.cc_names.specs.declared.number.NKey.{NKey}
 use Rattle.cc_names.specs.Names.{native}
 use Rattle.cc_counted.specs.Counts.{native_held}
 use Rattle.cc_counted.specs.declared.held.Held.{Held}

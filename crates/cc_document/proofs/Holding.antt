@@ -1,27 +1,25 @@
 -- STEPS ON SCRIPT REGISTERS ARE SHOWN: a reflector is put there, a closure is made, written, and let go.
-use Rattle.std.proofs.Common.{◌≡◌, ◌≢◌, ℕ, ◌+◌, ◌<◌, ◌≤◌, [], ◌∷◌, Bool, true, false, List, length, nat_le, get_or, Option, Some, None, IfSome, IsTrue, IsSome, option_map, refl, sym, ◌∙◌, ap, subst, inl, inr, arith}
+use Rattle.std.proofs.Common.{◌≡◌, ◌≢◌, ℕ, ◌+◌, ◌<◌, ◌≤◌, [], ◌∷◌, Bool, true, false, length, nat_le, Option, Some, None, IfSome, IsTrue, refl, ◌∙◌, ap, arith}
 use Rattle.std.specs.Option.{option_and_then}
 use Rattle.std.proofs.lemmas.Bool.{leb-true}
-use Rattle.cc_names.specs.declared.name.Name.{Name}
 use Rattle.cc_names.specs.declared.number.SKey.{SKey}
 use Rattle.cc_names.specs.declared.kind.Colour.TheVariants.{Black}
-use Rattle.cc_names.specs.declared.register.Reg.TheVariants.{N, S}
-use Rattle.cc_names.specs.Names.{native, object, reflector}
+use Rattle.cc_names.specs.declared.register.Reg.TheVariants.{S}
+use Rattle.cc_names.specs.Names.{reflector}
 use Rattle.cc_model.specs.declared.command.Command.TheVariants.{Native, Script, WeakMap}
 use Rattle.cc_model.specs.Checks.{Objects, slots_or_none, slots_at, refusal_of}
 use Rattle.cc_model.specs.Graph as graph
-use Rattle.cc_model.specs.Graph.{Graph, plain_object}
+use Rattle.cc_model.specs.Graph.{Graph}
 use Rattle.cc_model.specs.Heap as heap
 use Rattle.cc_laws_heap.proofs.Coloured.{AreColoured-from_view}
-use Rattle.cc_laws_heap.proofs.RepliesAlike.{objects-stand}
 use Rattle.cc_script.specs.Objects.{colour_at}
 use Rattle.cc_script.specs.Objects as objects
-use Rattle.cc_heaps.specs.Keyed.{Keyed, number_at}
+use Rattle.cc_heaps.specs.Keyed.{Keyed}
 use Rattle.cc_heaps.specs.Changes.{IsScriptThere, script_name}
 use Rattle.cc_builder.specs.Building.{Built}
 use Rattle.cc_mutator.proofs.ScriptsRead.{held-black, script_slots-as_many}
 use Rattle.cc_document.specs.Words.{element_slots}
-use Rattle.cc_document.specs.Shown.{IsDocument, HasClosure, HasNewClosure, Shows, parts, making_closure}
+use Rattle.cc_document.specs.Shown.{HasNewClosure, Shows, parts}
 use Rattle.cc_document.proofs.Reached.{alike}
 
 module _ (v : Keyed) (c : Option Built) (g : Graph) (s : Shows (parts v c) g) where

@@ -6,8 +6,8 @@ use Rattle.cc_names.specs.declared.name.Name.{Name}
 use Rattle.cc_names.specs.declared.name.Name.TheVariants as name
 use Rattle.cc_names.specs.declared.register.Reg.{Reg}
 use Rattle.cc_names.specs.declared.register.Reg.TheVariants.{N, S}
-use Rattle.cc_names.specs.Names.{native, object}
-use Rattle.cc_model.specs.declared.command.Command.TheVariants.{Native, Script, WeakMap}
+use Rattle.cc_names.specs.Names.{object}
+use Rattle.cc_model.specs.declared.command.Command.TheVariants.{Native, Script}
 use Rattle.cc_model.specs.declared.item.Refusal.{Refusal}
 use Rattle.cc_model.specs.Checks.{refusal_of}
 use Rattle.cc_model.specs.Graph.{Graph, GraphNative, GraphScript, native_in, script_in, objects_of, register, source, set_native, set_script, set_slot, with_slot, with_reflector_slot, with_script_slot, as_preserved, preserve, set_entry, changed, unless_refused}

@@ -1,12 +1,12 @@
 -- WHAT VARIABLES LEAD TO IS REACHED, and elements have their slots.
-use Rattle.std.proofs.Common.{◌≡◌, ℕ, [], true, length, Option, Some, None, is_some, IsTrue, IsSome, refl, sym, ◌∙◌, ap, subst}
+use Rattle.std.proofs.Common.{◌≡◌, ℕ, [], true, length, Option, Some, None, is_some, IsSome, refl, sym, ◌∙◌, ap, subst}
 use Rattle.std.specs.Option.{option_and_then}
 use Rattle.std.proofs.lemmas.Bool.{false≢true}
 use Rattle.cc_names.specs.declared.name.Name.{Name}
 use Rattle.cc_names.specs.declared.name.Name.TheVariants as name
 use Rattle.cc_names.specs.declared.number.NKey.{NKey}
 use Rattle.cc_names.specs.declared.register.Reg.{Reg}
-use Rattle.cc_names.specs.declared.register.Reg.TheVariants.{N, S}
+use Rattle.cc_names.specs.declared.register.Reg.TheVariants.{N}
 use Rattle.cc_names.specs.Names.{native}
 use Rattle.cc_model.specs.Checks.{slots_or_none, slots_at, slot_at}
 use Rattle.cc_model.specs.Graph as graph

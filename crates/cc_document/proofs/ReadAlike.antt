@@ -1,5 +1,5 @@
 -- THE HEAPS READ AS THE GRAPH DOES, of what a variable holds: its listener and its data too.
-use Rattle.std.proofs.Common.{◌≡◌, ℕ, Bool, true, false, List, [], ◌∷◌, length, get_or, Option, Some, None, is_some, IsTrue, refl, sym, ◌∙◌, ap, subst, inl}
+use Rattle.std.proofs.Common.{◌≡◌, ℕ, Bool, true, false, List, [], ◌∷◌, get_or, Option, Some, None, is_some, IsTrue, refl, sym, ◌∙◌, ap, subst, inl}
 use Rattle.std.specs.Option.{option_and_then}
 use Rattle.std.proofs.lemmas.Bool.{and_parts, false≢true}
 use Rattle.cc_lists.specs.Members.{Among}
@@ -24,11 +24,11 @@ use Rattle.cc_laws_heap.proofs.GraphParts.{is_some-found}
 use Rattle.cc_laws_heap.proofs.GraphReads.{MadeNative, native_register-made}
 use Rattle.cc_laws_heap.proofs.ReachedAlike.{ArePart-among}
 use Rattle.cc_laws_heap.proofs.ReachedReads.{register-reached, slot_at-reached}
-use Rattle.cc_laws_heap.proofs.RepliesAlike.{AreAlike, slot_at-alike}
+use Rattle.cc_laws_heap.proofs.RepliesAlike.{slot_at-alike}
 use Rattle.cc_laws_heap.proofs.Shapes.{slots_of_shape, slots_in-graph, slots_in-heap}
 use Rattle.cc_heaps.specs.Keyed.{Keyed}
 use Rattle.cc_builder.specs.Building.{Built}
-use Rattle.cc_document.specs.Words.{in_variable, element_of, slot_of, spoken_of, parent_of, child_of, listener_of, data_of}
+use Rattle.cc_document.specs.Words.{in_variable, element_of, slot_of, spoken_of, listener_of, data_of}
 use Rattle.cc_document.specs.Shown.{Shows, parts}
 use Rattle.cc_document.proofs.Reached.{alike}
 

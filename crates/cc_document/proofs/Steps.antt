@@ -1,12 +1,9 @@
 -- A STEP IS SHOWN: what a call of the heaps promises, and a document of the graph that it makes.
 use Rattle.std.proofs.Common.{◌≡◌, ℕ, [], Option, Some, None, IsSome, refl, sym, ◌∙◌, ap, subst}
-use Rattle.cc_names.specs.declared.name.Name.{Name}
 use Rattle.cc_names.specs.declared.number.NKey.{NKey}
 use Rattle.cc_names.specs.declared.register.Reg.{Reg}
-use Rattle.cc_names.specs.declared.register.Reg.TheVariants.{N, S}
+use Rattle.cc_names.specs.declared.register.Reg.TheVariants.{N}
 use Rattle.cc_names.specs.Names.{native}
-use Rattle.cc_model.specs.Colours.{HasColourInvariant}
-use Rattle.cc_model.specs.View.{view}
 use Rattle.cc_model.specs.Graph as graph
 use Rattle.cc_model.specs.Graph.{Graph, set_slot}
 use Rattle.cc_model.specs.Heap as heap

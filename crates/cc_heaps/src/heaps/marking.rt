@@ -1,6 +1,9 @@
 //! Script objects marked.
-ghost use Rattle.std.specs.Prelude.{◌≡◌, []};
+ghost use Rattle.std.specs.Prelude.{◌≡◌, ◌<◌, ℕ, [], IsTrue};
+ghost use Rattle.cc_lists.specs.Members.{Among};
 ghost use Rattle.cc_model.specs.Colours.{marked, HasColours};
+ghost use Rattle.cc_script.specs.Objects.{AreWhole, is_there};
+ghost use Rattle.cc_marking.specs.Marking.{AreEntriesThere, marked_from};
 ghost use Rattle.cc_heaps.specs.Keyed.{IsInOrder};
 ghost use Rattle.cc_heaps.specs.Changes.{KeepsKeys};
 ghost use Rattle.cc_heaps.specs.Standing.{StillStands};
@@ -9,6 +12,32 @@ ghost use Rattle.cc_heaps.specs.Few.{AreFew};
 use crate::heaps::Heaps;
 use crate::heaps::roots::{HeldRoots, RegisterRoots};
 use cc_marking::mark;
+use cc_script::Scripts;
+use cc_steps::Steps;
+use cc_weakmaps::WeakMaps;
+use std::marker::Brand;
+use std::sync::ledger::{Blank, Ledger};
+
+/// Marks from the registers and from what natives hold. Nobody asks for its steps.
+fn mark_uncounted<L: Ledger>(
+    scripts: &mut Scripts,
+    weak: &WeakMaps,
+    registers: &mut RegisterRoots<'_>,
+    held: &mut HeldRoots<'_>,
+    blank: Blank,
+)
+    requires name { blank.name ≡ L.name }
+    requires parts { blank.parts ≡ L.parts }
+    requires some { 0 < L.parts }
+    requires registers { (key : ℕ) → Among key registers.old → IsTrue (is_there scripts.old key) }
+    requires held { (key : ℕ) → Among key held.old → IsTrue (is_there scripts.old key) }
+    requires entries { AreEntriesThere scripts.old weak.now }
+    requires whole { AreWhole scripts.old }
+    ensures { scripts.new ≡ marked_from registers.old held.old weak.now scripts.old }
+{
+    let mut steps = Steps::<L>::new(blank);
+    mark(scripts, weak, registers, held, &mut steps);
+}
 
 impl Heaps {
     /// Gives each script object its colour: black what a mark from the script registers comes to, gray what else one from
@@ -26,6 +55,12 @@ impl Heaps {
     {
         let mut registers = RegisterRoots::new(self.script_registers.as_slice());
         let mut held = HeldRoots::new(&self.counted);
-        mark(&mut self.scripts, &self.weak, &mut registers, &mut held);
+        mark_uncounted::<Brand>(
+            &mut self.scripts,
+            &self.weak,
+            &mut registers,
+            &mut held,
+            Blank::new(1),
+        );
     }
 }

@@ -1,7 +1,6 @@
 use Rattle.std.proofs.Common.{◌≡◌, ◌<◌, [], length, get_or, None, IsTrue, sym, subst}
 use Rattle.cc_counted.specs.Counts.{Counts, name_of, is_live, slots_of}
 use Rattle.cc_mutator.proofs.NativesRead.{slot-named}
-use Rattle.cc_heaps.specs.Changes.{held_name}
 use Rattle.cc_heaps.proofs.ContentNames.{IsHeldAs}
 use Rattle.cc_model.specs.Checks.{slot_at}
 use Rattle.cc_model.specs.Heap.{objects_of}

@@ -1,12 +1,11 @@
-use Rattle.std.proofs.Common.{◌≡◌, [], List, Option, Some, None, option_map, IsTrue, sym, ◌∙◌, ap, subst}
+use Rattle.std.proofs.Common.{◌≡◌, [], List, Some, None, option_map, sym, ◌∙◌, ap, subst}
 use Rattle.cc_names.specs.declared.number.NativeNo.{NativeNo}
 use Rattle.cc_names.specs.declared.register.Reg.TheVariants.{N, S}
 use Rattle.cc_model.specs.Checks.{reflector_of, value_at}
 use Rattle.cc_model.specs.Heap.{objects_of, register}
 use Rattle.cc_counted.specs.Counts.{Counts, reflector_at}
 use Rattle.cc_weakmaps.specs.Entries.{KeyedEntry, value_in}
-use Rattle.cc_script.specs.Objects.{is_there, name_at}
-use Rattle.cc_heaps.specs.Keyed.{counts_of}
+use Rattle.cc_script.specs.Objects.{name_at}
 use Rattle.cc_heaps.proofs.EntryNames.{value-read}
 use Rattle.cc_document.specs.Words.{spoken_of, data_of}
 use Rattle.cc_document.proofs.ClosureKeys.{wrapper-named, wrapper-there, data-unwrapped}

@@ -1,14 +1,10 @@
-use Rattle.std.proofs.Common.{◌≡◌, ◌≤◌, sym, ◌∙◌, ap, subst}
+use Rattle.std.proofs.Common.{◌≡◌, ◌≤◌, sym, ◌∙◌, subst}
 use Rattle.cc_model.specs.Graph as graph
 use Rattle.cc_model.specs.Heap as heap
 use Rattle.cc_heaps.specs.Keyed.{Keyed}
-use Rattle.cc_document.specs.declared.error.DocumentError.{DocumentError}
-use Rattle.cc_document.specs.Stops.{StopsClosing, StopsMakingClosure}
-use Rattle.cc_document.specs.Shown.{Shows, IsShown, HasClosure, parts, wrapping, without, making_closure, closing}
-use Rattle.cc_document.proofs.Closures.{closure-closed, unwrapped-reads, wrapping-reads}
+use Rattle.cc_document.specs.Shown.{Shows, IsShown, parts, wrapping, without, making_closure, closing}
+use Rattle.cc_document.proofs.Closures.{closure-closed, unwrapped-reads}
 use Rattle.cc_document.proofs.Idle.{unwrapped-left}
-use Rattle.cc_document.proofs.Outcomes.{stopped-alike}
-use Rattle.cc_document.proofs.Reached.{alike}
 use Rattle.cc_document.proofs.writing.close_over.Goals as goal
 
 pub empty-requires-clause-shown : goal.empty-requires-clause-shown

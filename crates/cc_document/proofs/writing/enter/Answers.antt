@@ -1,12 +1,10 @@
-use Rattle.std.proofs.Common.{◌≡◌, ◌⊎◌, sym, ap, subst, inl, inr, ⊎_elim}
-use Rattle.std.proofs.lemmas.Result.{err_from_is_err_and}
-use Rattle.cc_model.specs.Graph.{Graph, objects_of}
+use Rattle.std.proofs.Common.{◌≡◌, ◌⊎◌, sym, subst, ⊎_elim}
+use Rattle.cc_model.specs.Graph.{objects_of}
 use Rattle.cc_model.specs.Heap as heap
 use Rattle.cc_heaps.specs.Keyed.{Keyed}
-use Rattle.cc_document.specs.Changes.{IsAsBefore}
 use Rattle.cc_document.specs.Stops.{StopsWrapping, out_of_memory}
-use Rattle.cc_document.specs.Shown.{Shows, IsShown, ShowsAfter, HasClosure, parts, wrapping, without, entering}
-use Rattle.cc_document.proofs.Closures.{closure-wrapped, unwrapped-reads}
+use Rattle.cc_document.specs.Shown.{Shows, IsShown, parts, wrapping, without, entering}
+use Rattle.cc_document.proofs.Closures.{unwrapped-reads}
 use Rattle.cc_document.proofs.Idle.{unwrapped-left}
 use Rattle.cc_document.proofs.Outcomes.{either-of, stopped-by, err-of}
 use Rattle.cc_document.proofs.writing.enter.Goals as goal

@@ -3,10 +3,6 @@ use Rattle.cc_counted.specs.Counts.{held_of_native}
 use Rattle.cc_heaps.specs.Changes.{IsBlackHeld, held_name}
 use Rattle.cc_heaps.specs.Keyed.{the_number}
 use Rattle.cc_document.specs.Shown.{register_of}
-use Rattle.cc_document.proofs.Appending.{appended-reads}
-use Rattle.cc_document.proofs.Closures.{listened-reads}
-use Rattle.cc_document.proofs.ReadAlike.{data-alike}
-use Rattle.cc_document.proofs.Assigning.{made-reads}
 use Rattle.cc_document.proofs.Freed.{stored-tells, stored-none_came}
 use Rattle.cc_document.proofs.Reached.{slots-of_key}
 use Rattle.cc_document.proofs.Steps.{Shows-written, native-held, native-black}

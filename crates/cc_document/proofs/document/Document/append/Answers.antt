@@ -1,9 +1,9 @@
-use Rattle.std.proofs.Common.{◌≡◌, ◌<◌, true, Some, None, is_some, sym, ◌∙◌, ap, subst}
+use Rattle.std.proofs.Common.{◌≡◌, ◌<◌, true, Some, None, is_some, sym, ◌∙◌, subst}
 use Rattle.cc_names.specs.declared.register.Reg.TheVariants.{N}
-use Rattle.cc_model.specs.Graph.{Graph, objects_of, register}
+use Rattle.cc_model.specs.Graph.{objects_of, register}
 use Rattle.cc_document.specs.Words.{element, element_of, parent_of, child_of}
-use Rattle.cc_document.specs.Changes.{Between, IsAppended}
-use Rattle.cc_document.specs.Shown.{Shows, parts, written, appended}
+use Rattle.cc_document.specs.Changes.{IsAppended}
+use Rattle.cc_document.specs.Shown.{Shows, written, appended}
 use Rattle.cc_document.proofs.Appending.{appended-reads}
 use Rattle.cc_document.proofs.Calls.{read-some, read-none, between-from}
 use Rattle.cc_document.proofs.Freed.{tells-then}

@@ -1,10 +1,9 @@
-use Rattle.std.proofs.Common.{◌≡◌, ◌≤◌, true, Some, None, Err, is_some, refl, sym, ◌∙◌, ap, subst}
+use Rattle.std.proofs.Common.{◌≡◌, ◌≤◌, true, Some, is_some, sym, ◌∙◌, subst}
 use Rattle.cc_names.specs.declared.register.Reg.TheVariants.{N, S}
-use Rattle.cc_model.specs.Graph.{Graph, objects_of, register}
+use Rattle.cc_model.specs.Graph.{objects_of, register}
 use Rattle.cc_document.specs.Words.{element_of}
 use Rattle.cc_document.specs.Changes.{IsHeard}
-use Rattle.cc_document.specs.Stops.{StopsListening}
-use Rattle.cc_document.specs.Shown.{Shows, IsShown, parts, written, without, closed_over, listened}
+use Rattle.cc_document.specs.Shown.{Shows, written, closed_over, listened}
 use Rattle.cc_document.proofs.Closures.{closed_over-reads, listened-reads, room-wrapped}
 use Rattle.cc_document.proofs.Calls.{read-some, between-from}
 use Rattle.cc_document.proofs.Freed.{tells-later}

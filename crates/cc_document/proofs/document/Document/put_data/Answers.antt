@@ -1,11 +1,11 @@
-use Rattle.std.proofs.Common.{◌≡◌, ◌≤◌, true, Some, None, Err, is_some, refl, sym, ◌∙◌, ap, subst}
-use Rattle.cc_names.specs.declared.register.Reg.TheVariants.{N, S}
-use Rattle.cc_model.specs.Graph.{Graph, objects_of, register}
+use Rattle.std.proofs.Common.{◌≡◌, ◌≤◌, true, Err, is_some, refl, sym, ◌∙◌, ap, subst}
+use Rattle.cc_names.specs.declared.register.Reg.TheVariants.{N}
+use Rattle.cc_model.specs.Graph.{objects_of, register}
 use Rattle.cc_model.specs.Heap as heap
 use Rattle.cc_document.specs.Words.{element_of}
-use Rattle.cc_document.specs.Changes.{IsAsBefore, HasData}
+use Rattle.cc_document.specs.Changes.{HasData}
 use Rattle.cc_document.specs.Stops.{StopsListening}
-use Rattle.cc_document.specs.Shown.{Shows, IsShown, parts, without, closed_over, entered, with_data}
+use Rattle.cc_document.specs.Shown.{Shows, without, closed_over, entered, with_data}
 use Rattle.cc_document.proofs.Assigning.{as_before-then}
 use Rattle.cc_document.proofs.Closures.{closed_over-reads, closed_over-before, with_data-reads, room-wrapped, without-before}
 use Rattle.cc_document.proofs.Calls.{read-some, between-from, element-found, stops-entering}

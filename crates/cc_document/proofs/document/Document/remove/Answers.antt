@@ -1,9 +1,9 @@
-use Rattle.std.proofs.Common.{◌≡◌, ◌<◌, true, Err, Some, None, refl, is_some, sym, ◌∙◌, ap, subst}
+use Rattle.std.proofs.Common.{◌≡◌, ◌<◌, true, Err, None, refl, is_some, sym, ◌∙◌, ap, subst}
 use Rattle.cc_names.specs.declared.register.Reg.TheVariants.{N}
-use Rattle.cc_model.specs.Graph.{Graph, objects_of, register}
+use Rattle.cc_model.specs.Graph.{objects_of, register}
 use Rattle.cc_document.specs.Words.{element, element_of, child_of}
-use Rattle.cc_document.specs.Changes.{Between, IsRemoved}
-use Rattle.cc_document.specs.Shown.{Shows, parts, written, removed}
+use Rattle.cc_document.specs.Changes.{IsRemoved}
+use Rattle.cc_document.specs.Shown.{Shows, written, removed}
 use Rattle.cc_document.proofs.Appending.{removed-reads}
 use Rattle.cc_document.proofs.Calls.{read-some, between-from}
 use Rattle.cc_document.specs.declared.error.DocumentError.TheVariants.{NoChild}

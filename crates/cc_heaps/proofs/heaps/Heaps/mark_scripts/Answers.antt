@@ -21,29 +21,29 @@ new-held-requires c =
     record { keyed = keys-counted [] c.self.inside c.self.invariant o; few_slots = few_slots-counted c.self.inside o.sound.well_formed }
 
 -- the roots are the keys of registers, and those of natives
-registers : (c : goal.After-mark) → c.new-registers.result ≡ keys_in_registers c.self.inside.script_registers.items
+registers : (c : goal.After-mark_uncounted) → c.new-registers.result ≡ keys_in_registers c.self.inside.script_registers.items
 registers c = c.new-registers.ensures ∙ ap keys_in_registers c.as_slice.ensures.value
 
-pub mark-requires-clause-whole : goal.mark-requires-clause-whole
-mark-requires-clause-whole c = (rw (← c.self.view_is) at c.requires.order).whole
+pub mark_uncounted-requires-clause-whole : goal.mark_uncounted-requires-clause-whole
+mark_uncounted-requires-clause-whole c = (rw (← c.self.view_is) at c.requires.order).whole
 
-pub mark-requires-clause-entries : goal.mark-requires-clause-entries
-mark-requires-clause-entries c = (rw (← c.self.view_is) at c.requires.order).entries_there
+pub mark_uncounted-requires-clause-entries : goal.mark_uncounted-requires-clause-entries
+mark_uncounted-requires-clause-entries c = (rw (← c.self.view_is) at c.requires.order).entries_there
 
-pub mark-requires-clause-black : goal.mark-requires-clause-black
-mark-requires-clause-black c = λ k m.
+pub mark_uncounted-requires-clause-registers : goal.mark_uncounted-requires-clause-registers
+mark_uncounted-requires-clause-registers c = λ k m.
     register-there c.self.inside c.self.invariant k
     (subst (Among k) (c.new-registers.ensures ∙ ap keys_in_registers c.as_slice.ensures.value) m)
 
-pub mark-requires-clause-gray : goal.mark-requires-clause-gray
-mark-requires-clause-gray c =
+pub mark_uncounted-requires-clause-held : goal.mark_uncounted-requires-clause-held
+mark_uncounted-requires-clause-held c =
     let o = rw (← c.self.view_is) at c.requires.order in
     λ k m. native-there c.self.inside c.self.invariant (keys-counted [] c.self.inside c.self.invariant o) k (subst (Among k) c.new-held.ensures m)
 
 -- the objects are those of the marking
-objects : (c : goal.After-mark) → marked_objects c.self.inside ≡ c.mark.new.scripts
+objects : (c : goal.After-mark_uncounted) → marked_objects c.self.inside ≡ c.mark_uncounted.new.scripts
 objects c =
-    sym (c.mark.ensures.colours ∙ (λ i. marked_from (registers c i) (c.new-held.ensures i) c.self.inside.weak c.self.inside.scripts))
+    sym (c.mark_uncounted.ensures ∙ (λ i. marked_from (registers c i) (c.new-held.ensures i) c.self.inside.weak c.self.inside.scripts))
 
 pub returns-clause-heap : goal.returns-clause-heap
 returns-clause-heap c =
