@@ -115,21 +115,50 @@ def reflector_ring(size):
     return Shape(lines, ["gc", "collect", "gc"], 2 * natives, natives)
 
 
-def entry_chain(size):
-    """A chain of entries in one map: each value is the next key. A register holds the map and the first key, so all live.
-    A script collection marks them in the order in which they were set."""
+def entries(size):
+    """A chain of entries in one map: each value is the next key, and the entries are set in this order. s0 holds the
+    map and s1 the first key."""
     lines = ["weakmap s0", "script s1 0", "copy s3 s1"]
     for _ in range(1, size):
         lines += ["script s2 0", "wset s0 s3 s2", "copy s3 s2"]
-    return Shape(lines + ["drop s2", "drop s3"], ["gc"], 0, 0)
+    return lines + ["drop s2", "drop s3"]
+
+
+def entries_backwards(size):
+    """The same, set against the order: the last key's entry first."""
+    lines = ["weakmap s0", "script s1 0"]
+    for _ in range(1, size):
+        lines += ["script s2 0", "wset s0 s2 s1", "copy s1 s2"]
+    return lines + ["drop s2"]
+
+
+def entry_chain(size):
+    """A chain of entries. Registers hold the map and the first key, so all live. A script collection marks them in the
+    order in which they were set."""
+    return Shape(entries(size), ["gc"], 0, 0)
 
 
 def entry_chain_backwards(size):
-    """The same, set against the order: the last key's entry first."""
-    lines = ["weakmap s0", "script s3 0"]
-    for _ in range(1, size):
-        lines += ["script s2 0", "wset s0 s2 s3", "copy s3 s2"]
-    return Shape(lines + ["drop s2"], ["gc"], 0, 0)
+    """The same, set against the order."""
+    return Shape(entries_backwards(size), ["gc"], 0, 0)
+
+
+def scanned(build):
+    """A native that n0 holds, and that is a suspect, holds the map and the first key of these entries, so a script
+    collection has made them gray: each entry is a mapping of a collection, whose scan goes from the native along the
+    chain. All live. The time is that of the whole collection: begin, a unit for each object, and the scan."""
+    hold = ["native n0 2", "set n0 0 s0", "set n0 1 s1", "drop s0", "drop s1", "gc", "copy n1 n0", "drop n1"]
+    return Shape(build + hold, ["collect"], 0, 0)
+
+
+def mapping_chain(size):
+    """A chain of entries, scanned by a collection in the order in which they were set."""
+    return scanned(entries(size))
+
+
+def mapping_chain_backwards(size):
+    """The same, set against the order."""
+    return scanned(entries_backwards(size))
 
 
 def live_chain_in_slices(size):
@@ -151,6 +180,8 @@ SHAPES = [
     ("ring through reflectors, collected and swept", reflector_ring),
     ("chain of entries, marked", entry_chain),
     ("chain of entries, marked against its order", entry_chain_backwards),
+    ("chain of entries, scanned", mapping_chain),
+    ("chain of entries, scanned against its order", mapping_chain_backwards),
 ]
 
 

@@ -243,15 +243,21 @@ fn a_ring_through_a_hundred_thousand_reflectors_is_freed(rt: HostRuntime) -> Res
     play.runs(&rt, "a ring through reflectors")
 }
 
-/// A weak map in s0, and objects 2 to `length` + 2 in a chain of its entries: each is the key of the next, from object 2 on,
-/// which s1 holds. The entries are set in the order of the chain.
-fn entries_in_order(alloc: Global, length: u16) -> Result<Play, AllocError> {
+/// How many entries the chains have, and the one map whose keys live.
+const ENTRIES: u32 = 100000;
+
+/// How many maps have the one key.
+const MAPS: u32 = 10000;
+
+/// A weak map in s0, and as many entries of it and one object more, numbered from 2 on: each is the key of the next, from
+/// object 2 on, which s1 holds. The entries are set in the order of the chain.
+fn entries_in_order(alloc: Global) -> Result<Play, AllocError> {
     let mut play = Play::new(alloc);
     play.ask(
         "weakmap s0\nscript s1 0\ncopy s2 s1\n",
         "= @1\n= @2\n= @2\n",
     )?;
-    for k in 3..length as u32 + 3 {
+    for k in 3..ENTRIES + 3 {
         play.ask(
             "script s3 0\nwset s0 s2 s3\ncopy s2 s3\n",
             format!(in alloc; "= @{k}\n= ok\n= @{k}\n")?.as_str(),
@@ -262,10 +268,10 @@ fn entries_in_order(alloc: Global, length: u16) -> Result<Play, AllocError> {
 }
 
 /// The same from the last object on, which s1 holds, to object 2. The entries are set against the order of the chain.
-fn entries_against_the_order(alloc: Global, length: u16) -> Result<Play, AllocError> {
+fn entries_against_the_order(alloc: Global) -> Result<Play, AllocError> {
     let mut play = Play::new(alloc);
     play.ask("weakmap s0\nscript s1 0\n", "= @1\n= @2\n")?;
-    for k in 3..length as u32 + 3 {
+    for k in 3..ENTRIES + 3 {
         play.ask(
             "script s2 0\nwset s0 s2 s1\ncopy s1 s2\n",
             format!(in alloc; "= @{k}\n= ok\n= @{k}\n")?.as_str(),
@@ -275,31 +281,94 @@ fn entries_against_the_order(alloc: Global, length: u16) -> Result<Play, AllocEr
     Ok(play)
 }
 
-/// One `gc` keeps what the chain leads to; the one after its first key is dropped frees all but the map.
-fn kept_and_then_swept(alloc: Global, length: u16, play: &mut Play) -> Result<(), AllocError> {
-    play.ask("gc\ndrop s1\ngc\ncensus\n", "= ok\n= ok\n")?;
-    for k in 2..length as u32 + 3 {
-        play.ask("", format!(in alloc; "- free @{k}\n")?.as_str())?;
-    }
-    play.ask("", "= ok\n+ @1\n= census 1\n")
+/// One `gc` marks the chain black from the registers, and the next one gray from a native that holds the map and the first
+/// key, and itself; so each entry is a mapping of a collection. The first collection keeps the native, which a register
+/// holds, and so all that the chain leads to; the second one takes it, and the `gc` after that frees all.
+fn marked_and_scanned(alloc: Global, play: &mut Play) -> Result<(), AllocError> {
+    play.ask("gc\nnative n0 3\n", "= ok\n= #1\n")?;
+    play.ask(
+        "set n0 0 n0\nset n0 1 s0\nset n0 2 s1\ndrop s0\ndrop s1\n",
+        "= ok\n= ok\n= ok\n= ok\n= ok\n",
+    )?;
+    play.ask(
+        "copy n1 n0\ndrop n1\ngc\ncollect\ngc\n",
+        "= #1\n= ok\n= ok\n= ok\n= ok\n",
+    )?;
+    play.ask("drop n0\ncollect\n", "= ok\n- unlink #1\n- free #1\n= ok\n")?;
+    swept(alloc, ENTRIES + 2, play)
 }
 
 #[test]
-fn a_chain_of_a_thousand_entries_is_marked_by_one_gc(rt: HostRuntime) -> Result<(), Fail> {
-    let length = 1000u16;
-    let mut play = entries_in_order(rt.alloc(), length)?;
-    kept_and_then_swept(rt.alloc(), length, &mut play)?;
+fn a_chain_of_a_hundred_thousand_entries_is_marked_and_scanned(
+    rt: HostRuntime,
+) -> Result<(), Fail> {
+    let mut play = entries_in_order(rt.alloc())?;
+    marked_and_scanned(rt.alloc(), &mut play)?;
     play.runs(&rt, "a chain of entries")
 }
 
 #[test]
-fn a_chain_of_a_thousand_entries_against_the_order_is_marked_by_one_gc(
+fn a_chain_of_a_hundred_thousand_entries_is_marked_and_scanned_against_their_order(
     rt: HostRuntime,
 ) -> Result<(), Fail> {
-    let length = 1000u16;
-    let mut play = entries_against_the_order(rt.alloc(), length)?;
-    kept_and_then_swept(rt.alloc(), length, &mut play)?;
-    play.runs(&rt, "a chain of entries against the order")
+    let mut play = entries_against_the_order(rt.alloc())?;
+    marked_and_scanned(rt.alloc(), &mut play)?;
+    play.runs(&rt, "a chain of entries against their order")
+}
+
+/// Each key holds the one before it, and s1 holds the last: so one `gc` keeps all values. The one after s1 is dropped frees
+/// all but the map.
+#[test]
+fn a_map_with_a_hundred_thousand_living_keys_is_marked_by_one_gc(
+    rt: HostRuntime,
+) -> Result<(), Fail> {
+    let mut play = Play::new(rt.alloc());
+    play.ask("weakmap s0\nscript s1 1\n", "= @1\n= @2\n")?;
+    for i in 0..ENTRIES {
+        let value = 2 * i + 3;
+        let key = value + 1;
+        play.ask(
+            "script s2 0\nwset s0 s1 s2\nscript s2 1\nput s2 0 s1\ncopy s1 s2\n",
+            format!(in rt.alloc(); "= @{value}\n= ok\n= @{key}\n= ok\n= @{key}\n")?.as_str(),
+        )?;
+    }
+    play.ask("drop s2\ngc\ndrop s1\ngc\n", "= ok\n= ok\n= ok\n")?;
+    for k in 2..2 * ENTRIES + 3 {
+        play.ask("", format!(in rt.alloc(); "- free @{k}\n")?.as_str())?;
+    }
+    play.ask("census\n", "= ok\n+ @1\n= census 1\n")?;
+    play.runs(&rt, "a map with many keys")
+}
+
+/// Each map is held by an object that holds the one before it, and s1 holds the last of these. One `gc` keeps all values;
+/// the one after the key is dropped frees them with it.
+#[test]
+fn a_key_of_ten_thousand_maps_is_marked_by_one_gc(rt: HostRuntime) -> Result<(), Fail> {
+    let mut play = Play::new(rt.alloc());
+    play.ask("script s0 0\nscript s1 2\n", "= @1\n= @2\n")?;
+    for i in 0..MAPS {
+        let the_map = 3 * i + 3;
+        let value = the_map + 1;
+        let holder = the_map + 2;
+        play.ask(
+            "weakmap s2\nput s1 1 s2\nscript s3 0\nwset s2 s0 s3\n",
+            format!(in rt.alloc(); "= @{the_map}\n= ok\n= @{value}\n= ok\n")?.as_str(),
+        )?;
+        play.ask(
+            "script s3 2\nput s3 0 s1\ncopy s1 s3\n",
+            format!(in rt.alloc(); "= @{holder}\n= ok\n= @{holder}\n")?.as_str(),
+        )?;
+    }
+    play.ask(
+        "drop s2\ndrop s3\ngc\ndrop s0\ngc\n",
+        "= ok\n= ok\n= ok\n= ok\n- free @1\n",
+    )?;
+    for i in 0..MAPS {
+        let value = 3 * i + 4;
+        play.ask("", format!(in rt.alloc(); "- free @{value}\n")?.as_str())?;
+    }
+    play.ask("", "= ok\n")?;
+    play.runs(&rt, "a key of many maps")
 }
 
 /// A hundred natives that each hold themselves and another one. A collection has begun when registers let go of the

@@ -1,5 +1,5 @@
 use Rattle.std.proofs.Common.{[]}
-use Rattle.cc_heaps.proofs.tests.natives.take_and_give_back.Goals as goal
+use Rattle.cc_heaps.proofs.tests.take_and_give_back.Goals as goal
 
 pub give_back-requires-clause-owned : goal.give_back-requires-clause-owned
 give_back-requires-clause-owned c = ([], c.select_next.ensures.order [] c.requires)
