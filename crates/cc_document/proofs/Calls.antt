@@ -1,5 +1,5 @@
 -- WHAT A CALL OF THE DOCUMENT FINDS AND LEAVES.
-use Rattle.std.proofs.Common.{◌≡◌, ℕ, Bool, true, false, Option, Some, None, is_some, not, option_map, refl, sym, ◌∙◌, ap, inl}
+use Rattle.std.proofs.Common.{◌≡◌, ℕ, ◌⊎◌, Bool, true, false, Option, Some, None, is_some, not, option_map, refl, sym, ◌∙◌, ap, inl, inr}
 use Rattle.std.proofs.lemmas.Bool.{false≢true, true≢false}
 use Rattle.cc_names.specs.declared.name.Name.{Name}
 use Rattle.cc_names.specs.declared.name.Name.TheVariants as name
@@ -52,6 +52,11 @@ between-from R (Some (name.Native k)) None s t f = absurd (false≢true t)
 between-from R (Some (name.Native k)) (Some (name.Script j)) s t f = absurd (false≢true t)
 between-from R (Some (name.Native k)) (Some (name.Reflector j)) s t f = absurd (false≢true t)
 between-from R (Some (name.Native k)) (Some (name.Native j)) s t f = f k.0 j.0 refl refl
+
+-- where two are read to be there, neither lacks
+pub both-there : (x y : Option ℕ) → is_some x ≡ true → is_some y ≡ true → ¬ ((x ≡ None) ⊎ (y ≡ None))
+both-there x y s t (inl n) = true≢false (sym s ∙ ap is_some n)
+both-there x y s t (inr n) = true≢false (sym t ∙ ap is_some n)
 
 -- an element that is there has a number
 pub element-found : (x : Option Name) → is_some (element_of x) ≡ true → (a : ℕ) × (x ≡ element a)

@@ -5,16 +5,16 @@ ghost use Rattle.cc_model.specs.Graph.{Graph, objects_of};
 ghost use Rattle.cc_model.specs.Run.{census_names};
 ghost use Rattle.cc_model.specs.Telling.{Tells};
 ghost use Rattle.cc_gc.specs.Sparing.{KeepsWhatIsReached};
-ghost use Rattle.cc_collector.specs.Settled.{HasWhatIsReached};
+ghost use Rattle.cc_collector.specs.Settled.{HasWhatIsReached, IsSettled, IsUnsettled};
 ghost use Rattle.cc_collector.specs.Collected.{IsSliced, IsSwept, TellsWhatLeaves, progress_of};
 ghost use Rattle.cc_collector.specs.Kept.{RunsIn, machine_of};
 ghost use Rattle.cc_heaps.specs.Standing.{StillStands};
 ghost use Rattle.cc_laws_run.specs.Doomed.{IsSuspectedNow};
 ghost use Rattle.cc_document.specs.declared.error.DocumentError.{DocumentError};
-ghost use Rattle.cc_document.specs.declared.error.DocumentError.TheVariants.{Full};
+ghost use Rattle.cc_document.specs.declared.error.DocumentError.TheVariants.{Empty, Full};
 ghost use Rattle.cc_document.specs.Words.{places, in_variable, element, elements, element_of, parent_of, child_of, listener_of, data_of};
 ghost use Rattle.cc_document.specs.Changes.{Between, IsAsBefore, IsAssigned, IsAppended, IsRemoved, IsHeard, HasData};
-ghost use Rattle.cc_document.specs.Stops.{StopsBeginning, StopsMaking, StopsAppending, StopsRemoving, StopsListening};
+ghost use Rattle.cc_document.specs.Stops.{IsScriptFull, LacksElement, StopsBeginning, StopsMaking, StopsAppending, StopsRemoving, StopsListening};
 ghost use Rattle.cc_document.specs.Shown.{Shows, ShowsChanged, StillShows, IsIdle, empty_document};
 ghost use Rattle.cc_document.specs.Told.{TellsWhatIsFreed};
 
@@ -186,8 +186,8 @@ impl Document {
     /// The element in one variable has a new listener from then on, which closes over the element in another: it holds the
     /// reflector of that.
     ///
-    /// `Empty` where a variable holds nothing, `Full` where as many listeners and data as the limit were ever made,
-    /// `NoMemory` at any other time. The document is as it was then.
+    /// `Empty` exactly where a variable holds nothing; `Full` only where as many listeners and data as the limit were ever
+    /// made, and there is no Ok then; `NoMemory` where memory was wanted. The document is as it was then.
     pub fn listen<N: Notices>(
         &mut self,
         to: Variable,
@@ -197,6 +197,8 @@ impl Document {
         ensures listens { OnOk result (ShowsChanged self.old self.new (λ o p.
             Between (IsHeard o p) (element_of (in_variable o to.0)) (element_of (in_variable o about.0)))) }
         ensures stops { (e : DocumentError) → result ≡ Err e → (g : Graph) → Shows self.old g → StopsListening (objects_of g) to.0 about.0 e }
+        ensures empty { (g : Graph) → Shows self.old g → LacksElement (objects_of g) to.0 about.0 → result ≡ Err Empty }
+        ensures room { OnOk result ((g : Graph) → Shows self.old g → ¬ (IsScriptFull (objects_of g))) }
         ensures same { OnErr result (ShowsChanged self.old self.new IsAsBefore) }
         ensures tells { TellsWhatIsFreed self.new.heaps.heap (N.telling out.old) (N.telling out.new) }
     {
@@ -218,6 +220,8 @@ impl Document {
         ensures has { OnOk result (ShowsChanged self.old self.new (λ o p.
             Between (HasData o p) (element_of (in_variable o of.0)) (element_of (in_variable o about.0)))) }
         ensures stops { (e : DocumentError) → result ≡ Err e → (g : Graph) → Shows self.old g → StopsListening (objects_of g) of.0 about.0 e }
+        ensures empty { (g : Graph) → Shows self.old g → LacksElement (objects_of g) of.0 about.0 → result ≡ Err Empty }
+        ensures room { OnOk result ((g : Graph) → Shows self.old g → ¬ (IsScriptFull (objects_of g))) }
         ensures same { OnErr result (ShowsChanged self.old self.new IsAsBefore) }
     {
         if self.element(of).is_none() || self.element(about).is_none() {
@@ -302,6 +306,8 @@ impl Document {
         ensures same { StillShows self.old self.new }
         ensures exact { OnOk result (HasWhatIsReached self.new.heaps.heap) }
         ensures idle { IsIdle self.new.heaps }
+        ensures done { OnOk result (IsSettled (machine_of self.old.heaps.heap self.old.running) (machine_of self.new.heaps.heap self.new.running) (N.telling out.old) (N.telling out.new)) }
+        ensures refused { OnErr result (IsUnsettled (machine_of self.old.heaps.heap self.old.running) (machine_of self.new.heaps.heap self.new.running) (N.telling out.old) (N.telling out.new)) }
         ensures keeps { KeepsWhatIsReached self.old.heaps.heap self.new.heaps.heap }
         ensures tells { TellsWhatLeaves self.old.heaps.heap self.new.heaps.heap (N.telling out.old) (N.telling out.new) }
     {

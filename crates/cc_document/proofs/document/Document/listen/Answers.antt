@@ -5,7 +5,7 @@ use Rattle.cc_document.specs.Words.{element_of}
 use Rattle.cc_document.specs.Changes.{IsHeard}
 use Rattle.cc_document.specs.Shown.{Shows, written, closed_over, listened}
 use Rattle.cc_document.proofs.Closures.{closed_over-reads, listened-reads, room-wrapped}
-use Rattle.cc_document.proofs.Calls.{read-some, between-from}
+use Rattle.cc_document.proofs.Calls.{read-some, between-from, both-there}
 use Rattle.cc_document.proofs.Freed.{tells-later}
 use Rattle.cc_document.proofs.Idle.{idle-after, listened-left}
 use Rattle.cc_document.proofs.Outcomes.{err-of}
@@ -68,3 +68,25 @@ returns-clause-tells g c =
     let t = c.empty.ensures.shows (written c.args.to.0 1 (Some (S 1)) h) (c.hand_over.ensures.shows h (c.in_ok-close_over.ensures.closed s.0 s.1)) in
     tells-later c.hand_over.new.heaps.heap c.empty.new.heaps.heap t.runs.order.sound.well_formed c.empty.ensures.none_came
     (g.N.Notices.telling c.args.out.now) (g.N.Notices.telling c.hand_over.new.out) c.hand_over.ensures.tells
+
+pub returns-in_err-close_over-clause-empty : goal.returns-in_err-close_over-clause-empty
+returns-in_err-close_over-clause-empty g c = λ k s lacks.
+    let x = element_of (register k (N c.args.to.0)) in
+    let y = element_of (register k (N c.args.about.0)) in
+    let here = read-some c.element.result x c.is_none.result (c.element.ensures k s) c.is_none.ensures c.if-is_none.false in
+    let there = read-some c.element-else-is_none.result y c.is_none-else-is_none.result (c.element-else-is_none.ensures k s) c.is_none-else-is_none.ensures c.if-is_none-2.false in
+    absurd (both-there x y here there lacks)
+
+pub returns-clause-empty : goal.returns-clause-empty
+returns-clause-empty g c = λ k s lacks.
+    let x = element_of (register k (N c.args.to.0)) in
+    let y = element_of (register k (N c.args.about.0)) in
+    let here = read-some c.element.result x c.is_none.result (c.element.ensures k s) c.is_none.ensures c.if-is_none.false in
+    let there = read-some c.element-else-is_none.result y c.is_none-else-is_none.result (c.element-else-is_none.ensures k s) c.is_none-else-is_none.ensures c.if-is_none-2.false in
+    absurd (both-there x y here there lacks)
+
+pub returns-clause-room : goal.returns-clause-room
+returns-clause-room g c = λ k s full.
+    let p = c.self.inside in
+    let a = alike p.heaps p.collector k (subst (λ p. Shows p k) (sym c.self.view_is) s) in
+    c.in_ok-close_over.ensures.room (rw (a.limits, a.scripts_made) full)

@@ -8,7 +8,7 @@ use Rattle.cc_document.specs.Stops.{StopsListening}
 use Rattle.cc_document.specs.Shown.{Shows, without, closed_over, entered, with_data}
 use Rattle.cc_document.proofs.Assigning.{as_before-then}
 use Rattle.cc_document.proofs.Closures.{closed_over-reads, closed_over-before, with_data-reads, room-wrapped, without-before}
-use Rattle.cc_document.proofs.Calls.{read-some, between-from, element-found, stops-entering}
+use Rattle.cc_document.proofs.Calls.{read-some, between-from, both-there, element-found, stops-entering}
 use Rattle.cc_document.proofs.Idle.{idle-after, with_data-left, left-closed}
 use Rattle.cc_document.proofs.Outcomes.{err-of, stopped-alike}
 use Rattle.cc_document.proofs.Reached.{alike}
@@ -113,3 +113,33 @@ invariant_of-self-2 c =
     let k = with_data c.args.of.0 c.args.about.0 s.0 in
     let t = c.empty-2.ensures.shows (entered c.args.of.0 h) (c.in_default.ensures.entered h one) in
     ((k, t), idle-after c.self.inside.heaps c.empty-2.new.heaps b b s.0 k s.1 t (with_data-left s.0 c.args.of.0 c.args.about.0 s.1.well.registers.1 one.well.registers.1) c.self.invariant.1)
+
+pub returns-in_err-close_over-clause-empty : goal.returns-in_err-close_over-clause-empty
+returns-in_err-close_over-clause-empty c = λ k s lacks.
+    let x = element_of (register k (N c.args.of.0)) in
+    let y = element_of (register k (N c.args.about.0)) in
+    let here = read-some c.element.result x c.is_none.result (c.element.ensures k s) c.is_none.ensures c.if-is_none.false in
+    let there = read-some c.element-else-is_none.result y c.is_none-else-is_none.result (c.element-else-is_none.ensures k s) c.is_none-else-is_none.ensures c.if-is_none-2.false in
+    absurd (both-there x y here there lacks)
+
+pub returns-in-Err-clause-empty : goal.returns-in-Err-clause-empty
+returns-in-Err-clause-empty c = λ k s lacks.
+    let x = element_of (register k (N c.args.of.0)) in
+    let y = element_of (register k (N c.args.about.0)) in
+    let here = read-some c.element.result x c.is_none.result (c.element.ensures k s) c.is_none.ensures c.if-is_none.false in
+    let there = read-some c.element-else-is_none.result y c.is_none-else-is_none.result (c.element-else-is_none.ensures k s) c.is_none-else-is_none.ensures c.if-is_none-2.false in
+    absurd (both-there x y here there lacks)
+
+pub returns-clause-empty : goal.returns-clause-empty
+returns-clause-empty c = λ k s lacks.
+    let x = element_of (register k (N c.args.of.0)) in
+    let y = element_of (register k (N c.args.about.0)) in
+    let here = read-some c.element.result x c.is_none.result (c.element.ensures k s) c.is_none.ensures c.if-is_none.false in
+    let there = read-some c.element-else-is_none.result y c.is_none-else-is_none.result (c.element-else-is_none.ensures k s) c.is_none-else-is_none.ensures c.if-is_none-2.false in
+    absurd (both-there x y here there lacks)
+
+pub returns-clause-room : goal.returns-clause-room
+returns-clause-room c = λ k s full.
+    let p = c.self.inside in
+    let a = alike p.heaps p.collector k (subst (λ p. Shows p k) (sym c.self.view_is) s) in
+    c.in_ok-close_over.ensures.room (rw (a.limits, a.scripts_made) full)
