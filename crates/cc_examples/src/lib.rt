@@ -1,8 +1,8 @@
 //! Tests across crates: what `cc_replay` writes for whole scripts.
 //!
 //! The worked examples stand in one table, `examples/worked.txt`, with the answers of the rules and not of the program;
-//! `worked.rt` is made of it. Beside them stand the words of the command line, summaries of made scripts, the faults of
-//! reading and writing, and shapes that are deep or long.
+//! `worked.rt` is made of it. Beside them stand the words of the command line, summaries of made scripts, script
+//! collections, the faults of reading and writing, and shapes that are deep or long.
 #![tactic(auto)]
 
 #[cfg(test)]
@@ -11,6 +11,8 @@ mod faults;
 mod library;
 #[cfg(test)]
 mod pieces;
+#[cfg(test)]
+mod rounds;
 #[cfg(test)]
 mod script;
 #[cfg(test)]
