@@ -1,5 +1,5 @@
 -- What reads of the counted heap and of the graph say.
-use Rattle.std.proofs.Common.{◌≡◌, ◌≢◌, ℕ, zero, suc, List, [], ◌∷◌, map, Option, Some, None, IsSome, option_map, refl, sym, ◌∙◌, ap, subst, inl, inr, slice_get}
+use Rattle.std.proofs.Common.{◌≡◌, ◌≢◌, ℕ, List, map, Option, Some, None, IsSome, option_map, refl, sym, ◌∙◌, ap, subst, slice_get}
 use Rattle.std.proofs.lemmas.Option.{get_or_from_slice_get, slice_get-map}
 use Rattle.cc_lists.specs.Members.{Among}
 use Rattle.cc_lists.proofs.Places.{place-among}

@@ -15,7 +15,7 @@ use Rattle.cc_names.specs.declared.number.SKey.{SKey}
 use Rattle.cc_names.specs.contracts.kind.Colour.{the_type}
 use Rattle.cc_names.specs.declared.kind.Colour.{Colour}
 use Rattle.cc_names.specs.declared.kind.Colour.TheVariants.{White, Gray, Black}
-use Rattle.cc_names.specs.Names.{native, object, is_native, is_script, same_name}
+use Rattle.cc_names.specs.Names.{native, object, is_native, same_name}
 use Rattle.cc_names.proofs.NameTests.{same_name-refl}
 use Rattle.cc_model.specs.Checks.{slots_or_none}
 use Rattle.cc_model.specs.Heap.{Heap, HeapNative, HeapScript, native_at, script_at, is_gray_colour, is_gray_in}

@@ -1,7 +1,6 @@
 -- WHAT SLICES AND COLLECTIONS LEAVE that were refused memory.
 use Rattle.std.proofs.Common.{ℕ, inl, inr, subst, ⊎_elim}
 use Rattle.cc_model.specs.Telling.{Telling}
-use Rattle.cc_model.specs.Heap.{Heap}
 use Rattle.cc_model.specs.End.{refused}
 use Rattle.cc_model.specs.Collecting.{Machine}
 use Rattle.cc_laws_run.specs.Memory.{with_memory}

@@ -1,5 +1,5 @@
 -- A CLOSURE MADE, which becomes a listener or data, in the host's words.
-use Rattle.std.proofs.Common.{◌≡◌, ◌≢◌, ℕ, ◌+◌, ◌<◌, ◌≤◌, ◌⊎◌, false, true, length, get_or, List, [], ◌∷◌, Option, Some, None, is_some, option_map, IsTrue, refl, sym, ◌∙◌, ap, subst, inl, inr, arith}
+use Rattle.std.proofs.Common.{◌≡◌, ◌≢◌, ℕ, ◌+◌, ◌≤◌, true, length, get_or, List, [], ◌∷◌, Option, Some, None, is_some, option_map, IsTrue, refl, sym, ◌∙◌, ap, subst, inl, inr, arith}
 use Rattle.std.proofs.lemmas.Bool.{and_parts, false≢true}
 use Rattle.std.proofs.lemmas.List.{length-set, get_or-set_same, get_or-set_other}
 use Rattle.cc_names.specs.declared.name.Name.{Name}

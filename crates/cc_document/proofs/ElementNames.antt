@@ -1,5 +1,5 @@
 -- ELEMENTS AND SCRIPT OBJECTS BY THEIR KEYS, in the host's words.
-use Rattle.std.proofs.Common.{◌≡◌, ℕ, ◌==◌, [], Option, Some, None, option_map, refl, sym, ◌∙◌, ap}
+use Rattle.std.proofs.Common.{◌≡◌, ℕ, ◌==◌, [], Option, Some, None, option_map, refl, sym, ap}
 use Rattle.cc_lists.proofs.Filtering.{find-among}
 use Rattle.cc_names.specs.declared.name.Name.{Name}
 use Rattle.cc_names.specs.declared.name.Name.TheVariants as name

@@ -7,14 +7,13 @@ use Rattle.cc_names.specs.declared.register.Reg.TheVariants.{N}
 use Rattle.cc_names.specs.Names.{native}
 use Rattle.cc_model.specs.declared.item.Event.{Event}
 use Rattle.cc_model.specs.declared.item.Event.TheVariants.{Freed}
-use Rattle.cc_model.specs.declared.item.Item.TheVariants.{Event as of_event}
 use Rattle.cc_model.specs.Telling.{Telling, TellsEvents}
 use Rattle.cc_names.specs.declared.name.Name.TheVariants as name
 use Rattle.cc_model.specs.Heap.{Heap, HeapNative, register, set_register, set_slot, with_native_slot, native_at}
 use Rattle.cc_model.specs.Cascade.{take_up, let_go}
 use Rattle.cc_model.specs.End.{slots_now}
 use Rattle.cc_model.specs.Exposure.{exposed}
-use Rattle.std.specs.Prelude.{slice_index_or, ◌+◌, ◌==◌}
+use Rattle.std.specs.Prelude.{slice_index_or, ◌+◌}
 use Rattle.cc_model.specs.Effects.{hold_native, make_native, hold_script, with_native}
 use Rattle.cc_model.specs.WellFormed.{IsWellFormed, native_names, script_names, names_there}
 use Rattle.cc_model.proofs.Tellings.{Tells-nil, TellsEvents-trans}

@@ -1,11 +1,10 @@
 -- STEPS ON SCRIPT REGISTERS ARE SHOWN: a reflector is put there, a closure is made, written, and let go.
-use Rattle.std.proofs.Common.{◌≡◌, ◌≢◌, ℕ, ◌+◌, ◌<◌, ◌≤◌, [], ◌∷◌, Bool, true, false, length, nat_le, Option, Some, None, IfSome, IsTrue, refl, ◌∙◌, ap, arith}
+use Rattle.std.proofs.Common.{◌≡◌, ℕ, ◌≤◌, [], Bool, true, false, length, nat_le, Option, Some, None, IfSome, IsTrue, refl, ◌∙◌, ap}
 use Rattle.std.specs.Option.{option_and_then}
 use Rattle.std.proofs.lemmas.Bool.{leb-true}
 use Rattle.cc_names.specs.declared.number.SKey.{SKey}
 use Rattle.cc_names.specs.declared.kind.Colour.TheVariants.{Black}
 use Rattle.cc_names.specs.declared.register.Reg.TheVariants.{S}
-use Rattle.cc_names.specs.Names.{reflector}
 use Rattle.cc_model.specs.declared.command.Command.TheVariants.{Native, Script, WeakMap}
 use Rattle.cc_model.specs.Checks.{Objects, slots_or_none, slots_at, refusal_of}
 use Rattle.cc_model.specs.Graph as graph

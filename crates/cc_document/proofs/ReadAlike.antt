@@ -17,7 +17,6 @@ use Rattle.cc_model.specs.Reached.{Reached, held, edge, value, kept_reflector}
 use Rattle.cc_model.specs.WellMade.{was_made}
 use Rattle.cc_model.specs.StandsFor.{IsNoKey}
 use Rattle.cc_model.specs.Heap as heap
-use Rattle.cc_model.specs.Heap.{Heap}
 use Rattle.cc_laws_heap.proofs.EntryLists.{found-among}
 use Rattle.cc_laws_heap.proofs.Holds.{OfSome}
 use Rattle.cc_laws_heap.proofs.GraphParts.{is_some-found}

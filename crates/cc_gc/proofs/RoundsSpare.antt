@@ -2,7 +2,7 @@
 use Rattle.std.proofs.Common.{◌≡◌, suc, true, List, [], ◌++◌, length, refl, sym, ◌∙◌, ap, subst, ⊎_elim}
 use Rattle.std.specs.List.{filter, flat_map}
 use Rattle.cc_lists.specs.Members.{Among}
-use Rattle.cc_lists.proofs.Members.{Among-map, Among-map_cases, Among-left, Among-right, Among-append, Among-filter, Among-filtered, Among-passes, Among-flat_map_cases}
+use Rattle.cc_lists.proofs.Members.{Among-map, Among-map_cases, Among-left, Among-right, Among-append, Among-filter, Among-filtered, Among-flat_map_cases}
 use Rattle.cc_names.specs.declared.name.Name.{Name}
 use Rattle.cc_names.specs.Names.{native, is_script}
 use Rattle.cc_model.specs.declared.item.Event.{Event}
@@ -17,17 +17,16 @@ use Rattle.cc_model.specs.Sweep.{unmarked, sweep, collect_scripts}
 use Rattle.cc_model.specs.StandsFor.{shape_at, shape_of_held_script}
 use Rattle.cc_laws_heap.specs.Sound.{IsSound}
 use Rattle.cc_laws_heap.specs.Rounds.{is_not_among, FreesNames}
-use Rattle.cc_laws_heap.proofs.NameLists.{is_not_among-from, is_not_among-apart}
+use Rattle.cc_laws_heap.proofs.NameLists.{is_not_among-from}
 use Rattle.cc_laws_heap.proofs.EntryLists.{is_entry_of-parts}
 use Rattle.cc_laws_heap.proofs.ScriptNames.{entry-named}
 use Rattle.cc_laws_heap.proofs.FreedNames.{FreesNames-left}
-use Rattle.cc_laws_heap.proofs.MarkedWellFormed.{is_spared, is_spared_entry}
+use Rattle.cc_laws_heap.proofs.MarkedWellFormed.{is_spared_entry}
 use Rattle.cc_laws_heap.proofs.MarkingKeeps.{round-sound, round-frees}
 use Rattle.cc_laws_heap.proofs.RoundParts.{value_in-filter, round-natives, round-scripts, round-entries}
 use Rattle.cc_laws_heap.proofs.RoundsEnd.{next_round, rounds-keep}
 use Rattle.cc_laws_heap.proofs.RoundsStand.{spared-from}
 use Rattle.cc_laws_heap.proofs.CollectedColours.{collect_scripts-sound, collect_scripts-frees}
-use Rattle.cc_laws_heap.proofs.Swept.{scripts-sweep}
 use Rattle.cc_laws_snapshot.proofs.ReachedStays.{reached-there, reached-kept, native_edges-alike, native-edge, script-edge}
 use Rattle.cc_laws_snapshot.proofs.SoundView.{script-place}
 use Rattle.cc_laws_run.proofs.QuietRounds.{round-keeps, left-not_dead}

@@ -1,23 +1,20 @@
 -- WHAT IS REACHED STAYS AS IT WAS, where heaps hold nothing more and what is reached keeps what it holds.
-use Rattle.std.proofs.Common.{◌≡◌, true, List, [], ◌++◌, Some, refl, sym, ◌∙◌, ap, subst, ⊎_elim}
-use Rattle.std.proofs.lemmas.Bool.{false≢true}
+use Rattle.std.proofs.Common.{◌≡◌, List, [], ◌++◌, Some, refl, sym, ◌∙◌, ap, subst, ⊎_elim}
 use Rattle.cc_lists.specs.Members.{Among}
 use Rattle.cc_lists.proofs.Members.{Among-map, Among-map_cases, Among-left, Among-right, Among-append}
 use Rattle.cc_lists.proofs.Least.{derive-root, derive-along, derive-jointly, derived-within}
 use Rattle.cc_names.specs.declared.name.Name.{Name}
-use Rattle.cc_names.specs.Names.{native, is_script}
+use Rattle.cc_names.specs.Names.{native}
 use Rattle.cc_model.specs.declared.item.Event.{Event}
 use Rattle.cc_model.specs.declared.item.Event.TheVariants.{Unlinked, Freed}
 use Rattle.cc_model.specs.Entries.{Entry, joint, joints}
 use Rattle.cc_model.specs.Heap.{Heap, HeapNative, HeapScript}
 use Rattle.cc_model.specs.View.{view, ReachedIn}
-use Rattle.cc_model.specs.WellFormed.{IsWellFormed, native_names, script_names, names_there}
+use Rattle.cc_model.specs.WellFormed.{IsWellFormed, names_there}
 use Rattle.cc_model.specs.StandsFor.{Shape, native_shape, shape_at, shape_of_held_script}
 use Rattle.cc_laws_heap.specs.Freeing.{Uncounted}
 use Rattle.cc_laws_heap.proofs.Leaving.{IsOf}
-use Rattle.cc_laws_heap.proofs.Coloured.{one-script}
-use Rattle.cc_laws_heap.proofs.ScriptNames.{script-named}
-use Rattle.cc_laws_heap.proofs.HeapShapes.{shape_at-native, shape_at-found, there-shape_at, shape_at-script}
+use Rattle.cc_laws_heap.proofs.HeapShapes.{shape_at-native, shape_at-script}
 use Rattle.cc_laws_snapshot.proofs.ReachedStays.{reached-there}
 use Rattle.cc_gc.specs.Sparing.{KeepsWhatIsReached, IsUnreached, SparesWhatIsReached}
 

@@ -1,6 +1,6 @@
 -- WHAT FOLLOWS FROM AN ENTRY SET OR TAKEN OUT: the heaps stand for the graph in which it is, the colour invariant stays, every
 -- snapshot that was fresh is fresh where neither key nor value is gray, and no unreached native is forgotten.
-use Rattle.std.proofs.Common.{◌≡◌, ℕ, Bool, not, List, [], Option, Some, None, refl, sym, ◌∙◌, ap, subst, inl, inr, ⊎_elim, arith, option_map}
+use Rattle.std.proofs.Common.{◌≡◌, ℕ, not, List, [], Option, Some, None, refl, sym, ◌∙◌, ap, subst, inl, ⊎_elim, arith, option_map}
 use Rattle.std.specs.Prelude.{IfSome, IsTrue}
 use Rattle.std.specs.Option.{option_and_then}
 use Rattle.cc_lists.specs.Members.{Among}
@@ -33,7 +33,6 @@ use Rattle.cc_laws_heap.proofs.Holds.{OfSome}
 use Rattle.cc_laws_heap.proofs.NativesKeepScripts.{SameScripts, SameScripts-coloured}
 use Rattle.cc_laws_heap.proofs.ReachedAlike.{in-reached}
 use Rattle.cc_laws_heap.proofs.ReachedReads.{script-behind}
-use Rattle.cc_laws_heap.proofs.ScriptsKept.{native-no_script}
 use Rattle.cc_laws_heap.proofs.Standing.{follows-stands}
 use Rattle.cc_laws_heap.proofs.StepsAlike.{Follows-set_entry}
 use Rattle.cc_laws_snapshot.proofs.GentleBut.{AreGentle}

@@ -2,7 +2,6 @@
 use Rattle.std.proofs.Common.{◌≡◌, ℕ, Bool, true, false, List, [], Option, Some, None, Result, Ok, Err, OnOk, OnErr, is_some, option_map, refl, sym, ◌∙◌, ap, subst}
 use Rattle.std.specs.Prelude.{IsTrue, IsSome}
 use Rattle.std.specs.Option.{option_and_then}
-use Rattle.std.proofs.lemmas.Bool.{false≢true, true≢false}
 use Rattle.cc_lists.specs.Members.{Among}
 use Rattle.cc_lists.proofs.Members.{Among-map}
 use Rattle.cc_names.specs.declared.name.Name.{Name}
@@ -12,7 +11,7 @@ use Rattle.cc_names.specs.declared.kind.Kind.TheVariants.{Map}
 use Rattle.cc_names.specs.Names.{reflector}
 use Rattle.cc_model.specs.Entries as model
 use Rattle.cc_model.specs.Entries.{Entry}
-use Rattle.cc_model.specs.Heap.{Heap, HeapScript, has_reflector, preserve, set_preserved}
+use Rattle.cc_model.specs.Heap.{Heap, HeapScript, has_reflector, preserve}
 use Rattle.cc_model.specs.Effects.{set_entry}
 use Rattle.cc_model.specs.WellFormed.{HasMembers, script_names}
 use Rattle.cc_laws_heap.specs.Sound.{IsSound}
@@ -23,12 +22,12 @@ use Rattle.cc_script.specs.Objects.{Object, is_there, kind_at, name_at, native_a
 use Rattle.cc_weakmaps.specs.Entries.{KeyedEntry, with_entry, without_entry}
 use Rattle.cc_marking.specs.Marking.{AreEntriesThere}
 use Rattle.cc_heaps.specs.declared.heaps.Heaps.TheInside.{Inside}
-use Rattle.cc_heaps.specs.Keyed.{Keyed, IsInOrder, Reflects, named_entries, named_object, named_objects, number_at, the_name_at, the_number}
+use Rattle.cc_heaps.specs.Keyed.{Keyed, IsInOrder, Reflects, named_entries, named_object, number_at, the_name_at, the_number}
 use Rattle.cc_heaps.specs.Fields.{heap_of, keyed_of, IsLinked}
 use Rattle.cc_heaps.proofs.EntryNames.{with_entry-named, without_entry-named, entries_there-set, entries_there-without}
 use Rattle.cc_heaps.proofs.Keys.{Reflects-kept, object-name}
 use Rattle.cc_heaps.proofs.Reaching.{name_at-found, object_at-found, the_name-there}
-use Rattle.cc_heaps.proofs.ScriptCalls.{Becomes, name-among}
+use Rattle.cc_heaps.proofs.ScriptCalls.{Becomes}
 
 -- What an entry names by names
 

@@ -1,32 +1,32 @@
 -- ENTRIES OF WEAK MAPS BY KEYS ARE THOSE BY NAMES, where no two script objects have one name: an entry is set, taken out and
 -- looked for alike. A script object is a weak map where the definitions say that it has no slots.
-use Rattle.std.proofs.Common.{◌≡◌, ◌↔◌, ℕ, ◌==◌, Bool, true, false, not, ◌&&◌, List, [], ◌∷◌, map, Option, Some, None, option_map, refl, sym, ◌∙◌, ap, subst, inl, inr, ⊎_elim}
+use Rattle.std.proofs.Common.{◌≡◌, ◌↔◌, ℕ, ◌==◌, Bool, true, false, not, ◌&&◌, List, [], ◌∷◌, Option, Some, None, option_map, refl, sym, ◌∙◌, ap, subst, inl, inr, ⊎_elim}
 use Rattle.std.specs.Prelude.{IsTrue}
 use Rattle.std.specs.Option.{is_none, is_some, option_and_then}
-use Rattle.std.specs.List.{filter, find}
+use Rattle.std.specs.List.{find}
 use Rattle.std.proofs.lemmas.Bool.{eqb-true, eq-eqb, false≢true}
 use Rattle.cc_lists.specs.Members.{Among}
 use Rattle.cc_lists.proofs.Filtering.{filter-agree}
-use Rattle.cc_lists.proofs.Members.{Among-filtered, Among-map}
+use Rattle.cc_lists.proofs.Members.{Among-filtered}
 use Rattle.cc_lists.proofs.Searching.{filter-map, find-map, find-only}
 use Rattle.cc_names.specs.declared.name.Name.{Name}
 use Rattle.cc_names.specs.declared.name.Name.TheVariants as name
 use Rattle.cc_names.specs.declared.number.SKey.{SKey}
 use Rattle.cc_names.specs.declared.kind.Kind.{Kind}
 use Rattle.cc_names.specs.declared.kind.Kind.TheVariants.{Plain, Reflector, Map}
-use Rattle.cc_names.specs.Names.{object, same_name}
+use Rattle.cc_names.specs.Names.{same_name}
 use Rattle.cc_names.proofs.NameTests.{same_name-true, same_name-refl}
 use Rattle.cc_model.specs.Entries as model
 use Rattle.cc_model.specs.Entries.{Entry}
 use Rattle.cc_model.specs.Slots.{Slots}
 use Rattle.cc_model.specs.Checks.{is_map_in, value_at}
-use Rattle.cc_model.specs.Heap.{Heap, HeapScript, objects_of, script_at, slots_in, slots_of_kind, slots_of_script}
+use Rattle.cc_model.specs.Heap.{HeapScript, objects_of, script_at, slots_in, slots_of_kind, slots_of_script}
 use Rattle.cc_model.specs.WellFormed.{script_names}
 use Rattle.cc_laws_heap.proofs.ScriptsKept.{native-no_script}
 use Rattle.cc_script.specs.Objects.{Object, is_there, kind_at, name_at, object_at}
 use Rattle.cc_weakmaps.specs.Entries.{KeyedEntry, entry, has_value_in, is_entry_of, value_in, with_entry, without_entry}
 use Rattle.cc_marking.specs.Marking.{IsEntryThere, AreEntriesThere}
-use Rattle.cc_heaps.specs.Keyed.{Keyed, IsInOrder, the_name_at, named_entry, named_entries, named_object, named_objects}
+use Rattle.cc_heaps.specs.Keyed.{Keyed, IsInOrder, the_name_at, named_entry, named_entries, named_object}
 use Rattle.cc_heaps.specs.Changes.{IsScriptThere, script_name}
 use Rattle.cc_heaps.proofs.Keys.{object-name}
 use Rattle.cc_heaps.proofs.Reaching.{HasOneName, key-named, name_at-found, object_at-found, same-tests, the_name-there}

@@ -10,7 +10,7 @@ use Rattle.cc_names.specs.declared.name.Name.TheVariants as name
 use Rattle.cc_names.specs.declared.number.SKey.{SKey}
 use Rattle.cc_names.specs.Names.{object, is_native}
 use Rattle.cc_model.specs.Slots.{contents}
-use Rattle.cc_model.specs.Entries.{Entry, entry}
+use Rattle.cc_model.specs.Entries.{entry}
 use Rattle.cc_model.specs.Heap.{Heap, HeapNative}
 use Rattle.cc_laws_heap.specs.Sound.{IsSound}
 use Rattle.cc_counted.specs.Owning.{HasKeys}

@@ -26,7 +26,7 @@ use Rattle.cc_counted.specs.declared.held.Held.{Held}
 use Rattle.cc_counted.specs.declared.held.Held.TheVariants as held
 use Rattle.cc_counted.specs.Counts.{held_of_native, is_live, name_of, preserved_at, preserved_reflector, reflector_at, references_of, slots_at, slots_of}
 use Rattle.cc_counted.specs.Counts as counts
-use Rattle.cc_script.specs.Objects.{Object, object_at, is_there, name_at}
+use Rattle.cc_script.specs.Objects.{Object, object_at, is_there}
 use Rattle.cc_script.specs.Objects as objects
 use Rattle.cc_script.proofs.Reaching.{among-held}
 use Rattle.cc_heaps.specs.declared.heaps.Heaps.TheInside.{Inside}

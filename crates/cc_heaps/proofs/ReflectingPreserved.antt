@@ -12,7 +12,7 @@ use Rattle.cc_names.specs.Names.{native, reflector, same_name}
 use Rattle.cc_names.proofs.NameTests.{same_name-refl}
 use Rattle.cc_model.specs.Slots.{from_to}
 use Rattle.cc_model.specs.Graph as graph
-use Rattle.cc_model.specs.Graph.{Graph, as_preserved}
+use Rattle.cc_model.specs.Graph.{as_preserved}
 use Rattle.cc_model.specs.Heap.{Heap, HeapNative, HeapScript, native_at, set_preserved, is_gray_in, is_gray_colour}
 use Rattle.cc_model.specs.View.{view, slot_edges, preserved_edge, native_edges, script_edges, ReachedIn}
 use Rattle.cc_model.specs.WellFormed.{script_names}

@@ -1,6 +1,6 @@
 -- THE HEAPS WITH THEIR KEYS: the definitions' lists, which native stands at which key, and the script objects and the
 -- entries of weak maps by key.
-use Rattle.std.specs.Prelude.{◌≡◌, ℕ, ◌≤◌, ◌==◌, true, false, List, [], map, find, Option, Some, None, option_map, option_and_then, count_by}
+use Rattle.std.specs.Prelude.{◌≡◌, ℕ, ◌≤◌, ◌==◌, true, false, List, map, find, Option, Some, None, option_map, option_and_then, count_by}
 use Rattle.cc_lists.specs.Members.{Among}
 use Rattle.cc_names.specs.declared.name.Name.{Name}
 use Rattle.cc_names.specs.declared.name.Name.TheVariants as name

@@ -24,7 +24,7 @@ use Rattle.cc_model.specs.Checks.{refusal_of, reflector_of, refused_or, reply_if
 use Rattle.cc_model.specs.Colours.{HasColourInvariant}
 use Rattle.cc_model.specs.Effects.{effects, lacks_reflector, takes_memory}
 use Rattle.cc_model.specs.Fresh.{IsFresh}
-use Rattle.cc_model.specs.Graph.{Graph, step, reply_to, unless_refused, changed}
+use Rattle.cc_model.specs.Graph.{step, reply_to, unless_refused, changed}
 use Rattle.cc_model.specs.Graph as graph
 use Rattle.cc_model.specs.Heap.{Heap, HeapNative, has_reflector, objects_of, register}
 use Rattle.cc_model.specs.Lawful.{State, RepliesWith, graph_after, is_listed, is_without_memory, may_want_memory}

@@ -26,7 +26,7 @@ use Rattle.cc_laws_heap.proofs.Coloured.{IsColoured}
 use Rattle.cc_laws_heap.proofs.ColourChanges.{IsHeldBlack}
 use Rattle.cc_laws_heap.proofs.ScriptNames.{script-named, scripts-once}
 use Rattle.cc_laws_heap.proofs.Writes.{contents-at}
-use Rattle.cc_script.specs.Objects.{Object, object_at, is_there, kind_at, name_at, colour_at}
+use Rattle.cc_script.specs.Objects.{Object, object_at, is_there, kind_at, colour_at}
 use Rattle.cc_script.specs.Objects as objects
 use Rattle.cc_heaps.specs.Keyed.{Keyed, IsInOrder, name_held, named_object}
 use Rattle.cc_heaps.specs.Changes.{IsScriptThere, script_name}

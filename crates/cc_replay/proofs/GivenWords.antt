@@ -25,7 +25,7 @@ use Rattle.clap.specs.Walk
 use Rattle.clap.specs.Simple.{App, Shape, argument_words, built, entered, is_simple, label_of, names_of, new_shape, rows_at, subcommand_of}
 use Rattle.clap.specs.Faults.{fault_of, is_simple_and_free}
 use Rattle.clap.specs.Takes
-use Rattle.clap.specs.Takes.{level_passes, takes}
+use Rattle.clap.specs.Takes.{level_passes}
 use Rattle.clap.specs.declared.builder.value_parser.ValueParser.{ValueParser}
 use Rattle.clap.specs.declared.builder.value_parser.ValueParser.TheVariants as parser
 use Rattle.clap.proofs.OnLiterals.{clap_on_literals}

@@ -11,7 +11,7 @@ use Rattle.clap.specs.Facts.{explicit_source, parser_of_value, unwrap_or_range}
 use Rattle.clap.specs.Values.{is_request, read_as, reading_of}
 use Rattle.clap.specs.ValueTests.{accepts}
 use Rattle.clap.specs.Walk
-use Rattle.clap.specs.Walk.{Held, Names, Outcome, Row, Rule, Step, Text, Waiting, Walk, action_of, arg_by_id, arg_by_index, arg_by_long, arg_by_short, at_row, attached_value, default_rows, done, finished, has_row, idle, is_empty, is_pending, more_values, most_values, next, nothing_held, one_of, option, plain, positional, reacted, reading_by, refused, rows_after, settled, subcommand, subcommand_met, takes_several, takes_values, to_positional, trailing, used, value, values_or_missing, waits, walk_from, walked, with_default, with_values, without, word_met}
+use Rattle.clap.specs.Walk.{Held, Names, Outcome, Row, Rule, Step, Text, Waiting, Walk, action_of, arg_by_id, arg_by_index, arg_by_long, arg_by_short, at_row, attached_value, default_rows, done, has_row, idle, is_empty, is_pending, more_values, most_values, next, nothing_held, one_of, option, plain, positional, reacted, reading_by, refused, rows_after, settled, subcommand, subcommand_met, takes_several, takes_values, to_positional, trailing, used, value, values_or_missing, waits, walk_from, walked, with_default, with_values, without, word_met}
 use Rattle.clap.specs.Simple.{Shape}
 use Rattle.clap.specs.Takes
 use Rattle.clap.specs.Takes.{default_passes, is_given, level_passes, use_passes, values_pass}

@@ -9,7 +9,7 @@ use Rattle.cc_names.specs.declared.name.Name.{Name}
 use Rattle.cc_names.specs.Names.{same_name}
 use Rattle.cc_model.specs.Heap.{Heap, HeapNative}
 use Rattle.cc_counted.specs.Counts as counts
-use Rattle.cc_counted.specs.Counts.{Counts, first_number, number_or_none}
+use Rattle.cc_counted.specs.Counts.{Counts, number_or_none}
 use Rattle.cc_graph.specs.Shown.{Shown, Vertex, number_from}
 use Rattle.cc_unlink.specs.Whites.{whites_of, is_white_number, whites_above}
 use Rattle.cc_heaps.specs.Keyed.{Keyed, keyed_native, counts_of, number_at}

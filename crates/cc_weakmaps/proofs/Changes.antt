@@ -5,12 +5,12 @@ use Rattle.std.specs.List.{items_where_true}
 use Rattle.std.proofs.Math.ListN.{set}
 use Rattle.std.proofs.lemmas.Bool.{eqb-true}
 use Rattle.std.proofs.lemmas.Bool.Decides.{eqb_tells}
-use Rattle.std.proofs.lemmas.List.{length_push, length-set, get_or_append_left, get_or-take, get_or-set_same, get_or-set_other}
+use Rattle.std.proofs.lemmas.List.{length_push, length-set, length-take, get_or_append_left, get_or-take, get_or-set_same, get_or-set_other}
 use Rattle.cc_lists.specs.Members.{Among}
 use Rattle.cc_lists.proofs.Members.{Among-append}
 use Rattle.cc_names.specs.declared.number.SKey.{SKey}
 use Rattle.cc_weakmaps.specs.Entries.{KeyedEntry, HasOneEach, entry, has_value_in, is_entry_of}
-use Rattle.cc_weakmaps.specs.Index.{is_known, last_kept, place_below, AreKnown, IsIndexed, IsKept, IsPlaceOf}
+use Rattle.cc_weakmaps.specs.Index.{last_kept, place_below, AreKnown, IsIndexed, IsKept, IsPlaceOf}
 use Rattle.cc_weakmaps.specs.Living.{AreLiving}
 use Rattle.cc_weakmaps.specs.Places.{StandsAt}
 use Rattle.cc_weakmaps.specs.declared.links.Links.{Links}
@@ -25,7 +25,7 @@ if_none-always (Some x) P h = tt
 
 -- The chains, as they are read
 
-module _ (es : List KeyedEntry) (links : List Links) (kept : List (ℕ × Option ℕ)) (h : IsIndexed es links kept (length es)) (object place : ℕ) (there : IsPlaceOf es object place) (e : KeyedEntry) (d : Links) where
+module _ (es : List KeyedEntry) (links : List Links) (kept : List (Option ℕ)) (h : IsIndexed es links kept (length es)) (object place : ℕ) (there : IsPlaceOf es object place) (e : KeyedEntry) (d : Links) where
   pub next-by_map : (get_or es place e).the_map ≡ object → (get_or links place d).by_map ≡ place_below es object place
   next-by_map same = h.by_map place e d (place-within es object place there) ∙ ap (λ k. place_below es k place) same
 
@@ -36,7 +36,7 @@ module _ (es : List KeyedEntry) (links : List Links) (kept : List (ℕ × Option
 
 -- Other last places that say the same
 
-pub kept-same : (es : List KeyedEntry) (links : List Links) (kept left : List (ℕ × Option ℕ)) → ((k : ℕ) → last_kept left k ≡ last_kept kept k) → IsKept es links kept → IsKept es links left
+pub kept-same : (es : List KeyedEntry) (links : List Links) (kept left : List (Option ℕ)) → ((k : ℕ) → last_kept left k ≡ last_kept kept k) → IsKept es links kept → IsKept es links left
 kept-same es links kept left same h = record {
   at_most_one = h.at_most_one;
   as_many = h.as_many;
@@ -45,7 +45,7 @@ kept-same es links kept left same h = record {
 
 -- A value is replaced
 
-pub kept-set : (es : List KeyedEntry) (links : List Links) (kept : List (ℕ × Option ℕ)) (m k v place : ℕ) → StandsAt es m k place → IsKept es links kept → IsKept (set es place (entry m k v)) links kept
+pub kept-set : (es : List KeyedEntry) (links : List Links) (kept : List (Option ℕ)) (m k v place : ℕ) → StandsAt es m k place → IsKept es links kept → IsKept (set es place (entry m k v)) links kept
 kept-set es links kept m k v place s h = record {
   at_most_one = subst HasOneEach (stands-set es m k place v s) (HasOneEach-set es m k v h.at_most_one);
   as_many = h.as_many ∙ sym (length-set es place (entry m k v));
@@ -70,11 +70,11 @@ kept-set es links kept m k v place s h = record {
 
 -- An entry is added
 
-module _ (es : List KeyedEntry) (links : List Links) (kept left : List (ℕ × Option ℕ)) (x : KeyedEntry) (link : Links) (h : IsKept es links kept) where
-  pub added-known : is_known left x.the_map ≡ true → is_known left x.key ≡ true → ((k : ℕ) → is_known kept k ≡ true → is_known left k ≡ true) → AreKnown (es ++ x ∷ []) left
-  added-known map key others e m = ⊎_elim
-      (λ old. let both = indexed-known es links kept h.indexed e old in (others e.the_map both.0, others e.key both.1))
-      (λ new. ⊎_elim (λ same. (subst (λ y. is_known left y.the_map ≡ true) same map, subst (λ y. is_known left y.key ≡ true) same key)) (λ f. absurd f) new)
+module _ (es : List KeyedEntry) (links : List Links) (kept left : List (Option ℕ)) (x : KeyedEntry) (link : Links) (h : IsKept es links kept) where
+  pub added-known : x.the_map < length left → x.key < length left → length kept ≤ length left → AreKnown (es ++ x ∷ []) left
+  added-known map key room e m = ⊎_elim
+      (λ old. let both = indexed-known es links kept h.indexed e old in (omega (arith, both.0, room), omega (arith, both.1, room)))
+      (λ new. ⊎_elim (λ same. (subst (λ y. y.the_map < length left) same map, subst (λ y. y.key < length left) same key)) (λ f. absurd f) new)
       (Among-append e es (x ∷ []) m)
 
   pub added-indexed : ((k : ℕ) → last_kept left k ≡ last_kept kept k) → IsIndexed (es ++ x ∷ []) (links ++ link ∷ []) left (length es)
@@ -82,7 +82,7 @@ module _ (es : List KeyedEntry) (links : List Links) (kept left : List (ℕ × O
       (λ j d l. (ap (λ y. y.the_map) (get_or_append_left es (x ∷ []) d j l), ap (λ y. y.key) (get_or_append_left es (x ∷ []) d j l)))
       (λ j d l. get_or_append_left links (link ∷ []) d j (omega (arith, l, h.as_many))) same h.indexed
 
-  pub added-kept : (others : List Links) (put : List (ℕ × Option ℕ)) → has_value_in es x.the_map x.key ≡ false → length others ≡ length (links ++ link ∷ []) →
+  pub added-kept : (others : List Links) (put : List (Option ℕ)) → has_value_in es x.the_map x.key ≡ false → length others ≡ length (links ++ link ∷ []) →
       IsIndexed (es ++ x ∷ []) others put (length es + 1) → IsKept (es ++ x ∷ []) others put
   added-kept others put absent count indexed = record {
     at_most_one = subst HasOneEach (absent-set es x.the_map x.key x.value absent) (HasOneEach-set es x.the_map x.key x.value h.at_most_one);
@@ -92,7 +92,7 @@ module _ (es : List KeyedEntry) (links : List Links) (kept left : List (ℕ × O
 
 -- Entries are taken out
 
-module _ (es fs : List KeyedEntry) (links : List Links) (left : List (ℕ × Option ℕ)) where
+module _ (es fs : List KeyedEntry) (links : List Links) (left : List (Option ℕ)) where
   pub fewer-known : ((e : KeyedEntry) → Among e fs → Among e es) → AreKnown es left → AreKnown fs left
   fewer-known part h e m = h e (part e m)
 
@@ -102,7 +102,7 @@ module _ (es fs : List KeyedEntry) (links : List Links) (left : List (ℕ × Opt
       (λ j d l. (ap (λ x. x.the_map) (same j d l), ap (λ x. x.key) (same j d l))) (λ j d l. refl) (λ k. refl) h
 
 -- with as many links as there are entries left
-pub fewer-kept : (fs : List KeyedEntry) (links : List Links) (kept left : List (ℕ × Option ℕ)) → HasOneEach fs → length fs ≤ length links → IsIndexed fs links kept (length fs) →
+pub fewer-kept : (fs : List KeyedEntry) (links : List Links) (kept left : List (Option ℕ)) → HasOneEach fs → length fs ≤ length links → IsIndexed fs links kept (length fs) →
     ((k : ℕ) → last_kept left k ≡ last_kept kept k) → IsKept fs (take (length fs) links) left
 fewer-kept fs links kept left once room h same = record {
   at_most_one = once;
@@ -128,6 +128,13 @@ remove-front xs zero j d l = absurd (omega (arith, l))
 remove-front [] (suc i) j d l = refl
 remove-front (x ∷ xs) (suc i) zero d l = refl
 remove-front (x ∷ xs) (suc i) (suc j) d l = remove-front xs i j d (omega (arith, l))
+
+-- a list that begins as another does
+pub front-within : {X : Type 0} (n : ℕ) (xs ys : List X) → n ≤ length xs → take n ys ≡ take n xs → n ≤ length ys
+front-within n xs ys l same = omega (arith, l, length-take n ys, length-take n xs, ap length same)
+
+pub front-same : {X : Type 0} (n : ℕ) (xs ys : List X) → take n ys ≡ take n xs → (j : ℕ) (d : X) → j < n → get_or ys j d ≡ get_or xs j d
+front-same n xs ys same j d l = sym (get_or-take n ys j d l) ∙ (ap (λ zs. get_or zs j d) same ∙ get_or-take n xs j d l)
 
 -- those that do not stay
 pub where_true-part : {X : Type 0} (bs : List Bool) (xs : List X) (x : X) → Among x (items_where_true bs xs) → Among x xs

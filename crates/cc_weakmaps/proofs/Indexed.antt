@@ -9,7 +9,7 @@ use Rattle.std.proofs.lemmas.Option.{slice_get-get_or}
 use Rattle.std.proofs.lemmas.List.Elements.{Contains-get_or}
 use Rattle.cc_lists.proofs.Members.{Among-contains}
 use Rattle.cc_weakmaps.specs.Entries.{KeyedEntry}
-use Rattle.cc_weakmaps.specs.Index.{has_object, is_known, last_kept, place_below, AreKnown, IsIndexed}
+use Rattle.cc_weakmaps.specs.Index.{has_object, last_kept, place_below, AreKnown, IsIndexed}
 use Rattle.cc_weakmaps.specs.declared.links.Links.{Links}
 use Rattle.cc_weakmaps.proofs.Kept.{known-last}
 use Rattle.cc_weakmaps.proofs.Below.{below-step, below-alike, below-some}
@@ -19,10 +19,10 @@ pub indexed-none : (es : List KeyedEntry) (links : List Links) → IsIndexed es 
 indexed-none es links = record { last = λ k. refl; by_map = λ i e d l. absurd (omega (arith, l)); by_key = λ i e d l. absurd (omega (arith, l)) }
 
 -- the map and the key of an entry of the index are known
-pub indexed-known : (es : List KeyedEntry) (links : List Links) (kept : List (ℕ × Option ℕ)) → IsIndexed es links kept (length es) → AreKnown es kept
+pub indexed-known : (es : List KeyedEntry) (links : List Links) (kept : List (Option ℕ)) → IsIndexed es links kept (length es) → AreKnown es kept
 indexed-known es links kept h e m = (known e.the_map (ap (λ b. b || e.key == e.the_map) (eq-eqb e.the_map e.the_map refl)), known e.key (or-true (e.the_map == e.key) (e.key == e.key) (eq-eqb e.key e.key refl)))
   where
-    known : (k : ℕ) → has_object k e ≡ true → is_known kept k ≡ true
+    known : (k : ℕ) → has_object k e ≡ true → k < length kept
     known k has = let at = below-some es k e m has in known-last kept k at.0 (h.last k ∙ at.1)
 
     or-true : (a b : Bool) → b ≡ true → (a || b) ≡ true
@@ -30,7 +30,7 @@ indexed-known es links kept h e m = (known e.the_map (ap (λ b. b || e.key == e.
     or-true false b e = e
 
 -- the same index of other entries, whose maps and keys below are the same
-pub indexed-alike : (es fs : List KeyedEntry) (links others : List Links) (kept left : List (ℕ × Option ℕ)) (n : ℕ) → n ≤ length es → n ≤ length fs →
+pub indexed-alike : (es fs : List KeyedEntry) (links others : List Links) (kept left : List (Option ℕ)) (n : ℕ) → n ≤ length es → n ≤ length fs →
     ((j : ℕ) (d : KeyedEntry) → j < n → ((get_or fs j d).the_map ≡ (get_or es j d).the_map) × ((get_or fs j d).key ≡ (get_or es j d).key)) →
     ((j : ℕ) (d : Links) → j < n → get_or others j d ≡ get_or links j d) →
     ((k : ℕ) → last_kept left k ≡ last_kept kept k) → IsIndexed es links kept n → IsIndexed fs others left n
@@ -57,15 +57,15 @@ indexed-alike es fs links others kept left n el fl same linked last h = record {
     alike k m l = below-alike es fs k m (λ j below. test k j default (omega (arith, below, l)))
 
 -- two objects with other places
-abbrev pub ArePut : List (ℕ × Option ℕ) → List (ℕ × Option ℕ) → ℕ → Option ℕ → ℕ → Option ℕ → Type 0
+abbrev pub ArePut : List (Option ℕ) → List (Option ℕ) → ℕ → Option ℕ → ℕ → Option ℕ → Type 0
 ArePut kept left m of_map k of_key = (j : ℕ) → last_kept left j ≡ (if k == j then of_key else (if m == j then of_map else last_kept kept j))
 
-pub puts-both : (kept between left : List (ℕ × Option ℕ)) (m : ℕ) (of_map : Option ℕ) (k : ℕ) (of_key : Option ℕ) →
+pub puts-both : (kept between left : List (Option ℕ)) (m : ℕ) (of_map : Option ℕ) (k : ℕ) (of_key : Option ℕ) →
     ((j : ℕ) → last_kept between j ≡ (if m == j then of_map else last_kept kept j)) →
     ((j : ℕ) → last_kept left j ≡ (if k == j then of_key else last_kept between j)) → ArePut kept left m of_map k of_key
 puts-both kept between left m of_map k of_key one two j = two j ∙ ap (λ o. if k == j then of_key else o) (one j)
 
-module _ (es : List KeyedEntry) (links : List Links) (kept left : List (ℕ × Option ℕ)) (i : ℕ) (e : KeyedEntry) (within : i < length es) where
+module _ (es : List KeyedEntry) (links : List Links) (kept left : List (Option ℕ)) (i : ℕ) (e : KeyedEntry) (within : i < length es) where
   -- the entry at a place is taken out
   pub indexed-before : (d : Links) → IsIndexed es links kept (suc i) → ArePut kept left (get_or es i e).the_map (get_or links i d).by_map (get_or es i e).key (get_or links i d).by_key →
       IsIndexed es links left i
@@ -117,17 +117,17 @@ module _ (es : List KeyedEntry) (links : List Links) (kept left : List (ℕ × O
 -- The steps of the code
 
 -- the map and the key of the entry at a place are known
-pub known-at : (es : List KeyedEntry) (kept : List (ℕ × Option ℕ)) (i m k : ℕ) (e : KeyedEntry) → AreKnown es kept → i < length es → m ≡ (get_or es i e).the_map → k ≡ (get_or es i e).key →
-    (is_known kept m ≡ true) × (is_known kept k ≡ true)
+pub known-at : (es : List KeyedEntry) (kept : List (Option ℕ)) (i m k : ℕ) (e : KeyedEntry) → AreKnown es kept → i < length es → m ≡ (get_or es i e).the_map → k ≡ (get_or es i e).key →
+    (m < length kept) × (k < length kept)
 known-at es kept i m k e h within map key =
     let both = h (get_or es i e) (Among-contains (get_or es i e) es (Contains-get_or es i e within)) in
-    (ap (is_known kept) map ∙ both.0, ap (is_known kept) key ∙ both.1)
+    (omega (arith, map, both.0), omega (arith, key, both.1))
 
 -- those that are known stay so
-pub known-still : (es : List KeyedEntry) (kept left : List (ℕ × Option ℕ)) → AreKnown es kept → ((k : ℕ) → is_known left k ≡ is_known kept k) → AreKnown es left
-known-still es kept left h same e m = let both = h e m in (same e.the_map ∙ both.0, same e.key ∙ both.1)
+pub known-still : (es : List KeyedEntry) (kept left : List (Option ℕ)) → AreKnown es kept → length kept ≤ length left → AreKnown es left
+known-still es kept left h room e m = let both = h e m in (omega (arith, both.0, room), omega (arith, both.1, room))
 
-module _ (es : List KeyedEntry) (links : List Links) (kept between left : List (ℕ × Option ℕ)) (i m k : ℕ) (e : KeyedEntry) (within : i < length es)
+module _ (es : List KeyedEntry) (links : List Links) (kept between left : List (Option ℕ)) (i m k : ℕ) (e : KeyedEntry) (within : i < length es)
     (map : m ≡ (get_or es i e).the_map) (key : k ≡ (get_or es i e).key) where
   pub put-in : (link : Links) → i < length links → link.by_map ≡ last_kept kept m → link.by_key ≡ last_kept kept k →
       ((j : ℕ) → last_kept between j ≡ (if m == j then Some i else last_kept kept j)) →

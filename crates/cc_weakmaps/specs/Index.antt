@@ -1,7 +1,5 @@
 -- WHERE THE ENTRIES OF AN OBJECT STAND: the places, counted from 0, of the entries that have it for their map or their key.
-use Rattle.std.specs.Prelude.{◌≡◌, ℕ, zero, suc, ◌<◌, ◌==◌, Bool, true, false, ◌||◌, List, length, get_or, slice_get, Option, Some, None, option_map, is_some}
-use Rattle.std.specs.Map.{lookup}
-use Rattle.std.specs.Ordering.{is_eq, nat_cmp}
+use Rattle.std.specs.Prelude.{◌≡◌, ℕ, zero, suc, ◌<◌, ◌==◌, Bool, true, false, ◌||◌, List, length, get_or, slice_get, Option, Some, None, option_map}
 use Rattle.cc_lists.specs.Members.{Among}
 use Rattle.cc_weakmaps.specs.Entries.{KeyedEntry, HasOneEach}
 use Rattle.cc_weakmaps.specs.declared.links.Links.{Links}
@@ -24,27 +22,23 @@ place_below es k (suc n) = elim (option_map (has_object k) (slice_get es n)) [
 
 -- What is kept of it
 
--- the last place that is kept of an object: none where none is, and where it is known without one
-abbrev pub last_kept : List (ℕ × Option ℕ) → ℕ → Option ℕ
-last_kept kept k = elim (lookup (λ j. is_eq (nat_cmp k j)) kept) [ None ↦ None | Some place ↦ place ]
+-- the last place that is kept of an object, by its key: none where none is, and past the end
+abbrev pub last_kept : List (Option ℕ) → ℕ → Option ℕ
+last_kept kept k = get_or kept k None
 
--- whether it is known, so that a place can be kept without memory
-abbrev pub is_known : List (ℕ × Option ℕ) → ℕ → Bool
-is_known kept k = is_some (lookup (λ j. is_eq (nat_cmp k j)) kept)
-
--- the map and the key of each entry are known
-abbrev pub AreKnown : List KeyedEntry → List (ℕ × Option ℕ) → Type 0
-AreKnown es kept = (e : KeyedEntry) → Among e es → (is_known kept e.the_map ≡ true) × (is_known kept e.key ≡ true)
+-- the map and the key of each entry are known: there is room for their places, so that one can be kept without memory
+abbrev pub AreKnown : List KeyedEntry → List (Option ℕ) → Type 0
+AreKnown es kept = (e : KeyedEntry) → Among e es → (e.the_map < length kept) × (e.key < length kept)
 
 -- THE INDEX of the entries below a place: of each object its last place among them, and of each of them the last places
 -- before it of its map and of its key
-pub record IsIndexed (es : List KeyedEntry) (links : List Links) (kept : List (ℕ × Option ℕ)) (n : ℕ) : Type 0 where
+pub record IsIndexed (es : List KeyedEntry) (links : List Links) (kept : List (Option ℕ)) (n : ℕ) : Type 0 where
   pub last : (k : ℕ) → last_kept kept k ≡ place_below es k n
   pub by_map : (i : ℕ) (e : KeyedEntry) (d : Links) → i < n → (get_or links i d).by_map ≡ place_below es (get_or es i e).the_map i
   pub by_key : (i : ℕ) (e : KeyedEntry) (d : Links) → i < n → (get_or links i d).by_key ≡ place_below es (get_or es i e).key i
 
 -- entries of which each map and key has at most one, and their index
-pub record IsKept (es : List KeyedEntry) (links : List Links) (kept : List (ℕ × Option ℕ)) : Type 0 where
+pub record IsKept (es : List KeyedEntry) (links : List Links) (kept : List (Option ℕ)) : Type 0 where
   pub at_most_one : HasOneEach es
   pub as_many : length links ≡ length es
   pub indexed : IsIndexed es links kept (length es)

@@ -1,5 +1,5 @@
 -- WHICH ENTRIES STAY where those are dropped of which a map or a key is dead.
-use Rattle.std.specs.Prelude.{◌⊎◌, ℕ, Bool, true, false, ◌&&◌, List, filter}
+use Rattle.std.specs.Prelude.{◌⊎◌, ℕ, Bool, true, false, ◌&&◌, List, ◌++◌, take, drop, filter}
 use Rattle.std.specs.List.Retain.{IsFiltered}
 use Rattle.cc_lists.specs.Members.{Among}
 use Rattle.cc_names.specs.declared.number.SKey.{SKey}
@@ -20,6 +20,10 @@ Stays answers e false = answers (script_key e.the_map) false ⊎ answers (script
 -- exactly those stay, in order
 pub record AreLiving (answers : SKey → Bool → Type 0) (old new : List KeyedEntry) : Type 0 where
   pub filtered : IsFiltered (λ (before : Unit {0}) e stays after. Stays answers e stays) tt old new
+
+-- those before a place all stay: with what stays of the others, they are what stays of all
+abbrev pub StayBefore : (SKey → Bool → Type 0) → List KeyedEntry → ℕ → Type 0
+StayBefore answers es n = (rest : List KeyedEntry) → AreLiving answers (drop n es) rest → AreLiving answers es (take n es ++ rest)
 
 -- the same by a test
 abbrev pub living : (ℕ → Bool) → List KeyedEntry → List KeyedEntry

@@ -2,7 +2,7 @@
 //!
 //! Each entry has the last places before it of its map and of its key, and of each object the last place of all is kept:
 //! so from an object a chain goes through its entries, from the last one to the first. Entries come into the index in order
-//! and leave it from its end, each in two steps of the map of last places.
+//! and leave it from its end, each with two last places written.
 ghost use Rattle.std.specs.Prelude.{◌≡◌, ◌+◌, ◌<◌, ◌≤◌, length};
 ghost use Rattle.cc_weakmaps.specs.Index.{AreKnown, IsIndexed};
 

@@ -1,7 +1,7 @@
 //! The entries as callers see them.
-ghost use Rattle.std.specs.Prelude.{◌≡◌, ◌↔◌, ◌<◌, ◌++◌, ◌∷◌, length, remove, false, [], Some, option_map, slice_get, IfNone, IfSome, IsOk, IsTrue, OnErr, OnOk};
+ghost use Rattle.std.specs.Prelude.{◌≡◌, ◌↔◌, ◌<◌, ◌≤◌, ◌++◌, ◌∷◌, length, remove, take, false, [], Some, option_map, slice_get, IfNone, IfSome, IsOk, IsTrue, OnErr, OnOk};
 ghost use Rattle.cc_weakmaps.specs.Entries.{HasOneEach, entry, has_value_in, value_in, with_entry, without_entry};
-ghost use Rattle.cc_weakmaps.specs.Living.{AreLiving, MayBeAsked};
+ghost use Rattle.cc_weakmaps.specs.Living.{AreLiving, MayBeAsked, StayBefore};
 ghost use Rattle.cc_weakmaps.specs.Index.{IsPlaceOf, place_below};
 ghost use Rattle.cc_weakmaps.specs.Places.{StandsAt};
 
@@ -15,8 +15,8 @@ use std::marker::Model;
 
 /// The entries of all weak maps, in the order in which they were first set; at most one for each map and key.
 // An entry is looked for by its map and its key at once, in as many steps as the one of the two has entries that has fewer.
-// `unset` of an entry moves those behind it one place down, and gives each its place in the index anew: O(k log n) for k of
-// them, and so is `drop_dead` for all.
+// `unset` of an entry moves those behind it one place down, and gives each its place in the index anew: O(k) for k of them.
+// `drop_dead` asks of each entry whether it stays, and does the same for those behind the first that does not.
 #[derive(Drop)]
 pub struct WeakMaps {
     entries: Vec<Entry>,
@@ -51,7 +51,8 @@ impl WeakMaps {
 
     /// A key has a value in a map from then on: its entry keeps its place, or goes last where there was none.
     ///
-    /// `NoMemory` changes nothing, and comes only where there was none.
+    /// Memory is taken for a new entry, and for the places of all keys up to the greater of its two: keys are those of a slab,
+    /// so they lie close together. `NoMemory` changes nothing, and comes only where there was none.
     #[tactic(auto, using(crate::proofs::Stands::stands))]
     pub fn set(&mut self, the_map: SKey, key: SKey, value: SKey) -> Result<(), NoMemory>
         ensures entries { OnOk result (self.new ≡ with_entry self.old the_map.0 key.0 value.0) }
@@ -79,8 +80,6 @@ impl WeakMaps {
     {
         if let Some(place) = self.place_of(the_map, key) {
             self.remove(place);
-            self.lasts.forget(the_map.0);
-            self.lasts.forget(key.0);
         }
     }
 
@@ -155,16 +154,21 @@ impl WeakMaps {
         ensures entries { AreLiving (F.post alive) self.old self.new }
         ensures at_most_one { HasOneEach self.new }
     {
+        let start = first_dead(self.entries.as_slice(), &alive);
         take_out_from(
             &mut self.lasts,
             self.links.as_slice(),
             self.entries.as_slice(),
-            0,
+            start,
         );
-        keep_living(&mut self.entries, &alive);
-        put_in_from(&mut self.lasts, &mut self.links, self.entries.as_slice(), 0);
+        keep_living(&mut self.entries, start, &alive);
+        put_in_from(
+            &mut self.lasts,
+            &mut self.links,
+            self.entries.as_slice(),
+            start,
+        );
         self.links.truncate(self.entries.len());
-        self.lasts.forget_all();
     }
 
     /// Where the entry of a map and a key stands, counted from 0.
@@ -238,13 +242,30 @@ impl WeakMaps {
     }
 }
 
-/// Keeps the entries of which map and key live, in order.
-fn keep_living<F: Fn(SKey) -> bool>(entries: &mut Vec<Entry>, alive: &F)
-    requires { MayBeAsked (F.pre alive.now) entries.old.items }
-    ensures { AreLiving (F.post alive.now) entries.old.items entries.new.items }
+/// The place of the first entry of which the map or the key does not live, counted from 0; past the last where all live.
+fn first_dead<F: Fn(SKey) -> bool>(entries: &[Entry], alive: &F) -> usize
+    requires { MayBeAsked (F.pre alive.now) entries.now }
+    ensures within { result ≤ length entries.now }
+    ensures stay { StayBefore (F.post alive.now) entries.now result }
 {
-    let mut kept = 0;
     for place in 0..entries.len() {
+        if !entries[place].stays(alive) {
+            return place;
+        }
+    }
+    entries.len()
+}
+
+/// Keeps the entries of which map and key live, in order. Those before a place all do, and stay where they are.
+fn keep_living<F: Fn(SKey) -> bool>(entries: &mut Vec<Entry>, start: usize, alive: &F)
+    requires asked { MayBeAsked (F.pre alive.now) entries.old.items }
+    requires within { start ≤ length entries.old.items }
+    requires stay { StayBefore (F.post alive.now) entries.old.items start }
+    ensures living { AreLiving (F.post alive.now) entries.old.items entries.new.items }
+    ensures front { take start entries.new.items ≡ take start entries.old.items }
+{
+    let mut kept = start;
+    for place in start..entries.len() {
         let entry = entries[place];
         if entry.stays(alive) {
             entries[kept] = entry;

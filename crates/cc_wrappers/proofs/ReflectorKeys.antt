@@ -10,12 +10,12 @@ use Rattle.cc_lists.proofs.Members.{Among-map, Among-filtered, Among-passes}
 use Rattle.cc_lists.proofs.Counting.{count_by-map}
 use Rattle.cc_lists.proofs.Filtering.{find-among, find-passes}
 use Rattle.cc_lists.proofs.ListWrites.{only-member}
-use Rattle.cc_lists.proofs.Searching.{find-map, find-only}
+use Rattle.cc_lists.proofs.Searching.{find-only}
 use Rattle.cc_names.specs.declared.name.Name.{Name}
 use Rattle.cc_names.specs.declared.kind.Colour.TheVariants.{Black}
 use Rattle.cc_names.specs.Names.{reflector, same_name}
 use Rattle.cc_names.proofs.NameTests.{same_name-true, same_name-refl}
-use Rattle.cc_model.specs.Heap.{HeapScript, has_reflector, is_gray_in, is_gray_colour}
+use Rattle.cc_model.specs.Heap.{HeapScript, is_gray_in, is_gray_colour}
 use Rattle.cc_model.specs.WellFormed.{script_names}
 use Rattle.cc_laws_heap.proofs.ColourChanges.{IsHeldBlack}
 use Rattle.cc_counted.specs.Counts.{reflector_at}

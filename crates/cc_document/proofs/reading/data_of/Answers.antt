@@ -7,7 +7,7 @@ use Rattle.cc_counted.specs.Counts.{Counts, reflector_at}
 use Rattle.cc_weakmaps.specs.Entries.{KeyedEntry, value_in}
 use Rattle.cc_script.specs.Objects.{name_at}
 use Rattle.cc_heaps.proofs.EntryNames.{value-read}
-use Rattle.cc_document.specs.Words.{spoken_of, data_of}
+use Rattle.cc_document.specs.Words.{spoken_of}
 use Rattle.cc_document.proofs.ClosureKeys.{wrapper-named, wrapper-there, data-unwrapped}
 use Rattle.cc_document.proofs.reading.data_of.Goals as goal
 

@@ -1,4 +1,4 @@
-use Rattle.std.proofs.Common.{rules, ◌≡◌, ◌≢◌, option_map, sym, ◌∙◌, arith}
+use Rattle.std.proofs.Common.{rules, ◌≢◌, option_map, ◌∙◌, arith}
 use borrow.Author.Count.{below_more}
 use Rattle.cc_names.specs.declared.number.NativeNo.{NativeNo}
 use Rattle.cc_names.specs.declared.register.Reg.TheVariants.{N}

@@ -1,4 +1,4 @@
-use Rattle.std.proofs.Common.{◌≡◌, ◌≤◌, sym, ◌∙◌, subst}
+use Rattle.std.proofs.Common.{sym, subst}
 use Rattle.cc_model.specs.Graph as graph
 use Rattle.cc_model.specs.Heap as heap
 use Rattle.cc_heaps.specs.Keyed.{Keyed}

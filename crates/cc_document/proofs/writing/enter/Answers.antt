@@ -1,4 +1,4 @@
-use Rattle.std.proofs.Common.{◌≡◌, ◌⊎◌, sym, subst, ⊎_elim}
+use Rattle.std.proofs.Common.{◌⊎◌, sym, subst, ⊎_elim}
 use Rattle.cc_model.specs.Graph.{objects_of}
 use Rattle.cc_model.specs.Heap as heap
 use Rattle.cc_heaps.specs.Keyed.{Keyed}

@@ -1,4 +1,4 @@
-use Rattle.std.proofs.Common.{◌≡◌, ◌≤◌}
+use Rattle.std.proofs.Common.{◌≤◌}
 use Rattle.cc_laws_heap.proofs.RepliesAlike.{objects-stand}
 use Rattle.cc_model.specs.Graph as graph
 use Rattle.cc_document.specs.Shown.{making_closure}

@@ -14,9 +14,12 @@ pub keep-requires-2 : goal.keep-requires-2
 keep-requires-2 c =
     let here = c.entry.view_is ∙ c.index-entries-place.is in
     record {
-      known = c.keep.ensures.known c.entry.inside.key.0
-          ∙ (known-at c.args.entries.now c.args.lasts.now c.args.place c.entry.inside.the_map.0 c.entry.inside.key.0 c.index-entries-place.result
-          c.requires.known c.requires.within (ap (λ e. e.the_map) here) (ap (λ e. e.key) here)).1;
+      known = omega (
+        arith,
+        c.keep.ensures.known,
+        (known-at c.args.entries.now c.args.lasts.now c.args.place c.entry.inside.the_map.0 c.entry.inside.key.0 c.index-entries-place.result
+            c.requires.known c.requires.within (ap (λ e. e.the_map) here) (ap (λ e. e.key) here)).1,
+      );
     }
 
 pub returns-clause-indexed : goal.returns-clause-indexed

@@ -1,4 +1,4 @@
-use Rattle.std.proofs.Common.{◌<◌, ◌≤◌, List, [], ◌++◌, flat_map, map, length, refl, sym, ◌∙◌, ap, subst, arith}
+use Rattle.std.proofs.Common.{◌<◌, ◌≤◌, List, ◌++◌, flat_map, map, length, refl, sym, ◌∙◌, ap, subst, arith}
 use Rattle.std.proofs.lemmas.List.{append-nil}
 use Rattle.cc_lists.specs.Members.{with_all_last}
 use Rattle.cc_lists.proofs.KnownBytes.{on_err_of}

@@ -1,7 +1,7 @@
-use Rattle.std.proofs.Common.{rules, ◌<◌, length, Option, None, refl, inl, sym, subst, arith}
+use Rattle.std.proofs.Common.{rules, ◌<◌, None, refl, inl, sym, subst, arith}
 use Rattle.cc_names.specs.declared.register.Reg.TheVariants.{N}
-use Rattle.cc_model.specs.Graph.{Graph, set_register}
-use Rattle.cc_document.specs.Shown.{Shows, parts}
+use Rattle.cc_model.specs.Graph.{set_register}
+use Rattle.cc_document.specs.Shown.{Shows}
 use Rattle.cc_document.proofs.Assigning.{assigned-reads}
 use Rattle.cc_document.proofs.Documents.{native_register-document}
 use Rattle.cc_document.proofs.Freed.{hold_native-tells}

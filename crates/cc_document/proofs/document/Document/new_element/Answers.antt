@@ -1,11 +1,10 @@
-use Rattle.std.proofs.Common.{rules, ◌≡◌, ◌<◌, ◌≤◌, ◌+◌, length, Ok, Err, Some, sym, ◌∙◌, ap, subst, arith}
+use Rattle.std.proofs.Common.{rules, ◌≡◌, ◌<◌, ◌≤◌, ◌+◌, length, Some, sym, ◌∙◌, ap, subst, arith}
 use Rattle.cc_names.specs.Names.{native}
 use Rattle.cc_model.specs.Graph as graph
-use Rattle.cc_model.specs.Graph.{Graph}
 use Rattle.cc_laws_heap.proofs.RepliesAlike.{objects-stand}
 use Rattle.cc_document.specs.Words.{element}
 use Rattle.cc_document.specs.Changes.{IsAssigned}
-use Rattle.cc_document.specs.Shown.{Shows, parts, made_in}
+use Rattle.cc_document.specs.Shown.{Shows, made_in}
 use Rattle.cc_document.proofs.Assigning.{made-reads}
 use Rattle.cc_document.proofs.Documents.{made_in-document}
 use Rattle.cc_document.proofs.Holding.{room-for_native}

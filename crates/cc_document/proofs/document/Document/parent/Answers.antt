@@ -1,4 +1,4 @@
-use Rattle.std.proofs.Common.{◌+◌, sym, ◌∙◌, ap, subst}
+use Rattle.std.proofs.Common.{sym, ◌∙◌, ap, subst}
 use Rattle.cc_document.specs.Words.{element_of}
 use Rattle.cc_document.specs.Shown.{Shows}
 use Rattle.cc_document.proofs.ReadAlike.{slot-alike}

@@ -1,4 +1,4 @@
-use Rattle.std.proofs.Common.{◌≡◌, ◌≤◌, true, Err, is_some, refl, sym, ◌∙◌, ap, subst}
+use Rattle.std.proofs.Common.{◌≡◌, true, Err, is_some, refl, sym, ◌∙◌, ap, subst}
 use Rattle.cc_names.specs.declared.register.Reg.TheVariants.{N}
 use Rattle.cc_model.specs.Graph.{objects_of, register}
 use Rattle.cc_model.specs.Heap as heap

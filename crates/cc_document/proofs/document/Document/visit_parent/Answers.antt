@@ -1,4 +1,4 @@
-use Rattle.std.proofs.Common.{◌+◌, refl, inl}
+use Rattle.std.proofs.Common.{refl, inl}
 use Rattle.cc_model.specs.Graph.{objects_of}
 use Rattle.cc_document.specs.Words.{in_variable, slot_of, element_of}
 use Rattle.cc_document.specs.Shown.{gone_to}

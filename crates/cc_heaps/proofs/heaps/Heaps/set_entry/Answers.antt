@@ -3,7 +3,6 @@ use Rattle.cc_model.specs.Effects.{set_entry}
 use Rattle.cc_counted.specs.declared.held.Held.TheVariants as held
 use Rattle.cc_script.specs.Objects.{name_at}
 use Rattle.cc_heaps.specs.Keyed.{Keyed}
-use Rattle.cc_heaps.specs.Few.{AreFew}
 use Rattle.cc_heaps.specs.Standing.{KeepsSuspected}
 use Rattle.cc_heaps.proofs.EntriesFollow.{SetKeeps, entry-keeps, set-preserved}
 use Rattle.cc_heaps.proofs.EntriesSet.{map-there}

@@ -1,4 +1,4 @@
-use Rattle.std.proofs.Common.{[], None, refl, sym}
+use Rattle.std.proofs.Common.{None, refl}
 use Rattle.cc_script.specs.Objects.{name_at}
 use Rattle.cc_heaps.specs.Fields.{heap_of}
 use Rattle.cc_heaps.proofs.EntriesFollow.{SetKeeps, entry-keeps}

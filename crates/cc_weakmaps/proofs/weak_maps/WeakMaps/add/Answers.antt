@@ -1,6 +1,6 @@
 use Rattle.std.proofs.Common.{◌≡◌, ◌∙◌, ◌+◌, ◌++◌, ◌∷◌, [], ap, subst, sym, arith, length, false, None, List}
 use Rattle.cc_weakmaps.specs.Entries.{KeyedEntry, has_value_in}
-use Rattle.cc_weakmaps.specs.Index.{is_known, AreKnown, IsIndexed, IsKept}
+use Rattle.cc_weakmaps.specs.Index.{AreKnown, IsIndexed, IsKept}
 use Rattle.cc_weakmaps.specs.declared.links.Links.{Links}
 use Rattle.cc_weakmaps.proofs.Changes.{added-known, added-indexed, added-kept}
 use Rattle.cc_weakmaps.proofs.weak_maps.WeakMaps.add.Goals as goal
@@ -15,9 +15,9 @@ put_in-requires-clause-known c =
     let known = c.in_ok-know_both.ensures in
     subst (λ (xs : List KeyedEntry). AreKnown xs c.know_both.new.self) (sym items)
     (added-known es c.self.inside.links.items c.self.inside.lasts c.know_both.new.self c.args.entry link c.self.invariant
-    (ap (λ e. is_known c.know_both.new.self e.the_map) (sym c.entry.view_is) ∙ known.one)
-    (ap (λ e. is_known c.know_both.new.self e.key) (sym c.entry.view_is) ∙ known.other)
-    known.others)
+    (omega (arith, ap (λ e. e.the_map) c.entry.view_is, known.one))
+    (omega (arith, ap (λ e. e.key) c.entry.view_is, known.other))
+    c.know_both.ensures.others)
 
 pub put_in-requires-clause-indexed : goal.put_in-requires-clause-indexed
 put_in-requires-clause-indexed c =

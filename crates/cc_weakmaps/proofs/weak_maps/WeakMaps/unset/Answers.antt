@@ -4,9 +4,8 @@ use Rattle.cc_weakmaps.proofs.weak_maps.WeakMaps.unset.Goals as goal
 
 pub returns-in-Some-clause-entries : goal.returns-in-Some-clause-entries
 returns-in-Some-clause-entries c =
-    c.self.view_is
-    ∙ (c.remove.ensures.entries
-    ∙ sym (without-removed c.args.self.now c.args.the_map.0 c.args.key.0 c.in-Some.place c.place_of.ensures.at_most_one c.in-Some.ensures.found))
+    c.remove.ensures.entries
+    ∙ sym (without-removed c.args.self.now c.args.the_map.0 c.args.key.0 c.in-Some.place c.place_of.ensures.at_most_one c.in-Some.ensures.found)
 
 pub returns-in_default-clause-entries : goal.returns-in_default-clause-entries
 returns-in_default-clause-entries c = sym (without-absent c.args.self.now c.args.the_map.0 c.args.key.0 c.in_default.ensures.none)
