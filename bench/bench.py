@@ -15,7 +15,8 @@ or traversed, where they are live. The whole script is timed, and the first part
 
     seconds       the whole script, from the program's start to its end, with the output written to a file
     commands/s    the script's lines by those seconds
-    ns/object     the second part alone (the difference of the two times), by the N objects
+    ns/object     the second part alone (the difference of the two times), by the N objects, and by how often it does
+                  its work: a script collection of a chain of entries is done 8 times, the others once
     growth        the time of each size by that of the least size, of the whole script and of the second part
 
 Each run's output is checked before it counts: status 0, one reply a line, none of them a refusal, and as many `- free`
@@ -36,10 +37,11 @@ EXCEPT = [it for it in os.environ.get("EXCEPT", "").split(",") if it]
 
 
 class Shape:
-    """A script's two parts, and how many natives it frees and unlinks in all."""
+    """A script's two parts, and how many natives it frees and unlinks in all. The second part does its work `times`
+    times, where one time is too short to be told from the noise of the whole."""
 
-    def __init__(self, build, end, frees, unlinks):
-        self.build, self.end, self.frees, self.unlinks = build, end, frees, unlinks
+    def __init__(self, build, end, frees, unlinks, times=1):
+        self.build, self.end, self.frees, self.unlinks, self.times = build, end * times, frees, unlinks, times
 
 
 def chain(size, first="n0"):
@@ -133,14 +135,14 @@ def entries_backwards(size):
 
 
 def entry_chain(size):
-    """A chain of entries. Registers hold the map and the first key, so all live. A script collection marks them in the
-    order in which they were set."""
-    return Shape(entries(size), ["gc"], 0, 0)
+    """A chain of entries. Registers hold the map and the first key, so all live. Script collections mark them in the order
+    in which they were set."""
+    return Shape(entries(size), ["gc"], 0, 0, times=8)
 
 
 def entry_chain_backwards(size):
     """The same, set against the order."""
-    return Shape(entries_backwards(size), ["gc"], 0, 0)
+    return Shape(entries_backwards(size), ["gc"], 0, 0, times=8)
 
 
 def scanned(build):
@@ -246,7 +248,7 @@ def main():
                 least = least or (whole, end)
                 grown = f"{end / least[1]:.1f}" if least[1] else "?"
                 print(
-                    f"| {name} | {size} | {commands} | {whole:.4f} | {commands / whole:.0f} | {end / size * 1e9:.0f} "
+                    f"| {name} | {size} | {commands} | {whole:.4f} | {commands / whole:.0f} | {end / shape.times / size * 1e9:.0f} "
                     f"| {whole / least[0]:.1f} | {grown} |",
                     flush=True,
                 )

@@ -36,6 +36,7 @@ pub mod HasReflector
 pub mod ObjectsKept
 pub mod RootNames
 pub mod MarkedObjects
+pub mod NoWhites
 pub mod WhitesSwept
 pub mod SweptNatives
 pub mod ObjectsLeft

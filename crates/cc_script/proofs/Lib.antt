@@ -4,11 +4,12 @@ pub mod Changing
 pub mod Painting
 pub mod Writing
 pub mod Whitening
-pub mod Stepping
+pub mod Whites
 pub mod Making
 pub mod Leaving
 pub mod Reading
 pub mod Linking
+pub mod Coloured
 pub mod Chained
 pub mod Joining
 pub mod Parting

@@ -5,7 +5,7 @@ use Rattle.std.proofs.lemmas.Bool.{false≢true}
 use Rattle.cc_lists.specs.Members.{Among}
 use Rattle.cc_lists.proofs.Members.{Among-map_cases}
 use Rattle.cc_lists.proofs.Searching.{find-map}
-use Rattle.cc_script.specs.Objects.{Object, object_at, is_there, slots_at, slots_or_none}
+use Rattle.cc_script.specs.Objects.{Object, colour_at, object_at, is_there, slots_at, slots_or_none}
 use Rattle.cc_script.specs.Lists.{Placed, Lists, cell_at, placed_or_nothing, with_key, shown_at, objects_of, IsPlaced}
 use Rattle.cc_script.proofs.Keys.{find-key, find-no_key}
 
@@ -19,6 +19,13 @@ module _ (l : Lists) (p : IsPlaced l) where
 
   pub object_at-placed : (key : ℕ) (c : Placed) → cell_at l.cells key ≡ Some c → object_at (objects_of l) key ≡ Some (with_key key c)
   object_at-placed key c e = object_at-cell key ∙ ap (option_map (with_key key)) e
+
+  pub colour_at-cell : (key : ℕ) → colour_at (objects_of l) key ≡ option_map (λ (c : Placed). c.colour) (cell_at l.cells key)
+  colour_at-cell key = ap (option_map (λ (o : Object). o.colour)) (object_at-cell key) ∙ go (cell_at l.cells key)
+    where
+      go : (o : Option Placed) → option_map (λ (o : Object). o.colour) (option_map (with_key key) o) ≡ option_map (λ (c : Placed). c.colour) o
+      go None = refl
+      go (Some c) = refl
 
   -- a key of an object, and of none
   pub live-cell : (key : ℕ) → is_there (objects_of l) key ≡ true → (c : Placed) × (cell_at l.cells key ≡ Some c)

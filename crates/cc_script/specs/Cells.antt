@@ -1,16 +1,48 @@
 -- AN OBJECT IN ITS SLOT of the slab, with its neighbours in two lists: all objects in order of making, and those that a
--- walk has yet to look into.
-use Rattle.std.specs.Prelude.{◌≡◌, ℕ, List, map, Option, option_map, slice_set}
-use Rattle.slab.specs.Slab.{Slab}
+-- walk has yet to look into. Its colour stands apart, at the same key.
+use Rattle.std.specs.Prelude.{◌≡◌, ℕ, ◌<◌, List, [], ◌∷◌, map, length, drop, get_or, Option, Some, option_map, slice_set}
+use Rattle.slab.specs.Slab.{Slab, ContainsKey}
+use Rattle.cc_names.specs.declared.name.Name.{Name}
+use Rattle.cc_names.specs.declared.kind.Kind.{Kind}
+use Rattle.cc_names.specs.declared.kind.Colour.{Colour}
+use Rattle.cc_names.specs.declared.kind.Colour.TheVariants.{White}
 use Rattle.cc_chain.specs.declared.link.Link.{Link}
 use Rattle.cc_chain.specs.Links.{Links}
 use Rattle.cc_chain.specs.Stores.{slot_at}
-use Rattle.cc_script.specs.Lists.{Placed, cell_at}
+use Rattle.cc_script.specs.Lists.{Placed, cell_at, painted}
 
 pub record Linked : Type 0 where
   pub placed : Placed
   pub order : Option Link
   pub waiting : Option Link
+
+-- the same without the colour
+pub record Bare : Type 0 where
+  pub name : Name
+  pub kind : Kind
+  pub native : Option ℕ
+  pub slots : List (Option ℕ)
+  pub order : Option Link
+  pub waiting : Option Link
+
+abbrev pub in_colour : Colour → Bare → Linked
+in_colour colour b = record {
+  placed = record { name = b.name; kind = b.kind; native = b.native; slots = b.slots; colour = colour };
+  order = b.order;
+  waiting = b.waiting;
+}
+
+-- what stands in each slot has the colour of its key
+abbrev pub coloured : List (Option Bare) → List Colour → List (Option Linked)
+coloured [] colours = []
+coloured (o ∷ slots) colours = option_map (in_colour (get_or colours 0 White)) o ∷ coloured slots (drop 1 colours)
+
+abbrev pub coloured_slab : Slab Bare → List Colour → Slab Linked
+coloured_slab s colours = record { slots = coloured s.slots colours; vacant_key = s.vacant_key; capacity = s.capacity }
+
+-- each object has one
+abbrev pub HaveColours : Slab Bare → List Colour → Type 0
+HaveColours s colours = (key : ℕ) → ContainsKey s key → key < length colours
 
 -- the objects by key
 abbrev pub cells_of : List (Option Linked) → List (Option Placed)
@@ -41,3 +73,14 @@ pub record Changes (old new : Slab Linked) (key : ℕ) (change : Placed → Plac
   pub order : order_links new.slots ≡ order_links old.slots
   pub waiting : waiting_links new.slots ≡ waiting_links old.slots
   pub capacity : new.capacity ≡ old.capacity
+
+-- ALL OBJECTS MADE WHITE, and nothing else
+pub record Whitens (old new : Slab Linked) : Type 0 where
+  pub cells : cells_of new.slots ≡ map (option_map (painted White)) (cells_of old.slots)
+  pub order : order_links new.slots ≡ order_links old.slots
+  pub waiting : waiting_links new.slots ≡ waiting_links old.slots
+  pub capacity : new.capacity ≡ old.capacity
+
+-- a white object stands at a key
+abbrev pub IsWhiteAt : Slab Linked → ℕ → Type 0
+IsWhiteAt s key = option_map (λ c. c.colour) (cell_at (cells_of s.slots) key) ≡ Some White

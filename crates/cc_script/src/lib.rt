@@ -18,6 +18,7 @@
 #![tactic(auto)]
 
 mod cell;
+mod cells;
 mod laws;
 mod links;
 mod marking;

@@ -1,8 +1,7 @@
-//! The two lists that go through the slab of the objects: each object has its neighbours in both.
+//! The two lists that go through the objects: each object has its neighbours in both.
 
-use crate::cell::Cell;
+use crate::cells::Cells;
 use cc_chain::{Link, LinkStore};
-use slab::Slab;
 
 /// The list of all objects, in order of making.
 pub(crate) struct Order;
@@ -10,7 +9,7 @@ pub(crate) struct Order;
 /// The list of those that a walk raised and has not looked into, in the order in which it raised them.
 pub(crate) struct Waiting;
 
-impl LinkStore<Order> for Slab<Cell> {
+impl LinkStore<Order> for Cells {
     ghost use Rattle.cc_script.specs.Cells.{Beside, beside_order, order_links};
 
     ghost links = { λ s. order_links s.slots };
@@ -20,15 +19,15 @@ impl LinkStore<Order> for Slab<Cell> {
     ghost rest = { beside_order };
 
     fn get(&self, key: usize) -> Option<Link> {
-        self[key].order
+        self.slab[key].order
     }
 
     fn set(&mut self, key: usize, link: Option<Link>) {
-        self[key].order = link;
+        self.slab[key].order = link;
     }
 }
 
-impl LinkStore<Waiting> for Slab<Cell> {
+impl LinkStore<Waiting> for Cells {
     ghost use Rattle.cc_script.specs.Cells.{Beside, beside_waiting, waiting_links};
 
     ghost links = { λ s. waiting_links s.slots };
@@ -38,10 +37,10 @@ impl LinkStore<Waiting> for Slab<Cell> {
     ghost rest = { beside_waiting };
 
     fn get(&self, key: usize) -> Option<Link> {
-        self[key].waiting
+        self.slab[key].waiting
     }
 
     fn set(&mut self, key: usize, link: Option<Link>) {
-        self[key].waiting = link;
+        self.slab[key].waiting = link;
     }
 }

@@ -53,7 +53,7 @@ impl Marking {
         requires live { IsTrue (is_there self.now.objects key.0) }
         ensures { colour_at self.now.objects key.0 ≡ Some result }
     {
-        self.parts.cell(key).colour
+        self.parts.colour(key)
     }
 
     /// Gives an object the colour where its own is lower; it goes last on the list then.

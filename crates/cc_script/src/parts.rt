@@ -1,27 +1,29 @@
 //! The parts of the script heap, and the walk that raises colours.
-ghost use Rattle.std.specs.Prelude.{◌≡◌, ℕ, ◌<◌, ◌≤◌, false, List, [], ◌∷◌, ◌++◌, length, Some, None, IfOk, IfSome, IsTrue, OnErr, option_map, replicate, slice_index_or};
+ghost use Rattle.std.specs.Prelude.{◌≡◌, ◌↔◌, ℕ, ◌<◌, ◌≤◌, false, List, [], ◌∷◌, ◌++◌, length, Some, None, IfOk, IfSome, IsTrue, OnErr, option_map, replicate, slice_index_or};
 ghost use Rattle.cc_lists.specs.Members.{Among};
+ghost use Rattle.cc_names.specs.declared.kind.Colour.{Colour};
 ghost use Rattle.cc_names.specs.declared.kind.Colour.TheVariants.{White};
-ghost use Rattle.cc_script.specs.Objects.{AreWhole, FitsKind, IsNotBelow, change_object, colour_at, first_key, is_there, key_after, new_object, raised_among, slots_at, whitened, with_slot, without_object};
+ghost use Rattle.cc_script.specs.Objects.{Object, AreWhole, FitsKind, IsNotBelow, change_object, colour_at, first_key, is_there, key_after, new_object, raised_among, slots_at, whitened, with_slot, without_object};
 ghost use Rattle.cc_lists.specs.Walks.{first_of};
 ghost use Rattle.cc_script.specs.Underway.{with_first_looked_into};
 ghost use Rattle.cc_script.specs.Walking.{keys_reached};
+ghost use Rattle.cc_script.specs.Cells.{in_colour};
 ghost use Rattle.cc_script.specs.Lists.{IsPlaced, cell_at};
 ghost use Rattle.cc_script.specs.Marking.{raise_each, raise_key, raise_slot};
 
-use crate::cell::{Cell, is_below, paint, write};
+use crate::cell::{Cell, is_below};
+use crate::cells::Cells;
 use crate::links::{Order, Waiting};
 use cc_chain::Chain;
 use cc_names::{Colour, Kind, NKey, Name, NoMemory, SKey};
-use slab::Slab;
 use std::alloc::Global;
 
 /// The objects by key, their list in order of making, and the list of those that a walk raised and has not looked into.
 ///
-/// Both lists go through the objects, so the slab alone takes memory.
+/// Both lists go through the objects, so the objects alone take memory, and a byte for each colour.
 #[derive(Drop)]
 pub(crate) struct ScriptParts {
-    cells: Slab<Cell>,
+    cells: Cells,
     order: Chain<Order>,
     waiting: Chain<Waiting>,
 }
@@ -35,7 +37,7 @@ impl ScriptParts {
         ensures at_rest { IsAtRest result }
     {
         ScriptParts {
-            cells: Slab::new(alloc),
+            cells: Cells::new(alloc),
             order: Chain::new(),
             waiting: Chain::new(),
         }
@@ -59,16 +61,15 @@ impl ScriptParts {
         ensures at_rest { IsAtRest self.new }
     {
         let empty = empty_slots(alloc, slots)?;
-        self.cells.reserve(1)?;
-        let key = self.cells.insert_reserved(Cell {
+        let cell = Cell {
             name,
             kind,
             native,
             slots: empty,
-            colour: Colour::Black,
             order: None,
             waiting: None,
-        });
+        };
+        let key = self.cells.insert(cell, Colour::Black)?;
         self.order.push_back(&mut self.cells, key);
         Ok(SKey(key))
     }
@@ -77,9 +78,26 @@ impl ScriptParts {
     pub(crate) fn cell(&self, key: SKey) -> &Cell
         requires placed { IsPlaced (lists_of self.now) }
         requires live { IsTrue (is_there (shows self.now) key.0) }
-        ensures { cell_at (lists_of self.now).cells key.0 ≡ Some result.now.placed }
+        ensures { (colour : Colour) × (cell_at (lists_of self.now).cells key.0 ≡ Some (in_colour colour result.now).placed) }
     {
-        &self.cells[key.0]
+        self.cells.at(key.0)
+    }
+
+    /// Its colour.
+    pub(crate) fn colour(&self, key: SKey) -> Colour
+        requires placed { IsPlaced (lists_of self.now) }
+        requires live { IsTrue (is_there (shows self.now) key.0) }
+        ensures { option_map (λ c. c.colour) (cell_at (lists_of self.now).cells key.0) ≡ Some result }
+    {
+        self.cells.colour(key.0)
+    }
+
+    /// Whether there is a white object.
+    pub(crate) fn has_white(&self) -> bool
+        requires at_rest { IsAtRest self.now }
+        ensures white { IsTrue result ↔ ((o : Object) × (Among o (shows self.now) × (o.colour ≡ White))) }
+    {
+        self.cells.has_white()
     }
 
     /// The object that was made first; none exactly where there is none.
@@ -114,7 +132,7 @@ impl ScriptParts {
         ensures at_rest { IsAtRest self.new }
         ensures memory { TakesNoMemory self.old self.new }
     {
-        write(&mut self.cells, key, i as usize, item);
+        self.cells.write(key, i as usize, item);
     }
 
     /// Makes all objects white.
@@ -124,11 +142,7 @@ impl ScriptParts {
         ensures at_rest { IsAtRest self.new }
         ensures memory { TakesNoMemory self.old self.new }
     {
-        let mut at = self.order.first(&self.cells);
-        while let Some(key) = at {
-            paint(&mut self.cells, SKey(key), Colour::White);
-            at = self.order.next(&self.cells, key);
-        }
+        self.cells.whiten();
     }
 
     /// Takes out the object at a key, which is white.
@@ -140,7 +154,7 @@ impl ScriptParts {
         ensures memory { TakesNoMemory self.old self.new }
     {
         self.order.unlink_at(&mut self.cells, key.0);
-        let _cell = self.cells.remove(key.0);
+        self.cells.remove(key.0);
     }
 
     /// Raises the object at a key where it is below `to`; it waits last then.
@@ -151,8 +165,8 @@ impl ScriptParts {
         ensures under_way { IsUnderWay to self.new }
         ensures memory { TakesNoMemory self.old self.new }
     {
-        if is_below(self.cell(key).colour, to) {
-            paint(&mut self.cells, key, to);
+        if is_below(self.colour(key), to) {
+            self.cells.paint(key, to);
             self.waiting.push_back(&mut self.cells, key.0);
         }
     }

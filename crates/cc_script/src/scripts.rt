@@ -1,8 +1,9 @@
 //! The script heap as callers see it.
 ghost use Rattle.std.specs.Prelude.{◌≡◌, ◌↔◌, ◌<◌, ◌≤◌, false, List, [], ◌∷◌, ◌++◌, length, Some, None, option_map, slice_index_or, IsSome, IsTrue, IfSome, IfOk, OnOk, OnErr};
+ghost use Rattle.cc_lists.specs.Members.{Among};
 ghost use Rattle.cc_names.specs.declared.kind.Colour.TheVariants.{White, Black};
 ghost use Rattle.cc_names.specs.declared.kind.Kind.TheVariants.{Reflector};
-ghost use Rattle.cc_script.specs.Objects.{AreWhole, HaveOwnKeys, change_object, colour_at, first_key, is_there, key_after, kind_at, map_object, name_at, native_at, plain_object, reflector_object, raised_among, slots_at, whitened, with_slot, without_object, IsNotBelow};
+ghost use Rattle.cc_script.specs.Objects.{Object, AreWhole, HaveOwnKeys, change_object, colour_at, first_key, is_there, key_after, kind_at, map_object, name_at, native_at, plain_object, reflector_object, raised_among, slots_at, whitened, with_slot, without_object, IsNotBelow};
 ghost use Rattle.cc_script.specs.Walking.{keys_reached};
 
 use crate::marking::Marking;
@@ -116,7 +117,15 @@ impl Scripts {
         requires live { IsTrue (is_there self.now key.0) }
         ensures { colour_at self.now key.0 ≡ Some result }
     {
-        self.parts.cell(key).colour
+        self.parts.colour(key)
+    }
+
+    /// Whether there is a white object.
+    // O(keys), a byte each, until one is found
+    pub fn has_white(&self) -> bool
+        ensures { IsTrue result ↔ ((o : Object) × (Among o self.now × (o.colour ≡ White))) }
+    {
+        self.parts.has_white()
     }
 
     /// How many slots an object has: 0 to 64.

@@ -270,10 +270,13 @@ fn exposure_leaves_others_gray(rt: HostRuntime) -> Result<(), Fail> {
     let mut heap = Scripts::new(rt.alloc());
     if let Ok(a) = make(&mut heap, 1) {
         if let Ok(last) = extend(&mut heap, a, 2) {
+            assert!(rt; !heap.has_white());
             whiten(&mut heap);
             assert_eq!(rt; heap.colour(last), Colour::White);
+            assert!(rt; heap.has_white());
             mark(&mut heap, last, Colour::Gray);
             assert_eq!(rt; heap.colour(a), Colour::Gray);
+            assert!(rt; !heap.has_white());
             if let Some(b) = heap.next(a) {
                 touch(&mut heap, b);
                 assert_eq!(rt; heap.colour(b), Colour::Black);
@@ -302,6 +305,7 @@ fn key_comes_back_under_a_new_name(rt: HostRuntime) -> Result<(), Fail> {
                 if let Some(second) = heap.next(first) {
                     assert_eq!(rt; second, a);
                     assert_eq!(rt; heap.name(second), Name::Script(ScriptNo(3)));
+                    assert_eq!(rt; heap.colour(second), Colour::Black);
                     assert_eq!(rt; heap.next(second), None);
                     return Ok(());
                 }

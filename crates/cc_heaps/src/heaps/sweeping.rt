@@ -73,6 +73,9 @@ fn sweep_whites<N: Notices>(counted: &mut Counted, scripts: &mut Scripts, out: &
     ensures natives { counted.new ≡ (swept_counts counted.old scripts.old).counts }
     ensures told { TellsEvents (N.telling out.old) (N.telling out.new) (swept_counts counted.old scripts.old).events }
 {
+    if !scripts.has_white() {
+        return false;
+    }
     let mut swept = false;
     let mut at = scripts.first();
     while let Some(key) = at {

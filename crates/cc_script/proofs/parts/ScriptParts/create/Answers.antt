@@ -1,5 +1,4 @@
 use Rattle.std.proofs.Common.{◌≡◌, ◌≤◌, ℕ, zero, suc, List, [], ◌∷◌, ◌++◌, map, length, replicate, Option, None, option_map, refl, ap, sym, subst, ◌∙◌, arith}
-use Rattle.slab.specs.Slab.{Slab}
 use Rattle.std.proofs.lemmas.List.{length-replicate}
 use Rattle.cc_names.specs.declared.number.NKey.{NKey}
 use Rattle.cc_names.specs.declared.name.Name.{Name}
@@ -8,7 +7,6 @@ use Rattle.cc_names.specs.declared.kind.Colour.TheVariants.{Black}
 use Rattle.cc_script.specs.Objects.{new_object}
 use Rattle.cc_script.specs.ColourOrder.{HasColourOrder}
 use Rattle.cc_script.specs.Lists.{Placed, with_key, objects_of, IsPlaced}
-use Rattle.cc_script.specs.Cells.{Linked}
 use Rattle.cc_script.specs.Parts.{lists_of, shows}
 use Rattle.cc_script.proofs.Places.{is_there-none}
 use Rattle.cc_script.proofs.Making.{IsPlaced-made, objects-made}
@@ -32,8 +30,7 @@ new_placed name kind native slots = record { name = name; kind = kind; native = 
 pub push_back-requires-clause-chain : goal.push_back-requires-clause-chain
 push_back-requires-clause-chain c =
     let p = c.args.self.now in
-    let same = ap (λ (s : Slab Linked). s.slots) c.reserve.ensures.rest_kept in
-    let j = joined p _ _ _ _ same c.insert_reserved-key.ensures.was_vacant c.insert_reserved-key.ensures.updates refl refl in
+    let j = joined p _ _ _ _ refl c.in_ok-key.ensures.was_vacant c.in_ok-key.ensures.updates refl refl in
     ((lists_of p).order, order-joined p c.requires.at_rest.chained _ _ _ j)
 
 pub returns-clause-made : goal.returns-clause-made
@@ -41,29 +38,26 @@ returns-clause-made c =
     let p = c.args.self.now in
     let l = lists_of p in
     let h = c.requires.at_rest.chained in
-    let same = ap (λ (s : Slab Linked). s.slots) c.reserve.ensures.rest_kept in
-    let j = joined p _ _ _ _ same c.insert_reserved-key.ensures.was_vacant c.insert_reserved-key.ensures.updates refl refl in
+    let j = joined p _ _ _ _ refl c.in_ok-key.ensures.was_vacant c.in_ok-key.ensures.updates refl refl in
     let pushed = c.push_back.ensures.keys l.order (order-joined p h _ _ _ j) in
     let native = option_map (λ (k : NKey). k.0) c.args.native in
     let empty = ap (map held_key) c.in_ok-empty.ensures ∙ empty-slots c.args.slots in
     ap objects_of (lists-joined p h _ _ _ j c.push_back.new.store c.push_back.new.self _ pushed c.push_back.ensures.rest).lists
     ∙ (objects-made l c.requires.at_rest.placed _ _ _ (vacant-joined p h _ _ _ j) (at-joined p h _ _ _ j) (others-joined p h _ _ _ j)
-    ∙ ap (λ ys. shows p ++ with_key c.insert_reserved-key.result (new_placed c.args.name c.args.kind native ys) ∷ []) empty)
+    ∙ ap (λ ys. shows p ++ with_key c.in_ok-key.key (new_placed c.args.name c.args.kind native ys) ∷ []) empty)
 
 pub returns-clause-vacant : goal.returns-clause-vacant
 returns-clause-vacant c =
     let p = c.args.self.now in
-    let same = ap (λ (s : Slab Linked). s.slots) c.reserve.ensures.rest_kept in
-    let j = joined p _ _ _ _ same c.insert_reserved-key.ensures.was_vacant c.insert_reserved-key.ensures.updates refl refl in
-    is_there-none (lists_of p) c.requires.at_rest.placed c.insert_reserved-key.result (vacant-joined p c.requires.at_rest.chained _ _ _ j)
+    let j = joined p _ _ _ _ refl c.in_ok-key.ensures.was_vacant c.in_ok-key.ensures.updates refl refl in
+    is_there-none (lists_of p) c.requires.at_rest.placed c.in_ok-key.key (vacant-joined p c.requires.at_rest.chained _ _ _ j)
 
 pub returns-clause-at_rest : goal.returns-clause-at_rest
 returns-clause-at_rest c =
     let p = c.args.self.now in
     let l = lists_of p in
     let h = c.requires.at_rest.chained in
-    let same = ap (λ (s : Slab Linked). s.slots) c.reserve.ensures.rest_kept in
-    let j = joined p _ _ _ _ same c.insert_reserved-key.ensures.was_vacant c.insert_reserved-key.ensures.updates refl refl in
+    let j = joined p _ _ _ _ refl c.in_ok-key.ensures.was_vacant c.in_ok-key.ensures.updates refl refl in
     let pushed = c.push_back.ensures.keys l.order (order-joined p h _ _ _ j) in
     let native = option_map (λ (k : NKey). k.0) c.args.native in
     let empty : map held_key c.in_ok-empty.empty.items ≡ replicate c.args.slots None = ap (map held_key) c.in_ok-empty.ensures ∙ empty-slots c.args.slots in
@@ -74,6 +68,6 @@ returns-clause-at_rest c =
           (IsPlaced-made l c.requires.at_rest.placed _ _ _ (vacant-joined p h _ _ _ j) (at-joined p h _ _ _ j) (others-joined p h _ _ _ j) few c.requires.fits);
       chained = a.chained;
       coloured = subst HasColourOrder (sym (returns-clause-made c))
-          (HasColourOrder-made (shows p) (new_object c.insert_reserved-key.result c.args.name c.args.kind native c.args.slots) c.args.slots refl c.requires.at_rest.coloured);
+          (HasColourOrder-made (shows p) (new_object c.in_ok-key.key c.args.name c.args.kind native c.args.slots) c.args.slots refl c.requires.at_rest.coloured);
       emptied = a.waits ∙ c.requires.at_rest.emptied;
     }

@@ -8,6 +8,7 @@ use Rattle.cc_script.proofs.Places.{live-cell, live-some}
 use Rattle.cc_script.proofs.Keys.{coloured-there}
 use Rattle.cc_script.proofs.Leaving.{IsPlaced-left, objects-left}
 use Rattle.cc_script.proofs.Linking.{cell-held}
+use Rattle.cc_script.proofs.Coloured.{some-of}
 use Rattle.cc_script.proofs.Parting.{lists-parted}
 use Rattle.cc_script.proofs.InOrder.{HasColourOrder-without}
 use Rattle.cc_script.proofs.parts.ScriptParts.remove.Goals as goal
@@ -22,8 +23,8 @@ unlink_at-requires-clause-linked c =
     let f = live-cell l c.requires.at_rest.placed c.args.key.0 (coloured-there (shows p) c.args.key.0 _ c.requires.white) in
     among-linked (order_links p.cells.slots) p.order l.order c.requires.at_rest.chained.order c.args.key.0 (c.requires.at_rest.placed.ordered c.args.key.0 f.0 f.1)
 
-pub remove-cell-requires : goal.remove-cell-requires
-remove-cell-requires c =
+pub remove-requires : goal.remove-requires
+remove-requires c =
     let p = c.args.self.now in
     cell-held c.unlink_at.new.store.slots c.args.key.0
     (ap (λ (b : Beside). is_some (cell_at b.cells c.args.key.0)) c.unlink_at.ensures.rest
@@ -35,8 +36,10 @@ returns-clause-shows c =
     let l = lists_of p in
     let h = c.requires.at_rest.chained in
     let f = live-cell l c.requires.at_rest.placed c.args.key.0 (coloured-there (shows p) c.args.key.0 _ c.requires.white) in
-    let removed = c.remove-cell.ensures in
-    let a = lists-parted p h c.requires.at_rest.emptied c.args.key.0 _ _ (c.unlink_at.ensures.keys l.order h.order) c.unlink_at.ensures.rest _ _ removed.value removed.slots removed.updates in
+    let removed = c.remove.ensures in
+    let held = some-of _ (cell-held c.unlink_at.new.store.slots c.args.key.0
+    (ap (λ (b : Beside). is_some (cell_at b.cells c.args.key.0)) c.unlink_at.ensures.rest ∙ ap is_some f.1)) in
+    let a = lists-parted p h c.requires.at_rest.emptied c.args.key.0 _ _ (c.unlink_at.ensures.keys l.order h.order) c.unlink_at.ensures.rest _ held.0 held.1 removed.slots removed.updates in
     ap objects_of a.lists ∙ objects-left l c.requires.at_rest.placed c.args.key.0 f.0 f.1
 
 pub returns-clause-at_rest : goal.returns-clause-at_rest
@@ -45,8 +48,10 @@ returns-clause-at_rest c =
     let l = lists_of p in
     let h = c.requires.at_rest.chained in
     let f = live-cell l c.requires.at_rest.placed c.args.key.0 (coloured-there (shows p) c.args.key.0 _ c.requires.white) in
-    let removed = c.remove-cell.ensures in
-    let a = lists-parted p h c.requires.at_rest.emptied c.args.key.0 _ _ (c.unlink_at.ensures.keys l.order h.order) c.unlink_at.ensures.rest _ _ removed.value removed.slots removed.updates in
+    let removed = c.remove.ensures in
+    let held = some-of _ (cell-held c.unlink_at.new.store.slots c.args.key.0
+    (ap (λ (b : Beside). is_some (cell_at b.cells c.args.key.0)) c.unlink_at.ensures.rest ∙ ap is_some f.1)) in
+    let a = lists-parted p h c.requires.at_rest.emptied c.args.key.0 _ _ (c.unlink_at.ensures.keys l.order h.order) c.unlink_at.ensures.rest _ held.0 held.1 removed.slots removed.updates in
     record {
       placed = subst IsPlaced (sym a.lists) (IsPlaced-left l c.requires.at_rest.placed c.args.key.0 f.0 f.1);
       chained = a.chained;
