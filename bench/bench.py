@@ -16,7 +16,7 @@ or traversed, where they are live. The whole script is timed, and the first part
     seconds       the whole script, from the program's start to its end, with the output written to a file
     commands/s    the script's lines by those seconds
     ns/object     the second part alone (the difference of the two times), by the N objects, and by how often it does
-                  its work: a script collection of a chain of entries is done 8 times, the others once
+                  its work: a script collection of a chain of entries is done 16 times, the others once
     growth        the time of each size by that of the least size, of the whole script and of the second part
 
 Each run's output is checked before it counts: status 0, one reply a line, none of them a refusal, and as many `- free`
@@ -137,12 +137,12 @@ def entries_backwards(size):
 def entry_chain(size):
     """A chain of entries. Registers hold the map and the first key, so all live. Script collections mark them in the order
     in which they were set."""
-    return Shape(entries(size), ["gc"], 0, 0, times=8)
+    return Shape(entries(size), ["gc"], 0, 0, times=16)
 
 
 def entry_chain_backwards(size):
     """The same, set against the order."""
-    return Shape(entries_backwards(size), ["gc"], 0, 0, times=8)
+    return Shape(entries_backwards(size), ["gc"], 0, 0, times=16)
 
 
 def scanned(build):
@@ -204,27 +204,23 @@ def check(said, status, lines, frees, unlinks):
             sys.exit(f"bench: {what}: {found}, and not {wanted}")
 
 
-def once(folder, lines, frees, unlinks):
-    """Runs a script once and checks its output. The seconds that the run took."""
-    with open(f"{folder}/script", "w") as it:
-        it.write("".join(f"{line}\n" for line in lines))
-    with open(f"{folder}/script", "rb") as script, open(f"{folder}/said", "wb") as said:
-        start = time.perf_counter()
-        status = subprocess.call([PROGRAM, "replay"], stdin=script, stdout=said)
-        took = time.perf_counter() - start
-    with open(f"{folder}/said", "rb") as it:
-        check(it.read(), status, len(lines), frees, unlinks)
-    return took
+class Script:
+    """A script in a file, how many lines it has, what its output must have, and its quickest run so far."""
 
+    def __init__(self, path, lines, frees, unlinks):
+        self.path, self.lines, self.frees, self.unlinks, self.quickest = path, len(lines), frees, unlinks, float("inf")
+        with open(path, "w") as it:
+            it.write("".join(f"{line}\n" for line in lines))
 
-def measure(folder, shape):
-    """The quickest run of the whole script, and of its first part."""
-    script = shape.build + shape.end
-    whole, build = [], []
-    for _ in range(RUNS):
-        whole.append(once(folder, script, shape.frees, shape.unlinks))
-        build.append(once(folder, shape.build, 0, 0))
-    return min(whole), min(build)
+    def run(self, said):
+        """Runs it once, and checks its output."""
+        with open(self.path, "rb") as script, open(said, "wb") as out:
+            start = time.perf_counter()
+            status = subprocess.call([PROGRAM, "replay"], stdin=script, stdout=out)
+            took = time.perf_counter() - start
+        with open(said, "rb") as it:
+            check(it.read(), status, self.lines, self.frees, self.unlinks)
+        self.quickest = min(self.quickest, took)
 
 
 def main():
@@ -233,25 +229,31 @@ def main():
         sys.exit("bench: sizes are even, and at least 4")
     if not os.access(PROGRAM, os.X_OK):
         sys.exit(f"bench: there is no program {PROGRAM}: build it, or name one in CCREPLAY")
-    print("| shape | objects | commands | seconds | commands/s | ns/object | growth, whole | growth, second part |")
-    print("|---|---:|---:|---:|---:|---:|---:|---:|")
+    shapes = [it for it in SHAPES if not (ONLY and not any(part in it[0] for part in ONLY) or any(part in it[0] for part in EXCEPT))]
     with tempfile.TemporaryDirectory(prefix="ccreplay-bench-") as folder:
-        for name, made in SHAPES:
-            if ONLY and not any(it in name for it in ONLY) or any(it in name for it in EXCEPT):
-                continue
-            least = None
+        rows = []
+        for name, made in shapes:
             for size in sizes:
                 shape = made(size)
-                whole, build = measure(folder, shape)
-                end = max(whole - build, 0.0)
-                commands = len(shape.build) + len(shape.end)
-                least = least or (whole, end)
-                grown = f"{end / least[1]:.1f}" if least[1] else "?"
-                print(
-                    f"| {name} | {size} | {commands} | {whole:.4f} | {commands / whole:.0f} | {end / shape.times / size * 1e9:.0f} "
-                    f"| {whole / least[0]:.1f} | {grown} |",
-                    flush=True,
-                )
+                whole = Script(f"{folder}/{len(rows)}.whole", shape.build + shape.end, shape.frees, shape.unlinks)
+                build = Script(f"{folder}/{len(rows)}.build", shape.build, 0, 0)
+                rows.append((name, size, shape.times, whole, build))
+        # one run of each script after the other, and so again: a minute in which the machine is busy spoils no row
+        for _ in range(RUNS):
+            for _, _, _, whole, build in rows:
+                whole.run(f"{folder}/said")
+                build.run(f"{folder}/said")
+    print("| shape | objects | commands | seconds | commands/s | ns/object | growth, whole | growth, second part |")
+    print("|---|---:|---:|---:|---:|---:|---:|---:|")
+    least = {}
+    for name, size, times, script, build in rows:
+        whole, end = script.quickest, max(script.quickest - build.quickest, 0.0)
+        first = least.setdefault(name, (whole, end))
+        grown = f"{end / first[1]:.1f}" if first[1] else "?"
+        print(
+            f"| {name} | {size} | {script.lines} | {whole:.4f} | {script.lines / whole:.0f} "
+            f"| {end / times / size * 1e9:.0f} | {whole / first[0]:.1f} | {grown} |"
+        )
 
 
 if __name__ == "__main__":
