@@ -9,6 +9,7 @@ pub mod Making
 pub mod Leaving
 pub mod Reading
 pub mod Linking
+pub mod Paired
 pub mod Coloured
 pub mod Chained
 pub mod Joining

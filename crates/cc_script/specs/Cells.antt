@@ -1,7 +1,7 @@
--- AN OBJECT IN ITS SLOT of the slab, with its neighbours in two lists: all objects in order of making, and those that a
--- walk has yet to look into. Its colour stands apart, at the same key.
-use Rattle.std.specs.Prelude.{◌≡◌, ℕ, ◌<◌, List, [], ◌∷◌, map, length, drop, get_or, Option, Some, option_map, slice_set}
-use Rattle.slab.specs.Slab.{Slab, ContainsKey}
+-- AN OBJECT AT ITS KEY, with its neighbours in two lists: all objects in order of making, and those that a walk has yet to
+-- look into. What a walk looks at, and the colour, stand apart, at the same key.
+use Rattle.std.specs.Prelude.{◌≡◌, ℕ, List, [], map, Option, Some, None, option_map, slice_set}
+use Rattle.slab.specs.Slab.{Slab}
 use Rattle.cc_names.specs.declared.name.Name.{Name}
 use Rattle.cc_names.specs.declared.kind.Kind.{Kind}
 use Rattle.cc_names.specs.declared.kind.Colour.{Colour}
@@ -10,6 +10,7 @@ use Rattle.cc_chain.specs.declared.link.Link.{Link}
 use Rattle.cc_chain.specs.Links.{Links}
 use Rattle.cc_chain.specs.Stores.{slot_at}
 use Rattle.cc_script.specs.Lists.{Placed, cell_at, painted}
+use Rattle.cc_script.specs.Paired.{Reaches, paired_slab}
 
 pub record Linked : Type 0 where
   pub placed : Placed
@@ -25,6 +26,30 @@ pub record Bare : Type 0 where
   pub order : Option Link
   pub waiting : Option Link
 
+-- what stands in the slab, and what a walk looks at, which stands apart
+pub record Label : Type 0 where
+  pub name : Name
+  pub kind : Kind
+  pub native : Option ℕ
+  pub order : Option Link
+
+pub record Content : Type 0 where
+  pub slots : List (Option ℕ)
+  pub waiting : Option Link
+
+abbrev pub nothing : Content
+nothing = record { slots = []; waiting = None }
+
+abbrev pub filled : Content → Label → Bare
+filled content label = record {
+  name = label.name;
+  kind = label.kind;
+  native = label.native;
+  slots = content.slots;
+  order = label.order;
+  waiting = content.waiting;
+}
+
 abbrev pub in_colour : Colour → Bare → Linked
 in_colour colour b = record {
   placed = record { name = b.name; kind = b.kind; native = b.native; slots = b.slots; colour = colour };
@@ -32,17 +57,17 @@ in_colour colour b = record {
   waiting = b.waiting;
 }
 
--- what stands in each slot has the colour of its key
-abbrev pub coloured : List (Option Bare) → List Colour → List (Option Linked)
-coloured [] colours = []
-coloured (o ∷ slots) colours = option_map (in_colour (get_or colours 0 White)) o ∷ coloured slots (drop 1 colours)
+-- the labels with their contents
+abbrev pub filled_slab : Slab Label → List Content → Slab Bare
+filled_slab s contents = paired_slab filled nothing s contents
 
+-- and with their colours
 abbrev pub coloured_slab : Slab Bare → List Colour → Slab Linked
-coloured_slab s colours = record { slots = coloured s.slots colours; vacant_key = s.vacant_key; capacity = s.capacity }
+coloured_slab s colours = paired_slab in_colour White s colours
 
--- each object has one
-abbrev pub HaveColours : Slab Bare → List Colour → Type 0
-HaveColours s colours = (key : ℕ) → ContainsKey s key → key < length colours
+-- each object has both
+abbrev pub HaveAll : Slab Label → List Content → List Colour → Type 0
+HaveAll s contents colours = Reaches s contents × Reaches s colours
 
 -- the objects by key
 abbrev pub cells_of : List (Option Linked) → List (Option Placed)

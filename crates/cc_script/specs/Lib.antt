@@ -3,6 +3,8 @@ pub mod Walking
 pub mod Lists
 pub mod ColourOrder
 pub mod Marking
+pub mod Neighbours
+pub mod Paired
 pub mod Cells
 pub mod Parts
 pub mod Tidy

@@ -1,12 +1,14 @@
-//! An object as it stands at its key: its name and its slots, and its neighbours in the two lists.
+//! An object in two parts: what it is, and what a walk looks at.
 ghost use Rattle.std.specs.Prelude.{◌≡◌};
+ghost use Rattle.cc_script.specs.Cells.{nothing};
 ghost use Rattle.cc_script.specs.Objects.{is_below as is_below_it};
 
-use cc_chain::Link;
+use crate::neighbours::Neighbours;
 use cc_names::{Colour, Kind, NKey, Name, SKey};
+use std::alloc::Global;
 use std::marker::Model;
 
-/// An object as it stands at its key; its colour stands apart.
+/// What an object is, as it stands in the slab.
 #[derive(Drop)]
 pub(crate) struct Cell {
     /// The name that it never shares with another.
@@ -14,28 +16,55 @@ pub(crate) struct Cell {
     pub(crate) kind: Kind,
     /// Where its native stands, of a reflector.
     pub(crate) native: Option<NKey>,
-    /// As many as it was made with, and no room for more.
-    pub(crate) slots: Vec<Option<SKey>>,
     /// Its neighbours in order of making.
-    pub(crate) order: Option<Link>,
-    /// Its neighbours among those that a walk has yet to look into, while it is one of them.
-    pub(crate) waiting: Option<Link>,
+    pub(crate) order: Neighbours,
 }
 
 impl Model for Cell {
-    ghost use Rattle.std.specs.Prelude.{map, option_map};
-    ghost use Rattle.cc_script.specs.Cells.{Bare};
+    ghost use Rattle.std.specs.Prelude.{option_map};
+    ghost use Rattle.cc_script.specs.Cells.{Label};
 
-    ghost Value = { Bare };
+    ghost Value = { Label };
 
     ghost view = { λ c. record {
       name = c.name;
       kind = c.kind;
       native = option_map (λ k. k.0) c.native;
-      slots = map (option_map (λ k. k.0)) c.slots.items;
       order = c.order;
-      waiting = c.waiting;
     } };
+}
+
+/// What a walk looks at of an object.
+#[derive(Drop)]
+pub(crate) struct Body {
+    /// As many as it was made with, and no room for more.
+    pub(crate) slots: Vec<Option<SKey>>,
+    /// Its neighbours among those that a walk has yet to look into, while it is one of them.
+    pub(crate) waiting: Neighbours,
+}
+
+impl Model for Body {
+    ghost use Rattle.std.specs.Prelude.{map, option_map};
+    ghost use Rattle.cc_script.specs.Cells.{Content};
+
+    ghost Value = { Content };
+
+    ghost view = { λ b. record {
+      slots = map (option_map (λ k. k.0)) b.slots.items;
+      waiting = b.waiting;
+    } };
+}
+
+impl Body {
+    /// That of no object: no slots, and no memory taken.
+    pub(crate) fn nothing(alloc: Global) -> Body
+        ensures { result ≡ nothing }
+    {
+        Body {
+            slots: Vec::new(alloc),
+            waiting: Neighbours::of(None),
+        }
+    }
 }
 
 /// Whether a colour is below another: white below gray below black.

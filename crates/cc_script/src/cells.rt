@@ -1,36 +1,52 @@
-//! The objects by key, and their colours apart from them.
+//! The objects by key: what they are, and apart from that what a walk looks at, and their colours.
 //!
-//! Making all white, and the look for what is white after a marking, go over the colours alone, which stand together, a byte
-//! each: so a heap that lives is marked without a walk over its objects before and after.
-ghost use Rattle.std.specs.Prelude.{◌≡◌, ◌↔◌, ◌<◌, ℕ, [], Some, length, option_map, slice_set, IfOk, IsSome, IsTrue, OnErr};
+//! A marking reads and writes bodies and colours alone, at 49 bytes an object, and what else is known of it, at 64, stays
+//! where it is. Making all white, and the look for what is white after a marking, go over the colours alone, which stand
+//! together, a byte each: so a heap that lives is marked without a walk over its objects before and after.
+ghost use Rattle.std.specs.Prelude.{◌≡◌, ◌↔◌, ◌<◌, ◌≤◌, ℕ, [], Some, get_or, length, option_map, slice_set, IfOk, IsSome, IsTrue, OnErr, OnOk};
 ghost use Rattle.slab.specs.Slab.{ContainsKey, Updates, get};
 ghost use Rattle.cc_names.specs.declared.kind.Colour.{Colour};
 ghost use Rattle.cc_script.specs.Lists.{cell_at, painted, slots_placed, written};
-ghost use Rattle.cc_script.specs.Cells.{Changes, IsWhiteAt, Whitens, cells_of, in_colour};
+ghost use Rattle.cc_script.specs.Cells.{Changes, Content, IsWhiteAt, Label, Whitens, cells_of, filled, in_colour, nothing};
 
-use crate::cell::Cell;
+use crate::cell::{Body, Cell};
 use cc_names::{Colour, NoMemory, SKey};
 use slab::Slab;
 use std::alloc::Global;
 use std::marker::Model;
 
-/// The objects as they stand at their keys, each with its colour.
+/// The objects as they stand at their keys, each with what it holds and its colour.
 #[derive(Drop)]
 pub(crate) struct Cells {
     pub(crate) slab: Slab<Cell>,
-    // by key; where no object stands, what is left there says nothing
+    // both by key; where no object stands, what is left there says nothing, and holds no memory
+    pub(crate) bodies: Vec<Body>,
     colours: Vec<Colour>,
+    alloc: Global,
 }
 
 impl Model for Cells {
     ghost use Rattle.slab.specs.Slab.{Slab};
-    ghost use Rattle.cc_script.specs.Cells.{HaveColours, Linked, coloured_slab};
+    ghost use Rattle.cc_script.specs.Cells.{HaveAll, Linked, coloured_slab, filled_slab};
 
     ghost Value = { Slab Linked };
 
-    ghost view = { λ c. coloured_slab c.slab c.colours.items };
+    ghost view = { λ c. coloured_slab (filled_slab c.slab c.bodies.items) c.colours.items };
 
-    ghost invariant = { λ c. HaveColours c.slab c.colours.items };
+    ghost invariant = { λ c. HaveAll c.slab c.bodies.items c.colours.items };
+}
+
+/// Lengthens the bodies to so many at least, by those of no object. `NoMemory` leaves them at some length between.
+fn reach(bodies: &mut Vec<Body>, count: usize, alloc: Global) -> Result<(), NoMemory>
+    ensures reaches { OnOk result (count ≤ length bodies.new.items) }
+    ensures longer { length bodies.old.items ≤ length bodies.new.items }
+    ensures same { (key : ℕ) → get_or bodies.new.items key nothing ≡ get_or bodies.old.items key nothing }
+{
+    while bodies.len() < count {
+        bodies.reserve(1)?;
+        bodies.push_reserved(Body::nothing(alloc));
+    }
+    Ok(())
 }
 
 impl Cells {
@@ -40,33 +56,49 @@ impl Cells {
     {
         Cells {
             slab: Slab::new(alloc),
+            bodies: Vec::new(alloc),
             colours: Vec::new(alloc),
+            alloc,
         }
     }
 
     /// Puts an object at a key that had none. `NoMemory` changes nothing of what stands there.
-    pub(crate) fn insert(&mut self, cell: Cell, colour: Colour) -> Result<usize, NoMemory>
+    pub(crate) fn insert(
+        &mut self,
+        cell: Cell,
+        body: Body,
+        colour: Colour,
+    ) -> Result<usize, NoMemory>
         ensures was_vacant { IfOk result (λ key. get self.old key ≡ None) }
-        ensures updates { IfOk result (λ key. Updates self.old self.new key (Some (in_colour colour cell))) }
+        ensures updates { IfOk result (λ key. Updates self.old self.new key (Some (in_colour colour (filled body cell)))) }
         ensures err { OnErr result (self.new.slots ≡ self.old.slots) }
     {
         self.slab.reserve(1)?;
         let key = self.slab.vacant_key();
-        if key < self.colours.len() {
-            self.colours[key] = colour;
-        } else {
-            let count = key.checked_add(1).ok_or(NoMemory)?;
-            self.colours.resize(count, colour)?;
+        let count = key.checked_add(1).ok_or(NoMemory)?;
+        reach(&mut self.bodies, count, self.alloc)?;
+        if key >= self.colours.len() {
+            self.colours.resize(count, Colour::White)?;
         }
+        self.bodies[key] = body;
+        self.colours[key] = colour;
         Ok(self.slab.insert_reserved(cell))
     }
 
-    /// The object at a key.
-    pub(crate) fn at(&self, key: usize) -> &Cell
+    /// What the object at a key is.
+    pub(crate) fn cell(&self, key: usize) -> &Cell
         requires { ContainsKey self.now key }
-        ensures { (colour : Colour) × (get self.now key ≡ Some (in_colour colour result.now)) }
+        ensures { (colour : Colour) × ((content : Content) × (get self.now key ≡ Some (in_colour colour (filled content result.now)))) }
     {
         &self.slab[key]
+    }
+
+    /// What a walk looks at of the object at a key.
+    pub(crate) fn body(&self, key: usize) -> &Body
+        requires { ContainsKey self.now key }
+        ensures { (colour : Colour) × ((label : Label) × (get self.now key ≡ Some (in_colour colour (filled result.now label)))) }
+    {
+        &self.bodies[key]
     }
 
     /// The colour of the object at a key.
@@ -124,8 +156,8 @@ impl Cells {
         requires within { i < length (slots_placed (cell_at (cells_of self.old.slots) key.0)) }
         ensures changes { Changes self.old self.new key.0 (written i (option_map (λ k. k.0) item)) }
     {
-        let cell = &mut self.slab[key.0];
-        cell.slots[i] = item;
+        let body = &mut self.bodies[key.0];
+        body.slots[i] = item;
     }
 
     /// Takes out the object at a key.
@@ -136,5 +168,6 @@ impl Cells {
         ensures capacity { self.new.capacity ≡ self.old.capacity }
     {
         let _cell = self.slab.remove(key);
+        self.bodies[key] = Body::nothing(self.alloc);
     }
 }

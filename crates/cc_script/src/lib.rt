@@ -22,6 +22,7 @@ mod cells;
 mod laws;
 mod links;
 mod marking;
+mod neighbours;
 mod parts;
 mod scripts;
 

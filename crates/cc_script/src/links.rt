@@ -1,6 +1,7 @@
 //! The two lists that go through the objects: each object has its neighbours in both.
 
 use crate::cells::Cells;
+use crate::neighbours::Neighbours;
 use cc_chain::{Link, LinkStore};
 
 /// The list of all objects, in order of making.
@@ -19,11 +20,11 @@ impl LinkStore<Order> for Cells {
     ghost rest = { beside_order };
 
     fn get(&self, key: usize) -> Option<Link> {
-        self.slab[key].order
+        self.slab[key].order.link()
     }
 
     fn set(&mut self, key: usize, link: Option<Link>) {
-        self.slab[key].order = link;
+        self.slab[key].order = Neighbours::of(link);
     }
 }
 
@@ -37,10 +38,10 @@ impl LinkStore<Waiting> for Cells {
     ghost rest = { beside_waiting };
 
     fn get(&self, key: usize) -> Option<Link> {
-        self.slab[key].waiting
+        self.bodies[key].waiting.link()
     }
 
     fn set(&mut self, key: usize, link: Option<Link>) {
-        self.slab[key].waiting = link;
+        self.bodies[key].waiting = Neighbours::of(link);
     }
 }

@@ -7,13 +7,14 @@ ghost use Rattle.cc_script.specs.Objects.{Object, AreWhole, FitsKind, IsNotBelow
 ghost use Rattle.cc_lists.specs.Walks.{first_of};
 ghost use Rattle.cc_script.specs.Underway.{with_first_looked_into};
 ghost use Rattle.cc_script.specs.Walking.{keys_reached};
-ghost use Rattle.cc_script.specs.Cells.{in_colour};
+ghost use Rattle.cc_script.specs.Cells.{Content, Label, filled, in_colour};
 ghost use Rattle.cc_script.specs.Lists.{IsPlaced, cell_at};
 ghost use Rattle.cc_script.specs.Marking.{raise_each, raise_key, raise_slot};
 
-use crate::cell::{Cell, is_below};
+use crate::cell::{Body, Cell, is_below};
 use crate::cells::Cells;
 use crate::links::{Order, Waiting};
+use crate::neighbours::Neighbours;
 use cc_chain::Chain;
 use cc_names::{Colour, Kind, NKey, Name, NoMemory, SKey};
 use std::alloc::Global;
@@ -65,22 +66,33 @@ impl ScriptParts {
             name,
             kind,
             native,
-            slots: empty,
-            order: None,
-            waiting: None,
+            order: Neighbours::of(None),
         };
-        let key = self.cells.insert(cell, Colour::Black)?;
+        let body = Body {
+            slots: empty,
+            waiting: Neighbours::of(None),
+        };
+        let key = self.cells.insert(cell, body, Colour::Black)?;
         self.order.push_back(&mut self.cells, key);
         Ok(SKey(key))
     }
 
-    /// The object at a key.
+    /// What the object at a key is.
     pub(crate) fn cell(&self, key: SKey) -> &Cell
         requires placed { IsPlaced (lists_of self.now) }
         requires live { IsTrue (is_there (shows self.now) key.0) }
-        ensures { (colour : Colour) × (cell_at (lists_of self.now).cells key.0 ≡ Some (in_colour colour result.now).placed) }
+        ensures { (colour : Colour) × ((content : Content) × (cell_at (lists_of self.now).cells key.0 ≡ Some (in_colour colour (filled content result.now)).placed)) }
     {
-        self.cells.at(key.0)
+        self.cells.cell(key.0)
+    }
+
+    /// What a walk looks at of it.
+    pub(crate) fn body(&self, key: SKey) -> &Body
+        requires placed { IsPlaced (lists_of self.now) }
+        requires live { IsTrue (is_there (shows self.now) key.0) }
+        ensures { (colour : Colour) × ((label : Label) × (cell_at (lists_of self.now).cells key.0 ≡ Some (in_colour colour (filled result.now label)).placed)) }
+    {
+        self.cells.body(key.0)
     }
 
     /// Its colour.
@@ -181,7 +193,7 @@ impl ScriptParts {
         ensures under_way { IsUnderWay to self.new }
         ensures memory { TakesNoMemory self.old self.new }
     {
-        if let Some(item) = self.cell(key).slots[i] {
+        if let Some(item) = self.body(key).slots[i] {
             self.raise(item, to);
         }
     }
@@ -195,7 +207,7 @@ impl ScriptParts {
         ensures under_way { IsUnderWay to self.new }
         ensures memory { TakesNoMemory self.old self.new }
     {
-        let slots = self.cell(key).slots.len();
+        let slots = self.body(key).slots.len();
         for i in 0..slots {
             self.raise_slot(key, i, to);
         }

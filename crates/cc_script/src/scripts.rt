@@ -133,7 +133,7 @@ impl Scripts {
         requires live { IsTrue (is_there self.now key.0) }
         ensures { result ≡ length (slots_at self.now key.0) }
     {
-        self.parts.cell(key).slots.len() as u8
+        self.parts.body(key).slots.len() as u8
     }
 
     /// What slot `i` of an object holds, counted from 0.
@@ -142,7 +142,7 @@ impl Scripts {
         requires within { i < length (slots_at self.now key.0) }
         ensures { option_map (λ k. k.0) result ≡ slice_index_or (slots_at self.now key.0) i None }
     {
-        self.parts.cell(key).slots[i as usize]
+        self.parts.body(key).slots[i as usize]
     }
 
     /// Puts `item`, or nothing, into slot `i` of an object, counted from 0. Its colour isn't lower than the object's.

@@ -306,6 +306,7 @@ fn key_comes_back_under_a_new_name(rt: HostRuntime) -> Result<(), Fail> {
                     assert_eq!(rt; second, a);
                     assert_eq!(rt; heap.name(second), Name::Script(ScriptNo(3)));
                     assert_eq!(rt; heap.colour(second), Colour::Black);
+                    assert_eq!(rt; heap.slots(second), 0);
                     assert_eq!(rt; heap.next(second), None);
                     return Ok(());
                 }

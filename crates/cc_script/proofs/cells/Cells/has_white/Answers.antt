@@ -1,8 +1,8 @@
 use Rattle.std.proofs.Common.{◌≡◌, ⊎_elim, arith, sym, subst, ◌∙◌}
 use Rattle.std.proofs.lemmas.Bool.{false≢true}
 use Rattle.std.proofs.lemmas.Bool.Decides.{eqb_tells}
-use Rattle.cc_script.specs.Cells.{IsWhiteAt}
-use Rattle.cc_script.proofs.Coloured.{held-coloured}
+use Rattle.cc_script.specs.Cells.{IsWhiteAt, filled_slab}
+use Rattle.cc_script.proofs.Coloured.{held-coloured, reaches-filled}
 use Rattle.cc_script.proofs.cells.Cells.has_white.Goals as goal
 
 pub returns-then-is_white-clause-some : goal.returns-then-is_white-clause-some
@@ -18,5 +18,5 @@ loop-key-preserved c = record {
 
 pub returns-clause-none : goal.returns-clause-none
 returns-clause-none c key white =
-    let held = held-coloured c.self.inside.slab c.self.inside.colours.items c.args.self.now c.self.view_is key white in
-    absurd (c.loop-key.invariant.passed key (omega (arith, c.self.invariant key held, c.loop-key-test.false, c.len-key-end.ensures, c.self.inside.colours.ok.0)) white)
+    let held = held-coloured (filled_slab c.self.inside.slab c.self.inside.bodies.items) c.self.inside.colours.items c.args.self.now c.self.view_is key white in
+    absurd (c.loop-key.invariant.passed key (omega (arith, reaches-filled c.self.inside.slab c.self.inside.bodies.items c.self.inside.colours.items c.self.invariant.1 key held, c.loop-key-test.false, c.len-key-end.ensures, c.self.inside.colours.ok.0)) white)

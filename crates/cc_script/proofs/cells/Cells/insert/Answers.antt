@@ -1,51 +1,95 @@
-use Rattle.std.proofs.Common.{rules, ◌≡◌, ◌≢◌, ℕ, ◌+◌, ◌<◌, length, is_ok, get_or, set, Some, ap, sym, ◌∙◌, arith}
+use Rattle.std.proofs.Common.{rules, ◌≡◌, ◌≢◌, ℕ, ◌+◌, ◌<◌, List, Option, length, get_or, set, Some, ap, sym, ◌∙◌, arith}
 use Rattle.std.proofs.lemmas.List.{get_or-set_same, get_or-set_other}
 use Rattle.slab.specs.Slab.{Slab, Updates, get}
+use Rattle.cc_names.specs.declared.kind.Colour.{Colour}
 use Rattle.cc_names.specs.declared.kind.Colour.TheVariants.{White}
-use Rattle.cc_script.specs.Cells.{Bare}
+use Rattle.cc_script.specs.Paired.{paired}
+use Rattle.cc_script.specs.Cells.{Bare, Content, Label, Linked, filled, filled_slab, in_colour, nothing}
 use Rattle.cc_script.specs.declared.cells.Cells.TheInside.{Inside}
-use Rattle.cc_script.proofs.Coloured.{inserted, vacant-coloured}
+use Rattle.cc_script.proofs.Paired.{paired-same, updates-made, vacant-at}
+use Rattle.cc_script.proofs.Coloured.{inserted, reaches-filled, vacant-coloured}
 use Rattle.cc_script.proofs.cells.Cells.insert.Goals as goal
-use Rattle.cc_script.proofs.cells.Cells.insert.Goals.{then-key-len, else-key-len+in_ok-count+in_ok-resize}
+use Rattle.cc_script.proofs.cells.Cells.insert.Goals.{then-key-len+in_ok-resize, else-key-len}
+
+-- the same stands at each key where room was made alone
+unchanged : (s mid : Slab Label) (contents more : List Content) (colours : List Colour) → mid.slots ≡ s.slots → ((k : ℕ) → get_or more k nothing ≡ get_or contents k nothing) →
+    paired in_colour White (paired filled nothing mid.slots more) colours ≡ paired in_colour White (paired filled nothing s.slots contents) colours
+unchanged s mid contents more colours slots same =
+    ap (λ (z : List (Option Label)). paired in_colour White (paired filled nothing z more) colours) slots
+    ∙ ap (λ (z : List (Option Bare)). paired in_colour White z colours) (paired-same filled nothing s.slots contents more (λ k held. same k))
+
+pub returns-in_err-reach-clause-err : goal.returns-in_err-reach-clause-err
+returns-in_err-reach-clause-err c =
+    let same : paired in_colour White (paired filled nothing c.reserve.new.self.slots c.reach.new.bodies.items) c.self.inside.colours.items ≡ c.args.self.now.slots =
+    unchanged c.self.inside.slab c.reserve.new.self c.self.inside.bodies.items c.reach.new.bodies.items c.self.inside.colours.items (ap (λ (z : Slab Label). z.slots) c.reserve.ensures.rest_kept) c.reach.ensures.same
+    ∙ ap (λ (z : Slab Linked). z.slots) c.self.view_is in
+    search rules
+
+pub returns-in_err-resize-clause-err : goal.returns-in_err-resize-clause-err
+returns-in_err-resize-clause-err c =
+    let kept : c.resize.new.self.items ≡ c.self.inside.colours.items = search rules in
+    let same : paired in_colour White (paired filled nothing c.reserve.new.self.slots c.reach.new.bodies.items) c.resize.new.self.items ≡ c.args.self.now.slots =
+    ap (λ colours. paired in_colour White (paired filled nothing c.reserve.new.self.slots c.reach.new.bodies.items) colours) kept
+    ∙ (unchanged c.self.inside.slab c.reserve.new.self c.self.inside.bodies.items c.reach.new.bodies.items c.self.inside.colours.items (ap (λ (z : Slab Label). z.slots) c.reserve.ensures.rest_kept) c.reach.ensures.same
+    ∙ ap (λ (z : Slab Linked). z.slots) c.self.view_is) in
+    search rules
 
 pub returns-clause-was_vacant : goal.returns-clause-was_vacant
 returns-clause-was_vacant c =
+    let s = c.self.inside.slab in
+    let contents = c.self.inside.bodies.items in
     let slab : c.if-key-len.self-inside.slab ≡ c.reserve.new.self = elim c.if-key-len.branch [
-      | then-key-len w ↦ ap (λ (q : Inside). q.slab) w.self-inside-is
-      | else-key-len+in_ok-count+in_ok-resize w ↦ ap (λ (q : Inside). q.slab) w.self-inside-is
+      | then-key-len+in_ok-resize w ↦ ap (λ (q : Inside). q.slab) w.self-inside-is
+      | else-key-len w ↦ ap (λ (q : Inside). q.slab) w.self-inside-is
     ] in
-    vacant-coloured c.self.inside.slab c.self.inside.colours.items c.args.self.now c.self.view_is c.insert_reserved.result
-    (sym (ap (λ (z : Slab Bare). get z c.insert_reserved.result) (slab ∙ c.reserve.ensures.rest_kept)) ∙ c.insert_reserved.ensures.was_vacant)
+    let key = c.insert_reserved.result in
+    vacant-coloured (filled_slab s contents) c.self.inside.colours.items c.args.self.now c.self.view_is key
+    (vacant-at filled nothing s contents key (sym (ap (λ (z : Slab Label). get z key) (slab ∙ c.reserve.ensures.rest_kept)) ∙ c.insert_reserved.ensures.was_vacant))
 
 pub returns-clause-updates : goal.returns-clause-updates
 returns-clause-updates c =
     let s = c.self.inside.slab in
+    let contents = c.self.inside.bodies.items in
     let colours = c.self.inside.colours.items in
     let key = c.insert_reserved.result in
+    let free = c.vacant_key-key.result in
     let slab : c.if-key-len.self-inside.slab ≡ c.reserve.new.self = elim c.if-key-len.branch [
-      | then-key-len w ↦ ap (λ (q : Inside). q.slab) w.self-inside-is
-      | else-key-len+in_ok-count+in_ok-resize w ↦ ap (λ (q : Inside). q.slab) w.self-inside-is
+      | then-key-len+in_ok-resize w ↦ ap (λ (q : Inside). q.slab) w.self-inside-is
+      | else-key-len w ↦ ap (λ (q : Inside). q.slab) w.self-inside-is
     ] in
-    let is_key : c.vacant_key-key.result ≡ key = c.vacant_key-key.ensures.value ∙ (sym (ap (λ (z : Slab Bare). z.vacant_key) slab) ∙ sym c.insert_reserved.ensures.key) in
+    let bodies : c.if-key-len.self-inside.bodies.items ≡ c.reach.new.bodies.items = elim c.if-key-len.branch [
+      | then-key-len+in_ok-resize w ↦ ap (λ (q : Inside). q.bodies.items) w.self-inside-is
+      | else-key-len w ↦ ap (λ (q : Inside). q.bodies.items) w.self-inside-is
+    ] in
+    let is_key : free ≡ key = c.vacant_key-key.ensures.value ∙ (sym (ap (λ (z : Slab Label). z.vacant_key) slab) ∙ sym c.insert_reserved.ensures.key) in
+    let count : c.in_ok-count.count ≡ free + 1 = search rules in
     let u = c.insert_reserved.ensures.updates in
-    let updates : Updates s c.insert_reserved.new.self key (Some c.args.cell) = record { changed = u.changed; others = λ k other. u.others k other ∙ ap (λ (z : Slab Bare). get z k) (slab ∙ c.reserve.ensures.rest_kept) } in
-    let here : get_or c.if-key-len.self-inside.colours.items key White ≡ c.args.colour = elim c.if-key-len.branch [
-      | then-key-len w ↦
-          ap (λ (q : Inside). get_or q.colours.items key White) w.self-inside-is
-          ∙ (ap (λ k. get_or (set colours k c.args.colour) key White) is_key ∙ get_or-set_same colours key c.args.colour White (omega (arith, is_key, w.if-key-len.true, c.len.ensures, c.self.inside.colours.ok.0)))
-      | else-key-len+in_ok-count+in_ok-resize w ↦
-          let count : w.in_ok-count.count ≡ c.vacant_key-key.result + 1 = search rules in
-          ap (λ (q : Inside). get_or q.colours.items key White) w.self-inside-is
-          ∙ w.resize.ensures.by_index.1 key White (ap is_ok w.in_ok-resize.was) (omega (arith, is_key, w.if-key-len.false, c.len.ensures)) (omega (arith, is_key, count))
+    let updates : Updates s c.insert_reserved.new.self key (Some c.args.cell) = record { changed = u.changed; others = λ k other. u.others k other ∙ ap (λ (z : Slab Label). get z k) (slab ∙ c.reserve.ensures.rest_kept) } in
+    let list = set c.if-key-len.self-inside.bodies.items free c.args.body in
+    let here : get_or list key nothing ≡ c.args.body =
+    ap (λ k. get_or (set c.if-key-len.self-inside.bodies.items k c.args.body) key nothing) is_key
+    ∙ get_or-set_same c.if-key-len.self-inside.bodies.items key c.args.body nothing (omega (arith, is_key, count, c.in_ok-reach.ensures.reaches, ap length bodies)) in
+    let others : (k : ℕ) → k ≢ key → k < length contents → get_or list k nothing ≡ get_or contents k nothing = λ k other within.
+    get_or-set_other c.if-key-len.self-inside.bodies.items free k c.args.body nothing (λ e. other (e ∙ is_key))
+    ∙ (ap (λ ys. get_or ys k nothing) bodies ∙ c.reach.ensures.same k) in
+    let painted = c.if-key-len.self-inside.colours.items in
+    let long : free < length painted = elim c.if-key-len.branch [
+      | then-key-len+in_ok-resize w ↦
+          let sized = ap (λ (q : Inside). length q.colours.items) w.self-inside-is in
+          omega (arith, sized, count, w.in_ok-resize.ensures.len, w.resize.new.self.ok.0)
+      | else-key-len w ↦
+          let sized = ap (λ (q : Inside). length q.colours.items) w.self-inside-is in
+          omega (arith, sized, w.if-key-len.false, c.len.ensures, c.self.inside.colours.ok.0)
     ] in
-    let others : (k : ℕ) → k ≢ key → k < length colours → get_or c.if-key-len.self-inside.colours.items k White ≡ get_or colours k White = λ k other within. elim c.if-key-len.branch [
-      | then-key-len w ↦
-          ap (λ (q : Inside). get_or q.colours.items k White) w.self-inside-is
-          ∙ get_or-set_other colours c.vacant_key-key.result k c.args.colour White (λ e. other (e ∙ is_key))
-      | else-key-len+in_ok-count+in_ok-resize w ↦
-          let count : w.in_ok-count.count ≡ c.vacant_key-key.result + 1 = search rules in
-          let below : k < w.in_ok-count.count = omega (arith, within, count, w.if-key-len.false, c.len.ensures, c.self.inside.colours.ok.0) in
+    let kept : (k : ℕ) → k < length colours → get_or painted k White ≡ get_or colours k White = λ k within. elim c.if-key-len.branch [
+      | then-key-len+in_ok-resize w ↦
+          let below : k < c.in_ok-count.count = omega (arith, within, count, w.if-key-len.true, c.len.ensures, c.self.inside.colours.ok.0) in
           ap (λ (q : Inside). get_or q.colours.items k White) w.self-inside-is
           ∙ w.resize.ensures.by_index.0 k White below (omega (arith, within, c.self.inside.colours.ok.0))
+      | else-key-len w ↦ ap (λ (q : Inside). get_or q.colours.items k White) w.self-inside-is
     ] in
-    inserted s colours c.args.self.now c.self.view_is key c.insert_reserved.new.self c.if-key-len.self-inside.colours.items c.args.cell c.args.colour c.self.invariant updates here others
+    inserted (filled_slab s contents) colours c.args.self.now c.self.view_is key (filled_slab c.insert_reserved.new.self list) (set painted free c.args.colour) (filled c.args.body c.args.cell) c.args.colour
+    (reaches-filled s contents colours c.self.invariant.1)
+    (updates-made filled nothing s contents key c.insert_reserved.new.self list c.args.cell c.args.body c.self.invariant.0 updates here others)
+    (ap (λ k. get_or (set painted k c.args.colour) key White) is_key ∙ get_or-set_same painted key c.args.colour White (omega (arith, is_key, long)))
+    (λ k other within. get_or-set_other painted free k c.args.colour White (λ e. other (e ∙ is_key)) ∙ kept k within)

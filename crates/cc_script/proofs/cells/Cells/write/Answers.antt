@@ -1,59 +1,68 @@
-use Rattle.std.proofs.Common.{List, length, map, get_or, Option, Some, option_map, ap, subst, ◌∙◌, arith}
+use Rattle.std.proofs.Common.{List, Option, length, map, get_or, refl, ap, sym, subst, ◌∙◌, arith}
 use Rattle.std.proofs.Math.ListN.{set}
-use Rattle.std.proofs.lemmas.List.{length-map, map-set}
-use Rattle.slab.specs.Slab.{Slab}
-use Rattle.cc_names.specs.declared.number.NKey.{NKey}
+use Rattle.std.proofs.lemmas.List.{get_or_default, length-map, map-set}
+use Rattle.slab.specs.Slab.{Slab, get}
 use Rattle.cc_names.specs.declared.kind.Colour.TheVariants.{White}
-use Rattle.cc_script.specs.Lists.{Placed, slots_placed, written}
-use Rattle.cc_script.specs.Cells.{Bare, Linked, Changes, coloured_slab, in_colour}
+use Rattle.cc_script.specs.Lists.{slots_placed, written}
+use Rattle.cc_script.specs.Cells.{Bare, Changes, Content, Linked, coloured_slab, filled, filled_slab, in_colour, nothing}
 use Rattle.cc_script.proofs.Reading.{held_key}
 use Rattle.cc_script.proofs.Linking.{cell-held, cell-read}
-use Rattle.cc_script.proofs.Coloured.{changes-bare, held-bare, read-coloured}
+use Rattle.cc_script.proofs.Paired.{some-of}
+use Rattle.cc_script.proofs.Coloured.{changes-bare, content-set, held-bare, held-label, read-coloured, read-filled}
 use Rattle.cc_script.proofs.cells.Cells.write.Goals as goal
 
-pub index_mut-cell-requires : goal.index_mut-cell-requires
-index_mut-cell-requires c = held-bare c.self.inside.slab c.self.inside.colours.items c.args.self.now c.self.view_is c.args.key.0 (cell-held c.args.self.now.slots c.args.key.0 c.requires.live)
+pub index_mut-body-requires : goal.index_mut-body-requires
+index_mut-body-requires c =
+    let s = c.self.inside.slab in
+    let contents = c.self.inside.bodies.items in
+    let held = held-label s contents c.args.key.0
+    (held-bare (filled_slab s contents) c.self.inside.colours.items c.args.self.now c.self.view_is c.args.key.0 (cell-held c.args.self.now.slots c.args.key.0 c.requires.live)) in
+    omega (arith, c.self.invariant.0 c.args.key.0 held, c.self.inside.bodies.ok.0)
 
 pub index_mut-requires : goal.index_mut-requires
 index_mut-requires c =
+    let s = c.self.inside.slab in
+    let contents = c.self.inside.bodies.items in
+    let held = held-label s contents c.args.key.0
+    (held-bare (filled_slab s contents) c.self.inside.colours.items c.args.self.now c.self.view_is c.args.key.0 (cell-held c.args.self.now.slots c.args.key.0 c.requires.live)) in
+    let there = some-of (get s c.args.key.0) held in
     let colour = get_or c.self.inside.colours.items c.args.key.0 White in
-    let b = c.index_mut-cell.result.now in
-    let there = cell-read c.args.self.now.slots c.args.key.0 (in_colour colour b)
-    (read-coloured c.self.inside.slab c.self.inside.colours.items c.args.self.now c.self.view_is c.args.key.0 b c.index_mut-cell.ensures.value) in
+    let b = filled (get_or contents c.args.key.0 nothing) there.0 in
+    let read = cell-read c.args.self.now.slots c.args.key.0 (in_colour colour b)
+    (read-coloured (filled_slab s contents) c.self.inside.colours.items c.args.self.now c.self.view_is c.args.key.0 b (read-filled s contents c.args.key.0 there.0 there.1)) in
+    let seen = c.body.view_is ∙ (c.index_mut-body.ensures.value ∙ get_or_default contents c.args.key.0 c.index_mut-body.result.now nothing (c.self.invariant.0 c.args.key.0 held)) in
     omega (
       arith,
       c.requires.within,
-      ap (λ o. length (slots_placed o)) there,
-      ap (λ (z : Bare). length z.slots) c.cell.view_is,
-      length-map c.cell.inside.slots.items held_key,
-      c.cell.inside.slots.ok.0,
+      ap (λ o. length (slots_placed o)) read,
+      ap (λ (w : Content). length w.slots) seen,
+      length-map c.body.inside.slots.items held_key,
+      c.body.inside.slots.ok.0,
     )
 
 pub returns : goal.returns
 returns c =
     let s = c.self.inside.slab in
+    let contents = c.self.inside.bodies.items in
+    let held = held-label s contents c.args.key.0
+    (held-bare (filled_slab s contents) c.self.inside.colours.items c.args.self.now c.self.view_is c.args.key.0 (cell-held c.args.self.now.slots c.args.key.0 c.requires.live)) in
+    let f = filled_slab s contents in
+    let there = some-of (get s c.args.key.0) held in
+    let within = c.self.invariant.0 c.args.key.0 held in
     let colours = c.self.inside.colours.items in
     let colour = get_or colours c.args.key.0 White in
     let x = held_key c.args.item in
-    let slots : List (Option _) → Placed = λ ys. record {
-      name = c.cell.inside.name;
-      kind = c.cell.inside.kind;
-      native = option_map (λ (k : NKey). k.0) c.cell.inside.native;
-      slots = ys;
-      colour = colour;
-    } in
-    let d : Bare = record {
-      name = c.cell.inside.name;
-      kind = c.cell.inside.kind;
-      native = option_map (λ (k : NKey). k.0) c.cell.inside.native;
-      slots = map held_key (set c.cell.inside.slots.items c.args.i c.args.item);
-      order = c.cell.inside.order;
-      waiting = c.cell.inside.waiting;
-    } in
+    let content : List (Option _) → Content = λ ys. record { slots = ys; waiting = c.body.inside.waiting } in
+    let new = content (map held_key (set c.body.inside.slots.items c.args.i c.args.item)) in
+    let b = filled (get_or contents c.args.key.0 nothing) there.0 in
+    let d = filled new there.0 in
+    let seen = c.body.view_is ∙ (c.index_mut-body.ensures.value ∙ get_or_default contents c.args.key.0 c.index_mut-body.result.now nothing within) in
     record {
-      changes = subst (λ (z : Slab Linked). Changes z (coloured_slab (record s { slots = set s.slots c.args.key.0 (Some d) }) colours) c.args.key.0 (written c.args.i x)) c.self.view_is
-          (changes-bare s colours c.args.key.0 c.index_mut-cell.result.now d (written c.args.i x) c.index_mut-cell.ensures.value
-          (ap slots (map-set held_key c.cell.inside.slots.items c.args.i c.args.item) ∙ ap (λ (z : Bare). written c.args.i x (in_colour colour z).placed) c.cell.view_is)
-          (ap (λ (z : Bare). z.order) c.cell.view_is)
-          (ap (λ (z : Bare). z.waiting) c.cell.view_is));
+      changes = subst (λ (z : Slab Linked). Changes z (coloured_slab (filled_slab s (set contents c.args.key.0 new)) colours) c.args.key.0 (written c.args.i x)) c.self.view_is
+          (subst (λ (z : Slab Bare). Changes (coloured_slab f colours) (coloured_slab z colours) c.args.key.0 (written c.args.i x)) (sym (content-set s contents c.args.key.0 there.0 new within there.1))
+          (changes-bare f colours c.args.key.0 b d (written c.args.i x) (read-filled s contents c.args.key.0 there.0 there.1)
+          (ap (λ ys. (in_colour colour (filled (content ys) there.0)).placed) (map-set held_key c.body.inside.slots.items c.args.i c.args.item)
+          ∙ ap (λ (w : Content). written c.args.i x (in_colour colour (filled w there.0)).placed) seen)
+          refl
+          (ap (λ (w : Content). w.waiting) seen)));
     }

@@ -1,17 +1,23 @@
-use Rattle.std.proofs.Common.{Some, option_map, ap, sym, ◌∙◌}
+use Rattle.std.proofs.Common.{Some, get_or, option_map, ap, sym, ◌∙◌}
 use Rattle.slab.specs.Slab.{get}
 use Rattle.cc_chain.proofs.Slots.{some-map}
-use Rattle.cc_script.specs.Cells.{Bare, Linked}
-use Rattle.cc_script.proofs.Coloured.{held-bare, read-coloured}
+use Rattle.cc_script.specs.Cells.{Label, Linked, filled, filled_slab, nothing}
+use Rattle.cc_script.proofs.Coloured.{held-bare, held-label, read-coloured, read-filled}
 use Rattle.cc_script.proofs.links.CellsLinkStoreOrder.get.Goals as goal
 
 pub index-requires : goal.index-requires
 index-requires c =
-    held-bare c.self.inside.slab c.self.inside.colours.items c.args.self.now c.self.view_is c.args.key
-    (sym (some-map (λ (z : Linked). z.order) (get c.args.self.now c.args.key)) ∙ c.requires)
+    let s = c.self.inside.slab in
+    let contents = c.self.inside.bodies.items in
+    held-label s contents c.args.key
+    (held-bare (filled_slab s contents) c.self.inside.colours.items c.args.self.now c.self.view_is c.args.key
+    (sym (some-map (λ (z : Linked). z.order) (get c.args.self.now c.args.key)) ∙ c.requires))
 
 pub returns : goal.returns
 returns c =
+    let s = c.self.inside.slab in
+    let contents = c.self.inside.bodies.items in
     ap (option_map (λ (z : Linked). z.order))
-    (read-coloured c.self.inside.slab c.self.inside.colours.items c.args.self.now c.self.view_is c.args.key c.index.result.now c.index.ensures)
-    ∙ ap (λ (b : Bare). Some b.order) (sym c.behind-self.view_is)
+    (read-coloured (filled_slab s contents) c.self.inside.colours.items c.args.self.now c.self.view_is c.args.key (filled (get_or contents c.args.key nothing) c.index.result.now)
+    (read-filled s contents c.args.key c.index.result.now c.index.ensures))
+    ∙ (ap (λ (b : Label). Some b.order) (sym c.behind-self.view_is) ∙ ap Some (sym c.link.ensures))

@@ -30,7 +30,7 @@ new_placed name kind native slots = record { name = name; kind = kind; native = 
 pub push_back-requires-clause-chain : goal.push_back-requires-clause-chain
 push_back-requires-clause-chain c =
     let p = c.args.self.now in
-    let j = joined p _ _ _ _ refl c.in_ok-key.ensures.was_vacant c.in_ok-key.ensures.updates refl refl in
+    let j = joined p _ _ _ _ refl c.in_ok-key.ensures.was_vacant c.in_ok-key.ensures.updates c.of.ensures c.of-2.ensures in
     ((lists_of p).order, order-joined p c.requires.at_rest.chained _ _ _ j)
 
 pub returns-clause-made : goal.returns-clause-made
@@ -38,7 +38,7 @@ returns-clause-made c =
     let p = c.args.self.now in
     let l = lists_of p in
     let h = c.requires.at_rest.chained in
-    let j = joined p _ _ _ _ refl c.in_ok-key.ensures.was_vacant c.in_ok-key.ensures.updates refl refl in
+    let j = joined p _ _ _ _ refl c.in_ok-key.ensures.was_vacant c.in_ok-key.ensures.updates c.of.ensures c.of-2.ensures in
     let pushed = c.push_back.ensures.keys l.order (order-joined p h _ _ _ j) in
     let native = option_map (λ (k : NKey). k.0) c.args.native in
     let empty = ap (map held_key) c.in_ok-empty.ensures ∙ empty-slots c.args.slots in
@@ -49,7 +49,7 @@ returns-clause-made c =
 pub returns-clause-vacant : goal.returns-clause-vacant
 returns-clause-vacant c =
     let p = c.args.self.now in
-    let j = joined p _ _ _ _ refl c.in_ok-key.ensures.was_vacant c.in_ok-key.ensures.updates refl refl in
+    let j = joined p _ _ _ _ refl c.in_ok-key.ensures.was_vacant c.in_ok-key.ensures.updates c.of.ensures c.of-2.ensures in
     is_there-none (lists_of p) c.requires.at_rest.placed c.in_ok-key.key (vacant-joined p c.requires.at_rest.chained _ _ _ j)
 
 pub returns-clause-at_rest : goal.returns-clause-at_rest
@@ -57,7 +57,7 @@ returns-clause-at_rest c =
     let p = c.args.self.now in
     let l = lists_of p in
     let h = c.requires.at_rest.chained in
-    let j = joined p _ _ _ _ refl c.in_ok-key.ensures.was_vacant c.in_ok-key.ensures.updates refl refl in
+    let j = joined p _ _ _ _ refl c.in_ok-key.ensures.was_vacant c.in_ok-key.ensures.updates c.of.ensures c.of-2.ensures in
     let pushed = c.push_back.ensures.keys l.order (order-joined p h _ _ _ j) in
     let native = option_map (λ (k : NKey). k.0) c.args.native in
     let empty : map held_key c.in_ok-empty.empty.items ≡ replicate c.args.slots None = ap (map held_key) c.in_ok-empty.ensures ∙ empty-slots c.args.slots in

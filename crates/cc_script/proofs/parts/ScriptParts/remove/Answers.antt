@@ -8,7 +8,7 @@ use Rattle.cc_script.proofs.Places.{live-cell, live-some}
 use Rattle.cc_script.proofs.Keys.{coloured-there}
 use Rattle.cc_script.proofs.Leaving.{IsPlaced-left, objects-left}
 use Rattle.cc_script.proofs.Linking.{cell-held}
-use Rattle.cc_script.proofs.Coloured.{some-of}
+use Rattle.cc_script.proofs.Paired.{some-of}
 use Rattle.cc_script.proofs.Parting.{lists-parted}
 use Rattle.cc_script.proofs.InOrder.{HasColourOrder-without}
 use Rattle.cc_script.proofs.parts.ScriptParts.remove.Goals as goal

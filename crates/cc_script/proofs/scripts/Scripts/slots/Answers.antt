@@ -1,7 +1,7 @@
 use Rattle.std.proofs.Common.{◌≡◌, ◌≤◌, List, length, ap, sym, subst, ◌∙◌, arith}
 use Rattle.std.proofs.lemmas.List.{length-map}
 use Rattle.cc_script.specs.Objects.{Object, slots_at}
-use Rattle.cc_script.specs.Cells.{Bare, in_colour}
+use Rattle.cc_script.specs.Cells.{Content, filled, in_colour}
 use Rattle.cc_script.specs.Parts.{lists_of}
 use Rattle.cc_script.proofs.Places.{slots_at-placed}
 use Rattle.cc_script.proofs.Reading.{held_key}
@@ -9,24 +9,24 @@ use Rattle.cc_script.proofs.scripts.Scripts.slots.Goals as goal
 
 pub overflow_cast-result : goal.overflow_cast-result
 overflow_cast-result c =
-    let few : length c.cell.result.now.slots ≤ 64 = c.self.invariant.placed.small c.args.key.0 (in_colour c.cell.ensures.0 c.cell.result.now).placed c.cell.ensures.1 in
+    let few : length c.body.result.now.slots ≤ 64 = c.self.invariant.placed.small c.args.key.0 (in_colour c.body.ensures.0 (filled c.body.result.now c.body.ensures.1.0)).placed c.body.ensures.1.1 in
     omega (
       arith,
       c.len.ensures,
       c.behind-self.inside.slots.ok.0,
       length-map c.behind-self.inside.slots.items held_key,
-      ap (λ (p : Bare). length p.slots) c.behind-self.view_is,
+      ap (λ (p : Content). length p.slots) c.behind-self.view_is,
     )
 
 pub returns : goal.returns
 returns c =
-    let long : c.len.result ≡ length c.cell.result.now.slots =
+    let long : c.len.result ≡ length c.body.result.now.slots =
     omega (
       arith,
       c.len.ensures,
       c.behind-self.inside.slots.ok.0,
       length-map c.behind-self.inside.slots.items held_key,
-      ap (λ (p : Bare). length p.slots) c.behind-self.view_is,
+      ap (λ (p : Content). length p.slots) c.behind-self.view_is,
     ) in
     subst (λ (v : List Object). c.len.result ≡ length (slots_at v c.args.key.0)) c.self.view_is
-    (long ∙ ap length (sym (slots_at-placed (lists_of c.self.inside.parts) c.self.invariant.placed c.args.key.0 (in_colour c.cell.ensures.0 c.cell.result.now).placed c.cell.ensures.1)))
+    (long ∙ ap length (sym (slots_at-placed (lists_of c.self.inside.parts) c.self.invariant.placed c.args.key.0 (in_colour c.body.ensures.0 (filled c.body.result.now c.body.ensures.1.0)).placed c.body.ensures.1.1)))
