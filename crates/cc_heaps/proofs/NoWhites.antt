@@ -1,5 +1,5 @@
 -- NO OBJECT IS WHITE: none is swept then, all stay, and nothing is told.
-use Rattle.std.proofs.Common.{◌≡◌, Bool, true, false, not, List, [], map, ◌↔◌, IsTrue, refl, sym, ◌∙◌, ap, subst}
+use Rattle.std.proofs.Common.{◌≡◌, ℕ, Bool, true, false, not, ◌&&◌, List, [], map, ◌↔◌, Option, Some, None, is_some, IsTrue, refl, sym, ◌∙◌, ap, subst}
 use Rattle.std.proofs.lemmas.Bool.{true≢false}
 use Rattle.cc_lists.specs.Members.{Among}
 use Rattle.cc_lists.proofs.Filtering.{filter-each, filter-nothing}
@@ -9,8 +9,12 @@ use Rattle.cc_model.specs.Heap.{is_white_colour}
 use Rattle.cc_model.specs.Telling.{Telling, TellsEvents}
 use Rattle.cc_model.proofs.Tellings.{Tells-nil}
 use Rattle.cc_counted.specs.Counts.{Counts}
-use Rattle.cc_script.specs.Objects.{Object}
-use Rattle.cc_heaps.specs.Sweeping.{Left, are_some, is_white, not_white, sweep_each, swept_counts, untold, white_names, whites}
+use Rattle.cc_script.specs.Objects.{Object, is_there, object_at}
+use Rattle.cc_script.proofs.Keys.{object_at-among}
+use Rattle.cc_weakmaps.specs.Entries.{KeyedEntry}
+use Rattle.cc_weakmaps.specs.Living.{living}
+use Rattle.cc_marking.specs.Marking.{AreEntriesThere}
+use Rattle.cc_heaps.specs.Sweeping.{Left, are_some, is_marked, is_white, not_white, sweep_each, swept_counts, untold, white_names, whites}
 
 -- a colour that passes for white is white
 white-exact : (c : Colour) → is_white_colour c ≡ true → c ≡ White
@@ -38,6 +42,19 @@ module _ (objects : List Object) (found : Bool) (white : IsTrue found ↔ ((o : 
   -- all objects stay
   pub left-all : objects ≡ not_white objects
   left-all = sym (filter-each (λ o. not (is_white o)) objects (λ o m. ap not (other-each o m)))
+
+  -- what stands at a key is not white
+  marked-each : (key : ℕ) → is_there objects key ≡ true → is_marked objects key ≡ true
+  marked-each key there = go (object_at objects key) refl
+    where
+      go : (found : Option Object) → object_at objects key ≡ found → is_marked objects key ≡ true
+      go None e = absurd (true≢false (sym there ∙ ap is_some e))
+      go (Some o) e = ap (λ (x : Option Object). elim x [ None ↦ false | Some p ↦ not (is_white p) ]) e ∙ ap not (other-each o (object_at-among objects key o e))
+
+  -- and all entries stay
+  pub living-all : (es : List KeyedEntry) → AreEntriesThere objects es → es ≡ living (is_marked objects) es
+  living-all es there = sym (filter-each (λ e. is_marked objects e.the_map && is_marked objects e.key) es
+      (λ e m. ap (λ b. b && is_marked objects e.key) (marked-each e.the_map (there e m).the_map) ∙ marked-each e.key (there e m).key))
 
   -- the sweep does nothing
   untold-counts : (c : Counts) → swept_counts c objects ≡ untold c

@@ -57,8 +57,8 @@ links-white part same slots = fun_ext (λ key. ap (option_map part) (get_or-map 
     go None = refl
     go (Some z) = ap Some (same z)
 
-pub whitens-all : (s : Slab Bare) (colours : List Colour) (n : ℕ) → Whitens (coloured_slab s colours) (coloured_slab s (replicate n White))
-whitens-all s colours n =
+pub whitens-all : {room : ℕ} (s : Slab Bare) (colours : List Colour) (n : ℕ) → Whitens (coloured_slab room s colours) (coloured_slab room s (replicate n White))
+whitens-all {room} s colours n =
     let old = coloured s.slots colours in
     let all = coloured-white s.slots (replicate n White) colours (replicate-white n) in
     record {
@@ -76,25 +76,25 @@ whitens-all s colours n =
     go (Some z) = refl
 
 -- one object given a colour
-pub changes-painted : (s : Slab Bare) (colours : List Colour) (key : ℕ) (colour : Colour) (b : Bare) → key < length colours → get s key ≡ Some b →
-    Changes (coloured_slab s colours) (coloured_slab s (set colours key colour)) key (painted colour)
-changes-painted s colours key colour b l at =
-    subst (λ slots. Changes (coloured_slab s colours) (record (coloured_slab s colours) { slots = slots }) key (painted colour)) (sym (paired-written in_colour White s.slots colours key colour b l at))
-    (changes-written (coloured_slab s colours) key (in_colour (get_or colours key White) b) (in_colour colour b) (painted colour)
+pub changes-painted : {room : ℕ} (s : Slab Bare) (colours : List Colour) (key : ℕ) (colour : Colour) (b : Bare) → key < length colours → get s key ≡ Some b →
+    Changes (coloured_slab room s colours) (coloured_slab room s (set colours key colour)) key (painted colour)
+changes-painted {room} s colours key colour b l at =
+    subst (λ slots. Changes (coloured_slab room s colours) (record (coloured_slab room s colours) { slots = slots }) key (painted colour)) (sym (paired-written in_colour White s.slots colours key colour b l at))
+    (changes-written (coloured_slab room s colours) key (in_colour (get_or colours key White) b) (in_colour colour b) (painted colour)
     (paired-at in_colour White s.slots colours key ∙ ap (option_map (in_colour (get_or colours key White))) at) refl refl refl)
 
 -- a label and its content written, where an object stood
-pub changes-bare : (s : Slab Bare) (colours : List Colour) (key : ℕ) (b d : Bare) (change : Placed → Placed) → get s key ≡ Some b →
+pub changes-bare : {room : ℕ} (s : Slab Bare) (colours : List Colour) (key : ℕ) (b d : Bare) (change : Placed → Placed) → get s key ≡ Some b →
     (in_colour (get_or colours key White) d).placed ≡ change (in_colour (get_or colours key White) b).placed → d.order ≡ b.order → d.waiting ≡ b.waiting →
-    Changes (coloured_slab s colours) (coloured_slab (record s { slots = set s.slots key (Some d) }) colours) key change
-changes-bare s colours key b d change at e order waiting =
+    Changes (coloured_slab room s colours) (coloured_slab room (record s { slots = set s.slots key (Some d) }) colours) key change
+changes-bare {room} s colours key b d change at e order waiting =
     let colour = get_or colours key White in
-    subst (λ slots. Changes (coloured_slab s colours) (record (coloured_slab s colours) { slots = slots }) key change) (sym (paired-set in_colour White s.slots colours key (Some d)))
-    (changes-written (coloured_slab s colours) key (in_colour colour b) (in_colour colour d) change (read-at in_colour White s colours key b at) e order waiting)
+    subst (λ slots. Changes (coloured_slab room s colours) (record (coloured_slab room s colours) { slots = slots }) key change) (sym (paired-set in_colour White s.slots colours key (Some d)))
+    (changes-written (coloured_slab room s colours) key (in_colour colour b) (in_colour colour d) change (read-at in_colour White s colours key b at) e order waiting)
 
 -- The same of what a contract sees
 
-module _ (s : Slab Bare) (colours : List Colour) (now : Slab Linked) (same : coloured_slab s colours ≡ now) (key : ℕ) where
+module _ {room : ℕ} (s : Slab Bare) (colours : List Colour) (now : Slab Linked) (same : coloured_slab room s colours ≡ now) (key : ℕ) where
   pub held-bare : ContainsKey now key → ContainsKey s key
   held-bare h = held-in in_colour White s colours key (ap (λ (z : Slab Linked). is_some (get z key)) same ∙ h)
 
@@ -112,15 +112,17 @@ module _ (s : Slab Bare) (colours : List Colour) (now : Slab Linked) (same : col
   held-coloured e = held-bare (cell-held now.slots key (sym (some-map (λ (c : Placed). c.colour) (cell_at (cells_of now.slots) key)) ∙ ap is_some e))
 
   -- an object made at the key, in a colour
-  pub inserted : (mid : Slab Bare) (painted : List Colour) (b : Bare) (colour : Colour) → Reaches s colours → Updates s mid key (Some b) → get_or painted key White ≡ colour →
-      ((k : ℕ) → k ≢ key → k < length colours → get_or painted k White ≡ get_or colours k White) → Updates now (coloured_slab mid painted) key (Some (in_colour colour b))
-  inserted mid painted b colour reaches updates here others =
-      subst (λ z. Updates z (coloured_slab mid painted) key (Some (in_colour colour b))) same
-      (updates-made in_colour White s colours key mid painted b colour reaches updates here others)
+  pub inserted : {other : ℕ} (mid : Slab Bare) (colours' : List Colour) (b : Bare) (colour : Colour) → Reaches s colours → Updates s mid key (Some b) → get_or colours' key White ≡ colour →
+      ((k : ℕ) → k ≢ key → k < length colours → get_or colours' k White ≡ get_or colours k White) → Updates now (coloured_slab other mid colours') key (Some (in_colour colour b))
+  inserted {other} mid colours' b colour reaches updates here others =
+      let u = updates-made in_colour White s colours key mid colours' b colour reaches updates here others in
+      subst (λ z. Updates z (coloured_slab other mid colours') key (Some (in_colour colour b))) same (record { changed = u.changed; others = u.others })
 
   -- the one at the key taken out
-  pub removed : (mid : Slab Bare) → Updates s mid key None → Updates now (coloured_slab mid colours) key None
-  removed mid updates = subst (λ z. Updates z (coloured_slab mid colours) key None) same (updates-taken in_colour White s colours key mid updates)
+  pub removed : {other : ℕ} (mid : Slab Bare) → Updates s mid key None → Updates now (coloured_slab other mid colours) key None
+  removed {other} mid updates =
+      let u = updates-taken in_colour White s colours key mid updates in
+      subst (λ z. Updates z (coloured_slab other mid colours) key None) same (record { changed = u.changed; others = u.others })
 
   -- links and objects after what stands at the key is written
   pub link-set : (part : Linked → Option Link) (b d : Bare) → get s key ≡ Some b →

@@ -61,9 +61,9 @@ in_colour colour b = record {
 abbrev pub filled_slab : Slab Label → List Content → Slab Bare
 filled_slab s contents = paired_slab filled nothing s contents
 
--- and with their colours
-abbrev pub coloured_slab : Slab Bare → List Colour → Slab Linked
-coloured_slab s colours = paired_slab in_colour White s colours
+-- and with their colours; `room` is what all three parts can hold together, without memory
+abbrev pub coloured_slab : ℕ → Slab Bare → List Colour → Slab Linked
+coloured_slab room s colours = record (paired_slab in_colour White s colours) { capacity = room }
 
 -- each object has both
 abbrev pub HaveAll : Slab Label → List Content → List Colour → Type 0

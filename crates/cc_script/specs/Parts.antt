@@ -39,7 +39,7 @@ pub record IsUnderWay (to : Colour) (p : ScriptParts) : Type 0 where
   pub chained : IsChained p
   pub raised : AreRaised to (marking_of p)
 
--- the slab, which alone grows, holds as much memory as it did
+-- the objects, which alone grow, have as much room as they had
 abbrev pub TakesNoMemory : ScriptParts → ScriptParts → Type 0
 TakesNoMemory old new = new.cells.capacity ≡ old.cells.capacity
 

@@ -26,12 +26,14 @@ pub(crate) struct Cells {
 }
 
 impl Model for Cells {
+    ghost use Rattle.std.specs.Prelude.{◌+◌};
+    ghost use Rattle.std.specs.Vec.{vec_capacity};
     ghost use Rattle.slab.specs.Slab.{Slab};
     ghost use Rattle.cc_script.specs.Cells.{HaveAll, Linked, coloured_slab, filled_slab};
 
     ghost Value = { Slab Linked };
 
-    ghost view = { λ c. coloured_slab (filled_slab c.slab c.bodies.items) c.colours.items };
+    ghost view = { λ c. coloured_slab (c.slab.capacity + vec_capacity c.bodies + vec_capacity c.colours) (filled_slab c.slab c.bodies.items) c.colours.items };
 
     ghost invariant = { λ c. HaveAll c.slab c.bodies.items c.colours.items };
 }

@@ -21,7 +21,7 @@ use std::alloc::Global;
 
 /// The objects by key, their list in order of making, and the list of those that a walk raised and has not looked into.
 ///
-/// Both lists go through the objects, so the objects alone take memory, and a byte for each colour.
+/// Both lists go through the objects, so the objects alone take memory.
 #[derive(Drop)]
 pub(crate) struct ScriptParts {
     cells: Cells,

@@ -73,9 +73,6 @@ fn sweep_whites<N: Notices>(counted: &mut Counted, scripts: &mut Scripts, out: &
     ensures natives { counted.new ≡ (swept_counts counted.old scripts.old).counts }
     ensures told { TellsEvents (N.telling out.old) (N.telling out.new) (swept_counts counted.old scripts.old).events }
 {
-    if !scripts.has_white() {
-        return false;
-    }
     let mut swept = false;
     let mut at = scripts.first();
     while let Some(key) = at {
@@ -91,6 +88,30 @@ fn drop_dead(weak: &mut WeakMaps, scripts: &Scripts)
     ensures { weak.new ≡ living (is_marked scripts.now) weak.old }
 {
     weak.drop_dead(|key| scripts.colour(key) != Colour::White);
+}
+
+// Drops the entries of which the map or the key is white, and then sweeps the white objects. Whether there were any: where
+// all live, neither entries nor objects are gone over.
+fn sweep_all<N: Notices>(
+    weak: &mut WeakMaps,
+    counted: &mut Counted,
+    scripts: &mut Scripts,
+    out: &mut N,
+) -> bool
+    requires entries { AreEntriesThere scripts.old weak.old }
+    requires one { (key : ℕ) → count_by (λ o. o.key == key) scripts.old ≤ 1 }
+    requires owned { OwnEach counted.old (native_keys (whites scripts.old)) counted.old }
+    ensures living { weak.new ≡ living (is_marked scripts.old) weak.old }
+    ensures swept { result ≡ are_some (white_names scripts.old) }
+    ensures left { scripts.new ≡ not_white scripts.old }
+    ensures natives { counted.new ≡ (swept_counts counted.old scripts.old).counts }
+    ensures told { TellsEvents (N.telling out.old) (N.telling out.new) (swept_counts counted.old scripts.old).events }
+{
+    if !scripts.has_white() {
+        return false;
+    }
+    drop_dead(weak, scripts);
+    sweep_whites(counted, scripts, out)
 }
 
 impl Heaps {
@@ -112,7 +133,6 @@ impl Heaps {
         ensures stands { StillStands self.old.heap self.new.heap }
         ensures invariant { HasColourInvariant (view self.new.heap) }
     {
-        drop_dead(&mut self.weak, &self.scripts);
-        sweep_whites(&mut self.counted, &mut self.scripts, out)
+        sweep_all(&mut self.weak, &mut self.counted, &mut self.scripts, out)
     }
 }

@@ -16,32 +16,33 @@ use Rattle.cc_heaps.proofs.heaps.Heaps.sweep.Given as given
 use Rattle.cc_heaps.proofs.heaps.Heaps.sweep.Goals as goal
 
 -- the parts afterwards
-swept-is : (g : given.Over) (c : goal.After-sweep_whites g) →
-    record c.self.inside { counted = c.sweep_whites.new.counted; scripts = c.sweep_whites.new.scripts; weak = c.drop_dead.new.weak } ≡ swept_parts c.self.inside
-swept-is g c = λ i. record c.self.inside { counted = c.sweep_whites.ensures.natives i; scripts = c.sweep_whites.ensures.left i; weak = c.drop_dead.ensures i }
+swept-is : (g : given.Over) (c : goal.After-sweep_all g) →
+    record c.self.inside { counted = c.sweep_all.new.counted; scripts = c.sweep_all.new.scripts; weak = c.sweep_all.new.weak } ≡ swept_parts c.self.inside
+swept-is g c = λ i. record c.self.inside { counted = c.sweep_all.ensures.natives i; scripts = c.sweep_all.ensures.left i; weak = c.sweep_all.ensures.living i }
 
-order : (g : given.Over) (c : goal.After-sweep_whites g) → IsInOrder [] (keyed_of c.self.inside)
+order : (g : given.Over) (c : goal.After-sweep_all g) → IsInOrder [] (keyed_of c.self.inside)
 order g c = rw (← c.self.view_is) at c.requires.order
 
-colours : (g : given.Over) (c : goal.After-sweep_whites g) → HasColours (heap_of c.self.inside)
+colours : (g : given.Over) (c : goal.After-sweep_all g) → HasColours (heap_of c.self.inside)
 colours g c = rw (← c.self.view_is) at c.requires.colours
 
-pub drop_dead-requires : goal.drop_dead-requires
-drop_dead-requires g c = (rw (← c.self.view_is) at c.requires.order).entries_there
-
-pub sweep_whites-requires : goal.sweep_whites-requires
-sweep_whites-requires g c = record { one = c.self.invariant.one_key; owned = whites-own c.self.inside c.self.invariant (rw (← c.self.view_is) at c.requires.order) }
+pub sweep_all-requires : goal.sweep_all-requires
+sweep_all-requires g c = record {
+  entries = (rw (← c.self.view_is) at c.requires.order).entries_there;
+  one = c.self.invariant.one_key;
+  owned = whites-own c.self.inside c.self.invariant (rw (← c.self.view_is) at c.requires.order);
+}
 
 pub returns-clause-swept : goal.returns-clause-swept
-returns-clause-swept g c = rw (← c.self.view_is) (c.sweep_whites.ensures.swept ∙ ap are_some (white-unmarked c.self.inside))
+returns-clause-swept g c = rw (← c.self.view_is) (c.sweep_all.ensures.swept ∙ ap are_some (white-unmarked c.self.inside))
 
 pub returns-clause-heap : goal.returns-clause-heap
 returns-clause-heap g c = rw (← c.self.view_is) (ap heap_of (swept-is g c) ∙ heap-is c.self.inside c.self.invariant (order g c) (colours g c))
 
 pub returns-clause-told : goal.returns-clause-told
 returns-clause-told g c =
-    rw (← c.self.view_is) (subst (TellsEvents (g.N.Notices.telling c.args.out.now) (g.N.Notices.telling c.sweep_whites.new.out))
-    (events-swept c.self.inside c.self.invariant (order g c) (colours g c)) c.sweep_whites.ensures.told)
+    rw (← c.self.view_is) (subst (TellsEvents (g.N.Notices.telling c.args.out.now) (g.N.Notices.telling c.sweep_all.new.out))
+    (events-swept c.self.inside c.self.invariant (order g c) (colours g c)) c.sweep_all.ensures.told)
 
 pub returns-clause-natives : goal.returns-clause-natives
 returns-clause-natives g c =

@@ -1,4 +1,5 @@
-use Rattle.std.proofs.Common.{subst, arith}
+use Rattle.std.proofs.Common.{◌+◌, subst, arith}
+use Rattle.std.specs.Prelude.{vec_capacity}
 use Rattle.std.proofs.Math.ListN.{set}
 use Rattle.slab.specs.Slab.{Slab, get}
 use Rattle.cc_script.specs.Lists.{painted}
@@ -15,11 +16,12 @@ index_mut-requires c =
 
 pub returns : goal.returns
 returns c =
+    let room = c.self.inside.slab.capacity + vec_capacity c.self.inside.bodies + vec_capacity c.self.inside.colours in
     let s = filled_slab c.self.inside.slab c.self.inside.bodies.items in
     let colours = c.self.inside.colours.items in
     let held = held-bare s colours c.args.self.now c.self.view_is c.args.key.0 (cell-held c.args.self.now.slots c.args.key.0 c.requires.live) in
     let there = some-of (get s c.args.key.0) held in
     record {
-      changes = subst (λ (z : Slab Linked). Changes z (coloured_slab s (set colours c.args.key.0 c.args.colour)) c.args.key.0 (painted c.args.colour)) c.self.view_is
+      changes = subst (λ (z : Slab Linked). Changes z (coloured_slab room s (set colours c.args.key.0 c.args.colour)) c.args.key.0 (painted c.args.colour)) c.self.view_is
           (changes-painted s colours c.args.key.0 c.args.colour there.0 (reaches-filled c.self.inside.slab c.self.inside.bodies.items c.self.inside.colours.items c.self.invariant.1 c.args.key.0 held) there.1);
     }

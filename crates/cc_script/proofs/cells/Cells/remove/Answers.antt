@@ -1,4 +1,5 @@
-use Rattle.std.proofs.Common.{List, Option, None, ap, set, sym, subst, ◌∙◌, arith}
+use Rattle.std.proofs.Common.{◌+◌, List, Option, None, ap, set, sym, subst, ◌∙◌, arith}
+use Rattle.std.specs.Prelude.{vec_capacity}
 use Rattle.slab.specs.Slab.{Slab, Updates}
 use Rattle.cc_names.specs.declared.kind.Colour.TheVariants.{White}
 use Rattle.cc_script.specs.Paired.{paired}
@@ -22,10 +23,11 @@ index_mut-requires c =
 
 pub returns-clause-slots : goal.returns-clause-slots
 returns-clause-slots c =
+    let room = c.remove-cell.new.self.capacity + vec_capacity c.self.inside.bodies + vec_capacity c.self.inside.colours in
     let s = c.self.inside.slab in
     let contents = c.self.inside.bodies.items in
     let colours = c.self.inside.colours.items in
-    ap (λ (z : Slab Bare). (coloured_slab z colours).slots) (emptied c.remove-cell.new.self contents c.args.key c.nothing.result c.remove-cell.ensures.updates.changed)
+    ap (λ (z : Slab Bare). (coloured_slab room z colours).slots) (emptied c.remove-cell.new.self contents c.args.key c.nothing.result c.remove-cell.ensures.updates.changed)
     ∙ (ap (λ (slots : List (Option Label)). paired in_colour White (paired filled nothing slots contents) colours) c.remove-cell.ensures.slots
     ∙ (ap (λ (slots : List (Option Bare)). paired in_colour White slots colours) (paired-set filled nothing s.slots contents c.args.key None)
     ∙ (paired-set in_colour White (filled_slab s contents).slots colours c.args.key None
@@ -33,10 +35,11 @@ returns-clause-slots c =
 
 pub returns-clause-updates : goal.returns-clause-updates
 returns-clause-updates c =
+    let room = c.remove-cell.new.self.capacity + vec_capacity c.self.inside.bodies + vec_capacity c.self.inside.colours in
     let s = c.self.inside.slab in
     let contents = c.self.inside.bodies.items in
     let colours = c.self.inside.colours.items in
-    subst (λ (z : Slab Bare). Updates c.args.self.now (coloured_slab z colours) c.args.key None)
+    subst (λ (z : Slab Bare). Updates c.args.self.now (coloured_slab room z colours) c.args.key None)
     (sym (emptied c.remove-cell.new.self contents c.args.key c.nothing.result c.remove-cell.ensures.updates.changed))
     (removed (filled_slab s contents) colours c.args.self.now c.self.view_is c.args.key (filled_slab c.remove-cell.new.self contents)
     (updates-taken filled nothing s contents c.args.key c.remove-cell.new.self c.remove-cell.ensures.updates))

@@ -1,4 +1,5 @@
-use Rattle.std.proofs.Common.{List, Option, length, map, get_or, refl, ap, sym, subst, ◌∙◌, arith}
+use Rattle.std.proofs.Common.{◌+◌, List, Option, length, map, get_or, refl, ap, sym, subst, ◌∙◌, arith}
+use Rattle.std.specs.Prelude.{vec_capacity}
 use Rattle.std.proofs.Math.ListN.{set}
 use Rattle.std.proofs.lemmas.List.{get_or_default, length-map, map-set}
 use Rattle.slab.specs.Slab.{Slab, get}
@@ -42,6 +43,7 @@ index_mut-requires c =
 
 pub returns : goal.returns
 returns c =
+    let room = c.self.inside.slab.capacity + vec_capacity c.self.inside.bodies + vec_capacity c.self.inside.colours in
     let s = c.self.inside.slab in
     let contents = c.self.inside.bodies.items in
     let held = held-label s contents c.args.key.0
@@ -58,8 +60,8 @@ returns c =
     let d = filled new there.0 in
     let seen = c.body.view_is ∙ (c.index_mut-body.ensures.value ∙ get_or_default contents c.args.key.0 c.index_mut-body.result.now nothing within) in
     record {
-      changes = subst (λ (z : Slab Linked). Changes z (coloured_slab (filled_slab s (set contents c.args.key.0 new)) colours) c.args.key.0 (written c.args.i x)) c.self.view_is
-          (subst (λ (z : Slab Bare). Changes (coloured_slab f colours) (coloured_slab z colours) c.args.key.0 (written c.args.i x)) (sym (content-set s contents c.args.key.0 there.0 new within there.1))
+      changes = subst (λ (z : Slab Linked). Changes z (coloured_slab room (filled_slab s (set contents c.args.key.0 new)) colours) c.args.key.0 (written c.args.i x)) c.self.view_is
+          (subst (λ (z : Slab Bare). Changes (coloured_slab room f colours) (coloured_slab room z colours) c.args.key.0 (written c.args.i x)) (sym (content-set s contents c.args.key.0 there.0 new within there.1))
           (changes-bare f colours c.args.key.0 b d (written c.args.i x) (read-filled s contents c.args.key.0 there.0 there.1)
           (ap (λ ys. (in_colour colour (filled (content ys) there.0)).placed) (map-set held_key c.body.inside.slots.items c.args.i c.args.item)
           ∙ ap (λ (w : Content). written c.args.i x (in_colour colour (filled w there.0)).placed) seen)

@@ -1,4 +1,5 @@
-use Rattle.std.proofs.Common.{◌≡◌, List, Option, Some, get_or, option_map, refl, ap, sym, subst, ◌∙◌}
+use Rattle.std.proofs.Common.{◌+◌, ◌≡◌, List, Option, Some, get_or, option_map, refl, ap, sym, subst, ◌∙◌}
+use Rattle.std.specs.Prelude.{vec_capacity}
 use Rattle.std.proofs.Math.ListN.{set}
 use Rattle.slab.specs.Slab.{Slab, get}
 use Rattle.cc_names.specs.declared.number.NKey.{NKey}
@@ -36,6 +37,7 @@ returns-clause-links c =
 
 pub returns-clause-rest : goal.returns-clause-rest
 returns-clause-rest c =
+    let room = c.self.inside.slab.capacity + vec_capacity c.self.inside.bodies + vec_capacity c.self.inside.colours in
     let s = c.self.inside.slab in
     let contents = c.self.inside.bodies.items in
     let f = filled_slab s contents in
@@ -47,8 +49,8 @@ returns-clause-rest c =
     let b = filled content c.index_mut.result.now in
     let d = filled content label in
     let at = read-filled s contents c.args.key c.index_mut.result.now c.index_mut.ensures.value in
-    ap (λ (slots : List (Option Bare)). beside_order (coloured_slab (record f { slots = slots }) colours)) (paired-set filled nothing s.slots contents c.args.key (Some label))
-    ∙ subst (λ (z : Slab Linked). beside_order (coloured_slab (record f { slots = set f.slots c.args.key (Some d) }) colours) ≡ beside_order z) c.self.view_is
+    ap (λ (slots : List (Option Bare)). beside_order (coloured_slab room (record f { slots = slots }) colours)) (paired-set filled nothing s.slots contents c.args.key (Some label))
+    ∙ subst (λ (z : Slab Linked). beside_order (coloured_slab room (record f { slots = set f.slots c.args.key (Some d) }) colours) ≡ beside_order z) c.self.view_is
     (beside-same _ _ _ _ _
-    (object-kept f colours (coloured_slab f colours) refl c.args.key b d at (ap (λ (l : Label). (in_colour colour (filled content l)).placed) c.behind-self.view_is))
-    (link-kept f colours (coloured_slab f colours) refl c.args.key (λ (z : Linked). z.waiting) b d at refl))
+    (object-kept f colours (coloured_slab 0 f colours) refl c.args.key b d at (ap (λ (l : Label). (in_colour colour (filled content l)).placed) c.behind-self.view_is))
+    (link-kept f colours (coloured_slab 0 f colours) refl c.args.key (λ (z : Linked). z.waiting) b d at refl))

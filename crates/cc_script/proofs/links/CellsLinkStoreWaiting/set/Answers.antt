@@ -1,4 +1,5 @@
-use Rattle.std.proofs.Common.{◌≡◌, Option, Some, map, get_or, refl, ap, sym, subst, ◌∙◌, arith}
+use Rattle.std.proofs.Common.{◌+◌, ◌≡◌, Option, Some, map, get_or, refl, ap, sym, subst, ◌∙◌, arith}
+use Rattle.std.specs.Prelude.{vec_capacity}
 use Rattle.std.proofs.Math.ListN.{set}
 use Rattle.std.proofs.lemmas.List.{get_or_default}
 use Rattle.slab.specs.Slab.{Slab, get}
@@ -24,6 +25,7 @@ index_mut-requires c =
 
 pub returns-clause-links : goal.returns-clause-links
 returns-clause-links c =
+    let room = c.self.inside.slab.capacity + vec_capacity c.self.inside.bodies + vec_capacity c.self.inside.colours in
     let s = c.self.inside.slab in
     let contents = c.self.inside.bodies.items in
     let colours = c.self.inside.colours.items in
@@ -32,13 +34,14 @@ returns-clause-links c =
     (sym (some-map (λ (z : Linked). z.waiting) (get c.args.self.now c.args.key)) ∙ c.requires)) in
     let there = some-of (get s c.args.key) held in
     let content : Content = record { slots = map held_key c.behind-self.inside.slots.items; waiting = c.of.result } in
-    ap (λ (z : Slab Bare). waiting_links (coloured_slab z colours).slots) (content-set s contents c.args.key there.0 content (c.self.invariant.0 c.args.key held) there.1)
+    ap (λ (z : Slab Bare). waiting_links (coloured_slab room z colours).slots) (content-set s contents c.args.key there.0 content (c.self.invariant.0 c.args.key held) there.1)
     ∙ (link-set (filled_slab s contents) colours c.args.self.now c.self.view_is c.args.key (λ (z : Linked). z.waiting) (filled (get_or contents c.args.key nothing) there.0) (filled content there.0)
     (read-filled s contents c.args.key there.0 there.1)
     ∙ ap (λ (link : Option Link). with_link (waiting_links c.args.self.now.slots) c.args.key link) c.of.ensures)
 
 pub returns-clause-rest : goal.returns-clause-rest
 returns-clause-rest c =
+    let room = c.self.inside.slab.capacity + vec_capacity c.self.inside.bodies + vec_capacity c.self.inside.colours in
     let s = c.self.inside.slab in
     let contents = c.self.inside.bodies.items in
     let f = filled_slab s contents in
@@ -53,8 +56,8 @@ returns-clause-rest c =
     let d = filled content there.0 in
     let at = read-filled s contents c.args.key there.0 there.1 in
     let seen = c.behind-self.view_is ∙ (c.index_mut.ensures.value ∙ get_or_default contents c.args.key c.index_mut.result.now nothing (c.self.invariant.0 c.args.key held)) in
-    ap (λ (z : Slab Bare). beside_waiting (coloured_slab z colours)) (content-set s contents c.args.key there.0 content (c.self.invariant.0 c.args.key held) there.1)
-    ∙ subst (λ (z : Slab Linked). beside_waiting (coloured_slab (record f { slots = set f.slots c.args.key (Some d) }) colours) ≡ beside_waiting z) c.self.view_is
+    ap (λ (z : Slab Bare). beside_waiting (coloured_slab room z colours)) (content-set s contents c.args.key there.0 content (c.self.invariant.0 c.args.key held) there.1)
+    ∙ subst (λ (z : Slab Linked). beside_waiting (coloured_slab room (record f { slots = set f.slots c.args.key (Some d) }) colours) ≡ beside_waiting z) c.self.view_is
     (beside-same _ _ _ _ _
-    (object-kept f colours (coloured_slab f colours) refl c.args.key b d at (ap (λ (w : Content). (in_colour colour (filled w there.0)).placed) seen))
-    (link-kept f colours (coloured_slab f colours) refl c.args.key (λ (z : Linked). z.order) b d at refl))
+    (object-kept f colours (coloured_slab 0 f colours) refl c.args.key b d at (ap (λ (w : Content). (in_colour colour (filled w there.0)).placed) seen))
+    (link-kept f colours (coloured_slab 0 f colours) refl c.args.key (λ (z : Linked). z.order) b d at refl))
