@@ -16,7 +16,7 @@ or traversed, where they are live. The whole script is timed, and the first part
     seconds       the whole script, from the program's start to its end, with the output written to a file
     commands/s    the script's lines by those seconds
     ns/object     the second part alone (the difference of the two times), by the N objects, and by how often it does
-                  its work: a script collection of a chain of entries is done 16 times, the others once
+                  its work: a chain of entries is marked 64 times and scanned 8 times, all else is done once
     growth        the time of each size by that of the least size, of the whole script and of the second part
 
 Each run's output is checked before it counts: status 0, one reply a line, none of them a refusal, and as many `- free`
@@ -137,20 +137,21 @@ def entries_backwards(size):
 def entry_chain(size):
     """A chain of entries. Registers hold the map and the first key, so all live. Script collections mark them in the order
     in which they were set."""
-    return Shape(entries(size), ["gc"], 0, 0, times=16)
+    return Shape(entries(size), ["gc"], 0, 0, times=64)
 
 
 def entry_chain_backwards(size):
     """The same, set against the order."""
-    return Shape(entries_backwards(size), ["gc"], 0, 0, times=16)
+    return Shape(entries_backwards(size), ["gc"], 0, 0, times=64)
 
 
 def scanned(build):
-    """A native that n0 holds, and that is a suspect, holds the map and the first key of these entries, so a script
-    collection has made them gray: each entry is a mapping of a collection, whose scan goes from the native along the
-    chain. All live. The time is that of the whole collection: begin, a unit for each object, and the scan."""
-    hold = ["native n0 2", "set n0 0 s0", "set n0 1 s1", "drop s0", "drop s1", "gc", "copy n1 n0", "drop n1"]
-    return Shape(build + hold, ["collect"], 0, 0)
+    """A native, which n0 holds, holds the map and the first key of these entries, so a script collection made them gray:
+    each entry is a mapping of a collection, whose scan goes from the native along the chain. All live. Collections follow
+    each other, and the native is a suspect of each. The time is that of a whole collection: begin, a unit for each object,
+    and the scan."""
+    hold = ["native n0 2", "set n0 0 s0", "set n0 1 s1", "drop s0", "drop s1", "gc"]
+    return Shape(build + hold, ["copy n1 n0", "drop n1", "collect"], 0, 0, times=8)
 
 
 def mapping_chain(size):
