@@ -9,8 +9,8 @@ specs/Inputs.antt, and these theorems in proofs/Examples1.antt and the files aft
 writes the output; the run is lawful; it is quiet; it passes the audit. An example that ends with status 5 becomes
 one theorem: what its input writes within the bytes allowed.
 
-In crates/cc_examples src/worked.rt gets the examples that the program can be run on: those in which no memory is
-refused.
+In crates/cc_examples src/worked.rt and the files of src/worked get the examples that the program can be run on: those in
+which no memory is refused.
 """
 import re
 import sys
@@ -19,7 +19,7 @@ from pathlib import Path
 ROOT = Path(__file__).resolve().parent.parent
 TABLE = ROOT / 'examples' / 'worked.txt'
 CRATE = ROOT / 'crates' / 'cc_worked'
-TESTS = ROOT / 'crates' / 'cc_examples' / 'src' / 'worked.rt'
+TESTS = ROOT / 'crates' / 'cc_examples' / 'src'
 EXAMPLES_IN_A_FILE = 8
 EXAMPLES_IN_A_TEST = 20
 DEFAULT_LIMITS = (1000000, 1000000, 4294967295)
@@ -283,14 +283,21 @@ def test_case(example):
 """
 
 
-def test_of_part(number, cases):
-    return f"""
-const EXAMPLES_{number}: [Example; {len(cases)}] = [
+def file_of_tests(cases):
+    return f"""//! Some of the worked examples.
+//!
+//! Made by tools/worked_examples.py from examples/worked.txt.
+
+use crate::script::Example;
+use cc_replay::Status;
+use std::test::Fail;
+
+const EXAMPLES: [Example; {len(cases)}] = [
 {''.join(cases)}];
 
 #[test]
-fn worked_examples_{number}_are_answered(rt: HostRuntime) -> Result<(), Fail> {{
-    for example in EXAMPLES_{number}.iter() {{
+fn worked_examples_are_answered(rt: HostRuntime) -> Result<(), Fail> {{
+    for example in EXAMPLES.iter() {{
         example.is_answered(&rt)?;
     }}
     Ok(())
@@ -298,18 +305,13 @@ fn worked_examples_{number}_are_answered(rt: HostRuntime) -> Result<(), Fail> {{
 """
 
 
-def file_of_tests(examples):
-    cases = [test_case(example) for example in examples if can_be_run(example)]
-    parts = [cases[i:i + EXAMPLES_IN_A_TEST] for i in range(0, len(cases), EXAMPLES_IN_A_TEST)]
+def file_of_tables(count):
     return """//! The worked examples that the program can be run on: what each script makes it write. They stand in some tables, since
 //! the check of a large one takes more steps than it may.
 //!
 //! Made by tools/worked_examples.py from examples/worked.txt.
 
-use crate::script::Example;
-use cc_replay::Status;
-use std::test::Fail;
-""" + ''.join(test_of_part(number, part) for number, part in enumerate(parts, 1))
+""" + ''.join(f'mod part_{number};\n' for number in range(1, count + 1))
 
 
 def files(examples):
@@ -320,14 +322,19 @@ def files(examples):
         made[CRATE / 'proofs' / f'Examples{number}.antt'] = file_of_theorems(number, part)
     made[CRATE / 'proofs' / 'Examples.antt'] = file_of_names(parts)
     made[CRATE / 'proofs' / 'Lib.antt'] = file_of_modules(len(parts))
-    made[TESTS] = file_of_tests(examples)
+    cases = [test_case(example) for example in examples if can_be_run(example)]
+    tables = [cases[i:i + EXAMPLES_IN_A_TEST] for i in range(0, len(cases), EXAMPLES_IN_A_TEST)]
+    for number, table in enumerate(tables, 1):
+        made[TESTS / 'worked' / f'part_{number}.rt'] = file_of_tests(table)
+    made[TESTS / 'worked.rt'] = file_of_tables(len(tables))
     return made
 
 
 def differing(made):
-    """The paths of files that are not as they are to be, and of files of theorems that are not to be."""
+    """The paths of files that are not as they are to be, and of files of theorems or tests that are not to be."""
     wrong = [path for path, text in made.items() if not path.exists() or path.read_text(encoding='utf-8') != text]
-    left_over = [path for path in sorted((CRATE / 'proofs').glob('Examples*.antt')) if path not in made]
+    there = sorted((CRATE / 'proofs').glob('Examples*.antt')) + sorted((TESTS / 'worked').glob('part_*.rt'))
+    left_over = [path for path in there if path not in made]
     return wrong, left_over
 
 
@@ -345,6 +352,7 @@ def main():
             print(f'{path.relative_to(ROOT)} is not what tools/worked_examples.py makes of examples/worked.txt', file=sys.stderr)
         sys.exit(1 if wrong or left_over else 0)
     for path in wrong:
+        path.parent.mkdir(exist_ok=True)
         path.write_text(made[path], encoding='utf-8')
     for path in left_over:
         path.unlink()

@@ -1,8 +1,8 @@
 //! Tests across crates: what `cc_replay` writes for whole scripts.
 //!
 //! The worked examples stand in one table, `examples/worked.txt`, with the answers of the rules and not of the program;
-//! `worked.rt` is made of it. Beside them stand the words of the command line, summaries of made scripts, script
-//! collections, the faults of reading and writing, and shapes that are deep or long.
+//! `worked.rt` and its parts are made of it. Beside them stand the words of the command line, summaries of made scripts,
+//! script collections, the faults of reading and writing, and shapes that are deep or long.
 #![tactic(auto)]
 
 #[cfg(test)]
