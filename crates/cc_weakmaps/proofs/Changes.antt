@@ -9,15 +9,15 @@ use Rattle.std.proofs.lemmas.List.{length_push, length-set, length-take, get_or_
 use Rattle.cc_lists.specs.Members.{Among}
 use Rattle.cc_lists.proofs.Members.{Among-append}
 use Rattle.cc_names.specs.declared.number.SKey.{SKey}
-use Rattle.cc_weakmaps.specs.Entries.{KeyedEntry, HasOneEach, entry, has_value_in, is_entry_of}
-use Rattle.cc_weakmaps.specs.Index.{last_kept, place_below, AreKnown, IsIndexed, IsKept, IsPlaceOf}
+use Rattle.cc_weakmaps.specs.Entries.{KeyedEntry, HasOneEach, entry, has_value_in}
+use Rattle.cc_weakmaps.specs.Index.{last_kept, place_below, AreFew, AreKnown, IsIndexed, IsKept, IsPlaceOf}
 use Rattle.cc_weakmaps.specs.Living.{AreLiving}
 use Rattle.cc_weakmaps.specs.Places.{StandsAt}
 use Rattle.cc_weakmaps.specs.declared.links.Links.{Links}
 use Rattle.cc_weakmaps.proofs.Below.{place-has, place-within}
 use Rattle.cc_weakmaps.proofs.Indexed.{indexed-alike, indexed-known}
 use Rattle.cc_weakmaps.proofs.OneEach.{HasOneEach-set, same-map}
-use Rattle.cc_weakmaps.proofs.Stands.{absent-set, stands-set, stands-within}
+use Rattle.cc_weakmaps.proofs.Stands.{absent-set, stands-entry, stands-set, stands-within}
 
 pub if_none-always : {X : Type 0} (o : Option X) (P : Type 0) → P → IfNone o P
 if_none-always None P h = h
@@ -39,6 +39,7 @@ module _ (es : List KeyedEntry) (links : List Links) (kept : List (Option ℕ)) 
 pub kept-same : (es : List KeyedEntry) (links : List Links) (kept left : List (Option ℕ)) → ((k : ℕ) → last_kept left k ≡ last_kept kept k) → IsKept es links kept → IsKept es links left
 kept-same es links kept left same h = record {
   at_most_one = h.at_most_one;
+  few = h.few;
   as_many = h.as_many;
   indexed = indexed-alike es es links links kept left (length es) (omega arith) (omega arith) (λ j d l. (refl, refl)) (λ j d l. refl) same h.indexed;
 }
@@ -48,12 +49,13 @@ kept-same es links kept left same h = record {
 pub kept-set : (es : List KeyedEntry) (links : List Links) (kept : List (Option ℕ)) (m k v place : ℕ) → StandsAt es m k place → IsKept es links kept → IsKept (set es place (entry m k v)) links kept
 kept-set es links kept m k v place s h = record {
   at_most_one = subst HasOneEach (stands-set es m k place v s) (HasOneEach-set es m k v h.at_most_one);
+  few = omega (arith, length-set es place (entry m k v), h.few);
   as_many = h.as_many ∙ sym (length-set es place (entry m k v));
   indexed = subst (IsIndexed (set es place (entry m k v)) links kept) (sym (length-set es place (entry m k v)))
       (indexed-alike es (set es place (entry m k v)) links links kept kept (length es) (omega arith) (omega (arith, length-set es place (entry m k v)))
       (λ j d l. ⊎_elim
       (λ t. let same : j ≡ place = t.1 in
-      let both = same-map m k (get_or es place d) (at es place s d) in
+      let both = same-map m k (get_or es place d) (stands-entry es m k place d s) in
       subst (λ z. ((get_or (set es place (entry m k v)) z d).the_map ≡ (get_or es z d).the_map) × ((get_or (set es place (entry m k v)) z d).key ≡ (get_or es z d).key)) (sym same) (
         ap (λ x. x.the_map) (get_or-set_same es place (entry m k v) d (stands-within es m k place s)) ∙ sym both.0,
         ap (λ x. x.key) (get_or-set_same es place (entry m k v) d (stands-within es m k place s)) ∙ sym both.1,
@@ -62,11 +64,6 @@ kept-set es links kept m k v place s h = record {
       (eqb_tells j place))
       (λ j d l. refl) (λ j. refl) h.indexed);
 }
-  where
-    at : (xs : List KeyedEntry) (i : ℕ) → StandsAt xs m k i → (d : KeyedEntry) → is_entry_of m k (get_or xs i d) ≡ true
-    at [] i s d = absurd s
-    at (x ∷ xs) zero s d = s
-    at (x ∷ xs) (suc i) s d = at xs i s.1 d
 
 -- An entry is added
 
@@ -82,10 +79,11 @@ module _ (es : List KeyedEntry) (links : List Links) (kept left : List (Option �
       (λ j d l. (ap (λ y. y.the_map) (get_or_append_left es (x ∷ []) d j l), ap (λ y. y.key) (get_or_append_left es (x ∷ []) d j l)))
       (λ j d l. get_or_append_left links (link ∷ []) d j (omega (arith, l, h.as_many))) same h.indexed
 
-  pub added-kept : (others : List Links) (put : List (Option ℕ)) → has_value_in es x.the_map x.key ≡ false → length others ≡ length (links ++ link ∷ []) →
+  pub added-kept : (others : List Links) (put : List (Option ℕ)) → length es < 4294967296 → has_value_in es x.the_map x.key ≡ false → length others ≡ length (links ++ link ∷ []) →
       IsIndexed (es ++ x ∷ []) others put (length es + 1) → IsKept (es ++ x ∷ []) others put
-  added-kept others put absent count indexed = record {
+  added-kept others put few absent count indexed = record {
     at_most_one = subst HasOneEach (absent-set es x.the_map x.key x.value absent) (HasOneEach-set es x.the_map x.key x.value h.at_most_one);
+    few = omega (arith, length_push es x, few);
     as_many = omega (arith, count, length_push es x, length_push links link, h.as_many);
     indexed = subst (IsIndexed (es ++ x ∷ []) others put) (sym (length_push es x)) indexed;
   }
@@ -102,10 +100,11 @@ module _ (es fs : List KeyedEntry) (links : List Links) (left : List (Option ℕ
       (λ j d l. (ap (λ x. x.the_map) (same j d l), ap (λ x. x.key) (same j d l))) (λ j d l. refl) (λ k. refl) h
 
 -- with as many links as there are entries left
-pub fewer-kept : (fs : List KeyedEntry) (links : List Links) (kept left : List (Option ℕ)) → HasOneEach fs → length fs ≤ length links → IsIndexed fs links kept (length fs) →
+pub fewer-kept : (fs : List KeyedEntry) (links : List Links) (kept left : List (Option ℕ)) → HasOneEach fs → AreFew fs → length fs ≤ length links → IsIndexed fs links kept (length fs) →
     ((k : ℕ) → last_kept left k ≡ last_kept kept k) → IsKept fs (take (length fs) links) left
-fewer-kept fs links kept left once room h same = record {
+fewer-kept fs links kept left once few room h same = record {
   at_most_one = once;
+  few = few;
   as_many = length_take (length fs) links room;
   indexed = indexed-alike fs fs links (take (length fs) links) kept left (length fs) (omega arith) (omega arith) (λ j d l. (refl, refl))
       (λ j d l. get_or-take (length fs) links j d l) same h;

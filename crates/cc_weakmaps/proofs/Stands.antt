@@ -10,6 +10,12 @@ stands-within [] m k place s = absurd s
 stands-within (e ∷ es) m k zero s = omega arith
 stands-within (e ∷ es) m k (suc place) s = omega (arith, stands-within es m k place s.1)
 
+-- the entry there is the one of the map and the key
+pub stands-entry : (es : List KeyedEntry) (m k place : ℕ) (d : KeyedEntry) → StandsAt es m k place → is_entry_of m k (get_or es place d) ≡ true
+stands-entry [] m k place d s = absurd s
+stands-entry (e ∷ es) m k zero d s = s
+stands-entry (e ∷ es) m k (suc place) d s = stands-entry es m k place d s.1
+
 -- the value there is the value of the map and the key
 pub stands-value : (es : List KeyedEntry) (m k place : ℕ) (d : KeyedEntry) → StandsAt es m k place → value_in es m k ≡ Some (get_or es place d).value
 stands-value [] m k place d s = absurd s

@@ -4,16 +4,17 @@
 //! so from an object a chain goes through its entries, from the last one to the first. Entries come into the index in order
 //! and leave it from its end, each with two last places written.
 ghost use Rattle.std.specs.Prelude.{◌≡◌, ◌+◌, ◌<◌, ◌≤◌, length};
-ghost use Rattle.cc_weakmaps.specs.Index.{AreKnown, IsIndexed};
+ghost use Rattle.cc_weakmaps.specs.Index.{AreFew, AreKnown, IsIndexed};
 
 use crate::entry::Entry;
 use crate::lasts::Lasts;
 use crate::links::Links;
 
-/// Puts the entry at a place into the index, which has those before it.
+/// Puts the entry at a place into the index, which has those before it. Each place must fit in 32 bits.
 pub(crate) fn put_in(lasts: &mut Lasts, links: &mut Vec<Links>, entries: &[Entry], place: usize)
     requires within { place < length entries.now }
     requires room { length entries.now ≤ length links.old.items }
+    requires few { AreFew entries.now }
     requires known { AreKnown entries.now lasts.old }
     requires indexed { IsIndexed entries.now links.old.items lasts.old place }
     ensures indexed { IsIndexed entries.now links.new.items lasts.new (place + 1) }
@@ -21,12 +22,13 @@ pub(crate) fn put_in(lasts: &mut Lasts, links: &mut Vec<Links>, entries: &[Entry
     ensures known { AreKnown entries.now lasts.new }
 {
     let entry = entries[place];
+    let (the_map, key) = (entry.the_map().0, entry.key().0);
     links[place] = Links {
-        by_map: lasts.last(entry.the_map.0),
-        by_key: lasts.last(entry.key.0),
+        by_map: lasts.last(the_map),
+        by_key: lasts.last(key),
     };
-    lasts.keep(entry.the_map.0, Some(place));
-    lasts.keep(entry.key.0, Some(place));
+    lasts.keep(the_map, Some(place as u32));
+    lasts.keep(key, Some(place as u32));
 }
 
 /// Takes the entry at a place out of the index, of which it is the last.
@@ -39,12 +41,14 @@ pub(crate) fn take_out(lasts: &mut Lasts, links: &[Links], entries: &[Entry], pl
     ensures known { AreKnown entries.now lasts.new }
 {
     let entry = entries[place];
+    let (the_map, key) = (entry.the_map().0, entry.key().0);
     let before = links[place];
-    lasts.keep(entry.the_map.0, before.by_map);
-    lasts.keep(entry.key.0, before.by_key);
+    lasts.keep(the_map, before.by_map);
+    lasts.keep(key, before.by_key);
 }
 
-/// Puts the entries from a place on into the index, which has those before it. Takes no memory.
+/// Puts the entries from a place on into the index, which has those before it. Each place must fit in 32 bits. Takes no
+/// memory.
 pub(crate) fn put_in_from(
     lasts: &mut Lasts,
     links: &mut Vec<Links>,
@@ -53,6 +57,7 @@ pub(crate) fn put_in_from(
 )
     requires within { start ≤ length entries.now }
     requires room { length entries.now ≤ length links.old.items }
+    requires few { AreFew entries.now }
     requires known { AreKnown entries.now lasts.old }
     requires indexed { IsIndexed entries.now links.old.items lasts.old start }
     ensures indexed { IsIndexed entries.now links.new.items lasts.new (length entries.now) }

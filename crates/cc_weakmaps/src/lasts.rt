@@ -6,12 +6,12 @@ use cc_names::NoMemory;
 use std::alloc::Global;
 use std::marker::Model;
 
-/// The last places by the objects' keys, up to the greatest key that was known. An object can be known without a place, so
-/// that one is kept later without memory.
-// Keys are those of a slab, so they lie close together: a place costs 16 bytes, and a look-up one access.
+/// The last places by the objects' keys, up to the greatest key that was known. Places are kept in 32 bits. An object can
+/// be known without a place, so that one is kept later without memory.
+// Keys are those of a slab, so they lie close together: a place costs 8 bytes, and a look-up one access.
 #[derive(Drop)]
 pub(crate) struct Lasts {
-    places: Vec<Option<usize>>,
+    places: Vec<Option<u32>>,
 }
 
 impl Model for Lasts {
@@ -33,7 +33,7 @@ impl Lasts {
     }
 
     /// The last place of an object; none where it has none.
-    pub(crate) fn last(&self, object: usize) -> Option<usize>
+    pub(crate) fn last(&self, object: usize) -> Option<u32>
         ensures { result ≡ last_kept self.now object }
     {
         match self.places.get(object) {
@@ -58,7 +58,7 @@ impl Lasts {
     }
 
     /// The last place of an object that is known is this from then on.
-    pub(crate) fn keep(&mut self, object: usize, place: Option<usize>)
+    pub(crate) fn keep(&mut self, object: usize, place: Option<u32>)
         requires known { object < length self.old }
         ensures places { (k : ℕ) → last_kept self.new k ≡ (if object == k then place else last_kept self.old k) }
         ensures known { length self.new ≡ length self.old }

@@ -44,6 +44,22 @@ fn value_is_replaced_in_place(rt: HostRuntime) -> Result<(), Fail> {
 }
 
 #[test]
+fn new_entry_has_map_and_key_of_32_bits(rt: HostRuntime) -> Result<(), Fail> {
+    let mut maps = WeakMaps::new(rt.alloc());
+    assert_eq!(rt; maps.set(SKey(4294967296), SKey(2), SKey(3)), Err(NoMemory));
+    assert_eq!(rt; maps.set(SKey(1), SKey(4294967298), SKey(3)), Err(NoMemory));
+    assert!(rt; maps.is_empty());
+    assert_eq!(rt; maps.set(SKey(1), SKey(2), SKey(4294967299)), Ok(()));
+    assert_eq!(rt; maps.set(SKey(1), SKey(4294967298), SKey(4)), Err(NoMemory));
+    assert_eq!(rt; maps.get(SKey(1), SKey(2)), Some(SKey(4294967299)));
+    assert_eq!(rt; maps.set(SKey(1), SKey(2), SKey(4294967300)), Ok(()));
+    assert_eq!(rt; maps.len(), 1);
+    assert_eq!(rt; at(&maps, 0), Some((1, 2, 4294967300)));
+    assert_eq!(rt; maps.get(SKey(4294967297), SKey(2)), None);
+    Ok(())
+}
+
+#[test]
 fn entry_that_is_set_again_goes_last(rt: HostRuntime) -> Result<(), Fail> {
     let mut maps = WeakMaps::new(rt.alloc());
     assert_eq!(rt; maps.set(SKey(1), SKey(2), SKey(3)), Ok(()));

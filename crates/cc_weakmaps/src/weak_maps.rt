@@ -52,7 +52,9 @@ impl WeakMaps {
     /// A key has a value in a map from then on: its entry keeps its place, or goes last where there was none.
     ///
     /// Memory is taken for a new entry, and for the places of all keys up to the greater of its two: keys are those of a slab,
-    /// so they lie close together. `NoMemory` changes nothing, and comes only where there was none.
+    /// so they lie close together. Map, key and place of an entry are kept in 32 bits each, so `NoMemory` comes too where a
+    /// new entry has a map or a key, or would have a place, that needs more. `NoMemory` changes nothing, and comes only
+    /// where there was no entry.
     #[tactic(auto, using(crate::proofs::Stands::stands))]
     pub fn set(&mut self, the_map: SKey, key: SKey, value: SKey) -> Result<(), NoMemory>
         ensures entries { OnOk result (self.new ≡ with_entry self.old the_map.0 key.0 value.0) }
@@ -60,14 +62,9 @@ impl WeakMaps {
         ensures in_place { IsTrue (has_value_in self.old the_map.0 key.0) → IsOk result }
         ensures at_most_one { HasOneEach self.new }
     {
-        let entry = Entry {
-            the_map,
-            key,
-            value,
-        };
         match self.place_of(the_map, key) {
-            Some(place) => self.entries[place] = entry,
-            None => self.add(entry)?,
+            Some(place) => self.entries[place].value = value,
+            None => self.add(Entry::of(the_map, key, value)?)?,
         }
         Ok(())
     }
@@ -115,7 +112,7 @@ impl WeakMaps {
         ensures { slice_get self.now i ≡ Some (entry result.0.0 result.1.0 result.2.0) }
     {
         let entry = &self.entries[i];
-        (entry.the_map, entry.key, entry.value)
+        (entry.the_map(), entry.key(), entry.value)
     }
 
     /// The place of an entry that has an object for its map or its key: of the last one; none where there is none. From it
@@ -125,7 +122,7 @@ impl WeakMaps {
         ensures there { IfSome result (IsPlaceOf self.now object.0) }
         ensures within { IfSome result (λ i. i < length self.now) }
     {
-        self.lasts.last(object.0)
+        widen(self.lasts.last(object.0))
     }
 
     /// The last place before this one of an entry that has the object; none where this is the first of them.
@@ -139,10 +136,10 @@ impl WeakMaps {
         ensures before { IfSome result (λ i. i < place) }
     {
         let links = self.links[place];
-        if self.entries[place].the_map == object {
-            links.by_map
+        if self.entries[place].the_map() == object {
+            widen(links.by_map)
         } else {
-            links.by_key
+            widen(links.by_key)
         }
     }
 
@@ -194,17 +191,18 @@ impl WeakMaps {
         None
     }
 
-    /// A new entry goes last. `NoMemory` changes nothing.
+    /// A new entry goes last. `NoMemory` comes also where its place needs more than 32 bits, and changes nothing.
     fn add(&mut self, entry: Entry) -> Result<(), NoMemory>
         requires { has_value_in self.old entry.the_map entry.key ≡ false }
         ensures entries { OnOk result (self.new ≡ self.old ++ entry ∷ []) }
         ensures err { OnErr result (self.new ≡ self.old) }
         ensures at_most_one { HasOneEach self.new }
     {
+        let place = self.entries.len();
+        u32::try_from(place).map_err(|_| NoMemory)?;
         self.entries.reserve(1)?;
         self.links.reserve(1)?;
-        self.lasts.know_both(entry.the_map.0, entry.key.0)?;
-        let place = self.entries.len();
+        self.lasts.know_both(entry.the_map().0, entry.key().0)?;
         self.entries.push_reserved(entry);
         self.links.push_reserved(Links {
             by_map: None,
@@ -239,6 +237,16 @@ impl WeakMaps {
             place,
         );
         self.links.truncate(self.entries.len());
+    }
+}
+
+/// A place that is kept in 32 bits, as places are told; none where there is none.
+fn widen(place: Option<u32>) -> Option<usize>
+    ensures { result ≡ place }
+{
+    match place {
+        Some(place) => Some(place as usize),
+        None => None,
     }
 }
 

@@ -11,6 +11,10 @@ pub put_in_from-requires-clause-room : goal.put_in_from-requires-clause-room
 put_in_from-requires-clause-room g c =
     omega (arith, ap length c.as_slice-4.ensures.value, living-fewer (goal.F-post g c.args.alive) c.self.inside.entries.items c.keep_living.new.entries.items c.keep_living.ensures.living, c.self.invariant.as_many)
 
+pub put_in_from-requires-clause-few : goal.put_in_from-requires-clause-few
+put_in_from-requires-clause-few g c =
+    omega (arith, ap length c.as_slice-4.ensures.value, living-fewer (goal.F-post g c.args.alive) c.self.inside.entries.items c.keep_living.new.entries.items c.keep_living.ensures.living, c.self.invariant.few)
+
 pub keep_living-requires-clause-stay : goal.keep_living-requires-clause-stay
 keep_living-requires-clause-stay g c =
     subst (λ (xs : List KeyedEntry). StayBefore (goal.F-post g c.args.alive) xs c.first_dead-start.result) c.as_slice.ensures.value c.first_dead-start.ensures.stay
@@ -48,7 +52,7 @@ invariant_of-self g c =
     let indexed : IsIndexed fs put.links.items put.lasts (length fs) =
     subst (λ (xs : List KeyedEntry). IsIndexed xs put.links.items put.lasts (length xs)) c.as_slice-4.ensures.value c.put_in_from.ensures.indexed in
     let all : IsKept fs (take (length fs) put.links.items) left =
-    fewer-kept fs put.links.items put.lasts left (HasOneEach-living (goal.F-post g c.args.alive) es fs c.keep_living.ensures.living c.self.invariant.at_most_one)
+    fewer-kept fs put.links.items put.lasts left (HasOneEach-living (goal.F-post g c.args.alive) es fs c.keep_living.ensures.living c.self.invariant.at_most_one) (omega (arith, fewer, c.self.invariant.few))
     (omega (arith, fewer, c.put_in_from.ensures.count, c.self.invariant.as_many)) indexed (λ k. refl) in
     let cut : ◌≡◌ {A = List Links} c.truncate.new.self.items (take (length fs) put.links.items) = subst (λ n. ◌≡◌ {A = List Links} c.truncate.new.self.items (take n put.links.items)) len c.truncate.ensures.items in
     subst (λ (ls : List Links). IsKept fs ls left) (sym cut) all

@@ -1,4 +1,4 @@
-use Rattle.std.proofs.Common.{◌≡◌, ◌==◌, ◌∙◌, ap, subst, sym, List}
+use Rattle.std.proofs.Common.{◌==◌, ◌∙◌, ap, subst, sym, List}
 use Rattle.std.proofs.lemmas.Bool.{eqb-true}
 use Rattle.cc_weakmaps.specs.Entries.{KeyedEntry}
 use Rattle.cc_weakmaps.specs.Index.{place_below, IsPlaceOf}
@@ -6,32 +6,32 @@ use Rattle.cc_weakmaps.proofs.Below.{below-there, below-below, below-within}
 use Rattle.cc_weakmaps.proofs.Changes.{next-by_map, next-by_key}
 use Rattle.cc_weakmaps.proofs.weak_maps.WeakMaps.next_with.Goals as goal
 
-by_map : (c : goal.Then-eq) → c.index-links.result.now.by_map ≡ place_below c.args.self.now c.args.object.0 c.args.place
-by_map c =
+pub returns-then-eq-clause-place : goal.returns-then-eq-clause-place
+returns-then-eq-clause-place c =
     let es = c.self.inside.entries.items in
     let there = subst (λ (xs : List KeyedEntry). IsPlaceOf xs c.args.object.0 c.args.place) (sym c.self.view_is) c.requires in
-    ap (λ l. l.by_map) c.index-links.ensures
+    c.widen.ensures ∙ (ap (λ l. l.by_map) c.index-links.ensures
     ∙ (next-by_map es c.self.inside.links.items c.self.inside.lasts c.self.invariant.indexed c.args.object.0 c.args.place there c.index.result.now c.index-links.result.now
-    (ap (λ e. e.the_map) (sym c.index.ensures ∙ sym c.behind-self.view_is) ∙ eqb-true _ _ (sym c.if-eq.ensures))
-    ∙ ap (λ xs. place_below xs c.args.object.0 c.args.place) c.self.view_is)
+    (ap (λ (e : KeyedEntry). e.the_map) (sym c.index.ensures) ∙ (sym c.the_map.ensures ∙ eqb-true _ _ (sym c.if-eq.ensures)))
+    ∙ ap (λ xs. place_below xs c.args.object.0 c.args.place) c.self.view_is))
 
 pub returns-then-eq-clause-there : goal.returns-then-eq-clause-there
-returns-then-eq-clause-there c = below-there c.args.self.now c.args.object.0 c.args.place _ (by_map c)
+returns-then-eq-clause-there c = below-there c.args.self.now c.args.object.0 c.args.place _ (returns-then-eq-clause-place c)
 
 pub returns-then-eq-clause-within : goal.returns-then-eq-clause-within
-returns-then-eq-clause-within c = below-within c.args.self.now c.args.object.0 c.args.place _ (by_map c)
+returns-then-eq-clause-within c = below-within c.args.self.now c.args.object.0 c.args.place _ (returns-then-eq-clause-place c)
 
 pub returns-then-eq-clause-before : goal.returns-then-eq-clause-before
-returns-then-eq-clause-before c = below-below c.args.self.now c.args.object.0 c.args.place _ (by_map c)
+returns-then-eq-clause-before c = below-below c.args.self.now c.args.object.0 c.args.place _ (returns-then-eq-clause-place c)
 
 pub returns-else-eq-clause-place : goal.returns-else-eq-clause-place
 returns-else-eq-clause-place c =
     let es = c.self.inside.entries.items in
     let there = subst (λ (xs : List KeyedEntry). IsPlaceOf xs c.args.object.0 c.args.place) (sym c.self.view_is) c.requires in
-    ap (λ l. l.by_key) c.index-links.ensures
+    c.widen-else-eq.ensures ∙ (ap (λ l. l.by_key) c.index-links.ensures
     ∙ (next-by_key es c.self.inside.links.items c.self.inside.lasts c.self.invariant.indexed c.args.object.0 c.args.place there c.index.result.now c.index-links.result.now
-    (ap (λ e. e.the_map == c.args.object.0) (sym c.index.ensures ∙ sym c.behind-self.view_is) ∙ sym c.if-eq.ensures)
-    ∙ ap (λ xs. place_below xs c.args.object.0 c.args.place) c.self.view_is)
+    (ap (λ (e : KeyedEntry). e.the_map == c.args.object.0) (sym c.index.ensures) ∙ (ap (λ m. m == c.args.object.0) (sym c.the_map.ensures) ∙ sym c.if-eq.ensures))
+    ∙ ap (λ xs. place_below xs c.args.object.0 c.args.place) c.self.view_is))
 
 pub returns-else-eq-clause-there : goal.returns-else-eq-clause-there
 returns-else-eq-clause-there c = below-there c.args.self.now c.args.object.0 c.args.place _ (returns-else-eq-clause-place c)

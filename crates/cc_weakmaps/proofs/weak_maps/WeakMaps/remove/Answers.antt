@@ -38,7 +38,7 @@ invariant_of-self c =
     let indexed : IsIndexed fs put.links.items put.lasts (length fs) =
     subst (λ (xs : List KeyedEntry). IsIndexed xs put.links.items put.lasts (length xs)) (c.as_slice-3.ensures.value ∙ c.remove.ensures.items) c.put_in_from.ensures.indexed in
     let all : IsKept fs (take (length fs) put.links.items) put.lasts =
-    fewer-kept fs put.links.items put.lasts put.lasts (HasOneEach-remove es c.args.place c.self.invariant.at_most_one)
+    fewer-kept fs put.links.items put.lasts put.lasts (HasOneEach-remove es c.args.place c.self.invariant.at_most_one) (omega (arith, fewer, c.self.invariant.few))
     (omega (arith, fewer, c.put_in_from.ensures.count, c.self.invariant.as_many)) indexed (λ k. refl) in
     let cut : ◌≡◌ {A = List Links} c.truncate.new.self.items (take (length fs) put.links.items) = subst (λ n. ◌≡◌ {A = List Links} c.truncate.new.self.items (take n put.links.items)) len c.truncate.ensures.items in
     subst (λ (xs : List KeyedEntry). IsKept xs c.truncate.new.self.items put.lasts) (sym c.remove.ensures.items)
