@@ -1,13 +1,15 @@
 -- Nodes by their names: a node that is added last, and the map of names.
-use Rattle.std.proofs.Common.{◌≡◌, ℕ, ◌+◌, ◌==◌, zero, suc, Bool, true, false, cond, List, [], ◌∷◌, ◌++◌, length, refl, sym, ◌∙◌, ap, arith, Some, None}
+use Rattle.std.proofs.Common.{◌≡◌, ℕ, ◌+◌, ◌==◌, suc, Bool, true, false, cond, List, [], ◌∷◌, ◌++◌, length, refl, sym, ◌∙◌, ap, arith, Some, None}
 use Rattle.std.specs.Prelude.{Option}
 use Rattle.std.specs.Map.{lookup}
-use Rattle.std.specs.Ordering.{is_eq, nat_cmp}
+use Rattle.std.specs.Ordering.{is_eq}
 use Rattle.std.specs.Cmp.{unsigned_ties}
 use Rattle.cc_names.specs.declared.name.Name.{Name}
-use Rattle.cc_names.specs.declared.name.Name.TheVariants.{Native, Script, Reflector}
 use Rattle.cc_names.specs.Names.{same_name}
-use Rattle.cc_names.specs.contracts.name.NameOrd.TheImpl as name_ord
+use Rattle.cc_names.specs.declared.number.NativeNo.{NativeNo}
+use Rattle.cc_names.specs.declared.number.ScriptNo.{ScriptNo}
+use Rattle.cc_names.specs.contracts.number.NativeNoOrd.TheImpl as native_ord
+use Rattle.cc_names.specs.contracts.number.ScriptNoOrd.TheImpl as script_ord
 use Rattle.cc_graph.specs.Shown.{Vertex, number_from}
 
 number-here : (i : ℕ) (v : Vertex) (vs : List Vertex) (x : Name) → same_name v.name x ≡ true → number_from i (v ∷ vs) x ≡ Some i
@@ -39,19 +41,14 @@ number-pushed i (w ∷ ws) v x = go (number-pushed (suc i) ws v x) (same_name w.
         ∙ (ap (λ o. or_last o (same_name v.name x) (suc i + length ws)) (sym (number-later i w ws x e))
         ∙ ap (or_last (number_from i (w ∷ ws) x) (same_name v.name x)) (omega arith)))
 
--- The map of names
+-- The maps of numbers
 
--- names are in order as equals where they are the same
-pub same-order : (x y : Name) → is_eq ((name_ord.ghosts).cmp x y) ≡ same_name x y
-same-order (Native i) (Native j) = sym (unsigned_ties i.0 j.0)
-same-order (Script i) (Script j) = sym (unsigned_ties i.0 j.0)
-same-order (Reflector i) (Reflector j) = sym (unsigned_ties i.0 j.0)
-same-order (Native i) (Script j) = refl
-same-order (Native i) (Reflector j) = refl
-same-order (Script i) (Native j) = refl
-same-order (Script i) (Reflector j) = refl
-same-order (Reflector i) (Native j) = refl
-same-order (Reflector i) (Script j) = refl
+-- numbers are in order as equals where they are the same
+pub native-order : (i j : NativeNo) → is_eq ((native_ord.ghosts).cmp i j) ≡ (i.0 == j.0)
+native-order i j = sym (unsigned_ties i.0 j.0)
+
+pub script-order : (i j : ScriptNo) → is_eq ((script_ord.ghosts).cmp i j) ≡ (i.0 == j.0)
+script-order i j = sym (unsigned_ties i.0 j.0)
 
 -- tests that say the same find the same
 pub lookup-alike : {K X : Type 0} (p q : K → Bool) (es : List (K × X)) → ((k : K) → p k ≡ q k) → lookup p es ≡ lookup q es

@@ -1,8 +1,7 @@
 -- The nodes by number and by name stay right.
-use Rattle.std.proofs.Common.{◌≡◌, ◌≢◌, ℕ, ◌+◌, ◌<◌, ◌≤◌, zero, suc, Bool, true, false, cond, List, [], ◌∷◌, ◌++◌, length, get_or, refl, sym, ◌∙◌, ap, subst, inl, inr, arith, count_by, Some, None, if◌then◌else◌, length-append}
-use Rattle.std.specs.Prelude.{◌==◌, slice_get, Option, IfSome}
+use Rattle.std.proofs.Common.{◌≡◌, ℕ, ◌+◌, ◌<◌, ◌≤◌, zero, suc, Bool, true, false, cond, List, [], ◌∷◌, ◌++◌, length, get_or, refl, sym, ◌∙◌, ap, subst, inl, arith, count_by, Some, None, if◌then◌else◌}
+use Rattle.std.specs.Prelude.{◌==◌, Option, IfSome}
 use Rattle.std.proofs.Math.ListN.{set}
-use Rattle.std.proofs.lemmas.Bool.{cases_Bool}
 use Rattle.std.proofs.lemmas.List.{length-set, length-map, length_push, map_push}
 use Rattle.std.proofs.lemmas.List.Sums.{sum_by-set}
 use Rattle.std.proofs.lemmas.Option.{slice_get-get_or}
@@ -10,12 +9,13 @@ use Rattle.cc_names.specs.declared.name.Name.{Name}
 use Rattle.cc_names.specs.Names.{same_name}
 use Rattle.cc_names.proofs.NameTests.{same_name-true}
 use Rattle.cc_counted.specs.declared.held.Held.{Held}
-use Rattle.cc_lists.specs.Members.{Among, has}
+use Rattle.cc_lists.specs.Members.{has}
 use Rattle.cc_lists.proofs.Members.{Among-right, has-there}
-use Rattle.cc_lists.proofs.Counting.{count_by-append}
+use Rattle.cc_lists.proofs.Counting.{count_by-append, count_by-cons}
 use Rattle.cc_lists.proofs.ListWrites.{each-push}
 use Rattle.cc_lists.proofs.Numbers.{number-exact}
 use Rattle.cc_graph.specs.declared.node.Node.{Node}
+use Rattle.cc_graph.specs.declared.numbers.Numbers.{Numbers}
 use Rattle.cc_graph.specs.Shown.{Vertex, number_from, number_of}
 use Rattle.cc_graph.specs.Kept.{added, with_black_node, vertex_of, vertices, number_at, Numbered, IsNumbered}
 use Rattle.cc_graph.proofs.Lists.{each-set, each-added, has-none, has-other, count_by-fewer}
@@ -55,10 +55,10 @@ number-renamed (k ∷ ks) j (suc i) d y x l e =
     ap (λ o. elim (same_name k.name x) [ true ↦ Some j | false ↦ o ]) (number-renamed ks (suc j) i d y x (omega (arith, l)) e)
 
 -- more room, and the same names
-pub numbered-more : (ks : List Node) (bs : List ℕ) (room more : ℕ) (es fs : List (Name × ℕ)) → IsNumbered ks bs room es → room ≤ more → fs ≡ es → IsNumbered ks bs more fs
+pub numbered-more : (ks : List Node) (bs : List ℕ) (room more : ℕ) (es fs : Numbers) → IsNumbered ks bs room es → room ≤ more → ((x : Name) → number_at fs x ≡ number_at es x) → IsNumbered ks bs more fs
 numbered-more ks bs room more es fs w le same = record {
   few = w.few;
-  numbered = λ x. ap (λ z. number_at z x) same ∙ w.numbered x;
+  numbered = λ x. same x ∙ w.numbered x;
   black = w.black;
   members = w.members;
   counted = w.counted;
@@ -66,7 +66,7 @@ numbered-more ks bs room more es fs w le same = record {
 }
 
 -- a node of another name is added
-pub numbered-added : (ks : List Node) (bs : List ℕ) (room more : ℕ) (es fs : List (Name × ℕ)) (name : Name) (held : Held) → IsNumbered ks bs room es →
+pub numbered-added : (ks : List Node) (bs : List ℕ) (room more : ℕ) (es fs : Numbers) (name : Name) (held : Held) → IsNumbered ks bs room es →
     length ks < 4294967295 → length ks + 1 ≤ more → number_of (vertices ks) name ≡ None →
     ((x : Name) → number_at fs x ≡ (if same_name name x then Some (length ks) else number_at es x)) → IsNumbered (ks ++ added name held ∷ []) bs more fs
 numbered-added ks bs room more es fs name held w few enough absent numbers = record {
@@ -94,7 +94,7 @@ numbered-added ks bs room more es fs name held w few enough absent numbers = rec
         ∙ ap (λ b. or_last (number_of (vertices ks) x) b (0 + length (vertices ks))) (sym e)
 
 -- what is kept of a node changes, but for its name and whether it is black
-pub numbered-put : (ks : List Node) (bs : List ℕ) (room : ℕ) (es : List (Name × ℕ)) (i : ℕ) (d y : Node) → IsNumbered ks bs room es → i < length ks →
+pub numbered-put : (ks : List Node) (bs : List ℕ) (room : ℕ) (es : Numbers) (i : ℕ) (d y : Node) → IsNumbered ks bs room es → i < length ks →
     y.name ≡ (get_or ks i d).name → y.black ≡ (get_or ks i d).black → IsNumbered (set ks i y) bs room es
 numbered-put ks bs room es i d y w inside name black = record {
   few = omega (arith, w.few, length-set ks i y);
@@ -109,7 +109,7 @@ numbered-put ks bs room es i d y w inside name black = record {
 }
 
 -- a node that is not black has room to become so
-pub numbered-room : (ks : List Node) (bs : List ℕ) (room : ℕ) (es : List (Name × ℕ)) (i : ℕ) (d : Node) → IsNumbered ks bs room es → i < length ks →
+pub numbered-room : (ks : List Node) (bs : List ℕ) (room : ℕ) (es : Numbers) (i : ℕ) (d : Node) → IsNumbered ks bs room es → i < length ks →
     has ◌==◌ bs i ≡ false → length bs < room
 numbered-room ks bs room es i d w inside off =
     let white : (get_or ks i d).black ≡ false = w.black i d inside ∙ off in
@@ -117,7 +117,7 @@ numbered-room ks bs room es i d w inside off =
     omega (arith, fewer, w.counted, w.enough)
 
 -- a node becomes black
-pub numbered-blackened : (ks : List Node) (bs : List ℕ) (room : ℕ) (es : List (Name × ℕ)) (i : ℕ) (d y : Node) → IsNumbered ks bs room es → i < length ks →
+pub numbered-blackened : (ks : List Node) (bs : List ℕ) (room : ℕ) (es : Numbers) (i : ℕ) (d y : Node) → IsNumbered ks bs room es → i < length ks →
     has ◌==◌ bs i ≡ false → y.name ≡ (get_or ks i d).name → y.black ≡ true → IsNumbered (set ks i y) (bs ++ i ∷ []) room es
 numbered-blackened ks bs room es i d y w inside off name black = record {
   few = omega (arith, w.few, length-set ks i y);
@@ -144,3 +144,34 @@ numbered-same ks ls bs cs r s u v a b c d = rw (a, b, c, d) refl
 pub black_node-at : (ks : List Node) (i : ℕ) (k y : Node) → i < length ks → k ≡ get_or ks i k → y ≡ record k { black = true } → with_black_node ks i ≡ set ks i y
 black_node-at ks i k y inside read made =
     ap (λ o. elim o [ None ↦ ks | Some x ↦ set ks i (record x { black = true }) ]) (slice_get-get_or ks i k inside ∙ ap Some (sym read)) ∙ ap (set ks i) (sym made)
+
+-- some node is not black where fewer are black than there are
+some-white : (ks : List Node) → count_by (λ k. k.black) ks < length ks → (i : ℕ) × (i < length ks) × ((d : Node) → (get_or ks i d).black ≡ false)
+some-white [] l = absurd (omega (arith, l))
+some-white (k ∷ ks) l = go (some-white ks) k.black refl
+  where
+    go : (count_by (λ k. k.black) ks < length ks → (i : ℕ) × (i < length ks) × ((d : Node) → (get_or ks i d).black ≡ false)) → (b : Bool) → k.black ≡ b →
+        (i : ℕ) × (i < length (k ∷ ks)) × ((d : Node) → (get_or (k ∷ ks) i d).black ≡ false)
+    go ih false e = (zero, omega arith, λ d. e)
+    go ih true e =
+        let one : cond {A = ℕ} k.black 1 0 ≡ 1 = ap (λ b. cond b 1 0) e in
+        let fewer : count_by (λ k. k.black) ks < length ks = omega (arith, l, one, count_by-cons (λ k. k.black) k ks) in
+        next (ih fewer)
+      where
+        next : (i : ℕ) × (i < length ks) × ((d : Node) → (get_or ks i d).black ≡ false) →
+            (i : ℕ) × (i < length (k ∷ ks)) × ((d : Node) → (get_or (k ∷ ks) i d).black ≡ false)
+        next f = (suc f.0, omega (arith, f.1), f.2)
+
+pub numbered-white : (ks : List Node) (bs : List ℕ) (room : ℕ) (es : Numbers) → IsNumbered ks bs room es → length bs < length ks →
+    (i : ℕ) × (i < length ks) × (has ◌==◌ bs i ≡ false)
+numbered-white [] bs room es w l = absurd (omega (arith, l))
+numbered-white (k ∷ ks) bs room es w l =
+    let f = some-white (k ∷ ks) (omega (arith, l, w.counted)) in
+    (f.0, f.1, sym (w.black f.0 k f.1) ∙ f.2 k)
+
+pub white-numbered : (ks : List Node) (bs : List ℕ) (room : ℕ) (es : Numbers) (i : ℕ) → IsNumbered ks bs room es → i < length ks → has ◌==◌ bs i ≡ false →
+    length bs < length ks
+white-numbered [] bs room es i w inside off = absurd (omega (arith, inside))
+white-numbered (k ∷ ks) bs room es i w inside off =
+    let fewer : count_by (λ k. k.black) (k ∷ ks) < length (k ∷ ks) = count_by-fewer (λ k. k.black) (k ∷ ks) i k inside (w.black i k inside ∙ off) in
+    omega (arith, fewer, w.counted)

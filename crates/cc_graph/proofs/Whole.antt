@@ -1,5 +1,5 @@
 -- What is kept of nodes and references stays right.
-use Rattle.std.proofs.Common.{◌≡◌, ◌≢◌, ℕ, ◌+◌, ◌<◌, ◌≤◌, zero, suc, Bool, true, false, cond, List, [], ◌∷◌, ◌++◌, length, map, get_or, refl, sym, ◌∙◌, ap, subst, inl, inr, arith, count_by, Some, None, option_map}
+use Rattle.std.proofs.Common.{◌≡◌, ℕ, ◌+◌, ◌<◌, ◌≤◌, zero, suc, true, false, cond, List, [], ◌∷◌, ◌++◌, length, get_or, refl, sym, ◌∙◌, ap, subst, inl, inr, arith, count_by, Some, None, option_map}
 use Rattle.std.specs.Prelude.{◌==◌, slice_get, Option, IfSome}
 use Rattle.std.proofs.Math.ListN.{set}
 use Rattle.std.proofs.lemmas.Bool.{eqb-true, eq-eqb, ne_eqb}
@@ -22,7 +22,7 @@ use Rattle.cc_graph.specs.declared.node.Node.{Node}
 use Rattle.cc_graph.specs.declared.reference.Reference.{Reference}
 use Rattle.cc_graph.specs.Shown.{Vertex, Edge, Hyperedge, Shown, change_vertex, edges_to, number_of, place_from, with_black}
 use Rattle.cc_graph.specs.Closed.{IsHyperedgeWithin, AreHyperedgesWithin, IsWithin, IsClosed}
-use Rattle.cc_graph.specs.Kept.{added, no_chain, with_black_node, with_next, with_reference, vertex_of, edge_of, hyperedge_of, vertices, edges, hyperedges, chain_of, but_mapping, but_mappings, IsChain, IsLast, AreReferences, AreMappings, IsWhole}
+use Rattle.cc_graph.specs.Kept.{added, with_black_node, with_next, with_reference, vertex_of, edge_of, hyperedge_of, vertices, edges, hyperedges, chain_of, but_mapping, but_mappings, IsLast, AreReferences, AreMappings, IsWhole}
 use Rattle.cc_graph.proofs.Lists.{each-set, each-added, among-at}
 use Rattle.cc_graph.proofs.NodesByName.{number-pushed, or_last}
 use Rattle.cc_graph.proofs.Numbering.{length-vertices, vertices-pushed}

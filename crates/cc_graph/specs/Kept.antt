@@ -1,13 +1,14 @@
 -- WHAT IS KEPT OF EACH NODE AND REFERENCE, so that no list has to be walked for it.
-use Rattle.std.specs.Prelude.{◌≡◌, ℕ, ◌+◌, ◌<◌, ◌≤◌, ◌^◌, ◌==◌, Bool, true, false, List, length, get_or, count_by, map, slice_get, slice_set, Option, Some, None, option_map}
+use Rattle.std.specs.Prelude.{◌≡◌, ℕ, ◌+◌, ◌-◌, ◌<◌, ◌≤◌, ◌^◌, ◌==◌, min, Bool, true, false, List, length, get_or, count_by, map, slice_get, slice_set, Option, Some, None, option_map}
 use Rattle.std.specs.Map.{lookup}
 use Rattle.cc_lists.specs.Members.{Among, has}
 use Rattle.cc_names.specs.declared.name.Name.{Name}
-use Rattle.cc_names.specs.Names.{same_name}
+use Rattle.cc_names.specs.declared.name.Name.TheVariants.{Native, Script, Reflector}
 use Rattle.cc_counted.specs.declared.held.Held.{Held}
 use Rattle.cc_graph.specs.declared.chain.Chain.{Chain}
 use Rattle.cc_graph.specs.declared.mapping.Mapping.{Mapping}
 use Rattle.cc_graph.specs.declared.node.Node.{Node}
+use Rattle.cc_graph.specs.declared.numbers.Numbers.{Numbers}
 use Rattle.cc_graph.specs.declared.reference.Reference.{Reference}
 use Rattle.cc_graph.specs.Shown.{Vertex, Edge, Hyperedge, hyperedge, edges_to, number_of, place_by, is_with}
 use Rattle.cc_graph.specs.Closed.{IsWithin, AreHyperedgesWithin}
@@ -62,6 +63,10 @@ with_mapping k place = record k { mappings = chained k.mappings place }
 abbrev pub with_next : List Reference → Option ℕ → ℕ → List Reference
 with_next rs o place = with_link (λ r n. record r { next = Some n }) rs o place
 
+-- how many more references there is room for: places have 32 bits
+abbrev pub spare_of : ℕ → ℕ → ℕ
+spare_of capacity count = min capacity 4294967295 - count
+
 -- what is shown of a node, and of a reference
 abbrev pub vertex_of : Node → Vertex
 vertex_of k = record { name = k.name; held = k.held; sampled = k.sampled }
@@ -85,13 +90,15 @@ pub record Numbered : Type 0 where
   pub node_room : ℕ
   pub black_room : ℕ
 
--- the number that a map of names has for a name
-abbrev pub number_at : List (Name × ℕ) → Name → Option ℕ
-number_at es x = lookup (λ y. same_name x y) es
+-- the number that is kept for a name
+abbrev pub number_at : Numbers → Name → Option ℕ
+number_at ns (Native k) = lookup (λ j. k.0 == j.0) ns.natives.entries
+number_at ns (Script k) = lookup (λ j. k.0 == j.0) ns.scripts.entries
+number_at ns (Reflector k) = lookup (λ j. k.0 == j.0) ns.reflectors.entries
 
--- the map has the numbers of all nodes and no other, each node knows whether it is black, and there is room for all to
+-- the maps have the numbers of all nodes and no other, each node knows whether it is black, and there is room for all to
 -- become so
-pub record IsNumbered (nodes : List Node) (blacks : List ℕ) (room : ℕ) (numbers : List (Name × ℕ)) : Type 0 where
+pub record IsNumbered (nodes : List Node) (blacks : List ℕ) (room : ℕ) (numbers : Numbers) : Type 0 where
   pub few : length nodes < 2 ^ 32
   pub numbered : (x : Name) → number_at numbers x ≡ number_of (vertices nodes) x
   pub black : (i : ℕ) (d : Node) → i < length nodes → (get_or nodes i d).black ≡ has ◌==◌ blacks i

@@ -6,8 +6,8 @@ ghost use Rattle.cc_graph.specs.Kept.{chained, no_chain};
 /// The places of the first and the last; none where there is none.
 #[derive(Clone, Copy, Drop)]
 pub(crate) struct Chain {
-    pub(crate) first: Option<usize>,
-    pub(crate) last: Option<usize>,
+    pub(crate) first: Option<u32>,
+    pub(crate) last: Option<u32>,
 }
 
 impl Chain {
@@ -22,7 +22,7 @@ impl Chain {
     }
 
     /// One more stands at this place, behind all that there are.
-    pub(crate) fn add(&mut self, place: usize)
+    pub(crate) fn add(&mut self, place: u32)
         ensures { self.new ≡ chained self.old place }
     {
         self.first = self.first.or(Some(place));

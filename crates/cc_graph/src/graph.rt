@@ -1,6 +1,6 @@
 //! The graph: nodes by number, noted references, noted mappings, and the list of black nodes.
 
-ghost use Rattle.std.specs.Prelude.{◌≡◌, ℕ, ◌+◌, ◌-◌, ◌<◌, ◌≤◌, ◌^◌, ◌==◌, ◌++◌, [], ◌∷◌, length, slice_get, option_map, true, IfOk, IfSome, IsOk, IsSome, OnErr, OnOk, Some, vec_capacity};
+ghost use Rattle.std.specs.Prelude.{◌≡◌, ℕ, ◌↔◌, ◌+◌, ◌-◌, ◌<◌, ◌≤◌, ◌^◌, ◌==◌, ◌++◌, [], ◌∷◌, length, slice_get, option_map, true, IfOk, IfSome, IsOk, IsSome, IsTrue, false, OnErr, OnOk, Some, vec_capacity};
 ghost use Rattle.cc_graph.specs.Shown.{change_vertex, edges_to, is_black, is_with, hyperedge, number_of, place_from, place_with, with_black, with_sample, with_vertex};
 ghost use Rattle.cc_graph.specs.Closed.{IsClosed};
 ghost use Rattle.cc_graph.specs.Kept.{AreMappings, but_mappings, chain_of, first_member, hyperedges, is_one, last_of, loose_with, nodes_with, with_link, with_next, with_next_with};
@@ -27,9 +27,9 @@ pub struct Graph {
 }
 
 impl Model for Graph {
-    ghost use Rattle.std.specs.Prelude.{◌-◌, length};
+    ghost use Rattle.std.specs.Prelude.{length};
     ghost use Rattle.cc_graph.specs.Shown.{Shown};
-    ghost use Rattle.cc_graph.specs.Kept.{IsWhole, edges, hyperedges, vertices};
+    ghost use Rattle.cc_graph.specs.Kept.{IsWhole, edges, hyperedges, spare_of, vertices};
 
     ghost Value = { Shown };
 
@@ -38,7 +38,7 @@ impl Model for Graph {
       edges = edges g.references.items;
       hyperedges = hyperedges g.mappings.items;
       blacks = g.nodes.blacks;
-      spare = g.references.capacity - length g.references.items;
+      spare = spare_of g.references.capacity (length g.references.items);
     } };
 
     ghost invariant = { λ g. IsWhole g.nodes.nodes g.references.items g.mappings.items g.loose g.nodes.blacks };
@@ -87,7 +87,8 @@ impl Graph {
 
     /// Room for `edges` more references.
     ///
-    /// `NoMemory` where the room is not to be had; the room is then what it was.
+    /// `NoMemory` where the room is not to be had, or there would be more than 4294967295 of them; the room is then what it
+    /// was.
     pub fn reserve(&mut self, edges: usize) -> Result<(), NoMemory>
         ensures rest { self.new ≡ record self.old { spare = self.new.spare } }
         ensures room { OnOk result (edges ≤ self.new.spare) }
@@ -95,6 +96,11 @@ impl Graph {
         ensures no_need { edges ≤ self.old.spare → IsOk result }
         ensures err { OnErr result (self.new ≡ self.old) }
     {
+        if edges == 0 {
+            return Ok(());
+        }
+        let count = self.references.len().checked_add(edges).ok_or(NoMemory)?;
+        u32::try_from(count).map_err(|_| NoMemory)?;
         self.references.reserve(edges)
     }
 
@@ -116,7 +122,7 @@ impl Graph {
         requires room { 0 < self.old.spare }
         ensures { self.new ≡ record self.old { edges = self.old.edges ++ record { source = from; target = to } ∷ []; spare = self.old.spare - 1 } }
     {
-        let place = self.references.len();
+        let place = self.references.len() as u32;
         let mut target = self.nodes.at(to);
         target.note();
         self.nodes.put(to, target);
@@ -134,7 +140,7 @@ impl Graph {
     /// A map and a key together hold a value, noted last: `value` is the number of its node, `the_map` and `key` those of
     /// theirs, each where it is a node.
     ///
-    /// `NoMemory` leaves everything as it was.
+    /// `NoMemory`, also where there are 4294967296 mappings, leaves everything as it was.
     pub fn note_mapping(
         &mut self,
         the_map: Option<u32>,
@@ -147,6 +153,7 @@ impl Graph {
         ensures noted { OnOk result (self.new ≡ record self.old { hyperedges = self.old.hyperedges ++ hyperedge the_map key value ∷ [] }) }
         ensures err { OnErr result (self.new ≡ self.old) }
     {
+        u32::try_from(self.mappings.len()).map_err(|_| NoMemory)?;
         self.mappings.reserve(1)?;
         chain_members(
             &mut self.nodes,
@@ -201,6 +208,13 @@ impl Graph {
         self.nodes.blacken(node);
     }
 
+    /// Whether some node is not black.
+    pub fn has_white(&self) -> bool
+        ensures { IsTrue result ↔ ((i : ℕ) × (i < length self.now.nodes) × (is_black self.now i ≡ false)) }
+    {
+        self.nodes.has_white()
+    }
+
     /// The number of a black node by its place on the list of black ones, from 0; none past its end.
     pub fn black_at(&self, i: u32) -> Option<u32>
         ensures value { result ≡ slice_get self.now.blacks i }
@@ -233,7 +247,7 @@ impl Graph {
         requires { i < length self.now.nodes }
         ensures { result ≡ edges_to self.now.edges i }
     {
-        self.nodes.at(i).noted
+        self.nodes.at(i).noted as usize
     }
 
     /// The numbers of the two nodes of a noted reference, by its place in the order in which they were noted, from 0:
@@ -281,7 +295,7 @@ impl Graph {
         ensures within { IfSome result (λ j. j < length self.now.edges) }
         ensures source { IfSome result (λ j. option_map (λ e. e.source) (slice_get self.now.edges j) ≡ Some i) }
     {
-        self.nodes.at(i).references.first
+        widen(self.nodes.at(i).references.first)
     }
 
     /// The place, behind `j`, of the next reference of the node that has the one at `j`; none where that is its last.
@@ -292,7 +306,7 @@ impl Graph {
         ensures behind { IfSome result (λ k. j < k) }
         ensures source { IfSome result (λ k. option_map (λ e. e.source) (slice_get self.now.edges k) ≡ option_map (λ e. e.source) (slice_get self.now.edges j)) }
     {
-        self.references.at(j).next
+        widen(self.references.at(j).next)
     }
 
     /// The place of the first mapping whose map or key is this node; for none, of the first one that has neither a map nor
@@ -303,7 +317,7 @@ impl Graph {
         ensures within { IfSome result (λ j. j < length self.now.hyperedges) }
         ensures member { IfSome result (λ j. option_map (is_with node) (slice_get self.now.hyperedges j) ≡ Some true) }
     {
-        chain_of(&self.nodes, &self.loose, node).first
+        widen(chain_of(&self.nodes, &self.loose, node).first)
     }
 
     /// The place, behind `place`, of the next mapping whose map or key is the node that the one at `place` has for its map
@@ -315,19 +329,29 @@ impl Graph {
         ensures behind { IfSome result (λ k. place < k) }
         ensures member { IfSome result (λ k. option_map (is_with node) (slice_get self.now.hyperedges k) ≡ Some true) }
     {
-        self.mappings.at(place).next_with(node)
+        widen(self.mappings.at(place).next_with(node))
+    }
+}
+
+/// A place that is kept in 32 bits.
+fn widen(place: Option<u32>) -> Option<usize>
+    ensures { result ≡ place }
+{
+    match place {
+        Some(place) => Some(place as usize),
+        None => None,
     }
 }
 
 /// The next reference after the last one of a node, where it has one, is at this place.
-fn link(references: &mut Pool<Reference, 512>, last: Option<usize>, place: usize)
+fn link(references: &mut Pool<Reference, 512>, last: Option<u32>, place: u32)
     requires { IfSome last (λ l. l < length references.old.items) }
     ensures { references.new ≡ record references.old { items = with_next references.old.items last place } }
 {
     if let Some(last) = last {
-        let mut linked = *references.at(last);
+        let mut linked = *references.at(last as usize);
         linked.next = Some(place);
-        references.set(last, linked);
+        references.set(last as usize, linked);
     }
 }
 
@@ -342,6 +366,7 @@ fn chain_members(
 )
     requires the_map { IfSome the_map (λ i. i < length nodes.old.nodes) }
     requires key { IfSome key (λ i. i < length nodes.old.nodes) }
+    requires few { length mappings.old.items < 2 ^ 32 }
     requires chained { AreMappings (chain_of nodes.old.nodes loose.old) (λ node. hyperedges mappings.old.items) mappings.old.items }
     ensures chained { (value : ℕ) → AreMappings (chain_of nodes.new.nodes loose.new)
         (λ node. hyperedges mappings.old.items ++ hyperedge the_map key value ∷ []) mappings.new.items }
@@ -350,7 +375,7 @@ fn chain_members(
     ensures shown { hyperedges mappings.new.items ≡ hyperedges mappings.old.items }
     ensures room { mappings.new.capacity ≡ mappings.old.capacity }
 {
-    let place = mappings.len();
+    let place = mappings.len() as u32;
     chain(nodes, loose, mappings, the_map.or(key), place);
     if is_one(the_map, key) {
         return;
@@ -374,7 +399,7 @@ fn chain(
     loose: &mut Chain,
     mappings: &mut Pool<Mapping, 256>,
     node: Option<u32>,
-    place: usize,
+    place: u32,
 )
     requires node { IfSome node (λ i. i < length nodes.old.nodes) }
     requires last { IfSome (last_of (chain_of nodes.old.nodes loose.old node)) (λ l. l < length mappings.old.items) }
@@ -385,9 +410,9 @@ fn chain(
     } }
 {
     if let Some(last) = chain_of(nodes, loose, node).last {
-        let mut linked = *mappings.at(last);
+        let mut linked = *mappings.at(last as usize);
         linked.link(node, place);
-        mappings.set(last, linked);
+        mappings.set(last as usize, linked);
     }
     add_mapping(nodes, loose, node, place);
 }
@@ -404,7 +429,7 @@ fn chain_of(nodes: &Nodes, loose: &Chain, node: Option<u32>) -> Chain
 }
 
 /// One more mapping of a node stands at this place; for none, one more with neither a map nor a key.
-fn add_mapping(nodes: &mut Nodes, loose: &mut Chain, node: Option<u32>, place: usize)
+fn add_mapping(nodes: &mut Nodes, loose: &mut Chain, node: Option<u32>, place: u32)
     requires { IfSome node (λ i. i < length nodes.old.nodes) }
     ensures nodes { nodes.new ≡ record nodes.old { nodes = nodes_with nodes.old.nodes node place } }
     ensures loose { loose.new ≡ loose_with loose.old node place }

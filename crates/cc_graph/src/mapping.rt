@@ -12,9 +12,9 @@ pub(crate) struct Mapping {
     pub(crate) value: u32,
     /// the place of the next one that the map has; where neither a map nor a key is there, of the next such one; none where
     /// it is the last
-    pub(crate) next_of_map: Option<usize>,
+    pub(crate) next_of_map: Option<u32>,
     /// the place of the next one that the key has, where that is another node than the map
-    pub(crate) next_of_key: Option<usize>,
+    pub(crate) next_of_key: Option<u32>,
 }
 
 impl Mapping {
@@ -32,7 +32,7 @@ impl Mapping {
     }
 
     /// The place of the next one that a node has, of those that are its map, its key, or none for want of both.
-    pub(crate) fn next_with(&self, node: Option<u32>) -> Option<usize>
+    pub(crate) fn next_with(&self, node: Option<u32>) -> Option<u32>
         ensures { result ≡ next_with node self.now }
     {
         if is_same(self.the_map, node) {
@@ -42,7 +42,7 @@ impl Mapping {
     }
 
     /// The next one that this node has is at this place.
-    pub(crate) fn link(&mut self, node: Option<u32>, place: usize)
+    pub(crate) fn link(&mut self, node: Option<u32>, place: u32)
         ensures { self.new ≡ with_next_with node self.old place }
     {
         if is_same(self.the_map, node) {

@@ -19,7 +19,7 @@ pub(crate) struct Node {
     /// whether it is black
     pub(crate) black: bool,
     /// how many noted references lead to it
-    pub(crate) noted: usize,
+    pub(crate) noted: u32,
     /// the references that it has
     pub(crate) references: Chain,
     /// the mappings whose map or key it is
@@ -58,21 +58,21 @@ impl Node {
 
     /// One more reference leads to it.
     pub(crate) fn note(&mut self)
-        requires { self.old.noted + 1 < 2 ^ 64 }
+        requires { self.old.noted + 1 < 2 ^ 32 }
         ensures { self.new ≡ record self.old { noted = self.old.noted + 1 } }
     {
         self.noted += 1;
     }
 
     /// It has one more reference, at this place, behind all that it has.
-    pub(crate) fn add_reference(&mut self, place: usize)
+    pub(crate) fn add_reference(&mut self, place: u32)
         ensures { self.new ≡ with_reference self.old place }
     {
         self.references.add(place);
     }
 
     /// It is the map or the key of one more mapping, at this place, behind all others.
-    pub(crate) fn add_mapping(&mut self, place: usize)
+    pub(crate) fn add_mapping(&mut self, place: u32)
         ensures { self.new ≡ with_mapping self.old place }
     {
         self.mappings.add(place);

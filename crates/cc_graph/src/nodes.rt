@@ -1,19 +1,16 @@
 //! The nodes by number and by name, and the list of black ones.
 
-ghost use Rattle.std.specs.Prelude.{◌≡◌, ◌+◌, ◌<◌, ◌≤◌, ◌^◌, ◌==◌, ◌++◌, [], ◌∷◌, length, slice_get, slice_index_or, slice_set, false, true, Some, None, if◌then◌else◌, IfOk, IfSome, OnErr, OnOk};
+ghost use Rattle.std.specs.Prelude.{◌≡◌, ◌+◌, ◌<◌, ◌≤◌, ◌^◌, ◌==◌, ◌++◌, [], ◌∷◌, length, slice_get, slice_index_or, slice_set, ℕ, ◌↔◌, false, None, IsTrue, IfOk, IfSome, OnErr, OnOk};
 ghost use Rattle.cc_lists.specs.Members.{has};
-ghost use Rattle.cc_names.specs.declared.name.Name.{Name};
-ghost use Rattle.cc_names.specs.Names.{same_name};
-ghost use Rattle.cc_graph.specs.declared.node.Node.{Node};
 ghost use Rattle.cc_graph.specs.Shown.{number_of};
-ghost use Rattle.cc_graph.specs.Kept.{added, number_at, vertices, with_black_node};
+ghost use Rattle.cc_graph.specs.Kept.{added, vertices, with_black_node};
 
 use crate::node::Node;
+use crate::numbers::Numbers;
 use cc_counted::Held;
 use cc_names::{Name, NoMemory};
 use cc_pool::Pool;
 use std::alloc::Global;
-use std::collections::BTreeMap;
 use std::marker::Model;
 
 /// The nodes, known by number and by name, and the black ones in the order in which they became so.
@@ -24,7 +21,7 @@ pub(crate) struct Nodes {
     nodes: Pool<Node, 256>,
     blacks: Pool<u32, 256>,
     // the number of each node by its name
-    numbers: BTreeMap<Name, u32>,
+    numbers: Numbers,
 }
 
 impl Model for Nodes {
@@ -34,7 +31,7 @@ impl Model for Nodes {
 
     ghost view = { λ n. record { nodes = n.nodes.items; blacks = n.blacks.items; node_room = n.nodes.capacity; black_room = n.blacks.capacity } };
 
-    ghost invariant = { λ n. IsNumbered n.nodes.items n.blacks.items n.blacks.capacity n.numbers.entries };
+    ghost invariant = { λ n. IsNumbered n.nodes.items n.blacks.items n.blacks.capacity n.numbers };
 }
 
 impl Nodes {
@@ -45,7 +42,7 @@ impl Nodes {
         Nodes {
             nodes: Pool::new(alloc),
             blacks: Pool::new(alloc),
-            numbers: BTreeMap::new(alloc),
+            numbers: Numbers::new(alloc),
         }
     }
 
@@ -64,7 +61,7 @@ impl Nodes {
         self.nodes.reserve(1)?;
         self.blacks
             .reserve(self.nodes.len() + 1 - self.blacks.len())?;
-        add_number(&mut self.numbers, name, number)?;
+        self.numbers.add(name, number)?;
         self.nodes.push(Node::new(name, held));
         Ok(number)
     }
@@ -74,7 +71,7 @@ impl Nodes {
         ensures number { result ≡ number_of (vertices self.now.nodes) name.now }
         ensures within { IfSome result (λ i. i < length self.now.nodes) }
     {
-        number_of(&self.numbers, name)
+        self.numbers.get(name)
     }
 
     /// How many nodes there are.
@@ -116,6 +113,13 @@ impl Nodes {
         self.blacks.push(i);
     }
 
+    /// Whether some node is not black.
+    pub(crate) fn has_white(&self) -> bool
+        ensures { IsTrue result ↔ ((i : ℕ) × (i < length self.now.nodes) × (has ◌==◌ self.now.blacks i ≡ false)) }
+    {
+        self.blacks.len() < self.nodes.len()
+    }
+
     /// The number of a black node by its place on the list of black ones, from 0; none past its end.
     pub(crate) fn black_at(&self, i: u32) -> Option<u32>
         ensures { result ≡ slice_get self.now.blacks i }
@@ -124,25 +128,5 @@ impl Nodes {
             return None;
         }
         Some(*self.blacks.at(i as usize))
-    }
-}
-
-/// The number of a name.
-fn number_of(numbers: &BTreeMap<Name, u32>, name: &Name) -> Option<u32>
-    ensures { result ≡ number_at numbers.now.entries name.now }
-{
-    let number = numbers.get(name)?;
-    Some(*number)
-}
-
-/// A name that has no number gets one.
-fn add_number(numbers: &mut BTreeMap<Name, u32>, name: Name, number: u32) -> Result<(), NoMemory>
-    requires absent { number_at numbers.old.entries name ≡ None }
-    ensures added { OnOk result ((x : Name) → number_at numbers.new.entries x ≡ (if same_name name x then Some number else number_at numbers.old.entries x)) }
-    ensures err { OnErr result (numbers.new.entries ≡ numbers.old.entries) }
-{
-    match numbers.insert(name, number) {
-        Ok(_) => Ok(()),
-        Err(_) => Err(NoMemory),
     }
 }

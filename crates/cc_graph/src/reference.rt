@@ -8,5 +8,5 @@ pub(crate) struct Reference {
     /// the number of the one that it leads to
     pub(crate) target: u32,
     /// the place of the next one of the same source; none where it is the last
-    pub(crate) next: Option<usize>,
+    pub(crate) next: Option<u32>,
 }

@@ -96,8 +96,10 @@ fn nodes_become_black_once(rt: HostRuntime) -> Result<(), Fail> {
     let other = graph.add_node(Name::Native(NativeNo(2)), Held::Native(NKey(1)))?;
     graph.blacken(other);
     assert!(rt; !graph.is_black(one));
+    assert!(rt; graph.has_white());
     graph.blacken(one);
     graph.blacken(other);
+    assert!(rt; !graph.has_white());
     assert!(rt; graph.is_black(other));
     assert_eq!(rt; graph.black_at(0), Some(1));
     assert_eq!(rt; graph.black_at(1), Some(0));

@@ -1,5 +1,5 @@
 -- Whether a node's native stands in the buffer, or its script object is black, by the key that the node has.
-use Rattle.std.specs.Prelude.{IsTrue, is_some, slice_get}
+use Rattle.std.specs.Prelude.{IsTrue, is_some, not, slice_get}
 use Rattle.std.proofs.Common.{◌≡◌, ℕ, ◌≤◌, Bool, true, false, ◌==◌, List, [], ◌∷◌, ◌||◌, map, filter, Option, Some, None, option_map, refl, sym, ◌∙◌, ap, subst, count_by}
 use Rattle.cc_lists.specs.Members.{Among, has}
 use Rattle.cc_lists.proofs.Members.{Among-map, Among-map_cases, Among-filter, Among-filtered, Among-passes, has-among, has-there}
@@ -28,7 +28,7 @@ use Rattle.cc_graph.specs.Held.{AreHeld}
 use Rattle.cc_heaps.specs.HasKey.{HasKey}
 use Rattle.cc_repair.specs.Touched.{is_touched}
 use Rattle.cc_heaps.specs.Keyed.{Keyed, IsInOrder, named_object, number_at, the_number}
-use Rattle.cc_counted.specs.Suspects.{is_in_buffer}
+use Rattle.cc_counted.specs.Suspects.{front_number, is_in_buffer}
 use Rattle.cc_heaps.proofs.Reaching.{same-tests}
 
 -- the buffer by names and by numbers
@@ -54,6 +54,17 @@ module _ (v : Keyed) (order : IsInOrder [] v) (k key : ℕ) (at : Among (native 
 -- and where the native is there, the buffer tells
 pub key-tells : (v : Keyed) (k key : ℕ) → number_at v key ≡ Some k → has same_name (view v.heap).buffer (native k) ≡ is_in_buffer v.heap.buffer (the_number v key)
 key-tells v k key e = buffer-by_number v.heap.buffer k ∙ ap (is_in_buffer v.heap.buffer) (sym (ap number_or_none e))
+
+-- a test for none that passes
+pub no-first : (o : Option NKey) (t : Bool) → is_some o ≡ not t → t ≡ true → o ≡ None
+no-first None t e f = refl
+no-first (Some k) true e f = absurd (cc)
+no-first (Some k) false e f = absurd (cc)
+
+-- where the buffer has no first one it has none
+pub buffer-empty : (bs : List Buffered) (x : Name) → front_number bs ≡ None → has same_name (map buffered bs) x ≡ false
+buffer-empty [] x e = refl
+buffer-empty (b ∷ bs) x e = absurd (cc)
 
 -- Script objects of a colour
 

@@ -65,6 +65,10 @@ fn is_buffered(heaps: &Heaps, number: NativeNo, key: NKey) -> bool
     ensures { result ≡ has same_name (view heaps.now.heap).buffer (native number.0) }
 {
     let counted = heaps.counted();
+    if counted.first_in_buffer().is_none() {
+        // nothing was touched
+        return false;
+    }
     match counted.number(key) {
         Some(found) => found == number && counted.in_buffer(key),
         None => false,

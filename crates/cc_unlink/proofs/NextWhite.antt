@@ -1,17 +1,18 @@
 -- THE WHITE NATIVES ONE AFTER ANOTHER: numbers that rise, read from one of them on.
-use Rattle.std.proofs.Common.{◌≡◌, ℕ, suc, ◌+◌, ◌<◌, Bool, true, false, List, [], ◌∷◌, length, Option, Some, None, IsSome, option_and_then, refl, sym, ◌∙◌, ap, subst, arith}
+use Rattle.std.proofs.Common.{◌≡◌, ℕ, suc, ◌+◌, ◌<◌, Bool, true, false, List, [], ◌∷◌, length, Option, Some, None, IsSome, option_and_then, not, refl, sym, ◌∙◌, ap, subst, arith}
 use Rattle.std.specs.List.{filter}
+use Rattle.cc_lists.proofs.Filtering.{filter-nothing}
 use Rattle.cc_lists.proofs.Searching.{filter-map}
 use Rattle.cc_lists.proofs.ListWrites.{map-kept}
 use Rattle.cc_lists.proofs.RisingWalks.{LooksFrom, LooksFrom-found}
 use Rattle.cc_names.specs.declared.number.NKey.{NKey}
 use Rattle.cc_names.specs.declared.name.Name.{Name}
-use Rattle.cc_names.specs.Names.{same_name}
+use Rattle.cc_names.specs.Names.{native, same_name}
 use Rattle.cc_model.specs.Heap.{Heap, HeapNative}
 use Rattle.cc_counted.specs.Counts as counts
 use Rattle.cc_counted.specs.Counts.{Counts, number_or_none}
-use Rattle.cc_graph.specs.Shown.{Shown, Vertex, number_from}
-use Rattle.cc_unlink.specs.Whites.{whites_of, is_white_number, whites_above}
+use Rattle.cc_graph.specs.Shown.{Shown, Vertex, is_black, number_from, number_of}
+use Rattle.cc_unlink.specs.Whites.{whites_of, is_white_node, is_white_number, whites_above}
 use Rattle.cc_heaps.specs.Keyed.{Keyed, keyed_native, counts_of, number_at}
 use Rattle.cc_heaps.specs.Holders.{native_numbers, is_above, first_of}
 use Rattle.cc_heaps.proofs.Content.{number-some}
@@ -59,3 +60,25 @@ number_from-below i (v ∷ vs) x j e = go (number_from-below (suc i) vs x j) (sa
         elim b [ true ↦ Some i | false ↦ number_from (suc i) vs x ] ≡ Some j → j < i + length (v ∷ vs)
     go ih true t = let same : i ≡ j = cc in omega arith
     go ih false t = omega (arith, ih t)
+
+-- Graphs of which every node is black
+
+-- no native is white in such a one,
+black-nodes : (g : Shown) → ((i : ℕ) → i < length g.nodes → is_black g i ≡ false → ⊥) → (k : ℕ) → is_white_number g k ≡ false
+black-nodes g none k = node (number_of g.nodes (native k)) refl
+  where
+    black : (i : ℕ) → i < length g.nodes → (b : Bool) → is_black g i ≡ b → not b ≡ false
+    black i inside true e = refl
+    black i inside false e = absurd (none i inside e)
+
+    node : (o : Option ℕ) → number_of g.nodes (native k) ≡ o → is_white_node g o ≡ false
+    node None e = refl
+    node (Some i) e =
+        let below : i < 0 + length g.nodes = number_from-below 0 g.nodes (native k) i e in
+        black i (omega (arith, below)) (is_black g i) refl
+
+-- so a search ends with none
+pub black-none : (g : Shown) (h : Heap) (at : Option ℕ) → ((i : ℕ) → i < length g.nodes → is_black g i ≡ false → ⊥) → None ≡ first_of (whites_above g h at)
+black-none g h at none =
+    ap (λ ws. first_of (filter (is_above at) ws))
+    (sym (whites_of-numbers g h ∙ filter-nothing (is_white_number g) (native_numbers h.natives) (λ k m. black-nodes g none k)))

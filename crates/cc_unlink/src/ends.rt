@@ -55,6 +55,10 @@ fn next_white(graph: &Graph, heaps: &Heaps, after: Option<NKey>) -> Option<NKey>
         ≡ first_of (whites_above graph.now heaps.now.heap (option_and_then (λ key. number_at heaps.now key.0) after)) }
     ensures live { IfSome result (λ key. IsSome (number_at heaps.now key.0)) }
 {
+    if !graph.has_white() {
+        // every node is black: there is nothing to look for
+        return None;
+    }
     let counted = heaps.counted();
     let mut next = native_after(counted, after);
     while let Some(key) = next {

@@ -1,4 +1,4 @@
-use Rattle.std.proofs.Common.{◌≡◌, ◌∙◌, ap, subst, sym, true, false}
+use Rattle.std.proofs.Common.{◌∙◌, ap, sym}
 use Rattle.cc_graph.specs.Kept.{but_mappings, hyperedges}
 use Rattle.cc_graph.proofs.Mappings.{but-nodes_with, hyperedges-linked, members-one, members-two, second-there}
 use Rattle.cc_graph.proofs.graph.chain_members.Goals as goal

@@ -1,11 +1,19 @@
-use Rattle.std.proofs.Common.{◌≡◌, Some, None, sym, ◌∙◌, ap}
+use Rattle.std.proofs.Common.{◌≡◌, Some, None, option_and_then, sym, ◌∙◌, ap}
 use Rattle.std.proofs.lemmas.Bool.{eqb-true, false≢true, eq-eqb}
 use Rattle.cc_counted.specs.Counts.{Counts}
+use Rattle.cc_names.specs.Names.{native}
 use Rattle.cc_heaps.specs.Keyed.{number_at}
-use Rattle.cc_counted.specs.Suspects.{is_in_buffer}
+use Rattle.cc_counted.specs.Suspects.{front_number, is_in_buffer}
 use Rattle.cc_counted.specs.Counts as counts
-use Rattle.cc_repair.proofs.TouchedKeys.{key-tells, key-elsewhere}
+use Rattle.cc_repair.proofs.TouchedKeys.{buffer-empty, key-tells, key-elsewhere, no-first}
 use Rattle.cc_repair.proofs.touched.is_buffered.Goals as goal
+
+pub returns-then-is_none : goal.returns-then-is_none
+returns-then-is_none c =
+    let none = no-first c.first_in_buffer.result c.is_none.result c.is_none.ensures c.if-is_none.true in
+    let front : front_number c.counted-counted.result.now.buffer ≡ None =
+    sym c.first_in_buffer.ensures.number ∙ ap (option_and_then (λ k. counts.number_at c.counted-counted.result.now k.0)) none in
+    sym (buffer-empty c.args.heaps.now.heap.buffer (native c.args.number.0) (ap (λ (z : Counts). front_number z.buffer) (sym c.counted-counted.ensures) ∙ front))
 
 pub returns-then-eq : goal.returns-then-eq
 returns-then-eq c =

@@ -1,11 +1,17 @@
 use Rattle.std.proofs.Common.{Some, ◌∙◌, sym}
+use Rattle.std.proofs.lemmas.Bool.{false≢true}
 use Rattle.cc_heaps.specs.Keyed.{number_at, the_number}
 use Rattle.cc_unlink.specs.Whites.{is_white_number}
 use Rattle.cc_heaps.specs.Holders.{native_numbers}
 use Rattle.cc_lists.proofs.RisingWalks.{LooksFrom-start, LooksFrom-next, left_from-fewer}
 use Rattle.cc_heaps.proofs.Content.{number-some}
-use Rattle.cc_unlink.proofs.NextWhite.{native_after-keyed, white-found, white-none}
+use Rattle.cc_unlink.proofs.NextWhite.{black-none, native_after-keyed, white-found, white-none}
 use Rattle.cc_unlink.proofs.ends.next_white.Goals as goal
+
+pub returns-then-not-has_white-clause-number : goal.returns-then-not-has_white-clause-number
+returns-then-not-has_white-clause-number c =
+    black-none c.args.graph.now c.args.heaps.now.heap _
+    (λ i inside white. false≢true (sym c.if-not-has_white.true ∙ c.has_white.ensures.1 (i, inside, white)))
 
 pub loop-next-init : goal.loop-next-init
 loop-next-init c =

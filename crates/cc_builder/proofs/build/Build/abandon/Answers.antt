@@ -20,13 +20,13 @@ loop-i-preserved c =
     }
 
 -- the candidates went back into the buffer
-given : (c : goal.After-drop-self-inside-5) → c.loop-i.heaps ≡ changed_to c.args.heaps.now (give_back (snapshot_of c.args.self).candidates c.args.heaps.now.heap)
+given : (c : goal.After-drop-self-inside-7) → c.loop-i.heaps ≡ changed_to c.args.heaps.now (give_back (snapshot_of c.args.self).candidates c.args.heaps.now.heap)
 given c =
     let b = c.args.self in
     let past : b.candidates ≤ c.loop-i.i = subst (λ (a : Built). a.candidates ≤ c.loop-i.i) c.self.view_is (omega (arith, c.loop-i-test.false)) in
     ap (λ ks. changed_to c.loop-i.heaps (give_back ks c.loop-i.heaps.heap)) (sym (left-none b c.loop-i.i past c.requires.built.first)) ∙ c.loop-i.invariant.left
 
-unseen : (c : goal.After-drop-self-inside-5) → IsUnseen c.args.heaps.now c.loop-i.heaps
+unseen : (c : goal.After-drop-self-inside-7) → IsUnseen c.args.heaps.now c.loop-i.heaps
 unseen c = abandoned-unseen c.args.heaps.now c.loop-i.heaps (snapshot_of c.args.self).candidates (given c)
 
 pub returns-clause-suspected : goal.returns-clause-suspected

@@ -1,4 +1,4 @@
-use Rattle.std.proofs.Common.{◌≡◌, ◌<◌, ◌∙◌, ◌==◌, ap, subst, sym, arith, length, false, refl}
+use Rattle.std.proofs.Common.{◌≡◌, ◌<◌, ◌∙◌, ◌==◌, ap, sym, arith, length, false, refl}
 use Rattle.cc_lists.specs.Members.{has}
 use Rattle.cc_graph.specs.Shown.{Shown, is_black, with_black}
 use Rattle.cc_graph.specs.Kept.{vertices}

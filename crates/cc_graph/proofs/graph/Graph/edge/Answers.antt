@@ -1,4 +1,4 @@
-use Rattle.std.proofs.Common.{◌≡◌, ◌<◌, ◌∙◌, ap, subst, sym, arith, length, Some}
+use Rattle.std.proofs.Common.{◌<◌, ◌∙◌, ap, subst, sym, arith, length, Some}
 use Rattle.std.specs.Prelude.{slice_get}
 use Rattle.std.proofs.lemmas.Option.{slice_get-get_or}
 use Rattle.cc_graph.specs.Closed.{IsClosed}

@@ -1,7 +1,7 @@
 use Rattle.std.proofs.Common.{◌≡◌, ◌<◌, ◌∙◌, ap, subst, sym, arith, length, Some}
-use Rattle.std.specs.Prelude.{IfSome, slice_get}
+use Rattle.std.specs.Prelude.{slice_get}
 use Rattle.std.proofs.lemmas.Option.{slice_get-get_or}
-use Rattle.cc_graph.specs.Closed.{IsHyperedgeWithin, IsClosed}
+use Rattle.cc_graph.specs.Closed.{IsClosed}
 use Rattle.cc_graph.specs.Kept.{hyperedge_of, hyperedges}
 use Rattle.cc_graph.proofs.Numbering.{length-vertices}
 use Rattle.cc_graph.proofs.Mappings.{length-hyperedges}

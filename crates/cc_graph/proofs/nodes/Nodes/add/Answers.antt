@@ -1,14 +1,14 @@
-use Rattle.std.proofs.Common.{◌≡◌, ◌≤◌, ◌<◌, ◌+◌, ◌∙◌, ◌++◌, ◌∷◌, [], ap, subst, sym, arith, length, None, Some, if◌then◌else◌}
+use Rattle.std.proofs.Common.{◌≡◌, ◌≤◌, ◌<◌, ◌+◌, ◌∙◌, ◌++◌, ◌∷◌, [], ap, arith, length, None, Some, if◌then◌else◌}
 use Rattle.cc_names.specs.Names.{same_name}
 use Rattle.cc_graph.specs.Shown.{number_of}
-use Rattle.cc_graph.specs.Kept.{added, number_at, vertices, IsNumbered}
+use Rattle.cc_graph.specs.Kept.{added, number_at, vertices}
 use Rattle.cc_graph.proofs.Numbering.{numbered-more, numbered-added}
 use Rattle.cc_graph.proofs.nodes.Nodes.add.Goals as goal
 
-pub invariant_of-self-in_err-add_number : goal.invariant_of-self-in_err-add_number
-invariant_of-self-in_err-add_number c =
+pub invariant_of-self-in_err-add : goal.invariant_of-self-in_err-add
+invariant_of-self-in_err-add c =
     rw (c.reserve.ensures.items, c.reserve-2.ensures.items)
-    (numbered-more _ _ _ _ _ _ c.self.invariant c.reserve-2.ensures.kept c.in_err-add_number.ensures.err)
+    (numbered-more _ _ _ _ _ _ c.self.invariant c.reserve-2.ensures.kept c.in_err-add.ensures.err)
 
 pub invariant_of-self-2 : goal.invariant_of-self-2
 invariant_of-self-2 c =
@@ -21,5 +21,5 @@ invariant_of-self-2 c =
     let absent : number_of (vertices c.self.inside.nodes.items) c.args.name ≡ None = ap (λ ks. number_of (vertices ks) c.args.name) nodes ∙ c.requires.absent in
     rw (items, c.reserve-2.ensures.items)
     (numbered-added _ _ _ _ _ _ c.args.name c.args.held c.self.invariant few enough absent
-    (λ x. c.in_ok-add_number.ensures.added x
-    ∙ ap (λ n. if same_name c.args.name x then Some n else number_at c.self.inside.numbers.entries x) c.len-number.ensures.count))
+    (λ x. c.in_ok-add.ensures.added x
+    ∙ ap (λ n. if same_name c.args.name x then Some n else number_at c.self.inside.numbers x) c.len-number.ensures.count))
