@@ -14,6 +14,7 @@ pub mod FewObjects
 pub mod GivingBack
 pub mod HeldObjects
 pub mod HolderWalks
+pub mod NoGray
 pub mod NodesByName
 pub mod NotedObjects
 pub mod Promises

@@ -27,7 +27,7 @@ mod traversing;
 use cc_counted::Held;
 use cc_graph::Graph;
 use cc_heaps::Heaps;
-use cc_names::{NKey, Name, NoMemory};
+use cc_names::{Colour, NKey, Name, NoMemory};
 use std::alloc::Global;
 use std::marker::Model;
 
@@ -106,6 +106,10 @@ impl Build {
         ensures built { IsBuilt self.new heaps.now }
         ensures held { AreHeld self.new.graph (HasKey heaps.now) }
     {
+        if !heaps.scripts().has_colour(Colour::Gray) {
+            // nothing is gray, so no native holds anything gray
+            return Ok(());
+        }
         let mut holder = heaps.next_holder(None);
         'holders: while let Some(key) = holder {
             self.add_object(Held::Native(key), heaps)?;

@@ -4,7 +4,7 @@ pub mod Changing
 pub mod Painting
 pub mod Writing
 pub mod Whitening
-pub mod Whites
+pub mod OfColour
 pub mod Making
 pub mod Leaving
 pub mod Reading

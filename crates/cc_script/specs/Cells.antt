@@ -106,6 +106,6 @@ pub record Whitens (old new : Slab Linked) : Type 0 where
   pub waiting : waiting_links new.slots ≡ waiting_links old.slots
   pub capacity : new.capacity ≡ old.capacity
 
--- a white object stands at a key
-abbrev pub IsWhiteAt : Slab Linked → ℕ → Type 0
-IsWhiteAt s key = option_map (λ c. c.colour) (cell_at (cells_of s.slots) key) ≡ Some White
+-- an object of a colour stands at a key
+abbrev pub HasColourAt : Slab Linked → Colour → ℕ → Type 0
+HasColourAt s colour key = option_map (λ c. c.colour) (cell_at (cells_of s.slots) key) ≡ Some colour

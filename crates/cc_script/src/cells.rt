@@ -1,13 +1,13 @@
 //! The objects by key: what they are, and apart from that what a walk looks at, and their colours.
 //!
 //! A marking reads and writes bodies and colours alone, at 49 bytes an object, and what else is known of it, at 64, stays
-//! where it is. Making all white, and the look for what is white after a marking, go over the colours alone, which stand
+//! where it is. Making all white, and the look for objects of a colour, go over the colours alone, which stand
 //! together, a byte each: so a heap that lives is marked without a walk over its objects before and after.
 ghost use Rattle.std.specs.Prelude.{◌≡◌, ◌↔◌, ◌<◌, ◌≤◌, ℕ, [], Some, get_or, length, option_map, slice_set, IfOk, IsSome, IsTrue, OnErr, OnOk};
 ghost use Rattle.slab.specs.Slab.{ContainsKey, Updates, get};
 ghost use Rattle.cc_names.specs.declared.kind.Colour.{Colour};
 ghost use Rattle.cc_script.specs.Lists.{cell_at, painted, slots_placed, written};
-ghost use Rattle.cc_script.specs.Cells.{Changes, Content, IsWhiteAt, Label, Whitens, cells_of, filled, in_colour, nothing};
+ghost use Rattle.cc_script.specs.Cells.{Changes, Content, HasColourAt, Label, Whitens, cells_of, filled, in_colour, nothing};
 
 use crate::cell::{Body, Cell};
 use cc_names::{Colour, NoMemory, SKey};
@@ -126,26 +126,26 @@ impl Cells {
         self.colours.fill(Colour::White);
     }
 
-    /// Whether there is an object at a key, and it is white.
-    fn is_white(&self, key: usize) -> bool
-        ensures { IsTrue result ↔ IsWhiteAt self.now key }
+    /// Whether there is an object at a key, and it is of this colour.
+    fn has_colour_at(&self, key: usize, colour: Colour) -> bool
+        ensures { IsTrue result ↔ HasColourAt self.now colour key }
     {
         if key >= self.colours.len() {
             return false;
         }
-        match self.colours[key] {
-            Colour::White => self.slab.contains(key),
-            Colour::Gray | Colour::Black => false,
+        if self.colours[key] != colour {
+            return false;
         }
+        self.slab.contains(key)
     }
 
-    /// Whether the object at some key is white.
-    pub(crate) fn has_white(&self) -> bool
-        ensures some { IsTrue result → (key : ℕ) × IsWhiteAt self.now key }
-        ensures none { (key : ℕ) → IsWhiteAt self.now key → IsTrue result }
+    /// Whether the object at some key is of this colour.
+    pub(crate) fn has_colour(&self, colour: Colour) -> bool
+        ensures some { IsTrue result → (key : ℕ) × HasColourAt self.now colour key }
+        ensures none { (key : ℕ) → HasColourAt self.now colour key → IsTrue result }
     {
         for key in 0..self.colours.len() {
-            if self.is_white(key) {
+            if self.has_colour_at(key, colour) {
                 return true;
             }
         }

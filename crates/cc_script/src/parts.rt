@@ -104,12 +104,12 @@ impl ScriptParts {
         self.cells.colour(key.0)
     }
 
-    /// Whether there is a white object.
-    pub(crate) fn has_white(&self) -> bool
+    /// Whether there is an object of this colour.
+    pub(crate) fn has_colour(&self, colour: Colour) -> bool
         requires at_rest { IsAtRest self.now }
-        ensures white { IsTrue result ↔ ((o : Object) × (Among o (shows self.now) × (o.colour ≡ White))) }
+        ensures found { IsTrue result ↔ ((o : Object) × (Among o (shows self.now) × (o.colour ≡ colour))) }
     {
-        self.cells.has_white()
+        self.cells.has_colour(colour)
     }
 
     /// The object that was made first; none exactly where there is none.

@@ -120,12 +120,12 @@ impl Scripts {
         self.parts.colour(key)
     }
 
-    /// Whether there is a white object.
+    /// Whether there is an object of this colour.
     // O(keys), a byte each, until one is found
-    pub fn has_white(&self) -> bool
-        ensures { IsTrue result ↔ ((o : Object) × (Among o self.now × (o.colour ≡ White))) }
+    pub fn has_colour(&self, colour: Colour) -> bool
+        ensures { IsTrue result ↔ ((o : Object) × (Among o self.now × (o.colour ≡ colour))) }
     {
-        self.parts.has_white()
+        self.parts.has_colour(colour)
     }
 
     /// How many slots an object has: 0 to 64.

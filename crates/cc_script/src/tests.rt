@@ -270,13 +270,13 @@ fn exposure_leaves_others_gray(rt: HostRuntime) -> Result<(), Fail> {
     let mut heap = Scripts::new(rt.alloc());
     if let Ok(a) = make(&mut heap, 1) {
         if let Ok(last) = extend(&mut heap, a, 2) {
-            assert!(rt; !heap.has_white());
+            assert!(rt; !heap.has_colour(Colour::White));
             whiten(&mut heap);
             assert_eq!(rt; heap.colour(last), Colour::White);
-            assert!(rt; heap.has_white());
+            assert!(rt; heap.has_colour(Colour::White));
             mark(&mut heap, last, Colour::Gray);
             assert_eq!(rt; heap.colour(a), Colour::Gray);
-            assert!(rt; !heap.has_white());
+            assert!(rt; !heap.has_colour(Colour::White));
             if let Some(b) = heap.next(a) {
                 touch(&mut heap, b);
                 assert_eq!(rt; heap.colour(b), Colour::Black);
@@ -285,6 +285,25 @@ fn exposure_leaves_others_gray(rt: HostRuntime) -> Result<(), Fail> {
             assert_eq!(rt; heap.colour(last), Colour::Gray);
             return Ok(());
         }
+    }
+    assert!(rt; false);
+    Ok(())
+}
+
+#[test]
+fn gray_object_is_found(rt: HostRuntime) -> Result<(), Fail> {
+    let mut heap = Scripts::new(rt.alloc());
+    assert!(rt; !heap.has_colour(Colour::Gray));
+    if let Ok(a) = make(&mut heap, 1) {
+        assert!(rt; !heap.has_colour(Colour::Gray));
+        whiten(&mut heap);
+        assert!(rt; !heap.has_colour(Colour::Gray));
+        mark(&mut heap, a, Colour::Gray);
+        assert!(rt; heap.has_colour(Colour::Gray));
+        touch(&mut heap, a);
+        assert!(rt; !heap.has_colour(Colour::Gray));
+        assert!(rt; heap.has_colour(Colour::Black));
+        return Ok(());
     }
     assert!(rt; false);
     Ok(())

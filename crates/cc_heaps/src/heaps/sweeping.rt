@@ -107,7 +107,7 @@ fn sweep_all<N: Notices>(
     ensures natives { counted.new ≡ (swept_counts counted.old scripts.old).counts }
     ensures told { TellsEvents (N.telling out.old) (N.telling out.new) (swept_counts counted.old scripts.old).events }
 {
-    if !scripts.has_white() {
+    if !scripts.has_colour(Colour::White) {
         return false;
     }
     drop_dead(weak, scripts);

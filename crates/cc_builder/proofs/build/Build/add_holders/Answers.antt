@@ -10,8 +10,14 @@ use Rattle.cc_builder.specs.Building.{Built, vertex_names}
 use Rattle.cc_builder.specs.BuildSteps.{the_name}
 use Rattle.cc_builder.proofs.BuildNodes.{names-with_vertex}
 use Rattle.cc_builder.proofs.BuildWalks.{name-there}
+use Rattle.cc_builder.proofs.NoGray.{holders-passed}
 use Rattle.cc_builder.proofs.HolderWalks.{holders-start, holders-turn, holders-shorter, some-holder}
 use Rattle.cc_builder.proofs.build.Build.add_holders.Goals as goal
+
+pub returns-then-not-has_colour-clause-names : goal.returns-then-not-has_colour-clause-names
+returns-then-not-has_colour-clause-names c =
+    holders-passed c.args.heaps.now c.scripts.result.now c.has_colour.result c.requires.order c.scripts.ensures c.has_colour.ensures c.if-not-has_colour.true
+    (vertex_names c.args.self.now.graph.nodes)
 
 pub holders-init : goal.holders-init
 holders-init c =

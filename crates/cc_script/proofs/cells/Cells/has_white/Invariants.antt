@@ -1,6 +1,0 @@
-use Rattle.std.proofs.Common.{ℕ, ◌<◌}
-use Rattle.cc_script.specs.Cells.{IsWhiteAt}
-use Rattle.cc_script.proofs.cells.Cells.has_white.Given as goal
-
-abbrev pub invariant-loop-key : goal.invariant-loop-key
-invariant-loop-key l = record { passed : (k : ℕ) → k < l.key → ¬ (IsWhiteAt l.self k) }
