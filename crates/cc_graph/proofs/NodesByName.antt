@@ -2,6 +2,7 @@
 use Rattle.std.proofs.Common.{◌≡◌, ℕ, ◌+◌, ◌==◌, suc, Bool, true, false, cond, List, [], ◌∷◌, ◌++◌, length, refl, sym, ◌∙◌, ap, arith, Some, None}
 use Rattle.std.specs.Prelude.{Option}
 use Rattle.std.specs.Map.{lookup}
+use Rattle.std.specs.BTreeMap.{BTreeMap, Updates}
 use Rattle.std.specs.Ordering.{is_eq}
 use Rattle.std.specs.Cmp.{unsigned_ties}
 use Rattle.cc_names.specs.declared.name.Name.{Name}
@@ -54,3 +55,20 @@ script-order i j = sym (unsigned_ties i.0 j.0)
 pub lookup-alike : {K X : Type 0} (p q : K → Bool) (es : List (K × X)) → ((k : K) → p k ≡ q k) → lookup p es ≡ lookup q es
 lookup-alike p q [] h = refl
 lookup-alike p q (e ∷ es) h = rw (h e.0, lookup-alike p q es h) refl
+
+-- what a map of numbers says after a number is taken out, by the numbers
+pub natives-without : (ms ns : BTreeMap NativeNo ℕ) (k : NativeNo) → Updates (native_ord.ghosts).cmp ms ns k None → (j : NativeNo) →
+    lookup (λ i. j.0 == i.0) ns.entries ≡ cond (k.0 == j.0) None (lookup (λ i. j.0 == i.0) ms.entries)
+natives-without ms ns k u j =
+    sym (lookup-alike (λ i. is_eq ((native_ord.ghosts).cmp j i)) (λ i. j.0 == i.0) ns.entries (native-order j))
+    ∙ (u.0 j
+    ∙ (ap (λ b. cond b None (lookup (λ i. is_eq ((native_ord.ghosts).cmp j i)) ms.entries)) (native-order k j)
+    ∙ ap (cond (k.0 == j.0) None) (lookup-alike (λ i. is_eq ((native_ord.ghosts).cmp j i)) (λ i. j.0 == i.0) ms.entries (native-order j))))
+
+pub scripts-without : (ms ns : BTreeMap ScriptNo ℕ) (k : ScriptNo) → Updates (script_ord.ghosts).cmp ms ns k None → (j : ScriptNo) →
+    lookup (λ i. j.0 == i.0) ns.entries ≡ cond (k.0 == j.0) None (lookup (λ i. j.0 == i.0) ms.entries)
+scripts-without ms ns k u j =
+    sym (lookup-alike (λ i. is_eq ((script_ord.ghosts).cmp j i)) (λ i. j.0 == i.0) ns.entries (script-order j))
+    ∙ (u.0 j
+    ∙ (ap (λ b. cond b None (lookup (λ i. is_eq ((script_ord.ghosts).cmp j i)) ms.entries)) (script-order k j)
+    ∙ ap (cond (k.0 == j.0) None) (lookup-alike (λ i. is_eq ((script_ord.ghosts).cmp j i)) (λ i. j.0 == i.0) ms.entries (script-order j))))

@@ -1,5 +1,5 @@
 -- The nodes by number and by name stay right.
-use Rattle.std.proofs.Common.{◌≡◌, ℕ, ◌+◌, ◌<◌, ◌≤◌, zero, suc, Bool, true, false, cond, List, [], ◌∷◌, ◌++◌, length, get_or, refl, sym, ◌∙◌, ap, subst, inl, arith, count_by, Some, None, if◌then◌else◌}
+use Rattle.std.proofs.Common.{◌≡◌, unwrap_or, ℕ, ◌+◌, ◌<◌, ◌≤◌, zero, suc, Bool, true, false, cond, List, [], ◌∷◌, ◌++◌, length, get_or, refl, sym, ◌∙◌, ap, subst, inl, arith, count_by, Some, None, if◌then◌else◌}
 use Rattle.std.specs.Prelude.{◌==◌, Option, IfSome}
 use Rattle.std.proofs.Math.ListN.{set}
 use Rattle.std.proofs.lemmas.List.{length-set, length-map, length_push, map_push}
@@ -17,7 +17,7 @@ use Rattle.cc_lists.proofs.Numbers.{number-exact}
 use Rattle.cc_graph.specs.declared.node.Node.{Node}
 use Rattle.cc_graph.specs.declared.numbers.Numbers.{Numbers}
 use Rattle.cc_graph.specs.Shown.{Vertex, number_from, number_of}
-use Rattle.cc_graph.specs.Kept.{added, with_black_node, vertex_of, vertices, number_at, Numbered, IsNumbered}
+use Rattle.cc_graph.specs.Kept.{added, with_black_node, with_node, vertex_of, vertices, number_at, Numbered, IsNumbered}
 use Rattle.cc_graph.proofs.Lists.{each-set, each-added, has-none, has-other, count_by-fewer}
 use Rattle.cc_graph.proofs.NodesByName.{or_last, number-pushed}
 
@@ -175,3 +175,46 @@ white-numbered [] bs room es i w inside off = absurd (omega (arith, inside))
 white-numbered (k ∷ ks) bs room es i w inside off =
     let fewer : count_by (λ k. k.black) (k ∷ ks) < length (k ∷ ks) = count_by-fewer (λ k. k.black) (k ∷ ks) i k inside (w.black i k inside ∙ off) in
     omega (arith, fewer, w.counted)
+
+-- a name that is given the number of one node more has no node
+pub number-new : (ks : List Node) (bs : List ℕ) (room : ℕ) (es : Numbers) (x : Name) (n count : ℕ) → IsNumbered ks bs room es →
+    n ≡ unwrap_or (number_at es x) count → count ≡ length ks → n ≡ count → number_of (vertices ks) x ≡ None
+number-new ks bs room es x n count w found all same = go (number_of (vertices ks) x) (number-within ks x) (found ∙ ap (λ o. unwrap_or o count) (w.numbered x))
+  where
+    go : (o : Option ℕ) → IfSome o (λ k. k < length ks) → n ≡ unwrap_or o count → o ≡ None
+    go None h f = refl
+    go (Some k) h f = absurd (omega (arith, h, f, same, all))
+
+-- and one that is given another has the node with that number
+pub number-old : (ks : List Node) (bs : List ℕ) (room : ℕ) (es : Numbers) (x : Name) (n count : ℕ) → IsNumbered ks bs room es →
+    n ≡ unwrap_or (number_at es x) count → (n ≡ count → ⊥) → number_of (vertices ks) x ≡ Some n
+number-old ks bs room es x n count w found other = go (number_of (vertices ks) x) (found ∙ ap (λ o. unwrap_or o count) (w.numbered x))
+  where
+    go : (o : Option ℕ) → n ≡ unwrap_or o count → o ≡ Some n
+    go None f = absurd (other f)
+    go (Some k) f = ap Some (sym f)
+
+pub with_node-new : (ks : List Node) (x : Name) (held : Held) → number_of (vertices ks) x ≡ None → with_node ks x held ≡ ks ++ added x held ∷ []
+with_node-new ks x held none = ap (λ o. elim o [ Some i ↦ ks | None ↦ ks ++ added x held ∷ [] ]) none
+
+pub with_node-there : (ks : List Node) (x : Name) (held : Held) (i : ℕ) → number_of (vertices ks) x ≡ Some i → with_node ks x held ≡ ks
+with_node-there ks x held i there = ap (λ o. elim o [ Some j ↦ ks | None ↦ ks ++ added x held ∷ [] ]) there
+
+-- the numbers are the same where the one that a name has is given to it
+pub numbers-given : (ns ms : Numbers) (name : Name) (n : ℕ) → number_at ns name ≡ Some n →
+    ((x : Name) → number_at ms x ≡ (if same_name name x then Some n else number_at ns x)) → (x : Name) → number_at ms x ≡ number_at ns x
+numbers-given ns ms name n had given x = given x ∙ go (same_name name x) refl
+  where
+    go : (b : Bool) → same_name name x ≡ b → (if b then Some n else number_at ns x) ≡ number_at ns x
+    go true e = sym had ∙ ap (number_at ns) (same_name-true name x e)
+    go false e = refl
+
+-- and where one is taken away that was given to a name without
+pub numbers-taken : (ns ms ls : Numbers) (name : Name) (n : ℕ) → number_at ns name ≡ None →
+    ((x : Name) → number_at ms x ≡ (if same_name name x then Some n else number_at ns x)) →
+    ((x : Name) → number_at ls x ≡ (if same_name name x then None else number_at ms x)) → (x : Name) → number_at ls x ≡ number_at ns x
+numbers-taken ns ms ls name n none given taken x = taken x ∙ go (same_name name x) refl
+  where
+    go : (b : Bool) → same_name name x ≡ b → (if b then None else number_at ms x) ≡ number_at ns x
+    go true e = sym none ∙ ap (number_at ns) (same_name-true name x e)
+    go false e = given x ∙ ap (λ b. if b then Some n else number_at ns x) e

@@ -1,5 +1,5 @@
 -- What is kept of nodes and references stays right.
-use Rattle.std.proofs.Common.{◌≡◌, ℕ, ◌+◌, ◌<◌, ◌≤◌, zero, suc, true, false, cond, List, [], ◌∷◌, ◌++◌, length, get_or, refl, sym, ◌∙◌, ap, subst, inl, inr, arith, count_by, Some, None, option_map}
+use Rattle.std.proofs.Common.{◌≡◌, unwrap_or, ℕ, ◌+◌, ◌<◌, ◌≤◌, zero, suc, true, false, cond, List, [], ◌∷◌, ◌++◌, length, get_or, refl, sym, ◌∙◌, ap, subst, inl, inr, arith, count_by, Some, None, option_map}
 use Rattle.std.specs.Prelude.{◌==◌, slice_get, Option, IfSome}
 use Rattle.std.proofs.Math.ListN.{set}
 use Rattle.std.proofs.lemmas.Bool.{eqb-true, eq-eqb, ne_eqb}
@@ -20,9 +20,9 @@ use Rattle.cc_graph.specs.declared.chain.Chain.{Chain}
 use Rattle.cc_graph.specs.declared.mapping.Mapping.{Mapping}
 use Rattle.cc_graph.specs.declared.node.Node.{Node}
 use Rattle.cc_graph.specs.declared.reference.Reference.{Reference}
-use Rattle.cc_graph.specs.Shown.{Vertex, Edge, Hyperedge, Shown, change_vertex, edges_to, number_of, place_from, with_black}
+use Rattle.cc_graph.specs.Shown.{Vertex, Edge, Hyperedge, Shown, change_vertex, edges_to, number_of, place_from, vertex, with_black, with_vertex}
 use Rattle.cc_graph.specs.Closed.{IsHyperedgeWithin, AreHyperedgesWithin, IsWithin, IsClosed}
-use Rattle.cc_graph.specs.Kept.{added, with_black_node, with_next, with_reference, vertex_of, edge_of, hyperedge_of, vertices, edges, hyperedges, chain_of, but_mapping, but_mappings, IsLast, AreReferences, AreMappings, IsWhole}
+use Rattle.cc_graph.specs.Kept.{added, with_black_node, with_node, with_next, with_reference, vertex_of, edge_of, hyperedge_of, vertices, edges, hyperedges, chain_of, but_mapping, but_mappings, IsLast, AreReferences, AreMappings, IsWhole}
 use Rattle.cc_graph.proofs.Lists.{each-set, each-added, among-at}
 use Rattle.cc_graph.proofs.NodesByName.{number-pushed, or_last}
 use Rattle.cc_graph.proofs.Numbering.{length-vertices, vertices-pushed}
@@ -149,6 +149,31 @@ whole-added ks rs ms loose bs x h w few = record {
   within = within-more (length ks) (length (ks ++ added x h ∷ [])) (edges rs) bs w.within (omega (arith, length_push ks (added x h)));
   mapped = hyperedges-more (length ks) (length (ks ++ added x h ∷ [])) (hyperedges ms) w.mapped (omega (arith, length_push ks (added x h)));
 }
+
+-- a name gets its node, where it has none
+pub whole-with : (ks : List Node) (rs : List Reference) (ms : List Mapping) (loose : Chain) (bs : List ℕ) (x : Name) (h : Held) → IsWhole ks rs ms loose bs →
+    length ks < 4294967295 → IsWhole (with_node ks x h) rs ms loose bs
+whole-with ks rs ms loose bs x h w few = go (number_of (vertices ks) x)
+  where
+    go : (o : Option ℕ) → IsWhole (elim o [ Some i ↦ ks | None ↦ ks ++ added x h ∷ [] ]) rs ms loose bs
+    go (Some i) = w
+    go None = whole-added ks rs ms loose bs x h w few
+
+-- which has its number,
+pub number-with : (ks : List Node) (x : Name) (h : Held) → number_of (vertices (with_node ks x h)) x ≡ Some (unwrap_or (number_of (vertices ks) x) (length ks))
+number-with ks x h = go (number_of (vertices ks) x) refl
+  where
+    go : (o : Option ℕ) → number_of (vertices ks) x ≡ o → number_of (vertices (elim o [ Some i ↦ ks | None ↦ ks ++ added x h ∷ [] ])) x ≡ Some (unwrap_or o (length ks))
+    go (Some i) e = e
+    go None e = number-added ks x h e
+
+-- and is shown
+pub vertices-with : (ks : List Node) (x : Name) (h : Held) → vertices (with_node ks x h) ≡ with_vertex (vertices ks) x h
+vertices-with ks x h = go (number_of (vertices ks) x)
+  where
+    go : (o : Option ℕ) → vertices (elim o [ Some i ↦ ks | None ↦ ks ++ added x h ∷ [] ]) ≡ elim o [ Some i ↦ vertices ks | None ↦ vertices ks ++ vertex x h ∷ [] ]
+    go (Some i) = refl
+    go None = vertices-pushed ks (added x h)
 
 -- a node changes, but for what is kept of references and mappings
 pub whole-put : (ks : List Node) (rs : List Reference) (ms : List Mapping) (loose : Chain) (bs : List ℕ) (i : ℕ) (d y : Node) → IsWhole ks rs ms loose bs → i < length ks →

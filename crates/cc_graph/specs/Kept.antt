@@ -1,5 +1,5 @@
 -- WHAT IS KEPT OF EACH NODE AND REFERENCE, so that no list has to be walked for it.
-use Rattle.std.specs.Prelude.{◌≡◌, ℕ, ◌+◌, ◌-◌, ◌<◌, ◌≤◌, ◌^◌, ◌==◌, min, Bool, true, false, List, length, get_or, count_by, map, slice_get, slice_set, Option, Some, None, option_map}
+use Rattle.std.specs.Prelude.{◌≡◌, ℕ, ◌+◌, ◌-◌, ◌<◌, ◌≤◌, ◌^◌, ◌==◌, min, Bool, true, false, List, [], ◌∷◌, ◌++◌, length, get_or, count_by, map, slice_get, slice_set, Option, Some, None, option_map}
 use Rattle.std.specs.Map.{lookup}
 use Rattle.cc_lists.specs.Members.{Among, has}
 use Rattle.cc_names.specs.declared.name.Name.{Name}
@@ -89,6 +89,10 @@ pub record Numbered : Type 0 where
   pub blacks : List ℕ
   pub node_room : ℕ
   pub black_room : ℕ
+
+-- the nodes with one more last, where there is none of its name
+abbrev pub with_node : List Node → Name → Held → List Node
+with_node ks name held = elim (number_of (vertices ks) name) [ Some i ↦ ks | None ↦ ks ++ added name held ∷ [] ]
 
 -- the number that is kept for a name
 abbrev pub number_at : Numbers → Name → Option ℕ

@@ -78,9 +78,6 @@ impl Graph {
         ensures err { OnErr result (self.new ≡ self.old) }
         ensures no_need { IsSome (number_of self.old.nodes name) → IsOk result }
     {
-        if let Some(node) = self.node_of(&name) {
-            return Ok(node);
-        }
         let number = self.nodes.add(name, held)?;
         Ok(number)
     }

@@ -1,9 +1,9 @@
 //! The nodes by number and by name, and the list of black ones.
 
-ghost use Rattle.std.specs.Prelude.{◌≡◌, ◌+◌, ◌<◌, ◌≤◌, ◌^◌, ◌==◌, ◌++◌, [], ◌∷◌, length, slice_get, slice_index_or, slice_set, ℕ, ◌↔◌, false, None, IsTrue, IfOk, IfSome, OnErr, OnOk};
+ghost use Rattle.std.specs.Prelude.{◌≡◌, ◌+◌, ◌<◌, ◌≤◌, ◌^◌, ◌==◌, ◌++◌, [], ◌∷◌, length, slice_get, slice_index_or, slice_set, ℕ, ◌↔◌, false, None, IsTrue, unwrap_or, IfOk, IfSome, OnErr, OnOk};
 ghost use Rattle.cc_lists.specs.Members.{has};
 ghost use Rattle.cc_graph.specs.Shown.{number_of};
-ghost use Rattle.cc_graph.specs.Kept.{added, vertices, with_black_node};
+ghost use Rattle.cc_graph.specs.Kept.{vertices, with_black_node, with_node};
 
 use crate::node::Node;
 use crate::numbers::Numbers;
@@ -46,22 +46,26 @@ impl Nodes {
         }
     }
 
-    /// A node of a name of which there is none goes last. Its number is how many there were.
+    /// The number of the node of a name, which goes last where there is none: its number is then how many there were.
     ///
-    /// `NoMemory` leaves the nodes as they were.
+    /// `NoMemory`, only where there is none, leaves the nodes as they were.
     pub(crate) fn add(&mut self, name: Name, held: Held) -> Result<u32, NoMemory>
         requires few { length self.old.nodes < 4294967295 }
-        requires absent { number_of (vertices self.old.nodes) name ≡ None }
-        ensures nodes { OnOk result (self.new.nodes ≡ self.old.nodes ++ added name held ∷ []) }
-        ensures number { IfOk result (λ i. i ≡ length self.old.nodes) }
+        ensures nodes { OnOk result (self.new.nodes ≡ with_node self.old.nodes name held) }
+        ensures number { IfOk result (λ i. i ≡ unwrap_or (number_of (vertices self.old.nodes) name) (length self.old.nodes)) }
         ensures blacks { self.new.blacks ≡ self.old.blacks }
         ensures err { OnErr result (self.new.nodes ≡ self.old.nodes) }
+        ensures absent { OnErr result (number_of (vertices self.old.nodes) name ≡ None) }
     {
-        let number = self.nodes.len() as u32;
-        self.nodes.reserve(1)?;
-        self.blacks
-            .reserve(self.nodes.len() + 1 - self.blacks.len())?;
-        self.numbers.add(name, number)?;
+        let count = self.nodes.len() as u32;
+        let number = self.numbers.get_or_add(name, count)?;
+        if number != count {
+            return Ok(number);
+        }
+        if reserve_one(&mut self.nodes, &mut self.blacks).is_err() {
+            self.numbers.remove(name);
+            return Err(NoMemory);
+        }
         self.nodes.push(Node::new(name, held));
         Ok(number)
     }
@@ -129,4 +133,17 @@ impl Nodes {
         }
         Some(*self.blacks.at(i as usize))
     }
+}
+
+/// Room for one more node, and for all to become black.
+fn reserve_one(nodes: &mut Pool<Node, 256>, blacks: &mut Pool<u32, 256>) -> Result<(), NoMemory>
+    requires { length blacks.old.items ≤ length nodes.old.items }
+    ensures nodes { nodes.new.items ≡ nodes.old.items }
+    ensures blacks { blacks.new.items ≡ blacks.old.items }
+    ensures node_room { OnOk result (length nodes.old.items + 1 ≤ nodes.new.capacity) }
+    ensures black_room { OnOk result (length nodes.old.items + 1 ≤ blacks.new.capacity) }
+    ensures kept { blacks.old.capacity ≤ blacks.new.capacity }
+{
+    nodes.reserve(1)?;
+    blacks.reserve(nodes.len() + 1 - blacks.len())
 }

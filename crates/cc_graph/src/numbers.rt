@@ -1,6 +1,7 @@
 //! The numbers of nodes by the names of their objects.
 
-ghost use Rattle.std.specs.Prelude.{◌≡◌, Some, None, if◌then◌else◌, OnErr, OnOk};
+ghost use Rattle.std.specs.Prelude.{◌≡◌, Some, None, if◌then◌else◌, unwrap_or, IfOk, OnErr};
+ghost use Rattle.std.specs.BTreeMap.{get, Updates};
 ghost use Rattle.std.specs.Ordering.{is_eq};
 ghost use Rattle.std.specs.Map.{lookup};
 ghost use Rattle.cc_names.specs.declared.name.Name.{Name};
@@ -42,17 +43,30 @@ impl Numbers {
         }
     }
 
-    /// A name that has no number gets one.
+    /// The number of a name, which is `number` from now on where it had none.
     ///
-    /// `NoMemory` leaves all numbers as they were.
-    pub(crate) fn add(&mut self, name: Name, number: u32) -> Result<(), NoMemory>
-        ensures added { OnOk result ((x : Name) → number_at self.new x ≡ (if same_name name x then Some number else number_at self.old x)) }
+    /// `NoMemory`, only where it had none, leaves all numbers as they were.
+    pub(crate) fn get_or_add(&mut self, name: Name, number: u32) -> Result<u32, NoMemory>
+        ensures found { IfOk result (λ n. n ≡ unwrap_or (number_at self.old name) number) }
+        ensures added { IfOk result (λ n. (x : Name) → number_at self.new x ≡ (if same_name name x then Some n else number_at self.old x)) }
         ensures err { OnErr result ((x : Name) → number_at self.new x ≡ number_at self.old x) }
+        ensures absent { OnErr result (number_at self.old name ≡ None) }
     {
         match name {
-            Name::Native(k) => add_number(&mut self.natives, k, number),
-            Name::Script(k) => add_number(&mut self.scripts, k, number),
-            Name::Reflector(k) => add_number(&mut self.reflectors, k, number),
+            Name::Native(k) => number_or(&mut self.natives, k, number),
+            Name::Script(k) => number_or(&mut self.scripts, k, number),
+            Name::Reflector(k) => number_or(&mut self.reflectors, k, number),
+        }
+    }
+
+    /// A name has no number from now on.
+    pub(crate) fn remove(&mut self, name: Name)
+        ensures { (x : Name) → number_at self.new x ≡ (if same_name name x then None else number_at self.old x) }
+    {
+        match name {
+            Name::Native(k) => remove_number(&mut self.natives, k),
+            Name::Script(k) => remove_number(&mut self.scripts, k),
+            Name::Reflector(k) => remove_number(&mut self.reflectors, k),
         }
     }
 }
@@ -65,18 +79,26 @@ fn number_in<K: Ord>(numbers: &BTreeMap<K, u32>, key: &K) -> Option<u32>
     Some(*number)
 }
 
-/// There is this number at a key.
-fn add_number<K: Ord + Drop>(
+/// The number at a key, which is `number` from now on where there was none.
+fn number_or<K: Ord + Drop>(
     numbers: &mut BTreeMap<K, u32>,
     key: K,
     number: u32,
-) -> Result<(), NoMemory>
-    ensures added { OnOk result ((x : K) → lookup (λ k. is_eq (K.cmp x k)) numbers.new.entries
-        ≡ (if is_eq (K.cmp key x) then Some number else lookup (λ k. is_eq (K.cmp x k)) numbers.old.entries)) }
+) -> Result<u32, NoMemory>
+    ensures found { IfOk result (λ n. n ≡ unwrap_or (get K.cmp numbers.old key) number) }
+    ensures added { IfOk result (λ n. Updates K.cmp numbers.old numbers.new key (Some n)) }
     ensures err { OnErr result (numbers.new.entries ≡ numbers.old.entries) }
+    ensures absent { OnErr result (get K.cmp numbers.old key ≡ None) }
 {
-    match numbers.insert(key, number) {
-        Ok(_) => Ok(()),
-        Err(_) => Err(NoMemory),
-    }
+    let Ok(entry) = numbers.entry(key) else {
+        return Err(NoMemory);
+    };
+    Ok(*entry.or_insert(number))
+}
+
+/// There is no number at a key from now on.
+fn remove_number<K: Ord + Drop>(numbers: &mut BTreeMap<K, u32>, key: K)
+    ensures { Updates K.cmp numbers.old numbers.new key None }
+{
+    numbers.remove(&key);
 }

@@ -1,14 +1,17 @@
 -- Whether a node's native stands in the buffer, or its script object is black, by the key that the node has.
-use Rattle.std.specs.Prelude.{IsTrue, is_some, not, slice_get}
+use Rattle.std.specs.Prelude.{IsTrue, ◌↔◌, is_some, not, slice_get}
 use Rattle.std.proofs.Common.{◌≡◌, ℕ, ◌≤◌, Bool, true, false, ◌==◌, List, [], ◌∷◌, ◌||◌, map, filter, Option, Some, None, option_map, refl, sym, ◌∙◌, ap, subst, count_by}
 use Rattle.cc_lists.specs.Members.{Among, has}
 use Rattle.cc_lists.proofs.Members.{Among-map, Among-map_cases, Among-filter, Among-filtered, Among-passes, has-among, has-there}
 use Rattle.cc_lists.proofs.Counting.{count_by-map}
 use Rattle.cc_lists.proofs.CountsOf.{false-left}
-use Rattle.cc_lists.proofs.Filtering.{find-among}
-use Rattle.cc_lists.proofs.ListWrites.{only-member}
+use Rattle.std.proofs.lemmas.Bool.{true≢false}
+use Rattle.cc_lists.proofs.Filtering.{filter-nothing, find-among}
+use Rattle.cc_lists.proofs.ListWrites.{each-map, only-member}
 use Rattle.cc_lists.proofs.Places.{place-among}
 use Rattle.cc_names.specs.declared.name.Name.{Name}
+use Rattle.cc_names.specs.declared.kind.Colour.{Colour}
+use Rattle.cc_names.specs.declared.kind.Colour.TheVariants.{White, Gray, Black}
 use Rattle.cc_names.specs.declared.number.NativeNo.{NativeNo}
 use Rattle.cc_names.specs.declared.name.Name.TheVariants as name
 use Rattle.cc_names.specs.declared.name.Name.TheVariants.{Native}
@@ -16,7 +19,7 @@ use Rattle.cc_names.specs.declared.number.NKey.{NKey}
 use Rattle.cc_names.specs.declared.number.SKey.{SKey}
 use Rattle.cc_names.specs.Names.{native, is_native, same_name}
 use Rattle.cc_names.proofs.NameTests.{same_name-exact, same_name-refl}
-use Rattle.cc_model.specs.Heap.{HeapScript, Buffered, is_black_colour}
+use Rattle.cc_model.specs.Heap.{Heap, HeapScript, Buffered, is_black_colour}
 use Rattle.cc_model.specs.View.{view, buffered, names_with}
 use Rattle.cc_model.specs.WellFormed.{native_names}
 use Rattle.cc_counted.specs.Counts.{number_or_none}
@@ -26,7 +29,8 @@ use Rattle.cc_script.specs.Objects.{Object, object_at, name_at, colour_at, is_th
 use Rattle.cc_graph.specs.Shown.{Vertex, Shown}
 use Rattle.cc_graph.specs.Held.{AreHeld}
 use Rattle.cc_heaps.specs.HasKey.{HasKey}
-use Rattle.cc_repair.specs.Touched.{is_touched}
+use Rattle.cc_graph.proofs.MarkedNodes.{numbers-passing}
+use Rattle.cc_repair.specs.Touched.{is_touched, touched}
 use Rattle.cc_heaps.specs.Keyed.{Keyed, IsInOrder, named_object, number_at, the_number}
 use Rattle.cc_counted.specs.Suspects.{front_number, is_in_buffer}
 use Rattle.cc_heaps.proofs.Reaching.{same-tests}
@@ -168,3 +172,44 @@ touched-script g v order are i x h key b name at key_one black =
     by_kind : (t : Bool) → t ≡ false → has same_name (view v.heap).black x ≡ b → elim t [ true ↦ has same_name (view v.heap).buffer x | false ↦ has same_name (view v.heap).black x ] ≡ b
     by_kind true e f = absurd (cc)
     by_kind false e f = f
+
+-- NOTHING WAS TOUCHED where the buffer has no first one and no script object is black
+
+-- a test for some that fails
+pub no-some : (o : Option NKey) (t : Bool) → t ≡ is_some o → t ≡ false → o ≡ None
+no-some None t e f = refl
+no-some (Some k) t e f = absurd (true≢false (sym e ∙ f))
+
+-- a colour that passes for black is black
+black-exact : (c : Colour) → is_black_colour c ≡ true → c ≡ Black
+black-exact White e = absurd (true≢false (sym e))
+black-exact Gray e = absurd (true≢false (sym e))
+black-exact Black e = refl
+
+module _ (v : Keyed) (order : IsInOrder [] v) (front : front_number v.heap.buffer ≡ None) (scripts : List Object) (found : Bool) (same : scripts ≡ v.scripts)
+    (black : IsTrue found ↔ ((o : Object) × (Among o scripts × (o.colour ≡ Black)))) (none : found ≡ false) where
+  -- each object is white or gray
+  other-each : (o : Object) → Among o v.scripts → is_black_colour o.colour ≡ false
+  other-each o m = false-left (is_black_colour o.colour)
+      (λ e. true≢false (sym (black.1 (o, (subst (Among o) (sym same) m, black-exact o.colour e))) ∙ none))
+
+  -- and so it is by name
+  other-named : (o : HeapScript) → Among o v.heap.scripts → is_black_colour o.colour ≡ false
+  other-named o m = each-map (λ (q : HeapScript). is_black_colour q.colour ≡ false) (named_object v.scripts) v.scripts other-each o (subst (Among o) order.named m)
+
+  -- so no name is one of those that would be
+  pub untouched : (x : Name) → is_touched (view v.heap) x ≡ false
+  untouched x = by_kind (is_native x)
+    where
+      blacks : (view v.heap).black ≡ []
+      blacks = ap (map (λ (o : HeapScript). o.name)) (filter-nothing (λ (o : HeapScript). is_black_colour o.colour) v.heap.scripts other-named)
+
+      by_kind : (b : Bool) → elim b [ true ↦ has same_name (view v.heap).buffer x | false ↦ has same_name (view v.heap).black x ] ≡ false
+      by_kind true = buffer-empty v.heap.buffer x front
+      by_kind false = ap (λ ys. has same_name ys x) blacks
+
+-- and no node is touched
+pub untouched-none : (g : Shown) (h : Heap) → ((x : Name) → is_touched (view h) x ≡ false) → (i : ℕ) → Among i (touched g h) → ⊥
+untouched-none g h none i m =
+    let k = numbers-passing (λ j v. is_touched (view h) v.name) 0 g.nodes i m in
+    true≢false (sym k.passes ∙ none k.node.name)

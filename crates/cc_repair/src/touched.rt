@@ -1,6 +1,7 @@
 //! The nodes whose native stands in the buffer now, or whose script object is black now.
-ghost use Rattle.std.specs.Prelude.{◌≡◌, ◌<◌, ℕ, ◌↔◌, ◌⊎◌, IsTrue, Some, [], length, option_map, slice_get};
+ghost use Rattle.std.specs.Prelude.{◌≡◌, ◌<◌, ℕ, ◌↔◌, ◌⊎◌, IsTrue, false, Some, [], length, option_map, slice_get};
 ghost use Rattle.cc_lists.specs.Members.{Among, has};
+ghost use Rattle.cc_names.specs.declared.name.Name.{Name};
 ghost use Rattle.cc_names.specs.Names.{native, same_name};
 ghost use Rattle.cc_model.specs.Heap.{is_black_colour};
 ghost use Rattle.cc_model.specs.View.{view};
@@ -25,11 +26,25 @@ pub fn mark_touched(graph: &mut Graph, heaps: &Heaps)
     ensures marked { (i : ℕ) → IsTrue (shown.is_black graph.new i) ↔ (IsTrue (shown.is_black graph.old i) ⊎ Among i (touched graph.old heaps.now.heap)) }
     ensures rest { graph.new ≡ record graph.old { blacks = graph.new.blacks } }
 {
+    if is_untouched(heaps) {
+        return;
+    }
     for i in 0..graph.len() {
         if is_touched(graph, heaps, i) {
             graph.blacken(i);
         }
     }
+}
+
+/// Whether there is nothing that would make a node black: no native in the buffer and no black script object.
+fn is_untouched(heaps: &Heaps) -> bool
+    requires order { IsInOrder [] heaps.now }
+    ensures { IsTrue result → (x : Name) → is_touched (view heaps.now.heap) x ≡ false }
+{
+    if heaps.counted().first_in_buffer().is_some() {
+        return false;
+    }
+    !heaps.scripts().has_colour(Colour::Black)
 }
 
 /// Whether the native of a node stands in the buffer, or its script object is black.
