@@ -1,9 +1,9 @@
 -- Blocks that are read, written, filled and added.
-use Rattle.std.proofs.Common.{◌≡◌, ℕ, ◌+◌, ◌-◌, ◌*◌, ◌<◌, ◌≤◌, zero, suc, List, [], ◌∷◌, ◌++◌, length, get_or, set, take, refl, sym, ◌∙◌, ap, subst, arith, length-append, add-one, inl, inr, ⊎_elim}
-use Rattle.std.specs.Prelude.{min, Vec, vec_capacity}
-use Rattle.std.proofs.Math.Nat.{mul-suc, suc-mul}
+use Rattle.std.proofs.Common.{◌≡◌, ℕ, ◌+◌, ◌-◌, ◌*◌, ◌<◌, ◌≤◌, zero, suc, List, [], ◌∷◌, ◌++◌, length, get_or, set, refl, sym, ◌∙◌, ap, subst, arith, length-append}
+use Rattle.std.specs.Prelude.{Vec, vec_capacity}
+use Rattle.std.proofs.Math.Nat.{mul-suc}
 use Rattle.std.proofs.lemmas.List.{get_or_append_left, get_or-append_right, set-append_left, set-append_right, append-nil, append_assoc}
-use Rattle.cc_pool.specs.Blocks.{joined, IsBlock, AreBlocks}
+use Rattle.cc_pool.specs.Blocks.{joined, AreBlocks}
 
 -- Where a value stands
 

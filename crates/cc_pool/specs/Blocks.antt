@@ -1,5 +1,5 @@
 -- THE BLOCKS OF A POOL: all of one size, and filled one after another.
-use Rattle.std.specs.Prelude.{◌≡◌, ℕ, ◌+◌, ◌-◌, ◌*◌, ◌<◌, ◌≤◌, ◌^◌, List, [], ◌∷◌, ◌++◌, length, take, min, Vec, vec_capacity}
+use Rattle.std.specs.Prelude.{◌≡◌, ℕ, ◌+◌, ◌-◌, ◌*◌, ◌<◌, ◌≤◌, ◌^◌, List, [], ◌∷◌, ◌++◌, length, get_or, take, min, Vec, vec_capacity}
 use Rattle.std.specs.List.{flat_map}
 
 -- the values in the blocks, one block after another
@@ -34,3 +34,13 @@ pub record HasMore {X Z : Type 0} (size count : ℕ) (old new : List (Vec X Z)) 
   pub longer : length new ≡ length old + count
   pub values : joined new ≡ joined old
   pub room : (n c : ℕ) → AreBlocks size n c old → AreBlocks size n (c + size * count) new
+
+-- the same blocks, in the first of which, so many, nothing stands any more
+pub record AreEmptiedTo {X Z : Type 0} (count : ℕ) (old new : List (Vec X Z)) : Type 0 where
+  pub as_many : length new ≡ length old
+  pub empty : (k : ℕ) (d : Vec X Z) → k < count → k < length old → (get_or new k d).items ≡ []
+  pub room : (k : ℕ) (d : Vec X Z) → k < length old → vec_capacity (get_or new k d) ≡ vec_capacity (get_or old k d)
+
+-- in none of which anything stands
+abbrev pub AreEmptied : {X Z : Type 0} → List (Vec X Z) → List (Vec X Z) → Type 0
+AreEmptied old new = AreEmptiedTo (length old) old new

@@ -1,7 +1,7 @@
 //! The pool: values by place, in blocks.
 
 ghost use Rattle.std.specs.Prelude.{◌≡◌, ◌+◌, ◌<◌, ◌≤◌, ◌^◌, ◌==◌, ◌++◌, [], ◌∷◌, length, slice_index_or, slice_set, IsOk, OnErr, OnOk};
-ghost use Rattle.cc_pool.specs.Blocks.{HasMore, HasOneMore};
+ghost use Rattle.cc_pool.specs.Blocks.{AreEmptied, HasMore, HasOneMore};
 
 use cc_names::NoMemory;
 use std::alloc::Global;
@@ -95,6 +95,20 @@ impl<T: Drop, const N: usize> Pool<T, N> {
         self.len += 1;
     }
 
+    /// No value any more. The blocks in which values stood stay, empty, so that there is room for as many; the others are
+    /// given back.
+    pub fn clear(&mut self)
+        ensures items { self.new.items ≡ [] }
+        ensures room { length self.old.items ≤ self.new.capacity }
+        ensures given_back { self.new.capacity < length self.old.items + N }
+    {
+        let used = self.len.div_ceil(N);
+        self.blocks.truncate(used);
+        empty::<T>(&mut self.blocks);
+        self.capacity = N * used;
+        self.len = 0;
+    }
+
     /// The value at a place.
     pub fn at(&self, i: usize) -> &T
         requires { i < length self.now.items }
@@ -139,4 +153,13 @@ fn add_block<T, const N: usize>(blocks: &mut Vec<Vec<T>>) -> Result<(), NoMemory
     let block = Vec::with_capacity(*blocks.allocator(), N)?;
     blocks.push_reserved(block);
     Ok(())
+}
+
+// The blocks, in which nothing stands any more.
+fn empty<T: Drop>(blocks: &mut Vec<Vec<T>>)
+    ensures { AreEmptied blocks.old.items blocks.new.items }
+{
+    for i in 0..blocks.len() {
+        blocks[i].clear();
+    }
 }

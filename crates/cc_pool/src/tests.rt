@@ -63,3 +63,22 @@ fn several_blocks_are_reserved_at_once(rt: HostRuntime) -> Result<(), Fail> {
     assert_eq!(rt; pool.len(), 9);
     Ok(())
 }
+
+#[test]
+fn cleared_pool_takes_other_values(rt: HostRuntime) -> Result<(), Fail> {
+    for count in [0u32, 1, 4, 9, 40] {
+        let mut pool = squares(rt.alloc(), count)?;
+        pool.clear();
+        assert!(rt; pool.is_empty());
+        assert_eq!(rt; value(&pool, 0), None);
+        for i in 0..11 {
+            pool.reserve(1)?;
+            pool.push(100 + i);
+        }
+        for i in 0..11 {
+            assert_eq!(rt; value(&pool, i as usize), Some(100 + i));
+        }
+        assert_eq!(rt; value(&pool, 11), None);
+    }
+    Ok(())
+}

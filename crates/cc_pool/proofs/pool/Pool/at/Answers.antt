@@ -1,4 +1,4 @@
-use Rattle.std.proofs.Common.{◌<◌, ◌≤◌, arith}
+use Rattle.std.proofs.Common.{◌≤◌, arith}
 use Rattle.cc_pool.proofs.Filling.{blocks-fit}
 use Rattle.cc_pool.proofs.Places.{counted, block-there, place-there, read}
 use Rattle.cc_pool.proofs.pool.Pool.at.Goals as goal

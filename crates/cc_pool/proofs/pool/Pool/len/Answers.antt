@@ -1,4 +1,4 @@
-use Rattle.std.proofs.Common.{◌≡◌, ◌≤◌, ◌<◌, ◌^◌, ap, subst, arith}
+use Rattle.std.proofs.Common.{◌≤◌, ◌<◌, ◌^◌, subst}
 use Rattle.cc_pool.proofs.Filling.{blocks-fit}
 use Rattle.cc_pool.proofs.Places.{counted}
 use Rattle.cc_pool.proofs.pool.Pool.len.Goals as goal

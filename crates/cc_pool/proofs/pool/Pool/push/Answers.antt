@@ -1,4 +1,4 @@
-use Rattle.std.proofs.Common.{◌≡◌, ◌<◌, ◌+◌, ◌^◌, ap, subst, sym, arith, rules}
+use Rattle.std.proofs.Common.{◌<◌, ◌+◌, ◌^◌, ap, arith, rules}
 use Rattle.cc_pool.proofs.Places.{counted, block-there, block-open, pooled-pushed, shown-pushed}
 use Rattle.cc_pool.proofs.pool.Pool.push.Goals as goal
 

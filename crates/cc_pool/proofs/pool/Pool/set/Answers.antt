@@ -1,4 +1,4 @@
-use Rattle.std.proofs.Common.{◌<◌, ◌≤◌, arith, refl}
+use Rattle.std.proofs.Common.{◌≤◌, arith, refl}
 use Rattle.cc_pool.proofs.Filling.{blocks-fit}
 use Rattle.cc_pool.proofs.Places.{counted, block-there, place-there, pooled-written, shown-written}
 use Rattle.cc_pool.proofs.pool.Pool.set.Goals as goal

@@ -1,0 +1,5 @@
+use Rattle.cc_pool.specs.Blocks.{AreEmptiedTo}
+use Rattle.cc_pool.proofs.pool.empty.Given as goal
+
+abbrev pub invariant-loop-i : goal.invariant-loop-i
+invariant-loop-i g l = AreEmptiedTo l.i l.fn.blocks.items l.blocks.items
