@@ -1,16 +1,14 @@
 -- Nodes by their names: a node that is added last, and the map of names.
-use Rattle.std.proofs.Common.{◌≡◌, ℕ, ◌+◌, ◌==◌, suc, Bool, true, false, cond, List, [], ◌∷◌, ◌++◌, length, refl, sym, ◌∙◌, ap, arith, Some, None}
+use Rattle.std.proofs.Common.{◌≡◌, ℕ, ◌+◌, suc, Bool, true, false, cond, List, [], ◌∷◌, ◌++◌, length, refl, sym, ◌∙◌, ap, arith, Some, None}
 use Rattle.std.specs.Prelude.{Option}
 use Rattle.std.specs.Map.{lookup}
 use Rattle.std.specs.BTreeMap.{BTreeMap, Updates}
 use Rattle.std.specs.Ordering.{is_eq}
 use Rattle.std.specs.Cmp.{unsigned_ties}
 use Rattle.cc_names.specs.declared.name.Name.{Name}
+use Rattle.cc_names.specs.declared.name.Name.TheVariants.{Native, Script, Reflector}
 use Rattle.cc_names.specs.Names.{same_name}
-use Rattle.cc_names.specs.declared.number.NativeNo.{NativeNo}
-use Rattle.cc_names.specs.declared.number.ScriptNo.{ScriptNo}
-use Rattle.cc_names.specs.contracts.number.NativeNoOrd.TheImpl as native_ord
-use Rattle.cc_names.specs.contracts.number.ScriptNoOrd.TheImpl as script_ord
+use Rattle.cc_names.specs.contracts.name.NameOrd.TheImpl as name_ord
 use Rattle.cc_graph.specs.Shown.{Vertex, number_from}
 
 number-here : (i : ℕ) (v : Vertex) (vs : List Vertex) (x : Name) → same_name v.name x ≡ true → number_from i (v ∷ vs) x ≡ Some i
@@ -42,33 +40,34 @@ number-pushed i (w ∷ ws) v x = go (number-pushed (suc i) ws v x) (same_name w.
         ∙ (ap (λ o. or_last o (same_name v.name x) (suc i + length ws)) (sym (number-later i w ws x e))
         ∙ ap (or_last (number_from i (w ∷ ws) x) (same_name v.name x)) (omega arith)))
 
--- The maps of numbers
+-- The map of numbers
 
--- numbers are in order as equals where they are the same
-pub native-order : (i j : NativeNo) → is_eq ((native_ord.ghosts).cmp i j) ≡ (i.0 == j.0)
-native-order i j = sym (unsigned_ties i.0 j.0)
-
-pub script-order : (i j : ScriptNo) → is_eq ((script_ord.ghosts).cmp i j) ≡ (i.0 == j.0)
-script-order i j = sym (unsigned_ties i.0 j.0)
+-- names are in order as equals where they are the same
+pub same-order : (x y : Name) → is_eq ((name_ord.ghosts).cmp x y) ≡ same_name x y
+same-order (Native i) (Native j) = sym (unsigned_ties i.0 j.0)
+same-order (Script i) (Script j) = sym (unsigned_ties i.0 j.0)
+same-order (Reflector i) (Reflector j) = sym (unsigned_ties i.0 j.0)
+same-order (Native i) (Script j) = refl
+same-order (Native i) (Reflector j) = refl
+same-order (Script i) (Native j) = refl
+same-order (Script i) (Reflector j) = refl
+same-order (Reflector i) (Native j) = refl
+same-order (Reflector i) (Script j) = refl
 
 -- tests that say the same find the same
-pub lookup-alike : {K X : Type 0} (p q : K → Bool) (es : List (K × X)) → ((k : K) → p k ≡ q k) → lookup p es ≡ lookup q es
+lookup-alike : {K X : Type 0} (p q : K → Bool) (es : List (K × X)) → ((k : K) → p k ≡ q k) → lookup p es ≡ lookup q es
 lookup-alike p q [] h = refl
 lookup-alike p q (e ∷ es) h = rw (h e.0, lookup-alike p q es h) refl
 
--- what a map of numbers says after a number is taken out, by the numbers
-pub natives-without : (ms ns : BTreeMap NativeNo ℕ) (k : NativeNo) → Updates (native_ord.ghosts).cmp ms ns k None → (j : NativeNo) →
-    lookup (λ i. j.0 == i.0) ns.entries ≡ cond (k.0 == j.0) None (lookup (λ i. j.0 == i.0) ms.entries)
-natives-without ms ns k u j =
-    sym (lookup-alike (λ i. is_eq ((native_ord.ghosts).cmp j i)) (λ i. j.0 == i.0) ns.entries (native-order j))
-    ∙ (u.0 j
-    ∙ (ap (λ b. cond b None (lookup (λ i. is_eq ((native_ord.ghosts).cmp j i)) ms.entries)) (native-order k j)
-    ∙ ap (cond (k.0 == j.0) None) (lookup-alike (λ i. is_eq ((native_ord.ghosts).cmp j i)) (λ i. j.0 == i.0) ms.entries (native-order j))))
+-- what the map says of a name, by the order and by the names
+pub number-by-order : (ns : BTreeMap Name ℕ) (x : Name) → lookup (λ y. is_eq ((name_ord.ghosts).cmp x y)) ns.entries ≡ lookup (λ y. same_name x y) ns.entries
+number-by-order ns x = lookup-alike (λ y. is_eq ((name_ord.ghosts).cmp x y)) (λ y. same_name x y) ns.entries (same-order x)
 
-pub scripts-without : (ms ns : BTreeMap ScriptNo ℕ) (k : ScriptNo) → Updates (script_ord.ghosts).cmp ms ns k None → (j : ScriptNo) →
-    lookup (λ i. j.0 == i.0) ns.entries ≡ cond (k.0 == j.0) None (lookup (λ i. j.0 == i.0) ms.entries)
-scripts-without ms ns k u j =
-    sym (lookup-alike (λ i. is_eq ((script_ord.ghosts).cmp j i)) (λ i. j.0 == i.0) ns.entries (script-order j))
-    ∙ (u.0 j
-    ∙ (ap (λ b. cond b None (lookup (λ i. is_eq ((script_ord.ghosts).cmp j i)) ms.entries)) (script-order k j)
-    ∙ ap (cond (k.0 == j.0) None) (lookup-alike (λ i. is_eq ((script_ord.ghosts).cmp j i)) (λ i. j.0 == i.0) ms.entries (script-order j))))
+-- what it says after one name's number is another, or none any more
+pub numbers-updated : (ms ns : BTreeMap Name ℕ) (name : Name) (o : Option ℕ) → Updates (name_ord.ghosts).cmp ms ns name o → (x : Name) →
+    lookup (λ y. same_name x y) ns.entries ≡ cond (same_name name x) o (lookup (λ y. same_name x y) ms.entries)
+numbers-updated ms ns name o u x =
+    sym (number-by-order ns x)
+    ∙ (u.0 x
+    ∙ (ap (λ b. cond b o (lookup (λ y. is_eq ((name_ord.ghosts).cmp x y)) ms.entries)) (same-order name x)
+    ∙ ap (cond (same_name name x) o) (number-by-order ms x)))

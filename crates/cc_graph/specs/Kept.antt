@@ -3,7 +3,7 @@ use Rattle.std.specs.Prelude.{◌≡◌, ℕ, ◌+◌, ◌-◌, ◌<◌, ◌≤�
 use Rattle.std.specs.Map.{lookup}
 use Rattle.cc_lists.specs.Members.{Among, has}
 use Rattle.cc_names.specs.declared.name.Name.{Name}
-use Rattle.cc_names.specs.declared.name.Name.TheVariants.{Native, Script, Reflector}
+use Rattle.cc_names.specs.Names.{same_name}
 use Rattle.cc_counted.specs.declared.held.Held.{Held}
 use Rattle.cc_graph.specs.declared.chain.Chain.{Chain}
 use Rattle.cc_graph.specs.declared.mapping.Mapping.{Mapping}
@@ -96,11 +96,9 @@ with_node ks name held = elim (number_of (vertices ks) name) [ Some i ↦ ks | N
 
 -- the number that is kept for a name
 abbrev pub number_at : Numbers → Name → Option ℕ
-number_at ns (Native k) = lookup (λ j. k.0 == j.0) ns.natives.entries
-number_at ns (Script k) = lookup (λ j. k.0 == j.0) ns.scripts.entries
-number_at ns (Reflector k) = lookup (λ j. k.0 == j.0) ns.reflectors.entries
+number_at ns x = lookup (λ y. same_name x y) ns.numbers.entries
 
--- the maps have the numbers of all nodes and no other, each node knows whether it is black, and there is room for all to
+-- the map has the numbers of all nodes and no other, each node knows whether it is black, and there is room for all to
 -- become so
 pub record IsNumbered (nodes : List Node) (blacks : List ℕ) (room : ℕ) (numbers : Numbers) : Type 0 where
   pub few : length nodes < 2 ^ 32

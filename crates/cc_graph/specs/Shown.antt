@@ -1,5 +1,5 @@
 -- THE GRAPH OF A COLLECTION AS LISTS: nodes by number, noted references, noted mappings, and which nodes are black.
-use Rattle.std.specs.Prelude.{ℕ, suc, ◌+◌, ◌==◌, Bool, true, false, ◌&&◌, ◌||◌, List, [], ◌∷◌, ◌++◌, drop, count_by, position, slice_get, slice_set, Option, Some, None, is_none, option_map}
+use Rattle.std.specs.Prelude.{◌≡◌, ℕ, suc, ◌+◌, ◌==◌, Bool, true, false, ◌&&◌, ◌||◌, List, [], ◌∷◌, ◌++◌, drop, count_by, position, slice_get, slice_set, Option, Some, None, is_none, option_map}
 use Rattle.cc_lists.specs.Members.{has, with_last}
 use Rattle.cc_names.specs.declared.name.Name.{Name}
 use Rattle.cc_names.specs.Names.{same_name}
@@ -37,6 +37,13 @@ pub record Shown : Type 0 where
   pub hyperedges : List Hyperedge
   pub blacks : List ℕ
   pub spare : ℕ
+
+-- that there is nothing in it
+pub record IsEmpty (g : Shown) : Type 0 where
+  pub nodes : g.nodes ≡ []
+  pub edges : g.edges ≡ []
+  pub hyperedges : g.hyperedges ≡ []
+  pub blacks : g.blacks ≡ []
 
 -- the number of the first node of a name, counted on from a number
 abbrev pub number_from : ℕ → List Vertex → Name → Option ℕ

@@ -1,7 +1,7 @@
 //! The graph: nodes by number, noted references, noted mappings, and the list of black nodes.
 
-ghost use Rattle.std.specs.Prelude.{◌≡◌, ℕ, ◌↔◌, ◌+◌, ◌-◌, ◌<◌, ◌≤◌, ◌^◌, ◌==◌, ◌++◌, [], ◌∷◌, length, slice_get, option_map, true, IfOk, IfSome, IsOk, IsSome, IsTrue, false, OnErr, OnOk, Some, vec_capacity};
-ghost use Rattle.cc_graph.specs.Shown.{change_vertex, edges_to, is_black, is_with, hyperedge, number_of, place_from, place_with, with_black, with_sample, with_vertex};
+ghost use Rattle.std.specs.Prelude.{◌≡◌, ℕ, ◌↔◌, ◌+◌, ◌-◌, ◌<◌, ◌≤◌, ◌^◌, ◌==◌, ◌++◌, [], ◌∷◌, length, min, slice_get, option_map, true, IfOk, IfSome, IsOk, IsSome, IsTrue, false, OnErr, OnOk, Some, vec_capacity};
+ghost use Rattle.cc_graph.specs.Shown.{IsEmpty, change_vertex, edges_to, is_black, is_with, hyperedge, number_of, place_from, place_with, with_black, with_sample, with_vertex};
 ghost use Rattle.cc_graph.specs.Closed.{IsClosed};
 ghost use Rattle.cc_graph.specs.Kept.{AreMappings, but_mappings, chain_of, first_member, hyperedges, is_one, last_of, loose_with, nodes_with, with_link, with_next, with_next_with};
 
@@ -58,6 +58,19 @@ impl Graph {
             mappings: Pool::new(alloc),
             loose: Chain::new(),
         }
+    }
+
+    /// No node, no reference and no mapping any more. The room that they took stays, for the next ones; what there was
+    /// room for beside them is given back.
+    pub fn clear(&mut self)
+        ensures empty { IsEmpty self.new }
+        ensures room { min (length self.old.edges) 4294967295 ≤ self.new.spare }
+        ensures given_back { self.new.spare < length self.old.edges + 512 }
+    {
+        self.nodes.clear();
+        self.references.clear();
+        self.mappings.clear();
+        self.loose = Chain::new();
     }
 
     /// The number of the node of `name`, which is made where there is none: it goes last, and its number is how many

@@ -46,6 +46,18 @@ impl Nodes {
         }
     }
 
+    /// No node any more. There is room for as many as there were.
+    pub(crate) fn clear(&mut self)
+        ensures nodes { self.new.nodes ≡ [] }
+        ensures blacks { self.new.blacks ≡ [] }
+        ensures node_room { length self.old.nodes ≤ self.new.node_room }
+        ensures black_room { length self.old.blacks ≤ self.new.black_room }
+    {
+        self.nodes.clear();
+        self.blacks.clear();
+        self.numbers.clear();
+    }
+
     /// The number of the node of a name, which goes last where there is none: its number is then how many there were.
     ///
     /// `NoMemory`, only where there is none, leaves the nodes as they were.

@@ -2,22 +2,18 @@
 
 ghost use Rattle.std.specs.Prelude.{◌≡◌, Some, None, if◌then◌else◌, unwrap_or, IfOk, OnErr};
 ghost use Rattle.std.specs.BTreeMap.{get, Updates};
-ghost use Rattle.std.specs.Ordering.{is_eq};
-ghost use Rattle.std.specs.Map.{lookup};
 ghost use Rattle.cc_names.specs.declared.name.Name.{Name};
 ghost use Rattle.cc_names.specs.Names.{same_name};
 ghost use Rattle.cc_graph.specs.Kept.{number_at};
 
-use cc_names::{Name, NativeNo, NoMemory, ScriptNo};
+use cc_names::{Name, NoMemory};
 use std::alloc::Global;
 use std::collections::BTreeMap;
 
-/// The number of each node by its name. Each kind of object has a map of its own, so that numbers alone are compared.
+/// The number of each node by its name.
 #[derive(Drop)]
 pub(crate) struct Numbers {
-    natives: BTreeMap<NativeNo, u32>,
-    scripts: BTreeMap<ScriptNo, u32>,
-    reflectors: BTreeMap<NativeNo, u32>,
+    numbers: BTreeMap<Name, u32>,
 }
 
 impl Numbers {
@@ -26,21 +22,23 @@ impl Numbers {
         ensures { (x : Name) → number_at result x ≡ None }
     {
         Numbers {
-            natives: BTreeMap::new(alloc),
-            scripts: BTreeMap::new(alloc),
-            reflectors: BTreeMap::new(alloc),
+            numbers: BTreeMap::new(alloc),
         }
+    }
+
+    /// No name has a number from now on.
+    pub(crate) fn clear(&mut self)
+        ensures { (x : Name) → number_at self.new x ≡ None }
+    {
+        self.numbers.clear();
     }
 
     /// The number of a name; none where it has none.
     pub(crate) fn get(&self, name: &Name) -> Option<u32>
         ensures { result ≡ number_at self.now name.now }
     {
-        match name {
-            Name::Native(k) => number_in(&self.natives, k),
-            Name::Script(k) => number_in(&self.scripts, k),
-            Name::Reflector(k) => number_in(&self.reflectors, k),
-        }
+        let number = self.numbers.get(name)?;
+        Some(*number)
     }
 
     /// The number of a name, which is `number` from now on where it had none.
@@ -52,31 +50,15 @@ impl Numbers {
         ensures err { OnErr result ((x : Name) → number_at self.new x ≡ number_at self.old x) }
         ensures absent { OnErr result (number_at self.old name ≡ None) }
     {
-        match name {
-            Name::Native(k) => number_or(&mut self.natives, k, number),
-            Name::Script(k) => number_or(&mut self.scripts, k, number),
-            Name::Reflector(k) => number_or(&mut self.reflectors, k, number),
-        }
+        number_or(&mut self.numbers, name, number)
     }
 
     /// A name has no number from now on.
     pub(crate) fn remove(&mut self, name: Name)
         ensures { (x : Name) → number_at self.new x ≡ (if same_name name x then None else number_at self.old x) }
     {
-        match name {
-            Name::Native(k) => remove_number(&mut self.natives, k),
-            Name::Script(k) => remove_number(&mut self.scripts, k),
-            Name::Reflector(k) => remove_number(&mut self.reflectors, k),
-        }
+        self.numbers.remove(&name);
     }
-}
-
-/// The number at a key; none where there is none.
-fn number_in<K: Ord>(numbers: &BTreeMap<K, u32>, key: &K) -> Option<u32>
-    ensures { result ≡ lookup (λ k. is_eq (K.cmp key.now k)) numbers.now.entries }
-{
-    let number = numbers.get(key)?;
-    Some(*number)
 }
 
 /// The number at a key, which is `number` from now on where there was none.
@@ -94,11 +76,4 @@ fn number_or<K: Ord + Drop>(
         return Err(NoMemory);
     };
     Ok(*entry.or_insert(number))
-}
-
-/// There is no number at a key from now on.
-fn remove_number<K: Ord + Drop>(numbers: &mut BTreeMap<K, u32>, key: K)
-    ensures { Updates K.cmp numbers.old numbers.new key None }
-{
-    numbers.remove(&key);
 }

@@ -3,6 +3,7 @@ ghost use Rattle.std.specs.Prelude.{◌<◌};
 
 use super::*;
 use cc_names::NoMemory;
+use std::process::Abort;
 
 /// What a graph holds, as lists that are walked for every answer.
 #[derive(Drop)]
@@ -146,6 +147,30 @@ fn step(graph: &mut Graph, plain: &mut Plain, pick: u32, word: u32) -> Result<bo
     Ok(true)
 }
 
+/// So many made operations on both, by a seed. They agree on each answer, and say the same of all at the borders of blocks
+/// and at the end.
+fn operate(
+    rt: &impl Abort,
+    graph: &mut Graph,
+    plain: &mut Plain,
+    seed: u32,
+    count: u32,
+) -> Result<(), Fail> {
+    let mut word = seed;
+    for _ in 0..count {
+        word = word.wrapping_mul(1664525).wrapping_add(1013904223);
+        let pick = word >> 16;
+        word = word.wrapping_mul(1664525).wrapping_add(1013904223);
+        let (nodes, edges) = (plain.nodes.len(), plain.edges.len());
+        assert!(rt; step(graph, plain, pick, word >> 8)?);
+        if is_border(nodes, plain.nodes.len(), 256) || is_border(edges, plain.edges.len(), 512) {
+            assert!(rt; same(graph, plain));
+        }
+    }
+    assert!(rt; same(graph, plain));
+    Ok(())
+}
+
 #[test]
 fn graph_is_as_plain_lists_over_made_operations(rt: HostRuntime) -> Result<(), Fail> {
     let mut graph = Graph::new(rt.alloc());
@@ -154,20 +179,16 @@ fn graph_is_as_plain_lists_over_made_operations(rt: HostRuntime) -> Result<(), F
         edges: Vec::new(rt.alloc()),
         blacks: Vec::new(rt.alloc()),
     };
-    let mut word = 7u32;
-    for _ in 0..10_000 {
-        word = word.wrapping_mul(1664525).wrapping_add(1013904223);
-        let pick = word >> 16;
-        word = word.wrapping_mul(1664525).wrapping_add(1013904223);
-        let (nodes, edges) = (plain.nodes.len(), plain.edges.len());
-        assert!(rt; step(&mut graph, &mut plain, pick, word >> 8)?);
-        if is_border(nodes, plain.nodes.len(), 256) || is_border(edges, plain.edges.len(), 512) {
-            assert!(rt; same(&graph, &plain));
-        }
-    }
-    assert!(rt; same(&graph, &plain));
+    operate(&rt, &mut graph, &mut plain, 7, 10_000)?;
     assert!(rt; plain.nodes.len() > 513);
     assert!(rt; plain.edges.len() > 1025);
+    graph.clear();
+    plain.nodes.clear();
+    plain.edges.clear();
+    plain.blacks.clear();
+    assert!(rt; same(&graph, &plain));
+    operate(&rt, &mut graph, &mut plain, 8, 2_000)?;
+    assert!(rt; plain.nodes.len() > 257);
     Ok(())
 }
 

@@ -131,6 +131,16 @@ fn mappings_are_known_by_map_and_key(rt: HostRuntime) -> Result<(), Fail> {
     }
     assert!(rt; same(&graph, &plain));
     assert_eq!(rt; plain.len(), 600);
+    graph.clear();
+    plain.clear();
+    assert_eq!(rt; graph.mapping(0), None);
+    assert_eq!(rt; graph.first_with(None), None);
+    objects(&mut graph, 5)?;
+    for count in 0..300 {
+        note(&mut graph, &mut plain, count * 7919)?;
+    }
+    assert!(rt; same(&graph, &plain));
+    assert_eq!(rt; plain.len(), 300);
     Ok(())
 }
 
