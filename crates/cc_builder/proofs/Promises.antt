@@ -1,5 +1,5 @@
 -- WHAT THE LAWS MAKE of a begin, of a step and of an abandonment.
-use Rattle.std.proofs.Common.{◌≡◌, ℕ, List, [], sym, subst}
+use Rattle.std.proofs.Common.{◌≡◌, ℕ, List, [], refl, sym, subst}
 use Rattle.cc_model.specs.Heap.{Buffered}
 use Rattle.cc_model.specs.View.{view}
 use Rattle.cc_model.specs.Colours.{HasColourInvariant}
@@ -12,25 +12,26 @@ use Rattle.cc_laws_snapshot.proofs.Beginning.{begun-fresh}
 use Rattle.cc_laws_snapshot.proofs.GivingBack.{begin-suspected, give_back-suspected, given_back, give_back-buffer}
 use Rattle.cc_laws_snapshot.proofs.NodeUnit.{after_node-fresh}
 use Rattle.cc_heaps.specs.Keyed.{Keyed, IsInOrder, changed_to}
-use Rattle.cc_heaps.specs.Changes.{KeepsKeys}
 use Rattle.cc_heaps.specs.Standing.{StillStands, KeepsColours}
 use Rattle.cc_heaps.proofs.KeysKept.{KeepsKeys-changed}
 use Rattle.cc_heaps.proofs.StandingStill.{buffer-goes_on}
+use Rattle.cc_heaps.proofs.FewCounts.{few-alone}
+use Rattle.cc_builder.specs.Beginning.{IsUnseen}
 use Rattle.cc_builder.specs.Building.{IsNodeUnit}
 
--- a change that no graph sees, and that leaves the colours and keys
-pub record IsUnseen (v w : Keyed) : Type 0 where
-  pub stands : StillStands v.heap w.heap
-  pub colours : KeepsColours v.heap w.heap
-  pub keys : KeepsKeys v w
-
--- another buffer is no more
-pub with_buffer-unseen : (v w : Keyed) (bs : List Buffered) → w ≡ changed_to v (record v.heap { buffer = bs }) → IsUnseen v w
-with_buffer-unseen v w bs e = record {
+-- another buffer is no more than that
+pub with_buffer-unseen : (v w : Keyed) (bs : List Buffered) → IsInOrder [] w → w ≡ changed_to v (record v.heap { buffer = bs }) → IsUnseen v w
+with_buffer-unseen v w bs order e = record {
+  order = order;
   stands = subst (λ (u : Keyed). StillStands v.heap u.heap) (sym e) (buffer-goes_on v.heap bs).stands;
   colours = subst (λ (u : Keyed). KeepsColours v.heap u.heap) (sym e) (buffer-goes_on v.heap bs).colours;
   keys = KeepsKeys-changed v w (record v.heap { buffer = bs }) e;
+  counts = few-alone w order;
 }
+
+-- and none at all
+pub same-unseen : (v : Keyed) → IsInOrder [] v → IsUnseen v v
+same-unseen v order = with_buffer-unseen v v v.heap.buffer order refl
 
 -- A BEGIN takes the suspects for candidates, and its snapshot is fresh.
 pub begun-fresh_in : (v w : Keyed) (s : Snapshot) → IsInOrder [] v → w ≡ changed_to v (with_empty_buffer v.heap) → s ≡ begun v.heap →
@@ -49,9 +50,9 @@ pub unit-fresh : (v : Keyed) (s t : Snapshot) → IsInOrder [] v → IsNodeUnit 
 unit-fresh v s t order unit fresh = subst (IsFreshIn v.heap) (sym unit.after) (after_node-fresh v.heap s unit.node order.sound fresh unit.first_one)
 
 -- AN ABANDONMENT changes the buffer alone, and hands the candidates back.
-pub abandoned-unseen : (v w : Keyed) (ks : List ℕ) → w ≡ changed_to v (give_back ks v.heap) → IsUnseen v w
-abandoned-unseen v w ks e =
-    with_buffer-unseen v w (given_back ks v.heap v.heap.buffer) (subst (λ h. w ≡ changed_to v h) (give_back-buffer ks v.heap v.heap.buffer) e)
+pub abandoned-unseen : (v w : Keyed) (ks : List ℕ) → IsInOrder [] w → w ≡ changed_to v (give_back ks v.heap) → IsUnseen v w
+abandoned-unseen v w ks order e =
+    with_buffer-unseen v w (given_back ks v.heap v.heap.buffer) order (subst (λ h. w ≡ changed_to v h) (give_back-buffer ks v.heap v.heap.buffer) e)
 
 pub abandoned-suspected : (v w : Keyed) (ks : List ℕ) → IsInOrder [] v → w ≡ changed_to v (give_back ks v.heap) →
     IsSuspected (view v.heap) ks → IsSuspected (view w.heap) []

@@ -10,12 +10,11 @@ ghost use Rattle.cc_model.specs.Suspected.{IsSuspected};
 ghost use Rattle.cc_model.specs.End.{may_be_refused};
 ghost use Rattle.cc_model.specs.End as end;
 ghost use Rattle.cc_laws_snapshot.specs.Kinds.{IsFreshIn};
-ghost use Rattle.cc_graph.specs.Shown.{number_of};
+ghost use Rattle.cc_graph.specs.Shown.{IsEmpty, number_of};
 ghost use Rattle.cc_heaps.specs.Keyed.{IsInOrder, number_at, the_number, changed_to};
 ghost use Rattle.cc_heaps.specs.Changes.{IsThere, KeepsKeys};
-ghost use Rattle.cc_heaps.specs.Few.{AreFew};
-ghost use Rattle.cc_heaps.specs.Standing.{StillStands, KeepsColours};
 ghost use Rattle.cc_counted.specs.Suspects.{is_purple_in};
+ghost use Rattle.cc_builder.specs.Beginning.{HasBegun, IsUnseen};
 ghost use Rattle.cc_builder.specs.Building.{IsBuilt, vertex_name, vertex_names, snapshot_of};
 ghost use Rattle.cc_graph.specs.Held.{AreHeld};
 ghost use Rattle.cc_heaps.specs.HasKey.{HasKey};
@@ -68,21 +67,24 @@ impl Build {
     /// `NoMemory`, only where a node is added, leaves the buffer's contents, order and marks as they were.
     pub fn begin(alloc: Global, heaps: &mut Heaps) -> Result<Build, NoMemory>
         requires order { IsInOrder [] heaps.old }
-        ensures snapshot { IfOk result (λ b. snapshot_of b ≡ begun heaps.old.heap) }
-        ensures built { IfOk result (λ b. IsBuilt b heaps.new) }
-        ensures held { IfOk result (λ b. AreHeld b.graph (HasKey heaps.new)) }
-        ensures heap { OnOk result (heaps.new ≡ changed_to heaps.old (with_empty_buffer heaps.old.heap)) }
-        ensures order { IsInOrder [] heaps.new }
-        ensures fresh { IfOk result (λ b. HasColourInvariant (view heaps.old.heap) → IsFreshIn heaps.new.heap (snapshot_of b)) }
-        ensures suspected { IfOk result (λ b. IsSuspected (view heaps.old.heap) [] → IsSuspected (view heaps.new.heap) (snapshot_of b).candidates) }
-        ensures stands { StillStands heaps.old.heap heaps.new.heap }
-        ensures colours { KeepsColours heaps.old.heap heaps.new.heap }
-        ensures keys { KeepsKeys heaps.old heaps.new }
-        ensures counts { AreFew heaps.new.heap }
+        ensures begun { IfOk result (λ b. HasBegun heaps.old heaps.new b) }
+        ensures unseen { IsUnseen heaps.old heaps.new }
         ensures unchanged { OnErr result (heaps.new ≡ heaps.old) }
         ensures refused { OnErr result (may_be_refused heaps.old.heap None ≡ true) }
     {
-        let mut build = Build::of_purple(alloc, heaps)?;
+        Build::begin_in(Graph::new(alloc), heaps)
+    }
+
+    /// Begins a collection as `begin` does, in the room that an empty graph has: memory is taken only for what goes beyond.
+    pub fn begin_in(graph: Graph, heaps: &mut Heaps) -> Result<Build, NoMemory>
+        requires empty { IsEmpty graph }
+        requires order { IsInOrder [] heaps.old }
+        ensures begun { IfOk result (λ b. HasBegun heaps.old heaps.new b) }
+        ensures unseen { IsUnseen heaps.old heaps.new }
+        ensures unchanged { OnErr result (heaps.new ≡ heaps.old) }
+        ensures refused { OnErr result (may_be_refused heaps.old.heap None ≡ true) }
+    {
+        let mut build = Build::of_purple(graph, heaps)?;
         build.add_holders(heaps)?;
         build.add_mappings(heaps)?;
         empty_buffer(heaps);
@@ -118,10 +120,11 @@ impl Build {
         Ok(())
     }
 
-    /// The purple natives of the buffer, in its order, as nodes: the candidates.
+    /// The purple natives of the buffer, in its order, as nodes of an empty graph: the candidates.
     ///
     /// `NoMemory` only where there is such a native.
-    fn of_purple(alloc: Global, heaps: &Heaps) -> Result<Build, NoMemory>
+    fn of_purple(graph: Graph, heaps: &Heaps) -> Result<Build, NoMemory>
+        requires empty { IsEmpty graph }
         requires order { IsInOrder [] heaps.now }
         ensures names { IfOk result (λ b. vertex_names b.graph.nodes ≡ with_all_last same_name [] (map native (candidates_of heaps.now.heap))) }
         ensures edges { IfOk result (λ b. b.graph.edges ≡ []) }
@@ -134,7 +137,7 @@ impl Build {
     {
         let counted = heaps.counted();
         let mut build = Build {
-            graph: Graph::new(alloc),
+            graph,
             candidates: 0,
             next: 0,
         };
@@ -154,12 +157,8 @@ impl Build {
         requires held { AreHeld self.graph (HasKey heaps.old) }
         requires order { IsInOrder [] heaps.old }
         ensures heap { heaps.new ≡ changed_to heaps.old (end.give_back (snapshot_of self).candidates heaps.old.heap) }
-        ensures order { IsInOrder [] heaps.new }
         ensures suspected { IsSuspected (view heaps.old.heap) (snapshot_of self).candidates → IsSuspected (view heaps.new.heap) [] }
-        ensures stands { StillStands heaps.old.heap heaps.new.heap }
-        ensures colours { KeepsColours heaps.old.heap heaps.new.heap }
-        ensures keys { KeepsKeys heaps.old heaps.new }
-        ensures counts { AreFew heaps.new.heap }
+        ensures unseen { IsUnseen heaps.old heaps.new }
     {
         let candidates = self.candidates;
         for i in 0..candidates {

@@ -45,6 +45,9 @@ pub enum Ended {
 
 /// A collector of cycles, with the collection that is running, if any.
 ///
+/// The room that the nodes, references and mappings of a collection took stays for the next one, and what that does not use is
+/// given back at its end. A collection that is abandoned, for want of memory, gives all of it back.
+///
 /// `slice`, `whole`, `gc` and `settle` promise of the heaps, also where memory was refused:
 ///
 /// - What the registers reach stays as it was (`keeps`): they hold what they held and reach the same objects, each of which
@@ -59,6 +62,8 @@ pub enum Ended {
 pub struct Collector {
     alloc: Global,
     running: Option<Build>,
+    // an empty graph that has the room of the last collection's
+    room: Option<Graph>,
 }
 
 impl Model for Collector {
@@ -68,6 +73,11 @@ impl Model for Collector {
     ghost Value = { Option Built };
 
     ghost view = { λ c. c.running };
+
+    ghost use Rattle.std.specs.Prelude.{IfSome};
+    ghost use Rattle.cc_graph.specs.Shown.{IsEmpty};
+
+    ghost invariant = { λ c. IfSome c.room IsEmpty };
 }
 
 impl Collector {
@@ -78,6 +88,7 @@ impl Collector {
         Collector {
             alloc,
             running: None,
+            room: None,
         }
     }
 
@@ -242,7 +253,11 @@ impl Collector {
         requires idle { self.old ≡ None }
         ensures { HasDoneUnit heaps.old None heaps.new self.new (progress_of result) (N.telling out.old) (N.telling out.new) }
     {
-        match Build::begin(self.alloc, heaps) {
+        let room = match self.room.take() {
+            Some(room) => room,
+            None => Graph::new(self.alloc),
+        };
+        match Build::begin_in(room, heaps) {
             Ok(build) => {
                 self.running = Some(build);
                 Ok(Ended::No)
@@ -276,7 +291,9 @@ impl Collector {
                 Ok(Ended::No)
             }
             Step::Complete => {
-                collect_white(blackened(build, heaps), heaps, out);
+                let mut graph = collect_white(blackened(build, heaps), heaps, out);
+                graph.clear();
+                self.room = Some(graph);
                 Ok(Ended::Yes)
             }
         }

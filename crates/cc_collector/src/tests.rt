@@ -151,6 +151,25 @@ fn two_cycle_is_unlinked_and_then_freed(rt: HostRuntime) -> Result<(), Fail> {
 }
 
 #[test]
+fn collections_follow_each_other(rt: HostRuntime) -> Result<(), Fail> {
+    let mut out = Notebook::new(rt.alloc());
+    let mut heaps = Heaps::new(rt.alloc(), Limits::new(8, 0, 0))?;
+    let mut collector = Collector::new(rt.alloc());
+    drop_two_cycle(&mut heaps, &collector, &mut out);
+    assert_eq!(rt; collector.whole(&mut heaps, &mut out), Ok(()));
+    assert_eq!(rt; collector.whole(&mut heaps, &mut out), Ok(()));
+    drop_two_cycle(&mut heaps, &collector, &mut out);
+    drop_two_cycle(&mut heaps, &collector, &mut out);
+    assert_eq!(rt; collector.whole(&mut heaps, &mut out), Ok(()));
+    assert_eq!(rt;
+        out.text(),
+        b"- unlink #1\n- unlink #2\n- free #1\n- free #2\n- unlink #3\n- unlink #4\n- unlink #5\n- unlink #6\n- free #3\n- free #4\n- free #5\n- free #6\n".as_slice()
+    );
+    assert_eq!(rt; heaps.counted().first(), None);
+    Ok(())
+}
+
+#[test]
 fn two_cycle_that_a_register_holds_is_kept(rt: HostRuntime) -> Result<(), Fail> {
     let mut out = Notebook::new(rt.alloc());
     let mut heaps = Heaps::new(rt.alloc(), Limits::new(2, 0, 0))?;

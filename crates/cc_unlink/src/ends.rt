@@ -120,7 +120,9 @@ fn unroot_whites<N: Notices>(graph: &Graph, heaps: &mut Heaps, out: &mut N)
 /// Where no register reaches any of them the heaps go on standing for the same graphs, and what is reached stays, with its
 /// slots and its flag. Script objects stay in any case, with their slots and colours. Where they are the white natives of a
 /// snapshot that is fresh and traversed, no native that nothing reaches is forgotten.
-pub fn collect_white<N: Notices>(graph: Graph, heaps: &mut Heaps, out: &mut N)
+///
+/// The graph comes back as it was, so that its room can be used again.
+pub fn collect_white<N: Notices>(graph: Graph, heaps: &mut Heaps, out: &mut N) -> Graph
     requires order { IsInOrder [] heaps.old }
     ensures heap { heaps.new ≡ left_with heaps.old (take_away (whites_of graph heaps.old.heap) heaps.old.heap).heap }
     ensures told { TellsEvents (N.telling out.old) (N.telling out.new) (take_away (whites_of graph heaps.old.heap) heaps.old.heap).events }
@@ -132,8 +134,10 @@ pub fn collect_white<N: Notices>(graph: Graph, heaps: &mut Heaps, out: &mut N)
     ensures colours { KeepsColours heaps.old.heap heaps.new.heap }
     ensures keys { KeepsKeys heaps.old heaps.new }
     ensures counts { AreFew heaps.new.heap }
+    ensures graph { result ≡ graph }
 {
     root_whites(&graph, heaps);
     unlink_whites(&graph, heaps, out);
     unroot_whites(&graph, heaps, out);
+    graph
 }

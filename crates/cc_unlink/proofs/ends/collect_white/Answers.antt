@@ -10,7 +10,7 @@ use Rattle.cc_unlink.proofs.ends.collect_white.Given as given
 use Rattle.cc_unlink.proofs.ends.collect_white.Goals as goal
 
 -- the three passes are the end that the definitions have
-ended : (g : given.Over) (c : goal.After-drop-graph-inside-7 g) → c.unroot_whites.new.heaps ≡ left_with c.args.heaps.now (take_away (whites_of c.args.graph c.args.heaps.now.heap) c.args.heaps.now.heap).heap
+ended : (g : given.Over) (c : goal.After-unroot_whites g) → c.unroot_whites.new.heaps ≡ left_with c.args.heaps.now (take_away (whites_of c.args.graph c.args.heaps.now.heap) c.args.heaps.now.heap).heap
 ended g c =
     let first = c.args.heaps.now in
     WhiteEnd-heap (whites_of c.args.graph first.heap) first c.root_whites.new.heaps c.unlink_whites.new.heaps c.unroot_whites.new.heaps

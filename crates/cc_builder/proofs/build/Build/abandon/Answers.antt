@@ -1,9 +1,8 @@
 use Rattle.std.proofs.Common.{◌≡◌, ◌<◌, ◌≤◌, sym, ◌∙◌, ap, subst, arith}
 use Rattle.cc_model.specs.End.{give_back}
 use Rattle.cc_heaps.specs.Keyed.{changed_to}
-use Rattle.cc_heaps.proofs.FewCounts.{few-alone}
 use Rattle.cc_builder.specs.Building.{Built, snapshot_of}
-use Rattle.cc_builder.proofs.Promises.{IsUnseen, abandoned-unseen, abandoned-suspected}
+use Rattle.cc_builder.proofs.Promises.{abandoned-unseen, abandoned-suspected}
 use Rattle.cc_builder.proofs.GivingBack.{left_to_give, left-given, left-none}
 use Rattle.cc_builder.proofs.build.Build.abandon.Goals as goal
 
@@ -20,26 +19,14 @@ loop-i-preserved c =
     }
 
 -- the candidates went back into the buffer
-given : (c : goal.After-drop-self-inside-7) → c.loop-i.heaps ≡ changed_to c.args.heaps.now (give_back (snapshot_of c.args.self).candidates c.args.heaps.now.heap)
+given : (c : goal.After-drop-self-inside-5) → c.loop-i.heaps ≡ changed_to c.args.heaps.now (give_back (snapshot_of c.args.self).candidates c.args.heaps.now.heap)
 given c =
     let b = c.args.self in
     let past : b.candidates ≤ c.loop-i.i = subst (λ (a : Built). a.candidates ≤ c.loop-i.i) c.self.view_is (omega (arith, c.loop-i-test.false)) in
     ap (λ ks. changed_to c.loop-i.heaps (give_back ks c.loop-i.heaps.heap)) (sym (left-none b c.loop-i.i past c.requires.built.first)) ∙ c.loop-i.invariant.left
 
-unseen : (c : goal.After-drop-self-inside-7) → IsUnseen c.args.heaps.now c.loop-i.heaps
-unseen c = abandoned-unseen c.args.heaps.now c.loop-i.heaps (snapshot_of c.args.self).candidates (given c)
-
 pub returns-clause-suspected : goal.returns-clause-suspected
 returns-clause-suspected c = abandoned-suspected c.args.heaps.now c.loop-i.heaps (snapshot_of c.args.self).candidates c.requires.order (given c)
 
-pub returns-clause-stands : goal.returns-clause-stands
-returns-clause-stands c = (unseen c).stands
-
-pub returns-clause-colours : goal.returns-clause-colours
-returns-clause-colours c = (unseen c).colours
-
-pub returns-clause-keys : goal.returns-clause-keys
-returns-clause-keys c = (unseen c).keys
-
-pub returns-clause-counts : goal.returns-clause-counts
-returns-clause-counts c = few-alone c.loop-i.heaps c.loop-i.invariant.order
+pub returns-clause-unseen : goal.returns-clause-unseen
+returns-clause-unseen c = abandoned-unseen c.args.heaps.now c.loop-i.heaps (snapshot_of c.args.self).candidates c.loop-i.invariant.order (given c)

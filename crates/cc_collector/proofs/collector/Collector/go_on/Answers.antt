@@ -1,4 +1,4 @@
-use Rattle.std.proofs.Common.{◌≡◌, ◌≢◌, Option, Some, Ok, sym, ap, subst, ⊎_elim}
+use Rattle.std.proofs.Common.{◌≡◌, ◌≢◌, Option, Some, Ok, sym, ◌∙◌, ap, subst, ⊎_elim}
 use Rattle.cc_model.specs.Snapshot.{white_natives}
 use Rattle.cc_model.specs.End.{at_end, refused}
 use Rattle.cc_builder.specs.declared.build.Step.{Step}
@@ -27,21 +27,21 @@ returns-in-Traversed g c =
 pub returns-in-Complete : goal.returns-in-Complete
 returns-in-Complete g c =
     let v = c.args.heaps.now in
-    let w = c.collect_white.new.heaps in
+    let w = c.collect_white-graph.new.heaps in
     let b = c.args.build in
     let t = g.N.Notices.telling c.args.out.now in
-    let t₁ = g.N.Notices.telling c.collect_white.new.out in
+    let t₁ = g.N.Notices.telling c.collect_white-graph.new.out in
     let r = c.requires.runs in
     let last = ap Ok c.in-Complete.is in
     let traversed = c.in-Ok.ensures.complete last in
     let whites : whites_of c.blackened.result v.heap ≡ white_natives v.heap (snapshot_of b) =
     subst (λ (d : Built). whites_of c.blackened.result v.heap ≡ white_natives v.heap (snapshot_of d)) (c.in-Ok.ensures.unchanged last) c.blackened.ensures in
-    subst (λ (d : Option Built). HasDoneUnit v (Some b) w d at_end t t₁) (sym c.requires.idle)
-    (end-done v b c.blackened.result r traversed whites w t t₁ c.collect_white.ensures.heap
-    (record { order = c.collect_white.ensures.order; colours = c.collect_white.ensures.colours r.colours; goes_on = tt })
-    (c.collect_white.ensures.stands (are-unreached v b c.blackened.result r traversed whites))
-    (c.collect_white.ensures.suspected (snapshot_of b) (are-white v b c.blackened.result r traversed whites))
-    c.collect_white.ensures.told)
+    subst (λ (d : Option Built). HasDoneUnit v (Some b) w d at_end t t₁) (sym (c.self.view_is ∙ c.requires.idle))
+    (end-done v b c.blackened.result r traversed whites w t t₁ c.collect_white-graph.ensures.heap
+    (record { order = c.collect_white-graph.ensures.order; colours = c.collect_white-graph.ensures.colours r.colours; goes_on = tt })
+    (c.collect_white-graph.ensures.stands (are-unreached v b c.blackened.result r traversed whites))
+    (c.collect_white-graph.ensures.suspected (snapshot_of b) (are-white v b c.blackened.result r traversed whites))
+    c.collect_white-graph.ensures.told)
 
 pub returns-in_default : goal.returns-in_default
 returns-in_default g c =
@@ -52,5 +52,5 @@ returns-in_default g c =
     let t₁ = g.N.Notices.telling c.tell.new.self in
     subst (λ (d : Option Built). HasDoneUnit v (Some b) w d refused t t₁) (sym c.requires.idle)
     (node-refused v w b (snapshot_of c.step.new.self).candidates t t₁ c.requires.runs c.in_default.ensures.refused c.in_default.ensures.candidates c.abandon.ensures.heap
-    (record { order = c.abandon.ensures.order; colours = c.abandon.ensures.colours c.requires.runs.colours; goes_on = tt })
-    c.abandon.ensures.stands c.abandon.ensures.suspected c.tell.ensures)
+    (record { order = c.abandon.ensures.unseen.order; colours = c.abandon.ensures.unseen.colours c.requires.runs.colours; goes_on = tt })
+    c.abandon.ensures.unseen.stands c.abandon.ensures.suspected c.tell.ensures)
