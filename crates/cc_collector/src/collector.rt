@@ -2,6 +2,7 @@
 ghost use Rattle.std.specs.Prelude.{◌≡◌, ◌≢◌, ◌<◌, ◌↔◌, ℕ, [], length, None, Some, Ok, IsTrue, OnErr, OnOk, true, is_some};
 ghost use Rattle.cc_lists.specs.Least.{Least};
 ghost use Rattle.cc_model.specs.Snapshot.{white_natives};
+ghost use Rattle.cc_model.specs.Units.{first_untraversed};
 ghost use Rattle.cc_model.specs.End.{at_end, refused};
 ghost use Rattle.cc_model.specs.Sweep.{collect_scripts as collected};
 ghost use Rattle.cc_laws_run.specs.Doomed.{IsSuspectedNow};
@@ -241,9 +242,27 @@ impl Collector {
         requires { RunsIn heaps.old self.old }
         ensures { HasDoneUnit heaps.old self.old heaps.new self.new (progress_of result) (N.telling out.old) (N.telling out.new) }
     {
-        match self.running.take() {
-            None => self.begin(heaps, out),
-            Some(build) => self.go_on(build, heaps, out),
+        let stepped = match &mut self.running {
+            None => return self.begin(heaps, out),
+            Some(build) => build.step(heaps),
+        };
+        let Ok(step) = stepped else {
+            let Some(build) = self.running.take() else {
+                unreachable!()
+            };
+            build.abandon(heaps);
+            out.tell(Item::Event(Event::Abandoned));
+            return Err(NoMemory);
+        };
+        match step {
+            Step::Traversed | Step::Gone => Ok(Ended::No),
+            Step::Complete => {
+                let Some(build) = self.running.take() else {
+                    unreachable!()
+                };
+                self.end(build, heaps, out);
+                Ok(Ended::Yes)
+            }
         }
     }
 
@@ -269,34 +288,17 @@ impl Collector {
         }
     }
 
-    /// One node of a collection, or its end.
-    fn go_on<N: Notices>(
-        &mut self,
-        mut build: Build,
-        heaps: &mut Heaps,
-        out: &mut N,
-    ) -> Result<Ended, NoMemory>
+    /// Ends a collection, all of whose nodes are traversed or gone. Its room stays.
+    fn end<N: Notices>(&mut self, build: Build, heaps: &mut Heaps, out: &mut N)
         requires runs { RunsIn heaps.old (Some build) }
         requires idle { self.old ≡ None }
-        ensures { HasDoneUnit heaps.old (Some build) heaps.new self.new (progress_of result) (N.telling out.old) (N.telling out.new) }
+        requires traversed { first_untraversed (snapshot_of build).nodes ≡ None }
+        requires behind { build.next ≡ length build.graph.nodes }
+        ensures { HasDoneUnit heaps.old (Some build) heaps.new self.new at_end (N.telling out.old) (N.telling out.new) }
     {
-        let Ok(step) = build.step(heaps) else {
-            build.abandon(heaps);
-            out.tell(Item::Event(Event::Abandoned));
-            return Err(NoMemory);
-        };
-        match step {
-            Step::Traversed | Step::Gone => {
-                self.running = Some(build);
-                Ok(Ended::No)
-            }
-            Step::Complete => {
-                let mut graph = collect_white(blackened(build, heaps), heaps, out);
-                graph.clear();
-                self.room = Some(graph);
-                Ok(Ended::Yes)
-            }
-        }
+        let mut graph = collect_white(blackened(build, heaps), heaps, out);
+        graph.clear();
+        self.room = Some(graph);
     }
 }
 
