@@ -1,0 +1,1 @@
+//! A snapshot while it is built.

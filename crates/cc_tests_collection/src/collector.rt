@@ -1,0 +1,1 @@
+//! Collections, whole and in slices.

@@ -1,0 +1,1 @@
+//! A document that is a host of the collector.

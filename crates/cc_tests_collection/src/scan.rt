@@ -1,0 +1,1 @@
+//! Black nodes spread.

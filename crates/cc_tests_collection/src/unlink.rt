@@ -1,0 +1,1 @@
+//! White natives are unlinked.

@@ -1,0 +1,1 @@
+//! Natives, their slots, counts and buffer.

@@ -1,0 +1,1 @@
+//! Both heaps together.

@@ -1,0 +1,1 @@
+//! Script objects, their slots and colours.

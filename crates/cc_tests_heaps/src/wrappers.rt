@@ -1,0 +1,1 @@
+//! Reflectors, made, unwrapped and preserved.
