@@ -2,11 +2,12 @@
 use Rattle.std.specs.Prelude.{ℕ, List, ◌++◌, take, Result, Ok, Err}
 use Rattle.cc_outside.specs.Counted.{raised}
 
--- the bytes written, in order; how many bytes fit in all; the writes that fail, counted from one;
--- how many writes there were, and how many of them failed
+-- the bytes written, in order; how many bytes fit in all; the most bytes of a write; the writes that fail, counted from
+-- one; how many writes there were, and how many of them failed
 pub record Writing : Type 0 where
   pub written : List ℕ
   pub room : ℕ
+  pub most : ℕ
   pub fails : List ℕ
   pub calls : ℕ
   pub faults : ℕ

@@ -1,6 +1,6 @@
 //! A sink in memory.
 
-ghost use Rattle.std.specs.Prelude.{◌≡◌, ◌+◌, ◌<◌, ◌↔◌, ◌⊎◌, [], length, Some, IfOk, IsErr, IsOk};
+ghost use Rattle.std.specs.Prelude.{◌≡◌, ◌+◌, ◌++◌, ◌<◌, ◌≤◌, ◌↔◌, ◌⊎◌, [], length, min, vec_capacity, vec_len, Some, IfOk, IsErr, IsOk};
 ghost use Rattle.std.specs.List.{Contains};
 ghost use Rattle.cc_outside.specs.Counted.{raised};
 ghost use Rattle.cc_outside.specs.Writing.{after_write};
@@ -11,39 +11,57 @@ use cc_names::NoMemory;
 use std::alloc::Global;
 use std::marker::Model;
 
-/// A sink in memory with the room that it is made with, which fails at chosen writes.
+/// A sink in memory with the room that it is made with, which takes a piece in parts and fails at chosen writes.
+///
+/// It holds as much memory as its room, no more, from the first to the last.
 #[derive(Drop)]
 pub struct BytesSink {
     bytes: Vec<u8>,
     room: usize,
+    most: usize,
     fails: Vec<u64>,
     calls: u64,
     faults: u64,
 }
 
 impl Model for BytesSink {
-    ghost use Rattle.std.specs.Prelude.{◌≤◌, length, vec_capacity};
+    ghost use Rattle.std.specs.Prelude.{◌≡◌, ◌≤◌, length, vec_capacity};
     ghost use Rattle.cc_outside.specs.Writing.{Writing};
 
     ghost Value = { Writing };
 
-    ghost view = { λ s. record { written = s.bytes.items; room = s.room; fails = s.fails.items; calls = s.calls; faults = s.faults } };
+    ghost view = { λ s. record { written = s.bytes.items; room = s.room; most = s.most; fails = s.fails.items; calls = s.calls; faults = s.faults } };
 
-    ghost invariant = { λ s. (length s.bytes.items ≤ s.room) × (s.room ≤ vec_capacity s.bytes) };
+    ghost invariant = { λ s. (length s.bytes.items ≤ s.room) × (s.room ≡ vec_capacity s.bytes) × (1 ≤ s.most) };
 }
 
 impl BytesSink {
-    /// An empty sink with room for `room` bytes in all, taken at once. The writes whose numbers, counted from 1, are in
-    /// `fails` fail. The order in `fails` does not matter.
+    /// An empty sink with room for `room` bytes in all, taken at once, which takes each piece whole. The writes whose
+    /// numbers, counted from 1, are in `fails` fail. The order in `fails` does not matter.
     ///
     /// `NoMemory` where the room is not to be had.
     pub fn new(alloc: Global, room: usize, fails: Vec<u64>) -> Result<BytesSink, NoMemory>
-        ensures made { IfOk result (λ s. s ≡ record { written = []; room = room; fails = fails.items; calls = 0; faults = 0 }) }
+        ensures made { IfOk result (λ s. s ≡ record { written = []; room = room; most = usize.MAX; fails = fails.items; calls = 0; faults = 0 }) }
+        ensures nothing_taken { room ≡ 0 → IsOk result }
+    {
+        BytesSink::with_most(alloc, room, fails, usize::MAX)
+    }
+
+    /// The same, but a write takes at most `most` bytes of its piece, at least 1.
+    pub fn with_most(
+        alloc: Global,
+        room: usize,
+        fails: Vec<u64>,
+        most: usize,
+    ) -> Result<BytesSink, NoMemory>
+        requires { 1 ≤ most }
+        ensures made { IfOk result (λ s. s ≡ record { written = []; room = room; most = most; fails = fails.items; calls = 0; faults = 0 }) }
         ensures nothing_taken { room ≡ 0 → IsOk result }
     {
         Ok(BytesSink {
             bytes: Vec::with_capacity(alloc, room)?,
             room,
+            most,
             fails,
             calls: 0,
             faults: 0,
@@ -70,21 +88,32 @@ impl Sink for BytesSink {
 
     ghost faults = { λ s. s.faults };
 
-    /// Fails where this write's number is in the list or the piece does not fit, and else takes the piece whole.
+    /// Fails where this write's number is in the list or what it would take does not fit, and else takes as much of the
+    /// piece as is allowed.
     fn write(&mut self, bytes: &[u8]) -> Result<usize, Failed>
         ensures fails { IsErr result ↔
-            (Contains self.old.fails (raised self.old.calls 1) ⊎ (self.old.room < length self.old.written + length bytes.now)) }
-        ensures whole { IfOk result (λ m. m ≡ length bytes.now) }
+            (Contains self.old.fails (raised self.old.calls 1) ⊎ (self.old.room < length self.old.written + min (length bytes.now) self.old.most)) }
+        ensures count { IfOk result (λ m. m ≡ min (length bytes.now) self.old.most) }
+        ensures more { IfOk result (λ m. 0 < length bytes.now → 0 < m) }
         ensures after { self.new ≡ after_write self.old bytes.now result }
     {
         self.calls = self.calls.saturating_add(1);
-        let fits = bytes.len() <= self.room - self.bytes.len();
-        if self.fails.contains(&self.calls)
-            || !fits
-            || self.bytes.extend_from_slice(bytes).is_err()
-        {
+        let count = bytes.len().min(self.most);
+        if self.fails.contains(&self.calls) || self.room - self.bytes.len() < count {
             return Err(Failed::counted(&mut self.faults));
         }
-        Ok(bytes.len())
+        append_in_place(&mut self.bytes, &bytes[..count]);
+        Ok(count)
+    }
+}
+
+/// Writes the part behind the bytes, into memory that is there.
+fn append_in_place(bytes: &mut Vec<u8>, part: &[u8])
+    requires { vec_len bytes.old + length part.now ≤ vec_capacity bytes.old }
+    ensures items { bytes.new.items ≡ bytes.old.items ++ part.now }
+    ensures capacity { vec_capacity bytes.new ≡ vec_capacity bytes.old }
+{
+    for byte in part {
+        bytes.push_reserved(*byte);
     }
 }

@@ -151,22 +151,22 @@ pub held_cycle_is_kept-audited : passes_audit default_limits ample input.held_cy
 unfolding all_of_a_run
 held_cycle_is_kept-audited = refl
 
--- White natives are taken by rising number, also where the collection came to the later one first.
-pub whites_are_taken_by_rising_number : plain_text version_one_forms default_limits ample input.whites_are_taken_by_rising_number
-    ≡ codes "= #1\n= #2\n= ok\n= ok\n= ok\n= ok\n= ok\n- unlink #1\n- unlink #2\n- free #1\n- free #2\n= ok\n"
+-- Natives that hold each other in a ring are looked at and kept, where a register holds the last of them.
+pub held_ring_of_three_is_kept : plain_text version_one_forms default_limits ample input.held_ring_of_three_is_kept
+    ≡ codes "= #1\n= #1\n= #2\n= ok\n= #2\n= #3\n= ok\n= #3\n= ok\n= ok\n= ok\n= ok\n+ #1\n+ #2\n+ #3\n= census 3\n"
 unfolding all_of_a_run
-whites_are_taken_by_rising_number = refl
+held_ring_of_three_is_kept = refl
 
-whites_are_taken_by_rising_number-passes : passes_verdict default_limits ample input.whites_are_taken_by_rising_number ≡ true
+held_ring_of_three_is_kept-passes : passes_verdict default_limits ample input.held_ring_of_three_is_kept ≡ true
 unfolding all_of_a_run
-whites_are_taken_by_rising_number-passes = refl
+held_ring_of_three_is_kept-passes = refl
 
-pub whites_are_taken_by_rising_number-lawful : IsLawfulRun default_limits ample input.whites_are_taken_by_rising_number
-whites_are_taken_by_rising_number-lawful = run-lawful default_limits ample input.whites_are_taken_by_rising_number whites_are_taken_by_rising_number-passes
+pub held_ring_of_three_is_kept-lawful : IsLawfulRun default_limits ample input.held_ring_of_three_is_kept
+held_ring_of_three_is_kept-lawful = run-lawful default_limits ample input.held_ring_of_three_is_kept held_ring_of_three_is_kept-passes
 
-pub whites_are_taken_by_rising_number-quiet : IsQuietRun default_limits ample input.whites_are_taken_by_rising_number
-whites_are_taken_by_rising_number-quiet = run-quiet default_limits ample input.whites_are_taken_by_rising_number whites_are_taken_by_rising_number-passes
+pub held_ring_of_three_is_kept-quiet : IsQuietRun default_limits ample input.held_ring_of_three_is_kept
+held_ring_of_three_is_kept-quiet = run-quiet default_limits ample input.held_ring_of_three_is_kept held_ring_of_three_is_kept-passes
 
-pub whites_are_taken_by_rising_number-audited : passes_audit default_limits ample input.whites_are_taken_by_rising_number ≡ true
+pub held_ring_of_three_is_kept-audited : passes_audit default_limits ample input.held_ring_of_three_is_kept ≡ true
 unfolding all_of_a_run
-whites_are_taken_by_rising_number-audited = refl
+held_ring_of_three_is_kept-audited = refl

@@ -3,7 +3,7 @@
 use Rattle.std.specs.Prelude.{◌≡◌, true, codes, refl}
 use Rattle.cc_model.specs.Forms.{version_one_forms}
 use Rattle.cc_model.specs.Run.{plain_text}
-use Rattle.cc_worked.specs.Examples.{limits, default_limits, ample, IsLawfulRun, IsQuietRun}
+use Rattle.cc_worked.specs.Examples.{default_limits, ample, IsLawfulRun, IsQuietRun}
 use Rattle.cc_worked.specs.Inputs as input
 use Rattle.cc_worked.specs.Verdict.{passes_verdict}
 use Rattle.cc_worked.specs.Audit.{passes_audit}
@@ -11,162 +11,162 @@ use Rattle.cc_worked.proofs.Opened.{all_of_a_run}
 use Rattle.cc_worked.proofs.LawfulTest.{run-lawful}
 use Rattle.cc_worked.proofs.QuietTest.{run-quiet}
 
--- An empty register is told before a wrong kind and a missing slot, a wrong kind before a missing slot, and this before what a slot holds.
-pub refusals_in_their_order : plain_text version_one_forms default_limits ample input.refusals_in_their_order
-    ≡ codes "= @1\n= @2\n= #1\n! empty\n! empty\n! empty\n! empty\n! kind\n= ok\n! slot\n"
+-- Unlinking one white native may free the one that comes next in the walk.
+pub native_vanishes_inside_an_unlink : plain_text version_one_forms default_limits ample input.native_vanishes_inside_an_unlink
+    ≡ codes "= #1\n= #2\n= ok\n= ok\n= ok\n= ok\n= ok\n- unlink #1\n- free #2\n- free #1\n= ok\n"
 unfolding all_of_a_run
-refusals_in_their_order = refl
+native_vanishes_inside_an_unlink = refl
 
-refusals_in_their_order-passes : passes_verdict default_limits ample input.refusals_in_their_order ≡ true
+native_vanishes_inside_an_unlink-passes : passes_verdict default_limits ample input.native_vanishes_inside_an_unlink ≡ true
 unfolding all_of_a_run
-refusals_in_their_order-passes = refl
+native_vanishes_inside_an_unlink-passes = refl
 
-pub refusals_in_their_order-lawful : IsLawfulRun default_limits ample input.refusals_in_their_order
-refusals_in_their_order-lawful = run-lawful default_limits ample input.refusals_in_their_order refusals_in_their_order-passes
+pub native_vanishes_inside_an_unlink-lawful : IsLawfulRun default_limits ample input.native_vanishes_inside_an_unlink
+native_vanishes_inside_an_unlink-lawful = run-lawful default_limits ample input.native_vanishes_inside_an_unlink native_vanishes_inside_an_unlink-passes
 
-pub refusals_in_their_order-quiet : IsQuietRun default_limits ample input.refusals_in_their_order
-refusals_in_their_order-quiet = run-quiet default_limits ample input.refusals_in_their_order refusals_in_their_order-passes
+pub native_vanishes_inside_an_unlink-quiet : IsQuietRun default_limits ample input.native_vanishes_inside_an_unlink
+native_vanishes_inside_an_unlink-quiet = run-quiet default_limits ample input.native_vanishes_inside_an_unlink native_vanishes_inside_an_unlink-passes
 
-pub refusals_in_their_order-audited : passes_audit default_limits ample input.refusals_in_their_order ≡ true
+pub native_vanishes_inside_an_unlink-audited : passes_audit default_limits ample input.native_vanishes_inside_an_unlink ≡ true
 unfolding all_of_a_run
-refusals_in_their_order-audited = refl
+native_vanishes_inside_an_unlink-audited = refl
 
--- What is refused, and what becomes of blank lines, comments, long lines and carriage returns.
-pub refusals_and_odd_lines : plain_text version_one_forms default_limits ample input.refusals_and_odd_lines
-    ≡ codes "= #1\n= #2\n= ok\n! kind\n! slot\n! slot\n! empty\n! kind\n= @1\n= @2\n! kind\n! slot\n! empty\n! kind\n! line\n! line\n! long\n+ #1\n+ #2\n+ @1\n+ @2\n= census 4\n"
+-- A native made while a collection runs is kept, and the cycle that the collection began with is taken.
+pub native_made_between_slices : plain_text version_one_forms default_limits ample input.native_made_between_slices
+    ≡ codes "= #1\n= ~1\n= ok\n= ok\n= ok\n= ok\n= ok\n= #2\n- unlink #1\n= ok\n- free ~1\n- free #1\n= ok\n+ #2\n= census 1\n"
 unfolding all_of_a_run
-refusals_and_odd_lines = refl
+native_made_between_slices = refl
 
-refusals_and_odd_lines-passes : passes_verdict default_limits ample input.refusals_and_odd_lines ≡ true
+native_made_between_slices-passes : passes_verdict default_limits ample input.native_made_between_slices ≡ true
 unfolding all_of_a_run
-refusals_and_odd_lines-passes = refl
+native_made_between_slices-passes = refl
 
-pub refusals_and_odd_lines-lawful : IsLawfulRun default_limits ample input.refusals_and_odd_lines
-refusals_and_odd_lines-lawful = run-lawful default_limits ample input.refusals_and_odd_lines refusals_and_odd_lines-passes
+pub native_made_between_slices-lawful : IsLawfulRun default_limits ample input.native_made_between_slices
+native_made_between_slices-lawful = run-lawful default_limits ample input.native_made_between_slices native_made_between_slices-passes
 
-pub refusals_and_odd_lines-quiet : IsQuietRun default_limits ample input.refusals_and_odd_lines
-refusals_and_odd_lines-quiet = run-quiet default_limits ample input.refusals_and_odd_lines refusals_and_odd_lines-passes
+pub native_made_between_slices-quiet : IsQuietRun default_limits ample input.native_made_between_slices
+native_made_between_slices-quiet = run-quiet default_limits ample input.native_made_between_slices native_made_between_slices-passes
 
-pub refusals_and_odd_lines-audited : passes_audit default_limits ample input.refusals_and_odd_lines ≡ true
+pub native_made_between_slices-audited : passes_audit default_limits ample input.native_made_between_slices ≡ true
 unfolding all_of_a_run
-refusals_and_odd_lines-audited = refl
+native_made_between_slices-audited = refl
 
--- The greatest numbers of slots, indexes, registers and units are taken, and greater ones are not in the grammar.
-pub numbers_at_their_bounds : plain_text version_one_forms default_limits ample input.numbers_at_their_bounds
-    ≡ codes "= #1\n= ok\n! slot\n! slot\n! line\n! line\n! line\n! line\n= #2\n! line\n= none\n= ok\n= ok\n! line\n"
+-- Gc brings a collection that runs to its end before it marks.
+pub gc_ends_a_running_collection : plain_text version_one_forms default_limits ample input.gc_ends_a_running_collection
+    ≡ codes "= #1\n= ok\n= ok\n= ok\n- unlink #1\n- free #1\n= ok\n"
 unfolding all_of_a_run
-numbers_at_their_bounds = refl
+gc_ends_a_running_collection = refl
 
-numbers_at_their_bounds-passes : passes_verdict default_limits ample input.numbers_at_their_bounds ≡ true
+gc_ends_a_running_collection-passes : passes_verdict default_limits ample input.gc_ends_a_running_collection ≡ true
 unfolding all_of_a_run
-numbers_at_their_bounds-passes = refl
+gc_ends_a_running_collection-passes = refl
 
-pub numbers_at_their_bounds-lawful : IsLawfulRun default_limits ample input.numbers_at_their_bounds
-numbers_at_their_bounds-lawful = run-lawful default_limits ample input.numbers_at_their_bounds numbers_at_their_bounds-passes
+pub gc_ends_a_running_collection-lawful : IsLawfulRun default_limits ample input.gc_ends_a_running_collection
+gc_ends_a_running_collection-lawful = run-lawful default_limits ample input.gc_ends_a_running_collection gc_ends_a_running_collection-passes
 
-pub numbers_at_their_bounds-quiet : IsQuietRun default_limits ample input.numbers_at_their_bounds
-numbers_at_their_bounds-quiet = run-quiet default_limits ample input.numbers_at_their_bounds numbers_at_their_bounds-passes
+pub gc_ends_a_running_collection-quiet : IsQuietRun default_limits ample input.gc_ends_a_running_collection
+gc_ends_a_running_collection-quiet = run-quiet default_limits ample input.gc_ends_a_running_collection gc_ends_a_running_collection-passes
 
-pub numbers_at_their_bounds-audited : passes_audit default_limits ample input.numbers_at_their_bounds ≡ true
+pub gc_ends_a_running_collection-audited : passes_audit default_limits ample input.gc_ends_a_running_collection ≡ true
 unfolding all_of_a_run
-numbers_at_their_bounds-audited = refl
+gc_ends_a_running_collection-audited = refl
 
--- One unit and a million are taken, and neither none nor more are in the grammar.
-pub units_at_their_bounds : plain_text version_one_forms default_limits ample input.units_at_their_bounds
-    ≡ codes "! line\n= ok\n= ok\n! line\n"
+-- A native that holds nothing gray but its reflector is looked at, and so is this, so a collection with one candidate takes five units.
+pub native_that_preserves_a_gray_reflector_is_a_holder : plain_text version_one_forms default_limits ample input.native_that_preserves_a_gray_reflector_is_a_holder
+    ≡ codes "= #1\n= ~1\n= ok\n= ok\n= #2\n= ok\n= ok\n= ok\n= ok\n- unlink #2\n- free #2\n= ok\n"
 unfolding all_of_a_run
-units_at_their_bounds = refl
+native_that_preserves_a_gray_reflector_is_a_holder = refl
 
-units_at_their_bounds-passes : passes_verdict default_limits ample input.units_at_their_bounds ≡ true
+native_that_preserves_a_gray_reflector_is_a_holder-passes : passes_verdict default_limits ample input.native_that_preserves_a_gray_reflector_is_a_holder ≡ true
 unfolding all_of_a_run
-units_at_their_bounds-passes = refl
+native_that_preserves_a_gray_reflector_is_a_holder-passes = refl
 
-pub units_at_their_bounds-lawful : IsLawfulRun default_limits ample input.units_at_their_bounds
-units_at_their_bounds-lawful = run-lawful default_limits ample input.units_at_their_bounds units_at_their_bounds-passes
+pub native_that_preserves_a_gray_reflector_is_a_holder-lawful : IsLawfulRun default_limits ample input.native_that_preserves_a_gray_reflector_is_a_holder
+native_that_preserves_a_gray_reflector_is_a_holder-lawful = run-lawful default_limits ample input.native_that_preserves_a_gray_reflector_is_a_holder native_that_preserves_a_gray_reflector_is_a_holder-passes
 
-pub units_at_their_bounds-quiet : IsQuietRun default_limits ample input.units_at_their_bounds
-units_at_their_bounds-quiet = run-quiet default_limits ample input.units_at_their_bounds units_at_their_bounds-passes
+pub native_that_preserves_a_gray_reflector_is_a_holder-quiet : IsQuietRun default_limits ample input.native_that_preserves_a_gray_reflector_is_a_holder
+native_that_preserves_a_gray_reflector_is_a_holder-quiet = run-quiet default_limits ample input.native_that_preserves_a_gray_reflector_is_a_holder native_that_preserves_a_gray_reflector_is_a_holder-passes
 
-pub units_at_their_bounds-audited : passes_audit default_limits ample input.units_at_their_bounds ≡ true
+pub native_that_preserves_a_gray_reflector_is_a_holder-audited : passes_audit default_limits ample input.native_that_preserves_a_gray_reflector_is_a_holder ≡ true
 unfolding all_of_a_run
-units_at_their_bounds-audited = refl
+native_that_preserves_a_gray_reflector_is_a_holder-audited = refl
 
--- A line of 120 bytes is read and one of 121 is not, a comment and a carriage return counted.
-pub line_of_120_bytes_is_taken : plain_text version_one_forms default_limits ample input.line_of_120_bytes_is_taken
-    ≡ codes "= #1\n! long\n! long\n! line\n! long\n+ #1\n= census 1\n"
+-- What a native's slots hold is looked at before its reflector, which has become black meanwhile and leads to nothing more.
+pub preserved_reflector_is_looked_at_after_the_slots : plain_text version_one_forms default_limits ample input.preserved_reflector_is_looked_at_after_the_slots
+    ≡ codes "= #1\n= ~1\n= @1\n= @2\n= ok\n= ok\n= ok\n= ok\n= ok\n= #2\n= ok\n= ok\n= ok\n= ok\n= ~1\n= ok\n- unlink #2\n- free #2\n= ok\n"
 unfolding all_of_a_run
-line_of_120_bytes_is_taken = refl
+preserved_reflector_is_looked_at_after_the_slots = refl
 
-line_of_120_bytes_is_taken-passes : passes_verdict default_limits ample input.line_of_120_bytes_is_taken ≡ true
+preserved_reflector_is_looked_at_after_the_slots-passes : passes_verdict default_limits ample input.preserved_reflector_is_looked_at_after_the_slots ≡ true
 unfolding all_of_a_run
-line_of_120_bytes_is_taken-passes = refl
+preserved_reflector_is_looked_at_after_the_slots-passes = refl
 
-pub line_of_120_bytes_is_taken-lawful : IsLawfulRun default_limits ample input.line_of_120_bytes_is_taken
-line_of_120_bytes_is_taken-lawful = run-lawful default_limits ample input.line_of_120_bytes_is_taken line_of_120_bytes_is_taken-passes
+pub preserved_reflector_is_looked_at_after_the_slots-lawful : IsLawfulRun default_limits ample input.preserved_reflector_is_looked_at_after_the_slots
+preserved_reflector_is_looked_at_after_the_slots-lawful = run-lawful default_limits ample input.preserved_reflector_is_looked_at_after_the_slots preserved_reflector_is_looked_at_after_the_slots-passes
 
-pub line_of_120_bytes_is_taken-quiet : IsQuietRun default_limits ample input.line_of_120_bytes_is_taken
-line_of_120_bytes_is_taken-quiet = run-quiet default_limits ample input.line_of_120_bytes_is_taken line_of_120_bytes_is_taken-passes
+pub preserved_reflector_is_looked_at_after_the_slots-quiet : IsQuietRun default_limits ample input.preserved_reflector_is_looked_at_after_the_slots
+preserved_reflector_is_looked_at_after_the_slots-quiet = run-quiet default_limits ample input.preserved_reflector_is_looked_at_after_the_slots preserved_reflector_is_looked_at_after_the_slots-passes
 
-pub line_of_120_bytes_is_taken-audited : passes_audit default_limits ample input.line_of_120_bytes_is_taken ≡ true
+pub preserved_reflector_is_looked_at_after_the_slots-audited : passes_audit default_limits ample input.preserved_reflector_is_looked_at_after_the_slots ≡ true
 unfolding all_of_a_run
-line_of_120_bytes_is_taken-audited = refl
+preserved_reflector_is_looked_at_after_the_slots-audited = refl
 
--- A last line that no line feed ends is answered, its carriage return dropped.
-pub last_line_needs_no_line_feed : plain_text version_one_forms default_limits ample input.last_line_needs_no_line_feed
-    ≡ codes "= #1\n+ #1\n= census 1\n"
+-- A map of which an entry tells is looked at before the key, and the key before the value, each of which is exposed in between and leads to nothing more.
+pub map_comes_before_its_key : plain_text version_one_forms default_limits ample input.map_comes_before_its_key
+    ≡ codes "= #1\n= @1\n= @2\n= @3\n= @4\n= @5\n= ok\n= ok\n= ok\n= ok\n= ok\n= ok\n= ok\n= ok\n= ok\n= ok\n= ok\n= #2\n= ok\n= ok\n= ok\n= ok\n= @2\n= ok\n= @3\n= ok\n- unlink #2\n- free #2\n= ok\n"
 unfolding all_of_a_run
-last_line_needs_no_line_feed = refl
+map_comes_before_its_key = refl
 
-last_line_needs_no_line_feed-passes : passes_verdict default_limits ample input.last_line_needs_no_line_feed ≡ true
+map_comes_before_its_key-passes : passes_verdict default_limits ample input.map_comes_before_its_key ≡ true
 unfolding all_of_a_run
-last_line_needs_no_line_feed-passes = refl
+map_comes_before_its_key-passes = refl
 
-pub last_line_needs_no_line_feed-lawful : IsLawfulRun default_limits ample input.last_line_needs_no_line_feed
-last_line_needs_no_line_feed-lawful = run-lawful default_limits ample input.last_line_needs_no_line_feed last_line_needs_no_line_feed-passes
+pub map_comes_before_its_key-lawful : IsLawfulRun default_limits ample input.map_comes_before_its_key
+map_comes_before_its_key-lawful = run-lawful default_limits ample input.map_comes_before_its_key map_comes_before_its_key-passes
 
-pub last_line_needs_no_line_feed-quiet : IsQuietRun default_limits ample input.last_line_needs_no_line_feed
-last_line_needs_no_line_feed-quiet = run-quiet default_limits ample input.last_line_needs_no_line_feed last_line_needs_no_line_feed-passes
+pub map_comes_before_its_key-quiet : IsQuietRun default_limits ample input.map_comes_before_its_key
+map_comes_before_its_key-quiet = run-quiet default_limits ample input.map_comes_before_its_key map_comes_before_its_key-passes
 
-pub last_line_needs_no_line_feed-audited : passes_audit default_limits ample input.last_line_needs_no_line_feed ≡ true
+pub map_comes_before_its_key-audited : passes_audit default_limits ample input.map_comes_before_its_key ≡ true
 unfolding all_of_a_run
-last_line_needs_no_line_feed-audited = refl
+map_comes_before_its_key-audited = refl
 
--- The limit of natives counts those that were freed.
-pub limit_counts_freed_natives : plain_text version_one_forms (limits 1 1000000 4294967295) ample input.limit_counts_freed_natives
-    ≡ codes "= #1\n- free #1\n= ok\n! full\n"
+-- A black key of a gray map is no node, so a collection with one candidate, the holder of the map, the map and the value takes six units.
+pub black_key_is_not_looked_at : plain_text version_one_forms default_limits ample input.black_key_is_not_looked_at
+    ≡ codes "= #1\n= @1\n= @2\n= @3\n= ok\n= ok\n= ok\n= ok\n= #2\n= ok\n= ok\n= ok\n= ok\n- unlink #2\n- free #2\n= ok\n= @1\n= @3\n"
 unfolding all_of_a_run
-limit_counts_freed_natives = refl
+black_key_is_not_looked_at = refl
 
-limit_counts_freed_natives-passes : passes_verdict (limits 1 1000000 4294967295) ample input.limit_counts_freed_natives ≡ true
+black_key_is_not_looked_at-passes : passes_verdict default_limits ample input.black_key_is_not_looked_at ≡ true
 unfolding all_of_a_run
-limit_counts_freed_natives-passes = refl
+black_key_is_not_looked_at-passes = refl
 
-pub limit_counts_freed_natives-lawful : IsLawfulRun (limits 1 1000000 4294967295) ample input.limit_counts_freed_natives
-limit_counts_freed_natives-lawful = run-lawful (limits 1 1000000 4294967295) ample input.limit_counts_freed_natives limit_counts_freed_natives-passes
+pub black_key_is_not_looked_at-lawful : IsLawfulRun default_limits ample input.black_key_is_not_looked_at
+black_key_is_not_looked_at-lawful = run-lawful default_limits ample input.black_key_is_not_looked_at black_key_is_not_looked_at-passes
 
-pub limit_counts_freed_natives-quiet : IsQuietRun (limits 1 1000000 4294967295) ample input.limit_counts_freed_natives
-limit_counts_freed_natives-quiet = run-quiet (limits 1 1000000 4294967295) ample input.limit_counts_freed_natives limit_counts_freed_natives-passes
+pub black_key_is_not_looked_at-quiet : IsQuietRun default_limits ample input.black_key_is_not_looked_at
+black_key_is_not_looked_at-quiet = run-quiet default_limits ample input.black_key_is_not_looked_at black_key_is_not_looked_at-passes
 
-pub limit_counts_freed_natives-audited : passes_audit (limits 1 1000000 4294967295) ample input.limit_counts_freed_natives ≡ true
+pub black_key_is_not_looked_at-audited : passes_audit default_limits ample input.black_key_is_not_looked_at ≡ true
 unfolding all_of_a_run
-limit_counts_freed_natives-audited = refl
+black_key_is_not_looked_at-audited = refl
 
--- The limit of script objects counts those that were freed.
-pub limit_counts_freed_script_objects : plain_text version_one_forms (limits 1000000 1 4294967295) ample input.limit_counts_freed_script_objects
-    ≡ codes "= @1\n= ok\n- free @1\n= ok\n! full\n"
+-- An unlinked native gives up its slots in rising order, each with all that goes with it before the next one.
+pub unlinking_empties_slots_in_rising_order : plain_text version_one_forms default_limits ample input.unlinking_empties_slots_in_rising_order
+    ≡ codes "= #1\n= #2\n= #3\n= #4\n= ok\n= ok\n= ok\n= ok\n= ok\n= ok\n= ok\n= ok\n= ok\n- unlink #1\n- free #3\n- free #4\n- free #2\n- free #1\n= ok\n"
 unfolding all_of_a_run
-limit_counts_freed_script_objects = refl
+unlinking_empties_slots_in_rising_order = refl
 
-limit_counts_freed_script_objects-passes : passes_verdict (limits 1000000 1 4294967295) ample input.limit_counts_freed_script_objects ≡ true
+unlinking_empties_slots_in_rising_order-passes : passes_verdict default_limits ample input.unlinking_empties_slots_in_rising_order ≡ true
 unfolding all_of_a_run
-limit_counts_freed_script_objects-passes = refl
+unlinking_empties_slots_in_rising_order-passes = refl
 
-pub limit_counts_freed_script_objects-lawful : IsLawfulRun (limits 1000000 1 4294967295) ample input.limit_counts_freed_script_objects
-limit_counts_freed_script_objects-lawful = run-lawful (limits 1000000 1 4294967295) ample input.limit_counts_freed_script_objects limit_counts_freed_script_objects-passes
+pub unlinking_empties_slots_in_rising_order-lawful : IsLawfulRun default_limits ample input.unlinking_empties_slots_in_rising_order
+unlinking_empties_slots_in_rising_order-lawful = run-lawful default_limits ample input.unlinking_empties_slots_in_rising_order unlinking_empties_slots_in_rising_order-passes
 
-pub limit_counts_freed_script_objects-quiet : IsQuietRun (limits 1000000 1 4294967295) ample input.limit_counts_freed_script_objects
-limit_counts_freed_script_objects-quiet = run-quiet (limits 1000000 1 4294967295) ample input.limit_counts_freed_script_objects limit_counts_freed_script_objects-passes
+pub unlinking_empties_slots_in_rising_order-quiet : IsQuietRun default_limits ample input.unlinking_empties_slots_in_rising_order
+unlinking_empties_slots_in_rising_order-quiet = run-quiet default_limits ample input.unlinking_empties_slots_in_rising_order unlinking_empties_slots_in_rising_order-passes
 
-pub limit_counts_freed_script_objects-audited : passes_audit (limits 1000000 1 4294967295) ample input.limit_counts_freed_script_objects ≡ true
+pub unlinking_empties_slots_in_rising_order-audited : passes_audit default_limits ample input.unlinking_empties_slots_in_rising_order ≡ true
 unfolding all_of_a_run
-limit_counts_freed_script_objects-audited = refl
+unlinking_empties_slots_in_rising_order-audited = refl

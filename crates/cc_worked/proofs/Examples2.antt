@@ -11,6 +11,106 @@ use Rattle.cc_worked.proofs.Opened.{all_of_a_run}
 use Rattle.cc_worked.proofs.LawfulTest.{run-lawful}
 use Rattle.cc_worked.proofs.QuietTest.{run-quiet}
 
+-- White natives are taken by rising number, also where the collection came to the later one first.
+pub whites_are_taken_by_rising_number : plain_text version_one_forms default_limits ample input.whites_are_taken_by_rising_number
+    ≡ codes "= #1\n= #2\n= ok\n= ok\n= ok\n= ok\n= ok\n- unlink #1\n- unlink #2\n- free #1\n- free #2\n= ok\n"
+unfolding all_of_a_run
+whites_are_taken_by_rising_number = refl
+
+whites_are_taken_by_rising_number-passes : passes_verdict default_limits ample input.whites_are_taken_by_rising_number ≡ true
+unfolding all_of_a_run
+whites_are_taken_by_rising_number-passes = refl
+
+pub whites_are_taken_by_rising_number-lawful : IsLawfulRun default_limits ample input.whites_are_taken_by_rising_number
+whites_are_taken_by_rising_number-lawful = run-lawful default_limits ample input.whites_are_taken_by_rising_number whites_are_taken_by_rising_number-passes
+
+pub whites_are_taken_by_rising_number-quiet : IsQuietRun default_limits ample input.whites_are_taken_by_rising_number
+whites_are_taken_by_rising_number-quiet = run-quiet default_limits ample input.whites_are_taken_by_rising_number whites_are_taken_by_rising_number-passes
+
+pub whites_are_taken_by_rising_number-audited : passes_audit default_limits ample input.whites_are_taken_by_rising_number ≡ true
+unfolding all_of_a_run
+whites_are_taken_by_rising_number-audited = refl
+
+-- A native whose last reference is given up goes to the end of the queue: what the first one held is freed before what the second one held.
+pub freed_natives_queue_up : plain_text version_one_forms default_limits ample input.freed_natives_queue_up
+    ≡ codes "= #1\n= #2\n= #3\n= #4\n= ok\n= ok\n= ok\n= ok\n= ok\n= ok\n- free #1\n- free #2\n- free #3\n- free #4\n= ok\n"
+unfolding all_of_a_run
+freed_natives_queue_up = refl
+
+freed_natives_queue_up-passes : passes_verdict default_limits ample input.freed_natives_queue_up ≡ true
+unfolding all_of_a_run
+freed_natives_queue_up-passes = refl
+
+pub freed_natives_queue_up-lawful : IsLawfulRun default_limits ample input.freed_natives_queue_up
+freed_natives_queue_up-lawful = run-lawful default_limits ample input.freed_natives_queue_up freed_natives_queue_up-passes
+
+pub freed_natives_queue_up-quiet : IsQuietRun default_limits ample input.freed_natives_queue_up
+freed_natives_queue_up-quiet = run-quiet default_limits ample input.freed_natives_queue_up freed_natives_queue_up-passes
+
+pub freed_natives_queue_up-audited : passes_audit default_limits ample input.freed_natives_queue_up ≡ true
+unfolding all_of_a_run
+freed_natives_queue_up-audited = refl
+
+-- A freed native gives up its slots in rising order, so of two chains that it holds the one in its first slot goes first, link by link with the other.
+pub slots_are_given_up_in_rising_order : plain_text version_one_forms default_limits ample input.slots_are_given_up_in_rising_order
+    ≡ codes "= #1\n= #2\n= #3\n= #4\n= #5\n= ok\n= ok\n= ok\n= ok\n= ok\n= ok\n= ok\n= ok\n- free #1\n- free #5\n- free #2\n- free #3\n- free #4\n= ok\n"
+unfolding all_of_a_run
+slots_are_given_up_in_rising_order = refl
+
+slots_are_given_up_in_rising_order-passes : passes_verdict default_limits ample input.slots_are_given_up_in_rising_order ≡ true
+unfolding all_of_a_run
+slots_are_given_up_in_rising_order-passes = refl
+
+pub slots_are_given_up_in_rising_order-lawful : IsLawfulRun default_limits ample input.slots_are_given_up_in_rising_order
+slots_are_given_up_in_rising_order-lawful = run-lawful default_limits ample input.slots_are_given_up_in_rising_order slots_are_given_up_in_rising_order-passes
+
+pub slots_are_given_up_in_rising_order-quiet : IsQuietRun default_limits ample input.slots_are_given_up_in_rising_order
+slots_are_given_up_in_rising_order-quiet = run-quiet default_limits ample input.slots_are_given_up_in_rising_order slots_are_given_up_in_rising_order-passes
+
+pub slots_are_given_up_in_rising_order-audited : passes_audit default_limits ample input.slots_are_given_up_in_rising_order ≡ true
+unfolding all_of_a_run
+slots_are_given_up_in_rising_order-audited = refl
+
+-- What a register holds is copied, and an object is kept as long as one register holds it; an empty register is copied and emptied too.
+pub registers_are_copied_and_emptied : plain_text version_one_forms default_limits ample input.registers_are_copied_and_emptied
+    ≡ codes "= #1\n= @1\n= #1\n= @1\n= ok\n= ok\n= ok\n= none\n- free #1\n= ok\n= ok\n- free @1\n= ok\n"
+unfolding all_of_a_run
+registers_are_copied_and_emptied = refl
+
+registers_are_copied_and_emptied-passes : passes_verdict default_limits ample input.registers_are_copied_and_emptied ≡ true
+unfolding all_of_a_run
+registers_are_copied_and_emptied-passes = refl
+
+pub registers_are_copied_and_emptied-lawful : IsLawfulRun default_limits ample input.registers_are_copied_and_emptied
+registers_are_copied_and_emptied-lawful = run-lawful default_limits ample input.registers_are_copied_and_emptied registers_are_copied_and_emptied-passes
+
+pub registers_are_copied_and_emptied-quiet : IsQuietRun default_limits ample input.registers_are_copied_and_emptied
+registers_are_copied_and_emptied-quiet = run-quiet default_limits ample input.registers_are_copied_and_emptied registers_are_copied_and_emptied-passes
+
+pub registers_are_copied_and_emptied-audited : passes_audit default_limits ample input.registers_are_copied_and_emptied ≡ true
+unfolding all_of_a_run
+registers_are_copied_and_emptied-audited = refl
+
+-- A collection after one that ended takes what became garbage since, and one that finds nothing tells nothing.
+pub collections_follow_each_other : plain_text version_one_forms default_limits ample input.collections_follow_each_other
+    ≡ codes "= #1\n= #2\n= ok\n= ok\n= ok\n= ok\n- unlink #1\n- unlink #2\n- free #1\n- free #2\n= ok\n= ok\n= #3\n= #4\n= ok\n= ok\n= #5\n= ok\n= ok\n= ok\n= ok\n- unlink #3\n- unlink #4\n- unlink #5\n- free #3\n- free #4\n- free #5\n= ok\n= census 0\n"
+unfolding all_of_a_run
+collections_follow_each_other = refl
+
+collections_follow_each_other-passes : passes_verdict default_limits ample input.collections_follow_each_other ≡ true
+unfolding all_of_a_run
+collections_follow_each_other-passes = refl
+
+pub collections_follow_each_other-lawful : IsLawfulRun default_limits ample input.collections_follow_each_other
+collections_follow_each_other-lawful = run-lawful default_limits ample input.collections_follow_each_other collections_follow_each_other-passes
+
+pub collections_follow_each_other-quiet : IsQuietRun default_limits ample input.collections_follow_each_other
+collections_follow_each_other-quiet = run-quiet default_limits ample input.collections_follow_each_other collections_follow_each_other-passes
+
+pub collections_follow_each_other-audited : passes_audit default_limits ample input.collections_follow_each_other ≡ true
+unfolding all_of_a_run
+collections_follow_each_other-audited = refl
+
 -- A slot of a script object is written, emptied and read, and what is refused meanwhile leaves it.
 pub script_slots_are_written_and_read : plain_text version_one_forms default_limits ample input.script_slots_are_written_and_read
     ≡ codes "= @1\n= @2\n= ok\n= @2\n= none\n= ok\n= none\n! slot\n! empty\n! empty\n! empty\n+ @1\n+ @2\n= census 2\n"
@@ -70,103 +170,3 @@ wrong_kinds_in_slots-quiet = run-quiet default_limits ample input.wrong_kinds_in
 pub wrong_kinds_in_slots-audited : passes_audit default_limits ample input.wrong_kinds_in_slots ≡ true
 unfolding all_of_a_run
 wrong_kinds_in_slots-audited = refl
-
--- Gc keeps what a native holds, with all that this reaches, until the native is freed.
-pub native_keeps_what_it_holds : plain_text version_one_forms default_limits ample input.native_keeps_what_it_holds
-    ≡ codes "= #1\n= @1\n= @2\n= ok\n= ok\n= ok\n= ok\n= ok\n= @1\n- free #1\n= ok\n= ok\n- free @1\n- free @2\n= ok\n"
-unfolding all_of_a_run
-native_keeps_what_it_holds = refl
-
-native_keeps_what_it_holds-passes : passes_verdict default_limits ample input.native_keeps_what_it_holds ≡ true
-unfolding all_of_a_run
-native_keeps_what_it_holds-passes = refl
-
-pub native_keeps_what_it_holds-lawful : IsLawfulRun default_limits ample input.native_keeps_what_it_holds
-native_keeps_what_it_holds-lawful = run-lawful default_limits ample input.native_keeps_what_it_holds native_keeps_what_it_holds-passes
-
-pub native_keeps_what_it_holds-quiet : IsQuietRun default_limits ample input.native_keeps_what_it_holds
-native_keeps_what_it_holds-quiet = run-quiet default_limits ample input.native_keeps_what_it_holds native_keeps_what_it_holds-passes
-
-pub native_keeps_what_it_holds-audited : passes_audit default_limits ample input.native_keeps_what_it_holds ≡ true
-unfolding all_of_a_run
-native_keeps_what_it_holds-audited = refl
-
--- A script object gets a number that no other one had, though one was freed.
-pub number_of_a_freed_script_object_is_never_used_again : plain_text version_one_forms default_limits ample input.number_of_a_freed_script_object_is_never_used_again
-    ≡ codes "= @1\n= @2\n= ok\n- free @1\n= ok\n= @3\n+ @2\n+ @3\n= census 2\n= ok\n= @2\n"
-unfolding all_of_a_run
-number_of_a_freed_script_object_is_never_used_again = refl
-
-number_of_a_freed_script_object_is_never_used_again-passes : passes_verdict default_limits ample input.number_of_a_freed_script_object_is_never_used_again ≡ true
-unfolding all_of_a_run
-number_of_a_freed_script_object_is_never_used_again-passes = refl
-
-pub number_of_a_freed_script_object_is_never_used_again-lawful : IsLawfulRun default_limits ample input.number_of_a_freed_script_object_is_never_used_again
-number_of_a_freed_script_object_is_never_used_again-lawful = run-lawful default_limits ample input.number_of_a_freed_script_object_is_never_used_again number_of_a_freed_script_object_is_never_used_again-passes
-
-pub number_of_a_freed_script_object_is_never_used_again-quiet : IsQuietRun default_limits ample input.number_of_a_freed_script_object_is_never_used_again
-number_of_a_freed_script_object_is_never_used_again-quiet = run-quiet default_limits ample input.number_of_a_freed_script_object_is_never_used_again number_of_a_freed_script_object_is_never_used_again-passes
-
-pub number_of_a_freed_script_object_is_never_used_again-audited : passes_audit default_limits ample input.number_of_a_freed_script_object_is_never_used_again ≡ true
-unfolding all_of_a_run
-number_of_a_freed_script_object_is_never_used_again-audited = refl
-
--- A script object that holds itself is touched in a native's slot, and outlives the native in a register.
-pub gray_cycle_through_a_slot_is_exposed : plain_text version_one_forms default_limits ample input.gray_cycle_through_a_slot_is_exposed
-    ≡ codes "= #1\n= @1\n= ok\n= ok\n= ok\n= ok\n= @1\n= none\n= ok\n= @1\n- free #1\n= ok\n= ok\n+ @1\n= census 1\n"
-unfolding all_of_a_run
-gray_cycle_through_a_slot_is_exposed = refl
-
-gray_cycle_through_a_slot_is_exposed-passes : passes_verdict default_limits ample input.gray_cycle_through_a_slot_is_exposed ≡ true
-unfolding all_of_a_run
-gray_cycle_through_a_slot_is_exposed-passes = refl
-
-pub gray_cycle_through_a_slot_is_exposed-lawful : IsLawfulRun default_limits ample input.gray_cycle_through_a_slot_is_exposed
-gray_cycle_through_a_slot_is_exposed-lawful = run-lawful default_limits ample input.gray_cycle_through_a_slot_is_exposed gray_cycle_through_a_slot_is_exposed-passes
-
-pub gray_cycle_through_a_slot_is_exposed-quiet : IsQuietRun default_limits ample input.gray_cycle_through_a_slot_is_exposed
-gray_cycle_through_a_slot_is_exposed-quiet = run-quiet default_limits ample input.gray_cycle_through_a_slot_is_exposed gray_cycle_through_a_slot_is_exposed-passes
-
-pub gray_cycle_through_a_slot_is_exposed-audited : passes_audit default_limits ample input.gray_cycle_through_a_slot_is_exposed ≡ true
-unfolding all_of_a_run
-gray_cycle_through_a_slot_is_exposed-audited = refl
-
--- A collection takes a native cycle that holds script objects, and the next gc takes these.
-pub native_cycle_that_holds_script_objects_is_collected : plain_text version_one_forms default_limits ample input.native_cycle_that_holds_script_objects_is_collected
-    ≡ codes "= #1\n= @1\n= @2\n= ok\n= ok\n= ok\n= ok\n= ok\n= ok\n= ok\n- unlink #1\n- free #1\n= ok\n- free @1\n- free @2\n= ok\n= census 0\n"
-unfolding all_of_a_run
-native_cycle_that_holds_script_objects_is_collected = refl
-
-native_cycle_that_holds_script_objects_is_collected-passes : passes_verdict default_limits ample input.native_cycle_that_holds_script_objects_is_collected ≡ true
-unfolding all_of_a_run
-native_cycle_that_holds_script_objects_is_collected-passes = refl
-
-pub native_cycle_that_holds_script_objects_is_collected-lawful : IsLawfulRun default_limits ample input.native_cycle_that_holds_script_objects_is_collected
-native_cycle_that_holds_script_objects_is_collected-lawful = run-lawful default_limits ample input.native_cycle_that_holds_script_objects_is_collected native_cycle_that_holds_script_objects_is_collected-passes
-
-pub native_cycle_that_holds_script_objects_is_collected-quiet : IsQuietRun default_limits ample input.native_cycle_that_holds_script_objects_is_collected
-native_cycle_that_holds_script_objects_is_collected-quiet = run-quiet default_limits ample input.native_cycle_that_holds_script_objects_is_collected native_cycle_that_holds_script_objects_is_collected-passes
-
-pub native_cycle_that_holds_script_objects_is_collected-audited : passes_audit default_limits ample input.native_cycle_that_holds_script_objects_is_collected ≡ true
-unfolding all_of_a_run
-native_cycle_that_holds_script_objects_is_collected-audited = refl
-
--- A reflector has four slots: the last of them is written and read, and there is none behind it.
-pub reflector_has_four_slots : plain_text version_one_forms default_limits ample input.reflector_has_four_slots
-    ≡ codes "= #1\n= ~1\n= @1\n= ok\n! slot\n= @1\n! slot\n"
-unfolding all_of_a_run
-reflector_has_four_slots = refl
-
-reflector_has_four_slots-passes : passes_verdict default_limits ample input.reflector_has_four_slots ≡ true
-unfolding all_of_a_run
-reflector_has_four_slots-passes = refl
-
-pub reflector_has_four_slots-lawful : IsLawfulRun default_limits ample input.reflector_has_four_slots
-reflector_has_four_slots-lawful = run-lawful default_limits ample input.reflector_has_four_slots reflector_has_four_slots-passes
-
-pub reflector_has_four_slots-quiet : IsQuietRun default_limits ample input.reflector_has_four_slots
-reflector_has_four_slots-quiet = run-quiet default_limits ample input.reflector_has_four_slots reflector_has_four_slots-passes
-
-pub reflector_has_four_slots-audited : passes_audit default_limits ample input.reflector_has_four_slots ≡ true
-unfolding all_of_a_run
-reflector_has_four_slots-audited = refl

@@ -11,6 +11,146 @@ use Rattle.cc_worked.proofs.Opened.{all_of_a_run}
 use Rattle.cc_worked.proofs.LawfulTest.{run-lawful}
 use Rattle.cc_worked.proofs.QuietTest.{run-quiet}
 
+-- Gc keeps what a native holds, with all that this reaches, until the native is freed.
+pub native_keeps_what_it_holds : plain_text version_one_forms default_limits ample input.native_keeps_what_it_holds
+    ≡ codes "= #1\n= @1\n= @2\n= ok\n= ok\n= ok\n= ok\n= ok\n= @1\n- free #1\n= ok\n= ok\n- free @1\n- free @2\n= ok\n"
+unfolding all_of_a_run
+native_keeps_what_it_holds = refl
+
+native_keeps_what_it_holds-passes : passes_verdict default_limits ample input.native_keeps_what_it_holds ≡ true
+unfolding all_of_a_run
+native_keeps_what_it_holds-passes = refl
+
+pub native_keeps_what_it_holds-lawful : IsLawfulRun default_limits ample input.native_keeps_what_it_holds
+native_keeps_what_it_holds-lawful = run-lawful default_limits ample input.native_keeps_what_it_holds native_keeps_what_it_holds-passes
+
+pub native_keeps_what_it_holds-quiet : IsQuietRun default_limits ample input.native_keeps_what_it_holds
+native_keeps_what_it_holds-quiet = run-quiet default_limits ample input.native_keeps_what_it_holds native_keeps_what_it_holds-passes
+
+pub native_keeps_what_it_holds-audited : passes_audit default_limits ample input.native_keeps_what_it_holds ≡ true
+unfolding all_of_a_run
+native_keeps_what_it_holds-audited = refl
+
+-- A script object gets a number that no other one had, though one was freed.
+pub number_of_a_freed_script_object_is_never_used_again : plain_text version_one_forms default_limits ample input.number_of_a_freed_script_object_is_never_used_again
+    ≡ codes "= @1\n= @2\n= ok\n- free @1\n= ok\n= @3\n+ @2\n+ @3\n= census 2\n= ok\n= @2\n"
+unfolding all_of_a_run
+number_of_a_freed_script_object_is_never_used_again = refl
+
+number_of_a_freed_script_object_is_never_used_again-passes : passes_verdict default_limits ample input.number_of_a_freed_script_object_is_never_used_again ≡ true
+unfolding all_of_a_run
+number_of_a_freed_script_object_is_never_used_again-passes = refl
+
+pub number_of_a_freed_script_object_is_never_used_again-lawful : IsLawfulRun default_limits ample input.number_of_a_freed_script_object_is_never_used_again
+number_of_a_freed_script_object_is_never_used_again-lawful = run-lawful default_limits ample input.number_of_a_freed_script_object_is_never_used_again number_of_a_freed_script_object_is_never_used_again-passes
+
+pub number_of_a_freed_script_object_is_never_used_again-quiet : IsQuietRun default_limits ample input.number_of_a_freed_script_object_is_never_used_again
+number_of_a_freed_script_object_is_never_used_again-quiet = run-quiet default_limits ample input.number_of_a_freed_script_object_is_never_used_again number_of_a_freed_script_object_is_never_used_again-passes
+
+pub number_of_a_freed_script_object_is_never_used_again-audited : passes_audit default_limits ample input.number_of_a_freed_script_object_is_never_used_again ≡ true
+unfolding all_of_a_run
+number_of_a_freed_script_object_is_never_used_again-audited = refl
+
+-- A script object that holds itself is touched in a native's slot, and outlives the native in a register.
+pub gray_cycle_through_a_slot_is_exposed : plain_text version_one_forms default_limits ample input.gray_cycle_through_a_slot_is_exposed
+    ≡ codes "= #1\n= @1\n= ok\n= ok\n= ok\n= ok\n= @1\n= none\n= ok\n= @1\n- free #1\n= ok\n= ok\n+ @1\n= census 1\n"
+unfolding all_of_a_run
+gray_cycle_through_a_slot_is_exposed = refl
+
+gray_cycle_through_a_slot_is_exposed-passes : passes_verdict default_limits ample input.gray_cycle_through_a_slot_is_exposed ≡ true
+unfolding all_of_a_run
+gray_cycle_through_a_slot_is_exposed-passes = refl
+
+pub gray_cycle_through_a_slot_is_exposed-lawful : IsLawfulRun default_limits ample input.gray_cycle_through_a_slot_is_exposed
+gray_cycle_through_a_slot_is_exposed-lawful = run-lawful default_limits ample input.gray_cycle_through_a_slot_is_exposed gray_cycle_through_a_slot_is_exposed-passes
+
+pub gray_cycle_through_a_slot_is_exposed-quiet : IsQuietRun default_limits ample input.gray_cycle_through_a_slot_is_exposed
+gray_cycle_through_a_slot_is_exposed-quiet = run-quiet default_limits ample input.gray_cycle_through_a_slot_is_exposed gray_cycle_through_a_slot_is_exposed-passes
+
+pub gray_cycle_through_a_slot_is_exposed-audited : passes_audit default_limits ample input.gray_cycle_through_a_slot_is_exposed ≡ true
+unfolding all_of_a_run
+gray_cycle_through_a_slot_is_exposed-audited = refl
+
+-- A collection takes a native cycle that holds script objects, and the next gc takes these.
+pub native_cycle_that_holds_script_objects_is_collected : plain_text version_one_forms default_limits ample input.native_cycle_that_holds_script_objects_is_collected
+    ≡ codes "= #1\n= @1\n= @2\n= ok\n= ok\n= ok\n= ok\n= ok\n= ok\n= ok\n- unlink #1\n- free #1\n= ok\n- free @1\n- free @2\n= ok\n= census 0\n"
+unfolding all_of_a_run
+native_cycle_that_holds_script_objects_is_collected = refl
+
+native_cycle_that_holds_script_objects_is_collected-passes : passes_verdict default_limits ample input.native_cycle_that_holds_script_objects_is_collected ≡ true
+unfolding all_of_a_run
+native_cycle_that_holds_script_objects_is_collected-passes = refl
+
+pub native_cycle_that_holds_script_objects_is_collected-lawful : IsLawfulRun default_limits ample input.native_cycle_that_holds_script_objects_is_collected
+native_cycle_that_holds_script_objects_is_collected-lawful = run-lawful default_limits ample input.native_cycle_that_holds_script_objects_is_collected native_cycle_that_holds_script_objects_is_collected-passes
+
+pub native_cycle_that_holds_script_objects_is_collected-quiet : IsQuietRun default_limits ample input.native_cycle_that_holds_script_objects_is_collected
+native_cycle_that_holds_script_objects_is_collected-quiet = run-quiet default_limits ample input.native_cycle_that_holds_script_objects_is_collected native_cycle_that_holds_script_objects_is_collected-passes
+
+pub native_cycle_that_holds_script_objects_is_collected-audited : passes_audit default_limits ample input.native_cycle_that_holds_script_objects_is_collected ≡ true
+unfolding all_of_a_run
+native_cycle_that_holds_script_objects_is_collected-audited = refl
+
+-- Gc frees a script object that nothing holds, and the next gc finds nothing more.
+pub what_nothing_holds_is_freed_once : plain_text version_one_forms default_limits ample input.what_nothing_holds_is_freed_once
+    ≡ codes "= @1\n= @2\n= ok\n= @3\n= ok\n- free @3\n= ok\n= ok\n"
+unfolding all_of_a_run
+what_nothing_holds_is_freed_once = refl
+
+what_nothing_holds_is_freed_once-passes : passes_verdict default_limits ample input.what_nothing_holds_is_freed_once ≡ true
+unfolding all_of_a_run
+what_nothing_holds_is_freed_once-passes = refl
+
+pub what_nothing_holds_is_freed_once-lawful : IsLawfulRun default_limits ample input.what_nothing_holds_is_freed_once
+what_nothing_holds_is_freed_once-lawful = run-lawful default_limits ample input.what_nothing_holds_is_freed_once what_nothing_holds_is_freed_once-passes
+
+pub what_nothing_holds_is_freed_once-quiet : IsQuietRun default_limits ample input.what_nothing_holds_is_freed_once
+what_nothing_holds_is_freed_once-quiet = run-quiet default_limits ample input.what_nothing_holds_is_freed_once what_nothing_holds_is_freed_once-passes
+
+pub what_nothing_holds_is_freed_once-audited : passes_audit default_limits ample input.what_nothing_holds_is_freed_once ≡ true
+unfolding all_of_a_run
+what_nothing_holds_is_freed_once-audited = refl
+
+-- Gc keeps what each slot of a native holds, and the reflector that it preserves.
+pub native_keeps_what_each_slot_holds_and_its_reflector : plain_text version_one_forms default_limits ample input.native_keeps_what_each_slot_holds_and_its_reflector
+    ≡ codes "= #1\n= @1\n= ok\n= @2\n= ok\n= ~1\n= ok\n= @3\n= ok\n- free @3\n= ok\n+ #1\n+ @1\n+ @2\n+ ~1\n= census 4\n"
+unfolding all_of_a_run
+native_keeps_what_each_slot_holds_and_its_reflector = refl
+
+native_keeps_what_each_slot_holds_and_its_reflector-passes : passes_verdict default_limits ample input.native_keeps_what_each_slot_holds_and_its_reflector ≡ true
+unfolding all_of_a_run
+native_keeps_what_each_slot_holds_and_its_reflector-passes = refl
+
+pub native_keeps_what_each_slot_holds_and_its_reflector-lawful : IsLawfulRun default_limits ample input.native_keeps_what_each_slot_holds_and_its_reflector
+native_keeps_what_each_slot_holds_and_its_reflector-lawful = run-lawful default_limits ample input.native_keeps_what_each_slot_holds_and_its_reflector native_keeps_what_each_slot_holds_and_its_reflector-passes
+
+pub native_keeps_what_each_slot_holds_and_its_reflector-quiet : IsQuietRun default_limits ample input.native_keeps_what_each_slot_holds_and_its_reflector
+native_keeps_what_each_slot_holds_and_its_reflector-quiet = run-quiet default_limits ample input.native_keeps_what_each_slot_holds_and_its_reflector native_keeps_what_each_slot_holds_and_its_reflector-passes
+
+pub native_keeps_what_each_slot_holds_and_its_reflector-audited : passes_audit default_limits ample input.native_keeps_what_each_slot_holds_and_its_reflector ≡ true
+unfolding all_of_a_run
+native_keeps_what_each_slot_holds_and_its_reflector-audited = refl
+
+-- A reflector has four slots: the last of them is written and read, and there is none behind it.
+pub reflector_has_four_slots : plain_text version_one_forms default_limits ample input.reflector_has_four_slots
+    ≡ codes "= #1\n= ~1\n= @1\n= ok\n! slot\n= @1\n! slot\n"
+unfolding all_of_a_run
+reflector_has_four_slots = refl
+
+reflector_has_four_slots-passes : passes_verdict default_limits ample input.reflector_has_four_slots ≡ true
+unfolding all_of_a_run
+reflector_has_four_slots-passes = refl
+
+pub reflector_has_four_slots-lawful : IsLawfulRun default_limits ample input.reflector_has_four_slots
+reflector_has_four_slots-lawful = run-lawful default_limits ample input.reflector_has_four_slots reflector_has_four_slots-passes
+
+pub reflector_has_four_slots-quiet : IsQuietRun default_limits ample input.reflector_has_four_slots
+reflector_has_four_slots-quiet = run-quiet default_limits ample input.reflector_has_four_slots reflector_has_four_slots-passes
+
+pub reflector_has_four_slots-audited : passes_audit default_limits ample input.reflector_has_four_slots ≡ true
+unfolding all_of_a_run
+reflector_has_four_slots-audited = refl
+
 -- A reflector that was made since the last gc keeps its cycle through a collection.
 pub reflector_is_still_black : plain_text version_one_forms default_limits ample input.reflector_is_still_black
     ≡ codes "= #1\n= ~1\n= ok\n= ok\n= ok\n= ok\n+ #1\n+ ~1\n= census 2\n"
@@ -30,143 +170,3 @@ reflector_is_still_black-quiet = run-quiet default_limits ample input.reflector_
 pub reflector_is_still_black-audited : passes_audit default_limits ample input.reflector_is_still_black ≡ true
 unfolding all_of_a_run
 reflector_is_still_black-audited = refl
-
--- Gc, collect and gc take a cycle of a native and its reflector.
-pub cycle_through_a_reflector : plain_text version_one_forms default_limits ample input.cycle_through_a_reflector
-    ≡ codes "= #1\n= ~1\n= ok\n= ok\n= ok\n= ok\n+ #1\n+ ~1\n= census 2\n= ok\n- unlink #1\n= ok\n- free ~1\n- free #1\n= ok\n= census 0\n"
-unfolding all_of_a_run
-cycle_through_a_reflector = refl
-
-cycle_through_a_reflector-passes : passes_verdict default_limits ample input.cycle_through_a_reflector ≡ true
-unfolding all_of_a_run
-cycle_through_a_reflector-passes = refl
-
-pub cycle_through_a_reflector-lawful : IsLawfulRun default_limits ample input.cycle_through_a_reflector
-cycle_through_a_reflector-lawful = run-lawful default_limits ample input.cycle_through_a_reflector cycle_through_a_reflector-passes
-
-pub cycle_through_a_reflector-quiet : IsQuietRun default_limits ample input.cycle_through_a_reflector
-cycle_through_a_reflector-quiet = run-quiet default_limits ample input.cycle_through_a_reflector cycle_through_a_reflector-passes
-
-pub cycle_through_a_reflector-audited : passes_audit default_limits ample input.cycle_through_a_reflector ≡ true
-unfolding all_of_a_run
-cycle_through_a_reflector-audited = refl
-
--- A blank reflector is freed though its native lives, and goes last when it is made again.
-pub reflector_made_again_is_listed_last : plain_text version_one_forms default_limits ample input.reflector_made_again_is_listed_last
-    ≡ codes "= #1\n= ~1\n= @1\n= ok\n- free ~1\n= ok\n= ~1\n+ #1\n+ @1\n+ ~1\n= census 3\n"
-unfolding all_of_a_run
-reflector_made_again_is_listed_last = refl
-
-reflector_made_again_is_listed_last-passes : passes_verdict default_limits ample input.reflector_made_again_is_listed_last ≡ true
-unfolding all_of_a_run
-reflector_made_again_is_listed_last-passes = refl
-
-pub reflector_made_again_is_listed_last-lawful : IsLawfulRun default_limits ample input.reflector_made_again_is_listed_last
-reflector_made_again_is_listed_last-lawful = run-lawful default_limits ample input.reflector_made_again_is_listed_last reflector_made_again_is_listed_last-passes
-
-pub reflector_made_again_is_listed_last-quiet : IsQuietRun default_limits ample input.reflector_made_again_is_listed_last
-reflector_made_again_is_listed_last-quiet = run-quiet default_limits ample input.reflector_made_again_is_listed_last reflector_made_again_is_listed_last-passes
-
-pub reflector_made_again_is_listed_last-audited : passes_audit default_limits ample input.reflector_made_again_is_listed_last ≡ true
-unfolding all_of_a_run
-reflector_made_again_is_listed_last-audited = refl
-
--- A reflector whose slot was written lives as long as its native, with what it holds.
-pub written_reflector_is_preserved : plain_text version_one_forms default_limits ample input.written_reflector_is_preserved
-    ≡ codes "= #1\n= ~1\n= @1\n= ok\n= ok\n= ok\n= ok\n= ~1\n= @1\n"
-unfolding all_of_a_run
-written_reflector_is_preserved = refl
-
-written_reflector_is_preserved-passes : passes_verdict default_limits ample input.written_reflector_is_preserved ≡ true
-unfolding all_of_a_run
-written_reflector_is_preserved-passes = refl
-
-pub written_reflector_is_preserved-lawful : IsLawfulRun default_limits ample input.written_reflector_is_preserved
-written_reflector_is_preserved-lawful = run-lawful default_limits ample input.written_reflector_is_preserved written_reflector_is_preserved-passes
-
-pub written_reflector_is_preserved-quiet : IsQuietRun default_limits ample input.written_reflector_is_preserved
-written_reflector_is_preserved-quiet = run-quiet default_limits ample input.written_reflector_is_preserved written_reflector_is_preserved-passes
-
-pub written_reflector_is_preserved-audited : passes_audit default_limits ample input.written_reflector_is_preserved ≡ true
-unfolding all_of_a_run
-written_reflector_is_preserved-audited = refl
-
--- Gc marks and sweeps again as long as a freed native lets go of script objects.
-pub gc_sweeps_three_rounds : plain_text version_one_forms default_limits ample input.gc_sweeps_three_rounds
-    ≡ codes "= #1\n= #2\n= @1\n= ok\n= ~2\n= ok\n= ~1\n= ok\n= ok\n= ok\n= ok\n= ok\n- free ~1\n- free #1\n- free ~2\n- free #2\n- free @1\n= ok\n"
-unfolding all_of_a_run
-gc_sweeps_three_rounds = refl
-
-gc_sweeps_three_rounds-passes : passes_verdict default_limits ample input.gc_sweeps_three_rounds ≡ true
-unfolding all_of_a_run
-gc_sweeps_three_rounds-passes = refl
-
-pub gc_sweeps_three_rounds-lawful : IsLawfulRun default_limits ample input.gc_sweeps_three_rounds
-gc_sweeps_three_rounds-lawful = run-lawful default_limits ample input.gc_sweeps_three_rounds gc_sweeps_three_rounds-passes
-
-pub gc_sweeps_three_rounds-quiet : IsQuietRun default_limits ample input.gc_sweeps_three_rounds
-gc_sweeps_three_rounds-quiet = run-quiet default_limits ample input.gc_sweeps_three_rounds gc_sweeps_three_rounds-passes
-
-pub gc_sweeps_three_rounds-audited : passes_audit default_limits ample input.gc_sweeps_three_rounds ≡ true
-unfolding all_of_a_run
-gc_sweeps_three_rounds-audited = refl
-
--- A collection leaves a cycle that script touched after the last gc, and the next one takes it.
-pub exposed_reflector_waits_for_gc : plain_text version_one_forms default_limits ample input.exposed_reflector_waits_for_gc
-    ≡ codes "= #1\n= ~1\n= ok\n= ok\n= ok\n= ~1\n= ok\n= ok\n= ok\n- unlink #1\n= ok\n- free ~1\n- free #1\n= ok\n"
-unfolding all_of_a_run
-exposed_reflector_waits_for_gc = refl
-
-exposed_reflector_waits_for_gc-passes : passes_verdict default_limits ample input.exposed_reflector_waits_for_gc ≡ true
-unfolding all_of_a_run
-exposed_reflector_waits_for_gc-passes = refl
-
-pub exposed_reflector_waits_for_gc-lawful : IsLawfulRun default_limits ample input.exposed_reflector_waits_for_gc
-exposed_reflector_waits_for_gc-lawful = run-lawful default_limits ample input.exposed_reflector_waits_for_gc exposed_reflector_waits_for_gc-passes
-
-pub exposed_reflector_waits_for_gc-quiet : IsQuietRun default_limits ample input.exposed_reflector_waits_for_gc
-exposed_reflector_waits_for_gc-quiet = run-quiet default_limits ample input.exposed_reflector_waits_for_gc exposed_reflector_waits_for_gc-passes
-
-pub exposed_reflector_waits_for_gc-audited : passes_audit default_limits ample input.exposed_reflector_waits_for_gc ≡ true
-unfolding all_of_a_run
-exposed_reflector_waits_for_gc-audited = refl
-
--- A native and its preserved reflector hold each other, and are taken together.
-pub preserved_reflector_is_collected : plain_text version_one_forms default_limits ample input.preserved_reflector_is_collected
-    ≡ codes "= #1\n= ~1\n= ok\n= ok\n= ok\n= ok\n= ok\n- unlink #1\n= ok\n- free ~1\n- free #1\n= ok\n"
-unfolding all_of_a_run
-preserved_reflector_is_collected = refl
-
-preserved_reflector_is_collected-passes : passes_verdict default_limits ample input.preserved_reflector_is_collected ≡ true
-unfolding all_of_a_run
-preserved_reflector_is_collected-passes = refl
-
-pub preserved_reflector_is_collected-lawful : IsLawfulRun default_limits ample input.preserved_reflector_is_collected
-preserved_reflector_is_collected-lawful = run-lawful default_limits ample input.preserved_reflector_is_collected preserved_reflector_is_collected-passes
-
-pub preserved_reflector_is_collected-quiet : IsQuietRun default_limits ample input.preserved_reflector_is_collected
-preserved_reflector_is_collected-quiet = run-quiet default_limits ample input.preserved_reflector_is_collected preserved_reflector_is_collected-passes
-
-pub preserved_reflector_is_collected-audited : passes_audit default_limits ample input.preserved_reflector_is_collected ≡ true
-unfolding all_of_a_run
-preserved_reflector_is_collected-audited = refl
-
--- Gc, collect and gc take two natives that hold each other through both reflectors and a plain object.
-pub cycle_of_two_natives_and_three_script_objects : plain_text version_one_forms default_limits ample input.cycle_of_two_natives_and_three_script_objects
-    ≡ codes "= #1\n= #2\n= ~1\n= ~2\n= @1\n= ok\n= ok\n= ok\n= ok\n= ok\n= ok\n= ok\n= ok\n= ok\n+ #1\n+ #2\n+ ~1\n+ ~2\n+ @1\n= census 5\n- unlink #1\n- unlink #2\n= ok\n- free ~1\n- free #1\n- free ~2\n- free #2\n- free @1\n= ok\n= census 0\n"
-unfolding all_of_a_run
-cycle_of_two_natives_and_three_script_objects = refl
-
-cycle_of_two_natives_and_three_script_objects-passes : passes_verdict default_limits ample input.cycle_of_two_natives_and_three_script_objects ≡ true
-unfolding all_of_a_run
-cycle_of_two_natives_and_three_script_objects-passes = refl
-
-pub cycle_of_two_natives_and_three_script_objects-lawful : IsLawfulRun default_limits ample input.cycle_of_two_natives_and_three_script_objects
-cycle_of_two_natives_and_three_script_objects-lawful = run-lawful default_limits ample input.cycle_of_two_natives_and_three_script_objects cycle_of_two_natives_and_three_script_objects-passes
-
-pub cycle_of_two_natives_and_three_script_objects-quiet : IsQuietRun default_limits ample input.cycle_of_two_natives_and_three_script_objects
-cycle_of_two_natives_and_three_script_objects-quiet = run-quiet default_limits ample input.cycle_of_two_natives_and_three_script_objects cycle_of_two_natives_and_three_script_objects-passes
-
-pub cycle_of_two_natives_and_three_script_objects-audited : passes_audit default_limits ample input.cycle_of_two_natives_and_three_script_objects ≡ true
-unfolding all_of_a_run
-cycle_of_two_natives_and_three_script_objects-audited = refl

@@ -11,6 +11,146 @@ use Rattle.cc_worked.proofs.Opened.{all_of_a_run}
 use Rattle.cc_worked.proofs.LawfulTest.{run-lawful}
 use Rattle.cc_worked.proofs.QuietTest.{run-quiet}
 
+-- Gc, collect and gc take a cycle of a native and its reflector.
+pub cycle_through_a_reflector : plain_text version_one_forms default_limits ample input.cycle_through_a_reflector
+    ≡ codes "= #1\n= ~1\n= ok\n= ok\n= ok\n= ok\n+ #1\n+ ~1\n= census 2\n= ok\n- unlink #1\n= ok\n- free ~1\n- free #1\n= ok\n= census 0\n"
+unfolding all_of_a_run
+cycle_through_a_reflector = refl
+
+cycle_through_a_reflector-passes : passes_verdict default_limits ample input.cycle_through_a_reflector ≡ true
+unfolding all_of_a_run
+cycle_through_a_reflector-passes = refl
+
+pub cycle_through_a_reflector-lawful : IsLawfulRun default_limits ample input.cycle_through_a_reflector
+cycle_through_a_reflector-lawful = run-lawful default_limits ample input.cycle_through_a_reflector cycle_through_a_reflector-passes
+
+pub cycle_through_a_reflector-quiet : IsQuietRun default_limits ample input.cycle_through_a_reflector
+cycle_through_a_reflector-quiet = run-quiet default_limits ample input.cycle_through_a_reflector cycle_through_a_reflector-passes
+
+pub cycle_through_a_reflector-audited : passes_audit default_limits ample input.cycle_through_a_reflector ≡ true
+unfolding all_of_a_run
+cycle_through_a_reflector-audited = refl
+
+-- A blank reflector is freed though its native lives, and goes last when it is made again.
+pub reflector_made_again_is_listed_last : plain_text version_one_forms default_limits ample input.reflector_made_again_is_listed_last
+    ≡ codes "= #1\n= ~1\n= @1\n= ok\n- free ~1\n= ok\n= ~1\n+ #1\n+ @1\n+ ~1\n= census 3\n"
+unfolding all_of_a_run
+reflector_made_again_is_listed_last = refl
+
+reflector_made_again_is_listed_last-passes : passes_verdict default_limits ample input.reflector_made_again_is_listed_last ≡ true
+unfolding all_of_a_run
+reflector_made_again_is_listed_last-passes = refl
+
+pub reflector_made_again_is_listed_last-lawful : IsLawfulRun default_limits ample input.reflector_made_again_is_listed_last
+reflector_made_again_is_listed_last-lawful = run-lawful default_limits ample input.reflector_made_again_is_listed_last reflector_made_again_is_listed_last-passes
+
+pub reflector_made_again_is_listed_last-quiet : IsQuietRun default_limits ample input.reflector_made_again_is_listed_last
+reflector_made_again_is_listed_last-quiet = run-quiet default_limits ample input.reflector_made_again_is_listed_last reflector_made_again_is_listed_last-passes
+
+pub reflector_made_again_is_listed_last-audited : passes_audit default_limits ample input.reflector_made_again_is_listed_last ≡ true
+unfolding all_of_a_run
+reflector_made_again_is_listed_last-audited = refl
+
+-- A reflector whose slot was written lives as long as its native, with what it holds.
+pub written_reflector_is_preserved : plain_text version_one_forms default_limits ample input.written_reflector_is_preserved
+    ≡ codes "= #1\n= ~1\n= @1\n= ok\n= ok\n= ok\n= ok\n= ~1\n= @1\n"
+unfolding all_of_a_run
+written_reflector_is_preserved = refl
+
+written_reflector_is_preserved-passes : passes_verdict default_limits ample input.written_reflector_is_preserved ≡ true
+unfolding all_of_a_run
+written_reflector_is_preserved-passes = refl
+
+pub written_reflector_is_preserved-lawful : IsLawfulRun default_limits ample input.written_reflector_is_preserved
+written_reflector_is_preserved-lawful = run-lawful default_limits ample input.written_reflector_is_preserved written_reflector_is_preserved-passes
+
+pub written_reflector_is_preserved-quiet : IsQuietRun default_limits ample input.written_reflector_is_preserved
+written_reflector_is_preserved-quiet = run-quiet default_limits ample input.written_reflector_is_preserved written_reflector_is_preserved-passes
+
+pub written_reflector_is_preserved-audited : passes_audit default_limits ample input.written_reflector_is_preserved ≡ true
+unfolding all_of_a_run
+written_reflector_is_preserved-audited = refl
+
+-- Gc marks and sweeps again as long as a freed native lets go of script objects.
+pub gc_sweeps_three_rounds : plain_text version_one_forms default_limits ample input.gc_sweeps_three_rounds
+    ≡ codes "= #1\n= #2\n= @1\n= ok\n= ~2\n= ok\n= ~1\n= ok\n= ok\n= ok\n= ok\n= ok\n- free ~1\n- free #1\n- free ~2\n- free #2\n- free @1\n= ok\n"
+unfolding all_of_a_run
+gc_sweeps_three_rounds = refl
+
+gc_sweeps_three_rounds-passes : passes_verdict default_limits ample input.gc_sweeps_three_rounds ≡ true
+unfolding all_of_a_run
+gc_sweeps_three_rounds-passes = refl
+
+pub gc_sweeps_three_rounds-lawful : IsLawfulRun default_limits ample input.gc_sweeps_three_rounds
+gc_sweeps_three_rounds-lawful = run-lawful default_limits ample input.gc_sweeps_three_rounds gc_sweeps_three_rounds-passes
+
+pub gc_sweeps_three_rounds-quiet : IsQuietRun default_limits ample input.gc_sweeps_three_rounds
+gc_sweeps_three_rounds-quiet = run-quiet default_limits ample input.gc_sweeps_three_rounds gc_sweeps_three_rounds-passes
+
+pub gc_sweeps_three_rounds-audited : passes_audit default_limits ample input.gc_sweeps_three_rounds ≡ true
+unfolding all_of_a_run
+gc_sweeps_three_rounds-audited = refl
+
+-- A collection leaves a cycle that script touched after the last gc, and the next one takes it.
+pub exposed_reflector_waits_for_gc : plain_text version_one_forms default_limits ample input.exposed_reflector_waits_for_gc
+    ≡ codes "= #1\n= ~1\n= ok\n= ok\n= ok\n= ~1\n= ok\n= ok\n= ok\n- unlink #1\n= ok\n- free ~1\n- free #1\n= ok\n"
+unfolding all_of_a_run
+exposed_reflector_waits_for_gc = refl
+
+exposed_reflector_waits_for_gc-passes : passes_verdict default_limits ample input.exposed_reflector_waits_for_gc ≡ true
+unfolding all_of_a_run
+exposed_reflector_waits_for_gc-passes = refl
+
+pub exposed_reflector_waits_for_gc-lawful : IsLawfulRun default_limits ample input.exposed_reflector_waits_for_gc
+exposed_reflector_waits_for_gc-lawful = run-lawful default_limits ample input.exposed_reflector_waits_for_gc exposed_reflector_waits_for_gc-passes
+
+pub exposed_reflector_waits_for_gc-quiet : IsQuietRun default_limits ample input.exposed_reflector_waits_for_gc
+exposed_reflector_waits_for_gc-quiet = run-quiet default_limits ample input.exposed_reflector_waits_for_gc exposed_reflector_waits_for_gc-passes
+
+pub exposed_reflector_waits_for_gc-audited : passes_audit default_limits ample input.exposed_reflector_waits_for_gc ≡ true
+unfolding all_of_a_run
+exposed_reflector_waits_for_gc-audited = refl
+
+-- A native and its preserved reflector hold each other, and are taken together.
+pub preserved_reflector_is_collected : plain_text version_one_forms default_limits ample input.preserved_reflector_is_collected
+    ≡ codes "= #1\n= ~1\n= ok\n= ok\n= ok\n= ok\n= ok\n- unlink #1\n= ok\n- free ~1\n- free #1\n= ok\n"
+unfolding all_of_a_run
+preserved_reflector_is_collected = refl
+
+preserved_reflector_is_collected-passes : passes_verdict default_limits ample input.preserved_reflector_is_collected ≡ true
+unfolding all_of_a_run
+preserved_reflector_is_collected-passes = refl
+
+pub preserved_reflector_is_collected-lawful : IsLawfulRun default_limits ample input.preserved_reflector_is_collected
+preserved_reflector_is_collected-lawful = run-lawful default_limits ample input.preserved_reflector_is_collected preserved_reflector_is_collected-passes
+
+pub preserved_reflector_is_collected-quiet : IsQuietRun default_limits ample input.preserved_reflector_is_collected
+preserved_reflector_is_collected-quiet = run-quiet default_limits ample input.preserved_reflector_is_collected preserved_reflector_is_collected-passes
+
+pub preserved_reflector_is_collected-audited : passes_audit default_limits ample input.preserved_reflector_is_collected ≡ true
+unfolding all_of_a_run
+preserved_reflector_is_collected-audited = refl
+
+-- Gc, collect and gc take two natives that hold each other through both reflectors and a plain object.
+pub cycle_of_two_natives_and_three_script_objects : plain_text version_one_forms default_limits ample input.cycle_of_two_natives_and_three_script_objects
+    ≡ codes "= #1\n= #2\n= ~1\n= ~2\n= @1\n= ok\n= ok\n= ok\n= ok\n= ok\n= ok\n= ok\n= ok\n= ok\n+ #1\n+ #2\n+ ~1\n+ ~2\n+ @1\n= census 5\n- unlink #1\n- unlink #2\n= ok\n- free ~1\n- free #1\n- free ~2\n- free #2\n- free @1\n= ok\n= census 0\n"
+unfolding all_of_a_run
+cycle_of_two_natives_and_three_script_objects = refl
+
+cycle_of_two_natives_and_three_script_objects-passes : passes_verdict default_limits ample input.cycle_of_two_natives_and_three_script_objects ≡ true
+unfolding all_of_a_run
+cycle_of_two_natives_and_three_script_objects-passes = refl
+
+pub cycle_of_two_natives_and_three_script_objects-lawful : IsLawfulRun default_limits ample input.cycle_of_two_natives_and_three_script_objects
+cycle_of_two_natives_and_three_script_objects-lawful = run-lawful default_limits ample input.cycle_of_two_natives_and_three_script_objects cycle_of_two_natives_and_three_script_objects-passes
+
+pub cycle_of_two_natives_and_three_script_objects-quiet : IsQuietRun default_limits ample input.cycle_of_two_natives_and_three_script_objects
+cycle_of_two_natives_and_three_script_objects-quiet = run-quiet default_limits ample input.cycle_of_two_natives_and_three_script_objects cycle_of_two_natives_and_three_script_objects-passes
+
+pub cycle_of_two_natives_and_three_script_objects-audited : passes_audit default_limits ample input.cycle_of_two_natives_and_three_script_objects ≡ true
+unfolding all_of_a_run
+cycle_of_two_natives_and_three_script_objects-audited = refl
+
 -- Unwrap and preserve are refused for what is no reflector, and for an empty register before that.
 pub what_is_no_reflector_is_refused : plain_text version_one_forms default_limits ample input.what_is_no_reflector_is_refused
     ≡ codes "= @1\n! kind\n! kind\n! empty\n! empty\n= #1\n! empty\n! empty\n= ~1\n= #1\n= ok\n+ #1\n+ @1\n+ ~1\n= census 3\n"
@@ -30,143 +170,3 @@ what_is_no_reflector_is_refused-quiet = run-quiet default_limits ample input.wha
 pub what_is_no_reflector_is_refused-audited : passes_audit default_limits ample input.what_is_no_reflector_is_refused ≡ true
 unfolding all_of_a_run
 what_is_no_reflector_is_refused-audited = refl
-
--- A reflector that was swept and is made again has four empty slots.
-pub reflector_made_again_is_blank : plain_text version_one_forms default_limits ample input.reflector_made_again_is_blank
-    ≡ codes "= #1\n= ~1\n= @1\n= ok\n- free ~1\n= ok\n= ~1\n= none\n= none\n! slot\n= ok\n= ok\n- free ~1\n- free #1\n= ok\n"
-unfolding all_of_a_run
-reflector_made_again_is_blank = refl
-
-reflector_made_again_is_blank-passes : passes_verdict default_limits ample input.reflector_made_again_is_blank ≡ true
-unfolding all_of_a_run
-reflector_made_again_is_blank-passes = refl
-
-pub reflector_made_again_is_blank-lawful : IsLawfulRun default_limits ample input.reflector_made_again_is_blank
-reflector_made_again_is_blank-lawful = run-lawful default_limits ample input.reflector_made_again_is_blank reflector_made_again_is_blank-passes
-
-pub reflector_made_again_is_blank-quiet : IsQuietRun default_limits ample input.reflector_made_again_is_blank
-reflector_made_again_is_blank-quiet = run-quiet default_limits ample input.reflector_made_again_is_blank reflector_made_again_is_blank-passes
-
-pub reflector_made_again_is_blank-audited : passes_audit default_limits ample input.reflector_made_again_is_blank ≡ true
-unfolding all_of_a_run
-reflector_made_again_is_blank-audited = refl
-
--- An entry whose value alone holds its key is dropped, with both.
-pub entry_does_not_keep_its_key : plain_text version_one_forms default_limits ample input.entry_does_not_keep_its_key
-    ≡ codes "= @1\n= @2\n= @3\n= ok\n= ok\n= ok\n= ok\n- free @2\n- free @3\n= ok\n+ @1\n= census 1\n"
-unfolding all_of_a_run
-entry_does_not_keep_its_key = refl
-
-entry_does_not_keep_its_key-passes : passes_verdict default_limits ample input.entry_does_not_keep_its_key ≡ true
-unfolding all_of_a_run
-entry_does_not_keep_its_key-passes = refl
-
-pub entry_does_not_keep_its_key-lawful : IsLawfulRun default_limits ample input.entry_does_not_keep_its_key
-entry_does_not_keep_its_key-lawful = run-lawful default_limits ample input.entry_does_not_keep_its_key entry_does_not_keep_its_key-passes
-
-pub entry_does_not_keep_its_key-quiet : IsQuietRun default_limits ample input.entry_does_not_keep_its_key
-entry_does_not_keep_its_key-quiet = run-quiet default_limits ample input.entry_does_not_keep_its_key entry_does_not_keep_its_key-passes
-
-pub entry_does_not_keep_its_key-audited : passes_audit default_limits ample input.entry_does_not_keep_its_key ≡ true
-unfolding all_of_a_run
-entry_does_not_keep_its_key-audited = refl
-
--- A reflector that became a key lives as long as its native, and its entry with it.
-pub entry_preserves_its_reflector_key : plain_text version_one_forms default_limits ample input.entry_preserves_its_reflector_key
-    ≡ codes "= #1\n= ~1\n= @1\n= @2\n= ok\n= ok\n= ok\n= ok\n= ~1\n= @2\n"
-unfolding all_of_a_run
-entry_preserves_its_reflector_key = refl
-
-entry_preserves_its_reflector_key-passes : passes_verdict default_limits ample input.entry_preserves_its_reflector_key ≡ true
-unfolding all_of_a_run
-entry_preserves_its_reflector_key-passes = refl
-
-pub entry_preserves_its_reflector_key-lawful : IsLawfulRun default_limits ample input.entry_preserves_its_reflector_key
-entry_preserves_its_reflector_key-lawful = run-lawful default_limits ample input.entry_preserves_its_reflector_key entry_preserves_its_reflector_key-passes
-
-pub entry_preserves_its_reflector_key-quiet : IsQuietRun default_limits ample input.entry_preserves_its_reflector_key
-entry_preserves_its_reflector_key-quiet = run-quiet default_limits ample input.entry_preserves_its_reflector_key entry_preserves_its_reflector_key-passes
-
-pub entry_preserves_its_reflector_key-audited : passes_audit default_limits ample input.entry_preserves_its_reflector_key ≡ true
-unfolding all_of_a_run
-entry_preserves_its_reflector_key-audited = refl
-
--- Gc, collect and gc take a cycle that goes through an entry of a map that lives on.
-pub cycle_through_an_entry : plain_text version_one_forms default_limits ample input.cycle_through_an_entry
-    ≡ codes "= #1\n= ~1\n= @1\n= @2\n= ok\n= ok\n= ok\n= ok\n= ok\n= ok\n- unlink #1\n= ok\n- free ~1\n- free #1\n- free @2\n= ok\n+ @1\n= census 1\n"
-unfolding all_of_a_run
-cycle_through_an_entry = refl
-
-cycle_through_an_entry-passes : passes_verdict default_limits ample input.cycle_through_an_entry ≡ true
-unfolding all_of_a_run
-cycle_through_an_entry-passes = refl
-
-pub cycle_through_an_entry-lawful : IsLawfulRun default_limits ample input.cycle_through_an_entry
-cycle_through_an_entry-lawful = run-lawful default_limits ample input.cycle_through_an_entry cycle_through_an_entry-passes
-
-pub cycle_through_an_entry-quiet : IsQuietRun default_limits ample input.cycle_through_an_entry
-cycle_through_an_entry-quiet = run-quiet default_limits ample input.cycle_through_an_entry cycle_through_an_entry-passes
-
-pub cycle_through_an_entry-audited : passes_audit default_limits ample input.cycle_through_an_entry ≡ true
-unfolding all_of_a_run
-cycle_through_an_entry-audited = refl
-
--- A collection keeps the value of an entry whose key a live native holds, and what the value leads to.
-pub value_lives_by_its_mapping : plain_text version_one_forms default_limits ample input.value_lives_by_its_mapping
-    ≡ codes "= #1\n= #2\n= @1\n= @2\n= @3\n= ~2\n= ok\n= ok\n= ok\n= ok\n= ok\n= ok\n= ok\n= ok\n= ok\n= @2\n= @3\n= ~2\n= #2\n"
-unfolding all_of_a_run
-value_lives_by_its_mapping = refl
-
-value_lives_by_its_mapping-passes : passes_verdict default_limits ample input.value_lives_by_its_mapping ≡ true
-unfolding all_of_a_run
-value_lives_by_its_mapping-passes = refl
-
-pub value_lives_by_its_mapping-lawful : IsLawfulRun default_limits ample input.value_lives_by_its_mapping
-value_lives_by_its_mapping-lawful = run-lawful default_limits ample input.value_lives_by_its_mapping value_lives_by_its_mapping-passes
-
-pub value_lives_by_its_mapping-quiet : IsQuietRun default_limits ample input.value_lives_by_its_mapping
-value_lives_by_its_mapping-quiet = run-quiet default_limits ample input.value_lives_by_its_mapping value_lives_by_its_mapping-passes
-
-pub value_lives_by_its_mapping-audited : passes_audit default_limits ample input.value_lives_by_its_mapping ≡ true
-unfolding all_of_a_run
-value_lives_by_its_mapping-audited = refl
-
--- An entry's value is replaced, read and taken out; a register frees what it alone held when something else comes into it.
-pub entries_are_replaced_and_taken_out : plain_text version_one_forms default_limits ample input.entries_are_replaced_and_taken_out
-    ≡ codes "= #1\n- free #1\n= #2\n= @1\n= @2\n= @3\n= ok\n= ok\n= @2\n= ok\n= none\n= none\n= ok\n- free @3\n= ok\n"
-unfolding all_of_a_run
-entries_are_replaced_and_taken_out = refl
-
-entries_are_replaced_and_taken_out-passes : passes_verdict default_limits ample input.entries_are_replaced_and_taken_out ≡ true
-unfolding all_of_a_run
-entries_are_replaced_and_taken_out-passes = refl
-
-pub entries_are_replaced_and_taken_out-lawful : IsLawfulRun default_limits ample input.entries_are_replaced_and_taken_out
-entries_are_replaced_and_taken_out-lawful = run-lawful default_limits ample input.entries_are_replaced_and_taken_out entries_are_replaced_and_taken_out-passes
-
-pub entries_are_replaced_and_taken_out-quiet : IsQuietRun default_limits ample input.entries_are_replaced_and_taken_out
-entries_are_replaced_and_taken_out-quiet = run-quiet default_limits ample input.entries_are_replaced_and_taken_out entries_are_replaced_and_taken_out-passes
-
-pub entries_are_replaced_and_taken_out-audited : passes_audit default_limits ample input.entries_are_replaced_and_taken_out ≡ true
-unfolding all_of_a_run
-entries_are_replaced_and_taken_out-audited = refl
-
--- Reading a slot of a weak map is refused for the kind of the object, and not for the slot.
-pub weak_map_has_no_slot_to_read : plain_text version_one_forms default_limits ample input.weak_map_has_no_slot_to_read
-    ≡ codes "= @1\n! kind\n"
-unfolding all_of_a_run
-weak_map_has_no_slot_to_read = refl
-
-weak_map_has_no_slot_to_read-passes : passes_verdict default_limits ample input.weak_map_has_no_slot_to_read ≡ true
-unfolding all_of_a_run
-weak_map_has_no_slot_to_read-passes = refl
-
-pub weak_map_has_no_slot_to_read-lawful : IsLawfulRun default_limits ample input.weak_map_has_no_slot_to_read
-weak_map_has_no_slot_to_read-lawful = run-lawful default_limits ample input.weak_map_has_no_slot_to_read weak_map_has_no_slot_to_read-passes
-
-pub weak_map_has_no_slot_to_read-quiet : IsQuietRun default_limits ample input.weak_map_has_no_slot_to_read
-weak_map_has_no_slot_to_read-quiet = run-quiet default_limits ample input.weak_map_has_no_slot_to_read weak_map_has_no_slot_to_read-passes
-
-pub weak_map_has_no_slot_to_read-audited : passes_audit default_limits ample input.weak_map_has_no_slot_to_read ≡ true
-unfolding all_of_a_run
-weak_map_has_no_slot_to_read-audited = refl

@@ -11,162 +11,162 @@ use Rattle.cc_worked.proofs.Opened.{all_of_a_run}
 use Rattle.cc_worked.proofs.LawfulTest.{run-lawful}
 use Rattle.cc_worked.proofs.QuietTest.{run-quiet}
 
--- An entry is not looked up by an empty register.
-pub empty_key_is_refused : plain_text version_one_forms default_limits ample input.empty_key_is_refused
-    ≡ codes "= @1\n! empty\n= none\n"
+-- A reflector that was swept and is made again has four empty slots.
+pub reflector_made_again_is_blank : plain_text version_one_forms default_limits ample input.reflector_made_again_is_blank
+    ≡ codes "= #1\n= ~1\n= @1\n= ok\n- free ~1\n= ok\n= ~1\n= none\n= none\n! slot\n= ok\n= ok\n- free ~1\n- free #1\n= ok\n"
 unfolding all_of_a_run
-empty_key_is_refused = refl
+reflector_made_again_is_blank = refl
 
-empty_key_is_refused-passes : passes_verdict default_limits ample input.empty_key_is_refused ≡ true
+reflector_made_again_is_blank-passes : passes_verdict default_limits ample input.reflector_made_again_is_blank ≡ true
 unfolding all_of_a_run
-empty_key_is_refused-passes = refl
+reflector_made_again_is_blank-passes = refl
 
-pub empty_key_is_refused-lawful : IsLawfulRun default_limits ample input.empty_key_is_refused
-empty_key_is_refused-lawful = run-lawful default_limits ample input.empty_key_is_refused empty_key_is_refused-passes
+pub reflector_made_again_is_blank-lawful : IsLawfulRun default_limits ample input.reflector_made_again_is_blank
+reflector_made_again_is_blank-lawful = run-lawful default_limits ample input.reflector_made_again_is_blank reflector_made_again_is_blank-passes
 
-pub empty_key_is_refused-quiet : IsQuietRun default_limits ample input.empty_key_is_refused
-empty_key_is_refused-quiet = run-quiet default_limits ample input.empty_key_is_refused empty_key_is_refused-passes
+pub reflector_made_again_is_blank-quiet : IsQuietRun default_limits ample input.reflector_made_again_is_blank
+reflector_made_again_is_blank-quiet = run-quiet default_limits ample input.reflector_made_again_is_blank reflector_made_again_is_blank-passes
 
-pub empty_key_is_refused-audited : passes_audit default_limits ample input.empty_key_is_refused ≡ true
+pub reflector_made_again_is_blank-audited : passes_audit default_limits ample input.reflector_made_again_is_blank ≡ true
 unfolding all_of_a_run
-empty_key_is_refused-audited = refl
+reflector_made_again_is_blank-audited = refl
 
--- Writing a slot of a weak map, or emptying it, is refused for the kind of the object, but first for an empty register.
-pub weak_map_has_no_slot_to_write : plain_text version_one_forms default_limits ample input.weak_map_has_no_slot_to_write
-    ≡ codes "= @1\n! kind\n! kind\n! empty\n! empty\n! kind\n"
+-- A reflector that is swept lets its native go before the next object is swept.
+pub native_is_freed_before_the_next_object_is_swept : plain_text version_one_forms default_limits ample input.native_is_freed_before_the_next_object_is_swept
+    ≡ codes "= #1\n= ~1\n= @1\n= ok\n= ok\n= ok\n- free ~1\n- free #1\n- free @1\n= ok\n"
 unfolding all_of_a_run
-weak_map_has_no_slot_to_write = refl
+native_is_freed_before_the_next_object_is_swept = refl
 
-weak_map_has_no_slot_to_write-passes : passes_verdict default_limits ample input.weak_map_has_no_slot_to_write ≡ true
+native_is_freed_before_the_next_object_is_swept-passes : passes_verdict default_limits ample input.native_is_freed_before_the_next_object_is_swept ≡ true
 unfolding all_of_a_run
-weak_map_has_no_slot_to_write-passes = refl
+native_is_freed_before_the_next_object_is_swept-passes = refl
 
-pub weak_map_has_no_slot_to_write-lawful : IsLawfulRun default_limits ample input.weak_map_has_no_slot_to_write
-weak_map_has_no_slot_to_write-lawful = run-lawful default_limits ample input.weak_map_has_no_slot_to_write weak_map_has_no_slot_to_write-passes
+pub native_is_freed_before_the_next_object_is_swept-lawful : IsLawfulRun default_limits ample input.native_is_freed_before_the_next_object_is_swept
+native_is_freed_before_the_next_object_is_swept-lawful = run-lawful default_limits ample input.native_is_freed_before_the_next_object_is_swept native_is_freed_before_the_next_object_is_swept-passes
 
-pub weak_map_has_no_slot_to_write-quiet : IsQuietRun default_limits ample input.weak_map_has_no_slot_to_write
-weak_map_has_no_slot_to_write-quiet = run-quiet default_limits ample input.weak_map_has_no_slot_to_write weak_map_has_no_slot_to_write-passes
+pub native_is_freed_before_the_next_object_is_swept-quiet : IsQuietRun default_limits ample input.native_is_freed_before_the_next_object_is_swept
+native_is_freed_before_the_next_object_is_swept-quiet = run-quiet default_limits ample input.native_is_freed_before_the_next_object_is_swept native_is_freed_before_the_next_object_is_swept-passes
 
-pub weak_map_has_no_slot_to_write-audited : passes_audit default_limits ample input.weak_map_has_no_slot_to_write ≡ true
+pub native_is_freed_before_the_next_object_is_swept-audited : passes_audit default_limits ample input.native_is_freed_before_the_next_object_is_swept ≡ true
 unfolding all_of_a_run
-weak_map_has_no_slot_to_write-audited = refl
+native_is_freed_before_the_next_object_is_swept-audited = refl
 
--- A weak map that is the value of an entry of another one lives by it, and so do the values of its own entries.
-pub map_reached_through_an_entry_alone : plain_text version_one_forms default_limits ample input.map_reached_through_an_entry_alone
-    ≡ codes "= @1\n= @2\n= @3\n= @4\n= @5\n= ok\n= ok\n= ok\n= ok\n= ok\n= @2\n= @5\n= ok\n= ok\n= ok\n- free @2\n- free @5\n= ok\n+ @1\n+ @3\n+ @4\n= census 3\n"
+-- A native that is wrapped twice has one reflector, and lives by it.
+pub native_has_one_reflector : plain_text version_one_forms default_limits ample input.native_has_one_reflector
+    ≡ codes "= #1\n= ~1\n= ~1\n= ok\n= ok\n= ok\n= #1\n+ #1\n+ ~1\n= census 2\n"
 unfolding all_of_a_run
-map_reached_through_an_entry_alone = refl
+native_has_one_reflector = refl
 
-map_reached_through_an_entry_alone-passes : passes_verdict default_limits ample input.map_reached_through_an_entry_alone ≡ true
+native_has_one_reflector-passes : passes_verdict default_limits ample input.native_has_one_reflector ≡ true
 unfolding all_of_a_run
-map_reached_through_an_entry_alone-passes = refl
+native_has_one_reflector-passes = refl
 
-pub map_reached_through_an_entry_alone-lawful : IsLawfulRun default_limits ample input.map_reached_through_an_entry_alone
-map_reached_through_an_entry_alone-lawful = run-lawful default_limits ample input.map_reached_through_an_entry_alone map_reached_through_an_entry_alone-passes
+pub native_has_one_reflector-lawful : IsLawfulRun default_limits ample input.native_has_one_reflector
+native_has_one_reflector-lawful = run-lawful default_limits ample input.native_has_one_reflector native_has_one_reflector-passes
 
-pub map_reached_through_an_entry_alone-quiet : IsQuietRun default_limits ample input.map_reached_through_an_entry_alone
-map_reached_through_an_entry_alone-quiet = run-quiet default_limits ample input.map_reached_through_an_entry_alone map_reached_through_an_entry_alone-passes
+pub native_has_one_reflector-quiet : IsQuietRun default_limits ample input.native_has_one_reflector
+native_has_one_reflector-quiet = run-quiet default_limits ample input.native_has_one_reflector native_has_one_reflector-passes
 
-pub map_reached_through_an_entry_alone-audited : passes_audit default_limits ample input.map_reached_through_an_entry_alone ≡ true
+pub native_has_one_reflector-audited : passes_audit default_limits ample input.native_has_one_reflector ≡ true
 unfolding all_of_a_run
-map_reached_through_an_entry_alone-audited = refl
+native_has_one_reflector-audited = refl
 
--- The entry of a map that is freed is dropped, while its key and its value live on.
-pub entry_goes_with_its_map : plain_text version_one_forms default_limits ample input.entry_goes_with_its_map
-    ≡ codes "= @1\n= @2\n= @3\n= ok\n= ok\n- free @1\n= ok\n= @4\n= none\n+ @2\n+ @3\n+ @4\n= census 3\n"
+-- A reflector that was swept and is made again is preserved like the first one.
+pub reflector_made_again_is_preserved : plain_text version_one_forms default_limits ample input.reflector_made_again_is_preserved
+    ≡ codes "= #1\n= ~1\n= ok\n- free ~1\n= ok\n= ~1\n= ok\n= ok\n= ok\n+ #1\n+ ~1\n= census 2\n"
 unfolding all_of_a_run
-entry_goes_with_its_map = refl
+reflector_made_again_is_preserved = refl
 
-entry_goes_with_its_map-passes : passes_verdict default_limits ample input.entry_goes_with_its_map ≡ true
+reflector_made_again_is_preserved-passes : passes_verdict default_limits ample input.reflector_made_again_is_preserved ≡ true
 unfolding all_of_a_run
-entry_goes_with_its_map-passes = refl
+reflector_made_again_is_preserved-passes = refl
 
-pub entry_goes_with_its_map-lawful : IsLawfulRun default_limits ample input.entry_goes_with_its_map
-entry_goes_with_its_map-lawful = run-lawful default_limits ample input.entry_goes_with_its_map entry_goes_with_its_map-passes
+pub reflector_made_again_is_preserved-lawful : IsLawfulRun default_limits ample input.reflector_made_again_is_preserved
+reflector_made_again_is_preserved-lawful = run-lawful default_limits ample input.reflector_made_again_is_preserved reflector_made_again_is_preserved-passes
 
-pub entry_goes_with_its_map-quiet : IsQuietRun default_limits ample input.entry_goes_with_its_map
-entry_goes_with_its_map-quiet = run-quiet default_limits ample input.entry_goes_with_its_map entry_goes_with_its_map-passes
+pub reflector_made_again_is_preserved-quiet : IsQuietRun default_limits ample input.reflector_made_again_is_preserved
+reflector_made_again_is_preserved-quiet = run-quiet default_limits ample input.reflector_made_again_is_preserved reflector_made_again_is_preserved-passes
 
-pub entry_goes_with_its_map-audited : passes_audit default_limits ample input.entry_goes_with_its_map ≡ true
+pub reflector_made_again_is_preserved-audited : passes_audit default_limits ample input.reflector_made_again_is_preserved ≡ true
 unfolding all_of_a_run
-entry_goes_with_its_map-audited = refl
+reflector_made_again_is_preserved-audited = refl
 
--- A weak map that is its own key keeps the value as long as it lives.
-pub map_is_its_own_key : plain_text version_one_forms default_limits ample input.map_is_its_own_key
-    ≡ codes "= @1\n= @2\n= ok\n= ok\n= ok\n= @2\n= ok\n= ok\n- free @1\n- free @2\n= ok\n"
+-- A reflector is preserved where a slot of it is emptied, too.
+pub emptied_slot_preserves_its_reflector : plain_text version_one_forms default_limits ample input.emptied_slot_preserves_its_reflector
+    ≡ codes "= #1\n= ~1\n= ok\n= ok\n= ok\n+ #1\n+ ~1\n= census 2\n"
 unfolding all_of_a_run
-map_is_its_own_key = refl
+emptied_slot_preserves_its_reflector = refl
 
-map_is_its_own_key-passes : passes_verdict default_limits ample input.map_is_its_own_key ≡ true
+emptied_slot_preserves_its_reflector-passes : passes_verdict default_limits ample input.emptied_slot_preserves_its_reflector ≡ true
 unfolding all_of_a_run
-map_is_its_own_key-passes = refl
+emptied_slot_preserves_its_reflector-passes = refl
 
-pub map_is_its_own_key-lawful : IsLawfulRun default_limits ample input.map_is_its_own_key
-map_is_its_own_key-lawful = run-lawful default_limits ample input.map_is_its_own_key map_is_its_own_key-passes
+pub emptied_slot_preserves_its_reflector-lawful : IsLawfulRun default_limits ample input.emptied_slot_preserves_its_reflector
+emptied_slot_preserves_its_reflector-lawful = run-lawful default_limits ample input.emptied_slot_preserves_its_reflector emptied_slot_preserves_its_reflector-passes
 
-pub map_is_its_own_key-quiet : IsQuietRun default_limits ample input.map_is_its_own_key
-map_is_its_own_key-quiet = run-quiet default_limits ample input.map_is_its_own_key map_is_its_own_key-passes
+pub emptied_slot_preserves_its_reflector-quiet : IsQuietRun default_limits ample input.emptied_slot_preserves_its_reflector
+emptied_slot_preserves_its_reflector-quiet = run-quiet default_limits ample input.emptied_slot_preserves_its_reflector emptied_slot_preserves_its_reflector-passes
 
-pub map_is_its_own_key-audited : passes_audit default_limits ample input.map_is_its_own_key ≡ true
+pub emptied_slot_preserves_its_reflector-audited : passes_audit default_limits ample input.emptied_slot_preserves_its_reflector ≡ true
 unfolding all_of_a_run
-map_is_its_own_key-audited = refl
+emptied_slot_preserves_its_reflector-audited = refl
 
--- An entry does not keep its map, also where that is its value.
-pub map_is_a_value_of_its_own : plain_text version_one_forms default_limits ample input.map_is_a_value_of_its_own
-    ≡ codes "= @1\n= @2\n= ok\n= @1\n= ok\n= ok\n- free @1\n= ok\n+ @2\n= census 1\n"
+-- A reflector whose slot is not written is not preserved.
+pub refused_put_preserves_nothing : plain_text version_one_forms default_limits ample input.refused_put_preserves_nothing
+    ≡ codes "= #1\n= ~1\n! slot\n! slot\n! empty\n= ok\n- free ~1\n= ok\n+ #1\n= census 1\n"
 unfolding all_of_a_run
-map_is_a_value_of_its_own = refl
+refused_put_preserves_nothing = refl
 
-map_is_a_value_of_its_own-passes : passes_verdict default_limits ample input.map_is_a_value_of_its_own ≡ true
+refused_put_preserves_nothing-passes : passes_verdict default_limits ample input.refused_put_preserves_nothing ≡ true
 unfolding all_of_a_run
-map_is_a_value_of_its_own-passes = refl
+refused_put_preserves_nothing-passes = refl
 
-pub map_is_a_value_of_its_own-lawful : IsLawfulRun default_limits ample input.map_is_a_value_of_its_own
-map_is_a_value_of_its_own-lawful = run-lawful default_limits ample input.map_is_a_value_of_its_own map_is_a_value_of_its_own-passes
+pub refused_put_preserves_nothing-lawful : IsLawfulRun default_limits ample input.refused_put_preserves_nothing
+refused_put_preserves_nothing-lawful = run-lawful default_limits ample input.refused_put_preserves_nothing refused_put_preserves_nothing-passes
 
-pub map_is_a_value_of_its_own-quiet : IsQuietRun default_limits ample input.map_is_a_value_of_its_own
-map_is_a_value_of_its_own-quiet = run-quiet default_limits ample input.map_is_a_value_of_its_own map_is_a_value_of_its_own-passes
+pub refused_put_preserves_nothing-quiet : IsQuietRun default_limits ample input.refused_put_preserves_nothing
+refused_put_preserves_nothing-quiet = run-quiet default_limits ample input.refused_put_preserves_nothing refused_put_preserves_nothing-passes
 
-pub map_is_a_value_of_its_own-audited : passes_audit default_limits ample input.map_is_a_value_of_its_own ≡ true
+pub refused_put_preserves_nothing-audited : passes_audit default_limits ample input.refused_put_preserves_nothing ≡ true
 unfolding all_of_a_run
-map_is_a_value_of_its_own-audited = refl
+refused_put_preserves_nothing-audited = refl
 
--- The value of two entries lives by the one whose key lives, and goes when that key goes too.
-pub two_entries_have_one_value : plain_text version_one_forms default_limits ample input.two_entries_have_one_value
-    ≡ codes "= @1\n= @2\n= @3\n= @4\n= ok\n= ok\n= ok\n= ok\n- free @2\n= ok\n= @4\n= ok\n= ok\n- free @3\n- free @4\n= ok\n"
+-- A reflector is not preserved where it comes into a slot, or becomes a value.
+pub stored_reflector_is_not_preserved : plain_text version_one_forms default_limits ample input.stored_reflector_is_not_preserved
+    ≡ codes "= #1\n= ~1\n= @1\n= ok\n= @2\n= ok\n= ok\n= ok\n- free ~1\n- free @1\n= ok\n+ #1\n+ @2\n= census 2\n"
 unfolding all_of_a_run
-two_entries_have_one_value = refl
+stored_reflector_is_not_preserved = refl
 
-two_entries_have_one_value-passes : passes_verdict default_limits ample input.two_entries_have_one_value ≡ true
+stored_reflector_is_not_preserved-passes : passes_verdict default_limits ample input.stored_reflector_is_not_preserved ≡ true
 unfolding all_of_a_run
-two_entries_have_one_value-passes = refl
+stored_reflector_is_not_preserved-passes = refl
 
-pub two_entries_have_one_value-lawful : IsLawfulRun default_limits ample input.two_entries_have_one_value
-two_entries_have_one_value-lawful = run-lawful default_limits ample input.two_entries_have_one_value two_entries_have_one_value-passes
+pub stored_reflector_is_not_preserved-lawful : IsLawfulRun default_limits ample input.stored_reflector_is_not_preserved
+stored_reflector_is_not_preserved-lawful = run-lawful default_limits ample input.stored_reflector_is_not_preserved stored_reflector_is_not_preserved-passes
 
-pub two_entries_have_one_value-quiet : IsQuietRun default_limits ample input.two_entries_have_one_value
-two_entries_have_one_value-quiet = run-quiet default_limits ample input.two_entries_have_one_value two_entries_have_one_value-passes
+pub stored_reflector_is_not_preserved-quiet : IsQuietRun default_limits ample input.stored_reflector_is_not_preserved
+stored_reflector_is_not_preserved-quiet = run-quiet default_limits ample input.stored_reflector_is_not_preserved stored_reflector_is_not_preserved-passes
 
-pub two_entries_have_one_value-audited : passes_audit default_limits ample input.two_entries_have_one_value ≡ true
+pub stored_reflector_is_not_preserved-audited : passes_audit default_limits ample input.stored_reflector_is_not_preserved ≡ true
 unfolding all_of_a_run
-two_entries_have_one_value-audited = refl
+stored_reflector_is_not_preserved-audited = refl
 
--- An entry does not keep a value that is its own key.
-pub value_is_its_own_key : plain_text version_one_forms default_limits ample input.value_is_its_own_key
-    ≡ codes "= @1\n= @2\n= ok\n= ok\n= @2\n= ok\n= ok\n- free @2\n= ok\n+ @1\n= census 1\n"
+-- An entry whose value alone holds its key is dropped, with both.
+pub entry_does_not_keep_its_key : plain_text version_one_forms default_limits ample input.entry_does_not_keep_its_key
+    ≡ codes "= @1\n= @2\n= @3\n= ok\n= ok\n= ok\n= ok\n- free @2\n- free @3\n= ok\n+ @1\n= census 1\n"
 unfolding all_of_a_run
-value_is_its_own_key = refl
+entry_does_not_keep_its_key = refl
 
-value_is_its_own_key-passes : passes_verdict default_limits ample input.value_is_its_own_key ≡ true
+entry_does_not_keep_its_key-passes : passes_verdict default_limits ample input.entry_does_not_keep_its_key ≡ true
 unfolding all_of_a_run
-value_is_its_own_key-passes = refl
+entry_does_not_keep_its_key-passes = refl
 
-pub value_is_its_own_key-lawful : IsLawfulRun default_limits ample input.value_is_its_own_key
-value_is_its_own_key-lawful = run-lawful default_limits ample input.value_is_its_own_key value_is_its_own_key-passes
+pub entry_does_not_keep_its_key-lawful : IsLawfulRun default_limits ample input.entry_does_not_keep_its_key
+entry_does_not_keep_its_key-lawful = run-lawful default_limits ample input.entry_does_not_keep_its_key entry_does_not_keep_its_key-passes
 
-pub value_is_its_own_key-quiet : IsQuietRun default_limits ample input.value_is_its_own_key
-value_is_its_own_key-quiet = run-quiet default_limits ample input.value_is_its_own_key value_is_its_own_key-passes
+pub entry_does_not_keep_its_key-quiet : IsQuietRun default_limits ample input.entry_does_not_keep_its_key
+entry_does_not_keep_its_key-quiet = run-quiet default_limits ample input.entry_does_not_keep_its_key entry_does_not_keep_its_key-passes
 
-pub value_is_its_own_key-audited : passes_audit default_limits ample input.value_is_its_own_key ≡ true
+pub entry_does_not_keep_its_key-audited : passes_audit default_limits ample input.entry_does_not_keep_its_key ≡ true
 unfolding all_of_a_run
-value_is_its_own_key-audited = refl
+entry_does_not_keep_its_key-audited = refl

@@ -11,162 +11,162 @@ use Rattle.cc_worked.proofs.Opened.{all_of_a_run}
 use Rattle.cc_worked.proofs.LawfulTest.{run-lawful}
 use Rattle.cc_worked.proofs.QuietTest.{run-quiet}
 
--- A collection with two nodes takes a unit to begin, one for each node, and one to end.
-pub two_cycle_takes_four_units : plain_text version_one_forms default_limits ample input.two_cycle_takes_four_units
-    ≡ codes "= #1\n= #2\n= ok\n= ok\n= ok\n= ok\n= ok\n= ok\n= ok\n- unlink #1\n- unlink #2\n- free #1\n- free #2\n= ok\n"
+-- A reflector that became a key lives as long as its native, and its entry with it.
+pub entry_preserves_its_reflector_key : plain_text version_one_forms default_limits ample input.entry_preserves_its_reflector_key
+    ≡ codes "= #1\n= ~1\n= @1\n= @2\n= ok\n= ok\n= ok\n= ok\n= ~1\n= @2\n"
 unfolding all_of_a_run
-two_cycle_takes_four_units = refl
+entry_preserves_its_reflector_key = refl
 
-two_cycle_takes_four_units-passes : passes_verdict default_limits ample input.two_cycle_takes_four_units ≡ true
+entry_preserves_its_reflector_key-passes : passes_verdict default_limits ample input.entry_preserves_its_reflector_key ≡ true
 unfolding all_of_a_run
-two_cycle_takes_four_units-passes = refl
+entry_preserves_its_reflector_key-passes = refl
 
-pub two_cycle_takes_four_units-lawful : IsLawfulRun default_limits ample input.two_cycle_takes_four_units
-two_cycle_takes_four_units-lawful = run-lawful default_limits ample input.two_cycle_takes_four_units two_cycle_takes_four_units-passes
+pub entry_preserves_its_reflector_key-lawful : IsLawfulRun default_limits ample input.entry_preserves_its_reflector_key
+entry_preserves_its_reflector_key-lawful = run-lawful default_limits ample input.entry_preserves_its_reflector_key entry_preserves_its_reflector_key-passes
 
-pub two_cycle_takes_four_units-quiet : IsQuietRun default_limits ample input.two_cycle_takes_four_units
-two_cycle_takes_four_units-quiet = run-quiet default_limits ample input.two_cycle_takes_four_units two_cycle_takes_four_units-passes
+pub entry_preserves_its_reflector_key-quiet : IsQuietRun default_limits ample input.entry_preserves_its_reflector_key
+entry_preserves_its_reflector_key-quiet = run-quiet default_limits ample input.entry_preserves_its_reflector_key entry_preserves_its_reflector_key-passes
 
-pub two_cycle_takes_four_units-audited : passes_audit default_limits ample input.two_cycle_takes_four_units ≡ true
+pub entry_preserves_its_reflector_key-audited : passes_audit default_limits ample input.entry_preserves_its_reflector_key ≡ true
 unfolding all_of_a_run
-two_cycle_takes_four_units-audited = refl
+entry_preserves_its_reflector_key-audited = refl
 
--- A native that stands in the buffer without the purple mark is no node, so a collection that begins with it alone takes two units.
-pub only_purple_natives_are_candidates : plain_text version_one_forms default_limits ample input.only_purple_natives_are_candidates
-    ≡ codes "= #1\n= ok\n= #2\n= ok\n= ok\n- unlink #2\n- free #2\n= ok\n"
+-- Gc, collect and gc take a cycle that goes through an entry of a map that lives on.
+pub cycle_through_an_entry : plain_text version_one_forms default_limits ample input.cycle_through_an_entry
+    ≡ codes "= #1\n= ~1\n= @1\n= @2\n= ok\n= ok\n= ok\n= ok\n= ok\n= ok\n- unlink #1\n= ok\n- free ~1\n- free #1\n- free @2\n= ok\n+ @1\n= census 1\n"
 unfolding all_of_a_run
-only_purple_natives_are_candidates = refl
+cycle_through_an_entry = refl
 
-only_purple_natives_are_candidates-passes : passes_verdict default_limits ample input.only_purple_natives_are_candidates ≡ true
+cycle_through_an_entry-passes : passes_verdict default_limits ample input.cycle_through_an_entry ≡ true
 unfolding all_of_a_run
-only_purple_natives_are_candidates-passes = refl
+cycle_through_an_entry-passes = refl
 
-pub only_purple_natives_are_candidates-lawful : IsLawfulRun default_limits ample input.only_purple_natives_are_candidates
-only_purple_natives_are_candidates-lawful = run-lawful default_limits ample input.only_purple_natives_are_candidates only_purple_natives_are_candidates-passes
+pub cycle_through_an_entry-lawful : IsLawfulRun default_limits ample input.cycle_through_an_entry
+cycle_through_an_entry-lawful = run-lawful default_limits ample input.cycle_through_an_entry cycle_through_an_entry-passes
 
-pub only_purple_natives_are_candidates-quiet : IsQuietRun default_limits ample input.only_purple_natives_are_candidates
-only_purple_natives_are_candidates-quiet = run-quiet default_limits ample input.only_purple_natives_are_candidates only_purple_natives_are_candidates-passes
+pub cycle_through_an_entry-quiet : IsQuietRun default_limits ample input.cycle_through_an_entry
+cycle_through_an_entry-quiet = run-quiet default_limits ample input.cycle_through_an_entry cycle_through_an_entry-passes
 
-pub only_purple_natives_are_candidates-audited : passes_audit default_limits ample input.only_purple_natives_are_candidates ≡ true
+pub cycle_through_an_entry-audited : passes_audit default_limits ample input.cycle_through_an_entry ≡ true
 unfolding all_of_a_run
-only_purple_natives_are_candidates-audited = refl
+cycle_through_an_entry-audited = refl
 
--- A native that gets a reference is not purple any more, so a collection that begins with it alone takes two units.
-pub added_reference_ends_purple : plain_text version_one_forms default_limits ample input.added_reference_ends_purple
-    ≡ codes "= #1\n= #1\n= ok\n= #1\n= ok\n= #2\n= ok\n= ok\n- unlink #2\n- free #2\n= ok\n"
+-- A collection keeps the value of an entry whose key a live native holds, and what the value leads to.
+pub value_lives_by_its_mapping : plain_text version_one_forms default_limits ample input.value_lives_by_its_mapping
+    ≡ codes "= #1\n= #2\n= @1\n= @2\n= @3\n= ~2\n= ok\n= ok\n= ok\n= ok\n= ok\n= ok\n= ok\n= ok\n= ok\n= @2\n= @3\n= ~2\n= #2\n"
 unfolding all_of_a_run
-added_reference_ends_purple = refl
+value_lives_by_its_mapping = refl
 
-added_reference_ends_purple-passes : passes_verdict default_limits ample input.added_reference_ends_purple ≡ true
+value_lives_by_its_mapping-passes : passes_verdict default_limits ample input.value_lives_by_its_mapping ≡ true
 unfolding all_of_a_run
-added_reference_ends_purple-passes = refl
+value_lives_by_its_mapping-passes = refl
 
-pub added_reference_ends_purple-lawful : IsLawfulRun default_limits ample input.added_reference_ends_purple
-added_reference_ends_purple-lawful = run-lawful default_limits ample input.added_reference_ends_purple added_reference_ends_purple-passes
+pub value_lives_by_its_mapping-lawful : IsLawfulRun default_limits ample input.value_lives_by_its_mapping
+value_lives_by_its_mapping-lawful = run-lawful default_limits ample input.value_lives_by_its_mapping value_lives_by_its_mapping-passes
 
-pub added_reference_ends_purple-quiet : IsQuietRun default_limits ample input.added_reference_ends_purple
-added_reference_ends_purple-quiet = run-quiet default_limits ample input.added_reference_ends_purple added_reference_ends_purple-passes
+pub value_lives_by_its_mapping-quiet : IsQuietRun default_limits ample input.value_lives_by_its_mapping
+value_lives_by_its_mapping-quiet = run-quiet default_limits ample input.value_lives_by_its_mapping value_lives_by_its_mapping-passes
 
-pub added_reference_ends_purple-audited : passes_audit default_limits ample input.added_reference_ends_purple ≡ true
+pub value_lives_by_its_mapping-audited : passes_audit default_limits ample input.value_lives_by_its_mapping ≡ true
 unfolding all_of_a_run
-added_reference_ends_purple-audited = refl
+value_lives_by_its_mapping-audited = refl
 
--- A purple native that is freed leaves the buffer, so a collection that begins then takes two units.
-pub freed_native_leaves_the_buffer : plain_text version_one_forms default_limits ample input.freed_native_leaves_the_buffer
-    ≡ codes "= #1\n= #1\n= ok\n- free #1\n= ok\n= ok\n= #2\n= ok\n= ok\n- unlink #2\n- free #2\n= ok\n"
+-- An entry's value is replaced, read and taken out; a register frees what it alone held when something else comes into it.
+pub entries_are_replaced_and_taken_out : plain_text version_one_forms default_limits ample input.entries_are_replaced_and_taken_out
+    ≡ codes "= #1\n- free #1\n= #2\n= @1\n= @2\n= @3\n= ok\n= ok\n= @2\n= ok\n= none\n= none\n= ok\n- free @3\n= ok\n"
 unfolding all_of_a_run
-freed_native_leaves_the_buffer = refl
+entries_are_replaced_and_taken_out = refl
 
-freed_native_leaves_the_buffer-passes : passes_verdict default_limits ample input.freed_native_leaves_the_buffer ≡ true
+entries_are_replaced_and_taken_out-passes : passes_verdict default_limits ample input.entries_are_replaced_and_taken_out ≡ true
 unfolding all_of_a_run
-freed_native_leaves_the_buffer-passes = refl
+entries_are_replaced_and_taken_out-passes = refl
 
-pub freed_native_leaves_the_buffer-lawful : IsLawfulRun default_limits ample input.freed_native_leaves_the_buffer
-freed_native_leaves_the_buffer-lawful = run-lawful default_limits ample input.freed_native_leaves_the_buffer freed_native_leaves_the_buffer-passes
+pub entries_are_replaced_and_taken_out-lawful : IsLawfulRun default_limits ample input.entries_are_replaced_and_taken_out
+entries_are_replaced_and_taken_out-lawful = run-lawful default_limits ample input.entries_are_replaced_and_taken_out entries_are_replaced_and_taken_out-passes
 
-pub freed_native_leaves_the_buffer-quiet : IsQuietRun default_limits ample input.freed_native_leaves_the_buffer
-freed_native_leaves_the_buffer-quiet = run-quiet default_limits ample input.freed_native_leaves_the_buffer freed_native_leaves_the_buffer-passes
+pub entries_are_replaced_and_taken_out-quiet : IsQuietRun default_limits ample input.entries_are_replaced_and_taken_out
+entries_are_replaced_and_taken_out-quiet = run-quiet default_limits ample input.entries_are_replaced_and_taken_out entries_are_replaced_and_taken_out-passes
 
-pub freed_native_leaves_the_buffer-audited : passes_audit default_limits ample input.freed_native_leaves_the_buffer ≡ true
+pub entries_are_replaced_and_taken_out-audited : passes_audit default_limits ample input.entries_are_replaced_and_taken_out ≡ true
 unfolding all_of_a_run
-freed_native_leaves_the_buffer-audited = refl
+entries_are_replaced_and_taken_out-audited = refl
 
--- A black script object that a native holds is no node, so a collection with that native alone takes three units.
-pub black_objects_are_not_looked_at : plain_text version_one_forms default_limits ample input.black_objects_are_not_looked_at
-    ≡ codes "= #1\n= @1\n= ok\n= #1\n= ok\n= ok\n= #2\n= ok\n= ok\n- unlink #2\n- free #2\n= ok\n"
+-- Reading a slot of a weak map is refused for the kind of the object, and not for the slot.
+pub weak_map_has_no_slot_to_read : plain_text version_one_forms default_limits ample input.weak_map_has_no_slot_to_read
+    ≡ codes "= @1\n! kind\n"
 unfolding all_of_a_run
-black_objects_are_not_looked_at = refl
+weak_map_has_no_slot_to_read = refl
 
-black_objects_are_not_looked_at-passes : passes_verdict default_limits ample input.black_objects_are_not_looked_at ≡ true
+weak_map_has_no_slot_to_read-passes : passes_verdict default_limits ample input.weak_map_has_no_slot_to_read ≡ true
 unfolding all_of_a_run
-black_objects_are_not_looked_at-passes = refl
+weak_map_has_no_slot_to_read-passes = refl
 
-pub black_objects_are_not_looked_at-lawful : IsLawfulRun default_limits ample input.black_objects_are_not_looked_at
-black_objects_are_not_looked_at-lawful = run-lawful default_limits ample input.black_objects_are_not_looked_at black_objects_are_not_looked_at-passes
+pub weak_map_has_no_slot_to_read-lawful : IsLawfulRun default_limits ample input.weak_map_has_no_slot_to_read
+weak_map_has_no_slot_to_read-lawful = run-lawful default_limits ample input.weak_map_has_no_slot_to_read weak_map_has_no_slot_to_read-passes
 
-pub black_objects_are_not_looked_at-quiet : IsQuietRun default_limits ample input.black_objects_are_not_looked_at
-black_objects_are_not_looked_at-quiet = run-quiet default_limits ample input.black_objects_are_not_looked_at black_objects_are_not_looked_at-passes
+pub weak_map_has_no_slot_to_read-quiet : IsQuietRun default_limits ample input.weak_map_has_no_slot_to_read
+weak_map_has_no_slot_to_read-quiet = run-quiet default_limits ample input.weak_map_has_no_slot_to_read weak_map_has_no_slot_to_read-passes
 
-pub black_objects_are_not_looked_at-audited : passes_audit default_limits ample input.black_objects_are_not_looked_at ≡ true
+pub weak_map_has_no_slot_to_read-audited : passes_audit default_limits ample input.weak_map_has_no_slot_to_read ≡ true
 unfolding all_of_a_run
-black_objects_are_not_looked_at-audited = refl
+weak_map_has_no_slot_to_read-audited = refl
 
--- A native that becomes purple once more keeps its place in the buffer, so it is looked at before those that became purple in between.
-pub marked_again_keeps_its_place_in_the_buffer : plain_text version_one_forms default_limits ample input.marked_again_keeps_its_place_in_the_buffer
-    ≡ codes "= #1\n= ok\n= #1\n= ok\n= #2\n= #3\n= ok\n= #2\n= ok\n= ok\n= ok\n= ok\n- unlink #1\n- free #1\n= ok\n"
+-- An entry is not looked up by an empty register.
+pub empty_key_is_refused : plain_text version_one_forms default_limits ample input.empty_key_is_refused
+    ≡ codes "= @1\n! empty\n= none\n"
 unfolding all_of_a_run
-marked_again_keeps_its_place_in_the_buffer = refl
+empty_key_is_refused = refl
 
-marked_again_keeps_its_place_in_the_buffer-passes : passes_verdict default_limits ample input.marked_again_keeps_its_place_in_the_buffer ≡ true
+empty_key_is_refused-passes : passes_verdict default_limits ample input.empty_key_is_refused ≡ true
 unfolding all_of_a_run
-marked_again_keeps_its_place_in_the_buffer-passes = refl
+empty_key_is_refused-passes = refl
 
-pub marked_again_keeps_its_place_in_the_buffer-lawful : IsLawfulRun default_limits ample input.marked_again_keeps_its_place_in_the_buffer
-marked_again_keeps_its_place_in_the_buffer-lawful = run-lawful default_limits ample input.marked_again_keeps_its_place_in_the_buffer marked_again_keeps_its_place_in_the_buffer-passes
+pub empty_key_is_refused-lawful : IsLawfulRun default_limits ample input.empty_key_is_refused
+empty_key_is_refused-lawful = run-lawful default_limits ample input.empty_key_is_refused empty_key_is_refused-passes
 
-pub marked_again_keeps_its_place_in_the_buffer-quiet : IsQuietRun default_limits ample input.marked_again_keeps_its_place_in_the_buffer
-marked_again_keeps_its_place_in_the_buffer-quiet = run-quiet default_limits ample input.marked_again_keeps_its_place_in_the_buffer marked_again_keeps_its_place_in_the_buffer-passes
+pub empty_key_is_refused-quiet : IsQuietRun default_limits ample input.empty_key_is_refused
+empty_key_is_refused-quiet = run-quiet default_limits ample input.empty_key_is_refused empty_key_is_refused-passes
 
-pub marked_again_keeps_its_place_in_the_buffer-audited : passes_audit default_limits ample input.marked_again_keeps_its_place_in_the_buffer ≡ true
+pub empty_key_is_refused-audited : passes_audit default_limits ample input.empty_key_is_refused ≡ true
 unfolding all_of_a_run
-marked_again_keeps_its_place_in_the_buffer-audited = refl
+empty_key_is_refused-audited = refl
 
--- Candidates are looked at before the natives that hold gray objects, of which one is freed meanwhile.
-pub candidates_come_before_holders : plain_text version_one_forms default_limits ample input.candidates_come_before_holders
-    ≡ codes "= #1\n= ok\n= #2\n= @1\n= ok\n= ok\n= ok\n= ok\n= ok\n- free #2\n= ok\n- unlink #1\n- free #1\n= ok\n"
+-- Writing a slot of a weak map, or emptying it, is refused for the kind of the object, but first for an empty register.
+pub weak_map_has_no_slot_to_write : plain_text version_one_forms default_limits ample input.weak_map_has_no_slot_to_write
+    ≡ codes "= @1\n! kind\n! kind\n! empty\n! empty\n! kind\n"
 unfolding all_of_a_run
-candidates_come_before_holders = refl
+weak_map_has_no_slot_to_write = refl
 
-candidates_come_before_holders-passes : passes_verdict default_limits ample input.candidates_come_before_holders ≡ true
+weak_map_has_no_slot_to_write-passes : passes_verdict default_limits ample input.weak_map_has_no_slot_to_write ≡ true
 unfolding all_of_a_run
-candidates_come_before_holders-passes = refl
+weak_map_has_no_slot_to_write-passes = refl
 
-pub candidates_come_before_holders-lawful : IsLawfulRun default_limits ample input.candidates_come_before_holders
-candidates_come_before_holders-lawful = run-lawful default_limits ample input.candidates_come_before_holders candidates_come_before_holders-passes
+pub weak_map_has_no_slot_to_write-lawful : IsLawfulRun default_limits ample input.weak_map_has_no_slot_to_write
+weak_map_has_no_slot_to_write-lawful = run-lawful default_limits ample input.weak_map_has_no_slot_to_write weak_map_has_no_slot_to_write-passes
 
-pub candidates_come_before_holders-quiet : IsQuietRun default_limits ample input.candidates_come_before_holders
-candidates_come_before_holders-quiet = run-quiet default_limits ample input.candidates_come_before_holders candidates_come_before_holders-passes
+pub weak_map_has_no_slot_to_write-quiet : IsQuietRun default_limits ample input.weak_map_has_no_slot_to_write
+weak_map_has_no_slot_to_write-quiet = run-quiet default_limits ample input.weak_map_has_no_slot_to_write weak_map_has_no_slot_to_write-passes
 
-pub candidates_come_before_holders-audited : passes_audit default_limits ample input.candidates_come_before_holders ≡ true
+pub weak_map_has_no_slot_to_write-audited : passes_audit default_limits ample input.weak_map_has_no_slot_to_write ≡ true
 unfolding all_of_a_run
-candidates_come_before_holders-audited = refl
+weak_map_has_no_slot_to_write-audited = refl
 
--- An entry whose value was replaced keeps its place, so its members are looked at before those of an entry that was set in between.
-pub replaced_entry_keeps_its_place : plain_text version_one_forms default_limits ample input.replaced_entry_keeps_its_place
-    ≡ codes "= #1\n= @1\n= @2\n= @3\n= @4\n= ok\n= ok\n= ok\n= ok\n= ok\n= ok\n= ok\n= ok\n= ok\n= #2\n= ok\n= ok\n= ok\n= ok\n= @3\n- unlink #2\n- free #2\n= ok\n"
+-- A weak map that is the value of an entry of another one lives by it, and so do the values of its own entries.
+pub map_reached_through_an_entry_alone : plain_text version_one_forms default_limits ample input.map_reached_through_an_entry_alone
+    ≡ codes "= @1\n= @2\n= @3\n= @4\n= @5\n= ok\n= ok\n= ok\n= ok\n= ok\n= @2\n= @5\n= ok\n= ok\n= ok\n- free @2\n- free @5\n= ok\n+ @1\n+ @3\n+ @4\n= census 3\n"
 unfolding all_of_a_run
-replaced_entry_keeps_its_place = refl
+map_reached_through_an_entry_alone = refl
 
-replaced_entry_keeps_its_place-passes : passes_verdict default_limits ample input.replaced_entry_keeps_its_place ≡ true
+map_reached_through_an_entry_alone-passes : passes_verdict default_limits ample input.map_reached_through_an_entry_alone ≡ true
 unfolding all_of_a_run
-replaced_entry_keeps_its_place-passes = refl
+map_reached_through_an_entry_alone-passes = refl
 
-pub replaced_entry_keeps_its_place-lawful : IsLawfulRun default_limits ample input.replaced_entry_keeps_its_place
-replaced_entry_keeps_its_place-lawful = run-lawful default_limits ample input.replaced_entry_keeps_its_place replaced_entry_keeps_its_place-passes
+pub map_reached_through_an_entry_alone-lawful : IsLawfulRun default_limits ample input.map_reached_through_an_entry_alone
+map_reached_through_an_entry_alone-lawful = run-lawful default_limits ample input.map_reached_through_an_entry_alone map_reached_through_an_entry_alone-passes
 
-pub replaced_entry_keeps_its_place-quiet : IsQuietRun default_limits ample input.replaced_entry_keeps_its_place
-replaced_entry_keeps_its_place-quiet = run-quiet default_limits ample input.replaced_entry_keeps_its_place replaced_entry_keeps_its_place-passes
+pub map_reached_through_an_entry_alone-quiet : IsQuietRun default_limits ample input.map_reached_through_an_entry_alone
+map_reached_through_an_entry_alone-quiet = run-quiet default_limits ample input.map_reached_through_an_entry_alone map_reached_through_an_entry_alone-passes
 
-pub replaced_entry_keeps_its_place-audited : passes_audit default_limits ample input.replaced_entry_keeps_its_place ≡ true
+pub map_reached_through_an_entry_alone-audited : passes_audit default_limits ample input.map_reached_through_an_entry_alone ≡ true
 unfolding all_of_a_run
-replaced_entry_keeps_its_place-audited = refl
+map_reached_through_an_entry_alone-audited = refl

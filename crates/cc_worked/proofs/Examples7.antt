@@ -11,162 +11,162 @@ use Rattle.cc_worked.proofs.Opened.{all_of_a_run}
 use Rattle.cc_worked.proofs.LawfulTest.{run-lawful}
 use Rattle.cc_worked.proofs.QuietTest.{run-quiet}
 
--- An entry that was taken out and set again goes last, so its members are looked at after those of an entry that was set in between.
-pub entry_set_again_goes_last : plain_text version_one_forms default_limits ample input.entry_set_again_goes_last
-    ≡ codes "= #1\n= @1\n= @2\n= @3\n= @4\n= ok\n= ok\n= ok\n= ok\n= ok\n= ok\n= ok\n= ok\n= ok\n= ok\n= #2\n= ok\n= ok\n= ok\n= ok\n= @3\n= ok\n- unlink #2\n- free #2\n= ok\n"
+-- The entry of a map that is freed is dropped, while its key and its value live on.
+pub entry_goes_with_its_map : plain_text version_one_forms default_limits ample input.entry_goes_with_its_map
+    ≡ codes "= @1\n= @2\n= @3\n= ok\n= ok\n- free @1\n= ok\n= @4\n= none\n+ @2\n+ @3\n+ @4\n= census 3\n"
 unfolding all_of_a_run
-entry_set_again_goes_last = refl
+entry_goes_with_its_map = refl
 
-entry_set_again_goes_last-passes : passes_verdict default_limits ample input.entry_set_again_goes_last ≡ true
+entry_goes_with_its_map-passes : passes_verdict default_limits ample input.entry_goes_with_its_map ≡ true
 unfolding all_of_a_run
-entry_set_again_goes_last-passes = refl
+entry_goes_with_its_map-passes = refl
 
-pub entry_set_again_goes_last-lawful : IsLawfulRun default_limits ample input.entry_set_again_goes_last
-entry_set_again_goes_last-lawful = run-lawful default_limits ample input.entry_set_again_goes_last entry_set_again_goes_last-passes
+pub entry_goes_with_its_map-lawful : IsLawfulRun default_limits ample input.entry_goes_with_its_map
+entry_goes_with_its_map-lawful = run-lawful default_limits ample input.entry_goes_with_its_map entry_goes_with_its_map-passes
 
-pub entry_set_again_goes_last-quiet : IsQuietRun default_limits ample input.entry_set_again_goes_last
-entry_set_again_goes_last-quiet = run-quiet default_limits ample input.entry_set_again_goes_last entry_set_again_goes_last-passes
+pub entry_goes_with_its_map-quiet : IsQuietRun default_limits ample input.entry_goes_with_its_map
+entry_goes_with_its_map-quiet = run-quiet default_limits ample input.entry_goes_with_its_map entry_goes_with_its_map-passes
 
-pub entry_set_again_goes_last-audited : passes_audit default_limits ample input.entry_set_again_goes_last ≡ true
+pub entry_goes_with_its_map-audited : passes_audit default_limits ample input.entry_goes_with_its_map ≡ true
 unfolding all_of_a_run
-entry_set_again_goes_last-audited = refl
+entry_goes_with_its_map-audited = refl
 
--- Collect ends the collection that runs and begins another, which takes what became garbage in between.
-pub collect_begins_one_of_its_own : plain_text version_one_forms default_limits ample input.collect_begins_one_of_its_own
-    ≡ codes "= #1\n= ok\n= ok\n= ok\n- unlink #1\n- free #1\n= ok\n"
+-- A weak map that is its own key keeps the value as long as it lives.
+pub map_is_its_own_key : plain_text version_one_forms default_limits ample input.map_is_its_own_key
+    ≡ codes "= @1\n= @2\n= ok\n= ok\n= ok\n= @2\n= ok\n= ok\n- free @1\n- free @2\n= ok\n"
 unfolding all_of_a_run
-collect_begins_one_of_its_own = refl
+map_is_its_own_key = refl
 
-collect_begins_one_of_its_own-passes : passes_verdict default_limits ample input.collect_begins_one_of_its_own ≡ true
+map_is_its_own_key-passes : passes_verdict default_limits ample input.map_is_its_own_key ≡ true
 unfolding all_of_a_run
-collect_begins_one_of_its_own-passes = refl
+map_is_its_own_key-passes = refl
 
-pub collect_begins_one_of_its_own-lawful : IsLawfulRun default_limits ample input.collect_begins_one_of_its_own
-collect_begins_one_of_its_own-lawful = run-lawful default_limits ample input.collect_begins_one_of_its_own collect_begins_one_of_its_own-passes
+pub map_is_its_own_key-lawful : IsLawfulRun default_limits ample input.map_is_its_own_key
+map_is_its_own_key-lawful = run-lawful default_limits ample input.map_is_its_own_key map_is_its_own_key-passes
 
-pub collect_begins_one_of_its_own-quiet : IsQuietRun default_limits ample input.collect_begins_one_of_its_own
-collect_begins_one_of_its_own-quiet = run-quiet default_limits ample input.collect_begins_one_of_its_own collect_begins_one_of_its_own-passes
+pub map_is_its_own_key-quiet : IsQuietRun default_limits ample input.map_is_its_own_key
+map_is_its_own_key-quiet = run-quiet default_limits ample input.map_is_its_own_key map_is_its_own_key-passes
 
-pub collect_begins_one_of_its_own-audited : passes_audit default_limits ample input.collect_begins_one_of_its_own ≡ true
+pub map_is_its_own_key-audited : passes_audit default_limits ample input.map_is_its_own_key ≡ true
 unfolding all_of_a_run
-collect_begins_one_of_its_own-audited = refl
+map_is_its_own_key-audited = refl
 
--- The numbers of what a collect unlinks begin anew where it has ended the collection that ran, and runs one of its own.
-pub collect_ends_one_and_takes_more_in_its_own : plain_text version_one_forms default_limits ample input.collect_ends_one_and_takes_more_in_its_own
-    ≡ codes "= #1\n= ok\n= #2\n= ok\n= ok\n= ok\n= ok\n- unlink #2\n- free #2\n- unlink #1\n- free #1\n= ok\n"
+-- An entry does not keep its map, also where that is its value.
+pub map_is_a_value_of_its_own : plain_text version_one_forms default_limits ample input.map_is_a_value_of_its_own
+    ≡ codes "= @1\n= @2\n= ok\n= @1\n= ok\n= ok\n- free @1\n= ok\n+ @2\n= census 1\n"
 unfolding all_of_a_run
-collect_ends_one_and_takes_more_in_its_own = refl
+map_is_a_value_of_its_own = refl
 
-collect_ends_one_and_takes_more_in_its_own-passes : passes_verdict default_limits ample input.collect_ends_one_and_takes_more_in_its_own ≡ true
+map_is_a_value_of_its_own-passes : passes_verdict default_limits ample input.map_is_a_value_of_its_own ≡ true
 unfolding all_of_a_run
-collect_ends_one_and_takes_more_in_its_own-passes = refl
+map_is_a_value_of_its_own-passes = refl
 
-pub collect_ends_one_and_takes_more_in_its_own-lawful : IsLawfulRun default_limits ample input.collect_ends_one_and_takes_more_in_its_own
-collect_ends_one_and_takes_more_in_its_own-lawful = run-lawful default_limits ample input.collect_ends_one_and_takes_more_in_its_own collect_ends_one_and_takes_more_in_its_own-passes
+pub map_is_a_value_of_its_own-lawful : IsLawfulRun default_limits ample input.map_is_a_value_of_its_own
+map_is_a_value_of_its_own-lawful = run-lawful default_limits ample input.map_is_a_value_of_its_own map_is_a_value_of_its_own-passes
 
-pub collect_ends_one_and_takes_more_in_its_own-quiet : IsQuietRun default_limits ample input.collect_ends_one_and_takes_more_in_its_own
-collect_ends_one_and_takes_more_in_its_own-quiet = run-quiet default_limits ample input.collect_ends_one_and_takes_more_in_its_own collect_ends_one_and_takes_more_in_its_own-passes
+pub map_is_a_value_of_its_own-quiet : IsQuietRun default_limits ample input.map_is_a_value_of_its_own
+map_is_a_value_of_its_own-quiet = run-quiet default_limits ample input.map_is_a_value_of_its_own map_is_a_value_of_its_own-passes
 
-pub collect_ends_one_and_takes_more_in_its_own-audited : passes_audit default_limits ample input.collect_ends_one_and_takes_more_in_its_own ≡ true
+pub map_is_a_value_of_its_own-audited : passes_audit default_limits ample input.map_is_a_value_of_its_own ≡ true
 unfolding all_of_a_run
-collect_ends_one_and_takes_more_in_its_own-audited = refl
+map_is_a_value_of_its_own-audited = refl
 
--- A native that was touched while a collection ran waits for the next one.
-pub touched_between_slices : plain_text version_one_forms default_limits ample input.touched_between_slices
-    ≡ codes "= #1\n= ok\n= #1\n= ok\n= ok\n= #1\n= ok\n= ok\n= ok\n- unlink #1\n- free #1\n= ok\n"
+-- The value of two entries lives by the one whose key lives, and goes when that key goes too.
+pub two_entries_have_one_value : plain_text version_one_forms default_limits ample input.two_entries_have_one_value
+    ≡ codes "= @1\n= @2\n= @3\n= @4\n= ok\n= ok\n= ok\n= ok\n- free @2\n= ok\n= @4\n= ok\n= ok\n- free @3\n- free @4\n= ok\n"
 unfolding all_of_a_run
-touched_between_slices = refl
+two_entries_have_one_value = refl
 
-touched_between_slices-passes : passes_verdict default_limits ample input.touched_between_slices ≡ true
+two_entries_have_one_value-passes : passes_verdict default_limits ample input.two_entries_have_one_value ≡ true
 unfolding all_of_a_run
-touched_between_slices-passes = refl
+two_entries_have_one_value-passes = refl
 
-pub touched_between_slices-lawful : IsLawfulRun default_limits ample input.touched_between_slices
-touched_between_slices-lawful = run-lawful default_limits ample input.touched_between_slices touched_between_slices-passes
+pub two_entries_have_one_value-lawful : IsLawfulRun default_limits ample input.two_entries_have_one_value
+two_entries_have_one_value-lawful = run-lawful default_limits ample input.two_entries_have_one_value two_entries_have_one_value-passes
 
-pub touched_between_slices-quiet : IsQuietRun default_limits ample input.touched_between_slices
-touched_between_slices-quiet = run-quiet default_limits ample input.touched_between_slices touched_between_slices-passes
+pub two_entries_have_one_value-quiet : IsQuietRun default_limits ample input.two_entries_have_one_value
+two_entries_have_one_value-quiet = run-quiet default_limits ample input.two_entries_have_one_value two_entries_have_one_value-passes
 
-pub touched_between_slices-audited : passes_audit default_limits ample input.touched_between_slices ≡ true
+pub two_entries_have_one_value-audited : passes_audit default_limits ample input.two_entries_have_one_value ≡ true
 unfolding all_of_a_run
-touched_between_slices-audited = refl
+two_entries_have_one_value-audited = refl
 
--- What script read from a native while a collection ran keeps what it holds.
-pub read_between_slices : plain_text version_one_forms default_limits ample input.read_between_slices
-    ≡ codes "= #1\n= @1\n= @2\n= ok\n= ok\n= ok\n= ok\n= ok\n= ok\n= @1\n= ok\n= ok\n= @2\n"
+-- An entry does not keep a value that is its own key.
+pub value_is_its_own_key : plain_text version_one_forms default_limits ample input.value_is_its_own_key
+    ≡ codes "= @1\n= @2\n= ok\n= ok\n= @2\n= ok\n= ok\n- free @2\n= ok\n+ @1\n= census 1\n"
 unfolding all_of_a_run
-read_between_slices = refl
+value_is_its_own_key = refl
 
-read_between_slices-passes : passes_verdict default_limits ample input.read_between_slices ≡ true
+value_is_its_own_key-passes : passes_verdict default_limits ample input.value_is_its_own_key ≡ true
 unfolding all_of_a_run
-read_between_slices-passes = refl
+value_is_its_own_key-passes = refl
 
-pub read_between_slices-lawful : IsLawfulRun default_limits ample input.read_between_slices
-read_between_slices-lawful = run-lawful default_limits ample input.read_between_slices read_between_slices-passes
+pub value_is_its_own_key-lawful : IsLawfulRun default_limits ample input.value_is_its_own_key
+value_is_its_own_key-lawful = run-lawful default_limits ample input.value_is_its_own_key value_is_its_own_key-passes
 
-pub read_between_slices-quiet : IsQuietRun default_limits ample input.read_between_slices
-read_between_slices-quiet = run-quiet default_limits ample input.read_between_slices read_between_slices-passes
+pub value_is_its_own_key-quiet : IsQuietRun default_limits ample input.value_is_its_own_key
+value_is_its_own_key-quiet = run-quiet default_limits ample input.value_is_its_own_key value_is_its_own_key-passes
 
-pub read_between_slices-audited : passes_audit default_limits ample input.read_between_slices ≡ true
+pub value_is_its_own_key-audited : passes_audit default_limits ample input.value_is_its_own_key ≡ true
 unfolding all_of_a_run
-read_between_slices-audited = refl
+value_is_its_own_key-audited = refl
 
--- A native lives by its reflector, which script touched while the collection ran.
-pub native_lives_by_an_exposed_reflector : plain_text version_one_forms default_limits ample input.native_lives_by_an_exposed_reflector
-    ≡ codes "= #1\n= #2\n= #3\n= ~2\n= ok\n= ok\n= ok\n= ok\n= ok\n= ok\n= ok\n= ok\n= ~2\n= ok\n- unlink #3\n- free #3\n= ok\n= #2\n"
+-- A reflector is not preserved where its entry is taken out.
+pub taken_out_entry_preserves_nothing : plain_text version_one_forms default_limits ample input.taken_out_entry_preserves_nothing
+    ≡ codes "= #1\n= ~1\n= @1\n= ok\n= ok\n- free ~1\n= ok\n+ #1\n+ @1\n= census 2\n"
 unfolding all_of_a_run
-native_lives_by_an_exposed_reflector = refl
+taken_out_entry_preserves_nothing = refl
 
-native_lives_by_an_exposed_reflector-passes : passes_verdict default_limits ample input.native_lives_by_an_exposed_reflector ≡ true
+taken_out_entry_preserves_nothing-passes : passes_verdict default_limits ample input.taken_out_entry_preserves_nothing ≡ true
 unfolding all_of_a_run
-native_lives_by_an_exposed_reflector-passes = refl
+taken_out_entry_preserves_nothing-passes = refl
 
-pub native_lives_by_an_exposed_reflector-lawful : IsLawfulRun default_limits ample input.native_lives_by_an_exposed_reflector
-native_lives_by_an_exposed_reflector-lawful = run-lawful default_limits ample input.native_lives_by_an_exposed_reflector native_lives_by_an_exposed_reflector-passes
+pub taken_out_entry_preserves_nothing-lawful : IsLawfulRun default_limits ample input.taken_out_entry_preserves_nothing
+taken_out_entry_preserves_nothing-lawful = run-lawful default_limits ample input.taken_out_entry_preserves_nothing taken_out_entry_preserves_nothing-passes
 
-pub native_lives_by_an_exposed_reflector-quiet : IsQuietRun default_limits ample input.native_lives_by_an_exposed_reflector
-native_lives_by_an_exposed_reflector-quiet = run-quiet default_limits ample input.native_lives_by_an_exposed_reflector native_lives_by_an_exposed_reflector-passes
+pub taken_out_entry_preserves_nothing-quiet : IsQuietRun default_limits ample input.taken_out_entry_preserves_nothing
+taken_out_entry_preserves_nothing-quiet = run-quiet default_limits ample input.taken_out_entry_preserves_nothing taken_out_entry_preserves_nothing-passes
 
-pub native_lives_by_an_exposed_reflector-audited : passes_audit default_limits ample input.native_lives_by_an_exposed_reflector ≡ true
+pub taken_out_entry_preserves_nothing-audited : passes_audit default_limits ample input.taken_out_entry_preserves_nothing ≡ true
 unfolding all_of_a_run
-native_lives_by_an_exposed_reflector-audited = refl
+taken_out_entry_preserves_nothing-audited = refl
 
--- A native that gets a reference after it was sampled is touched, so it is not looked at with an old count.
-pub copied_after_its_node_was_traversed : plain_text version_one_forms default_limits ample input.copied_after_its_node_was_traversed
-    ≡ codes "= #1\n= ok\n= #1\n= ok\n= ok\n= #1\n= ok\n= ok\n= ok\n- unlink #1\n- free #1\n= ok\n"
+-- An entry is taken out of one map, where the other keys of that map and the same key of another map keep theirs.
+pub entry_is_taken_out_of_its_map_alone : plain_text version_one_forms default_limits ample input.entry_is_taken_out_of_its_map_alone
+    ≡ codes "= @1\n= @2\n= @3\n= @4\n= ok\n= ok\n= ok\n= ok\n= none\n= @4\n= @3\n"
 unfolding all_of_a_run
-copied_after_its_node_was_traversed = refl
+entry_is_taken_out_of_its_map_alone = refl
 
-copied_after_its_node_was_traversed-passes : passes_verdict default_limits ample input.copied_after_its_node_was_traversed ≡ true
+entry_is_taken_out_of_its_map_alone-passes : passes_verdict default_limits ample input.entry_is_taken_out_of_its_map_alone ≡ true
 unfolding all_of_a_run
-copied_after_its_node_was_traversed-passes = refl
+entry_is_taken_out_of_its_map_alone-passes = refl
 
-pub copied_after_its_node_was_traversed-lawful : IsLawfulRun default_limits ample input.copied_after_its_node_was_traversed
-copied_after_its_node_was_traversed-lawful = run-lawful default_limits ample input.copied_after_its_node_was_traversed copied_after_its_node_was_traversed-passes
+pub entry_is_taken_out_of_its_map_alone-lawful : IsLawfulRun default_limits ample input.entry_is_taken_out_of_its_map_alone
+entry_is_taken_out_of_its_map_alone-lawful = run-lawful default_limits ample input.entry_is_taken_out_of_its_map_alone entry_is_taken_out_of_its_map_alone-passes
 
-pub copied_after_its_node_was_traversed-quiet : IsQuietRun default_limits ample input.copied_after_its_node_was_traversed
-copied_after_its_node_was_traversed-quiet = run-quiet default_limits ample input.copied_after_its_node_was_traversed copied_after_its_node_was_traversed-passes
+pub entry_is_taken_out_of_its_map_alone-quiet : IsQuietRun default_limits ample input.entry_is_taken_out_of_its_map_alone
+entry_is_taken_out_of_its_map_alone-quiet = run-quiet default_limits ample input.entry_is_taken_out_of_its_map_alone entry_is_taken_out_of_its_map_alone-passes
 
-pub copied_after_its_node_was_traversed-audited : passes_audit default_limits ample input.copied_after_its_node_was_traversed ≡ true
+pub entry_is_taken_out_of_its_map_alone-audited : passes_audit default_limits ample input.entry_is_taken_out_of_its_map_alone ≡ true
 unfolding all_of_a_run
-copied_after_its_node_was_traversed-audited = refl
+entry_is_taken_out_of_its_map_alone-audited = refl
 
--- A native that was looked at and is freed before the end counts as it was sampled: it was held, so this collection keeps what it led to.
-pub freed_after_its_node_was_traversed : plain_text version_one_forms default_limits ample input.freed_after_its_node_was_traversed
-    ≡ codes "= #1\n= ~1\n= #2\n= ok\n= ok\n= ok\n= ok\n= ok\n- free #2\n= ok\n= ok\n- free ~1\n- free #1\n= ok\n= census 0\n"
+-- A reflector that is a value lives by its map and a key that a native holds, and goes with its native when the map goes.
+pub value_goes_with_its_map : plain_text version_one_forms default_limits ample input.value_goes_with_its_map
+    ≡ codes "= #1\n= #2\n= ~2\n= @1\n= @2\n= ok\n= ok\n= ok\n= ok\n= ok\n= ok\n= ok\n= ok\n- free ~2\n- free #2\n- free @1\n= ok\n+ #1\n+ @2\n= census 2\n"
 unfolding all_of_a_run
-freed_after_its_node_was_traversed = refl
+value_goes_with_its_map = refl
 
-freed_after_its_node_was_traversed-passes : passes_verdict default_limits ample input.freed_after_its_node_was_traversed ≡ true
+value_goes_with_its_map-passes : passes_verdict default_limits ample input.value_goes_with_its_map ≡ true
 unfolding all_of_a_run
-freed_after_its_node_was_traversed-passes = refl
+value_goes_with_its_map-passes = refl
 
-pub freed_after_its_node_was_traversed-lawful : IsLawfulRun default_limits ample input.freed_after_its_node_was_traversed
-freed_after_its_node_was_traversed-lawful = run-lawful default_limits ample input.freed_after_its_node_was_traversed freed_after_its_node_was_traversed-passes
+pub value_goes_with_its_map-lawful : IsLawfulRun default_limits ample input.value_goes_with_its_map
+value_goes_with_its_map-lawful = run-lawful default_limits ample input.value_goes_with_its_map value_goes_with_its_map-passes
 
-pub freed_after_its_node_was_traversed-quiet : IsQuietRun default_limits ample input.freed_after_its_node_was_traversed
-freed_after_its_node_was_traversed-quiet = run-quiet default_limits ample input.freed_after_its_node_was_traversed freed_after_its_node_was_traversed-passes
+pub value_goes_with_its_map-quiet : IsQuietRun default_limits ample input.value_goes_with_its_map
+value_goes_with_its_map-quiet = run-quiet default_limits ample input.value_goes_with_its_map value_goes_with_its_map-passes
 
-pub freed_after_its_node_was_traversed-audited : passes_audit default_limits ample input.freed_after_its_node_was_traversed ≡ true
+pub value_goes_with_its_map-audited : passes_audit default_limits ample input.value_goes_with_its_map ≡ true
 unfolding all_of_a_run
-freed_after_its_node_was_traversed-audited = refl
+value_goes_with_its_map-audited = refl

@@ -3,7 +3,7 @@
 use Rattle.std.specs.Prelude.{◌≡◌, true, codes, refl}
 use Rattle.cc_model.specs.Forms.{version_one_forms}
 use Rattle.cc_model.specs.Run.{plain_text}
-use Rattle.cc_worked.specs.Examples.{default_limits, ample, refused_at, IsLawfulRun, IsQuietRun}
+use Rattle.cc_worked.specs.Examples.{default_limits, ample, IsLawfulRun, IsQuietRun}
 use Rattle.cc_worked.specs.Inputs as input
 use Rattle.cc_worked.specs.Verdict.{passes_verdict}
 use Rattle.cc_worked.specs.Audit.{passes_audit}
@@ -11,162 +11,162 @@ use Rattle.cc_worked.proofs.Opened.{all_of_a_run}
 use Rattle.cc_worked.proofs.LawfulTest.{run-lawful}
 use Rattle.cc_worked.proofs.QuietTest.{run-quiet}
 
--- Unlinking one white native may free the one that comes next in the walk.
-pub native_vanishes_inside_an_unlink : plain_text version_one_forms default_limits ample input.native_vanishes_inside_an_unlink
-    ≡ codes "= #1\n= #2\n= ok\n= ok\n= ok\n= ok\n= ok\n- unlink #1\n- free #2\n- free #1\n= ok\n"
+-- A collection with two nodes takes a unit to begin, one for each node, and one to end.
+pub two_cycle_takes_four_units : plain_text version_one_forms default_limits ample input.two_cycle_takes_four_units
+    ≡ codes "= #1\n= #2\n= ok\n= ok\n= ok\n= ok\n= ok\n= ok\n= ok\n- unlink #1\n- unlink #2\n- free #1\n- free #2\n= ok\n"
 unfolding all_of_a_run
-native_vanishes_inside_an_unlink = refl
+two_cycle_takes_four_units = refl
 
-native_vanishes_inside_an_unlink-passes : passes_verdict default_limits ample input.native_vanishes_inside_an_unlink ≡ true
+two_cycle_takes_four_units-passes : passes_verdict default_limits ample input.two_cycle_takes_four_units ≡ true
 unfolding all_of_a_run
-native_vanishes_inside_an_unlink-passes = refl
+two_cycle_takes_four_units-passes = refl
 
-pub native_vanishes_inside_an_unlink-lawful : IsLawfulRun default_limits ample input.native_vanishes_inside_an_unlink
-native_vanishes_inside_an_unlink-lawful = run-lawful default_limits ample input.native_vanishes_inside_an_unlink native_vanishes_inside_an_unlink-passes
+pub two_cycle_takes_four_units-lawful : IsLawfulRun default_limits ample input.two_cycle_takes_four_units
+two_cycle_takes_four_units-lawful = run-lawful default_limits ample input.two_cycle_takes_four_units two_cycle_takes_four_units-passes
 
-pub native_vanishes_inside_an_unlink-quiet : IsQuietRun default_limits ample input.native_vanishes_inside_an_unlink
-native_vanishes_inside_an_unlink-quiet = run-quiet default_limits ample input.native_vanishes_inside_an_unlink native_vanishes_inside_an_unlink-passes
+pub two_cycle_takes_four_units-quiet : IsQuietRun default_limits ample input.two_cycle_takes_four_units
+two_cycle_takes_four_units-quiet = run-quiet default_limits ample input.two_cycle_takes_four_units two_cycle_takes_four_units-passes
 
-pub native_vanishes_inside_an_unlink-audited : passes_audit default_limits ample input.native_vanishes_inside_an_unlink ≡ true
+pub two_cycle_takes_four_units-audited : passes_audit default_limits ample input.two_cycle_takes_four_units ≡ true
 unfolding all_of_a_run
-native_vanishes_inside_an_unlink-audited = refl
+two_cycle_takes_four_units-audited = refl
 
--- A native made while a collection runs is kept, and the cycle that the collection began with is taken.
-pub native_made_between_slices : plain_text version_one_forms default_limits ample input.native_made_between_slices
-    ≡ codes "= #1\n= ~1\n= ok\n= ok\n= ok\n= ok\n= ok\n= #2\n- unlink #1\n= ok\n- free ~1\n- free #1\n= ok\n+ #2\n= census 1\n"
+-- A native that stands in the buffer without the purple mark is no node, so a collection that begins with it alone takes two units.
+pub only_purple_natives_are_candidates : plain_text version_one_forms default_limits ample input.only_purple_natives_are_candidates
+    ≡ codes "= #1\n= ok\n= #2\n= ok\n= ok\n- unlink #2\n- free #2\n= ok\n"
 unfolding all_of_a_run
-native_made_between_slices = refl
+only_purple_natives_are_candidates = refl
 
-native_made_between_slices-passes : passes_verdict default_limits ample input.native_made_between_slices ≡ true
+only_purple_natives_are_candidates-passes : passes_verdict default_limits ample input.only_purple_natives_are_candidates ≡ true
 unfolding all_of_a_run
-native_made_between_slices-passes = refl
+only_purple_natives_are_candidates-passes = refl
 
-pub native_made_between_slices-lawful : IsLawfulRun default_limits ample input.native_made_between_slices
-native_made_between_slices-lawful = run-lawful default_limits ample input.native_made_between_slices native_made_between_slices-passes
+pub only_purple_natives_are_candidates-lawful : IsLawfulRun default_limits ample input.only_purple_natives_are_candidates
+only_purple_natives_are_candidates-lawful = run-lawful default_limits ample input.only_purple_natives_are_candidates only_purple_natives_are_candidates-passes
 
-pub native_made_between_slices-quiet : IsQuietRun default_limits ample input.native_made_between_slices
-native_made_between_slices-quiet = run-quiet default_limits ample input.native_made_between_slices native_made_between_slices-passes
+pub only_purple_natives_are_candidates-quiet : IsQuietRun default_limits ample input.only_purple_natives_are_candidates
+only_purple_natives_are_candidates-quiet = run-quiet default_limits ample input.only_purple_natives_are_candidates only_purple_natives_are_candidates-passes
 
-pub native_made_between_slices-audited : passes_audit default_limits ample input.native_made_between_slices ≡ true
+pub only_purple_natives_are_candidates-audited : passes_audit default_limits ample input.only_purple_natives_are_candidates ≡ true
 unfolding all_of_a_run
-native_made_between_slices-audited = refl
+only_purple_natives_are_candidates-audited = refl
 
--- Gc brings a collection that runs to its end before it marks.
-pub gc_ends_a_running_collection : plain_text version_one_forms default_limits ample input.gc_ends_a_running_collection
-    ≡ codes "= #1\n= ok\n= ok\n= ok\n- unlink #1\n- free #1\n= ok\n"
+-- A native that gets a reference is not purple any more, so a collection that begins with it alone takes two units.
+pub added_reference_ends_purple : plain_text version_one_forms default_limits ample input.added_reference_ends_purple
+    ≡ codes "= #1\n= #1\n= ok\n= #1\n= ok\n= #2\n= ok\n= ok\n- unlink #2\n- free #2\n= ok\n"
 unfolding all_of_a_run
-gc_ends_a_running_collection = refl
+added_reference_ends_purple = refl
 
-gc_ends_a_running_collection-passes : passes_verdict default_limits ample input.gc_ends_a_running_collection ≡ true
+added_reference_ends_purple-passes : passes_verdict default_limits ample input.added_reference_ends_purple ≡ true
 unfolding all_of_a_run
-gc_ends_a_running_collection-passes = refl
+added_reference_ends_purple-passes = refl
 
-pub gc_ends_a_running_collection-lawful : IsLawfulRun default_limits ample input.gc_ends_a_running_collection
-gc_ends_a_running_collection-lawful = run-lawful default_limits ample input.gc_ends_a_running_collection gc_ends_a_running_collection-passes
+pub added_reference_ends_purple-lawful : IsLawfulRun default_limits ample input.added_reference_ends_purple
+added_reference_ends_purple-lawful = run-lawful default_limits ample input.added_reference_ends_purple added_reference_ends_purple-passes
 
-pub gc_ends_a_running_collection-quiet : IsQuietRun default_limits ample input.gc_ends_a_running_collection
-gc_ends_a_running_collection-quiet = run-quiet default_limits ample input.gc_ends_a_running_collection gc_ends_a_running_collection-passes
+pub added_reference_ends_purple-quiet : IsQuietRun default_limits ample input.added_reference_ends_purple
+added_reference_ends_purple-quiet = run-quiet default_limits ample input.added_reference_ends_purple added_reference_ends_purple-passes
 
-pub gc_ends_a_running_collection-audited : passes_audit default_limits ample input.gc_ends_a_running_collection ≡ true
+pub added_reference_ends_purple-audited : passes_audit default_limits ample input.added_reference_ends_purple ≡ true
 unfolding all_of_a_run
-gc_ends_a_running_collection-audited = refl
+added_reference_ends_purple-audited = refl
 
--- A collection whose begin is refused memory is abandoned, and nothing is forgotten.
-pub collect_refused_at_its_begin : plain_text version_one_forms default_limits (refused_at 2) input.collect_refused_at_its_begin
-    ≡ codes "= #1\n= ok\n= ok\n- abandon\n! nomem\n= ok\n- unlink #1\n- free #1\n= ok\n= ok\n= census 0\n"
+-- A purple native that is freed leaves the buffer, so a collection that begins then takes two units.
+pub freed_native_leaves_the_buffer : plain_text version_one_forms default_limits ample input.freed_native_leaves_the_buffer
+    ≡ codes "= #1\n= #1\n= ok\n- free #1\n= ok\n= ok\n= #2\n= ok\n= ok\n- unlink #2\n- free #2\n= ok\n"
 unfolding all_of_a_run
-collect_refused_at_its_begin = refl
+freed_native_leaves_the_buffer = refl
 
-collect_refused_at_its_begin-passes : passes_verdict default_limits (refused_at 2) input.collect_refused_at_its_begin ≡ true
+freed_native_leaves_the_buffer-passes : passes_verdict default_limits ample input.freed_native_leaves_the_buffer ≡ true
 unfolding all_of_a_run
-collect_refused_at_its_begin-passes = refl
+freed_native_leaves_the_buffer-passes = refl
 
-pub collect_refused_at_its_begin-lawful : IsLawfulRun default_limits (refused_at 2) input.collect_refused_at_its_begin
-collect_refused_at_its_begin-lawful = run-lawful default_limits (refused_at 2) input.collect_refused_at_its_begin collect_refused_at_its_begin-passes
+pub freed_native_leaves_the_buffer-lawful : IsLawfulRun default_limits ample input.freed_native_leaves_the_buffer
+freed_native_leaves_the_buffer-lawful = run-lawful default_limits ample input.freed_native_leaves_the_buffer freed_native_leaves_the_buffer-passes
 
-pub collect_refused_at_its_begin-quiet : IsQuietRun default_limits (refused_at 2) input.collect_refused_at_its_begin
-collect_refused_at_its_begin-quiet = run-quiet default_limits (refused_at 2) input.collect_refused_at_its_begin collect_refused_at_its_begin-passes
+pub freed_native_leaves_the_buffer-quiet : IsQuietRun default_limits ample input.freed_native_leaves_the_buffer
+freed_native_leaves_the_buffer-quiet = run-quiet default_limits ample input.freed_native_leaves_the_buffer freed_native_leaves_the_buffer-passes
 
-pub collect_refused_at_its_begin-audited : passes_audit default_limits (refused_at 2) input.collect_refused_at_its_begin ≡ true
+pub freed_native_leaves_the_buffer-audited : passes_audit default_limits ample input.freed_native_leaves_the_buffer ≡ true
 unfolding all_of_a_run
-collect_refused_at_its_begin-audited = refl
+freed_native_leaves_the_buffer-audited = refl
 
--- A collection whose first node is refused memory is abandoned, and its candidate comes back.
-pub collect_refused_at_a_node : plain_text version_one_forms default_limits (refused_at 3) input.collect_refused_at_a_node
-    ≡ codes "= #1\n= ok\n= ok\n- abandon\n! nomem\n= ok\n- unlink #1\n- free #1\n= ok\n= ok\n= census 0\n"
+-- A black script object that a native holds is no node, so a collection with that native alone takes three units.
+pub black_objects_are_not_looked_at : plain_text version_one_forms default_limits ample input.black_objects_are_not_looked_at
+    ≡ codes "= #1\n= @1\n= ok\n= #1\n= ok\n= ok\n= #2\n= ok\n= ok\n- unlink #2\n- free #2\n= ok\n"
 unfolding all_of_a_run
-collect_refused_at_a_node = refl
+black_objects_are_not_looked_at = refl
 
-collect_refused_at_a_node-passes : passes_verdict default_limits (refused_at 3) input.collect_refused_at_a_node ≡ true
+black_objects_are_not_looked_at-passes : passes_verdict default_limits ample input.black_objects_are_not_looked_at ≡ true
 unfolding all_of_a_run
-collect_refused_at_a_node-passes = refl
+black_objects_are_not_looked_at-passes = refl
 
-pub collect_refused_at_a_node-lawful : IsLawfulRun default_limits (refused_at 3) input.collect_refused_at_a_node
-collect_refused_at_a_node-lawful = run-lawful default_limits (refused_at 3) input.collect_refused_at_a_node collect_refused_at_a_node-passes
+pub black_objects_are_not_looked_at-lawful : IsLawfulRun default_limits ample input.black_objects_are_not_looked_at
+black_objects_are_not_looked_at-lawful = run-lawful default_limits ample input.black_objects_are_not_looked_at black_objects_are_not_looked_at-passes
 
-pub collect_refused_at_a_node-quiet : IsQuietRun default_limits (refused_at 3) input.collect_refused_at_a_node
-collect_refused_at_a_node-quiet = run-quiet default_limits (refused_at 3) input.collect_refused_at_a_node collect_refused_at_a_node-passes
+pub black_objects_are_not_looked_at-quiet : IsQuietRun default_limits ample input.black_objects_are_not_looked_at
+black_objects_are_not_looked_at-quiet = run-quiet default_limits ample input.black_objects_are_not_looked_at black_objects_are_not_looked_at-passes
 
-pub collect_refused_at_a_node-audited : passes_audit default_limits (refused_at 3) input.collect_refused_at_a_node ≡ true
+pub black_objects_are_not_looked_at-audited : passes_audit default_limits ample input.black_objects_are_not_looked_at ≡ true
 unfolding all_of_a_run
-collect_refused_at_a_node-audited = refl
+black_objects_are_not_looked_at-audited = refl
 
--- A candidate that is freed before its collection is abandoned does not come back with the others, so the next collection takes three units.
-pub freed_candidate_does_not_come_back : plain_text version_one_forms default_limits (refused_at 4) input.freed_candidate_does_not_come_back
-    ≡ codes "= #1\n= #1\n= ok\n= #2\n= ok\n= ok\n= ok\n- free #1\n= ok\n- abandon\n! nomem\n= ok\n- unlink #2\n- free #2\n= ok\n= census 0\n"
+-- A native that becomes purple once more keeps its place in the buffer, so it is looked at before those that became purple in between.
+pub marked_again_keeps_its_place_in_the_buffer : plain_text version_one_forms default_limits ample input.marked_again_keeps_its_place_in_the_buffer
+    ≡ codes "= #1\n= ok\n= #1\n= ok\n= #2\n= #3\n= ok\n= #2\n= ok\n= ok\n= ok\n= ok\n- unlink #1\n- free #1\n= ok\n"
 unfolding all_of_a_run
-freed_candidate_does_not_come_back = refl
+marked_again_keeps_its_place_in_the_buffer = refl
 
-freed_candidate_does_not_come_back-passes : passes_verdict default_limits (refused_at 4) input.freed_candidate_does_not_come_back ≡ true
+marked_again_keeps_its_place_in_the_buffer-passes : passes_verdict default_limits ample input.marked_again_keeps_its_place_in_the_buffer ≡ true
 unfolding all_of_a_run
-freed_candidate_does_not_come_back-passes = refl
+marked_again_keeps_its_place_in_the_buffer-passes = refl
 
-pub freed_candidate_does_not_come_back-lawful : IsLawfulRun default_limits (refused_at 4) input.freed_candidate_does_not_come_back
-freed_candidate_does_not_come_back-lawful = run-lawful default_limits (refused_at 4) input.freed_candidate_does_not_come_back freed_candidate_does_not_come_back-passes
+pub marked_again_keeps_its_place_in_the_buffer-lawful : IsLawfulRun default_limits ample input.marked_again_keeps_its_place_in_the_buffer
+marked_again_keeps_its_place_in_the_buffer-lawful = run-lawful default_limits ample input.marked_again_keeps_its_place_in_the_buffer marked_again_keeps_its_place_in_the_buffer-passes
 
-pub freed_candidate_does_not_come_back-quiet : IsQuietRun default_limits (refused_at 4) input.freed_candidate_does_not_come_back
-freed_candidate_does_not_come_back-quiet = run-quiet default_limits (refused_at 4) input.freed_candidate_does_not_come_back freed_candidate_does_not_come_back-passes
+pub marked_again_keeps_its_place_in_the_buffer-quiet : IsQuietRun default_limits ample input.marked_again_keeps_its_place_in_the_buffer
+marked_again_keeps_its_place_in_the_buffer-quiet = run-quiet default_limits ample input.marked_again_keeps_its_place_in_the_buffer marked_again_keeps_its_place_in_the_buffer-passes
 
-pub freed_candidate_does_not_come_back-audited : passes_audit default_limits (refused_at 4) input.freed_candidate_does_not_come_back ≡ true
+pub marked_again_keeps_its_place_in_the_buffer-audited : passes_audit default_limits ample input.marked_again_keeps_its_place_in_the_buffer ≡ true
 unfolding all_of_a_run
-freed_candidate_does_not_come_back-audited = refl
+marked_again_keeps_its_place_in_the_buffer-audited = refl
 
--- A collect that is refused memory while it ends the collection that runs begins no other, and the next one takes all.
-pub collect_stops_where_the_running_one_is_refused : plain_text version_one_forms default_limits (refused_at 3) input.collect_stops_where_the_running_one_is_refused
-    ≡ codes "= #1\n= ok\n= ok\n= ok\n- abandon\n! nomem\n- unlink #1\n- free #1\n= ok\n"
+-- Candidates are looked at before the natives that hold gray objects, of which one is freed meanwhile.
+pub candidates_come_before_holders : plain_text version_one_forms default_limits ample input.candidates_come_before_holders
+    ≡ codes "= #1\n= ok\n= #2\n= @1\n= ok\n= ok\n= ok\n= ok\n= ok\n- free #2\n= ok\n- unlink #1\n- free #1\n= ok\n"
 unfolding all_of_a_run
-collect_stops_where_the_running_one_is_refused = refl
+candidates_come_before_holders = refl
 
-collect_stops_where_the_running_one_is_refused-passes : passes_verdict default_limits (refused_at 3) input.collect_stops_where_the_running_one_is_refused ≡ true
+candidates_come_before_holders-passes : passes_verdict default_limits ample input.candidates_come_before_holders ≡ true
 unfolding all_of_a_run
-collect_stops_where_the_running_one_is_refused-passes = refl
+candidates_come_before_holders-passes = refl
 
-pub collect_stops_where_the_running_one_is_refused-lawful : IsLawfulRun default_limits (refused_at 3) input.collect_stops_where_the_running_one_is_refused
-collect_stops_where_the_running_one_is_refused-lawful = run-lawful default_limits (refused_at 3) input.collect_stops_where_the_running_one_is_refused collect_stops_where_the_running_one_is_refused-passes
+pub candidates_come_before_holders-lawful : IsLawfulRun default_limits ample input.candidates_come_before_holders
+candidates_come_before_holders-lawful = run-lawful default_limits ample input.candidates_come_before_holders candidates_come_before_holders-passes
 
-pub collect_stops_where_the_running_one_is_refused-quiet : IsQuietRun default_limits (refused_at 3) input.collect_stops_where_the_running_one_is_refused
-collect_stops_where_the_running_one_is_refused-quiet = run-quiet default_limits (refused_at 3) input.collect_stops_where_the_running_one_is_refused collect_stops_where_the_running_one_is_refused-passes
+pub candidates_come_before_holders-quiet : IsQuietRun default_limits ample input.candidates_come_before_holders
+candidates_come_before_holders-quiet = run-quiet default_limits ample input.candidates_come_before_holders candidates_come_before_holders-passes
 
-pub collect_stops_where_the_running_one_is_refused-audited : passes_audit default_limits (refused_at 3) input.collect_stops_where_the_running_one_is_refused ≡ true
+pub candidates_come_before_holders-audited : passes_audit default_limits ample input.candidates_come_before_holders ≡ true
 unfolding all_of_a_run
-collect_stops_where_the_running_one_is_refused-audited = refl
+candidates_come_before_holders-audited = refl
 
--- A collect that is refused memory in its own collection has ended the one that ran.
-pub collect_refused_in_its_own : plain_text version_one_forms default_limits (refused_at 5) input.collect_refused_in_its_own
-    ≡ codes "= #1\n= ok\n= ok\n= ok\n= #2\n= ok\n= ok\n- unlink #1\n- free #1\n- abandon\n! nomem\n- unlink #2\n- free #2\n= ok\n"
+-- An entry whose value was replaced keeps its place, so its members are looked at before those of an entry that was set in between.
+pub replaced_entry_keeps_its_place : plain_text version_one_forms default_limits ample input.replaced_entry_keeps_its_place
+    ≡ codes "= #1\n= @1\n= @2\n= @3\n= @4\n= ok\n= ok\n= ok\n= ok\n= ok\n= ok\n= ok\n= ok\n= ok\n= #2\n= ok\n= ok\n= ok\n= ok\n= @3\n- unlink #2\n- free #2\n= ok\n"
 unfolding all_of_a_run
-collect_refused_in_its_own = refl
+replaced_entry_keeps_its_place = refl
 
-collect_refused_in_its_own-passes : passes_verdict default_limits (refused_at 5) input.collect_refused_in_its_own ≡ true
+replaced_entry_keeps_its_place-passes : passes_verdict default_limits ample input.replaced_entry_keeps_its_place ≡ true
 unfolding all_of_a_run
-collect_refused_in_its_own-passes = refl
+replaced_entry_keeps_its_place-passes = refl
 
-pub collect_refused_in_its_own-lawful : IsLawfulRun default_limits (refused_at 5) input.collect_refused_in_its_own
-collect_refused_in_its_own-lawful = run-lawful default_limits (refused_at 5) input.collect_refused_in_its_own collect_refused_in_its_own-passes
+pub replaced_entry_keeps_its_place-lawful : IsLawfulRun default_limits ample input.replaced_entry_keeps_its_place
+replaced_entry_keeps_its_place-lawful = run-lawful default_limits ample input.replaced_entry_keeps_its_place replaced_entry_keeps_its_place-passes
 
-pub collect_refused_in_its_own-quiet : IsQuietRun default_limits (refused_at 5) input.collect_refused_in_its_own
-collect_refused_in_its_own-quiet = run-quiet default_limits (refused_at 5) input.collect_refused_in_its_own collect_refused_in_its_own-passes
+pub replaced_entry_keeps_its_place-quiet : IsQuietRun default_limits ample input.replaced_entry_keeps_its_place
+replaced_entry_keeps_its_place-quiet = run-quiet default_limits ample input.replaced_entry_keeps_its_place replaced_entry_keeps_its_place-passes
 
-pub collect_refused_in_its_own-audited : passes_audit default_limits (refused_at 5) input.collect_refused_in_its_own ≡ true
+pub replaced_entry_keeps_its_place-audited : passes_audit default_limits ample input.replaced_entry_keeps_its_place ≡ true
 unfolding all_of_a_run
-collect_refused_in_its_own-audited = refl
+replaced_entry_keeps_its_place-audited = refl

@@ -3,7 +3,7 @@
 use Rattle.std.specs.Prelude.{◌≡◌, true, codes, refl}
 use Rattle.cc_model.specs.Forms.{version_one_forms}
 use Rattle.cc_model.specs.Run.{plain_text}
-use Rattle.cc_worked.specs.Examples.{default_limits, ample, refused_at, IsLawfulRun, IsQuietRun}
+use Rattle.cc_worked.specs.Examples.{default_limits, ample, IsLawfulRun, IsQuietRun}
 use Rattle.cc_worked.specs.Inputs as input
 use Rattle.cc_worked.specs.Verdict.{passes_verdict}
 use Rattle.cc_worked.specs.Audit.{passes_audit}
@@ -11,162 +11,162 @@ use Rattle.cc_worked.proofs.Opened.{all_of_a_run}
 use Rattle.cc_worked.proofs.LawfulTest.{run-lawful}
 use Rattle.cc_worked.proofs.QuietTest.{run-quiet}
 
--- Gc abandons a collection that is refused memory, says so first, and sweeps all the same.
-pub gc_goes_on_where_the_running_one_is_refused : plain_text version_one_forms default_limits (refused_at 4) input.gc_goes_on_where_the_running_one_is_refused
-    ≡ codes "= #1\n= ok\n= ok\n= @1\n= ok\n= ok\n- abandon\n- free @1\n= ok\n- unlink #1\n- free #1\n= ok\n"
+-- An entry that was taken out and set again goes last, so its members are looked at after those of an entry that was set in between.
+pub entry_set_again_goes_last : plain_text version_one_forms default_limits ample input.entry_set_again_goes_last
+    ≡ codes "= #1\n= @1\n= @2\n= @3\n= @4\n= ok\n= ok\n= ok\n= ok\n= ok\n= ok\n= ok\n= ok\n= ok\n= ok\n= #2\n= ok\n= ok\n= ok\n= ok\n= @3\n= ok\n- unlink #2\n- free #2\n= ok\n"
 unfolding all_of_a_run
-gc_goes_on_where_the_running_one_is_refused = refl
+entry_set_again_goes_last = refl
 
-gc_goes_on_where_the_running_one_is_refused-passes : passes_verdict default_limits (refused_at 4) input.gc_goes_on_where_the_running_one_is_refused ≡ true
+entry_set_again_goes_last-passes : passes_verdict default_limits ample input.entry_set_again_goes_last ≡ true
 unfolding all_of_a_run
-gc_goes_on_where_the_running_one_is_refused-passes = refl
+entry_set_again_goes_last-passes = refl
 
-pub gc_goes_on_where_the_running_one_is_refused-lawful : IsLawfulRun default_limits (refused_at 4) input.gc_goes_on_where_the_running_one_is_refused
-gc_goes_on_where_the_running_one_is_refused-lawful = run-lawful default_limits (refused_at 4) input.gc_goes_on_where_the_running_one_is_refused gc_goes_on_where_the_running_one_is_refused-passes
+pub entry_set_again_goes_last-lawful : IsLawfulRun default_limits ample input.entry_set_again_goes_last
+entry_set_again_goes_last-lawful = run-lawful default_limits ample input.entry_set_again_goes_last entry_set_again_goes_last-passes
 
-pub gc_goes_on_where_the_running_one_is_refused-quiet : IsQuietRun default_limits (refused_at 4) input.gc_goes_on_where_the_running_one_is_refused
-gc_goes_on_where_the_running_one_is_refused-quiet = run-quiet default_limits (refused_at 4) input.gc_goes_on_where_the_running_one_is_refused gc_goes_on_where_the_running_one_is_refused-passes
+pub entry_set_again_goes_last-quiet : IsQuietRun default_limits ample input.entry_set_again_goes_last
+entry_set_again_goes_last-quiet = run-quiet default_limits ample input.entry_set_again_goes_last entry_set_again_goes_last-passes
 
-pub gc_goes_on_where_the_running_one_is_refused-audited : passes_audit default_limits (refused_at 4) input.gc_goes_on_where_the_running_one_is_refused ≡ true
+pub entry_set_again_goes_last-audited : passes_audit default_limits ample input.entry_set_again_goes_last ≡ true
 unfolding all_of_a_run
-gc_goes_on_where_the_running_one_is_refused-audited = refl
+entry_set_again_goes_last-audited = refl
 
--- A weak map is not made where memory is refused, and the next one gets the number.
-pub weak_map_takes_memory : plain_text version_one_forms default_limits (refused_at 1) input.weak_map_takes_memory
-    ≡ codes "! nomem\n= census 0\n= @1\n"
+-- Collect ends the collection that runs and begins another, which takes what became garbage in between.
+pub collect_begins_one_of_its_own : plain_text version_one_forms default_limits ample input.collect_begins_one_of_its_own
+    ≡ codes "= #1\n= ok\n= ok\n= ok\n- unlink #1\n- free #1\n= ok\n"
 unfolding all_of_a_run
-weak_map_takes_memory = refl
+collect_begins_one_of_its_own = refl
 
-weak_map_takes_memory-passes : passes_verdict default_limits (refused_at 1) input.weak_map_takes_memory ≡ true
+collect_begins_one_of_its_own-passes : passes_verdict default_limits ample input.collect_begins_one_of_its_own ≡ true
 unfolding all_of_a_run
-weak_map_takes_memory-passes = refl
+collect_begins_one_of_its_own-passes = refl
 
-pub weak_map_takes_memory-lawful : IsLawfulRun default_limits (refused_at 1) input.weak_map_takes_memory
-weak_map_takes_memory-lawful = run-lawful default_limits (refused_at 1) input.weak_map_takes_memory weak_map_takes_memory-passes
+pub collect_begins_one_of_its_own-lawful : IsLawfulRun default_limits ample input.collect_begins_one_of_its_own
+collect_begins_one_of_its_own-lawful = run-lawful default_limits ample input.collect_begins_one_of_its_own collect_begins_one_of_its_own-passes
 
-pub weak_map_takes_memory-quiet : IsQuietRun default_limits (refused_at 1) input.weak_map_takes_memory
-weak_map_takes_memory-quiet = run-quiet default_limits (refused_at 1) input.weak_map_takes_memory weak_map_takes_memory-passes
+pub collect_begins_one_of_its_own-quiet : IsQuietRun default_limits ample input.collect_begins_one_of_its_own
+collect_begins_one_of_its_own-quiet = run-quiet default_limits ample input.collect_begins_one_of_its_own collect_begins_one_of_its_own-passes
 
-pub weak_map_takes_memory-audited : passes_audit default_limits (refused_at 1) input.weak_map_takes_memory ≡ true
+pub collect_begins_one_of_its_own-audited : passes_audit default_limits ample input.collect_begins_one_of_its_own ≡ true
 unfolding all_of_a_run
-weak_map_takes_memory-audited = refl
+collect_begins_one_of_its_own-audited = refl
 
--- A new entry that is refused memory is not there, and its key is not preserved: a blank reflector is swept, though its native lives.
-pub refused_entry_preserves_nothing : plain_text version_one_forms default_limits (refused_at 5) input.refused_entry_preserves_nothing
-    ≡ codes "= #1\n= ~1\n= @1\n= @2\n! nomem\n= none\n= ok\n- free ~1\n= ok\n= ~1\n= none\n= ok\n= @2\n= ok\n= ok\n= ~1\n= @2\n"
+-- The numbers of what a collect unlinks begin anew where it has ended the collection that ran, and runs one of its own.
+pub collect_ends_one_and_takes_more_in_its_own : plain_text version_one_forms default_limits ample input.collect_ends_one_and_takes_more_in_its_own
+    ≡ codes "= #1\n= ok\n= #2\n= ok\n= ok\n= ok\n= ok\n- unlink #2\n- free #2\n- unlink #1\n- free #1\n= ok\n"
 unfolding all_of_a_run
-refused_entry_preserves_nothing = refl
+collect_ends_one_and_takes_more_in_its_own = refl
 
-refused_entry_preserves_nothing-passes : passes_verdict default_limits (refused_at 5) input.refused_entry_preserves_nothing ≡ true
+collect_ends_one_and_takes_more_in_its_own-passes : passes_verdict default_limits ample input.collect_ends_one_and_takes_more_in_its_own ≡ true
 unfolding all_of_a_run
-refused_entry_preserves_nothing-passes = refl
+collect_ends_one_and_takes_more_in_its_own-passes = refl
 
-pub refused_entry_preserves_nothing-lawful : IsLawfulRun default_limits (refused_at 5) input.refused_entry_preserves_nothing
-refused_entry_preserves_nothing-lawful = run-lawful default_limits (refused_at 5) input.refused_entry_preserves_nothing refused_entry_preserves_nothing-passes
+pub collect_ends_one_and_takes_more_in_its_own-lawful : IsLawfulRun default_limits ample input.collect_ends_one_and_takes_more_in_its_own
+collect_ends_one_and_takes_more_in_its_own-lawful = run-lawful default_limits ample input.collect_ends_one_and_takes_more_in_its_own collect_ends_one_and_takes_more_in_its_own-passes
 
-pub refused_entry_preserves_nothing-quiet : IsQuietRun default_limits (refused_at 5) input.refused_entry_preserves_nothing
-refused_entry_preserves_nothing-quiet = run-quiet default_limits (refused_at 5) input.refused_entry_preserves_nothing refused_entry_preserves_nothing-passes
+pub collect_ends_one_and_takes_more_in_its_own-quiet : IsQuietRun default_limits ample input.collect_ends_one_and_takes_more_in_its_own
+collect_ends_one_and_takes_more_in_its_own-quiet = run-quiet default_limits ample input.collect_ends_one_and_takes_more_in_its_own collect_ends_one_and_takes_more_in_its_own-passes
 
-pub refused_entry_preserves_nothing-audited : passes_audit default_limits (refused_at 5) input.refused_entry_preserves_nothing ≡ true
+pub collect_ends_one_and_takes_more_in_its_own-audited : passes_audit default_limits ample input.collect_ends_one_and_takes_more_in_its_own ≡ true
 unfolding all_of_a_run
-refused_entry_preserves_nothing-audited = refl
+collect_ends_one_and_takes_more_in_its_own-audited = refl
 
--- Each of five commands takes memory once, and what changes no more than contents takes none.
-pub what_takes_memory : plain_text version_one_forms default_limits (refused_at 6) input.what_takes_memory
-    ≡ codes "= #1\n= @1\n= @2\n= ~1\n= ok\n= ~1\n= ok\n= ok\n= ok\n= #1\n= ok\n! nomem\n"
+-- A native that was touched while a collection ran waits for the next one.
+pub touched_between_slices : plain_text version_one_forms default_limits ample input.touched_between_slices
+    ≡ codes "= #1\n= ok\n= #1\n= ok\n= ok\n= #1\n= ok\n= ok\n= ok\n- unlink #1\n- free #1\n= ok\n"
 unfolding all_of_a_run
-what_takes_memory = refl
+touched_between_slices = refl
 
-what_takes_memory-passes : passes_verdict default_limits (refused_at 6) input.what_takes_memory ≡ true
+touched_between_slices-passes : passes_verdict default_limits ample input.touched_between_slices ≡ true
 unfolding all_of_a_run
-what_takes_memory-passes = refl
+touched_between_slices-passes = refl
 
-pub what_takes_memory-lawful : IsLawfulRun default_limits (refused_at 6) input.what_takes_memory
-what_takes_memory-lawful = run-lawful default_limits (refused_at 6) input.what_takes_memory what_takes_memory-passes
+pub touched_between_slices-lawful : IsLawfulRun default_limits ample input.touched_between_slices
+touched_between_slices-lawful = run-lawful default_limits ample input.touched_between_slices touched_between_slices-passes
 
-pub what_takes_memory-quiet : IsQuietRun default_limits (refused_at 6) input.what_takes_memory
-what_takes_memory-quiet = run-quiet default_limits (refused_at 6) input.what_takes_memory what_takes_memory-passes
+pub touched_between_slices-quiet : IsQuietRun default_limits ample input.touched_between_slices
+touched_between_slices-quiet = run-quiet default_limits ample input.touched_between_slices touched_between_slices-passes
 
-pub what_takes_memory-audited : passes_audit default_limits (refused_at 6) input.what_takes_memory ≡ true
+pub touched_between_slices-audited : passes_audit default_limits ample input.touched_between_slices ≡ true
 unfolding all_of_a_run
-what_takes_memory-audited = refl
+touched_between_slices-audited = refl
 
--- A line with a token too many or too few is not in the grammar, and the next one is answered.
-pub wrong_number_of_tokens : plain_text version_one_forms default_limits ample input.wrong_number_of_tokens
-    ≡ codes "! line\n! line\n= #1\n"
+-- What script read from a native while a collection ran keeps what it holds.
+pub read_between_slices : plain_text version_one_forms default_limits ample input.read_between_slices
+    ≡ codes "= #1\n= @1\n= @2\n= ok\n= ok\n= ok\n= ok\n= ok\n= ok\n= @1\n= ok\n= ok\n= @2\n"
 unfolding all_of_a_run
-wrong_number_of_tokens = refl
+read_between_slices = refl
 
-wrong_number_of_tokens-passes : passes_verdict default_limits ample input.wrong_number_of_tokens ≡ true
+read_between_slices-passes : passes_verdict default_limits ample input.read_between_slices ≡ true
 unfolding all_of_a_run
-wrong_number_of_tokens-passes = refl
+read_between_slices-passes = refl
 
-pub wrong_number_of_tokens-lawful : IsLawfulRun default_limits ample input.wrong_number_of_tokens
-wrong_number_of_tokens-lawful = run-lawful default_limits ample input.wrong_number_of_tokens wrong_number_of_tokens-passes
+pub read_between_slices-lawful : IsLawfulRun default_limits ample input.read_between_slices
+read_between_slices-lawful = run-lawful default_limits ample input.read_between_slices read_between_slices-passes
 
-pub wrong_number_of_tokens-quiet : IsQuietRun default_limits ample input.wrong_number_of_tokens
-wrong_number_of_tokens-quiet = run-quiet default_limits ample input.wrong_number_of_tokens wrong_number_of_tokens-passes
+pub read_between_slices-quiet : IsQuietRun default_limits ample input.read_between_slices
+read_between_slices-quiet = run-quiet default_limits ample input.read_between_slices read_between_slices-passes
 
-pub wrong_number_of_tokens-audited : passes_audit default_limits ample input.wrong_number_of_tokens ≡ true
+pub read_between_slices-audited : passes_audit default_limits ample input.read_between_slices ≡ true
 unfolding all_of_a_run
-wrong_number_of_tokens-audited = refl
+read_between_slices-audited = refl
 
--- Tokens are parted by spaces, more than one too and at both ends, and a tab, a sign, a leading zero or a capital letter is not taken.
-pub spaces_part_tokens : plain_text version_one_forms default_limits ample input.spaces_part_tokens
-    ≡ codes "= #1\n! line\n! line\n! line\n! line\n! line\n! line\n! line\n! line\n= ok\n+ #1\n= census 1\n"
+-- A native lives by its reflector, which script touched while the collection ran.
+pub native_lives_by_an_exposed_reflector : plain_text version_one_forms default_limits ample input.native_lives_by_an_exposed_reflector
+    ≡ codes "= #1\n= #2\n= #3\n= ~2\n= ok\n= ok\n= ok\n= ok\n= ok\n= ok\n= ok\n= ok\n= ~2\n= ok\n- unlink #3\n- free #3\n= ok\n= #2\n"
 unfolding all_of_a_run
-spaces_part_tokens = refl
+native_lives_by_an_exposed_reflector = refl
 
-spaces_part_tokens-passes : passes_verdict default_limits ample input.spaces_part_tokens ≡ true
+native_lives_by_an_exposed_reflector-passes : passes_verdict default_limits ample input.native_lives_by_an_exposed_reflector ≡ true
 unfolding all_of_a_run
-spaces_part_tokens-passes = refl
+native_lives_by_an_exposed_reflector-passes = refl
 
-pub spaces_part_tokens-lawful : IsLawfulRun default_limits ample input.spaces_part_tokens
-spaces_part_tokens-lawful = run-lawful default_limits ample input.spaces_part_tokens spaces_part_tokens-passes
+pub native_lives_by_an_exposed_reflector-lawful : IsLawfulRun default_limits ample input.native_lives_by_an_exposed_reflector
+native_lives_by_an_exposed_reflector-lawful = run-lawful default_limits ample input.native_lives_by_an_exposed_reflector native_lives_by_an_exposed_reflector-passes
 
-pub spaces_part_tokens-quiet : IsQuietRun default_limits ample input.spaces_part_tokens
-spaces_part_tokens-quiet = run-quiet default_limits ample input.spaces_part_tokens spaces_part_tokens-passes
+pub native_lives_by_an_exposed_reflector-quiet : IsQuietRun default_limits ample input.native_lives_by_an_exposed_reflector
+native_lives_by_an_exposed_reflector-quiet = run-quiet default_limits ample input.native_lives_by_an_exposed_reflector native_lives_by_an_exposed_reflector-passes
 
-pub spaces_part_tokens-audited : passes_audit default_limits ample input.spaces_part_tokens ≡ true
+pub native_lives_by_an_exposed_reflector-audited : passes_audit default_limits ample input.native_lives_by_an_exposed_reflector ≡ true
 unfolding all_of_a_run
-spaces_part_tokens-audited = refl
+native_lives_by_an_exposed_reflector-audited = refl
 
--- Each register that must hold an object is refused where it is empty, and those that may be empty are not.
-pub empty_registers_are_refused : plain_text version_one_forms default_limits ample input.empty_registers_are_refused
-    ≡ codes "= #1\n= @1\n= @2\n! empty\n! empty\n! empty\n! empty\n! empty\n! empty\n! empty\n! empty\n! empty\n! empty\n! empty\n! empty\n! empty\n! empty\n! empty\n! empty\n! empty\n! empty\n! empty\n! empty\n= ok\n= none\n= none\n= none\n= none\n= none\n! kind\n= ~1\n"
+-- A native that gets a reference after it was sampled is touched, so it is not looked at with an old count.
+pub copied_after_its_node_was_traversed : plain_text version_one_forms default_limits ample input.copied_after_its_node_was_traversed
+    ≡ codes "= #1\n= ok\n= #1\n= ok\n= ok\n= #1\n= ok\n= ok\n= ok\n- unlink #1\n- free #1\n= ok\n"
 unfolding all_of_a_run
-empty_registers_are_refused = refl
+copied_after_its_node_was_traversed = refl
 
-empty_registers_are_refused-passes : passes_verdict default_limits ample input.empty_registers_are_refused ≡ true
+copied_after_its_node_was_traversed-passes : passes_verdict default_limits ample input.copied_after_its_node_was_traversed ≡ true
 unfolding all_of_a_run
-empty_registers_are_refused-passes = refl
+copied_after_its_node_was_traversed-passes = refl
 
-pub empty_registers_are_refused-lawful : IsLawfulRun default_limits ample input.empty_registers_are_refused
-empty_registers_are_refused-lawful = run-lawful default_limits ample input.empty_registers_are_refused empty_registers_are_refused-passes
+pub copied_after_its_node_was_traversed-lawful : IsLawfulRun default_limits ample input.copied_after_its_node_was_traversed
+copied_after_its_node_was_traversed-lawful = run-lawful default_limits ample input.copied_after_its_node_was_traversed copied_after_its_node_was_traversed-passes
 
-pub empty_registers_are_refused-quiet : IsQuietRun default_limits ample input.empty_registers_are_refused
-empty_registers_are_refused-quiet = run-quiet default_limits ample input.empty_registers_are_refused empty_registers_are_refused-passes
+pub copied_after_its_node_was_traversed-quiet : IsQuietRun default_limits ample input.copied_after_its_node_was_traversed
+copied_after_its_node_was_traversed-quiet = run-quiet default_limits ample input.copied_after_its_node_was_traversed copied_after_its_node_was_traversed-passes
 
-pub empty_registers_are_refused-audited : passes_audit default_limits ample input.empty_registers_are_refused ≡ true
+pub copied_after_its_node_was_traversed-audited : passes_audit default_limits ample input.copied_after_its_node_was_traversed ≡ true
 unfolding all_of_a_run
-empty_registers_are_refused-audited = refl
+copied_after_its_node_was_traversed-audited = refl
 
--- Each object of the wrong kind is refused.
-pub wrong_kinds_are_refused : plain_text version_one_forms default_limits ample input.wrong_kinds_are_refused
-    ≡ codes "= #1\n= ~1\n= @1\n= @2\n! kind\n! kind\n! kind\n! kind\n! kind\n! kind\n! kind\n! kind\n! kind\n! kind\n! kind\n"
+-- A native that was looked at and is freed before the end counts as it was sampled: it was held, so this collection keeps what it led to.
+pub freed_after_its_node_was_traversed : plain_text version_one_forms default_limits ample input.freed_after_its_node_was_traversed
+    ≡ codes "= #1\n= ~1\n= #2\n= ok\n= ok\n= ok\n= ok\n= ok\n- free #2\n= ok\n= ok\n- free ~1\n- free #1\n= ok\n= census 0\n"
 unfolding all_of_a_run
-wrong_kinds_are_refused = refl
+freed_after_its_node_was_traversed = refl
 
-wrong_kinds_are_refused-passes : passes_verdict default_limits ample input.wrong_kinds_are_refused ≡ true
+freed_after_its_node_was_traversed-passes : passes_verdict default_limits ample input.freed_after_its_node_was_traversed ≡ true
 unfolding all_of_a_run
-wrong_kinds_are_refused-passes = refl
+freed_after_its_node_was_traversed-passes = refl
 
-pub wrong_kinds_are_refused-lawful : IsLawfulRun default_limits ample input.wrong_kinds_are_refused
-wrong_kinds_are_refused-lawful = run-lawful default_limits ample input.wrong_kinds_are_refused wrong_kinds_are_refused-passes
+pub freed_after_its_node_was_traversed-lawful : IsLawfulRun default_limits ample input.freed_after_its_node_was_traversed
+freed_after_its_node_was_traversed-lawful = run-lawful default_limits ample input.freed_after_its_node_was_traversed freed_after_its_node_was_traversed-passes
 
-pub wrong_kinds_are_refused-quiet : IsQuietRun default_limits ample input.wrong_kinds_are_refused
-wrong_kinds_are_refused-quiet = run-quiet default_limits ample input.wrong_kinds_are_refused wrong_kinds_are_refused-passes
+pub freed_after_its_node_was_traversed-quiet : IsQuietRun default_limits ample input.freed_after_its_node_was_traversed
+freed_after_its_node_was_traversed-quiet = run-quiet default_limits ample input.freed_after_its_node_was_traversed freed_after_its_node_was_traversed-passes
 
-pub wrong_kinds_are_refused-audited : passes_audit default_limits ample input.wrong_kinds_are_refused ≡ true
+pub freed_after_its_node_was_traversed-audited : passes_audit default_limits ample input.freed_after_its_node_was_traversed ≡ true
 unfolding all_of_a_run
-wrong_kinds_are_refused-audited = refl
+freed_after_its_node_was_traversed-audited = refl

@@ -17,4 +17,7 @@ pub mod Examples8
 pub mod Examples9
 pub mod Examples10
 pub mod Examples11
+pub mod Examples12
+pub mod Examples13
+pub mod Examples14
 pub mod Examples

@@ -44,6 +44,11 @@ abbrev pub reflector_is_kept : Transcript
 reflector_is_kept = answered (codes "native n0 0\nwrap s0 n0\ndrop s0\ngc\ncollect\ngc\ncensus\n")
     (made (native 1) ∷ made (reflector 1) ∷ ok ∷ ok ∷ ok ∷ ok ∷ lists (native 1 ∷ reflector 1 ∷ []) ∷ [])
 
+-- A reflector whose entry was taken out is not preserved by that, and is gone.
+abbrev pub reflector_of_a_taken_out_entry_is_kept : Transcript
+reflector_of_a_taken_out_entry_is_kept = answered (codes "native n0 0\nwrap s1 n0\nweakmap s0\nwset s0 s1 none\ndrop s1\ngc\ncollect\ngc\ncensus\n")
+    (made (native 1) ∷ made (reflector 1) ∷ made (object 1) ∷ ok ∷ ok ∷ ok ∷ ok ∷ ok ∷ lists (native 1 ∷ reflector 1 ∷ object 1 ∷ []) ∷ [])
+
 -- What a register reaches is listed. Such a transcript is not lawful either, since only a free line takes a name out.
 abbrev pub reached_native_is_missing : Transcript
 reached_native_is_missing = answered (codes "native n0 0\ngc\ncollect\ngc\ncensus\n")

@@ -30,9 +30,29 @@ two_cycle_is_collected = codes "native n0 1\nnative n1 1\nset n0 0 n1\nset n1 0 
 abbrev pub held_cycle_is_kept : List ℕ
 held_cycle_is_kept = codes "native n0 1\nnative n1 1\nset n0 0 n1\nset n1 0 n0\ndrop n1\ncollect\ncensus\n"
 
+-- Natives that hold each other in a ring are looked at and kept, where a register holds the last of them.
+abbrev pub held_ring_of_three_is_kept : List ℕ
+held_ring_of_three_is_kept = codes "native n0 1\ncopy n1 n0\nnative n2 1\nset n2 0 n1\ncopy n1 n2\nnative n2 1\nset n2 0 n1\ncopy n1 n2\ndrop n2\nset n0 0 n1\ndrop n0\ncollect\ncensus\n"
+
 -- White natives are taken by rising number, also where the collection came to the later one first.
 abbrev pub whites_are_taken_by_rising_number : List ℕ
 whites_are_taken_by_rising_number = codes "native n0 1\nnative n1 1\nset n0 0 n1\nset n1 0 n0\ncollect\ndrop n1\ndrop n0\ncollect\n"
+
+-- A native whose last reference is given up goes to the end of the queue: what the first one held is freed before what the second one held.
+abbrev pub freed_natives_queue_up : List ℕ
+freed_natives_queue_up = codes "native n0 2\nnative n1 1\nnative n2 0\nnative n3 0\nset n0 0 n1\nset n0 1 n2\nset n1 0 n3\ndrop n1\ndrop n2\ndrop n3\ndrop n0\n"
+
+-- A freed native gives up its slots in rising order, so of two chains that it holds the one in its first slot goes first, link by link with the other.
+abbrev pub slots_are_given_up_in_rising_order : List ℕ
+slots_are_given_up_in_rising_order = codes "native n0 2\nnative n1 1\nnative n2 1\nnative n3 0\nnative n4 0\nset n0 0 n4\nset n0 1 n1\nset n1 0 n2\nset n2 0 n3\ndrop n1\ndrop n2\ndrop n3\ndrop n4\ndrop n0\n"
+
+-- What a register holds is copied, and an object is kept as long as one register holds it; an empty register is copied and emptied too.
+abbrev pub registers_are_copied_and_emptied : List ℕ
+registers_are_copied_and_emptied = codes "native n0 0\nscript s0 0\ncopy n1 n0\ncopy s1 s0\ndrop n0\ndrop s1\ngc\ncopy s0 s1\ndrop n1\ndrop n1\ngc\n"
+
+-- A collection after one that ended takes what became garbage since, and one that finds nothing tells nothing.
+abbrev pub collections_follow_each_other : List ℕ
+collections_follow_each_other = codes "native n0 1\nnative n1 1\nset n0 0 n1\nset n1 0 n0\ndrop n0\ndrop n1\ncollect\ncollect\nnative n0 1\nnative n1 1\nset n0 0 n1\nset n1 0 n0\nnative n2 1\nset n2 0 n2\ndrop n0\ndrop n1\ndrop n2\ncollect\ncensus\n"
 
 -- A slot of a script object is written, emptied and read, and what is refused meanwhile leaves it.
 abbrev pub script_slots_are_written_and_read : List ℕ
@@ -61,6 +81,14 @@ gray_cycle_through_a_slot_is_exposed = codes "native n0 1\nscript s0 1\nput s0 0
 -- A collection takes a native cycle that holds script objects, and the next gc takes these.
 abbrev pub native_cycle_that_holds_script_objects_is_collected : List ℕ
 native_cycle_that_holds_script_objects_is_collected = codes "native n0 2\nscript s0 1\nscript s1 0\nput s0 0 s1\nset n0 0 n0\nset n0 1 s0\ndrop s0\ndrop s1\ngc\ndrop n0\ncollect\ngc\ncensus\n"
+
+-- Gc frees a script object that nothing holds, and the next gc finds nothing more.
+abbrev pub what_nothing_holds_is_freed_once : List ℕ
+what_nothing_holds_is_freed_once = codes "script s0 1\nscript s1 0\nput s0 0 s1\nscript s1 0\ndrop s1\ngc\ngc\n"
+
+-- Gc keeps what each slot of a native holds, and the reflector that it preserves.
+abbrev pub native_keeps_what_each_slot_holds_and_its_reflector : List ℕ
+native_keeps_what_each_slot_holds_and_its_reflector = codes "native n0 2\nscript s0 0\nset n0 0 s0\nscript s0 0\nset n0 1 s0\nwrap s0 n0\npreserve s0\nscript s0 0\ndrop s0\ngc\ncensus\n"
 
 -- A reflector has four slots: the last of them is written and read, and there is none behind it.
 abbrev pub reflector_has_four_slots : List ℕ
@@ -105,6 +133,30 @@ what_is_no_reflector_is_refused = codes "script s0 1\nunwrap n0 s0\npreserve s0\
 -- A reflector that was swept and is made again has four empty slots.
 abbrev pub reflector_made_again_is_blank : List ℕ
 reflector_made_again_is_blank = codes "native n0 1\nwrap s0 n0\nscript s1 0\ndrop s0\ngc\nwrap s0 n0\ntake s2 s0 0\ntake s2 s0 3\ntake s2 s0 4\ndrop n0\ndrop s0\ngc\n"
+
+-- A reflector that is swept lets its native go before the next object is swept.
+abbrev pub native_is_freed_before_the_next_object_is_swept : List ℕ
+native_is_freed_before_the_next_object_is_swept = codes "native n0 0\nwrap s0 n0\nscript s1 0\ndrop n0\ndrop s0\ndrop s1\ngc\n"
+
+-- A native that is wrapped twice has one reflector, and lives by it.
+abbrev pub native_has_one_reflector : List ℕ
+native_has_one_reflector = codes "native n0 0\nwrap s0 n0\nwrap s1 n0\ndrop n0\ndrop s0\ngc\nunwrap n1 s1\ncensus\n"
+
+-- A reflector that was swept and is made again is preserved like the first one.
+abbrev pub reflector_made_again_is_preserved : List ℕ
+reflector_made_again_is_preserved = codes "native n0 0\nwrap s0 n0\ndrop s0\ngc\nwrap s0 n0\npreserve s0\ndrop s0\ngc\ncensus\n"
+
+-- A reflector is preserved where a slot of it is emptied, too.
+abbrev pub emptied_slot_preserves_its_reflector : List ℕ
+emptied_slot_preserves_its_reflector = codes "native n0 0\nwrap s0 n0\nput s0 3 none\ndrop s0\ngc\ncensus\n"
+
+-- A reflector whose slot is not written is not preserved.
+abbrev pub refused_put_preserves_nothing : List ℕ
+refused_put_preserves_nothing = codes "native n0 0\nwrap s0 n0\nput s0 4 s0\nput s0 4 none\nput s0 4 s9\ndrop s0\ngc\ncensus\n"
+
+-- A reflector is not preserved where it comes into a slot, or becomes a value.
+abbrev pub stored_reflector_is_not_preserved : List ℕ
+stored_reflector_is_not_preserved = codes "native n0 0\nwrap s0 n0\nscript s1 1\nput s1 0 s0\nweakmap s2\nwset s2 s1 s0\ndrop s0\ndrop s1\ngc\ncensus\n"
 
 -- An entry whose value alone holds its key is dropped, with both.
 abbrev pub entry_does_not_keep_its_key : List ℕ
@@ -161,6 +213,18 @@ two_entries_have_one_value = codes "weakmap s0\nscript s1 0\nscript s2 0\nscript
 -- An entry does not keep a value that is its own key.
 abbrev pub value_is_its_own_key : List ℕ
 value_is_its_own_key = codes "weakmap s0\nscript s1 0\nwset s0 s1 s1\ngc\nwget s2 s0 s1\ndrop s1\ndrop s2\ngc\ncensus\n"
+
+-- A reflector is not preserved where its entry is taken out.
+abbrev pub taken_out_entry_preserves_nothing : List ℕ
+taken_out_entry_preserves_nothing = codes "native n0 0\nwrap s1 n0\nweakmap s0\nwset s0 s1 none\ndrop s1\ngc\ncensus\n"
+
+-- An entry is taken out of one map, where the other keys of that map and the same key of another map keep theirs.
+abbrev pub entry_is_taken_out_of_its_map_alone : List ℕ
+entry_is_taken_out_of_its_map_alone = codes "weakmap s0\nweakmap s1\nscript s2 0\nscript s3 0\nwset s0 s2 s3\nwset s1 s2 s3\nwset s0 s3 s2\nwset s0 s2 none\nwget s4 s0 s2\nwget s4 s1 s2\nwget s4 s0 s3\n"
+
+-- A reflector that is a value lives by its map and a key that a native holds, and goes with its native when the map goes.
+abbrev pub value_goes_with_its_map : List ℕ
+value_goes_with_its_map = codes "native n0 1\nnative n1 0\nwrap s0 n1\nweakmap s1\nscript s2 0\nwset s1 s2 s0\nset n0 0 s2\ndrop n1\ndrop s0\ndrop s2\ngc\ncollect\ndrop s1\ngc\ncensus\n"
 
 -- A collection with two nodes takes a unit to begin, one for each node, and one to end.
 abbrev pub two_cycle_takes_four_units : List ℕ
@@ -238,6 +302,26 @@ native_made_between_slices = codes "native n0 1\nwrap s0 n0\nset n0 0 s0\ndrop s
 abbrev pub gc_ends_a_running_collection : List ℕ
 gc_ends_a_running_collection = codes "native n0 1\nset n0 0 n0\ndrop n0\nslice 1\ngc\n"
 
+-- A native that holds nothing gray but its reflector is looked at, and so is this, so a collection with one candidate takes five units.
+abbrev pub native_that_preserves_a_gray_reflector_is_a_holder : List ℕ
+native_that_preserves_a_gray_reflector_is_a_holder = codes "native n0 0\nwrap s0 n0\npreserve s0\ndrop s0\nnative n1 1\nset n1 0 n1\ndrop n1\ngc\nslice 4\nslice 1\n"
+
+-- What a native's slots hold is looked at before its reflector, which has become black meanwhile and leads to nothing more.
+abbrev pub preserved_reflector_is_looked_at_after_the_slots : List ℕ
+preserved_reflector_is_looked_at_after_the_slots = codes "native n0 1\nwrap s0 n0\nscript s1 0\nscript s2 0\nput s0 0 s2\nset n0 0 s1\ndrop s0\ndrop s1\ndrop s2\nnative n1 1\nset n1 0 n1\ndrop n1\ngc\nslice 4\nwrap s3 n0\nslice 1\nslice 1\n"
+
+-- A map of which an entry tells is looked at before the key, and the key before the value, each of which is exposed in between and leads to nothing more.
+abbrev pub map_comes_before_its_key : List ℕ
+map_comes_before_its_key = codes "native n0 3\nweakmap s0\nscript s1 1\nscript s2 1\nscript s3 0\nscript s4 0\nput s1 0 s3\nput s2 0 s4\nset n0 0 s2\nset n0 1 s1\nset n0 2 s0\nwset s0 s1 s2\ndrop s0\ndrop s1\ndrop s2\ndrop s3\ndrop s4\nnative n1 1\nset n1 0 n1\ndrop n1\ngc\nslice 4\nexpose n0 1\nslice 1\nexpose n0 0\nslice 1\nslice 1\n"
+
+-- A black key of a gray map is no node, so a collection with one candidate, the holder of the map, the map and the value takes six units.
+abbrev pub black_key_is_not_looked_at : List ℕ
+black_key_is_not_looked_at = codes "native n0 1\nweakmap s0\nscript s1 0\nscript s2 0\nwset s0 s1 s2\nset n0 0 s0\ndrop s0\ndrop s2\nnative n1 1\nset n1 0 n1\ndrop n1\ngc\nslice 5\nslice 1\nget s3 n0 0\nwget s2 s3 s1\n"
+
+-- An unlinked native gives up its slots in rising order, each with all that goes with it before the next one.
+abbrev pub unlinking_empties_slots_in_rising_order : List ℕ
+unlinking_empties_slots_in_rising_order = codes "native n0 3\nnative n1 0\nnative n2 1\nnative n3 0\nset n0 0 n0\nset n0 1 n2\nset n0 2 n1\nset n2 0 n3\ndrop n3\ndrop n0\nslice 1\ndrop n1\ndrop n2\nslice 10\n"
+
 -- A collection whose begin is refused memory is abandoned, and nothing is forgotten.
 abbrev pub collect_refused_at_its_begin : List ℕ
 collect_refused_at_its_begin = codes "native n0 1\nset n0 0 n0\ndrop n0\ncollect\ngc\ncollect\ngc\ncensus\n"
@@ -273,6 +357,22 @@ refused_entry_preserves_nothing = codes "native n0 0\nwrap s1 n0\nweakmap s0\nsc
 -- Each of five commands takes memory once, and what changes no more than contents takes none.
 abbrev pub what_takes_memory : List ℕ
 what_takes_memory = codes "native n0 0\nscript s0 0\nweakmap s1\nwrap s2 n0\nwset s1 s2 s0\nwrap s3 n0\nwset s1 s2 s2\nput s2 0 s0\nwset s1 s2 none\ncopy n1 n0\ngc\nnative n1 0\n"
+
+-- A reflector is not made where memory is refused, and the register that was to hold it stays as it was.
+abbrev pub reflector_takes_memory : List ℕ
+reflector_takes_memory = codes "native n0 0\nwrap s0 n0\ncopy s1 s0\ncensus\nwrap s0 n0\n"
+
+-- A begin that finds no node, a native that leads to nothing, and the end take no memory, so what is made after them is refused.
+abbrev pub unit_that_adds_nothing_takes_no_memory : List ℕ
+unit_that_adds_nothing_takes_no_memory = codes "native n0 0\nslice 2\ncopy n1 n0\ndrop n1\nslice 1\nslice 1\nslice 1\nnative n1 0\n"
+
+-- A native that is made where a freed candidate stood is not looked at in its place, so no memory is taken for what it holds.
+abbrev pub reused_key_is_not_taken_for_its_node : List ℕ
+reused_key_is_not_taken_for_its_node = codes "native n0 0\ncopy n1 n0\ndrop n1\nslice 1\ndrop n0\nnative n0 1\nset n0 0 n0\nslice 1\nslice 1\nnative n1 0\n"
+
+-- A candidate that is touched while its collection runs stands in the buffer behind what was touched before, and keeps that place, with the mark, when the collection is abandoned.
+abbrev pub abandonment_leaves_a_candidate_at_its_place : List ℕ
+abandonment_leaves_a_candidate_at_its_place = codes "native n0 1\nnative n5 0\nset n0 0 n5\ncopy n1 n0\ndrop n1\nslice 1\nnative n2 1\nset n2 0 n2\ndrop n2\ncopy n1 n0\nnative n3 2\nnative n6 0\nnative n7 0\nset n3 0 n6\nset n3 1 n7\ncopy n4 n3\ndrop n4\nslice 1\nslice 2\nset n0 0 none\nslice 1\nset n3 0 none\nset n3 1 none\nslice 1\nslice 1\n"
 
 -- A line with a token too many or too few is not in the grammar, and the next one is answered.
 abbrev pub wrong_number_of_tokens : List ℕ
@@ -341,3 +441,11 @@ input_of_one_byte_more = codes "native n0 0\n\n"
 -- With no byte allowed one byte ends the run with nothing written.
 abbrev pub input_where_no_byte_is_allowed : List ℕ
 input_where_no_byte_is_allowed = codes "x"
+
+-- Where the line feed of the only line is one byte more than may be read, nothing is answered.
+abbrev pub input_of_one_byte_less : List ℕ
+input_of_one_byte_less = codes "native n0 0\n"
+
+-- An empty input is read whole where no byte is allowed.
+abbrev pub empty_input_where_no_byte_is_allowed : List ℕ
+empty_input_where_no_byte_is_allowed = []

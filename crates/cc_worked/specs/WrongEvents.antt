@@ -51,6 +51,16 @@ abbrev pub preserved_reflector_is_freed : Transcript
 preserved_reflector_is_freed = answered (codes "native n0 0\nwrap s0 n0\npreserve s0\ndrop s0\ngc\n")
     (made (native 1) ∷ made (reflector 1) ∷ ok ∷ ok ∷ done_after (Freed (reflector 1) ∷ []) ∷ [])
 
+-- A reflector is preserved where a slot of it is emptied.
+abbrev pub reflector_with_an_emptied_slot_is_freed : Transcript
+reflector_with_an_emptied_slot_is_freed = answered (codes "native n0 0\nwrap s0 n0\nput s0 0 none\ndrop s0\ngc\n")
+    (made (native 1) ∷ made (reflector 1) ∷ ok ∷ ok ∷ done_after (Freed (reflector 1) ∷ []) ∷ [])
+
+-- A reflector is preserved where it becomes a key.
+abbrev pub reflector_that_is_a_key_is_freed : Transcript
+reflector_that_is_a_key_is_freed = answered (codes "native n0 0\nwrap s1 n0\nweakmap s0\nwset s0 s1 s0\ndrop s1\ngc\n")
+    (made (native 1) ∷ made (reflector 1) ∷ made (object 1) ∷ ok ∷ ok ∷ done_after (Freed (reflector 1) ∷ []) ∷ [])
+
 -- A value lives as long as its map and its key.
 abbrev pub value_is_freed_while_map_and_key_are_held : Transcript
 value_is_freed_while_map_and_key_are_held = answered (codes "weakmap s0\nscript s1 0\nwset s0 s0 s1\ndrop s1\ngc\n")

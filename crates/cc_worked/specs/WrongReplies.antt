@@ -87,6 +87,21 @@ done_in_place_of_a_refusal = answered (codes "preserve s0\n") (ok ∷ [])
 abbrev pub refused_for_another_cause : Transcript
 refused_for_another_cause = answered (codes "preserve s0\n") (refused Kind ∷ [])
 
+-- An entry that was taken out is not read.
+abbrev pub taken_out_entry_is_read : Transcript
+taken_out_entry_is_read = answered (codes "weakmap s0\nwset s0 s0 s0\nwset s0 s0 none\nwget s1 s0 s0\n")
+    (made (object 1) ∷ ok ∷ ok ∷ made (object 1) ∷ [])
+
+-- Another map keeps its entry of the same key.
+abbrev pub entry_of_another_map_is_taken_out : Transcript
+entry_of_another_map_is_taken_out = answered (codes "weakmap s0\nweakmap s1\nwset s0 s0 s0\nwset s1 s0 s0\nwset s0 s0 none\nwget s2 s1 s0\n")
+    (made (object 1) ∷ made (object 2) ∷ ok ∷ ok ∷ ok ∷ replying [] nothing_there ∷ [])
+
+-- The map keeps its entry of another key.
+abbrev pub entry_of_another_key_is_taken_out : Transcript
+entry_of_another_key_is_taken_out = answered (codes "weakmap s0\nscript s1 0\nwset s0 s0 s0\nwset s0 s1 s0\nwset s0 s0 none\nwget s2 s0 s1\n")
+    (made (object 1) ∷ made (object 2) ∷ ok ∷ ok ∷ ok ∷ replying [] nothing_there ∷ [])
+
 -- Wants of memory
 
 -- A copy of a native register takes no memory.

@@ -77,6 +77,16 @@ const EXAMPLES: [Example; 20] = [
         output: b"= #1\n= #2\n= ok\n= ok\n= ok\n= ok\n+ #1\n+ #2\n= census 2\n",
         status: Status::Done,
     },
+    // Natives that hold each other in a ring are looked at and kept, where a register holds the last of them.
+    Example {
+        name: "held_ring_of_three_is_kept",
+        natives: 1000000,
+        scripts: 1000000,
+        bytes: 4294967295,
+        input: b"native n0 1\ncopy n1 n0\nnative n2 1\nset n2 0 n1\ncopy n1 n2\nnative n2 1\nset n2 0 n1\ncopy n1 n2\ndrop n2\nset n0 0 n1\ndrop n0\ncollect\ncensus\n",
+        output: b"= #1\n= #1\n= #2\n= ok\n= #2\n= #3\n= ok\n= #3\n= ok\n= ok\n= ok\n= ok\n+ #1\n+ #2\n+ #3\n= census 3\n",
+        status: Status::Done,
+    },
     // White natives are taken by rising number, also where the collection came to the later one first.
     Example {
         name: "whites_are_taken_by_rising_number",
@@ -85,6 +95,46 @@ const EXAMPLES: [Example; 20] = [
         bytes: 4294967295,
         input: b"native n0 1\nnative n1 1\nset n0 0 n1\nset n1 0 n0\ncollect\ndrop n1\ndrop n0\ncollect\n",
         output: b"= #1\n= #2\n= ok\n= ok\n= ok\n= ok\n= ok\n- unlink #1\n- unlink #2\n- free #1\n- free #2\n= ok\n",
+        status: Status::Done,
+    },
+    // A native whose last reference is given up goes to the end of the queue: what the first one held is freed before what the second one held.
+    Example {
+        name: "freed_natives_queue_up",
+        natives: 1000000,
+        scripts: 1000000,
+        bytes: 4294967295,
+        input: b"native n0 2\nnative n1 1\nnative n2 0\nnative n3 0\nset n0 0 n1\nset n0 1 n2\nset n1 0 n3\ndrop n1\ndrop n2\ndrop n3\ndrop n0\n",
+        output: b"= #1\n= #2\n= #3\n= #4\n= ok\n= ok\n= ok\n= ok\n= ok\n= ok\n- free #1\n- free #2\n- free #3\n- free #4\n= ok\n",
+        status: Status::Done,
+    },
+    // A freed native gives up its slots in rising order, so of two chains that it holds the one in its first slot goes first, link by link with the other.
+    Example {
+        name: "slots_are_given_up_in_rising_order",
+        natives: 1000000,
+        scripts: 1000000,
+        bytes: 4294967295,
+        input: b"native n0 2\nnative n1 1\nnative n2 1\nnative n3 0\nnative n4 0\nset n0 0 n4\nset n0 1 n1\nset n1 0 n2\nset n2 0 n3\ndrop n1\ndrop n2\ndrop n3\ndrop n4\ndrop n0\n",
+        output: b"= #1\n= #2\n= #3\n= #4\n= #5\n= ok\n= ok\n= ok\n= ok\n= ok\n= ok\n= ok\n= ok\n- free #1\n- free #5\n- free #2\n- free #3\n- free #4\n= ok\n",
+        status: Status::Done,
+    },
+    // What a register holds is copied, and an object is kept as long as one register holds it; an empty register is copied and emptied too.
+    Example {
+        name: "registers_are_copied_and_emptied",
+        natives: 1000000,
+        scripts: 1000000,
+        bytes: 4294967295,
+        input: b"native n0 0\nscript s0 0\ncopy n1 n0\ncopy s1 s0\ndrop n0\ndrop s1\ngc\ncopy s0 s1\ndrop n1\ndrop n1\ngc\n",
+        output: b"= #1\n= @1\n= #1\n= @1\n= ok\n= ok\n= ok\n= none\n- free #1\n= ok\n= ok\n- free @1\n= ok\n",
+        status: Status::Done,
+    },
+    // A collection after one that ended takes what became garbage since, and one that finds nothing tells nothing.
+    Example {
+        name: "collections_follow_each_other",
+        natives: 1000000,
+        scripts: 1000000,
+        bytes: 4294967295,
+        input: b"native n0 1\nnative n1 1\nset n0 0 n1\nset n1 0 n0\ndrop n0\ndrop n1\ncollect\ncollect\nnative n0 1\nnative n1 1\nset n0 0 n1\nset n1 0 n0\nnative n2 1\nset n2 0 n2\ndrop n0\ndrop n1\ndrop n2\ncollect\ncensus\n",
+        output: b"= #1\n= #2\n= ok\n= ok\n= ok\n= ok\n- unlink #1\n- unlink #2\n- free #1\n- free #2\n= ok\n= ok\n= #3\n= #4\n= ok\n= ok\n= #5\n= ok\n= ok\n= ok\n= ok\n- unlink #3\n- unlink #4\n- unlink #5\n- free #3\n- free #4\n- free #5\n= ok\n= census 0\n",
         status: Status::Done,
     },
     // A slot of a script object is written, emptied and read, and what is refused meanwhile leaves it.
@@ -155,56 +205,6 @@ const EXAMPLES: [Example; 20] = [
         bytes: 4294967295,
         input: b"native n0 2\nscript s0 1\nscript s1 0\nput s0 0 s1\nset n0 0 n0\nset n0 1 s0\ndrop s0\ndrop s1\ngc\ndrop n0\ncollect\ngc\ncensus\n",
         output: b"= #1\n= @1\n= @2\n= ok\n= ok\n= ok\n= ok\n= ok\n= ok\n= ok\n- unlink #1\n- free #1\n= ok\n- free @1\n- free @2\n= ok\n= census 0\n",
-        status: Status::Done,
-    },
-    // A reflector has four slots: the last of them is written and read, and there is none behind it.
-    Example {
-        name: "reflector_has_four_slots",
-        natives: 1000000,
-        scripts: 1000000,
-        bytes: 4294967295,
-        input: b"native n0 0\nwrap s0 n0\nscript s1 0\nput s0 3 s1\nput s0 4 s1\ntake s2 s0 3\ntake s2 s0 4\n",
-        output: b"= #1\n= ~1\n= @1\n= ok\n! slot\n= @1\n! slot\n",
-        status: Status::Done,
-    },
-    // A reflector that was made since the last gc keeps its cycle through a collection.
-    Example {
-        name: "reflector_is_still_black",
-        natives: 1000000,
-        scripts: 1000000,
-        bytes: 4294967295,
-        input: b"native n0 1\nwrap s0 n0\nset n0 0 s0\ndrop s0\ndrop n0\ncollect\ncensus\n",
-        output: b"= #1\n= ~1\n= ok\n= ok\n= ok\n= ok\n+ #1\n+ ~1\n= census 2\n",
-        status: Status::Done,
-    },
-    // Gc, collect and gc take a cycle of a native and its reflector.
-    Example {
-        name: "cycle_through_a_reflector",
-        natives: 1000000,
-        scripts: 1000000,
-        bytes: 4294967295,
-        input: b"native n0 1\nwrap s0 n0\nset n0 0 s0\ndrop s0\ndrop n0\ncollect\ncensus\ngc\ncollect\ngc\ncensus\n",
-        output: b"= #1\n= ~1\n= ok\n= ok\n= ok\n= ok\n+ #1\n+ ~1\n= census 2\n= ok\n- unlink #1\n= ok\n- free ~1\n- free #1\n= ok\n= census 0\n",
-        status: Status::Done,
-    },
-    // A blank reflector is freed though its native lives, and goes last when it is made again.
-    Example {
-        name: "reflector_made_again_is_listed_last",
-        natives: 1000000,
-        scripts: 1000000,
-        bytes: 4294967295,
-        input: b"native n0 0\nwrap s0 n0\nscript s1 0\ndrop s0\ngc\nwrap s0 n0\ncensus\n",
-        output: b"= #1\n= ~1\n= @1\n= ok\n- free ~1\n= ok\n= ~1\n+ #1\n+ @1\n+ ~1\n= census 3\n",
-        status: Status::Done,
-    },
-    // A reflector whose slot was written lives as long as its native, with what it holds.
-    Example {
-        name: "written_reflector_is_preserved",
-        natives: 1000000,
-        scripts: 1000000,
-        bytes: 4294967295,
-        input: b"native n0 0\nwrap s0 n0\nscript s1 0\nput s0 2 s1\ndrop s1\ndrop s0\ngc\nwrap s0 n0\ntake s1 s0 2\n",
-        output: b"= #1\n= ~1\n= @1\n= ok\n= ok\n= ok\n= ok\n= ~1\n= @1\n",
         status: Status::Done,
     },
 ];

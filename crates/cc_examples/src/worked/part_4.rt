@@ -6,156 +6,206 @@ use crate::script::Example;
 use cc_replay::Status;
 use std::test::Fail;
 
-const EXAMPLES: [Example; 15] = [
-    // Tokens are parted by spaces, more than one too and at both ends, and a tab, a sign, a leading zero or a capital letter is not taken.
+const EXAMPLES: [Example; 20] = [
+    // A black script object that a native holds is no node, so a collection with that native alone takes three units.
     Example {
-        name: "spaces_part_tokens",
+        name: "black_objects_are_not_looked_at",
         natives: 1000000,
         scripts: 1000000,
         bytes: 4294967295,
-        input: b"  native   n0  1  \n\n  \n  % note\nnative\tn1 0\ncensus\t\nCensus\ndrop n00\ndrop n-1\nset n0 +0 n0\nset n0 0 nones\ncopy n1 s1\nset  n0 0  none\ncensus\n",
-        output: b"= #1\n! line\n! line\n! line\n! line\n! line\n! line\n! line\n! line\n= ok\n+ #1\n= census 1\n",
+        input: b"native n0 1\nscript s0 0\nset n0 0 s0\ncopy n1 n0\ndrop n1\nslice 3\nnative n2 1\nset n2 0 n2\ndrop n2\nslice 3\n",
+        output: b"= #1\n= @1\n= ok\n= #1\n= ok\n= ok\n= #2\n= ok\n= ok\n- unlink #2\n- free #2\n= ok\n",
         status: Status::Done,
     },
-    // Each register that must hold an object is refused where it is empty, and those that may be empty are not.
+    // A native that becomes purple once more keeps its place in the buffer, so it is looked at before those that became purple in between.
     Example {
-        name: "empty_registers_are_refused",
+        name: "marked_again_keeps_its_place_in_the_buffer",
         natives: 1000000,
         scripts: 1000000,
         bytes: 4294967295,
-        input: b"native n0 1\nweakmap s0\nscript s1 1\nset n9 0 n0\nset n9 0 none\nset n0 0 n9\nset n0 0 s9\nget n1 n9 0\nexpose n9 0\nput s9 0 s1\nput s9 0 none\nput s1 0 s9\ntake s2 s9 0\nwrap s2 n9\nunwrap n1 s9\npreserve s9\nwset s9 s1 s1\nwset s0 s9 s1\nwset s0 s1 s9\nwset s9 s1 none\nwset s0 s9 none\nwget s2 s9 s1\nwget s2 s0 s9\ndrop n9\ncopy n9 n8\ncopy s9 s8\nget n9 n0 0\ntake s9 s1 0\nwget s9 s0 s1\nunwrap n9 s1\nwrap s9 n0\n",
-        output: b"= #1\n= @1\n= @2\n! empty\n! empty\n! empty\n! empty\n! empty\n! empty\n! empty\n! empty\n! empty\n! empty\n! empty\n! empty\n! empty\n! empty\n! empty\n! empty\n! empty\n! empty\n! empty\n! empty\n= ok\n= none\n= none\n= none\n= none\n= none\n! kind\n= ~1\n",
+        input: b"native n0 1\nset n0 0 n0\ncopy n1 n0\ndrop n1\nnative n2 1\nnative n3 0\nset n2 0 n3\ncopy n1 n2\ndrop n1\ndrop n0\nslice 2\nset n2 0 none\nslice 2\n",
+        output: b"= #1\n= ok\n= #1\n= ok\n= #2\n= #3\n= ok\n= #2\n= ok\n= ok\n= ok\n= ok\n- unlink #1\n- free #1\n= ok\n",
         status: Status::Done,
     },
-    // Each object of the wrong kind is refused.
+    // Candidates are looked at before the natives that hold gray objects, of which one is freed meanwhile.
     Example {
-        name: "wrong_kinds_are_refused",
+        name: "candidates_come_before_holders",
         natives: 1000000,
         scripts: 1000000,
         bytes: 4294967295,
-        input: b"native n0 1\nwrap s0 n0\nweakmap s1\nscript s2 1\nput s1 0 s2\ntake s3 s1 0\nunwrap n1 s1\nunwrap n1 s2\npreserve s1\npreserve s2\nwset s0 s2 s2\nwset s2 s2 s2\nwset s2 s2 none\nwget s3 s0 s2\nwget s3 s2 s2\n",
-        output: b"= #1\n= ~1\n= @1\n= @2\n! kind\n! kind\n! kind\n! kind\n! kind\n! kind\n! kind\n! kind\n! kind\n! kind\n! kind\n",
+        input: b"native n0 1\nset n0 0 n0\nnative n1 1\nscript s0 0\nset n1 0 s0\ndrop s0\ndrop n0\ngc\nslice 2\ndrop n1\nslice 2\n",
+        output: b"= #1\n= ok\n= #2\n= @1\n= ok\n= ok\n= ok\n= ok\n= ok\n- free #2\n= ok\n- unlink #1\n- free #1\n= ok\n",
         status: Status::Done,
     },
-    // An empty register is told before a wrong kind and a missing slot, a wrong kind before a missing slot, and this before what a slot holds.
+    // An entry whose value was replaced keeps its place, so its members are looked at before those of an entry that was set in between.
     Example {
-        name: "refusals_in_their_order",
+        name: "replaced_entry_keeps_its_place",
         natives: 1000000,
         scripts: 1000000,
         bytes: 4294967295,
-        input: b"weakmap s0\nscript s1 1\nnative n0 1\nput s0 0 s9\nwset s1 s9 s1\nwget s2 s1 s9\nset n0 9 s9\nput s0 9 s1\nset n0 0 n0\nget s9 n0 1\n",
-        output: b"= @1\n= @2\n= #1\n! empty\n! empty\n! empty\n! empty\n! kind\n= ok\n! slot\n",
+        input: b"native n0 2\nweakmap s0\nscript s1 0\nscript s2 1\nscript s3 0\nput s2 0 s3\nset n0 0 s1\nset n0 1 s2\nwset s0 s1 s2\nwset s0 s2 s2\nwset s0 s1 s1\ndrop s1\ndrop s2\ndrop s3\nnative n1 1\nset n1 0 n1\ndrop n1\ngc\nslice 4\nexpose n0 1\nslice 2\n",
+        output: b"= #1\n= @1\n= @2\n= @3\n= @4\n= ok\n= ok\n= ok\n= ok\n= ok\n= ok\n= ok\n= ok\n= ok\n= #2\n= ok\n= ok\n= ok\n= ok\n= @3\n- unlink #2\n- free #2\n= ok\n",
         status: Status::Done,
     },
-    // What is refused, and what becomes of blank lines, comments, long lines and carriage returns.
+    // An entry that was taken out and set again goes last, so its members are looked at after those of an entry that was set in between.
     Example {
-        name: "refusals_and_odd_lines",
+        name: "entry_set_again_goes_last",
         natives: 1000000,
         scripts: 1000000,
         bytes: 4294967295,
-        input: b"native n0 1\nnative n1 0\nset n0 0 n1\nget s0 n0 0\nget s0 n0 7\nset n0 9 none\nset n0 9 n8\nexpose n0 0\nweakmap s0\nscript s1 0\nput s0 9 s1\nput s1 0 s0\nunwrap n0 s9\nunwrap n0 s1\nslice 0\ncollect now\n\n% note\naaaaaaaaaaaaaaaaaaaaaaaaaaaaaaaaaaaaaaaaaaaaaaaaaaaaaaaaaaaaaaaaaaaaaaaaaaaaaaaaaaaaaaaaaaaaaaaaaaaaaaaaaaaaaaaaaaaaaaaaa\ncensus\r\n",
-        output: b"= #1\n= #2\n= ok\n! kind\n! slot\n! slot\n! empty\n! kind\n= @1\n= @2\n! kind\n! slot\n! empty\n! kind\n! line\n! line\n! long\n+ #1\n+ #2\n+ @1\n+ @2\n= census 4\n",
+        input: b"native n0 2\nweakmap s0\nscript s1 0\nscript s2 1\nscript s3 0\nput s2 0 s3\nset n0 0 s1\nset n0 1 s2\nwset s0 s1 s1\nwset s0 s2 s2\nwset s0 s1 none\nwset s0 s1 s1\ndrop s1\ndrop s2\ndrop s3\nnative n1 1\nset n1 0 n1\ndrop n1\ngc\nslice 4\nexpose n0 1\nslice 2\nslice 1\n",
+        output: b"= #1\n= @1\n= @2\n= @3\n= @4\n= ok\n= ok\n= ok\n= ok\n= ok\n= ok\n= ok\n= ok\n= ok\n= ok\n= #2\n= ok\n= ok\n= ok\n= ok\n= @3\n= ok\n- unlink #2\n- free #2\n= ok\n",
         status: Status::Done,
     },
-    // The greatest numbers of slots, indexes, registers and units are taken, and greater ones are not in the grammar.
+    // Collect ends the collection that runs and begins another, which takes what became garbage in between.
     Example {
-        name: "numbers_at_their_bounds",
+        name: "collect_begins_one_of_its_own",
         natives: 1000000,
         scripts: 1000000,
         bytes: 4294967295,
-        input: b"native n0 64\nset n0 63 n0\nset n0 64 n0\nset n0 4294967295 n0\nset n0 4294967296 n0\nnative n0 65\nnative n0 01\nnative n256 0\nnative n255 0\ncopy n1 s0\ncopy n1 n7\ndrop n7\nslice 1000000\nslice 1000001\n",
-        output: b"= #1\n= ok\n! slot\n! slot\n! line\n! line\n! line\n! line\n= #2\n! line\n= none\n= ok\n= ok\n! line\n",
+        input: b"native n0 1\nset n0 0 n0\nslice 1\ndrop n0\ncollect\n",
+        output: b"= #1\n= ok\n= ok\n= ok\n- unlink #1\n- free #1\n= ok\n",
         status: Status::Done,
     },
-    // One unit and a million are taken, and neither none nor more are in the grammar.
+    // The numbers of what a collect unlinks begin anew where it has ended the collection that ran, and runs one of its own.
     Example {
-        name: "units_at_their_bounds",
+        name: "collect_ends_one_and_takes_more_in_its_own",
         natives: 1000000,
         scripts: 1000000,
         bytes: 4294967295,
-        input: b"slice 1000001\nslice 1000000\nslice 1\nslice 0\n",
-        output: b"! line\n= ok\n= ok\n! line\n",
+        input: b"native n0 1\nset n0 0 n0\nnative n1 1\nset n1 0 n1\ndrop n1\nslice 1\ndrop n0\ncollect\n",
+        output: b"= #1\n= ok\n= #2\n= ok\n= ok\n= ok\n= ok\n- unlink #2\n- free #2\n- unlink #1\n- free #1\n= ok\n",
         status: Status::Done,
     },
-    // A line of 120 bytes is read and one of 121 is not, a comment and a carriage return counted.
+    // A native that was touched while a collection ran waits for the next one.
     Example {
-        name: "line_of_120_bytes_is_taken",
+        name: "touched_between_slices",
         natives: 1000000,
         scripts: 1000000,
         bytes: 4294967295,
-        input: b"native n0 0                                                                                                             \nnative n1 0                                                                                                              \n%aaaaaaaaaaaaaaaaaaaaaaaaaaaaaaaaaaaaaaaaaaaaaaaaaaaaaaaaaaaaaaaaaaaaaaaaaaaaaaaaaaaaaaaaaaaaaaaaaaaaaaaaaaaaaaaaaaaaaaa\n%aaaaaaaaaaaaaaaaaaaaaaaaaaaaaaaaaaaaaaaaaaaaaaaaaaaaaaaaaaaaaaaaaaaaaaaaaaaaaaaaaaaaaaaaaaaaaaaaaaaaaaaaaaaaaaaaaaaaaaaa\naaaaaaaaaaaaaaaaaaaaaaaaaaaaaaaaaaaaaaaaaaaaaaaaaaaaaaaaaaaaaaaaaaaaaaaaaaaaaaaaaaaaaaaaaaaaaaaaaaaaaaaaaaaaaaaaaaaaaaa\r\naaaaaaaaaaaaaaaaaaaaaaaaaaaaaaaaaaaaaaaaaaaaaaaaaaaaaaaaaaaaaaaaaaaaaaaaaaaaaaaaaaaaaaaaaaaaaaaaaaaaaaaaaaaaaaaaaaaaaaaa\r\ncensus\n",
-        output: b"= #1\n! long\n! long\n! line\n! long\n+ #1\n= census 1\n",
+        input: b"native n0 1\nset n0 0 n0\ncopy n1 n0\ndrop n1\nslice 1\ncopy n2 n0\ndrop n0\ndrop n2\nslice 10\ncollect\n",
+        output: b"= #1\n= ok\n= #1\n= ok\n= ok\n= #1\n= ok\n= ok\n= ok\n- unlink #1\n- free #1\n= ok\n",
         status: Status::Done,
     },
-    // A last line that no line feed ends is answered, its carriage return dropped.
+    // What script read from a native while a collection ran keeps what it holds.
     Example {
-        name: "last_line_needs_no_line_feed",
+        name: "read_between_slices",
         natives: 1000000,
         scripts: 1000000,
         bytes: 4294967295,
-        input: b"native n0 0\ncensus\r",
-        output: b"= #1\n+ #1\n= census 1\n",
+        input: b"native n0 1\nscript s0 1\nscript s1 0\nput s0 0 s1\nset n0 0 s0\ndrop s0\ndrop s1\ngc\nslice 1\nget s0 n0 0\nset n0 0 none\nslice 10\ntake s1 s0 0\n",
+        output: b"= #1\n= @1\n= @2\n= ok\n= ok\n= ok\n= ok\n= ok\n= ok\n= @1\n= ok\n= ok\n= @2\n",
         status: Status::Done,
     },
-    // The limit of natives counts those that were freed.
+    // A native lives by its reflector, which script touched while the collection ran.
     Example {
-        name: "limit_counts_freed_natives",
-        natives: 1,
+        name: "native_lives_by_an_exposed_reflector",
+        natives: 1000000,
         scripts: 1000000,
         bytes: 4294967295,
-        input: b"native n0 0\ndrop n0\nnative n0 0\n",
-        output: b"= #1\n- free #1\n= ok\n! full\n",
+        input: b"native n0 1\nnative n1 0\nnative n2 2\nwrap s0 n1\nset n0 0 s0\nset n2 0 s0\nset n2 1 n2\ndrop s0\ndrop n1\ndrop n2\ngc\nslice 3\nget s1 n0 0\nset n0 0 none\nslice 10\nunwrap n1 s1\n",
+        output: b"= #1\n= #2\n= #3\n= ~2\n= ok\n= ok\n= ok\n= ok\n= ok\n= ok\n= ok\n= ok\n= ~2\n= ok\n- unlink #3\n- free #3\n= ok\n= #2\n",
         status: Status::Done,
     },
-    // The limit of script objects counts those that were freed.
+    // A native that gets a reference after it was sampled is touched, so it is not looked at with an old count.
     Example {
-        name: "limit_counts_freed_script_objects",
+        name: "copied_after_its_node_was_traversed",
         natives: 1000000,
-        scripts: 1,
+        scripts: 1000000,
         bytes: 4294967295,
-        input: b"script s0 0\ndrop s0\ngc\nscript s0 0\n",
-        output: b"= @1\n= ok\n- free @1\n= ok\n! full\n",
+        input: b"native n0 1\nset n0 0 n0\ncopy n1 n0\ndrop n1\nslice 2\ncopy n2 n0\nslice 5\ndrop n0\ndrop n2\ncollect\n",
+        output: b"= #1\n= ok\n= #1\n= ok\n= ok\n= #1\n= ok\n= ok\n= ok\n- unlink #1\n- free #1\n= ok\n",
         status: Status::Done,
     },
-    // Plain script objects and weak maps are counted together, up to the limit itself.
+    // A native that was looked at and is freed before the end counts as it was sampled: it was held, so this collection keeps what it led to.
     Example {
-        name: "limit_counts_weak_maps",
+        name: "freed_after_its_node_was_traversed",
         natives: 1000000,
-        scripts: 2,
+        scripts: 1000000,
         bytes: 4294967295,
-        input: b"script s0 0\nweakmap s1\nweakmap s2\nscript s3 0\n",
-        output: b"= @1\n= @2\n! full\n! full\n",
+        input: b"native n0 0\nwrap s0 n0\nnative n1 1\nset n1 0 s0\ndrop s0\ndrop n0\ngc\nslice 3\ndrop n1\nslice 2\ngc\ncensus\n",
+        output: b"= #1\n= ~1\n= #2\n= ok\n= ok\n= ok\n= ok\n= ok\n- free #2\n= ok\n= ok\n- free ~1\n- free #1\n= ok\n= census 0\n",
         status: Status::Done,
     },
-    // An input of as many bytes as may be read is read whole.
+    // Unlinking one white native may free the one that comes next in the walk.
     Example {
-        name: "input_of_exactly_the_bytes_allowed",
+        name: "native_vanishes_inside_an_unlink",
         natives: 1000000,
         scripts: 1000000,
-        bytes: 12,
-        input: b"native n0 0\n",
-        output: b"= #1\n",
+        bytes: 4294967295,
+        input: b"native n0 2\nnative n1 0\nset n0 0 n0\nset n0 1 n1\ndrop n0\nslice 1\ndrop n1\nslice 10\n",
+        output: b"= #1\n= #2\n= ok\n= ok\n= ok\n= ok\n= ok\n- unlink #1\n- free #2\n- free #1\n= ok\n",
         status: Status::Done,
     },
-    // An input of one byte more ends the run after the lines that end within the limit.
+    // A native made while a collection runs is kept, and the cycle that the collection began with is taken.
     Example {
-        name: "input_of_one_byte_more",
+        name: "native_made_between_slices",
         natives: 1000000,
         scripts: 1000000,
-        bytes: 12,
-        input: b"native n0 0\n\n",
-        output: b"= #1\n",
-        status: Status::Limit,
+        bytes: 4294967295,
+        input: b"native n0 1\nwrap s0 n0\nset n0 0 s0\ndrop s0\ndrop n0\ngc\nslice 1\nnative n1 0\nslice 9\ngc\ncensus\n",
+        output: b"= #1\n= ~1\n= ok\n= ok\n= ok\n= ok\n= ok\n= #2\n- unlink #1\n= ok\n- free ~1\n- free #1\n= ok\n+ #2\n= census 1\n",
+        status: Status::Done,
     },
-    // With no byte allowed one byte ends the run with nothing written.
+    // Gc brings a collection that runs to its end before it marks.
     Example {
-        name: "input_where_no_byte_is_allowed",
+        name: "gc_ends_a_running_collection",
         natives: 1000000,
         scripts: 1000000,
-        bytes: 0,
-        input: b"x",
-        output: b"",
-        status: Status::Limit,
+        bytes: 4294967295,
+        input: b"native n0 1\nset n0 0 n0\ndrop n0\nslice 1\ngc\n",
+        output: b"= #1\n= ok\n= ok\n= ok\n- unlink #1\n- free #1\n= ok\n",
+        status: Status::Done,
+    },
+    // A native that holds nothing gray but its reflector is looked at, and so is this, so a collection with one candidate takes five units.
+    Example {
+        name: "native_that_preserves_a_gray_reflector_is_a_holder",
+        natives: 1000000,
+        scripts: 1000000,
+        bytes: 4294967295,
+        input: b"native n0 0\nwrap s0 n0\npreserve s0\ndrop s0\nnative n1 1\nset n1 0 n1\ndrop n1\ngc\nslice 4\nslice 1\n",
+        output: b"= #1\n= ~1\n= ok\n= ok\n= #2\n= ok\n= ok\n= ok\n= ok\n- unlink #2\n- free #2\n= ok\n",
+        status: Status::Done,
+    },
+    // What a native's slots hold is looked at before its reflector, which has become black meanwhile and leads to nothing more.
+    Example {
+        name: "preserved_reflector_is_looked_at_after_the_slots",
+        natives: 1000000,
+        scripts: 1000000,
+        bytes: 4294967295,
+        input: b"native n0 1\nwrap s0 n0\nscript s1 0\nscript s2 0\nput s0 0 s2\nset n0 0 s1\ndrop s0\ndrop s1\ndrop s2\nnative n1 1\nset n1 0 n1\ndrop n1\ngc\nslice 4\nwrap s3 n0\nslice 1\nslice 1\n",
+        output: b"= #1\n= ~1\n= @1\n= @2\n= ok\n= ok\n= ok\n= ok\n= ok\n= #2\n= ok\n= ok\n= ok\n= ok\n= ~1\n= ok\n- unlink #2\n- free #2\n= ok\n",
+        status: Status::Done,
+    },
+    // A map of which an entry tells is looked at before the key, and the key before the value, each of which is exposed in between and leads to nothing more.
+    Example {
+        name: "map_comes_before_its_key",
+        natives: 1000000,
+        scripts: 1000000,
+        bytes: 4294967295,
+        input: b"native n0 3\nweakmap s0\nscript s1 1\nscript s2 1\nscript s3 0\nscript s4 0\nput s1 0 s3\nput s2 0 s4\nset n0 0 s2\nset n0 1 s1\nset n0 2 s0\nwset s0 s1 s2\ndrop s0\ndrop s1\ndrop s2\ndrop s3\ndrop s4\nnative n1 1\nset n1 0 n1\ndrop n1\ngc\nslice 4\nexpose n0 1\nslice 1\nexpose n0 0\nslice 1\nslice 1\n",
+        output: b"= #1\n= @1\n= @2\n= @3\n= @4\n= @5\n= ok\n= ok\n= ok\n= ok\n= ok\n= ok\n= ok\n= ok\n= ok\n= ok\n= ok\n= #2\n= ok\n= ok\n= ok\n= ok\n= @2\n= ok\n= @3\n= ok\n- unlink #2\n- free #2\n= ok\n",
+        status: Status::Done,
+    },
+    // A black key of a gray map is no node, so a collection with one candidate, the holder of the map, the map and the value takes six units.
+    Example {
+        name: "black_key_is_not_looked_at",
+        natives: 1000000,
+        scripts: 1000000,
+        bytes: 4294967295,
+        input: b"native n0 1\nweakmap s0\nscript s1 0\nscript s2 0\nwset s0 s1 s2\nset n0 0 s0\ndrop s0\ndrop s2\nnative n1 1\nset n1 0 n1\ndrop n1\ngc\nslice 5\nslice 1\nget s3 n0 0\nwget s2 s3 s1\n",
+        output: b"= #1\n= @1\n= @2\n= @3\n= ok\n= ok\n= ok\n= ok\n= #2\n= ok\n= ok\n= ok\n= ok\n- unlink #2\n- free #2\n= ok\n= @1\n= @3\n",
+        status: Status::Done,
+    },
+    // An unlinked native gives up its slots in rising order, each with all that goes with it before the next one.
+    Example {
+        name: "unlinking_empties_slots_in_rising_order",
+        natives: 1000000,
+        scripts: 1000000,
+        bytes: 4294967295,
+        input: b"native n0 3\nnative n1 0\nnative n2 1\nnative n3 0\nset n0 0 n0\nset n0 1 n2\nset n0 2 n1\nset n2 0 n3\ndrop n3\ndrop n0\nslice 1\ndrop n1\ndrop n2\nslice 10\n",
+        output: b"= #1\n= #2\n= #3\n= #4\n= ok\n= ok\n= ok\n= ok\n= ok\n= ok\n= ok\n= ok\n= ok\n- unlink #1\n- free #3\n- free #4\n- free #2\n- free #1\n= ok\n",
+        status: Status::Done,
     },
 ];
 

@@ -1,5 +1,5 @@
 use Rattle.std.specs.Prelude.{refl}
-use Rattle.cc_worked.specs.WrongEvents.{freed_by_a_refused_command, freed_without_memory, freed_before_it_was_made, freed_twice, freed_again, freed_while_a_register_holds_it, freed_while_a_slot_holds_it, freed_while_its_reflector_is_held, preserved_reflector_is_freed, value_is_freed_while_map_and_key_are_held, script_object_is_freed_by_a_drop, script_object_is_freed_by_a_slice, script_object_is_freed_by_a_collect, reflector_is_freed_by_a_collect, unlinked_before_it_was_made, unlinked_after_it_was_freed, unlinked_while_held, unlinked_by_a_drop, unlinked_by_the_making_of_another, script_object_is_unlinked, reflector_is_unlinked, unlinked_in_falling_order, unlinked_twice, unlinked_in_falling_order_by_gc, unlinked_in_three_runs}
+use Rattle.cc_worked.specs.WrongEvents.{freed_by_a_refused_command, freed_without_memory, freed_before_it_was_made, freed_twice, freed_again, freed_while_a_register_holds_it, freed_while_a_slot_holds_it, freed_while_its_reflector_is_held, preserved_reflector_is_freed, reflector_with_an_emptied_slot_is_freed, reflector_that_is_a_key_is_freed, value_is_freed_while_map_and_key_are_held, script_object_is_freed_by_a_drop, script_object_is_freed_by_a_slice, script_object_is_freed_by_a_collect, reflector_is_freed_by_a_collect, unlinked_before_it_was_made, unlinked_after_it_was_freed, unlinked_while_held, unlinked_by_a_drop, unlinked_by_the_making_of_another, script_object_is_unlinked, reflector_is_unlinked, unlinked_in_falling_order, unlinked_twice, unlinked_in_falling_order_by_gc, unlinked_in_three_runs}
 use Rattle.cc_worked.proofs.Opened.{all_of_a_run}
 use Rattle.cc_worked.proofs.Judged.{unlawful-at_its_end}
 use Rattle.cc_worked.proofs.wrong.wrong_events_are_refused.Goals as goal
@@ -39,6 +39,14 @@ returns-clause-freed_while_its_reflector_is_held c = unlawful-at_its_end freed_w
 pub returns-clause-preserved_reflector_is_freed : goal.returns-clause-preserved_reflector_is_freed
 unfolding all_of_a_run
 returns-clause-preserved_reflector_is_freed c = unlawful-at_its_end preserved_reflector_is_freed refl refl refl
+
+pub returns-clause-reflector_with_an_emptied_slot_is_freed : goal.returns-clause-reflector_with_an_emptied_slot_is_freed
+unfolding all_of_a_run
+returns-clause-reflector_with_an_emptied_slot_is_freed c = unlawful-at_its_end reflector_with_an_emptied_slot_is_freed refl refl refl
+
+pub returns-clause-reflector_that_is_a_key_is_freed : goal.returns-clause-reflector_that_is_a_key_is_freed
+unfolding all_of_a_run
+returns-clause-reflector_that_is_a_key_is_freed c = unlawful-at_its_end reflector_that_is_a_key_is_freed refl refl refl
 
 pub returns-clause-value_is_freed_while_map_and_key_are_held : goal.returns-clause-value_is_freed_while_map_and_key_are_held
 unfolding all_of_a_run

@@ -1,5 +1,5 @@
 use Rattle.std.specs.Prelude.{refl}
-use Rattle.cc_worked.specs.WrongReplies.{another_reply, number_used_again, number_left_out, number_taken_without_memory, slot_is_read_as_empty, refused_without_cause, done_in_place_of_a_refusal, refused_for_another_cause}
+use Rattle.cc_worked.specs.WrongReplies.{another_reply, number_used_again, number_left_out, number_taken_without_memory, slot_is_read_as_empty, refused_without_cause, done_in_place_of_a_refusal, refused_for_another_cause, taken_out_entry_is_read, entry_of_another_map_is_taken_out, entry_of_another_key_is_taken_out}
 use Rattle.cc_worked.proofs.Opened.{all_of_a_run}
 use Rattle.cc_worked.proofs.Judged.{unlawful-at_its_end}
 use Rattle.cc_worked.proofs.wrong.wrong_replies_are_refused.Goals as goal
@@ -35,3 +35,15 @@ returns-clause-done_in_place_of_a_refusal c = unlawful-at_its_end done_in_place_
 pub returns-clause-refused_for_another_cause : goal.returns-clause-refused_for_another_cause
 unfolding all_of_a_run
 returns-clause-refused_for_another_cause c = unlawful-at_its_end refused_for_another_cause refl refl refl
+
+pub returns-clause-taken_out_entry_is_read : goal.returns-clause-taken_out_entry_is_read
+unfolding all_of_a_run
+returns-clause-taken_out_entry_is_read c = unlawful-at_its_end taken_out_entry_is_read refl refl refl
+
+pub returns-clause-entry_of_another_map_is_taken_out : goal.returns-clause-entry_of_another_map_is_taken_out
+unfolding all_of_a_run
+returns-clause-entry_of_another_map_is_taken_out c = unlawful-at_its_end entry_of_another_map_is_taken_out refl refl refl
+
+pub returns-clause-entry_of_another_key_is_taken_out : goal.returns-clause-entry_of_another_key_is_taken_out
+unfolding all_of_a_run
+returns-clause-entry_of_another_key_is_taken_out c = unlawful-at_its_end entry_of_another_key_is_taken_out refl refl refl
