@@ -13,7 +13,7 @@ use Rattle.cc_script.specs.Walking.{edges}
 use Rattle.cc_script.proofs.Colours.{not_below-trans, raised-enough}
 use Rattle.cc_script.proofs.Keys.{object_at-among, object_at-key, object_at-map}
 use Rattle.cc_script.proofs.Reaching.{edge-slot}
-use Rattle.cc_script.proofs.Tidying.{white-whitened, white-there}
+use Rattle.cc_script.proofs.Whites.{white-whitened, white-there}
 use Rattle.cc_script.proofs.Walks.{risen, risen-key}
 use Rattle.cc_script.proofs.Wholeness.{there-object, whole-raised, whole-whitened}
 use Rattle.cc_marking.specs.Levels.{AreOrdered, has_at_least, is_at_least, keys_at_least}

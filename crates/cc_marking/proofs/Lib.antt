@@ -9,4 +9,3 @@ pub mod Underway
 pub mod Turns
 pub mod Steps
 pub mod LeastColours
-pub mod TestHeaps

@@ -11,7 +11,7 @@ use Rattle.cc_lists.proofs.Numbers.{number-exact}
 use Rattle.cc_names.specs.declared.kind.Colour.{Colour}
 use Rattle.cc_names.specs.declared.kind.Colour.TheVariants.{White, Gray, Black}
 use Rattle.cc_script.specs.Objects.{Object, AreWhole, colour_at, is_below, with_colour, whitened, raised_among, colour_by, coloured_by}
-use Rattle.cc_script.specs.Tidy.{StayThere}
+use Rattle.cc_script.specs.Staying.{StayThere}
 use Rattle.cc_script.specs.Walking.{slot_edges, edges}
 use Rattle.cc_weakmaps.specs.Entries.{KeyedEntry}
 use Rattle.cc_marking.specs.Marking.{AreEntriesThere, IsMarkedFrom, joints, keys_marked, black_keys, marked_keys, marked_from}

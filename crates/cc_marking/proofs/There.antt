@@ -4,7 +4,7 @@ use Rattle.std.proofs.Common.{◌≡◌, ℕ, List, ◌∙◌, ap}
 use Rattle.cc_lists.specs.Members.{Among}
 use Rattle.cc_names.specs.declared.kind.Colour.{Colour}
 use Rattle.cc_script.specs.Objects.{Object, is_there, whitened, raised_among}
-use Rattle.cc_script.specs.Tidy.{StayThere}
+use Rattle.cc_script.specs.Staying.{StayThere}
 use Rattle.cc_script.proofs.Wholeness.{there-raised, there-whitened}
 use Rattle.cc_weakmaps.specs.Entries.{KeyedEntry}
 use Rattle.cc_marking.specs.Marking.{AreEntriesThere}

@@ -8,8 +8,6 @@
 
 mod marking;
 mod roots;
-#[cfg(test)]
-mod tests;
 
 pub use marking::mark;
 pub use roots::Roots;

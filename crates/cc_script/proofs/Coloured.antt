@@ -1,6 +1,6 @@
 -- WHAT STANDS AT A KEY, label, content and colour: what is read there, and what a write of each changes.
 use Rattle.std.proofs.Common.{◌≡◌, ◌≢◌, ℕ, ◌<◌, zero, suc, List, [], ◌∷◌, map, length, drop, get_or, replicate, Option, Some, None, option_map, is_some, ⊎_elim, refl, sym, ◌∙◌, ap, subst}
-use Rattle.std.proofs.Math.ListN.{set, get_or-map}
+use Rattle.std.proofs.Math.ListN.{set, get_or-map, length-set}
 use Rattle.std.proofs.Math.Path.{fun_ext}
 use Rattle.std.proofs.lemmas.Bool.{false≢true}
 use Rattle.std.proofs.lemmas.Bool.Decides.{eqb_tells}
@@ -16,7 +16,7 @@ use Rattle.cc_chain.proofs.Stores.{slot_at-kept, slot_at-live, slot_at-set}
 use Rattle.cc_chain.proofs.Slots.{parts-kept, some-map}
 use Rattle.cc_script.specs.Lists.{Placed, cell_at, painted}
 use Rattle.cc_script.specs.Paired.{Reaches, paired}
-use Rattle.cc_script.specs.Cells.{Bare, Changes, Content, Label, Linked, Whitens, cells_of, coloured_slab, filled, filled_slab, in_colour, nothing}
+use Rattle.cc_script.specs.Cells.{Bare, Changes, Content, HaveAll, Label, Linked, Whitens, cells_of, coloured_slab, filled, filled_slab, in_colour, nothing}
 use Rattle.cc_script.proofs.Linking.{cell-held, cell-read, changes-written}
 use Rattle.cc_script.proofs.Paired.{held-in, paired-at, paired-same, paired-set, paired-written, read-at, updates-made, updates-taken, vacant-at}
 
@@ -178,3 +178,15 @@ module _ (s : Slab Label) (contents : List Content) (key : ℕ) where
 -- each that has its content has its colour too
 pub reaches-filled : (s : Slab Label) (contents : List Content) (colours : List Colour) → Reaches s colours → Reaches (filled_slab s contents) colours
 reaches-filled s contents colours reaches key held = reaches key (held-label s contents key held)
+
+-- a content written where an object stands
+pub HaveAll-written : (s : Slab Label) (contents : List Content) (colours : List Colour) (key : ℕ) (content : Content) → ContainsKey s key →
+    HaveAll s contents colours → HaveAll s (set contents key content) colours
+HaveAll-written s contents colours key content held all = record {
+  filled = λ k there. subst (λ n. k < n) (sym (length-set contents key content)) (all.filled k there);
+  coloured = all.coloured;
+  emptied = λ k none. ⊎_elim
+      (λ t. absurd (false≢true (ap is_some (sym none) ∙ (ap (λ i. is_some (get s i)) t.1 ∙ held))))
+      (λ t. let other : k ≢ key = t.1 in get_or-set_other contents key k content nothing other ∙ all.emptied k none)
+      (eqb_tells k key);
+}

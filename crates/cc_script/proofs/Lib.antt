@@ -22,6 +22,6 @@ pub mod Raising
 pub mod Walks
 pub mod Popping
 pub mod Wholeness
-pub mod Tidying
+pub mod Whites
 pub mod ReachedLeast
 pub mod Underway

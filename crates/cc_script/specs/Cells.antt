@@ -1,7 +1,7 @@
 -- AN OBJECT AT ITS KEY, with its neighbours in two lists: all objects in order of making, and those that a walk has yet to
 -- look into. What a walk looks at, and the colour, stand apart, at the same key.
-use Rattle.std.specs.Prelude.{◌≡◌, ℕ, List, [], map, Option, Some, None, option_map, slice_set}
-use Rattle.slab.specs.Slab.{Slab}
+use Rattle.std.specs.Prelude.{◌≡◌, ℕ, List, [], get_or, map, Option, Some, None, option_map, slice_set}
+use Rattle.slab.specs.Slab.{Slab, get}
 use Rattle.cc_names.specs.declared.name.Name.{Name}
 use Rattle.cc_names.specs.declared.kind.Kind.{Kind}
 use Rattle.cc_names.specs.declared.kind.Colour.{Colour}
@@ -65,9 +65,11 @@ filled_slab s contents = paired_slab filled nothing s contents
 abbrev pub coloured_slab : ℕ → Slab Bare → List Colour → Slab Linked
 coloured_slab room s colours = record (paired_slab in_colour White s colours) { capacity = room }
 
--- each object has both
-abbrev pub HaveAll : Slab Label → List Content → List Colour → Type 0
-HaveAll s contents colours = Reaches s contents × Reaches s colours
+-- each object has both, and where none stands no content is kept
+pub record HaveAll (s : Slab Label) (contents : List Content) (colours : List Colour) : Type 0 where
+  pub filled : Reaches s contents
+  pub coloured : Reaches s colours
+  pub emptied : (key : ℕ) → get s key ≡ None → get_or contents key nothing ≡ nothing
 
 -- the objects by key
 abbrev pub cells_of : List (Option Linked) → List (Option Placed)

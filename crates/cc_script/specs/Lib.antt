@@ -7,5 +7,5 @@ pub mod Neighbours
 pub mod Paired
 pub mod Cells
 pub mod Parts
-pub mod Tidy
+pub mod Staying
 pub mod Underway

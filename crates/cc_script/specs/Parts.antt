@@ -39,7 +39,11 @@ pub record IsUnderWay (to : Colour) (p : ScriptParts) : Type 0 where
   pub chained : IsChained p
   pub raised : AreRaised to (marking_of p)
 
--- the objects, which alone grow, have as much room as they had
+-- no memory is taken for objects
+abbrev pub HasNoMemory : ScriptParts → Type 0
+HasNoMemory p = p.cells.capacity ≡ 0
+
+-- the objects, which alone grow, have as much room as they had; each has room for its own slots alone
 abbrev pub TakesNoMemory : ScriptParts → ScriptParts → Type 0
 TakesNoMemory old new = new.cells.capacity ≡ old.cells.capacity
 

@@ -44,7 +44,8 @@ pub(crate) struct Body {
 }
 
 impl Model for Body {
-    ghost use Rattle.std.specs.Prelude.{map, option_map};
+    ghost use Rattle.std.specs.Prelude.{◌≡◌, length, map, option_map};
+    ghost use Rattle.std.specs.Vec.{vec_capacity};
     ghost use Rattle.cc_script.specs.Cells.{Content};
 
     ghost Value = { Content };
@@ -53,6 +54,9 @@ impl Model for Body {
       slots = map (option_map (λ k. k.0)) b.slots.items;
       waiting = b.waiting;
     } };
+
+    // no room for more
+    ghost invariant = { λ b. vec_capacity b.slots ≡ length b.slots.items };
 }
 
 impl Body {

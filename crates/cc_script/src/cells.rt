@@ -55,6 +55,7 @@ impl Cells {
     /// No objects, and no memory taken.
     pub(crate) fn new(alloc: Global) -> Cells
         ensures empty { result.slots ≡ [] }
+        ensures capacity { result.capacity ≡ 0 }
     {
         Cells {
             slab: Slab::new(alloc),

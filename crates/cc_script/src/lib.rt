@@ -29,6 +29,3 @@ mod scripts;
 pub use laws::raised_is_least;
 pub use marking::Marking;
 pub use scripts::Scripts;
-
-#[cfg(test)]
-mod tests;

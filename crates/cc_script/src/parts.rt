@@ -1,5 +1,5 @@
 //! The parts of the script heap, and the walk that raises colours.
-ghost use Rattle.std.specs.Prelude.{◌≡◌, ◌↔◌, ℕ, ◌<◌, ◌≤◌, false, List, [], ◌∷◌, ◌++◌, length, Some, None, IfOk, IfSome, IsTrue, OnErr, option_map, replicate, slice_index_or};
+ghost use Rattle.std.specs.Prelude.{◌≡◌, ◌↔◌, ℕ, ◌<◌, ◌≤◌, false, List, [], ◌∷◌, ◌++◌, length, Some, None, IfOk, IfSome, IsTrue, OnErr, option_map, replicate, slice_index_or, vec_capacity};
 ghost use Rattle.cc_lists.specs.Members.{Among};
 ghost use Rattle.cc_names.specs.declared.kind.Colour.{Colour};
 ghost use Rattle.cc_names.specs.declared.kind.Colour.TheVariants.{White};
@@ -30,12 +30,13 @@ pub(crate) struct ScriptParts {
 }
 
 impl ScriptParts {
-    ghost use Rattle.cc_script.specs.Parts.{lists_of, shows, marking_of, IsAtRest, IsBegun, IsUnderWay, TakesNoMemory};
+    ghost use Rattle.cc_script.specs.Parts.{lists_of, shows, marking_of, IsAtRest, IsBegun, IsUnderWay, HasNoMemory, TakesNoMemory};
 
-    /// No objects.
+    /// No objects, and no memory taken.
     pub(crate) fn new(alloc: Global) -> ScriptParts
         ensures shows { shows result ≡ [] }
         ensures at_rest { IsAtRest result }
+        ensures memory { HasNoMemory result }
     {
         ScriptParts {
             cells: Cells::new(alloc),
@@ -241,10 +242,14 @@ impl ScriptParts {
     }
 }
 
-/// The slots of a new object: so many, and nothing in them.
+/// The slots of a new object: so many, nothing in them, and no room for more.
 fn empty_slots(alloc: Global, slots: u8) -> Result<Vec<Option<SKey>>, NoMemory>
-    ensures { IfOk result (λ v. v.items ≡ replicate slots None) }
+    ensures items { IfOk result (λ v. v.items ≡ replicate slots None) }
+    ensures room { IfOk result (λ v. vec_capacity v ≡ slots) }
 {
-    let empty = vec![in alloc; None; slots as usize]?;
+    let mut empty = Vec::with_capacity(alloc, slots as usize)?;
+    while empty.len() < slots as usize {
+        empty.push_reserved(None);
+    }
     Ok(empty)
 }

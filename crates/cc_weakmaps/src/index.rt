@@ -3,8 +3,9 @@
 //! Each entry has the last places before it of its map and of its key, and of each object the last place of all is kept:
 //! so from an object a chain goes through its entries, from the last one to the first. Entries come into the index in order
 //! and leave it from its end, each with two last places written.
-ghost use Rattle.std.specs.Prelude.{◌≡◌, ◌+◌, ◌<◌, ◌≤◌, length};
+ghost use Rattle.std.specs.Prelude.{◌≡◌, ◌+◌, ◌<◌, ◌≤◌, length, vec_capacity};
 ghost use Rattle.cc_weakmaps.specs.Index.{AreFew, AreKnown, IsIndexed};
+ghost use Rattle.cc_weakmaps.specs.Lasts.{KeepsRoom};
 
 use crate::entry::Entry;
 use crate::lasts::Lasts;
@@ -15,11 +16,13 @@ pub(crate) fn put_in(lasts: &mut Lasts, links: &mut Vec<Links>, entries: &[Entry
     requires within { place < length entries.now }
     requires room { length entries.now ≤ length links.old.items }
     requires few { AreFew entries.now }
-    requires known { AreKnown entries.now lasts.old }
-    requires indexed { IsIndexed entries.now links.old.items lasts.old place }
-    ensures indexed { IsIndexed entries.now links.new.items lasts.new (place + 1) }
+    requires known { AreKnown entries.now lasts.old.places.items }
+    requires indexed { IsIndexed entries.now links.old.items lasts.old.places.items place }
+    ensures indexed { IsIndexed entries.now links.new.items lasts.new.places.items (place + 1) }
     ensures count { length links.new.items ≡ length links.old.items }
-    ensures known { AreKnown entries.now lasts.new }
+    ensures known { AreKnown entries.now lasts.new.places.items }
+    ensures memory { KeepsRoom lasts.old lasts.new }
+    ensures links_memory { vec_capacity links.new ≡ vec_capacity links.old }
 {
     let entry = entries[place];
     let (the_map, key) = (entry.the_map().0, entry.key().0);
@@ -35,10 +38,11 @@ pub(crate) fn put_in(lasts: &mut Lasts, links: &mut Vec<Links>, entries: &[Entry
 pub(crate) fn take_out(lasts: &mut Lasts, links: &[Links], entries: &[Entry], place: usize)
     requires within { place < length entries.now }
     requires count { length links.now ≡ length entries.now }
-    requires known { AreKnown entries.now lasts.old }
-    requires indexed { IsIndexed entries.now links.now lasts.old (place + 1) }
-    ensures indexed { IsIndexed entries.now links.now lasts.new place }
-    ensures known { AreKnown entries.now lasts.new }
+    requires known { AreKnown entries.now lasts.old.places.items }
+    requires indexed { IsIndexed entries.now links.now lasts.old.places.items (place + 1) }
+    ensures indexed { IsIndexed entries.now links.now lasts.new.places.items place }
+    ensures known { AreKnown entries.now lasts.new.places.items }
+    ensures memory { KeepsRoom lasts.old lasts.new }
 {
     let entry = entries[place];
     let (the_map, key) = (entry.the_map().0, entry.key().0);
@@ -58,10 +62,12 @@ pub(crate) fn put_in_from(
     requires within { start ≤ length entries.now }
     requires room { length entries.now ≤ length links.old.items }
     requires few { AreFew entries.now }
-    requires known { AreKnown entries.now lasts.old }
-    requires indexed { IsIndexed entries.now links.old.items lasts.old start }
-    ensures indexed { IsIndexed entries.now links.new.items lasts.new (length entries.now) }
+    requires known { AreKnown entries.now lasts.old.places.items }
+    requires indexed { IsIndexed entries.now links.old.items lasts.old.places.items start }
+    ensures indexed { IsIndexed entries.now links.new.items lasts.new.places.items (length entries.now) }
     ensures count { length links.new.items ≡ length links.old.items }
+    ensures memory { KeepsRoom lasts.old lasts.new }
+    ensures links_memory { vec_capacity links.new ≡ vec_capacity links.old }
 {
     for place in start..entries.len() {
         put_in(lasts, links, entries, place);
@@ -72,9 +78,10 @@ pub(crate) fn put_in_from(
 pub(crate) fn take_out_from(lasts: &mut Lasts, links: &[Links], entries: &[Entry], start: usize)
     requires within { start ≤ length entries.now }
     requires count { length links.now ≡ length entries.now }
-    requires indexed { IsIndexed entries.now links.now lasts.old (length entries.now) }
-    ensures indexed { IsIndexed entries.now links.now lasts.new start }
-    ensures known { AreKnown entries.now lasts.new }
+    requires indexed { IsIndexed entries.now links.now lasts.old.places.items (length entries.now) }
+    ensures indexed { IsIndexed entries.now links.now lasts.new.places.items start }
+    ensures known { AreKnown entries.now lasts.new.places.items }
+    ensures memory { KeepsRoom lasts.old lasts.new }
 {
     let mut end = entries.len();
     while end > start {

@@ -13,12 +13,10 @@
 #![tactic(auto)]
 
 mod entry;
+mod entry_list;
 mod index;
 mod lasts;
 mod links;
 mod weak_maps;
 
 pub use weak_maps::WeakMaps;
-
-#[cfg(test)]
-mod tests;

@@ -1,40 +1,27 @@
 //! The entries as callers see them.
-ghost use Rattle.std.specs.Prelude.{◌≡◌, ◌↔◌, ◌<◌, ◌≤◌, ◌++◌, ◌∷◌, length, remove, take, false, [], Some, option_map, slice_get, IfNone, IfSome, IsOk, IsTrue, OnErr, OnOk};
+ghost use Rattle.std.specs.Prelude.{◌≡◌, ◌↔◌, ◌<◌, length, [], Some, option_map, slice_get, IfSome, IsOk, IsTrue, OnErr, OnOk};
 ghost use Rattle.cc_weakmaps.specs.Entries.{HasOneEach, entry, has_value_in, value_in, with_entry, without_entry};
-ghost use Rattle.cc_weakmaps.specs.Living.{AreLiving, MayBeAsked, StayBefore};
+ghost use Rattle.cc_weakmaps.specs.Living.{AreLiving, MayBeAsked};
 ghost use Rattle.cc_weakmaps.specs.Index.{IsPlaceOf, place_below};
-ghost use Rattle.cc_weakmaps.specs.Places.{StandsAt};
 
-use crate::entry::Entry;
-use crate::index::{put_in, put_in_from, take_out_from};
-use crate::lasts::Lasts;
-use crate::links::Links;
+use crate::entry_list::EntryList;
 use cc_names::{NoMemory, SKey};
 use std::alloc::Global;
 use std::marker::Model;
 
 /// The entries of all weak maps, in the order in which they were first set; at most one for each map and key.
-// An entry is looked for by its map and its key at once, in as many steps as the one of the two has entries that has fewer.
-// `unset` of an entry moves those behind it one place down, and gives each its place in the index anew: O(k) for k of them.
-// `drop_dead` asks of each entry whether it stays, and does the same for those behind the first that does not.
 #[derive(Drop)]
 pub struct WeakMaps {
-    entries: Vec<Entry>,
-    // of each entry, where those before it stand that have its map or its key
-    links: Vec<Links>,
-    lasts: Lasts,
+    list: EntryList,
 }
 
 impl Model for WeakMaps {
     ghost use Rattle.std.specs.Prelude.{List};
     ghost use Rattle.cc_weakmaps.specs.Entries.{KeyedEntry};
-    ghost use Rattle.cc_weakmaps.specs.Index.{IsKept};
 
     ghost Value = { List KeyedEntry };
 
-    ghost view = { λ w. w.entries.items };
-
-    ghost invariant = { λ w. IsKept w.entries.items w.links.items w.lasts };
+    ghost view = { λ w. w.list.entries };
 }
 
 impl WeakMaps {
@@ -43,9 +30,7 @@ impl WeakMaps {
         ensures { result ≡ [] }
     {
         WeakMaps {
-            entries: Vec::new(alloc),
-            links: Vec::new(alloc),
-            lasts: Lasts::new(alloc),
+            list: EntryList::new(alloc),
         }
     }
 
@@ -55,40 +40,28 @@ impl WeakMaps {
     /// so they lie close together. Map, key and place of an entry are kept in 32 bits each, so `NoMemory` comes too where a
     /// new entry has a map or a key, or would have a place, that needs more. `NoMemory` changes nothing, and comes only
     /// where there was no entry.
-    #[tactic(auto, using(crate::proofs::Stands::stands))]
     pub fn set(&mut self, the_map: SKey, key: SKey, value: SKey) -> Result<(), NoMemory>
         ensures entries { OnOk result (self.new ≡ with_entry self.old the_map.0 key.0 value.0) }
         ensures err { OnErr result (self.new ≡ self.old) }
         ensures in_place { IsTrue (has_value_in self.old the_map.0 key.0) → IsOk result }
         ensures at_most_one { HasOneEach self.new }
     {
-        match self.place_of(the_map, key) {
-            Some(place) => self.entries[place].value = value,
-            None => self.add(Entry::of(the_map, key, value)?)?,
-        }
-        Ok(())
+        self.list.set(the_map, key, value)
     }
 
     /// A key has no value in a map from then on; later entries close up.
-    #[tactic(auto, using(crate::proofs::Stands::stands))]
     pub fn unset(&mut self, the_map: SKey, key: SKey)
         ensures entries { self.new ≡ without_entry self.old the_map.0 key.0 }
         ensures at_most_one { HasOneEach self.new }
     {
-        if let Some(place) = self.place_of(the_map, key) {
-            self.remove(place);
-        }
+        self.list.unset(the_map, key);
     }
 
     /// The value that a key has in a map; none where it has none.
-    #[tactic(auto, using(crate::proofs::Stands::stands))]
     pub fn get(&self, the_map: SKey, key: SKey) -> Option<SKey>
         ensures { option_map (λ k. k.0) result ≡ value_in self.now the_map.0 key.0 }
     {
-        match self.place_of(the_map, key) {
-            Some(place) => Some(self.entries[place].value),
-            None => None,
-        }
+        self.list.get(the_map, key)
     }
 
     /// How many entries there are.
@@ -96,14 +69,14 @@ impl WeakMaps {
         ensures count { result ≡ length self.now }
         ensures at_most_one { HasOneEach self.now }
     {
-        self.entries.len()
+        self.list.len()
     }
 
     /// Whether there is no entry.
     pub fn is_empty(&self) -> bool
         ensures { IsTrue result ↔ (self.now ≡ []) }
     {
-        self.entries.is_empty()
+        self.list.is_empty()
     }
 
     /// Map, key and value of the entry at a place, counted from 0.
@@ -111,8 +84,7 @@ impl WeakMaps {
         requires within { i < length self.now }
         ensures { slice_get self.now i ≡ Some (entry result.0.0 result.1.0 result.2.0) }
     {
-        let entry = &self.entries[i];
-        (entry.the_map(), entry.key(), entry.value)
+        self.list.entry(i)
     }
 
     /// The place of an entry that has an object for its map or its key: of the last one; none where there is none. From it
@@ -122,7 +94,7 @@ impl WeakMaps {
         ensures there { IfSome result (IsPlaceOf self.now object.0) }
         ensures within { IfSome result (λ i. i < length self.now) }
     {
-        widen(self.lasts.last(object.0))
+        self.list.first_with(object)
     }
 
     /// The last place before this one of an entry that has the object; none where this is the first of them.
@@ -135,12 +107,7 @@ impl WeakMaps {
         ensures within { IfSome result (λ i. i < length self.now) }
         ensures before { IfSome result (λ i. i < place) }
     {
-        let links = self.links[place];
-        if self.entries[place].the_map() == object {
-            widen(links.by_map)
-        } else {
-            widen(links.by_key)
-        }
+        self.list.next_with(object, place)
     }
 
     /// Drops each entry of which the map or the key does not live, and keeps the others in order.
@@ -151,134 +118,6 @@ impl WeakMaps {
         ensures entries { AreLiving (F.post alive) self.old self.new }
         ensures at_most_one { HasOneEach self.new }
     {
-        let start = first_dead(self.entries.as_slice(), &alive);
-        take_out_from(
-            &mut self.lasts,
-            self.links.as_slice(),
-            self.entries.as_slice(),
-            start,
-        );
-        keep_living(&mut self.entries, start, &alive);
-        put_in_from(
-            &mut self.lasts,
-            &mut self.links,
-            self.entries.as_slice(),
-            start,
-        );
-        self.links.truncate(self.entries.len());
+        self.list.drop_dead(alive);
     }
-
-    /// Where the entry of a map and a key stands, counted from 0.
-    #[tactic(auto, using(crate::proofs::Stands::stands))]
-    fn place_of(&self, the_map: SKey, key: SKey) -> Option<usize>
-        ensures found { IfSome result (λ place. StandsAt self.now the_map.0 key.0 place) }
-        ensures none { IfNone result (has_value_in self.now the_map.0 key.0 ≡ false) }
-        ensures at_most_one { HasOneEach self.now }
-    {
-        let mut of_map = self.first_with(the_map);
-        let mut of_key = self.first_with(key);
-        while let Some(place) = of_map {
-            let other = of_key?;
-            if self.entries[place].is_of(the_map, key) {
-                return Some(place);
-            }
-            if self.entries[other].is_of(the_map, key) {
-                return Some(other);
-            }
-            of_map = self.next_with(the_map, place);
-            of_key = self.next_with(key, other);
-        }
-        None
-    }
-
-    /// A new entry goes last. `NoMemory` comes also where its place needs more than 32 bits, and changes nothing.
-    fn add(&mut self, entry: Entry) -> Result<(), NoMemory>
-        requires { has_value_in self.old entry.the_map entry.key ≡ false }
-        ensures entries { OnOk result (self.new ≡ self.old ++ entry ∷ []) }
-        ensures err { OnErr result (self.new ≡ self.old) }
-        ensures at_most_one { HasOneEach self.new }
-    {
-        let place = self.entries.len();
-        u32::try_from(place).map_err(|_| NoMemory)?;
-        self.entries.reserve(1)?;
-        self.links.reserve(1)?;
-        self.lasts.know_both(entry.the_map().0, entry.key().0)?;
-        self.entries.push_reserved(entry);
-        self.links.push_reserved(Links {
-            by_map: None,
-            by_key: None,
-        });
-        put_in(
-            &mut self.lasts,
-            &mut self.links,
-            self.entries.as_slice(),
-            place,
-        );
-        Ok(())
-    }
-
-    /// Takes out the entry at a place; later ones close up.
-    fn remove(&mut self, place: usize)
-        requires { place < length self.old }
-        ensures entries { self.new ≡ remove self.old place }
-        ensures at_most_one { HasOneEach self.new }
-    {
-        take_out_from(
-            &mut self.lasts,
-            self.links.as_slice(),
-            self.entries.as_slice(),
-            place,
-        );
-        self.entries.remove(place);
-        put_in_from(
-            &mut self.lasts,
-            &mut self.links,
-            self.entries.as_slice(),
-            place,
-        );
-        self.links.truncate(self.entries.len());
-    }
-}
-
-/// A place that is kept in 32 bits, as places are told; none where there is none.
-fn widen(place: Option<u32>) -> Option<usize>
-    ensures { result ≡ place }
-{
-    match place {
-        Some(place) => Some(place as usize),
-        None => None,
-    }
-}
-
-/// The place of the first entry of which the map or the key does not live, counted from 0; past the last where all live.
-fn first_dead<F: Fn(SKey) -> bool>(entries: &[Entry], alive: &F) -> usize
-    requires { MayBeAsked (F.pre alive.now) entries.now }
-    ensures within { result ≤ length entries.now }
-    ensures stay { StayBefore (F.post alive.now) entries.now result }
-{
-    for place in 0..entries.len() {
-        if !entries[place].stays(alive) {
-            return place;
-        }
-    }
-    entries.len()
-}
-
-/// Keeps the entries of which map and key live, in order. Those before a place all do, and stay where they are.
-fn keep_living<F: Fn(SKey) -> bool>(entries: &mut Vec<Entry>, start: usize, alive: &F)
-    requires asked { MayBeAsked (F.pre alive.now) entries.old.items }
-    requires within { start ≤ length entries.old.items }
-    requires stay { StayBefore (F.post alive.now) entries.old.items start }
-    ensures living { AreLiving (F.post alive.now) entries.old.items entries.new.items }
-    ensures front { take start entries.new.items ≡ take start entries.old.items }
-{
-    let mut kept = start;
-    for place in start..entries.len() {
-        let entry = entries[place];
-        if entry.stays(alive) {
-            entries[kept] = entry;
-            kept += 1;
-        }
-    }
-    entries.truncate(kept);
 }

@@ -12,7 +12,7 @@ index-requires c =
     let s = c.self.inside.slab in
     let contents = c.self.inside.bodies.items in
     let held = held-label s contents c.args.key (held-bare (filled_slab s contents) c.self.inside.colours.items c.args.self.now c.self.view_is c.args.key c.requires) in
-    omega (arith, c.self.invariant.0 c.args.key held, c.self.inside.bodies.ok.0)
+    omega (arith, c.self.invariant.filled c.args.key held, c.self.inside.bodies.ok.0)
 
 pub returns : goal.returns
 returns c =
@@ -26,6 +26,6 @@ returns c =
       (
         there.0,
         read-coloured (filled_slab s contents) c.self.inside.colours.items c.args.self.now c.self.view_is c.args.key (filled content there.0) (read-filled s contents c.args.key there.0 there.1)
-            ∙ ap (λ (w : Content). Some (in_colour colour (filled w there.0))) (sym (c.index.ensures ∙ get_or_default contents c.args.key c.index.result.now nothing (c.self.invariant.0 c.args.key held))),
+            ∙ ap (λ (w : Content). Some (in_colour colour (filled w there.0))) (sym (c.index.ensures ∙ get_or_default contents c.args.key c.index.result.now nothing (c.self.invariant.filled c.args.key held))),
       ),
     )

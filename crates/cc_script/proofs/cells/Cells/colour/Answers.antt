@@ -10,7 +10,7 @@ use Rattle.cc_script.proofs.cells.Cells.colour.Goals as goal
 pub index-requires : goal.index-requires
 index-requires c =
     let held = held-bare (filled_slab c.self.inside.slab c.self.inside.bodies.items) c.self.inside.colours.items c.args.self.now c.self.view_is c.args.key c.requires in
-    omega (arith, reaches-filled c.self.inside.slab c.self.inside.bodies.items c.self.inside.colours.items c.self.invariant.1 c.args.key held, c.self.inside.colours.ok.0)
+    omega (arith, reaches-filled c.self.inside.slab c.self.inside.bodies.items c.self.inside.colours.items c.self.invariant.coloured c.args.key held, c.self.inside.colours.ok.0)
 
 pub returns : goal.returns
 returns c =
@@ -18,4 +18,4 @@ returns c =
     let there = some-of (get (filled_slab c.self.inside.slab c.self.inside.bodies.items) c.args.key) held in
     ap (option_map (λ (z : Linked). z.placed.colour))
     (read-coloured (filled_slab c.self.inside.slab c.self.inside.bodies.items) c.self.inside.colours.items c.args.self.now c.self.view_is c.args.key there.0 there.1)
-    ∙ ap Some (sym (c.index.ensures ∙ get_or_default c.self.inside.colours.items c.args.key c.index.result.now White (reaches-filled c.self.inside.slab c.self.inside.bodies.items c.self.inside.colours.items c.self.invariant.1 c.args.key held)))
+    ∙ ap Some (sym (c.index.ensures ∙ get_or_default c.self.inside.colours.items c.args.key c.index.result.now White (reaches-filled c.self.inside.slab c.self.inside.bodies.items c.self.inside.colours.items c.self.invariant.coloured c.args.key held)))

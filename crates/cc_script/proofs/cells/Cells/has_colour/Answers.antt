@@ -19,4 +19,4 @@ loop-key-preserved c = record {
 pub returns-clause-none : goal.returns-clause-none
 returns-clause-none c key is =
     let held = held-coloured (filled_slab c.self.inside.slab c.self.inside.bodies.items) c.self.inside.colours.items c.args.self.now c.self.view_is key is in
-    absurd (c.loop-key.invariant.passed key (omega (arith, reaches-filled c.self.inside.slab c.self.inside.bodies.items c.self.inside.colours.items c.self.invariant.1 key held, c.loop-key-test.false, c.len-key-end.ensures, c.self.inside.colours.ok.0)) is)
+    absurd (c.loop-key.invariant.passed key (omega (arith, reaches-filled c.self.inside.slab c.self.inside.bodies.items c.self.inside.colours.items c.self.invariant.coloured key held, c.loop-key-test.false, c.len-key-end.ensures, c.self.inside.colours.ok.0)) is)

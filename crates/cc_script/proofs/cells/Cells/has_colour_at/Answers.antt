@@ -15,7 +15,7 @@ returns-then-key-len c = (
   λ is. absurd (false≢true is),
   λ is.
       let held = held-coloured (filled_slab c.self.inside.slab c.self.inside.bodies.items) c.self.inside.colours.items c.args.self.now c.self.view_is c.args.key is in
-      absurd (omega (arith, reaches-filled c.self.inside.slab c.self.inside.bodies.items c.self.inside.colours.items c.self.invariant.1 c.args.key held, c.if-key-len.true, c.len.ensures, c.self.inside.colours.ok.0)),
+      absurd (omega (arith, reaches-filled c.self.inside.slab c.self.inside.bodies.items c.self.inside.colours.items c.self.invariant.coloured c.args.key held, c.if-key-len.true, c.len.ensures, c.self.inside.colours.ok.0)),
 )
 
 pub returns-then-ne : goal.returns-then-ne
@@ -26,7 +26,7 @@ returns-then-ne c =
       λ is.
           let held = held-coloured s colours c.args.self.now c.self.view_is c.args.key is in
           let there = some-of (get s c.args.key) held in
-          let read = get_or_default colours c.args.key c.index.result.now White (reaches-filled c.self.inside.slab c.self.inside.bodies.items colours c.self.invariant.1 c.args.key held) in
+          let read = get_or_default colours c.args.key c.index.result.now White (reaches-filled c.self.inside.slab c.self.inside.bodies.items colours c.self.invariant.coloured c.args.key held) in
           let seen : Some c.args.colour ≡ Some c.index.result.now = sym is ∙ (colour-coloured s colours c.args.self.now c.self.view_is c.args.key there.0 there.1 ∙ ap Some (sym read ∙ sym c.index.ensures)) in
           let same : c.args.colour ≡ c.index.result.now = cc in
           absurd (differs_true the_type c.index.result.now c.args.colour (sym c.if-ne.ensures) (sym same)),
@@ -39,7 +39,7 @@ returns c =
       λ is.
           let held = held-out filled nothing c.self.inside.slab c.self.inside.bodies.items c.args.key (c.contains.ensures.0 is) in
           let there = some-of (get s c.args.key) held in
-          let read = get_or_default colours c.args.key c.index.result.now White (reaches-filled c.self.inside.slab c.self.inside.bodies.items colours c.self.invariant.1 c.args.key held) in
+          let read = get_or_default colours c.args.key c.index.result.now White (reaches-filled c.self.inside.slab c.self.inside.bodies.items colours c.self.invariant.coloured c.args.key held) in
           let same = differs_false the_type (search rules) c.index.result.now c.args.colour (sym c.if-ne.ensures) in
           colour-coloured s colours c.args.self.now c.self.view_is c.args.key there.0 there.1 ∙ ap Some (sym read ∙ (sym c.index.ensures ∙ same)),
       λ is. c.contains.ensures.1 (held-label c.self.inside.slab c.self.inside.bodies.items c.args.key (held-coloured s colours c.args.self.now c.self.view_is c.args.key is)),

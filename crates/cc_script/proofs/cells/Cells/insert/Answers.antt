@@ -89,7 +89,7 @@ returns-clause-updates c =
       | else-key-len w ↦ ap (λ (q : Inside). get_or q.colours.items k White) w.self-inside-is
     ] in
     inserted (filled_slab s contents) colours c.args.self.now c.self.view_is key (filled_slab c.insert_reserved.new.self list) (set painted free c.args.colour) (filled c.args.body c.args.cell) c.args.colour
-    (reaches-filled s contents colours c.self.invariant.1)
-    (updates-made filled nothing s contents key c.insert_reserved.new.self list c.args.cell c.args.body c.self.invariant.0 updates here others)
+    (reaches-filled s contents colours c.self.invariant.coloured)
+    (updates-made filled nothing s contents key c.insert_reserved.new.self list c.args.cell c.args.body c.self.invariant.filled updates here others)
     (ap (λ k. get_or (set painted k c.args.colour) key White) is_key ∙ get_or-set_same painted key c.args.colour White (omega (arith, is_key, long)))
     (λ k other within. get_or-set_other painted free k c.args.colour White (λ e. other (e ∙ is_key)) ∙ kept k within)

@@ -12,7 +12,7 @@ use Rattle.cc_script.proofs.cells.Cells.paint.Goals as goal
 pub index_mut-requires : goal.index_mut-requires
 index_mut-requires c =
     let held = held-bare (filled_slab c.self.inside.slab c.self.inside.bodies.items) c.self.inside.colours.items c.args.self.now c.self.view_is c.args.key.0 (cell-held c.args.self.now.slots c.args.key.0 c.requires.live) in
-    omega (arith, reaches-filled c.self.inside.slab c.self.inside.bodies.items c.self.inside.colours.items c.self.invariant.1 c.args.key.0 held, c.self.inside.colours.ok.0)
+    omega (arith, reaches-filled c.self.inside.slab c.self.inside.bodies.items c.self.inside.colours.items c.self.invariant.coloured c.args.key.0 held, c.self.inside.colours.ok.0)
 
 pub returns : goal.returns
 returns c =
@@ -23,5 +23,5 @@ returns c =
     let there = some-of (get s c.args.key.0) held in
     record {
       changes = subst (λ (z : Slab Linked). Changes z (coloured_slab room s (set colours c.args.key.0 c.args.colour)) c.args.key.0 (painted c.args.colour)) c.self.view_is
-          (changes-painted s colours c.args.key.0 c.args.colour there.0 (reaches-filled c.self.inside.slab c.self.inside.bodies.items c.self.inside.colours.items c.self.invariant.1 c.args.key.0 held) there.1);
+          (changes-painted s colours c.args.key.0 c.args.colour there.0 (reaches-filled c.self.inside.slab c.self.inside.bodies.items c.self.inside.colours.items c.self.invariant.coloured c.args.key.0 held) there.1);
     }

@@ -19,7 +19,7 @@ index_mut-requires c =
     let s = c.self.inside.slab in
     let contents = c.self.inside.bodies.items in
     let held = held-label s contents c.args.key (held-bare (filled_slab s contents) c.self.inside.colours.items c.args.self.now c.self.view_is c.args.key c.requires) in
-    omega (arith, c.self.invariant.0 c.args.key held, c.self.inside.bodies.ok.0)
+    omega (arith, c.self.invariant.filled c.args.key held, c.self.inside.bodies.ok.0)
 
 pub returns-clause-slots : goal.returns-clause-slots
 returns-clause-slots c =

@@ -18,7 +18,7 @@ index_mut-body-requires c =
     let contents = c.self.inside.bodies.items in
     let held = held-label s contents c.args.key.0
     (held-bare (filled_slab s contents) c.self.inside.colours.items c.args.self.now c.self.view_is c.args.key.0 (cell-held c.args.self.now.slots c.args.key.0 c.requires.live)) in
-    omega (arith, c.self.invariant.0 c.args.key.0 held, c.self.inside.bodies.ok.0)
+    omega (arith, c.self.invariant.filled c.args.key.0 held, c.self.inside.bodies.ok.0)
 
 pub index_mut-requires : goal.index_mut-requires
 index_mut-requires c =
@@ -31,7 +31,7 @@ index_mut-requires c =
     let b = filled (get_or contents c.args.key.0 nothing) there.0 in
     let read = cell-read c.args.self.now.slots c.args.key.0 (in_colour colour b)
     (read-coloured (filled_slab s contents) c.self.inside.colours.items c.args.self.now c.self.view_is c.args.key.0 b (read-filled s contents c.args.key.0 there.0 there.1)) in
-    let seen = c.body.view_is ∙ (c.index_mut-body.ensures.value ∙ get_or_default contents c.args.key.0 c.index_mut-body.result.now nothing (c.self.invariant.0 c.args.key.0 held)) in
+    let seen = c.body.view_is ∙ (c.index_mut-body.ensures.value ∙ get_or_default contents c.args.key.0 c.index_mut-body.result.now nothing (c.self.invariant.filled c.args.key.0 held)) in
     omega (
       arith,
       c.requires.within,
@@ -50,7 +50,7 @@ returns c =
     (held-bare (filled_slab s contents) c.self.inside.colours.items c.args.self.now c.self.view_is c.args.key.0 (cell-held c.args.self.now.slots c.args.key.0 c.requires.live)) in
     let f = filled_slab s contents in
     let there = some-of (get s c.args.key.0) held in
-    let within = c.self.invariant.0 c.args.key.0 held in
+    let within = c.self.invariant.filled c.args.key.0 held in
     let colours = c.self.inside.colours.items in
     let colour = get_or colours c.args.key.0 White in
     let x = held_key c.args.item in

@@ -14,7 +14,7 @@ index-requires c =
     let held = held-label s contents c.args.key
     (held-bare (filled_slab s contents) c.self.inside.colours.items c.args.self.now c.self.view_is c.args.key
     (sym (some-map (λ (z : Linked). z.waiting) (get c.args.self.now c.args.key)) ∙ c.requires)) in
-    omega (arith, c.self.invariant.0 c.args.key held, c.self.inside.bodies.ok.0)
+    omega (arith, c.self.invariant.filled c.args.key held, c.self.inside.bodies.ok.0)
 
 pub returns : goal.returns
 returns c =
@@ -27,5 +27,5 @@ returns c =
     ap (option_map (λ (z : Linked). z.waiting))
     (read-coloured (filled_slab s contents) c.self.inside.colours.items c.args.self.now c.self.view_is c.args.key (filled (get_or contents c.args.key nothing) there.0)
     (read-filled s contents c.args.key there.0 there.1))
-    ∙ (ap (λ (w : Content). Some w.waiting) (sym (c.index.ensures ∙ get_or_default contents c.args.key c.index.result.now nothing (c.self.invariant.0 c.args.key held)))
+    ∙ (ap (λ (w : Content). Some w.waiting) (sym (c.index.ensures ∙ get_or_default contents c.args.key c.index.result.now nothing (c.self.invariant.filled c.args.key held)))
     ∙ (ap (λ (w : Content). Some w.waiting) (sym c.behind-self.view_is) ∙ ap Some (sym c.link.ensures)))

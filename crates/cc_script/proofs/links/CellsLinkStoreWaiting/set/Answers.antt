@@ -11,7 +11,7 @@ use Rattle.cc_script.specs.Cells.{Bare, Content, Linked, beside_waiting, coloure
 use Rattle.cc_script.proofs.Reading.{held_key}
 use Rattle.cc_script.proofs.Linking.{beside-same}
 use Rattle.cc_script.proofs.Paired.{some-of}
-use Rattle.cc_script.proofs.Coloured.{content-set, held-bare, held-label, link-kept, link-set, object-kept, read-filled}
+use Rattle.cc_script.proofs.Coloured.{HaveAll-written, content-set, held-bare, held-label, link-kept, link-set, object-kept, read-filled}
 use Rattle.cc_script.proofs.links.CellsLinkStoreWaiting.set.Goals as goal
 
 pub index_mut-requires : goal.index_mut-requires
@@ -21,7 +21,7 @@ index_mut-requires c =
     let held = held-label s contents c.args.key
     (held-bare (filled_slab s contents) c.self.inside.colours.items c.args.self.now c.self.view_is c.args.key
     (sym (some-map (λ (z : Linked). z.waiting) (get c.args.self.now c.args.key)) ∙ c.requires)) in
-    omega (arith, c.self.invariant.0 c.args.key held, c.self.inside.bodies.ok.0)
+    omega (arith, c.self.invariant.filled c.args.key held, c.self.inside.bodies.ok.0)
 
 pub returns-clause-links : goal.returns-clause-links
 returns-clause-links c =
@@ -34,7 +34,7 @@ returns-clause-links c =
     (sym (some-map (λ (z : Linked). z.waiting) (get c.args.self.now c.args.key)) ∙ c.requires)) in
     let there = some-of (get s c.args.key) held in
     let content : Content = record { slots = map held_key c.behind-self.inside.slots.items; waiting = c.of.result } in
-    ap (λ (z : Slab Bare). waiting_links (coloured_slab room z colours).slots) (content-set s contents c.args.key there.0 content (c.self.invariant.0 c.args.key held) there.1)
+    ap (λ (z : Slab Bare). waiting_links (coloured_slab room z colours).slots) (content-set s contents c.args.key there.0 content (c.self.invariant.filled c.args.key held) there.1)
     ∙ (link-set (filled_slab s contents) colours c.args.self.now c.self.view_is c.args.key (λ (z : Linked). z.waiting) (filled (get_or contents c.args.key nothing) there.0) (filled content there.0)
     (read-filled s contents c.args.key there.0 there.1)
     ∙ ap (λ (link : Option Link). with_link (waiting_links c.args.self.now.slots) c.args.key link) c.of.ensures)
@@ -55,9 +55,18 @@ returns-clause-rest c =
     let b = filled (get_or contents c.args.key nothing) there.0 in
     let d = filled content there.0 in
     let at = read-filled s contents c.args.key there.0 there.1 in
-    let seen = c.behind-self.view_is ∙ (c.index_mut.ensures.value ∙ get_or_default contents c.args.key c.index_mut.result.now nothing (c.self.invariant.0 c.args.key held)) in
-    ap (λ (z : Slab Bare). beside_waiting (coloured_slab room z colours)) (content-set s contents c.args.key there.0 content (c.self.invariant.0 c.args.key held) there.1)
+    let seen = c.behind-self.view_is ∙ (c.index_mut.ensures.value ∙ get_or_default contents c.args.key c.index_mut.result.now nothing (c.self.invariant.filled c.args.key held)) in
+    ap (λ (z : Slab Bare). beside_waiting (coloured_slab room z colours)) (content-set s contents c.args.key there.0 content (c.self.invariant.filled c.args.key held) there.1)
     ∙ subst (λ (z : Slab Linked). beside_waiting (coloured_slab room (record f { slots = set f.slots c.args.key (Some d) }) colours) ≡ beside_waiting z) c.self.view_is
     (beside-same _ _ _ _ _
     (object-kept f colours (coloured_slab 0 f colours) refl c.args.key b d at (ap (λ (w : Content). (in_colour colour (filled w there.0)).placed) seen))
     (link-kept f colours (coloured_slab 0 f colours) refl c.args.key (λ (z : Linked). z.order) b d at refl))
+
+pub invariant_of-self : goal.invariant_of-self
+invariant_of-self c =
+    let s = c.self.inside.slab in
+    let contents = c.self.inside.bodies.items in
+    let held = held-label s contents c.args.key
+    (held-bare (filled_slab s contents) c.self.inside.colours.items c.args.self.now c.self.view_is c.args.key
+    (sym (some-map (λ (z : Linked). z.waiting) (get c.args.self.now c.args.key)) ∙ c.requires)) in
+    HaveAll-written s contents c.self.inside.colours.items c.args.key _ held c.self.invariant

@@ -41,7 +41,7 @@ returns-clause-made c =
     let j = joined p _ _ _ _ refl c.in_ok-key.ensures.was_vacant c.in_ok-key.ensures.updates c.of.ensures c.of-2.ensures in
     let pushed = c.push_back.ensures.keys l.order (order-joined p h _ _ _ j) in
     let native = option_map (λ (k : NKey). k.0) c.args.native in
-    let empty = ap (map held_key) c.in_ok-empty.ensures ∙ empty-slots c.args.slots in
+    let empty = ap (map held_key) c.in_ok-empty.ensures.items ∙ empty-slots c.args.slots in
     ap objects_of (lists-joined p h _ _ _ j c.push_back.new.store c.push_back.new.self _ pushed c.push_back.ensures.rest).lists
     ∙ (objects-made l c.requires.at_rest.placed _ _ _ (vacant-joined p h _ _ _ j) (at-joined p h _ _ _ j) (others-joined p h _ _ _ j)
     ∙ ap (λ ys. shows p ++ with_key c.in_ok-key.key (new_placed c.args.name c.args.kind native ys) ∷ []) empty)
@@ -60,7 +60,7 @@ returns-clause-at_rest c =
     let j = joined p _ _ _ _ refl c.in_ok-key.ensures.was_vacant c.in_ok-key.ensures.updates c.of.ensures c.of-2.ensures in
     let pushed = c.push_back.ensures.keys l.order (order-joined p h _ _ _ j) in
     let native = option_map (λ (k : NKey). k.0) c.args.native in
-    let empty : map held_key c.in_ok-empty.empty.items ≡ replicate c.args.slots None = ap (map held_key) c.in_ok-empty.ensures ∙ empty-slots c.args.slots in
+    let empty : map held_key c.in_ok-empty.empty.items ≡ replicate c.args.slots None = ap (map held_key) c.in_ok-empty.ensures.items ∙ empty-slots c.args.slots in
     let few : length (map held_key c.in_ok-empty.empty.items) ≤ 64 = omega (arith, ap length empty, length-replicate c.args.slots nothing, c.requires.slots) in
     let a = lists-joined p h _ _ _ j c.push_back.new.store c.push_back.new.self _ pushed c.push_back.ensures.rest in
     record {

@@ -1,5 +1,0 @@
-use Rattle.cc_weakmaps.specs.Living.{StayBefore}
-use Rattle.cc_weakmaps.proofs.weak_maps.first_dead.Given as goal
-
-abbrev pub invariant-loop-place : goal.invariant-loop-place
-invariant-loop-place g l = record { stay : StayBefore (goal.F-post g l.alive) l.entries l.place }
