@@ -80,6 +80,7 @@ impl Build {
         requires empty { IsEmpty graph }
         requires order { IsInOrder [] heaps.old }
         ensures begun { IfOk result (λ b. HasBegun heaps.old heaps.new b) }
+        ensures room { IfOk result (λ b. b.graph.spare ≡ graph.spare) }
         ensures unseen { IsUnseen heaps.old heaps.new }
         ensures unchanged { OnErr result (heaps.new ≡ heaps.old) }
         ensures refused { OnErr result (may_be_refused heaps.old.heap None ≡ true) }
@@ -104,6 +105,7 @@ impl Build {
         ensures hyperedges { self.new.graph.hyperedges ≡ self.old.graph.hyperedges }
         ensures next { self.new.next ≡ self.old.next }
         ensures candidates { self.new.candidates ≡ self.old.candidates }
+        ensures spare { self.new.graph.spare ≡ self.old.graph.spare }
         ensures refused { OnErr result (holders_of heaps.now.heap ≢ []) }
         ensures built { IsBuilt self.new heaps.now }
         ensures held { AreHeld self.new.graph (HasKey heaps.now) }
@@ -131,6 +133,7 @@ impl Build {
         ensures hyperedges { IfOk result (λ b. b.graph.hyperedges ≡ []) }
         ensures next { IfOk result (λ b. b.next ≡ 0) }
         ensures candidates { IfOk result (λ b. b.candidates ≡ length b.graph.nodes) }
+        ensures spare { IfOk result (λ b. b.graph.spare ≡ graph.spare) }
         ensures built { IfOk result (λ b. IsBuilt b heaps.now) }
         ensures held { IfOk result (λ b. AreHeld b.graph (HasKey heaps.now)) }
         ensures refused { OnErr result (may_be_refused heaps.now.heap None ≡ true) }
@@ -231,6 +234,7 @@ impl Build {
         ensures hyperedges { self.new.graph.hyperedges ≡ self.old.graph.hyperedges }
         ensures next { self.new.next ≡ self.old.next }
         ensures candidates { self.new.candidates ≡ self.old.candidates }
+        ensures spare { self.new.graph.spare ≡ self.old.graph.spare }
         ensures refused { OnErr result (is_purple_in heaps.now.heap.buffer (the_number heaps.now key.0) ≡ true) }
         ensures built { IsBuilt self.new heaps.now }
         ensures held { AreHeld self.new.graph (HasKey heaps.now) }

@@ -9,6 +9,3 @@
 mod build;
 
 pub use build::{Build, Step};
-
-#[cfg(test)]
-mod tests;

@@ -4,7 +4,6 @@ use Rattle.std.specs.List.{filter}
 use Rattle.std.proofs.lemmas.Bool.{not-true}
 use Rattle.cc_lists.specs.Members.{Among}
 use Rattle.cc_names.specs.declared.name.Name.{Name}
-use Rattle.cc_names.specs.declared.name.Name.TheVariants as name
 use Rattle.cc_names.specs.Names.{is_native, is_script}
 use Rattle.cc_model.specs.declared.command.Command.{Command}
 use Rattle.cc_model.specs.declared.command.Command.TheVariants.{Slice, Collect, Gc}

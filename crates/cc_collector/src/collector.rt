@@ -1,41 +1,27 @@
 //! A collector: slices, whole collections, and `gc`.
-ghost use Rattle.std.specs.Prelude.{◌≡◌, ◌≢◌, ◌<◌, ◌↔◌, ℕ, [], length, None, Some, Ok, IsTrue, OnErr, OnOk, true, is_some};
-ghost use Rattle.cc_lists.specs.Least.{Least};
-ghost use Rattle.cc_model.specs.Snapshot.{white_natives};
-ghost use Rattle.cc_model.specs.Units.{first_untraversed};
+ghost use Rattle.std.specs.Prelude.{◌≡◌, ◌≢◌, [], None, Ok, OnErr, OnOk, true, is_some};
 ghost use Rattle.cc_model.specs.End.{at_end, refused};
 ghost use Rattle.cc_model.specs.Sweep.{collect_scripts as collected};
 ghost use Rattle.cc_laws_run.specs.Doomed.{IsSuspectedNow};
 ghost use Rattle.cc_laws_run.specs.GivenUp.{IsGivenUp};
-ghost use Rattle.cc_graph.specs.Held.{AreHeld};
-ghost use Rattle.cc_graph.specs.Shown.{is_black};
-ghost use Rattle.cc_scan.specs.Scanning.{scan_rules};
-ghost use Rattle.cc_heaps.specs.Keyed.{IsInOrder};
-ghost use Rattle.cc_heaps.specs.HasKey.{HasKey};
 ghost use Rattle.cc_heaps.specs.Changes.{KeepsKeys};
 ghost use Rattle.cc_heaps.specs.Few.{AreFew};
 ghost use Rattle.cc_heaps.specs.Standing.{StillStands};
-ghost use Rattle.cc_builder.specs.Building.{IsBuilt, snapshot_of};
-ghost use Rattle.cc_unlink.specs.Whites.{whites_of};
 ghost use Rattle.cc_gc.specs.Sparing.{KeepsWhatIsReached};
 ghost use Rattle.cc_collector.specs.Settled.{HasWhatIsReached, IsSettled, IsUnsettled};
 ghost use Rattle.cc_collector.specs.Kept.{ForgetsNothing, RunsIn, machine_of, running_snapshot};
 ghost use Rattle.cc_collector.specs.Collected.{IsSliced, IsCollected, IsCollectGivenUp, IsSwept, TellsWhatLeaves, progress_of};
 ghost use Rattle.cc_collector.specs.Units.{HasDoneUnit, HasDoneAll, HasFinished};
 
-use cc_builder::{Build, Step};
+use crate::site::Site;
 use cc_gc::collect_scripts;
-use cc_graph::Graph;
 use cc_heaps::Heaps;
-use cc_model::{Event, Item, Notices};
+use cc_model::Notices;
 use cc_names::NoMemory;
-use cc_repair::mark_touched;
-use cc_scan::scan;
 use cc_steps::Steps;
-use cc_unlink::collect_white;
 use std::alloc::Global;
-use std::marker::{Brand, Model};
-use std::sync::ledger::{Blank, Ledger};
+use std::marker::Model;
+use std::sync::ledger::Ledger;
 
 /// Whether the units of a slice reached the end of a collection.
 #[derive(Clone, Copy, Debug, PartialEq, Eq, Drop)]
@@ -61,10 +47,7 @@ pub enum Ended {
 ///   collection can find it. It is so of empty heaps, and the calls of `Heaps` on what is reached keep it.
 #[derive(Drop)]
 pub struct Collector {
-    alloc: Global,
-    running: Option<Build>,
-    // an empty graph that has the room of the last collection's
-    room: Option<Graph>,
+    site: Site,
 }
 
 impl Model for Collector {
@@ -73,12 +56,7 @@ impl Model for Collector {
 
     ghost Value = { Option Built };
 
-    ghost view = { λ c. c.running };
-
-    ghost use Rattle.std.specs.Prelude.{IfSome};
-    ghost use Rattle.cc_graph.specs.Shown.{IsEmpty};
-
-    ghost invariant = { λ c. IfSome c.room IsEmpty };
+    ghost view = { λ c. c.site.running };
 }
 
 impl Collector {
@@ -87,9 +65,7 @@ impl Collector {
         ensures { result ≡ None }
     {
         Collector {
-            alloc,
-            running: None,
-            room: None,
+            site: Site::new(alloc),
         }
     }
 
@@ -97,7 +73,7 @@ impl Collector {
     pub fn running(&self) -> bool
         ensures { result ≡ is_some self.now }
     {
-        self.running.is_some()
+        self.site.running()
     }
 
     /// Does `units` units of the running collection, or of one that begins here where none runs. They are fewer where one
@@ -242,88 +218,6 @@ impl Collector {
         requires { RunsIn heaps.old self.old }
         ensures { HasDoneUnit heaps.old self.old heaps.new self.new (progress_of result) (N.telling out.old) (N.telling out.new) }
     {
-        let stepped = match &mut self.running {
-            None => return self.begin(heaps, out),
-            Some(build) => build.step(heaps),
-        };
-        let Ok(step) = stepped else {
-            let Some(build) = self.running.take() else {
-                unreachable!()
-            };
-            build.abandon(heaps);
-            out.tell(Item::Event(Event::Abandoned));
-            return Err(NoMemory);
-        };
-        match step {
-            Step::Traversed | Step::Gone => Ok(Ended::No),
-            Step::Complete => {
-                let Some(build) = self.running.take() else {
-                    unreachable!()
-                };
-                self.end(build, heaps, out);
-                Ok(Ended::Yes)
-            }
-        }
+        self.site.unit(heaps, out)
     }
-
-    /// Begins a collection.
-    fn begin<N: Notices>(&mut self, heaps: &mut Heaps, out: &mut N) -> Result<Ended, NoMemory>
-        requires runs { RunsIn heaps.old None }
-        requires idle { self.old ≡ None }
-        ensures { HasDoneUnit heaps.old None heaps.new self.new (progress_of result) (N.telling out.old) (N.telling out.new) }
-    {
-        let room = match self.room.take() {
-            Some(room) => room,
-            None => Graph::new(self.alloc),
-        };
-        match Build::begin_in(room, heaps) {
-            Ok(build) => {
-                self.running = Some(build);
-                Ok(Ended::No)
-            }
-            Err(NoMemory) => {
-                out.tell(Item::Event(Event::Abandoned));
-                Err(NoMemory)
-            }
-        }
-    }
-
-    /// Ends a collection, all of whose nodes are traversed or gone. Its room stays.
-    fn end<N: Notices>(&mut self, build: Build, heaps: &mut Heaps, out: &mut N)
-        requires runs { RunsIn heaps.old (Some build) }
-        requires idle { self.old ≡ None }
-        requires traversed { first_untraversed (snapshot_of build).nodes ≡ None }
-        requires behind { build.next ≡ length build.graph.nodes }
-        ensures { HasDoneUnit heaps.old (Some build) heaps.new self.new at_end (N.telling out.old) (N.telling out.new) }
-    {
-        let mut graph = collect_white(blackened(build, heaps), heaps, out);
-        graph.clear();
-        self.room = Some(graph);
-    }
-}
-
-/// The graph of a build in which every node is traversed, with its black nodes.
-fn blackened(build: Build, heaps: &Heaps) -> Graph
-    requires built { IsBuilt build heaps.now }
-    requires held { AreHeld build.graph (HasKey heaps.now) }
-    requires order { IsInOrder [] heaps.now }
-    requires behind { build.next ≡ length build.graph.nodes }
-    ensures { whites_of result heaps.now.heap ≡ white_natives heaps.now.heap (snapshot_of build) }
-{
-    let mut graph = build.finish();
-    mark_touched(&mut graph, heaps);
-    scan_uncounted::<Brand>(&mut graph, Blank::new(1));
-    graph
-}
-
-/// Scans a graph. Nobody asks for its steps.
-fn scan_uncounted<L: Ledger>(graph: &mut Graph, blank: Blank)
-    requires name { blank.name ≡ L.name }
-    requires parts { blank.parts ≡ L.parts }
-    requires some { 0 < L.parts }
-    ensures least { (i : ℕ) → IsTrue (is_black graph.new i) ↔ Least (scan_rules graph.old) i }
-    ensures rest { graph.new ≡ record graph.old { blacks = graph.new.blacks } }
-{
-    let mut steps = Steps::<L>::new(blank);
-    scan(graph, &mut steps);
 }

@@ -15,10 +15,8 @@
 
 mod between;
 mod collector;
+mod site;
 
 pub use between::running_collections_go_on;
 pub use cc_steps::Steps;
 pub use collector::{Collector, Ended};
-
-#[cfg(test)]
-mod tests;

@@ -4,6 +4,3 @@
 mod rounds;
 
 pub use rounds::collect_scripts;
-
-#[cfg(test)]
-mod tests;

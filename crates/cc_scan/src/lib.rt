@@ -5,6 +5,3 @@
 mod scanning;
 
 pub use scanning::scan;
-
-#[cfg(test)]
-mod tests;

@@ -4,6 +4,3 @@
 mod ends;
 
 pub use ends::collect_white;
-
-#[cfg(test)]
-mod tests;

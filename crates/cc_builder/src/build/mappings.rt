@@ -33,6 +33,7 @@ impl Build {
         ensures edges { self.new.graph.edges ≡ self.old.graph.edges }
         ensures next { self.new.next ≡ self.old.next }
         ensures candidates { self.new.candidates ≡ self.old.candidates }
+        ensures spare { self.new.graph.spare ≡ self.old.graph.spare }
         ensures refused { OnErr result (mappings_of heaps.now.heap ≢ []) }
         ensures built { IsBuilt self.new heaps.now }
         ensures held { AreHeld self.new.graph (HasKey heaps.now) }
@@ -58,6 +59,7 @@ impl Build {
         ensures edges { self.new.graph.edges ≡ self.old.graph.edges }
         ensures next { self.new.next ≡ self.old.next }
         ensures candidates { self.new.candidates ≡ self.old.candidates }
+        ensures spare { self.new.graph.spare ≡ self.old.graph.spare }
         ensures refused { OnErr result (mappings_at heaps.now i ≢ []) }
         ensures built { IsBuilt self.new heaps.now }
         ensures held { AreHeld self.new.graph (HasKey heaps.now) }
@@ -93,6 +95,7 @@ impl Build {
         ensures edges { self.new.graph.edges ≡ self.old.graph.edges }
         ensures next { self.new.next ≡ self.old.next }
         ensures candidates { self.new.candidates ≡ self.old.candidates }
+        ensures spare { self.new.graph.spare ≡ self.old.graph.spare }
         ensures built { IsBuilt self.new heaps.now }
         ensures held { AreHeld self.new.graph (HasKey heaps.now) }
     {
@@ -117,6 +120,7 @@ impl Build {
         ensures hyperedges { self.new.graph.hyperedges ≡ self.old.graph.hyperedges }
         ensures next { self.new.next ≡ self.old.next }
         ensures candidates { self.new.candidates ≡ self.old.candidates }
+        ensures spare { self.new.graph.spare ≡ self.old.graph.spare }
         ensures built { IsBuilt self.new heaps.now }
         ensures held { AreHeld self.new.graph (HasKey heaps.now) }
     {

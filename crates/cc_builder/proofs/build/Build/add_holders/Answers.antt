@@ -30,6 +30,7 @@ holders-init c =
       hyperedges = refl;
       next = refl;
       candidates = refl;
+      spare = refl;
       built = c.requires.built;
       held = c.requires.held;
     }
@@ -68,6 +69,7 @@ holders-preserved c =
       hyperedges = ap (λ (b : Built). b.graph.hyperedges) added ∙ l.hyperedges;
       next = ap (λ (b : Built). b.next) added ∙ l.next;
       candidates = ap (λ (b : Built). b.candidates) added ∙ l.candidates;
+      spare = ap (λ (b : Built). b.graph.spare) added ∙ l.spare;
       built = c.add_object.ensures.built;
       held = c.add_object.ensures.held;
     }

@@ -22,6 +22,7 @@ invariant-holders l = record {
   hyperedges : l.self.graph.hyperedges ≡ l.fn.self.graph.hyperedges;
   next : l.self.next ≡ l.fn.self.next;
   candidates : l.self.candidates ≡ l.fn.self.candidates;
+  spare : l.self.graph.spare ≡ l.fn.self.graph.spare;
   built : IsBuilt l.self l.heaps;
   held : AreHeld l.self.graph (HasKey l.heaps);
 }

@@ -19,6 +19,7 @@ loop-i-init c =
       edges = refl;
       next = refl;
       candidates = refl;
+      spare = refl;
       built = c.requires.built;
       held = c.requires.held;
     }
@@ -50,6 +51,7 @@ loop-i-preserved c =
       edges = e.edges ∙ l.edges;
       next = e.next ∙ l.next;
       candidates = e.candidates ∙ l.candidates;
+      spare = e.spare ∙ l.spare;
       built = e.built;
       held = e.held;
     }

@@ -17,6 +17,7 @@ invariant-loop-i l = record {
   edges : l.self.graph.edges ≡ l.fn.self.graph.edges;
   next : l.self.next ≡ l.fn.self.next;
   candidates : l.self.candidates ≡ l.fn.self.candidates;
+  spare : l.self.graph.spare ≡ l.fn.self.graph.spare;
   built : IsBuilt l.self l.heaps;
   held : AreHeld l.self.graph (HasKey l.heaps);
 }

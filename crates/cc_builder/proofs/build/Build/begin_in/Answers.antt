@@ -52,6 +52,9 @@ returns-clause-begun c =
       suspected = begun-suspected v w (snapshot_of b) c.empty_buffer.ensures.heap (the_snapshot c);
     }
 
+pub returns-clause-room : goal.returns-clause-room
+returns-clause-room c = c.add_mappings.ensures.spare ∙ c.add_holders.ensures.spare ∙ c.in_ok-build.ensures.spare
+
 -- and nothing else changed but the buffer
 pub returns-clause-unseen : goal.returns-clause-unseen
 returns-clause-unseen c = with_buffer-unseen c.args.heaps.now c.empty_buffer.new.heaps [] c.empty_buffer.ensures.order c.empty_buffer.ensures.heap

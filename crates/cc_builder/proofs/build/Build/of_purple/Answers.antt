@@ -53,6 +53,7 @@ buffer-preserved c =
       edges = c.in_ok-add_purple.ensures.edges ∙ l.edges;
       hyperedges = c.in_ok-add_purple.ensures.hyperedges ∙ l.hyperedges;
       next = c.in_ok-add_purple.ensures.next ∙ l.next;
+      spare = c.in_ok-add_purple.ensures.spare ∙ l.spare;
       built = c.in_ok-add_purple.ensures.built;
       held = c.in_ok-add_purple.ensures.held;
     }
@@ -73,6 +74,9 @@ returns-clause-hyperedges c = ap (λ (a : Built). a.graph.hyperedges) c.build-2.
 
 pub returns-clause-next : goal.returns-clause-next
 returns-clause-next c = ap (λ (a : Built). a.next) c.build-2.view_is ∙ c.buffer.invariant.next
+
+pub returns-clause-spare : goal.returns-clause-spare
+returns-clause-spare c = ap (λ (a : Built). a.graph.spare) c.build-2.view_is ∙ c.buffer.invariant.spare
 
 pub returns-clause-candidates : goal.returns-clause-candidates
 returns-clause-candidates c = c.len.ensures ∙ ap (λ (a : Built). length a.graph.nodes) (sym c.build-2.view_is)

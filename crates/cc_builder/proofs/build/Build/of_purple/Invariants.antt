@@ -21,6 +21,7 @@ invariant-buffer l =
       edges : l.build.graph.edges ≡ [];
       hyperedges : l.build.graph.hyperedges ≡ [];
       next : l.build.next ≡ 0;
+      spare : l.build.graph.spare ≡ l.fn.graph.spare;
       built : IsBuilt l.build l.heaps;
       held : AreHeld l.build.graph (HasKey l.heaps);
     }

@@ -5,13 +5,13 @@ use Rattle.cc_graph.specs.Held.{AreHeld}
 use Rattle.cc_heaps.specs.HasKey.{HasKey}
 use Rattle.cc_repair.specs.Touched.{touched}
 use Rattle.cc_collector.proofs.Whiteness.{whites-found}
-use Rattle.cc_collector.proofs.collector.blackened.Goals as goal
+use Rattle.cc_collector.proofs.site.blackened.Goals as goal
 
 pub mark_touched-requires-clause-held : goal.mark_touched-requires-clause-held
 mark_touched-requires-clause-held c = subst (λ (g : Shown). AreHeld g (HasKey c.args.heaps.now)) (sym c.finish-graph.ensures) c.requires.held
 
-pub returns : goal.returns
-returns c =
+pub returns-clause-whites : goal.returns-clause-whites
+returns-clause-whites c =
     let v = c.args.heaps.now in
     let m = c.mark_touched.new.graph in
     whites-found c.args.build v m c.scan_uncounted.new.graph c.requires.built c.requires.behind
