@@ -18,7 +18,7 @@ use Rattle.cc_laws_heap.proofs.Natives.{native_at-number}
 use Rattle.cc_laws_heap.proofs.NameLists.{same_name-sym}
 use Rattle.cc_counted.specs.declared.held.Held.{Held}
 use Rattle.cc_counted.specs.declared.held.Held.TheVariants as held
-use Rattle.cc_graph.specs.Shown.{Shown, Vertex, Edge, Hyperedge, vertex, with_vertex}
+use Rattle.cc_graph.specs.Shown.{Rooms, Shown, Vertex, Edge, Hyperedge, vertex, with_vertex}
 use Rattle.cc_graph.specs.Closed.{IsHyperedgeWithin}
 use Rattle.cc_script.specs.Objects.{Object}
 use Rattle.cc_heaps.specs.Keyed.{Keyed, IsInOrder, named_object}
@@ -74,8 +74,8 @@ with_vertex-each P vs x held old new = with_vertex-either (λ ws. (n : Vertex) �
 
 -- An object becomes a node
 
-IsBuilt-object : (b : Built) (v : Keyed) (x : Name) (held : Held) → IsBuilt b v → WasMade v.heap x → IsBuilt (with_vertex_of b x held) v
-IsBuilt-object b v x held built was =
+IsBuilt-object : (b : Built) (v : Keyed) (x : Name) (held : Held) (room : Rooms) → IsBuilt b v → WasMade v.heap x → IsBuilt (with_vertex_of b x held room) v
+IsBuilt-object b v x held room built was =
     let vs = b.graph.nodes in
     let ws = with_vertex vs x held in
     let longer = with_vertex-longer vs x held in
@@ -105,8 +105,8 @@ IsBuilt-object b v x held built was =
     made : (n : Vertex) → Among n (with_vertex b.graph.nodes x held) → WasMade v.heap n.name
     made = with_vertex-each (λ n. WasMade v.heap n.name) b.graph.nodes x held built.made was
 
-AreHeld-object : (b : Built) (v : Keyed) (x : Name) (held : Held) → AreHeld b.graph (HasKey v) → HasKey v x held → AreHeld (with_vertex_of b x held).graph (HasKey v)
-AreHeld-object b v x held are has = with_vertex-each (λ n. HasKey v n.name n.held) b.graph.nodes x held are has
+AreHeld-object : (b : Built) (v : Keyed) (x : Name) (held : Held) (room : Rooms) → AreHeld b.graph (HasKey v) → HasKey v x held → AreHeld (with_vertex_of b x held room).graph (HasKey v)
+AreHeld-object b v x held room are has = with_vertex-each (λ n. HasKey v n.name n.held) b.graph.nodes x held are has
 
 -- a script object that is in the heaps was made
 made-script : (h : Heap) (x : Name) → is_native x ≡ false → Among x (script_names h) → WasMade h x
@@ -137,14 +137,15 @@ there-key v (held.Script key) order there =
     subst (λ x. HasKey v x (held.Script key)) (sym (object-name v key s)) (s.kind, ap (option_map (λ (o : Object). o.name)) s.at)
 
 -- graphs are the same by their parts
-abbrev graph_of : List Vertex → List Edge → List Hyperedge → List ℕ → ℕ → Shown
-graph_of nodes edges hyperedges blacks spare = record { nodes = nodes; edges = edges; hyperedges = hyperedges; blacks = blacks; spare = spare }
+abbrev graph_of : List Vertex → List Edge → List Hyperedge → List ℕ → ℕ → Rooms → Shown
+graph_of nodes edges hyperedges blacks spare room = record { nodes = nodes; edges = edges; hyperedges = hyperedges; blacks = blacks; spare = spare; room = room }
 
-graph-same : (g h : Shown) → g.nodes ≡ h.nodes → g.edges ≡ h.edges → g.hyperedges ≡ h.hyperedges → g.blacks ≡ h.blacks → g.spare ≡ h.spare → g ≡ h
-graph-same g h n e m b s =
-    ap (λ x. graph_of x g.edges g.hyperedges g.blacks g.spare) n ∙ ap (λ x. graph_of h.nodes x g.hyperedges g.blacks g.spare) e
-    ∙ ap (λ x. graph_of h.nodes h.edges x g.blacks g.spare) m
-    ∙ ap (λ x. graph_of h.nodes h.edges h.hyperedges x g.spare) b ∙ ap (λ x. graph_of h.nodes h.edges h.hyperedges h.blacks x) s
+graph-same : (g h : Shown) → g.nodes ≡ h.nodes → g.edges ≡ h.edges → g.hyperedges ≡ h.hyperedges → g.blacks ≡ h.blacks → g.spare ≡ h.spare → g.room ≡ h.room → g ≡ h
+graph-same g h n e m b s r =
+    ap (λ x. graph_of x g.edges g.hyperedges g.blacks g.spare g.room) n ∙ ap (λ x. graph_of h.nodes x g.hyperedges g.blacks g.spare g.room) e
+    ∙ ap (λ x. graph_of h.nodes h.edges x g.blacks g.spare g.room) m
+    ∙ ap (λ x. graph_of h.nodes h.edges h.hyperedges x g.spare g.room) b
+    ∙ ap (λ x. graph_of h.nodes h.edges h.hyperedges h.blacks x g.room) s ∙ ap (λ x. graph_of h.nodes h.edges h.hyperedges h.blacks h.spare x) r
 
 -- a build by its parts
 abbrev pub built_of : Shown → ℕ → ℕ → Built
@@ -158,19 +159,19 @@ pub record IsAdded (b : Built) (x : Name) (held : Held) (g : Shown) : Type 0 whe
   pub blacks : g.blacks ≡ b.graph.blacks
   pub spare : g.spare ≡ b.graph.spare
 
-IsAdded-graph : (b : Built) (x : Name) (held : Held) (g : Shown) → IsAdded b x held g → g ≡ (with_vertex_of b x held).graph
-IsAdded-graph b x held g added = graph-same g (with_vertex_of b x held).graph added.nodes added.edges added.hyperedges added.blacks added.spare
+IsAdded-graph : (b : Built) (x : Name) (held : Held) (g : Shown) → IsAdded b x held g → g ≡ (with_vertex_of b x held g.room).graph
+IsAdded-graph b x held g added = graph-same g (with_vertex_of b x held g.room).graph added.nodes added.edges added.hyperedges added.blacks added.spare refl
 
 pub IsAdded-built : {b c : Built} {v : Keyed} {object : Held} {g : Shown} → b ≡ c → IsBuilt c v → IsInOrder [] v → IsThere v (Some object) → IsAdded b (the_name v object) object g →
     IsBuilt (record b { graph = g }) v
 IsAdded-built {b} {v = v} {object = object} {g = g} same built order there added =
     subst (λ h. IsBuilt (record b { graph = h }) v) (sym (IsAdded-graph b (the_name v object) object g added))
-    (IsBuilt-object b v (the_name v object) object (subst (λ a. IsBuilt a v) (sym same) built) (there-made v object order there))
+    (IsBuilt-object b v (the_name v object) object g.room (subst (λ a. IsBuilt a v) (sym same) built) (there-made v object order there))
 
 pub IsAdded-held : {b c : Built} (v : Keyed) {object : Held} {g : Shown} → b ≡ c → AreHeld c.graph (HasKey v) → IsInOrder [] v → IsThere v (Some object) → IsAdded b (the_name v object) object g → AreHeld g (HasKey v)
 IsAdded-held {b} v {object = object} {g = g} same are order there added =
     subst (λ h. AreHeld h (HasKey v)) (sym (IsAdded-graph b (the_name v object) object g added))
-    (AreHeld-object b v (the_name v object) object (subst (λ (a : Built). AreHeld a.graph (HasKey v)) (sym same) are) (there-key v object order there))
+    (AreHeld-object b v (the_name v object) object g.room (subst (λ (a : Built). AreHeld a.graph (HasKey v)) (sym same) are) (there-key v object order there))
 
 -- A reference is noted
 
@@ -185,8 +186,8 @@ IsBuilt-reference b v i j built l m =
 
 -- A mapping is noted
 
-pub IsBuilt-mapping : (b : Built) (v : Keyed) (m : Hyperedge) → IsBuilt b v → IsHyperedgeWithin (length b.graph.nodes) m → IsBuilt (with_mapping b m) v
-IsBuilt-mapping b v m built within =
+pub IsBuilt-mapping : (b : Built) (v : Keyed) (m : Hyperedge) (mappings : ℕ) → IsBuilt b v → IsHyperedgeWithin (length b.graph.nodes) m → IsBuilt (with_mapping b m mappings) v
+IsBuilt-mapping b v m mappings built within =
     record {
       distinct = built.distinct;
       made = built.made;

@@ -8,7 +8,7 @@ use Rattle.cc_names.specs.Names.{native, is_native, natives_in}
 use Rattle.cc_model.specs.Snapshot.{Mapping, Node, Snapshot, traversed}
 use Rattle.cc_model.specs.Units.{with_state, with_node, passed_over}
 use Rattle.cc_counted.specs.declared.held.Held.{Held}
-use Rattle.cc_graph.specs.Shown.{Vertex, Edge, Hyperedge, vertex, number_of, with_vertex}
+use Rattle.cc_graph.specs.Shown.{Vertex, Edge, Hyperedge, Rooms, vertex, number_of, with_vertex}
 use Rattle.cc_graph.specs.Closed.{AreHyperedgesWithin}
 use Rattle.cc_builder.specs.Building.{Built, vertex_names, vertex_name, nodes_of, reference_of, mapping_of, snapshot_of}
 use Rattle.cc_builder.specs.BuildSteps.{with_vertex_of, with_reference, with_next_passed, sampled_at, noting_one}
@@ -36,9 +36,9 @@ vertex_name-with_vertex : (vs : List Vertex) (x : Name) (held : Held) (i : ℕ) 
 vertex_name-with_vertex vs x held i l = with_vertex-either (λ ws. vertex_name ws i ≡ vertex_name vs i) vs x held (λ _. refl) (λ _. vertex_name-append vs (vertex x held ∷ []) i l)
 
 -- an object becomes a node
-snapshot-with_vertex_of : (b : Built) (x : Name) (held : Held) → HasEndsWithin b →
-    snapshot_of (with_vertex_of b x held) ≡ record (snapshot_of b) { nodes = with_node (snapshot_of b).nodes x }
-snapshot-with_vertex_of b x held c =
+snapshot-with_vertex_of : (b : Built) (x : Name) (held : Held) (room : Rooms) → HasEndsWithin b →
+    snapshot_of (with_vertex_of b x held room) ≡ record (snapshot_of b) { nodes = with_node (snapshot_of b).nodes x }
+snapshot-with_vertex_of b x held room c =
     let vs = b.graph.nodes in
     let ws = with_vertex vs x held in
     snapshot-same
@@ -98,14 +98,14 @@ snapshot-passed b v at e f =
 abbrev referred : Snapshot → Name → Name → Snapshot
 referred s x y = record s { references = s.references ++ (x, y) ∷ [] }
 
-pub snapshot-noted : (b c : Built) (x : Name) (held : Held) (i j : ℕ) → c ≡ with_vertex_of b x held → HasEndsWithin b → i < length b.graph.nodes →
+pub snapshot-noted : (b c : Built) (x : Name) (held : Held) (i j : ℕ) {room : Rooms} → c ≡ with_vertex_of b x held room → HasEndsWithin b → i < length b.graph.nodes →
     number_of c.graph.nodes x ≡ Some j → snapshot_of (with_reference c i j) ≡ noting_one (snapshot_of b) (vertex_name b.graph.nodes i) x
-snapshot-noted b c x held i j same closed l found =
-    let d = with_vertex_of b x held in
+snapshot-noted b c x held i j {room} same closed l found =
+    let d = with_vertex_of b x held room in
     let ws = d.graph.nodes in
     let at : vertex_name ws j ≡ x = (number_of-at ws x j (subst (λ (a : Built). number_of a.graph.nodes x ≡ Some j) same found)).1 in
     ap (λ (a : Built). snapshot_of (with_reference a i j)) same
     ∙ snapshot-with_reference d i j
-    ∙ ap (λ s. referred s (vertex_name ws i) (vertex_name ws j)) (snapshot-with_vertex_of b x held closed)
+    ∙ ap (λ s. referred s (vertex_name ws i) (vertex_name ws j)) (snapshot-with_vertex_of b x held room closed)
     ∙ ap (λ y. referred (record (snapshot_of b) { nodes = with_node (snapshot_of b).nodes x }) y (vertex_name ws j)) (vertex_name-with_vertex b.graph.nodes x held i l)
     ∙ ap (λ y. referred (record (snapshot_of b) { nodes = with_node (snapshot_of b).nodes x }) (vertex_name b.graph.nodes i) y) at

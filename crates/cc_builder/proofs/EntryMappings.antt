@@ -70,7 +70,7 @@ pub record IsValue (vs ws : List Vertex) (x : Name) (i : ℕ) : Type 0 where
   pub number : number_of ws x ≡ Some i
 
 -- as a script object that was added is
-pub added-value : (b d : Built) (v : Keyed) (key : SKey) (i : ℕ) → IsScriptThere v (Some key) → d ≡ with_vertex_of b (the_name v (held.Script key)) (held.Script key) →
+pub added-value : (b d : Built) (v : Keyed) (key : SKey) (i : ℕ) → IsScriptThere v (Some key) → d ≡ with_vertex_of b (the_name v (held.Script key)) (held.Script key) d.graph.room →
     number_of d.graph.nodes (the_name v (held.Script key)) ≡ Some i → IsValue b.graph.nodes d.graph.nodes (the_name_at v.scripts key.0) i
 added-value b d v key i there added number =
     subst (λ x. IsValue b.graph.nodes d.graph.nodes x i) (name-at_key v key there)

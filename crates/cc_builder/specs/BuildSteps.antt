@@ -10,7 +10,7 @@ use Rattle.cc_model.specs.Units.{with_nodes, is_noted, mapping_of}
 use Rattle.cc_counted.specs.declared.held.Held.{Held}
 use Rattle.cc_counted.specs.declared.held.Held.TheVariants as held
 use Rattle.cc_counted.specs.Counts as counts
-use Rattle.cc_graph.specs.Shown.{Vertex, Hyperedge, with_vertex, with_sample, change_vertex}
+use Rattle.cc_graph.specs.Shown.{Vertex, Hyperedge, Rooms, with_vertex, with_sample, change_vertex}
 use Rattle.cc_heaps.specs.Keyed.{Keyed, counts_of, named_entry}
 use Rattle.cc_heaps.specs.Changes.{held_name}
 use Rattle.cc_heaps.specs.Places.{places_at}
@@ -41,17 +41,17 @@ contents_at v object = flat_map (noted_content v.heap) (places_at v object)
 abbrev pub purple_name : Heap → ℕ → List Name
 purple_name h k = elim (is_purple_in h.buffer k) [ true ↦ native k ∷ [] | false ↦ [] ]
 
--- an object as a node, last, where it is none
-abbrev pub with_vertex_of : Built → Name → Held → Built
-with_vertex_of b x held = record b { graph = record b.graph { nodes = with_vertex b.graph.nodes x held } }
+-- an object as a node, last, where it is none; and so much room
+abbrev pub with_vertex_of : Built → Name → Held → Rooms → Built
+with_vertex_of b x held room = record b { graph = record b.graph { nodes = with_vertex b.graph.nodes x held; room = room } }
 
 -- a reference noted last, for which there was room
 abbrev pub with_reference : Built → ℕ → ℕ → Built
 with_reference b source target = record b { graph = record b.graph { edges = b.graph.edges ++ record { source = source; target = target } ∷ []; spare = b.graph.spare - 1 } }
 
--- a mapping noted last
-abbrev pub with_mapping : Built → Hyperedge → Built
-with_mapping b m = record b { graph = record b.graph { hyperedges = b.graph.hyperedges ++ m ∷ [] } }
+-- a mapping noted last; and room for so many
+abbrev pub with_mapping : Built → Hyperedge → ℕ → Built
+with_mapping b m mappings = record b { graph = record b.graph { hyperedges = b.graph.hyperedges ++ m ∷ []; room = record b.graph.room { mappings = mappings } } }
 
 -- room for other so many references
 abbrev pub with_room : ℕ → Built → Built

@@ -253,7 +253,7 @@ impl Build {
         requires held { AreHeld self.old.graph (HasKey heaps.now) }
         requires order { IsInOrder [] heaps.now }
         requires there { IsThere heaps.now (Some object) }
-        ensures added { OnOk result (self.new ≡ with_vertex_of self.old (the_name heaps.now object) object) }
+        ensures added { OnOk result (self.new ≡ with_vertex_of self.old (the_name heaps.now object) object self.new.graph.room) }
         ensures number { IfOk result (λ i. number_of self.new.graph.nodes (the_name heaps.now object) ≡ Some i) }
         ensures refused { OnErr result (self.new ≡ self.old) }
         ensures built { IsBuilt self.new heaps.now }

@@ -9,7 +9,6 @@ use Rattle.cc_model.specs.Heap.{HeapNative, Buffered}
 use Rattle.cc_model.specs.Heap as heap
 use Rattle.cc_model.specs.WellFormed.{IsRising}
 use Rattle.cc_laws_heap.proofs.Natives.{native_at-named}
-use Rattle.cc_laws_heap.proofs.Rising.{IsRising-tail, IsRising-first, IsRising-cons}
 use Rattle.cc_laws_heap.proofs.Making.{IsRising-push}
 use Rattle.cc_counted.specs.declared.held.Held.{Held}
 use Rattle.cc_counted.specs.Counts.{number_at, number_or_none, the_number, name_of, is_live, heap_of}

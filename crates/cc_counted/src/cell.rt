@@ -28,6 +28,10 @@ impl Model for Cell {
     ghost Value = { Placed };
 
     ghost view = { λ c. record { number = c.number.0; slots = c.slots.items; preserved = c.preserved; reflector = option_map (λ k. k.0) c.reflector; count = c.count } };
+
+    ghost use Rattle.std.specs.Prelude.{◌≡◌, vec_len, vec_capacity};
+
+    ghost invariant = { λ c. vec_capacity c.slots ≡ vec_len c.slots };
 }
 
 /// The reflector of a native as a slot would hold it, where it is preserved.

@@ -26,6 +26,3 @@ mod node;
 
 pub use counted::Counted;
 pub use held::{Held, native_held};
-
-#[cfg(test)]
-mod tests;

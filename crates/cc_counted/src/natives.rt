@@ -1,5 +1,5 @@
 //! The natives by key, and the lists that go through them.
-ghost use Rattle.std.specs.Prelude.{◌≡◌, ◌≢◌, true, false, ◌+◌, ◌<◌, ◌≤◌, [], ◌∷◌, ◌++◌, length, drop, Some, None, option_map, IsSome, IsTrue, IfOk, OnErr, replicate, slice_index_or};
+ghost use Rattle.std.specs.Prelude.{◌≡◌, ◌≢◌, true, false, ◌+◌, ◌<◌, ◌≤◌, [], ◌∷◌, ◌++◌, length, drop, Some, None, option_map, IsSome, IsTrue, IfOk, OnErr, replicate, slice_index_or, vec_capacity, vec_len};
 ghost use Rattle.cc_lists.specs.Members.{Among};
 ghost use Rattle.cc_lists.specs.Walks.{first_of};
 ghost use Rattle.cc_chain.specs.Chains.{behind};
@@ -41,9 +41,9 @@ impl Model for Natives {
 }
 
 impl Natives {
-    /// No natives.
+    /// No natives, and room for none.
     pub(crate) fn new(alloc: Global) -> Natives
-        ensures { result.lists ≡ record { cells = []; order = []; queue = []; marks = [] } }
+        ensures { result ≡ record { lists = record { cells = []; order = []; queue = []; marks = [] }; capacity = 0 } }
     {
         Natives {
             nodes: Nodes {
@@ -292,7 +292,12 @@ impl Natives {
 
 /// So many empty slots, and no room for more.
 fn empty_slots(alloc: Global, slots: u8) -> Result<Vec<Option<Held>>, AllocError>
-    ensures { IfOk result (λ v. v.items ≡ replicate slots None) }
+    ensures items { IfOk result (λ v. v.items ≡ replicate slots None) }
+    ensures room { IfOk result (λ v. vec_capacity v ≡ vec_len v) }
 {
-    vec![in alloc; None; slots as usize]
+    let mut empty = Vec::with_capacity(alloc, slots as usize)?;
+    for _ in 0..slots {
+        empty.push_reserved(None);
+    }
+    Ok(empty)
 }

@@ -20,7 +20,7 @@ use Rattle.cc_graph.specs.declared.chain.Chain.{Chain}
 use Rattle.cc_graph.specs.declared.mapping.Mapping.{Mapping}
 use Rattle.cc_graph.specs.declared.node.Node.{Node}
 use Rattle.cc_graph.specs.declared.reference.Reference.{Reference}
-use Rattle.cc_graph.specs.Shown.{Vertex, Edge, Hyperedge, Shown, change_vertex, edges_to, number_of, place_from, vertex, with_black, with_vertex}
+use Rattle.cc_graph.specs.Shown.{Vertex, Edge, Hyperedge, Rooms, Shown, change_vertex, edges_to, number_of, place_from, vertex, with_black, with_vertex}
 use Rattle.cc_graph.specs.Closed.{IsHyperedgeWithin, AreHyperedgesWithin, IsWithin, IsClosed}
 use Rattle.cc_graph.specs.Kept.{added, with_black_node, with_node, with_next, with_reference, vertex_of, edge_of, hyperedge_of, vertices, edges, hyperedges, chain_of, but_mapping, but_mappings, IsLast, AreReferences, AreMappings, IsWhole}
 use Rattle.cc_graph.proofs.Lists.{each-set, each-added, among-at}
@@ -62,13 +62,19 @@ mapping-within ms n j m within inside at =
     subst (λ z. IsHyperedgeWithin n (hyperedge_of z)) (sym at) (within (hyperedge_of (get_or ms j m)) (Among-map hyperedge_of (get_or ms j m) ms (among-at ms j m inside)))
 
 -- graphs with the same parts
-pub shown-same : (vs ws : List Vertex) (es fs : List Edge) (ms : List Hyperedge) (bs cs : List ℕ) (n m : ℕ) → vs ≡ ws → es ≡ fs → bs ≡ cs → n ≡ m →
-    ◌≡◌ {A = Shown} (record { nodes = vs; edges = es; hyperedges = ms; blacks = bs; spare = n }) (record { nodes = ws; edges = fs; hyperedges = ms; blacks = cs; spare = m })
-shown-same vs ws es fs ms bs cs n m a b c d = rw (a, b, c, d) refl
+pub shown-same : (vs ws : List Vertex) (es fs : List Edge) (ms : List Hyperedge) (bs cs : List ℕ) (n m : ℕ) (r q : Rooms) → vs ≡ ws → es ≡ fs → bs ≡ cs → n ≡ m → r ≡ q →
+    ◌≡◌ {A = Shown} (record { nodes = vs; edges = es; hyperedges = ms; blacks = bs; spare = n; room = r })
+    (record { nodes = ws; edges = fs; hyperedges = ms; blacks = cs; spare = m; room = q })
+shown-same vs ws es fs ms bs cs n m r q a b c d e = rw (a, b, c, d, e) refl
 
-pub shown-mapped : (vs ws : List Vertex) (es : List Edge) (ms ns : List Hyperedge) (bs cs : List ℕ) (n : ℕ) → vs ≡ ws → ms ≡ ns → bs ≡ cs →
-    ◌≡◌ {A = Shown} (record { nodes = vs; edges = es; hyperedges = ms; blacks = bs; spare = n }) (record { nodes = ws; edges = es; hyperedges = ns; blacks = cs; spare = n })
-shown-mapped vs ws es ms ns bs cs n a b c = rw (a, b, c) refl
+pub shown-mapped : (vs ws : List Vertex) (es : List Edge) (ms ns : List Hyperedge) (bs cs : List ℕ) (n : ℕ) (r q : Rooms) → vs ≡ ws → ms ≡ ns → bs ≡ cs → r ≡ q →
+    ◌≡◌ {A = Shown} (record { nodes = vs; edges = es; hyperedges = ms; blacks = bs; spare = n; room = r })
+    (record { nodes = ws; edges = es; hyperedges = ns; blacks = cs; spare = n; room = q })
+shown-mapped vs ws es ms ns bs cs n r q a b c d = rw (a, b, c, d) refl
+
+-- rooms of the same size
+pub rooms-same : (n m b c r : ℕ) → n ≡ m → b ≡ c → ◌≡◌ {A = Rooms} (record { nodes = n; blacks = b; mappings = r }) (record { nodes = m; blacks = c; mappings = r })
+rooms-same n m b c r e f = rw (e, f) refl
 
 -- a node becomes black
 pub black-last : (bs : List ℕ) (i : ℕ) → has ◌==◌ bs i ≡ false → bs ++ i ∷ [] ≡ with_black bs i
@@ -368,9 +374,9 @@ vertices-noted ks from to n d t s here there shown read =
     vertices-kept (set ks to t) from s (with_reference s n) (omega (arith, here, length-set ks to t)) (ap vertex_of read) ∙ vertices-kept ks to d t there shown
 
 -- a whole graph is shown within its nodes
-pub whole-closed : (ks : List Node) (rs : List Reference) (ms : List Mapping) (loose : Chain) (bs : List ℕ) (spare : ℕ) → IsWhole ks rs ms loose bs →
-    IsClosed (record { nodes = vertices ks; edges = edges rs; hyperedges = hyperedges ms; blacks = bs; spare = spare })
-whole-closed ks rs ms loose bs spare w = record {
+pub whole-closed : (ks : List Node) (rs : List Reference) (ms : List Mapping) (loose : Chain) (bs : List ℕ) {spare : ℕ} {room : Rooms} → IsWhole ks rs ms loose bs →
+    IsClosed (record { nodes = vertices ks; edges = edges rs; hyperedges = hyperedges ms; blacks = bs; spare = spare; room = room })
+whole-closed ks rs ms loose bs w = record {
   few = omega (arith, w.few, length-vertices ks);
   within = subst (λ n. IsWithin n (edges rs) bs) (sym (length-vertices ks)) w.within;
   hyperedges = subst (λ n. AreHyperedgesWithin n (hyperedges ms)) (sym (length-vertices ks)) w.mapped;

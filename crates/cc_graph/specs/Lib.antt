@@ -1,4 +1,5 @@
 pub mod Shown
+pub mod Rooms
 pub mod Closed
 pub mod Kept
 pub mod Numbers

@@ -29,14 +29,25 @@ pub record Hyperedge : Type 0 where
 abbrev pub hyperedge : Option ℕ → Option ℕ → ℕ → Hyperedge
 hyperedge the_map key value = record { the_map = the_map; key = key; value = value }
 
+-- how many nodes, black nodes and mappings there is room for in all
+pub record Rooms : Type 0 where
+  pub nodes : ℕ
+  pub blacks : ℕ
+  pub mappings : ℕ
+
+abbrev pub no_room : Rooms
+no_room = record { nodes = 0; blacks = 0; mappings = 0 }
+
 -- nodes are known by their place, from 0; references and mappings in the order in which they were noted, with repeats; the
--- black nodes in the order in which they became so, each once; and how many references there is room for
+-- black nodes in the order in which they became so, each once; how many more references there is room for; and the room
+-- for the others
 pub record Shown : Type 0 where
   pub nodes : List Vertex
   pub edges : List Edge
   pub hyperedges : List Hyperedge
   pub blacks : List ℕ
   pub spare : ℕ
+  pub room : Rooms
 
 -- that there is nothing in it
 pub record IsEmpty (g : Shown) : Type 0 where

@@ -1,8 +1,9 @@
 //! The graph: nodes by number, noted references, noted mappings, and the list of black nodes.
 
-ghost use Rattle.std.specs.Prelude.{◌≡◌, ℕ, ◌↔◌, ◌+◌, ◌-◌, ◌<◌, ◌≤◌, ◌^◌, ◌==◌, ◌++◌, [], ◌∷◌, length, min, slice_get, option_map, true, IfOk, IfSome, IsOk, IsSome, IsTrue, false, OnErr, OnOk, Some, vec_capacity};
-ghost use Rattle.cc_graph.specs.Shown.{IsEmpty, change_vertex, edges_to, is_black, is_with, hyperedge, number_of, place_from, place_with, with_black, with_sample, with_vertex};
+ghost use Rattle.std.specs.Prelude.{◌≡◌, ℕ, ◌↔◌, ◌+◌, ◌-◌, ◌<◌, ◌≤◌, ◌^◌, ◌==◌, ◌++◌, [], ◌∷◌, length, max, min, slice_get, option_map, true, IfOk, IfSome, IsOk, IsSome, IsTrue, false, OnErr, OnOk, Some, vec_capacity};
+ghost use Rattle.cc_graph.specs.Shown.{IsEmpty, change_vertex, edges_to, is_black, is_with, hyperedge, no_room, number_of, place_from, place_with, with_black, with_sample, with_vertex};
 ghost use Rattle.cc_graph.specs.Closed.{IsClosed};
+ghost use Rattle.cc_graph.specs.Rooms.{KeepsRoom, TakesRoom};
 ghost use Rattle.cc_graph.specs.Kept.{AreMappings, but_mappings, chain_of, first_member, hyperedges, is_one, last_of, loose_with, nodes_with, with_link, with_next, with_next_with};
 
 use crate::chain::Chain;
@@ -39,18 +40,21 @@ impl Model for Graph {
       hyperedges = hyperedges g.mappings.items;
       blacks = g.nodes.blacks;
       spare = spare_of g.references.capacity (length g.references.items);
+      room = record { nodes = g.nodes.node_room; blacks = g.nodes.black_room; mappings = g.mappings.capacity };
     } };
 
     ghost invariant = { λ g. IsWhole g.nodes.nodes g.references.items g.mappings.items g.loose g.nodes.blacks };
 }
 
 impl Graph {
-    /// A graph with no node, no reference and no mapping.
+    /// A graph with no node, no reference and no mapping, and room for none. Takes no memory.
     pub fn new(alloc: Global) -> Graph
         ensures nodes { result.nodes ≡ [] }
         ensures edges { result.edges ≡ [] }
         ensures hyperedges { result.hyperedges ≡ [] }
         ensures blacks { result.blacks ≡ [] }
+        ensures spare { result.spare ≡ 0 }
+        ensures room { result.room ≡ no_room }
     {
         Graph {
             nodes: Nodes::new(alloc),
@@ -66,6 +70,7 @@ impl Graph {
         ensures empty { IsEmpty self.new }
         ensures room { min (length self.old.edges) 4294967295 ≤ self.new.spare }
         ensures given_back { self.new.spare < length self.old.edges + 512 }
+        ensures rooms { KeepsRoom self.old self.new }
     {
         self.nodes.clear();
         self.references.clear();
@@ -88,6 +93,9 @@ impl Graph {
         ensures hyperedges { self.new.hyperedges ≡ self.old.hyperedges }
         ensures blacks { self.new.blacks ≡ self.old.blacks }
         ensures spare { self.new.spare ≡ self.old.spare }
+        ensures node_room { TakesRoom 256 (length self.old.nodes + 1) self.old.room.nodes self.new.room.nodes }
+        ensures black_room { TakesRoom 256 (length self.old.nodes + 1) self.old.room.blacks self.new.room.blacks }
+        ensures mapping_room { self.new.room.mappings ≡ self.old.room.mappings }
         ensures err { OnErr result (self.new ≡ self.old) }
         ensures no_need { IsSome (number_of self.old.nodes name) → IsOk result }
     {
@@ -95,7 +103,7 @@ impl Graph {
         Ok(number)
     }
 
-    /// Room for `edges` more references.
+    /// Room for `edges` more references, and for less than a block beside them where it has to be taken.
     ///
     /// `NoMemory` where the room is not to be had, or there would be more than 4294967295 of them; the room is then what it
     /// was.
@@ -104,6 +112,7 @@ impl Graph {
         ensures room { OnOk result (edges ≤ self.new.spare) }
         ensures kept { self.old.spare ≤ self.new.spare }
         ensures no_need { edges ≤ self.old.spare → IsOk result }
+        ensures bounded { self.new.spare < max (self.old.spare + 1) (edges + 512) }
         ensures err { OnErr result (self.new ≡ self.old) }
     {
         if edges == 0 {
@@ -160,7 +169,11 @@ impl Graph {
         requires the_map { IfSome the_map (λ i. i < length self.old.nodes) }
         requires key { IfSome key (λ i. i < length self.old.nodes) }
         requires value { value < length self.old.nodes }
-        ensures noted { OnOk result (self.new ≡ record self.old { hyperedges = self.old.hyperedges ++ hyperedge the_map key value ∷ [] }) }
+        ensures noted { OnOk result (self.new ≡ record self.old {
+          hyperedges = self.old.hyperedges ++ hyperedge the_map key value ∷ [];
+          room = record self.old.room { mappings = self.new.room.mappings };
+        }) }
+        ensures room { TakesRoom 256 (length self.old.hyperedges + 1) self.old.room.mappings self.new.room.mappings }
         ensures err { OnErr result (self.new ≡ self.old) }
     {
         u32::try_from(self.mappings.len()).map_err(|_| NoMemory)?;
@@ -382,6 +395,8 @@ fn chain_members(
         (λ node. hyperedges mappings.old.items ++ hyperedge the_map key value ∷ []) mappings.new.items }
     ensures nodes { but_mappings nodes.new.nodes ≡ but_mappings nodes.old.nodes }
     ensures blacks { nodes.new.blacks ≡ nodes.old.blacks }
+    ensures node_room { nodes.new.node_room ≡ nodes.old.node_room }
+    ensures black_room { nodes.new.black_room ≡ nodes.old.black_room }
     ensures shown { hyperedges mappings.new.items ≡ hyperedges mappings.old.items }
     ensures room { mappings.new.capacity ≡ mappings.old.capacity }
 {

@@ -24,6 +24,3 @@ mod numbers;
 mod reference;
 
 pub use graph::Graph;
-
-#[cfg(test)]
-mod tests;

@@ -3,6 +3,7 @@
 ghost use Rattle.std.specs.Prelude.{◌≡◌, ◌+◌, ◌<◌, ◌≤◌, ◌^◌, ◌==◌, ◌++◌, [], ◌∷◌, length, slice_get, slice_index_or, slice_set, ℕ, ◌↔◌, false, None, IsTrue, unwrap_or, IfOk, IfSome, OnErr, OnOk};
 ghost use Rattle.cc_lists.specs.Members.{has};
 ghost use Rattle.cc_graph.specs.Shown.{number_of};
+ghost use Rattle.cc_graph.specs.Rooms.{HasRoom, TakesRoom};
 ghost use Rattle.cc_graph.specs.Kept.{vertices, with_black_node, with_node};
 
 use crate::node::Node;
@@ -46,12 +47,12 @@ impl Nodes {
         }
     }
 
-    /// No node any more. There is room for as many as there were.
+    /// No node any more. There is room for as many as there were, and for less than a block more.
     pub(crate) fn clear(&mut self)
         ensures nodes { self.new.nodes ≡ [] }
         ensures blacks { self.new.blacks ≡ [] }
-        ensures node_room { length self.old.nodes ≤ self.new.node_room }
-        ensures black_room { length self.old.blacks ≤ self.new.black_room }
+        ensures node_room { HasRoom 256 (length self.old.nodes) self.new.node_room }
+        ensures black_room { HasRoom 256 (length self.old.blacks) self.new.black_room }
     {
         self.nodes.clear();
         self.blacks.clear();
@@ -60,13 +61,15 @@ impl Nodes {
 
     /// The number of the node of a name, which goes last where there is none: its number is then how many there were.
     ///
-    /// `NoMemory`, only where there is none, leaves the nodes as they were.
+    /// `NoMemory`, only where there is none, leaves everything as it was.
     pub(crate) fn add(&mut self, name: Name, held: Held) -> Result<u32, NoMemory>
         requires few { length self.old.nodes < 4294967295 }
         ensures nodes { OnOk result (self.new.nodes ≡ with_node self.old.nodes name held) }
         ensures number { IfOk result (λ i. i ≡ unwrap_or (number_of (vertices self.old.nodes) name) (length self.old.nodes)) }
         ensures blacks { self.new.blacks ≡ self.old.blacks }
-        ensures err { OnErr result (self.new.nodes ≡ self.old.nodes) }
+        ensures node_room { TakesRoom 256 (length self.old.nodes + 1) self.old.node_room self.new.node_room }
+        ensures black_room { TakesRoom 256 (length self.old.nodes + 1) self.old.black_room self.new.black_room }
+        ensures err { OnErr result (self.new ≡ self.old) }
         ensures absent { OnErr result (number_of (vertices self.old.nodes) name ≡ None) }
     {
         let count = self.nodes.len() as u32;
@@ -147,15 +150,23 @@ impl Nodes {
     }
 }
 
-/// Room for one more node, and for all to become black.
+/// Room for one more node, and for all to become black. Where it is not to be had the room is what it was.
 fn reserve_one(nodes: &mut Pool<Node, 256>, blacks: &mut Pool<u32, 256>) -> Result<(), NoMemory>
     requires { length blacks.old.items ≤ length nodes.old.items }
     ensures nodes { nodes.new.items ≡ nodes.old.items }
     ensures blacks { blacks.new.items ≡ blacks.old.items }
     ensures node_room { OnOk result (length nodes.old.items + 1 ≤ nodes.new.capacity) }
     ensures black_room { OnOk result (length nodes.old.items + 1 ≤ blacks.new.capacity) }
-    ensures kept { blacks.old.capacity ≤ blacks.new.capacity }
+    ensures nodes_taken { TakesRoom 256 (length nodes.old.items + 1) nodes.old.capacity nodes.new.capacity }
+    ensures blacks_taken { TakesRoom 256 (length nodes.old.items + 1) blacks.old.capacity blacks.new.capacity }
+    ensures node_refused { OnErr result (nodes.new.capacity ≡ nodes.old.capacity) }
+    ensures black_refused { OnErr result (blacks.new.capacity ≡ blacks.old.capacity) }
 {
+    let had = nodes.capacity();
     nodes.reserve(1)?;
-    blacks.reserve(nodes.len() + 1 - blacks.len())
+    let refused = blacks.reserve(nodes.len() + 1 - blacks.len());
+    if refused.is_err() {
+        nodes.shrink_to(had);
+    }
+    refused
 }

@@ -1,12 +1,15 @@
 -- Blocks that are emptied, and those that stay.
-use Rattle.std.proofs.Common.{◌≡◌, ℕ, ◌+◌, ◌-◌, ◌*◌, ◌/◌, ◌%◌, ◌<◌, ◌≤◌, zero, suc, List, [], ◌∷◌, length, get_or, set, take, refl, sym, ◌∙◌, ap, subst, arith, ⊎_elim}
+use Rattle.std.proofs.Common.{◌≡◌, ℕ, ◌+◌, ◌-◌, ◌*◌, ◌/◌, ◌%◌, ◌<◌, ◌≤◌, zero, suc, List, [], ◌∷◌, ◌++◌, length, get_or, set, take, refl, sym, ◌∙◌, ap, subst, arith, ⊎_elim}
 use Rattle.std.specs.Prelude.{min, Vec, vec_capacity}
 use Rattle.std.specs.Int.{div_ceil}
-use Rattle.std.proofs.Math.Nat.{mul-suc, lt_of_mul-lt-mul_left}
+use Rattle.std.proofs.Math.Nat.{mul-suc, mul-div_cancel_left, lt_of_mul-lt-mul_left}
+use Rattle.std.proofs.Math.Seq.{take-nil}
 use Rattle.std.proofs.lemmas.List.{length-set, length-take-le, get_or-take, get_or-set_same, get_or-set_other}
 use Rattle.std.proofs.lemmas.Bool.Decides.{eqb_tells}
-use Rattle.cc_pool.specs.Blocks.{AreBlocks, IsPooled, AreEmptied, AreEmptiedTo}
-use Rattle.cc_pool.proofs.Filling.{blocks-fit, block-room}
+use Rattle.cc_pool.specs.Pooled.{Pooled}
+use Rattle.cc_pool.specs.Blocks.{joined, AreBlocks, IsPooled, AreEmptied, AreEmptiedTo}
+use Rattle.cc_pool.proofs.Filling.{blocks-fit, blocks-none, block-room}
+use Rattle.cc_pool.proofs.Places.{pooled}
 
 -- none yet
 pub emptied-none : {X Z : Type 0} (bs : List (Vec X Z)) → AreEmptiedTo 0 bs bs
@@ -50,7 +53,7 @@ blocks-empty size (b ∷ cs) empty room =
     )
 
 -- there is room for as many times the size as there are blocks
-blocks-room : {X Z : Type 0} (size n c : ℕ) (bs : List (Vec X Z)) → AreBlocks size n c bs → c ≡ size * length bs
+pub blocks-room : {X Z : Type 0} (size n c : ℕ) (bs : List (Vec X Z)) → AreBlocks size n c bs → c ≡ size * length bs
 blocks-room size n c [] h = omega (arith, h.1)
 blocks-room size n c (b ∷ bs) h =
     let rest : c - size ≡ size * length bs = blocks-room size (n - size) (c - size) bs h.1.1 in
@@ -117,3 +120,48 @@ pooled-emptied size n c bs cs w e =
           e.room k d (omega (arith, l, e.as_many)) ∙ (ap vec_capacity (get_or-take (div_ceil n size) bs k d below) ∙ block-room size n c k d bs w.blocks (omega (arith, below, inside)))));
       small = omega (arith, fits, w.small);
     }
+
+-- THE FIRST BLOCKS, in which all values stand
+
+pub blocks-taken : {X Z : Type 0} (size n c k : ℕ) (bs : List (Vec X Z)) → AreBlocks size n c bs → n ≤ size * k → size * k ≤ c → AreBlocks size n (size * k) (take k bs)
+blocks-taken size n c k [] h enough within = subst (λ cs. AreBlocks size n (size * k) cs) (sym (take-nil k)) (h.0, omega (arith, h.1, within))
+blocks-taken size n c zero (b ∷ bs) h enough within = let none : size * zero ≡ 0 = omega arith in (omega (arith, enough, none), none)
+blocks-taken size n c (suc k) (b ∷ bs) h enough within =
+    let step : size * suc k ≡ size * k + size = mul-suc size k in
+    let less : size * k ≡ size * suc k - size = omega (arith, step) in (
+      h.0,
+      (
+        omega (arith, step),
+        subst (λ z. AreBlocks size (n - size) z (take k bs)) less
+            (blocks-taken size (n - size) (c - size) k bs h.1.1 (omega (arith, step, enough)) (omega (arith, step, within))),
+      ),
+    )
+
+pub joined-taken : {X Z : Type 0} (size n c k : ℕ) (bs : List (Vec X Z)) → AreBlocks size n c bs → n ≤ size * k → joined (take k bs) ≡ joined bs
+joined-taken size n c k [] h enough = ap joined (take-nil k)
+joined-taken size n c zero (b ∷ bs) h enough =
+    let none : n ≡ 0 = let zeros : size * zero ≡ 0 = omega arith in omega (arith, enough, zeros) in
+    sym (blocks-none size c (b ∷ bs) (subst (λ z. AreBlocks size z c (b ∷ bs)) none h))
+joined-taken size n c (suc k) (b ∷ bs) h enough =
+    let step : size * suc k ≡ size * k + size = mul-suc size k in
+    ap (λ z. b.items ++ z) (joined-taken size (n - size) (c - size) k bs h.1.1 (omega (arith, step, enough)))
+
+-- the block of a place that is a number of whole blocks
+pub whole-blocks : (size c k : ℕ) → 0 < size → c ≡ size * k → c / size ≡ k
+whole-blocks size c k positive e = ap (λ z. z / size) e ∙ mul-div_cancel_left k positive
+
+pub pooled-taken : {X Z : Type 0} (size n c d k : ℕ) (bs : List (Vec X Z)) → IsPooled size n c bs → d ≡ size * k → n ≤ d → d ≤ c → IsPooled size n d (take (d / size) bs)
+pooled-taken size n c d k bs w e enough within =
+    subst (λ z. IsPooled size n d (take z bs)) (sym (whole-blocks size d k w.positive e))
+    (record {
+      positive = w.positive;
+      blocks = subst (λ z. AreBlocks size n z (take k bs)) (sym e) (blocks-taken size n c k bs w.blocks (omega (arith, e, enough)) (omega (arith, e, within)));
+      small = omega (arith, w.small, within);
+    })
+
+pub shown-taken : {X Z : Type 0} {q : ℕ} (size n c d k : ℕ) (bs : List (Vec X Z)) (p : Pooled X) → IsPooled size n c bs → d ≡ size * k → n ≤ d →
+    ◌≡◌ {A = Pooled X} (record { items = joined bs; capacity = c; places = q }) p →
+    ◌≡◌ {A = Pooled X} (record { items = joined (take (d / size) bs); capacity = d; places = q }) (record p { capacity = d })
+shown-taken {X} {q = q} size n c d k bs p w e enough shown =
+    pooled _ _ d q (ap (λ z. joined (take z bs)) (whole-blocks size d k w.positive e) ∙ joined-taken size n c k bs w.blocks (omega (arith, e, enough)))
+    ∙ ap {A = Pooled X} {B = Pooled X} (λ r. record r { capacity = d }) shown

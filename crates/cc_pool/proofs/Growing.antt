@@ -1,7 +1,8 @@
 -- Blocks that are added, one after another.
-use Rattle.std.proofs.Common.{◌≡◌, ℕ, ◌+◌, ◌*◌, List, [], ◌∷◌, ◌++◌, length, take, refl, sym, ◌∙◌, ap, subst, arith, add-one}
+use Rattle.std.proofs.Common.{◌≡◌, ⊎_elim, ℕ, ◌+◌, ◌-◌, ◌*◌, ◌/◌, ◌%◌, ◌<◌, ◌≤◌, max, List, [], ◌∷◌, ◌++◌, length, take, refl, sym, ◌∙◌, ap, subst, arith, add-one}
 use Rattle.std.specs.Prelude.{Vec, Result, Ok, Err, OnOk, is_err, false}
-use Rattle.std.proofs.Math.Nat.{mul-suc}
+use Rattle.std.proofs.Math.Nat.{mul-suc, mul-le-mul_left}
+use Rattle.std.proofs.lemmas.Bool.{cases_lt}
 use Rattle.std.proofs.lemmas.List.{length_push, take-append-le, take_all}
 use Rattle.cc_pool.specs.Blocks.{joined, AreBlocks, HasMore, HasOneMore}
 use Rattle.cc_pool.proofs.Filling.{blocks-added, joined-added}
@@ -31,3 +32,24 @@ more-added size count bs cs ds h one = record {
       let step : size * (count + 1) ≡ size * count + size = ap (λ z. size * z) (add-one count) ∙ mul-suc size count in
       subst (λ z. AreBlocks size n z ds) (omega (arith, step)) (subst (AreBlocks size n (c + size * count + size)) (sym one.last) added);
 }
+
+-- HOW MUCH IS TAKEN
+
+-- so many blocks as are wanted have room for less than a block more than is wanted
+pub few-blocks : (size wanted : ℕ) → 0 < size → 0 < wanted → size * ((wanted - 1) / size + 1) < wanted + size
+few-blocks size wanted positive some =
+    let split : size * ((wanted - 1) / size) + (wanted - 1) % size ≡ wanted - 1 = omega (arith, positive) in
+    let step : size * ((wanted - 1) / size + 1) ≡ size * ((wanted - 1) / size) + size = ap (λ z. size * z) (add-one ((wanted - 1) / size)) ∙ mul-suc size ((wanted - 1) / size) in
+    omega (arith, split, step, some)
+
+-- and the places that are taken for them are no more than for twice as many
+pub few-places : (size old new had count capacity all : ℕ) → new ≤ max old (had + max count had) → capacity ≡ size * had → capacity + size * count < all →
+    size * new ≤ max (size * old) (2 * all)
+few-places size old new had count capacity all bound room below = ⊎_elim
+    (λ (more : old < new).
+    let few : new ≤ had + had + (count + count) = omega (arith, bound, more) in
+    let fewer : size * new ≤ size * (had + had + (count + count)) = mul-le-mul_left size few in
+    let twice : size * (had + had + (count + count)) ≡ size * had + size * had + (size * count + size * count) = omega arith in
+    omega (arith, fewer, twice, room, below))
+    (λ (less : new ≤ old). let fewer : size * new ≤ size * old = mul-le-mul_left size less in omega (arith, fewer))
+    (cases_lt old new)

@@ -14,12 +14,12 @@ below : (size i : ℕ) → 0 < size → i % size < size
 below size i positive = omega arith
 
 -- pools with the same values
-pub pooled : {X : Type 0} (xs ys : List X) (c : ℕ) → xs ≡ ys → ◌≡◌ {A = Pooled X} (record { items = xs; capacity = c }) (record { items = ys; capacity = c })
-pooled xs ys c e = rw e refl
+pub pooled : {X : Type 0} (xs ys : List X) (c q : ℕ) → xs ≡ ys → ◌≡◌ {A = Pooled X} (record { items = xs; capacity = c; places = q }) (record { items = ys; capacity = c; places = q })
+pooled xs ys c q e = rw e refl
 
 -- how many there are
-pub counted : {X Z : Type 0} (size n c : ℕ) (bs : List (Vec X Z)) (p : Pooled X) → IsPooled size n c bs →
-    ◌≡◌ {A = Pooled X} (record { items = joined bs; capacity = c }) p → n ≡ length p.items
+pub counted : {X Z : Type 0} {q : ℕ} (size n c : ℕ) (bs : List (Vec X Z)) (p : Pooled X) → IsPooled size n c bs →
+    ◌≡◌ {A = Pooled X} (record { items = joined bs; capacity = c; places = q }) p → n ≡ length p.items
 counted size n c bs p w shown = sym (length-joined size n c bs w.blocks) ∙ ap (λ q. length q.items) shown
 
 -- a place for which there is room has its block
@@ -38,8 +38,8 @@ place-there size n c i bs d w l here =
     omega (arith, moved, d.ok.0)
 
 -- and is read there
-pub read : {X Z : Type 0} (size n c i : ℕ) (bs : List (Vec X Z)) (d : Vec X Z) (x : X) (p : Pooled X) → IsPooled size n c bs →
-    ◌≡◌ {A = Pooled X} (record { items = joined bs; capacity = c }) p → i < n → d ≡ get_or bs (i / size) d → x ≡ get_or d.items (i % size) x →
+pub read : {X Z : Type 0} {q : ℕ} (size n c i : ℕ) (bs : List (Vec X Z)) (d : Vec X Z) (x : X) (p : Pooled X) → IsPooled size n c bs →
+    ◌≡◌ {A = Pooled X} (record { items = joined bs; capacity = c; places = q }) p → i < n → d ≡ get_or bs (i / size) d → x ≡ get_or d.items (i % size) x →
     x ≡ get_or p.items i x
 read size n c i bs d x p w shown l here found =
     found
@@ -61,11 +61,11 @@ pooled-written size n c i bs d y x w l here written room = record {
   small = w.small;
 }
 
-pub shown-written : {X Z : Type 0} (size n c i : ℕ) (bs : List (Vec X Z)) (d y : Vec X Z) (x : X) (p : Pooled X) → IsPooled size n c bs →
-    ◌≡◌ {A = Pooled X} (record { items = joined bs; capacity = c }) p → i < n → d ≡ get_or bs (i / size) d → y.items ≡ set d.items (i % size) x →
-    ◌≡◌ {A = Pooled X} (record { items = joined (set bs (i / size) y); capacity = c }) (record p { items = set p.items i x })
-shown-written {X} size n c i bs d y x p w shown l here written =
-    pooled _ _ c (joined-written size n c i (i / size) (i % size) d y x bs w.blocks (split size i w.positive) (below size i w.positive) l
+pub shown-written : {X Z : Type 0} {q : ℕ} (size n c i : ℕ) (bs : List (Vec X Z)) (d y : Vec X Z) (x : X) (p : Pooled X) → IsPooled size n c bs →
+    ◌≡◌ {A = Pooled X} (record { items = joined bs; capacity = c; places = q }) p → i < n → d ≡ get_or bs (i / size) d → y.items ≡ set d.items (i % size) x →
+    ◌≡◌ {A = Pooled X} (record { items = joined (set bs (i / size) y); capacity = c; places = q }) (record p { items = set p.items i x })
+shown-written {X} {q = q} size n c i bs d y x p w shown l here written =
+    pooled _ _ c q (joined-written size n c i (i / size) (i % size) d y x bs w.blocks (split size i w.positive) (below size i w.positive) l
     (written ∙ ap (λ b. set b.items (i % size) x) here))
     ∙ ap {A = Pooled X} {B = Pooled X} (λ q. record q { items = set q.items i x }) shown
 
@@ -89,10 +89,10 @@ pooled-pushed size n c bs d y x w l here pushed room = record {
   small = w.small;
 }
 
-pub shown-pushed : {X Z : Type 0} (size n c : ℕ) (bs : List (Vec X Z)) (d y : Vec X Z) (x : X) (p : Pooled X) → IsPooled size n c bs →
-    ◌≡◌ {A = Pooled X} (record { items = joined bs; capacity = c }) p → n < c → d ≡ get_or bs (n / size) d → y.items ≡ d.items ++ x ∷ [] →
-    ◌≡◌ {A = Pooled X} (record { items = joined (set bs (n / size) y); capacity = c }) (record p { items = p.items ++ x ∷ [] })
-shown-pushed {X} size n c bs d y x p w shown l here pushed =
-    pooled _ _ c (joined-pushed size n c (n / size) (n % size) d y x bs w.blocks (split size n w.positive) (below size n w.positive) l
+pub shown-pushed : {X Z : Type 0} {q : ℕ} (size n c : ℕ) (bs : List (Vec X Z)) (d y : Vec X Z) (x : X) (p : Pooled X) → IsPooled size n c bs →
+    ◌≡◌ {A = Pooled X} (record { items = joined bs; capacity = c; places = q }) p → n < c → d ≡ get_or bs (n / size) d → y.items ≡ d.items ++ x ∷ [] →
+    ◌≡◌ {A = Pooled X} (record { items = joined (set bs (n / size) y); capacity = c; places = q }) (record p { items = p.items ++ x ∷ [] })
+shown-pushed {X} {q = q} size n c bs d y x p w shown l here pushed =
+    pooled _ _ c q (joined-pushed size n c (n / size) (n % size) d y x bs w.blocks (split size n w.positive) (below size n w.positive) l
     (pushed ∙ ap (λ b. b.items ++ x ∷ []) here))
     ∙ ap {A = Pooled X} {B = Pooled X} (λ q. record q { items = q.items ++ x ∷ [] }) shown

@@ -1,6 +1,6 @@
 //! The pool: values by place, in blocks.
 
-ghost use Rattle.std.specs.Prelude.{◌≡◌, ◌+◌, ◌<◌, ◌≤◌, ◌^◌, ◌==◌, ◌++◌, [], ◌∷◌, length, slice_index_or, slice_set, IsOk, OnErr, OnOk};
+ghost use Rattle.std.specs.Prelude.{◌≡◌, ℕ, ◌+◌, ◌*◌, ◌<◌, ◌≤◌, ◌^◌, ◌==◌, ◌++◌, [], ◌∷◌, length, max, slice_index_or, slice_set, vec_capacity, vec_len, IsOk, OnErr, OnOk};
 ghost use Rattle.cc_pool.specs.Blocks.{AreEmptied, HasMore, HasOneMore};
 
 use cc_names::NoMemory;
@@ -20,6 +20,7 @@ pub struct Pool<T, const N: usize> {
 }
 
 impl<T, const N: usize> Model for Pool<T, N> {
+    ghost use Rattle.std.specs.Prelude.{vec_capacity};
     ghost use Rattle.cc_pool.specs.Pooled.{Pooled, pooled_code};
 
     ghost Value = { Pooled T };
@@ -28,16 +29,16 @@ impl<T, const N: usize> Model for Pool<T, N> {
 
     ghost use Rattle.cc_pool.specs.Blocks.{joined, IsPooled};
 
-    ghost view = { λ p. record { items = joined p.blocks.items; capacity = p.capacity } };
+    ghost view = { λ p. record { items = joined p.blocks.items; capacity = p.capacity; places = vec_capacity p.blocks } };
 
     ghost invariant = { λ p. IsPooled N p.len p.capacity p.blocks.items };
 }
 
 impl<T: Drop, const N: usize> Pool<T, N> {
-    /// A pool with no value, and room for none.
+    /// A pool with no value, and room for none. Takes no memory.
     pub fn new(alloc: Global) -> Pool<T, N>
         requires { 0 < N }
-        ensures { result ≡ record { items = []; capacity = 0 } }
+        ensures { result ≡ record { items = []; capacity = 0; places = 0 } }
     {
         Pool {
             blocks: Vec::new(alloc),
@@ -55,6 +56,14 @@ impl<T: Drop, const N: usize> Pool<T, N> {
         self.len
     }
 
+    /// How many values there is room for.
+    pub fn capacity(&self) -> usize
+        ensures value { result ≡ self.now.capacity }
+        ensures whole { (blocks : ℕ) × (result ≡ N * blocks) }
+    {
+        self.capacity
+    }
+
     /// Whether there is no value.
     pub fn is_empty(&self) -> bool
         ensures { result ≡ (length self.now.items == 0) }
@@ -62,9 +71,10 @@ impl<T: Drop, const N: usize> Pool<T, N> {
         self.len == 0
     }
 
-    /// Room for `additional` more values, in whole blocks.
+    /// Room for `additional` more values, in whole blocks: it takes no block more than that needs.
     ///
-    /// `NoMemory` where one of them is not to be had; the room is then what it was.
+    /// `NoMemory` where one of them is not to be had; the room is then what it was, but for places in the list of blocks,
+    /// of which there are never more than for twice the values that were asked for, and two.
     pub fn reserve(&mut self, additional: usize) -> Result<(), NoMemory>
         ensures items { self.new.items ≡ self.old.items }
         ensures room { OnOk result (length self.new.items + additional ≤ self.new.capacity) }
@@ -72,7 +82,9 @@ impl<T: Drop, const N: usize> Pool<T, N> {
         ensures kept { self.old.capacity ≤ self.new.capacity }
         ensures no_need { length self.old.items + additional ≤ self.old.capacity → IsOk result }
         ensures had_room { length self.old.items + additional ≤ self.old.capacity → self.new ≡ self.old }
-        ensures err { OnErr result (self.new ≡ self.old) }
+        ensures bounded { self.new.capacity < max (self.old.capacity + 1) (length self.old.items + additional + N) }
+        ensures places { N * self.new.places ≤ max (N * self.old.places) (2 * (length self.old.items + additional + N)) }
+        ensures err { OnErr result (self.new ≡ record self.old { places = self.new.places }) }
     {
         let spare = self.capacity - self.len;
         if additional <= spare {
@@ -84,6 +96,17 @@ impl<T: Drop, const N: usize> Pool<T, N> {
         add_blocks::<T, N>(&mut self.blocks, count)?;
         self.capacity = capacity;
         Ok(())
+    }
+
+    /// Room for `capacity` values, which is that of whole blocks, in place of more: the blocks behind are given back.
+    pub fn shrink_to(&mut self, capacity: usize)
+        requires whole { (blocks : ℕ) × (capacity ≡ N * blocks) }
+        requires enough { length self.old.items ≤ capacity }
+        requires within { capacity ≤ self.old.capacity }
+        ensures { self.new ≡ record self.old { capacity = capacity } }
+    {
+        self.blocks.truncate(capacity / N);
+        self.capacity = capacity;
     }
 
     /// A value goes last. Takes no memory (`reserve` took it).
@@ -101,6 +124,7 @@ impl<T: Drop, const N: usize> Pool<T, N> {
         ensures items { self.new.items ≡ [] }
         ensures room { length self.old.items ≤ self.new.capacity }
         ensures given_back { self.new.capacity < length self.old.items + N }
+        ensures places { self.new.places ≡ self.old.places }
     {
         let used = self.len.div_ceil(N);
         self.blocks.truncate(used);
@@ -132,8 +156,10 @@ fn add_blocks<T: Drop, const N: usize>(
     count: usize,
 ) -> Result<(), NoMemory>
     ensures added { OnOk result (HasMore N count blocks.old.items blocks.new.items) }
+    ensures places { vec_capacity blocks.new ≤ max (vec_capacity blocks.old) (length blocks.old.items + max count (length blocks.old.items)) }
     ensures err { OnErr result (blocks.new.items ≡ blocks.old.items) }
 {
+    add_places(blocks, count)?;
     let had = blocks.len();
     for _ in 0..count {
         if add_block::<T, N>(blocks).is_err() {
@@ -144,12 +170,26 @@ fn add_blocks<T: Drop, const N: usize>(
     Ok(())
 }
 
+// Places in the list for so many more blocks. Where there are too few, it is given as many as there are blocks, at least:
+// so it is moved seldom.
+fn add_places<T>(blocks: &mut Vec<Vec<T>>, count: usize) -> Result<(), NoMemory>
+    ensures items { blocks.new.items ≡ blocks.old.items }
+    ensures room { OnOk result (length blocks.new.items + count ≤ vec_capacity blocks.new) }
+    ensures bounded { vec_capacity blocks.new ≤ max (vec_capacity blocks.old) (length blocks.old.items + max count (length blocks.old.items)) }
+{
+    if count > blocks.capacity() - blocks.len() {
+        blocks.reserve_exact(count.max(blocks.len()))?;
+    }
+    Ok(())
+}
+
 // One more block, which is empty, in its place in the list.
 fn add_block<T, const N: usize>(blocks: &mut Vec<Vec<T>>) -> Result<(), NoMemory>
+    requires { length blocks.old.items < vec_capacity blocks.old }
     ensures added { OnOk result (HasOneMore N blocks.old.items blocks.new.items) }
+    ensures places { vec_capacity blocks.new ≡ vec_capacity blocks.old }
     ensures err { OnErr result (blocks.new.items ≡ blocks.old.items) }
 {
-    blocks.reserve(1)?;
     let block = Vec::with_capacity(*blocks.allocator(), N)?;
     blocks.push_reserved(block);
     Ok(())
@@ -157,7 +197,8 @@ fn add_block<T, const N: usize>(blocks: &mut Vec<Vec<T>>) -> Result<(), NoMemory
 
 // The blocks, in which nothing stands any more.
 fn empty<T: Drop>(blocks: &mut Vec<Vec<T>>)
-    ensures { AreEmptied blocks.old.items blocks.new.items }
+    ensures emptied { AreEmptied blocks.old.items blocks.new.items }
+    ensures places { vec_capacity blocks.new ≡ vec_capacity blocks.old }
 {
     for i in 0..blocks.len() {
         blocks[i].clear();

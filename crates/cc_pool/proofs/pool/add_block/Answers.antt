@@ -1,4 +1,3 @@
-use Rattle.std.proofs.Common.{◌++◌, ◌∷◌, [], ap, ◌∙◌}
 use Rattle.cc_pool.proofs.pool.add_block.Goals as goal
 
 pub returns-clause-added : goal.returns-clause-added
@@ -6,5 +5,5 @@ returns-clause-added g c = record {
   block = c.in_ok-block.block;
   empty = c.in_ok-block.ensures.items;
   room = c.in_ok-block.ensures.exact;
-  last = c.push_reserved.ensures.items ∙ ap (λ z. z ++ c.in_ok-block.block ∷ []) c.reserve.ensures.items;
+  last = c.push_reserved.ensures.items;
 }

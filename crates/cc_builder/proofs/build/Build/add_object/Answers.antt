@@ -21,7 +21,7 @@ returns-clause-built c =
 pub returns-clause-held : goal.returns-clause-held
 returns-clause-held c =
     let e = c.in_ok-node.ensures in
-    IsAdded-held c.args.heaps.now {object = c.args.object} c.self.view_is c.requires.held c.requires.order c.requires.there
+    IsAdded-held c.args.heaps.now {object = c.args.object} {g = c.add_node.new.self} c.self.view_is c.requires.held c.requires.order c.requires.there
     (record { nodes = e.nodes ∙ ap (λ x. with_vertex c.self.inside.graph.nodes x c.args.object) c.name_of-name.ensures; edges = e.edges; hyperedges = e.hyperedges; blacks = e.blacks; spare = e.spare })
 
 pub returns-in_err-node-clause-held : goal.returns-in_err-node-clause-held

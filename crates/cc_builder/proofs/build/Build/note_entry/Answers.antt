@@ -1,4 +1,4 @@
-use Rattle.std.proofs.Common.{◌≡◌, [], ◌∷◌, ◌++◌, map, length, Some, sym, ◌∙◌, ap, subst}
+use Rattle.std.proofs.Common.{◌≡◌, ℕ, [], ◌∷◌, ◌++◌, map, length, Some, sym, ◌∙◌, ap, subst}
 use Rattle.cc_weakmaps.specs.Entries.{entry}
 use Rattle.cc_model.specs.Entries.{Entry}
 use Rattle.cc_counted.specs.declared.held.Held.TheVariants as held
@@ -68,9 +68,10 @@ returns-clause-built c =
     let within : IsHyperedgeWithin (length c.add_object.new.self.graph.nodes) m =
     entry-within v.heap (the_entry c) c.args.self.now.graph.nodes c.add_gray.new.self.graph.nodes c.add_gray-2.new.self.graph.nodes c.add_object.new.self.graph.nodes
     c.in_ok-the_map.the_map c.in_ok-key.key c.in_ok-value.value (map-added c) (key-added c) (value-added c) in
-    let built : IsBuilt (with_mapping c.add_object.new.self m) v = IsBuilt-mapping c.add_object.new.self v m c.in_ok-value.ensures.built within in
+    let mappings : ℕ = c.note_mapping.new.self.room.mappings in
+    let built : IsBuilt (with_mapping c.add_object.new.self m mappings) v = IsBuilt-mapping c.add_object.new.self v m mappings c.in_ok-value.ensures.built within in
     subst (λ g. IsBuilt (built_of g c.self.inside.candidates c.self.inside.next) v) (sym c.in_ok-note_mapping.ensures.noted)
-    (subst (λ b. IsBuilt (with_mapping b m) v) (sym c.self.view_is) built)
+    (subst (λ b. IsBuilt (with_mapping b m mappings) v) (sym c.self.view_is) built)
 
 pub returns-clause-held : goal.returns-clause-held
 returns-clause-held c =

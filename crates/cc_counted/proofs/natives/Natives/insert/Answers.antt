@@ -31,7 +31,7 @@ returns-clause-inserts c =
     let made = c.insert_reserved-key.ensures in
     let P : List (Option Held) → Type 0 = λ slots. Inserts c.args.self.now.lists (lists_of (inserted n c.push_back.new.store c.push_back.new.self)) c.insert_reserved-key.result
     (record { number = c.args.no.0; slots = slots; preserved = false; reflector = None; count = 1 }) in
-    subst P c.in_ok-empty.ensures
+    subst P c.in_ok-empty.ensures.items
     (inserts n c.self.invariant c.reserve.new.self c.insert_reserved-key.new.self c.reserve.ensures.rest_kept c.insert_reserved-key.result _
     made.was_vacant made.updates.changed made.updates.others c.push_back.new.store c.push_back.new.self c.push_back.ensures.rest
     (c.push_back.ensures.keys (lists_of n).order (order-inserted n c.self.invariant c.reserve.new.self c.insert_reserved-key.new.self c.reserve.ensures.rest_kept c.insert_reserved-key.result _

@@ -13,4 +13,4 @@ returns-clause-within c =
     (subst (λ n. IfSome (slice_get c.self.inside.nodes.blacks c.args.i) (λ k. k < n)) count within)
 
 pub returns-clause-closed : goal.returns-clause-closed
-returns-clause-closed c = subst IsClosed c.self.view_is (whole-closed _ _ _ _ _ _ c.self.invariant)
+returns-clause-closed c = subst IsClosed c.self.view_is (whole-closed _ _ _ _ _ c.self.invariant)

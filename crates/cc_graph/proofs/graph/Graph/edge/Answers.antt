@@ -8,7 +8,7 @@ use Rattle.cc_graph.proofs.Whole.{each-read, edge-at, length-edges, whole-closed
 use Rattle.cc_graph.proofs.graph.Graph.edge.Goals as goal
 
 pub returns-then-j-len-clause-closed : goal.returns-then-j-len-clause-closed
-returns-then-j-len-clause-closed c = subst IsClosed c.self.view_is (whole-closed _ _ _ _ _ _ c.self.invariant)
+returns-then-j-len-clause-closed c = subst IsClosed c.self.view_is (whole-closed _ _ _ _ _ c.self.invariant)
 
 pub returns-clause-value : goal.returns-clause-value
 returns-clause-value c =
@@ -36,4 +36,4 @@ returns-clause-target_within c =
     omega (arith, within, here, count, length-vertices c.self.inside.nodes.nodes)
 
 pub returns-clause-closed : goal.returns-clause-closed
-returns-clause-closed c = subst IsClosed c.self.view_is (whole-closed _ _ _ _ _ _ c.self.invariant)
+returns-clause-closed c = subst IsClosed c.self.view_is (whole-closed _ _ _ _ _ c.self.invariant)

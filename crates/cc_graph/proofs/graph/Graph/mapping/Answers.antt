@@ -9,7 +9,7 @@ use Rattle.cc_graph.proofs.Whole.{mapping-at, mapping-within, whole-closed}
 use Rattle.cc_graph.proofs.graph.Graph.mapping.Goals as goal
 
 pub returns-then-j-len-clause-closed : goal.returns-then-j-len-clause-closed
-returns-then-j-len-clause-closed c = subst IsClosed c.self.view_is (whole-closed _ _ _ _ _ _ c.self.invariant)
+returns-then-j-len-clause-closed c = subst IsClosed c.self.view_is (whole-closed _ _ _ _ _ c.self.invariant)
 
 pub returns-clause-value : goal.returns-clause-value
 returns-clause-value c =
@@ -37,4 +37,4 @@ returns-clause-value_within c =
     rw (← count) (mapping-within c.self.inside.mappings.items (length c.self.inside.nodes.nodes) c.args.j c.at-mapping.result.now c.self.invariant.mapped inside c.at-mapping.ensures).value
 
 pub returns-clause-closed : goal.returns-clause-closed
-returns-clause-closed c = subst IsClosed c.self.view_is (whole-closed _ _ _ _ _ _ c.self.invariant)
+returns-clause-closed c = subst IsClosed c.self.view_is (whole-closed _ _ _ _ _ c.self.invariant)

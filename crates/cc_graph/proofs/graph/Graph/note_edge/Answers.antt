@@ -4,7 +4,7 @@ use Rattle.std.proofs.lemmas.List.{length_push}
 use Rattle.cc_graph.specs.Shown.{Shown}
 use Rattle.cc_graph.specs.Kept.{with_reference, with_next, vertex_of, vertices, edges}
 use Rattle.cc_graph.proofs.Numbering.{length-vertices}
-use Rattle.cc_graph.proofs.Whole.{shown-same, vertices-noted, edges-noted, length-with_next, whole-noted}
+use Rattle.cc_graph.proofs.Whole.{rooms-same, shown-same, vertices-noted, edges-noted, length-with_next, whole-noted}
 use Rattle.cc_graph.proofs.graph.Graph.note_edge.Goals as goal
 
 pub invariant_of-self : goal.invariant_of-self
@@ -40,7 +40,8 @@ returns c =
     let longer : length c.push.new.self.items ≡ length c.self.inside.references.items + 1 =
     ap length references ∙ (length_push (with_next c.self.inside.references.items c.at-source.result.references.last c.len-place.result) (record { source = c.args.from; target = c.args.to; next = None })
     ∙ ap (λ n. n + 1) (length-with_next c.self.inside.references.items c.at-source.result.references.last c.len-place.result)) in
-    shown-same _ _ _ _ _ _ _ _ _ (ap vertices nodes ∙ kept)
+    shown-same _ _ _ _ _ _ _ _ _ _ _ (ap vertices nodes ∙ kept)
     (ap edges references ∙ edges-noted c.self.inside.references.items c.at-source.result.references.last c.len-place.result (record { source = c.args.from; target = c.args.to; next = None }))
     blacks (omega (arith, room, longer))
+    (rooms-same _ _ _ _ _ (ap (λ n. n.node_room) c.put-2.ensures ∙ ap (λ n. n.node_room) c.put.ensures) (ap (λ n. n.black_room) c.put-2.ensures ∙ ap (λ n. n.black_room) c.put.ensures))
     ∙ ap {A = Shown} {B = Shown} (λ v. record v { edges = v.edges ++ record { source = c.args.from; target = c.args.to } ∷ []; spare = v.spare - 1 }) c.self.view_is

@@ -5,7 +5,7 @@ use Rattle.cc_graph.specs.Shown.{Shown, hyperedge}
 use Rattle.cc_graph.specs.Closed.{IsHyperedgeWithin}
 use Rattle.cc_graph.specs.Kept.{AreMappings, chain_of, hyperedge_of, hyperedges}
 use Rattle.cc_graph.proofs.Numbering.{length-vertices}
-use Rattle.cc_graph.proofs.Whole.{but-shown, shown-mapped, whole-mapped}
+use Rattle.cc_graph.proofs.Whole.{but-shown, rooms-same, shown-mapped, whole-mapped}
 use Rattle.cc_graph.proofs.graph.Graph.note_mapping.Goals as goal
 
 pub chain_members-requires-clause-chained : goal.chain_members-requires-clause-chained
@@ -28,10 +28,11 @@ invariant_of-self-2 c =
 
 pub returns-clause-noted : goal.returns-clause-noted
 returns-clause-noted c =
-    shown-mapped _ _ _ _ _ _ _ _ (but-shown c.self.inside.nodes.nodes c.chain_members.new.nodes.nodes c.chain_members.ensures.nodes)
+    shown-mapped _ _ _ _ _ _ _ _ _ _ (but-shown c.self.inside.nodes.nodes c.chain_members.new.nodes.nodes c.chain_members.ensures.nodes)
     (ap (λ p. hyperedges p.items) c.push.ensures
     ∙ (map_push hyperedge_of c.chain_members.new.mappings.items c.new.result
     ∙ (ap (λ xs. xs ++ hyperedge_of c.new.result ∷ []) (c.chain_members.ensures.shown ∙ ap hyperedges c.reserve.ensures.items)
     ∙ ap (λ m. hyperedges c.self.inside.mappings.items ++ hyperedge_of m ∷ []) c.new.ensures)))
     c.chain_members.ensures.blacks
-    ∙ ap {A = Shown} {B = Shown} (λ v. record v { hyperedges = v.hyperedges ++ hyperedge c.args.the_map c.args.key c.args.value ∷ [] }) c.self.view_is
+    (rooms-same _ _ _ _ _ c.chain_members.ensures.node_room c.chain_members.ensures.black_room)
+    ∙ ap {A = Shown} {B = Shown} (λ v. record v { hyperedges = v.hyperedges ++ hyperedge c.args.the_map c.args.key c.args.value ∷ []; room = record v.room { mappings = c.push.new.self.capacity } }) c.self.view_is

@@ -21,7 +21,7 @@ returns-then-number-count-clause-nodes c =
 pub invariant_of-self-then-is_err : goal.invariant_of-self-then-is_err
 invariant_of-self-then-is_err c =
     rw (c.reserve_one.ensures.nodes, c.reserve_one.ensures.blacks)
-    (numbered-more _ _ _ _ _ _ c.self.invariant c.reserve_one.ensures.kept
+    (numbered-more _ _ _ _ _ _ c.self.invariant c.reserve_one.ensures.blacks_taken.kept
     (numbers-taken c.self.inside.numbers c.get_or_add.new.self c.remove.new.self c.args.name c.in_ok-number.number (c.self.invariant.numbered c.args.name ∙ (number-new _ _ _ _ c.args.name c.in_ok-number.number c.len-count.result c.self.invariant c.in_ok-number.ensures.found c.len-count.ensures.count c.if-number-count.false)) c.in_ok-number.ensures.added c.remove.ensures))
 
 pub returns-then-is_err-clause-absent : goal.returns-then-is_err-clause-absent

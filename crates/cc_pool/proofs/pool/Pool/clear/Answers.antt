@@ -17,13 +17,13 @@ pub invariant_of-self : goal.invariant_of-self
 invariant_of-self g c =
     rw (c.div_ceil-used.ensures)
     (pooled-emptied g.row.N _ _ c.self.inside.blocks.items c.empty.new.blocks.items c.self.invariant
-    (subst (λ bs. AreEmptied bs c.empty.new.blocks.items) (c.truncate.ensures.items ∙ ap (λ n. take n c.self.inside.blocks.items) c.div_ceil-used.ensures) c.empty.ensures))
+    (subst (λ bs. AreEmptied bs c.empty.new.blocks.items) (c.truncate.ensures.items ∙ ap (λ n. take n c.self.inside.blocks.items) c.div_ceil-used.ensures) c.empty.ensures.emptied))
 
 pub returns-clause-items : goal.returns-clause-items
 returns-clause-items g c =
     let emptied : IsPooled g.row.N 0 (g.row.N * div_ceil c.self.inside.len g.row.N) c.empty.new.blocks.items =
     pooled-emptied g.row.N _ _ c.self.inside.blocks.items c.empty.new.blocks.items c.self.invariant
-    (subst (λ bs. AreEmptied bs c.empty.new.blocks.items) (c.truncate.ensures.items ∙ ap (λ n. take n c.self.inside.blocks.items) c.div_ceil-used.ensures) c.empty.ensures) in
+    (subst (λ bs. AreEmptied bs c.empty.new.blocks.items) (c.truncate.ensures.items ∙ ap (λ n. take n c.self.inside.blocks.items) c.div_ceil-used.ensures) c.empty.ensures.emptied) in
     blocks-none g.row.N _ c.empty.new.blocks.items emptied.blocks
 
 pub returns-clause-room : goal.returns-clause-room

@@ -2,6 +2,8 @@ use Rattle.std.proofs.Common.{◌≡◌, ◌≤◌, ◌<◌, ◌+◌, ◌-◌, �
 use Rattle.std.proofs.Math.Nat.{lt-mul-div-succ}
 use Rattle.cc_pool.specs.Blocks.{joined, HasMore}
 use Rattle.cc_pool.proofs.Filling.{length-joined, blocks-fit}
+use Rattle.cc_pool.proofs.Emptying.{blocks-room}
+use Rattle.cc_pool.proofs.Growing.{few-blocks, few-places}
 use Rattle.cc_pool.proofs.Places.{counted}
 use Rattle.cc_pool.proofs.pool.Pool.reserve.Goals as goal
 
@@ -83,3 +85,42 @@ returns-clause-within g c =
     let room = ap (λ p. p.capacity) c.self.view_is in
     let fits : c.self.inside.len ≤ c.self.inside.capacity = blocks-fit g.row.N _ _ _ c.self.invariant.blocks in
     omega (arith, count, room, fits)
+
+pub returns-in_err-add_blocks-clause-had_room : goal.returns-in_err-add_blocks-clause-had_room
+returns-in_err-add_blocks-clause-had_room g c h =
+    let count = counted g.row.N _ _ _ _ c.self.invariant c.self.view_is in
+    let room = ap (λ p. p.capacity) c.self.view_is in
+    absurd (omega (arith, count, room, h, c.if-additional-spare.false))
+
+pub returns-clause-bounded : goal.returns-clause-bounded
+returns-clause-bounded g c =
+    let count = counted g.row.N _ _ _ _ c.self.invariant c.self.view_is in
+    let product : c.in_ok-more.more ≡ g.row.N * ((c.args.additional - (c.self.inside.capacity - c.self.inside.len) - 1) / g.row.N + 1) = search rules in
+    let sum : c.in_ok-capacity.capacity ≡ c.self.inside.capacity + c.in_ok-more.more = search rules in
+    let fits : c.self.inside.len ≤ c.self.inside.capacity = blocks-fit g.row.N _ _ _ c.self.invariant.blocks in
+    let some : 0 < c.args.additional - (c.self.inside.capacity - c.self.inside.len) = omega (arith, c.if-additional-spare.false) in
+    let few : g.row.N * ((c.args.additional - (c.self.inside.capacity - c.self.inside.len) - 1) / g.row.N + 1) < c.args.additional - (c.self.inside.capacity - c.self.inside.len) + g.row.N =
+    few-blocks g.row.N _ c.self.invariant.positive some in
+    omega (arith, count, product, sum, few, fits, c.if-additional-spare.false)
+
+pub returns-clause-places : goal.returns-clause-places
+returns-clause-places g c =
+    let count = counted g.row.N _ _ _ _ c.self.invariant c.self.view_is in
+    let places = ap (λ p. p.places) c.self.view_is in
+    let fits : c.self.inside.len ≤ c.self.inside.capacity = blocks-fit g.row.N _ _ _ c.self.invariant.blocks in
+    let some : 0 < c.args.additional - (c.self.inside.capacity - c.self.inside.len) = omega (arith, c.if-additional-spare.false) in
+    let few : g.row.N * ((c.args.additional - (c.self.inside.capacity - c.self.inside.len) - 1) / g.row.N + 1) < c.args.additional - (c.self.inside.capacity - c.self.inside.len) + g.row.N =
+    few-blocks g.row.N _ c.self.invariant.positive some in
+    rw (← places, ← count) (few-places g.row.N _ _ (length c.self.inside.blocks.items) _ c.self.inside.capacity _ c.in_ok-add_blocks.ensures.places (blocks-room g.row.N _ _ _ c.self.invariant.blocks)
+    (omega (arith, few, fits, c.if-additional-spare.false)))
+
+pub returns-in_err-add_blocks-clause-places : goal.returns-in_err-add_blocks-clause-places
+returns-in_err-add_blocks-clause-places g c =
+    let count = counted g.row.N _ _ _ _ c.self.invariant c.self.view_is in
+    let places = ap (λ p. p.places) c.self.view_is in
+    let fits : c.self.inside.len ≤ c.self.inside.capacity = blocks-fit g.row.N _ _ _ c.self.invariant.blocks in
+    let some : 0 < c.args.additional - (c.self.inside.capacity - c.self.inside.len) = omega (arith, c.if-additional-spare.false) in
+    let few : g.row.N * ((c.args.additional - (c.self.inside.capacity - c.self.inside.len) - 1) / g.row.N + 1) < c.args.additional - (c.self.inside.capacity - c.self.inside.len) + g.row.N =
+    few-blocks g.row.N _ c.self.invariant.positive some in
+    rw (← places, ← count) (few-places g.row.N _ _ (length c.self.inside.blocks.items) _ c.self.inside.capacity _ c.in_err-add_blocks.ensures.places (blocks-room g.row.N _ _ _ c.self.invariant.blocks)
+    (omega (arith, few, fits, c.if-additional-spare.false)))
