@@ -1,1 +1,143 @@
 //! Script objects, their slots and colours.
+ghost use Rattle.std.specs.Prelude.{◌≡◌, [], IfOk, IsTrue, OnOk};
+ghost use Rattle.cc_script.specs.Objects.{AreWhole, is_there};
+
+use cc_names::{Colour, Kind, NKey, Name, NativeNo, NoMemory, SKey, ScriptNo};
+use cc_script::{Marking, Scripts, raised_is_least};
+use std::alloc::Global;
+use std::test::Fail;
+
+/// Makes so many objects of each kind; whether there was memory for all.
+fn make_each(heap: &mut Scripts, count: u32) -> bool {
+    let mut made = true;
+    for number in 0..count {
+        let plain = heap.create_plain(ScriptNo(number), 3);
+        let reflector = heap.create_reflector(NKey(number as usize), NativeNo(number));
+        let the_map = heap.create_map(ScriptNo(number));
+        made = made && plain.is_ok() && reflector.is_ok() && the_map.is_ok();
+    }
+    made
+}
+
+#[test]
+fn there_is_memory_for_65537_objects_of_each_kind(rt: HostRuntime) -> Result<(), Fail> {
+    let mut heap = Scripts::new(rt.alloc());
+    assert!(rt; make_each(&mut heap, 65_537));
+    Ok(())
+}
+
+/// Makes the first object, plain, with the number 7 and one slot.
+fn make(heap: &mut Scripts) -> Result<SKey, NoMemory>
+    requires { heap.old ≡ [] }
+    ensures whole { OnOk result (AreWhole heap.new) }
+    ensures live { IfOk result (λ key. IsTrue (is_there heap.new key.0)) }
+{
+    heap.create_plain(ScriptNo(7), 1)
+}
+
+/// Whether an object is that one, black, and alone.
+fn is_seven(heap: &Scripts, key: SKey) -> bool
+    requires { IsTrue (is_there heap.now key.0) }
+{
+    let named = heap.kind(key) == Kind::Plain && heap.name(key) == Name::Script(ScriptNo(7));
+    let coloured = heap.colour(key) == Colour::Black && !heap.has_colour(Colour::Gray);
+    let alone = heap.first() == Some(key) && heap.next(key).is_none();
+    named && coloured && alone && heap.native_of(key).is_none()
+}
+
+/// Whether its first slot is empty once it was emptied.
+fn empties_a_slot(heap: &mut Scripts, key: SKey) -> bool
+    requires { IsTrue (is_there heap.old key.0) }
+{
+    if heap.slots(key) == 0 {
+        return false;
+    }
+    let before = heap.slot(key, 0);
+    heap.set_slot(key, 0, None);
+    before.is_none()
+}
+
+/// Takes out the first object where it is white; whether one is left.
+fn keeps_a_white_object(heap: &mut Scripts) -> bool {
+    heap.clear_marks();
+    if let Some(key) = heap.first() {
+        if let Colour::White = heap.colour(key) {
+            heap.remove(key);
+        }
+    }
+    heap.first().is_some()
+}
+
+#[test]
+fn object_is_made_read_and_taken_out(rt: HostRuntime) -> Result<(), Fail> {
+    let mut heap = Scripts::new(rt.alloc());
+    let made = make(&mut heap);
+    assert!(rt; made.is_ok());
+    if let Ok(key) = made {
+        assert!(rt; is_seven(&heap, key));
+        assert!(rt; empties_a_slot(&mut heap, key));
+        assert!(rt; !keeps_a_white_object(&mut heap));
+    }
+    Ok(())
+}
+
+/// Makes an object and marks from it; whether there was memory, and it is black.
+fn marks_at_once(alloc: Global) -> bool {
+    let mut heap = Scripts::new(alloc);
+    let made = make(&mut heap);
+    if let Ok(key) = made {
+        heap.mark_from(key, Colour::Gray);
+    }
+    heap.has_colour(Colour::Black)
+}
+
+/// The same of one that is exposed.
+fn exposes(alloc: Global) -> bool {
+    let mut heap = Scripts::new(alloc);
+    let made = make(&mut heap);
+    if let Ok(key) = made {
+        heap.expose(key);
+    }
+    heap.has_colour(Colour::Black)
+}
+
+/// Marks an object; whether it is looked into, once.
+fn marks_one(marking: &mut Marking, key: SKey) -> bool
+    requires whole { AreWhole marking.old.objects }
+    requires live { IsTrue (is_there marking.old.objects key.0) }
+{
+    marking.start(key);
+    let black = marking.colour(key) == Colour::Black;
+    let next = marking.next_marked();
+    black && next.is_none()
+}
+
+/// Makes an object, which is black, and marks it; whether there was memory, and the mark changes nothing.
+fn marks_one_after_another(alloc: Global) -> bool {
+    let mut heap = Scripts::new(alloc);
+    let made = make(&mut heap);
+    let mut marking = heap.start_marking(Colour::Gray);
+    if let Ok(key) = made {
+        return marks_one(&mut marking, key);
+    }
+    false
+}
+
+/// Makes an object, hands it over to be marked and takes it back; whether it is there.
+fn takes_back(alloc: Global) -> bool {
+    let mut heap = Scripts::new(alloc);
+    let made = make(&mut heap);
+    let marking = heap.start_marking(Colour::Gray);
+    heap.end_marking(marking);
+    made.is_ok() && heap.first().is_some()
+}
+
+#[test]
+fn object_is_marked_in_each_way(rt: HostRuntime) -> Result<(), Fail> {
+    assert!(rt; marks_at_once(rt.alloc()));
+    assert!(rt; exposes(rt.alloc()));
+    assert!(rt; marks_one_after_another(rt.alloc()));
+    assert!(rt; takes_back(rt.alloc()));
+    raised_is_least();
+    Ok(())
+}
