@@ -1,1 +1,65 @@
 //! A snapshot while it is built.
+ghost use Rattle.std.specs.Prelude.{[], None};
+ghost use Rattle.cc_graph.specs.Shown.{IsEmpty};
+ghost use Rattle.cc_heaps.specs.Keyed.{IsInOrder};
+ghost use Rattle.cc_collector.specs.Kept.{RunsIn};
+
+use crate::collector::drop_cycle;
+use cc_builder::{Build, Step};
+use cc_collector::Collector;
+use cc_graph::Graph;
+use cc_heaps::Heaps;
+use cc_model::Notebook;
+use cc_names::Limits;
+use std::alloc::Global;
+use std::test::Fail;
+
+// Whether a collection begins and looks at a node; it is abandoned then.
+fn begins_and_is_abandoned(heaps: &mut Heaps, alloc: Global) -> bool
+    requires { IsInOrder [] heaps.old }
+    ensures { IsInOrder [] heaps.new }
+{
+    let Ok(mut build) = Build::begin(alloc, heaps) else {
+        return false;
+    };
+    let stepped = build.step(heaps);
+    build.abandon(heaps);
+    stepped == Ok(Step::Traversed)
+}
+
+// Whether a collection begins in a room, and looks at all that there is: one node, which refers to itself.
+fn is_built_in(room: Graph, heaps: &mut Heaps) -> bool
+    requires empty { IsEmpty room }
+    requires order { IsInOrder [] heaps.old }
+{
+    let Ok(mut build) = Build::begin_in(room, heaps) else {
+        return false;
+    };
+    let first = build.step(heaps);
+    let second = build.step(heaps);
+    let graph = build.finish();
+    (first == Ok(Step::Traversed))
+        & (second == Ok(Step::Complete))
+        & (graph.edge(0) == Some((0, 0)))
+}
+
+// Whether both go well, one after the other.
+fn builds_go_well(heaps: &mut Heaps, alloc: Global, out: &mut Notebook) -> bool
+    requires { RunsIn heaps.old None }
+{
+    drop_cycle(heaps, &Collector::new(alloc), out);
+    let begun = begins_and_is_abandoned(heaps, alloc);
+    begun & is_built_in(Graph::new(alloc), heaps)
+}
+
+#[test]
+fn abandoned_build_can_begin_again(rt: HostRuntime) -> Result<(), Fail> {
+    let mut out = Notebook::new(rt.alloc());
+    let made = Heaps::new(rt.alloc(), Limits::new(1, 0, 0));
+    assert!(rt; made.is_ok());
+    if let Ok(mut heaps) = made {
+        let well = builds_go_well(&mut heaps, rt.alloc(), &mut out);
+        assert!(rt; well);
+    }
+    Ok(())
+}

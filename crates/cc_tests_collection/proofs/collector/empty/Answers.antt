@@ -1,0 +1,6 @@
+use Rattle.cc_collector.proofs.GoingOn.{RunsIn-between}
+use Rattle.cc_tests_collection.proofs.collector.empty.Goals as goal
+
+pub returns : goal.returns
+returns c = RunsIn-between c.args.heaps.now c.set_native_reg.new.self c.args.collector.now c.requires
+    (record { order = c.set_native_reg.ensures.order; colours = c.set_native_reg.ensures.colours c.requires.colours; fresh = c.set_native_reg.ensures.fresh; keys = c.set_native_reg.ensures.keys })
