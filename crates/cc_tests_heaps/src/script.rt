@@ -19,10 +19,15 @@ fn make_each(heap: &mut Scripts, count: u32) -> bool {
     made
 }
 
+/// Whether there is memory for 65,537 objects of each kind.
+fn makes_many(alloc: Global) -> bool {
+    let mut heap = Scripts::new(alloc);
+    make_each(&mut heap, 65_537)
+}
+
 #[test]
 fn there_is_memory_for_65537_objects_of_each_kind(rt: HostRuntime) -> Result<(), Fail> {
-    let mut heap = Scripts::new(rt.alloc());
-    assert!(rt; make_each(&mut heap, 65_537));
+    assert!(rt; makes_many(rt.alloc()));
     Ok(())
 }
 
@@ -68,16 +73,21 @@ fn keeps_a_white_object(heap: &mut Scripts) -> bool {
     heap.first().is_some()
 }
 
+/// Makes an object, reads and writes it and takes it out; whether there was memory, and the answers are right.
+fn calls_answer(alloc: Global) -> bool {
+    let mut heap = Scripts::new(alloc);
+    let made = make(&mut heap);
+    if let Ok(key) = made {
+        return is_seven(&heap, key)
+            && empties_a_slot(&mut heap, key)
+            && !keeps_a_white_object(&mut heap);
+    }
+    false
+}
+
 #[test]
 fn object_is_made_read_and_taken_out(rt: HostRuntime) -> Result<(), Fail> {
-    let mut heap = Scripts::new(rt.alloc());
-    let made = make(&mut heap);
-    assert!(rt; made.is_ok());
-    if let Ok(key) = made {
-        assert!(rt; is_seven(&heap, key));
-        assert!(rt; empties_a_slot(&mut heap, key));
-        assert!(rt; !keeps_a_white_object(&mut heap));
-    }
+    assert!(rt; calls_answer(rt.alloc()));
     Ok(())
 }
 

@@ -1,6 +1,7 @@
 //! Entries of weak maps.
-use cc_names::{NoMemory, SKey};
+use cc_names::SKey;
 use cc_weakmaps::WeakMaps;
+use std::alloc::Global;
 use std::test::Fail;
 
 /// Sets so many entries, each with a map and a key of its own, then gives each another value; whether there was memory
@@ -19,61 +20,65 @@ fn set_all(maps: &mut WeakMaps, count: usize) -> bool {
 fn set_each_key(maps: &mut WeakMaps, the_map: SKey, count: usize) -> bool {
     let mut set = true;
     for number in 0..count {
-        set = set && maps.set(the_map, SKey(number), SKey(0)).is_ok();
+        let made = maps.set(the_map, SKey(number), SKey(0));
+        set = set && made.is_ok();
     }
     set
 }
 
+/// Whether there is memory for 65,537 entries, each of a map and a key of its own.
+fn sets_many(alloc: Global) -> bool {
+    let mut maps = WeakMaps::new(alloc);
+    set_all(&mut maps, 65_537)
+}
+
+/// Whether there is memory for 65,537 entries of one map, which are more than 65,536 beside each other.
+fn sets_many_keys(alloc: Global) -> bool {
+    let mut maps = WeakMaps::new(alloc);
+    set_each_key(&mut maps, SKey(65_536), 65_537)
+}
+
 #[test]
 fn there_is_memory_for_65537_entries_maps_and_keys(rt: HostRuntime) -> Result<(), Fail> {
-    let mut maps = WeakMaps::new(rt.alloc());
-    assert!(rt; set_all(&mut maps, 65_537));
-    assert_eq!(rt; maps.len(), 65_537);
-    let mut one = WeakMaps::new(rt.alloc());
-    assert!(rt; set_each_key(&mut one, SKey(65_536), 65_537));
-    assert_eq!(rt; one.get(SKey(65_536), SKey(65_536)), Some(SKey(0)));
+    assert!(rt; sets_many(rt.alloc()));
+    assert!(rt; sets_many_keys(rt.alloc()));
     Ok(())
 }
 
-#[test]
-fn new_entry_has_map_and_key_of_32_bits(rt: HostRuntime) -> Result<(), Fail> {
-    let mut maps = WeakMaps::new(rt.alloc());
-    assert_eq!(rt;
-        maps.set(SKey(4_294_967_296), SKey(2), SKey(3)),
-        Err(NoMemory)
-    );
-    assert_eq!(rt;
-        maps.set(SKey(1), SKey(4_294_967_298), SKey(3)),
-        Err(NoMemory)
-    );
-    assert_eq!(rt; maps.set(SKey(1), SKey(2), SKey(4_294_967_299)), Ok(()));
-    assert_eq!(rt; maps.set(SKey(1), SKey(2), SKey(4_294_967_300)), Ok(()));
-    assert_eq!(rt; maps.get(SKey(1), SKey(2)), Some(SKey(4_294_967_300)));
-    Ok(())
+/// Whether a new entry is refused exactly where its map or its key needs more than 32 bits.
+fn refuses_more_than_32_bits(alloc: Global) -> bool {
+    let mut maps = WeakMaps::new(alloc);
+    let of_map = maps.set(SKey(4_294_967_296), SKey(2), SKey(3));
+    let of_key = maps.set(SKey(1), SKey(4_294_967_298), SKey(3));
+    let of_value = maps.set(SKey(1), SKey(2), SKey(4_294_967_299));
+    let again = maps.set(SKey(1), SKey(2), SKey(4_294_967_300));
+    of_map.is_err() && of_key.is_err() && of_value.is_ok() && again.is_ok()
 }
 
-/// Whether the first entry is of the map 1, the key 2 and the value 3, is the only one of the map, and is found.
-fn has_the_first(maps: &WeakMaps) -> bool {
-    if maps.is_empty() {
-        return false;
+/// The first entry of map 1, where it is the first of all.
+fn first_key(maps: &WeakMaps) -> Option<usize> {
+    let place = maps.first_with(SKey(1))?;
+    match maps.next_with(SKey(1), place) {
+        Some(_) => None,
+        None => Some(maps.entry(place).1.0),
     }
-    let (the_map, key, value) = maps.entry(0);
-    let is_it = (the_map.0, key.0, value.0) == (1, 2, 3);
-    match maps.first_with(SKey(1)) {
-        Some(place) => is_it && place == 0 && maps.next_with(SKey(1), place).is_none(),
-        None => false,
-    }
+}
+
+/// Sets two entries, reads both, and takes out one in each way; whether the answers are right.
+fn calls_answer(alloc: Global) -> bool {
+    let mut maps = WeakMaps::new(alloc);
+    let one = maps.set(SKey(1), SKey(2), SKey(3)).is_ok();
+    let two = maps.set(SKey(4), SKey(5), SKey(6)).is_ok();
+    let read = maps.get(SKey(4), SKey(5)) == Some(SKey(6)) && first_key(&maps) == Some(2);
+    maps.unset(SKey(1), SKey(2));
+    let one_left = maps.len() == 1;
+    maps.drop_dead(|key| key != SKey(5));
+    one && two && read && one_left && maps.is_empty()
 }
 
 #[test]
 fn entries_are_set_read_and_taken_out(rt: HostRuntime) -> Result<(), Fail> {
-    let mut maps = WeakMaps::new(rt.alloc());
-    assert_eq!(rt; maps.set(SKey(1), SKey(2), SKey(3)), Ok(()));
-    assert_eq!(rt; maps.set(SKey(4), SKey(5), SKey(6)), Ok(()));
-    assert!(rt; has_the_first(&maps));
-    maps.unset(SKey(1), SKey(2));
-    assert_eq!(rt; maps.len(), 1);
-    maps.drop_dead(|key| key != SKey(5));
-    assert!(rt; maps.is_empty());
+    assert!(rt; refuses_more_than_32_bits(rt.alloc()));
+    assert!(rt; calls_answer(rt.alloc()));
     Ok(())
 }
