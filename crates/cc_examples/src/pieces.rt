@@ -3,7 +3,7 @@
 ghost use Rattle.std.specs.Prelude.{◌≤◌, None};
 
 use crate::script::{script, source_of};
-use cc_outside::{Failed, Sink};
+use cc_outside::{Failed, Sink, WriteCounts};
 use cc_replay::{Status, run};
 use std::alloc::Global;
 use std::process::Abort;
@@ -15,6 +15,7 @@ struct Pieces {
     most: usize,
     pieces: Vec<Vec<u8>>,
     alloc: Global,
+    writes: WriteCounts,
     ghost some: { 1 ≤ most },
 }
 
@@ -23,11 +24,14 @@ impl Sink for Pieces {
 
     ghost faults = { λ _. 0 };
 
+    ghost writes = { λ p. p.writes };
+
     /// A piece for which there is no memory is left out, which the test sees.
     fn write(&mut self, bytes: &[u8]) -> Result<usize, Failed> {
         if let Ok(piece) = bytes.to_vec(self.alloc) {
             let _ = self.pieces.push(piece);
         }
+        self.writes.count_answered();
         if bytes.len() <= self.most {
             return Ok(bytes.len());
         }
@@ -47,6 +51,7 @@ fn hands_on(rt: &(impl Abort + AllocGlobal), most: usize, wanted: &str) -> Resul
         most,
         pieces: Vec::new(rt.alloc()),
         alloc: rt.alloc(),
+        writes: WriteCounts::new(),
     };
     let status = run(rt.alloc(), &["ccreplay", "replay"], &mut source, &mut sink);
     assert_eq!(rt; status, Status::Done, "at {most}");

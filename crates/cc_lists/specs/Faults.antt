@@ -13,7 +13,7 @@ raised count n = min (count + n) greatest_count
 abbrev pub Rose : ℕ → ℕ → Type 0
 Rose before now = min (before + 1) greatest_count ≤ now
 
--- a call that failed raised the count, and any other left it
+-- a call that failed raised the count by one, and any other left it
 pub record HasCause {T E : Type 0} (before now : ℕ) (result : Result T E) : Type 0 where
   pub stays : OnOk result (now ≡ before)
-  pub failed : OnErr result (Rose before now)
+  pub failed : OnErr result (now ≡ raised before 1)

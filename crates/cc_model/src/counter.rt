@@ -8,7 +8,7 @@ use crate::notices::Notices;
 use crate::sums::Sums;
 use std::marker::Model;
 
-/// A receiver that counts its items and keeps none of their lines. It never breaks, and is seen as its sums.
+/// A receiver that counts its items, and keeps neither them nor their lines. It never breaks, and is seen as its sums.
 #[derive(Drop)]
 pub struct Counter {
     sums: Sums,
@@ -39,7 +39,7 @@ impl Counter {
 }
 
 impl Notices for Counter {
-    ghost telling = { λ c. record { told = None; broken = false; faults = 0; sink = 0; sums = Some c } };
+    ghost telling = { λ c. record { told = None; broken = false; faults = 0; sink = 0; sums = Some c; items = None } };
 
     fn tell(&mut self, item: Item) {
         match item {

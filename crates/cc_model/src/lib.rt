@@ -7,12 +7,13 @@
 //! each in plain words.
 //!
 //! The code here is small: the types that a command line and an output line stand for, the text of an
-//! item, the trait of those that are told items, and two of them. The functions with empty bodies are laws.
+//! item, the trait of those that are told items, and three of them. The functions with empty bodies are laws.
 #![tactic(auto)]
 
 mod command;
 mod counter;
 mod item;
+mod item_list;
 mod laws;
 mod notebook;
 mod notices;
@@ -21,10 +22,8 @@ mod sums;
 pub use command::Command;
 pub use counter::Counter;
 pub use item::{Event, Item, Refusal, Reply, write_item};
+pub use item_list::ItemList;
 pub use laws::{bounds_suffice, reached_is_least, telling_composes};
 pub use notebook::Notebook;
 pub use notices::Notices;
 pub use sums::Sums;
-
-#[cfg(test)]
-mod tests;

@@ -10,7 +10,7 @@ use std::marker::Model;
 
 /// A receiver that keeps the lines of its items in memory.
 ///
-/// It breaks where it wants memory for a line that is not there; that line is left out whole.
+/// It keeps no items. It breaks where it wants memory for a line that is not there; that line is left out whole.
 #[derive(Drop)]
 pub struct Notebook {
     text: Vec<u8>,
@@ -24,13 +24,13 @@ impl Model for Notebook {
 
     ghost Value = { Telling };
 
-    ghost view = { λ n. record { told = Some n.text.items; broken = n.broken; faults = n.faults; sink = 0; sums = None } };
+    ghost view = { λ n. record { told = Some n.text.items; broken = n.broken; faults = n.faults; sink = 0; sums = None; items = None } };
 }
 
 impl Notebook {
     /// An empty notebook.
     pub fn new(alloc: Global) -> Notebook
-        ensures { result ≡ record { told = Some []; broken = false; faults = 0; sink = 0; sums = None } }
+        ensures { result ≡ record { told = Some []; broken = false; faults = 0; sink = 0; sums = None; items = None } }
     {
         Notebook {
             text: Vec::new(alloc),

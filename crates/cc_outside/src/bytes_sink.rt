@@ -3,10 +3,12 @@
 ghost use Rattle.std.specs.Prelude.{◌≡◌, ◌+◌, ◌++◌, ◌<◌, ◌≤◌, ◌↔◌, ◌⊎◌, [], length, min, vec_capacity, vec_len, Some, IfOk, IsErr, IsOk};
 ghost use Rattle.std.specs.List.{Contains};
 ghost use Rattle.cc_outside.specs.Counted.{raised};
+ghost use Rattle.cc_outside.specs.Writes.{no_writes};
 ghost use Rattle.cc_outside.specs.Writing.{after_write};
 
 use crate::failed::Failed;
 use crate::sink::Sink;
+use crate::write_counts::WriteCounts;
 use cc_names::NoMemory;
 use std::alloc::Global;
 use std::marker::Model;
@@ -22,6 +24,7 @@ pub struct BytesSink {
     fails: Vec<u64>,
     calls: u64,
     faults: u64,
+    writes: WriteCounts,
 }
 
 impl Model for BytesSink {
@@ -30,7 +33,7 @@ impl Model for BytesSink {
 
     ghost Value = { Writing };
 
-    ghost view = { λ s. record { written = s.bytes.items; room = s.room; most = s.most; fails = s.fails.items; calls = s.calls; faults = s.faults } };
+    ghost view = { λ s. record { written = s.bytes.items; room = s.room; most = s.most; fails = s.fails.items; calls = s.calls; faults = s.faults; writes = s.writes } };
 
     ghost invariant = { λ s. (length s.bytes.items ≤ s.room) × (s.room ≡ vec_capacity s.bytes) × (1 ≤ s.most) };
 }
@@ -41,7 +44,7 @@ impl BytesSink {
     ///
     /// `NoMemory` where the room is not to be had.
     pub fn new(alloc: Global, room: usize, fails: Vec<u64>) -> Result<BytesSink, NoMemory>
-        ensures made { IfOk result (λ s. s ≡ record { written = []; room = room; most = usize.MAX; fails = fails.items; calls = 0; faults = 0 }) }
+        ensures made { IfOk result (λ s. s ≡ record { written = []; room = room; most = usize.MAX; fails = fails.items; calls = 0; faults = 0; writes = no_writes }) }
         ensures nothing_taken { room ≡ 0 → IsOk result }
     {
         BytesSink::with_most(alloc, room, fails, usize::MAX)
@@ -55,7 +58,7 @@ impl BytesSink {
         most: usize,
     ) -> Result<BytesSink, NoMemory>
         requires { 1 ≤ most }
-        ensures made { IfOk result (λ s. s ≡ record { written = []; room = room; most = most; fails = fails.items; calls = 0; faults = 0 }) }
+        ensures made { IfOk result (λ s. s ≡ record { written = []; room = room; most = most; fails = fails.items; calls = 0; faults = 0; writes = no_writes }) }
         ensures nothing_taken { room ≡ 0 → IsOk result }
     {
         Ok(BytesSink {
@@ -65,6 +68,7 @@ impl BytesSink {
             fails,
             calls: 0,
             faults: 0,
+            writes: WriteCounts::new(),
         })
     }
 
@@ -81,12 +85,28 @@ impl BytesSink {
     {
         self.faults
     }
+
+    /// How many writes were answered, at most 18446744073709551615.
+    pub fn answered(&self) -> u64
+        ensures { result ≡ self.now.writes.answered }
+    {
+        self.writes.answered()
+    }
+
+    /// Whether the last write failed; not so before the first.
+    pub fn last_failed(&self) -> bool
+        ensures { result ≡ self.now.writes.last_failed }
+    {
+        self.writes.last_failed()
+    }
 }
 
 impl Sink for BytesSink {
     ghost written = { λ s. Some s.written };
 
     ghost faults = { λ s. s.faults };
+
+    ghost writes = { λ s. s.writes };
 
     /// Fails where this write's number is in the list or what it would take does not fit, and else takes as much of the
     /// piece as is allowed.
@@ -100,8 +120,10 @@ impl Sink for BytesSink {
         self.calls = self.calls.saturating_add(1);
         let count = bytes.len().min(self.most);
         if self.fails.contains(&self.calls) || self.room - self.bytes.len() < count {
+            self.writes.note_failed();
             return Err(Failed::counted(&mut self.faults));
         }
+        self.writes.count_answered();
         append_in_place(&mut self.bytes, &bytes[..count]);
         Ok(count)
     }

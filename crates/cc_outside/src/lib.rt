@@ -10,7 +10,7 @@
 //! A source may tell which bytes it has left, and a sink which bytes it was given: those in memory do,
 //! standard input and output do not. `BytesSource` and `BytesSink` fail at the calls that they are told to,
 //! for tests of what a program does then; `SureSource` and `CountSink` never fail. `ReadCounts` counts the reads of a source
-//! that stands in another crate.
+//! that stands in another crate, `WriteCounts` the writes of a sink.
 #![tactic(auto)]
 
 mod bytes_sink;
@@ -23,6 +23,7 @@ mod source;
 mod standard;
 mod supply;
 mod sure_source;
+mod write_counts;
 
 pub use bytes_sink::BytesSink;
 pub use bytes_source::BytesSource;
@@ -33,6 +34,7 @@ pub use sink::Sink;
 pub use source::Source;
 pub use standard::{StdSink, StdSource};
 pub use sure_source::SureSource;
+pub use write_counts::WriteCounts;
 
 #[cfg(test)]
 mod tests;

@@ -1,10 +1,11 @@
 //! Where bytes go.
 
-ghost use Rattle.std.specs.Prelude.{◌<◌, ℕ, List, length, take, IfOk, OnErr};
+ghost use Rattle.std.specs.Prelude.{◌≡◌, ◌<◌, ℕ, List, length, take, IfOk, OnErr};
 ghost use Rattle.std.specs.Io.{WritesAtMost};
 ghost use Rattle.std.specs.Io.KnownBytes.{Appends, Keeps};
 ghost use Rattle.std.specs.declared.option.Option.{Option};
 ghost use Rattle.cc_lists.specs.Faults.{HasCause};
+ghost use Rattle.cc_outside.specs.Writes.{Writes, writes_after};
 
 use crate::failed::Failed;
 
@@ -16,6 +17,9 @@ pub trait Sink {
     /// How many writes failed. A count of 18446744073709551615 stays.
     ghost faults: { Self → ℕ };
 
+    /// How many writes were answered, and whether the last one failed. A count of 18446744073709551615 stays.
+    ghost writes: { Self → Writes };
+
     /// Writes the front of `bytes`, and says how many: of a piece that is not empty at least one byte.
     ///
     /// `Failed` where the write failed: a sink that tells its bytes has taken none then.
@@ -24,5 +28,6 @@ pub trait Sink {
         ensures more { IfOk result (λ m. 0 < length bytes.now → 0 < m) }
         ensures bytes { IfOk result (λ m. Appends (written self.old) (written self.new) (take m bytes.now)) }
         ensures unwritten { OnErr result (Keeps (written self.old) (written self.new)) }
-        ensures cause { HasCause (faults self.old) (faults self.new) result };
+        ensures cause { HasCause (faults self.old) (faults self.new) result }
+        ensures counted { writes self.new ≡ writes_after (writes self.old) result };
 }

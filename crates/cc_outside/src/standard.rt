@@ -1,15 +1,17 @@
 //! Standard input and output, and any other reader and writer.
 
-ghost use Rattle.std.specs.Prelude.{◌≡◌, ◌<◌, ℕ, length, take, IfOk, OnErr, None};
+ghost use Rattle.std.specs.Prelude.{◌≡◌, ◌<◌, ◌≤◌, ℕ, length, take, IfOk, IfSome, OnErr, None};
 ghost use Rattle.std.specs.Io.{ReadsAtMost, WritesAtMost};
 ghost use Rattle.std.specs.Io.KnownBytes.{Appends, ReadConsumes};
 ghost use Rattle.cc_outside.specs.Counted.{faults_after};
 ghost use Rattle.cc_outside.specs.Reads.{no_reads, reads_after};
+ghost use Rattle.cc_outside.specs.Writes.{no_writes, writes_after};
 
 use crate::failed::Failed;
 use crate::read_counts::ReadCounts;
 use crate::sink::Sink;
 use crate::source::Source;
+use crate::write_counts::WriteCounts;
 use std::io::{Read, Stdin, Stdout, Write};
 use std::marker::Model;
 
@@ -77,7 +79,8 @@ impl<R: Read> Source for StdSource<R> {
     }
 }
 
-/// A sink over a writer, standard output if no other is named. It is seen as the writer and its count of faults.
+/// A sink over a writer, standard output if no other is named. It is seen as the writer, its count of faults and the
+/// counts of its writes.
 ///
 /// It does not tell its bytes: where a write is taken and the flush fails, no one knows how many went on. At most a front
 /// of the piece was handed to the writer then, once.
@@ -85,6 +88,7 @@ impl<R: Read> Source for StdSource<R> {
 pub struct StdSink<W = Stdout> {
     output: W,
     faults: u64,
+    writes: WriteCounts,
 }
 
 impl<W> Model for StdSink<W> {
@@ -92,15 +96,19 @@ impl<W> Model for StdSink<W> {
 
     ghost Value = { Writer W };
 
-    ghost view = { λ s. record { stream = s.output; faults = s.faults } };
+    ghost view = { λ s. record { stream = s.output; faults = s.faults; writes = s.writes } };
 }
 
 impl<W: Write> StdSink<W> {
     /// A sink over `output`, with no faults so far.
     pub fn new(output: W) -> StdSink<W>
-        ensures { result ≡ record { stream = output; faults = 0 } }
+        ensures { result ≡ record { stream = output; faults = 0; writes = no_writes } }
     {
-        StdSink { output, faults: 0 }
+        StdSink {
+            output,
+            faults: 0,
+            writes: WriteCounts::new(),
+        }
     }
 
     /// How many writes failed. A count of 18446744073709551615 stays.
@@ -116,23 +124,42 @@ impl<W: Write> Sink for StdSink<W> {
 
     ghost faults = { λ s. s.faults };
 
+    ghost writes = { λ s. s.writes };
+
     /// Writes once and flushes. An interrupted write counts as failed, and so does one that takes nothing of a piece.
     fn write(&mut self, bytes: &[u8]) -> Result<usize, Failed>
         ensures bound { WritesAtMost result bytes.now }
         ensures more { IfOk result (λ m. 0 < length bytes.now → 0 < m) }
         ensures bytes { IfOk result (λ m. Appends (W.contents self.old.stream) (W.contents self.new.stream) (take m bytes.now)) }
+        ensures writes { self.new.writes ≡ writes_after self.old.writes result }
         ensures part { OnErr result ((n : ℕ) × Appends (W.contents self.old.stream) (W.contents self.new.stream) (take n bytes.now)) }
         ensures faults { self.new.faults ≡ faults_after self.old.faults result }
     {
-        match self.output.write(bytes) {
-            Ok(count) => {
-                let took_some = count > 0 || bytes.is_empty();
-                if took_some && self.output.flush().is_ok() {
-                    return Ok(count);
-                }
+        match hand_over(&mut self.output, bytes) {
+            Some(count) => {
+                self.writes.count_answered();
+                Ok(count)
+            }
+            None => {
+                self.writes.note_failed();
                 Err(Failed::counted(&mut self.faults))
             }
-            Err(_) => Err(Failed::counted(&mut self.faults)),
         }
     }
+}
+
+/// Hands a front of the piece to the writer, once, flushes, and says how many bytes it was; `None` where the writer fails
+/// or takes nothing of a piece.
+fn hand_over<W: Write>(output: &mut W, bytes: &[u8]) -> Option<usize>
+    ensures bound { IfSome result (λ m. m ≤ length bytes.now) }
+    ensures more { IfSome result (λ m. 0 < length bytes.now → 0 < m) }
+    ensures bytes { IfSome result (λ m. Appends (W.contents output.old) (W.contents output.new) (take m bytes.now)) }
+    ensures part { result ≡ None → (n : ℕ) × Appends (W.contents output.old) (W.contents output.new) (take n bytes.now) }
+{
+    let count = output.write(bytes).ok()?;
+    let took_some = count > 0 || bytes.is_empty();
+    if took_some && output.flush().is_ok() {
+        return Some(count);
+    }
+    None
 }

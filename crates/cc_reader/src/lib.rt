@@ -19,6 +19,3 @@ mod window;
 pub use grammar::parse;
 pub use lines::{Line, Lines};
 pub use read_stop::ReadStop;
-
-#[cfg(test)]
-mod tests;

@@ -1,7 +1,7 @@
 //! Lines read, and each answered before the next is read.
 
 ghost use Rattle.std.specs.Prelude.{◌≡◌, ◌≢◌, ◌<◌, ◌≤◌, ◌+◌, ℕ, List, [], ◌∷◌, ◌++◌, length, Option, Some, OnErr, Ok, Err, OnOk, IfOk, false, true, IsTrue};
-ghost use Rattle.cc_lists.specs.Faults.{Rose};
+ghost use Rattle.cc_lists.specs.Faults.{raised, Rose};
 ghost use Rattle.cc_reader.specs.HasRead.{ReadsOn};
 ghost use Rattle.cc_reader.specs.Pending.{nothing_read, weight};
 ghost use Rattle.cc_reader.specs.Given.{HasGiven, IsBroken, IsOver, AreAllGiven, AreFirst};
@@ -226,6 +226,7 @@ fn answer_all<S: Source, N: Reports>(
     ensures written { result ≢ Status.WriteFault → (N.telling out.new).faults ≡ (N.telling out.old).faults }
     ensures broken { result ≡ Status.WriteFault → (N.telling out.new).broken ≡ true }
     ensures unwritten { result ≡ Status.WriteFault → Rose (N.telling out.old).faults (N.telling out.new).faults }
+    ensures once { result ≡ Status.WriteFault → (N.telling out.new).faults ≡ raised (N.telling out.old).faults 1 }
     ensures others { (result ≢ Status.Usage) × (result ≢ Status.NoMemory) }
     ensures source { lines.new.source.ghost_name ≡ lines.old.source.ghost_name }
     ensures sink { (N.telling out.new).sink ≡ (N.telling out.old).sink }
@@ -271,6 +272,8 @@ pub(crate) fn answer_input<S: Source, N: Reports>(
     ensures calm { result ≢ Status.ReadFault → S.faults lines.new.source.now ≡ S.faults lines.old.source.now }
     ensures written { result ≢ Status.WriteFault → (N.telling out.new).faults ≡ (N.telling out.old).faults }
     ensures unwritten { result ≡ Status.WriteFault → Rose (N.telling out.old).faults (N.telling out.new).faults }
+    ensures once { result ≡ Status.WriteFault → (N.telling out.new).faults ≡ raised (N.telling out.old).faults 1 }
+    ensures broken { result ≡ Status.WriteFault → (N.telling out.new).broken ≡ true }
 
     ensures fault_always { S.faults lines.old.source.now < S.faults lines.new.source.now → result ≡ Status.ReadFault }
     ensures write_always { (N.telling out.old).faults < (N.telling out.new).faults → result ≡ Status.WriteFault }

@@ -1,7 +1,7 @@
 //! A made run: a script is made, its answers are counted, and a summary of them is written.
 
-ghost use Rattle.std.specs.Prelude.{◌≡◌, ◌≢◌, ◌<◌, ◌≤◌, IfOk};
-ghost use Rattle.cc_lists.specs.Faults.{Rose};
+ghost use Rattle.std.specs.Prelude.{◌≡◌, true, ◌≢◌, ◌<◌, ◌≤◌, IfOk};
+ghost use Rattle.cc_lists.specs.Faults.{raised, Rose};
 ghost use Rattle.cc_replay.specs.Summaries.{IsMadeRun, WritesSummary, WritesSummaryFront};
 
 use crate::answering::answer_input;
@@ -51,6 +51,9 @@ pub fn make<K: Sink>(alloc: Global, seed: u64, count: u32, sink: &mut K) -> Stat
     // A fault has its cause,
     ensures write { result ≡ Status.WriteFault → Rose (K.faults sink.old) (K.faults sink.new) }
     ensures written_well { result ≢ Status.WriteFault → K.faults sink.new ≡ K.faults sink.old }
+    // after one write that failed there is no other,
+    ensures write_once { result ≡ Status.WriteFault → K.faults sink.new ≡ raised (K.faults sink.old) 1 }
+    ensures write_last { result ≡ Status.WriteFault → (K.writes sink.new).last_failed ≡ true }
     // and where there is the cause, there is the answer.
     ensures write_always { K.faults sink.old < K.faults sink.new → result ≡ Status.WriteFault }
     ensures done_always { ¬ (Rose (K.faults sink.old) (K.faults sink.new)) → result ≢ Status.NoMemory → result ≡ Status.Done }

@@ -1,6 +1,6 @@
 //! A whole run: by limits, and by the words of a command line.
 
-ghost use Rattle.std.specs.Prelude.{◌≡◌, ◌≢◌, ◌<◌, ◌≤◌, ◌+◌, ◌⊎◌, ℕ, List, length, map, Some};
+ghost use Rattle.std.specs.Prelude.{◌≡◌, true, ◌≢◌, ◌<◌, ◌≤◌, ◌+◌, ◌⊎◌, ℕ, List, length, map, Some};
 ghost use Rattle.cc_names.specs.Allowance.{Allowance};
 ghost use Rattle.cc_lists.specs.Faults.{Rose};
 ghost use Rattle.cc_outside.specs.Counted.{raised};
@@ -52,6 +52,10 @@ pub fn replay<S: Source, K: Sink>(
     ensures write { result ≡ Status.WriteFault → Rose (K.faults sink.old) (K.faults sink.new) }
     ensures written_well { result ≢ Status.WriteFault → K.faults sink.new ≡ K.faults sink.old }
     ensures no_usage { result ≢ Status.Usage }
+
+    // Nothing is written after a write that failed: one at most fails, and it is the last.
+    ensures write_once { result ≡ Status.WriteFault → K.faults sink.new ≡ raised (K.faults sink.old) 1 }
+    ensures write_last { result ≡ Status.WriteFault → (K.writes sink.new).last_failed ≡ true }
 
     // And where there is the cause, there is the answer.
     ensures fault_always { S.faults source.old < S.faults source.new → result ≡ Status.ReadFault }
@@ -136,6 +140,11 @@ pub fn run<'a, S: Source, K: Sink>(
     ensures write { result ≡ Status.WriteFault → Rose (K.faults sink.old) (K.faults sink.new) }
     // which otherwise stays.
     ensures written_well { result ≢ Status.WriteFault → K.faults sink.new ≡ K.faults sink.old }
+
+    // Nothing is written after a write that failed: one at most fails,
+    ensures write_once { result ≡ Status.WriteFault → K.faults sink.new ≡ raised (K.faults sink.old) 1 }
+    // and it is the last.
+    ensures write_last { result ≡ Status.WriteFault → (K.writes sink.new).last_failed ≡ true }
 
     // And where there is the cause, there is the status: a count of the source that rose,
     ensures fault_always { S.faults source.old < S.faults source.new → result ≡ Status.ReadFault }

@@ -1,8 +1,8 @@
 //! The text of a summary: ten lines, each a word and a number.
 
-ghost use Rattle.std.specs.Prelude.{◌≡◌, ◌≤◌, ◌+◌, [], ◌∷◌, ◌++◌, length, map, All, OnErr, OnOk};
+ghost use Rattle.std.specs.Prelude.{◌≡◌, true, ◌≤◌, ◌+◌, [], ◌∷◌, ◌++◌, length, map, All, OnErr, OnOk};
 ghost use Rattle.std.specs.Io.KnownBytes.{Appends};
-ghost use Rattle.cc_lists.specs.Faults.{Rose};
+ghost use Rattle.cc_lists.specs.Faults.{raised};
 ghost use Rattle.cc_model.specs.Telling.{AppendsFront};
 ghost use Rattle.cc_replay.specs.Summaries.{line_of, summary_lines, summary_text};
 
@@ -48,12 +48,13 @@ fn text_of(line: Line) -> LineBuf
     text
 }
 
-/// Writes a summary, line by line.
+/// Writes a summary, line by line. A write that fails is the last.
 pub(crate) fn write_summary<K: Sink>(sums: &Sums, sink: &mut K) -> Result<(), Failed>
     ensures whole { OnOk result (Appends (K.written sink.old) (K.written sink.new) (summary_text sums.now)) }
     ensures calm { OnOk result (K.faults sink.new ≡ K.faults sink.old) }
     ensures part { OnErr result (AppendsFront (K.written sink.old) (K.written sink.new) (summary_text sums.now)) }
-    ensures rose { OnErr result (Rose (K.faults sink.old) (K.faults sink.new)) }
+    ensures once { OnErr result (K.faults sink.new ≡ raised (K.faults sink.old) 1) }
+    ensures last { OnErr result ((K.writes sink.new).last_failed ≡ true) }
 {
     'lines: for line in lines_of(sums).iter() {
         write_all(sink, text_of(*line).bytes())?;

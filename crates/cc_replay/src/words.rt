@@ -155,6 +155,3 @@ pub(crate) fn request_of<'a>(alloc: Global, words: &'a [&'a str]) -> Result<Requ
     let bytes = number_of(replay, "bytes");
     Ok(Request::Replay(Limits::new(natives, scripts, bytes)))
 }
-
-#[cfg(test)]
-mod tests;
