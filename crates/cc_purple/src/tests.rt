@@ -1,4 +1,4 @@
-//! The buffer through a vector of cells.
+//! The buffer through a vector of cells: each call once.
 ghost use Rattle.std.specs.Prelude.{◌≡◌, replicate, IfOk, IsTrue, true, false, None};
 ghost use Rattle.cc_chain.specs.Links.{is_live};
 ghost use Rattle.cc_purple.specs.Buffers.{IsSomeBuffer};
@@ -168,135 +168,23 @@ impl Kept {
 }
 
 #[test]
-fn suspects_keep_their_places_and_lose_or_gain_the_mark(rt: HostRuntime) -> Result<(), Fail> {
-    let mut kept = Kept::new(rt.alloc(), 8)?;
-    assert_eq!(rt; kept.first(), None);
-    assert_eq!(rt; kept.select_next(), None);
-    kept.suspect(7);
-    kept.suspect(2);
-    kept.touch(7);
-    kept.touch(5);
-    assert_eq!(rt; kept.first(), Some(NKey(7)));
-    assert_eq!(rt; kept.next(7), Some(NKey(2)));
-    assert_eq!(rt; kept.next(2), Some(NKey(5)));
-    assert_eq!(rt; kept.next(5), None);
-    assert!(rt; kept.holds(7));
-    assert!(rt; !kept.purple(7));
-    assert!(rt; kept.purple(2));
-    assert!(rt; !kept.holds(3));
-    assert!(rt; !kept.purple(3));
-    kept.suspect(5);
-    kept.forget(2);
-    kept.forget(3);
-    assert_eq!(rt; kept.select_next(), Some((NKey(7), false)));
-    kept.give_back(7);
-    assert_eq!(rt; kept.select_next(), Some((NKey(5), true)));
-    assert_eq!(rt; kept.select_next(), Some((NKey(7), true)));
-    assert_eq!(rt; kept.select_next(), None);
-    Ok(())
-}
-
-/// How many keys the made operations are of.
-const KEYS: usize = 12;
-
-/// Numbers without a pattern, the same in each run: a linear congruence.
-#[derive(Drop)]
-struct Numbers {
-    last: u32,
-}
-
-impl Numbers {
-    fn next(&mut self) -> u32 {
-        self.last = self.last.wrapping_mul(1664525).wrapping_add(1013904223);
-        self.last >> 16
+fn suspects_keep_their_places_and_lose_or_gain_the_mark(rt: HostRuntime) {
+    let made = Kept::new(rt.alloc(), 8);
+    assert!(rt; made.is_ok());
+    if let Ok(mut kept) = made {
+        assert_eq!(rt; kept.select_next(), None);
+        kept.suspect(7);
+        kept.suspect(2);
+        kept.touch(7);
+        assert_eq!(rt; kept.first(), Some(NKey(7)));
+        assert_eq!(rt; kept.next(7), Some(NKey(2)));
+        assert!(rt; kept.holds(7));
+        assert!(rt; !kept.purple(7));
+        assert!(rt; kept.purple(2));
+        kept.forget(2);
+        assert_eq!(rt; kept.select_next(), Some((NKey(7), false)));
+        kept.give_back(7);
+        assert_eq!(rt; kept.select_next(), Some((NKey(7), true)));
+        assert_eq!(rt; kept.first(), None);
     }
-}
-
-/// What `suspect`, `touch` and `give_back` do, to a plain vector of keys with marks.
-fn mark_plain(plain: &mut Vec<(usize, bool)>, key: usize, purple: bool) -> Result<(), AllocError> {
-    for marked in plain.iter_mut() {
-        if marked.0 == key {
-            marked.1 = purple;
-            return Ok(());
-        }
-    }
-    plain.push((key, purple))?;
-    Ok(())
-}
-
-/// What `select_next` does, to a plain vector of keys with marks.
-fn select_plain(plain: &mut Vec<(usize, bool)>) -> Option<(NKey, bool)> {
-    if plain.is_empty() {
-        return None;
-    }
-    let (key, purple) = plain.remove(0);
-    Some((NKey(key), purple))
-}
-
-/// One operation on both lists, as the numbers have it: whether they answer alike.
-fn same_step(
-    kept: &mut Kept,
-    plain: &mut Vec<(usize, bool)>,
-    numbers: &mut Numbers,
-) -> Result<bool, AllocError>
-    requires { IsSomeBuffer (⟦<Cells as LinkStore<Suspects>>⟧.links kept.old.store) (⟦<Cells as MarkStore>⟧.marks kept.old.store) kept.old.buffer }
-    ensures { IsSomeBuffer (⟦<Cells as LinkStore<Suspects>>⟧.links kept.new.store) (⟦<Cells as MarkStore>⟧.marks kept.new.store) kept.new.buffer }
-{
-    let key = numbers.next() as usize % KEYS;
-    match numbers.next() % 8 {
-        0 | 1 => return Ok(kept.select_next() == select_plain(plain)),
-        2 | 3 => {
-            kept.forget(key);
-            plain.retain(|marked| marked.0 != key);
-        }
-        4 | 5 => {
-            kept.touch(key);
-            mark_plain(plain, key, false)?;
-        }
-        6 => {
-            kept.suspect(key);
-            mark_plain(plain, key, true)?;
-        }
-        _ => {
-            kept.give_back(key);
-            mark_plain(plain, key, true)?;
-        }
-    }
-    Ok(true)
-}
-
-/// Whether a walk by `first` and `next` gives these keys, each of them held, with its mark.
-fn is_list(kept: &Kept, plain: &[(usize, bool)]) -> bool {
-    let mut at = kept.first();
-    for (key, purple) in plain {
-        if at != Some(NKey(*key)) || !kept.holds(*key) || kept.purple(*key) != *purple {
-            return false;
-        }
-        at = kept.next(*key);
-    }
-    at.is_none()
-}
-
-/// Whether no other key is held or purple.
-fn holds_no_other(kept: &Kept, plain: &[(usize, bool)]) -> bool {
-    for key in 0..KEYS {
-        if !plain.iter().any(|marked| marked.0 == key) && (kept.holds(key) || kept.purple(key)) {
-            return false;
-        }
-    }
-    true
-}
-
-#[test]
-fn runs_as_a_plain_vector_of_keys_with_marks(rt: HostRuntime) -> Result<(), Fail> {
-    let alloc = rt.alloc();
-    let mut kept = Kept::new(alloc, KEYS)?;
-    let mut plain = Vec::new(alloc);
-    let mut numbers = Numbers { last: 1 };
-    for _ in 0..10000 {
-        assert!(rt; same_step(&mut kept, &mut plain, &mut numbers)?);
-        assert!(rt; is_list(&kept, plain.as_slice()));
-        assert!(rt; holds_no_other(&kept, plain.as_slice()));
-    }
-    Ok(())
 }
