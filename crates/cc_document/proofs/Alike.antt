@@ -7,7 +7,7 @@ use Rattle.cc_names.specs.declared.name.Name.{Name}
 use Rattle.cc_names.specs.declared.name.Name.TheVariants as name
 use Rattle.cc_names.specs.declared.register.Reg.{Reg}
 use Rattle.cc_names.specs.declared.register.Reg.TheVariants.{N, S}
-use Rattle.cc_names.specs.Names.{object, reflector}
+use Rattle.cc_names.specs.Names.{object}
 use Rattle.cc_model.specs.Slots.{Slots}
 use Rattle.cc_model.specs.Checks.{slots_or_none, native_of}
 use Rattle.cc_model.specs.Graph.{Graph, GraphNative, GraphScript, plain_object, numbered, native_in, script_in, slots_of_script, objects_of, register, set_native, set_slot, with_slot, as_preserved, as_wrapped, with_script_slot, slots_or_blank, with_script, wrapped, preserve}

@@ -71,9 +71,9 @@ module _ (g : Graph) (w : IsWellMade g) (d : IsDocument g) (parent child a b pla
         }
 
   -- APPENDED
-  pub appended-reads : child_of (objects_of g) (element a) place ≡ None → parent_of (objects_of g) (element b) ≡ None →
+  pub appended-reads : child_of (objects_of g) (element a) place ≡ None → ((q : ℕ) → q < place → child_of (objects_of g) (element a) q ≢ None) → parent_of (objects_of g) (element b) ≡ None →
       IsAppended (objects_of g) (objects_of (appended parent place child g)) a b
-  appended-reads free alone =
+  appended-reads free lowest alone =
       let one = written-reads g child 0 (Some (N parent)) b (element a) in-child in-parent in
       let t = both-written (Some (N parent)) (Some (N child)) (element a) (element b) in-parent (one.registers (N child) ∙ in-child) in
       let k = appended parent place child g in
@@ -81,6 +81,7 @@ module _ (g : Graph) (w : IsWellMade g) (d : IsDocument g) (parent child a b pla
         place = place;
         within = within;
         free = free;
+        lowest = lowest;
         alone = alone;
         parent_now = ap element_of t.parent_now;
         child_now = ap element_of t.child_now;
@@ -93,14 +94,15 @@ module _ (g : Graph) (w : IsWellMade g) (d : IsDocument g) (parent child a b pla
       }
 
   -- REMOVED
-  pub removed-reads : child_of (objects_of g) (element a) place ≡ Some b → IsRemoved (objects_of g) (objects_of (removed parent place child g)) a b
-  removed-reads was =
+  pub removed-reads : child_of (objects_of g) (element a) place ≡ Some b → ((q : ℕ) → q < place → child_of (objects_of g) (element a) q ≢ Some b) → IsRemoved (objects_of g) (objects_of (removed parent place child g)) a b
+  removed-reads was lowest =
       let t = both-written None None None None refl refl in
       let k = removed parent place child g in
       record {
         place = place;
         within = within;
         was = was;
+        lowest = lowest;
         parent_now = ap element_of t.parent_now;
         child_now = ap element_of t.child_now;
         parents = λ e ne. ap element_of (t.elsewhere e 0 (inl ne) (inr (λ s. absurd (omega (arith, s)))));

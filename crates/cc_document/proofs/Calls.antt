@@ -1,5 +1,5 @@
 -- WHAT A CALL OF THE DOCUMENT FINDS AND LEAVES.
-use Rattle.std.proofs.Common.{◌≡◌, ℕ, ◌⊎◌, Bool, true, false, Option, Some, None, is_some, not, option_map, refl, sym, ◌∙◌, ap, inl, inr}
+use Rattle.std.proofs.Common.{◌≡◌, ◌≢◌, ℕ, ◌⊎◌, Bool, true, false, Option, Some, None, is_some, not, option_map, refl, sym, ◌∙◌, ap, inl, inr}
 use Rattle.std.proofs.lemmas.Bool.{false≢true, true≢false}
 use Rattle.cc_names.specs.declared.name.Name.{Name}
 use Rattle.cc_names.specs.declared.name.Name.TheVariants as name
@@ -15,7 +15,7 @@ use Rattle.cc_document.specs.declared.error.DocumentError.{DocumentError}
 use Rattle.cc_document.specs.declared.error.DocumentError.TheVariants.{Empty, HasParent, NoPlace, NoChild, Full, NoMemory}
 use Rattle.cc_document.specs.Words.{element, element_of, in_variable}
 use Rattle.cc_document.specs.Changes.{Between}
-use Rattle.cc_document.specs.Stops.{StopsListening, StopsWrapping}
+use Rattle.cc_document.specs.Stops.{StopsClosing, StopsListening, StopsWrapping}
 use Rattle.cc_document.specs.Shown.{Shows, parts}
 
 -- a collection leaves the document as it is
@@ -41,6 +41,11 @@ read-some r x b e t f = sym (ap is_some e) ∙ (mapped r ∙ (t ∙ ap not f))
 pub read-none : (r : Option NativeNo) (x : Option ℕ) (b : Bool) → option_map (λ (n : NativeNo). n.0) r ≡ x → b ≡ is_some r → b ≡ false → x ≡ None
 read-none None x b e t f = sym e
 read-none (Some n) x b e t f = absurd (true≢false (sym t ∙ f))
+
+-- what was read and tested to be there, is not nothing
+pub read-is_some : (r : Option NativeNo) (x : Option ℕ) (b : Bool) → option_map (λ (n : NativeNo). n.0) r ≡ x → b ≡ is_some r → b ≡ true → x ≢ None
+read-is_some None x b e t f = absurd (false≢true (sym t ∙ f))
+read-is_some (Some n) x b e t f = λ none. let both : Some n.0 ≡ None = e ∙ none in absurd (cc)
 
 -- between elements that are there
 pub between-from : (R : ℕ → ℕ → Type 0) (x y : Option Name) → is_some (element_of x) ≡ true → is_some (element_of y) ≡ true →
@@ -73,3 +78,12 @@ stops-entering o q v w NoPlace f s = absurd s
 stops-entering o q v w NoChild f s = absurd s
 stops-entering o q v w Full f s = absurd s
 stops-entering o q v w NoMemory f s = tt
+
+-- and why it got no closure
+pub stops-wrapping : (o q : Objects) (v : ℕ) (e : DocumentError) → (element_of (in_variable q v) ≡ None → element_of (in_variable o v) ≡ None) → StopsWrapping q v e → StopsClosing o v e
+stops-wrapping o q v Empty f s = f s
+stops-wrapping o q v HasParent f s = absurd s
+stops-wrapping o q v NoPlace f s = absurd s
+stops-wrapping o q v NoChild f s = absurd s
+stops-wrapping o q v Full f s = absurd s
+stops-wrapping o q v NoMemory f s = tt

@@ -12,7 +12,7 @@ use Rattle.cc_names.specs.declared.register.Reg.TheVariants.{N, S}
 use Rattle.cc_names.specs.Names.{native, reflector}
 use Rattle.cc_model.specs.Slots.{Slots}
 use Rattle.cc_model.specs.Entries.{value_in}
-use Rattle.cc_model.specs.Checks.{Objects, slots_or_none, native_of, reflector_of, value_at}
+use Rattle.cc_model.specs.Checks.{Objects, native_of, reflector_of, value_at}
 use Rattle.cc_model.specs.WellFormed.{script_names}
 use Rattle.cc_model.specs.Heap.{objects_of, register}
 use Rattle.cc_laws_heap.proofs.EntryLists.{found-among}

@@ -1,5 +1,5 @@
 -- A CLOSURE MADE, which becomes a listener or data, in the host's words.
-use Rattle.std.proofs.Common.{◌≡◌, ◌≢◌, ℕ, ◌+◌, ◌≤◌, true, length, get_or, List, [], ◌∷◌, Option, Some, None, is_some, option_map, IsTrue, refl, sym, ◌∙◌, ap, subst, inl, inr, arith}
+use Rattle.std.proofs.Common.{◌≡◌, ◌≢◌, ℕ, ◌+◌, length, set, get_or, List, [], ◌∷◌, Option, Some, None, is_some, option_map, IsTrue, refl, sym, ◌∙◌, ap, subst, inl, inr, arith}
 use Rattle.std.proofs.lemmas.Bool.{and_parts, false≢true}
 use Rattle.std.proofs.lemmas.List.{length-set, get_or-set_same, get_or-set_other}
 use Rattle.cc_names.specs.declared.name.Name.{Name}
@@ -8,7 +8,7 @@ use Rattle.cc_names.specs.Names.{object, reflector, is_script}
 use Rattle.cc_model.specs.declared.command.Command.TheVariants.{Script}
 use Rattle.cc_model.specs.Entries.{Entry, value_in, with_entry}
 use Rattle.cc_model.specs.Checks.{refusal_of, native_of, reflector_of, value_at}
-use Rattle.cc_model.specs.Graph.{Graph, GraphNative, plain_object, native_in, script_in, objects_of, register, set_register, set_slot, set_entry, with_script, wrapped, preserve, changed, unless_refused}
+use Rattle.cc_model.specs.Graph.{Graph, GraphNative, plain_object, numbered, native_in, script_in, objects_of, register, set_register, set_slot, set_entry, with_script, wrapped, preserve, changed, unless_refused}
 use Rattle.cc_model.specs.WellMade.{IsWellMade, was_made}
 use Rattle.cc_laws_heap.proofs.Holds.{OfSome, contents-at}
 use Rattle.cc_laws_heap.proofs.EntryLists.{found-among}
@@ -18,7 +18,6 @@ use Rattle.cc_document.specs.Changes.{IsAsBefore, IsHeard, HasData}
 use Rattle.cc_document.specs.Shown.{IsDocument, HasClosure, HasNewClosure, written, wrapping, without, making_closure, closing, entering, closed_over, entered}
 use Rattle.cc_document.proofs.Alike.{AreAlike, AreAlike-then, wrapped-alike, preserve-alike, plain-alike, IsClosed, closure-written, slot_in}
 use Rattle.cc_document.proofs.Appending.{element-made, data-alike, value-alike, written-reads}
-use Rattle.cc_document.proofs.Holding.{room-for_script}
 use Rattle.cc_document.proofs.Values.{value-own, value-other}
 
 -- the closure that comes next
@@ -58,6 +57,12 @@ wrapping-reads g v enough =
 -- a closure stays in its register meanwhile
 pub closure-wrapped : (g : Graph) (v : ℕ) → length g.script_registers ≡ 256 → HasClosure g → HasClosure (wrapping v g)
 closure-wrapped g v enough n = record { number = n.number; held = (wrapping-reads g v enough).others 1 (λ e. cc) ∙ n.held }
+
+-- and it is as new as it was
+pub new_closure-wrapped : (g : Graph) (v : ℕ) → length g.script_registers ≡ 256 → HasNewClosure g → HasNewClosure (wrapping v g)
+new_closure-wrapped g v enough n =
+    let t = wrapping-reads g v enough in
+    record { number = n.number; held = t.others 1 (λ e. cc) ∙ n.held; made = ap (λ os. numbered os n.number) t.scripts ∙ n.made }
 
 -- and where the register of the reflector is emptied, a document reads as before
 pub unwrapped-reads : (g : Graph) (v : ℕ) → length g.script_registers ≡ 256 → IsAsBefore (objects_of g) (objects_of (without 2 (wrapping v g)))
@@ -108,38 +113,32 @@ closure-closed g n = record {
 }
 
 pub closed_over-reads : (g : Graph) (about b : ℕ) → length g.script_registers ≡ 256 → register g (N about) ≡ element b →
-    refusal_of (objects_of (wrapping about g)) (Script 1 1) ≡ None → IsClosedOver g (closed_over about g) b
+    refusal_of (objects_of g) (Script 1 1) ≡ None → IsClosedOver g (closed_over about g) b
 closed_over-reads g about b enough in-about taken =
-    let h = wrapping about g in
-    let t = wrapping-reads g about enough in
     let a = length g.scripts + 1 in
-    let next : next_closure h ≡ next_closure g = ap (λ os. Some (object (length os + 1))) t.scripts in
-    let m = set_register (with_script h (plain_object (None ∷ []))) (S 1) (next_closure h) in
-    let is : making_closure h ≡ m = making-is h taken in
-    let held : register m (S 1) ≡ Some (object a) = get_or-set_same h.script_registers 1 (next_closure h) None (omega (arith, t.script_registers)) ∙ next in
-    let wrapper : register m (S 2) ≡ Some (reflector b) =
-    get_or-set_other h.script_registers 1 2 (next_closure h) None (λ e. cc) ∙ (t.wrapper ∙ ap reflector_of in-about) in
-    let c = closing-reads m a (Some (reflector b)) held wrapper in
-    let k = closing m in
-    let p = plain-alike h (Some (object a)) in
-    let made : script_in m a ≡ Some (plain_object (None ∷ [])) =
-    subst (λ i. script_in m i ≡ Some (plain_object (None ∷ []))) (ap (λ os. length os + 1) t.scripts) (numbered-push h.scripts (plain_object (None ∷ []))) in
-    subst (λ j. IsClosedOver g (without 2 (closing j)) b) (sym is) (record {
-      alike = AreAlike-then (Some (object a)) g h (without 2 k) (record { slots = t.slots; spoken = λ x ne. t.spoken x; entries = t.entries })
-          (AreAlike-then (Some (object a)) h m (without 2 k) (record { slots = p.slots; spoken = p.spoken; entries = p.entries })
+    let next = next_closure g in
+    let m = set_register (with_script g (plain_object (None ∷ []))) (S 1) next in
+    let is : making_closure g ≡ m = making-is g taken in
+    let many : length m.script_registers ≡ 256 = length-set g.script_registers 1 next ∙ enough in
+    let h = wrapping about m in
+    let t = wrapping-reads m about many in
+    let held : register h (S 1) ≡ Some (object a) = t.others 1 (λ e. cc) ∙ get_or-set_same g.script_registers 1 next None (omega (arith, enough)) in
+    let wrapper : register h (S 2) ≡ Some (reflector b) = t.wrapper ∙ ap reflector_of in-about in
+    let c = closing-reads h a (Some (reflector b)) held wrapper in
+    let k = closing h in
+    let p = plain-alike g (Some (object a)) in
+    let made : script_in h a ≡ Some (plain_object (None ∷ [])) =
+    ap (λ os. numbered os a) t.scripts ∙ numbered-push g.scripts (plain_object (None ∷ [])) in
+    subst (λ j. IsClosedOver g (without 2 (closing (wrapping about j))) b) (sym is) (record {
+      alike = AreAlike-then (Some (object a)) g m (without 2 k) (record { slots = p.slots; spoken = p.spoken; entries = p.entries })
+          (AreAlike-then (Some (object a)) m h (without 2 k) (record { slots = t.slots; spoken = λ x ne. t.spoken x; entries = t.entries })
           (record { slots = c.alike.slots; spoken = c.alike.spoken; entries = c.alike.entries }));
       variables = λ v. c.registers (N v) ∙ t.variables v;
       the_map = get_or-set_other k.script_registers 2 0 None None (λ e. cc)
-          ∙ (c.registers (S 0) ∙ (get_or-set_other h.script_registers 1 0 (next_closure h) None (λ e. cc) ∙ t.others 0 (λ e. cc)));
+          ∙ (c.registers (S 0) ∙ (t.others 0 (λ e. cc) ∙ get_or-set_other g.script_registers 1 0 next None (λ e. cc)));
       closure = get_or-set_other k.script_registers 2 1 None None (λ e. cc) ∙ (c.registers (S 1) ∙ held);
       spoken = c.now made;
     })
-
--- a closure may be made after the reflector is in its register where it might before
-pub room-wrapped : (g : Graph) (v : ℕ) → length g.script_registers ≡ 256 → ¬ (g.limits.scripts ≤ length g.scripts) → refusal_of (objects_of (wrapping v g)) (Script 1 1) ≡ None
-room-wrapped g v enough room =
-    let t = wrapping-reads g v enough in
-    room-for_script (objects_of (wrapping v g)) (λ h. room (subst (λ l. l.scripts ≤ length g.scripts) t.limits (subst (λ os. (wrapping v g).limits.scripts ≤ length os) t.scripts h)))
 
 -- What was made does not hold the closure that comes next
 
@@ -171,7 +170,23 @@ closed_over-before g k b w c = record {
       ∙ c.alike.spoken (value_at (objects_of g) (register g (S 0)) (Some (reflector e))) (value-not_next g w (register g (S 0)) (reflector e));
 }
 
--- and once it was let go
+-- and where it was let go at once
+pub made-before : (g : Graph) → IsWellMade g → refusal_of (objects_of g) (Script 1 1) ≡ None → IsAsBefore (objects_of g) (objects_of (without 1 (making_closure g)))
+made-before g w taken =
+    let next = next_closure g in
+    let p = plain-alike g next in
+    let k = without 1 (set_register (with_script g (plain_object (None ∷ []))) (S 1) next) in
+    let m : register k (S 0) ≡ register g (S 0) = get_or-set_other (set g.script_registers 1 next) 1 0 None None (λ e. cc) ∙ get_or-set_other g.script_registers 1 0 next None (λ e. cc) in
+    subst (λ j. IsAsBefore (objects_of g) (objects_of (without 1 j))) (sym (making-is g taken)) (record {
+      variables = λ v. refl;
+      parents = λ e. ap element_of (p.slots e 0);
+      children = λ e i. ap element_of (p.slots e (i + 2));
+      listeners = λ e. ap (spoken_of (objects_of k)) (p.slots e 1) ∙ p.spoken (slot_of (objects_of g) (element e) 1) (slot-not_next g w e 1);
+      attached = λ e. ap (spoken_of (objects_of k)) (value-alike g k refl m (reflector e))
+          ∙ p.spoken (value_at (objects_of g) (register g (S 0)) (Some (reflector e))) (value-not_next g w (register g (S 0)) (reflector e));
+    })
+
+-- a document reads as before once a closure was let go
 pub without-before : (g : Graph) → IsAsBefore (objects_of g) (objects_of (without 1 g))
 without-before g = record {
   variables = λ v. refl;

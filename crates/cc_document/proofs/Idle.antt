@@ -1,7 +1,7 @@
 -- SCRIPT REGISTERS AFTER EACH CALL hold what they held, or nothing; so no closure stays in one.
 use Rattle.std.proofs.Common.{◌≡◌, ◌≢◌, ℕ, zero, suc, ◌+◌, ◌⊎◌, List, [], ◌∷◌, length, set, get_or, Option, Some, None, option_map, refl, sym, ◌∙◌, ap, inl, inr, ⊎_elim}
 use Rattle.std.proofs.lemmas.Bool.Decides.{eqb_tells}
-use Rattle.std.proofs.lemmas.List.{get_or-set_other}
+use Rattle.std.proofs.lemmas.List.{length-set, get_or-set_other}
 use Rattle.cc_names.specs.declared.name.Name.{Name}
 use Rattle.cc_names.specs.declared.name.Name.TheVariants as name
 use Rattle.cc_names.specs.declared.register.Reg.{Reg}
@@ -11,7 +11,6 @@ use Rattle.cc_model.specs.declared.command.Command.TheVariants.{Native, Script}
 use Rattle.cc_model.specs.declared.item.Refusal.{Refusal}
 use Rattle.cc_model.specs.Checks.{refusal_of}
 use Rattle.cc_model.specs.Graph.{Graph, GraphNative, GraphScript, native_in, script_in, objects_of, register, source, set_native, set_script, set_slot, with_slot, with_reflector_slot, with_script_slot, as_preserved, preserve, set_entry, changed, unless_refused}
-use Rattle.cc_model.specs.Heap as heap
 use Rattle.cc_heaps.specs.Keyed.{Keyed}
 use Rattle.cc_builder.specs.Building.{Built}
 use Rattle.cc_document.specs.Words.{element_slots}
@@ -101,15 +100,27 @@ making-others g r ne = go (refusal_of (objects_of g) (Script 1 1))
 pub unwrapped-left : (g : Graph) (v : ℕ) → length g.script_registers ≡ 256 → LetsScripts (objects_of g) (objects_of (without 2 (wrapping v g)))
 unwrapped-left g v enough r = ⊎_elim (λ t. inr t.1) (λ t. inl (t.1 ∙ (wrapping-reads g v enough).others r t.0)) (without-lets (wrapping v g) 2 r)
 
+making-enough : (g : Graph) → length g.script_registers ≡ 256 → length (making_closure g).script_registers ≡ 256
+unfolding changed
+making-enough g enough = go (refusal_of (objects_of g) (Script 1 1))
+  where
+    go : (o : Option Refusal) → length (unless_refused o g (changed g (Script 1 1))).script_registers ≡ 256
+    go None = length-set g.script_registers 1 (Some (object (length g.scripts + 1))) ∙ enough
+    go (Some refusal) = enough
+
 closed_over-others : (g : Graph) (about r : ℕ) → length g.script_registers ≡ 256 → r ≢ 1 →
     (register (closed_over about g) (S r) ≡ register g (S r)) ⊎ (register (closed_over about g) (S r) ≡ None)
 closed_over-others g about r enough ne =
-    let h = wrapping about g in
-    let m = making_closure h in
+    let m = making_closure g in
+    let h = wrapping about m in
     ⊎_elim
     (λ t. inr t.1)
-    (λ t. inl (t.1 ∙ (slot-registers m (register m (S 1)) 0 (register m (S 2)) (S r) ∙ (making-others h r ne ∙ (wrapping-reads g about enough).others r t.0))))
-    (without-lets (closing m) 2 r)
+    (λ t. inl (t.1 ∙ (slot-registers h (register h (S 1)) 0 (register h (S 2)) (S r) ∙ ((wrapping-reads m about (making-enough g enough)).others r t.0 ∙ making-others g r ne))))
+    (without-lets (closing h) 2 r)
+
+-- a closure that was made and let go
+pub made-left : (g : Graph) → LetsScripts (objects_of g) (objects_of (without 1 (making_closure g)))
+made-left g r = ⊎_elim (λ t. inr t.1) (λ t. inl (t.1 ∙ making-others g r t.0)) (without-lets (making_closure g) 1 r)
 
 pub listened-left : (g : Graph) (to about : ℕ) → length g.script_registers ≡ 256 → LetsScripts (objects_of g) (objects_of (listened to about g))
 listened-left g to about enough r =

@@ -15,3 +15,4 @@ pub mod Calls
 pub mod Beginning
 pub mod Idle
 pub mod Freed
+pub mod Growing

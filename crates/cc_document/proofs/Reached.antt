@@ -1,5 +1,5 @@
 -- WHAT VARIABLES LEAD TO IS REACHED, and elements have their slots.
-use Rattle.std.proofs.Common.{◌≡◌, ℕ, [], true, length, Option, Some, None, is_some, IsSome, refl, sym, ◌∙◌, ap, subst}
+use Rattle.std.proofs.Common.{◌≡◌, ℕ, ◌<◌, [], true, length, Option, Some, None, is_some, IsSome, refl, sym, ◌∙◌, ap, subst}
 use Rattle.std.specs.Option.{option_and_then}
 use Rattle.std.proofs.lemmas.Bool.{false≢true}
 use Rattle.cc_names.specs.declared.name.Name.{Name}
@@ -19,9 +19,12 @@ use Rattle.cc_laws_heap.proofs.ReachedAlike.{reached-in}
 use Rattle.cc_laws_heap.proofs.ReachedReads.{register-reached, slot_at-reached}
 use Rattle.cc_laws_heap.proofs.RepliesAlike.{AreAlike, objects-stand, slot_at-alike}
 use Rattle.cc_counted.specs.Counts.{slots_of}
-use Rattle.cc_heaps.specs.Keyed.{Keyed, number_at, counts_of}
+use Rattle.cc_model.specs.Heap.{native_at}
+use Rattle.cc_model.specs.End.{slots_now}
+use Rattle.cc_heaps.specs.Keyed.{Keyed, number_at, the_number, counts_of}
 use Rattle.cc_heaps.specs.Changes.{native_name}
 use Rattle.cc_heaps.specs.Standing.{IsReached}
+use Rattle.cc_heaps.proofs.Following.{within-named}
 use Rattle.cc_builder.specs.Building.{Built}
 use Rattle.cc_mutator.proofs.NativesRead.{native-at, slots-as_many}
 use Rattle.cc_document.specs.Words.{element_slots}
@@ -70,3 +73,7 @@ module _ (v : Keyed) (c : Option Built) (g : Graph) (s : Shows (parts v c) g) wh
     slots-of_key =
         slots-as_many [] v s.runs.order r key name there
         ∙ (ap (λ o. length (slots_or_none o)) (alike.slots (N r)) ∙ slots-of_variable r (ap is_some variable-holds))
+
+    -- a slot of an element is one of its slots
+    pub within-key : (i : ℕ) → i < element_slots → i < length (slots_now (native_at v.heap (the_number v key.0)))
+    within-key i few = within-named v key.0 i (subst (λ n. i < n) (sym slots-of_key) few)

@@ -47,11 +47,12 @@ pub record IsAssigned (o p : Objects) (v : ℕ) (x : Option Name) : Type 0 where
   pub listeners : SameListeners o p
   pub attached : SameData o p
 
--- AN ELEMENT IS THE CHILD OF ANOTHER at some place that was free, and nothing else changed
+-- AN ELEMENT IS THE CHILD OF ANOTHER at the lowest place that was free, and nothing else changed
 pub record IsAppended (o p : Objects) (parent child : ℕ) : Type 0 where
   pub place : ℕ
   pub within : place < places
   pub free : child_of o (element parent) place ≡ None
+  pub lowest : (q : ℕ) → q < place → child_of o (element parent) q ≢ None
   pub alone : parent_of o (element child) ≡ None
   pub parent_now : parent_of p (element child) ≡ Some parent
   pub child_now : child_of p (element parent) place ≡ Some child
@@ -62,11 +63,12 @@ pub record IsAppended (o p : Objects) (parent child : ℕ) : Type 0 where
   pub listeners : SameListeners o p
   pub attached : SameData o p
 
--- AN ELEMENT IS THE CHILD OF ANOTHER NO MORE, at some place where it was, and nothing else changed
+-- AN ELEMENT IS THE CHILD OF ANOTHER NO MORE, at the lowest place where it was, and nothing else changed
 pub record IsRemoved (o p : Objects) (parent child : ℕ) : Type 0 where
   pub place : ℕ
   pub within : place < places
   pub was : child_of o (element parent) place ≡ Some child
+  pub lowest : (q : ℕ) → q < place → child_of o (element parent) q ≢ Some child
   pub parent_now : parent_of p (element child) ≡ None
   pub child_now : child_of p (element parent) place ≡ None
   pub parents : (e : ℕ) → e ≢ child → parent_of p (element e) ≡ parent_of o (element e)

@@ -1,5 +1,5 @@
 pub mod Words
 pub mod Changes
+pub mod Told
 pub mod Shown
 pub mod Stops
-pub mod Told

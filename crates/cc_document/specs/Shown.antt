@@ -1,5 +1,5 @@
 -- THE DOCUMENT THAT THE HEAPS SHOW: a graph from which nothing is freed, and what each step makes of it.
-use Rattle.std.specs.Prelude.{◌≡◌, ◌≢◌, ℕ, [], ◌∷◌, Option, Some, None, option_map, length}
+use Rattle.std.specs.Prelude.{◌≡◌, ◌≢◌, ℕ, ◌⊎◌, [], ◌∷◌, Option, Some, None, option_map, length}
 use Rattle.cc_names.specs.Allowance.{Allowance}
 use Rattle.cc_names.specs.declared.register.Reg.{Reg}
 use Rattle.cc_names.specs.declared.register.Reg.TheVariants.{N, S}
@@ -15,6 +15,7 @@ use Rattle.cc_heaps.specs.Keyed.{Keyed}
 use Rattle.cc_builder.specs.Building.{Built}
 use Rattle.cc_collector.specs.Kept.{RunsIn, machine_of}
 use Rattle.cc_document.specs.declared.variable.Variable.{Variable}
+use Rattle.cc_document.specs.Told.{AreMade}
 use Rattle.cc_document.specs.Words.{element_slots, elements, parent_slot, listener_slot, child_slot, spoken_slot, data_register, closure_register, wrapper_register}
 
 -- the heaps, and the running collection
@@ -67,6 +68,15 @@ IsShownWith p P = (g : Graph) × Shows p g × P g
 -- and each is shown by a graph that is a change of it, in the host's words
 abbrev pub ShowsChanged : Parts → Parts → (Objects → Objects → Type 0) → Type 0
 ShowsChanged p q R = (g : Graph) → Shows p g → (k : Graph) × Shows q k × R (objects_of g) (objects_of k)
+
+-- SO MANY elements were made, and so many listeners and data; the collection that runs, if any, is as it was
+pub record Makes (elements closures : ℕ) (old new : Parts) : Type 0 where
+  pub running : new.running ≡ old.running
+  pub made : AreMade elements closures old.heaps.heap new.heaps.heap
+
+-- at most one listener or data was made, in vain
+abbrev pub MakesOneAtMost : Parts → Parts → Type 0
+MakesOneAtMost old new = Makes 0 0 old new ⊎ Makes 0 1 old new
 
 -- The steps
 
@@ -128,7 +138,7 @@ removed parent place child g = written parent (child_slot place) None (written c
 
 -- a script register holds a closure that speaks of the element in a variable
 abbrev pub closed_over : ℕ → Graph → Graph
-closed_over about g = without wrapper_register (closing (making_closure (wrapping about g)))
+closed_over about g = without wrapper_register (closing (wrapping about (making_closure g)))
 
 -- the element in a variable has it for its listener; or for its data
 abbrev pub listened : ℕ → ℕ → Graph → Graph

@@ -38,17 +38,18 @@ StopsMaking o Full = IsMadeFull o
 StopsMaking o NoMemory = Unit {0}
 StopsMaking o _ = ⊥
 
--- why none is appended
+-- why none is appended: a later cause stops it only where no earlier one does
 abbrev pub StopsAppending : Objects → ℕ → ℕ → DocumentError → Type 0
 StopsAppending o parent child Empty = LacksElement o parent child
-StopsAppending o parent child HasParent = parent_of o (in_variable o child) ≢ None
-StopsAppending o parent child NoPlace = (place : ℕ) → place < places → child_of o (in_variable o parent) place ≢ None
+StopsAppending o parent child HasParent = (¬ (LacksElement o parent child)) × (parent_of o (in_variable o child) ≢ None)
+StopsAppending o parent child NoPlace = (¬ (LacksElement o parent child)) × (parent_of o (in_variable o child) ≡ None) ×
+    ((place : ℕ) → place < places → child_of o (in_variable o parent) place ≢ None)
 StopsAppending o parent child _ = ⊥
 
 -- why none is removed
 abbrev pub StopsRemoving : Objects → ℕ → ℕ → DocumentError → Type 0
 StopsRemoving o parent child Empty = LacksElement o parent child
-StopsRemoving o parent child NoChild = (place : ℕ) → place < places → child_of o (in_variable o parent) place ≢ element_of (in_variable o child)
+StopsRemoving o parent child NoChild = (¬ (LacksElement o parent child)) × ((place : ℕ) → place < places → child_of o (in_variable o parent) place ≢ element_of (in_variable o child))
 StopsRemoving o parent child _ = ⊥
 
 -- why a variable's element gets no reflector, and why no closure is made

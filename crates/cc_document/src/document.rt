@@ -15,8 +15,8 @@ ghost use Rattle.cc_document.specs.declared.error.DocumentError.TheVariants.{Emp
 ghost use Rattle.cc_document.specs.Words.{places, in_variable, element, elements, element_of, parent_of, child_of, listener_of, data_of};
 ghost use Rattle.cc_document.specs.Changes.{Between, IsAsBefore, IsAssigned, IsAppended, IsRemoved, IsHeard, HasData};
 ghost use Rattle.cc_document.specs.Stops.{IsScriptFull, LacksElement, StopsBeginning, StopsMaking, StopsAppending, StopsRemoving, StopsListening};
-ghost use Rattle.cc_document.specs.Shown.{Shows, ShowsChanged, StillShows, IsIdle, empty_document};
-ghost use Rattle.cc_document.specs.Told.{TellsWhatIsFreed};
+ghost use Rattle.cc_document.specs.Shown.{Shows, ShowsChanged, StillShows, IsIdle, Makes, MakesOneAtMost, empty_document};
+ghost use Rattle.cc_document.specs.Told.{AreMade, NothingLeft, TellsWhatIsFreed};
 
 use crate::error::DocumentError;
 use crate::reading::{data_of, element_at, element_in, listener_of, place_of};
@@ -51,11 +51,15 @@ impl Document {
     /// A document without elements. As many elements may ever be made as the limits say of natives, and as many listeners
     /// and data as they say of script objects, less one, which is the weak map of all data.
     ///
-    /// `Full` where the limits allow no script object, else `NoMemory`.
+    /// `Full` exactly where the limits allow no script object, else `NoMemory`.
     pub fn new(alloc: Global, limits: Limits) -> Result<Document, DocumentError>
         ensures empty { IfOk result (λ d. Shows d (empty_document limits)) }
         ensures stops { (e : DocumentError) → result ≡ Err e → StopsBeginning limits e }
+        ensures full { limits.scripts ≤ 0 → result ≡ Err Full }
     {
+        if limits.scripts() == 0 {
+            return Err(DocumentError::Full);
+        }
         let mut heaps = Heaps::new(alloc, limits)?;
         heaps.new_map(DATA)?;
         Ok(Document {
@@ -113,8 +117,9 @@ impl Document {
         ensures number { IfOk result (λ n. (g : Graph) → Shows self.old g → n.0 ≡ length g.natives + 1) }
         ensures stops { (e : DocumentError) → result ≡ Err e → (g : Graph) → Shows self.old g → StopsMaking (objects_of g) e }
         ensures full { (g : Graph) → Shows self.old g → g.limits.natives ≤ length g.natives → result ≡ Err Full }
+        ensures makes { OnOk result (Makes 1 0 self.old self.new) }
         ensures same { OnErr result (self.new ≡ self.old) }
-        ensures tells { TellsWhatIsFreed self.new.heaps.heap (N.telling out.old) (N.telling out.new) }
+        ensures tells { TellsWhatIsFreed self.old.heaps.heap self.new.heaps.heap (N.telling out.old) (N.telling out.new) }
     {
         match self.heaps.new_native(into.0, SLOTS, out)? {
             Name::Native(number) => Ok(number),
@@ -122,10 +127,10 @@ impl Document {
         }
     }
 
-    /// The element in one variable is a child of that in another from then on, at a place that was free.
+    /// The element in one variable is a child of that in another from then on, at the lowest place that was free.
     ///
-    /// `Empty` where a variable holds nothing, `HasParent` where the child has a parent, `NoPlace` where each place has a
-    /// child. None of them changes anything. Takes no memory.
+    /// `Empty` exactly where a variable holds nothing, else `HasParent` exactly where the child has a parent, else `NoPlace`
+    /// exactly where each place has a child. None of them changes anything. Takes no memory.
     pub fn append<N: Notices>(
         &mut self,
         parent: Variable,
@@ -135,8 +140,9 @@ impl Document {
         ensures appended { OnOk result (ShowsChanged self.old self.new (λ o p.
             Between (IsAppended o p) (element_of (in_variable o parent.0)) (element_of (in_variable o child.0)))) }
         ensures stops { (e : DocumentError) → result ≡ Err e → (g : Graph) → Shows self.old g → StopsAppending (objects_of g) parent.0 child.0 e }
+        ensures makes { Makes 0 0 self.old self.new }
         ensures same { OnErr result (self.new ≡ self.old) }
-        ensures tells { TellsWhatIsFreed self.new.heaps.heap (N.telling out.old) (N.telling out.new) }
+        ensures tells { TellsWhatIsFreed self.old.heaps.heap self.new.heaps.heap (N.telling out.old) (N.telling out.new) }
     {
         if self.element(parent).is_none() || self.element(child).is_none() {
             return Err(DocumentError::Empty);
@@ -156,8 +162,8 @@ impl Document {
     /// The element in one variable is a child of that in another no more, and has no parent. It stays in the variable; what
     /// no variable leads to then is for the collector.
     ///
-    /// `Empty` where a variable holds nothing, `NoChild` where no place of the one has the other. Neither changes anything.
-    /// Takes no memory.
+    /// `Empty` exactly where a variable holds nothing, else `NoChild` exactly where no place of the one has the other. Neither
+    /// changes anything. Takes no memory.
     pub fn remove<N: Notices>(
         &mut self,
         parent: Variable,
@@ -167,8 +173,9 @@ impl Document {
         ensures removed { OnOk result (ShowsChanged self.old self.new (λ o p.
             Between (IsRemoved o p) (element_of (in_variable o parent.0)) (element_of (in_variable o child.0)))) }
         ensures stops { (e : DocumentError) → result ≡ Err e → (g : Graph) → Shows self.old g → StopsRemoving (objects_of g) parent.0 child.0 e }
+        ensures makes { Makes 0 0 self.old self.new }
         ensures same { OnErr result (self.new ≡ self.old) }
-        ensures tells { TellsWhatIsFreed self.new.heaps.heap (N.telling out.old) (N.telling out.new) }
+        ensures tells { TellsWhatIsFreed self.old.heaps.heap self.new.heaps.heap (N.telling out.old) (N.telling out.new) }
     {
         let removed = self.element(child);
         if self.element(parent).is_none() || removed.is_none() {
@@ -186,8 +193,9 @@ impl Document {
     /// The element in one variable has a new listener from then on, which closes over the element in another: it holds the
     /// reflector of that.
     ///
-    /// `Empty` exactly where a variable holds nothing; `Full` only where as many listeners and data as the limit were ever
-    /// made, and there is no Ok then; `NoMemory` where memory was wanted. The document is as it was then.
+    /// `Empty` exactly where a variable holds nothing, else `Full` exactly where as many listeners and data as the limit were
+    /// ever made, else `NoMemory` where memory was wanted. The document is as it was then, but that a listener may have been
+    /// made in vain, which counts.
     pub fn listen<N: Notices>(
         &mut self,
         to: Variable,
@@ -198,9 +206,11 @@ impl Document {
             Between (IsHeard o p) (element_of (in_variable o to.0)) (element_of (in_variable o about.0)))) }
         ensures stops { (e : DocumentError) → result ≡ Err e → (g : Graph) → Shows self.old g → StopsListening (objects_of g) to.0 about.0 e }
         ensures empty { (g : Graph) → Shows self.old g → LacksElement (objects_of g) to.0 about.0 → result ≡ Err Empty }
-        ensures room { OnOk result ((g : Graph) → Shows self.old g → ¬ (IsScriptFull (objects_of g))) }
+        ensures full { (g : Graph) → Shows self.old g → ¬ (LacksElement (objects_of g) to.0 about.0) → IsScriptFull (objects_of g) → result ≡ Err Full }
+        ensures makes { OnOk result (Makes 0 1 self.old self.new) }
         ensures same { OnErr result (ShowsChanged self.old self.new IsAsBefore) }
-        ensures tells { TellsWhatIsFreed self.new.heaps.heap (N.telling out.old) (N.telling out.new) }
+        ensures tried { OnErr result (MakesOneAtMost self.old self.new) }
+        ensures tells { TellsWhatIsFreed self.old.heaps.heap self.new.heaps.heap (N.telling out.old) (N.telling out.new) }
     {
         if self.element(to).is_none() || self.element(about).is_none() {
             return Err(DocumentError::Empty);
@@ -213,7 +223,7 @@ impl Document {
     }
 
     /// The element in one variable has data from then on that speak of the element in another, in place of those that it
-    /// had. They go with the element.
+    /// had. They go with the element. Nothing is freed: what it had stays until the next trace (`stays`).
     ///
     /// `Empty`, `Full` and `NoMemory` as at `listen`.
     pub fn put_data(&mut self, of: Variable, about: Variable) -> Result<(), DocumentError>
@@ -221,8 +231,11 @@ impl Document {
             Between (HasData o p) (element_of (in_variable o of.0)) (element_of (in_variable o about.0)))) }
         ensures stops { (e : DocumentError) → result ≡ Err e → (g : Graph) → Shows self.old g → StopsListening (objects_of g) of.0 about.0 e }
         ensures empty { (g : Graph) → Shows self.old g → LacksElement (objects_of g) of.0 about.0 → result ≡ Err Empty }
-        ensures room { OnOk result ((g : Graph) → Shows self.old g → ¬ (IsScriptFull (objects_of g))) }
+        ensures full { (g : Graph) → Shows self.old g → ¬ (LacksElement (objects_of g) of.0 about.0) → IsScriptFull (objects_of g) → result ≡ Err Full }
+        ensures makes { OnOk result (Makes 0 1 self.old self.new) }
         ensures same { OnErr result (ShowsChanged self.old self.new IsAsBefore) }
+        ensures tried { OnErr result (MakesOneAtMost self.old self.new) }
+        ensures stays { NothingLeft self.old.heaps.heap self.new.heaps.heap }
     {
         if self.element(of).is_none() || self.element(about).is_none() {
             return Err(DocumentError::Empty);
@@ -241,7 +254,8 @@ impl Document {
     pub fn visit_child<N: Notices>(&mut self, into: Variable, of: Variable, place: u8, out: &mut N)
         requires within { place < places }
         ensures assigned { ShowsChanged self.old self.new (λ o p. IsAssigned o p into.0 (elements (child_of o (in_variable o of.0) place))) }
-        ensures tells { TellsWhatIsFreed self.new.heaps.heap (N.telling out.old) (N.telling out.new) }
+        ensures makes { Makes 0 0 self.old self.new }
+        ensures tells { TellsWhatIsFreed self.old.heaps.heap self.new.heaps.heap (N.telling out.old) (N.telling out.new) }
     {
         let Document { heaps, collector } = self;
         visit(heaps, collector, into, of, place + CHILDREN, out);
@@ -250,7 +264,8 @@ impl Document {
     /// A variable holds the parent of the element in another, or nothing where it has none.
     pub fn visit_parent<N: Notices>(&mut self, into: Variable, of: Variable, out: &mut N)
         ensures assigned { ShowsChanged self.old self.new (λ o p. IsAssigned o p into.0 (elements (parent_of o (in_variable o of.0)))) }
-        ensures tells { TellsWhatIsFreed self.new.heaps.heap (N.telling out.old) (N.telling out.new) }
+        ensures makes { Makes 0 0 self.old self.new }
+        ensures tells { TellsWhatIsFreed self.old.heaps.heap self.new.heaps.heap (N.telling out.old) (N.telling out.new) }
     {
         let Document { heaps, collector } = self;
         visit(heaps, collector, into, of, PARENT, out);
@@ -259,7 +274,8 @@ impl Document {
     /// A variable holds nothing from then on.
     pub fn let_go<N: Notices>(&mut self, variable: Variable, out: &mut N)
         ensures assigned { ShowsChanged self.old self.new (λ o p. IsAssigned o p variable.0 None) }
-        ensures tells { TellsWhatIsFreed self.new.heaps.heap (N.telling out.old) (N.telling out.new) }
+        ensures makes { Makes 0 0 self.old self.new }
+        ensures tells { TellsWhatIsFreed self.old.heaps.heap self.new.heaps.heap (N.telling out.old) (N.telling out.new) }
     {
         self.heaps.set_native_reg(variable.0, None, out);
     }
@@ -276,6 +292,7 @@ impl Document {
     /// since script touched it. One that runs is ended first. The document is as it was.
     pub fn trace<N: Notices>(&mut self, out: &mut N)
         ensures same { StillShows self.old self.new }
+        ensures made { AreMade 0 0 self.old.heaps.heap self.new.heaps.heap }
         ensures keeps { KeepsWhatIsReached self.old.heaps.heap self.new.heaps.heap }
         ensures tells { TellsWhatLeaves self.old.heaps.heap self.new.heaps.heap (N.telling out.old) (N.telling out.new) }
         ensures swept { IsSwept (machine_of self.old.heaps.heap self.old.running) (machine_of self.new.heaps.heap self.new.running) (N.telling out.old) (N.telling out.new) }
@@ -289,6 +306,7 @@ impl Document {
     /// collection is given up, and nothing is lost or forgotten.
     pub fn frame<N: Notices>(&mut self, units: u32, out: &mut N) -> Result<Ended, NoMemory>
         ensures same { StillShows self.old self.new }
+        ensures made { AreMade 0 0 self.old.heaps.heap self.new.heaps.heap }
         ensures keeps { KeepsWhatIsReached self.old.heaps.heap self.new.heaps.heap }
         ensures tells { TellsWhatLeaves self.old.heaps.heap self.new.heaps.heap (N.telling out.old) (N.telling out.new) }
         ensures sliced { (steps : ℕ) × IsSliced units (machine_of self.old.heaps.heap self.old.running) (machine_of self.new.heaps.heap self.new.running)
@@ -304,6 +322,7 @@ impl Document {
     /// The document is as it was. `NoMemory`, where memory was wanted: nothing is lost or forgotten.
     pub fn settle<N: Notices>(&mut self, out: &mut N) -> Result<(), NoMemory>
         ensures same { StillShows self.old self.new }
+        ensures made { AreMade 0 0 self.old.heaps.heap self.new.heaps.heap }
         ensures exact { OnOk result (HasWhatIsReached self.new.heaps.heap) }
         ensures idle { IsIdle self.new.heaps }
         ensures done { OnOk result (IsSettled (machine_of self.old.heaps.heap self.old.running) (machine_of self.new.heaps.heap self.new.running) (N.telling out.old) (N.telling out.new)) }
@@ -323,11 +342,13 @@ impl Document {
         self.heaps.census(out)
     }
 
-    /// A place of the element in a variable that has this child, or none.
+    /// The lowest place of the element in a variable that has this child, or none.
     fn place(&self, parent: Variable, child: Option<NativeNo>) -> Option<u8>
         ensures within { IfSome result (λ place. place < places) }
         ensures found { IfSome result (λ place. (g : Graph) → Shows self.now g →
             child_of (objects_of g) (in_variable (objects_of g) parent.0) place ≡ option_map (λ n. n.0) child) }
+        ensures lowest { IfSome result (λ place. (g : Graph) → Shows self.now g → (q : ℕ) → q < place →
+            child_of (objects_of g) (in_variable (objects_of g) parent.0) q ≢ option_map (λ n. n.0) child) }
         ensures none { result ≡ None → (g : Graph) → Shows self.now g → (place : ℕ) → place < places →
             child_of (objects_of g) (in_variable (objects_of g) parent.0) place ≢ option_map (λ n. n.0) child }
     {

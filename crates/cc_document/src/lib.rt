@@ -23,6 +23,3 @@ mod writing;
 pub use document::Document;
 pub use error::DocumentError;
 pub use variable::{PLACES, Variable};
-
-#[cfg(test)]
-mod tests;

@@ -72,7 +72,7 @@ pub(crate) fn element_at(
     number_of(heaps, key_at(heaps, collector, of, i))
 }
 
-/// A place of the element in a variable that holds this child, or none.
+/// The lowest place of the element in a variable that holds this child, or none.
 pub(crate) fn place_of(
     heaps: &Heaps,
     collector: &Collector,
@@ -82,6 +82,8 @@ pub(crate) fn place_of(
     requires shown { IsShown (parts heaps.now collector.now) }
     ensures within { IfSome result (λ place. place < places) }
     ensures found { IfSome result (λ place. child_of (objects_of heaps.now.heap) (register heaps.now.heap (n_register parent.0)) place ≡ option_map (λ n. n.0) child) }
+    ensures lowest { IfSome result (λ place. (q : ℕ) → q < place →
+        child_of (objects_of heaps.now.heap) (register heaps.now.heap (n_register parent.0)) q ≢ option_map (λ n. n.0) child) }
     ensures none { result ≡ None → (place : ℕ) → place < places →
         child_of (objects_of heaps.now.heap) (register heaps.now.heap (n_register parent.0)) place ≢ option_map (λ n. n.0) child }
 {

@@ -3,15 +3,16 @@
 //!
 //! What a step works on stands in registers before and after it: variables hold elements, script registers hold what is
 //! being made. So it is reached, and what script registers hold is black, as the calls of the heaps want it.
-ghost use Rattle.std.specs.Prelude.{◌≡◌, ◌≢◌, ◌<◌, Some, Err, OnOk, OnErr};
+ghost use Rattle.std.specs.Prelude.{◌≡◌, ◌≢◌, ◌<◌, ◌⊎◌, Some, Err, OnOk, OnErr};
 ghost use Rattle.cc_names.specs.declared.register.Reg.TheVariants.{S as s_register};
 ghost use Rattle.cc_model.specs.Heap as heap;
 ghost use Rattle.cc_model.specs.Graph.{Graph, objects_of};
 ghost use Rattle.cc_document.specs.declared.error.DocumentError.{DocumentError};
+ghost use Rattle.cc_document.specs.declared.error.DocumentError.TheVariants.{Full};
 ghost use Rattle.cc_document.specs.Words.{element_slots, listener_slot, data_register, closure_register, element_of, slot_of, in_variable};
 ghost use Rattle.cc_document.specs.Changes.{IsLeft};
 ghost use Rattle.cc_document.specs.Stops.{IsScriptFull, StopsClosing, StopsMakingClosure, StopsWrapping};
-ghost use Rattle.cc_document.specs.Told.{TellsWhatIsFreed, NoneCame};
+ghost use Rattle.cc_document.specs.Told.{AreMade, Grows, NoneCame, TellsWhatIsFreed};
 ghost use Rattle.cc_document.specs.Shown.{Shows, IsShown, IsShownWith, ShowsAfter, ShowsChanged, HasClosure, HasNewClosure, parts, register_of, written, gone_to, wrapping, without, making_closure, closing, closed_over, entering, entered};
 
 use crate::error::DocumentError;
@@ -36,7 +37,8 @@ pub(crate) fn write<N: Notices>(
     requires shown { IsShown (parts heaps.old collector.now) }
     requires within { i < element_slots }
     ensures shows { ShowsAfter (parts heaps.old collector.now) (parts heaps.new collector.now) (written of.0 i (register_of from)) }
-    ensures tells { TellsWhatIsFreed heaps.new.heap (N.telling out.old) (N.telling out.new) }
+    ensures tells { TellsWhatIsFreed heaps.old.heap heaps.new.heap (N.telling out.old) (N.telling out.new) }
+    ensures made { AreMade 0 0 heaps.old.heap heaps.new.heap }
     ensures none_came { NoneCame heaps.old.heap heaps.new.heap }
 {
     let content = key_in(heaps, from);
@@ -58,7 +60,8 @@ pub(crate) fn visit<N: Notices>(
     requires within { i < element_slots }
     ensures shows { (g : Graph) → Shows (parts heaps.old collector.now) g →
         Shows (parts heaps.new collector.now) (gone_to into.0 (element_of (slot_of (objects_of g) (in_variable (objects_of g) of.0) i)) g) }
-    ensures tells { TellsWhatIsFreed heaps.new.heap (N.telling out.old) (N.telling out.new) }
+    ensures tells { TellsWhatIsFreed heaps.old.heap heaps.new.heap (N.telling out.old) (N.telling out.new) }
+    ensures made { AreMade 0 0 heaps.old.heap heaps.new.heap }
 {
     let element = key_at(heaps, collector, of, i);
     heaps.set_native_reg(into.0, element, out);
@@ -73,7 +76,8 @@ pub(crate) fn hand_over<N: Notices>(
 )
     requires shown { IsShownWith (parts heaps.old collector.now) HasClosure }
     ensures shows { ShowsAfter (parts heaps.old collector.now) (parts heaps.new collector.now) (written to.0 listener_slot (Some (s_register closure_register))) }
-    ensures tells { TellsWhatIsFreed heaps.new.heap (N.telling out.old) (N.telling out.new) }
+    ensures tells { TellsWhatIsFreed heaps.old.heap heaps.new.heap (N.telling out.old) (N.telling out.new) }
+    ensures made { AreMade 0 0 heaps.old.heap heaps.new.heap }
 {
     if let (Some(element), Some(closure)) = (heaps.native_reg(to.0), heaps.script_reg(CLOSURE)) {
         heaps.store_native(element, LISTENER, Some(Held::Script(closure)), out);
@@ -85,6 +89,7 @@ pub(crate) fn empty(heaps: &mut Heaps, collector: &Collector, r: u8)
     requires shown { IsShown (parts heaps.old collector.now) }
     requires r { r ≢ data_register }
     ensures shows { ShowsAfter (parts heaps.old collector.now) (parts heaps.new collector.now) (without r) }
+    ensures grows { Grows 0 heaps.old.heap heaps.new.heap }
     ensures none_came { NoneCame heaps.old.heap heaps.new.heap }
 {
     heaps.set_script_reg(r, None);
@@ -100,6 +105,7 @@ fn wrap_into_register(
 ) -> Result<(), DocumentError>
     requires shown { IsShown (parts heaps.old collector.now) }
     ensures wrapped { OnOk result (ShowsAfter (parts heaps.old collector.now) (parts heaps.new collector.now) (wrapping element.0)) }
+    ensures grows { OnOk result (Grows 0 heaps.old.heap heaps.new.heap) }
     ensures stops { (e : DocumentError) → result ≡ Err e → StopsWrapping (heap.objects_of heaps.old.heap) element.0 e }
     ensures same { OnErr result (heaps.new ≡ heaps.old) }
 {
@@ -114,7 +120,8 @@ fn wrap_into_register(
 /// The closure that was made holds the reflector.
 fn close(heaps: &mut Heaps, collector: &Collector)
     requires shown { IsShownWith (parts heaps.old collector.now) HasNewClosure }
-    ensures { ShowsAfter (parts heaps.old collector.now) (parts heaps.new collector.now) closing }
+    ensures shows { ShowsAfter (parts heaps.old collector.now) (parts heaps.new collector.now) closing }
+    ensures grows { Grows 0 heaps.old.heap heaps.new.heap }
 {
     if let Some(closure) = heaps.script_reg(CLOSURE) {
         let reflector = heaps.script_reg(WRAPPER);
@@ -123,11 +130,15 @@ fn close(heaps: &mut Heaps, collector: &Collector)
 }
 
 /// A closure is made, which a script register holds, and its one slot is empty.
+///
+/// `Full` exactly where as many script objects as the limit were ever made; `NoMemory` at any other time.
 fn make_closure(heaps: &mut Heaps, collector: &Collector) -> Result<(), DocumentError>
     requires shown { IsShown (parts heaps.old collector.now) }
     ensures made { OnOk result (ShowsAfter (parts heaps.old collector.now) (parts heaps.new collector.now) making_closure) }
     ensures has { OnOk result (IsShownWith (parts heaps.new collector.now) HasNewClosure) }
+    ensures grows { OnOk result (Grows 1 heaps.old.heap heaps.new.heap) }
     ensures room { OnOk result (¬ (IsScriptFull (heap.objects_of heaps.old.heap))) }
+    ensures full { IsScriptFull (heap.objects_of heaps.old.heap) → result ≡ Err Full }
     ensures stops { (e : DocumentError) → result ≡ Err e → StopsMakingClosure (heap.objects_of heaps.old.heap) e }
     ensures same { OnErr result (heaps.new ≡ heaps.old) }
 {
@@ -135,7 +146,8 @@ fn make_closure(heaps: &mut Heaps, collector: &Collector) -> Result<(), Document
     Ok(())
 }
 
-/// A script register holds a new closure that speaks of the element in a variable.
+/// A script register holds a new closure that speaks of the element in a variable. It is made first, so that `Full` comes
+/// exactly at the limit; where memory is wanted for the reflector, it is let go again.
 pub(crate) fn close_over(
     heaps: &mut Heaps,
     collector: &Collector,
@@ -144,13 +156,16 @@ pub(crate) fn close_over(
     requires shown { IsShown (parts heaps.old collector.now) }
     ensures closed { OnOk result (ShowsAfter (parts heaps.old collector.now) (parts heaps.new collector.now) (closed_over about.0)) }
     ensures has { OnOk result (IsShownWith (parts heaps.new collector.now) HasClosure) }
+    ensures grows { OnOk result (Grows 1 heaps.old.heap heaps.new.heap) }
     ensures room { OnOk result (¬ (IsScriptFull (heap.objects_of heaps.old.heap))) }
+    ensures full { IsScriptFull (heap.objects_of heaps.old.heap) → result ≡ Err Full }
     ensures stops { (e : DocumentError) → result ≡ Err e → StopsClosing (heap.objects_of heaps.old.heap) about.0 e }
     ensures same { OnErr result (ShowsChanged (parts heaps.old collector.now) (parts heaps.new collector.now) IsLeft) }
+    ensures tried { OnErr result (Grows 0 heaps.old.heap heaps.new.heap ⊎ Grows 1 heaps.old.heap heaps.new.heap) }
 {
-    wrap_into_register(heaps, collector, about)?;
-    if let Err(stop) = make_closure(heaps, collector) {
-        empty(heaps, collector, WRAPPER);
+    make_closure(heaps, collector)?;
+    if let Err(stop) = wrap_into_register(heaps, collector, about) {
+        empty(heaps, collector, CLOSURE);
         return Err(stop);
     }
     close(heaps, collector);
@@ -164,6 +179,7 @@ pub(crate) fn close_over(
 fn put_entry(heaps: &mut Heaps, collector: &Collector) -> Result<(), NoMemory>
     requires shown { IsShownWith (parts heaps.old collector.now) HasClosure }
     ensures entered { OnOk result (ShowsAfter (parts heaps.old collector.now) (parts heaps.new collector.now) entering) }
+    ensures grows { Grows 0 heaps.old.heap heaps.new.heap }
     ensures same { OnErr result (heaps.new ≡ heaps.old) }
 {
     if let (Some(the_map), Some(reflector), Some(closure)) = (
@@ -184,6 +200,7 @@ pub(crate) fn enter(
 ) -> Result<(), DocumentError>
     requires shown { IsShownWith (parts heaps.old collector.now) HasClosure }
     ensures entered { OnOk result (ShowsAfter (parts heaps.old collector.now) (parts heaps.new collector.now) (entered of.0)) }
+    ensures grows { Grows 0 heaps.old.heap heaps.new.heap }
     ensures stops { (e : DocumentError) → result ≡ Err e → StopsWrapping (heap.objects_of heaps.old.heap) of.0 e }
     ensures same { OnErr result (ShowsChanged (parts heaps.old collector.now) (parts heaps.new collector.now) IsLeft) }
 {

@@ -7,8 +7,10 @@ use Rattle.cc_model.specs.Heap.{register}
 use Rattle.cc_script.specs.Objects.{name_at}
 use Rattle.cc_heaps.specs.Changes.{script_name}
 use Rattle.cc_heaps.specs.Standing.{IsReached, MayHold}
+use Rattle.cc_document.specs.Told.{Grows}
 use Rattle.cc_document.specs.Shown.{Shows, parts, closing}
 use Rattle.cc_document.proofs.Documents.{slot-document}
+use Rattle.cc_document.proofs.Growing.{grows-slot}
 use Rattle.cc_document.proofs.Holding.{script-black, closure-slots}
 use Rattle.cc_document.proofs.Reached.{alike, register-is_reached}
 use Rattle.cc_document.proofs.Steps.{Shows-step}
@@ -26,8 +28,8 @@ store_script-requires-clause-black c =
     let r = c.script_reg-reflector in
     script-black c.args.heaps.now c.args.collector.now s.0 s.1 2 r.result r.ensures.name r.ensures.there
 
-pub returns-in-Some : goal.returns-in-Some
-returns-in-Some c = λ g s.
+pub returns-in-Some-clause-shows : goal.returns-in-Some-clause-shows
+returns-in-Some-clause-shows c = λ g s.
     let v = c.args.heaps.now in
     let w = c.store_script.new.self in
     let b = c.args.collector.now in
@@ -46,3 +48,8 @@ returns-in-Some c = λ g s.
     subst (Shows (parts w b)) same
     (Shows-step v w b (λ h. set_slot h x 0 y)
     (record { order = e.order; colours = e.colours; fresh = e.fresh; keys = e.keys; suspected = e.suspected; stands = e.stands a d may }) g s (slot-document g s.document x 0 y))
+
+pub returns-in-Some-clause-grows : goal.returns-in-Some-clause-grows
+returns-in-Some-clause-grows c =
+    let v = c.args.heaps.now in
+    subst (Grows 0 v.heap) (sym c.store_script.ensures.heap) (grows-slot v.heap (name_at v.scripts c.in-Some.closure.0) 0 (script_name v c.script_reg-reflector.result))

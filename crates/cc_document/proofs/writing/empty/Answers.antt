@@ -1,6 +1,8 @@
+use Rattle.std.proofs.Common.{None, sym, subst}
+use Rattle.cc_document.specs.Told.{Grows}
 use Rattle.cc_document.specs.Shown.{without}
 use Rattle.cc_document.proofs.Documents.{without-document}
-use Rattle.cc_document.proofs.Freed.{emptied-none_came}
+use Rattle.cc_document.proofs.Growing.{emptied-none_came, grows-held}
 use Rattle.cc_document.proofs.Steps.{Shows-step}
 use Rattle.cc_document.proofs.writing.empty.Goals as goal
 
@@ -12,3 +14,8 @@ returns-clause-shows c = λ g s.
 
 pub returns-clause-none_came : goal.returns-clause-none_came
 returns-clause-none_came c = emptied-none_came c.args.heaps.now.heap c.set_script_reg.new.self.heap c.args.r c.set_script_reg.ensures.heap
+
+pub returns-clause-grows : goal.returns-clause-grows
+returns-clause-grows c =
+    let v = c.args.heaps.now in
+    subst (Grows 0 v.heap) (sym c.set_script_reg.ensures.heap) (grows-held v.heap c.args.r None)

@@ -1,9 +1,9 @@
-use Rattle.std.proofs.Common.{◌⊎◌, sym, subst, ⊎_elim}
-use Rattle.cc_model.specs.Graph.{objects_of}
+use Rattle.std.proofs.Common.{sym, subst, ⊎_elim}
 use Rattle.cc_model.specs.Heap as heap
 use Rattle.cc_heaps.specs.Keyed.{Keyed}
 use Rattle.cc_document.specs.Stops.{StopsWrapping, out_of_memory}
 use Rattle.cc_document.specs.Shown.{Shows, IsShown, parts, wrapping, without, entering}
+use Rattle.cc_document.proofs.Growing.{grows-then}
 use Rattle.cc_document.proofs.Closures.{unwrapped-reads}
 use Rattle.cc_document.proofs.Idle.{unwrapped-left}
 use Rattle.cc_document.proofs.Outcomes.{either-of, stopped-by, err-of}
@@ -36,3 +36,19 @@ pub returns-clause-entered : goal.returns-clause-entered
 returns-clause-entered c = λ g s.
     let h = wrapping c.args.of.0 g in
     c.empty.ensures.shows (entering h) (c.in_ok-entered.ensures.entered h (c.in_ok-wrap_into_register.ensures.wrapped g s))
+
+pub returns-in_err-entered-clause-grows : goal.returns-in_err-entered-clause-grows
+returns-in_err-entered-clause-grows c =
+    let x = c.args.heaps.now.heap in
+    let y = c.wrap_into_register.new.heaps.heap in
+    let z = c.put_entry-entered.new.heaps.heap in
+    let w = c.empty.new.heaps.heap in
+    grows-then 0 0 x y w c.in_ok-wrap_into_register.ensures.grows (grows-then 0 0 y z w c.put_entry-entered.ensures.grows c.empty.ensures.grows)
+
+pub returns-clause-grows : goal.returns-clause-grows
+returns-clause-grows c =
+    let x = c.args.heaps.now.heap in
+    let y = c.wrap_into_register.new.heaps.heap in
+    let z = c.put_entry-entered.new.heaps.heap in
+    let w = c.empty.new.heaps.heap in
+    grows-then 0 0 x y w c.in_ok-wrap_into_register.ensures.grows (grows-then 0 0 y z w c.put_entry-entered.ensures.grows c.empty.ensures.grows)

@@ -1,11 +1,12 @@
-use Rattle.std.proofs.Common.{◌<◌, Some, sym, subst, arith}
+use Rattle.std.proofs.Common.{◌<◌, [], Some, sym, subst, arith}
 use Rattle.cc_names.specs.declared.register.Reg.TheVariants.{S}
 use Rattle.cc_counted.specs.declared.held.Held.TheVariants as held
 use Rattle.cc_heaps.specs.Changes.{held_name}
 use Rattle.cc_heaps.specs.Keyed.{the_number}
-use Rattle.cc_document.proofs.Freed.{stored-tells}
+use Rattle.cc_heaps.proofs.Content.{held-in}
+use Rattle.cc_document.proofs.Freed.{stored-tells, stored-made}
 use Rattle.cc_document.proofs.Holding.{script-black}
-use Rattle.cc_document.proofs.Reached.{slots-of_key}
+use Rattle.cc_document.proofs.Reached.{slots-of_key, within-key}
 use Rattle.cc_document.proofs.Steps.{Shows-written}
 use Rattle.cc_document.proofs.writing.hand_over.Goals as goal
 
@@ -29,5 +30,17 @@ returns-in-Some-Some-clause-tells g c =
     let v = c.args.heaps.now in
     let e = c.store_native.ensures in
     let n = c.in-Some-Some in
-    stored-tells v c.store_native.new.self (the_number v n.element.0) 1 (held_name v (Some (held.Script n.closure)))
-    (g.N.Notices.telling c.args.out.now) (g.N.Notices.telling c.store_native.new.out) e.heap e.order e.told
+    let order = c.requires.shown.1.runs.order in
+    let x = Some (held.Script n.closure) in
+    stored-tells v c.store_native.new.self (the_number v n.element.0) 1 (held_name v x)
+    (within-key v c.args.collector.now c.requires.shown.0 c.requires.shown.1 c.args.to.0 n.element n.ensures.name n.ensures.there 1 (omega arith)) (held-in [] v x order) order e.heap
+    (g.N.Notices.telling c.args.out.now) (g.N.Notices.telling c.store_native.new.out) e.order e.told
+
+pub returns-in-Some-Some-clause-made : goal.returns-in-Some-Some-clause-made
+returns-in-Some-Some-clause-made g c =
+    let v = c.args.heaps.now in
+    let n = c.in-Some-Some in
+    let order = c.requires.shown.1.runs.order in
+    let x = Some (held.Script n.closure) in
+    stored-made v c.store_native.new.self (the_number v n.element.0) 1 (held_name v x)
+    (within-key v c.args.collector.now c.requires.shown.0 c.requires.shown.1 c.args.to.0 n.element n.ensures.name n.ensures.there 1 (omega arith)) (held-in [] v x order) order c.store_native.ensures.heap

@@ -1,8 +1,10 @@
-use Rattle.std.proofs.Common.{◌≤◌}
+use Rattle.std.proofs.Common.{◌≤◌, sym, subst}
 use Rattle.cc_laws_heap.proofs.RepliesAlike.{objects-stand}
 use Rattle.cc_model.specs.Graph as graph
 use Rattle.cc_document.specs.Shown.{making_closure}
 use Rattle.cc_document.proofs.Closures.{new_closure-made}
+use Rattle.cc_document.specs.Told.{Grows}
+use Rattle.cc_document.proofs.Growing.{grows-plain}
 use Rattle.cc_document.proofs.Documents.{making_closure-document}
 use Rattle.cc_document.proofs.Holding.{room-for_script}
 use Rattle.cc_document.proofs.Steps.{Shows-step}
@@ -24,3 +26,8 @@ returns-clause-has c =
     let made = c.in_ok-new_plain.was in
     cc in
     (making_closure s.0, returns-clause-made c s.0 s.1, new_closure-made s.0 s.1.well.registers.1 (room-for_script (graph.objects_of s.0) room))
+
+pub returns-clause-grows : goal.returns-clause-grows
+returns-clause-grows c =
+    let v = c.args.heaps.now in
+    subst (Grows 1 v.heap) (sym c.in_ok-new_plain.ensures.heap) (grows-plain v.heap 1 1)

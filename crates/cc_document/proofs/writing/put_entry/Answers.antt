@@ -4,11 +4,13 @@ use Rattle.cc_names.specs.declared.register.Reg.TheVariants.{S}
 use Rattle.cc_model.specs.Checks.{is_map_in}
 use Rattle.cc_model.specs.Graph as graph
 use Rattle.cc_model.specs.Graph.{set_entry, slots_of_script}
-use Rattle.cc_model.specs.Heap.{objects_of, register}
+use Rattle.cc_model.specs.Heap.{objects_of}
 use Rattle.cc_script.specs.Objects.{name_at}
 use Rattle.cc_heaps.specs.Standing.{IsReached}
 use Rattle.cc_heaps.proofs.EntryNames.{is_map-named}
 use Rattle.cc_document.specs.Shown.{Shows, parts, entering}
+use Rattle.cc_document.specs.Told.{Grows}
+use Rattle.cc_document.proofs.Growing.{grows-entry}
 use Rattle.cc_document.proofs.Documents.{set_entry-document}
 use Rattle.cc_document.proofs.Holding.{script-black}
 use Rattle.cc_document.proofs.Reached.{alike, register-is_reached}
@@ -51,3 +53,10 @@ returns-in_ok-set_entry-clause-entered c = λ g s.
     (Shows-step v w b (λ h. set_entry h m k x)
     (record { order = e.order; colours = e.colours; fresh = e.fresh k-black x-black; keys = e.keys; suspected = e.suspected; stands = e.stands m-reached k-reached x-reached })
     g s (set_entry-document g s.document m k x))
+
+pub returns-in_ok-set_entry-clause-grows : goal.returns-in_ok-set_entry-clause-grows
+returns-in_ok-set_entry-clause-grows c =
+    let v = c.args.heaps.now in
+    let n = c.in-Some-Some-Some in
+    subst (Grows 0 v.heap) (sym c.in_ok-set_entry.ensures.heap)
+    (grows-entry v.heap (name_at v.scripts n.the_map.0) (name_at v.scripts n.reflector.0) (name_at v.scripts n.closure.0))

@@ -1,4 +1,4 @@
-use Rattle.std.proofs.Common.{◌∙◌, sym, ap, subst}
+use Rattle.std.proofs.Common.{rules, ◌<◌, [], ◌∙◌, sym, ap, subst}
 use Rattle.cc_names.specs.declared.register.Reg.TheVariants.{N}
 use Rattle.cc_model.specs.Checks.{slot_at}
 use Rattle.cc_model.specs.Graph.{set_register}
@@ -9,7 +9,8 @@ use Rattle.cc_document.specs.Words.{element_of, elements}
 use Rattle.cc_document.specs.Shown.{Shows, parts}
 use Rattle.cc_document.proofs.Documents.{native_register-document}
 use Rattle.cc_document.proofs.ElementNames.{element-is_reached}
-use Rattle.cc_document.proofs.Freed.{hold_native-tells}
+use Rattle.cc_heaps.proofs.Content.{native-in}
+use Rattle.cc_document.proofs.Freed.{hold_native-tells, hold_native-made}
 use Rattle.cc_document.proofs.Reached.{slot-is_reached}
 use Rattle.cc_document.proofs.ReadAlike.{slot-alike}
 use Rattle.cc_document.proofs.Steps.{Shows-step}
@@ -34,5 +35,15 @@ pub returns-clause-tells : goal.returns-clause-tells
 returns-clause-tells g c =
     let v = c.args.heaps.now in
     let e = c.set_native_reg.ensures in
+    let order = c.requires.shown.1.runs.order in
+    let within : c.args.into.0 < 256 = search rules in
     hold_native-tells v c.set_native_reg.new.self c.args.into.0 (native_name v c.key_at-element.result)
-    (g.N.Notices.telling c.args.out.now) (g.N.Notices.telling c.set_native_reg.new.out) e.heap e.order e.told
+    (g.N.Notices.telling c.args.out.now) (g.N.Notices.telling c.set_native_reg.new.out) within (native-in [] v c.key_at-element.result order) order e.heap e.order e.told
+
+pub returns-clause-made : goal.returns-clause-made
+returns-clause-made g c =
+    let v = c.args.heaps.now in
+    let order = c.requires.shown.1.runs.order in
+    let within : c.args.into.0 < 256 = search rules in
+    hold_native-made v c.set_native_reg.new.self c.args.into.0 (native_name v c.key_at-element.result)
+    (g.N.Notices.telling c.args.out.now) (g.N.Notices.telling c.set_native_reg.new.out) within (native-in [] v c.key_at-element.result order) order c.set_native_reg.ensures.heap

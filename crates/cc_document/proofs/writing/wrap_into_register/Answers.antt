@@ -12,6 +12,8 @@ use Rattle.cc_heaps.specs.Standing.{IsReached, IsReachedOrReflects}
 use Rattle.cc_mutator.proofs.NativesRead.{native-at}
 use Rattle.cc_document.specs.Stops.{StopsWrapping, out_of_memory}
 use Rattle.cc_document.specs.Shown.{Shows, parts, wrapping}
+use Rattle.cc_document.specs.Told.{Grows}
+use Rattle.cc_document.proofs.Growing.{grows-held, grows-then, grows-wrapped}
 use Rattle.cc_document.proofs.Documents.{wrapped-document, script_register-document}
 use Rattle.cc_document.proofs.Outcomes.{stopped-by}
 use Rattle.cc_document.proofs.Reached.{alike, register-is_reached, variable-holds}
@@ -51,3 +53,12 @@ returns-clause-wrapped c = λ g s.
     let same : set_register h (S 2) x ≡ wrapping r g =
     ap (set_register h (S 2)) named ∙ ap (λ y. set_register (wrapped g y) (S 2) (reflector_of y)) (sym holds) in
     subst (Shows (parts u b)) same two
+
+pub returns-clause-grows : goal.returns-clause-grows
+returns-clause-grows c =
+    let v = c.args.heaps.now in
+    let w = c.wrap.new.heaps in
+    let u = c.set_script_reg.new.self in
+    let one = subst (Grows 0 v.heap) (sym c.in_ok-reflector.ensures.heap) (grows-wrapped v.heap (the_number v c.in-Some.key.0)) in
+    let two = subst (Grows 0 w.heap) (sym c.set_script_reg.ensures.heap) (grows-held w.heap 2 (name_at w.scripts c.in_ok-reflector.reflector.0)) in
+    grows-then 0 0 v.heap w.heap u.heap one two

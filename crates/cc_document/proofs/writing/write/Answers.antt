@@ -1,10 +1,11 @@
-use Rattle.std.proofs.Common.{◌≡◌, ◌<◌, sym, ◌∙◌, ap, subst}
+use Rattle.std.proofs.Common.{◌≡◌, ◌<◌, [], sym, ◌∙◌, ap, subst}
 use Rattle.cc_counted.specs.Counts.{held_of_native}
 use Rattle.cc_heaps.specs.Changes.{IsBlackHeld, held_name}
 use Rattle.cc_heaps.specs.Keyed.{the_number}
 use Rattle.cc_document.specs.Shown.{register_of}
-use Rattle.cc_document.proofs.Freed.{stored-tells, stored-none_came}
-use Rattle.cc_document.proofs.Reached.{slots-of_key}
+use Rattle.cc_heaps.proofs.Content.{held-in}
+use Rattle.cc_document.proofs.Freed.{stored-tells, stored-made, stored-none_came}
+use Rattle.cc_document.proofs.Reached.{slots-of_key, within-key}
 use Rattle.cc_document.proofs.Steps.{Shows-written, native-held, native-black}
 use Rattle.cc_document.proofs.writing.write.Goals as goal
 
@@ -28,10 +29,21 @@ pub returns-in-Some-clause-tells : goal.returns-in-Some-clause-tells
 returns-in-Some-clause-tells g c =
     let v = c.args.heaps.now in
     let e = c.store_native.ensures in
+    let order = c.requires.shown.1.runs.order in
     stored-tells v c.store_native.new.self (the_number v c.in-Some.element.0) c.args.i (held_name v c.of_native.result)
-    (g.N.Notices.telling c.args.out.now) (g.N.Notices.telling c.store_native.new.out) e.heap e.order e.told
+    (within-key v c.args.collector.now c.requires.shown.0 c.requires.shown.1 c.args.of.0 c.in-Some.element c.in-Some.ensures.name c.in-Some.ensures.there c.args.i c.requires.within) (held-in [] v c.of_native.result order) order e.heap
+    (g.N.Notices.telling c.args.out.now) (g.N.Notices.telling c.store_native.new.out) e.order e.told
+
+pub returns-in-Some-clause-made : goal.returns-in-Some-clause-made
+returns-in-Some-clause-made g c =
+    let v = c.args.heaps.now in
+    let order = c.requires.shown.1.runs.order in
+    stored-made v c.store_native.new.self (the_number v c.in-Some.element.0) c.args.i (held_name v c.of_native.result)
+    (within-key v c.args.collector.now c.requires.shown.0 c.requires.shown.1 c.args.of.0 c.in-Some.element c.in-Some.ensures.name c.in-Some.ensures.there c.args.i c.requires.within) (held-in [] v c.of_native.result order) order c.store_native.ensures.heap
 
 pub returns-in-Some-clause-none_came : goal.returns-in-Some-clause-none_came
 returns-in-Some-clause-none_came g c =
     let v = c.args.heaps.now in
-    stored-none_came v c.store_native.new.self (the_number v c.in-Some.element.0) c.args.i (held_name v c.of_native.result) c.store_native.ensures.heap
+    let order = c.requires.shown.1.runs.order in
+    stored-none_came v c.store_native.new.self (the_number v c.in-Some.element.0) c.args.i (held_name v c.of_native.result)
+    (within-key v c.args.collector.now c.requires.shown.0 c.requires.shown.1 c.args.of.0 c.in-Some.element c.in-Some.ensures.name c.in-Some.ensures.there c.args.i c.requires.within) (held-in [] v c.of_native.result order) order c.store_native.ensures.heap

@@ -1,12 +1,17 @@
-use Rattle.std.proofs.Common.{◌≡◌, true, Some, None, is_some, sym, subst}
+use Rattle.std.proofs.Common.{◌≡◌, ◌≢◌, true, Err, Some, None, is_some, refl, sym, subst}
 use Rattle.cc_names.specs.declared.register.Reg.TheVariants.{N}
 use Rattle.cc_model.specs.Graph.{objects_of, register}
-use Rattle.cc_document.specs.Words.{element, element_of, parent_of, child_of}
+use Rattle.cc_document.specs.Words.{element_of, parent_of, child_of}
 use Rattle.cc_document.specs.Changes.{IsAppended}
-use Rattle.cc_document.specs.Shown.{Shows, written, appended}
+use Rattle.cc_document.specs.Stops.{StopsAppending}
+use Rattle.cc_document.specs.declared.error.DocumentError.TheVariants.{HasParent, NoPlace}
+use Rattle.cc_document.specs.Shown.{Makes, Parts, Shows, parts, written, appended}
 use Rattle.cc_document.proofs.Appending.{appended-reads}
-use Rattle.cc_document.proofs.Calls.{read-some, read-none, between-from}
+use Rattle.cc_document.proofs.Calls.{both-there, read-is_some, read-none, read-some, between-from}
+use Rattle.cc_document.specs.Told.{TellsWhatIsFreed}
 use Rattle.cc_document.proofs.Freed.{tells-then}
+use Rattle.cc_document.proofs.Growing.{made-then}
+use Rattle.cc_document.proofs.Outcomes.{stopped-alike}
 use Rattle.cc_document.proofs.Idle.{idle-after, appended-left}
 use Rattle.cc_document.proofs.document.Document.append.Goals as goal
 
@@ -28,7 +33,8 @@ returns-clause-appended g c = λ k s.
       two,
       between-from (IsAppended o (objects_of (appended v place w k))) (register k (N v)) (register k (N w)) here there
           (λ a b in-parent in-child. appended-reads k t.well t.document v w a b place in-parent in-child c.in-Some.ensures.within
-          (subst (λ x. child_of o x place ≡ None) in-parent free) (subst (λ x. parent_of o x ≡ None) in-child alone)),
+          (subst (λ x. child_of o x place ≡ None) in-parent free)
+          (λ q below. subst (λ x. child_of o x q ≢ None) in-parent (c.in-Some.ensures.lowest k s q below)) (subst (λ x. parent_of o x ≡ None) in-child alone)),
     )
 
 pub invariant_of-self : goal.invariant_of-self
@@ -43,7 +49,40 @@ invariant_of-self g c =
 
 pub returns-clause-tells : goal.returns-clause-tells
 returns-clause-tells g c =
+    let v = c.self.inside.heaps in
+    let w = c.write-2.new.heaps in
     let s = c.self.invariant.0 in
     let t = c.write-2.ensures.shows (written c.args.child.0 0 (Some (N c.args.parent.0)) s.0) (c.write.ensures.shows s.0 s.1) in
-    tells-then c.write.new.heaps.heap c.write-2.new.heaps.heap t.runs.order.sound.well_formed c.write-2.ensures.none_came
-    (g.N.Notices.telling c.args.out.now) (g.N.Notices.telling c.write.new.out) (g.N.Notices.telling c.write-2.new.out) c.write.ensures.tells c.write-2.ensures.tells
+    subst (λ (p : Parts). TellsWhatIsFreed p.heaps.heap w.heap (g.N.Notices.telling c.args.out.now) (g.N.Notices.telling c.write-2.new.out)) c.self.view_is
+    (tells-then v.heap c.write.new.heaps.heap w.heap t.runs.order.sound.well_formed c.write-2.ensures.none_came c.write.ensures.none_came
+    (g.N.Notices.telling c.args.out.now) (g.N.Notices.telling c.write.new.out) (g.N.Notices.telling c.write-2.new.out) c.write.ensures.tells c.write-2.ensures.tells)
+
+pub returns-clause-makes : goal.returns-clause-makes
+returns-clause-makes g c =
+    let v = c.self.inside.heaps in
+    let w = c.write-2.new.heaps in
+    subst (λ (p : Parts). Makes 0 0 p (parts w c.self.inside.collector)) c.self.view_is
+    (record { running = refl; made = made-then 0 0 0 0 v.heap c.write.new.heaps.heap w.heap c.write.ensures.made c.write-2.ensures.made })
+
+pub returns-then-is_some-clause-stops : goal.returns-then-is_some-clause-stops
+returns-then-is_some-clause-stops g c = λ e is k s.
+    let o = objects_of k in
+    let x = element_of (register k (N c.args.parent.0)) in
+    let y = element_of (register k (N c.args.child.0)) in
+    let here = read-some c.element.result x c.is_none.result (c.element.ensures k s) c.is_none.ensures c.if-is_none.false in
+    let there = read-some c.element-else-is_none.result y c.is_none-else-is_none.result (c.element-else-is_none.ensures k s) c.is_none-else-is_none.ensures c.if-is_none-2.false in
+    let has : parent_of o (register k (N c.args.child.0)) ≢ None =
+    read-is_some c.parent.result (parent_of o (register k (N c.args.child.0))) c.is_some.result (c.parent.ensures k s) c.is_some.ensures c.if-is_some.true in
+    stopped-alike (StopsAppending o c.args.parent.0 c.args.child.0) (Err HasParent) HasParent refl (both-there x y here there, has) e is
+
+pub returns-in_default-clause-stops : goal.returns-in_default-clause-stops
+returns-in_default-clause-stops g c = λ e is k s.
+    let o = objects_of k in
+    let x = element_of (register k (N c.args.parent.0)) in
+    let y = element_of (register k (N c.args.child.0)) in
+    let here = read-some c.element.result x c.is_none.result (c.element.ensures k s) c.is_none.ensures c.if-is_none.false in
+    let there = read-some c.element-else-is_none.result y c.is_none-else-is_none.result (c.element-else-is_none.ensures k s) c.is_none-else-is_none.ensures c.if-is_none-2.false in
+    let alone : parent_of o (register k (N c.args.child.0)) ≡ None =
+    read-none c.parent.result (parent_of o (register k (N c.args.child.0))) c.is_some.result (c.parent.ensures k s) c.is_some.ensures c.if-is_some.false in
+    stopped-alike (StopsAppending o c.args.parent.0 c.args.child.0) (Err NoPlace) NoPlace refl
+    (both-there x y here there, alone, λ place within. c.place.ensures.none c.in_default.is k s place within) e is

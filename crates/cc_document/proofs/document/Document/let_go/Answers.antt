@@ -1,10 +1,11 @@
 use Rattle.std.proofs.Common.{rules, ◌<◌, None, refl, inl, sym, subst, arith}
 use Rattle.cc_names.specs.declared.register.Reg.TheVariants.{N}
 use Rattle.cc_model.specs.Graph.{set_register}
-use Rattle.cc_document.specs.Shown.{Shows}
+use Rattle.cc_document.specs.Shown.{Makes, Parts, Shows, parts}
+use Rattle.cc_document.specs.Told.{TellsWhatIsFreed}
 use Rattle.cc_document.proofs.Assigning.{assigned-reads}
 use Rattle.cc_document.proofs.Documents.{native_register-document}
-use Rattle.cc_document.proofs.Freed.{hold_native-tells}
+use Rattle.cc_document.proofs.Freed.{hold_native-made, hold_native-tells}
 use Rattle.cc_document.proofs.Idle.{idle-after}
 use Rattle.cc_document.proofs.Steps.{Shows-step}
 use Rattle.cc_document.proofs.document.Document.let_go.Goals as goal
@@ -35,5 +36,20 @@ returns-clause-assigned g c = λ k s.
 pub returns-clause-tells : goal.returns-clause-tells
 returns-clause-tells g c =
     let e = c.set_native_reg.ensures in
-    hold_native-tells c.self.inside.heaps c.set_native_reg.new.self c.args.variable.0 None
-    (g.N.Notices.telling c.args.out.now) (g.N.Notices.telling c.set_native_reg.new.out) e.heap e.order e.told
+    let w = c.set_native_reg.new.self in
+    let before = g.N.Notices.telling c.args.out.now in
+    let after = g.N.Notices.telling c.set_native_reg.new.out in
+    let within : c.args.variable.0 < 256 = search rules in
+    subst (λ (p : Parts). TellsWhatIsFreed p.heaps.heap w.heap before after) c.self.view_is
+    (hold_native-tells c.self.inside.heaps w c.args.variable.0 None before after within (λ y m. absurd m) c.self.invariant.0.1.runs.order e.heap e.order e.told)
+
+pub returns-clause-makes : goal.returns-clause-makes
+returns-clause-makes g c =
+    let w = c.set_native_reg.new.self in
+    let within : c.args.variable.0 < 256 = search rules in
+    subst (λ (p : Parts). Makes 0 0 p (parts w c.self.inside.collector)) c.self.view_is
+    (record {
+      running = refl;
+      made = hold_native-made c.self.inside.heaps w c.args.variable.0 None (g.N.Notices.telling c.args.out.now) (g.N.Notices.telling c.set_native_reg.new.out) within
+          (λ y m. absurd m) c.self.invariant.0.1.runs.order c.set_native_reg.ensures.heap;
+    })

@@ -1,12 +1,15 @@
-use Rattle.std.proofs.Common.{◌≡◌, true, Some, is_some, sym, subst}
+use Rattle.std.proofs.Common.{◌≡◌, true, Some, is_some, refl, sym, subst, inl, inr, ⊎_elim}
 use Rattle.cc_names.specs.declared.register.Reg.TheVariants.{N, S}
 use Rattle.cc_model.specs.Graph.{objects_of, register}
 use Rattle.cc_document.specs.Words.{element_of}
 use Rattle.cc_document.specs.Changes.{IsHeard}
-use Rattle.cc_document.specs.Shown.{Shows, written, closed_over, listened}
-use Rattle.cc_document.proofs.Closures.{closed_over-reads, listened-reads, room-wrapped}
+use Rattle.cc_document.specs.Shown.{Makes, MakesOneAtMost, Parts, Shows, parts, written, closed_over, listened}
+use Rattle.cc_document.proofs.Closures.{closed_over-reads, listened-reads}
+use Rattle.cc_document.proofs.Holding.{room-for_script}
 use Rattle.cc_document.proofs.Calls.{read-some, between-from, both-there}
-use Rattle.cc_document.proofs.Freed.{tells-later}
+use Rattle.cc_document.proofs.Freed.{nothing-told, tells-after, tells-later}
+use Rattle.cc_document.proofs.Growing.{grows-stays, made-then}
+use Rattle.cc_document.specs.Told.{TellsWhatIsFreed}
 use Rattle.cc_document.proofs.Idle.{idle-after, listened-left}
 use Rattle.cc_document.proofs.Outcomes.{err-of}
 use Rattle.cc_document.proofs.Reached.{alike}
@@ -26,7 +29,7 @@ returns-clause-listens g c = λ k s.
     let here : is_some (element_of (register k (N v))) ≡ true = read-some c.element.result (element_of (register k (N v))) c.is_none.result (c.element.ensures k s) c.is_none.ensures c.if-is_none.false in
     let there : is_some (element_of (register k (N w))) ≡ true =
     read-some c.element-else-is_none.result (element_of (register k (N w))) c.is_none-else-is_none.result (c.element-else-is_none.ensures k s) c.is_none-else-is_none.ensures c.if-is_none-2.false in
-    let room = room-wrapped k w t.well.registers.1 (λ full. c.in_ok-close_over.ensures.room (rw (a.limits, a.scripts_made) full)) in (
+    let room = room-for_script (objects_of k) (λ full. c.in_ok-close_over.ensures.room (rw (a.limits, a.scripts_made) full)) in (
       listened v w k,
       three,
       between-from (IsHeard (objects_of k) (objects_of (listened v w k))) (register k (N v)) (register k (N w)) here there
@@ -64,10 +67,39 @@ returns-in_err-close_over-clause-same g c = err-of c.from_residual.result (λ k 
 pub returns-clause-tells : goal.returns-clause-tells
 returns-clause-tells g c =
     let s = c.self.invariant.0 in
+    let before = g.N.Notices.telling c.args.out.now in
+    let after = g.N.Notices.telling c.hand_over.new.out in
+    let x = c.self.inside.heaps.heap in
+    let y = c.close_over.new.heaps.heap in
+    let z = c.hand_over.new.heaps.heap in
     let h = closed_over c.args.about.0 s.0 in
-    let t = c.empty.ensures.shows (written c.args.to.0 1 (Some (S 1)) h) (c.hand_over.ensures.shows h (c.in_ok-close_over.ensures.closed s.0 s.1)) in
-    tells-later c.hand_over.new.heaps.heap c.empty.new.heaps.heap t.runs.order.sound.well_formed c.empty.ensures.none_came
-    (g.N.Notices.telling c.args.out.now) (g.N.Notices.telling c.hand_over.new.out) c.hand_over.ensures.tells
+    let one = c.in_ok-close_over.ensures.closed s.0 s.1 in
+    let t = c.empty.ensures.shows (written c.args.to.0 1 (Some (S 1)) h) (c.hand_over.ensures.shows h one) in
+    subst (λ (p : Parts). TellsWhatIsFreed p.heaps.heap c.empty.new.heaps.heap before after) c.self.view_is
+    (tells-later x z c.empty.new.heaps.heap t.runs.order.sound.well_formed c.empty.ensures.none_came before after (grows-stays 0 z c.empty.new.heaps.heap c.empty.ensures.grows)
+    (tells-after x y z before after one.runs.order.sound.well_formed c.in_ok-close_over.ensures.grows c.hand_over.ensures.tells))
+
+pub returns-clause-makes : goal.returns-clause-makes
+returns-clause-makes g c =
+    let x = c.self.inside.heaps.heap in
+    let y = c.close_over.new.heaps.heap in
+    let z = c.hand_over.new.heaps.heap in
+    let w = c.empty.new.heaps in
+    subst (λ (p : Parts). Makes 0 1 p (parts w c.self.inside.collector)) c.self.view_is
+    (record { running = refl; made = made-then 0 1 0 0 x y w.heap c.in_ok-close_over.ensures.grows.made (made-then 0 0 0 0 y z w.heap c.hand_over.ensures.made c.empty.ensures.grows.made) })
+
+pub returns-in_err-close_over-clause-tells : goal.returns-in_err-close_over-clause-tells
+returns-in_err-close_over-clause-tells g c =
+    let x = c.self.inside.heaps.heap in
+    let y = c.close_over.new.heaps.heap in
+    let told = g.N.Notices.telling c.args.out.now in
+    subst (λ (p : Parts). TellsWhatIsFreed p.heaps.heap y told told) c.self.view_is
+    (nothing-told x y told (⊎_elim (grows-stays 0 x y) (grows-stays 1 x y) c.in_err-close_over.ensures.tried))
+
+pub returns-in_err-close_over-clause-tried : goal.returns-in_err-close_over-clause-tried
+returns-in_err-close_over-clause-tried g c = err-of c.from_residual.result
+    (subst (λ (p : Parts). MakesOneAtMost p (parts c.close_over.new.heaps c.self.inside.collector)) c.self.view_is
+    (⊎_elim (λ t. inl (record { running = refl; made = t.made })) (λ t. inr (record { running = refl; made = t.made })) c.in_err-close_over.ensures.tried))
 
 pub returns-in_err-close_over-clause-empty : goal.returns-in_err-close_over-clause-empty
 returns-in_err-close_over-clause-empty g c = λ k s lacks.
@@ -84,9 +116,3 @@ returns-clause-empty g c = λ k s lacks.
     let here = read-some c.element.result x c.is_none.result (c.element.ensures k s) c.is_none.ensures c.if-is_none.false in
     let there = read-some c.element-else-is_none.result y c.is_none-else-is_none.result (c.element-else-is_none.ensures k s) c.is_none-else-is_none.ensures c.if-is_none-2.false in
     absurd (both-there x y here there lacks)
-
-pub returns-clause-room : goal.returns-clause-room
-returns-clause-room g c = λ k s full.
-    let p = c.self.inside in
-    let a = alike p.heaps p.collector k (subst (λ p. Shows p k) (sym c.self.view_is) s) in
-    c.in_ok-close_over.ensures.room (rw (a.limits, a.scripts_made) full)

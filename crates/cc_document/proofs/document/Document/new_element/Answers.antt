@@ -1,14 +1,18 @@
-use Rattle.std.proofs.Common.{rules, ◌≡◌, ◌<◌, ◌≤◌, ◌+◌, length, Some, sym, ◌∙◌, ap, subst, arith}
+use Rattle.std.proofs.Common.{rules, ◌≡◌, ℕ, ◌<◌, ◌≤◌, ◌+◌, length, Some, refl, sym, ◌∙◌, ap, subst, ⊎_elim, arith}
+use Rattle.std.proofs.lemmas.Bool.{cases_lt}
+use Rattle.cc_lists.specs.Members.{Among}
+use Rattle.cc_model.specs.WellFormed.{names_there}
+use Rattle.cc_heaps.specs.Keyed.{Keyed}
 use Rattle.cc_names.specs.Names.{native}
 use Rattle.cc_model.specs.Graph as graph
 use Rattle.cc_laws_heap.proofs.RepliesAlike.{objects-stand}
 use Rattle.cc_document.specs.Words.{element}
 use Rattle.cc_document.specs.Changes.{IsAssigned}
-use Rattle.cc_document.specs.Shown.{Shows, made_in}
+use Rattle.cc_document.specs.Shown.{Makes, Parts, Shows, parts, made_in}
 use Rattle.cc_document.proofs.Assigning.{made-reads}
 use Rattle.cc_document.proofs.Documents.{made_in-document}
 use Rattle.cc_document.proofs.Holding.{room-for_native}
-use Rattle.cc_document.proofs.Freed.{nothing-told, make_native-tells}
+use Rattle.cc_document.proofs.Freed.{nothing-told, make_native-made, make_native-tells}
 use Rattle.cc_document.specs.Told.{TellsWhatIsFreed}
 use Rattle.cc_document.proofs.Idle.{idle-after, made_in-left}
 use Rattle.cc_document.proofs.Steps.{Shows-step}
@@ -48,11 +52,42 @@ returns-clause-made g c = λ k s.
 
 pub returns-in_err-number-clause-tells : goal.returns-in_err-number-clause-tells
 returns-in_err-number-clause-tells g c =
-    subst (TellsWhatIsFreed c.new_native.new.self.heap (g.N.Notices.telling c.args.out.now)) (sym c.in_err-number.ensures.silent)
-    (nothing-told c.new_native.new.self.heap (g.N.Notices.telling c.args.out.now))
+    let v = c.self.inside.heaps in
+    let before = g.N.Notices.telling c.args.out.now in
+    subst (λ (p : Parts). TellsWhatIsFreed p.heaps.heap c.new_native.new.self.heap before (g.N.Notices.telling c.new_native.new.out)) c.self.view_is
+    (subst (TellsWhatIsFreed v.heap c.new_native.new.self.heap before) (sym c.in_err-number.ensures.silent)
+    (nothing-told v.heap c.new_native.new.self.heap before
+    (λ x i. subst (λ (w : Keyed). Among x (names_there w.heap)) (sym c.in_err-number.ensures.same) i)))
+
+-- there was room
+below : (limit made : ℕ) → ¬ (limit ≤ made) → made < limit
+below limit made room = ⊎_elim (λ l. l) (λ m. absurd (room m)) (cases_lt made limit)
 
 pub returns-clause-tells : goal.returns-clause-tells
 returns-clause-tells g c =
     let e = c.in_ok-number.ensures in
-    make_native-tells c.self.inside.heaps.heap c.new_native.new.self.heap c.args.into.0 10
-    (g.N.Notices.telling c.args.out.now) (g.N.Notices.telling c.new_native.new.out) e.heap e.order.sound.well_formed e.told
+    let h = c.self.inside.heaps.heap in
+    let k = c.new_native.new.self.heap in
+    let before = g.N.Notices.telling c.args.out.now in
+    let after = g.N.Notices.telling c.new_native.new.out in
+    let within : c.args.into.0 < 256 = search rules in
+    let full = c.new_native.ensures.full_always in
+    let made = c.in_ok-number.was in
+    let room : h.natives_made < h.limits.natives = below h.limits.natives h.natives_made (λ few. let stop = full few in cc) in
+    subst (λ (p : Parts). TellsWhatIsFreed p.heaps.heap k before after) c.self.view_is
+    (make_native-tells h k c.args.into.0 10 before after within (omega arith) room c.self.invariant.0.1.runs.order.sound e.heap e.order.sound.well_formed e.told)
+
+pub returns-clause-makes : goal.returns-clause-makes
+returns-clause-makes g c =
+    let h = c.self.inside.heaps.heap in
+    let k = c.new_native.new.self.heap in
+    let within : c.args.into.0 < 256 = search rules in
+    let full = c.new_native.ensures.full_always in
+    let made = c.in_ok-number.was in
+    let room : h.natives_made < h.limits.natives = below h.limits.natives h.natives_made (λ few. let stop = full few in cc) in
+    subst (λ (p : Parts). Makes 1 0 p (parts c.new_native.new.self c.self.inside.collector)) c.self.view_is
+    (record {
+      running = refl;
+      made = make_native-made h k c.args.into.0 10 (g.N.Notices.telling c.args.out.now) (g.N.Notices.telling c.new_native.new.out) within (omega arith) room
+          c.self.invariant.0.1.runs.order.sound c.in_ok-number.ensures.heap;
+    })

@@ -1,4 +1,4 @@
-use Rattle.std.proofs.Common.{◌≡◌, ℕ, ◌+◌, Option, Some, None, IfSome, option_map, sym, ◌∙◌, ap, subst}
+use Rattle.std.proofs.Common.{◌≡◌, ◌≢◌, ℕ, ◌+◌, ◌<◌, Option, Some, None, IfSome, option_map, sym, ◌∙◌, ap, subst}
 use Rattle.cc_names.specs.declared.number.NativeNo.{NativeNo}
 use Rattle.cc_names.specs.declared.register.Reg.TheVariants.{N}
 use Rattle.cc_model.specs.Graph as graph
@@ -26,3 +26,11 @@ returns-clause-found c = go c.place_of.result c.place_of.ensures.found
 
 pub returns-clause-none : goal.returns-clause-none
 returns-clause-none c = λ e g s place within is. c.place_of.ensures.none e place within (child-alike c g s place ∙ is)
+
+pub returns-clause-lowest : goal.returns-clause-lowest
+returns-clause-lowest c = go c.place_of.result c.place_of.ensures.lowest
+  where
+    go : (r : Option ℕ) → IfSome r (λ place. (q : ℕ) → q < place → child_of (heap.objects_of c.self.inside.heaps.heap) (heap.register c.self.inside.heaps.heap (N c.args.parent.0)) q ≢ option_map (λ (n : NativeNo). n.0) c.args.child) →
+        IfSome r (λ place. (g : Graph) → Shows c.args.self.now g → (q : ℕ) → q < place → child_of (graph.objects_of g) (in_variable (graph.objects_of g) c.args.parent.0) q ≢ option_map (λ (n : NativeNo). n.0) c.args.child)
+    go None f = tt
+    go (Some place) f = λ g s q below is. f q below (child-alike c g s q ∙ is)

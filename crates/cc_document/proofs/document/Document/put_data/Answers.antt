@@ -1,13 +1,16 @@
-use Rattle.std.proofs.Common.{◌≡◌, true, Err, is_some, refl, sym, ◌∙◌, ap, subst}
+use Rattle.std.proofs.Common.{◌≡◌, true, Err, is_some, refl, sym, ◌∙◌, ap, subst, inl, inr, ⊎_elim}
 use Rattle.cc_names.specs.declared.register.Reg.TheVariants.{N}
 use Rattle.cc_model.specs.Graph.{objects_of, register}
 use Rattle.cc_model.specs.Heap as heap
 use Rattle.cc_document.specs.Words.{element_of}
 use Rattle.cc_document.specs.Changes.{HasData}
 use Rattle.cc_document.specs.Stops.{StopsListening}
-use Rattle.cc_document.specs.Shown.{Shows, without, closed_over, entered, with_data}
+use Rattle.cc_document.specs.Shown.{Makes, MakesOneAtMost, Parts, Shows, parts, without, closed_over, entered, with_data}
 use Rattle.cc_document.proofs.Assigning.{as_before-then}
-use Rattle.cc_document.proofs.Closures.{closed_over-reads, closed_over-before, with_data-reads, room-wrapped, without-before}
+use Rattle.cc_document.proofs.Closures.{closed_over-reads, closed_over-before, with_data-reads, without-before}
+use Rattle.cc_document.proofs.Growing.{grows-stays, grows-then}
+use Rattle.cc_document.specs.Told.{Grows, NothingLeft}
+use Rattle.cc_document.proofs.Holding.{room-for_script}
 use Rattle.cc_document.proofs.Calls.{read-some, between-from, both-there, element-found, stops-entering}
 use Rattle.cc_document.proofs.Idle.{idle-after, with_data-left, left-closed}
 use Rattle.cc_document.proofs.Outcomes.{err-of, stopped-alike}
@@ -28,7 +31,7 @@ returns-clause-has c = λ k s.
     let here : is_some (element_of (register k (N v))) ≡ true = read-some c.element.result (element_of (register k (N v))) c.is_none.result (c.element.ensures k s) c.is_none.ensures c.if-is_none.false in
     let there : is_some (element_of (register k (N w))) ≡ true =
     read-some c.element-else-is_none.result (element_of (register k (N w))) c.is_none-else-is_none.result (c.element-else-is_none.ensures k s) c.is_none-else-is_none.ensures c.if-is_none-2.false in
-    let room = room-wrapped k w t.well.registers.1 (λ full. c.in_ok-close_over.ensures.room (rw (a.limits, a.scripts_made) full)) in (
+    let room = room-for_script (objects_of k) (λ full. c.in_ok-close_over.ensures.room (rw (a.limits, a.scripts_made) full)) in (
       with_data v w k,
       three,
       between-from (HasData (objects_of k) (objects_of (with_data v w k))) (register k (N v)) (register k (N w)) here there
@@ -72,7 +75,7 @@ returns-in-Err-clause-stops c = λ e is k s.
     let h = closed_over w k in
     let one = c.in_ok-close_over.ensures.closed k t in
     let there = read-some c.element-else-is_none.result (element_of (register k (N w))) c.is_none-else-is_none.result (c.element-else-is_none.ensures k s) c.is_none-else-is_none.ensures c.if-is_none-2.false in
-    let room = room-wrapped k w t.well.registers.1 (λ full. c.in_ok-close_over.ensures.room (rw (a.limits, a.scripts_made) full)) in
+    let room = room-for_script (objects_of k) (λ full. c.in_ok-close_over.ensures.room (rw (a.limits, a.scripts_made) full)) in
     let b = element-found (register k (N w)) there in
     let closed = closed_over-reads k w b.0 t.well.registers.1 b.1 room in
     let q = c.close_over.new.heaps in
@@ -90,7 +93,7 @@ returns-in-Err-clause-same c = λ k s.
     let one = c.in_ok-close_over.ensures.closed k t in
     let x = c.in-Err.ensures.same h one in
     let there = read-some c.element-else-is_none.result (element_of (register k (N w))) c.is_none-else-is_none.result (c.element-else-is_none.ensures k s) c.is_none-else-is_none.ensures c.if-is_none-2.false in
-    let room = room-wrapped k w t.well.registers.1 (λ full. c.in_ok-close_over.ensures.room (rw (a.limits, a.scripts_made) full)) in
+    let room = room-for_script (objects_of k) (λ full. c.in_ok-close_over.ensures.room (rw (a.limits, a.scripts_made) full)) in
     let b = element-found (register k (N w)) there in
     let closed = closed_over-reads k w b.0 t.well.registers.1 b.1 room in (
       without 1 x.0,
@@ -138,8 +141,46 @@ returns-clause-empty c = λ k s lacks.
     let there = read-some c.element-else-is_none.result y c.is_none-else-is_none.result (c.element-else-is_none.ensures k s) c.is_none-else-is_none.ensures c.if-is_none-2.false in
     absurd (both-there x y here there lacks)
 
-pub returns-clause-room : goal.returns-clause-room
-returns-clause-room c = λ k s full.
-    let p = c.self.inside in
-    let a = alike p.heaps p.collector k (subst (λ p. Shows p k) (sym c.self.view_is) s) in
-    c.in_ok-close_over.ensures.room (rw (a.limits, a.scripts_made) full)
+pub returns-in_err-close_over-clause-stays : goal.returns-in_err-close_over-clause-stays
+returns-in_err-close_over-clause-stays c =
+    let x = c.self.inside.heaps.heap in
+    let y = c.close_over.new.heaps.heap in
+    subst (λ (p : Parts). NothingLeft p.heaps.heap y) c.self.view_is (⊎_elim (grows-stays 0 x y) (grows-stays 1 x y) c.in_err-close_over.ensures.tried)
+
+pub returns-in_err-close_over-clause-tried : goal.returns-in_err-close_over-clause-tried
+returns-in_err-close_over-clause-tried c = err-of c.from_residual.result
+    (subst (λ (p : Parts). MakesOneAtMost p (parts c.close_over.new.heaps c.self.inside.collector)) c.self.view_is
+    (⊎_elim (λ t. inl (record { running = refl; made = t.made })) (λ t. inr (record { running = refl; made = t.made })) c.in_err-close_over.ensures.tried))
+
+-- what was made and entered, or not
+grown-in-Err : (c : goal.After-empty) → Grows 1 c.self.inside.heaps.heap c.empty.new.heaps.heap
+grown-in-Err c =
+    let x = c.self.inside.heaps.heap in
+    let y = c.close_over.new.heaps.heap in
+    let z = c.enter.new.heaps.heap in
+    let w = c.empty.new.heaps.heap in
+    grows-then 1 0 x y w c.in_ok-close_over.ensures.grows (grows-then 0 0 y z w c.enter.ensures.grows c.empty.ensures.grows)
+
+pub returns-in-Err-clause-stays : goal.returns-in-Err-clause-stays
+returns-in-Err-clause-stays c =
+    subst (λ (p : Parts). NothingLeft p.heaps.heap c.empty.new.heaps.heap) c.self.view_is (grows-stays 1 c.self.inside.heaps.heap c.empty.new.heaps.heap (grown-in-Err c))
+
+pub returns-in-Err-clause-tried : goal.returns-in-Err-clause-tried
+returns-in-Err-clause-tried c =
+    subst (λ (p : Parts). MakesOneAtMost p (parts c.empty.new.heaps c.self.inside.collector)) c.self.view_is (inr (record { running = refl; made = (grown-in-Err c).made }))
+
+grown : (c : goal.After-empty-2) → Grows 1 c.self.inside.heaps.heap c.empty-2.new.heaps.heap
+grown c =
+    let x = c.self.inside.heaps.heap in
+    let y = c.close_over.new.heaps.heap in
+    let z = c.enter.new.heaps.heap in
+    let w = c.empty-2.new.heaps.heap in
+    grows-then 1 0 x y w c.in_ok-close_over.ensures.grows (grows-then 0 0 y z w c.enter.ensures.grows c.empty-2.ensures.grows)
+
+pub returns-clause-stays : goal.returns-clause-stays
+returns-clause-stays c =
+    subst (λ (p : Parts). NothingLeft p.heaps.heap c.empty-2.new.heaps.heap) c.self.view_is (grows-stays 1 c.self.inside.heaps.heap c.empty-2.new.heaps.heap (grown c))
+
+pub returns-clause-makes : goal.returns-clause-makes
+returns-clause-makes c =
+    subst (λ (p : Parts). Makes 0 1 p (parts c.empty-2.new.heaps c.self.inside.collector)) c.self.view_is (record { running = refl; made = (grown c).made })

@@ -1,15 +1,18 @@
-use Rattle.std.proofs.Common.{◌≡◌, true, Err, None, refl, is_some, sym, ◌∙◌, ap, subst}
+use Rattle.std.proofs.Common.{◌≡◌, ◌≢◌, true, Err, None, option_map, refl, is_some, sym, ◌∙◌, ap, subst}
+use Rattle.cc_names.specs.declared.number.NativeNo.{NativeNo}
 use Rattle.cc_names.specs.declared.register.Reg.TheVariants.{N}
 use Rattle.cc_model.specs.Graph.{objects_of, register}
-use Rattle.cc_document.specs.Words.{element, element_of, child_of}
+use Rattle.cc_document.specs.Words.{element_of, child_of}
 use Rattle.cc_document.specs.Changes.{IsRemoved}
-use Rattle.cc_document.specs.Shown.{Shows, written, removed}
+use Rattle.cc_document.specs.Shown.{Makes, Parts, Shows, parts, written, removed}
 use Rattle.cc_document.proofs.Appending.{removed-reads}
-use Rattle.cc_document.proofs.Calls.{read-some, between-from}
+use Rattle.cc_document.proofs.Calls.{both-there, read-some, between-from}
 use Rattle.cc_document.specs.declared.error.DocumentError.TheVariants.{NoChild}
 use Rattle.cc_document.specs.Stops.{StopsRemoving}
 use Rattle.cc_document.proofs.Outcomes.{stopped-alike}
+use Rattle.cc_document.specs.Told.{TellsWhatIsFreed}
 use Rattle.cc_document.proofs.Freed.{tells-then}
+use Rattle.cc_document.proofs.Growing.{made-then}
 use Rattle.cc_document.proofs.Idle.{idle-after, removed-left}
 use Rattle.cc_document.proofs.document.Document.remove.Goals as goal
 
@@ -30,14 +33,20 @@ returns-clause-removed g c = λ k s.
       two,
       between-from (IsRemoved o (objects_of (removed v place w k))) (register k (N v)) (register k (N w)) here there
           (λ a b in-parent in-child. removed-reads k t.well t.document v w a b place in-parent in-child c.in-Some.ensures.within
-          (subst (λ x. child_of o x place ≡ element_of (register k (N w))) in-parent was ∙ ap element_of in-child)),
+          (subst (λ x. child_of o x place ≡ element_of (register k (N w))) in-parent was ∙ ap element_of in-child)
+          (λ q below is. subst (λ x. child_of o x q ≢ option_map (λ (n : NativeNo). n.0) c.element-removed.result) in-parent (c.in-Some.ensures.lowest k s q below)
+          (is ∙ (sym (ap element_of in-child) ∙ sym (c.element-removed.ensures k s))))),
     )
 
 pub returns-in_default-clause-stops : goal.returns-in_default-clause-stops
 returns-in_default-clause-stops g c = λ e is k s.
     let o = objects_of k in
+    let x = element_of (register k (N c.args.parent.0)) in
+    let y = element_of (register k (N c.args.child.0)) in
+    let here = read-some c.element.result x c.is_none.result (c.element.ensures k s) c.is_none.ensures c.if-is_none.false in
+    let there = read-some c.element-removed.result y c.is_none-else-is_none.result (c.element-removed.ensures k s) c.is_none-else-is_none.ensures c.if-is_none-2.false in
     stopped-alike (StopsRemoving o c.args.parent.0 c.args.child.0) (Err NoChild) NoChild refl
-    (λ place within t. c.place.ensures.none c.in_default.is k s place within (t ∙ sym (c.element-removed.ensures k s))) e is
+    (both-there x y here there, λ place within t. c.place.ensures.none c.in_default.is k s place within (t ∙ sym (c.element-removed.ensures k s))) e is
 
 pub invariant_of-self : goal.invariant_of-self
 invariant_of-self g c =
@@ -51,7 +60,17 @@ invariant_of-self g c =
 
 pub returns-clause-tells : goal.returns-clause-tells
 returns-clause-tells g c =
+    let v = c.self.inside.heaps in
+    let w = c.write-2.new.heaps in
     let s = c.self.invariant.0 in
-    let t = c.write-2.ensures.shows (written c.args.child.0 0 None s.0) (c.write.ensures.shows s.0 s.1) in
-    tells-then c.write.new.heaps.heap c.write-2.new.heaps.heap t.runs.order.sound.well_formed c.write-2.ensures.none_came
-    (g.N.Notices.telling c.args.out.now) (g.N.Notices.telling c.write.new.out) (g.N.Notices.telling c.write-2.new.out) c.write.ensures.tells c.write-2.ensures.tells
+    let t = c.write-2.ensures.shows (written c.args.child.0 0 (None) s.0) (c.write.ensures.shows s.0 s.1) in
+    subst (λ (p : Parts). TellsWhatIsFreed p.heaps.heap w.heap (g.N.Notices.telling c.args.out.now) (g.N.Notices.telling c.write-2.new.out)) c.self.view_is
+    (tells-then v.heap c.write.new.heaps.heap w.heap t.runs.order.sound.well_formed c.write-2.ensures.none_came c.write.ensures.none_came
+    (g.N.Notices.telling c.args.out.now) (g.N.Notices.telling c.write.new.out) (g.N.Notices.telling c.write-2.new.out) c.write.ensures.tells c.write-2.ensures.tells)
+
+pub returns-clause-makes : goal.returns-clause-makes
+returns-clause-makes g c =
+    let v = c.self.inside.heaps in
+    let w = c.write-2.new.heaps in
+    subst (λ (p : Parts). Makes 0 0 p (parts w c.self.inside.collector)) c.self.view_is
+    (record { running = refl; made = made-then 0 0 0 0 v.heap c.write.new.heaps.heap w.heap c.write.ensures.made c.write-2.ensures.made })
