@@ -73,8 +73,8 @@ impl<T: Drop, const N: usize> Pool<T, N> {
 
     /// Room for `additional` more values, in whole blocks: it takes no block more than that needs.
     ///
-    /// `NoMemory` where one of them is not to be had; the room is then what it was, but for places in the list of blocks,
-    /// of which there are never more than for twice the values that were asked for, and two.
+    /// `NoMemory` where one of them is not to be had; the room is then what it was, but for places in the list of blocks. Of
+    /// these it takes no more than twice as many as the blocks need, and two.
     pub fn reserve(&mut self, additional: usize) -> Result<(), NoMemory>
         ensures items { self.new.items ≡ self.old.items }
         ensures room { OnOk result (length self.new.items + additional ≤ self.new.capacity) }
