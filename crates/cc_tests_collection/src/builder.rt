@@ -1,18 +1,30 @@
 //! A snapshot while it is built.
-ghost use Rattle.std.specs.Prelude.{[], None};
+ghost use Rattle.std.specs.Prelude.{[]};
 ghost use Rattle.cc_graph.specs.Shown.{IsEmpty};
 ghost use Rattle.cc_heaps.specs.Keyed.{IsInOrder};
-ghost use Rattle.cc_collector.specs.Kept.{RunsIn};
 
-use crate::collector::drop_cycle;
 use cc_builder::{Build, Step};
-use cc_collector::Collector;
+use cc_counted::Held;
 use cc_graph::Graph;
 use cc_heaps::Heaps;
 use cc_model::Notebook;
 use cc_names::Limits;
 use std::alloc::Global;
 use std::test::Fail;
+
+// A native is made that holds itself, and that nothing else holds.
+pub(crate) fn drop_cycle(heaps: &mut Heaps, out: &mut Notebook)
+    requires { IsInOrder [] heaps.old }
+    ensures { IsInOrder [] heaps.new }
+{
+    let _made = heaps.new_native(0, 1, out);
+    if let Some(key) = heaps.native_reg(0) {
+        if heaps.counted().slots(key) == 1 {
+            heaps.store_native(key, 0, Some(Held::Native(key)), out);
+        }
+    }
+    heaps.set_native_reg(0, None, out);
+}
 
 // Whether a collection begins and looks at a node; it is abandoned then.
 fn begins_and_is_abandoned(heaps: &mut Heaps, alloc: Global) -> bool
@@ -45,9 +57,9 @@ fn is_built_in(room: Graph, heaps: &mut Heaps) -> bool
 
 // Whether both go well, one after the other.
 fn builds_go_well(heaps: &mut Heaps, alloc: Global, out: &mut Notebook) -> bool
-    requires { RunsIn heaps.old None }
+    requires { IsInOrder [] heaps.old }
 {
-    drop_cycle(heaps, &Collector::new(alloc), out);
+    drop_cycle(heaps, out);
     let begun = begins_and_is_abandoned(heaps, alloc);
     begun & is_built_in(Graph::new(alloc), heaps)
 }

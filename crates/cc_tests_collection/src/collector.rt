@@ -41,7 +41,7 @@ fn empty(heaps: &mut Heaps, collector: &Collector, out: &mut Notebook)
 }
 
 // A native is made that holds itself, and that nothing else holds.
-pub(crate) fn drop_cycle(heaps: &mut Heaps, collector: &Collector, out: &mut Notebook)
+fn drop_cycle(heaps: &mut Heaps, collector: &Collector, out: &mut Notebook)
     requires { RunsIn heaps.old collector.now }
     ensures { RunsIn heaps.new collector.now }
 {
@@ -71,18 +71,25 @@ fn ends_with_third_unit<L: Ledger>(
 }
 
 // Whether three such natives are collected: in slices, by a whole collection, and by settling.
-fn each_way_goes_well(heaps: &mut Heaps, alloc: Global, out: &mut Notebook) -> bool
-    requires { RunsIn heaps.old None }
+fn each_way_goes_well(heaps: &mut Heaps, collector: &mut Collector, out: &mut Notebook) -> bool
+    requires { RunsIn heaps.old collector.old }
 {
-    let mut collector = Collector::new(alloc);
-    drop_cycle(heaps, &collector, out);
-    let sliced = ends_with_third_unit::<Brand>(heaps, &mut collector, out, Blank::new(1));
-    drop_cycle(heaps, &collector, out);
+    drop_cycle(heaps, collector, out);
+    let sliced = ends_with_third_unit::<Brand>(heaps, collector, out, Blank::new(1));
+    drop_cycle(heaps, collector, out);
     let whole = collector.whole(heaps, out);
-    drop_cycle(heaps, &collector, out);
+    drop_cycle(heaps, collector, out);
     let settled = collector.settle(heaps, out);
     collector.gc(heaps, out);
     sliced & whole.is_ok() & settled.is_ok() & !collector.running()
+}
+
+// The same for a collector of its own.
+fn new_collector_goes_well(heaps: &mut Heaps, alloc: Global, out: &mut Notebook) -> bool
+    requires { RunsIn heaps.old None }
+{
+    let mut collector = Collector::new(alloc);
+    each_way_goes_well(heaps, &mut collector, out)
 }
 
 #[test]
@@ -91,7 +98,7 @@ fn what_nothing_reaches_goes_in_each_way(rt: HostRuntime) -> Result<(), Fail> {
     let made = Heaps::new(rt.alloc(), Limits::new(3, 0, 0));
     assert!(rt; made.is_ok());
     if let Ok(mut heaps) = made {
-        let well = each_way_goes_well(&mut heaps, rt.alloc(), &mut out);
+        let well = new_collector_goes_well(&mut heaps, rt.alloc(), &mut out);
         assert!(rt; well);
     }
     assert_eq!(rt;

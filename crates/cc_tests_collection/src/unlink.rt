@@ -1,10 +1,9 @@
 //! The end of a collection: touched nodes, and white natives taken away.
-ghost use Rattle.std.specs.Prelude.{None};
-ghost use Rattle.cc_collector.specs.Kept.{RunsIn};
+ghost use Rattle.std.specs.Prelude.{[]};
+ghost use Rattle.cc_heaps.specs.Keyed.{IsInOrder};
 
-use crate::collector::drop_cycle;
+use crate::builder::drop_cycle;
 use cc_builder::Build;
-use cc_collector::Collector;
 use cc_heaps::Heaps;
 use cc_model::Notebook;
 use cc_names::Limits;
@@ -15,9 +14,9 @@ use std::test::Fail;
 
 // Whether the candidate of a collection is white, untouched, and taken away.
 fn candidate_goes(heaps: &mut Heaps, alloc: Global, out: &mut Notebook) -> bool
-    requires { RunsIn heaps.old None }
+    requires { IsInOrder [] heaps.old }
 {
-    drop_cycle(heaps, &Collector::new(alloc), out);
+    drop_cycle(heaps, out);
     let Ok(build) = Build::begin(alloc, heaps) else {
         return false;
     };
