@@ -26,6 +26,3 @@ mod make_stop;
 
 pub use heaps::Heaps;
 pub use make_stop::MakeStop;
-
-#[cfg(test)]
-mod tests;

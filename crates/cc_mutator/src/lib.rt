@@ -13,6 +13,3 @@ mod checks;
 mod reads;
 
 pub use applying::apply;
-
-#[cfg(test)]
-mod tests;

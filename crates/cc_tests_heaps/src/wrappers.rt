@@ -1,1 +1,54 @@
-//! Reflectors, made, unwrapped and preserved.
+//! Reflectors made, found again, unwrapped and preserved.
+ghost use Rattle.std.specs.Prelude.{[]};
+ghost use Rattle.cc_heaps.specs.Keyed.{IsInOrder};
+
+use cc_heaps::Heaps;
+use cc_model::Notebook;
+use cc_names::Limits;
+use cc_wrappers::{preserve, unwrap_of, wrap};
+use std::test::Fail;
+
+// The native in register 0 is wrapped twice. Whether there was memory for its reflector, and it is the same one again.
+fn wrap_twice(heaps: &mut Heaps) -> bool
+    requires order { IsInOrder [] heaps.old }
+    ensures order { IsInOrder [] heaps.new }
+{
+    match heaps.native_reg(0) {
+        Some(native) => {
+            let first = wrap(heaps, native);
+            let second = wrap(heaps, native);
+            first.is_ok() && first == second
+        }
+        None => false,
+    }
+}
+
+// The native in register 0 is wrapped, and the reflector preserved. Whether it stands for the native.
+fn preserve_first(heaps: &mut Heaps) -> bool
+    requires order { IsInOrder [] heaps.old }
+    ensures order { IsInOrder [] heaps.new }
+{
+    match heaps.native_reg(0) {
+        Some(native) => match wrap(heaps, native) {
+            Ok(reflector) => {
+                unwrap_of(heaps, reflector) == Some(native) && preserve(heaps, reflector)
+            }
+            Err(_) => false,
+        },
+        None => false,
+    }
+}
+
+#[test]
+fn native_has_one_reflector_which_is_preserved(rt: HostRuntime) -> Result<(), Fail> {
+    let mut out = Notebook::new(rt.alloc());
+    let mut done = false;
+    if let Ok(mut heaps) = Heaps::new(rt.alloc(), Limits::new(1, 1, 0)) {
+        let made = heaps.new_native(0, 0, &mut out).is_ok();
+        let wrapped = wrap_twice(&mut heaps);
+        let preserved = preserve_first(&mut heaps);
+        done = made & wrapped & preserved;
+    }
+    assert!(rt; done);
+    Ok(())
+}

@@ -8,6 +8,3 @@
 mod wrapping;
 
 pub use wrapping::{preserve, unwrap_of, wrap};
-
-#[cfg(test)]
-mod tests;

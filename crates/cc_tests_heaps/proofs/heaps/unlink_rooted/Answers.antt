@@ -4,7 +4,7 @@ use Rattle.cc_counted.specs.Counts.{number_or_none}
 use Rattle.cc_model.specs.End.{unlink}
 use Rattle.cc_heaps.specs.Keyed.{Keyed, IsInOrder, number_at, the_number, left_with}
 use Rattle.cc_heaps.proofs.LeftWith.{number-stays}
-use Rattle.cc_heaps.proofs.tests.unlink_rooted.Goals as goal
+use Rattle.cc_tests_heaps.proofs.heaps.unlink_rooted.Goals as goal
 
 -- a native is owned once, and unlinked
 module _ (old rooted unlinked : Keyed) (key : ℕ) (live : is_some (number_at old key) ≡ true) (keys : rooted.keys ≡ old.keys)
