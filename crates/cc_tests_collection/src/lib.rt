@@ -1,6 +1,6 @@
 //! Tests of a collection's calls: what no clause says of them.
 //!
-//! Each public call of the crates from `cc_graph` to `cc_document` is made once where it can go well: no clause says that
+//! Each public call of the crates from `cc_graph` to `cc_collector` is made once where it can go well: no clause says that
 //! memory is there. A crate with tests is proved twice, so they stand here and not in those crates. Sequences of commands are
 //! worked examples (`cc_worked`, `cc_examples`).
 #![tactic(auto)]
@@ -9,8 +9,6 @@
 mod builder;
 #[cfg(test)]
 mod collector;
-#[cfg(test)]
-mod document;
 #[cfg(test)]
 mod graph;
 #[cfg(test)]
