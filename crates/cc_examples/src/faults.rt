@@ -1,185 +1,263 @@
-//! Faults of reading and writing, the byte limit, and long lines.
+//! Faults of reading and writing, the limit on bytes, and long lines: one table of what `run` makes of them.
 
-use crate::script::{replays, script, source_of};
-use cc_names::Limits;
+use crate::script::status_of_run;
+use cc_names::NoMemory;
 use cc_outside::{BytesSink, BytesSource};
-use cc_replay::{Status, replay};
+use cc_replay::Status;
 use std::alloc::{AllocError, Global};
-use std::test::Fail;
+use std::process::Abort;
 
-/// The four lines whose cycle of one outlives its register: 39 bytes.
-const LINES: &str = "native n0 1 / set n0 0 n0 / drop n0 / census";
+/// What `run` makes of an input: a front, so many bytes `a`, and an end.
+#[derive(Clone, Copy, Drop)]
+struct Case {
+    words: &'static [&'static str],
+    front: &'static [u8],
+    letters: usize,
+    end: &'static [u8],
+    /// How many bytes a read gives at most, and how many a write takes.
+    gives: usize,
+    takes: usize,
+    /// The read that fails, in one run after the other each from this number to that one, counted from 1; 0 for none.
+    reads: (u64, u64),
+    /// The write that fails.
+    write: u64,
+    written: &'static [u8],
+    status: Status,
+}
 
-/// What they answer is the last of these; before it stand its beginnings of no line, one, two and three lines.
-const ANSWERS: [&[u8]; 5] = [
-    b"",
-    b"= #1\n",
-    b"= #1\n= ok\n",
-    b"= #1\n= ok\n= ok\n",
-    b"= #1\n= ok\n= ok\n+ #1\n= census 1\n",
+/// Four lines whose cycle of one outlives its register, 39 bytes, and what they answer.
+const WHOLE: Case = Case {
+    words: &["ccreplay", "replay"],
+    front: b"native n0 1\nset n0 0 n0\ndrop n0\ncensus\n",
+    letters: 0,
+    end: b"",
+    gives: 4096,
+    takes: 4096,
+    reads: (0, 0),
+    write: 0,
+    written: b"= #1\n= ok\n= ok\n+ #1\n= census 1\n",
+    status: Status::Done,
+};
+
+/// A byte at a time, or two: the end of a line may be one piece and its beginning another.
+const PARTED: [Case; 3] = [
+    Case {
+        gives: 1,
+        takes: 1,
+        ..WHOLE
+    },
+    Case { gives: 1, ..WHOLE },
+    Case {
+        gives: 3,
+        takes: 2,
+        ..WHOLE
+    },
 ];
 
-/// The lines from a source that gives a byte at a time, and fails at these calls.
-fn byte_by_byte(alloc: Global, fails: Vec<u64>) -> Result<BytesSource, AllocError> {
-    Ok(BytesSource::new(script(alloc, LINES)?, fails, 1))
-}
+/// A read of one byte fails: the lines that ended before it are answered. The last read says the end.
+const READ: Case = Case {
+    gives: 1,
+    status: Status::ReadFault,
+    ..WHOLE
+};
 
-#[test]
-fn a_byte_at_a_time_answers_the_same(rt: HostRuntime) -> Result<(), Fail> {
-    let mut source = byte_by_byte(rt.alloc(), Vec::new(rt.alloc()))?;
-    replays(
-        &rt,
-        "a byte at a time",
-        Limits::widest(),
-        &mut source,
-        ANSWERS[4],
-        Status::Done,
-    )
-}
+const READS: [Case; 6] = [
+    Case {
+        reads: (1, 12),
+        written: b"",
+        ..READ
+    },
+    Case {
+        reads: (13, 24),
+        written: b"= #1\n",
+        ..READ
+    },
+    Case {
+        reads: (25, 32),
+        written: b"= #1\n= ok\n",
+        ..READ
+    },
+    Case {
+        reads: (33, 39),
+        written: b"= #1\n= ok\n= ok\n",
+        ..READ
+    },
+    Case {
+        reads: (40, 40),
+        ..READ
+    },
+    Case {
+        gives: 39,
+        reads: (2, 2),
+        ..READ
+    },
+];
 
-#[test]
-fn each_read_fails_in_turn(rt: HostRuntime) -> Result<(), Fail> {
-    for k in 1..41u64 {
-        let mut source = byte_by_byte(rt.alloc(), [k].to_vec(rt.alloc())?)?;
-        let written = match k {
-            0..=12 => ANSWERS[0],
-            13..=24 => ANSWERS[1],
-            25..=32 => ANSWERS[2],
-            33..=39 => ANSWERS[3],
-            _ => ANSWERS[4],
-        };
-        replays(
-            &rt,
-            "a read fails",
-            Limits::widest(),
-            &mut source,
-            written,
-            Status::ReadFault,
-        )?;
-        assert_eq!(rt; source.faults(), 1, "at {k}");
+/// A write fails: the lines before it are written.
+const WRITE: Case = Case {
+    status: Status::WriteFault,
+    ..WHOLE
+};
+
+const WRITES: [Case; 7] = [
+    Case {
+        write: 1,
+        written: b"",
+        ..WRITE
+    },
+    Case {
+        write: 2,
+        written: b"= #1\n",
+        ..WRITE
+    },
+    Case {
+        write: 3,
+        written: b"= #1\n= ok\n",
+        ..WRITE
+    },
+    Case {
+        write: 4,
+        written: b"= #1\n= ok\n= ok\n",
+        ..WRITE
+    },
+    Case {
+        write: 5,
+        written: b"= #1\n= ok\n= ok\n+ #1\n",
+        ..WRITE
+    },
+    Case {
+        takes: 1,
+        write: 7,
+        written: b"= #1\n=",
+        ..WRITE
+    },
+    Case {
+        write: 6,
+        status: Status::Done,
+        ..WHOLE
+    },
+];
+
+/// So many bytes may be read.
+const LIMITS: [Case; 3] = [
+    Case {
+        words: &["ccreplay", "replay", "--bytes", "39"],
+        ..WHOLE
+    },
+    Case {
+        words: &["ccreplay", "replay", "--bytes", "38"],
+        written: b"= #1\n= ok\n= ok\n",
+        status: Status::Limit,
+        ..WHOLE
+    },
+    Case {
+        words: &["ccreplay", "replay", "--bytes", "0"],
+        written: b"",
+        status: Status::Limit,
+        ..WHOLE
+    },
+];
+
+/// A line has at most 120 bytes before its line feed.
+const LONG: Case = Case {
+    front: b"",
+    written: b"! long\n",
+    ..WHOLE
+};
+
+const LINES: [Case; 7] = [
+    Case {
+        front: b"%",
+        letters: 119,
+        end: b"\n",
+        written: b"",
+        ..LONG
+    },
+    Case {
+        front: b"%",
+        letters: 120,
+        end: b"\n",
+        ..LONG
+    },
+    Case {
+        letters: 119,
+        end: b"\r\n",
+        written: b"! line\n",
+        ..LONG
+    },
+    Case {
+        letters: 120,
+        end: b"\r\n",
+        ..LONG
+    },
+    Case {
+        letters: 121,
+        ..LONG
+    },
+    Case {
+        letters: 121,
+        end: b"\ncensus\r\n",
+        written: b"! long\n= census 0\n",
+        ..LONG
+    },
+    Case {
+        letters: 10000,
+        end: b"\ncensus",
+        written: b"! long\n= census 0\n",
+        ..LONG
+    },
+];
+
+/// So many bytes `a` between a front and an end.
+fn padded(alloc: Global, case: &Case) -> Result<Vec<u8>, AllocError> {
+    let mut input = case.front.to_vec(alloc)?;
+    for _ in 0..case.letters {
+        input.push(b'a')?;
     }
-    Ok(())
+    input.extend_from_slice(case.end)?;
+    Ok(input)
+}
+
+/// The source of a case, of which the read of this number fails.
+fn source_of(alloc: Global, case: &Case, read: u64) -> Result<BytesSource, AllocError> {
+    let fails = [read].to_vec(alloc)?;
+    Ok(BytesSource::new(padded(alloc, case)?, fails, case.gives.max(1)))
+}
+
+/// The sink of a case.
+fn sink_of(alloc: Global, case: &Case) -> Result<BytesSink, NoMemory> {
+    let fails = [case.write].to_vec(alloc)?;
+    BytesSink::with_most(alloc, 4096, fails, case.takes.max(1))
+}
+
+/// One run, in which the read of this number fails.
+fn runs_with(rt: &(impl Abort + AllocGlobal), case: &Case, read: u64) {
+    let source = source_of(rt.alloc(), case, read);
+    let sink = sink_of(rt.alloc(), case);
+    assert!(rt; source.is_ok() && sink.is_ok());
+    if let (Ok(mut source), Ok(mut sink)) = (source, sink) {
+        let status = status_of_run(rt.alloc(), case.words, &mut source, &mut sink);
+        assert_eq!(rt; sink.written(), case.written);
+        assert_eq!(rt; status, case.status);
+        assert_eq!(rt; source.faults(), u64::from(status == Status::ReadFault));
+        assert_eq!(rt; sink.faults(), u64::from(status == Status::WriteFault));
+    }
+}
+
+/// All runs of some cases.
+fn all_run(rt: &(impl Abort + AllocGlobal), cases: &[Case]) {
+    for case in cases {
+        for read in case.reads.0..=case.reads.1 {
+            runs_with(rt, case, read);
+        }
+    }
 }
 
 #[test]
-fn each_write_fails_in_turn(rt: HostRuntime) -> Result<(), Fail> {
-    let fronts: [&[u8]; 5] = [
-        ANSWERS[0],
-        ANSWERS[1],
-        ANSWERS[2],
-        ANSWERS[3],
-        b"= #1\n= ok\n= ok\n+ #1\n",
-    ];
-    for (place, written) in fronts.iter().enumerate() {
-        let k = place as u64 + 1;
-        let mut source = source_of(rt.alloc(), script(rt.alloc(), LINES)?);
-        let mut sink = BytesSink::new(rt.alloc(), 100, [k].to_vec(rt.alloc())?)?;
-        let status = replay(rt.alloc(), Limits::widest(), &mut source, &mut sink);
-        assert_eq!(rt; status, Status::WriteFault, "at {k}");
-        assert_eq!(rt; sink.written(), *written, "at {k}");
-        assert_eq!(rt; sink.faults(), 1, "at {k}");
-    }
-    Ok(())
-}
-
-#[test]
-fn a_second_write_fails(rt: HostRuntime) -> Result<(), Fail> {
-    let lines = script(rt.alloc(), "native n0 0 / native n1 0")?;
-    let mut source = source_of(rt.alloc(), lines);
-    let mut sink = BytesSink::new(rt.alloc(), 100, [2].to_vec(rt.alloc())?)?;
-    let status = replay(rt.alloc(), Limits::widest(), &mut source, &mut sink);
-    assert_eq!(rt; status, Status::WriteFault);
-    assert_eq!(rt; sink.written(), ANSWERS[1]);
-    Ok(())
-}
-
-#[test]
-fn bytes_are_limited(rt: HostRuntime) -> Result<(), Fail> {
-    let table: [(&str, u32, &[u8], &[u8], Status); 7] = [
-        (
-            "all 39 bytes",
-            39,
-            b"native n0 1\nset n0 0 n0\ndrop n0\ncensus\n",
-            ANSWERS[4],
-            Status::Done,
-        ),
-        (
-            "38 of them",
-            38,
-            b"native n0 1\nset n0 0 n0\ndrop n0\ncensus\n",
-            ANSWERS[3],
-            Status::Limit,
-        ),
-        ("12 bytes", 12, b"native n0 0\n", ANSWERS[1], Status::Done),
-        (
-            "one more",
-            12,
-            b"native n0 0\n\n",
-            ANSWERS[1],
-            Status::Limit,
-        ),
-        (
-            "one more that would end a line",
-            11,
-            b"native n0 0\n",
-            b"",
-            Status::Limit,
-        ),
-        ("none of one", 0, b"a", b"", Status::Limit),
-        ("none of none", 0, b"", b"", Status::Done),
-    ];
-    for (name, bytes, input, written, status) in table.iter() {
-        let limits = Limits::new(Limits::MOST, Limits::MOST, *bytes);
-        let mut source = source_of(rt.alloc(), input.to_vec(rt.alloc())?);
-        replays(&rt, name, limits, &mut source, written, *status)?;
-    }
-    let mut source = BytesSource::new(
-        b"native n0 0\ncensus\n".to_vec(rt.alloc())?,
-        [2].to_vec(rt.alloc())?,
-        19,
-    );
-    replays(
-        &rt,
-        "the second read fails",
-        Limits::widest(),
-        &mut source,
-        b"= #1\n+ #1\n= census 1\n",
-        Status::ReadFault,
-    )
-}
-
-/// So many bytes `a` after a front, and an end.
-fn padded(alloc: Global, front: &[u8], count: usize, end: &[u8]) -> Result<Vec<u8>, AllocError> {
-    let mut line = front.to_vec(alloc)?;
-    for _ in 0..count {
-        line.push(b'a')?;
-    }
-    line.extend_from_slice(end)?;
-    Ok(line)
-}
-
-#[test]
-fn long_lines_are_refused(rt: HostRuntime) -> Result<(), Fail> {
-    let table: [(&[u8], usize, &[u8], &[u8]); 8] = [
-        (b"%", 119, b"\n", b""),
-        (b"%", 120, b"\n", b"! long\n"),
-        (b"", 119, b"\r\n", b"! line\n"),
-        (b"", 120, b"\r\n", b"! long\n"),
-        (b"", 121, b"", b"! long\n"),
-        (b"", 121, b"\ncensus\r\n", b"! long\n= census 0\n"),
-        (b" % note", 0, b"\n \n\ncensus", b"= census 0\n"),
-        (b"", 10000, b"\ncensus\n", b"! long\n= census 0\n"),
-    ];
-    for (front, count, end, written) in table.iter() {
-        let mut source = source_of(rt.alloc(), padded(rt.alloc(), front, *count, end)?);
-        replays(
-            &rt,
-            "a long line",
-            Limits::widest(),
-            &mut source,
-            written,
-            Status::Done,
-        )?;
-    }
-    Ok(())
+fn faults_of_the_outside_are_told(rt: HostRuntime) {
+    all_run(&rt, &PARTED);
+    all_run(&rt, &READS);
+    all_run(&rt, &WRITES);
+    all_run(&rt, &LIMITS);
+    all_run(&rt, &LINES);
 }

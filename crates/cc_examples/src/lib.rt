@@ -2,7 +2,7 @@
 //!
 //! The worked examples stand in one table, `examples/worked.txt`, with the answers of the rules and not of the program;
 //! `worked.rt` and its parts are made of it. Beside them stand the words of the command line, summaries of made scripts,
-//! script collections, the faults of reading and writing, and shapes that are deep or long.
+//! the faults of reading and writing, and shapes that are deep or long.
 #![tactic(auto)]
 
 #[cfg(test)]
@@ -12,13 +12,13 @@ mod library;
 #[cfg(test)]
 mod pieces;
 #[cfg(test)]
-mod rounds;
-#[cfg(test)]
 mod script;
 #[cfg(test)]
 mod shapes;
 #[cfg(test)]
 mod summaries;
+#[cfg(test)]
+mod text;
 #[cfg(test)]
 mod words;
 #[cfg(test)]

@@ -2,19 +2,18 @@
 
 ghost use Rattle.std.specs.Prelude.{◌≤◌, None};
 
-use crate::script::{script, source_of};
+use crate::script::{script, source_of, status_of_run};
 use cc_outside::{Failed, Sink, WriteCounts};
-use cc_replay::{Status, run};
-use std::alloc::Global;
+use cc_replay::Status;
 use std::process::Abort;
 use std::test::Fail;
 
-/// A sink that keeps each piece that it is handed, and takes at most so many bytes of it, at least one. It never fails.
+/// A sink that keeps what it is handed, a bar behind each piece, and takes at most so many bytes of it, at least one. It
+/// never fails.
 #[derive(Drop)]
 struct Pieces {
     most: usize,
-    pieces: Vec<Vec<u8>>,
-    alloc: Global,
+    handed: Vec<u8>,
     writes: WriteCounts,
     ghost some: { 1 ≤ most },
 }
@@ -26,16 +25,12 @@ impl Sink for Pieces {
 
     ghost writes = { λ p. p.writes };
 
-    /// A piece for which there is no memory is left out, which the test sees.
+    /// What there is no memory for is left out, which the test sees.
     fn write(&mut self, bytes: &[u8]) -> Result<usize, Failed> {
-        if let Ok(piece) = bytes.to_vec(self.alloc) {
-            let _ = self.pieces.push(piece);
-        }
+        let _ = self.handed.extend_from_slice(bytes);
+        let _ = self.handed.push(b'|');
         self.writes.count_answered();
-        if bytes.len() <= self.most {
-            return Ok(bytes.len());
-        }
-        Ok(self.most)
+        Ok(bytes.len().min(self.most))
     }
 }
 
@@ -49,18 +44,12 @@ fn hands_on(rt: &(impl Abort + AllocGlobal), most: usize, wanted: &str) -> Resul
     let mut source = source_of(rt.alloc(), script(rt.alloc(), LINES)?);
     let mut sink = Pieces {
         most,
-        pieces: Vec::new(rt.alloc()),
-        alloc: rt.alloc(),
+        handed: Vec::new(rt.alloc()),
         writes: WriteCounts::new(),
     };
-    let status = run(rt.alloc(), &["ccreplay", "replay"], &mut source, &mut sink);
+    let status = status_of_run(rt.alloc(), &["ccreplay", "replay"], &mut source, &mut sink);
     assert_eq!(rt; status, Status::Done, "at {most}");
-    let mut handed = Vec::new(rt.alloc());
-    for piece in sink.pieces.iter() {
-        handed.extend_from_slice(piece.as_slice())?;
-        handed.push(b'|')?;
-    }
-    assert_eq!(rt; handed.as_slice(), wanted.as_bytes(), "at {most}");
+    assert_eq!(rt; sink.handed.as_slice(), wanted.as_bytes(), "at {most}");
     Ok(())
 }
 

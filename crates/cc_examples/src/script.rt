@@ -1,8 +1,8 @@
 //! What the tests of this crate share: scripts, and what a replay of one writes.
 
 use cc_names::Limits;
-use cc_outside::{BytesSink, BytesSource, Source};
-use cc_replay::{Status, replay};
+use cc_outside::{BytesSink, BytesSource, Sink, Source};
+use cc_replay::{Status, replay, run};
 use std::alloc::{AllocError, Global};
 use std::process::Abort;
 use std::test::Fail;
@@ -22,6 +22,26 @@ pub fn source_of(alloc: Global, bytes: Vec<u8>) -> BytesSource {
     BytesSource::new(bytes, Vec::new(alloc), usize::MAX)
 }
 
+/// The status of `run`. Nothing is known of it in a proof: what is written is looked at.
+pub fn status_of_run<'a, S: Source, K: Sink>(
+    alloc: Global,
+    words: &'a [&'a str],
+    source: &mut S,
+    sink: &mut K,
+) -> Status {
+    run(alloc, words, source, sink)
+}
+
+/// The status of `replay`, of which nothing is known either.
+fn status_of_replay<S: Source, K: Sink>(
+    alloc: Global,
+    limits: Limits,
+    source: &mut S,
+    sink: &mut K,
+) -> Status {
+    replay(alloc, limits, source, sink)
+}
+
 /// A script and what it makes the program write, by what it shows.
 pub struct Example {
     pub name: &'static str,
@@ -37,34 +57,20 @@ pub struct Example {
 }
 
 impl Example {
-    /// Replays the script within the limits, and looks at what is written and at the status.
+    /// Replays the script within the limits, with ample room to write, and looks at what is written and at the status.
     pub fn is_answered(&self, rt: &(impl Abort + AllocGlobal)) -> Result<(), Fail> {
         let limits = Limits::new(
             self.natives.min(Limits::MOST),
             self.scripts.min(Limits::MOST),
             self.bytes,
         );
-        let mut source = source_of(rt.alloc(), self.input.to_vec(rt.alloc())?);
-        replays(rt, self.name, limits, &mut source, self.output, self.status)
+        let input = self.input.to_vec(rt.alloc())?;
+        let room = self.output.len().saturating_add(4096);
+        let mut sink = BytesSink::new(rt.alloc(), room, Vec::new(rt.alloc()))?;
+        let mut source = source_of(rt.alloc(), input);
+        let status = status_of_replay(rt.alloc(), limits, &mut source, &mut sink);
+        assert_eq!(rt; sink.written(), self.output, "at {}", self.name);
+        assert_eq!(rt; status, self.status, "at {}", self.name);
+        Ok(())
     }
-}
-
-/// Replays a source within limits, with ample room to write, and looks at what is written and at the status.
-pub fn replays<S: Source>(
-    rt: &(impl Abort + AllocGlobal),
-    name: &str,
-    limits: Limits,
-    source: &mut S,
-    wanted: &[u8],
-    status: Status,
-) -> Result<(), Fail> {
-    let mut sink = BytesSink::new(
-        rt.alloc(),
-        wanted.len().saturating_add(4096),
-        Vec::new(rt.alloc()),
-    )?;
-    let ended = replay(rt.alloc(), limits, source, &mut sink);
-    assert_eq!(rt; sink.written(), wanted, "at {name}");
-    assert_eq!(rt; ended, status, "at {name}");
-    Ok(())
 }

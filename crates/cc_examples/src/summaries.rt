@@ -1,123 +1,97 @@
 //! Summaries of made scripts.
 
-use crate::script::script;
-use cc_outside::{BytesSink, CountSink, SureSource};
-use cc_replay::{Status, make, run};
-use std::process::Abort;
-use std::test::Fail;
+use crate::text::{answers, once};
+use cc_names::NoMemory;
+use cc_outside::{BytesSink, Sink};
+use cc_replay::{Status, make};
+use std::alloc::Global;
 
-/// Runs `make` with these words, and compares what is written with the summary. The source is not read.
-fn makes(
-    rt: &(impl Abort + AllocGlobal),
-    seed: &str,
-    count: &str,
-    summary: &str,
-) -> Result<(), Fail> {
-    let mut source = SureSource::new(b"census\n".to_vec(rt.alloc())?);
-    let mut sink = BytesSink::new(rt.alloc(), 300, Vec::new(rt.alloc()))?;
-    let words = ["ccreplay", "make", seed, count];
-    let status = run(rt.alloc(), words.as_slice(), &mut source, &mut sink);
-    assert_eq!(rt; status, Status::Done, "at {seed} {count}");
-    let text = script(rt.alloc(), summary)?;
-    assert_eq!(rt; sink.written(), text.as_slice(), "at {seed} {count}");
-    assert_eq!(rt; source.left().len(), 7, "at {seed} {count}");
-    Ok(())
-}
+/// Words with the seed and the count of lines, and the summary, which another program gave.
+const SUMMARIES: [(&[&str], &str); 7] = [
+    (
+        &["ccreplay", "make", "7", "0"],
+        "commands 20\nok 19\nnamed 0\nnone 0\nrefused 0\n\
+            nomem 0\nabandoned 0\nunlinked 0\nfreed 0\ncensus 0\n",
+    ),
+    (
+        &["ccreplay", "make", "7", "3"],
+        "commands 23\nok 20\nnamed 0\nnone 0\nrefused 2\n\
+            nomem 0\nabandoned 0\nunlinked 0\nfreed 0\ncensus 0\n",
+    ),
+    (
+        &["ccreplay", "make", "111", "30"],
+        "commands 50\nok 25\nnamed 4\nnone 2\nrefused 18\n\
+            nomem 0\nabandoned 0\nunlinked 0\nfreed 4\ncensus 0\n",
+    ),
+    (
+        &["ccreplay", "make", "18446744073709551615", "4"],
+        "commands 24\nok 21\nnamed 0\nnone 0\nrefused 2\n\
+            nomem 0\nabandoned 0\nunlinked 0\nfreed 0\ncensus 0\n",
+    ),
+    (
+        &["ccreplay", "make", "1", "1000"],
+        "commands 1020\nok 264\nnamed 278\nnone 93\nrefused 384\n\
+            nomem 0\nabandoned 0\nunlinked 14\nfreed 226\ncensus 0\n",
+    ),
+    (
+        &["ccreplay", "make", "2", "20000"],
+        "commands 20020\nok 5103\nnamed 5351\nnone 1902\nrefused 7663\n\
+            nomem 0\nabandoned 0\nunlinked 249\nfreed 4413\ncensus 0\n",
+    ),
+    (
+        &["ccreplay", "make", "7", "100000"],
+        "commands 100020\nok 25463\nnamed 26842\nnone 9629\nrefused 38085\n\
+            nomem 0\nabandoned 0\nunlinked 1310\nfreed 22272\ncensus 0\n",
+    ),
+];
 
-/// The seed, the count of lines, and the summary, which another program gave.
 #[test]
-fn made_scripts_are_summed_up(rt: HostRuntime) -> Result<(), Fail> {
-    let table: [(&str, &str, &str); 6] = [
-        (
-            "7",
-            "0",
-            "commands 20 / ok 19 / named 0 / none 0 / refused 0 / \
-             nomem 0 / abandoned 0 / unlinked 0 / freed 0 / census 0",
-        ),
-        (
-            "7",
-            "3",
-            "commands 23 / ok 20 / named 0 / none 0 / refused 2 / \
-             nomem 0 / abandoned 0 / unlinked 0 / freed 0 / census 0",
-        ),
-        (
-            "111",
-            "30",
-            "commands 50 / ok 25 / named 4 / none 2 / refused 18 / \
-             nomem 0 / abandoned 0 / unlinked 0 / freed 4 / census 0",
-        ),
-        (
-            "18446744073709551615",
-            "4",
-            "commands 24 / ok 21 / named 0 / none 0 / refused 2 / \
-             nomem 0 / abandoned 0 / unlinked 0 / freed 0 / census 0",
-        ),
-        (
-            "1",
-            "1000",
-            "commands 1020 / ok 264 / named 278 / none 93 / refused 384 / \
-             nomem 0 / abandoned 0 / unlinked 14 / freed 226 / census 0",
-        ),
-        (
-            "2",
-            "20000",
-            "commands 20020 / ok 5103 / named 5351 / none 1902 / refused 7663 / \
-             nomem 0 / abandoned 0 / unlinked 249 / freed 4413 / census 0",
-        ),
-    ];
-    for (seed, count, summary) in table.iter() {
-        makes(&rt, *seed, *count, *summary)?;
+fn made_scripts_are_summed_up(rt: HostRuntime) {
+    for (words, summary) in SUMMARIES.iter() {
+        let wanted = [once(*summary)];
+        let reads = answers(&rt, *words, &[once("census\n")], &wanted, Status::Done);
+        assert_eq!(rt; reads, 0, "at {words:?}");
     }
-    Ok(())
+}
+
+/// Words of `make` that are not taken.
+const FAULTY: [&[&str]; 5] = [
+    &["ccreplay", "make", "7", "1000001"],
+    &["ccreplay", "make", "18446744073709551616", "1"],
+    &["ccreplay", "make", "7"],
+    &["ccreplay", "make", "7", "0", "0"],
+    &["ccreplay", "make", "--natives", "1", "7", "0"],
+];
+
+#[test]
+fn words_of_make_are_taken_or_nothing_is_written(rt: HostRuntime) {
+    for words in FAULTY.iter() {
+        let reads = answers(&rt, *words, &[once("census\n")], &[], Status::Usage);
+        assert_eq!(rt; reads, 0, "at {words:?}");
+    }
+}
+
+/// The status of `make`. Nothing is known of it in a proof: what is written is looked at.
+fn status_of_make<K: Sink>(alloc: Global, sink: &mut K) -> Status {
+    make(alloc, 7, 0, sink)
+}
+
+/// A sink of which one write fails.
+fn failing(alloc: Global, write: u64) -> Result<BytesSink, NoMemory> {
+    BytesSink::new(alloc, 300, [write].to_vec(alloc)?)
 }
 
 #[test]
-fn the_same_seed_and_count_give_the_same_summary(rt: HostRuntime) -> Result<(), Fail> {
-    let summary = "commands 100020 / ok 25463 / named 26842 / none 9629 / refused 38085 / \
-        nomem 0 / abandoned 0 / unlinked 1310 / freed 22272 / census 0";
-    makes(&rt, "7", "100000", summary)?;
-    makes(&rt, "7", "100000", summary)
-}
-
-#[test]
-fn a_summary_stops_where_a_write_fails(rt: HostRuntime) -> Result<(), Fail> {
+fn a_summary_stops_where_a_write_fails(rt: HostRuntime) {
     let fronts: [&[u8]; 3] = [b"", b"commands 20\n", b"commands 20\nok 19\n"];
     for (place, written) in fronts.iter().enumerate() {
-        let k = place as u64 + 1;
-        let mut sink = BytesSink::new(rt.alloc(), 300, [k].to_vec(rt.alloc())?)?;
-        let status = make(rt.alloc(), 7, 0, &mut sink);
-        assert_eq!(rt; status, Status::WriteFault, "at {k}");
-        assert_eq!(rt; sink.written(), *written, "at {k}");
-        assert_eq!(rt; sink.faults(), 1, "at {k}");
+        let sink = failing(rt.alloc(), place as u64 + 1);
+        assert!(rt; sink.is_ok());
+        if let Ok(mut sink) = sink {
+            let status = status_of_make(rt.alloc(), &mut sink);
+            assert_eq!(rt; status, Status::WriteFault, "at {place}");
+            assert_eq!(rt; sink.written(), *written, "at {place}");
+            assert_eq!(rt; sink.faults(), 1, "at {place}");
+        }
     }
-    Ok(())
-}
-
-#[test]
-fn a_summary_goes_to_any_sink(rt: HostRuntime) -> Result<(), Fail> {
-    let mut sink = CountSink::new();
-    let status = make(rt.alloc(), 7, 3, &mut sink);
-    assert_eq!(rt; status, Status::Done);
-    assert_eq!(rt; sink.bytes(), 91);
-    Ok(())
-}
-
-#[test]
-fn words_of_make_are_taken_or_nothing_is_written(rt: HostRuntime) -> Result<(), Fail> {
-    let table: [&[&str]; 5] = [
-        &["ccreplay", "make", "7", "1000001"],
-        &["ccreplay", "make", "18446744073709551616", "1"],
-        &["ccreplay", "make", "7"],
-        &["ccreplay", "make", "7", "0", "0"],
-        &["ccreplay", "make", "--natives", "1", "7", "0"],
-    ];
-    for words in table.iter() {
-        let mut source = SureSource::new(b"census\n".to_vec(rt.alloc())?);
-        let mut sink = BytesSink::new(rt.alloc(), 300, Vec::new(rt.alloc()))?;
-        let status = run(rt.alloc(), *words, &mut source, &mut sink);
-        assert_eq!(rt; status, Status::Usage, "at {words:?}");
-        assert!(rt; sink.written().is_empty(), "at {words:?}");
-        assert_eq!(rt; source.left().len(), 7, "at {words:?}");
-    }
-    Ok(())
 }
