@@ -6,11 +6,17 @@
 #![tactic(auto)]
 
 #[cfg(test)]
+mod command_lines;
+#[cfg(test)]
 mod faults;
 #[cfg(test)]
 mod library;
 #[cfg(test)]
 mod pieces;
+#[cfg(test)]
+mod reading;
+#[cfg(test)]
+mod receivers;
 #[cfg(test)]
 mod rounds;
 #[cfg(test)]
@@ -19,6 +25,8 @@ mod script;
 mod shapes;
 #[cfg(test)]
 mod summaries;
+#[cfg(test)]
+mod turns;
 #[cfg(test)]
 mod words;
 #[cfg(test)]
