@@ -8,8 +8,6 @@
 #[cfg(test)]
 mod faults;
 #[cfg(test)]
-mod library;
-#[cfg(test)]
 mod pieces;
 #[cfg(test)]
 mod script;

@@ -1,0 +1,114 @@
+//! Command lines that are taken, that are not, and what their options change.
+
+use cc_outside::{BytesSink, SureSource};
+use cc_replay::{Status, run};
+use std::process::Abort;
+use std::test::Fail;
+
+/// Lines whose words, parted by one blank each, are taken.
+const TAKEN: [&str; 10] = [
+    "ccreplay replay",
+    " replay",
+    "ccreplay replay --",
+    "ccreplay replay --natives=1000000 --bytes=4294967295",
+    "ccreplay make 7 0",
+    " make 7 0",
+    "ccreplay make 18446744073709551615 0",
+    "ccreplay make 4294967303 0",
+    "ccreplay make +7 00",
+    "ccreplay make -- 7 -0",
+];
+
+/// Lines whose words are not.
+const NOT_TAKEN: [&str; 33] = [
+    "ccreplay",
+    "replay",
+    "ccreplay play",
+    "ccreplay replay more",
+    "ccreplay replay replay",
+    "ccreplay --natives 1 replay",
+    "ccreplay --help",
+    "ccreplay help",
+    "ccreplay --version",
+    "ccreplay replay -h",
+    "ccreplay replay --natives",
+    "ccreplay replay --natives x",
+    "ccreplay replay --natives -1",
+    "ccreplay replay --natives 1000001",
+    "ccreplay replay --scripts 1000001",
+    "ccreplay replay --bytes=4294967296",
+    "ccreplay replay --natives 1 --natives 2",
+    "ccreplay replay 7 0",
+    "ccreplay make 7 1000001",
+    "ccreplay make 7",
+    "ccreplay make",
+    "make 7 0",
+    "ccreplay make 7 0 0",
+    "ccreplay make -1 0",
+    "ccreplay make -- -1 0",
+    "ccreplay make 7 -1",
+    "ccreplay make 7 -0",
+    "ccreplay make x 0",
+    "ccreplay make 7 x",
+    "ccreplay make  0",
+    "ccreplay make 18446744073709551616 0",
+    "ccreplay make --seed 7 --count 0",
+    "ccreplay make 7 0 --natives 1",
+];
+
+/// Lines that leave room for one native, for no plain object, and for 36 bytes.
+const NARROW: [&str; 4] = [
+    "ccreplay replay --natives 1 --scripts 0 --bytes 36",
+    "ccreplay replay --bytes=36 --scripts=0 --natives=1",
+    "ccreplay replay --bytes=36 --scripts=+0 --natives=001",
+    "ccreplay replay --natives=1 --scripts=-0 --bytes=36",
+];
+
+/// Two natives, an object, and one byte more than the 36 before it.
+const INPUT: &[u8] = b"native n0 0\nnative n1 0\nscript s0 0\n\n";
+
+/// Runs the words of a line on the input, and looks at the status and at what is written.
+fn answers(
+    rt: &(impl Abort + AllocGlobal),
+    line: &str,
+    status: Status,
+    written: &[u8],
+) -> Result<(), Fail> {
+    let mut words = Vec::new(rt.alloc());
+    for word in line.split(' ') {
+        words.push(word)?;
+    }
+    let mut source = SureSource::new(INPUT.to_vec(rt.alloc())?);
+    let mut sink = BytesSink::new(rt.alloc(), 300, Vec::new(rt.alloc()))?;
+    assert_eq!(rt;
+        run(rt.alloc(), words.as_slice(), &mut source, &mut sink),
+        status,
+        "at {line}"
+    );
+    assert!(rt; sink.written().starts_with(written), "at {line}");
+    Ok(())
+}
+
+#[test]
+fn words_are_taken(rt: HostRuntime) -> Result<(), Fail> {
+    for line in TAKEN.iter() {
+        answers(&rt, line, Status::Done, b"")?;
+    }
+    Ok(())
+}
+
+#[test]
+fn words_are_not_taken(rt: HostRuntime) -> Result<(), Fail> {
+    for line in NOT_TAKEN.iter() {
+        answers(&rt, line, Status::Usage, b"")?;
+    }
+    Ok(())
+}
+
+#[test]
+fn options_narrow_a_run(rt: HostRuntime) -> Result<(), Fail> {
+    for line in NARROW.iter() {
+        answers(&rt, line, Status::Limit, b"= #1\n! full\n! full\n")?;
+    }
+    Ok(())
+}

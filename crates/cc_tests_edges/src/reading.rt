@@ -1,0 +1,28 @@
+//! Lines of a source that gives a few bytes at a time, and the command of one of them.
+
+use cc_model::Command;
+use cc_names::Reg;
+use cc_outside::BytesSource;
+use cc_reader::{Line, Lines, ReadStop, parse};
+use std::test::Fail;
+
+#[test]
+fn a_line_in_small_pieces_is_a_command(rt: HostRuntime) -> Result<(), Fail> {
+    let bytes = b"drop n7\r\ngc".to_vec(rt.alloc())?;
+    let mut source = BytesSource::new(bytes, Vec::new(rt.alloc()), 3);
+    let mut lines = Lines::new(&mut source, 200);
+    assert_eq!(rt; lines.next(), Ok(Line::Text));
+    assert_eq!(rt; lines.taken(), 9);
+    assert_eq!(rt; parse(lines.text()), Some(Command::Drop(Reg::N(7))));
+    Ok(())
+}
+
+#[test]
+fn a_byte_above_the_limit_is_told(rt: HostRuntime) -> Result<(), Fail> {
+    let bytes = b"drop n7\n".to_vec(rt.alloc())?;
+    let mut source = BytesSource::new(bytes, Vec::new(rt.alloc()), 3);
+    let mut lines = Lines::new(&mut source, 7);
+    assert_eq!(rt; lines.next(), Err(ReadStop::Limit));
+    assert_eq!(rt; lines.taken(), 8);
+    Ok(())
+}
