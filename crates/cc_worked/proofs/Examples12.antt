@@ -151,22 +151,22 @@ pub spaces_part_tokens-audited : passes_audit default_limits ample input.spaces_
 unfolding all_of_a_run
 spaces_part_tokens-audited = refl
 
--- Each register that must hold an object is refused where it is empty, and those that may be empty are not.
-pub empty_registers_are_refused : plain_text version_one_forms default_limits ample input.empty_registers_are_refused
-    ≡ codes "= #1\n= @1\n= @2\n! empty\n! empty\n! empty\n! empty\n! empty\n! empty\n! empty\n! empty\n! empty\n! empty\n! empty\n! empty\n! empty\n! empty\n! empty\n! empty\n! empty\n! empty\n! empty\n! empty\n= ok\n= none\n= none\n= none\n= none\n= none\n! kind\n= ~1\n"
+-- What is near to a form with native registers and in none is refused.
+pub forms_of_natives_are_few : plain_text version_one_forms default_limits ample input.forms_of_natives_are_few
+    ≡ codes "! line\n! line\n! line\n! line\n! line\n! line\n! line\n! line\n! line\n! line\n! line\n! line\n! line\n! line\n! line\n! line\n! line\n! line\n! line\n! line\n"
 unfolding all_of_a_run
-empty_registers_are_refused = refl
+forms_of_natives_are_few = refl
 
-empty_registers_are_refused-passes : passes_verdict default_limits ample input.empty_registers_are_refused ≡ true
+forms_of_natives_are_few-passes : passes_verdict default_limits ample input.forms_of_natives_are_few ≡ true
 unfolding all_of_a_run
-empty_registers_are_refused-passes = refl
+forms_of_natives_are_few-passes = refl
 
-pub empty_registers_are_refused-lawful : IsLawfulRun default_limits ample input.empty_registers_are_refused
-empty_registers_are_refused-lawful = run-lawful default_limits ample input.empty_registers_are_refused empty_registers_are_refused-passes
+pub forms_of_natives_are_few-lawful : IsLawfulRun default_limits ample input.forms_of_natives_are_few
+forms_of_natives_are_few-lawful = run-lawful default_limits ample input.forms_of_natives_are_few forms_of_natives_are_few-passes
 
-pub empty_registers_are_refused-quiet : IsQuietRun default_limits ample input.empty_registers_are_refused
-empty_registers_are_refused-quiet = run-quiet default_limits ample input.empty_registers_are_refused empty_registers_are_refused-passes
+pub forms_of_natives_are_few-quiet : IsQuietRun default_limits ample input.forms_of_natives_are_few
+forms_of_natives_are_few-quiet = run-quiet default_limits ample input.forms_of_natives_are_few forms_of_natives_are_few-passes
 
-pub empty_registers_are_refused-audited : passes_audit default_limits ample input.empty_registers_are_refused ≡ true
+pub forms_of_natives_are_few-audited : passes_audit default_limits ample input.forms_of_natives_are_few ≡ true
 unfolding all_of_a_run
-empty_registers_are_refused-audited = refl
+forms_of_natives_are_few-audited = refl

@@ -3,13 +3,73 @@
 use Rattle.std.specs.Prelude.{◌≡◌, true, codes, refl}
 use Rattle.cc_model.specs.Forms.{version_one_forms}
 use Rattle.cc_model.specs.Run.{plain_text}
-use Rattle.cc_worked.specs.Examples.{limits, default_limits, ample, IsLawfulRun, IsQuietRun}
+use Rattle.cc_worked.specs.Examples.{default_limits, ample, IsLawfulRun, IsQuietRun}
 use Rattle.cc_worked.specs.Inputs as input
 use Rattle.cc_worked.specs.Verdict.{passes_verdict}
 use Rattle.cc_worked.specs.Audit.{passes_audit}
 use Rattle.cc_worked.proofs.Opened.{all_of_a_run}
 use Rattle.cc_worked.proofs.LawfulTest.{run-lawful}
 use Rattle.cc_worked.proofs.QuietTest.{run-quiet}
+
+-- What is near to a form with script registers and in none is refused.
+pub forms_of_script_objects_are_few : plain_text version_one_forms default_limits ample input.forms_of_script_objects_are_few
+    ≡ codes "! line\n! line\n! line\n! line\n! line\n! line\n! line\n! line\n! line\n! line\n! line\n! line\n! line\n! line\n! line\n! line\n! line\n! line\n! line\n! line\n! line\n! line\n! line\n! line\n! line\n! line\n"
+unfolding all_of_a_run
+forms_of_script_objects_are_few = refl
+
+forms_of_script_objects_are_few-passes : passes_verdict default_limits ample input.forms_of_script_objects_are_few ≡ true
+unfolding all_of_a_run
+forms_of_script_objects_are_few-passes = refl
+
+pub forms_of_script_objects_are_few-lawful : IsLawfulRun default_limits ample input.forms_of_script_objects_are_few
+forms_of_script_objects_are_few-lawful = run-lawful default_limits ample input.forms_of_script_objects_are_few forms_of_script_objects_are_few-passes
+
+pub forms_of_script_objects_are_few-quiet : IsQuietRun default_limits ample input.forms_of_script_objects_are_few
+forms_of_script_objects_are_few-quiet = run-quiet default_limits ample input.forms_of_script_objects_are_few forms_of_script_objects_are_few-passes
+
+pub forms_of_script_objects_are_few-audited : passes_audit default_limits ample input.forms_of_script_objects_are_few ≡ true
+unfolding all_of_a_run
+forms_of_script_objects_are_few-audited = refl
+
+-- What is near to a form for reflectors or weak maps and in none is refused.
+pub forms_of_reflectors_and_maps_are_few : plain_text version_one_forms default_limits ample input.forms_of_reflectors_and_maps_are_few
+    ≡ codes "! line\n! line\n! line\n! line\n! line\n! line\n! line\n! line\n! line\n! line\n! line\n! line\n! line\n! line\n! line\n! line\n! line\n! line\n! line\n! line\n! line\n! line\n! line\n! line\n"
+unfolding all_of_a_run
+forms_of_reflectors_and_maps_are_few = refl
+
+forms_of_reflectors_and_maps_are_few-passes : passes_verdict default_limits ample input.forms_of_reflectors_and_maps_are_few ≡ true
+unfolding all_of_a_run
+forms_of_reflectors_and_maps_are_few-passes = refl
+
+pub forms_of_reflectors_and_maps_are_few-lawful : IsLawfulRun default_limits ample input.forms_of_reflectors_and_maps_are_few
+forms_of_reflectors_and_maps_are_few-lawful = run-lawful default_limits ample input.forms_of_reflectors_and_maps_are_few forms_of_reflectors_and_maps_are_few-passes
+
+pub forms_of_reflectors_and_maps_are_few-quiet : IsQuietRun default_limits ample input.forms_of_reflectors_and_maps_are_few
+forms_of_reflectors_and_maps_are_few-quiet = run-quiet default_limits ample input.forms_of_reflectors_and_maps_are_few forms_of_reflectors_and_maps_are_few-passes
+
+pub forms_of_reflectors_and_maps_are_few-audited : passes_audit default_limits ample input.forms_of_reflectors_and_maps_are_few ≡ true
+unfolding all_of_a_run
+forms_of_reflectors_and_maps_are_few-audited = refl
+
+-- Each register that must hold an object is refused where it is empty, and those that may be empty are not.
+pub empty_registers_are_refused : plain_text version_one_forms default_limits ample input.empty_registers_are_refused
+    ≡ codes "= #1\n= @1\n= @2\n! empty\n! empty\n! empty\n! empty\n! empty\n! empty\n! empty\n! empty\n! empty\n! empty\n! empty\n! empty\n! empty\n! empty\n! empty\n! empty\n! empty\n! empty\n! empty\n! empty\n= ok\n= none\n= none\n= none\n= none\n= none\n! kind\n= ~1\n"
+unfolding all_of_a_run
+empty_registers_are_refused = refl
+
+empty_registers_are_refused-passes : passes_verdict default_limits ample input.empty_registers_are_refused ≡ true
+unfolding all_of_a_run
+empty_registers_are_refused-passes = refl
+
+pub empty_registers_are_refused-lawful : IsLawfulRun default_limits ample input.empty_registers_are_refused
+empty_registers_are_refused-lawful = run-lawful default_limits ample input.empty_registers_are_refused empty_registers_are_refused-passes
+
+pub empty_registers_are_refused-quiet : IsQuietRun default_limits ample input.empty_registers_are_refused
+empty_registers_are_refused-quiet = run-quiet default_limits ample input.empty_registers_are_refused empty_registers_are_refused-passes
+
+pub empty_registers_are_refused-audited : passes_audit default_limits ample input.empty_registers_are_refused ≡ true
+unfolding all_of_a_run
+empty_registers_are_refused-audited = refl
 
 -- Each object of the wrong kind is refused.
 pub wrong_kinds_are_refused : plain_text version_one_forms default_limits ample input.wrong_kinds_are_refused
@@ -110,63 +170,3 @@ units_at_their_bounds-quiet = run-quiet default_limits ample input.units_at_thei
 pub units_at_their_bounds-audited : passes_audit default_limits ample input.units_at_their_bounds ≡ true
 unfolding all_of_a_run
 units_at_their_bounds-audited = refl
-
--- A line of 120 bytes is read and one of 121 is not, a comment and a carriage return counted.
-pub line_of_120_bytes_is_taken : plain_text version_one_forms default_limits ample input.line_of_120_bytes_is_taken
-    ≡ codes "= #1\n! long\n! long\n! line\n! long\n+ #1\n= census 1\n"
-unfolding all_of_a_run
-line_of_120_bytes_is_taken = refl
-
-line_of_120_bytes_is_taken-passes : passes_verdict default_limits ample input.line_of_120_bytes_is_taken ≡ true
-unfolding all_of_a_run
-line_of_120_bytes_is_taken-passes = refl
-
-pub line_of_120_bytes_is_taken-lawful : IsLawfulRun default_limits ample input.line_of_120_bytes_is_taken
-line_of_120_bytes_is_taken-lawful = run-lawful default_limits ample input.line_of_120_bytes_is_taken line_of_120_bytes_is_taken-passes
-
-pub line_of_120_bytes_is_taken-quiet : IsQuietRun default_limits ample input.line_of_120_bytes_is_taken
-line_of_120_bytes_is_taken-quiet = run-quiet default_limits ample input.line_of_120_bytes_is_taken line_of_120_bytes_is_taken-passes
-
-pub line_of_120_bytes_is_taken-audited : passes_audit default_limits ample input.line_of_120_bytes_is_taken ≡ true
-unfolding all_of_a_run
-line_of_120_bytes_is_taken-audited = refl
-
--- A last line that no line feed ends is answered, its carriage return dropped.
-pub last_line_needs_no_line_feed : plain_text version_one_forms default_limits ample input.last_line_needs_no_line_feed
-    ≡ codes "= #1\n+ #1\n= census 1\n"
-unfolding all_of_a_run
-last_line_needs_no_line_feed = refl
-
-last_line_needs_no_line_feed-passes : passes_verdict default_limits ample input.last_line_needs_no_line_feed ≡ true
-unfolding all_of_a_run
-last_line_needs_no_line_feed-passes = refl
-
-pub last_line_needs_no_line_feed-lawful : IsLawfulRun default_limits ample input.last_line_needs_no_line_feed
-last_line_needs_no_line_feed-lawful = run-lawful default_limits ample input.last_line_needs_no_line_feed last_line_needs_no_line_feed-passes
-
-pub last_line_needs_no_line_feed-quiet : IsQuietRun default_limits ample input.last_line_needs_no_line_feed
-last_line_needs_no_line_feed-quiet = run-quiet default_limits ample input.last_line_needs_no_line_feed last_line_needs_no_line_feed-passes
-
-pub last_line_needs_no_line_feed-audited : passes_audit default_limits ample input.last_line_needs_no_line_feed ≡ true
-unfolding all_of_a_run
-last_line_needs_no_line_feed-audited = refl
-
--- The limit of natives counts those that were freed.
-pub limit_counts_freed_natives : plain_text version_one_forms (limits 1 1000000 4294967295) ample input.limit_counts_freed_natives
-    ≡ codes "= #1\n- free #1\n= ok\n! full\n"
-unfolding all_of_a_run
-limit_counts_freed_natives = refl
-
-limit_counts_freed_natives-passes : passes_verdict (limits 1 1000000 4294967295) ample input.limit_counts_freed_natives ≡ true
-unfolding all_of_a_run
-limit_counts_freed_natives-passes = refl
-
-pub limit_counts_freed_natives-lawful : IsLawfulRun (limits 1 1000000 4294967295) ample input.limit_counts_freed_natives
-limit_counts_freed_natives-lawful = run-lawful (limits 1 1000000 4294967295) ample input.limit_counts_freed_natives limit_counts_freed_natives-passes
-
-pub limit_counts_freed_natives-quiet : IsQuietRun (limits 1 1000000 4294967295) ample input.limit_counts_freed_natives
-limit_counts_freed_natives-quiet = run-quiet (limits 1 1000000 4294967295) ample input.limit_counts_freed_natives limit_counts_freed_natives-passes
-
-pub limit_counts_freed_natives-audited : passes_audit (limits 1 1000000 4294967295) ample input.limit_counts_freed_natives ≡ true
-unfolding all_of_a_run
-limit_counts_freed_natives-audited = refl

@@ -1,15 +1,75 @@
 -- WORKED EXAMPLES, part 14: what each writes, and that its run is lawful, quiet and passes the audit.
 -- Made by tools/worked_examples.py from examples/worked.txt.
-use Rattle.std.specs.Prelude.{◌≡◌, true, [], codes, refl}
+use Rattle.std.specs.Prelude.{◌≡◌, true, codes, refl}
 use Rattle.cc_model.specs.Forms.{version_one_forms}
 use Rattle.cc_model.specs.Run.{plain_text}
-use Rattle.cc_worked.specs.Examples.{limits, ample, refused_at, text_within, IsLawfulRun, IsQuietRun}
+use Rattle.cc_worked.specs.Examples.{limits, default_limits, ample, refused_at, text_within, IsLawfulRun, IsQuietRun}
 use Rattle.cc_worked.specs.Inputs as input
 use Rattle.cc_worked.specs.Verdict.{passes_verdict}
 use Rattle.cc_worked.specs.Audit.{passes_audit}
 use Rattle.cc_worked.proofs.Opened.{all_of_a_run}
 use Rattle.cc_worked.proofs.LawfulTest.{run-lawful}
 use Rattle.cc_worked.proofs.QuietTest.{run-quiet}
+
+-- A line of 120 bytes is read and one of 121 is not, a comment and a carriage return counted.
+pub line_of_120_bytes_is_taken : plain_text version_one_forms default_limits ample input.line_of_120_bytes_is_taken
+    ≡ codes "= #1\n! long\n! long\n! line\n! long\n+ #1\n= census 1\n"
+unfolding all_of_a_run
+line_of_120_bytes_is_taken = refl
+
+line_of_120_bytes_is_taken-passes : passes_verdict default_limits ample input.line_of_120_bytes_is_taken ≡ true
+unfolding all_of_a_run
+line_of_120_bytes_is_taken-passes = refl
+
+pub line_of_120_bytes_is_taken-lawful : IsLawfulRun default_limits ample input.line_of_120_bytes_is_taken
+line_of_120_bytes_is_taken-lawful = run-lawful default_limits ample input.line_of_120_bytes_is_taken line_of_120_bytes_is_taken-passes
+
+pub line_of_120_bytes_is_taken-quiet : IsQuietRun default_limits ample input.line_of_120_bytes_is_taken
+line_of_120_bytes_is_taken-quiet = run-quiet default_limits ample input.line_of_120_bytes_is_taken line_of_120_bytes_is_taken-passes
+
+pub line_of_120_bytes_is_taken-audited : passes_audit default_limits ample input.line_of_120_bytes_is_taken ≡ true
+unfolding all_of_a_run
+line_of_120_bytes_is_taken-audited = refl
+
+-- A last line that no line feed ends is answered, its carriage return dropped.
+pub last_line_needs_no_line_feed : plain_text version_one_forms default_limits ample input.last_line_needs_no_line_feed
+    ≡ codes "= #1\n+ #1\n= census 1\n"
+unfolding all_of_a_run
+last_line_needs_no_line_feed = refl
+
+last_line_needs_no_line_feed-passes : passes_verdict default_limits ample input.last_line_needs_no_line_feed ≡ true
+unfolding all_of_a_run
+last_line_needs_no_line_feed-passes = refl
+
+pub last_line_needs_no_line_feed-lawful : IsLawfulRun default_limits ample input.last_line_needs_no_line_feed
+last_line_needs_no_line_feed-lawful = run-lawful default_limits ample input.last_line_needs_no_line_feed last_line_needs_no_line_feed-passes
+
+pub last_line_needs_no_line_feed-quiet : IsQuietRun default_limits ample input.last_line_needs_no_line_feed
+last_line_needs_no_line_feed-quiet = run-quiet default_limits ample input.last_line_needs_no_line_feed last_line_needs_no_line_feed-passes
+
+pub last_line_needs_no_line_feed-audited : passes_audit default_limits ample input.last_line_needs_no_line_feed ≡ true
+unfolding all_of_a_run
+last_line_needs_no_line_feed-audited = refl
+
+-- The limit of natives counts those that were freed.
+pub limit_counts_freed_natives : plain_text version_one_forms (limits 1 1000000 4294967295) ample input.limit_counts_freed_natives
+    ≡ codes "= #1\n- free #1\n= ok\n! full\n"
+unfolding all_of_a_run
+limit_counts_freed_natives = refl
+
+limit_counts_freed_natives-passes : passes_verdict (limits 1 1000000 4294967295) ample input.limit_counts_freed_natives ≡ true
+unfolding all_of_a_run
+limit_counts_freed_natives-passes = refl
+
+pub limit_counts_freed_natives-lawful : IsLawfulRun (limits 1 1000000 4294967295) ample input.limit_counts_freed_natives
+limit_counts_freed_natives-lawful = run-lawful (limits 1 1000000 4294967295) ample input.limit_counts_freed_natives limit_counts_freed_natives-passes
+
+pub limit_counts_freed_natives-quiet : IsQuietRun (limits 1 1000000 4294967295) ample input.limit_counts_freed_natives
+limit_counts_freed_natives-quiet = run-quiet (limits 1 1000000 4294967295) ample input.limit_counts_freed_natives limit_counts_freed_natives-passes
+
+pub limit_counts_freed_natives-audited : passes_audit (limits 1 1000000 4294967295) ample input.limit_counts_freed_natives ≡ true
+unfolding all_of_a_run
+limit_counts_freed_natives-audited = refl
 
 -- The limit of script objects counts those that were freed.
 pub limit_counts_freed_script_objects : plain_text version_one_forms (limits 1000000 1 4294967295) ample input.limit_counts_freed_script_objects
@@ -96,35 +156,3 @@ pub input_of_one_byte_more : text_within version_one_forms (limits 1000000 10000
     ≡ codes "= #1\n"
 unfolding all_of_a_run
 input_of_one_byte_more = refl
-
--- With no byte allowed one byte ends the run with nothing written.
-pub input_where_no_byte_is_allowed : text_within version_one_forms (limits 1000000 1000000 0) ample input.input_where_no_byte_is_allowed
-    ≡ []
-unfolding all_of_a_run
-input_where_no_byte_is_allowed = refl
-
--- Where the line feed of the only line is one byte more than may be read, nothing is answered.
-pub input_of_one_byte_less : text_within version_one_forms (limits 1000000 1000000 11) ample input.input_of_one_byte_less
-    ≡ []
-unfolding all_of_a_run
-input_of_one_byte_less = refl
-
--- An empty input is read whole where no byte is allowed.
-pub empty_input_where_no_byte_is_allowed : plain_text version_one_forms (limits 1000000 1000000 0) ample input.empty_input_where_no_byte_is_allowed
-    ≡ []
-unfolding all_of_a_run
-empty_input_where_no_byte_is_allowed = refl
-
-empty_input_where_no_byte_is_allowed-passes : passes_verdict (limits 1000000 1000000 0) ample input.empty_input_where_no_byte_is_allowed ≡ true
-unfolding all_of_a_run
-empty_input_where_no_byte_is_allowed-passes = refl
-
-pub empty_input_where_no_byte_is_allowed-lawful : IsLawfulRun (limits 1000000 1000000 0) ample input.empty_input_where_no_byte_is_allowed
-empty_input_where_no_byte_is_allowed-lawful = run-lawful (limits 1000000 1000000 0) ample input.empty_input_where_no_byte_is_allowed empty_input_where_no_byte_is_allowed-passes
-
-pub empty_input_where_no_byte_is_allowed-quiet : IsQuietRun (limits 1000000 1000000 0) ample input.empty_input_where_no_byte_is_allowed
-empty_input_where_no_byte_is_allowed-quiet = run-quiet (limits 1000000 1000000 0) ample input.empty_input_where_no_byte_is_allowed empty_input_where_no_byte_is_allowed-passes
-
-pub empty_input_where_no_byte_is_allowed-audited : passes_audit (limits 1000000 1000000 0) ample input.empty_input_where_no_byte_is_allowed ≡ true
-unfolding all_of_a_run
-empty_input_where_no_byte_is_allowed-audited = refl

@@ -20,4 +20,5 @@ pub mod Examples11
 pub mod Examples12
 pub mod Examples13
 pub mod Examples14
+pub mod Examples15
 pub mod Examples

@@ -382,6 +382,18 @@ wrong_number_of_tokens = codes "collect now\nscript s0\nnative n0 0\n"
 abbrev pub spaces_part_tokens : List ℕ
 spaces_part_tokens = codes "  native   n0  1  \n\n  \n  % note\nnative" ++ replicate 1 9 ++ codes "n1 0\ncensus" ++ replicate 1 9 ++ codes "\nCensus\ndrop n00\ndrop n-1\nset n0 +0 n0\nset n0 0 nones\ncopy n1 s1\nset  n0 0  none\ncensus\n"
 
+-- What is near to a form with native registers and in none is refused.
+abbrev pub forms_of_natives_are_few : List ℕ
+forms_of_natives_are_few = codes "native n0 65\nnative n0 01\nnative n256 0\nnative n00 0\nnative n 0\nnative N0 0\nnative n0\nnative n0 0 0\nnative n0 +1\nNative n0 0\ncopy n3 s4\nset n0 4294967296 n0\nset n0 0 None\nget n1 none 3\ncensus n0\ncollect now\nnative" ++ replicate 1 9 ++ codes "n0 0\n" ++ replicate 1 9 ++ codes "census\ncensus" ++ replicate 1 13 ++ replicate 1 13 ++ codes "\ncensus %\n"
+
+-- What is near to a form with script registers and in none is refused.
+abbrev pub forms_of_script_objects_are_few : List ℕ
+forms_of_script_objects_are_few = codes "script s0 65\nscript s256 0\nscript s0 01\nscript n0 1\nscript s0\ncopy s0 n0\ncopy n1 s0\ndrop s09\ndrop none\ndrop s1 s2\nset s0 0 n0\nset s0 0 none\nget s0 s1 0\nget n0 s1 0\nput s0 4294967296 none\nput s1 2 n3\nput n0 0 s1\nput s0 0\ntake s0 n1 0\ntake n0 s1 0\ntake s0 s1 none\nexpose s0 0\nexpose n0\ngc now\nGC\nslice 0\n"
+
+-- What is near to a form for reflectors or weak maps and in none is refused.
+abbrev pub forms_of_reflectors_and_maps_are_few : List ℕ
+forms_of_reflectors_and_maps_are_few = codes "wrap n1 s2\nwrap s1 s2\nwrap s1\nwrap s1 none\nunwrap s1 n2\nunwrap n1 n2\nunwrap n1 s2 0\npreserve n7\npreserve none\npreserve\nweakmap s256\nweakmap n0\nweakmap s0 1\nweakmap\nwset s1 s2 None\nwset s1 none s3\nwset n1 s2 s3\nwset s1 n2 s3\nwset s1 s2 n3\nwset s1 s2\nwget n1 s2 s3\nwget s1 n2 s3\nwget s1 s2 none\nwget s1 s2 s3 s4\n"
+
 -- Each register that must hold an object is refused where it is empty, and those that may be empty are not.
 abbrev pub empty_registers_are_refused : List ℕ
 empty_registers_are_refused = codes "native n0 1\nweakmap s0\nscript s1 1\nset n9 0 n0\nset n9 0 none\nset n0 0 n9\nset n0 0 s9\nget n1 n9 0\nexpose n9 0\nput s9 0 s1\nput s9 0 none\nput s1 0 s9\ntake s2 s9 0\nwrap s2 n9\nunwrap n1 s9\npreserve s9\nwset s9 s1 s1\nwset s0 s9 s1\nwset s0 s1 s9\nwset s9 s1 none\nwset s0 s9 none\nwget s2 s9 s1\nwget s2 s0 s9\ndrop n9\ncopy n9 n8\ncopy s9 s8\nget n9 n0 0\ntake s9 s1 0\nwget s9 s0 s1\nunwrap n9 s1\nwrap s9 n0\n"

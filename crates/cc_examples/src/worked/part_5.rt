@@ -6,7 +6,7 @@ use crate::script::Example;
 use cc_replay::Status;
 use std::test::Fail;
 
-const EXAMPLES: [Example; 18] = [
+const EXAMPLES: [Example; 20] = [
     // A line with a token too many or too few is not in the grammar, and the next one is answered.
     Example {
         name: "wrong_number_of_tokens",
@@ -25,6 +25,36 @@ const EXAMPLES: [Example; 18] = [
         bytes: 4294967295,
         input: b"  native   n0  1  \n\n  \n  % note\nnative\tn1 0\ncensus\t\nCensus\ndrop n00\ndrop n-1\nset n0 +0 n0\nset n0 0 nones\ncopy n1 s1\nset  n0 0  none\ncensus\n",
         output: b"= #1\n! line\n! line\n! line\n! line\n! line\n! line\n! line\n! line\n= ok\n+ #1\n= census 1\n",
+        status: Status::Done,
+    },
+    // What is near to a form with native registers and in none is refused.
+    Example {
+        name: "forms_of_natives_are_few",
+        natives: 1000000,
+        scripts: 1000000,
+        bytes: 4294967295,
+        input: b"native n0 65\nnative n0 01\nnative n256 0\nnative n00 0\nnative n 0\nnative N0 0\nnative n0\nnative n0 0 0\nnative n0 +1\nNative n0 0\ncopy n3 s4\nset n0 4294967296 n0\nset n0 0 None\nget n1 none 3\ncensus n0\ncollect now\nnative\tn0 0\n\tcensus\ncensus\r\r\ncensus %\n",
+        output: b"! line\n! line\n! line\n! line\n! line\n! line\n! line\n! line\n! line\n! line\n! line\n! line\n! line\n! line\n! line\n! line\n! line\n! line\n! line\n! line\n",
+        status: Status::Done,
+    },
+    // What is near to a form with script registers and in none is refused.
+    Example {
+        name: "forms_of_script_objects_are_few",
+        natives: 1000000,
+        scripts: 1000000,
+        bytes: 4294967295,
+        input: b"script s0 65\nscript s256 0\nscript s0 01\nscript n0 1\nscript s0\ncopy s0 n0\ncopy n1 s0\ndrop s09\ndrop none\ndrop s1 s2\nset s0 0 n0\nset s0 0 none\nget s0 s1 0\nget n0 s1 0\nput s0 4294967296 none\nput s1 2 n3\nput n0 0 s1\nput s0 0\ntake s0 n1 0\ntake n0 s1 0\ntake s0 s1 none\nexpose s0 0\nexpose n0\ngc now\nGC\nslice 0\n",
+        output: b"! line\n! line\n! line\n! line\n! line\n! line\n! line\n! line\n! line\n! line\n! line\n! line\n! line\n! line\n! line\n! line\n! line\n! line\n! line\n! line\n! line\n! line\n! line\n! line\n! line\n! line\n",
+        status: Status::Done,
+    },
+    // What is near to a form for reflectors or weak maps and in none is refused.
+    Example {
+        name: "forms_of_reflectors_and_maps_are_few",
+        natives: 1000000,
+        scripts: 1000000,
+        bytes: 4294967295,
+        input: b"wrap n1 s2\nwrap s1 s2\nwrap s1\nwrap s1 none\nunwrap s1 n2\nunwrap n1 n2\nunwrap n1 s2 0\npreserve n7\npreserve none\npreserve\nweakmap s256\nweakmap n0\nweakmap s0 1\nweakmap\nwset s1 s2 None\nwset s1 none s3\nwset n1 s2 s3\nwset s1 n2 s3\nwset s1 s2 n3\nwset s1 s2\nwget n1 s2 s3\nwget s1 n2 s3\nwget s1 s2 none\nwget s1 s2 s3 s4\n",
+        output: b"! line\n! line\n! line\n! line\n! line\n! line\n! line\n! line\n! line\n! line\n! line\n! line\n! line\n! line\n! line\n! line\n! line\n! line\n! line\n! line\n! line\n! line\n! line\n! line\n",
         status: Status::Done,
     },
     // Each register that must hold an object is refused where it is empty, and those that may be empty are not.
@@ -176,16 +206,6 @@ const EXAMPLES: [Example; 18] = [
         input: b"native n0 0\n",
         output: b"",
         status: Status::Limit,
-    },
-    // An empty input is read whole where no byte is allowed.
-    Example {
-        name: "empty_input_where_no_byte_is_allowed",
-        natives: 1000000,
-        scripts: 1000000,
-        bytes: 0,
-        input: b"",
-        output: b"",
-        status: Status::Done,
     },
 ];
 
