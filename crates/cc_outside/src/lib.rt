@@ -35,6 +35,3 @@ pub use source::Source;
 pub use standard::{StdSink, StdSource};
 pub use sure_source::SureSource;
 pub use write_counts::WriteCounts;
-
-#[cfg(test)]
-mod tests;

@@ -1,6 +1,9 @@
 //! Each call once, and what no clause says: the texts of an error, and how often standard input and output are called.
 
-use super::*;
+use cc_outside::{
+    BytesSink, BytesSource, CountSink, Failed, ReadCounts, Sink, Source, StdSink, StdSource,
+    SureSource, WriteCounts,
+};
 use std::alloc::Global;
 use std::io::{self, ErrorKind, Read, Write};
 use std::test::Fail;
