@@ -1,4 +1,4 @@
-//! A short document, step by step, and a large one, collected in frames.
+//! A large document, collected in frames. A short one is the program `ccdocument`, with what it writes.
 use cc_document::{Document, DocumentError, Variable};
 use cc_model::Notebook;
 use cc_names::{Limits, NativeNo};
@@ -12,16 +12,6 @@ const CHILD: Variable = Variable(1);
 
 const NEXT: Variable = Variable(2);
 
-// A root and a child, which listens for itself and has data of the root.
-fn builds(document: &mut Document, out: &mut Notebook) -> bool {
-    let root = document.new_element(ROOT, out).is_ok();
-    let child = document.new_element(CHILD, out).is_ok();
-    let appended = document.append(ROOT, CHILD, out).is_ok();
-    let listens = document.listen(CHILD, CHILD, out).is_ok();
-    let has_data = document.put_data(CHILD, ROOT).is_ok();
-    root & child & appended & listens & has_data
-}
-
 // The child is removed, and no variable holds it.
 fn lets_go(document: &mut Document, out: &mut Notebook) -> bool {
     let removed = document.remove(ROOT, CHILD, out).is_ok();
@@ -33,35 +23,11 @@ fn settles(document: &mut Document, out: &mut Notebook) -> bool {
     document.settle(out).is_ok()
 }
 
-// What is told of a short document, and how much is left of it.
-fn tells_what_goes(document: &mut Document, out: &mut Notebook) -> bool {
-    let built = builds(document, out);
-    let gone = lets_go(document, out);
-    let settled = settles(document, out);
-    let two = document.census(out) == 2;
-    built & gone & settled & two
-}
-
 // What has no answer is called once.
 fn looks_around(document: &mut Document, out: &mut Notebook) -> bool {
     document.visit_parent(NEXT, ROOT, out);
     document.trace(out);
     !document.is_collecting()
-}
-
-fn goes_with_its_listener(alloc: Global) -> bool {
-    let mut out = Notebook::new(alloc);
-    let told = match Document::new(alloc, Limits::new(10, 10, 0)) {
-        Ok(mut document) => tells_what_goes(&mut document, &mut out),
-        Err(_) => false,
-    };
-    told & (out.text()
-        == b"- unlink #2\n- free @2\n- free ~2\n- free #2\n- free @3\n- free ~1\n+ #1\n+ @1\n".as_slice())
-}
-
-#[test]
-fn removed_child_that_its_listener_speaks_of_goes(rt: HostRuntime) {
-    assert!(rt; goes_with_its_listener(rt.alloc()));
 }
 
 // A new element is the child of the one in `CHILD`, which holds the new one from then on. Then comes a frame of 10 units.

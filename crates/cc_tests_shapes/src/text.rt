@@ -2,9 +2,9 @@
 
 ghost use Rattle.std.specs.Prelude.{◌≤◌, length, None};
 
-use crate::script::status_of_run;
 use cc_outside::{Failed, ReadCounts, Sink, Source, WriteCounts};
-use cc_replay::Status;
+use cc_replay::{Status, run};
+use std::alloc::Global;
 use std::process::Abort;
 
 /// A text that comes once for each number from `first` to `last`, in rising or in falling order. In the text K stands for
@@ -150,13 +150,33 @@ impl Source for Script<'_> {
     }
 }
 
-/// A sink that compares what it is handed with a text, and keeps none of it. It never fails.
+/// How far what comes is as a text.
 #[derive(Drop)]
-struct Wanted<'a> {
+struct Comparison<'a> {
     text: Text<'a>,
     /// How many bytes were as they are to be, up to the first one that was not.
     right: u64,
     differs: bool,
+}
+
+impl Comparison<'_> {
+    /// Compares the next bytes, and keeps none of them.
+    fn take(&mut self, bytes: &[u8]) {
+        for byte in bytes {
+            if self.text.next() != Some(*byte) {
+                self.differs = true;
+            }
+            if !self.differs {
+                self.right = self.right.saturating_add(1);
+            }
+        }
+    }
+}
+
+/// A sink that compares what it is handed with a text. It never fails.
+#[derive(Drop)]
+struct Wanted<'a> {
+    compared: Comparison<'a>,
     writes: WriteCounts,
 }
 
@@ -168,17 +188,20 @@ impl Sink for Wanted<'_> {
     ghost writes = { λ w. w.writes };
 
     fn write(&mut self, bytes: &[u8]) -> Result<usize, Failed> {
-        for byte in bytes {
-            if self.text.next() != Some(*byte) {
-                self.differs = true;
-            }
-            if !self.differs {
-                self.right = self.right.saturating_add(1);
-            }
-        }
+        self.compared.take(bytes);
         self.writes.count_answered();
         Ok(bytes.len())
     }
+}
+
+/// The status of `run`. Nothing is known of it in a proof: what is written is looked at.
+fn status_of<'a, S: Source, K: Sink>(
+    alloc: Global,
+    words: &'a [&'a str],
+    source: &mut S,
+    sink: &mut K,
+) -> Status {
+    run(alloc, words, source, sink)
 }
 
 /// The program, run with these words, answers the script with what is wanted and with nothing else, and ends with this
@@ -195,14 +218,24 @@ pub fn answers<'a>(
         reads: ReadCounts::new(),
     };
     let mut sink = Wanted {
-        text: Text::new(wanted),
-        right: 0,
-        differs: false,
+        compared: Comparison {
+            text: Text::new(wanted),
+            right: 0,
+            differs: false,
+        },
         writes: WriteCounts::new(),
     };
-    let ended = status_of_run(rt.alloc(), words, &mut source, &mut sink);
-    assert!(rt; !sink.differs, "after {} bytes, at {words:?}", sink.right);
-    assert_eq!(rt; sink.text.next(), None, "more is wanted at {words:?}");
+    let ended = status_of(rt.alloc(), words, &mut source, &mut sink);
+    assert!(rt;
+        !sink.compared.differs,
+        "after {} bytes, at {words:?}",
+        sink.compared.right
+    );
+    assert_eq!(rt;
+        sink.compared.text.next(),
+        None,
+        "more is wanted at {words:?}"
+    );
     assert_eq!(rt; ended, status, "at {words:?}");
     source.reads.answered()
 }

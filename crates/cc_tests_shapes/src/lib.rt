@@ -1,0 +1,12 @@
+//! Tests of whole scripts that are deep or long, of summaries of made scripts, and of command lines: by one function over texts
+//! that are made while they are read and written.
+#![tactic(auto)]
+
+#[cfg(test)]
+mod shapes;
+#[cfg(test)]
+mod summaries;
+#[cfg(test)]
+mod text;
+#[cfg(test)]
+mod words;
