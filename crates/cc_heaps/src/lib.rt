@@ -18,7 +18,9 @@
 //! that nothing reaches is forgotten; `select_next`, `mark_scripts`, `sweep`, `root`, `unlink` and `unroot` are made
 //! where no snapshot is kept, and say neither. Some clauses need more of what is handed in: that it is reached from
 //! the registers (`IsReached`), or reflects what is (`IsReachedOrReflects`), that it is black, or, of a reflector whose
-//! slot is written, that it is preserved (`MayHold`). Then the clause says so; the call itself does not ask for it.
+//! slot is written, that it is preserved (`MayHold`). So a snapshot stays fresh where what is stored is black, and no
+//! native is forgotten where the native that is written into is reached. The clause says so; the call itself does not
+//! ask for it, but for `store_script`, which takes a black object alone.
 #![tactic(auto)]
 
 mod heaps;
