@@ -5,9 +5,9 @@
     tools/worked_examples.py --check    writes nothing; says which of them differ, and exits 1 where one does
 
 The table says itself how it is read. In crates/cc_worked each example's input becomes a definition in
-specs/Inputs.antt, and these theorems in proofs/Examples1.antt and the files after it: the plain run of the input
-writes the output; the run is lawful; it is quiet; it passes the audit. An example that ends with status 5 becomes
-one theorem: what its input writes within the bytes allowed.
+specs/Inputs.antt, and its theorem stands in proofs/Examples1.antt and the files after it (`Works`): the plain run of
+the input writes the output; the run is lawful and quiet by the tests that decide it; it passes the audit. Of an
+example that ends with status 5 the theorem says what its input writes within the bytes allowed.
 
 In crates/cc_examples src/worked.rt and the files of src/worked get the examples that the program can be run on: those in
 which no memory is refused.
@@ -189,56 +189,38 @@ def file_of_inputs(examples):
 
 
 THEOREM_WORDS = [
-    ('Rattle.std.specs.Prelude', ['◌≡◌', 'true', '[]', '◌++◌', 'codes', 'replicate', 'refl']),
+    ('Rattle.std.specs.Prelude', ['◌≡◌', '[]', '◌++◌', 'codes', 'replicate', 'refl']),
     ('Rattle.cc_model.specs.Forms', ['version_one_forms']),
-    ('Rattle.cc_model.specs.Run', ['plain_text']),
-    ('Rattle.cc_worked.specs.Examples', ['limits', 'default_limits', 'ample', 'refused_at', 'text_within', 'IsLawfulRun', 'IsQuietRun']),
+    ('Rattle.cc_worked.specs.Examples', ['limits', 'default_limits', 'ample', 'refused_at', 'text_within']),
 ]
 OTHER_WORDS = [
-    ('Rattle.cc_worked.specs.Verdict', ['passes_verdict']),
-    ('Rattle.cc_worked.specs.Audit', ['passes_audit']),
+    ('Rattle.cc_worked.specs.Works', ['Works']),
     ('Rattle.cc_worked.proofs.Opened', ['all_of_a_run']),
-    ('Rattle.cc_worked.proofs.LawfulTest', ['run-lawful']),
-    ('Rattle.cc_worked.proofs.QuietTest', ['run-quiet']),
 ]
 
 
-def by_computation(name, claim, is_public=True):
-    pub = 'pub ' if is_public else ''
-    return f'\n{pub}{name} : {claim}\nunfolding all_of_a_run\n{name} = refl\n'
-
-
-def theorems(example):
+def theorem(example):
     name = example.name
     given = f'{term_of_limits(example.limits)} {term_of_memory(example.refused)} input.{name}'
-    written = 'plain_text' if example.is_whole() else 'text_within'
-    claim = f'{written} version_one_forms {given}\n    ≡ {term(example.output)}'
-    made = f'\n-- {sentence(example.shows)}' + by_computation(name, claim)
+    output = term(example.output)
     if example.is_whole():
-        made += by_computation(f'{name}-passes', f'passes_verdict {given} ≡ true', is_public=False)
-        made += f'\npub {name}-lawful : IsLawfulRun {given}\n{name}-lawful = run-lawful {given} {name}-passes\n'
-        made += f'\npub {name}-quiet : IsQuietRun {given}\n{name}-quiet = run-quiet {given} {name}-passes\n'
-        made += by_computation(f'{name}-audited', f'passes_audit {given} ≡ true')
-    return made
+        claim, proof = f'Works {given}\n    {output if output == "[]" else f"({output})"}', 'record { writes = refl; passes = refl; audited = refl }'
+    else:
+        claim, proof = f'text_within version_one_forms {given}\n    ≡ {output}', 'refl'
+    return f'\n-- {sentence(example.shows)}\npub {name} : {claim}\nunfolding all_of_a_run\n{name} = {proof}\n'
 
 
 def file_of_theorems(number, examples):
-    body = ''.join(theorems(example) for example in examples)
+    body = ''.join(theorem(example) for example in examples)
     head = f'-- WORKED EXAMPLES, part {number}: what each writes, and that its run is lawful, quiet and passes the audit.\n' + NOTE
     return head + imports(body, THEOREM_WORDS) + 'use Rattle.cc_worked.specs.Inputs as input\n' + imports(body, OTHER_WORDS) + body
-
-
-def names_of_theorems(example):
-    """The theorems on an example that other files may cite."""
-    endings = ['', '-lawful', '-quiet', '-audited'] if example.is_whole() else ['']
-    return [example.name + ending for ending in endings]
 
 
 def file_of_names(parts):
     """The file by which other files cite the theorems, wherever they stand."""
     made = '-- THE WORKED EXAMPLES as theorems, from all the files in which they stand.\n' + NOTE
     for number, part in enumerate(parts, 1):
-        names = [name for example in part for name in names_of_theorems(example)]
+        names = [example.name for example in part]
         made += f'pub use Rattle.cc_worked.proofs.Examples{number}.{{{", ".join(names)}}}\n'
     return made
 

@@ -1,15 +1,11 @@
 -- WORKED EXAMPLES, part 15: what each writes, and that its run is lawful, quiet and passes the audit.
 -- Made by tools/worked_examples.py from examples/worked.txt.
-use Rattle.std.specs.Prelude.{◌≡◌, true, [], refl}
+use Rattle.std.specs.Prelude.{◌≡◌, [], refl}
 use Rattle.cc_model.specs.Forms.{version_one_forms}
-use Rattle.cc_model.specs.Run.{plain_text}
-use Rattle.cc_worked.specs.Examples.{limits, ample, text_within, IsLawfulRun, IsQuietRun}
+use Rattle.cc_worked.specs.Examples.{limits, ample, text_within}
 use Rattle.cc_worked.specs.Inputs as input
-use Rattle.cc_worked.specs.Verdict.{passes_verdict}
-use Rattle.cc_worked.specs.Audit.{passes_audit}
+use Rattle.cc_worked.specs.Works.{Works}
 use Rattle.cc_worked.proofs.Opened.{all_of_a_run}
-use Rattle.cc_worked.proofs.LawfulTest.{run-lawful}
-use Rattle.cc_worked.proofs.QuietTest.{run-quiet}
 
 -- With no byte allowed one byte ends the run with nothing written.
 pub input_where_no_byte_is_allowed : text_within version_one_forms (limits 1000000 1000000 0) ample input.input_where_no_byte_is_allowed
@@ -24,21 +20,7 @@ unfolding all_of_a_run
 input_of_one_byte_less = refl
 
 -- An empty input is read whole where no byte is allowed.
-pub empty_input_where_no_byte_is_allowed : plain_text version_one_forms (limits 1000000 1000000 0) ample input.empty_input_where_no_byte_is_allowed
-    ≡ []
+pub empty_input_where_no_byte_is_allowed : Works (limits 1000000 1000000 0) ample input.empty_input_where_no_byte_is_allowed
+    []
 unfolding all_of_a_run
-empty_input_where_no_byte_is_allowed = refl
-
-empty_input_where_no_byte_is_allowed-passes : passes_verdict (limits 1000000 1000000 0) ample input.empty_input_where_no_byte_is_allowed ≡ true
-unfolding all_of_a_run
-empty_input_where_no_byte_is_allowed-passes = refl
-
-pub empty_input_where_no_byte_is_allowed-lawful : IsLawfulRun (limits 1000000 1000000 0) ample input.empty_input_where_no_byte_is_allowed
-empty_input_where_no_byte_is_allowed-lawful = run-lawful (limits 1000000 1000000 0) ample input.empty_input_where_no_byte_is_allowed empty_input_where_no_byte_is_allowed-passes
-
-pub empty_input_where_no_byte_is_allowed-quiet : IsQuietRun (limits 1000000 1000000 0) ample input.empty_input_where_no_byte_is_allowed
-empty_input_where_no_byte_is_allowed-quiet = run-quiet (limits 1000000 1000000 0) ample input.empty_input_where_no_byte_is_allowed empty_input_where_no_byte_is_allowed-passes
-
-pub empty_input_where_no_byte_is_allowed-audited : passes_audit (limits 1000000 1000000 0) ample input.empty_input_where_no_byte_is_allowed ≡ true
-unfolding all_of_a_run
-empty_input_where_no_byte_is_allowed-audited = refl
+empty_input_where_no_byte_is_allowed = record { writes = refl; passes = refl; audited = refl }

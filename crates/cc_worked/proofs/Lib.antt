@@ -6,6 +6,7 @@ pub mod QuietTest
 pub mod Judged
 pub mod FreshTest
 pub mod SuspectedTest
+pub mod Working
 pub mod Examples1
 pub mod Examples2
 pub mod Examples3

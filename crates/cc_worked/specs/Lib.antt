@@ -10,3 +10,4 @@ pub mod HeapTests
 pub mod SnapshotTests
 pub mod GraphTests
 pub mod Audit
+pub mod Works

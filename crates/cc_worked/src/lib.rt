@@ -3,8 +3,8 @@
 //! An example is a script with its limits, its wishes for memory that are refused, and what it makes the program write.
 //! The examples stand in a table, `examples/worked.txt`, which says what each one shows; of it the tool
 //! `tools/worked_examples.py` makes `specs/Inputs.antt`, and `proofs/Examples1.antt` and the files after that. There
-//! each example is proved by computation: the plain run of its input writes its output, is lawful and quiet, and passes
-//! the audit. The audit tests at the beginning and after each ask that the heaps are well formed, that counts and colours
+//! each example is proved by computation (`Works`): the plain run of its input writes its output, is lawful and quiet, and
+//! passes the audit. The audit tests at the beginning and after each ask that the heaps are well formed, that counts and colours
 //! are right, that the running collection's snapshot is fresh, that no unreached native is forgotten, and that the heaps
 //! stand for the graph. Its tests of freshness and of suspicion are proved to say yes only where the relation holds
 //! (`audit_is_sound`); the others are tests alone.

@@ -1,44 +1,45 @@
-use Rattle.cc_worked.proofs.Examples.{cascade_of_two-lawful, self_cycle_outlives_its_register-lawful, self_cycle_is_collected-lawful, two_cycle_takes_four_units-lawful, touched_between_slices-lawful, read_between_slices-lawful, native_lives_by_an_exposed_reflector-lawful, cycle_through_a_reflector-lawful, gc_sweeps_three_rounds-lawful, entry_does_not_keep_its_key-lawful, cycle_through_an_entry-lawful, value_lives_by_its_mapping-lawful, refusals_and_odd_lines-lawful, collect_refused_at_a_node-lawful}
+use Rattle.cc_worked.proofs.Examples.{cascade_of_two, self_cycle_outlives_its_register, self_cycle_is_collected, two_cycle_takes_four_units, touched_between_slices, read_between_slices, native_lives_by_an_exposed_reflector, cycle_through_a_reflector, gc_sweeps_three_rounds, entry_does_not_keep_its_key, cycle_through_an_entry, value_lives_by_its_mapping, refusals_and_odd_lines, collect_refused_at_a_node}
+use Rattle.cc_worked.proofs.Working.{works-lawful}
 use Rattle.cc_worked.proofs.worked.examples_are_lawful.Goals as goal
 
 pub returns-clause-cascade_of_two : goal.returns-clause-cascade_of_two
-returns-clause-cascade_of_two c = cascade_of_two-lawful
+returns-clause-cascade_of_two c = works-lawful cascade_of_two
 
 pub returns-clause-self_cycle_outlives_its_register : goal.returns-clause-self_cycle_outlives_its_register
-returns-clause-self_cycle_outlives_its_register c = self_cycle_outlives_its_register-lawful
+returns-clause-self_cycle_outlives_its_register c = works-lawful self_cycle_outlives_its_register
 
 pub returns-clause-self_cycle_is_collected : goal.returns-clause-self_cycle_is_collected
-returns-clause-self_cycle_is_collected c = self_cycle_is_collected-lawful
+returns-clause-self_cycle_is_collected c = works-lawful self_cycle_is_collected
 
 pub returns-clause-two_cycle_takes_four_units : goal.returns-clause-two_cycle_takes_four_units
-returns-clause-two_cycle_takes_four_units c = two_cycle_takes_four_units-lawful
+returns-clause-two_cycle_takes_four_units c = works-lawful two_cycle_takes_four_units
 
 pub returns-clause-touched_between_slices : goal.returns-clause-touched_between_slices
-returns-clause-touched_between_slices c = touched_between_slices-lawful
+returns-clause-touched_between_slices c = works-lawful touched_between_slices
 
 pub returns-clause-read_between_slices : goal.returns-clause-read_between_slices
-returns-clause-read_between_slices c = read_between_slices-lawful
+returns-clause-read_between_slices c = works-lawful read_between_slices
 
 pub returns-clause-native_lives_by_an_exposed_reflector : goal.returns-clause-native_lives_by_an_exposed_reflector
-returns-clause-native_lives_by_an_exposed_reflector c = native_lives_by_an_exposed_reflector-lawful
+returns-clause-native_lives_by_an_exposed_reflector c = works-lawful native_lives_by_an_exposed_reflector
 
 pub returns-clause-cycle_through_a_reflector : goal.returns-clause-cycle_through_a_reflector
-returns-clause-cycle_through_a_reflector c = cycle_through_a_reflector-lawful
+returns-clause-cycle_through_a_reflector c = works-lawful cycle_through_a_reflector
 
 pub returns-clause-gc_sweeps_three_rounds : goal.returns-clause-gc_sweeps_three_rounds
-returns-clause-gc_sweeps_three_rounds c = gc_sweeps_three_rounds-lawful
+returns-clause-gc_sweeps_three_rounds c = works-lawful gc_sweeps_three_rounds
 
 pub returns-clause-entry_does_not_keep_its_key : goal.returns-clause-entry_does_not_keep_its_key
-returns-clause-entry_does_not_keep_its_key c = entry_does_not_keep_its_key-lawful
+returns-clause-entry_does_not_keep_its_key c = works-lawful entry_does_not_keep_its_key
 
 pub returns-clause-cycle_through_an_entry : goal.returns-clause-cycle_through_an_entry
-returns-clause-cycle_through_an_entry c = cycle_through_an_entry-lawful
+returns-clause-cycle_through_an_entry c = works-lawful cycle_through_an_entry
 
 pub returns-clause-value_lives_by_its_mapping : goal.returns-clause-value_lives_by_its_mapping
-returns-clause-value_lives_by_its_mapping c = value_lives_by_its_mapping-lawful
+returns-clause-value_lives_by_its_mapping c = works-lawful value_lives_by_its_mapping
 
 pub returns-clause-refusals_and_odd_lines : goal.returns-clause-refusals_and_odd_lines
-returns-clause-refusals_and_odd_lines c = refusals_and_odd_lines-lawful
+returns-clause-refusals_and_odd_lines c = works-lawful refusals_and_odd_lines
 
 pub returns-clause-collect_refused_at_a_node : goal.returns-clause-collect_refused_at_a_node
-returns-clause-collect_refused_at_a_node c = collect_refused_at_a_node-lawful
+returns-clause-collect_refused_at_a_node c = works-lawful collect_refused_at_a_node

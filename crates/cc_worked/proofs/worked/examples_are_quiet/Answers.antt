@@ -1,11 +1,12 @@
-use Rattle.cc_worked.proofs.Examples.{cycle_through_a_reflector-quiet, cycle_through_an_entry-quiet, collect_refused_at_a_node-quiet}
+use Rattle.cc_worked.proofs.Examples.{cycle_through_a_reflector, cycle_through_an_entry, collect_refused_at_a_node}
+use Rattle.cc_worked.proofs.Working.{works-quiet}
 use Rattle.cc_worked.proofs.worked.examples_are_quiet.Goals as goal
 
 pub returns-clause-cycle_through_a_reflector : goal.returns-clause-cycle_through_a_reflector
-returns-clause-cycle_through_a_reflector c = cycle_through_a_reflector-quiet
+returns-clause-cycle_through_a_reflector c = works-quiet cycle_through_a_reflector
 
 pub returns-clause-cycle_through_an_entry : goal.returns-clause-cycle_through_an_entry
-returns-clause-cycle_through_an_entry c = cycle_through_an_entry-quiet
+returns-clause-cycle_through_an_entry c = works-quiet cycle_through_an_entry
 
 pub returns-clause-collect_refused_at_a_node : goal.returns-clause-collect_refused_at_a_node
-returns-clause-collect_refused_at_a_node c = collect_refused_at_a_node-quiet
+returns-clause-collect_refused_at_a_node c = works-quiet collect_refused_at_a_node

@@ -2,10 +2,10 @@ use Rattle.cc_worked.proofs.Examples.{self_cycle_is_collected, touched_between_s
 use Rattle.cc_worked.proofs.worked.examples_write_their_lines.Goals as goal
 
 pub returns-clause-self_cycle_is_collected : goal.returns-clause-self_cycle_is_collected
-returns-clause-self_cycle_is_collected c = self_cycle_is_collected
+returns-clause-self_cycle_is_collected c = self_cycle_is_collected.writes
 
 pub returns-clause-touched_between_slices : goal.returns-clause-touched_between_slices
-returns-clause-touched_between_slices c = touched_between_slices
+returns-clause-touched_between_slices c = touched_between_slices.writes
 
 pub returns-clause-value_lives_by_its_mapping : goal.returns-clause-value_lives_by_its_mapping
-returns-clause-value_lives_by_its_mapping c = value_lives_by_its_mapping
+returns-clause-value_lives_by_its_mapping c = value_lives_by_its_mapping.writes
