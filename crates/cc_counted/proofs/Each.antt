@@ -1,6 +1,5 @@
 -- THE REFERENCES IN SLOTS GIVEN UP one after another: what is left to give up leads where all of it does.
-use Rattle.std.proofs.Common.{◌≡◌, ℕ, ◌+◌, ◌<◌, ◌≤◌, true, List, [], ◌∷◌, ◌++◌, length, drop, drop-cons, get_or, Option, Some, None, option_map, is_some, refl, sym, ◌∙◌, ap, subst, add-one}
-use Rattle.std.proofs.lemmas.List.{drop_all}
+use Rattle.std.proofs.Common.{◌≡◌, ℕ, ◌+◌, ◌<◌, true, List, [], ◌∷◌, ◌++◌, length, drop, drop-cons, get_or, Option, Some, None, option_map, is_some, refl, sym, ◌∙◌, ap, subst, add-one}
 use Rattle.std.proofs.lemmas.List.Elements.{Contains-get_or}
 use Rattle.cc_lists.specs.Members.{Among}
 use Rattle.cc_lists.proofs.Members.{Among-contains}
@@ -43,21 +42,6 @@ pub record GivesUpRest (start now : Lists) (slots : List (Option Held)) (i : ℕ
 module _ (start : Lists) (slots : List (Option Held)) where
   left : ℕ → List ℕ
   left i = numbers_in (keyed start.cells) (drop i slots)
-
-  pub GivesUpRest-start : IsPlaced start → (owned : List ℕ) × IsBalanced (numbers_in (keyed start.cells) slots ++ owned) (draining_of start []) → GivesUpRest start start slots 0
-  GivesUpRest-start p b = record { rest = λ es. refl; placed = p; keys = refl; order = refl; as_many = refl; cells = λ k. refl; balanced = b }
-
-  pub GivesUpRest-done : (now : Lists) (i : ℕ) → length slots ≤ i → GivesUpRest start now slots i → GivesUp start now (numbers_in (keyed start.cells) slots)
-  GivesUpRest-done now i past r =
-      let none : numbers_in (keyed start.cells) (drop i slots) ≡ [] = ap (numbers_in (keyed start.cells)) (drop_all i slots past) in
-      record {
-        draining = λ es. ap (give_up_each (draining_of now es)) (sym none) ∙ r.rest es;
-        placed = r.placed;
-        keys = r.keys;
-        order = r.order;
-        as_many = r.as_many;
-        cells = r.cells;
-      }
 
   module _ (now : Lists) (i : ℕ) (within : i < length slots) (r : GivesUpRest start now slots i) where
     dropped : (x : Option Held) → get_or slots i None ≡ x → drop i slots ≡ x ∷ drop (i + 1) slots

@@ -21,14 +21,14 @@ use Rattle.cc_model.specs.Counts.{slots_of_natives, times}
 use Rattle.cc_laws_heap.specs.Balance.{waiting, living, IsBalanced, has_place, places}
 use Rattle.cc_laws_heap.proofs.Natives.{changed_at, native_names-change, native_at-named, native_at-change_same, native_at-change_other, HasDistinctNumbers-change}
 use Rattle.cc_laws_heap.proofs.HoldsTheSame.{raise_native}
-use Rattle.cc_laws_heap.proofs.References.{times-cons_same, times-cons_other, times-among, times-some}
+use Rattle.cc_laws_heap.proofs.References.{times-cons_same, times-cons_other, times-among}
 use Rattle.cc_laws_heap.proofs.Owning.{IsCounted-add_ref}
 use Rattle.cc_laws_heap.proofs.Cascades.{one_at_zero-above, one_above_zero-above, above-one_at_zero}
 use Rattle.cc_laws_heap.proofs.Buffer.{places-with_mark_same, places-with_mark_other}
 use Rattle.cc_laws_heap.proofs.GiveUp.{living-one}
 use Rattle.cc_laws_heap.proofs.Making.{with_mark-cases, places-with_mark, contents-empty}
 use Rattle.cc_counted.specs.declared.held.Held.{Held}
-use Rattle.cc_counted.specs.Counts.{Counts, no_counts, number_at, the_number, is_live, numbers_held, heap_of, with_heap, with_reflector}
+use Rattle.cc_counted.specs.Counts.{Counts, number_at, the_number, is_live, numbers_held, heap_of, with_heap, with_reflector}
 use Rattle.cc_counted.specs.Owning.{AreOwned, Transfers, Makes}
 use Rattle.cc_counted.specs.Lists.{Placed, Lists, cell_at, with_slot, keyed, shown, counts_of, draining_of, IsPlaced}
 use Rattle.cc_counted.proofs.Places.{the_number-cell, native_at-cell, natives-distinct}
@@ -37,28 +37,6 @@ use Rattle.cc_counted.proofs.Holding.{held-same}
 use Rattle.cc_counted.proofs.Balanced.{balanced-owned, owned-balanced, IsBalanced-owned, owned-lists}
 use Rattle.cc_counted.proofs.SlotBalance.{IsBalanced-written}
 use Rattle.cc_counted.proofs.Reflecting.{flagged}
-
--- of no natives none is owned
-pub owned-none : AreOwned [] no_counts
-owned-none = record {
-  counts = λ n m. absurd m;
-  none_zero = λ n m. absurd m;
-  held_there = λ k m. absurd m;
-  owned_there = λ k m. absurd m;
-  buffered = λ b m. absurd m;
-  buffered_once = λ k. omega arith;
-}
-
--- The order in which what is owned is listed says nothing.
-pub owned-reordered : (c : Counts) (owned others : List ℕ) → ((k : ℕ) → times k owned ≡ times k others) → AreOwned owned c → AreOwned others c
-owned-reordered c owned others same o = record {
-  counts = λ n m. omega (arith, o.counts n m, same n.number);
-  none_zero = o.none_zero;
-  held_there = o.held_there;
-  owned_there = λ k m. o.owned_there k (times-among k owned (omega (arith, same k, times-some k others m)));
-  buffered = o.buffered;
-  buffered_once = o.buffered_once;
-}
 
 -- The steps on a balance in which no native waits
 

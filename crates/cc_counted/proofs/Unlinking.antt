@@ -11,7 +11,7 @@ use Rattle.cc_model.specs.declared.item.Event.TheVariants.{Unlinked}
 use Rattle.cc_model.specs.Telling.{Telling, TellsEvents}
 use Rattle.cc_model.specs.Heap.{Heap, Outcome, silently, after as told_before, native_at, set_preserved}
 use Rattle.cc_model.specs.End.{empty_slot, empty_each, slots_now, without_preservation, unlink}
-use Rattle.cc_model.proofs.Tellings.{Tells-nil, TellsEvents-trans}
+use Rattle.cc_model.proofs.Tellings.{TellsEvents-trans}
 use Rattle.cc_laws_heap.specs.Balance.{IsBalanced}
 use Rattle.cc_counted.specs.declared.held.Held.{Held}
 use Rattle.cc_counted.specs.declared.held.Held.TheVariants as held
@@ -22,7 +22,7 @@ use Rattle.cc_counted.proofs.Places.{the_number-cell, native_at-cell}
 use Rattle.cc_counted.proofs.Holding.{held-same}
 use Rattle.cc_counted.proofs.Each.{live-cell}
 use Rattle.cc_counted.proofs.Places.{number_at-cell}
-use Rattle.cc_counted.proofs.Leaving.{LeavesKeys-same, LeavesKeys-then, counts-left}
+use Rattle.cc_counted.proofs.Leaving.{LeavesKeys-then, counts-left}
 use Rattle.cc_counted.proofs.Reflecting.{left-flagged}
 
 -- slots from the i-th on are left to empty
@@ -42,25 +42,6 @@ pub record EmptiesSoFar (start now : Lists) (key i : ℕ) (before after : Tellin
   pub rest : empty_each was.number i (names_in (keyed start.cells) (drop i was.slots)) (record { heap = heap_of (counts_of now); events = events })
       ≡ empty_each was.number 0 (names_in (keyed start.cells) was.slots) (silently (heap_of (counts_of start)))
   pub told : TellsEvents before after events
-
-pub EmptiesSoFar-start : (start : Lists) (key : ℕ) (before : Telling) → IsPlaced start →
-    (others : List ℕ) × (c : Placed) × (cell_at start.cells key ≡ Some c) × IsBalanced (c.number ∷ others) (draining_of start []) → EmptiesSoFar start start key 0 before before
-EmptiesSoFar-start start key before p b = record {
-  was = b.1;
-  was_there = b.2;
-  cell = b.1;
-  there = b.2;
-  number = refl;
-  long = refl;
-  later = refl;
-  placed = p;
-  leaves = LeavesKeys-same start.cells;
-  balanced = (b.0, b.3);
-  keeps = λ others c. c;
-  events = [];
-  rest = refl;
-  told = Tells-nil before;
-}
 
 pub EmptiesSoFar-done : (start now : Lists) (key i : ℕ) (before after : Telling) (s : EmptiesSoFar start now key i before after) → length s.was.slots ≤ i → EmptiesEach start now key before after
 EmptiesSoFar-done start now key i before after s past = record {

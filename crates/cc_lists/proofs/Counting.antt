@@ -112,10 +112,6 @@ module _ {Y A B : Type 0} (same : Y → Y → Bool) (exact : IsEqualityTest same
       let k : count_by (keyed same p from v) (x ∷ xs) ≡ count_by (keyed same p from v) xs = rw (count_by-cons (keyed same p from v) x xs, e) (omega arith) in
       omega (arith, h v)
 
-  -- a key of the second that the first has less often: one element of it is left over
-  nothing-below : (v : Y) (ys : List B) → 0 < count_by (keyed same q source v) ys → 0 < count_by q ys
-  nothing-below v ys some = omega (arith, count_by-without (keyed same q source v) q true (keyed-pass v) ys some)
-
   -- A list that has each key at most as often is at most as long.
   pub count_by-below : (xs : List A) (ys : List B) →
       ((v : Y) → count_by (keyed same p from v) xs ≤ count_by (keyed same q source v) ys) →

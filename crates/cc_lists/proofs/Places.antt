@@ -1,6 +1,6 @@
 -- Places in a list, and lists of distinct numbers.
 use Rattle.std.specs.Prelude.{slice_get, not}
-use Rattle.std.proofs.Common.{◌≡◌, ℕ, zero, suc, ◌+◌, ◌<◌, ◌≤◌, ◌==◌, Bool, true, false, cond, List, [], ◌∷◌, ◌++◌, length, filter, get_or, Option, Some, None, refl, sym, ◌∙◌, ap, inl, inr, ⊎_elim, arith, count_by}
+use Rattle.std.proofs.Common.{◌≡◌, ℕ, zero, suc, ◌+◌, ◌<◌, ◌≤◌, ◌==◌, Bool, true, false, cond, List, [], ◌∷◌, length, filter, get_or, Option, Some, None, refl, sym, ◌∙◌, ap, inl, inr, ⊎_elim, arith, count_by}
 use Rattle.std.proofs.lemmas.Bool.{true≢false, eq-eqb}
 use Rattle.cc_lists.specs.Members.{Among}
 use Rattle.cc_lists.proofs.Members.{Among-filtered, Among-passes}
@@ -51,12 +51,6 @@ pub place-among : {X : Type 0} (x : X) (xs : List X) (place : ℕ) → slice_get
 place-among x [] place e = absurd (cc)
 place-among x (y ∷ ys) zero e = let same : y ≡ x = cc in inl same
 place-among x (y ∷ ys) (suc place) e = inr (place-among x ys place e)
-
--- and keeps its place where others go last
-pub place-append : {X : Type 0} (x : X) (xs ys : List X) (place : ℕ) → slice_get xs place ≡ Some x → slice_get (xs ++ ys) place ≡ Some x
-place-append x [] ys place e = absurd (cc)
-place-append x (z ∷ zs) ys zero e = e
-place-append x (z ∷ zs) ys (suc place) e = place-append x zs ys place e
 
 -- what is read at a place of a list of which each place may be empty stands there
 pub among-get : {X : Type 0} (xs : List (Option X)) (place : ℕ) (x : X) → get_or xs place None ≡ Some x → Among (Some x) xs

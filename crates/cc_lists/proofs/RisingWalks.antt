@@ -94,10 +94,6 @@ abbrev pub LooksFrom : (ℕ → Bool) → List ℕ → Option ℕ → Option ℕ
 LooksFrom test ks after at = first_of (filter (is_above after) (filter test ks)) ≡ first_of (filter test (left_from ks at))
 
 module _ (ks : List ℕ) (r : IsRising ks) where
-  -- at the start all of them are left,
-  pub left_from-start : left_from ks (first_of ks) ≡ ks
-  left_from-start = ap (λ js. left_from ks (first_of js)) (sym (all-above ks)) ∙ (left_from-first ks r None ∙ all-above ks)
-
   -- at a number this one, and what is left at the next,
   pub left_from-next : (at next : Option ℕ) (k : ℕ) → at ≡ Some k → next ≡ first_of (filter (is_above at) ks) → left_from ks at ≡ k ∷ left_from ks next
   left_from-next at next k is e =
@@ -125,8 +121,3 @@ module _ (ks : List ℕ) (r : IsRising ks) where
 pub LooksFrom-found : (test : ℕ → Bool) (ks : List ℕ) (after at : Option ℕ) (k : ℕ) → at ≡ Some k → LooksFrom test ks after at → test k ≡ true →
     at ≡ first_of (filter (is_above after) (filter test ks))
 LooksFrom-found test ks after at k is l w = is ∙ sym (l ∙ (ap (λ o. first_of (filter test (left_from ks o))) is ∙ rw w refl))
-
--- while others leave, what is left loses just these
-pub left_from-filter : (p : ℕ → Bool) (ks : List ℕ) (at : Option ℕ) → ((k : ℕ) → at ≡ Some k → p k ≡ true) → left_from (filter p ks) at ≡ filter p (left_from ks at)
-left_from-filter p ks None stays = refl
-left_from-filter p ks (Some k) stays = ap (λ js. k ∷ js) (filter-swap (is_above (Some k)) p ks) ∙ rw (stays k refl) refl

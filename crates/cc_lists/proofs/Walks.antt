@@ -1,5 +1,5 @@
 -- WALKS: what is left of a walk at its first, at the next, and while others leave or go last.
-use Rattle.std.proofs.Common.{◌≡◌, ℕ, ◌+◌, ◌<◌, ◌≤◌, ◌==◌, Bool, true, false, not, cond, List, [], ◌∷◌, ◌++◌, map, length, Option, Some, None, refl, sym, ◌∙◌, ap, subst, inl, inr, ⊎_elim, arith, count_by}
+use Rattle.std.proofs.Common.{◌≡◌, ℕ, ◌+◌, ◌≤◌, ◌==◌, Bool, true, false, not, cond, List, [], ◌∷◌, ◌++◌, map, Option, Some, None, refl, sym, ◌∙◌, ap, subst, inl, inr, ⊎_elim, arith, count_by}
 use Rattle.std.specs.List.{filter, find}
 use Rattle.std.proofs.lemmas.Bool.{eqb-true, eq-eqb, true≢false}
 use Rattle.std.proofs.lemmas.List.{append_assoc}
@@ -8,7 +8,7 @@ use Rattle.cc_lists.specs.Members.{Among}
 use Rattle.cc_lists.specs.Walks.{first_of, HasDistinctKeys, first_key, next_key, left_at}
 use Rattle.cc_lists.proofs.Counting.{count_by-cons, count_by-append}
 use Rattle.cc_lists.proofs.CountsOf.{count_by-none_passes}
-use Rattle.cc_lists.proofs.Filtering.{filter-each, count_by-filter-le}
+use Rattle.cc_lists.proofs.Filtering.{filter-each}
 
 -- the first stands in the list
 pub first-among : {X : Type 0} (xs : List X) (x : X) → first_of xs ≡ Some x → Among x xs
@@ -123,21 +123,6 @@ module _ {X : Type 0} (key : X → ℕ) where
     pub left-next : left_at key xs (Some (key x)) ≡ x ∷ left_at key xs (next_key key xs (key x))
     left-next = ap (λ zs. left_at key zs (Some (key x))) place.whole ∙ (left-between x place.behind place.before apart.0 ∙ ap (λ zs. x ∷ zs) (sym rest_is))
 
-    -- so fewer are left there.
-    pub left-fewer : length (left_at key xs (next_key key xs (key x))) < length (left_at key xs (Some (key x)))
-    left-fewer =
-        let whole : length (left_at key xs (Some (key x))) ≡ length (x ∷ left_at key xs (next_key key xs (key x))) = ap length left-next in
-        omega arith
-
-    -- Nothing more is lost where the member leaves once the walk has gone on from it.
-    pub left-leaves : left_at key (filter (λ y. not (key y == key x)) xs) (next_key key xs (key x)) ≡ left_at key xs (next_key key xs (key x))
-    left-leaves =
-        let others : filter (λ y. not (key y == key x)) xs ≡ place.before ++ place.behind =
-        ap (filter (λ y. not (key y == key x))) place.whole ∙ without-between x place.behind place.before apart.0 apart.1 in
-        (λ i. left_at key (others i) (next_is i))
-        ∙ (left-rest place.before place.behind
-        (subst (HasDistinctKeys key) others (λ k. omega (arith, once k, count_by-filter-le (λ y. key y == k) (λ y. not (key y == key x)) xs))) ∙ sym rest_is)
-
     -- The first that is left at the next has its key,
     pub next-stands : first_key key (left_at key xs (next_key key xs (key x))) ≡ next_key key xs (key x)
     next-stands = ap (first_key key) rest_is ∙ sym next_is
@@ -188,30 +173,6 @@ module _ {X : Type 0} (key : X → ℕ) where
       go ih true f = further (first_key-among xs k f)
       go ih false f = further (ih f)
 
-  -- WHILE OTHERS LEAVE, before or behind, what is left loses just these,
-  pub left-filter : (p : X → Bool) (xs : List X) (at : Option ℕ) → ((x : X) → Among x xs → at ≡ Some (key x) → p x ≡ true) →
-      left_at key (filter p xs) at ≡ filter p (left_at key xs at)
-  left-filter p xs None stays = refl
-  left-filter p [] (Some k) stays = refl
-  left-filter p (x ∷ xs) (Some k) stays = go (left-filter p xs (Some k) (λ y m. stays y (inr m))) (p x) refl (key x == k) refl
-    where
-      go : left_at key (filter p xs) (Some k) ≡ filter p (left_at key xs (Some k)) → (b : Bool) → p x ≡ b → (c : Bool) → (key x == k) ≡ c →
-          left_at key (cond b (x ∷ filter p xs) (filter p xs)) (Some k) ≡ filter p (elim c [ true ↦ x ∷ xs | false ↦ left_at key xs (Some k) ])
-      go ih true e true f = rw (f, e, left_at) refl
-      go ih true e false f = rw (f, left_at) ih
-      go ih false e true f = absurd (true≢false (sym (stays x (inl refl) (ap Some (sym (eqb-true (key x) k f)))) ∙ e))
-      go ih false e false f = ih
-
-  -- and what goes last is left last.
-  pub left-push : (xs : List X) (x y : X) → Among x xs → left_at key (xs ++ y ∷ []) (Some (key x)) ≡ left_at key xs (Some (key x)) ++ y ∷ []
-  left-push [] x y m = absurd m
-  left-push (z ∷ zs) x y m = go (left-push zs x y) (key z == key x) refl
-    where
-      go : (Among x zs → left_at key (zs ++ y ∷ []) (Some (key x)) ≡ left_at key zs (Some (key x)) ++ y ∷ []) → (b : Bool) → (key z == key x) ≡ b →
-          elim b [ true ↦ z ∷ zs ++ y ∷ [] | false ↦ left_at key (zs ++ y ∷ []) (Some (key x)) ] ≡ elim b [ true ↦ z ∷ zs | false ↦ left_at key zs (Some (key x)) ] ++ y ∷ []
-      go ih true e = refl
-      go ih false e = ih (⊎_elim (λ s. absurd (true≢false (sym (eq-eqb (key z) (key x) (ap key s)) ∙ e))) (λ t. t) m)
-
 -- A walk over a list that was mapped
 
 module _ {X Y : Type 0} (key : Y → ℕ) (f : X → Y) where
@@ -222,13 +183,3 @@ module _ {X Y : Type 0} (key : Y → ℕ) (f : X → Y) where
   pub next_key-map : (xs : List X) (k : ℕ) → next_key key (map f xs) k ≡ next_key (λ x. key (f x)) xs k
   next_key-map [] k = refl
   next_key-map (x ∷ xs) k = λ i. elim (key (f x) == k) [ true ↦ first_key-map xs i | false ↦ next_key-map xs k i ]
-
-  pub left-map : (xs : List X) (at : Option ℕ) → left_at key (map f xs) at ≡ map f (left_at (λ x. key (f x)) xs at)
-  left-map xs None = refl
-  left-map [] (Some k) = refl
-  left-map (x ∷ xs) (Some k) = go (left-map xs (Some k)) (key (f x) == k)
-    where
-      go : left_at key (map f xs) (Some k) ≡ map f (left_at (λ x. key (f x)) xs (Some k)) → (b : Bool) →
-          elim b [ true ↦ f x ∷ map f xs | false ↦ left_at key (map f xs) (Some k) ] ≡ map f (elim b [ true ↦ x ∷ xs | false ↦ left_at (λ x. key (f x)) xs (Some k) ])
-      go ih true = refl
-      go ih false = ih

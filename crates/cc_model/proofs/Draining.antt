@@ -1,5 +1,5 @@
 -- A cascade ends: each native that is freed leaves less to do, and nothing that it gives up makes more.
-use Rattle.std.proofs.Common.{◌≡◌, ℕ, zero, suc, ◌+◌, ◌-◌, ◌<◌, ◌≤◌, Bool, true, false, not, List, [], ◌∷◌, length, Option, Some, None, refl, sym, ap, arith, length-append, count_by, if◌then◌else◌, ◌==◌, nat_lt}
+use Rattle.std.proofs.Common.{◌≡◌, ℕ, zero, suc, ◌+◌, ◌-◌, ◌<◌, ◌≤◌, Bool, true, false, not, List, [], ◌∷◌, length, Option, Some, None, refl, ap, arith, length-append, count_by, if◌then◌else◌, ◌==◌, nat_lt}
 use Rattle.std.proofs.lemmas.Bool.{lt-ltb, ltb-true, le-ltb}
 use Rattle.std.proofs.lemmas.List.Sums.{count_by-le-length}
 use Rattle.cc_lists.specs.Members.{Among}
@@ -108,20 +108,6 @@ unfolding drain
 drain-done zero d e = refl
 drain-done (suc n) d e = rw e refl
 
--- any two numbers of steps that are enough do the same
-pub drain-enough : (n m : ℕ) (d : Draining) → pending d ≤ n → pending d ≤ m → drain n d ≡ drain m d
-unfolding drain
-drain-enough zero m d small other = sym (drain-done m d (queue-at_rest d small))
-drain-enough (suc n) zero d small other = drain-done (suc n) d (queue-at_rest d other)
-drain-enough (suc n) (suc m) d small other = go (drain-enough n m) d.queue refl
-  where
-    go : ((e : Draining) → pending e ≤ n → pending e ≤ m → drain n e ≡ drain m e) → (q : List ℕ) → d.queue ≡ q →
-        drain_by n d q ≡ drain_by m d q
-    go ih [] e = refl
-    go ih (k ∷ ks) e =
-        let less : pending (free_front d k ks) < pending d = pending-free_front d k ks e in
-        ih (free_front d k ks) (omega arith) (omega arith)
-
 -- once one reference is given up, there is no more to do than there are natives
 pub pending-drained : (h : Heap) (k : ℕ) → pending (give_up (at_rest h) k) ≤ length h.natives
 pending-drained h k = omega (arith, pending-give_up (at_rest h) k, count_by-le-length is_counted h.natives)
@@ -130,10 +116,3 @@ pending-drained h k = omega (arith, pending-give_up (at_rest h) k, count_by-le-l
 pub drained-empties : (h : Heap) (k : ℕ) → (drained h k).queue ≡ []
 unfolding drained
 drained-empties h k = drain-empties (length h.natives) (give_up (at_rest h) k) (pending-drained h k)
-
--- A cascade is the same in any number of steps that is at least that of the natives.
-pub drained-enough : (n : ℕ) (h : Heap) (k : ℕ) → length h.natives ≤ n → drained h k ≡ drain n (give_up (at_rest h) k)
-unfolding drained
-drained-enough n h k small =
-    let few : pending (give_up (at_rest h) k) ≤ length h.natives = pending-drained h k in
-    drain-enough (length h.natives) n (give_up (at_rest h) k) few (omega arith)

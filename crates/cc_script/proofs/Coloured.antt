@@ -157,10 +157,6 @@ module _ (s : Slab Label) (contents : List Content) (key : ℕ) where
   pub read-filled : (label : Label) → get s key ≡ Some label → get (filled_slab s contents) key ≡ Some (filled (get_or contents key nothing) label)
   read-filled label at = read-at filled nothing s contents key label at
 
-  -- a label written
-  pub label-set : (label : Label) → filled_slab (record s { slots = set s.slots key (Some label) }) contents ≡ record (filled_slab s contents) { slots = set (filled_slab s contents).slots key (Some (filled (get_or contents key nothing) label)) }
-  label-set label = ap (λ slots. record (filled_slab s contents) { slots = slots }) (paired-set filled nothing s.slots contents key (Some label))
-
   -- a content written
   pub content-set : (label : Label) (content : Content) → key < length contents → get s key ≡ Some label →
       filled_slab s (set contents key content) ≡ record (filled_slab s contents) { slots = set (filled_slab s contents).slots key (Some (filled content label)) }

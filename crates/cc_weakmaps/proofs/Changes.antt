@@ -36,14 +36,6 @@ module _ (es : List KeyedEntry) (links : List Links) (kept : List (Option ℕ)) 
 
 -- Other last places that say the same
 
-pub kept-same : (es : List KeyedEntry) (links : List Links) (kept left : List (Option ℕ)) → ((k : ℕ) → last_kept left k ≡ last_kept kept k) → IsKept es links kept → IsKept es links left
-kept-same es links kept left same h = record {
-  at_most_one = h.at_most_one;
-  few = h.few;
-  as_many = h.as_many;
-  indexed = indexed-alike es es links links kept left (length es) (omega arith) (omega arith) (λ j d l. (refl, refl)) (λ j d l. refl) same h.indexed;
-}
-
 -- A value is replaced
 
 pub kept-set : (es : List KeyedEntry) (links : List Links) (kept : List (Option ℕ)) (m k v place : ℕ) → StandsAt es m k place → IsKept es links kept → IsKept (set es place (entry m k v)) links kept

@@ -1,5 +1,5 @@
 -- THE INDEX, as entries are put in it and taken out, one at a time.
-use Rattle.std.proofs.Common.{◌≡◌, ℕ, ◌+◌, ◌<◌, ◌≤◌, ◌==◌, suc, Bool, true, false, ◌||◌, cond, List, [], length, get_or, Option, Some, refl, sym, ◌∙◌, ap, subst, arith, ⊎_elim, option_map, if◌then◌else◌, add-one}
+use Rattle.std.proofs.Common.{◌≡◌, ℕ, ◌+◌, ◌<◌, ◌≤◌, ◌==◌, suc, Bool, true, false, ◌||◌, cond, List, length, get_or, Option, Some, refl, sym, ◌∙◌, ap, subst, arith, ⊎_elim, option_map, if◌then◌else◌, add-one}
 use Rattle.std.specs.Prelude.{slice_get}
 use Rattle.std.proofs.Math.ListN.{set}
 use Rattle.std.proofs.lemmas.Bool.{eqb-true, eq-eqb}
@@ -13,10 +13,6 @@ use Rattle.cc_weakmaps.specs.Index.{has_object, last_kept, place_below, AreKnown
 use Rattle.cc_weakmaps.specs.declared.links.Links.{Links}
 use Rattle.cc_weakmaps.proofs.Kept.{known-last}
 use Rattle.cc_weakmaps.proofs.Below.{below-step, below-alike, below-some}
-
--- no entry
-pub indexed-none : (es : List KeyedEntry) (links : List Links) → IsIndexed es links [] 0
-indexed-none es links = record { last = λ k. refl; by_map = λ i e d l. absurd (omega (arith, l)); by_key = λ i e d l. absurd (omega (arith, l)) }
 
 -- the map and the key of an entry of the index are known
 pub indexed-known : (es : List KeyedEntry) (links : List Links) (kept : List (Option ℕ)) → IsIndexed es links kept (length es) → AreKnown es kept
@@ -122,10 +118,6 @@ pub known-at : (es : List KeyedEntry) (kept : List (Option ℕ)) (i m k : ℕ) (
 known-at es kept i m k e h within map key =
     let both = h (get_or es i e) (Among-contains (get_or es i e) es (Contains-get_or es i e within)) in
     (omega (arith, map, both.0), omega (arith, key, both.1))
-
--- those that are known stay so
-pub known-still : (es : List KeyedEntry) (kept left : List (Option ℕ)) → AreKnown es kept → length kept ≤ length left → AreKnown es left
-known-still es kept left h room e m = let both = h e m in (omega (arith, both.0, room), omega (arith, both.1, room))
 
 module _ (es : List KeyedEntry) (links : List Links) (kept between left : List (Option ℕ)) (i m k : ℕ) (e : KeyedEntry) (within : i < length es)
     (map : m ≡ (get_or es i e).the_map) (key : k ≡ (get_or es i e).key) where

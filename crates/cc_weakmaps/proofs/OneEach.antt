@@ -1,9 +1,8 @@
 -- AT MOST ONE ENTRY for each map and key, as entries are set and taken out.
 use Rattle.std.proofs.Common.{◌≡◌, ℕ, ◌+◌, ◌≤◌, ◌==◌, zero, suc, Bool, true, false, cond, List, [], ◌∷◌, refl, sym, ◌∙◌, ap, subst, arith, count_by}
-use Rattle.std.specs.List.{filter, items_where_true, remove}
+use Rattle.std.specs.List.{items_where_true, remove}
 use Rattle.std.proofs.lemmas.Bool.{and_parts, eqb-true}
 use Rattle.cc_lists.proofs.Counting.{count_by-cons}
-use Rattle.cc_lists.proofs.Filtering.{count_by-filter-le}
 use Rattle.cc_weakmaps.specs.Entries.{KeyedEntry, HasOneEach, entry, is_entry_of, with_entry}
 
 -- the entry of a map and a key has these
@@ -53,11 +52,6 @@ HasOneEach-set es m k v h = record { at_most = λ n j. go n j (is_entry_of n j (
     go n j false other = subst (λ c. c ≤ 1) (sym (set-other n j m k v other es)) (h.at_most n j)
 
 -- A part of the entries
-
-pub HasOneEach-filter : (test : KeyedEntry → Bool) (es : List KeyedEntry) → HasOneEach es → HasOneEach (filter test es)
-HasOneEach-filter test es h = record {
-  at_most = λ n j. let part : count_by (is_entry_of n j) (filter test es) ≤ count_by (is_entry_of n j) es = count_by-filter-le (is_entry_of n j) test es in omega (arith, part, h.at_most n j);
-}
 
 count_by-where_true : {X : Type 0} (p : X → Bool) (bs : List Bool) (xs : List X) → count_by p (items_where_true bs xs) ≤ count_by p xs
 count_by-where_true p [] xs = omega arith
