@@ -1,27 +1,12 @@
 //! What the tests of this crate share: what a replay of a script writes.
 
 use cc_names::Limits;
-use cc_outside::{BytesSink, BytesSource, Sink, Source};
-use cc_replay::{Status, replay, run};
+use cc_outside::{BytesSink, Sink, Source, SureSource};
+use cc_replay::{Status, replay};
 use std::alloc::Global;
 use std::process::Abort;
 
-/// A source of bytes that never fails.
-pub fn source_of(alloc: Global, bytes: Vec<u8>) -> BytesSource {
-    BytesSource::new(bytes, Vec::new(alloc), usize::MAX)
-}
-
-/// The status of `run`. Nothing is known of it in a proof: what is written is looked at.
-pub fn status_of_run<'a, S: Source, K: Sink>(
-    alloc: Global,
-    words: &'a [&'a str],
-    source: &mut S,
-    sink: &mut K,
-) -> Status {
-    run(alloc, words, source, sink)
-}
-
-/// The status of `replay`, of which nothing is known either.
+/// The status of `replay`. Nothing is known of it in a proof: what is written is looked at.
 fn status_of_replay<S: Source, K: Sink>(
     alloc: Global,
     limits: Limits,
@@ -60,7 +45,7 @@ impl Example {
         let Ok(mut sink) = BytesSink::new(rt.alloc(), room, Vec::new(rt.alloc())) else {
             panic!(rt; "no memory");
         };
-        let mut source = source_of(rt.alloc(), input);
+        let mut source = SureSource::new(input);
         let status = status_of_replay(rt.alloc(), limits, &mut source, &mut sink);
         assert_eq!(rt; sink.written(), self.output, "at {}", self.name);
         assert_eq!(rt; status, self.status, "at {}", self.name);

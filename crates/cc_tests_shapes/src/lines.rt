@@ -1,6 +1,7 @@
 //! Lines that are about as long as a line may be, which has at most 120 bytes before its line feed.
 
-use crate::text::{each, once, plays};
+use crate::text::Part::{Each, Once};
+use crate::text::plays;
 
 /// A first byte, how many bytes `a` come behind it, what comes then, and the answer.
 const LINES: [(&str, u32, &str, &str); 7] = [
@@ -16,7 +17,7 @@ const LINES: [(&str, u32, &str, &str); 7] = [
 #[test]
 fn a_line_of_more_than_120_bytes_is_told(rt: HostRuntime) {
     for (first, more, end, answer) in LINES.iter() {
-        let script = [once(*first), each(1, *more, "a"), once(*end)];
-        plays(&rt, &script, &[once(*answer)]);
+        let script = [Once(*first), Each(1, *more, "a"), Once(*end)];
+        plays(&rt, &script, &[Once(*answer)]);
     }
 }

@@ -1,6 +1,7 @@
 //! Summaries of made scripts.
 
-use crate::text::{answers, once};
+use crate::text::Part::Once;
+use crate::text::answers;
 use cc_names::NoMemory;
 use cc_outside::{BytesSink, Sink};
 use cc_replay::{Status, make};
@@ -48,8 +49,8 @@ const SUMMARIES: [(&[&str], &str); 7] = [
 #[test]
 fn made_scripts_are_summed_up(rt: HostRuntime) {
     for (words, summary) in SUMMARIES.iter() {
-        let wanted = [once(*summary)];
-        let reads = answers(&rt, *words, &[once("census\n")], &wanted, Status::Done);
+        let wanted = [Once(*summary)];
+        let reads = answers(&rt, *words, &[Once("census\n")], &wanted, Status::Done);
         assert_eq!(rt; reads, 0, "at {words:?}");
     }
 }
@@ -66,7 +67,7 @@ const FAULTY: [&[&str]; 5] = [
 #[test]
 fn words_of_make_are_taken_or_nothing_is_written(rt: HostRuntime) {
     for words in FAULTY.iter() {
-        let reads = answers(&rt, *words, &[once("census\n")], &[], Status::Usage);
+        let reads = answers(&rt, *words, &[Once("census\n")], &[], Status::Usage);
         assert_eq!(rt; reads, 0, "at {words:?}");
     }
 }

@@ -2,8 +2,8 @@
 
 ghost use Rattle.std.specs.Prelude.{◌≤◌, None};
 
-use crate::script::{source_of, status_of_run};
-use cc_outside::{Failed, Sink, WriteCounts};
+use crate::runs::status_of_run;
+use cc_outside::{Failed, Sink, SureSource, WriteCounts};
 use cc_replay::Status;
 use std::process::Abort;
 
@@ -43,7 +43,7 @@ fn hands_on(rt: &(impl Abort + AllocGlobal), most: usize, wanted: &[u8])
     let Ok(lines) = LINES.to_vec(rt.alloc()) else {
         panic!(rt; "no memory");
     };
-    let mut source = source_of(rt.alloc(), lines);
+    let mut source = SureSource::new(lines);
     let mut sink = Pieces {
         most,
         handed: Vec::new(rt.alloc()),

@@ -1,6 +1,6 @@
 //! Faults of reading and writing, and the limit on bytes: one table of what `run` makes of them.
 
-use crate::script::status_of_run;
+use crate::runs::status_of_run;
 use cc_names::NoMemory;
 use cc_outside::{BytesSink, BytesSource};
 use cc_replay::Status;
