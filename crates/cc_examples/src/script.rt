@@ -38,14 +38,9 @@ impl Example {
             self.scripts.min(Limits::MOST),
             self.bytes,
         );
-        let Ok(input) = self.input.to_vec(rt.alloc()) else {
-            panic!(rt; "no memory");
-        };
+        let mut source = SureSource::new(self.input.to_vec(rt.alloc()).expect(rt, "memory"));
         let room = self.output.len().saturating_add(4096);
-        let Ok(mut sink) = BytesSink::new(rt.alloc(), room, Vec::new(rt.alloc())) else {
-            panic!(rt; "no memory");
-        };
-        let mut source = SureSource::new(input);
+        let mut sink = BytesSink::new(rt.alloc(), room, Vec::new(rt.alloc())).expect(rt, "memory");
         let status = status_of_replay(rt.alloc(), limits, &mut source, &mut sink);
         assert_eq!(rt; sink.written(), self.output, "at {}", self.name);
         assert_eq!(rt; status, self.status, "at {}", self.name);

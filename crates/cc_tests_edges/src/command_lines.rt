@@ -71,15 +71,10 @@ const INPUT: &[u8] = b"native n0 0\nnative n1 0\nscript s0 0\n\n";
 fn answers(rt: &(impl Abort + AllocGlobal), line: &str, status: Status, written: &[u8]) {
     let mut words = Vec::new(rt.alloc());
     for word in line.split(' ') {
-        assert!(rt; words.push(word).is_ok());
+        words.push(word).expect(rt, "memory");
     }
-    let Ok(input) = INPUT.to_vec(rt.alloc()) else {
-        panic!(rt; "no memory");
-    };
-    let Ok(mut sink) = BytesSink::new(rt.alloc(), 300, Vec::new(rt.alloc())) else {
-        panic!(rt; "no memory");
-    };
-    let mut source = SureSource::new(input);
+    let mut source = SureSource::new(INPUT.to_vec(rt.alloc()).expect(rt, "memory"));
+    let mut sink = BytesSink::new(rt.alloc(), 300, Vec::new(rt.alloc())).expect(rt, "memory");
     let ended = status_of_run(rt.alloc(), words.as_slice(), &mut source, &mut sink);
     assert_eq!(rt; ended, status, "at {line}");
     assert!(rt; sink.written().starts_with(written), "at {line}");

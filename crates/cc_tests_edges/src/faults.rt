@@ -1,10 +1,8 @@
 //! Faults of reading and writing, and the limit on bytes: one table of what `run` makes of them.
 
 use crate::runs::status_of_run;
-use cc_names::NoMemory;
 use cc_outside::{BytesSink, BytesSource};
 use cc_replay::Status;
-use std::alloc::{AllocError, Global};
 use std::process::Abort;
 
 /// What `run` makes of an input.
@@ -155,26 +153,22 @@ const LIMITS: [Case; 3] = [
 ];
 
 /// The source of a case, of which the read of this number fails.
-fn source_of(alloc: Global, case: &Case, read: u64) -> Result<BytesSource, AllocError> {
-    let fails = [read].to_vec(alloc)?;
-    let input = case.input.to_vec(alloc)?;
-    Ok(BytesSource::new(input, fails, case.gives.max(1)))
+fn source_of(rt: &(impl Abort + AllocGlobal), case: &Case, read: u64) -> BytesSource {
+    let input = case.input.to_vec(rt.alloc()).expect(rt, "memory");
+    let fails = [read].to_vec(rt.alloc()).expect(rt, "memory");
+    BytesSource::new(input, fails, case.gives.max(1))
 }
 
 /// The sink of a case.
-fn sink_of(alloc: Global, case: &Case) -> Result<BytesSink, NoMemory> {
-    let fails = [case.write].to_vec(alloc)?;
-    BytesSink::with_most(alloc, 4096, fails, case.takes.max(1))
+fn sink_of(rt: &(impl Abort + AllocGlobal), case: &Case) -> BytesSink {
+    let fails = [case.write].to_vec(rt.alloc()).expect(rt, "memory");
+    BytesSink::with_most(rt.alloc(), 4096, fails, case.takes.max(1)).expect(rt, "memory")
 }
 
 /// One run, in which the read of this number fails.
 fn runs_with(rt: &(impl Abort + AllocGlobal), case: &Case, read: u64) {
-    let Ok(mut source) = source_of(rt.alloc(), case, read) else {
-        panic!(rt; "no memory");
-    };
-    let Ok(mut sink) = sink_of(rt.alloc(), case) else {
-        panic!(rt; "no memory");
-    };
+    let mut source = source_of(rt, case, read);
+    let mut sink = sink_of(rt, case);
     let status = status_of_run(rt.alloc(), case.words, &mut source, &mut sink);
     assert_eq!(rt; sink.written(), case.written);
     assert_eq!(rt; status, case.status);

@@ -40,10 +40,7 @@ const LINES: &[u8] = b"native n0 1\nnative n1 0\nset n0 0 n1\ndrop n1\ndrop n0\n
 fn hands_on(rt: &(impl Abort + AllocGlobal), most: usize, wanted: &[u8])
     requires { 1 ≤ most }
 {
-    let Ok(lines) = LINES.to_vec(rt.alloc()) else {
-        panic!(rt; "no memory");
-    };
-    let mut source = SureSource::new(lines);
+    let mut source = SureSource::new(LINES.to_vec(rt.alloc()).expect(rt, "memory"));
     let mut sink = Pieces {
         most,
         handed: Vec::new(rt.alloc()),

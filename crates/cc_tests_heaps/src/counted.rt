@@ -3,7 +3,6 @@
 use cc_counted::{Counted, Held, native_held};
 use cc_model::Notebook;
 use cc_names::{NKey, NativeNo, SKey};
-use std::test::Fail;
 
 #[test]
 fn native_is_made_and_freed(rt: HostRuntime) {
@@ -39,10 +38,9 @@ fn native_is_rooted_and_unrooted(rt: HostRuntime) {
 }
 
 #[test]
-fn what_is_held_is_printed(rt: HostRuntime) -> Result<(), Fail> {
+fn what_is_held_is_printed(rt: HostRuntime) {
     let native = Held::of_native(Some(NKey(3)));
     assert_eq!(rt; native_held(native), Some(NKey(3)));
-    let text = format!(in rt.alloc(); "{:?} {:?}", native, Held::Script(SKey(4)))?;
+    let text = format!(in rt.alloc(); "{:?} {:?}", native, Held::Script(SKey(4))).expect(&rt, "memory");
     assert_eq!(rt; text.as_str(), "Some(Native(NKey(3))) Script(SKey(4))");
-    Ok(())
 }

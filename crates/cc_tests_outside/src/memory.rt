@@ -4,54 +4,48 @@ use crate::calls::{gives, takes};
 use cc_outside::{
     BytesSink, BytesSource, CountSink, Failed, ReadCounts, SureSource, WriteCounts,
 };
-use std::test::Fail;
 
 #[test]
-fn an_error_has_its_texts(rt: HostRuntime) -> Result<(), Fail> {
-    let text = format!(in rt.alloc(); "{} {:?}", Failed, Failed)?;
+fn an_error_has_its_texts(rt: HostRuntime) {
+    let text = format!(in rt.alloc(); "{} {:?}", Failed, Failed).expect(&rt, "memory");
     assert_eq!(rt; text.as_str(), "a read or a write failed Failed");
-    Ok(())
 }
 
 #[test]
-fn a_source_in_memory_gives_its_bytes(rt: HostRuntime) -> Result<(), Fail> {
-    let bytes = b"hello".to_vec(rt.alloc())?;
+fn a_source_in_memory_gives_its_bytes(rt: HostRuntime) {
+    let bytes = b"hello".to_vec(rt.alloc()).expect(&rt, "memory");
     let mut source = BytesSource::new(bytes, Vec::new(rt.alloc()), 4);
     assert_eq!(rt; gives(&mut source, &mut [0; 9]), Ok(4));
     assert_eq!(rt; source.left(), b"o".as_slice());
     assert_eq!(rt; source.answered(), 1);
     assert_eq!(rt; source.ended(), 0);
-    Ok(())
 }
 
 #[test]
-fn a_source_in_memory_fails(rt: HostRuntime) -> Result<(), Fail> {
-    let fails = [1].to_vec(rt.alloc())?;
+fn a_source_in_memory_fails(rt: HostRuntime) {
+    let fails = [1u64].to_vec(rt.alloc()).expect(&rt, "memory");
     let mut source = BytesSource::new(Vec::new(rt.alloc()), fails, 4);
     assert!(rt; gives(&mut source, &mut [0; 9]).is_err());
     assert_eq!(rt; source.faults(), 1);
-    Ok(())
 }
 
 #[test]
-fn a_sure_source_gives_its_bytes(rt: HostRuntime) -> Result<(), Fail> {
-    let mut source = SureSource::new(b"hi".to_vec(rt.alloc())?);
+fn a_sure_source_gives_its_bytes(rt: HostRuntime) {
+    let mut source = SureSource::new(b"hi".to_vec(rt.alloc()).expect(&rt, "memory"));
     assert_eq!(rt; gives(&mut source, &mut [0; 1]), Ok(1));
     assert_eq!(rt; source.left(), b"i".as_slice());
-    Ok(())
 }
 
 #[test]
-fn sinks_in_memory_take_bytes(rt: HostRuntime) -> Result<(), Fail> {
-    let fails = [2].to_vec(rt.alloc())?;
-    let mut sink = BytesSink::with_most(rt.alloc(), 5, fails, 3)?;
+fn sinks_in_memory_take_bytes(rt: HostRuntime) {
+    let fails = [2u64].to_vec(rt.alloc()).expect(&rt, "memory");
+    let mut sink = BytesSink::with_most(rt.alloc(), 5, fails, 3).expect(&rt, "memory");
     assert_eq!(rt; takes(&mut sink, b"hello"), Ok(3));
     assert_eq!(rt; takes(&mut sink, b"lo"), Err(Failed));
     assert_eq!(rt; sink.last_failed(), true);
     assert_eq!(rt; takes(&mut sink, b"lo"), Ok(2));
     assert_eq!(rt; sink.written(), b"hello".as_slice());
     assert_eq!(rt; (sink.faults(), sink.answered()), (1, 2));
-    Ok(())
 }
 
 #[test]
