@@ -33,5 +33,5 @@ fn collects_twice(alloc: Global, out: &mut Notebook) -> bool {
 fn what_nothing_holds_is_freed_once(rt: HostRuntime) {
     let mut out = Notebook::new(rt.alloc());
     assert!(rt; collects_twice(rt.alloc(), &mut out));
-    assert_eq!(rt; out.text(), b"- free @1\n".as_slice());
+    assert!(rt; out.text() == b"- free @1\n".as_slice());
 }

@@ -9,10 +9,10 @@ use std::io::{self, ErrorKind, Read, Write};
 fn standard_input_and_output_answer(rt: HostRuntime) {
     let mut source = StdSource::new(rt.stdin());
     let failed = gives(&mut source, &mut [0; 4]).is_err();
-    assert_eq!(rt; source.faults(), u64::from(failed));
+    assert!(rt; source.faults() == u64::from(failed));
     let mut sink = StdSink::new(rt.stdout());
     let failed = takes(&mut sink, b"a line of cc_outside\n").is_err();
-    assert_eq!(rt; sink.faults(), u64::from(failed));
+    assert!(rt; sink.faults() == u64::from(failed));
 }
 
 /// A reader that is at its end or fails, each time that it is called, and counts how often that is.
@@ -38,8 +38,8 @@ fn the_end_is_asked_for_once(rt: HostRuntime) {
         fails: false,
         calls: 0,
     };
-    assert_eq!(rt; gives(&mut StdSource::new(&mut reader), &mut [0; 4]), Ok(0));
-    assert_eq!(rt; reader.calls, 1);
+    assert!(rt; gives(&mut StdSource::new(&mut reader), &mut [0; 4]) == Ok(0));
+    assert!(rt; reader.calls == 1);
 }
 
 #[test]
@@ -48,8 +48,8 @@ fn a_read_that_fails_is_made_once(rt: HostRuntime) {
         fails: true,
         calls: 0,
     };
-    assert_eq!(rt; gives(&mut StdSource::new(&mut reader), &mut [0; 4]), Err(Failed));
-    assert_eq!(rt; reader.calls, 1);
+    assert!(rt; gives(&mut StdSource::new(&mut reader), &mut [0; 4]) == Err(Failed));
+    assert!(rt; reader.calls == 1);
 }
 
 /// A writer that keeps what it takes, at most three bytes at a time, and how much that was at each flush; it fails to
@@ -92,16 +92,16 @@ impl Keeper {
 fn each_piece_is_written_once_and_flushed(rt: HostRuntime) {
     let mut keeper = Keeper::new(rt.alloc(), false);
     let mut sink = StdSink::new(&mut keeper);
-    assert_eq!(rt; takes(&mut sink, b"hello"), Ok(3));
-    assert_eq!(rt; takes(&mut sink, b""), Ok(0));
-    assert_eq!(rt; keeper.kept.as_slice(), b"hel".as_slice());
-    assert_eq!(rt; keeper.flushed.as_slice(), [3, 3].as_slice());
+    assert!(rt; takes(&mut sink, b"hello") == Ok(3));
+    assert!(rt; takes(&mut sink, b"") == Ok(0));
+    assert!(rt; keeper.kept.as_slice() == b"hel".as_slice());
+    assert!(rt; keeper.flushed.as_slice() == [3, 3].as_slice());
 }
 
 #[test]
 fn a_piece_that_is_not_flushed_is_written_once(rt: HostRuntime) {
     let mut keeper = Keeper::new(rt.alloc(), true);
-    assert_eq!(rt; takes(&mut StdSink::new(&mut keeper), b"hello"), Err(Failed));
-    assert_eq!(rt; keeper.kept.as_slice(), b"hel".as_slice());
-    assert_eq!(rt; keeper.flushed.as_slice(), [3].as_slice());
+    assert!(rt; takes(&mut StdSink::new(&mut keeper), b"hello") == Err(Failed));
+    assert!(rt; keeper.kept.as_slice() == b"hel".as_slice());
+    assert!(rt; keeper.flushed.as_slice() == [3].as_slice());
 }
