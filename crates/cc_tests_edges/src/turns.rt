@@ -80,7 +80,7 @@ fn each_line_is_answered_before_the_next_read(rt: HostRuntime) {
         log: &log,
     };
     let status = status_of_run(rt.alloc(), &["ccreplay", "replay"], &mut source, &mut sink);
-    assert_eq!(rt; status, Status::Done);
+    assert!(rt; status == Status::Done);
     // The drop frees, which is told by a line of its own; the note is not answered; the last read says the end.
-    assert_eq!(rt; log.get(), 12_122_1121);
+    assert!(rt; log.get() == 12_122_1121);
 }

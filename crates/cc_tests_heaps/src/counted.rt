@@ -41,6 +41,8 @@ fn native_is_rooted_and_unrooted(rt: HostRuntime) {
 fn what_is_held_is_printed(rt: HostRuntime) {
     let native = Held::of_native(Some(NKey(3)));
     assert!(rt; native_held(native) == Some(NKey(3)));
-    let text = format!(in rt.alloc(); "{:?} {:?}", native, Held::Script(SKey(4))).expect(&rt, "memory");
+    let text = format!(in rt.alloc(); "{:?} {:?}", native, Held::Script(SKey(4))).expect(
+        &rt, "memory",
+    );
     assert!(rt; text.as_str() == "Some(Native(NKey(3))) Script(SKey(4))");
 }

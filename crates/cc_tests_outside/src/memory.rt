@@ -1,9 +1,7 @@
 //! Sources and sinks in memory, each call once, and the texts of an error, of which no clause speaks.
 
 use crate::calls::{gives, takes};
-use cc_outside::{
-    BytesSink, BytesSource, CountSink, Failed, ReadCounts, SureSource, WriteCounts,
-};
+use cc_outside::{BytesSink, BytesSource, CountSink, Failed, ReadCounts, SureSource, WriteCounts};
 
 #[test]
 fn an_error_has_its_texts(rt: HostRuntime) {

@@ -50,7 +50,7 @@ fn made_scripts_are_summed_up(rt: HostRuntime) {
     for (words, summary) in SUMMARIES.iter() {
         let wanted = [Once(*summary)];
         let reads = answers(&rt, *words, &[Once("census\n")], &wanted, Status::Done);
-        assert_eq!(rt; reads, 0, "at {words:?}");
+        assert!(rt; reads == 0, "at {words:?}");
     }
 }
 
@@ -67,7 +67,7 @@ const FAULTY: [&[&str]; 5] = [
 fn words_of_make_are_taken_or_nothing_is_written(rt: HostRuntime) {
     for words in FAULTY.iter() {
         let reads = answers(&rt, *words, &[Once("census\n")], &[], Status::Usage);
-        assert_eq!(rt; reads, 0, "at {words:?}");
+        assert!(rt; reads == 0, "at {words:?}");
     }
 }
 
@@ -83,8 +83,8 @@ fn a_summary_stops_where_a_write_fails(rt: HostRuntime) {
         let fails = [place as u64 + 1].to_vec(rt.alloc()).expect(&rt, "memory");
         let mut sink = BytesSink::new(rt.alloc(), 300, fails).expect(&rt, "memory");
         let status = status_of_make(rt.alloc(), &mut sink);
-        assert_eq!(rt; status, Status::WriteFault, "at {place}");
-        assert_eq!(rt; sink.written(), *written, "at {place}");
-        assert_eq!(rt; sink.faults(), 1, "at {place}");
+        assert!(rt; status == Status::WriteFault, "{status:?} at {place}");
+        assert!(rt; sink.written() == *written, "at {place}");
+        assert!(rt; sink.faults() == 1, "at {place}");
     }
 }

@@ -248,12 +248,11 @@ pub fn answers<'a>(
         "after {} bytes, at {words:?}",
         sink.compared.right
     );
-    assert_eq!(rt;
-        sink.compared.text.next(),
-        None,
+    assert!(rt;
+        sink.compared.text.next().is_none(),
         "more is wanted at {words:?}"
     );
-    assert_eq!(rt; ended, status, "at {words:?}");
+    assert!(rt; ended == status, "{ended:?} at {words:?}");
     source.reads.answered()
 }
 

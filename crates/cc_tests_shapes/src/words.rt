@@ -43,6 +43,6 @@ fn words_are_taken_or_nothing_is_read(rt: HostRuntime) {
             &[Once(*written)],
             *status,
         );
-        assert_eq!(rt; reads > 0, *status == Status::Done, "at {words:?}");
+        assert!(rt; (reads > 0) == (*status == Status::Done), "at {words:?}");
     }
 }
