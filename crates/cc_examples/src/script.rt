@@ -1,38 +1,12 @@
-//! What the tests of this crate share: scripts, and what a replay of one writes.
+//! What the tests of this crate share: what a replay of a script writes.
 
 use cc_names::Limits;
-use cc_outside::{BytesSink, BytesSource, Sink, Source};
-use cc_replay::{Status, replay, run};
-use std::alloc::{AllocError, Global};
+use cc_outside::{BytesSink, Sink, Source, SureSource};
+use cc_replay::{Status, replay};
+use std::alloc::Global;
 use std::process::Abort;
-use std::test::Fail;
 
-/// The bytes of a script that is written in one line, its commands parted by ` / `. Each becomes a line.
-pub fn script(alloc: Global, text: &str) -> Result<Vec<u8>, AllocError> {
-    let mut bytes = Vec::new(alloc);
-    for line in text.split(" / ") {
-        bytes.extend_from_slice(line.as_bytes())?;
-        bytes.push(b'\n')?;
-    }
-    Ok(bytes)
-}
-
-/// A source of bytes that never fails.
-pub fn source_of(alloc: Global, bytes: Vec<u8>) -> BytesSource {
-    BytesSource::new(bytes, Vec::new(alloc), usize::MAX)
-}
-
-/// The status of `run`. Nothing is known of it in a proof: what is written is looked at.
-pub fn status_of_run<'a, S: Source, K: Sink>(
-    alloc: Global,
-    words: &'a [&'a str],
-    source: &mut S,
-    sink: &mut K,
-) -> Status {
-    run(alloc, words, source, sink)
-}
-
-/// The status of `replay`, of which nothing is known either.
+/// The status of `replay`. Nothing is known of it in a proof: what is written is looked at.
 fn status_of_replay<S: Source, K: Sink>(
     alloc: Global,
     limits: Limits,
@@ -58,19 +32,24 @@ pub struct Example {
 
 impl Example {
     /// Replays the script within the limits, with ample room to write, and looks at what is written and at the status.
-    pub fn is_answered(&self, rt: &(impl Abort + AllocGlobal)) -> Result<(), Fail> {
+    fn is_answered(&self, rt: &(impl Abort + AllocGlobal)) {
         let limits = Limits::new(
             self.natives.min(Limits::MOST),
             self.scripts.min(Limits::MOST),
             self.bytes,
         );
-        let input = self.input.to_vec(rt.alloc())?;
+        let mut source = SureSource::new(self.input.to_vec(rt.alloc()).expect(rt, "memory"));
         let room = self.output.len().saturating_add(4096);
-        let mut sink = BytesSink::new(rt.alloc(), room, Vec::new(rt.alloc()))?;
-        let mut source = source_of(rt.alloc(), input);
+        let mut sink = BytesSink::new(rt.alloc(), room, Vec::new(rt.alloc())).expect(rt, "memory");
         let status = status_of_replay(rt.alloc(), limits, &mut source, &mut sink);
         assert_eq!(rt; sink.written(), self.output, "at {}", self.name);
         assert_eq!(rt; status, self.status, "at {}", self.name);
-        Ok(())
+    }
+}
+
+/// Replays each script, and looks at what it makes the program write.
+pub fn are_answered(rt: &(impl Abort + AllocGlobal), examples: &[Example]) {
+    for example in examples {
+        example.is_answered(rt);
     }
 }

@@ -1,9 +1,9 @@
 //! Command lines that are taken, that are not, and what their options change.
 
+use crate::runs::status_of_run;
 use cc_outside::{BytesSink, SureSource};
-use cc_replay::{Status, run};
+use cc_replay::Status;
 use std::process::Abort;
-use std::test::Fail;
 
 /// Lines whose words, parted by one blank each, are taken.
 const TAKEN: [&str; 10] = [
@@ -68,47 +68,35 @@ const NARROW: [&str; 4] = [
 const INPUT: &[u8] = b"native n0 0\nnative n1 0\nscript s0 0\n\n";
 
 /// Runs the words of a line on the input, and looks at the status and at what is written.
-fn answers(
-    rt: &(impl Abort + AllocGlobal),
-    line: &str,
-    status: Status,
-    written: &[u8],
-) -> Result<(), Fail> {
+fn answers(rt: &(impl Abort + AllocGlobal), line: &str, status: Status, written: &[u8]) {
     let mut words = Vec::new(rt.alloc());
     for word in line.split(' ') {
-        words.push(word)?;
+        words.push(word).expect(rt, "memory");
     }
-    let mut source = SureSource::new(INPUT.to_vec(rt.alloc())?);
-    let mut sink = BytesSink::new(rt.alloc(), 300, Vec::new(rt.alloc()))?;
-    assert_eq!(rt;
-        run(rt.alloc(), words.as_slice(), &mut source, &mut sink),
-        status,
-        "at {line}"
-    );
+    let mut source = SureSource::new(INPUT.to_vec(rt.alloc()).expect(rt, "memory"));
+    let mut sink = BytesSink::new(rt.alloc(), 300, Vec::new(rt.alloc())).expect(rt, "memory");
+    let ended = status_of_run(rt.alloc(), words.as_slice(), &mut source, &mut sink);
+    assert_eq!(rt; ended, status, "at {line}");
     assert!(rt; sink.written().starts_with(written), "at {line}");
-    Ok(())
 }
 
 #[test]
-fn words_are_taken(rt: HostRuntime) -> Result<(), Fail> {
+fn words_are_taken(rt: HostRuntime) {
     for line in TAKEN.iter() {
-        answers(&rt, line, Status::Done, b"")?;
+        answers(&rt, line, Status::Done, b"");
     }
-    Ok(())
 }
 
 #[test]
-fn words_are_not_taken(rt: HostRuntime) -> Result<(), Fail> {
+fn words_are_not_taken(rt: HostRuntime) {
     for line in NOT_TAKEN.iter() {
-        answers(&rt, line, Status::Usage, b"")?;
+        answers(&rt, line, Status::Usage, b"");
     }
-    Ok(())
 }
 
 #[test]
-fn options_narrow_a_run(rt: HostRuntime) -> Result<(), Fail> {
+fn options_narrow_a_run(rt: HostRuntime) {
     for line in NARROW.iter() {
-        answers(&rt, line, Status::Limit, b"= #1\n! full\n! full\n")?;
+        answers(&rt, line, Status::Limit, b"= #1\n! full\n! full\n");
     }
-    Ok(())
 }

@@ -6,7 +6,7 @@ use cc_gc::collect_scripts;
 use cc_heaps::Heaps;
 use cc_model::Notebook;
 use cc_names::Limits;
-use std::test::Fail;
+use std::alloc::Global;
 
 // A plain object is made that nothing holds, and one that register s1 holds.
 fn make_objects(heaps: &mut Heaps)
@@ -18,16 +18,20 @@ fn make_objects(heaps: &mut Heaps)
     heaps.set_script_reg(0, None);
 }
 
+// Two script collections after that. Whether there was memory.
+fn collects_twice(alloc: Global, out: &mut Notebook) -> bool {
+    let Ok(mut heaps) = Heaps::new(alloc, Limits::new(0, 2, 0)) else {
+        return false;
+    };
+    make_objects(&mut heaps);
+    collect_scripts(&mut heaps, out);
+    collect_scripts(&mut heaps, out);
+    true
+}
+
 #[test]
-fn what_nothing_holds_is_freed_once(rt: HostRuntime) -> Result<(), Fail> {
+fn what_nothing_holds_is_freed_once(rt: HostRuntime) {
     let mut out = Notebook::new(rt.alloc());
-    let made = Heaps::new(rt.alloc(), Limits::new(0, 2, 0));
-    assert!(rt; made.is_ok());
-    if let Ok(mut heaps) = made {
-        make_objects(&mut heaps);
-        collect_scripts(&mut heaps, &mut out);
-        collect_scripts(&mut heaps, &mut out);
-    }
-    assert_eq!(rt; out.text(), b"- free @1\n".as_slice());
-    Ok(())
+    assert!(rt; collects_twice(rt.alloc(), &mut out));
+    assert!(rt; out.text() == b"- free @1\n".as_slice());
 }

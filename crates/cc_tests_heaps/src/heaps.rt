@@ -10,7 +10,7 @@ use cc_counted::Held;
 use cc_heaps::Heaps;
 use cc_model::Notebook;
 use cc_names::{Colour, Kind, Limits, NKey, SKey};
-use std::test::Fail;
+use std::alloc::Global;
 
 // Native register 0 holds a native, script register 0 a plain object and script register 1 a weak map, each of which is made.
 // Whether there was memory.
@@ -21,7 +21,7 @@ fn make_each(heaps: &mut Heaps, out: &mut Notebook) -> bool
     let native = heaps.new_native(0, 1, out);
     let plain = heaps.new_plain(0, 1);
     let map = heaps.new_map(1);
-    native.is_ok() && plain.is_ok() && map.is_ok()
+    native.is_ok() & plain.is_ok() & map.is_ok()
 }
 
 // What script register 1 holds, as long as that is a weak map.
@@ -82,21 +82,24 @@ fn hold_map(heaps: &mut Heaps)
     }
 }
 
+// Objects are made, written, entered and listed. Whether there was memory, and each call answers what it should.
+fn makes_and_lists(alloc: Global, out: &mut Notebook) -> bool {
+    let Ok(mut heaps) = Heaps::new(alloc, Limits::new(1, 2, 0)) else {
+        return false;
+    };
+    let made = make_each(&mut heaps, out);
+    hold_map(&mut heaps);
+    let entered = enter(&mut heaps);
+    take_out(&mut heaps);
+    let count = heaps.census(out);
+    made & entered & (count == 3) & heaps.weak().is_empty()
+}
+
 #[test]
-fn objects_are_made_written_entered_and_listed(rt: HostRuntime) -> Result<(), Fail> {
+fn objects_are_made_written_entered_and_listed(rt: HostRuntime) {
     let mut out = Notebook::new(rt.alloc());
-    let mut done = false;
-    if let Ok(mut heaps) = Heaps::new(rt.alloc(), Limits::new(1, 2, 0)) {
-        let made = make_each(&mut heaps, &mut out);
-        hold_map(&mut heaps);
-        let entered = enter(&mut heaps);
-        take_out(&mut heaps);
-        let count = heaps.census(&mut out);
-        done = made & entered & (count == 3) & heaps.weak().is_empty();
-    }
-    assert!(rt; done);
-    assert_eq!(rt; out.text(), b"+ #1\n+ @1\n+ @2\n".as_slice());
-    Ok(())
+    assert!(rt; makes_and_lists(rt.alloc(), &mut out));
+    assert!(rt; out.text() == b"+ #1\n+ @1\n+ @2\n".as_slice());
 }
 
 // The slot of the native takes this.
@@ -156,18 +159,24 @@ fn unlink(heaps: &mut Heaps, out: &mut Notebook)
     }
 }
 
+// A native is suspected, unlinked and freed. Whether there was memory.
+fn suspects_and_frees(alloc: Global, out: &mut Notebook) -> bool {
+    let Ok(mut heaps) = Heaps::new(alloc, Limits::new(1, 2, 0)) else {
+        return false;
+    };
+    let made = make_each(&mut heaps, out);
+    hold_itself(&mut heaps, out);
+    let _front = take_and_give_back(&mut heaps);
+    unlink(&mut heaps, out);
+    heaps.set_native_reg(0, None, out);
+    made
+}
+
 #[test]
-fn native_is_suspected_unlinked_and_freed(rt: HostRuntime) -> Result<(), Fail> {
+fn native_is_suspected_unlinked_and_freed(rt: HostRuntime) {
     let mut out = Notebook::new(rt.alloc());
-    if let Ok(mut heaps) = Heaps::new(rt.alloc(), Limits::new(1, 2, 0)) {
-        let _made = make_each(&mut heaps, &mut out);
-        hold_itself(&mut heaps, &mut out);
-        let _front = take_and_give_back(&mut heaps);
-        unlink(&mut heaps, &mut out);
-        heaps.set_native_reg(0, None, &mut out);
-    }
-    assert_eq!(rt; out.text(), b"- unlink #1\n- free #1\n".as_slice());
-    Ok(())
+    assert!(rt; suspects_and_frees(rt.alloc(), &mut out));
+    assert!(rt; out.text() == b"- unlink #1\n- free #1\n".as_slice());
 }
 
 // The native holds the plain object, which no register does.
@@ -213,21 +222,24 @@ fn round(heaps: &mut Heaps, out: &mut Notebook) -> bool
     heaps.sweep(out)
 }
 
+// Script objects are marked, exposed and swept. Whether there was memory, and each call answers what it should.
+fn marks_and_sweeps(alloc: Global, out: &mut Notebook) -> bool {
+    let Ok(mut heaps) = Heaps::new(alloc, Limits::new(1, 2, 0)) else {
+        return false;
+    };
+    let made = make_each(&mut heaps, out);
+    hold_plain(&mut heaps, out);
+    let _none_swept = round(&mut heaps, out);
+    let gray = is_held_gray(&heaps);
+    expose_first(&mut heaps);
+    heaps.set_native_reg(0, None, out);
+    let swept = round(&mut heaps, out);
+    made & gray & swept
+}
+
 #[test]
-fn script_objects_are_marked_exposed_and_swept(rt: HostRuntime) -> Result<(), Fail> {
+fn script_objects_are_marked_exposed_and_swept(rt: HostRuntime) {
     let mut out = Notebook::new(rt.alloc());
-    let mut done = false;
-    if let Ok(mut heaps) = Heaps::new(rt.alloc(), Limits::new(1, 2, 0)) {
-        let _made = make_each(&mut heaps, &mut out);
-        hold_plain(&mut heaps, &mut out);
-        let _none_swept = round(&mut heaps, &mut out);
-        let gray = is_held_gray(&heaps);
-        expose_first(&mut heaps);
-        heaps.set_native_reg(0, None, &mut out);
-        let swept = round(&mut heaps, &mut out);
-        done = gray & swept;
-    }
-    assert!(rt; done);
-    assert_eq!(rt; out.text(), b"- free #1\n- free @1\n".as_slice());
-    Ok(())
+    assert!(rt; marks_and_sweeps(rt.alloc(), &mut out));
+    assert!(rt; out.text() == b"- free #1\n- free @1\n".as_slice());
 }

@@ -8,7 +8,7 @@ use cc_heaps::Heaps;
 use cc_model::{Command, Notebook, Reply};
 use cc_mutator::apply;
 use cc_names::{Limits, Name, NativeNo, ScriptNo};
-use std::test::Fail;
+use std::alloc::Global;
 
 // Native register 0 holds a native, and script registers 0 and 1 a plain object and a weak map. Whether each was made.
 fn make_each(heaps: &mut Heaps, out: &mut Notebook) -> bool
@@ -20,9 +20,9 @@ fn make_each(heaps: &mut Heaps, out: &mut Notebook) -> bool
     let native = apply(heaps, &Command::Native(0, 1), out);
     let object = apply(heaps, &Command::Script(0, 1), out);
     let map = apply(heaps, &Command::WeakMap(1), out);
-    native == Reply::Named(Name::Native(NativeNo(1)))
-        && object == Reply::Named(Name::Script(ScriptNo(1)))
-        && map == Reply::Named(Name::Script(ScriptNo(2)))
+    (native == Reply::Named(Name::Native(NativeNo(1))))
+        & (object == Reply::Named(Name::Script(ScriptNo(1))))
+        & (map == Reply::Named(Name::Script(ScriptNo(2))))
 }
 
 // Script register 2 holds the native's reflector, which has the plain object for its value in the map. Whether it has.
@@ -32,18 +32,21 @@ fn enter(heaps: &mut Heaps, out: &mut Notebook) -> bool
 {
     let reflector = apply(heaps, &Command::Wrap(2, 0), out);
     let entry = apply(heaps, &Command::SetEntry(1, 2, Some(0)), out);
-    reflector == Reply::Named(Name::Reflector(NativeNo(1))) && entry == Reply::Done
+    (reflector == Reply::Named(Name::Reflector(NativeNo(1)))) & (entry == Reply::Done)
+}
+
+// Whether all that is done in heaps of its own.
+fn does_each(alloc: Global) -> bool {
+    let Ok(mut heaps) = Heaps::new(alloc, Limits::new(1, 2, 0)) else {
+        return false;
+    };
+    let mut out = Notebook::new(alloc);
+    let made = make_each(&mut heaps, &mut out);
+    let entered = enter(&mut heaps, &mut out);
+    made & entered
 }
 
 #[test]
-fn commands_that_take_memory_are_done(rt: HostRuntime) -> Result<(), Fail> {
-    let mut out = Notebook::new(rt.alloc());
-    let mut done = false;
-    if let Ok(mut heaps) = Heaps::new(rt.alloc(), Limits::new(1, 2, 0)) {
-        let made = make_each(&mut heaps, &mut out);
-        let entered = enter(&mut heaps, &mut out);
-        done = made & entered;
-    }
-    assert!(rt; done);
-    Ok(())
+fn commands_that_take_memory_are_done(rt: HostRuntime) {
+    assert!(rt; does_each(rt.alloc()));
 }

@@ -6,7 +6,7 @@ use cc_heaps::Heaps;
 use cc_model::Notebook;
 use cc_names::Limits;
 use cc_wrappers::{preserve, unwrap_of, wrap};
-use std::test::Fail;
+use std::alloc::Global;
 
 // The native in register 0 is wrapped twice. Whether there was memory for its reflector, and it is the same one again.
 fn wrap_twice(heaps: &mut Heaps) -> bool
@@ -17,7 +17,7 @@ fn wrap_twice(heaps: &mut Heaps) -> bool
         Some(native) => {
             let first = wrap(heaps, native);
             let second = wrap(heaps, native);
-            first.is_ok() && first == second
+            first.is_ok() & (first == second)
         }
         None => false,
     }
@@ -31,7 +31,8 @@ fn preserve_first(heaps: &mut Heaps) -> bool
     match heaps.native_reg(0) {
         Some(native) => match wrap(heaps, native) {
             Ok(reflector) => {
-                unwrap_of(heaps, reflector) == Some(native) && preserve(heaps, reflector)
+                let unwrapped = unwrap_of(heaps, reflector);
+                preserve(heaps, reflector) & (unwrapped == Some(native))
             }
             Err(_) => false,
         },
@@ -39,16 +40,19 @@ fn preserve_first(heaps: &mut Heaps) -> bool
     }
 }
 
+// Whether the reflector of a native is made, found and preserved, in heaps of its own.
+fn reflects(alloc: Global) -> bool {
+    let Ok(mut heaps) = Heaps::new(alloc, Limits::new(1, 1, 0)) else {
+        return false;
+    };
+    let mut out = Notebook::new(alloc);
+    let made = heaps.new_native(0, 0, &mut out).is_ok();
+    let wrapped = wrap_twice(&mut heaps);
+    let preserved = preserve_first(&mut heaps);
+    made & wrapped & preserved
+}
+
 #[test]
-fn native_has_one_reflector_which_is_preserved(rt: HostRuntime) -> Result<(), Fail> {
-    let mut out = Notebook::new(rt.alloc());
-    let mut done = false;
-    if let Ok(mut heaps) = Heaps::new(rt.alloc(), Limits::new(1, 1, 0)) {
-        let made = heaps.new_native(0, 0, &mut out).is_ok();
-        let wrapped = wrap_twice(&mut heaps);
-        let preserved = preserve_first(&mut heaps);
-        done = made & wrapped & preserved;
-    }
-    assert!(rt; done);
-    Ok(())
+fn native_has_one_reflector_which_is_preserved(rt: HostRuntime) {
+    assert!(rt; reflects(rt.alloc()));
 }

@@ -4,4 +4,8 @@
 #![tactic(auto)]
 
 #[cfg(test)]
-mod streams;
+mod calls;
+#[cfg(test)]
+mod memory;
+#[cfg(test)]
+mod standard;

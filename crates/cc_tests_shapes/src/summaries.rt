@@ -1,7 +1,7 @@
 //! Summaries of made scripts.
 
-use crate::text::{answers, once};
-use cc_names::NoMemory;
+use crate::text::Part::Once;
+use crate::text::answers;
 use cc_outside::{BytesSink, Sink};
 use cc_replay::{Status, make};
 use std::alloc::Global;
@@ -48,9 +48,9 @@ const SUMMARIES: [(&[&str], &str); 7] = [
 #[test]
 fn made_scripts_are_summed_up(rt: HostRuntime) {
     for (words, summary) in SUMMARIES.iter() {
-        let wanted = [once(*summary)];
-        let reads = answers(&rt, *words, &[once("census\n")], &wanted, Status::Done);
-        assert_eq!(rt; reads, 0, "at {words:?}");
+        let wanted = [Once(*summary)];
+        let reads = answers(&rt, *words, &[Once("census\n")], &wanted, Status::Done);
+        assert!(rt; reads == 0, "at {words:?}");
     }
 }
 
@@ -66,8 +66,8 @@ const FAULTY: [&[&str]; 5] = [
 #[test]
 fn words_of_make_are_taken_or_nothing_is_written(rt: HostRuntime) {
     for words in FAULTY.iter() {
-        let reads = answers(&rt, *words, &[once("census\n")], &[], Status::Usage);
-        assert_eq!(rt; reads, 0, "at {words:?}");
+        let reads = answers(&rt, *words, &[Once("census\n")], &[], Status::Usage);
+        assert!(rt; reads == 0, "at {words:?}");
     }
 }
 
@@ -76,22 +76,15 @@ fn status_of_make<K: Sink>(alloc: Global, sink: &mut K) -> Status {
     make(alloc, 7, 0, sink)
 }
 
-/// A sink of which one write fails.
-fn failing(alloc: Global, write: u64) -> Result<BytesSink, NoMemory> {
-    BytesSink::new(alloc, 300, [write].to_vec(alloc)?)
-}
-
 #[test]
 fn a_summary_stops_where_a_write_fails(rt: HostRuntime) {
     let fronts: [&[u8]; 3] = [b"", b"commands 20\n", b"commands 20\nok 19\n"];
     for (place, written) in fronts.iter().enumerate() {
-        let sink = failing(rt.alloc(), place as u64 + 1);
-        assert!(rt; sink.is_ok());
-        if let Ok(mut sink) = sink {
-            let status = status_of_make(rt.alloc(), &mut sink);
-            assert_eq!(rt; status, Status::WriteFault, "at {place}");
-            assert_eq!(rt; sink.written(), *written, "at {place}");
-            assert_eq!(rt; sink.faults(), 1, "at {place}");
-        }
+        let fails = [place as u64 + 1].to_vec(rt.alloc()).expect(&rt, "memory");
+        let mut sink = BytesSink::new(rt.alloc(), 300, fails).expect(&rt, "memory");
+        let status = status_of_make(rt.alloc(), &mut sink);
+        assert!(rt; status == Status::WriteFault, "{status:?} at {place}");
+        assert!(rt; sink.written() == *written, "at {place}");
+        assert!(rt; sink.faults() == 1, "at {place}");
     }
 }

@@ -7,33 +7,50 @@ use cc_replay::{Status, run};
 use std::alloc::Global;
 use std::process::Abort;
 
-/// A text that comes once for each number from `first` to `last`, in rising or in falling order. In the text K stands for
-/// the number, L for the next one, and M for the one after that. A text without a byte ends all.
+/// A text that comes once or more often, each time with a number. In the text K stands for the number, L for the next one, and
+/// M for the one after that. A text without a byte ends all.
 #[derive(Clone, Copy, Drop)]
-pub struct Part {
+pub enum Part {
+    /// Once, with the number 0.
+    Once(&'static str),
+    /// For each number from the first to the last, which may be the lesser one.
+    Each(u32, u32, &'static str),
+    /// For the first number, for the one that is so much greater or less, and so on to the last: the first one, the last
+    /// one, and the difference.
+    Every(u32, u32, u32, &'static str),
+}
+
+/// The numbers of a part, from the first to the last, each by so much greater or less than the one before; and its text.
+#[derive(Clone, Copy, Drop)]
+struct Numbers {
     first: u32,
     last: u32,
     by: u32,
     text: &'static str,
 }
 
-/// A text that comes once.
-pub fn once(text: &'static str) -> Part {
-    each(0, 0, text)
-}
-
-/// A text for each number from `first` to `last`, which may be the lesser one.
-pub fn each(first: u32, last: u32, text: &'static str) -> Part {
-    every(first, last, 1, text)
-}
-
-/// A text for the first number, for the one that is so much greater or less, and so on to `last`.
-pub fn every(first: u32, last: u32, by: u32, text: &'static str) -> Part {
-    Part {
-        first,
-        last,
-        by,
-        text,
+impl Part {
+    fn numbers(self) -> Numbers {
+        match self {
+            Part::Once(text) => Numbers {
+                first: 0,
+                last: 0,
+                by: 1,
+                text,
+            },
+            Part::Each(first, last, text) => Numbers {
+                first,
+                last,
+                by: 1,
+                text,
+            },
+            Part::Every(first, last, by, text) => Numbers {
+                first,
+                last,
+                by,
+                text,
+            },
+        }
     }
 }
 
@@ -68,7 +85,7 @@ impl<'a> Text<'a> {
         if self.power > 0 {
             return Some(self.digit());
         }
-        let part = *self.parts.get(self.part)?;
+        let part = self.parts.get(self.part)?.numbers();
         let number = self.number.unwrap_or(part.first);
         let byte = *part.text.as_bytes().get(self.place)?;
         self.go_on(part, number);
@@ -81,7 +98,7 @@ impl<'a> Text<'a> {
     }
 
     /// One byte more of the part's text is taken; after its last one the text comes again for the next number.
-    fn go_on(&mut self, part: Part, number: u32) {
+    fn go_on(&mut self, part: Numbers, number: u32) {
         self.place = self.place.saturating_add(1);
         self.number = Some(number);
         if self.place < part.text.len() {
@@ -231,12 +248,11 @@ pub fn answers<'a>(
         "after {} bytes, at {words:?}",
         sink.compared.right
     );
-    assert_eq!(rt;
-        sink.compared.text.next(),
-        None,
+    assert!(rt;
+        sink.compared.text.next().is_none(),
         "more is wanted at {words:?}"
     );
-    assert_eq!(rt; ended, status, "at {words:?}");
+    assert!(rt; ended == status, "{ended:?} at {words:?}");
     source.reads.answered()
 }
 

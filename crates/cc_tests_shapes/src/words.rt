@@ -1,6 +1,7 @@
 //! The words of the command line.
 
-use crate::text::{answers, once};
+use crate::text::Part::Once;
+use crate::text::answers;
 use cc_replay::Status;
 
 /// Words, the status, and what a script of one line that no line feed ends is answered with.
@@ -38,10 +39,10 @@ fn words_are_taken_or_nothing_is_read(rt: HostRuntime) {
         let reads = answers(
             &rt,
             *words,
-            &[once("native n0 0")],
-            &[once(*written)],
+            &[Once("native n0 0")],
+            &[Once(*written)],
             *status,
         );
-        assert_eq!(rt; reads > 0, *status == Status::Done, "at {words:?}");
+        assert!(rt; (reads > 0) == (*status == Status::Done), "at {words:?}");
     }
 }

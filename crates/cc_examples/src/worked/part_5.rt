@@ -2,9 +2,8 @@
 //!
 //! Made by tools/worked_examples.py from examples/worked.txt.
 
-use crate::script::Example;
+use crate::script::{Example, are_answered};
 use cc_replay::Status;
-use std::test::Fail;
 
 const EXAMPLES: [Example; 20] = [
     // A line with a token too many or too few is not in the grammar, and the next one is answered.
@@ -210,9 +209,6 @@ const EXAMPLES: [Example; 20] = [
 ];
 
 #[test]
-fn worked_examples_are_answered(rt: HostRuntime) -> Result<(), Fail> {
-    for example in EXAMPLES.iter() {
-        example.is_answered(&rt)?;
-    }
-    Ok(())
+fn worked_examples_are_answered(rt: HostRuntime) {
+    are_answered(&rt, &EXAMPLES);
 }

@@ -2,11 +2,10 @@
 
 ghost use Rattle.std.specs.Prelude.{◌≤◌, None};
 
-use crate::script::{script, source_of, status_of_run};
-use cc_outside::{Failed, Sink, WriteCounts};
+use crate::runs::status_of_run;
+use cc_outside::{Failed, Sink, SureSource, WriteCounts};
 use cc_replay::Status;
 use std::process::Abort;
-use std::test::Fail;
 
 /// A sink that keeps what it is handed, a bar behind each piece, and takes at most so many bytes of it, at least one. It
 /// never fails.
@@ -35,38 +34,37 @@ impl Sink for Pieces {
 }
 
 /// One drop frees two natives, and a census then lists nothing.
-const LINES: &str = "native n0 1 / native n1 0 / set n0 0 n1 / drop n1 / drop n0 / census";
+const LINES: &[u8] = b"native n0 1\nnative n1 0\nset n0 0 n1\ndrop n1\ndrop n0\ncensus\n";
 
 /// Runs the lines into a sink that takes at most so many bytes at a time, and looks at what it was handed.
-fn hands_on(rt: &(impl Abort + AllocGlobal), most: usize, wanted: &str) -> Result<(), Fail>
+fn hands_on(rt: &(impl Abort + AllocGlobal), most: usize, wanted: &[u8])
     requires { 1 ≤ most }
 {
-    let mut source = source_of(rt.alloc(), script(rt.alloc(), LINES)?);
+    let mut source = SureSource::new(LINES.to_vec(rt.alloc()).expect(rt, "memory"));
     let mut sink = Pieces {
         most,
         handed: Vec::new(rt.alloc()),
         writes: WriteCounts::new(),
     };
     let status = status_of_run(rt.alloc(), &["ccreplay", "replay"], &mut source, &mut sink);
-    assert_eq!(rt; status, Status::Done, "at {most}");
-    assert_eq!(rt; sink.handed.as_slice(), wanted.as_bytes(), "at {most}");
-    Ok(())
+    assert!(rt; status == Status::Done, "{status:?} at {most}");
+    assert!(rt; sink.handed.as_slice() == wanted, "at {most}");
 }
 
 #[test]
-fn each_line_is_one_piece(rt: HostRuntime) -> Result<(), Fail> {
+fn each_line_is_one_piece(rt: HostRuntime) {
     hands_on(
         &rt,
         100,
-        "= #1\n|= #2\n|= ok\n|= ok\n|- free #1\n|- free #2\n|= ok\n|= census 0\n|",
-    )
+        b"= #1\n|= #2\n|= ok\n|= ok\n|- free #1\n|- free #2\n|= ok\n|= census 0\n|",
+    );
 }
 
 #[test]
-fn what_a_sink_leaves_of_a_line_is_the_next_piece(rt: HostRuntime) -> Result<(), Fail> {
+fn what_a_sink_leaves_of_a_line_is_the_next_piece(rt: HostRuntime) {
     hands_on(
         &rt,
         6,
-        "= #1\n|= #2\n|= ok\n|= ok\n|- free #1\n| #1\n|- free #2\n| #2\n|= ok\n|= census 0\n|us 0\n|",
-    )
+        b"= #1\n|= #2\n|= ok\n|= ok\n|- free #1\n| #1\n|- free #2\n| #2\n|= ok\n|= census 0\n|us 0\n|",
+    );
 }

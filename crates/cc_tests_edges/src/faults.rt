@@ -1,19 +1,15 @@
-//! Faults of reading and writing, the limit on bytes, and long lines: one table of what `run` makes of them.
+//! Faults of reading and writing, and the limit on bytes: one table of what `run` makes of them.
 
-use crate::script::status_of_run;
-use cc_names::NoMemory;
+use crate::runs::status_of_run;
 use cc_outside::{BytesSink, BytesSource};
 use cc_replay::Status;
-use std::alloc::{AllocError, Global};
 use std::process::Abort;
 
-/// What `run` makes of an input: a front, so many bytes `a`, and an end.
+/// What `run` makes of an input.
 #[derive(Clone, Copy, Drop)]
 struct Case {
     words: &'static [&'static str],
-    front: &'static [u8],
-    letters: usize,
-    end: &'static [u8],
+    input: &'static [u8],
     /// How many bytes a read gives at most, and how many a write takes.
     gives: usize,
     takes: usize,
@@ -28,9 +24,7 @@ struct Case {
 /// Four lines whose cycle of one outlives its register, 39 bytes, and what they answer.
 const WHOLE: Case = Case {
     words: &["ccreplay", "replay"],
-    front: b"native n0 1\nset n0 0 n0\ndrop n0\ncensus\n",
-    letters: 0,
-    end: b"",
+    input: b"native n0 1\nset n0 0 n0\ndrop n0\ncensus\n",
     gives: 4096,
     takes: 4096,
     reads: (0, 0),
@@ -158,90 +152,28 @@ const LIMITS: [Case; 3] = [
     },
 ];
 
-/// A line has at most 120 bytes before its line feed.
-const LONG: Case = Case {
-    front: b"",
-    written: b"! long\n",
-    ..WHOLE
-};
-
-const LINES: [Case; 7] = [
-    Case {
-        front: b"%",
-        letters: 119,
-        end: b"\n",
-        written: b"",
-        ..LONG
-    },
-    Case {
-        front: b"%",
-        letters: 120,
-        end: b"\n",
-        ..LONG
-    },
-    Case {
-        letters: 119,
-        end: b"\r\n",
-        written: b"! line\n",
-        ..LONG
-    },
-    Case {
-        letters: 120,
-        end: b"\r\n",
-        ..LONG
-    },
-    Case {
-        letters: 121,
-        ..LONG
-    },
-    Case {
-        letters: 121,
-        end: b"\ncensus\r\n",
-        written: b"! long\n= census 0\n",
-        ..LONG
-    },
-    Case {
-        letters: 10000,
-        end: b"\ncensus",
-        written: b"! long\n= census 0\n",
-        ..LONG
-    },
-];
-
-/// So many bytes `a` between a front and an end.
-fn padded(alloc: Global, case: &Case) -> Result<Vec<u8>, AllocError> {
-    let mut input = case.front.to_vec(alloc)?;
-    for _ in 0..case.letters {
-        input.push(b'a')?;
-    }
-    input.extend_from_slice(case.end)?;
-    Ok(input)
-}
-
 /// The source of a case, of which the read of this number fails.
-fn source_of(alloc: Global, case: &Case, read: u64) -> Result<BytesSource, AllocError> {
-    let fails = [read].to_vec(alloc)?;
-    Ok(BytesSource::new(padded(alloc, case)?, fails, case.gives.max(1)))
+fn source_of(rt: &(impl Abort + AllocGlobal), case: &Case, read: u64) -> BytesSource {
+    let input = case.input.to_vec(rt.alloc()).expect(rt, "memory");
+    let fails = [read].to_vec(rt.alloc()).expect(rt, "memory");
+    BytesSource::new(input, fails, case.gives.max(1))
 }
 
 /// The sink of a case.
-fn sink_of(alloc: Global, case: &Case) -> Result<BytesSink, NoMemory> {
-    let fails = [case.write].to_vec(alloc)?;
-    BytesSink::with_most(alloc, 4096, fails, case.takes.max(1))
+fn sink_of(rt: &(impl Abort + AllocGlobal), case: &Case) -> BytesSink {
+    let fails = [case.write].to_vec(rt.alloc()).expect(rt, "memory");
+    BytesSink::with_most(rt.alloc(), 4096, fails, case.takes.max(1)).expect(rt, "memory")
 }
 
 /// One run, in which the read of this number fails.
 fn runs_with(rt: &(impl Abort + AllocGlobal), case: &Case, read: u64) {
-    let source = source_of(rt.alloc(), case, read);
-    let sink = sink_of(rt.alloc(), case);
-    assert!(rt; source.is_ok() && sink.is_ok());
-    if let (Ok(mut source), Ok(mut sink)) = (source, sink) {
-        let status = status_of_run(rt.alloc(), case.words, &mut source, &mut sink);
-        assert_eq!(rt; sink.written(), case.written);
-        assert_eq!(rt; status, case.status);
-        assert_eq!(rt; source.faults(), u64::from(status == Status::ReadFault));
-        assert_eq!(rt; sink.faults(), u64::from(status == Status::WriteFault));
-    }
+    let mut source = source_of(rt, case, read);
+    let mut sink = sink_of(rt, case);
+    let status = status_of_run(rt.alloc(), case.words, &mut source, &mut sink);
+    assert_eq!(rt; sink.written(), case.written);
+    assert_eq!(rt; status, case.status);
+    assert_eq!(rt; source.faults(), u64::from(status == Status::ReadFault));
+    assert_eq!(rt; sink.faults(), u64::from(status == Status::WriteFault));
 }
 
 /// All runs of some cases.
@@ -259,5 +191,4 @@ fn faults_of_the_outside_are_told(rt: HostRuntime) {
     all_run(&rt, &READS);
     all_run(&rt, &WRITES);
     all_run(&rt, &LIMITS);
-    all_run(&rt, &LINES);
 }
