@@ -81,9 +81,15 @@ fn show_children(rt: &impl Print, document: &Document, of: Variable) -> Result<(
 /// Writes what a variable leads to.
 fn show(rt: &impl Print, document: &Document, word: &str, at: Variable) -> Result<()> {
     let links = read_links(document, at);
-    print!(rt; "  {word} is {}, with parent {}", links.element, links.parent)?;
+    print!(rt;
+        "  {word} is {}, with parent {}",
+        links.element, links.parent
+    )?;
     show_children(rt, document, at)?;
-    println!(rt; "; listens for {}, has data of {}", links.listener, links.data)?;
+    println!(rt;
+        "; listens for {}, has data of {}",
+        links.listener, links.data
+    )?;
     Ok(())
 }
 
