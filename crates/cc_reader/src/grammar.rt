@@ -6,7 +6,7 @@ ghost use Rattle.cc_model.specs.Tokens.{tokens_of};
 ghost use Rattle.cc_model.specs.Forms.{census_form, collect_form, copy_native_form, copy_script_form, drop_native_form, drop_script_form, expose_form, gc_form, get_entry_form, get_native_form, get_script_form, native_form, preserve_form, put_none_form, put_script_form, script_form, set_entry_form, set_native_form, set_none_form, set_script_form, slice_form, take_form, unset_entry_form, unwrap_form, version_one_forms, weak_map_form, wrap_form};
 ghost use Rattle.cc_model.specs.Ranges.{in_range};
 ghost use Rattle.cc_model.specs.Asks.{command_in, command_of};
-ghost use Rattle.cc_reader.specs.Words.{first_read};
+ghost use Rattle.cc_reader.specs.Words.{first_read, heap_forms, reflector_forms, register_forms, slot_forms};
 
 use crate::tokens::{
     native, next_token, number, one_token, register_of, script, slots_number, three_tokens,
@@ -250,9 +250,10 @@ fn read_census(after: &[u8]) -> Option<Command>
     }
 }
 
-/// The command of a word and what stands behind it.
-fn read_word(word: &[u8], after: &[u8]) -> Option<Command>
-    ensures form { result ≡ command_in version_one_forms word.now (tokens_of after.now) }
+/// The command of a word that makes an object, or copies or drops what a register holds, and of what stands behind it. None
+/// where the word is no such one.
+fn read_of_registers(word: &[u8], after: &[u8]) -> Option<Command>
+    ensures form { result ≡ command_in register_forms word.now (tokens_of after.now) }
     ensures in_range { IfSome result (λ c. IsTrue (in_range c)) }
 {
     if word == b"native".as_slice() {
@@ -265,7 +266,17 @@ fn read_word(word: &[u8], after: &[u8]) -> Option<Command>
         read_copy(after)
     } else if word == b"drop".as_slice() {
         read_drop(after)
-    } else if word == b"set".as_slice() {
+    } else {
+        None
+    }
+}
+
+/// The command of a word that writes or reads a slot, and of what stands behind it. None where the word is no such one.
+fn read_of_slots(word: &[u8], after: &[u8]) -> Option<Command>
+    ensures form { result ≡ command_in slot_forms word.now (tokens_of after.now) }
+    ensures in_range { IfSome result (λ c. IsTrue (in_range c)) }
+{
+    if word == b"set".as_slice() {
         read_set(after)
     } else if word == b"get".as_slice() {
         read_get(after)
@@ -273,7 +284,18 @@ fn read_word(word: &[u8], after: &[u8]) -> Option<Command>
         read_put(after)
     } else if word == b"take".as_slice() {
         read_take(after)
-    } else if word == b"wrap".as_slice() {
+    } else {
+        None
+    }
+}
+
+/// The command of a word that speaks of a reflector, an entry of a weak map or an exposure, and of what stands behind it. None
+/// where the word is no such one.
+fn read_of_reflectors(word: &[u8], after: &[u8]) -> Option<Command>
+    ensures form { result ≡ command_in reflector_forms word.now (tokens_of after.now) }
+    ensures in_range { IfSome result (λ c. IsTrue (in_range c)) }
+{
+    if word == b"wrap".as_slice() {
         read_wrap(after)
     } else if word == b"unwrap".as_slice() {
         read_unwrap(after)
@@ -285,7 +307,17 @@ fn read_word(word: &[u8], after: &[u8]) -> Option<Command>
         read_get_entry(after)
     } else if word == b"expose".as_slice() {
         read_expose(after)
-    } else if word == b"slice".as_slice() {
+    } else {
+        None
+    }
+}
+
+/// The command of a word that names no register, and of what stands behind it. None where the word is no such one.
+fn read_of_heaps(word: &[u8], after: &[u8]) -> Option<Command>
+    ensures form { result ≡ command_in heap_forms word.now (tokens_of after.now) }
+    ensures in_range { IfSome result (λ c. IsTrue (in_range c)) }
+{
+    if word == b"slice".as_slice() {
         read_slice(after)
     } else if word == b"collect".as_slice() {
         read_collect(after)
@@ -296,6 +328,23 @@ fn read_word(word: &[u8], after: &[u8]) -> Option<Command>
     } else {
         None
     }
+}
+
+/// The command of a word and what stands behind it.
+fn read_word(word: &[u8], after: &[u8]) -> Option<Command>
+    ensures form { result ≡ command_in version_one_forms word.now (tokens_of after.now) }
+    ensures in_range { IfSome result (λ c. IsTrue (in_range c)) }
+{
+    if let Some(command) = read_of_registers(word, after) {
+        return Some(command);
+    }
+    if let Some(command) = read_of_slots(word, after) {
+        return Some(command);
+    }
+    if let Some(command) = read_of_reflectors(word, after) {
+        return Some(command);
+    }
+    read_of_heaps(word, after)
 }
 
 /// The command that a line asks, given without its line feed. None where the line is not in the grammar.

@@ -35,6 +35,31 @@ fn keep(text: &mut LineBuf, is_long: bool, byte: u8) -> bool
     false
 }
 
+/// What a line is that a line feed ended.
+fn ended(is_long: bool) -> Line
+    ensures text { result ≡ Line.Text → is_long ≡ false }
+    ensures long { result ≡ Line.TooLong → is_long ≡ true }
+    ensures some { result ≢ Line.End }
+{
+    if is_long { Line::TooLong } else { Line::Text }
+}
+
+/// What a line is that the end of the source ended: there is none where it has no byte.
+fn last(is_long: bool, text: &LineBuf) -> Line
+    ensures text { result ≡ Line.Text → (is_long ≡ false) × (text.now ≢ []) }
+    ensures long { result ≡ Line.TooLong → is_long ≡ true }
+    ensures end { result ≡ Line.End → (is_long ≡ false) × (text.now ≡ []) }
+{
+    if is_long {
+        return Line::TooLong;
+    }
+    if text.bytes().is_empty() {
+        Line::End
+    } else {
+        Line::Text
+    }
+}
+
 /// Reads one line into `text`, which is empty. Of a line that is too long the front is kept there.
 fn next_line<S: Source>(
     window: &mut Window,
@@ -69,18 +94,11 @@ fn next_line<S: Source>(
     let mut is_long = false;
     'bytes: while let Some(byte) = window.next_byte(source)? {
         if byte == b'\n' {
-            return Ok(if is_long { Line::TooLong } else { Line::Text });
+            return Ok(ended(is_long));
         }
         is_long = keep(text, is_long, byte);
     }
-    if is_long {
-        return Ok(Line::TooLong);
-    }
-    Ok(if text.bytes().is_empty() {
-        Line::End
-    } else {
-        Line::Text
-    })
+    Ok(last(is_long, text))
 }
 
 /// The lines of a source, one after the other, each without its line feed.

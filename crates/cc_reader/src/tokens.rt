@@ -1,6 +1,6 @@
 //! The tokens of a line, and the numbers and registers that they name.
 
-ghost use Rattle.std.specs.Prelude.{◌≡◌, ◌≢◌, ◌<◌, ◌≤◌, [], ◌∷◌, length, slice_index, IsTrue, IfNone, IfSome};
+ghost use Rattle.std.specs.Prelude.{◌≡◌, ◌≢◌, ◌<◌, ◌≤◌, [], ◌∷◌, length, slice_index, false, IsTrue, IfNone, IfSome};
 ghost use Rattle.cc_model.specs.Tokens.{digits_from, native_register, number_within, register_with, script_register, slots_number, tokens_of, units_number};
 ghost use Rattle.cc_model.specs.Ranges.{is_reg};
 ghost use Rattle.cc_reader.specs.Words.{register_of};
@@ -138,16 +138,24 @@ pub(crate) fn register_of(token: &[u8]) -> Option<Reg>
     }
 }
 
+/// Whether a line has no token.
+pub(crate) fn is_blank(line: &[u8]) -> bool
+    ensures blank { IsTrue result → tokens_of line.now ≡ [] }
+    ensures other { result ≡ false → 0 < length (tokens_of line.now) }
+{
+    match next_token(line) {
+        None => true,
+        Some(_) => false,
+    }
+}
+
 /// The token of a line that has just one.
 pub(crate) fn one_token(line: &[u8]) -> Option<&[u8]>
     ensures some { IfSome result (λ a. tokens_of line.now ≡ a.now ∷ []) }
     ensures none { IfNone result (length (tokens_of line.now) ≢ 1) }
 {
     let (a, after) = next_token(line)?;
-    match next_token(after) {
-        None => Some(a),
-        Some(_) => None,
-    }
+    if is_blank(after) { Some(a) } else { None }
 }
 
 /// The tokens of a line that has just two.

@@ -1,5 +1,5 @@
 -- How lines are answered, one after the other.
-use Rattle.std.specs.Prelude.{ℕ, IsTrue, List, [], ◌∷◌, ◌++◌, map, Option}
+use Rattle.std.specs.Prelude.{◌≡◌, ℕ, IsTrue, List, [], ◌∷◌, ◌++◌, map, Option, Result, Ok, Err}
 use Rattle.std.specs.List.{list_all}
 use Rattle.cc_model.specs.Telling.{Telling, Tells}
 use Rattle.cc_model.specs.Answers.{Answer, all_items_of}
@@ -10,6 +10,12 @@ use Rattle.cc_laws_run.specs.Running.{ask_in_range}
 use Rattle.cc_model.specs.Forms.{version_one_forms}
 use Rattle.cc_reader.specs.Pending.{Pending}
 use Rattle.cc_reader.specs.Given.{HasGiven}
+use Rattle.cc_reader.specs.declared.read_stop.ReadStop.{ReadStop}
+use Rattle.cc_reader.specs.declared.read_stop.ReadStop.TheVariants as stop
+use Rattle.cc_replay.specs.declared.answering.Next.{Next}
+use Rattle.cc_replay.specs.declared.answering.Next.TheVariants.{End}
+use Rattle.cc_replay.specs.declared.status.Status.{Status}
+use Rattle.cc_replay.specs.declared.status.Status.TheVariants as status
 use Rattle.cc_replay.specs.Answered.{IsAnswered}
 
 -- one more line was given, whatever was given before
@@ -21,6 +27,13 @@ GivesLine left left_now old new line = (start : Option (List ℕ)) (lines : List
 pub record LineIsAnswered (old new : Machine) (line : List ℕ) (before after : Telling) : Type 0 where
   pub answered : IsAnswered old new (ask_of version_one_forms line) before after
   pub in_range : IsTrue (ask_in_range (ask_of version_one_forms line))
+
+-- what came next ends a run so
+abbrev pub EndsBy : Result Next ReadStop → Status → Type 0
+EndsBy came status.Done = came ≡ Ok End
+EndsBy came status.ReadFault = came ≡ Err stop.Fault
+EndsBy came status.Limit = came ≡ Err stop.Limit
+EndsBy came _ = ⊥
 
 -- what is read from and what answers: what the source has left, the reader, the machine, and what was told
 pub record Moment : Type 0 where

@@ -10,12 +10,21 @@ use Rattle.cc_names.specs.Allowance.{Allowance}
 use Rattle.cc_replay.specs.declared.words.Request.{Request}
 use Rattle.cc_replay.specs.declared.words.Request.TheVariants.{Replay, Make}
 
--- an option `--NAME N`, a whole number from 0 to `most`, with this default
-abbrev pub number_option : Text → ℕ → Text → Rule
-number_option name most default = record (new_rule name) {
+-- the reader of a whole number from 0 to `most`
+abbrev pub number_up_to : ℕ → ValueParser
+number_up_to most = parser.Signed (pos 0) (pos most)
+
+-- an option `--NAME`, which has one value
+abbrev pub named_option : Text → Rule
+named_option name = record (new_rule name) {
   long = Some name;
   action = Some Set;
-  parser = Some (parser.Signed (pos 0) (pos most));
+}
+
+-- an option `--NAME N`, a whole number from 0 to `most`, with this default
+abbrev pub number_option : Text → ℕ → Text → Rule
+number_option name most default = record (named_option name) {
+  parser = Some (number_up_to most);
   defaults = default ∷ [];
 }
 
@@ -35,13 +44,16 @@ bytes_option = number_option (codes "bytes") 4294967295 (codes "4294967295")
 abbrev pub replay_app : App
 replay_app = with_rule (with_rule (with_rule (new_app (codes "replay")) natives_option) scripts_option) bytes_option
 
--- an argument that must be given, a whole number that `reader` takes; its place alone tells it from the others
-abbrev pub number_argument : Text → ValueParser → Rule
-number_argument name reader = record (new_rule name) {
+-- an argument that must be given, with one value; its place alone tells it from the others
+abbrev pub required_argument : Text → Rule
+required_argument name = record (new_rule name) {
   required = true;
   action = Some Set;
-  parser = Some reader;
 }
+
+-- an argument that must be given, a whole number that `reader` takes
+abbrev pub number_argument : Text → ValueParser → Rule
+number_argument name reader = record (required_argument name) { parser = Some reader }
 
 -- the number from which a script is drawn
 abbrev pub seed_argument : Rule
@@ -49,7 +61,7 @@ seed_argument = number_argument (codes "seed") (parser.Unsigned 0 18446744073709
 
 -- how many lines of it are drawn
 abbrev pub count_argument : Rule
-count_argument = number_argument (codes "count") (parser.Signed (pos 0) (pos 1000000))
+count_argument = number_argument (codes "count") (number_up_to 1000000)
 
 -- the subcommand `make`, with its two arguments
 abbrev pub make_app : App

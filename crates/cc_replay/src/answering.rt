@@ -1,6 +1,6 @@
 //! Lines read, and each answered before the next is read.
 
-ghost use Rattle.std.specs.Prelude.{◌≡◌, ◌≢◌, ◌<◌, ◌≤◌, ◌+◌, ℕ, List, [], ◌∷◌, ◌++◌, length, Option, Some, OnErr, Ok, Err, OnOk, IfOk, false, true, IsTrue};
+ghost use Rattle.std.specs.Prelude.{◌≡◌, ◌≢◌, ◌<◌, ◌≤◌, ◌+◌, ℕ, List, [], ◌∷◌, ◌++◌, length, Option, Some, None, OnErr, Ok, Err, OnOk, IfOk, IfSome, false, true, IsTrue};
 ghost use Rattle.cc_lists.specs.Faults.{raised, Rose};
 ghost use Rattle.cc_reader.specs.HasRead.{ReadsOn};
 ghost use Rattle.cc_reader.specs.Pending.{nothing_read, weight};
@@ -17,7 +17,7 @@ ghost use Rattle.cc_heaps.specs.Few.{AreFew};
 ghost use Rattle.cc_heaps.specs.Keyed.{IsInOrder};
 ghost use Rattle.cc_heaps.specs.Standing.{KeepsSuspected};
 ghost use Rattle.cc_model.specs.Mutating.{is_applied};
-ghost use Rattle.cc_replay.specs.Answering.{GivesLine, LineIsAnswered, Answers, moment};
+ghost use Rattle.cc_replay.specs.Answering.{Answers, EndsBy, GivesLine, LineIsAnswered, moment};
 ghost use Rattle.cc_replay.specs.Transcripts.{ends, Counts, IsDone, StopsAtFault, StopsAtLimit, StopsAtWrite};
 
 use crate::outlet::Reports;
@@ -198,6 +198,19 @@ fn answer_next<S: Source, N: Notices>(
     }
 }
 
+/// How a run ends by what came next. None where it goes on.
+fn ended_by(next: Result<Next, ReadStop>) -> Option<Status>
+    ensures ending { IfSome result (λ status. EndsBy next status) }
+    ensures going { result ≡ None → next ≡ Ok Next.Answered }
+{
+    match next {
+        Err(ReadStop::Fault) => Some(Status::ReadFault),
+        Err(ReadStop::Limit) => Some(Status::Limit),
+        Ok(Next::End) => Some(Status::Done),
+        Ok(Next::Answered) => None,
+    }
+}
+
 /// Answers each line that is left, to the end of the source, or until a read fails, a write fails or the limit on bytes
 /// is passed.
 fn answer_all<S: Source, N: Reports>(
@@ -232,11 +245,8 @@ fn answer_all<S: Source, N: Reports>(
     ensures sink { (N.telling out.new).sink ≡ (N.telling out.old).sink }
 {
     'lines: loop {
-        match answer_next(lines, heaps, collector, out) {
-            Err(ReadStop::Fault) => return Status::ReadFault,
-            Err(ReadStop::Limit) => return Status::Limit,
-            Ok(Next::End) => return Status::Done,
-            Ok(Next::Answered) => {}
+        if let Some(status) = ended_by(answer_next(lines, heaps, collector, out)) {
+            return status;
         }
         if out.is_broken() {
             return Status::WriteFault;

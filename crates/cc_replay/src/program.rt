@@ -78,6 +78,17 @@ pub fn replay<S: Source, K: Sink>(
     answer_input(alloc, &mut lines, &mut heaps, &mut out)
 }
 
+/// How a run ends whose words ask for nothing.
+fn status_of(stop: WordsStop) -> Status
+    ensures either { (result ≡ Status.Usage) ⊎ (result ≡ Status.NoMemory) }
+    ensures usage { result ≡ Status.Usage → stop ≡ WordsStop.Usage }
+{
+    match stop {
+        WordsStop::Usage => Status::Usage,
+        WordsStop::NoMemory => Status::NoMemory,
+    }
+}
+
 /// Reads the words of a command line, the program's name first, and answers the source's lines, or a made script, as they
 /// say: for the words of `replay` as `replay` does, for those of `make` as `make` does.
 ///
@@ -166,8 +177,7 @@ pub fn run<'a, S: Source, K: Sink>(
 {
     let request = match request_of(alloc, words) {
         Ok(request) => request,
-        Err(WordsStop::Usage) => return Status::Usage,
-        Err(WordsStop::NoMemory) => return Status::NoMemory,
+        Err(stop) => return status_of(stop),
     };
     match request {
         Request::Replay(limits) => replay(alloc, limits, source, sink),

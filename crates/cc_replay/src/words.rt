@@ -1,7 +1,7 @@
 //! The words of the command line.
 ghost use Rattle.std.specs.Prelude.{◌≡◌, ℕ, ◌≤◌, IfOk, OnOk, Err, false, map};
 ghost use Rattle.clap.specs.Words.{app_of, found_of, one_text, rule_of, subcommand_of, subcommand_rows_of};
-ghost use Rattle.cc_replay.specs.Words.{app, make_app, optional_app, replay_app, number_argument, number_option, GivesRequest, IsNumber, IsTaken};
+ghost use Rattle.cc_replay.specs.Words.{app, make_app, optional_app, replay_app, bytes_option, count_argument, named_option, natives_option, number_argument, number_option, number_up_to, required_argument, scripts_option, seed_argument, GivesRequest, IsNumber, IsTaken};
 
 use cc_names::Limits;
 use clap::builder::ValueParser;
@@ -32,16 +32,53 @@ pub(crate) enum WordsStop {
     NoMemory,
 }
 
+/// The reader of a whole number from 0 to `most`.
+fn number_up_to<'a>(most: u32) -> ValueParser<'a>
+    ensures { result ≡ number_up_to most }
+{
+    clap::value_parser!(u32).range(0..=(most as i64))
+}
+
+/// An option `--NAME`, which has one value.
+fn named_option<'a>(alloc: Global, name: &'a str) -> Arg<'a>
+    ensures rule { rule_of result ≡ named_option name.entry.now }
+    ensures local { result.global ≡ false }
+{
+    Arg::new(alloc, name).long(name).action(ArgAction::Set)
+}
+
 /// An option `--NAME N`, a whole number from 0 to `most`. Where it is not given, `default` stands for it.
 fn number_option<'a>(alloc: Global, name: &'a str, most: u32, default: &'a str) -> Arg<'a>
     ensures rule { rule_of result ≡ number_option name.entry.now most default.entry.now }
     ensures local { result.global ≡ false }
 {
-    Arg::new(alloc, name)
-        .long(name)
-        .action(ArgAction::Set)
-        .value_parser(clap::value_parser!(u32).range(0..=(most as i64)))
+    named_option(alloc, name)
+        .value_parser(number_up_to(most))
         .default_value(default)
+}
+
+/// The limit on natives.
+fn natives_option<'a>(alloc: Global) -> Arg<'a>
+    ensures rule { rule_of result ≡ natives_option }
+    ensures local { result.global ≡ false }
+{
+    number_option(alloc, "natives", 1_000_000, "1000000")
+}
+
+/// The limit on plain objects and weak maps.
+fn scripts_option<'a>(alloc: Global) -> Arg<'a>
+    ensures rule { rule_of result ≡ scripts_option }
+    ensures local { result.global ≡ false }
+{
+    number_option(alloc, "scripts", 1_000_000, "1000000")
+}
+
+/// The limit on the bytes that are read.
+fn bytes_option<'a>(alloc: Global) -> Arg<'a>
+    ensures rule { rule_of result ≡ bytes_option }
+    ensures local { result.global ≡ false }
+{
+    number_option(alloc, "bytes", u32::MAX, "4294967295")
 }
 
 /// The subcommand `replay`, with its three options.
@@ -49,9 +86,17 @@ fn replay_command<'a>(alloc: Global) -> Result<Command<'a>, AllocError>
     ensures { IfOk result (λ c. app_of c ≡ replay_app) }
 {
     Command::new(alloc, "replay")
-        .arg(number_option(alloc, "natives", 1_000_000, "1000000"))?
-        .arg(number_option(alloc, "scripts", 1_000_000, "1000000"))?
-        .arg(number_option(alloc, "bytes", u32::MAX, "4294967295"))
+        .arg(natives_option(alloc))?
+        .arg(scripts_option(alloc))?
+        .arg(bytes_option(alloc))
+}
+
+/// An argument that must be given, with one value.
+fn required_argument<'a>(alloc: Global, name: &'a str) -> Arg<'a>
+    ensures rule { rule_of result ≡ required_argument name.entry.now }
+    ensures local { result.global ≡ false }
+{
+    Arg::new(alloc, name).required(true).action(ArgAction::Set)
 }
 
 /// An argument that must be given, a whole number that `reader` takes.
@@ -59,21 +104,32 @@ fn number_argument<'a>(alloc: Global, name: &'a str, reader: ValueParser<'a>) ->
     ensures rule { rule_of result ≡ number_argument name.entry.now reader.entry }
     ensures local { result.global ≡ false }
 {
-    Arg::new(alloc, name)
-        .required(true)
-        .action(ArgAction::Set)
-        .value_parser(reader)
+    required_argument(alloc, name).value_parser(reader)
+}
+
+/// The number from which a script is drawn.
+fn seed_argument<'a>(alloc: Global) -> Arg<'a>
+    ensures rule { rule_of result ≡ seed_argument }
+    ensures local { result.global ≡ false }
+{
+    number_argument(alloc, "seed", clap::value_parser!(u64))
+}
+
+/// How many lines of it are drawn.
+fn count_argument<'a>(alloc: Global) -> Arg<'a>
+    ensures rule { rule_of result ≡ count_argument }
+    ensures local { result.global ≡ false }
+{
+    number_argument(alloc, "count", number_up_to(1_000_000))
 }
 
 /// The subcommand `make`, with its two arguments.
 fn make_command<'a>(alloc: Global) -> Result<Command<'a>, AllocError>
     ensures { IfOk result (λ c. app_of c ≡ make_app) }
 {
-    let seed = clap::value_parser!(u64);
-    let count = clap::value_parser!(u32).range(0..=1_000_000);
     Command::new(alloc, "make")
-        .arg(number_argument(alloc, "seed", seed))?
-        .arg(number_argument(alloc, "count", count))
+        .arg(seed_argument(alloc))?
+        .arg(count_argument(alloc))
 }
 
 /// The program `ccreplay`, as far as it names its subcommands.

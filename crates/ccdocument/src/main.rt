@@ -4,10 +4,13 @@
 //! gone, and nothing else.
 #![tactic(auto)]
 
+ghost use Rattle.std.specs.Prelude.{◌<◌};
+ghost use Rattle.cc_document.specs.Words.{places};
+
 use anyhow::Result;
-use cc_document::{Document, PLACES, Variable};
+use cc_document::{Document, DocumentError, PLACES, Variable};
 use cc_model::Notebook;
-use cc_names::{Limits, NativeNo};
+use cc_names::{Limits, NativeNo, NoMemory};
 use std::alloc::Global;
 use std::fmt;
 
@@ -38,23 +41,54 @@ impl fmt::Display for Link {
     }
 }
 
-/// Writes what a variable leads to.
-fn show(rt: &impl Print, document: &Document, word: &str, at: Variable) -> Result<()> {
-    print!(rt;
-        "  {word} is {}, with parent {}",
-        Link(document.element(at)),
-        Link(document.parent(at))
-    )?;
+/// An element, and what it is linked to beside its children.
+#[derive(Drop)]
+struct Links {
+    element: Link,
+    parent: Link,
+    listener: Link,
+    data: Link,
+}
+
+/// What a variable leads to.
+fn read_links(document: &Document, at: Variable) -> Links {
+    Links {
+        element: Link(document.element(at)),
+        parent: Link(document.parent(at)),
+        listener: Link(document.listener(at)),
+        data: Link(document.data(at)),
+    }
+}
+
+/// The child at a place of the element in a variable.
+fn child(document: &Document, of: Variable, place: u8) -> Link
+    requires { place < places }
+{
+    Link(document.child(of, place))
+}
+
+/// Writes the children of the element in a variable.
+fn show_children(rt: &impl Print, document: &Document, of: Variable) -> Result<()> {
     for place in 0..PLACES {
-        let child = document.child(at, place);
-        if child.is_some() {
-            print!(rt; ", child {}", Link(child))?;
+        let child = child(document, of, place);
+        if child.0.is_some() {
+            print!(rt; ", child {child}")?;
         }
     }
+    Ok(())
+}
+
+/// Writes what a variable leads to.
+fn show(rt: &impl Print, document: &Document, word: &str, at: Variable) -> Result<()> {
+    let links = read_links(document, at);
+    print!(rt;
+        "  {word} is {}, with parent {}",
+        links.element, links.parent
+    )?;
+    show_children(rt, document, at)?;
     println!(rt;
         "; listens for {}, has data of {}",
-        Link(document.listener(at)),
-        Link(document.data(at))
+        links.listener, links.data
     )?;
     Ok(())
 }
@@ -67,52 +101,68 @@ fn tell(rt: &impl Print, told: &Notebook) -> Result<()> {
     Ok(())
 }
 
-/// Writes all that is there, whether anything leads to it or not.
+/// Tells all that is there, whether anything leads to it or not, and how many they are.
+fn census(document: &Document, told: &mut Notebook) -> u32 {
+    document.census(told)
+}
+
+/// Writes all that is there.
 fn count(rt: &impl Print, alloc: Global, document: &Document) -> Result<()> {
     let mut told = Notebook::new(alloc);
-    let many = document.census(&mut told);
+    let many = census(document, &mut told);
     println!(rt; "there are {many} objects")?;
     tell(rt, &told)
 }
 
-/// A page with a menu of two entries, and a text.
-fn build(document: &mut Document, told: &mut Notebook) -> Result<()> {
+/// An element for each variable.
+fn make(document: &mut Document, told: &mut Notebook) -> Result<(), DocumentError> {
     for variable in [PAGE, MENU, FIRST, SECOND, TEXT] {
         document.new_element(variable, told)?;
     }
-    document.append(PAGE, MENU, told)?;
-    document.append(MENU, FIRST, told)?;
-    document.append(MENU, SECOND, told)?;
-    document.append(PAGE, TEXT, told)?;
     Ok(())
+}
+
+/// A page with a menu of two entries, and a text.
+fn build(document: &mut Document, told: &mut Notebook) -> Result<(), DocumentError> {
+    for (parent, child) in [(PAGE, MENU), (MENU, FIRST), (MENU, SECOND), (PAGE, TEXT)] {
+        document.append(parent, child, told)?;
+    }
+    Ok(())
+}
+
+/// The element in one variable listens for that in another.
+fn listen(
+    document: &mut Document,
+    to: Variable,
+    about: Variable,
+    told: &mut Notebook,
+) -> Result<(), DocumentError> {
+    document.listen(to, about, told)
+}
+
+/// The second entry has data of itself.
+fn put_data(document: &mut Document) -> Result<(), DocumentError> {
+    document.put_data(SECOND, SECOND)
 }
 
 /// The menu listens for its second entry, which has data of itself; the text listens for the page.
-fn listen(document: &mut Document, told: &mut Notebook) -> Result<()> {
-    document.listen(MENU, SECOND, told)?;
-    document.put_data(SECOND, SECOND)?;
-    document.listen(TEXT, PAGE, told)?;
-    Ok(())
+fn start_listening(document: &mut Document, told: &mut Notebook) -> Result<(), DocumentError> {
+    listen(document, MENU, SECOND, told)?;
+    put_data(document)?;
+    listen(document, TEXT, PAGE, told)
 }
 
-/// Another text, and then a frame.
-fn add_text(rt: &impl Print, alloc: Global, document: &mut Document) -> Result<()> {
-    let mut told = Notebook::new(alloc);
-    document.new_element(TEXT, &mut told)?;
-    document.append(PAGE, TEXT, &mut told)?;
-    document.frame(UNITS, &mut told)?;
-    println!(rt;
-        "text {} is added, and a frame of {UNITS} units is done",
-        Link(document.element(TEXT))
-    )?;
-    tell(rt, &told)
+/// Makes the page and its menu.
+fn begin(document: &mut Document, told: &mut Notebook) -> Result<(), DocumentError> {
+    make(document, told)?;
+    build(document, told)?;
+    start_listening(document, told)
 }
 
-/// Builds the page and its menu, and writes what is there.
+/// Makes the page and its menu, and writes what is there.
 fn start(rt: &impl Print, alloc: Global, document: &mut Document) -> Result<()> {
     let mut told = Notebook::new(alloc);
-    build(document, &mut told)?;
-    listen(document, &mut told)?;
+    begin(document, &mut told)?;
     println!(rt; "a page with a menu")?;
     show(rt, document, "page", PAGE)?;
     show(rt, document, "menu", MENU)?;
@@ -121,13 +171,19 @@ fn start(rt: &impl Print, alloc: Global, document: &mut Document) -> Result<()> 
     count(rt, alloc, document)
 }
 
+/// The menu is on the page no more, and no variable holds any of it.
+fn remove(document: &mut Document, told: &mut Notebook) -> Result<(), DocumentError> {
+    document.remove(PAGE, MENU, told)?;
+    for variable in [MENU, FIRST, SECOND] {
+        document.let_go(variable, told);
+    }
+    Ok(())
+}
+
 /// Removes the menu, and writes that all of it is there still.
 fn remove_menu(rt: &impl Print, alloc: Global, document: &mut Document) -> Result<()> {
     let mut told = Notebook::new(alloc);
-    document.remove(PAGE, MENU, &mut told)?;
-    for variable in [MENU, FIRST, SECOND] {
-        document.let_go(variable, &mut told);
-    }
+    remove(document, &mut told)?;
     println!(rt; "the menu is removed, and no variable leads to it")?;
     show(rt, document, "page", PAGE)?;
     tell(rt, &told)?;
@@ -135,10 +191,37 @@ fn remove_menu(rt: &impl Print, alloc: Global, document: &mut Document) -> Resul
     count(rt, alloc, document)
 }
 
+/// Another text is on the page.
+fn append_text(document: &mut Document, told: &mut Notebook) -> Result<(), DocumentError> {
+    document.new_element(TEXT, told)?;
+    document.append(PAGE, TEXT, told)
+}
+
+/// A few units of a collection.
+fn frame(document: &mut Document, told: &mut Notebook) -> Result<(), NoMemory> {
+    document.frame(UNITS, told)?;
+    Ok(())
+}
+
+/// Another text, and then a frame.
+fn add_text(rt: &impl Print, alloc: Global, document: &mut Document) -> Result<()> {
+    let mut told = Notebook::new(alloc);
+    append_text(document, &mut told)?;
+    frame(document, &mut told)?;
+    let text = read_links(document, TEXT).element;
+    println!(rt; "text {text} is added, and a frame of {UNITS} units is done")?;
+    tell(rt, &told)
+}
+
+/// Script objects are traced.
+fn trace(document: &mut Document, told: &mut Notebook) {
+    document.trace(told);
+}
+
 /// Goes on with the page, in frames.
 fn go_on(rt: &impl Print, alloc: Global, document: &mut Document) -> Result<()> {
     let mut told = Notebook::new(alloc);
-    document.trace(&mut told);
+    trace(document, &mut told);
     println!(rt; "script objects are traced")?;
     tell(rt, &told)?;
     for _ in 0..4 {
@@ -147,10 +230,15 @@ fn go_on(rt: &impl Print, alloc: Global, document: &mut Document) -> Result<()> 
     Ok(())
 }
 
+/// The document has what the variables lead to, and no more.
+fn settle(document: &mut Document, told: &mut Notebook) -> Result<(), NoMemory> {
+    document.settle(told)
+}
+
 /// Settles the document, and writes what is left.
 fn end(rt: &impl Print, alloc: Global, document: &mut Document) -> Result<()> {
     let mut told = Notebook::new(alloc);
-    document.settle(&mut told)?;
+    settle(document, &mut told)?;
     println!(rt; "the document is settled")?;
     tell(rt, &told)?;
     show(rt, document, "page", PAGE)?;
@@ -159,11 +247,16 @@ fn end(rt: &impl Print, alloc: Global, document: &mut Document) -> Result<()> {
     count(rt, alloc, document)
 }
 
+/// The document from its start to its end.
+fn run(rt: &impl Print, alloc: Global, document: &mut Document) -> Result<()> {
+    start(rt, alloc, document)?;
+    remove_menu(rt, alloc, document)?;
+    go_on(rt, alloc, document)?;
+    end(rt, alloc, document)
+}
+
 fn main(rt: HostRuntime) -> Result<()> {
     let alloc = rt.alloc();
     let mut document = Document::new(alloc, Limits::new(100, 100, 0))?;
-    start(&rt, alloc, &mut document)?;
-    remove_menu(&rt, alloc, &mut document)?;
-    go_on(&rt, alloc, &mut document)?;
-    end(&rt, alloc, &mut document)
+    run(&rt, alloc, &mut document)
 }

@@ -1,6 +1,6 @@
 use Rattle.std.proofs.Common.{rules, arith, true, ◌≡◌, ◌<◌, ◌≤◌, ◌+◌, ℕ, List, [], ◌∷◌, ◌++◌, length, length-append, refl, sym, subst, ap, ◌∙◌}
 use Rattle.std.proofs.lemmas.Grind.{common_steps}
-use Rattle.std.proofs.lemmas.List.{nil_from_length}
+use Rattle.cc_reader.specs.declared.lines.Line.TheVariants.{Text, TooLong, End}
 use Rattle.cc_reader.specs.Pending.{weight}
 use Rattle.cc_reader.specs.Given.{HasGiven}
 use Rattle.cc_reader.specs.Used.{Begins}
@@ -39,21 +39,23 @@ returns-in_err-byte-clause-over g c = λ e start lines.
     Begins-over (left c.args.source.now) (left c.bytes.source) (left c.next_byte.new.source) c.args.window.now c.bytes.window c.next_byte.new.self i.0 i.2
     c.in_err-byte.ensures.stop c.in_err-byte.ensures.none c.in_err-byte.ensures.unended (c.in_err-byte.ensures.over (search rules)) start lines
 
-pub returns-then-is_long-clause-long : goal.returns-then-is_long-clause-long
-returns-then-is_long-clause-long g c = λ _.
+pub returns-then-byte-eq10-clause-long : goal.returns-then-byte-eq10-clause-long
+returns-then-byte-eq10-clause-long g c = λ e.
     let left = g.S.Source.left in
-    let i = c.bytes.invariant.line in (
+    let i = c.bytes.invariant.line in
+    let is : c.ended.result ≡ TooLong = cc in (
       i.0,
-      i.1.long c.if-is_long.true,
+      i.1.long (c.ended.ensures.long is),
       Begins-ended (left c.args.source.now) (left c.bytes.source) (left c.next_byte.new.source) c.args.window.now c.bytes.window c.next_byte.new.self i.0 c.in-Some.byte i.2
           (rw c.in-Some.is at c.in_ok-byte.ensures.byte) c.if-byte-eq10.true ((rw c.in-Some.is at c.in_ok-byte.ensures.going) refl),
     )
 
-pub returns-else-is_long-clause-kept : goal.returns-else-is_long-clause-kept
-returns-else-is_long-clause-kept g c = λ _ start lines h.
+pub returns-then-byte-eq10-clause-kept : goal.returns-then-byte-eq10-clause-kept
+returns-then-byte-eq10-clause-kept g c = λ e start lines h.
     let left = g.S.Source.left in
     let i = c.bytes.invariant.line in
-    subst (λ (t : List ℕ). HasGiven start (left c.next_byte.new.source) c.next_byte.new.self (lines ++ t ∷ [])) (i.1.short c.if-is_long.false)
+    let is : c.ended.result ≡ Text = cc in
+    subst (λ (t : List ℕ). HasGiven start (left c.next_byte.new.source) c.next_byte.new.self (lines ++ t ∷ [])) (i.1.short (c.ended.ensures.text is))
     (Begins-ended (left c.args.source.now) (left c.bytes.source) (left c.next_byte.new.source) c.args.window.now c.bytes.window c.next_byte.new.self i.0 c.in-Some.byte i.2
     (rw c.in-Some.is at c.in_ok-byte.ensures.byte) c.if-byte-eq10.true ((rw c.in-Some.is at c.in_ok-byte.ensures.going) refl) start lines h)
 
@@ -77,32 +79,37 @@ bytes-preserved g c =
       reads = λ start h. c.next_byte.ensures.reads start (c.bytes.invariant.reads start h);
     }
 
-pub returns-then-is_long-2-clause-long : goal.returns-then-is_long-2-clause-long
-returns-then-is_long-2-clause-long g c = λ _.
-    let left = g.S.Source.left in
-    let i = c.bytes.invariant.line in (
-      i.0,
-      i.1.long c.if-is_long-2.true,
-      Begins-last (left c.args.source.now) (left c.bytes.source) (left c.next_byte.new.source) c.args.window.now c.bytes.window c.next_byte.new.self i.0 i.2
-          (c.in_ok-byte.ensures.end (search rules)) (c.in_ok-byte.ensures.spent (search rules))
-          (λ e. let long : 120 < length i.0 = i.1.long c.if-is_long-2.true in let none : length i.0 ≡ 0 = ap length e in absurd (omega arith)),
-    )
-
-pub returns-then-is_empty-clause-whole : goal.returns-then-is_empty-clause-whole
-returns-then-is_empty-clause-whole g c = λ _.
+pub returns-clause-long : goal.returns-clause-long
+returns-clause-long g c = λ e.
     let left = g.S.Source.left in
     let i = c.bytes.invariant.line in
-    let nothing : i.0 ≡ [] = i.1.short c.if-is_long-2.false ∙ nil_from_length c.bytes.text (grind (arith, common_steps)) in
+    let is : c.last.result ≡ TooLong = cc in
+    let long : 120 < length i.0 = i.1.long (c.last.ensures.long is) in (
+      i.0,
+      long,
+      Begins-last (left c.args.source.now) (left c.bytes.source) (left c.next_byte.new.source) c.args.window.now c.bytes.window c.next_byte.new.self i.0 i.2
+          (c.in_ok-byte.ensures.end (search rules)) (c.in_ok-byte.ensures.spent (search rules))
+          (λ none. let zero : length i.0 ≡ 0 = ap length none in absurd (omega arith)),
+    )
+
+pub returns-clause-whole : goal.returns-clause-whole
+returns-clause-whole g c = λ e.
+    let left = g.S.Source.left in
+    let i = c.bytes.invariant.line in
+    let is : c.last.result ≡ End = cc in
+    let end = c.last.ensures.end is in
+    let nothing : i.0 ≡ [] = i.1.short end.0 ∙ end.1 in
     Begins-whole (left c.args.source.now) (left c.bytes.source) (left c.next_byte.new.source) c.args.window.now c.bytes.window c.next_byte.new.self
     (subst (λ (t : List ℕ). Begins (left c.args.source.now) (left c.bytes.source) c.args.window.now c.bytes.window t) nothing i.2)
     (c.in_ok-byte.ensures.end (search rules)) (c.in_ok-byte.ensures.spent (search rules))
 
-pub returns-else-is_empty-clause-kept : goal.returns-else-is_empty-clause-kept
-returns-else-is_empty-clause-kept g c = λ _ start lines h.
+pub returns-clause-kept : goal.returns-clause-kept
+returns-clause-kept g c = λ e start lines h.
     let left = g.S.Source.left in
     let i = c.bytes.invariant.line in
-    let same : i.0 ≡ c.bytes.text = i.1.short c.if-is_long-2.false in
+    let is : c.last.result ≡ Text = cc in
+    let text = c.last.ensures.text is in
+    let same : i.0 ≡ c.bytes.text = i.1.short text.0 in
     subst (λ (t : List ℕ). HasGiven start (left c.next_byte.new.source) c.next_byte.new.self (lines ++ t ∷ [])) same
     (Begins-last (left c.args.source.now) (left c.bytes.source) (left c.next_byte.new.source) c.args.window.now c.bytes.window c.next_byte.new.self i.0 i.2
-    (c.in_ok-byte.ensures.end (search rules)) (c.in_ok-byte.ensures.spent (search rules))
-    (λ e. let none : length c.bytes.text ≡ 0 = ap length (sym same ∙ e) in absurd (grind (arith, common_steps))) start lines h)
+    (c.in_ok-byte.ensures.end (search rules)) (c.in_ok-byte.ensures.spent (search rules)) (λ none. text.1 (sym same ∙ none)) start lines h)

@@ -1,9 +1,17 @@
-use Rattle.std.proofs.Common.{◌≡◌, Option, Ok, Err, refl, sym, ap, ◌∙◌}
+use Rattle.std.proofs.Common.{◌≡◌, ◌≢◌, false, Option, Result, Ok, Err, refl, sym, ap, subst, ◌∙◌}
+use Rattle.cc_lists.specs.Faults.{raised, Rose}
 use Rattle.cc_model.specs.Telling.{Telling}
 use Rattle.cc_reader.specs.Given.{AreAllGiven, IsBroken, IsOver}
+use Rattle.cc_reader.specs.declared.read_stop.ReadStop.{ReadStop}
+use Rattle.cc_reader.specs.declared.read_stop.ReadStop.TheVariants as stop
 use Rattle.cc_heaps.specs.Keyed.{Keyed}
 use Rattle.cc_builder.specs.Building.{Built}
 use Rattle.cc_collector.specs.Kept.{machine_of}
+use Rattle.cc_replay.specs.declared.answering.Next.{Next}
+use Rattle.cc_replay.specs.declared.answering.Next.TheVariants.{End}
+use Rattle.cc_replay.specs.declared.status.Status.{Status}
+use Rattle.cc_replay.specs.declared.status.Status.TheVariants as status
+use Rattle.cc_replay.specs.Answering.{EndsBy}
 use Rattle.cc_replay.proofs.Answers.{Answers-none, Answers-still, Answers-more, Answers-first}
 use Rattle.cc_replay.proofs.answering.answer_all.Goals as goal
 
@@ -25,25 +33,112 @@ lines-init g c = record {
   sink = refl;
 }
 
-pub returns-in-Ok-End-clause-done : goal.returns-in-Ok-End-clause-done
-returns-in-Ok-End-clause-done g c = λ _.
-    let was = c.in-Ok-End.is ∙ ap Ok c.in-Ok-End.field-0-is in
+-- what holds of each way to end
+by_ending : (came : Result Next ReadStop) (how : Status) (P : Status → Type 0) → EndsBy came how → (came ≡ Ok End → P status.Done) → (came ≡ Err stop.Fault → P status.ReadFault) →
+    (came ≡ Err stop.Limit → P status.Limit) → P how
+by_ending came status.Done P h done fault limit = done h
+by_ending came status.ReadFault P h done fault limit = fault h
+by_ending came status.Limit P h done fault limit = limit h
+by_ending came status.WriteFault P h done fault limit = absurd h
+by_ending came status.Usage P h done fault limit = absurd h
+by_ending came status.NoMemory P h done fault limit = absurd h
+
+-- nothing is told where a run ends
+pub returns-in-Some-clause-sink : goal.returns-in-Some-clause-sink
+returns-in-Some-clause-sink g c =
+    let telling = g.N.Notices.telling in
+    let next = c.answer_next.ensures in
+    by_ending c.answer_next.result c.in-Some.status (λ _. (telling c.answer_next.new.out).sink ≡ (telling c.args.out.now).sink) c.in-Some.ensures.ending
+    (λ was. ap (λ (t : Telling). t.sink) (next.quiet was).2 ∙ c.lines.invariant.sink)
+    (λ was. let still = rw was at next.still in ap (λ (t : Telling). t.sink) still.2 ∙ c.lines.invariant.sink)
+    (λ was. let still = rw was at next.still in ap (λ (t : Telling). t.sink) still.2 ∙ c.lines.invariant.sink)
+
+pub returns-in-Some-clause-whole : goal.returns-in-Some-clause-whole
+returns-in-Some-clause-whole g c = λ _.
+    let telling = g.N.Notices.telling in
+    let next = c.answer_next.ensures in
+    by_ending c.answer_next.result c.in-Some.status (λ _. (telling c.answer_next.new.out).broken ≡ false) c.in-Some.ensures.ending
+    (λ was. ap (λ (t : Telling). t.broken) (next.quiet was).2 ∙ c.lines.invariant.whole)
+    (λ was. let still = rw was at next.still in ap (λ (t : Telling). t.broken) still.2 ∙ c.lines.invariant.whole)
+    (λ was. let still = rw was at next.still in ap (λ (t : Telling). t.broken) still.2 ∙ c.lines.invariant.whole)
+
+pub returns-in-Some-clause-written : goal.returns-in-Some-clause-written
+returns-in-Some-clause-written g c = λ _.
+    let telling = g.N.Notices.telling in
+    let next = c.answer_next.ensures in
+    by_ending c.answer_next.result c.in-Some.status (λ _. (telling c.answer_next.new.out).faults ≡ (telling c.args.out.now).faults) c.in-Some.ensures.ending
+    (λ was. ap (λ (t : Telling). t.faults) (next.quiet was).2 ∙ c.lines.invariant.written)
+    (λ was. let still = rw was at next.still in ap (λ (t : Telling). t.faults) still.2 ∙ c.lines.invariant.written)
+    (λ was. let still = rw was at next.still in ap (λ (t : Telling). t.faults) still.2 ∙ c.lines.invariant.written)
+
+pub returns-in-Some-clause-calm : goal.returns-in-Some-clause-calm
+returns-in-Some-clause-calm g c =
+    let faults = g.S.Source.faults in
+    let next = c.answer_next.ensures in
+    by_ending c.answer_next.result c.in-Some.status (λ how. how ≢ status.ReadFault → faults c.answer_next.new.lines.source.now ≡ faults c.args.lines.now.source.now) c.in-Some.ensures.ending
+    (λ was other. let calm = rw was at next.calm in calm ∙ c.lines.invariant.calm)
+    (λ was other. absurd (other refl))
+    (λ was other. next.unfaulted was ∙ c.lines.invariant.calm)
+
+pub returns-in-Some-clause-read : goal.returns-in-Some-clause-read
+returns-in-Some-clause-read g c = λ e.
+    let faults = g.S.Source.faults in
+    let was : c.answer_next.result ≡ Err stop.Fault = subst (λ (how : Status). EndsBy c.answer_next.result how) e c.in-Some.ensures.ending in
+    subst (λ n. Rose n (faults c.answer_next.new.lines.source.now)) c.lines.invariant.calm (c.answer_next.ensures.rose was)
+
+pub returns-in-Some-clause-limit : goal.returns-in-Some-clause-limit
+returns-in-Some-clause-limit g c = c.answer_next.ensures.limit ∙ c.lines.invariant.limit
+
+pub returns-in-Some-clause-reads : goal.returns-in-Some-clause-reads
+returns-in-Some-clause-reads g c = λ start h. c.answer_next.ensures.reads start (c.lines.invariant.reads start h)
+
+pub returns-in-Some-clause-source : goal.returns-in-Some-clause-source
+returns-in-Some-clause-source g c = c.answer_next.ensures.same ∙ c.lines.invariant.source
+
+-- it does not end by a write
+never : (came : Result Next ReadStop) (how : Status) → EndsBy came how → how ≢ status.WriteFault
+never came how h e = subst (λ (s : Status). EndsBy came s) e h
+
+pub returns-in-Some-clause-first : goal.returns-in-Some-clause-first
+returns-in-Some-clause-first g c = λ e. absurd (never c.answer_next.result c.in-Some.status c.in-Some.ensures.ending e)
+
+pub returns-in-Some-clause-broken : goal.returns-in-Some-clause-broken
+returns-in-Some-clause-broken g c = λ e. absurd (never c.answer_next.result c.in-Some.status c.in-Some.ensures.ending e)
+
+pub returns-in-Some-clause-unwritten : goal.returns-in-Some-clause-unwritten
+returns-in-Some-clause-unwritten g c = λ e. absurd (never c.answer_next.result c.in-Some.status c.in-Some.ensures.ending e)
+
+pub returns-in-Some-clause-once : goal.returns-in-Some-clause-once
+returns-in-Some-clause-once g c = λ e. absurd (never c.answer_next.result c.in-Some.status c.in-Some.ensures.ending e)
+
+pub returns-in-Some-clause-others : goal.returns-in-Some-clause-others
+returns-in-Some-clause-others g c = (
+  (λ e. subst (λ (s : Status). EndsBy c.answer_next.result s) e c.in-Some.ensures.ending),
+  (λ e. subst (λ (s : Status). EndsBy c.answer_next.result s) e c.in-Some.ensures.ending),
+)
+
+pub returns-in-Some-clause-done : goal.returns-in-Some-clause-done
+returns-in-Some-clause-done g c = λ e.
+    let was : c.answer_next.result ≡ Ok End = subst (λ (how : Status). EndsBy c.answer_next.result how) e c.in-Some.ensures.ending in
     Answers-still AreAllGiven c.lines.invariant.lines (c.answer_next.ensures.whole was) (still_machine (c.answer_next.ensures.quiet was))
 
-pub returns-in-Err-Fault-clause-fault : goal.returns-in-Err-Fault-clause-fault
-returns-in-Err-Fault-clause-fault g c = λ _.
-    let was = c.in-Err-Fault.is ∙ ap Err c.in-Err-Fault.field-0-is in
-    Answers-still IsBroken c.lines.invariant.lines (c.answer_next.ensures.fault was) (still_machine c.in-Err-Fault.ensures.still)
+pub returns-in-Some-clause-fault : goal.returns-in-Some-clause-fault
+returns-in-Some-clause-fault g c = λ e.
+    let was : c.answer_next.result ≡ Err stop.Fault = subst (λ (how : Status). EndsBy c.answer_next.result how) e c.in-Some.ensures.ending in
+    let still = rw was at c.answer_next.ensures.still in
+    Answers-still IsBroken c.lines.invariant.lines (c.answer_next.ensures.fault was) (still_machine still)
 
-pub returns-in-Err-Limit-clause-over : goal.returns-in-Err-Limit-clause-over
-returns-in-Err-Limit-clause-over g c = λ _.
-    let was = c.in-Err-Limit.is ∙ ap Err c.in-Err-Limit.field-0-is in
-    Answers-still IsOver c.lines.invariant.lines (c.answer_next.ensures.over was) (still_machine c.in-Err-Limit.ensures.still)
+pub returns-in-Some-clause-over : goal.returns-in-Some-clause-over
+returns-in-Some-clause-over g c = λ e.
+    let was : c.answer_next.result ≡ Err stop.Limit = subst (λ (how : Status). EndsBy c.answer_next.result how) e c.in-Some.ensures.ending in
+    let still = rw was at c.answer_next.ensures.still in
+    Answers-still IsOver c.lines.invariant.lines (c.answer_next.ensures.over was) (still_machine still)
 
 pub lines-preserved : goal.lines-preserved
 lines-preserved g c =
-    let was = c.in-Ok-Answered.is ∙ ap Ok c.in-Ok-Answered.field-0-is in
+    let was = c.ended_by.ensures.going c.in_default.is in
     let l = c.answer_next.ensures.answered was in
+    let calm = rw was at c.answer_next.ensures.calm in
     record {
       lines = Answers-more c.lines.invariant.lines l;
       runs = c.answer_next.ensures.runs;
@@ -51,7 +146,7 @@ lines-preserved g c =
       limit = c.answer_next.ensures.limit ∙ c.lines.invariant.limit;
       reads = λ start h. c.answer_next.ensures.reads start (c.lines.invariant.reads start h);
       whole = sym c.is_broken.ensures ∙ c.if-is_broken.false;
-      calm = c.in-Ok-Answered.ensures.calm ∙ c.lines.invariant.calm;
+      calm = calm ∙ c.lines.invariant.calm;
       written = (l.2.answered.told.whole (sym c.is_broken.ensures ∙ c.if-is_broken.false)).faults ∙ c.lines.invariant.written;
       source = c.answer_next.ensures.same ∙ c.lines.invariant.source;
       sink = l.2.answered.told.sink ∙ c.lines.invariant.sink;
@@ -59,5 +154,21 @@ lines-preserved g c =
 
 pub returns-then-is_broken-clause-first : goal.returns-then-is_broken-clause-first
 returns-then-is_broken-clause-first g c = λ _.
-    let was = c.in-Ok-Answered.is ∙ ap Ok c.in-Ok-Answered.field-0-is in
+    let was = c.ended_by.ensures.going c.in_default.is in
     Answers-first (Answers-more c.lines.invariant.lines (c.answer_next.ensures.answered was))
+
+pub returns-then-is_broken-clause-calm : goal.returns-then-is_broken-clause-calm
+returns-then-is_broken-clause-calm g c = λ _.
+    let was = c.ended_by.ensures.going c.in_default.is in
+    let calm = rw was at c.answer_next.ensures.calm in
+    calm ∙ c.lines.invariant.calm
+
+pub returns-then-is_broken-clause-sink : goal.returns-then-is_broken-clause-sink
+returns-then-is_broken-clause-sink g c =
+    let l = c.answer_next.ensures.answered (c.ended_by.ensures.going c.in_default.is) in
+    l.2.answered.told.sink ∙ c.lines.invariant.sink
+
+pub returns-then-is_broken-clause-once : goal.returns-then-is_broken-clause-once
+returns-then-is_broken-clause-once g c = λ _.
+    let l = c.answer_next.ensures.answered (c.ended_by.ensures.going c.in_default.is) in
+    (l.2.answered.told.broke c.lines.invariant.whole (sym c.is_broken.ensures ∙ c.if-is_broken.true)).faults ∙ ap (λ n. raised n 1) c.lines.invariant.written
