@@ -1,11 +1,11 @@
 -- A CASCADE LEAVES SOUND HEAPS.
-use Rattle.std.proofs.Common.{◌≡◌, ℕ, zero, suc, ◌<◌, ◌≤◌, not, List, [], ◌∷◌, length, Option, Some, None, refl, sym, ◌∙◌, ap, subst, ⊎_elim, arith, ◌==◌}
+use Rattle.std.proofs.Common.{◌≡◌, ℕ, zero, suc, ◌<◌, ◌≤◌, not, List, [], ◌∷◌, Option, Some, None, refl, sym, ◌∙◌, ap, subst, ⊎_elim, arith, ◌==◌}
 use Rattle.std.proofs.lemmas.Bool.{cases_lt, eqb-true}
 use Rattle.cc_lists.specs.Members.{Among, has}
 use Rattle.cc_lists.proofs.Counting.{counted_is}
 use Rattle.cc_names.specs.Names.{native}
 use Rattle.cc_model.specs.Heap.{Heap, HeapNative, native_at}
-use Rattle.cc_model.specs.Cascade.{Draining, give_up, at_rest, drained, cascade}
+use Rattle.cc_model.specs.Cascade.{Draining, at_rest, drained, cascade}
 use Rattle.cc_model.specs.WellFormed.{IsWellFormed, native_names}
 use Rattle.cc_model.specs.Counts.{refs_to, times}
 use Rattle.cc_laws_heap.specs.Sound.{IsSound}
@@ -13,11 +13,11 @@ use Rattle.cc_laws_heap.specs.Freeing.{Frees}
 use Rattle.cc_laws_heap.proofs.Natives.{native_at-there, native_at-named, native_at-member, named-found, IsWellFormed-distinct}
 use Rattle.cc_laws_heap.proofs.Beside.{SameBeside-is}
 use Rattle.cc_laws_heap.proofs.Counted.{IsCounted-referred, IsSound-counted, IsSound-from_counted}
-use Rattle.cc_laws_heap.proofs.GiveUp.{living-one, IsBalanced-give_up}
+use Rattle.cc_laws_heap.proofs.GiveUp.{living-one}
 use Rattle.cc_laws_heap.specs.Balance.{one_at_zero, one_above_zero, waiting, living, IsBalanced, has_place, places}
-use Rattle.cc_laws_heap.proofs.DrainingAlike.{IsAlike-length, IsAlike-give_up}
-use Rattle.cc_laws_heap.proofs.Freed.{outcome, Frees-alike, Frees-at_rest}
-use Rattle.cc_laws_heap.proofs.Drain.{drain-balanced, drain-frees}
+use Rattle.cc_laws_heap.proofs.Freed.{outcome}
+use Rattle.cc_laws_heap.proofs.Drain.{drained-balanced}
+use Rattle.cc_laws_heap.proofs.CascadeTakesOut.{cascade-frees_steady}
 use Rattle.cc_laws_heap.proofs.WellFormedStays.{IsPart, IsWellFormed-part}
 
 -- a count above zero is not that of a native that waits
@@ -95,22 +95,12 @@ IsSound-balanced owned h ks d w f b q = IsSound-from_counted owned d.heap well_f
         (sym (ap waiting (native_at-member d.heap b.distinct n m)) ∙ (sym (b.queue n.number) ∙ ap (times n.number) q))
 
 module _ (owned : List ℕ) (h : Heap) (k : ℕ) (s : IsSound (k ∷ owned) h) where
-  -- the first reference given up leaves a balance
-  first-balanced : IsBalanced owned (give_up (at_rest h) k)
-  first-balanced = IsBalanced-give_up owned (at_rest h) k (IsBalanced-at_rest (k ∷ owned) h s)
-
-  -- a cascade leaves a balance, and none that waits
-  pub drained-balanced : IsBalanced owned (drained h k) × ((drained h k).queue ≡ [])
-  unfolding drained
-  drained-balanced = drain-balanced (length h.natives) owned (give_up (at_rest h) k) first-balanced
-      (omega (arith, IsAlike-length (at_rest h) (give_up (at_rest h) k) (IsAlike-give_up (at_rest h) k)))
-
   -- What a cascade tells is what it takes out.
   pub cascade-frees : (ks : List ℕ) × Frees h ks (cascade h k)
-  unfolding drained
-  cascade-frees = drain-frees (length h.natives) owned (give_up (at_rest h) k) first-balanced h []
-      (Frees-alike h [] (at_rest h) (give_up (at_rest h) k) (IsAlike-give_up (at_rest h) k) (Frees-at_rest h))
+  cascade-frees = cascade-frees_steady owned h k (IsBalanced-at_rest (k ∷ owned) h s)
 
   -- A cascade leaves sound heaps.
   pub cascade-sound : IsSound owned (cascade h k).heap
-  cascade-sound = IsSound-balanced owned h cascade-frees.0 (drained h k) s.well_formed cascade-frees.1 drained-balanced.0 drained-balanced.1
+  cascade-sound =
+      let d = drained-balanced owned h k (IsBalanced-at_rest (k ∷ owned) h s) in
+      IsSound-balanced owned h cascade-frees.0 (drained h k) s.well_formed cascade-frees.1 d.0 d.1

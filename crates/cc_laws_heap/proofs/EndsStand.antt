@@ -14,7 +14,7 @@ use Rattle.cc_model.specs.End.{root_each, unlink, unlink_each, unroot_each, take
 use Rattle.cc_model.specs.WellFormed.{native_names, names_there}
 use Rattle.cc_model.specs.StandsFor.{StandsFor}
 use Rattle.cc_laws_heap.specs.Sound.{IsSound}
-use Rattle.cc_laws_heap.specs.Ending.{freed_in}
+use Rattle.cc_laws_heap.specs.Ending.{freed_in, freed_numbers}
 use Rattle.cc_laws_heap.proofs.References.{native-there}
 use Rattle.cc_laws_heap.proofs.Cascades.{cascade-sound}
 use Rattle.cc_laws_heap.proofs.HoldsTheSame.{HoldsTheSame-add_ref, native_names-alike}
@@ -23,7 +23,7 @@ use Rattle.cc_laws_heap.proofs.ReachedAlike.{reached-there}
 use Rattle.cc_laws_heap.proofs.Leaving.{Leave-not_freed}
 use Rattle.cc_laws_heap.proofs.Unlinking.{unlink-keeps}
 use Rattle.cc_laws_heap.proofs.StandingOn.{add_ref-stands, cascade-stands, unlink-stands}
-use Rattle.cc_laws_heap.proofs.TakingAway.{root_each-sound, on_the_way-unlinked, on_the_way-end}
+use Rattle.cc_laws_heap.proofs.TakingAway.{root_each-sound, taking-unlinked, take_away-sound, take_away-leaves, take_away-takes}
 
 module _ (g : Graph) (m : IsWellMade g) where
   -- with natives rooted the heaps stand as before
@@ -57,18 +57,16 @@ module _ (h : Heap) (g : Graph) (ks : List ℕ) (s : IsSound [] h) (there : (k :
   -- THE END LEAVES HEAPS THAT STAND FOR THE SAME GRAPH.
   pub take_away-stands : StandsFor (take_away ks h).heap g
   unfolding take_away
-  take_away-stands = unroot_each-stands g m ks [] (unlink_each ks (silently (root_each ks h))) (on_the_way-unlinked h ks s there).1.sound
+  take_away-stands = unroot_each-stands g m ks [] (unlink_each ks (silently (root_each ks h))) (taking-unlinked h ks s there).sound
       (unlink_each-stands g m ks (ks ++ []) (silently (root_each ks h)) (λ k i. Among-left k ks [] i) d (root_each-sound ks [] h there s)
       (root_each-stands g m ks [] h there s t))
 
   -- What it frees no register reaches.
   pub take_away-unreached : (x : Name) → Among (Freed x) (take_away ks h).events → ¬ (Reached g x)
   take_away-unreached x i r =
-      let e = on_the_way-end h ks s there in
-      let w = e.2 in
-      let k = w.tells.natives_alone (Freed x) i in
-      let freed : Among k.0 e.1 = subst (λ js. Among k.0 js) w.tells.freed_told
-      (Among-flat_map freed_in (Freed x) k.0 (take_away ks h).events i (subst (λ y. Among k.0 (natives_in y)) (sym k.1) (inl refl))) in
-      let kept : Among (native k.0) (names_there (take_away ks h).heap) =
-      subst (λ y. Among y (names_there (take_away ks h).heap)) k.1 (reached-there (take_away ks h).heap g x take_away-stands r) in
-      Leave-not_freed h e.1 (take_away ks h).heap w.leaves k.0 (native-there (take_away ks h).heap k.0 w.sound.well_formed kept) freed
+      let end : Heap = (take_away ks h).heap in
+      let told : List ℕ = freed_numbers (take_away ks h).events in
+      let k = (take_away-takes h ks s there).1.natives_alone (Freed x) i in
+      let freed : Among k.0 told = Among-flat_map freed_in (Freed x) k.0 (take_away ks h).events i (subst (λ y. Among k.0 (natives_in y)) (sym k.1) (inl refl)) in
+      let kept : Among (native k.0) (names_there end) = subst (λ y. Among y (names_there end)) k.1 (reached-there end g x take_away-stands r) in
+      Leave-not_freed h told end (take_away-leaves h ks s there) k.0 (native-there end k.0 (take_away-sound h ks s there).well_formed kept) freed

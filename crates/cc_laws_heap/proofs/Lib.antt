@@ -10,6 +10,8 @@ pub mod DrainingAlike
 pub mod Freed
 pub mod WellFormedStays
 pub mod Drain
+pub mod Folding
+pub mod Giving
 pub mod Cascades
 pub mod Kept
 pub mod Making

@@ -24,8 +24,12 @@ use Rattle.cc_laws_heap.proofs.Cascades.{IsBalanced-at_rest, IsSound-balanced}
 use Rattle.cc_laws_heap.proofs.ScriptNames.{script-named, scripts-once}
 use Rattle.cc_laws_heap.proofs.NameLists.{has-natives_in}
 use Rattle.cc_laws_heap.proofs.TakenOut.{TakesOut, TakesOut-silently, is_native_left-none_of}
-use Rattle.cc_laws_heap.proofs.SweepBalance.{IsSteady, IsSteady-telling}
-use Rattle.cc_laws_heap.proofs.SweepEach.{IsToSweep, scripts-sweep_each, TakesOut-sweep_each}
+use Rattle.cc_laws_heap.specs.Balance.{IsSteady}
+use Rattle.cc_laws_heap.specs.Stages.{stage}
+use Rattle.cc_laws_heap.specs.Stages.Done.{nothing}
+use Rattle.cc_laws_heap.proofs.ScriptsKept.{native-no_script}
+use Rattle.cc_laws_heap.proofs.SweepBalance.{IsSteady-telling}
+use Rattle.cc_laws_heap.proofs.SweepEach.{IsToSweep, DoneBy, scripts-sweep_each, TakesOut-sweep_each}
 use Rattle.cc_laws_heap.proofs.MarkedKept.{unmarked-white}
 use Rattle.cc_laws_heap.proofs.MarkedWellFormed.{is_spared, is_spared_entry, spared, IsWellFormed-spared}
 
@@ -42,6 +46,7 @@ module _ (h : Heap) (c : HasColours h) (s : IsSound [] h) where
       record {
         steady = record { distinct = b.distinct; counts = b.counts; queue = b.queue; buffer = b.buffer };
         named = script-named h s.well_formed;
+        bare = λ o i m j. native-no_script h i s.well_formed (s.well_formed.script_contents o (native i) m j);
         distinct = scripts-once h s.well_formed;
         there = λ x m.
             let f = unmarked-white h x m in
@@ -60,9 +65,11 @@ module _ (h : Heap) (c : HasColours h) (s : IsSound [] h) where
 
   -- they are told and taken out, with what is freed meanwhile, and the heaps stay steady
   pub taken-sweep : (xs : List Name) × TakesOut (without_dead_entries (unmarked h) h) xs (sweep h) × IsSteady [] (sweep h).heap
+      × DoneBy (without_dead_entries (unmarked h) h) (sweep h)
   unfolding sweep
-  taken-sweep = TakesOut-sweep_each (unmarked h) (without_dead_entries (unmarked h) h) [] (silently (without_dead_entries (unmarked h) h))
-      (TakesOut-silently (without_dead_entries (unmarked h) h)) to_sweep
+  taken-sweep =
+      let g : Heap = without_dead_entries (unmarked h) h in
+      TakesOut-sweep_each (unmarked h) g [] (silently g) (TakesOut-silently g) (nothing (stage [] [] g)) to_sweep
 
   -- What a sweep tells is what it takes out.
   pub sweep-frees : FreesNames h taken-sweep.0 (sweep h)

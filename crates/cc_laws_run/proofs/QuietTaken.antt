@@ -24,7 +24,7 @@ use Rattle.cc_laws_heap.proofs.Cascades.{cascade-sound, cascade-frees}
 use Rattle.cc_laws_heap.proofs.StandingOn.{uncounted-emptied}
 use Rattle.cc_laws_heap.proofs.Leaving.{IsOf, IsOf-alike, IsOf-frees}
 use Rattle.cc_laws_heap.proofs.Unlinking.{unlink-keeps}
-use Rattle.cc_laws_heap.proofs.TakingAway.{root_each-sound, on_the_way-unlinked, on_the_way-end}
+use Rattle.cc_laws_heap.proofs.TakingAway.{root_each-sound, taking-unlinked, take_away-sound, take_away-leaves}
 use Rattle.cc_laws_heap.proofs.ViewEdges.{native_edges-are}
 use Rattle.cc_laws_heap.proofs.References.{native-there}
 use Rattle.cc_laws_heap.proofs.Making.{contents-empty_none}
@@ -109,7 +109,7 @@ module _ (h : Heap) (ks : List ℕ) (s : IsSound [] h) (there : (k : ℕ) → Am
   -- a native that is left is as it was where all were unlinked
   left-of : (n : HeapNative) → Among n (take_away ks h).heap.natives → IsOf (unlink_each ks rooted).heap n
   unfolding take_away
-  left-of n m = unroot_each-natives ks [] (unlink_each ks rooted) (on_the_way-unlinked h ks s there).1.sound n m
+  left-of n m = unroot_each-natives ks [] (unlink_each ks rooted) (taking-unlinked h ks s there).sound n m
 
   -- Natives that were taken away are empty where they are left,
   pub taken-emptied : (n : HeapNative) → Among n (take_away ks h).heap.natives → Among n.number ks → IsEmptied n
@@ -131,7 +131,7 @@ module _ (h : Heap) (ks : List ℕ) (s : IsSound [] h) (there : (k : ℕ) → Am
 
   -- beside natives nothing changes
   taken-beside : SameBeside h (take_away ks h).heap
-  taken-beside = (on_the_way-end h ks s there).2.leaves.beside
+  taken-beside = (take_away-leaves h ks s there).beside
 
   -- the heaps after it
   abbrev end : Heap
@@ -139,7 +139,7 @@ module _ (h : Heap) (ks : List ℕ) (s : IsSound [] h) (there : (k : ℕ) → Am
 
   -- they are sound
   end-sound : IsSound [] end
-  end-sound = (on_the_way-end h ks s there).2.sound
+  end-sound = take_away-sound h ks s there
 
   -- an empty native has no edges
   pub emptied-none : (n : HeapNative) (x y : Name) → IsEmptied n → ¬ (Among (x, y) (native_edges n))

@@ -24,7 +24,7 @@ use Rattle.cc_laws_heap.proofs.Cascades.{cascade-frees, cascade-sound}
 use Rattle.cc_laws_heap.proofs.Leaving.{IsOf-frees}
 use Rattle.cc_laws_snapshot.proofs.SoundView.{living-native}
 use Rattle.cc_laws_snapshot.proofs.Marked.{names_in, places-named, named-places}
-use Rattle.cc_laws_snapshot.proofs.Settling.{IsSettled, settled-drained}
+use Rattle.cc_laws_snapshot.proofs.Settling.{IsSettled, settled-cascade}
 use Rattle.cc_laws_snapshot.proofs.EdgesLeft.{edges_left, edge-left}
 use Rattle.cc_laws_snapshot.proofs.GentleBut.{AreGentle, AreGentle-refl}
 use Rattle.cc_laws_snapshot.proofs.NativesChange.{ChangesGently, AreGentleBut-natives}
@@ -53,7 +53,7 @@ module _ (owned : List ℕ) (h : Heap) (k : ℕ) (s : IsSound (k ∷ owned) h) w
 
   -- what is outside the buffer after the cascade was settled before, and is not the native given up
   was_settled : (n : HeapNative) → Among n after.natives → ¬ (Among (native n.number) (names_in after.buffer)) → IsSettled h n.number n × (n.number ≢ k)
-  was_settled n m o = settled-drained h k n.number n (settled-outside owned after n (cascade-sound owned h k s) m o)
+  was_settled n m o = settled-cascade owned h k n.number n s (settled-outside owned after n (cascade-sound owned h k s) m o)
 
   -- as many slots hold it as before
   slots_as_often : (n : HeapNative) → Among n after.natives → ¬ (Among (native n.number) (names_in after.buffer)) →

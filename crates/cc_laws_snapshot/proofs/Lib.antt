@@ -32,6 +32,7 @@ pub mod KindsLoyal
 pub mod LoyalSuspected
 pub mod BufferMarks
 pub mod NamesAndEdges
+pub mod LosesTo
 pub mod CascadeLoses
 pub mod SlotsWritten
 pub mod Handing
@@ -40,10 +41,6 @@ pub mod StillNatives
 pub mod CommandsLoyal
 pub mod CommandsSuspected
 pub mod GivingBack
-pub mod LosesBut
-pub mod Unrooting
-pub mod CascadeBeside
-pub mod SparedSound
 pub mod SweepLoses
 pub mod UncoveredWhite
 pub mod UnlinkLoses
