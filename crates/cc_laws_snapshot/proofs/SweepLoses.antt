@@ -1,5 +1,5 @@
 -- A SCRIPT COLLECTION LOSES: each native that a swept reflector gave up is purple or gone.
-use Rattle.std.proofs.Common.{◌≡◌, ℕ, suc, not, List, [], ◌∷◌, ◌++◌, length, refl, sym, ◌∙◌, ap, subst, inl, inr, ◌⊎◌, ⊎_elim}
+use Rattle.std.proofs.Common.{◌≡◌, ℕ, not, List, [], ◌∷◌, ◌++◌, refl, sym, ◌∙◌, ap, subst, inl, inr, ◌⊎◌, ⊎_elim}
 use Rattle.std.specs.List.{flat_map}
 use Rattle.std.proofs.lemmas.Bool.{cases_Bool}
 use Rattle.cc_lists.specs.Members.{Among}
@@ -9,7 +9,7 @@ use Rattle.cc_names.specs.Names.{native, object, reflector, same_name, number_of
 use Rattle.cc_names.proofs.NameTests.{same_name-true}
 use Rattle.cc_model.specs.declared.item.Event.{Event}
 use Rattle.cc_model.specs.Entries.{Entry}
-use Rattle.cc_model.specs.Heap.{Heap, HeapScript, Outcome, silently}
+use Rattle.cc_model.specs.Heap.{Heap, HeapScript}
 use Rattle.cc_model.specs.View.{view, native_edges, script_edges}
 use Rattle.cc_model.specs.Colours.{marked}
 use Rattle.cc_model.specs.Sweep.{unmarked, without_dead_entries, without_script, sweep, collect_scripts}
@@ -19,10 +19,10 @@ use Rattle.cc_laws_heap.specs.Stages.{Stage, stage, HoldNoNatives, Sweeping}
 use Rattle.cc_laws_heap.specs.Stages.Sweeping.{swept_object, swept_reflector}
 use Rattle.cc_lists.proofs.ListWrites.{flat_map-kept}
 use Rattle.cc_laws_heap.proofs.Marking.{as_marked, HasColours-marked}
-use Rattle.cc_laws_heap.proofs.MarkingKeeps.{IsSound-marked, round-sound}
+use Rattle.cc_laws_heap.proofs.MarkingKeeps.{IsSound-marked}
 use Rattle.cc_laws_heap.proofs.Folding.{done-keeps}
 use Rattle.cc_laws_heap.proofs.Swept.{taken-sweep}
-use Rattle.cc_laws_heap.proofs.RoundsEnd.{next_round, rounds-keep}
+use Rattle.cc_laws_heap.proofs.CollectedColours.{collecting-keeps, collect_scripts-sound}
 use Rattle.cc_laws_heap.proofs.ViewEdges.{script_edges-are}
 use Rattle.cc_laws_snapshot.proofs.LoyalSuspected.{loyal-suspected, loses-loyal}
 use Rattle.cc_laws_snapshot.proofs.LosesTo.{IsLost, LosesTo, LosesTo-refl, LosesTo-trans, LosesTo-loses}
@@ -92,28 +92,15 @@ round-loses h s =
     (LosesTo-trans (stage [] [] m) (stage [] [] g) end (entries-lose m g.entries)
     (done-keeps LosesIn Sweeping losing-kept sweeping-loses (stage [] [] g) (sweep m).events end (taken-sweep m (HasColours-marked h) (IsSound-marked [] h s)).3))
 
--- the heaps are sound, and lost what they lost
-record IsLosing (h : Heap) (o : Outcome) : Type 0 where
-  sound : IsSound [] o.heap
-  loses : LosesTo (stage [] [] h) (stage [] [] o.heap)
-
--- a round keeps it
-IsLosing-round : (h : Heap) (o : Outcome) → IsLosing h o → IsLosing h (next_round o)
-IsLosing-round h o l = record {
-  sound = round-sound o.heap l.sound;
-  loses = LosesTo-trans (stage [] [] h) (stage [] [] o.heap) (stage [] [] (next_round o).heap) l.loses (round-loses o.heap l.sound);
-}
-
--- A script collection loses,
-collect_scripts-losing : (h : Heap) → IsSound [] h → IsLosing h (collect_scripts h)
-unfolding collect_scripts
-collect_scripts-losing h s = rounds-keep (IsLosing h) (IsLosing-round h) (suc (length h.scripts)) (silently h)
-    (record { sound = s; loses = LosesTo-refl (stage [] [] h) })
+-- A script collection loses.
+collect_scripts-loses : (h : Heap) → IsSound [] h → LosesTo (stage [] [] h) (stage [] [] (collect_scripts h).heap)
+collect_scripts-loses h s = collecting-keeps (λ o. LosesTo (stage [] [] h) (stage [] [] o.heap))
+    (λ o c l. LosesTo-trans (stage [] [] h) (stage [] [] o.heap) (stage [] [] (sweep (marked o.heap)).heap) l (round-loses o.heap c))
+    h s (LosesTo-refl (stage [] [] h))
 
 -- SO IT KEEPS EVERY UNREACHED NATIVE SUSPECTED.
 pub collect_scripts-suspected : (h : Heap) → IsSound [] h → IsSuspected (view h) [] → IsSuspected (view (collect_scripts h).heap) []
 collect_scripts-suspected h s suspected =
-    let l = collect_scripts-losing h s in
     let end : Heap = (collect_scripts h).heap in
-    loyal-suspected h end [] s.well_formed l.sound.well_formed
-    (loses-loyal (view h) (view end) (LosesTo-loses [] h end l.sound.well_formed l.loses)) suspected
+    let later = (collect_scripts-sound h s).well_formed in
+    loyal-suspected h end [] s.well_formed later (loses-loyal (view h) (view end) (LosesTo-loses [] h end later (collect_scripts-loses h s))) suspected
