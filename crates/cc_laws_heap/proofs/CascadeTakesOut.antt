@@ -65,5 +65,5 @@ cascade-frees_steady owned h k b =
     let t = TakesOut-cascade h k in
     let same : freed_numbers (cascade h k).events ≡ t.0 = ap freed_numbers t.1.told ∙ (TellsOf-freed t.0).freed_told in
     let l : Leave h t.0 (cascade h k).heap = subst (λ ks. Leave h ks (cascade h k).heap) same
-    (done-leaves (stage (k ∷ []) [] h) (cascade h k).events (stage [] [] (cascade h k).heap) (cascade-done Ending [] owned h k b)) in
+    (done-leaves [] (stage (k ∷ []) [] h) (cascade h k).events (stage [] [] (cascade h k).heap) (cascade-done (Ending []) [] owned h k b)) in
     (t.0, record { told = t.1.told; once = l.once; were_there = l.were_there; natives = t.1.natives; beside = t.1.beside })

@@ -24,7 +24,7 @@ use Rattle.cc_laws_heap.proofs.Giving.{cascade-done}
 use Rattle.cc_laws_heap.proofs.Cascades.{IsBalanced-at_rest, cascade-frees}
 use Rattle.cc_laws_heap.proofs.Owning.{let_go-sound}
 use Rattle.cc_laws_heap.proofs.Writes.{native_slot-sound}
-use Rattle.cc_laws_heap.proofs.Leaving.{OthersStay, OthersStay-trans, OthersStay-change_native, IsOf-frees}
+use Rattle.cc_laws_heap.proofs.Leaving.{IsOf-frees}
 
 -- Slots of which those in front are empty
 
@@ -53,12 +53,12 @@ let_go-frees owned h (Some (name.Script k)) s = ([], Frees-at_rest h)
 let_go-frees owned h (Some (name.Reflector k)) s = ([], Frees-at_rest h)
 
 -- what is done where a register or a slot gives up what it held
-let_go-done : (owned : List ℕ) (h : Heap) (x : Option Name) → IsSound (numbers_of x ++ owned) h →
-    Done Ending (stage (numbers_of x ++ owned) [] h) (let_go h x).events (stage owned [] (let_go h x).heap)
-let_go-done owned h None s = nothing (stage owned [] h)
-let_go-done owned h (Some (name.Native k)) s = cascade-done Ending owned owned h k.0 (IsBalanced-at_rest (k.0 ∷ owned) h s)
-let_go-done owned h (Some (name.Script k)) s = nothing (stage owned [] h)
-let_go-done owned h (Some (name.Reflector k)) s = nothing (stage owned [] h)
+let_go-done : (ks owned : List ℕ) (h : Heap) (x : Option Name) → IsSound (numbers_of x ++ owned) h →
+    Done (Ending ks) (stage (numbers_of x ++ owned) [] h) (let_go h x).events (stage owned [] (let_go h x).heap)
+let_go-done ks owned h None s = nothing (stage owned [] h)
+let_go-done ks owned h (Some (name.Native k)) s = cascade-done (Ending ks) owned owned h k.0 (IsBalanced-at_rest (k.0 ∷ owned) h s)
+let_go-done ks owned h (Some (name.Script k)) s = nothing (stage owned [] h)
+let_go-done ks owned h (Some (name.Reflector k)) s = nothing (stage owned [] h)
 
 -- a native that is there after a cascade is as it was
 frees-stays : (h : Heap) (ks : List ℕ) (o : Outcome) → Frees h ks o → HasDistinctNumbers h → (k : ℕ) (n : HeapNative) → native_at h k ≡ Some n →
@@ -72,42 +72,38 @@ frees-stays h ks o f d k n e there =
     let same : n ≡ i.0 = cc in
     (m.0, m.1, ap uncounted same ∙ i.2)
 
--- native k, which is in hand, holds these slots now, and the others are as they were: so much was done, and nothing told as unlinked
-pub record IsEmptying (owned : List ℕ) (h : Heap) (k : ℕ) (left : Slots) (o : Outcome) : Type 0 where
-  pub done : Done Ending (stage owned [] h) o.events (stage owned [] o.heap)
+-- native k holds these slots now: so much was done, where the natives ks are unlinked, and nothing was told as unlinked
+pub record IsEmptying (ks owned : List ℕ) (h : Heap) (k : ℕ) (left : Slots) (o : Outcome) : Type 0 where
+  pub done : Done (Ending ks) (stage owned [] h) o.events (stage owned [] o.heap)
   pub unlinks_none : unlinked_numbers o.events ≡ []
-  pub others : OthersStay h k o.heap
   pub held : HeapNative
   pub found : native_at o.heap k ≡ Some held
   pub slots : held.slots ≡ left
 
 -- at the start nothing was emptied
-pub IsEmptying-start : (owned : List ℕ) (h : Heap) (k : ℕ) (n : HeapNative) → native_at h k ≡ Some n → IsEmptying owned h k n.slots (silently h)
-IsEmptying-start owned h k n e = record {
+pub IsEmptying-start : (ks owned : List ℕ) (h : Heap) (k : ℕ) (n : HeapNative) → native_at h k ≡ Some n → IsEmptying ks owned h k n.slots (silently h)
+IsEmptying-start ks owned h k n e = record {
   done = nothing (stage owned [] h);
   unlinks_none = refl;
-  others = λ m i d. (m, i, refl);
   held = n;
   found = e;
   slots = refl;
 }
 
-module _ (owned : List ℕ) (h : Heap) (k : ℕ) (own : Among k owned) where
+module _ (ks owned : List ℕ) (h : Heap) (k : ℕ) (taken : Among k ks) (own : Among k owned) where
   -- the next slot is emptied
-  empty_slot-sound : (o : Outcome) (i : ℕ) (x : Option Name) (xs : Slots) → IsSound owned o.heap → IsEmptying owned h k (empty_slots i ++ x ∷ xs) o →
-      IsSound owned (empty_slot o.heap k i x).heap × IsEmptying owned h k (empty_slots (suc i) ++ xs) (after o.events (empty_slot o.heap k i x))
+  empty_slot-sound : (o : Outcome) (i : ℕ) (x : Option Name) (xs : Slots) → IsSound owned o.heap → IsEmptying ks owned h k (empty_slots i ++ x ∷ xs) o →
+      IsSound owned (empty_slot o.heap k i x).heap × IsEmptying ks owned h k (empty_slots (suc i) ++ xs) (after o.events (empty_slot o.heap k i x))
   empty_slot-sound o i x xs s e = (
     sound,
     record {
       done = followed (stage owned [] h) (stage owned [] o.heap) (stage owned [] next.heap) o.events next.events e.done
           (followed (stage owned [] o.heap) (stage (numbers_of x ++ owned) [] written) (stage owned [] next.heap) [] next.events
           (besides (stage owned [] o.heap) [] (stage (numbers_of x ++ owned) [] written)
-          (emptied owned o.heap k i e.held x own (IsWellFormed-distinct o.heap s.well_formed) e.found room content))
-          (let_go-done owned written x given));
+          (emptied owned o.heap k i e.held x taken (IsWellFormed-distinct o.heap s.well_formed) e.found room content))
+          (let_go-done ks owned written x given));
       unlinks_none = flat_map-append unlinked_in o.events next.events
           ∙ (ap (λ js. js ++ unlinked_numbers next.events) e.unlinks_none ∙ (ap unlinked_numbers f.1.told ∙ (TellsOf-freed f.0).unlinked_told));
-      others = OthersStay-trans h k o.heap next.heap e.others
-          (OthersStay-trans o.heap k written next.heap (OthersStay-change_native o.heap k empty (λ n. refl)) (λ n m d. IsOf-frees written f.0 next f.1 n m));
       held = stays.0;
       found = stays.1;
       slots = ap (λ (u : Uncounted). u.slots) (sym stays.2) ∙ (ap (λ slots. set slots i None) e.slots ∙ front-set i x xs);
@@ -145,8 +141,8 @@ module _ (owned : List ℕ) (h : Heap) (k : ℕ) (own : Among k owned) where
       stays = frees-stays written f.0 next f.1 (IsWellFormed-distinct written given.well_formed) k (empty e.held) found (sound.owned_there k own)
 
   -- The slots that are left are emptied.
-  pub empty_each-sound : (i : ℕ) (xs : Slots) (o : Outcome) → IsSound owned o.heap → IsEmptying owned h k (empty_slots i ++ xs) o →
-      (j : ℕ) × IsSound owned (empty_each k i xs o).heap × IsEmptying owned h k (empty_slots j ++ []) (empty_each k i xs o)
+  pub empty_each-sound : (i : ℕ) (xs : Slots) (o : Outcome) → IsSound owned o.heap → IsEmptying ks owned h k (empty_slots i ++ xs) o →
+      (j : ℕ) × IsSound owned (empty_each k i xs o).heap × IsEmptying ks owned h k (empty_slots j ++ []) (empty_each k i xs o)
   empty_each-sound i [] o s e = (i, s, e)
   empty_each-sound i (x ∷ xs) o s e =
       let next = empty_slot-sound o i x xs s e in

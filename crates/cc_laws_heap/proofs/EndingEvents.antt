@@ -34,19 +34,19 @@ abbrev TellsTo : Stage → List Event → Stage → Type 0
 TellsTo s es t = (e : Event) → Among e es → NamesNative e
 
 -- what the end of a collection does besides tells an unlink line at most
-ending-tells : (s : Stage) (es : List Event) (t : Stage) → Ending s es t → TellsTo s es t
-ending-tells _ _ _ (reordered early late h same) = λ e m. absurd m
-ending-tells _ _ _ (raised hand h k there) = λ e m. absurd m
-ending-tells _ _ _ (unlinked hand h k own) = λ e m. ⊎_elim (λ s. subst NamesNative s (k, refl)) (λ n. absurd n) m
-ending-tells _ _ _ (emptied hand h k i n x own d f room content) = λ e m. absurd m
-ending-tells _ _ _ (unpreserved hand h k own) = λ e m. absurd m
+ending-tells : (ks : List ℕ) (s : Stage) (es : List Event) (t : Stage) → Ending ks s es t → TellsTo s es t
+ending-tells ks _ _ _ (reordered early late h same) = λ e m. absurd m
+ending-tells ks _ _ _ (raised hand h k there) = λ e m. absurd m
+ending-tells ks _ _ _ (unlinked hand h k own) = λ e m. ⊎_elim (λ s. subst NamesNative s (k, refl)) (λ n. absurd n) m
+ending-tells ks _ _ _ (emptied hand h k i n x own d f room content) = λ e m. absurd m
+ending-tells ks _ _ _ (unpreserved hand h k own) = λ e m. absurd m
 
 -- NATIVES ALONE ARE TOLD in cascades and in ends of collections.
-pub done-tells : (s : Stage) (es : List Event) (t : Stage) → Done Ending s es t → (e : Event) → Among e es → NamesNative e
-done-tells = done-keeps TellsTo Ending (record {
+pub done-tells : (ks : List ℕ) (s : Stage) (es : List Event) (t : Stage) → Done (Ending ks) s es t → (e : Event) → Among e es → NamesNative e
+done-tells ks = done-keeps TellsTo (Ending ks) (record {
   nothing = λ s. λ e m. absurd m;
   followed = λ s t u xs ys a b. λ e m. ⊎_elim (a e) (b e) (Among-append e xs ys m);
   suspected = λ hand queue h k n f c. λ e m. absurd m;
   waits = λ hand queue h k n f c. λ e m. absurd m;
   freed = λ hand ks h k n f d r. λ e m. ⊎_elim (λ s. subst NamesNative s (k, refl)) (λ x. absurd x) m;
-}) ending-tells
+}) (ending-tells ks)

@@ -163,23 +163,23 @@ abbrev LeavesTo : Stage → List Event → Stage → Type 0
 LeavesTo s es t = Leave s.heap (freed_numbers es) t.heap
 
 -- what the end of a collection does besides takes none out
-ending-leaves : (s : Stage) (es : List Event) (t : Stage) → Ending s es t → LeavesTo s es t
-ending-leaves _ _ _ (reordered early late h same) = Leave-refl h
-ending-leaves _ _ _ (raised hand h k m) = Leave-add_ref h k
-ending-leaves _ _ _ (unlinked hand h k m) = Leave-refl h
-ending-leaves _ _ _ (emptied hand h k i n x m d e room content) = Leave-change_native h k (with_native_slot i None) (λ o. refl)
-ending-leaves _ _ _ (unpreserved hand h k m) = Leave-change_native h k (λ n. record n { preserved = false }) (λ n. refl)
+ending-leaves : (ks : List ℕ) (s : Stage) (es : List Event) (t : Stage) → Ending ks s es t → LeavesTo s es t
+ending-leaves ks _ _ _ (reordered early late h same) = Leave-refl h
+ending-leaves ks _ _ _ (raised hand h k m) = Leave-add_ref h k
+ending-leaves ks _ _ _ (unlinked hand h k m) = Leave-refl h
+ending-leaves ks _ _ _ (emptied hand h k i n x m d e room content) = Leave-change_native h k (with_native_slot i None) (λ o. refl)
+ending-leaves ks _ _ _ (unpreserved hand h k m) = Leave-change_native h k (λ n. record n { preserved = false }) (λ n. refl)
 
 -- WHAT IS TOLD AS FREED LEAVES, and no others: in cascades, and in ends of collections.
-pub done-leaves : (s : Stage) (es : List Event) (t : Stage) → Done Ending s es t → Leave s.heap (freed_numbers es) t.heap
-done-leaves = done-keeps LeavesTo Ending (record {
+pub done-leaves : (ks : List ℕ) (s : Stage) (es : List Event) (t : Stage) → Done (Ending ks) s es t → Leave s.heap (freed_numbers es) t.heap
+done-leaves ks = done-keeps LeavesTo (Ending ks) (record {
   nothing = λ s. Leave-refl s.heap;
   followed = λ s t u xs ys a b. subst (λ ks. Leave s.heap ks u.heap) (sym (flat_map-append freed_in xs ys))
       (Leave-trans s.heap (freed_numbers xs) t.heap (freed_numbers ys) u.heap a b);
   suspected = λ hand queue h k n e c. Leave-changed h k lower_native (with_mark true k h.buffer) (λ m. refl);
   waits = λ hand queue h k n e c. Leave-changed h k lower_native (forget h k).buffer (λ m. refl);
   freed = λ hand ks h k n e d r. Leave-removed h k n e;
-}) ending-leaves
+}) (ending-leaves ks)
 
 -- The natives that stay
 
@@ -200,14 +200,6 @@ IsOf-frees h ks o f n m =
 -- where counts and the buffer alone change too
 pub IsOf-alike : (h g : Heap) → map uncounted g.natives ≡ map uncounted h.natives → (n : HeapNative) → Among n g.natives → IsOf h n
 IsOf-alike h g e n m = Among-map_cases uncounted h.natives (uncounted n) (subst (λ us. Among (uncounted n) us) e (Among-map uncounted n g.natives m))
-
--- what is one of heaps in which each native but k is as it was, is as it was
-pub OthersStay-trans : (h : Heap) (k : ℕ) (g f : Heap) → OthersStay h k g → OthersStay g k f → OthersStay h k f
-OthersStay-trans h k g f a b = λ n m d.
-    let i = b n m d in
-    let number : i.0.number ≡ n.number = ap (λ (u : Uncounted). u.number) i.2 in
-    let j = a i.0 i.1 (λ e. d (sym number ∙ e)) in
-    (j.0, j.1, j.2 ∙ i.2)
 
 -- a change of native k leaves the others
 pub OthersStay-change_native : (h : Heap) (k : ℕ) (f : HeapNative → HeapNative) → KeepsNumber f → OthersStay h k (change_native h k f)

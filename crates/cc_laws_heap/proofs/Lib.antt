@@ -34,6 +34,7 @@ pub mod ColourChanges
 pub mod NativesKeepScripts
 pub mod CommandsColours
 pub mod Leaving
+pub mod Staying
 pub mod Emptying
 pub mod Unlinking
 pub mod EndingEvents

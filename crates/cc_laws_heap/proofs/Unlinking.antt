@@ -1,6 +1,6 @@
 -- A NATIVE UNLINKED: while it is owned it stays, with empty slots and no preservation; all others are as they were, or
 -- were freed.
-use Rattle.std.proofs.Common.{◌≡◌, ℕ, ◌+◌, ◌≤◌, Bool, false, List, [], ◌∷◌, ◌++◌, length, Option, Some, None, refl, sym, ◌∙◌, ap, subst, ◌==◌}
+use Rattle.std.proofs.Common.{◌≡◌, ℕ, ◌+◌, ◌≤◌, Bool, false, List, [], ◌∷◌, ◌++◌, length, Option, Some, None, refl, sym, ◌∙◌, ap, subst, ◌==◌, inl, ⊎_elim}
 use Rattle.std.proofs.lemmas.Bool.{false≢true}
 use Rattle.std.proofs.lemmas.List.{append-nil, length-replicate}
 use Rattle.cc_lists.specs.Members.{Among}
@@ -22,7 +22,8 @@ use Rattle.cc_laws_heap.proofs.Natives.{native_names-change, native_at-change_sa
 use Rattle.cc_laws_heap.proofs.Giving.{quietly}
 use Rattle.cc_lists.proofs.ListWrites.{changed_where, changed_where-either, each-map, flat_map-kept}
 use Rattle.cc_laws_heap.proofs.Kept.{IsBuffer-own, ChangesNatives, ChangesNatives-where, IsWellFormed-natives}
-use Rattle.cc_laws_heap.proofs.Leaving.{Leave, done-leaves, OthersStay, OthersStay-trans, OthersStay-change_native}
+use Rattle.cc_laws_heap.proofs.Leaving.{Leave, done-leaves, OthersStay}
+use Rattle.cc_laws_heap.proofs.Staying.{done-stays}
 use Rattle.cc_laws_heap.proofs.Emptying.{IsEmptying, IsEmptying-start, empty_each-sound}
 
 -- a native whose preservation ended
@@ -89,25 +90,25 @@ module _ (owned : List ℕ) (h : Heap) (k : ℕ) (s : IsSound owned h) (own : Am
   abbrev emptying : Option HeapNative → Outcome
   emptying o = empty_each k 0 (slots_now o) (silently h)
 
-  abbrev Empties : Option HeapNative → Type 0
-  Empties o = (j : ℕ) × IsSound owned (emptying o).heap × IsEmptying owned h k (empty_slots j ++ []) (emptying o)
+  abbrev Empties : List ℕ → Option HeapNative → Type 0
+  Empties ks o = (j : ℕ) × IsSound owned (emptying o).heap × IsEmptying ks owned h k (empty_slots j ++ []) (emptying o)
 
   -- the native is found, and its slots are emptied
-  emptied-sound : Empties (native_at h k)
-  emptied-sound =
+  emptied-sound : (ks : List ℕ) → Among k ks → Empties ks (native_at h k)
+  emptied-sound ks taken =
       let n = named-found h k (s.owned_there k own) in
-      subst Empties (sym n.1) (empty_each-sound owned h k own 0 n.0.slots (silently h) s (IsEmptying-start owned h k n.0 n.1))
+      subst (Empties ks) (sym n.1) (empty_each-sound ks owned h k taken own 0 n.0.slots (silently h) s (IsEmptying-start ks owned h k n.0 n.1))
 
   -- What is done where it is unlinked.
-  pub unlink-done : Done Ending (stage owned [] h) (unlink h k).events (stage owned [] (unlink h k).heap)
+  pub unlink-done : (ks : List ℕ) → Among k ks → Done (Ending ks) (stage owned [] h) (unlink h k).events (stage owned [] (unlink h k).heap)
   unfolding unlink
-  unlink-done =
+  unlink-done ks taken =
       let o : Outcome = emptying (native_at h k) in
       let here : Stage = stage owned [] h in
       let bare : Stage = stage owned [] o.heap in
       let end : Stage = stage owned [] (set_preserved o.heap k false) in
-      followed here here end (Unlinked (native k) ∷ []) o.events (besides here (Unlinked (native k) ∷ []) here (unlinked owned h k own))
-      (quietly Ending here bare end o.events emptied-sound.2.done (besides bare [] end (unpreserved owned o.heap k own)))
+      followed here here end (Unlinked (native k) ∷ []) o.events (besides here (Unlinked (native k) ∷ []) here (unlinked owned h k taken))
+      (quietly (Ending ks) here bare end o.events (emptied-sound ks taken).2.done (besides bare [] end (unpreserved owned o.heap k taken)))
 
   -- A native that is owned is unlinked: the heaps stay sound.
   pub unlink-keeps : (freed : List ℕ) × IsSound owned (unlink h k).heap × Unlinks h k freed (unlink h k)
@@ -117,15 +118,17 @@ module _ (owned : List ℕ) (h : Heap) (k : ℕ) (s : IsSound owned h) (own : Am
     sound,
     record {
       unlinked_told = ap (λ ks. k ∷ ks) e.unlinks_none;
-      leaves = done-leaves (stage owned [] h) (unlink h k).events (stage owned [] end) unlink-done;
-      others = OthersStay-trans h k before end e.others (OthersStay-change_native before k unpreserved_native (λ n. refl));
+      leaves = done-leaves (k ∷ []) (stage owned [] h) (unlink h k).events (stage owned [] end) done;
+      others = λ n m d.
+          let c = done-stays (k ∷ []) (stage owned [] h) (unlink h k).events (stage owned [] end) done n m in
+          (c.was, c.there, c.same (λ i. ⊎_elim (λ q. d (sym q)) (λ x. x) i));
       emptied = λ n m number.
           let here : native_at end k ≡ Some n =
           subst (λ j. native_at end j ≡ Some n) number (native_at-member end (IsWellFormed-distinct end sound.well_formed) n m) in
           let there : native_at end k ≡ Some (unpreserved_native e.held) = native_at-change_same before k unpreserved_native (λ o. refl) ∙ rw e.found refl in
           let both : Some (unpreserved_native e.held) ≡ Some n = sym there ∙ here in
           let same : unpreserved_native e.held ≡ n = cc in
-          subst IsEmptied same (IsEmptied-from (unpreserved_native e.held) emptied-sound.0 (e.slots ∙ append-nil (empty_slots emptied-sound.0)) refl);
+          subst IsEmptied same (IsEmptied-from (unpreserved_native e.held) f.0 (e.slots ∙ append-nil (empty_slots f.0)) refl);
     },
   )
     where
@@ -135,8 +138,14 @@ module _ (owned : List ℕ) (h : Heap) (k : ℕ) (s : IsSound owned h) (own : Am
       end : Heap
       end = set_preserved before k false
 
-      e : IsEmptying owned h k (empty_slots emptied-sound.0 ++ []) (emptying (native_at h k))
-      e = emptied-sound.2
+      f : Empties (k ∷ []) (native_at h k)
+      f = emptied-sound (k ∷ []) (inl refl)
+
+      e : IsEmptying (k ∷ []) owned h k (empty_slots f.0 ++ []) (emptying (native_at h k))
+      e = f.2
 
       sound : IsSound owned end
-      sound = unpreserved-sound owned before k emptied-sound.1
+      sound = unpreserved-sound owned before k f.1
+
+      done : Done (Ending (k ∷ [])) (stage owned [] h) (unlink h k).events (stage owned [] (unlink h k).heap)
+      done = unlink-done (k ∷ []) (inl refl)

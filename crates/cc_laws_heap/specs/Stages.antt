@@ -41,18 +41,18 @@ pub data Done (Besides : Stage → List Event → Stage → Type 0) : Stage → 
   -- something else
   besides : (s : Stage) (es : List Event) (t : Stage) → Besides s es t → Done Besides s es t
 
--- WHAT THE END OF A COLLECTION DOES besides
-pub data Ending : Stage → List Event → Stage → Type 0 where
+-- WHAT THE END OF A COLLECTION DOES besides, where these natives are unlinked
+pub data Ending (ks : List ℕ) : Stage → List Event → Stage → Type 0 where
   -- it does not matter in which order references are in hand
-  reordered : (early late : List ℕ) (h : Heap) → ((k : ℕ) → times k late ≡ times k early) → Ending (stage early [] h) [] (stage late [] h)
+  reordered : (early late : List ℕ) (h : Heap) → ((k : ℕ) → times k late ≡ times k early) → Ending ks (stage early [] h) [] (stage late [] h)
   -- a reference is taken in hand
-  raised : (hand : List ℕ) (h : Heap) (k : ℕ) → Among (native k) (native_names h) → Ending (stage hand [] h) [] (stage (k ∷ hand) [] (add_ref h k))
-  -- a native in hand is told as unlinked, a slot of it is emptied, its preservation ends
-  unlinked : (hand : List ℕ) (h : Heap) (k : ℕ) → Among k hand → Ending (stage hand [] h) (Unlinked (native k) ∷ []) (stage hand [] h)
-  emptied : (hand : List ℕ) (h : Heap) (k i : ℕ) (n : HeapNative) (x : Option Name) → Among k hand → HasDistinctNumbers h → native_at h k ≡ Some n →
+  raised : (hand : List ℕ) (h : Heap) (k : ℕ) → Among (native k) (native_names h) → Ending ks (stage hand [] h) [] (stage (k ∷ hand) [] (add_ref h k))
+  -- one of them is told as unlinked, a slot of it is emptied, its preservation ends
+  unlinked : (hand : List ℕ) (h : Heap) (k : ℕ) → Among k ks → Ending ks (stage hand [] h) (Unlinked (native k) ∷ []) (stage hand [] h)
+  emptied : (hand : List ℕ) (h : Heap) (k i : ℕ) (n : HeapNative) (x : Option Name) → Among k ks → HasDistinctNumbers h → native_at h k ≡ Some n →
     i < length n.slots → slice_index_or n.slots i None ≡ x →
-    Ending (stage hand [] h) [] (stage (numbers_of x ++ hand) [] (set_slot h (Some (native k)) i None))
-  unpreserved : (hand : List ℕ) (h : Heap) (k : ℕ) → Among k hand → Ending (stage hand [] h) [] (stage hand [] (set_preserved h k false))
+    Ending ks (stage hand [] h) [] (stage (numbers_of x ++ hand) [] (set_slot h (Some (native k)) i None))
+  unpreserved : (hand : List ℕ) (h : Heap) (k : ℕ) → Among k ks → Ending ks (stage hand [] h) [] (stage hand [] (set_preserved h k false))
 
 -- no script object has a native in a slot
 abbrev pub HoldNoNatives : Heap → Type 0

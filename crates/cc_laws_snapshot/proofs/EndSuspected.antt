@@ -34,8 +34,8 @@ take_away-loses ks h s there =
     let start : Stage = stage [] [] h in
     let middle : Stage = rooted h ks s there in
     let end : Stage = stage [] [] (take_away ks h).heap in
-    let first : LosesTo start middle = done-loses start [] middle (rooted-done h ks s there) in
-    let rest : LosesTo middle end = done-loses middle (take_away ks h).events end (taking-end h ks s there).done in (
+    let first : LosesTo start middle = done-loses ks start [] middle (rooted-done h ks s there) in
+    let rest : LosesTo middle end = done-loses ks middle (take_away ks h).events end (taking-end h ks s there).done in (
       LosesTo-loses [] h end.heap (take_away-sound h ks s there).well_formed (LosesTo-trans start middle end first rest),
       λ i m. lost-settled end.heap i (rest.lost i (inr (inr (Among-left i ks [] m)))),
     )

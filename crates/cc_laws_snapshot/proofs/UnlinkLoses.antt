@@ -139,14 +139,14 @@ raised-loses hand h k = record {
     living x l = living-same h (add_ref h k) (native_names-alike h (add_ref h k) (HoldsTheSame-add_ref h k)) x l
 
 -- WHAT THE END OF A COLLECTION DOES ONLY LOSES, kind by kind.
-ending-loses : (s : Stage) (es : List Event) (t : Stage) → Ending s es t → LosesTo s t
-ending-loses _ _ _ (reordered early late h same) = reordered-loses early late h same
-ending-loses _ _ _ (raised hand h k m) = raised-loses hand h k
-ending-loses _ _ _ (unlinked hand h k m) = LosesTo-refl (stage hand [] h)
-ending-loses _ _ _ (emptied hand h k i n x m d e room content) =
+ending-loses : (ks : List ℕ) (s : Stage) (es : List Event) (t : Stage) → Ending ks s es t → LosesTo s t
+ending-loses ks _ _ _ (reordered early late h same) = reordered-loses early late h same
+ending-loses ks _ _ _ (raised hand h k m) = raised-loses hand h k
+ending-loses ks _ _ _ (unlinked hand h k m) = LosesTo-refl (stage hand [] h)
+ending-loses ks _ _ _ (emptied hand h k i n x m d e room content) =
     subst (λ y. LosesTo (stage hand [] h) (stage (numbers_of y ++ hand) [] (set_slot h (Some (native k)) i None))) content (slot-loses hand h k i n d e)
-ending-loses _ _ _ (unpreserved hand h k m) = preservation-loses hand h k
+ending-loses ks _ _ _ (unpreserved hand h k m) = preservation-loses hand h k
 
 -- ALL THAT IS DONE at the end of a collection only loses.
-pub done-loses : (s : Stage) (es : List Event) (t : Stage) → Done Ending s es t → LosesTo s t
-done-loses = done-keeps LosesIn Ending losing-kept ending-loses
+pub done-loses : (ks : List ℕ) (s : Stage) (es : List Event) (t : Stage) → Done (Ending ks) s es t → LosesTo s t
+done-loses ks = done-keeps LosesIn (Ending ks) losing-kept (ending-loses ks)
