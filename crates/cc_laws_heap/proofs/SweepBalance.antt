@@ -1,6 +1,6 @@
 -- SWEEPING KEEPS THE BALANCE: a reflector that is taken out leaves a reference to its native in hand, and a cascade
 -- gives that up; the slots of script objects hold nothing that is counted.
-use Rattle.std.proofs.Common.{◌≡◌, ℕ, ◌≤◌, true, not, List, [], ◌∷◌, sym, ◌∙◌, ap, arith, count_by}
+use Rattle.std.proofs.Common.{◌≡◌, ℕ, ◌≤◌, true, not, List, ◌∷◌, sym, ◌∙◌, ap, arith, count_by}
 use Rattle.std.proofs.lemmas.Bool.{not-true}
 use Rattle.cc_lists.specs.Members.{Among}
 use Rattle.cc_lists.proofs.Members.{Among-map_cases}
@@ -8,21 +8,14 @@ use Rattle.cc_lists.proofs.Counting.{count_by-some}
 use Rattle.cc_names.specs.declared.name.Name.{Name}
 use Rattle.cc_names.specs.Names.{object, reflector, same_name, number_of}
 use Rattle.cc_names.proofs.NameTests.{same_name-true, same_name-refl}
-use Rattle.cc_model.specs.declared.item.Event.{Event}
 use Rattle.cc_model.specs.Heap.{Heap, HeapScript}
 use Rattle.cc_model.specs.Sweep.{without_script}
 use Rattle.cc_model.specs.WellFormed.{script_names}
 use Rattle.cc_lists.proofs.Searching.{count_by-kept, count_by-dropped}
 use Rattle.cc_lists.proofs.Numbers.{at-each}
 use Rattle.cc_laws_heap.proofs.References.{times-cons_same, times-cons_other}
-use Rattle.cc_laws_heap.specs.Balance.{IsBalanced, IsSteady}
+use Rattle.cc_laws_heap.specs.Balance.{IsSteady}
 use Rattle.cc_laws_heap.proofs.NameLists.{same_name-other}
-
--- Heaps in balance
-
--- steady heaps are in balance, whatever was told
-pub IsSteady-telling : (owned : List ℕ) (h : Heap) (es : List Event) → IsSteady owned h → IsBalanced owned (record { heap = h; queue = []; events = es })
-IsSteady-telling owned h es b = record { distinct = b.distinct; counts = b.counts; queue = b.queue; buffer = b.buffer }
 
 -- A script object taken out
 
