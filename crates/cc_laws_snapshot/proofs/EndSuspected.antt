@@ -22,7 +22,7 @@ use Rattle.cc_laws_snapshot.proofs.LoyalSuspected.{loyal-suspected, loses-loyal}
 use Rattle.cc_laws_heap.specs.Stages.{Stage, stage}
 use Rattle.cc_laws_heap.proofs.TakingAway.{rooted, rooted-done, taking-end, take_away-sound}
 use Rattle.cc_laws_snapshot.proofs.LosesTo.{LosesTo, LosesTo-trans, lost-settled, LosesTo-loses}
-use Rattle.cc_laws_snapshot.proofs.UnlinkLoses.{done-loses}
+use Rattle.cc_laws_snapshot.proofs.EndLoses.{done-loses}
 use Rattle.cc_laws_snapshot.proofs.UncoveredWhite.{uncovered-white_native, white_native-there}
 use Rattle.cc_laws_heap.proofs.Kept.{with_buffer, IsWellFormed-buffer}
 use Rattle.cc_laws_snapshot.proofs.GivingBack.{covered-stays, given_back, given_back-purple, given_back-name, given_back-there, given_back-was, given_back-buffer}

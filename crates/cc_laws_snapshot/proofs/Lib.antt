@@ -14,8 +14,6 @@ pub mod Beginning
 pub mod GentleKeeps
 pub mod GentleBut
 pub mod Marked
-pub mod Settling
-pub mod EdgesLeft
 pub mod NativesChange
 pub mod NativeParts
 pub mod CascadesGentle
@@ -43,7 +41,7 @@ pub mod CommandsSuspected
 pub mod GivingBack
 pub mod SweepLoses
 pub mod UncoveredWhite
-pub mod UnlinkLoses
+pub mod EndLoses
 pub mod EndSuspected
 pub mod KindsHeld
 pub mod KindsWaiting
