@@ -1,5 +1,5 @@
--- THE END OF A COLLECTION LEAVES SOUND HEAPS: its natives are rooted, so they stay until all of them are unlinked; what
--- cascades take out is told.
+-- THE END OF A COLLECTION LEAVES SOUND HEAPS, and what is done meanwhile is of the kinds of an end: its natives are rooted,
+-- so they stay until all of them are unlinked; what cascades take out is told.
 use Rattle.std.proofs.Common.{◌≡◌, ℕ, ◌+◌, List, [], ◌∷◌, ◌++◌, refl, sym, ◌∙◌, ap, subst, inl, inr, arith, append_assoc, ⊎_elim}
 use Rattle.std.proofs.lemmas.Grind.{flat_map-append}
 use Rattle.std.proofs.lemmas.List.{append-nil}
@@ -74,7 +74,8 @@ root_each-leaves (k ∷ ks) h = Leave-trans h [] (add_ref h k) [] (root_each ks 
 
 -- Unlinking and unrooting
 
--- sound heaps with these in hand, what was done since a stage at which all were to be unlinked, and those that were: they are empty
+-- WHAT AN END DID SINCE A STAGE, where all of them may be unlinked: the heaps are sound with these in hand, and those that
+-- are unlinked so far were told and are empty
 pub record IsTaking (all : List ℕ) (start : Stage) (hand unlinked : List ℕ) (o : Outcome) : Type 0 where
   pub sound : IsSound hand o.heap
   pub done : Done (Ending all) start o.events (stage hand [] o.heap)

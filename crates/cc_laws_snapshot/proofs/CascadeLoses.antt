@@ -1,5 +1,5 @@
 -- A CASCADE ONLY LOSES REFERENCES: so does each kind of change of which it consists.
-use Rattle.std.proofs.Common.{◌≡◌, ℕ, true, false, not, List, [], ◌∷◌, ◌++◌, Some, refl, sym, ◌∙◌, ap, subst, inl, inr, ◌⊎◌, ⊎_elim}
+use Rattle.std.proofs.Common.{◌≡◌, ℕ, true, false, not, List, [], ◌∷◌, ◌++◌, Some, None, refl, sym, ◌∙◌, ap, subst, inl, inr, ◌⊎◌, ⊎_elim}
 use Rattle.std.specs.List.{flat_map}
 use Rattle.std.proofs.lemmas.Bool.{eqb-true, eq-eqb, not-true, true≢false, cases_Bool}
 use Rattle.std.proofs.lemmas.Bool.Decides.{eqb_tells}
@@ -19,7 +19,7 @@ use Rattle.cc_laws_heap.specs.Stages.{Stage, stage}
 use Rattle.cc_laws_heap.proofs.Folding.{IsKept}
 use Rattle.cc_laws_heap.proofs.Giving.{cascade-keeps}
 use Rattle.cc_laws_heap.proofs.Cascades.{IsBalanced-at_rest, cascade-sound}
-use Rattle.cc_laws_heap.proofs.Natives.{native_at-member, uncounted-change}
+use Rattle.cc_laws_heap.proofs.Natives.{named-found, native_at-member, uncounted-change}
 use Rattle.cc_laws_heap.proofs.Beside.{SameBeside-change_native}
 use Rattle.cc_laws_heap.proofs.GiveUp.{lower_native}
 use Rattle.cc_laws_heap.specs.Balance.{has_number, HasDistinctNumbers}
@@ -92,7 +92,7 @@ lower-edges : (h : Heap) (k : ℕ) (x : Name) (i : ℕ) → Among (x, native i) 
 lower-edges h k x i m = subst (λ es. Among (x, native i) es) (sym (edges-alike h (lower h k) (lower-alike h k))) m
 
 -- given up, and others are left
-suspected-loses : (hand queue : List ℕ) (h : Heap) (k : ℕ) → LosesTo (stage (k ∷ hand) queue h) (stage hand queue (suspect (lower h k) k))
+pub suspected-loses : (hand queue : List ℕ) (h : Heap) (k : ℕ) → LosesTo (stage (k ∷ hand) queue h) (stage hand queue (suspect (lower h k) k))
 suspected-loses hand queue h k = record {
   lost = λ i p. ⊎_elim
       (λ q. inl (⊎_elim (λ a. inl (suspect-keeps_purple h k i a)) (λ g. inr (λ a. g (lower-living h k (native i) a))) q))
@@ -107,7 +107,7 @@ suspected-loses hand queue h k = record {
     marked i e = inl (subst (λ j. IsPurple (suspect h k) j) e (suspect-purple h k))
 
 -- the last one given up
-waits-loses : (hand queue : List ℕ) (h : Heap) (k : ℕ) → LosesTo (stage (k ∷ hand) queue h) (stage hand (queue ++ k ∷ []) (forget (lower h k) k))
+pub waits-loses : (hand queue : List ℕ) (h : Heap) (k : ℕ) → LosesTo (stage (k ∷ hand) queue h) (stage hand (queue ++ k ∷ []) (forget (lower h k) k))
 waits-loses hand queue h k = record {
   lost = λ i p. ⊎_elim
       (λ q. ⊎_elim (λ a. ⊎_elim (λ t. inr (inl (last i (sym t.1)))) (λ t. inl (inl (forget-keeps_purple h k i t.1 a))) (eqb_tells i k))
@@ -122,23 +122,38 @@ waits-loses hand queue h k = record {
     last : (i : ℕ) → k ≡ i → Among i (queue ++ k ∷ [])
     last i e = Among-right i queue (k ∷ []) (inl e)
 
--- the first that waits taken out
-freed-loses : (hand ks : List ℕ) (h : Heap) (k : ℕ) (n : HeapNative) → native_at h k ≡ Some n → HasDistinctNumbers h →
-    LosesTo (stage hand (k ∷ ks) h) (stage (natives_of_slots (Some n) ++ hand) ks (removed h k))
-freed-loses hand ks h k n e distinct = record {
+-- the last one given up where there is no such native
+pub none-loses : (hand queue : List ℕ) (h : Heap) (k : ℕ) → native_at h k ≡ None → LosesTo (stage (k ∷ hand) queue h) (stage hand queue h)
+none-loses hand queue h k e = record {
+  lost = λ i p. ⊎_elim (λ q. inl q)
+      (λ q. ⊎_elim (λ w. inr (inl w)) (λ m. ⊎_elim (λ s. inl (inr (subst (λ j. ¬ (IsLiving (view h) (native j))) s gone))) (λ t. inr (inr t)) m) q) p;
+  edge = λ x i m. inl m;
+  register = λ i m. inl m;
+  buffer = λ i m. inl m;
+  living = λ x l. l;
+}
+  where
+    gone : ¬ (IsLiving (view h) (native k))
+    gone l =
+        let found = named-found h k (named-of_living h (native k) l) in
+        let both : Some found.0 ≡ None = sym found.1 ∙ e in
+        absurd (cc)
+
+-- the first that waits taken out: what it held is in hand
+pub removed-loses : (early late js ks : List ℕ) (h : Heap) (k : ℕ) →
+    ((n : HeapNative) → Among n h.natives → n.number ≡ k → (j : ℕ) → Among (native j) (contents n.slots) → Among j js) →
+    ((j : ℕ) → Among j js → Among j late) → ((j : ℕ) → Among j early → Among j late) → LosesTo (stage early (k ∷ ks) h) (stage late ks (removed h k))
+removed-loses early late js ks h k holds held stays = record {
   lost = λ i p. ⊎_elim
       (λ q. inl (⊎_elim (λ a. inl a) (λ g. inr (λ a. g (removed-living h k (native i) a).0)) q))
       (λ q. ⊎_elim
       (λ w. ⊎_elim (λ s. inl (inr (λ a. (removed-living h k (native i) a).1 (ap native s)))) (λ t. inr (inl t)) w)
-      (λ m. inr (inr (Among-right i held hand m))) q) p;
-  edge = λ x i m. ⊎_elim (λ t. inl t) (λ o. inr (inr (inr (Among-left i held hand (held-found h k i n distinct e o))))) (removed-edge h k x i m);
+      (λ m. inr (inr (stays i m))) q) p;
+  edge = λ x i m. ⊎_elim (λ t. inl t) (λ o. inr (inr (inr (held i (holds o.0 o.1 o.2 i o.3))))) (removed-edge h k x i m);
   register = λ i m. inl m;
   buffer = λ i m. inl m;
   living = λ x l. (removed-living h k x l).0;
 }
-  where
-    held : List ℕ
-    held = natives_of_slots (Some n)
 
 -- natives lose references
 abbrev pub LosesIn : Stage → List Event → Stage → Type 0
@@ -151,7 +166,10 @@ losing-kept = record {
   followed = λ s t u xs ys a b. LosesTo-trans s t u a b;
   suspected = λ hand queue h k n e c. suspected-loses hand queue h k;
   waits = λ hand queue h k n e c. waits-loses hand queue h k;
-  freed = λ hand ks h k n e d r. freed-loses hand ks h k n e d;
+  freed = λ hand ks h k n e d r.
+      let held : List ℕ = natives_of_slots (Some n) in
+      removed-loses hand (held ++ hand) held ks h k (λ o m q j i. held-found h k j n d e (o, m, q, i))
+      (λ j i. Among-left j held hand i) (λ j i. Among-right j held hand i);
 }
 
 -- A CASCADE ONLY LOSES REFERENCES, and the native whose reference was given up is purple afterwards, or gone.
