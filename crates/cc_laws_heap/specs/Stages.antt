@@ -31,13 +31,13 @@ pub data Done (Besides : Stage → List Event → Stage → Type 0) : Stage → 
   followed : (s t u : Stage) (xs ys : List Event) → Done Besides s xs t → Done Besides t ys u → Done Besides s (xs ++ ys) u
   -- a reference in hand is given up, and others are left
   suspected : (hand queue : List ℕ) (h : Heap) (k : ℕ) (n : HeapNative) → native_at h k ≡ Some n → 2 ≤ n.count →
-    Done Besides (stage (k ∷ hand) queue h) [] (stage hand queue (suspect (lower h k) k))
+      Done Besides (stage (k ∷ hand) queue h) [] (stage hand queue (suspect (lower h k) k))
   -- the last one is given up, and the native waits
   waits : (hand queue : List ℕ) (h : Heap) (k : ℕ) (n : HeapNative) → native_at h k ≡ Some n → n.count ≡ 1 →
-    Done Besides (stage (k ∷ hand) queue h) [] (stage hand (queue ++ k ∷ []) (forget (lower h k) k))
+      Done Besides (stage (k ∷ hand) queue h) [] (stage hand (queue ++ k ∷ []) (forget (lower h k) k))
   -- the first that waits, to which nothing refers, is told and taken out: what its slots held is in hand
   freed : (hand ks : List ℕ) (h : Heap) (k : ℕ) (n : HeapNative) → native_at h k ≡ Some n → HasDistinctNumbers h → refs_to h k ≡ 0 →
-    Done Besides (stage hand (k ∷ ks) h) (Freed (native k) ∷ []) (stage (natives_of_slots (Some n) ++ hand) ks (removed h k))
+      Done Besides (stage hand (k ∷ ks) h) (Freed (native k) ∷ []) (stage (natives_of_slots (Some n) ++ hand) ks (removed h k))
   -- something else
   besides : (s : Stage) (es : List Event) (t : Stage) → Besides s es t → Done Besides s es t
 
@@ -50,8 +50,8 @@ pub data Ending (ks : List ℕ) : Stage → List Event → Stage → Type 0 wher
   -- one of them is told as unlinked, a slot of it is emptied, its preservation ends
   unlinked : (hand : List ℕ) (h : Heap) (k : ℕ) → Among k ks → Ending ks (stage hand [] h) (Unlinked (native k) ∷ []) (stage hand [] h)
   emptied : (hand : List ℕ) (h : Heap) (k i : ℕ) (n : HeapNative) (x : Option Name) → Among k ks → HasDistinctNumbers h → native_at h k ≡ Some n →
-    i < length n.slots → slice_index_or n.slots i None ≡ x →
-    Ending ks (stage hand [] h) [] (stage (numbers_of x ++ hand) [] (set_slot h (Some (native k)) i None))
+      i < length n.slots → slice_index_or n.slots i None ≡ x →
+      Ending ks (stage hand [] h) [] (stage (numbers_of x ++ hand) [] (set_slot h (Some (native k)) i None))
   unpreserved : (hand : List ℕ) (h : Heap) (k : ℕ) → Among k ks → Ending ks (stage hand [] h) [] (stage hand [] (set_preserved h k false))
 
 -- no script object has a native in a slot
@@ -64,7 +64,7 @@ pub data Sweeping : Stage → List Event → Stage → Type 0 where
   swept_object : (h : Heap) (k : ℕ) → HoldNoNatives h → Sweeping (stage [] [] h) (Freed (object k) ∷ []) (stage [] [] (without_script h (object k)))
   -- a reflector is told and taken out: its reference to its native is in hand
   swept_reflector : (h : Heap) (k : ℕ) → HoldNoNatives h →
-    Sweeping (stage [] [] h) (Freed (reflector k) ∷ []) (stage (k ∷ []) [] (without_script h (reflector k)))
+      Sweeping (stage [] [] h) (Freed (reflector k) ∷ []) (stage (k ∷ []) [] (without_script h (reflector k)))
 
 -- NOTHING besides
 abbrev pub NothingBesides : Stage → List Event → Stage → Type 0
