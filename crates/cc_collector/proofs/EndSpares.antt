@@ -21,10 +21,10 @@ use Rattle.cc_model.specs.StandsFor.{shape_at}
 use Rattle.cc_laws_heap.specs.Sound.{IsSound}
 use Rattle.cc_laws_heap.specs.Ending.{TakesAway, freed_in, freed_numbers}
 use Rattle.cc_laws_heap.proofs.Leaving.{Leave, is_left, numbers_there, numbers_there-named, Leave-before, Leave-not_freed}
-use Rattle.cc_laws_heap.proofs.TakingAway.{on_the_way-end, take_away-sound, take_away-takes}
+use Rattle.cc_laws_heap.proofs.TakingAway.{take_away-sound, taken-emptied, others-kept, take_away-leaves, take_away-takes}
 use Rattle.cc_laws_heap.proofs.References.{native-there}
 use Rattle.cc_laws_snapshot.proofs.ReachedStays.{reached-there, reached-kept, native_edges-alike, native-edge}
-use Rattle.cc_laws_run.proofs.QuietTaken.{taken-emptied, others-kept, emptied-none, take_away-keeps}
+use Rattle.cc_laws_run.proofs.QuietTaken.{emptied-none, take_away-keeps}
 use Rattle.cc_gc.specs.Sparing.{KeepsWhatIsReached, SparesWhatIsReached}
 use Rattle.cc_gc.proofs.Sparing.{HoldsNoMore, no_more-reached, native-shape, script-shape, unreached-before, unreached-after}
 
@@ -130,19 +130,16 @@ module _ (h : Heap) (ks : List ℕ) (s : IsSound [] h) (there : (k : ℕ) → Am
     }
       where
         all : List ℕ
-        all = (on_the_way-end h ks s there).1
+        all = freed_numbers (take_away ks h).events
 
         leaves : Leave h all end
-        leaves = (on_the_way-end h ks s there).2.leaves
-
-        told : freed_numbers (take_away ks h).events ≡ all
-        told = (on_the_way-end h ks s there).2.tells.freed_told
+        leaves = take_away-leaves h ks s there
 
         not_freed : (x : Name) → Among x (names_there end) → ¬ (Among (Freed x) (take_away ks h).events)
         not_freed x there_now m =
             let k = takes.natives_alone (Freed x) m in
-            let freed : Among k.0 all = subst (Among k.0) told
-            (Among-flat_map freed_in (Freed x) k.0 (take_away ks h).events m (subst (λ y. Among k.0 (natives_in y)) (sym k.1) (inl refl))) in
+            let freed : Among k.0 all =
+            Among-flat_map freed_in (Freed x) k.0 (take_away ks h).events m (subst (λ y. Among k.0 (natives_in y)) (sym k.1) (inl refl)) in
             Leave-not_freed h all end leaves k.0
             (native-there end k.0 end-sound.well_formed (subst (λ y. Among y (names_there end)) k.1 there_now)) freed
 
@@ -160,7 +157,7 @@ module _ (h : Heap) (ks : List ℕ) (s : IsSound [] h) (there : (k : ℕ) → Am
             let f = Among-map_cases (λ (n : HeapNative). native n.number) h.natives x m in
             let k : ℕ = f.0.number in
             let apart : ¬ (Among k all) = λ i. d (subst (λ y. Among (Freed y) (take_away ks h).events) f.2
-            (freed_numbers-told (take_away ks h).events k (subst (Among k) (sym told) i))) in
+            (freed_numbers-told (take_away ks h).events k i)) in
             let passes : is_left all k ≡ true = ⊎_elim
             (λ t. absurd (apart (has-among ◌==◌ number-exact all k t)))
             (λ t. ap not t)

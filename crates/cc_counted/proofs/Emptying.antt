@@ -12,10 +12,8 @@ use Rattle.cc_model.proofs.Tellings.{Tells-nil}
 use Rattle.cc_laws_heap.proofs.Natives.{native_at-there, native_at-number}
 use Rattle.cc_laws_heap.proofs.References.{times-cons_same}
 use Rattle.cc_laws_heap.proofs.Counted.{count_at-found}
-use Rattle.cc_laws_heap.proofs.GiveUp.{IsBalanced-give_up}
 use Rattle.cc_laws_heap.specs.Balance.{IsBalanced}
-use Rattle.cc_laws_heap.proofs.DrainingAlike.{IsAlike-length, IsAlike-give_up}
-use Rattle.cc_laws_heap.proofs.Drain.{drain-balanced}
+use Rattle.cc_laws_heap.proofs.Drain.{drained-balanced}
 use Rattle.cc_counted.specs.declared.held.Held.{Held}
 use Rattle.cc_counted.specs.declared.held.Held.TheVariants as held
 use Rattle.cc_counted.specs.Counts.{number_at, number_or_none, the_number, name_of, is_live, numbers_held, native_held, heap_of}
@@ -41,8 +39,7 @@ pub balanced-cascade : (old new : Lists) (before after : Telling) (k : ℕ) (own
 unfolding drained
 balanced-cascade old new before after k owned none t b =
     let h : Heap = heap_of (counts_of old) in
-    let first : IsBalanced owned (give_up (at_rest h) k) = IsBalanced-give_up owned (at_rest h) k (subst (IsBalanced (k ∷ owned)) (resting old none) b) in
-    let done = drain-balanced (length h.natives) owned (give_up (at_rest h) k) first (omega (arith, IsAlike-length (at_rest h) (give_up (at_rest h) k) (IsAlike-give_up (at_rest h) k))) in
+    let done = drained-balanced owned h k (subst (IsBalanced (k ∷ owned)) (resting old none) b) in
     let d : Draining = drain (length h.natives) (give_up (at_rest h) k) in
     let at : (heap : Heap) (queue : List ℕ) → d.heap ≡ heap → d.queue ≡ queue → IsBalanced owned (record { heap = heap; queue = queue; events = [] }) =
     λ heap queue e q.

@@ -23,8 +23,7 @@ use Rattle.cc_model.proofs.Tellings.{Tells-nil, TellsEvents-trans}
 use Rattle.cc_laws_heap.specs.Sound.{IsSound, numbers_of}
 use Rattle.cc_laws_heap.specs.Freeing.{Uncounted, uncounted, is_none_of, Frees}
 use Rattle.cc_laws_heap.proofs.CascadeTakesOut.{let_go-gone}
-use Rattle.cc_laws_heap.proofs.Cascades.{cascade-frees}
-use Rattle.cc_laws_heap.proofs.Freed.{Frees-at_rest}
+use Rattle.cc_laws_heap.proofs.Emptying.{let_go-frees}
 use Rattle.cc_laws_heap.proofs.Holding.{IsIn-natives}
 use Rattle.cc_laws_heap.proofs.HoldsTheSame.{HoldsTheSame-take_up, names_there-alike}
 use Rattle.cc_laws_heap.proofs.MadeSound.{with_native-sound}
@@ -40,13 +39,6 @@ use Rattle.cc_heaps.proofs.SlotsHeld.{slots-taken}
 use Rattle.cc_document.specs.Told.{AreMade, Grows, HasLeft, NoneCame, NothingLeft, TellsWhatIsFreed, freed}
 
 -- Giving up
-
--- what is told, each once
-let_go-frees : (m : Heap) (y : Option Name) → IsSound (numbers_of y ++ []) m → (ks : List ℕ) × Frees m ks (let_go m y)
-let_go-frees m None s = ([], Frees-at_rest m)
-let_go-frees m (Some (name.Native k)) s = cascade-frees [] m k.0 s
-let_go-frees m (Some (name.Script k)) s = ([], Frees-at_rest m)
-let_go-frees m (Some (name.Reflector k)) s = ([], Frees-at_rest m)
 
 module _ (m : Heap) (y : Option Name) (ks : List ℕ) (f : Frees m ks (let_go m y)) where
   -- it is there no more
@@ -99,7 +91,7 @@ module _ (m : Heap) (y : Option Name) (ks : List ℕ) (f : Frees m ks (let_go m 
 -- WHAT IS TOLD by a change that ends in giving up: `m` is what stands before that
 module _ (h m k : Heap) (y : Option Name) (before after : Telling) (s : IsSound (numbers_of y ++ []) m) (is : k ≡ (let_go m y).heap) (w : IsWellFormed k) where
   f : (ks : List ℕ) × Frees m ks (let_go m y)
-  f = let_go-frees m y s
+  f = let_go-frees [] m y s
 
   well : IsWellFormed (let_go m y).heap
   well = subst IsWellFormed is w
@@ -228,7 +220,7 @@ module _ (v w : Keyed) (r : ℕ) (x : Option Name) (before after : Telling) (roo
   unfolding hold_native
   hold_native-made is =
       let m = set_register (take_up v.heap x) (N r) x in
-      let b = (let_go-frees m (register (take_up v.heap x) (N r)) register-sound).1.beside in
+      let b = (let_go-frees [] m (register (take_up v.heap x) (N r)) register-sound).1.beside in
       let a = (HoldsTheSame-take_up v.heap x).beside in
       subst (λ (u : Keyed). AreMade 0 0 v.heap u.heap) (sym is) (record {
         natives_made = b.natives_made ∙ (a.natives_made ∙ omega arith);
@@ -261,7 +253,7 @@ module _ (h k : Heap) (r slots : ℕ) (before after : Telling) (room : r < 256) 
   pub make_native-made : k ≡ (make_native h r slots).heap → AreMade 1 0 h k
   unfolding make_native
   make_native-made is =
-      let b = (let_go-frees put (register (with_native h slots) (N r)) made-sound).1.beside in
+      let b = (let_go-frees [] put (register (with_native h slots) (N r)) made-sound).1.beside in
       subst (AreMade 1 0 h) (sym is) (record { natives_made = b.natives_made; scripts_made = b.scripts_made ∙ omega arith; limits = b.limits })
 
   pub make_native-tells : k ≡ (make_native h r slots).heap → IsWellFormed k → TellsEvents before after (make_native h r slots).events → TellsWhatIsFreed h k before after
@@ -272,7 +264,7 @@ module _ (h k : Heap) (r slots : ℕ) (before after : Telling) (room : r < 256) 
       -- its register holds the new one, so that does not leave
       stays : Among (native (h.natives_made + 1)) (names_there (let_go put (register (with_native h slots) (N r))).heap)
       stays =
-          let b = (let_go-frees put (register (with_native h slots) (N r)) made-sound).1.beside in
+          let b = (let_go-frees [] put (register (with_native h slots) (N r)) made-sound).1.beside in
           let m = (let_go put (register (with_native h slots) (N r))).heap in
           let held : get_or m.native_registers r None ≡ made =
           ap (λ rs. get_or rs r None) b.native_registers ∙ get_or-set_same h.native_registers r made None (omega (arith, room, sound.well_formed.registers.0)) in
@@ -319,7 +311,7 @@ module _ (v w : Keyed) (n i : ℕ) (x : Option Name) (within : i < length (slots
 
   pub stored-made : AreMade 0 0 v.heap w.heap
   stored-made =
-      let b = (let_go-frees written held written-sound).1.beside in
+      let b = (let_go-frees [] written held written-sound).1.beside in
       let a = (HoldsTheSame-take_up v.heap x).beside in
       subst (λ (u : Keyed). AreMade 0 0 v.heap u.heap) (sym is) (record {
         natives_made = b.natives_made ∙ (a.natives_made ∙ omega arith);
@@ -329,5 +321,5 @@ module _ (v w : Keyed) (n i : ℕ) (x : Option Name) (within : i < length (slots
 
   pub stored-none_came : NoneCame v.heap w.heap
   stored-none_came y m =
-      let f = let_go-frees written held written-sound in
+      let f = let_go-frees [] written held written-sound in
       subst (Among y) written-names (let_go-none_came written held f.0 f.1 y (subst (λ (u : Keyed). Among y (names_there u.heap)) is m))

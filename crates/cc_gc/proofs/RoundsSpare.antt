@@ -24,9 +24,8 @@ use Rattle.cc_laws_heap.proofs.FreedNames.{FreesNames-left}
 use Rattle.cc_laws_heap.proofs.MarkedWellFormed.{is_spared_entry}
 use Rattle.cc_laws_heap.proofs.MarkingKeeps.{round-sound, round-frees}
 use Rattle.cc_laws_heap.proofs.RoundParts.{value_in-filter, round-natives, round-scripts, round-entries}
-use Rattle.cc_laws_heap.proofs.RoundsEnd.{next_round, rounds-keep}
 use Rattle.cc_laws_heap.proofs.RoundsStand.{spared-from}
-use Rattle.cc_laws_heap.proofs.CollectedColours.{collect_scripts-sound, collect_scripts-frees}
+use Rattle.cc_laws_heap.proofs.CollectedColours.{collecting-keeps, collect_scripts-sound, collect_scripts-frees}
 use Rattle.cc_laws_snapshot.proofs.ReachedStays.{reached-there, reached-kept, native_edges-alike, native-edge, script-edge}
 use Rattle.cc_laws_snapshot.proofs.SoundView.{script-place}
 use Rattle.cc_laws_run.proofs.QuietRounds.{round-keeps, left-not_dead}
@@ -110,24 +109,11 @@ module _ (h : Heap) (s : IsSound [] h) where
 
 -- Rounds
 
--- sound heaps in which what is reached is as it was
-record IsKeeping (h : Heap) (o : Outcome) : Type 0 where
-  sound : IsSound [] o.heap
-  keeps : KeepsWhatIsReached h o.heap
-
--- a round keeps it
-IsKeeping-round : (h : Heap) (o : Outcome) → IsKeeping h o → IsKeeping h (next_round o)
-IsKeeping-round h o k = record {
-  sound = round-sound o.heap k.sound;
-  keeps = keeps-then h o.heap (sweep (marked o.heap)).heap k.keeps (round-keeps_reached o.heap k.sound);
-}
-
 module _ (h : Heap) (s : IsSound [] h) where
   -- A SCRIPT COLLECTION KEEPS WHAT IS REACHED,
   pub collect_scripts-keeps : KeepsWhatIsReached h (collect_scripts h).heap
-  unfolding collect_scripts
-  collect_scripts-keeps = (rounds-keep (IsKeeping h) (IsKeeping-round h) (suc (length h.scripts)) (silently h)
-      (record { sound = s; keeps = keeps-same h s.well_formed })).keeps
+  collect_scripts-keeps = collecting-keeps (λ o. KeepsWhatIsReached h o.heap)
+      (λ o c k. keeps-then h o.heap (sweep (marked o.heap)).heap k (round-keeps_reached o.heap c)) h s (keeps-same h s.well_formed)
 
   -- and what it tells spares it.
   pub collect_scripts-spares : SparesWhatIsReached h (collect_scripts h).heap (collect_scripts h).events

@@ -36,9 +36,8 @@ use Rattle.cc_laws_heap.proofs.CommandsColours.{effects-coloured}
 use Rattle.cc_laws_heap.proofs.CommandsSound.{effects-sound}
 use Rattle.cc_laws_heap.proofs.Taken.{IsTaken}
 use Rattle.cc_laws_heap.proofs.NativeCommands.{names_there-take_up, hold_native-sound, make_native-sound}
-use Rattle.cc_laws_heap.proofs.NativesKeepScripts.{SameScripts, SameScripts-coloured, hold_native-scripts, make_native-scripts, SameScripts-take_up}
+use Rattle.cc_laws_heap.proofs.NativesKeepScripts.{SameScripts, SameScripts-coloured, hold_native-scripts, let_go-scripts, make_native-scripts, SameScripts-take_up}
 use Rattle.cc_laws_heap.proofs.Owning.{IsIn, let_go-sound, take_up-sound}
-use Rattle.cc_laws_heap.proofs.Cascades.{cascade-frees}
 use Rattle.cc_laws_heap.proofs.Writes.{native_slot-sound}
 use Rattle.cc_laws_heap.proofs.ScriptsKept.{exposed-sound, hold_script-sound, native-no_script, script_slot-sound}
 use Rattle.cc_laws_heap.proofs.ScriptNames.{script-named}
@@ -179,7 +178,7 @@ pub make_native-keeps : (h : Heap) (d n : ℕ) → d < 256 → n ≤ 64 → h.na
 make_native-keeps h d n room few allowed s = record {
   follows = Follows-from h (make_native h d n).heap s.well_formed (make_native-sound [] h d n room few allowed s).well_formed
       (make_native-gentle [] h d n room few allowed s)
-      (SameScripts-coloured h (make_native h d n).heap (make_native-scripts [] h d n room few allowed s));
+      (SameScripts-coloured h (make_native h d n).heap (make_native-scripts h d n));
   suspected = λ candidates. native_made-suspected [] h candidates d n s room few allowed;
 }
 
@@ -187,7 +186,7 @@ make_native-keeps h d n room few allowed s = record {
 pub hold_native-keeps : (h : Heap) (d : ℕ) (x : Option Name) → d < 256 → IsIn (native_names h) x → IsSound [] h → Keeps h (hold_native h d x).heap
 hold_native-keeps h d x room there s = record {
   follows = Follows-from h (hold_native h d x).heap s.well_formed after (hold_native-gentle [] h d x room there s)
-      (SameScripts-coloured h (hold_native h d x).heap (hold_native-scripts [] h d x room there s));
+      (SameScripts-coloured h (hold_native h d x).heap (hold_native-scripts h d x));
   suspected = Remembers-from h (hold_native h d x).heap s.well_formed after (hold_native-loyal h d x room there s);
 }
   where
@@ -217,15 +216,6 @@ suspect-keeps h k early late = record {
   suspected = Remembers-from h (suspect h k) early late (suspect-loyal h k);
 }
 
--- what is given up leaves script objects and script registers
-let_go-scripts : (h : Heap) (x : Option Name) → IsSound (numbers_of x ++ []) h → SameScripts h (let_go h x).heap
-let_go-scripts h None s = record { scripts = refl; registers = refl }
-let_go-scripts h (Some (name.Native k)) s =
-    let b = (cascade-frees [] h k.0 s).1.beside in
-    record { scripts = b.scripts; registers = b.script_registers }
-let_go-scripts h (Some (name.Script k)) s = record { scripts = refl; registers = refl }
-let_go-scripts h (Some (name.Reflector k)) s = record { scripts = refl; registers = refl }
-
 -- a slot whose new reference is taken
 module _ (t : Heap) (k i : ℕ) (x : Option Name) (n : HeapNative) (found : native_at t k ≡ Some n) (within : i < length n.slots)
     (there : IsIn (names_there t) x) (taken : AreTaken t x) (black : IsHeldBlack t.scripts x) (s : IsSound (numbers_of x ++ []) t) where
@@ -250,7 +240,7 @@ module _ (t : Heap) (k i : ℕ) (x : Option Name) (n : HeapNative) (found : nati
 
   put-scripts : SameScripts t (let_go written old).heap
   put-scripts =
-      let b = let_go-scripts written old owed in
+      let b = let_go-scripts written old in
       record { scripts = b.scripts; registers = b.registers }
 
 -- A slot of a native is written.

@@ -1,5 +1,5 @@
 -- WHAT A CASCADE TAKES OUT, whatever the counts: what it tells is gone, and nothing else of what the graph sees changes.
-use Rattle.std.proofs.Common.{◌≡◌, ℕ, zero, suc, false, List, [], ◌∷◌, ◌++◌, map, length, Option, Some, None, sym, ◌∙◌, ap, subst, ◌==◌}
+use Rattle.std.proofs.Common.{◌≡◌, ℕ, false, List, [], ◌∷◌, ◌++◌, map, length, Option, Some, None, sym, ◌∙◌, ap, subst, ◌==◌}
 use Rattle.std.specs.List.{filter}
 use Rattle.std.proofs.lemmas.Bool.{true≢false, not-true}
 use Rattle.cc_lists.specs.Members.{Among, has}
@@ -9,32 +9,26 @@ use Rattle.cc_names.specs.declared.name.Name.TheVariants as name
 use Rattle.cc_names.specs.Names.{native, number_of}
 use Rattle.cc_model.specs.declared.item.Event.TheVariants.{Freed}
 use Rattle.cc_model.specs.Heap.{Heap, HeapNative, Outcome}
-use Rattle.cc_model.specs.Cascade.{Draining, give_up, free_front, drain, drained, at_rest, cascade, let_go}
+use Rattle.cc_model.specs.Cascade.{give_up, drained, at_rest, cascade, let_go}
 use Rattle.cc_model.specs.WellFormed.{native_names}
-use Rattle.cc_laws_heap.specs.Freeing.{uncounted, is_none_of}
+use Rattle.cc_laws_heap.specs.Freeing.{uncounted, is_none_of, Frees}
+use Rattle.cc_laws_heap.specs.Balance.{IsSteady}
+use Rattle.cc_laws_heap.specs.Ending.{freed_numbers}
+use Rattle.cc_laws_heap.specs.Stages.{stage, Ending}
 use Rattle.cc_lists.proofs.Numbers.{number-exact}
 use Rattle.cc_laws_heap.proofs.DrainingAlike.{IsAlike-give_up}
+use Rattle.cc_laws_heap.proofs.EndingEvents.{TellsOf-freed}
+use Rattle.cc_laws_heap.proofs.Folding.{drain-keeps}
+use Rattle.cc_laws_heap.proofs.Giving.{cascade-done}
+use Rattle.cc_laws_heap.proofs.Leaving.{Leave, done-leaves}
 use Rattle.cc_laws_heap.proofs.Freed.{outcome, freed_event, TakesOut-silently, TakesOut-alike, TakesOut-free_front, TakesOut}
-
--- a drain takes out what it tells
-TakesOut-drain : (n : ℕ) (d : Draining) (h : Heap) (told : List ℕ) → TakesOut h told (outcome d) → (ks : List ℕ) × TakesOut h ks (outcome (drain n d))
-unfolding drain
-TakesOut-drain zero d h told f = (told, f)
-TakesOut-drain (suc n) d h told f = go (TakesOut-drain n) d.queue
-  where
-    next : List ℕ → Draining
-    next q = elim q [ [] ↦ d | k ∷ ks ↦ drain n (free_front d k ks) ]
-
-    go : ((e : Draining) (h : Heap) (told : List ℕ) → TakesOut h told (outcome e) → (ks : List ℕ) × TakesOut h ks (outcome (drain n e))) →
-        (q : List ℕ) → (ks : List ℕ) × TakesOut h ks (outcome (next q))
-    go ih [] = (told, f)
-    go ih (k ∷ ks) = ih (free_front d k ks) h (told ++ k ∷ []) (TakesOut-free_front h told d k ks f)
 
 -- WHAT A CASCADE TAKES OUT.
 pub TakesOut-cascade : (h : Heap) (k : ℕ) → (ks : List ℕ) × TakesOut h ks (cascade h k)
 unfolding drained
-TakesOut-cascade h k = TakesOut-drain (length h.natives) (give_up (at_rest h) k) h []
-    (TakesOut-alike h [] (at_rest h) (give_up (at_rest h) k) (IsAlike-give_up (at_rest h) k) (TakesOut-silently h))
+TakesOut-cascade h k = drain-keeps (λ d. (ks : List ℕ) × TakesOut h ks (outcome d))
+    (λ d j ks e t. (t.0 ++ j ∷ [], TakesOut-free_front h t.0 d j ks t.1)) (length h.natives) (give_up (at_rest h) k)
+    ([], TakesOut-alike h [] (at_rest h) (give_up (at_rest h) k) (IsAlike-give_up (at_rest h) k) (TakesOut-silently h))
 
 -- and what giving up what a register or a slot held
 pub TakesOut-let_go : (h : Heap) (x : Option Name) → (ks : List ℕ) × TakesOut h ks (let_go h x)
@@ -64,3 +58,12 @@ TakesOut-gone h ks o t x m =
 -- and where what a register or a slot held is given up
 pub let_go-gone : (h : Heap) (x : Option Name) → TellsWhatIsGone (let_go h x)
 let_go-gone h x = let t = TakesOut-let_go h x in TakesOut-gone h t.0 (let_go h x) t.1
+
+-- WHAT A CASCADE FREES where each count is that of the references: it was there, and nothing is freed twice.
+pub cascade-frees_steady : (owned : List ℕ) (h : Heap) (k : ℕ) → IsSteady (k ∷ owned) h → (ks : List ℕ) × Frees h ks (cascade h k)
+cascade-frees_steady owned h k b =
+    let t = TakesOut-cascade h k in
+    let same : freed_numbers (cascade h k).events ≡ t.0 = ap freed_numbers t.1.told ∙ (TellsOf-freed t.0).freed_told in
+    let l : Leave h t.0 (cascade h k).heap = subst (λ ks. Leave h ks (cascade h k).heap) same
+    (done-leaves [] (stage (k ∷ []) [] h) (cascade h k).events (stage [] [] (cascade h k).heap) (cascade-done (Ending []) [] owned h k b)) in
+    (t.0, record { told = t.1.told; once = l.once; were_there = l.were_there; natives = t.1.natives; beside = t.1.beside })

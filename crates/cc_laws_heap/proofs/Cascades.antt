@@ -1,24 +1,24 @@
 -- A CASCADE LEAVES SOUND HEAPS.
-use Rattle.std.proofs.Common.{◌≡◌, ℕ, zero, suc, ◌<◌, ◌≤◌, not, List, [], ◌∷◌, length, Option, Some, None, refl, sym, ◌∙◌, ap, subst, ⊎_elim, arith, ◌==◌}
+use Rattle.std.proofs.Common.{◌≡◌, ℕ, zero, suc, ◌<◌, ◌≤◌, not, List, ◌∷◌, Option, Some, None, refl, sym, ◌∙◌, ap, subst, ⊎_elim, arith, ◌==◌, map, Bool}
 use Rattle.std.proofs.lemmas.Bool.{cases_lt, eqb-true}
 use Rattle.cc_lists.specs.Members.{Among, has}
 use Rattle.cc_lists.proofs.Counting.{counted_is}
 use Rattle.cc_names.specs.Names.{native}
 use Rattle.cc_model.specs.Heap.{Heap, HeapNative, native_at}
-use Rattle.cc_model.specs.Cascade.{Draining, give_up, at_rest, drained, cascade}
+use Rattle.cc_model.specs.Cascade.{at_rest, cascade}
 use Rattle.cc_model.specs.WellFormed.{IsWellFormed, native_names}
-use Rattle.cc_model.specs.Counts.{refs_to, times}
+use Rattle.cc_model.specs.Counts.{refs_to}
 use Rattle.cc_laws_heap.specs.Sound.{IsSound}
-use Rattle.cc_laws_heap.specs.Freeing.{Frees}
+use Rattle.cc_laws_heap.specs.Freeing.{Frees, Uncounted, uncounted, SameBeside}
 use Rattle.cc_laws_heap.proofs.Natives.{native_at-there, native_at-named, native_at-member, named-found, IsWellFormed-distinct}
 use Rattle.cc_laws_heap.proofs.Beside.{SameBeside-is}
 use Rattle.cc_laws_heap.proofs.Counted.{IsCounted-referred, IsSound-counted, IsSound-from_counted}
-use Rattle.cc_laws_heap.proofs.GiveUp.{living-one, IsBalanced-give_up}
-use Rattle.cc_laws_heap.specs.Balance.{one_at_zero, one_above_zero, waiting, living, IsBalanced, has_place, places}
-use Rattle.cc_laws_heap.proofs.DrainingAlike.{IsAlike-length, IsAlike-give_up}
-use Rattle.cc_laws_heap.proofs.Freed.{outcome, Frees-alike, Frees-at_rest}
-use Rattle.cc_laws_heap.proofs.Drain.{drain-balanced, drain-frees}
+use Rattle.cc_laws_heap.proofs.GiveUp.{living-one}
+use Rattle.cc_laws_heap.specs.Balance.{one_at_zero, one_above_zero, waiting, living, IsBalanced, has_place, places, IsSteady}
+use Rattle.cc_laws_heap.proofs.Drain.{cascade-steady}
+use Rattle.cc_laws_heap.proofs.CascadeTakesOut.{cascade-frees_steady, TakesOut-cascade}
 use Rattle.cc_laws_heap.proofs.WellFormedStays.{IsPart, IsWellFormed-part}
+use Rattle.std.specs.List.{filter}
 
 -- a count above zero is not that of a native that waits
 pub one_at_zero-above : (c : ℕ) → 1 ≤ c → one_at_zero c ≡ 0
@@ -63,54 +63,43 @@ IsBalanced-at_rest owned h s = record {
               ap living n.1 ∙ one_above_zero-above n.0.count (s.none_zero n.0 (native_at-there h k n.0 n.1)),
             )
 
--- a balance in which no native waits is that of sound heaps
-pub IsSound-balanced : (owned : List ℕ) (h : Heap) (ks : List ℕ) (d : Draining) → IsWellFormed h → Frees h ks (outcome d) → IsBalanced owned d → d.queue ≡ [] →
-    IsSound owned d.heap
-IsSound-balanced owned h ks d w f b q = IsSound-from_counted owned d.heap well_formed b.counts above
+-- steady heaps are sound that are a part of well formed ones: natives whose numbers pass a test, and the same beside
+pub IsSound-steady : (owned : List ℕ) (h g : Heap) (p : ℕ → Bool) → IsWellFormed h →
+    map uncounted g.natives ≡ filter (λ (u : Uncounted). p u.number) (map uncounted h.natives) → SameBeside h g → IsSteady owned g → IsSound owned g
+IsSound-steady owned h g p w natives beside b = IsSound-from_counted owned g well_formed b.counts above
   where
-    is_whole : d.heap ≡ record h { natives = d.heap.natives; buffer = d.heap.buffer }
-    is_whole = SameBeside-is h d.heap f.beside
+    is_whole : g ≡ record h { natives = g.natives; buffer = g.buffer }
+    is_whole = SameBeside-is h g beside
 
-    lives : (k : ℕ) → 1 ≤ places k d.heap.buffer → Among (native k) (native_names d.heap)
-    lives k some = go (native_at d.heap k) refl (omega (arith, b.buffer k))
+    lives : (k : ℕ) → 1 ≤ places k g.buffer → Among (native k) (native_names g)
+    lives k some = go (native_at g k) refl (omega (arith, b.buffer k))
       where
-        go : (o : Option HeapNative) → native_at d.heap k ≡ o → 1 ≤ living o → Among (native k) (native_names d.heap)
+        go : (o : Option HeapNative) → native_at g k ≡ o → 1 ≤ living o → Among (native k) (native_names g)
         go None e l = absurd (omega arith)
-        go (Some n) e l = native_at-named d.heap k n e
+        go (Some n) e l = native_at-named g k n e
 
-    part : IsPart h (λ j. not (has ◌==◌ ks j)) d.heap.natives d.heap.buffer
+    part : IsPart h p g.natives g.buffer
     part = record {
-      natives = f.natives;
-      referred = subst (λ g. (k : ℕ) → 1 ≤ refs_to g k → Among (native k) (native_names g)) is_whole (IsCounted-referred owned d.heap b.counts);
+      natives = natives;
+      referred = subst (λ f. (k : ℕ) → 1 ≤ refs_to f k → Among (native k) (native_names f)) is_whole (IsCounted-referred owned g b.counts);
       buffered = lives;
-      buffered_once = λ k. omega (arith, b.buffer k, living-one (native_at d.heap k));
+      buffered_once = λ k. omega (arith, b.buffer k, living-one (native_at g k));
     }
 
-    well_formed : IsWellFormed d.heap
-    well_formed = subst IsWellFormed (sym is_whole) (IsWellFormed-part h (λ j. not (has ◌==◌ ks j)) d.heap.natives d.heap.buffer part w)
+    well_formed : IsWellFormed g
+    well_formed = subst IsWellFormed (sym is_whole) (IsWellFormed-part h p g.natives g.buffer part w)
 
-    above : (n : HeapNative) → Among n d.heap.natives → 1 ≤ n.count
-    above n m =
-        above-one_at_zero n.count
-        (sym (ap waiting (native_at-member d.heap b.distinct n m)) ∙ (sym (b.queue n.number) ∙ ap (times n.number) q))
+    above : (n : HeapNative) → Among n g.natives → 1 ≤ n.count
+    above n m = above-one_at_zero n.count (sym (ap waiting (native_at-member g b.distinct n m)) ∙ sym (b.queue n.number))
 
 module _ (owned : List ℕ) (h : Heap) (k : ℕ) (s : IsSound (k ∷ owned) h) where
-  -- the first reference given up leaves a balance
-  first-balanced : IsBalanced owned (give_up (at_rest h) k)
-  first-balanced = IsBalanced-give_up owned (at_rest h) k (IsBalanced-at_rest (k ∷ owned) h s)
-
-  -- a cascade leaves a balance, and none that waits
-  pub drained-balanced : IsBalanced owned (drained h k) × ((drained h k).queue ≡ [])
-  unfolding drained
-  drained-balanced = drain-balanced (length h.natives) owned (give_up (at_rest h) k) first-balanced
-      (omega (arith, IsAlike-length (at_rest h) (give_up (at_rest h) k) (IsAlike-give_up (at_rest h) k)))
-
   -- What a cascade tells is what it takes out.
   pub cascade-frees : (ks : List ℕ) × Frees h ks (cascade h k)
-  unfolding drained
-  cascade-frees = drain-frees (length h.natives) owned (give_up (at_rest h) k) first-balanced h []
-      (Frees-alike h [] (at_rest h) (give_up (at_rest h) k) (IsAlike-give_up (at_rest h) k) (Frees-at_rest h))
+  cascade-frees = cascade-frees_steady owned h k (IsBalanced-at_rest (k ∷ owned) h s)
 
   -- A cascade leaves sound heaps.
   pub cascade-sound : IsSound owned (cascade h k).heap
-  cascade-sound = IsSound-balanced owned h cascade-frees.0 (drained h k) s.well_formed cascade-frees.1 drained-balanced.0 drained-balanced.1
+  cascade-sound =
+      let t = TakesOut-cascade h k in
+      IsSound-steady owned h (cascade h k).heap (λ j. not (has ◌==◌ t.0 j)) s.well_formed t.1.natives t.1.beside
+      (cascade-steady owned h k (IsBalanced-at_rest (k ∷ owned) h s))

@@ -19,35 +19,23 @@ use Rattle.cc_laws_heap.proofs.MarkedKept.{black-register, black-slot}
 use Rattle.cc_laws_heap.proofs.MarkingKeeps.{round-sound, round-frees}
 use Rattle.cc_laws_heap.proofs.RoundsEnd.{next_round, rounds-keep, collect_scripts-marked}
 
--- What rounds keep
+-- Rounds
 
--- the heaps are sound, and what was told so far is what was taken out
-record IsCollecting (h : Heap) (o : Outcome) : Type 0 where
-  sound : IsSound [] o.heap
-  frees : (xs : List Name) × FreesNames h xs o
-
--- a round keeps it
-IsCollecting-round : (h : Heap) (o : Outcome) → IsCollecting h o → IsCollecting h (next_round o)
-IsCollecting-round h o c =
-    let r = round-frees o.heap c.sound in
-    record {
-      sound = round-sound o.heap c.sound;
-      frees = (c.frees.0 ++ r.0, FreesNames-then h c.frees.0 r.0 o (sweep (marked o.heap)) c.frees.1 r.1);
-    }
-
--- so does the collection
-collect_scripts-collecting : (h : Heap) → IsSound [] h → IsCollecting h (collect_scripts h)
+-- WHAT A ROUND OF SOUND HEAPS KEEPS, A SCRIPT COLLECTION KEEPS.
+pub collecting-keeps : (Q : Outcome → Type 0) → ((o : Outcome) → IsSound [] o.heap → Q o → Q (next_round o)) → (h : Heap) → IsSound [] h → Q (silently h) →
+    Q (collect_scripts h)
 unfolding collect_scripts
-collect_scripts-collecting h s = rounds-keep (IsCollecting h) (IsCollecting-round h) (suc (length h.scripts)) (silently h)
-    (record { sound = s; frees = ([], FreesNames-silently h) })
+collecting-keeps Q step h s q = (rounds-keep (λ o. IsSound [] o.heap × Q o) (λ o c. (round-sound o.heap c.0, step o c.0 c.1)) (suc (length h.scripts)) (silently h) (s, q)).1
 
 -- A SCRIPT COLLECTION LEAVES SOUND HEAPS,
 pub collect_scripts-sound : (h : Heap) → IsSound [] h → IsSound [] (collect_scripts h).heap
-collect_scripts-sound h s = (collect_scripts-collecting h s).sound
+collect_scripts-sound h s = collecting-keeps (λ o. IsSound [] o.heap) (λ o s q. round-sound o.heap q) h s s
 
 -- and what it tells is what it takes out.
 pub collect_scripts-frees : (h : Heap) → IsSound [] h → (xs : List Name) × FreesNames h xs (collect_scripts h)
-collect_scripts-frees h s = (collect_scripts-collecting h s).frees
+collect_scripts-frees h s = collecting-keeps (λ o. (xs : List Name) × FreesNames h xs o)
+    (λ o c f. let r = round-frees o.heap c in (f.0 ++ r.0, FreesNames-then h f.0 r.0 o (sweep (marked o.heap)) f.1 r.1))
+    h s ([], FreesNames-silently h)
 
 -- Colours
 

@@ -1,7 +1,6 @@
 -- WHAT CHANGES OF COUNTS AND OF THE BUFFER LEAVE: natives but for their counts, all beside natives and buffer, and
 -- what was told.
-use Rattle.std.proofs.Common.{◌≡◌, ℕ, zero, suc, List, [], ◌∷◌, map, length, Option, Some, None, refl, sym, ◌∙◌, ap}
-use Rattle.std.proofs.lemmas.List.{length-map}
+use Rattle.std.proofs.Common.{◌≡◌, ℕ, zero, suc, List, [], ◌∷◌, map, Option, Some, None, refl, ◌∙◌}
 use Rattle.cc_model.specs.Heap.{HeapNative, native_at, suspect, forget}
 use Rattle.cc_model.specs.Cascade.{Draining, lower, fallen, given_up, give_up, give_up_each}
 use Rattle.cc_laws_heap.specs.Freeing.{uncounted, SameBeside}
@@ -26,10 +25,6 @@ IsAlike-trans d e f a b = record {
   beside = SameBeside-trans d.heap e.heap f.heap a.beside b.beside;
   events = b.events ∙ a.events;
 }
-
--- alike heaps have as many natives
-pub IsAlike-length : (d e : Draining) → IsAlike d e → length e.heap.natives ≡ length d.heap.natives
-IsAlike-length d e a = sym (length-map e.heap.natives uncounted) ∙ (ap length a.natives ∙ length-map d.heap.natives uncounted)
 
 -- a count that falls leaves the heaps alike
 IsAlike-fallen : (d : Draining) (k c : ℕ) → IsAlike d (fallen d k c)

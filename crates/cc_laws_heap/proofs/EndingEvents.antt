@@ -1,40 +1,23 @@
 -- WHAT THE END OF A COLLECTION TELLS: the numbers of unlinked and of freed natives, list by list.
-use Rattle.std.proofs.Common.{◌≡◌, ℕ, List, [], ◌∷◌, ◌++◌, map, refl, ◌∙◌, ap, subst, ⊎_elim}
-use Rattle.std.proofs.lemmas.Grind.{flat_map-append}
+use Rattle.std.proofs.Common.{◌≡◌, ℕ, List, [], ◌∷◌, map, refl, ap, subst, ⊎_elim}
 use Rattle.cc_lists.specs.Members.{Among}
-use Rattle.cc_lists.proofs.Members.{Among-append, Among-map_cases}
-use Rattle.cc_names.specs.Names.{native}
+use Rattle.cc_lists.proofs.Members.{Among-append}
 use Rattle.cc_model.specs.declared.item.Event.{Event}
-use Rattle.cc_model.specs.declared.item.Event.TheVariants.{Unlinked}
-use Rattle.cc_model.specs.Lawful.{unlinked_in, unlinked_numbers}
-use Rattle.cc_laws_heap.specs.Ending.{freed_in, freed_numbers, NamesNative}
+use Rattle.cc_model.specs.Lawful.{unlinked_numbers}
+use Rattle.cc_laws_heap.specs.Ending.{freed_numbers, NamesNative}
+use Rattle.cc_laws_heap.specs.Stages.{Stage, Done, Ending}
+use Rattle.cc_laws_heap.specs.Stages.Ending.{reordered, raised, unlinked, emptied, unpreserved}
+use Rattle.cc_laws_heap.proofs.Folding.{done-keeps}
 use Rattle.cc_laws_heap.proofs.Freed.{freed_event}
 
--- these natives are told unlinked, those freed, each in this order, and nothing else is told
-pub record TellsOf (es : List Event) (unlinked freed : List ℕ) : Type 0 where
-  pub natives_alone : (e : Event) → Among e es → NamesNative e
-  pub unlinked_told : unlinked_numbers es ≡ unlinked
-  pub freed_told : freed_numbers es ≡ freed
-
--- nothing told names nothing
-pub TellsOf-nil : TellsOf [] [] []
-TellsOf-nil = record { natives_alone = λ e m. absurd m; unlinked_told = refl; freed_told = refl }
-
--- Events one after another tell the numbers one after another.
-pub TellsOf-append : (es fs : List Event) (us vs ks ls : List ℕ) → TellsOf es us ks → TellsOf fs vs ls → TellsOf (es ++ fs) (us ++ vs) (ks ++ ls)
-TellsOf-append es fs us vs ks ls t s = record {
-  natives_alone = λ e m. ⊎_elim (t.natives_alone e) (s.natives_alone e) (Among-append e es fs m);
-  unlinked_told = flat_map-append unlinked_in es fs ∙ (ap (λ js. js ++ unlinked_numbers fs) t.unlinked_told ∙ ap (λ js. us ++ js) s.unlinked_told);
-  freed_told = flat_map-append freed_in es fs ∙ (ap (λ js. js ++ freed_numbers fs) t.freed_told ∙ ap (λ js. ks ++ js) s.freed_told);
-}
+-- these natives are told unlinked, those freed, each in this order
+pub record TellsOf (es : List Event) (us ks : List ℕ) : Type 0 where
+  pub unlinked_told : unlinked_numbers es ≡ us
+  pub freed_told : freed_numbers es ≡ ks
 
 -- free lines tell what was freed
 pub TellsOf-freed : (ks : List ℕ) → TellsOf (map freed_event ks) [] ks
-TellsOf-freed ks = record {
-  natives_alone = λ e m. let f = Among-map_cases freed_event ks e m in subst NamesNative f.2 (f.0, refl);
-  unlinked_told = none ks;
-  freed_told = all ks;
-}
+TellsOf-freed ks = record { unlinked_told = none ks; freed_told = all ks }
   where
     none : (js : List ℕ) → unlinked_numbers (map freed_event js) ≡ []
     none [] = refl
@@ -44,10 +27,26 @@ TellsOf-freed ks = record {
     all [] = refl
     all (j ∷ js) = ap (λ ls. j ∷ ls) (all js)
 
--- an unlink line tells its native
-pub TellsOf-unlinked : (k : ℕ) → TellsOf (Unlinked (native k) ∷ []) (k ∷ []) []
-TellsOf-unlinked k = record {
-  natives_alone = λ e m. ⊎_elim (λ s. subst NamesNative s (k, refl)) (λ n. absurd n) m;
-  unlinked_told = refl;
-  freed_told = refl;
-}
+-- What is done
+
+-- each event names a native
+abbrev TellsTo : Stage → List Event → Stage → Type 0
+TellsTo s es t = (e : Event) → Among e es → NamesNative e
+
+-- what the end of a collection does besides tells an unlink line at most
+ending-tells : (ks : List ℕ) (s : Stage) (es : List Event) (t : Stage) → Ending ks s es t → TellsTo s es t
+ending-tells ks _ _ _ (reordered early late h same) = λ e m. absurd m
+ending-tells ks _ _ _ (raised hand h k there) = λ e m. absurd m
+ending-tells ks _ _ _ (unlinked hand h k own) = λ e m. ⊎_elim (λ s. subst NamesNative s (k, refl)) (λ n. absurd n) m
+ending-tells ks _ _ _ (emptied hand h k i n x own d f room content) = λ e m. absurd m
+ending-tells ks _ _ _ (unpreserved hand h k own) = λ e m. absurd m
+
+-- NATIVES ALONE ARE TOLD in cascades and in ends of collections.
+pub done-tells : (ks : List ℕ) (s : Stage) (es : List Event) (t : Stage) → Done (Ending ks) s es t → (e : Event) → Among e es → NamesNative e
+done-tells ks = done-keeps TellsTo (Ending ks) (record {
+  nothing = λ s. λ e m. absurd m;
+  followed = λ s t u xs ys a b. λ e m. ⊎_elim (a e) (b e) (Among-append e xs ys m);
+  suspected = λ hand queue h k n f c. λ e m. absurd m;
+  waits = λ hand queue h k n f c. λ e m. absurd m;
+  freed = λ hand ks h k n f d r. λ e m. ⊎_elim (λ s. subst NamesNative s (k, refl)) (λ x. absurd x) m;
+}) (ending-tells ks)

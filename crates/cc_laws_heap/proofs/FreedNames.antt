@@ -7,11 +7,12 @@ use Rattle.cc_lists.specs.Members.{Among}
 use Rattle.cc_lists.proofs.Members.{Among-left, Among-right, Among-append}
 use Rattle.cc_names.specs.declared.name.Name.{Name}
 use Rattle.cc_model.specs.declared.item.Event.TheVariants.{Freed}
-use Rattle.cc_model.specs.Heap.{Heap, Outcome, silently, after}
+use Rattle.cc_model.specs.Heap.{Heap, Outcome, silently, after, HeapScript}
 use Rattle.cc_model.specs.WellFormed.{native_names, script_names, names_there}
 use Rattle.cc_laws_heap.specs.Rounds.{is_not_among, FreesNames}
 use Rattle.cc_lists.proofs.Searching.{filter-true, filter-filter}
 use Rattle.cc_laws_heap.proofs.NameLists.{names-once_append, is_not_among-append, left-apart}
+use Rattle.cc_model.specs.Entries.{Entry}
 
 -- two lists taken out in turn are taken out together
 pub filter-not_among : {X : Type 0} (f : X → Name) (xs ys : List Name) (zs : List X) →
@@ -33,6 +34,22 @@ FreesNames-silently h = record {
   natives_made = refl;
   scripts_made = refl;
   limits = refl;
+}
+
+-- what is taken out of heaps with the same names, but for colours and entries, is taken out
+pub FreesNames-alike : (h : Heap) (os : List HeapScript) (es : List Entry) (xs : List Name) (o : Outcome) → map (λ (s : HeapScript). s.name) os ≡ script_names h →
+    FreesNames (record h { scripts = os; entries = es }) xs o → FreesNames h xs o
+FreesNames-alike h os es xs o same f = record {
+  told = f.told;
+  once = f.once;
+  were_there = λ x m. subst (λ ys. Among x (native_names h ++ ys)) same (f.were_there x m);
+  natives = f.natives;
+  scripts = f.scripts ∙ ap (filter (is_not_among xs)) same;
+  native_registers = f.native_registers;
+  script_registers = f.script_registers;
+  natives_made = f.natives_made;
+  scripts_made = f.scripts_made;
+  limits = f.limits;
 }
 
 -- what is left was there before, and was not taken out

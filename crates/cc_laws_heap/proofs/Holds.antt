@@ -2,7 +2,7 @@
 use Rattle.std.proofs.Common.{◌≡◌, ℕ, zero, suc, [], ◌∷◌, set, get_or, Option, Some, None, refl, ap, subst, inl, inr, ⊎_elim}
 use Rattle.cc_lists.specs.Members.{Among}
 use Rattle.cc_names.specs.declared.name.Name.{Name}
-use Rattle.cc_model.specs.Slots.{Slots, contents, empty_slots}
+use Rattle.cc_model.specs.Slots.{Slots, contents}
 
 -- it holds of the name that is there, where one is
 abbrev pub OfSome : (Name → Type 0) → Option Name → Type 0

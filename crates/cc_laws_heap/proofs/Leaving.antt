@@ -1,22 +1,32 @@
 -- NATIVES LEAVE THE HEAPS: those that were freed are there no more, all others are, and nothing changes beside natives
 -- and the buffer.
-use Rattle.std.proofs.Common.{◌≡◌, ℕ, ◌≤◌, Bool, true, false, not, ◌&&◌, ◌||◌, List, [], ◌∷◌, ◌++◌, map, refl, sym, ◌∙◌, ap, subst, ⊎_elim, arith, ◌==◌}
+use Rattle.std.proofs.Common.{◌≡◌, ℕ, ◌≤◌, Bool, true, false, not, ◌&&◌, ◌||◌, List, [], ◌∷◌, ◌++◌, map, Some, None, refl, sym, ◌∙◌, ap, subst, ⊎_elim, arith, ◌==◌}
 use Rattle.std.specs.List.{filter}
+use Rattle.std.proofs.Math.Bool.{or-false}
 use Rattle.std.proofs.Math.Path.{fun_ext}
+use Rattle.std.proofs.lemmas.Grind.{flat_map-append}
 use Rattle.std.proofs.lemmas.Bool.{cases_lt, true≢false, not-true, ne_eqb}
 use Rattle.std.proofs.lemmas.Simd.{map-map}
 use Rattle.cc_lists.specs.Members.{Among, has}
 use Rattle.cc_lists.proofs.Members.{Among-map, Among-map_cases, Among-append, Among-filtered, Among-passes, has-there}
 use Rattle.cc_names.specs.Names.{native}
-use Rattle.cc_model.specs.Heap.{Heap, HeapNative, Outcome, change_native}
+use Rattle.cc_model.specs.declared.item.Event.{Event}
+use Rattle.cc_model.specs.Heap.{Heap, HeapNative, Buffered, Outcome, native_at, change_native, with_native_slot, with_mark, forget}
+use Rattle.cc_model.specs.Cascade.{add_ref, removed}
 use Rattle.cc_model.specs.WellFormed.{native_names}
 use Rattle.cc_model.specs.Counts.{times}
 use Rattle.cc_laws_heap.specs.Freeing.{Uncounted, uncounted, is_none_of, SameBeside, Frees}
+use Rattle.cc_laws_heap.specs.Ending.{freed_in, freed_numbers}
+use Rattle.cc_laws_heap.specs.Stages.{Stage, Done, Ending}
+use Rattle.cc_laws_heap.specs.Stages.Ending.{reordered, raised, unlinked, emptied, unpreserved}
 use Rattle.cc_lists.proofs.Searching.{filter-true, filter-map, filter-filter}
-use Rattle.cc_lists.proofs.Numbers.{number-exact}
-use Rattle.cc_laws_heap.proofs.Natives.{named-member, KeepsNumber, changed_at, changed_at-number}
-use Rattle.cc_laws_heap.proofs.References.{times-append, times-among}
-use Rattle.cc_laws_heap.proofs.Beside.{SameBeside-refl, SameBeside-trans, SameBeside-change_native}
+use Rattle.cc_lists.proofs.Numbers.{eqb-sym, number-exact, at-each}
+use Rattle.cc_laws_heap.proofs.Natives.{native_at-named, named-member, KeepsNumber, changed_at, changed_at-number}
+use Rattle.cc_laws_heap.proofs.References.{times-append, times-cons_same, times-cons_other, times-among}
+use Rattle.cc_laws_heap.proofs.Beside.{SameBeside-with, SameBeside-refl, SameBeside-trans}
+use Rattle.cc_laws_heap.proofs.GiveUp.{lower_native}
+use Rattle.cc_laws_heap.proofs.HoldsTheSame.{raise_native}
+use Rattle.cc_laws_heap.proofs.Folding.{done-keeps}
 use Rattle.cc_lists.proofs.ListWrites.{map-kept}
 
 -- the numbers of the natives that are there
@@ -110,7 +120,7 @@ Leave-frees h ks o f = record {
     number u = u.number
 
 -- where the same numbers are there, nothing has left
-pub Leave-same : (h g : Heap) → SameBeside h g → numbers_there g ≡ numbers_there h → Leave h [] g
+Leave-same : (h g : Heap) → SameBeside h g → numbers_there g ≡ numbers_there h → Leave h [] g
 Leave-same h g b e = record {
   once = λ k. omega arith;
   were_there = λ k m. absurd m;
@@ -122,10 +132,54 @@ Leave-same h g b e = record {
 pub Leave-refl : (h : Heap) → Leave h [] h
 Leave-refl h = Leave-same h h (SameBeside-refl h) refl
 
--- nor where a native changes and keeps its number
-pub Leave-change_native : (h : Heap) (k : ℕ) (f : HeapNative → HeapNative) → KeepsNumber f → Leave h [] (change_native h k f)
-Leave-change_native h k f e = Leave-same h (change_native h k f) (SameBeside-change_native h k f)
+-- nothing leaves where a native changes and keeps its number, whatever the buffer is
+Leave-changed : (h : Heap) (k : ℕ) (f : HeapNative → HeapNative) (bs : List Buffered) → KeepsNumber f →
+    Leave h [] (record h { natives = (change_native h k f).natives; buffer = bs })
+Leave-changed h k f bs e = Leave-same h (record h { natives = (change_native h k f).natives; buffer = bs }) (SameBeside-with h (change_native h k f).natives bs)
     (map-kept (λ (n : HeapNative). n.number) (changed_at k f) h.natives (changed_at-number k f e))
+
+-- nothing leaves where a native changes and keeps its number, and the buffer stays
+pub Leave-change_native : (h : Heap) (k : ℕ) (f : HeapNative → HeapNative) → KeepsNumber f → Leave h [] (change_native h k f)
+Leave-change_native h k f e = Leave-changed h k f h.buffer e
+
+-- nothing leaves where a reference is taken
+pub Leave-add_ref : (h : Heap) (k : ℕ) → Leave h [] (add_ref h k)
+Leave-add_ref h k = Leave-changed h k raise_native (with_mark false k h.buffer) (λ n. refl)
+
+-- a native that is taken out leaves
+Leave-removed : (h : Heap) (k : ℕ) (n : HeapNative) → native_at h k ≡ Some n → Leave h (k ∷ []) (removed h k)
+Leave-removed h k n e = record {
+  once = at-each (λ j. times j (k ∷ []) ≤ 1) k (omega (arith, times-cons_same k [])) (λ j o. omega (arith, times-cons_other j k [] (λ s. o (sym s))));
+  were_there = λ j m. ⊎_elim (λ s. subst (λ i. Among (native i) (native_names h)) s (native_at-named h k n e)) (λ x. absurd x) m;
+  numbers = sym (filter-map (λ j. not (j == k)) (λ (m : HeapNative). m.number) h.natives)
+      ∙ ap (λ p. filter p (numbers_there h)) (fun_ext (λ j. ap not (eqb-sym j k ∙ sym (or-false (k == j)))));
+  beside = SameBeside-with h (removed h k).natives h.buffer;
+}
+
+-- What is done
+
+-- those told as freed have left the second stage
+abbrev LeavesTo : Stage → List Event → Stage → Type 0
+LeavesTo s es t = Leave s.heap (freed_numbers es) t.heap
+
+-- what the end of a collection does besides takes none out
+ending-leaves : (ks : List ℕ) (s : Stage) (es : List Event) (t : Stage) → Ending ks s es t → LeavesTo s es t
+ending-leaves ks _ _ _ (reordered early late h same) = Leave-refl h
+ending-leaves ks _ _ _ (raised hand h k m) = Leave-add_ref h k
+ending-leaves ks _ _ _ (unlinked hand h k m) = Leave-refl h
+ending-leaves ks _ _ _ (emptied hand h k i n x m d e room content) = Leave-change_native h k (with_native_slot i None) (λ o. refl)
+ending-leaves ks _ _ _ (unpreserved hand h k m) = Leave-change_native h k (λ n. record n { preserved = false }) (λ n. refl)
+
+-- WHAT IS TOLD AS FREED LEAVES, and no others: in cascades, and in ends of collections.
+pub done-leaves : (ks : List ℕ) (s : Stage) (es : List Event) (t : Stage) → Done (Ending ks) s es t → Leave s.heap (freed_numbers es) t.heap
+done-leaves ks = done-keeps LeavesTo (Ending ks) (record {
+  nothing = λ s. Leave-refl s.heap;
+  followed = λ s t u xs ys a b. subst (λ ks. Leave s.heap ks u.heap) (sym (flat_map-append freed_in xs ys))
+      (Leave-trans s.heap (freed_numbers xs) t.heap (freed_numbers ys) u.heap a b);
+  suspected = λ hand queue h k n e c. Leave-changed h k lower_native (with_mark true k h.buffer) (λ m. refl);
+  waits = λ hand queue h k n e c. Leave-changed h k lower_native (forget h k).buffer (λ m. refl);
+  freed = λ hand ks h k n e d r. Leave-removed h k n e;
+}) (ending-leaves ks)
 
 -- The natives that stay
 
@@ -146,14 +200,6 @@ IsOf-frees h ks o f n m =
 -- where counts and the buffer alone change too
 pub IsOf-alike : (h g : Heap) → map uncounted g.natives ≡ map uncounted h.natives → (n : HeapNative) → Among n g.natives → IsOf h n
 IsOf-alike h g e n m = Among-map_cases uncounted h.natives (uncounted n) (subst (λ us. Among (uncounted n) us) e (Among-map uncounted n g.natives m))
-
--- what is one of heaps in which each native but k is as it was, is as it was
-pub OthersStay-trans : (h : Heap) (k : ℕ) (g f : Heap) → OthersStay h k g → OthersStay g k f → OthersStay h k f
-OthersStay-trans h k g f a b = λ n m d.
-    let i = b n m d in
-    let number : i.0.number ≡ n.number = ap (λ (u : Uncounted). u.number) i.2 in
-    let j = a i.0 i.1 (λ e. d (sym number ∙ e)) in
-    (j.0, j.1, j.2 ∙ i.2)
 
 -- a change of native k leaves the others
 pub OthersStay-change_native : (h : Heap) (k : ℕ) (f : HeapNative → HeapNative) → KeepsNumber f → OthersStay h k (change_native h k f)

@@ -10,6 +10,8 @@ pub mod DrainingAlike
 pub mod Freed
 pub mod WellFormedStays
 pub mod Drain
+pub mod Folding
+pub mod Giving
 pub mod Cascades
 pub mod Kept
 pub mod Making
@@ -32,6 +34,7 @@ pub mod ColourChanges
 pub mod NativesKeepScripts
 pub mod CommandsColours
 pub mod Leaving
+pub mod Staying
 pub mod Emptying
 pub mod Unlinking
 pub mod EndingEvents

@@ -1,20 +1,19 @@
 -- MARKING KEEPS THE HEAPS SOUND, AND A ROUND DOES: no clause speaks of a colour.
-use Rattle.std.proofs.Common.{◌≡◌, ℕ, ◌+◌, List, [], ◌++◌, refl, sym, ◌∙◌, ap, subst}
-use Rattle.std.specs.List.{filter}
-use Rattle.cc_lists.specs.Members.{Among}
+use Rattle.std.proofs.Common.{◌≡◌, ℕ, ◌+◌, List, [], refl, sym, ◌∙◌, ap}
 use Rattle.cc_names.specs.declared.name.Name.{Name}
 use Rattle.cc_names.specs.Names.{reflector, same_name}
-use Rattle.cc_model.specs.Heap.{Heap, HeapScript, Outcome}
+use Rattle.cc_model.specs.Heap.{Heap, HeapScript}
 use Rattle.cc_model.specs.Colours.{marked}
 use Rattle.cc_model.specs.Sweep.{sweep}
-use Rattle.cc_model.specs.WellFormed.{IsWellFormed, native_names, script_names}
+use Rattle.cc_model.specs.WellFormed.{IsWellFormed, script_names}
 use Rattle.cc_model.specs.Counts.{refs_to, times}
 use Rattle.cc_laws_heap.specs.Sound.{IsSound}
-use Rattle.cc_laws_heap.specs.Rounds.{is_not_among, FreesNames}
+use Rattle.cc_laws_heap.specs.Rounds.{FreesNames}
 use Rattle.cc_lists.proofs.ListWrites.{map-kept, count_by-kept_map}
 use Rattle.cc_laws_heap.proofs.Kept.{ChangesScripts, IsWellFormed-scripts}
 use Rattle.cc_laws_heap.proofs.Marking.{as_marked, HasColours-marked}
 use Rattle.cc_laws_heap.proofs.Swept.{taken-sweep, sweep-frees, sweep-sound}
+use Rattle.cc_laws_heap.proofs.FreedNames.{FreesNames-alike}
 
 -- marking keeps the names of script objects
 pub script_names-marked : (h : Heap) → script_names (marked h) ≡ script_names h
@@ -45,29 +44,14 @@ IsSound-marked owned h s = record {
   owned_there = s.owned_there;
 }
 
--- what is taken out after marking is taken out
-FreesNames-marked : (h : Heap) (xs : List Name) (o : Outcome) → FreesNames (marked h) xs o → FreesNames h xs o
-unfolding marked
-FreesNames-marked h xs o f = record {
-  told = f.told;
-  once = f.once;
-  were_there = λ x m. subst (λ ys. Among x (native_names h ++ ys)) (script_names-marked h) (f.were_there x m);
-  natives = f.natives;
-  scripts = f.scripts ∙ ap (filter (is_not_among xs)) (script_names-marked h);
-  native_registers = f.native_registers;
-  script_registers = f.script_registers;
-  natives_made = f.natives_made;
-  scripts_made = f.scripts_made;
-  limits = f.limits;
-}
-
 -- A round leaves sound heaps,
 pub round-sound : (h : Heap) → IsSound [] h → IsSound [] (sweep (marked h)).heap
 round-sound h s = sweep-sound (marked h) (HasColours-marked h) (IsSound-marked [] h s)
 
 -- and what it tells is what it takes out.
 pub round-frees : (h : Heap) → IsSound [] h → (xs : List Name) × FreesNames h xs (sweep (marked h))
+unfolding marked
 round-frees h s =
     let m : IsSound [] (marked h) = IsSound-marked [] h s in
     let f = taken-sweep (marked h) (HasColours-marked h) m in
-    (f.0, FreesNames-marked h f.0 (sweep (marked h)) (sweep-frees (marked h) (HasColours-marked h) m))
+    (f.0, FreesNames-alike h (marked h).scripts h.entries f.0 (sweep (marked h)) (script_names-marked h) (sweep-frees (marked h) (HasColours-marked h) m))

@@ -1,23 +1,19 @@
 -- WHAT COMMANDS DO TO NATIVES LEAVES SCRIPT OBJECTS AND SCRIPT REGISTERS AS THEY ARE, cascades too.
-use Rattle.std.proofs.Common.{◌≡◌, ℕ, ◌+◌, ◌<◌, ◌≤◌, List, ◌++◌, length, Option, Some, None, refl, sym, ◌∙◌, subst, slice_index_or}
+use Rattle.std.proofs.Common.{◌≡◌, ℕ, ◌+◌, ◌<◌, List, ◌++◌, length, Option, Some, None, sym, ◌∙◌, subst, slice_index_or}
 use Rattle.cc_names.specs.declared.name.Name.{Name}
-use Rattle.cc_names.specs.declared.name.Name.TheVariants as name
 use Rattle.cc_names.specs.declared.register.Reg.TheVariants.{N}
 use Rattle.cc_names.specs.Names.{native}
 use Rattle.cc_model.specs.Checks.{slots_at}
 use Rattle.cc_model.specs.Heap.{Heap, Outcome, register, set_register, change_native, with_native_slot, objects_of}
 use Rattle.cc_model.specs.Cascade.{take_up, let_go}
 use Rattle.cc_model.specs.Effects.{put_in_register, hold_native, put_in_slot, store_native, with_native, make_native}
-use Rattle.cc_model.specs.WellFormed.{native_names, names_there}
+use Rattle.cc_model.specs.WellFormed.{names_there}
 use Rattle.cc_laws_heap.specs.Sound.{IsSound, numbers_of}
 use Rattle.cc_laws_heap.specs.Freeing.{SameBeside}
-use Rattle.cc_laws_heap.proofs.Cascades.{cascade-frees}
+use Rattle.cc_laws_heap.proofs.CascadeTakesOut.{TakesOut-let_go}
 use Rattle.cc_laws_heap.proofs.HoldsTheSame.{HoldsTheSame-take_up}
 use Rattle.cc_laws_heap.proofs.Owning.{IsIn, take_up-sound}
-use Rattle.cc_laws_heap.proofs.Writes.{native_register-sound, native_slot-sound}
-use Rattle.cc_laws_heap.proofs.MadeSound.{with_native-sound}
-use Rattle.cc_laws_heap.proofs.Holding.{IsIn-natives}
-use Rattle.cc_laws_heap.proofs.NativeCommands.{IsIn-take_up, HasSlot, HasSlot-take_up, put_in_slot-written, names_there-take_up, IsIn-made}
+use Rattle.cc_laws_heap.proofs.NativeCommands.{HasSlot, HasSlot-take_up, put_in_slot-written}
 use Rattle.cc_laws_heap.proofs.Coloured.{IsColoured}
 
 -- the same script objects and script registers
@@ -42,32 +38,25 @@ pub SameScripts-take_up : (h : Heap) (x : Option Name) → SameScripts h (take_u
 SameScripts-take_up h x = SameScripts-beside h (take_up h x) (HoldsTheSame-take_up h x).beside
 
 -- what a register or a slot held is given up
-let_go-scripts : (owned : List ℕ) (h : Heap) (x : Option Name) → IsSound (numbers_of x ++ owned) h → SameScripts h (let_go h x).heap
-let_go-scripts owned h None s = record { scripts = refl; registers = refl }
-let_go-scripts owned h (Some (name.Native k)) s = SameScripts-beside h (let_go h (Some (native k.0))).heap (cascade-frees owned h k.0 s).1.beside
-let_go-scripts owned h (Some (name.Script k)) s = record { scripts = refl; registers = refl }
-let_go-scripts owned h (Some (name.Reflector k)) s = record { scripts = refl; registers = refl }
+pub let_go-scripts : (h : Heap) (x : Option Name) → SameScripts h (let_go h x).heap
+let_go-scripts h x = SameScripts-beside h (let_go h x).heap (TakesOut-let_go h x).1.beside
 
 -- A native register is written.
-pub put_in_register-scripts : (owned : List ℕ) (h : Heap) (d : ℕ) (x : Option Name) → d < 256 → IsIn (native_names h) x →
-    IsSound (numbers_of x ++ owned) h → SameScripts h (put_in_register h d x).heap
-put_in_register-scripts owned h d x room there s =
-    let k = let_go-scripts owned (set_register h (N d) x) (register h (N d)) (native_register-sound owned h d x room there s) in
+pub put_in_register-scripts : (h : Heap) (d : ℕ) (x : Option Name) → SameScripts h (put_in_register h d x).heap
+put_in_register-scripts h d x =
+    let k = let_go-scripts (set_register h (N d) x) (register h (N d)) in
     record { scripts = k.scripts; registers = k.registers }
 
 -- A native register is written, with the reference taken first.
-pub hold_native-scripts : (owned : List ℕ) (h : Heap) (d : ℕ) (x : Option Name) → d < 256 → IsIn (native_names h) x → IsSound owned h →
-    SameScripts h (hold_native h d x).heap
+pub hold_native-scripts : (h : Heap) (d : ℕ) (x : Option Name) → SameScripts h (hold_native h d x).heap
 unfolding hold_native
-hold_native-scripts owned h d x room there s = SameScripts-trans h (take_up h x) (put_in_register (take_up h x) d x).heap (SameScripts-take_up h x)
-    (put_in_register-scripts owned (take_up h x) d x room (IsIn-take_up h x x there) (take_up-sound owned h x (IsIn-natives h x there) s))
+hold_native-scripts h d x =
+    SameScripts-trans h (take_up h x) (put_in_register (take_up h x) d x).heap (SameScripts-take_up h x) (put_in_register-scripts (take_up h x) d x)
 
 -- A slot of a native is written.
-put_in_slot-scripts : (owned : List ℕ) (h : Heap) (d i : ℕ) (x : Option Name) → IsIn (names_there h) x → HasSlot h d i →
-    IsSound (numbers_of x ++ owned) h → SameScripts h (put_in_slot h d i x).heap
-put_in_slot-scripts owned h d i x there f s =
-    let k = let_go-scripts owned (change_native h f.number (with_native_slot i x)) (slice_index_or f.there.slots i None)
-    (native_slot-sound owned h f.number i f.there x f.found f.room there s) in
+put_in_slot-scripts : (h : Heap) (d i : ℕ) (x : Option Name) → HasSlot h d i → SameScripts h (put_in_slot h d i x).heap
+put_in_slot-scripts h d i x f =
+    let k = let_go-scripts (change_native h f.number (with_native_slot i x)) (slice_index_or f.there.slots i None) in
     subst (λ (o : Outcome). SameScripts h o.heap) (sym (put_in_slot-written h d i x f)) (record { scripts = k.scripts; registers = k.registers })
 
 -- And with the reference taken first.
@@ -75,16 +64,12 @@ pub store_native-scripts : (owned : List ℕ) (h : Heap) (d i : ℕ) (x : Option
     i < length (slots_at (objects_of h) (N d)) →
     IsSound owned h → SameScripts h (store_native h d i x).heap
 unfolding store_native
-store_native-scripts owned h d i x there room s =
-    let taken : IsSound (numbers_of x ++ owned) (take_up h x) = take_up-sound owned h x there s in
-    SameScripts-trans h (take_up h x) (put_in_slot (take_up h x) d i x).heap (SameScripts-take_up h x)
-    (put_in_slot-scripts owned (take_up h x) d i x (names_there-take_up h x there) (HasSlot-take_up (numbers_of x ++ owned) h d i x taken room) taken)
+store_native-scripts owned h d i x there room s = SameScripts-trans h (take_up h x) (put_in_slot (take_up h x) d i x).heap (SameScripts-take_up h x)
+    (put_in_slot-scripts (take_up h x) d i x (HasSlot-take_up (numbers_of x ++ owned) h d i x (take_up-sound owned h x there s) room))
 
 -- A native is made.
-pub make_native-scripts : (owned : List ℕ) (h : Heap) (d n : ℕ) → d < 256 → n ≤ 64 → h.natives_made < h.limits.natives → IsSound owned h →
-    SameScripts h (make_native h d n).heap
+pub make_native-scripts : (h : Heap) (d n : ℕ) → SameScripts h (make_native h d n).heap
 unfolding make_native
-make_native-scripts owned h d n room few allowed s =
-    let k = put_in_register-scripts owned (with_native h n) d (Some (native (h.natives_made + 1))) room
-    (IsIn-made h n s.well_formed) (with_native-sound owned h n s few allowed) in
+make_native-scripts h d n =
+    let k = put_in_register-scripts (with_native h n) d (Some (native (h.natives_made + 1))) in
     record { scripts = k.scripts; registers = k.registers }

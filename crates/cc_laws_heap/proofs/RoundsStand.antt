@@ -1,6 +1,6 @@
 -- A SCRIPT COLLECTION KEEPS STANDING FOR THE GRAPH: what the graph reaches is marked, where it is a script object, and
 -- what well formed heaps mention is there.
-use Rattle.std.proofs.Common.{◌≡◌, suc, Bool, true, false, not, ◌||◌, List, [], length, refl, sym, ◌∙◌, ap, subst, inl}
+use Rattle.std.proofs.Common.{◌≡◌, Bool, true, false, not, ◌||◌, List, [], refl, sym, ◌∙◌, ap, subst, inl}
 use Rattle.cc_lists.specs.Members.{Among, has}
 use Rattle.cc_lists.proofs.Members.{Among-map_cases}
 use Rattle.cc_names.specs.declared.name.Name.{Name}
@@ -10,7 +10,7 @@ use Rattle.cc_model.specs.Entries.{Entry, is_entry_of}
 use Rattle.cc_model.specs.Graph.{Graph}
 use Rattle.cc_model.specs.Reached.{Reached}
 use Rattle.cc_model.specs.WellMade.{IsWellMade}
-use Rattle.cc_model.specs.Heap.{Heap, HeapScript, Outcome, silently}
+use Rattle.cc_model.specs.Heap.{Heap, HeapScript}
 use Rattle.cc_model.specs.Colours.{marked}
 use Rattle.cc_model.specs.Sweep.{unmarked, sweep, collect_scripts}
 use Rattle.cc_model.specs.StandsFor.{Shape, native_shape, shape_in, shape_of_held_script, StandsFor}
@@ -28,8 +28,7 @@ use Rattle.cc_laws_heap.proofs.MarkedWellFormed.{is_spared_entry}
 use Rattle.cc_laws_heap.proofs.MarkingKeeps.{round-sound, round-frees}
 use Rattle.cc_laws_heap.proofs.RoundParts.{value_in-filter, ArePart-filter, round-natives, round-scripts, round-entries}
 use Rattle.cc_laws_heap.proofs.ReachedMarked.{reached-not_unmarked}
-use Rattle.cc_laws_heap.proofs.RoundsEnd.{next_round, rounds-keep}
-use Rattle.cc_laws_heap.proofs.CollectedColours.{collect_scripts-frees}
+use Rattle.cc_laws_heap.proofs.CollectedColours.{collecting-keeps, collect_scripts-frees}
 
 -- the shape of a native without its count
 abbrev shape_of_uncounted : Uncounted → Shape
@@ -104,20 +103,9 @@ module _ (h : Heap) (g : Graph) (s : IsSound [] h) (m : IsWellMade g) (t : Stand
 
 -- Rounds
 
--- sound heaps that stand for the graph
-record IsStanding (g : Graph) (o : Outcome) : Type 0 where
-  sound : IsSound [] o.heap
-  stands : StandsFor o.heap g
-
--- a round keeps it
-IsStanding-round : (g : Graph) → IsWellMade g → (o : Outcome) → IsStanding g o → IsStanding g (next_round o)
-IsStanding-round g m o c = record { sound = round-sound o.heap c.sound; stands = round-stands o.heap g c.sound m c.stands }
-
 -- A SCRIPT COLLECTION KEEPS STANDING FOR THE GRAPH,
 pub collect_scripts-stands : (h : Heap) (g : Graph) → IsSound [] h → IsWellMade g → StandsFor h g → StandsFor (collect_scripts h).heap g
-unfolding collect_scripts
-collect_scripts-stands h g s m t =
-    (rounds-keep (IsStanding g) (IsStanding-round g m) (suc (length h.scripts)) (silently h) (record { sound = s; stands = t })).stands
+collect_scripts-stands h g s m t = collecting-keeps (λ o. StandsFor o.heap g) (λ o c u. round-stands o.heap g c m u) h s t
 
 -- and frees nothing that the graph reaches.
 pub collect_scripts-unreached : (h : Heap) (g : Graph) (x : Name) → IsSound [] h → IsWellMade g → StandsFor h g →

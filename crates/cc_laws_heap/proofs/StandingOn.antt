@@ -20,6 +20,7 @@ use Rattle.cc_laws_heap.proofs.Owning.{add_ref-sound}
 use Rattle.cc_laws_heap.proofs.Following.{NativeFollows, AreEntries, Follows, stands-follows}
 use Rattle.cc_laws_heap.proofs.Standing.{follows-stands}
 use Rattle.cc_laws_heap.proofs.Leaving.{IsOf, IsOf-frees, IsOf-alike}
+use Rattle.cc_laws_heap.proofs.Staying.{uncounted-emptied}
 use Rattle.cc_laws_heap.proofs.Unlinking.{unlink-keeps}
 
 -- a native that was there, that no register of the graph reaches, and that was emptied
@@ -42,18 +43,8 @@ uncounted-shape m n e = ap shape_of_uncounted e
     shape_of_uncounted : Uncounted → Shape
     shape_of_uncounted u = record { slots = Some u.slots; preserved = u.preserved }
 
--- what is emptied as it was is emptied
-pub uncounted-emptied : (m n : HeapNative) → uncounted m ≡ uncounted n → IsEmptied m → IsEmptied n
-uncounted-emptied m n e t = record { slots = moved.slots; preserved = moved.preserved }
-  where
-    of : Uncounted → HeapNative
-    of u = record { number = u.number; slots = u.slots; preserved = u.preserved; count = 0 }
-
-    moved : IsEmptied (of (uncounted n))
-    moved = subst (λ u. IsEmptied (of u)) e (record { slots = t.slots; preserved = t.preserved })
-
 -- HEAPS OF WHICH EACH NATIVE STANDS ON stand for the graph that the heaps before stood for.
-stands-on : (h k : Heap) (g : Graph) → IsWellFormed h → IsWellFormed k → IsWellMade g → SameBeside h k →
+pub stands-on : (h k : Heap) (g : Graph) → IsWellFormed h → IsWellFormed k → IsWellMade g → SameBeside h k →
     ((n : HeapNative) → Among n k.natives → StandsOn h g n) → StandsFor h g → StandsFor k g
 stands-on h k g w v m b on s = follows-stands (Reached g) k g v m (record {
   beside = record {

@@ -1,6 +1,6 @@
 -- SWEEPING KEEPS THE BALANCE: a reflector that is taken out leaves a reference to its native in hand, and a cascade
 -- gives that up; the slots of script objects hold nothing that is counted.
-use Rattle.std.proofs.Common.{◌≡◌, ℕ, ◌≤◌, true, not, List, [], ◌∷◌, length, sym, ◌∙◌, ap, arith, count_by}
+use Rattle.std.proofs.Common.{◌≡◌, ℕ, ◌≤◌, true, not, List, ◌∷◌, sym, ◌∙◌, ap, arith, count_by}
 use Rattle.std.proofs.lemmas.Bool.{not-true}
 use Rattle.cc_lists.specs.Members.{Among}
 use Rattle.cc_lists.proofs.Members.{Among-map_cases}
@@ -8,41 +8,14 @@ use Rattle.cc_lists.proofs.Counting.{count_by-some}
 use Rattle.cc_names.specs.declared.name.Name.{Name}
 use Rattle.cc_names.specs.Names.{object, reflector, same_name, number_of}
 use Rattle.cc_names.proofs.NameTests.{same_name-true, same_name-refl}
-use Rattle.cc_model.specs.declared.item.Event.{Event}
 use Rattle.cc_model.specs.Heap.{Heap, HeapScript}
-use Rattle.cc_model.specs.Cascade.{Draining, give_up, at_rest, drained, cascade}
 use Rattle.cc_model.specs.Sweep.{without_script}
 use Rattle.cc_model.specs.WellFormed.{script_names}
-use Rattle.cc_model.specs.Counts.{times}
-use Rattle.cc_laws_heap.specs.Freeing.{Frees}
 use Rattle.cc_lists.proofs.Searching.{count_by-kept, count_by-dropped}
 use Rattle.cc_lists.proofs.Numbers.{at-each}
 use Rattle.cc_laws_heap.proofs.References.{times-cons_same, times-cons_other}
-use Rattle.cc_laws_heap.proofs.GiveUp.{IsBalanced-give_up}
-use Rattle.cc_laws_heap.specs.Balance.{IsBalanced}
-use Rattle.cc_laws_heap.proofs.DrainingAlike.{IsAlike-length, IsAlike-give_up}
-use Rattle.cc_laws_heap.proofs.Drain.{drain-balanced, drain-frees}
-use Rattle.cc_laws_heap.proofs.Freed.{Frees-alike, Frees-at_rest}
+use Rattle.cc_laws_heap.specs.Balance.{IsSteady}
 use Rattle.cc_laws_heap.proofs.NameLists.{same_name-other}
-
--- Heaps in balance
-
--- heaps at rest in which each count is that of the references, and no native waits
-abbrev pub IsSteady : List ℕ → Heap → Type 0
-IsSteady owned h = IsBalanced owned (at_rest h)
-
--- where no native waits the heaps are steady, whatever was told
-IsSteady-from : (owned : List ℕ) (d : Draining) → IsBalanced owned d → d.queue ≡ [] → IsSteady owned d.heap
-IsSteady-from owned d b q = record {
-  distinct = b.distinct;
-  counts = b.counts;
-  queue = λ k. ap (times k) (sym q) ∙ b.queue k;
-  buffer = b.buffer;
-}
-
--- and steady heaps are in balance, whatever was told
-pub IsSteady-telling : (owned : List ℕ) (h : Heap) (es : List Event) → IsSteady owned h → IsBalanced owned (record { heap = h; queue = []; events = es })
-IsSteady-telling owned h es b = record { distinct = b.distinct; counts = b.counts; queue = b.queue; buffer = b.buffer }
 
 -- A script object taken out
 
@@ -88,24 +61,3 @@ IsSteady-without_reflector owned h k b few m = record {
   queue = b.queue;
   buffer = b.buffer;
 }
-
--- A cascade
-
-module _ (owned : List ℕ) (h : Heap) (k : ℕ) (b : IsSteady (k ∷ owned) h) where
-  -- the reference in hand given up leaves a balance
-  given_up-balanced : IsBalanced owned (give_up (at_rest h) k)
-  given_up-balanced = IsBalanced-give_up owned (at_rest h) k b
-
-  -- A cascade of a reference in hand leaves the heaps steady,
-  pub cascade-steady : IsSteady owned (cascade h k).heap
-  unfolding drained
-  cascade-steady =
-      let d = drain-balanced (length h.natives) owned (give_up (at_rest h) k) given_up-balanced
-      (omega (arith, IsAlike-length (at_rest h) (give_up (at_rest h) k) (IsAlike-give_up (at_rest h) k))) in
-      IsSteady-from owned (drained h k) d.0 d.1
-
-  -- and what it tells is what it takes out.
-  pub cascade-frees_steady : (ks : List ℕ) × Frees h ks (cascade h k)
-  unfolding drained
-  cascade-frees_steady = drain-frees (length h.natives) owned (give_up (at_rest h) k) given_up-balanced h []
-      (Frees-alike h [] (at_rest h) (give_up (at_rest h) k) (IsAlike-give_up (at_rest h) k) (Frees-at_rest h))

@@ -1,6 +1,6 @@
 -- A NATIVE UNLINKED: while it is owned it stays, with empty slots and no preservation; all others are as they were, or
 -- were freed.
-use Rattle.std.proofs.Common.{◌≡◌, ℕ, ◌+◌, ◌≤◌, Bool, false, List, [], ◌∷◌, ◌++◌, map, length, Option, Some, None, refl, sym, ◌∙◌, ap, subst, ◌==◌}
+use Rattle.std.proofs.Common.{◌≡◌, ℕ, ◌+◌, ◌≤◌, Bool, false, List, [], ◌∷◌, ◌++◌, length, Option, Some, None, refl, sym, ◌∙◌, ap, subst, ◌==◌, inl, ⊎_elim}
 use Rattle.std.proofs.lemmas.Bool.{false≢true}
 use Rattle.std.proofs.lemmas.List.{append-nil, length-replicate}
 use Rattle.cc_lists.specs.Members.{Among}
@@ -9,30 +9,36 @@ use Rattle.cc_model.specs.declared.item.Event.TheVariants.{Unlinked}
 use Rattle.cc_model.specs.Slots.{contents, empty_slots}
 use Rattle.cc_model.specs.Heap.{Heap, HeapNative, Outcome, silently, native_at, set_preserved}
 use Rattle.cc_model.specs.End.{empty_each, slots_now, unlink}
+use Rattle.cc_model.specs.Lawful.{unlinked_numbers}
 use Rattle.cc_model.specs.WellFormed.{IsWellFormed, native_names}
 use Rattle.cc_model.specs.Counts.{refs_to, slots_of_natives, times}
 use Rattle.cc_model.specs.StandsFor.{IsEmptied}
 use Rattle.cc_laws_heap.specs.Sound.{IsSound}
+use Rattle.cc_laws_heap.specs.Ending.{freed_numbers}
+use Rattle.cc_laws_heap.specs.Stages.{Stage, stage, Done, Ending}
+use Rattle.cc_laws_heap.specs.Stages.Done.{followed, besides}
+use Rattle.cc_laws_heap.specs.Stages.Ending.{unlinked, unpreserved}
 use Rattle.cc_laws_heap.proofs.Natives.{native_names-change, native_at-change_same, native_at-member, IsWellFormed-distinct, named-found}
-use Rattle.cc_laws_heap.proofs.Freed.{freed_event}
+use Rattle.cc_laws_heap.proofs.Giving.{quietly}
 use Rattle.cc_lists.proofs.ListWrites.{changed_where, changed_where-either, each-map, flat_map-kept}
 use Rattle.cc_laws_heap.proofs.Kept.{IsBuffer-own, ChangesNatives, ChangesNatives-where, IsWellFormed-natives}
-use Rattle.cc_laws_heap.proofs.Leaving.{Leave, Leave-trans, Leave-change_native, OthersStay, OthersStay-trans, OthersStay-change_native}
+use Rattle.cc_laws_heap.proofs.Leaving.{Leave, done-leaves, OthersStay}
+use Rattle.cc_laws_heap.proofs.Staying.{done-stays}
 use Rattle.cc_laws_heap.proofs.Emptying.{IsEmptying, IsEmptying-start, empty_each-sound}
 
 -- a native whose preservation ended
-abbrev unpreserved : HeapNative → HeapNative
-unpreserved n = record n { preserved = false }
+abbrev unpreserved_native : HeapNative → HeapNative
+unpreserved_native n = record n { preserved = false }
 
 -- The end of a preservation leaves the heaps sound.
-pub unpreserved-sound : (owned : List ℕ) (h : Heap) (k : ℕ) → IsSound owned h → IsSound owned (set_preserved h k false)
+unpreserved-sound : (owned : List ℕ) (h : Heap) (k : ℕ) → IsSound owned h → IsSound owned (set_preserved h k false)
 unpreserved-sound owned h k s = record {
   well_formed = IsWellFormed-natives h change h.buffer w changes (IsBuffer-own h w);
   counts = each-map (λ n. n.count ≡ refs_to (set_preserved h k false) n.number + times n.number owned) change h.natives
-      (λ n m. changed_where-either (λ o. o.count ≡ refs_to (set_preserved h k false) o.number + times o.number owned) is_it unpreserved n
+      (λ n m. changed_where-either (λ o. o.count ≡ refs_to (set_preserved h k false) o.number + times o.number owned) is_it unpreserved_native n
       (λ e. counted n m) (counted n m));
   none_zero = each-map (λ n. 1 ≤ n.count) change h.natives
-      (λ n m. changed_where-either (λ o. 1 ≤ o.count) is_it unpreserved n (λ e. s.none_zero n m) (s.none_zero n m));
+      (λ n m. changed_where-either (λ o. 1 ≤ o.count) is_it unpreserved_native n (λ e. s.none_zero n m) (s.none_zero n m));
   owned_there = λ j m. subst (λ xs. Among (native j) xs) (sym names) (s.owned_there j m);
 }
   where
@@ -43,21 +49,21 @@ unpreserved-sound owned h k s = record {
     is_it m = m.number == k
 
     change : HeapNative → HeapNative
-    change n = changed_where is_it unpreserved n
+    change n = changed_where is_it unpreserved_native n
 
     changes : ChangesNatives h change
-    changes = ChangesNatives-where h w is_it unpreserved (λ m. refl) (λ m a e. record {
+    changes = ChangesNatives-where h w is_it unpreserved_native (λ m. refl) (λ m a e. record {
       slots = w.native_slots m a;
       contents = λ y z. w.native_contents m y a z;
       preserved = λ f. absurd (false≢true f);
     })
 
     names : native_names (set_preserved h k false) ≡ native_names h
-    names = native_names-change h k unpreserved (λ n. refl)
+    names = native_names-change h k unpreserved_native (λ n. refl)
 
     slots : slots_of_natives (set_preserved h k false) ≡ slots_of_natives h
     slots = flat_map-kept (λ (m : HeapNative). contents m.slots) change h.natives
-        (λ m. changed_where-either (λ o. contents o.slots ≡ contents m.slots) is_it unpreserved m (λ e. refl) refl)
+        (λ m. changed_where-either (λ o. contents o.slots ≡ contents m.slots) is_it unpreserved_native m (λ e. refl) refl)
 
     refs : (j : ℕ) → refs_to (set_preserved h k false) j ≡ refs_to h j
     refs j = rw slots refl
@@ -72,61 +78,74 @@ IsEmptied-from n j e p = record {
   preserved = p;
 }
 
--- native k was told unlinked and is empty where it is there; those freed were told after it and have left; the others
--- are as they were
+-- native k was told unlinked and is empty where it is there; those freed have left; the others are as they were
 pub record Unlinks (h : Heap) (k : ℕ) (freed : List ℕ) (o : Outcome) : Type 0 where
-  pub told : o.events ≡ Unlinked (native k) ∷ map freed_event freed
+  pub unlinked_told : unlinked_numbers o.events ≡ k ∷ []
   pub leaves : Leave h freed o.heap
   pub others : OthersStay h k o.heap
   pub emptied : (n : HeapNative) → Among n o.heap.natives → n.number ≡ k → IsEmptied n
 
 module _ (owned : List ℕ) (h : Heap) (k : ℕ) (s : IsSound owned h) (own : Among k owned) where
-  -- the native and its slots emptied
-  emptied-sound : (freed : List ℕ) × (j : ℕ) × IsSound owned (empty_each k 0 (slots_now (native_at h k)) (silently h)).heap
-      × IsEmptying h k (empty_slots j ++ []) freed (empty_each k 0 (slots_now (native_at h k)) (silently h))
-  emptied-sound = let n = named-found h k (s.owned_there k own) in go n.0 (native_at h k) (sym n.1) n.1
-    where
-      go : (n : HeapNative) → (o : Option HeapNative) → Some n ≡ o → native_at h k ≡ Some n →
-          (freed : List ℕ) × (j : ℕ) × IsSound owned (empty_each k 0 (slots_now o) (silently h)).heap
-          × IsEmptying h k (empty_slots j ++ []) freed (empty_each k 0 (slots_now o) (silently h))
-      go n None e f = absurd (cc)
-      go n (Some m) e f =
-          let same : n ≡ m = cc in
-          empty_each-sound owned h k own 0 m.slots (silently h) [] s (IsEmptying-start h k m (f ∙ e))
+  -- the slots of what was found emptied
+  abbrev emptying : Option HeapNative → Outcome
+  emptying o = empty_each k 0 (slots_now o) (silently h)
+
+  abbrev Empties : List ℕ → Option HeapNative → Type 0
+  Empties ks o = (j : ℕ) × IsSound owned (emptying o).heap × IsEmptying ks owned h k (empty_slots j ++ []) (emptying o)
+
+  -- the native is found, and its slots are emptied
+  emptied-sound : (ks : List ℕ) → Among k ks → Empties ks (native_at h k)
+  emptied-sound ks taken =
+      let n = named-found h k (s.owned_there k own) in
+      subst (Empties ks) (sym n.1) (empty_each-sound ks owned h k taken own 0 n.0.slots (silently h) s (IsEmptying-start ks owned h k n.0 n.1))
+
+  -- What is done where it is unlinked.
+  pub unlink-done : (ks : List ℕ) → Among k ks → Done (Ending ks) (stage owned [] h) (unlink h k).events (stage owned [] (unlink h k).heap)
+  unfolding unlink
+  unlink-done ks taken =
+      let o : Outcome = emptying (native_at h k) in
+      let here : Stage = stage owned [] h in
+      let bare : Stage = stage owned [] o.heap in
+      let end : Stage = stage owned [] (set_preserved o.heap k false) in
+      followed here here end (Unlinked (native k) ∷ []) o.events (besides here (Unlinked (native k) ∷ []) here (unlinked owned h k taken))
+      (quietly (Ending ks) here bare end o.events (emptied-sound ks taken).2.done (besides bare [] end (unpreserved owned o.heap k taken)))
 
   -- A native that is owned is unlinked: the heaps stay sound.
   pub unlink-keeps : (freed : List ℕ) × IsSound owned (unlink h k).heap × Unlinks h k freed (unlink h k)
   unfolding unlink
   unlink-keeps = (
-    f.0,
+    freed_numbers (unlink h k).events,
     sound,
     record {
-      told = ap (λ es. Unlinked (native k) ∷ es) e.told;
-      leaves = subst (λ ks. Leave h ks after) (append-nil f.0)
-          (Leave-trans h f.0 before [] after e.leaves (Leave-change_native before k unpreserved (λ n. refl)));
-      others = OthersStay-trans h k before after e.others (OthersStay-change_native before k unpreserved (λ n. refl));
+      unlinked_told = ap (λ ks. k ∷ ks) e.unlinks_none;
+      leaves = done-leaves (k ∷ []) (stage owned [] h) (unlink h k).events (stage owned [] end) done;
+      others = λ n m d.
+          let c = done-stays (k ∷ []) (stage owned [] h) (unlink h k).events (stage owned [] end) done n m in
+          (c.was, c.there, c.same (λ i. ⊎_elim (λ q. d (sym q)) (λ x. x) i));
       emptied = λ n m number.
-          let here : native_at after k ≡ Some n =
-          subst (λ j. native_at after j ≡ Some n) number (native_at-member after (IsWellFormed-distinct after sound.well_formed) n m) in
-          let there : native_at after k ≡ Some (unpreserved e.held) = native_at-change_same before k unpreserved (λ o. refl) ∙ rw e.found refl in
-          let both : Some (unpreserved e.held) ≡ Some n = sym there ∙ here in
-          let same : unpreserved e.held ≡ n = cc in
-          subst IsEmptied same (IsEmptied-from (unpreserved e.held) f.1 (e.slots ∙ append-nil (empty_slots f.1)) refl);
+          let here : native_at end k ≡ Some n =
+          subst (λ j. native_at end j ≡ Some n) number (native_at-member end (IsWellFormed-distinct end sound.well_formed) n m) in
+          let there : native_at end k ≡ Some (unpreserved_native e.held) = native_at-change_same before k unpreserved_native (λ o. refl) ∙ rw e.found refl in
+          let both : Some (unpreserved_native e.held) ≡ Some n = sym there ∙ here in
+          let same : unpreserved_native e.held ≡ n = cc in
+          subst IsEmptied same (IsEmptied-from (unpreserved_native e.held) f.0 (e.slots ∙ append-nil (empty_slots f.0)) refl);
     },
   )
     where
-      f : (freed : List ℕ) × (j : ℕ) × IsSound owned (empty_each k 0 (slots_now (native_at h k)) (silently h)).heap
-          × IsEmptying h k (empty_slots j ++ []) freed (empty_each k 0 (slots_now (native_at h k)) (silently h))
-      f = emptied-sound
-
       before : Heap
-      before = (empty_each k 0 (slots_now (native_at h k)) (silently h)).heap
+      before = (emptying (native_at h k)).heap
 
-      after : Heap
-      after = set_preserved before k false
+      end : Heap
+      end = set_preserved before k false
 
-      e : IsEmptying h k (empty_slots f.1 ++ []) f.0 (empty_each k 0 (slots_now (native_at h k)) (silently h))
-      e = f.3
+      f : Empties (k ∷ []) (native_at h k)
+      f = emptied-sound (k ∷ []) (inl refl)
 
-      sound : IsSound owned after
-      sound = unpreserved-sound owned before k f.2
+      e : IsEmptying (k ∷ []) owned h k (empty_slots f.0 ++ []) (emptying (native_at h k))
+      e = f.2
+
+      sound : IsSound owned end
+      sound = unpreserved-sound owned before k f.1
+
+      done : Done (Ending (k ∷ [])) (stage owned [] h) (unlink h k).events (stage owned [] (unlink h k).heap)
+      done = unlink-done (k ∷ []) (inl refl)

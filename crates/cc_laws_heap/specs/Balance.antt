@@ -2,7 +2,7 @@
 -- hand, the natives with count zero are those that wait, each once, and none of them stands in the buffer.
 use Rattle.std.specs.Prelude.{◌≡◌, ℕ, zero, suc, ◌+◌, ◌≤◌, ◌==◌, Bool, List, count_by, Option, Some, None}
 use Rattle.cc_model.specs.Heap.{Heap, HeapNative, Buffered, native_at}
-use Rattle.cc_model.specs.Cascade.{Draining}
+use Rattle.cc_model.specs.Cascade.{Draining, at_rest}
 use Rattle.cc_model.specs.Counts.{refs_to, times}
 
 -- whether a native has the number k
@@ -60,3 +60,7 @@ pub record IsBalanced (owned : List ℕ) (d : Draining) : Type 0 where
   pub counts : IsCounted owned d.heap
   pub queue : (k : ℕ) → times k d.queue ≡ waiting (native_at d.heap k)
   pub buffer : (k : ℕ) → places k d.heap.buffer ≤ living (native_at d.heap k)
+
+-- heaps at rest in which each count is that of the references, and no native waits
+abbrev pub IsSteady : List ℕ → Heap → Type 0
+IsSteady owned h = IsBalanced owned (at_rest h)

@@ -3,3 +3,4 @@ pub mod Balance
 pub mod Freeing
 pub mod Rounds
 pub mod Ending
+pub mod Stages

@@ -1,5 +1,5 @@
 -- A SCRIPT COLLECTION KEEPS WHAT IS REACHED; where each native that holds something is reached, it leaves nothing else.
-use Rattle.std.proofs.Common.{◌≡◌, suc, true, List, [], ◌++◌, length, sym, ◌∙◌, ap, subst, ⊎_elim}
+use Rattle.std.proofs.Common.{◌≡◌, true, List, [], ◌++◌, sym, ◌∙◌, ap, subst, ⊎_elim}
 use Rattle.std.specs.List.{filter, flat_map}
 use Rattle.cc_lists.specs.Members.{Among}
 use Rattle.cc_lists.proofs.Members.{Among-map_cases, Among-append, Among-filter, Among-passes, Among-flat_map_cases}
@@ -8,7 +8,7 @@ use Rattle.cc_names.specs.declared.name.Name.{Name}
 use Rattle.cc_names.specs.Names.{native, is_script}
 use Rattle.cc_model.specs.Slots.{contents}
 use Rattle.cc_model.specs.Entries.{joints}
-use Rattle.cc_model.specs.Heap.{Heap, HeapNative, HeapScript, Outcome, silently}
+use Rattle.cc_model.specs.Heap.{Heap, HeapNative, HeapScript}
 use Rattle.cc_model.specs.View.{View, view, native_edges, script_edges, ReachedIn}
 use Rattle.cc_model.specs.WellFormed.{script_names, names_there}
 use Rattle.cc_model.specs.Colours.{marked}
@@ -19,7 +19,7 @@ use Rattle.cc_laws_heap.proofs.ScriptNames.{entry-named, script-named}
 use Rattle.cc_laws_heap.proofs.MarkedWellFormed.{is_spared, is_spared_entry}
 use Rattle.cc_laws_heap.proofs.MarkingKeeps.{round-sound, round-frees}
 use Rattle.cc_laws_heap.proofs.RoundParts.{round-natives, round-scripts, round-entries}
-use Rattle.cc_laws_heap.proofs.RoundsEnd.{next_round, rounds-keep}
+use Rattle.cc_laws_heap.proofs.CollectedColours.{collecting-keeps}
 use Rattle.cc_laws_heap.proofs.Swept.{scripts-sweep}
 use Rattle.cc_laws_heap.proofs.ViewEdges.{script_edges-are}
 use Rattle.cc_laws_heap.proofs.Coloured.{one-script}
@@ -97,19 +97,9 @@ module _ (h : Heap) (s : IsSound [] h) where
 
 -- Rounds
 
--- sound heaps in which each native that holds something is reached
-record IsTidying (o : Outcome) : Type 0 where
-  sound : IsSound [] o.heap
-  tidy : IsTidy o.heap
-
--- a round keeps it
-IsTidying-round : (o : Outcome) → IsTidying o → IsTidying (next_round o)
-IsTidying-round o t = record { sound = round-sound o.heap t.sound; tidy = round-tidy o.heap t.sound t.tidy }
-
--- so does a script collection
+-- A script collection leaves natives that hold something reached.
 collect_scripts-tidy : (h : Heap) → IsSound [] h → IsTidy h → IsTidy (collect_scripts h).heap
-unfolding collect_scripts
-collect_scripts-tidy h s t = (rounds-keep IsTidying IsTidying-round (suc (length h.scripts)) (silently h) (record { sound = s; tidy = t })).tidy
+collect_scripts-tidy h s t = collecting-keeps (λ o. IsTidy o.heap) (λ o c u. round-tidy o.heap c u) h s t
 
 -- A SCRIPT COLLECTION LEAVES WHAT IS REACHED AND NOTHING ELSE, where each native that holds something is reached.
 pub collected-reached : (h : Heap) → IsSound [] h → IsTidy h → (x : Name) → Among x (names_there (collect_scripts h).heap) →

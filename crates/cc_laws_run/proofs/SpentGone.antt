@@ -1,11 +1,11 @@
 -- A SCRIPT COLLECTION TAKES AWAY WHAT IS SPENT.
-use Rattle.std.proofs.Common.{◌≡◌, suc, List, [], ◌∷◌, ◌++◌, length, refl, sym, ◌∙◌, ap, subst, arith, inl, inr, ⊎_elim}
+use Rattle.std.proofs.Common.{◌≡◌, List, [], ◌∷◌, ◌++◌, refl, sym, ◌∙◌, ap, subst, arith, inl, inr, ⊎_elim}
 use Rattle.cc_lists.specs.Members.{Among}
 use Rattle.cc_lists.proofs.Members.{Among-map_cases, Among-filtered}
 use Rattle.cc_names.specs.declared.name.Name.{Name}
 use Rattle.cc_model.specs.Slots.{contents}
 use Rattle.cc_model.specs.Entries.{joint, joints}
-use Rattle.cc_model.specs.Heap.{Heap, Outcome, silently}
+use Rattle.cc_model.specs.Heap.{Heap}
 use Rattle.cc_model.specs.View.{view, script_edges}
 use Rattle.cc_model.specs.WellFormed.{names_there}
 use Rattle.cc_model.specs.Colours.{marked}
@@ -13,10 +13,9 @@ use Rattle.cc_model.specs.Sweep.{unmarked, sweep, collect_scripts}
 use Rattle.cc_laws_heap.specs.Sound.{IsSound}
 use Rattle.cc_laws_heap.specs.Rounds.{FreesNames}
 use Rattle.cc_laws_heap.proofs.MarkedWellFormed.{is_spared_entry}
-use Rattle.cc_laws_heap.proofs.MarkingKeeps.{round-sound, round-frees}
+use Rattle.cc_laws_heap.proofs.MarkingKeeps.{round-frees}
 use Rattle.cc_laws_heap.proofs.RoundParts.{round-natives, round-scripts, round-entries}
-use Rattle.cc_laws_heap.proofs.RoundsEnd.{next_round, rounds-keep}
-use Rattle.cc_laws_heap.proofs.CollectedColours.{collect_scripts-sound}
+use Rattle.cc_laws_heap.proofs.CollectedColours.{collecting-keeps, collect_scripts-sound}
 use Rattle.cc_laws_run.specs.Spent.{IsSpent}
 use Rattle.cc_laws_run.proofs.LeftThere.{collected-has}
 use Rattle.cc_laws_run.proofs.SpentViews.{Spends, spent-from, IsLess, IsLess-refl, IsLess-trans, spends-less}
@@ -38,23 +37,9 @@ round-less h s = record {
     same : (view (sweep (marked h)).heap).registers ≡ (view h).registers
     same = ap (λ xs. contents xs ++ contents (sweep (marked h)).heap.script_registers) f.native_registers ∙ ap (λ xs. contents h.native_registers ++ contents xs) f.script_registers
 
--- sound heaps with less than others
-record IsLessening (h : Heap) (o : Outcome) : Type 0 where
-  sound : IsSound [] o.heap
-  less : IsLess h o.heap
-
--- a round keeps it
-IsLessening-round : (h : Heap) (o : Outcome) → IsLessening h o → IsLessening h (next_round o)
-IsLessening-round h o t = record {
-  sound = round-sound o.heap t.sound;
-  less = IsLess-trans h o.heap (next_round o).heap t.less (round-less o.heap t.sound);
-}
-
 -- A script collection only takes away.
 pub collect_scripts-less : (h : Heap) → IsSound [] h → IsLess h (collect_scripts h).heap
-unfolding collect_scripts
-collect_scripts-less h s = (rounds-keep (IsLessening h) (IsLessening-round h) (suc (length h.scripts)) (silently h)
-    (record { sound = s; less = IsLess-refl h })).less
+collect_scripts-less h s = collecting-keeps (λ o. IsLess h o.heap) (λ o c l. IsLess-trans h o.heap (sweep (marked o.heap)).heap l (round-less o.heap c)) h s (IsLess-refl h)
 
 -- What is left
 

@@ -27,7 +27,7 @@ use Rattle.cc_laws_heap.specs.Freeing.{Uncounted}
 use Rattle.cc_laws_heap.specs.Ending.{TakesAway}
 use Rattle.cc_lists.proofs.Numbers.{number-exact}
 use Rattle.cc_laws_heap.proofs.Making.{native_names-made}
-use Rattle.cc_laws_heap.proofs.TakingAway.{take_away-takes}
+use Rattle.cc_laws_heap.proofs.TakingAway.{taken-emptied, others-kept, take_away-takes}
 use Rattle.cc_laws_snapshot.proofs.SoundView.{named-there}
 use Rattle.cc_laws_run.specs.Doomed.{IsDoomed, AreUnlinked}
 use Rattle.cc_laws_snapshot.proofs.NamesAndEdges.{named-of_living}
@@ -38,7 +38,7 @@ use Rattle.cc_laws_snapshot.proofs.GivingBack.{given_back, give_back-buffer}
 use Rattle.cc_laws_snapshot.proofs.WhiteNatives.{white_natives-there}
 use Rattle.cc_laws_snapshot.proofs.ReachedStays.{native_edges-alike, native-edge, script-edge}
 use Rattle.cc_laws_run.proofs.UnitLawful.{unit-cases, RunsOn, UnitIsLawful, unit-lawful, traversed-none}
-use Rattle.cc_laws_run.proofs.QuietTaken.{taken-emptied, others-kept, emptied-none}
+use Rattle.cc_laws_run.proofs.QuietTaken.{emptied-none}
 use Rattle.cc_laws_run.proofs.HoldingUnits.{units_done-keep, Manner, EachKeeps}
 use Rattle.cc_laws_run.proofs.Unabandoned.{TellsNone, take_away-none}
 use Rattle.cc_laws_run.proofs.SpentViews.{Spends, spends-less, IsLess-buffer}

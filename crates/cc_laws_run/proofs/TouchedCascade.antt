@@ -9,10 +9,11 @@ use Rattle.cc_names.specs.declared.name.Name.TheVariants as name
 use Rattle.cc_names.specs.Names.{native, natives_in}
 use Rattle.cc_model.specs.Slots.{contents}
 use Rattle.cc_model.specs.Heap.{Heap, HeapNative, native_at, change_native, with_mark, touch, forget}
-use Rattle.cc_model.specs.Cascade.{Draining, add_ref, lower, fallen, given_up, give_up, give_up_each, removed, natives_of_slots, told_free, free_front, drain, at_rest, drained, cascade, take_up, let_go}
+use Rattle.cc_model.specs.Cascade.{Draining, add_ref, lower, fallen, given_up, give_up, give_up_each, removed, natives_of_slots, told_free, free_front, at_rest, drained, cascade, take_up, let_go}
 use Rattle.cc_laws_heap.proofs.Natives.{native_at-there, native_at-number, uncounted-change}
 use Rattle.cc_laws_heap.proofs.Leaving.{IsOf-alike}
 use Rattle.cc_laws_heap.proofs.HoldsTheSame.{raise_native}
+use Rattle.cc_laws_heap.proofs.Folding.{drain-keeps}
 use Rattle.cc_laws_snapshot.proofs.BufferMarks.{marked-buffer, forget-buffer}
 use Rattle.cc_laws_snapshot.proofs.Handing.{edge-from_slot}
 use Rattle.cc_laws_snapshot.proofs.ReachedStays.{native-edge}
@@ -133,23 +134,10 @@ module _ (ds : List Name) (g : Heap) where
       each = Drains-give_up_each (told_free d k ks) (natives_of_slots (native_at d.heap k)) (slots-untouched d.heap k out p.left)
           (record { left = p.left; queue = λ j m. p.queue j (subst (λ q. Among j q) (sym e) (inr m)) })
 
-  -- the queue drained
-  Drains-drain : (n : ℕ) (d : Draining) → Drains d → Drains (drain n d)
-  unfolding drain
-  Drains-drain zero d p = p
-  Drains-drain (suc n) d p = go (Drains-drain n) d.queue refl
-    where
-      next : List ℕ → Draining
-      next q = elim q [ [] ↦ d | k ∷ ks ↦ drain n (free_front d k ks) ]
-
-      go : ((e : Draining) → Drains e → Drains (drain n e)) → (q : List ℕ) → d.queue ≡ q → Drains (next q)
-      go ih [] e = p
-      go ih (k ∷ ks) e = ih (free_front d k ks) (Drains-free_front d k ks e p)
-
   -- A CASCADE LEAVES MEMBERS ALONE, where it begins with a native that is none.
   pub leaves-cascade : (h : Heap) (k : ℕ) → ¬ (Among (native k) ds) → Leaves ds g h → Leaves ds g (cascade h k).heap
   unfolding drained
-  leaves-cascade h k out d = (Drains-drain (length h.natives) (give_up (at_rest h) k)
+  leaves-cascade h k out d = (drain-keeps Drains Drains-free_front (length h.natives) (give_up (at_rest h) k)
       (Drains-give_up (at_rest h) k out (record { left = d; queue = λ j m. absurd m }))).left
 
   -- what a place held, which is no member, is given up

@@ -1,5 +1,5 @@
 -- WHAT IS DONE TO THE HEAPS TELLS NO ABANDONMENT: commands, ends of collections and script collections.
-use Rattle.std.proofs.Common.{◌≡◌, ℕ, zero, suc, ◌+◌, List, [], ◌∷◌, ◌++◌, length, Option, Some, None, refl, sym, ◌∙◌, subst, arith, count_by}
+use Rattle.std.proofs.Common.{◌≡◌, ℕ, suc, ◌+◌, List, [], ◌∷◌, ◌++◌, map, length, Option, Some, None, refl, sym, subst, arith, count_by}
 use Rattle.cc_lists.specs.Members.{Among}
 use Rattle.cc_lists.proofs.Counting.{count_by-append, count_by-some}
 use Rattle.cc_names.specs.declared.name.Name.{Name}
@@ -12,13 +12,15 @@ use Rattle.cc_model.specs.declared.item.Event.{Event}
 use Rattle.cc_model.specs.declared.item.Event.TheVariants.{Unlinked, Freed, Abandoned}
 use Rattle.cc_model.specs.Slots.{Slots}
 use Rattle.cc_model.specs.Checks.{slot_at, native_of}
-use Rattle.cc_model.specs.Heap.{Heap, HeapNative, Outcome, silently, after, native_at, register, objects_of, source, set_register, set_slot}
-use Rattle.cc_model.specs.Cascade.{Draining, give_up, give_up_each, given_up, fallen, natives_of_slots, told_free, free_front, drain, at_rest, drained, cascade, take_up, let_go}
+use Rattle.cc_model.specs.Heap.{Heap, Outcome, silently, after, native_at, register, objects_of, source, set_register, set_slot}
+use Rattle.cc_model.specs.Cascade.{cascade, take_up, let_go}
 use Rattle.cc_model.specs.Colours.{marked}
 use Rattle.cc_model.specs.Sweep.{unmarked, without_dead_entries, without_script, let_native_go, sweep_one, sweep_each, sweep, collect_scripts}
 use Rattle.cc_model.specs.Effects.{effects, hold_native, store_native, make_native, with_native}
 use Rattle.cc_model.specs.End.{root_each, empty_slot, empty_each, slots_now, unlink, unlink_each, unroot_each, take_away}
 use Rattle.cc_model.specs.Lawful.{is_abandonment}
+use Rattle.cc_laws_heap.proofs.Freed.{freed_event}
+use Rattle.cc_laws_heap.proofs.CascadeTakesOut.{TakesOut-cascade, TakesOut-let_go}
 use Rattle.cc_laws_heap.proofs.RoundsEnd.{rounds-keep}
 
 -- how many abandonments are told
@@ -43,52 +45,18 @@ none-append xs ys a b = omega (arith, abandonments-append xs ys, a, b)
 
 -- Cascades
 
--- a count that falls tells nothing
-fallen-events : (d : Draining) (k c : ℕ) → (fallen d k c).events ≡ d.events
-fallen-events d k zero = refl
-fallen-events d k (suc zero) = refl
-fallen-events d k (suc (suc c)) = refl
-
--- nor does a reference given up
-given_up-events : (d : Draining) (k : ℕ) (n : Option HeapNative) → (given_up d k n).events ≡ d.events
-given_up-events d k None = refl
-given_up-events d k (Some n) = fallen-events d k n.count
-
--- nor do several
-give_up_each-events : (d : Draining) (ks : List ℕ) → (give_up_each d ks).events ≡ d.events
-give_up_each-events d [] = refl
-give_up_each-events d (k ∷ ks) = give_up_each-events (give_up d k) ks ∙ given_up-events d k (native_at d.heap k)
-
--- a native freed is told, and no abandonment
-free_front-none : (d : Draining) (k : ℕ) (ks : List ℕ) → TellsNone d.events → TellsNone (free_front d k ks).events
-free_front-none d k ks none = subst TellsNone (sym (give_up_each-events (told_free d k ks) (natives_of_slots (native_at d.heap k))))
-    (none-append d.events (Freed (native k) ∷ []) none refl)
-
--- nor do drained natives tell one
-drain-none : (n : ℕ) (d : Draining) → TellsNone d.events → TellsNone (drain n d).events
-unfolding drain
-drain-none zero d none = none
-drain-none (suc n) d none = go (drain-none n) d.queue
-  where
-    next : List ℕ → Draining
-    next q = elim q [ [] ↦ d | k ∷ ks ↦ drain n (free_front d k ks) ]
-
-    go : ((e : Draining) → TellsNone e.events → TellsNone (drain n e).events) → (q : List ℕ) → TellsNone (next q).events
-    go ih [] = none
-    go ih (k ∷ ks) = ih (free_front d k ks) (free_front-none d k ks none)
+-- free lines are none
+freed-none : (ks : List ℕ) → TellsNone (map freed_event ks)
+freed-none [] = refl
+freed-none (k ∷ ks) = none-append (freed_event k ∷ []) (map freed_event ks) refl (freed-none ks)
 
 -- A cascade tells none.
 pub cascade-none : (h : Heap) (k : ℕ) → TellsNone (cascade h k).events
-unfolding drained
-cascade-none h k = drain-none (length h.natives) (give_up (at_rest h) k)
-    (subst TellsNone (sym (given_up-events (at_rest h) k (native_at h k))) refl)
+cascade-none h k = let t = TakesOut-cascade h k in subst TellsNone (sym t.1.told) (freed-none t.0)
 
 -- nor does the content of a register or slot given up
 let_go-none : (h : Heap) (x : Option Name) → TellsNone (let_go h x).events
-let_go-none h None = refl
-let_go-none h (Some (name.Native k)) = cascade-none h k.0
-let_go-none h (Some (name.Script k)) = refl
-let_go-none h (Some (name.Reflector k)) = refl
+let_go-none h x = let t = TakesOut-let_go h x in subst TellsNone (sym t.1.told) (freed-none t.0)
 
 -- Ends of collections
 

@@ -1,6 +1,5 @@
--- A CASCADE ONLY LOSES REFERENCES: whoever loses one is purple afterwards, or gone; between two steps he may wait in
--- the queue instead, or the reference to him be in hand.
-use Rattle.std.proofs.Common.{◌≡◌, ℕ, zero, suc, ◌≤◌, true, false, not, List, [], ◌∷◌, ◌++◌, length, Some, refl, sym, ◌∙◌, ap, subst, inl, inr, ◌⊎◌, ⊎_elim, arith}
+-- A CASCADE ONLY LOSES REFERENCES: so does each kind of change of which it consists.
+use Rattle.std.proofs.Common.{◌≡◌, ℕ, true, false, not, List, [], ◌∷◌, ◌++◌, Some, None, refl, sym, ◌∙◌, ap, subst, inl, inr, ◌⊎◌, ⊎_elim}
 use Rattle.std.specs.List.{flat_map}
 use Rattle.std.proofs.lemmas.Bool.{eqb-true, eq-eqb, not-true, true≢false, cases_Bool}
 use Rattle.std.proofs.lemmas.Bool.Decides.{eqb_tells}
@@ -8,42 +7,29 @@ use Rattle.cc_lists.specs.Members.{Among}
 use Rattle.cc_lists.proofs.Members.{Among-map, Among-map_cases, Among-left, Among-right, Among-append, Among-filter, Among-filtered, Among-passes, Among-flat_map, Among-flat_map_cases}
 use Rattle.cc_names.specs.declared.name.Name.{Name}
 use Rattle.cc_names.specs.Names.{native, natives_in, number_of, is_script}
+use Rattle.cc_model.specs.declared.item.Event.{Event}
 use Rattle.cc_model.specs.Slots.{contents}
 use Rattle.cc_model.specs.Heap.{Heap, HeapNative, native_at, suspect, forget}
-use Rattle.cc_model.specs.View.{View, view, native_edges, script_edges}
-use Rattle.cc_model.specs.Cascade.{Draining, lower, lowered, queued, fallen, given_up, give_up, give_up_each, removed, natives_of_slots, told_free, without_native, free_front, drain, at_rest, drained, cascade}
+use Rattle.cc_model.specs.View.{view, native_edges, script_edges}
+use Rattle.cc_model.specs.Cascade.{lower, removed, natives_of_slots, cascade}
 use Rattle.cc_model.specs.WellFormed.{native_names}
-use Rattle.cc_model.specs.Counts.{times}
 use Rattle.cc_model.specs.Fresh.{IsLiving}
 use Rattle.cc_laws_heap.specs.Sound.{IsSound}
-use Rattle.cc_laws_heap.specs.Freeing.{SameBeside}
-use Rattle.cc_laws_heap.proofs.Natives.{native_at-member, uncounted-change}
-use Rattle.cc_laws_heap.proofs.References.{times-cons_same, refs_to-removed}
+use Rattle.cc_laws_heap.specs.Stages.{Stage, stage}
+use Rattle.cc_laws_heap.proofs.Folding.{IsKept}
+use Rattle.cc_laws_heap.proofs.Giving.{cascade-keeps}
+use Rattle.cc_laws_heap.proofs.Cascades.{IsBalanced-at_rest, cascade-sound}
+use Rattle.cc_laws_heap.proofs.Natives.{named-found, native_at-member, uncounted-change}
 use Rattle.cc_laws_heap.proofs.Beside.{SameBeside-change_native}
-use Rattle.cc_laws_heap.proofs.Counted.{count_at-found}
-use Rattle.cc_laws_heap.proofs.GiveUp.{lower_native, IsBalanced-give_up}
-use Rattle.cc_laws_heap.specs.Balance.{IsBalanced, count_of, count_at, has_number, HasDistinctNumbers}
-use Rattle.cc_laws_heap.proofs.FreeFront.{waiting-found, IsBalanced-removed, IsBalanced-free_front, without_native-give_up_each}
+use Rattle.cc_laws_heap.proofs.GiveUp.{lower_native}
+use Rattle.cc_laws_heap.specs.Balance.{has_number, HasDistinctNumbers}
 use Rattle.cc_laws_heap.proofs.HoldsTheSame.{HoldsTheSame, native_names-alike}
-use Rattle.cc_laws_heap.proofs.Cascades.{IsBalanced-at_rest, cascade-frees, drained-balanced}
 use Rattle.cc_laws_snapshot.proofs.NamePairs.{native-no_script}
 use Rattle.cc_laws_heap.proofs.ViewEdges.{native_edges-are}
 use Rattle.cc_laws_snapshot.specs.Losing.{PurpleOrGone, Loses}
-use Rattle.cc_laws_snapshot.proofs.Marked.{purple-place}
 use Rattle.cc_laws_snapshot.proofs.BufferMarks.{IsPurple, suspect-purple, suspect-keeps_purple, marked-buffer, forget-keeps_purple, forget-buffer}
-use Rattle.cc_laws_snapshot.proofs.NamesAndEdges.{living-same, edges-alike, named-of_living, living-of_named}
-
--- who lost a reference: he is purple, or gone, or waits, or a reference to him is in hand
-abbrev IsLost : List ℕ → Draining → ℕ → Type 0
-IsLost hand d i = PurpleOrGone (view d.heap) i ⊎ (Among i d.queue ⊎ Among i hand)
-
--- between two steps of a cascade that began with `given` in hand: what is lost of a view so far
-record IsLosing (v : View) (given hand : List ℕ) (d : Draining) : Type 0 where
-  edge : (x : Name) (i : ℕ) → Among (x, native i) v.edges → Among (x, native i) (view d.heap).edges ⊎ IsLost hand d i
-  purple : (i : ℕ) → Among (native i) v.purple → IsLost hand d i
-  given_up : (i : ℕ) → Among i given → IsLost hand d i
-  buffer : (x : Name) → Among x (view d.heap).buffer → Among x v.buffer ⊎ Among x (view d.heap).purple
-  living : (x : Name) → IsLiving (view d.heap) x → IsLiving v x
+use Rattle.cc_laws_snapshot.proofs.NamesAndEdges.{living-same, named-of_living, living-of_named, edges-alike}
+use Rattle.cc_laws_snapshot.proofs.LosesTo.{LosesTo, LosesTo-refl, LosesTo-trans, lost-settled, LosesTo-loses}
 
 -- One reference given up
 
@@ -54,89 +40,6 @@ lower-alike h k = record { beside = SameBeside-change_native h k lower_native; n
 -- who lives after a count fell lived before
 pub lower-living : (h : Heap) (k : ℕ) (x : Name) → IsLiving (view (lower h k)) x → IsLiving (view h) x
 lower-living h k x l = living-same h (lower h k) (native_names-alike h (lower h k) (lower-alike h k)) x l
-
-module _ (v : View) (given hand : List ℕ) (d : Draining) (k : ℕ) (l : IsLosing v given (k ∷ hand) d) where
-  -- a step after which who was lost is so
-  step : (e : Draining) → ((i : ℕ) → IsLost (k ∷ hand) d i → IsLost hand e i) →
-      ((x : Name) (i : ℕ) → Among (x, native i) (view d.heap).edges → Among (x, native i) (view e.heap).edges) →
-      ((x : Name) → Among x (view e.heap).buffer → Among x v.buffer ⊎ Among x (view e.heap).purple) →
-      ((x : Name) → IsLiving (view e.heap) x → IsLiving (view d.heap) x) → IsLosing v given hand e
-  step e lost edges buffer living = record {
-    edge = λ x i m. ⊎_elim (λ s. inl (edges x i s)) (λ p. inr (lost i p)) (l.edge x i m);
-    purple = λ i m. lost i (l.purple i m);
-    given_up = λ i m. lost i (l.given_up i m);
-    buffer = buffer;
-    living = λ x a. l.living x (living x a);
-  }
-
-  -- above zero the native is suspected
-  lowered-losing : IsLosing v given hand (lowered d k)
-  lowered-losing = step (lowered d k) lost
-      (λ x i m. subst (λ es. Among (x, native i) es) (sym (edges-alike d.heap (lower d.heap k) (lower-alike d.heap k))) m)
-      (λ x m. ⊎_elim
-      (λ e. inr (subst (λ z. Among z (view (suspect d.heap k)).purple) e (suspect-purple d.heap k)))
-      (λ t. ⊎_elim (λ o. inl o) (λ p. inr (purple_name x p)) (l.buffer x t))
-      (marked-buffer d.heap true k x m))
-      (lower-living d.heap k)
-    where
-      purple_name : (x : Name) → Among x (view d.heap).purple → Among x (view (suspect d.heap k)).purple
-      purple_name x p =
-          let f = purple-place d.heap.buffer x p in
-          subst (λ z. Among z (view (suspect d.heap k)).purple) f.3
-          (suspect-keeps_purple d.heap k f.0.number (subst (λ z. Among z (view d.heap).purple) (sym f.3) p))
-
-      lost : (i : ℕ) → IsLost (k ∷ hand) d i → IsLost hand (lowered d k) i
-      lost i p = ⊎_elim
-          (λ q. inl (⊎_elim (λ a. inl (suspect-keeps_purple d.heap k i a)) (λ g. inr (λ a. g (lower-living d.heap k (native i) a))) q))
-          (λ q. ⊎_elim (λ w. inr (inl w))
-          (λ m. ⊎_elim (λ e. inl (inl (subst (λ j. IsPurple (suspect d.heap k) j) e (suspect-purple d.heap k)))) (λ t. inr (inr t)) m) q)
-          p
-
-  -- at zero it waits
-  queued-losing : IsLosing v given hand (queued d k)
-  queued-losing = step (queued d k) lost
-      (λ x i m. subst (λ es. Among (x, native i) es) (sym (edges-alike d.heap (lower d.heap k) (lower-alike d.heap k))) m)
-      (λ x m.
-      let f = forget-buffer d.heap k x m in
-      ⊎_elim (λ o. inl o)
-      (λ p. inr (subst (λ z. Among z (view (forget d.heap k)).purple) f.1
-      (forget-keeps_purple d.heap k f.0 f.2 (subst (λ z. Among z (view d.heap).purple) (sym f.1) p))))
-      (l.buffer x f.3))
-      (lower-living d.heap k)
-    where
-      last : Among k (d.queue ++ k ∷ [])
-      last = Among-right k d.queue (k ∷ []) (inl refl)
-
-      lost : (i : ℕ) → IsLost (k ∷ hand) d i → IsLost hand (queued d k) i
-      lost i p = ⊎_elim
-          (λ q. ⊎_elim
-          (λ a. ⊎_elim (λ t. inr (inl (subst (λ j. Among j (d.queue ++ k ∷ [])) (sym t.1) last))) (λ t. inl (inl (forget-keeps_purple d.heap k i t.1 a))) (eqb_tells i k))
-          (λ g. inl (inr (λ a. g (lower-living d.heap k (native i) a)))) q)
-          (λ q. ⊎_elim (λ w. inr (inl (Among-left i d.queue (k ∷ []) w)))
-          (λ m. ⊎_elim (λ e. inr (inl (subst (λ j. Among j (d.queue ++ k ∷ [])) e last))) (λ t. inr (inr t)) m) q)
-          p
-
-  -- by the count before, which is not zero
-  fallen-losing : (c : ℕ) → 1 ≤ c → IsLosing v given hand (fallen d k c)
-  fallen-losing zero s = absurd (omega arith)
-  fallen-losing (suc zero) s = queued-losing
-  fallen-losing (suc (suc c)) s = lowered-losing
-
--- a reference in hand is given up
-give_up-losing : (v : View) (given hand owned : List ℕ) (d : Draining) (k : ℕ) → IsBalanced (k ∷ owned) d → IsLosing v given (k ∷ hand) d →
-    IsLosing v given hand (give_up d k)
-give_up-losing v given hand owned d k b l =
-    let some : 1 ≤ count_at d.heap k = omega (arith, b.counts k, times-cons_same k owned) in
-    let f = count_at-found d.heap k some in
-    let above : 1 ≤ f.0.count = subst (λ c. 1 ≤ c) (ap count_of f.1) some in
-    subst (λ o. IsLosing v given hand (given_up d k o)) (sym f.1) (fallen-losing v given hand d k l f.0.count above)
-
--- all references in hand are given up
-give_up_each-losing : (v : View) (given owned : List ℕ) (d : Draining) (js : List ℕ) → IsBalanced (js ++ owned) d → IsLosing v given js d →
-    IsLosing v given [] (give_up_each d js)
-give_up_each-losing v given owned d [] b l = l
-give_up_each-losing v given owned d (j ∷ js) b l =
-    give_up_each-losing v given owned (give_up d j) js (IsBalanced-give_up (js ++ owned) d j b) (give_up-losing v given js (js ++ owned) d j b l)
 
 -- The front of the queue
 
@@ -175,110 +78,104 @@ removed-edge h k x i m = ⊎_elim
         has.1
 
 -- what a native held that is found at the number
-held-found : (h : Heap) (k i : ℕ) (n : HeapNative) → HasDistinctNumbers h → native_at h k ≡ Some n →
+pub held-found : (h : Heap) (k i : ℕ) (n : HeapNative) → HasDistinctNumbers h → native_at h k ≡ Some n →
     (o : HeapNative) × Among o h.natives × (o.number ≡ k) × Among (native i) (contents o.slots) → Among i (natives_of_slots (Some n))
 held-found h k i n d e o =
     let found : Some o.0 ≡ Some n = sym (native_at-member h d o.0 o.1) ∙ (ap (native_at h) o.2 ∙ e) in
     let same : o.0 ≡ n = cc in
     Among-flat_map natives_in (native i) i (contents n.slots) (subst (λ z. Among (native i) (contents z.slots)) same o.3) (inl refl)
 
--- the front is taken out: what it held is in hand
-removed-losing : (v : View) (given : List ℕ) (d : Draining) (k : ℕ) (ks : List ℕ) (n : HeapNative) → HasDistinctNumbers d.heap → d.queue ≡ k ∷ ks →
-    native_at d.heap k ≡ Some n → IsLosing v given [] d → IsLosing v given (natives_of_slots (Some n)) (without_native (told_free d k ks) k)
-removed-losing v given d k ks n distinct q e l = record {
-  edge = λ x i m. ⊎_elim
-      (λ s. ⊎_elim (λ t. inl t) (λ o. inr (inr (inr (held-found d.heap k i n distinct e o)))) (removed-edge d.heap k x i s))
-      (λ p. inr (lost i p)) (l.edge x i m);
-  purple = λ i m. lost i (l.purple i m);
-  given_up = λ i m. lost i (l.given_up i m);
-  buffer = l.buffer;
-  living = λ x a. l.living x (removed-living d.heap k x a).0;
+-- The kinds of change
+
+-- a count that falls leaves the edges
+lower-edges : (h : Heap) (k : ℕ) (x : Name) (i : ℕ) → Among (x, native i) (view h).edges → Among (x, native i) (view (lower h k)).edges
+lower-edges h k x i m = subst (λ es. Among (x, native i) es) (sym (edges-alike h (lower h k) (lower-alike h k))) m
+
+-- given up, and others are left
+pub suspected-loses : (hand queue : List ℕ) (h : Heap) (k : ℕ) → LosesTo (stage (k ∷ hand) queue h) (stage hand queue (suspect (lower h k) k))
+suspected-loses hand queue h k = record {
+  lost = λ i p. ⊎_elim
+      (λ q. inl (⊎_elim (λ a. inl (suspect-keeps_purple h k i a)) (λ g. inr (λ a. g (lower-living h k (native i) a))) q))
+      (λ q. ⊎_elim (λ w. inr (inl w)) (λ m. ⊎_elim (λ e. inl (marked i e)) (λ t. inr (inr t)) m) q) p;
+  edge = λ x i m. inl (lower-edges h k x i m);
+  register = λ i m. inl m;
+  buffer = λ i m. ⊎_elim (λ e. inr (inl (marked i (ap number_of e)))) (λ t. inl t) (marked-buffer h true k (native i) m);
+  living = lower-living h k;
 }
   where
-    lost : (i : ℕ) → IsLost [] d i → IsLost (natives_of_slots (Some n)) (without_native (told_free d k ks) k) i
-    lost i p = ⊎_elim
-        (λ s. inl (⊎_elim (λ a. inl a) (λ g. inr (λ a. g (removed-living d.heap k (native i) a).0)) s))
-        (λ s. ⊎_elim
-        (λ w. ⊎_elim
-        (λ h. inl (inr (λ a. (removed-living d.heap k (native i) a).1 (ap native h))))
-        (λ t. inr (inl t))
-        (subst (λ xs. Among i xs) q w))
-        (λ b. absurd b) s)
-        p
+    marked : (i : ℕ) → k ≡ i → PurpleOrGone (view (suspect (lower h k) k)) i
+    marked i e = inl (subst (λ j. IsPurple (suspect h k) j) e (suspect-purple h k))
 
--- the front is freed
-free_front-losing : (v : View) (given owned : List ℕ) (d : Draining) (k : ℕ) (ks : List ℕ) → IsBalanced owned d → d.queue ≡ k ∷ ks →
-    IsLosing v given [] d → IsLosing v given [] (free_front d k ks)
-free_front-losing v given owned d k ks b q l = go (waiting-found d.heap k (omega (arith, b.queue k, ap (times k) q, times-cons_same k ks)))
+-- the last one given up
+pub waits-loses : (hand queue : List ℕ) (h : Heap) (k : ℕ) → LosesTo (stage (k ∷ hand) queue h) (stage hand (queue ++ k ∷ []) (forget (lower h k) k))
+waits-loses hand queue h k = record {
+  lost = λ i p. ⊎_elim
+      (λ q. ⊎_elim (λ a. ⊎_elim (λ t. inr (inl (last i (sym t.1)))) (λ t. inl (inl (forget-keeps_purple h k i t.1 a))) (eqb_tells i k))
+      (λ g. inl (inr (λ a. g (lower-living h k (native i) a)))) q)
+      (λ q. ⊎_elim (λ w. inr (inl (Among-left i queue (k ∷ []) w))) (λ m. ⊎_elim (λ e. inr (inl (last i e))) (λ t. inr (inr t)) m) q) p;
+  edge = λ x i m. inl (lower-edges h k x i m);
+  register = λ i m. inl m;
+  buffer = λ i m. inl (forget-buffer h k (native i) m).3;
+  living = lower-living h k;
+}
   where
-    go : (n : HeapNative) × (native_at d.heap k ≡ Some n) × (n.count ≡ 0) → IsLosing v given [] (free_front d k ks)
-    go f =
-        let held : List ℕ = natives_of_slots (Some f.0) in
-        let none : times k held ≡ 0 = omega (arith, b.counts k, ap count_of f.1 ∙ f.2, refs_to-removed d.heap k f.0 b.distinct f.1 k) in
-        let out : IsLosing v given [] (give_up_each (without_native (told_free d k ks) k) held) =
-        give_up_each-losing v given owned (without_native (told_free d k ks) k) held (IsBalanced-removed owned d k ks f.0 b q f.1 f.2)
-        (removed-losing v given d k ks f.0 b.distinct q f.1 l) in
-        subst (λ o. IsLosing v given [] (without_native (give_up_each (told_free d k ks) (natives_of_slots o)) k)) (sym f.1)
-        (subst (IsLosing v given []) (sym (without_native-give_up_each (told_free d k ks) held k none)) out)
+    last : (i : ℕ) → k ≡ i → Among i (queue ++ k ∷ [])
+    last i e = Among-right i queue (k ∷ []) (inl e)
 
--- the queue is drained
-drain-losing : (n : ℕ) (v : View) (given owned : List ℕ) (d : Draining) → IsBalanced owned d → IsLosing v given [] d → IsLosing v given [] (drain n d)
-unfolding drain
-drain-losing zero v given owned d b l = l
-drain-losing (suc n) v given owned d b l = go (drain-losing n v given owned) d.queue refl
-  where
-    next : List ℕ → Draining
-    next q = elim q [ [] ↦ d | k ∷ ks ↦ drain n (free_front d k ks) ]
-
-    go : ((e : Draining) → IsBalanced owned e → IsLosing v given [] e → IsLosing v given [] (drain n e)) →
-        (q : List ℕ) → d.queue ≡ q → IsLosing v given [] (next q)
-    go ih [] e = l
-    go ih (k ∷ ks) e = ih (free_front d k ks) (IsBalanced-free_front owned d k ks b e) (free_front-losing v given owned d k ks b e l)
-
--- heaps at rest have lost nothing, with one reference in hand
-at_rest-losing : (h : Heap) (j : ℕ) → IsLosing (view h) (j ∷ []) (j ∷ []) (at_rest h)
-at_rest-losing h j = record {
+-- the last one given up where there is no such native
+pub none-loses : (hand queue : List ℕ) (h : Heap) (k : ℕ) → native_at h k ≡ None → LosesTo (stage (k ∷ hand) queue h) (stage hand queue h)
+none-loses hand queue h k e = record {
+  lost = λ i p. ⊎_elim (λ q. inl q)
+      (λ q. ⊎_elim (λ w. inr (inl w)) (λ m. ⊎_elim (λ s. inl (inr (subst (λ j. ¬ (IsLiving (view h) (native j))) s gone))) (λ t. inr (inr t)) m) q) p;
   edge = λ x i m. inl m;
-  purple = λ i m. inl (inl m);
-  given_up = λ i m. inr (inr m);
-  buffer = λ x m. inl m;
+  register = λ i m. inl m;
+  buffer = λ i m. inl m;
   living = λ x l. l;
 }
+  where
+    gone : ¬ (IsLiving (view h) (native k))
+    gone l =
+        let found = named-found h k (named-of_living h (native k) l) in
+        let both : Some found.0 ≡ None = sym found.1 ∙ e in
+        absurd (cc)
 
-module _ (owned : List ℕ) (h : Heap) (j : ℕ) (s : IsSound (j ∷ owned) h) where
-  -- a cascade has lost so much
-  cascade-losing : IsLosing (view h) (j ∷ []) [] (drained h j)
-  unfolding drained
-  cascade-losing = drain-losing (length h.natives) (view h) (j ∷ []) owned (give_up (at_rest h) j)
-      (IsBalanced-give_up owned (at_rest h) j (IsBalanced-at_rest (j ∷ owned) h s))
-      (give_up-losing (view h) (j ∷ []) [] owned (at_rest h) j (IsBalanced-at_rest (j ∷ owned) h s) (at_rest-losing h j))
+-- the first that waits taken out: what it held is in hand
+pub removed-loses : (early late js ks : List ℕ) (h : Heap) (k : ℕ) →
+    ((n : HeapNative) → Among n h.natives → n.number ≡ k → (j : ℕ) → Among (native j) (contents n.slots) → Among j js) →
+    ((j : ℕ) → Among j js → Among j late) → ((j : ℕ) → Among j early → Among j late) → LosesTo (stage early (k ∷ ks) h) (stage late ks (removed h k))
+removed-loses early late js ks h k holds held stays = record {
+  lost = λ i p. ⊎_elim
+      (λ q. inl (⊎_elim (λ a. inl a) (λ g. inr (λ a. g (removed-living h k (native i) a).0)) q))
+      (λ q. ⊎_elim
+      (λ w. ⊎_elim (λ s. inl (inr (λ a. (removed-living h k (native i) a).1 (ap native s)))) (λ t. inr (inl t)) w)
+      (λ m. inr (inr (stays i m))) q) p;
+  edge = λ x i m. ⊎_elim (λ t. inl t) (λ o. inr (inr (inr (held i (holds o.0 o.1 o.2 i o.3))))) (removed-edge h k x i m);
+  register = λ i m. inl m;
+  buffer = λ i m. inl m;
+  living = λ x l. (removed-living h k x l).0;
+}
 
-  -- and none waits afterwards
-  none-waits : (i : ℕ) → IsLost [] (drained h j) i → PurpleOrGone (view (cascade h j).heap) i
-  none-waits i p = ⊎_elim (λ q. q)
-      (λ q. ⊎_elim (λ w. absurd (subst (λ xs. Among i xs) (drained-balanced owned h j s).1 w)) (λ b. absurd b) q) p
+-- natives lose references
+abbrev pub LosesIn : Stage → List Event → Stage → Type 0
+LosesIn s es t = LosesTo s t
 
-  -- registers stay
-  cascade-registers : (view (cascade h j).heap).registers ≡ (view h).registers
-  cascade-registers =
-      let b : SameBeside h (cascade h j).heap = (cascade-frees owned h j s).1.beside in
-      ap (λ r. contents r ++ contents (cascade h j).heap.script_registers) b.native_registers ∙ ap (λ r. contents h.native_registers ++ contents r) b.script_registers
-
-  -- nothing else has changed
-  only-loses : Loses (view h) (view (cascade h j).heap)
-  only-loses = record {
-    edge = λ x i m. ⊎_elim (λ e. inl e) (λ p. inr (none-waits i p)) (cascade-losing.edge x i m);
-    register = λ i m. inl (subst (λ xs. Among (native i) xs) (sym cascade-registers) m);
-    purple = λ i m. none-waits i (cascade-losing.purple i m);
-    buffer = cascade-losing.buffer;
-    living = cascade-losing.living;
-  }
-
-  -- the native whose reference was given up is purple, or gone
-  given-lost : PurpleOrGone (view (cascade h j).heap) j
-  given-lost = none-waits j (cascade-losing.given_up j (inl refl))
+-- WHAT A CASCADE DOES ONLY LOSES, kind by kind.
+pub losing-kept : IsKept LosesIn
+losing-kept = record {
+  nothing = LosesTo-refl;
+  followed = λ s t u xs ys a b. LosesTo-trans s t u a b;
+  suspected = λ hand queue h k n e c. suspected-loses hand queue h k;
+  waits = λ hand queue h k n e c. waits-loses hand queue h k;
+  freed = λ hand ks h k n e d r.
+      let held : List ℕ = natives_of_slots (Some n) in
+      removed-loses hand (held ++ hand) held ks h k (λ o m q j i. held-found h k j n d e (o, m, q, i))
+      (λ j i. Among-left j held hand i) (λ j i. Among-right j held hand i);
+}
 
 -- A CASCADE ONLY LOSES REFERENCES, and the native whose reference was given up is purple afterwards, or gone.
 pub cascade-loses : (owned : List ℕ) (h : Heap) (j : ℕ) → IsSound (j ∷ owned) h →
     Loses (view h) (view (cascade h j).heap) × PurpleOrGone (view (cascade h j).heap) j
-cascade-loses owned h j s = (only-loses owned h j s, given-lost owned h j s)
+cascade-loses owned h j s =
+    let end : Heap = (cascade h j).heap in
+    let l : LosesTo (stage (j ∷ []) [] h) (stage [] [] end) = cascade-keeps LosesIn losing-kept [] owned h j (IsBalanced-at_rest (j ∷ owned) h s) in
+    (LosesTo-loses (j ∷ []) h end (cascade-sound owned h j s).well_formed l, lost-settled end j (l.lost j (inr (inr (inl refl)))))

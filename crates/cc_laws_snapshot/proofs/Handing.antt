@@ -24,7 +24,7 @@ use Rattle.cc_laws_snapshot.specs.Losing.{PurpleOrGone, Loses, IsLoyal}
 use Rattle.cc_laws_snapshot.proofs.BufferMarks.{IsPurple}
 use Rattle.cc_laws_snapshot.proofs.NamesAndEdges.{named-of_living, living-number, living-of_named}
 use Rattle.cc_laws_snapshot.proofs.LoyalSuspected.{loses-same}
-use Rattle.cc_laws_snapshot.proofs.LosesBut.{HasLivingBuffer-view}
+use Rattle.cc_laws_snapshot.proofs.LosesTo.{HasLivingBuffer-view}
 use Rattle.cc_laws_snapshot.proofs.ReachedStays.{cascade-reached}
 use Rattle.cc_laws_snapshot.proofs.CascadeLoses.{cascade-loses}
 

@@ -66,7 +66,15 @@ IsNamed-buffers h buffer purple s = record {
       (edge-of h x y m);
 }
 
-module _ (v w : View) (candidates : List ℕ) (before : IsNamed v) (values : HasScriptValues v) (later : IsNamed w) (loyal : IsLoyal v w) where
+-- loyal but that only who lives may not enter the buffer
+pub record IsLoyalAlive (v w : View) : Type 0 where
+  pub edge : (x : Name) (i : ℕ) → Among (x, native i) v.edges → Among (x, native i) w.edges ⊎ (PurpleOrGone w i ⊎ ReachedIn w (native i))
+  pub register : (i : ℕ) → Among (native i) v.registers → Among (native i) w.registers ⊎ (PurpleOrGone w i ⊎ ReachedIn w (native i))
+  pub purple : (i : ℕ) → Among (native i) v.purple → PurpleOrGone w i ⊎ ReachedIn w (native i)
+  pub buffer : (x : Name) → IsLiving w x → Among x w.buffer → Among x v.buffer ⊎ (Among x w.purple ⊎ ReachedIn w x)
+  pub living : (x : Name) → IsLiving w x → IsLiving v x ⊎ ReachedIn w x
+
+module _ (v w : View) (candidates : List ℕ) (before : IsNamed v) (values : HasScriptValues v) (later : IsNamed w) (loyal : IsLoyalAlive v w) where
   -- nothing of this name is there afterwards
   abbrev Gone : Name → Type 0
   Gone y = (¬ (IsLiving w y)) × (¬ (IsScriptThere w y))
@@ -190,7 +198,7 @@ module _ (v w : View) (candidates : List ℕ) (before : IsNamed v) (values : Has
       from outside d = ⊎_elim
           (λ b. ⊎_elim (λ a. absurd (outside a))
           (λ a. ⊎_elim (λ p. inl (covered-root u (Among-left u w.purple (unreached_scripts w) p))) (λ r. absurd (out r)) a)
-          (loyal.buffer u b))
+          (loyal.buffer u (c, m) b))
           (λ n. inr (n, d))
           (Among_or_not same_name same_name-exact w.buffer u)
 
@@ -200,11 +208,18 @@ module _ (v w : View) (candidates : List ℕ) (before : IsNamed v) (values : Has
       lived : IsLiving v u → Caught u
       lived l = ⊎_elim (λ r. fine (reached-fine u r)) (unreached l.0 l.1) (reached_cases v u)
 
--- So is a change of heaps that is loyal with these buffers.
-pub buffers-suspected : (h g : Heap) (candidates : List ℕ) (early early_purple late late_purple : List Name) → IsWellFormed h → HasScriptNames g →
-    IsLoyal (with_buffer early early_purple (view h)) (with_buffer late late_purple (view g)) →
+-- A CHANGE OF HEAPS that is so with these buffers keeps every unreached native suspected.
+pub alive-suspected : (h g : Heap) (candidates : List ℕ) (early early_purple late late_purple : List Name) → IsWellFormed h → HasScriptNames g →
+    IsLoyalAlive (with_buffer early early_purple (view h)) (with_buffer late late_purple (view g)) →
     IsSuspected (with_buffer early early_purple (view h)) candidates → IsSuspected (with_buffer late late_purple (view g)) candidates
-buffers-suspected h g candidates early early_purple late late_purple w s loyal =
+alive-suspected h g candidates early early_purple late late_purple w s loyal =
     views-suspected (with_buffer early early_purple (view h)) (with_buffer late late_purple (view g)) candidates
     (IsNamed-buffers h early early_purple (HasScriptNames-well_formed h w)) (HasScriptValues-well_formed h w)
     (IsNamed-buffers g late late_purple s) loyal
+
+-- So does one that is loyal.
+pub buffers-suspected : (h g : Heap) (candidates : List ℕ) (early early_purple late late_purple : List Name) → IsWellFormed h → HasScriptNames g →
+    IsLoyal (with_buffer early early_purple (view h)) (with_buffer late late_purple (view g)) →
+    IsSuspected (with_buffer early early_purple (view h)) candidates → IsSuspected (with_buffer late late_purple (view g)) candidates
+buffers-suspected h g candidates early early_purple late late_purple w s loyal = alive-suspected h g candidates early early_purple late late_purple w s
+    (record { edge = loyal.edge; register = loyal.register; purple = loyal.purple; buffer = λ x l m. loyal.buffer x m; living = loyal.living })

@@ -34,7 +34,7 @@ pub native_made-fresh : (owned : List ℕ) (h : Heap) (s : Snapshot) (d n : ℕ)
 native_made-fresh owned h s d n sound room few allowed =
     fresh-coloured h (make_native h d n).heap sound.well_formed (make_native-sound owned h d n room few allowed sound).well_formed
     (make_native-gentle owned h d n room few allowed sound)
-    (SameScripts-coloured h (make_native h d n).heap (make_native-scripts owned h d n room few allowed sound)) s
+    (SameScripts-coloured h (make_native h d n).heap (make_native-scripts h d n)) s
 
 -- A script object is made, and a register holds it.
 pub object_made-fresh : (owned : List ℕ) (h : Heap) (s : Snapshot) (d : ℕ) (kind : Kind) (n : ℕ) → IsSound owned h →

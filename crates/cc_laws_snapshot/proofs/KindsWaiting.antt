@@ -1,6 +1,5 @@
 -- WHAT IS OVERWRITTEN, GIVEN UP OR FREED keeps every unreached native suspected, where who waits counts as purple.
-use Rattle.std.proofs.Common.{◌≡◌, ℕ, ◌≤◌, true, List, [], ◌∷◌, ◌++◌, map, set, Option, Some, None, refl, sym, ◌∙◌, ap, subst, inl, inr, ◌⊎◌, ⊎_elim, slice_index_or}
-use Rattle.std.proofs.lemmas.Bool.Decides.{eqb_tells}
+use Rattle.std.proofs.Common.{◌≡◌, ℕ, ◌≤◌, List, [], ◌∷◌, ◌++◌, map, set, Option, Some, None, refl, sym, ◌∙◌, ap, subst, inl, inr, ◌⊎◌, ⊎_elim, slice_index_or}
 use Rattle.cc_lists.specs.Members.{Among}
 use Rattle.cc_lists.proofs.Members.{Among-map, Among-map_cases, Among-left, Among-right, Among-append, Among-flat_map}
 use Rattle.cc_names.specs.declared.name.Name.{Name}
@@ -9,24 +8,25 @@ use Rattle.cc_names.specs.declared.register.Reg.TheVariants.{N, S}
 use Rattle.cc_names.specs.Names.{native, natives_in, number_of}
 use Rattle.cc_model.specs.Slots.{contents}
 use Rattle.cc_model.specs.Heap.{Heap, HeapNative, native_at, register, set_register, change_native, with_native_slot}
-use Rattle.cc_model.specs.View.{view}
-use Rattle.cc_model.specs.Cascade.{Draining, lower, lowered, queued, give_up, removed, natives_of_slots, without_native}
+use Rattle.cc_model.specs.View.{view, View, ReachedIn}
+use Rattle.cc_model.specs.Cascade.{Draining, lowered, queued, give_up, removed, natives_of_slots, without_native}
 use Rattle.cc_model.specs.WellFormed.{IsWellFormed}
 use Rattle.cc_model.specs.Fresh.{IsLiving}
 use Rattle.cc_model.specs.Suspected.{IsSuspected}
-use Rattle.cc_laws_heap.proofs.Natives.{native_names-change, native_at-member, named-found, IsWellFormed-distinct}
+use Rattle.cc_laws_heap.proofs.Natives.{native_names-change, native_at-member, IsWellFormed-distinct}
 use Rattle.cc_laws_heap.proofs.GiveUp.{give_up-cases}
 use Rattle.cc_laws_snapshot.specs.Kinds.{counting}
 use Rattle.cc_laws_heap.specs.Sound.{numbers_of}
 use Rattle.cc_laws_snapshot.proofs.KindsFresh.{with_buffer}
 use Rattle.cc_laws_snapshot.specs.Losing.{PurpleOrGone, IsLoyal}
 use Rattle.cc_laws_snapshot.specs.KindsSuspected.{IsSuspectedIn, IsSuspectedCounting}
-use Rattle.cc_laws_snapshot.proofs.BufferMarks.{suspect-purple, suspect-keeps_purple, marked-buffer, forget-keeps_purple, forget-buffer}
-use Rattle.cc_laws_snapshot.proofs.NamesAndEdges.{living-same, edges-alike, named-of_living}
-use Rattle.cc_laws_snapshot.proofs.CascadeLoses.{lower-alike, lower-living, removed-living, removed-edge}
+use Rattle.cc_laws_snapshot.proofs.NamesAndEdges.{living-same, living-number}
+use Rattle.cc_laws_snapshot.proofs.CascadeLoses.{none-loses, suspected-loses, waits-loses, removed-loses}
 use Rattle.cc_laws_snapshot.proofs.Handing.{edge-to, edge-from_slot, edge-from_reflector}
 use Rattle.cc_laws_snapshot.proofs.SlotsWritten.{contents-written_kept, numbers_of-there, slot_written-kept}
-use Rattle.cc_laws_snapshot.proofs.KindsLoyal.{HasScriptNames, HasScriptNames-well_formed, buffers-suspected}
+use Rattle.cc_laws_snapshot.proofs.KindsLoyal.{HasScriptNames, HasScriptNames-well_formed, buffers-suspected, alive-suspected}
+use Rattle.cc_laws_heap.specs.Stages.{Stage, stage}
+use Rattle.cc_laws_snapshot.proofs.LosesTo.{IsLost, LosesTo}
 
 -- a native is purple in the buffer, or waits, or is gone
 abbrev IsMarked : List ℕ → Heap → ℕ → Type 0
@@ -115,127 +115,73 @@ slot_written-suspected h candidates n k i x w found =
         (λ a. inl (subst (λ z. Among (z, native j) (view g).edges) a.0 (edge-from_reflector g j a.1)))
         (edge-to h y j w m)
 
--- What is given up
+-- From stage to stage
 
-module _ (d : Draining) (candidates : List ℕ) (k : ℕ) (others : List ℕ) (w : IsWellFormed d.heap) where
-  -- what waits besides
-  abbrev besides : List ℕ
-  besides = others ++ d.queue
+-- WHAT ONLY LOSES KEEPS EVERY UNREACHED NATIVE SUSPECTED, where who waits or is in hand counts as purple.
+stages-suspected : (s t : Stage) (candidates : List ℕ) → IsWellFormed s.heap → HasScriptNames t.heap → LosesTo s t →
+    IsSuspectedCounting (s.hand ++ s.queue) s.heap candidates → IsSuspectedCounting (t.hand ++ t.queue) t.heap candidates
+stages-suspected s t candidates w named l = alive-suspected s.heap t.heap candidates before.buffer before.purple later.buffer later.purple w named (record {
+  edge = λ x i m. ⊎_elim (λ e. inl e) (λ p. inr (inl (counted i p))) (l.edge x i m);
+  register = λ i m. ⊎_elim (λ e. inl e) (λ p. inr (inl (counted i p))) (l.register i m);
+  purple = λ i m. inl (counted i (l.lost i (lost i m)));
+  buffer = entered;
+  living = λ x a. inl (l.living x a);
+})
+  where
+    before : View
+    before = counting (s.hand ++ s.queue) (view s.heap)
 
-  -- those that count before
-  abbrev waiting : List ℕ
-  waiting = k ∷ besides
+    later : View
+    later = counting (t.hand ++ t.queue) (view t.heap)
 
-  -- what counted as purple before is purple, or is the native, or waits besides
-  purple-cases : (i : ℕ) → Among (native i) (counting waiting (view d.heap)).purple → Among (native i) (view d.heap).purple ⊎ ((k ≡ i) ⊎ Among i besides)
-  purple-cases i m = ⊎_elim (λ p. inl p)
-      (λ q. let f = Among-map_cases native waiting (native i) q in inr (subst (λ j. (k ≡ j) ⊎ Among j besides) (ap number_of f.2) f.1))
-      (Among-append (native i) (view d.heap).purple (map native waiting) m)
+    -- who lost a reference counts as purple, or is gone
+    counted : (i : ℕ) → IsLost t i → PurpleOrGone later i
+    counted i p = ⊎_elim
+        (⊎_elim (stays-marked (t.hand ++ t.queue) t.heap i) (λ g. inr g))
+        (λ q. waits-marked (t.hand ++ t.queue) t.heap i (⊎_elim (λ a. Among-right i t.hand t.queue a) (λ a. Among-left i t.hand t.queue a) q)) p
 
-  -- the edges that a lowered count leaves
-  lower-edge : (x : Name) (i : ℕ) → Among (x, native i) (view d.heap).edges → Among (x, native i) (view (lower d.heap k)).edges
-  lower-edge x i m = subst (λ es. Among (x, native i) es) (sym (edges-alike d.heap (lower d.heap k) (lower-alike d.heap k))) m
+    -- who counted as purple had lost one
+    lost : (i : ℕ) → Among (native i) before.purple → IsLost s i
+    lost i m = ⊎_elim (λ p. inl (inl p))
+        (λ q.
+        let f = Among-map_cases native (s.hand ++ s.queue) (native i) q in
+        ⊎_elim (λ a. inr (inr a)) (λ a. inr (inl a)) (Among-append i s.hand s.queue (subst (λ j. Among j (s.hand ++ s.queue)) (ap number_of f.2) f.1)))
+        (Among-append (native i) (view s.heap).purple (map native (s.hand ++ s.queue)) m)
 
-  -- where there is no such native, nothing changes
-  none-suspected : native_at d.heap k ≡ None → IsSuspectedCounting waiting d.heap candidates → IsSuspectedCounting besides d.heap candidates
-  none-suspected e = waiting-suspected d.heap d.heap candidates besides (counting waiting (view d.heap)).buffer (counting waiting (view d.heap)).purple
-      w (HasScriptNames-well_formed d.heap w) (λ x i m. inl m) (λ i m. inl m) marked
-      (λ x m. inl (Among-left x (view d.heap).buffer (map native waiting) m)) (λ x l. l)
-    where
-      gone : ¬ (IsLiving (view d.heap) (native k))
-      gone l =
-          let found = named-found d.heap k (named-of_living d.heap (native k) l) in
-          let both : Some found.0 ≡ None = sym found.1 ∙ e in
-          absurd (cc)
+    -- who lives and enters the buffer is purple
+    entered : (x : Name) → IsLiving later x → Among x later.buffer → Among x before.buffer ⊎ (Among x later.purple ⊎ ReachedIn later x)
+    entered x a m = ⊎_elim
+        (λ b.
+        let f = living-number t.heap x a in
+        subst (λ z. Among z before.buffer ⊎ (Among z later.purple ⊎ ReachedIn later z)) f.1
+        (⊎_elim
+        (λ o. inl (Among-left (native f.0) (view s.heap).buffer (map native (s.hand ++ s.queue)) o))
+        (λ p. inr (inl (⊎_elim (λ q. q) (λ gone. absurd (gone (subst (IsLiving later) (sym f.1) a))) (counted f.0 p))))
+        (l.buffer f.0 (subst (λ z. Among z (view t.heap).buffer) (sym f.1) b))))
+        (λ q. inr (inl (Among-right x (view t.heap).purple (map native (t.hand ++ t.queue)) q)))
+        (Among-append x (view t.heap).buffer (map native (t.hand ++ t.queue)) m)
 
-      marked : (i : ℕ) → Among (native i) (counting waiting (view d.heap)).purple → IsMarked besides d.heap i
-      marked i m = ⊎_elim (stays-marked besides d.heap i)
-          (⊎_elim (λ t. subst (IsMarked besides d.heap) t (inr gone)) (waits-marked besides d.heap i))
-          (purple-cases i m)
+-- A reference is given up that is counted, while others wait.
+pub given_up-suspected : (d : Draining) (candidates : List ℕ) (k : ℕ) (others : List ℕ) → IsWellFormed d.heap →
+    ((n : HeapNative) → native_at d.heap k ≡ Some n → 1 ≤ n.count) →
+    IsSuspectedCounting (k ∷ others ++ d.queue) d.heap candidates → IsSuspectedCounting (others ++ (give_up d k).queue) (give_up d k).heap candidates
+given_up-suspected d candidates k others w some s = give_up-cases (λ e. IsSuspectedCounting (others ++ e.queue) e.heap candidates) d k some
+    (λ e. stages-suspected here (stage others d.queue d.heap) candidates w named (none-loses others d.queue d.heap k e) s)
+    (stages-suspected here (stage others (d.queue ++ k ∷ []) (queued d k).heap) candidates w named (waits-loses others d.queue d.heap k) s)
+    (stages-suspected here (stage others d.queue (lowered d k).heap) candidates w named (suspected-loses others d.queue d.heap k) s)
+  where
+    here : Stage
+    here = stage (k ∷ others) d.queue d.heap
 
-  -- where its count stays above zero, it is purple
-  lowered-suspected : IsSuspectedCounting waiting d.heap candidates → IsSuspectedCounting besides (lowered d k).heap candidates
-  lowered-suspected = waiting-suspected d.heap (lowered d k).heap candidates besides (counting waiting (view d.heap)).buffer (counting waiting (view d.heap)).purple
-      w (HasScriptNames-well_formed d.heap w) (λ x i m. inl (lower-edge x i m)) (λ i m. inl m) marked entered (lower-living d.heap k)
-    where
-      marked : (i : ℕ) → Among (native i) (counting waiting (view d.heap)).purple → IsMarked besides (lowered d k).heap i
-      marked i m = ⊎_elim
-          (λ p. stays-marked besides (lowered d k).heap i (suspect-keeps_purple d.heap k i p))
-          (⊎_elim
-          (λ t. subst (IsMarked besides (lowered d k).heap) t (stays-marked besides (lowered d k).heap k (suspect-purple d.heap k)))
-          (waits-marked besides (lowered d k).heap i))
-          (purple-cases i m)
+    named : HasScriptNames d.heap
+    named = HasScriptNames-well_formed d.heap w
 
-      entered : (x : Name) → Among x (view (lowered d k).heap).buffer →
-          Among x (counting waiting (view d.heap)).buffer ⊎ Among x (counting besides (view (lowered d k).heap)).purple
-      entered x m = ⊎_elim
-          (λ e. inr (subst (λ z. Among z (counting besides (view (lowered d k).heap)).purple) e
-          (Among-left (native k) (view (lowered d k).heap).purple (map native besides) (suspect-purple d.heap k))))
-          (λ t. inl (Among-left x (view d.heap).buffer (map native waiting) t))
-          (marked-buffer d.heap true k x m)
-
-  -- where it falls to zero, it waits in the queue
-  queued-suspected : IsSuspectedCounting waiting d.heap candidates → IsSuspectedCounting (others ++ (queued d k).queue) (queued d k).heap candidates
-  queued-suspected = waiting-suspected d.heap (queued d k).heap candidates late (counting waiting (view d.heap)).buffer (counting waiting (view d.heap)).purple
-      w (HasScriptNames-well_formed d.heap w) (λ x i m. inl (lower-edge x i m)) (λ i m. inl m) marked
-      (λ x m. inl (Among-left x (view d.heap).buffer (map native waiting) (forget-buffer d.heap k x m).3)) (lower-living d.heap k)
-    where
-      late : List ℕ
-      late = others ++ (d.queue ++ k ∷ [])
-
-      this : IsMarked late (queued d k).heap k
-      this = waits-marked late (queued d k).heap k (Among-right k others (d.queue ++ k ∷ []) (Among-right k d.queue (k ∷ []) (inl refl)))
-
-      later : (i : ℕ) → Among i besides → Among i late
-      later i m = ⊎_elim
-          (λ o. Among-left i others (d.queue ++ k ∷ []) o)
-          (λ q. Among-right i others (d.queue ++ k ∷ []) (Among-left i d.queue (k ∷ []) q))
-          (Among-append i others d.queue m)
-
-      marked : (i : ℕ) → Among (native i) (counting waiting (view d.heap)).purple → IsMarked late (queued d k).heap i
-      marked i m = ⊎_elim
-          (λ p. ⊎_elim
-          (λ t. subst (IsMarked late (queued d k).heap) (sym t.1) this)
-          (λ t. stays-marked late (queued d k).heap i (forget-keeps_purple d.heap k i t.1 p))
-          (eqb_tells i k))
-          (⊎_elim (λ t. subst (IsMarked late (queued d k).heap) t this) (λ q. waits-marked late (queued d k).heap i (later i q)))
-          (purple-cases i m)
-
-  -- A reference is given up that is counted, while others wait.
-  pub given_up-suspected : ((n : HeapNative) → native_at d.heap k ≡ Some n → 1 ≤ n.count) →
-      IsSuspectedCounting (k ∷ others ++ d.queue) d.heap candidates → IsSuspectedCounting (others ++ (give_up d k).queue) (give_up d k).heap candidates
-  given_up-suspected some s = give_up-cases (λ e. IsSuspectedCounting (others ++ e.queue) e.heap candidates) d k some
-      (λ e. none-suspected e s) (queued-suspected s) (lowered-suspected s)
-
--- The front of the queue
-
-module _ (d : Draining) (candidates : List ℕ) (k : ℕ) (js : List ℕ) (w : IsWellFormed d.heap)
-    (holds : (n : HeapNative) → Among n d.heap.natives → n.number ≡ k → (j : ℕ) → Among (native j) (contents n.slots) → Among j js) where
-  -- who waits afterwards
-  abbrev left_waiting : List ℕ
-  left_waiting = js ++ d.queue
-
-  -- an edge to a native stays, or that native waits
-  edge_left : (x : Name) (i : ℕ) → Among (x, native i) (view d.heap).edges → Among (x, native i) (view (removed d.heap k)).edges ⊎ Among i left_waiting
-  edge_left x i m = ⊎_elim (λ s. inl s) (λ o. inr (Among-left i js d.queue (holds o.0 o.1 o.2 i o.3))) (removed-edge d.heap k x i m)
-
-  -- A native leaves: what it held waits.
-  removed-suspected : IsSuspectedCounting (k ∷ d.queue) d.heap candidates → IsSuspectedCounting (js ++ d.queue) (without_native d k).heap candidates
-  removed-suspected = waiting-suspected d.heap (removed d.heap k) candidates left_waiting
-      (counting (k ∷ d.queue) (view d.heap)).buffer (counting (k ∷ d.queue) (view d.heap)).purple
-      w (HasScriptNames-well_formed d.heap w) edge_left (λ i m. inl m) marked
-      (λ x m. inl (Among-left x (view d.heap).buffer (map native (k ∷ d.queue)) m)) (λ x l. (removed-living d.heap k x l).0)
-    where
-      waited : (i : ℕ) → (k ≡ i) ⊎ Among i d.queue → IsMarked left_waiting (removed d.heap k) i
-      waited i m = ⊎_elim
-          (λ e. inr (λ l. (removed-living d.heap k (native i) l).1 (ap native e)))
-          (λ q. waits-marked left_waiting (removed d.heap k) i (Among-right i js d.queue q)) m
-
-      marked : (i : ℕ) → Among (native i) (counting (k ∷ d.queue) (view d.heap)).purple → IsMarked left_waiting (removed d.heap k) i
-      marked i m = ⊎_elim
-          (stays-marked left_waiting (removed d.heap k) i)
-          (λ q. let f = Among-map_cases native (k ∷ d.queue) (native i) q in subst (IsMarked left_waiting (removed d.heap k)) (ap number_of f.2) (waited f.0 f.1))
-          (Among-append (native i) (view d.heap).purple (map native (k ∷ d.queue)) m)
+-- A native leaves: what it held waits.
+removed-suspected : (d : Draining) (candidates : List ℕ) (k : ℕ) (js : List ℕ) → IsWellFormed d.heap →
+    ((n : HeapNative) → Among n d.heap.natives → n.number ≡ k → (j : ℕ) → Among (native j) (contents n.slots) → Among j js) →
+    IsSuspectedCounting (k ∷ d.queue) d.heap candidates → IsSuspectedCounting (js ++ d.queue) (without_native d k).heap candidates
+removed-suspected d candidates k js w holds = stages-suspected (stage [] (k ∷ d.queue) d.heap) (stage js d.queue (removed d.heap k)) candidates
+    w (HasScriptNames-well_formed d.heap w) (removed-loses [] js js d.queue d.heap k holds (λ j i. i) (λ j i. absurd i))
 
 -- The front of the queue leaves whose slots are empty.
 pub front_leaves-suspected : (d : Draining) (candidates : List ℕ) (k : ℕ) → IsWellFormed d.heap →

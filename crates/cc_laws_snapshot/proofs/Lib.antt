@@ -14,8 +14,6 @@ pub mod Beginning
 pub mod GentleKeeps
 pub mod GentleBut
 pub mod Marked
-pub mod Settling
-pub mod EdgesLeft
 pub mod NativesChange
 pub mod NativeParts
 pub mod CascadesGentle
@@ -32,6 +30,7 @@ pub mod KindsLoyal
 pub mod LoyalSuspected
 pub mod BufferMarks
 pub mod NamesAndEdges
+pub mod LosesTo
 pub mod CascadeLoses
 pub mod SlotsWritten
 pub mod Handing
@@ -40,13 +39,9 @@ pub mod StillNatives
 pub mod CommandsLoyal
 pub mod CommandsSuspected
 pub mod GivingBack
-pub mod LosesBut
-pub mod Unrooting
-pub mod CascadeBeside
-pub mod SparedSound
 pub mod SweepLoses
 pub mod UncoveredWhite
-pub mod UnlinkLoses
+pub mod EndLoses
 pub mod EndSuspected
 pub mod KindsHeld
 pub mod KindsWaiting

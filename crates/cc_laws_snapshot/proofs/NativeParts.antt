@@ -27,7 +27,6 @@ use Rattle.cc_lists.proofs.ListWrites.{count_by-flat_map_set, Among-flat_map_set
 use Rattle.cc_laws_heap.proofs.Making.{contents-empty_none, new_native}
 use Rattle.cc_lists.proofs.CountsOf.{false-left, count_by-none}
 use Rattle.cc_laws_snapshot.proofs.Marked.{names_in, with_mark-there, with_mark-keeps}
-use Rattle.cc_laws_snapshot.proofs.EdgesLeft.{between-preserved}
 use Rattle.cc_laws_snapshot.proofs.GentleBut.{AreGentleBut, AreGentle, IsGentleBut-registers, AreGentle-refl}
 use Rattle.cc_laws_snapshot.proofs.NativesChange.{IsOut, AreGentleBut-natives, AreGentleBut-one}
 
@@ -74,6 +73,12 @@ take_up-taken h (Some (name.Reflector i)) k m = ⊎_elim (λ e. absurd (cc)) (λ
 -- what is to be held is not gray
 abbrev pub IsNotGray : Heap → Option Name → Type 0
 IsNotGray h x = (y : Name) → Among y (option_to_list x) → ¬ (Among y (view h).gray)
+
+-- the flag of a native makes no edge to a native
+pub between-preserved : (w : Name) (k j : ℕ) (b : Bool) →
+    count_by (between w (native k)) (elim b [ true ↦ from_to (native j) (reflector j) ∷ [] | false ↦ [] ]) ≡ 0
+between-preserved w k j true = refl
+between-preserved w k j false = refl
 
 -- names of which native k is none make no edge to it
 pub none-to : (w x : Name) (k : ℕ) (ys : List Name) → ¬ (Among (native k) ys) → count_by (λ y. between w (native k) (from_to x y)) ys ≡ 0

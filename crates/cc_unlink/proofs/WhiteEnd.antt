@@ -1,5 +1,5 @@
 -- THE THREE PASSES ARE THE END OF A COLLECTION: what they leave and what they tell, one after another.
-use Rattle.std.proofs.Common.{◌≡◌, ℕ, List, [], ◌∷◌, ◌++◌, sym, ◌∙◌, ap, subst, append_assoc}
+use Rattle.std.proofs.Common.{◌≡◌, ℕ, List, [], ◌∷◌, ◌++◌, refl, sym, ◌∙◌, ap, subst, append_assoc}
 use Rattle.std.proofs.lemmas.List.{append-nil}
 use Rattle.cc_lists.specs.Members.{Among}
 use Rattle.cc_names.specs.Names.{native}
@@ -10,9 +10,11 @@ use Rattle.cc_model.specs.End.{root_each, unlink_each, unroot_each, take_away}
 use Rattle.cc_model.specs.WellFormed.{native_names}
 use Rattle.cc_model.proofs.Tellings.{TellsEvents-trans}
 use Rattle.cc_laws_heap.specs.Sound.{IsSound}
-use Rattle.cc_laws_heap.proofs.EndingEvents.{TellsOf-nil}
-use Rattle.cc_laws_heap.proofs.Leaving.{Leave-refl, Leave-before}
-use Rattle.cc_laws_heap.proofs.TakingAway.{IsOnTheWay, unroot_each-sound}
+use Rattle.cc_laws_heap.specs.Ending.{freed_numbers}
+use Rattle.cc_laws_heap.specs.Stages.{Stage, stage}
+use Rattle.cc_laws_heap.specs.Stages.Done.{nothing}
+use Rattle.cc_laws_heap.proofs.Leaving.{Leave-before, done-leaves}
+use Rattle.cc_laws_heap.proofs.TakingAway.{IsTaking, unroot_each-taking}
 use Rattle.cc_heaps.specs.Keyed.{Keyed, IsInOrder, changed_to, left_with}
 use Rattle.cc_heaps.proofs.LeftWith.{left_with-then}
 
@@ -34,13 +36,11 @@ take_away-parts ks h = unroot_each-after ks (unlink_each ks (silently (root_each
 -- natives that are there after others were unrooted were there before
 unrooted-before : (ks : List ℕ) (h : Heap) → IsSound ks h → (k : ℕ) → Among (native k) (native_names (unroot_each ks (silently h)).heap) → Among (native k) (native_names h)
 unrooted-before ks h s k m =
-    let way : IsOnTheWay (ks ++ []) h [] [] (silently h) = record {
-      sound = subst (λ owned. IsSound owned h) (sym (append-nil ks)) s;
-      leaves = Leave-refl h;
-      tells = TellsOf-nil;
-    } in
-    let end = unroot_each-sound ks [] h [] [] (silently h) way in
-    Leave-before h end.1 (unroot_each ks (silently h)).heap end.2.leaves k m
+    let start : Stage = stage (ks ++ []) [] h in
+    let o : Outcome = unroot_each ks (silently h) in
+    let way : IsTaking [] start [] [] o = unroot_each-taking [] start ks [] [] (silently h)
+    (record { sound = subst (λ owned. IsSound owned h) (sym (append-nil ks)) s; done = nothing start; told = refl; emptied = λ n i e. absurd e }) in
+    Leave-before h (freed_numbers o.events) o.heap (done-leaves [] start o.events (stage [] [] o.heap) way.done) k m
 
 -- the heaps before, and after each pass
 module _ (ks : List ℕ) (first rooted unlinked unrooted : Keyed)
