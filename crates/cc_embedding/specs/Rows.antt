@@ -1,0 +1,36 @@
+-- THE ROWS OF A HOST, by name, and what is told of the objects that have these names.
+use Rattle.std.specs.Prelude.{Bool, false, not, List, filter}
+use Rattle.std.specs.List.{list_any}
+use Rattle.cc_lists.specs.Members.{Among, has}
+use Rattle.cc_names.specs.declared.name.Name.{Name}
+use Rattle.cc_names.specs.Names.{same_name}
+use Rattle.cc_model.specs.declared.item.Event.TheVariants.{Unlinked, Freed, Abandoned}
+use Rattle.cc_model.specs.declared.item.Item.{Item}
+use Rattle.cc_model.specs.declared.item.Item.TheVariants.{Event as of_event, Listed, Reply as of_reply}
+use Rattle.cc_model.specs.Heap.{Heap}
+use Rattle.cc_model.specs.WellFormed.{names_there}
+use Rattle.cc_embedding.specs.declared.told.Row.{Row}
+
+-- whether an item tells that the object of this name is freed
+abbrev pub frees : Name → Item → Bool
+frees x (of_event (Unlinked y)) = false
+frees x (of_event (Freed y)) = same_name y x
+frees x (of_event Abandoned) = false
+frees x (Listed y) = false
+frees x (of_reply reply) = false
+
+-- whether one of these items does
+abbrev pub has_freed : List Item → Name → Bool
+has_freed items x = list_any (frees x) items
+
+-- THE ROWS THAT ARE KEPT: those whose object was not told as freed
+abbrev pub kept : List Item → List Row → List Row
+kept items rows = filter (λ row. not (has_freed items row.name)) rows
+
+-- whether the object of a row is there
+abbrev pub has_object : Heap → Row → Bool
+has_object h row = has same_name (names_there h) row.name
+
+-- each row is that of an object that is there
+abbrev pub HaveObjects : Heap → List Row → Type 0
+HaveObjects h rows = (row : Row) → Among row rows → Among row.name (names_there h)
