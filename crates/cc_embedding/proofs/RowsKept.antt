@@ -16,7 +16,7 @@ use Rattle.cc_model.specs.WellFormed.{names_there}
 use Rattle.cc_gc.specs.Sparing.{SparesWhatIsReached}
 use Rattle.cc_collector.specs.Collected.{TellsWhatLeaves}
 use Rattle.cc_embedding.specs.declared.told.Row.{Row}
-use Rattle.cc_embedding.specs.Rows.{frees, has_freed, has_object, kept, HaveObjects}
+use Rattle.cc_embedding.specs.Rows.{has_freed, has_object, kept, HaveObjects, TellOfWhatIsGone}
 
 -- What is told as freed is what the events free.
 freed-among : (x : Name) (events : List Event) → has_freed (map of_event events) x ≡ true → Among (Freed x) events
@@ -41,29 +41,35 @@ among-freed x (Abandoned ∷ events) m = ⊎_elim (λ e. cc) (λ t. among-freed 
 absent-fails : (x : Name) (xs : List Name) → ¬ (Among x xs) → has same_name xs x ≡ false
 absent-fails x xs out = ⊎_elim (λ t. absurd (out (has-among same_name same_name-exact xs x t))) (λ f. f) (cases_Bool (has same_name xs x))
 
--- Of what was there, what is told as freed is what is there no more.
-told-of : (old new : Heap) (events : List Event) → SparesWhatIsReached old new events → (x : Name) → Among x (names_there old) →
-    not (has_freed (map of_event events) x) ≡ has same_name (names_there new) x
-told-of old new events s x was = ⊎_elim
-    (λ freed. ap not freed ∙ sym (absent-fails x (names_there new) (λ there. ((s.left x).0 there).1 (freed-among x events freed))))
-    (λ other. ap not other ∙ sym (has-there same_name same_name-exact (names_there new) x
-    ((s.left x).1 (was, λ m. true≢false (sym (among-freed x events m) ∙ other)))))
+-- Of what was there, the events free what is there no more.
+freed-gone : (old new : Heap) (events : List Event) → SparesWhatIsReached old new events → TellOfWhatIsGone old new (map of_event events)
+freed-gone old new events s x was = ⊎_elim
+    (λ freed. freed ∙ sym (ap not (absent-fails x (names_there new) (λ there. ((s.left x).0 there).1 (freed-among x events freed)))))
+    (λ other. other ∙ sym (ap not (has-there same_name same_name-exact (names_there new) x
+    ((s.left x).1 (was, λ m. true≢false (sym (among-freed x events m) ∙ other))))))
     (cases_Bool (has_freed (map of_event events) x))
 
--- WHAT IS KEPT by what a receiver was told of a collection, where it was told nothing before and did not break, is the rows of
--- what is there still.
-pub rows-kept : (old new : Heap) (before after : Telling) (items : List Item) (rows : List Row) → TellsWhatLeaves old new before after →
-    before.items ≡ Some [] → after.items ≡ Some items → after.broken ≡ false → HaveObjects old rows → kept items rows ≡ filter (has_object new) rows
-rows-kept old new before after items rows t none some whole have =
+-- WHAT A RECEIVER KEEPS of one call of a collector, where it was told nothing before and did not break
+pub told-gone : (old new : Heap) (before after : Telling) (items : List Item) → TellsWhatLeaves old new before after →
+    before.items ≡ Some [] → after.items ≡ Some items → after.broken ≡ false → TellOfWhatIsGone old new items
+told-gone old new before after items t none some whole =
     let told : after.items ≡ items_after (map of_event t.events) before.items = (t.told.whole whole).kept in
     let all : items_after (map of_event t.events) before.items ≡ Some (map of_event t.events) = ap (items_after (map of_event t.events)) none in
     let both : Some items ≡ Some (map of_event t.events) = sym some ∙ (told ∙ all) in
     let is : items ≡ map of_event t.events = cc in
-    subst (λ l. kept l rows ≡ filter (has_object new) rows) (sym is)
-    (filter-agree (λ (row : Row). not (has_freed (map of_event t.events) row.name)) (has_object new) rows
-    (λ row m. told-of old new t.events t.unreached row.name (have row m)))
+    subst (TellOfWhatIsGone old new) (sym is) (freed-gone old new t.events t.unreached)
 
--- The rows that are kept so have objects.
+not_twice : (b : Bool) → not (not b) ≡ b
+not_twice true = refl
+not_twice false = refl
+
+-- THE ROWS THAT ARE KEPT are those of what is there still.
+pub rows-kept : (old new : Heap) (items : List Item) (rows : List Row) → TellOfWhatIsGone old new items → HaveObjects old rows →
+    kept items rows ≡ filter (has_object new) rows
+rows-kept old new items rows gone have = filter-agree (λ (row : Row). not (has_freed items row.name)) (has_object new) rows
+    (λ row m. ap not (gone row.name (have row m)) ∙ not_twice (has_object new row))
+
+-- Each of those has an object.
 pub kept-have : (h : Heap) (rows : List Row) → HaveObjects h (filter (has_object h) rows)
 kept-have h rows row m = has-among same_name same_name-exact (names_there h) row.name (Among-passes (has_object h) row rows m)
 

@@ -1,5 +1,5 @@
 -- THE ROWS OF A HOST, by name, and what is told of the objects that have these names.
-use Rattle.std.specs.Prelude.{Bool, false, not, List, filter}
+use Rattle.std.specs.Prelude.{◌≡◌, Bool, false, not, List, filter}
 use Rattle.std.specs.List.{list_any}
 use Rattle.cc_lists.specs.Members.{Among, has}
 use Rattle.cc_names.specs.declared.name.Name.{Name}
@@ -30,6 +30,10 @@ kept items rows = filter (λ row. not (has_freed items row.name)) rows
 -- whether the object of a row is there
 abbrev pub has_object : Heap → Row → Bool
 has_object h row = has same_name (names_there h) row.name
+
+-- WHAT IS TOLD AS FREED IS WHAT IS GONE: of what was there, just that is there no more
+abbrev pub TellOfWhatIsGone : Heap → Heap → List Item → Type 0
+TellOfWhatIsGone old new items = (x : Name) → Among x (names_there old) → has_freed items x ≡ not (has same_name (names_there new) x)
 
 -- each row is that of an object that is there
 abbrev pub HaveObjects : Heap → List Row → Type 0

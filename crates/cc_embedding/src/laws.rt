@@ -5,14 +5,17 @@ ghost use Rattle.cc_model.specs.Heap.{Heap};
 ghost use Rattle.cc_model.specs.Telling.{Telling};
 ghost use Rattle.cc_collector.specs.Collected.{TellsWhatLeaves};
 ghost use Rattle.cc_embedding.specs.declared.told.Row.{Row};
-ghost use Rattle.cc_embedding.specs.Rows.{HaveObjects, has_object, kept};
+ghost use Rattle.cc_embedding.specs.Rows.{HaveObjects, TellOfWhatIsGone, has_object, kept};
 
-/// A receiver that keeps items was told nothing, and then by one call of a collector: `slice`, `whole`, `gc` or `settle`, of
-/// which `tells` says this. It did not break. Then the rows that are kept by its items are those whose object is still there,
-/// if each had an object before; and so each has one again.
+/// The rows that are kept by what was told are those whose object is still there.
+///
+/// `told`: a receiver that keeps items was told nothing, then by one call of a collector, of which `tells` says this, and it
+/// did not break: what it was told as freed is what is gone. `kept`: then the rows that are kept are those of what is there,
+/// if each had an object before. `have`: each of them has one again.
 pub fn rows_follow_the_heaps()
-    ensures kept { (old new : Heap) (before after : Telling) (items : List Item) (rows : List Row) →
-        TellsWhatLeaves old new before after → before.items ≡ Some [] → after.items ≡ Some items → after.broken ≡ false →
-        HaveObjects old rows → kept items rows ≡ filter (has_object new) rows }
+    ensures told { (old new : Heap) (before after : Telling) (items : List Item) → TellsWhatLeaves old new before after →
+        before.items ≡ Some [] → after.items ≡ Some items → after.broken ≡ false → TellOfWhatIsGone old new items }
+    ensures kept { (old new : Heap) (items : List Item) (rows : List Row) → TellOfWhatIsGone old new items → HaveObjects old rows →
+        kept items rows ≡ filter (has_object new) rows }
     ensures have { (h : Heap) (rows : List Row) → HaveObjects h (filter (has_object h) rows) }
 {}

@@ -86,7 +86,7 @@ fn build(heaps: &mut Heaps, told: &mut Notebook) -> bool
     made & wrapped
 }
 
-/// How many objects there are before the collection, and how many after it.
+/// How many objects there are before the collection, and how many after it; none where it wanted memory.
 fn collect(
     heaps: &mut Heaps,
     collector: &mut Collector,
@@ -97,7 +97,10 @@ fn collect(
     let before = heaps.census(told);
     let settled = collector.settle(heaps, told);
     let after = heaps.census(told);
-    settled.ok().map(|_| (before, after))
+    if settled.is_err() {
+        return None;
+    }
+    Some((before, after))
 }
 
 /// Writes these numbers, and what was told.
