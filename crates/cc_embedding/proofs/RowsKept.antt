@@ -1,20 +1,21 @@
 -- ROWS ARE KEPT of exactly what is there still.
-use Rattle.std.proofs.Common.{◌≡◌, Bool, true, false, not, List, [], ◌∷◌, map, filter, Some, Result, Ok, Err, OnOk, refl, sym, ◌∙◌, ap, subst, inl, inr, ⊎_elim}
+use Rattle.std.proofs.Common.{◌≡◌, ℕ, Bool, true, false, not, List, [], ◌∷◌, map, filter, Some, Result, Ok, Err, OnOk, refl, sym, ◌∙◌, ap, subst, inl, inr, ⊎_elim}
 use Rattle.std.proofs.lemmas.Bool.{cases_Bool, or_cases, or_left, or_right, false≢true, true≢false}
 use Rattle.cc_lists.specs.Members.{Among, has}
-use Rattle.cc_lists.proofs.Members.{has-among, has-there, filter-agree, Among-passes}
+use Rattle.cc_lists.proofs.Members.{Among-map, Among-map_cases, Among-passes, filter-agree, has-among, has-there}
 use Rattle.cc_names.specs.declared.name.Name.{Name}
-use Rattle.cc_names.specs.Names.{same_name}
+use Rattle.cc_names.specs.Names.{native, same_name}
 use Rattle.cc_names.proofs.NameTests.{same_name-exact}
 use Rattle.cc_model.specs.declared.item.Event.{Event}
 use Rattle.cc_model.specs.declared.item.Event.TheVariants.{Unlinked, Freed, Abandoned}
 use Rattle.cc_model.specs.declared.item.Item.{Item}
 use Rattle.cc_model.specs.declared.item.Item.TheVariants.{Event as of_event}
-use Rattle.cc_model.specs.Telling.{Telling, items_after}
+use Rattle.cc_model.specs.Telling.{Telling, TellsEvents, items_after}
 use Rattle.cc_model.specs.Heap.{Heap}
 use Rattle.cc_model.specs.WellFormed.{names_there}
 use Rattle.cc_gc.specs.Sparing.{SparesWhatIsReached}
 use Rattle.cc_collector.specs.Collected.{TellsWhatLeaves}
+use Rattle.cc_document.specs.Told.{AreAllThatLeft, TellsWhatIsFreed, freed}
 use Rattle.cc_embedding.specs.declared.told.Row.{Row}
 use Rattle.cc_embedding.specs.Rows.{has_freed, has_object, kept, HaveObjects, TellOfWhatIsGone}
 
@@ -44,20 +45,46 @@ absent-fails x xs out = ⊎_elim (λ t. absurd (out (has-among same_name same_na
 -- Of what was there, the events free what is there no more.
 freed-gone : (old new : Heap) (events : List Event) → SparesWhatIsReached old new events → TellOfWhatIsGone old new (map of_event events)
 freed-gone old new events s x was = ⊎_elim
-    (λ freed. freed ∙ sym (ap not (absent-fails x (names_there new) (λ there. ((s.left x).0 there).1 (freed-among x events freed)))))
+    (λ told. told ∙ sym (ap not (absent-fails x (names_there new) (λ there. ((s.left x).0 there).1 (freed-among x events told)))))
     (λ other. other ∙ sym (ap not (has-there same_name same_name-exact (names_there new) x
     ((s.left x).1 (was, λ m. true≢false (sym (among-freed x events m) ∙ other))))))
     (cases_Bool (has_freed (map of_event events) x))
 
--- WHAT A RECEIVER KEEPS of one call of a collector, where it was told nothing before and did not break
-pub told-gone : (old new : Heap) (before after : Telling) (items : List Item) → TellsWhatLeaves old new before after →
+freed-name : (k : ℕ) (x : Name) → Freed (native k) ≡ Freed x → native k ≡ x
+freed-name k x e = cc
+
+-- The elements with these numbers are freed, and they are what is there no more.
+numbers-gone : (old new : Heap) (numbers : List ℕ) → AreAllThatLeft old new numbers → TellOfWhatIsGone old new (map of_event (map freed numbers))
+numbers-gone old new numbers l x was = ⊎_elim
+    (λ told. let n = Among-map_cases freed numbers (Freed x) (freed-among x (map freed numbers) told) in
+    told ∙ sym (ap not (absent-fails x (names_there new) (subst (λ z. ¬ (Among z (names_there new))) (freed-name n.0 x n.2) (l.each n.0 n.1).gone))))
+    (λ other. other ∙ sym (ap not (has-there same_name same_name-exact (names_there new) x
+    (⊎_elim (λ there. there) (λ gone. absurd (true≢false (sym (among-freed x (map freed numbers) (freed-too gone)) ∙ other))) (l.rest x was)))))
+    (cases_Bool (has_freed (map of_event (map freed numbers)) x))
+  where
+    freed-too : Among x (map native numbers) → Among (Freed x) (map freed numbers)
+    freed-too m = let n = Among-map_cases native numbers x m in subst (λ z. Among (Freed z) (map freed numbers)) n.2 (Among-map freed n.0 numbers n.1)
+
+-- What a receiver keeps of events, where it was told nothing before and did not break, is these events.
+told-items : (before after : Telling) (events : List Event) (items : List Item) → TellsEvents before after events →
+    before.items ≡ Some [] → after.items ≡ Some items → after.broken ≡ false → items ≡ map of_event events
+told-items before after events items t none some whole =
+    let told : after.items ≡ items_after (map of_event events) before.items = (t.whole whole).kept in
+    let all : items_after (map of_event events) before.items ≡ Some (map of_event events) = ap (items_after (map of_event events)) none in
+    let both : Some items ≡ Some (map of_event events) = sym some ∙ (told ∙ all) in
+    cc
+
+-- WHAT A RECEIVER KEEPS OF ONE CALL OF A COLLECTOR tells of what is gone.
+pub collector-gone : (old new : Heap) (before after : Telling) (items : List Item) → TellsWhatLeaves old new before after →
     before.items ≡ Some [] → after.items ≡ Some items → after.broken ≡ false → TellOfWhatIsGone old new items
-told-gone old new before after items t none some whole =
-    let told : after.items ≡ items_after (map of_event t.events) before.items = (t.told.whole whole).kept in
-    let all : items_after (map of_event t.events) before.items ≡ Some (map of_event t.events) = ap (items_after (map of_event t.events)) none in
-    let both : Some items ≡ Some (map of_event t.events) = sym some ∙ (told ∙ all) in
-    let is : items ≡ map of_event t.events = cc in
-    subst (TellOfWhatIsGone old new) (sym is) (freed-gone old new t.events t.unreached)
+collector-gone old new before after items t none some whole =
+    subst (TellOfWhatIsGone old new) (sym (told-items before after t.events items t.told none some whole)) (freed-gone old new t.events t.unreached)
+
+-- What a receiver keeps of one call of a document does.
+pub document-gone : (old new : Heap) (before after : Telling) (items : List Item) → TellsWhatIsFreed old new before after →
+    before.items ≡ Some [] → after.items ≡ Some items → after.broken ≡ false → TellOfWhatIsGone old new items
+document-gone old new before after items t none some whole =
+    subst (TellOfWhatIsGone old new) (sym (told-items before after (map freed t.numbers) items t.told none some whole)) (numbers-gone old new t.numbers t.left)
 
 not_twice : (b : Bool) → not (not b) ≡ b
 not_twice true = refl
@@ -69,7 +96,7 @@ pub rows-kept : (old new : Heap) (items : List Item) (rows : List Row) → TellO
 rows-kept old new items rows gone have = filter-agree (λ (row : Row). not (has_freed items row.name)) (has_object new) rows
     (λ row m. ap not (gone row.name (have row m)) ∙ not_twice (has_object new row))
 
--- Each of those has an object.
+-- Each row that is kept so has an object.
 pub kept-have : (h : Heap) (rows : List Row) → HaveObjects h (filter (has_object h) rows)
 kept-have h rows row m = has-among same_name same_name-exact (names_there h) row.name (Among-passes (has_object h) row rows m)
 

@@ -1,8 +1,11 @@
-use Rattle.cc_embedding.proofs.RowsKept.{kept-have, rows-kept, told-gone}
+use Rattle.cc_embedding.proofs.RowsKept.{collector-gone, document-gone, kept-have, rows-kept}
 use Rattle.cc_embedding.proofs.laws.rows_follow_the_heaps.Goals as goal
 
-pub returns-clause-told : goal.returns-clause-told
-returns-clause-told c = told-gone
+pub returns-clause-collector : goal.returns-clause-collector
+returns-clause-collector c = collector-gone
+
+pub returns-clause-document : goal.returns-clause-document
+returns-clause-document c = document-gone
 
 pub returns-clause-kept : goal.returns-clause-kept
 returns-clause-kept c = rows-kept
