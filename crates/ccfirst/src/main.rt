@@ -87,11 +87,7 @@ fn build(heaps: &mut Heaps, told: &mut Notebook) -> bool
 }
 
 /// How many objects there are before the collection, and how many after it; none where it wanted memory.
-fn collect(
-    heaps: &mut Heaps,
-    collector: &mut Collector,
-    told: &mut Notebook,
-) -> Option<(u32, u32)>
+fn collect(heaps: &mut Heaps, collector: &mut Collector, told: &mut Notebook) -> Option<(u32, u32)>
     requires { RunsIn heaps.old collector.old }
 {
     let before = heaps.census(told);

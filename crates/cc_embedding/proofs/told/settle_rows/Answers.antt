@@ -8,4 +8,4 @@ returns-clause-rows c =
     let new = c.settle-settled.new.heaps.heap in
     let told = c.settle-settled.new.out in
     on_ok c.settle-settled.result (λ have. c.forget.ensures ∙ rows-kept old new told.items.items c.args.rows.now.items
-    (collector-gone old new _ _ told.items.items c.settle-settled.ensures.tells (ap (λ l. Some l) c.new-told.ensures.items) refl c.if-broken.false) have)
+    (collector-gone old new _ _ told.items.items c.settle-settled.ensures.tells (ap (λ l. Some l) c.new-told.ensures.items) refl c.if-told.false) have)
