@@ -4,7 +4,7 @@ ghost use Rattle.cc_collector.specs.Kept.{RunsIn};
 
 use cc_collector::Collector;
 use cc_counted::Held;
-use cc_embedding::{Row, Told, empty, has_freed, settle_rows};
+use cc_embedding::{Row, Told, empty, has_freed, rows_follow_the_heaps, settle_rows};
 use cc_heaps::Heaps;
 use cc_model::{Event, Item, Notebook, Notices};
 use cc_names::{Limits, Name, NativeNo};
@@ -83,4 +83,9 @@ fn unlinked_is_not_freed(rt: HostRuntime) {
     assert!(rt; !told.broken);
     assert!(rt; !has_freed(told.items.as_slice(), FIRST.name));
     assert!(rt; has_freed(told.items.as_slice(), SECOND.name));
+}
+
+#[test]
+fn law_can_be_called() {
+    rows_follow_the_heaps();
 }
