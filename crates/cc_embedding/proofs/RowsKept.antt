@@ -1,6 +1,7 @@
 -- ROWS ARE KEPT of exactly what is there still.
-use Rattle.std.proofs.Common.{◌≡◌, ℕ, Bool, true, false, not, List, [], ◌∷◌, map, filter, Some, Result, Ok, Err, OnOk, refl, sym, ◌∙◌, ap, subst, inl, inr, ⊎_elim}
+use Rattle.std.proofs.Common.{◌≡◌, ℕ, Bool, true, false, not, List, [], ◌∷◌, ◌++◌, append-nil, map, filter, Some, Result, Ok, Err, OnOk, refl, sym, ◌∙◌, ap, subst, inl, inr, ⊎_elim}
 use Rattle.std.proofs.lemmas.Bool.{cases_Bool, or_cases, or_left, or_right, false≢true, true≢false}
+use Rattle.std.proofs.lemmas.List.Folds.{list_any-append}
 use Rattle.cc_lists.specs.Members.{Among, has}
 use Rattle.cc_lists.proofs.Filtering.{filter-agree}
 use Rattle.cc_lists.proofs.Members.{Among-map, Among-map_cases, Among-passes, has-among, has-there}
@@ -18,7 +19,7 @@ use Rattle.cc_gc.specs.Sparing.{SparesWhatIsReached}
 use Rattle.cc_collector.specs.Collected.{TellsWhatLeaves}
 use Rattle.cc_document.specs.Told.{AreAllThatLeft, TellsWhatIsFreed, freed}
 use Rattle.cc_embedding.specs.declared.told.Row.{Row}
-use Rattle.cc_embedding.specs.Rows.{has_freed, has_object, kept, HaveObjects, TellOfWhatIsGone}
+use Rattle.cc_embedding.specs.Rows.{HaveObjects, TellOfWhatIsGone, frees, has_freed, has_object, kept}
 
 -- What is told as freed is what the events free.
 freed-among : (x : Name) (events : List Event) → has_freed (map of_event events) x ≡ true → Among (Freed x) events
@@ -66,14 +67,27 @@ numbers-gone old new numbers l x was = ⊎_elim
     freed-too : Among x (map native numbers) → Among (Freed x) (map freed numbers)
     freed-too m = let n = Among-map_cases native numbers x m in subst (λ z. Among (Freed z) (map freed numbers)) n.2 (Among-map freed n.0 numbers n.1)
 
--- What a receiver keeps of events, where it was told nothing before and did not break, is these events.
+-- A receiver that was told nothing before keeps what it is told.
+kept-is : (before after : Telling) (front items : List Item) → after.items ≡ items_after front before.items →
+    before.items ≡ Some [] → after.items ≡ Some items → items ≡ front
+kept-is before after front items told none some =
+    let all : items_after front before.items ≡ Some front = ap (items_after front) none in
+    let both : Some items ≡ Some front = sym some ∙ (told ∙ all) in
+    cc
+
+-- What a receiver keeps that was told nothing before and did not break is the events.
 told-items : (before after : Telling) (events : List Event) (items : List Item) → TellsEvents before after events →
     before.items ≡ Some [] → after.items ≡ Some items → after.broken ≡ false → items ≡ map of_event events
-told-items before after events items t none some whole =
-    let told : after.items ≡ items_after (map of_event events) before.items = (t.whole whole).kept in
-    let all : items_after (map of_event events) before.items ≡ Some (map of_event events) = ap (items_after (map of_event events)) none in
-    let both : Some items ≡ Some (map of_event events) = sym some ∙ (told ∙ all) in
-    cc
+told-items before after events items t none some whole = kept-is before after (map of_event events) items (t.whole whole).kept none some
+
+-- What a receiver keeps that was told nothing before is some of the events, those in front, whether it broke or not.
+told-front : (before after : Telling) (events : List Event) (items : List Item) → TellsEvents before after events →
+    before.items ≡ Some [] → before.broken ≡ false → after.items ≡ Some items → (v : Bool) → after.broken ≡ v →
+    (rest : List Item) × (map of_event events ≡ items ++ rest)
+told-front before after events items t none fresh some false e = ([], sym (told-items before after events items t none some e) ∙ sym (append-nil items))
+told-front before after events items t none fresh some true e =
+    let f = (t.broke fresh e).front in
+    (f.rest, f.whole ∙ ap (λ l. l ++ f.rest) (sym (kept-is before after f.front items f.kept none some)))
 
 -- WHAT A RECEIVER KEEPS OF ONE CALL OF A COLLECTOR tells of what is gone.
 pub collector-gone : (old new : Heap) (before after : Telling) (items : List Item) → TellsWhatLeaves old new before after →
@@ -86,6 +100,18 @@ pub document-gone : (old new : Heap) (before after : Telling) (items : List Item
     before.items ≡ Some [] → after.items ≡ Some items → after.broken ≡ false → TellOfWhatIsGone old new items
 document-gone old new before after items t none some whole =
     subst (TellOfWhatIsGone old new) (sym (told-items before after (map freed t.numbers) items t.told none some whole)) (numbers-gone old new t.numbers t.left)
+
+-- WHAT IS STILL THERE IS NOT TOLD AS FREED by what a receiver keeps of one call of a collector, whether it broke or not.
+pub collector-spares : (old new : Heap) (before after : Telling) (items : List Item) → TellsWhatLeaves old new before after →
+    before.items ≡ Some [] → before.broken ≡ false → after.items ≡ Some items → (row : Row) → has_object new row ≡ true → has_freed items row.name ≡ false
+collector-spares old new before after items t none fresh some row there =
+    let front = told-front before after t.events items t.told none fresh some after.broken refl in
+    ⊎_elim
+    (λ told. absurd (((t.unreached.left row.name).0 (has-among same_name same_name-exact (names_there new) row.name there)).1
+    (freed-among row.name t.events (ap (λ l. has_freed l row.name) front.1
+    ∙ (list_any-append (frees row.name) items front.0 ∙ or_left (has_freed items row.name) (has_freed front.0 row.name) told)))))
+    (λ other. other)
+    (cases_Bool (has_freed items row.name))
 
 not_twice : (b : Bool) → not (not b) ≡ b
 not_twice true = refl

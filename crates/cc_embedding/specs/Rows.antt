@@ -1,5 +1,5 @@
 -- THE ROWS OF A HOST, by name, and what is told of the objects that have these names.
-use Rattle.std.specs.Prelude.{◌≡◌, Bool, false, not, List, filter}
+use Rattle.std.specs.Prelude.{◌≡◌, Bool, true, false, not, List, filter}
 use Rattle.std.specs.List.{list_any}
 use Rattle.cc_lists.specs.Members.{Among, has}
 use Rattle.cc_names.specs.declared.name.Name.{Name}
@@ -38,3 +38,9 @@ TellOfWhatIsGone old new items = (x : Name) → Among x (names_there old) → ha
 -- each row is that of an object that is there
 abbrev pub HaveObjects : Heap → List Row → Type 0
 HaveObjects h rows = (row : Row) → Among row rows → Among row.name (names_there h)
+
+-- ROWS ARE LOST only of what is gone, by what some items tell; the others stay, in their order
+pub record LoseOnlyWhatIsGone (h : Heap) (earlier now : List Row) : Type 0 where
+  pub items : List Item
+  pub left : now ≡ kept items earlier
+  pub spared : (row : Row) → has_object h row ≡ true → has_freed items row.name ≡ false

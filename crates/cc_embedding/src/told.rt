@@ -1,7 +1,7 @@
 //! A table of the host, by name, and a receiver by which it loses the rows of what is freed.
 ghost use Rattle.std.specs.Prelude.{◌≡◌, false, [], OnOk, filter};
 ghost use Rattle.cc_collector.specs.Kept.{RunsIn};
-ghost use Rattle.cc_embedding.specs.Rows.{HaveObjects, frees, has_freed, has_object, kept};
+ghost use Rattle.cc_embedding.specs.Rows.{HaveObjects, LoseOnlyWhatIsGone, frees, has_freed, has_object, kept};
 
 use cc_collector::Collector;
 use cc_heaps::Heaps;
@@ -29,6 +29,7 @@ impl Told {
     pub fn new(alloc: Global) -> Told
         ensures items { result.items.items ≡ [] }
         ensures whole { result.broken ≡ false }
+        ensures faults { result.faults ≡ 0 }
     {
         Told {
             items: Vec::new(alloc),
@@ -81,7 +82,8 @@ pub fn forget(rows: &mut Vec<Row>, told: &Told)
 
 /// Settles, and keeps the rows of what is still there: those, and no others.
 ///
-/// `NoMemory`, where the collection or the receiver wanted memory: then rows may be left of what is gone.
+/// `NoMemory`, where the collection or the receiver wanted memory: then rows may be left of what is gone. No row is lost of
+/// what is there.
 pub fn settle_rows(
     heaps: &mut Heaps,
     collector: &mut Collector,
@@ -91,6 +93,7 @@ pub fn settle_rows(
     requires runs { RunsIn heaps.old collector.old }
     ensures rows { OnOk result (HaveObjects heaps.old.heap rows.old.items →
         rows.new.items ≡ filter (has_object heaps.new.heap) rows.old.items) }
+    ensures loses { LoseOnlyWhatIsGone heaps.new.heap rows.old.items rows.new.items }
     ensures runs { RunsIn heaps.new collector.new }
 {
     let mut told = Told::new(alloc);

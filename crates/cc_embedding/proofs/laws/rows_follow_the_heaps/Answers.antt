@@ -1,4 +1,4 @@
-use Rattle.cc_embedding.proofs.RowsKept.{collector-gone, document-gone, kept-have, rows-kept}
+use Rattle.cc_embedding.proofs.RowsKept.{collector-gone, collector-spares, document-gone, kept-have, rows-kept}
 use Rattle.cc_embedding.proofs.laws.rows_follow_the_heaps.Goals as goal
 
 pub returns-clause-collector : goal.returns-clause-collector
@@ -12,3 +12,6 @@ returns-clause-kept c = rows-kept
 
 pub returns-clause-have : goal.returns-clause-have
 returns-clause-have c = kept-have
+
+pub returns-clause-spares : goal.returns-clause-spares
+returns-clause-spares c = collector-spares
