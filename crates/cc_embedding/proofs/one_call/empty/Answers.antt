@@ -1,0 +1,9 @@
+use Rattle.cc_collector.proofs.GoingOn.{RunsIn-between}
+use Rattle.cc_embedding.proofs.one_call.empty.Goals as goal
+
+pub returns : goal.returns
+returns g c =
+    let r = c.requires in
+    let e = c.set_native_reg.ensures in
+    RunsIn-between c.args.heaps.now c.set_native_reg.new.self c.args.collector.now r
+    (record { order = e.order; colours = e.colours r.colours; fresh = e.fresh; keys = e.keys })

@@ -1,0 +1,193 @@
+#!/usr/bin/env python3
+"""Compares the pieces of code on the pages with the files that the gate proves.
+
+    tools/pieces.py            writes the pieces of docs/EMBEDDING.md anew from their files; then says what --check says
+    tools/pieces.py --check    writes nothing; says which piece is not that of its file, and exits 1 where one is not
+
+A piece is what stands between two fences, and its file is the one that the paragraph before it names last, in backquotes.
+
+On docs/EMBEDDING.md a piece of rust or antt is the whole text of its file, so that who copies it has what the gate proves; a
+piece of text is some lines of its file. On README.md a piece of rust is some lines of its file too: each part between two empty
+lines stands there in a row, indented or not, one part after the other.
+
+The list of calls on docs/EMBEDDING.md, between fences that name no language, is no piece. Each call in it is a public function
+of the crates below that answers the type that stands behind its arrow.
+"""
+import re
+import sys
+from pathlib import Path
+
+ROOT = Path(__file__).resolve().parent.parent
+EMBEDDING = ROOT / 'docs' / 'EMBEDDING.md'
+README = ROOT / 'README.md'
+WHOLE = ('rust', 'antt')
+CALLED = ('cc_counted', 'cc_heaps', 'cc_script', 'cc_weakmaps', 'cc_wrappers')
+FENCE = '```'
+
+
+class Piece:
+    def __init__(self, page, language, first, lines, before):
+        self.page = page
+        self.language = language
+        self.first = first
+        self.lines = lines
+        self.path = file_named(before)
+
+    def place(self):
+        return f'{self.page.relative_to(ROOT)}, line {self.first + 1}'
+
+
+# The pages
+
+def file_named(paragraph):
+    """The file that a paragraph names last, or none."""
+    named = [ROOT / word for word in re.findall(r'`([^`\s]+)`', ' '.join(paragraph))]
+    files = [path for path in named if path.is_file()]
+    return files[-1] if files else None
+
+
+def paragraph_before(lines, at):
+    """The paragraph that ends before a line, empty lines aside."""
+    end = at
+    while end > 0 and not lines[end - 1]:
+        end -= 1
+    start = end
+    while start > 0 and lines[start - 1]:
+        start -= 1
+    return lines[start:end]
+
+
+def pieces(page):
+    """Each piece of a page; its first line counts from 0."""
+    lines = lines_of(page)
+    fences = [number for number, line in enumerate(lines) if line.startswith(FENCE)]
+    found = []
+    for opening, closing in zip(fences[::2], fences[1::2]):
+        language = lines[opening].removeprefix(FENCE).strip()
+        found.append(Piece(page, language, opening + 1, lines[opening + 1:closing], paragraph_before(lines, opening)))
+    return found
+
+
+def lines_of(path):
+    return path.read_text(encoding='utf-8').splitlines()
+
+
+# What is wrong with a piece
+
+def first_difference(piece, lines):
+    """The first line of a piece that is not the file's; none where all are, and no more are in the file."""
+    for number, line in enumerate(piece.lines):
+        if number == len(lines) or lines[number] != line:
+            return number
+    return len(piece.lines) if len(lines) > len(piece.lines) else None
+
+
+def stands_at(wanted, lines, at):
+    return lines[at:at + len(wanted)] == wanted
+
+
+def place_of(wanted, lines, start):
+    """Where these lines stand in a row, from a place on, or none."""
+    return next((at for at in range(start, len(lines)) if stands_at(wanted, lines, at)), None)
+
+
+def paragraphs(lines):
+    return [part.split('\n') for part in re.split(r'\n\n+', '\n'.join(lines)) if part]
+
+
+def indented(lines, indent):
+    return [indent + line if line else line for line in lines]
+
+
+def stands_in(piece, lines):
+    """Whether each part between empty lines stands in the file, one after the other."""
+    at = 0
+    for part in paragraphs(piece.lines):
+        places = [place_of(indented(part, indent), lines, at) for indent in ('', '    ')]
+        there = [place for place in places if place is not None]
+        if not there:
+            return False
+        at = min(there) + len(part)
+    return True
+
+
+def fault_of_whole(piece):
+    difference = first_difference(piece, lines_of(piece.path))
+    if difference is None:
+        return None
+    return f'the piece is not {piece.path.relative_to(ROOT)}: line {difference + 1} of it differs'
+
+
+def fault_of_some(piece):
+    if stands_in(piece, lines_of(piece.path)):
+        return None
+    return f'the piece does not stand in {piece.path.relative_to(ROOT)}'
+
+
+def fault(piece):
+    if piece.path is None:
+        return 'no file is named before the piece'
+    if piece.page == EMBEDDING and piece.language in WHOLE:
+        return fault_of_whole(piece)
+    return fault_of_some(piece)
+
+
+# The list of calls
+
+def calls_there():
+    """Each public function of the crates that a host calls, with what it answers."""
+    found = set()
+    for crate in CALLED:
+        for path in sorted((ROOT / 'crates' / crate / 'src').rglob('*.rt')):
+            text = path.read_text(encoding='utf-8')
+            found.update(re.findall(r'pub fn (\w+)[^{};]*?\)\s*->\s*([^\n{]+)', text))
+    return {(name, answer.strip()) for name, answer in found}
+
+
+def calls_listed(piece):
+    return [call for line in piece.lines for call in re.findall(r'(\w+)\([^()]*\) -> (\w+(?:<[^>]*>)?)', line)]
+
+
+def faults_of_list(piece):
+    there = calls_there()
+    listed = calls_listed(piece)
+    if len(listed) != sum(line.count('->') for line in piece.lines):
+        return ['a call of the list cannot be read']
+    return [f'no public function {name} answers {answer}' for name, answer in listed if (name, answer) not in there]
+
+
+# All of it
+
+def faults():
+    found = []
+    for piece in pieces(EMBEDDING):
+        wrong = [fault(piece)] if piece.language else faults_of_list(piece)
+        found += [f'{piece.place()}: {what}' for what in wrong if what]
+    for piece in pieces(README):
+        if piece.language == 'rust' and fault(piece):
+            found.append(f'{piece.place()}: {fault(piece)}')
+    return found
+
+
+def write_page():
+    lines = lines_of(EMBEDDING)
+    for piece in reversed(pieces(EMBEDDING)):
+        if piece.language in WHOLE and piece.path is not None:
+            lines[piece.first:piece.first + len(piece.lines)] = lines_of(piece.path)
+    EMBEDDING.write_text('\n'.join(lines) + '\n', encoding='utf-8')
+
+
+def main():
+    words = sys.argv[1:]
+    if words not in ([], ['--check']):
+        sys.exit('usage: pieces.py [--check]')
+    if not words:
+        write_page()
+    found = faults()
+    for what in found:
+        print(what, file=sys.stderr)
+    sys.exit(1 if found else 0)
+
+
+if __name__ == '__main__':
+    main()
