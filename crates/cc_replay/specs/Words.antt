@@ -1,5 +1,6 @@
 -- The words of the command line that are taken, and what they ask for.
-use Rattle.std.specs.Prelude.{◌≡◌, ℕ, ◌≤◌, true, List, [], ◌∷◌, Option, Some, pos, codes, option_and_then, option_map}
+use Rattle.std.specs.Prelude.{◌≡◌, ℕ, ◌≤◌, true, List, [], ◌∷◌, map, Option, Some, pos, codes, option_and_then, option_map}
+use Rattle.std.specs.Borrow.{Bor}
 use Rattle.std.specs.Str.Parse.{IsNumeral, digits_value, without_leading_plus}
 use Rattle.clap.specs.Words.{App, Rule, Text, new_app, new_rule, with_rule, with_subcommand, subcommand_of, takes, one_of}
 use Rattle.clap.specs.Simple.{Shape, on_top}
@@ -98,6 +99,10 @@ pub record IsNumber (given : Option Text) (n : ℕ) : Type 0 where
   pub is : given ≡ Some text
   pub numeral : IsNumeral 10 (without_leading_plus text)
   pub value : n ≡ digits_value 10 (without_leading_plus text)
+
+-- the texts of the words that are handed in
+abbrev pub texts : List (Bor Text) → List Text
+texts words = map (λ w. w.now) words
 
 -- the words are for `replay`, and give these limits
 pub record GivesLimits (words : List Text) (limits : Allowance) : Type 0 where

@@ -1,11 +1,11 @@
 //! A whole run: by limits, and by the words of a command line.
 
-ghost use Rattle.std.specs.Prelude.{◌≡◌, true, ◌≢◌, ◌<◌, ◌≤◌, ◌+◌, ◌⊎◌, ℕ, List, length, map, Some};
+ghost use Rattle.std.specs.Prelude.{◌≡◌, true, ◌≢◌, ◌<◌, ◌≤◌, ◌+◌, ◌⊎◌, ℕ, List, length, Some};
 ghost use Rattle.cc_names.specs.Allowance.{Allowance};
 ghost use Rattle.cc_lists.specs.Faults.{Rose};
 ghost use Rattle.cc_outside.specs.Counted.{raised};
 ghost use Rattle.cc_replay.specs.Transcripts.{ends, IsDone, StopsAtFault, StopsAtLimit, StopsAtWrite};
-ghost use Rattle.cc_replay.specs.Words.{GivesLimits, GivesMade, IsTaken};
+ghost use Rattle.cc_replay.specs.Words.{texts, GivesLimits, GivesMade, IsTaken};
 ghost use Rattle.cc_replay.specs.Summaries.{WritesSummary, WritesSummaryFront};
 
 use crate::answering::answer_input;
@@ -106,42 +106,42 @@ pub fn run<'a, S: Source, K: Sink>(
     // the sentence is a field of `TellsOfAGraph`, of the same answers: of the whole input with `Done`; or, for the words of
     // `make`, it is the summary of one,
     ensures done { result ≡ Status.Done →
-        ((limits : Allowance) × GivesLimits (map (λ w. w.now) words.entry.now) limits
+        ((limits : Allowance) × GivesLimits (texts words.entry.now) limits
         × IsDone limits (ends S.left S.reads K.written source.old source.new sink.old sink.new))
-        ⊎ ((seed count : ℕ) × GivesMade (map (λ w. w.now) words.entry.now) seed count
+        ⊎ ((seed count : ℕ) × GivesMade (texts words.entry.now) seed count
         × WritesSummary seed count (K.written sink.old) (K.written sink.new)) }
     // where a read failed, of the lines that ended,
-    ensures fault { result ≡ Status.ReadFault → (limits : Allowance) × GivesLimits (map (λ w. w.now) words.entry.now) limits
+    ensures fault { result ≡ Status.ReadFault → (limits : Allowance) × GivesLimits (texts words.entry.now) limits
         × StopsAtFault limits (ends S.left S.reads K.written source.old source.new sink.old sink.new) }
     // where there are more bytes than the limit, of the lines that ended within it,
-    ensures over { result ≡ Status.Limit → (limits : Allowance) × GivesLimits (map (λ w. w.now) words.entry.now) limits
+    ensures over { result ≡ Status.Limit → (limits : Allowance) × GivesLimits (texts words.entry.now) limits
         × StopsAtLimit limits (ends S.left S.reads K.written source.old source.new sink.old sink.new) }
     // and where a write failed, a front of one.
     ensures front { result ≡ Status.WriteFault →
-        ((limits : Allowance) × GivesLimits (map (λ w. w.now) words.entry.now) limits
+        ((limits : Allowance) × GivesLimits (texts words.entry.now) limits
         × StopsAtWrite limits (ends S.left S.reads K.written source.old source.new sink.old sink.new))
-        ⊎ ((seed count : ℕ) × GivesMade (map (λ w. w.now) words.entry.now) seed count
+        ⊎ ((seed count : ℕ) × GivesMade (texts words.entry.now) seed count
         × WritesSummaryFront seed count (K.written sink.old) (K.written sink.new)) }
     // Want of memory in setting up: nothing was read or written.
     ensures set_up { result ≡ Status.NoMemory → (source.new ≡ source.old) × (sink.new ≡ sink.old) }
 
     // Usage comes only for words that are not taken,
-    ensures usage { result ≡ Status.Usage → ¬ (IsTaken (map (λ w. w.now) words.entry.now)) }
+    ensures usage { result ≡ Status.Usage → ¬ (IsTaken (texts words.entry.now)) }
     // every other status but want of memory only for words that are,
-    ensures taken { result ≢ Status.Usage → result ≢ Status.NoMemory → IsTaken (map (λ w. w.now) words.entry.now) }
+    ensures taken { result ≢ Status.Usage → result ≢ Status.NoMemory → IsTaken (texts words.entry.now) }
     // and with it nothing is read or written.
     ensures unread { result ≡ Status.Usage → (source.new ≡ source.old) × (sink.new ≡ sink.old) }
 
     // At most as many reads are answered as the limit on bytes, and one: for the byte above it, or for the end.
-    ensures reads { (limits : Allowance) → GivesLimits (map (λ w. w.now) words.entry.now) limits →
+    ensures reads { (limits : Allowance) → GivesLimits (texts words.entry.now) limits →
         (S.reads source.new).answered ≤ (S.reads source.old).answered + limits.bytes + 1 }
     // The end is read once where all was read,
-    ensures end_read { (limits : Allowance) → GivesLimits (map (λ w. w.now) words.entry.now) limits →
+    ensures end_read { (limits : Allowance) → GivesLimits (texts words.entry.now) limits →
         result ≡ Status.Done → (S.reads source.new).ended ≡ raised (S.reads source.old).ended 1 }
     // and not at all where a read failed or the limit was passed.
     ensures end_unread { result ≢ Status.Done → result ≢ Status.WriteFault → (S.reads source.new).ended ≡ (S.reads source.old).ended }
     // For the words of `make` nothing is read.
-    ensures no_source { (seed count : ℕ) → GivesMade (map (λ w. w.now) words.entry.now) seed count → source.new ≡ source.old }
+    ensures no_source { (seed count : ℕ) → GivesMade (texts words.entry.now) seed count → source.new ≡ source.old }
 
     // A fault of reading comes only where the source's count of faults rose,
     ensures read { result ≡ Status.ReadFault → Rose (S.faults source.old) (S.faults source.new) }
@@ -163,16 +163,16 @@ pub fn run<'a, S: Source, K: Sink>(
     ensures write_always { K.faults sink.old < K.faults sink.new → result ≡ Status.WriteFault }
     // and where none rose, more bytes than the limit,
     ensures over_always { (bytes : List ℕ) (limits : Allowance) → S.left source.old ≡ Some bytes →
-        IsTaken (map (λ w. w.now) words.entry.now) → GivesLimits (map (λ w. w.now) words.entry.now) limits → limits.bytes < length bytes →
+        IsTaken (texts words.entry.now) → GivesLimits (texts words.entry.now) limits → limits.bytes < length bytes →
         ¬ (Rose (S.faults source.old) (S.faults source.new)) → ¬ (Rose (K.faults sink.old) (K.faults sink.new)) →
         result ≢ Status.NoMemory → result ≡ Status.Limit }
     // or at most as many: then all is answered.
     ensures done_always { (bytes : List ℕ) (limits : Allowance) → S.left source.old ≡ Some bytes →
-        IsTaken (map (λ w. w.now) words.entry.now) → GivesLimits (map (λ w. w.now) words.entry.now) limits → length bytes ≤ limits.bytes →
+        IsTaken (texts words.entry.now) → GivesLimits (texts words.entry.now) limits → length bytes ≤ limits.bytes →
         ¬ (Rose (S.faults source.old) (S.faults source.new)) → ¬ (Rose (K.faults sink.old) (K.faults sink.new)) →
         result ≢ Status.NoMemory → result ≡ Status.Done }
     // A made script is always answered whole.
-    ensures made_always { (seed count : ℕ) → IsTaken (map (λ w. w.now) words.entry.now) → GivesMade (map (λ w. w.now) words.entry.now) seed count →
+    ensures made_always { (seed count : ℕ) → IsTaken (texts words.entry.now) → GivesMade (texts words.entry.now) seed count →
         ¬ (Rose (K.faults sink.old) (K.faults sink.new)) → result ≢ Status.NoMemory → result ≡ Status.Done }
 {
     let request = match request_of(alloc, words) {

@@ -1,7 +1,7 @@
 //! The words of the command line.
-ghost use Rattle.std.specs.Prelude.{◌≡◌, ℕ, ◌≤◌, IfOk, OnOk, Err, false, map};
+ghost use Rattle.std.specs.Prelude.{◌≡◌, ℕ, ◌≤◌, IfOk, OnOk, Err, false};
 ghost use Rattle.clap.specs.Words.{app_of, found_of, one_text, rule_of, subcommand_of, subcommand_rows_of};
-ghost use Rattle.cc_replay.specs.Words.{app, make_app, optional_app, replay_app, bytes_option, count_argument, named_option, natives_option, number_argument, number_option, number_up_to, required_argument, scripts_option, seed_argument, GivesRequest, IsNumber, IsTaken};
+ghost use Rattle.cc_replay.specs.Words.{app, make_app, optional_app, replay_app, bytes_option, count_argument, named_option, natives_option, number_argument, number_option, number_up_to, required_argument, scripts_option, seed_argument, texts, GivesRequest, IsNumber, IsTaken};
 
 use cc_names::Limits;
 use clap::builder::ValueParser;
@@ -158,9 +158,9 @@ fn command<'a>(alloc: Global) -> Result<Command<'a>, AllocError>
 
 /// What the words come to, where they are taken.
 fn matches_of<'a>(alloc: Global, words: &'a [&'a str]) -> Result<ArgMatches<'a>, WordsStop>
-    ensures usage { result ≡ Err WordsStop.Usage → ¬ IsTaken (map (λ w. w.now) words.entry.now) }
-    ensures taken { OnOk result (IsTaken (map (λ w. w.now) words.entry.now)) }
-    ensures named { IfOk result (λ m. subcommand_rows_of m ≡ subcommand_of app (map (λ w. w.now) words.entry.now)) }
+    ensures usage { result ≡ Err WordsStop.Usage → ¬ IsTaken (texts words.entry.now) }
+    ensures taken { OnOk result (IsTaken (texts words.entry.now)) }
+    ensures named { IfOk result (λ m. subcommand_rows_of m ≡ subcommand_of app (texts words.entry.now)) }
 {
     let Ok(command) = command(alloc) else {
         return Err(WordsStop::NoMemory);
@@ -194,10 +194,10 @@ fn wide_number_of(named: &ArgMatches<'_>, name: &str) -> u64
 ///
 /// `Usage` where the words are not taken, as in a wish for help. `NoMemory` only where memory is refused.
 pub(crate) fn request_of<'a>(alloc: Global, words: &'a [&'a str]) -> Result<Request, WordsStop>
-    ensures usage { result ≡ Err WordsStop.Usage → ¬ IsTaken (map (λ w. w.now) words.entry.now) }
-    ensures taken { OnOk result (IsTaken (map (λ w. w.now) words.entry.now)) }
-    ensures request { IfOk result (λ request. GivesRequest (map (λ w. w.now) words.entry.now) request) }
-    ensures only { IfOk result (λ request. (other : Request) → GivesRequest (map (λ w. w.now) words.entry.now) other → other ≡ request) }
+    ensures usage { result ≡ Err WordsStop.Usage → ¬ IsTaken (texts words.entry.now) }
+    ensures taken { OnOk result (IsTaken (texts words.entry.now)) }
+    ensures request { IfOk result (λ request. GivesRequest (texts words.entry.now) request) }
+    ensures only { IfOk result (λ request. (other : Request) → GivesRequest (texts words.entry.now) other → other ≡ request) }
 {
     let matches = matches_of(alloc, words)?;
     if let Some(make) = matches.subcommand_matches("make") {
