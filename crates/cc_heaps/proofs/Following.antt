@@ -55,8 +55,10 @@ use Rattle.cc_laws_snapshot.proofs.NativesHeld.{hold_native-gentle, make_native-
 use Rattle.cc_laws_snapshot.proofs.ScriptParts.{not_gray-held, exposed-gentle, hold_script-gentle, script_slot-gentle}
 use Rattle.cc_laws_snapshot.proofs.LoyalSuspected.{loyal-suspected}
 use Rattle.cc_laws_snapshot.proofs.BufferMarks.{suspect-purple, suspect-keeps_purple, marked-buffer}
+use Rattle.cc_laws_snapshot.proofs.Handed.{Hands-still}
+use Rattle.cc_laws_snapshot.proofs.Handing.{handed-loyal}
 use Rattle.cc_laws_snapshot.proofs.StillNatives.{Still-hold_script}
-use Rattle.cc_laws_snapshot.proofs.CommandsLoyal.{hold_native-loyal, stored-loyal, still-loyal}
+use Rattle.cc_laws_snapshot.proofs.CommandsLoyal.{hold_native-loyal, stored-loyal}
 use Rattle.cc_laws_snapshot.proofs.KindsHeld.{native_made-suspected, object_made-suspected, exposed-suspected, script_slot_written-suspected}
 use Rattle.cc_counted.specs.Counts.{slots_of}
 use Rattle.cc_counted.specs.Counts as counts
@@ -103,26 +105,26 @@ Remembers-from h g early late loyal candidates = loyal-suspected h g candidates 
 -- Script objects
 
 -- Something is exposed.
-pub exposed-keeps : (h : Heap) (x : Option Name) → IsSound [] h → Keeps h (exposed h x)
-exposed-keeps h x s = record {
-  follows = Follows-from h (exposed h x) s.well_formed (exposed-sound [] h x s).well_formed (exposed-gentle h x s.well_formed) (exposed-coloured h x);
+pub exposed-keeps : {owned : List ℕ} (h : Heap) (x : Option Name) → IsSound owned h → Keeps h (exposed h x)
+exposed-keeps {owned} h x s = record {
+  follows = Follows-from h (exposed h x) s.well_formed (exposed-sound owned h x s).well_formed (exposed-gentle h x s.well_formed) (exposed-coloured h x);
   suspected = λ candidates. exposed-suspected h candidates x s.well_formed;
 }
 
 -- A script register is written.
-pub hold_script-keeps : (h : Heap) (d : ℕ) (x : Option Name) → IsIn (script_names h) x → IsSound [] h → Keeps h (hold_script h d x)
-hold_script-keeps h d x there s = record {
+pub hold_script-keeps : {owned : List ℕ} (h : Heap) (d : ℕ) (x : Option Name) → IsIn (script_names h) x → IsSound owned h → Keeps h (hold_script h d x)
+hold_script-keeps {owned} h d x there s = record {
   follows = Follows-from h (hold_script h d x) s.well_formed after.well_formed (hold_script-gentle h d x s.well_formed)
       (λ c. AreColoured-register (exposed h x).scripts (exposed h x).script_registers d x (exposed-black h x) (exposed-coloured h x c));
-  suspected = Remembers-from h (hold_script h d x) s.well_formed after.well_formed (still-loyal h (hold_script h d x) s after (Still-hold_script h d x));
+  suspected = Remembers-from h (hold_script h d x) s.well_formed after.well_formed (handed-loyal owned None h (hold_script h d x) s.well_formed after (Hands-still h (hold_script h d x) (Still-hold_script h d x)));
 }
   where
-    after : IsSound [] (hold_script h d x)
-    after = hold_script-sound [] h d x there s
+    after : IsSound owned (hold_script h d x)
+    after = hold_script-sound owned h d x there s
 
 -- a slot of what has a name
-script_slot : (h : Heap) (x : Name) (i : ℕ) (y : Option Name) → IsWellFormed (change_script h x (with_script_slot i y)) → IsIn (script_names h) y →
-    IsHeldBlack h.scripts y → IsSound [] h → Keeps h (change_script h x (with_script_slot i y))
+script_slot : {owned : List ℕ} (h : Heap) (x : Name) (i : ℕ) (y : Option Name) → IsWellFormed (change_script h x (with_script_slot i y)) → IsIn (script_names h) y →
+    IsHeldBlack h.scripts y → IsSound owned h → Keeps h (change_script h x (with_script_slot i y))
 script_slot h x i y late there black s = record {
   follows = Follows-from h (change_script h x (with_script_slot i y)) s.well_formed late
       (script_slot-gentle h x i y s.well_formed there (not_gray-held h y black))
@@ -131,13 +133,13 @@ script_slot h x i y late there black s = record {
 }
 
 -- A slot of a script object is written.
-pub script_slot-keeps : (h : Heap) (x : Name) (i : ℕ) (y : Option Name) → Among x (script_names h) → IsIn (script_names h) y → IsHeldBlack h.scripts y →
-    IsSound [] h → Keeps h (set_slot h (Some x) i y)
-script_slot-keeps h (name.Native k) i y at there black s = absurd (native-no_script h k.0 s.well_formed at)
-script_slot-keeps h (name.Script k) i y at there black s = script_slot h (object k.0) i y
-    (script_slot-sound [] h (Some (object k.0)) i y (λ z m. ⊎_elim (λ e. subst (λ w. Among w (script_names h)) e at) (λ t. absurd t) m) there s).well_formed there black s
-script_slot-keeps h (name.Reflector k) i y at there black s = script_slot h (reflector k.0) i y
-    (script_slot-sound [] h (Some (reflector k.0)) i y (λ z m. ⊎_elim (λ e. subst (λ w. Among w (script_names h)) e at) (λ t. absurd t) m) there s).well_formed there black s
+pub script_slot-keeps : {owned : List ℕ} (h : Heap) (x : Name) (i : ℕ) (y : Option Name) → Among x (script_names h) → IsIn (script_names h) y → IsHeldBlack h.scripts y →
+    IsSound owned h → Keeps h (set_slot h (Some x) i y)
+script_slot-keeps {owned} h (name.Native k) i y at there black s = absurd (native-no_script h k.0 s.well_formed at)
+script_slot-keeps {owned} h (name.Script k) i y at there black s = script_slot h (object k.0) i y
+    (script_slot-sound owned h (Some (object k.0)) i y (λ z m. ⊎_elim (λ e. subst (λ w. Among w (script_names h)) e at) (λ t. absurd t) m) there s).well_formed there black s
+script_slot-keeps {owned} h (name.Reflector k) i y at there black s = script_slot h (reflector k.0) i y
+    (script_slot-sound owned h (Some (reflector k.0)) i y (λ z m. ⊎_elim (λ e. subst (λ w. Among w (script_names h)) e at) (λ t. absurd t) m) there s).well_formed there black s
 
 -- the command that makes a script object is in its ranges, and is taken
 pub made-ranges : (d : ℕ) (slots : Option ℕ) → d < 256 → IfSome slots (λ n. n ≤ 64) → IsTrue (in_range (command_to_make d slots))
@@ -335,13 +337,13 @@ module _ (owned : List ℕ) (v : Keyed) (o : IsInOrder owned v) where
       absurd (native-is_no_script s.name (native-name_of v.heap s.name (native-in owned v (Some key) o s.name i)) (script-named v.heap o.sound.well_formed s m))
 
 -- A slot of the script object at a key is written.
-pub object_slot-keeps : (v : Keyed) (o : IsInOrder [] v) (key i : ℕ) (x : Option SKey) → IsTrue (is_there v.scripts key) →
+pub object_slot-keeps : {owned : List ℕ} (v : Keyed) (o : IsInOrder owned v) (key i : ℕ) (x : Option SKey) → IsTrue (is_there v.scripts key) →
     IfSome x (λ k. colour_at v.scripts k.0 ≡ Some Black) → Keeps v.heap (set_slot v.heap (name_at v.scripts key) i (script_name v x))
-object_slot-keeps v o key i x live black =
+object_slot-keeps {owned} v o key i x live black =
     let n = there-named v.scripts key live in
     subst (λ y. Keeps v.heap (set_slot v.heap y i (script_name v x))) (sym n.1)
-    (script_slot-keeps v.heap n.0 i (script_name v x) (subst (IsIn (script_names v.heap)) n.1 (name_at-there [] v o key) n.0 (inl refl))
-    (script_name-there [] v o x) (script_name-black [] v o x black) o.sound)
+    (script_slot-keeps v.heap n.0 i (script_name v x) (subst (IsIn (script_names v.heap)) n.1 (name_at-there owned v o key) n.0 (inl refl))
+    (script_name-there owned v o x) (script_name-black owned v o x black) o.sound)
 
 -- A slot of a native is written with what is held.
 pub held-follows : (v w : Keyed) (o : IsInOrder [] v) (k i : ℕ) (x : Option Held) → i < length (slots_now (native_at v.heap k)) → IsBlackHeld v x →

@@ -1,4 +1,4 @@
-use Rattle.std.proofs.Common.{◌<◌, sym, subst, arith}
+use Rattle.std.proofs.Common.{◌<◌, [], sym, subst, arith}
 use Rattle.cc_model.specs.Graph.{step}
 use Rattle.cc_heaps.specs.Making.{command_to_make}
 use Rattle.cc_heaps.specs.Keyed.{Keyed}
@@ -12,8 +12,14 @@ use Rattle.cc_heaps.proofs.heaps.Heaps.new_object.Goals as goal
 pub returns-in-Ok-clause-heap : goal.returns-in-Ok-clause-heap
 returns-in-Ok-clause-heap c = rw (c.write_script_reg.ensures.heap, c.in-Ok.ensures.heap, c.in-Ok.ensures.name)
 
+pub write_script_reg-requires-clause-order : goal.write_script_reg-requires-clause-order
+write_script_reg-requires-clause-order c = ([], c.add_object.ensures.order [] c.requires.order)
+
+pub returns-in-Ok-clause-order : goal.returns-in-Ok-clause-order
+returns-in-Ok-clause-order c = c.write_script_reg.ensures.order [] (c.add_object.ensures.order [] c.requires.order)
+
 pub returns-in-Ok-clause-counts : goal.returns-in-Ok-clause-counts
-returns-in-Ok-clause-counts c = few-alone c.write_script_reg.new.self c.write_script_reg.ensures.order
+returns-in-Ok-clause-counts c = few-alone c.write_script_reg.new.self (returns-in-Ok-clause-order c)
 
 pub returns-then-self-scripts-clause-counts : goal.returns-then-self-scripts-clause-counts
 returns-then-self-scripts-clause-counts c = few-alone c.args.self.now c.requires.order
@@ -42,6 +48,9 @@ returns-in-Ok-clause-stands c =
     let allowed : v.heap.scripts_made < v.heap.limits.scripts = rw (← c.self.view_is) (omega (arith, c.if-self-scripts.false, c.scripts.ensures.same)) in
     subst (λ h. StandsAfter v.heap h (λ e. step e (command_to_make c.args.r c.args.slots))) (sym (returns-in-Ok-clause-heap c))
     (make_object-stands v.heap c.args.r c.args.slots c.requires.order.sound c.ranges.r.fits c.requires.slots allowed)
+
+pub returns-in-Err-clause-order : goal.returns-in-Err-clause-order
+returns-in-Err-clause-order c = c.add_object.ensures.order [] c.requires.order
 
 pub returns-in-Err-clause-counts : goal.returns-in-Err-clause-counts
 returns-in-Err-clause-counts c = subst (λ (w : Keyed). AreFew w.heap) (sym c.in-Err.ensures.same) (few-alone c.args.self.now c.requires.order)
