@@ -1,4 +1,4 @@
-use Rattle.std.proofs.Common.{sym, subst}
+use Rattle.std.proofs.Common.{[], sym, subst}
 use Rattle.cc_model.specs.Colours.{HasColours}
 use Rattle.cc_laws_heap.proofs.Marking.{HasColours-marked}
 use Rattle.cc_gc.proofs.RoundsLeft.{KeepsKeys-round}
@@ -6,6 +6,9 @@ use Rattle.cc_gc.proofs.rounds.round.Goals as goal
 
 pub sweep-requires-clause-colours : goal.sweep-requires-clause-colours
 sweep-requires-clause-colours g c = subst HasColours (sym c.mark_scripts.ensures.heap) (HasColours-marked c.args.heaps.now.heap)
+
+pub sweep-requires-clause-order : goal.sweep-requires-clause-order
+sweep-requires-clause-order g c = c.mark_scripts.ensures.order [] c.requires.order
 
 pub returns-clause-keys : goal.returns-clause-keys
 returns-clause-keys g c = KeepsKeys-round c.args.heaps.now c.mark_scripts.new.self c.sweep.new.self c.requires.order.sound

@@ -14,3 +14,10 @@ store_script-requires-clause-within c =
     let many = script_slots-as_many [] c.args.heaps.now c.requires.order c.args.d c.in-Some.key c.in-Some.ensures.name c.in-Some.ensures.there in
     subst (λ (os : List Object). c.args.i < length (objects.slots_at os c.in-Some.key.0)) (sym (ap (λ (w : Keyed). w.scripts) c.preserve-is_reflector.ensures.heap))
     (subst (λ n. c.args.i < n) (sym many) c.requires.slot)
+
+-- the reflector preserved, where it is one, leaves the heaps in order
+pub store_script-requires-clause-order : goal.store_script-requires-clause-order
+store_script-requires-clause-order c = ([], c.preserve-is_reflector.ensures.order [] c.requires.order)
+
+pub returns-in-Some-clause-order : goal.returns-in-Some-clause-order
+returns-in-Some-clause-order c = c.store_script.ensures.order [] (c.preserve-is_reflector.ensures.order [] c.requires.order)

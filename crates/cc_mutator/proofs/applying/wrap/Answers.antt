@@ -34,6 +34,9 @@ returns-in_default c = λ t.
     let none : register v.heap (N c.args.s) ≡ None = sym c.native_reg.ensures.name ∙ ap (native_name v) c.in_default.is in
     applied-refused _ _ _ _ _ _ (refusal-wrap (objects_of v.heap) c.args.d c.args.s ∙ ap by_content none) refl refl c.requires.order
 
+pub set_script_reg-requires-clause-order : goal.set_script_reg-requires-clause-order
+set_script_reg-requires-clause-order c = ([], c.in-Ok.ensures.order)
+
 pub returns-in-Ok : goal.returns-in-Ok
 returns-in-Ok c = λ t.
     let v = c.args.heaps.now in
@@ -51,7 +54,7 @@ returns-in-Ok c = λ t.
     c.set_script_reg.ensures.heap ∙ (ap (λ (g : Heap). set_register g (S c.args.d) x) same ∙ ap (set_register w.heap (S c.args.d)) e.name) in
     applied-done _ _ _ _ _ _ (refusal-wrap (objects_of v.heap) c.args.d c.args.s ∙ ap by_content held)
     (carried-wrap _ _ _ _ c.args.d c.args.s k held (ap (λ y. Named y) is) (left ∙ ap (λ (g : Heap). set_register g (S c.args.d) (Some (reflector k))) e.heap))
-    (KeepsKeys-then v w c.set_script_reg.new.self e.keys c.set_script_reg.ensures.keys (ap native_names left) (ap script_names left)) c.set_script_reg.ensures.order
+    (KeepsKeys-then v w c.set_script_reg.new.self e.keys c.set_script_reg.ensures.keys (ap native_names left) (ap script_names left)) (c.set_script_reg.ensures.order [] e.order)
 
 pub returns-in-Err : goal.returns-in-Err
 returns-in-Err c = λ t.

@@ -1,4 +1,4 @@
-use Rattle.std.proofs.Common.{◌≡◌, true, false, Some, sym, ◌∙◌, ap}
+use Rattle.std.proofs.Common.{◌≡◌, [], true, false, Some, sym, ◌∙◌, ap}
 use Rattle.std.proofs.lemmas.Result.{on_ok_weaker}
 use Rattle.cc_lists.proofs.KnownBytes.{on_err_of}
 use Rattle.cc_names.specs.Names.{reflector}
@@ -6,6 +6,7 @@ use Rattle.cc_model.specs.Heap.{has_reflector}
 use Rattle.cc_counted.specs.Counts.{reflector_at}
 use Rattle.cc_script.specs.Objects.{name_at}
 use Rattle.cc_heaps.specs.Keyed.{counts_of, the_number}
+use Rattle.cc_heaps.proofs.FewCounts.{few-alone}
 use Rattle.cc_heaps.proofs.ScriptsChanged.{named-there}
 use Rattle.cc_wrappers.proofs.Wrapped.{reflector-name, reflector-none, reflector-has, exposed-wrapped, exposed-name, exposed-colour, exposed-stands, exposed-keeps_reached, made-wrapped, made-colour, made-keeps_reached}
 use Rattle.cc_wrappers.proofs.wrapping.wrap.Goals as goal
@@ -38,12 +39,18 @@ has c = reflector-has c.args.heaps.now c.requires.order c.args.key.0 c.requires.
 pub returns-in-Some-clause-heap : goal.returns-in-Some-clause-heap
 returns-in-Some-clause-heap c =
     let v = c.args.heaps.now in
-    exposed-wrapped v c.expose.new.self c.requires.order c.expose.ensures.order (the_number v c.args.key.0) c.in-Some.there.0 (named c) (has c) c.expose.ensures.heap c.expose.ensures.keys
+    exposed-wrapped v c.expose.new.self c.requires.order (c.expose.ensures.order [] c.requires.order) (the_number v c.args.key.0) c.in-Some.there.0 (named c) (has c) c.expose.ensures.heap c.expose.ensures.keys
+
+pub returns-in-Some-clause-order : goal.returns-in-Some-clause-order
+returns-in-Some-clause-order c = c.expose.ensures.order [] c.requires.order
+
+pub returns-in-Some-clause-counts : goal.returns-in-Some-clause-counts
+returns-in-Some-clause-counts c = few-alone c.expose.new.self (c.expose.ensures.order [] c.requires.order)
 
 pub returns-in-Some-clause-name : goal.returns-in-Some-clause-name
 returns-in-Some-clause-name c =
     let v = c.args.heaps.now in
-    exposed-name v c.expose.new.self c.requires.order c.expose.ensures.order (the_number v c.args.key.0) c.in-Some.there.0 (named c) (has c) c.expose.ensures.heap c.expose.ensures.keys
+    exposed-name v c.expose.new.self c.requires.order (c.expose.ensures.order [] c.requires.order) (the_number v c.args.key.0) c.in-Some.there.0 (named c) (has c) c.expose.ensures.heap c.expose.ensures.keys
 
 pub returns-in-Some-clause-there : goal.returns-in-Some-clause-there
 returns-in-Some-clause-there c = named-there c.expose.new.self.scripts c.in-Some.there.0 (reflector (the_number c.args.heaps.now c.args.key.0)) (returns-in-Some-clause-name c)
@@ -51,17 +58,17 @@ returns-in-Some-clause-there c = named-there c.expose.new.self.scripts c.in-Some
 pub returns-in-Some-clause-black : goal.returns-in-Some-clause-black
 returns-in-Some-clause-black c =
     let v = c.args.heaps.now in
-    exposed-colour v c.expose.new.self c.requires.order c.expose.ensures.order (the_number v c.args.key.0) c.in-Some.there.0 (named c) (has c) c.expose.ensures.heap c.expose.ensures.keys
+    exposed-colour v c.expose.new.self c.requires.order (c.expose.ensures.order [] c.requires.order) (the_number v c.args.key.0) c.in-Some.there.0 (named c) (has c) c.expose.ensures.heap c.expose.ensures.keys
 
 pub returns-in-Some-clause-stands : goal.returns-in-Some-clause-stands
 returns-in-Some-clause-stands c =
     let v = c.args.heaps.now in
-    exposed-stands v c.expose.new.self c.requires.order c.expose.ensures.order (the_number v c.args.key.0) c.in-Some.there.0 (named c) (has c) c.expose.ensures.heap c.expose.ensures.keys
+    exposed-stands v c.expose.new.self c.requires.order (c.expose.ensures.order [] c.requires.order) (the_number v c.args.key.0) c.in-Some.there.0 (named c) (has c) c.expose.ensures.heap c.expose.ensures.keys
 
 pub returns-in-Some-clause-reached : goal.returns-in-Some-clause-reached
 returns-in-Some-clause-reached c =
     let v = c.args.heaps.now in
-    exposed-keeps_reached v c.expose.new.self c.requires.order c.expose.ensures.order (the_number v c.args.key.0) c.in-Some.there.0 (named c) (has c) c.expose.ensures.heap c.expose.ensures.keys
+    exposed-keeps_reached v c.expose.new.self c.requires.order (c.expose.ensures.order [] c.requires.order) (the_number v c.args.key.0) c.in-Some.there.0 (named c) (has c) c.expose.ensures.heap c.expose.ensures.keys
 
 -- A new one
 
