@@ -24,6 +24,9 @@ pub returns-in_err-reflector-clause-stops : goal.returns-in_err-reflector-clause
 returns-in_err-reflector-clause-stops c =
     stopped-by (StopsWrapping (objects_of c.args.heaps.now.heap) c.args.element.0) c.from_residual.result out_of_memory c.from_residual.ensures.1 tt
 
+pub set_script_reg-requires-clause-order : goal.set_script_reg-requires-clause-order
+set_script_reg-requires-clause-order c = ([], c.wrap.ensures.order)
+
 pub returns-clause-wrapped : goal.returns-clause-wrapped
 returns-clause-wrapped c = λ g s.
     let v = c.args.heaps.now in
@@ -48,7 +51,7 @@ returns-clause-wrapped c = λ g s.
     let named : x ≡ Some (reflector k) = made.name in
     let near : IsReachedOrReflects w.heap x = subst (IsReachedOrReflects w.heap) (sym named) (inr (made.reached (Some (native k)) reached)) in
     let two = Shows-step w u b (λ j. set_register j (S 2) x)
-    (record { order = put.order; colours = put.colours; fresh = put.fresh; keys = put.keys; suspected = put.suspected; stands = put.stands near })
+    (record { order = put.order [] made.order; colours = put.colours; fresh = put.fresh; keys = put.keys; suspected = put.suspected; stands = put.stands near })
     h one (script_register-document h one.document 2 x (λ e. cc)) in
     let same : set_register h (S 2) x ≡ wrapping r g =
     ap (set_register h (S 2)) named ∙ ap (λ y. set_register (wrapped g y) (S 2) (reflector_of y)) (sym holds) in
