@@ -1,5 +1,5 @@
 -- A SCRIPT COLLECTION KEEPS THE HEAPS SOUND, tells what it takes out, and leaves the colours of marking, none of them white.
-use Rattle.std.proofs.Common.{◌≡◌, ◌≢◌, suc, List, [], ◌++◌, length, sym, ◌∙◌, ap, subst}
+use Rattle.std.proofs.Common.{◌≡◌, ◌≢◌, ℕ, suc, List, [], ◌++◌, length, sym, ◌∙◌, ap, subst}
 use Rattle.std.specs.List.{filter}
 use Rattle.cc_lists.specs.Members.{Among, has}
 use Rattle.cc_lists.proofs.Members.{Among-map, Among-filter}
@@ -22,12 +22,12 @@ use Rattle.cc_laws_heap.proofs.RoundsEnd.{next_round, rounds-keep, collect_scrip
 -- What rounds keep
 
 -- the heaps are sound, and what was told so far is what was taken out
-record IsCollecting (h : Heap) (o : Outcome) : Type 0 where
-  sound : IsSound [] o.heap
+record IsCollecting (owned : List ℕ) (h : Heap) (o : Outcome) : Type 0 where
+  sound : IsSound owned o.heap
   frees : (xs : List Name) × FreesNames h xs o
 
 -- a round keeps it
-IsCollecting-round : (h : Heap) (o : Outcome) → IsCollecting h o → IsCollecting h (next_round o)
+IsCollecting-round : {owned : List ℕ} (h : Heap) (o : Outcome) → IsCollecting owned h o → IsCollecting owned h (next_round o)
 IsCollecting-round h o c =
     let r = round-frees o.heap c.sound in
     record {
@@ -36,17 +36,17 @@ IsCollecting-round h o c =
     }
 
 -- so does the collection
-collect_scripts-collecting : (h : Heap) → IsSound [] h → IsCollecting h (collect_scripts h)
+collect_scripts-collecting : {owned : List ℕ} (h : Heap) → IsSound owned h → IsCollecting owned h (collect_scripts h)
 unfolding collect_scripts
-collect_scripts-collecting h s = rounds-keep (IsCollecting h) (IsCollecting-round h) (suc (length h.scripts)) (silently h)
+collect_scripts-collecting {owned} h s = rounds-keep (IsCollecting owned h) (IsCollecting-round h) (suc (length h.scripts)) (silently h)
     (record { sound = s; frees = ([], FreesNames-silently h) })
 
 -- A SCRIPT COLLECTION LEAVES SOUND HEAPS,
-pub collect_scripts-sound : (h : Heap) → IsSound [] h → IsSound [] (collect_scripts h).heap
+pub collect_scripts-sound : {owned : List ℕ} (h : Heap) → IsSound owned h → IsSound owned (collect_scripts h).heap
 collect_scripts-sound h s = (collect_scripts-collecting h s).sound
 
 -- and what it tells is what it takes out.
-pub collect_scripts-frees : (h : Heap) → IsSound [] h → (xs : List Name) × FreesNames h xs (collect_scripts h)
+pub collect_scripts-frees : {owned : List ℕ} (h : Heap) → IsSound owned h → (xs : List Name) × FreesNames h xs (collect_scripts h)
 collect_scripts-frees h s = (collect_scripts-collecting h s).frees
 
 -- Colours
@@ -84,6 +84,6 @@ module _ (h : Heap) (c : HasColours h) (none : unmarked h ≡ []) where
   }
 
 -- A SCRIPT COLLECTION LEAVES THE COLOUR INVARIANT.
-pub collect_scripts-invariant : (h : Heap) → IsSound [] h → HasColourInvariant (view (collect_scripts h).heap)
+pub collect_scripts-invariant : {owned : List ℕ} (h : Heap) → IsSound owned h → HasColourInvariant (view (collect_scripts h).heap)
 collect_scripts-invariant h s = HasColourInvariant-from (collect_scripts h).heap (collect_scripts-sound h s).well_formed
     (IsColoured-colours (collect_scripts h).heap (collect_scripts-colours h) (collect_scripts-unmarked h))

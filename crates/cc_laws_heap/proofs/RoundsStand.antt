@@ -1,6 +1,6 @@
 -- A SCRIPT COLLECTION KEEPS STANDING FOR THE GRAPH: what the graph reaches is marked, where it is a script object, and
 -- what well formed heaps mention is there.
-use Rattle.std.proofs.Common.{◌≡◌, suc, Bool, true, false, not, ◌||◌, List, [], length, refl, sym, ◌∙◌, ap, subst, inl}
+use Rattle.std.proofs.Common.{◌≡◌, ℕ, suc, Bool, true, false, not, ◌||◌, List, length, refl, sym, ◌∙◌, ap, subst, inl}
 use Rattle.cc_lists.specs.Members.{Among, has}
 use Rattle.cc_lists.proofs.Members.{Among-map_cases}
 use Rattle.cc_names.specs.declared.name.Name.{Name}
@@ -36,7 +36,7 @@ abbrev shape_of_uncounted : Uncounted → Shape
 shape_of_uncounted u = native_shape u.slots u.preserved
 
 -- the objects that a round leaves have the shapes that they had
-round-leaves : (h : Heap) → IsSound [] h → HeapChanges unchanged h (sweep (marked h)).heap
+round-leaves : {owned : List ℕ} (h : Heap) → IsSound owned h → HeapChanges unchanged h (sweep (marked h)).heap
 round-leaves h s = record {
   natives = λ n i.
       let f = round-natives h s n i in
@@ -54,7 +54,7 @@ spared-from dead e a b = go (has same_name dead e.the_map) (has same_name dead e
     go true k p q = p
     go false k p q = q
 
-module _ (h : Heap) (g : Graph) (s : IsSound [] h) (m : IsWellMade g) (t : StandsFor h g) where
+module _ {owned : List ℕ} (h : Heap) (g : Graph) (s : IsSound owned h) (m : IsWellMade g) (t : StandsFor h g) where
   -- heaps that stand for the graph follow it, over what is reached
   follows : Follows (Reached g) h g
   follows = stands-follows h g s.well_formed t
@@ -105,22 +105,22 @@ module _ (h : Heap) (g : Graph) (s : IsSound [] h) (m : IsWellMade g) (t : Stand
 -- Rounds
 
 -- sound heaps that stand for the graph
-record IsStanding (g : Graph) (o : Outcome) : Type 0 where
-  sound : IsSound [] o.heap
+record IsStanding (owned : List ℕ) (g : Graph) (o : Outcome) : Type 0 where
+  sound : IsSound owned o.heap
   stands : StandsFor o.heap g
 
 -- a round keeps it
-IsStanding-round : (g : Graph) → IsWellMade g → (o : Outcome) → IsStanding g o → IsStanding g (next_round o)
+IsStanding-round : {owned : List ℕ} (g : Graph) → IsWellMade g → (o : Outcome) → IsStanding owned g o → IsStanding owned g (next_round o)
 IsStanding-round g m o c = record { sound = round-sound o.heap c.sound; stands = round-stands o.heap g c.sound m c.stands }
 
 -- A SCRIPT COLLECTION KEEPS STANDING FOR THE GRAPH,
-pub collect_scripts-stands : (h : Heap) (g : Graph) → IsSound [] h → IsWellMade g → StandsFor h g → StandsFor (collect_scripts h).heap g
+pub collect_scripts-stands : {owned : List ℕ} (h : Heap) (g : Graph) → IsSound owned h → IsWellMade g → StandsFor h g → StandsFor (collect_scripts h).heap g
 unfolding collect_scripts
-collect_scripts-stands h g s m t =
-    (rounds-keep (IsStanding g) (IsStanding-round g m) (suc (length h.scripts)) (silently h) (record { sound = s; stands = t })).stands
+collect_scripts-stands {owned} h g s m t =
+    (rounds-keep (IsStanding owned g) (IsStanding-round g m) (suc (length h.scripts)) (silently h) (record { sound = s; stands = t })).stands
 
 -- and frees nothing that the graph reaches.
-pub collect_scripts-unreached : (h : Heap) (g : Graph) (x : Name) → IsSound [] h → IsWellMade g → StandsFor h g →
+pub collect_scripts-unreached : {owned : List ℕ} (h : Heap) (g : Graph) (x : Name) → IsSound owned h → IsWellMade g → StandsFor h g →
     Among (Freed x) (collect_scripts h).events → ¬ (Reached g x)
 collect_scripts-unreached h g x s m t i d =
     let f = collect_scripts-frees h s in

@@ -1,5 +1,5 @@
 -- SWEEPING IN TURN: each object is told and taken out with what its native's cascade frees, and the heaps stay steady.
-use Rattle.std.proofs.Common.{◌≡◌, ◌+◌, ◌≤◌, cond, true, false, not, ◌&&◌, ◌||◌, Bool, List, [], ◌∷◌, ◌++◌, map, refl, sym, ◌∙◌, ap, subst, inl, inr, arith, count_by}
+use Rattle.std.proofs.Common.{◌≡◌, ℕ, ◌+◌, ◌≤◌, cond, true, false, not, ◌&&◌, ◌||◌, Bool, List, [], ◌∷◌, ◌++◌, map, refl, sym, ◌∙◌, ap, subst, inl, inr, arith, count_by}
 use Rattle.std.specs.List.{filter}
 use Rattle.std.proofs.Math.Path.{fun_ext}
 use Rattle.std.proofs.lemmas.Bool.{false≢true}
@@ -42,43 +42,43 @@ scripts-sweep_each (x ∷ xs) o =
 
 -- the heaps are steady, script objects have distinct names, none of them a native's, and those to be swept are distinct
 -- and there
-pub record IsToSweep (dead : List Name) (h : Heap) : Type 0 where
-  pub steady : IsSteady [] h
+pub record IsToSweep (owned : List ℕ) (dead : List Name) (h : Heap) : Type 0 where
+  pub steady : IsSteady owned h
   pub named : (o : HeapScript) → Among o h.scripts → is_script o.name ≡ true
   pub distinct : (x : Name) → count_by (λ (o : HeapScript). same_name o.name x) h.scripts ≤ 1
   pub there : (x : Name) → Among x dead → Among x (script_names h)
   pub once : (x : Name) → count_by (same_name x) dead ≤ 1
 
 -- a name of a script object is that of no native
-IsToSweep-named : (dead : List Name) (h : Heap) → IsToSweep dead h → (x : Name) → Among x (script_names h) → is_script x ≡ true
-IsToSweep-named dead h t x m = let f = Among-map_cases (λ (o : HeapScript). o.name) h.scripts x m in subst (λ y. is_script y ≡ true) f.2 (t.named f.0 f.1)
+IsToSweep-named : (owned : List ℕ) (dead : List Name) (h : Heap) → IsToSweep owned dead h → (x : Name) → Among x (script_names h) → is_script x ≡ true
+IsToSweep-named owned dead h t x m = let f = Among-map_cases (λ (o : HeapScript). o.name) h.scripts x m in subst (λ y. is_script y ≡ true) f.2 (t.named f.0 f.1)
 
 -- One object swept is told and taken out, with what its native's cascade frees, and the heaps stay steady.
-TakesOut-sweep_one : (x : Name) (xs : List Name) (h : Heap) → IsToSweep (x ∷ xs) h →
-    (ys : List Name) × TakesOut h ys (sweep_one h x) × IsSteady [] (sweep_one h x).heap
-TakesOut-sweep_one (name.Native k) xs h t = absurd (false≢true (IsToSweep-named (name.Native k ∷ xs) h t (name.Native k) (t.there (name.Native k) (inl refl))))
-TakesOut-sweep_one (name.Script k) xs h t = (
+TakesOut-sweep_one : (owned : List ℕ) (x : Name) (xs : List Name) (h : Heap) → IsToSweep owned (x ∷ xs) h →
+    (ys : List Name) × TakesOut h ys (sweep_one h x) × IsSteady owned (sweep_one h x).heap
+TakesOut-sweep_one owned (name.Native k) xs h t = absurd (false≢true (IsToSweep-named owned (name.Native k ∷ xs) h t (name.Native k) (t.there (name.Native k) (inl refl))))
+TakesOut-sweep_one owned (name.Script k) xs h t = (
   name.Script k ∷ [],
   TakesOut-script h (name.Script k) refl (t.there (name.Script k) (inl refl)),
-  IsSteady-without_object [] h k.0 t.steady,
+  IsSteady-without_object owned h k.0 t.steady,
 )
-TakesOut-sweep_one (name.Reflector k) xs h t =
+TakesOut-sweep_one owned (name.Reflector k) xs h t =
     let x : Name = name.Reflector k in
     let g : Heap = without_script h x in
     let there : Among x (script_names h) = t.there x (inl refl) in
-    let steady : IsSteady (k.0 ∷ []) g = IsSteady-without_reflector [] h k.0 t.steady (t.distinct x) there in
-    let f = cascade-frees_steady [] g k.0 steady in
+    let steady : IsSteady (k.0 ∷ owned) g = IsSteady-without_reflector owned h k.0 t.steady (t.distinct x) there in
+    let f = cascade-frees_steady owned g k.0 steady in
     let named : (p : HeapScript) → Among p g.scripts → is_script p.name ≡ true =
     λ p m. t.named p (Among-filtered (λ (o : HeapScript). not (same_name o.name x)) p h.scripts m) in
     let first : Outcome = record { heap = g; events = Freed x ∷ [] } in (
       (x ∷ []) ++ map native f.0,
       TakesOut-then h (x ∷ []) (map native f.0) first (cascade g k.0) (TakesOut-script h x refl there) (TakesOut-cascade g f.0 (cascade g k.0) named f.1),
-      cascade-steady [] g k.0 steady,
+      cascade-steady owned g k.0 steady,
     )
 
 -- then the others are to be swept
-IsToSweep-rest : (x : Name) (xs : List Name) (h : Heap) → IsToSweep (x ∷ xs) h → IsSteady [] (sweep_one h x).heap → IsToSweep xs (sweep_one h x).heap
-IsToSweep-rest x xs h t steady = record {
+IsToSweep-rest : (owned : List ℕ) (x : Name) (xs : List Name) (h : Heap) → IsToSweep owned (x ∷ xs) h → IsSteady owned (sweep_one h x).heap → IsToSweep owned xs (sweep_one h x).heap
+IsToSweep-rest owned x xs h t steady = record {
   steady = steady;
   named = λ o m. t.named o (Among-filtered others o h.scripts (subst (Among o) (scripts-sweep_one h x) m));
   distinct = λ y. subst (λ os. count_by (λ (o : HeapScript). same_name o.name y) os ≤ 1) (sym (scripts-sweep_one h x))
@@ -106,11 +106,11 @@ IsToSweep-rest x xs h t steady = record {
         (Among-filter others f.0 h.scripts f.1 (ap not (same_name-other f.0.name x (λ e. other y m (sym f.2 ∙ e))))))
 
 -- OBJECTS SWEPT IN TURN are told and taken out, with what is freed meanwhile, and the heaps stay steady.
-pub TakesOut-sweep_each : (dead : List Name) (h : Heap) (xs : List Name) (o : Outcome) → TakesOut h xs o → IsToSweep dead o.heap →
-    (ys : List Name) × TakesOut h ys (sweep_each dead o) × IsSteady [] (sweep_each dead o).heap
-TakesOut-sweep_each [] h xs o f t = (xs, f, t.steady)
-TakesOut-sweep_each (x ∷ dead) h xs o f t =
-    let one = TakesOut-sweep_one x dead o.heap t in
-    TakesOut-sweep_each dead h (xs ++ one.0) (after o.events (sweep_one o.heap x))
+pub TakesOut-sweep_each : (owned : List ℕ) (dead : List Name) (h : Heap) (xs : List Name) (o : Outcome) → TakesOut h xs o → IsToSweep owned dead o.heap →
+    (ys : List Name) × TakesOut h ys (sweep_each dead o) × IsSteady owned (sweep_each dead o).heap
+TakesOut-sweep_each owned [] h xs o f t = (xs, f, t.steady)
+TakesOut-sweep_each owned (x ∷ dead) h xs o f t =
+    let one = TakesOut-sweep_one owned x dead o.heap t in
+    TakesOut-sweep_each owned dead h (xs ++ one.0) (after o.events (sweep_one o.heap x))
     (TakesOut-then h xs one.0 o (sweep_one o.heap x) f one.1)
-    (IsToSweep-rest x dead o.heap t one.2)
+    (IsToSweep-rest owned x dead o.heap t one.2)

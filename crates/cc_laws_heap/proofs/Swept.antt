@@ -34,11 +34,11 @@ pub scripts-sweep : (h : Heap) → (sweep h).heap.scripts ≡ filter (is_spared 
 unfolding sweep
 scripts-sweep h = scripts-sweep_each (unmarked h) (silently (without_dead_entries (unmarked h) h))
 
-module _ (h : Heap) (c : HasColours h) (s : IsSound [] h) where
+module _ {owned : List ℕ} (h : Heap) (c : HasColours h) (s : IsSound owned h) where
   -- the unmarked are to be swept
-  to_sweep : IsToSweep (unmarked h) (without_dead_entries (unmarked h) h)
+  to_sweep : IsToSweep owned (unmarked h) (without_dead_entries (unmarked h) h)
   to_sweep =
-      let b = IsBalanced-at_rest [] h s in
+      let b = IsBalanced-at_rest owned h s in
       record {
         steady = record { distinct = b.distinct; counts = b.counts; queue = b.queue; buffer = b.buffer };
         named = script-named h s.well_formed;
@@ -59,9 +59,9 @@ module _ (h : Heap) (c : HasColours h) (s : IsSound [] h) where
       is_white o = is_white_colour o.colour
 
   -- they are told and taken out, with what is freed meanwhile, and the heaps stay steady
-  pub taken-sweep : (xs : List Name) × TakesOut (without_dead_entries (unmarked h) h) xs (sweep h) × IsSteady [] (sweep h).heap
+  pub taken-sweep : (xs : List Name) × TakesOut (without_dead_entries (unmarked h) h) xs (sweep h) × IsSteady owned (sweep h).heap
   unfolding sweep
-  taken-sweep = TakesOut-sweep_each (unmarked h) (without_dead_entries (unmarked h) h) [] (silently (without_dead_entries (unmarked h) h))
+  taken-sweep = TakesOut-sweep_each owned (unmarked h) (without_dead_entries (unmarked h) h) [] (silently (without_dead_entries (unmarked h) h))
       (TakesOut-silently (without_dead_entries (unmarked h) h)) to_sweep
 
   -- What a sweep tells is what it takes out.
@@ -126,7 +126,7 @@ module _ (h : Heap) (c : HasColours h) (s : IsSound [] h) where
       }
 
   -- A SWEEP LEAVES SOUND HEAPS.
-  pub sweep-sound : IsSound [] (sweep h).heap
+  pub sweep-sound : IsSound owned (sweep h).heap
   unfolding telling
-  sweep-sound = IsSound-balanced [] (spared (unmarked h) h) freed telling (IsWellFormed-spared h c s.well_formed) frees
-      (IsSteady-telling [] (sweep h).heap telling.events taken-sweep.2) refl
+  sweep-sound = IsSound-balanced owned (spared (unmarked h) h) freed telling (IsWellFormed-spared h c s.well_formed) frees
+      (IsSteady-telling owned (sweep h).heap telling.events taken-sweep.2) refl

@@ -2,9 +2,8 @@
 use Rattle.std.proofs.Common.{◌≡◌, ℕ, ◌+◌, ◌≤◌, Bool, true, false, cond, not, ◌&&◌, List, [], ◌∷◌, ◌++◌, map, refl, sym, ◌∙◌, ap, subst, ⊎_elim, arith, count_by}
 use Rattle.std.specs.List.{filter, flat_map}
 use Rattle.std.proofs.lemmas.Bool.{cases_Bool, true≢false}
-use Rattle.std.proofs.lemmas.List.{append-nil}
 use Rattle.cc_lists.specs.Members.{Among, has}
-use Rattle.cc_lists.proofs.Members.{Among-map, Among-map_cases, Among-filter, Among-filtered, Among-passes, Among-flat_map_cases, has-there, has-among}
+use Rattle.cc_lists.proofs.Members.{Among-map, Among-map_cases, Among-append, Among-filter, Among-filtered, Among-passes, Among-flat_map_cases, has-there, has-among}
 use Rattle.cc_lists.proofs.Counting.{count_by-cons, count_by-filter, count_by-map}
 use Rattle.cc_names.specs.Names.{native, reflector, same_name, behind}
 use Rattle.cc_names.proofs.NameTests.{same_name-exact, same_name-refl}
@@ -93,10 +92,18 @@ behind-there h w k m =
     (Among-map (λ (p : HeapScript). p.name) g.0 h.scripts (Among-filtered is_white g.0 h.scripts g.1)))
 
 -- THE HEAPS WITHOUT WHAT IS NOT MARKED ARE SOUND, where the natives of the reflectors among it are owned.
-pub IsSound-spared : (h : Heap) → HasColours h → IsSound [] h → IsSound (flat_map behind (unmarked h) ++ []) (spared (unmarked h) h)
-IsSound-spared h c s = subst (λ ks. IsSound ks (spared (unmarked h) h)) (sym (append-nil (flat_map behind (unmarked h)))) (record {
+pub IsSound-spared : {owned : List ℕ} (h : Heap) → HasColours h → IsSound owned h → IsSound (flat_map behind (unmarked h) ++ owned) (spared (unmarked h) h)
+IsSound-spared {owned} h c s = record {
   well_formed = IsWellFormed-spared h c s.well_formed;
-  counts = λ n m. omega (arith, s.counts n m, reflectors-spared h s.well_formed n.number);
+  counts = λ n m. omega (
+    arith,
+    s.counts n m,
+    reflectors-spared h s.well_formed n.number,
+    times-append n.number (flat_map behind (unmarked h)) owned,
+  );
   none_zero = s.none_zero;
-  owned_there = λ k m. behind-there h s.well_formed k m;
-})
+  owned_there = λ k m. ⊎_elim
+      (λ l. behind-there h s.well_formed k l)
+      (λ r. s.owned_there k r)
+      (Among-append k (flat_map behind (unmarked h)) owned m);
+}

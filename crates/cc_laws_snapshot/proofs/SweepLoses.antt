@@ -86,12 +86,12 @@ spared-loses h w = record {
         (cases_Bool (is_spared (unmarked h) o))
 
 -- A sweep loses.
-sweep-loses : (h : Heap) → HasColours h → IsSound [] h → Loses (view h) (view (sweep h).heap)
-sweep-loses h c s =
+sweep-loses : {owned : List ℕ} (h : Heap) → HasColours h → IsSound owned h → Loses (view h) (view (sweep h).heap)
+sweep-loses {owned} h c s =
     let ks : List ℕ = left_behind h in
     let start : Outcome = silently (spared (unmarked h) h) in
     let end : Heap = (unroot_each ks start).heap in
-    let u = unroot_each-loses ks [] start (IsSound-spared h c s) in
+    let u = unroot_each-loses ks owned start (IsSound-spared h c s) in
     let b = HasLivingBuffer-view end u.0.well_formed in
     subst (λ k. Loses (view h) (view k)) (sym (sweep-unroots h))
     (loses-from_but ks (view h) (view end) b u.2
@@ -100,29 +100,29 @@ sweep-loses h c s =
 -- Rounds
 
 -- the heaps are sound, and lost what they lost
-record IsLosing (h : Heap) (o : Outcome) : Type 0 where
-  sound : IsSound [] o.heap
+record IsLosing (owned : List ℕ) (h : Heap) (o : Outcome) : Type 0 where
+  sound : IsSound owned o.heap
   loses : Loses (view h) (view o.heap)
 
 -- a round keeps it
-IsLosing-round : (h : Heap) (o : Outcome) → IsLosing h o → IsLosing h (next_round o)
-IsLosing-round h o l =
+IsLosing-round : {owned : List ℕ} (h : Heap) (o : Outcome) → IsLosing owned h o → IsLosing owned h (next_round o)
+IsLosing-round {owned} h o l =
     let end : Heap = (sweep (marked o.heap)).heap in
-    let sound : IsSound [] end = round-sound o.heap l.sound in
+    let sound : IsSound owned end = round-sound o.heap l.sound in
     let b = HasLivingBuffer-view end sound.well_formed in
     let round : Loses (view o.heap) (view end) =
     loses-then (view o.heap) (view (marked o.heap)) (view end) b (marked-loses o.heap)
-    (sweep-loses (marked o.heap) (HasColours-marked o.heap) (IsSound-marked [] o.heap l.sound)) in
+    (sweep-loses (marked o.heap) (HasColours-marked o.heap) (IsSound-marked owned o.heap l.sound)) in
     record { sound = sound; loses = loses-then (view h) (view o.heap) (view end) b l.loses round }
 
 -- A script collection loses,
-collect_scripts-losing : (h : Heap) → IsSound [] h → IsLosing h (collect_scripts h)
+collect_scripts-losing : {owned : List ℕ} (h : Heap) → IsSound owned h → IsLosing owned h (collect_scripts h)
 unfolding collect_scripts
-collect_scripts-losing h s = rounds-keep (IsLosing h) (IsLosing-round h) (suc (length h.scripts)) (silently h)
+collect_scripts-losing {owned} h s = rounds-keep (IsLosing owned h) (IsLosing-round h) (suc (length h.scripts)) (silently h)
     (record { sound = s; loses = loses-same (view h) })
 
 -- SO IT KEEPS EVERY UNREACHED NATIVE SUSPECTED.
-pub collect_scripts-suspected : (h : Heap) → IsSound [] h → IsSuspected (view h) [] → IsSuspected (view (collect_scripts h).heap) []
+pub collect_scripts-suspected : {owned : List ℕ} (h : Heap) → IsSound owned h → IsSuspected (view h) [] → IsSuspected (view (collect_scripts h).heap) []
 collect_scripts-suspected h s suspected =
     let l = collect_scripts-losing h s in
     loyal-suspected h (collect_scripts h).heap [] s.well_formed l.sound.well_formed (loses-loyal (view h) (view (collect_scripts h).heap) l.loses) suspected
