@@ -1,5 +1,5 @@
 -- A SCRIPT COLLECTION SPARES WHAT IS REACHED.
-use Rattle.std.proofs.Common.{◌≡◌, suc, true, List, [], ◌++◌, length, refl, sym, ◌∙◌, ap, subst, ⊎_elim}
+use Rattle.std.proofs.Common.{◌≡◌, ℕ, suc, true, List, ◌++◌, length, refl, sym, ◌∙◌, ap, subst, ⊎_elim}
 use Rattle.std.specs.List.{filter, flat_map}
 use Rattle.cc_lists.specs.Members.{Among}
 use Rattle.cc_lists.proofs.Members.{Among-map, Among-map_cases, Among-left, Among-right, Among-append, Among-filter, Among-filtered, Among-flat_map_cases}
@@ -35,13 +35,13 @@ use Rattle.cc_gc.proofs.Sparing.{HoldsNoMore, no_more-reached, native-shape, scr
 
 -- A round
 
-module _ (h : Heap) (s : IsSound [] h) where
+module _ {owned : List ℕ} (h : Heap) (s : IsSound owned h) where
   -- the heaps after a round
   abbrev next : Heap
   next = (sweep (marked h)).heap
 
   -- they are sound
-  next-sound : IsSound [] next
+  next-sound : IsSound owned next
   next-sound = round-sound h s
 
   -- they hold nothing more
@@ -111,22 +111,22 @@ module _ (h : Heap) (s : IsSound [] h) where
 -- Rounds
 
 -- sound heaps in which what is reached is as it was
-record IsKeeping (h : Heap) (o : Outcome) : Type 0 where
-  sound : IsSound [] o.heap
+record IsKeeping (owned : List ℕ) (h : Heap) (o : Outcome) : Type 0 where
+  sound : IsSound owned o.heap
   keeps : KeepsWhatIsReached h o.heap
 
 -- a round keeps it
-IsKeeping-round : (h : Heap) (o : Outcome) → IsKeeping h o → IsKeeping h (next_round o)
+IsKeeping-round : {owned : List ℕ} (h : Heap) (o : Outcome) → IsKeeping owned h o → IsKeeping owned h (next_round o)
 IsKeeping-round h o k = record {
   sound = round-sound o.heap k.sound;
   keeps = keeps-then h o.heap (sweep (marked o.heap)).heap k.keeps (round-keeps_reached o.heap k.sound);
 }
 
-module _ (h : Heap) (s : IsSound [] h) where
+module _ {owned : List ℕ} (h : Heap) (s : IsSound owned h) where
   -- A SCRIPT COLLECTION KEEPS WHAT IS REACHED,
   pub collect_scripts-keeps : KeepsWhatIsReached h (collect_scripts h).heap
   unfolding collect_scripts
-  collect_scripts-keeps = (rounds-keep (IsKeeping h) (IsKeeping-round h) (suc (length h.scripts)) (silently h)
+  collect_scripts-keeps = (rounds-keep (IsKeeping owned h) (IsKeeping-round h) (suc (length h.scripts)) (silently h)
       (record { sound = s; keeps = keeps-same h s.well_formed })).keeps
 
   -- and what it tells spares it.

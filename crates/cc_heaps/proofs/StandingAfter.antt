@@ -123,12 +123,12 @@ module _ (h : Heap) (w : IsWellFormed h) where
       (λ j a e. absurd (cc)) (Follows-left (Reached g) h (take_up h x) g (Leaves-take_up h x) t)))
 
 -- A command that is not refused.
-command-stands_after : (h : Heap) (c : Command) → IsSound [] h → IsTrue (in_range c) → refusal_of (objects_of h) c ≡ None →
+command-stands_after : {owned : List ℕ} (h : Heap) (c : Command) → IsSound owned h → IsTrue (in_range c) → refusal_of (objects_of h) c ≡ None →
     StandsAfter h (effects h c).heap (λ g. step g c)
 command-stands_after h c s range taken g m t = (step-well g m c range, command-stands h g c s m t range taken)
 
 -- A native is made.
-pub make_native-stands : (h : Heap) (d n : ℕ) → IsSound [] h → d < 256 → n ≤ 64 → h.natives_made < h.limits.natives →
+pub make_native-stands : {owned : List ℕ} (h : Heap) (d n : ℕ) → IsSound owned h → d < 256 → n ≤ 64 → h.natives_made < h.limits.natives →
     StandsAfter h (make_native h d n).heap (λ g. step g (Native d n))
 unfolding effects refusal_of
 make_native-stands h d n s room few allowed = command-stands_after h (Native d n) s (rw (lt-ltb d 256 room, le-leb n 64 few) refl)
@@ -141,7 +141,7 @@ made-not_refused h d None allowed = rw (lt-leb h.limits.scripts h.scripts_made a
 made-not_refused h d (Some n) allowed = rw (lt-leb h.limits.scripts h.scripts_made allowed) refl
 
 -- A script object is made.
-pub make_object-stands : (h : Heap) (d : ℕ) (slots : Option ℕ) → IsSound [] h → d < 256 → IfSome slots (λ n. n ≤ 64) → h.scripts_made < h.limits.scripts →
+pub make_object-stands : {owned : List ℕ} (h : Heap) (d : ℕ) (slots : Option ℕ) → IsSound owned h → d < 256 → IfSome slots (λ n. n ≤ 64) → h.scripts_made < h.limits.scripts →
     StandsAfter h (make_object h d (kind_to_make slots) (slots_to_make slots)) (λ g. step g (command_to_make d slots))
 make_object-stands h d slots s room few allowed = subst (λ k. StandsAfter h k (λ g. step g (command_to_make d slots))) (made-effects h d slots)
     (command-stands_after h (command_to_make d slots) s (made-ranges d slots room few) (made-not_refused h d slots allowed))

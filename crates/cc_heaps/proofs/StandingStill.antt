@@ -162,7 +162,7 @@ module _ (owned : List ℕ) (h : Heap) (k : ℕ) (s : IsSound (k ∷ owned) h) w
 
 -- Sweeps
 
-module _ (h : Heap) (c : HasColours h) (s : IsSound [] h) where
+module _ {owned : List ℕ} (h : Heap) (c : HasColours h) (s : IsSound owned h) where
   -- heaps whose colours are those of marking are as marking would leave them
   marked-same : marked h ≡ h
   unfolding marked

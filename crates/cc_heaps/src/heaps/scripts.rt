@@ -14,7 +14,7 @@ ghost use Rattle.cc_heaps.specs.Keyed.{IsInOrder};
 ghost use Rattle.cc_heaps.specs.Making.{kind_to_make, command_to_make, object_to_make, slots_to_make};
 ghost use Rattle.cc_heaps.specs.Changes.{IsScriptThere, KeepsKeys, script_name};
 ghost use Rattle.cc_heaps.specs.Standing.{IsReached, IsReachedOrReflects, MayHold, StandsAfter, StillStands, KeepsFresh, KeepsSuspected, KeepsColours};
-ghost use Rattle.cc_heaps.specs.Few.{AreFew, AreFewIfOwnedOnce};
+ghost use Rattle.cc_heaps.specs.Few.{AreFewIfOwnedOnce};
 
 use crate::heaps::Heaps;
 use crate::make_stop::MakeStop;
@@ -84,7 +84,7 @@ impl Heaps {
 
     // A plain object with so many empty slots, or a weak map, made and held by a register. Its name.
     fn new_object(&mut self, r: u8, slots: Option<u8>) -> Result<Name, MakeStop>
-        requires order { IsInOrder [] self.old }
+        requires order { (owned : List ℕ) × IsInOrder owned self.old }
         requires slots { IfSome slots (λ n. n ≤ 64) }
         ensures full { result ≡ Err MakeStop.Full → self.old.heap.limits.scripts ≤ self.old.heap.scripts_made }
         ensures full_always { self.old.heap.limits.scripts ≤ self.old.heap.scripts_made → result ≡ Err MakeStop.Full }
@@ -93,8 +93,8 @@ impl Heaps {
         ensures natives { self.new.keys ≡ self.old.keys }
         ensures keys { KeepsKeys self.old self.new }
         ensures same { OnErr result (self.new ≡ self.old) }
-        ensures order { IsInOrder [] self.new }
-        ensures counts { AreFew self.new.heap }
+        ensures order { (owned : List ℕ) → IsInOrder owned self.old → IsInOrder owned self.new }
+        ensures counts { AreFewIfOwnedOnce self.new }
         ensures stands { OnOk result (StandsAfter self.old.heap self.new.heap (λ g. graph.step g (command_to_make r slots))) }
         ensures colours { KeepsColours self.old.heap self.new.heap }
         ensures fresh { KeepsFresh self.old.heap self.new.heap }
@@ -118,7 +118,7 @@ impl Heaps {
     /// `Full` exactly where as many plain objects and weak maps as the limit were ever made; `NoMemory` at any other
     /// time. Neither changes anything.
     pub fn new_plain(&mut self, r: u8, slots: u8) -> Result<Name, MakeStop>
-        requires order { IsInOrder [] self.old }
+        requires order { (owned : List ℕ) × IsInOrder owned self.old }
         requires slots { slots ≤ 64 }
         ensures full { result ≡ Err MakeStop.Full → self.old.heap.limits.scripts ≤ self.old.heap.scripts_made }
         ensures full_always { self.old.heap.limits.scripts ≤ self.old.heap.scripts_made → result ≡ Err MakeStop.Full }
@@ -127,8 +127,8 @@ impl Heaps {
         ensures natives { self.new.keys ≡ self.old.keys }
         ensures keys { KeepsKeys self.old self.new }
         ensures same { OnErr result (self.new ≡ self.old) }
-        ensures order { IsInOrder [] self.new }
-        ensures counts { AreFew self.new.heap }
+        ensures order { (owned : List ℕ) → IsInOrder owned self.old → IsInOrder owned self.new }
+        ensures counts { AreFewIfOwnedOnce self.new }
         ensures stands { OnOk result (StandsAfter self.old.heap self.new.heap (λ g. graph.step g (command.Script r slots))) }
         ensures colours { KeepsColours self.old.heap self.new.heap }
         ensures fresh { KeepsFresh self.old.heap self.new.heap }
@@ -142,7 +142,7 @@ impl Heaps {
     /// `Full` exactly where as many plain objects and weak maps as the limit were ever made; `NoMemory` at any other
     /// time. Neither changes anything.
     pub fn new_map(&mut self, r: u8) -> Result<Name, MakeStop>
-        requires order { IsInOrder [] self.old }
+        requires order { (owned : List ℕ) × IsInOrder owned self.old }
         ensures full { result ≡ Err MakeStop.Full → self.old.heap.limits.scripts ≤ self.old.heap.scripts_made }
         ensures full_always { self.old.heap.limits.scripts ≤ self.old.heap.scripts_made → result ≡ Err MakeStop.Full }
         ensures name { IfOk result (λ x. x ≡ object (self.old.heap.scripts_made + 1)) }
@@ -150,8 +150,8 @@ impl Heaps {
         ensures natives { self.new.keys ≡ self.old.keys }
         ensures keys { KeepsKeys self.old self.new }
         ensures same { OnErr result (self.new ≡ self.old) }
-        ensures order { IsInOrder [] self.new }
-        ensures counts { AreFew self.new.heap }
+        ensures order { (owned : List ℕ) → IsInOrder owned self.old → IsInOrder owned self.new }
+        ensures counts { AreFewIfOwnedOnce self.new }
         ensures stands { OnOk result (StandsAfter self.old.heap self.new.heap (λ g. graph.step g (command.WeakMap r))) }
         ensures colours { KeepsColours self.old.heap self.new.heap }
         ensures fresh { KeepsFresh self.old.heap self.new.heap }

@@ -1,4 +1,4 @@
-use Rattle.std.proofs.Common.{[], sym, subst}
+use Rattle.std.proofs.Common.{sym, subst}
 use Rattle.cc_model.specs.Colours.{HasColours}
 use Rattle.cc_laws_heap.proofs.Marking.{HasColours-marked}
 use Rattle.cc_gc.proofs.RoundsLeft.{KeepsKeys-round}
@@ -8,8 +8,11 @@ pub sweep-requires-clause-colours : goal.sweep-requires-clause-colours
 sweep-requires-clause-colours g c = subst HasColours (sym c.mark_scripts.ensures.heap) (HasColours-marked c.args.heaps.now.heap)
 
 pub sweep-requires-clause-order : goal.sweep-requires-clause-order
-sweep-requires-clause-order g c = c.mark_scripts.ensures.order [] c.requires.order
+sweep-requires-clause-order g c = let f = c.requires.order in (f.0, c.mark_scripts.ensures.order f.0 f.1)
+
+pub returns-clause-order : goal.returns-clause-order
+returns-clause-order g c owned o = c.sweep.ensures.order owned (c.mark_scripts.ensures.order owned o)
 
 pub returns-clause-keys : goal.returns-clause-keys
-returns-clause-keys g c = KeepsKeys-round c.args.heaps.now c.mark_scripts.new.self c.sweep.new.self c.requires.order.sound
+returns-clause-keys g c = KeepsKeys-round c.args.heaps.now c.mark_scripts.new.self c.sweep.new.self c.requires.order.1.sound
     c.mark_scripts.ensures.heap c.sweep.ensures.heap c.mark_scripts.ensures.keys c.sweep.ensures.keys
