@@ -164,10 +164,20 @@ fn native_is_suspected_unlinked_and_freed(rt: HostRuntime) -> Result<(), Fail> {
         hold_itself(&mut heaps, &mut out);
         let _front = take_and_give_back(&mut heaps);
         unlink(&mut heaps, &mut out);
-        heaps.set_native_reg(0, None, &mut out);
+        empty(&mut heaps, &mut out);
     }
     assert_eq!(rt; out.text(), b"- unlink #1\n- free #1\n".as_slice());
     Ok(())
+}
+
+// The native holds what script register 0 holds.
+fn hold_object(heaps: &mut Heaps, out: &mut Notebook)
+    requires order { IsInOrder [] heaps.old }
+    ensures order { IsInOrder [] heaps.new }
+{
+    if let (Some(key), Some(object)) = (heaps.native_reg(0), heaps.script_reg(0)) {
+        store(heaps, key, Some(Held::Script(object)), out);
+    }
 }
 
 // The native holds the plain object, which no register does.
@@ -175,10 +185,16 @@ fn hold_plain(heaps: &mut Heaps, out: &mut Notebook)
     requires order { IsInOrder [] heaps.old }
     ensures order { IsInOrder [] heaps.new }
 {
-    if let (Some(key), Some(object)) = (heaps.native_reg(0), heaps.script_reg(0)) {
-        store(heaps, key, Some(Held::Script(object)), out);
-    }
+    hold_object(heaps, out);
     heaps.set_script_reg(0, None);
+}
+
+// Native register 0 is empty from then on.
+fn empty(heaps: &mut Heaps, out: &mut Notebook)
+    requires order { IsInOrder [] heaps.old }
+    ensures order { IsInOrder [] heaps.new }
+{
+    heaps.set_native_reg(0, None, out);
 }
 
 // Script touches the first object.
@@ -223,7 +239,7 @@ fn script_objects_are_marked_exposed_and_swept(rt: HostRuntime) -> Result<(), Fa
         let _none_swept = round(&mut heaps, &mut out);
         let gray = is_held_gray(&heaps);
         expose_first(&mut heaps);
-        heaps.set_native_reg(0, None, &mut out);
+        empty(&mut heaps, &mut out);
         let swept = round(&mut heaps, &mut out);
         done = gray & swept;
     }

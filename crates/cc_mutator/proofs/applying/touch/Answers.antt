@@ -1,4 +1,4 @@
-use Rattle.std.proofs.Common.{[], sym, ◌∙◌, ap}
+use Rattle.std.proofs.Common.{sym, ◌∙◌, ap}
 use Rattle.cc_model.specs.Exposure.{exposed}
 use Rattle.cc_heaps.specs.Changes.{script_name}
 use Rattle.cc_mutator.proofs.Carrying.{exposed-none}
@@ -10,4 +10,7 @@ returns-in_default-clause-heap c =
     sym (ap (λ x. exposed v.heap (script_name v x)) c.in_default.is ∙ exposed-none v.heap)
 
 pub returns-in-Some-clause-order : goal.returns-in-Some-clause-order
-returns-in-Some-clause-order c = c.expose.ensures.order [] c.requires.order
+returns-in-Some-clause-order c = c.expose.ensures.order
+
+pub returns-in_default-clause-order : goal.returns-in_default-clause-order
+returns-in_default-clause-order c owned o = o
