@@ -1,5 +1,4 @@
-use Rattle.std.proofs.Common.{◌≡◌, []}
-use Rattle.cc_heaps.specs.Keyed.{IsInOrder}
+use Rattle.std.proofs.Common.{[]}
 use Rattle.cc_tests_heaps.proofs.heaps.make_each.Goals as goal
 
 pub new_plain-plain-requires-clause-order : goal.new_plain-plain-requires-clause-order
