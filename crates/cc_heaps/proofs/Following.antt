@@ -55,10 +55,8 @@ use Rattle.cc_laws_snapshot.proofs.NativesHeld.{hold_native-gentle, make_native-
 use Rattle.cc_laws_snapshot.proofs.ScriptParts.{not_gray-held, exposed-gentle, hold_script-gentle, script_slot-gentle}
 use Rattle.cc_laws_snapshot.proofs.LoyalSuspected.{loyal-suspected}
 use Rattle.cc_laws_snapshot.proofs.BufferMarks.{suspect-purple, suspect-keeps_purple, marked-buffer}
-use Rattle.cc_laws_snapshot.proofs.Handed.{Hands-still}
-use Rattle.cc_laws_snapshot.proofs.Handing.{handed-loyal}
 use Rattle.cc_laws_snapshot.proofs.StillNatives.{Still-hold_script}
-use Rattle.cc_laws_snapshot.proofs.CommandsLoyal.{hold_native-loyal, stored-loyal}
+use Rattle.cc_laws_snapshot.proofs.CommandsLoyal.{hold_native-loyal, stored-loyal, still-loyal}
 use Rattle.cc_laws_snapshot.proofs.KindsHeld.{native_made-suspected, object_made-suspected, exposed-suspected, script_slot_written-suspected}
 use Rattle.cc_counted.specs.Counts.{slots_of}
 use Rattle.cc_counted.specs.Counts as counts
@@ -116,7 +114,7 @@ pub hold_script-keeps : {owned : List ℕ} (h : Heap) (d : ℕ) (x : Option Name
 hold_script-keeps {owned} h d x there s = record {
   follows = Follows-from h (hold_script h d x) s.well_formed after.well_formed (hold_script-gentle h d x s.well_formed)
       (λ c. AreColoured-register (exposed h x).scripts (exposed h x).script_registers d x (exposed-black h x) (exposed-coloured h x c));
-  suspected = Remembers-from h (hold_script h d x) s.well_formed after.well_formed (handed-loyal owned None h (hold_script h d x) s.well_formed after (Hands-still h (hold_script h d x) (Still-hold_script h d x)));
+  suspected = Remembers-from h (hold_script h d x) s.well_formed after.well_formed (still-loyal h (hold_script h d x) s after (Still-hold_script h d x));
 }
   where
     after : IsSound owned (hold_script h d x)

@@ -21,7 +21,7 @@ fn make_each(heaps: &mut Heaps, out: &mut Notebook) -> bool
     let native = heaps.new_native(0, 1, out);
     let plain = heaps.new_plain(0, 1);
     let map = heaps.new_map(1);
-    native.is_ok() && plain.is_ok() && map.is_ok()
+    native.is_ok() & plain.is_ok() & map.is_ok()
 }
 
 // What script register 1 holds, as long as that is a weak map.

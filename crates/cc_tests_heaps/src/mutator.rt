@@ -20,9 +20,9 @@ fn make_each(heaps: &mut Heaps, out: &mut Notebook) -> bool
     let native = apply(heaps, &Command::Native(0, 1), out);
     let object = apply(heaps, &Command::Script(0, 1), out);
     let map = apply(heaps, &Command::WeakMap(1), out);
-    native == Reply::Named(Name::Native(NativeNo(1)))
-        && object == Reply::Named(Name::Script(ScriptNo(1)))
-        && map == Reply::Named(Name::Script(ScriptNo(2)))
+    (native == Reply::Named(Name::Native(NativeNo(1))))
+        & (object == Reply::Named(Name::Script(ScriptNo(1))))
+        & (map == Reply::Named(Name::Script(ScriptNo(2))))
 }
 
 // Script register 2 holds the native's reflector, which has the plain object for its value in the map. Whether it has.

@@ -17,7 +17,8 @@ fn wrap_twice(heaps: &mut Heaps) -> bool
         Some(native) => {
             let first = wrap(heaps, native);
             let second = wrap(heaps, native);
-            first.is_ok() && first == second
+            let same = first == second;
+            first.is_ok() & same
         }
         None => false,
     }
@@ -31,7 +32,9 @@ fn preserve_first(heaps: &mut Heaps) -> bool
     match heaps.native_reg(0) {
         Some(native) => match wrap(heaps, native) {
             Ok(reflector) => {
-                unwrap_of(heaps, reflector) == Some(native) && preserve(heaps, reflector)
+                let unwrapped = unwrap_of(heaps, reflector);
+                let preserved = preserve(heaps, reflector);
+                (unwrapped == Some(native)) & preserved
             }
             Err(_) => false,
         },
