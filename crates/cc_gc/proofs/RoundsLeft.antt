@@ -22,9 +22,9 @@ use Rattle.cc_laws_heap.proofs.RoundsStand.{collect_scripts-stands}
 use Rattle.cc_laws_snapshot.proofs.SweepLoses.{collect_scripts-suspected}
 use Rattle.cc_heaps.specs.Keyed.{Keyed, IsInOrder}
 use Rattle.cc_heaps.specs.Changes.{KeepsKeys}
-use Rattle.cc_heaps.specs.Few.{AreFew}
+use Rattle.cc_heaps.specs.Few.{AreFewIfOwnedOnce}
 use Rattle.cc_heaps.specs.Standing.{StillStands}
-use Rattle.cc_heaps.proofs.FewCounts.{few-alone}
+use Rattle.cc_heaps.proofs.FewCounts.{few-owned}
 
 -- Keys that are kept, and kept again
 
@@ -37,19 +37,19 @@ KeepsKeys-then a b c p q natives scripts = record {
 }
 
 -- a native that is left after a round was there
-pub native-before : (h : Heap) → IsSound [] h → (x : Name) → Among x (native_names (sweep (marked h)).heap) → Among x (native_names h)
+pub native-before : {owned : List ℕ} (h : Heap) → IsSound owned h → (x : Name) → Among x (native_names (sweep (marked h)).heap) → Among x (native_names h)
 native-before h s x m =
     let f = round-frees h s in
     Among-filtered (is_not_among f.0) x (native_names h) (subst (Among x) f.1.natives m)
 
 -- and so was a script object
-pub script-before : (h : Heap) → IsSound [] h → (x : Name) → Among x (script_names (sweep (marked h)).heap) → Among x (script_names h)
+pub script-before : {owned : List ℕ} (h : Heap) → IsSound owned h → (x : Name) → Among x (script_names (sweep (marked h)).heap) → Among x (script_names h)
 script-before h s x m =
     let f = round-frees h s in
     Among-filtered (is_not_among f.0) x (script_names h) (subst (Among x) f.1.scripts m)
 
 -- a round keeps the keys, where marking and sweeping do
-pub KeepsKeys-round : (a b c : Keyed) → IsSound [] a.heap → b.heap ≡ marked a.heap → c.heap ≡ (sweep b.heap).heap → KeepsKeys a b → KeepsKeys b c → KeepsKeys a c
+pub KeepsKeys-round : {owned : List ℕ} (a b c : Keyed) → IsSound owned a.heap → b.heap ≡ marked a.heap → c.heap ≡ (sweep b.heap).heap → KeepsKeys a b → KeepsKeys b c → KeepsKeys a c
 unfolding marked
 KeepsKeys-round a b c s m w p q =
     let swept : c.heap ≡ (sweep (marked a.heap)).heap = w ∙ ap (λ h. (sweep h).heap) m in
@@ -62,6 +62,10 @@ KeepsKeys-round a b c s m w p q =
 abbrev outcome : Heap → List Event → Outcome
 outcome h es = record { heap = h; events = es }
 
+-- what is in order, whatever is owned besides, is so afterwards
+abbrev pub KeepsOrder : Keyed → Keyed → Type 0
+KeepsOrder old new = (owned : List ℕ) → IsInOrder owned old → IsInOrder owned new
+
 -- the rounds so far told these events, and those that are left give what the collection gives
 pub record IsCollecting (old now : Keyed) (before here : Telling) : Type 0 where
   pub left : ℕ
@@ -70,18 +74,18 @@ pub record IsCollecting (old now : Keyed) (before here : Telling) : Type 0 where
   pub rest : rounds left (record { heap = now.heap; events = events }) ≡ collect_scripts old.heap
   pub told : TellsEvents before here events
   pub keys : KeepsKeys old now
-  pub order : IsInOrder [] now
+  pub order : KeepsOrder old now
 
-pub IsCollecting-start : (v : Keyed) (t : Telling) → IsInOrder [] v → IsCollecting v v t t
+pub IsCollecting-start : (v : Keyed) (t : Telling) → IsCollecting v v t t
 unfolding collect_scripts
-IsCollecting-start v t order = record {
+IsCollecting-start v t = record {
   left = suc (length v.heap.scripts);
   events = [];
   enough = omega arith;
   rest = refl;
   told = Tells-nil t;
   keys = record { natives = λ key k at there. at; scripts = λ key x at there. at };
-  order = order;
+  order = λ owned o. o;
 }
 
 -- what a round does
@@ -90,7 +94,7 @@ pub record IsRound (v w : Keyed) (t u : Telling) (swept : Bool) : Type 0 where
   pub heap : w.heap ≡ (sweep (marked v.heap)).heap
   pub told : TellsEvents t u (sweep (marked v.heap)).events
   pub keys : KeepsKeys v w
-  pub order : IsInOrder [] w
+  pub order : KeepsOrder v w
 
 -- what the whole collection does
 pub record IsCollected (old new : Keyed) (before after : Telling) : Type 0 where
@@ -101,8 +105,8 @@ pub record IsCollected (old new : Keyed) (before after : Telling) : Type 0 where
   pub colours : HasColours new.heap
   pub invariant : HasColourInvariant (view new.heap)
   pub keys : KeepsKeys old new
-  pub order : IsInOrder [] new
-  pub counts : AreFew new.heap
+  pub order : KeepsOrder old new
+  pub counts : AreFewIfOwnedOnce new
 
 -- a round that sweeps, and the rounds after it
 rounds-sweeps : (n : ℕ) (o : Outcome) → sweeps (marked o.heap) ≡ true → rounds (suc n) o ≡ rounds n (after o.events (sweep (marked o.heap)))
@@ -114,11 +118,14 @@ rounds-rests : (n : ℕ) (o : Outcome) → sweeps (marked o.heap) ≡ false → 
 unfolding rounds
 rounds-rests n o e = ap (λ b. elim b [ true ↦ rounds n (after o.events (sweep (marked o.heap))) | false ↦ after o.events (sweep (marked o.heap)) ]) e
 
-module _ (old v w : Keyed) (b t u : Telling) (c : IsCollecting old v b t) where
+module _ (old v w : Keyed) (b t u : Telling) (c : IsCollecting old v b t) (known : (owned : List ℕ) × IsInOrder owned old) where
+  sound-now : IsSound known.0 v.heap
+  sound-now = (c.order known.0 known.1).sound
+
   keys-then : (swept : Bool) → IsRound v w t u swept → KeepsKeys old w
   keys-then swept r = KeepsKeys-then old v w c.keys r.keys
-      (λ x i. native-before v.heap c.order.sound x (subst (λ h. Among x (native_names h)) r.heap i))
-      (λ x i. script-before v.heap c.order.sound x (subst (λ h. Among x (script_names h)) r.heap i))
+      (λ x i. native-before v.heap sound-now x (subst (λ h. Among x (native_names h)) r.heap i))
+      (λ x i. script-before v.heap sound-now x (subst (λ h. Among x (script_names h)) r.heap i))
 
   -- after a round that sweeps there are fewer script objects
   pub IsCollecting-fewer : IsRound v w t u true → length w.heap.scripts < length v.heap.scripts
@@ -143,7 +150,7 @@ module _ (old v w : Keyed) (b t u : Telling) (c : IsCollecting old v b t) where
             ∙ (ap (λ m. rounds m (outcome v.heap c.events)) (sym e) ∙ c.rest));
         told = TellsEvents-trans b t u c.events (sweep (marked v.heap)).events c.told r.told;
         keys = keys-then true r;
-        order = r.order;
+        order = λ owned o. r.order owned (c.order owned o);
       }
 
   -- a round that sweeps nothing gives what the collection gives
@@ -157,17 +164,17 @@ module _ (old v w : Keyed) (b t u : Telling) (c : IsCollecting old v b t) where
           ∙ (ap (λ m. rounds m (outcome v.heap c.events)) (sym e) ∙ c.rest))
 
   -- and that is all the collection
-  pub IsCollected-last : IsSound [] old.heap → IsRound v w t u false → IsCollected old w b u
-  IsCollected-last s r =
+  pub IsCollected-last : IsRound v w t u false → IsCollected old w b u
+  IsCollected-last r =
       let last = collected-last r in
       record {
         heap = ap (λ (o : Outcome). o.heap) last;
         told = subst (λ (o : Outcome). TellsEvents b u o.events) last (TellsEvents-trans b t u c.events (sweep (marked v.heap)).events c.told r.told);
-        stands = λ g made stands. subst (λ (o : Outcome). StandsFor o.heap g) (sym last) (collect_scripts-stands old.heap g s made stands);
-        suspected = λ suspected. subst (λ (o : Outcome). IsSuspected (view o.heap) []) (sym last) (collect_scripts-suspected old.heap s suspected);
+        stands = λ g made stands. subst (λ (o : Outcome). StandsFor o.heap g) (sym last) (collect_scripts-stands old.heap g known.1.sound made stands);
+        suspected = λ suspected. subst (λ (o : Outcome). IsSuspected (view o.heap) []) (sym last) (collect_scripts-suspected old.heap known.1.sound suspected);
         colours = subst (λ (o : Outcome). HasColours o.heap) (sym last) (collect_scripts-colours old.heap);
-        invariant = subst (λ (o : Outcome). HasColourInvariant (view o.heap)) (sym last) (collect_scripts-invariant old.heap s);
+        invariant = subst (λ (o : Outcome). HasColourInvariant (view o.heap)) (sym last) (collect_scripts-invariant old.heap known.1.sound);
         keys = keys-then false r;
-        order = r.order;
-        counts = few-alone w r.order;
+        order = λ owned o. r.order owned (c.order owned o);
+        counts = few-owned w;
       }

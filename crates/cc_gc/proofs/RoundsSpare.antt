@@ -1,5 +1,5 @@
 -- A SCRIPT COLLECTION SPARES WHAT IS REACHED.
-use Rattle.std.proofs.Common.{◌≡◌, suc, true, List, [], ◌++◌, length, refl, sym, ◌∙◌, ap, subst, ⊎_elim}
+use Rattle.std.proofs.Common.{◌≡◌, ℕ, suc, true, List, ◌++◌, length, refl, sym, ◌∙◌, ap, subst, ⊎_elim}
 use Rattle.std.specs.List.{filter, flat_map}
 use Rattle.cc_lists.specs.Members.{Among}
 use Rattle.cc_lists.proofs.Members.{Among-map, Among-map_cases, Among-left, Among-right, Among-append, Among-filter, Among-filtered, Among-flat_map_cases}
@@ -34,13 +34,13 @@ use Rattle.cc_gc.proofs.Sparing.{HoldsNoMore, no_more-reached, native-shape, scr
 
 -- A round
 
-module _ (h : Heap) (s : IsSound [] h) where
+module _ {owned : List ℕ} (h : Heap) (s : IsSound owned h) where
   -- the heaps after a round
   abbrev next : Heap
   next = (sweep (marked h)).heap
 
   -- they are sound
-  next-sound : IsSound [] next
+  next-sound : IsSound owned next
   next-sound = round-sound h s
 
   -- they hold nothing more
@@ -109,7 +109,7 @@ module _ (h : Heap) (s : IsSound [] h) where
 
 -- Rounds
 
-module _ (h : Heap) (s : IsSound [] h) where
+module _ {owned : List ℕ} (h : Heap) (s : IsSound owned h) where
   -- A SCRIPT COLLECTION KEEPS WHAT IS REACHED,
   pub collect_scripts-keeps : KeepsWhatIsReached h (collect_scripts h).heap
   collect_scripts-keeps = collecting-keeps (λ o. KeepsWhatIsReached h o.heap)

@@ -1,5 +1,5 @@
 //! Rounds of marking and sweeping.
-ghost use Rattle.std.specs.Prelude.{◌≡◌, []};
+ghost use Rattle.std.specs.Prelude.{◌≡◌, ℕ, List, []};
 ghost use Rattle.cc_model.specs.Colours.{HasColours, HasColourInvariant, marked};
 ghost use Rattle.cc_model.specs.Suspected.{IsSuspected};
 ghost use Rattle.cc_model.specs.Sweep.{collect_scripts as collected, sweep, sweeps};
@@ -8,7 +8,7 @@ ghost use Rattle.cc_heaps.specs.Keyed.{IsInOrder};
 ghost use Rattle.cc_heaps.specs.Changes.{KeepsKeys};
 ghost use Rattle.cc_heaps.specs.Standing.{StillStands};
 ghost use Rattle.cc_model.specs.Telling.{TellsEvents};
-ghost use Rattle.cc_heaps.specs.Few.{AreFew};
+ghost use Rattle.cc_heaps.specs.Few.{AreFewIfOwnedOnce};
 ghost use Rattle.cc_gc.specs.Sparing.{KeepsWhatIsReached, SparesWhatIsReached};
 
 use cc_heaps::Heaps;
@@ -16,12 +16,12 @@ use cc_model::Notices;
 
 /// Marks, then sweeps what is white. Whether something was swept.
 fn round<N: Notices>(heaps: &mut Heaps, out: &mut N) -> bool
-    requires order { IsInOrder [] heaps.old }
+    requires order { (owned : List ℕ) × IsInOrder owned heaps.old }
     ensures swept { result ≡ sweeps (marked heaps.old.heap) }
     ensures heap { heaps.new.heap ≡ (sweep (marked heaps.old.heap)).heap }
     ensures told { TellsEvents (N.telling out.old) (N.telling out.new) (sweep (marked heaps.old.heap)).events }
     ensures keys { KeepsKeys heaps.old heaps.new }
-    ensures order { IsInOrder [] heaps.new }
+    ensures order { (owned : List ℕ) → IsInOrder owned heaps.old → IsInOrder owned heaps.new }
 {
     heaps.mark_scripts();
     heaps.sweep(out)
@@ -38,7 +38,7 @@ fn round<N: Notices>(heaps: &mut Heaps, out: &mut N) -> bool
 /// script object that nothing reaches either, if that was so of each before. So the next collection can find it. Takes no
 /// memory.
 pub fn collect_scripts<N: Notices>(heaps: &mut Heaps, out: &mut N)
-    requires order { IsInOrder [] heaps.old }
+    requires order { (owned : List ℕ) × IsInOrder owned heaps.old }
     ensures heap { heaps.new.heap ≡ (collected heaps.old.heap).heap }
     ensures told { TellsEvents (N.telling out.old) (N.telling out.new) (collected heaps.old.heap).events }
     ensures keeps { KeepsWhatIsReached heaps.old.heap heaps.new.heap }
@@ -48,8 +48,8 @@ pub fn collect_scripts<N: Notices>(heaps: &mut Heaps, out: &mut N)
     ensures colours { HasColours heaps.new.heap }
     ensures invariant { HasColourInvariant (view heaps.new.heap) }
     ensures keys { KeepsKeys heaps.old heaps.new }
-    ensures order { IsInOrder [] heaps.new }
-    ensures counts { AreFew heaps.new.heap }
+    ensures order { (owned : List ℕ) → IsInOrder owned heaps.old → IsInOrder owned heaps.new }
+    ensures counts { AreFewIfOwnedOnce heaps.new }
 {
     // sweeping may take away what alone held other objects, so the rounds go on until one sweeps nothing
     'rounds: while round(heaps, out) {}

@@ -111,10 +111,10 @@ module _ (p : Inside) where
     numbers-held (Some (held.Script key)) there = sym (script-numbers key)
 
 -- what is owned may be put into a slot
-pub own-content : (p : Inside) (x : Option Held) → IsThere (keyed_of p) x → IsFit (numbers_of (held_name (keyed_of p) x) ++ []) p → CallersOwn (numbers_held p.counted x) p.counted
-own-content p x there f =
-    subst (λ ks. CallersOwn ks p.counted) (sym (numbers-held p (numbers_of (held_name (keyed_of p) x) ++ []) f x there))
-    (callers-own-some (numbers_of (held_name (keyed_of p) x)) [] p f)
+pub own-content : (owned : List ℕ) (p : Inside) (x : Option Held) → IsThere (keyed_of p) x → IsFit (numbers_of (held_name (keyed_of p) x) ++ owned) p → CallersOwn (numbers_held p.counted x) p.counted
+own-content owned p x there f =
+    subst (λ ks. CallersOwn ks p.counted) (sym (numbers-held p (numbers_of (held_name (keyed_of p) x) ++ owned) f x there))
+    (callers-own-some (numbers_of (held_name (keyed_of p) x)) owned p f)
 
 -- no reference is taken or given up
 pub take_up-none : (h : Heap) (x : Option Name) → numbers_of x ≡ [] → take_up h x ≡ h

@@ -1,6 +1,6 @@
 -- WHAT FOLLOWS FROM AN ENTRY SET OR TAKEN OUT: the heaps stand for the graph in which it is, the colour invariant stays, every
 -- snapshot that was fresh is fresh where neither key nor value is gray, and no unreached native is forgotten.
-use Rattle.std.proofs.Common.{◌≡◌, ℕ, not, List, [], Option, Some, None, refl, sym, ◌∙◌, ap, subst, inl, ⊎_elim, arith, option_map}
+use Rattle.std.proofs.Common.{◌≡◌, ℕ, not, List, Option, Some, None, refl, sym, ◌∙◌, ap, subst, inl, ⊎_elim, arith, option_map}
 use Rattle.std.specs.Prelude.{IfSome, IsTrue}
 use Rattle.std.specs.Option.{option_and_then}
 use Rattle.cc_lists.specs.Members.{Among}
@@ -73,7 +73,7 @@ preserved-well g (name.Native k) m w = (w, record { made = λ x i. i; maps = λ 
 preserved-well g (name.Script k) m w = (w, record { made = λ x i. i; maps = λ k i. i })
 preserved-well g (name.Reflector k) m w = (IsWellMade-change_native g k.0 as_preserved (λ n r. r) w (KeepsNative-preserved g k.0 m), Grows-change_native g k.0 as_preserved (λ n r. r))
 
-module _ (h : Heap) (m k : Name) (s : IsSound [] h) where
+module _ {owned : List ℕ} (h : Heap) (m k : Name) (s : IsSound owned h) where
   -- a graph that the heaps stand for is well made with an entry of what is there, or with one less
   set-well : (v : Option Name) → OfSome (λ x. HasMembers h (entry m k x)) v → (g : Graph) → IsWellMade g → StandsFor h g → IsWellMade (graph.set_entry g (Some m) (Some k) v)
   set-well None there g w t = IsWellMade-entries g (without_entry g.entries m k) w
@@ -97,7 +97,7 @@ module _ (h : Heap) (m k : Name) (s : IsSound [] h) where
       new : IsMadeEntry g (entry m k x)
       new = record { the_map = kind-map g m the_map; key = key; value = there-made h g x s.well_formed t there.value }
 
-  module _ (v : Option Name) (after : IsSound [] (set_entry h (Some m) (Some k) v)) where
+  module _ (v : Option Name) (after : IsSound owned (set_entry h (Some m) (Some k) v)) where
     -- THE HEAPS STAND FOR THE GRAPH with the entry set, or without it, where all that is handed in is reached.
     set-stands : OfSome (λ x. HasMembers h (entry m k x)) v → Among k (script_names h) → IsReached h (Some m) → IsReached h (Some k) → IsReached h v →
         StandsAfter h (set_entry h (Some m) (Some k) v) (λ g. graph.set_entry g (Some m) (Some k) v)
@@ -144,7 +144,7 @@ module _ (h : Heap) (m k : Name) (s : IsSound [] h) where
 
   -- or where an entry is taken out.
   unset-fresh : KeepsFresh h (set_entry h (Some m) (Some k) None)
-  unset-fresh = gentle-fresh None (without_entry-sound [] h m k s) (record {
+  unset-fresh = gentle-fresh None (without_entry-sound owned h m k s) (record {
     made_more = omega arith;
     outside = λ u c i o l. (i, o);
     as_often = λ u w c i o l. refl;
@@ -163,7 +163,7 @@ pub record SetKeeps (h g : Heap) (m k v : Option Name) : Type 0 where
   pub fresh : IsHeldBlack h.scripts k → IsHeldBlack h.scripts v → KeepsFresh h g
   pub fresh_without : v ≡ None → KeepsFresh h g
 
-set-keeps : (h : Heap) (m k : Name) (v : Option Name) → IsSound [] h → IsSound [] (set_entry h (Some m) (Some k) v) →
+set-keeps : {owned : List ℕ} (h : Heap) (m k : Name) (v : Option Name) → IsSound owned h → IsSound owned (set_entry h (Some m) (Some k) v) →
     OfSome (λ x. HasMembers h (entry m k x)) v → Among k (script_names h) → SetKeeps h (set_entry h (Some m) (Some k) v) (Some m) (Some k) v
 set-keeps h m k v s after there at = record {
   stands = set-stands h m k s v after there at;
@@ -174,7 +174,7 @@ set-keeps h m k v s after there at = record {
 }
 
 -- by keys, of what is there
-module _ (v w : Keyed) (o : IsInOrder [] v) (p : IsInOrder [] w) (m k : ℕ) (is_map : kind_at v.scripts m ≡ Some Map) (k-there : IsTrue (is_there v.scripts k))
+module _ {owned : List ℕ} (v w : Keyed) (o : IsInOrder owned v) (p : IsInOrder owned w) (m k : ℕ) (is_map : kind_at v.scripts m ≡ Some Map) (k-there : IsTrue (is_there v.scripts k))
     (x : Option ℕ) (x-there : IfSome x (λ q. IsTrue (is_there v.scripts q))) where
   abbrev named : Option ℕ → Option Name
   named y = option_and_then (name_at v.scripts) y
@@ -198,18 +198,18 @@ module _ (v w : Keyed) (o : IsInOrder [] v) (p : IsInOrder [] w) (m k : ℕ) (is
       go : (y : Option ℕ) → IfSome y (λ q. IsTrue (is_there v.scripts q)) →
           OfSome (λ z. HasMembers v.heap (entry (the_name_at v.scripts m) (the_name_at v.scripts k) z)) (option_map (the_name_at v.scripts) y)
       go None t = tt
-      go (Some q) t = entry-members [] v o m k q is_map k-there t
+      go (Some q) t = entry-members owned v o m k q is_map k-there t
 
   pub entry-keeps : w.heap ≡ set_entry v.heap (name_at v.scripts m) (name_at v.scripts k) (named x) →
       SetKeeps v.heap w.heap (name_at v.scripts m) (name_at v.scripts k) (named x)
   entry-keeps e =
       let P : Option Name → Option Name → Option Name → Type 0 = λ a b c. SetKeeps v.heap (set_entry v.heap a b c) a b c in
-      let after = subst (IsSound []) (e ∙ (λ i. set_entry v.heap (the_map i) (key i) (value i))) p.sound in
+      let after = subst (IsSound owned) (e ∙ (λ i. set_entry v.heap (the_map i) (key i) (value i))) p.sound in
       subst (λ g. SetKeeps v.heap g (name_at v.scripts m) (name_at v.scripts k) (named x)) (sym e)
       (subst (λ a. P a (name_at v.scripts k) (named x)) (sym the_map)
       (subst (λ b. P (Some (the_name_at v.scripts m)) b (named x)) (sym key)
       (subst (P (Some (the_name_at v.scripts m)) (Some (the_name_at v.scripts k))) (sym value)
-      (set-keeps v.heap (the_name_at v.scripts m) (the_name_at v.scripts k) (option_map (the_name_at v.scripts) x) o.sound after members (the_name-among [] v o k k-there)))))
+      (set-keeps v.heap (the_name_at v.scripts m) (the_name_at v.scripts k) (option_map (the_name_at v.scripts) x) o.sound after members (the_name-among owned v o k k-there)))))
 
 -- AN ENTRY SET first and then its key preserved is both at once.
 preserve-entries : (h : Heap) (es : List Entry) (x : Name) → preserve (record h { entries = es }) (Some x) ≡ record (preserve h (Some x)) { entries = es }

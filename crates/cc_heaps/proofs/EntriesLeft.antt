@@ -1,6 +1,6 @@
 -- WHAT A SWEEP LEAVES OF THE ENTRIES OF WEAK MAPS, where the colours are those of marking: an entry whose map and key stay
 -- has a value that stays, so it keeps its names. What is left by keys is what the definitions leave by names.
-use Rattle.std.proofs.Common.{◌≡◌, ℕ, Bool, true, false, not, ◌&&◌, List, [], map, Option, Some, None, sym, ◌∙◌, ap, subst, ⊎_elim}
+use Rattle.std.proofs.Common.{◌≡◌, ℕ, Bool, true, false, not, ◌&&◌, List, map, Option, Some, None, sym, ◌∙◌, ap, subst, ⊎_elim}
 use Rattle.std.specs.Prelude.{IsTrue}
 use Rattle.std.specs.List.{filter}
 use Rattle.std.proofs.lemmas.Bool.{and_parts}
@@ -35,7 +35,7 @@ left_entries p = living (is_marked p.scripts) p.weak
 abbrev lives : Inside → KeyedEntry → Bool
 lives p e = is_marked p.scripts e.the_map && is_marked p.scripts e.key
 
-module _ (p : Inside) (l : IsLinked p) (o : IsInOrder [] (keyed_of p)) (c : HasColours (heap_of p)) where
+module _ {owned : List ℕ} (p : Inside) (l : IsLinked p) (o : IsInOrder owned (keyed_of p)) (c : HasColours (heap_of p)) where
   -- what stands at a key is marked where it stays
   stays-at : (k : ℕ) → IsTrue (is_there p.scripts k) → (q : Object) × Among q p.scripts × (q.name ≡ the_name_at p.scripts k) × (is_marked p.scripts k ≡ stays q)
   stays-at k t =

@@ -1,5 +1,5 @@
 -- AN ENTRY SET OR TAKEN OUT BY KEYS, which is set or taken out by names, and its key, preserved where it is a reflector.
-use Rattle.std.proofs.Common.{◌≡◌, ℕ, Bool, true, false, List, [], Option, Some, None, Result, Ok, Err, OnOk, OnErr, is_some, option_map, refl, sym, ◌∙◌, ap, subst}
+use Rattle.std.proofs.Common.{◌≡◌, ℕ, Bool, true, false, List, Option, Some, None, Result, Ok, Err, OnOk, OnErr, is_some, option_map, refl, sym, ◌∙◌, ap, subst}
 use Rattle.std.specs.Prelude.{IsTrue, IsSome}
 use Rattle.std.specs.Option.{option_and_then}
 use Rattle.cc_lists.specs.Members.{Among}
@@ -70,16 +70,16 @@ map-there objects key is = go (object_at objects key) is
 abbrev pub with_weak : Inside → List KeyedEntry → Inside
 with_weak p es = record p { weak = es }
 
-module _ (p : Inside) (l : IsLinked p) (o : IsInOrder [] (keyed_of p)) where
+module _ {owned : List ℕ} (p : Inside) (l : IsLinked p) (o : IsInOrder owned (keyed_of p)) where
   -- what is changed by keys is changed by names
-  becomes-entries : (es : List KeyedEntry) (named : List Entry) → named_entries p.scripts es ≡ named → IsSound [] (with_entries (heap_of p) named) → AreEntriesThere p.scripts es →
-      Becomes p (with_weak p es) (with_entries (heap_of p) named)
+  becomes-entries : (es : List KeyedEntry) (named : List Entry) → named_entries p.scripts es ≡ named → IsSound owned (with_entries (heap_of p) named) → AreEntriesThere p.scripts es →
+      Becomes owned p (with_weak p es) (with_entries (heap_of p) named)
   becomes-entries es named e s there = record {
     heap = ap (with_entries (heap_of p)) e;
     names = λ key x at. at;
     keys = record { natives = λ key k at m. at; scripts = λ key x at m. at };
     order = record {
-      sound = subst (λ n. IsSound [] (with_entries (heap_of p) n)) (sym e) s;
+      sound = subst (λ n. IsSound owned (with_entries (heap_of p) n)) (sym e) s;
       keyed = o.keyed;
       named = refl;
       one_key = o.one_key;
@@ -107,25 +107,25 @@ module _ (p : Inside) (l : IsLinked p) (o : IsInOrder [] (keyed_of p)) where
 
     -- AN ENTRY IS SET,
     pub becomes-set : (v : ℕ) → IsTrue (is_there p.scripts v) → (es : List KeyedEntry) → es ≡ with_entry p.weak m k v →
-        Becomes p (with_weak p es) (with_entries (heap_of p) (model.with_entry (heap_of p).entries (the_name_at p.scripts m) (the_name_at p.scripts k) (the_name_at p.scripts v)))
+        Becomes owned p (with_weak p es) (with_entries (heap_of p) (model.with_entry (heap_of p).entries (the_name_at p.scripts m) (the_name_at p.scripts k) (the_name_at p.scripts v)))
     becomes-set v v-there es e = becomes-entries es (model.with_entry (heap_of p).entries (the_name_at p.scripts m) (the_name_at p.scripts k) (the_name_at p.scripts v))
         (ap (named_entries p.scripts) e ∙ with_entry-named p.scripts l.one_name m k m-there k-there v p.weak o.entries_there)
-        (with_entry-sound [] (heap_of p) (the_name_at p.scripts m) (the_name_at p.scripts k) (the_name_at p.scripts v) (entry-members [] (keyed_of p) o m k v is_map k-there v-there) o.sound)
+        (with_entry-sound owned (heap_of p) (the_name_at p.scripts m) (the_name_at p.scripts k) (the_name_at p.scripts v) (entry-members owned (keyed_of p) o m k v is_map k-there v-there) o.sound)
         (subst (AreEntriesThere p.scripts) (sym e)
         (entries_there-set p.scripts p.weak o.entries_there m k v (record { the_map = m-there; key = k-there; value = v-there })))
 
     -- or memory was wanting, and then it is not; the parts stay in order
     pub order-set : {E : Type 0} (v : ℕ) → IsTrue (is_there p.scripts v) → (es : List KeyedEntry) (result : Result (Unit {0}) E) →
-        OnOk result (es ≡ with_entry p.weak m k v) → OnErr result (es ≡ p.weak) → IsInOrder [] (keyed_of (with_weak p es))
+        OnOk result (es ≡ with_entry p.weak m k v) → OnErr result (es ≡ p.weak) → IsInOrder owned (keyed_of (with_weak p es))
     order-set v v-there es (Ok x) set same = (becomes-set v v-there es set).order
-    order-set v v-there es (Err x) set same = subst (λ fs. IsInOrder [] (keyed_of (with_weak p fs))) (sym same) o
+    order-set v v-there es (Err x) set same = subst (λ fs. IsInOrder owned (keyed_of (with_weak p fs))) (sym same) o
 
     -- OR TAKEN OUT.
-    pub becomes-unset : (es : List KeyedEntry) → es ≡ without_entry p.weak m k → Becomes p (with_weak p es) (set_entry (heap_of p) (name_at p.scripts m) (name_at p.scripts k) None)
-    becomes-unset es e = subst (Becomes p (with_weak p es)) (λ i. set_entry (heap_of p) (sym (the_name-there p.scripts m m-there) i) (sym (the_name-there p.scripts k k-there) i) None)
+    pub becomes-unset : (es : List KeyedEntry) → es ≡ without_entry p.weak m k → Becomes owned p (with_weak p es) (set_entry (heap_of p) (name_at p.scripts m) (name_at p.scripts k) None)
+    becomes-unset es e = subst (Becomes owned p (with_weak p es)) (λ i. set_entry (heap_of p) (sym (the_name-there p.scripts m m-there) i) (sym (the_name-there p.scripts k k-there) i) None)
         (becomes-entries es (model.without_entry (heap_of p).entries (the_name_at p.scripts m) (the_name_at p.scripts k))
         (ap (named_entries p.scripts) e ∙ without_entry-named p.scripts l.one_name m k m-there k-there p.weak o.entries_there)
-        (without_entry-sound [] (heap_of p) (the_name_at p.scripts m) (the_name_at p.scripts k) o.sound)
+        (without_entry-sound owned (heap_of p) (the_name_at p.scripts m) (the_name_at p.scripts k) o.sound)
         (subst (AreEntriesThere p.scripts) (sym e) (entries_there-without p.scripts p.weak o.entries_there m k)))
 
 -- Reflectors preserved

@@ -102,26 +102,26 @@ Remembers-from h g early late loyal candidates = loyal-suspected h g candidates 
 -- Script objects
 
 -- Something is exposed.
-pub exposed-keeps : (h : Heap) (x : Option Name) → IsSound [] h → Keeps h (exposed h x)
-exposed-keeps h x s = record {
-  follows = Follows-from h (exposed h x) s.well_formed (exposed-sound [] h x s).well_formed (exposed-gentle h x s.well_formed) (exposed-coloured h x);
+pub exposed-keeps : {owned : List ℕ} (h : Heap) (x : Option Name) → IsSound owned h → Keeps h (exposed h x)
+exposed-keeps {owned} h x s = record {
+  follows = Follows-from h (exposed h x) s.well_formed (exposed-sound owned h x s).well_formed (exposed-gentle h x s.well_formed) (exposed-coloured h x);
   suspected = λ candidates. exposed-suspected h candidates x s.well_formed;
 }
 
 -- A script register is written.
-pub hold_script-keeps : (h : Heap) (d : ℕ) (x : Option Name) → IsIn (script_names h) x → IsSound [] h → Keeps h (hold_script h d x)
-hold_script-keeps h d x there s = record {
+pub hold_script-keeps : {owned : List ℕ} (h : Heap) (d : ℕ) (x : Option Name) → IsIn (script_names h) x → IsSound owned h → Keeps h (hold_script h d x)
+hold_script-keeps {owned} h d x there s = record {
   follows = Follows-from h (hold_script h d x) s.well_formed after.well_formed (hold_script-gentle h d x s.well_formed)
       (λ c. AreColoured-register (exposed h x).scripts (exposed h x).script_registers d x (exposed-black h x) (exposed-coloured h x c));
   suspected = Remembers-from h (hold_script h d x) s.well_formed after.well_formed (still-loyal h (hold_script h d x) s after (Still-hold_script h d x));
 }
   where
-    after : IsSound [] (hold_script h d x)
-    after = hold_script-sound [] h d x there s
+    after : IsSound owned (hold_script h d x)
+    after = hold_script-sound owned h d x there s
 
 -- a slot of what has a name
-script_slot : (h : Heap) (x : Name) (i : ℕ) (y : Option Name) → IsWellFormed (change_script h x (with_script_slot i y)) → IsIn (script_names h) y →
-    IsHeldBlack h.scripts y → IsSound [] h → Keeps h (change_script h x (with_script_slot i y))
+script_slot : {owned : List ℕ} (h : Heap) (x : Name) (i : ℕ) (y : Option Name) → IsWellFormed (change_script h x (with_script_slot i y)) → IsIn (script_names h) y →
+    IsHeldBlack h.scripts y → IsSound owned h → Keeps h (change_script h x (with_script_slot i y))
 script_slot h x i y late there black s = record {
   follows = Follows-from h (change_script h x (with_script_slot i y)) s.well_formed late
       (script_slot-gentle h x i y s.well_formed there (not_gray-held h y black))
@@ -130,13 +130,13 @@ script_slot h x i y late there black s = record {
 }
 
 -- A slot of a script object is written.
-pub script_slot-keeps : (h : Heap) (x : Name) (i : ℕ) (y : Option Name) → Among x (script_names h) → IsIn (script_names h) y → IsHeldBlack h.scripts y →
-    IsSound [] h → Keeps h (set_slot h (Some x) i y)
-script_slot-keeps h (name.Native k) i y at there black s = absurd (native-no_script h k.0 s.well_formed at)
-script_slot-keeps h (name.Script k) i y at there black s = script_slot h (object k.0) i y
-    (script_slot-sound [] h (Some (object k.0)) i y (λ z m. ⊎_elim (λ e. subst (λ w. Among w (script_names h)) e at) (λ t. absurd t) m) there s).well_formed there black s
-script_slot-keeps h (name.Reflector k) i y at there black s = script_slot h (reflector k.0) i y
-    (script_slot-sound [] h (Some (reflector k.0)) i y (λ z m. ⊎_elim (λ e. subst (λ w. Among w (script_names h)) e at) (λ t. absurd t) m) there s).well_formed there black s
+pub script_slot-keeps : {owned : List ℕ} (h : Heap) (x : Name) (i : ℕ) (y : Option Name) → Among x (script_names h) → IsIn (script_names h) y → IsHeldBlack h.scripts y →
+    IsSound owned h → Keeps h (set_slot h (Some x) i y)
+script_slot-keeps {owned} h (name.Native k) i y at there black s = absurd (native-no_script h k.0 s.well_formed at)
+script_slot-keeps {owned} h (name.Script k) i y at there black s = script_slot h (object k.0) i y
+    (script_slot-sound owned h (Some (object k.0)) i y (λ z m. ⊎_elim (λ e. subst (λ w. Among w (script_names h)) e at) (λ t. absurd t) m) there s).well_formed there black s
+script_slot-keeps {owned} h (name.Reflector k) i y at there black s = script_slot h (reflector k.0) i y
+    (script_slot-sound owned h (Some (reflector k.0)) i y (λ z m. ⊎_elim (λ e. subst (λ w. Among w (script_names h)) e at) (λ t. absurd t) m) there s).well_formed there black s
 
 -- the command that makes a script object is in its ranges, and is taken
 pub made-ranges : (d : ℕ) (slots : Option ℕ) → d < 256 → IfSome slots (λ n. n ≤ 64) → IsTrue (in_range (command_to_make d slots))
@@ -154,7 +154,7 @@ made-effects h d None = refl
 made-effects h d (Some n) = refl
 
 -- A script object is made.
-pub make_object-keeps : (h : Heap) (d : ℕ) (slots : Option ℕ) → d < 256 → IfSome slots (λ n. n ≤ 64) → h.scripts_made < h.limits.scripts → IsSound [] h →
+pub make_object-keeps : {owned : List ℕ} (h : Heap) (d : ℕ) (slots : Option ℕ) → d < 256 → IfSome slots (λ n. n ≤ 64) → h.scripts_made < h.limits.scripts → IsSound owned h →
     Keeps h (make_object h d (kind_to_make slots) (slots_to_make slots))
 make_object-keeps h d slots room few allowed s = record {
   follows = subst (Follows h) (made-effects h d slots) (record {
@@ -174,24 +174,24 @@ make_object-keeps h d slots room few allowed s = record {
 -- Natives
 
 -- A native is made.
-pub make_native-keeps : (h : Heap) (d n : ℕ) → d < 256 → n ≤ 64 → h.natives_made < h.limits.natives → IsSound [] h → Keeps h (make_native h d n).heap
-make_native-keeps h d n room few allowed s = record {
-  follows = Follows-from h (make_native h d n).heap s.well_formed (make_native-sound [] h d n room few allowed s).well_formed
-      (make_native-gentle [] h d n room few allowed s)
+pub make_native-keeps : {owned : List ℕ} (h : Heap) (d n : ℕ) → d < 256 → n ≤ 64 → h.natives_made < h.limits.natives → IsSound owned h → Keeps h (make_native h d n).heap
+make_native-keeps {owned} h d n room few allowed s = record {
+  follows = Follows-from h (make_native h d n).heap s.well_formed (make_native-sound owned h d n room few allowed s).well_formed
+      (make_native-gentle owned h d n room few allowed s)
       (SameScripts-coloured h (make_native h d n).heap (make_native-scripts h d n));
-  suspected = λ candidates. native_made-suspected [] h candidates d n s room few allowed;
+  suspected = λ candidates. native_made-suspected owned h candidates d n s room few allowed;
 }
 
 -- A native register is written.
-pub hold_native-keeps : (h : Heap) (d : ℕ) (x : Option Name) → d < 256 → IsIn (native_names h) x → IsSound [] h → Keeps h (hold_native h d x).heap
-hold_native-keeps h d x room there s = record {
-  follows = Follows-from h (hold_native h d x).heap s.well_formed after (hold_native-gentle [] h d x room there s)
+pub hold_native-keeps : {owned : List ℕ} (h : Heap) (d : ℕ) (x : Option Name) → d < 256 → IsIn (native_names h) x → IsSound owned h → Keeps h (hold_native h d x).heap
+hold_native-keeps {owned} h d x room there s = record {
+  follows = Follows-from h (hold_native h d x).heap s.well_formed after (hold_native-gentle owned h d x room there s)
       (SameScripts-coloured h (hold_native h d x).heap (hold_native-scripts h d x));
   suspected = Remembers-from h (hold_native h d x).heap s.well_formed after (hold_native-loyal h d x room there s);
 }
   where
     after : IsWellFormed (hold_native h d x).heap
-    after = (hold_native-sound [] h d x room there s).well_formed
+    after = (hold_native-sound owned h d x room there s).well_formed
 
 -- a native that is suspected: who enters the buffer is purple
 suspect-loyal : (h : Heap) (k : ℕ) → IsLoyal (view h) (view (suspect h k))
@@ -217,26 +217,26 @@ suspect-keeps h k early late = record {
 }
 
 -- a slot whose new reference is taken
-module _ (t : Heap) (k i : ℕ) (x : Option Name) (n : HeapNative) (found : native_at t k ≡ Some n) (within : i < length n.slots)
-    (there : IsIn (names_there t) x) (taken : AreTaken t x) (black : IsHeldBlack t.scripts x) (s : IsSound (numbers_of x ++ []) t) where
+module _ (owned : List ℕ) (t : Heap) (k i : ℕ) (x : Option Name) (n : HeapNative) (found : native_at t k ≡ Some n) (within : i < length n.slots)
+    (there : IsIn (names_there t) x) (taken : AreTaken t x) (black : IsHeldBlack t.scripts x) (s : IsSound (numbers_of x ++ owned) t) where
   abbrev old : Option Name
   old = get_or n.slots i None
 
   abbrev written : Heap
   written = change_native t k (with_native_slot i x)
 
-  owed : IsSound (numbers_of old ++ []) written
-  owed = native_slot-sound [] t k i n x found within there s
+  owed : IsSound (numbers_of old ++ owned) written
+  owed = native_slot-sound owned t k i n x found within there s
 
-  put-sound : IsSound [] (let_go written old).heap
-  put-sound = let_go-sound [] written old owed
+  put-sound : IsSound owned (let_go written old).heap
+  put-sound = let_go-sound owned written old owed
 
   put-gentle : AreGentle t (let_go written old).heap
   put-gentle = IsGentleBut-then (option_to_list old) t.natives_made t.natives_made (let_go written old).heap.natives_made
       (view t) (view written) (view (let_go written old).heap)
       (native_slot-gentle t k i n x s.well_formed found within taken (not_gray-held t x black))
-      (let_go-gentle [] written old owed)
-      (let_go-caught [] written old owed)
+      (let_go-gentle owned written old owed)
+      (let_go-caught owned written old owed)
 
   put-scripts : SameScripts t (let_go written old).heap
   put-scripts =
@@ -244,9 +244,9 @@ module _ (t : Heap) (k i : ℕ) (x : Option Name) (n : HeapNative) (found : nati
       record { scripts = b.scripts; registers = b.registers }
 
 -- A slot of a native is written.
-pub stored_in-follows : (h : Heap) (k i : ℕ) (x : Option Name) → i < length (slots_now (native_at h k)) → IsIn (names_there h) x → IsHeldBlack h.scripts x →
-    IsSound [] h → Follows h (stored_in h k i x).heap
-stored_in-follows h k i x within there black s = go (native_at t k) refl (subst (λ (ss : Slots). i < length ss) (sym (slots-taken h x k)) within)
+pub stored_in-follows : {owned : List ℕ} (h : Heap) (k i : ℕ) (x : Option Name) → i < length (slots_now (native_at h k)) → IsIn (names_there h) x → IsHeldBlack h.scripts x →
+    IsSound owned h → Follows h (stored_in h k i x).heap
+stored_in-follows {owned} h k i x within there black s = go (native_at t k) refl (subst (λ (ss : Slots). i < length ss) (sym (slots-taken h x k)) within)
   where
     t : Heap
     t = take_up h x
@@ -257,17 +257,17 @@ stored_in-follows h k i x within there black s = go (native_at t k) refl (subst 
     go : (o : Option HeapNative) → native_at t k ≡ o → i < length (slots_now o) → Follows h (let_go (change_native t k (with_native_slot i x)) (get_or (slots_now o) i None)).heap
     go None e l = absurd (omega arith)
     go (Some n) e l =
-        let sound : IsSound (numbers_of x ++ []) t = take_up-sound [] h x there s in
+        let sound : IsSound (numbers_of x ++ owned) t = take_up-sound owned h x there s in
         let in_place : IsIn (names_there t) x = names_there-take_up h x there in
         let black_still : IsHeldBlack t.scripts x = subst (λ os. IsHeldBlack os x) (sym same.scripts) black in
         let last : Heap = (let_go (change_native t k (with_native_slot i x)) (get_or n.slots i None)).heap in
-        Follows-from h last s.well_formed (put-sound t k i x n e l in_place (take_up-taken h x) black_still sound).well_formed
-        (AreGentle-then h t last (take_up-gentle h x) (put-gentle t k i x n e l in_place (take_up-taken h x) black_still sound))
-        (λ c. SameScripts-coloured t last (put-scripts t k i x n e l in_place (take_up-taken h x) black_still sound) (SameScripts-coloured h t same c))
+        Follows-from h last s.well_formed (put-sound owned t k i x n e l in_place (take_up-taken h x) black_still sound).well_formed
+        (AreGentle-then h t last (take_up-gentle h x) (put-gentle owned t k i x n e l in_place (take_up-taken h x) black_still sound))
+        (λ c. SameScripts-coloured t last (put-scripts owned t k i x n e l in_place (take_up-taken h x) black_still sound) (SameScripts-coloured h t same c))
 
 -- It forgets none, where the native is reached.
-pub stored_in-remembers : (h : Heap) (k i : ℕ) (x : Option Name) → i < length (slots_now (native_at h k)) → IsIn (names_there h) x → ReachedIn (view h) (native k) →
-    IsSound [] h → IsSound [] (stored_in h k i x).heap → Remembers h (stored_in h k i x).heap
+pub stored_in-remembers : {owned : List ℕ} (h : Heap) (k i : ℕ) (x : Option Name) → i < length (slots_now (native_at h k)) → IsIn (names_there h) x → ReachedIn (view h) (native k) →
+    IsSound owned h → IsSound owned (stored_in h k i x).heap → Remembers h (stored_in h k i x).heap
 stored_in-remembers h k i x within there reached s after = Remembers-from h (stored_in h k i x).heap s.well_formed after.well_formed
     (go (native_at (take_up h x) k) refl (subst (λ (ss : Slots). i < length ss) (sym (slots-taken h x k)) within))
   where
@@ -325,27 +325,27 @@ module _ (owned : List ℕ) (v : Keyed) (o : IsInOrder owned v) where
       absurd (native-is_no_script s.name (native-name_of v.heap s.name (native-in owned v (Some key) o s.name i)) (script-named v.heap o.sound.well_formed s m))
 
 -- A slot of the script object at a key is written.
-pub object_slot-keeps : (v : Keyed) (o : IsInOrder [] v) (key i : ℕ) (x : Option SKey) → IsTrue (is_there v.scripts key) →
+pub object_slot-keeps : {owned : List ℕ} (v : Keyed) (o : IsInOrder owned v) (key i : ℕ) (x : Option SKey) → IsTrue (is_there v.scripts key) →
     IfSome x (λ k. colour_at v.scripts k.0 ≡ Some Black) → Keeps v.heap (set_slot v.heap (name_at v.scripts key) i (script_name v x))
-object_slot-keeps v o key i x live black =
+object_slot-keeps {owned} v o key i x live black =
     let n = there-named v.scripts key live in
     subst (λ y. Keeps v.heap (set_slot v.heap y i (script_name v x))) (sym n.1)
-    (script_slot-keeps v.heap n.0 i (script_name v x) (subst (IsIn (script_names v.heap)) n.1 (name_at-there [] v o key) n.0 (inl refl))
-    (script_name-there [] v o x) (script_name-black [] v o x black) o.sound)
+    (script_slot-keeps v.heap n.0 i (script_name v x) (subst (IsIn (script_names v.heap)) n.1 (name_at-there owned v o key) n.0 (inl refl))
+    (script_name-there owned v o x) (script_name-black owned v o x black) o.sound)
 
 -- A slot of a native is written with what is held.
-pub held-follows : (v w : Keyed) (o : IsInOrder [] v) (k i : ℕ) (x : Option Held) → i < length (slots_now (native_at v.heap k)) → IsBlackHeld v x →
+pub held-follows : {owned : List ℕ} (v w : Keyed) (o : IsInOrder owned v) (k i : ℕ) (x : Option Held) → i < length (slots_now (native_at v.heap k)) → IsBlackHeld v x →
     w ≡ left_with v (stored_in v.heap k i (held_name v x)).heap → Follows v.heap w.heap
-held-follows v w o k i x within black e = subst (Follows v.heap) (sym (ap (λ (u : Keyed). u.heap) e))
-    (stored_in-follows v.heap k i (held_name v x) within (held-in [] v x o) (held_name-black [] v o x black) o.sound)
+held-follows {owned} v w o k i x within black e = subst (Follows v.heap) (sym (ap (λ (u : Keyed). u.heap) e))
+    (stored_in-follows v.heap k i (held_name v x) within (held-in owned v x o) (held_name-black owned v o x black) o.sound)
 
 -- It forgets none, where the native is reached.
-pub held-remembers : (v w : Keyed) (o : IsInOrder [] v) (k i : ℕ) (x : Option Held) → i < length (slots_now (native_at v.heap k)) → ReachedIn (view v.heap) (native k) →
-    IsSound [] w.heap → w ≡ left_with v (stored_in v.heap k i (held_name v x)).heap → Remembers v.heap w.heap
-held-remembers v w o k i x within reached after e =
+pub held-remembers : {owned : List ℕ} (v w : Keyed) (o : IsInOrder owned v) (k i : ℕ) (x : Option Held) → i < length (slots_now (native_at v.heap k)) → ReachedIn (view v.heap) (native k) →
+    IsSound owned w.heap → w ≡ left_with v (stored_in v.heap k i (held_name v x)).heap → Remembers v.heap w.heap
+held-remembers {owned} v w o k i x within reached after e =
     let same : w.heap ≡ (stored_in v.heap k i (held_name v x)).heap = ap (λ (u : Keyed). u.heap) e in
     subst (Remembers v.heap) (sym same)
-    (stored_in-remembers v.heap k i (held_name v x) within (held-in [] v x o) reached o.sound (subst (IsSound []) same after))
+    (stored_in-remembers v.heap k i (held_name v x) within (held-in owned v x o) reached o.sound (subst (IsSound owned) same after))
 
 -- there is room in a slot, by the counted natives and by the definitions
 slots-counted : (v : Keyed) (k : ℕ) → length (counts.slots_at (native_at (counts.heap_of (counts_of v)) k)) ≡ length (slots_now (native_at v.heap k))

@@ -43,7 +43,7 @@ empty-named objects (suc n) = ap (λ ss. None ∷ ss) (empty-named objects n)
 made-named : (objects : List Object) (number n : ℕ) → named_native objects (made_native number n) ≡ made_native number n
 made-named objects number n = ap (λ ss. record (made_native number n) { slots = ss }) (empty-named objects n)
 
-module _ (p : Inside) (f : IsFit [] p) (next : Counts) (slots : ℕ) (key : NKey)
+module _ {owned : List ℕ} (p : Inside) (f : IsFit owned p) (next : Counts) (slots : ℕ) (key : NKey)
     (natives : next.natives ≡ p.counted.natives ++ made_native (p.natives_made + 1) slots ∷ [])
     (buffer : next.buffer ≡ with_mark false (p.natives_made + 1) p.counted.buffer)
     (others : (q : ℕ) → q ≢ key.0 → counts.number_at next q ≡ counts.number_at p.counted q)
@@ -135,9 +135,9 @@ module _ (p : Inside) (f : IsFit [] p) (next : Counts) (slots : ℕ) (key : NKey
         (HasKeys-numbers next (map (named_native p.scripts) next.natives) (with_native v.heap slots).buffer []
         (map-map (λ (n : HeapNative). n.number) (named_native p.scripts) next.natives) (keyed (subst HasKeys (counts-back p f.linked) f.order.keyed)))
 
-    pub made-fit : slots ≤ 64 → p.natives_made < p.limits.natives → (HasKeys p.counted → HasKeys next) → IsFit ((p.natives_made + 1) ∷ []) made
+    pub made-fit : slots ≤ 64 → p.natives_made < p.limits.natives → (HasKeys p.counted → HasKeys next) → IsFit ((p.natives_made + 1) ∷ owned) made
     made-fit few room keyed = record {
-      order = subst (IsInOrder ((p.natives_made + 1) ∷ [])) (sym made-keyed) (IsInOrder-made v slots next.keys few room (made-keys keyed) made-kept f.order);
+      order = subst (IsInOrder ((p.natives_made + 1) ∷ owned)) (sym made-keyed) (IsInOrder-made v slots next.keys few room (made-keys keyed) made-kept f.order);
       linked = made-linked;
     }
 

@@ -72,7 +72,7 @@ marks p = marked_keys p.scripts p.weak (black_roots p) (gray_roots p)
 abbrev pub marked_objects : Inside → List Object
 marked_objects p = marked_from (black_roots p) (gray_roots p) p.weak p.scripts
 
-module _ (p : Inside) (l : IsLinked p) (o : IsInOrder [] (keyed_of p)) where
+module _ {owned : List ℕ} (p : Inside) (l : IsLinked p) (o : IsInOrder owned (keyed_of p)) where
   same-colour : (q : Object) → Among q p.scripts → colour_by (blacks p) (marks p) q.key ≡ names.colour_by (black_names (heap_of p)) (marked_names (heap_of p)) q.name
   same-colour q m = λ i. colour_of (black-alike p l o q m i) (marked-alike p l o q m i)
 
@@ -103,7 +103,7 @@ module _ (p : Inside) (l : IsLinked p) (o : IsInOrder [] (keyed_of p)) where
   }
 
   objects-marked : AreObjects (marked_objects p)
-  objects-marked = AreObjects-coloured (blacks p) (marks p) p.scripts (AreObjects-parts [] p l o)
+  objects-marked = AreObjects-coloured (blacks p) (marks p) p.scripts (AreObjects-parts owned p l o)
 
   pub heap-marked : heap_of (with_objects p (marked_objects p)) ≡ marked (heap_of p)
   heap-marked = heap-objects p (marked_objects p) l holds-marked ∙ marked-named
@@ -114,5 +114,5 @@ module _ (p : Inside) (l : IsLinked p) (o : IsInOrder [] (keyed_of p)) where
   pub linked-marked : IsLinked (with_objects p (marked_objects p))
   linked-marked = linked-objects p (marked_objects p) l holds-marked objects-marked
 
-  pub order-marked : IsInOrder [] (keyed_of (with_objects p (marked_objects p)))
-  order-marked = order-objects p (marked_objects p) l holds-marked objects-marked [] (subst (IsSound []) (sym marked-named) (IsSound-marked [] (heap_of p) o.sound)) o
+  pub order-marked : IsInOrder owned (keyed_of (with_objects p (marked_objects p)))
+  order-marked = order-objects p (marked_objects p) l holds-marked objects-marked owned (subst (IsSound owned) (sym marked-named) (IsSound-marked owned (heap_of p) o.sound)) o

@@ -1,6 +1,6 @@
 -- WHAT A SWEEP LEAVES OF THE SCRIPT OBJECTS, where the colours are those of marking: nothing that stays holds what goes,
 -- so what stays keeps its names.
-use Rattle.std.proofs.Common.{◌≡◌, ℕ, ◌==◌, Bool, true, false, not, List, [], map, Option, Some, None, refl, sym, ◌∙◌, ap, subst, arith}
+use Rattle.std.proofs.Common.{◌≡◌, ℕ, ◌==◌, Bool, true, false, not, List, map, Option, Some, None, refl, sym, ◌∙◌, ap, subst, arith}
 use Rattle.std.specs.List.{filter}
 use Rattle.std.specs.Option.{option_and_then}
 use Rattle.std.proofs.lemmas.Bool.{true≢false}
@@ -52,7 +52,7 @@ named-slot p n k x i e =
     (subst (λ y. Among y (named_native p.scripts n).slots) e
     (Among-map (λ (y : Option Name). option_and_then (own_name p.scripts) y) (Some (object k)) n.slots (held-among n.slots (object k) i)))
 
-module _ (p : Inside) (l : IsLinked p) (o : IsInOrder [] (keyed_of p)) (c : HasColours (heap_of p)) where
+module _ {owned : List ℕ} (p : Inside) (l : IsLinked p) (o : IsInOrder owned (keyed_of p)) (c : HasColours (heap_of p)) where
   -- White or marked
 
   white-there : (q : Object) → Among q p.scripts → is_white q ≡ true → Among q.name (unmarked (heap_of p))
@@ -116,7 +116,7 @@ module _ (p : Inside) (l : IsLinked p) (o : IsInOrder [] (keyed_of p)) (c : HasC
 
   pub objects-left : AreObjects (left_objects p)
   objects-left =
-      let a = AreObjects-parts [] p l o in
+      let a = AreObjects-parts owned p l o in
       record {
         one_key = one_key-left;
         one_name = λ x. omega (arith, l.one_name x, count_by-filter-le (λ (q : Object). same_name q.name x) stays p.scripts);

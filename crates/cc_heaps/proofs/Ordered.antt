@@ -133,19 +133,19 @@ IsInOrder-tail owned v b bs e o =
     o
 
 -- a register written, whose new reference is owned: what it held is owned
-pub IsInOrder-register : (v : Keyed) (r : ℕ) (x : Option Name) → r < 256 → IsIn (native_names v.heap) x → IsInOrder (numbers_of x ++ []) v →
-    IsInOrder (numbers_of (register v.heap (N r)) ++ []) (changed_to v (set_register v.heap (N r) x))
-IsInOrder-register v r x within there o =
-    IsInOrder-changed (numbers_of x ++ []) (numbers_of (register v.heap (N r)) ++ []) v o (set_register v.heap (N r) x)
+pub IsInOrder-register : (owned : List ℕ) (v : Keyed) (r : ℕ) (x : Option Name) → r < 256 → IsIn (native_names v.heap) x → IsInOrder (numbers_of x ++ owned) v →
+    IsInOrder (numbers_of (register v.heap (N r)) ++ owned) (changed_to v (set_register v.heap (N r) x))
+IsInOrder-register owned v r x within there o =
+    IsInOrder-changed (numbers_of x ++ owned) (numbers_of (register v.heap (N r)) ++ owned) v o (set_register v.heap (N r) x)
     (record { limits = refl; scripts = refl; entries = refl })
-    (native_register-sound [] v.heap r x within there o.sound) refl
+    (native_register-sound owned v.heap r x within there o.sound) refl
 
 -- slot i of native k written, whose new reference is owned: what it held is owned
-pub IsInOrder-slot : (v : Keyed) (k i : ℕ) (n : HeapNative) (x : Option Name) → native_at v.heap k ≡ Some n → i < length n.slots → IsIn (names_there v.heap) x →
-    IsInOrder (numbers_of x ++ []) v → IsInOrder (numbers_of (get_or n.slots i None) ++ []) (changed_to v (set_slot v.heap (Some (native k)) i x))
-IsInOrder-slot v k i n x found room there o =
-    IsInOrder-with (numbers_of x ++ []) (numbers_of (get_or n.slots i None) ++ []) v o (change_native v.heap k (with_native_slot i x)).natives v.heap.buffer
-    (native_slot-sound [] v.heap k i n x found room there o.sound)
+pub IsInOrder-slot : (owned : List ℕ) (v : Keyed) (k i : ℕ) (n : HeapNative) (x : Option Name) → native_at v.heap k ≡ Some n → i < length n.slots → IsIn (names_there v.heap) x →
+    IsInOrder (numbers_of x ++ owned) v → IsInOrder (numbers_of (get_or n.slots i None) ++ owned) (changed_to v (set_slot v.heap (Some (native k)) i x))
+IsInOrder-slot owned v k i n x found room there o =
+    IsInOrder-with (numbers_of x ++ owned) (numbers_of (get_or n.slots i None) ++ owned) v o (change_native v.heap k (with_native_slot i x)).natives v.heap.buffer
+    (native_slot-sound owned v.heap k i n x found room there o.sound)
     (numbers-changed v.heap k (with_native_slot i x) (λ m. refl))
 
 -- a reflector that is there is preserved
@@ -157,11 +157,11 @@ IsInOrder-preserved owned v k there o =
     (numbers-changed v.heap k (λ n. record n { preserved = true }) (λ n. refl))
 
 -- a native made, with a key of its own: it is owned
-pub IsInOrder-made : (v : Keyed) (n : ℕ) (keys : List (Option ℕ)) → n ≤ 64 → v.heap.natives_made < v.heap.limits.natives →
-    HasKeys (counts_in (with_native v.heap n) keys) → ((q k : ℕ) → number_at v q ≡ Some k → get_or keys q None ≡ Some k) → IsInOrder [] v →
-    IsInOrder ((v.heap.natives_made + 1) ∷ []) (record v { heap = with_native v.heap n; keys = keys })
-IsInOrder-made v n keys few room k kept o =
-    IsInOrder-keyed [] ((v.heap.natives_made + 1) ∷ []) v o (with_native v.heap n)
+pub IsInOrder-made : {owned : List ℕ} (v : Keyed) (n : ℕ) (keys : List (Option ℕ)) → n ≤ 64 → v.heap.natives_made < v.heap.limits.natives →
+    HasKeys (counts_in (with_native v.heap n) keys) → ((q k : ℕ) → number_at v q ≡ Some k → get_or keys q None ≡ Some k) → IsInOrder owned v →
+    IsInOrder ((v.heap.natives_made + 1) ∷ owned) (record v { heap = with_native v.heap n; keys = keys })
+IsInOrder-made {owned} v n keys few room k kept o =
+    IsInOrder-keyed owned ((v.heap.natives_made + 1) ∷ owned) v o (with_native v.heap n)
     (record { limits = refl; scripts = refl; entries = refl })
-    (with_native-sound [] v.heap n o.sound few room) keys k
+    (with_native-sound owned v.heap n o.sound few room) keys k
     (λ q m. Reflects-kept v (record v { heap = with_native v.heap n; keys = keys }) q.name q.native (λ key j is at. kept key j at) (o.reflecting q m))

@@ -55,10 +55,10 @@ made-reached h k w = reached-kept h (with_reflector h k) w (record {
         (Among-append (x, y) (flat_map native_edges (add_ref h k).natives) (flat_map script_edges h.scripts) e)
 
 -- and neither does an exposure.
-pub exposed-reached : (h : Heap) (x : Option Name) → IsSound [] h → (y : Name) → ReachedIn (view h) y → ReachedIn (view (exposed h x)) y
+pub exposed-reached : {owned : List ℕ} (h : Heap) (x : Option Name) → IsSound owned h → (y : Name) → ReachedIn (view h) y → ReachedIn (view (exposed h x)) y
 unfolding exposed
-exposed-reached h None s = λ y r. r
-exposed-reached h (Some x) s = reached-kept h (exposed h (Some x)) (exposed-sound [] h (Some x) s).well_formed (record {
+exposed-reached {owned} h None s = λ y r. r
+exposed-reached {owned} h (Some x) s = reached-kept h (exposed h (Some x)) (exposed-sound owned h (Some x) s).well_formed (record {
   registers = λ y i. i;
   edges = λ y z r i e. subst (λ es. Among (y, z) (flat_map native_edges h.natives ++ es)) (sym edges) e;
   entries = λ e i a b. i;
@@ -68,14 +68,14 @@ exposed-reached h (Some x) s = reached-kept h (exposed h (Some x)) (exposed-soun
     edges = flat_map-kept script_edges (changed_where (is_one_of (exposed_names h x)) as_black) h.scripts
         (λ o. changed_where-either (λ p. script_edges p ≡ script_edges o) (is_one_of (exposed_names h x)) as_black o (λ e. refl) refl)
 
-module _ (h : Heap) (k : ℕ) (s : IsSound [] h) (there : Among (native k) (native_names h)) where
+module _ {owned : List ℕ} (h : Heap) (k : ℕ) (s : IsSound owned h) (there : Among (native k) (native_names h)) where
   -- A NATIVE WRAPPED leaves the heaps sound.
-  wrapped-stays_sound : IsSound [] (wrapped h (Some (native k)))
+  wrapped-stays_sound : IsSound owned (wrapped h (Some (native k)))
   wrapped-stays_sound = go (has_reflector h k) refl
     where
-      go : (b : Bool) → has_reflector h k ≡ b → IsSound [] (wrapped_by h k b)
-      go true e = exposed-sound [] h (Some (reflector k)) s
-      go false e = with_reflector-sound [] h k there e s
+      go : (b : Bool) → has_reflector h k ≡ b → IsSound owned (wrapped_by h k b)
+      go true e = exposed-sound owned h (Some (reflector k)) s
+      go false e = with_reflector-sound owned h k there e s
 
   -- They stand for the graph in which the native is wrapped, where it is reached.
   pub wrapped-stands : IsReached h (Some (native k)) → StandsAfter h (wrapped h (Some (native k))) (λ g. graph.wrapped g (Some (native k)))
@@ -92,8 +92,8 @@ module _ (h : Heap) (k : ℕ) (s : IsSound [] h) (there : Among (native k) (nati
     as_wrapped-made : wrapped h (Some (native k)) ≡ with_reflector h k
     as_wrapped-made = ap (wrapped_by h k) none
 
-    pub reflector_made-sound : IsSound [] (with_reflector h k)
-    reflector_made-sound = with_reflector-sound [] h k there none s
+    pub reflector_made-sound : IsSound owned (with_reflector h k)
+    reflector_made-sound = with_reflector-sound owned h k there none s
 
     pub reflector_made-stands : IsReached h (Some (native k)) → StandsAfter h (with_reflector h k) (λ g. graph.wrapped g (Some (native k)))
     reflector_made-stands r = subst (λ l. StandsAfter h l (λ g. graph.wrapped g (Some (native k)))) as_wrapped-made (wrapped-stands r)
@@ -106,7 +106,7 @@ module _ (h : Heap) (k : ℕ) (s : IsSound [] h) (there : Among (native k) (nati
 
     -- and every snapshot that was fresh is fresh.
     pub reflector_made-keeps_fresh : KeepsFresh h (with_reflector h k)
-    reflector_made-keeps_fresh t = reflector_made-fresh [] h t k s there none
+    reflector_made-keeps_fresh t = reflector_made-fresh owned h t k s there none
 
     -- No unreached native is forgotten, where the native is reached.
     pub reflector_made-keeps_suspected : IsReached h (Some (native k)) → KeepsSuspected h (with_reflector h k)

@@ -1,6 +1,6 @@
 -- A REFLECTOR PRESERVED that is there: the heaps stand for the graph in which it is, the colour invariant stays, every
 -- snapshot that was fresh is fresh where it is not gray, and no unreached native is forgotten.
-use Rattle.std.proofs.Common.{◌≡◌, ℕ, ◌==◌, Bool, true, false, [], ◌∷◌, Option, Some, None, option_map, refl, sym, ◌∙◌, ap, is_some, ⊎_elim}
+use Rattle.std.proofs.Common.{◌≡◌, ℕ, ◌==◌, Bool, true, false, List, [], ◌∷◌, Option, Some, None, option_map, refl, sym, ◌∙◌, ap, is_some, ⊎_elim}
 use Rattle.std.specs.List.{filter, flat_map}
 use Rattle.std.proofs.lemmas.Bool.{true≢false}
 use Rattle.cc_lists.specs.Members.{Among}
@@ -31,10 +31,10 @@ use Rattle.cc_laws_snapshot.proofs.ReachedStays.{native-edge, reached-kept}
 use Rattle.cc_heaps.specs.Standing.{IsReached, MayHold, StandsAfter, KeepsFresh, KeepsSuspected, KeepsColours}
 use Rattle.cc_heaps.proofs.Reflecting.{there-made, Follows-reflector}
 
-module _ (h : Heap) (k : ℕ) (s : IsSound [] h) (there : Among (reflector k) (script_names h)) where
+module _ {owned : List ℕ} (h : Heap) (k : ℕ) (s : IsSound owned h) (there : Among (reflector k) (script_names h)) where
   -- A REFLECTOR PRESERVED leaves the heaps sound.
-  pub preserved-sound : IsSound [] (set_preserved h k true)
-  preserved-sound = set_preserved-sound [] h k there s
+  pub preserved-sound : IsSound owned (set_preserved h k true)
+  preserved-sound = set_preserved-sound owned h k there s
 
   -- They stand for the graph in which it is preserved, where its native is reached.
   pub preserved-stands : IsReached h (Some (native k)) → StandsAfter h (set_preserved h k true) (λ g. graph.preserve g (Some (reflector k)))

@@ -1,6 +1,6 @@
 -- WHAT COMES INTO A SLOT OF A SCRIPT OBJECT OR A SCRIPT REGISTER, a reflector among them: the heaps stand for the graph in
 -- which it is written.
-use Rattle.std.proofs.Common.{◌≡◌, ℕ, true, [], Option, Some, None, refl, sym, ◌∙◌, ap, subst, inl, ⊎_elim}
+use Rattle.std.proofs.Common.{◌≡◌, ℕ, true, List, Option, Some, None, refl, sym, ◌∙◌, ap, subst, inl, ⊎_elim}
 use Rattle.cc_lists.specs.Members.{Among}
 use Rattle.cc_names.specs.declared.name.Name.{Name}
 use Rattle.cc_names.specs.declared.name.Name.TheVariants as name
@@ -39,15 +39,15 @@ handed-reached h g (Some x) w m s r = in-reached h g w m s x r
 
 -- A SCRIPT REGISTER WRITTEN with what is reached, or with the reflector of a native that is: the heaps stand for the graph
 -- in which it is.
-pub held_script-stands : (h : Heap) (d : ℕ) (x : Option Name) → IsSound [] h → IsIn (script_names h) x → IsReachedOrReflects h x →
+pub held_script-stands : {owned : List ℕ} (h : Heap) (d : ℕ) (x : Option Name) → IsSound owned h → IsIn (script_names h) x → IsReachedOrReflects h x →
     StandsAfter h (hold_script h d x) (λ g. graph.set_register g (S d) x)
-held_script-stands h d x s there r g m t = (well, go x there r)
+held_script-stands {owned} h d x s there r g m t = (well, go x there r)
   where
     well : IsWellMade (graph.set_register g (S d) x)
     well = IsWellMade-script_register g d x m (held-made h g x s.well_formed t there)
 
     stands : (P : Name → Type 0) (y : Option Name) → IsIn (script_names h) y → OfSome P y → Follows P h g → StandsFor (hold_script h d y) (graph.set_register g (S d) y)
-    stands P y in_it p f = follows-stands P (hold_script h d y) (graph.set_register g (S d) y) (hold_script-sound [] h d y in_it s).well_formed
+    stands P y in_it p f = follows-stands P (hold_script h d y) (graph.set_register g (S d) y) (hold_script-sound owned h d y in_it s).well_formed
         (IsWellMade-script_register g d y m (held-made h g y s.well_formed t in_it)) (Follows-hold_script P h g d y y refl p f)
 
     start : Follows (Reached g) h g
@@ -86,10 +86,10 @@ preserved-in h g (name.Reflector k) w m s at d may = λ j t e i.
     let same : own.shape ≡ t = cc in
     sym (ap (λ (v : Shape). v.preserved) same) ∙ kept
 
-module _ (h : Heap) (x : Name) (i : ℕ) (y : Option Name) (s : IsSound [] h) (at : Among x (script_names h)) (there : IsIn (script_names h) y) where
+module _ {owned : List ℕ} (h : Heap) (x : Name) (i : ℕ) (y : Option Name) (s : IsSound owned h) (at : Among x (script_names h)) (there : IsIn (script_names h) y) where
   -- A SLOT OF A SCRIPT OBJECT WRITTEN leaves the heaps sound.
-  pub slot_written-sound : IsSound [] (set_slot h (Some x) i y)
-  slot_written-sound = script_slot-sound [] h (Some x) i y (λ z m. ⊎_elim (λ e. subst (λ w. Among w (script_names h)) e at) (λ t. absurd t) m) there s
+  pub slot_written-sound : IsSound owned (set_slot h (Some x) i y)
+  slot_written-sound = script_slot-sound owned h (Some x) i y (λ z m. ⊎_elim (λ e. subst (λ w. Among w (script_names h)) e at) (λ t. absurd t) m) there s
 
   -- They stand for the graph in which it is written, where both are reached and the object may hold something.
   pub slot_written-stands : IsReached h (Some x) → IsReached h y → MayHold h (Some x) → StandsAfter h (set_slot h (Some x) i y) (λ g. graph.set_slot g (Some x) i y)

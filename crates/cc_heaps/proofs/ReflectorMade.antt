@@ -41,7 +41,7 @@ within-read [] q k e = absurd (cc)
 within-read (x ∷ xs) zero k e = omega arith
 within-read (x ∷ xs) (suc q) k e = omega (arith, within-read xs q k e)
 
-module _ (p : Inside) (l : IsLinked p) (o : IsInOrder [] (keyed_of p)) (key : NKey) (live : is_some (number_at (keyed_of p) key.0) ≡ true)
+module _ {owned : List ℕ} (p : Inside) (l : IsLinked p) (o : IsInOrder owned (keyed_of p)) (key : NKey) (live : is_some (number_at (keyed_of p) key.0) ≡ true)
     (lacks : has_reflector (heap_of p) (the_number (keyed_of p) key.0) ≡ false) (at : ℕ) (vacant : is_there p.scripts at ≡ false) where
   abbrev v : Keyed
   v = keyed_of p
@@ -54,7 +54,7 @@ module _ (p : Inside) (l : IsLinked p) (o : IsInOrder [] (keyed_of p)) (key : NK
   numbered = number-some (number_at v key.0) live
 
   there : Among (native k) (native_names v.heap)
-  there = number-there [] v key.0 o live
+  there = number-there owned v key.0 o live
 
   -- the object that is made, and all objects then
   abbrev new : Object
@@ -73,8 +73,8 @@ module _ (p : Inside) (l : IsLinked p) (o : IsInOrder [] (keyed_of p)) (key : NK
   abbrev pub made : Heap
   made = with_reflector v.heap k
 
-  sound : IsSound [] made
-  sound = with_reflector-sound [] v.heap k there lacks o.sound
+  sound : IsSound owned made
+  sound = with_reflector-sound owned v.heap k there lacks o.sound
 
   -- Natives and their reflectors
 
@@ -163,8 +163,8 @@ module _ (p : Inside) (l : IsLinked p) (o : IsInOrder [] (keyed_of p)) (key : NK
     reflector-keys = subst (KeepsKeys v) (sym reflector-keyed) (record { natives = λ q j e m. e; scripts = λ q x e m. kept q x e })
 
     -- and they stay in order.
-    pub reflector-order : IsInOrder [] (keyed_of whole)
-    reflector-order = subst (IsInOrder []) (sym reflector-keyed) (record {
+    pub reflector-order : IsInOrder owned (keyed_of whole)
+    reflector-order = subst (IsInOrder owned) (sym reflector-keyed) (record {
       sound = sound;
       keyed = HasKeys-keyed (record v { scripts = objects }) made p.counted.keys
           (HasKeys-numbers (counts_in v.heap p.counted.keys) made.natives made.buffer []
@@ -180,24 +180,24 @@ module _ (p : Inside) (l : IsLinked p) (o : IsInOrder [] (keyed_of p)) (key : NK
     })
 
 -- the second parts are those in which the reflector of native k is made at a key
-pub record IsReflectorMade (p q : Inside) (k at : ℕ) : Type 0 where
+pub record IsReflectorMade (owned : List ℕ) (p q : Inside) (k at : ℕ) : Type 0 where
   pub heap : heap_of q ≡ with_reflector (heap_of p) k
   pub natives : (keyed_of q).keys ≡ p.counted.keys
   pub name : name_at q.scripts at ≡ Some (reflector k)
   pub keys : KeepsKeys (keyed_of p) (keyed_of q)
-  pub order : IsInOrder [] (keyed_of q)
+  pub order : IsInOrder owned (keyed_of q)
   pub linked : IsLinked q
 
 -- A REFLECTOR MADE: what the three calls come to
-module _ (p : Inside) (l : IsLinked p) (o : IsInOrder [] (keyed_of p)) (key : NKey) (live : is_some (number_at (keyed_of p) key.0) ≡ true)
+module _ {owned : List ℕ} (p : Inside) (l : IsLinked p) (o : IsInOrder owned (keyed_of p)) (key : NKey) (live : is_some (number_at (keyed_of p) key.0) ≡ true)
     (lacks : has_reflector (heap_of p) (the_number (keyed_of p) key.0) ≡ false) (at : ℕ) (vacant : is_there p.scripts at ≡ false) where
   pub reflector-made : (number : ℕ) → Some number ≡ number_at (keyed_of p) key.0 →
       (os : List Object) → os ≡ p.scripts ++ reflector_object at key.0 number ∷ [] →
       (d : Counts) → d ≡ counts.with_reflector p.counted key.0 (Some at) →
       (next : Counts) → next ≡ with_heap d (add_ref (counts.heap_of d) (counts.the_number d key.0)) →
-      IsReflectorMade p (record p { counted = next; scripts = os }) (the_number (keyed_of p) key.0) at
+      IsReflectorMade owned p (record p { counted = next; scripts = os }) (the_number (keyed_of p) key.0) at
   reflector-made number e os f d told next is =
-      subst (λ objects. IsReflectorMade p (record p { counted = next; scripts = objects }) (the_number (keyed_of p) key.0) at)
+      subst (λ objects. IsReflectorMade owned p (record p { counted = next; scripts = objects }) (the_number (keyed_of p) key.0) at)
       (sym (f ∙ ap (λ n. p.scripts ++ reflector_object at key.0 n ∷ []) (ap number_or_none e))) (record {
         heap = ap (λ (w : Keyed). w.heap) (reflector-keyed p l o key live lacks at vacant next same);
         natives = ap (λ (w : Keyed). w.keys) (reflector-keyed p l o key live lacks at vacant next same);

@@ -115,7 +115,7 @@ black_roots p = keys_in_registers p.script_registers.items
 abbrev pub gray_roots : Inside → List ℕ
 gray_roots p = keys_held p.counted p.counted.natives
 
-module _ (p : Inside) (l : IsLinked p) (o : IsInOrder [] (keyed_of p)) where
+module _ {owned : List ℕ} (p : Inside) (l : IsLinked p) (o : IsInOrder owned (keyed_of p)) where
   -- WHAT NATIVES HOLD
   native-names : AreNamesOf p.scripts (gray_roots p) (scripts_held (heap_of p))
   native-names = record {
@@ -132,7 +132,7 @@ module _ (p : Inside) (l : IsLinked p) (o : IsInOrder [] (keyed_of p)) where
   }
     where
       keyed : HasKeys p.counted
-      keyed = keys-counted [] p l o
+      keyed = keys-counted owned p l o
 
       w : IsWellFormed (heap_of p)
       w = o.sound.well_formed

@@ -44,11 +44,11 @@ use Rattle.cc_heaps.proofs.ScriptsChanged.{KeepsNames, KeepsNames-there, KeepsNa
 use Rattle.cc_heaps.proofs.ScriptWrites.{KeepsObjects, KeepsNames-written, one_key-written, reflectors-written, reflecting-written, raise_among, KeepsObjects-raised, whole-raised, exposed-named, write_slot, KeepsObjects-slot, whole-slot, slot-named}
 
 -- the second parts hold these heaps, fit together and are in order, and what is there keeps its key and its name
-pub record Becomes (p q : Inside) (h : Heap) : Type 0 where
+pub record Becomes (owned : List ℕ) (p q : Inside) (h : Heap) : Type 0 where
   pub heap : heap_of q ≡ h
   pub names : KeepsNames p.scripts q.scripts
   pub keys : KeepsKeys (keyed_of p) (keyed_of q)
-  pub order : IsInOrder [] (keyed_of q)
+  pub order : IsInOrder owned (keyed_of q)
   pub linked : IsLinked q
 
 -- the name of what is there is the name of a script object
@@ -76,59 +76,59 @@ unfolding exposed
 nothing-exposed v None none = refl
 nothing-exposed v (Some key) none = absurd (none key refl)
 
-module _ (p : Inside) (l : IsLinked p) (o : IsInOrder [] (keyed_of p)) where
+module _ {owned : List ℕ} (p : Inside) (l : IsLinked p) (o : IsInOrder owned (keyed_of p)) where
   -- other script objects, as the definitions change them
-  becomes : (objects : List Object) (made : ℕ) (h : Heap) → KeepsNames p.scripts objects → with_named (heap_of p) objects made ≡ h → IsSound [] h →
+  becomes : (objects : List Object) (made : ℕ) (h : Heap) → KeepsNames p.scripts objects → with_named (heap_of p) objects made ≡ h → IsSound owned h →
       HasOneKey objects → AreWhole objects →
       reflectors_by objects p.counted.keys ≡ reflectors_by p.scripts p.counted.keys → ((q : Object) → Among q objects → Reflects (keyed_of p) q.name q.native) →
-      Becomes p (with_objects p objects made) h
+      Becomes owned p (with_objects p objects made) h
   becomes objects made h kept e s one whole reflectors reflecting =
-      let sound : IsSound [] (with_named (heap_of p) objects made) = subst (IsSound []) (sym e) s in record {
+      let sound : IsSound owned (with_named (heap_of p) objects made) = subst (IsSound owned) (sym e) s in record {
         heap = heap-objects p objects made kept l o.entries_there ∙ e;
         names = kept;
         keys = keys-objects p objects made kept l;
-        order = order-objects p objects made kept l [] sound one reflectors whole reflecting o;
-        linked = linked-objects p objects made kept l [] sound one reflectors;
+        order = order-objects p objects made kept l owned sound one reflectors whole reflecting o;
+        linked = linked-objects p objects made kept l owned sound one reflectors;
       }
 
   -- each object written
-  becomes-written : (f : Object → Object) → KeepsObjects f → (h : Heap) → with_named (heap_of p) (map f p.scripts) p.scripts_made ≡ h → IsSound [] h →
-      AreWhole (map f p.scripts) → Becomes p (with_objects p (map f p.scripts) p.scripts_made) h
+  becomes-written : (f : Object → Object) → KeepsObjects f → (h : Heap) → with_named (heap_of p) (map f p.scripts) p.scripts_made ≡ h → IsSound owned h →
+      AreWhole (map f p.scripts) → Becomes owned p (with_objects p (map f p.scripts) p.scripts_made) h
   becomes-written f keeps h e s whole = becomes (map f p.scripts) p.scripts_made h (KeepsNames-written f keeps p.scripts) e s
       (one_key-written f keeps p.scripts l.one_key) whole
       (reflectors-written f keeps p.scripts p.counted.keys) (reflecting-written f keeps p.scripts (keyed_of p) o.reflecting)
 
   -- AN EXPOSURE
   pub becomes-exposed : (key : ℕ) → IsTrue (is_there p.scripts key) → (objects : List Object) → objects ≡ raised_among (keys_reached p.scripts (key ∷ [])) Black p.scripts →
-      Becomes p (with_objects p objects p.scripts_made) (exposed (heap_of p) (name_at p.scripts key))
+      Becomes owned p (with_objects p objects p.scripts_made) (exposed (heap_of p) (name_at p.scripts key))
   becomes-exposed key t objects e =
       let n = there-named p.scripts key t in
-      subst (λ os. Becomes p (with_objects p os p.scripts_made) (exposed (heap_of p) (name_at p.scripts key))) (sym e)
+      subst (λ os. Becomes owned p (with_objects p os p.scripts_made) (exposed (heap_of p) (name_at p.scripts key))) (sym e)
       (becomes-written (raise_among (keys_reached p.scripts (key ∷ []))) (KeepsObjects-raised (keys_reached p.scripts (key ∷ []))) (exposed (heap_of p) (name_at p.scripts key))
       (exposed-named p.scripts l.one_key l.one_name key n.0 n.1 (heap_of p) ∙ ap (exposed (heap_of p)) (sym n.1))
-      (exposed-sound [] (heap_of p) (name_at p.scripts key) o.sound)
+      (exposed-sound owned (heap_of p) (name_at p.scripts key) o.sound)
       (whole-raised (keys_reached p.scripts (key ∷ [])) p.scripts o.whole))
 
   -- of what comes into a register
   pub content-exposed : (content : Option SKey) (key : SKey) → content ≡ Some key → IsScriptThere (keyed_of p) content → (objects : List Object) →
       objects ≡ raised_among (keys_reached p.scripts (key.0 ∷ [])) Black p.scripts →
-      Becomes p (with_objects p objects p.scripts_made) (exposed (heap_of p) (script_name (keyed_of p) content))
-  content-exposed content key is there objects e = subst (λ x. Becomes p (with_objects p objects p.scripts_made) (exposed (heap_of p) (script_name (keyed_of p) x))) (sym is)
+      Becomes owned p (with_objects p objects p.scripts_made) (exposed (heap_of p) (script_name (keyed_of p) content))
+  content-exposed content key is there objects e = subst (λ x. Becomes owned p (with_objects p objects p.scripts_made) (exposed (heap_of p) (script_name (keyed_of p) x))) (sym is)
       (becomes-exposed key.0 (subst (λ x. IsScriptThere (keyed_of p) x) is there) objects e)
 
   -- A SLOT WRITTEN
   pub becomes-slot : (key i : ℕ) (item : Option SKey) → IsTrue (is_there p.scripts key) → IsScriptThere (keyed_of p) item → (objects : List Object) →
       objects ≡ change_object p.scripts key (with_slot i (option_map (λ k. k.0) item)) →
-      Becomes p (with_objects p objects p.scripts_made) (set_slot (heap_of p) (name_at p.scripts key) i (script_name (keyed_of p) item))
+      Becomes owned p (with_objects p objects p.scripts_made) (set_slot (heap_of p) (name_at p.scripts key) i (script_name (keyed_of p) item))
   becomes-slot key i item t there objects e =
       let n = there-named p.scripts key t in
       let f = name_at-found p.scripts key n.0 n.1 in
-      subst (λ os. Becomes p (with_objects p os p.scripts_made) (set_slot (heap_of p) (name_at p.scripts key) i (script_name (keyed_of p) item))) (sym e)
+      subst (λ os. Becomes owned p (with_objects p os p.scripts_made) (set_slot (heap_of p) (name_at p.scripts key) i (script_name (keyed_of p) item))) (sym e)
       (becomes-written (write_slot key i (option_map (λ k. k.0) item)) (KeepsObjects-slot key i (option_map (λ k. k.0) item))
       (set_slot (heap_of p) (name_at p.scripts key) i (script_name (keyed_of p) item))
       (slot-named p.scripts l.one_key l.one_name key n.0 n.1 (subst (λ x. is_native x ≡ false) f.3 (l.script_names f.0 f.1)) i (option_map (λ k. k.0) item) (heap_of p)
       ∙ (λ j. set_slot (heap_of p) (sym n.1 j) i (content item j)))
-      (script_slot-sound [] (heap_of p) (name_at p.scripts key) i (script_name (keyed_of p) item)
+      (script_slot-sound owned (heap_of p) (name_at p.scripts key) i (script_name (keyed_of p) item)
       (subst (λ z. IsIn (script_names (heap_of p)) z) (sym n.1)
       (λ y m. ⊎_elim (λ e. subst (λ z. Among z (script_names (heap_of p))) e (name-among p key n.0 n.1)) (λ t. absurd t) m))
       (content-among p item there) o.sound)
@@ -151,13 +151,13 @@ module _ (p : Inside) (l : IsLinked p) (o : IsInOrder [] (keyed_of p)) where
   register-same (Some key) = refl
 
   pub becomes-register : (r : ℕ) (content : Option SKey) → IsScriptThere (keyed_of p) content →
-      Becomes p (with_register r content) (set_register (heap_of p) (s_register r) (script_name (keyed_of p) content))
+      Becomes owned p (with_register r content) (set_register (heap_of p) (s_register r) (script_name (keyed_of p) content))
   becomes-register r content there = record {
     heap = registers;
     names = λ key x e. e;
     keys = record { natives = λ key k e m. e; scripts = λ key x e m. e };
     order = record {
-      sound = subst (IsSound []) (sym registers) (script_register-sound [] (heap_of p) r (script_name (keyed_of p) content) (content-among p content there) o.sound);
+      sound = subst (IsSound owned) (sym registers) (script_register-sound owned (heap_of p) r (script_name (keyed_of p) content) (content-among p content there) o.sound);
       keyed = o.keyed;
       named = refl;
       one_key = o.one_key;
@@ -290,7 +290,7 @@ made-fits number None few = refl
 made-fits number (Some n) few = subst (λ i. i ≤ 64) (sym (length-replicate n None)) few
 
 -- AN OBJECT MADE: a plain one or a weak map
-module _ (p : Inside) (l : IsLinked p) (o : IsInOrder [] (keyed_of p)) (key : ℕ) (slots : Option ℕ) (vacant : is_there p.scripts key ≡ false) where
+module _ {owned : List ℕ} (p : Inside) (l : IsLinked p) (o : IsInOrder owned (keyed_of p)) (key : ℕ) (slots : Option ℕ) (vacant : is_there p.scripts key ≡ false) where
   abbrev new : Object
   new = object_to_make key (p.scripts_made + 1) slots
 
@@ -315,13 +315,13 @@ module _ (p : Inside) (l : IsLinked p) (o : IsInOrder [] (keyed_of p)) (key : �
   reflectors = ap (λ its. map (λ j. option_and_then its j) p.counted.keys) (fun_ext (λ k. key_of-made p.scripts l.one_key o.whole new n refl vacant (reflector k) refl))
 
   pub becomes-made : IfSome slots (λ n. n ≤ 64) → p.scripts_made < p.limits.scripts → (os : List Object) → os ≡ objects →
-      Becomes p (with_objects p os (p.scripts_made + 1)) (with_object (heap_of p) kind n)
+      Becomes owned p (with_objects p os (p.scripts_made + 1)) (with_object (heap_of p) kind n)
   becomes-made few room os e =
-      subst (λ os. Becomes p (with_objects p os (p.scripts_made + 1)) (with_object (heap_of p) kind n)) (sym e)
+      subst (λ os. Becomes owned p (with_objects p os (p.scripts_made + 1)) (with_object (heap_of p) kind n)) (sym e)
       (becomes p l o objects (p.scripts_made + 1) (with_object (heap_of p) kind n)
       (KeepsNames-made p.scripts l.one_key o.whole new n refl vacant)
       (ap (λ scripts. record (heap_of p) { scripts = scripts; scripts_made = p.scripts_made + 1 }) named)
-      (with_script-sound [] (heap_of p) (blank (object (p.scripts_made + 1)) kind n) (p.scripts_made + 1)
+      (with_script-sound owned (heap_of p) (blank (object (p.scripts_made + 1)) kind n) (p.scripts_made + 1)
       (IsNewScript-object (heap_of p) kind n o.sound.well_formed (made-fits (p.scripts_made + 1) slots few) room) o.sound)
       (one_key-made p.scripts l.one_key o.whole new n refl vacant)
       (whole-made p.scripts l.one_key o.whole new n refl vacant)

@@ -1,5 +1,5 @@
 -- A SLOT OF A NATIVE READ AND WRITTEN, where the rest of the parts stands beside the counted heap.
-use Rattle.std.proofs.Common.{◌≡◌, ℕ, ◌<◌, true, [], ◌++◌, length, get_or, Option, Some, None, IsTrue, option_map, refl, sym, ◌∙◌, ap, subst, arith}
+use Rattle.std.proofs.Common.{◌≡◌, ℕ, ◌<◌, true, List, [], ◌++◌, length, get_or, Option, Some, None, IsTrue, option_map, refl, sym, ◌∙◌, ap, subst, arith}
 use Rattle.std.specs.Option.{is_some}
 use Rattle.std.proofs.Math.ListN.{get_or-map}
 use Rattle.std.proofs.lemmas.List.{length-map}
@@ -101,12 +101,12 @@ module _ (p : Inside) (l : IsLinked p) (k : ℕ) where
     pub was-there : IsThere v was → IsThere (keyed_of (with_counted p next)) was
     was-there held = subst (λ (w : Keyed). IsThere w was) (sym written-keyed) held
 
-    pub written-order : i < length (slots_now (native_at v.heap k)) → held_name v was ≡ get_or (slots_now (native_at v.heap k)) i None →
-        IsInOrder (numbers_of (held_name v x) ++ []) v → IsInOrder (numbers_of (held_name (keyed_of (with_counted p next)) was) ++ []) (keyed_of (with_counted p next))
-    written-order within read o =
+    pub written-order : (owned : List ℕ) → i < length (slots_now (native_at v.heap k)) → held_name v was ≡ get_or (slots_now (native_at v.heap k)) i None →
+        IsInOrder (numbers_of (held_name v x) ++ owned) v → IsInOrder (numbers_of (held_name (keyed_of (with_counted p next)) was) ++ owned) (keyed_of (with_counted p next))
+    written-order owned within read o =
         let n = has-slot (native_at v.heap k) i within in
-        subst (λ (w : Keyed). IsInOrder (numbers_of (held_name w was) ++ []) w) (sym written-keyed)
-        (subst (λ y. IsInOrder (numbers_of y ++ []) (changed_to v (set_slot v.heap (Some (native k)) i (held_name v x))))
+        subst (λ (w : Keyed). IsInOrder (numbers_of (held_name w was) ++ owned) w) (sym written-keyed)
+        (subst (λ y. IsInOrder (numbers_of y ++ owned) (changed_to v (set_slot v.heap (Some (native k)) i (held_name v x))))
         (sym (read ∙ ap (λ m. get_or (slots_now m) i None) n.1))
-        (IsInOrder-slot v k i n.0 (held_name v x) n.1 (subst (λ m. i < length (slots_now m)) n.1 within)
-        (held-in (numbers_of (held_name v x) ++ []) v x o) o))
+        (IsInOrder-slot owned v k i n.0 (held_name v x) n.1 (subst (λ m. i < length (slots_now m)) n.1 within)
+        (held-in (numbers_of (held_name v x) ++ owned) v x o) o))

@@ -1,6 +1,6 @@
 -- WHAT A CHANGE MAKES OF THE GRAPHS THAT THE HEAPS STAND FOR. What is handed in is reached, so it was made, and the changed
 -- graph is well made; the changed heaps follow it, and are well formed, so they stand for it.
-use Rattle.std.proofs.Common.{◌≡◌, ℕ, ◌<◌, ◌≤◌, true, [], get_or, Option, Some, None, is_some, option_map, refl, sym, ap, subst, inl}
+use Rattle.std.proofs.Common.{◌≡◌, ℕ, ◌<◌, ◌≤◌, true, List, [], get_or, Option, Some, None, is_some, option_map, refl, sym, ap, subst, inl}
 use Rattle.std.specs.Prelude.{IfSome, IsTrue}
 use Rattle.std.specs.Option.{option_and_then}
 use Rattle.std.proofs.lemmas.Bool.{false≢true, le-leb, lt-leb, lt-ltb}
@@ -123,12 +123,12 @@ module _ (h : Heap) (w : IsWellFormed h) where
       (λ j a e. absurd (cc)) (Follows-left (Reached g) h (take_up h x) g (Leaves-take_up h x) t)))
 
 -- A command that is not refused.
-command-stands_after : (h : Heap) (c : Command) → IsSound [] h → IsTrue (in_range c) → refusal_of (objects_of h) c ≡ None →
+command-stands_after : {owned : List ℕ} (h : Heap) (c : Command) → IsSound owned h → IsTrue (in_range c) → refusal_of (objects_of h) c ≡ None →
     StandsAfter h (effects h c).heap (λ g. step g c)
 command-stands_after h c s range taken g m t = (step-well g m c range, command-stands h g c s m t range taken)
 
 -- A native is made.
-pub make_native-stands : (h : Heap) (d n : ℕ) → IsSound [] h → d < 256 → n ≤ 64 → h.natives_made < h.limits.natives →
+pub make_native-stands : {owned : List ℕ} (h : Heap) (d n : ℕ) → IsSound owned h → d < 256 → n ≤ 64 → h.natives_made < h.limits.natives →
     StandsAfter h (make_native h d n).heap (λ g. step g (Native d n))
 unfolding effects refusal_of
 make_native-stands h d n s room few allowed = command-stands_after h (Native d n) s (rw (lt-ltb d 256 room, le-leb n 64 few) refl)
@@ -141,14 +141,14 @@ made-not_refused h d None allowed = rw (lt-leb h.limits.scripts h.scripts_made a
 made-not_refused h d (Some n) allowed = rw (lt-leb h.limits.scripts h.scripts_made allowed) refl
 
 -- A script object is made.
-pub make_object-stands : (h : Heap) (d : ℕ) (slots : Option ℕ) → IsSound [] h → d < 256 → IfSome slots (λ n. n ≤ 64) → h.scripts_made < h.limits.scripts →
+pub make_object-stands : {owned : List ℕ} (h : Heap) (d : ℕ) (slots : Option ℕ) → IsSound owned h → d < 256 → IfSome slots (λ n. n ≤ 64) → h.scripts_made < h.limits.scripts →
     StandsAfter h (make_object h d (kind_to_make slots) (slots_to_make slots)) (λ g. step g (command_to_make d slots))
 make_object-stands h d slots s room few allowed = subst (λ k. StandsAfter h k (λ g. step g (command_to_make d slots))) (made-effects h d slots)
     (command-stands_after h (command_to_make d slots) s (made-ranges d slots room few) (made-not_refused h d slots allowed))
 
 -- The heaps with their keys
 
-module _ (v w : Keyed) (o : IsInOrder [] v) (p : IsInOrder [] w) where
+module _ {owned : List ℕ} (v w : Keyed) (o : IsInOrder owned v) (p : IsInOrder owned w) where
   -- where the heaps afterwards are well formed, as they are in order
   changed-stands : (k : Heap) (change : Graph → Graph) → w.heap ≡ k → (IsWellFormed k → StandsAfter v.heap k change) → StandsAfter v.heap w.heap change
   changed-stands k change e f = subst (λ l. StandsAfter v.heap l change) (sym e) (f (subst IsWellFormed e p.sound.well_formed))
@@ -157,13 +157,13 @@ module _ (v w : Keyed) (o : IsInOrder [] v) (p : IsInOrder [] w) where
   pub native_register-stands : (d : ℕ) (x : Option NKey) → w ≡ left_with v (hold_native v.heap d (native_name v x)).heap → IsReached v.heap (native_name v x) →
       StandsAfter v.heap w.heap (λ g. graph.set_register g (N d) (native_name v x))
   native_register-stands d x e r = changed-stands (hold_native v.heap d (native_name v x)).heap (λ g. graph.set_register g (N d) (native_name v x))
-      (ap (λ (u : Keyed). u.heap) e) (hold_native-stands v.heap o.sound.well_formed d (native_name v x) (native-in [] v x o) r)
+      (ap (λ (u : Keyed). u.heap) e) (hold_native-stands v.heap o.sound.well_formed d (native_name v x) (native-in owned v x o) r)
 
   -- A script register is written.
   pub script_register-stands : (d : ℕ) (x : Option SKey) → w.heap ≡ hold_script v.heap d (script_name v x) → IsReachedOrReflects v.heap (script_name v x) →
       StandsAfter v.heap w.heap (λ g. graph.set_register g (S d) (script_name v x))
   script_register-stands d x e r = subst (λ k. StandsAfter v.heap k (λ g. graph.set_register g (S d) (script_name v x))) (sym e)
-      (held_script-stands v.heap d (script_name v x) o.sound (script_name-there [] v o x) r)
+      (held_script-stands v.heap d (script_name v x) o.sound (script_name-there owned v o x) r)
 
   -- A slot of a native is written with what is held.
   pub native_slot-stands : (k i : ℕ) (x : Option Held) → w ≡ left_with v (stored_in v.heap k i (held_name v x)).heap →
@@ -183,4 +183,4 @@ module _ (v w : Keyed) (o : IsInOrder [] v) (p : IsInOrder [] w) where
       (subst (λ y. IsReached v.heap y → IsReached v.heap (script_name v x) → MayHold v.heap y →
       StandsAfter v.heap (set_slot v.heap y i (script_name v x)) (λ g. graph.set_slot g y i (script_name v x))) (sym n.1)
       (slot_written-stands v.heap n.0 i (script_name v x) o.sound
-      (subst (λ y. IsIn (script_names v.heap) y) n.1 (name_at-there [] v o key) n.0 (inl refl)) (script_name-there [] v o x)))
+      (subst (λ y. IsIn (script_names v.heap) y) n.1 (name_at-there owned v o key) n.0 (inl refl)) (script_name-there owned v o x)))

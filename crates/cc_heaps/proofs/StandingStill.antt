@@ -59,8 +59,8 @@ StillStands-left : (h k : Heap) → IsWellFormed h → IsWellFormed k → Leaves
 StillStands-left h k w v l g m s = follows-stands (Reached g) k g v m (Follows-left (Reached g) h k g l (stands-follows h g w s))
 
 -- Something is exposed.
-pub exposed-still : (h : Heap) (x : Option Name) → IsSound [] h → StillStands h (exposed h x)
-exposed-still h x s = StillStands-left h (exposed h x) s.well_formed (exposed-sound [] h x s).well_formed (Leaves-exposed h x)
+pub exposed-still : {owned : List ℕ} (h : Heap) (x : Option Name) → IsSound owned h → StillStands h (exposed h x)
+exposed-still {owned} h x s = StillStands-left h (exposed h x) s.well_formed (exposed-sound owned h x s).well_formed (Leaves-exposed h x)
 
 -- a marking changes colours alone
 Leaves-marked : (h : Heap) → Leaves h (marked h)
@@ -76,8 +76,8 @@ Leaves-marked h = record {
 }
 
 -- The script objects are marked.
-pub marked-still : (h : Heap) → IsSound [] h → StillStands h (marked h)
-marked-still h s = StillStands-left h (marked h) s.well_formed (IsSound-marked [] h s).well_formed (Leaves-marked h)
+pub marked-still : {owned : List ℕ} (h : Heap) → IsSound owned h → StillStands h (marked h)
+marked-still {owned} h s = StillStands-left h (marked h) s.well_formed (IsSound-marked owned h s).well_formed (Leaves-marked h)
 
 -- The buffer
 
@@ -162,7 +162,7 @@ module _ (owned : List ℕ) (h : Heap) (k : ℕ) (s : IsSound (k ∷ owned) h) w
 
 -- Sweeps
 
-module _ (h : Heap) (c : HasColours h) (s : IsSound [] h) where
+module _ {owned : List ℕ} (h : Heap) (c : HasColours h) (s : IsSound owned h) where
   -- heaps whose colours are those of marking are as marking would leave them
   marked-same : marked h ≡ h
   unfolding marked

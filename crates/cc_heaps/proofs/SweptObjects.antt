@@ -89,7 +89,7 @@ reflecting-there p (name.Script k) key q r m = absurd (subst (λ s. Among q (opt
 reflecting-there p (name.Reflector k) None q r m = absurd m
 reflecting-there p (name.Reflector k) (Some s) q r m = ⊎_elim (λ e. subst (λ t. number_at p.counted t ≡ Some (the_number p.counted t)) e (r ∙ ap (λ o. Some (number_or_none o)) (sym r))) (λ t. absurd t) m
 
-module _ (p : Inside) (l : IsLinked p) (o : IsInOrder [] (keyed_of p)) where
+module _ {besides : List ℕ} (p : Inside) (l : IsLinked p) (o : IsInOrder besides (keyed_of p)) where
   white-reflecting : (q : Object) → Among q (whites p.scripts) → Reflects (keyed_of p) q.name q.native
   white-reflecting q m = o.reflecting q (Among-filtered is_white q p.scripts m)
 
@@ -100,18 +100,19 @@ module _ (p : Inside) (l : IsLinked p) (o : IsInOrder [] (keyed_of p)) where
         let f = Among-flat_map_cases (λ (q : Object). option_to_list q.native) (whites p.scripts) key m in
         reflecting-there p f.0.name f.0.native key (white-reflecting f.0 f.1) f.2;
     owned = (
-      stay ++ in_registers p,
-      subst (λ ks. AreOwned (ks ++ (stay ++ in_registers p)) p.counted) (sym (numbers-behind p (whites p.scripts) white-reflecting))
-          (AreOwned-permuted (in_registers p ++ (in_reflectors p ++ [])) (go ++ (stay ++ in_registers p)) p.counted
+      stay ++ (in_registers p ++ besides),
+      subst (λ ks. AreOwned (ks ++ (stay ++ (in_registers p ++ besides))) p.counted) (sym (numbers-behind p (whites p.scripts) white-reflecting))
+          (AreOwned-permuted (in_registers p ++ (in_reflectors p ++ besides)) (go ++ (stay ++ (in_registers p ++ besides))) p.counted
           (λ k. omega (
             arith,
             behind-parted k p.scripts,
-            times-append k go (stay ++ in_registers p),
-            times-append k stay (in_registers p),
-            times-append k (in_registers p) (in_reflectors p ++ []),
-            times-append k (in_reflectors p) [],
+            times-append k go (stay ++ (in_registers p ++ besides)),
+            times-append k stay (in_registers p ++ besides),
+            times-append k (in_registers p) besides,
+            times-append k (in_registers p) (in_reflectors p ++ besides),
+            times-append k (in_reflectors p) besides,
           ))
-          (all-owned [] p (record { order = o; linked = l }))),
+          (all-owned besides p (record { order = o; linked = l }))),
     );
   }
     where
@@ -121,7 +122,7 @@ module _ (p : Inside) (l : IsLinked p) (o : IsInOrder [] (keyed_of p)) where
       stay : List ℕ
       stay = flat_map behind (map (λ q. q.name) (not_white p.scripts))
 
-module _ (p : Inside) (l : IsLinked p) (o : IsInOrder [] (keyed_of p)) (c : HasColours (heap_of p)) where
+module _ {owned : List ℕ} (p : Inside) (l : IsLinked p) (o : IsInOrder owned (keyed_of p)) (c : HasColours (heap_of p)) where
   -- Natives that are left
 
   abbrev final : Left
@@ -155,8 +156,8 @@ module _ (p : Inside) (l : IsLinked p) (o : IsInOrder [] (keyed_of p)) (c : HasC
   -- stand at the keys at which they stood, and have their reflectors, as far as these are left.
   final-keys : IsLeftOf p.counted final.counts (left_objects p)
   final-keys = subst (IsLeftOf p.counted final.counts) same
-      (IsLeftOf-each p (keys-counted [] p l o) (whites p.scripts) p.scripts (untold p.counted) (white-reflecting p l o)
-      (record { keys = sym (keys-there (counts.heap_of p.counted) p.counted.keys (keys-counted [] p l o).there); reflectors = l.reflectors }))
+      (IsLeftOf-each p (keys-counted owned p l o) (whites p.scripts) p.scripts (untold p.counted) (white-reflecting p l o)
+      (record { keys = sym (keys-there (counts.heap_of p.counted) p.counted.keys (keys-counted owned p l o).there); reflectors = l.reflectors }))
     where
       spared : (q : Object) → Among q p.scripts → not (has same_name (white_names p.scripts) q.name) ≡ stays q
       spared q m = ap (λ xs. not (has same_name xs q.name)) (white-unmarked p) ∙ spared-stays p l o c q m
@@ -194,8 +195,8 @@ module _ (p : Inside) (l : IsLinked p) (o : IsInOrder [] (keyed_of p)) (c : HasC
   pub events-swept : final.events ≡ (sweep (heap_of p)).events
   events-swept = sym (ap (λ (t : Outcome). t.events) swept)
 
-  sound : IsSound [] h
-  sound = subst (IsSound []) heap-swept (sweep-sound (heap_of p) c o.sound)
+  sound : IsSound owned h
+  sound = subst (IsSound owned) heap-swept (sweep-sound (heap_of p) c o.sound)
 
   -- The parts afterwards
 
@@ -268,8 +269,8 @@ module _ (p : Inside) (l : IsLinked p) (o : IsInOrder [] (keyed_of p)) (c : HasC
       (Among-map (λ (s : HeapNative). native s.number) r p.counted.natives i)) n.0 n.1)
 
   -- and in order.
-  pub order-swept : IsInOrder [] (keyed_of later)
-  order-swept = subst (IsInOrder []) (sym keyed-later) (record {
+  pub order-swept : IsInOrder owned (keyed_of later)
+  order-swept = subst (IsInOrder owned) (sym keyed-later) (record {
     sound = sound;
     keyed = HasKeys-keyed before h (map (key_left h) p.counted.keys)
         (HasKeys-left (counts_in (heap_of p) p.counted.keys) h [] sound.well_formed natives-before (HasKeys-names (keyed_of p) o.keyed));

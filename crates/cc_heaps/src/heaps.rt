@@ -148,7 +148,7 @@ impl Heaps {
         ensures stands { StillStands self.old.heap self.new.heap }
         ensures colours { KeepsColours self.old.heap self.new.heap }
     {
-        self.counted.root(key);
+        self.take_reference(key);
     }
 
     /// Gives up a reference that the caller owns, and deletes what then has none.

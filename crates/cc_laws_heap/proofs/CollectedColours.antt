@@ -1,5 +1,5 @@
 -- A SCRIPT COLLECTION KEEPS THE HEAPS SOUND, tells what it takes out, and leaves the colours of marking, none of them white.
-use Rattle.std.proofs.Common.{◌≡◌, ◌≢◌, suc, List, [], ◌++◌, length, sym, ◌∙◌, ap, subst}
+use Rattle.std.proofs.Common.{◌≡◌, ◌≢◌, ℕ, suc, List, [], ◌++◌, length, sym, ◌∙◌, ap, subst}
 use Rattle.std.specs.List.{filter}
 use Rattle.cc_lists.specs.Members.{Among, has}
 use Rattle.cc_lists.proofs.Members.{Among-map, Among-filter}
@@ -22,17 +22,17 @@ use Rattle.cc_laws_heap.proofs.RoundsEnd.{next_round, rounds-keep, collect_scrip
 -- Rounds
 
 -- WHAT A ROUND OF SOUND HEAPS KEEPS, A SCRIPT COLLECTION KEEPS.
-pub collecting-keeps : (Q : Outcome → Type 0) → ((o : Outcome) → IsSound [] o.heap → Q o → Q (next_round o)) → (h : Heap) → IsSound [] h → Q (silently h) →
+pub collecting-keeps : {owned : List ℕ} (Q : Outcome → Type 0) → ((o : Outcome) → IsSound owned o.heap → Q o → Q (next_round o)) → (h : Heap) → IsSound owned h → Q (silently h) →
     Q (collect_scripts h)
 unfolding collect_scripts
-collecting-keeps Q step h s q = (rounds-keep (λ o. IsSound [] o.heap × Q o) (λ o c. (round-sound o.heap c.0, step o c.0 c.1)) (suc (length h.scripts)) (silently h) (s, q)).1
+collecting-keeps {owned} Q step h s q = (rounds-keep (λ o. IsSound owned o.heap × Q o) (λ o c. (round-sound o.heap c.0, step o c.0 c.1)) (suc (length h.scripts)) (silently h) (s, q)).1
 
 -- A SCRIPT COLLECTION LEAVES SOUND HEAPS,
-pub collect_scripts-sound : (h : Heap) → IsSound [] h → IsSound [] (collect_scripts h).heap
-collect_scripts-sound h s = collecting-keeps (λ o. IsSound [] o.heap) (λ o s q. round-sound o.heap q) h s s
+pub collect_scripts-sound : {owned : List ℕ} (h : Heap) → IsSound owned h → IsSound owned (collect_scripts h).heap
+collect_scripts-sound {owned} h s = collecting-keeps (λ o. IsSound owned o.heap) (λ o s q. round-sound o.heap q) h s s
 
 -- and what it tells is what it takes out.
-pub collect_scripts-frees : (h : Heap) → IsSound [] h → (xs : List Name) × FreesNames h xs (collect_scripts h)
+pub collect_scripts-frees : {owned : List ℕ} (h : Heap) → IsSound owned h → (xs : List Name) × FreesNames h xs (collect_scripts h)
 collect_scripts-frees h s = collecting-keeps (λ o. (xs : List Name) × FreesNames h xs o)
     (λ o c f. let r = round-frees o.heap c in (f.0 ++ r.0, FreesNames-then h f.0 r.0 o (sweep (marked o.heap)) f.1 r.1))
     h s ([], FreesNames-silently h)
@@ -72,6 +72,6 @@ module _ (h : Heap) (c : HasColours h) (none : unmarked h ≡ []) where
   }
 
 -- A SCRIPT COLLECTION LEAVES THE COLOUR INVARIANT.
-pub collect_scripts-invariant : (h : Heap) → IsSound [] h → HasColourInvariant (view (collect_scripts h).heap)
+pub collect_scripts-invariant : {owned : List ℕ} (h : Heap) → IsSound owned h → HasColourInvariant (view (collect_scripts h).heap)
 collect_scripts-invariant h s = HasColourInvariant-from (collect_scripts h).heap (collect_scripts-sound h s).well_formed
     (IsColoured-colours (collect_scripts h).heap (collect_scripts-colours h) (collect_scripts-unmarked h))

@@ -1,5 +1,5 @@
 -- EACH COMMAND THAT IS NOT REFUSED KEEPS THE COLOURS.
-use Rattle.std.proofs.Common.{◌≡◌, ℕ, ◌+◌, Bool, true, false, ◌≤◌, [], ◌∷◌, ◌++◌, length, Option, Some, None, refl, sym, subst, ⊎_elim, arith, option_map, slice_set}
+use Rattle.std.proofs.Common.{◌≡◌, ℕ, ◌+◌, Bool, true, false, ◌≤◌, List, [], ◌∷◌, ◌++◌, length, Option, Some, None, refl, sym, subst, ⊎_elim, arith, option_map, slice_set}
 use Rattle.std.specs.Prelude.{IsTrue}
 use Rattle.std.proofs.lemmas.Bool.{leb-false}
 use Rattle.cc_lists.specs.Members.{Among}
@@ -100,32 +100,32 @@ set_entry-coloured h (Some m) (Some k) None c = c
 set_entry-coloured h (Some m) (Some k) (Some v) c = preserve-coloured h (Some k) c
 
 -- A command that is not refused keeps the colours.
-pub effects-coloured : (h : Heap) (c : Command) → IsSound [] h → IsColoured h → IsTrue (in_range c) → IsTaken (objects_of h) c →
+pub effects-coloured : {owned : List ℕ} (h : Heap) (c : Command) → IsSound owned h → IsColoured h → IsTrue (in_range c) → IsTaken (objects_of h) c →
     IsColoured (effects h c).heap
 unfolding effects
-effects-coloured h (Native d n) s c r t = SameScripts-coloured h (make_native h d n).heap (make_native-scripts h d n) c
-effects-coloured h (Script d n) s c r t = make_object-coloured h d Plain n s.well_formed c
-effects-coloured h (WeakMap d) s c r t = make_object-coloured h d Map 0 s.well_formed c
-effects-coloured h (CopyNative d q) s c r t = SameScripts-coloured h (hold_native h d (register h (N q))).heap (hold_native-scripts h d (register h (N q))) c
-effects-coloured h (CopyScript d q) s c r t = AreColoured-register h.scripts h.script_registers d (register h (S q)) (script_register-black h q c) c
-effects-coloured h (Drop (N d)) s c r t = SameScripts-coloured h (put_in_register h d None).heap (put_in_register-scripts h d None) c
-effects-coloured h (Drop (S d)) s c r t = AreColoured-register h.scripts h.script_registers d None (λ o m i. absurd i) c
-effects-coloured h (Set d i q) s c r t = SameScripts-coloured h (store_native h d i (source h q)).heap
-    (store_native-scripts [] h d i (source h q) (source-there h q s.well_formed) (leb-false (length (slots_at (objects_of h) (N d))) i t.slot) s) c
-effects-coloured h (Get (N d) q i) s c r t = SameScripts-coloured h (hold_native h d (slot_at (objects_of h) (N q) i)).heap
+effects-coloured {owned} h (Native d n) s c r t = SameScripts-coloured h (make_native h d n).heap (make_native-scripts h d n) c
+effects-coloured {owned} h (Script d n) s c r t = make_object-coloured h d Plain n s.well_formed c
+effects-coloured {owned} h (WeakMap d) s c r t = make_object-coloured h d Map 0 s.well_formed c
+effects-coloured {owned} h (CopyNative d q) s c r t = SameScripts-coloured h (hold_native h d (register h (N q))).heap (hold_native-scripts h d (register h (N q))) c
+effects-coloured {owned} h (CopyScript d q) s c r t = AreColoured-register h.scripts h.script_registers d (register h (S q)) (script_register-black h q c) c
+effects-coloured {owned} h (Drop (N d)) s c r t = SameScripts-coloured h (put_in_register h d None).heap (put_in_register-scripts h d None) c
+effects-coloured {owned} h (Drop (S d)) s c r t = AreColoured-register h.scripts h.script_registers d None (λ o m i. absurd i) c
+effects-coloured {owned} h (Set d i q) s c r t = SameScripts-coloured h (store_native h d i (source h q)).heap
+    (store_native-scripts owned h d i (source h q) (source-there h q s.well_formed) (leb-false (length (slots_at (objects_of h) (N d))) i t.slot) s) c
+effects-coloured {owned} h (Get (N d) q i) s c r t = SameScripts-coloured h (hold_native h d (slot_at (objects_of h) (N q) i)).heap
     (hold_native-scripts h d (slot_at (objects_of h) (N q) i)) c
-effects-coloured h (Get (S d) q i) s c r t = exposed_register-coloured h d (slot_at (objects_of h) (N q) i) c
-effects-coloured h (Put d i q) s c r t = put_in_script-coloured h (register h (S d)) i (source h (option_map S q)) (script_source-black h q c) c
-effects-coloured h (Take d q i) s c r t = exposed_register-coloured h d (slot_at (objects_of h) (S q) i) c
-effects-coloured h (Wrap d q) s c r t = wrapped-coloured h d (register h (N q)) c
-effects-coloured h (Unwrap d q) s c r t = SameScripts-coloured h (hold_native h d (native_of (register h (S q)))).heap
+effects-coloured {owned} h (Get (S d) q i) s c r t = exposed_register-coloured h d (slot_at (objects_of h) (N q) i) c
+effects-coloured {owned} h (Put d i q) s c r t = put_in_script-coloured h (register h (S d)) i (source h (option_map S q)) (script_source-black h q c) c
+effects-coloured {owned} h (Take d q i) s c r t = exposed_register-coloured h d (slot_at (objects_of h) (S q) i) c
+effects-coloured {owned} h (Wrap d q) s c r t = wrapped-coloured h d (register h (N q)) c
+effects-coloured {owned} h (Unwrap d q) s c r t = SameScripts-coloured h (hold_native h d (native_of (register h (S q)))).heap
     (hold_native-scripts h d (native_of (register h (S q)))) c
-effects-coloured h (Preserve q) s c r t = preserve-coloured h (register h (S q)) c
-effects-coloured h (SetEntry m k v) s c r t = set_entry-coloured h (register h (S m)) (register h (S k)) (source h (option_map S v)) c
-effects-coloured h (GetEntry d m k) s c r t = exposed_register-coloured h d (value_at (objects_of h) (register h (S m)) (register h (S k))) c
-effects-coloured h (Expose q i) s c r t = exposed-coloured h (slot_at (objects_of h) (N q) i) c
-effects-coloured h Nothing s c r t = c
-effects-coloured h (Slice u) s c r t = c
-effects-coloured h Collect s c r t = c
-effects-coloured h Gc s c r t = c
-effects-coloured h Census s c r t = c
+effects-coloured {owned} h (Preserve q) s c r t = preserve-coloured h (register h (S q)) c
+effects-coloured {owned} h (SetEntry m k v) s c r t = set_entry-coloured h (register h (S m)) (register h (S k)) (source h (option_map S v)) c
+effects-coloured {owned} h (GetEntry d m k) s c r t = exposed_register-coloured h d (value_at (objects_of h) (register h (S m)) (register h (S k))) c
+effects-coloured {owned} h (Expose q i) s c r t = exposed-coloured h (slot_at (objects_of h) (N q) i) c
+effects-coloured {owned} h Nothing s c r t = c
+effects-coloured {owned} h (Slice u) s c r t = c
+effects-coloured {owned} h Collect s c r t = c
+effects-coloured {owned} h Gc s c r t = c
+effects-coloured {owned} h Census s c r t = c

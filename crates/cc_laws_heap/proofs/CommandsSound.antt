@@ -1,5 +1,5 @@
 -- EACH COMMAND THAT IS NOT REFUSED LEAVES THE HEAPS SOUND.
-use Rattle.std.proofs.Common.{◌≡◌, ℕ, ◌<◌, ◌≤◌, Bool, true, ◌&&◌, [], length, Option, None, refl, sym, subst, option_map}
+use Rattle.std.proofs.Common.{◌≡◌, ℕ, ◌<◌, ◌≤◌, Bool, true, ◌&&◌, List, length, Option, None, refl, sym, subst, option_map}
 use Rattle.std.specs.Prelude.{IsTrue}
 use Rattle.std.proofs.lemmas.Bool.{and_parts, ltb-true, leb-true, leb-false, not-false}
 use Rattle.std.proofs.lemmas.List.{length-replicate}
@@ -29,40 +29,40 @@ pub few-slots : (n : ℕ) (b : Bool) → (b && is_slots n) ≡ true → n ≤ 64
 few-slots n b e = leb-true n 64 (and_parts b (is_slots n) e).1
 
 -- A command that is not refused leaves the heaps sound.
-pub effects-sound : (h : Heap) (c : Command) → IsSound [] h → IsTrue (in_range c) → IsTaken (objects_of h) c → IsSound [] (effects h c).heap
+pub effects-sound : {owned : List ℕ} (h : Heap) (c : Command) → IsSound owned h → IsTrue (in_range c) → IsTaken (objects_of h) c → IsSound owned (effects h c).heap
 unfolding effects
-effects-sound h (Native d n) s r t = make_native-sound [] h d n (below-first d (is_slots n) r) (few-slots n (is_register d) r)
+effects-sound {owned} h (Native d n) s r t = make_native-sound owned h d n (below-first d (is_slots n) r) (few-slots n (is_register d) r)
     (leb-false h.limits.natives h.natives_made t.room) s
-effects-sound h (Script d n) s r t = make_object-sound [] h d Plain n
+effects-sound {owned} h (Script d n) s r t = make_object-sound owned h d Plain n
     (subst (λ l. l ≤ 64) (sym (length-replicate {A = Option Name} n None)) (few-slots n (is_register d) r))
     (leb-false h.limits.scripts h.scripts_made t.room) s
-effects-sound h (WeakMap d) s r t = make_object-sound [] h d Map 0 refl (leb-false h.limits.scripts h.scripts_made t.room) s
-effects-sound h (CopyNative d q) s r t = hold_native-sound [] h d (register h (N q))
+effects-sound {owned} h (WeakMap d) s r t = make_object-sound owned h d Map 0 refl (leb-false h.limits.scripts h.scripts_made t.room) s
+effects-sound {owned} h (CopyNative d q) s r t = hold_native-sound owned h d (register h (N q))
     (below-first d (is_register q) r) (native_register-there h q s.well_formed) s
-effects-sound h (CopyScript d q) s r t = script_register-sound [] h d (register h (S q)) (script_register-there h q s.well_formed) s
-effects-sound h (Drop (N d)) s r t = put_in_register-sound [] h d None (ltb-true d 256 r) (λ y m. absurd m) s
-effects-sound h (Drop (S d)) s r t = script_register-sound [] h d None (λ y m. absurd m) s
-effects-sound h (Set d i q) s r t = store_native-sound [] h d i (source h q) (source-there h q s.well_formed)
+effects-sound {owned} h (CopyScript d q) s r t = script_register-sound owned h d (register h (S q)) (script_register-there h q s.well_formed) s
+effects-sound {owned} h (Drop (N d)) s r t = put_in_register-sound owned h d None (ltb-true d 256 r) (λ y m. absurd m) s
+effects-sound {owned} h (Drop (S d)) s r t = script_register-sound owned h d None (λ y m. absurd m) s
+effects-sound {owned} h (Set d i q) s r t = store_native-sound owned h d i (source h q) (source-there h q s.well_formed)
     (leb-false (length (slots_at (objects_of h) (N d))) i t.slot) s
-effects-sound h (Get (N d) q i) s r t = hold_native-sound [] h d (slot_at (objects_of h) (N q) i) (below-first d (is_register q) r)
+effects-sound {owned} h (Get (N d) q i) s r t = hold_native-sound owned h d (slot_at (objects_of h) (N q) i) (below-first d (is_register q) r)
     (IsIn-no_script h (slot_at (objects_of h) (N q) i) s.well_formed (slot_at-there h (N q) i s.well_formed) t.content) s
-effects-sound h (Get (S d) q i) s r t = hold_script-sound [] h d (slot_at (objects_of h) (N q) i)
+effects-sound {owned} h (Get (S d) q i) s r t = hold_script-sound owned h d (slot_at (objects_of h) (N q) i)
     (IsIn-no_native h (slot_at (objects_of h) (N q) i) (slot_at-there h (N q) i s.well_formed) t.content) s
-effects-sound h (Put d i q) s r t = put_in_script-sound [] h (register h (S d)) i (source h (option_map S q))
+effects-sound {owned} h (Put d i q) s r t = put_in_script-sound owned h (register h (S d)) i (source h (option_map S q))
     (script_register-there h d s.well_formed) (script_source-there h q s.well_formed) s
-effects-sound h (Take d q i) s r t = hold_script-sound [] h d (slot_at (objects_of h) (S q) i) (script_slot-there h q i s.well_formed) s
-effects-sound h (Wrap d q) s r t = wrapped-sound [] h d (register h (N q)) (native_register-there h q s.well_formed) s
-effects-sound h (Unwrap d q) s r t = hold_native-sound [] h d (native_of (register h (S q))) (below-first d (is_register q) r)
+effects-sound {owned} h (Take d q i) s r t = hold_script-sound owned h d (slot_at (objects_of h) (S q) i) (script_slot-there h q i s.well_formed) s
+effects-sound {owned} h (Wrap d q) s r t = wrapped-sound owned h d (register h (N q)) (native_register-there h q s.well_formed) s
+effects-sound {owned} h (Unwrap d q) s r t = hold_native-sound owned h d (native_of (register h (S q))) (below-first d (is_register q) r)
     (native_of-there h (register h (S q)) s.well_formed (script_register-there h q s.well_formed)) s
-effects-sound h (Preserve q) s r t = preserve-sound [] h (register h (S q)) (script_register-there h q s.well_formed) s
-effects-sound h (SetEntry m k v) s r t = set_entry-sound [] h (register h (S m)) (register h (S k)) (source h (option_map S v))
+effects-sound {owned} h (Preserve q) s r t = preserve-sound owned h (register h (S q)) (script_register-there h q s.well_formed) s
+effects-sound {owned} h (SetEntry m k v) s r t = set_entry-sound owned h (register h (S m)) (register h (S k)) (source h (option_map S v))
     (script_register-there h m s.well_formed) (script_register-there h k s.well_formed) (script_source-there h v s.well_formed)
     (not-false (is_map_in (objects_of h) (register h (S m))) t.kinds) s
-effects-sound h (GetEntry d m k) s r t = hold_script-sound [] h d (value_at (objects_of h) (register h (S m)) (register h (S k)))
+effects-sound {owned} h (GetEntry d m k) s r t = hold_script-sound owned h d (value_at (objects_of h) (register h (S m)) (register h (S k)))
     (value_at-there h (register h (S m)) (register h (S k)) s.well_formed) s
-effects-sound h (Expose q i) s r t = exposed-sound [] h (slot_at (objects_of h) (N q) i) s
-effects-sound h Nothing s r t = s
-effects-sound h (Slice u) s r t = s
-effects-sound h Collect s r t = s
-effects-sound h Gc s r t = s
-effects-sound h Census s r t = s
+effects-sound {owned} h (Expose q i) s r t = exposed-sound owned h (slot_at (objects_of h) (N q) i) s
+effects-sound {owned} h Nothing s r t = s
+effects-sound {owned} h (Slice u) s r t = s
+effects-sound {owned} h Collect s r t = s
+effects-sound {owned} h Gc s r t = s
+effects-sound {owned} h Census s r t = s

@@ -1,6 +1,6 @@
 -- HEAPS THAT STAND FOR A GRAPH GO ON STANDING FOR IT: after each command that is not refused they stand for the graph's step,
 -- and what they told as freed is not reached.
-use Rattle.std.proofs.Common.{◌≡◌, ℕ, ◌+◌, [], length, Option, Some, None, option_map, refl, sym, ◌∙◌, ap, subst, inr, ◌⊎◌}
+use Rattle.std.proofs.Common.{◌≡◌, ℕ, ◌+◌, List, length, Option, Some, None, option_map, refl, sym, ◌∙◌, ap, subst, inr, ◌⊎◌}
 use Rattle.std.specs.Prelude.{IsTrue}
 use Rattle.std.proofs.lemmas.Bool.{false≢true}
 use Rattle.cc_lists.specs.Members.{Among}
@@ -149,7 +149,7 @@ step-changed : (h : Heap) (g : Graph) (c : Command) → StandsFor h g → refusa
 step-changed h g c s t = ap (λ o. unless_refused o g (changed g c)) (sym (refusal_of-alike (heap.objects_of h) (graph.objects_of g) (objects-stand h g s) c) ∙ t)
 
 -- AFTER EACH COMMAND THAT IS NOT REFUSED THE HEAPS STAND FOR THE GRAPH'S STEP.
-pub command-stands : (h : Heap) (g : Graph) (c : Command) → IsSound [] h → IsWellMade g → StandsFor h g → IsTrue (in_range c) →
+pub command-stands : {owned : List ℕ} (h : Heap) (g : Graph) (c : Command) → IsSound owned h → IsWellMade g → StandsFor h g → IsTrue (in_range c) →
     refusal_of (heap.objects_of h) c ≡ None → StandsFor (effects h c).heap (step g c)
 command-stands h g c sound m s r t = effects-follow h g sound.well_formed m s c (StandsFor (effects h c).heap (step g c))
     (λ P f. follows-stands P (effects h c).heap (step g c) (effects-sound h c sound r (IsTaken-from (heap.objects_of h) c t)).well_formed (step-well g m c r)
@@ -185,7 +185,7 @@ effects-gone h Gc = λ x i. absurd i
 effects-gone h Census = λ x i. absurd i
 
 -- NOTHING THAT WAS FREED IS REACHED.
-pub freed-unreached : (h : Heap) (g : Graph) (c : Command) (x : Name) → IsSound [] h → IsWellMade g → StandsFor h g → IsTrue (in_range c) →
+pub freed-unreached : {owned : List ℕ} (h : Heap) (g : Graph) (c : Command) (x : Name) → IsSound owned h → IsWellMade g → StandsFor h g → IsTrue (in_range c) →
     refusal_of (heap.objects_of h) c ≡ None → Among (Freed x) (effects h c).events → ¬ (Reached (step g c) x)
 freed-unreached h g c x sound m s r t told d =
     let gone = effects-gone h c x told in

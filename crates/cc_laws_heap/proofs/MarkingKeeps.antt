@@ -45,13 +45,13 @@ IsSound-marked owned h s = record {
 }
 
 -- A round leaves sound heaps,
-pub round-sound : (h : Heap) → IsSound [] h → IsSound [] (sweep (marked h)).heap
-round-sound h s = sweep-sound (marked h) (HasColours-marked h) (IsSound-marked [] h s)
+pub round-sound : {owned : List ℕ} (h : Heap) → IsSound owned h → IsSound owned (sweep (marked h)).heap
+round-sound {owned} h s = sweep-sound (marked h) (HasColours-marked h) (IsSound-marked owned h s)
 
 -- and what it tells is what it takes out.
-pub round-frees : (h : Heap) → IsSound [] h → (xs : List Name) × FreesNames h xs (sweep (marked h))
+pub round-frees : {owned : List ℕ} (h : Heap) → IsSound owned h → (xs : List Name) × FreesNames h xs (sweep (marked h))
 unfolding marked
-round-frees h s =
-    let m : IsSound [] (marked h) = IsSound-marked [] h s in
+round-frees {owned} h s =
+    let m : IsSound owned (marked h) = IsSound-marked owned h s in
     let f = taken-sweep (marked h) (HasColours-marked h) m in
     (f.0, FreesNames-alike h (marked h).scripts h.entries f.0 (sweep (marked h)) (script_names-marked h) (sweep-frees (marked h) (HasColours-marked h) m))

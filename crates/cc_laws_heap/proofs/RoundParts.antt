@@ -1,5 +1,5 @@
 -- WHAT A ROUND LEAVES: natives as they were, but for counts, script objects but for colours, and some of the entries.
-use Rattle.std.proofs.Common.{◌≡◌, Bool, true, false, cond, List, [], ◌∷◌, map, Option, Some, refl, sym, ◌∙◌, ap, subst, inl, inr, ⊎_elim}
+use Rattle.std.proofs.Common.{◌≡◌, Bool, true, false, cond, ℕ, List, [], ◌∷◌, map, Option, Some, refl, sym, ◌∙◌, ap, subst, inl, inr, ⊎_elim}
 use Rattle.std.specs.List.{filter}
 use Rattle.std.proofs.lemmas.Bool.{true≢false}
 use Rattle.cc_lists.specs.Members.{Among}
@@ -51,11 +51,11 @@ ArePart-filter {X} q (x ∷ xs) (y ∷ ys) p = ⊎_elim
 -- Objects that are left
 
 -- a native that is left was there, as it is but for its count
-pub round-natives : (h : Heap) → IsSound [] h → (n : HeapNative) → Among n (sweep (marked h)).heap.natives →
+pub round-natives : {owned : List ℕ} (h : Heap) → IsSound owned h → (n : HeapNative) → Among n (sweep (marked h)).heap.natives →
     (m : HeapNative) × Among m h.natives × (uncounted m ≡ uncounted n)
 unfolding marked
-round-natives h s n m =
-    let t = taken-sweep (marked h) (HasColours-marked h) (IsSound-marked [] h s) in
+round-natives {owned} h s n m =
+    let t = taken-sweep (marked h) (HasColours-marked h) (IsSound-marked owned h s) in
     let i : Among (uncounted n) (filter (is_native_left t.0) (map uncounted h.natives)) =
     subst (Among (uncounted n)) t.1.natives (Among-map uncounted n (sweep (marked h)).heap.natives m) in
     Among-map_cases uncounted h.natives (uncounted n) (Among-filtered (is_native_left t.0) (uncounted n) (map uncounted h.natives) i)
@@ -68,6 +68,6 @@ round-scripts h o m =
     Among-map_cases (as_marked h) h.scripts o (Among-filtered (is_spared (unmarked (marked h))) o (marked h).scripts i)
 
 -- the entries that are left are those whose map and key are not unmarked
-pub round-entries : (h : Heap) → IsSound [] h → (sweep (marked h)).heap.entries ≡ filter (is_spared_entry (unmarked (marked h))) h.entries
+pub round-entries : {owned : List ℕ} (h : Heap) → IsSound owned h → (sweep (marked h)).heap.entries ≡ filter (is_spared_entry (unmarked (marked h))) h.entries
 unfolding marked
-round-entries h s = entries-sweep (marked h) (HasColours-marked h) (IsSound-marked [] h s)
+round-entries {owned} h s = entries-sweep (marked h) (HasColours-marked h) (IsSound-marked owned h s)

@@ -1,6 +1,6 @@
 -- A SCRIPT COLLECTION KEEPS STANDING FOR THE GRAPH: what the graph reaches is marked, where it is a script object, and
 -- what well formed heaps mention is there.
-use Rattle.std.proofs.Common.{◌≡◌, Bool, true, false, not, ◌||◌, List, [], refl, sym, ◌∙◌, ap, subst, inl}
+use Rattle.std.proofs.Common.{◌≡◌, ℕ, Bool, true, false, not, ◌||◌, List, [], refl, sym, ◌∙◌, ap, subst, inl}
 use Rattle.cc_lists.specs.Members.{Among, has}
 use Rattle.cc_lists.proofs.Members.{Among-map_cases}
 use Rattle.cc_names.specs.declared.name.Name.{Name}
@@ -35,7 +35,7 @@ abbrev shape_of_uncounted : Uncounted → Shape
 shape_of_uncounted u = native_shape u.slots u.preserved
 
 -- the objects that a round leaves have the shapes that they had
-round-leaves : (h : Heap) → IsSound [] h → HeapChanges unchanged h (sweep (marked h)).heap
+round-leaves : {owned : List ℕ} (h : Heap) → IsSound owned h → HeapChanges unchanged h (sweep (marked h)).heap
 round-leaves h s = record {
   natives = λ n i.
       let f = round-natives h s n i in
@@ -53,7 +53,7 @@ spared-from dead e a b = go (has same_name dead e.the_map) (has same_name dead e
     go true k p q = p
     go false k p q = q
 
-module _ (h : Heap) (g : Graph) (s : IsSound [] h) (m : IsWellMade g) (t : StandsFor h g) where
+module _ {owned : List ℕ} (h : Heap) (g : Graph) (s : IsSound owned h) (m : IsWellMade g) (t : StandsFor h g) where
   -- heaps that stand for the graph follow it, over what is reached
   follows : Follows (Reached g) h g
   follows = stands-follows h g s.well_formed t
@@ -104,11 +104,11 @@ module _ (h : Heap) (g : Graph) (s : IsSound [] h) (m : IsWellMade g) (t : Stand
 -- Rounds
 
 -- A SCRIPT COLLECTION KEEPS STANDING FOR THE GRAPH,
-pub collect_scripts-stands : (h : Heap) (g : Graph) → IsSound [] h → IsWellMade g → StandsFor h g → StandsFor (collect_scripts h).heap g
+pub collect_scripts-stands : {owned : List ℕ} (h : Heap) (g : Graph) → IsSound owned h → IsWellMade g → StandsFor h g → StandsFor (collect_scripts h).heap g
 collect_scripts-stands h g s m t = collecting-keeps (λ o. StandsFor o.heap g) (λ o c u. round-stands o.heap g c m u) h s t
 
 -- and frees nothing that the graph reaches.
-pub collect_scripts-unreached : (h : Heap) (g : Graph) (x : Name) → IsSound [] h → IsWellMade g → StandsFor h g →
+pub collect_scripts-unreached : {owned : List ℕ} (h : Heap) (g : Graph) (x : Name) → IsSound owned h → IsWellMade g → StandsFor h g →
     Among (Freed x) (collect_scripts h).events → ¬ (Reached g x)
 collect_scripts-unreached h g x s m t i d =
     let f = collect_scripts-frees h s in

@@ -1,5 +1,5 @@
 -- SWEEPING IN TURN: each object is told and taken out with what its native's cascade frees, and the heaps stay steady.
-use Rattle.std.proofs.Common.{◌≡◌, ◌+◌, ◌≤◌, cond, true, false, not, ◌&&◌, ◌||◌, Bool, List, [], ◌∷◌, ◌++◌, map, refl, sym, ◌∙◌, ap, subst, inl, inr, arith, count_by}
+use Rattle.std.proofs.Common.{◌≡◌, ℕ, ◌+◌, ◌≤◌, cond, true, false, not, ◌&&◌, ◌||◌, Bool, List, [], ◌∷◌, ◌++◌, map, refl, sym, ◌∙◌, ap, subst, inl, inr, arith, count_by}
 use Rattle.std.specs.List.{filter}
 use Rattle.std.proofs.Math.Path.{fun_ext}
 use Rattle.std.proofs.lemmas.Bool.{false≢true}
@@ -49,8 +49,8 @@ scripts-sweep_each (x ∷ xs) o =
 
 -- the heaps are steady, script objects have distinct names, none of them a native's, and hold no natives, and those to be swept are distinct
 -- and there
-pub record IsToSweep (dead : List Name) (h : Heap) : Type 0 where
-  pub steady : IsSteady [] h
+pub record IsToSweep (owned : List ℕ) (dead : List Name) (h : Heap) : Type 0 where
+  pub steady : IsSteady owned h
   pub named : (o : HeapScript) → Among o h.scripts → is_script o.name ≡ true
   pub bare : HoldNoNatives h
   pub distinct : (x : Name) → count_by (λ (o : HeapScript). same_name o.name x) h.scripts ≤ 1
@@ -58,44 +58,44 @@ pub record IsToSweep (dead : List Name) (h : Heap) : Type 0 where
   pub once : (x : Name) → count_by (same_name x) dead ≤ 1
 
 -- a name of a script object is that of no native
-IsToSweep-named : (dead : List Name) (h : Heap) → IsToSweep dead h → (x : Name) → Among x (script_names h) → is_script x ≡ true
-IsToSweep-named dead h t x m = let f = Among-map_cases (λ (o : HeapScript). o.name) h.scripts x m in subst (λ y. is_script y ≡ true) f.2 (t.named f.0 f.1)
+IsToSweep-named : (owned : List ℕ) (dead : List Name) (h : Heap) → IsToSweep owned dead h → (x : Name) → Among x (script_names h) → is_script x ≡ true
+IsToSweep-named owned dead h t x m = let f = Among-map_cases (λ (o : HeapScript). o.name) h.scripts x m in subst (λ y. is_script y ≡ true) f.2 (t.named f.0 f.1)
 
 -- what was done, where no native waits and none is in hand
 abbrev pub DoneBy : Heap → Outcome → Type 0
 DoneBy h o = Done Sweeping (stage [] [] h) o.events (stage [] [] o.heap)
 
 -- One object swept is told and taken out, with what its native's cascade frees, and the heaps stay steady.
-TakesOut-sweep_one : (x : Name) (xs : List Name) (h : Heap) → IsToSweep (x ∷ xs) h →
-    (ys : List Name) × TakesOut h ys (sweep_one h x) × IsSteady [] (sweep_one h x).heap × DoneBy h (sweep_one h x)
-TakesOut-sweep_one (name.Native k) xs h t = absurd (false≢true (IsToSweep-named (name.Native k ∷ xs) h t (name.Native k) (t.there (name.Native k) (inl refl))))
-TakesOut-sweep_one (name.Script k) xs h t =
+TakesOut-sweep_one : (owned : List ℕ) (x : Name) (xs : List Name) (h : Heap) → IsToSweep owned (x ∷ xs) h →
+    (ys : List Name) × TakesOut h ys (sweep_one h x) × IsSteady owned (sweep_one h x).heap × DoneBy h (sweep_one h x)
+TakesOut-sweep_one owned (name.Native k) xs h t = absurd (false≢true (IsToSweep-named owned (name.Native k ∷ xs) h t (name.Native k) (t.there (name.Native k) (inl refl))))
+TakesOut-sweep_one owned (name.Script k) xs h t =
     let x : Name = name.Script k in (
       x ∷ [],
       TakesOut-script h x refl (t.there x (inl refl)),
-      IsSteady-without_object [] h k.0 t.steady,
+      IsSteady-without_object owned h k.0 t.steady,
       besides (stage [] [] h) (Freed x ∷ []) (stage [] [] (without_script h x)) (swept_object h k.0 t.bare),
     )
-TakesOut-sweep_one (name.Reflector k) xs h t =
+TakesOut-sweep_one owned (name.Reflector k) xs h t =
     let x : Name = name.Reflector k in
     let g : Heap = without_script h x in
     let c : Outcome = cascade g k.0 in
     let there : Among x (script_names h) = t.there x (inl refl) in
-    let steady : IsSteady (k.0 ∷ []) g = IsSteady-without_reflector [] h k.0 t.steady (t.distinct x) there in
-    let f = cascade-frees_steady [] g k.0 steady in
+    let steady : IsSteady (k.0 ∷ owned) g = IsSteady-without_reflector owned h k.0 t.steady (t.distinct x) there in
+    let f = cascade-frees_steady owned g k.0 steady in
     let named : (p : HeapScript) → Among p g.scripts → is_script p.name ≡ true =
     λ p m. t.named p (Among-filtered (λ (o : HeapScript). not (same_name o.name x)) p h.scripts m) in
     let first : Outcome = record { heap = g; events = Freed x ∷ [] } in (
       (x ∷ []) ++ map native f.0,
       TakesOut-then h (x ∷ []) (map native f.0) first c (TakesOut-script h x refl there) (TakesOut-cascade g f.0 c named f.1),
-      cascade-steady [] g k.0 steady,
+      cascade-steady owned g k.0 steady,
       followed (stage [] [] h) (stage (k.0 ∷ []) [] g) (stage [] [] c.heap) (Freed x ∷ []) c.events
-          (besides (stage [] [] h) (Freed x ∷ []) (stage (k.0 ∷ []) [] g) (swept_reflector h k.0 t.bare)) (cascade-done Sweeping [] [] g k.0 steady),
+          (besides (stage [] [] h) (Freed x ∷ []) (stage (k.0 ∷ []) [] g) (swept_reflector h k.0 t.bare)) (cascade-done Sweeping [] owned g k.0 steady),
     )
 
 -- then the others are to be swept
-IsToSweep-rest : (x : Name) (xs : List Name) (h : Heap) → IsToSweep (x ∷ xs) h → IsSteady [] (sweep_one h x).heap → IsToSweep xs (sweep_one h x).heap
-IsToSweep-rest x xs h t steady = record {
+IsToSweep-rest : (owned : List ℕ) (x : Name) (xs : List Name) (h : Heap) → IsToSweep owned (x ∷ xs) h → IsSteady owned (sweep_one h x).heap → IsToSweep owned xs (sweep_one h x).heap
+IsToSweep-rest owned x xs h t steady = record {
   steady = steady;
   named = λ o m. t.named o (before o m);
   bare = λ o i m. t.bare o i (before o m);
@@ -127,11 +127,11 @@ IsToSweep-rest x xs h t steady = record {
         (Among-filter others f.0 h.scripts f.1 (ap not (same_name-other f.0.name x (λ e. other y m (sym f.2 ∙ e))))))
 
 -- OBJECTS SWEPT IN TURN are told and taken out, with what is freed meanwhile, and the heaps stay steady.
-pub TakesOut-sweep_each : (dead : List Name) (h : Heap) (xs : List Name) (o : Outcome) → TakesOut h xs o → DoneBy h o → IsToSweep dead o.heap →
-    (ys : List Name) × TakesOut h ys (sweep_each dead o) × IsSteady [] (sweep_each dead o).heap × DoneBy h (sweep_each dead o)
-TakesOut-sweep_each [] h xs o f d t = (xs, f, t.steady, d)
-TakesOut-sweep_each (x ∷ dead) h xs o f d t =
-    let one = TakesOut-sweep_one x dead o.heap t in
+pub TakesOut-sweep_each : (owned : List ℕ) (dead : List Name) (h : Heap) (xs : List Name) (o : Outcome) → TakesOut h xs o → DoneBy h o → IsToSweep owned dead o.heap →
+    (ys : List Name) × TakesOut h ys (sweep_each dead o) × IsSteady owned (sweep_each dead o).heap × DoneBy h (sweep_each dead o)
+TakesOut-sweep_each owned [] h xs o f d t = (xs, f, t.steady, d)
+TakesOut-sweep_each owned (x ∷ dead) h xs o f d t =
+    let one = TakesOut-sweep_one owned x dead o.heap t in
     let p : Outcome = sweep_one o.heap x in
-    TakesOut-sweep_each dead h (xs ++ one.0) (after o.events p) (TakesOut-then h xs one.0 o p f one.1)
-    (followed (stage [] [] h) (stage [] [] o.heap) (stage [] [] p.heap) o.events p.events d one.3) (IsToSweep-rest x dead o.heap t one.2)
+    TakesOut-sweep_each owned dead h (xs ++ one.0) (after o.events p) (TakesOut-then h xs one.0 o p f one.1)
+    (followed (stage [] [] h) (stage [] [] o.heap) (stage [] [] p.heap) o.events p.events d one.3) (IsToSweep-rest owned x dead o.heap t one.2)

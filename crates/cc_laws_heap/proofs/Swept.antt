@@ -32,11 +32,11 @@ pub scripts-sweep : (h : Heap) → (sweep h).heap.scripts ≡ filter (is_spared 
 unfolding sweep
 scripts-sweep h = scripts-sweep_each (unmarked h) (silently (without_dead_entries (unmarked h) h))
 
-module _ (h : Heap) (c : HasColours h) (s : IsSound [] h) where
+module _ {owned : List ℕ} (h : Heap) (c : HasColours h) (s : IsSound owned h) where
   -- the unmarked are to be swept
-  to_sweep : IsToSweep (unmarked h) (without_dead_entries (unmarked h) h)
+  to_sweep : IsToSweep owned (unmarked h) (without_dead_entries (unmarked h) h)
   to_sweep =
-      let b = IsBalanced-at_rest [] h s in
+      let b = IsBalanced-at_rest owned h s in
       record {
         steady = record { distinct = b.distinct; counts = b.counts; queue = b.queue; buffer = b.buffer };
         named = script-named h s.well_formed;
@@ -58,12 +58,12 @@ module _ (h : Heap) (c : HasColours h) (s : IsSound [] h) where
       is_white o = is_white_colour o.colour
 
   -- they are told and taken out, with what is freed meanwhile, and the heaps stay steady
-  pub taken-sweep : (xs : List Name) × TakesOut (without_dead_entries (unmarked h) h) xs (sweep h) × IsSteady [] (sweep h).heap
+  pub taken-sweep : (xs : List Name) × TakesOut (without_dead_entries (unmarked h) h) xs (sweep h) × IsSteady owned (sweep h).heap
       × DoneBy (without_dead_entries (unmarked h) h) (sweep h)
   unfolding sweep
   taken-sweep =
       let g : Heap = without_dead_entries (unmarked h) h in
-      TakesOut-sweep_each (unmarked h) g [] (silently g) (TakesOut-silently g) (nothing (stage [] [] g)) to_sweep
+      TakesOut-sweep_each owned (unmarked h) g [] (silently g) (TakesOut-silently g) (nothing (stage [] [] g)) to_sweep
 
   -- What a sweep tells is what it takes out.
   pub sweep-frees : FreesNames h taken-sweep.0 (sweep h)
@@ -88,6 +88,6 @@ module _ (h : Heap) (c : HasColours h) (s : IsSound [] h) where
       }
 
   -- A SWEEP LEAVES SOUND HEAPS.
-  pub sweep-sound : IsSound [] (sweep h).heap
-  sweep-sound = IsSound-steady [] (spared (unmarked h) h) (sweep h).heap (λ j. is_not_among taken-sweep.0 (native j)) (IsWellFormed-spared h c s.well_formed)
+  pub sweep-sound : IsSound owned (sweep h).heap
+  sweep-sound = IsSound-steady owned (spared (unmarked h) h) (sweep h).heap (λ j. is_not_among taken-sweep.0 (native j)) (IsWellFormed-spared h c s.well_formed)
       taken-sweep.1.natives beside-sweep taken-sweep.2

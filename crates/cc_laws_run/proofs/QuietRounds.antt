@@ -1,5 +1,5 @@
 -- A SCRIPT COLLECTION KEEPS WHAT IS REACHED; where each native that holds something is reached, it leaves nothing else.
-use Rattle.std.proofs.Common.{◌≡◌, true, List, [], ◌++◌, sym, ◌∙◌, ap, subst, ⊎_elim}
+use Rattle.std.proofs.Common.{◌≡◌, ℕ, true, List, [], ◌++◌, sym, ◌∙◌, ap, subst, ⊎_elim}
 use Rattle.std.specs.List.{filter, flat_map}
 use Rattle.cc_lists.specs.Members.{Among}
 use Rattle.cc_lists.proofs.Members.{Among-map_cases, Among-append, Among-filter, Among-passes, Among-flat_map_cases}
@@ -31,13 +31,13 @@ use Rattle.cc_laws_snapshot.proofs.SoundView.{script-place}
 
 -- A round
 
-module _ (h : Heap) (s : IsSound [] h) where
+module _ {owned : List ℕ} (h : Heap) (s : IsSound owned h) where
   -- the heaps after a round
   abbrev next : Heap
   next = (sweep (marked h)).heap
 
   -- they are sound
-  next-sound : IsSound [] next
+  next-sound : IsSound owned next
   next-sound = round-sound h s
 
   -- a script object that is left was marked

@@ -1,5 +1,5 @@
 -- EACH COMMAND THAT IS NOT REFUSED IS GENTLE, so it keeps every snapshot fresh.
-use Rattle.std.proofs.Common.{ℕ, [], length, Option, Some, None, option_map}
+use Rattle.std.proofs.Common.{ℕ, List, length, Option, Some, None, option_map}
 use Rattle.std.specs.Prelude.{IsTrue}
 use Rattle.std.proofs.lemmas.Bool.{ltb-true, leb-false}
 use Rattle.cc_names.specs.declared.register.Reg.{Reg}
@@ -55,40 +55,40 @@ script_source-pale h None c = λ y m. absurd m
 script_source-pale h (Some d) c = script_register-pale h d c
 
 -- A command that is not refused is gentle.
-effects-gentle : (h : Heap) (c : Command) → IsSound [] h → IsColoured h → IsTrue (in_range c) → IsTaken (objects_of h) c → AreGentle h (effects h c).heap
+effects-gentle : {owned : List ℕ} (h : Heap) (c : Command) → IsSound owned h → IsColoured h → IsTrue (in_range c) → IsTaken (objects_of h) c → AreGentle h (effects h c).heap
 unfolding effects
-effects-gentle h (Native d n) s c r t = make_native-gentle [] h d n (below-first d (is_slots n) r) (few-slots n (is_register d) r)
+effects-gentle {owned} h (Native d n) s c r t = make_native-gentle owned h d n (below-first d (is_slots n) r) (few-slots n (is_register d) r)
     (leb-false h.limits.natives h.natives_made t.room) s
-effects-gentle h (Script d n) s c r t = make_object-gentle h d Plain n s.well_formed
-effects-gentle h (WeakMap d) s c r t = make_object-gentle h d Map 0 s.well_formed
-effects-gentle h (CopyNative d q) s c r t = hold_native-gentle [] h d (register h (N q)) (below-first d (is_register q) r) (native_register-there h q s.well_formed) s
-effects-gentle h (CopyScript d q) s c r t = register-gentle h (S d) (register h (S q))
-effects-gentle h (Drop (N d)) s c r t = put_in_register-gentle [] h d None (ltb-true d 256 r) (λ y m. absurd m) s
-effects-gentle h (Drop (S d)) s c r t = register-gentle h (S d) None
-effects-gentle h (Set d i q) s c r t = store_native-gentle [] h d i (source h q) (source-there h q s.well_formed) (source-pale h q s.well_formed c)
+effects-gentle {owned} h (Script d n) s c r t = make_object-gentle h d Plain n s.well_formed
+effects-gentle {owned} h (WeakMap d) s c r t = make_object-gentle h d Map 0 s.well_formed
+effects-gentle {owned} h (CopyNative d q) s c r t = hold_native-gentle owned h d (register h (N q)) (below-first d (is_register q) r) (native_register-there h q s.well_formed) s
+effects-gentle {owned} h (CopyScript d q) s c r t = register-gentle h (S d) (register h (S q))
+effects-gentle {owned} h (Drop (N d)) s c r t = put_in_register-gentle owned h d None (ltb-true d 256 r) (λ y m. absurd m) s
+effects-gentle {owned} h (Drop (S d)) s c r t = register-gentle h (S d) None
+effects-gentle {owned} h (Set d i q) s c r t = store_native-gentle owned h d i (source h q) (source-there h q s.well_formed) (source-pale h q s.well_formed c)
     (leb-false (length (slots_at (objects_of h) (N d))) i t.slot) s
-effects-gentle h (Get (N d) q i) s c r t = hold_native-gentle [] h d (slot_at (objects_of h) (N q) i) (below-first d (is_register q) r)
+effects-gentle {owned} h (Get (N d) q i) s c r t = hold_native-gentle owned h d (slot_at (objects_of h) (N q) i) (below-first d (is_register q) r)
     (IsIn-no_script h (slot_at (objects_of h) (N q) i) s.well_formed (slot_at-there h (N q) i s.well_formed) t.content) s
-effects-gentle h (Get (S d) q i) s c r t = hold_script-gentle h d (slot_at (objects_of h) (N q) i) s.well_formed
-effects-gentle h (Put d i q) s c r t = put_in_script-gentle [] h (register h (S d)) i (source h (option_map S q)) (script_register-there h d s.well_formed)
+effects-gentle {owned} h (Get (S d) q i) s c r t = hold_script-gentle h d (slot_at (objects_of h) (N q) i) s.well_formed
+effects-gentle {owned} h (Put d i q) s c r t = put_in_script-gentle owned h (register h (S d)) i (source h (option_map S q)) (script_register-there h d s.well_formed)
     (script_source-there h q s.well_formed) (script_register-pale h d c) (script_source-pale h q c) s
-effects-gentle h (Take d q i) s c r t = hold_script-gentle h d (slot_at (objects_of h) (S q) i) s.well_formed
-effects-gentle h (Wrap d q) s c r t = wrapped-gentle [] h d (register h (N q)) (native_register-there h q s.well_formed) s
-effects-gentle h (Unwrap d q) s c r t = hold_native-gentle [] h d (native_of (register h (S q))) (below-first d (is_register q) r)
+effects-gentle {owned} h (Take d q i) s c r t = hold_script-gentle h d (slot_at (objects_of h) (S q) i) s.well_formed
+effects-gentle {owned} h (Wrap d q) s c r t = wrapped-gentle owned h d (register h (N q)) (native_register-there h q s.well_formed) s
+effects-gentle {owned} h (Unwrap d q) s c r t = hold_native-gentle owned h d (native_of (register h (S q))) (below-first d (is_register q) r)
     (native_of-there h (register h (S q)) s.well_formed (script_register-there h q s.well_formed)) s
-effects-gentle h (Preserve q) s c r t = preserve-gentle h (register h (S q)) (script_register-pale h q c)
-effects-gentle h (SetEntry m k v) s c r t = set_entry-gentle h (register h (S m)) (register h (S k)) (source h (option_map S v))
+effects-gentle {owned} h (Preserve q) s c r t = preserve-gentle h (register h (S q)) (script_register-pale h q c)
+effects-gentle {owned} h (SetEntry m k v) s c r t = set_entry-gentle h (register h (S m)) (register h (S k)) (source h (option_map S v))
     (script_register-pale h k c) (script_source-pale h v c)
-effects-gentle h (GetEntry d m k) s c r t = hold_script-gentle h d (value_at (objects_of h) (register h (S m)) (register h (S k))) s.well_formed
-effects-gentle h (Expose q i) s c r t = exposed-gentle h (slot_at (objects_of h) (N q) i) s.well_formed
-effects-gentle h Nothing s c r t = AreGentle-refl h
-effects-gentle h (Slice u) s c r t = AreGentle-refl h
-effects-gentle h Collect s c r t = AreGentle-refl h
-effects-gentle h Gc s c r t = AreGentle-refl h
-effects-gentle h Census s c r t = AreGentle-refl h
+effects-gentle {owned} h (GetEntry d m k) s c r t = hold_script-gentle h d (value_at (objects_of h) (register h (S m)) (register h (S k))) s.well_formed
+effects-gentle {owned} h (Expose q i) s c r t = exposed-gentle h (slot_at (objects_of h) (N q) i) s.well_formed
+effects-gentle {owned} h Nothing s c r t = AreGentle-refl h
+effects-gentle {owned} h (Slice u) s c r t = AreGentle-refl h
+effects-gentle {owned} h Collect s c r t = AreGentle-refl h
+effects-gentle {owned} h Gc s c r t = AreGentle-refl h
+effects-gentle {owned} h Census s c r t = AreGentle-refl h
 
 -- A command that is not refused keeps a fresh snapshot fresh.
-pub effects-fresh : (h : Heap) (s : Snapshot) (c : Command) → IsSound [] h → IsFresh h.natives_made (view h) s → IsTrue (in_range c) → IsTaken (objects_of h) c →
+pub effects-fresh : {owned : List ℕ} (h : Heap) (s : Snapshot) (c : Command) → IsSound owned h → IsFresh h.natives_made (view h) s → IsTrue (in_range c) → IsTaken (objects_of h) c →
     IsFresh (effects h c).heap.natives_made (view (effects h c).heap) s
 effects-fresh h s c sound f r t =
     let coloured : IsColoured h = AreColoured-from_view h sound.well_formed f.colours in

@@ -83,23 +83,23 @@ sweeping-loses _ _ _ (swept_reflector h k bare) = swept-loses (k ∷ []) h (refl
 -- Rounds
 
 -- A round loses.
-round-loses : (h : Heap) → IsSound [] h → LosesTo (stage [] [] h) (stage [] [] (sweep (marked h)).heap)
-round-loses h s =
+round-loses : {owned : List ℕ} (h : Heap) → IsSound owned h → LosesTo (stage [] [] h) (stage [] [] (sweep (marked h)).heap)
+round-loses {owned} h s =
     let m : Heap = marked h in
     let g : Heap = without_dead_entries (unmarked m) m in
     let end : Stage = stage [] [] (sweep m).heap in
     LosesTo-trans (stage [] [] h) (stage [] [] m) end (marked-loses h)
     (LosesTo-trans (stage [] [] m) (stage [] [] g) end (entries-lose m g.entries)
-    (done-keeps LosesIn Sweeping losing-kept sweeping-loses (stage [] [] g) (sweep m).events end (taken-sweep m (HasColours-marked h) (IsSound-marked [] h s)).3))
+    (done-keeps LosesIn Sweeping losing-kept sweeping-loses (stage [] [] g) (sweep m).events end (taken-sweep m (HasColours-marked h) (IsSound-marked owned h s)).3))
 
 -- A script collection loses.
-collect_scripts-loses : (h : Heap) → IsSound [] h → LosesTo (stage [] [] h) (stage [] [] (collect_scripts h).heap)
+collect_scripts-loses : {owned : List ℕ} (h : Heap) → IsSound owned h → LosesTo (stage [] [] h) (stage [] [] (collect_scripts h).heap)
 collect_scripts-loses h s = collecting-keeps (λ o. LosesTo (stage [] [] h) (stage [] [] o.heap))
     (λ o c l. LosesTo-trans (stage [] [] h) (stage [] [] o.heap) (stage [] [] (sweep (marked o.heap)).heap) l (round-loses o.heap c))
     h s (LosesTo-refl (stage [] [] h))
 
 -- SO IT KEEPS EVERY UNREACHED NATIVE SUSPECTED.
-pub collect_scripts-suspected : (h : Heap) → IsSound [] h → IsSuspected (view h) [] → IsSuspected (view (collect_scripts h).heap) []
+pub collect_scripts-suspected : {owned : List ℕ} (h : Heap) → IsSound owned h → IsSuspected (view h) [] → IsSuspected (view (collect_scripts h).heap) []
 collect_scripts-suspected h s suspected =
     let end : Heap = (collect_scripts h).heap in
     let later = (collect_scripts-sound h s).well_formed in

@@ -1,5 +1,5 @@
 -- COMMANDS ANSWERED: they are refused, or lack memory, or are carried out by what they do.
-use Rattle.std.proofs.Common.{◌≡◌, ◌≢◌, ℕ, ◌+◌, ◌<◌, ◌≤◌, Bool, true, false, [], length, nat_le, Option, Some, None, option_map, refl, sym, ◌∙◌, ap, subst}
+use Rattle.std.proofs.Common.{◌≡◌, ◌≢◌, ℕ, ◌+◌, ◌<◌, ◌≤◌, Bool, true, false, List, length, nat_le, Option, Some, None, option_map, refl, sym, ◌∙◌, ap, subst}
 use Rattle.std.specs.Option.{is_none}
 use Rattle.std.proofs.lemmas.Bool.{leb-true, leb-false, le-leb, lt-leb, not-false, or_parts}
 use Rattle.cc_names.specs.declared.name.Name.{Name}
@@ -76,30 +76,30 @@ reply-not_refused o command.Census r e = absurd (cc)
 
 module _ (c : Command) (old new : Keyed) (before after : Telling) where
   -- a command that is refused
-  pub applied-refused : (r : Refusal) → refusal_of (objects_of old.heap) c ≡ Some r → new ≡ old → after ≡ before → IsInOrder [] new →
+  pub applied-refused : (r : Refusal) → refusal_of (objects_of old.heap) c ≡ Some r → new ≡ old → after ≡ before →
       IsApplied c old new (Refused r) before after
-  applied-refused r is same quiet order = record {
+  applied-refused r is same quiet = record {
     refused = λ q e. let s : r ≡ q = cc in (ap (λ z. Refused z) s, same, quiet);
     done = λ e n. absurd (cc);
     memory = λ e. let s : r ≡ NoMemory = cc in absurd (refused-not_memory (objects_of old.heap) c r is s);
     keys = subst (KeepsKeys old) (sym same) (KeepsKeys-same old);
-    order = order;
+    order = λ owned o. subst (IsInOrder owned) (sym same) o;
   }
 
   -- one that lacks memory
-  pub applied-denied : refusal_of (objects_of old.heap) c ≡ None → takes_memory old.heap c ≡ true → new ≡ old → after ≡ before → IsInOrder [] new →
+  pub applied-denied : refusal_of (objects_of old.heap) c ≡ None → takes_memory old.heap c ≡ true → new ≡ old → after ≡ before →
       IsApplied c old new (Refused NoMemory) before after
-  applied-denied none takes same quiet order = record {
+  applied-denied none takes same quiet = record {
     refused = λ q e. absurd (cc);
     done = λ e n. absurd (n refl);
     memory = λ e. (none, takes, same, quiet);
     keys = subst (KeepsKeys old) (sym same) (KeepsKeys-same old);
-    order = order;
+    order = λ owned o. subst (IsInOrder owned) (sym same) o;
   }
 
   -- one that is carried out
   pub applied-done : (reply : Reply) → refusal_of (objects_of old.heap) c ≡ None → IsCarriedOut c old.heap new.heap reply before after → KeepsKeys old new →
-      IsInOrder [] new → IsApplied c old new reply before after
+      ((owned : List ℕ) → IsInOrder owned old → IsInOrder owned new) → IsApplied c old new reply before after
   applied-done reply none carried keys order = record {
     refused = λ q e. absurd (cc);
     done = λ e n. carried;
@@ -111,7 +111,7 @@ module _ (c : Command) (old new : Keyed) (before after : Telling) where
   -- and one that is carried out where some natives are no more
   pub applied-left : (reply : Reply) (o : Outcome) → refusal_of (objects_of old.heap) c ≡ None →
       (new.heap ≡ o.heap → TellsEvents before after o.events → IsCarriedOut c old.heap new.heap reply before after) →
-      new ≡ left_with old o.heap → TellsEvents before after o.events → IsInOrder [] new → IsApplied c old new reply before after
+      new ≡ left_with old o.heap → TellsEvents before after o.events → ((owned : List ℕ) → IsInOrder owned old → IsInOrder owned new) → IsApplied c old new reply before after
   applied-left reply o none carried e t order =
       applied-done reply none (carried (ap (λ (v : Keyed). v.heap) e) t) (KeepsKeys-left old new o.heap e) order
 

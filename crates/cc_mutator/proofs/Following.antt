@@ -1,6 +1,6 @@
 -- WHAT FOLLOWS WHERE A COMMAND IS ANSWERED, by the laws: the reply is the graph's, the heaps go on standing for the graph,
 -- snapshots stay fresh, colours keep their invariant, and counts stay small.
-use Rattle.std.proofs.Common.{◌≡◌, ◌≢◌, ℕ, Bool, true, false, not, List, [], ◌++◌, Option, Some, None, IsTrue, refl, sym, ◌∙◌, ap, subst, inl, inr, ◌⊎◌, ⊎_elim, arith}
+use Rattle.std.proofs.Common.{◌≡◌, ◌≢◌, ℕ, Bool, true, false, not, List, ◌++◌, Option, Some, None, IsTrue, refl, sym, ◌∙◌, ap, subst, inl, inr, ◌⊎◌, ⊎_elim}
 use Rattle.std.specs.Option.{is_none}
 use Rattle.std.specs.List.{filter}
 use Rattle.std.proofs.lemmas.Bool.{false≢true, not-true}
@@ -43,10 +43,8 @@ use Rattle.cc_laws_heap.proofs.CommandsSound.{effects-sound}
 use Rattle.cc_laws_heap.proofs.GraphCommands.{step-well}
 use Rattle.cc_laws_heap.proofs.Holding.{has_reflector-none}
 use Rattle.cc_laws_heap.proofs.CommandsStand.{command-stands}
-use Rattle.cc_laws_heap.proofs.CountBound.{count-bound}
 use Rattle.cc_laws_heap.proofs.RepliesAlike.{refusal_of-alike, reply_if_taken-alike, objects-stand}
 use Rattle.cc_laws_snapshot.proofs.CommandsGentle.{effects-fresh}
-use Rattle.cc_heaps.specs.Few.{AreFew}
 use Rattle.cc_heaps.specs.Standing.{StandsAfter}
 use Rattle.cc_heaps.specs.Keyed.{Keyed, IsInOrder}
 use Rattle.cc_mutator.specs.Commands.{IsApplied}
@@ -133,7 +131,7 @@ module _ (c : Command) (old new : Keyed) (reply : Reply) (before after : Telling
       go None e false f = inl ((a.done e (with-memory reply f)).reply_is
           ∙ (reply_if_taken-alike (objects_of old.heap) (graph.objects_of s.graph) (objects-stand old.heap s.graph stands) c ∙ refusing None e))
 
-  module _ (order : IsInOrder [] old) (range : IsTrue (in_range c)) where
+  module _ {owned : List ℕ} (order : IsInOrder owned old) (range : IsTrue (in_range c)) where
     pub applied-fresh : (s : Snapshot) → IsFresh old.heap.natives_made (view old.heap) s → IsFresh new.heap.natives_made (view new.heap) s
     applied-fresh s fresh = ⊎_elim
         (λ same. subst (λ (h : Heap). IsFresh h.natives_made (view h) s) (sym same) fresh)
@@ -149,9 +147,6 @@ module _ (c : Command) (old new : Keyed) (reply : Reply) (before after : Telling
         (HasColourInvariant-from (effects old.heap c).heap (effects-sound old.heap c order.sound range taken).well_formed
         (effects-coloured old.heap c order.sound (AreColoured-from_view old.heap order.sound.well_formed colours) range taken)))
         happened
-
-    pub applied-few : AreFew new.heap
-    applied-few = λ n m. omega (arith, count-bound [] new.heap n a.order.sound a.order.limits.0 m)
 
     pub applied-stands : StandsAfter old.heap new.heap (λ g. graph_after g c (Some reply))
     applied-stands g made stands = (well (is_without_memory reply), go (is_without_memory reply) refl)

@@ -1,5 +1,5 @@
 -- WHAT EACH KIND OF COMMAND COMES TO: it is refused, or it lacks memory, or it is carried out; and how contents are held.
-use Rattle.std.specs.Prelude.{◌≡◌, ◌≢◌, true, false, Bool, [], Option, Some, None}
+use Rattle.std.specs.Prelude.{◌≡◌, ◌≢◌, true, false, Bool, ℕ, List, Option, Some, None}
 use Rattle.cc_names.specs.declared.number.SKey.{SKey}
 use Rattle.cc_model.specs.declared.command.Command.{Command}
 use Rattle.cc_model.specs.declared.item.Refusal.{Refusal}
@@ -23,7 +23,7 @@ pub record IsApplied (c : Command) (old new : Keyed) (reply : Reply) (before aft
   pub memory : reply ≡ Refused no_memory →
       (refusal_of (objects_of old.heap) c ≡ None) × (takes_memory old.heap c ≡ true) × (new ≡ old) × (after ≡ before)
   pub keys : KeepsKeys old new
-  pub order : IsInOrder [] new
+  pub order : (owned : List ℕ) → IsInOrder owned old → IsInOrder owned new
 
 -- Contents of one kind alone
 

@@ -1,5 +1,5 @@
 //! Each command of the mutator, done on the heaps.
-ghost use Rattle.std.specs.Prelude.{◌≡◌, ◌≢◌, ◌<◌, ◌≤◌, IsTrue, IsSome, IfSome, OnErr, OnOk, is_none, false, true, [], length, Some, None};
+ghost use Rattle.std.specs.Prelude.{◌≡◌, ◌≢◌, ◌<◌, ◌≤◌, IsTrue, IsSome, IfSome, OnErr, OnOk, is_none, false, true, ℕ, List, length, Some, None};
 ghost use Rattle.cc_names.specs.declared.kind.Colour.TheVariants.{Black};
 ghost use Rattle.cc_names.specs.declared.register.Reg.TheVariants.{N as n_register, S as s_register};
 ghost use Rattle.cc_model.specs.declared.command.Command.TheVariants.{Native, Script, WeakMap, CopyNative, CopyScript, Drop, Set, Get, Put, Take, Wrap, Unwrap, Preserve, SetEntry, GetEntry, Expose};
@@ -20,7 +20,7 @@ ghost use Rattle.cc_model.specs.View.{view};
 ghost use Rattle.cc_script.specs.Objects.{colour_at};
 ghost use Rattle.cc_heaps.specs.Keyed.{IsInOrder, left_with};
 ghost use Rattle.cc_heaps.specs.Changes.{IsScriptThere, IsThere, KeepsKeys, held_name, script_name};
-ghost use Rattle.cc_heaps.specs.Few.{AreFew};
+ghost use Rattle.cc_heaps.specs.Few.{AreFewIfOwnedOnce, AreOwnedOnce};
 ghost use Rattle.cc_heaps.specs.Standing.{StandsAfter, KeepsFresh, KeepsSuspected};
 ghost use Rattle.cc_mutator.specs.Applied.{IsCarriedOut};
 ghost use Rattle.cc_mutator.specs.Commands.{IsApplied};
@@ -41,7 +41,7 @@ use cc_names::{NoMemory, Reg, SKey};
 
 /// Makes a native.
 fn make_native<N: Notices>(heaps: &mut Heaps, d: u8, slots: u8, out: &mut N) -> Reply
-    requires order { IsInOrder [] heaps.old }
+    requires order { (owned : List ℕ) × IsInOrder owned heaps.old }
     requires slots { slots ≤ 64 }
     ensures { IsApplied (Native d slots) heaps.old heaps.new result (N.telling out.old) (N.telling out.new) }
 {
@@ -54,7 +54,7 @@ fn make_native<N: Notices>(heaps: &mut Heaps, d: u8, slots: u8, out: &mut N) -> 
 
 /// Makes a plain script object.
 fn make_plain(heaps: &mut Heaps, d: u8, slots: u8) -> Reply
-    requires order { IsInOrder [] heaps.old }
+    requires order { (owned : List ℕ) × IsInOrder owned heaps.old }
     requires slots { slots ≤ 64 }
     ensures { (t : Telling) → IsApplied (Script d slots) heaps.old heaps.new result t t }
 {
@@ -67,7 +67,7 @@ fn make_plain(heaps: &mut Heaps, d: u8, slots: u8) -> Reply
 
 /// Makes a weak map.
 fn make_map(heaps: &mut Heaps, d: u8) -> Reply
-    requires order { IsInOrder [] heaps.old }
+    requires order { (owned : List ℕ) × IsInOrder owned heaps.old }
     ensures { (t : Telling) → IsApplied (WeakMap d) heaps.old heaps.new result t t }
 {
     match heaps.new_map(d) {
@@ -79,7 +79,7 @@ fn make_map(heaps: &mut Heaps, d: u8) -> Reply
 
 /// Copies a native register.
 fn copy_native<N: Notices>(heaps: &mut Heaps, d: u8, s: u8, out: &mut N) -> Reply
-    requires order { IsInOrder [] heaps.old }
+    requires order { (owned : List ℕ) × IsInOrder owned heaps.old × AreOwnedOnce owned }
     ensures { IsApplied (CopyNative d s) heaps.old heaps.new result (N.telling out.old) (N.telling out.new) }
 {
     let content = heaps.native_reg(s);
@@ -90,7 +90,7 @@ fn copy_native<N: Notices>(heaps: &mut Heaps, d: u8, s: u8, out: &mut N) -> Repl
 
 /// Copies a script register.
 fn copy_script(heaps: &mut Heaps, d: u8, s: u8) -> Reply
-    requires order { IsInOrder [] heaps.old }
+    requires order { (owned : List ℕ) × IsInOrder owned heaps.old }
     requires colours { HasColourInvariant (view heaps.old.heap) }
     ensures { (t : Telling) → IsApplied (CopyScript d s) heaps.old heaps.new result t t }
 {
@@ -102,7 +102,7 @@ fn copy_script(heaps: &mut Heaps, d: u8, s: u8) -> Reply
 
 /// Empties a native register.
 fn drop_native<N: Notices>(heaps: &mut Heaps, r: u8, out: &mut N) -> Reply
-    requires order { IsInOrder [] heaps.old }
+    requires order { (owned : List ℕ) × IsInOrder owned heaps.old × AreOwnedOnce owned }
     ensures { IsApplied (Drop (n_register r)) heaps.old heaps.new result (N.telling out.old) (N.telling out.new) }
 {
     heaps.set_native_reg(r, None, out);
@@ -111,7 +111,7 @@ fn drop_native<N: Notices>(heaps: &mut Heaps, r: u8, out: &mut N) -> Reply
 
 /// Empties a script register.
 fn drop_script(heaps: &mut Heaps, r: u8) -> Reply
-    requires order { IsInOrder [] heaps.old }
+    requires order { (owned : List ℕ) × IsInOrder owned heaps.old }
     ensures { (t : Telling) → IsApplied (Drop (s_register r)) heaps.old heaps.new result t t }
 {
     heaps.set_script_reg(r, None);
@@ -120,7 +120,7 @@ fn drop_script(heaps: &mut Heaps, r: u8) -> Reply
 
 /// Empties a register.
 fn empty<N: Notices>(heaps: &mut Heaps, r: Reg, out: &mut N) -> Reply
-    requires order { IsInOrder [] heaps.old }
+    requires order { (owned : List ℕ) × IsInOrder owned heaps.old × AreOwnedOnce owned }
     ensures { IsApplied (Drop r) heaps.old heaps.new result (N.telling out.old) (N.telling out.new) }
 {
     match r {
@@ -131,12 +131,12 @@ fn empty<N: Notices>(heaps: &mut Heaps, r: Reg, out: &mut N) -> Reply
 
 /// Writes slot `i` of the native in a register.
 fn store<N: Notices>(heaps: &mut Heaps, d: u8, i: u32, content: Option<Held>, out: &mut N)
-    requires order { IsInOrder [] heaps.old }
+    requires order { (owned : List ℕ) × IsInOrder owned heaps.old × AreOwnedOnce owned }
     requires slot { i < length (slots_at (objects_of heaps.old.heap) (n_register d)) }
     requires there { IsThere heaps.old content }
     ensures heap { heaps.new ≡ left_with heaps.old (store_native heaps.old.heap d i (held_name heaps.old content)).heap }
     ensures told { TellsEvents (N.telling out.old) (N.telling out.new) (store_native heaps.old.heap d i (held_name heaps.old content)).events }
-    ensures order { IsInOrder [] heaps.new }
+    ensures order { (owned : List ℕ) → IsInOrder owned heaps.old → IsInOrder owned heaps.new }
 {
     match heaps.native_reg(d) {
         Some(key) => heaps.store_native(key, i as u8, content, out),
@@ -146,7 +146,7 @@ fn store<N: Notices>(heaps: &mut Heaps, d: u8, i: u32, content: Option<Held>, ou
 
 /// Writes what a source gives into slot `i` of the native in a register.
 fn set<N: Notices>(heaps: &mut Heaps, d: u8, i: u32, from: Option<Reg>, out: &mut N) -> Reply
-    requires order { IsInOrder [] heaps.old }
+    requires order { (owned : List ℕ) × IsInOrder owned heaps.old × AreOwnedOnce owned }
     ensures { IsApplied (Set d i from) heaps.old heaps.new result (N.telling out.old) (N.telling out.new) }
 {
     if let Some(refusal) = refusal_of_set(heaps, d, i, from) {
@@ -159,7 +159,7 @@ fn set<N: Notices>(heaps: &mut Heaps, d: u8, i: u32, from: Option<Reg>, out: &mu
 
 /// Reads slot `i` of the native in a register into a native register.
 fn get_native<N: Notices>(heaps: &mut Heaps, d: u8, s: u8, i: u32, out: &mut N) -> Reply
-    requires order { IsInOrder [] heaps.old }
+    requires order { (owned : List ℕ) × IsInOrder owned heaps.old × AreOwnedOnce owned }
     ensures { IsApplied (Get (n_register d) s i) heaps.old heaps.new result (N.telling out.old) (N.telling out.new) }
 {
     if let Some(refusal) = refusal_of_get_native(heaps, d, s, i) {
@@ -173,7 +173,7 @@ fn get_native<N: Notices>(heaps: &mut Heaps, d: u8, s: u8, i: u32, out: &mut N) 
 
 /// Reads slot `i` of the native in a register into a script register.
 fn get_script(heaps: &mut Heaps, d: u8, s: u8, i: u32) -> Reply
-    requires order { IsInOrder [] heaps.old }
+    requires order { (owned : List ℕ) × IsInOrder owned heaps.old }
     ensures { (t : Telling) → IsApplied (Get (s_register d) s i) heaps.old heaps.new result t t }
 {
     if let Some(refusal) = refusal_of_get_script(heaps, d, s, i) {
@@ -187,7 +187,7 @@ fn get_script(heaps: &mut Heaps, d: u8, s: u8, i: u32) -> Reply
 
 /// Reads slot `i` of the native in a register into a register of either kind.
 fn get<N: Notices>(heaps: &mut Heaps, d: Reg, s: u8, i: u32, out: &mut N) -> Reply
-    requires order { IsInOrder [] heaps.old }
+    requires order { (owned : List ℕ) × IsInOrder owned heaps.old × AreOwnedOnce owned }
     ensures { IsApplied (Get d s i) heaps.old heaps.new result (N.telling out.old) (N.telling out.new) }
 {
     match d {
@@ -198,13 +198,13 @@ fn get<N: Notices>(heaps: &mut Heaps, d: Reg, s: u8, i: u32, out: &mut N) -> Rep
 
 /// Writes slot `i` of the script object in a register; a reflector is preserved before, also where its slot is emptied.
 fn store_script(heaps: &mut Heaps, d: u8, i: u32, content: Option<SKey>)
-    requires order { IsInOrder [] heaps.old }
+    requires order { (owned : List ℕ) × IsInOrder owned heaps.old }
     requires slot { i < length (slots_at (objects_of heaps.old.heap) (s_register d)) }
     requires there { IsScriptThere heaps.old content }
     requires black { IfSome content (λ k. colour_at heaps.old.scripts k.0 ≡ Some Black) }
     ensures heap { heaps.new.heap ≡ put_in_script heaps.old.heap (register heaps.old.heap (s_register d)) i (script_name heaps.old content) }
     ensures keys { KeepsKeys heaps.old heaps.new }
-    ensures order { IsInOrder [] heaps.new }
+    ensures order { (owned : List ℕ) → IsInOrder owned heaps.old → IsInOrder owned heaps.new }
 {
     match heaps.script_reg(d) {
         Some(key) => {
@@ -217,7 +217,7 @@ fn store_script(heaps: &mut Heaps, d: u8, i: u32, content: Option<SKey>)
 
 /// Writes what a source gives into slot `i` of the script object in a register.
 fn put(heaps: &mut Heaps, d: u8, i: u32, from: Option<u8>) -> Reply
-    requires order { IsInOrder [] heaps.old }
+    requires order { (owned : List ℕ) × IsInOrder owned heaps.old }
     requires colours { HasColourInvariant (view heaps.old.heap) }
     ensures { (t : Telling) → IsApplied (Put d i from) heaps.old heaps.new result t t }
 {
@@ -231,7 +231,7 @@ fn put(heaps: &mut Heaps, d: u8, i: u32, from: Option<u8>) -> Reply
 
 /// Reads slot `i` of the script object in a register into a script register.
 fn take(heaps: &mut Heaps, d: u8, s: u8, i: u32) -> Reply
-    requires order { IsInOrder [] heaps.old }
+    requires order { (owned : List ℕ) × IsInOrder owned heaps.old }
     ensures { (t : Telling) → IsApplied (Take d s i) heaps.old heaps.new result t t }
 {
     if let Some(refusal) = refusal_of_take(heaps, d, s, i) {
@@ -245,7 +245,7 @@ fn take(heaps: &mut Heaps, d: u8, s: u8, i: u32) -> Reply
 
 /// Puts the reflector of the native in a register into a script register; it is made where there is none.
 fn wrap(heaps: &mut Heaps, d: u8, s: u8) -> Reply
-    requires order { IsInOrder [] heaps.old }
+    requires order { (owned : List ℕ) × IsInOrder owned heaps.old × AreOwnedOnce owned }
     requires colours { HasColourInvariant (view heaps.old.heap) }
     ensures { (t : Telling) → IsApplied (Wrap d s) heaps.old heaps.new result t t }
 {
@@ -264,7 +264,7 @@ fn wrap(heaps: &mut Heaps, d: u8, s: u8) -> Reply
 
 /// Puts the native of the reflector in a script register into a native register.
 fn unwrap<N: Notices>(heaps: &mut Heaps, d: u8, s: u8, out: &mut N) -> Reply
-    requires order { IsInOrder [] heaps.old }
+    requires order { (owned : List ℕ) × IsInOrder owned heaps.old × AreOwnedOnce owned }
     ensures { IsApplied (Unwrap d s) heaps.old heaps.new result (N.telling out.old) (N.telling out.new) }
 {
     let Some(object) = heaps.script_reg(s) else {
@@ -281,7 +281,7 @@ fn unwrap<N: Notices>(heaps: &mut Heaps, d: u8, s: u8, out: &mut N) -> Reply
 
 /// Preserves the reflector in a register.
 fn preserve(heaps: &mut Heaps, s: u8) -> Reply
-    requires order { IsInOrder [] heaps.old }
+    requires order { (owned : List ℕ) × IsInOrder owned heaps.old }
     ensures { (t : Telling) → IsApplied (Preserve s) heaps.old heaps.new result t t }
 {
     let Some(key) = heaps.script_reg(s) else {
@@ -298,13 +298,13 @@ fn preserve(heaps: &mut Heaps, s: u8) -> Reply
 ///
 /// `NoMemory` changes nothing, and comes only where a value is given to a key that had none.
 fn write_entry(heaps: &mut Heaps, m: u8, k: u8, value: Option<SKey>) -> Result<(), NoMemory>
-    requires order { IsInOrder [] heaps.old }
+    requires order { (owned : List ℕ) × IsInOrder owned heaps.old }
     requires the_map { IsTrue (is_map_in (objects_of heaps.old.heap) (register heaps.old.heap (s_register m))) }
     requires key { is_none (register heaps.old.heap (s_register k)) ≡ false }
     requires value { IsScriptThere heaps.old value }
     ensures heap { OnOk result (heaps.new.heap ≡ entry_set heaps.old.heap (register heaps.old.heap (s_register m)) (register heaps.old.heap (s_register k)) (script_name heaps.old value)) }
     ensures keys { KeepsKeys heaps.old heaps.new }
-    ensures order { IsInOrder [] heaps.new }
+    ensures order { (owned : List ℕ) → IsInOrder owned heaps.old → IsInOrder owned heaps.new }
     ensures same { OnErr result (heaps.new ≡ heaps.old) }
     ensures some { OnErr result (IsSome value) }
     ensures none { OnErr result (value_at (objects_of heaps.old.heap) (register heaps.old.heap (s_register m)) (register heaps.old.heap (s_register k)) ≡ None) }
@@ -326,7 +326,7 @@ fn write_entry(heaps: &mut Heaps, m: u8, k: u8, value: Option<SKey>) -> Result<(
 
 /// Writes what a source gives as the value of the key in a register in the weak map in another.
 fn set_entry(heaps: &mut Heaps, m: u8, k: u8, from: Option<u8>) -> Reply
-    requires order { IsInOrder [] heaps.old }
+    requires order { (owned : List ℕ) × IsInOrder owned heaps.old }
     ensures { (t : Telling) → IsApplied (SetEntry m k from) heaps.old heaps.new result t t }
 {
     if let Some(refusal) = refusal_of_set_entry(heaps, m, k, from) {
@@ -341,7 +341,7 @@ fn set_entry(heaps: &mut Heaps, m: u8, k: u8, from: Option<u8>) -> Reply
 
 /// Reads the value of the key in a register in the weak map in another into a script register.
 fn get_entry(heaps: &mut Heaps, d: u8, m: u8, k: u8) -> Reply
-    requires order { IsInOrder [] heaps.old }
+    requires order { (owned : List ℕ) × IsInOrder owned heaps.old }
     ensures { (t : Telling) → IsApplied (GetEntry d m k) heaps.old heaps.new result t t }
 {
     if let Some(refusal) = refusal_of_get_entry(heaps, d, m, k) {
@@ -355,11 +355,11 @@ fn get_entry(heaps: &mut Heaps, d: u8, m: u8, k: u8) -> Reply
 
 /// Script touches what a slot held; nothing where the slot was empty.
 fn touch(heaps: &mut Heaps, content: Option<SKey>)
-    requires order { IsInOrder [] heaps.old }
+    requires order { (owned : List ℕ) × IsInOrder owned heaps.old }
     requires there { IsScriptThere heaps.old content }
     ensures heap { heaps.new.heap ≡ exposed heaps.old.heap (script_name heaps.old content) }
     ensures keys { KeepsKeys heaps.old heaps.new }
-    ensures order { IsInOrder [] heaps.new }
+    ensures order { (owned : List ℕ) → IsInOrder owned heaps.old → IsInOrder owned heaps.new }
 {
     if let Some(key) = content {
         heaps.expose(key);
@@ -368,7 +368,7 @@ fn touch(heaps: &mut Heaps, content: Option<SKey>)
 
 /// Script touches the object in slot `i` of the native in a register.
 fn expose(heaps: &mut Heaps, s: u8, i: u32) -> Reply
-    requires order { IsInOrder [] heaps.old }
+    requires order { (owned : List ℕ) × IsInOrder owned heaps.old }
     ensures { (t : Telling) → IsApplied (Expose s i) heaps.old heaps.new result t t }
 {
     if let Some(refusal) = refusal_of_expose(heaps, s, i) {
@@ -384,7 +384,7 @@ fn expose(heaps: &mut Heaps, s: u8, i: u32) -> Reply
 fn answer<N: Notices>(heaps: &mut Heaps, command: &Command, out: &mut N) -> Reply
     requires applied { IsTrue (is_applied command.now) }
     requires in_range { IsTrue (in_range command.now) }
-    requires order { IsInOrder [] heaps.old }
+    requires order { (owned : List ℕ) × IsInOrder owned heaps.old × AreOwnedOnce owned }
     requires colours { HasColourInvariant (view heaps.old.heap) }
     ensures { IsApplied command.now heaps.old heaps.new result (N.telling out.old) (N.telling out.new) }
 {
@@ -424,7 +424,7 @@ fn answer<N: Notices>(heaps: &mut Heaps, command: &Command, out: &mut N) -> Repl
 pub fn apply<N: Notices>(heaps: &mut Heaps, command: &Command, out: &mut N) -> Reply
     requires applied { IsTrue (is_applied command.now) }
     requires in_range { IsTrue (in_range command.now) }
-    requires order { IsInOrder [] heaps.old }
+    requires order { (owned : List ℕ) × IsInOrder owned heaps.old × AreOwnedOnce owned }
     requires colours { HasColourInvariant (view heaps.old.heap) }
     ensures refused { (r : Refusal) → refusal_of (objects_of heaps.old.heap) command.now ≡ Some r →
         (result ≡ refused r) × (heaps.new ≡ heaps.old) × (N.telling out.new ≡ N.telling out.old) }
@@ -438,10 +438,10 @@ pub fn apply<N: Notices>(heaps: &mut Heaps, command: &Command, out: &mut N) -> R
     ensures stands { StandsAfter heaps.old.heap heaps.new.heap (λ g. graph_after g command.now (Some result)) }
     ensures fresh { KeepsFresh heaps.old.heap heaps.new.heap }
     ensures suspected { KeepsSuspected heaps.old.heap heaps.new.heap }
-    ensures counts { AreFew heaps.new.heap }
+    ensures counts { AreFewIfOwnedOnce heaps.new }
     ensures keys { KeepsKeys heaps.old heaps.new }
     ensures colours { HasColourInvariant (view heaps.new.heap) }
-    ensures order { IsInOrder [] heaps.new }
+    ensures order { (owned : List ℕ) → IsInOrder owned heaps.old → IsInOrder owned heaps.new }
 {
     answer(heaps, command, out)
 }

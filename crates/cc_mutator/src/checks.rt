@@ -1,5 +1,5 @@
 //! When a command is refused, by the causes in their order.
-ghost use Rattle.std.specs.Prelude.{◌≡◌, ◌<◌, ◌||◌, [], ◌∷◌, length, map, nat_le, not, is_none, option_to_list};
+ghost use Rattle.std.specs.Prelude.{◌≡◌, ◌<◌, ◌||◌, ℕ, List, [], ◌∷◌, length, map, nat_le, not, is_none, option_to_list};
 ghost use Rattle.std.specs.List.{list_any};
 ghost use Rattle.cc_names.specs.declared.register.Reg.TheVariants.{N as n_register, S as s_register};
 ghost use Rattle.cc_model.specs.declared.command.Command.TheVariants.{Set, Get, Put, Take, SetEntry, GetEntry, Expose};
@@ -17,7 +17,7 @@ use cc_names::{Kind, Reg};
 
 /// Whether a source is a register that is empty.
 fn is_source_empty(heaps: &Heaps, from: Option<Reg>) -> bool
-    requires { IsInOrder [] heaps.now }
+    requires { (owned : List ℕ) × IsInOrder owned heaps.now }
     ensures { result ≡ list_any (λ r. is_none (register heaps.now.heap r)) (option_to_list from) }
 {
     match from {
@@ -28,7 +28,7 @@ fn is_source_empty(heaps: &Heaps, from: Option<Reg>) -> bool
 
 /// Whether a source is a script register that is empty.
 fn is_script_source_empty(heaps: &Heaps, from: Option<u8>) -> bool
-    requires { IsInOrder [] heaps.now }
+    requires { (owned : List ℕ) × IsInOrder owned heaps.now }
     ensures { result ≡ list_any (λ r. is_none (register heaps.now.heap r)) (map s_register (option_to_list from)) }
 {
     match from {
@@ -61,7 +61,7 @@ fn is_script(content: Option<Held>) -> bool
 
 /// Whether slot `i` of the native in a register holds a native.
 fn holds_native(heaps: &Heaps, s: u8, i: u32) -> bool
-    requires order { IsInOrder [] heaps.now }
+    requires order { (owned : List ℕ) × IsInOrder owned heaps.now }
     requires slot { i < length (slots_at (objects_of heaps.now.heap) (n_register s)) }
     ensures { result ≡ is_native_there (slot_at (objects_of heaps.now.heap) (n_register s) i) }
 {
@@ -70,7 +70,7 @@ fn holds_native(heaps: &Heaps, s: u8, i: u32) -> bool
 
 /// Whether slot `i` of the native in a register holds a script object.
 fn holds_script(heaps: &Heaps, s: u8, i: u32) -> bool
-    requires order { IsInOrder [] heaps.now }
+    requires order { (owned : List ℕ) × IsInOrder owned heaps.now }
     requires slot { i < length (slots_at (objects_of heaps.now.heap) (n_register s)) }
     ensures { result ≡ is_script_there (slot_at (objects_of heaps.now.heap) (n_register s) i) }
 {
@@ -79,7 +79,7 @@ fn holds_script(heaps: &Heaps, s: u8, i: u32) -> bool
 
 /// Why slot `i` of the object in a register is neither read nor written, whatever the slot holds.
 fn refusal_of_slot(heaps: &Heaps, r: Reg, i: u32) -> Option<Refusal>
-    requires { IsInOrder [] heaps.now }
+    requires { (owned : List ℕ) × IsInOrder owned heaps.now }
     ensures { result ≡ first_refusal ((is_none (register heaps.now.heap r), empty) ∷ (nat_le (length (slots_at (objects_of heaps.now.heap) r)) i, no_slot) ∷ []) }
 {
     if is_empty(heaps, r) {
@@ -93,7 +93,7 @@ fn refusal_of_slot(heaps: &Heaps, r: Reg, i: u32) -> Option<Refusal>
 
 /// Whether a script register holds a weak map.
 fn holds_map(heaps: &Heaps, r: u8) -> bool
-    requires { IsInOrder [] heaps.now }
+    requires { (owned : List ℕ) × IsInOrder owned heaps.now }
     ensures { result ≡ is_map_in (objects_of heaps.now.heap) (register heaps.now.heap (s_register r)) }
 {
     match heaps.script_reg(r) {
@@ -104,7 +104,7 @@ fn holds_map(heaps: &Heaps, r: u8) -> bool
 
 /// Why slot `i` of the script object in a register is neither read nor written: a weak map has no slots.
 fn refusal_of_script_slot(heaps: &Heaps, r: u8, i: u32) -> Option<Refusal>
-    requires { IsInOrder [] heaps.now }
+    requires { (owned : List ℕ) × IsInOrder owned heaps.now }
     ensures { result ≡ first_refusal ((is_none (register heaps.now.heap (s_register r)), empty)
         ∷ (is_map_in (objects_of heaps.now.heap) (register heaps.now.heap (s_register r)), wrong_kind)
         ∷ (nat_le (length (slots_at (objects_of heaps.now.heap) (s_register r))) i, no_slot) ∷ []) }
@@ -118,7 +118,7 @@ fn refusal_of_script_slot(heaps: &Heaps, r: u8, i: u32) -> Option<Refusal>
 
 /// Why an entry is neither set nor read, whatever its value is: a register is empty, or the first holds no weak map.
 fn refusal_of_entry(heaps: &Heaps, m: u8, k: u8) -> Option<Refusal>
-    requires { IsInOrder [] heaps.now }
+    requires { (owned : List ℕ) × IsInOrder owned heaps.now }
     ensures { result ≡ first_refusal ((is_none (register heaps.now.heap (s_register m)) || is_none (register heaps.now.heap (s_register k)), empty)
         ∷ (not (is_map_in (objects_of heaps.now.heap) (register heaps.now.heap (s_register m))), wrong_kind) ∷ []) }
 {
@@ -133,7 +133,7 @@ fn refusal_of_entry(heaps: &Heaps, m: u8, k: u8) -> Option<Refusal>
 
 /// Why `set` is refused.
 pub(crate) fn refusal_of_set(heaps: &Heaps, d: u8, i: u32, from: Option<Reg>) -> Option<Refusal>
-    requires { IsInOrder [] heaps.now }
+    requires { (owned : List ℕ) × IsInOrder owned heaps.now }
     ensures { result ≡ refusal_of (objects_of heaps.now.heap) (Set d i from) }
 {
     if is_source_empty(heaps, from) {
@@ -144,7 +144,7 @@ pub(crate) fn refusal_of_set(heaps: &Heaps, d: u8, i: u32, from: Option<Reg>) ->
 
 /// Why `get` into a native register is refused.
 pub(crate) fn refusal_of_get_native(heaps: &Heaps, d: u8, s: u8, i: u32) -> Option<Refusal>
-    requires { IsInOrder [] heaps.now }
+    requires { (owned : List ℕ) × IsInOrder owned heaps.now }
     ensures { result ≡ refusal_of (objects_of heaps.now.heap) (Get (n_register d) s i) }
 {
     if let Some(refusal) = refusal_of_slot(heaps, Reg::N(s), i) {
@@ -158,7 +158,7 @@ pub(crate) fn refusal_of_get_native(heaps: &Heaps, d: u8, s: u8, i: u32) -> Opti
 
 /// Why `get` into a script register is refused: for the same causes as `expose`.
 pub(crate) fn refusal_of_get_script(heaps: &Heaps, d: u8, s: u8, i: u32) -> Option<Refusal>
-    requires { IsInOrder [] heaps.now }
+    requires { (owned : List ℕ) × IsInOrder owned heaps.now }
     ensures { result ≡ refusal_of (objects_of heaps.now.heap) (Get (s_register d) s i) }
 {
     refusal_of_expose(heaps, s, i)
@@ -166,7 +166,7 @@ pub(crate) fn refusal_of_get_script(heaps: &Heaps, d: u8, s: u8, i: u32) -> Opti
 
 /// Why `expose` is refused.
 pub(crate) fn refusal_of_expose(heaps: &Heaps, s: u8, i: u32) -> Option<Refusal>
-    requires { IsInOrder [] heaps.now }
+    requires { (owned : List ℕ) × IsInOrder owned heaps.now }
     ensures { result ≡ refusal_of (objects_of heaps.now.heap) (Expose s i) }
 {
     if let Some(refusal) = refusal_of_slot(heaps, Reg::N(s), i) {
@@ -180,7 +180,7 @@ pub(crate) fn refusal_of_expose(heaps: &Heaps, s: u8, i: u32) -> Option<Refusal>
 
 /// Why `put` is refused.
 pub(crate) fn refusal_of_put(heaps: &Heaps, d: u8, i: u32, from: Option<u8>) -> Option<Refusal>
-    requires { IsInOrder [] heaps.now }
+    requires { (owned : List ℕ) × IsInOrder owned heaps.now }
     ensures { result ≡ refusal_of (objects_of heaps.now.heap) (Put d i from) }
 {
     if is_script_source_empty(heaps, from) {
@@ -191,7 +191,7 @@ pub(crate) fn refusal_of_put(heaps: &Heaps, d: u8, i: u32, from: Option<u8>) -> 
 
 /// Why `take` is refused.
 pub(crate) fn refusal_of_take(heaps: &Heaps, d: u8, s: u8, i: u32) -> Option<Refusal>
-    requires { IsInOrder [] heaps.now }
+    requires { (owned : List ℕ) × IsInOrder owned heaps.now }
     ensures { result ≡ refusal_of (objects_of heaps.now.heap) (Take d s i) }
 {
     refusal_of_script_slot(heaps, s, i)
@@ -199,7 +199,7 @@ pub(crate) fn refusal_of_take(heaps: &Heaps, d: u8, s: u8, i: u32) -> Option<Ref
 
 /// Why `wset` is refused.
 pub(crate) fn refusal_of_set_entry(heaps: &Heaps, m: u8, k: u8, from: Option<u8>) -> Option<Refusal>
-    requires { IsInOrder [] heaps.now }
+    requires { (owned : List ℕ) × IsInOrder owned heaps.now }
     ensures { result ≡ refusal_of (objects_of heaps.now.heap) (SetEntry m k from) }
 {
     if is_script_source_empty(heaps, from) {
@@ -210,7 +210,7 @@ pub(crate) fn refusal_of_set_entry(heaps: &Heaps, m: u8, k: u8, from: Option<u8>
 
 /// Why `wget` is refused.
 pub(crate) fn refusal_of_get_entry(heaps: &Heaps, d: u8, m: u8, k: u8) -> Option<Refusal>
-    requires { IsInOrder [] heaps.now }
+    requires { (owned : List ℕ) × IsInOrder owned heaps.now }
     ensures { result ≡ refusal_of (objects_of heaps.now.heap) (GetEntry d m k) }
 {
     refusal_of_entry(heaps, m, k)

@@ -1,5 +1,5 @@
 //! What registers and slots hold, by keys and by names.
-ghost use Rattle.std.specs.Prelude.{◌≡◌, ◌<◌, [], false, length, is_none, option_map};
+ghost use Rattle.std.specs.Prelude.{◌≡◌, ◌<◌, ℕ, List, false, length, is_none, option_map};
 ghost use Rattle.cc_names.specs.declared.register.Reg.TheVariants.{N as n_register, S as s_register};
 ghost use Rattle.cc_model.specs.Checks.{named_or_nothing, slot_at, slots_at, value_at};
 ghost use Rattle.cc_model.specs.Heap.{objects_of, register, source};
@@ -15,7 +15,7 @@ use cc_names::{NKey, Name, Reg, SKey};
 
 /// How many slots the native in a register has; 0 where the register is empty.
 fn native_slots(heaps: &Heaps, r: u8) -> u8
-    requires { IsInOrder [] heaps.now }
+    requires { (owned : List ℕ) × IsInOrder owned heaps.now }
     ensures { result ≡ length (slots_at (objects_of heaps.now.heap) (n_register r)) }
 {
     match heaps.native_reg(r) {
@@ -26,7 +26,7 @@ fn native_slots(heaps: &Heaps, r: u8) -> u8
 
 /// How many slots the script object in a register has; 0 where the register is empty.
 fn script_slots(heaps: &Heaps, r: u8) -> u8
-    requires { IsInOrder [] heaps.now }
+    requires { (owned : List ℕ) × IsInOrder owned heaps.now }
     ensures { result ≡ length (slots_at (objects_of heaps.now.heap) (s_register r)) }
 {
     match heaps.script_reg(r) {
@@ -37,7 +37,7 @@ fn script_slots(heaps: &Heaps, r: u8) -> u8
 
 /// How many slots the object in a register of either kind has; 0 where the register is empty.
 pub(crate) fn slots(heaps: &Heaps, r: Reg) -> u8
-    requires { IsInOrder [] heaps.now }
+    requires { (owned : List ℕ) × IsInOrder owned heaps.now }
     ensures { result ≡ length (slots_at (objects_of heaps.now.heap) r) }
 {
     match r {
@@ -48,7 +48,7 @@ pub(crate) fn slots(heaps: &Heaps, r: Reg) -> u8
 
 /// The content of slot `i` of the native in a register.
 pub(crate) fn native_content(heaps: &Heaps, r: u8, i: u32) -> Option<Held>
-    requires order { IsInOrder [] heaps.now }
+    requires order { (owned : List ℕ) × IsInOrder owned heaps.now }
     requires slot { i < length (slots_at (objects_of heaps.now.heap) (n_register r)) }
     ensures name { held_name heaps.now result ≡ slot_at (objects_of heaps.now.heap) (n_register r) i }
     ensures there { IsThere heaps.now result }
@@ -61,7 +61,7 @@ pub(crate) fn native_content(heaps: &Heaps, r: u8, i: u32) -> Option<Held>
 
 /// The content of slot `i` of the script object in a register.
 pub(crate) fn script_content(heaps: &Heaps, r: u8, i: u32) -> Option<SKey>
-    requires order { IsInOrder [] heaps.now }
+    requires order { (owned : List ℕ) × IsInOrder owned heaps.now }
     requires slot { i < length (slots_at (objects_of heaps.now.heap) (s_register r)) }
     ensures name { script_name heaps.now result ≡ slot_at (objects_of heaps.now.heap) (s_register r) i }
     ensures there { IsScriptThere heaps.now result }
@@ -74,7 +74,7 @@ pub(crate) fn script_content(heaps: &Heaps, r: u8, i: u32) -> Option<SKey>
 
 /// The value that the key in a register has in the weak map in another. None exactly where it has none.
 pub(crate) fn entry_value(heaps: &Heaps, m: u8, k: u8) -> Option<SKey>
-    requires { IsInOrder [] heaps.now }
+    requires { (owned : List ℕ) × IsInOrder owned heaps.now }
     ensures name { script_name heaps.now result ≡ value_at (objects_of heaps.now.heap) (register heaps.now.heap (s_register m)) (register heaps.now.heap (s_register k)) }
     ensures there { IsScriptThere heaps.now result }
 {
@@ -152,7 +152,7 @@ pub(crate) fn script_source(heaps: &Heaps, from: Option<u8>) -> Option<SKey>
 
 /// Whether a register is empty.
 pub(crate) fn is_empty(heaps: &Heaps, r: Reg) -> bool
-    requires { IsInOrder [] heaps.now }
+    requires { (owned : List ℕ) × IsInOrder owned heaps.now }
     ensures { result ≡ is_none (register heaps.now.heap r) }
 {
     register_content(heaps, r).is_none()

@@ -12,17 +12,25 @@ use cc_names::Limits;
 use std::alloc::Global;
 use std::test::Fail;
 
+// The slot of what register 0 holds holds that too.
+fn hold_itself(heaps: &mut Heaps, out: &mut Notebook)
+    requires { IsInOrder [] heaps.old }
+    ensures { IsInOrder [] heaps.new }
+{
+    if let Some(key) = heaps.native_reg(0) {
+        if heaps.counted().slots(key) == 1 {
+            heaps.store_native(key, 0, Some(Held::Native(key)), out);
+        }
+    }
+}
+
 // A native is made that holds itself, and that nothing else holds.
 pub(crate) fn drop_cycle(heaps: &mut Heaps, out: &mut Notebook)
     requires { IsInOrder [] heaps.old }
     ensures { IsInOrder [] heaps.new }
 {
     let _made = heaps.new_native(0, 1, out);
-    if let Some(key) = heaps.native_reg(0) {
-        if heaps.counted().slots(key) == 1 {
-            heaps.store_native(key, 0, Some(Held::Native(key)), out);
-        }
-    }
+    hold_itself(heaps, out);
     heaps.set_native_reg(0, None, out);
 }
 

@@ -168,7 +168,7 @@ fn suspects_and_frees(alloc: Global, out: &mut Notebook) -> bool {
     hold_itself(&mut heaps, out);
     let _front = take_and_give_back(&mut heaps);
     unlink(&mut heaps, out);
-    heaps.set_native_reg(0, None, out);
+    empty(&mut heaps, out);
     made
 }
 
@@ -179,15 +179,31 @@ fn native_is_suspected_unlinked_and_freed(rt: HostRuntime) {
     assert!(rt; out.text() == b"- unlink #1\n- free #1\n".as_slice());
 }
 
-// The native holds the plain object, which no register does.
-fn hold_plain(heaps: &mut Heaps, out: &mut Notebook)
+// The native holds what script register 0 holds.
+fn hold_object(heaps: &mut Heaps, out: &mut Notebook)
     requires order { IsInOrder [] heaps.old }
     ensures order { IsInOrder [] heaps.new }
 {
     if let (Some(key), Some(object)) = (heaps.native_reg(0), heaps.script_reg(0)) {
         store(heaps, key, Some(Held::Script(object)), out);
     }
+}
+
+// The native holds the plain object, which no register does.
+fn hold_plain(heaps: &mut Heaps, out: &mut Notebook)
+    requires order { IsInOrder [] heaps.old }
+    ensures order { IsInOrder [] heaps.new }
+{
+    hold_object(heaps, out);
     heaps.set_script_reg(0, None);
+}
+
+// Native register 0 is empty from then on.
+fn empty(heaps: &mut Heaps, out: &mut Notebook)
+    requires order { IsInOrder [] heaps.old }
+    ensures order { IsInOrder [] heaps.new }
+{
+    heaps.set_native_reg(0, None, out);
 }
 
 // Script touches the first object.
@@ -232,7 +248,7 @@ fn marks_and_sweeps(alloc: Global, out: &mut Notebook) -> bool {
     let _none_swept = round(&mut heaps, out);
     let gray = is_held_gray(&heaps);
     expose_first(&mut heaps);
-    heaps.set_native_reg(0, None, out);
+    empty(&mut heaps, out);
     let swept = round(&mut heaps, out);
     made & gray & swept
 }

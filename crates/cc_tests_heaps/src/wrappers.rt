@@ -17,7 +17,8 @@ fn wrap_twice(heaps: &mut Heaps) -> bool
         Some(native) => {
             let first = wrap(heaps, native);
             let second = wrap(heaps, native);
-            first.is_ok() & (first == second)
+            let same = first == second;
+            first.is_ok() & same
         }
         None => false,
     }
@@ -32,7 +33,8 @@ fn preserve_first(heaps: &mut Heaps) -> bool
         Some(native) => match wrap(heaps, native) {
             Ok(reflector) => {
                 let unwrapped = unwrap_of(heaps, reflector);
-                preserve(heaps, reflector) & (unwrapped == Some(native))
+                let preserved = preserve(heaps, reflector);
+                (unwrapped == Some(native)) & preserved
             }
             Err(_) => false,
         },

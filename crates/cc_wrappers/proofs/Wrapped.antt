@@ -1,5 +1,5 @@
 -- WHAT A NATIVE WRAPPED GIVES: the reflector that it has, exposed, or a new one; and what a reflector preserved gives.
-use Rattle.std.proofs.Common.{◌≡◌, ◌==◌, ℕ, Bool, true, false, [], ◌∷◌, Option, Some, None, Result, Ok, Err, IfOk, OnOk, OnErr, is_some, option_map, refl, sym, ◌∙◌, ap, subst, ⊎_elim, IsSome}
+use Rattle.std.proofs.Common.{◌≡◌, ◌==◌, ℕ, Bool, true, false, List, [], ◌∷◌, Option, Some, None, Result, Ok, Err, IfOk, OnOk, OnErr, is_some, option_map, refl, sym, ◌∙◌, ap, subst, ⊎_elim, IsSome}
 use Rattle.std.specs.Prelude.{IsTrue}
 use Rattle.std.specs.Option.{option_and_then}
 use Rattle.std.proofs.lemmas.Bool.{false≢true}
@@ -42,14 +42,14 @@ use Rattle.cc_wrappers.proofs.ReflectorKeys.{object-at, name-held, black-at, ref
 
 -- A native's reflector, by the key that the counted heap has
 
-module _ (v : Keyed) (o : IsInOrder [] v) (key : ℕ) (live : IsSome (number_at v key)) where
+module _ {owned : List ℕ} (v : Keyed) (o : IsInOrder owned v) (key : ℕ) (live : IsSome (number_at v key)) where
   -- the number of the native
   abbrev number : ℕ
   number = the_number v key
 
   -- Where it has a key, the reflector stands there,
   pub reflector-name : (r : ℕ) → reflector_at (counts_of v) key ≡ Some r → name_at v.scripts r ≡ Some (reflector number)
-  reflector-name r e = reflector-at [] v o number r (sym (reflector_at-number v key live) ∙ e)
+  reflector-name r e = reflector-at owned v o number r (sym (reflector_at-number v key live) ∙ e)
 
   -- and where it has none, there is none.
   pub reflector-none : reflector_at (counts_of v) key ≡ None → has_reflector v.heap number ≡ false
@@ -64,7 +64,7 @@ still-reached h g None kept d = tt
 still-reached h g (Some y) kept d = kept y d
 
 -- THE REFLECTOR THAT IS THERE, EXPOSED
-module _ (v w : Keyed) (o : IsInOrder [] v) (p : IsInOrder [] w) (k r : ℕ) (named : name_at v.scripts r ≡ Some (reflector k)) (has : has_reflector v.heap k ≡ true)
+module _ {owned : List ℕ} (v w : Keyed) (o : IsInOrder owned v) (p : IsInOrder owned w) (k r : ℕ) (named : name_at v.scripts r ≡ Some (reflector k)) (has : has_reflector v.heap k ≡ true)
     (heap : w.heap ≡ exposed v.heap (name_at v.scripts r)) (keys : KeepsKeys v w) where
   -- the heap by its name
   exposed-heap : w.heap ≡ exposed v.heap (Some (reflector k))
@@ -78,17 +78,17 @@ module _ (v w : Keyed) (o : IsInOrder [] v) (p : IsInOrder [] w) (k r : ℕ) (na
   pub exposed-name : name_at w.scripts r ≡ Some (reflector k)
   exposed-name = keys.scripts r (reflector k) named
       (subst (Among (reflector k)) (sym (ap script_names exposed-heap ∙ script_names-exposed v.heap (Some (reflector k)) o.sound.well_formed))
-      (name-held [] v o r (reflector k) named))
+      (name-held owned v o r (reflector k) named))
 
   -- it is black,
   pub exposed-colour : colour_at w.scripts r ≡ Some Black
-  exposed-colour = black-at [] w p r (reflector k) exposed-name
+  exposed-colour = black-at owned w p r (reflector k) exposed-name
       (subst (λ h. IsHeldBlack h.scripts (Some (reflector k))) (sym exposed-heap) (exposed-black v.heap (Some (reflector k))))
 
   -- and the heaps stand for the graph in which the native is wrapped.
   pub exposed-stands : IsReached v.heap (Some (native k)) → StandsAfter v.heap w.heap (λ g. graph.wrapped g (Some (native k)))
   exposed-stands d = subst (λ h. StandsAfter v.heap h (λ g. graph.wrapped g (Some (native k)))) (sym exposed-wrapped)
-      (wrapped-stands v.heap k o.sound (o.sound.well_formed.reflected k (name-held [] v o r (reflector k) named)) d)
+      (wrapped-stands v.heap k o.sound (o.sound.well_formed.reflected k (name-held owned v o r (reflector k) named)) d)
 
   -- What is reached stays reached.
   pub exposed-keeps_reached : (x : Option Name) → IsReached v.heap x → IsReached w.heap x
@@ -96,7 +96,7 @@ module _ (v w : Keyed) (o : IsInOrder [] v) (p : IsInOrder [] w) (k r : ℕ) (na
       (still-reached v.heap (exposed v.heap (Some (reflector k))) x (exposed-reached v.heap (Some (reflector k)) o.sound) d)
 
 -- A REFLECTOR MADE
-module _ (v w : Keyed) (p : IsInOrder [] w) (k : ℕ) (none : has_reflector v.heap k ≡ false) where
+module _ {owned : List ℕ} (v w : Keyed) (p : IsInOrder owned w) (k : ℕ) (none : has_reflector v.heap k ≡ false) where
   -- it is the last of the script objects, and black
   made-black : IsHeldBlack (with_reflector v.heap k).scripts (Some (reflector k))
   made-black = each-push (λ s. Among s.name (reflector k ∷ []) → s.colour ≡ Black) v.heap.scripts (blank (reflector k) Reflector reflector_slots)
@@ -111,7 +111,7 @@ module _ (v w : Keyed) (p : IsInOrder [] w) (k : ℕ) (none : has_reflector v.he
   -- It is black.
   pub made-colour : (result : Result SKey NoMemory) → OnOk result (w.heap ≡ with_reflector v.heap k) →
       IfOk result (λ made. name_at w.scripts made.0 ≡ Some (reflector k)) → IfOk result (λ made. colour_at w.scripts made.0 ≡ Some Black)
-  made-colour (Ok made) e n = black-at [] w p made.0 (reflector k) n (subst (λ h. IsHeldBlack h.scripts (Some (reflector k))) (sym e) made-black)
+  made-colour (Ok made) e n = black-at owned w p made.0 (reflector k) n (subst (λ h. IsHeldBlack h.scripts (Some (reflector k))) (sym e) made-black)
   made-colour (Err stop) e n = tt
 
   -- What is reached stays reached.
@@ -140,7 +140,7 @@ behind-named v (Some q) (name.Script k) r = absurd (cc)
 behind-named v None (name.Reflector k) r = absurd r
 behind-named v (Some q) (name.Reflector k) r = record { name = ap (option_map native) r; there = ap is_some r }
 
-pub behind-at : (v : Keyed) → IsInOrder [] v → (key : ℕ) (result : Option NKey) → IsTrue (is_there v.scripts key) →
+pub behind-at : {owned : List ℕ} (v : Keyed) → IsInOrder owned v → (key : ℕ) (result : Option NKey) → IsTrue (is_there v.scripts key) →
     option_map (λ (k : NKey). k.0) result ≡ native_at v.scripts key → IsBehind v result (name_at v.scripts key)
 behind-at v o key result live e =
     let q = object-at v.scripts key live in
@@ -166,12 +166,12 @@ found-reflector v q x live e = go (number_at v q.0) refl live x e
         ap (λ i. Some (reflector i)) same ∙ ap (λ i. Some (reflector i)) (sym (rw f refl))
 
 -- so the native has one
-pub found-has : (v : Keyed) (o : IsInOrder [] v) (key k : ℕ) → name_at v.scripts key ≡ Some (reflector k) → has_reflector v.heap k ≡ true
-found-has v o key k e = go (has_reflector v.heap k) refl
+pub found-has : {owned : List ℕ} (v : Keyed) (o : IsInOrder owned v) (key k : ℕ) → name_at v.scripts key ≡ Some (reflector k) → has_reflector v.heap k ≡ true
+found-has {owned} v o key k e = go (has_reflector v.heap k) refl
   where
     go : (b : Bool) → has_reflector v.heap k ≡ b → b ≡ true
     go true f = refl
-    go false f = absurd (has_reflector-none v.heap k f (name-held [] v o key (reflector k) e))
+    go false f = absurd (has_reflector-none v.heap k f (name-held owned v o key (reflector k) e))
 
 -- the native of a reflector that is reached is reached
 pub behind-reached : (h : Heap) (k : ℕ) → Among (reflector k) (script_names h) → ReachedIn (view h) (reflector k) → ReachedIn (view h) (native k)
@@ -185,7 +185,7 @@ no_reflector-may_hold h (Some (name.Script k)) e = tt
 no_reflector-may_hold h (Some (name.Reflector k)) e = absurd (cc)
 
 -- a reflector preserved leaves what is handed in reached
-pub preserved-keeps_reached : (v : Keyed) (o : IsInOrder [] v) (key k : ℕ) → name_at v.scripts key ≡ Some (reflector k) → (x : Option Name) →
+pub preserved-keeps_reached : {owned : List ℕ} (v : Keyed) (o : IsInOrder owned v) (key k : ℕ) → name_at v.scripts key ≡ Some (reflector k) → (x : Option Name) →
     IsReached v.heap x → IsReached (set_preserved v.heap k true) x
-preserved-keeps_reached v o key k e x = still-reached v.heap (set_preserved v.heap k true) x
-    (preserved-reached v.heap k o.sound (name-held [] v o key (reflector k) e))
+preserved-keeps_reached {owned} v o key k e x = still-reached v.heap (set_preserved v.heap k true) x
+    (preserved-reached v.heap k o.sound (name-held owned v o key (reflector k) e))

@@ -1,5 +1,5 @@
 //! Natives wrapped, and reflectors unwrapped and preserved.
-ghost use Rattle.std.specs.Prelude.{◌≡◌, true, false, [], Option, Some, IsSome, IsTrue, IfOk, OnOk, OnErr, option_map};
+ghost use Rattle.std.specs.Prelude.{◌≡◌, true, false, ℕ, List, Option, Some, IsSome, IsTrue, IfOk, OnOk, OnErr, option_map};
 ghost use Rattle.cc_names.specs.declared.name.Name.{Name};
 ghost use Rattle.cc_names.specs.declared.kind.Colour.TheVariants.{Black};
 ghost use Rattle.cc_names.specs.Names.{native, reflector, is_reflector};
@@ -11,7 +11,7 @@ ghost use Rattle.cc_script.specs.Objects.{colour_at, is_there, name_at};
 ghost use Rattle.cc_heaps.specs.Keyed.{IsInOrder, number_at, the_number, changed_to};
 ghost use Rattle.cc_heaps.specs.Changes.{IsNativeThere, IsScriptThere, KeepsKeys, native_name};
 ghost use Rattle.cc_heaps.specs.Standing.{IsReached, MayHold, StandsAfter, KeepsFresh, KeepsSuspected, KeepsColours};
-ghost use Rattle.cc_heaps.specs.Few.{AreFew};
+ghost use Rattle.cc_heaps.specs.Few.{AreFewIfOwnedOnce, AreOwnedOnce};
 
 use cc_heaps::Heaps;
 use cc_names::{NKey, NoMemory, SKey};
@@ -21,7 +21,7 @@ use cc_names::{NKey, NoMemory, SKey};
 ///
 /// `NoMemory` only where the native has no reflector; it changes nothing.
 pub fn wrap(heaps: &mut Heaps, key: NKey) -> Result<SKey, NoMemory>
-    requires order { IsInOrder [] heaps.old }
+    requires order { (owned : List ℕ) × IsInOrder owned heaps.old × AreOwnedOnce owned }
     requires live { IsSome (number_at heaps.old key.0) }
     ensures heap { OnOk result (heaps.new.heap ≡ wrapped heaps.old.heap (Some (native (the_number heaps.old key.0)))) }
     ensures name { IfOk result (λ made. name_at heaps.new.scripts made.0 ≡ Some (reflector (the_number heaps.old key.0))) }
@@ -31,8 +31,8 @@ pub fn wrap(heaps: &mut Heaps, key: NKey) -> Result<SKey, NoMemory>
     ensures same { OnErr result (heaps.new ≡ heaps.old) }
     ensures natives { heaps.new.keys ≡ heaps.old.keys }
     ensures keys { KeepsKeys heaps.old heaps.new }
-    ensures order { IsInOrder [] heaps.new }
-    ensures counts { AreFew heaps.new.heap }
+    ensures order { (owned : List ℕ) → IsInOrder owned heaps.old → IsInOrder owned heaps.new }
+    ensures counts { AreFewIfOwnedOnce heaps.new }
     ensures stands { OnOk result (IsReached heaps.old.heap (Some (native (the_number heaps.old key.0))) →
         StandsAfter heaps.old.heap heaps.new.heap (λ g. graph.wrapped g (Some (native (the_number heaps.old key.0))))) }
     ensures colours { KeepsColours heaps.old.heap heaps.new.heap }
@@ -52,7 +52,7 @@ pub fn wrap(heaps: &mut Heaps, key: NKey) -> Result<SKey, NoMemory>
 
 /// The native that a reflector stands for; none exactly where the object is no reflector.
 pub fn unwrap_of(heaps: &Heaps, key: SKey) -> Option<NKey>
-    requires order { IsInOrder [] heaps.now }
+    requires order { (owned : List ℕ) × IsInOrder owned heaps.now }
     requires live { IsTrue (is_there heaps.now.scripts key.0) }
     ensures name { native_name heaps.now result ≡ native_of (name_at heaps.now.scripts key.0) }
     ensures there { IsNativeThere heaps.now result }
@@ -65,14 +65,14 @@ pub fn unwrap_of(heaps: &Heaps, key: SKey) -> Option<NKey>
 ///
 /// Snapshots stay fresh where the object is black, as each is that script hands out. Takes no memory.
 pub fn preserve(heaps: &mut Heaps, key: SKey) -> bool
-    requires order { IsInOrder [] heaps.old }
+    requires order { (owned : List ℕ) × IsInOrder owned heaps.old }
     requires live { IsTrue (is_there heaps.old.scripts key.0) }
     ensures reflects { option_map is_reflector (name_at heaps.old.scripts key.0) ≡ Some result }
     ensures heap { heaps.new ≡ changed_to heaps.old (preserved heaps.old.heap (name_at heaps.old.scripts key.0)) }
     ensures same { result ≡ false → heaps.new ≡ heaps.old }
     ensures keys { KeepsKeys heaps.old heaps.new }
-    ensures order { IsInOrder [] heaps.new }
-    ensures counts { AreFew heaps.new.heap }
+    ensures order { (owned : List ℕ) → IsInOrder owned heaps.old → IsInOrder owned heaps.new }
+    ensures counts { AreFewIfOwnedOnce heaps.new }
     ensures stands { IsReached heaps.old.heap (name_at heaps.old.scripts key.0) →
         StandsAfter heaps.old.heap heaps.new.heap (λ g. graph.preserve g (name_at heaps.old.scripts key.0)) }
     ensures colours { KeepsColours heaps.old.heap heaps.new.heap }

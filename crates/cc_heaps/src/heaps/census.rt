@@ -1,5 +1,5 @@
 //! The objects listed.
-ghost use Rattle.std.specs.Prelude.{◌≡◌, ◌≤◌, [], length, map, ◌+◌, ◌<◌, Some, None};
+ghost use Rattle.std.specs.Prelude.{◌≡◌, ◌≤◌, ℕ, List, length, map, ◌+◌, ◌<◌, Some, None};
 ghost use Rattle.cc_model.specs.declared.item.Item.TheVariants.{Listed};
 ghost use Rattle.cc_model.specs.WellFormed.{native_names, script_names};
 ghost use Rattle.cc_model.specs.Run.{census_names};
@@ -13,7 +13,7 @@ use cc_names::Name;
 impl Heaps {
     // Each native by rising number; how many there are.
     fn list_natives<N: Notices>(&self, out: &mut N) -> u32
-        requires order { IsInOrder [] self.now }
+        requires order { (owned : List ℕ) × IsInOrder owned self.now }
         ensures told { Tells (N.telling out.old) (N.telling out.new) (map Listed (native_names self.now.heap)) }
         ensures count { result ≡ length (native_names self.now.heap) }
         ensures few { result ≤ 1000000 }
@@ -33,7 +33,7 @@ impl Heaps {
 
     // Each script object in order of making; how many there are.
     fn list_scripts<N: Notices>(&self, out: &mut N) -> u32
-        requires order { IsInOrder [] self.now }
+        requires order { (owned : List ℕ) × IsInOrder owned self.now }
         ensures told { Tells (N.telling out.old) (N.telling out.new) (map Listed (script_names self.now.heap)) }
         ensures count { result ≡ length (script_names self.now.heap) }
         ensures few { result ≤ 2000000 }
@@ -50,7 +50,7 @@ impl Heaps {
 
     /// Lists each native by rising number, then each script object in order of making. How many there are.
     pub fn census<N: Notices>(&self, out: &mut N) -> u32
-        requires order { IsInOrder [] self.now }
+        requires order { (owned : List ℕ) × IsInOrder owned self.now }
         ensures told { Tells (N.telling out.old) (N.telling out.new) (map Listed (census_names self.now.heap)) }
         ensures count { result ≡ length (census_names self.now.heap) }
     {

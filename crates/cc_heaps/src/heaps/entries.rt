@@ -1,5 +1,5 @@
 //! Entries of weak maps set and taken out.
-ghost use Rattle.std.specs.Prelude.{◌≡◌, [], None, Some, IsOk, IsSome, IsTrue, OnErr, OnOk};
+ghost use Rattle.std.specs.Prelude.{◌≡◌, ℕ, List, None, Some, IsOk, IsSome, IsTrue, OnErr, OnOk};
 ghost use Rattle.cc_names.specs.declared.kind.Kind.TheVariants.{Map};
 ghost use Rattle.cc_model.specs.Checks.{value_at};
 ghost use Rattle.cc_model.specs.Entries.{with_entry};
@@ -11,7 +11,7 @@ ghost use Rattle.cc_counted.specs.declared.held.Held.TheVariants as held;
 ghost use Rattle.cc_heaps.specs.Keyed.{IsInOrder, changed_to, the_name_at};
 ghost use Rattle.cc_heaps.specs.Changes.{IsBlackHeld, KeepsKeys};
 ghost use Rattle.cc_heaps.specs.Standing.{IsReached, StandsAfter, KeepsFresh, KeepsSuspected, KeepsColours};
-ghost use Rattle.cc_heaps.specs.Few.{AreFew};
+ghost use Rattle.cc_heaps.specs.Few.{AreFewIfOwnedOnce};
 
 use crate::heaps::Heaps;
 use cc_names::{NoMemory, SKey};
@@ -19,7 +19,7 @@ use cc_names::{NoMemory, SKey};
 impl Heaps {
     // An entry keeps its place with another value, or goes last where there was none. Its key is not preserved.
     fn put_entry(&mut self, the_map: SKey, key: SKey, value: SKey) -> Result<(), NoMemory>
-        requires order { IsInOrder [] self.old }
+        requires order { (owned : List ℕ) × IsInOrder owned self.old }
         requires the_map { kind_at self.old.scripts the_map.0 ≡ Some Map }
         requires key { IsTrue (is_there self.old.scripts key.0) }
         requires value { IsTrue (is_there self.old.scripts value.0) }
@@ -30,17 +30,17 @@ impl Heaps {
         ensures natives { self.new.keys ≡ self.old.keys }
         ensures scripts { self.new.scripts ≡ self.old.scripts }
         ensures same { OnErr result (self.new ≡ self.old) }
-        ensures order { IsInOrder [] self.new }
+        ensures order { (owned : List ℕ) → IsInOrder owned self.old → IsInOrder owned self.new }
     {
         self.weak.set(the_map, key, value)
     }
 
     // A script object that is a reflector is preserved.
     fn preserve(&mut self, key: SKey)
-        requires order { IsInOrder [] self.old }
+        requires order { (owned : List ℕ) × IsInOrder owned self.old }
         requires live { IsTrue (is_there self.old.scripts key.0) }
         ensures heap { self.new ≡ changed_to self.old (preserve self.old.heap (name_at self.old.scripts key.0)) }
-        ensures order { IsInOrder [] self.new }
+        ensures order { (owned : List ℕ) → IsInOrder owned self.old → IsInOrder owned self.new }
     {
         if let Some(native) = self.scripts.native_of(key) {
             self.set_preserved(native);
@@ -53,7 +53,7 @@ impl Heaps {
     /// `NoMemory` changes nothing, and comes only where there was no entry. A gray value would have an entry of which a
     /// snapshot knows nothing, and a gray reflector a holder: snapshots stay fresh where key and value are black.
     pub fn set_entry(&mut self, the_map: SKey, key: SKey, value: SKey) -> Result<(), NoMemory>
-        requires order { IsInOrder [] self.old }
+        requires order { (owned : List ℕ) × IsInOrder owned self.old }
         requires the_map { kind_at self.old.scripts the_map.0 ≡ Some Map }
         requires key { IsTrue (is_there self.old.scripts key.0) }
         requires value { IsTrue (is_there self.old.scripts value.0) }
@@ -62,8 +62,8 @@ impl Heaps {
         ensures natives { self.new.keys ≡ self.old.keys }
         ensures keys { KeepsKeys self.old self.new }
         ensures same { OnErr result (self.new ≡ self.old) }
-        ensures order { IsInOrder [] self.new }
-        ensures counts { AreFew self.new.heap }
+        ensures order { (owned : List ℕ) → IsInOrder owned self.old → IsInOrder owned self.new }
+        ensures counts { AreFewIfOwnedOnce self.new }
         ensures stands { OnOk result (IsReached self.old.heap (name_at self.old.scripts the_map.0) → IsReached self.old.heap (name_at self.old.scripts key.0) →
             IsReached self.old.heap (name_at self.old.scripts value.0) →
             StandsAfter self.old.heap self.new.heap (λ g. graph.set_entry g (name_at self.old.scripts the_map.0) (name_at self.old.scripts key.0) (name_at self.old.scripts value.0))) }
@@ -78,14 +78,14 @@ impl Heaps {
 
     /// A key has no value in a weak map from then on; later entries close up. Nothing is preserved. Takes no memory.
     pub fn unset_entry(&mut self, the_map: SKey, key: SKey)
-        requires order { IsInOrder [] self.old }
+        requires order { (owned : List ℕ) × IsInOrder owned self.old }
         requires the_map { kind_at self.old.scripts the_map.0 ≡ Some Map }
         requires key { IsTrue (is_there self.old.scripts key.0) }
         ensures heap { self.new.heap ≡ set_entry self.old.heap (name_at self.old.scripts the_map.0) (name_at self.old.scripts key.0) None }
         ensures natives { self.new.keys ≡ self.old.keys }
         ensures keys { KeepsKeys self.old self.new }
-        ensures order { IsInOrder [] self.new }
-        ensures counts { AreFew self.new.heap }
+        ensures order { (owned : List ℕ) → IsInOrder owned self.old → IsInOrder owned self.new }
+        ensures counts { AreFewIfOwnedOnce self.new }
         ensures stands { IsReached self.old.heap (name_at self.old.scripts the_map.0) → IsReached self.old.heap (name_at self.old.scripts key.0) →
             StandsAfter self.old.heap self.new.heap (λ g. graph.set_entry g (name_at self.old.scripts the_map.0) (name_at self.old.scripts key.0) None) }
         ensures colours { KeepsColours self.old.heap self.new.heap }

@@ -1,10 +1,11 @@
 //! Native registers and slots of natives written.
-ghost use Rattle.std.specs.Prelude.{◌≡◌, ◌<◌, [], ◌++◌, length, slice_index_or, Some, None, IsSome, ◌+◌};
+ghost use Rattle.std.specs.Prelude.{◌≡◌, ◌<◌, ◌≤◌, ℕ, List, ◌∷◌, ◌++◌, length, slice_index_or, Some, None, IsSome, ◌+◌};
 ghost use Rattle.cc_names.specs.Names.{native};
 ghost use Rattle.cc_names.specs.declared.register.Reg.TheVariants.{N as n_register};
 ghost use Rattle.cc_model.specs.Heap.{native_at, register, set_register, set_slot};
-ghost use Rattle.cc_model.specs.Cascade.{take_up, let_go};
+ghost use Rattle.cc_model.specs.Cascade.{add_ref, take_up, let_go};
 ghost use Rattle.cc_model.specs.End.{slots_now};
+ghost use Rattle.cc_model.specs.Counts.{times};
 ghost use Rattle.cc_model.specs.Effects.{hold_native, put_in_register};
 ghost use Rattle.cc_model.specs.Telling.{TellsEvents};
 ghost use Rattle.cc_model.specs.Graph as graph;
@@ -13,7 +14,7 @@ ghost use Rattle.cc_counted.specs.Counts.{slots_of};
 ghost use Rattle.cc_heaps.specs.Keyed.{IsInOrder, counts_of, number_at, the_number, changed_to, left_with};
 ghost use Rattle.cc_heaps.specs.Changes.{IsNativeThere, IsThere, held_name, native_name, stored_in, IsBlackHeld, KeepsKeys};
 ghost use Rattle.cc_heaps.specs.Standing.{IsReached, StandsAfter, KeepsFresh, KeepsSuspected, KeepsColours};
-ghost use Rattle.cc_heaps.specs.Few.{AreFew};
+ghost use Rattle.cc_heaps.specs.Few.{AreFewIfOwnedOnce, AreOwnedOnce};
 
 use crate::heaps::Heaps;
 use cc_counted::{Held, native_held};
@@ -21,26 +22,36 @@ use cc_model::Notices;
 use cc_names::NKey;
 
 impl Heaps {
+    // One more reference to a native, which the caller owns; it owns one at most so far.
+    pub(super) fn take_reference(&mut self, key: NKey)
+        requires live { IsSome (number_at self.old key.0) }
+        requires owned { (owned : List ℕ) × IsInOrder owned self.old × (times (the_number self.old key.0) owned ≤ 1) }
+        ensures heap { self.new ≡ changed_to self.old (add_ref self.old.heap (the_number self.old key.0)) }
+        ensures order { (owned : List ℕ) → IsInOrder owned self.old → IsInOrder (the_number self.old key.0 ∷ owned) self.new }
+    {
+        self.counted.root(key);
+    }
+
     // A reference to what a register or a slot is to hold.
     fn take_up(&mut self, content: Option<Held>)
-        requires order { IsInOrder [] self.old }
+        requires order { (owned : List ℕ) × IsInOrder owned self.old × AreOwnedOnce owned }
         requires there { IsThere self.old content }
         ensures heap { self.new ≡ changed_to self.old (take_up self.old.heap (held_name self.old content)) }
-        ensures order { IsInOrder (numbers_of (held_name self.old content) ++ []) self.new }
+        ensures order { (owned : List ℕ) → IsInOrder owned self.old → IsInOrder (numbers_of (held_name self.old content) ++ owned) self.new }
     {
         match native_held(content) {
-            Some(key) => self.root(key),
+            Some(key) => self.take_reference(key),
             None => {}
         }
     }
 
     // What a register or a slot held, given up.
     fn let_go<N: Notices>(&mut self, content: Option<Held>, out: &mut N)
-        requires order { IsInOrder (numbers_of (held_name self.old content) ++ []) self.old }
+        requires order { (owned : List ℕ) × IsInOrder (numbers_of (held_name self.old content) ++ owned) self.old }
         requires there { IsThere self.old content }
         ensures heap { self.new ≡ left_with self.old (let_go self.old.heap (held_name self.old content)).heap }
         ensures told { TellsEvents (N.telling out.old) (N.telling out.new) (let_go self.old.heap (held_name self.old content)).events }
-        ensures order { IsInOrder [] self.new }
+        ensures order { (owned : List ℕ) → IsInOrder (numbers_of (held_name self.old content) ++ owned) self.old → IsInOrder owned self.new }
     {
         match native_held(content) {
             Some(key) => self.unroot(key, out),
@@ -50,12 +61,12 @@ impl Heaps {
 
     // A register written, whose new reference was taken before; what it held.
     fn replace_register(&mut self, r: u8, content: Option<NKey>) -> Option<NKey>
-        requires order { IsInOrder (numbers_of (native_name self.old content) ++ []) self.old }
+        requires order { (owned : List ℕ) × IsInOrder (numbers_of (native_name self.old content) ++ owned) self.old }
         requires there { IsNativeThere self.old content }
         ensures heap { self.new ≡ changed_to self.old (set_register self.old.heap (n_register r) (native_name self.old content)) }
         ensures held { native_name self.old result ≡ register self.old.heap (n_register r) }
         ensures there { IsNativeThere self.new result }
-        ensures order { IsInOrder (numbers_of (native_name self.new result) ++ []) self.new }
+        ensures order { (owned : List ℕ) → IsInOrder (numbers_of (native_name self.old content) ++ owned) self.old → IsInOrder (numbers_of (native_name self.new result) ++ owned) self.new }
     {
         let held = self.native_reg(r);
         self.native_registers[r as usize] = content;
@@ -64,11 +75,11 @@ impl Heaps {
 
     // A register written, whose new reference was taken before: what it held is given up.
     pub(super) fn put_in_register<N: Notices>(&mut self, r: u8, content: Option<NKey>, out: &mut N)
-        requires order { IsInOrder (numbers_of (native_name self.old content) ++ []) self.old }
+        requires order { (owned : List ℕ) × IsInOrder (numbers_of (native_name self.old content) ++ owned) self.old }
         requires there { IsNativeThere self.old content }
         ensures heap { self.new ≡ left_with self.old (put_in_register self.old.heap r (native_name self.old content)).heap }
         ensures told { TellsEvents (N.telling out.old) (N.telling out.new) (put_in_register self.old.heap r (native_name self.old content)).events }
-        ensures order { IsInOrder [] self.new }
+        ensures order { (owned : List ℕ) → IsInOrder (numbers_of (native_name self.old content) ++ owned) self.old → IsInOrder owned self.new }
     {
         let held = self.replace_register(r, content);
         self.let_go(Held::of_native(held), out);
@@ -76,14 +87,14 @@ impl Heaps {
 
     // Slot i of a native written, whose new reference was taken before; what it held.
     fn replace_slot(&mut self, key: NKey, i: u8, content: Option<Held>) -> Option<Held>
-        requires order { IsInOrder (numbers_of (held_name self.old content) ++ []) self.old }
+        requires order { (owned : List ℕ) × IsInOrder (numbers_of (held_name self.old content) ++ owned) self.old }
         requires live { IsSome (number_at self.old key.0) }
         requires within { i < length (slots_now (native_at self.old.heap (the_number self.old key.0))) }
         requires there { IsThere self.old content }
         ensures heap { self.new ≡ changed_to self.old (set_slot self.old.heap (Some (native (the_number self.old key.0))) i (held_name self.old content)) }
         ensures held { held_name self.old result ≡ slice_index_or (slots_now (native_at self.old.heap (the_number self.old key.0))) i None }
         ensures there { IsThere self.new result }
-        ensures order { IsInOrder (numbers_of (held_name self.new result) ++ []) self.new }
+        ensures order { (owned : List ℕ) → IsInOrder (numbers_of (held_name self.old content) ++ owned) self.old → IsInOrder (numbers_of (held_name self.new result) ++ owned) self.new }
     {
         self.counted.set_slot(key, i, content)
     }
@@ -93,14 +104,14 @@ impl Heaps {
     /// The new reference is taken first, then the register is written, then what it held is given up with all that it
     /// deletes. Takes no memory.
     pub fn set_native_reg<N: Notices>(&mut self, r: u8, content: Option<NKey>, out: &mut N)
-        requires order { IsInOrder [] self.old }
+        requires order { (owned : List ℕ) × IsInOrder owned self.old × AreOwnedOnce owned }
         requires there { IsNativeThere self.old content }
         ensures heap { self.new ≡ left_with self.old (hold_native self.old.heap r (native_name self.old content)).heap }
         ensures told { TellsEvents (N.telling out.old) (N.telling out.new)
             (hold_native self.old.heap r (native_name self.old content)).events }
         ensures keys { KeepsKeys self.old self.new }
-        ensures order { IsInOrder [] self.new }
-        ensures counts { AreFew self.new.heap }
+        ensures order { (owned : List ℕ) → IsInOrder owned self.old → IsInOrder owned self.new }
+        ensures counts { AreFewIfOwnedOnce self.new }
         ensures stands { IsReached self.old.heap (native_name self.old content) →
             StandsAfter self.old.heap self.new.heap (λ g. graph.set_register g (n_register r) (native_name self.old content)) }
         ensures colours { KeepsColours self.old.heap self.new.heap }
@@ -118,7 +129,7 @@ impl Heaps {
     /// snapshots stay fresh where a script object that comes in is black. A native that is not reached could lose its mark
     /// by coming into the slot of another such one: none is forgotten where the native whose slot is written is reached.
     pub fn store_native<N: Notices>(&mut self, key: NKey, i: u8, content: Option<Held>, out: &mut N)
-        requires order { IsInOrder [] self.old }
+        requires order { (owned : List ℕ) × IsInOrder owned self.old × AreOwnedOnce owned }
         requires live { IsSome (number_at self.old key.0) }
         requires within { i < length (slots_of (counts_of self.old) key.0) }
         requires there { IsThere self.old content }
@@ -126,8 +137,8 @@ impl Heaps {
         ensures told { TellsEvents (N.telling out.old) (N.telling out.new)
             (stored_in self.old.heap (the_number self.old key.0) i (held_name self.old content)).events }
         ensures keys { KeepsKeys self.old self.new }
-        ensures order { IsInOrder [] self.new }
-        ensures counts { AreFew self.new.heap }
+        ensures order { (owned : List ℕ) → IsInOrder owned self.old → IsInOrder owned self.new }
+        ensures counts { AreFewIfOwnedOnce self.new }
         ensures stands { IsReached self.old.heap (Some (native (the_number self.old key.0))) → IsReached self.old.heap (held_name self.old content) →
             StandsAfter self.old.heap self.new.heap (λ g. graph.set_slot g (Some (native (the_number self.old key.0))) i (held_name self.old content)) }
         ensures colours { IsBlackHeld self.old content → KeepsColours self.old.heap self.new.heap }

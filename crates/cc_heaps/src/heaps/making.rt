@@ -1,5 +1,5 @@
 //! Natives made.
-ghost use Rattle.std.specs.Prelude.{◌≡◌, ◌+◌, ◌<◌, ◌≤◌, ℕ, [], ◌∷◌, Some, Err, IfOk, OnOk, OnErr};
+ghost use Rattle.std.specs.Prelude.{◌≡◌, ◌+◌, ◌<◌, ◌≤◌, ℕ, List, ◌∷◌, Some, Err, IfOk, OnOk, OnErr};
 ghost use Rattle.cc_names.specs.Names.{native};
 ghost use Rattle.cc_model.specs.Effects.{make_native, with_native};
 ghost use Rattle.cc_model.specs.Telling.{TellsEvents};
@@ -8,7 +8,7 @@ ghost use Rattle.cc_model.specs.Graph as graph;
 ghost use Rattle.cc_heaps.specs.Keyed.{IsInOrder, number_at};
 ghost use Rattle.cc_heaps.specs.Changes.{IsNativeThere, KeepsKeys, native_name};
 ghost use Rattle.cc_heaps.specs.Standing.{StandsAfter, KeepsFresh, KeepsSuspected, KeepsColours};
-ghost use Rattle.cc_heaps.specs.Few.{AreFew};
+ghost use Rattle.cc_heaps.specs.Few.{AreFewIfOwnedOnce};
 
 use crate::heaps::Heaps;
 use crate::make_stop::MakeStop;
@@ -18,7 +18,7 @@ use cc_names::{NKey, Name, NativeNo, NoMemory};
 impl Heaps {
     // A native with the next number and so many empty slots, in the buffer too; the caller owns the reference to it.
     fn put(&mut self, slots: u8) -> Result<NKey, NoMemory>
-        requires order { IsInOrder [] self.old }
+        requires order { (owned : List ℕ) × IsInOrder owned self.old }
         requires slots { slots ≤ 64 }
         requires allowed { self.old.heap.natives_made < self.old.heap.limits.natives }
         ensures made { OnOk result (self.new.heap.natives_made ≡ self.old.heap.natives_made + 1) }
@@ -27,7 +27,7 @@ impl Heaps {
         ensures there { IfOk result (λ key. IsNativeThere self.new (Some key)) }
         ensures scripts { self.new.scripts ≡ self.old.scripts }
         ensures kept { (key k : ℕ) → number_at self.old key ≡ Some k → number_at self.new key ≡ Some k }
-        ensures order { OnOk result (IsInOrder ((self.old.heap.natives_made + 1) ∷ []) self.new) }
+        ensures order { OnOk result ((owned : List ℕ) → IsInOrder owned self.old → IsInOrder ((self.old.heap.natives_made + 1) ∷ owned) self.new) }
         ensures same { OnErr result (self.new ≡ self.old) }
     {
         let number = NativeNo(self.natives_made + 1);
@@ -46,7 +46,7 @@ impl Heaps {
         slots: u8,
         out: &mut N,
     ) -> Result<Name, MakeStop>
-        requires order { IsInOrder [] self.old }
+        requires order { (owned : List ℕ) × IsInOrder owned self.old }
         requires slots { slots ≤ 64 }
         ensures full { result ≡ Err MakeStop.Full → self.old.heap.limits.natives ≤ self.old.heap.natives_made }
         ensures full_always { self.old.heap.limits.natives ≤ self.old.heap.natives_made → result ≡ Err MakeStop.Full }
@@ -57,8 +57,8 @@ impl Heaps {
         ensures keys { KeepsKeys self.old self.new }
         ensures same { OnErr result (self.new ≡ self.old) }
         ensures silent { OnErr result (N.telling out.new ≡ N.telling out.old) }
-        ensures order { IsInOrder [] self.new }
-        ensures counts { AreFew self.new.heap }
+        ensures order { (owned : List ℕ) → IsInOrder owned self.old → IsInOrder owned self.new }
+        ensures counts { AreFewIfOwnedOnce self.new }
         ensures stands { OnOk result (StandsAfter self.old.heap self.new.heap (λ g. graph.step g (command.Native r slots))) }
         ensures colours { KeepsColours self.old.heap self.new.heap }
         ensures fresh { KeepsFresh self.old.heap self.new.heap }

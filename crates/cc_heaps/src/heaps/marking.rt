@@ -1,5 +1,5 @@
 //! Script objects marked.
-ghost use Rattle.std.specs.Prelude.{◌≡◌, ◌<◌, ℕ, [], IsTrue};
+ghost use Rattle.std.specs.Prelude.{◌≡◌, ◌<◌, ℕ, List, IsTrue};
 ghost use Rattle.cc_lists.specs.Members.{Among};
 ghost use Rattle.cc_model.specs.Colours.{marked, HasColours};
 ghost use Rattle.cc_script.specs.Objects.{AreWhole, is_there};
@@ -7,7 +7,7 @@ ghost use Rattle.cc_marking.specs.Marking.{AreEntriesThere, marked_from};
 ghost use Rattle.cc_heaps.specs.Keyed.{IsInOrder};
 ghost use Rattle.cc_heaps.specs.Changes.{KeepsKeys};
 ghost use Rattle.cc_heaps.specs.Standing.{StillStands};
-ghost use Rattle.cc_heaps.specs.Few.{AreFew};
+ghost use Rattle.cc_heaps.specs.Few.{AreFewIfOwnedOnce};
 
 use crate::heaps::Heaps;
 use crate::heaps::roots::{HeldRoots, RegisterRoots};
@@ -44,12 +44,12 @@ impl Heaps {
     /// what natives hold comes to, white the rest. A mark goes over slots, and from a map and a key that are marked
     /// together to the value of their entry. Takes no memory.
     pub fn mark_scripts(&mut self)
-        requires order { IsInOrder [] self.old }
+        requires order { (owned : List ℕ) × IsInOrder owned self.old }
         ensures heap { self.new.heap ≡ marked self.old.heap }
         ensures natives { self.new.keys ≡ self.old.keys }
         ensures keys { KeepsKeys self.old self.new }
-        ensures order { IsInOrder [] self.new }
-        ensures counts { AreFew self.new.heap }
+        ensures order { (owned : List ℕ) → IsInOrder owned self.old → IsInOrder owned self.new }
+        ensures counts { AreFewIfOwnedOnce self.new }
         ensures stands { StillStands self.old.heap self.new.heap }
         ensures colours { HasColours self.new.heap }
     {

@@ -1,5 +1,5 @@
 //! Reflectors made and preserved.
-ghost use Rattle.std.specs.Prelude.{◌≡◌, true, false, [], Some, IsSome, IfOk, OnOk, OnErr};
+ghost use Rattle.std.specs.Prelude.{◌≡◌, true, false, ℕ, List, Some, IsSome, IfOk, OnOk, OnErr};
 ghost use Rattle.cc_names.specs.Names.{native, reflector};
 ghost use Rattle.cc_model.specs.Heap.{has_reflector, is_gray_in, set_preserved};
 ghost use Rattle.cc_model.specs.Effects.{with_reflector};
@@ -8,7 +8,7 @@ ghost use Rattle.cc_script.specs.Objects.{name_at};
 ghost use Rattle.cc_heaps.specs.Keyed.{IsInOrder, number_at, the_number, changed_to};
 ghost use Rattle.cc_heaps.specs.Changes.{IsScriptThere, KeepsKeys};
 ghost use Rattle.cc_heaps.specs.Standing.{IsReached, StandsAfter, KeepsFresh, KeepsSuspected, KeepsColours};
-ghost use Rattle.cc_heaps.specs.Few.{AreFew};
+ghost use Rattle.cc_heaps.specs.Few.{AreFewIfOwnedOnce, AreOwnedOnce};
 
 use crate::heaps::Heaps;
 use cc_names::{NKey, NoMemory, SKey};
@@ -19,7 +19,7 @@ impl Heaps {
     ///
     /// `NoMemory` changes nothing.
     pub fn new_reflector(&mut self, key: NKey) -> Result<SKey, NoMemory>
-        requires order { IsInOrder [] self.old }
+        requires order { (owned : List ℕ) × IsInOrder owned self.old × AreOwnedOnce owned }
         requires live { IsSome (number_at self.old key.0) }
         requires lacks { has_reflector self.old.heap (the_number self.old key.0) ≡ false }
         ensures heap { OnOk result (self.new.heap ≡ with_reflector self.old.heap (the_number self.old key.0)) }
@@ -28,8 +28,8 @@ impl Heaps {
         ensures natives { self.new.keys ≡ self.old.keys }
         ensures keys { KeepsKeys self.old self.new }
         ensures same { OnErr result (self.new ≡ self.old) }
-        ensures order { IsInOrder [] self.new }
-        ensures counts { AreFew self.new.heap }
+        ensures order { (owned : List ℕ) → IsInOrder owned self.old → IsInOrder owned self.new }
+        ensures counts { AreFewIfOwnedOnce self.new }
         ensures stands { OnOk result (IsReached self.old.heap (Some (native (the_number self.old key.0))) →
             StandsAfter self.old.heap self.new.heap (λ g. graph.wrapped g (Some (native (the_number self.old key.0))))) }
         ensures colours { KeepsColours self.old.heap self.new.heap }
@@ -49,13 +49,13 @@ impl Heaps {
     /// unlinked. A gray one would have a holder of which a snapshot knows nothing: snapshots stay fresh where it is not
     /// gray. Takes no memory.
     pub fn set_preserved(&mut self, key: NKey)
-        requires order { IsInOrder [] self.old }
+        requires order { (owned : List ℕ) × IsInOrder owned self.old }
         requires live { IsSome (number_at self.old key.0) }
         requires has { has_reflector self.old.heap (the_number self.old key.0) ≡ true }
         ensures heap { self.new ≡ changed_to self.old (set_preserved self.old.heap (the_number self.old key.0) true) }
         ensures keys { KeepsKeys self.old self.new }
-        ensures order { IsInOrder [] self.new }
-        ensures counts { AreFew self.new.heap }
+        ensures order { (owned : List ℕ) → IsInOrder owned self.old → IsInOrder owned self.new }
+        ensures counts { AreFewIfOwnedOnce self.new }
         ensures stands { IsReached self.old.heap (Some (native (the_number self.old key.0))) →
             StandsAfter self.old.heap self.new.heap (λ g. graph.preserve g (Some (reflector (the_number self.old key.0)))) }
         ensures colours { KeepsColours self.old.heap self.new.heap }

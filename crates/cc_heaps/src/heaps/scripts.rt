@@ -1,5 +1,5 @@
 //! Script objects made, held, written and exposed.
-ghost use Rattle.std.specs.Prelude.{◌≡◌, ◌+◌, ◌<◌, ◌≤◌, ◌++◌, ◌∷◌, [], false, length, Some, Err, IsTrue, IfOk, IfSome, OnOk, OnErr};
+ghost use Rattle.std.specs.Prelude.{◌≡◌, ◌+◌, ◌<◌, ◌≤◌, ◌++◌, ◌∷◌, ℕ, List, [], false, length, Some, Err, IsTrue, IfOk, IfSome, OnOk, OnErr};
 ghost use Rattle.cc_names.specs.declared.kind.Colour.TheVariants.{Black};
 ghost use Rattle.cc_names.specs.declared.kind.Kind.TheVariants.{Map, Plain};
 ghost use Rattle.cc_names.specs.declared.register.Reg.TheVariants.{S as s_register};
@@ -14,7 +14,7 @@ ghost use Rattle.cc_heaps.specs.Keyed.{IsInOrder};
 ghost use Rattle.cc_heaps.specs.Making.{kind_to_make, command_to_make, object_to_make, slots_to_make};
 ghost use Rattle.cc_heaps.specs.Changes.{IsScriptThere, KeepsKeys, script_name};
 ghost use Rattle.cc_heaps.specs.Standing.{IsReached, IsReachedOrReflects, MayHold, StandsAfter, StillStands, KeepsFresh, KeepsSuspected, KeepsColours};
-ghost use Rattle.cc_heaps.specs.Few.{AreFew};
+ghost use Rattle.cc_heaps.specs.Few.{AreFewIfOwnedOnce};
 
 use crate::heaps::Heaps;
 use crate::make_stop::MakeStop;
@@ -37,26 +37,26 @@ fn create(scripts: &mut Scripts, number: ScriptNo, slots: Option<u8>) -> Result<
 impl Heaps {
     // A script register written. What it holds is exposed before.
     fn write_script_reg(&mut self, r: u8, content: Option<SKey>)
-        requires order { IsInOrder [] self.old }
+        requires order { (owned : List ℕ) × IsInOrder owned self.old }
         requires there { IsScriptThere self.old content }
         ensures heap { self.new.heap ≡ set_register self.old.heap (s_register r) (script_name self.old content) }
         ensures natives { self.new.keys ≡ self.old.keys }
         ensures scripts { self.new.scripts ≡ self.old.scripts }
-        ensures order { IsInOrder [] self.new }
+        ensures order { (owned : List ℕ) → IsInOrder owned self.old → IsInOrder owned self.new }
     {
         self.script_registers[r as usize] = content;
     }
 
     // What comes into a script register exposed.
     fn expose_content(&mut self, content: Option<SKey>)
-        requires order { IsInOrder [] self.old }
+        requires order { (owned : List ℕ) × IsInOrder owned self.old }
         requires there { IsScriptThere self.old content }
         ensures heap { self.new.heap ≡ exposed self.old.heap (script_name self.old content) }
         ensures natives { self.new.keys ≡ self.old.keys }
         ensures keys { KeepsKeys self.old self.new }
         ensures name { script_name self.new content ≡ script_name self.old content }
         ensures there { IsScriptThere self.new content }
-        ensures order { IsInOrder [] self.new }
+        ensures order { (owned : List ℕ) → IsInOrder owned self.old → IsInOrder owned self.new }
     {
         if let Some(key) = content {
             self.scripts.expose(key);
@@ -65,7 +65,7 @@ impl Heaps {
 
     // A plain object with the next number and so many empty slots, or a weak map; its key.
     fn add_object(&mut self, slots: Option<u8>) -> Result<SKey, NoMemory>
-        requires order { IsInOrder [] self.old }
+        requires order { (owned : List ℕ) × IsInOrder owned self.old }
         requires slots { IfSome slots (λ n. n ≤ 64) }
         requires room { self.old.heap.scripts_made < self.old.heap.limits.scripts }
         ensures made { OnOk result (self.new.heap.scripts_made ≡ self.old.heap.scripts_made + 1) }
@@ -74,7 +74,7 @@ impl Heaps {
         ensures natives { self.new.keys ≡ self.old.keys }
         ensures keys { KeepsKeys self.old self.new }
         ensures same { OnErr result (self.new ≡ self.old) }
-        ensures order { IsInOrder [] self.new }
+        ensures order { (owned : List ℕ) → IsInOrder owned self.old → IsInOrder owned self.new }
     {
         let number = ScriptNo(self.scripts_made + 1);
         let key = create(&mut self.scripts, number, slots)?;
@@ -84,7 +84,7 @@ impl Heaps {
 
     // A plain object with so many empty slots, or a weak map, made and held by a register. Its name.
     fn new_object(&mut self, r: u8, slots: Option<u8>) -> Result<Name, MakeStop>
-        requires order { IsInOrder [] self.old }
+        requires order { (owned : List ℕ) × IsInOrder owned self.old }
         requires slots { IfSome slots (λ n. n ≤ 64) }
         ensures full { result ≡ Err MakeStop.Full → self.old.heap.limits.scripts ≤ self.old.heap.scripts_made }
         ensures full_always { self.old.heap.limits.scripts ≤ self.old.heap.scripts_made → result ≡ Err MakeStop.Full }
@@ -93,8 +93,8 @@ impl Heaps {
         ensures natives { self.new.keys ≡ self.old.keys }
         ensures keys { KeepsKeys self.old self.new }
         ensures same { OnErr result (self.new ≡ self.old) }
-        ensures order { IsInOrder [] self.new }
-        ensures counts { AreFew self.new.heap }
+        ensures order { (owned : List ℕ) → IsInOrder owned self.old → IsInOrder owned self.new }
+        ensures counts { AreFewIfOwnedOnce self.new }
         ensures stands { OnOk result (StandsAfter self.old.heap self.new.heap (λ g. graph.step g (command_to_make r slots))) }
         ensures colours { KeepsColours self.old.heap self.new.heap }
         ensures fresh { KeepsFresh self.old.heap self.new.heap }
@@ -118,7 +118,7 @@ impl Heaps {
     /// `Full` exactly where as many plain objects and weak maps as the limit were ever made; `NoMemory` at any other
     /// time. Neither changes anything.
     pub fn new_plain(&mut self, r: u8, slots: u8) -> Result<Name, MakeStop>
-        requires order { IsInOrder [] self.old }
+        requires order { (owned : List ℕ) × IsInOrder owned self.old }
         requires slots { slots ≤ 64 }
         ensures full { result ≡ Err MakeStop.Full → self.old.heap.limits.scripts ≤ self.old.heap.scripts_made }
         ensures full_always { self.old.heap.limits.scripts ≤ self.old.heap.scripts_made → result ≡ Err MakeStop.Full }
@@ -127,8 +127,8 @@ impl Heaps {
         ensures natives { self.new.keys ≡ self.old.keys }
         ensures keys { KeepsKeys self.old self.new }
         ensures same { OnErr result (self.new ≡ self.old) }
-        ensures order { IsInOrder [] self.new }
-        ensures counts { AreFew self.new.heap }
+        ensures order { (owned : List ℕ) → IsInOrder owned self.old → IsInOrder owned self.new }
+        ensures counts { AreFewIfOwnedOnce self.new }
         ensures stands { OnOk result (StandsAfter self.old.heap self.new.heap (λ g. graph.step g (command.Script r slots))) }
         ensures colours { KeepsColours self.old.heap self.new.heap }
         ensures fresh { KeepsFresh self.old.heap self.new.heap }
@@ -142,7 +142,7 @@ impl Heaps {
     /// `Full` exactly where as many plain objects and weak maps as the limit were ever made; `NoMemory` at any other
     /// time. Neither changes anything.
     pub fn new_map(&mut self, r: u8) -> Result<Name, MakeStop>
-        requires order { IsInOrder [] self.old }
+        requires order { (owned : List ℕ) × IsInOrder owned self.old }
         ensures full { result ≡ Err MakeStop.Full → self.old.heap.limits.scripts ≤ self.old.heap.scripts_made }
         ensures full_always { self.old.heap.limits.scripts ≤ self.old.heap.scripts_made → result ≡ Err MakeStop.Full }
         ensures name { IfOk result (λ x. x ≡ object (self.old.heap.scripts_made + 1)) }
@@ -150,8 +150,8 @@ impl Heaps {
         ensures natives { self.new.keys ≡ self.old.keys }
         ensures keys { KeepsKeys self.old self.new }
         ensures same { OnErr result (self.new ≡ self.old) }
-        ensures order { IsInOrder [] self.new }
-        ensures counts { AreFew self.new.heap }
+        ensures order { (owned : List ℕ) → IsInOrder owned self.old → IsInOrder owned self.new }
+        ensures counts { AreFewIfOwnedOnce self.new }
         ensures stands { OnOk result (StandsAfter self.old.heap self.new.heap (λ g. graph.step g (command.WeakMap r))) }
         ensures colours { KeepsColours self.old.heap self.new.heap }
         ensures fresh { KeepsFresh self.old.heap self.new.heap }
@@ -163,13 +163,13 @@ impl Heaps {
     /// Register `r` holds a script object from then on, or nothing. What comes into it is exposed: it is black, with all
     /// that it reaches over slots. Takes no memory.
     pub fn set_script_reg(&mut self, r: u8, content: Option<SKey>)
-        requires order { IsInOrder [] self.old }
+        requires order { (owned : List ℕ) × IsInOrder owned self.old }
         requires there { IsScriptThere self.old content }
         ensures heap { self.new.heap ≡ hold_script self.old.heap r (script_name self.old content) }
         ensures natives { self.new.keys ≡ self.old.keys }
         ensures keys { KeepsKeys self.old self.new }
-        ensures order { IsInOrder [] self.new }
-        ensures counts { AreFew self.new.heap }
+        ensures order { (owned : List ℕ) → IsInOrder owned self.old → IsInOrder owned self.new }
+        ensures counts { AreFewIfOwnedOnce self.new }
         ensures stands { IsReachedOrReflects self.old.heap (script_name self.old content) →
             StandsAfter self.old.heap self.new.heap (λ g. graph.set_register g (s_register r) (script_name self.old content)) }
         ensures colours { KeepsColours self.old.heap self.new.heap }
@@ -185,7 +185,7 @@ impl Heaps {
     /// A reflector that is given contents is preserved before (`set_preserved`): one that is not is blank, so that it
     /// can be made again. The heaps stand for the graph with the slot written where that is so.
     pub fn store_script(&mut self, key: SKey, i: u8, content: Option<SKey>)
-        requires order { IsInOrder [] self.old }
+        requires order { (owned : List ℕ) × IsInOrder owned self.old }
         requires live { IsTrue (is_there self.old.scripts key.0) }
         requires within { i < length (slots_at self.old.scripts key.0) }
         requires there { IsScriptThere self.old content }
@@ -193,8 +193,8 @@ impl Heaps {
         ensures heap { self.new.heap ≡ set_slot self.old.heap (name_at self.old.scripts key.0) i (script_name self.old content) }
         ensures natives { self.new.keys ≡ self.old.keys }
         ensures keys { KeepsKeys self.old self.new }
-        ensures order { IsInOrder [] self.new }
-        ensures counts { AreFew self.new.heap }
+        ensures order { (owned : List ℕ) → IsInOrder owned self.old → IsInOrder owned self.new }
+        ensures counts { AreFewIfOwnedOnce self.new }
         ensures stands { IsReached self.old.heap (name_at self.old.scripts key.0) → IsReached self.old.heap (script_name self.old content) →
             MayHold self.old.heap (name_at self.old.scripts key.0) →
             StandsAfter self.old.heap self.new.heap (λ g. graph.set_slot g (name_at self.old.scripts key.0) i (script_name self.old content)) }
@@ -208,13 +208,13 @@ impl Heaps {
     /// A script object that script touches is black from then on, with all that it reaches over slots: neither through
     /// natives nor over anything else. Takes no memory.
     pub fn expose(&mut self, key: SKey)
-        requires order { IsInOrder [] self.old }
+        requires order { (owned : List ℕ) × IsInOrder owned self.old }
         requires live { IsTrue (is_there self.old.scripts key.0) }
         ensures heap { self.new.heap ≡ exposed self.old.heap (name_at self.old.scripts key.0) }
         ensures natives { self.new.keys ≡ self.old.keys }
         ensures keys { KeepsKeys self.old self.new }
-        ensures order { IsInOrder [] self.new }
-        ensures counts { AreFew self.new.heap }
+        ensures order { (owned : List ℕ) → IsInOrder owned self.old → IsInOrder owned self.new }
+        ensures counts { AreFewIfOwnedOnce self.new }
         ensures stands { StillStands self.old.heap self.new.heap }
         ensures colours { KeepsColours self.old.heap self.new.heap }
         ensures fresh { KeepsFresh self.old.heap self.new.heap }

@@ -1,5 +1,5 @@
 //! White script objects swept.
-ghost use Rattle.std.specs.Prelude.{◌≡◌, ◌≤◌, ◌==◌, ℕ, [], count_by, map, Some, option_map, option_to_list, IsTrue, if◌then◌else◌, ◌<◌};
+ghost use Rattle.std.specs.Prelude.{◌≡◌, ◌≤◌, ◌==◌, ℕ, List, [], count_by, map, Some, option_map, option_to_list, IsTrue, if◌then◌else◌, ◌<◌};
 ghost use Rattle.cc_model.specs.Telling.{TellsEvents};
 ghost use Rattle.cc_model.specs.Colours.{HasColours, HasColourInvariant};
 ghost use Rattle.cc_model.specs.Sweep.{sweep, sweeps};
@@ -13,7 +13,7 @@ ghost use Rattle.cc_weakmaps.specs.Living.{living};
 ghost use Rattle.cc_marking.specs.Marking.{AreEntriesThere};
 ghost use Rattle.cc_heaps.specs.Sweeping.{are_some, is_marked, is_white, let_native_go, native_keys, native_keys_where, not_white, sweep_where, swept_counts, white_names, whites, OwnEach};
 ghost use Rattle.cc_heaps.specs.Standing.{StillStands};
-ghost use Rattle.cc_heaps.specs.Few.{AreFew};
+ghost use Rattle.cc_heaps.specs.Few.{AreFewIfOwnedOnce};
 
 use crate::heaps::Heaps;
 use cc_counted::Counted;
@@ -121,15 +121,15 @@ impl Heaps {
     ///
     /// Called where the colours are those of marking. Takes no memory.
     pub fn sweep<N: Notices>(&mut self, out: &mut N) -> bool
-        requires order { IsInOrder [] self.old }
+        requires order { (owned : List ℕ) × IsInOrder owned self.old }
         requires colours { HasColours self.old.heap }
         ensures swept { result ≡ sweeps self.old.heap }
         ensures heap { self.new.heap ≡ (sweep self.old.heap).heap }
         ensures told { TellsEvents (N.telling out.old) (N.telling out.new) (sweep self.old.heap).events }
         ensures natives { self.new.keys ≡ map (key_left self.new.heap) self.old.keys }
         ensures keys { KeepsKeys self.old self.new }
-        ensures order { IsInOrder [] self.new }
-        ensures counts { AreFew self.new.heap }
+        ensures order { (owned : List ℕ) → IsInOrder owned self.old → IsInOrder owned self.new }
+        ensures counts { AreFewIfOwnedOnce self.new }
         ensures stands { StillStands self.old.heap self.new.heap }
         ensures invariant { HasColourInvariant (view self.new.heap) }
     {

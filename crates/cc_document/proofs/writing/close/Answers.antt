@@ -1,4 +1,4 @@
-use Rattle.std.proofs.Common.{◌≡◌, ◌<◌, Some, sym, ◌∙◌, ap, subst, arith}
+use Rattle.std.proofs.Common.{◌≡◌, ◌<◌, [], Some, sym, ◌∙◌, ap, subst, arith}
 use Rattle.cc_names.specs.Names.{object}
 use Rattle.cc_names.specs.declared.register.Reg.TheVariants.{S}
 use Rattle.cc_model.specs.Graph.{set_slot}
@@ -15,6 +15,9 @@ use Rattle.cc_document.proofs.Holding.{script-black, closure-slots}
 use Rattle.cc_document.proofs.Reached.{alike, register-is_reached}
 use Rattle.cc_document.proofs.Steps.{Shows-step}
 use Rattle.cc_document.proofs.writing.close.Goals as goal
+
+pub store_script-requires-clause-order : goal.store_script-requires-clause-order
+store_script-requires-clause-order c = ([], c.requires.shown.1.runs.order)
 
 pub store_script-requires-clause-within : goal.store_script-requires-clause-within
 store_script-requires-clause-within c =
@@ -47,7 +50,7 @@ returns-in-Some-clause-shows c = λ g s.
     ∙ ap (set_slot g (graph.register g (S 1)) 0) (holds ∙ (alike v b g s).register (S 2)) in
     subst (Shows (parts w b)) same
     (Shows-step v w b (λ h. set_slot h x 0 y)
-    (record { order = e.order; colours = e.colours; fresh = e.fresh; keys = e.keys; suspected = e.suspected; stands = e.stands a d may }) g s (slot-document g s.document x 0 y))
+    (record { order = e.order [] s.runs.order; colours = e.colours; fresh = e.fresh; keys = e.keys; suspected = e.suspected; stands = e.stands a d may }) g s (slot-document g s.document x 0 y))
 
 pub returns-in-Some-clause-grows : goal.returns-in-Some-clause-grows
 returns-in-Some-clause-grows c =

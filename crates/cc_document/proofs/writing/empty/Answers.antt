@@ -1,4 +1,4 @@
-use Rattle.std.proofs.Common.{None, sym, subst}
+use Rattle.std.proofs.Common.{[], None, sym, subst}
 use Rattle.cc_document.specs.Told.{Grows}
 use Rattle.cc_document.specs.Shown.{without}
 use Rattle.cc_document.proofs.Documents.{without-document}
@@ -6,11 +6,14 @@ use Rattle.cc_document.proofs.Growing.{emptied-none_came, grows-held}
 use Rattle.cc_document.proofs.Steps.{Shows-step}
 use Rattle.cc_document.proofs.writing.empty.Goals as goal
 
+pub set_script_reg-requires-clause-order : goal.set_script_reg-requires-clause-order
+set_script_reg-requires-clause-order c = ([], c.requires.shown.1.runs.order)
+
 pub returns-clause-shows : goal.returns-clause-shows
 returns-clause-shows c = λ g s.
     let e = c.set_script_reg.ensures in
     Shows-step c.args.heaps.now c.set_script_reg.new.self c.args.collector.now (without c.args.r)
-    (record { order = e.order; colours = e.colours; fresh = e.fresh; keys = e.keys; suspected = e.suspected; stands = e.stands tt }) g s (without-document g s.document c.args.r c.requires.r)
+    (record { order = e.order [] s.runs.order; colours = e.colours; fresh = e.fresh; keys = e.keys; suspected = e.suspected; stands = e.stands tt }) g s (without-document g s.document c.args.r c.requires.r)
 
 pub returns-clause-none_came : goal.returns-clause-none_came
 returns-clause-none_came c = emptied-none_came c.args.heaps.now.heap c.set_script_reg.new.self.heap c.args.r c.set_script_reg.ensures.heap

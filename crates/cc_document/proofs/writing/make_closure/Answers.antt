@@ -1,4 +1,4 @@
-use Rattle.std.proofs.Common.{◌≤◌, sym, subst}
+use Rattle.std.proofs.Common.{[], ◌≤◌, sym, subst}
 use Rattle.cc_laws_heap.proofs.RepliesAlike.{objects-stand}
 use Rattle.cc_model.specs.Graph as graph
 use Rattle.cc_document.specs.Shown.{making_closure}
@@ -10,11 +10,14 @@ use Rattle.cc_document.proofs.Holding.{room-for_script}
 use Rattle.cc_document.proofs.Steps.{Shows-step}
 use Rattle.cc_document.proofs.writing.make_closure.Goals as goal
 
+pub new_plain-requires-clause-order : goal.new_plain-requires-clause-order
+new_plain-requires-clause-order c = ([], c.requires.shown.1.runs.order)
+
 pub returns-clause-made : goal.returns-clause-made
 returns-clause-made c = λ g s.
     let e = c.in_ok-new_plain.ensures in
     Shows-step c.args.heaps.now c.new_plain.new.self c.args.collector.now making_closure
-    (record { order = e.order; colours = e.colours; fresh = e.fresh; keys = e.keys; suspected = e.suspected; stands = e.stands }) g s (making_closure-document g s.document)
+    (record { order = e.order [] s.runs.order; colours = e.colours; fresh = e.fresh; keys = e.keys; suspected = e.suspected; stands = e.stands }) g s (making_closure-document g s.document)
 
 pub returns-clause-has : goal.returns-clause-has
 returns-clause-has c =

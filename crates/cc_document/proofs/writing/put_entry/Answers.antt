@@ -17,6 +17,9 @@ use Rattle.cc_document.proofs.Reached.{alike, register-is_reached}
 use Rattle.cc_document.proofs.Steps.{Shows-step}
 use Rattle.cc_document.proofs.writing.put_entry.Goals as goal
 
+pub set_entry-requires-clause-order : goal.set_entry-requires-clause-order
+set_entry-requires-clause-order c = ([], c.requires.shown.1.runs.order)
+
 pub set_entry-requires-clause-the_map : goal.set_entry-requires-clause-the_map
 set_entry-requires-clause-the_map c =
     let v = c.args.heaps.now in
@@ -51,7 +54,7 @@ returns-in_ok-set_entry-clause-entered c = λ g s.
     ∙ (ap (λ z. set_entry g (graph.register g (S 0)) z x) k-is ∙ ap (set_entry g (graph.register g (S 0)) (graph.register g (S 2))) x-is) in
     subst (Shows (parts w b)) same
     (Shows-step v w b (λ h. set_entry h m k x)
-    (record { order = e.order; colours = e.colours; fresh = e.fresh k-black x-black; keys = e.keys; suspected = e.suspected; stands = e.stands m-reached k-reached x-reached })
+    (record { order = e.order [] s.runs.order; colours = e.colours; fresh = e.fresh k-black x-black; keys = e.keys; suspected = e.suspected; stands = e.stands m-reached k-reached x-reached })
     g s (set_entry-document g s.document m k x))
 
 pub returns-in_ok-set_entry-clause-grows : goal.returns-in_ok-set_entry-clause-grows

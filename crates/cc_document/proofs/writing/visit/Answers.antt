@@ -3,6 +3,7 @@ use Rattle.cc_names.specs.declared.register.Reg.TheVariants.{N}
 use Rattle.cc_model.specs.Checks.{slot_at}
 use Rattle.cc_model.specs.Graph.{set_register}
 use Rattle.cc_model.specs.Heap.{objects_of}
+use Rattle.cc_heaps.proofs.FewCounts.{none-owned}
 use Rattle.cc_heaps.specs.Changes.{native_name}
 use Rattle.cc_heaps.specs.Standing.{IsReached}
 use Rattle.cc_document.specs.Words.{element_of, elements}
@@ -16,6 +17,9 @@ use Rattle.cc_document.proofs.ReadAlike.{slot-alike}
 use Rattle.cc_document.proofs.Steps.{Shows-step}
 use Rattle.cc_document.proofs.writing.visit.Goals as goal
 
+pub set_native_reg-requires-clause-order : goal.set_native_reg-requires-clause-order
+set_native_reg-requires-clause-order g c = none-owned c.args.heaps.now c.requires.shown.1.runs.order
+
 pub returns-clause-shows : goal.returns-clause-shows
 returns-clause-shows g c = λ k s.
     let v = c.args.heaps.now in
@@ -28,7 +32,7 @@ returns-clause-shows g c = λ k s.
     let same = c.key_at-element.ensures.name ∙ ap (λ y. elements (element_of y)) (slot-alike v b k s c.args.of.0 c.args.i) in
     subst (λ y. Shows (parts w b) (set_register k (N c.args.into.0) y)) same
     (Shows-step v w b (λ h. set_register h (N c.args.into.0) x)
-    (record { order = e.order; colours = e.colours; fresh = e.fresh; keys = e.keys; suspected = e.suspected; stands = e.stands reached })
+    (record { order = e.order [] s.runs.order; colours = e.colours; fresh = e.fresh; keys = e.keys; suspected = e.suspected; stands = e.stands reached })
     k s (native_register-document k s.document c.args.into.0 x))
 
 pub returns-clause-tells : goal.returns-clause-tells
@@ -38,7 +42,7 @@ returns-clause-tells g c =
     let order = c.requires.shown.1.runs.order in
     let within : c.args.into.0 < 256 = search rules in
     hold_native-tells v c.set_native_reg.new.self c.args.into.0 (native_name v c.key_at-element.result)
-    (g.N.Notices.telling c.args.out.now) (g.N.Notices.telling c.set_native_reg.new.out) within (native-in [] v c.key_at-element.result order) order e.heap e.order e.told
+    (g.N.Notices.telling c.args.out.now) (g.N.Notices.telling c.set_native_reg.new.out) within (native-in [] v c.key_at-element.result order) order e.heap (e.order [] order) e.told
 
 pub returns-clause-made : goal.returns-clause-made
 returns-clause-made g c =

@@ -7,6 +7,7 @@ use Rattle.cc_model.specs.Graph.{set_register, wrapped}
 use Rattle.cc_model.specs.Heap.{objects_of, register}
 use Rattle.cc_counted.specs.Counts.{number_or_none}
 use Rattle.cc_script.specs.Objects.{name_at}
+use Rattle.cc_heaps.proofs.FewCounts.{none-owned}
 use Rattle.cc_heaps.specs.Keyed.{the_number}
 use Rattle.cc_heaps.specs.Standing.{IsReached, IsReachedOrReflects}
 use Rattle.cc_mutator.proofs.NativesRead.{native-at}
@@ -23,6 +24,12 @@ use Rattle.cc_document.proofs.writing.wrap_into_register.Goals as goal
 pub returns-in_err-reflector-clause-stops : goal.returns-in_err-reflector-clause-stops
 returns-in_err-reflector-clause-stops c =
     stopped-by (StopsWrapping (objects_of c.args.heaps.now.heap) c.args.element.0) c.from_residual.result out_of_memory c.from_residual.ensures.1 tt
+
+pub wrap-requires-clause-order : goal.wrap-requires-clause-order
+wrap-requires-clause-order c = none-owned c.args.heaps.now c.requires.shown.1.runs.order
+
+pub set_script_reg-requires-clause-order : goal.set_script_reg-requires-clause-order
+set_script_reg-requires-clause-order c = ([], c.wrap.ensures.order [] c.requires.shown.1.runs.order)
 
 pub returns-clause-wrapped : goal.returns-clause-wrapped
 returns-clause-wrapped c = λ g s.
@@ -42,13 +49,13 @@ returns-clause-wrapped c = λ g s.
     let reached : IsReached v.heap (Some (native k)) = subst (IsReached v.heap) in-heap (register-is_reached v b g s (N r)) in
     let h = wrapped g (Some (native k)) in
     let one = Shows-step v w b (λ j. wrapped j (Some (native k)))
-    (record { order = made.order; colours = made.colours; fresh = made.fresh; keys = made.keys; suspected = made.suspected reached; stands = made.stands reached })
+    (record { order = made.order [] s.runs.order; colours = made.colours; fresh = made.fresh; keys = made.keys; suspected = made.suspected reached; stands = made.stands reached })
     g s (wrapped-document g s.document (Some (native k))) in
     let x = name_at w.scripts c.in_ok-reflector.reflector.0 in
     let named : x ≡ Some (reflector k) = made.name in
     let near : IsReachedOrReflects w.heap x = subst (IsReachedOrReflects w.heap) (sym named) (inr (made.reached (Some (native k)) reached)) in
     let two = Shows-step w u b (λ j. set_register j (S 2) x)
-    (record { order = put.order; colours = put.colours; fresh = put.fresh; keys = put.keys; suspected = put.suspected; stands = put.stands near })
+    (record { order = put.order [] (made.order [] s.runs.order); colours = put.colours; fresh = put.fresh; keys = put.keys; suspected = put.suspected; stands = put.stands near })
     h one (script_register-document h one.document 2 x (λ e. cc)) in
     let same : set_register h (S 2) x ≡ wrapping r g =
     ap (set_register h (S 2)) named ∙ ap (λ y. set_register (wrapped g y) (S 2) (reflector_of y)) (sym holds) in

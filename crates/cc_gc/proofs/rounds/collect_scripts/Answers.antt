@@ -15,20 +15,23 @@ sweeping g c =
     record { swept_is = sym c.rounds-test.true ∙ e.swept; heap = e.heap; told = e.told; keys = e.keys; order = e.order }
 
 pub rounds-init : goal.rounds-init
-rounds-init g c = record { steps = IsCollecting-start c.args.heaps.now (g.N.Notices.telling c.args.out.now) c.requires.order }
+rounds-init g c = record { steps = IsCollecting-start c.args.heaps.now (g.N.Notices.telling c.args.out.now) }
+
+pub round-requires : goal.round-requires
+round-requires g c = let f = c.requires.order in record { order = (f.0, c.rounds.invariant.steps.order f.0 f.1) }
 
 pub rounds-smaller : goal.rounds-smaller
-rounds-smaller g c = IsCollecting-fewer _ _ _ _ _ _ c.rounds.invariant.steps (sweeping g c)
+rounds-smaller g c = IsCollecting-fewer _ _ _ _ _ _ c.rounds.invariant.steps c.requires.order (sweeping g c)
 
 pub rounds-preserved : goal.rounds-preserved
-rounds-preserved g c = record { steps = IsCollecting-next _ _ _ _ _ _ c.rounds.invariant.steps (sweeping g c) }
+rounds-preserved g c = record { steps = IsCollecting-next _ _ _ _ _ _ c.rounds.invariant.steps c.requires.order (sweeping g c) }
 
 pub returns : goal.returns
 returns g c =
     let e = c.round.ensures in
     let h : Heap = c.args.heaps.now.heap in
-    let sound = c.requires.order.sound in
-    let done = IsCollected-last _ _ _ _ _ _ c.rounds.invariant.steps sound
+    let sound = c.requires.order.1.sound in
+    let done = IsCollected-last _ _ _ _ _ _ c.rounds.invariant.steps c.requires.order
     (record { swept_is = sym c.rounds-test.false ∙ e.swept; heap = e.heap; told = e.told; keys = e.keys; order = e.order }) in
     record {
       heap = done.heap;

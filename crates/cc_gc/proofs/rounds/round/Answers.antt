@@ -7,6 +7,12 @@ use Rattle.cc_gc.proofs.rounds.round.Goals as goal
 pub sweep-requires-clause-colours : goal.sweep-requires-clause-colours
 sweep-requires-clause-colours g c = subst HasColours (sym c.mark_scripts.ensures.heap) (HasColours-marked c.args.heaps.now.heap)
 
+pub sweep-requires-clause-order : goal.sweep-requires-clause-order
+sweep-requires-clause-order g c = let f = c.requires.order in (f.0, c.mark_scripts.ensures.order f.0 f.1)
+
+pub returns-clause-order : goal.returns-clause-order
+returns-clause-order g c owned o = c.sweep.ensures.order owned (c.mark_scripts.ensures.order owned o)
+
 pub returns-clause-keys : goal.returns-clause-keys
-returns-clause-keys g c = KeepsKeys-round c.args.heaps.now c.mark_scripts.new.self c.sweep.new.self c.requires.order.sound
+returns-clause-keys g c = KeepsKeys-round c.args.heaps.now c.mark_scripts.new.self c.sweep.new.self c.requires.order.1.sound
     c.mark_scripts.ensures.heap c.sweep.ensures.heap c.mark_scripts.ensures.keys c.sweep.ensures.keys

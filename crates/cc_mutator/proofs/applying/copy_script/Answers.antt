@@ -14,7 +14,7 @@ returns c = λ t.
     let v = c.args.heaps.now in
     let e = c.set_script_reg.ensures in
     let x = script_name v c.script_reg-content.result in
-    let colours = AreColoured-from_view v.heap c.requires.order.sound.well_formed c.requires.colours in
+    let colours = AreColoured-from_view v.heap c.requires.order.1.sound.well_formed c.requires.colours in
     let same : exposed v.heap x ≡ v.heap = subst (λ y. exposed v.heap y ≡ v.heap) (sym c.script_reg-content.ensures.name)
     (exposed-same v.heap colours (register v.heap (S c.args.s)) (register-black v.heap colours c.args.s)) in
     applied-done _ _ _ _ _ _ (refusal-copy_script (objects_of v.heap) c.args.d c.args.s)

@@ -1,4 +1,4 @@
-use Rattle.std.proofs.Common.{[], refl, sym, ◌∙◌}
+use Rattle.std.proofs.Common.{refl, sym, ◌∙◌}
 use Rattle.cc_model.specs.declared.command.Command.TheVariants.{Expose}
 use Rattle.cc_model.specs.Heap.{objects_of}
 use Rattle.cc_laws_heap.proofs.Taken.{IsTaken-from}
@@ -7,7 +7,7 @@ use Rattle.cc_mutator.proofs.ContentNames.{as_script-named, is_native_held-named
 use Rattle.cc_mutator.proofs.applying.expose.Goals as goal
 
 pub returns-in-Some : goal.returns-in-Some
-returns-in-Some c = λ t. applied-refused _ _ _ _ _ _ (sym c.refusal_of_expose.ensures ∙ c.in-Some.is) refl refl c.requires.order
+returns-in-Some c = λ t. applied-refused _ _ _ _ _ _ (sym c.refusal_of_expose.ensures ∙ c.in-Some.is) refl refl
 
 pub native_content-requires-clause-slot : goal.native_content-requires-clause-slot
 native_content-requires-clause-slot c =
@@ -17,7 +17,7 @@ pub as_script-content-requires : goal.as_script-content-requires
 as_script-content-requires c =
     let v = c.args.heaps.now in
     let e = c.native_content.ensures in
-    is_native_held-named [] v c.requires.order _ _ e.name e.there
+    is_native_held-named c.requires.order.0 v c.requires.order.1 _ _ e.name e.there
     ∙ (IsTaken-from (objects_of v.heap) (Expose c.args.s c.args.i) (sym c.refusal_of_expose.ensures ∙ c.in_default.is)).content
 
 pub returns : goal.returns

@@ -4,7 +4,7 @@ use Rattle.cc_mutator.proofs.Carrying.{applied-refused, applied-done, carried-ge
 use Rattle.cc_mutator.proofs.applying.get_entry.Goals as goal
 
 pub returns-in-Some : goal.returns-in-Some
-returns-in-Some c = λ t. applied-refused _ _ _ _ _ _ (sym c.refusal_of_get_entry.ensures ∙ c.in-Some.is) refl refl c.requires.order
+returns-in-Some c = λ t. applied-refused _ _ _ _ _ _ (sym c.refusal_of_get_entry.ensures ∙ c.in-Some.is) refl refl
 
 pub returns : goal.returns
 returns c = λ t.

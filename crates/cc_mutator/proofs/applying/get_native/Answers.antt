@@ -1,4 +1,4 @@
-use Rattle.std.proofs.Common.{[], refl, sym, ◌∙◌}
+use Rattle.std.proofs.Common.{refl, sym, ◌∙◌}
 use Rattle.cc_names.specs.declared.register.Reg.TheVariants.{N}
 use Rattle.cc_model.specs.declared.command.Command.TheVariants.{Get}
 use Rattle.cc_model.specs.Effects.{hold_native}
@@ -10,7 +10,7 @@ use Rattle.cc_mutator.proofs.ContentNames.{as_native-named, is_script_held-named
 use Rattle.cc_mutator.proofs.applying.get_native.Goals as goal
 
 pub returns-in-Some : goal.returns-in-Some
-returns-in-Some g c = applied-refused _ _ _ _ _ _ (sym c.refusal_of_get_native.ensures ∙ c.in-Some.is) refl refl c.requires.order
+returns-in-Some g c = applied-refused _ _ _ _ _ _ (sym c.refusal_of_get_native.ensures ∙ c.in-Some.is) refl refl
 
 pub native_content-requires-clause-slot : goal.native_content-requires-clause-slot
 native_content-requires-clause-slot g c =
@@ -20,7 +20,7 @@ pub as_native-content-requires : goal.as_native-content-requires
 as_native-content-requires g c =
     let v = c.args.heaps.now in
     let e = c.native_content.ensures in
-    is_script_held-named [] v c.requires.order _ _ e.name e.there
+    is_script_held-named c.requires.order.0 v c.requires.order.1 _ _ e.name e.there
     ∙ (IsTaken-from (objects_of v.heap) (Get (N c.args.d) c.args.s c.args.i) (sym c.refusal_of_get_native.ensures ∙ c.in_default.is)).content
 
 pub returns : goal.returns

@@ -14,11 +14,11 @@ returns-in-Ok g c =
 pub returns-in-Err-Full : goal.returns-in-Err-Full
 returns-in-Err-Full g c =
     let e = c.in-Err-Full.ensures in
-    applied-refused _ _ _ _ _ _ (full-native c.args.heaps.now.heap c.args.d c.args.slots (c.new_native.ensures.full (cc))) e.same e.silent e.order
+    applied-refused _ _ _ _ _ _ (full-native c.args.heaps.now.heap c.args.d c.args.slots (c.new_native.ensures.full (cc))) e.same e.silent
 
 pub returns-in-Err-NoMemory : goal.returns-in-Err-NoMemory
 returns-in-Err-NoMemory g c =
     let h = c.args.heaps.now.heap in
     let e = c.in-Err-NoMemory.ensures in
     let room = room-left h.limits.natives h.natives_made (λ few. let full = c.new_native.ensures.full_always few in absurd (cc)) in
-    applied-denied _ _ _ _ _ (room-native h c.args.d c.args.slots room) refl e.same e.silent e.order
+    applied-denied _ _ _ _ _ (room-native h c.args.d c.args.slots room) refl e.same e.silent

@@ -13,11 +13,11 @@ returns-in-Ok c = λ t.
 pub returns-in-Err-Full : goal.returns-in-Err-Full
 returns-in-Err-Full c = λ t.
     let e = c.in-Err-Full.ensures in
-    applied-refused _ _ _ _ _ _ (full-script c.args.heaps.now.heap c.args.d c.args.slots (c.new_plain.ensures.full (cc))) e.same refl e.order
+    applied-refused _ _ _ _ _ _ (full-script c.args.heaps.now.heap c.args.d c.args.slots (c.new_plain.ensures.full (cc))) e.same refl
 
 pub returns-in-Err-NoMemory : goal.returns-in-Err-NoMemory
 returns-in-Err-NoMemory c = λ t.
     let h = c.args.heaps.now.heap in
     let e = c.in-Err-NoMemory.ensures in
     let room = room-left h.limits.scripts h.scripts_made (λ few. let full = c.new_plain.ensures.full_always few in absurd (cc)) in
-    applied-denied _ _ _ _ _ (room-script h c.args.d c.args.slots room) refl e.same refl e.order
+    applied-denied _ _ _ _ _ (room-script h c.args.d c.args.slots room) refl e.same refl

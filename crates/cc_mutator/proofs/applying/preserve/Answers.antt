@@ -11,7 +11,7 @@ pub returns-in_default : goal.returns-in_default
 returns-in_default c = λ t.
     let v = c.args.heaps.now in
     let none : register v.heap (S c.args.s) ≡ None = sym c.script_reg.ensures.name ∙ ap (script_name v) c.in_default.is in
-    applied-refused _ _ _ _ _ _ (refusal-preserve (objects_of v.heap) c.args.s ∙ ap refusal_by_kind none) refl refl c.requires.order
+    applied-refused _ _ _ _ _ _ (refusal-preserve (objects_of v.heap) c.args.s ∙ ap refusal_by_kind none) refl refl
 
 pub returns-then-preserve : goal.returns-then-preserve
 returns-then-preserve c = λ t.
@@ -29,4 +29,4 @@ returns-else-preserve c = λ t.
     let told = e.reflects ∙ ap (λ b. Some b) c.if-preserve.false in
     applied-refused _ _ _ _ _ _
     (refusal-preserve (objects_of v.heap) c.args.s ∙ (ap refusal_by_kind (sym c.in-Some.ensures.name) ∙ kind-told _ false told))
-    (e.same c.if-preserve.false) refl e.order
+    (e.same c.if-preserve.false) refl

@@ -1,4 +1,4 @@
-use Rattle.std.proofs.Common.{[], refl, sym, ◌∙◌}
+use Rattle.std.proofs.Common.{refl, sym, ◌∙◌}
 use Rattle.cc_laws_heap.proofs.Coloured.{AreColoured-from_view}
 use Rattle.cc_heaps.specs.Changes.{script_name}
 use Rattle.cc_mutator.proofs.Carrying.{applied-refused, applied-done, carried-put, slot-put}
@@ -6,7 +6,7 @@ use Rattle.cc_mutator.proofs.ScriptsRead.{source-black}
 use Rattle.cc_mutator.proofs.applying.put.Goals as goal
 
 pub returns-in-Some : goal.returns-in-Some
-returns-in-Some c = λ t. applied-refused _ _ _ _ _ _ (sym c.refusal_of_put.ensures ∙ c.in-Some.is) refl refl c.requires.order
+returns-in-Some c = λ t. applied-refused _ _ _ _ _ _ (sym c.refusal_of_put.ensures ∙ c.in-Some.is) refl refl
 
 pub store_script-requires-clause-slot : goal.store_script-requires-clause-slot
 store_script-requires-clause-slot c = slot-put c.args.heaps.now.heap c.args.d c.args.i c.args.from (sym c.refusal_of_put.ensures ∙ c.in_default.is)
@@ -14,7 +14,7 @@ store_script-requires-clause-slot c = slot-put c.args.heaps.now.heap c.args.d c.
 pub store_script-requires-clause-black : goal.store_script-requires-clause-black
 store_script-requires-clause-black c =
     let v = c.args.heaps.now in
-    source-black [] v c.requires.order (AreColoured-from_view v.heap c.requires.order.sound.well_formed c.requires.colours) c.args.from c.script_source-content.result
+    source-black c.requires.order.0 v c.requires.order.1 (AreColoured-from_view v.heap c.requires.order.1.sound.well_formed c.requires.colours) c.args.from c.script_source-content.result
     c.script_source-content.ensures.name c.script_source-content.ensures.there
 
 pub returns : goal.returns

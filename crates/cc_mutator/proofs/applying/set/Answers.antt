@@ -5,7 +5,7 @@ use Rattle.cc_mutator.proofs.Carrying.{applied-refused, applied-left, carried-se
 use Rattle.cc_mutator.proofs.applying.set.Goals as goal
 
 pub returns-in-Some : goal.returns-in-Some
-returns-in-Some g c = applied-refused _ _ _ _ _ _ (sym c.refusal_of_set.ensures ∙ c.in-Some.is) refl refl c.requires.order
+returns-in-Some g c = applied-refused _ _ _ _ _ _ (sym c.refusal_of_set.ensures ∙ c.in-Some.is) refl refl
 
 pub store-requires-clause-slot : goal.store-requires-clause-slot
 store-requires-clause-slot g c = slot-set c.args.heaps.now.heap c.args.d c.args.i c.args.from (sym c.refusal_of_set.ensures ∙ c.in_default.is)

@@ -4,7 +4,7 @@ use Rattle.cc_mutator.proofs.Carrying.{applied-refused, applied-done, carried-se
 use Rattle.cc_mutator.proofs.applying.set_entry.Goals as goal
 
 pub returns-in-Some : goal.returns-in-Some
-returns-in-Some c = λ t. applied-refused _ _ _ _ _ _ (sym c.refusal_of_set_entry.ensures ∙ c.in-Some.is) refl refl c.requires.order
+returns-in-Some c = λ t. applied-refused _ _ _ _ _ _ (sym c.refusal_of_set_entry.ensures ∙ c.in-Some.is) refl refl
 
 pub write_entry-requires-clause-the_map : goal.write_entry-requires-clause-the_map
 write_entry-requires-clause-the_map c =

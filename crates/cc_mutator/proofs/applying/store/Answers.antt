@@ -1,4 +1,4 @@
-use Rattle.std.proofs.Common.{◌≡◌, ◌<◌, [], Some, sym, ◌∙◌, ap, subst, arith}
+use Rattle.std.proofs.Common.{◌≡◌, ◌<◌, Some, sym, ◌∙◌, ap, subst, arith}
 use Rattle.cc_names.specs.declared.register.Reg.TheVariants.{N}
 use Rattle.cc_names.specs.Names.{native}
 use Rattle.cc_model.specs.Telling.{TellsEvents}
@@ -12,17 +12,17 @@ use Rattle.cc_mutator.proofs.applying.store.Goals as goal
 
 pub overflow_cast-i : goal.overflow_cast-i
 overflow_cast-i g c =
-    omega (arith, slots-few [] c.args.heaps.now c.requires.order c.args.d c.in-Some.key c.in-Some.ensures.name c.in-Some.ensures.there, c.requires.slot)
+    omega (arith, slots-few c.requires.order.0 c.args.heaps.now c.requires.order.1 c.args.d c.in-Some.key c.in-Some.ensures.name c.in-Some.ensures.there, c.requires.slot)
 
 pub store_native-requires-clause-within : goal.store_native-requires-clause-within
 store_native-requires-clause-within g c =
-    subst (λ n. c.args.i < n) (sym (slots-as_many [] c.args.heaps.now c.requires.order c.args.d c.in-Some.key c.in-Some.ensures.name c.in-Some.ensures.there)) c.requires.slot
+    subst (λ n. c.args.i < n) (sym (slots-as_many c.requires.order.0 c.args.heaps.now c.requires.order.1 c.args.d c.in-Some.key c.in-Some.ensures.name c.in-Some.ensures.there)) c.requires.slot
 
 pub returns : goal.returns
 returns g c =
     let v = c.args.heaps.now in
     let e = c.store_native.ensures in
-    let n = native-at [] v c.requires.order c.args.d c.in-Some.key c.in-Some.ensures.name c.in-Some.ensures.there in
+    let n = native-at c.requires.order.0 v c.requires.order.1 c.args.d c.in-Some.key c.in-Some.ensures.name c.in-Some.ensures.there in
     let held : register v.heap (N c.args.d) ≡ Some (native (the_number v c.in-Some.key.0)) = n.held ∙ sym (ap (λ o. Some (native (number_or_none o))) n.at) in
     let stored = stored-store v.heap c.args.d (the_number v c.in-Some.key.0) c.args.i (held_name v c.args.content) held in
     record {

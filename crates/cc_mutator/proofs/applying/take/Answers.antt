@@ -4,7 +4,7 @@ use Rattle.cc_mutator.proofs.Carrying.{applied-refused, applied-done, carried-ta
 use Rattle.cc_mutator.proofs.applying.take.Goals as goal
 
 pub returns-in-Some : goal.returns-in-Some
-returns-in-Some c = λ t. applied-refused _ _ _ _ _ _ (sym c.refusal_of_take.ensures ∙ c.in-Some.is) refl refl c.requires.order
+returns-in-Some c = λ t. applied-refused _ _ _ _ _ _ (sym c.refusal_of_take.ensures ∙ c.in-Some.is) refl refl
 
 pub script_content-content-requires-clause-slot : goal.script_content-content-requires-clause-slot
 script_content-content-requires-clause-slot c = slot-take c.args.heaps.now.heap c.args.d c.args.s c.args.i (sym c.refusal_of_take.ensures ∙ c.in_default.is)

@@ -1,4 +1,4 @@
-use Rattle.std.proofs.Common.{◌≡◌, [], true, false, not, Some, None, is_some, refl, sym, ◌∙◌, ap}
+use Rattle.std.proofs.Common.{◌≡◌, true, false, not, Some, None, is_some, refl, sym, ◌∙◌, ap}
 use Rattle.cc_names.specs.declared.register.Reg.TheVariants.{S}
 use Rattle.cc_model.specs.Checks.{native_of}
 use Rattle.cc_model.specs.Effects.{hold_native}
@@ -13,17 +13,17 @@ pub returns-in_default : goal.returns-in_default
 returns-in_default g c =
     let v = c.args.heaps.now in
     let none : register v.heap (S c.args.s) ≡ None = sym c.script_reg.ensures.name ∙ ap (script_name v) c.in_default.is in
-    applied-refused _ _ _ _ _ _ (refusal-unwrap (objects_of v.heap) c.args.d c.args.s ∙ ap refusal_by_kind none) refl refl c.requires.order
+    applied-refused _ _ _ _ _ _ (refusal-unwrap (objects_of v.heap) c.args.d c.args.s ∙ ap refusal_by_kind none) refl refl
 
 pub returns-then-is_none : goal.returns-then-is_none
 returns-then-is_none g c =
     let v = c.args.heaps.now in
     let e = c.unwrap_of-content.ensures in
-    let told = reflector-unwrapped [] v c.requires.order c.args.s c.in-Some.object c.in-Some.ensures.name c.in-Some.ensures.there c.unwrap_of-content.result e.name e.there in
+    let told = reflector-unwrapped c.requires.order.0 v c.requires.order.1 c.args.s c.in-Some.object c.in-Some.ensures.name c.in-Some.ensures.there c.unwrap_of-content.result e.name e.there in
     let some : is_some c.unwrap_of-content.result ≡ false = c.is_none.ensures ∙ ap not c.if-is_none.true in
     applied-refused _ _ _ _ _ _
     (refusal-unwrap (objects_of v.heap) c.args.d c.args.s ∙ kind-told (register v.heap (S c.args.s)) false (told ∙ ap (λ b. Some b) some))
-    refl refl c.requires.order
+    refl refl
 
 pub returns : goal.returns
 returns g c =
@@ -31,7 +31,7 @@ returns g c =
     let u = c.unwrap_of-content.ensures in
     let e = c.set_native_reg.ensures in
     let x = native_name v c.unwrap_of-content.result in
-    let told = reflector-unwrapped [] v c.requires.order c.args.s c.in-Some.object c.in-Some.ensures.name c.in-Some.ensures.there c.unwrap_of-content.result u.name u.there in
+    let told = reflector-unwrapped c.requires.order.0 v c.requires.order.1 c.args.s c.in-Some.object c.in-Some.ensures.name c.in-Some.ensures.there c.unwrap_of-content.result u.name u.there in
     let some : is_some c.unwrap_of-content.result ≡ true = c.is_none.ensures ∙ ap not c.if-is_none.false in
     applied-left _ _ _ _ _ _ (hold_native v.heap c.args.d x)
     (refusal-unwrap (objects_of v.heap) c.args.d c.args.s ∙ kind-told (register v.heap (S c.args.s)) true (told ∙ ap (λ b. Some b) some))

@@ -1,4 +1,4 @@
-use Rattle.std.proofs.Common.{◌≡◌, [], true, sym, subst}
+use Rattle.std.proofs.Common.{◌≡◌, true, sym, subst}
 use Rattle.cc_model.specs.Checks.{is_map_in}
 use Rattle.cc_model.specs.Heap.{objects_of}
 use Rattle.cc_heaps.proofs.EntryNames.{is_map-named}
@@ -7,11 +7,17 @@ use Rattle.cc_mutator.proofs.applying.write_entry.Goals as goal
 pub set_entry-requires-clause-the_map : goal.set_entry-requires-clause-the_map
 set_entry-requires-clause-the_map c =
     let v = c.args.heaps.now in
-    (is_map-named [] v c.requires.order c.in-Some.the_map.0 c.in-Some.ensures.there).0
+    (is_map-named c.requires.order.0 v c.requires.order.1 c.in-Some.the_map.0 c.in-Some.ensures.there).0
     (subst (λ x. is_map_in (objects_of v.heap) x ≡ true) (sym c.in-Some.ensures.name) c.requires.the_map)
 
 pub unset_entry-requires-clause-the_map : goal.unset_entry-requires-clause-the_map
 unset_entry-requires-clause-the_map c =
     let v = c.args.heaps.now in
-    (is_map-named [] v c.requires.order c.in-Some.the_map.0 c.in-Some.ensures.there).0
+    (is_map-named c.requires.order.0 v c.requires.order.1 c.in-Some.the_map.0 c.in-Some.ensures.there).0
     (subst (λ x. is_map_in (objects_of v.heap) x ≡ true) (sym c.in-Some.ensures.name) c.requires.the_map)
+
+pub returns-in-Some-clause-order : goal.returns-in-Some-clause-order
+returns-in-Some-clause-order c = c.set_entry.ensures.order
+
+pub returns-in-None-clause-order : goal.returns-in-None-clause-order
+returns-in-None-clause-order c = c.unset_entry.ensures.order

@@ -1,4 +1,4 @@
-use Rattle.std.proofs.Common.{◌≡◌, [], List, Some, refl, sym, ◌∙◌, ap}
+use Rattle.std.proofs.Common.{◌≡◌, List, Some, refl, sym, ◌∙◌, ap}
 use denote.Enum.Bare.{sameb}
 use Rattle.cc_names.specs.contracts.kind.Kind.{the_type}
 use Rattle.cc_names.specs.declared.kind.Kind.{Kind}
@@ -15,4 +15,4 @@ map-same Map = refl
 pub returns-in-Some : goal.returns-in-Some
 returns-in-Some c =
     let is : kind_at c.args.heaps.now.scripts c.in-Some.key.0 ≡ Some c.kind.result = sym (ap (λ (os : List Object). kind_at os c.in-Some.key.0) c.scripts.ensures) ∙ c.kind.ensures in
-    c.eq.ensures ∙ (map-same c.kind.result ∙ map-told [] c.args.heaps.now c.requires c.args.r c.in-Some.key c.in-Some.ensures.name c.in-Some.ensures.there c.kind.result is)
+    c.eq.ensures ∙ (map-same c.kind.result ∙ map-told c.requires.0 c.args.heaps.now c.requires.1 c.args.r c.in-Some.key c.in-Some.ensures.name c.in-Some.ensures.there c.kind.result is)

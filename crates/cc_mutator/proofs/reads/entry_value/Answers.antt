@@ -1,4 +1,4 @@
-use Rattle.std.proofs.Common.{[], List, ◌∙◌, ap}
+use Rattle.std.proofs.Common.{List, ◌∙◌, ap}
 use Rattle.cc_model.specs.Checks.{value_at}
 use Rattle.cc_model.specs.Heap.{objects_of}
 use Rattle.cc_weakmaps.specs.Entries.{KeyedEntry, value_in}
@@ -10,7 +10,7 @@ returns-clause-name c =
     let v = c.args.heaps.now in
     let m = c.in_ok-the_map in
     let k = c.in_ok-key in
-    (value-read [] v c.requires m.the_map.0 k.key.0 m.ensures.there k.ensures.there c.get.result
+    (value-read c.requires.0 v c.requires.1 m.the_map.0 k.key.0 m.ensures.there k.ensures.there c.get.result
     (c.get.ensures ∙ ap (λ (es : List KeyedEntry). value_in es m.the_map.0 k.key.0) c.weak.ensures)).0
     ∙ (λ i. value_at (objects_of v.heap) (m.ensures.name i) (k.ensures.name i))
 
@@ -18,5 +18,5 @@ pub returns-clause-there : goal.returns-clause-there
 returns-clause-there c =
     let m = c.in_ok-the_map in
     let k = c.in_ok-key in
-    (value-read [] c.args.heaps.now c.requires m.the_map.0 k.key.0 m.ensures.there k.ensures.there c.get.result
+    (value-read c.requires.0 c.args.heaps.now c.requires.1 m.the_map.0 k.key.0 m.ensures.there k.ensures.there c.get.result
     (c.get.ensures ∙ ap (λ (es : List KeyedEntry). value_in es m.the_map.0 k.key.0) c.weak.ensures)).1

@@ -1,6 +1,11 @@
+use Rattle.std.proofs.Common.{[]}
+use Rattle.cc_heaps.proofs.FewCounts.{none-owned}
 use Rattle.cc_collector.proofs.GoingOn.{RunsIn-between}
 use Rattle.cc_replay.proofs.Replying.{answered-applied}
 use Rattle.cc_replay.proofs.answering.answer_mutator.Goals as goal
+
+pub apply-reply-requires-clause-order : goal.apply-reply-requires-clause-order
+apply-reply-requires-clause-order g c = none-owned c.args.heaps.now c.requires.runs.order
 
 pub returns-clause-answered : goal.returns-clause-answered
 returns-clause-answered g c =
@@ -14,4 +19,4 @@ pub returns-clause-runs : goal.returns-clause-runs
 returns-clause-runs g c =
     let e = c.apply-reply.ensures in
     RunsIn-between c.args.heaps.now c.apply-reply.new.heaps c.args.collector.now c.requires.runs
-    (record { order = e.order; colours = e.colours; fresh = e.fresh; keys = e.keys })
+    (record { order = e.order [] c.requires.runs.order; colours = e.colours; fresh = e.fresh; keys = e.keys })

@@ -1,10 +1,10 @@
-use Rattle.std.proofs.Common.{◌≡◌, [], Some, sym, subst}
+use Rattle.std.proofs.Common.{◌≡◌, Some, sym, subst}
 use Rattle.cc_names.specs.Names.{reflector}
 use Rattle.cc_model.specs.Graph as graph
 use Rattle.cc_script.specs.Objects.{name_at}
 use Rattle.cc_heaps.specs.Keyed.{Keyed, the_number}
 use Rattle.cc_heaps.specs.Standing.{IsReached, MayHold, StandsAfter}
-use Rattle.cc_heaps.proofs.FewCounts.{few-alone}
+use Rattle.cc_heaps.proofs.FewCounts.{few-owned}
 use Rattle.cc_heaps.proofs.ReflectingPreserved.{preserved-may_hold}
 use Rattle.cc_wrappers.proofs.ReflectorKeys.{name-held, black-not_gray}
 use Rattle.cc_wrappers.proofs.Wrapped.{found-reflector, found-has, behind-reached, preserved-keeps_reached, no_reflector-may_hold}
@@ -13,7 +13,7 @@ use Rattle.cc_wrappers.proofs.wrapping.preserve.Goals as goal
 pub set_preserved-requires-clause-has : goal.set_preserved-requires-clause-has
 set_preserved-requires-clause-has c =
     let v = c.args.heaps.now in
-    found-has v c.requires.order c.args.key.0 (the_number v c.in-Some.native.0)
+    found-has v c.requires.order.1 c.args.key.0 (the_number v c.in-Some.native.0)
     (found-reflector v c.in-Some.native (name_at v.scripts c.args.key.0) c.in-Some.ensures.there c.in-Some.ensures.name)
 
 -- the object is the reflector of the native that was found
@@ -27,19 +27,25 @@ returns-in-Some-clause-stands c =
     let v = c.args.heaps.now in
     let k = the_number v c.in-Some.native.0 in
     subst (λ x. IsReached v.heap x → StandsAfter v.heap c.set_preserved.new.self.heap (λ g. graph.preserve g x)) (sym (named c))
-    (λ d. c.set_preserved.ensures.stands (behind-reached v.heap k (name-held [] v c.requires.order c.args.key.0 (reflector k) (named c)) d))
+    (λ d. c.set_preserved.ensures.stands (behind-reached v.heap k (name-held c.requires.order.0 v c.requires.order.1 c.args.key.0 (reflector k) (named c)) d))
+
+pub returns-in-Some-clause-order : goal.returns-in-Some-clause-order
+returns-in-Some-clause-order c = c.set_preserved.ensures.order
+
+pub returns-in-Some-clause-counts : goal.returns-in-Some-clause-counts
+returns-in-Some-clause-counts c = c.set_preserved.ensures.counts
 
 pub returns-in-Some-clause-fresh : goal.returns-in-Some-clause-fresh
 returns-in-Some-clause-fresh c black =
     let v = c.args.heaps.now in
     c.set_preserved.ensures.fresh
-    (black-not_gray [] v c.requires.order c.args.key.0 (reflector (the_number v c.in-Some.native.0)) (named c) black)
+    (black-not_gray c.requires.order.0 v c.requires.order.1 c.args.key.0 (reflector (the_number v c.in-Some.native.0)) (named c) black)
 
 pub returns-in-Some-clause-reached : goal.returns-in-Some-clause-reached
 returns-in-Some-clause-reached c x d =
     let v = c.args.heaps.now in
     let k = the_number v c.in-Some.native.0 in
-    subst (λ (w : Keyed). IsReached w.heap x) (sym c.set_preserved.ensures.heap) (preserved-keeps_reached v c.requires.order c.args.key.0 k (named c) x d)
+    subst (λ (w : Keyed). IsReached w.heap x) (sym c.set_preserved.ensures.heap) (preserved-keeps_reached v c.requires.order.1 c.args.key.0 k (named c) x d)
 
 pub returns-in-Some-clause-may_hold : goal.returns-in-Some-clause-may_hold
 returns-in-Some-clause-may_hold c =
@@ -47,7 +53,7 @@ returns-in-Some-clause-may_hold c =
     let k = the_number v c.in-Some.native.0 in
     subst (λ x. MayHold c.set_preserved.new.self.heap x) (sym (named c))
     (subst (λ (w : Keyed). MayHold w.heap (Some (reflector k))) (sym c.set_preserved.ensures.heap)
-    (preserved-may_hold v.heap k c.requires.order.sound (name-held [] v c.requires.order c.args.key.0 (reflector k) (named c))))
+    (preserved-may_hold v.heap k c.requires.order.1.sound (name-held c.requires.order.0 v c.requires.order.1 c.args.key.0 (reflector k) (named c))))
 
 pub returns-in-None-clause-may_hold : goal.returns-in-None-clause-may_hold
 returns-in-None-clause-may_hold c =
@@ -55,4 +61,7 @@ returns-in-None-clause-may_hold c =
     no_reflector-may_hold v.heap (name_at v.scripts c.args.key.0) (sym c.in-None.ensures.name)
 
 pub returns-in-None-clause-counts : goal.returns-in-None-clause-counts
-returns-in-None-clause-counts c = few-alone c.args.heaps.now c.requires.order
+returns-in-None-clause-counts c = few-owned c.args.heaps.now
+
+pub returns-in-None-clause-order : goal.returns-in-None-clause-order
+returns-in-None-clause-order c owned o = o

@@ -10,15 +10,18 @@ use Rattle.cc_heaps.proofs.ScriptsChanged.{named-there}
 use Rattle.cc_wrappers.proofs.Wrapped.{reflector-name, reflector-none, reflector-has, exposed-wrapped, exposed-name, exposed-colour, exposed-stands, exposed-keeps_reached, made-wrapped, made-colour, made-keeps_reached}
 use Rattle.cc_wrappers.proofs.wrapping.wrap.Goals as goal
 
+pub expose-requires-clause-order : goal.expose-requires-clause-order
+expose-requires-clause-order c = let f = c.requires.order in (f.0, f.1)
+
 pub expose-requires-clause-live : goal.expose-requires-clause-live
 expose-requires-clause-live c =
     let v = c.args.heaps.now in
     named-there v.scripts c.in-Some.there.0 (reflector (the_number v c.args.key.0))
-    (reflector-name v c.requires.order c.args.key.0 c.requires.live c.in-Some.there.0
+    (reflector-name v c.requires.order.1 c.args.key.0 c.requires.live c.in-Some.there.0
     (sym (c.in-Some.ensures ∙ ap (λ w. reflector_at w c.args.key.0) c.counted.ensures)))
 
 pub new_reflector-requires-clause-lacks : goal.new_reflector-requires-clause-lacks
-new_reflector-requires-clause-lacks c = reflector-none c.args.heaps.now c.requires.order c.args.key.0 c.requires.live
+new_reflector-requires-clause-lacks c = reflector-none c.args.heaps.now c.requires.order.1 c.args.key.0 c.requires.live
     (sym (c.in-None.ensures ∙ ap (λ w. reflector_at w c.args.key.0) c.counted.ensures))
 
 -- The reflector that is there
@@ -29,21 +32,27 @@ found c = sym (c.in-Some.ensures ∙ ap (λ w. reflector_at w c.args.key.0) c.co
 
 -- it has its name there
 named : (c : goal.After-expose) → name_at c.args.heaps.now.scripts c.in-Some.there.0 ≡ Some (reflector (the_number c.args.heaps.now c.args.key.0))
-named c = reflector-name c.args.heaps.now c.requires.order c.args.key.0 c.requires.live c.in-Some.there.0 (found c)
+named c = reflector-name c.args.heaps.now c.requires.order.1 c.args.key.0 c.requires.live c.in-Some.there.0 (found c)
 
 -- and by name it is there
 has : (c : goal.After-expose) → has_reflector c.args.heaps.now.heap (the_number c.args.heaps.now c.args.key.0) ≡ true
-has c = reflector-has c.args.heaps.now c.requires.order c.args.key.0 c.requires.live c.in-Some.there.0 (found c)
+has c = reflector-has c.args.heaps.now c.requires.order.1 c.args.key.0 c.requires.live c.in-Some.there.0 (found c)
 
 pub returns-in-Some-clause-heap : goal.returns-in-Some-clause-heap
 returns-in-Some-clause-heap c =
     let v = c.args.heaps.now in
-    exposed-wrapped v c.expose.new.self c.requires.order c.expose.ensures.order (the_number v c.args.key.0) c.in-Some.there.0 (named c) (has c) c.expose.ensures.heap c.expose.ensures.keys
+    exposed-wrapped v c.expose.new.self c.requires.order.1 (c.expose.ensures.order c.requires.order.0 c.requires.order.1) (the_number v c.args.key.0) c.in-Some.there.0 (named c) (has c) c.expose.ensures.heap c.expose.ensures.keys
+
+pub returns-in-Some-clause-order : goal.returns-in-Some-clause-order
+returns-in-Some-clause-order c = c.expose.ensures.order
+
+pub returns-in-Some-clause-counts : goal.returns-in-Some-clause-counts
+returns-in-Some-clause-counts c = c.expose.ensures.counts
 
 pub returns-in-Some-clause-name : goal.returns-in-Some-clause-name
 returns-in-Some-clause-name c =
     let v = c.args.heaps.now in
-    exposed-name v c.expose.new.self c.requires.order c.expose.ensures.order (the_number v c.args.key.0) c.in-Some.there.0 (named c) (has c) c.expose.ensures.heap c.expose.ensures.keys
+    exposed-name v c.expose.new.self c.requires.order.1 (c.expose.ensures.order c.requires.order.0 c.requires.order.1) (the_number v c.args.key.0) c.in-Some.there.0 (named c) (has c) c.expose.ensures.heap c.expose.ensures.keys
 
 pub returns-in-Some-clause-there : goal.returns-in-Some-clause-there
 returns-in-Some-clause-there c = named-there c.expose.new.self.scripts c.in-Some.there.0 (reflector (the_number c.args.heaps.now c.args.key.0)) (returns-in-Some-clause-name c)
@@ -51,36 +60,42 @@ returns-in-Some-clause-there c = named-there c.expose.new.self.scripts c.in-Some
 pub returns-in-Some-clause-black : goal.returns-in-Some-clause-black
 returns-in-Some-clause-black c =
     let v = c.args.heaps.now in
-    exposed-colour v c.expose.new.self c.requires.order c.expose.ensures.order (the_number v c.args.key.0) c.in-Some.there.0 (named c) (has c) c.expose.ensures.heap c.expose.ensures.keys
+    exposed-colour v c.expose.new.self c.requires.order.1 (c.expose.ensures.order c.requires.order.0 c.requires.order.1) (the_number v c.args.key.0) c.in-Some.there.0 (named c) (has c) c.expose.ensures.heap c.expose.ensures.keys
 
 pub returns-in-Some-clause-stands : goal.returns-in-Some-clause-stands
 returns-in-Some-clause-stands c =
     let v = c.args.heaps.now in
-    exposed-stands v c.expose.new.self c.requires.order c.expose.ensures.order (the_number v c.args.key.0) c.in-Some.there.0 (named c) (has c) c.expose.ensures.heap c.expose.ensures.keys
+    exposed-stands v c.expose.new.self c.requires.order.1 (c.expose.ensures.order c.requires.order.0 c.requires.order.1) (the_number v c.args.key.0) c.in-Some.there.0 (named c) (has c) c.expose.ensures.heap c.expose.ensures.keys
 
 pub returns-in-Some-clause-reached : goal.returns-in-Some-clause-reached
 returns-in-Some-clause-reached c =
     let v = c.args.heaps.now in
-    exposed-keeps_reached v c.expose.new.self c.requires.order c.expose.ensures.order (the_number v c.args.key.0) c.in-Some.there.0 (named c) (has c) c.expose.ensures.heap c.expose.ensures.keys
+    exposed-keeps_reached v c.expose.new.self c.requires.order.1 (c.expose.ensures.order c.requires.order.0 c.requires.order.1) (the_number v c.args.key.0) c.in-Some.there.0 (named c) (has c) c.expose.ensures.heap c.expose.ensures.keys
 
 -- A new one
 
 -- there was none
 lacks : (c : goal.After-new_reflector) → has_reflector c.args.heaps.now.heap (the_number c.args.heaps.now c.args.key.0) ≡ false
-lacks c = reflector-none c.args.heaps.now c.requires.order c.args.key.0 c.requires.live
+lacks c = reflector-none c.args.heaps.now c.requires.order.1 c.args.key.0 c.requires.live
     (sym (c.in-None.ensures ∙ ap (λ w. reflector_at w c.args.key.0) c.counted.ensures))
+
+pub returns-in-None-clause-order : goal.returns-in-None-clause-order
+returns-in-None-clause-order c = c.new_reflector.ensures.order
+
+pub returns-in-None-clause-counts : goal.returns-in-None-clause-counts
+returns-in-None-clause-counts c = c.new_reflector.ensures.counts
 
 pub returns-in-None-clause-heap : goal.returns-in-None-clause-heap
 returns-in-None-clause-heap c =
     let v = c.args.heaps.now in
     on_ok_weaker c.new_reflector.result
-    (made-wrapped v c.new_reflector.new.self c.new_reflector.ensures.order (the_number v c.args.key.0) (lacks c))
+    (made-wrapped v c.new_reflector.new.self (c.new_reflector.ensures.order c.requires.order.0 c.requires.order.1) (the_number v c.args.key.0) (lacks c))
     c.new_reflector.ensures.heap
 
 pub returns-in-None-clause-black : goal.returns-in-None-clause-black
 returns-in-None-clause-black c =
     let v = c.args.heaps.now in
-    made-colour v c.new_reflector.new.self c.new_reflector.ensures.order (the_number v c.args.key.0) (lacks c) c.new_reflector.result
+    made-colour v c.new_reflector.new.self (c.new_reflector.ensures.order c.requires.order.0 c.requires.order.1) (the_number v c.args.key.0) (lacks c) c.new_reflector.result
     c.new_reflector.ensures.heap c.new_reflector.ensures.name
 
 pub returns-in-None-clause-lacks : goal.returns-in-None-clause-lacks
@@ -89,5 +104,5 @@ returns-in-None-clause-lacks c = on_err_of c.new_reflector.result (lacks c)
 pub returns-in-None-clause-reached : goal.returns-in-None-clause-reached
 returns-in-None-clause-reached c =
     let v = c.args.heaps.now in
-    made-keeps_reached v c.new_reflector.new.self c.new_reflector.ensures.order (the_number v c.args.key.0) (lacks c) c.new_reflector.result
+    made-keeps_reached v c.new_reflector.new.self (c.new_reflector.ensures.order c.requires.order.0 c.requires.order.1) (the_number v c.args.key.0) (lacks c) c.new_reflector.result
     c.new_reflector.ensures.heap c.new_reflector.ensures.same

@@ -1,8 +1,9 @@
 use Rattle.std.specs.Prelude.{OnOk, OnErr}
-use Rattle.std.proofs.Common.{Result, Ok, Err, Option, None, sym, subst}
+use Rattle.std.proofs.Common.{[], Result, Ok, Err, Option, None, sym, subst}
 use Rattle.cc_laws_run.specs.Doomed.{IsSuspectedNow}
+use Rattle.cc_heaps.proofs.FewCounts.{few-alone}
 use Rattle.cc_builder.specs.Building.{Built}
-use Rattle.cc_collector.specs.Kept.{machine_of}
+use Rattle.cc_collector.specs.Kept.{RunsIn, machine_of}
 use Rattle.cc_collector.specs.Collected.{IsSwept}
 use Rattle.cc_collector.specs.Units.{Keeps}
 use Rattle.cc_collector.proofs.Keeping.{KeepsKeys-swept}
@@ -15,6 +16,13 @@ use Rattle.cc_collector.proofs.collector.Collector.gc.Goals as goal
 by_result : {T E P Q R S : Type 0} (r : Result T E) → (P → S) → (Q → R → S) → OnOk r P → OnErr r Q → OnErr r R → S
 by_result (Ok x) f h p q s = f p
 by_result (Err e) f h p q s = h q s
+
+pub collect_scripts-requires : goal.collect_scripts-requires
+collect_scripts-requires g c =
+    let f = c.finish_running-refused in
+    let k : Keeps c.args.heaps.now c.args.self.now f.new.heaps None =
+    by_result f.result (λ a. a.keeps) (λ a some. a.keeps) f.ensures.done f.ensures.refused f.ensures.ran in
+    record { order = ([], k.runs.order) }
 
 pub returns-clause-swept : goal.returns-clause-swept
 returns-clause-swept g c =
@@ -51,3 +59,12 @@ returns-clause-suspected g c = λ s.
 
 pub returns-clause-keys : goal.returns-clause-keys
 returns-clause-keys g c = KeepsKeys-swept c.args.heaps.now c.args.self.now c.finish_running-refused.new.heaps c.collect_scripts.new.heaps (keeps g c) c.collect_scripts.ensures.heap c.collect_scripts.ensures.keys
+
+pub returns-clause-counts : goal.returns-clause-counts
+returns-clause-counts g c = few-alone c.collect_scripts.new.heaps (c.collect_scripts.ensures.order [] (keeps g c).runs.order)
+
+pub returns-clause-runs : goal.returns-clause-runs
+returns-clause-runs g c =
+    let e = c.collect_scripts.ensures in
+    subst (RunsIn c.collect_scripts.new.heaps) (sym c.finish_running-refused.ensures.over)
+    (record { order = e.order [] (keeps g c).runs.order; colours = e.invariant; goes_on = tt })

@@ -1,6 +1,7 @@
-use Rattle.std.proofs.Common.{rules, ◌<◌, None, refl, inl, sym, subst, arith}
+use Rattle.std.proofs.Common.{[], rules, ◌<◌, None, refl, inl, sym, subst, arith}
 use Rattle.cc_names.specs.declared.register.Reg.TheVariants.{N}
 use Rattle.cc_model.specs.Graph.{set_register}
+use Rattle.cc_heaps.proofs.FewCounts.{none-owned}
 use Rattle.cc_document.specs.Shown.{Makes, Parts, Shows, parts}
 use Rattle.cc_document.specs.Told.{TellsWhatIsFreed}
 use Rattle.cc_document.proofs.Assigning.{assigned-reads}
@@ -9,6 +10,9 @@ use Rattle.cc_document.proofs.Freed.{hold_native-made, hold_native-tells}
 use Rattle.cc_document.proofs.Idle.{idle-after}
 use Rattle.cc_document.proofs.Steps.{Shows-step}
 use Rattle.cc_document.proofs.document.Document.let_go.Goals as goal
+
+pub set_native_reg-requires-clause-order : goal.set_native_reg-requires-clause-order
+set_native_reg-requires-clause-order g c = none-owned c.self.inside.heaps c.self.invariant.0.1.runs.order
 
 pub invariant_of-self : goal.invariant_of-self
 invariant_of-self g c =
@@ -19,7 +23,7 @@ invariant_of-self g c =
     let b = c.self.inside.collector in
     let k = set_register s.0 (N c.args.variable.0) None in
     let t = Shows-step v w b (λ h. set_register h (N c.args.variable.0) None)
-    (record { order = e.order; colours = e.colours; fresh = e.fresh; keys = e.keys; suspected = e.suspected; stands = e.stands tt }) s.0 s.1 (native_register-document s.0 s.1.document c.args.variable.0 None) in
+    (record { order = e.order [] s.1.runs.order; colours = e.colours; fresh = e.fresh; keys = e.keys; suspected = e.suspected; stands = e.stands tt }) s.0 s.1 (native_register-document s.0 s.1.document c.args.variable.0 None) in
     ((k, t), idle-after v w b b s.0 k s.1 t (λ r. inl refl) c.self.invariant.1)
 
 pub returns-clause-assigned : goal.returns-clause-assigned
@@ -29,7 +33,7 @@ returns-clause-assigned g c = λ k s.
     let within : c.args.variable.0 < 256 = search rules in (
       set_register k (N c.args.variable.0) None,
       Shows-step c.self.inside.heaps c.set_native_reg.new.self c.self.inside.collector (λ h. set_register h (N c.args.variable.0) None)
-          (record { order = e.order; colours = e.colours; fresh = e.fresh; keys = e.keys; suspected = e.suspected; stands = e.stands tt }) k t (native_register-document k t.document c.args.variable.0 None),
+          (record { order = e.order [] t.runs.order; colours = e.colours; fresh = e.fresh; keys = e.keys; suspected = e.suspected; stands = e.stands tt }) k t (native_register-document k t.document c.args.variable.0 None),
       assigned-reads k c.args.variable.0 None (omega (arith, within, s.well.registers.0)),
     )
 
@@ -41,7 +45,7 @@ returns-clause-tells g c =
     let after = g.N.Notices.telling c.set_native_reg.new.out in
     let within : c.args.variable.0 < 256 = search rules in
     subst (λ (p : Parts). TellsWhatIsFreed p.heaps.heap w.heap before after) c.self.view_is
-    (hold_native-tells c.self.inside.heaps w c.args.variable.0 None before after within (λ y m. absurd m) c.self.invariant.0.1.runs.order e.heap e.order e.told)
+    (hold_native-tells c.self.inside.heaps w c.args.variable.0 None before after within (λ y m. absurd m) c.self.invariant.0.1.runs.order e.heap (e.order [] c.self.invariant.0.1.runs.order) e.told)
 
 pub returns-clause-makes : goal.returns-clause-makes
 returns-clause-makes g c =

@@ -1,8 +1,11 @@
-use Rattle.std.proofs.Common.{◌≤◌, sym, subst}
+use Rattle.std.proofs.Common.{[], ◌≤◌, sym, subst}
 use Rattle.cc_model.specs.Heap.{Heap}
 use Rattle.cc_document.specs.Shown.{Shows, parts, empty_document}
 use Rattle.cc_document.proofs.Beginning.{Shows-empty, empty-idle}
 use Rattle.cc_document.proofs.document.Document.new.Goals as goal
+
+pub new_map-requires : goal.new_map-requires
+new_map-requires c = record { order = ([], c.in_ok-heaps.ensures.order) }
 
 -- an object could be made
 room : (c : goal.After-new-2) → ¬ (c.args.limits.scripts ≤ 0)
@@ -19,7 +22,7 @@ shown c =
     let full = c.new_map.ensures.full_always (subst (λ (k : Heap). k.limits.scripts ≤ k.scripts_made) (sym h.empty) few) in
     let made = c.in_ok-new_map.was in
     cc in
-    Shows-empty c.args.limits room c.in_ok-heaps.heaps c.new_map.new.self c.new-2.result c.new-2.ensures h.stands h.colours h.suspected e.order e.colours e.suspected e.stands
+    Shows-empty c.args.limits room c.in_ok-heaps.heaps c.new_map.new.self c.new-2.result c.new-2.ensures h.stands h.colours h.suspected (e.order [] h.order) e.colours e.suspected e.stands
 
 pub invariant_of-result : goal.invariant_of-result
 invariant_of-result c =

@@ -1,4 +1,4 @@
-use Rattle.std.proofs.Common.{rules, ◌≡◌, ℕ, ◌<◌, ◌≤◌, ◌+◌, length, Some, refl, sym, ◌∙◌, ap, subst, ⊎_elim, arith}
+use Rattle.std.proofs.Common.{[], rules, ◌≡◌, ℕ, ◌<◌, ◌≤◌, ◌+◌, length, Some, refl, sym, ◌∙◌, ap, subst, ⊎_elim, arith}
 use Rattle.std.proofs.lemmas.Bool.{cases_lt}
 use Rattle.cc_lists.specs.Members.{Among}
 use Rattle.cc_model.specs.WellFormed.{names_there}
@@ -18,6 +18,9 @@ use Rattle.cc_document.proofs.Idle.{idle-after, made_in-left}
 use Rattle.cc_document.proofs.Steps.{Shows-step}
 use Rattle.cc_document.proofs.document.Document.new_element.Goals as goal
 
+pub new_native-requires-clause-order : goal.new_native-requires-clause-order
+new_native-requires-clause-order g c = ([], c.self.invariant.0.1.runs.order)
+
 pub invariant_of-self-2 : goal.invariant_of-self-2
 invariant_of-self-2 g c =
     let s = c.self.invariant.0 in
@@ -27,7 +30,7 @@ invariant_of-self-2 g c =
     let b = c.self.inside.collector in
     let k = made_in c.args.into.0 s.0 in
     let t = Shows-step v w b (made_in c.args.into.0)
-    (record { order = e.order; colours = e.colours; fresh = e.fresh; keys = e.keys; suspected = e.suspected; stands = e.stands }) s.0 s.1 (made_in-document s.0 s.1.document c.args.into.0) in
+    (record { order = e.order [] s.1.runs.order; colours = e.colours; fresh = e.fresh; keys = e.keys; suspected = e.suspected; stands = e.stands }) s.0 s.1 (made_in-document s.0 s.1.document c.args.into.0) in
     ((k, t), idle-after v w b b s.0 k s.1 t (made_in-left s.0 c.args.into.0) c.self.invariant.1)
 
 pub returns-clause-made : goal.returns-clause-made
@@ -46,7 +49,7 @@ returns-clause-made g c = λ k s.
     let numbered : element c.in-Native.number.0 ≡ element (length k.natives + 1) = ap (λ x. Some x) named ∙ ap (λ n. element (n + 1)) a.natives_made in (
       made_in r k,
       Shows-step v c.new_native.new.self c.self.inside.collector (made_in r)
-          (record { order = e.order; colours = e.colours; fresh = e.fresh; keys = e.keys; suspected = e.suspected; stands = e.stands }) k t (made_in-document k t.document r),
+          (record { order = e.order [] t.runs.order; colours = e.colours; fresh = e.fresh; keys = e.keys; suspected = e.suspected; stands = e.stands }) k t (made_in-document k t.document r),
       subst (IsAssigned (graph.objects_of k) (graph.objects_of (made_in r k)) r) (sym numbered) (made-reads k r (omega (arith, within, t.well.registers.0)) (room-for_native (graph.objects_of k) r room)),
     )
 
@@ -75,7 +78,7 @@ returns-clause-tells g c =
     let made = c.in_ok-number.was in
     let room : h.natives_made < h.limits.natives = below h.limits.natives h.natives_made (λ few. let stop = full few in cc) in
     subst (λ (p : Parts). TellsWhatIsFreed p.heaps.heap k before after) c.self.view_is
-    (make_native-tells h k c.args.into.0 10 before after within (omega arith) room c.self.invariant.0.1.runs.order.sound e.heap e.order.sound.well_formed e.told)
+    (make_native-tells h k c.args.into.0 10 before after within (omega arith) room c.self.invariant.0.1.runs.order.sound e.heap (e.order [] c.self.invariant.0.1.runs.order).sound.well_formed e.told)
 
 pub returns-clause-makes : goal.returns-clause-makes
 returns-clause-makes g c =

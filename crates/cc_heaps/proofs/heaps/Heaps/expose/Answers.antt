@@ -1,7 +1,7 @@
 use Rattle.std.proofs.Common.{sym, subst}
 use Rattle.cc_script.specs.Objects.{name_at}
 use Rattle.cc_heaps.specs.Standing.{StillStands}
-use Rattle.cc_heaps.proofs.FewCounts.{few-alone}
+use Rattle.cc_heaps.proofs.FewCounts.{few-owned}
 use Rattle.cc_heaps.proofs.Following.{Keeps, exposed-keeps}
 use Rattle.cc_heaps.proofs.StandingStill.{exposed-still}
 use Rattle.cc_heaps.proofs.heaps.Heaps.expose.Goals as goal
@@ -9,10 +9,13 @@ use Rattle.cc_heaps.proofs.heaps.Heaps.expose.Goals as goal
 keeps : (c : goal.After-expose_content) → Keeps c.args.self.now.heap c.expose_content.new.self.heap
 keeps c =
     let v = c.args.self.now in
-    subst (Keeps v.heap) (sym c.expose_content.ensures.heap) (exposed-keeps v.heap (name_at v.scripts c.args.key.0) c.requires.order.sound)
+    subst (Keeps v.heap) (sym c.expose_content.ensures.heap) (exposed-keeps v.heap (name_at v.scripts c.args.key.0) c.requires.order.1.sound)
+
+pub returns-clause-order : goal.returns-clause-order
+returns-clause-order c = c.expose_content.ensures.order
 
 pub returns-clause-counts : goal.returns-clause-counts
-returns-clause-counts c = few-alone _ c.expose_content.ensures.order
+returns-clause-counts c = few-owned _
 
 pub returns-clause-colours : goal.returns-clause-colours
 returns-clause-colours c = (keeps c).follows.colours
@@ -26,4 +29,4 @@ returns-clause-suspected c = (keeps c).suspected
 pub returns-clause-stands : goal.returns-clause-stands
 returns-clause-stands c =
     let v = c.args.self.now in
-    subst (StillStands v.heap) (sym c.expose_content.ensures.heap) (exposed-still v.heap (name_at v.scripts c.args.key.0) c.requires.order.sound)
+    subst (StillStands v.heap) (sym c.expose_content.ensures.heap) (exposed-still v.heap (name_at v.scripts c.args.key.0) c.requires.order.1.sound)

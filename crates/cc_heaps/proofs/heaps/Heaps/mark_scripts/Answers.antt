@@ -1,4 +1,4 @@
-use Rattle.std.proofs.Common.{◌≡◌, [], sym, ◌∙◌, ap, subst}
+use Rattle.std.proofs.Common.{◌≡◌, sym, ◌∙◌, ap, subst}
 use Rattle.cc_lists.specs.Members.{Among}
 use Rattle.cc_model.specs.Colours.{marked, HasColours}
 use Rattle.cc_marking.specs.Marking.{marked_from}
@@ -11,24 +11,24 @@ use Rattle.cc_heaps.proofs.ReferenceNames.{few_slots-counted}
 use Rattle.cc_heaps.proofs.RootNames.{register-there, native-there}
 use Rattle.cc_heaps.proofs.MarkedObjects.{marked_objects, heap-marked, keys-marked, order-marked, linked-marked}
 use Rattle.cc_laws_heap.proofs.Marking.{HasColours-marked}
-use Rattle.cc_heaps.proofs.FewCounts.{few-alone}
+use Rattle.cc_heaps.proofs.FewCounts.{few-owned}
 use Rattle.cc_heaps.proofs.StandingStill.{marked-still}
 use Rattle.cc_heaps.proofs.heaps.Heaps.mark_scripts.Goals as goal
 
 pub new-held-requires : goal.new-held-requires
 new-held-requires c =
-    let o = rw (← c.self.view_is) at c.requires.order in
-    record { keyed = keys-counted [] c.self.inside c.self.invariant o; few_slots = few_slots-counted c.self.inside o.sound.well_formed }
+    let f = rw (← c.self.view_is) at c.requires.order in
+    record { keyed = keys-counted f.0 c.self.inside c.self.invariant f.1; few_slots = few_slots-counted c.self.inside f.1.sound.well_formed }
 
 -- the roots are the keys of registers, and those of natives
 registers : (c : goal.After-mark_uncounted) → c.new-registers.result ≡ keys_in_registers c.self.inside.script_registers.items
 registers c = c.new-registers.ensures ∙ ap keys_in_registers c.as_slice.ensures.value
 
 pub mark_uncounted-requires-clause-whole : goal.mark_uncounted-requires-clause-whole
-mark_uncounted-requires-clause-whole c = (rw (← c.self.view_is) at c.requires.order).whole
+mark_uncounted-requires-clause-whole c = (rw (← c.self.view_is) at c.requires.order).1.whole
 
 pub mark_uncounted-requires-clause-entries : goal.mark_uncounted-requires-clause-entries
-mark_uncounted-requires-clause-entries c = (rw (← c.self.view_is) at c.requires.order).entries_there
+mark_uncounted-requires-clause-entries c = (rw (← c.self.view_is) at c.requires.order).1.entries_there
 
 pub mark_uncounted-requires-clause-registers : goal.mark_uncounted-requires-clause-registers
 mark_uncounted-requires-clause-registers c = λ k m.
@@ -37,8 +37,8 @@ mark_uncounted-requires-clause-registers c = λ k m.
 
 pub mark_uncounted-requires-clause-held : goal.mark_uncounted-requires-clause-held
 mark_uncounted-requires-clause-held c =
-    let o = rw (← c.self.view_is) at c.requires.order in
-    λ k m. native-there c.self.inside c.self.invariant (keys-counted [] c.self.inside c.self.invariant o) k (subst (Among k) c.new-held.ensures m)
+    let f = rw (← c.self.view_is) at c.requires.order in
+    λ k m. native-there c.self.inside c.self.invariant (keys-counted f.0 c.self.inside c.self.invariant f.1) k (subst (Among k) c.new-held.ensures m)
 
 -- the objects are those of the marking
 objects : (c : goal.After-mark_uncounted) → marked_objects c.self.inside ≡ c.mark_uncounted.new.scripts
@@ -48,28 +48,28 @@ objects c =
 pub returns-clause-heap : goal.returns-clause-heap
 returns-clause-heap c =
     let p = c.self.inside in
-    rw (← c.self.view_is) (subst (λ os. heap_of (with_objects p os) ≡ marked (heap_of p)) (objects c) (heap-marked p c.self.invariant (rw (← c.self.view_is) at c.requires.order)))
+    rw (← c.self.view_is) (subst (λ os. heap_of (with_objects p os) ≡ marked (heap_of p)) (objects c) (heap-marked p c.self.invariant (rw (← c.self.view_is) at c.requires.order).1))
 
 pub returns-clause-keys : goal.returns-clause-keys
 returns-clause-keys c =
     let p = c.self.inside in
-    rw (← c.self.view_is) (subst (λ os. KeepsKeys (keyed_of p) (keyed_of (with_objects p os))) (objects c) (keys-marked p c.self.invariant (rw (← c.self.view_is) at c.requires.order)))
+    rw (← c.self.view_is) (subst (λ os. KeepsKeys (keyed_of p) (keyed_of (with_objects p os))) (objects c) (keys-marked p c.self.invariant (rw (← c.self.view_is) at c.requires.order).1))
 
 pub returns-clause-order : goal.returns-clause-order
-returns-clause-order c =
+returns-clause-order c owned =
     let p = c.self.inside in
-    subst (λ os. IsInOrder [] (keyed_of (with_objects p os))) (objects c) (order-marked p c.self.invariant (rw (← c.self.view_is) at c.requires.order))
+    rw (← c.self.view_is) (λ o. subst (λ os. IsInOrder owned (keyed_of (with_objects p os))) (objects c) (order-marked p c.self.invariant o))
 
 pub invariant_of-self : goal.invariant_of-self
 invariant_of-self c =
     let p = c.self.inside in
-    subst (λ os. IsLinked (with_objects p os)) (objects c) (linked-marked p c.self.invariant (rw (← c.self.view_is) at c.requires.order))
+    subst (λ os. IsLinked (with_objects p os)) (objects c) (linked-marked p c.self.invariant (rw (← c.self.view_is) at c.requires.order).1)
 
 pub returns-clause-counts : goal.returns-clause-counts
-returns-clause-counts c = few-alone _ (returns-clause-order c)
+returns-clause-counts c = few-owned _
 
 pub returns-clause-stands : goal.returns-clause-stands
-returns-clause-stands c = rw (returns-clause-heap c) ((marked-still c.args.self.now.heap c.requires.order.sound))
+returns-clause-stands c = rw (returns-clause-heap c) ((marked-still c.args.self.now.heap c.requires.order.1.sound))
 
 pub returns-clause-colours : goal.returns-clause-colours
 returns-clause-colours c = subst HasColours (sym (returns-clause-heap c)) ((HasColours-marked c.args.self.now.heap))

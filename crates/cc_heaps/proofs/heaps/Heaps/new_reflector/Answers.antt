@@ -1,11 +1,11 @@
-use Rattle.std.proofs.Common.{◌≡◌, [], Some, sym, ◌∙◌, ap, subst, arith}
+use Rattle.std.proofs.Common.{◌≡◌, ℕ, List, Some, sym, ◌∙◌, ap, subst, arith}
 use Rattle.cc_names.specs.Names.{native}
 use Rattle.cc_model.specs.Graph as graph
 use Rattle.cc_heaps.specs.Keyed.{IsInOrder, Keyed, the_number}
 use Rattle.cc_heaps.specs.Fields.{keyed_of, IsLinked}
 use Rattle.cc_heaps.specs.Standing.{KeepsColours, KeepsFresh, KeepsSuspected, StandsAfter}
 use Rattle.cc_heaps.proofs.Calls.{count-fits, number-there}
-use Rattle.cc_heaps.proofs.FewCounts.{few-alone}
+use Rattle.cc_heaps.proofs.FewCounts.{few-owned}
 use Rattle.cc_heaps.proofs.Owned.{callers-own}
 use Rattle.cc_heaps.proofs.ReflectingMade.{reflector_made-colours, reflector_made-keeps_fresh, reflector_made-keeps_suspected, reflector_made-stands}
 use Rattle.cc_heaps.proofs.ReflectorMade.{IsReflectorMade, reflector-made}
@@ -21,10 +21,10 @@ pub invariant_of-self : goal.invariant_of-self
 invariant_of-self c = subst (λ os. IsLinked (with_objects c.self.inside os c.self.inside.scripts_made)) (sym c.in_err-made.ensures.err) c.self.invariant
 
 pub returns-in_err-made-clause-order : goal.returns-in_err-made-clause-order
-returns-in_err-made-clause-order c = subst (IsInOrder []) (sym (same c)) c.requires.order
+returns-in_err-made-clause-order c owned o = subst (IsInOrder owned) (sym (same c)) o
 
 pub returns-in_err-made-clause-counts : goal.returns-in_err-made-clause-counts
-returns-in_err-made-clause-counts c = few-alone _ (returns-in_err-made-clause-order c)
+returns-in_err-made-clause-counts c = few-owned _
 
 pub returns-in_err-made-clause-colours : goal.returns-in_err-made-clause-colours
 returns-in_err-made-clause-colours c = subst (λ (w : Keyed). KeepsColours c.args.self.now.heap w.heap) (sym (same c)) (λ k. k)
@@ -40,20 +40,28 @@ returns-in_err-made-clause-suspected c reached = subst (λ (w : Keyed). KeepsSus
 pub add_ref-requires-clause-below : goal.add_ref-requires-clause-below
 add_ref-requires-clause-below c =
     let p = c.self.inside in
-    rw (c.set_reflector.ensures.reflectors) (omega (arith, count-fits [] p (the_number (keyed_of p) c.args.key.0) (rw (← c.self.view_is) at c.requires.order)))
+    let f = rw (← c.self.view_is) at c.requires.order in
+    rw (c.set_reflector.ensures.reflectors) (omega (arith, count-fits f.0 p (the_number (keyed_of p) c.args.key.0) f.1, f.2 (the_number (keyed_of p) c.args.key.0)))
 
 pub add_ref-requires-clause-owned : goal.add_ref-requires-clause-owned
 add_ref-requires-clause-owned c =
-    let f = callers-own [] c.self.inside (record { order = rw (← c.self.view_is) at c.requires.order; linked = c.self.invariant }) in
+    let known = rw (← c.self.view_is) at c.requires.order in
+    let f = callers-own known.0 c.self.inside (record { order = known.1; linked = c.self.invariant }) in
     (f.0, c.set_reflector.ensures.owned f.0 f.1)
 
 -- The reflector
 
-made : (c : goal.After-add_ref) → IsReflectorMade c.self.inside (record c.self.inside { counted = c.add_ref.new.self; scripts = c.create_reflector.new.self })
+-- whatever is owned besides
+made_owned : (c : goal.After-add_ref) (owned : List ℕ) → IsInOrder owned (keyed_of c.self.inside) →
+    IsReflectorMade owned c.self.inside (record c.self.inside { counted = c.add_ref.new.self; scripts = c.create_reflector.new.self })
     (the_number (keyed_of c.self.inside) c.args.key.0) c.in_ok-made.made.0
-made c = reflector-made c.self.inside c.self.invariant (rw (← c.self.view_is) at c.requires.order) c.args.key (rw (← c.self.view_is) at c.requires.live)
+made_owned c owned o = reflector-made c.self.inside c.self.invariant o c.args.key (rw (← c.self.view_is) at c.requires.live)
     (rw (← c.self.view_is) at c.requires.lacks) c.in_ok-made.made.0 c.in_ok-made.ensures.vacant c.in-Some.number.0 c.in-Some.ensures
     c.create_reflector.new.self c.in_ok-made.ensures.made c.set_reflector.new.self c.set_reflector.ensures.reflectors c.add_ref.new.self c.add_ref.ensures.heap
+
+made : (c : goal.After-add_ref) → IsReflectorMade c.requires.order.0 c.self.inside (record c.self.inside { counted = c.add_ref.new.self; scripts = c.create_reflector.new.self })
+    (the_number (keyed_of c.self.inside) c.args.key.0) c.in_ok-made.made.0
+made c = made_owned c c.requires.order.0 (subst (IsInOrder c.requires.order.0) (sym c.self.view_is) c.requires.order.1)
 
 pub invariant_of-self-2 : goal.invariant_of-self-2
 invariant_of-self-2 c = (made c).linked
@@ -71,10 +79,10 @@ pub returns-clause-keys : goal.returns-clause-keys
 returns-clause-keys c = rw (← c.self.view_is) ((made c).keys)
 
 pub returns-clause-order : goal.returns-clause-order
-returns-clause-order c = (made c).order
+returns-clause-order c owned = rw (← c.self.view_is) (λ o. (made_owned c owned o).order)
 
 pub returns-clause-counts : goal.returns-clause-counts
-returns-clause-counts c = few-alone _ (returns-clause-order c)
+returns-clause-counts c = few-owned _
 
 -- What the laws make of it
 
@@ -83,22 +91,22 @@ returns-clause-stands c reached =
     let v = c.args.self.now in
     let k = the_number v c.args.key.0 in
     subst (λ h. StandsAfter v.heap h (λ g. graph.wrapped g (Some (native k)))) (sym (returns-clause-heap c))
-    (reflector_made-stands v.heap k c.requires.order.sound (number-there [] v c.args.key.0 c.requires.order c.requires.live) c.requires.lacks reached)
+    (reflector_made-stands v.heap k c.requires.order.1.sound (number-there c.requires.order.0 v c.args.key.0 c.requires.order.1 c.requires.live) c.requires.lacks reached)
 
 pub returns-clause-colours : goal.returns-clause-colours
 returns-clause-colours c =
     let v = c.args.self.now in
     subst (KeepsColours v.heap) (sym (returns-clause-heap c))
-    (reflector_made-colours v.heap (the_number v c.args.key.0) c.requires.order.sound (number-there [] v c.args.key.0 c.requires.order c.requires.live) c.requires.lacks)
+    (reflector_made-colours v.heap (the_number v c.args.key.0) c.requires.order.1.sound (number-there c.requires.order.0 v c.args.key.0 c.requires.order.1 c.requires.live) c.requires.lacks)
 
 pub returns-clause-fresh : goal.returns-clause-fresh
 returns-clause-fresh c =
     let v = c.args.self.now in
     subst (KeepsFresh v.heap) (sym (returns-clause-heap c))
-    (reflector_made-keeps_fresh v.heap (the_number v c.args.key.0) c.requires.order.sound (number-there [] v c.args.key.0 c.requires.order c.requires.live) c.requires.lacks)
+    (reflector_made-keeps_fresh v.heap (the_number v c.args.key.0) c.requires.order.1.sound (number-there c.requires.order.0 v c.args.key.0 c.requires.order.1 c.requires.live) c.requires.lacks)
 
 pub returns-clause-suspected : goal.returns-clause-suspected
 returns-clause-suspected c reached =
     let v = c.args.self.now in
     subst (KeepsSuspected v.heap) (sym (returns-clause-heap c))
-    (reflector_made-keeps_suspected v.heap (the_number v c.args.key.0) c.requires.order.sound (number-there [] v c.args.key.0 c.requires.order c.requires.live) c.requires.lacks reached)
+    (reflector_made-keeps_suspected v.heap (the_number v c.args.key.0) c.requires.order.1.sound (number-there c.requires.order.0 v c.args.key.0 c.requires.order.1 c.requires.live) c.requires.lacks reached)

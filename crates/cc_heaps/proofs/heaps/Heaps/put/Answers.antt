@@ -1,4 +1,4 @@
-use Rattle.std.proofs.Common.{[], arith, sym, ap, subst}
+use Rattle.std.proofs.Common.{arith, sym, ap, subst}
 use Rattle.cc_lists.proofs.Members.{Among-map}
 use Rattle.cc_heaps.specs.Keyed.{Keyed}
 use Rattle.cc_heaps.specs.Named.{named_native}
@@ -11,22 +11,24 @@ use Rattle.cc_heaps.proofs.heaps.Heaps.put.Goals as goal
 pub create-requires-clause-above : goal.create-requires-clause-above
 create-requires-clause-above c n m =
     let p = c.self.inside in
-    omega (arith, (rw (← c.self.view_is) at c.requires.order).sound.well_formed.native_numbers (named_native p.scripts n) (Among-map (named_native p.scripts) n p.counted.natives m))
+    omega (arith, (rw (← c.self.view_is) at c.requires.order).1.sound.well_formed.native_numbers (named_native p.scripts n) (Among-map (named_native p.scripts) n p.counted.natives m))
 
 pub create-requires-clause-owned : goal.create-requires-clause-owned
-create-requires-clause-owned c = callers-own [] c.self.inside (record { order = rw (← c.self.view_is) at c.requires.order; linked = c.self.invariant })
+create-requires-clause-owned c =
+    let f = rw (← c.self.view_is) at c.requires.order in
+    callers-own f.0 c.self.inside (record { order = f.1; linked = c.self.invariant })
 
 pub returns-clause-heap : goal.returns-clause-heap
 returns-clause-heap c =
     let p = c.self.inside in
     let e = c.in_ok-key.ensures in
-    rw (← c.self.view_is) (ap (λ (v : Keyed). v.heap) (made-keyed p (record { order = rw (← c.self.view_is) at c.requires.order; linked = c.self.invariant }) c.create.new.self c.args.slots c.in_ok-key.key e.natives e.buffer e.others e.vacant))
+    rw (← c.self.view_is) (ap (λ (v : Keyed). v.heap) (made-keyed p (record { order = (rw (← c.self.view_is) at c.requires.order).1; linked = c.self.invariant }) c.create.new.self c.args.slots c.in_ok-key.key e.natives e.buffer e.others e.vacant))
 
 pub returns-clause-kept : goal.returns-clause-kept
 returns-clause-kept c =
     let p = c.self.inside in
     let e = c.in_ok-key.ensures in
-    rw (← c.self.view_is) (made-kept p (record { order = rw (← c.self.view_is) at c.requires.order; linked = c.self.invariant }) c.create.new.self c.args.slots c.in_ok-key.key e.natives e.buffer e.others e.vacant)
+    rw (← c.self.view_is) (made-kept p (record { order = (rw (← c.self.view_is) at c.requires.order).1; linked = c.self.invariant }) c.create.new.self c.args.slots c.in_ok-key.key e.natives e.buffer e.others e.vacant)
 
 pub invariant_of-self : goal.invariant_of-self
 invariant_of-self c = subst (λ d. IsLinked (with_counted c.self.inside d)) (sym c.in_err-key.ensures.err) c.self.invariant
@@ -35,12 +37,13 @@ pub invariant_of-self-2 : goal.invariant_of-self-2
 invariant_of-self-2 c =
     let p = c.self.inside in
     let e = c.in_ok-key.ensures in
-    (made-fit p (record { order = rw (← c.self.view_is) at c.requires.order; linked = c.self.invariant }) c.create.new.self c.args.slots c.in_ok-key.key e.natives e.buffer e.others e.vacant
+    (made-fit p (record { order = (rw (← c.self.view_is) at c.requires.order).1; linked = c.self.invariant }) c.create.new.self c.args.slots c.in_ok-key.key e.natives e.buffer e.others e.vacant
     e.key e.reflector e.other_reflectors e.as_many c.requires.slots (rw (← c.self.view_is) at c.requires.allowed) e.keyed).linked
 
 pub returns-clause-order : goal.returns-clause-order
-returns-clause-order c =
+returns-clause-order c owned =
     let p = c.self.inside in
     let e = c.in_ok-key.ensures in
-    rw (← c.self.view_is) (made-fit p (record { order = rw (← c.self.view_is) at c.requires.order; linked = c.self.invariant }) c.create.new.self c.args.slots c.in_ok-key.key e.natives e.buffer e.others e.vacant
-    e.key e.reflector e.other_reflectors e.as_many c.requires.slots (rw (← c.self.view_is) at c.requires.allowed) e.keyed).order
+    rw (← c.self.view_is)
+    (λ o. (made-fit p (record { order = o; linked = c.self.invariant }) c.create.new.self c.args.slots c.in_ok-key.key e.natives e.buffer e.others e.vacant
+    e.key e.reflector e.other_reflectors e.as_many c.requires.slots (rw (← c.self.view_is) at c.requires.allowed) e.keyed).order)

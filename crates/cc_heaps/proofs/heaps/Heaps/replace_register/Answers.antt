@@ -1,4 +1,4 @@
-use Rattle.std.proofs.Common.{◌≡◌, ℕ, ◌<◌, [], ◌++◌, set, Option, sym, ◌∙◌, ap, subst, ⊎_elim}
+use Rattle.std.proofs.Common.{◌≡◌, ℕ, ◌<◌, List, ◌++◌, set, Option, sym, ◌∙◌, ap, subst, ⊎_elim}
 use Rattle.std.specs.Vec.{with_item}
 use Rattle.std.proofs.Math.ListN.{length-set}
 use Rattle.std.proofs.lemmas.List.{map-set}
@@ -44,12 +44,12 @@ module _ (p : Inside) (r : ℕ) (x : Option NKey) where
     script_names = l.script_names;
   }
 
-  written-fit : r < 256 → IsNativeThere v x → (was : Option NKey) → native_name v was ≡ register v.heap (N r) → IsFit (numbers_of (native_name v x) ++ []) p →
-      IsFit (numbers_of (native_name (keyed_of (written p r x)) was) ++ []) (written p r x)
-  written-fit within there was held f = record {
-    order = subst (IsInOrder (numbers_of (native_name v was) ++ [])) (sym written-keyed)
-        (subst (λ y. IsInOrder (numbers_of y ++ []) (changed_to v (set_register v.heap (N r) (native_name v x)))) (sym held)
-        (IsInOrder-register v r (native_name v x) within (native-in (numbers_of (native_name v x) ++ []) v x f.order) f.order));
+  written-fit : (owned : List ℕ) → r < 256 → IsNativeThere v x → (was : Option NKey) → native_name v was ≡ register v.heap (N r) →
+      IsFit (numbers_of (native_name v x) ++ owned) p → IsFit (numbers_of (native_name (keyed_of (written p r x)) was) ++ owned) (written p r x)
+  written-fit owned within there was held f = record {
+    order = subst (IsInOrder (numbers_of (native_name v was) ++ owned)) (sym written-keyed)
+        (subst (λ y. IsInOrder (numbers_of y ++ owned) (changed_to v (set_register v.heap (N r) (native_name v x)))) (sym held)
+        (IsInOrder-register owned v r (native_name v x) within (native-in (numbers_of (native_name v x) ++ owned) v x f.order) f.order));
     linked = written-linked there f.linked;
   }
 
@@ -66,6 +66,7 @@ returns-clause-there c =
     there-live (keyed_of (written p c.args.r c.args.content)) was (live-there (keyed_of p) was (rw (← c.self.view_is) at c.native_reg-held.ensures.there))
 
 pub returns-clause-order : goal.returns-clause-order
-returns-clause-order c =
-    (written-fit c.self.inside c.args.r c.args.content c.ranges.r.fits (rw (← c.self.view_is) at c.requires.there) c.native_reg-held.result
-    (rw (← c.self.view_is) at c.native_reg-held.ensures.name) (record { order = rw (← c.self.view_is) at c.requires.order; linked = c.self.invariant })).order
+returns-clause-order c owned =
+    rw (← c.self.view_is)
+    (λ o. (written-fit c.self.inside c.args.r c.args.content owned c.ranges.r.fits (rw (← c.self.view_is) at c.requires.there) c.native_reg-held.result
+    (rw (← c.self.view_is) at c.native_reg-held.ensures.name) (record { order = o; linked = c.self.invariant })).order)

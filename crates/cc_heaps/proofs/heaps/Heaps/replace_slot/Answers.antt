@@ -14,7 +14,9 @@ set_slot-requires-clause-within c =
     omega (arith, (rw (← c.self.view_is) at c.requires.within), slots-length p c.self.invariant (the_number (keyed_of p) c.args.key.0))
 
 pub set_slot-requires-clause-owned : goal.set_slot-requires-clause-owned
-set_slot-requires-clause-owned c = own-content c.self.inside c.args.content (rw (← c.self.view_is) at c.requires.there) (record { order = rw (← c.self.view_is) at c.requires.order; linked = c.self.invariant })
+set_slot-requires-clause-owned c =
+    let f = rw (← c.self.view_is) at c.requires.order in
+    own-content f.0 c.self.inside c.args.content (rw (← c.self.view_is) at c.requires.there) (record { order = f.1; linked = c.self.invariant })
 
 pub returns-clause-heap : goal.returns-clause-heap
 returns-clause-heap c =
@@ -40,10 +42,11 @@ returns-clause-there c =
     (read-there p l k c.args.i c.set_slot.result c.set_slot.ensures.name c.set_slot.ensures.live)
 
 pub returns-clause-order : goal.returns-clause-order
-returns-clause-order c =
+returns-clause-order c owned =
     let p = c.self.inside in
-    written-order p c.self.invariant (the_number (keyed_of p) c.args.key.0) c.args.i c.args.content c.set_slot.result c.set_slot.new.self c.set_slot.ensures.slots
-    (rw (← c.self.view_is) at c.requires.there) (rw (← c.self.view_is) at c.requires.within) (held c) (rw (← c.self.view_is) at c.requires.order)
+    rw (← c.self.view_is)
+    (λ o. written-order p c.self.invariant (the_number (keyed_of p) c.args.key.0) c.args.i c.args.content c.set_slot.result c.set_slot.new.self c.set_slot.ensures.slots
+    (rw (← c.self.view_is) at c.requires.there) owned (rw (← c.self.view_is) at c.requires.within) (held c) o)
 
 pub invariant_of-self : goal.invariant_of-self
 invariant_of-self c =

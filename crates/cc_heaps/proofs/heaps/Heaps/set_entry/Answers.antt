@@ -1,4 +1,4 @@
-use Rattle.std.proofs.Common.{◌≡◌, [], Some, sym, subst}
+use Rattle.std.proofs.Common.{◌≡◌, Some, sym, subst}
 use Rattle.cc_model.specs.Effects.{set_entry}
 use Rattle.cc_counted.specs.declared.held.Held.TheVariants as held
 use Rattle.cc_script.specs.Objects.{name_at}
@@ -6,20 +6,26 @@ use Rattle.cc_heaps.specs.Keyed.{Keyed}
 use Rattle.cc_heaps.specs.Standing.{KeepsSuspected}
 use Rattle.cc_heaps.proofs.EntriesFollow.{SetKeeps, entry-keeps, set-preserved}
 use Rattle.cc_heaps.proofs.EntriesSet.{map-there}
-use Rattle.cc_heaps.proofs.FewCounts.{few-alone}
+use Rattle.cc_heaps.proofs.FewCounts.{few-owned}
 use Rattle.cc_heaps.proofs.Following.{held_name-black}
 use Rattle.cc_heaps.proofs.heaps.Heaps.set_entry.Goals as goal
 
 -- Memory was wanting
 
 pub returns-in_err-put_entry-clause-counts : goal.returns-in_err-put_entry-clause-counts
-returns-in_err-put_entry-clause-counts c = few-alone c.put_entry.new.self c.put_entry.ensures.order
+returns-in_err-put_entry-clause-counts c = few-owned c.put_entry.new.self
+
+pub returns-in_err-put_entry-clause-order : goal.returns-in_err-put_entry-clause-order
+returns-in_err-put_entry-clause-order c = c.put_entry.ensures.order
 
 pub returns-in_err-put_entry-clause-suspected : goal.returns-in_err-put_entry-clause-suspected
 returns-in_err-put_entry-clause-suspected c =
     subst (λ (w : Keyed). KeepsSuspected c.args.self.now.heap w.heap) (sym c.in_err-put_entry.ensures.same) (λ candidates s. s)
 
 -- It was not
+
+pub preserve-requires-clause-order : goal.preserve-requires-clause-order
+preserve-requires-clause-order c = let f = c.requires.order in (f.0, c.put_entry.ensures.order f.0 f.1)
 
 heap-is : (c : goal.After-preserve) →
     c.preserve.new.self.heap ≡ set_entry c.args.self.now.heap (name_at c.args.self.now.scripts c.args.the_map.0) (name_at c.args.self.now.scripts c.args.key.0) (name_at c.args.self.now.scripts c.args.value.0)
@@ -30,14 +36,19 @@ heap-is c =
 
 keeps : (c : goal.After-preserve) →
     SetKeeps c.args.self.now.heap c.preserve.new.self.heap (name_at c.args.self.now.scripts c.args.the_map.0) (name_at c.args.self.now.scripts c.args.key.0) (name_at c.args.self.now.scripts c.args.value.0)
-keeps c = entry-keeps c.args.self.now c.preserve.new.self c.requires.order c.preserve.ensures.order c.args.the_map.0 c.args.key.0 c.requires.the_map c.requires.key
+keeps c =
+    let f = c.requires.order in
+    entry-keeps c.args.self.now c.preserve.new.self f.1 (c.preserve.ensures.order f.0 (c.put_entry.ensures.order f.0 f.1)) c.args.the_map.0 c.args.key.0 c.requires.the_map c.requires.key
     (Some c.args.value.0) c.requires.value (heap-is c)
 
 pub returns-clause-heap : goal.returns-clause-heap
 returns-clause-heap c = heap-is c
 
 pub returns-clause-counts : goal.returns-clause-counts
-returns-clause-counts c = few-alone c.preserve.new.self c.preserve.ensures.order
+returns-clause-counts c = few-owned c.preserve.new.self
+
+pub returns-clause-order : goal.returns-clause-order
+returns-clause-order c owned o = c.preserve.ensures.order owned (c.put_entry.ensures.order owned o)
 
 pub returns-clause-stands : goal.returns-clause-stands
 returns-clause-stands c = (keeps c).stands
@@ -48,7 +59,8 @@ returns-clause-colours c = (keeps c).colours
 pub returns-clause-fresh : goal.returns-clause-fresh
 returns-clause-fresh c key value =
     let v = c.args.self.now in
-    (keeps c).fresh (held_name-black [] v c.requires.order (Some (held.Script c.args.key)) key) (held_name-black [] v c.requires.order (Some (held.Script c.args.value)) value)
+    let f = c.requires.order in
+    (keeps c).fresh (held_name-black f.0 v f.1 (Some (held.Script c.args.key)) key) (held_name-black f.0 v f.1 (Some (held.Script c.args.value)) value)
 
 pub returns-clause-suspected : goal.returns-clause-suspected
 returns-clause-suspected c = (keeps c).suspected

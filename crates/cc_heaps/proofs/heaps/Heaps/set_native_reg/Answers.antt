@@ -1,15 +1,16 @@
-use Rattle.std.proofs.Common.{◌≡◌, ℕ, [], Option, refl, sym, ◌∙◌, ap, subst}
+use Rattle.std.proofs.Common.{◌≡◌, ℕ, List, ◌++◌, Option, refl, sym, ◌∙◌, ap, subst}
 use Rattle.cc_names.specs.declared.name.Name.{Name}
 use Rattle.cc_names.specs.declared.number.NKey.{NKey}
 use Rattle.cc_model.specs.Telling.{TellsEvents}
 use Rattle.cc_model.specs.Heap.{Heap}
 use Rattle.cc_model.specs.Cascade.{take_up}
 use Rattle.cc_model.specs.Effects.{put_in_register, hold_native}
+use Rattle.cc_laws_heap.specs.Sound.{numbers_of}
 use Rattle.cc_counted.specs.declared.held.Held.{Held}
 use Rattle.cc_counted.specs.Counts.{held_of_native}
-use Rattle.cc_heaps.specs.Keyed.{Keyed, changed_to, left_with}
+use Rattle.cc_heaps.specs.Keyed.{Keyed, IsInOrder, changed_to, left_with}
 use Rattle.cc_heaps.specs.Changes.{held_name, native_name}
-use Rattle.cc_heaps.proofs.FewCounts.{few-alone}
+use Rattle.cc_heaps.proofs.FewCounts.{few-owned}
 use Rattle.cc_heaps.proofs.Following.{Keeps, hold_native-keeps}
 use Rattle.cc_heaps.proofs.KeysKept.{KeepsKeys-left}
 use Rattle.cc_heaps.proofs.StandingAfter.{native_register-stands}
@@ -32,6 +33,21 @@ module _ (v mid : Keyed) (r : ℕ) (x : Option NKey) (item : Option Held) (is : 
   held-keyed : left_with mid (put_in_register mid.heap r (native_name mid x)).heap ≡ left_with v (hold_native v.heap r (native_name v x)).heap
   held-keyed = ap (λ (w : Keyed). left_with w (put_in_register w.heap r (native_name w x)).heap) taken-is ∙ ap (λ o. left_with v o.heap) (sym (hold_native-is v.heap r (native_name v x)))
 
+  -- the reference that was taken is that of what the register is to hold
+  held-owned : (owned : List ℕ) → IsInOrder (numbers_of (held_name v item) ++ owned) mid → IsInOrder (numbers_of (native_name mid x) ++ owned) mid
+  held-owned owned o = subst (λ y. IsInOrder (numbers_of y ++ owned) mid)
+      (ap (held_name v) is ∙ (held_of_native-name v x ∙ sym (ap (λ (w : Keyed). native_name w x) taken))) o
+
+pub put_in_register-requires-clause-order : goal.put_in_register-requires-clause-order
+put_in_register-requires-clause-order g c =
+    let f = c.requires.order in
+    (f.0, held-owned c.args.self.now c.take_up.new.self c.args.r c.args.content c.of_native.result c.of_native.ensures c.take_up.ensures.heap f.0 (c.take_up.ensures.order f.0 f.1))
+
+pub returns-clause-order : goal.returns-clause-order
+returns-clause-order g c owned o =
+    c.put_in_register.ensures.order owned
+    (held-owned c.args.self.now c.take_up.new.self c.args.r c.args.content c.of_native.result c.of_native.ensures c.take_up.ensures.heap owned (c.take_up.ensures.order owned o))
+
 pub returns-clause-heap : goal.returns-clause-heap
 returns-clause-heap g c =
     c.put_in_register.ensures.heap
@@ -47,16 +63,18 @@ pub returns-clause-keys : goal.returns-clause-keys
 returns-clause-keys g c = KeepsKeys-left c.args.self.now c.put_in_register.new.self _ (returns-clause-heap g c)
 
 pub returns-clause-counts : goal.returns-clause-counts
-returns-clause-counts g c = few-alone _ c.put_in_register.ensures.order
+returns-clause-counts g c = few-owned _
 
 pub returns-clause-stands : goal.returns-clause-stands
 returns-clause-stands g c =
-    native_register-stands c.args.self.now c.put_in_register.new.self c.requires.order c.put_in_register.ensures.order c.args.r c.args.content (returns-clause-heap g c)
+    let f = c.requires.order in
+    native_register-stands c.args.self.now c.put_in_register.new.self f.1 (returns-clause-order g c f.0 f.1) c.args.r c.args.content (returns-clause-heap g c)
 
 keeps : (g : given.Over) (c : goal.After-put_in_register g) → Keeps c.args.self.now.heap (hold_native c.args.self.now.heap c.args.r (native_name c.args.self.now c.args.content)).heap
 keeps g c =
     let v = c.args.self.now in
-    hold_native-keeps v.heap c.args.r (native_name v c.args.content) c.ranges.r.fits (native-in [] v c.args.content c.requires.order) c.requires.order.sound
+    let f = c.requires.order in
+    hold_native-keeps v.heap c.args.r (native_name v c.args.content) c.ranges.r.fits (native-in f.0 v c.args.content f.1) f.1.sound
 
 pub returns-clause-colours : goal.returns-clause-colours
 returns-clause-colours g c = rw (returns-clause-heap g c) ((keeps g c).follows.colours)

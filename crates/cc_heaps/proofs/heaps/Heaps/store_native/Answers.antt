@@ -1,4 +1,4 @@
-use Rattle.std.proofs.Common.{◌≡◌, ℕ, ◌<◌, length, get_or, Option, Some, None, sym, ◌∙◌, ap, subst}
+use Rattle.std.proofs.Common.{◌≡◌, ℕ, ◌<◌, List, ◌++◌, length, get_or, Option, Some, None, sym, ◌∙◌, ap, subst}
 use Rattle.cc_names.specs.declared.name.Name.{Name}
 use Rattle.cc_names.specs.declared.number.NKey.{NKey}
 use Rattle.cc_names.specs.Names.{native}
@@ -7,11 +7,12 @@ use Rattle.cc_model.specs.Slots.{Slots}
 use Rattle.cc_model.specs.Heap.{native_at, set_slot}
 use Rattle.cc_model.specs.Cascade.{take_up, let_go}
 use Rattle.cc_model.specs.End.{slots_now}
+use Rattle.cc_laws_heap.specs.Sound.{numbers_of}
 use Rattle.cc_counted.specs.declared.held.Held.{Held}
-use Rattle.cc_heaps.specs.Keyed.{Keyed, the_number, changed_to, left_with}
+use Rattle.cc_heaps.specs.Keyed.{Keyed, IsInOrder, the_number, changed_to, left_with}
 use Rattle.cc_heaps.specs.Changes.{held_name, stored_in, IsBlackHeld}
 use Rattle.cc_heaps.proofs.SlotsHeld.{slots-taken}
-use Rattle.cc_heaps.proofs.FewCounts.{few-alone}
+use Rattle.cc_heaps.proofs.FewCounts.{few-owned}
 use Rattle.cc_heaps.proofs.Following.{Follows, held-follows, held-remembers, within-named}
 use Rattle.cc_heaps.proofs.KeysKept.{KeepsKeys-left}
 use Rattle.cc_heaps.proofs.StandingAfter.{native_slot-stands}
@@ -24,6 +25,10 @@ module _ (v mid last : Keyed) (key : NKey) (i : ℕ) (content held : Option Held
   within-taken within =
       subst (λ (w : Keyed). i < length (slots_now (native_at w.heap (the_number w key.0)))) (sym taken)
       (subst (λ (ss : Slots). i < length ss) (sym (slots-taken v.heap (held_name v content) (the_number v key.0))) within)
+
+  -- the reference that was taken is that of what comes in, by its name then
+  taken-owned : (owned : List ℕ) → IsInOrder (numbers_of (held_name v content) ++ owned) mid → IsInOrder (numbers_of (held_name mid content) ++ owned) mid
+  taken-owned owned o = subst (λ y. IsInOrder (numbers_of y ++ owned) mid) (sym (ap (λ (w : Keyed). held_name w content) taken)) o
 
   -- a slot written after the new reference was taken
   abbrev put_in : Keyed → Keyed
@@ -50,6 +55,25 @@ replace_slot-held-requires-clause-within g c =
     let v = c.args.self.now in
     within-taken v c.take_up.new.self v c.args.key c.args.i c.args.content c.args.content c.take_up.ensures.heap (within-named v c.args.key.0 c.args.i c.requires.within)
 
+pub replace_slot-held-requires-clause-order : goal.replace_slot-held-requires-clause-order
+replace_slot-held-requires-clause-order g c =
+    let v = c.args.self.now in
+    let f = c.requires.order in
+    (f.0, taken-owned v c.take_up.new.self v c.args.key c.args.i c.args.content c.args.content c.take_up.ensures.heap f.0 (c.take_up.ensures.order f.0 f.1))
+
+pub let_go-requires-clause-order : goal.let_go-requires-clause-order
+let_go-requires-clause-order g c =
+    let v = c.args.self.now in
+    let f = c.requires.order in
+    let before = taken-owned v c.take_up.new.self v c.args.key c.args.i c.args.content c.args.content c.take_up.ensures.heap f.0 (c.take_up.ensures.order f.0 f.1) in
+    (f.0, c.replace_slot-held.ensures.order f.0 before)
+
+pub returns-clause-order : goal.returns-clause-order
+returns-clause-order g c owned o =
+    let v = c.args.self.now in
+    let before = taken-owned v c.take_up.new.self v c.args.key c.args.i c.args.content c.args.content c.take_up.ensures.heap owned (c.take_up.ensures.order owned o) in
+    c.let_go.ensures.order owned (c.replace_slot-held.ensures.order owned before)
+
 pub returns-clause-heap : goal.returns-clause-heap
 returns-clause-heap g c =
     c.let_go.ensures.heap
@@ -67,17 +91,18 @@ pub returns-clause-keys : goal.returns-clause-keys
 returns-clause-keys g c = KeepsKeys-left c.args.self.now c.let_go.new.self _ (returns-clause-heap g c)
 
 pub returns-clause-counts : goal.returns-clause-counts
-returns-clause-counts g c = few-alone _ c.let_go.ensures.order
+returns-clause-counts g c = few-owned _
 
 pub returns-clause-stands : goal.returns-clause-stands
 returns-clause-stands g c =
     let v = c.args.self.now in
-    native_slot-stands v c.let_go.new.self c.requires.order c.let_go.ensures.order (the_number v c.args.key.0) c.args.i c.args.content (returns-clause-heap g c)
+    let f = c.requires.order in
+    native_slot-stands v c.let_go.new.self f.1 (returns-clause-order g c f.0 f.1) (the_number v c.args.key.0) c.args.i c.args.content (returns-clause-heap g c)
 
 follows : (g : given.Over) (c : goal.After-let_go g) → IsBlackHeld c.args.self.now c.args.content → Follows c.args.self.now.heap c.let_go.new.self.heap
 follows g c black =
     let v = c.args.self.now in
-    held-follows v c.let_go.new.self c.requires.order (the_number v c.args.key.0) c.args.i c.args.content (within-named v c.args.key.0 c.args.i c.requires.within) black
+    held-follows v c.let_go.new.self c.requires.order.1 (the_number v c.args.key.0) c.args.i c.args.content (within-named v c.args.key.0 c.args.i c.requires.within) black
     (returns-clause-heap g c)
 
 pub returns-clause-colours : goal.returns-clause-colours
@@ -89,5 +114,6 @@ returns-clause-fresh g c black = (follows g c black).fresh
 pub returns-clause-suspected : goal.returns-clause-suspected
 returns-clause-suspected g c reached =
     let v = c.args.self.now in
-    held-remembers v c.let_go.new.self c.requires.order (the_number v c.args.key.0) c.args.i c.args.content (within-named v c.args.key.0 c.args.i c.requires.within) reached
-    c.let_go.ensures.order.sound (returns-clause-heap g c)
+    let f = c.requires.order in
+    held-remembers v c.let_go.new.self f.1 (the_number v c.args.key.0) c.args.i c.args.content (within-named v c.args.key.0 c.args.i c.requires.within) reached
+    (returns-clause-order g c f.0 f.1).sound (returns-clause-heap g c)

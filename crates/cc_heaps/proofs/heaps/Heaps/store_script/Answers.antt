@@ -4,31 +4,33 @@ use Rattle.cc_heaps.proofs.ScriptCalls.{becomes-slot}
 use Rattle.cc_model.specs.Heap.{set_slot}
 use Rattle.cc_script.specs.Objects.{name_at}
 use Rattle.cc_heaps.specs.Changes.{script_name}
-use Rattle.cc_heaps.proofs.FewCounts.{few-alone}
+use Rattle.cc_heaps.proofs.FewCounts.{few-owned}
 use Rattle.cc_heaps.proofs.Following.{Keeps, object_slot-keeps}
 use Rattle.cc_heaps.proofs.StandingAfter.{script_slot-stands}
 use Rattle.cc_heaps.proofs.heaps.Heaps.store_script.Goals as goal
 
 pub returns-clause-heap : goal.returns-clause-heap
 returns-clause-heap c =
-    rw (← c.self.view_is) ((becomes-slot c.self.inside c.self.invariant (rw (← c.self.view_is) at c.requires.order) c.args.key.0 c.args.i c.args.content (rw (← c.self.view_is) at c.requires.live) (rw (← c.self.view_is) at c.requires.there) c.set_slot.new.self c.set_slot.ensures).heap)
+    rw (← c.self.view_is) ((becomes-slot c.self.inside c.self.invariant (rw (← c.self.view_is) at c.requires.order).1 c.args.key.0 c.args.i c.args.content (rw (← c.self.view_is) at c.requires.live) (rw (← c.self.view_is) at c.requires.there) c.set_slot.new.self c.set_slot.ensures).heap)
 
 pub returns-clause-keys : goal.returns-clause-keys
 returns-clause-keys c =
-    rw (← c.self.view_is) ((becomes-slot c.self.inside c.self.invariant (rw (← c.self.view_is) at c.requires.order) c.args.key.0 c.args.i c.args.content (rw (← c.self.view_is) at c.requires.live) (rw (← c.self.view_is) at c.requires.there) c.set_slot.new.self c.set_slot.ensures).keys)
+    rw (← c.self.view_is) ((becomes-slot c.self.inside c.self.invariant (rw (← c.self.view_is) at c.requires.order).1 c.args.key.0 c.args.i c.args.content (rw (← c.self.view_is) at c.requires.live) (rw (← c.self.view_is) at c.requires.there) c.set_slot.new.self c.set_slot.ensures).keys)
 
 pub returns-clause-order : goal.returns-clause-order
-returns-clause-order c = (becomes-slot c.self.inside c.self.invariant (rw (← c.self.view_is) at c.requires.order) c.args.key.0 c.args.i c.args.content (rw (← c.self.view_is) at c.requires.live) (rw (← c.self.view_is) at c.requires.there) c.set_slot.new.self c.set_slot.ensures).order
+returns-clause-order c owned =
+    rw (← c.self.view_is)
+    (λ o. (becomes-slot c.self.inside c.self.invariant o c.args.key.0 c.args.i c.args.content (rw (← c.self.view_is) at c.requires.live) (rw (← c.self.view_is) at c.requires.there) c.set_slot.new.self c.set_slot.ensures).order)
 
 pub invariant_of-self : goal.invariant_of-self
-invariant_of-self c = (becomes-slot c.self.inside c.self.invariant (rw (← c.self.view_is) at c.requires.order) c.args.key.0 c.args.i c.args.content (rw (← c.self.view_is) at c.requires.live) (rw (← c.self.view_is) at c.requires.there) c.set_slot.new.self c.set_slot.ensures).linked
+invariant_of-self c = (becomes-slot c.self.inside c.self.invariant (rw (← c.self.view_is) at c.requires.order).1 c.args.key.0 c.args.i c.args.content (rw (← c.self.view_is) at c.requires.live) (rw (← c.self.view_is) at c.requires.there) c.set_slot.new.self c.set_slot.ensures).linked
 
 pub returns-clause-counts : goal.returns-clause-counts
-returns-clause-counts c = few-alone _ (returns-clause-order c)
+returns-clause-counts c = few-owned _
 
 keeps : (c : goal.After-set_slot) →
     Keeps c.args.self.now.heap (set_slot c.args.self.now.heap (name_at c.args.self.now.scripts c.args.key.0) c.args.i (script_name c.args.self.now c.args.content))
-keeps c = object_slot-keeps c.args.self.now c.requires.order c.args.key.0 c.args.i c.args.content c.requires.live c.requires.black
+keeps c = object_slot-keeps c.args.self.now c.requires.order.1 c.args.key.0 c.args.i c.args.content c.requires.live c.requires.black
 
 pub returns-clause-colours : goal.returns-clause-colours
 returns-clause-colours c = subst (KeepsColours c.args.self.now.heap) (sym (returns-clause-heap c)) ((keeps c).follows.colours)
@@ -40,4 +42,6 @@ pub returns-clause-suspected : goal.returns-clause-suspected
 returns-clause-suspected c = subst (KeepsSuspected c.args.self.now.heap) (sym (returns-clause-heap c)) ((keeps c).suspected)
 
 pub returns-clause-stands : goal.returns-clause-stands
-returns-clause-stands c = script_slot-stands c.args.self.now _ c.requires.order (returns-clause-order c) c.args.key.0 c.args.i c.args.content c.requires.live (returns-clause-heap c)
+returns-clause-stands c =
+    let f = c.requires.order in
+    script_slot-stands c.args.self.now _ f.1 (returns-clause-order c f.0 f.1) c.args.key.0 c.args.i c.args.content c.requires.live (returns-clause-heap c)

@@ -1,4 +1,4 @@
-use Rattle.std.proofs.Common.{◌≡◌, [], map, sym, ◌∙◌, ap, subst}
+use Rattle.std.proofs.Common.{◌≡◌, ℕ, List, map, sym, ◌∙◌, ap, subst}
 use Rattle.cc_model.specs.Colours.{HasColours, HasColourInvariant}
 use Rattle.cc_model.specs.Telling.{TellsEvents}
 use Rattle.cc_model.specs.View.{view}
@@ -8,7 +8,7 @@ use Rattle.cc_heaps.specs.Changes.{KeepsKeys}
 use Rattle.cc_heaps.specs.Fields.{keyed_of, heap_of, IsLinked}
 use Rattle.cc_heaps.specs.Sweeping.{are_some}
 use Rattle.cc_heaps.specs.declared.heaps.Heaps.TheInside.{Inside}
-use Rattle.cc_heaps.proofs.FewCounts.{few-alone}
+use Rattle.cc_heaps.proofs.FewCounts.{few-owned}
 use Rattle.cc_heaps.proofs.StandingStill.{sweep-still, sweep-invariant}
 use Rattle.cc_heaps.proofs.ObjectsLeft.{white-unmarked}
 use Rattle.cc_heaps.proofs.SweptObjects.{whites-own, heap-is, events-swept, keys-swept, linked-swept, natives-swept, order-swept, swept_parts}
@@ -20,7 +20,7 @@ swept-is : (g : given.Over) (c : goal.After-sweep_all g) →
     record c.self.inside { counted = c.sweep_all.new.counted; scripts = c.sweep_all.new.scripts; weak = c.sweep_all.new.weak } ≡ swept_parts c.self.inside
 swept-is g c = λ i. record c.self.inside { counted = c.sweep_all.ensures.natives i; scripts = c.sweep_all.ensures.left i; weak = c.sweep_all.ensures.living i }
 
-order : (g : given.Over) (c : goal.After-sweep_all g) → IsInOrder [] (keyed_of c.self.inside)
+order : (g : given.Over) (c : goal.After-sweep_all g) → (owned : List ℕ) × IsInOrder owned (keyed_of c.self.inside)
 order g c = rw (← c.self.view_is) at c.requires.order
 
 colours : (g : given.Over) (c : goal.After-sweep_all g) → HasColours (heap_of c.self.inside)
@@ -28,43 +28,44 @@ colours g c = rw (← c.self.view_is) at c.requires.colours
 
 pub sweep_all-requires : goal.sweep_all-requires
 sweep_all-requires g c = record {
-  entries = (rw (← c.self.view_is) at c.requires.order).entries_there;
+  entries = (rw (← c.self.view_is) at c.requires.order).1.entries_there;
   one = c.self.invariant.one_key;
-  owned = whites-own c.self.inside c.self.invariant (rw (← c.self.view_is) at c.requires.order);
+  owned = whites-own c.self.inside c.self.invariant (rw (← c.self.view_is) at c.requires.order).1;
 }
 
 pub returns-clause-swept : goal.returns-clause-swept
 returns-clause-swept g c = rw (← c.self.view_is) (c.sweep_all.ensures.swept ∙ ap are_some (white-unmarked c.self.inside))
 
 pub returns-clause-heap : goal.returns-clause-heap
-returns-clause-heap g c = rw (← c.self.view_is) (ap heap_of (swept-is g c) ∙ heap-is c.self.inside c.self.invariant (order g c) (colours g c))
+returns-clause-heap g c = rw (← c.self.view_is) (ap heap_of (swept-is g c) ∙ heap-is c.self.inside c.self.invariant (order g c).1 (colours g c))
 
 pub returns-clause-told : goal.returns-clause-told
 returns-clause-told g c =
     rw (← c.self.view_is) (subst (TellsEvents (g.N.Notices.telling c.args.out.now) (g.N.Notices.telling c.sweep_all.new.out))
-    (events-swept c.self.inside c.self.invariant (order g c) (colours g c)) c.sweep_all.ensures.told)
+    (events-swept c.self.inside c.self.invariant (order g c).1 (colours g c)) c.sweep_all.ensures.told)
 
 pub returns-clause-natives : goal.returns-clause-natives
 returns-clause-natives g c =
     rw (← c.self.view_is) (subst (λ (q : Inside). q.counted.keys ≡ map (key_left (heap_of q)) c.self.inside.counted.keys) (sym (swept-is g c))
-    (natives-swept c.self.inside c.self.invariant (order g c) (colours g c)))
+    (natives-swept c.self.inside c.self.invariant (order g c).1 (colours g c)))
 
 pub returns-clause-keys : goal.returns-clause-keys
 returns-clause-keys g c =
     rw (← c.self.view_is) (subst (λ q. KeepsKeys (keyed_of c.self.inside) (keyed_of q)) (sym (swept-is g c))
-    (keys-swept c.self.inside c.self.invariant (order g c) (colours g c)))
+    (keys-swept c.self.inside c.self.invariant (order g c).1 (colours g c)))
 
 pub returns-clause-order : goal.returns-clause-order
-returns-clause-order g c = subst (λ q. IsInOrder [] (keyed_of q)) (sym (swept-is g c)) (order-swept c.self.inside c.self.invariant (order g c) (colours g c))
+returns-clause-order g c owned =
+    rw (← c.self.view_is) (λ o. subst (λ q. IsInOrder owned (keyed_of q)) (sym (swept-is g c)) (order-swept c.self.inside c.self.invariant o (colours g c)))
 
 pub invariant_of-self : goal.invariant_of-self
-invariant_of-self g c = subst IsLinked (sym (swept-is g c)) (linked-swept c.self.inside c.self.invariant (order g c) (colours g c))
+invariant_of-self g c = subst IsLinked (sym (swept-is g c)) (linked-swept c.self.inside c.self.invariant (order g c).1 (colours g c))
 
 pub returns-clause-counts : goal.returns-clause-counts
-returns-clause-counts g c = few-alone _ (returns-clause-order g c)
+returns-clause-counts g c = few-owned _
 
 pub returns-clause-stands : goal.returns-clause-stands
-returns-clause-stands g c = rw (returns-clause-heap g c) (sweep-still c.args.self.now.heap c.requires.colours c.requires.order.sound)
+returns-clause-stands g c = rw (returns-clause-heap g c) (sweep-still c.args.self.now.heap c.requires.colours c.requires.order.1.sound)
 
 pub returns-clause-invariant : goal.returns-clause-invariant
-returns-clause-invariant g c = subst (λ h. HasColourInvariant (view h)) (sym (returns-clause-heap g c)) (sweep-invariant c.args.self.now.heap c.requires.colours c.requires.order.sound)
+returns-clause-invariant g c = subst (λ h. HasColourInvariant (view h)) (sym (returns-clause-heap g c)) (sweep-invariant c.args.self.now.heap c.requires.colours c.requires.order.1.sound)
