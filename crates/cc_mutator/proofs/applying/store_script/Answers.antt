@@ -19,5 +19,5 @@ store_script-requires-clause-within c =
 pub store_script-requires-clause-order : goal.store_script-requires-clause-order
 store_script-requires-clause-order c = ([], c.preserve-is_reflector.ensures.order [] c.requires.order)
 
-pub returns-in-Some-clause-order : goal.returns-in-Some-clause-order
-returns-in-Some-clause-order c = c.store_script.ensures.order [] (c.preserve-is_reflector.ensures.order [] c.requires.order)
+pub returns-clause-order : goal.returns-clause-order
+returns-clause-order c = c.store_script.ensures.order [] (c.preserve-is_reflector.ensures.order [] c.requires.order)
