@@ -170,14 +170,22 @@ fn native_is_suspected_unlinked_and_freed(rt: HostRuntime) -> Result<(), Fail> {
     Ok(())
 }
 
-// The native holds the plain object, which no register does.
-fn hold_plain(heaps: &mut Heaps, out: &mut Notebook)
+// The native holds what script register 0 holds.
+fn hold_object(heaps: &mut Heaps, out: &mut Notebook)
     requires order { IsInOrder [] heaps.old }
     ensures order { IsInOrder [] heaps.new }
 {
     if let (Some(key), Some(object)) = (heaps.native_reg(0), heaps.script_reg(0)) {
         store(heaps, key, Some(Held::Script(object)), out);
     }
+}
+
+// The native holds the plain object, which no register does.
+fn hold_plain(heaps: &mut Heaps, out: &mut Notebook)
+    requires order { IsInOrder [] heaps.old }
+    ensures order { IsInOrder [] heaps.new }
+{
+    hold_object(heaps, out);
     heaps.set_script_reg(0, None);
 }
 
