@@ -1,6 +1,6 @@
 -- A REFLECTOR MADE, OR EXPOSED WHERE IT IS THERE: the heaps stand for the graph in which the native is wrapped, the colour
 -- invariant stays, every snapshot that was fresh is fresh, and no unreached native is forgotten.
-use Rattle.std.proofs.Common.{◌≡◌, ℕ, Bool, true, false, [], ◌∷◌, ◌++◌, Option, Some, None, refl, sym, ap, subst, ⊎_elim}
+use Rattle.std.proofs.Common.{◌≡◌, ℕ, Bool, true, false, List, [], ◌∷◌, ◌++◌, Option, Some, None, refl, sym, ap, subst, ⊎_elim}
 use Rattle.std.specs.List.{flat_map}
 use Rattle.cc_lists.specs.Members.{Among}
 use Rattle.cc_lists.proofs.Members.{Among-left, Among-append, Among-flat_map_cases}

@@ -24,7 +24,7 @@ use Rattle.cc_model.specs.WellMade.{IsWellMade}
 use Rattle.cc_model.specs.Heap as heap
 use Rattle.cc_model.specs.Heap.{Heap, empty_heap}
 use Rattle.cc_model.specs.Effects as effects_of
-use Rattle.cc_model.specs.Effects.{effects, put_in_register, hold_native, store_native, make_native, hold_script, put_in_script}
+use Rattle.cc_model.specs.Effects.{effects, hold_native, store_native, make_native, put_in_script}
 use Rattle.cc_model.specs.WellFormed.{IsWellFormed, names_there, native_names}
 use Rattle.cc_model.specs.StandsFor.{StandsFor}
 use Rattle.cc_laws_heap.specs.Sound.{IsSound}

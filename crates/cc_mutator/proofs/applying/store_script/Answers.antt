@@ -19,5 +19,5 @@ store_script-requires-clause-within c =
 pub store_script-requires-clause-order : goal.store_script-requires-clause-order
 store_script-requires-clause-order c = let f = c.requires.order in (f.0, c.preserve-is_reflector.ensures.order f.0 f.1)
 
-pub returns-in-Some-clause-order : goal.returns-in-Some-clause-order
-returns-in-Some-clause-order c owned o = c.store_script.ensures.order owned (c.preserve-is_reflector.ensures.order owned o)
+pub returns-clause-order : goal.returns-clause-order
+returns-clause-order c owned o = c.store_script.ensures.order owned (c.preserve-is_reflector.ensures.order owned o)
