@@ -1,6 +1,6 @@
 -- A SWEEP LEAVES SOUND HEAPS, where the colours are those of marking: the unmarked script objects are gone, and the
 -- natives that lost their last reference.
-use Rattle.std.proofs.Common.{◌≡◌, Bool, List, [], refl, subst, arith}
+use Rattle.std.proofs.Common.{◌≡◌, ℕ, Bool, List, [], refl, subst, arith}
 use Rattle.std.specs.List.{filter}
 use Rattle.cc_lists.specs.Members.{Among}
 use Rattle.cc_lists.proofs.Members.{Among-map}
