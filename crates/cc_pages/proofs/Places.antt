@@ -74,6 +74,10 @@ pub ok-then : {A E P Q : Type 0} (r : Result A E) → OnOk r P → (P → Q) →
 ok-then (Ok a) h f = f h
 ok-then (Err e) h f = tt
 
+pub err-always : {A E P : Type 0} (r : Result A E) → P → OnErr r P
+err-always (Ok a) h = tt
+err-always (Err e) h = h
+
 pub err-then : {A E P Q : Type 0} (r : Result A E) → OnErr r P → (P → Q) → OnErr r Q
 err-then (Ok a) h f = tt
 err-then (Err e) h f = f h

@@ -1,7 +1,7 @@
 -- A VALUE THAT IS PUT, or taken away, is that of its number alone.
 use Rattle.std.specs.Prelude.{Vec}
 use Rattle.std.proofs.Common.{◌≡◌, ◌≢◌, ℕ, ◌+◌, ◌*◌, ◌/◌, ◌%◌, ◌<◌, ◌≤◌, ◌==◌, Bool, true, false, List, [], ◌∷◌, length, get_or, set, slice_get, zero, suc, Option, Some, None, option_and_then, if◌then◌else◌, refl, sym, ◌∙◌, ap, subst, ⊎_elim, arith}
-use Rattle.std.proofs.lemmas.Bool.{eq-eqb, ne_eqb}
+use Rattle.std.proofs.lemmas.Bool.{cases_lt, eq-eqb, ne_eqb}
 use Rattle.std.proofs.lemmas.Option.{slice_get_past}
 use Rattle.std.proofs.lemmas.Bool.Decides.{eqb_tells}
 use Rattle.cc_pages.specs.Values.{HasEmpty, in_group, in_groups, in_page, in_page_of}
@@ -15,7 +15,18 @@ page-past [] i past = refl
 page-past (o ∷ os) zero past = absurd (omega (arith, past))
 page-past (o ∷ os) (suc i) past = page-past os i (omega (arith, past))
 
--- so none is taken away there
+-- so a page that is filled up with none has the values that it had,
+pub page-filled : (os ns : List (Option ℕ)) (n : ℕ) → length os ≤ n → length ns ≡ n → ((k : ℕ) (d : Option ℕ) → k < length os → get_or ns k d ≡ get_or os k d) →
+    ((k : ℕ) (d : Option ℕ) → length os ≤ k → k < n → get_or ns k d ≡ None) → (i : ℕ) → get_or ns i None ≡ get_or os i None
+page-filled os ns n more count same none i = ⊎_elim
+    (λ l. same i None l)
+    (λ past. ⊎_elim
+    (λ l. none i None past l ∙ sym (page-past os i past))
+    (λ end. page-past ns i (omega (arith, count, end)) ∙ sym (page-past os i past))
+    (cases_lt i n))
+    (cases_lt i (length os))
+
+-- and none is taken away there
 pub past-none : (os : List (Option ℕ)) (place i : ℕ) → length os ≤ place → get_or os i None ≡ (if place == i then None else get_or os i None)
 past-none os place i past = ⊎_elim
     (λ t. let there : length os ≤ i = omega (arith, past, t.1) in page-past os i there ∙ sym (rw t.0 refl))
@@ -46,7 +57,7 @@ module _ {Z : Type 0} (ps : List (Vec (Option ℕ) Z)) (k place : ℕ) (o : Opti
 -- a page that stays as it was in place of itself
 pub group-kept : {Z : Type 0} (ps : List (Vec (Option ℕ) Z)) (k : ℕ) (d y : Vec (Option ℕ) Z) → k < length ps → d ≡ get_or ps k d → ((i : ℕ) → in_page y i ≡ in_page d i) →
     (j i : ℕ) → in_group (set ps k y) j i ≡ in_group ps j i
-group-kept ps k d y inside here same j i = ⊎_elim
+group-kept {Z = Z} ps k d y inside here same j i = ⊎_elim
     (λ t. subst (λ l. in_group (set ps k y) l i ≡ in_group ps l i) (sym t.1)
     (read-written (λ (p : Vec (Option ℕ) Z). in_page p i) ps k y inside ∙ (same i ∙ sym (read-at (λ (p : Vec (Option ℕ) Z). in_page p i) ps k d inside here))))
     (λ f. read-other (λ (p : Vec (Option ℕ) Z). in_page p i) ps k j y f.1)
@@ -54,7 +65,7 @@ group-kept ps k d y inside here same j i = ⊎_elim
 
 -- empty pages have no value
 pub group-added : {Z : Type 0} (ps qs : List (Vec (Option ℕ) Z)) → HasEmpty ps qs → (k i : ℕ) → in_group qs k i ≡ in_group ps k i
-group-added ps qs added k i = read-added (λ (p : Vec (Option ℕ) Z). in_page p i) (λ p e. ap (λ (os : List (Option ℕ)). get_or os i None) e) ps qs added k
+group-added {Z = Z} ps qs added k i = read-added (λ (p : Vec (Option ℕ) Z). in_page p i) (λ p e. ap (λ (os : List (Option ℕ)). get_or os i None) e) ps qs added k
 
 -- In all groups
 
@@ -90,12 +101,12 @@ module _ {X Y : Type 0} (gs : List (Vec (Vec (Option ℕ) X) Y)) (m : ℕ) (d y 
 
 -- empty groups have no value
 pub groups-added : {X Y : Type 0} (gs hs : List (Vec (Vec (Option ℕ) X) Y)) → HasEmpty gs hs → (n : ℕ) → in_groups hs n ≡ in_groups gs n
-groups-added gs hs added n =
+groups-added {X = X} {Y = Y} gs hs added n =
     read-added (λ (g : Vec (Vec (Option ℕ) X) Y). in_group g.items (n / 128 % 128) (n % 128)) (λ g e. ap (λ (ps : List (Vec (Option ℕ) X)). in_group ps (n / 128 % 128) (n % 128)) e) gs hs added (n / 128 / 128)
 
 -- past them no number has one
 pub groups-past : {X Y : Type 0} (gs : List (Vec (Vec (Option ℕ) X) Y)) (n : ℕ) → length gs ≤ n / 128 / 128 → in_groups gs n ≡ None
-groups-past gs n past = ap (option_and_then (λ (g : Vec (Vec (Option ℕ) X) Y). in_group g.items (n / 128 % 128) (n % 128))) (slice_get_past gs (n / 128 / 128) past)
+groups-past {X = X} {Y = Y} gs n past = ap (option_and_then (λ (g : Vec (Vec (Option ℕ) X) Y). in_group g.items (n / 128 % 128) (n % 128))) (slice_get_past gs (n / 128 / 128) past)
 
 pub groups-none : {X Y : Type 0} (gs : List (Vec (Vec (Option ℕ) X) Y)) (n : ℕ) → gs ≡ [] → in_groups gs n ≡ None
-groups-none gs n none = ap (λ (hs : List (Vec (Vec (Option ℕ) X) Y)). in_groups hs n) none
+groups-none {X = X} {Y = Y} gs n none = ap (λ (hs : List (Vec (Vec (Option ℕ) X) Y)). in_groups hs n) none

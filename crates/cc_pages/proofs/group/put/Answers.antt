@@ -1,13 +1,13 @@
 use Rattle.std.proofs.Common.{◌<◌, ◌∙◌, Some, arith, length}
-use Rattle.cc_pages.proofs.Places.{err-then, ok-then}
+use Rattle.cc_pages.proofs.Places.{err-always, err-then, ok-then}
 use Rattle.cc_pages.proofs.Putting.{groups-added, groups-here, groups-kept, groups-others}
 use Rattle.cc_pages.proofs.group.put.Goals as goal
 
-pub index_mut-requires : goal.index_mut-requires
-index_mut-requires c = omega (arith, c.in_ok-reach.ensures.room, c.reach.new.lists.ok.0)
+pub index_mut-group-requires : goal.index_mut-group-requires
+index_mut-group-requires c = omega (arith, c.in_ok-reach.ensures.room, c.reach.new.lists.ok.0)
 
 pub returns-in_err-reach-clause-err : goal.returns-in_err-reach-clause-err
-returns-in_err-reach-clause-err c = groups-added c.args.groups.now.items c.reach.new.lists.items c.reach.ensures.added
+returns-in_err-reach-clause-err c = err-always c.from_residual.result (groups-added c.args.groups.now.items c.reach.new.lists.items c.reach.ensures.added)
 
 pub returns-clause-here : goal.returns-clause-here
 returns-clause-here c = ok-then c.put_in_group.result c.put_in_group.ensures.here
