@@ -1,8 +1,8 @@
 -- What stands at a place of a list: where an element is written, and where empty lists are added.
 use Rattle.std.specs.Prelude.{Vec, Result, Ok, Err, OnErr, OnOk}
-use Rattle.std.proofs.Common.{◌≡◌, ◌≢◌, ℕ, zero, suc, ◌<◌, ◌≤◌, ◌⊎◌, List, [], ◌∷◌, ◌++◌, length, get_or, set, slice_get, Option, Some, None, option_and_then, refl, sym, ◌∙◌, ap, subst, inl, inr, ⊎_elim, arith}
+use Rattle.std.proofs.Common.{◌≡◌, ◌≢◌, ℕ, zero, suc, ◌<◌, ◌⊎◌, List, [], ◌∷◌, ◌++◌, length, get_or, set, slice_get, Option, Some, None, option_and_then, refl, sym, ◌∙◌, ap, inl, inr, ⊎_elim, arith}
 use Rattle.std.proofs.lemmas.Option.{slice_get-get_or}
-use Rattle.cc_pages.specs.Values.{IsNewAt, HasEmpty}
+use Rattle.cc_pages.specs.Values.{HasEmpty}
 
 got-set_same : {X : Type 0} (xs : List X) (k : ℕ) (y : X) → k < length xs → slice_get (set xs k y) k ≡ Some y
 got-set_same [] k y l = absurd (omega (arith, l))

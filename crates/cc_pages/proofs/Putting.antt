@@ -1,10 +1,10 @@
 -- A VALUE THAT IS PUT, or taken away, is that of its number alone.
 use Rattle.std.specs.Prelude.{Vec}
-use Rattle.std.proofs.Common.{◌≡◌, ◌≢◌, ℕ, ◌+◌, ◌*◌, ◌/◌, ◌%◌, ◌<◌, ◌≤◌, ◌==◌, Bool, true, false, List, [], ◌∷◌, length, get_or, set, slice_get, zero, suc, Option, Some, None, option_and_then, if◌then◌else◌, refl, sym, ◌∙◌, ap, subst, ⊎_elim, arith}
+use Rattle.std.proofs.Common.{◌≡◌, ◌≢◌, ℕ, ◌/◌, ◌%◌, ◌<◌, ◌≤◌, ◌==◌, List, [], ◌∷◌, length, get_or, set, slice_get, zero, suc, Option, None, option_and_then, if◌then◌else◌, refl, sym, ◌∙◌, ap, subst, ⊎_elim, arith}
 use Rattle.std.proofs.lemmas.Bool.{cases_lt, eq-eqb, ne_eqb}
 use Rattle.std.proofs.lemmas.Option.{slice_get_past}
 use Rattle.std.proofs.lemmas.Bool.Decides.{eqb_tells}
-use Rattle.cc_pages.specs.Values.{HasEmpty, in_group, in_groups, in_page, in_page_of}
+use Rattle.cc_pages.specs.Values.{HasEmpty, in_group, in_groups, in_page}
 use Rattle.cc_pages.proofs.Places.{read-at, read-written, read-other, read-added}
 
 -- In a page

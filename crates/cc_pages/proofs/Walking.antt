@@ -1,5 +1,5 @@
 -- A WALK over the numbers that have a value: page by page, and past the pages that are not there.
-use Rattle.std.proofs.Common.{◌≡◌, ℕ, ◌+◌, ◌*◌, ◌/◌, ◌%◌, ◌<◌, ◌≤◌, ◌⊎◌, min, Option, None, refl, sym, ◌∙◌, ap, inl, inr, ⊎_elim, arith}
+use Rattle.std.proofs.Common.{◌≡◌, ℕ, ◌+◌, ◌*◌, ◌/◌, ◌%◌, ◌<◌, ◌≤◌, ◌⊎◌, min, Option, None, ◌∙◌, ap, ⊎_elim, arith}
 use Rattle.std.proofs.lemmas.Bool.{cases_lt}
 use Rattle.cc_pages.specs.Values.{IsFirst}
 

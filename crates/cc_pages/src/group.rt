@@ -150,12 +150,7 @@ fn value_in_group(group: &Group, page: usize, place: usize) -> Option<u32>
 }
 
 /// A value stands at a place of a page. `NoMemory` leaves all values as they were.
-fn put_in_group(
-    group: &mut Group,
-    page: usize,
-    place: usize,
-    value: u32,
-) -> Result<(), NoMemory>
+fn put_in_group(group: &mut Group, page: usize, place: usize, value: u32) -> Result<(), NoMemory>
     requires page { page < 128 }
     requires place { place < 128 }
     ensures here { OnOk result (in_group group.new.items page place ≡ Some value) }

@@ -1,4 +1,4 @@
-use Rattle.std.proofs.Common.{◌<◌, ◌∙◌, Some, arith, length}
+use Rattle.std.proofs.Common.{◌∙◌, Some, arith}
 use Rattle.cc_pages.proofs.Places.{err-always, err-then, ok-then}
 use Rattle.cc_pages.proofs.Putting.{group-added, group-here, group-kept, group-others}
 use Rattle.cc_pages.proofs.group.put_in_group.Goals as goal

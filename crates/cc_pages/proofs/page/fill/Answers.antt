@@ -1,4 +1,4 @@
-use Rattle.std.proofs.Common.{◌<◌, arith, length, rules}
+use Rattle.std.proofs.Common.{rules}
 use Rattle.cc_pages.proofs.Putting.{page-filled}
 use Rattle.cc_pages.proofs.page.fill.Goals as goal
 

@@ -1,6 +1,4 @@
-use Rattle.std.proofs.Common.{◌≡◌, ◌∙◌, ap}
-use Rattle.std.specs.Prelude.{Option, Some, None, IfNone, IfSome}
-use Rattle.cc_names.specs.declared.name.Name.{Name}
+use Rattle.std.proofs.Common.{◌∙◌, ap}
 use Rattle.cc_graph.specs.Kept.{number_at, vertices}
 use Rattle.cc_graph.specs.Shown.{number_of}
 use Rattle.cc_graph.proofs.NodesByName.{next-some, last-none}

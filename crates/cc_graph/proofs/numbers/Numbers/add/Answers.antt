@@ -1,6 +1,6 @@
 use Rattle.std.proofs.Common.{Some}
-use Rattle.cc_pages.proofs.Places.{err-then, ok-then}
-use Rattle.cc_graph.proofs.NodesByName.{native-changed, script-changed, reflector-changed, numbers-alike}
+use Rattle.cc_pages.proofs.Places.{ok-then}
+use Rattle.cc_graph.proofs.NodesByName.{native-changed}
 use Rattle.cc_graph.proofs.numbers.Numbers.add.Goals as goal
 
 pub returns-in-Native-clause-added : goal.returns-in-Native-clause-added

@@ -1,5 +1,5 @@
-use Rattle.std.proofs.Common.{◌≡◌, ℕ, ◌<◌, ◌≤◌, None, subst}
-use Rattle.cc_pages.specs.Values.{IsFirst, behind, value_at}
+use Rattle.std.proofs.Common.{◌≡◌, ℕ, ◌≤◌, None, subst}
+use Rattle.cc_pages.specs.Values.{IsFirst, value_at}
 use Rattle.cc_pages.proofs.Numbers.{first-within, value-none}
 use Rattle.cc_pages.proofs.pages.Pages.next_after.Goals as goal
 
