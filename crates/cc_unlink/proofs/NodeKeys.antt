@@ -1,14 +1,12 @@
 -- THE KEYS OF NATIVES THAT ARE NODES are theirs as long as they are there.
-use Rattle.std.proofs.Common.{◌≡◌, ℕ, [], Option, Some, sym, ◌∙◌, ap, subst, true, false}
+use Rattle.std.proofs.Common.{◌≡◌, ℕ, [], Some, sym, ◌∙◌, ap, subst}
 use Rattle.std.proofs.lemmas.Bool.{true≢false}
-use Rattle.cc_lists.specs.Members.{Among}
-use Rattle.cc_names.specs.declared.name.Name.{Name}
-use Rattle.cc_names.specs.Names.{native, is_native}
+use Rattle.cc_names.specs.Names.{is_native}
 use Rattle.cc_model.specs.Heap.{Heap}
 use Rattle.cc_counted.specs.Counts.{key_left}
 use Rattle.cc_counted.specs.declared.held.Held.{Held}
 use Rattle.cc_counted.specs.declared.held.Held.TheVariants as held
-use Rattle.cc_graph.specs.Shown.{Shown, Vertex}
+use Rattle.cc_graph.specs.Shown.{Shown}
 use Rattle.cc_graph.specs.Held.{AreHeld}
 use Rattle.cc_heaps.specs.HasKey.{HasKey}
 use Rattle.cc_heaps.specs.Keyed.{Keyed, IsInOrder, counts_of, number_at, changed_to, left_with}

@@ -1,6 +1,5 @@
-use Rattle.std.proofs.Common.{Some, option_and_then, ◌∙◌, sym}
+use Rattle.std.proofs.Common.{◌∙◌, sym}
 use Rattle.std.proofs.lemmas.Bool.{false≢true}
-use Rattle.cc_heaps.specs.Keyed.{number_at}
 use Rattle.cc_unlink.proofs.NextWhite.{black-none, walking-start, walking-found, walking-next, walking-fewer, walking-none}
 use Rattle.cc_unlink.proofs.ends.next_white.Goals as goal
 
@@ -27,7 +26,7 @@ pub loop-next-preserved : goal.loop-next-preserved
 loop-next-preserved c =
     let w = rw c.in-Some.is at c.loop-next.invariant.walking in
     let e = c.native_node_after-next-in-Some.ensures in
-    let other = rw c.in_default.is at c.white_at.ensures.other in
+    let other = rw c.in_default-white_at.is at c.white_at.ensures.other in
     record {
       walking = walking-next c.args.graph.now c.args.heaps.now c.requires.order.0 c.requires.order.1 _ c.in-Some.native c.in-Some.node w c.requires.keys
           (rw c.counted-counted.ensures at other) c.native_node_after-next-in-Some.result e.next e.within e.small e.last;
@@ -35,3 +34,10 @@ loop-next-preserved c =
 
 pub returns-clause-number : goal.returns-clause-number
 returns-clause-number c = walking-none c.args.graph.now c.args.heaps.now.heap _ (rw c.in_default.is at c.loop-next.invariant.walking)
+
+pub returns-in-Some-white_at-clause-number : goal.returns-in-Some-white_at-clause-number
+returns-in-Some-white_at-clause-number c =
+    let w = rw c.in-Some.is at c.loop-next.invariant.walking in
+    let white = rw c.in-Some-white_at.is at c.white_at.ensures.white in
+    walking-found c.args.graph.now c.args.heaps.now c.requires.order.0 c.requires.order.1 _ c.in-Some.native c.in-Some.node w c.in-Some-white_at.key.0 white.0
+    (rw c.counted-counted.ensures at white.1)

@@ -22,5 +22,5 @@ loop-next-preserved c = record {
       c.next_white-next-in-Some.ensures.number c.next_white-next-in-Some.ensures.live c.root.ensures.heap c.root.ensures.order).0;
 }
 
-pub next_white-next-in-Some-requires-clause-keys : goal.next_white-next-in-Some-requires-clause-keys
-next_white-next-in-Some-requires-clause-keys c = node-keys-changed c.args.graph.now c.args.heaps.now c.loop-next.heaps c.loop-next.heaps.heap c.loop-next.invariant.steps.kept c.requires.keys
+pub next_white-next-requires-in-Some-clause-keys : goal.next_white-next-requires-in-Some-clause-keys
+next_white-next-requires-in-Some-clause-keys c = node-keys-changed c.args.graph.now c.args.heaps.now c.loop-next.heaps c.loop-next.heaps.heap c.loop-next.invariant.steps.kept c.requires.keys

@@ -21,5 +21,5 @@ loop-next-preserved g c = record {
       c.next_white-next-in-Some.ensures.number c.next_white-next-in-Some.ensures.live c.unlink.ensures.heap c.unlink.ensures.told c.unlink.ensures.order).0;
 }
 
-pub next_white-next-in-Some-requires-clause-keys : goal.next_white-next-in-Some-requires-clause-keys
-next_white-next-in-Some-requires-clause-keys g c = node-keys-left c.args.graph.now c.args.heaps.now c.loop-next.heaps c.loop-next.heaps.heap c.loop-next.invariant.steps.pass.kept c.requires.keys
+pub next_white-next-requires-in-Some-clause-keys : goal.next_white-next-requires-in-Some-clause-keys
+next_white-next-requires-in-Some-clause-keys g c = node-keys-left c.args.graph.now c.args.heaps.now c.loop-next.heaps c.loop-next.heaps.heap c.loop-next.invariant.steps.pass.kept c.requires.keys
