@@ -28,4 +28,5 @@ pub returns-clause-held : goal.returns-clause-held
 returns-clause-held c =
     let v = c.args.heaps.now in
     held-rest v c.scan_uncounted.new.graph c.mark_touched.new.graph c.scan_uncounted.ensures.rest
-    (held-rest v c.mark_touched.new.graph c.finish-graph.result c.mark_touched.ensures.rest (mark_touched-requires-clause-held c))
+    (held-rest v c.mark_touched.new.graph c.finish-graph.result c.mark_touched.ensures.rest
+    (subst (λ (g : Shown). AreHeld g (HasKey v)) (sym c.finish-graph.ensures) c.requires.held))
