@@ -48,7 +48,7 @@ pub(crate) fn first_in_page(page: &Page, start: usize) -> Option<(usize, u32)>
 {
     let end = page.len().min(PLACES);
     for place in start..end {
-        if let Some(value) = value_in_page(page, place) {
+        if let Some(value) = page[place] {
             return Some((place, value));
         }
     }
