@@ -83,14 +83,14 @@ fn first_from(groups: &Table, number: usize) -> Option<(usize, u32)>
     }
 }
 
-/// Where the page of a number ends; where its group has no page, where the group ends.
+/// Where the page of a number ends; where its group has no page behind that, where the group ends.
 fn end_of_page(groups: &Table, number: usize) -> usize
     requires { number < 2 ^ 32 }
     ensures rises { number < result }
     ensures passed { (n : ℕ) → number ≤ n → n < result → (n / 128 ≡ number / 128) ⊎ (in_groups groups.now.items n ≡ None) }
 {
     let page = number / PLACES;
-    if has_pages(groups, page / PAGES) {
+    if has_next(groups, page) {
         (page + 1) * PLACES
     } else {
         (page / PAGES + 1) * PAGES * PLACES
@@ -105,12 +105,12 @@ fn end(groups: &Table) -> usize
     groups.len().min(GROUPS) * PAGES * PLACES
 }
 
-/// Whether a group has pages.
-fn has_pages(groups: &Table, group: usize) -> bool
-    ensures { IsTrue result ⊎ ((n : ℕ) → n / 128 / 128 ≡ group → in_groups groups.now.items n ≡ None) }
+/// Whether a page's group has a page behind it.
+fn has_next(groups: &Table, page: usize) -> bool
+    ensures { IsTrue result ⊎ ((n : ℕ) → n / 128 / 128 ≡ page / 128 → page < n / 128 → in_groups groups.now.items n ≡ None) }
 {
-    match groups.get(group) {
-        Some(pages) => !pages.is_empty(),
+    match groups.get(page / PAGES) {
+        Some(group) => page % PAGES + 1 < group.len(),
         None => false,
     }
 }
