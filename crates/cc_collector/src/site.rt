@@ -152,6 +152,7 @@ fn blackened(build: Build, heaps: &Heaps) -> Graph
     requires behind { build.next ≡ length build.graph.nodes }
     ensures whites { whites_of result heaps.now.heap ≡ white_natives heaps.now.heap (snapshot_of build) }
     ensures edges { result.edges ≡ build.graph.edges }
+    ensures held { AreHeld result (HasKey heaps.now) }
 {
     let mut graph = build.finish();
     mark_touched(&mut graph, heaps);

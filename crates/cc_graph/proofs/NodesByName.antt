@@ -1,15 +1,18 @@
--- Nodes by their names: a node that is added last, and the map of names.
-use Rattle.std.proofs.Common.{◌≡◌, ℕ, ◌+◌, suc, Bool, true, false, cond, List, [], ◌∷◌, ◌++◌, length, refl, sym, ◌∙◌, ap, arith, Some, None}
-use Rattle.std.specs.Prelude.{Option}
-use Rattle.std.specs.Map.{lookup}
-use Rattle.std.specs.BTreeMap.{BTreeMap, Updates}
-use Rattle.std.specs.Ordering.{is_eq}
-use Rattle.std.specs.Cmp.{unsigned_ties}
+-- Nodes by their names: a node that is added last, and the tables of numbers.
+use Rattle.std.proofs.Common.{◌≡◌, ℕ, ◌+◌, ◌==◌, ◌<◌, suc, Bool, true, false, cond, List, [], ◌∷◌, ◌++◌, length, refl, sym, ◌∙◌, ap, subst, arith, Some, None, if◌then◌else◌}
+use Rattle.std.specs.Prelude.{Option, IfNone, IfSome}
 use Rattle.cc_names.specs.declared.name.Name.{Name}
 use Rattle.cc_names.specs.declared.name.Name.TheVariants.{Native, Script, Reflector}
-use Rattle.cc_names.specs.Names.{same_name}
-use Rattle.cc_names.specs.contracts.name.NameOrd.TheImpl as name_ord
-use Rattle.cc_graph.specs.Shown.{Vertex, number_from}
+use Rattle.cc_names.specs.declared.number.NativeNo.{NativeNo}
+use Rattle.cc_names.specs.declared.number.ScriptNo.{ScriptNo}
+use Rattle.cc_names.specs.Names.{native, same_name}
+use Rattle.cc_names.proofs.NameTests.{same_name-true}
+use Rattle.cc_pages.specs.declared.pages.Pages.{Pages}
+use Rattle.cc_pages.specs.Values.{value_at}
+use Rattle.cc_graph.specs.declared.numbers.Numbers.{Numbers}
+use Rattle.cc_graph.specs.Shown.{Vertex, number_from, number_of}
+use Rattle.cc_graph.specs.Kept.{number_at}
+use Rattle.cc_graph.specs.Natives.{IsLast, IsNext}
 
 number-here : (i : ℕ) (v : Vertex) (vs : List Vertex) (x : Name) → same_name v.name x ≡ true → number_from i (v ∷ vs) x ≡ Some i
 number-here i v vs x h = rw (number_from, h) refl
@@ -40,34 +43,77 @@ number-pushed i (w ∷ ws) v x = go (number-pushed (suc i) ws v x) (same_name w.
         ∙ (ap (λ o. or_last o (same_name v.name x) (suc i + length ws)) (sym (number-later i w ws x e))
         ∙ ap (or_last (number_from i (w ∷ ws) x) (same_name v.name x)) (omega arith)))
 
--- The map of numbers
+-- The tables of numbers
 
--- names are in order as equals where they are the same
-pub same-order : (x y : Name) → is_eq ((name_ord.ghosts).cmp x y) ≡ same_name x y
-same-order (Native i) (Native j) = sym (unsigned_ties i.0 j.0)
-same-order (Script i) (Script j) = sym (unsigned_ties i.0 j.0)
-same-order (Reflector i) (Reflector j) = sym (unsigned_ties i.0 j.0)
-same-order (Native i) (Script j) = refl
-same-order (Native i) (Reflector j) = refl
-same-order (Script i) (Native j) = refl
-same-order (Script i) (Reflector j) = refl
-same-order (Reflector i) (Native j) = refl
-same-order (Reflector i) (Script j) = refl
+-- what they say of a name that was given a number, or whose number was taken away
+abbrev pub IsChangedAt : Numbers → Numbers → Option ℕ → Name → Type 0
+IsChangedAt ns ms o name = (x : Name) → number_at ms x ≡ (if same_name name x then o else number_at ns x)
 
--- tests that say the same find the same
-lookup-alike : {K X : Type 0} (p q : K → Bool) (es : List (K × X)) → ((k : K) → p k ≡ q k) → lookup p es ≡ lookup q es
-lookup-alike p q [] h = refl
-lookup-alike p q (e ∷ es) h = rw (h e.0, lookup-alike p q es h) refl
+pub native-changed : (ns : Numbers) (ps : Pages) (k : NativeNo) (o : Option ℕ) → ((n : ℕ) → value_at ps n ≡ (if k.0 == n then o else value_at ns.natives n)) →
+    IsChangedAt ns (record ns { natives = ps }) o (Native k)
+native-changed ns ps k o given (Native n) = given n.0
+native-changed ns ps k o given (Script n) = refl
+native-changed ns ps k o given (Reflector n) = refl
 
--- what the map says of a name, by the order and by the names
-pub number-by-order : (ns : BTreeMap Name ℕ) (x : Name) → lookup (λ y. is_eq ((name_ord.ghosts).cmp x y)) ns.entries ≡ lookup (λ y. same_name x y) ns.entries
-number-by-order ns x = lookup-alike (λ y. is_eq ((name_ord.ghosts).cmp x y)) (λ y. same_name x y) ns.entries (same-order x)
+pub script-changed : (ns : Numbers) (ps : Pages) (k : ScriptNo) (o : Option ℕ) → ((n : ℕ) → value_at ps n ≡ (if k.0 == n then o else value_at ns.scripts n)) →
+    IsChangedAt ns (record ns { scripts = ps }) o (Script k)
+script-changed ns ps k o given (Native n) = refl
+script-changed ns ps k o given (Script n) = given n.0
+script-changed ns ps k o given (Reflector n) = refl
 
--- what it says after one name's number is another, or none any more
-pub numbers-updated : (ms ns : BTreeMap Name ℕ) (name : Name) (o : Option ℕ) → Updates (name_ord.ghosts).cmp ms ns name o → (x : Name) →
-    lookup (λ y. same_name x y) ns.entries ≡ cond (same_name name x) o (lookup (λ y. same_name x y) ms.entries)
-numbers-updated ms ns name o u x =
-    sym (number-by-order ns x)
-    ∙ (u.0 x
-    ∙ (ap (λ b. cond b o (lookup (λ y. is_eq ((name_ord.ghosts).cmp x y)) ms.entries)) (same-order name x)
-    ∙ ap (cond (same_name name x) o) (number-by-order ms x)))
+pub reflector-changed : (ns : Numbers) (ps : Pages) (k : NativeNo) (o : Option ℕ) → ((n : ℕ) → value_at ps n ≡ (if k.0 == n then o else value_at ns.reflectors n)) →
+    IsChangedAt ns (record ns { reflectors = ps }) o (Reflector k)
+reflector-changed ns ps k o given (Native n) = refl
+reflector-changed ns ps k o given (Script n) = refl
+reflector-changed ns ps k o given (Reflector n) = given n.0
+
+-- where the values of the tables are the same, so are the numbers
+pub numbers-alike : (ns ms : Numbers) → ((n : ℕ) → value_at ms.natives n ≡ value_at ns.natives n) → ((n : ℕ) → value_at ms.scripts n ≡ value_at ns.scripts n) →
+    ((n : ℕ) → value_at ms.reflectors n ≡ value_at ns.reflectors n) → (x : Name) → number_at ms x ≡ number_at ns x
+numbers-alike ns ms natives scripts reflectors (Native n) = natives n.0
+numbers-alike ns ms natives scripts reflectors (Script n) = scripts n.0
+numbers-alike ns ms natives scripts reflectors (Reflector n) = reflectors n.0
+
+-- where none has a value, no name has a number
+pub numbers-none : (ns : Numbers) → ((n : ℕ) → value_at ns.natives n ≡ None) → ((n : ℕ) → value_at ns.scripts n ≡ None) → ((n : ℕ) → value_at ns.reflectors n ≡ None) →
+    (x : Name) → number_at ns x ≡ None
+numbers-none ns natives scripts reflectors (Native n) = natives n.0
+numbers-none ns natives scripts reflectors (Script n) = scripts n.0
+numbers-none ns natives scripts reflectors (Reflector n) = reflectors n.0
+
+-- a name that has a number may be given it
+pub numbers-found : (ns : Numbers) (name : Name) (n : ℕ) → number_at ns name ≡ Some n → IsChangedAt ns ns (Some n) name
+numbers-found ns name n has x = go (same_name name x) refl
+  where
+    go : (b : Bool) → same_name name x ≡ b → number_at ns x ≡ (if b then Some n else number_at ns x)
+    go true e = ap (number_at ns) (sym (same_name-true name x e)) ∙ has
+    go false e = refl
+
+-- The natives by rising number
+
+-- the next one is next by what says the same
+next-alike : (f g : Name → Option ℕ) → ((x : Name) → f x ≡ g x) → (after : Option NativeNo) (k n : ℕ) → IsNext f after k n → IsNext g after k n
+next-alike f g same after k n h = record {
+  from = h.from;
+  there = sym (same (native k)) ∙ h.there;
+  before = λ j from until. sym (same (native j)) ∙ h.before j from until;
+}
+
+last-alike : (f g : Name → Option ℕ) → ((x : Name) → f x ≡ g x) → (after : Option NativeNo) → IsLast f after → IsLast g after
+last-alike f g same after h j from = sym (same (native j)) ∙ h j from
+
+pub next-some : (f g : Name → Option ℕ) → ((x : Name) → f x ≡ g x) → (after : Option NativeNo) (next : Option (NativeNo × ℕ)) →
+    IfSome next (λ r. IsNext f after r.0.0 r.1) → IfSome next (λ r. IsNext g after r.0.0 r.1)
+next-some f g same after None h = tt
+next-some f g same after (Some r) h = next-alike f g same after r.0.0 r.1 h
+
+pub last-none : (f g : Name → Option ℕ) → ((x : Name) → f x ≡ g x) → (after : Option NativeNo) (next : Option (NativeNo × ℕ)) →
+    IfNone next (IsLast f after) → IfNone next (IsLast g after)
+last-none f g same after None h = last-alike f g same after h
+last-none f g same after (Some r) h = tt
+
+-- its node is one
+pub next-within : (vs : List Vertex) (after : Option NativeNo) (next : Option (NativeNo × ℕ)) → ((x : Name) → IfSome (number_of vs x) (λ i. i < length vs)) →
+    IfSome next (λ r. IsNext (number_of vs) after r.0.0 r.1) → IfSome next (λ r. r.1 < length vs)
+next-within vs after None within h = tt
+next-within vs after (Some r) within h = subst (λ o. IfSome o (λ i. i < length vs)) h.there (within (native r.0.0))

@@ -39,6 +39,13 @@ number-below i (v ∷ vs) x = go (number_from (suc i) vs x) (number-below (suc i
     go None h false = tt
     go (Some k) h false = omega (arith, h)
 
+pub number-inside : (vs : List Vertex) (x : Name) → IfSome (number_of vs x) (λ k. k < length vs)
+number-inside vs x = go (number_of vs x) (number-below 0 vs x)
+  where
+    go : (o : Option ℕ) → IfSome o (λ k. k < 0 + length vs) → IfSome o (λ k. k < length vs)
+    go None h = tt
+    go (Some k) h = omega (arith, h)
+
 pub number-within : (ks : List Node) (x : Name) → IfSome (number_of (vertices ks) x) (λ k. k < length ks)
 number-within ks x = go (number_of (vertices ks) x) (number-below 0 (vertices ks) x)
   where

@@ -1,9 +1,9 @@
 -- WHAT IS KEPT OF EACH NODE AND REFERENCE, so that no list has to be walked for it.
 use Rattle.std.specs.Prelude.{◌≡◌, ℕ, ◌+◌, ◌-◌, ◌<◌, ◌≤◌, ◌^◌, ◌==◌, min, Bool, true, false, List, [], ◌∷◌, ◌++◌, length, get_or, count_by, map, slice_get, slice_set, Option, Some, None, option_map}
-use Rattle.std.specs.Map.{lookup}
 use Rattle.cc_lists.specs.Members.{Among, has}
 use Rattle.cc_names.specs.declared.name.Name.{Name}
-use Rattle.cc_names.specs.Names.{same_name}
+use Rattle.cc_names.specs.declared.name.Name.TheVariants.{Native, Script, Reflector}
+use Rattle.cc_pages.specs.Values.{value_at}
 use Rattle.cc_counted.specs.declared.held.Held.{Held}
 use Rattle.cc_graph.specs.declared.chain.Chain.{Chain}
 use Rattle.cc_graph.specs.declared.mapping.Mapping.{Mapping}
@@ -96,9 +96,11 @@ with_node ks name held = elim (number_of (vertices ks) name) [ Some i ↦ ks | N
 
 -- the number that is kept for a name
 abbrev pub number_at : Numbers → Name → Option ℕ
-number_at ns x = lookup (λ y. same_name x y) ns.numbers.entries
+number_at ns (Native k) = value_at ns.natives k.0
+number_at ns (Script k) = value_at ns.scripts k.0
+number_at ns (Reflector k) = value_at ns.reflectors k.0
 
--- the map has the numbers of all nodes and no other, each node knows whether it is black, and there is room for all to
+-- the tables have the numbers of all nodes and no other, each node knows whether it is black, and there is room for all to
 -- become so
 pub record IsNumbered (nodes : List Node) (blacks : List ℕ) (room : ℕ) (numbers : Numbers) : Type 0 where
   pub few : length nodes < 2 ^ 32

@@ -1,7 +1,8 @@
 //! The graph: nodes by number, noted references, noted mappings, and the list of black nodes.
 
-ghost use Rattle.std.specs.Prelude.{◌≡◌, ℕ, ◌↔◌, ◌+◌, ◌-◌, ◌<◌, ◌≤◌, ◌^◌, ◌==◌, ◌++◌, [], ◌∷◌, length, max, min, slice_get, option_map, true, IfOk, IfSome, IsOk, IsSome, IsTrue, false, OnErr, OnOk, Some, vec_capacity};
+ghost use Rattle.std.specs.Prelude.{◌≡◌, ℕ, ◌↔◌, ◌+◌, ◌-◌, ◌<◌, ◌≤◌, ◌^◌, ◌==◌, ◌++◌, [], ◌∷◌, length, max, min, slice_get, option_map, true, IfNone, IfOk, IfSome, IsOk, IsSome, IsTrue, false, OnErr, OnOk, Some, vec_capacity};
 ghost use Rattle.cc_graph.specs.Shown.{IsEmpty, change_vertex, edges_to, is_black, is_with, hyperedge, no_room, number_of, place_from, place_with, with_black, with_sample, with_vertex};
+ghost use Rattle.cc_graph.specs.Natives.{IsLast, IsNext};
 ghost use Rattle.cc_graph.specs.Closed.{IsClosed};
 ghost use Rattle.cc_graph.specs.Rooms.{KeepsRoom, TakesRoom};
 ghost use Rattle.cc_graph.specs.Kept.{AreMappings, but_mappings, chain_of, first_member, hyperedges, is_one, last_of, loose_with, nodes_with, with_link, with_next, with_next_with};
@@ -11,7 +12,7 @@ use crate::mapping::Mapping;
 use crate::nodes::Nodes;
 use crate::reference::Reference;
 use cc_counted::Held;
-use cc_names::{Name, NoMemory};
+use cc_names::{Name, NativeNo, NoMemory};
 use cc_pool::Pool;
 use std::alloc::Global;
 use std::marker::Model;
@@ -195,6 +196,18 @@ impl Graph {
         ensures within { IfSome result (λ i. i < length self.now.nodes) }
     {
         self.nodes.number_of(name)
+    }
+
+    /// The native with the least number above that of `after`, or of all where there is no `after`, of those that are nodes,
+    /// and the number of its node; none where there is no such native. So from none on each comes once, by rising number, at
+    /// a cost of the natives that are nodes and of those beside them, and of no others.
+    pub fn native_node_after(&self, after: Option<NativeNo>) -> Option<(NativeNo, u32)>
+        ensures next { IfSome result (λ r. IsNext (number_of self.now.nodes) after r.0.0 r.1) }
+        ensures within { IfSome result (λ r. r.1 < length self.now.nodes) }
+        ensures small { IfSome result (λ r. r.0.0 < 2 ^ 32) }
+        ensures last { IfNone result (IsLast (number_of self.now.nodes) after) }
+    {
+        self.nodes.native_after(after)
     }
 
     /// How many nodes there are.

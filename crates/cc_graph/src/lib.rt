@@ -9,10 +9,11 @@
 //! Nodes, references and mappings are only ever added. Memory is taken by `add_node`, also for the day on which the node
 //! becomes black, by `reserve` for references, and by `note_mapping`; no other call takes any.
 //!
-//! Nodes, references and mappings stand in blocks that never move, and no call walks them: names lead to numbers by a map
-//! for each kind of object, a node keeps how many references lead to it and the places of its first and last one, and a
-//! reference that of the next one of its node. So for mappings: a node keeps the places of the first and the last of those
-//! whose map or key it is, and each mapping that of its map's next one and that of its key's. Places have 32 bits.
+//! Nodes, references and mappings stand in blocks that never move, and no call walks them: names lead to numbers by a table
+//! for each kind of object, in pages by the object's own number; a node keeps how many references lead to it and the places
+//! of its first and last one, and a reference that of the next one of its node. So for mappings: a node keeps the places of
+//! the first and the last of those whose map or key it is, and each mapping that of its map's next one and that of its
+//! key's. Places have 32 bits.
 #![tactic(auto)]
 
 mod chain;

@@ -1,15 +1,16 @@
 //! The nodes by number and by name, and the list of black ones.
 
-ghost use Rattle.std.specs.Prelude.{◌≡◌, ◌+◌, ◌<◌, ◌≤◌, ◌^◌, ◌==◌, ◌++◌, [], ◌∷◌, length, slice_get, slice_index_or, slice_set, ℕ, ◌↔◌, false, None, IsTrue, unwrap_or, IfOk, IfSome, OnErr, OnOk};
+ghost use Rattle.std.specs.Prelude.{◌≡◌, ◌+◌, ◌<◌, ◌≤◌, ◌^◌, ◌==◌, ◌++◌, [], ◌∷◌, length, slice_get, slice_index_or, slice_set, ℕ, ◌↔◌, false, None, IsTrue, unwrap_or, IfNone, IfOk, IfSome, OnErr, OnOk};
 ghost use Rattle.cc_lists.specs.Members.{has};
 ghost use Rattle.cc_graph.specs.Shown.{number_of};
+ghost use Rattle.cc_graph.specs.Natives.{IsLast, IsNext};
 ghost use Rattle.cc_graph.specs.Rooms.{HasRoom, TakesRoom};
 ghost use Rattle.cc_graph.specs.Kept.{vertices, with_black_node, with_node};
 
 use crate::node::Node;
 use crate::numbers::Numbers;
 use cc_counted::Held;
-use cc_names::{Name, NoMemory};
+use cc_names::{Name, NativeNo, NoMemory};
 use cc_pool::Pool;
 use std::alloc::Global;
 use std::marker::Model;
@@ -91,6 +92,16 @@ impl Nodes {
         ensures within { IfSome result (λ i. i < length self.now.nodes) }
     {
         self.numbers.get(name)
+    }
+
+    /// The native with the least number above that of `after`, or of all where there is no `after`, of those that are nodes,
+    /// and the number of its node; none where there is no such native.
+    pub(crate) fn native_after(&self, after: Option<NativeNo>) -> Option<(NativeNo, u32)>
+        ensures next { IfSome result (λ r. IsNext (number_of (vertices self.now.nodes)) after r.0.0 r.1) }
+        ensures small { IfSome result (λ r. r.0.0 < 2 ^ 32) }
+        ensures last { IfNone result (IsLast (number_of (vertices self.now.nodes)) after) }
+    {
+        self.numbers.native_after(after)
     }
 
     /// How many nodes there are.

@@ -1,19 +1,21 @@
 //! The numbers of nodes by the names of their objects.
 
-ghost use Rattle.std.specs.Prelude.{◌≡◌, Some, None, if◌then◌else◌, unwrap_or, IfOk, OnErr};
-ghost use Rattle.std.specs.BTreeMap.{get, Updates};
+ghost use Rattle.std.specs.Prelude.{◌≡◌, ℕ, ◌<◌, ◌≤◌, ◌^◌, Some, None, if◌then◌else◌, option_map, unwrap_or, IfNone, IfOk, IfSome, OnErr, OnOk};
 ghost use Rattle.cc_names.specs.declared.name.Name.{Name};
-ghost use Rattle.cc_names.specs.Names.{same_name};
+ghost use Rattle.cc_names.specs.Names.{native, same_name};
 ghost use Rattle.cc_graph.specs.Kept.{number_at};
+ghost use Rattle.cc_graph.specs.Natives.{IsLast, IsNext};
 
-use cc_names::{Name, NoMemory};
+use cc_names::{Name, NativeNo, NoMemory};
+use cc_pages::Pages;
 use std::alloc::Global;
-use std::collections::BTreeMap;
 
-/// The number of each node by its name.
+/// The number of each node by its name: a table for each kind of object, by the object's own number.
 #[derive(Drop)]
 pub(crate) struct Numbers {
-    numbers: BTreeMap<Name, u32>,
+    natives: Pages,
+    scripts: Pages,
+    reflectors: Pages,
 }
 
 impl Numbers {
@@ -22,7 +24,9 @@ impl Numbers {
         ensures { (x : Name) → number_at result x ≡ None }
     {
         Numbers {
-            numbers: BTreeMap::new(alloc),
+            natives: Pages::new(alloc),
+            scripts: Pages::new(alloc),
+            reflectors: Pages::new(alloc),
         }
     }
 
@@ -30,15 +34,20 @@ impl Numbers {
     pub(crate) fn clear(&mut self)
         ensures { (x : Name) → number_at self.new x ≡ None }
     {
-        self.numbers.clear();
+        self.natives.clear();
+        self.scripts.clear();
+        self.reflectors.clear();
     }
 
     /// The number of a name; none where it has none.
     pub(crate) fn get(&self, name: &Name) -> Option<u32>
         ensures { result ≡ number_at self.now name.now }
     {
-        let number = self.numbers.get(name)?;
-        Some(*number)
+        match name {
+            Name::Native(k) => self.natives.get(k.0),
+            Name::Script(k) => self.scripts.get(k.0),
+            Name::Reflector(k) => self.reflectors.get(k.0),
+        }
     }
 
     /// The number of a name, which is `number` from now on where it had none.
@@ -50,30 +59,57 @@ impl Numbers {
         ensures err { OnErr result ((x : Name) → number_at self.new x ≡ number_at self.old x) }
         ensures absent { OnErr result (number_at self.old name ≡ None) }
     {
-        number_or(&mut self.numbers, name, number)
+        if let Some(found) = self.get(&name) {
+            return Ok(found);
+        }
+        self.add(name, number)?;
+        Ok(number)
     }
 
     /// A name has no number from now on.
     pub(crate) fn remove(&mut self, name: Name)
         ensures { (x : Name) → number_at self.new x ≡ (if same_name name x then None else number_at self.old x) }
     {
-        self.numbers.remove(&name);
+        match name {
+            Name::Native(k) => self.natives.remove(k.0),
+            Name::Script(k) => self.scripts.remove(k.0),
+            Name::Reflector(k) => self.reflectors.remove(k.0),
+        }
+    }
+
+    /// The native with the least number above that of `after`, or of all where there is no `after`, of those whose names
+    /// have a number, and that number; none where there is no such native.
+    pub(crate) fn native_after(&self, after: Option<NativeNo>) -> Option<(NativeNo, u32)>
+        ensures next { IfSome result (λ r. IsNext (number_at self.now) after r.0.0 r.1) }
+        ensures small { IfSome result (λ r. r.0.0 < 2 ^ 32) }
+        ensures last { IfNone result (IsLast (number_at self.now) after) }
+    {
+        let next = self.natives.next_after(own_number(after));
+        match next {
+            Some((number, node)) => Some((NativeNo(number), node)),
+            None => None,
+        }
+    }
+
+    /// A name has this number from now on. `NoMemory` leaves all numbers as they were.
+    fn add(&mut self, name: Name, number: u32) -> Result<(), NoMemory>
+        ensures added { OnOk result ((x : Name) → number_at self.new x ≡ (if same_name name x then Some number else number_at self.old x)) }
+        ensures err { OnErr result ((x : Name) → number_at self.new x ≡ number_at self.old x) }
+    {
+        match name {
+            Name::Native(k) => self.natives.insert(k.0, number),
+            Name::Script(k) => self.scripts.insert(k.0, number),
+            Name::Reflector(k) => self.reflectors.insert(k.0, number),
+        }
     }
 }
 
-/// The number at a key, which is `number` from now on where there was none.
-fn number_or<K: Ord + Drop>(
-    numbers: &mut BTreeMap<K, u32>,
-    key: K,
-    number: u32,
-) -> Result<u32, NoMemory>
-    ensures found { IfOk result (λ n. n ≡ unwrap_or (get K.cmp numbers.old key) number) }
-    ensures added { IfOk result (λ n. Updates K.cmp numbers.old numbers.new key (Some n)) }
-    ensures err { OnErr result (numbers.new.entries ≡ numbers.old.entries) }
-    ensures absent { OnErr result (get K.cmp numbers.old key ≡ None) }
+/// The number of a native.
+fn own_number(native: Option<NativeNo>) -> Option<u32>
+    ensures { result ≡ option_map (λ k. k.0) native }
 {
-    let Ok(entry) = numbers.entry(key) else {
-        return Err(NoMemory);
-    };
-    Ok(*entry.or_insert(number))
+    match native {
+        Some(native) => Some(native.0),
+        None => None,
+    }
 }

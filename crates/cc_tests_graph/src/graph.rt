@@ -116,6 +116,14 @@ fn is_filled(graph: &Graph) -> bool {
         && graph.first_with(None).is_none()
 }
 
+/// Whether natives that are nodes come by rising number, over the borders of pages and groups, up to the last.
+fn are_in_order(graph: &Graph) -> bool {
+    graph.native_node_after(None) == Some((NativeNo(0), 0))
+        && graph.native_node_after(Some(NativeNo(127))) == Some((NativeNo(128), 128))
+        && graph.native_node_after(Some(NativeNo(16_383))) == Some((NativeNo(16_384), 16_384))
+        && graph.native_node_after(Some(NativeNo(65_536))).is_none()
+}
+
 /// Whether this node alone is black, and has this count.
 fn is_blackened(graph: &Graph, i: u32, count: u32) -> bool {
     sampled(graph, i) == Some(count) && graph.black_at(0) == Some(i) && graph.has_white()
@@ -126,8 +134,10 @@ fn graph_holds_more_than_16_bits_count(rt: HostRuntime) {
     let mut graph = Graph::new(rt.alloc());
     assert!(rt; fill(&mut graph));
     assert!(rt; is_filled(&graph));
+    assert!(rt; are_in_order(&graph));
     assert!(rt; blacken(&mut graph, 65_536, 3));
     assert!(rt; is_blackened(&graph, 65_536, 3));
     graph.clear();
     assert!(rt; graph.is_empty());
+    assert_eq!(rt; graph.native_node_after(None), None);
 }

@@ -1,4 +1,5 @@
 pub mod NextWhite
+pub mod NodeKeys
 pub mod Passing
 pub mod Promises
 pub mod Rooting

@@ -1,1 +1,2 @@
 pub mod Whites
+pub mod Keys

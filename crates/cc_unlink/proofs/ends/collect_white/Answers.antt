@@ -6,8 +6,21 @@ use Rattle.cc_unlink.proofs.Promises.{ended-stands, ended-reached, ended-objects
 use Rattle.cc_heaps.proofs.FewCounts.{few-alone}
 use Rattle.cc_unlink.specs.Whites.{whites_of}
 use Rattle.cc_unlink.proofs.WhiteEnd.{WhiteEnd-heap, WhiteEnd-told}
+use Rattle.cc_unlink.proofs.NodeKeys.{node-keys, node-keys-changed, node-keys-left}
 use Rattle.cc_unlink.proofs.ends.collect_white.Given as given
 use Rattle.cc_unlink.proofs.ends.collect_white.Goals as goal
+
+pub root_whites-requires-clause-keys : goal.root_whites-requires-clause-keys
+root_whites-requires-clause-keys g c = node-keys c.args.graph c.args.heaps.now c.requires.order c.requires.held
+
+pub unlink_whites-requires-clause-keys : goal.unlink_whites-requires-clause-keys
+unlink_whites-requires-clause-keys g c =
+    node-keys-changed c.args.graph c.args.heaps.now c.root_whites.new.heaps _ c.root_whites.ensures.heap (node-keys c.args.graph c.args.heaps.now c.requires.order c.requires.held)
+
+pub unroot_whites-requires-clause-keys : goal.unroot_whites-requires-clause-keys
+unroot_whites-requires-clause-keys g c =
+    node-keys-left c.args.graph c.root_whites.new.heaps c.unlink_whites.new.heaps _ c.unlink_whites.ensures.heap
+    (node-keys-changed c.args.graph c.args.heaps.now c.root_whites.new.heaps _ c.root_whites.ensures.heap (node-keys c.args.graph c.args.heaps.now c.requires.order c.requires.held))
 
 -- the three passes are the end that the definitions have
 ended : (g : given.Over) (c : goal.After-unroot_whites g) → c.unroot_whites.new.heaps ≡ left_with c.args.heaps.now (take_away (whites_of c.args.graph c.args.heaps.now.heap) c.args.heaps.now.heap).heap

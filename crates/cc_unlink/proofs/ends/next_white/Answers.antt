@@ -1,11 +1,6 @@
-use Rattle.std.proofs.Common.{Some, ◌∙◌, sym}
+use Rattle.std.proofs.Common.{◌∙◌, sym}
 use Rattle.std.proofs.lemmas.Bool.{false≢true}
-use Rattle.cc_heaps.specs.Keyed.{number_at, the_number}
-use Rattle.cc_unlink.specs.Whites.{is_white_number}
-use Rattle.cc_heaps.specs.Holders.{native_numbers}
-use Rattle.cc_lists.proofs.RisingWalks.{LooksFrom-start, LooksFrom-next, left_from-fewer}
-use Rattle.cc_heaps.proofs.Content.{number-some}
-use Rattle.cc_unlink.proofs.NextWhite.{black-none, native_after-keyed, white-found, white-none}
+use Rattle.cc_unlink.proofs.NextWhite.{black-none, walking-start, walking-found, walking-next, walking-fewer, walking-none}
 use Rattle.cc_unlink.proofs.ends.next_white.Goals as goal
 
 pub returns-then-not-has_white-clause-number : goal.returns-then-not-has_white-clause-number
@@ -15,39 +10,34 @@ returns-then-not-has_white-clause-number c =
 
 pub loop-next-init : goal.loop-next-init
 loop-next-init c =
-    let heaps = c.args.heaps.now in
+    let e = c.native_node_after-next.ensures in
     record {
-      looks = LooksFrom-start (native_numbers heaps.heap.natives) c.requires.order.1.sound.well_formed.rising (is_white_number c.args.graph.now) _ _
-          (native_after-keyed heaps c.counted-counted.result.now c.args.after c.native_after-next.result c.counted-counted.ensures c.native_after-next.ensures.number);
-      live = rw c.counted-counted.ensures at c.native_after-next.ensures.live;
+      walking = walking-start c.args.graph.now c.args.heaps.now.heap _ c.number_of.result c.native_node_after-next.result
+          (rw c.counted-counted.ensures at c.number_of.ensures) e.next e.within e.small e.last;
     }
 
 pub loop-next-smaller : goal.loop-next-smaller
 loop-next-smaller c =
-    let heaps = c.args.heaps.now in
-    let live = rw c.in-Some.is at c.loop-next.invariant.live in
-    rw c.in-Some.is (left_from-fewer (native_numbers heaps.heap.natives) c.requires.order.1.sound.well_formed.rising (number_at heaps c.in-Some.key.0) _ (the_number heaps c.in-Some.key.0) (number-some (number_at heaps c.in-Some.key.0) live)
-    (native_after-keyed heaps c.counted-counted.result.now (Some c.in-Some.key) c.native_after-next-in-Some.result c.counted-counted.ensures c.native_after-next-in-Some.ensures.number))
+    let w = rw c.in-Some.is at c.loop-next.invariant.walking in
+    rw c.in-Some.is (walking-fewer c.args.graph.now c.args.heaps.now c.requires.order.0 c.requires.order.1 _ c.in-Some.native c.in-Some.node w
+    c.native_node_after-next-in-Some.result c.native_node_after-next-in-Some.ensures.next)
 
 pub loop-next-preserved : goal.loop-next-preserved
 loop-next-preserved c =
-    let heaps = c.args.heaps.now in
-    let live = rw c.in-Some.is at c.loop-next.invariant.live in
-    let looks = rw c.in-Some.is at c.loop-next.invariant.looks in
-    let white = rw c.counted-counted.ensures at (sym c.is_white.ensures ∙ c.if-is_white.false) in
+    let w = rw c.in-Some.is at c.loop-next.invariant.walking in
+    let e = c.native_node_after-next-in-Some.ensures in
+    let other = rw c.in_default-white_at.is at c.white_at.ensures.other in
     record {
-      looks = LooksFrom-next (native_numbers heaps.heap.natives) c.requires.order.1.sound.well_formed.rising (is_white_number c.args.graph.now) _ (number_at heaps c.in-Some.key.0) _ (the_number heaps c.in-Some.key.0) (number-some (number_at heaps c.in-Some.key.0) live) looks white
-          (native_after-keyed heaps c.counted-counted.result.now (Some c.in-Some.key) c.native_after-next-in-Some.result c.counted-counted.ensures c.native_after-next-in-Some.ensures.number);
-      live = rw c.counted-counted.ensures at c.native_after-next-in-Some.ensures.live;
+      walking = walking-next c.args.graph.now c.args.heaps.now c.requires.order.0 c.requires.order.1 _ c.in-Some.native c.in-Some.node w c.requires.keys
+          (rw c.counted-counted.ensures at other) c.native_node_after-next-in-Some.result e.next e.within e.small e.last;
     }
 
-pub returns-then-is_white-clause-number : goal.returns-then-is_white-clause-number
-returns-then-is_white-clause-number c =
-    let heaps = c.args.heaps.now in
-    let live = rw c.in-Some.is at c.loop-next.invariant.live in
-    let looks = rw c.in-Some.is at c.loop-next.invariant.looks in
-    let white = rw c.counted-counted.ensures at (sym c.is_white.ensures ∙ c.if-is_white.true) in
-    white-found c.args.graph.now heaps.heap _ (number_at heaps c.in-Some.key.0) live looks white
-
 pub returns-clause-number : goal.returns-clause-number
-returns-clause-number c = white-none c.args.graph.now c.args.heaps.now.heap _ (rw c.in_default.is at c.loop-next.invariant.looks)
+returns-clause-number c = walking-none c.args.graph.now c.args.heaps.now.heap _ (rw c.in_default.is at c.loop-next.invariant.walking)
+
+pub returns-in-Some-white_at-clause-number : goal.returns-in-Some-white_at-clause-number
+returns-in-Some-white_at-clause-number c =
+    let w = rw c.in-Some.is at c.loop-next.invariant.walking in
+    let white = rw c.in-Some-white_at.is at c.white_at.ensures.white in
+    walking-found c.args.graph.now c.args.heaps.now c.requires.order.0 c.requires.order.1 _ c.in-Some.native c.in-Some.node w c.in-Some-white_at.key.0 white.0
+    (rw c.counted-counted.ensures at white.1)

@@ -1,4 +1,5 @@
 use Rattle.cc_unlink.proofs.Rooting.{IsRooting-start, IsRooting-not_owned, IsRooting-next}
+use Rattle.cc_unlink.proofs.NodeKeys.{node-keys-changed}
 use Rattle.cc_unlink.proofs.ends.root_whites.Goals as goal
 
 pub loop-next-init : goal.loop-next-init
@@ -20,3 +21,6 @@ loop-next-preserved c = record {
   steps = (IsRooting-next (rw c.in-Some.is at c.loop-next.invariant.steps) c.next_white-next-in-Some.result
       c.next_white-next-in-Some.ensures.number c.next_white-next-in-Some.ensures.live c.root.ensures.heap c.root.ensures.order).0;
 }
+
+pub next_white-next-requires-in-Some-clause-keys : goal.next_white-next-requires-in-Some-clause-keys
+next_white-next-requires-in-Some-clause-keys c = node-keys-changed c.args.graph.now c.args.heaps.now c.loop-next.heaps c.loop-next.heaps.heap c.loop-next.invariant.steps.kept c.requires.keys

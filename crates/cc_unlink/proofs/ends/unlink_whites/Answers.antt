@@ -1,4 +1,5 @@
 use Rattle.cc_unlink.proofs.Unlinking.{IsUnlinking-start, IsUnlinking-owned, IsUnlinking-next}
+use Rattle.cc_unlink.proofs.NodeKeys.{node-keys-left}
 use Rattle.cc_unlink.proofs.ends.unlink_whites.Goals as goal
 
 pub loop-next-init : goal.loop-next-init
@@ -19,3 +20,6 @@ loop-next-preserved g c = record {
   steps = (IsUnlinking-next (rw c.in-Some.is at c.loop-next.invariant.steps) c.next_white-next-in-Some.result
       c.next_white-next-in-Some.ensures.number c.next_white-next-in-Some.ensures.live c.unlink.ensures.heap c.unlink.ensures.told c.unlink.ensures.order).0;
 }
+
+pub next_white-next-requires-in-Some-clause-keys : goal.next_white-next-requires-in-Some-clause-keys
+next_white-next-requires-in-Some-clause-keys g c = node-keys-left c.args.graph.now c.args.heaps.now c.loop-next.heaps c.loop-next.heaps.heap c.loop-next.invariant.steps.pass.kept c.requires.keys

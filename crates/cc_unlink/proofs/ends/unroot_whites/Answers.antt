@@ -1,5 +1,6 @@
 use Rattle.cc_unlink.proofs.Unrooting.{IsUnrooting-start, IsUnrooting-owned, IsUnrooting-next}
 use Rattle.cc_unlink.proofs.Passing.{whites_from}
+use Rattle.cc_unlink.proofs.NodeKeys.{node-keys-left}
 use Rattle.cc_unlink.proofs.ends.unroot_whites.Goals as goal
 
 pub loop-next-init : goal.loop-next-init
@@ -23,3 +24,6 @@ loop-next-preserved g c = record {
   steps = (IsUnrooting-next (rw c.in-Some.is at c.loop-next.invariant.steps) c.next_white-next-in-Some.result
       c.next_white-next-in-Some.ensures.number c.next_white-next-in-Some.ensures.live c.unroot.ensures.heap c.unroot.ensures.told c.unroot.ensures.order).0;
 }
+
+pub next_white-next-requires-in-Some-clause-keys : goal.next_white-next-requires-in-Some-clause-keys
+next_white-next-requires-in-Some-clause-keys g c = node-keys-left c.args.graph.now c.args.heaps.now c.loop-next.heaps c.loop-next.heaps.heap c.loop-next.invariant.steps.pass.kept c.requires.keys

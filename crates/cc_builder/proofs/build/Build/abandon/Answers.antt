@@ -19,7 +19,7 @@ loop-i-preserved c =
     }
 
 -- the candidates went back into the buffer
-given : (c : goal.After-drop-self-inside-5) → c.loop-i.heaps ≡ changed_to c.args.heaps.now (give_back (snapshot_of c.args.self).candidates c.args.heaps.now.heap)
+given : (c : goal.After-drop-self-inside-7) → c.loop-i.heaps ≡ changed_to c.args.heaps.now (give_back (snapshot_of c.args.self).candidates c.args.heaps.now.heap)
 given c =
     let b = c.args.self in
     let past : b.candidates ≤ c.loop-i.i = subst (λ (a : Built). a.candidates ≤ c.loop-i.i) c.self.view_is (omega (arith, c.loop-i-test.false)) in

@@ -1,0 +1,4 @@
+pub mod Places
+pub mod Putting
+pub mod Walking
+pub mod Numbers

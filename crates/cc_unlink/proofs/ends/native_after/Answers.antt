@@ -1,9 +1,0 @@
-use Rattle.std.proofs.Common.{◌∙◌}
-use Rattle.cc_counted.specs.Counts as counts
-use Rattle.cc_heaps.proofs.NextHolder.{number_after-above}
-use Rattle.cc_unlink.proofs.ends.native_after.Goals as goal
-
-pub returns-in-Some-clause-number : goal.returns-in-Some-clause-number
-returns-in-Some-clause-number c =
-    let live = rw c.in-Some.is at c.requires.live in
-    rw c.in-Some.is (c.next.ensures.number ∙ number_after-above c.args.counted.now (counts.number_at c.args.counted.now c.in-Some.key.0) live)
