@@ -24,7 +24,7 @@ use Rattle.cc_laws_heap.proofs.Giving.{quietly, cascade-done}
 use Rattle.cc_laws_heap.proofs.Cascades.{IsBalanced-at_rest, cascade-sound, cascade-frees}
 use Rattle.cc_laws_heap.proofs.HoldsTheSame.{HoldsTheSame-add_ref, native_names-alike}
 use Rattle.cc_laws_heap.proofs.Owning.{add_ref-sound}
-use Rattle.cc_laws_heap.proofs.Leaving.{Leave, Leave-refl, Leave-add_ref, Leave-trans, Leave-none, done-leaves, IsOf}
+use Rattle.cc_laws_heap.proofs.Leaving.{Leave, Leave-none, done-leaves, IsOf}
 use Rattle.cc_laws_heap.proofs.Staying.{done-stays}
 use Rattle.cc_laws_heap.proofs.Unlinking.{unlink-done, unlink-keeps}
 use Rattle.cc_laws_heap.proofs.EndingEvents.{TellsOf-freed, done-tells}
@@ -66,11 +66,6 @@ root_each-done all s (k ∷ ks) hand h there so =
     (root_each-done all s ks (k ∷ hand) next (λ j m. subst (λ xs. Among (native j) xs) (sym names) (there j (inr m)))
     (quietly (Ending all) s (stage hand [] h) (stage (k ∷ hand) [] next) [] so (besides (stage hand [] h) [] (stage (k ∷ hand) [] next) (raised hand h k (there k (inl refl))))))
     (besides (stage (ks ++ k ∷ hand) [] end) [] (stage (k ∷ (ks ++ hand)) [] end) (reordered (ks ++ k ∷ hand) (k ∷ (ks ++ hand)) end (times-inside k ks hand)))
-
--- and nothing leaves
-pub root_each-leaves : (ks : List ℕ) (h : Heap) → Leave h [] (root_each ks h)
-root_each-leaves [] h = Leave-refl h
-root_each-leaves (k ∷ ks) h = Leave-trans h [] (add_ref h k) [] (root_each ks (add_ref h k)) (Leave-add_ref h k) (root_each-leaves ks (add_ref h k))
 
 -- Unlinking and unrooting
 

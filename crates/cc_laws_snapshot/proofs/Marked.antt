@@ -1,15 +1,13 @@
 -- THE NAMES IN THE BUFFER after a mark was set.
-use Rattle.std.proofs.Common.{◌≡◌, ℕ, ◌≤◌, Bool, true, false, List, [], ◌∷◌, map, refl, sym, ◌∙◌, ap, subst, inl, inr, ◌⊎◌, ⊎_elim, ◌==◌}
+use Rattle.std.proofs.Common.{◌≡◌, ℕ, Bool, true, false, List, [], ◌∷◌, map, refl, sym, ◌∙◌, ap, subst, inl, inr, ◌⊎◌, ⊎_elim, ◌==◌}
 use Rattle.std.specs.List.{filter}
-use Rattle.std.proofs.lemmas.Bool.{eqb-true, eq-eqb}
+use Rattle.std.proofs.lemmas.Bool.{eqb-true}
 use Rattle.cc_lists.specs.Members.{Among}
 use Rattle.cc_lists.proofs.Members.{Among-map, Among-map_cases, Among-filter, Among-filtered, Among-passes}
-use Rattle.cc_lists.proofs.Counting.{count_by-some, counted_is}
 use Rattle.cc_names.specs.declared.name.Name.{Name}
-use Rattle.cc_names.specs.Names.{native, number_of}
+use Rattle.cc_names.specs.Names.{native}
 use Rattle.cc_model.specs.Heap.{Buffered, with_mark}
 use Rattle.cc_model.specs.View.{buffered}
-use Rattle.cc_laws_heap.specs.Balance.{has_place, places}
 
 -- the names in a buffer
 abbrev pub names_in : List Buffered → List Name
@@ -61,19 +59,3 @@ with_mark-keeps m k bs x i =
     (λ e. subst (λ y. Among y (names_in (with_mark m k bs))) (ap native (sym e) ∙ f.2) (with_mark-there m k bs))
     (λ t. subst (λ y. Among y (names_in (with_mark m k bs))) f.2 (Among-map buffered f.0 (with_mark m k bs) t))
     (with_mark-stays m k bs f.0 f.1)
-
--- a name stands in the buffer where it has a place
-pub places-named : (k : ℕ) (bs : List Buffered) → 1 ≤ places k bs → Among (native k) (names_in bs)
-places-named k bs some =
-    let f = counted_is (has_place k) bs some in
-    subst (λ j. Among (native j) (names_in bs)) (eqb-true f.0.number k f.2) (Among-map buffered f.0 bs f.1)
-
--- and has a place where it stands there
-pub named-places : (k : ℕ) (bs : List Buffered) → Among (native k) (names_in bs) → 1 ≤ places k bs
-named-places k bs m =
-    let f = Among-map_cases buffered bs (native k) m in
-    count_by-some (has_place k) f.0 bs f.1 (eq-eqb f.0.number k (ap number_of f.2))
-
--- what was marked has a place
-pub places-with_mark_some : (m : Bool) (k : ℕ) (bs : List Buffered) → 1 ≤ places k (with_mark m k bs)
-places-with_mark_some m k bs = named-places k (with_mark m k bs) (with_mark-there m k bs)

@@ -11,7 +11,7 @@ use Rattle.cc_model.specs.WellFormed.{native_names}
 use Rattle.cc_laws_heap.proofs.HoldsTheSame.{HoldsTheSame-add_ref, native_names-alike}
 use Rattle.cc_laws_heap.proofs.References.{times-append, times-cons, times-cons_same}
 use Rattle.cc_laws_heap.proofs.Rising.{IsRising-once}
-use Rattle.cc_laws_heap.proofs.TakingAway.{root_each-leaves}
+use Rattle.cc_laws_heap.proofs.Leaving.{Leave-add_ref}
 use Rattle.cc_graph.specs.Shown.{Shown}
 use Rattle.cc_heaps.specs.Keyed.{Keyed, IsInOrder, number_at, the_number, changed_to}
 use Rattle.cc_heaps.specs.Few.{IsNotOwned}
@@ -94,7 +94,7 @@ IsRooting-next {g} {first} {v} {key} i next e live {w} is order =
     names = native_names-alike v.heap h (HoldsTheSame-add_ref v.heap k)
 
     stays : whites_of g h ≡ whites_of g v.heap
-    stays = whites_of-stay g v.heap [] h (root_each-leaves (k ∷ []) v.heap)
+    stays = whites_of-stay g v.heap [] h (Leave-add_ref v.heap k)
         (λ j m. subst (λ xs. Among (native j) xs) (sym names) (whites_of-there g v.heap j m))
 
     left : whites_from g (changed_to v h) next ≡ whites_from g v next
