@@ -1,4 +1,4 @@
-//! Tests of the calls of `cc_counted`, `cc_heaps`, `cc_wrappers`, `cc_gc` and `cc_mutator`: what no clause says of them.
+//! Tests of the calls of `cc_counted` and `cc_heaps`: what no clause says of them.
 //!
 //! Each public call is made once where it can go well: no clause says that memory is there.
 //! A crate with tests is proved twice, so they stand here and not in those crates. Sequences of commands are worked examples
@@ -8,10 +8,4 @@
 #[cfg(test)]
 mod counted;
 #[cfg(test)]
-mod gc;
-#[cfg(test)]
 mod heaps;
-#[cfg(test)]
-mod mutator;
-#[cfg(test)]
-mod wrappers;
