@@ -1,5 +1,4 @@
-use Rattle.std.proofs.Common.{◌≡◌, ◌++◌, None, sym, ◌∙◌}
-use Rattle.cc_model.specs.Asks.{command_in}
+use Rattle.std.proofs.Common.{◌++◌, sym, ◌∙◌}
 use Rattle.cc_model.specs.Tokens.{tokens_of}
 use Rattle.cc_reader.specs.Words.{heap_forms, reflector_forms, register_forms, slot_forms}
 use Rattle.cc_reader.proofs.Reading.{command_in-first, command_in-rest}

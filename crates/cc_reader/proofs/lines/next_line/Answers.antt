@@ -1,5 +1,4 @@
 use Rattle.std.proofs.Common.{rules, arith, true, ◌≡◌, ◌<◌, ◌≤◌, ◌+◌, ℕ, List, [], ◌∷◌, ◌++◌, length, length-append, refl, sym, subst, ap, ◌∙◌}
-use Rattle.std.proofs.lemmas.Grind.{common_steps}
 use Rattle.cc_reader.specs.declared.lines.Line.TheVariants.{Text, TooLong, End}
 use Rattle.cc_reader.specs.Pending.{weight}
 use Rattle.cc_reader.specs.Given.{HasGiven}
