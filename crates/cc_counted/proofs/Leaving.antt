@@ -8,9 +8,6 @@ use Rattle.cc_counted.specs.Counts.{number_at, heap_of, key_left, reflectors_lef
 use Rattle.cc_counted.specs.Lists.{Placed, Lists, cell_at, reflector_placed, without_count, keyed, shown, counts_of, IsPlaced, LeavesCells, LeavesKeys}
 use Rattle.cc_counted.proofs.Places.{cell_number, number_at-cells, number_at-cell, number_at-found, one_key, native_at-cell, native-key}
 
-pub LeavesKeys-same : (cells : List (Option Placed)) → LeavesKeys cells cells
-LeavesKeys-same cells = record { as_many = refl; each = λ key. inr refl; reflectors = λ key c e. sym (ap reflector_placed e) }
-
 pub LeavesKeys-kept : (old new : List (Option Placed)) → length new ≡ length old → keyed new ≡ keyed old → map reflector_placed new ≡ map reflector_placed old → LeavesKeys old new
 LeavesKeys-kept old new n e r = record {
   as_many = n;

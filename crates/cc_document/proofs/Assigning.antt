@@ -72,9 +72,6 @@ module _ (g : Graph) where
 
 -- Nothing changed
 
-pub as_before-nothing : (g : Graph) → IsAsBefore (objects_of g) (objects_of g)
-as_before-nothing g = record { variables = λ v. refl; parents = λ e. refl; children = λ e i. refl; listeners = λ e. refl; attached = λ e. refl }
-
 pub as_before-then : (g k l : Graph) → IsAsBefore (objects_of g) (objects_of k) → IsAsBefore (objects_of k) (objects_of l) → IsAsBefore (objects_of g) (objects_of l)
 as_before-then g k l p q = record {
   variables = λ v. q.variables v ∙ p.variables v;

@@ -54,10 +54,6 @@ wrapping-reads g v enough =
       limits = t.limits;
     }
 
--- a closure stays in its register meanwhile
-pub closure-wrapped : (g : Graph) (v : ℕ) → length g.script_registers ≡ 256 → HasClosure g → HasClosure (wrapping v g)
-closure-wrapped g v enough n = record { number = n.number; held = (wrapping-reads g v enough).others 1 (λ e. cc) ∙ n.held }
-
 -- and it is as new as it was
 pub new_closure-wrapped : (g : Graph) (v : ℕ) → length g.script_registers ≡ 256 → HasNewClosure g → HasNewClosure (wrapping v g)
 new_closure-wrapped g v enough n =

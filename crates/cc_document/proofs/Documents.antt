@@ -104,20 +104,9 @@ entries-document : (g : Graph) (es : List Entry) → IsDocument g → IsDocument
 entries-document g es d = record { elements = d.elements; map_number = d.map_number; map_held = d.map_held; map_made = d.map_made }
 
 module _ (g : Graph) (d : IsDocument g) where
-  pub written-document : (v i : ℕ) (from : Option Reg) → IsDocument (written v i from g)
-  written-document v i from = slot-document g d (register g (N v)) i (source g from)
-
-  pub gone_to-document : (v : ℕ) (e : Option ℕ) → IsDocument (gone_to v e g)
-  gone_to-document v e = native_register-document g d v (elements e)
-
-  pub wrapping-document : (v : ℕ) → IsDocument (wrapping v g)
-  wrapping-document v = script_register-document (wrapped g (register g (N v))) (wrapped-document g d (register g (N v))) 2 (reflector_of (register g (N v))) (λ e. cc)
 
   pub without-document : (r : ℕ) → r ≢ 0 → IsDocument (without r g)
   without-document r ne = script_register-document g d r None ne
-
-  pub closing-document : IsDocument (closing g)
-  closing-document = slot-document g d (register g (S 1)) 0 (register g (S 2))
 
   pub making_closure-document : IsDocument (making_closure g)
   unfolding changed

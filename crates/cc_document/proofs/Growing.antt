@@ -33,17 +33,6 @@ made-then a b m n h g k s t = record {
   limits = t.limits ∙ s.limits;
 }
 
--- heaps that stand for one graph have made the same
-pub made-shown : (v w : Keyed) (b c : Option Built) (g : Graph) → Shows (parts v b) g → Shows (parts w c) g → AreMade 0 0 v.heap w.heap
-made-shown v w b c g s t =
-    let x = objects-stand v.heap g s.stands in
-    let y = objects-stand w.heap g t.stands in
-    record {
-      natives_made = omega (arith, x.natives_made, y.natives_made);
-      scripts_made = omega (arith, x.scripts_made, y.scripts_made);
-      limits = y.limits ∙ sym x.limits;
-    }
-
 -- Growing
 
 pub grows-nothing : (h : Heap) → Grows 0 h h

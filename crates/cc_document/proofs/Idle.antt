@@ -63,12 +63,6 @@ without-lets g e r = ⊎_elim
 
 -- Calls
 
-pub lets-then : (g k l : Graph) → LetsScripts (objects_of g) (objects_of k) → LetsScripts (objects_of k) (objects_of l) → LetsScripts (objects_of g) (objects_of l)
-lets-then g k l p q r = ⊎_elim (λ s. ⊎_elim (λ t. inl (s ∙ t)) (λ n. inr (s ∙ n)) (p r)) (λ n. inr n) (q r)
-
-pub without-left : (g : Graph) (e : ℕ) → LetsScripts (objects_of g) (objects_of (without e g))
-without-left g e r = ⊎_elim (λ t. inr t.1) (λ t. inl t.1) (without-lets g e r)
-
 pub appended-left : (g : Graph) (parent place child : ℕ) → LetsScripts (objects_of g) (objects_of (appended parent place child g))
 appended-left g parent place child r =
     let k = written child 0 (Some (N parent)) g in

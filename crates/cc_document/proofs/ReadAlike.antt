@@ -32,9 +32,6 @@ use Rattle.cc_document.specs.Shown.{Shows, parts}
 use Rattle.cc_document.proofs.Reached.{alike}
 
 module _ (v : Keyed) (c : Option Built) (g : Graph) (s : Shows (parts v c) g) where
-  -- a variable, and what slots of its element hold
-  pub variable-alike : (r : ℕ) → in_variable (heap.objects_of v.heap) r ≡ in_variable (graph.objects_of g) r
-  variable-alike r = (alike v c g s).register (N r)
 
   pub slot-alike : (r i : ℕ) → slot_of (heap.objects_of v.heap) (heap.register v.heap (N r)) i ≡ slot_of (graph.objects_of g) (graph.register g (N r)) i
   slot-alike r i = slot_at-alike (heap.objects_of v.heap) (graph.objects_of g) (alike v c g s) (N r) i

@@ -90,8 +90,3 @@ module _ (v w : Keyed) (c : Option Built) (of i : ℕ) (from : Option Reg) where
       source-alike : (r : Option Reg) → heap.source v.heap r ≡ graph.source g r
       source-alike None = refl
       source-alike (Some r) = (alike v c g s).register r
-
-  -- where the variable holds nothing, nothing is written
-  pub Shows-unwritten : heap.register v.heap (N of) ≡ None → (g : Graph) → Shows (parts v c) g → Shows (parts v c) (written of i from g)
-  Shows-unwritten none g s =
-      subst (Shows (parts v c)) (sym (ap (λ x. set_slot g x i (graph.source g from)) (sym ((alike v c g s).register (N of)) ∙ none))) s

@@ -35,12 +35,6 @@ same_node-true None (Some k) e = absurd (true≢false (sym e))
 same_node-true (Some i) None e = absurd (true≢false (sym e))
 same_node-true (Some i) (Some k) e = ap Some (eqb-true i k e)
 
-same_node-false : (n m : Option ℕ) → same_node n m ≡ false → n ≢ m
-same_node-false None None e s = true≢false e
-same_node-false None (Some k) e s = absurd (cc)
-same_node-false (Some i) None e s = absurd (cc)
-same_node-false (Some i) (Some k) e s = true≢false (sym (eq-eqb i k (same_Some i k s)) ∙ e)
-
 -- a member that is a node
 is_node-true : (o : Option ℕ) (i : ℕ) → is_node o i ≡ true → Some i ≡ o
 is_node-true None i e = absurd (true≢false (sym e))

@@ -61,19 +61,6 @@ script-changed ns ps k o given (Native n) = refl
 script-changed ns ps k o given (Script n) = given n.0
 script-changed ns ps k o given (Reflector n) = refl
 
-pub reflector-changed : (ns : Numbers) (ps : Pages) (k : NativeNo) (o : Option ℕ) → ((n : ℕ) → value_at ps n ≡ (if k.0 == n then o else value_at ns.reflectors n)) →
-    IsChangedAt ns (record ns { reflectors = ps }) o (Reflector k)
-reflector-changed ns ps k o given (Native n) = refl
-reflector-changed ns ps k o given (Script n) = refl
-reflector-changed ns ps k o given (Reflector n) = given n.0
-
--- where the values of the tables are the same, so are the numbers
-pub numbers-alike : (ns ms : Numbers) → ((n : ℕ) → value_at ms.natives n ≡ value_at ns.natives n) → ((n : ℕ) → value_at ms.scripts n ≡ value_at ns.scripts n) →
-    ((n : ℕ) → value_at ms.reflectors n ≡ value_at ns.reflectors n) → (x : Name) → number_at ms x ≡ number_at ns x
-numbers-alike ns ms natives scripts reflectors (Native n) = natives n.0
-numbers-alike ns ms natives scripts reflectors (Script n) = scripts n.0
-numbers-alike ns ms natives scripts reflectors (Reflector n) = reflectors n.0
-
 -- where none has a value, no name has a number
 pub numbers-none : (ns : Numbers) → ((n : ℕ) → value_at ns.natives n ≡ None) → ((n : ℕ) → value_at ns.scripts n ≡ None) → ((n : ℕ) → value_at ns.reflectors n ≡ None) →
     (x : Name) → number_at ns x ≡ None

@@ -20,7 +20,7 @@ use Rattle.cc_graph.specs.declared.chain.Chain.{Chain}
 use Rattle.cc_graph.specs.declared.mapping.Mapping.{Mapping}
 use Rattle.cc_graph.specs.declared.node.Node.{Node}
 use Rattle.cc_graph.specs.declared.reference.Reference.{Reference}
-use Rattle.cc_graph.specs.Shown.{Vertex, Edge, Hyperedge, Rooms, Shown, change_vertex, edges_to, number_of, place_from, vertex, with_black, with_vertex}
+use Rattle.cc_graph.specs.Shown.{Vertex, Edge, Hyperedge, Rooms, Shown, change_vertex, edges_to, number_of, place_from, with_black}
 use Rattle.cc_graph.specs.Closed.{IsHyperedgeWithin, AreHyperedgesWithin, IsWithin, IsClosed}
 use Rattle.cc_graph.specs.Kept.{added, with_black_node, with_node, with_next, with_reference, vertex_of, edge_of, hyperedge_of, vertices, edges, hyperedges, chain_of, but_mapping, but_mappings, IsLast, AreReferences, AreMappings, IsWhole}
 use Rattle.cc_graph.proofs.Lists.{each-set, each-added, among-at}
@@ -172,14 +172,6 @@ number-with ks x h = go (number_of (vertices ks) x) refl
     go : (o : Option ℕ) → number_of (vertices ks) x ≡ o → number_of (vertices (elim o [ Some i ↦ ks | None ↦ ks ++ added x h ∷ [] ])) x ≡ Some (unwrap_or o (length ks))
     go (Some i) e = e
     go None e = number-added ks x h e
-
--- and is shown
-pub vertices-with : (ks : List Node) (x : Name) (h : Held) → vertices (with_node ks x h) ≡ with_vertex (vertices ks) x h
-vertices-with ks x h = go (number_of (vertices ks) x)
-  where
-    go : (o : Option ℕ) → vertices (elim o [ Some i ↦ ks | None ↦ ks ++ added x h ∷ [] ]) ≡ elim o [ Some i ↦ vertices ks | None ↦ vertices ks ++ vertex x h ∷ [] ]
-    go (Some i) = refl
-    go None = vertices-pushed ks (added x h)
 
 -- a node changes, but for what is kept of references and mappings
 pub whole-put : (ks : List Node) (rs : List Reference) (ms : List Mapping) (loose : Chain) (bs : List ℕ) (i : ℕ) (d y : Node) → IsWhole ks rs ms loose bs → i < length ks →

@@ -84,10 +84,6 @@ pub record Keeps (h g : Heap) : Type 0 where
   pub follows : Follows h g
   pub suspected : Remembers h g
 
--- where nothing changes
-pub Keeps-same : (h g : Heap) → g ≡ h → Keeps h g
-Keeps-same h g e = subst (λ k. Keeps h k) (sym e) (record { follows = record { colours = λ c. c; fresh = λ s f. f }; suspected = λ candidates s. s })
-
 -- a gentle change that keeps the colours
 Follows-from : (h g : Heap) → IsWellFormed h → IsWellFormed g → AreGentle h g → (IsColoured h → IsColoured g) → Follows h g
 Follows-from h g early late gentle coloured = record {

@@ -1,35 +1,22 @@
 -- THE WALKS OVER ROOTS: over registers, over the references of a native, and over natives by rising number.
-use Rattle.std.proofs.Common.{◌≡◌, ℕ, suc, ◌+◌, ◌<◌, ◌≤◌, true, List, [], ◌∷◌, ◌++◌, drop, get_or, length, nat_lt, Option, Some, None, IfSome, IsSome, refl, sym, ◌∙◌, ap, subst, inl, arith}
+use Rattle.std.proofs.Common.{◌≡◌, ℕ, suc, ◌<◌, ◌≤◌, true, List, [], ◌∷◌, ◌++◌, drop, length, nat_lt, Option, Some, None, IfSome, IsSome, refl, sym, ◌∙◌, ap, subst, inl, arith}
 use Rattle.std.specs.List.{filter}
-use Rattle.std.specs.Option.{option_and_then, option_map}
-use Rattle.std.proofs.lemmas.List.{at_drop_more, drop_all}
+use Rattle.std.specs.Option.{option_and_then}
 use Rattle.cc_lists.specs.Members.{Among}
 use Rattle.cc_lists.proofs.Members.{Among-filtered}
 use Rattle.cc_lists.proofs.Searching.{filter-true}
 use Rattle.cc_lists.specs.Walks.{is_above}
 use Rattle.cc_lists.proofs.RisingWalks.{above-first}
 use Rattle.cc_names.specs.declared.number.NKey.{NKey}
-use Rattle.cc_names.specs.declared.number.SKey.{SKey}
-use Rattle.cc_names.specs.Names.{native}
 use Rattle.cc_model.specs.Heap.{HeapNative}
-use Rattle.cc_model.specs.Slots.{Slots}
 use Rattle.cc_counted.specs.declared.held.Held.{Held}
 use Rattle.cc_counted.specs.declared.held.Held.TheVariants as held
-use Rattle.cc_counted.specs.Counts.{Counts, number_at, the_number, number_or_none, name_of, references_of, first_number, number_after}
+use Rattle.cc_counted.specs.Counts.{Counts, number_at, the_number, number_or_none, references_of, first_number, number_after}
 use Rattle.cc_counted.specs.Owning.{HasKeys}
-use Rattle.cc_heaps.specs.Roots.{keys_in_registers, keys_in, references_in, keys_held, natives_behind, keys_from, HaveFewSlots, IsPlace}
+use Rattle.cc_heaps.specs.Roots.{keys_in, references_in, keys_held, natives_behind, keys_from, HaveFewSlots, IsPlace}
 use Rattle.cc_heaps.proofs.References.{references-found}
 
 -- Registers
-
--- register i, and those behind it
-pub keys_in_registers-more : (xs : List (Option SKey)) (i : ℕ) (x : Option SKey) → i < length xs → get_or xs i None ≡ x →
-    keys_in_registers (drop i xs) ≡ keys_in_registers (x ∷ drop (i + 1) xs)
-keys_in_registers-more xs i x h e = at_drop_more keys_in_registers xs i None h ∙ ap (λ y. keys_in_registers (y ∷ drop (i + 1) xs)) e
-
--- no register is left
-pub keys_in_registers-end : (xs : List (Option SKey)) (i : ℕ) → length xs ≤ i → keys_in_registers (drop i xs) ≡ []
-keys_in_registers-end xs i h = ap keys_in_registers (drop_all i xs h)
 
 -- References of a native
 
@@ -38,26 +25,6 @@ abbrev pub key_of_held : Option Held → List ℕ
 key_of_held None = []
 key_of_held (Some (held.Native key)) = []
 key_of_held (Some (held.Script key)) = key.0 ∷ []
-
--- the first reference, and those behind it
-keys_in-cons : (c : Counts) (x : Option Held) (ys : Slots) → keys_in (name_of c x ∷ ys) ≡ key_of_held x ++ keys_in ys
-keys_in-cons c None ys = refl
-keys_in-cons c (Some (held.Script key)) ys = refl
-keys_in-cons c (Some (held.Native key)) ys = go (number_at c key.0)
-  where
-    go : (o : Option ℕ) → keys_in (option_map native o ∷ ys) ≡ keys_in ys
-    go None = refl
-    go (Some k) = refl
-
--- reference i, and those behind it
-pub keys_in-more : (c : Counts) (xs : Slots) (i : ℕ) (x : Option Held) → i < length xs → name_of c x ≡ get_or xs i None →
-    keys_in (drop i xs) ≡ key_of_held x ++ keys_in (drop (i + 1) xs)
-keys_in-more c xs i x h e =
-    at_drop_more keys_in xs i None h ∙ (ap (λ y. keys_in (y ∷ drop (i + 1) xs)) (sym e) ∙ keys_in-cons c x (drop (i + 1) xs))
-
--- no reference is left
-pub keys_in-end : (xs : Slots) (i : ℕ) → length xs ≤ i → keys_in (drop i xs) ≡ []
-keys_in-end xs i h = ap keys_in (drop_all i xs h)
 
 -- Natives by rising number
 

@@ -123,11 +123,6 @@ dropped-sound = (left_by-runs dropped_script).sound
 pub dropped-suspected : IsSuspectedNow dropped
 dropped-suspected = left_by-suspected dropped_script
 
--- The first native alone is purple.
-dropped-purple : dropped_view.purple ≡ native 1 ∷ []
-unfolding all_of_a_run
-dropped-purple = refl
-
 -- The second native is in them.
 pub dropped-living : IsLiving dropped_view (native 2)
 unfolding all_of_a_run

@@ -40,9 +40,6 @@ read-added f none xs ys added k = ⊎_elim
     (λ new. ap (option_and_then f) new.there ∙ (none new.list new.empty ∙ sym (ap (option_and_then f) new.vacant)))
     (added k)
 
-pub added-none : {X Z : Type 0} (xs : List (Vec X Z)) → HasEmpty xs xs
-added-none xs k = inl refl
-
 got-pushed : {X : Type 0} (xs : List X) (y : X) (k : ℕ) → (slice_get (xs ++ y ∷ []) k ≡ slice_get xs k) ⊎ ((slice_get xs k ≡ None) × (slice_get (xs ++ y ∷ []) k ≡ Some y))
 got-pushed [] y zero = inr (refl, refl)
 got-pushed [] y (suc k) = inl refl

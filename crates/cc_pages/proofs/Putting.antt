@@ -2,7 +2,6 @@
 use Rattle.std.specs.Prelude.{Vec}
 use Rattle.std.proofs.Common.{◌≡◌, ◌≢◌, ℕ, ◌/◌, ◌%◌, ◌<◌, ◌≤◌, ◌==◌, List, [], ◌∷◌, length, get_or, set, slice_get, zero, suc, Option, None, option_and_then, if◌then◌else◌, refl, sym, ◌∙◌, ap, subst, ⊎_elim, arith}
 use Rattle.std.proofs.lemmas.Bool.{cases_lt, eq-eqb, ne_eqb}
-use Rattle.std.proofs.lemmas.Option.{slice_get_past}
 use Rattle.std.proofs.lemmas.Bool.Decides.{eqb_tells}
 use Rattle.cc_pages.specs.Values.{HasEmpty, in_group, in_groups, in_page}
 use Rattle.cc_pages.proofs.Places.{read-at, read-written, read-other, read-added}
@@ -25,13 +24,6 @@ page-filled os ns n more count same none i = ⊎_elim
     (λ end. page-past ns i (omega (arith, count, end)) ∙ sym (page-past os i past))
     (cases_lt i n))
     (cases_lt i (length os))
-
--- and none is taken away there
-pub past-none : (os : List (Option ℕ)) (place i : ℕ) → length os ≤ place → get_or os i None ≡ (if place == i then None else get_or os i None)
-past-none os place i past = ⊎_elim
-    (λ t. let there : length os ≤ i = omega (arith, past, t.1) in page-past os i there ∙ sym (rw t.0 refl))
-    (λ f. rw f.0 refl)
-    (eqb_tells place i)
 
 pub chosen : {A : Type 0} (place : ℕ) (x y : A) → (if place == place then x else y) ≡ x
 chosen place x y = rw (eq-eqb place place refl) refl
@@ -103,10 +95,6 @@ module _ {X Y : Type 0} (gs : List (Vec (Vec (Option ℕ) X) Y)) (m : ℕ) (d y 
 pub groups-added : {X Y : Type 0} (gs hs : List (Vec (Vec (Option ℕ) X) Y)) → HasEmpty gs hs → (n : ℕ) → in_groups hs n ≡ in_groups gs n
 groups-added {X = X} {Y = Y} gs hs added n =
     read-added (λ (g : Vec (Vec (Option ℕ) X) Y). in_group g.items (n / 128 % 128) (n % 128)) (λ g e. ap (λ (ps : List (Vec (Option ℕ) X)). in_group ps (n / 128 % 128) (n % 128)) e) gs hs added (n / 128 / 128)
-
--- past them no number has one
-pub groups-past : {X Y : Type 0} (gs : List (Vec (Vec (Option ℕ) X) Y)) (n : ℕ) → length gs ≤ n / 128 / 128 → in_groups gs n ≡ None
-groups-past {X = X} {Y = Y} gs n past = ap (option_and_then (λ (g : Vec (Vec (Option ℕ) X) Y). in_group g.items (n / 128 % 128) (n % 128))) (slice_get_past gs (n / 128 / 128) past)
 
 pub groups-none : {X Y : Type 0} (gs : List (Vec (Vec (Option ℕ) X) Y)) (n : ℕ) → gs ≡ [] → in_groups gs n ≡ None
 groups-none {X = X} {Y = Y} gs n none = ap (λ (hs : List (Vec (Vec (Option ℕ) X) Y)). in_groups hs n) none

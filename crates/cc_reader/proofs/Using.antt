@@ -13,10 +13,6 @@ take-two xs ys n h =
     let e : n ≡ length xs + (n - length xs) = omega arith in
     ap (λ k. take k (xs ++ ys)) e ∙ take-append-add xs ys (n - length xs)
 
--- nothing was used
-pub Uses-nothing : (now : Option (List ℕ)) (p : Pending) → Uses now now p p []
-Uses-nothing now p = λ start used h. subst (HasUsed start now p) (sym (append-nil used)) h
-
 -- where nothing is pending and no more was taken than the limit, all that was taken was used
 pub used-all : (start now : Option (List ℕ)) (p : Pending) (used : List ℕ) (h : HasUsed start now p used) → p.bytes ≡ [] → p.taken ≤ p.limit → used ≡ h.given
 used-all start now p used h e l =

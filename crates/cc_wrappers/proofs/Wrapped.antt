@@ -123,11 +123,6 @@ module _ {owned : List ℕ} (v w : Keyed) (p : IsInOrder owned w) (k : ℕ) (non
 
 -- Natives of reflectors
 
--- a key that was found where a number was asked for
-pub key-of_result : (result : Option NKey) (q : ℕ) → option_map (λ (k : NKey). k.0) result ≡ Some q → (k : NKey) × (result ≡ Some k) × (k.0 ≡ q)
-key-of_result None q e = absurd (cc)
-key-of_result (Some k) q e = let same : k.0 ≡ q = cc in (k, refl, same)
-
 -- WHAT AN OBJECT HAS FOR A NATIVE is the native that it stands for, where it is a reflector.
 pub record IsBehind (v : Keyed) (result : Option NKey) (x : Option Name) : Type 0 where
   pub name : native_name v result ≡ native_of x
