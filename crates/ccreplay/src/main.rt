@@ -34,22 +34,17 @@ fn words(rt: &HostRuntime) -> Result<Vec<String>, Status> {
 }
 
 /// Does what the words say: replays the script of standard input, or a made one, to standard output.
-fn replay<'a>(rt: &HostRuntime, words: &'a [&'a str]) -> Status {
-    let mut source = StdSource::new(rt.stdin());
-    let mut sink = StdSink::new(rt.stdout());
-    run(rt.alloc(), words, &mut source, &mut sink)
-}
-
-/// Does what the words say, where there is memory to hand them on.
-fn replay_words(rt: &HostRuntime, words: &Vec<String>) -> Status {
-    match words
+fn replay(rt: &HostRuntime, words: &Vec<String>) -> Status {
+    let Ok(words) = words
         .iter()
         .map(|word| word.as_str())
         .collect::<Vec<&str>>(rt.alloc())
-    {
-        Ok(words) => replay(rt, words.as_slice()),
-        Err(_) => Status::NoMemory,
-    }
+    else {
+        return Status::NoMemory;
+    };
+    let mut source = StdSource::new(rt.stdin());
+    let mut sink = StdSink::new(rt.stdout());
+    run(rt.alloc(), words.as_slice(), &mut source, &mut sink)
 }
 
 /// The line on standard error for a run that was not done.
@@ -66,7 +61,7 @@ fn complaint(status: Status) -> Option<&'static str> {
 
 fn main(rt: HostRuntime) -> ExitCode {
     let status = match words(&rt) {
-        Ok(words) => replay_words(&rt, &words),
+        Ok(words) => replay(&rt, &words),
         Err(status) => status,
     };
     if let Some(line) = complaint(status) {
