@@ -1,6 +1,6 @@
 use Rattle.std.proofs.Common.{[]}
 use Rattle.cc_heaps.proofs.FewCounts.{none-owned}
-use Rattle.cc_tests_heaps.proofs.wrappers.preserve_first.Goals as goal
+use Rattle.cc_tests_mutator.proofs.wrappers.preserve_first.Goals as goal
 
 pub wrap-requires-clause-order : goal.wrap-requires-clause-order
 wrap-requires-clause-order c = none-owned c.args.heaps.now c.requires.order

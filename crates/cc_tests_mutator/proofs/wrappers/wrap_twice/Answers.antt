@@ -1,6 +1,6 @@
 use Rattle.std.proofs.Common.{[]}
 use Rattle.cc_heaps.proofs.FewCounts.{none-owned}
-use Rattle.cc_tests_heaps.proofs.wrappers.wrap_twice.Goals as goal
+use Rattle.cc_tests_mutator.proofs.wrappers.wrap_twice.Goals as goal
 
 pub wrap-first-requires-clause-order : goal.wrap-first-requires-clause-order
 wrap-first-requires-clause-order c = none-owned c.args.heaps.now c.requires.order

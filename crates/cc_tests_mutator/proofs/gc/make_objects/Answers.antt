@@ -1,5 +1,5 @@
 use Rattle.std.proofs.Common.{[]}
-use Rattle.cc_tests_heaps.proofs.gc.make_objects.Goals as goal
+use Rattle.cc_tests_mutator.proofs.gc.make_objects.Goals as goal
 
 pub new_plain-second-requires-clause-order : goal.new_plain-second-requires-clause-order
 new_plain-second-requires-clause-order c = ([], c.new_plain-first.ensures.order [] c.requires)

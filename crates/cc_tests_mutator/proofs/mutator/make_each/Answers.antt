@@ -1,6 +1,6 @@
 use Rattle.std.proofs.Common.{[]}
 use Rattle.cc_heaps.proofs.FewCounts.{none-owned}
-use Rattle.cc_tests_heaps.proofs.mutator.make_each.Goals as goal
+use Rattle.cc_tests_mutator.proofs.mutator.make_each.Goals as goal
 
 pub apply-native-requires-clause-order : goal.apply-native-requires-clause-order
 apply-native-requires-clause-order c = none-owned c.args.heaps.now c.requires.order

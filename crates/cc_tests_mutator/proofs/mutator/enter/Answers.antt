@@ -1,6 +1,6 @@
 use Rattle.std.proofs.Common.{[]}
 use Rattle.cc_heaps.proofs.FewCounts.{none-owned}
-use Rattle.cc_tests_heaps.proofs.mutator.enter.Goals as goal
+use Rattle.cc_tests_mutator.proofs.mutator.enter.Goals as goal
 
 pub apply-reflector-requires-clause-order : goal.apply-reflector-requires-clause-order
 apply-reflector-requires-clause-order c = none-owned c.args.heaps.now c.requires.order
