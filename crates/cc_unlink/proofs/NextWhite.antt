@@ -34,7 +34,7 @@ whites_of-numbers g h = sym (filter-map (is_white_number g) (λ (n : HeapNative)
 -- Nodes
 
 -- the number of a node is below how many there are
-pub number_from-below : (i : ℕ) (vs : List Vertex) (x : Name) (j : ℕ) → number_from i vs x ≡ Some j → j < i + length vs
+number_from-below : (i : ℕ) (vs : List Vertex) (x : Name) (j : ℕ) → number_from i vs x ≡ Some j → j < i + length vs
 number_from-below i [] x j e = absurd (cc)
 number_from-below i (v ∷ vs) x j e = go (number_from-below (suc i) vs x j) (same_name v.name x) e
   where
