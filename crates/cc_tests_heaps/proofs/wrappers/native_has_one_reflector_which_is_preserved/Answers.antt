@@ -1,5 +1,0 @@
-use Rattle.std.proofs.Common.{[]}
-use Rattle.cc_tests_heaps.proofs.wrappers.native_has_one_reflector_which_is_preserved.Goals as goal
-
-pub wrap_twice-wrapped-requires : goal.wrap_twice-wrapped-requires
-wrap_twice-wrapped-requires g c = record { order = c.new_native.ensures.order [] c.in-Ok.ensures.order }

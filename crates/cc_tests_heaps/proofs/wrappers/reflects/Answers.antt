@@ -1,0 +1,5 @@
+use Rattle.std.proofs.Common.{[]}
+use Rattle.cc_tests_heaps.proofs.wrappers.reflects.Goals as goal
+
+pub wrap_twice-wrapped-requires : goal.wrap_twice-wrapped-requires
+wrap_twice-wrapped-requires c = record { order = c.new_native.ensures.order [] c.in-Ok.ensures.order }
