@@ -1,0 +1,11 @@
+use Rattle.std.proofs.Common.{[]}
+use Rattle.cc_heaps.proofs.FewCounts.{none-owned}
+use Rattle.cc_tests_embedding.proofs.rows.hold_itself.Goals as goal
+
+pub store_native-requires-clause-order : goal.store_native-requires-clause-order
+store_native-requires-clause-order c = none-owned c.args.heaps.now c.requires.order
+
+pub returns-then-slots-eq1 : goal.returns-then-slots-eq1
+returns-then-slots-eq1 c =
+    let e = c.store_native.ensures in
+    record { order = e.order [] c.requires.order; colours = e.colours tt c.requires.colours; goes_on = tt }
