@@ -5,18 +5,17 @@ use Rattle.std.proofs.lemmas.List.{length-set, get_or-set_other}
 use Rattle.cc_names.specs.declared.name.Name.{Name}
 use Rattle.cc_names.specs.declared.name.Name.TheVariants as name
 use Rattle.cc_names.specs.declared.register.Reg.TheVariants.{N, S}
-use Rattle.cc_names.specs.declared.register.Reg.{Reg}
 use Rattle.cc_names.specs.Names.{native, object}
 use Rattle.cc_model.specs.declared.command.Command.TheVariants.{Native, Script}
 use Rattle.cc_model.specs.declared.item.Refusal.{Refusal}
 use Rattle.cc_model.specs.Slots.{empty_slots}
 use Rattle.cc_model.specs.Entries.{Entry, with_entry, without_entry}
-use Rattle.cc_model.specs.Checks.{refusal_of, reflector_of}
-use Rattle.cc_model.specs.Graph.{Graph, GraphNative, GraphScript, plain_object, weak_map, numbered, native_in, script_in, objects_of, register, source, set_register, set_native, set_script, set_slot, with_slot, with_reflector_slot, as_preserved, as_wrapped, with_script_slot, with_native, with_script, wrapped, preserve, set_entry, changed, unless_refused}
+use Rattle.cc_model.specs.Checks.{refusal_of}
+use Rattle.cc_model.specs.Graph.{Graph, GraphNative, GraphScript, plain_object, weak_map, numbered, native_in, script_in, objects_of, set_register, set_native, set_script, set_slot, with_slot, with_reflector_slot, as_preserved, as_wrapped, with_script_slot, with_native, with_script, wrapped, preserve, set_entry, changed, unless_refused}
 use Rattle.cc_laws_heap.proofs.GraphWrites.{set_native-is, set_script-is}
 use Rattle.cc_laws_heap.proofs.Numbered.{change_numbered, numbered-change, numbered-change_other, numbered-push_old, numbered-push_cases}
-use Rattle.cc_document.specs.Words.{element_slots, elements}
-use Rattle.cc_document.specs.Shown.{IsDocument, written, gone_to, made_in, wrapping, without, making_closure, closing}
+use Rattle.cc_document.specs.Words.{element_slots}
+use Rattle.cc_document.specs.Shown.{IsDocument, made_in, without, making_closure}
 
 module _ (g : Graph) (d : IsDocument g) where
   -- a native changed, with as many slots as before
@@ -104,7 +103,6 @@ entries-document : (g : Graph) (es : List Entry) → IsDocument g → IsDocument
 entries-document g es d = record { elements = d.elements; map_number = d.map_number; map_held = d.map_held; map_made = d.map_made }
 
 module _ (g : Graph) (d : IsDocument g) where
-
   pub without-document : (r : ℕ) → r ≢ 0 → IsDocument (without r g)
   without-document r ne = script_register-document g d r None ne
 

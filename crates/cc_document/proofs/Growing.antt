@@ -15,12 +15,7 @@ use Rattle.cc_model.specs.Exposure.{exposed, exposed_names, as_black}
 use Rattle.cc_model.specs.Effects.{hold_script, make_object, set_entry, with_reflector, with_script, wrapped}
 use Rattle.cc_model.specs.WellFormed.{native_names, script_names, names_there}
 use Rattle.cc_laws_heap.proofs.Natives.{native_names-change}
-use Rattle.cc_laws_heap.proofs.RepliesAlike.{objects-stand}
-use Rattle.cc_model.specs.Graph.{Graph}
-use Rattle.cc_heaps.specs.Keyed.{Keyed}
-use Rattle.cc_builder.specs.Building.{Built}
 use Rattle.cc_document.specs.Told.{AreMade, Grows, NoneCame, NothingLeft}
-use Rattle.cc_document.specs.Shown.{Shows, parts}
 
 -- nothing was made
 pub made-nothing : (h : Heap) → AreMade 0 0 h h

@@ -27,12 +27,11 @@ use Rattle.cc_laws_heap.proofs.RepliesAlike.{slot_at-alike}
 use Rattle.cc_laws_heap.proofs.Shapes.{slots_of_shape, slots_in-graph, slots_in-heap}
 use Rattle.cc_heaps.specs.Keyed.{Keyed}
 use Rattle.cc_builder.specs.Building.{Built}
-use Rattle.cc_document.specs.Words.{in_variable, element_of, slot_of, spoken_of, listener_of, data_of}
+use Rattle.cc_document.specs.Words.{element_of, slot_of, spoken_of, listener_of, data_of}
 use Rattle.cc_document.specs.Shown.{Shows, parts}
 use Rattle.cc_document.proofs.Reached.{alike}
 
 module _ (v : Keyed) (c : Option Built) (g : Graph) (s : Shows (parts v c) g) where
-
   pub slot-alike : (r i : ℕ) → slot_of (heap.objects_of v.heap) (heap.register v.heap (N r)) i ≡ slot_of (graph.objects_of g) (graph.register g (N r)) i
   slot-alike r i = slot_at-alike (heap.objects_of v.heap) (graph.objects_of g) (alike v c g s) (N r) i
 

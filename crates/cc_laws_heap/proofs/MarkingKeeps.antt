@@ -1,5 +1,5 @@
 -- MARKING KEEPS THE HEAPS SOUND, AND A ROUND DOES: no clause speaks of a colour.
-use Rattle.std.proofs.Common.{◌≡◌, ℕ, ◌+◌, List, [], refl, sym, ◌∙◌, ap}
+use Rattle.std.proofs.Common.{◌≡◌, ℕ, ◌+◌, List, refl, sym, ◌∙◌, ap}
 use Rattle.cc_names.specs.declared.name.Name.{Name}
 use Rattle.cc_names.specs.Names.{reflector, same_name}
 use Rattle.cc_model.specs.Heap.{Heap, HeapScript}

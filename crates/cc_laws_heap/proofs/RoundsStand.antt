@@ -1,6 +1,6 @@
 -- A SCRIPT COLLECTION KEEPS STANDING FOR THE GRAPH: what the graph reaches is marked, where it is a script object, and
 -- what well formed heaps mention is there.
-use Rattle.std.proofs.Common.{◌≡◌, ℕ, Bool, true, false, not, ◌||◌, List, [], refl, sym, ◌∙◌, ap, subst, inl}
+use Rattle.std.proofs.Common.{◌≡◌, ℕ, Bool, true, false, not, ◌||◌, List, refl, sym, ◌∙◌, ap, subst, inl}
 use Rattle.cc_lists.specs.Members.{Among, has}
 use Rattle.cc_lists.proofs.Members.{Among-map_cases}
 use Rattle.cc_names.specs.declared.name.Name.{Name}
