@@ -1,5 +1,6 @@
 #!/usr/bin/env python3
-"""Times the program on scripts that this file makes, and prints one table in Markdown. Not part of the gate.
+"""Times the program on scripts that this file makes, and prints one table in Markdown; or counts its instructions. Not
+part of the gate.
 
 Build the program first (it stays as crates/ccreplay/out/ccreplay), and then name the sizes, or none for 1000 2000 4000:
 
@@ -21,9 +22,17 @@ or traversed, where they are live. The whole script is timed, and the first part
 
 Each run's output is checked before it counts: status 0, one reply a line, none of them a refusal, and as many `- free`
 and `- unlink` lines as the shape must have.
+
+    bench/bench.py --count [SIZE ..]
+
+counts in place of timing, by callgrind (valgrind): the instructions of the four commands that make a native that holds
+itself, drop it and collect it, beside SIZE natives that live (1000 10000 100000 if left out). Each count is the difference
+of two scripts, with these commands and without. The machine's noise is not in it. The largest size takes some seconds a
+script.
 """
 
 import os
+import re
 import subprocess
 import sys
 import tempfile
@@ -224,12 +233,71 @@ class Script:
         self.quickest = min(self.quickest, took)
 
 
+# a native that holds itself is made, let go, and collected
+SELF_CYCLE = ["native n255 1", "set n255 0 n255", "drop n255", "collect"]
+
+# what is in the heaps besides: how many of the natives hold a script object each, which a script collection made gray
+BESIDE = [
+    ("nothing else", 0),
+    ("one gray script object", 1),
+    ("1,000 holders", 1000),
+]
+
+
+def living_chain(size, holders):
+    """A chain that lives, of which so many natives hold a script object. All script objects are gray, and nothing is
+    suspected any more."""
+    lines = []
+    for k in range(size):
+        to, before = ("n2", "n1") if k % 2 else ("n1", "n2")
+        lines += [f"native {to} 2"]
+        if k > 0:
+            lines += [f"set {to} 0 {before}"]
+        if k < holders:
+            lines += ["script s0 0", f"set {to} 1 s0"]
+    if holders > 0:
+        lines += ["drop s0", "gc"]
+    return lines + ["collect"]
+
+
+def instructions(path):
+    """How many instructions the program takes for a script, with its start."""
+    with open(path, "rb") as script:
+        tool = ["valgrind", "--tool=callgrind", "--callgrind-out-file=/dev/null"]
+        ran = subprocess.run(tool + [PROGRAM, "replay"], stdin=script, stdout=subprocess.DEVNULL, stderr=subprocess.PIPE)
+    found = re.search(rb"Collected : (\d+)", ran.stderr)
+    if ran.returncode or not found:
+        sys.exit(f"bench: callgrind ended with status {ran.returncode}")
+    return int(found.group(1))
+
+
+def count(sizes):
+    """Prints what the self-cycle's commands take beside living natives."""
+    print("| a native that holds itself, beside | " + " | ".join(f"{size:,} that live" for size in sizes) + " |")
+    print("|---|" + "---:|" * len(sizes))
+    with tempfile.TemporaryDirectory(prefix="ccreplay-bench-") as folder:
+        for name, holders in BESIDE:
+            taken = []
+            for size in sizes:
+                build = living_chain(size, min(holders, size))
+                first = Script(f"{folder}/first", build, 0, 0)
+                both = Script(f"{folder}/both", build + SELF_CYCLE, 1, 1)
+                for script in (first, both):
+                    script.run(f"{folder}/said")
+                taken.append(instructions(both.path) - instructions(first.path))
+            print(f"| {name} | " + " | ".join(f"{it:,}" for it in taken) + " |", flush=True)
+
+
 def main():
-    sizes = sorted({int(it) for it in sys.argv[1:]}) or [1000, 2000, 4000]
+    counts = sys.argv[1:2] == ["--count"]
+    default = [1000, 10000, 100000] if counts else [1000, 2000, 4000]
+    sizes = sorted({int(it) for it in sys.argv[1 + counts :]}) or default
     if any(it < 4 or it % 2 for it in sizes):
         sys.exit("bench: sizes are even, and at least 4")
     if not os.access(PROGRAM, os.X_OK):
         sys.exit(f"bench: there is no program {PROGRAM}: build it, or name one in CCREPLAY")
+    if counts:
+        return count(sizes)
     shapes = [it for it in SHAPES if not (ONLY and not any(part in it[0] for part in ONLY) or any(part in it[0] for part in EXCEPT))]
     with tempfile.TemporaryDirectory(prefix="ccreplay-bench-") as folder:
         rows = []

@@ -1,3 +1,4 @@
+pub mod Looks
 pub mod NextWhite
 pub mod NodeKeys
 pub mod Passing

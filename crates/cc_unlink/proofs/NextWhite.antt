@@ -58,7 +58,7 @@ number_from-node i (v ∷ vs) x j e = go (number_from-node (suc i) vs x j) (same
     go ih true t e = let same : i ≡ j = cc in (zero, omega arith, record { node = v; there = refl; name = same_name-true v.name x t })
     go ih false t e = let f = ih e in (suc f.0, omega (arith, f.1), record { node = f.2.node; there = f.2.there; name = f.2.name })
 
-number_of-node : (vs : List Vertex) (x : Name) (j : ℕ) → number_of vs x ≡ Some j → IsNodeOf vs x j
+pub number_of-node : (vs : List Vertex) (x : Name) (j : ℕ) → number_of vs x ≡ Some j → IsNodeOf vs x j
 number_of-node vs x j e =
     let f = number_from-node 0 vs x j e in
     let place : f.0 ≡ j = omega (arith, f.1) in
@@ -89,11 +89,11 @@ black-none g h at none =
 -- A WALK over the natives that are nodes, by rising number, for the first that is white
 
 -- what is above a number is from the next on
-above-behind : (at : Option ℕ) (j : ℕ) → is_above at j ≡ true → behind at ≤ j
+pub above-behind : (at : Option ℕ) (j : ℕ) → is_above at j ≡ true → behind at ≤ j
 above-behind None j e = omega arith
 above-behind (Some k) j e = let l : k < j = ltb-true k j e in omega (arith, l)
 
-behind-above : (at : Option ℕ) (j : ℕ) → behind at ≤ j → is_above at j ≡ true
+pub behind-above : (at : Option ℕ) (j : ℕ) → behind at ≤ j → is_above at j ≡ true
 behind-above None j l = refl
 behind-above (Some k) j l = lt-ltb k j (omega (arith, l))
 
@@ -184,19 +184,18 @@ walking g h at after (Some n) low all is within small last = record {
 }
 
 -- so it begins,
-pub walking-start : (g : Shown) (h : Heap) (at : Option ℕ) (after : Option NativeNo) (next : Option (NativeNo × ℕ)) → option_map (λ (k : NativeNo). k.0) after ≡ at →
+pub walking-start : (g : Shown) (h : Heap) (after : Option NativeNo) (next : Option (NativeNo × ℕ)) →
     IfSome next (λ n. IsNext (number_of g.nodes) after n.0.0 n.1) → IfSome next (λ n. n.1 < length g.nodes) → IfSome next (λ n. n.0.0 < 4294967296) →
-    IfNone next (IsLast (number_of g.nodes) after) → IsWalking g h at next
-walking-start g h at after next same is within small last =
-    let first : from_behind after ≡ behind at = ap behind same in
-    walking g h at after next (omega (arith, first)) (λ j m from. omega (arith, first, from)) is within small last
+    IfNone next (IsLast (number_of g.nodes) after) → IsWalking g h (option_map (λ (k : NativeNo). k.0) after) next
+walking-start g h after next is within small last =
+    walking g h (option_map (λ (k : NativeNo). k.0) after) after next (omega arith) (λ j m from. from) is within small last
 
 module _ (g : Shown) (v : Keyed) (owned : List ℕ) (order : IsInOrder owned v) (at : Option ℕ) (n : NativeNo) (i : ℕ)
     (w : IsWalking g v.heap at (Some (n, i))) where
   -- It ends with a native whose node is not black, and that is there by its node's key,
-  pub walking-found : (key : ℕ) → is_black g i ≡ false → number_at v key ≡ Some n.0 → number_at v key ≡ first_of (whites_above g v.heap at)
+  pub walking-found : (key : ℕ) → is_black g i ≡ false → number_at v key ≡ Some n.0 → Some n.0 ≡ first_of (whites_above g v.heap at)
   walking-found key white there =
-      there ∙ first-least (whites_of g v.heap) (subst IsRising (sym (whites_of-numbers g v.heap)) (IsRising-filter (is_white_number g) numbers order.sound.well_formed.rising)) at n.0
+      first-least (whites_of g v.heap) (subst IsRising (sym (whites_of-numbers g v.heap)) (IsRising-filter (is_white_number g) numbers order.sound.well_formed.rising)) at n.0
       (subst (λ ks. Among n.0 ks) (sym (whites_of-numbers g v.heap))
       (Among-filter (is_white_number g) n.0 numbers (named-number v.heap n.0 (number-named v owned key n.0 order there)) passes))
       w.node.1 (λ j m from. w.left j m from)

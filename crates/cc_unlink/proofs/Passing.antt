@@ -1,9 +1,8 @@
 -- A PASS OVER THE WHITE NATIVES by rising number: those that are left of it, that a step leaves them, and what is told.
-use Rattle.std.proofs.Common.{◌≡◌, ℕ, suc, ◌<◌, Bool, true, false, not, ◌==◌, List, [], ◌∷◌, ◌++◌, length, Option, Some, None, IsSome, IfSome, option_and_then, refl, sym, ◌∙◌, ap, subst, inl, inr, ◌⊎◌, ⊎_elim, arith}
+use Rattle.std.proofs.Common.{◌≡◌, ℕ, suc, ◌<◌, Bool, true, false, not, ◌==◌, List, [], ◌∷◌, ◌++◌, length, Option, Some, None, refl, sym, ◌∙◌, ap, subst, inl, inr, ◌⊎◌, ⊎_elim, arith}
 use Rattle.std.specs.List.{filter}
 use Rattle.cc_lists.specs.Members.{Among, has}
 use Rattle.cc_lists.proofs.Members.{Among-filtered, has-among}
-use Rattle.cc_names.specs.declared.number.NKey.{NKey}
 use Rattle.cc_names.specs.Names.{native}
 use Rattle.cc_model.specs.declared.item.Event.{Event}
 use Rattle.cc_model.specs.Telling.{Telling, TellsEvents}
@@ -18,10 +17,11 @@ use Rattle.cc_laws_heap.proofs.TakingAway.{IsSound-permuted}
 use Rattle.cc_laws_heap.proofs.Leaving.{Leave, Leave-before, Leave-not_freed, numbers_there, numbers_there-named, is_left}
 use Rattle.cc_counted.specs.Counts.{key_left, number_or_none}
 use Rattle.cc_graph.specs.Shown.{Shown}
-use Rattle.cc_heaps.specs.Keyed.{Keyed, IsInOrder, number_at, the_number, left_with}
+use Rattle.cc_heaps.specs.Keyed.{Keyed, IsInOrder, the_number, left_with}
 use Rattle.cc_unlink.specs.Whites.{whites_of, is_white_number, whites_above}
+use Rattle.cc_unlink.specs.Passes.{IsAt, number_in}
+use Rattle.cc_unlink.specs.declared.ends.White.{White}
 use Rattle.cc_heaps.specs.Holders.{native_numbers, is_above, first_of}
-use Rattle.cc_heaps.proofs.Content.{number-some}
 use Rattle.cc_heaps.proofs.LeftWith.{key_left-there, left_with-same, number_at-left, left_with-then}
 use Rattle.cc_lists.proofs.Filtering.{filter-each}
 use Rattle.cc_lists.specs.Walks.{left_from}
@@ -29,17 +29,13 @@ use Rattle.cc_lists.proofs.Searching.{filter-swap}
 use Rattle.cc_lists.proofs.RisingWalks.{all-above, left_from-first, left_from-next}
 use Rattle.cc_unlink.proofs.NextWhite.{whites_of-numbers}
 
--- the number of the native that is next
-abbrev pub number_of_next : Keyed → Option NKey → Option ℕ
-number_of_next v next = option_and_then (λ key. number_at v key.0) next
-
--- it is there
-abbrev pub IsNext : Keyed → Option NKey → Type 0
-IsNext v next = IfSome next (λ key. IsSome (number_at v key.0))
-
 -- THE WHITE NATIVES THAT ARE LEFT of a pass, from the next one on
-abbrev pub whites_from : Shown → Keyed → Option NKey → List ℕ
-whites_from g v next = left_from (whites_of g v.heap) (number_of_next v next)
+abbrev pub whites_from : Shown → Keyed → Option White → List ℕ
+whites_from g v next = left_from (whites_of g v.heap) (number_in next)
+
+-- the number at its key is its own
+pub at-number : (v : Keyed) (w : White) → IsAt v (Some w) → the_number v w.key.0 ≡ w.number.0
+at-number v w live = ap number_or_none live
 
 -- White natives are by rising number
 pub whites_of-rising : (g : Shown) (h : Heap) → IsRising (native_numbers h.natives) → IsRising (whites_of g h)
@@ -50,16 +46,16 @@ pub whites_of-there : (g : Shown) (h : Heap) (k : ℕ) → Among k (whites_of g 
 whites_of-there g h k m =
     numbers_there-named h k (Among-filtered (is_white_number g) k (numbers_there h) (subst (λ ks. Among k ks) (whites_of-numbers g h) m))
 
-module _ (g : Shown) (v : Keyed) (r : IsRising (native_numbers v.heap.natives)) (next : Option NKey) where
+module _ (g : Shown) (v : Keyed) (r : IsRising (native_numbers v.heap.natives)) (next : Option White) where
   -- at the begin all of them are left
-  pub whites_from-start : number_of_next v next ≡ first_of (whites_above g v.heap None) → whites_from g v next ≡ whites_of g v.heap
+  pub whites_from-start : number_in next ≡ first_of (whites_above g v.heap None) → whites_from g v next ≡ whites_of g v.heap
   whites_from-start e = ap (left_from (whites_of g v.heap)) e
       ∙ (left_from-first (whites_of g v.heap) (whites_of-rising g v.heap r) None ∙ all-above (whites_of g v.heap))
 
   -- then one less
-  pub whites_from-next : (o : Option ℕ) → IsSome o → number_of_next v next ≡ first_of (whites_above g v.heap o) →
-      left_from (whites_of g v.heap) o ≡ number_or_none o ∷ whites_from g v next
-  whites_from-next o there e = left_from-next (whites_of g v.heap) (whites_of-rising g v.heap r) o (number_of_next v next) (number_or_none o) (number-some o there) e
+  pub whites_from-next : (w : White) → number_in next ≡ first_of (whites_above g v.heap (Some w.number.0)) →
+      whites_from g v (Some w) ≡ w.number.0 ∷ whites_from g v next
+  whites_from-next w e = left_from-next (whites_of g v.heap) (whites_of-rising g v.heap r) (Some w.number.0) (number_in next) w.number.0 refl e
 
 -- Natives that leave
 
@@ -88,35 +84,23 @@ module _ (g : Shown) (h : Heap) (freed : List ℕ) (f : Heap) (l : Leave h freed
   left_from-stay None there = refl
   left_from-stay (Some j) there = ap (λ ks. j ∷ ks) (part_of_whites (is_above (Some j)) (λ k m. there k (inr m)))
 
--- the native that is next has its key still
-number_of_next-left : (v : Keyed) (f : Heap) (next : Option NKey) → IsNext v next →
-    ((k : ℕ) → number_of_next v next ≡ Some k → Among (native k) (native_names f)) →
-    number_of_next (left_with v f) next ≡ number_of_next v next
-number_of_next-left v f None live there = refl
-number_of_next-left v f (Some key) live there =
-    let is : number_at v key.0 ≡ Some (the_number v key.0) = number-some (number_at v key.0) live in
-    number_at-left v f key.0 ∙ (ap (λ o. key_left f o) is ∙ (key_left-there f (the_number v key.0) (there (the_number v key.0) is) ∙ sym is))
-
--- what is next is there, where it has the number that it had
-IsNext-kept : (v w : Keyed) (next : Option NKey) → number_of_next w next ≡ number_of_next v next → IsNext v next → IsNext w next
-IsNext-kept v w None e live = tt
-IsNext-kept v w (Some key) e live = subst IsSome (sym e) live
+-- the native that is next is at its key still, where it is there
+IsAt-left : (v : Keyed) (f : Heap) (next : Option White) → IsAt v next → ((k : ℕ) → number_in next ≡ Some k → Among (native k) (native_names f)) → IsAt (left_with v f) next
+IsAt-left v f None live there = tt
+IsAt-left v f (Some w) live there = number_at-left v f w.key.0 ∙ (ap (key_left f) live ∙ key_left-there f w.number.0 (there w.number.0 refl))
 
 -- the first of those that are left
-pub first-of_rest : (ks : List ℕ) (o : Option ℕ) (k : ℕ) → o ≡ Some k → Among k (left_from ks o)
-first-of_rest ks o k e = rw e (inl refl)
+pub first-of_rest : (ks : List ℕ) (k : ℕ) → Among k (left_from ks (Some k))
+first-of_rest ks k = inl refl
 
 -- Where all that are left of a pass are there still, they are left of it still.
-whites_from-left : (g : Shown) (v : Keyed) (freed : List ℕ) (f : Heap) (next : Option NKey) → Leave v.heap freed f → IsNext v next →
+whites_from-left : (g : Shown) (v : Keyed) (freed : List ℕ) (f : Heap) (next : Option White) → Leave v.heap freed f → IsAt v next →
     ((k : ℕ) → Among k (whites_from g v next) → Among (native k) (native_names f)) →
-    (whites_from g (left_with v f) next ≡ whites_from g v next) × IsNext (left_with v f) next
+    (whites_from g (left_with v f) next ≡ whites_from g v next) × IsAt (left_with v f) next
 whites_from-left g v freed f next l live there = (
-  ap (left_from (whites_of g f)) same ∙ left_from-stay g v.heap freed f l (number_of_next v next) there,
-  IsNext-kept v (left_with v f) next same live,
+  left_from-stay g v.heap freed f l (number_in next) there,
+  IsAt-left v f next live (λ k e. there k (subst (λ o. Among k (left_from (whites_of g v.heap) o)) (sym e) (first-of_rest (whites_of g v.heap) k))),
 )
-  where
-    same : number_of_next (left_with v f) next ≡ number_of_next v next
-    same = number_of_next-left v f next live (λ k e. there k (first-of_rest (whites_of g v.heap) (number_of_next v next) k e))
 
 -- What is owned
 
@@ -153,16 +137,16 @@ abbrev pub so_far : Keyed → List Event → Outcome
 so_far v es = record { heap = v.heap; events = es }
 
 -- between two steps: what is left to do gives what all of it gives from the begin
-pub record IsPassing (each : List ℕ → Outcome → Outcome) (g : Shown) (first v : Keyed) (next : Option NKey) (before now : Telling) : Type 0 where
+pub record IsPassing (each : List ℕ → Outcome → Outcome) (g : Shown) (first v : Keyed) (next : Option White) (before now : Telling) : Type 0 where
   pub kept : v ≡ left_with first v.heap
-  pub live : IsNext v next
+  pub live : IsAt v next
   pub events : List Event
   pub goes : each (whites_from g v next) (so_far v events) ≡ each (whites_of g first.heap) (silently first.heap)
   pub told : TellsEvents before now events
 
 -- at the begin
-pub IsPassing-start : (each : List ℕ → Outcome → Outcome) (g : Shown) (v : Keyed) (next : Option NKey) (now : Telling) → IsInOrder (whites_of g v.heap) v →
-    whites_from g v next ≡ whites_of g v.heap → IsNext v next → IsPassing each g v v next now now
+pub IsPassing-start : (each : List ℕ → Outcome → Outcome) (g : Shown) (v : Keyed) (next : Option White) (now : Telling) → IsInOrder (whites_of g v.heap) v →
+    whites_from g v next ≡ whites_of g v.heap → IsAt v next → IsPassing each g v v next now now
 IsPassing-start each g v next now order all live = record {
   kept = sym (left_with-same (whites_of g v.heap) v order);
   live = live;
@@ -173,29 +157,29 @@ IsPassing-start each g v next now order all live = record {
 
 -- A STEP: the next one after it was found, and what is done to a native is done to this one.
 pub IsPassing-next : {each : List ℕ → Outcome → Outcome} (step : Heap → ℕ → Outcome) → ((k : ℕ) (ks : List ℕ) (o : Outcome) → each (k ∷ ks) o ≡ each ks (after o.events (step o.heap k))) →
-    {g : Shown} {first v : Keyed} {key : NKey} {before now : Telling} → IsPassing each g first v (Some key) before now →
-    (next : Option NKey) → whites_from g v (Some key) ≡ the_number v key.0 ∷ whites_from g v next → IsNext v next →
-    (freed : List ℕ) → Leave v.heap freed (step v.heap (the_number v key.0)).heap →
-    ((j : ℕ) → Among j (whites_from g v next) → Among (native j) (native_names (step v.heap (the_number v key.0)).heap)) →
-    (later : Telling) → TellsEvents now later (step v.heap (the_number v key.0)).events →
-    IsPassing each g first (left_with v (step v.heap (the_number v key.0)).heap) next before later
-    × (whites_from g (left_with v (step v.heap (the_number v key.0)).heap) next ≡ whites_from g v next)
-IsPassing-next {each} step one {g} {first} {v} {key} {before} {now} i next rest live freed leaves there later tell = (
+    {g : Shown} {first v : Keyed} {w : White} {before now : Telling} → IsPassing each g first v (Some w) before now →
+    (next : Option White) → whites_from g v (Some w) ≡ w.number.0 ∷ whites_from g v next → IsAt v next →
+    (freed : List ℕ) → Leave v.heap freed (step v.heap w.number.0).heap →
+    ((j : ℕ) → Among j (whites_from g v next) → Among (native j) (native_names (step v.heap w.number.0).heap)) →
+    (later : Telling) → TellsEvents now later (step v.heap w.number.0).events →
+    IsPassing each g first (left_with v (step v.heap w.number.0).heap) next before later
+    × (whites_from g (left_with v (step v.heap w.number.0).heap) next ≡ whites_from g v next)
+IsPassing-next {each} step one {g} {first} {v} {w} {before} {now} i next rest live freed leaves there later tell = (
   record {
     kept = ap (λ z. left_with z o.heap) i.kept ∙ left_with-then first v.heap o.heap (Leave-before v.heap freed o.heap leaves);
     live = left.1;
     events = i.events ++ o.events;
     goes = ap (λ ks. each ks (so_far (left_with v o.heap) (i.events ++ o.events))) left.0
-        ∙ (sym (one (the_number v key.0) (whites_from g v next) (so_far v i.events)) ∙ (ap (λ ks. each ks (so_far v i.events)) (sym rest) ∙ i.goes));
+        ∙ (sym (one w.number.0 (whites_from g v next) (so_far v i.events)) ∙ (ap (λ ks. each ks (so_far v i.events)) (sym rest) ∙ i.goes));
     told = TellsEvents-trans before now later i.events o.events i.told tell;
   },
   left.0,
 )
   where
     o : Outcome
-    o = step v.heap (the_number v key.0)
+    o = step v.heap w.number.0
 
-    left : (whites_from g (left_with v o.heap) next ≡ whites_from g v next) × IsNext (left_with v o.heap) next
+    left : (whites_from g (left_with v o.heap) next ≡ whites_from g v next) × IsAt (left_with v o.heap) next
     left = whites_from-left g v freed o.heap next leaves live there
 
 -- what is left behind the first is less

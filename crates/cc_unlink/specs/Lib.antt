@@ -1,2 +1,3 @@
 pub mod Whites
 pub mod Keys
+pub mod Passes

@@ -3,4 +3,4 @@
 
 mod ends;
 
-pub use ends::collect_white;
+pub use ends::{collect_white, collect_white_counted};

@@ -1,26 +1,35 @@
+use Rattle.cc_unlink.proofs.Looks.{passes-start, passes-next, passes-end}
 use Rattle.cc_unlink.proofs.Rooting.{IsRooting-start, IsRooting-not_owned, IsRooting-next}
 use Rattle.cc_unlink.proofs.NodeKeys.{node-keys-changed}
 use Rattle.cc_unlink.proofs.ends.root_whites.Goals as goal
 
 pub loop-next-init : goal.loop-next-init
-loop-next-init c = record {
+loop-next-init g c = record {
   steps = IsRooting-start c.args.graph.now c.args.heaps.now c.next_white-next.result c.requires.order c.next_white-next.ensures.number c.next_white-next.ensures.live;
+  looked = passes-start c.args.graph.now c.next_white-next.result c.args.steps.now c.next_white-next.new.steps c.next_white-next.ensures.steps;
 }
 
 pub root-requires-clause-owned : goal.root-requires-clause-owned
-root-requires-clause-owned c =
+root-requires-clause-owned g c =
     let steps = rw c.in-Some.is at c.loop-next.invariant.steps in
     (steps.done, steps.order, IsRooting-not_owned steps c.next_white-next-in-Some.result c.next_white-next-in-Some.ensures.number)
 
 pub loop-next-smaller : goal.loop-next-smaller
-loop-next-smaller c = rw c.in-Some.is ((IsRooting-next (rw c.in-Some.is at c.loop-next.invariant.steps) c.next_white-next-in-Some.result
+loop-next-smaller g c = rw c.in-Some.is ((IsRooting-next (rw c.in-Some.is at c.loop-next.invariant.steps) c.next_white-next-in-Some.result
     c.next_white-next-in-Some.ensures.number c.next_white-next-in-Some.ensures.live c.root.ensures.heap c.root.ensures.order).1)
 
 pub loop-next-preserved : goal.loop-next-preserved
-loop-next-preserved c = record {
-  steps = (IsRooting-next (rw c.in-Some.is at c.loop-next.invariant.steps) c.next_white-next-in-Some.result
-      c.next_white-next-in-Some.ensures.number c.next_white-next-in-Some.ensures.live c.root.ensures.heap c.root.ensures.order).0;
-}
+loop-next-preserved g c =
+    let before = rw c.in-Some.is at c.loop-next.invariant.looked in
+    record {
+      steps = (IsRooting-next (rw c.in-Some.is at c.loop-next.invariant.steps) c.next_white-next-in-Some.result
+          c.next_white-next-in-Some.ensures.number c.next_white-next-in-Some.ensures.live c.root.ensures.heap c.root.ensures.order).0;
+      looked = passes-next c.args.graph.now c.in-Some.white c.next_white-next-in-Some.result c.args.steps.now c.loop-next.steps c.next_white-next-in-Some.new.steps before
+          c.next_white-next-in-Some.ensures.steps;
+    }
 
 pub next_white-next-requires-in-Some-clause-keys : goal.next_white-next-requires-in-Some-clause-keys
-next_white-next-requires-in-Some-clause-keys c = node-keys-changed c.args.graph.now c.args.heaps.now c.loop-next.heaps c.loop-next.heaps.heap c.loop-next.invariant.steps.kept c.requires.keys
+next_white-next-requires-in-Some-clause-keys g c = node-keys-changed c.args.graph.now c.args.heaps.now c.loop-next.heaps c.loop-next.heaps.heap c.loop-next.invariant.steps.kept c.requires.keys
+
+pub returns-clause-steps : goal.returns-clause-steps
+returns-clause-steps g c = passes-end c.args.graph.now c.args.steps.now c.loop-next.steps (rw c.in_default.is at c.loop-next.invariant.looked)

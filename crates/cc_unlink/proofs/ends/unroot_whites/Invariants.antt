@@ -1,4 +1,5 @@
-use Rattle.std.proofs.Common.{length}
+use Rattle.std.proofs.Common.{◌+◌, ◌≤◌, length}
+use Rattle.cc_unlink.specs.Passes.{native_nodes, nodes_behind, number_in}
 use Rattle.cc_unlink.proofs.Passing.{whites_from}
 use Rattle.cc_unlink.proofs.Unrooting.{IsUnrooting}
 use Rattle.cc_unlink.proofs.ends.unroot_whites.Given as goal
@@ -6,6 +7,7 @@ use Rattle.cc_unlink.proofs.ends.unroot_whites.Given as goal
 abbrev pub invariant-loop-next : goal.invariant-loop-next
 invariant-loop-next g l = record {
   steps : IsUnrooting l.graph l.fn.heaps l.heaps l.next (g.N.Notices.telling l.fn.out) (g.N.Notices.telling l.out);
+  looked : l.steps + nodes_behind l.graph (number_in l.next) ≤ l.fn.steps + length (native_nodes l.graph);
 }
 
 abbrev pub decreases-loop-next : goal.decreases-loop-next

@@ -7,8 +7,8 @@ use Rattle.cc_heaps.proofs.FewCounts.{few-alone}
 use Rattle.cc_unlink.specs.Whites.{whites_of}
 use Rattle.cc_unlink.proofs.WhiteEnd.{WhiteEnd-heap, WhiteEnd-told}
 use Rattle.cc_unlink.proofs.NodeKeys.{node-keys, node-keys-changed, node-keys-left}
-use Rattle.cc_unlink.proofs.ends.collect_white.Given as given
-use Rattle.cc_unlink.proofs.ends.collect_white.Goals as goal
+use Rattle.cc_unlink.proofs.ends.collect_white_counted.Given as given
+use Rattle.cc_unlink.proofs.ends.collect_white_counted.Goals as goal
 
 pub root_whites-requires-clause-keys : goal.root_whites-requires-clause-keys
 root_whites-requires-clause-keys g c = node-keys c.args.graph c.args.heaps.now c.requires.order c.requires.held
