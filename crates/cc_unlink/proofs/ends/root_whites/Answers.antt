@@ -14,12 +14,12 @@ root-requires-clause-owned c =
 
 pub loop-next-smaller : goal.loop-next-smaller
 loop-next-smaller c = rw c.in-Some.is ((IsRooting-next (rw c.in-Some.is at c.loop-next.invariant.steps) c.next_white-next-in-Some.result
-    c.next_white-next-in-Some.ensures.number c.next_white-next-in-Some.ensures.live c.root.ensures.heap c.root.ensures.order).1)
+    c.next_white-next-in-Some.ensures.number c.next_white-next-in-Some.ensures.live c.root.ensures.heap c.root.ensures.kept.order).1)
 
 pub loop-next-preserved : goal.loop-next-preserved
 loop-next-preserved c = record {
   steps = (IsRooting-next (rw c.in-Some.is at c.loop-next.invariant.steps) c.next_white-next-in-Some.result
-      c.next_white-next-in-Some.ensures.number c.next_white-next-in-Some.ensures.live c.root.ensures.heap c.root.ensures.order).0;
+      c.next_white-next-in-Some.ensures.number c.next_white-next-in-Some.ensures.live c.root.ensures.heap c.root.ensures.kept.order).0;
 }
 
 pub next_white-next-requires-in-Some-clause-keys : goal.next_white-next-requires-in-Some-clause-keys

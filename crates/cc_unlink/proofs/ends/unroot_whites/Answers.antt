@@ -17,12 +17,12 @@ unroot-requires-clause-owned g c = (
 
 pub loop-next-smaller : goal.loop-next-smaller
 loop-next-smaller g c = rw c.in-Some.is ((IsUnrooting-next (rw c.in-Some.is at c.loop-next.invariant.steps) c.next_white-next-in-Some.result
-    c.next_white-next-in-Some.ensures.number c.next_white-next-in-Some.ensures.live c.unroot.ensures.heap c.unroot.ensures.told c.unroot.ensures.order).1)
+    c.next_white-next-in-Some.ensures.number c.next_white-next-in-Some.ensures.live c.unroot.ensures.heap c.unroot.ensures.told c.unroot.ensures.kept.order).1)
 
 pub loop-next-preserved : goal.loop-next-preserved
 loop-next-preserved g c = record {
   steps = (IsUnrooting-next (rw c.in-Some.is at c.loop-next.invariant.steps) c.next_white-next-in-Some.result
-      c.next_white-next-in-Some.ensures.number c.next_white-next-in-Some.ensures.live c.unroot.ensures.heap c.unroot.ensures.told c.unroot.ensures.order).0;
+      c.next_white-next-in-Some.ensures.number c.next_white-next-in-Some.ensures.live c.unroot.ensures.heap c.unroot.ensures.told c.unroot.ensures.kept.order).0;
 }
 
 pub next_white-next-requires-in-Some-clause-keys : goal.next_white-next-requires-in-Some-clause-keys
