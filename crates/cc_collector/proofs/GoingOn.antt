@@ -1,5 +1,5 @@
 -- A RUNNING COLLECTION GOES ON over changed heaps.
-use Rattle.std.proofs.Common.{◌≡◌, ℕ, ◌≤◌, false, Option, Some, None, refl, sym, subst, ⊎_elim, arith}
+use Rattle.std.proofs.Common.{◌≡◌, ℕ, ◌≤◌, false, [], Option, Some, None, refl, sym, subst, ⊎_elim, arith}
 use Rattle.cc_lists.specs.Members.{Among}
 use Rattle.cc_lists.proofs.Members.{Among-map}
 use Rattle.cc_names.specs.declared.name.Name.{Name}
@@ -15,6 +15,7 @@ use Rattle.cc_graph.specs.Shown.{Vertex}
 use Rattle.cc_graph.specs.Held.{AreHeld}
 use Rattle.cc_heaps.specs.Keyed.{Keyed, number_at}
 use Rattle.cc_heaps.specs.HasKey.{HasKey}
+use Rattle.cc_heaps.specs.Keeping.{KeepsAll, KeepsAllIf}
 use Rattle.cc_builder.specs.Building.{Built, IsBuilt, WasMade, snapshot_of}
 use Rattle.cc_builder.proofs.BuildStates.{names-nodes_of}
 use Rattle.cc_builder.proofs.FewObjects.{made-few}
@@ -82,3 +83,11 @@ module _ (old new : Keyed) (b : Built) (r : RunsIn old (Some b)) (m : MayComeBet
 pub RunsIn-between : (old new : Keyed) (c : Option Built) → RunsIn old c → MayComeBetween old new → RunsIn new c
 RunsIn-between old new None r m = record { order = m.order; colours = m.colours; goes_on = tt }
 RunsIn-between old new (Some b) r m = record { order = m.order; colours = m.colours; goes_on = goes-on old new b r m }
+
+-- So it does over heaps that kept all,
+pub RunsIn-kept : (old new : Keyed) (c : Option Built) → RunsIn old c → KeepsAll old new → RunsIn new c
+RunsIn-kept old new c r k = RunsIn-between old new c r (record { order = k.order [] r.order; colours = k.colours r.colours; fresh = k.fresh; keys = k.keys })
+
+-- and, where what comes in has to be black, if it is.
+pub RunsIn-kept_black : {black reached : Type 0} (old new : Keyed) (c : Option Built) → RunsIn old c → KeepsAllIf black reached old new → black → RunsIn new c
+RunsIn-kept_black old new c r k b = RunsIn-between old new c r (record { order = k.order [] r.order; colours = k.colours r.colours; fresh = k.fresh b; keys = k.keys })

@@ -28,7 +28,7 @@ use Rattle.cc_heaps.specs.Keyed.{Keyed, changed_to, left_with}
 use Rattle.cc_heaps.specs.Changes.{KeepsKeys}
 use Rattle.cc_heaps.specs.Standing.{StillStands}
 use Rattle.cc_heaps.proofs.KeysKept.{KeepsKeys-same, KeepsKeys-changed, KeepsKeys-left}
-use Rattle.cc_heaps.proofs.FewCounts.{few-alone}
+use Rattle.cc_heaps.proofs.Kept.{kept-alone}
 use Rattle.cc_builder.specs.Building.{Built, IsNodeUnit, snapshot_of}
 use Rattle.cc_unlink.specs.Whites.{whites_of, AreUnreached, AreWhiteIn}
 use Rattle.cc_collector.specs.Kept.{RunsIn, GoesOn, machine_of, running_snapshot}
@@ -42,10 +42,9 @@ Keeps-nothing v c r = record {
   runs = r;
   stands = λ g well stands. stands;
   suspected = λ s. s;
-  keys = KeepsKeys-same v;
   natives_left = λ x m. m;
   scripts_left = λ x m. m;
-  counts = few-alone v r.order;
+  kept = kept-alone v v r.order r.order (KeepsKeys-same v) (λ colours. colours);
 }
 
 -- one after the other
@@ -54,20 +53,26 @@ Keeps-then v c w d u e a b = record {
   runs = b.runs;
   stands = λ g well stands. b.stands g well (a.stands g well stands);
   suspected = λ s. b.suspected (a.suspected s);
-  keys = record {
-    natives = λ key k at m. b.keys.natives key k (a.keys.natives key k at (b.natives_left (native k) m)) m;
-    scripts = λ key x at m. b.keys.scripts key x (a.keys.scripts key x at (b.scripts_left x m)) m;
-  };
   natives_left = λ x m. a.natives_left x (b.natives_left x m);
   scripts_left = λ x m. a.scripts_left x (b.scripts_left x m);
-  counts = b.counts;
+  kept = record {
+    keys = record {
+      natives = λ key k at m. b.kept.keys.natives key k (a.kept.keys.natives key k at (b.natives_left (native k) m)) m;
+      scripts = λ key x at m. b.kept.keys.scripts key x (a.kept.keys.scripts key x at (b.scripts_left x m)) m;
+    };
+    order = λ owned o. b.kept.order owned (a.kept.order owned o);
+    counts = b.kept.counts;
+    colours = λ colours. b.kept.colours (a.kept.colours colours);
+    fresh = tt;
+    suspected = tt;
+  };
 }
 
 -- and a script collection after it keeps the keys
 pub KeepsKeys-swept : (v : Keyed) (c : Option Built) (w u : Keyed) → Keeps v c w None → u.heap ≡ (collect_scripts w.heap).heap → KeepsKeys w u → KeepsKeys v u
 KeepsKeys-swept v c w u a heap keys = record {
-  natives = λ key k at m. keys.natives key k (a.keys.natives key k at (natives_left (native k) m)) m;
-  scripts = λ key x at m. keys.scripts key x (a.keys.scripts key x at (scripts_left x m)) m;
+  natives = λ key k at m. keys.natives key k (a.kept.keys.natives key k at (natives_left (native k) m)) m;
+  scripts = λ key x at m. keys.scripts key x (a.kept.keys.scripts key x at (scripts_left x m)) m;
 }
   where
     xs : List Name
@@ -125,10 +130,9 @@ begin-done v w b t r e s runs stands suspected = record {
     runs = runs;
     stands = stands;
     suspected = suspected;
-    keys = KeepsKeys-changed v w (with_empty_buffer v.heap) e;
     natives_left = same-natives v w (with_empty_buffer v.heap) e refl;
     scripts_left = same-scripts v w (with_empty_buffer v.heap) e refl;
-    counts = few-alone w runs.order;
+    kept = kept-alone v w r.order runs.order (KeepsKeys-changed v w (with_empty_buffer v.heap) e) (λ colours. runs.colours);
   };
   fewer = λ _.
       let made : w.heap.natives_made ≡ v.heap.natives_made = ap (λ (k : Keyed). k.heap.natives_made) e in
@@ -163,10 +167,9 @@ node-done v b d t r u goes candidates next = record {
     runs = runs;
     stands = λ g well stands. stands;
     suspected = λ s. subst (λ (ks : List ℕ). IsSuspected (view v.heap) ks) (sym candidates) s;
-    keys = KeepsKeys-same v;
     natives_left = λ x m. m;
     scripts_left = λ x m. m;
-    counts = few-alone v r.order;
+    kept = kept-alone v v r.order r.order (KeepsKeys-same v) (λ colours. colours);
   };
   fewer = λ _. omega (arith, next, goes.built.behind, goes.built.few);
   over = λ f. absurd (f refl);
@@ -191,10 +194,9 @@ node-refused v w b ks t t₁ r asks candidates e runs stands suspected told = re
     runs = runs;
     stands = stands;
     suspected = λ s. suspected (subst (λ (js : List ℕ). IsSuspected (view v.heap) js) (sym candidates) s);
-    keys = KeepsKeys-changed v w (give_back ks v.heap) e;
     natives_left = same-natives v w (give_back ks v.heap) e (ap native_names (give_back-buffer ks v.heap v.heap.buffer));
     scripts_left = same-scripts v w (give_back ks v.heap) e (ap script_names (give_back-buffer ks v.heap v.heap.buffer));
-    counts = few-alone w runs.order;
+    kept = kept-alone v w r.order runs.order (KeepsKeys-changed v w (give_back ks v.heap) e) (λ colours. runs.colours);
   };
   fewer = λ f. cc;
   over = λ f. refl;
@@ -228,10 +230,9 @@ module _ (v : Keyed) (b : Built) (g : Shown) (r : RunsIn v (Some b)) (traversed 
       runs = runs;
       stands = stands;
       suspected = suspected;
-      keys = KeepsKeys-left v w (take_away (whites_of g v.heap) v.heap).heap e;
       natives_left = natives_left;
       scripts_left = λ x m. subst (λ (os : List HeapScript). Among x (map (λ o. o.name) os)) (ap (λ (h : Heap). h.scripts) heap ∙ takes.scripts) m;
-      counts = few-alone w runs.order;
+      kept = kept-alone v w r.order runs.order (KeepsKeys-left v w (take_away (whites_of g v.heap) v.heap).heap e) (λ colours. runs.colours);
     };
     fewer = λ f. cc;
     over = λ f. refl;

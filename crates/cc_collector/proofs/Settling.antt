@@ -25,6 +25,7 @@ use Rattle.cc_laws_run.proofs.QuietRounds.{collected-reached}
 use Rattle.cc_laws_run.proofs.QuietUnits.{gc-collects, gc-none, collect-tidy}
 use Rattle.cc_heaps.specs.Keyed.{Keyed}
 use Rattle.cc_heaps.specs.Changes.{KeepsKeys}
+use Rattle.cc_heaps.specs.Keeping.{KeepsHeaps}
 use Rattle.cc_gc.specs.Sparing.{KeepsWhatIsReached}
 use Rattle.cc_gc.proofs.RoundsLeft.{KeepsKeys-then}
 use Rattle.cc_gc.proofs.Sparing.{spares-then}
@@ -61,6 +62,18 @@ keys-then u v w t t₁ well well_now told a b = KeepsKeys-then u v w a b natives
 
     scripts : (x : Name) → Among x (script_names w.heap) → Among x (script_names v.heap)
     scripts x m = script-place v.heap x (script_names-named w.heap well_now x m) (before x (Among-right x (native_names w.heap) (script_names w.heap) m))
+
+-- and all that a collection keeps
+pub kept-then : (u v w : Keyed) (t t₁ : Telling) → IsWellFormed v.heap → IsWellFormed w.heap → TellsWhatLeaves v.heap w.heap t t₁ → KeepsHeaps [] [] u v → KeepsHeaps [] [] v w →
+    KeepsHeaps [] [] u w
+kept-then u v w t t₁ well well_now told a b = record {
+  keys = keys-then u v w t t₁ well well_now told a.keys b.keys;
+  order = λ owned o. b.order owned (a.order owned o);
+  counts = b.counts;
+  colours = λ colours. b.colours (a.colours colours);
+  fresh = tt;
+  suspected = tt;
+}
 
 -- `gc`, a collection that was not refused, and `gc`
 

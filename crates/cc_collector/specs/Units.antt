@@ -1,5 +1,5 @@
 -- ONE UNIT, AND UNITS TO THE END, over the heaps with their keys.
-use Rattle.std.specs.Prelude.{◌≡◌, ◌≢◌, ℕ, ◌+◌, ◌-◌, ◌<◌, Bool, true, false, List, length, Option, Some, None, is_some}
+use Rattle.std.specs.Prelude.{◌≡◌, ◌≢◌, ℕ, ◌+◌, ◌-◌, ◌<◌, Bool, true, false, List, [], length, Option, Some, None, is_some}
 use Rattle.cc_lists.specs.Members.{Among}
 use Rattle.cc_names.specs.declared.name.Name.{Name}
 use Rattle.cc_model.specs.Telling.{Telling, TellsEvents}
@@ -9,9 +9,8 @@ use Rattle.cc_model.specs.End.{Progress, went_on, at_end, UnitDone, unit}
 use Rattle.cc_model.specs.Collecting.{Machine, UnitsDone, no_units, units_done}
 use Rattle.cc_laws_run.specs.Memory.{with_memory}
 use Rattle.cc_heaps.specs.Keyed.{Keyed}
-use Rattle.cc_heaps.specs.Changes.{KeepsKeys}
-use Rattle.cc_heaps.specs.Few.{AreFew}
 use Rattle.cc_heaps.specs.Standing.{StillStands}
+use Rattle.cc_heaps.specs.Keeping.{KeepsHeaps}
 use Rattle.cc_builder.specs.Building.{Built}
 use Rattle.cc_collector.specs.Kept.{ForgetsNothing, RunsIn, machine_of}
 use Rattle.cc_collector.specs.Collected.{units_counted}
@@ -50,10 +49,9 @@ pub record Keeps (v : Keyed) (c : Option Built) (w : Keyed) (d : Option Built) :
   pub runs : RunsIn w d
   pub stands : StillStands v.heap w.heap
   pub suspected : ForgetsNothing (machine_of v.heap c) (machine_of w.heap d)
-  pub keys : KeepsKeys v w
   pub natives_left : (x : Name) → Among x (native_names w.heap) → Among x (native_names v.heap)
   pub scripts_left : (x : Name) → Among x (script_names w.heap) → Among x (script_names v.heap)
-  pub counts : AreFew w.heap
+  pub kept : KeepsHeaps [] [] v w
 
 -- how many units can be left: begin, one for each object that was made, and end
 abbrev pub units_left : Keyed → Option Built → ℕ

@@ -4,9 +4,8 @@ ghost use Rattle.cc_model.specs.End.{at_end, refused};
 ghost use Rattle.cc_model.specs.Sweep.{collect_scripts as collected};
 ghost use Rattle.cc_laws_run.specs.Doomed.{IsSuspectedNow};
 ghost use Rattle.cc_laws_run.specs.GivenUp.{IsGivenUp};
-ghost use Rattle.cc_heaps.specs.Changes.{KeepsKeys};
-ghost use Rattle.cc_heaps.specs.Few.{AreFew};
 ghost use Rattle.cc_heaps.specs.Standing.{StillStands};
+ghost use Rattle.cc_heaps.specs.Keeping.{KeepsHeaps};
 ghost use Rattle.cc_gc.specs.Sparing.{KeepsWhatIsReached};
 ghost use Rattle.cc_collector.specs.Settled.{HasWhatIsReached, IsSettled, IsUnsettled};
 ghost use Rattle.cc_collector.specs.Kept.{ForgetsNothing, RunsIn, machine_of, running_snapshot};
@@ -38,8 +37,8 @@ pub enum Ended {
 /// `slice`, `whole`, `gc` and `settle` promise of the heaps, also where memory was refused:
 ///
 /// - What the registers reach stays as it was (`keeps`): they hold what they held and reach the same objects, each of which
-///   is there with its slots and its flag, and a reached map has the same value for a reached key. What stays keeps its key
-///   (`keys`).
+///   is there with its slots and its flag, and a reached map has the same value for a reached key. What stays keeps its key,
+///   and the heaps stay in order, with their colours (`kept`).
 /// - No register reaches what is told as unlinked or freed, neither before the call nor after it; and what is told as freed
 ///   is all that leaves (`tells`).
 /// - No native that nothing reaches is forgotten (`suspected`): references lead to it from a suspect, from a script object
@@ -100,8 +99,7 @@ impl Collector {
         ensures tells { TellsWhatLeaves heaps.old.heap heaps.new.heap (N.telling out.old) (N.telling out.new) }
         ensures stands { StillStands heaps.old.heap heaps.new.heap }
         ensures suspected { ForgetsNothing (machine_of heaps.old.heap self.old) (machine_of heaps.new.heap self.new) }
-        ensures keys { KeepsKeys heaps.old heaps.new }
-        ensures counts { AreFew heaps.new.heap }
+        ensures kept { KeepsHeaps [] [] heaps.old heaps.new }
         ensures runs { RunsIn heaps.new self.new }
     {
         for _ in 0..units {
@@ -128,8 +126,7 @@ impl Collector {
         ensures tells { TellsWhatLeaves heaps.old.heap heaps.new.heap (N.telling out.old) (N.telling out.new) }
         ensures stands { StillStands heaps.old.heap heaps.new.heap }
         ensures suspected { ForgetsNothing (machine_of heaps.old.heap self.old) (machine_of heaps.new.heap self.new) }
-        ensures keys { KeepsKeys heaps.old heaps.new }
-        ensures counts { AreFew heaps.new.heap }
+        ensures kept { KeepsHeaps [] [] heaps.old heaps.new }
         ensures runs { RunsIn heaps.new self.new }
     {
         self.finish_running(heaps, out)?;
@@ -146,8 +143,7 @@ impl Collector {
         ensures tells { TellsWhatLeaves heaps.old.heap heaps.new.heap (N.telling out.old) (N.telling out.new) }
         ensures stands { StillStands heaps.old.heap heaps.new.heap }
         ensures suspected { ForgetsNothing (machine_of heaps.old.heap self.old) (machine_of heaps.new.heap self.new) }
-        ensures keys { KeepsKeys heaps.old heaps.new }
-        ensures counts { AreFew heaps.new.heap }
+        ensures kept { KeepsHeaps [] [] heaps.old heaps.new }
         ensures runs { RunsIn heaps.new self.new }
     {
         let _refused = self.finish_running(heaps, out);
@@ -171,8 +167,7 @@ impl Collector {
         ensures tells { TellsWhatLeaves heaps.old.heap heaps.new.heap (N.telling out.old) (N.telling out.new) }
         ensures stands { StillStands heaps.old.heap heaps.new.heap }
         ensures suspected { ForgetsNothing (machine_of heaps.old.heap self.old) (machine_of heaps.new.heap self.new) }
-        ensures keys { KeepsKeys heaps.old heaps.new }
-        ensures counts { AreFew heaps.new.heap }
+        ensures kept { KeepsHeaps [] [] heaps.old heaps.new }
         ensures runs { RunsIn heaps.new self.new }
     {
         // a native that only unreached script objects hold need be no suspect: once they are gone it is one

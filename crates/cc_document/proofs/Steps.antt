@@ -10,12 +10,14 @@ use Rattle.cc_model.specs.Heap as heap
 use Rattle.cc_laws_run.specs.Doomed.{candidates_now}
 use Rattle.cc_counted.specs.Counts.{number_or_none, held_of_native}
 use Rattle.cc_counted.specs.declared.held.Held.{Held}
-use Rattle.cc_heaps.specs.Keyed.{Keyed, IsInOrder, number_at, the_number}
-use Rattle.cc_heaps.specs.Changes.{KeepsKeys, IsBlackHeld, held_name, native_name}
-use Rattle.cc_heaps.specs.Standing.{IsReached, KeepsColours, KeepsFresh, KeepsSuspected, StandsAfter}
+use Rattle.cc_heaps.specs.Keyed.{Keyed, number_at, the_number}
+use Rattle.cc_heaps.specs.Changes.{IsBlackHeld, held_name, native_name}
+use Rattle.cc_heaps.specs.Standing.{IsReached, StandsAfter}
+use Rattle.cc_heaps.specs.Keeping.{KeepsAll, KeepsAllIf}
+use Rattle.cc_heaps.proofs.Kept.{KeepsAll-both}
 use Rattle.cc_builder.specs.Building.{Built}
 use Rattle.cc_collector.specs.Kept.{running_snapshot}
-use Rattle.cc_collector.proofs.GoingOn.{RunsIn-between}
+use Rattle.cc_collector.proofs.GoingOn.{RunsIn-kept}
 use Rattle.cc_mutator.proofs.NativesRead.{native-at}
 use Rattle.cc_document.specs.Shown.{IsDocument, Shows, parts, written}
 use Rattle.cc_document.proofs.Documents.{slot-document}
@@ -23,11 +25,7 @@ use Rattle.cc_document.proofs.Reached.{alike, register-is_reached, variable-hold
 
 -- what a call of the heaps promises
 pub record IsStep (v w : Keyed) (change : Graph → Graph) : Type 0 where
-  pub order : IsInOrder [] w
-  pub colours : KeepsColours v.heap w.heap
-  pub fresh : KeepsFresh v.heap w.heap
-  pub keys : KeepsKeys v w
-  pub suspected : KeepsSuspected v.heap w.heap
+  pub kept : KeepsAll v w
   pub stands : StandsAfter v.heap w.heap change
 
 -- IT IS SHOWN.
@@ -36,8 +34,8 @@ pub Shows-step : (v w : Keyed) (c : Option Built) (change : Graph → Graph) →
 Shows-step v w c change t g s d =
     let k = t.stands g s.well s.stands in
     record {
-      runs = RunsIn-between v w c s.runs (record { order = t.order; colours = t.colours s.runs.colours; fresh = t.fresh; keys = t.keys });
-      suspected = t.suspected (candidates_now (running_snapshot c)) s.suspected;
+      runs = RunsIn-kept v w c s.runs t.kept;
+      suspected = t.kept.suspected (candidates_now (running_snapshot c)) s.suspected;
       well = k.0;
       stands = k.1;
       document = d;
@@ -54,11 +52,7 @@ native-black v (Some key) = tt
 
 -- what the writing of a native's slot promises
 pub record IsStored (v w : Keyed) (k i : ℕ) (content : Option Held) : Type 0 where
-  pub order : IsInOrder [] w
-  pub colours : IsBlackHeld v content → KeepsColours v.heap w.heap
-  pub fresh : IsBlackHeld v content → KeepsFresh v.heap w.heap
-  pub keys : KeepsKeys v w
-  pub suspected : IsReached v.heap (Some (native k)) → KeepsSuspected v.heap w.heap
+  pub kept : KeepsAllIf (IsBlackHeld v content) (IsReached v.heap (Some (native k))) v w
   pub stands : IsReached v.heap (Some (native k)) → IsReached v.heap (held_name v content) →
       StandsAfter v.heap w.heap (λ g. set_slot g (Some (native k)) i (held_name v content))
 
@@ -80,7 +74,7 @@ module _ (v w : Keyed) (c : Option Built) (of i : ℕ) (from : Option Reg) where
       ap (λ x. set_slot g x i (held_name v content)) (sym holds) ∙ ap (set_slot g (graph.register g (N of)) i) source-is in
       subst (Shows (parts w c)) same
       (Shows-step v w c (λ h. set_slot h (Some (native k)) i (held_name v content))
-      (record { order = t.order; colours = t.colours black; fresh = t.fresh black; keys = t.keys; suspected = t.suspected a; stands = t.stands a b })
+      (record { kept = KeepsAll-both t.kept black a; stands = t.stands a b })
       g s (slot-document g s.document (Some (native k)) i (held_name v content)))
     where
       source-is_reached : (r : Option Reg) → IsReached v.heap (heap.source v.heap r)

@@ -16,7 +16,8 @@ ghost use Rattle.cc_document.specs.Words.{places, in_variable, element, elements
 ghost use Rattle.cc_document.specs.Changes.{Between, IsAsBefore, IsAssigned, IsAppended, IsRemoved, IsHeard, HasData};
 ghost use Rattle.cc_document.specs.Stops.{IsScriptFull, LacksElement, StopsBeginning, StopsMaking, StopsAppending, StopsRemoving, StopsListening};
 ghost use Rattle.cc_document.specs.Shown.{Shows, ShowsChanged, StillShows, IsIdle, Makes, MakesOneAtMost, empty_document};
-ghost use Rattle.cc_document.specs.Told.{AreMade, NothingLeft, TellsWhatIsFreed};
+ghost use Rattle.cc_heaps.specs.Leaving.{NothingLeft, TellsWhatIsFreed};
+ghost use Rattle.cc_document.specs.Told.{AreMade};
 
 use crate::error::DocumentError;
 use crate::reading::{data_of, element_at, element_in, listener_of, place_of};

@@ -12,7 +12,8 @@ ghost use Rattle.cc_document.specs.declared.error.DocumentError.TheVariants.{Ful
 ghost use Rattle.cc_document.specs.Words.{element_slots, listener_slot, data_register, closure_register, element_of, slot_of, in_variable};
 ghost use Rattle.cc_document.specs.Changes.{IsLeft};
 ghost use Rattle.cc_document.specs.Stops.{IsScriptFull, StopsClosing, StopsMakingClosure, StopsWrapping};
-ghost use Rattle.cc_document.specs.Told.{AreMade, Grows, NoneCame, TellsWhatIsFreed};
+ghost use Rattle.cc_heaps.specs.Leaving.{NoneCame, TellsWhatIsFreed};
+ghost use Rattle.cc_document.specs.Told.{AreMade, Grows};
 ghost use Rattle.cc_document.specs.Shown.{Shows, IsShown, IsShownWith, ShowsAfter, ShowsChanged, HasClosure, HasNewClosure, parts, register_of, written, gone_to, wrapping, without, making_closure, closing, closed_over, entering, entered};
 
 use crate::error::DocumentError;

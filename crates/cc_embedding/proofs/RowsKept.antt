@@ -17,7 +17,7 @@ use Rattle.cc_model.specs.Heap.{Heap}
 use Rattle.cc_model.specs.WellFormed.{names_there}
 use Rattle.cc_gc.specs.Sparing.{SparesWhatIsReached}
 use Rattle.cc_collector.specs.Collected.{TellsWhatLeaves}
-use Rattle.cc_document.specs.Told.{AreAllThatLeft, TellsWhatIsFreed, freed}
+use Rattle.cc_heaps.specs.Leaving.{AreAllThatLeft, TellsWhatIsFreed, freed}
 use Rattle.cc_embedding.specs.declared.told.Row.{Row}
 use Rattle.cc_embedding.specs.Rows.{HaveObjects, TellOfWhatIsGone, frees, has_freed, has_object, kept}
 

@@ -5,10 +5,9 @@ ghost use Rattle.cc_model.specs.Suspected.{IsSuspected};
 ghost use Rattle.cc_model.specs.Sweep.{collect_scripts as collected, sweep, sweeps};
 ghost use Rattle.cc_model.specs.View.{view};
 ghost use Rattle.cc_heaps.specs.Keyed.{IsInOrder};
-ghost use Rattle.cc_heaps.specs.Changes.{KeepsKeys};
 ghost use Rattle.cc_heaps.specs.Standing.{StillStands};
+ghost use Rattle.cc_heaps.specs.Keeping.{KeepsHeaps};
 ghost use Rattle.cc_model.specs.Telling.{TellsEvents};
-ghost use Rattle.cc_heaps.specs.Few.{AreFewIfOwnedOnce};
 ghost use Rattle.cc_gc.specs.Sparing.{KeepsWhatIsReached, SparesWhatIsReached};
 
 use cc_heaps::Heaps;
@@ -20,8 +19,7 @@ fn round<N: Notices>(heaps: &mut Heaps, out: &mut N) -> bool
     ensures swept { result ≡ sweeps (marked heaps.old.heap) }
     ensures heap { heaps.new.heap ≡ (sweep (marked heaps.old.heap)).heap }
     ensures told { TellsEvents (N.telling out.old) (N.telling out.new) (sweep (marked heaps.old.heap)).events }
-    ensures keys { KeepsKeys heaps.old heaps.new }
-    ensures order { (owned : List ℕ) → IsInOrder owned heaps.old → IsInOrder owned heaps.new }
+    ensures kept { KeepsHeaps [] [] heaps.old heaps.new }
 {
     heaps.mark_scripts();
     heaps.sweep(out)
@@ -47,9 +45,7 @@ pub fn collect_scripts<N: Notices>(heaps: &mut Heaps, out: &mut N)
     ensures suspected { IsSuspected (view heaps.old.heap) [] → IsSuspected (view heaps.new.heap) [] }
     ensures colours { HasColours heaps.new.heap }
     ensures invariant { HasColourInvariant (view heaps.new.heap) }
-    ensures keys { KeepsKeys heaps.old heaps.new }
-    ensures order { (owned : List ℕ) → IsInOrder owned heaps.old → IsInOrder owned heaps.new }
-    ensures counts { AreFewIfOwnedOnce heaps.new }
+    ensures kept { KeepsHeaps [] [] heaps.old heaps.new }
 {
     // sweeping may take away what alone held other objects, so the rounds go on until one sweeps nothing
     'rounds: while round(heaps, out) {}

@@ -214,7 +214,7 @@ suspect-keeps h k early late = record {
 
 -- a slot whose new reference is taken
 module _ (owned : List ℕ) (t : Heap) (k i : ℕ) (x : Option Name) (n : HeapNative) (found : native_at t k ≡ Some n) (within : i < length n.slots)
-    (there : IsIn (names_there t) x) (taken : AreTaken t x) (black : IsHeldBlack t.scripts x) (s : IsSound (numbers_of x ++ owned) t) where
+    (there : IsIn (names_there t) x) (taken : AreTaken t x) (s : IsSound (numbers_of x ++ owned) t) where
   abbrev old : Option Name
   old = get_or n.slots i None
 
@@ -227,8 +227,8 @@ module _ (owned : List ℕ) (t : Heap) (k i : ℕ) (x : Option Name) (n : HeapNa
   put-sound : IsSound owned (let_go written old).heap
   put-sound = let_go-sound owned written old owed
 
-  put-gentle : AreGentle t (let_go written old).heap
-  put-gentle = IsGentleBut-then (option_to_list old) t.natives_made t.natives_made (let_go written old).heap.natives_made
+  put-gentle : IsHeldBlack t.scripts x → AreGentle t (let_go written old).heap
+  put-gentle black = IsGentleBut-then (option_to_list old) t.natives_made t.natives_made (let_go written old).heap.natives_made
       (view t) (view written) (view (let_go written old).heap)
       (native_slot-gentle t k i n x s.well_formed found within taken (not_gray-held t x black))
       (let_go-gentle owned written old owed)
@@ -239,7 +239,26 @@ module _ (owned : List ℕ) (t : Heap) (k i : ℕ) (x : Option Name) (n : HeapNa
       let b = let_go-scripts written old in
       record { scripts = b.scripts; registers = b.registers }
 
--- A slot of a native is written.
+-- A slot of a native is written: the colour invariant stays.
+pub stored_in-colours : {owned : List ℕ} (h : Heap) (k i : ℕ) (x : Option Name) → i < length (slots_now (native_at h k)) → IsIn (names_there h) x →
+    IsSound owned h → HasColourInvariant (view h) → HasColourInvariant (view (stored_in h k i x).heap)
+stored_in-colours {owned} h k i x within there s colours = go (native_at t k) refl (subst (λ (ss : Slots). i < length ss) (sym (slots-taken h x k)) within)
+  where
+    t : Heap
+    t = take_up h x
+
+    go : (o : Option HeapNative) → native_at t k ≡ o → i < length (slots_now o) →
+        HasColourInvariant (view (let_go (change_native t k (with_native_slot i x)) (get_or (slots_now o) i None)).heap)
+    go None e l = absurd (omega arith)
+    go (Some n) e l =
+        let sound : IsSound (numbers_of x ++ owned) t = take_up-sound owned h x there s in
+        let in_place : IsIn (names_there t) x = names_there-take_up h x there in
+        let last : Heap = (let_go (change_native t k (with_native_slot i x)) (get_or n.slots i None)).heap in
+        HasColourInvariant-from last (put-sound owned t k i x n e l in_place (take_up-taken h x) sound).well_formed
+        (SameScripts-coloured t last (put-scripts owned t k i x n e l in_place (take_up-taken h x) sound)
+        (SameScripts-coloured h t (SameScripts-take_up h x) (AreColoured-from_view h s.well_formed colours)))
+
+-- It keeps snapshots fresh besides, where what comes in is black.
 pub stored_in-follows : {owned : List ℕ} (h : Heap) (k i : ℕ) (x : Option Name) → i < length (slots_now (native_at h k)) → IsIn (names_there h) x → IsHeldBlack h.scripts x →
     IsSound owned h → Follows h (stored_in h k i x).heap
 stored_in-follows {owned} h k i x within there black s = go (native_at t k) refl (subst (λ (ss : Slots). i < length ss) (sym (slots-taken h x k)) within)
@@ -257,9 +276,9 @@ stored_in-follows {owned} h k i x within there black s = go (native_at t k) refl
         let in_place : IsIn (names_there t) x = names_there-take_up h x there in
         let black_still : IsHeldBlack t.scripts x = subst (λ os. IsHeldBlack os x) (sym same.scripts) black in
         let last : Heap = (let_go (change_native t k (with_native_slot i x)) (get_or n.slots i None)).heap in
-        Follows-from h last s.well_formed (put-sound owned t k i x n e l in_place (take_up-taken h x) black_still sound).well_formed
-        (AreGentle-then h t last (take_up-gentle h x) (put-gentle owned t k i x n e l in_place (take_up-taken h x) black_still sound))
-        (λ c. SameScripts-coloured t last (put-scripts owned t k i x n e l in_place (take_up-taken h x) black_still sound) (SameScripts-coloured h t same c))
+        Follows-from h last s.well_formed (put-sound owned t k i x n e l in_place (take_up-taken h x) sound).well_formed
+        (AreGentle-then h t last (take_up-gentle h x) (put-gentle owned t k i x n e l in_place (take_up-taken h x) sound black_still))
+        (λ c. SameScripts-coloured t last (put-scripts owned t k i x n e l in_place (take_up-taken h x) sound) (SameScripts-coloured h t same c))
 
 -- It forgets none, where the native is reached.
 pub stored_in-remembers : {owned : List ℕ} (h : Heap) (k i : ℕ) (x : Option Name) → i < length (slots_now (native_at h k)) → IsIn (names_there h) x → ReachedIn (view h) (native k) →
@@ -330,6 +349,11 @@ object_slot-keeps {owned} v o key i x live black =
     (script_name-there owned v o x) (script_name-black owned v o x black) o.sound)
 
 -- A slot of a native is written with what is held.
+pub held-colours : {owned : List ℕ} (v w : Keyed) (o : IsInOrder owned v) (k i : ℕ) (x : Option Held) → i < length (slots_now (native_at v.heap k)) →
+    w ≡ left_with v (stored_in v.heap k i (held_name v x)).heap → HasColourInvariant (view v.heap) → HasColourInvariant (view w.heap)
+held-colours {owned} v w o k i x within e colours = subst (λ h. HasColourInvariant (view h)) (sym (ap (λ (u : Keyed). u.heap) e))
+    (stored_in-colours v.heap k i (held_name v x) within (held-in owned v x o) o.sound colours)
+
 pub held-follows : {owned : List ℕ} (v w : Keyed) (o : IsInOrder owned v) (k i : ℕ) (x : Option Held) → i < length (slots_now (native_at v.heap k)) → IsBlackHeld v x →
     w ≡ left_with v (stored_in v.heap k i (held_name v x)).heap → Follows v.heap w.heap
 held-follows {owned} v w o k i x within black e = subst (Follows v.heap) (sym (ap (λ (u : Keyed). u.heap) e))

@@ -47,7 +47,9 @@ pub mod StandingStill
 pub mod StandingAfter
 pub mod EntriesFollow
 pub mod KeysKept
+pub mod Kept
 pub mod Reflecting
 pub mod ReflectingMade
 pub mod ReflectingPreserved
 pub mod ReflectingWritten
+pub mod Leaving

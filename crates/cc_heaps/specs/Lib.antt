@@ -11,3 +11,5 @@ pub mod GrayHeld
 pub mod Roots
 pub mod Sweeping
 pub mod Standing
+pub mod Keeping
+pub mod Leaving

@@ -12,9 +12,11 @@ ghost use Rattle.cc_model.specs.Suspected.{IsSuspected};
 ghost use Rattle.cc_model.specs.Telling.{TellsEvents};
 ghost use Rattle.cc_model.specs.Graph as graph;
 ghost use Rattle.cc_heaps.specs.Keyed.{IsInOrder, counts_of, number_at, the_number, changed_to, left_with};
-ghost use Rattle.cc_heaps.specs.Changes.{IsNativeThere, IsScriptThere, KeepsKeys, native_name, script_name};
-ghost use Rattle.cc_heaps.specs.Standing.{StillStands, KeepsFresh, KeepsSuspected, KeepsColours};
-ghost use Rattle.cc_heaps.specs.Few.{IsNotOwned, AreFewIfOwnedOnce};
+ghost use Rattle.cc_heaps.specs.Changes.{IsNativeThere, IsScriptThere, native_name, script_name};
+ghost use Rattle.cc_heaps.specs.Standing.{StillStands};
+ghost use Rattle.cc_heaps.specs.Few.{IsNotOwned};
+ghost use Rattle.cc_heaps.specs.Keeping.{KeepsAll, KeepsHeaps};
+ghost use Rattle.cc_heaps.specs.Leaving.{TellsWhatIsFreed};
 
 mod census;
 mod entries;
@@ -142,11 +144,8 @@ impl Heaps {
         requires live { IsSome (number_at self.old key.0) }
         requires owned { (owned : List ℕ) × IsInOrder owned self.old × IsNotOwned (the_number self.old key.0) owned }
         ensures heap { self.new ≡ changed_to self.old (add_ref self.old.heap (the_number self.old key.0)) }
-        ensures keys { KeepsKeys self.old self.new }
-        ensures order { (owned : List ℕ) → IsInOrder owned self.old → IsInOrder (the_number self.old key.0 ∷ owned) self.new }
-        ensures counts { AreFewIfOwnedOnce self.new }
+        ensures kept { KeepsHeaps [] (the_number self.old key.0 ∷ []) self.old self.new }
         ensures stands { StillStands self.old.heap self.new.heap }
-        ensures colours { KeepsColours self.old.heap self.new.heap }
     {
         self.take_reference(key);
     }
@@ -157,11 +156,9 @@ impl Heaps {
         requires owned { (owned : List ℕ) × IsInOrder (the_number self.old key.0 ∷ owned) self.old }
         ensures heap { self.new ≡ left_with self.old (cascade self.old.heap (the_number self.old key.0)).heap }
         ensures told { TellsEvents (N.telling out.old) (N.telling out.new) (cascade self.old.heap (the_number self.old key.0)).events }
-        ensures keys { KeepsKeys self.old self.new }
-        ensures order { (owned : List ℕ) → IsInOrder (the_number self.old key.0 ∷ owned) self.old → IsInOrder owned self.new }
-        ensures counts { AreFewIfOwnedOnce self.new }
+        ensures tells { TellsWhatIsFreed self.old.heap self.new.heap (N.telling out.old) (N.telling out.new) }
+        ensures kept { KeepsHeaps (the_number self.old key.0 ∷ []) [] self.old self.new }
         ensures stands { StillStands self.old.heap self.new.heap }
-        ensures colours { KeepsColours self.old.heap self.new.heap }
     {
         self.counted.release(key, out);
     }
@@ -172,11 +169,8 @@ impl Heaps {
         requires owned { (owned : List ℕ) × IsInOrder (the_number self.old key.0 ∷ owned) self.old }
         ensures heap { self.new ≡ left_with self.old (unlink self.old.heap (the_number self.old key.0)).heap }
         ensures told { TellsEvents (N.telling out.old) (N.telling out.new) (unlink self.old.heap (the_number self.old key.0)).events }
-        ensures keys { KeepsKeys self.old self.new }
-        ensures order { (owned : List ℕ) → IsInOrder (the_number self.old key.0 ∷ owned) self.old → IsInOrder (the_number self.old key.0 ∷ owned) self.new }
-        ensures counts { AreFewIfOwnedOnce self.new }
+        ensures kept { KeepsHeaps (the_number self.old key.0 ∷ []) (the_number self.old key.0 ∷ []) self.old self.new }
         ensures stands { ¬ (ReachedIn (view self.old.heap) (native (the_number self.old key.0))) → StillStands self.old.heap self.new.heap }
-        ensures colours { KeepsColours self.old.heap self.new.heap }
     {
         self.counted.unlink(key, out);
     }
@@ -187,11 +181,8 @@ impl Heaps {
             (λ front. (self.old.heap.buffer ≡ record { number = the_number self.old front.0.0; purple = front.1 } ∷ self.new.heap.buffer)
             × (self.new ≡ changed_to self.old (record self.old.heap { buffer = self.new.heap.buffer }))
             × IsSome (number_at self.old front.0.0)) }
-        ensures keys { KeepsKeys self.old self.new }
-        ensures order { (owned : List ℕ) → IsInOrder owned self.old → IsInOrder owned self.new }
-        ensures counts { AreFewIfOwnedOnce self.new }
+        ensures kept { KeepsHeaps [] [] self.old self.new }
         ensures stands { StillStands self.old.heap self.new.heap }
-        ensures colours { KeepsColours self.old.heap self.new.heap }
     {
         self.counted.select_next()
     }
@@ -201,13 +192,8 @@ impl Heaps {
         requires live { IsSome (number_at self.old key.0) }
         requires owned { (owned : List ℕ) × IsInOrder owned self.old }
         ensures heap { self.new ≡ changed_to self.old (suspect self.old.heap (the_number self.old key.0)) }
-        ensures keys { KeepsKeys self.old self.new }
-        ensures order { (owned : List ℕ) → IsInOrder owned self.old → IsInOrder owned self.new }
-        ensures counts { AreFewIfOwnedOnce self.new }
+        ensures kept { KeepsAll self.old self.new }
         ensures stands { StillStands self.old.heap self.new.heap }
-        ensures colours { KeepsColours self.old.heap self.new.heap }
-        ensures fresh { KeepsFresh self.old.heap self.new.heap }
-        ensures suspected { KeepsSuspected self.old.heap self.new.heap }
     {
         self.counted.give_back(key);
     }

@@ -11,16 +11,19 @@
 //! comes into a script register is exposed. A weak map holds nothing by itself: an entry keeps its value while its map and
 //! its key live, and never its own key.
 //!
-//! What the laws make of these equations is said beside them, for callers who know no law: for which graph the heaps
-//! stand afterwards (`stands`), that objects keep their keys, that no count is greater than all references there can
-//! be (`counts`), and that the colour invariant stays; `mark_scripts` alone leaves objects white, and `sweep` takes
-//! these out. The calls that come while a collection runs say too that its snapshot stays fresh and that no native
-//! that nothing reaches is forgotten; `select_next`, `mark_scripts`, `sweep`, `root`, `unlink` and `unroot` are made
-//! where no snapshot is kept, and say neither. Some clauses need more of what is handed in: that it is reached from
-//! the registers (`IsReached`), or reflects what is (`IsReachedOrReflects`), that it is black, or, of a reflector whose
-//! slot is written, that it is preserved (`MayHold`). So a snapshot stays fresh where what is stored is black, and no
-//! native is forgotten where the native that is written into is reached. The clause says so; the call itself does not
-//! ask for it, but for `store_script`, which takes a black object alone.
+//! What the laws make of these equations is said beside them, for callers who know no law. For which graph the heaps
+//! stand afterwards is one clause (`stands`). What a change keeps is another (`kept`), one promise of six parts
+//! (`KeepsParts`): objects keep their keys, the heaps stay in order, no count is greater than all references there can
+//! be, the colour invariant stays, snapshots stay fresh, and no native that nothing reaches is forgotten. A call that
+//! may come while a collection runs promises all six (`KeepsAll`). `select_next`, `sweep`, `root`, `unlink` and
+//! `unroot` are made where no snapshot is kept, and say nothing of the last two (`KeepsHeaps`). Nor does
+//! `mark_scripts`, which leaves objects white besides (`KeepsObjects`); `sweep` takes these out.
+//!
+//! Some promises need more of what is handed in. A snapshot stays fresh where what is stored is black
+//! (`KeepsAllIfBlack`). No native is forgotten where the native that is written into is reached (`KeepsAllIfReached`).
+//! `stands` asks that what is handed in is reached from the registers (`IsReached`), or reflects what is
+//! (`IsReachedOrReflects`), and of a reflector whose slot is written that it is preserved (`MayHold`). The clause says
+//! so; the call itself does not ask for it, but for `store_script`, which takes a black object alone.
 #![tactic(auto)]
 
 mod heaps;

@@ -20,8 +20,9 @@ ghost use Rattle.cc_model.specs.View.{view};
 ghost use Rattle.cc_script.specs.Objects.{colour_at};
 ghost use Rattle.cc_heaps.specs.Keyed.{IsInOrder, left_with};
 ghost use Rattle.cc_heaps.specs.Changes.{IsScriptThere, IsThere, KeepsKeys, held_name, script_name};
-ghost use Rattle.cc_heaps.specs.Few.{AreFewIfOwnedOnce, AreOwnedOnce};
-ghost use Rattle.cc_heaps.specs.Standing.{StandsAfter, KeepsFresh, KeepsSuspected};
+ghost use Rattle.cc_heaps.specs.Few.{AreOwnedOnce};
+ghost use Rattle.cc_heaps.specs.Standing.{StandsAfter};
+ghost use Rattle.cc_heaps.specs.Keeping.{KeepsAll};
 ghost use Rattle.cc_mutator.specs.Applied.{IsCarriedOut};
 ghost use Rattle.cc_mutator.specs.Commands.{IsApplied};
 ghost use Rattle.cc_mutator.specs.Listing.{AreListedFor};
@@ -436,12 +437,7 @@ pub fn apply<N: Notices>(heaps: &mut Heaps, command: &Command, out: &mut N) -> R
     ensures replies { (s : State) → StandsFor heaps.old.heap s.graph → AreListedFor command.now heaps.old.heap s.listed →
         RepliesWith s command.now result }
     ensures stands { StandsAfter heaps.old.heap heaps.new.heap (λ g. graph_after g command.now (Some result)) }
-    ensures fresh { KeepsFresh heaps.old.heap heaps.new.heap }
-    ensures suspected { KeepsSuspected heaps.old.heap heaps.new.heap }
-    ensures counts { AreFewIfOwnedOnce heaps.new }
-    ensures keys { KeepsKeys heaps.old heaps.new }
-    ensures colours { HasColourInvariant (view heaps.new.heap) }
-    ensures order { (owned : List ℕ) → IsInOrder owned heaps.old → IsInOrder owned heaps.new }
+    ensures kept { KeepsAll heaps.old heaps.new }
 {
     answer(heaps, command, out)
 }

@@ -15,10 +15,9 @@ ghost use Rattle.cc_heaps.specs.Keyed.{IsInOrder, changed_to, left_with};
 ghost use Rattle.cc_unlink.specs.Whites.{AreUnreached, AreWhiteIn, KeepsReached, whites_of, whites_above};
 ghost use Rattle.cc_unlink.specs.Passes.{IsAt, native_nodes, nodes_above, nodes_behind, number_in};
 ghost use Rattle.cc_unlink.specs.Keys.{HasNodeKeys, HasOtherKey};
-ghost use Rattle.cc_heaps.specs.Changes.{KeepsKeys};
-ghost use Rattle.cc_heaps.specs.Few.{AreFew};
-ghost use Rattle.cc_heaps.specs.Standing.{StillStands, KeepsColours};
+ghost use Rattle.cc_heaps.specs.Standing.{StillStands};
 ghost use Rattle.cc_heaps.specs.Holders.{first_of};
+ghost use Rattle.cc_heaps.specs.Keeping.{KeepsHeaps};
 
 use cc_counted::{Counted, Held};
 use cc_graph::Graph;
@@ -194,14 +193,11 @@ pub fn collect_white<N: Notices>(graph: Graph, heaps: &mut Heaps, out: &mut N) -
     requires held { AreHeld graph (HasKey heaps.old) }
     ensures heap { heaps.new ≡ left_with heaps.old (take_away (whites_of graph heaps.old.heap) heaps.old.heap).heap }
     ensures told { TellsEvents (N.telling out.old) (N.telling out.new) (take_away (whites_of graph heaps.old.heap) heaps.old.heap).events }
-    ensures order { IsInOrder [] heaps.new }
+    ensures kept { KeepsHeaps [] [] heaps.old heaps.new }
     ensures stands { AreUnreached heaps.old.heap (whites_of graph heaps.old.heap) → StillStands heaps.old.heap heaps.new.heap }
     ensures reached { AreUnreached heaps.old.heap (whites_of graph heaps.old.heap) → KeepsReached heaps.old.heap heaps.new.heap }
     ensures objects { heaps.new.heap.scripts ≡ heaps.old.heap.scripts }
     ensures suspected { (s : Snapshot) → AreWhiteIn graph heaps.old.heap s → IsSuspected (view heaps.old.heap) s.candidates → IsSuspected (view heaps.new.heap) [] }
-    ensures colours { KeepsColours heaps.old.heap heaps.new.heap }
-    ensures keys { KeepsKeys heaps.old heaps.new }
-    ensures counts { AreFew heaps.new.heap }
     ensures graph { result ≡ graph }
 {
     end_uncounted::<Brand, N>(graph, heaps, out, Blank::new(1))
@@ -221,14 +217,11 @@ fn end_uncounted<L: Ledger, N: Notices>(
     requires held { AreHeld graph (HasKey heaps.old) }
     ensures heap { heaps.new ≡ left_with heaps.old (take_away (whites_of graph heaps.old.heap) heaps.old.heap).heap }
     ensures told { TellsEvents (N.telling out.old) (N.telling out.new) (take_away (whites_of graph heaps.old.heap) heaps.old.heap).events }
-    ensures order { IsInOrder [] heaps.new }
+    ensures kept { KeepsHeaps [] [] heaps.old heaps.new }
     ensures stands { AreUnreached heaps.old.heap (whites_of graph heaps.old.heap) → StillStands heaps.old.heap heaps.new.heap }
     ensures reached { AreUnreached heaps.old.heap (whites_of graph heaps.old.heap) → KeepsReached heaps.old.heap heaps.new.heap }
     ensures objects { heaps.new.heap.scripts ≡ heaps.old.heap.scripts }
     ensures suspected { (s : Snapshot) → AreWhiteIn graph heaps.old.heap s → IsSuspected (view heaps.old.heap) s.candidates → IsSuspected (view heaps.new.heap) [] }
-    ensures colours { KeepsColours heaps.old.heap heaps.new.heap }
-    ensures keys { KeepsKeys heaps.old heaps.new }
-    ensures counts { AreFew heaps.new.heap }
     ensures graph { result ≡ graph }
 {
     let mut steps = Steps::<L>::new(blank);
@@ -249,14 +242,11 @@ pub fn collect_white_counted<N: Notices, L: Ledger>(
     requires held { AreHeld graph (HasKey heaps.old) }
     ensures heap { heaps.new ≡ left_with heaps.old (take_away (whites_of graph heaps.old.heap) heaps.old.heap).heap }
     ensures told { TellsEvents (N.telling out.old) (N.telling out.new) (take_away (whites_of graph heaps.old.heap) heaps.old.heap).events }
-    ensures order { IsInOrder [] heaps.new }
+    ensures kept { KeepsHeaps [] [] heaps.old heaps.new }
     ensures stands { AreUnreached heaps.old.heap (whites_of graph heaps.old.heap) → StillStands heaps.old.heap heaps.new.heap }
     ensures reached { AreUnreached heaps.old.heap (whites_of graph heaps.old.heap) → KeepsReached heaps.old.heap heaps.new.heap }
     ensures objects { heaps.new.heap.scripts ≡ heaps.old.heap.scripts }
     ensures suspected { (s : Snapshot) → AreWhiteIn graph heaps.old.heap s → IsSuspected (view heaps.old.heap) s.candidates → IsSuspected (view heaps.new.heap) [] }
-    ensures colours { KeepsColours heaps.old.heap heaps.new.heap }
-    ensures keys { KeepsKeys heaps.old heaps.new }
-    ensures counts { AreFew heaps.new.heap }
     ensures graph { result ≡ graph }
     ensures steps { steps.new ≤ steps.old + 3 * length (native_nodes graph) }
 {

@@ -9,9 +9,10 @@ ghost use Rattle.cc_model.specs.Graph as graph;
 ghost use Rattle.cc_model.specs.Heap.{has_reflector, preserve as preserved};
 ghost use Rattle.cc_script.specs.Objects.{colour_at, is_there, name_at};
 ghost use Rattle.cc_heaps.specs.Keyed.{IsInOrder, number_at, the_number, changed_to};
-ghost use Rattle.cc_heaps.specs.Changes.{IsNativeThere, IsScriptThere, KeepsKeys, native_name};
-ghost use Rattle.cc_heaps.specs.Standing.{IsReached, MayHold, StandsAfter, KeepsFresh, KeepsSuspected, KeepsColours};
-ghost use Rattle.cc_heaps.specs.Few.{AreFewIfOwnedOnce, AreOwnedOnce};
+ghost use Rattle.cc_heaps.specs.Changes.{IsNativeThere, IsScriptThere, native_name};
+ghost use Rattle.cc_heaps.specs.Standing.{IsReached, MayHold, StandsAfter};
+ghost use Rattle.cc_heaps.specs.Few.{AreOwnedOnce};
+ghost use Rattle.cc_heaps.specs.Keeping.{KeepsAllIfBlack, KeepsAllIfReached};
 
 use cc_heaps::Heaps;
 use cc_names::{NKey, NoMemory, SKey};
@@ -30,15 +31,9 @@ pub fn wrap(heaps: &mut Heaps, key: NKey) -> Result<SKey, NoMemory>
     ensures lacks { OnErr result (has_reflector heaps.old.heap (the_number heaps.old key.0) ≡ false) }
     ensures same { OnErr result (heaps.new ≡ heaps.old) }
     ensures natives { heaps.new.keys ≡ heaps.old.keys }
-    ensures keys { KeepsKeys heaps.old heaps.new }
-    ensures order { (owned : List ℕ) → IsInOrder owned heaps.old → IsInOrder owned heaps.new }
-    ensures counts { AreFewIfOwnedOnce heaps.new }
+    ensures kept { KeepsAllIfReached (IsReached heaps.old.heap (Some (native (the_number heaps.old key.0)))) heaps.old heaps.new }
     ensures stands { OnOk result (IsReached heaps.old.heap (Some (native (the_number heaps.old key.0))) →
         StandsAfter heaps.old.heap heaps.new.heap (λ g. graph.wrapped g (Some (native (the_number heaps.old key.0))))) }
-    ensures colours { KeepsColours heaps.old.heap heaps.new.heap }
-    ensures fresh { KeepsFresh heaps.old.heap heaps.new.heap }
-    ensures suspected { IsReached heaps.old.heap (Some (native (the_number heaps.old key.0))) →
-        KeepsSuspected heaps.old.heap heaps.new.heap }
     ensures reached { (x : Option Name) → IsReached heaps.old.heap x → IsReached heaps.new.heap x }
 {
     match heaps.counted().reflector(key) {
@@ -70,14 +65,9 @@ pub fn preserve(heaps: &mut Heaps, key: SKey) -> bool
     ensures reflects { option_map is_reflector (name_at heaps.old.scripts key.0) ≡ Some result }
     ensures heap { heaps.new ≡ changed_to heaps.old (preserved heaps.old.heap (name_at heaps.old.scripts key.0)) }
     ensures same { result ≡ false → heaps.new ≡ heaps.old }
-    ensures keys { KeepsKeys heaps.old heaps.new }
-    ensures order { (owned : List ℕ) → IsInOrder owned heaps.old → IsInOrder owned heaps.new }
-    ensures counts { AreFewIfOwnedOnce heaps.new }
+    ensures kept { KeepsAllIfBlack (colour_at heaps.old.scripts key.0 ≡ Some Black) heaps.old heaps.new }
     ensures stands { IsReached heaps.old.heap (name_at heaps.old.scripts key.0) →
         StandsAfter heaps.old.heap heaps.new.heap (λ g. graph.preserve g (name_at heaps.old.scripts key.0)) }
-    ensures colours { KeepsColours heaps.old.heap heaps.new.heap }
-    ensures fresh { colour_at heaps.old.scripts key.0 ≡ Some Black → KeepsFresh heaps.old.heap heaps.new.heap }
-    ensures suspected { KeepsSuspected heaps.old.heap heaps.new.heap }
     ensures reached { (x : Option Name) → IsReached heaps.old.heap x → IsReached heaps.new.heap x }
     ensures may_hold { MayHold heaps.new.heap (name_at heaps.old.scripts key.0) }
 {

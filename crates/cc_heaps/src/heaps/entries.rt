@@ -9,9 +9,9 @@ ghost use Rattle.cc_model.specs.Graph as graph;
 ghost use Rattle.cc_script.specs.Objects.{is_there, kind_at, name_at};
 ghost use Rattle.cc_counted.specs.declared.held.Held.TheVariants as held;
 ghost use Rattle.cc_heaps.specs.Keyed.{IsInOrder, changed_to, the_name_at};
-ghost use Rattle.cc_heaps.specs.Changes.{IsBlackHeld, KeepsKeys};
-ghost use Rattle.cc_heaps.specs.Standing.{IsReached, StandsAfter, KeepsFresh, KeepsSuspected, KeepsColours};
-ghost use Rattle.cc_heaps.specs.Few.{AreFewIfOwnedOnce};
+ghost use Rattle.cc_heaps.specs.Changes.{IsBlackHeld};
+ghost use Rattle.cc_heaps.specs.Standing.{IsReached, StandsAfter};
+ghost use Rattle.cc_heaps.specs.Keeping.{KeepsAll, KeepsAllIfBlack};
 
 use crate::heaps::Heaps;
 use cc_names::{NoMemory, SKey};
@@ -60,16 +60,11 @@ impl Heaps {
         ensures heap { OnOk result (self.new.heap ≡ set_entry self.old.heap (name_at self.old.scripts the_map.0) (name_at self.old.scripts key.0) (name_at self.old.scripts value.0)) }
         ensures in_place { IsSome (value_at (objects_of self.old.heap) (name_at self.old.scripts the_map.0) (name_at self.old.scripts key.0)) → IsOk result }
         ensures natives { self.new.keys ≡ self.old.keys }
-        ensures keys { KeepsKeys self.old self.new }
+        ensures kept { KeepsAllIfBlack (IsBlackHeld self.old (Some (held.Script key)) × IsBlackHeld self.old (Some (held.Script value))) self.old self.new }
         ensures same { OnErr result (self.new ≡ self.old) }
-        ensures order { (owned : List ℕ) → IsInOrder owned self.old → IsInOrder owned self.new }
-        ensures counts { AreFewIfOwnedOnce self.new }
         ensures stands { OnOk result (IsReached self.old.heap (name_at self.old.scripts the_map.0) → IsReached self.old.heap (name_at self.old.scripts key.0) →
             IsReached self.old.heap (name_at self.old.scripts value.0) →
             StandsAfter self.old.heap self.new.heap (λ g. graph.set_entry g (name_at self.old.scripts the_map.0) (name_at self.old.scripts key.0) (name_at self.old.scripts value.0))) }
-        ensures colours { KeepsColours self.old.heap self.new.heap }
-        ensures fresh { IsBlackHeld self.old (Some (held.Script key)) → IsBlackHeld self.old (Some (held.Script value)) → KeepsFresh self.old.heap self.new.heap }
-        ensures suspected { KeepsSuspected self.old.heap self.new.heap }
     {
         self.put_entry(the_map, key, value)?;
         self.preserve(key);
@@ -83,14 +78,9 @@ impl Heaps {
         requires key { IsTrue (is_there self.old.scripts key.0) }
         ensures heap { self.new.heap ≡ set_entry self.old.heap (name_at self.old.scripts the_map.0) (name_at self.old.scripts key.0) None }
         ensures natives { self.new.keys ≡ self.old.keys }
-        ensures keys { KeepsKeys self.old self.new }
-        ensures order { (owned : List ℕ) → IsInOrder owned self.old → IsInOrder owned self.new }
-        ensures counts { AreFewIfOwnedOnce self.new }
+        ensures kept { KeepsAll self.old self.new }
         ensures stands { IsReached self.old.heap (name_at self.old.scripts the_map.0) → IsReached self.old.heap (name_at self.old.scripts key.0) →
             StandsAfter self.old.heap self.new.heap (λ g. graph.set_entry g (name_at self.old.scripts the_map.0) (name_at self.old.scripts key.0) None) }
-        ensures colours { KeepsColours self.old.heap self.new.heap }
-        ensures fresh { KeepsFresh self.old.heap self.new.heap }
-        ensures suspected { KeepsSuspected self.old.heap self.new.heap }
     {
         self.weak.unset(the_map, key);
     }

@@ -12,9 +12,11 @@ ghost use Rattle.cc_model.specs.Graph as graph;
 ghost use Rattle.cc_laws_heap.specs.Sound.{numbers_of};
 ghost use Rattle.cc_counted.specs.Counts.{slots_of};
 ghost use Rattle.cc_heaps.specs.Keyed.{IsInOrder, counts_of, number_at, the_number, changed_to, left_with};
-ghost use Rattle.cc_heaps.specs.Changes.{IsNativeThere, IsThere, held_name, native_name, stored_in, IsBlackHeld, KeepsKeys};
-ghost use Rattle.cc_heaps.specs.Standing.{IsReached, StandsAfter, KeepsFresh, KeepsSuspected, KeepsColours};
-ghost use Rattle.cc_heaps.specs.Few.{AreFewIfOwnedOnce, AreOwnedOnce};
+ghost use Rattle.cc_heaps.specs.Changes.{IsNativeThere, IsThere, held_name, native_name, stored_in, IsBlackHeld};
+ghost use Rattle.cc_heaps.specs.Standing.{IsReached, StandsAfter};
+ghost use Rattle.cc_heaps.specs.Few.{AreOwnedOnce};
+ghost use Rattle.cc_heaps.specs.Keeping.{KeepsAll, KeepsAllIf};
+ghost use Rattle.cc_heaps.specs.Leaving.{TellsWhatIsFreed};
 
 use crate::heaps::Heaps;
 use cc_counted::{Held, native_held};
@@ -109,14 +111,10 @@ impl Heaps {
         ensures heap { self.new ≡ left_with self.old (hold_native self.old.heap r (native_name self.old content)).heap }
         ensures told { TellsEvents (N.telling out.old) (N.telling out.new)
             (hold_native self.old.heap r (native_name self.old content)).events }
-        ensures keys { KeepsKeys self.old self.new }
-        ensures order { (owned : List ℕ) → IsInOrder owned self.old → IsInOrder owned self.new }
-        ensures counts { AreFewIfOwnedOnce self.new }
+        ensures tells { TellsWhatIsFreed self.old.heap self.new.heap (N.telling out.old) (N.telling out.new) }
+        ensures kept { KeepsAll self.old self.new }
         ensures stands { IsReached self.old.heap (native_name self.old content) →
             StandsAfter self.old.heap self.new.heap (λ g. graph.set_register g (n_register r) (native_name self.old content)) }
-        ensures colours { KeepsColours self.old.heap self.new.heap }
-        ensures fresh { KeepsFresh self.old.heap self.new.heap }
-        ensures suspected { KeepsSuspected self.old.heap self.new.heap }
     {
         self.take_up(Held::of_native(content));
         self.put_in_register(r, content, out);
@@ -136,15 +134,10 @@ impl Heaps {
         ensures heap { self.new ≡ left_with self.old (stored_in self.old.heap (the_number self.old key.0) i (held_name self.old content)).heap }
         ensures told { TellsEvents (N.telling out.old) (N.telling out.new)
             (stored_in self.old.heap (the_number self.old key.0) i (held_name self.old content)).events }
-        ensures keys { KeepsKeys self.old self.new }
-        ensures order { (owned : List ℕ) → IsInOrder owned self.old → IsInOrder owned self.new }
-        ensures counts { AreFewIfOwnedOnce self.new }
+        ensures tells { TellsWhatIsFreed self.old.heap self.new.heap (N.telling out.old) (N.telling out.new) }
+        ensures kept { KeepsAllIf (IsBlackHeld self.old content) (IsReached self.old.heap (Some (native (the_number self.old key.0)))) self.old self.new }
         ensures stands { IsReached self.old.heap (Some (native (the_number self.old key.0))) → IsReached self.old.heap (held_name self.old content) →
             StandsAfter self.old.heap self.new.heap (λ g. graph.set_slot g (Some (native (the_number self.old key.0))) i (held_name self.old content)) }
-        ensures colours { IsBlackHeld self.old content → KeepsColours self.old.heap self.new.heap }
-        ensures fresh { IsBlackHeld self.old content → KeepsFresh self.old.heap self.new.heap }
-        ensures suspected { IsReached self.old.heap (Some (native (the_number self.old key.0))) →
-            KeepsSuspected self.old.heap self.new.heap }
     {
         self.take_up(content);
         let held = self.replace_slot(key, i, content);

@@ -6,9 +6,10 @@ ghost use Rattle.cc_model.specs.Telling.{TellsEvents};
 ghost use Rattle.cc_model.specs.declared.command.Command.TheVariants as command;
 ghost use Rattle.cc_model.specs.Graph as graph;
 ghost use Rattle.cc_heaps.specs.Keyed.{IsInOrder, number_at};
-ghost use Rattle.cc_heaps.specs.Changes.{IsNativeThere, KeepsKeys, native_name};
-ghost use Rattle.cc_heaps.specs.Standing.{StandsAfter, KeepsFresh, KeepsSuspected, KeepsColours};
-ghost use Rattle.cc_heaps.specs.Few.{AreFewIfOwnedOnce};
+ghost use Rattle.cc_heaps.specs.Changes.{IsNativeThere, native_name};
+ghost use Rattle.cc_heaps.specs.Standing.{StandsAfter};
+ghost use Rattle.cc_heaps.specs.Keeping.{KeepsAll};
+ghost use Rattle.cc_heaps.specs.Leaving.{TellsWhatIsFreed};
 
 use crate::heaps::Heaps;
 use crate::make_stop::MakeStop;
@@ -53,16 +54,12 @@ impl Heaps {
         ensures name { IfOk result (λ x. x ≡ native (self.old.heap.natives_made + 1)) }
         ensures heap { OnOk result (self.new.heap ≡ (make_native self.old.heap r slots).heap) }
         ensures told { OnOk result (TellsEvents (N.telling out.old) (N.telling out.new) (make_native self.old.heap r slots).events) }
+        ensures tells { TellsWhatIsFreed self.old.heap self.new.heap (N.telling out.old) (N.telling out.new) }
         ensures scripts { self.new.scripts ≡ self.old.scripts }
-        ensures keys { KeepsKeys self.old self.new }
+        ensures kept { KeepsAll self.old self.new }
         ensures same { OnErr result (self.new ≡ self.old) }
         ensures silent { OnErr result (N.telling out.new ≡ N.telling out.old) }
-        ensures order { (owned : List ℕ) → IsInOrder owned self.old → IsInOrder owned self.new }
-        ensures counts { AreFewIfOwnedOnce self.new }
         ensures stands { OnOk result (StandsAfter self.old.heap self.new.heap (λ g. graph.step g (command.Native r slots))) }
-        ensures colours { KeepsColours self.old.heap self.new.heap }
-        ensures fresh { KeepsFresh self.old.heap self.new.heap }
-        ensures suspected { KeepsSuspected self.old.heap self.new.heap }
     {
         if self.natives_made >= self.limits.natives() {
             return Err(MakeStop::Full);

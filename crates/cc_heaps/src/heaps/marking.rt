@@ -5,9 +5,8 @@ ghost use Rattle.cc_model.specs.Colours.{marked, HasColours};
 ghost use Rattle.cc_script.specs.Objects.{AreWhole, is_there};
 ghost use Rattle.cc_marking.specs.Marking.{AreEntriesThere, marked_from};
 ghost use Rattle.cc_heaps.specs.Keyed.{IsInOrder};
-ghost use Rattle.cc_heaps.specs.Changes.{KeepsKeys};
 ghost use Rattle.cc_heaps.specs.Standing.{StillStands};
-ghost use Rattle.cc_heaps.specs.Few.{AreFewIfOwnedOnce};
+ghost use Rattle.cc_heaps.specs.Keeping.{KeepsObjects};
 
 use crate::heaps::Heaps;
 use crate::heaps::roots::{HeldRoots, RegisterRoots};
@@ -47,9 +46,7 @@ impl Heaps {
         requires order { (owned : List ℕ) × IsInOrder owned self.old }
         ensures heap { self.new.heap ≡ marked self.old.heap }
         ensures natives { self.new.keys ≡ self.old.keys }
-        ensures keys { KeepsKeys self.old self.new }
-        ensures order { (owned : List ℕ) → IsInOrder owned self.old → IsInOrder owned self.new }
-        ensures counts { AreFewIfOwnedOnce self.new }
+        ensures kept { KeepsObjects self.old self.new }
         ensures stands { StillStands self.old.heap self.new.heap }
         ensures colours { HasColours self.new.heap }
     {

@@ -6,9 +6,10 @@ ghost use Rattle.cc_model.specs.Effects.{with_reflector};
 ghost use Rattle.cc_model.specs.Graph as graph;
 ghost use Rattle.cc_script.specs.Objects.{name_at};
 ghost use Rattle.cc_heaps.specs.Keyed.{IsInOrder, number_at, the_number, changed_to};
-ghost use Rattle.cc_heaps.specs.Changes.{IsScriptThere, KeepsKeys};
-ghost use Rattle.cc_heaps.specs.Standing.{IsReached, StandsAfter, KeepsFresh, KeepsSuspected, KeepsColours};
-ghost use Rattle.cc_heaps.specs.Few.{AreFewIfOwnedOnce, AreOwnedOnce};
+ghost use Rattle.cc_heaps.specs.Changes.{IsScriptThere};
+ghost use Rattle.cc_heaps.specs.Standing.{IsReached, StandsAfter};
+ghost use Rattle.cc_heaps.specs.Few.{AreOwnedOnce};
+ghost use Rattle.cc_heaps.specs.Keeping.{KeepsAllIfBlack, KeepsAllIfReached};
 
 use crate::heaps::Heaps;
 use cc_names::{NKey, NoMemory, SKey};
@@ -26,15 +27,10 @@ impl Heaps {
         ensures name { IfOk result (λ made. name_at self.new.scripts made.0 ≡ Some (reflector (the_number self.old key.0))) }
         ensures there { IfOk result (λ made. IsScriptThere self.new (Some made)) }
         ensures natives { self.new.keys ≡ self.old.keys }
-        ensures keys { KeepsKeys self.old self.new }
+        ensures kept { KeepsAllIfReached (IsReached self.old.heap (Some (native (the_number self.old key.0)))) self.old self.new }
         ensures same { OnErr result (self.new ≡ self.old) }
-        ensures order { (owned : List ℕ) → IsInOrder owned self.old → IsInOrder owned self.new }
-        ensures counts { AreFewIfOwnedOnce self.new }
         ensures stands { OnOk result (IsReached self.old.heap (Some (native (the_number self.old key.0))) →
             StandsAfter self.old.heap self.new.heap (λ g. graph.wrapped g (Some (native (the_number self.old key.0))))) }
-        ensures colours { KeepsColours self.old.heap self.new.heap }
-        ensures fresh { KeepsFresh self.old.heap self.new.heap }
-        ensures suspected { IsReached self.old.heap (Some (native (the_number self.old key.0))) → KeepsSuspected self.old.heap self.new.heap }
     {
         let Some(number) = self.counted.number(key) else {
             unreachable!()
@@ -53,14 +49,9 @@ impl Heaps {
         requires live { IsSome (number_at self.old key.0) }
         requires has { has_reflector self.old.heap (the_number self.old key.0) ≡ true }
         ensures heap { self.new ≡ changed_to self.old (set_preserved self.old.heap (the_number self.old key.0) true) }
-        ensures keys { KeepsKeys self.old self.new }
-        ensures order { (owned : List ℕ) → IsInOrder owned self.old → IsInOrder owned self.new }
-        ensures counts { AreFewIfOwnedOnce self.new }
+        ensures kept { KeepsAllIfBlack (is_gray_in self.old.heap (reflector (the_number self.old key.0)) ≡ false) self.old self.new }
         ensures stands { IsReached self.old.heap (Some (native (the_number self.old key.0))) →
             StandsAfter self.old.heap self.new.heap (λ g. graph.preserve g (Some (reflector (the_number self.old key.0)))) }
-        ensures colours { KeepsColours self.old.heap self.new.heap }
-        ensures fresh { is_gray_in self.old.heap (reflector (the_number self.old key.0)) ≡ false → KeepsFresh self.old.heap self.new.heap }
-        ensures suspected { KeepsSuspected self.old.heap self.new.heap }
     {
         self.counted.set_preserved(key, true);
     }

@@ -13,8 +13,8 @@ ghost use Rattle.cc_script.specs.Objects.{colour_at, is_there, name_at, slots_at
 ghost use Rattle.cc_heaps.specs.Keyed.{IsInOrder};
 ghost use Rattle.cc_heaps.specs.Making.{kind_to_make, command_to_make, object_to_make, slots_to_make};
 ghost use Rattle.cc_heaps.specs.Changes.{IsScriptThere, KeepsKeys, script_name};
-ghost use Rattle.cc_heaps.specs.Standing.{IsReached, IsReachedOrReflects, MayHold, StandsAfter, StillStands, KeepsFresh, KeepsSuspected, KeepsColours};
-ghost use Rattle.cc_heaps.specs.Few.{AreFewIfOwnedOnce};
+ghost use Rattle.cc_heaps.specs.Standing.{IsReached, IsReachedOrReflects, MayHold, StandsAfter, StillStands};
+ghost use Rattle.cc_heaps.specs.Keeping.{KeepsAll};
 
 use crate::heaps::Heaps;
 use crate::make_stop::MakeStop;
@@ -91,14 +91,9 @@ impl Heaps {
         ensures name { IfOk result (λ x. x ≡ object (self.old.heap.scripts_made + 1)) }
         ensures heap { OnOk result (self.new.heap ≡ make_object self.old.heap r (kind_to_make slots) (slots_to_make slots)) }
         ensures natives { self.new.keys ≡ self.old.keys }
-        ensures keys { KeepsKeys self.old self.new }
+        ensures kept { KeepsAll self.old self.new }
         ensures same { OnErr result (self.new ≡ self.old) }
-        ensures order { (owned : List ℕ) → IsInOrder owned self.old → IsInOrder owned self.new }
-        ensures counts { AreFewIfOwnedOnce self.new }
         ensures stands { OnOk result (StandsAfter self.old.heap self.new.heap (λ g. graph.step g (command_to_make r slots))) }
-        ensures colours { KeepsColours self.old.heap self.new.heap }
-        ensures fresh { KeepsFresh self.old.heap self.new.heap }
-        ensures suspected { KeepsSuspected self.old.heap self.new.heap }
     {
         if self.scripts_made >= self.limits.scripts() {
             return Err(MakeStop::Full);
@@ -125,14 +120,9 @@ impl Heaps {
         ensures name { IfOk result (λ x. x ≡ object (self.old.heap.scripts_made + 1)) }
         ensures heap { OnOk result (self.new.heap ≡ make_object self.old.heap r Plain slots) }
         ensures natives { self.new.keys ≡ self.old.keys }
-        ensures keys { KeepsKeys self.old self.new }
+        ensures kept { KeepsAll self.old self.new }
         ensures same { OnErr result (self.new ≡ self.old) }
-        ensures order { (owned : List ℕ) → IsInOrder owned self.old → IsInOrder owned self.new }
-        ensures counts { AreFewIfOwnedOnce self.new }
         ensures stands { OnOk result (StandsAfter self.old.heap self.new.heap (λ g. graph.step g (command.Script r slots))) }
-        ensures colours { KeepsColours self.old.heap self.new.heap }
-        ensures fresh { KeepsFresh self.old.heap self.new.heap }
-        ensures suspected { KeepsSuspected self.old.heap self.new.heap }
     {
         self.new_object(r, Some(slots))
     }
@@ -148,14 +138,9 @@ impl Heaps {
         ensures name { IfOk result (λ x. x ≡ object (self.old.heap.scripts_made + 1)) }
         ensures heap { OnOk result (self.new.heap ≡ make_object self.old.heap r Map 0) }
         ensures natives { self.new.keys ≡ self.old.keys }
-        ensures keys { KeepsKeys self.old self.new }
+        ensures kept { KeepsAll self.old self.new }
         ensures same { OnErr result (self.new ≡ self.old) }
-        ensures order { (owned : List ℕ) → IsInOrder owned self.old → IsInOrder owned self.new }
-        ensures counts { AreFewIfOwnedOnce self.new }
         ensures stands { OnOk result (StandsAfter self.old.heap self.new.heap (λ g. graph.step g (command.WeakMap r))) }
-        ensures colours { KeepsColours self.old.heap self.new.heap }
-        ensures fresh { KeepsFresh self.old.heap self.new.heap }
-        ensures suspected { KeepsSuspected self.old.heap self.new.heap }
     {
         self.new_object(r, None)
     }
@@ -167,14 +152,9 @@ impl Heaps {
         requires there { IsScriptThere self.old content }
         ensures heap { self.new.heap ≡ hold_script self.old.heap r (script_name self.old content) }
         ensures natives { self.new.keys ≡ self.old.keys }
-        ensures keys { KeepsKeys self.old self.new }
-        ensures order { (owned : List ℕ) → IsInOrder owned self.old → IsInOrder owned self.new }
-        ensures counts { AreFewIfOwnedOnce self.new }
+        ensures kept { KeepsAll self.old self.new }
         ensures stands { IsReachedOrReflects self.old.heap (script_name self.old content) →
             StandsAfter self.old.heap self.new.heap (λ g. graph.set_register g (s_register r) (script_name self.old content)) }
-        ensures colours { KeepsColours self.old.heap self.new.heap }
-        ensures fresh { KeepsFresh self.old.heap self.new.heap }
-        ensures suspected { KeepsSuspected self.old.heap self.new.heap }
     {
         self.expose_content(content);
         self.write_script_reg(r, content);
@@ -192,15 +172,10 @@ impl Heaps {
         requires black { IfSome content (λ k. colour_at self.old.scripts k.0 ≡ Some Black) }
         ensures heap { self.new.heap ≡ set_slot self.old.heap (name_at self.old.scripts key.0) i (script_name self.old content) }
         ensures natives { self.new.keys ≡ self.old.keys }
-        ensures keys { KeepsKeys self.old self.new }
-        ensures order { (owned : List ℕ) → IsInOrder owned self.old → IsInOrder owned self.new }
-        ensures counts { AreFewIfOwnedOnce self.new }
+        ensures kept { KeepsAll self.old self.new }
         ensures stands { IsReached self.old.heap (name_at self.old.scripts key.0) → IsReached self.old.heap (script_name self.old content) →
             MayHold self.old.heap (name_at self.old.scripts key.0) →
             StandsAfter self.old.heap self.new.heap (λ g. graph.set_slot g (name_at self.old.scripts key.0) i (script_name self.old content)) }
-        ensures colours { KeepsColours self.old.heap self.new.heap }
-        ensures fresh { KeepsFresh self.old.heap self.new.heap }
-        ensures suspected { KeepsSuspected self.old.heap self.new.heap }
     {
         self.scripts.set_slot(key, i, content);
     }
@@ -212,13 +187,8 @@ impl Heaps {
         requires live { IsTrue (is_there self.old.scripts key.0) }
         ensures heap { self.new.heap ≡ exposed self.old.heap (name_at self.old.scripts key.0) }
         ensures natives { self.new.keys ≡ self.old.keys }
-        ensures keys { KeepsKeys self.old self.new }
-        ensures order { (owned : List ℕ) → IsInOrder owned self.old → IsInOrder owned self.new }
-        ensures counts { AreFewIfOwnedOnce self.new }
+        ensures kept { KeepsAll self.old self.new }
         ensures stands { StillStands self.old.heap self.new.heap }
-        ensures colours { KeepsColours self.old.heap self.new.heap }
-        ensures fresh { KeepsFresh self.old.heap self.new.heap }
-        ensures suspected { KeepsSuspected self.old.heap self.new.heap }
     {
         self.expose_content(Some(key));
     }

@@ -8,12 +8,11 @@ ghost use Rattle.cc_script.specs.Objects.{Object, is_there, object_at, without_o
 ghost use Rattle.cc_counted.specs.Counts.{key_left, the_number};
 ghost use Rattle.cc_counted.specs.Owning.{Transfers};
 ghost use Rattle.cc_heaps.specs.Keyed.{IsInOrder};
-ghost use Rattle.cc_heaps.specs.Changes.{KeepsKeys};
 ghost use Rattle.cc_weakmaps.specs.Living.{living};
 ghost use Rattle.cc_marking.specs.Marking.{AreEntriesThere};
 ghost use Rattle.cc_heaps.specs.Sweeping.{are_some, is_marked, is_white, let_native_go, native_keys, native_keys_where, not_white, sweep_where, swept_counts, white_names, whites, OwnEach};
 ghost use Rattle.cc_heaps.specs.Standing.{StillStands};
-ghost use Rattle.cc_heaps.specs.Few.{AreFewIfOwnedOnce};
+ghost use Rattle.cc_heaps.specs.Keeping.{KeepsHeaps};
 
 use crate::heaps::Heaps;
 use cc_counted::Counted;
@@ -127,9 +126,7 @@ impl Heaps {
         ensures heap { self.new.heap ≡ (sweep self.old.heap).heap }
         ensures told { TellsEvents (N.telling out.old) (N.telling out.new) (sweep self.old.heap).events }
         ensures natives { self.new.keys ≡ map (key_left self.new.heap) self.old.keys }
-        ensures keys { KeepsKeys self.old self.new }
-        ensures order { (owned : List ℕ) → IsInOrder owned self.old → IsInOrder owned self.new }
-        ensures counts { AreFewIfOwnedOnce self.new }
+        ensures kept { KeepsHeaps [] [] self.old self.new }
         ensures stands { StillStands self.old.heap self.new.heap }
         ensures invariant { HasColourInvariant (view self.new.heap) }
     {

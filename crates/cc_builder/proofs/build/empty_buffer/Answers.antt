@@ -10,5 +10,5 @@ again v old new e f = f ∙ ap (λ (k : Keyed). changed_to k (record k.heap { bu
 pub buffer-preserved : goal.buffer-preserved
 buffer-preserved c = record {
   heap = again c.args.heaps.now c.buffer.heaps c.select_next.new.self c.buffer.invariant.heap c.in-Some.ensures.front.1;
-  order = c.select_next.ensures.order [] c.buffer.invariant.order;
+  order = c.select_next.ensures.kept.order [] c.buffer.invariant.order;
 }

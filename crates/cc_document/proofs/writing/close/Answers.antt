@@ -50,7 +50,7 @@ returns-in-Some-clause-shows c = λ g s.
     ∙ ap (set_slot g (graph.register g (S 1)) 0) (holds ∙ (alike v b g s).register (S 2)) in
     subst (Shows (parts w b)) same
     (Shows-step v w b (λ h. set_slot h x 0 y)
-    (record { order = e.order [] s.runs.order; colours = e.colours; fresh = e.fresh; keys = e.keys; suspected = e.suspected; stands = e.stands a d may }) g s (slot-document g s.document x 0 y))
+    (record { kept = e.kept; stands = e.stands a d may }) g s (slot-document g s.document x 0 y))
 
 pub returns-in-Some-clause-grows : goal.returns-in-Some-clause-grows
 returns-in-Some-clause-grows c =

@@ -13,7 +13,7 @@ pub returns-clause-shows : goal.returns-clause-shows
 returns-clause-shows c = λ g s.
     let e = c.set_script_reg.ensures in
     Shows-step c.args.heaps.now c.set_script_reg.new.self c.args.collector.now (without c.args.r)
-    (record { order = e.order [] s.runs.order; colours = e.colours; fresh = e.fresh; keys = e.keys; suspected = e.suspected; stands = e.stands tt }) g s (without-document g s.document c.args.r c.requires.r)
+    (record { kept = e.kept; stands = e.stands tt }) g s (without-document g s.document c.args.r c.requires.r)
 
 pub returns-clause-none_came : goal.returns-clause-none_came
 returns-clause-none_came c = emptied-none_came c.args.heaps.now.heap c.set_script_reg.new.self.heap c.args.r c.set_script_reg.ensures.heap

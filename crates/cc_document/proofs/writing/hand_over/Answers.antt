@@ -5,7 +5,7 @@ use Rattle.cc_heaps.proofs.FewCounts.{none-owned}
 use Rattle.cc_heaps.specs.Changes.{held_name}
 use Rattle.cc_heaps.specs.Keyed.{the_number}
 use Rattle.cc_heaps.proofs.Content.{held-in}
-use Rattle.cc_document.proofs.Freed.{stored-tells, stored-made}
+use Rattle.cc_document.proofs.Freed.{stored-made}
 use Rattle.cc_document.proofs.Holding.{script-black}
 use Rattle.cc_document.proofs.Reached.{slots-of_key, within-key}
 use Rattle.cc_document.proofs.Steps.{Shows-written}
@@ -27,18 +27,10 @@ returns-in-Some-Some-clause-shows g c = λ k s.
     let n = c.in-Some-Some in
     Shows-written v c.store_native.new.self c.args.collector.now c.args.to.0 1 (Some (S 1)) n.element (Some (held.Script n.closure)) n.ensures.name n.ensures.there n.ensures'.name
     (script-black v c.args.collector.now k s 1 (Some n.closure) n.ensures'.name n.ensures'.there)
-    (record { order = e.order [] s.runs.order; colours = e.colours; fresh = e.fresh; keys = e.keys; suspected = e.suspected; stands = e.stands }) k s
+    (record { kept = e.kept; stands = e.stands }) k s
 
 pub returns-in-Some-Some-clause-tells : goal.returns-in-Some-Some-clause-tells
-returns-in-Some-Some-clause-tells g c =
-    let v = c.args.heaps.now in
-    let e = c.store_native.ensures in
-    let n = c.in-Some-Some in
-    let order = c.requires.shown.1.runs.order in
-    let x = Some (held.Script n.closure) in
-    stored-tells v c.store_native.new.self (the_number v n.element.0) 1 (held_name v x)
-    (within-key v c.args.collector.now c.requires.shown.0 c.requires.shown.1 c.args.to.0 n.element n.ensures.name n.ensures.there 1 (omega arith)) (held-in [] v x order) order e.heap
-    (g.N.Notices.telling c.args.out.now) (g.N.Notices.telling c.store_native.new.out) (e.order [] order) e.told
+returns-in-Some-Some-clause-tells g c = c.store_native.ensures.tells
 
 pub returns-in-Some-Some-clause-made : goal.returns-in-Some-Some-clause-made
 returns-in-Some-Some-clause-made g c =

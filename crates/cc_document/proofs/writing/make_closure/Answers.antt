@@ -17,7 +17,7 @@ pub returns-clause-made : goal.returns-clause-made
 returns-clause-made c = λ g s.
     let e = c.in_ok-new_plain.ensures in
     Shows-step c.args.heaps.now c.new_plain.new.self c.args.collector.now making_closure
-    (record { order = e.order [] s.runs.order; colours = e.colours; fresh = e.fresh; keys = e.keys; suspected = e.suspected; stands = e.stands }) g s (making_closure-document g s.document)
+    (record { kept = e.kept; stands = e.stands }) g s (making_closure-document g s.document)
 
 pub returns-clause-has : goal.returns-clause-has
 returns-clause-has c =

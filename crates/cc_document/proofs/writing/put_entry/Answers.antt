@@ -7,6 +7,7 @@ use Rattle.cc_model.specs.Graph.{set_entry, slots_of_script}
 use Rattle.cc_model.specs.Heap.{objects_of}
 use Rattle.cc_script.specs.Objects.{name_at}
 use Rattle.cc_heaps.specs.Standing.{IsReached}
+use Rattle.cc_heaps.proofs.Kept.{KeepsAll-black}
 use Rattle.cc_heaps.proofs.EntryNames.{is_map-named}
 use Rattle.cc_document.specs.Shown.{Shows, parts, entering}
 use Rattle.cc_document.specs.Told.{Grows}
@@ -54,7 +55,7 @@ returns-in_ok-set_entry-clause-entered c = λ g s.
     ∙ (ap (λ z. set_entry g (graph.register g (S 0)) z x) k-is ∙ ap (set_entry g (graph.register g (S 0)) (graph.register g (S 2))) x-is) in
     subst (Shows (parts w b)) same
     (Shows-step v w b (λ h. set_entry h m k x)
-    (record { order = e.order [] s.runs.order; colours = e.colours; fresh = e.fresh k-black x-black; keys = e.keys; suspected = e.suspected; stands = e.stands m-reached k-reached x-reached })
+    (record { kept = KeepsAll-black e.kept (k-black, x-black); stands = e.stands m-reached k-reached x-reached })
     g s (set_entry-document g s.document m k x))
 
 pub returns-in_ok-set_entry-clause-grows : goal.returns-in_ok-set_entry-clause-grows

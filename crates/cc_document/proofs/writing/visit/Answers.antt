@@ -11,7 +11,7 @@ use Rattle.cc_document.specs.Shown.{Shows, parts}
 use Rattle.cc_document.proofs.Documents.{native_register-document}
 use Rattle.cc_document.proofs.ElementNames.{element-is_reached}
 use Rattle.cc_heaps.proofs.Content.{native-in}
-use Rattle.cc_document.proofs.Freed.{hold_native-tells, hold_native-made}
+use Rattle.cc_document.proofs.Freed.{hold_native-made}
 use Rattle.cc_document.proofs.Reached.{slot-is_reached}
 use Rattle.cc_document.proofs.ReadAlike.{slot-alike}
 use Rattle.cc_document.proofs.Steps.{Shows-step}
@@ -32,17 +32,11 @@ returns-clause-shows g c = λ k s.
     let same = c.key_at-element.ensures.name ∙ ap (λ y. elements (element_of y)) (slot-alike v b k s c.args.of.0 c.args.i) in
     subst (λ y. Shows (parts w b) (set_register k (N c.args.into.0) y)) same
     (Shows-step v w b (λ h. set_register h (N c.args.into.0) x)
-    (record { order = e.order [] s.runs.order; colours = e.colours; fresh = e.fresh; keys = e.keys; suspected = e.suspected; stands = e.stands reached })
+    (record { kept = e.kept; stands = e.stands reached })
     k s (native_register-document k s.document c.args.into.0 x))
 
 pub returns-clause-tells : goal.returns-clause-tells
-returns-clause-tells g c =
-    let v = c.args.heaps.now in
-    let e = c.set_native_reg.ensures in
-    let order = c.requires.shown.1.runs.order in
-    let within : c.args.into.0 < 256 = search rules in
-    hold_native-tells v c.set_native_reg.new.self c.args.into.0 (native_name v c.key_at-element.result)
-    (g.N.Notices.telling c.args.out.now) (g.N.Notices.telling c.set_native_reg.new.out) within (native-in [] v c.key_at-element.result order) order e.heap (e.order [] order) e.told
+returns-clause-tells g c = c.set_native_reg.ensures.tells
 
 pub returns-clause-made : goal.returns-clause-made
 returns-clause-made g c =
@@ -50,4 +44,4 @@ returns-clause-made g c =
     let order = c.requires.shown.1.runs.order in
     let within : c.args.into.0 < 256 = search rules in
     hold_native-made v c.set_native_reg.new.self c.args.into.0 (native_name v c.key_at-element.result)
-    (g.N.Notices.telling c.args.out.now) (g.N.Notices.telling c.set_native_reg.new.out) within (native-in [] v c.key_at-element.result order) order c.set_native_reg.ensures.heap
+    within (native-in [] v c.key_at-element.result order) order c.set_native_reg.ensures.heap

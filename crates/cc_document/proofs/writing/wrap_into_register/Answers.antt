@@ -10,6 +10,7 @@ use Rattle.cc_script.specs.Objects.{name_at}
 use Rattle.cc_heaps.proofs.FewCounts.{none-owned}
 use Rattle.cc_heaps.specs.Keyed.{the_number}
 use Rattle.cc_heaps.specs.Standing.{IsReached, IsReachedOrReflects}
+use Rattle.cc_heaps.proofs.Kept.{KeepsAll-reached}
 use Rattle.cc_mutator.proofs.NativesRead.{native-at}
 use Rattle.cc_document.specs.Stops.{StopsWrapping, out_of_memory}
 use Rattle.cc_document.specs.Shown.{Shows, parts, wrapping}
@@ -29,7 +30,7 @@ pub wrap-requires-clause-order : goal.wrap-requires-clause-order
 wrap-requires-clause-order c = none-owned c.args.heaps.now c.requires.shown.1.runs.order
 
 pub set_script_reg-requires-clause-order : goal.set_script_reg-requires-clause-order
-set_script_reg-requires-clause-order c = ([], c.wrap.ensures.order [] c.requires.shown.1.runs.order)
+set_script_reg-requires-clause-order c = ([], c.wrap.ensures.kept.order [] c.requires.shown.1.runs.order)
 
 pub returns-clause-wrapped : goal.returns-clause-wrapped
 returns-clause-wrapped c = λ g s.
@@ -49,13 +50,13 @@ returns-clause-wrapped c = λ g s.
     let reached : IsReached v.heap (Some (native k)) = subst (IsReached v.heap) in-heap (register-is_reached v b g s (N r)) in
     let h = wrapped g (Some (native k)) in
     let one = Shows-step v w b (λ j. wrapped j (Some (native k)))
-    (record { order = made.order [] s.runs.order; colours = made.colours; fresh = made.fresh; keys = made.keys; suspected = made.suspected reached; stands = made.stands reached })
+    (record { kept = KeepsAll-reached made.kept reached; stands = made.stands reached })
     g s (wrapped-document g s.document (Some (native k))) in
     let x = name_at w.scripts c.in_ok-reflector.reflector.0 in
     let named : x ≡ Some (reflector k) = made.name in
     let near : IsReachedOrReflects w.heap x = subst (IsReachedOrReflects w.heap) (sym named) (inr (made.reached (Some (native k)) reached)) in
     let two = Shows-step w u b (λ j. set_register j (S 2) x)
-    (record { order = put.order [] (made.order [] s.runs.order); colours = put.colours; fresh = put.fresh; keys = put.keys; suspected = put.suspected; stands = put.stands near })
+    (record { kept = put.kept; stands = put.stands near })
     h one (script_register-document h one.document 2 x (λ e. cc)) in
     let same : set_register h (S 2) x ≡ wrapping r g =
     ap (set_register h (S 2)) named ∙ ap (λ y. set_register (wrapped g y) (S 2) (reflector_of y)) (sym holds) in

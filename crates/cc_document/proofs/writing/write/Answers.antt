@@ -5,7 +5,7 @@ use Rattle.cc_heaps.specs.Changes.{IsBlackHeld, held_name}
 use Rattle.cc_heaps.specs.Keyed.{the_number}
 use Rattle.cc_document.specs.Shown.{register_of}
 use Rattle.cc_heaps.proofs.Content.{held-in}
-use Rattle.cc_document.proofs.Freed.{stored-tells, stored-made, stored-none_came}
+use Rattle.cc_document.proofs.Freed.{stored-made, stored-none_came}
 use Rattle.cc_document.proofs.Reached.{slots-of_key, within-key}
 use Rattle.cc_document.proofs.Steps.{Shows-written, native-held, native-black}
 use Rattle.cc_document.proofs.writing.write.Goals as goal
@@ -27,16 +27,10 @@ returns-in-Some-clause-shows g c = λ k s.
     Shows-written v c.store_native.new.self c.args.collector.now c.args.of.0 c.args.i (register_of c.args.from) c.in-Some.element x c.in-Some.ensures.name c.in-Some.ensures.there
     (ap (held_name v) is ∙ (native-held v c.key_in-content.result ∙ c.key_in-content.ensures.name))
     (subst (IsBlackHeld v) (sym is) (native-black v c.key_in-content.result))
-    (record { order = e.order [] s.runs.order; colours = e.colours; fresh = e.fresh; keys = e.keys; suspected = e.suspected; stands = e.stands }) k s
+    (record { kept = e.kept; stands = e.stands }) k s
 
 pub returns-in-Some-clause-tells : goal.returns-in-Some-clause-tells
-returns-in-Some-clause-tells g c =
-    let v = c.args.heaps.now in
-    let e = c.store_native.ensures in
-    let order = c.requires.shown.1.runs.order in
-    stored-tells v c.store_native.new.self (the_number v c.in-Some.element.0) c.args.i (held_name v c.of_native.result)
-    (within-key v c.args.collector.now c.requires.shown.0 c.requires.shown.1 c.args.of.0 c.in-Some.element c.in-Some.ensures.name c.in-Some.ensures.there c.args.i c.requires.within) (held-in [] v c.of_native.result order) order e.heap
-    (g.N.Notices.telling c.args.out.now) (g.N.Notices.telling c.store_native.new.out) (e.order [] order) e.told
+returns-in-Some-clause-tells g c = c.store_native.ensures.tells
 
 pub returns-in-Some-clause-made : goal.returns-in-Some-clause-made
 returns-in-Some-clause-made g c =

@@ -1,6 +1,5 @@
-use Rattle.std.proofs.Common.{[]}
 use Rattle.cc_heaps.proofs.FewCounts.{none-owned}
-use Rattle.cc_collector.proofs.GoingOn.{RunsIn-between}
+use Rattle.cc_collector.proofs.GoingOn.{RunsIn-kept}
 use Rattle.cc_embedding.proofs.one_call.empty.Goals as goal
 
 pub set_native_reg-requires-clause-order : goal.set_native_reg-requires-clause-order
@@ -8,7 +7,4 @@ set_native_reg-requires-clause-order g c = none-owned c.args.heaps.now c.require
 
 pub returns : goal.returns
 returns g c =
-    let r = c.requires in
-    let e = c.set_native_reg.ensures in
-    RunsIn-between c.args.heaps.now c.set_native_reg.new.self c.args.collector.now r
-    (record { order = e.order [] r.order; colours = e.colours r.colours; fresh = e.fresh; keys = e.keys })
+    RunsIn-kept c.args.heaps.now c.set_native_reg.new.self c.args.collector.now c.requires c.set_native_reg.ensures.kept

@@ -12,7 +12,7 @@ sweeping : (g : given.Over) (c : goal.In-rounds g) →
     IsRound c.rounds.heaps c.round.new.heaps (g.N.Notices.telling c.rounds.out) (g.N.Notices.telling c.round.new.out) true
 sweeping g c =
     let e = c.round.ensures in
-    record { swept_is = sym c.rounds-test.true ∙ e.swept; heap = e.heap; told = e.told; keys = e.keys; order = e.order }
+    record { swept_is = sym c.rounds-test.true ∙ e.swept; heap = e.heap; told = e.told; keys = e.kept.keys; order = e.kept.order }
 
 pub rounds-init : goal.rounds-init
 rounds-init g c = record { steps = IsCollecting-start c.args.heaps.now (g.N.Notices.telling c.args.out.now) }
@@ -32,7 +32,7 @@ returns g c =
     let h : Heap = c.args.heaps.now.heap in
     let sound = c.requires.order.1.sound in
     let done = IsCollected-last _ _ _ _ _ _ c.rounds.invariant.steps c.requires.order
-    (record { swept_is = sym c.rounds-test.false ∙ e.swept; heap = e.heap; told = e.told; keys = e.keys; order = e.order }) in
+    (record { swept_is = sym c.rounds-test.false ∙ e.swept; heap = e.heap; told = e.told; keys = e.kept.keys; order = e.kept.order }) in
     record {
       heap = done.heap;
       told = done.told;
@@ -42,7 +42,12 @@ returns g c =
       suspected = done.suspected;
       colours = done.colours;
       invariant = done.invariant;
-      keys = done.keys;
-      order = done.order;
-      counts = done.counts;
+      kept = record {
+        keys = done.keys;
+        order = done.order;
+        counts = done.counts;
+        colours = λ before. done.invariant;
+        fresh = tt;
+        suspected = tt;
+      };
     }

@@ -13,23 +13,19 @@ returns-clause-stands g c = λ h made stands.
     applied-stands c.args.command.now c.args.heaps.now c.answer.new.heaps c.answer.result (g.N.Notices.telling c.args.out.now) (g.N.Notices.telling c.answer.new.out)
     c.answer.ensures c.requires.order.1 c.requires.in_range h made stands
 
-pub returns-clause-fresh : goal.returns-clause-fresh
-returns-clause-fresh g c = λ s fresh.
-    applied-fresh c.args.command.now c.args.heaps.now c.answer.new.heaps c.answer.result (g.N.Notices.telling c.args.out.now) (g.N.Notices.telling c.answer.new.out)
-    c.answer.ensures c.requires.order.1 c.requires.in_range s fresh
-
-pub returns-clause-suspected : goal.returns-clause-suspected
-returns-clause-suspected g c = λ candidates suspected.
-    applied-remembers c.args.command.now c.args.heaps.now c.answer.new.heaps c.answer.result (g.N.Notices.telling c.args.out.now) (g.N.Notices.telling c.answer.new.out)
-    c.answer.ensures c.requires.order.1 c.requires.in_range candidates suspected
-
-pub returns-clause-counts : goal.returns-clause-counts
-returns-clause-counts g c = few-owned c.answer.new.heaps
-
-pub returns-clause-order : goal.returns-clause-order
-returns-clause-order g c = c.answer.ensures.order
-
-pub returns-clause-colours : goal.returns-clause-colours
-returns-clause-colours g c =
-    applied-colours c.args.command.now c.args.heaps.now c.answer.new.heaps c.answer.result (g.N.Notices.telling c.args.out.now) (g.N.Notices.telling c.answer.new.out)
-    c.answer.ensures c.requires.order.1 c.requires.in_range c.requires.colours
+pub returns-clause-kept : goal.returns-clause-kept
+returns-clause-kept g c =
+    let before = g.N.Notices.telling c.args.out.now in
+    let after = g.N.Notices.telling c.answer.new.out in
+    let order = c.requires.order.1 in
+    record {
+      keys = c.answer.ensures.keys;
+      order = c.answer.ensures.order;
+      counts = few-owned c.answer.new.heaps;
+      colours = λ colours. applied-colours c.args.command.now c.args.heaps.now c.answer.new.heaps c.answer.result before after
+          c.answer.ensures order c.requires.in_range colours;
+      fresh = λ s fresh. applied-fresh c.args.command.now c.args.heaps.now c.answer.new.heaps c.answer.result before after
+          c.answer.ensures order c.requires.in_range s fresh;
+      suspected = λ candidates suspected. applied-remembers c.args.command.now c.args.heaps.now c.answer.new.heaps c.answer.result before after
+          c.answer.ensures order c.requires.in_range candidates suspected;
+    }

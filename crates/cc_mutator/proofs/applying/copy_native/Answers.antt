@@ -11,4 +11,4 @@ returns g c =
     let e = c.set_native_reg.ensures in
     let x = native_name v c.native_reg-content.result in
     applied-left _ _ _ _ _ _ (hold_native v.heap c.args.d x) (refusal-copy_native (objects_of v.heap) c.args.d c.args.s)
-    (carried-copy_native _ _ _ _ _ c.args.d c.args.s x c.native_reg-content.ensures.name c.naming_native-reply.ensures) e.heap e.told e.order
+    (carried-copy_native _ _ _ _ _ c.args.d c.args.s x c.native_reg-content.ensures.name c.naming_native-reply.ensures) e.heap e.told e.kept.order

@@ -18,4 +18,4 @@ returns c = λ t.
     let same : exposed v.heap x ≡ v.heap = subst (λ y. exposed v.heap y ≡ v.heap) (sym c.script_reg-content.ensures.name)
     (exposed-same v.heap colours (register v.heap (S c.args.s)) (register-black v.heap colours c.args.s)) in
     applied-done _ _ _ _ _ _ (refusal-copy_script (objects_of v.heap) c.args.d c.args.s)
-    (carried-copy_script _ _ _ _ c.args.d c.args.s x c.script_reg-content.ensures.name same c.naming_script-reply.ensures e.heap) e.keys e.order
+    (carried-copy_script _ _ _ _ c.args.d c.args.s x c.script_reg-content.ensures.name same c.naming_script-reply.ensures e.heap) e.kept.keys e.kept.order

@@ -11,4 +11,4 @@ returns g c =
     let v = c.args.heaps.now in
     let e = c.set_native_reg.ensures in
     applied-left _ _ _ _ _ _ (hold_native v.heap c.args.r None) (refusal-drop (objects_of v.heap) (N c.args.r)) (carried-drop_native _ _ _ _ _ c.args.r refl)
-    e.heap e.told e.order
+    e.heap e.told e.kept.order

@@ -8,4 +8,4 @@ use Rattle.cc_mutator.proofs.applying.drop_script.Goals as goal
 pub returns : goal.returns
 returns c = λ t.
     let e = c.set_script_reg.ensures in
-    applied-done _ _ _ _ _ _ (refusal-drop (objects_of c.args.heaps.now.heap) (S c.args.r)) (carried-drop_script _ _ _ _ c.args.r refl e.heap) e.keys e.order
+    applied-done _ _ _ _ _ _ (refusal-drop (objects_of c.args.heaps.now.heap) (S c.args.r)) (carried-drop_script _ _ _ _ c.args.r refl e.heap) e.kept.keys e.kept.order

@@ -11,4 +11,4 @@ returns c = λ t.
     let e = c.set_script_reg.ensures in
     applied-done _ _ _ _ _ _ (sym c.refusal_of_get_entry.ensures ∙ c.in_default.is)
     (carried-get_entry _ _ _ _ c.args.d c.args.m c.args.k (script_name c.args.heaps.now c.entry_value-content.result)
-    c.entry_value-content.ensures.name c.naming_script-reply.ensures e.heap) e.keys e.order
+    c.entry_value-content.ensures.name c.naming_script-reply.ensures e.heap) e.kept.keys e.kept.order

@@ -30,4 +30,4 @@ returns g c =
     let x = native_name v c.as_native-content.result in
     let named = as_native-named v _ _ _ c.as_native-content.ensures c.native_content.ensures.name in
     applied-left _ _ _ _ _ _ (hold_native v.heap c.args.d x) (sym c.refusal_of_get_native.ensures ∙ c.in_default.is)
-    (carried-get_native _ _ _ _ _ c.args.d c.args.s c.args.i x named c.naming_native-reply.ensures) e.heap e.told e.order
+    (carried-get_native _ _ _ _ _ c.args.d c.args.s c.args.i x named c.naming_native-reply.ensures) e.heap e.told e.kept.order

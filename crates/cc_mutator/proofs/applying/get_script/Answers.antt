@@ -27,4 +27,4 @@ returns c = λ t.
     let e = c.set_script_reg.ensures in
     let named = as_script-named v _ _ _ c.as_script-content.ensures c.native_content.ensures.name in
     applied-done _ _ _ _ _ _ (sym c.refusal_of_get_script.ensures ∙ c.in_default.is)
-    (carried-get_script _ _ _ _ c.args.d c.args.s c.args.i _ named c.naming_script-reply.ensures e.heap) e.keys e.order
+    (carried-get_script _ _ _ _ c.args.d c.args.s c.args.i _ named c.naming_script-reply.ensures e.heap) e.kept.keys e.kept.order

@@ -8,7 +8,7 @@ returns-in-Ok c = λ t.
     let h = c.args.heaps.now.heap in
     let e = c.in-Ok.ensures in
     let room = room-left h.limits.scripts h.scripts_made (λ few. let full = e.full_always few in absurd (cc)) in
-    applied-done _ _ _ _ _ _ (room-map h c.args.d room) (carried-map _ _ _ _ c.args.d (ap (λ x. Named x) e.name) e.heap) e.keys e.order
+    applied-done _ _ _ _ _ _ (room-map h c.args.d room) (carried-map _ _ _ _ c.args.d (ap (λ x. Named x) e.name) e.heap) e.kept.keys e.kept.order
 
 pub returns-in-Err-Full : goal.returns-in-Err-Full
 returns-in-Err-Full c = λ t.

@@ -9,7 +9,7 @@ returns-in-Ok g c =
     let e = c.in-Ok.ensures in
     let room = room-left h.limits.natives h.natives_made (λ few. let full = e.full_always few in absurd (cc)) in
     applied-done _ _ _ _ _ _ (room-native h c.args.d c.args.slots room)
-    (carried-native _ _ _ _ _ c.args.d c.args.slots (ap (λ x. Named x) e.name) e.heap e.told) e.keys e.order
+    (carried-native _ _ _ _ _ c.args.d c.args.slots (ap (λ x. Named x) e.name) e.heap e.told) e.kept.keys e.kept.order
 
 pub returns-in-Err-Full : goal.returns-in-Err-Full
 returns-in-Err-Full g c =

@@ -20,7 +20,7 @@ returns-then-preserve c = λ t.
     let told = e.reflects ∙ ap (λ b. Some b) c.if-preserve.true in
     applied-done _ _ _ _ _ _
     (refusal-preserve (objects_of v.heap) c.args.s ∙ (ap refusal_by_kind (sym c.in-Some.ensures.name) ∙ kind-told _ true told))
-    (carried-preserve _ _ _ _ c.args.s refl (ap (λ (w : Keyed). w.heap) e.heap ∙ ap (preserve v.heap) c.in-Some.ensures.name)) e.keys e.order
+    (carried-preserve _ _ _ _ c.args.s refl (ap (λ (w : Keyed). w.heap) e.heap ∙ ap (preserve v.heap) c.in-Some.ensures.name)) e.kept.keys e.kept.order
 
 pub returns-else-preserve : goal.returns-else-preserve
 returns-else-preserve c = λ t.

@@ -28,5 +28,5 @@ returns g c =
     record {
       heap = subst (λ (o : Outcome). c.store_native.new.self ≡ left_with v o.heap) stored e.heap;
       told = subst (λ (o : Outcome). TellsEvents (g.N.Notices.telling c.args.out.now) (g.N.Notices.telling c.store_native.new.out) o.events) stored e.told;
-      order = e.order;
+      order = e.kept.order;
     }

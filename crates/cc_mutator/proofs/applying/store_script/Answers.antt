@@ -2,6 +2,7 @@ use Rattle.std.proofs.Common.{◌<◌, length, List, sym, subst, ap, arith}
 use Rattle.cc_script.specs.Objects.{Object}
 use Rattle.cc_script.specs.Objects as objects
 use Rattle.cc_heaps.specs.Keyed.{Keyed}
+use Rattle.cc_heaps.specs.Changes.{KeepsKeys}
 use Rattle.cc_mutator.proofs.ScriptsRead.{script_slots-as_many, script_slots-few}
 use Rattle.cc_mutator.proofs.applying.store_script.Goals as goal
 
@@ -17,7 +18,12 @@ store_script-requires-clause-within c =
 
 -- the reflector preserved, where it is one, leaves the heaps in order
 pub store_script-requires-clause-order : goal.store_script-requires-clause-order
-store_script-requires-clause-order c = let f = c.requires.order in (f.0, c.preserve-is_reflector.ensures.order f.0 f.1)
+store_script-requires-clause-order c = let f = c.requires.order in (f.0, c.preserve-is_reflector.ensures.kept.order f.0 f.1)
 
 pub returns-clause-order : goal.returns-clause-order
-returns-clause-order c owned o = c.store_script.ensures.order owned (c.preserve-is_reflector.ensures.order owned o)
+returns-clause-order c owned o = c.store_script.ensures.kept.order owned (c.preserve-is_reflector.ensures.kept.order owned o)
+
+pub returns-clause-keys : goal.returns-clause-keys
+returns-clause-keys c =
+    let k = subst (λ (u : Keyed). KeepsKeys u c.store_script.new.self) c.preserve-is_reflector.ensures.heap c.store_script.ensures.kept.keys in
+    record { natives = k.natives; scripts = k.scripts }

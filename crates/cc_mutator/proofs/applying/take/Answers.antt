@@ -14,4 +14,4 @@ returns c = λ t.
     let e = c.set_script_reg.ensures in
     applied-done _ _ _ _ _ _ (sym c.refusal_of_take.ensures ∙ c.in_default.is)
     (carried-take _ _ _ _ c.args.d c.args.s c.args.i (script_name c.args.heaps.now c.script_content-content.result)
-    c.script_content-content.ensures.name c.naming_script-reply.ensures e.heap) e.keys e.order
+    c.script_content-content.ensures.name c.naming_script-reply.ensures e.heap) e.kept.keys e.kept.order

@@ -35,4 +35,4 @@ returns g c =
     let some : is_some c.unwrap_of-content.result ≡ true = c.is_none.ensures ∙ ap not c.if-is_none.false in
     applied-left _ _ _ _ _ _ (hold_native v.heap c.args.d x)
     (refusal-unwrap (objects_of v.heap) c.args.d c.args.s ∙ kind-told (register v.heap (S c.args.s)) true (told ∙ ap (λ b. Some b) some))
-    (carried-unwrap _ _ _ _ _ c.args.d c.args.s x (u.name ∙ ap native_of c.in-Some.ensures.name) c.naming_native-reply.ensures) e.heap e.told e.order
+    (carried-unwrap _ _ _ _ _ c.args.d c.args.s x (u.name ∙ ap native_of c.in-Some.ensures.name) c.naming_native-reply.ensures) e.heap e.told e.kept.order

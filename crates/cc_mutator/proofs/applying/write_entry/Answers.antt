@@ -16,8 +16,14 @@ unset_entry-requires-clause-the_map c =
     (is_map-named c.requires.order.0 v c.requires.order.1 c.in-Some.the_map.0 c.in-Some.ensures.there).0
     (subst (λ x. is_map_in (objects_of v.heap) x ≡ true) (sym c.in-Some.ensures.name) c.requires.the_map)
 
+pub returns-in-Some-value-clause-keys : goal.returns-in-Some-value-clause-keys
+returns-in-Some-value-clause-keys c = c.set_entry.ensures.kept.keys
+
 pub returns-in-Some-value-clause-order : goal.returns-in-Some-value-clause-order
-returns-in-Some-value-clause-order c = c.set_entry.ensures.order
+returns-in-Some-value-clause-order c = c.set_entry.ensures.kept.order
+
+pub returns-in-None-clause-keys : goal.returns-in-None-clause-keys
+returns-in-None-clause-keys c = c.unset_entry.ensures.kept.keys
 
 pub returns-in-None-clause-order : goal.returns-in-None-clause-order
-returns-in-None-clause-order c = c.unset_entry.ensures.order
+returns-in-None-clause-order c = c.unset_entry.ensures.kept.order

@@ -1,6 +1,5 @@
-use Rattle.std.proofs.Common.{[]}
 use Rattle.cc_heaps.proofs.FewCounts.{none-owned}
-use Rattle.cc_collector.proofs.GoingOn.{RunsIn-between}
+use Rattle.cc_collector.proofs.GoingOn.{RunsIn-kept}
 use Rattle.cc_replay.proofs.Replying.{answered-applied}
 use Rattle.cc_replay.proofs.answering.answer_mutator.Goals as goal
 
@@ -17,6 +16,4 @@ returns-clause-answered g c =
 -- what a command changes may come between units
 pub returns-clause-runs : goal.returns-clause-runs
 returns-clause-runs g c =
-    let e = c.apply-reply.ensures in
-    RunsIn-between c.args.heaps.now c.apply-reply.new.heaps c.args.collector.now c.requires.runs
-    (record { order = e.order [] c.requires.runs.order; colours = e.colours; fresh = e.fresh; keys = e.keys })
+    RunsIn-kept c.args.heaps.now c.apply-reply.new.heaps c.args.collector.now c.requires.runs c.apply-reply.ensures.kept

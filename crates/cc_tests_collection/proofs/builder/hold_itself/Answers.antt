@@ -6,4 +6,4 @@ pub store_native-requires-clause-order : goal.store_native-requires-clause-order
 store_native-requires-clause-order c = none-owned c.args.heaps.now c.requires
 
 pub returns-then-slots-eq1 : goal.returns-then-slots-eq1
-returns-then-slots-eq1 c = c.store_native.ensures.order [] c.requires
+returns-then-slots-eq1 c = c.store_native.ensures.kept.order [] c.requires

@@ -8,4 +8,4 @@ store_native-requires-clause-order c = none-owned c.args.heaps.now c.requires.or
 pub returns-then-slots-eq1 : goal.returns-then-slots-eq1
 returns-then-slots-eq1 c =
     let e = c.store_native.ensures in
-    record { order = e.order [] c.requires.order; colours = e.colours tt c.requires.colours; goes_on = tt }
+    record { order = e.kept.order [] c.requires.order; colours = e.kept.colours c.requires.colours; goes_on = tt }

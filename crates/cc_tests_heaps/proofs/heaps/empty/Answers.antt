@@ -6,4 +6,4 @@ pub set_native_reg-requires-clause-order : goal.set_native_reg-requires-clause-o
 set_native_reg-requires-clause-order c = none-owned c.args.heaps.now c.requires.order
 
 pub returns : goal.returns
-returns c = record { order = c.set_native_reg.ensures.order [] c.requires.order }
+returns c = record { order = c.set_native_reg.ensures.kept.order [] c.requires.order }

@@ -7,7 +7,7 @@ pub sweep-requires-clause-colours : goal.sweep-requires-clause-colours
 sweep-requires-clause-colours c = subst HasColours (sym c.mark_scripts.ensures.heap) (HasColours-marked c.args.heaps.now.heap)
 
 pub sweep-requires-clause-order : goal.sweep-requires-clause-order
-sweep-requires-clause-order c = ([], c.mark_scripts.ensures.order [] c.requires.order)
+sweep-requires-clause-order c = ([], c.mark_scripts.ensures.kept.order [] c.requires.order)
 
 pub returns : goal.returns
-returns c = record { order = c.sweep.ensures.order [] (c.mark_scripts.ensures.order [] c.requires.order) }
+returns c = record { order = c.sweep.ensures.kept.order [] (c.mark_scripts.ensures.kept.order [] c.requires.order) }

@@ -6,4 +6,4 @@ pub store_native-requires-clause-order : goal.store_native-requires-clause-order
 store_native-requires-clause-order c = none-owned c.args.heaps.now c.requires.order
 
 pub returns-then-slots-eq1 : goal.returns-then-slots-eq1
-returns-then-slots-eq1 c = record { order = c.store_native.ensures.order [] c.requires.order }
+returns-then-slots-eq1 c = record { order = c.store_native.ensures.kept.order [] c.requires.order }

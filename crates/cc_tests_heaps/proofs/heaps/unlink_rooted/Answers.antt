@@ -31,22 +31,22 @@ module _ (old rooted unlinked : Keyed) (key : ℕ) (live : is_some (number_at ol
 pub unlink-requires-clause-owned : goal.unlink-requires-clause-owned
 unlink-requires-clause-owned c =
     let same : the_number c.root.new.self c.args.key.0 ≡ the_number c.args.heaps.now c.args.key.0 = ap (λ (v : Keyed). the_number v c.args.key.0) c.root.ensures.heap in
-    ([], subst (λ k. IsInOrder (k ∷ []) c.root.new.self) (sym same) (c.root.ensures.order [] c.requires.order))
+    ([], subst (λ k. IsInOrder (k ∷ []) c.root.new.self) (sym same) (c.root.ensures.kept.order [] c.requires.order))
 
 pub unroot-requires-clause-live : goal.unroot-requires-clause-live
 unroot-requires-clause-live c =
     unlinked-live c.args.heaps.now c.root.new.self c.unlink.new.self c.args.key.0 c.requires.there (ap (λ (v : Keyed). v.keys) c.root.ensures.heap)
-    c.unlink.ensures.heap (c.root.ensures.order [] c.requires.order) (c.unlink.ensures.order [])
+    c.unlink.ensures.heap (c.root.ensures.kept.order [] c.requires.order) (c.unlink.ensures.kept.order [])
 
 pub unroot-requires-clause-owned : goal.unroot-requires-clause-owned
 unroot-requires-clause-owned c = (
   [],
   unlinked-order c.args.heaps.now c.root.new.self c.unlink.new.self c.args.key.0 c.requires.there (ap (λ (v : Keyed). v.keys) c.root.ensures.heap)
-      c.unlink.ensures.heap (c.root.ensures.order [] c.requires.order) (c.unlink.ensures.order []),
+      c.unlink.ensures.heap (c.root.ensures.kept.order [] c.requires.order) (c.unlink.ensures.kept.order []),
 )
 
 pub returns : goal.returns
 returns c =
-    c.unroot.ensures.order []
+    c.unroot.ensures.kept.order []
     (unlinked-order c.args.heaps.now c.root.new.self c.unlink.new.self c.args.key.0 c.requires.there (ap (λ (v : Keyed). v.keys) c.root.ensures.heap)
-    c.unlink.ensures.heap (c.root.ensures.order [] c.requires.order) (c.unlink.ensures.order []))
+    c.unlink.ensures.heap (c.root.ensures.kept.order [] c.requires.order) (c.unlink.ensures.kept.order []))

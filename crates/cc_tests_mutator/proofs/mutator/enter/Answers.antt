@@ -6,4 +6,4 @@ pub apply-reflector-requires-clause-order : goal.apply-reflector-requires-clause
 apply-reflector-requires-clause-order c = none-owned c.args.heaps.now c.requires.order
 
 pub apply-entry-requires-clause-order : goal.apply-entry-requires-clause-order
-apply-entry-requires-clause-order c = none-owned c.apply-reflector.new.heaps (c.apply-reflector.ensures.order [] c.requires.order)
+apply-entry-requires-clause-order c = none-owned c.apply-reflector.new.heaps (c.apply-reflector.ensures.kept.order [] c.requires.order)

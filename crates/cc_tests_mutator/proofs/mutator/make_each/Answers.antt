@@ -6,10 +6,10 @@ pub apply-native-requires-clause-order : goal.apply-native-requires-clause-order
 apply-native-requires-clause-order c = none-owned c.args.heaps.now c.requires.order
 
 pub apply-object-requires-clause-order : goal.apply-object-requires-clause-order
-apply-object-requires-clause-order c = none-owned c.apply-native.new.heaps (c.apply-native.ensures.order [] c.requires.order)
+apply-object-requires-clause-order c = none-owned c.apply-native.new.heaps (c.apply-native.ensures.kept.order [] c.requires.order)
 
 pub apply-map-requires-clause-order : goal.apply-map-requires-clause-order
-apply-map-requires-clause-order c = none-owned c.apply-object.new.heaps (c.apply-object.ensures.order [] (c.apply-native.ensures.order [] c.requires.order))
+apply-map-requires-clause-order c = none-owned c.apply-object.new.heaps (c.apply-object.ensures.kept.order [] (c.apply-native.ensures.kept.order [] c.requires.order))
 
 pub returns-clause-order : goal.returns-clause-order
-returns-clause-order c = c.apply-map.ensures.order [] (c.apply-object.ensures.order [] (c.apply-native.ensures.order [] c.requires.order))
+returns-clause-order c = c.apply-map.ensures.kept.order [] (c.apply-object.ensures.kept.order [] (c.apply-native.ensures.kept.order [] c.requires.order))

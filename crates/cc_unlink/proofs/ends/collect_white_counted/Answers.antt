@@ -3,7 +3,7 @@ use Rattle.cc_model.specs.End.{take_away}
 use Rattle.cc_heaps.specs.Keyed.{left_with}
 use Rattle.cc_heaps.proofs.KeysKept.{KeepsKeys-left}
 use Rattle.cc_unlink.proofs.Promises.{ended-stands, ended-reached, ended-objects, ended-suspected, ended-colours}
-use Rattle.cc_heaps.proofs.FewCounts.{few-alone}
+use Rattle.cc_heaps.proofs.Kept.{kept-alone}
 use Rattle.cc_unlink.specs.Whites.{whites_of}
 use Rattle.cc_unlink.proofs.WhiteEnd.{WhiteEnd-heap, WhiteEnd-told}
 use Rattle.cc_unlink.proofs.NodeKeys.{node-keys, node-keys-changed, node-keys-left}
@@ -56,11 +56,8 @@ returns-clause-objects g c = ended-objects c.args.graph c.args.heaps.now c.unroo
 pub returns-clause-suspected : goal.returns-clause-suspected
 returns-clause-suspected g c = ended-suspected c.args.graph c.args.heaps.now c.unroot_whites.new.heaps c.requires.order (ended g c)
 
-pub returns-clause-colours : goal.returns-clause-colours
-returns-clause-colours g c = ended-colours c.args.graph c.args.heaps.now c.unroot_whites.new.heaps c.requires.order (ended g c)
-
-pub returns-clause-keys : goal.returns-clause-keys
-returns-clause-keys g c = KeepsKeys-left c.args.heaps.now c.unroot_whites.new.heaps _ (ended g c)
-
-pub returns-clause-counts : goal.returns-clause-counts
-returns-clause-counts g c = few-alone c.unroot_whites.new.heaps c.unroot_whites.ensures.order
+pub returns-clause-kept : goal.returns-clause-kept
+returns-clause-kept g c =
+    let v = c.args.heaps.now in
+    let w = c.unroot_whites.new.heaps in
+    kept-alone v w c.requires.order c.unroot_whites.ensures.order (KeepsKeys-left v w _ (ended g c)) (ended-colours c.args.graph v w c.requires.order (ended g c))

@@ -19,14 +19,14 @@ unroot-requires-clause-owned g c = (
 
 pub loop-next-smaller : goal.loop-next-smaller
 loop-next-smaller g c = rw c.in-Some.is ((IsUnrooting-next (rw c.in-Some.is at c.loop-next.invariant.steps) c.next_white-next-in-Some.result
-    c.next_white-next-in-Some.ensures.number c.next_white-next-in-Some.ensures.live c.unroot.ensures.heap c.unroot.ensures.told c.unroot.ensures.order).1)
+    c.next_white-next-in-Some.ensures.number c.next_white-next-in-Some.ensures.live c.unroot.ensures.heap c.unroot.ensures.told c.unroot.ensures.kept.order).1)
 
 pub loop-next-preserved : goal.loop-next-preserved
 loop-next-preserved g c =
     let before = rw c.in-Some.is at c.loop-next.invariant.looked in
     record {
       steps = (IsUnrooting-next (rw c.in-Some.is at c.loop-next.invariant.steps) c.next_white-next-in-Some.result
-          c.next_white-next-in-Some.ensures.number c.next_white-next-in-Some.ensures.live c.unroot.ensures.heap c.unroot.ensures.told c.unroot.ensures.order).0;
+          c.next_white-next-in-Some.ensures.number c.next_white-next-in-Some.ensures.live c.unroot.ensures.heap c.unroot.ensures.told c.unroot.ensures.kept.order).0;
       looked = passes-next c.args.graph.now c.in-Some.white c.next_white-next-in-Some.result c.args.steps.now c.loop-next.steps c.next_white-next-in-Some.new.steps before
           c.next_white-next-in-Some.ensures.steps;
     }

@@ -1,10 +1,11 @@
-use Rattle.std.proofs.Common.{◌≡◌, Some, sym, subst}
+use Rattle.std.proofs.Common.{◌≡◌, Some, refl, sym, subst}
+use Rattle.cc_names.specs.declared.kind.Colour.TheVariants.{Black}
 use Rattle.cc_names.specs.Names.{reflector}
 use Rattle.cc_model.specs.Graph as graph
-use Rattle.cc_script.specs.Objects.{name_at}
+use Rattle.cc_script.specs.Objects.{colour_at, name_at}
 use Rattle.cc_heaps.specs.Keyed.{Keyed, the_number}
 use Rattle.cc_heaps.specs.Standing.{IsReached, MayHold, StandsAfter}
-use Rattle.cc_heaps.proofs.FewCounts.{few-owned}
+use Rattle.cc_heaps.proofs.Kept.{KeepsAll-same, KeepsAll-if_black}
 use Rattle.cc_heaps.proofs.ReflectingPreserved.{preserved-may_hold}
 use Rattle.cc_wrappers.proofs.ReflectorKeys.{name-held, black-not_gray}
 use Rattle.cc_wrappers.proofs.Wrapped.{found-reflector, found-has, behind-reached, preserved-keeps_reached, no_reflector-may_hold}
@@ -29,17 +30,19 @@ returns-in-Some-clause-stands c =
     subst (λ x. IsReached v.heap x → StandsAfter v.heap c.set_preserved.new.self.heap (λ g. graph.preserve g x)) (sym (named c))
     (λ d. c.set_preserved.ensures.stands (behind-reached v.heap k (name-held c.requires.order.0 v c.requires.order.1 c.args.key.0 (reflector k) (named c)) d))
 
-pub returns-in-Some-clause-order : goal.returns-in-Some-clause-order
-returns-in-Some-clause-order c = c.set_preserved.ensures.order
-
-pub returns-in-Some-clause-counts : goal.returns-in-Some-clause-counts
-returns-in-Some-clause-counts c = c.set_preserved.ensures.counts
-
-pub returns-in-Some-clause-fresh : goal.returns-in-Some-clause-fresh
-returns-in-Some-clause-fresh c black =
+pub returns-in-Some-clause-kept : goal.returns-in-Some-clause-kept
+returns-in-Some-clause-kept c =
     let v = c.args.heaps.now in
-    c.set_preserved.ensures.fresh
-    (black-not_gray c.requires.order.0 v c.requires.order.1 c.args.key.0 (reflector (the_number v c.in-Some.native.0)) (named c) black)
+    let kept = c.set_preserved.ensures.kept in
+    record {
+      keys = kept.keys;
+      order = kept.order;
+      counts = kept.counts;
+      colours = kept.colours;
+      fresh = λ black. kept.fresh
+          (black-not_gray c.requires.order.0 v c.requires.order.1 c.args.key.0 (reflector (the_number v c.in-Some.native.0)) (named c) black);
+      suspected = kept.suspected;
+    }
 
 pub returns-in-Some-clause-reached : goal.returns-in-Some-clause-reached
 returns-in-Some-clause-reached c x d =
@@ -60,8 +63,7 @@ returns-in-None-clause-may_hold c =
     let v = c.args.heaps.now in
     no_reflector-may_hold v.heap (name_at v.scripts c.args.key.0) (sym c.in-None.ensures.name)
 
-pub returns-in-None-clause-counts : goal.returns-in-None-clause-counts
-returns-in-None-clause-counts c = few-owned c.args.heaps.now
-
-pub returns-in-None-clause-order : goal.returns-in-None-clause-order
-returns-in-None-clause-order c owned o = o
+pub returns-in-None-clause-kept : goal.returns-in-None-clause-kept
+returns-in-None-clause-kept c =
+    let v = c.args.heaps.now in
+    KeepsAll-if_black (colour_at v.scripts c.args.key.0 ≡ Some Black) v _ (KeepsAll-same v _ refl)

@@ -1,11 +1,13 @@
 use Rattle.std.proofs.Common.{◌≡◌, true, false, Some, sym, ◌∙◌, ap}
 use Rattle.std.proofs.lemmas.Result.{on_ok_weaker}
 use Rattle.cc_lists.proofs.KnownBytes.{on_err_of}
-use Rattle.cc_names.specs.Names.{reflector}
+use Rattle.cc_names.specs.Names.{native, reflector}
 use Rattle.cc_model.specs.Heap.{has_reflector}
 use Rattle.cc_counted.specs.Counts.{reflector_at}
 use Rattle.cc_script.specs.Objects.{name_at}
 use Rattle.cc_heaps.specs.Keyed.{counts_of, the_number}
+use Rattle.cc_heaps.specs.Standing.{IsReached}
+use Rattle.cc_heaps.proofs.Kept.{KeepsAll-if_reached}
 use Rattle.cc_heaps.proofs.ScriptsChanged.{named-there}
 use Rattle.cc_wrappers.proofs.Wrapped.{reflector-name, reflector-none, reflector-has, exposed-wrapped, exposed-name, exposed-colour, exposed-stands, exposed-keeps_reached, made-wrapped, made-colour, made-keeps_reached}
 use Rattle.cc_wrappers.proofs.wrapping.wrap.Goals as goal
@@ -41,18 +43,17 @@ has c = reflector-has c.args.heaps.now c.requires.order.1 c.args.key.0 c.require
 pub returns-in-Some-clause-heap : goal.returns-in-Some-clause-heap
 returns-in-Some-clause-heap c =
     let v = c.args.heaps.now in
-    exposed-wrapped v c.expose.new.self c.requires.order.1 (c.expose.ensures.order c.requires.order.0 c.requires.order.1) (the_number v c.args.key.0) c.in-Some.there.0 (named c) (has c) c.expose.ensures.heap c.expose.ensures.keys
+    exposed-wrapped v c.expose.new.self c.requires.order.1 (c.expose.ensures.kept.order c.requires.order.0 c.requires.order.1) (the_number v c.args.key.0) c.in-Some.there.0 (named c) (has c) c.expose.ensures.heap c.expose.ensures.kept.keys
 
-pub returns-in-Some-clause-order : goal.returns-in-Some-clause-order
-returns-in-Some-clause-order c = c.expose.ensures.order
-
-pub returns-in-Some-clause-counts : goal.returns-in-Some-clause-counts
-returns-in-Some-clause-counts c = c.expose.ensures.counts
+pub returns-in-Some-clause-kept : goal.returns-in-Some-clause-kept
+returns-in-Some-clause-kept c =
+    let v = c.args.heaps.now in
+    KeepsAll-if_reached (IsReached v.heap (Some (native (the_number v c.args.key.0)))) v c.expose.new.self c.expose.ensures.kept
 
 pub returns-in-Some-clause-name : goal.returns-in-Some-clause-name
 returns-in-Some-clause-name c =
     let v = c.args.heaps.now in
-    exposed-name v c.expose.new.self c.requires.order.1 (c.expose.ensures.order c.requires.order.0 c.requires.order.1) (the_number v c.args.key.0) c.in-Some.there.0 (named c) (has c) c.expose.ensures.heap c.expose.ensures.keys
+    exposed-name v c.expose.new.self c.requires.order.1 (c.expose.ensures.kept.order c.requires.order.0 c.requires.order.1) (the_number v c.args.key.0) c.in-Some.there.0 (named c) (has c) c.expose.ensures.heap c.expose.ensures.kept.keys
 
 pub returns-in-Some-clause-there : goal.returns-in-Some-clause-there
 returns-in-Some-clause-there c = named-there c.expose.new.self.scripts c.in-Some.there.0 (reflector (the_number c.args.heaps.now c.args.key.0)) (returns-in-Some-clause-name c)
@@ -60,17 +61,17 @@ returns-in-Some-clause-there c = named-there c.expose.new.self.scripts c.in-Some
 pub returns-in-Some-clause-black : goal.returns-in-Some-clause-black
 returns-in-Some-clause-black c =
     let v = c.args.heaps.now in
-    exposed-colour v c.expose.new.self c.requires.order.1 (c.expose.ensures.order c.requires.order.0 c.requires.order.1) (the_number v c.args.key.0) c.in-Some.there.0 (named c) (has c) c.expose.ensures.heap c.expose.ensures.keys
+    exposed-colour v c.expose.new.self c.requires.order.1 (c.expose.ensures.kept.order c.requires.order.0 c.requires.order.1) (the_number v c.args.key.0) c.in-Some.there.0 (named c) (has c) c.expose.ensures.heap c.expose.ensures.kept.keys
 
 pub returns-in-Some-clause-stands : goal.returns-in-Some-clause-stands
 returns-in-Some-clause-stands c =
     let v = c.args.heaps.now in
-    exposed-stands v c.expose.new.self c.requires.order.1 (c.expose.ensures.order c.requires.order.0 c.requires.order.1) (the_number v c.args.key.0) c.in-Some.there.0 (named c) (has c) c.expose.ensures.heap c.expose.ensures.keys
+    exposed-stands v c.expose.new.self c.requires.order.1 (c.expose.ensures.kept.order c.requires.order.0 c.requires.order.1) (the_number v c.args.key.0) c.in-Some.there.0 (named c) (has c) c.expose.ensures.heap c.expose.ensures.kept.keys
 
 pub returns-in-Some-clause-reached : goal.returns-in-Some-clause-reached
 returns-in-Some-clause-reached c =
     let v = c.args.heaps.now in
-    exposed-keeps_reached v c.expose.new.self c.requires.order.1 (c.expose.ensures.order c.requires.order.0 c.requires.order.1) (the_number v c.args.key.0) c.in-Some.there.0 (named c) (has c) c.expose.ensures.heap c.expose.ensures.keys
+    exposed-keeps_reached v c.expose.new.self c.requires.order.1 (c.expose.ensures.kept.order c.requires.order.0 c.requires.order.1) (the_number v c.args.key.0) c.in-Some.there.0 (named c) (has c) c.expose.ensures.heap c.expose.ensures.kept.keys
 
 -- A new one
 
@@ -79,23 +80,20 @@ lacks : (c : goal.After-new_reflector) → has_reflector c.args.heaps.now.heap (
 lacks c = reflector-none c.args.heaps.now c.requires.order.1 c.args.key.0 c.requires.live
     (sym (c.in-None.ensures ∙ ap (λ w. reflector_at w c.args.key.0) c.counted.ensures))
 
-pub returns-in-None-clause-order : goal.returns-in-None-clause-order
-returns-in-None-clause-order c = c.new_reflector.ensures.order
-
-pub returns-in-None-clause-counts : goal.returns-in-None-clause-counts
-returns-in-None-clause-counts c = c.new_reflector.ensures.counts
+pub returns-in-None-clause-kept : goal.returns-in-None-clause-kept
+returns-in-None-clause-kept c = c.new_reflector.ensures.kept
 
 pub returns-in-None-clause-heap : goal.returns-in-None-clause-heap
 returns-in-None-clause-heap c =
     let v = c.args.heaps.now in
     on_ok_weaker c.new_reflector.result
-    (made-wrapped v c.new_reflector.new.self (c.new_reflector.ensures.order c.requires.order.0 c.requires.order.1) (the_number v c.args.key.0) (lacks c))
+    (made-wrapped v c.new_reflector.new.self (c.new_reflector.ensures.kept.order c.requires.order.0 c.requires.order.1) (the_number v c.args.key.0) (lacks c))
     c.new_reflector.ensures.heap
 
 pub returns-in-None-clause-black : goal.returns-in-None-clause-black
 returns-in-None-clause-black c =
     let v = c.args.heaps.now in
-    made-colour v c.new_reflector.new.self (c.new_reflector.ensures.order c.requires.order.0 c.requires.order.1) (the_number v c.args.key.0) (lacks c) c.new_reflector.result
+    made-colour v c.new_reflector.new.self (c.new_reflector.ensures.kept.order c.requires.order.0 c.requires.order.1) (the_number v c.args.key.0) (lacks c) c.new_reflector.result
     c.new_reflector.ensures.heap c.new_reflector.ensures.name
 
 pub returns-in-None-clause-lacks : goal.returns-in-None-clause-lacks
@@ -104,5 +102,5 @@ returns-in-None-clause-lacks c = on_err_of c.new_reflector.result (lacks c)
 pub returns-in-None-clause-reached : goal.returns-in-None-clause-reached
 returns-in-None-clause-reached c =
     let v = c.args.heaps.now in
-    made-keeps_reached v c.new_reflector.new.self (c.new_reflector.ensures.order c.requires.order.0 c.requires.order.1) (the_number v c.args.key.0) (lacks c) c.new_reflector.result
+    made-keeps_reached v c.new_reflector.new.self (c.new_reflector.ensures.kept.order c.requires.order.0 c.requires.order.1) (the_number v c.args.key.0) (lacks c) c.new_reflector.result
     c.new_reflector.ensures.heap c.new_reflector.ensures.same

@@ -22,7 +22,7 @@ returns-in-Some-clause-held c =
     AreHeld-same c.args.self.now.graph v c.give_back.new.self (AreSame-buffer v c.give_back.new.self (suspect v.heap (the_number v c.in-Some.key.0)).buffer c.give_back.ensures.heap) c.requires.held
 
 pub returns-in-Some-clause-order : goal.returns-in-Some-clause-order
-returns-in-Some-clause-order c = c.give_back.ensures.order [] c.requires.order
+returns-in-Some-clause-order c = c.give_back.ensures.kept.order [] c.requires.order
 
 pub returns-in_default-clause-heap : goal.returns-in_default-clause-heap
 returns-in_default-clause-heap c =

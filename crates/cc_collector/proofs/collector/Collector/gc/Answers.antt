@@ -1,7 +1,6 @@
 use Rattle.std.specs.Prelude.{OnOk, OnErr}
 use Rattle.std.proofs.Common.{[], Result, Ok, Err, Option, None, sym, subst}
 use Rattle.cc_laws_run.specs.Doomed.{IsSuspectedNow}
-use Rattle.cc_heaps.proofs.FewCounts.{few-alone}
 use Rattle.cc_builder.specs.Building.{Built}
 use Rattle.cc_collector.specs.Kept.{RunsIn, machine_of}
 use Rattle.cc_collector.specs.Collected.{IsSwept}
@@ -57,14 +56,22 @@ returns-clause-suspected g c = λ s.
     subst (λ (d : Option Built). IsSuspectedNow (machine_of c.collect_scripts.new.heaps.heap d)) (sym c.finish_running-refused.ensures.over)
     (c.collect_scripts.ensures.suspected ((keeps g c).suspected s))
 
-pub returns-clause-keys : goal.returns-clause-keys
-returns-clause-keys g c = KeepsKeys-swept c.args.heaps.now c.args.self.now c.finish_running-refused.new.heaps c.collect_scripts.new.heaps (keeps g c) c.collect_scripts.ensures.heap c.collect_scripts.ensures.keys
-
-pub returns-clause-counts : goal.returns-clause-counts
-returns-clause-counts g c = few-alone c.collect_scripts.new.heaps (c.collect_scripts.ensures.order [] (keeps g c).runs.order)
+pub returns-clause-kept : goal.returns-clause-kept
+returns-clause-kept g c =
+    let first = (keeps g c).kept in
+    let second = c.collect_scripts.ensures.kept in
+    record {
+      keys = KeepsKeys-swept c.args.heaps.now c.args.self.now c.finish_running-refused.new.heaps c.collect_scripts.new.heaps (keeps g c)
+          c.collect_scripts.ensures.heap second.keys;
+      order = λ owned o. second.order owned (first.order owned o);
+      counts = second.counts;
+      colours = λ before. c.collect_scripts.ensures.invariant;
+      fresh = tt;
+      suspected = tt;
+    }
 
 pub returns-clause-runs : goal.returns-clause-runs
 returns-clause-runs g c =
     let e = c.collect_scripts.ensures in
     subst (RunsIn c.collect_scripts.new.heaps) (sym c.finish_running-refused.ensures.over)
-    (record { order = e.order [] (keeps g c).runs.order; colours = e.invariant; goes_on = tt })
+    (record { order = e.kept.order [] (keeps g c).runs.order; colours = e.invariant; goes_on = tt })

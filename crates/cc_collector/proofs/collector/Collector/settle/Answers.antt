@@ -1,6 +1,6 @@
 use Rattle.cc_lists.proofs.KnownBytes.{on_err_of}
 use Rattle.cc_gc.proofs.Sparing.{keeps-then}
-use Rattle.cc_collector.proofs.Settling.{tells-then, keys-then, settled-exact}
+use Rattle.cc_collector.proofs.Settling.{tells-then, kept-then, settled-exact}
 use Rattle.cc_collector.proofs.NothingLeft.{unsettled-silent}
 use Rattle.cc_collector.proofs.collector.Collector.settle.Goals as goal
 
@@ -16,9 +16,9 @@ returns-in_err-whole-clause-swept g c = on_err_of c.from_residual.result
 pub returns-in_err-whole-clause-suspected : goal.returns-in_err-whole-clause-suspected
 returns-in_err-whole-clause-suspected g c = λ s. c.whole.ensures.suspected (c.gc.ensures.suspected s)
 
-pub returns-in_err-whole-clause-keys : goal.returns-in_err-whole-clause-keys
-returns-in_err-whole-clause-keys g c = keys-then _ _ _ _ _ c.gc.ensures.runs.order.sound.well_formed c.whole.ensures.runs.order.sound.well_formed
-    c.whole.ensures.tells c.gc.ensures.keys c.whole.ensures.keys
+pub returns-in_err-whole-clause-kept : goal.returns-in_err-whole-clause-kept
+returns-in_err-whole-clause-kept g c = kept-then _ _ _ _ _ c.gc.ensures.runs.order.sound.well_formed c.whole.ensures.runs.order.sound.well_formed
+    c.whole.ensures.tells c.gc.ensures.kept c.whole.ensures.kept
 
 -- All is done
 
@@ -38,7 +38,7 @@ returns-clause-tells g c = tells-then _ _ _ _ _ _ c.gc.ensures.keeps (keeps-then
 pub returns-clause-suspected : goal.returns-clause-suspected
 returns-clause-suspected g c = λ s. c.gc-2.ensures.suspected (c.whole.ensures.suspected (c.gc.ensures.suspected s))
 
-pub returns-clause-keys : goal.returns-clause-keys
-returns-clause-keys g c = keys-then _ _ _ _ _ c.whole.ensures.runs.order.sound.well_formed c.gc-2.ensures.runs.order.sound.well_formed c.gc-2.ensures.tells
-    (keys-then _ _ _ _ _ c.gc.ensures.runs.order.sound.well_formed c.whole.ensures.runs.order.sound.well_formed c.whole.ensures.tells c.gc.ensures.keys c.whole.ensures.keys)
-    c.gc-2.ensures.keys
+pub returns-clause-kept : goal.returns-clause-kept
+returns-clause-kept g c = kept-then _ _ _ _ _ c.whole.ensures.runs.order.sound.well_formed c.gc-2.ensures.runs.order.sound.well_formed c.gc-2.ensures.tells
+    (kept-then _ _ _ _ _ c.gc.ensures.runs.order.sound.well_formed c.whole.ensures.runs.order.sound.well_formed c.whole.ensures.tells c.gc.ensures.kept c.whole.ensures.kept)
+    c.gc-2.ensures.kept

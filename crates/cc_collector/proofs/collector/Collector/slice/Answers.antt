@@ -64,8 +64,8 @@ err-keeps g c = Keeps-then c.args.heaps.now c.args.self.now c.loop.heaps c.loop.
 pub returns-in_err-ended-clause-suspected : goal.returns-in_err-ended-clause-suspected
 returns-in_err-ended-clause-suspected g c = λ s. (err-keeps g c).suspected s
 
-pub returns-in_err-ended-clause-keys : goal.returns-in_err-ended-clause-keys
-returns-in_err-ended-clause-keys g c = (err-keeps g c).keys
+pub returns-in_err-ended-clause-kept : goal.returns-in_err-ended-clause-kept
+returns-in_err-ended-clause-kept g c = (err-keeps g c).kept
 
 -- A unit ends the collection
 
@@ -92,9 +92,9 @@ pub returns-in-Yes-clause-suspected : goal.returns-in-Yes-clause-suspected
 returns-in-Yes-clause-suspected g c = λ s.
     (Keeps-then c.args.heaps.now c.args.self.now c.loop.heaps c.loop.self c.unit.new.heaps c.unit.new.self c.loop.invariant.keeps c.unit.ensures.keeps).suspected s
 
-pub returns-in-Yes-clause-keys : goal.returns-in-Yes-clause-keys
-returns-in-Yes-clause-keys g c =
-    (Keeps-then c.args.heaps.now c.args.self.now c.loop.heaps c.loop.self c.unit.new.heaps c.unit.new.self c.loop.invariant.keeps c.unit.ensures.keeps).keys
+pub returns-in-Yes-clause-kept : goal.returns-in-Yes-clause-kept
+returns-in-Yes-clause-kept g c =
+    (Keeps-then c.args.heaps.now c.args.self.now c.loop.heaps c.loop.self c.unit.new.heaps c.unit.new.self c.loop.invariant.keeps c.unit.ensures.keeps).kept
 
 -- It goes on
 
@@ -129,3 +129,6 @@ returns-clause-keeps g c = sliced-keeps _ _ c.requires.runs _ _ _ _ _ _ _ (retur
 
 pub returns-clause-tells : goal.returns-clause-tells
 returns-clause-tells g c = sliced-tells _ _ _ _ _ _ _ _ (returns-clause-sliced g c)
+
+pub returns-clause-kept : goal.returns-clause-kept
+returns-clause-kept g c = c.loop.invariant.keeps.kept

@@ -57,6 +57,9 @@ pub returns-in_err-finish_running-clause-suspected : goal.returns-in_err-finish_
 returns-in_err-finish_running-clause-suspected g c = λ s.
     (subst (Keeps c.args.heaps.now c.args.self.now c.finish_running.new.heaps) (sym c.finish_running.ensures.over) c.in_err-finish_running.ensures.refused.keeps).suspected s
 
+pub returns-in_err-finish_running-clause-kept : goal.returns-in_err-finish_running-clause-kept
+returns-in_err-finish_running-clause-kept g c = c.in_err-finish_running.ensures.refused.keeps.kept
+
 -- A collection after it
 
 pub returns-clause-done : goal.returns-clause-done
@@ -116,8 +119,5 @@ keeps g c =
 pub returns-clause-suspected : goal.returns-clause-suspected
 returns-clause-suspected g c = λ s. (keeps g c).suspected s
 
-pub returns-clause-keys : goal.returns-clause-keys
-returns-clause-keys g c = (keeps g c).keys
-
-pub returns-clause-counts : goal.returns-clause-counts
-returns-clause-counts g c = (keeps g c).counts
+pub returns-clause-kept : goal.returns-clause-kept
+returns-clause-kept g c = (keeps g c).kept

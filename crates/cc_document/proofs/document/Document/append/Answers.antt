@@ -8,8 +8,8 @@ use Rattle.cc_document.specs.declared.error.DocumentError.TheVariants.{HasParent
 use Rattle.cc_document.specs.Shown.{Makes, Parts, Shows, parts, written, appended}
 use Rattle.cc_document.proofs.Appending.{appended-reads}
 use Rattle.cc_document.proofs.Calls.{both-there, read-is_some, read-none, read-some, between-from}
-use Rattle.cc_document.specs.Told.{TellsWhatIsFreed}
-use Rattle.cc_document.proofs.Freed.{tells-then}
+use Rattle.cc_heaps.specs.Leaving.{TellsWhatIsFreed}
+use Rattle.cc_heaps.proofs.Leaving.{tells-then}
 use Rattle.cc_document.proofs.Growing.{made-then}
 use Rattle.cc_document.proofs.Outcomes.{stopped-alike}
 use Rattle.cc_document.proofs.Idle.{idle-after, appended-left}

@@ -1,12 +1,12 @@
-use Rattle.std.proofs.Common.{[], rules, ◌<◌, None, refl, inl, sym, subst, arith}
+use Rattle.std.proofs.Common.{rules, ◌<◌, None, refl, inl, sym, subst, arith}
 use Rattle.cc_names.specs.declared.register.Reg.TheVariants.{N}
 use Rattle.cc_model.specs.Graph.{set_register}
 use Rattle.cc_heaps.proofs.FewCounts.{none-owned}
 use Rattle.cc_document.specs.Shown.{Makes, Parts, Shows, parts}
-use Rattle.cc_document.specs.Told.{TellsWhatIsFreed}
+use Rattle.cc_heaps.specs.Leaving.{TellsWhatIsFreed}
 use Rattle.cc_document.proofs.Assigning.{assigned-reads}
 use Rattle.cc_document.proofs.Documents.{native_register-document}
-use Rattle.cc_document.proofs.Freed.{hold_native-made, hold_native-tells}
+use Rattle.cc_document.proofs.Freed.{hold_native-made}
 use Rattle.cc_document.proofs.Idle.{idle-after}
 use Rattle.cc_document.proofs.Steps.{Shows-step}
 use Rattle.cc_document.proofs.document.Document.let_go.Goals as goal
@@ -23,7 +23,7 @@ invariant_of-self g c =
     let b = c.self.inside.collector in
     let k = set_register s.0 (N c.args.variable.0) None in
     let t = Shows-step v w b (λ h. set_register h (N c.args.variable.0) None)
-    (record { order = e.order [] s.1.runs.order; colours = e.colours; fresh = e.fresh; keys = e.keys; suspected = e.suspected; stands = e.stands tt }) s.0 s.1 (native_register-document s.0 s.1.document c.args.variable.0 None) in
+    (record { kept = e.kept; stands = e.stands tt }) s.0 s.1 (native_register-document s.0 s.1.document c.args.variable.0 None) in
     ((k, t), idle-after v w b b s.0 k s.1 t (λ r. inl refl) c.self.invariant.1)
 
 pub returns-clause-assigned : goal.returns-clause-assigned
@@ -33,19 +33,15 @@ returns-clause-assigned g c = λ k s.
     let within : c.args.variable.0 < 256 = search rules in (
       set_register k (N c.args.variable.0) None,
       Shows-step c.self.inside.heaps c.set_native_reg.new.self c.self.inside.collector (λ h. set_register h (N c.args.variable.0) None)
-          (record { order = e.order [] t.runs.order; colours = e.colours; fresh = e.fresh; keys = e.keys; suspected = e.suspected; stands = e.stands tt }) k t (native_register-document k t.document c.args.variable.0 None),
+          (record { kept = e.kept; stands = e.stands tt }) k t (native_register-document k t.document c.args.variable.0 None),
       assigned-reads k c.args.variable.0 None (omega (arith, within, s.well.registers.0)),
     )
 
 pub returns-clause-tells : goal.returns-clause-tells
 returns-clause-tells g c =
-    let e = c.set_native_reg.ensures in
-    let w = c.set_native_reg.new.self in
     let before = g.N.Notices.telling c.args.out.now in
     let after = g.N.Notices.telling c.set_native_reg.new.out in
-    let within : c.args.variable.0 < 256 = search rules in
-    subst (λ (p : Parts). TellsWhatIsFreed p.heaps.heap w.heap before after) c.self.view_is
-    (hold_native-tells c.self.inside.heaps w c.args.variable.0 None before after within (λ y m. absurd m) c.self.invariant.0.1.runs.order e.heap (e.order [] c.self.invariant.0.1.runs.order) e.told)
+    subst (λ (p : Parts). TellsWhatIsFreed p.heaps.heap c.set_native_reg.new.self.heap before after) c.self.view_is c.set_native_reg.ensures.tells
 
 pub returns-clause-makes : goal.returns-clause-makes
 returns-clause-makes g c =
@@ -54,6 +50,6 @@ returns-clause-makes g c =
     subst (λ (p : Parts). Makes 0 0 p (parts w c.self.inside.collector)) c.self.view_is
     (record {
       running = refl;
-      made = hold_native-made c.self.inside.heaps w c.args.variable.0 None (g.N.Notices.telling c.args.out.now) (g.N.Notices.telling c.set_native_reg.new.out) within
+      made = hold_native-made c.self.inside.heaps w c.args.variable.0 None within
           (λ y m. absurd m) c.self.invariant.0.1.runs.order c.set_native_reg.ensures.heap;
     })

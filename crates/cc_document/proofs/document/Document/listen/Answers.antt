@@ -7,9 +7,10 @@ use Rattle.cc_document.specs.Shown.{Makes, MakesOneAtMost, Parts, Shows, parts, 
 use Rattle.cc_document.proofs.Closures.{closed_over-reads, listened-reads}
 use Rattle.cc_document.proofs.Holding.{room-for_script}
 use Rattle.cc_document.proofs.Calls.{read-some, between-from, both-there}
-use Rattle.cc_document.proofs.Freed.{nothing-told, tells-after, tells-later}
+use Rattle.cc_heaps.proofs.Leaving.{nothing-told, tells-later}
+use Rattle.cc_document.proofs.Freed.{tells-after}
 use Rattle.cc_document.proofs.Growing.{grows-stays, made-then}
-use Rattle.cc_document.specs.Told.{TellsWhatIsFreed}
+use Rattle.cc_heaps.specs.Leaving.{TellsWhatIsFreed}
 use Rattle.cc_document.proofs.Idle.{idle-after, listened-left}
 use Rattle.cc_document.proofs.Outcomes.{err-of}
 use Rattle.cc_document.proofs.Reached.{alike}

@@ -22,7 +22,7 @@ shown c =
     let full = c.new_map.ensures.full_always (subst (λ (k : Heap). k.limits.scripts ≤ k.scripts_made) (sym h.empty) few) in
     let made = c.in_ok-new_map.was in
     cc in
-    Shows-empty c.args.limits room c.in_ok-heaps.heaps c.new_map.new.self c.new-2.result c.new-2.ensures h.stands h.colours h.suspected (e.order [] h.order) e.colours e.suspected e.stands
+    Shows-empty c.args.limits room c.in_ok-heaps.heaps c.new_map.new.self c.new-2.result c.new-2.ensures h.stands h.colours h.suspected (e.kept.order [] h.order) e.kept.colours e.kept.suspected e.stands
 
 pub invariant_of-result : goal.invariant_of-result
 invariant_of-result c =

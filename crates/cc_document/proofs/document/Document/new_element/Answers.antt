@@ -1,8 +1,5 @@
 use Rattle.std.proofs.Common.{[], rules, ◌≡◌, ℕ, ◌<◌, ◌≤◌, ◌+◌, length, Some, refl, sym, ◌∙◌, ap, subst, ⊎_elim, arith}
 use Rattle.std.proofs.lemmas.Bool.{cases_lt}
-use Rattle.cc_lists.specs.Members.{Among}
-use Rattle.cc_model.specs.WellFormed.{names_there}
-use Rattle.cc_heaps.specs.Keyed.{Keyed}
 use Rattle.cc_names.specs.Names.{native}
 use Rattle.cc_model.specs.Graph as graph
 use Rattle.cc_laws_heap.proofs.RepliesAlike.{objects-stand}
@@ -12,8 +9,8 @@ use Rattle.cc_document.specs.Shown.{Makes, Parts, Shows, parts, made_in}
 use Rattle.cc_document.proofs.Assigning.{made-reads}
 use Rattle.cc_document.proofs.Documents.{made_in-document}
 use Rattle.cc_document.proofs.Holding.{room-for_native}
-use Rattle.cc_document.proofs.Freed.{nothing-told, make_native-made, make_native-tells}
-use Rattle.cc_document.specs.Told.{TellsWhatIsFreed}
+use Rattle.cc_document.proofs.Freed.{make_native-made}
+use Rattle.cc_heaps.specs.Leaving.{TellsWhatIsFreed}
 use Rattle.cc_document.proofs.Idle.{idle-after, made_in-left}
 use Rattle.cc_document.proofs.Steps.{Shows-step}
 use Rattle.cc_document.proofs.document.Document.new_element.Goals as goal
@@ -30,7 +27,7 @@ invariant_of-self-2 g c =
     let b = c.self.inside.collector in
     let k = made_in c.args.into.0 s.0 in
     let t = Shows-step v w b (made_in c.args.into.0)
-    (record { order = e.order [] s.1.runs.order; colours = e.colours; fresh = e.fresh; keys = e.keys; suspected = e.suspected; stands = e.stands }) s.0 s.1 (made_in-document s.0 s.1.document c.args.into.0) in
+    (record { kept = e.kept; stands = e.stands }) s.0 s.1 (made_in-document s.0 s.1.document c.args.into.0) in
     ((k, t), idle-after v w b b s.0 k s.1 t (made_in-left s.0 c.args.into.0) c.self.invariant.1)
 
 pub returns-clause-made : goal.returns-clause-made
@@ -49,18 +46,15 @@ returns-clause-made g c = λ k s.
     let numbered : element c.in-Native.number.0 ≡ element (length k.natives + 1) = ap (λ x. Some x) named ∙ ap (λ n. element (n + 1)) a.natives_made in (
       made_in r k,
       Shows-step v c.new_native.new.self c.self.inside.collector (made_in r)
-          (record { order = e.order [] t.runs.order; colours = e.colours; fresh = e.fresh; keys = e.keys; suspected = e.suspected; stands = e.stands }) k t (made_in-document k t.document r),
+          (record { kept = e.kept; stands = e.stands }) k t (made_in-document k t.document r),
       subst (IsAssigned (graph.objects_of k) (graph.objects_of (made_in r k)) r) (sym numbered) (made-reads k r (omega (arith, within, t.well.registers.0)) (room-for_native (graph.objects_of k) r room)),
     )
 
 pub returns-in_err-number-clause-tells : goal.returns-in_err-number-clause-tells
 returns-in_err-number-clause-tells g c =
-    let v = c.self.inside.heaps in
     let before = g.N.Notices.telling c.args.out.now in
-    subst (λ (p : Parts). TellsWhatIsFreed p.heaps.heap c.new_native.new.self.heap before (g.N.Notices.telling c.new_native.new.out)) c.self.view_is
-    (subst (TellsWhatIsFreed v.heap c.new_native.new.self.heap before) (sym c.in_err-number.ensures.silent)
-    (nothing-told v.heap c.new_native.new.self.heap before
-    (λ x i. subst (λ (w : Keyed). Among x (names_there w.heap)) (sym c.in_err-number.ensures.same) i)))
+    let after = g.N.Notices.telling c.new_native.new.out in
+    subst (λ (p : Parts). TellsWhatIsFreed p.heaps.heap c.new_native.new.self.heap before after) c.self.view_is c.new_native.ensures.tells
 
 -- there was room
 below : (limit made : ℕ) → ¬ (limit ≤ made) → made < limit
@@ -68,17 +62,9 @@ below limit made room = ⊎_elim (λ l. l) (λ m. absurd (room m)) (cases_lt mad
 
 pub returns-clause-tells : goal.returns-clause-tells
 returns-clause-tells g c =
-    let e = c.in_ok-number.ensures in
-    let h = c.self.inside.heaps.heap in
-    let k = c.new_native.new.self.heap in
     let before = g.N.Notices.telling c.args.out.now in
     let after = g.N.Notices.telling c.new_native.new.out in
-    let within : c.args.into.0 < 256 = search rules in
-    let full = c.new_native.ensures.full_always in
-    let made = c.in_ok-number.was in
-    let room : h.natives_made < h.limits.natives = below h.limits.natives h.natives_made (λ few. let stop = full few in cc) in
-    subst (λ (p : Parts). TellsWhatIsFreed p.heaps.heap k before after) c.self.view_is
-    (make_native-tells h k c.args.into.0 10 before after within (omega arith) room c.self.invariant.0.1.runs.order.sound e.heap (e.order [] c.self.invariant.0.1.runs.order).sound.well_formed e.told)
+    subst (λ (p : Parts). TellsWhatIsFreed p.heaps.heap c.new_native.new.self.heap before after) c.self.view_is c.new_native.ensures.tells
 
 pub returns-clause-makes : goal.returns-clause-makes
 returns-clause-makes g c =
@@ -91,6 +77,6 @@ returns-clause-makes g c =
     subst (λ (p : Parts). Makes 1 0 p (parts c.new_native.new.self c.self.inside.collector)) c.self.view_is
     (record {
       running = refl;
-      made = make_native-made h k c.args.into.0 10 (g.N.Notices.telling c.args.out.now) (g.N.Notices.telling c.new_native.new.out) within (omega arith) room
+      made = make_native-made h k c.args.into.0 10 within (omega arith) room
           c.self.invariant.0.1.runs.order.sound c.in_ok-number.ensures.heap;
     })

@@ -9,7 +9,8 @@ use Rattle.cc_document.specs.Shown.{Makes, MakesOneAtMost, Parts, Shows, parts, 
 use Rattle.cc_document.proofs.Assigning.{as_before-then}
 use Rattle.cc_document.proofs.Closures.{closed_over-reads, closed_over-before, with_data-reads, without-before}
 use Rattle.cc_document.proofs.Growing.{grows-stays, grows-then}
-use Rattle.cc_document.specs.Told.{Grows, NothingLeft}
+use Rattle.cc_heaps.specs.Leaving.{NothingLeft}
+use Rattle.cc_document.specs.Told.{Grows}
 use Rattle.cc_document.proofs.Holding.{room-for_script}
 use Rattle.cc_document.proofs.Calls.{read-some, between-from, both-there, element-found, stops-entering}
 use Rattle.cc_document.proofs.Idle.{idle-after, with_data-left, left-closed}

@@ -10,8 +10,8 @@ use Rattle.cc_document.proofs.Calls.{both-there, read-some, between-from}
 use Rattle.cc_document.specs.declared.error.DocumentError.TheVariants.{NoChild}
 use Rattle.cc_document.specs.Stops.{StopsRemoving}
 use Rattle.cc_document.proofs.Outcomes.{stopped-alike}
-use Rattle.cc_document.specs.Told.{TellsWhatIsFreed}
-use Rattle.cc_document.proofs.Freed.{tells-then}
+use Rattle.cc_heaps.specs.Leaving.{TellsWhatIsFreed}
+use Rattle.cc_heaps.proofs.Leaving.{tells-then}
 use Rattle.cc_document.proofs.Growing.{made-then}
 use Rattle.cc_document.proofs.Idle.{idle-after, removed-left}
 use Rattle.cc_document.proofs.document.Document.remove.Goals as goal

@@ -1,6 +1,5 @@
-use Rattle.std.proofs.Common.{[]}
 use Rattle.cc_heaps.proofs.FewCounts.{none-owned}
-use Rattle.cc_collector.proofs.GoingOn.{RunsIn-between}
+use Rattle.cc_collector.proofs.GoingOn.{RunsIn-kept}
 use Rattle.cc_embedding.proofs.host.Host.let_go.Goals as goal
 
 pub set_native_reg-requires-clause-order : goal.set_native_reg-requires-clause-order
@@ -8,7 +7,4 @@ set_native_reg-requires-clause-order g c = none-owned c.self.inside.heaps c.self
 
 pub invariant_of-self : goal.invariant_of-self
 invariant_of-self g c =
-    let r = c.self.invariant in
-    let e = c.set_native_reg.ensures in
-    RunsIn-between c.self.inside.heaps c.set_native_reg.new.self c.self.inside.collector r
-    (record { order = e.order [] r.order; colours = e.colours r.colours; fresh = e.fresh; keys = e.keys })
+    RunsIn-kept c.self.inside.heaps c.set_native_reg.new.self c.self.inside.collector c.self.invariant c.set_native_reg.ensures.kept

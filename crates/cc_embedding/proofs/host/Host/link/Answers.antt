@@ -1,6 +1,5 @@
-use Rattle.std.proofs.Common.{[]}
 use Rattle.cc_heaps.proofs.FewCounts.{none-owned}
-use Rattle.cc_collector.proofs.GoingOn.{RunsIn-between}
+use Rattle.cc_collector.proofs.GoingOn.{RunsIn-kept_black}
 use Rattle.cc_embedding.proofs.host.Host.link.Goals as goal
 
 pub store_native-requires-clause-order : goal.store_native-requires-clause-order
@@ -8,7 +7,4 @@ store_native-requires-clause-order g c = none-owned c.self.inside.heaps c.self.i
 
 pub invariant_of-self : goal.invariant_of-self
 invariant_of-self g c =
-    let r = c.self.invariant in
-    let e = c.store_native.ensures in
-    RunsIn-between c.self.inside.heaps c.store_native.new.self c.self.inside.collector r
-    (record { order = e.order [] r.order; colours = e.colours tt r.colours; fresh = e.fresh tt; keys = e.keys })
+    RunsIn-kept_black c.self.inside.heaps c.store_native.new.self c.self.inside.collector c.self.invariant c.store_native.ensures.kept tt

@@ -11,20 +11,15 @@ keeps c =
     let v = c.args.self.now in
     subst (Keeps v.heap) (sym c.expose_content.ensures.heap) (exposed-keeps v.heap (name_at v.scripts c.args.key.0) c.requires.order.1.sound)
 
-pub returns-clause-order : goal.returns-clause-order
-returns-clause-order c = c.expose_content.ensures.order
-
-pub returns-clause-counts : goal.returns-clause-counts
-returns-clause-counts c = few-owned _
-
-pub returns-clause-colours : goal.returns-clause-colours
-returns-clause-colours c = (keeps c).follows.colours
-
-pub returns-clause-fresh : goal.returns-clause-fresh
-returns-clause-fresh c = (keeps c).follows.fresh
-
-pub returns-clause-suspected : goal.returns-clause-suspected
-returns-clause-suspected c = (keeps c).suspected
+pub returns-clause-kept : goal.returns-clause-kept
+returns-clause-kept c = record {
+  keys = c.expose_content.ensures.keys;
+  order = c.expose_content.ensures.order;
+  counts = few-owned _;
+  colours = (keeps c).follows.colours;
+  fresh = (keeps c).follows.fresh;
+  suspected = (keeps c).suspected;
+}
 
 pub returns-clause-stands : goal.returns-clause-stands
 returns-clause-stands c =

@@ -26,20 +26,6 @@ returns-clause-heap c =
     rw (← c.self.view_is)
     (changed-keyed (give_back-changes c.self.inside c.self.invariant (the_number (keyed_of c.self.inside) c.args.key.0) c.give_back.ensures.heap))
 
-pub returns-clause-keys : goal.returns-clause-keys
-returns-clause-keys c = KeepsKeys-changed c.args.self.now _ _ (returns-clause-heap c)
-
-pub returns-clause-order : goal.returns-clause-order
-returns-clause-order c owned =
-    let p = c.self.inside in
-    let k = the_number (keyed_of p) c.args.key.0 in
-    let live = rw (← c.self.view_is) at c.requires.live in
-    rw (← c.self.view_is)
-    (λ o. changed-order (give_back-changes p c.self.invariant k c.give_back.ensures.heap) (IsInOrder-suspect owned (keyed_of p) k (number-there owned (keyed_of p) c.args.key.0 o live) o))
-
-pub returns-clause-counts : goal.returns-clause-counts
-returns-clause-counts c = few-owned _
-
 keeps : (c : goal.After-give_back) → Keeps c.args.self.now.heap (suspect c.args.self.now.heap (the_number c.args.self.now c.args.key.0))
 keeps c =
     let before = c.args.self.now in
@@ -47,17 +33,19 @@ keeps c =
     let f = c.requires.owned in
     suspect-keeps before.heap k f.1.sound.well_formed (IsInOrder-suspect f.0 before k (number-there f.0 before c.args.key.0 f.1 c.requires.live) f.1).sound.well_formed
 
-pub returns-clause-colours : goal.returns-clause-colours
-returns-clause-colours c =
-    subst (λ (w : Keyed). KeepsColours c.args.self.now.heap w.heap) (sym (returns-clause-heap c)) ((keeps c).follows.colours)
-
-pub returns-clause-fresh : goal.returns-clause-fresh
-returns-clause-fresh c =
-    subst (λ (w : Keyed). KeepsFresh c.args.self.now.heap w.heap) (sym (returns-clause-heap c)) ((keeps c).follows.fresh)
-
-pub returns-clause-suspected : goal.returns-clause-suspected
-returns-clause-suspected c =
-    subst (λ (w : Keyed). KeepsSuspected c.args.self.now.heap w.heap) (sym (returns-clause-heap c)) ((keeps c).suspected)
+pub returns-clause-kept : goal.returns-clause-kept
+returns-clause-kept c = record {
+  keys = KeepsKeys-changed c.args.self.now _ _ (returns-clause-heap c);
+  order = λ owned. (let p = c.self.inside in
+      let k = the_number (keyed_of p) c.args.key.0 in
+      let live = rw (← c.self.view_is) at c.requires.live in
+      rw (← c.self.view_is)
+      (λ o. changed-order (give_back-changes p c.self.invariant k c.give_back.ensures.heap) (IsInOrder-suspect owned (keyed_of p) k (number-there owned (keyed_of p) c.args.key.0 o live) o)));
+  counts = few-owned _;
+  colours = subst (λ (w : Keyed). KeepsColours c.args.self.now.heap w.heap) (sym (returns-clause-heap c)) ((keeps c).follows.colours);
+  fresh = subst (λ (w : Keyed). KeepsFresh c.args.self.now.heap w.heap) (sym (returns-clause-heap c)) ((keeps c).follows.fresh);
+  suspected = subst (λ (w : Keyed). KeepsSuspected c.args.self.now.heap w.heap) (sym (returns-clause-heap c)) ((keeps c).suspected);
+}
 
 pub returns-clause-stands : goal.returns-clause-stands
 returns-clause-stands c =

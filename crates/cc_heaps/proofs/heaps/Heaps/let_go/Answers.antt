@@ -19,7 +19,7 @@ pub returns-in-Some-clause-order : goal.returns-in-Some-clause-order
 returns-in-Some-clause-order g c owned o =
     let v = c.args.self.now in
     let is = held-native c.args.content c.in-Some.key (sym c.native_held.ensures ∙ c.in-Some.is) in
-    c.unroot.ensures.order owned (subst (λ ks. IsInOrder (ks ++ owned) v) (in-hand v c.args.content c.in-Some.key is c.requires.there) o)
+    c.unroot.ensures.kept.order owned (subst (λ ks. IsInOrder (ks ++ owned) v) (in-hand v c.args.content c.in-Some.key is c.requires.there) o)
 
 pub returns-in-None-clause-heap : goal.returns-in-None-clause-heap
 returns-in-None-clause-heap g c =

@@ -50,26 +50,25 @@ returns-clause-heap c =
     let p = c.self.inside in
     rw (← c.self.view_is) (subst (λ os. heap_of (with_objects p os) ≡ marked (heap_of p)) (objects c) (heap-marked p c.self.invariant (rw (← c.self.view_is) at c.requires.order).1))
 
-pub returns-clause-keys : goal.returns-clause-keys
-returns-clause-keys c =
-    let p = c.self.inside in
-    rw (← c.self.view_is) (subst (λ os. KeepsKeys (keyed_of p) (keyed_of (with_objects p os))) (objects c) (keys-marked p c.self.invariant (rw (← c.self.view_is) at c.requires.order).1))
-
-pub returns-clause-order : goal.returns-clause-order
-returns-clause-order c owned =
-    let p = c.self.inside in
-    rw (← c.self.view_is) (λ o. subst (λ os. IsInOrder owned (keyed_of (with_objects p os))) (objects c) (order-marked p c.self.invariant o))
-
 pub invariant_of-self : goal.invariant_of-self
 invariant_of-self c =
     let p = c.self.inside in
     subst (λ os. IsLinked (with_objects p os)) (objects c) (linked-marked p c.self.invariant (rw (← c.self.view_is) at c.requires.order).1)
 
-pub returns-clause-counts : goal.returns-clause-counts
-returns-clause-counts c = few-owned _
-
 pub returns-clause-stands : goal.returns-clause-stands
 returns-clause-stands c = rw (returns-clause-heap c) ((marked-still c.args.self.now.heap c.requires.order.1.sound))
+
+pub returns-clause-kept : goal.returns-clause-kept
+returns-clause-kept c = record {
+  keys = (let p = c.self.inside in
+      rw (← c.self.view_is) (subst (λ os. KeepsKeys (keyed_of p) (keyed_of (with_objects p os))) (objects c) (keys-marked p c.self.invariant (rw (← c.self.view_is) at c.requires.order).1)));
+  order = λ owned. (let p = c.self.inside in
+      rw (← c.self.view_is) (λ o. subst (λ os. IsInOrder owned (keyed_of (with_objects p os))) (objects c) (order-marked p c.self.invariant o)));
+  counts = few-owned _;
+  colours = tt;
+  fresh = tt;
+  suspected = tt;
+}
 
 pub returns-clause-colours : goal.returns-clause-colours
 returns-clause-colours c = subst HasColours (sym (returns-clause-heap c)) ((HasColours-marked c.args.self.now.heap))

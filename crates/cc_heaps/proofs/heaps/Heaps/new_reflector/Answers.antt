@@ -1,9 +1,10 @@
 use Rattle.std.proofs.Common.{◌≡◌, ℕ, List, Some, sym, ◌∙◌, ap, subst, arith}
 use Rattle.cc_names.specs.Names.{native}
 use Rattle.cc_model.specs.Graph as graph
-use Rattle.cc_heaps.specs.Keyed.{IsInOrder, Keyed, the_number}
+use Rattle.cc_heaps.specs.Keyed.{IsInOrder, the_number}
 use Rattle.cc_heaps.specs.Fields.{keyed_of, IsLinked}
-use Rattle.cc_heaps.specs.Standing.{KeepsColours, KeepsFresh, KeepsSuspected, StandsAfter}
+use Rattle.cc_heaps.specs.Standing.{KeepsColours, KeepsFresh, KeepsSuspected, StandsAfter, IsReached}
+use Rattle.cc_heaps.proofs.Kept.{KeepsAll-same, KeepsAll-if_reached}
 use Rattle.cc_heaps.proofs.Calls.{count-fits, number-there}
 use Rattle.cc_heaps.proofs.FewCounts.{few-owned}
 use Rattle.cc_heaps.proofs.Owned.{callers-own}
@@ -20,20 +21,10 @@ same c = ap (λ os. keyed_of (with_objects c.self.inside os c.self.inside.script
 pub invariant_of-self : goal.invariant_of-self
 invariant_of-self c = subst (λ os. IsLinked (with_objects c.self.inside os c.self.inside.scripts_made)) (sym c.in_err-made.ensures.err) c.self.invariant
 
-pub returns-in_err-made-clause-order : goal.returns-in_err-made-clause-order
-returns-in_err-made-clause-order c owned o = subst (IsInOrder owned) (sym (same c)) o
-
-pub returns-in_err-made-clause-counts : goal.returns-in_err-made-clause-counts
-returns-in_err-made-clause-counts c = few-owned _
-
-pub returns-in_err-made-clause-colours : goal.returns-in_err-made-clause-colours
-returns-in_err-made-clause-colours c = subst (λ (w : Keyed). KeepsColours c.args.self.now.heap w.heap) (sym (same c)) (λ k. k)
-
-pub returns-in_err-made-clause-fresh : goal.returns-in_err-made-clause-fresh
-returns-in_err-made-clause-fresh c = subst (λ (w : Keyed). KeepsFresh c.args.self.now.heap w.heap) (sym (same c)) (λ s k. k)
-
-pub returns-in_err-made-clause-suspected : goal.returns-in_err-made-clause-suspected
-returns-in_err-made-clause-suspected c reached = subst (λ (w : Keyed). KeepsSuspected c.args.self.now.heap w.heap) (sym (same c)) (λ candidates k. k)
+pub returns-in_err-made-clause-kept : goal.returns-in_err-made-clause-kept
+returns-in_err-made-clause-kept c =
+    let v = c.args.self.now in
+    KeepsAll-if_reached (IsReached v.heap (Some (native (the_number v c.args.key.0)))) v _ (KeepsAll-same v _ (same c))
 
 -- The reference
 
@@ -75,15 +66,6 @@ returns-clause-name c = rw (← c.self.view_is) ((made c).name)
 pub returns-clause-there : goal.returns-clause-there
 returns-clause-there c = named-there c.create_reflector.new.self c.in_ok-made.made.0 _ ((made c).name)
 
-pub returns-clause-keys : goal.returns-clause-keys
-returns-clause-keys c = rw (← c.self.view_is) ((made c).keys)
-
-pub returns-clause-order : goal.returns-clause-order
-returns-clause-order c owned = rw (← c.self.view_is) (λ o. (made_owned c owned o).order)
-
-pub returns-clause-counts : goal.returns-clause-counts
-returns-clause-counts c = few-owned _
-
 -- What the laws make of it
 
 pub returns-clause-stands : goal.returns-clause-stands
@@ -93,20 +75,18 @@ returns-clause-stands c reached =
     subst (λ h. StandsAfter v.heap h (λ g. graph.wrapped g (Some (native k)))) (sym (returns-clause-heap c))
     (reflector_made-stands v.heap k c.requires.order.1.sound (number-there c.requires.order.0 v c.args.key.0 c.requires.order.1 c.requires.live) c.requires.lacks reached)
 
-pub returns-clause-colours : goal.returns-clause-colours
-returns-clause-colours c =
-    let v = c.args.self.now in
-    subst (KeepsColours v.heap) (sym (returns-clause-heap c))
-    (reflector_made-colours v.heap (the_number v c.args.key.0) c.requires.order.1.sound (number-there c.requires.order.0 v c.args.key.0 c.requires.order.1 c.requires.live) c.requires.lacks)
-
-pub returns-clause-fresh : goal.returns-clause-fresh
-returns-clause-fresh c =
-    let v = c.args.self.now in
-    subst (KeepsFresh v.heap) (sym (returns-clause-heap c))
-    (reflector_made-keeps_fresh v.heap (the_number v c.args.key.0) c.requires.order.1.sound (number-there c.requires.order.0 v c.args.key.0 c.requires.order.1 c.requires.live) c.requires.lacks)
-
-pub returns-clause-suspected : goal.returns-clause-suspected
-returns-clause-suspected c reached =
-    let v = c.args.self.now in
-    subst (KeepsSuspected v.heap) (sym (returns-clause-heap c))
-    (reflector_made-keeps_suspected v.heap (the_number v c.args.key.0) c.requires.order.1.sound (number-there c.requires.order.0 v c.args.key.0 c.requires.order.1 c.requires.live) c.requires.lacks reached)
+pub returns-clause-kept : goal.returns-clause-kept
+returns-clause-kept c = record {
+  keys = rw (← c.self.view_is) ((made c).keys);
+  order = λ owned. (rw (← c.self.view_is) (λ o. (made_owned c owned o).order));
+  counts = few-owned _;
+  colours = (let v = c.args.self.now in
+      subst (KeepsColours v.heap) (sym (returns-clause-heap c))
+      (reflector_made-colours v.heap (the_number v c.args.key.0) c.requires.order.1.sound (number-there c.requires.order.0 v c.args.key.0 c.requires.order.1 c.requires.live) c.requires.lacks));
+  fresh = (let v = c.args.self.now in
+      subst (KeepsFresh v.heap) (sym (returns-clause-heap c))
+      (reflector_made-keeps_fresh v.heap (the_number v c.args.key.0) c.requires.order.1.sound (number-there c.requires.order.0 v c.args.key.0 c.requires.order.1 c.requires.live) c.requires.lacks));
+  suspected = λ reached. (let v = c.args.self.now in
+      subst (KeepsSuspected v.heap) (sym (returns-clause-heap c))
+      (reflector_made-keeps_suspected v.heap (the_number v c.args.key.0) c.requires.order.1.sound (number-there c.requires.order.0 v c.args.key.0 c.requires.order.1 c.requires.live) c.requires.lacks reached));
+}

@@ -27,7 +27,7 @@ returns-in_default-clause-heap c =
     (sym (no_native-preserved c.requires.order.0 v c.requires.order.1 c.args.key.0 c.requires.live c.self.inside c.self.view_is c.native_of.result c.in_default.is c.native_of.ensures.native v.heap))
 
 pub returns-in-Some-clause-order : goal.returns-in-Some-clause-order
-returns-in-Some-clause-order c = c.set_preserved.ensures.order
+returns-in-Some-clause-order c = c.set_preserved.ensures.kept.order
 
 pub returns-in_default-clause-order : goal.returns-in_default-clause-order
 returns-in_default-clause-order c owned o = o

@@ -58,18 +58,15 @@ invariant_of-self c = linked-front c.self.inside c.select_next.new.self c.self.i
 pub returns-clause-front : goal.returns-clause-front
 returns-clause-front c = rw (← c.self.view_is) (taken-front c.self.inside c.select_next.new.self c.select_next.result c.select_next.ensures.front)
 
-pub returns-clause-keys : goal.returns-clause-keys
-returns-clause-keys c = KeepsKeys-front c.args.self.now _ c.select_next.result (returns-clause-front c)
-
-pub returns-clause-order : goal.returns-clause-order
-returns-clause-order c owned =
-    rw (← c.self.view_is) (λ o. ordered-front c.self.inside c.select_next.new.self owned o c.select_next.result c.select_next.ensures.front)
-
-pub returns-clause-counts : goal.returns-clause-counts
-returns-clause-counts c = few-owned _
-
 pub returns-clause-stands : goal.returns-clause-stands
 returns-clause-stands c = (front-goes_on c.args.self.now _ c.select_next.result (returns-clause-front c)).stands
 
-pub returns-clause-colours : goal.returns-clause-colours
-returns-clause-colours c = (front-goes_on c.args.self.now _ c.select_next.result (returns-clause-front c)).colours
+pub returns-clause-kept : goal.returns-clause-kept
+returns-clause-kept c = record {
+  keys = KeepsKeys-front c.args.self.now _ c.select_next.result (returns-clause-front c);
+  order = λ owned. (rw (← c.self.view_is) (λ o. ordered-front c.self.inside c.select_next.new.self owned o c.select_next.result c.select_next.ensures.front));
+  counts = few-owned _;
+  colours = (front-goes_on c.args.self.now _ c.select_next.result (returns-clause-front c)).colours;
+  fresh = tt;
+  suspected = tt;
+}

@@ -1,9 +1,10 @@
-use Rattle.std.proofs.Common.{◌≡◌, Some, sym, subst}
+use Rattle.std.proofs.Common.{◌≡◌, Some, ap, ◌∙◌}
 use Rattle.cc_model.specs.Effects.{set_entry}
 use Rattle.cc_counted.specs.declared.held.Held.TheVariants as held
 use Rattle.cc_script.specs.Objects.{name_at}
 use Rattle.cc_heaps.specs.Keyed.{Keyed}
-use Rattle.cc_heaps.specs.Standing.{KeepsSuspected}
+use Rattle.cc_heaps.specs.Changes.{IsBlackHeld}
+use Rattle.cc_heaps.proofs.Kept.{KeepsAll-same, KeepsAll-if_black, KeepsKeys-held}
 use Rattle.cc_heaps.proofs.EntriesFollow.{SetKeeps, entry-keeps, set-preserved}
 use Rattle.cc_heaps.proofs.EntriesSet.{map-there}
 use Rattle.cc_heaps.proofs.FewCounts.{few-owned}
@@ -12,15 +13,11 @@ use Rattle.cc_heaps.proofs.heaps.Heaps.set_entry.Goals as goal
 
 -- Memory was wanting
 
-pub returns-in_err-put_entry-clause-counts : goal.returns-in_err-put_entry-clause-counts
-returns-in_err-put_entry-clause-counts c = few-owned c.put_entry.new.self
-
-pub returns-in_err-put_entry-clause-order : goal.returns-in_err-put_entry-clause-order
-returns-in_err-put_entry-clause-order c = c.put_entry.ensures.order
-
-pub returns-in_err-put_entry-clause-suspected : goal.returns-in_err-put_entry-clause-suspected
-returns-in_err-put_entry-clause-suspected c =
-    subst (λ (w : Keyed). KeepsSuspected c.args.self.now.heap w.heap) (sym c.in_err-put_entry.ensures.same) (λ candidates s. s)
+pub returns-in_err-put_entry-clause-kept : goal.returns-in_err-put_entry-clause-kept
+returns-in_err-put_entry-clause-kept c =
+    let v = c.args.self.now in
+    KeepsAll-if_black (IsBlackHeld v (Some (held.Script c.args.key)) × IsBlackHeld v (Some (held.Script c.args.value))) v c.put_entry.new.self
+    (KeepsAll-same v c.put_entry.new.self c.in_err-put_entry.ensures.same)
 
 -- It was not
 
@@ -44,23 +41,19 @@ keeps c =
 pub returns-clause-heap : goal.returns-clause-heap
 returns-clause-heap c = heap-is c
 
-pub returns-clause-counts : goal.returns-clause-counts
-returns-clause-counts c = few-owned c.preserve.new.self
-
-pub returns-clause-order : goal.returns-clause-order
-returns-clause-order c owned o = c.preserve.ensures.order owned (c.put_entry.ensures.order owned o)
-
 pub returns-clause-stands : goal.returns-clause-stands
 returns-clause-stands c = (keeps c).stands
 
-pub returns-clause-colours : goal.returns-clause-colours
-returns-clause-colours c = (keeps c).colours
-
-pub returns-clause-fresh : goal.returns-clause-fresh
-returns-clause-fresh c key value =
-    let v = c.args.self.now in
-    let f = c.requires.order in
-    (keeps c).fresh (held_name-black f.0 v f.1 (Some (held.Script c.args.key)) key) (held_name-black f.0 v f.1 (Some (held.Script c.args.value)) value)
-
-pub returns-clause-suspected : goal.returns-clause-suspected
-returns-clause-suspected c = (keeps c).suspected
+pub returns-clause-kept : goal.returns-clause-kept
+returns-clause-kept c = record {
+  keys = KeepsKeys-held c.args.self.now c.preserve.new.self
+      (ap (λ (w : Keyed). w.keys) c.preserve.ensures.heap ∙ c.put_entry.ensures.natives)
+      (ap (λ (w : Keyed). w.scripts) c.preserve.ensures.heap ∙ c.put_entry.ensures.scripts);
+  order = λ owned o. (c.preserve.ensures.order owned (c.put_entry.ensures.order owned o));
+  counts = few-owned c.preserve.new.self;
+  colours = (keeps c).colours;
+  fresh = λ b. (let v = c.args.self.now in
+      let f = c.requires.order in
+      (keeps c).fresh (held_name-black f.0 v f.1 (Some (held.Script c.args.key)) b.0) (held_name-black f.0 v f.1 (Some (held.Script c.args.value)) b.1));
+  suspected = (keeps c).suspected;
+}

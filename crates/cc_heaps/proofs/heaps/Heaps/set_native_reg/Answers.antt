@@ -10,6 +10,7 @@ use Rattle.cc_counted.specs.declared.held.Held.{Held}
 use Rattle.cc_counted.specs.Counts.{held_of_native}
 use Rattle.cc_heaps.specs.Keyed.{Keyed, IsInOrder, changed_to, left_with}
 use Rattle.cc_heaps.specs.Changes.{held_name, native_name}
+use Rattle.cc_heaps.proofs.Leaving.{hold_native-tells}
 use Rattle.cc_heaps.proofs.FewCounts.{few-owned}
 use Rattle.cc_heaps.proofs.Following.{Keeps, hold_native-keeps}
 use Rattle.cc_heaps.proofs.KeysKept.{KeepsKeys-left}
@@ -43,11 +44,6 @@ put_in_register-requires-clause-order g c =
     let f = c.requires.order in
     (f.0, held-owned c.args.self.now c.take_up.new.self c.args.r c.args.content c.of_native.result c.of_native.ensures c.take_up.ensures.heap f.0 (c.take_up.ensures.order f.0 f.1))
 
-pub returns-clause-order : goal.returns-clause-order
-returns-clause-order g c owned o =
-    c.put_in_register.ensures.order owned
-    (held-owned c.args.self.now c.take_up.new.self c.args.r c.args.content c.of_native.result c.of_native.ensures c.take_up.ensures.heap owned (c.take_up.ensures.order owned o))
-
 pub returns-clause-heap : goal.returns-clause-heap
 returns-clause-heap g c =
     c.put_in_register.ensures.heap
@@ -59,28 +55,33 @@ returns-clause-told g c =
     (held-is c.args.self.now c.take_up.new.self c.args.r c.args.content c.of_native.result c.of_native.ensures c.take_up.ensures.heap)
     c.put_in_register.ensures.told
 
-pub returns-clause-keys : goal.returns-clause-keys
-returns-clause-keys g c = KeepsKeys-left c.args.self.now c.put_in_register.new.self _ (returns-clause-heap g c)
-
-pub returns-clause-counts : goal.returns-clause-counts
-returns-clause-counts g c = few-owned _
-
-pub returns-clause-stands : goal.returns-clause-stands
-returns-clause-stands g c =
-    let f = c.requires.order in
-    native_register-stands c.args.self.now c.put_in_register.new.self f.1 (returns-clause-order g c f.0 f.1) c.args.r c.args.content (returns-clause-heap g c)
-
 keeps : (g : given.Over) (c : goal.After-put_in_register g) → Keeps c.args.self.now.heap (hold_native c.args.self.now.heap c.args.r (native_name c.args.self.now c.args.content)).heap
 keeps g c =
     let v = c.args.self.now in
     let f = c.requires.order in
     hold_native-keeps v.heap c.args.r (native_name v c.args.content) c.ranges.r.fits (native-in f.0 v c.args.content f.1) f.1.sound
 
-pub returns-clause-colours : goal.returns-clause-colours
-returns-clause-colours g c = rw (returns-clause-heap g c) ((keeps g c).follows.colours)
+pub returns-clause-kept : goal.returns-clause-kept
+returns-clause-kept g c = record {
+  keys = KeepsKeys-left c.args.self.now c.put_in_register.new.self _ (returns-clause-heap g c);
+  order = λ owned o. (c.put_in_register.ensures.order owned
+      (held-owned c.args.self.now c.take_up.new.self c.args.r c.args.content c.of_native.result c.of_native.ensures c.take_up.ensures.heap owned (c.take_up.ensures.order owned o)));
+  counts = few-owned _;
+  colours = rw (returns-clause-heap g c) ((keeps g c).follows.colours);
+  fresh = rw (returns-clause-heap g c) ((keeps g c).follows.fresh);
+  suspected = rw (returns-clause-heap g c) ((keeps g c).suspected);
+}
 
-pub returns-clause-fresh : goal.returns-clause-fresh
-returns-clause-fresh g c = rw (returns-clause-heap g c) ((keeps g c).follows.fresh)
+pub returns-clause-stands : goal.returns-clause-stands
+returns-clause-stands g c =
+    let f = c.requires.order in
+    native_register-stands c.args.self.now c.put_in_register.new.self f.1 ((returns-clause-kept g c).order f.0 f.1) c.args.r c.args.content (returns-clause-heap g c)
 
-pub returns-clause-suspected : goal.returns-clause-suspected
-returns-clause-suspected g c = rw (returns-clause-heap g c) ((keeps g c).suspected)
+pub returns-clause-tells : goal.returns-clause-tells
+returns-clause-tells g c =
+    let v = c.args.self.now in
+    let w = c.put_in_register.new.self in
+    let f = c.requires.order in
+    hold_native-tells f.0 v w c.args.r (native_name v c.args.content) c.ranges.r.fits (native-in f.0 v c.args.content f.1) f.1
+    (g.N.Notices.telling c.args.out.now) (g.N.Notices.telling c.put_in_register.new.out)
+    (returns-clause-heap g c) ((returns-clause-kept g c).order f.0 f.1) (returns-clause-told g c)

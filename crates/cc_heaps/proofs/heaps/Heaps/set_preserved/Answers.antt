@@ -5,6 +5,7 @@ use Rattle.cc_laws_heap.proofs.Holding.{has_reflector-there}
 use Rattle.cc_heaps.specs.Keyed.{IsInOrder, Keyed, the_number}
 use Rattle.cc_heaps.specs.Fields.{keyed_of}
 use Rattle.cc_heaps.specs.Standing.{KeepsColours, KeepsFresh, KeepsSuspected, StandsAfter}
+use Rattle.cc_heaps.proofs.KeysKept.{KeepsKeys-changed}
 use Rattle.cc_heaps.proofs.Calls.{changed-keyed, changed-linked, preserve-changes}
 use Rattle.cc_heaps.proofs.FewCounts.{few-owned}
 use Rattle.cc_heaps.proofs.Ordered.{IsInOrder-preserved}
@@ -18,15 +19,6 @@ pub returns-clause-heap : goal.returns-clause-heap
 returns-clause-heap c =
     rw (← c.self.view_is) (changed-keyed (preserve-changes c.self.inside c.self.invariant (the_number (keyed_of c.self.inside) c.args.key.0) c.set_preserved.ensures.heap))
 
-pub returns-clause-order : goal.returns-clause-order
-returns-clause-order c owned o =
-    let v = c.args.self.now in
-    let k = the_number v c.args.key.0 in
-    subst (IsInOrder owned) (sym (returns-clause-heap c)) (IsInOrder-preserved owned v k (has_reflector-there v.heap k c.requires.has) o)
-
-pub returns-clause-counts : goal.returns-clause-counts
-returns-clause-counts c = few-owned _
-
 -- What the laws make of it
 
 pub returns-clause-stands : goal.returns-clause-stands
@@ -36,23 +28,23 @@ returns-clause-stands c reached =
     subst (λ (w : Keyed). StandsAfter v.heap w.heap (λ g. graph.preserve g (Some (reflector k)))) (sym (returns-clause-heap c))
     (preserved-stands v.heap k c.requires.order.1.sound (has_reflector-there v.heap k c.requires.has) reached)
 
-pub returns-clause-colours : goal.returns-clause-colours
-returns-clause-colours c =
-    let v = c.args.self.now in
-    let k = the_number v c.args.key.0 in
-    subst (λ (w : Keyed). KeepsColours v.heap w.heap) (sym (returns-clause-heap c))
-    (preserved-colours v.heap k c.requires.order.1.sound (has_reflector-there v.heap k c.requires.has))
-
-pub returns-clause-fresh : goal.returns-clause-fresh
-returns-clause-fresh c not_gray =
-    let v = c.args.self.now in
-    let k = the_number v c.args.key.0 in
-    subst (λ (w : Keyed). KeepsFresh v.heap w.heap) (sym (returns-clause-heap c))
-    (preserved-fresh v.heap k c.requires.order.1.sound (has_reflector-there v.heap k c.requires.has) not_gray)
-
-pub returns-clause-suspected : goal.returns-clause-suspected
-returns-clause-suspected c =
-    let v = c.args.self.now in
-    let k = the_number v c.args.key.0 in
-    subst (λ (w : Keyed). KeepsSuspected v.heap w.heap) (sym (returns-clause-heap c))
-    (preserved-suspected v.heap k c.requires.order.1.sound (has_reflector-there v.heap k c.requires.has))
+pub returns-clause-kept : goal.returns-clause-kept
+returns-clause-kept c = record {
+  keys = KeepsKeys-changed c.args.self.now _ _ (returns-clause-heap c);
+  order = λ owned o. (let v = c.args.self.now in
+      let k = the_number v c.args.key.0 in
+      subst (IsInOrder owned) (sym (returns-clause-heap c)) (IsInOrder-preserved owned v k (has_reflector-there v.heap k c.requires.has) o));
+  counts = few-owned _;
+  colours = (let v = c.args.self.now in
+      let k = the_number v c.args.key.0 in
+      subst (λ (w : Keyed). KeepsColours v.heap w.heap) (sym (returns-clause-heap c))
+      (preserved-colours v.heap k c.requires.order.1.sound (has_reflector-there v.heap k c.requires.has)));
+  fresh = λ not_gray. (let v = c.args.self.now in
+      let k = the_number v c.args.key.0 in
+      subst (λ (w : Keyed). KeepsFresh v.heap w.heap) (sym (returns-clause-heap c))
+      (preserved-fresh v.heap k c.requires.order.1.sound (has_reflector-there v.heap k c.requires.has) not_gray));
+  suspected = (let v = c.args.self.now in
+      let k = the_number v c.args.key.0 in
+      subst (λ (w : Keyed). KeepsSuspected v.heap w.heap) (sym (returns-clause-heap c))
+      (preserved-suspected v.heap k c.requires.order.1.sound (has_reflector-there v.heap k c.requires.has)));
+}

@@ -11,9 +11,11 @@ use Rattle.cc_laws_heap.specs.Sound.{numbers_of}
 use Rattle.cc_counted.specs.declared.held.Held.{Held}
 use Rattle.cc_heaps.specs.Keyed.{Keyed, IsInOrder, the_number, changed_to, left_with}
 use Rattle.cc_heaps.specs.Changes.{held_name, stored_in, IsBlackHeld}
+use Rattle.cc_heaps.proofs.Leaving.{stored-tells}
 use Rattle.cc_heaps.proofs.SlotsHeld.{slots-taken}
+use Rattle.cc_heaps.proofs.Content.{held-in}
 use Rattle.cc_heaps.proofs.FewCounts.{few-owned}
-use Rattle.cc_heaps.proofs.Following.{Follows, held-follows, held-remembers, within-named}
+use Rattle.cc_heaps.proofs.Following.{Follows, held-follows, held-remembers, within-named, held-colours}
 use Rattle.cc_heaps.proofs.KeysKept.{KeepsKeys-left}
 use Rattle.cc_heaps.proofs.StandingAfter.{native_slot-stands}
 use Rattle.cc_heaps.proofs.heaps.Heaps.store_native.Given as given
@@ -68,8 +70,8 @@ let_go-requires-clause-order g c =
     let before = taken-owned v c.take_up.new.self v c.args.key c.args.i c.args.content c.args.content c.take_up.ensures.heap f.0 (c.take_up.ensures.order f.0 f.1) in
     (f.0, c.replace_slot-held.ensures.order f.0 before)
 
-pub returns-clause-order : goal.returns-clause-order
-returns-clause-order g c owned o =
+in_order : (g : given.Over) (c : goal.After-let_go g) (owned : List ℕ) → IsInOrder owned c.args.self.now → IsInOrder owned c.let_go.new.self
+in_order g c owned o =
     let v = c.args.self.now in
     let before = taken-owned v c.take_up.new.self v c.args.key c.args.i c.args.content c.args.content c.take_up.ensures.heap owned (c.take_up.ensures.order owned o) in
     c.let_go.ensures.order owned (c.replace_slot-held.ensures.order owned before)
@@ -87,33 +89,39 @@ returns-clause-told g c =
     c.take_up.ensures.heap c.replace_slot-held.ensures.heap c.replace_slot-held.ensures.held)
     c.let_go.ensures.told
 
-pub returns-clause-keys : goal.returns-clause-keys
-returns-clause-keys g c = KeepsKeys-left c.args.self.now c.let_go.new.self _ (returns-clause-heap g c)
-
-pub returns-clause-counts : goal.returns-clause-counts
-returns-clause-counts g c = few-owned _
-
-pub returns-clause-stands : goal.returns-clause-stands
-returns-clause-stands g c =
-    let v = c.args.self.now in
-    let f = c.requires.order in
-    native_slot-stands v c.let_go.new.self f.1 (returns-clause-order g c f.0 f.1) (the_number v c.args.key.0) c.args.i c.args.content (returns-clause-heap g c)
-
 follows : (g : given.Over) (c : goal.After-let_go g) → IsBlackHeld c.args.self.now c.args.content → Follows c.args.self.now.heap c.let_go.new.self.heap
 follows g c black =
     let v = c.args.self.now in
     held-follows v c.let_go.new.self c.requires.order.1 (the_number v c.args.key.0) c.args.i c.args.content (within-named v c.args.key.0 c.args.i c.requires.within) black
     (returns-clause-heap g c)
 
-pub returns-clause-colours : goal.returns-clause-colours
-returns-clause-colours g c black = (follows g c black).colours
-
-pub returns-clause-fresh : goal.returns-clause-fresh
-returns-clause-fresh g c black = (follows g c black).fresh
-
-pub returns-clause-suspected : goal.returns-clause-suspected
-returns-clause-suspected g c reached =
+pub returns-clause-kept : goal.returns-clause-kept
+returns-clause-kept g c =
     let v = c.args.self.now in
     let f = c.requires.order in
-    held-remembers v c.let_go.new.self f.1 (the_number v c.args.key.0) c.args.i c.args.content (within-named v c.args.key.0 c.args.i c.requires.within) reached
-    (returns-clause-order g c f.0 f.1).sound (returns-clause-heap g c)
+    let within = within-named v c.args.key.0 c.args.i c.requires.within in
+    record {
+      keys = KeepsKeys-left v c.let_go.new.self _ (returns-clause-heap g c);
+      order = in_order g c;
+      counts = few-owned _;
+      colours = held-colours v c.let_go.new.self f.1 (the_number v c.args.key.0) c.args.i c.args.content within (returns-clause-heap g c);
+      fresh = λ black. ((follows g c black).fresh);
+      suspected = λ reached. (held-remembers v c.let_go.new.self f.1 (the_number v c.args.key.0) c.args.i c.args.content within reached
+          (in_order g c f.0 f.1).sound (returns-clause-heap g c));
+    }
+
+pub returns-clause-stands : goal.returns-clause-stands
+returns-clause-stands g c =
+    let v = c.args.self.now in
+    let f = c.requires.order in
+    native_slot-stands v c.let_go.new.self f.1 (in_order g c f.0 f.1) (the_number v c.args.key.0) c.args.i c.args.content (returns-clause-heap g c)
+
+pub returns-clause-tells : goal.returns-clause-tells
+returns-clause-tells g c =
+    let v = c.args.self.now in
+    let w = c.let_go.new.self in
+    let f = c.requires.order in
+    let k = the_number v c.args.key.0 in
+    stored-tells f.0 v w k c.args.i (held_name v c.args.content) (within-named v c.args.key.0 c.args.i c.requires.within) (held-in f.0 v c.args.content f.1) f.1
+    (returns-clause-heap g c) (g.N.Notices.telling c.args.out.now) (g.N.Notices.telling c.let_go.new.out)
+    (in_order g c f.0 f.1) (returns-clause-told g c)

@@ -13,35 +13,25 @@ pub returns-clause-heap : goal.returns-clause-heap
 returns-clause-heap c =
     rw (← c.self.view_is) ((becomes-slot c.self.inside c.self.invariant (rw (← c.self.view_is) at c.requires.order).1 c.args.key.0 c.args.i c.args.content (rw (← c.self.view_is) at c.requires.live) (rw (← c.self.view_is) at c.requires.there) c.set_slot.new.self c.set_slot.ensures).heap)
 
-pub returns-clause-keys : goal.returns-clause-keys
-returns-clause-keys c =
-    rw (← c.self.view_is) ((becomes-slot c.self.inside c.self.invariant (rw (← c.self.view_is) at c.requires.order).1 c.args.key.0 c.args.i c.args.content (rw (← c.self.view_is) at c.requires.live) (rw (← c.self.view_is) at c.requires.there) c.set_slot.new.self c.set_slot.ensures).keys)
-
-pub returns-clause-order : goal.returns-clause-order
-returns-clause-order c owned =
-    rw (← c.self.view_is)
-    (λ o. (becomes-slot c.self.inside c.self.invariant o c.args.key.0 c.args.i c.args.content (rw (← c.self.view_is) at c.requires.live) (rw (← c.self.view_is) at c.requires.there) c.set_slot.new.self c.set_slot.ensures).order)
-
 pub invariant_of-self : goal.invariant_of-self
 invariant_of-self c = (becomes-slot c.self.inside c.self.invariant (rw (← c.self.view_is) at c.requires.order).1 c.args.key.0 c.args.i c.args.content (rw (← c.self.view_is) at c.requires.live) (rw (← c.self.view_is) at c.requires.there) c.set_slot.new.self c.set_slot.ensures).linked
-
-pub returns-clause-counts : goal.returns-clause-counts
-returns-clause-counts c = few-owned _
 
 keeps : (c : goal.After-set_slot) →
     Keeps c.args.self.now.heap (set_slot c.args.self.now.heap (name_at c.args.self.now.scripts c.args.key.0) c.args.i (script_name c.args.self.now c.args.content))
 keeps c = object_slot-keeps c.args.self.now c.requires.order.1 c.args.key.0 c.args.i c.args.content c.requires.live c.requires.black
 
-pub returns-clause-colours : goal.returns-clause-colours
-returns-clause-colours c = subst (KeepsColours c.args.self.now.heap) (sym (returns-clause-heap c)) ((keeps c).follows.colours)
-
-pub returns-clause-fresh : goal.returns-clause-fresh
-returns-clause-fresh c = subst (KeepsFresh c.args.self.now.heap) (sym (returns-clause-heap c)) ((keeps c).follows.fresh)
-
-pub returns-clause-suspected : goal.returns-clause-suspected
-returns-clause-suspected c = subst (KeepsSuspected c.args.self.now.heap) (sym (returns-clause-heap c)) ((keeps c).suspected)
+pub returns-clause-kept : goal.returns-clause-kept
+returns-clause-kept c = record {
+  keys = rw (← c.self.view_is) ((becomes-slot c.self.inside c.self.invariant (rw (← c.self.view_is) at c.requires.order).1 c.args.key.0 c.args.i c.args.content (rw (← c.self.view_is) at c.requires.live) (rw (← c.self.view_is) at c.requires.there) c.set_slot.new.self c.set_slot.ensures).keys);
+  order = λ owned. (rw (← c.self.view_is)
+      (λ o. (becomes-slot c.self.inside c.self.invariant o c.args.key.0 c.args.i c.args.content (rw (← c.self.view_is) at c.requires.live) (rw (← c.self.view_is) at c.requires.there) c.set_slot.new.self c.set_slot.ensures).order));
+  counts = few-owned _;
+  colours = subst (KeepsColours c.args.self.now.heap) (sym (returns-clause-heap c)) ((keeps c).follows.colours);
+  fresh = subst (KeepsFresh c.args.self.now.heap) (sym (returns-clause-heap c)) ((keeps c).follows.fresh);
+  suspected = subst (KeepsSuspected c.args.self.now.heap) (sym (returns-clause-heap c)) ((keeps c).suspected);
+}
 
 pub returns-clause-stands : goal.returns-clause-stands
 returns-clause-stands c =
     let f = c.requires.order in
-    script_slot-stands c.args.self.now _ f.1 (returns-clause-order c f.0 f.1) c.args.key.0 c.args.i c.args.content c.requires.live (returns-clause-heap c)
+    script_slot-stands c.args.self.now _ f.1 ((returns-clause-kept c).order f.0 f.1) c.args.key.0 c.args.i c.args.content c.requires.live (returns-clause-heap c)

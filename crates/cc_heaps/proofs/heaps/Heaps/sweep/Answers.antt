@@ -49,23 +49,22 @@ returns-clause-natives g c =
     rw (← c.self.view_is) (subst (λ (q : Inside). q.counted.keys ≡ map (key_left (heap_of q)) c.self.inside.counted.keys) (sym (swept-is g c))
     (natives-swept c.self.inside c.self.invariant (order g c).1 (colours g c)))
 
-pub returns-clause-keys : goal.returns-clause-keys
-returns-clause-keys g c =
-    rw (← c.self.view_is) (subst (λ q. KeepsKeys (keyed_of c.self.inside) (keyed_of q)) (sym (swept-is g c))
-    (keys-swept c.self.inside c.self.invariant (order g c).1 (colours g c)))
-
-pub returns-clause-order : goal.returns-clause-order
-returns-clause-order g c owned =
-    rw (← c.self.view_is) (λ o. subst (λ q. IsInOrder owned (keyed_of q)) (sym (swept-is g c)) (order-swept c.self.inside c.self.invariant o (colours g c)))
-
 pub invariant_of-self : goal.invariant_of-self
 invariant_of-self g c = subst IsLinked (sym (swept-is g c)) (linked-swept c.self.inside c.self.invariant (order g c).1 (colours g c))
-
-pub returns-clause-counts : goal.returns-clause-counts
-returns-clause-counts g c = few-owned _
 
 pub returns-clause-stands : goal.returns-clause-stands
 returns-clause-stands g c = rw (returns-clause-heap g c) (sweep-still c.args.self.now.heap c.requires.colours c.requires.order.1.sound)
 
 pub returns-clause-invariant : goal.returns-clause-invariant
 returns-clause-invariant g c = subst (λ h. HasColourInvariant (view h)) (sym (returns-clause-heap g c)) (sweep-invariant c.args.self.now.heap c.requires.colours c.requires.order.1.sound)
+
+pub returns-clause-kept : goal.returns-clause-kept
+returns-clause-kept g c = record {
+  keys = (rw (← c.self.view_is) (subst (λ q. KeepsKeys (keyed_of c.self.inside) (keyed_of q)) (sym (swept-is g c))
+      (keys-swept c.self.inside c.self.invariant (order g c).1 (colours g c))));
+  order = λ owned. (rw (← c.self.view_is) (λ o. subst (λ q. IsInOrder owned (keyed_of q)) (sym (swept-is g c)) (order-swept c.self.inside c.self.invariant o (colours g c))));
+  counts = few-owned _;
+  colours = λ old. (returns-clause-invariant g c);
+  fresh = tt;
+  suspected = tt;
+}

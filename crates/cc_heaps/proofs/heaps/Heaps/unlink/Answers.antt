@@ -28,19 +28,16 @@ pub returns-clause-told : goal.returns-clause-told
 returns-clause-told g c =
     rw (← c.self.view_is) (left-told (unlink-leaves c.self.inside c.self.invariant c.args.key.0 (rw (← c.self.view_is) at c.requires.owned) c.unlink.ensures.heap) c.unlink.ensures.told)
 
-pub returns-clause-keys : goal.returns-clause-keys
-returns-clause-keys g c = KeepsKeys-left c.args.self.now _ _ (returns-clause-heap g c)
-
-pub returns-clause-order : goal.returns-clause-order
-returns-clause-order g c owned = rw (← c.self.view_is) (λ o. left-order (unlink-leaves c.self.inside c.self.invariant c.args.key.0 (owned, o) c.unlink.ensures.heap))
-
-pub returns-clause-counts : goal.returns-clause-counts
-returns-clause-counts g c = few-owned _
-
 pub returns-clause-stands : goal.returns-clause-stands
 returns-clause-stands g c unreached =
     subst (λ (w : Keyed). StillStands c.args.self.now.heap w.heap) (sym (returns-clause-heap g c)) ((unlink-still c.requires.owned.0 c.args.self.now.heap (the_number c.args.self.now c.args.key.0) c.requires.owned.1.sound unreached))
 
-pub returns-clause-colours : goal.returns-clause-colours
-returns-clause-colours g c colours =
-    subst (λ (w : Keyed). HasColourInvariant (view w.heap)) (sym (returns-clause-heap g c)) ((unlink-colours c.requires.owned.0 c.args.self.now.heap (the_number c.args.self.now c.args.key.0) c.requires.owned.1.sound colours))
+pub returns-clause-kept : goal.returns-clause-kept
+returns-clause-kept g c = record {
+  keys = KeepsKeys-left c.args.self.now _ _ (returns-clause-heap g c);
+  order = λ owned. (rw (← c.self.view_is) (λ o. left-order (unlink-leaves c.self.inside c.self.invariant c.args.key.0 (owned, o) c.unlink.ensures.heap)));
+  counts = few-owned _;
+  colours = λ colours. (subst (λ (w : Keyed). HasColourInvariant (view w.heap)) (sym (returns-clause-heap g c)) ((unlink-colours c.requires.owned.0 c.args.self.now.heap (the_number c.args.self.now c.args.key.0) c.requires.owned.1.sound colours)));
+  fresh = tt;
+  suspected = tt;
+}

@@ -3,6 +3,7 @@ use Rattle.cc_model.specs.Cascade.{cascade}
 use Rattle.cc_heaps.specs.Keyed.{the_number, left_with, Keyed}
 use Rattle.cc_heaps.specs.Fields.{keyed_of}
 use Rattle.cc_heaps.specs.Standing.{KeepsColours, StillStands}
+use Rattle.cc_heaps.proofs.Leaving.{given_up-tells}
 use Rattle.cc_heaps.proofs.Calls.{left-keyed, left-told, left-order, left-linked, release-leaves}
 use Rattle.cc_heaps.proofs.FewCounts.{few-owned}
 use Rattle.cc_heaps.proofs.KeysKept.{KeepsKeys-left}
@@ -28,15 +29,6 @@ pub returns-clause-told : goal.returns-clause-told
 returns-clause-told g c =
     rw (← c.self.view_is) (left-told (release-leaves c.self.inside c.self.invariant c.args.key.0 (rw (← c.self.view_is) at c.requires.owned) c.release.ensures.heap) c.release.ensures.told)
 
-pub returns-clause-keys : goal.returns-clause-keys
-returns-clause-keys g c = KeepsKeys-left c.args.self.now _ _ (returns-clause-heap g c)
-
-pub returns-clause-order : goal.returns-clause-order
-returns-clause-order g c owned = rw (← c.self.view_is) (λ o. left-order (release-leaves c.self.inside c.self.invariant c.args.key.0 (owned, o) c.release.ensures.heap))
-
-pub returns-clause-counts : goal.returns-clause-counts
-returns-clause-counts g c = few-owned _
-
 goes_on : (g : given.Over) (c : goal.After-release g) →
     GoesOn c.args.self.now.heap (left_with c.args.self.now (cascade c.args.self.now.heap (the_number c.args.self.now c.args.key.0)).heap).heap
 goes_on g c = cascade-goes_on c.requires.owned.0 c.args.self.now.heap (the_number c.args.self.now c.args.key.0) c.requires.owned.1.sound
@@ -45,6 +37,19 @@ pub returns-clause-stands : goal.returns-clause-stands
 returns-clause-stands g c =
     subst (λ (w : Keyed). StillStands c.args.self.now.heap w.heap) (sym (returns-clause-heap g c)) ((goes_on g c).stands)
 
-pub returns-clause-colours : goal.returns-clause-colours
-returns-clause-colours g c =
-    subst (λ (w : Keyed). KeepsColours c.args.self.now.heap w.heap) (sym (returns-clause-heap g c)) ((goes_on g c).colours)
+pub returns-clause-kept : goal.returns-clause-kept
+returns-clause-kept g c = record {
+  keys = KeepsKeys-left c.args.self.now _ _ (returns-clause-heap g c);
+  order = λ owned. (rw (← c.self.view_is) (λ o. left-order (release-leaves c.self.inside c.self.invariant c.args.key.0 (owned, o) c.release.ensures.heap)));
+  counts = few-owned _;
+  colours = subst (λ (w : Keyed). KeepsColours c.args.self.now.heap w.heap) (sym (returns-clause-heap g c)) ((goes_on g c).colours);
+  fresh = tt;
+  suspected = tt;
+}
+
+pub returns-clause-tells : goal.returns-clause-tells
+returns-clause-tells g c =
+    let v = c.args.self.now in
+    let f = c.requires.owned in
+    let k = the_number v c.args.key.0 in
+    given_up-tells f.0 v _ k _ _ f.1.sound (returns-clause-heap g c) ((returns-clause-kept g c).order f.0 f.1).sound.well_formed (returns-clause-told g c)
