@@ -220,5 +220,4 @@ Follows-registers P h g ns ss ms ts a b natives scripts t = record {
 
     same : (x : Name) → shape_in e x ≡ shape_in g x
     same (name.Native i) = refl
-    same (name.Script i) = refl
-    same (name.Reflector i) = refl
+    same _ = refl

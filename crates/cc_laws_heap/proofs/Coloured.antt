@@ -40,21 +40,18 @@ black-left Black w g = refl
 
 -- the test of black tells black
 pub is_black-true : (c : Colour) → is_black_colour c ≡ true → c ≡ Black
-is_black-true White e = absurd (false≢true e)
-is_black-true Gray e = absurd (false≢true e)
 is_black-true Black e = refl
+is_black-true _ e = absurd (false≢true e)
 
 -- what passes the test of gray is not black
 is_gray-not_black : (c : Colour) → is_gray_colour c ≡ true → c ≢ Black
-is_gray-not_black White e f = absurd (false≢true e)
 is_gray-not_black Gray e f = absurd (cc)
-is_gray-not_black Black e f = absurd (false≢true e)
+is_gray-not_black _ e f = absurd (false≢true e)
 
 -- what is not white does not pass the test of white
 is_white-false : (c : Colour) → c ≢ White → is_white_colour c ≡ false
 is_white-false White w = absurd (w refl)
-is_white-false Gray w = refl
-is_white-false Black w = refl
+is_white-false _ w = refl
 
 -- Script objects and their names
 

@@ -180,5 +180,4 @@ Follows-entries P h g es fs a new t = record {
   where
     same : (x : Name) → shape_in (with_entries g fs) x ≡ shape_in g x
     same (name.Native i) = refl
-    same (name.Script i) = refl
-    same (name.Reflector i) = refl
+    same _ = refl

@@ -10,7 +10,7 @@ use Rattle.cc_names.specs.declared.name.Name.TheVariants as name
 use Rattle.cc_names.specs.declared.register.Reg.TheVariants.{N, S}
 use Rattle.cc_names.specs.Names.{native, object}
 use Rattle.cc_model.specs.declared.command.Command.{Command}
-use Rattle.cc_model.specs.declared.command.Command.TheVariants.{Nothing, Native, Script, WeakMap, CopyNative, CopyScript, Drop, Set, Get, Put, Take, Wrap, Unwrap, Preserve, SetEntry, GetEntry, Expose, Slice, Collect, Gc, Census}
+use Rattle.cc_model.specs.declared.command.Command.TheVariants.{Native, Script, WeakMap, CopyNative, CopyScript, Drop, Set, Get, Put, Take, Wrap, Unwrap, Preserve, SetEntry, GetEntry}
 use Rattle.cc_model.specs.declared.item.Refusal.{Refusal}
 use Rattle.cc_model.specs.Ranges.{in_range, is_register, is_slots}
 use Rattle.cc_model.specs.Slots.{Slots, empty_slots}
@@ -62,15 +62,12 @@ module _ (g : Graph) (w : IsWellMade g) where
   native_slot-well : (o : Option Name) (i : ℕ) (x : Option Name) → OfSome (MadeNative g) o → OfSome (Made g) x → IsWellMade (set_slot g o i x)
   native_slot-well None i x t m = w
   native_slot-well (Some (name.Native k)) i x t m = IsWellMade-change_native g k.0 (with_slot i x) (λ n r. r) w (KeepsNative-slot g k.0 i x m)
-  native_slot-well (Some (name.Script k)) i x t m = absurd (false≢true t)
-  native_slot-well (Some (name.Reflector k)) i x t m = absurd (false≢true t)
+  native_slot-well _ i x t m = absurd (false≢true t)
 
   -- a reflector preserved
   preserve-well : (o : Option Name) → OfSome (Made g) o → IsWellMade (preserve g o)
-  preserve-well None t = w
-  preserve-well (Some (name.Native k)) t = w
-  preserve-well (Some (name.Script k)) t = w
   preserve-well (Some (name.Reflector k)) t = IsWellMade-change_native g k.0 as_preserved (λ n r. r) w (KeepsNative-preserved g k.0 t)
+  preserve-well _ t = w
 
   -- a slot of a script object written
   script_slot-well : (o : Option Name) (i : ℕ) (x : Option Name) → OfSome (MadeScript g) o → OfSome (MadeScript g) x → IsWellMade (set_slot g o i x)
@@ -82,22 +79,18 @@ module _ (g : Graph) (w : IsWellMade g) where
 
   -- a reflector made
   wrapped-well : (o : Option Name) → IsWellMade (wrapped g o)
-  wrapped-well None = w
   wrapped-well (Some (name.Native k)) = IsWellMade-change_native g k.0 as_wrapped (λ n r. refl) w (KeepsNative-wrapped g k.0)
-  wrapped-well (Some (name.Script k)) = w
-  wrapped-well (Some (name.Reflector k)) = w
+  wrapped-well _ = w
 
   -- the reflector of a native that was made is made then
   wrapped-made : (o : Option Name) → OfSome (MadeNative g) o → OfSome (MadeScript (wrapped g o)) (reflector_of o)
-  wrapped-made None m = tt
   wrapped-made (Some (name.Native k)) m =
       let f = is_some-found (native_in g k.0) m in
       let after : native_in (wrapped g (Some (name.Native k))) k.0 ≡ Some (as_wrapped f.0) =
       ap (λ (e : Graph). native_in e k.0) (set_native-is g k.0 (option_map as_wrapped (native_in g k.0)))
       ∙ (numbered-change g.natives k.0 as_wrapped ∙ ap (option_map as_wrapped) f.1) in
       was_made-reflector (wrapped g (Some (name.Native k))) k.0 (as_wrapped f.0) after refl
-  wrapped-made (Some (name.Script k)) m = tt
-  wrapped-made (Some (name.Reflector k)) m = tt
+  wrapped-made _ m = tt
 
   -- an entry of a weak map set, or taken out
   set_entry-well : (m k v : Option Name) → OfSome (λ x. MadeScript g x × (is_none (slots_in g x) ≡ true)) m → OfSome (MadeScript g) k → OfSome (MadeScript g) v → IsWellMade (set_entry g m k v)
@@ -157,12 +150,7 @@ module _ (g : Graph) (w : IsWellMade g) where
   changed-well (Preserve s) r t = preserve-well g w (register g (S s)) (register-made g w (S s))
   changed-well (SetEntry m k v) r t = set_entry-well g w (register g (S m)) (register g (S k)) (source g (option_map S v)) (map_register-made g w m t.kinds) (script_register-made g w k) (script_source-made g w v)
   changed-well (GetEntry d m k) r t = IsWellMade-script_register g d (value_at (objects_of g) (register g (S m)) (register g (S k))) w (value_at-made g w (register g (S m)) (register g (S k)))
-  changed-well (Expose s i) r t = w
-  changed-well Nothing r t = w
-  changed-well (Slice u) r t = w
-  changed-well Collect r t = w
-  changed-well Gc r t = w
-  changed-well Census r t = w
+  changed-well _ r t = w
 
   -- A STEP LEAVES THE GRAPH WELL MADE.
   pub step-well : (c : Command) → IsTrue (in_range c) → IsWellMade (step g c)

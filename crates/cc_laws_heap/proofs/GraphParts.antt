@@ -215,9 +215,8 @@ Grows-scripts g os stay = record {
 }
   where
     made : (x : Name) → IsTrue (was_made g x) → IsTrue (was_made (with_scripts g os) x)
-    made (name.Native k) m = m
     made (name.Script k) m = let o = is_some-found (script_in g k.0) m in was_made-script (with_scripts g os) k.0 (stay k.0 o.0 o.1).0 (stay k.0 o.0 o.1).1
-    made (name.Reflector k) m = m
+    made _ m = m
 
 -- WITH OTHER SCRIPT OBJECTS a graph is well made.
 pub IsWellMade-scripts : (g : Graph) (os : List GraphScript) → IsWellMade g → AreScripts g os → IsWellMade (with_scripts g os)

@@ -12,7 +12,7 @@ use Rattle.cc_names.specs.Names.{is_native, is_script}
 use Rattle.cc_model.specs.Slots.{Slots, contents}
 use Rattle.cc_model.specs.Entries.{value_in}
 use Rattle.cc_model.specs.Checks.{slots_or_none, slot_at, value_at, native_of, is_native_there, is_script_there}
-use Rattle.cc_model.specs.Graph.{Graph, GraphNative, GraphScript, plain_object, weak_map, native_in, script_in, slots_in, slots_of_script, objects_of, register, source}
+use Rattle.cc_model.specs.Graph.{Graph, GraphNative, GraphScript, plain_object, native_in, script_in, slots_in, slots_of_script, objects_of, register, source}
 use Rattle.cc_model.specs.WellMade.{IsWellMade, was_made, is_made_native, is_made_script}
 use Rattle.cc_laws_heap.proofs.Holds.{OfSome, OfSome-then, contents-at}
 use Rattle.cc_laws_heap.proofs.EntryLists.{found-among}
@@ -69,9 +69,8 @@ module _ (g : Graph) (w : IsWellMade g) where
   script_contents-made k x = go (script_in g k) refl
     where
       go : (o : Option GraphScript) → script_in g k ≡ o → Among x (contents (slots_or_none (option_and_then slots_of_script o))) → MadeScript g x
-      go None e m = absurd m
       go (Some (plain_object slots)) e m = w.script_contents k slots x e m
-      go (Some weak_map) e m = absurd m
+      go _ e m = absurd m
 
   -- what a reflector has in its slots
   reflector_contents-made : (k : ℕ) (x : Name) → Among x (contents (slots_or_none (option_and_then (λ (n : GraphNative). n.reflector) (native_in g k)))) → MadeScript g x
@@ -121,22 +120,18 @@ module _ (g : Graph) (w : IsWellMade g) where
   pub no_script-made : (o : Option Name) → OfSome (Made g) o → is_script_there o ≡ false → OfSome (MadeNative g) o
   no_script-made None m e = tt
   no_script-made (Some (name.Native k)) m e = m
-  no_script-made (Some (name.Script k)) m e = absurd (true≢false e)
-  no_script-made (Some (name.Reflector k)) m e = absurd (true≢false e)
+  no_script-made _ m e = absurd (true≢false e)
 
   -- what was made and is no native is a script object
   pub no_native-made : (o : Option Name) → OfSome (Made g) o → is_native_there o ≡ false → OfSome (MadeScript g) o
   no_native-made None m e = tt
   no_native-made (Some (name.Native k)) m e = absurd (true≢false e)
-  no_native-made (Some (name.Script k)) m e = m
-  no_native-made (Some (name.Reflector k)) m e = m
+  no_native-made _ m e = m
 
   -- the native behind a reflector was made
   pub native_of-made : (o : Option Name) → OfSome (MadeScript g) o → OfSome (MadeNative g) (native_of o)
-  native_of-made None m = tt
-  native_of-made (Some (name.Native k)) m = tt
-  native_of-made (Some (name.Script k)) m = tt
   native_of-made (Some (name.Reflector k)) m = let n = reflector-made g k.0 m in was_made-native g k.0 n.0 n.1
+  native_of-made _ m = tt
 
   -- the value of a map and a key is a script object that was made
   pub value_at-made : (a b : Option Name) → OfSome (MadeScript g) (value_at (objects_of g) a b)

@@ -7,7 +7,7 @@ use Rattle.cc_lists.proofs.Members.{Among-map, Among-map_cases, Among-left, Amon
 use Rattle.cc_names.specs.declared.name.Name.{Name}
 use Rattle.cc_names.specs.declared.name.Name.TheVariants as name
 use Rattle.cc_names.specs.declared.kind.Kind.{Kind}
-use Rattle.cc_names.specs.declared.kind.Kind.TheVariants.{Plain, Reflector, Map}
+use Rattle.cc_names.specs.declared.kind.Kind.TheVariants.{Map}
 use Rattle.cc_names.specs.Names.{native, reflector, same_name, behind}
 use Rattle.cc_names.proofs.NameTests.{same_name-true, same_name-refl}
 use Rattle.cc_model.specs.Slots.{Slots, contents, from_to}
@@ -34,8 +34,7 @@ shape_at-script h w o m = go o.name refl (w.kinds o m)
   where
     go : (x : Name) → o.name ≡ x → FitsName x o.kind o.slots → shape_at h x ≡ Some (shape_of_held_script o)
     go (name.Native k) e f = absurd f
-    go (name.Script k) e f = ap (option_map shape_of_held_script) (ap (script_at h) (sym e) ∙ script_at-member h w o m)
-    go (name.Reflector k) e f = ap (option_map shape_of_held_script) (ap (script_at h) (sym e) ∙ script_at-member h w o m)
+    go _ e f = ap (option_map shape_of_held_script) (ap (script_at h) (sym e) ∙ script_at-member h w o m)
 
 -- so has a native
 pub shape_at-native : (h : Heap) → IsWellFormed h → (n : HeapNative) → Among n h.natives → shape_at h (native n.number) ≡ Some (shape_of_held_native n)
@@ -102,16 +101,14 @@ script_edges-shape o fits =
     (rw (slots o.name o.kind o.slots fits, further o.name) refl)
   where
     slots : (x : Name) (kind : Kind) (s : Slots) → FitsName x kind s → contents (slots_or_none (slots_of_kind kind s)) ≡ contents s
-    slots x Plain s f = refl
-    slots x Reflector s f = refl
     slots (name.Native k) Map s f = absurd f
     slots (name.Script k) Map s f = ap contents (sym f)
     slots (name.Reflector k) Map s f = absurd f
+    slots x _ s f = refl
 
     further : (x : Name) → map (from_to o.name) (further_of x (shape_of_held_script o)) ≡ map (λ k. from_to o.name (native k)) (behind x)
     further (name.Native k) = refl
-    further (name.Script k) = refl
-    further (name.Reflector k) = refl
+    further _ = refl
 
 -- AN EDGE OF THE FLAT VIEW is one of an object that is there.
 pub edge-held : (h : Heap) → IsWellFormed h → (x y : Name) → Among (x, y) (view h).edges → (s : Shape) × (shape_at h x ≡ Some s) × Among y (edges_of_shape x s)

@@ -25,11 +25,10 @@ OfSome-then P Q f (Some x) h = f x h
 
 -- what holds of all that slots hold, holds of what stands at a place
 pub contents-at : (P : Name → Type 0) (slots : Slots) (i : ℕ) → ((x : Name) → Among x (contents slots) → P x) → OfSome P (get_or slots i None)
-contents-at P [] i h = tt
-contents-at P (None ∷ slots) zero h = tt
 contents-at P (Some x ∷ slots) zero h = h x (inl refl)
 contents-at P (None ∷ slots) (suc i) h = contents-at P slots i h
 contents-at P (Some x ∷ slots) (suc i) h = contents-at P slots i (λ y m. h y (inr m))
+contents-at P _ _ h = tt
 
 -- and of all that they hold after a write, where it holds of what was written
 pub contents-set : (P : Name → Type 0) (slots : Slots) (i : ℕ) (o : Option Name) → ((x : Name) → Among x (contents slots) → P x) → OfSome P o →

@@ -7,7 +7,7 @@ use Rattle.cc_names.specs.declared.name.Name.{Name}
 use Rattle.cc_names.specs.declared.name.Name.TheVariants as name
 use Rattle.cc_names.specs.declared.register.Reg.{Reg}
 use Rattle.cc_names.specs.declared.register.Reg.TheVariants.{N, S}
-use Rattle.cc_names.specs.Names.{native, object, reflector, same_name}
+use Rattle.cc_names.specs.Names.{native, same_name}
 use Rattle.cc_model.specs.Checks.{slots_at, slots_or_none}
 use Rattle.cc_model.specs.Heap.{Heap, HeapNative, HeapScript, native_at, slots_in, slots_of_script, register, objects_of}
 use Rattle.cc_model.specs.Cascade.{add_ref, take_up}
@@ -42,10 +42,8 @@ HoldsTheSame-add_ref h k = record {
 
 -- and so does a reference to what a register or a slot is to hold
 pub HoldsTheSame-take_up : (h : Heap) (x : Option Name) → HoldsTheSame h (take_up h x)
-HoldsTheSame-take_up h None = HoldsTheSame-refl h
 HoldsTheSame-take_up h (Some (name.Native k)) = HoldsTheSame-add_ref h k.0
-HoldsTheSame-take_up h (Some (name.Script k)) = HoldsTheSame-refl h
-HoldsTheSame-take_up h (Some (name.Reflector k)) = HoldsTheSame-refl h
+HoldsTheSame-take_up h _ = HoldsTheSame-refl h
 
 module _ (h g : Heap) (a : HoldsTheSame h g) where
   -- the same natives are there
@@ -84,8 +82,7 @@ module _ (h g : Heap) (a : HoldsTheSame h g) where
   -- objects have the same slots
   pub slots_in-alike : (x : Name) → slots_in g x ≡ slots_in h x
   slots_in-alike (name.Native k) = native_slots-alike k.0
-  slots_in-alike (name.Script k) = ap (λ os. option_and_then slots_of_script (find (λ o. same_name o.name (object k.0)) os)) a.beside.scripts
-  slots_in-alike (name.Reflector k) = ap (λ os. option_and_then slots_of_script (find (λ o. same_name o.name (reflector k.0)) os)) a.beside.scripts
+  slots_in-alike x = ap (λ os. option_and_then slots_of_script (find (λ o. same_name o.name x) os)) a.beside.scripts
 
   -- what a register holds has the same slots
   pub slots_at-alike : (r : Reg) → slots_at (objects_of g) r ≡ slots_at (objects_of h) r

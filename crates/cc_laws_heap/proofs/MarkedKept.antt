@@ -9,7 +9,7 @@ use Rattle.cc_lists.proofs.Least.{derive-root, derive-along, derive-jointly}
 use Rattle.cc_lists.proofs.Closure.{derived-closure}
 use Rattle.cc_names.specs.declared.name.Name.{Name}
 use Rattle.cc_names.specs.declared.kind.Colour.{Colour}
-use Rattle.cc_names.specs.declared.kind.Colour.TheVariants.{White, Gray, Black}
+use Rattle.cc_names.specs.declared.kind.Colour.TheVariants.{White}
 use Rattle.cc_names.specs.Names.{native, reflector, same_name, is_script}
 use Rattle.cc_names.proofs.NameTests.{same_name-exact}
 use Rattle.cc_model.specs.Slots.{contents, from_to}
@@ -82,8 +82,7 @@ module _ (h : Heap) where
 -- what passes the test of white is white
 is_white-true : (c : Colour) → is_white_colour c ≡ true → c ≡ White
 is_white-true White e = refl
-is_white-true Gray e = absurd (false≢true e)
-is_white-true Black e = absurd (false≢true e)
+is_white-true _ e = absurd (false≢true e)
 
 -- an unmarked name is that of a white script object
 pub unmarked-white : (h : Heap) (x : Name) → Among x (unmarked h) → (o : HeapScript) × Among o h.scripts × (o.colour ≡ White) × (o.name ≡ x)

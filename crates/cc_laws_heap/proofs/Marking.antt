@@ -32,15 +32,13 @@ colour_of-black false false e = absurd (cc)
 
 -- gray by the second alone
 colour_of-gray : (b m : Bool) → colour_of b m ≡ Gray → (b ≡ false) × (m ≡ true)
-colour_of-gray true m e = absurd (cc)
 colour_of-gray false true e = (refl, refl)
-colour_of-gray false false e = absurd (cc)
+colour_of-gray _ _ e = absurd (cc)
 
 -- white by neither
 pub colour_of-white : (b m : Bool) → colour_of b m ≡ White → (b ≡ false) × (m ≡ false)
-colour_of-white true m e = absurd (cc)
-colour_of-white false true e = absurd (cc)
 colour_of-white false false e = (refl, refl)
+colour_of-white _ _ e = absurd (cc)
 
 -- The lists of names decide
 

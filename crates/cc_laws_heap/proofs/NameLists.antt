@@ -26,10 +26,9 @@ pub same_name-sym : (x y : Name) → same_name x y ≡ same_name y x
 same_name-sym x y = go (same_name x y) refl (same_name y x) refl
   where
     go : (b : Bool) → same_name x y ≡ b → (c : Bool) → same_name y x ≡ c → b ≡ c
-    go true e true f = refl
     go true e false f = absurd (true≢false (sym (same_name-refl y) ∙ (ap (same_name y) (sym (same_name-true x y e)) ∙ f)))
     go false e true f = absurd (true≢false (sym (same_name-refl x) ∙ (ap (same_name x) (sym (same_name-true y x f)) ∙ e)))
-    go false e false f = refl
+    go _ e _ f = refl
 
 -- How often a name stands in a list
 

@@ -29,9 +29,8 @@ slice_get-push (x ∷ xs) y = slice_get-push xs y
 -- any other place has what it had
 slice_get-push_other : {X : Type 0} (xs : List X) (y : X) (i : ℕ) → i ≢ length xs → slice_get (xs ++ y ∷ []) i ≡ slice_get xs i
 slice_get-push_other [] y zero d = absurd (d refl)
-slice_get-push_other [] y (suc i) d = refl
-slice_get-push_other (x ∷ xs) y zero d = refl
 slice_get-push_other (x ∷ xs) y (suc i) d = slice_get-push_other xs y i (λ e. d (omega arith))
+slice_get-push_other _ y _ d = refl
 
 -- one more at the end has the next number
 pub numbered-push : {X : Type 0} (xs : List X) (y : X) → numbered (xs ++ y ∷ []) (length xs + 1) ≡ Some y
@@ -64,11 +63,9 @@ slice_get-set (z ∷ zs) (suc i) x y e = slice_get-set zs i x y e
 
 -- any other place has what it had
 slice_get-set_other : {X : Type 0} (xs : List X) (i j : ℕ) (y : X) → j ≢ i → slice_get (set xs i y) j ≡ slice_get xs j
-slice_get-set_other [] i j y d = refl
 slice_get-set_other (z ∷ zs) zero zero y d = absurd (d refl)
-slice_get-set_other (z ∷ zs) zero (suc j) y d = refl
-slice_get-set_other (z ∷ zs) (suc i) zero y d = refl
 slice_get-set_other (z ∷ zs) (suc i) (suc j) y d = slice_get-set_other zs i j y (λ e. d (omega arith))
+slice_get-set_other _ _ _ y d = refl
 
 -- the member with number k replaced, where there is something to replace it
 abbrev pub set_numbered : {X : Type 0} → List X → ℕ → Option X → List X

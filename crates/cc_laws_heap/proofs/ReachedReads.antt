@@ -54,11 +54,10 @@ module _ (g : Graph) where
   value_at-reached a b = go (register g a) (register-reached a) (register g b) (register-reached b)
     where
       go : (o : Option Name) → OfSome (Reached g) o → (p : Option Name) → OfSome (Reached g) p → OfSome (Reached g) (value_at (objects_of g) o p)
-      go None d p e = tt
-      go (Some m) d None e = tt
       go (Some m) d (Some k) e = OfSome-from (Reached g) (value_in g.entries m k)
           (λ y i. let f = found-among g.entries m k y i in
           subst (Reached g) f.4 (value f.0 f.1 (subst (Reached g) (sym f.2) d) (subst (Reached g) (sym f.3) e)))
+      go _ d _ e = tt
 
   -- the native of a reached reflector, which was made
   behind-reached : (k : ℕ) → IsTrue (was_made g (reflector k)) → Reached g (reflector k) → Reached g (native k)
@@ -79,7 +78,5 @@ module _ (g : Graph) where
 
   -- the native that a reflector stands for
   pub native_of-reached : (o : Option Name) → OfSome (MadeScript g) o → OfSome (Reached g) o → OfSome (Reached g) (native_of o)
-  native_of-reached None m d = tt
-  native_of-reached (Some (name.Native k)) m d = tt
-  native_of-reached (Some (name.Script k)) m d = tt
   native_of-reached (Some (name.Reflector k)) m d = behind-reached k.0 m d
+  native_of-reached _ m d = tt

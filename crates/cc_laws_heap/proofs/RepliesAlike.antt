@@ -132,6 +132,5 @@ module _ (h : Heap) (g : Graph) (s : StandsFor h g) where
 
       value : (a b : Reg) → (o : Option Name) → graph.register g a ≡ o → (p : Option Name) → graph.register g b ≡ p →
           value_at (heap.objects_of h) o p ≡ value_at (graph.objects_of g) o p
-      value a b None e p f = refl
-      value a b (Some x) e None f = refl
       value a b (Some x) e (Some y) f = s.values x y (held a x e) (held b y f)
+      value a b _ e _ f = refl

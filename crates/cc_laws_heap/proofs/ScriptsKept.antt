@@ -23,13 +23,10 @@ use Rattle.cc_laws_heap.proofs.Writes.{contents-written, script_register-sound, 
 
 -- a slot written leaves as many
 FitsName-set : (x : Name) (kind : Kind) (slots : Slots) (i : ℕ) (y : Option Name) → FitsName x kind slots → FitsName x kind (set slots i y)
-FitsName-set (name.Native k) kind slots i y f = f
 FitsName-set (name.Script k) Plain slots i y f = subst (λ l. l ≤ 64) (sym (length-set slots i y)) f
 FitsName-set (name.Script k) Map slots i y f = subst (λ s. set s i y ≡ []) (sym f) refl
-FitsName-set (name.Script k) Reflector slots i y f = f
 FitsName-set (name.Reflector k) Reflector slots i y f = length-set slots i y ∙ f
-FitsName-set (name.Reflector k) Plain slots i y f = f
-FitsName-set (name.Reflector k) Map slots i y f = f
+FitsName-set _ _ slots i y f = f
 
 -- whether its name is x
 abbrev pub has_name : Name → HeapScript → Bool
@@ -58,17 +55,13 @@ native-no_script h k w m =
 
 -- A reflector that is there is preserved, nothing else.
 pub preserve-sound : (owned : List ℕ) (h : Heap) (x : Option Name) → IsIn (script_names h) x → IsSound owned h → IsSound owned (preserve h x)
-preserve-sound owned h None there s = s
-preserve-sound owned h (Some (name.Native k)) there s = s
-preserve-sound owned h (Some (name.Script k)) there s = s
 preserve-sound owned h (Some (name.Reflector k)) there s = set_preserved-sound owned h k.0 (there (reflector k.0) (inl refl)) s
+preserve-sound owned h _ there s = s
 
 -- script objects stay
 script_names-preserve : (h : Heap) (x : Option Name) → script_names (preserve h x) ≡ script_names h
-script_names-preserve h None = refl
 script_names-preserve h (Some (name.Native k)) = refl
-script_names-preserve h (Some (name.Script k)) = refl
-script_names-preserve h (Some (name.Reflector k)) = refl
+script_names-preserve h _ = refl
 
 -- Slot i of a script object that is there is written.
 pub script_slot-sound : (owned : List ℕ) (h : Heap) (x : Option Name) (i : ℕ) (y : Option Name) → IsIn (script_names h) x → IsIn (script_names h) y →

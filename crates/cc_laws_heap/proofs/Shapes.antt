@@ -5,7 +5,7 @@ use Rattle.cc_names.specs.declared.name.Name.{Name}
 use Rattle.cc_names.specs.declared.name.Name.TheVariants as name
 use Rattle.cc_names.specs.declared.kind.Kind.{Kind}
 use Rattle.cc_names.specs.declared.kind.Kind.TheVariants.{Plain, Reflector, Map}
-use Rattle.cc_names.specs.Names.{native, object, reflector}
+use Rattle.cc_names.specs.Names.{native, reflector}
 use Rattle.cc_model.specs.Slots.{Slots, contents}
 use Rattle.cc_model.specs.Checks.{slots_or_none}
 use Rattle.cc_model.specs.Graph as graph
@@ -48,12 +48,7 @@ slots_in-heap h (name.Native k) = go (native_at h k.0)
     go : (o : Option HeapNative) → option_map (λ n. n.slots) o ≡ slots_of_shape (option_map shape_of_held_native o)
     go None = refl
     go (Some n) = refl
-slots_in-heap h (name.Script k) = held (script_at h (object k.0))
-  where
-    held : (o : Option HeapScript) → option_and_then heap.slots_of_script o ≡ slots_of_shape (option_map shape_of_held_script o)
-    held None = refl
-    held (Some s) = refl
-slots_in-heap h (name.Reflector k) = held (script_at h (reflector k.0))
+slots_in-heap h x = held (script_at h x)
   where
     held : (o : Option HeapScript) → option_and_then heap.slots_of_script o ≡ slots_of_shape (option_map shape_of_held_script o)
     held None = refl
@@ -119,9 +114,8 @@ kind_in-shape g (name.Native k) = go (native_in g k.0)
 kind_in-shape g (name.Script k) = go (script_in g k.0)
   where
     go : (o : Option GraphScript) → option_map kind_of o ≡ option_and_then (kind_of_shape (name.Script k)) (option_map shape_of_object o)
-    go None = refl
     go (Some (plain_object slots)) = refl
-    go (Some weak_map) = refl
+    go _ = refl
 kind_in-shape g (name.Reflector k) = go (native_in g k.0)
   where
     reflected : (r : Option Slots) → option_map (λ slots. Reflector) r

@@ -7,7 +7,7 @@ use Rattle.cc_lists.proofs.Members.{Among-left, Among-right, Among-append}
 use Rattle.cc_names.specs.declared.name.Name.{Name}
 use Rattle.cc_names.specs.declared.name.Name.TheVariants as name
 use Rattle.cc_names.specs.declared.kind.Kind.{Kind}
-use Rattle.cc_names.specs.declared.kind.Kind.TheVariants.{Plain, Reflector, Map}
+use Rattle.cc_names.specs.declared.kind.Kind.TheVariants.{Plain}
 use Rattle.cc_names.specs.Names.{native, object, reflector, same_name}
 use Rattle.cc_names.proofs.NameTests.{same_name-true}
 use Rattle.cc_model.specs.Slots.{Slots, contents}
@@ -57,8 +57,7 @@ written-edges P x i v s new old y j = ⊎_elim
 
     further : (z : Name) → Among y (further_of z (with_slot_written i v s)) → Among y (further_of z s)
     further (name.Native k) m = m
-    further (name.Script k) m = m
-    further (name.Reflector k) m = m
+    further _ m = m
 
 -- a slot of any object written; that of a reflector, where its native has it preserved
 abbrev pub IsPreserved : Graph → Name → Type 0
@@ -91,8 +90,7 @@ held_script i v o = go o.kind
   where
     go : (kind : Kind) → script_shape (slots_of_kind kind (set o.slots i v)) ≡ with_slot_written i v (script_shape (slots_of_kind kind o.slots))
     go Plain = refl
-    go Reflector = refl
-    go Map = refl
+    go _ = refl
 
 -- THE SAME SLOT WRITTEN with the same.
 pub Follows-slot : (P : Name → Type 0) (h : Heap) (g : Graph) (x : Option Name) (i : ℕ) (v : Option Name) → OfSome P x → OfSome P v → OfSome (IsPreserved g) x →

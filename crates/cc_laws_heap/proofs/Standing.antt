@@ -48,28 +48,23 @@ edges-there h w x y s e m = ⊎_elim
     of_script o i z e fits j = ⊎_elim (λ f. script (slots o.kind f)) (λ f. behind z e f) (Among-append y (contents (slots_or_none (slots_of_kind o.kind o.slots))) (further_of z (shape_of_held_script o)) j)
       where
         slots : (kind : Kind) → Among y (contents (slots_or_none (slots_of_kind kind o.slots))) → Among y (script_names h)
-        slots Plain f = w.script_contents o y i f
-        slots Reflector f = w.script_contents o y i f
         slots Map f = absurd f
+        slots _ f = w.script_contents o y i f
 
         behind : (z : Name) → o.name ≡ z → Among y (further_of z (shape_of_held_script o)) → Among y (names_there h)
-        behind (name.Native k) p f = absurd f
-        behind (name.Script k) p f = absurd f
         behind (name.Reflector k) p f = ⊎_elim
             (λ e. subst (λ z. Among z (names_there h)) e
             (Among-left (native k.0) (native_names h) (script_names h)
             (w.reflected k.0 (subst (λ z. Among z (script_names h)) p (Among-map (λ (p : HeapScript). p.name) o h.scripts i)))))
             (λ b. absurd b) f
+        behind _ p f = absurd f
 
 -- the kind of a script object of well formed heaps is that of its name and its slots
 kind-fits : (x : Name) (kind : Kind) (slots : Slots) → FitsName x kind slots → kind_of_shape x (script_shape (slots_of_kind kind slots)) ≡ Some kind
-kind-fits (name.Native k) kind slots f = absurd f
 kind-fits (name.Script k) Plain slots f = refl
 kind-fits (name.Script k) Map slots f = refl
-kind-fits (name.Script k) Reflector slots f = absurd f
 kind-fits (name.Reflector k) Reflector slots f = refl
-kind-fits (name.Reflector k) Plain slots f = absurd f
-kind-fits (name.Reflector k) Map slots f = absurd f
+kind-fits _ _ slots f = absurd f
 
 module _ (P : Name → Type 0) (h : Heap) (g : Graph) (w : IsWellFormed h) (m : IsWellMade g) (f : Follows P h g) where
   -- `P` holds of what is reached
@@ -138,9 +133,8 @@ module _ (P : Name → Type 0) (h : Heap) (g : Graph) (w : IsWellFormed h) (m : 
       (f.objects.alike n i (reached-within (native n.number) d)) e (ap (shape_in g) (sym named) ∙ f.objects.scripts o j)).0
     where
       slots : (kind : Kind) → slots_of_kind kind o.slots ≡ Some (empty_slots reflector_slots) → o.slots ≡ empty_slots reflector_slots
-      slots Plain s = cc
-      slots Reflector s = cc
       slots Map s = absurd (cc)
+      slots _ s = cc
 
   -- THEY STAND FOR IT.
   pub follows-stands : StandsFor h g

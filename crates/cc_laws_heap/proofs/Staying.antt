@@ -1,5 +1,5 @@
 -- NATIVES THAT ARE LEFT ARE AS THEY WERE, but for counts and where they were unlinked; and what was empty is.
-use Rattle.std.proofs.Common.{◌≡◌, ◌==◌, ℕ, zero, suc, Bool, true, false, not, List, ◌∷◌, length, set, None, refl, sym, ◌∙◌, ap, subst, if◌then◌else◌}
+use Rattle.std.proofs.Common.{◌≡◌, ◌==◌, ℕ, suc, Bool, true, false, not, List, ◌∷◌, length, set, None, refl, sym, ◌∙◌, ap, subst, if◌then◌else◌}
 use Rattle.std.proofs.lemmas.Bool.{eqb-true}
 use Rattle.std.proofs.lemmas.List.{length-set}
 use Rattle.cc_lists.specs.Members.{Among}
@@ -31,9 +31,8 @@ uncounted-emptied m n e t = record { slots = moved.slots; preserved = moved.pres
 
 -- empty slots stay so where one of them is emptied
 empty_slots-set : (l i : ℕ) → set (empty_slots l) i None ≡ empty_slots l
-empty_slots-set zero i = refl
-empty_slots-set (suc l) zero = refl
 empty_slots-set (suc l) (suc i) = ap (λ slots. None ∷ slots) (empty_slots-set l i)
+empty_slots-set _ _ = refl
 
 -- what is emptied stays so where a slot of it is emptied
 IsEmptied-slot : (i : ℕ) (n : HeapNative) → IsEmptied n → IsEmptied (with_native_slot i None n)

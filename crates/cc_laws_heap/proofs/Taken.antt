@@ -1,5 +1,5 @@
 -- WHAT IT MEANS THAT A COMMAND IS NOT REFUSED: none of the five tests holds.
-use Rattle.std.proofs.Common.{◌≡◌, Bool, true, false, [], ◌∷◌, None, refl}
+use Rattle.std.proofs.Common.{◌≡◌, Bool, false, [], ◌∷◌, None, refl}
 use Rattle.cc_model.specs.declared.command.Command.{Command}
 use Rattle.cc_model.specs.declared.item.Refusal.TheVariants.{Empty, Kind, Slot, Full}
 use Rattle.cc_model.specs.Checks.{Objects, lacks_object, has_wrong_object, has_no_slot, has_wrong_content, is_full, first_refusal, refusal_of}
@@ -21,9 +21,5 @@ IsTaken-from o c e =
   where
     go : (p q r s t : Bool) → first_refusal ((p, Empty) ∷ (q, Kind) ∷ (r, Slot) ∷ (s, Kind) ∷ (t, Full) ∷ []) ≡ None →
         (p ≡ false) × (q ≡ false) × (r ≡ false) × (s ≡ false) × (t ≡ false)
-    go true q r s t f = absurd (cc)
-    go false true r s t f = absurd (cc)
-    go false false true s t f = absurd (cc)
-    go false false false true t f = absurd (cc)
-    go false false false false true f = absurd (cc)
     go false false false false false f = (refl, refl, refl, refl, refl)
+    go _ _ _ _ _ f = absurd (cc)

@@ -125,12 +125,7 @@ TakesOut-script h x s m = record {
 -- the names of distinct natives are distinct
 once-natives : (ks : List ℕ) → ((k : ℕ) → times k ks ≤ 1) → (x : Name) → count_by (same_name x) (map native ks) ≤ 1
 once-natives ks once (name.Native k) = subst (λ n. n ≤ 1) (ap (times k.0) (sym (natives_in-natives ks)) ∙ times-natives_in k.0 (map native ks)) (once k.0)
-once-natives ks once (name.Script k) = rw (count_by-map (same_name (name.Script k)) native ks) (none ks)
-  where
-    none : (js : List ℕ) → count_by (λ j. false) js ≤ 1
-    none [] = omega arith
-    none (j ∷ js) = none js
-once-natives ks once (name.Reflector k) = rw (count_by-map (same_name (name.Reflector k)) native ks) (none ks)
+once-natives ks once x = rw (count_by-map (same_name x) native ks) (none ks)
   where
     none : (js : List ℕ) → count_by (λ j. false) js ≤ 1
     none [] = omega arith

@@ -30,10 +30,8 @@ Leaves-add_ref h k = Leaves-uncounted h (add_ref h k)
 
 -- a reference to what a register or a slot is to hold taken
 pub Leaves-take_up : (h : Heap) (x : Option Name) → Leaves h (take_up h x)
-Leaves-take_up h None = Leaves-refl h
 Leaves-take_up h (Some (name.Native k)) = Leaves-add_ref h k.0
-Leaves-take_up h (Some (name.Script k)) = Leaves-refl h
-Leaves-take_up h (Some (name.Reflector k)) = Leaves-refl h
+Leaves-take_up h _ = Leaves-refl h
 
 -- a reference given up, with all that is freed
 pub Leaves-let_go : (h : Heap) (x : Option Name) → Leaves h (let_go h x).heap

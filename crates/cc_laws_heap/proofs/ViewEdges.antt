@@ -32,9 +32,8 @@ native_edges-are n x y m = ⊎_elim
 
 -- a name with a native behind it is that native's reflector
 pub behind-is : (x : Name) (k : ℕ) → Among k (behind x) → x ≡ reflector k
-behind-is (name.Native i) k m = absurd m
-behind-is (name.Script i) k m = absurd m
 behind-is (name.Reflector i) k m = ⊎_elim (λ e. ap reflector e) (λ t. absurd t) m
+behind-is _ k m = absurd m
 
 -- the edges of a script object start at its name, and lead to what it has
 pub script_edges-are : (o : HeapScript) (x y : Name) → Among (x, y) (script_edges o) → (o.name ≡ x) × ScriptHas o y

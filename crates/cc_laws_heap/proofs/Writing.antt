@@ -128,8 +128,7 @@ HeapChanges-native h k a f number changes named = record {
   where
     same : (o : HeapScript) (x : Name) → IsTrue (is_script x) → shape_of_held_script o ≡ changed_at (native k) f x (shape_of_held_script o)
     same o (name.Native j) s = absurd (false≢true s)
-    same o (name.Script j) s = refl
-    same o (name.Reflector j) s = refl
+    same o _ s = refl
 
 -- a script object changed
 pub HeapChanges-script : (h : Heap) (x : Name) (a : HeapScript → HeapScript) (f : Shape → Shape) → IsTrue (is_script x) → ((o : HeapScript) → (a o).name ≡ o.name) →
@@ -143,5 +142,4 @@ HeapChanges-script h x a f script names changes = record {
   where
     same : (n : HeapNative) (y : Name) → IsTrue (is_script y) → shape_of_held_native n ≡ changed_at y f (native n.number) (shape_of_held_native n)
     same n (name.Native j) s = absurd (false≢true s)
-    same n (name.Script j) s = refl
-    same n (name.Reflector j) s = refl
+    same n _ s = refl
