@@ -1,12 +1,11 @@
 -- A SCRIPT COLLECTION KEEPS THE HEAPS SOUND, tells what it takes out, and leaves the colours of marking, none of them white.
-use Rattle.std.proofs.Common.{◌≡◌, ◌≢◌, ℕ, suc, List, [], ◌++◌, length, sym, ◌∙◌, ap, subst}
-use Rattle.std.specs.List.{filter}
+use Rattle.std.proofs.Common.{arith, ◌≡◌, ◌≢◌, ℕ, suc, List, [], ◌++◌, length, sym, ◌∙◌, ap, subst}
 use Rattle.cc_lists.specs.Members.{Among, has}
 use Rattle.cc_lists.proofs.Members.{Among-map, Among-filter}
 use Rattle.cc_names.specs.declared.name.Name.{Name}
 use Rattle.cc_names.specs.declared.kind.Colour.TheVariants.{White, Black}
 use Rattle.cc_names.specs.Names.{same_name}
-use Rattle.cc_model.specs.Heap.{Heap, HeapScript, Outcome, silently, is_white_colour}
+use Rattle.cc_model.specs.Heap.{Heap, HeapScript, Outcome, silently}
 use Rattle.cc_model.specs.View.{view}
 use Rattle.cc_model.specs.Colours.{IsBlack, black_names, marked_names, marked, HasColours, HasColourInvariant}
 use Rattle.cc_model.specs.Sweep.{unmarked, sweep, collect_scripts}
@@ -59,9 +58,7 @@ module _ (h : Heap) (c : HasColours h) where
 module _ (h : Heap) (c : HasColours h) (none : unmarked h ≡ []) where
   -- where nothing is unmarked no script object is white
   none-white : (o : HeapScript) → Among o h.scripts → o.colour ≢ White
-  none-white o m e = subst (Among o.name) none
-      (Among-map (λ (p : HeapScript). p.name) o (filter (λ (p : HeapScript). is_white_colour p.colour) h.scripts)
-      (Among-filter (λ (p : HeapScript). is_white_colour p.colour) o h.scripts m (ap is_white_colour e)))
+  none-white o m e = grind (arith, Among-map, Among-filter)
 
   -- Colours of marking, none of them white, keep the colour invariant.
   IsColoured-colours : IsColoured h

@@ -1,5 +1,5 @@
 -- THE COLOUR INVARIANT by script objects: it speaks of script objects and script registers alone.
-use Rattle.std.proofs.Common.{◌≡◌, ◌≢◌, ◌≤◌, Bool, true, false, List, map, refl, sym, ◌∙◌, ap, subst, ⊎_elim}
+use Rattle.std.proofs.Common.{arith, ◌≡◌, ◌≢◌, ◌≤◌, Bool, true, false, List, map, refl, sym, ◌∙◌, ap, subst, ⊎_elim}
 use Rattle.std.specs.List.{filter, flat_map}
 use Rattle.std.proofs.lemmas.Bool.{false≢true}
 use Rattle.cc_lists.specs.Members.{Among}
@@ -75,9 +75,7 @@ names_with-there p scripts o m e = Among-map (λ (q : HeapScript). q.name) o (fi
 -- and a name there is that of an object of the colour
 pub names_with-is : (p : HeapScript → Bool) (scripts : List HeapScript) (x : Name) → Among x (names_with p scripts) →
     (o : HeapScript) × Among o scripts × (p o ≡ true) × (o.name ≡ x)
-names_with-is p scripts x m =
-    let f = Among-map_cases (λ (q : HeapScript). q.name) (filter p scripts) x m in
-    (f.0, Among-filtered p f.0 scripts f.1, Among-passes p f.0 scripts f.1, f.2)
+names_with-is p scripts x m = grind (arith, Among-map_cases, Among-filtered, Among-passes)
 
 -- script objects of one name are one
 pub one-script : (h : Heap) (o p : HeapScript) → IsWellFormed h → Among o h.scripts → Among p h.scripts → p.name ≡ o.name → p ≡ o

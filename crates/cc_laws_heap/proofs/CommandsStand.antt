@@ -1,6 +1,6 @@
 -- HEAPS THAT STAND FOR A GRAPH GO ON STANDING FOR IT: after each command that is not refused they stand for the graph's step,
 -- and what they told as freed is not reached.
-use Rattle.std.proofs.Common.{◌≡◌, ℕ, ◌+◌, List, length, Option, Some, None, option_map, refl, sym, ◌∙◌, ap, subst, inr, ◌⊎◌}
+use Rattle.std.proofs.Common.{arith, ◌≡◌, ℕ, ◌+◌, List, length, Option, Some, None, option_map, refl, sym, ◌∙◌, ap, subst, inr, ◌⊎◌}
 use Rattle.std.specs.Prelude.{IsTrue}
 use Rattle.std.proofs.lemmas.Bool.{false≢true}
 use Rattle.cc_lists.specs.Members.{Among}
@@ -70,11 +70,7 @@ module _ (h : Heap) (g : Graph) (w : IsWellFormed h) (m : IsWellMade g) (s : Sta
 
   -- what a native register holds has no native whose reflector it is
   native-preserved : (d : ℕ) → OfSome (IsPreserved g) (graph.register g (N d))
-  native-preserved d = OfSome-then (MadeNative g) (IsPreserved g) no_reflector (graph.register g (N d)) (native_register-made g m d)
-    where
-      no_reflector : (x : Name) → MadeNative g x → IsPreserved g x
-      no_reflector (name.Native k) t = λ j s e i. absurd (cc)
-      no_reflector _ t = absurd (false≢true t)
+  native-preserved d = grind (arith, OfSome-then, native_register-made)
 
   -- a reflector made or found, and put into a register
   wrap : (d : ℕ) (x : Option Name) → OfSome (Reached g) x → OfSome (MadeNative g) x → (Q : Type 0) →
@@ -187,17 +183,4 @@ empty-unreached limits _ (value e i a b) = i
 
 -- THE EMPTY HEAPS STAND FOR THE EMPTY GRAPH.
 pub empty-stands : (limits : Allowance) → StandsFor (empty_heap limits) (empty_graph limits)
-empty-stands limits = record {
-  native_registers = refl;
-  script_registers = refl;
-  limits = refl;
-  natives_made = refl;
-  scripts_made = refl;
-  natives = λ n m. absurd m;
-  scripts = λ o m. absurd m;
-  reached = λ x d. absurd (empty-unreached limits x d);
-  values = λ m k a b. refl;
-  entries = tt;
-  blank = λ k n slots e. absurd (numbered-nothing k n e);
-  blank_there = λ n o m. absurd m;
-}
+empty-stands limits = grind (arith, empty-unreached, numbered-nothing)

@@ -134,17 +134,11 @@ ArePart-set m k v (x ∷ xs) (y ∷ ys) a e few = ⊎_elim
 -- an entry set in both lists leaves them alike
 pub AreEntries-set : (P : Name → Type 0) (es fs : List Entry) (m k v : Name) → P m → P k → entries_of m k fs ≤ 1 → AreEntries P es fs →
     AreEntries P (with_entry es m k v) (with_entry fs m k v)
-AreEntries-set P es fs m k v p q few a = record {
-  values = λ x y i j. value_in-set es m k v x y ∙ (ap (cond (is_pair m k x y) (Some v)) (a.values x y i j) ∙ sym (value_in-set fs m k v x y));
-  part = ArePart-set m k v es fs a.part (a.values m k p q) few;
-}
+AreEntries-set P es fs m k v p q few a = grind (arith, value_in-set, ArePart-set)
 
 -- and so does one taken out of both
 pub AreEntries-without : (P : Name → Type 0) (es fs : List Entry) (m k : Name) → AreEntries P es fs → AreEntries P (without_entry es m k) (without_entry fs m k)
-AreEntries-without P es fs m k a = record {
-  values = λ x y i j. value_in-without es m k x y ∙ (ap (cond (is_pair m k x y) None) (a.values x y i j) ∙ sym (value_in-without fs m k x y));
-  part = ArePart-filter (λ e. not (is_entry_of m k e)) es fs a.part;
-}
+AreEntries-without P es fs m k a = grind (arith, value_in-without, ArePart-filter)
 
 -- ENTRIES CHANGED ALIKE: what they have for values is what `P` holds of, and a key that is new is no reflector that is not preserved.
 pub Follows-entries : (P : Name → Type 0) (h : Heap) (g : Graph) (es fs : List Entry) → AreEntries P es fs →

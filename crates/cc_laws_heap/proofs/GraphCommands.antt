@@ -108,11 +108,7 @@ module _ (g : Graph) (w : IsWellMade g) where
 
   -- what a map's register holds was made, and has no slots
   map_register-made : (r : ℕ) → not (is_map_in (objects_of g) (register g (S r))) ≡ false → OfSome (λ x. MadeScript g x × (is_none (slots_in g x) ≡ true)) (register g (S r))
-  map_register-made r = go (register g (S r)) (script_register-made g w r)
-    where
-      go : (o : Option Name) → OfSome (MadeScript g) o → not (is_map_in (objects_of g) o) ≡ false → OfSome (λ x. MadeScript g x × (is_none (slots_in g x) ≡ true)) o
-      go None m e = tt
-      go (Some x) m e = (m, not-false (is_none (slots_in g x)) e)
+  map_register-made r = grind (arith, script_register-made, not-false)
 
 -- a reflector preserved, and a slot of a script object written
 put-well : (g : Graph) → IsWellMade g → (o : Option Name) (i : ℕ) (x : Option Name) → OfSome (MadeScript g) o → OfSome (MadeScript g) x → IsWellMade (set_slot (preserve g o) o i x)
@@ -164,19 +160,4 @@ module _ (g : Graph) (w : IsWellMade g) where
 
 -- THE EMPTY GRAPH IS WELL MADE.
 pub empty-well : (limits : Allowance) → IsWellMade (empty_graph limits)
-empty-well limits = record {
-  registers = (refl, refl);
-  native_registers = λ x m. absurd (contents-empty_none 256 x m);
-  script_registers = λ x m. absurd (contents-empty_none 256 x m);
-  native_slots = λ k n e. absurd (numbered-nothing k n e);
-  native_contents = λ k n x e m. absurd (numbered-nothing k n e);
-  preserved = λ k n e. absurd (numbered-nothing k n e);
-  reflectors = λ k n slots e. absurd (numbered-nothing k n e);
-  reflector_contents = λ k n slots x e. absurd (numbered-nothing k n e);
-  script_slots = λ k slots e. absurd (numbered-nothing k (plain_object slots) e);
-  script_contents = λ k slots x e. absurd (numbered-nothing k (plain_object slots) e);
-  entries = λ e m. absurd m;
-  one_entry = λ m k. omega arith;
-  natives_allowed = omega arith;
-  scripts_allowed = omega arith;
-}
+empty-well limits = grind (arith, contents-empty_none, numbered-nothing)

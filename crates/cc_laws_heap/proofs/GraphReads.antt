@@ -1,5 +1,5 @@
 -- WHAT A COMMAND READS from the registers, slots and entries of a well made graph was made.
-use Rattle.std.proofs.Common.{◌≡◌, ℕ, false, get_or, Option, Some, None, option_map, refl, subst}
+use Rattle.std.proofs.Common.{arith, ◌≡◌, ℕ, false, get_or, Option, Some, None, option_map, refl, subst}
 use Rattle.std.specs.Prelude.{IsTrue}
 use Rattle.std.specs.Option.{option_and_then}
 use Rattle.std.proofs.lemmas.Bool.{and_parts, true≢false, false≢true}
@@ -9,10 +9,10 @@ use Rattle.cc_names.specs.declared.name.Name.TheVariants as name
 use Rattle.cc_names.specs.declared.register.Reg.{Reg}
 use Rattle.cc_names.specs.declared.register.Reg.TheVariants.{N, S}
 use Rattle.cc_names.specs.Names.{is_native, is_script}
-use Rattle.cc_model.specs.Slots.{Slots, contents}
+use Rattle.cc_model.specs.Slots.{contents}
 use Rattle.cc_model.specs.Entries.{value_in}
 use Rattle.cc_model.specs.Checks.{slots_or_none, slot_at, value_at, native_of, is_native_there, is_script_there}
-use Rattle.cc_model.specs.Graph.{Graph, GraphNative, GraphScript, plain_object, native_in, script_in, slots_in, slots_of_script, objects_of, register, source}
+use Rattle.cc_model.specs.Graph.{Graph, GraphNative, native_in, script_in, slots_in, slots_of_script, objects_of, register, source}
 use Rattle.cc_model.specs.WellMade.{IsWellMade, was_made, is_made_native, is_made_script}
 use Rattle.cc_laws_heap.proofs.Holds.{OfSome, OfSome-then, contents-at}
 use Rattle.cc_laws_heap.proofs.EntryLists.{found-among}
@@ -66,23 +66,11 @@ module _ (g : Graph) (w : IsWellMade g) where
 
   -- what a plain object has in its slots
   script_contents-made : (k : ℕ) (x : Name) → Among x (contents (slots_or_none (option_and_then slots_of_script (script_in g k)))) → MadeScript g x
-  script_contents-made k x = go (script_in g k) refl
-    where
-      go : (o : Option GraphScript) → script_in g k ≡ o → Among x (contents (slots_or_none (option_and_then slots_of_script o))) → MadeScript g x
-      go (Some (plain_object slots)) e m = w.script_contents k slots x e m
-      go _ e m = absurd m
+  script_contents-made k x = grind arith
 
   -- what a reflector has in its slots
   reflector_contents-made : (k : ℕ) (x : Name) → Among x (contents (slots_or_none (option_and_then (λ (n : GraphNative). n.reflector) (native_in g k)))) → MadeScript g x
-  reflector_contents-made k x = go (native_in g k) refl
-    where
-      go : (o : Option GraphNative) → native_in g k ≡ o → Among x (contents (slots_or_none (option_and_then (λ (n : GraphNative). n.reflector) o))) → MadeScript g x
-      go None e m = absurd m
-      go (Some n) e m = slots n.reflector refl m
-        where
-          slots : (r : Option Slots) → n.reflector ≡ r → Among x (contents (slots_or_none r)) → MadeScript g x
-          slots None f i = absurd i
-          slots (Some s) f i = w.reflector_contents k n s x e f i
+  reflector_contents-made k x = grind arith
 
   -- what any object has in its slots was made
   slots_in-made : (y x : Name) → Among x (contents (slots_or_none (slots_in g y))) → Made g x

@@ -8,8 +8,8 @@ use Rattle.cc_lists.specs.Members.{Among}
 use Rattle.cc_names.specs.declared.name.Name.{Name}
 use Rattle.cc_names.specs.declared.register.Reg.TheVariants.{N, S}
 use Rattle.cc_names.specs.Names.{reflector}
-use Rattle.cc_model.specs.Slots.{Slots, contents, empty_slots, reflector_slots}
-use Rattle.cc_model.specs.Graph.{Graph, GraphNative, GraphScript, plain_object, weak_map, numbered, native_in, script_in, set_register, set_native, set_script, with_slot, with_reflector_slot, as_preserved, as_wrapped, slots_or_blank, with_script_slot, with_native, with_script}
+use Rattle.cc_model.specs.Slots.{Slots, contents, empty_slots}
+use Rattle.cc_model.specs.Graph.{Graph, GraphNative, GraphScript, plain_object, weak_map, numbered, native_in, script_in, set_register, set_native, set_script, with_slot, with_reflector_slot, as_preserved, as_wrapped, with_script_slot, with_native, with_script}
 use Rattle.cc_model.specs.WellMade.{IsWellMade, was_made, is_made_native, is_made_script}
 use Rattle.cc_laws_heap.proofs.Holds.{OfSome, OfSome-then, contents-set}
 use Rattle.cc_laws_heap.proofs.Numbered.{set_numbered, change_numbered, numbered-change, numbered-change_other, length-change, numbered-push_old, numbered-push_cases}
@@ -131,24 +131,7 @@ KeepsNative-preserved g k m n here e more t = record {
 
 -- a reflector made, where there was none
 pub KeepsNative-wrapped : (g : Graph) (k : ℕ) → KeepsNative g k as_wrapped
-KeepsNative-wrapped g k n here e more t = record {
-  slots = t.slots;
-  held = t.held;
-  preserved = t.preserved;
-  reflector = λ slots s. fits n.reflector refl slots s;
-  reflector_held = λ slots x s. holds n.reflector refl slots s x;
-}
-  where
-    fits : (o : Option Slots) → n.reflector ≡ o → (slots : Slots) → Some (slots_or_blank o) ≡ Some slots → length slots ≡ reflector_slots
-    fits None r slots s = let same : empty_slots reflector_slots ≡ slots = cc in ap length (sym same)
-    fits (Some old) r slots s = t.reflector slots (r ∙ s)
-
-    holds : (o : Option Slots) → n.reflector ≡ o → (slots : Slots) → Some (slots_or_blank o) ≡ Some slots →
-        (x : Name) → Among x (contents slots) → IsTrue (is_made_script e x)
-    holds None r slots s x m =
-        let same : empty_slots reflector_slots ≡ slots = cc in
-        absurd (contents-empty_none reflector_slots x (subst (λ l. Among x (contents l)) (sym same) m))
-    holds (Some old) r slots s x m = t.reflector_held slots x (r ∙ s) m
+KeepsNative-wrapped g k n here e more t = grind (arith, contents-empty_none)
 
 -- One script object changed
 

@@ -1,5 +1,5 @@
 -- NATIVES HELD, STORED AND MADE: the new reference is taken first, then the place is written, then the old one is given up.
-use Rattle.std.proofs.Common.{◌≡◌, ℕ, ◌+◌, ◌<◌, ◌≤◌, List, ◌++◌, length, Option, Some, None, refl, sym, ◌∙◌, ap, subst, inl, ⊎_elim, arith, option_map, slice_index_or}
+use Rattle.std.proofs.Common.{◌≡◌, ℕ, ◌+◌, ◌<◌, ◌≤◌, List, ◌++◌, length, Option, Some, None, refl, sym, subst, inl, ⊎_elim, arith, option_map, slice_index_or}
 use Rattle.std.specs.Option.{option_and_then}
 use Rattle.cc_lists.specs.Members.{Among}
 use Rattle.cc_lists.proofs.Members.{Among-map_cases}
@@ -9,7 +9,7 @@ use Rattle.cc_names.specs.declared.register.Reg.TheVariants.{N}
 use Rattle.cc_names.specs.Names.{native}
 use Rattle.cc_model.specs.Slots.{Slots}
 use Rattle.cc_model.specs.Checks.{slots_or_none, slots_at}
-use Rattle.cc_model.specs.Heap.{Heap, HeapNative, Outcome, native_at, slots_in, register, set_register, set_slot, change_native, with_native_slot, objects_of}
+use Rattle.cc_model.specs.Heap.{Heap, HeapNative, Outcome, native_at, slots_in, register, set_register, change_native, with_native_slot, objects_of}
 use Rattle.cc_model.specs.Cascade.{take_up, let_go}
 use Rattle.cc_model.specs.Effects.{put_in_register, hold_native, put_in_slot, store_native, with_native, make_native}
 use Rattle.cc_model.specs.WellFormed.{IsWellFormed, native_names, names_there}
@@ -71,10 +71,7 @@ HasSlot-from h d i w room = go (register h (N d)) refl (native_register-there h 
 -- then the slot is written, and what it held is given up
 pub put_in_slot-written : (h : Heap) (d i : ℕ) (x : Option Name) (f : HasSlot h d i) →
     put_in_slot h d i x ≡ let_go (change_native h f.number (with_native_slot i x)) (slice_index_or f.there.slots i None)
-put_in_slot-written h d i x f =
-    ap (λ (o : Option Name). let_go (set_slot h o i x) (slice_index_or (slots_or_none (option_and_then (slots_in h) o)) i None)) f.held
-    ∙ ap (λ (o : Option HeapNative). let_go (change_native h f.number (with_native_slot i x))
-    (slice_index_or (slots_or_none (option_map (λ n. n.slots) o)) i None)) f.found
+put_in_slot-written h d i x f = grind arith
 
 -- a slot of a native written, whose new reference is owned
 put_in_slot-sound : (owned : List ℕ) (h : Heap) (d i : ℕ) (x : Option Name) → IsIn (names_there h) x → HasSlot h d i →

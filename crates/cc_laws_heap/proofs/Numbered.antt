@@ -1,6 +1,5 @@
 -- Members by their numbers, counted from one: of a list with one more member at its end, and with one member changed.
-use Rattle.std.proofs.Common.{◌≡◌, ◌≢◌, ℕ, zero, suc, ◌+◌, ◌-◌, ◌≤◌, List, [], ◌∷◌, ◌++◌, length, set, Option, Some, None, option_map, slice_get, refl, sym, ◌∙◌, ap, subst, inl, inr, ◌⊎◌, ⊎_elim, arith, add-one}
-use Rattle.std.proofs.lemmas.Bool.Decides.{eqb_tells}
+use Rattle.std.proofs.Common.{◌≡◌, ◌≢◌, ℕ, zero, suc, ◌+◌, ◌-◌, ◌≤◌, List, [], ◌∷◌, ◌++◌, length, set, Option, Some, None, option_map, slice_get, refl, sym, ◌∙◌, subst, ◌⊎◌, arith, add-one}
 use Rattle.std.proofs.lemmas.List.{length-set}
 use Rattle.std.proofs.lemmas.Option.{slice_get_within, slice_get_past}
 use Rattle.cc_model.specs.Graph.{numbered}
@@ -48,10 +47,7 @@ numbered-push_old xs y k x e = numbered-push_other xs y k (λ s. absurd (omega (
 -- what has a number had it, or is the last
 pub numbered-push_cases : {X : Type 0} (xs : List X) (y : X) (k : ℕ) (x : X) → numbered (xs ++ y ∷ []) k ≡ Some x →
     (numbered xs k ≡ Some x) ⊎ ((k ≡ length xs + 1) × (y ≡ x))
-numbered-push_cases {X} xs y k x e = ⊎_elim
-    (λ t. let here : Some y ≡ Some x = sym (numbered-push xs y) ∙ (ap (numbered (xs ++ y ∷ [])) (sym t.1) ∙ e) in inr (t.1, cc))
-    (λ t. inl (sym (numbered-push_other xs y k t.1) ∙ e))
-    (eqb_tells k (length xs + 1))
+numbered-push_cases {X} xs y k x e = grind (arith, numbered-push, numbered-push_other)
 
 -- One member changed
 
@@ -97,8 +93,4 @@ numbered-change_other {X} xs (suc i) f (suc j) d = go (slice_get xs i)
 
 -- there are as many as before
 pub length-change : {X : Type 0} (xs : List X) (k : ℕ) (f : X → X) → length (change_numbered xs k f) ≡ length xs
-length-change {X} xs k f = go (numbered xs k)
-  where
-    go : (o : Option X) → length (set_numbered xs k (option_map f o)) ≡ length xs
-    go None = refl
-    go (Some x) = length-set xs (k - 1) (f x)
+length-change {X} xs k f = grind (arith, length-set)

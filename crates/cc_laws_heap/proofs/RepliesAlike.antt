@@ -1,5 +1,5 @@
 -- HEAPS THAT STAND FOR A GRAPH ANSWER AS IT DOES: what the checks and the replies look at is the same in both.
-use Rattle.std.proofs.Common.{◌≡◌, ℕ, [], ◌∷◌, Bool, Option, Some, None, is_none, slice_index_or, refl, sym, ◌∙◌, ap}
+use Rattle.std.proofs.Common.{arith, ◌≡◌, ℕ, Option, Some, None, is_none, slice_index_or, refl, sym, ◌∙◌, ap}
 use Rattle.std.specs.Option.{option_and_then}
 use Rattle.std.specs.List.{list_any}
 use Rattle.std.proofs.Math.Path.{fun_ext}
@@ -8,9 +8,8 @@ use Rattle.cc_names.specs.declared.register.Reg.{Reg}
 use Rattle.cc_names.specs.declared.register.Reg.TheVariants.{N, S}
 use Rattle.cc_model.specs.declared.command.Command.{Command}
 use Rattle.cc_model.specs.declared.command.Command.TheVariants.{Native, Script, WeakMap, CopyNative, CopyScript, Set, Get, Put, Take, Wrap, Unwrap, Preserve, SetEntry, GetEntry, Expose}
-use Rattle.cc_model.specs.declared.item.Refusal.TheVariants.{Empty, Kind, Slot, Full}
 use Rattle.cc_model.specs.Slots.{Slots}
-use Rattle.cc_model.specs.Checks.{Objects, slots_or_none, slots_at, slot_at, value_at, native_of, reflector_of, needed, lacks_object, is_map_in, has_wrong_object, has_no_slot, is_native_there, is_script_there, has_wrong_content, is_full, first_refusal, refusal_of, reply_if_taken, named_or_nothing}
+use Rattle.cc_model.specs.Checks.{Objects, slots_or_none, slots_at, slot_at, value_at, native_of, reflector_of, needed, lacks_object, is_map_in, has_wrong_object, has_no_slot, is_native_there, is_script_there, has_wrong_content, is_full, refusal_of, reply_if_taken, named_or_nothing}
 use Rattle.cc_model.specs.Graph as graph
 use Rattle.cc_model.specs.Graph.{Graph}
 use Rattle.cc_model.specs.Reached.{Reached, held}
@@ -78,11 +77,7 @@ module _ (o p : Objects) (a : AreAlike o p) where
   -- THE SAME IS REFUSED, for the same cause.
   pub refusal_of-alike : (c : Command) → refusal_of o c ≡ refusal_of p c
   unfolding refusal_of
-  refusal_of-alike c = same (lacks_object-alike c) (has_wrong_object-alike c) (has_no_slot-alike c) (has_wrong_content-alike c) (is_full-alike c)
-    where
-      same : {q r s t u q' r' s' t' u' : Bool} → q ≡ q' → r ≡ r' → s ≡ s' → t ≡ t' → u ≡ u' →
-          first_refusal ((q, Empty) ∷ (r, Kind) ∷ (s, Slot) ∷ (t, Kind) ∷ (u, Full) ∷ []) ≡ first_refusal ((q', Empty) ∷ (r', Kind) ∷ (s', Slot) ∷ (t', Kind) ∷ (u', Full) ∷ [])
-      same e f j k l = λ i. first_refusal ((e i, Empty) ∷ (f i, Kind) ∷ (j i, Slot) ∷ (k i, Kind) ∷ (l i, Full) ∷ [])
+  refusal_of-alike c = grind (arith, lacks_object-alike, has_wrong_object-alike, has_no_slot-alike, has_wrong_content-alike, is_full-alike)
 
   -- THE SAME IS REPLIED.
   pub reply_if_taken-alike : (c : Command) → reply_if_taken o c ≡ reply_if_taken p c

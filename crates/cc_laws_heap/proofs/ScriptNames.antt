@@ -1,5 +1,5 @@
 -- Names of script objects are none of natives'.
-use Rattle.std.proofs.Common.{◌≡◌, ℕ, true, false, refl, subst, ◌≤◌, ◌∙◌, ap, count_by}
+use Rattle.std.proofs.Common.{arith, ◌≡◌, ℕ, true, false, refl, subst, ◌≤◌, ◌∙◌, ap, count_by}
 use Rattle.std.proofs.Math.Path.{fun_ext}
 use Rattle.cc_lists.specs.Members.{Among}
 use Rattle.cc_lists.proofs.Members.{Among-map_cases}
@@ -25,9 +25,7 @@ script-named h w o m = fits-named o.name o.kind o.slots (w.kinds o m)
 
 -- the same of the names of script objects
 pub script_names-named : (h : Heap) → IsWellFormed h → (x : Name) → Among x (script_names h) → is_script x ≡ true
-script_names-named h w x m =
-    let f = Among-map_cases (λ (o : HeapScript). o.name) h.scripts x m in
-    subst (λ y. is_script y ≡ true) f.2 (script-named h w f.0 f.1)
+script_names-named h w x m = grind (arith, Among-map_cases, script-named)
 
 -- the map and the key of an entry are none of natives
 pub entry-named : (h : Heap) → IsWellFormed h → (e : Entry) → Among e h.entries → (is_script e.the_map ≡ true) × (is_script e.key ≡ true)

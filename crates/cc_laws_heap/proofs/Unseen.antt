@@ -1,5 +1,5 @@
 -- WHAT THE GRAPH DOES NOT SEE: counts, the buffer, colours, and natives that a cascade takes out.
-use Rattle.std.proofs.Common.{◌≡◌, ℕ, ◌+◌, Bool, true, false, map, Option, Some, None, refl, sym, ◌∙◌, ap, subst, if◌then◌else◌}
+use Rattle.std.proofs.Common.{arith, ◌≡◌, ℕ, Bool, true, false, map, Option, Some, None, refl, sym, ◌∙◌, ap, subst, if◌then◌else◌}
 use Rattle.cc_lists.specs.Members.{Among, has}
 use Rattle.cc_lists.proofs.Members.{Among-map_cases, Among-filtered}
 use Rattle.cc_names.specs.declared.name.Name.{Name}
@@ -24,9 +24,7 @@ Leaves-refl h = record {
 
 -- a reference taken
 pub Leaves-add_ref : (h : Heap) (k : ℕ) → Leaves h (add_ref h k)
-Leaves-add_ref h k = Leaves-uncounted h (add_ref h k)
-    (λ u i. subst (Among u) (uncounted-change h k (λ n. record n { count = n.count + 1 }) (λ n. refl)) i)
-    (SameBeside-with h (add_ref h k).natives (add_ref h k).buffer)
+Leaves-add_ref h k = grind (arith, Leaves-uncounted, uncounted-change, SameBeside-with)
 
 -- a reference to what a register or a slot is to hold taken
 pub Leaves-take_up : (h : Heap) (x : Option Name) → Leaves h (take_up h x)

@@ -1,9 +1,8 @@
 -- A SLOT WRITTEN ALIKE, OR A REFLECTOR PRESERVED ALIKE, in heaps and in the graph that they follow.
-use Rattle.std.proofs.Common.{◌≡◌, ℕ, Bool, true, false, List, set, Option, Some, None, option_map, refl, sym, ◌∙◌, ap, subst, ⊎_elim, if◌then◌else◌, ◌==◌}
+use Rattle.std.proofs.Common.{arith, ◌≡◌, ℕ, Bool, true, false, List, set, Option, Some, None, option_map, refl, sym, ◌∙◌, ap, subst, if◌then◌else◌, ◌==◌}
 use Rattle.std.specs.Prelude.{IsTrue}
 use Rattle.std.specs.Option.{option_and_then}
 use Rattle.std.proofs.lemmas.Bool.{false≢true}
-use Rattle.std.proofs.lemmas.Bool.Decides.{eqb_tells}
 use Rattle.cc_lists.specs.Members.{Among}
 use Rattle.cc_lists.proofs.Members.{Among-map_cases}
 use Rattle.cc_names.specs.declared.name.Name.{Name}
@@ -47,14 +46,7 @@ changed-read_some g a f same b (Some x) = ap (λ s. Some s) (changed-read g a f 
 
 -- a member of a list in which one changed
 pub numbered-changed : {X : Type 0} (xs : List X) (k : ℕ) (f : X → X) (j : ℕ) → numbered (change_numbered xs k f) j ≡ option_map (λ x. if j == k then f x else x) (numbered xs j)
-numbered-changed {X} xs k f j = ⊎_elim
-    (λ t. ap (numbered (change_numbered xs k f)) t.1 ∙ (numbered-change xs k f ∙ (ap (λ i. option_map f (numbered xs i)) (sym t.1) ∙ rw t.0 refl)))
-    (λ t. numbered-change_other xs k f j t.1 ∙ rw t.0 (same (numbered xs j)))
-    (eqb_tells j k)
-  where
-    same : (o : Option X) → o ≡ option_map (λ x. x) o
-    same None = refl
-    same (Some x) = refl
+numbered-changed {X} xs k f j = grind (arith, numbered-change, numbered-change_other)
 
 -- a native changed, its reflector left
 pub GraphChanges-native : (g : Graph) (k : ℕ) (a : GraphNative → GraphNative) (f : Shape → Shape) → ((n : GraphNative) → shape_of_native (a n) ≡ f (shape_of_native n)) →
