@@ -37,8 +37,7 @@ GraphChanges f g e = (x : Name) → shape_in e x ≡ option_map (f x) (shape_in 
 
 -- what is some after a map is the map of something
 pub option_map-found : {X Y : Type 0} (f : X → Y) (o : Option X) (y : Y) → option_map f o ≡ Some y → (x : X) × (o ≡ Some x) × (f x ≡ y)
-option_map-found f None y e = absurd (cc)
-option_map-found f (Some x) y e = let same : f x ≡ y = cc in (x, refl, same)
+option_map-found f x y e = grind arith
 
 -- objects that only `P` holds of change
 pub AreObjects-changed : (P : Name → Type 0) (f : Change) (h k : Heap) (g e : Graph) → HeapChanges f h k → GraphChanges f g e →
@@ -146,8 +145,7 @@ Follows-changed P f h k g e heap graph a b c t = record {
 
 -- a map that changes nothing
 pub option_map-same : (o : Option Shape) → o ≡ option_map (λ s. s) o
-option_map-same None = refl
-option_map-same (Some s) = refl
+option_map-same o = grind arith
 
 -- to change nothing is a change
 pub IsChange-unchanged : (P : Name → Type 0) (h : Heap) (g : Graph) → Follows P h g → IsChange P unchanged g

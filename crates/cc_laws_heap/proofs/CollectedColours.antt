@@ -62,11 +62,7 @@ module _ (h : Heap) (c : HasColours h) (none : unmarked h ≡ []) where
 
   -- Colours of marking, none of them white, keep the colour invariant.
   IsColoured-colours : IsColoured h
-  IsColoured-colours = record {
-    black_to_black = λ o p m n e i. is-black h c p n (black-slot h o p.name m i (black-is h c o m e));
-    held_black = λ o m i. is-black h c o m (black-register h o.name i);
-    none_white = none-white;
-  }
+  IsColoured-colours = search (is-black, black-slot, black-is, black-register, none-white)
 
 -- A SCRIPT COLLECTION LEAVES THE COLOUR INVARIANT.
 pub collect_scripts-invariant : {owned : List ℕ} (h : Heap) → IsSound owned h → HasColourInvariant (view (collect_scripts h).heap)

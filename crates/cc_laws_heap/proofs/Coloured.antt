@@ -34,24 +34,19 @@ IsColoured h = AreColoured h.scripts h.script_registers
 
 -- what is neither white nor gray is black
 black-left : (c : Colour) → c ≢ White → c ≢ Gray → c ≡ Black
-black-left White w g = absurd (w refl)
-black-left Gray w g = absurd (g refl)
-black-left Black w g = refl
+black-left c w g = grind arith
 
 -- the test of black tells black
 pub is_black-true : (c : Colour) → is_black_colour c ≡ true → c ≡ Black
-is_black-true Black e = refl
-is_black-true _ e = absurd (false≢true e)
+is_black-true c e = grind arith
 
 -- what passes the test of gray is not black
 is_gray-not_black : (c : Colour) → is_gray_colour c ≡ true → c ≢ Black
-is_gray-not_black Gray e f = absurd (cc)
-is_gray-not_black _ e f = absurd (false≢true e)
+is_gray-not_black c e f = grind arith
 
 -- what is not white does not pass the test of white
 is_white-false : (c : Colour) → c ≢ White → is_white_colour c ≡ false
-is_white-false White w = absurd (w refl)
-is_white-false _ w = refl
+is_white-false c w = grind arith
 
 -- Script objects and their names
 

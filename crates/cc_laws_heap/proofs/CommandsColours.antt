@@ -86,13 +86,11 @@ put_in_script-coloured h _ i y black c = c
 
 -- a reflector preserved keeps colours
 preserve-coloured : (h : Heap) (x : Option Name) → IsColoured h → IsColoured (preserve h x)
-preserve-coloured h (Some (name.Native k)) c = c
-preserve-coloured h _ c = c
+preserve-coloured h x c = grind arith
 
 -- an entry set or taken out keeps colours
 set_entry-coloured : (h : Heap) (m k v : Option Name) → IsColoured h → IsColoured (set_entry h m k v)
-set_entry-coloured h (Some m) (Some k) (Some v) c = preserve-coloured h (Some k) c
-set_entry-coloured h _ _ _ c = c
+set_entry-coloured h m k v c = grind (arith, preserve-coloured)
 
 -- A command that is not refused keeps the colours.
 pub effects-coloured : {owned : List ℕ} (h : Heap) (c : Command) → IsSound owned h → IsColoured h → IsTrue (in_range c) → IsTaken (objects_of h) c →
@@ -107,14 +105,12 @@ effects-coloured {owned} h (Drop (N d)) s c r t = SameScripts-coloured h (put_in
 effects-coloured {owned} h (Drop (S d)) s c r t = AreColoured-register h.scripts h.script_registers d None (λ o m i. absurd i) c
 effects-coloured {owned} h (Set d i q) s c r t = SameScripts-coloured h (store_native h d i (source h q)).heap
     (store_native-scripts owned h d i (source h q) (source-there h q s.well_formed) (leb-false (length (slots_at (objects_of h) (N d))) i t.slot) s) c
-effects-coloured {owned} h (Get (N d) q i) s c r t = SameScripts-coloured h (hold_native h d (slot_at (objects_of h) (N q) i)).heap
-    (hold_native-scripts h d (slot_at (objects_of h) (N q) i)) c
+effects-coloured {owned} h (Get (N d) q i) s c r t = grind (arith, SameScripts-coloured, hold_native-scripts)
 effects-coloured {owned} h (Get (S d) q i) s c r t = exposed_register-coloured h d (slot_at (objects_of h) (N q) i) c
 effects-coloured {owned} h (Put d i q) s c r t = put_in_script-coloured h (register h (S d)) i (source h (option_map S q)) (script_source-black h q c) c
 effects-coloured {owned} h (Take d q i) s c r t = exposed_register-coloured h d (slot_at (objects_of h) (S q) i) c
 effects-coloured {owned} h (Wrap d q) s c r t = wrapped-coloured h d (register h (N q)) c
-effects-coloured {owned} h (Unwrap d q) s c r t = SameScripts-coloured h (hold_native h d (native_of (register h (S q)))).heap
-    (hold_native-scripts h d (native_of (register h (S q)))) c
+effects-coloured {owned} h (Unwrap d q) s c r t = grind (arith, SameScripts-coloured, hold_native-scripts)
 effects-coloured {owned} h (Preserve q) s c r t = preserve-coloured h (register h (S q)) c
 effects-coloured {owned} h (SetEntry m k v) s c r t = set_entry-coloured h (register h (S m)) (register h (S k)) (source h (option_map S v)) c
 effects-coloured {owned} h (GetEntry d m k) s c r t = exposed_register-coloured h d (value_at (objects_of h) (register h (S m)) (register h (S k))) c

@@ -65,8 +65,7 @@ module _ (h : Heap) (g : Graph) (w : IsWellFormed h) (m : IsWellMade g) (s : Sta
 
   -- and so does a script source
   script_source-alike : (r : Option ℕ) → heap.source h (option_map S r) ≡ graph.source g (option_map S r)
-  script_source-alike None = refl
-  script_source-alike (Some r) = a.register (S r)
+  script_source-alike r = grind arith
 
   -- what a native register holds has no native whose reflector it is
   native-preserved : (d : ℕ) → OfSome (IsPreserved g) (graph.register g (N d))
@@ -150,17 +149,7 @@ command-stands h g c sound m s r t = effects-follow h g sound.well_formed m s c 
 -- what a command tells as freed are natives that are there no more
 effects-gone : (h : Heap) (c : Command) → TellsWhatIsGone (effects h c)
 unfolding effects make_native hold_native store_native
-effects-gone h (Native d n) = let_go-gone _ _
-effects-gone h (CopyNative d s) = let_go-gone _ _
-effects-gone h (Drop (N d)) = let_go-gone _ _
-effects-gone h (Set d i r) = let_go-gone _ _
-effects-gone h (Get (N d) s i) = let_go-gone _ _
-effects-gone h (Get (S d) s i) = λ x i. absurd i
-effects-gone h (Put d i s) = λ x i. absurd i
-effects-gone h (Take d s i) = λ x i. absurd i
-effects-gone h (Unwrap d s) = let_go-gone _ _
-effects-gone h (Expose s i) = λ x i. absurd i
-effects-gone h _ = λ x i. absurd i
+effects-gone h c = grind (arith, let_go-gone)
 
 -- NOTHING THAT WAS FREED IS REACHED.
 pub freed-unreached : {owned : List ℕ} (h : Heap) (g : Graph) (c : Command) (x : Name) → IsSound owned h → IsWellMade g → StandsFor h g → IsTrue (in_range c) →

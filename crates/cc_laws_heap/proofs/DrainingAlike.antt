@@ -24,17 +24,7 @@ IsAlike-trans d e f a b = grind (arith, SameBeside-trans)
 
 -- a count that falls leaves the heaps alike
 IsAlike-fallen : (d : Draining) (k c : ℕ) → IsAlike d (fallen d k c)
-IsAlike-fallen d k zero = IsAlike-refl d
-IsAlike-fallen d k (suc zero) = record {
-  natives = uncounted-change d.heap k lower_native (λ n. refl);
-  beside = SameBeside-with d.heap (lower d.heap k).natives (forget d.heap k).buffer;
-  events = refl;
-}
-IsAlike-fallen d k (suc (suc c)) = record {
-  natives = uncounted-change d.heap k lower_native (λ n. refl);
-  beside = SameBeside-with d.heap (lower d.heap k).natives (suspect d.heap k).buffer;
-  events = refl;
-}
+IsAlike-fallen d k c = grind (arith, IsAlike-refl, uncounted-change, SameBeside-with)
 
 -- a reference given up leaves the heaps alike
 pub IsAlike-give_up : (d : Draining) (k : ℕ) → IsAlike d (give_up d k)

@@ -36,11 +36,7 @@ is_pair-other m k a b e f p =
 
 -- the value after an entry was set
 value_in-set : (es : List Entry) (m k v a b : Name) → value_in (with_entry es m k v) a b ≡ cond (is_pair m k a b) (Some v) (value_in es a b)
-value_in-set [] m k v a b = go (is_pair m k a b)
-  where
-    go : (t : Bool) → elim t as (λ _. Option Name) [ true ↦ Some v | false ↦ None ] ≡ cond t (Some v) None
-    go true = refl
-    go false = refl
+value_in-set [] m k v a b = grind arith
 value_in-set (e ∷ es) m k v a b = go (value_in-set es m k v a b) (is_entry_of m k e) refl (is_pair m k a b) refl
   where
     go : value_in (with_entry es m k v) a b ≡ cond (is_pair m k a b) (Some v) (value_in es a b) → (t : Bool) → is_entry_of m k e ≡ t → (p : Bool) → is_pair m k a b ≡ p →
@@ -56,11 +52,7 @@ value_in-set (e ∷ es) m k v a b = go (value_in-set es m k v a b) (is_entry_of 
 
 -- the value after an entry was taken out
 value_in-without : (es : List Entry) (m k a b : Name) → value_in (without_entry es m k) a b ≡ cond (is_pair m k a b) None (value_in es a b)
-value_in-without [] m k a b = go (is_pair m k a b)
-  where
-    go : (t : Bool) → value_in [] m k ≡ cond t None (value_in [] m k)
-    go true = refl
-    go false = refl
+value_in-without [] m k a b = grind arith
 value_in-without (e ∷ es) m k a b = go (value_in-without es m k a b) (is_entry_of m k e) refl (is_pair m k a b) refl
   where
     go : value_in (without_entry es m k) a b ≡ cond (is_pair m k a b) None (value_in es a b) → (t : Bool) → is_entry_of m k e ≡ t → (p : Bool) → is_pair m k a b ≡ p →

@@ -75,9 +75,7 @@ removed-lower h j k = grind (arith, filter-map, changed_at-number)
 
 -- the same while natives are deleted, by the count before
 without_native-fallen : (d : Draining) (j k c : ℕ) → without_native (fallen d j c) k ≡ fallen (without_native d k) j c
-without_native-fallen d j k zero = refl
-without_native-fallen d j k (suc zero) = ap (λ h. record d { heap = forget h j; queue = d.queue ++ j ∷ [] }) (removed-lower d.heap j k)
-without_native-fallen d j k (suc (suc c)) = ap (λ h. record d { heap = suspect h j }) (removed-lower d.heap j k)
+without_native-fallen d j k c = grind (arith, removed-lower)
 
 -- one reference given up to another native than that taken out
 without_native-give_up : (d : Draining) (j k : ℕ) → j ≢ k → without_native (give_up d j) k ≡ give_up (without_native d k) j

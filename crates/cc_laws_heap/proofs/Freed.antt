@@ -25,11 +25,7 @@ freed_event k = Freed (native k)
 
 -- to be none of a list and one more is to be none of the list, and not that one
 is_none_of-push : (ks : List ℕ) (k : ℕ) (u : Uncounted) → is_none_of (ks ++ k ∷ []) u ≡ (is_none_of ks u && not (u.number == k))
-is_none_of-push [] k u = rw (eqb-sym u.number k) (or_false (k == u.number))
-  where
-    or_false : (b : Bool) → not (b || false) ≡ not b
-    or_false true = refl
-    or_false false = refl
+is_none_of-push [] k u = grind (arith, eqb-sym)
 is_none_of-push (i ∷ js) k u = go (i == u.number) (is_none_of-push js k u)
   where
     go : (b : Bool) → is_none_of (js ++ k ∷ []) u ≡ (is_none_of js u && not (u.number == k)) →

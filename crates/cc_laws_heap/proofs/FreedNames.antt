@@ -17,9 +17,7 @@ use Rattle.cc_model.specs.Entries.{Entry}
 -- two lists taken out in turn are taken out together
 pub filter-not_among : {X : Type 0} (f : X → Name) (xs ys : List Name) (zs : List X) →
     filter (λ z. is_not_among ys (f z)) (filter (λ z. is_not_among xs (f z)) zs) ≡ filter (λ z. is_not_among (xs ++ ys) (f z)) zs
-filter-not_among f xs ys zs =
-    filter-filter (λ z. is_not_among ys (f z)) (λ z. is_not_among xs (f z)) zs
-    ∙ ap (λ p. filter p zs) (fun_ext (λ z. sym (is_not_among-append xs ys (f z))))
+filter-not_among f xs ys zs = search (filter-filter, is_not_among-append)
 
 -- where nothing was done nothing was taken out
 pub FreesNames-silently : (h : Heap) → FreesNames h [] (silently h)

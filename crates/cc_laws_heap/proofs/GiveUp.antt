@@ -52,12 +52,7 @@ give_up-cases P d k some none zero_left some_left = grind arith
 
 -- no more than one
 pub living-one : (o : Option HeapNative) → living o ≤ 1
-living-one None = omega arith
-living-one (Some n) = go n.count
-  where
-    go : (c : ℕ) → one_above_zero c ≤ 1
-    go zero = omega arith
-    go (suc c) = omega arith
+living-one o = grind arith
 
 module _ (owned : List ℕ) (d : Draining) (k : ℕ) (b : IsBalanced (k ∷ owned) d) (n : HeapNative) (e : native_at d.heap k ≡ Some n) where
   -- how often the native waits before its count falls

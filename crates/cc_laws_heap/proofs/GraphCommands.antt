@@ -29,8 +29,7 @@ use Rattle.cc_laws_heap.proofs.Making.{contents-empty_none}
 
 -- a slot written takes no reflector away
 pub KeepsReflector-slot : (i : ℕ) (x : Option Name) (o : Option Slots) → is_some o ≡ true → is_some (option_map (λ (slots : Slots). set slots i x) o) ≡ true
-KeepsReflector-slot i x None e = e
-KeepsReflector-slot i x (Some slots) e = refl
+KeepsReflector-slot i x o e = grind arith
 
 -- a reflector preserved changes nothing else
 Grows-preserve : (g : Graph) (o : Option Name) → Grows g (preserve g o)
@@ -41,19 +40,7 @@ Grows-preserve g (Some (name.Reflector k)) = Grows-change_native g k.0 as_preser
 
 -- what has no slots and was made is a weak map
 map-made : (g : Graph) (x : Name) → MadeScript g x → is_none (slots_in g x) ≡ true → (k : ℕ) × (x ≡ object k) × (script_in g k ≡ Some weak_map)
-map-made g (name.Native k) s e = absurd (false≢true s)
-map-made g (name.Script k) s e = go (is_some-found (script_in g k.0) s)
-  where
-    go : (o : GraphScript) × (script_in g k.0 ≡ Some o) → (j : ℕ) × (object k.0 ≡ object j) × (script_in g j ≡ Some weak_map)
-    go f = kind f.0 f.1
-      where
-        kind : (o : GraphScript) → script_in g k.0 ≡ Some o → (j : ℕ) × (object k.0 ≡ object j) × (script_in g j ≡ Some weak_map)
-        kind (plain_object slots) i = absurd (false≢true (sym (rw i refl) ∙ e))
-        kind weak_map i = (k.0, refl, i)
-map-made g (name.Reflector k) s e =
-    let f = reflector-made g k.0 s in
-    let r = is_some-found f.0.reflector f.2 in
-    absurd (false≢true (sym (rw (f.1, r.1) refl) ∙ e))
+map-made g x s e = grind (arith, is_some-found, reflector-made)
 
 module _ (g : Graph) (w : IsWellMade g) where
   -- Writes of slots and entries, reflectors preserved and made
@@ -84,13 +71,7 @@ module _ (g : Graph) (w : IsWellMade g) where
 
   -- the reflector of a native that was made is made then
   wrapped-made : (o : Option Name) → OfSome (MadeNative g) o → OfSome (MadeScript (wrapped g o)) (reflector_of o)
-  wrapped-made (Some (name.Native k)) m =
-      let f = is_some-found (native_in g k.0) m in
-      let after : native_in (wrapped g (Some (name.Native k))) k.0 ≡ Some (as_wrapped f.0) =
-      ap (λ (e : Graph). native_in e k.0) (set_native-is g k.0 (option_map as_wrapped (native_in g k.0)))
-      ∙ (numbered-change g.natives k.0 as_wrapped ∙ ap (option_map as_wrapped) f.1) in
-      was_made-reflector (wrapped g (Some (name.Native k))) k.0 (as_wrapped f.0) after refl
-  wrapped-made _ m = tt
+  wrapped-made o m = grind (arith, is_some-found, set_native-is, numbered-change, was_made-reflector)
 
   -- an entry of a weak map set, or taken out
   set_entry-well : (m k v : Option Name) → OfSome (λ x. MadeScript g x × (is_none (slots_in g x) ≡ true)) m → OfSome (MadeScript g) k → OfSome (MadeScript g) v → IsWellMade (set_entry g m k v)
@@ -112,11 +93,7 @@ module _ (g : Graph) (w : IsWellMade g) where
 
 -- a reflector preserved, and a slot of a script object written
 put-well : (g : Graph) → IsWellMade g → (o : Option Name) (i : ℕ) (x : Option Name) → OfSome (MadeScript g) o → OfSome (MadeScript g) x → IsWellMade (set_slot (preserve g o) o i x)
-put-well g w o i x t m = script_slot-well (preserve g o) (preserve-well g w o (OfSome-then (MadeScript g) (Made g) (MadeScript-made g) o t)) o i x
-    (OfSome-then (MadeScript g) (MadeScript (preserve g o)) more o t) (OfSome-then (MadeScript g) (MadeScript (preserve g o)) more x m)
-  where
-    more : (y : Name) → MadeScript g y → MadeScript (preserve g o) y
-    more = is_made_script-grows g (preserve g o) (Grows-preserve g o)
+put-well g w o i x t m = search (script_slot-well, preserve-well, OfSome-then, MadeScript-made, is_made_script-grows, Grows-preserve)
 
 module _ (g : Graph) (w : IsWellMade g) where
   -- EACH COMMAND that is not refused leaves the graph well made.

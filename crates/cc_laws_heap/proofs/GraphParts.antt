@@ -15,8 +15,7 @@ use Rattle.cc_model.specs.WellMade.{IsWellMade, IsMadeEntry, was_made, is_made_n
 
 -- what is some, is something
 pub is_some-found : {X : Type 0} (o : Option X) → is_some o ≡ true → (x : X) × (o ≡ Some x)
-is_some-found None e = absurd (false≢true e)
-is_some-found (Some x) e = (x, refl)
+is_some-found f e = grind arith
 
 -- A native that was made, and has a number, was made
 pub was_made-native : (g : Graph) (k : ℕ) (n : GraphNative) → native_in g k ≡ Some n → IsTrue (was_made g (native k))

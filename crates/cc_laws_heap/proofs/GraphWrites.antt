@@ -38,8 +38,7 @@ IsWellMade-script_register g d x w m = IsWellMade-registers g g.native_registers
 
 -- a native replaced, as a list of natives
 pub set_native-is : (g : Graph) (k : ℕ) (o : Option GraphNative) → set_native g k o ≡ with_natives g (set_numbered g.natives k o)
-set_native-is g k None = refl
-set_native-is g k (Some n) = refl
+set_native-is g k o = grind arith
 
 -- a native that was changed fits, however much more was made
 abbrev pub KeepsNative : Graph → ℕ → (GraphNative → GraphNative) → Type 0
@@ -137,8 +136,7 @@ KeepsNative-wrapped g k n here e more t = grind (arith, contents-empty_none)
 
 -- a script object replaced, as a list of script objects
 pub set_script-is : (g : Graph) (k : ℕ) (o : Option GraphScript) → set_script g k o ≡ with_scripts g (set_numbered g.scripts k o)
-set_script-is g k None = refl
-set_script-is g k (Some s) = refl
+set_script-is g k o = grind arith
 
 -- slot i of a plain object written with a script object that was made
 pub IsWellMade-script_slot : (g : Graph) (k i : ℕ) (x : Option Name) → IsWellMade g → OfSome (λ y. IsTrue (is_made_script g y)) x →

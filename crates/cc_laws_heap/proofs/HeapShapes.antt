@@ -46,14 +46,7 @@ script-found h x s e = grind (arith, find-among, same_name-true, find-passes)
 pub shape_at-found : (h : Heap) (x : Name) (s : Shape) → shape_at h x ≡ Some s →
     ((n : HeapNative) × Among n h.natives × (native n.number ≡ x) × (shape_of_held_native n ≡ s)) ⊎
     ((o : HeapScript) × Among o h.scripts × (o.name ≡ x) × (shape_of_held_script o ≡ s))
-shape_at-found h (name.Native k) s e = inl (found (native_at h k.0) refl e)
-  where
-    found : (o : Option HeapNative) → native_at h k.0 ≡ o → option_map shape_of_held_native o ≡ Some s →
-        (n : HeapNative) × Among n h.natives × (native n.number ≡ name.Native k) × (shape_of_held_native n ≡ s)
-    found None i f = absurd (cc)
-    found (Some n) i f = let same : shape_of_held_native n ≡ s = cc in (n, native_at-there h k.0 n i, ap native (native_at-number h k.0 n i), same)
-shape_at-found h (name.Script k) s e = inr (script-found h (name.Script k) s e)
-shape_at-found h (name.Reflector k) s e = inr (script-found h (name.Reflector k) s e)
+shape_at-found h x s e = grind (arith, native_at-there, native_at-number, script-found)
 
 -- what has a shape is there
 pub shape_at-there : (h : Heap) (x : Name) (s : Shape) → shape_at h x ≡ Some s → Among x (names_there h)

@@ -1,5 +1,5 @@
 -- WHAT REGISTERS, SLOTS AND ENTRIES OF WELL FORMED HEAPS HOLD is there.
-use Rattle.std.proofs.Common.{slice_index_or, ◌≡◌, ℕ, true, false, Option, Some, None, is_some, refl, sym, ◌∙◌, ap, subst, inl, ⊎_elim, option_map}
+use Rattle.std.proofs.Common.{arith, slice_index_or, ◌≡◌, ℕ, true, false, Option, Some, None, is_some, refl, sym, ◌∙◌, ap, subst, inl, ⊎_elim, option_map}
 use Rattle.std.specs.Option.{option_and_then}
 use Rattle.std.proofs.lemmas.Bool.{true≢false}
 use Rattle.cc_lists.specs.Members.{Among}
@@ -73,13 +73,11 @@ register-there h (S d) w = IsIn-scripts h (register h (S d)) (script_register-th
 
 -- and so does a source, where it is none or a register
 pub source-there : (h : Heap) (r : Option Reg) → IsWellFormed h → IsIn (names_there h) (source h r)
-source-there h None w = λ y m. absurd m
-source-there h (Some r) w = register-there h r w
+source-there h r w = grind (arith, register-there)
 
 -- or none or a script register
 pub script_source-there : (h : Heap) (s : Option ℕ) → IsWellFormed h → IsIn (script_names h) (source h (option_map S s))
-script_source-there h None w = λ y m. absurd m
-script_source-there h (Some d) w = script_register-there h d w
+script_source-there h s w = grind (arith, script_register-there)
 
 -- Slots
 

@@ -36,8 +36,7 @@ HoldsTheSame-add_ref h k = grind (arith, SameBeside-with, uncounted-change)
 
 -- and so does a reference to what a register or a slot is to hold
 pub HoldsTheSame-take_up : (h : Heap) (x : Option Name) → HoldsTheSame h (take_up h x)
-HoldsTheSame-take_up h (Some (name.Native k)) = HoldsTheSame-add_ref h k.0
-HoldsTheSame-take_up h _ = HoldsTheSame-refl h
+HoldsTheSame-take_up h x = grind (arith, HoldsTheSame-add_ref, HoldsTheSame-refl)
 
 module _ (h g : Heap) (a : HoldsTheSame h g) where
   -- the same natives are there
@@ -57,8 +56,7 @@ module _ (h g : Heap) (a : HoldsTheSame h g) where
 
   -- registers hold the same
   pub register-alike : (r : Reg) → register g r ≡ register h r
-  register-alike (N d) = rw a.beside.native_registers refl
-  register-alike (S d) = rw a.beside.script_registers refl
+  register-alike r = grind arith
 
   -- natives have the same slots
   native_slots-alike : (k : ℕ) → option_map (λ (n : HeapNative). n.slots) (native_at g k) ≡ option_map (λ (n : HeapNative). n.slots) (native_at h k)
@@ -75,8 +73,7 @@ module _ (h g : Heap) (a : HoldsTheSame h g) where
 
   -- objects have the same slots
   pub slots_in-alike : (x : Name) → slots_in g x ≡ slots_in h x
-  slots_in-alike (name.Native k) = native_slots-alike k.0
-  slots_in-alike x = ap (λ os. option_and_then slots_of_script (find (λ o. same_name o.name x) os)) a.beside.scripts
+  slots_in-alike x = grind (arith, native_slots-alike)
 
   -- what a register holds has the same slots
   pub slots_at-alike : (r : Reg) → slots_at (objects_of g) r ≡ slots_at (objects_of h) r

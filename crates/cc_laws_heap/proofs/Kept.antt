@@ -66,13 +66,11 @@ IsWellFormed-registers h ns ss w r = IsWellFormed-beside h ns ss h.entries h.buf
 -- other entries alone,
 pub IsWellFormed-entries : (h : Heap) (es : List Entry) → IsWellFormed h → ((e : Entry) → Among e es → HasMembers h e) →
     ((m k : Name) → count_by (is_entry_of m k) es ≤ 1) → IsWellFormed (with_entries h es)
-IsWellFormed-entries h es w members once =
-    IsWellFormed-beside h h.native_registers h.script_registers es h.buffer w (AreRegisters-own h w) (record { members = members; once = once }) (IsBuffer-own h w)
+IsWellFormed-entries h es w members once = grind (arith, IsWellFormed-beside, AreRegisters-own, IsBuffer-own)
 
 -- and another buffer alone
 pub IsWellFormed-buffer : (h : Heap) (bs : List Buffered) → IsWellFormed h → IsBuffer h bs → IsWellFormed (with_buffer h bs)
-IsWellFormed-buffer h bs w b =
-    IsWellFormed-beside h h.native_registers h.script_registers h.entries bs w (AreRegisters-own h w) (AreEntries-own h w) b
+IsWellFormed-buffer h bs w b = search (IsWellFormed-beside, AreRegisters-own, AreEntries-own)
 
 -- Natives
 

@@ -58,8 +58,7 @@ named-numbers_there h k m = grind (arith, named-member, Among-map)
 
 -- what is there now was there before
 pub Leave-before : (h : Heap) (freed : List ℕ) (g : Heap) → Leave h freed g → (k : ℕ) → Among (native k) (native_names g) → Among (native k) (native_names h)
-Leave-before h freed g l k m =
-    numbers_there-named h k (Among-filtered (is_left freed) k (numbers_there h) (subst (λ ks. Among k ks) l.numbers (named-numbers_there g k m)))
+Leave-before h freed g l k m = grind (arith, numbers_there-named, Among-filtered, named-numbers_there)
 
 -- what is there now was not freed
 pub Leave-not_freed : (h : Heap) (freed : List ℕ) (g : Heap) → Leave h freed g → (k : ℕ) → Among (native k) (native_names g) → ¬ (Among k freed)
@@ -124,8 +123,7 @@ Leave-refl h = Leave-same h h (SameBeside-refl h) refl
 -- nothing leaves where a native changes and keeps its number, whatever the buffer is
 Leave-changed : (h : Heap) (k : ℕ) (f : HeapNative → HeapNative) (bs : List Buffered) → KeepsNumber f →
     Leave h [] (record h { natives = (change_native h k f).natives; buffer = bs })
-Leave-changed h k f bs e = Leave-same h (record h { natives = (change_native h k f).natives; buffer = bs }) (SameBeside-with h (change_native h k f).natives bs)
-    (map-kept (λ (n : HeapNative). n.number) (changed_at k f) h.natives (changed_at-number k f e))
+Leave-changed h k f bs e = grind (arith, Leave-same, SameBeside-with, map-kept, changed_at-number)
 
 -- nothing leaves where a native changes and keeps its number, and the buffer stays
 pub Leave-change_native : (h : Heap) (k : ℕ) (f : HeapNative → HeapNative) → KeepsNumber f → Leave h [] (change_native h k f)
@@ -147,11 +145,7 @@ LeavesTo s es t = Leave s.heap (freed_numbers es) t.heap
 
 -- what the end of a collection does besides takes none out
 ending-leaves : (ks : List ℕ) (s : Stage) (es : List Event) (t : Stage) → Ending ks s es t → LeavesTo s es t
-ending-leaves ks _ _ _ (reordered early late h same) = Leave-refl h
-ending-leaves ks _ _ _ (raised hand h k m) = Leave-add_ref h k
-ending-leaves ks _ _ _ (unlinked hand h k m) = Leave-refl h
-ending-leaves ks _ _ _ (emptied hand h k i n x m d e room content) = Leave-change_native h k (with_native_slot i None) (λ o. refl)
-ending-leaves ks _ _ _ (unpreserved hand h k m) = Leave-change_native h k (λ n. record n { preserved = false }) (λ n. refl)
+ending-leaves ks _ es t e = grind (arith, Leave-refl, Leave-add_ref, Leave-change_native)
 
 -- WHAT IS TOLD AS FREED LEAVES, and no others: in cascades, and in ends of collections.
 pub done-leaves : (ks : List ℕ) (s : Stage) (es : List Event) (t : Stage) → Done (Ending ks) s es t → Leave s.heap (freed_numbers es) t.heap

@@ -76,8 +76,7 @@ module _ (owned : List ℕ) (h : Heap) (n : ℕ) (s : IsSound owned h) where
 
 -- a reflector refers to its native, other script objects to none
 pub times-behind : (j : ℕ) (x : Name) → times j (behind x) ≡ cond (same_name x (reflector j)) 1 0
-times-behind j (name.Reflector k) = times-cons j k.0 [] ∙ (omega arith)
-times-behind j _ = refl
+times-behind j x = grind (arith, times-cons)
 
 -- A script object is made: a reflector holds the reference to its native, which was owned.
 pub with_script-sound : (owned : List ℕ) (h : Heap) (o : HeapScript) (made : ℕ) → IsNewScript h o made → IsSound (behind o.name ++ owned) h →

@@ -26,8 +26,7 @@ use Rattle.cc_laws_heap.proofs.Marking.{colour_of, colour_of-white, black-decide
 module _ (h : Heap) where
   -- what is black is marked
   pub marked-black : (x : Name) → IsBlack h x → IsMarked h x
-  marked-black x d = derive-root (black_names h ++ scripts_held h) (slots_of_scripts h) (joints h.entries) x
-      (Among-left x (black_names h) (scripts_held h) (derived-closure same_name same_name-exact (black_rules h) x d))
+  marked-black x d = grind (arith, derive-root, Among-left, derived-closure, same_name-exact)
 
   -- what a script register holds is black
   pub black-register : (x : Name) → Among x (contents h.script_registers) → IsBlack h x
@@ -77,8 +76,7 @@ module _ (h : Heap) where
 
 -- what passes the test of white is white
 is_white-true : (c : Colour) → is_white_colour c ≡ true → c ≡ White
-is_white-true White e = refl
-is_white-true _ e = absurd (false≢true e)
+is_white-true c e = grind arith
 
 -- an unmarked name is that of a white script object
 pub unmarked-white : (h : Heap) (x : Name) → Among x (unmarked h) → (o : HeapScript) × Among o h.scripts × (o.colour ≡ White) × (o.name ≡ x)

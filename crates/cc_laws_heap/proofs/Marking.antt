@@ -25,19 +25,15 @@ colour_of b m = elim b [ true ↦ Black | false ↦ elim m [ true ↦ Gray | fal
 
 -- black by the first test
 pub colour_of-black : (b m : Bool) → colour_of b m ≡ Black → b ≡ true
-colour_of-black true m e = refl
-colour_of-black false true e = absurd (cc)
-colour_of-black false false e = absurd (cc)
+colour_of-black b m e = grind arith
 
 -- gray by the second alone
 colour_of-gray : (b m : Bool) → colour_of b m ≡ Gray → (b ≡ false) × (m ≡ true)
-colour_of-gray false true e = (refl, refl)
-colour_of-gray _ _ e = absurd (cc)
+colour_of-gray b m e = grind arith
 
 -- white by neither
 pub colour_of-white : (b m : Bool) → colour_of b m ≡ White → (b ≡ false) × (m ≡ false)
-colour_of-white false false e = (refl, refl)
-colour_of-white _ _ e = absurd (cc)
+colour_of-white b m e = grind arith
 
 -- The lists of names decide
 
@@ -68,9 +64,7 @@ black_names-marked h = ap (λ edges. closure same_name (system (contents h.scrip
 -- and so do the marked names
 pub marked_names-marked : (h : Heap) → marked_names (marked h) ≡ marked_names h
 unfolding marked
-marked_names-marked h =
-    ap (λ blacks. closure same_name (system (blacks ++ scripts_held h) (slots_of_scripts (marked h)) (joints h.entries))) (black_names-marked h)
-    ∙ ap (λ edges. closure same_name (system (black_names h ++ scripts_held h) edges (joints h.entries))) (slots_of_scripts-marked h)
+marked_names-marked h = search (black_names-marked, slots_of_scripts-marked)
 
 -- The colours after marking
 

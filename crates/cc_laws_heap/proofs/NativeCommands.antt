@@ -36,8 +36,7 @@ IsIn-take_up h x y there = subst (λ xs. IsIn xs y) (sym (native_names-alike h (
 pub hold_native-sound : (owned : List ℕ) (h : Heap) (d : ℕ) (x : Option Name) → d < 256 → IsIn (native_names h) x → IsSound owned h →
     IsSound owned (hold_native h d x).heap
 unfolding hold_native
-hold_native-sound owned h d x room there s = put_in_register-sound owned (take_up h x) d x room (IsIn-take_up h x x there)
-    (take_up-sound owned h x (IsIn-natives h x there) s)
+hold_native-sound owned h d x room there s = search (put_in_register-sound, IsIn-take_up, take_up-sound, IsIn-natives)
 
 -- Slots of natives
 
@@ -109,5 +108,4 @@ IsIn-made h n w = λ y m. ⊎_elim (λ e. subst (λ z. Among z (native_names (wi
 pub make_native-sound : (owned : List ℕ) (h : Heap) (d n : ℕ) → d < 256 → n ≤ 64 → h.natives_made < h.limits.natives → IsSound owned h →
     IsSound owned (make_native h d n).heap
 unfolding make_native
-make_native-sound owned h d n room few allowed s = put_in_register-sound owned (with_native h n) d (Some (native (h.natives_made + 1))) room
-    (IsIn-made h n s.well_formed) (with_native-sound owned h n s few allowed)
+make_native-sound owned h d n room few allowed s = search (put_in_register-sound, IsIn-made, with_native-sound)

@@ -48,8 +48,7 @@ put_in_register-scripts h d x = grind (arith, let_go-scripts)
 -- A native register is written, with the reference taken first.
 pub hold_native-scripts : (h : Heap) (d : ℕ) (x : Option Name) → SameScripts h (hold_native h d x).heap
 unfolding hold_native
-hold_native-scripts h d x =
-    SameScripts-trans h (take_up h x) (put_in_register (take_up h x) d x).heap (SameScripts-take_up h x) (put_in_register-scripts (take_up h x) d x)
+hold_native-scripts h d x = grind (arith, SameScripts-trans, SameScripts-take_up, put_in_register-scripts)
 
 -- A slot of a native is written.
 put_in_slot-scripts : (h : Heap) (d i : ℕ) (x : Option Name) → HasSlot h d i → SameScripts h (put_in_slot h d i x).heap

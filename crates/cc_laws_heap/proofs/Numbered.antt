@@ -6,8 +6,7 @@ use Rattle.cc_model.specs.Graph.{numbered}
 
 -- no member of the empty list has a number
 pub numbered-nothing : {X : Type 0} (k : ℕ) (x : X) → numbered [] k ≡ Some x → ⊥
-numbered-nothing zero x e = cc
-numbered-nothing (suc k) x e = cc
+numbered-nothing f x e = grind arith
 
 -- One more at the end
 
@@ -37,8 +36,7 @@ numbered-push xs y = subst (λ k. numbered (xs ++ y ∷ []) k ≡ Some y) (sym (
 
 -- and all others keep theirs
 pub numbered-push_other : {X : Type 0} (xs : List X) (y : X) (k : ℕ) → k ≢ length xs + 1 → numbered (xs ++ y ∷ []) k ≡ numbered xs k
-numbered-push_other xs y zero d = refl
-numbered-push_other xs y (suc i) d = slice_get-push_other xs y i (λ e. d (omega arith))
+numbered-push_other xs y e d = grind (arith, slice_get-push_other)
 
 -- what had a number has it still
 pub numbered-push_old : {X : Type 0} (xs : List X) (y : X) (k : ℕ) (x : X) → numbered xs k ≡ Some x → numbered (xs ++ y ∷ []) k ≡ Some x
@@ -75,21 +73,13 @@ change_numbered xs k f = set_numbered xs k (option_map f (numbered xs k))
 -- the member that was changed
 pub numbered-change : {X : Type 0} (xs : List X) (k : ℕ) (f : X → X) → numbered (change_numbered xs k f) k ≡ option_map f (numbered xs k)
 numbered-change xs zero f = refl
-numbered-change {X} xs (suc i) f = go (slice_get xs i) refl
-  where
-    go : (o : Option X) → slice_get xs i ≡ o → slice_get (set_numbered xs (suc i) (option_map f o)) i ≡ option_map f o
-    go None e = e
-    go (Some x) e = subst (λ j. slice_get (set xs j (f x)) i ≡ Some (f x)) (omega arith) (slice_get-set xs i x (f x) e)
+numbered-change {X} xs (suc i) f = grind (arith, slice_get-set)
 
 -- and any other
 pub numbered-change_other : {X : Type 0} (xs : List X) (k : ℕ) (f : X → X) (j : ℕ) → j ≢ k → numbered (change_numbered xs k f) j ≡ numbered xs j
 numbered-change_other xs zero f j d = refl
 numbered-change_other {X} xs (suc i) f zero d = refl
-numbered-change_other {X} xs (suc i) f (suc j) d = go (slice_get xs i)
-  where
-    go : (o : Option X) → slice_get (set_numbered xs (suc i) (option_map f o)) j ≡ slice_get xs j
-    go None = refl
-    go (Some x) = subst (λ l. slice_get (set xs l (f x)) j ≡ slice_get xs j) (omega arith) (slice_get-set_other xs i j (f x) (λ e. d (omega arith)))
+numbered-change_other {X} xs (suc i) f (suc j) d = grind (arith, slice_get-set_other)
 
 -- there are as many as before
 pub length-change : {X : Type 0} (xs : List X) (k : ℕ) (f : X → X) → length (change_numbered xs k f) ≡ length xs

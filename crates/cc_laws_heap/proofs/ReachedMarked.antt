@@ -64,5 +64,4 @@ marked-marked h x d = (marked-decided (marked h) x).0 (ap (λ marks. has same_na
 -- A SCRIPT OBJECT THAT THE GRAPH REACHES is none of those that are unmarked after marking.
 pub reached-not_unmarked : (h : Heap) (g : Graph) → IsWellFormed h → IsWellMade g → StandsFor h g → (x : Name) → Reached g x → is_script x ≡ true →
     ¬ (Among x (unmarked (marked h)))
-reached-not_unmarked h g w m s x d script =
-    marked-not_unmarked (marked h) (HasColours-marked h) x (marked-marked h x (reached-marked h w x (reached-in h g w m s x d) script))
+reached-not_unmarked h g w m s x d script = search (marked-not_unmarked, HasColours-marked, marked-marked, reached-marked, reached-in)

@@ -1,5 +1,5 @@
 -- WHAT A COMMAND READS is reached: what registers, slots and entries of reached objects hold, and natives behind reflectors.
-use Rattle.std.proofs.Common.{◌≡◌, ℕ, true, List, [], ◌∷◌, get_or, Option, Some, None, is_some, option_map, refl, sym, subst, inl}
+use Rattle.std.proofs.Common.{arith, ◌≡◌, ℕ, true, List, [], ◌∷◌, get_or, Option, Some, None, is_some, option_map, refl, sym, subst, inl}
 use Rattle.std.specs.Prelude.{IsTrue}
 use Rattle.std.specs.Option.{option_and_then}
 use Rattle.std.proofs.lemmas.Bool.{false≢true}
@@ -32,8 +32,7 @@ module _ (g : Graph) where
 
   -- what a source gives
   pub source-reached : (r : Option Reg) → OfSome (Reached g) (source g r)
-  source-reached None = tt
-  source-reached (Some r) = register-reached r
+  source-reached r = grind (arith, register-reached)
 
   -- what a script source gives
   pub script_source-reached : (s : Option ℕ) → OfSome (Reached g) (source g (option_map S s))
@@ -73,8 +72,7 @@ module _ (g : Graph) where
 
   -- the native behind what a script register holds, where that is a reflector
   pub script-behind : (o : Option Name) → OfSome (MadeScript g) o → OfSome (Reached g) o → OfSome (HasBehind (Reached g)) o
-  script-behind None m d = tt
-  script-behind (Some x) m d = λ k e. behind-reached k (subst (λ y. IsTrue (was_made g y)) e (MadeScript-made g x m)) (subst (Reached g) e d)
+  script-behind o m d = grind (arith, behind-reached, MadeScript-made)
 
   -- the native that a reflector stands for
   pub native_of-reached : (o : Option Name) → OfSome (MadeScript g) o → OfSome (Reached g) o → OfSome (Reached g) (native_of o)

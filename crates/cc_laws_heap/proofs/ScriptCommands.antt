@@ -59,10 +59,7 @@ module _ (h : Heap) (kind : Kind) (n : ℕ) (w : IsWellFormed h) (fits : FitsNam
 -- A plain object or a weak map is made, and a script register holds it.
 pub make_object-sound : (owned : List ℕ) (h : Heap) (d : ℕ) (kind : Kind) (n : ℕ) → FitsName (object (h.scripts_made + 1)) kind (empty_slots n) →
     h.scripts_made < h.limits.scripts → IsSound owned h → IsSound owned (make_object h d kind n)
-make_object-sound owned h d kind n fits room s = script_register-sound owned (with_object h kind n) d (Some (object (h.scripts_made + 1)))
-    (IsIn-one (script_names (with_object h kind n)) (object (h.scripts_made + 1))
-    (script_names-new_script h (blank (object (h.scripts_made + 1)) kind n) (h.scripts_made + 1)))
-    (with_script-sound owned h (blank (object (h.scripts_made + 1)) kind n) (h.scripts_made + 1) (IsNewScript-object h kind n s.well_formed fits room) s)
+make_object-sound owned h d kind n fits room s = search (script_register-sound, IsIn-one, script_names-new_script, with_script-sound, IsNewScript-object)
 
 -- Reflectors
 

@@ -16,8 +16,7 @@ use Rattle.cc_laws_heap.proofs.NameLists.{same_name-sym}
 
 -- a name that fits a script object is that of no native
 fits-named : (x : Name) (kind : Kind) (slots : Slots) → FitsName x kind slots → is_script x ≡ true
-fits-named (name.Native k) kind slots f = absurd f
-fits-named _ kind slots f = refl
+fits-named x kind slots f = grind arith
 
 -- so is that of a script object that is there
 pub script-named : (h : Heap) → IsWellFormed h → (o : HeapScript) → Among o h.scripts → is_script o.name ≡ true
@@ -35,8 +34,7 @@ entry-named h w e m =
 
 -- and they are told apart from those of natives
 pub script-other : (x : Name) (k : ℕ) → is_script x ≡ true → same_name x (native k) ≡ false
-script-other (name.Native i) k e = absurd (cc)
-script-other _ k e = refl
+script-other x k e = grind arith
 
 -- at most one script object has a name
 pub scripts-once : (h : Heap) → IsWellFormed h → (x : Name) → count_by (λ (o : HeapScript). same_name o.name x) h.scripts ≤ 1

@@ -61,10 +61,7 @@ edges-there h w x y s e m = ⊎_elim
 
 -- the kind of a script object of well formed heaps is that of its name and its slots
 kind-fits : (x : Name) (kind : Kind) (slots : Slots) → FitsName x kind slots → kind_of_shape x (script_shape (slots_of_kind kind slots)) ≡ Some kind
-kind-fits (name.Script k) Plain slots f = refl
-kind-fits (name.Script k) Map slots f = refl
-kind-fits (name.Reflector k) Reflector slots f = refl
-kind-fits _ _ slots f = absurd f
+kind-fits x kind slots f = grind arith
 
 module _ (P : Name → Type 0) (h : Heap) (g : Graph) (w : IsWellFormed h) (m : IsWellMade g) (f : Follows P h g) where
   -- `P` holds of what is reached

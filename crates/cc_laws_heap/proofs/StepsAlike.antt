@@ -1,6 +1,6 @@
 -- THE STEPS OF COMMANDS, taken alike in heaps and in the graph that they follow: a register or a slot gets what `P` holds of,
 -- references are taken and given up, what script touches is exposed, a reflector is preserved, an entry is set.
-use Rattle.std.proofs.Common.{slice_index_or, ◌≡◌, ℕ, ◌≤◌, true, set, Option, Some, None, refl, sym, ◌∙◌, ap, subst, inl, inr, ⊎_elim, ◌==◌, count_by}
+use Rattle.std.proofs.Common.{arith, slice_index_or, ◌≡◌, ℕ, ◌≤◌, true, set, Option, Some, None, refl, sym, ◌∙◌, ap, subst, inl, inr, ⊎_elim, ◌==◌, count_by}
 use Rattle.std.proofs.lemmas.Bool.{eq-eqb}
 use Rattle.cc_lists.specs.Members.{Among}
 use Rattle.cc_names.specs.declared.name.Name.{Name}
@@ -114,8 +114,7 @@ Follows-put_script P h g x i y p b q t = Follows-slot P (heap.preserve h x) (gra
 
 -- it leaves the entries
 preserve-entries : (g : Graph) (x : Option Name) → (graph.preserve g x).entries ≡ g.entries
-preserve-entries g (Some (name.Reflector k)) = (SameGraphBeside-native g k.0 graph.as_preserved).entries
-preserve-entries g _ = refl
+preserve-entries g x = grind (arith, SameGraphBeside-native)
 
 -- an entry set, its key preserved; or taken out
 pub Follows-set_entry : (P : Name → Type 0) (h : Heap) (g : Graph) (m k v : Option Name) → OfSome P m → OfSome P k → OfSome (HasBehind P) k → OfSome P v →

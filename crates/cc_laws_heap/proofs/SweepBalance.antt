@@ -25,13 +25,11 @@ reflectors k h = count_by (λ (o : HeapScript). same_name o.name (reflector k)) 
 
 -- another script object taken out leaves it
 reflectors-other : (h : Heap) (x : Name) (k : ℕ) → ¬ (x ≡ reflector k) → reflectors k (without_script h x) ≡ reflectors k h
-reflectors-other h x k d = count_by-kept (λ (o : HeapScript). same_name o.name (reflector k)) (λ o. not (same_name o.name x)) h.scripts
-    (λ o e. ap not (same_name-other o.name x (λ s. d (sym s ∙ same_name-true o.name (reflector k) e))))
+reflectors-other h x k d = grind (arith, count_by-kept, same_name-other, same_name-true)
 
 -- itself taken out, it is there no more
 reflectors-same : (h : Heap) (k : ℕ) → reflectors k (without_script h (reflector k)) ≡ 0
-reflectors-same h k = count_by-dropped (λ (o : HeapScript). same_name o.name (reflector k)) (λ o. not (same_name o.name (reflector k))) h.scripts
-    (λ o e. not-true (same_name o.name (reflector k)) e)
+reflectors-same h k = grind (arith, count_by-dropped, not-true)
 
 -- it is there once, where script objects have distinct names
 reflectors-once : (h : Heap) (k : ℕ) → count_by (λ (o : HeapScript). same_name o.name (reflector k)) h.scripts ≤ 1 → Among (reflector k) (script_names h) →

@@ -17,10 +17,7 @@ use Rattle.cc_laws_heap.proofs.CascadeTakesOut.{TakesOut-let_go}
 
 -- heaps left as they are
 pub Leaves-refl : (h : Heap) → Leaves h h
-Leaves-refl h = record {
-  beside = record { native_registers = refl; script_registers = refl; entries = refl; natives_made = refl; scripts_made = refl; limits = refl };
-  objects = record { natives = λ n i. (n, i, refl, refl); scripts = λ o i. (o, i, refl, refl) };
-}
+Leaves-refl h = search
 
 -- a reference taken
 pub Leaves-add_ref : (h : Heap) (k : ℕ) → Leaves h (add_ref h k)
@@ -28,8 +25,7 @@ Leaves-add_ref h k = grind (arith, Leaves-uncounted, uncounted-change, SameBesid
 
 -- a reference to what a register or a slot is to hold taken
 pub Leaves-take_up : (h : Heap) (x : Option Name) → Leaves h (take_up h x)
-Leaves-take_up h (Some (name.Native k)) = Leaves-add_ref h k.0
-Leaves-take_up h _ = Leaves-refl h
+Leaves-take_up h x = grind (arith, Leaves-add_ref, Leaves-refl)
 
 -- a reference given up, with all that is freed
 pub Leaves-let_go : (h : Heap) (x : Option Name) → Leaves h (let_go h x).heap

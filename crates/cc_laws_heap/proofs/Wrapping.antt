@@ -40,8 +40,7 @@ wrapped-others g k z d = grind (arith, set_native-is, numbered-changed, numbered
 
 -- and that has slots
 wrapped-made : (g : Graph) (k : ℕ) (n : GraphNative) → native_in g k ≡ Some n → shape_in (with_wrapped g k) (reflector k) ≡ Some (script_shape (Some (slots_or_blank n.reflector)))
-wrapped-made g k n i = subst (λ e. shape_in e (reflector k) ≡ Some (script_shape (Some (slots_or_blank n.reflector)))) (sym (set_native-is g k (option_map as_wrapped (native_in g k))))
-    (ap (option_and_then shape_of_reflector) (numbered-change g.natives k as_wrapped ∙ ap (option_map as_wrapped) i))
+wrapped-made g k n i = grind (arith, set_native-is, numbered-change)
 
 -- what has a shape in the heaps is there
 reflector-there : (h : Heap) (k : ℕ) (s : Shape) → shape_at h (reflector k) ≡ Some s → has_reflector h k ≡ true

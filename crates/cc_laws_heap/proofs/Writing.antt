@@ -33,14 +33,12 @@ with_preserved s = record s { preserved = true }
 
 -- what is read of one that may have changed
 changed-read : {X Y : Type 0} (g : X → Y) (a : X → X) (f : Y → Y) → ((x : X) → g (a x) ≡ f (g x)) → (b : Bool) (x : X) → g (if b then a x else x) ≡ (if b then f (g x) else g x)
-changed-read g a f same true x = same x
-changed-read g a f same false x = refl
+changed-read g a f same e x = grind arith
 
 -- the same of what may be there
 changed-read_some : {X Y : Type 0} (g : X → Y) (a : X → X) (f : Y → Y) → ((x : X) → g (a x) ≡ f (g x)) → (b : Bool) (o : Option X) →
     option_map g (option_map (λ x. if b then a x else x) o) ≡ option_map (λ s. if b then f s else s) (option_map g o)
-changed-read_some g a f same b None = refl
-changed-read_some g a f same b (Some x) = ap (λ s. Some s) (changed-read g a f same b x)
+changed-read_some g a f same b e = grind (arith, changed-read)
 
 -- In the graph
 
@@ -97,13 +95,11 @@ GraphChanges-script g k a f changes = subst (GraphChanges (changed_at (object k)
 
 -- a native changed leaves all beside the natives
 pub SameGraphBeside-native : (g : Graph) (k : ℕ) (a : GraphNative → GraphNative) → SameGraphBeside g (set_native g k (option_map a (native_in g k)))
-SameGraphBeside-native g k a = subst (SameGraphBeside g) (sym (set_native-is g k (option_map a (native_in g k))))
-    (record { native_registers = refl; script_registers = refl; entries = refl; natives_made = length-change g.natives k a; scripts_made = refl; limits = refl })
+SameGraphBeside-native g k a = grind (arith, set_native-is, length-change)
 
 -- a script object changed leaves all beside the script objects
 pub SameGraphBeside-script : (g : Graph) (k : ℕ) (a : GraphScript → GraphScript) → SameGraphBeside g (set_script g k (option_map a (script_in g k)))
-SameGraphBeside-script g k a = subst (SameGraphBeside g) (sym (set_script-is g k (option_map a (script_in g k))))
-    (record { native_registers = refl; script_registers = refl; entries = refl; natives_made = refl; scripts_made = length-change g.scripts k a; limits = refl })
+SameGraphBeside-script g k a = grind (arith, set_script-is, length-change)
 
 -- In the heaps
 
