@@ -37,10 +37,4 @@ places-forget_same k bs = count_by-dropped (has_place k) (λ b. not (has_place k
 
 -- any other as often as before
 pub places-forget_other : (k j : ℕ) (bs : List Buffered) → ¬ (j ≡ k) → places j (filter (λ b. not (b.number == k)) bs) ≡ places j bs
-places-forget_other k j bs d = count_by-kept (has_place j) (λ b. not (has_place k b)) bs each
-  where
-    each : (b : Buffered) → has_place j b ≡ true → not (has_place k b) ≡ true
-    each b e =
-        let there : b.number ≡ j = eqb-true b.number j e in
-        let here : (b.number == k) ≡ false = ne_eqb b.number k (λ q. d (sym there ∙ q)) in
-        rw here refl
+places-forget_other k j bs d = grind (arith, count_by-kept, eqb-true)

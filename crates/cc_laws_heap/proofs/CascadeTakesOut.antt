@@ -1,5 +1,5 @@
 -- WHAT A CASCADE TAKES OUT, whatever the counts: what it tells is gone, and nothing else of what the graph sees changes.
-use Rattle.std.proofs.Common.{◌≡◌, ℕ, false, List, [], ◌∷◌, ◌++◌, map, length, Option, Some, None, sym, ◌∙◌, ap, subst, ◌==◌}
+use Rattle.std.proofs.Common.{◌≡◌, ℕ, false, List, [], ◌∷◌, ◌++◌, map, length, Option, Some, sym, ◌∙◌, ap, subst, ◌==◌}
 use Rattle.std.specs.List.{filter}
 use Rattle.std.proofs.lemmas.Bool.{true≢false, not-true}
 use Rattle.cc_lists.specs.Members.{Among, has}
@@ -32,10 +32,8 @@ TakesOut-cascade h k = drain-keeps (λ d. (ks : List ℕ) × TakesOut h ks (outc
 
 -- and what giving up what a register or a slot held
 pub TakesOut-let_go : (h : Heap) (x : Option Name) → (ks : List ℕ) × TakesOut h ks (let_go h x)
-TakesOut-let_go h None = ([], TakesOut-silently h)
 TakesOut-let_go h (Some (name.Native k)) = TakesOut-cascade h k.0
-TakesOut-let_go h (Some (name.Script k)) = ([], TakesOut-silently h)
-TakesOut-let_go h (Some (name.Reflector k)) = ([], TakesOut-silently h)
+TakesOut-let_go h _ = ([], TakesOut-silently h)
 
 -- what is told is there no more
 abbrev pub TellsWhatIsGone : Outcome → Type 0

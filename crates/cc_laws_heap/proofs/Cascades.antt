@@ -22,18 +22,15 @@ use Rattle.std.specs.List.{filter}
 
 -- a count above zero is not that of a native that waits
 pub one_at_zero-above : (c : ℕ) → 1 ≤ c → one_at_zero c ≡ 0
-one_at_zero-above zero s = absurd (omega arith)
-one_at_zero-above (suc c) s = refl
+one_at_zero-above c s = grind arith
 
 -- a count above zero is that of a native that lives
 pub one_above_zero-above : (c : ℕ) → 1 ≤ c → one_above_zero c ≡ 1
-one_above_zero-above zero s = absurd (omega arith)
-one_above_zero-above (suc c) s = refl
+one_above_zero-above c s = grind arith
 
 -- the count of a native that does not wait is above zero
 pub above-one_at_zero : (c : ℕ) → one_at_zero c ≡ 0 → 1 ≤ c
-above-one_at_zero zero e = absurd (omega arith)
-above-one_at_zero (suc c) e = omega arith
+above-one_at_zero c e = grind arith
 
 -- sound heaps at rest are balanced
 pub IsBalanced-at_rest : (owned : List ℕ) (h : Heap) → IsSound owned h → IsBalanced owned (at_rest h)

@@ -1,11 +1,10 @@
 -- HEAPS GO ON FOLLOWING A GRAPH where the shapes of objects change alike in both, where something is left out that nothing
 -- reaches, and where registers are written alike.
-use Rattle.std.proofs.Common.{◌≡◌, ℕ, false, map, length, Option, Some, None, option_map, refl, sym, ◌∙◌, ap, subst, inl, inr, ◌⊎◌, ⊎_elim}
+use Rattle.std.proofs.Common.{arith, ◌≡◌, ℕ, false, map, length, Option, Some, None, option_map, refl, sym, ◌∙◌, ap, subst, inl, inr, ◌⊎◌, ⊎_elim}
 use Rattle.std.specs.Prelude.{IsTrue}
 use Rattle.cc_lists.specs.Members.{Among}
 use Rattle.cc_lists.proofs.Members.{Among-map, Among-map_cases}
 use Rattle.cc_names.specs.declared.name.Name.{Name}
-use Rattle.cc_names.specs.declared.name.Name.TheVariants as name
 use Rattle.cc_names.specs.Names.{native, reflector, is_script}
 use Rattle.cc_model.specs.Slots.{Slots, contents, empty_slots}
 use Rattle.cc_model.specs.Checks.{slots_or_none}
@@ -38,8 +37,7 @@ GraphChanges f g e = (x : Name) → shape_in e x ≡ option_map (f x) (shape_in 
 
 -- what is some after a map is the map of something
 pub option_map-found : {X Y : Type 0} (f : X → Y) (o : Option X) (y : Y) → option_map f o ≡ Some y → (x : X) × (o ≡ Some x) × (f x ≡ y)
-option_map-found f None y e = absurd (cc)
-option_map-found f (Some x) y e = let same : f x ≡ y = cc in (x, refl, same)
+option_map-found f x y e = grind arith
 
 -- objects that only `P` holds of change
 pub AreObjects-changed : (P : Name → Type 0) (f : Change) (h k : Heap) (g e : Graph) → HeapChanges f h k → GraphChanges f g e →
@@ -147,16 +145,11 @@ Follows-changed P f h k g e heap graph a b c t = record {
 
 -- a map that changes nothing
 pub option_map-same : (o : Option Shape) → o ≡ option_map (λ s. s) o
-option_map-same None = refl
-option_map-same (Some s) = refl
+option_map-same o = grind arith
 
 -- to change nothing is a change
 pub IsChange-unchanged : (P : Name → Type 0) (h : Heap) (g : Graph) → Follows P h g → IsChange P unchanged g
-IsChange-unchanged P h g t = record {
-  moved = λ x. inl (λ s. refl);
-  edges = t.closed.edges;
-  blank = λ k s r x p y. (p, refl);
-}
+IsChange-unchanged P h g t = grind arith
 
 -- the objects of heaps are others of the same names and shapes, or left out
 pub record Leaves (h k : Heap) : Type 0 where
@@ -165,9 +158,7 @@ pub record Leaves (h k : Heap) : Type 0 where
 
 -- WHAT IS LEFT FOLLOWS.
 pub Follows-left : (P : Name → Type 0) (h k : Heap) (g : Graph) → Leaves h k → Follows P h g → Follows P k g
-Follows-left P h k g l t = Follows-changed P unchanged h k g g l.objects (λ x. option_map-same (shape_in g x)) l.beside
-    (record { native_registers = refl; script_registers = refl; entries = refl; natives_made = refl; scripts_made = refl; limits = refl })
-    (IsChange-unchanged P h g t) t
+Follows-left P h k g l t = grind (arith, Follows-changed, option_map-same, IsChange-unchanged)
 
 -- natives that are the same but for their counts, or are left out
 pub Leaves-uncounted : (h k : Heap) → ((u : Uncounted) → Among u (map uncounted k.natives) → Among u (map uncounted h.natives)) → SameBeside h k → Leaves h k
@@ -197,28 +188,4 @@ Leaves-uncounted h k natives b = record {
 pub Follows-registers : (P : Name → Type 0) (h : Heap) (g : Graph) (ns ss ms ts : Slots) → ns ≡ ms → ss ≡ ts →
     ((x : Name) → Among x (contents ms) → P x) → ((x : Name) → Among x (contents ts) → P x) →
     Follows P h g → Follows P (record h { native_registers = ns; script_registers = ss }) (with_registers g ms ts)
-Follows-registers P h g ns ss ms ts a b natives scripts t = record {
-  beside = record { native_registers = a; script_registers = b; limits = t.beside.limits; natives_made = t.beside.natives_made; scripts_made = t.beside.scripts_made };
-  objects = AreObjects-changed P unchanged h k g e
-      (record { natives = λ n i. (n, i, refl, refl); scripts = λ o i. (o, i, refl, refl) })
-      (λ x. same x ∙ option_map-same (shape_in g x)) (λ x. inl (λ s. refl)) t.objects;
-  entries = t.entries;
-  blank = λ j s r x p y. t.blank j s r x p y;
-  closed = record {
-    native_registers = natives;
-    script_registers = scripts;
-    edges = λ x y s p q. t.closed.edges x y s p (sym (same x) ∙ q);
-    entries = t.closed.entries;
-  };
-}
-  where
-    k : Heap
-    k = record h { native_registers = ns; script_registers = ss }
-
-    e : Graph
-    e = with_registers g ms ts
-
-    same : (x : Name) → shape_in e x ≡ shape_in g x
-    same (name.Native i) = refl
-    same (name.Script i) = refl
-    same (name.Reflector i) = refl
+Follows-registers P h g ns ss ms ts a b natives scripts t = grind (arith, AreObjects-changed, option_map-same)

@@ -1,12 +1,11 @@
 -- A SCRIPT COLLECTION KEEPS THE HEAPS SOUND, tells what it takes out, and leaves the colours of marking, none of them white.
-use Rattle.std.proofs.Common.{◌≡◌, ◌≢◌, ℕ, suc, List, [], ◌++◌, length, sym, ◌∙◌, ap, subst}
-use Rattle.std.specs.List.{filter}
+use Rattle.std.proofs.Common.{arith, ◌≡◌, ◌≢◌, ℕ, suc, List, [], ◌++◌, length, sym, ◌∙◌, ap, subst}
 use Rattle.cc_lists.specs.Members.{Among, has}
 use Rattle.cc_lists.proofs.Members.{Among-map, Among-filter}
 use Rattle.cc_names.specs.declared.name.Name.{Name}
 use Rattle.cc_names.specs.declared.kind.Colour.TheVariants.{White, Black}
 use Rattle.cc_names.specs.Names.{same_name}
-use Rattle.cc_model.specs.Heap.{Heap, HeapScript, Outcome, silently, is_white_colour}
+use Rattle.cc_model.specs.Heap.{Heap, HeapScript, Outcome, silently}
 use Rattle.cc_model.specs.View.{view}
 use Rattle.cc_model.specs.Colours.{IsBlack, black_names, marked_names, marked, HasColours, HasColourInvariant}
 use Rattle.cc_model.specs.Sweep.{unmarked, sweep, collect_scripts}
@@ -59,17 +58,11 @@ module _ (h : Heap) (c : HasColours h) where
 module _ (h : Heap) (c : HasColours h) (none : unmarked h ≡ []) where
   -- where nothing is unmarked no script object is white
   none-white : (o : HeapScript) → Among o h.scripts → o.colour ≢ White
-  none-white o m e = subst (Among o.name) none
-      (Among-map (λ (p : HeapScript). p.name) o (filter (λ (p : HeapScript). is_white_colour p.colour) h.scripts)
-      (Among-filter (λ (p : HeapScript). is_white_colour p.colour) o h.scripts m (ap is_white_colour e)))
+  none-white o m e = grind (arith, Among-map, Among-filter)
 
   -- Colours of marking, none of them white, keep the colour invariant.
   IsColoured-colours : IsColoured h
-  IsColoured-colours = record {
-    black_to_black = λ o p m n e i. is-black h c p n (black-slot h o p.name m i (black-is h c o m e));
-    held_black = λ o m i. is-black h c o m (black-register h o.name i);
-    none_white = none-white;
-  }
+  IsColoured-colours = search (is-black, black-slot, black-is, black-register, none-white)
 
 -- A SCRIPT COLLECTION LEAVES THE COLOUR INVARIANT.
 pub collect_scripts-invariant : {owned : List ℕ} (h : Heap) → IsSound owned h → HasColourInvariant (view (collect_scripts h).heap)

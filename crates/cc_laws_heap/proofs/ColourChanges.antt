@@ -1,5 +1,5 @@
 -- WHAT KEEPS THE COLOURS: a register or a slot that takes what is black, an exposure, a new black script object.
-use Rattle.std.proofs.Common.{◌≡◌, ◌≢◌, ℕ, List, [], ◌∷◌, ◌++◌, map, set, Option, Some, None, refl, sym, ◌∙◌, subst, inl, inr, ◌⊎◌, ⊎_elim}
+use Rattle.std.proofs.Common.{arith, ◌≡◌, ◌≢◌, ℕ, List, [], ◌∷◌, ◌++◌, map, set, Option, Some, None, refl, sym, ◌∙◌, subst, inl, ◌⊎◌, ⊎_elim}
 use Rattle.std.specs.Option.{option_to_list}
 use Rattle.cc_lists.specs.Members.{Among}
 use Rattle.cc_lists.proofs.Members.{Among-map, Among-flat_map, has-there, has-among}
@@ -25,11 +25,7 @@ IsHeldBlack scripts x = (o : HeapScript) → Among o scripts → Among o.name (o
 -- A script register takes what is black.
 pub AreColoured-register : (scripts : List HeapScript) (registers : Slots) (d : ℕ) (x : Option Name) → IsHeldBlack scripts x →
     AreColoured scripts registers → AreColoured scripts (set registers d x)
-AreColoured-register scripts registers d x black c = record {
-  black_to_black = c.black_to_black;
-  held_black = λ o m i. ⊎_elim (black o m) (c.held_black o m) (Among-flat_map_set option_to_list registers d x o.name i);
-  none_white = c.none_white;
-}
+AreColoured-register scripts registers d x black c = grind (arith, Among-flat_map_set)
 
 -- A slot takes what is black.
 pub AreColoured-slot : (scripts : List HeapScript) (registers : Slots) (x : Name) (i : ℕ) (y : Option Name) → IsHeldBlack scripts y →
@@ -109,9 +105,7 @@ module _ (h : Heap) (x : Name) where
 
   -- what is black then is exposed, or was black
   blacken-cases : (o : HeapScript) → (blacken o).colour ≡ Black → Among o.name (exposed_names h x) ⊎ (o.colour ≡ Black)
-  blacken-cases o = changed_where-either (λ p. p.colour ≡ Black → Among o.name (exposed_names h x) ⊎ (o.colour ≡ Black))
-      (is_one_of (exposed_names h x)) as_black o
-      (λ t e. inl (has-among same_name same_name-exact (exposed_names h x) o.name t)) (λ e. inr e)
+  blacken-cases o = grind (arith, changed_where-either, has-among, same_name-exact)
 
   -- what is exposed exposes what it has in slots
   exposed-along : (o : HeapScript) (y : Name) → Among o h.scripts → Among o.name (exposed_names h x) → Among y (contents o.slots) →

@@ -1,5 +1,5 @@
 -- THE COLOUR INVARIANT by script objects: it speaks of script objects and script registers alone.
-use Rattle.std.proofs.Common.{◌≡◌, ◌≢◌, ◌≤◌, Bool, true, false, List, map, refl, sym, ◌∙◌, ap, subst, ⊎_elim}
+use Rattle.std.proofs.Common.{arith, ◌≡◌, ◌≢◌, ◌≤◌, Bool, true, false, List, map, refl, sym, ◌∙◌, ap, subst, ⊎_elim}
 use Rattle.std.specs.List.{filter, flat_map}
 use Rattle.std.proofs.lemmas.Bool.{false≢true}
 use Rattle.cc_lists.specs.Members.{Among}
@@ -34,27 +34,19 @@ IsColoured h = AreColoured h.scripts h.script_registers
 
 -- what is neither white nor gray is black
 black-left : (c : Colour) → c ≢ White → c ≢ Gray → c ≡ Black
-black-left White w g = absurd (w refl)
-black-left Gray w g = absurd (g refl)
-black-left Black w g = refl
+black-left c w g = grind arith
 
 -- the test of black tells black
 pub is_black-true : (c : Colour) → is_black_colour c ≡ true → c ≡ Black
-is_black-true White e = absurd (false≢true e)
-is_black-true Gray e = absurd (false≢true e)
-is_black-true Black e = refl
+is_black-true c e = grind arith
 
 -- what passes the test of gray is not black
 is_gray-not_black : (c : Colour) → is_gray_colour c ≡ true → c ≢ Black
-is_gray-not_black White e f = absurd (false≢true e)
-is_gray-not_black Gray e f = absurd (cc)
-is_gray-not_black Black e f = absurd (false≢true e)
+is_gray-not_black c e f = grind arith
 
 -- what is not white does not pass the test of white
 is_white-false : (c : Colour) → c ≢ White → is_white_colour c ≡ false
-is_white-false White w = absurd (w refl)
-is_white-false Gray w = refl
-is_white-false Black w = refl
+is_white-false c w = grind arith
 
 -- Script objects and their names
 
@@ -78,9 +70,7 @@ names_with-there p scripts o m e = Among-map (λ (q : HeapScript). q.name) o (fi
 -- and a name there is that of an object of the colour
 pub names_with-is : (p : HeapScript → Bool) (scripts : List HeapScript) (x : Name) → Among x (names_with p scripts) →
     (o : HeapScript) × Among o scripts × (p o ≡ true) × (o.name ≡ x)
-names_with-is p scripts x m =
-    let f = Among-map_cases (λ (q : HeapScript). q.name) (filter p scripts) x m in
-    (f.0, Among-filtered p f.0 scripts f.1, Among-passes p f.0 scripts f.1, f.2)
+names_with-is p scripts x m = grind (arith, Among-map_cases, Among-filtered, Among-passes)
 
 -- script objects of one name are one
 pub one-script : (h : Heap) (o p : HeapScript) → IsWellFormed h → Among o h.scripts → Among p h.scripts → p.name ≡ o.name → p ≡ o

@@ -12,7 +12,7 @@ use Rattle.cc_names.specs.declared.kind.Kind.TheVariants.{Plain, Reflector, Map}
 use Rattle.cc_names.specs.declared.kind.Colour.TheVariants.{Black}
 use Rattle.cc_names.specs.Names.{object, reflector}
 use Rattle.cc_model.specs.declared.command.Command.{Command}
-use Rattle.cc_model.specs.declared.command.Command.TheVariants.{Nothing, Native, Script, WeakMap, CopyNative, CopyScript, Drop, Set, Get, Put, Take, Wrap, Unwrap, Preserve, SetEntry, GetEntry, Expose, Slice, Collect, Gc, Census}
+use Rattle.cc_model.specs.declared.command.Command.TheVariants.{Native, Script, WeakMap, CopyNative, CopyScript, Drop, Set, Get, Put, Take, Wrap, Unwrap, Preserve, SetEntry, GetEntry, Expose}
 use Rattle.cc_model.specs.Slots.{reflector_slots}
 use Rattle.cc_model.specs.Ranges.{in_range}
 use Rattle.cc_model.specs.Checks.{slot_at, slots_at, value_at, native_of, reflector_of}
@@ -78,26 +78,19 @@ wrapped-coloured h d (Some (name.Native k)) c = go (has_reflector h k.0) refl
 -- a slot of a script object takes what is black
 put_in_script-coloured : (h : Heap) (x : Option Name) (i : ℕ) (y : Option Name) → IsHeldBlack h.scripts y → IsColoured h →
     IsColoured (put_in_script h x i y)
-put_in_script-coloured h None i y black c = c
-put_in_script-coloured h (Some (name.Native k)) i y black c = c
 put_in_script-coloured h (Some (name.Script k)) i y black c = AreColoured-slot h.scripts h.script_registers (object k.0) i y black c
 put_in_script-coloured h (Some (name.Reflector k)) i y black c = AreColoured-slot h.scripts h.script_registers (reflector k.0) i y black c
+put_in_script-coloured h _ i y black c = c
 
 -- Natives and entries
 
 -- a reflector preserved keeps colours
 preserve-coloured : (h : Heap) (x : Option Name) → IsColoured h → IsColoured (preserve h x)
-preserve-coloured h None c = c
-preserve-coloured h (Some (name.Native k)) c = c
-preserve-coloured h (Some (name.Script k)) c = c
-preserve-coloured h (Some (name.Reflector k)) c = c
+preserve-coloured h x c = grind arith
 
 -- an entry set or taken out keeps colours
 set_entry-coloured : (h : Heap) (m k v : Option Name) → IsColoured h → IsColoured (set_entry h m k v)
-set_entry-coloured h None k v c = c
-set_entry-coloured h (Some m) None v c = c
-set_entry-coloured h (Some m) (Some k) None c = c
-set_entry-coloured h (Some m) (Some k) (Some v) c = preserve-coloured h (Some k) c
+set_entry-coloured h m k v c = grind (arith, preserve-coloured)
 
 -- A command that is not refused keeps the colours.
 pub effects-coloured : {owned : List ℕ} (h : Heap) (c : Command) → IsSound owned h → IsColoured h → IsTrue (in_range c) → IsTaken (objects_of h) c →
@@ -112,20 +105,14 @@ effects-coloured {owned} h (Drop (N d)) s c r t = SameScripts-coloured h (put_in
 effects-coloured {owned} h (Drop (S d)) s c r t = AreColoured-register h.scripts h.script_registers d None (λ o m i. absurd i) c
 effects-coloured {owned} h (Set d i q) s c r t = SameScripts-coloured h (store_native h d i (source h q)).heap
     (store_native-scripts owned h d i (source h q) (source-there h q s.well_formed) (leb-false (length (slots_at (objects_of h) (N d))) i t.slot) s) c
-effects-coloured {owned} h (Get (N d) q i) s c r t = SameScripts-coloured h (hold_native h d (slot_at (objects_of h) (N q) i)).heap
-    (hold_native-scripts h d (slot_at (objects_of h) (N q) i)) c
+effects-coloured {owned} h (Get (N d) q i) s c r t = grind (arith, SameScripts-coloured, hold_native-scripts)
 effects-coloured {owned} h (Get (S d) q i) s c r t = exposed_register-coloured h d (slot_at (objects_of h) (N q) i) c
 effects-coloured {owned} h (Put d i q) s c r t = put_in_script-coloured h (register h (S d)) i (source h (option_map S q)) (script_source-black h q c) c
 effects-coloured {owned} h (Take d q i) s c r t = exposed_register-coloured h d (slot_at (objects_of h) (S q) i) c
 effects-coloured {owned} h (Wrap d q) s c r t = wrapped-coloured h d (register h (N q)) c
-effects-coloured {owned} h (Unwrap d q) s c r t = SameScripts-coloured h (hold_native h d (native_of (register h (S q)))).heap
-    (hold_native-scripts h d (native_of (register h (S q)))) c
+effects-coloured {owned} h (Unwrap d q) s c r t = grind (arith, SameScripts-coloured, hold_native-scripts)
 effects-coloured {owned} h (Preserve q) s c r t = preserve-coloured h (register h (S q)) c
 effects-coloured {owned} h (SetEntry m k v) s c r t = set_entry-coloured h (register h (S m)) (register h (S k)) (source h (option_map S v)) c
 effects-coloured {owned} h (GetEntry d m k) s c r t = exposed_register-coloured h d (value_at (objects_of h) (register h (S m)) (register h (S k))) c
 effects-coloured {owned} h (Expose q i) s c r t = exposed-coloured h (slot_at (objects_of h) (N q) i) c
-effects-coloured {owned} h Nothing s c r t = c
-effects-coloured {owned} h (Slice u) s c r t = c
-effects-coloured {owned} h Collect s c r t = c
-effects-coloured {owned} h Gc s c r t = c
-effects-coloured {owned} h Census s c r t = c
+effects-coloured {owned} h _ s c r t = c

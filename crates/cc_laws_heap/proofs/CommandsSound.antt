@@ -7,7 +7,7 @@ use Rattle.cc_names.specs.declared.name.Name.{Name}
 use Rattle.cc_names.specs.declared.register.Reg.TheVariants.{N, S}
 use Rattle.cc_names.specs.declared.kind.Kind.TheVariants.{Plain, Map}
 use Rattle.cc_model.specs.declared.command.Command.{Command}
-use Rattle.cc_model.specs.declared.command.Command.TheVariants.{Nothing, Native, Script, WeakMap, CopyNative, CopyScript, Drop, Set, Get, Put, Take, Wrap, Unwrap, Preserve, SetEntry, GetEntry, Expose, Slice, Collect, Gc, Census}
+use Rattle.cc_model.specs.declared.command.Command.TheVariants.{Native, Script, WeakMap, CopyNative, CopyScript, Drop, Set, Get, Put, Take, Wrap, Unwrap, Preserve, SetEntry, GetEntry, Expose}
 use Rattle.cc_model.specs.Ranges.{in_range, is_register, is_slots}
 use Rattle.cc_model.specs.Checks.{slot_at, slots_at, value_at, native_of, is_map_in}
 use Rattle.cc_model.specs.Heap.{Heap, register, source, objects_of}
@@ -61,8 +61,4 @@ effects-sound {owned} h (SetEntry m k v) s r t = set_entry-sound owned h (regist
 effects-sound {owned} h (GetEntry d m k) s r t = hold_script-sound owned h d (value_at (objects_of h) (register h (S m)) (register h (S k)))
     (value_at-there h (register h (S m)) (register h (S k)) s.well_formed) s
 effects-sound {owned} h (Expose q i) s r t = exposed-sound owned h (slot_at (objects_of h) (N q) i) s
-effects-sound {owned} h Nothing s r t = s
-effects-sound {owned} h (Slice u) s r t = s
-effects-sound {owned} h Collect s r t = s
-effects-sound {owned} h Gc s r t = s
-effects-sound {owned} h Census s r t = s
+effects-sound {owned} h _ s r t = s

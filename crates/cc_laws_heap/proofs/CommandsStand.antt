@@ -1,6 +1,6 @@
 -- HEAPS THAT STAND FOR A GRAPH GO ON STANDING FOR IT: after each command that is not refused they stand for the graph's step,
 -- and what they told as freed is not reached.
-use Rattle.std.proofs.Common.{◌≡◌, ℕ, ◌+◌, List, length, Option, Some, None, option_map, refl, sym, ◌∙◌, ap, subst, inr, ◌⊎◌}
+use Rattle.std.proofs.Common.{arith, ◌≡◌, ℕ, ◌+◌, List, length, Option, Some, None, option_map, refl, sym, ◌∙◌, ap, subst, inr, ◌⊎◌}
 use Rattle.std.specs.Prelude.{IsTrue}
 use Rattle.std.proofs.lemmas.Bool.{false≢true}
 use Rattle.cc_lists.specs.Members.{Among}
@@ -12,7 +12,7 @@ use Rattle.cc_names.specs.declared.register.Reg.TheVariants.{N, S}
 use Rattle.cc_names.specs.declared.kind.Kind.TheVariants.{Plain, Map}
 use Rattle.cc_names.specs.Names.{native, object, reflector}
 use Rattle.cc_model.specs.declared.command.Command.{Command}
-use Rattle.cc_model.specs.declared.command.Command.TheVariants.{Nothing, Native, Script, WeakMap, CopyNative, CopyScript, Drop, Set, Get, Put, Take, Wrap, Unwrap, Preserve, SetEntry, GetEntry, Expose, Slice, Collect, Gc, Census}
+use Rattle.cc_model.specs.declared.command.Command.TheVariants.{Native, Script, WeakMap, CopyNative, CopyScript, Drop, Set, Get, Put, Take, Wrap, Unwrap, Preserve, SetEntry, GetEntry, Expose}
 use Rattle.cc_model.specs.declared.item.Event.TheVariants.{Freed}
 use Rattle.cc_model.specs.Ranges.{in_range}
 use Rattle.cc_model.specs.Slots.{empty_slots}
@@ -65,17 +65,11 @@ module _ (h : Heap) (g : Graph) (w : IsWellFormed h) (m : IsWellMade g) (s : Sta
 
   -- and so does a script source
   script_source-alike : (r : Option ℕ) → heap.source h (option_map S r) ≡ graph.source g (option_map S r)
-  script_source-alike None = refl
-  script_source-alike (Some r) = a.register (S r)
+  script_source-alike r = grind arith
 
   -- what a native register holds has no native whose reflector it is
   native-preserved : (d : ℕ) → OfSome (IsPreserved g) (graph.register g (N d))
-  native-preserved d = OfSome-then (MadeNative g) (IsPreserved g) no_reflector (graph.register g (N d)) (native_register-made g m d)
-    where
-      no_reflector : (x : Name) → MadeNative g x → IsPreserved g x
-      no_reflector (name.Native k) t = λ j s e i. absurd (cc)
-      no_reflector (name.Script k) t = absurd (false≢true t)
-      no_reflector (name.Reflector k) t = absurd (false≢true t)
+  native-preserved d = grind (arith, OfSome-then, native_register-made)
 
   -- a reflector made or found, and put into a register
   wrap : (d : ℕ) (x : Option Name) → OfSome (Reached g) x → OfSome (MadeNative g) x → (Q : Type 0) →
@@ -83,8 +77,7 @@ module _ (h : Heap) (g : Graph) (w : IsWellFormed h) (m : IsWellMade g) (s : Sta
   wrap d None r t Q f = f (Reached g) (Follows-script_register (Reached g) h g d None None refl tt start)
   wrap d (Some (name.Native k)) r t Q f = Follows-wrapped h g k.0 w m s r Q
       (λ P p u. f P (Follows-script_register P (effects_of.wrapped h (Some (name.Native k))) (graph.wrapped g (Some (name.Native k))) d (Some (reflector k.0)) (Some (reflector k.0)) refl p u))
-  wrap d (Some (name.Script k)) r t Q f = absurd (false≢true t)
-  wrap d (Some (name.Reflector k)) r t Q f = absurd (false≢true t)
+  wrap d _ r t Q f = absurd (false≢true t)
 
   -- AFTER EACH COMMAND THE HEAPS FOLLOW what it makes of the graph: whatever follows from that, follows.
   effects-follow : (c : Command) (Q : Type 0) → ((P : Name → Type 0) → Follows P (effects h c).heap (changed g c) → Q) → Q
@@ -138,11 +131,7 @@ module _ (h : Heap) (g : Graph) (w : IsWellFormed h) (m : IsWellMade g) (s : Sta
   effects-follow (GetEntry d x k) Q f = f (Reached g) (Follows-hold_script (Reached g) h g d (value_at (heap.objects_of h) (heap.register h (S x)) (heap.register h (S k)))
       (value_at (graph.objects_of g) (graph.register g (S x)) (graph.register g (S k))) (a.value (S x) (S k)) (value_at-reached g (S x) (S k)) start)
   effects-follow (Expose r i) Q f = f (Reached g) (Follows-left (Reached g) h _ g (Leaves-exposed h (slot_at (heap.objects_of h) (N r) i)) start)
-  effects-follow Nothing Q f = f (Reached g) start
-  effects-follow (Slice u) Q f = f (Reached g) start
-  effects-follow Collect Q f = f (Reached g) start
-  effects-follow Gc Q f = f (Reached g) start
-  effects-follow Census Q f = f (Reached g) start
+  effects-follow _ Q f = f (Reached g) start
 
 -- what a command that the heaps do not refuse makes of the graph
 step-changed : (h : Heap) (g : Graph) (c : Command) → StandsFor h g → refusal_of (heap.objects_of h) c ≡ None → step g c ≡ changed g c
@@ -160,29 +149,7 @@ command-stands h g c sound m s r t = effects-follow h g sound.well_formed m s c 
 -- what a command tells as freed are natives that are there no more
 effects-gone : (h : Heap) (c : Command) → TellsWhatIsGone (effects h c)
 unfolding effects make_native hold_native store_native
-effects-gone h (Native d n) = let_go-gone _ _
-effects-gone h (Script d n) = λ x i. absurd i
-effects-gone h (WeakMap d) = λ x i. absurd i
-effects-gone h (CopyNative d s) = let_go-gone _ _
-effects-gone h (CopyScript d s) = λ x i. absurd i
-effects-gone h (Drop (N d)) = let_go-gone _ _
-effects-gone h (Drop (S d)) = λ x i. absurd i
-effects-gone h (Set d i r) = let_go-gone _ _
-effects-gone h (Get (N d) s i) = let_go-gone _ _
-effects-gone h (Get (S d) s i) = λ x i. absurd i
-effects-gone h (Put d i s) = λ x i. absurd i
-effects-gone h (Take d s i) = λ x i. absurd i
-effects-gone h (Wrap d s) = λ x i. absurd i
-effects-gone h (Unwrap d s) = let_go-gone _ _
-effects-gone h (Preserve s) = λ x i. absurd i
-effects-gone h (SetEntry m k v) = λ x i. absurd i
-effects-gone h (GetEntry d m k) = λ x i. absurd i
-effects-gone h (Expose s i) = λ x i. absurd i
-effects-gone h Nothing = λ x i. absurd i
-effects-gone h (Slice u) = λ x i. absurd i
-effects-gone h Collect = λ x i. absurd i
-effects-gone h Gc = λ x i. absurd i
-effects-gone h Census = λ x i. absurd i
+effects-gone h c = grind (arith, let_go-gone)
 
 -- NOTHING THAT WAS FREED IS REACHED.
 pub freed-unreached : {owned : List ℕ} (h : Heap) (g : Graph) (c : Command) (x : Name) → IsSound owned h → IsWellMade g → StandsFor h g → IsTrue (in_range c) →
@@ -205,17 +172,4 @@ empty-unreached limits _ (value e i a b) = i
 
 -- THE EMPTY HEAPS STAND FOR THE EMPTY GRAPH.
 pub empty-stands : (limits : Allowance) → StandsFor (empty_heap limits) (empty_graph limits)
-empty-stands limits = record {
-  native_registers = refl;
-  script_registers = refl;
-  limits = refl;
-  natives_made = refl;
-  scripts_made = refl;
-  natives = λ n m. absurd m;
-  scripts = λ o m. absurd m;
-  reached = λ x d. absurd (empty-unreached limits x d);
-  values = λ m k a b. refl;
-  entries = tt;
-  blank = λ k n slots e. absurd (numbered-nothing k n e);
-  blank_there = λ n o m. absurd m;
-}
+empty-stands limits = grind (arith, empty-unreached, numbered-nothing)

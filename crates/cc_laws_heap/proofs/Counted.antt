@@ -14,11 +14,7 @@ use Rattle.cc_laws_heap.specs.Balance.{count_of, count_at, IsCounted}
 
 -- a number with a count is there
 pub count_at-found : (h : Heap) (k : ℕ) → 1 ≤ count_at h k → (n : HeapNative) × (native_at h k ≡ Some n)
-count_at-found h k some = go (native_at h k) refl some
-  where
-    go : (o : Option HeapNative) → native_at h k ≡ o → 1 ≤ count_of o → (n : HeapNative) × (native_at h k ≡ Some n)
-    go None e s = absurd (omega arith)
-    go (Some n) e s = (n, e)
+count_at-found h k some = grind arith
 
 -- and so is its name
 count_at-there : (h : Heap) (k : ℕ) → 1 ≤ count_at h k → Among (native k) (native_names h)

@@ -1,8 +1,8 @@
 -- WHAT CHANGES OF COUNTS AND OF THE BUFFER LEAVE: natives but for their counts, all beside natives and buffer, and
 -- what was told.
-use Rattle.std.proofs.Common.{◌≡◌, ℕ, zero, suc, List, [], ◌∷◌, map, Option, Some, None, refl, ◌∙◌}
-use Rattle.cc_model.specs.Heap.{HeapNative, native_at, suspect, forget}
-use Rattle.cc_model.specs.Cascade.{Draining, lower, fallen, given_up, give_up, give_up_each}
+use Rattle.std.proofs.Common.{arith, ◌≡◌, ℕ, zero, suc, List, [], ◌∷◌, map, refl}
+use Rattle.cc_model.specs.Heap.{suspect, forget}
+use Rattle.cc_model.specs.Cascade.{Draining, lower, fallen, give_up, give_up_each}
 use Rattle.cc_laws_heap.specs.Freeing.{uncounted, SameBeside}
 use Rattle.cc_laws_heap.proofs.Natives.{uncounted-change}
 use Rattle.cc_laws_heap.proofs.Beside.{SameBeside-with, SameBeside-refl, SameBeside-trans}
@@ -20,33 +20,15 @@ IsAlike-refl d = record { natives = refl; beside = SameBeside-refl d.heap; event
 
 -- one change after another
 IsAlike-trans : (d e f : Draining) → IsAlike d e → IsAlike e f → IsAlike d f
-IsAlike-trans d e f a b = record {
-  natives = b.natives ∙ a.natives;
-  beside = SameBeside-trans d.heap e.heap f.heap a.beside b.beside;
-  events = b.events ∙ a.events;
-}
+IsAlike-trans d e f a b = grind (arith, SameBeside-trans)
 
 -- a count that falls leaves the heaps alike
 IsAlike-fallen : (d : Draining) (k c : ℕ) → IsAlike d (fallen d k c)
-IsAlike-fallen d k zero = IsAlike-refl d
-IsAlike-fallen d k (suc zero) = record {
-  natives = uncounted-change d.heap k lower_native (λ n. refl);
-  beside = SameBeside-with d.heap (lower d.heap k).natives (forget d.heap k).buffer;
-  events = refl;
-}
-IsAlike-fallen d k (suc (suc c)) = record {
-  natives = uncounted-change d.heap k lower_native (λ n. refl);
-  beside = SameBeside-with d.heap (lower d.heap k).natives (suspect d.heap k).buffer;
-  events = refl;
-}
+IsAlike-fallen d k c = grind (arith, IsAlike-refl, uncounted-change, SameBeside-with)
 
 -- a reference given up leaves the heaps alike
 pub IsAlike-give_up : (d : Draining) (k : ℕ) → IsAlike d (give_up d k)
-IsAlike-give_up d k = go (native_at d.heap k)
-  where
-    go : (o : Option HeapNative) → IsAlike d (given_up d k o)
-    go None = IsAlike-refl d
-    go (Some n) = IsAlike-fallen d k n.count
+IsAlike-give_up d k = grind (arith, IsAlike-refl, IsAlike-fallen)
 
 -- and so do several
 pub IsAlike-give_up_each : (d : Draining) (js : List ℕ) → IsAlike d (give_up_each d js)

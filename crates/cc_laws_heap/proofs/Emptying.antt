@@ -47,18 +47,14 @@ front-set (suc i) x xs = ap (λ slots. None ∷ slots) (front-set i x xs)
 
 -- what a register or a slot held is given up: what is told is what is taken out
 pub let_go-frees : (owned : List ℕ) (h : Heap) (x : Option Name) → IsSound (numbers_of x ++ owned) h → (ks : List ℕ) × Frees h ks (let_go h x)
-let_go-frees owned h None s = ([], Frees-at_rest h)
 let_go-frees owned h (Some (name.Native k)) s = cascade-frees owned h k.0 s
-let_go-frees owned h (Some (name.Script k)) s = ([], Frees-at_rest h)
-let_go-frees owned h (Some (name.Reflector k)) s = ([], Frees-at_rest h)
+let_go-frees owned h _ s = ([], Frees-at_rest h)
 
 -- what is done where a register or a slot gives up what it held
 let_go-done : (ks owned : List ℕ) (h : Heap) (x : Option Name) → IsSound (numbers_of x ++ owned) h →
     Done (Ending ks) (stage (numbers_of x ++ owned) [] h) (let_go h x).events (stage owned [] (let_go h x).heap)
-let_go-done ks owned h None s = nothing (stage owned [] h)
 let_go-done ks owned h (Some (name.Native k)) s = cascade-done (Ending ks) owned owned h k.0 (IsBalanced-at_rest (k.0 ∷ owned) h s)
-let_go-done ks owned h (Some (name.Script k)) s = nothing (stage owned [] h)
-let_go-done ks owned h (Some (name.Reflector k)) s = nothing (stage owned [] h)
+let_go-done ks owned h _ s = nothing (stage owned [] h)
 
 -- a native that is there after a cascade is as it was
 frees-stays : (h : Heap) (ks : List ℕ) (o : Outcome) → Frees h ks o → HasDistinctNumbers h → (k : ℕ) (n : HeapNative) → native_at h k ≡ Some n →

@@ -1,12 +1,12 @@
 -- WHAT THE END OF A COLLECTION TELLS: the numbers of unlinked and of freed natives, list by list.
-use Rattle.std.proofs.Common.{◌≡◌, ℕ, List, [], ◌∷◌, map, refl, ap, subst, ⊎_elim}
+use Rattle.std.proofs.Common.{arith, ◌≡◌, ℕ, List, [], ◌∷◌, map, refl, ap, subst, ⊎_elim}
 use Rattle.cc_lists.specs.Members.{Among}
 use Rattle.cc_lists.proofs.Members.{Among-append}
 use Rattle.cc_model.specs.declared.item.Event.{Event}
 use Rattle.cc_model.specs.Lawful.{unlinked_numbers}
 use Rattle.cc_laws_heap.specs.Ending.{freed_numbers, NamesNative}
 use Rattle.cc_laws_heap.specs.Stages.{Stage, Done, Ending}
-use Rattle.cc_laws_heap.specs.Stages.Ending.{reordered, raised, unlinked, emptied, unpreserved}
+use Rattle.cc_laws_heap.specs.Stages.Ending.{unlinked}
 use Rattle.cc_laws_heap.proofs.Folding.{done-keeps}
 use Rattle.cc_laws_heap.proofs.Freed.{freed_event}
 
@@ -35,11 +35,7 @@ TellsTo s es t = (e : Event) → Among e es → NamesNative e
 
 -- what the end of a collection does besides tells an unlink line at most
 ending-tells : (ks : List ℕ) (s : Stage) (es : List Event) (t : Stage) → Ending ks s es t → TellsTo s es t
-ending-tells ks _ _ _ (reordered early late h same) = λ e m. absurd m
-ending-tells ks _ _ _ (raised hand h k there) = λ e m. absurd m
-ending-tells ks _ _ _ (unlinked hand h k own) = λ e m. ⊎_elim (λ s. subst NamesNative s (k, refl)) (λ n. absurd n) m
-ending-tells ks _ _ _ (emptied hand h k i n x own d f room content) = λ e m. absurd m
-ending-tells ks _ _ _ (unpreserved hand h k own) = λ e m. absurd m
+ending-tells ks _ es t e = grind arith
 
 -- NATIVES ALONE ARE TOLD in cascades and in ends of collections.
 pub done-tells : (ks : List ℕ) (s : Stage) (es : List Event) (t : Stage) → Done (Ending ks) s es t → (e : Event) → Among e es → NamesNative e

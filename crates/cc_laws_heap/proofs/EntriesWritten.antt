@@ -36,11 +36,7 @@ is_pair-other m k a b e f p =
 
 -- the value after an entry was set
 value_in-set : (es : List Entry) (m k v a b : Name) → value_in (with_entry es m k v) a b ≡ cond (is_pair m k a b) (Some v) (value_in es a b)
-value_in-set [] m k v a b = go (is_pair m k a b)
-  where
-    go : (t : Bool) → elim t as (λ _. Option Name) [ true ↦ Some v | false ↦ None ] ≡ cond t (Some v) None
-    go true = refl
-    go false = refl
+value_in-set [] m k v a b = grind arith
 value_in-set (e ∷ es) m k v a b = go (value_in-set es m k v a b) (is_entry_of m k e) refl (is_pair m k a b) refl
   where
     go : value_in (with_entry es m k v) a b ≡ cond (is_pair m k a b) (Some v) (value_in es a b) → (t : Bool) → is_entry_of m k e ≡ t → (p : Bool) → is_pair m k a b ≡ p →
@@ -56,11 +52,7 @@ value_in-set (e ∷ es) m k v a b = go (value_in-set es m k v a b) (is_entry_of 
 
 -- the value after an entry was taken out
 value_in-without : (es : List Entry) (m k a b : Name) → value_in (without_entry es m k) a b ≡ cond (is_pair m k a b) None (value_in es a b)
-value_in-without [] m k a b = go (is_pair m k a b)
-  where
-    go : (t : Bool) → value_in [] m k ≡ cond t None (value_in [] m k)
-    go true = refl
-    go false = refl
+value_in-without [] m k a b = grind arith
 value_in-without (e ∷ es) m k a b = go (value_in-without es m k a b) (is_entry_of m k e) refl (is_pair m k a b) refl
   where
     go : value_in (without_entry es m k) a b ≡ cond (is_pair m k a b) None (value_in es a b) → (t : Bool) → is_entry_of m k e ≡ t → (p : Bool) → is_pair m k a b ≡ p →
@@ -134,17 +126,11 @@ ArePart-set m k v (x ∷ xs) (y ∷ ys) a e few = ⊎_elim
 -- an entry set in both lists leaves them alike
 pub AreEntries-set : (P : Name → Type 0) (es fs : List Entry) (m k v : Name) → P m → P k → entries_of m k fs ≤ 1 → AreEntries P es fs →
     AreEntries P (with_entry es m k v) (with_entry fs m k v)
-AreEntries-set P es fs m k v p q few a = record {
-  values = λ x y i j. value_in-set es m k v x y ∙ (ap (cond (is_pair m k x y) (Some v)) (a.values x y i j) ∙ sym (value_in-set fs m k v x y));
-  part = ArePart-set m k v es fs a.part (a.values m k p q) few;
-}
+AreEntries-set P es fs m k v p q few a = grind (arith, value_in-set, ArePart-set)
 
 -- and so does one taken out of both
 pub AreEntries-without : (P : Name → Type 0) (es fs : List Entry) (m k : Name) → AreEntries P es fs → AreEntries P (without_entry es m k) (without_entry fs m k)
-AreEntries-without P es fs m k a = record {
-  values = λ x y i j. value_in-without es m k x y ∙ (ap (cond (is_pair m k x y) None) (a.values x y i j) ∙ sym (value_in-without fs m k x y));
-  part = ArePart-filter (λ e. not (is_entry_of m k e)) es fs a.part;
-}
+AreEntries-without P es fs m k a = grind (arith, value_in-without, ArePart-filter)
 
 -- ENTRIES CHANGED ALIKE: what they have for values is what `P` holds of, and a key that is new is no reflector that is not preserved.
 pub Follows-entries : (P : Name → Type 0) (h : Heap) (g : Graph) (es fs : List Entry) → AreEntries P es fs →
@@ -180,5 +166,4 @@ Follows-entries P h g es fs a new t = record {
   where
     same : (x : Name) → shape_in (with_entries g fs) x ≡ shape_in g x
     same (name.Native i) = refl
-    same (name.Script i) = refl
-    same (name.Reflector i) = refl
+    same _ = refl

@@ -1,6 +1,6 @@
 -- LISTS OF ENTRIES: what stands in them after an entry was set, that a map and a key have one, and the value that is found.
 use Rattle.std.proofs.Common.{◌≡◌, ℕ, ◌+◌, ◌≤◌, Bool, true, false, cond, List, [], ◌∷◌, Some, refl, sym, ◌∙◌, ap, subst, inl, inr, ◌⊎◌, ⊎_elim, arith, count_by}
-use Rattle.std.proofs.lemmas.Bool.{and_parts, and_from, true≢false, cases_Bool}
+use Rattle.std.proofs.lemmas.Bool.{and_from, true≢false, cases_Bool}
 use Rattle.cc_lists.specs.Members.{Among}
 use Rattle.cc_lists.proofs.Counting.{count_by-cons, count_by-some}
 use Rattle.cc_names.specs.declared.name.Name.{Name}
@@ -12,9 +12,7 @@ use Rattle.cc_model.specs.Entries.{Entry, entry, is_entry_of, value_in, with_ent
 
 -- it has that map and that key
 pub is_entry_of-parts : (m k : Name) (e : Entry) → is_entry_of m k e ≡ true → (e.the_map ≡ m) × (e.key ≡ k)
-is_entry_of-parts m k e t =
-    let p = and_parts (same_name e.the_map m) (same_name e.key k) t in
-    (same_name-true e.the_map m p.0, same_name-true e.key k p.1)
+is_entry_of-parts m k e t = grind (arith, same_name-true)
 
 -- an entry is that of its map and its key
 pub is_entry_of-own : (e : Entry) → is_entry_of e.the_map e.key e ≡ true
@@ -26,12 +24,7 @@ is_entry_of-from m k e a b = subst (λ x. is_entry_of x k e ≡ true) a (subst (
 
 -- entries of one map and one key are told alike
 pub is_entry_of-alike : (a b m k : Name) (e f : Entry) → is_entry_of m k e ≡ true → is_entry_of m k f ≡ true → is_entry_of a b e ≡ is_entry_of a b f
-is_entry_of-alike a b m k e f s t =
-    let p = is_entry_of-parts m k e s in
-    let q = is_entry_of-parts m k f t in
-    let maps : e.the_map ≡ f.the_map = p.0 ∙ sym q.0 in
-    let keys : e.key ≡ f.key = p.1 ∙ sym q.1 in
-    rw (maps, keys) refl
+is_entry_of-alike a b m k e f s t = grind (arith, is_entry_of-parts)
 
 -- An entry set
 

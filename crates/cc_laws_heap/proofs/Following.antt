@@ -1,8 +1,7 @@
 -- HEAPS THAT FOLLOW A GRAPH, but that what is reached may be missing from them. Where they are well formed it is there,
 -- so that they stand for the graph.
-use Rattle.std.proofs.Common.{◌≡◌, ℕ, false, List, length, Option, Some, None, option_map, refl, sym, ◌∙◌, ap, subst, inl, inr, ◌⊎◌, ⊎_elim}
+use Rattle.std.proofs.Common.{arith, ◌≡◌, ℕ, false, List, length, Some, option_map, sym, ◌∙◌, ap, subst, inl, inr, ◌⊎◌, ⊎_elim}
 use Rattle.std.specs.Prelude.{IsTrue}
-use Rattle.std.specs.Option.{option_and_then}
 use Rattle.cc_lists.specs.Members.{Among}
 use Rattle.cc_names.specs.declared.name.Name.{Name}
 use Rattle.cc_names.specs.declared.register.Reg.TheVariants.{N, S}
@@ -13,7 +12,7 @@ use Rattle.cc_model.specs.Graph.{Graph, GraphNative, native_in}
 use Rattle.cc_model.specs.Reached.{Reached, held, edge, value}
 use Rattle.cc_model.specs.Heap.{Heap, HeapNative, HeapScript}
 use Rattle.cc_model.specs.WellFormed.{IsWellFormed}
-use Rattle.cc_model.specs.StandsFor.{Shape, shape_in, shape_of_native, shape_of_held_native, shape_of_held_script, script_shape, shape_of_reflector, ArePart, IsEmptied, NativeStands, IsNoKey, StandsFor}
+use Rattle.cc_model.specs.StandsFor.{Shape, shape_in, shape_of_native, shape_of_held_native, shape_of_held_script, script_shape, ArePart, IsEmptied, NativeStands, IsNoKey, StandsFor}
 use Rattle.cc_laws_heap.proofs.ScriptNames.{script-named}
 use Rattle.cc_laws_heap.proofs.Holds.{contents-place}
 use Rattle.cc_laws_heap.proofs.Shapes.{edges_of_shape}
@@ -68,26 +67,12 @@ pub record Follows (P : Name → Type 0) (h : Heap) (g : Graph) : Type 0 where
 
 -- what has a native's name and a shape is a native
 pub shape_in-native : (g : Graph) (k : ℕ) (s : Shape) → shape_in g (native k) ≡ Some s → (n : GraphNative) × (native_in g k ≡ Some n) × (shape_of_native n ≡ s)
-shape_in-native g k s = go (native_in g k) refl
-  where
-    go : (o : Option GraphNative) → native_in g k ≡ o → option_map shape_of_native o ≡ Some s → (n : GraphNative) × (native_in g k ≡ Some n) × (shape_of_native n ≡ s)
-    go None i e = absurd (cc)
-    go (Some n) i e = let same : shape_of_native n ≡ s = cc in (n, i, same)
+shape_in-native g k s = grind arith
 
 -- what has a reflector's name and a shape is that of a native
 pub shape_in-reflector : (g : Graph) (k : ℕ) (t : Shape) → shape_in g (reflector k) ≡ Some t →
     (n : GraphNative) × (slots : Slots) × (native_in g k ≡ Some n) × (n.reflector ≡ Some slots) × (script_shape (Some slots) ≡ t)
-shape_in-reflector g k t = go (native_in g k) refl
-  where
-    go : (o : Option GraphNative) → native_in g k ≡ o → option_and_then shape_of_reflector o ≡ Some t →
-        (n : GraphNative) × (slots : Slots) × (native_in g k ≡ Some n) × (n.reflector ≡ Some slots) × (script_shape (Some slots) ≡ t)
-    go None i e = absurd (cc)
-    go (Some n) i e = reflected n.reflector refl e
-      where
-        reflected : (r : Option Slots) → n.reflector ≡ r → option_map (λ slots. script_shape (Some slots)) r ≡ Some t →
-            (n : GraphNative) × (slots : Slots) × (native_in g k ≡ Some n) × (n.reflector ≡ Some slots) × (script_shape (Some slots) ≡ t)
-        reflected None j f = absurd (cc)
-        reflected (Some slots) j f = let same : script_shape (Some slots) ≡ t = cc in (n, slots, i, j, same)
+shape_in-reflector g k t = grind arith
 
 -- From standing to following
 

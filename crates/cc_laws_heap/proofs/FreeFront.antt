@@ -1,30 +1,20 @@
 -- THE FRONT OF THE QUEUE FREED: nothing refers to it, so it is the same whether its slots are given up before or after
 -- it is taken out; taken out first, its slots are references in hand, which are then given up one after another.
-use Rattle.std.proofs.Common.{◌≡◌, ◌≢◌, ℕ, zero, suc, ◌+◌, ◌≤◌, Bool, true, false, not, List, [], ◌∷◌, ◌++◌, map, Option, Some, None, refl, sym, ◌∙◌, ap, subst, arith, count_by, ◌==◌}
-use Rattle.std.specs.List.{filter}
-use Rattle.std.proofs.Math.Path.{fun_ext}
+use Rattle.std.proofs.Common.{◌≡◌, ◌≢◌, ℕ, zero, suc, ◌+◌, ◌≤◌, true, false, not, List, [], ◌∷◌, ◌++◌, Some, refl, sym, ◌∙◌, ap, subst, arith, count_by, ◌==◌}
 use Rattle.std.proofs.lemmas.Bool.{eqb-true, ne_eqb, not-true}
 use Rattle.cc_model.specs.Heap.{Heap, HeapNative, native_at, forget, suspect}
-use Rattle.cc_model.specs.Cascade.{Draining, lower, fallen, given_up, give_up, give_up_each, removed, natives_of_slots, told_free, without_native, free_front}
+use Rattle.cc_model.specs.Cascade.{Draining, lower, fallen, give_up, give_up_each, removed, natives_of_slots, told_free, without_native, free_front}
 use Rattle.cc_model.specs.Counts.{times}
 use Rattle.cc_lists.proofs.Searching.{filter-map, count_by-kept, count_by-dropped}
 use Rattle.cc_lists.proofs.Numbers.{at-each}
-use Rattle.cc_laws_heap.proofs.Natives.{changed_at, changed_at-number, native_at-removed_same, native_at-removed_other}
+use Rattle.cc_laws_heap.proofs.Natives.{changed_at-number, native_at-removed_same, native_at-removed_other}
 use Rattle.cc_laws_heap.proofs.References.{times-append, times-cons_same, times-cons_other, refs_to-removed}
-use Rattle.cc_laws_heap.proofs.GiveUp.{lower_native, IsBalanced-give_up_each}
+use Rattle.cc_laws_heap.proofs.GiveUp.{IsBalanced-give_up_each}
 use Rattle.cc_laws_heap.specs.Balance.{one_at_zero, waiting, one_above_zero, living, IsBalanced, count_of, count_at, has_number, HasDistinctNumbers, places}
 
 -- a number that waits is that of a native with count zero
 pub waiting-found : (h : Heap) (k : ℕ) → 1 ≤ waiting (native_at h k) → (n : HeapNative) × (native_at h k ≡ Some n) × (n.count ≡ 0)
-waiting-found h k some = go (native_at h k) refl some
-  where
-    zero_there : (c : ℕ) → 1 ≤ one_at_zero c → c ≡ 0
-    zero_there zero s = refl
-    zero_there (suc c) s = absurd (omega arith)
-
-    go : (o : Option HeapNative) → native_at h k ≡ o → 1 ≤ waiting o → (n : HeapNative) × (native_at h k ≡ Some n) × (n.count ≡ 0)
-    go None e s = absurd (omega arith)
-    go (Some n) e s = (n, e, zero_there n.count s)
+waiting-found h k some = grind arith
 
 -- natives with distinct numbers stay so when one is taken out
 HasDistinctNumbers-removed : (h : Heap) (k : ℕ) → HasDistinctNumbers h → HasDistinctNumbers (removed h k)
@@ -81,28 +71,15 @@ IsBalanced-removed owned d k ks n b q e z = record {
 
 -- a count that falls, and a native taken out
 removed-lower : (h : Heap) (j k : ℕ) → removed (lower h j) k ≡ lower (removed h k) j
-removed-lower h j k = ap (λ ns. record h { natives = ns }) (filter-map others (changed_at j lower_native) h.natives
-    ∙ ap (λ p. map (changed_at j lower_native) (filter p h.natives)) same)
-  where
-    others : HeapNative → Bool
-    others n = not (n.number == k)
-
-    same : (λ n. others (changed_at j lower_native n)) ≡ others
-    same = fun_ext (λ n. ap (λ i. not (i == k)) (changed_at-number j lower_native (λ m. refl) n))
+removed-lower h j k = grind (arith, filter-map, changed_at-number)
 
 -- the same while natives are deleted, by the count before
 without_native-fallen : (d : Draining) (j k c : ℕ) → without_native (fallen d j c) k ≡ fallen (without_native d k) j c
-without_native-fallen d j k zero = refl
-without_native-fallen d j k (suc zero) = ap (λ h. record d { heap = forget h j; queue = d.queue ++ j ∷ [] }) (removed-lower d.heap j k)
-without_native-fallen d j k (suc (suc c)) = ap (λ h. record d { heap = suspect h j }) (removed-lower d.heap j k)
+without_native-fallen d j k c = grind (arith, removed-lower)
 
 -- one reference given up to another native than that taken out
 without_native-give_up : (d : Draining) (j k : ℕ) → j ≢ k → without_native (give_up d j) k ≡ give_up (without_native d k) j
-without_native-give_up d j k o = go (native_at d.heap j) ∙ ap (given_up (without_native d k) j) (sym (native_at-removed_other d.heap k j o))
-  where
-    go : (m : Option HeapNative) → without_native (given_up d j m) k ≡ given_up (without_native d k) j m
-    go None = refl
-    go (Some n) = without_native-fallen d j k n.count
+without_native-give_up d j k o = grind (arith, native_at-removed_other, without_native-fallen)
 
 -- several, none of them to the native taken out
 pub without_native-give_up_each : (d : Draining) (js : List ℕ) (k : ℕ) → times k js ≡ 0 → without_native (give_up_each d js) k ≡ give_up_each (without_native d k) js

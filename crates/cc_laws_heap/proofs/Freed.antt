@@ -25,11 +25,7 @@ freed_event k = Freed (native k)
 
 -- to be none of a list and one more is to be none of the list, and not that one
 is_none_of-push : (ks : List ℕ) (k : ℕ) (u : Uncounted) → is_none_of (ks ++ k ∷ []) u ≡ (is_none_of ks u && not (u.number == k))
-is_none_of-push [] k u = rw (eqb-sym u.number k) (or_false (k == u.number))
-  where
-    or_false : (b : Bool) → not (b || false) ≡ not b
-    or_false true = refl
-    or_false false = refl
+is_none_of-push [] k u = grind (arith, eqb-sym)
 is_none_of-push (i ∷ js) k u = go (i == u.number) (is_none_of-push js k u)
   where
     go : (b : Bool) → is_none_of (js ++ k ∷ []) u ≡ (is_none_of js u && not (u.number == k)) →
@@ -45,19 +41,11 @@ pub record TakesOut (h : Heap) (ks : List ℕ) (o : Outcome) : Type 0 where
 
 -- heaps left as they are
 pub TakesOut-silently : (h : Heap) → TakesOut h [] (silently h)
-TakesOut-silently h = record {
-  told = refl;
-  natives = sym (filter-true (is_none_of []) (map uncounted h.natives) (λ u. refl));
-  beside = SameBeside-refl h;
-}
+TakesOut-silently h = grind (arith, filter-true, SameBeside-refl)
 
 -- alike heaps have taken out the same
 pub TakesOut-alike : (h : Heap) (ks : List ℕ) (d e : Draining) → IsAlike d e → TakesOut h ks (outcome d) → TakesOut h ks (outcome e)
-TakesOut-alike h ks d e a f = record {
-  told = a.events ∙ f.told;
-  natives = a.natives ∙ f.natives;
-  beside = SameBeside-trans h d.heap e.heap f.beside a.beside;
-}
+TakesOut-alike h ks d e a f = grind (arith, SameBeside-trans)
 
 -- the front of the queue is one more
 pub TakesOut-free_front : (h : Heap) (told : List ℕ) (d : Draining) (k : ℕ) (ks : List ℕ) → TakesOut h told (outcome d) → TakesOut h (told ++ k ∷ []) (outcome (free_front d k ks))
@@ -96,6 +84,4 @@ TakesOut-free_front h told d k ks f = record {
 
 -- heaps at rest have freed nothing
 pub Frees-at_rest : (h : Heap) → Frees h [] (outcome (at_rest h))
-Frees-at_rest h =
-    let t = TakesOut-silently h in
-    record { told = t.told; once = λ k. omega arith; were_there = λ k m. absurd m; natives = t.natives; beside = t.beside }
+Frees-at_rest h = grind (arith, TakesOut-silently)

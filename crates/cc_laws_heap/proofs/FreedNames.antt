@@ -1,5 +1,5 @@
 -- OBJECTS TAKEN OUT IN TURN are taken out together: what was told first is there no more, so nothing is told twice.
-use Rattle.std.proofs.Common.{◌≡◌, List, [], ◌++◌, map, refl, sym, ◌∙◌, ap, subst, ⊎_elim, arith}
+use Rattle.std.proofs.Common.{◌≡◌, List, [], ◌++◌, map, sym, ◌∙◌, ap, subst, ⊎_elim, arith}
 use Rattle.std.specs.List.{filter}
 use Rattle.std.proofs.Math.Path.{fun_ext}
 use Rattle.std.proofs.lemmas.List.{map-append}
@@ -17,40 +17,16 @@ use Rattle.cc_model.specs.Entries.{Entry}
 -- two lists taken out in turn are taken out together
 pub filter-not_among : {X : Type 0} (f : X → Name) (xs ys : List Name) (zs : List X) →
     filter (λ z. is_not_among ys (f z)) (filter (λ z. is_not_among xs (f z)) zs) ≡ filter (λ z. is_not_among (xs ++ ys) (f z)) zs
-filter-not_among f xs ys zs =
-    filter-filter (λ z. is_not_among ys (f z)) (λ z. is_not_among xs (f z)) zs
-    ∙ ap (λ p. filter p zs) (fun_ext (λ z. sym (is_not_among-append xs ys (f z))))
+filter-not_among f xs ys zs = search (filter-filter, is_not_among-append)
 
 -- where nothing was done nothing was taken out
 pub FreesNames-silently : (h : Heap) → FreesNames h [] (silently h)
-FreesNames-silently h = record {
-  told = refl;
-  once = λ x. omega arith;
-  were_there = λ x m. absurd m;
-  natives = sym (filter-true (is_not_among []) (native_names h) (λ x. refl));
-  scripts = sym (filter-true (is_not_among []) (script_names h) (λ x. refl));
-  native_registers = refl;
-  script_registers = refl;
-  natives_made = refl;
-  scripts_made = refl;
-  limits = refl;
-}
+FreesNames-silently h = grind (arith, filter-true)
 
 -- what is taken out of heaps with the same names, but for colours and entries, is taken out
 pub FreesNames-alike : (h : Heap) (os : List HeapScript) (es : List Entry) (xs : List Name) (o : Outcome) → map (λ (s : HeapScript). s.name) os ≡ script_names h →
     FreesNames (record h { scripts = os; entries = es }) xs o → FreesNames h xs o
-FreesNames-alike h os es xs o same f = record {
-  told = f.told;
-  once = f.once;
-  were_there = λ x m. subst (λ ys. Among x (native_names h ++ ys)) same (f.were_there x m);
-  natives = f.natives;
-  scripts = f.scripts ∙ ap (filter (is_not_among xs)) same;
-  native_registers = f.native_registers;
-  script_registers = f.script_registers;
-  natives_made = f.natives_made;
-  scripts_made = f.scripts_made;
-  limits = f.limits;
-}
+FreesNames-alike h os es xs o same f = grind arith
 
 -- what is left was there before, and was not taken out
 pub FreesNames-left : (h : Heap) (xs : List Name) (o : Outcome) → FreesNames h xs o → (x : Name) → Among x (names_there o.heap) →

@@ -29,11 +29,7 @@ native_at-lower_other h k j d = native_at-change_other h k lower_native (λ n. r
 
 -- its count is one less
 count_at-lower_same : (h : Heap) (k : ℕ) → count_at (lower h k) k ≡ count_at h k - 1
-count_at-lower_same h k = ap count_of (native_at-lower_same h k) ∙ go (native_at h k)
-  where
-    go : (o : Option HeapNative) → count_of (option_map lower_native o) ≡ count_of o - 1
-    go None = refl
-    go (Some n) = refl
+count_at-lower_same h k = grind (arith, native_at-lower_same)
 
 -- any other count stays
 count_at-lower_other : (h : Heap) (k j : ℕ) → j ≢ k → count_at (lower h k) j ≡ count_at h j
@@ -52,25 +48,11 @@ IsCounted-lower owned h k c = at-each (λ j. count_at (lower h k) j ≡ refs_to 
 -- what holds where there is no such native, and where its count falls to zero or not that far, holds where a reference to it is given up
 pub give_up-cases : (P : Draining → Type 0) (d : Draining) (k : ℕ) → ((n : HeapNative) → native_at d.heap k ≡ Some n → 1 ≤ n.count) →
     (native_at d.heap k ≡ None → P d) → P (queued d k) → P (lowered d k) → P (give_up d k)
-give_up-cases P d k some none zero_left some_left = go (native_at d.heap k) refl
-  where
-    by_count : (c : ℕ) → 1 ≤ c → P (fallen d k c)
-    by_count zero l = absurd (omega arith)
-    by_count (suc zero) l = zero_left
-    by_count (suc (suc c)) l = some_left
-
-    go : (o : Option HeapNative) → native_at d.heap k ≡ o → P (given_up d k o)
-    go None e = none e
-    go (Some n) e = by_count n.count (some n e)
+give_up-cases P d k some none zero_left some_left = grind arith
 
 -- no more than one
 pub living-one : (o : Option HeapNative) → living o ≤ 1
-living-one None = omega arith
-living-one (Some n) = go n.count
-  where
-    go : (c : ℕ) → one_above_zero c ≤ 1
-    go zero = omega arith
-    go (suc c) = omega arith
+living-one o = grind arith
 
 module _ (owned : List ℕ) (d : Draining) (k : ℕ) (b : IsBalanced (k ∷ owned) d) (n : HeapNative) (e : native_at d.heap k ≡ Some n) where
   -- how often the native waits before its count falls
@@ -79,15 +61,11 @@ module _ (owned : List ℕ) (d : Draining) (k : ℕ) (b : IsBalanced (k ∷ owne
 
   -- how often it should after
   waiting-lower : (c : ℕ) → n.count ≡ suc c → waiting (native_at (lower d.heap k) k) ≡ one_at_zero c
-  waiting-lower c z =
-      let less : n.count - 1 ≡ c = omega arith in
-      ap waiting (native_at-lower_same d.heap k ∙ ap (option_map lower_native) e) ∙ ap one_at_zero less
+  waiting-lower c z = grind (arith, native_at-lower_same)
 
   -- how often it may stand in the buffer after
   living-lower : (c : ℕ) → n.count ≡ suc c → living (native_at (lower d.heap k) k) ≡ one_above_zero c
-  living-lower c z =
-      let less : n.count - 1 ≡ c = omega arith in
-      ap living (native_at-lower_same d.heap k ∙ ap (option_map lower_native) e) ∙ ap one_above_zero less
+  living-lower c z = grind (arith, native_at-lower_same)
 
   -- where the count stays above zero the native is suspected
   IsBalanced-lowered : (c : ℕ) → n.count ≡ suc (suc c) → IsBalanced owned (lowered d k)

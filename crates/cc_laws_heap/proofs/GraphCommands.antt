@@ -10,7 +10,7 @@ use Rattle.cc_names.specs.declared.name.Name.TheVariants as name
 use Rattle.cc_names.specs.declared.register.Reg.TheVariants.{N, S}
 use Rattle.cc_names.specs.Names.{native, object}
 use Rattle.cc_model.specs.declared.command.Command.{Command}
-use Rattle.cc_model.specs.declared.command.Command.TheVariants.{Nothing, Native, Script, WeakMap, CopyNative, CopyScript, Drop, Set, Get, Put, Take, Wrap, Unwrap, Preserve, SetEntry, GetEntry, Expose, Slice, Collect, Gc, Census}
+use Rattle.cc_model.specs.declared.command.Command.TheVariants.{Native, Script, WeakMap, CopyNative, CopyScript, Drop, Set, Get, Put, Take, Wrap, Unwrap, Preserve, SetEntry, GetEntry}
 use Rattle.cc_model.specs.declared.item.Refusal.{Refusal}
 use Rattle.cc_model.specs.Ranges.{in_range, is_register, is_slots}
 use Rattle.cc_model.specs.Slots.{Slots, empty_slots}
@@ -29,8 +29,7 @@ use Rattle.cc_laws_heap.proofs.Making.{contents-empty_none}
 
 -- a slot written takes no reflector away
 pub KeepsReflector-slot : (i : ℕ) (x : Option Name) (o : Option Slots) → is_some o ≡ true → is_some (option_map (λ (slots : Slots). set slots i x) o) ≡ true
-KeepsReflector-slot i x None e = e
-KeepsReflector-slot i x (Some slots) e = refl
+KeepsReflector-slot i x o e = grind arith
 
 -- a reflector preserved changes nothing else
 Grows-preserve : (g : Graph) (o : Option Name) → Grows g (preserve g o)
@@ -41,19 +40,7 @@ Grows-preserve g (Some (name.Reflector k)) = Grows-change_native g k.0 as_preser
 
 -- what has no slots and was made is a weak map
 map-made : (g : Graph) (x : Name) → MadeScript g x → is_none (slots_in g x) ≡ true → (k : ℕ) × (x ≡ object k) × (script_in g k ≡ Some weak_map)
-map-made g (name.Native k) s e = absurd (false≢true s)
-map-made g (name.Script k) s e = go (is_some-found (script_in g k.0) s)
-  where
-    go : (o : GraphScript) × (script_in g k.0 ≡ Some o) → (j : ℕ) × (object k.0 ≡ object j) × (script_in g j ≡ Some weak_map)
-    go f = kind f.0 f.1
-      where
-        kind : (o : GraphScript) → script_in g k.0 ≡ Some o → (j : ℕ) × (object k.0 ≡ object j) × (script_in g j ≡ Some weak_map)
-        kind (plain_object slots) i = absurd (false≢true (sym (rw i refl) ∙ e))
-        kind weak_map i = (k.0, refl, i)
-map-made g (name.Reflector k) s e =
-    let f = reflector-made g k.0 s in
-    let r = is_some-found f.0.reflector f.2 in
-    absurd (false≢true (sym (rw (f.1, r.1) refl) ∙ e))
+map-made g x s e = grind (arith, is_some-found, reflector-made)
 
 module _ (g : Graph) (w : IsWellMade g) where
   -- Writes of slots and entries, reflectors preserved and made
@@ -62,15 +49,12 @@ module _ (g : Graph) (w : IsWellMade g) where
   native_slot-well : (o : Option Name) (i : ℕ) (x : Option Name) → OfSome (MadeNative g) o → OfSome (Made g) x → IsWellMade (set_slot g o i x)
   native_slot-well None i x t m = w
   native_slot-well (Some (name.Native k)) i x t m = IsWellMade-change_native g k.0 (with_slot i x) (λ n r. r) w (KeepsNative-slot g k.0 i x m)
-  native_slot-well (Some (name.Script k)) i x t m = absurd (false≢true t)
-  native_slot-well (Some (name.Reflector k)) i x t m = absurd (false≢true t)
+  native_slot-well _ i x t m = absurd (false≢true t)
 
   -- a reflector preserved
   preserve-well : (o : Option Name) → OfSome (Made g) o → IsWellMade (preserve g o)
-  preserve-well None t = w
-  preserve-well (Some (name.Native k)) t = w
-  preserve-well (Some (name.Script k)) t = w
   preserve-well (Some (name.Reflector k)) t = IsWellMade-change_native g k.0 as_preserved (λ n r. r) w (KeepsNative-preserved g k.0 t)
+  preserve-well _ t = w
 
   -- a slot of a script object written
   script_slot-well : (o : Option Name) (i : ℕ) (x : Option Name) → OfSome (MadeScript g) o → OfSome (MadeScript g) x → IsWellMade (set_slot g o i x)
@@ -82,22 +66,12 @@ module _ (g : Graph) (w : IsWellMade g) where
 
   -- a reflector made
   wrapped-well : (o : Option Name) → IsWellMade (wrapped g o)
-  wrapped-well None = w
   wrapped-well (Some (name.Native k)) = IsWellMade-change_native g k.0 as_wrapped (λ n r. refl) w (KeepsNative-wrapped g k.0)
-  wrapped-well (Some (name.Script k)) = w
-  wrapped-well (Some (name.Reflector k)) = w
+  wrapped-well _ = w
 
   -- the reflector of a native that was made is made then
   wrapped-made : (o : Option Name) → OfSome (MadeNative g) o → OfSome (MadeScript (wrapped g o)) (reflector_of o)
-  wrapped-made None m = tt
-  wrapped-made (Some (name.Native k)) m =
-      let f = is_some-found (native_in g k.0) m in
-      let after : native_in (wrapped g (Some (name.Native k))) k.0 ≡ Some (as_wrapped f.0) =
-      ap (λ (e : Graph). native_in e k.0) (set_native-is g k.0 (option_map as_wrapped (native_in g k.0)))
-      ∙ (numbered-change g.natives k.0 as_wrapped ∙ ap (option_map as_wrapped) f.1) in
-      was_made-reflector (wrapped g (Some (name.Native k))) k.0 (as_wrapped f.0) after refl
-  wrapped-made (Some (name.Script k)) m = tt
-  wrapped-made (Some (name.Reflector k)) m = tt
+  wrapped-made o m = grind (arith, is_some-found, set_native-is, numbered-change, was_made-reflector)
 
   -- an entry of a weak map set, or taken out
   set_entry-well : (m k v : Option Name) → OfSome (λ x. MadeScript g x × (is_none (slots_in g x) ≡ true)) m → OfSome (MadeScript g) k → OfSome (MadeScript g) v → IsWellMade (set_entry g m k v)
@@ -115,19 +89,11 @@ module _ (g : Graph) (w : IsWellMade g) where
 
   -- what a map's register holds was made, and has no slots
   map_register-made : (r : ℕ) → not (is_map_in (objects_of g) (register g (S r))) ≡ false → OfSome (λ x. MadeScript g x × (is_none (slots_in g x) ≡ true)) (register g (S r))
-  map_register-made r = go (register g (S r)) (script_register-made g w r)
-    where
-      go : (o : Option Name) → OfSome (MadeScript g) o → not (is_map_in (objects_of g) o) ≡ false → OfSome (λ x. MadeScript g x × (is_none (slots_in g x) ≡ true)) o
-      go None m e = tt
-      go (Some x) m e = (m, not-false (is_none (slots_in g x)) e)
+  map_register-made r = grind (arith, script_register-made, not-false)
 
 -- a reflector preserved, and a slot of a script object written
 put-well : (g : Graph) → IsWellMade g → (o : Option Name) (i : ℕ) (x : Option Name) → OfSome (MadeScript g) o → OfSome (MadeScript g) x → IsWellMade (set_slot (preserve g o) o i x)
-put-well g w o i x t m = script_slot-well (preserve g o) (preserve-well g w o (OfSome-then (MadeScript g) (Made g) (MadeScript-made g) o t)) o i x
-    (OfSome-then (MadeScript g) (MadeScript (preserve g o)) more o t) (OfSome-then (MadeScript g) (MadeScript (preserve g o)) more x m)
-  where
-    more : (y : Name) → MadeScript g y → MadeScript (preserve g o) y
-    more = is_made_script-grows g (preserve g o) (Grows-preserve g o)
+put-well g w o i x t m = search (script_slot-well, preserve-well, OfSome-then, MadeScript-made, is_made_script-grows, Grows-preserve)
 
 module _ (g : Graph) (w : IsWellMade g) where
   -- EACH COMMAND that is not refused leaves the graph well made.
@@ -157,12 +123,7 @@ module _ (g : Graph) (w : IsWellMade g) where
   changed-well (Preserve s) r t = preserve-well g w (register g (S s)) (register-made g w (S s))
   changed-well (SetEntry m k v) r t = set_entry-well g w (register g (S m)) (register g (S k)) (source g (option_map S v)) (map_register-made g w m t.kinds) (script_register-made g w k) (script_source-made g w v)
   changed-well (GetEntry d m k) r t = IsWellMade-script_register g d (value_at (objects_of g) (register g (S m)) (register g (S k))) w (value_at-made g w (register g (S m)) (register g (S k)))
-  changed-well (Expose s i) r t = w
-  changed-well Nothing r t = w
-  changed-well (Slice u) r t = w
-  changed-well Collect r t = w
-  changed-well Gc r t = w
-  changed-well Census r t = w
+  changed-well _ r t = w
 
   -- A STEP LEAVES THE GRAPH WELL MADE.
   pub step-well : (c : Command) → IsTrue (in_range c) → IsWellMade (step g c)
@@ -176,19 +137,4 @@ module _ (g : Graph) (w : IsWellMade g) where
 
 -- THE EMPTY GRAPH IS WELL MADE.
 pub empty-well : (limits : Allowance) → IsWellMade (empty_graph limits)
-empty-well limits = record {
-  registers = (refl, refl);
-  native_registers = λ x m. absurd (contents-empty_none 256 x m);
-  script_registers = λ x m. absurd (contents-empty_none 256 x m);
-  native_slots = λ k n e. absurd (numbered-nothing k n e);
-  native_contents = λ k n x e m. absurd (numbered-nothing k n e);
-  preserved = λ k n e. absurd (numbered-nothing k n e);
-  reflectors = λ k n slots e. absurd (numbered-nothing k n e);
-  reflector_contents = λ k n slots x e. absurd (numbered-nothing k n e);
-  script_slots = λ k slots e. absurd (numbered-nothing k (plain_object slots) e);
-  script_contents = λ k slots x e. absurd (numbered-nothing k (plain_object slots) e);
-  entries = λ e m. absurd m;
-  one_entry = λ m k. omega arith;
-  natives_allowed = omega arith;
-  scripts_allowed = omega arith;
-}
+empty-well limits = grind (arith, contents-empty_none, numbered-nothing)

@@ -1,11 +1,10 @@
 -- A GRAPH STAYS WELL MADE where one of its lists changes: registers, natives, script objects, or entries.
-use Rattle.std.proofs.Common.{◌≡◌, ℕ, ◌≤◌, true, List, length, Option, Some, None, is_some, refl, ◌∙◌, ap, count_by}
+use Rattle.std.proofs.Common.{arith, ◌≡◌, ℕ, ◌≤◌, true, List, length, Option, Some, None, is_some, refl, ◌∙◌, ap, count_by}
 use Rattle.std.specs.Prelude.{IsTrue}
 use Rattle.std.specs.Option.{option_and_then}
 use Rattle.std.proofs.lemmas.Bool.{and_parts, and_from, false≢true}
 use Rattle.cc_lists.specs.Members.{Among}
 use Rattle.cc_names.specs.declared.name.Name.{Name}
-use Rattle.cc_names.specs.declared.name.Name.TheVariants as name
 use Rattle.cc_names.specs.Names.{native, object, reflector, is_native, is_script}
 use Rattle.cc_model.specs.Slots.{Slots, contents, reflector_slots}
 use Rattle.cc_model.specs.Entries.{Entry, is_entry_of}
@@ -16,8 +15,7 @@ use Rattle.cc_model.specs.WellMade.{IsWellMade, IsMadeEntry, was_made, is_made_n
 
 -- what is some, is something
 pub is_some-found : {X : Type 0} (o : Option X) → is_some o ≡ true → (x : X) × (o ≡ Some x)
-is_some-found None e = absurd (false≢true e)
-is_some-found (Some x) e = (x, refl)
+is_some-found f e = grind arith
 
 -- A native that was made, and has a number, was made
 pub was_made-native : (g : Graph) (k : ℕ) (n : GraphNative) → native_in g k ≡ Some n → IsTrue (was_made g (native k))
@@ -33,12 +31,7 @@ was_made-reflector g k n e r = ap (λ o. is_some (option_and_then (λ (m : Graph
 
 -- the native of a reflector that was made
 pub reflector-made : (g : Graph) (k : ℕ) → IsTrue (was_made g (reflector k)) → (n : GraphNative) × (native_in g k ≡ Some n) × (is_some n.reflector ≡ true)
-reflector-made g k m = go (native_in g k) refl m
-  where
-    go : (o : Option GraphNative) → native_in g k ≡ o → is_some (option_and_then (λ (n : GraphNative). n.reflector) o) ≡ true →
-        (n : GraphNative) × (native_in g k ≡ Some n) × (is_some n.reflector ≡ true)
-    go None e t = absurd (false≢true t)
-    go (Some n) e t = (n, e, t)
+reflector-made g k m = grind arith
 
 -- One object by itself
 
@@ -57,20 +50,11 @@ pub record ScriptFits (g : Graph) (o : GraphScript) : Type 0 where
 
 -- each native of a well made graph fits
 pub IsWellMade-native : (g : Graph) → IsWellMade g → (k : ℕ) (n : GraphNative) → native_in g k ≡ Some n → NativeFits g k n
-IsWellMade-native g w k n e = record {
-  slots = w.native_slots k n e;
-  held = λ x m. w.native_contents k n x e m;
-  preserved = w.preserved k n e;
-  reflector = λ slots r. w.reflectors k n slots e r;
-  reflector_held = λ slots x r m. w.reflector_contents k n slots x e r m;
-}
+IsWellMade-native g w k n e = grind arith
 
 -- and each script object
 pub IsWellMade-script : (g : Graph) → IsWellMade g → (k : ℕ) (o : GraphScript) → script_in g k ≡ Some o → ScriptFits g o
-IsWellMade-script g w k o e = record {
-  slots = λ slots s. w.script_slots k slots (e ∙ ap (λ p. Some p) s);
-  held = λ slots x s m. w.script_contents k slots x (e ∙ ap (λ p. Some p) s) m;
-}
+IsWellMade-script g w k o e = grind arith
 
 -- More was made
 
@@ -100,18 +84,11 @@ module _ (g f : Graph) (more : Grows g f) where
 
   -- a script object that fits, fits still
   pub ScriptFits-grows : (o : GraphScript) → ScriptFits g o → ScriptFits f o
-  ScriptFits-grows o t = record {
-    slots = t.slots;
-    held = λ slots x e m. is_made_script-grows x (t.held slots x e m);
-  }
+  ScriptFits-grows o t = grind (arith, is_made_script-grows)
 
   -- an entry of what was made is one still
   pub IsMadeEntry-grows : (e : Entry) → IsMadeEntry g e → IsMadeEntry f e
-  IsMadeEntry-grows e t = record {
-    the_map = (t.the_map.0, t.the_map.1, more.maps t.the_map.0 t.the_map.2);
-    key = is_made_script-grows e.key t.key;
-    value = is_made_script-grows e.value t.value;
-  }
+  IsMadeEntry-grows e t = grind (arith, is_made_script-grows)
 
 -- One list changed
 
@@ -159,15 +136,7 @@ pub record AreNatives (g : Graph) (ns : List GraphNative) : Type 0 where
 pub Grows-natives : (g : Graph) (ns : List GraphNative) →
     ((k : ℕ) (n : GraphNative) → native_in g k ≡ Some n → (m : GraphNative) × (numbered ns k ≡ Some m) × (is_some n.reflector ≡ true → is_some m.reflector ≡ true)) →
     Grows g (with_natives g ns)
-Grows-natives g ns stay = record { made = made; maps = λ k s. s }
-  where
-    made : (x : Name) → IsTrue (was_made g x) → IsTrue (was_made (with_natives g ns) x)
-    made (name.Native k) m = let n = is_some-found (native_in g k.0) m in was_made-native (with_natives g ns) k.0 (stay k.0 n.0 n.1).0 (stay k.0 n.0 n.1).1
-    made (name.Script k) m = m
-    made (name.Reflector k) m =
-        let n = reflector-made g k.0 m in
-        let s = stay k.0 n.0 n.1 in
-        was_made-reflector (with_natives g ns) k.0 s.0 s.1 (s.2 n.2)
+Grows-natives g ns stay = grind (arith, is_some-found, was_made-native, reflector-made, was_made-reflector)
 
 -- WITH OTHER NATIVES a graph is well made.
 pub IsWellMade-natives : (g : Graph) (ns : List GraphNative) → IsWellMade g → AreNatives g ns → IsWellMade (with_natives g ns)
@@ -209,15 +178,7 @@ pub record AreScripts (g : Graph) (os : List GraphScript) : Type 0 where
 pub Grows-scripts : (g : Graph) (os : List GraphScript) →
     ((k : ℕ) (o : GraphScript) → script_in g k ≡ Some o → (p : GraphScript) × (numbered os k ≡ Some p) × (o ≡ weak_map → p ≡ weak_map)) →
     Grows g (with_scripts g os)
-Grows-scripts g os stay = record {
-  made = made;
-  maps = λ k s. let p = stay k weak_map s in p.1 ∙ ap (λ q. Some q) (p.2 refl);
-}
-  where
-    made : (x : Name) → IsTrue (was_made g x) → IsTrue (was_made (with_scripts g os) x)
-    made (name.Native k) m = m
-    made (name.Script k) m = let o = is_some-found (script_in g k.0) m in was_made-script (with_scripts g os) k.0 (stay k.0 o.0 o.1).0 (stay k.0 o.0 o.1).1
-    made (name.Reflector k) m = m
+Grows-scripts g os stay = grind (arith, is_some-found, was_made-script)
 
 -- WITH OTHER SCRIPT OBJECTS a graph is well made.
 pub IsWellMade-scripts : (g : Graph) (os : List GraphScript) → IsWellMade g → AreScripts g os → IsWellMade (with_scripts g os)
@@ -251,19 +212,4 @@ with_entries g es = record g { entries = es }
 -- WITH OTHER ENTRIES, of what was made, a graph is well made.
 pub IsWellMade-entries : (g : Graph) (es : List Entry) → IsWellMade g → ((e : Entry) → Among e es → IsMadeEntry g e) →
     ((m k : Name) → count_by (is_entry_of m k) es ≤ 1) → IsWellMade (with_entries g es)
-IsWellMade-entries g es w members once = record {
-  registers = w.registers;
-  native_registers = w.native_registers;
-  script_registers = w.script_registers;
-  native_slots = w.native_slots;
-  native_contents = w.native_contents;
-  preserved = w.preserved;
-  reflectors = w.reflectors;
-  reflector_contents = w.reflector_contents;
-  script_slots = w.script_slots;
-  script_contents = w.script_contents;
-  entries = λ e m. IsMadeEntry-grows g (with_entries g es) (record { made = λ x i. i; maps = λ k s. s }) e (members e m);
-  one_entry = once;
-  natives_allowed = w.natives_allowed;
-  scripts_allowed = w.scripts_allowed;
-}
+IsWellMade-entries g es w members once = grind (arith, IsMadeEntry-grows)

@@ -1,5 +1,5 @@
 -- WHAT A COMMAND READS from the registers, slots and entries of a well made graph was made.
-use Rattle.std.proofs.Common.{◌≡◌, ℕ, false, get_or, Option, Some, None, option_map, refl, subst}
+use Rattle.std.proofs.Common.{arith, ◌≡◌, ℕ, false, get_or, Option, Some, None, option_map, refl, subst}
 use Rattle.std.specs.Prelude.{IsTrue}
 use Rattle.std.specs.Option.{option_and_then}
 use Rattle.std.proofs.lemmas.Bool.{and_parts, true≢false, false≢true}
@@ -9,10 +9,10 @@ use Rattle.cc_names.specs.declared.name.Name.TheVariants as name
 use Rattle.cc_names.specs.declared.register.Reg.{Reg}
 use Rattle.cc_names.specs.declared.register.Reg.TheVariants.{N, S}
 use Rattle.cc_names.specs.Names.{is_native, is_script}
-use Rattle.cc_model.specs.Slots.{Slots, contents}
+use Rattle.cc_model.specs.Slots.{contents}
 use Rattle.cc_model.specs.Entries.{value_in}
 use Rattle.cc_model.specs.Checks.{slots_or_none, slot_at, value_at, native_of, is_native_there, is_script_there}
-use Rattle.cc_model.specs.Graph.{Graph, GraphNative, GraphScript, plain_object, weak_map, native_in, script_in, slots_in, slots_of_script, objects_of, register, source}
+use Rattle.cc_model.specs.Graph.{Graph, GraphNative, native_in, script_in, slots_in, slots_of_script, objects_of, register, source}
 use Rattle.cc_model.specs.WellMade.{IsWellMade, was_made, is_made_native, is_made_script}
 use Rattle.cc_laws_heap.proofs.Holds.{OfSome, OfSome-then, contents-at}
 use Rattle.cc_laws_heap.proofs.EntryLists.{found-among}
@@ -51,55 +51,31 @@ module _ (g : Graph) (w : IsWellMade g) where
 
   -- what any register holds
   pub register-made : (r : Reg) → OfSome (Made g) (register g r)
-  register-made (N d) = OfSome-then (MadeNative g) (Made g) (MadeNative-made g) (register g (N d)) (native_register-made d)
-  register-made (S d) = OfSome-then (MadeScript g) (Made g) (MadeScript-made g) (register g (S d)) (script_register-made d)
+  register-made r = grind (arith, OfSome-then, MadeNative-made, native_register-made, MadeScript-made, script_register-made)
 
   -- what a source gives
   pub source-made : (r : Option Reg) → OfSome (Made g) (source g r)
-  source-made None = tt
-  source-made (Some r) = register-made r
+  source-made r = grind (arith, register-made)
 
   -- what a script source gives
   pub script_source-made : (s : Option ℕ) → OfSome (MadeScript g) (source g (option_map S s))
-  script_source-made None = tt
-  script_source-made (Some d) = script_register-made d
+  script_source-made s = grind (arith, script_register-made)
 
   -- what a plain object has in its slots
   script_contents-made : (k : ℕ) (x : Name) → Among x (contents (slots_or_none (option_and_then slots_of_script (script_in g k)))) → MadeScript g x
-  script_contents-made k x = go (script_in g k) refl
-    where
-      go : (o : Option GraphScript) → script_in g k ≡ o → Among x (contents (slots_or_none (option_and_then slots_of_script o))) → MadeScript g x
-      go None e m = absurd m
-      go (Some (plain_object slots)) e m = w.script_contents k slots x e m
-      go (Some weak_map) e m = absurd m
+  script_contents-made k x = grind arith
 
   -- what a reflector has in its slots
   reflector_contents-made : (k : ℕ) (x : Name) → Among x (contents (slots_or_none (option_and_then (λ (n : GraphNative). n.reflector) (native_in g k)))) → MadeScript g x
-  reflector_contents-made k x = go (native_in g k) refl
-    where
-      go : (o : Option GraphNative) → native_in g k ≡ o → Among x (contents (slots_or_none (option_and_then (λ (n : GraphNative). n.reflector) o))) → MadeScript g x
-      go None e m = absurd m
-      go (Some n) e m = slots n.reflector refl m
-        where
-          slots : (r : Option Slots) → n.reflector ≡ r → Among x (contents (slots_or_none r)) → MadeScript g x
-          slots None f i = absurd i
-          slots (Some s) f i = w.reflector_contents k n s x e f i
+  reflector_contents-made k x = grind arith
 
   -- what any object has in its slots was made
   slots_in-made : (y x : Name) → Among x (contents (slots_or_none (slots_in g y))) → Made g x
-  slots_in-made (name.Native k) x i = go (native_in g k.0) refl i
-    where
-      go : (o : Option GraphNative) → native_in g k.0 ≡ o → Among x (contents (slots_or_none (option_map (λ (n : GraphNative). n.slots) o))) → Made g x
-      go None e m = absurd m
-      go (Some n) e m = w.native_contents k.0 n x e m
-  slots_in-made (name.Script k) x m = MadeScript-made g x (script_contents-made k.0 x m)
-  slots_in-made (name.Reflector k) x m = MadeScript-made g x (reflector_contents-made k.0 x m)
+  slots_in-made y x e = grind (arith, MadeScript-made, script_contents-made, reflector_contents-made)
 
   -- and what a script object has there are script objects
   slots_in-script : (y x : Name) → MadeScript g y → Among x (contents (slots_or_none (slots_in g y))) → MadeScript g x
-  slots_in-script (name.Native k) x s m = absurd (false≢true s)
-  slots_in-script (name.Script k) x s m = script_contents-made k.0 x m
-  slots_in-script (name.Reflector k) x s m = reflector_contents-made k.0 x m
+  slots_in-script y x s m = grind (arith, script_contents-made, reflector_contents-made)
 
   -- what a slot of what a register holds has
   pub slot_at-made : (r : Reg) (i : ℕ) → OfSome (Made g) (slot_at (objects_of g) r i)
@@ -119,31 +95,16 @@ module _ (g : Graph) (w : IsWellMade g) where
 
   -- what was made and is no script object is a native, and the other way round
   pub no_script-made : (o : Option Name) → OfSome (Made g) o → is_script_there o ≡ false → OfSome (MadeNative g) o
-  no_script-made None m e = tt
-  no_script-made (Some (name.Native k)) m e = m
-  no_script-made (Some (name.Script k)) m e = absurd (true≢false e)
-  no_script-made (Some (name.Reflector k)) m e = absurd (true≢false e)
+  no_script-made o m e = grind arith
 
   -- what was made and is no native is a script object
   pub no_native-made : (o : Option Name) → OfSome (Made g) o → is_native_there o ≡ false → OfSome (MadeScript g) o
-  no_native-made None m e = tt
-  no_native-made (Some (name.Native k)) m e = absurd (true≢false e)
-  no_native-made (Some (name.Script k)) m e = m
-  no_native-made (Some (name.Reflector k)) m e = m
+  no_native-made o m e = grind arith
 
   -- the native behind a reflector was made
   pub native_of-made : (o : Option Name) → OfSome (MadeScript g) o → OfSome (MadeNative g) (native_of o)
-  native_of-made None m = tt
-  native_of-made (Some (name.Native k)) m = tt
-  native_of-made (Some (name.Script k)) m = tt
-  native_of-made (Some (name.Reflector k)) m = let n = reflector-made g k.0 m in was_made-native g k.0 n.0 n.1
+  native_of-made o m = grind (arith, reflector-made, was_made-native)
 
   -- the value of a map and a key is a script object that was made
   pub value_at-made : (a b : Option Name) → OfSome (MadeScript g) (value_at (objects_of g) a b)
-  value_at-made None b = tt
-  value_at-made (Some m) None = tt
-  value_at-made (Some m) (Some k) = go (value_in g.entries m k) refl
-    where
-      go : (o : Option Name) → value_in g.entries m k ≡ o → OfSome (MadeScript g) o
-      go None e = tt
-      go (Some y) e = let f = found-among g.entries m k y e in subst (MadeScript g) f.4 (w.entries f.0 f.1).value
+  value_at-made a b = grind (arith, found-among)

@@ -8,8 +8,8 @@ use Rattle.cc_lists.specs.Members.{Among}
 use Rattle.cc_names.specs.declared.name.Name.{Name}
 use Rattle.cc_names.specs.declared.register.Reg.TheVariants.{N, S}
 use Rattle.cc_names.specs.Names.{reflector}
-use Rattle.cc_model.specs.Slots.{Slots, contents, empty_slots, reflector_slots}
-use Rattle.cc_model.specs.Graph.{Graph, GraphNative, GraphScript, plain_object, weak_map, numbered, native_in, script_in, set_register, set_native, set_script, with_slot, with_reflector_slot, as_preserved, as_wrapped, slots_or_blank, with_script_slot, with_native, with_script}
+use Rattle.cc_model.specs.Slots.{Slots, contents, empty_slots}
+use Rattle.cc_model.specs.Graph.{Graph, GraphNative, GraphScript, plain_object, weak_map, numbered, native_in, script_in, set_register, set_native, set_script, with_slot, with_reflector_slot, as_preserved, as_wrapped, with_script_slot, with_native, with_script}
 use Rattle.cc_model.specs.WellMade.{IsWellMade, was_made, is_made_native, is_made_script}
 use Rattle.cc_laws_heap.proofs.Holds.{OfSome, OfSome-then, contents-set}
 use Rattle.cc_laws_heap.proofs.Numbered.{set_numbered, change_numbered, numbered-change, numbered-change_other, length-change, numbered-push_old, numbered-push_cases}
@@ -38,8 +38,7 @@ IsWellMade-script_register g d x w m = IsWellMade-registers g g.native_registers
 
 -- a native replaced, as a list of natives
 pub set_native-is : (g : Graph) (k : ℕ) (o : Option GraphNative) → set_native g k o ≡ with_natives g (set_numbered g.natives k o)
-set_native-is g k None = refl
-set_native-is g k (Some n) = refl
+set_native-is g k o = grind arith
 
 -- a native that was changed fits, however much more was made
 abbrev pub KeepsNative : Graph → ℕ → (GraphNative → GraphNative) → Type 0
@@ -131,31 +130,13 @@ KeepsNative-preserved g k m n here e more t = record {
 
 -- a reflector made, where there was none
 pub KeepsNative-wrapped : (g : Graph) (k : ℕ) → KeepsNative g k as_wrapped
-KeepsNative-wrapped g k n here e more t = record {
-  slots = t.slots;
-  held = t.held;
-  preserved = t.preserved;
-  reflector = λ slots s. fits n.reflector refl slots s;
-  reflector_held = λ slots x s. holds n.reflector refl slots s x;
-}
-  where
-    fits : (o : Option Slots) → n.reflector ≡ o → (slots : Slots) → Some (slots_or_blank o) ≡ Some slots → length slots ≡ reflector_slots
-    fits None r slots s = let same : empty_slots reflector_slots ≡ slots = cc in ap length (sym same)
-    fits (Some old) r slots s = t.reflector slots (r ∙ s)
-
-    holds : (o : Option Slots) → n.reflector ≡ o → (slots : Slots) → Some (slots_or_blank o) ≡ Some slots →
-        (x : Name) → Among x (contents slots) → IsTrue (is_made_script e x)
-    holds None r slots s x m =
-        let same : empty_slots reflector_slots ≡ slots = cc in
-        absurd (contents-empty_none reflector_slots x (subst (λ l. Among x (contents l)) (sym same) m))
-    holds (Some old) r slots s x m = t.reflector_held slots x (r ∙ s) m
+KeepsNative-wrapped g k n here e more t = grind (arith, contents-empty_none)
 
 -- One script object changed
 
 -- a script object replaced, as a list of script objects
 pub set_script-is : (g : Graph) (k : ℕ) (o : Option GraphScript) → set_script g k o ≡ with_scripts g (set_numbered g.scripts k o)
-set_script-is g k None = refl
-set_script-is g k (Some s) = refl
+set_script-is g k o = grind arith
 
 -- slot i of a plain object written with a script object that was made
 pub IsWellMade-script_slot : (g : Graph) (k i : ℕ) (x : Option Name) → IsWellMade g → OfSome (λ y. IsTrue (is_made_script g y)) x →

@@ -1,26 +1,23 @@
 -- THE SHAPES OF WHAT IS IN THE HEAPS: each object is found under its name, and its edges are those of the flat view.
-use Rattle.std.proofs.Common.{◌≡◌, Bool, true, false, [], ◌∷◌, ◌++◌, map, Option, Some, None, option_map, refl, sym, ◌∙◌, ap, subst, inl, inr, ◌⊎◌, ⊎_elim}
+use Rattle.std.proofs.Common.{arith, ◌≡◌, map, Option, Some, None, option_map, refl, sym, ◌∙◌, ap, subst, inl, inr, ◌⊎◌, ⊎_elim}
 use Rattle.std.specs.List.{flat_map}
 use Rattle.std.proofs.lemmas.List.{map-append}
 use Rattle.cc_lists.specs.Members.{Among}
 use Rattle.cc_lists.proofs.Members.{Among-map, Among-map_cases, Among-left, Among-right, Among-append, Among-flat_map, Among-flat_map_cases}
 use Rattle.cc_names.specs.declared.name.Name.{Name}
 use Rattle.cc_names.specs.declared.name.Name.TheVariants as name
-use Rattle.cc_names.specs.declared.kind.Kind.{Kind}
-use Rattle.cc_names.specs.declared.kind.Kind.TheVariants.{Plain, Reflector, Map}
-use Rattle.cc_names.specs.Names.{native, reflector, same_name, behind}
+use Rattle.cc_names.specs.Names.{native, same_name}
 use Rattle.cc_names.proofs.NameTests.{same_name-true, same_name-refl}
-use Rattle.cc_model.specs.Slots.{Slots, contents, from_to}
-use Rattle.cc_model.specs.Checks.{slots_or_none}
-use Rattle.cc_model.specs.Heap.{Heap, HeapNative, HeapScript, native_at, script_at, slots_of_kind}
-use Rattle.cc_model.specs.View.{view, slot_edges, native_edges, script_edges}
+use Rattle.cc_model.specs.Slots.{from_to}
+use Rattle.cc_model.specs.Heap.{Heap, HeapNative, HeapScript, native_at, script_at}
+use Rattle.cc_model.specs.View.{view, native_edges, script_edges}
 use Rattle.cc_model.specs.WellFormed.{IsWellFormed, FitsName, native_names, script_names, names_there}
 use Rattle.cc_model.specs.StandsFor.{Shape, shape_at, shape_of_held_native, shape_of_held_script}
 use Rattle.cc_lists.proofs.Filtering.{find-among, find-passes}
 use Rattle.cc_lists.proofs.Searching.{find-only}
 use Rattle.cc_laws_heap.proofs.ScriptNames.{scripts-once}
 use Rattle.cc_laws_heap.proofs.Natives.{native_at-there, native_at-number, native_at-member, IsWellFormed-distinct}
-use Rattle.cc_laws_heap.proofs.Shapes.{further_of, edges_of_shape}
+use Rattle.cc_laws_heap.proofs.Shapes.{edges_of_shape}
 
 -- Objects under their names
 
@@ -34,8 +31,7 @@ shape_at-script h w o m = go o.name refl (w.kinds o m)
   where
     go : (x : Name) → o.name ≡ x → FitsName x o.kind o.slots → shape_at h x ≡ Some (shape_of_held_script o)
     go (name.Native k) e f = absurd f
-    go (name.Script k) e f = ap (option_map shape_of_held_script) (ap (script_at h) (sym e) ∙ script_at-member h w o m)
-    go (name.Reflector k) e f = ap (option_map shape_of_held_script) (ap (script_at h) (sym e) ∙ script_at-member h w o m)
+    go _ e f = ap (option_map shape_of_held_script) (ap (script_at h) (sym e) ∙ script_at-member h w o m)
 
 -- so has a native
 pub shape_at-native : (h : Heap) → IsWellFormed h → (n : HeapNative) → Among n h.natives → shape_at h (native n.number) ≡ Some (shape_of_held_native n)
@@ -44,36 +40,17 @@ shape_at-native h w n m = ap (option_map shape_of_held_native) (native_at-member
 -- what is found as a script object and has a shape is a script object of that name
 script-found : (h : Heap) (x : Name) (s : Shape) → option_map shape_of_held_script (script_at h x) ≡ Some s →
     (o : HeapScript) × Among o h.scripts × (o.name ≡ x) × (shape_of_held_script o ≡ s)
-script-found h x s e = found (script_at h x) refl e
-  where
-    found : (o : Option HeapScript) → script_at h x ≡ o → option_map shape_of_held_script o ≡ Some s →
-        (p : HeapScript) × Among p h.scripts × (p.name ≡ x) × (shape_of_held_script p ≡ s)
-    found None i f = absurd (cc)
-    found (Some p) i f =
-        let same : shape_of_held_script p ≡ s = cc in
-        (p, find-among _ h.scripts p i, same_name-true p.name x (find-passes (λ (q : HeapScript). same_name q.name x) h.scripts p i), same)
+script-found h x s e = grind (arith, find-among, same_name-true, find-passes)
 
 -- what has a shape is a native or a script object of that name
 pub shape_at-found : (h : Heap) (x : Name) (s : Shape) → shape_at h x ≡ Some s →
     ((n : HeapNative) × Among n h.natives × (native n.number ≡ x) × (shape_of_held_native n ≡ s)) ⊎
     ((o : HeapScript) × Among o h.scripts × (o.name ≡ x) × (shape_of_held_script o ≡ s))
-shape_at-found h (name.Native k) s e = inl (found (native_at h k.0) refl e)
-  where
-    found : (o : Option HeapNative) → native_at h k.0 ≡ o → option_map shape_of_held_native o ≡ Some s →
-        (n : HeapNative) × Among n h.natives × (native n.number ≡ name.Native k) × (shape_of_held_native n ≡ s)
-    found None i f = absurd (cc)
-    found (Some n) i f = let same : shape_of_held_native n ≡ s = cc in (n, native_at-there h k.0 n i, ap native (native_at-number h k.0 n i), same)
-shape_at-found h (name.Script k) s e = inr (script-found h (name.Script k) s e)
-shape_at-found h (name.Reflector k) s e = inr (script-found h (name.Reflector k) s e)
+shape_at-found h x s e = grind (arith, native_at-there, native_at-number, script-found)
 
 -- what has a shape is there
 pub shape_at-there : (h : Heap) (x : Name) (s : Shape) → shape_at h x ≡ Some s → Among x (names_there h)
-shape_at-there h x s e = ⊎_elim
-    (λ f. subst (λ y. Among y (names_there h)) f.2
-    (Among-left (native f.0.number) (native_names h) (script_names h) (Among-map (λ (n : HeapNative). native n.number) f.0 h.natives f.1)))
-    (λ f. subst (λ y. Among y (names_there h)) f.2
-    (Among-right f.0.name (native_names h) (script_names h) (Among-map (λ (o : HeapScript). o.name) f.0 h.scripts f.1)))
-    (shape_at-found h x s e)
+shape_at-there h x s e = grind (arith, Among-left, Among-map, Among-right, shape_at-found)
 
 -- and what is there has one
 pub there-shape_at : (h : Heap) → IsWellFormed h → (x : Name) → Among x (names_there h) → (s : Shape) × (shape_at h x ≡ Some s)
@@ -88,30 +65,11 @@ there-shape_at h w x m = ⊎_elim
 
 -- the edges of a native in the flat view are those of its shape
 native_edges-shape : (n : HeapNative) → native_edges n ≡ map (from_to (native n.number)) (edges_of_shape (native n.number) (shape_of_held_native n))
-native_edges-shape n = go n.preserved
-  where
-    go : (b : Bool) → slot_edges (native n.number) n.slots ++ elim b [ true ↦ from_to (native n.number) (reflector n.number) ∷ [] | false ↦ [] ]
-        ≡ map (from_to (native n.number)) (contents n.slots ++ elim b [ true ↦ reflector n.number ∷ [] | false ↦ [] ])
-    go true = sym (map-append (from_to (native n.number)) (contents n.slots) (reflector n.number ∷ []))
-    go false = sym (map-append (from_to (native n.number)) (contents n.slots) [])
+native_edges-shape n = grind (arith, map-append)
 
 -- and so are those of a script object
 script_edges-shape : (o : HeapScript) → FitsName o.name o.kind o.slots → script_edges o ≡ map (from_to o.name) (edges_of_shape o.name (shape_of_held_script o))
-script_edges-shape o fits =
-    rw (map-append (from_to o.name) (contents (slots_or_none (slots_of_kind o.kind o.slots))) (further_of o.name (shape_of_held_script o)))
-    (rw (slots o.name o.kind o.slots fits, further o.name) refl)
-  where
-    slots : (x : Name) (kind : Kind) (s : Slots) → FitsName x kind s → contents (slots_or_none (slots_of_kind kind s)) ≡ contents s
-    slots x Plain s f = refl
-    slots x Reflector s f = refl
-    slots (name.Native k) Map s f = absurd f
-    slots (name.Script k) Map s f = ap contents (sym f)
-    slots (name.Reflector k) Map s f = absurd f
-
-    further : (x : Name) → map (from_to o.name) (further_of x (shape_of_held_script o)) ≡ map (λ k. from_to o.name (native k)) (behind x)
-    further (name.Native k) = refl
-    further (name.Script k) = refl
-    further (name.Reflector k) = refl
+script_edges-shape o fits = grind (arith, map-append)
 
 -- AN EDGE OF THE FLAT VIEW is one of an object that is there.
 pub edge-held : (h : Heap) → IsWellFormed h → (x y : Name) → Among (x, y) (view h).edges → (s : Shape) × (shape_at h x ≡ Some s) × Among y (edges_of_shape x s)

@@ -1,5 +1,5 @@
 -- WHAT REGISTERS, SLOTS AND ENTRIES OF WELL FORMED HEAPS HOLD is there.
-use Rattle.std.proofs.Common.{slice_index_or, ◌≡◌, ℕ, true, false, Option, Some, None, is_some, refl, sym, ◌∙◌, ap, subst, inl, ⊎_elim, option_map}
+use Rattle.std.proofs.Common.{arith, slice_index_or, ◌≡◌, ℕ, true, false, Option, Some, None, is_some, refl, sym, ◌∙◌, ap, subst, inl, ⊎_elim, option_map}
 use Rattle.std.specs.Option.{option_and_then}
 use Rattle.std.proofs.lemmas.Bool.{true≢false}
 use Rattle.cc_lists.specs.Members.{Among}
@@ -10,8 +10,8 @@ use Rattle.cc_names.specs.declared.name.Name.TheVariants as name
 use Rattle.cc_names.specs.declared.register.Reg.{Reg}
 use Rattle.cc_names.specs.declared.register.Reg.TheVariants.{N, S}
 use Rattle.cc_names.specs.declared.kind.Kind.{Kind}
-use Rattle.cc_names.specs.declared.kind.Kind.TheVariants.{Plain, Reflector, Map}
-use Rattle.cc_names.specs.Names.{native, object, reflector, same_name}
+use Rattle.cc_names.specs.declared.kind.Kind.TheVariants.{Map}
+use Rattle.cc_names.specs.Names.{native, reflector, same_name}
 use Rattle.cc_names.proofs.NameTests.{same_name-true, same_name-refl}
 use Rattle.cc_model.specs.Slots.{contents}
 use Rattle.cc_model.specs.Checks.{slots_or_none, slot_at, value_at, is_native_there, is_script_there, native_of}
@@ -38,8 +38,7 @@ pub IsIn-no_script : (h : Heap) (x : Option Name) → IsWellFormed h → IsIn (n
 IsIn-no_script h None w m e = λ y i. absurd i
 IsIn-no_script h (Some (name.Native k)) w m e = λ y i. ⊎_elim
     (λ s. subst (λ z. Among z (native_names h)) s (native-there h k.0 w (m (native k.0) (inl refl)))) (λ n. absurd n) i
-IsIn-no_script h (Some (name.Script k)) w m e = absurd (true≢false e)
-IsIn-no_script h (Some (name.Reflector k)) w m e = absurd (true≢false e)
+IsIn-no_script h _ w m e = absurd (true≢false e)
 
 -- a name of a script object that is there is one of the script objects
 script-there : (h : Heap) (x : Name) → Among x (names_there h) → ¬ ((k : ℕ) × (native k ≡ x)) → Among x (script_names h)
@@ -74,13 +73,11 @@ register-there h (S d) w = IsIn-scripts h (register h (S d)) (script_register-th
 
 -- and so does a source, where it is none or a register
 pub source-there : (h : Heap) (r : Option Reg) → IsWellFormed h → IsIn (names_there h) (source h r)
-source-there h None w = λ y m. absurd m
-source-there h (Some r) w = register-there h r w
+source-there h r w = grind (arith, register-there)
 
 -- or none or a script register
 pub script_source-there : (h : Heap) (s : Option ℕ) → IsWellFormed h → IsIn (script_names h) (source h (option_map S s))
-script_source-there h None w = λ y m. absurd m
-script_source-there h (Some d) w = script_register-there h d w
+script_source-there h s w = grind (arith, script_register-there)
 
 -- Slots
 
@@ -90,9 +87,8 @@ slots_of_script-contents : (h : Heap) (o : HeapScript) → IsWellFormed h → Am
 slots_of_script-contents h o w m y i = go o.kind i
   where
     go : (kind : Kind) → Among y (contents (slots_or_none (slots_of_kind kind o.slots))) → Among y (script_names h)
-    go Plain j = w.script_contents o y m j
-    go Reflector j = w.script_contents o y m j
     go Map j = absurd j
+    go _ j = w.script_contents o y m j
 
 -- the same of what is found by its name
 found-contents : (h : Heap) (x : Name) → IsWellFormed h → (o : Option HeapScript) → script_at h x ≡ o → (y : Name) →
@@ -107,17 +103,14 @@ slots_in-there h (name.Native k) w y i = go (native_at h k.0) refl i
     go : (o : Option HeapNative) → native_at h k.0 ≡ o → Among y (contents (slots_or_none (option_map (λ n. n.slots) o))) → Among y (names_there h)
     go None e j = absurd j
     go (Some n) e j = w.native_contents n y (native_at-there h k.0 n e) j
-slots_in-there h (name.Script k) w y i =
-    Among-right y (native_names h) (script_names h) (found-contents h (object k.0) w (script_at h (object k.0)) refl y i)
-slots_in-there h (name.Reflector k) w y i =
-    Among-right y (native_names h) (script_names h) (found-contents h (reflector k.0) w (script_at h (reflector k.0)) refl y i)
+slots_in-there h x w y i =
+    Among-right y (native_names h) (script_names h) (found-contents h x w (script_at h x) refl y i)
 
 -- what a script object has in its slots are script objects
 slots_in-script : (h : Heap) (x : Name) → IsWellFormed h → Among x (script_names h) → (y : Name) →
     Among y (contents (slots_or_none (slots_in h x))) → Among y (script_names h)
 slots_in-script h (name.Native k) w m y i = absurd (native-no_script h k.0 w m)
-slots_in-script h (name.Script k) w m y i = found-contents h (object k.0) w (script_at h (object k.0)) refl y i
-slots_in-script h (name.Reflector k) w m y i = found-contents h (reflector k.0) w (script_at h (reflector k.0)) refl y i
+slots_in-script h x w m y i = found-contents h x w (script_at h x) refl y i
 
 -- what a slot of what a register holds holds is there
 pub slot_at-there : (h : Heap) (r : Reg) (i : ℕ) → IsWellFormed h → IsIn (names_there h) (slot_at (objects_of h) r i)
@@ -139,18 +132,15 @@ script_slot-there h d i w = go (register h (S d)) (script_register-there h d w)
 
 -- the value of a map and a key is a script object that is there
 pub value_at-there : (h : Heap) (m k : Option Name) → IsWellFormed h → IsIn (script_names h) (value_at (objects_of h) m k)
-value_at-there h None k w = λ y i. absurd i
-value_at-there h (Some m) None w = λ y i. absurd i
 value_at-there h (Some m) (Some k) w = λ y i.
     let e = value_in-among h.entries m k y i in subst (λ z. Among z (script_names h)) e.2 (w.entries e.0 e.1).value
+value_at-there h _ _ w = λ y i. absurd i
 
 -- the native behind a reflector that is there is there
 pub native_of-there : (h : Heap) (x : Option Name) → IsWellFormed h → IsIn (script_names h) x → IsIn (native_names h) (native_of x)
-native_of-there h None w m = λ y i. absurd i
-native_of-there h (Some (name.Native k)) w m = λ y i. absurd i
-native_of-there h (Some (name.Script k)) w m = λ y i. absurd i
 native_of-there h (Some (name.Reflector k)) w m = λ y i. ⊎_elim
     (λ s. subst (λ z. Among z (native_names h)) s (w.reflected k.0 (m (reflector k.0) (inl refl)))) (λ n. absurd n) i
+native_of-there h _ w m = λ y i. absurd i
 
 -- a native has a reflector where one of its name is among the script objects
 pub has_reflector-there : (h : Heap) (k : ℕ) → has_reflector h k ≡ true → Among (reflector k) (script_names h)

@@ -1,5 +1,5 @@
 -- WHAT SLOTS HOLD: at a place, after a write, and where they are empty.
-use Rattle.std.proofs.Common.{◌≡◌, ℕ, zero, suc, [], ◌∷◌, set, get_or, Option, Some, None, refl, ap, subst, inl, inr, ⊎_elim}
+use Rattle.std.proofs.Common.{arith, ◌≡◌, ℕ, zero, suc, [], ◌∷◌, set, get_or, Option, Some, None, refl, ap, subst, inl, inr, ⊎_elim}
 use Rattle.cc_lists.specs.Members.{Among}
 use Rattle.cc_names.specs.declared.name.Name.{Name}
 use Rattle.cc_model.specs.Slots.{Slots, contents}
@@ -11,8 +11,7 @@ OfSome P (Some x) = P x
 
 -- what holds of the name that is there
 pub OfSome-from : (P : Name → Type 0) (o : Option Name) → ((x : Name) → o ≡ Some x → P x) → OfSome P o
-OfSome-from P None h = tt
-OfSome-from P (Some x) h = h x refl
+OfSome-from P o h = grind arith
 
 -- it holds of a name that is known to be there
 OfSome-at : (P : Name → Type 0) (o : Option Name) (x : Name) → OfSome P o → o ≡ Some x → P x
@@ -20,28 +19,20 @@ OfSome-at P o x h e = subst (OfSome P) e h
 
 -- what follows from it
 pub OfSome-then : (P Q : Name → Type 0) → ((x : Name) → P x → Q x) → (o : Option Name) → OfSome P o → OfSome Q o
-OfSome-then P Q f None h = tt
-OfSome-then P Q f (Some x) h = f x h
+OfSome-then P Q f o h = grind arith
 
 -- what holds of all that slots hold, holds of what stands at a place
 pub contents-at : (P : Name → Type 0) (slots : Slots) (i : ℕ) → ((x : Name) → Among x (contents slots) → P x) → OfSome P (get_or slots i None)
-contents-at P [] i h = tt
-contents-at P (None ∷ slots) zero h = tt
 contents-at P (Some x ∷ slots) zero h = h x (inl refl)
 contents-at P (None ∷ slots) (suc i) h = contents-at P slots i h
 contents-at P (Some x ∷ slots) (suc i) h = contents-at P slots i (λ y m. h y (inr m))
+contents-at P _ _ h = tt
 
 -- and of all that they hold after a write, where it holds of what was written
 pub contents-set : (P : Name → Type 0) (slots : Slots) (i : ℕ) (o : Option Name) → ((x : Name) → Among x (contents slots) → P x) → OfSome P o →
     (x : Name) → Among x (contents (set slots i o)) → P x
 contents-set P [] i o h k = h
-contents-set P (s ∷ slots) zero o h k = first s o h k
-  where
-    first : (s o : Option Name) → ((x : Name) → Among x (contents (s ∷ slots)) → P x) → OfSome P o → (x : Name) → Among x (contents (o ∷ slots)) → P x
-    first None None h k = h
-    first (Some y) None h k = λ x m. h x (inr m)
-    first None (Some z) h k = λ x m. ⊎_elim (λ e. subst P e k) (λ t. h x t) m
-    first (Some y) (Some z) h k = λ x m. ⊎_elim (λ e. subst P e k) (λ t. h x (inr t)) m
+contents-set P (s ∷ slots) zero o h k = grind arith
 contents-set P (None ∷ slots) (suc i) o h k = contents-set P slots i o h k
 contents-set P (Some y ∷ slots) (suc i) o h k = λ x m. ⊎_elim (λ e. h x (inl e)) (contents-set P slots i o (λ z n. h z (inr n)) k x) m
 

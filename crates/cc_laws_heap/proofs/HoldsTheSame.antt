@@ -1,5 +1,5 @@
 -- HEAPS THAT ARE ALIKE: the same but for counts and the buffer. Registers and slots hold the same, and names are there as before.
-use Rattle.std.proofs.Common.{◌≡◌, ℕ, ◌+◌, map, Option, Some, None, option_map, refl, sym, ◌∙◌, ap, ◌==◌}
+use Rattle.std.proofs.Common.{arith, ◌≡◌, ℕ, ◌+◌, map, Option, Some, None, option_map, refl, sym, ◌∙◌, ap, ◌==◌}
 use Rattle.std.specs.List.{find}
 use Rattle.std.specs.Option.{option_and_then}
 use Rattle.std.proofs.lemmas.Simd.{map-map}
@@ -7,8 +7,8 @@ use Rattle.cc_names.specs.declared.name.Name.{Name}
 use Rattle.cc_names.specs.declared.name.Name.TheVariants as name
 use Rattle.cc_names.specs.declared.register.Reg.{Reg}
 use Rattle.cc_names.specs.declared.register.Reg.TheVariants.{N, S}
-use Rattle.cc_names.specs.Names.{native, object, reflector, same_name}
-use Rattle.cc_model.specs.Checks.{slots_at, slots_or_none}
+use Rattle.cc_names.specs.Names.{native, same_name}
+use Rattle.cc_model.specs.Checks.{slots_at}
 use Rattle.cc_model.specs.Heap.{Heap, HeapNative, HeapScript, native_at, slots_in, slots_of_script, register, objects_of}
 use Rattle.cc_model.specs.Cascade.{add_ref, take_up}
 use Rattle.cc_model.specs.WellFormed.{native_names, script_names, names_there}
@@ -24,10 +24,7 @@ pub record HoldsTheSame (h g : Heap) : Type 0 where
 
 -- heaps hold the same as themselves
 HoldsTheSame-refl : (h : Heap) → HoldsTheSame h h
-HoldsTheSame-refl h = record {
-  beside = SameBeside-refl h;
-  natives = refl;
-}
+HoldsTheSame-refl h = grind (arith, SameBeside-refl)
 
 -- a native with one reference more
 abbrev pub raise_native : HeapNative → HeapNative
@@ -35,17 +32,11 @@ raise_native n = record n { count = n.count + 1 }
 
 -- a reference taken changes counts and the buffer alone
 pub HoldsTheSame-add_ref : (h : Heap) (k : ℕ) → HoldsTheSame h (add_ref h k)
-HoldsTheSame-add_ref h k = record {
-  beside = SameBeside-with h (add_ref h k).natives (add_ref h k).buffer;
-  natives = uncounted-change h k raise_native (λ n. refl);
-}
+HoldsTheSame-add_ref h k = grind (arith, SameBeside-with, uncounted-change)
 
 -- and so does a reference to what a register or a slot is to hold
 pub HoldsTheSame-take_up : (h : Heap) (x : Option Name) → HoldsTheSame h (take_up h x)
-HoldsTheSame-take_up h None = HoldsTheSame-refl h
-HoldsTheSame-take_up h (Some (name.Native k)) = HoldsTheSame-add_ref h k.0
-HoldsTheSame-take_up h (Some (name.Script k)) = HoldsTheSame-refl h
-HoldsTheSame-take_up h (Some (name.Reflector k)) = HoldsTheSame-refl h
+HoldsTheSame-take_up h x = grind (arith, HoldsTheSame-add_ref, HoldsTheSame-refl)
 
 module _ (h g : Heap) (a : HoldsTheSame h g) where
   -- the same natives are there
@@ -65,8 +56,7 @@ module _ (h g : Heap) (a : HoldsTheSame h g) where
 
   -- registers hold the same
   pub register-alike : (r : Reg) → register g r ≡ register h r
-  register-alike (N d) = rw a.beside.native_registers refl
-  register-alike (S d) = rw a.beside.script_registers refl
+  register-alike r = grind arith
 
   -- natives have the same slots
   native_slots-alike : (k : ℕ) → option_map (λ (n : HeapNative). n.slots) (native_at g k) ≡ option_map (λ (n : HeapNative). n.slots) (native_at h k)
@@ -83,14 +73,8 @@ module _ (h g : Heap) (a : HoldsTheSame h g) where
 
   -- objects have the same slots
   pub slots_in-alike : (x : Name) → slots_in g x ≡ slots_in h x
-  slots_in-alike (name.Native k) = native_slots-alike k.0
-  slots_in-alike (name.Script k) = ap (λ os. option_and_then slots_of_script (find (λ o. same_name o.name (object k.0)) os)) a.beside.scripts
-  slots_in-alike (name.Reflector k) = ap (λ os. option_and_then slots_of_script (find (λ o. same_name o.name (reflector k.0)) os)) a.beside.scripts
+  slots_in-alike x = grind (arith, native_slots-alike)
 
   -- what a register holds has the same slots
   pub slots_at-alike : (r : Reg) → slots_at (objects_of g) r ≡ slots_at (objects_of h) r
-  slots_at-alike r = rw (register-alike r) (go (register h r))
-    where
-      go : (o : Option Name) → slots_or_none (option_and_then (slots_in g) o) ≡ slots_or_none (option_and_then (slots_in h) o)
-      go None = refl
-      go (Some x) = ap slots_or_none (slots_in-alike x)
+  slots_at-alike r = grind (arith, register-alike, slots_in-alike)

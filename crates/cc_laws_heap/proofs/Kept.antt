@@ -1,5 +1,5 @@
 -- WHAT KEEPS THE HEAPS WELL FORMED: one list of the heaps changed at a time.
-use Rattle.std.proofs.Common.{◌≡◌, ℕ, ◌≤◌, Bool, true, refl, List, ◌++◌, map, length, sym, ◌∙◌, ap, subst, count_by}
+use Rattle.std.proofs.Common.{arith, ◌≡◌, ℕ, ◌≤◌, Bool, true, refl, List, ◌++◌, map, length, sym, ◌∙◌, ap, subst, count_by}
 use Rattle.cc_lists.specs.Members.{Among}
 use Rattle.cc_lists.proofs.Members.{Among-map}
 use Rattle.cc_names.specs.declared.name.Name.{Name}
@@ -57,27 +57,7 @@ IsBuffer-own h w = record { there = w.buffered; once = w.buffered_once }
 -- other registers, other entries and another buffer, each of what is there, keep the heaps well formed
 IsWellFormed-beside : (h : Heap) (ns ss : Slots) (es : List Entry) (bs : List Buffered) → IsWellFormed h → AreRegisters h ns ss → AreEntries h es → IsBuffer h bs →
     IsWellFormed (record h { native_registers = ns; script_registers = ss; entries = es; buffer = bs })
-IsWellFormed-beside h ns ss es bs w r t b = record {
-  native_registers = r.natives;
-  script_registers = r.scripts;
-  registers = r.enough;
-  rising = w.rising;
-  native_numbers = w.native_numbers;
-  native_slots = w.native_slots;
-  native_contents = w.native_contents;
-  distinct = w.distinct;
-  object_numbers = w.object_numbers;
-  kinds = w.kinds;
-  script_contents = w.script_contents;
-  reflected = w.reflected;
-  preserved = w.preserved;
-  entries = λ e m. let k = t.members e m in record { the_map = k.the_map; key = k.key; value = k.value };
-  one_entry = t.once;
-  buffered = b.there;
-  buffered_once = b.once;
-  natives_allowed = w.natives_allowed;
-  scripts_allowed = w.scripts_allowed;
-}
+IsWellFormed-beside h ns ss es bs w r t b = grind arith
 
 -- so do other registers alone,
 pub IsWellFormed-registers : (h : Heap) (ns ss : Slots) → IsWellFormed h → AreRegisters h ns ss → IsWellFormed (with_registers h ns ss)
@@ -86,13 +66,11 @@ IsWellFormed-registers h ns ss w r = IsWellFormed-beside h ns ss h.entries h.buf
 -- other entries alone,
 pub IsWellFormed-entries : (h : Heap) (es : List Entry) → IsWellFormed h → ((e : Entry) → Among e es → HasMembers h e) →
     ((m k : Name) → count_by (is_entry_of m k) es ≤ 1) → IsWellFormed (with_entries h es)
-IsWellFormed-entries h es w members once =
-    IsWellFormed-beside h h.native_registers h.script_registers es h.buffer w (AreRegisters-own h w) (record { members = members; once = once }) (IsBuffer-own h w)
+IsWellFormed-entries h es w members once = grind (arith, IsWellFormed-beside, AreRegisters-own, IsBuffer-own)
 
 -- and another buffer alone
 pub IsWellFormed-buffer : (h : Heap) (bs : List Buffered) → IsWellFormed h → IsBuffer h bs → IsWellFormed (with_buffer h bs)
-IsWellFormed-buffer h bs w b =
-    IsWellFormed-beside h h.native_registers h.script_registers h.entries bs w (AreRegisters-own h w) (AreEntries-own h w) b
+IsWellFormed-buffer h bs w b = search (IsWellFormed-beside, AreRegisters-own, AreEntries-own)
 
 -- Natives
 

@@ -5,7 +5,7 @@ use Rattle.std.specs.List.{filter}
 use Rattle.std.proofs.Math.Bool.{or-false}
 use Rattle.std.proofs.Math.Path.{fun_ext}
 use Rattle.std.proofs.lemmas.Grind.{flat_map-append}
-use Rattle.std.proofs.lemmas.Bool.{cases_lt, true≢false, not-true, ne_eqb}
+use Rattle.std.proofs.lemmas.Bool.{cases_lt, not-true}
 use Rattle.std.proofs.lemmas.Simd.{map-map}
 use Rattle.cc_lists.specs.Members.{Among, has}
 use Rattle.cc_lists.proofs.Members.{Among-map, Among-map_cases, Among-append, Among-filtered, Among-passes, has-there}
@@ -48,28 +48,21 @@ pub record Leave (h : Heap) (freed : List ℕ) (g : Heap) : Type 0 where
 
 -- a number that is there is that of a name
 pub numbers_there-named : (h : Heap) (k : ℕ) → Among k (numbers_there h) → Among (native k) (native_names h)
-numbers_there-named h k m =
-    let f = Among-map_cases (λ (n : HeapNative). n.number) h.natives k m in
-    subst (λ j. Among (native j) (native_names h)) f.2 (Among-map (λ (n : HeapNative). native n.number) f.0 h.natives f.1)
+numbers_there-named h k m = grind (arith, Among-map_cases, Among-map)
 
 -- and a name that is there has its number there
 named-numbers_there : (h : Heap) (k : ℕ) → Among (native k) (native_names h) → Among k (numbers_there h)
-named-numbers_there h k m =
-    let f = named-member h k m in
-    subst (λ j. Among j (numbers_there h)) f.2 (Among-map (λ (n : HeapNative). n.number) f.0 h.natives f.1)
+named-numbers_there h k m = grind (arith, named-member, Among-map)
 
 -- What has left
 
 -- what is there now was there before
 pub Leave-before : (h : Heap) (freed : List ℕ) (g : Heap) → Leave h freed g → (k : ℕ) → Among (native k) (native_names g) → Among (native k) (native_names h)
-Leave-before h freed g l k m =
-    numbers_there-named h k (Among-filtered (is_left freed) k (numbers_there h) (subst (λ ks. Among k ks) l.numbers (named-numbers_there g k m)))
+Leave-before h freed g l k m = grind (arith, numbers_there-named, Among-filtered, named-numbers_there)
 
 -- what is there now was not freed
 pub Leave-not_freed : (h : Heap) (freed : List ℕ) (g : Heap) → Leave h freed g → (k : ℕ) → Among (native k) (native_names g) → ¬ (Among k freed)
-Leave-not_freed h freed g l k m f =
-    let left : is_left freed k ≡ true = Among-passes (is_left freed) k (numbers_there h) (subst (λ ks. Among k ks) l.numbers (named-numbers_there g k m)) in
-    true≢false (sym (has-there ◌==◌ number-exact freed k f) ∙ not-true (has ◌==◌ freed k) left)
+Leave-not_freed h freed g l k m f = grind (arith, Among-passes, named-numbers_there, has-there, number-exact, not-true)
 
 -- what does not stand in a list is not counted there
 times-none : (k : ℕ) (xs : List ℕ) → ¬ (Among k xs) → times k xs ≡ 0
@@ -121,12 +114,7 @@ Leave-frees h ks o f = record {
 
 -- where the same numbers are there, nothing has left
 Leave-same : (h g : Heap) → SameBeside h g → numbers_there g ≡ numbers_there h → Leave h [] g
-Leave-same h g b e = record {
-  once = λ k. omega arith;
-  were_there = λ k m. absurd m;
-  numbers = e ∙ sym (filter-true (is_left []) (numbers_there h) (λ k. refl));
-  beside = b;
-}
+Leave-same h g b e = grind (arith, filter-true)
 
 -- nothing leaves heaps that stay
 pub Leave-refl : (h : Heap) → Leave h [] h
@@ -135,8 +123,7 @@ Leave-refl h = Leave-same h h (SameBeside-refl h) refl
 -- nothing leaves where a native changes and keeps its number, whatever the buffer is
 Leave-changed : (h : Heap) (k : ℕ) (f : HeapNative → HeapNative) (bs : List Buffered) → KeepsNumber f →
     Leave h [] (record h { natives = (change_native h k f).natives; buffer = bs })
-Leave-changed h k f bs e = Leave-same h (record h { natives = (change_native h k f).natives; buffer = bs }) (SameBeside-with h (change_native h k f).natives bs)
-    (map-kept (λ (n : HeapNative). n.number) (changed_at k f) h.natives (changed_at-number k f e))
+Leave-changed h k f bs e = grind (arith, Leave-same, SameBeside-with, map-kept, changed_at-number)
 
 -- nothing leaves where a native changes and keeps its number, and the buffer stays
 pub Leave-change_native : (h : Heap) (k : ℕ) (f : HeapNative → HeapNative) → KeepsNumber f → Leave h [] (change_native h k f)
@@ -148,13 +135,7 @@ Leave-add_ref h k = Leave-changed h k raise_native (with_mark false k h.buffer) 
 
 -- a native that is taken out leaves
 Leave-removed : (h : Heap) (k : ℕ) (n : HeapNative) → native_at h k ≡ Some n → Leave h (k ∷ []) (removed h k)
-Leave-removed h k n e = record {
-  once = at-each (λ j. times j (k ∷ []) ≤ 1) k (omega (arith, times-cons_same k [])) (λ j o. omega (arith, times-cons_other j k [] (λ s. o (sym s))));
-  were_there = λ j m. ⊎_elim (λ s. subst (λ i. Among (native i) (native_names h)) s (native_at-named h k n e)) (λ x. absurd x) m;
-  numbers = sym (filter-map (λ j. not (j == k)) (λ (m : HeapNative). m.number) h.natives)
-      ∙ ap (λ p. filter p (numbers_there h)) (fun_ext (λ j. ap not (eqb-sym j k ∙ sym (or-false (k == j)))));
-  beside = SameBeside-with h (removed h k).natives h.buffer;
-}
+Leave-removed h k n e = grind (arith, at-each, times-cons_same, times-cons_other, native_at-named, filter-map, eqb-sym, or-false, SameBeside-with)
 
 -- What is done
 
@@ -164,11 +145,7 @@ LeavesTo s es t = Leave s.heap (freed_numbers es) t.heap
 
 -- what the end of a collection does besides takes none out
 ending-leaves : (ks : List ℕ) (s : Stage) (es : List Event) (t : Stage) → Ending ks s es t → LeavesTo s es t
-ending-leaves ks _ _ _ (reordered early late h same) = Leave-refl h
-ending-leaves ks _ _ _ (raised hand h k m) = Leave-add_ref h k
-ending-leaves ks _ _ _ (unlinked hand h k m) = Leave-refl h
-ending-leaves ks _ _ _ (emptied hand h k i n x m d e room content) = Leave-change_native h k (with_native_slot i None) (λ o. refl)
-ending-leaves ks _ _ _ (unpreserved hand h k m) = Leave-change_native h k (λ n. record n { preserved = false }) (λ n. refl)
+ending-leaves ks _ es t e = grind (arith, Leave-refl, Leave-add_ref, Leave-change_native)
 
 -- WHAT IS TOLD AS FREED LEAVES, and no others: in cascades, and in ends of collections.
 pub done-leaves : (ks : List ℕ) (s : Stage) (es : List Event) (t : Stage) → Done (Ending ks) s es t → Leave s.heap (freed_numbers es) t.heap
@@ -203,9 +180,4 @@ IsOf-alike h g e n m = Among-map_cases uncounted h.natives (uncounted n) (subst 
 
 -- a change of native k leaves the others
 pub OthersStay-change_native : (h : Heap) (k : ℕ) (f : HeapNative → HeapNative) → KeepsNumber f → OthersStay h k (change_native h k f)
-OthersStay-change_native h k f e = λ n m d.
-    let i = Among-map_cases (changed_at k f) h.natives n m in
-    let number : i.0.number ≡ n.number = sym (changed_at-number k f e i.0) ∙ ap (λ (o : HeapNative). o.number) i.2 in
-    let other : (i.0.number == k) ≡ false = ne_eqb i.0.number k (λ s. d (sym number ∙ s)) in
-    let same : changed_at k f i.0 ≡ i.0 = rw other refl in
-    (i.0, i.1, ap uncounted (sym same ∙ i.2))
+OthersStay-change_native h k f e = grind (arith, Among-map_cases, changed_at-number)

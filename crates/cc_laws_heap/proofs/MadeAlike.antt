@@ -1,5 +1,5 @@
 -- AN OBJECT MADE ALIKE in heaps and in the graph that they follow: it holds nothing, and no entry is of it.
-use Rattle.std.proofs.Common.{◌≡◌, ◌≢◌, ℕ, List, Option, Some, None, option_map, refl, sym, ◌∙◌, ap, subst, inl, inr, ◌⊎◌, ⊎_elim}
+use Rattle.std.proofs.Common.{arith, ◌≡◌, ◌≢◌, ℕ, List, Some, None, option_map, sym, ◌∙◌, ap, subst, inl, inr, ◌⊎◌, ⊎_elim}
 use Rattle.std.specs.Prelude.{IsTrue}
 use Rattle.std.proofs.lemmas.Bool.{true≢false, false≢true, cases_Bool}
 use Rattle.cc_lists.specs.Members.{Among}
@@ -35,22 +35,12 @@ pub record IsMade (P : Name → Type 0) (h k : Heap) (g e : Graph) (x : Name) (s
 
 -- a map and a key without an entry have no value
 value_in-none : (es : List Entry) (m k : Name) → ((e : Entry) → Among e es → e.the_map ≡ m → e.key ≡ k → ⊥) → value_in es m k ≡ None
-value_in-none es m k none = go (value_in es m k) refl
-  where
-    go : (o : Option Name) → value_in es m k ≡ o → o ≡ None
-    go None e = refl
-    go (Some y) e = let f = found-among es m k y e in absurd (none f.0 f.1 f.2 f.3)
+value_in-none es m k none = grind (arith, found-among)
 
 module _ (P : Name → Type 0) (h k : Heap) (g e : Graph) (x : Name) (s : Shape) (c : IsMade P h k g e x s) (t : Follows P h g) where
   -- what had a shape has it still
   stays : (z : Name) (r : Shape) → shape_in g z ≡ Some r → shape_in e z ≡ Some r
-  stays z r i = ⊎_elim
-      (λ n.
-      let same : z ≡ x = same_name-true z x n in
-      let before = c.before r (ap (shape_in g) (sym same) ∙ i) in
-      ap (shape_in e) same ∙ (c.made ∙ ap (λ (v : Shape). Some v) (sym before.0)))
-      (λ n. c.others z (λ q. true≢false (sym (ap (λ y. same_name y x) q ∙ same_name-refl x) ∙ n)) ∙ i)
-      (cases_Bool (same_name z x))
+  stays z r i = grind (arith, same_name-true, same_name-refl)
 
   -- and what has a shape had it, or was made
   had : (z : Name) (r : Shape) → shape_in e z ≡ Some r → (shape_in g z ≡ Some r) ⊎ ((z ≡ x) × (r ≡ s))

@@ -2,18 +2,17 @@
 use Rattle.std.proofs.Common.{◌≡◌, ◌≢◌, ℕ, ◌+◌, ◌<◌, ◌≤◌, true, false, cond, List, [], ◌∷◌, ◌++◌, Option, Some, None, refl, sym, ◌∙◌, ap, subst, ⊎_elim, arith, ◌==◌}
 use Rattle.std.specs.List.{find}
 use Rattle.std.specs.Option.{option_or}
-use Rattle.std.proofs.lemmas.Bool.{eq-eqb, ne_eqb}
+use Rattle.std.proofs.lemmas.Bool.{eq-eqb}
 use Rattle.std.proofs.lemmas.Bool.Decides.{eqb_tells}
 use Rattle.std.proofs.lemmas.Grind.{flat_map-append}
 use Rattle.std.proofs.lemmas.List.Folds.{find-append}
 use Rattle.cc_lists.proofs.Counting.{count_by-cons, count_by-append}
 use Rattle.cc_names.specs.declared.name.Name.{Name}
 use Rattle.cc_names.specs.declared.name.Name.TheVariants as name
-use Rattle.cc_names.specs.Names.{native, reflector, same_name, behind}
-use Rattle.cc_model.specs.Slots.{contents, empty_slots}
+use Rattle.cc_names.specs.Names.{reflector, same_name, behind}
 use Rattle.cc_model.specs.Heap.{Heap, HeapNative, HeapScript, native_at}
 use Rattle.cc_model.specs.Effects.{with_native}
-use Rattle.cc_model.specs.Counts.{refs_to, slots_of_natives, times}
+use Rattle.cc_model.specs.Counts.{refs_to, times}
 use Rattle.cc_laws_heap.specs.Sound.{IsSound}
 use Rattle.cc_laws_heap.proofs.Natives.{native_at-named}
 use Rattle.cc_laws_heap.proofs.References.{times-append, times-cons, times-cons_same, times-cons_other}
@@ -44,18 +43,11 @@ module _ (owned : List ℕ) (h : Heap) (n : ℕ) (s : IsSound owned h) where
 
   -- any other has its count of before
   count_at-old : (j : ℕ) → j ≢ h.natives_made + 1 → count_at (with_native h n) j ≡ count_at h j
-  count_at-old j d = ap count_of (native_at-with_native j) ∙ rw (ne_eqb (h.natives_made + 1) j (λ e. d (sym e))) (go (native_at h j))
-    where
-      go : (o : Option HeapNative) → count_of (option_or o None) ≡ count_of o
-      go None = refl
-      go (Some m) = refl
+  count_at-old j d = grind (arith, native_at-with_native)
 
   -- it holds nothing
   refs_to-with_native : (j : ℕ) → refs_to (with_native h n) j ≡ refs_to h j
-  refs_to-with_native j =
-      let all : slots_of_natives (with_native h n) ≡ slots_of_natives h ++ (contents (empty_slots n) ++ []) =
-      flat_map-append (λ (m : HeapNative). contents m.slots) h.natives (new_native h n ∷ []) in
-      rw (all, count_by-append (same_name (native j)) (slots_of_natives h) (contents (empty_slots n) ++ []), contents-empty n) (omega arith)
+  refs_to-with_native j = grind (arith, flat_map-append, count_by-append, contents-empty)
 
   -- A native is made: the reference to it is owned.
   pub with_native-sound : n ≤ 64 → h.natives_made < h.limits.natives → IsSound ((h.natives_made + 1) ∷ owned) (with_native h n)
@@ -84,9 +76,7 @@ module _ (owned : List ℕ) (h : Heap) (n : ℕ) (s : IsSound owned h) where
 
 -- a reflector refers to its native, other script objects to none
 pub times-behind : (j : ℕ) (x : Name) → times j (behind x) ≡ cond (same_name x (reflector j)) 1 0
-times-behind j (name.Native k) = refl
-times-behind j (name.Script k) = refl
-times-behind j (name.Reflector k) = times-cons j k.0 [] ∙ (omega arith)
+times-behind j x = grind (arith, times-cons)
 
 -- A script object is made: a reflector holds the reference to its native, which was owned.
 pub with_script-sound : (owned : List ℕ) (h : Heap) (o : HeapScript) (made : ℕ) → IsNewScript h o made → IsSound (behind o.name ++ owned) h →

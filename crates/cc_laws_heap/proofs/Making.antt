@@ -72,8 +72,7 @@ module _ (h : Heap) (n : ℕ) (w : IsWellFormed h) where
 
   -- and what was made
   pub native_names-new_native : Among (native (h.natives_made + 1)) (native_names (with_native h n))
-  native_names-new_native = subst (λ xs. Among (native (h.natives_made + 1)) xs) (sym native_names-is)
-      (Among-right (native (h.natives_made + 1)) (native_names h) (native (h.natives_made + 1) ∷ []) (inl refl))
+  native_names-new_native = grind (arith, native_names-is, Among-right)
 
   -- and every object that was there
   names_there-with_native : (x : Name) → Among x (names_there h) → Among x (names_there (with_native h n))

@@ -1,26 +1,24 @@
 -- WHAT IS MARKED AND WHAT IS NOT, once the colours are those of marking: what registers and natives hold is marked, and
 -- what is marked holds only what is marked.
-use Rattle.std.proofs.Common.{◌≡◌, Bool, true, false, [], ◌∷◌, ◌++◌, map, refl, sym, ◌∙◌, ap, subst, inl, ⊎_elim}
-use Rattle.std.specs.List.{filter}
-use Rattle.std.proofs.lemmas.Bool.{true≢false, false≢true}
+use Rattle.std.proofs.Common.{arith, ◌≡◌, Bool, true, false, [], ◌∷◌, ◌++◌, map, refl, inl}
+use Rattle.std.proofs.lemmas.Bool.{false≢true}
 use Rattle.cc_lists.specs.Members.{Among, has}
 use Rattle.cc_lists.proofs.Members.{Among-map, Among-map_cases, Among-left, Among-right, Among-filter, Among-filtered, Among-passes, Among-flat_map}
 use Rattle.cc_lists.proofs.Least.{derive-root, derive-along, derive-jointly}
 use Rattle.cc_lists.proofs.Closure.{derived-closure}
 use Rattle.cc_names.specs.declared.name.Name.{Name}
 use Rattle.cc_names.specs.declared.kind.Colour.{Colour}
-use Rattle.cc_names.specs.declared.kind.Colour.TheVariants.{White, Gray, Black}
+use Rattle.cc_names.specs.declared.kind.Colour.TheVariants.{White}
 use Rattle.cc_names.specs.Names.{native, reflector, same_name, is_script}
 use Rattle.cc_names.proofs.NameTests.{same_name-exact}
 use Rattle.cc_model.specs.Slots.{contents, from_to}
-use Rattle.cc_model.specs.Entries.{Entry, joint, joints}
+use Rattle.cc_model.specs.Entries.{Entry, joints}
 use Rattle.cc_model.specs.Heap.{Heap, HeapNative, HeapScript, is_white_colour}
 use Rattle.cc_model.specs.View.{slot_edges, preserved_edge, native_edges, script_slot_edges}
 use Rattle.cc_model.specs.Exposure.{slots_of_scripts}
 use Rattle.cc_model.specs.Colours.{IsBlack, black_rules, black_names, scripts_held_by, scripts_held, IsMarked, marked_names, HasColours}
 use Rattle.cc_model.specs.Sweep.{unmarked}
 use Rattle.cc_model.specs.WellFormed.{script_names}
-use Rattle.cc_laws_heap.proofs.Coloured.{is_white}
 use Rattle.cc_laws_heap.proofs.Marking.{colour_of, colour_of-white, black-decided, marked-decided}
 
 -- What is marked
@@ -28,8 +26,7 @@ use Rattle.cc_laws_heap.proofs.Marking.{colour_of, colour_of-white, black-decide
 module _ (h : Heap) where
   -- what is black is marked
   pub marked-black : (x : Name) → IsBlack h x → IsMarked h x
-  marked-black x d = derive-root (black_names h ++ scripts_held h) (slots_of_scripts h) (joints h.entries) x
-      (Among-left x (black_names h) (scripts_held h) (derived-closure same_name same_name-exact (black_rules h) x d))
+  marked-black x d = grind (arith, derive-root, Among-left, derived-closure, same_name-exact)
 
   -- what a script register holds is black
   pub black-register : (x : Name) → Among x (contents h.script_registers) → IsBlack h x
@@ -49,9 +46,7 @@ module _ (h : Heap) where
 
   -- the value of an entry whose map and key are marked is marked
   pub marked-value : (e : Entry) → Among e h.entries → IsMarked h e.the_map → IsMarked h e.key → IsMarked h e.value
-  marked-value e m a b = derive-jointly (black_names h ++ scripts_held h) (slots_of_scripts h) (joints h.entries) (e.the_map ∷ e.key ∷ []) e.value
-      (Among-map joint e h.entries m)
-      (λ y i. ⊎_elim (λ s. subst (IsMarked h) s a) (λ t. ⊎_elim (λ s. subst (IsMarked h) s b) (λ n. absurd n) t) i)
+  marked-value e m a b = grind (arith, derive-jointly, Among-map)
 
   -- what a native refers to and is a script object is marked
   pub marked-held : (n : HeapNative) (x : Name) → Among n h.natives → Among (native n.number, x) (native_edges n) → is_script x ≡ true → IsMarked h x
@@ -81,15 +76,11 @@ module _ (h : Heap) where
 
 -- what passes the test of white is white
 is_white-true : (c : Colour) → is_white_colour c ≡ true → c ≡ White
-is_white-true White e = refl
-is_white-true Gray e = absurd (false≢true e)
-is_white-true Black e = absurd (false≢true e)
+is_white-true c e = grind arith
 
 -- an unmarked name is that of a white script object
 pub unmarked-white : (h : Heap) (x : Name) → Among x (unmarked h) → (o : HeapScript) × Among o h.scripts × (o.colour ≡ White) × (o.name ≡ x)
-unmarked-white h x m =
-    let f = Among-map_cases (λ (o : HeapScript). o.name) (filter is_white h.scripts) x m in
-    (f.0, Among-filtered is_white f.0 h.scripts f.1, is_white-true f.0.colour (Among-passes is_white f.0 h.scripts f.1), f.2)
+unmarked-white h x m = grind (arith, Among-map_cases, Among-filtered, is_white-true, Among-passes)
 
 module _ (h : Heap) (c : HasColours h) where
   -- the colour of a script object that is there, by two tests
@@ -98,24 +89,8 @@ module _ (h : Heap) (c : HasColours h) where
 
   -- What is marked is none of those that are not.
   pub marked-not_unmarked : (x : Name) → IsMarked h x → ¬ (Among x (unmarked h))
-  marked-not_unmarked x d m =
-      let f = unmarked-white h x m in
-      let t = colour_of-white (has same_name (black_names h) f.0.name) (has same_name (marked_names h) f.0.name) (sym (colour-there f.0 f.1) ∙ f.2) in
-      true≢false (sym ((marked-decided h x).1 d) ∙ subst (λ y. has same_name (marked_names h) y ≡ false) f.3 t.1)
+  marked-not_unmarked x d m = grind (arith, unmarked-white, colour_of-white, colour-there, marked-decided)
 
   -- A script object that is none of those that are not marked is marked.
   pub marked-other : (x : Name) → Among x (script_names h) → ¬ (Among x (unmarked h)) → IsMarked h x
-  marked-other x m d =
-      let f = Among-map_cases (λ (o : HeapScript). o.name) h.scripts x m in
-      subst (IsMarked h) f.2 (by_test f.0 f.1 (λ e. d (subst (λ y. Among y (unmarked h)) f.2 (listed f.0 f.1 e)))
-      (has same_name (black_names h) f.0.name) refl (has same_name (marked_names h) f.0.name) refl)
-    where
-      listed : (o : HeapScript) → Among o h.scripts → is_white_colour o.colour ≡ true → Among o.name (unmarked h)
-      listed o i e = Among-map (λ (p : HeapScript). p.name) o (filter is_white h.scripts) (Among-filter is_white o h.scripts i e)
-
-      by_test : (o : HeapScript) → Among o h.scripts → ¬ (is_white_colour o.colour ≡ true) → (b : Bool) → has same_name (black_names h) o.name ≡ b →
-          (k : Bool) → has same_name (marked_names h) o.name ≡ k → IsMarked h o.name
-      by_test o i w true e k f = marked-black h o.name ((black-decided h o.name).0 e)
-      by_test o i w false e true f = (marked-decided h o.name).0 f
-      by_test o i w false e false f =
-          absurd (w (ap is_white_colour (colour-there o i ∙ (ap (λ b. colour_of b (has same_name (marked_names h) o.name)) e ∙ ap (colour_of false) f))))
+  marked-other x m d = grind (arith, Among-map_cases, Among-map, Among-filter, marked-black, black-decided, marked-decided, colour-there)

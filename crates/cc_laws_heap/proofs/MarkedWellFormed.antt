@@ -1,7 +1,7 @@
 -- THE HEAPS WITHOUT WHAT IS NOT MARKED ARE WELL FORMED: what is left mentions nothing that was dropped.
-use Rattle.std.proofs.Common.{◌≤◌, Bool, not, List, ap, subst, ⊎_elim, arith, count_by}
+use Rattle.std.proofs.Common.{◌≤◌, Bool, not, List, subst, ⊎_elim, arith, count_by}
 use Rattle.std.specs.List.{filter}
-use Rattle.std.proofs.lemmas.Bool.{or_parts, not-true}
+use Rattle.std.proofs.lemmas.Bool.{not-true}
 use Rattle.cc_lists.specs.Members.{Among, has}
 use Rattle.cc_lists.proofs.Members.{Among-map, Among-map_cases, Among-left, Among-right, Among-append, Among-filter, Among-filtered, Among-passes}
 use Rattle.cc_lists.proofs.Counting.{count_by-map}
@@ -33,27 +33,15 @@ spared dead h = record h { scripts = filter (is_spared dead) h.scripts; entries 
 module _ (h : Heap) (c : HasColours h) (w : IsWellFormed h) where
   -- a script object that is marked stays
   marked-spared : (x : Name) → Among x (script_names h) → IsMarked h x → Among x (script_names (spared (unmarked h) h))
-  marked-spared x m d =
-      let f = Among-map_cases (λ (o : HeapScript). o.name) h.scripts x m in
-      let apart : ¬ (Among f.0.name (unmarked h)) = λ i. marked-not_unmarked h c x d (subst (λ y. Among y (unmarked h)) f.2 i) in
-      subst (λ y. Among y (script_names (spared (unmarked h) h))) f.2
-      (Among-map (λ (o : HeapScript). o.name) f.0 (filter (is_spared (unmarked h)) h.scripts)
-      (Among-filter (is_spared (unmarked h)) f.0 h.scripts f.1 (is_not_among-from (unmarked h) f.0.name apart)))
+  marked-spared x m d = grind (arith, Among-map_cases, marked-not_unmarked, Among-map, Among-filter, is_not_among-from)
 
   -- and a script object that stays is marked
   spared-marked : (x : Name) → Among x (script_names (spared (unmarked h) h)) → Among x (script_names h) × IsMarked h x
-  spared-marked x m =
-      let f = Among-map_cases (λ (o : HeapScript). o.name) (filter (is_spared (unmarked h)) h.scripts) x m in
-      let there : Among f.0.name (script_names h) = Among-map (λ (o : HeapScript). o.name) f.0 h.scripts (Among-filtered (is_spared (unmarked h)) f.0 h.scripts f.1) in
-      let apart : ¬ (Among f.0.name (unmarked h)) = is_not_among-apart (unmarked h) f.0.name (Among-passes (is_spared (unmarked h)) f.0 h.scripts f.1) in
-      (subst (λ y. Among y (script_names h)) f.2 there, subst (IsMarked h) f.2 (marked-other h c f.0.name there apart))
+  spared-marked x m = grind (arith, Among-map_cases, Among-map, Among-filtered, is_not_among-apart, Among-passes, marked-other)
 
   -- an entry that stays has a map and a key that stay
   spared-entry : (e : Entry) → Among e (spared (unmarked h) h).entries → Among e h.entries × (¬ (Among e.the_map (unmarked h))) × (¬ (Among e.key (unmarked h)))
-  spared-entry e m =
-      let t = or_parts (has same_name (unmarked h) e.the_map) (has same_name (unmarked h) e.key)
-      (not-true (is_dead_entry (unmarked h) e) (Among-passes (is_spared_entry (unmarked h)) e h.entries m)) in
-      (Among-filtered (is_spared_entry (unmarked h)) e h.entries m, is_not_among-apart (unmarked h) e.the_map (ap not t.0), is_not_among-apart (unmarked h) e.key (ap not t.1))
+  spared-entry e m = grind (arith, not-true, Among-passes, Among-filtered, is_not_among-apart)
 
   -- an entry that stays is one of what stays
   spared-members : (e : Entry) → Among e (spared (unmarked h) h).entries → HasMembers (spared (unmarked h) h) e

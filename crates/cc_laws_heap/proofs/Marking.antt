@@ -1,7 +1,6 @@
 -- MARKING GIVES EACH SCRIPT OBJECT THE COLOUR OF ITS LEAST SET: it changes colours alone, and no rule reads a colour.
 use Rattle.std.specs.Prelude.{◌↔◌}
-use Rattle.std.proofs.Common.{◌≡◌, Bool, true, false, ◌++◌, refl, sym, ◌∙◌, ap}
-use Rattle.std.proofs.lemmas.Bool.{true≢false}
+use Rattle.std.proofs.Common.{arith, ◌≡◌, Bool, true, false, ◌++◌, refl, ◌∙◌, ap}
 use Rattle.cc_lists.specs.Members.{Among, has}
 use Rattle.cc_lists.specs.Least.{system, closure}
 use Rattle.cc_lists.proofs.Closure.{closure-decides}
@@ -26,21 +25,15 @@ colour_of b m = elim b [ true ↦ Black | false ↦ elim m [ true ↦ Gray | fal
 
 -- black by the first test
 pub colour_of-black : (b m : Bool) → colour_of b m ≡ Black → b ≡ true
-colour_of-black true m e = refl
-colour_of-black false true e = absurd (cc)
-colour_of-black false false e = absurd (cc)
+colour_of-black b m e = grind arith
 
 -- gray by the second alone
 colour_of-gray : (b m : Bool) → colour_of b m ≡ Gray → (b ≡ false) × (m ≡ true)
-colour_of-gray true m e = absurd (cc)
-colour_of-gray false true e = (refl, refl)
-colour_of-gray false false e = absurd (cc)
+colour_of-gray b m e = grind arith
 
 -- white by neither
 pub colour_of-white : (b m : Bool) → colour_of b m ≡ White → (b ≡ false) × (m ≡ false)
-colour_of-white true m e = absurd (cc)
-colour_of-white false true e = absurd (cc)
-colour_of-white false false e = (refl, refl)
+colour_of-white b m e = grind arith
 
 -- The lists of names decide
 
@@ -71,9 +64,7 @@ black_names-marked h = ap (λ edges. closure same_name (system (contents h.scrip
 -- and so do the marked names
 pub marked_names-marked : (h : Heap) → marked_names (marked h) ≡ marked_names h
 unfolding marked
-marked_names-marked h =
-    ap (λ blacks. closure same_name (system (blacks ++ scripts_held h) (slots_of_scripts (marked h)) (joints h.entries))) (black_names-marked h)
-    ∙ ap (λ edges. closure same_name (system (black_names h ++ scripts_held h) edges (joints h.entries))) (slots_of_scripts-marked h)
+marked_names-marked h = search (black_names-marked, slots_of_scripts-marked)
 
 -- The colours after marking
 
@@ -84,29 +75,12 @@ colour-marked h = each-map (λ o. o.colour ≡ colour_by (black_names h) (marked
 
 -- THE COLOURS AFTER MARKING are those of marking.
 pub HasColours-marked : (h : Heap) → HasColours (marked h)
-HasColours-marked h o m =
-    colour-marked h o m
-    ∙ (ap (λ blacks. colour_by blacks (marked_names h) o.name) (sym (black_names-marked h))
-    ∙ ap (λ marks. colour_by (black_names (marked h)) marks o.name) (sym (marked_names-marked h)))
+HasColours-marked h o m = grind (arith, colour-marked, black_names-marked, marked_names-marked)
 
 -- What is black after marking is what is black by the rules.
 pub black-marked : (h : Heap) (o : HeapScript) → Among o (marked h).scripts → (o.colour ≡ Black) ↔ IsBlack h o.name
-black-marked h o m = (
-  λ e. (black-decided h o.name).0 (colour_of-black (has same_name (black_names h) o.name) (has same_name (marked_names h) o.name) (sym (colour-marked h o m) ∙ e)),
-  λ d. let b : has same_name (black_names h) o.name ≡ true = (black-decided h o.name).1 d in
-      colour-marked h o m ∙ ap (λ t. colour_of t (has same_name (marked_names h) o.name)) b,
-)
+black-marked h o m = grind (arith, black-decided, colour_of-black, colour-marked)
 
 -- What is gray after marking is what is gray by the rules.
 pub gray-marked : (h : Heap) (o : HeapScript) → Among o (marked h).scripts → (o.colour ≡ Gray) ↔ IsGray h o.name
-gray-marked h o m = (
-  λ e. let t = colour_of-gray (has same_name (black_names h) o.name) (has same_name (marked_names h) o.name) (sym (colour-marked h o m) ∙ e) in
-      ((marked-decided h o.name).0 t.1, λ d. true≢false (sym ((black-decided h o.name).1 d) ∙ t.0)),
-  λ d. by_test (has same_name (black_names h) o.name) refl d,
-)
-  where
-    by_test : (b : Bool) → has same_name (black_names h) o.name ≡ b → IsGray h o.name → o.colour ≡ Gray
-    by_test true e d = absurd (d.1 ((black-decided h o.name).0 e))
-    by_test false e d =
-        let t : has same_name (marked_names h) o.name ≡ true = (marked-decided h o.name).1 d.0 in
-        colour-marked h o m ∙ (ap (λ b. colour_of b (has same_name (marked_names h) o.name)) e ∙ ap (λ b. colour_of false b) t)
+gray-marked h o m = grind (arith, colour_of-gray, colour-marked, marked-decided, black-decided)

@@ -15,21 +15,11 @@ use Rattle.cc_laws_heap.specs.Rounds.{is_not_among}
 
 -- names that differ are told apart
 pub same_name-other : (x y : Name) → ¬ (x ≡ y) → same_name x y ≡ false
-same_name-other x y d = go (same_name x y) refl
-  where
-    go : (b : Bool) → same_name x y ≡ b → b ≡ false
-    go true e = absurd (d (same_name-true x y e))
-    go false e = refl
+same_name-other x y d = grind (arith, same_name-true)
 
 -- an equality of names reads the same from both sides
 pub same_name-sym : (x y : Name) → same_name x y ≡ same_name y x
-same_name-sym x y = go (same_name x y) refl (same_name y x) refl
-  where
-    go : (b : Bool) → same_name x y ≡ b → (c : Bool) → same_name y x ≡ c → b ≡ c
-    go true e true f = refl
-    go true e false f = absurd (true≢false (sym (same_name-refl y) ∙ (ap (same_name y) (sym (same_name-true x y e)) ∙ f)))
-    go false e true f = absurd (true≢false (sym (same_name-refl x) ∙ (ap (same_name x) (sym (same_name-true y x f)) ∙ e)))
-    go false e false f = refl
+same_name-sym x y = grind (arith, same_name-refl, same_name-true)
 
 -- How often a name stands in a list
 
@@ -58,11 +48,7 @@ names-once_append xs ys a b apart x = ⊎_elim
 
 -- a name that does not stand in the list passes
 pub is_not_among-from : (xs : List Name) (x : Name) → ¬ (Among x xs) → is_not_among xs x ≡ true
-is_not_among-from xs x d = go (has same_name xs x) refl
-  where
-    go : (b : Bool) → has same_name xs x ≡ b → not b ≡ true
-    go true e = absurd (d (has-among same_name same_name-exact xs x e))
-    go false e = refl
+is_not_among-from xs x d = grind (arith, has-among, same_name-exact)
 
 -- a name that passes does not stand in the list
 pub is_not_among-apart : (xs : List Name) (x : Name) → is_not_among xs x ≡ true → ¬ (Among x xs)

@@ -1,5 +1,5 @@
 -- NATIVES HELD, STORED AND MADE: the new reference is taken first, then the place is written, then the old one is given up.
-use Rattle.std.proofs.Common.{◌≡◌, ℕ, ◌+◌, ◌<◌, ◌≤◌, List, ◌++◌, length, Option, Some, None, refl, sym, ◌∙◌, ap, subst, inl, ⊎_elim, arith, option_map, slice_index_or}
+use Rattle.std.proofs.Common.{◌≡◌, ℕ, ◌+◌, ◌<◌, ◌≤◌, List, ◌++◌, length, Option, Some, None, refl, sym, subst, inl, ⊎_elim, arith, option_map, slice_index_or}
 use Rattle.std.specs.Option.{option_and_then}
 use Rattle.cc_lists.specs.Members.{Among}
 use Rattle.cc_lists.proofs.Members.{Among-map_cases}
@@ -9,7 +9,7 @@ use Rattle.cc_names.specs.declared.register.Reg.TheVariants.{N}
 use Rattle.cc_names.specs.Names.{native}
 use Rattle.cc_model.specs.Slots.{Slots}
 use Rattle.cc_model.specs.Checks.{slots_or_none, slots_at}
-use Rattle.cc_model.specs.Heap.{Heap, HeapNative, Outcome, native_at, slots_in, register, set_register, set_slot, change_native, with_native_slot, objects_of}
+use Rattle.cc_model.specs.Heap.{Heap, HeapNative, Outcome, native_at, slots_in, register, set_register, change_native, with_native_slot, objects_of}
 use Rattle.cc_model.specs.Cascade.{take_up, let_go}
 use Rattle.cc_model.specs.Effects.{put_in_register, hold_native, put_in_slot, store_native, with_native, make_native}
 use Rattle.cc_model.specs.WellFormed.{IsWellFormed, native_names, names_there}
@@ -36,8 +36,7 @@ IsIn-take_up h x y there = subst (λ xs. IsIn xs y) (sym (native_names-alike h (
 pub hold_native-sound : (owned : List ℕ) (h : Heap) (d : ℕ) (x : Option Name) → d < 256 → IsIn (native_names h) x → IsSound owned h →
     IsSound owned (hold_native h d x).heap
 unfolding hold_native
-hold_native-sound owned h d x room there s = put_in_register-sound owned (take_up h x) d x room (IsIn-take_up h x x there)
-    (take_up-sound owned h x (IsIn-natives h x there) s)
+hold_native-sound owned h d x room there s = search (put_in_register-sound, IsIn-take_up, take_up-sound, IsIn-natives)
 
 -- Slots of natives
 
@@ -71,10 +70,7 @@ HasSlot-from h d i w room = go (register h (N d)) refl (native_register-there h 
 -- then the slot is written, and what it held is given up
 pub put_in_slot-written : (h : Heap) (d i : ℕ) (x : Option Name) (f : HasSlot h d i) →
     put_in_slot h d i x ≡ let_go (change_native h f.number (with_native_slot i x)) (slice_index_or f.there.slots i None)
-put_in_slot-written h d i x f =
-    ap (λ (o : Option Name). let_go (set_slot h o i x) (slice_index_or (slots_or_none (option_and_then (slots_in h) o)) i None)) f.held
-    ∙ ap (λ (o : Option HeapNative). let_go (change_native h f.number (with_native_slot i x))
-    (slice_index_or (slots_or_none (option_map (λ n. n.slots) o)) i None)) f.found
+put_in_slot-written h d i x f = grind arith
 
 -- a slot of a native written, whose new reference is owned
 put_in_slot-sound : (owned : List ℕ) (h : Heap) (d i : ℕ) (x : Option Name) → IsIn (names_there h) x → HasSlot h d i →
@@ -112,5 +108,4 @@ IsIn-made h n w = λ y m. ⊎_elim (λ e. subst (λ z. Among z (native_names (wi
 pub make_native-sound : (owned : List ℕ) (h : Heap) (d n : ℕ) → d < 256 → n ≤ 64 → h.natives_made < h.limits.natives → IsSound owned h →
     IsSound owned (make_native h d n).heap
 unfolding make_native
-make_native-sound owned h d n room few allowed s = put_in_register-sound owned (with_native h n) d (Some (native (h.natives_made + 1))) room
-    (IsIn-made h n s.well_formed) (with_native-sound owned h n s few allowed)
+make_native-sound owned h d n room few allowed s = search (put_in_register-sound, IsIn-made, with_native-sound)

@@ -1,12 +1,12 @@
 -- Natives by their numbers: looked up, changed and taken out; and the count that a number has.
-use Rattle.std.proofs.Common.{◌≡◌, ◌≢◌, ℕ, ◌≤◌, Bool, true, false, not, map, Option, Some, None, option_map, refl, sym, ◌∙◌, ap, subst, count_by, find, ◌==◌, if◌then◌else◌}
+use Rattle.std.proofs.Common.{arith, ◌≡◌, ◌≢◌, ℕ, ◌≤◌, not, map, Some, None, option_map, refl, sym, ◌∙◌, ap, subst, count_by, ◌==◌, if◌then◌else◌}
 use Rattle.std.proofs.Math.Path.{fun_ext}
-use Rattle.std.proofs.lemmas.Bool.{eqb-true, eq-eqb, ne_eqb, not-true}
+use Rattle.std.proofs.lemmas.Bool.{eqb-true, eq-eqb, not-true}
 use Rattle.std.proofs.lemmas.Simd.{map-map}
 use Rattle.cc_lists.specs.Members.{Among}
 use Rattle.cc_lists.proofs.Members.{Among-map, Among-map_cases}
 use Rattle.cc_lists.proofs.Counting.{count_by-map}
-use Rattle.cc_names.specs.Names.{native, number_of}
+use Rattle.cc_names.specs.Names.{native}
 use Rattle.cc_model.specs.Heap.{Heap, HeapNative, native_at, change_native}
 use Rattle.cc_model.specs.Cascade.{removed}
 use Rattle.cc_model.specs.WellFormed.{IsRising, IsWellFormed, native_names}
@@ -37,9 +37,7 @@ native_at-number h k n e = eqb-true n.number k (find-passes (has_number k) h.nat
 
 -- the name of what is found is there
 pub native_at-named : (h : Heap) (k : ℕ) (n : HeapNative) → native_at h k ≡ Some n → Among (native k) (native_names h)
-native_at-named h k n e =
-    subst (λ j. Among (native j) (native_names h)) (native_at-number h k n e)
-    (Among-map (λ (m : HeapNative). native m.number) n h.natives (native_at-there h k n e))
+native_at-named h k n e = grind (arith, native_at-number, Among-map, native_at-there)
 
 -- each native is found at its number
 pub native_at-member : (h : Heap) → HasDistinctNumbers h → (n : HeapNative) → Among n h.natives → native_at h n.number ≡ Some n
@@ -47,9 +45,7 @@ native_at-member h d n m = find-only (has_number n.number) h.natives n (d n.numb
 
 -- a name that is there is that of a native
 pub named-member : (h : Heap) (k : ℕ) → Among (native k) (native_names h) → (n : HeapNative) × Among n h.natives × (n.number ≡ k)
-named-member h k m =
-    let f = Among-map_cases (λ (n : HeapNative). native n.number) h.natives (native k) m in
-    (f.0, f.1, ap number_of f.2)
+named-member h k m = grind (arith, Among-map_cases)
 
 -- at a name that is there something is found
 pub named-found : (h : Heap) (k : ℕ) → Among (native k) (native_names h) → (n : HeapNative) × (native_at h k ≡ Some n)
@@ -69,39 +65,22 @@ KeepsNumber f = (n : HeapNative) → (f n).number ≡ n.number
 
 -- then a change of one native leaves each its number
 pub changed_at-number : (k : ℕ) (f : HeapNative → HeapNative) → KeepsNumber f → KeepsNumber (changed_at k f)
-changed_at-number k f h n = go (n.number == k)
-  where
-    go : (b : Bool) → (if b then f n else n).number ≡ n.number
-    go true = h n
-    go false = refl
+changed_at-number k f h n = grind arith
 
 -- what is found after one native changed
 native_at-change : (h : Heap) (k : ℕ) (f : HeapNative → HeapNative) → KeepsNumber f → (j : ℕ) →
     native_at (change_native h k f) j ≡ option_map (changed_at k f) (native_at h j)
-native_at-change h k f e j =
-    let same : (λ n. has_number j (changed_at k f n)) ≡ has_number j = fun_ext (λ n. ap (λ i. i == j) (changed_at-number k f e n)) in
-    find-map (has_number j) (changed_at k f) h.natives ∙ ap (λ p. option_map (changed_at k f) (find p h.natives)) same
+native_at-change h k f e j = grind (arith, changed_at-number, find-map)
 
 -- what is found at the number of the native that changed
 pub native_at-change_same : (h : Heap) (k : ℕ) (f : HeapNative → HeapNative) → KeepsNumber f →
     native_at (change_native h k f) k ≡ option_map f (native_at h k)
-native_at-change_same h k f e = native_at-change h k f e k ∙ go (native_at h k) refl
-  where
-    go : (o : Option HeapNative) → native_at h k ≡ o → option_map (changed_at k f) o ≡ option_map f o
-    go None s = refl
-    go (Some n) s = let here : (n.number == k) ≡ true = eq-eqb n.number k (native_at-number h k n s) in rw here refl
+native_at-change_same h k f e = grind (arith, native_at-change, eq-eqb, native_at-number)
 
 -- and at any other
 pub native_at-change_other : (h : Heap) (k : ℕ) (f : HeapNative → HeapNative) → KeepsNumber f → (j : ℕ) → j ≢ k →
     native_at (change_native h k f) j ≡ native_at h j
-native_at-change_other h k f e j d = native_at-change h k f e j ∙ go (native_at h j) refl
-  where
-    go : (o : Option HeapNative) → native_at h j ≡ o → option_map (changed_at k f) o ≡ o
-    go None s = refl
-    go (Some n) s =
-        let there : n.number ≡ j = native_at-number h j n s in
-        let here : (n.number == k) ≡ false = ne_eqb n.number k (λ q. d (sym there ∙ q)) in
-        rw here refl
+native_at-change_other h k f e j d = grind (arith, native_at-change, native_at-number)
 
 -- natives keep their names
 pub native_names-change : (h : Heap) (k : ℕ) (f : HeapNative → HeapNative) → KeepsNumber f → native_names (change_native h k f) ≡ native_names h
@@ -119,14 +98,7 @@ KeepsUncounted f = (n : HeapNative) → uncounted (f n) ≡ uncounted n
 
 -- leaves the natives as they are but for their counts
 pub uncounted-change : (h : Heap) (k : ℕ) (f : HeapNative → HeapNative) → KeepsUncounted f → map uncounted (change_native h k f).natives ≡ map uncounted h.natives
-uncounted-change h k f e = map-map uncounted (changed_at k f) h.natives ∙ ap (λ g. map g h.natives) (fun_ext each)
-  where
-    each : (n : HeapNative) → uncounted (changed_at k f n) ≡ uncounted n
-    each n = go (n.number == k)
-      where
-        go : (b : Bool) → uncounted (if b then f n else n) ≡ uncounted n
-        go true = e n
-        go false = refl
+uncounted-change h k f e = grind (arith, map-map)
 
 -- One native taken out
 
@@ -136,10 +108,4 @@ native_at-removed_same h k = find-dropped (has_number k) (λ n. not (has_number 
 
 -- and at any other what was found before
 pub native_at-removed_other : (h : Heap) (k j : ℕ) → j ≢ k → native_at (removed h k) j ≡ native_at h j
-native_at-removed_other h k j d = find-filter (has_number j) (λ n. not (has_number k n)) h.natives each
-  where
-    each : (n : HeapNative) → has_number j n ≡ true → not (has_number k n) ≡ true
-    each n e =
-        let there : n.number ≡ j = eqb-true n.number j e in
-        let here : (n.number == k) ≡ false = ne_eqb n.number k (λ q. d (sym there ∙ q)) in
-        rw here refl
+native_at-removed_other h k j d = grind (arith, find-filter, eqb-true)

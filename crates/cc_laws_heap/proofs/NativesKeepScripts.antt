@@ -1,10 +1,10 @@
 -- WHAT COMMANDS DO TO NATIVES LEAVES SCRIPT OBJECTS AND SCRIPT REGISTERS AS THEY ARE, cascades too.
-use Rattle.std.proofs.Common.{◌≡◌, ℕ, ◌+◌, ◌<◌, List, ◌++◌, length, Option, Some, None, sym, ◌∙◌, subst, slice_index_or}
+use Rattle.std.proofs.Common.{arith, ◌≡◌, ℕ, ◌+◌, ◌<◌, List, ◌++◌, length, Option, Some, ◌∙◌}
 use Rattle.cc_names.specs.declared.name.Name.{Name}
 use Rattle.cc_names.specs.declared.register.Reg.TheVariants.{N}
 use Rattle.cc_names.specs.Names.{native}
 use Rattle.cc_model.specs.Checks.{slots_at}
-use Rattle.cc_model.specs.Heap.{Heap, Outcome, register, set_register, change_native, with_native_slot, objects_of}
+use Rattle.cc_model.specs.Heap.{Heap, objects_of}
 use Rattle.cc_model.specs.Cascade.{take_up, let_go}
 use Rattle.cc_model.specs.Effects.{put_in_register, hold_native, put_in_slot, store_native, with_native, make_native}
 use Rattle.cc_model.specs.WellFormed.{names_there}
@@ -43,21 +43,16 @@ let_go-scripts h x = SameScripts-beside h (let_go h x).heap (TakesOut-let_go h x
 
 -- A native register is written.
 pub put_in_register-scripts : (h : Heap) (d : ℕ) (x : Option Name) → SameScripts h (put_in_register h d x).heap
-put_in_register-scripts h d x =
-    let k = let_go-scripts (set_register h (N d) x) (register h (N d)) in
-    record { scripts = k.scripts; registers = k.registers }
+put_in_register-scripts h d x = grind (arith, let_go-scripts)
 
 -- A native register is written, with the reference taken first.
 pub hold_native-scripts : (h : Heap) (d : ℕ) (x : Option Name) → SameScripts h (hold_native h d x).heap
 unfolding hold_native
-hold_native-scripts h d x =
-    SameScripts-trans h (take_up h x) (put_in_register (take_up h x) d x).heap (SameScripts-take_up h x) (put_in_register-scripts (take_up h x) d x)
+hold_native-scripts h d x = grind (arith, SameScripts-trans, SameScripts-take_up, put_in_register-scripts)
 
 -- A slot of a native is written.
 put_in_slot-scripts : (h : Heap) (d i : ℕ) (x : Option Name) → HasSlot h d i → SameScripts h (put_in_slot h d i x).heap
-put_in_slot-scripts h d i x f =
-    let k = let_go-scripts (change_native h f.number (with_native_slot i x)) (slice_index_or f.there.slots i None) in
-    subst (λ (o : Outcome). SameScripts h o.heap) (sym (put_in_slot-written h d i x f)) (record { scripts = k.scripts; registers = k.registers })
+put_in_slot-scripts h d i x f = grind (arith, let_go-scripts, put_in_slot-written)
 
 -- And with the reference taken first.
 pub store_native-scripts : (owned : List ℕ) (h : Heap) (d i : ℕ) (x : Option Name) → IsIn (names_there h) x →

@@ -1,14 +1,12 @@
 -- Members by their numbers, counted from one: of a list with one more member at its end, and with one member changed.
-use Rattle.std.proofs.Common.{◌≡◌, ◌≢◌, ℕ, zero, suc, ◌+◌, ◌-◌, ◌≤◌, List, [], ◌∷◌, ◌++◌, length, set, Option, Some, None, option_map, slice_get, refl, sym, ◌∙◌, ap, subst, inl, inr, ◌⊎◌, ⊎_elim, arith, add-one}
-use Rattle.std.proofs.lemmas.Bool.Decides.{eqb_tells}
+use Rattle.std.proofs.Common.{◌≡◌, ◌≢◌, ℕ, zero, suc, ◌+◌, ◌-◌, ◌≤◌, List, [], ◌∷◌, ◌++◌, length, set, Option, Some, None, option_map, slice_get, refl, sym, ◌∙◌, subst, ◌⊎◌, arith, add-one}
 use Rattle.std.proofs.lemmas.List.{length-set}
 use Rattle.std.proofs.lemmas.Option.{slice_get_within, slice_get_past}
 use Rattle.cc_model.specs.Graph.{numbered}
 
 -- no member of the empty list has a number
 pub numbered-nothing : {X : Type 0} (k : ℕ) (x : X) → numbered [] k ≡ Some x → ⊥
-numbered-nothing zero x e = cc
-numbered-nothing (suc k) x e = cc
+numbered-nothing f x e = grind arith
 
 -- One more at the end
 
@@ -29,9 +27,8 @@ slice_get-push (x ∷ xs) y = slice_get-push xs y
 -- any other place has what it had
 slice_get-push_other : {X : Type 0} (xs : List X) (y : X) (i : ℕ) → i ≢ length xs → slice_get (xs ++ y ∷ []) i ≡ slice_get xs i
 slice_get-push_other [] y zero d = absurd (d refl)
-slice_get-push_other [] y (suc i) d = refl
-slice_get-push_other (x ∷ xs) y zero d = refl
 slice_get-push_other (x ∷ xs) y (suc i) d = slice_get-push_other xs y i (λ e. d (omega arith))
+slice_get-push_other _ y _ d = refl
 
 -- one more at the end has the next number
 pub numbered-push : {X : Type 0} (xs : List X) (y : X) → numbered (xs ++ y ∷ []) (length xs + 1) ≡ Some y
@@ -39,8 +36,7 @@ numbered-push xs y = subst (λ k. numbered (xs ++ y ∷ []) k ≡ Some y) (sym (
 
 -- and all others keep theirs
 pub numbered-push_other : {X : Type 0} (xs : List X) (y : X) (k : ℕ) → k ≢ length xs + 1 → numbered (xs ++ y ∷ []) k ≡ numbered xs k
-numbered-push_other xs y zero d = refl
-numbered-push_other xs y (suc i) d = slice_get-push_other xs y i (λ e. d (omega arith))
+numbered-push_other xs y e d = grind (arith, slice_get-push_other)
 
 -- what had a number has it still
 pub numbered-push_old : {X : Type 0} (xs : List X) (y : X) (k : ℕ) (x : X) → numbered xs k ≡ Some x → numbered (xs ++ y ∷ []) k ≡ Some x
@@ -49,10 +45,7 @@ numbered-push_old xs y k x e = numbered-push_other xs y k (λ s. absurd (omega (
 -- what has a number had it, or is the last
 pub numbered-push_cases : {X : Type 0} (xs : List X) (y : X) (k : ℕ) (x : X) → numbered (xs ++ y ∷ []) k ≡ Some x →
     (numbered xs k ≡ Some x) ⊎ ((k ≡ length xs + 1) × (y ≡ x))
-numbered-push_cases {X} xs y k x e = ⊎_elim
-    (λ t. let here : Some y ≡ Some x = sym (numbered-push xs y) ∙ (ap (numbered (xs ++ y ∷ [])) (sym t.1) ∙ e) in inr (t.1, cc))
-    (λ t. inl (sym (numbered-push_other xs y k t.1) ∙ e))
-    (eqb_tells k (length xs + 1))
+numbered-push_cases {X} xs y k x e = grind (arith, numbered-push, numbered-push_other)
 
 -- One member changed
 
@@ -64,11 +57,9 @@ slice_get-set (z ∷ zs) (suc i) x y e = slice_get-set zs i x y e
 
 -- any other place has what it had
 slice_get-set_other : {X : Type 0} (xs : List X) (i j : ℕ) (y : X) → j ≢ i → slice_get (set xs i y) j ≡ slice_get xs j
-slice_get-set_other [] i j y d = refl
 slice_get-set_other (z ∷ zs) zero zero y d = absurd (d refl)
-slice_get-set_other (z ∷ zs) zero (suc j) y d = refl
-slice_get-set_other (z ∷ zs) (suc i) zero y d = refl
 slice_get-set_other (z ∷ zs) (suc i) (suc j) y d = slice_get-set_other zs i j y (λ e. d (omega arith))
+slice_get-set_other _ _ _ y d = refl
 
 -- the member with number k replaced, where there is something to replace it
 abbrev pub set_numbered : {X : Type 0} → List X → ℕ → Option X → List X
@@ -82,26 +73,14 @@ change_numbered xs k f = set_numbered xs k (option_map f (numbered xs k))
 -- the member that was changed
 pub numbered-change : {X : Type 0} (xs : List X) (k : ℕ) (f : X → X) → numbered (change_numbered xs k f) k ≡ option_map f (numbered xs k)
 numbered-change xs zero f = refl
-numbered-change {X} xs (suc i) f = go (slice_get xs i) refl
-  where
-    go : (o : Option X) → slice_get xs i ≡ o → slice_get (set_numbered xs (suc i) (option_map f o)) i ≡ option_map f o
-    go None e = e
-    go (Some x) e = subst (λ j. slice_get (set xs j (f x)) i ≡ Some (f x)) (omega arith) (slice_get-set xs i x (f x) e)
+numbered-change {X} xs (suc i) f = grind (arith, slice_get-set)
 
 -- and any other
 pub numbered-change_other : {X : Type 0} (xs : List X) (k : ℕ) (f : X → X) (j : ℕ) → j ≢ k → numbered (change_numbered xs k f) j ≡ numbered xs j
 numbered-change_other xs zero f j d = refl
 numbered-change_other {X} xs (suc i) f zero d = refl
-numbered-change_other {X} xs (suc i) f (suc j) d = go (slice_get xs i)
-  where
-    go : (o : Option X) → slice_get (set_numbered xs (suc i) (option_map f o)) j ≡ slice_get xs j
-    go None = refl
-    go (Some x) = subst (λ l. slice_get (set xs l (f x)) j ≡ slice_get xs j) (omega arith) (slice_get-set_other xs i j (f x) (λ e. d (omega arith)))
+numbered-change_other {X} xs (suc i) f (suc j) d = grind (arith, slice_get-set_other)
 
 -- there are as many as before
 pub length-change : {X : Type 0} (xs : List X) (k : ℕ) (f : X → X) → length (change_numbered xs k f) ≡ length xs
-length-change {X} xs k f = go (numbered xs k)
-  where
-    go : (o : Option X) → length (set_numbered xs k (option_map f o)) ≡ length xs
-    go None = refl
-    go (Some x) = length-set xs (k - 1) (f x)
+length-change {X} xs k f = grind (arith, length-set)

@@ -1,5 +1,5 @@
 -- REFERENCES TAKEN AND GIVEN UP: what is owned outside the heaps' lists meanwhile.
-use Rattle.std.proofs.Common.{◌≡◌, ◌≢◌, ℕ, ◌+◌, ◌≤◌, true, false, List, ◌∷◌, ◌++◌, Option, Some, None, option_map, refl, sym, ◌∙◌, ap, subst, inl, ⊎_elim, arith, count_by, ◌==◌}
+use Rattle.std.proofs.Common.{◌≡◌, ◌≢◌, ℕ, ◌+◌, ◌≤◌, true, false, List, ◌∷◌, ◌++◌, Option, Some, option_map, refl, sym, ◌∙◌, ap, subst, inl, ⊎_elim, arith, count_by, ◌==◌}
 use Rattle.std.specs.Option.{option_to_list}
 use Rattle.std.proofs.lemmas.Bool.Decides.{eqb_tells}
 use Rattle.cc_lists.specs.Members.{Among}
@@ -81,14 +81,10 @@ add_ref-sound owned h k there s = IsSound-from_counted (k ∷ owned) (add_ref h 
 -- A reference to what a register or a slot is to hold is taken.
 pub take_up-sound : (owned : List ℕ) (h : Heap) (x : Option Name) → IsIn (names_there h) x → IsSound owned h →
     IsSound (numbers_of x ++ owned) (take_up h x)
-take_up-sound owned h None there s = s
 take_up-sound owned h (Some (name.Native k)) there s = add_ref-sound owned h k.0 (native-there h k.0 s.well_formed (there (native k.0) (inl refl))) s
-take_up-sound owned h (Some (name.Script k)) there s = s
-take_up-sound owned h (Some (name.Reflector k)) there s = s
+take_up-sound owned h _ there s = s
 
 -- What a register or a slot held is given up: it is owned no more.
 pub let_go-sound : (owned : List ℕ) (h : Heap) (x : Option Name) → IsSound (numbers_of x ++ owned) h → IsSound owned (let_go h x).heap
-let_go-sound owned h None s = s
 let_go-sound owned h (Some (name.Native k)) s = cascade-sound owned h k.0 s
-let_go-sound owned h (Some (name.Script k)) s = s
-let_go-sound owned h (Some (name.Reflector k)) s = s
+let_go-sound owned h _ s = s

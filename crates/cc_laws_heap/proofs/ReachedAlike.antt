@@ -1,5 +1,5 @@
 -- WHAT IS REACHED IN A GRAPH is what is reached in heaps that stand for it, of what is there; and all of it is there.
-use Rattle.std.proofs.Common.{◌≡◌, List, [], ◌∷◌, Some, refl, sym, ◌∙◌, ap, subst, inl, inr, ⊎_elim}
+use Rattle.std.proofs.Common.{arith, ◌≡◌, List, [], ◌∷◌, Some, refl, sym, ◌∙◌, ap, subst, inl, inr, ⊎_elim}
 use Rattle.cc_lists.specs.Members.{Among}
 use Rattle.cc_lists.proofs.Members.{Among-map, Among-map_cases, Among-left, Among-right, Among-append}
 use Rattle.cc_lists.proofs.Least.{derive-root, derive-along, derive-jointly, derived-within}
@@ -30,8 +30,7 @@ ArePart-among (z ∷ zs) (y ∷ ys) x p m = ⊎_elim
 
 -- nothing is part of any list
 pub ArePart-none : {X : Type 0} (ys : List X) → ArePart [] ys
-ArePart-none [] = tt
-ArePart-none (y ∷ ys) = tt
+ArePart-none e = grind arith
 
 -- a part of a list is part of a longer one
 pub ArePart-skip : {X : Type 0} (xs : List X) (y : X) (ys : List X) → ArePart xs ys → ArePart xs (y ∷ ys)
@@ -44,10 +43,7 @@ edges_of-made g x s e = edges_of-shape g x ∙ ap (edges_of_some x) e
 
 -- what a register holds is a root
 register-root : (h : Heap) (g : Graph) → StandsFor h g → (r : Reg) (x : Name) → register g r ≡ Some x → Among x (view h).registers
-register-root h g s (N r) x e = Among-left x (contents h.native_registers) (contents h.script_registers)
-    (subst (λ (b : Slots). Among x (contents b)) (sym s.native_registers) (contents-get g.native_registers r x e))
-register-root h g s (S r) x e = Among-right x (contents h.native_registers) (contents h.script_registers)
-    (subst (λ (b : Slots). Among x (contents b)) (sym s.script_registers) (contents-get g.script_registers r x e))
+register-root h g s r x e = grind (arith, Among-left, contents-get, Among-right)
 
 -- All that is reached in the graph is in the heaps.
 pub reached-there : (h : Heap) (g : Graph) (x : Name) → StandsFor h g → Reached g x → Among x (names_there h)

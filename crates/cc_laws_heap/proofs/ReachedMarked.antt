@@ -1,5 +1,5 @@
 -- WHAT THE REGISTERS REACH AND IS A SCRIPT OBJECT IS MARKED.
-use Rattle.std.proofs.Common.{◌≡◌, true, List, [], ◌∷◌, refl, sym, ◌∙◌, ap, subst, inl, inr, ⊎_elim}
+use Rattle.std.proofs.Common.{arith, ◌≡◌, true, List, sym, ◌∙◌, ap, subst, ⊎_elim}
 use Rattle.std.specs.List.{flat_map}
 use Rattle.std.proofs.lemmas.Bool.{false≢true}
 use Rattle.cc_lists.specs.Members.{Among, has}
@@ -8,7 +8,7 @@ use Rattle.cc_lists.proofs.Least.{derived-within}
 use Rattle.cc_names.specs.declared.name.Name.{Name}
 use Rattle.cc_names.specs.Names.{native, same_name, is_script}
 use Rattle.cc_model.specs.Slots.{contents}
-use Rattle.cc_model.specs.Entries.{Entry, joint, joints}
+use Rattle.cc_model.specs.Entries.{joints}
 use Rattle.cc_model.specs.Graph.{Graph}
 use Rattle.cc_model.specs.Reached.{Reached}
 use Rattle.cc_model.specs.WellMade.{IsWellMade}
@@ -39,12 +39,7 @@ module _ (h : Heap) (w : IsWellFormed h) where
 
   -- what an edge of a script object leads to, where it leads from what is marked
   script-edge_marked : (o : HeapScript) (x y : Name) → Among o h.scripts → Among (x, y) (script_edges o) → IsMarkedScript h x → IsMarkedScript h y
-  script-edge_marked o x y m i d s =
-      let e = script_edges-are o x y i in
-      ⊎_elim
-      (λ l. marked-slot h o y m l (subst (IsMarked h) (sym e.0) (d (subst (λ z. is_script z ≡ true) e.0 (script-named h w o m)))))
-      (λ r. absurd (false≢true (subst (λ z. is_script z ≡ true) (sym r.2) s)))
-      e.1
+  script-edge_marked o x y m i d s = grind (arith, script_edges-are, marked-slot, script-named)
 
   -- what an edge leads to, where it leads from what is marked
   edge-marked : (x y : Name) → Among (x, y) (view h).edges → IsMarkedScript h x → IsMarkedScript h y
@@ -56,15 +51,7 @@ module _ (h : Heap) (w : IsWellFormed h) where
 
   -- the value of an entry whose map and key are marked
   entry-marked : (ps : List Name) (y : Name) → Among (ps, y) (joints h.entries) → ((x : Name) → Among x ps → IsMarkedScript h x) → IsMarkedScript h y
-  entry-marked ps y m d s =
-      let f = Among-map_cases joint h.entries (ps, y) m in
-      let e : Entry = f.0 in
-      let premises : (e.the_map ∷ e.key ∷ []) ≡ ps = ap (λ (p : List Name × Name). p.0) f.2 in
-      let target : e.value ≡ y = ap (λ (p : List Name × Name). p.1) f.2 in
-      let k = entry-named h w e f.1 in
-      subst (IsMarked h) target (marked-value h e f.1
-      (d e.the_map (subst (Among e.the_map) premises (inl refl)) k.0)
-      (d e.key (subst (Among e.key) premises (inr (inl refl))) k.1))
+  entry-marked ps y m d s = grind (arith, Among-map_cases, entry-named, marked-value)
 
   -- What the registers reach and is a script object is marked.
   reached-marked : (x : Name) → ReachedIn (view h) x → IsMarkedScript h x
@@ -77,5 +64,4 @@ marked-marked h x d = (marked-decided (marked h) x).0 (ap (λ marks. has same_na
 -- A SCRIPT OBJECT THAT THE GRAPH REACHES is none of those that are unmarked after marking.
 pub reached-not_unmarked : (h : Heap) (g : Graph) → IsWellFormed h → IsWellMade g → StandsFor h g → (x : Name) → Reached g x → is_script x ≡ true →
     ¬ (Among x (unmarked (marked h)))
-reached-not_unmarked h g w m s x d script =
-    marked-not_unmarked (marked h) (HasColours-marked h) x (marked-marked h x (reached-marked h w x (reached-in h g w m s x d) script))
+reached-not_unmarked h g w m s x d script = search (marked-not_unmarked, HasColours-marked, marked-marked, reached-marked, reached-in)

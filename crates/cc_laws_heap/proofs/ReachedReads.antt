@@ -1,5 +1,5 @@
 -- WHAT A COMMAND READS is reached: what registers, slots and entries of reached objects hold, and natives behind reflectors.
-use Rattle.std.proofs.Common.{◌≡◌, ℕ, true, List, [], ◌∷◌, get_or, Option, Some, None, is_some, option_map, refl, sym, subst, inl}
+use Rattle.std.proofs.Common.{arith, ◌≡◌, ℕ, true, List, [], ◌∷◌, get_or, Option, Some, None, is_some, option_map, refl, sym, subst, inl}
 use Rattle.std.specs.Prelude.{IsTrue}
 use Rattle.std.specs.Option.{option_and_then}
 use Rattle.std.proofs.lemmas.Bool.{false≢true}
@@ -32,8 +32,7 @@ module _ (g : Graph) where
 
   -- what a source gives
   pub source-reached : (r : Option Reg) → OfSome (Reached g) (source g r)
-  source-reached None = tt
-  source-reached (Some r) = register-reached r
+  source-reached r = grind (arith, register-reached)
 
   -- what a script source gives
   pub script_source-reached : (s : Option ℕ) → OfSome (Reached g) (source g (option_map S s))
@@ -54,11 +53,10 @@ module _ (g : Graph) where
   value_at-reached a b = go (register g a) (register-reached a) (register g b) (register-reached b)
     where
       go : (o : Option Name) → OfSome (Reached g) o → (p : Option Name) → OfSome (Reached g) p → OfSome (Reached g) (value_at (objects_of g) o p)
-      go None d p e = tt
-      go (Some m) d None e = tt
       go (Some m) d (Some k) e = OfSome-from (Reached g) (value_in g.entries m k)
           (λ y i. let f = found-among g.entries m k y i in
           subst (Reached g) f.4 (value f.0 f.1 (subst (Reached g) (sym f.2) d) (subst (Reached g) (sym f.3) e)))
+      go _ d _ e = tt
 
   -- the native of a reached reflector, which was made
   behind-reached : (k : ℕ) → IsTrue (was_made g (reflector k)) → Reached g (reflector k) → Reached g (native k)
@@ -74,12 +72,9 @@ module _ (g : Graph) where
 
   -- the native behind what a script register holds, where that is a reflector
   pub script-behind : (o : Option Name) → OfSome (MadeScript g) o → OfSome (Reached g) o → OfSome (HasBehind (Reached g)) o
-  script-behind None m d = tt
-  script-behind (Some x) m d = λ k e. behind-reached k (subst (λ y. IsTrue (was_made g y)) e (MadeScript-made g x m)) (subst (Reached g) e d)
+  script-behind o m d = grind (arith, behind-reached, MadeScript-made)
 
   -- the native that a reflector stands for
   pub native_of-reached : (o : Option Name) → OfSome (MadeScript g) o → OfSome (Reached g) o → OfSome (Reached g) (native_of o)
-  native_of-reached None m d = tt
-  native_of-reached (Some (name.Native k)) m d = tt
-  native_of-reached (Some (name.Script k)) m d = tt
   native_of-reached (Some (name.Reflector k)) m d = behind-reached k.0 m d
+  native_of-reached _ m d = tt

@@ -1,5 +1,5 @@
 -- The references to a native: where they stand, and how they change with the lists.
-use Rattle.std.proofs.Common.{◌++◌, cond, ◌==◌, ◌≡◌, ℕ, ◌+◌, ◌<◌, ◌≤◌, Bool, true, not, List, [], ◌∷◌, map, Some, refl, sym, ◌∙◌, ap, subst, ⊎_elim, arith, count_by, sum_by}
+use Rattle.std.proofs.Common.{◌++◌, cond, ◌==◌, ◌≡◌, ℕ, ◌+◌, ◌<◌, ◌≤◌, Bool, not, List, [], ◌∷◌, map, Some, refl, sym, subst, ⊎_elim, arith, count_by, sum_by}
 use Rattle.std.specs.List.{filter, flat_map}
 use Rattle.std.proofs.lemmas.Bool.{cases_lt, eqb-true, eq-eqb, ne_eqb}
 use Rattle.std.proofs.lemmas.List.Folds.{flat_map-map}
@@ -72,10 +72,7 @@ refs_to-slot h k n there m =
 
 -- a reflector refers to its native
 pub refs_to-reflector : (h : Heap) (k : ℕ) → Among (reflector k) (script_names h) → 1 ≤ refs_to h k
-refs_to-reflector h k m =
-    let f = Among-map_cases (λ (o : HeapScript). o.name) h.scripts (reflector k) m in
-    let named : same_name f.0.name (reflector k) ≡ true = ap (λ x. same_name x (reflector k)) f.2 ∙ same_name-refl (reflector k) in
-    omega (arith, count_by-some (λ (o : HeapScript). same_name o.name (reflector k)) f.0 h.scripts f.1 named)
+refs_to-reflector h k m = grind (arith, Among-map_cases, same_name-refl, count_by-some)
 
 -- a native's name among the names that are there is that of a native
 pub native-there : (h : Heap) (k : ℕ) → IsWellFormed h → Among (native k) (names_there h) → Among (native k) (native_names h)
@@ -124,10 +121,7 @@ slots_of_natives-uncounted h = sym (flat_map-map (λ (u : Uncounted). contents u
 
 -- heaps that are the same but for counts and the buffer have the same references
 pub refs_to-alike : (h g : Heap) → SameBeside h g → map uncounted g.natives ≡ map uncounted h.natives → (k : ℕ) → refs_to g k ≡ refs_to h k
-refs_to-alike h g b e k =
-    let slots : slots_of_natives g ≡ slots_of_natives h =
-    slots_of_natives-uncounted g ∙ (ap (λ us. flat_map (λ (u : Uncounted). contents u.slots) us) e ∙ sym (slots_of_natives-uncounted h)) in
-    rw (b.native_registers, b.scripts, slots) refl
+refs_to-alike h g b e k = grind (arith, slots_of_natives-uncounted)
 
 -- a native taken out takes the references of its slots along
 pub refs_to-removed : (h : Heap) (k : ℕ) (n : HeapNative) → HasDistinctNumbers h → native_at h k ≡ Some n → (j : ℕ) →

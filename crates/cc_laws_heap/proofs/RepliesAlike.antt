@@ -1,5 +1,5 @@
 -- HEAPS THAT STAND FOR A GRAPH ANSWER AS IT DOES: what the checks and the replies look at is the same in both.
-use Rattle.std.proofs.Common.{◌≡◌, ℕ, [], ◌∷◌, Bool, Option, Some, None, is_none, slice_index_or, refl, sym, ◌∙◌, ap}
+use Rattle.std.proofs.Common.{arith, ◌≡◌, ℕ, Option, Some, None, is_none, slice_index_or, refl, sym, ◌∙◌, ap}
 use Rattle.std.specs.Option.{option_and_then}
 use Rattle.std.specs.List.{list_any}
 use Rattle.std.proofs.Math.Path.{fun_ext}
@@ -8,9 +8,8 @@ use Rattle.cc_names.specs.declared.register.Reg.{Reg}
 use Rattle.cc_names.specs.declared.register.Reg.TheVariants.{N, S}
 use Rattle.cc_model.specs.declared.command.Command.{Command}
 use Rattle.cc_model.specs.declared.command.Command.TheVariants.{Native, Script, WeakMap, CopyNative, CopyScript, Set, Get, Put, Take, Wrap, Unwrap, Preserve, SetEntry, GetEntry, Expose}
-use Rattle.cc_model.specs.declared.item.Refusal.TheVariants.{Empty, Kind, Slot, Full}
 use Rattle.cc_model.specs.Slots.{Slots}
-use Rattle.cc_model.specs.Checks.{Objects, slots_or_none, slots_at, slot_at, value_at, native_of, reflector_of, needed, lacks_object, is_map_in, has_wrong_object, has_no_slot, is_native_there, is_script_there, has_wrong_content, is_full, first_refusal, refusal_of, reply_if_taken, named_or_nothing}
+use Rattle.cc_model.specs.Checks.{Objects, slots_or_none, slots_at, slot_at, value_at, native_of, reflector_of, needed, lacks_object, is_map_in, has_wrong_object, has_no_slot, is_native_there, is_script_there, has_wrong_content, is_full, refusal_of, reply_if_taken, named_or_nothing}
 use Rattle.cc_model.specs.Graph as graph
 use Rattle.cc_model.specs.Graph.{Graph}
 use Rattle.cc_model.specs.Reached.{Reached, held}
@@ -44,61 +43,29 @@ module _ (o p : Objects) (a : AreAlike o p) where
 
   -- the object in a register is of the wrong kind in both, or in neither
   has_wrong_object-alike : (c : Command) → has_wrong_object o c ≡ has_wrong_object p c
-  has_wrong_object-alike (Put d i s) = a.is_map (S d)
-  has_wrong_object-alike (Take d s i) = a.is_map (S s)
-  has_wrong_object-alike (Unwrap d s) = rw (a.register (S s)) refl
-  has_wrong_object-alike (Preserve s) = rw (a.register (S s)) refl
-  has_wrong_object-alike (SetEntry m k v) = rw (a.is_map (S m)) refl
-  has_wrong_object-alike (GetEntry d m k) = rw (a.is_map (S m)) refl
-  has_wrong_object-alike _ = refl
+  has_wrong_object-alike c = grind arith
 
   -- an index is past the slots in both, or in neither
   has_no_slot-alike : (c : Command) → has_no_slot o c ≡ has_no_slot p c
-  has_no_slot-alike (Set d i r) = rw (slots_at-alike (N d)) refl
-  has_no_slot-alike (Get r s i) = rw (slots_at-alike (N s)) refl
-  has_no_slot-alike (Put d i s) = rw (slots_at-alike (S d)) refl
-  has_no_slot-alike (Take d s i) = rw (slots_at-alike (S s)) refl
-  has_no_slot-alike (Expose s i) = rw (slots_at-alike (N s)) refl
-  has_no_slot-alike _ = refl
+  has_no_slot-alike c = grind (arith, slots_at-alike)
 
   -- what a slot holds is of the wrong kind in both, or in neither
   has_wrong_content-alike : (c : Command) → has_wrong_content o c ≡ has_wrong_content p c
-  has_wrong_content-alike (Get (N d) s i) = ap is_script_there (slot_at-alike (N s) i)
-  has_wrong_content-alike (Get (S d) s i) = ap is_native_there (slot_at-alike (N s) i)
-  has_wrong_content-alike (Expose s i) = ap is_native_there (slot_at-alike (N s) i)
-  has_wrong_content-alike _ = refl
+  has_wrong_content-alike c = grind (arith, slot_at-alike)
 
   -- no more may be made in both, or in neither
   is_full-alike : (c : Command) → is_full o c ≡ is_full p c
-  is_full-alike (Native d n) = rw (a.natives_made, a.limits) refl
-  is_full-alike (Script d n) = rw (a.scripts_made, a.limits) refl
-  is_full-alike (WeakMap d) = rw (a.scripts_made, a.limits) refl
-  is_full-alike _ = refl
+  is_full-alike c = grind arith
 
   -- THE SAME IS REFUSED, for the same cause.
   pub refusal_of-alike : (c : Command) → refusal_of o c ≡ refusal_of p c
   unfolding refusal_of
-  refusal_of-alike c = same (lacks_object-alike c) (has_wrong_object-alike c) (has_no_slot-alike c) (has_wrong_content-alike c) (is_full-alike c)
-    where
-      same : {q r s t u q' r' s' t' u' : Bool} → q ≡ q' → r ≡ r' → s ≡ s' → t ≡ t' → u ≡ u' →
-          first_refusal ((q, Empty) ∷ (r, Kind) ∷ (s, Slot) ∷ (t, Kind) ∷ (u, Full) ∷ []) ≡ first_refusal ((q', Empty) ∷ (r', Kind) ∷ (s', Slot) ∷ (t', Kind) ∷ (u', Full) ∷ [])
-      same e f j k l = λ i. first_refusal ((e i, Empty) ∷ (f i, Kind) ∷ (j i, Slot) ∷ (k i, Kind) ∷ (l i, Full) ∷ [])
+  refusal_of-alike c = grind (arith, lacks_object-alike, has_wrong_object-alike, has_no_slot-alike, has_wrong_content-alike, is_full-alike)
 
   -- THE SAME IS REPLIED.
   pub reply_if_taken-alike : (c : Command) → reply_if_taken o c ≡ reply_if_taken p c
   unfolding reply_if_taken
-  reply_if_taken-alike (Native d n) = rw a.natives_made refl
-  reply_if_taken-alike (Script d n) = rw a.scripts_made refl
-  reply_if_taken-alike (WeakMap d) = rw a.scripts_made refl
-  reply_if_taken-alike (CopyNative d s) = ap named_or_nothing (a.register (N s))
-  reply_if_taken-alike (CopyScript d s) = ap named_or_nothing (a.register (S s))
-  reply_if_taken-alike (Get r s i) = ap named_or_nothing (slot_at-alike (N s) i)
-  reply_if_taken-alike (Take d s i) = ap named_or_nothing (slot_at-alike (S s) i)
-  reply_if_taken-alike (Wrap d s) = ap (λ x. named_or_nothing (reflector_of x)) (a.register (N s))
-  reply_if_taken-alike (Unwrap d s) = ap (λ x. named_or_nothing (native_of x)) (a.register (S s))
-  reply_if_taken-alike (GetEntry d m k) = ap named_or_nothing (a.value (S m) (S k))
-  reply_if_taken-alike (Expose s i) = ap named_or_nothing (slot_at-alike (N s) i)
-  reply_if_taken-alike _ = refl
+  reply_if_taken-alike c = grind (arith, slot_at-alike)
 
 module _ (h : Heap) (g : Graph) (s : StandsFor h g) where
   -- the registers hold the same
@@ -132,6 +99,5 @@ module _ (h : Heap) (g : Graph) (s : StandsFor h g) where
 
       value : (a b : Reg) → (o : Option Name) → graph.register g a ≡ o → (p : Option Name) → graph.register g b ≡ p →
           value_at (heap.objects_of h) o p ≡ value_at (graph.objects_of g) o p
-      value a b None e p f = refl
-      value a b (Some x) e None f = refl
       value a b (Some x) e (Some y) f = s.values x y (held a x e) (held b y f)
+      value a b _ e _ f = refl

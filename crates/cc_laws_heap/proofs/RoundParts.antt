@@ -1,5 +1,5 @@
 -- WHAT A ROUND LEAVES: natives as they were, but for counts, script objects but for colours, and some of the entries.
-use Rattle.std.proofs.Common.{◌≡◌, Bool, true, false, cond, ℕ, List, [], ◌∷◌, map, Option, Some, refl, sym, ◌∙◌, ap, subst, inl, inr, ⊎_elim}
+use Rattle.std.proofs.Common.{arith, ◌≡◌, Bool, true, false, cond, ℕ, List, [], ◌∷◌, map, Option, Some, refl, sym, ◌∙◌, ap, subst, inl, inr, ⊎_elim}
 use Rattle.std.specs.List.{filter}
 use Rattle.std.proofs.lemmas.Bool.{true≢false}
 use Rattle.cc_lists.specs.Members.{Among}
@@ -16,7 +16,7 @@ use Rattle.cc_laws_heap.proofs.ReachedAlike.{ArePart-none, ArePart-skip}
 use Rattle.cc_laws_heap.proofs.TakenOut.{is_native_left}
 use Rattle.cc_laws_heap.proofs.Marking.{as_marked, HasColours-marked}
 use Rattle.cc_laws_heap.proofs.MarkingKeeps.{IsSound-marked}
-use Rattle.cc_laws_heap.proofs.MarkedWellFormed.{is_spared, is_spared_entry}
+use Rattle.cc_laws_heap.proofs.MarkedWellFormed.{is_spared_entry}
 use Rattle.cc_laws_heap.proofs.Swept.{scripts-sweep, taken-sweep, entries-sweep}
 
 -- Entries that are left
@@ -63,9 +63,7 @@ round-natives {owned} h s n m =
 -- a script object that is left was there, as it is but for its colour
 pub round-scripts : (h : Heap) (o : HeapScript) → Among o (sweep (marked h)).heap.scripts → (p : HeapScript) × Among p h.scripts × (as_marked h p ≡ o)
 unfolding marked
-round-scripts h o m =
-    let i : Among o (filter (is_spared (unmarked (marked h))) (marked h).scripts) = subst (Among o) (scripts-sweep (marked h)) m in
-    Among-map_cases (as_marked h) h.scripts o (Among-filtered (is_spared (unmarked (marked h))) o (marked h).scripts i)
+round-scripts h o m = grind (arith, scripts-sweep, Among-map_cases, Among-filtered)
 
 -- the entries that are left are those whose map and key are not unmarked
 pub round-entries : {owned : List ℕ} (h : Heap) → IsSound owned h → (sweep (marked h)).heap.entries ≡ filter (is_spared_entry (unmarked (marked h))) h.entries

@@ -1,11 +1,8 @@
 -- ROUNDS: what a round keeps they keep, and the last of them sweeps nothing.
-use Rattle.std.proofs.Common.{◌≡◌, ℕ, zero, suc, ◌<◌, Bool, true, false, not, List, [], ◌∷◌, length, refl, ◌∙◌, ap, arith}
-use Rattle.std.proofs.lemmas.Bool.{true≢false}
-use Rattle.cc_names.specs.declared.name.Name.{Name}
+use Rattle.std.proofs.Common.{◌≡◌, ℕ, zero, suc, ◌<◌, Bool, true, false, [], length, refl, ◌∙◌, arith}
 use Rattle.cc_model.specs.Heap.{Heap, Outcome, after, silently}
-use Rattle.cc_model.specs.Entries.{Entry}
 use Rattle.cc_model.specs.Colours.{marked}
-use Rattle.cc_model.specs.Sweep.{unmarked, is_dead_entry, without_dead_entries, sweep_each, sweep, sweeps, rounds, collect_scripts}
+use Rattle.cc_model.specs.Sweep.{unmarked, sweep, sweeps, rounds, collect_scripts}
 use Rattle.cc_model.proofs.Rounds.{length-marked, length-sweep-less}
 use Rattle.cc_lists.proofs.Searching.{filter-true}
 
@@ -45,18 +42,12 @@ rounds-last (suc n) o small = go (rounds-last n (next_round o)) (sweeps (marked 
 
 -- where nothing is swept nothing is unmarked
 unmarked-none : (h : Heap) → sweeps h ≡ false → unmarked h ≡ []
-unmarked-none h e = go (unmarked h) e
-  where
-    go : (dead : List Name) → (elim dead [ [] ↦ false | x ∷ xs ↦ true ]) ≡ false → dead ≡ []
-    go [] f = refl
-    go (x ∷ xs) f = absurd (true≢false f)
+unmarked-none h e = grind arith
 
 -- and the heaps stay as they are
 sweep-nothing : (h : Heap) → unmarked h ≡ [] → (sweep h).heap ≡ h
 unfolding sweep
-sweep-nothing h e =
-    ap (λ dead. (sweep_each dead (silently (without_dead_entries dead h))).heap) e
-    ∙ ap (λ es. record h { entries = es }) (filter-true (λ (e : Entry). not (is_dead_entry [] e)) h.entries (λ e. refl))
+sweep-nothing h e = grind (arith, filter-true)
 
 -- THE HEAPS AFTER A SCRIPT COLLECTION are marked heaps, in which nothing is unmarked.
 pub collect_scripts-marked : (h : Heap) → (g : Heap) × ((collect_scripts h).heap ≡ marked g) × (unmarked (marked g) ≡ [])

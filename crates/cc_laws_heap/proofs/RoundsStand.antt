@@ -1,10 +1,9 @@
 -- A SCRIPT COLLECTION KEEPS STANDING FOR THE GRAPH: what the graph reaches is marked, where it is a script object, and
 -- what well formed heaps mention is there.
-use Rattle.std.proofs.Common.{◌≡◌, ℕ, Bool, true, false, not, ◌||◌, List, refl, sym, ◌∙◌, ap, subst, inl}
-use Rattle.cc_lists.specs.Members.{Among, has}
+use Rattle.std.proofs.Common.{arith, ◌≡◌, ℕ, true, List, refl, sym, ◌∙◌, ap, subst, inl}
+use Rattle.cc_lists.specs.Members.{Among}
 use Rattle.cc_lists.proofs.Members.{Among-map_cases}
 use Rattle.cc_names.specs.declared.name.Name.{Name}
-use Rattle.cc_names.specs.Names.{same_name, is_script}
 use Rattle.cc_model.specs.declared.item.Event.TheVariants.{Freed}
 use Rattle.cc_model.specs.Entries.{Entry, is_entry_of}
 use Rattle.cc_model.specs.Graph.{Graph}
@@ -47,11 +46,7 @@ round-leaves h s = record {
 
 -- an entry with neither a dead map nor a dead key is spared
 pub spared-from : (dead : List Name) (e : Entry) → ¬ (Among e.the_map dead) → ¬ (Among e.key dead) → is_spared_entry dead e ≡ true
-spared-from dead e a b = go (has same_name dead e.the_map) (has same_name dead e.key) (is_not_among-from dead e.the_map a) (is_not_among-from dead e.key b)
-  where
-    go : (m k : Bool) → not m ≡ true → not k ≡ true → not (m || k) ≡ true
-    go true k p q = p
-    go false k p q = q
+spared-from dead e a b = grind (arith, is_not_among-from)
 
 module _ {owned : List ℕ} (h : Heap) (g : Graph) (s : IsSound owned h) (m : IsWellMade g) (t : StandsFor h g) where
   -- heaps that stand for the graph follow it, over what is reached
@@ -66,11 +61,7 @@ module _ {owned : List ℕ} (h : Heap) (g : Graph) (s : IsSound owned h) (m : Is
   -- an entry whose map and key are reached is left
   entry-left : (x k : Name) → Reached g x → Reached g k → (e : Entry) → Among e h.entries → is_entry_of x k e ≡ true →
       is_spared_entry (unmarked (marked h)) e ≡ true
-  entry-left x k a b e i is_it =
-      let p = is_entry_of-parts x k e is_it in
-      let named = entry-named h s.well_formed e i in
-      let dead : (y : Name) → Reached g y → is_script y ≡ true → ¬ (Among y (unmarked (marked h))) = reached-not_unmarked h g s.well_formed m t in
-      spared-from (unmarked (marked h)) e (dead e.the_map (subst (Reached g) (sym p.0) a) named.0) (dead e.key (subst (Reached g) (sym p.1) b) named.1)
+  entry-left x k a b e i is_it = grind (arith, is_entry_of-parts, entry-named, reached-not_unmarked, spared-from)
 
   -- the entries that a round leaves follow the graph
   round-entries_follow : AreEntries (Reached g) (sweep (marked h)).heap.entries g.entries

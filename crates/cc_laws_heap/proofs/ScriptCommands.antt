@@ -9,7 +9,7 @@ use Rattle.cc_names.specs.declared.name.Name.{Name}
 use Rattle.cc_names.specs.declared.name.Name.TheVariants as name
 use Rattle.cc_names.specs.declared.register.Reg.TheVariants.{S}
 use Rattle.cc_names.specs.declared.kind.Kind.{Kind}
-use Rattle.cc_names.specs.declared.kind.Kind.TheVariants.{Plain, Reflector, Map}
+use Rattle.cc_names.specs.declared.kind.Kind.TheVariants.{Reflector, Map}
 use Rattle.cc_names.specs.declared.kind.Colour.TheVariants.{Black}
 use Rattle.cc_names.specs.Names.{native, object, reflector, same_name, number_of}
 use Rattle.cc_names.proofs.NameTests.{same_name-true, same_name-refl}
@@ -59,10 +59,7 @@ module _ (h : Heap) (kind : Kind) (n : ℕ) (w : IsWellFormed h) (fits : FitsNam
 -- A plain object or a weak map is made, and a script register holds it.
 pub make_object-sound : (owned : List ℕ) (h : Heap) (d : ℕ) (kind : Kind) (n : ℕ) → FitsName (object (h.scripts_made + 1)) kind (empty_slots n) →
     h.scripts_made < h.limits.scripts → IsSound owned h → IsSound owned (make_object h d kind n)
-make_object-sound owned h d kind n fits room s = script_register-sound owned (with_object h kind n) d (Some (object (h.scripts_made + 1)))
-    (IsIn-one (script_names (with_object h kind n)) (object (h.scripts_made + 1))
-    (script_names-new_script h (blank (object (h.scripts_made + 1)) kind n) (h.scripts_made + 1)))
-    (with_script-sound owned h (blank (object (h.scripts_made + 1)) kind n) (h.scripts_made + 1) (IsNewScript-object h kind n s.well_formed fits room) s)
+make_object-sound owned h d kind n fits room s = search (script_register-sound, IsIn-one, script_names-new_script, with_script-sound, IsNewScript-object)
 
 -- Reflectors
 
@@ -119,9 +116,8 @@ found-map h x m e = go (script_at h x) refl e
     some = find-some (λ (p : HeapScript). same_name p.name x) h.scripts f.0 f.1 (ap (λ y. same_name y x) f.2 ∙ same_name-refl x)
 
     kind : (q : Kind) (o : HeapScript) → is_none (slots_of_kind q o.slots) ≡ true → q ≡ Map
-    kind Plain o t = absurd (false≢true t)
-    kind Reflector o t = absurd (false≢true t)
     kind Map o t = refl
+    kind _ o t = absurd (false≢true t)
 
     go : (o : Option HeapScript) → script_at h x ≡ o → is_none (option_and_then slots_of_script o) ≡ true →
         (o : HeapScript) × Among o h.scripts × (o.name ≡ x) × (o.kind ≡ Map)
@@ -137,8 +133,7 @@ found-map h x m e = go (script_at h x) refl e
 map-there : (h : Heap) (x : Name) → IsWellFormed h → Among x (script_names h) → is_none (slots_in h x) ≡ true →
     (o : HeapScript) × Among o h.scripts × (o.name ≡ x) × (o.kind ≡ Map)
 map-there h (name.Native k) w m e = absurd (native-no_script h k.0 w m)
-map-there h (name.Script k) w m e = found-map h (name.Script k) m e
-map-there h (name.Reflector k) w m e = found-map h (name.Reflector k) m e
+map-there h x w m e = found-map h x m e
 
 -- An entry of a weak map is set, its key preserved, or taken out.
 pub set_entry-sound : (owned : List ℕ) (h : Heap) (m k v : Option Name) → IsIn (script_names h) m → IsIn (script_names h) k →
@@ -157,6 +152,5 @@ set_entry-sound owned h (Some m) (Some k) (Some v) a b c is_map s = go k (b k (i
 
     go : (x : Name) → Among x (script_names h) → IsSound owned (with_entries h (with_entry h.entries m k v)) →
         IsSound owned (record (preserve h (Some x)) { entries = with_entry h.entries m k v })
-    go (name.Native j) t u = u
-    go (name.Script j) t u = u
     go (name.Reflector j) t u = set_preserved-sound owned (with_entries h (with_entry h.entries m k v)) j.0 t u
+    go _ t u = u

@@ -1,5 +1,5 @@
 -- Names of script objects are none of natives'.
-use Rattle.std.proofs.Common.{◌≡◌, ℕ, true, false, refl, subst, ◌≤◌, ◌∙◌, ap, count_by}
+use Rattle.std.proofs.Common.{arith, ◌≡◌, ℕ, true, false, refl, subst, ◌≤◌, ◌∙◌, ap, count_by}
 use Rattle.std.proofs.Math.Path.{fun_ext}
 use Rattle.cc_lists.specs.Members.{Among}
 use Rattle.cc_lists.proofs.Members.{Among-map_cases}
@@ -16,9 +16,7 @@ use Rattle.cc_laws_heap.proofs.NameLists.{same_name-sym}
 
 -- a name that fits a script object is that of no native
 fits-named : (x : Name) (kind : Kind) (slots : Slots) → FitsName x kind slots → is_script x ≡ true
-fits-named (name.Native k) kind slots f = absurd f
-fits-named (name.Script k) kind slots f = refl
-fits-named (name.Reflector k) kind slots f = refl
+fits-named x kind slots f = grind arith
 
 -- so is that of a script object that is there
 pub script-named : (h : Heap) → IsWellFormed h → (o : HeapScript) → Among o h.scripts → is_script o.name ≡ true
@@ -26,9 +24,7 @@ script-named h w o m = fits-named o.name o.kind o.slots (w.kinds o m)
 
 -- the same of the names of script objects
 pub script_names-named : (h : Heap) → IsWellFormed h → (x : Name) → Among x (script_names h) → is_script x ≡ true
-script_names-named h w x m =
-    let f = Among-map_cases (λ (o : HeapScript). o.name) h.scripts x m in
-    subst (λ y. is_script y ≡ true) f.2 (script-named h w f.0 f.1)
+script_names-named h w x m = grind (arith, Among-map_cases, script-named)
 
 -- the map and the key of an entry are none of natives
 pub entry-named : (h : Heap) → IsWellFormed h → (e : Entry) → Among e h.entries → (is_script e.the_map ≡ true) × (is_script e.key ≡ true)
@@ -38,9 +34,7 @@ entry-named h w e m =
 
 -- and they are told apart from those of natives
 pub script-other : (x : Name) (k : ℕ) → is_script x ≡ true → same_name x (native k) ≡ false
-script-other (name.Native i) k e = absurd (cc)
-script-other (name.Script i) k e = refl
-script-other (name.Reflector i) k e = refl
+script-other x k e = grind arith
 
 -- at most one script object has a name
 pub scripts-once : (h : Heap) → IsWellFormed h → (x : Name) → count_by (λ (o : HeapScript). same_name o.name x) h.scripts ≤ 1

@@ -1,5 +1,5 @@
 -- WHAT CHANGES IN SCRIPT OBJECTS KEEPS THE HEAPS SOUND: a slot written, an exposure, a reflector preserved.
-use Rattle.std.proofs.Common.{◌≡◌, ℕ, ◌≤◌, Bool, List, [], set, Option, Some, None, refl, sym, ◌∙◌, subst, inl}
+use Rattle.std.proofs.Common.{arith, ◌≡◌, ℕ, ◌≤◌, Bool, List, [], set, Option, Some, None, refl, sym, ◌∙◌, subst, inl}
 use Rattle.std.proofs.lemmas.List.{length-set}
 use Rattle.cc_lists.specs.Members.{Among, has}
 use Rattle.cc_lists.proofs.Members.{Among-map_cases}
@@ -23,13 +23,7 @@ use Rattle.cc_laws_heap.proofs.Writes.{contents-written, script_register-sound, 
 
 -- a slot written leaves as many
 FitsName-set : (x : Name) (kind : Kind) (slots : Slots) (i : ℕ) (y : Option Name) → FitsName x kind slots → FitsName x kind (set slots i y)
-FitsName-set (name.Native k) kind slots i y f = f
-FitsName-set (name.Script k) Plain slots i y f = subst (λ l. l ≤ 64) (sym (length-set slots i y)) f
-FitsName-set (name.Script k) Map slots i y f = subst (λ s. set s i y ≡ []) (sym f) refl
-FitsName-set (name.Script k) Reflector slots i y f = f
-FitsName-set (name.Reflector k) Reflector slots i y f = length-set slots i y ∙ f
-FitsName-set (name.Reflector k) Plain slots i y f = f
-FitsName-set (name.Reflector k) Map slots i y f = f
+FitsName-set x kind slots i y f = grind (arith, length-set)
 
 -- whether its name is x
 abbrev pub has_name : Name → HeapScript → Bool
@@ -58,17 +52,12 @@ native-no_script h k w m =
 
 -- A reflector that is there is preserved, nothing else.
 pub preserve-sound : (owned : List ℕ) (h : Heap) (x : Option Name) → IsIn (script_names h) x → IsSound owned h → IsSound owned (preserve h x)
-preserve-sound owned h None there s = s
-preserve-sound owned h (Some (name.Native k)) there s = s
-preserve-sound owned h (Some (name.Script k)) there s = s
 preserve-sound owned h (Some (name.Reflector k)) there s = set_preserved-sound owned h k.0 (there (reflector k.0) (inl refl)) s
+preserve-sound owned h _ there s = s
 
 -- script objects stay
 script_names-preserve : (h : Heap) (x : Option Name) → script_names (preserve h x) ≡ script_names h
-script_names-preserve h None = refl
-script_names-preserve h (Some (name.Native k)) = refl
-script_names-preserve h (Some (name.Script k)) = refl
-script_names-preserve h (Some (name.Reflector k)) = refl
+script_names-preserve h x = grind arith
 
 -- Slot i of a script object that is there is written.
 pub script_slot-sound : (owned : List ℕ) (h : Heap) (x : Option Name) (i : ℕ) (y : Option Name) → IsIn (script_names h) x → IsIn (script_names h) y →
@@ -84,9 +73,7 @@ script_slot-sound owned h (Some (name.Reflector k)) i y at there s =
 pub put_in_script-sound : (owned : List ℕ) (h : Heap) (x : Option Name) (i : ℕ) (y : Option Name) → IsIn (script_names h) x →
     IsIn (script_names h) y →
     IsSound owned h → IsSound owned (put_in_script h x i y)
-put_in_script-sound owned h x i y at there s =
-    let same : script_names h ≡ script_names (preserve h x) = sym (script_names-preserve h x) in
-    script_slot-sound owned (preserve h x) x i y (subst (λ xs. IsIn xs x) same at) (subst (λ xs. IsIn xs y) same there) (preserve-sound owned h x at s)
+put_in_script-sound owned h x i y at there s = search (script_names-preserve, script_slot-sound, preserve-sound)
 
 -- An exposure
 
@@ -120,5 +107,4 @@ script_names-exposed h (Some x) w = script_names-kept h (changed_where (is_one_o
 -- What comes into a script register is exposed.
 pub hold_script-sound : (owned : List ℕ) (h : Heap) (d : ℕ) (x : Option Name) → IsIn (script_names h) x → IsSound owned h →
     IsSound owned (hold_script h d x)
-hold_script-sound owned h d x there s = script_register-sound owned (exposed h x) d x
-    (subst (λ xs. IsIn xs x) (sym (script_names-exposed h x s.well_formed)) there) (exposed-sound owned h x s)
+hold_script-sound owned h d x there s = search (script_register-sound, script_names-exposed, exposed-sound)

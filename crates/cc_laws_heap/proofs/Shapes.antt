@@ -1,11 +1,11 @@
 -- WHAT AN OBJECT HOLDS is its shape: slots, edges and kinds of objects are read from it.
-use Rattle.std.proofs.Common.{◌≡◌, true, false, List, [], ◌∷◌, ◌++◌, Option, Some, None, option_map, refl}
+use Rattle.std.proofs.Common.{arith, ◌≡◌, true, false, List, [], ◌∷◌, ◌++◌, Option, Some, None, option_map, refl}
 use Rattle.std.specs.Option.{option_and_then}
 use Rattle.cc_names.specs.declared.name.Name.{Name}
 use Rattle.cc_names.specs.declared.name.Name.TheVariants as name
 use Rattle.cc_names.specs.declared.kind.Kind.{Kind}
 use Rattle.cc_names.specs.declared.kind.Kind.TheVariants.{Plain, Reflector, Map}
-use Rattle.cc_names.specs.Names.{native, object, reflector}
+use Rattle.cc_names.specs.Names.{native, reflector}
 use Rattle.cc_model.specs.Slots.{Slots, contents}
 use Rattle.cc_model.specs.Checks.{slots_or_none}
 use Rattle.cc_model.specs.Graph as graph
@@ -21,43 +21,11 @@ slots_of_shape o = option_and_then (λ (s : Shape). s.slots) o
 
 -- the slots of an object of the graph are those of its shape
 pub slots_in-graph : (g : Graph) (x : Name) → graph.slots_in g x ≡ slots_of_shape (shape_in g x)
-slots_in-graph g (name.Native k) = go (native_in g k.0)
-  where
-    go : (o : Option GraphNative) → option_map (λ n. n.slots) o ≡ slots_of_shape (option_map shape_of_native o)
-    go None = refl
-    go (Some n) = refl
-slots_in-graph g (name.Script k) = go (script_in g k.0)
-  where
-    go : (o : Option GraphScript) → option_and_then graph.slots_of_script o ≡ slots_of_shape (option_map shape_of_object o)
-    go None = refl
-    go (Some s) = refl
-slots_in-graph g (name.Reflector k) = go (native_in g k.0)
-  where
-    reflected : (r : Option Slots) → r ≡ slots_of_shape (option_map (λ slots. script_shape (Some slots)) r)
-    reflected None = refl
-    reflected (Some slots) = refl
-
-    go : (o : Option GraphNative) → option_and_then (λ n. n.reflector) o ≡ slots_of_shape (option_and_then shape_of_reflector o)
-    go None = refl
-    go (Some n) = reflected n.reflector
+slots_in-graph g x = grind arith
 
 -- and those of an object of the heaps
 pub slots_in-heap : (h : Heap) (x : Name) → heap.slots_in h x ≡ slots_of_shape (shape_at h x)
-slots_in-heap h (name.Native k) = go (native_at h k.0)
-  where
-    go : (o : Option HeapNative) → option_map (λ n. n.slots) o ≡ slots_of_shape (option_map shape_of_held_native o)
-    go None = refl
-    go (Some n) = refl
-slots_in-heap h (name.Script k) = held (script_at h (object k.0))
-  where
-    held : (o : Option HeapScript) → option_and_then heap.slots_of_script o ≡ slots_of_shape (option_map shape_of_held_script o)
-    held None = refl
-    held (Some s) = refl
-slots_in-heap h (name.Reflector k) = held (script_at h (reflector k.0))
-  where
-    held : (o : Option HeapScript) → option_and_then heap.slots_of_script o ≡ slots_of_shape (option_map shape_of_held_script o)
-    held None = refl
-    held (Some s) = refl
+slots_in-heap h x = grind arith
 
 -- what an object refers to beside its slots: its preserved reflector, or its native
 abbrev pub further_of : Name → Shape → List Name
@@ -76,27 +44,7 @@ edges_of_some x (Some s) = edges_of_shape x s
 
 -- the edges of an object of the graph are those of its shape
 pub edges_of-shape : (g : Graph) (x : Name) → edges_of g x ≡ edges_of_some x (shape_in g x)
-edges_of-shape g (name.Native k) = go (native_in g k.0)
-  where
-    go : (o : Option GraphNative) → contents (slots_or_none (option_map (λ n. n.slots) o)) ++ kept_reflector k.0 o ≡ edges_of_some (name.Native k) (option_map shape_of_native o)
-    go None = refl
-    go (Some n) = refl
-edges_of-shape g (name.Script k) = go (script_in g k.0)
-  where
-    go : (o : Option GraphScript) → contents (slots_or_none (option_and_then graph.slots_of_script o)) ++ [] ≡ edges_of_some (name.Script k) (option_map shape_of_object o)
-    go None = refl
-    go (Some s) = refl
-edges_of-shape g (name.Reflector k) = go (native_in g k.0)
-  where
-    reflected : (r : Option Slots) → contents (slots_or_none r) ++ elim r [ None ↦ [] | Some slots ↦ native k.0 ∷ [] ]
-        ≡ edges_of_some (name.Reflector k) (option_map (λ slots. script_shape (Some slots)) r)
-    reflected None = refl
-    reflected (Some slots) = refl
-
-    go : (o : Option GraphNative) → contents (slots_or_none (option_and_then (λ n. n.reflector) o)) ++ native_behind k.0 o
-        ≡ edges_of_some (name.Reflector k) (option_and_then shape_of_reflector o)
-    go None = refl
-    go (Some n) = reflected n.reflector
+edges_of-shape g x = grind arith
 
 -- an object without slots is a weak map
 abbrev pub kind_of_slots : Option Slots → Kind
@@ -111,24 +59,4 @@ kind_of_shape (name.Reflector k) s = Some Reflector
 
 -- the kind of an object of the graph is that of its shape
 pub kind_in-shape : (g : Graph) (x : Name) → kind_in g x ≡ option_and_then (kind_of_shape x) (shape_in g x)
-kind_in-shape g (name.Native k) = go (native_in g k.0)
-  where
-    go : (o : Option GraphNative) → None ≡ option_and_then (kind_of_shape (name.Native k)) (option_map shape_of_native o)
-    go None = refl
-    go (Some n) = refl
-kind_in-shape g (name.Script k) = go (script_in g k.0)
-  where
-    go : (o : Option GraphScript) → option_map kind_of o ≡ option_and_then (kind_of_shape (name.Script k)) (option_map shape_of_object o)
-    go None = refl
-    go (Some (plain_object slots)) = refl
-    go (Some weak_map) = refl
-kind_in-shape g (name.Reflector k) = go (native_in g k.0)
-  where
-    reflected : (r : Option Slots) → option_map (λ slots. Reflector) r
-        ≡ option_and_then (kind_of_shape (name.Reflector k)) (option_map (λ slots. script_shape (Some slots)) r)
-    reflected None = refl
-    reflected (Some slots) = refl
-
-    go : (o : Option GraphNative) → option_and_then reflector_kind o ≡ option_and_then (kind_of_shape (name.Reflector k)) (option_and_then shape_of_reflector o)
-    go None = refl
-    go (Some n) = reflected n.reflector
+kind_in-shape g x = grind arith

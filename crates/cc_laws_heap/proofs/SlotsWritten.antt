@@ -1,13 +1,11 @@
 -- SLOTS WRITTEN AND REFLECTORS PRESERVED: heaps go on following the graph, where `P` holds of the object and of what it gets.
-use Rattle.std.proofs.Common.{◌≡◌, ℕ, Bool, true, false, [], ◌∷◌, ◌++◌, set, Option, Some, None, option_map, refl, sym, ◌∙◌, ap, subst, inl, inr, ◌⊎◌, ⊎_elim, if◌then◌else◌, ◌==◌}
+use Rattle.std.proofs.Common.{arith, ◌≡◌, ℕ, Bool, true, false, [], ◌∷◌, ◌++◌, set, Option, Some, None, option_map, refl, sym, ◌∙◌, ap, subst, inl, inr, ◌⊎◌, ⊎_elim, if◌then◌else◌, ◌==◌}
 use Rattle.std.specs.Prelude.{IsTrue}
 use Rattle.std.proofs.lemmas.Bool.{true≢false, cases_Bool}
 use Rattle.cc_lists.specs.Members.{Among}
 use Rattle.cc_lists.proofs.Members.{Among-left, Among-right, Among-append}
 use Rattle.cc_names.specs.declared.name.Name.{Name}
 use Rattle.cc_names.specs.declared.name.Name.TheVariants as name
-use Rattle.cc_names.specs.declared.kind.Kind.{Kind}
-use Rattle.cc_names.specs.declared.kind.Kind.TheVariants.{Plain, Reflector, Map}
 use Rattle.cc_names.specs.Names.{native, object, reflector, same_name}
 use Rattle.cc_names.proofs.NameTests.{same_name-true}
 use Rattle.cc_model.specs.Slots.{Slots, contents}
@@ -57,8 +55,7 @@ written-edges P x i v s new old y j = ⊎_elim
 
     further : (z : Name) → Among y (further_of z (with_slot_written i v s)) → Among y (further_of z s)
     further (name.Native k) m = m
-    further (name.Script k) m = m
-    further (name.Reflector k) m = m
+    further _ m = m
 
 -- a slot of any object written; that of a reflector, where its native has it preserved
 abbrev pub IsPreserved : Graph → Name → Type 0
@@ -87,12 +84,7 @@ IsChange-written P x i v h g p new kept t = record {
 
 -- a script object of the heaps with a slot written
 held_script : (i : ℕ) (v : Option Name) (o : HeapScript) → shape_of_held_script (heap.with_script_slot i v o) ≡ with_slot_written i v (shape_of_held_script o)
-held_script i v o = go o.kind
-  where
-    go : (kind : Kind) → script_shape (slots_of_kind kind (set o.slots i v)) ≡ with_slot_written i v (script_shape (slots_of_kind kind o.slots))
-    go Plain = refl
-    go Reflector = refl
-    go Map = refl
+held_script i v o = grind arith
 
 -- THE SAME SLOT WRITTEN with the same.
 pub Follows-slot : (P : Name → Type 0) (h : Heap) (g : Graph) (x : Option Name) (i : ℕ) (v : Option Name) → OfSome P x → OfSome P v → OfSome (IsPreserved g) x →

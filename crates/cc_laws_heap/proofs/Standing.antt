@@ -1,5 +1,5 @@
 -- WELL FORMED HEAPS THAT FOLLOW A GRAPH STAND FOR IT: what is reached is there, since what well formed heaps mention is there.
-use Rattle.std.proofs.Common.{◌≡◌, Bool, true, false, [], ◌∷◌, Option, Some, None, option_map, refl, sym, ◌∙◌, ap, subst, inl, inr, ⊎_elim}
+use Rattle.std.proofs.Common.{arith, ◌≡◌, Bool, true, false, [], ◌∷◌, Option, Some, None, option_map, refl, sym, ◌∙◌, ap, subst, ⊎_elim}
 use Rattle.std.specs.Option.{option_and_then}
 use Rattle.cc_lists.specs.Members.{Among}
 use Rattle.cc_lists.proofs.Members.{Among-left, Among-right, Among-append, Among-map}
@@ -48,28 +48,20 @@ edges-there h w x y s e m = ⊎_elim
     of_script o i z e fits j = ⊎_elim (λ f. script (slots o.kind f)) (λ f. behind z e f) (Among-append y (contents (slots_or_none (slots_of_kind o.kind o.slots))) (further_of z (shape_of_held_script o)) j)
       where
         slots : (kind : Kind) → Among y (contents (slots_or_none (slots_of_kind kind o.slots))) → Among y (script_names h)
-        slots Plain f = w.script_contents o y i f
-        slots Reflector f = w.script_contents o y i f
         slots Map f = absurd f
+        slots _ f = w.script_contents o y i f
 
         behind : (z : Name) → o.name ≡ z → Among y (further_of z (shape_of_held_script o)) → Among y (names_there h)
-        behind (name.Native k) p f = absurd f
-        behind (name.Script k) p f = absurd f
         behind (name.Reflector k) p f = ⊎_elim
             (λ e. subst (λ z. Among z (names_there h)) e
             (Among-left (native k.0) (native_names h) (script_names h)
             (w.reflected k.0 (subst (λ z. Among z (script_names h)) p (Among-map (λ (p : HeapScript). p.name) o h.scripts i)))))
             (λ b. absurd b) f
+        behind _ p f = absurd f
 
 -- the kind of a script object of well formed heaps is that of its name and its slots
 kind-fits : (x : Name) (kind : Kind) (slots : Slots) → FitsName x kind slots → kind_of_shape x (script_shape (slots_of_kind kind slots)) ≡ Some kind
-kind-fits (name.Native k) kind slots f = absurd f
-kind-fits (name.Script k) Plain slots f = refl
-kind-fits (name.Script k) Map slots f = refl
-kind-fits (name.Script k) Reflector slots f = absurd f
-kind-fits (name.Reflector k) Reflector slots f = refl
-kind-fits (name.Reflector k) Plain slots f = absurd f
-kind-fits (name.Reflector k) Map slots f = absurd f
+kind-fits x kind slots f = grind arith
 
 module _ (P : Name → Type 0) (h : Heap) (g : Graph) (w : IsWellFormed h) (m : IsWellMade g) (f : Follows P h g) where
   -- `P` holds of what is reached
@@ -85,16 +77,7 @@ module _ (P : Name → Type 0) (h : Heap) (g : Graph) (w : IsWellFormed h) (m : 
 
   -- what is there is as it is in the graph, where `P` holds of it
   kept-there : (x : Name) → P x → Among x (names_there h) → IsKept h g x
-  kept-there x p i =
-      let t = there-shape_at h w x i in
-      record {
-        shape = t.0;
-        made = ⊎_elim
-            (λ n. ap (shape_in g) (sym n.2) ∙ (f.objects.alike n.0 n.1 (subst P (sym n.2) p) ∙ ap (λ s. Some s) n.3))
-            (λ o. ap (shape_in g) (sym o.2) ∙ (f.objects.scripts o.0 o.1 ∙ ap (λ s. Some s) o.3))
-            (shape_at-found h x t.0 t.1);
-        there = t.1;
-      }
+  kept-there x p i = grind (arith, there-shape_at, shape_at-found)
 
   -- what is reached is there
   reached-kept : (x : Name) → Reached g x → IsKept h g x
@@ -116,19 +99,11 @@ module _ (P : Name → Type 0) (h : Heap) (g : Graph) (w : IsWellFormed h) (m : 
 
   -- a native that follows the graph stands in it
   native-stands : (n : HeapNative) → NativeFollows g n → NativeStands g n
-  native-stands n t =
-      let made = shape_in-native g n.number t.0 t.1 in
-      record {
-        made = (made.0, made.1);
-        shape = ⊎_elim (λ e. inl (ap (λ s. Some s) e ∙ sym t.1)) (λ e. inr e) t.2;
-      }
+  native-stands n t = grind (arith, shape_in-native)
 
   -- and a script object
   script-stands : (o : HeapScript) → Among o h.scripts → ScriptStands g o
-  script-stands o i = record {
-    kind = kind_in-shape g o.name ∙ (ap (option_and_then (kind_of_shape o.name)) (f.objects.scripts o i) ∙ kind-fits o.name o.kind o.slots (w.kinds o i));
-    shape = sym (f.objects.scripts o i);
-  }
+  script-stands o i = grind (arith, kind_in-shape, kind-fits)
 
   -- a reflector of a reached native that does not preserve it is blank
   blank-there : (n : HeapNative) (o : HeapScript) → Among n h.natives → n.preserved ≡ false → Reached g (native n.number) →
@@ -138,9 +113,8 @@ module _ (P : Name → Type 0) (h : Heap) (g : Graph) (w : IsWellFormed h) (m : 
       (f.objects.alike n i (reached-within (native n.number) d)) e (ap (shape_in g) (sym named) ∙ f.objects.scripts o j)).0
     where
       slots : (kind : Kind) → slots_of_kind kind o.slots ≡ Some (empty_slots reflector_slots) → o.slots ≡ empty_slots reflector_slots
-      slots Plain s = cc
-      slots Reflector s = cc
       slots Map s = absurd (cc)
+      slots _ s = cc
 
   -- THEY STAND FOR IT.
   pub follows-stands : StandsFor h g

@@ -1,5 +1,5 @@
 -- THE HEAPS STAND FOR THE GRAPH AS BEFORE where natives leave, and where a native that no register reaches is emptied.
-use Rattle.std.proofs.Common.{◌≡◌, ℕ, List, ◌∷◌, Some, sym, ◌∙◌, ap, subst, inl, inr, ◌⊎◌, ⊎_elim}
+use Rattle.std.proofs.Common.{arith, ◌≡◌, ℕ, List, ◌∷◌, Some, sym, ◌∙◌, ap, subst, inl, inr, ◌⊎◌, ⊎_elim}
 use Rattle.std.proofs.lemmas.Bool.Decides.{eqb_tells}
 use Rattle.cc_lists.specs.Members.{Among}
 use Rattle.cc_names.specs.Names.{native}
@@ -10,7 +10,7 @@ use Rattle.cc_model.specs.Heap.{Heap, HeapNative}
 use Rattle.cc_model.specs.Cascade.{add_ref, cascade}
 use Rattle.cc_model.specs.End.{unlink}
 use Rattle.cc_model.specs.WellFormed.{IsWellFormed, native_names}
-use Rattle.cc_model.specs.StandsFor.{Shape, shape_in, shape_of_held_native, IsEmptied, StandsFor}
+use Rattle.cc_model.specs.StandsFor.{shape_in, shape_of_held_native, IsEmptied, StandsFor}
 use Rattle.cc_laws_heap.specs.Sound.{IsSound}
 use Rattle.cc_laws_heap.specs.Freeing.{Uncounted, uncounted, SameBeside}
 use Rattle.cc_laws_heap.proofs.Natives.{named-member}
@@ -38,10 +38,7 @@ uncounted-name : (m n : HeapNative) → uncounted m ≡ uncounted n → native m
 uncounted-name m n e = ap (λ (u : Uncounted). native u.number) e
 
 uncounted-shape : (m n : HeapNative) → uncounted m ≡ uncounted n → shape_of_held_native m ≡ shape_of_held_native n
-uncounted-shape m n e = ap shape_of_uncounted e
-  where
-    shape_of_uncounted : Uncounted → Shape
-    shape_of_uncounted u = record { slots = Some u.slots; preserved = u.preserved }
+uncounted-shape m n e = grind arith
 
 -- HEAPS OF WHICH EACH NATIVE STANDS ON stand for the graph that the heaps before stood for.
 pub stands-on : (h k : Heap) (g : Graph) → IsWellFormed h → IsWellFormed k → IsWellMade g → SameBeside h k →

@@ -1,5 +1,5 @@
 -- NATIVES THAT ARE LEFT ARE AS THEY WERE, but for counts and where they were unlinked; and what was empty is.
-use Rattle.std.proofs.Common.{◌≡◌, ◌==◌, ℕ, zero, suc, Bool, true, false, not, List, ◌∷◌, length, set, None, refl, sym, ◌∙◌, ap, subst, if◌then◌else◌}
+use Rattle.std.proofs.Common.{arith, ◌≡◌, ℕ, suc, false, not, List, ◌∷◌, set, None, refl, ◌∙◌, ap, subst}
 use Rattle.std.proofs.lemmas.Bool.{eqb-true}
 use Rattle.std.proofs.lemmas.List.{length-set}
 use Rattle.cc_lists.specs.Members.{Among}
@@ -13,7 +13,7 @@ use Rattle.cc_laws_heap.specs.Balance.{has_number}
 use Rattle.cc_laws_heap.specs.Freeing.{Uncounted, uncounted}
 use Rattle.cc_laws_heap.specs.Stages.{Stage, Done, Ending}
 use Rattle.cc_laws_heap.specs.Stages.Ending.{reordered, raised, unlinked, emptied, unpreserved}
-use Rattle.cc_laws_heap.proofs.Natives.{KeepsNumber, changed_at, uncounted-change}
+use Rattle.cc_laws_heap.proofs.Natives.{KeepsNumber, uncounted-change}
 use Rattle.cc_laws_heap.proofs.GiveUp.{lower_native}
 use Rattle.cc_laws_heap.proofs.HoldsTheSame.{HoldsTheSame-add_ref}
 use Rattle.cc_laws_heap.proofs.Folding.{done-keeps}
@@ -21,26 +21,16 @@ use Rattle.cc_laws_heap.proofs.Leaving.{IsOf, IsOf-alike}
 
 -- what is emptied as it was is emptied
 pub uncounted-emptied : (m n : HeapNative) → uncounted m ≡ uncounted n → IsEmptied m → IsEmptied n
-uncounted-emptied m n e t = record { slots = moved.slots; preserved = moved.preserved }
-  where
-    of : Uncounted → HeapNative
-    of u = record { number = u.number; slots = u.slots; preserved = u.preserved; count = 0 }
-
-    moved : IsEmptied (of (uncounted n))
-    moved = subst (λ u. IsEmptied (of u)) e (record { slots = t.slots; preserved = t.preserved })
+uncounted-emptied m n e t = grind arith
 
 -- empty slots stay so where one of them is emptied
 empty_slots-set : (l i : ℕ) → set (empty_slots l) i None ≡ empty_slots l
-empty_slots-set zero i = refl
-empty_slots-set (suc l) zero = refl
 empty_slots-set (suc l) (suc i) = ap (λ slots. None ∷ slots) (empty_slots-set l i)
+empty_slots-set _ _ = refl
 
 -- what is emptied stays so where a slot of it is emptied
 IsEmptied-slot : (i : ℕ) (n : HeapNative) → IsEmptied n → IsEmptied (with_native_slot i None n)
-IsEmptied-slot i n t = record {
-  slots = ap (λ slots. set slots i None) t.slots ∙ (empty_slots-set (length n.slots) i ∙ ap empty_slots (sym (length-set n.slots i None)));
-  preserved = t.preserved;
-}
+IsEmptied-slot i n t = grind (arith, empty_slots-set, length-set)
 
 -- a native is as one of the heaps was, but for its count, unless it is one of these; and it is empty where that was
 pub record ComesFrom (ks : List ℕ) (h : Heap) (n : HeapNative) : Type 0 where
@@ -70,19 +60,7 @@ module _ (ks : List ℕ) where
   -- what one of these natives was changed to
   from-changed : (h : Heap) (k : ℕ) (f : HeapNative → HeapNative) → KeepsNumber f → ((n : HeapNative) → IsEmptied n → IsEmptied (f n)) → Among k ks →
       (n : HeapNative) → Among n (change_native h k f).natives → ComesFrom ks h n
-  from-changed h k f number keeps own n m =
-      let i = Among-map_cases (changed_at k f) h.natives n m in
-      subst (ComesFrom ks h) i.2 (go i.0 i.1 (i.0.number == k) refl)
-    where
-      go : (o : HeapNative) → Among o h.natives → (b : Bool) → (o.number == k) ≡ b → ComesFrom ks h (if b then f o else o)
-      go o there true e = record {
-        was = o;
-        there = there;
-        number = sym (number o);
-        same = λ d. absurd (d (subst (λ j. Among j ks) (sym (number o ∙ eqb-true o.number k e)) own));
-        empty = keeps o;
-      }
-      go o there false e = from-of h o (o, there, refl)
+  from-changed h k f number keeps own n m = grind (arith, Among-map_cases, eqb-true, from-of)
 
   -- each native of the second stage comes from one of the first
   abbrev StaysTo : Stage → List Event → Stage → Type 0

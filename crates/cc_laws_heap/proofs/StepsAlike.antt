@@ -1,6 +1,6 @@
 -- THE STEPS OF COMMANDS, taken alike in heaps and in the graph that they follow: a register or a slot gets what `P` holds of,
 -- references are taken and given up, what script touches is exposed, a reflector is preserved, an entry is set.
-use Rattle.std.proofs.Common.{slice_index_or, ◌≡◌, ℕ, ◌≤◌, true, set, Option, Some, None, refl, sym, ◌∙◌, ap, subst, inl, inr, ⊎_elim, ◌==◌, count_by}
+use Rattle.std.proofs.Common.{arith, slice_index_or, ◌≡◌, ℕ, ◌≤◌, true, set, Option, Some, None, refl, sym, ◌∙◌, ap, subst, inl, inr, ⊎_elim, ◌==◌, count_by}
 use Rattle.std.proofs.lemmas.Bool.{eq-eqb}
 use Rattle.cc_lists.specs.Members.{Among}
 use Rattle.cc_names.specs.declared.name.Name.{Name}
@@ -89,20 +89,17 @@ Follows-store P h g d i x y e p q kept t = Follows-left P (heap.set_slot j (heap
 -- a reflector preserved, where it is one
 pub Follows-preserve : (P : Name → Type 0) (h : Heap) (g : Graph) (x : Option Name) → OfSome P x → OfSome (HasBehind P) x → Follows P h g →
     Follows P (heap.preserve h x) (graph.preserve g x)
-Follows-preserve P h g None p b t = t
-Follows-preserve P h g (Some (name.Native k)) p b t = t
-Follows-preserve P h g (Some (name.Script k)) p b t = t
 Follows-preserve P h g (Some (name.Reflector k)) p b t = Follows-preserved P h g k.0 (b k.0 refl) p t
+Follows-preserve P h g _ p b t = t
 
 -- it is preserved then
 preserved-after : (g : Graph) (x : Name) → IsPreserved (graph.preserve g (Some x)) x
-preserved-after g (name.Native k) = λ j s e i. absurd (cc)
-preserved-after g (name.Script k) = λ j s e i. absurd (cc)
 preserved-after g (name.Reflector k) = λ j s e i.
     let f = option_map-found (changed_at (native k.0) with_preserved (native j)) (shape_in g (native j)) s
     (sym (GraphChanges-native g k.0 graph.as_preserved with_preserved (λ n. refl) (λ n. refl) (native j)) ∙ i) in
     let own : (j == k.0) ≡ true = eq-eqb j k.0 (sym (ap number_of e)) in
     sym (ap (λ (v : Shape). v.preserved) f.2) ∙ rw own refl
+preserved-after g _ = λ j s e i. absurd (cc)
 
 -- a reflector preserved, and slot i of a script object written
 pub Follows-put_script : (P : Name → Type 0) (h : Heap) (g : Graph) (x : Option Name) (i : ℕ) (y : Option Name) → OfSome P x → OfSome (HasBehind P) x → OfSome P y →
@@ -117,16 +114,11 @@ Follows-put_script P h g x i y p b q t = Follows-slot P (heap.preserve h x) (gra
 
 -- it leaves the entries
 preserve-entries : (g : Graph) (x : Option Name) → (graph.preserve g x).entries ≡ g.entries
-preserve-entries g None = refl
-preserve-entries g (Some (name.Native k)) = refl
-preserve-entries g (Some (name.Script k)) = refl
-preserve-entries g (Some (name.Reflector k)) = (SameGraphBeside-native g k.0 graph.as_preserved).entries
+preserve-entries g x = grind (arith, SameGraphBeside-native)
 
 -- an entry set, its key preserved; or taken out
 pub Follows-set_entry : (P : Name → Type 0) (h : Heap) (g : Graph) (m k v : Option Name) → OfSome P m → OfSome P k → OfSome (HasBehind P) k → OfSome P v →
     ((a b : Name) → count_by (is_entry_of a b) g.entries ≤ 1) → Follows P h g → Follows P (effects.set_entry h m k v) (graph.set_entry g m k v)
-Follows-set_entry P h g None k v p q b r once t = t
-Follows-set_entry P h g (Some m) None v p q b r once t = t
 Follows-set_entry P h g (Some m) (Some k) None p q b r once t = Follows-entries P h g (without_entry h.entries m k) (without_entry g.entries m k)
     (AreEntries-without P h.entries g.entries m k t.entries) (λ e i. inl (Among-filtered _ e g.entries i)) t
 Follows-set_entry P h g (Some m) (Some k) (Some v) p q b r once t =
@@ -137,3 +129,4 @@ Follows-set_entry P h g (Some m) (Some k) (Some v) p q b r once t =
     (λ old. inl (subst (Among e) (sym (preserve-entries g (Some k))) old))
     (with_entry-cases g.entries m k v e i))
     (Follows-preserve P h g (Some k) q b t)
+Follows-set_entry P h g _ _ v p q b r once t = t

@@ -1,6 +1,6 @@
 -- SWEEPING KEEPS THE BALANCE: a reflector that is taken out leaves a reference to its native in hand, and a cascade
 -- gives that up; the slots of script objects hold nothing that is counted.
-use Rattle.std.proofs.Common.{◌≡◌, ℕ, ◌≤◌, true, not, List, ◌∷◌, sym, ◌∙◌, ap, arith, count_by}
+use Rattle.std.proofs.Common.{◌≡◌, ℕ, ◌≤◌, not, List, ◌∷◌, sym, ◌∙◌, ap, arith, count_by}
 use Rattle.std.proofs.lemmas.Bool.{not-true}
 use Rattle.cc_lists.specs.Members.{Among}
 use Rattle.cc_lists.proofs.Members.{Among-map_cases}
@@ -25,21 +25,16 @@ reflectors k h = count_by (λ (o : HeapScript). same_name o.name (reflector k)) 
 
 -- another script object taken out leaves it
 reflectors-other : (h : Heap) (x : Name) (k : ℕ) → ¬ (x ≡ reflector k) → reflectors k (without_script h x) ≡ reflectors k h
-reflectors-other h x k d = count_by-kept (λ (o : HeapScript). same_name o.name (reflector k)) (λ o. not (same_name o.name x)) h.scripts
-    (λ o e. ap not (same_name-other o.name x (λ s. d (sym s ∙ same_name-true o.name (reflector k) e))))
+reflectors-other h x k d = grind (arith, count_by-kept, same_name-other, same_name-true)
 
 -- itself taken out, it is there no more
 reflectors-same : (h : Heap) (k : ℕ) → reflectors k (without_script h (reflector k)) ≡ 0
-reflectors-same h k = count_by-dropped (λ (o : HeapScript). same_name o.name (reflector k)) (λ o. not (same_name o.name (reflector k))) h.scripts
-    (λ o e. not-true (same_name o.name (reflector k)) e)
+reflectors-same h k = grind (arith, count_by-dropped, not-true)
 
 -- it is there once, where script objects have distinct names
 reflectors-once : (h : Heap) (k : ℕ) → count_by (λ (o : HeapScript). same_name o.name (reflector k)) h.scripts ≤ 1 → Among (reflector k) (script_names h) →
     reflectors k h ≡ 1
-reflectors-once h k few m =
-    let f = Among-map_cases (λ (o : HeapScript). o.name) h.scripts (reflector k) m in
-    let named : same_name f.0.name (reflector k) ≡ true = ap (λ x. same_name x (reflector k)) f.2 ∙ same_name-refl (reflector k) in
-    omega (arith, count_by-some (λ (o : HeapScript). same_name o.name (reflector k)) f.0 h.scripts f.1 named)
+reflectors-once h k few m = grind (arith, Among-map_cases, same_name-refl, count_by-some)
 
 -- a plain script object or a weak map taken out leaves the heaps steady
 pub IsSteady-without_object : (owned : List ℕ) (h : Heap) (k : ℕ) → IsSteady owned h → IsSteady owned (without_script h (object k))

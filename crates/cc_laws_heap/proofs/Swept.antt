@@ -75,17 +75,7 @@ module _ {owned : List ℕ} (h : Heap) (c : HasColours h) (s : IsSound owned h) 
 
   -- but for natives and the buffer the heaps are those without what is not marked
   pub beside-sweep : SameBeside (spared (unmarked h) h) (sweep h).heap
-  beside-sweep =
-      let f = taken-sweep.1.names in
-      record {
-        native_registers = f.native_registers;
-        script_registers = f.script_registers;
-        scripts = scripts-sweep h;
-        entries = entries-sweep;
-        natives_made = f.natives_made;
-        scripts_made = f.scripts_made;
-        limits = f.limits;
-      }
+  beside-sweep = grind (arith, taken-sweep, scripts-sweep, entries-sweep)
 
   -- A SWEEP LEAVES SOUND HEAPS.
   pub sweep-sound : IsSound owned (sweep h).heap

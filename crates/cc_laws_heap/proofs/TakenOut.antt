@@ -50,12 +50,7 @@ pub record TakesOut (h : Heap) (xs : List Name) (o : Outcome) : Type 0 where
 
 -- where nothing was done nothing was taken out
 pub TakesOut-silently : (h : Heap) → TakesOut h [] (silently h)
-TakesOut-silently h = record {
-  names = FreesNames-silently h;
-  natives = sym (filter-true (is_native_left []) (map uncounted h.natives) (λ u. refl));
-  scripts = sym (filter-true (is_script_left []) h.scripts (λ o. refl));
-  entries = refl;
-}
+TakesOut-silently h = grind (arith, FreesNames-silently, filter-true)
 
 -- Objects taken out, and then others, are taken out together.
 pub TakesOut-then : (h : Heap) (xs ys : List Name) (o p : Outcome) → TakesOut h xs o → TakesOut o.heap ys p → TakesOut h (xs ++ ys) (after o.events p)
@@ -73,11 +68,7 @@ native_names-uncounted h = sym (map-map name_of_native uncounted h.natives)
 -- natives left are names left
 native_names-left : (h k : Heap) (xs : List Name) → map uncounted k.natives ≡ filter (is_native_left xs) (map uncounted h.natives) →
     native_names k ≡ filter (is_not_among xs) (native_names h)
-native_names-left h k xs e =
-    native_names-uncounted k
-    ∙ (ap (map name_of_native) e
-    ∙ (sym (filter-map (is_not_among xs) name_of_native (map uncounted h.natives))
-    ∙ ap (filter (is_not_among xs)) (sym (native_names-uncounted h))))
+native_names-left h k xs e = grind (arith, native_names-uncounted, filter-map)
 
 -- script objects left are names left
 script_names-left : (h k : Heap) (xs : List Name) → k.scripts ≡ filter (is_script_left xs) h.scripts → script_names k ≡ filter (is_not_among xs) (script_names h)
@@ -87,11 +78,7 @@ script_names-left h k xs e = ap (map name_of_script) e ∙ sym (filter-map (is_n
 
 -- a name in a list alone stands there at most once
 once-alone : (x y : Name) → count_by (same_name y) (x ∷ []) ≤ 1
-once-alone x y = go (same_name y x) refl
-  where
-    go : (b : Bool) → same_name y x ≡ b → count_by (same_name y) (x ∷ []) ≤ 1
-    go true e = rw (count_by-cons (same_name y) x [], e) (omega arith)
-    go false e = rw (count_by-cons (same_name y) x [], e) (omega arith)
+once-alone x y = grind (arith, count_by-cons)
 
 -- A script object that is there is told and taken out.
 pub TakesOut-script : (h : Heap) (x : Name) → is_script x ≡ true → Among x (script_names h) →
@@ -125,12 +112,7 @@ TakesOut-script h x s m = record {
 -- the names of distinct natives are distinct
 once-natives : (ks : List ℕ) → ((k : ℕ) → times k ks ≤ 1) → (x : Name) → count_by (same_name x) (map native ks) ≤ 1
 once-natives ks once (name.Native k) = subst (λ n. n ≤ 1) (ap (times k.0) (sym (natives_in-natives ks)) ∙ times-natives_in k.0 (map native ks)) (once k.0)
-once-natives ks once (name.Script k) = rw (count_by-map (same_name (name.Script k)) native ks) (none ks)
-  where
-    none : (js : List ℕ) → count_by (λ j. false) js ≤ 1
-    none [] = omega arith
-    none (j ∷ js) = none js
-once-natives ks once (name.Reflector k) = rw (count_by-map (same_name (name.Reflector k)) native ks) (none ks)
+once-natives ks once x = rw (count_by-map (same_name x) native ks) (none ks)
   where
     none : (js : List ℕ) → count_by (λ j. false) js ≤ 1
     none [] = omega arith

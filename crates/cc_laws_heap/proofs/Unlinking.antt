@@ -1,6 +1,6 @@
 -- A NATIVE UNLINKED: while it is owned it stays, with empty slots and no preservation; all others are as they were, or
 -- were freed.
-use Rattle.std.proofs.Common.{◌≡◌, ℕ, ◌+◌, ◌≤◌, Bool, false, List, [], ◌∷◌, ◌++◌, length, Option, Some, None, refl, sym, ◌∙◌, ap, subst, ◌==◌, inl, ⊎_elim}
+use Rattle.std.proofs.Common.{arith, ◌≡◌, ℕ, ◌+◌, ◌≤◌, Bool, false, List, [], ◌∷◌, ◌++◌, Option, Some, refl, sym, ◌∙◌, ap, subst, ◌==◌, inl, ⊎_elim}
 use Rattle.std.proofs.lemmas.Bool.{false≢true}
 use Rattle.std.proofs.lemmas.List.{append-nil, length-replicate}
 use Rattle.cc_lists.specs.Members.{Among}
@@ -73,10 +73,7 @@ unpreserved-sound owned h k s = record {
 
 -- empty slots and no preservation are those of a native that was unlinked
 IsEmptied-from : (n : HeapNative) (j : ℕ) → n.slots ≡ empty_slots j → n.preserved ≡ false → IsEmptied n
-IsEmptied-from n j e p = record {
-  slots = e ∙ ap empty_slots (sym (ap length e ∙ length-replicate j None));
-  preserved = p;
-}
+IsEmptied-from n j e p = grind (arith, length-replicate)
 
 -- native k was told unlinked and is empty where it is there; those freed have left; the others are as they were
 pub record Unlinks (h : Heap) (k : ℕ) (freed : List ℕ) (o : Outcome) : Type 0 where

@@ -1,5 +1,5 @@
 -- WHAT THE GRAPH DOES NOT SEE: counts, the buffer, colours, and natives that a cascade takes out.
-use Rattle.std.proofs.Common.{◌≡◌, ℕ, ◌+◌, Bool, true, false, map, Option, Some, None, refl, sym, ◌∙◌, ap, subst, if◌then◌else◌}
+use Rattle.std.proofs.Common.{arith, ◌≡◌, ℕ, Bool, true, false, map, Option, Some, None, refl, sym, ◌∙◌, ap, subst, if◌then◌else◌}
 use Rattle.cc_lists.specs.Members.{Among, has}
 use Rattle.cc_lists.proofs.Members.{Among-map_cases, Among-filtered}
 use Rattle.cc_names.specs.declared.name.Name.{Name}
@@ -17,23 +17,15 @@ use Rattle.cc_laws_heap.proofs.CascadeTakesOut.{TakesOut-let_go}
 
 -- heaps left as they are
 pub Leaves-refl : (h : Heap) → Leaves h h
-Leaves-refl h = record {
-  beside = record { native_registers = refl; script_registers = refl; entries = refl; natives_made = refl; scripts_made = refl; limits = refl };
-  objects = record { natives = λ n i. (n, i, refl, refl); scripts = λ o i. (o, i, refl, refl) };
-}
+Leaves-refl h = search
 
 -- a reference taken
 pub Leaves-add_ref : (h : Heap) (k : ℕ) → Leaves h (add_ref h k)
-Leaves-add_ref h k = Leaves-uncounted h (add_ref h k)
-    (λ u i. subst (Among u) (uncounted-change h k (λ n. record n { count = n.count + 1 }) (λ n. refl)) i)
-    (SameBeside-with h (add_ref h k).natives (add_ref h k).buffer)
+Leaves-add_ref h k = grind (arith, Leaves-uncounted, uncounted-change, SameBeside-with)
 
 -- a reference to what a register or a slot is to hold taken
 pub Leaves-take_up : (h : Heap) (x : Option Name) → Leaves h (take_up h x)
-Leaves-take_up h None = Leaves-refl h
-Leaves-take_up h (Some (name.Native k)) = Leaves-add_ref h k.0
-Leaves-take_up h (Some (name.Script k)) = Leaves-refl h
-Leaves-take_up h (Some (name.Reflector k)) = Leaves-refl h
+Leaves-take_up h x = grind (arith, Leaves-add_ref, Leaves-refl)
 
 -- a reference given up, with all that is freed
 pub Leaves-let_go : (h : Heap) (x : Option Name) → Leaves h (let_go h x).heap

@@ -1,5 +1,5 @@
 -- THE EDGES OF ONE OBJECT in the flat view: they start at its name, and lead to what it has.
-use Rattle.std.proofs.Common.{◌≡◌, ℕ, Bool, true, false, [], ◌∷◌, map, refl, ap, subst, inl, inr, ◌⊎◌, ⊎_elim}
+use Rattle.std.proofs.Common.{arith, ◌≡◌, ℕ, Bool, true, false, [], ◌∷◌, map, refl, ap, subst, inl, inr, ◌⊎◌, ⊎_elim}
 use Rattle.cc_lists.specs.Members.{Among}
 use Rattle.cc_lists.proofs.Members.{Among-map_cases, Among-append}
 use Rattle.cc_names.specs.declared.name.Name.{Name}
@@ -32,9 +32,7 @@ native_edges-are n x y m = ⊎_elim
 
 -- a name with a native behind it is that native's reflector
 pub behind-is : (x : Name) (k : ℕ) → Among k (behind x) → x ≡ reflector k
-behind-is (name.Native i) k m = absurd m
-behind-is (name.Script i) k m = absurd m
-behind-is (name.Reflector i) k m = ⊎_elim (λ e. ap reflector e) (λ t. absurd t) m
+behind-is x k m = grind arith
 
 -- the edges of a script object start at its name, and lead to what it has
 pub script_edges-are : (o : HeapScript) (x y : Name) → Among (x, y) (script_edges o) → (o.name ≡ x) × ScriptHas o y

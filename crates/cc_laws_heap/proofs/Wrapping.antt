@@ -1,13 +1,12 @@
 -- A REFLECTOR MADE, OR FOUND AGAIN, in heaps and in the graph that they stand for.
-use Rattle.std.proofs.Common.{◌≡◌, ◌≢◌, ℕ, Bool, true, false, List, [], ◌∷◌, Option, Some, None, is_some, option_map, refl, sym, ◌∙◌, ap, subst, inl, inr, ◌⊎◌, ⊎_elim, if◌then◌else◌, ◌==◌}
+use Rattle.std.proofs.Common.{arith, ◌≡◌, ◌≢◌, ℕ, Bool, true, false, List, [], ◌∷◌, Option, Some, None, is_some, option_map, refl, sym, ◌∙◌, ap, subst, inl, inr, ◌⊎◌, ⊎_elim}
 use Rattle.std.specs.Option.{option_and_then}
 use Rattle.std.proofs.lemmas.Bool.{true≢false, false≢true, cases_Bool}
 use Rattle.cc_lists.specs.Members.{Among}
 use Rattle.cc_lists.proofs.Members.{Among-append, Among-right}
 use Rattle.cc_names.specs.declared.name.Name.{Name}
-use Rattle.cc_names.specs.declared.name.Name.TheVariants as name
 use Rattle.cc_names.specs.declared.kind.Kind.TheVariants.{Reflector}
-use Rattle.cc_names.specs.Names.{native, object, reflector, same_name}
+use Rattle.cc_names.specs.Names.{native, object, reflector}
 use Rattle.cc_names.proofs.NameTests.{same_name-true, same_name-refl}
 use Rattle.cc_model.specs.Slots.{Slots, contents, empty_slots, reflector_slots}
 use Rattle.cc_model.specs.Entries.{Entry}
@@ -15,14 +14,13 @@ use Rattle.cc_model.specs.Graph as graph
 use Rattle.cc_model.specs.Graph.{Graph, GraphNative, native_in, script_in, set_native, as_wrapped, slots_or_blank}
 use Rattle.cc_model.specs.Reached.{Reached}
 use Rattle.cc_model.specs.WellMade.{IsWellMade}
-use Rattle.cc_model.specs.Heap.{Heap, HeapScript, has_reflector, script_at}
+use Rattle.cc_model.specs.Heap.{Heap, HeapScript, has_reflector}
 use Rattle.cc_model.specs.Exposure.{exposed}
 use Rattle.cc_model.specs.Effects as effects
 use Rattle.cc_model.specs.WellFormed.{IsWellFormed}
 use Rattle.cc_model.specs.StandsFor.{Shape, shape_in, shape_at, shape_of_native, shape_of_reflector, shape_of_held_script, script_shape, IsKept, StandsFor}
-use Rattle.cc_laws_heap.proofs.Numbered.{change_numbered, numbered-change, numbered-change_other}
+use Rattle.cc_laws_heap.proofs.Numbered.{numbered-change, numbered-change_other}
 use Rattle.cc_laws_heap.proofs.Shapes.{further_of}
-use Rattle.cc_laws_heap.proofs.GraphParts.{with_natives}
 use Rattle.cc_laws_heap.proofs.GraphWrites.{set_native-is}
 use Rattle.cc_laws_heap.proofs.Following.{AgreesBeside, Follows, shape_in-native, shape_in-reflector, stands-follows}
 use Rattle.cc_laws_heap.proofs.Changing.{unchanged, Follows-changed, Follows-left, GraphChanges, IsChange-unchanged, option_map-same}
@@ -38,30 +36,15 @@ with_wrapped g k = set_native g k (option_map as_wrapped (native_in g k))
 
 -- nothing but its reflector changes its shape
 wrapped-others : (g : Graph) (k : ℕ) (z : Name) → z ≢ reflector k → shape_in (with_wrapped g k) z ≡ shape_in g z
-wrapped-others g k z d = subst (λ e. shape_in e z ≡ shape_in g z) (sym (set_native-is g k (option_map as_wrapped (native_in g k)))) (shapes z d)
-  where
-    shapes : (z : Name) → z ≢ reflector k → shape_in (with_natives g (change_numbered g.natives k as_wrapped)) z ≡ shape_in g z
-    shapes (name.Native j) d = ap (option_map shape_of_native) (numbered-changed g.natives k as_wrapped j.0) ∙ go (j.0 == k) (native_in g j.0)
-      where
-        go : (b : Bool) (o : Option GraphNative) → option_map shape_of_native (option_map (λ n. if b then as_wrapped n else n) o) ≡ option_map shape_of_native o
-        go b None = refl
-        go true (Some n) = refl
-        go false (Some n) = refl
-    shapes (name.Script j) d = refl
-    shapes (name.Reflector j) d = ap (option_and_then shape_of_reflector) (numbered-change_other g.natives k as_wrapped j.0 (λ e. d (ap reflector e)))
+wrapped-others g k z d = grind (arith, set_native-is, numbered-changed, numbered-change_other)
 
 -- and that has slots
 wrapped-made : (g : Graph) (k : ℕ) (n : GraphNative) → native_in g k ≡ Some n → shape_in (with_wrapped g k) (reflector k) ≡ Some (script_shape (Some (slots_or_blank n.reflector)))
-wrapped-made g k n i = subst (λ e. shape_in e (reflector k) ≡ Some (script_shape (Some (slots_or_blank n.reflector)))) (sym (set_native-is g k (option_map as_wrapped (native_in g k))))
-    (ap (option_and_then shape_of_reflector) (numbered-change g.natives k as_wrapped ∙ ap (option_map as_wrapped) i))
+wrapped-made g k n i = grind (arith, set_native-is, numbered-change)
 
 -- what has a shape in the heaps is there
 reflector-there : (h : Heap) (k : ℕ) (s : Shape) → shape_at h (reflector k) ≡ Some s → has_reflector h k ≡ true
-reflector-there h k s = go (script_at h (reflector k))
-  where
-    go : (o : Option HeapScript) → option_map shape_of_held_script o ≡ Some s → is_some o ≡ true
-    go None e = absurd (cc)
-    go (Some o) e = refl
+reflector-there h k s = grind arith
 
 -- the shape of a blank reflector
 abbrev blank_shape : Shape
@@ -85,23 +68,11 @@ module _ (h : Heap) (g : Graph) (k : ℕ) (w : IsWellFormed h) (m : IsWellMade g
 
   -- what it has for slots
   same-shape : (t : Shape) → shape_in g (reflector k) ≡ Some t → script_shape (Some (slots_or_blank n.reflector)) ≡ t
-  same-shape t e =
-      let r = shape_in-reflector g k t e in
-      let both : Some r.0 ≡ Some n = sym r.2 ∙ i in
-      let one : r.0 ≡ n = cc in
-      ap (λ (o : Option Slots). script_shape (Some (slots_or_blank o))) (sym (ap (λ (m : GraphNative). m.reflector) one) ∙ r.3) ∙ r.4
+  same-shape t e = grind (arith, shape_in-reflector)
 
   -- no shape changes in the graph
   unchanged-graph : (t : Shape) → shape_in g (reflector k) ≡ Some t → GraphChanges unchanged g (with_wrapped g k)
-  unchanged-graph t e z = ⊎_elim
-      (λ q.
-      let same : z ≡ reflector k = same_name-true z (reflector k) q in
-      ap (shape_in (with_wrapped g k)) same
-      ∙ (wrapped-made g k n i
-      ∙ (ap (λ (v : Shape). Some v) (same-shape t e)
-      ∙ (sym e ∙ (ap (shape_in g) (sym same) ∙ option_map-same (shape_in g z))))))
-      (λ q. wrapped-others g k z (λ r. true≢false (sym (ap (λ y. same_name y (reflector k)) r ∙ same_name-refl (reflector k)) ∙ q)) ∙ option_map-same (shape_in g z))
-      (cases_Bool (same_name z (reflector k)))
+  unchanged-graph t e z = grind (arith, same_name-true, wrapped-made, same-shape, option_map-same, wrapped-others, same_name-refl)
 
   -- the heaps follow the graph with the native wrapped
   follows-preserved : n.preserved ≡ true → Follows (Reached g) (effects.wrapped h (Some (native k))) (with_wrapped g k)
@@ -123,11 +94,7 @@ module _ (h : Heap) (g : Graph) (k : ℕ) (w : IsWellFormed h) (m : IsWellMade g
 
   -- it has empty slots then
   blank-made : n.preserved ≡ false → slots_or_blank n.reflector ≡ empty_slots reflector_slots
-  blank-made p = go n.reflector refl
-    where
-      go : (o : Option Slots) → n.reflector ≡ o → slots_or_blank o ≡ empty_slots reflector_slots
-      go None r = refl
-      go (Some slots) r = (s.blank k n slots i p r).0
+  blank-made p = grind arith
 
   -- and no entry is of it
   no-entry : n.preserved ≡ false → (e : Entry) → Among e g.entries → (e.the_map ≢ reflector k) × (e.key ≢ reflector k)
@@ -142,15 +109,7 @@ module _ (h : Heap) (g : Graph) (k : ℕ) (w : IsWellFormed h) (m : IsWellMade g
 
   -- heaps that agree with the graph beside the objects, agree with the graph with the native wrapped
   beside : (j : Heap) → AgreesBeside j g → AgreesBeside j (with_wrapped g k)
-  beside j b =
-      let t = SameGraphBeside-native g k as_wrapped in
-      record {
-        native_registers = b.native_registers ∙ sym t.native_registers;
-        script_registers = b.script_registers ∙ sym t.script_registers;
-        limits = b.limits ∙ sym t.limits;
-        natives_made = b.natives_made ∙ sym t.natives_made;
-        scripts_made = b.scripts_made ∙ sym t.scripts_made;
-      }
+  beside j b = grind (arith, SameGraphBeside-native)
 
   -- the heaps with the reflector, or without
   is-made : n.preserved ≡ false → (j : Heap) (os : List HeapScript) → AgreesBeside j g →

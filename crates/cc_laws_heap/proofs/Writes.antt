@@ -1,8 +1,7 @@
 -- WHAT A WRITE OF A REGISTER, A SLOT, A FLAG OR A COLOUR DOES TO THE COUNTS: the new content is owned before, the old one after.
-use Rattle.std.proofs.Common.{◌≡◌, ℕ, ◌+◌, ◌<◌, ◌≤◌, Bool, true, List, ◌++◌, length, set, get_or, Option, Some, None, option_map, refl, sym, ◌∙◌, ap, subst, ⊎_elim, arith, ◌==◌}
+use Rattle.std.proofs.Common.{◌≡◌, ℕ, ◌+◌, ◌<◌, ◌≤◌, Bool, true, List, ◌++◌, length, set, get_or, Option, Some, None, refl, sym, ◌∙◌, ap, subst, ⊎_elim, arith, ◌==◌}
 use Rattle.std.specs.Option.{option_to_list}
 use Rattle.std.proofs.lemmas.Bool.{eqb-true}
-use Rattle.std.proofs.lemmas.Bool.Decides.{eqb_tells}
 use Rattle.std.proofs.lemmas.List.{length-set}
 use Rattle.cc_lists.specs.Members.{Among}
 use Rattle.cc_names.specs.declared.name.Name.{Name}
@@ -15,7 +14,7 @@ use Rattle.cc_model.specs.Counts.{refs_to, slots_of_natives, times}
 use Rattle.cc_laws_heap.specs.Sound.{IsSound, numbers_of}
 use Rattle.cc_laws_heap.proofs.Natives.{KeepsNumber, IsWellFormed-distinct, native_at-change_same, native_at-change_other}
 use Rattle.cc_laws_heap.proofs.Counted.{IsSound-counted, IsSound-from_counted}
-use Rattle.cc_laws_heap.specs.Balance.{count_of, count_at}
+use Rattle.cc_laws_heap.specs.Balance.{count_at}
 use Rattle.cc_lists.proofs.ListWrites.{Among-flat_map_set, Among-flat_map_at, count_by-flat_map_set, changed_where, changed_where-either, count_by-flat_map_changed, each-map, flat_map-kept, count_by-kept_map}
 use Rattle.cc_laws_heap.proofs.Kept.{IsBuffer-own, IsWellFormed-registers, ChangesNatives, ChangesNatives-where, IsWellFormed-natives, ChangesScripts, with_scripts, IsWellFormed-scripts}
 use Rattle.cc_laws_heap.proofs.Owning.{IsIn, times-numbers_of}
@@ -84,14 +83,7 @@ KeepsCount f = (n : HeapNative) → (f n).count ≡ n.count
 -- such a change of one native keeps the count of each number
 count_at-changed : (h : Heap) (k : ℕ) (f : HeapNative → HeapNative) → KeepsNumber f → KeepsCount f → (j : ℕ) →
     count_at (change_native h k f) j ≡ count_at h j
-count_at-changed h k f e c j = ⊎_elim
-    (λ t. subst (λ i. count_at (change_native h k f) i ≡ count_at h i) (sym t.1) (ap count_of (native_at-change_same h k f e) ∙ go (native_at h k)))
-    (λ t. ap count_of (native_at-change_other h k f e j t.1))
-    (eqb_tells j k)
-  where
-    go : (o : Option HeapNative) → count_of (option_map f o) ≡ count_of o
-    go None = refl
-    go (Some n) = c n
+count_at-changed h k f e c j = grind (arith, native_at-change_same, native_at-change_other)
 
 -- and leaves no count zero
 none_zero-changed : (h : Heap) (k : ℕ) (f : HeapNative → HeapNative) → KeepsCount f → ((n : HeapNative) → Among n h.natives → 1 ≤ n.count) →

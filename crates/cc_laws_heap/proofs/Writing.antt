@@ -1,9 +1,8 @@
 -- A SLOT WRITTEN ALIKE, OR A REFLECTOR PRESERVED ALIKE, in heaps and in the graph that they follow.
-use Rattle.std.proofs.Common.{◌≡◌, ℕ, Bool, true, false, List, set, Option, Some, None, option_map, refl, sym, ◌∙◌, ap, subst, ⊎_elim, if◌then◌else◌, ◌==◌}
+use Rattle.std.proofs.Common.{arith, ◌≡◌, ℕ, Bool, true, false, List, set, Option, Some, None, option_map, refl, sym, ◌∙◌, ap, subst, if◌then◌else◌, ◌==◌}
 use Rattle.std.specs.Prelude.{IsTrue}
 use Rattle.std.specs.Option.{option_and_then}
 use Rattle.std.proofs.lemmas.Bool.{false≢true}
-use Rattle.std.proofs.lemmas.Bool.Decides.{eqb_tells}
 use Rattle.cc_lists.specs.Members.{Among}
 use Rattle.cc_lists.proofs.Members.{Among-map_cases}
 use Rattle.cc_names.specs.declared.name.Name.{Name}
@@ -34,27 +33,18 @@ with_preserved s = record s { preserved = true }
 
 -- what is read of one that may have changed
 changed-read : {X Y : Type 0} (g : X → Y) (a : X → X) (f : Y → Y) → ((x : X) → g (a x) ≡ f (g x)) → (b : Bool) (x : X) → g (if b then a x else x) ≡ (if b then f (g x) else g x)
-changed-read g a f same true x = same x
-changed-read g a f same false x = refl
+changed-read g a f same e x = grind arith
 
 -- the same of what may be there
 changed-read_some : {X Y : Type 0} (g : X → Y) (a : X → X) (f : Y → Y) → ((x : X) → g (a x) ≡ f (g x)) → (b : Bool) (o : Option X) →
     option_map g (option_map (λ x. if b then a x else x) o) ≡ option_map (λ s. if b then f s else s) (option_map g o)
-changed-read_some g a f same b None = refl
-changed-read_some g a f same b (Some x) = ap (λ s. Some s) (changed-read g a f same b x)
+changed-read_some g a f same b e = grind (arith, changed-read)
 
 -- In the graph
 
 -- a member of a list in which one changed
 pub numbered-changed : {X : Type 0} (xs : List X) (k : ℕ) (f : X → X) (j : ℕ) → numbered (change_numbered xs k f) j ≡ option_map (λ x. if j == k then f x else x) (numbered xs j)
-numbered-changed {X} xs k f j = ⊎_elim
-    (λ t. ap (numbered (change_numbered xs k f)) t.1 ∙ (numbered-change xs k f ∙ (ap (λ i. option_map f (numbered xs i)) (sym t.1) ∙ rw t.0 refl)))
-    (λ t. numbered-change_other xs k f j t.1 ∙ rw t.0 (same (numbered xs j)))
-    (eqb_tells j k)
-  where
-    same : (o : Option X) → o ≡ option_map (λ x. x) o
-    same None = refl
-    same (Some x) = refl
+numbered-changed {X} xs k f j = grind (arith, numbered-change, numbered-change_other)
 
 -- a native changed, its reflector left
 pub GraphChanges-native : (g : Graph) (k : ℕ) (a : GraphNative → GraphNative) (f : Shape → Shape) → ((n : GraphNative) → shape_of_native (a n) ≡ f (shape_of_native n)) →
@@ -105,13 +95,11 @@ GraphChanges-script g k a f changes = subst (GraphChanges (changed_at (object k)
 
 -- a native changed leaves all beside the natives
 pub SameGraphBeside-native : (g : Graph) (k : ℕ) (a : GraphNative → GraphNative) → SameGraphBeside g (set_native g k (option_map a (native_in g k)))
-SameGraphBeside-native g k a = subst (SameGraphBeside g) (sym (set_native-is g k (option_map a (native_in g k))))
-    (record { native_registers = refl; script_registers = refl; entries = refl; natives_made = length-change g.natives k a; scripts_made = refl; limits = refl })
+SameGraphBeside-native g k a = grind (arith, set_native-is, length-change)
 
 -- a script object changed leaves all beside the script objects
 pub SameGraphBeside-script : (g : Graph) (k : ℕ) (a : GraphScript → GraphScript) → SameGraphBeside g (set_script g k (option_map a (script_in g k)))
-SameGraphBeside-script g k a = subst (SameGraphBeside g) (sym (set_script-is g k (option_map a (script_in g k))))
-    (record { native_registers = refl; script_registers = refl; entries = refl; natives_made = refl; scripts_made = length-change g.scripts k a; limits = refl })
+SameGraphBeside-script g k a = grind (arith, set_script-is, length-change)
 
 -- In the heaps
 
@@ -128,8 +116,7 @@ HeapChanges-native h k a f number changes named = record {
   where
     same : (o : HeapScript) (x : Name) → IsTrue (is_script x) → shape_of_held_script o ≡ changed_at (native k) f x (shape_of_held_script o)
     same o (name.Native j) s = absurd (false≢true s)
-    same o (name.Script j) s = refl
-    same o (name.Reflector j) s = refl
+    same o _ s = refl
 
 -- a script object changed
 pub HeapChanges-script : (h : Heap) (x : Name) (a : HeapScript → HeapScript) (f : Shape → Shape) → IsTrue (is_script x) → ((o : HeapScript) → (a o).name ≡ o.name) →
@@ -143,5 +130,4 @@ HeapChanges-script h x a f script names changes = record {
   where
     same : (n : HeapNative) (y : Name) → IsTrue (is_script y) → shape_of_held_native n ≡ changed_at y f (native n.number) (shape_of_held_native n)
     same n (name.Native j) s = absurd (false≢true s)
-    same n (name.Script j) s = refl
-    same n (name.Reflector j) s = refl
+    same n _ s = refl
