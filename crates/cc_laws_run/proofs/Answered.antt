@@ -115,10 +115,8 @@ takes-may_want m s (Wrap d n) r t =
     (go (heap.register m.heap (N n)) t)
   where
     go : (x : Option Name) → lacks_reflector m.heap x ≡ true → not (is_listed s.listed (reflector_of x)) ≡ true
-    go None e = absurd (false≢true e)
     go (Some (name.Native k)) e = ap not (has-listed_reflector m.heap s.listed (native_names m.heap) k.0 (running-listed m s r)) ∙ e
-    go (Some (name.Script k)) e = absurd (false≢true e)
-    go (Some (name.Reflector k)) e = absurd (false≢true e)
+    go _ e = absurd (false≢true e)
 takes-may_want m s c r t = absurd (false≢true t)
 
 -- a command that wants memory
@@ -180,12 +178,11 @@ mutate-answers m s c r i t = mutate-cases m c (λ (u : Turn). (u.answer.listed �
 pub ask-answers : (m : Machine) (s : State) (ask : Ask) → IsRunning m s → IsTrue (ask_in_range ask) → IsTrue (moves_no_collection ask) →
     AnswersAsk s ask (do_ask m ask).answer
 unfolding do_ask
-ask-answers m s long r i t = refl
-ask-answers m s bad r i t = refl
-ask-answers m s (taken Nothing) r i t = refl
 ask-answers m s (taken Census) r i t = ap (λ (xs : List Name). listing xs (counted (length xs))) r.listed
     ∙ ap (λ k. listing (census_order s.listed) (counted k)) (length-census_order s.listed)
 ask-answers m s (taken (Slice u)) r i t = absurd (false≢true t)
 ask-answers m s (taken Collect) r i t = absurd (false≢true t)
 ask-answers m s (taken Gc) r i t = absurd (false≢true t)
+ask-answers m s (taken Nothing) r i t = refl
 ask-answers m s (taken c) r i t = mutate-answers m s c r i t
+ask-answers m s _ r i t = refl

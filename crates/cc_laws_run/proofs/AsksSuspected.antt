@@ -107,11 +107,10 @@ module _ (m : Machine) (s : State) (r : IsRunning m s) (suspected : IsSuspectedN
 -- NO ASK FORGETS AN UNREACHED NATIVE.
 pub ask-suspected : (m : Machine) (s : State) (ask : Ask) → IsRunning m s → IsTrue (ask_in_range ask) → IsSuspectedNow m → IsSuspectedNow (do_ask m ask).machine
 unfolding do_ask
-ask-suspected m s long r i t = t
-ask-suspected m s bad r i t = t
-ask-suspected m s (taken Nothing) r i t = t
-ask-suspected m s (taken Census) r i t = t
 ask-suspected m s (taken (Slice u)) r i t = slice-suspected m s r t u
 ask-suspected m s (taken Collect) r i t = collect-suspected m s r t
 ask-suspected m s (taken Gc) r i t = gc-suspected m s r t
+ask-suspected m s (taken Nothing) r i t = t
+ask-suspected m s (taken Census) r i t = t
 ask-suspected m s (taken c) r i t = mutate-suspected m c r.sound i t
+ask-suspected m s _ r i t = t

@@ -42,5 +42,4 @@ StandsFor-buffer h bs g s = record {
   where
     shape_there : (x : Name) (shape : Shape) → shape_at h x ≡ Some shape → shape_at (with_buffer h bs) x ≡ Some shape
     shape_there (Native k) shape e = e
-    shape_there (Script k) shape e = e
-    shape_there (Reflector k) shape e = e
+    shape_there _ shape e = e

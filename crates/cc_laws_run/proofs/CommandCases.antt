@@ -90,10 +90,7 @@ graph_after-refused g c refusal e = go (is_without_memory (Refused refusal))
 -- a refusal lists nothing
 listed-refused : (names : List Name) (c : Command) (refusal : Refusal) → listed names c [] (Some (Refused refusal)) ≡ names
 listed-refused names (Native d n) refusal = refl
-listed-refused names (Script d n) refusal = refl
-listed-refused names (WeakMap d) refusal = refl
-listed-refused names (Wrap d s) refusal = refl
-listed-refused names c refusal = refl
+listed-refused names _ refusal = refl
 
 -- the state after a refusal that leaves the graph is the state before it
 next-state : (s : State) (c : Command) (refusal : Refusal) → graph_after s.graph c (Some (Refused refusal)) ≡ s.graph →

@@ -47,10 +47,8 @@ module _ (made : ℕ) (v : View) (s : Snapshot) (ds : List Name) (sound : IsSoun
       let some : 0 < count_by (between x y) v.edges = count_by-some (between x y) (x, y) v.edges e (between-refl x y) in
       let c = counted_is (between x y) s.references (omega (arith, same, some)) in
       subst (λ r. Among r s.references) (between-true x y c.0 c.2) c.1
-  doomed-noted x (name.Script i) e b t = fresh.gray_noted x (object i.0) t e
-      (⊎_elim (λ m. absurd (doomed.unmarked (object i.0) b m)) (λ g. g) (black-or_gray v fresh.colours (object i.0) (doomed.scripts (object i.0) b refl)))
-  doomed-noted x (name.Reflector i) e b t = fresh.gray_noted x (reflector i.0) t e
-      (⊎_elim (λ m. absurd (doomed.unmarked (reflector i.0) b m)) (λ g. g) (black-or_gray v fresh.colours (reflector i.0) (doomed.scripts (reflector i.0) b refl)))
+  doomed-noted x y e b t = fresh.gray_noted x y t e
+      (⊎_elim (λ m. absurd (doomed.unmarked y b m)) (λ g. g) (black-or_gray v fresh.colours y (doomed.scripts y b refl)))
 
   -- so each of them is a node
   doomed-node : (x : Name) → Among x ds → IsNode s x
@@ -72,9 +70,6 @@ module _ (made : ℕ) (v : View) (s : Snapshot) (ds : List Name) (sound : IsSoun
 
   -- so it has no more references than were noted
   doomed-not_above : (i : ℕ) (state : NodeState) → Among (node (native i) state) s.nodes → Among (native i) ds → is_above s (native i) state ≡ true → ⊥
-  doomed-not_above i untraversed m b e = false≢true e
-  doomed-not_above i gone m b e = false≢true e
-  doomed-not_above i (traversed None) m b e = false≢true e
   doomed-not_above i (traversed (Some n)) m b e =
       let u : Name = native i in
       let l = doomed.natives i b in
@@ -87,6 +82,7 @@ module _ (made : ℕ) (v : View) (s : Snapshot) (ds : List Name) (sound : IsSoun
       doomed.unregistered u b (subst (λ x. Among x v.registers) (sym (same_name-true u c.0 c.2)) c.1))
       (λ none. absurd (omega (arith, counted, counts, doomed-all i b, ltb-true (count_by (to u) s.references) n e)))
       (cases_lt 0 (count_by (same_name u) v.registers))
+  doomed-not_above i _ m b e = false≢true e
 
   -- what is black is not doomed
   black-not_doomed : (x : Name) → BlackIn v s x → Among x ds → ⊥
@@ -105,8 +101,7 @@ module _ (made : ℕ) (v : View) (s : Snapshot) (ds : List Name) (sound : IsSoun
           (λ p. doomed.unbuffered (native i.0) b (has-among same_name same_name-exact v.buffer (native i.0) p))
           (λ o. doomed-not_above i.0 state m b o)
           (or_cases (has same_name v.buffer (native i.0)) (is_above s (native i.0) state) e)
-      by_name (name.Script i) state m e b = doomed.unmarked (object i.0) b (has-among same_name same_name-exact v.black (object i.0) e)
-      by_name (name.Reflector i) state m e b = doomed.unmarked (reflector i.0) b (has-among same_name same_name-exact v.black (reflector i.0) e)
+      by_name x state m e b = doomed.unmarked x b (has-among same_name same_name-exact v.black x e)
 
       seed : (x : Name) → Among x (seeds v s) → Among x ds → ⊥
       seed x i =

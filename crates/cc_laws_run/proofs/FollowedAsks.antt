@@ -156,15 +156,14 @@ mutate-follows m c ds sound keeps d = mutate-cases m c (λ (u : Turn). IsDoomedN
 ask-follows : (m : Machine) (s : State) (ask : Ask) (ds : List Name) → IsRunning m s → KeepsReflectors ds → IsDoomedNow m ds →
     IsFollowed ds (first_units m ask).events (first_units m ask).progress (do_ask m ask).machine
 unfolding do_ask slice
-ask-follows m s long ds r keeps d = (refl, d)
-ask-follows m s bad ds r keeps d = (refl, d)
-ask-follows m s (taken Nothing) ds r keeps d = (refl, d)
-ask-follows m s (taken Census) ds r keeps d = (refl, d)
 ask-follows m s (taken (Slice u)) ds r keeps d = settled s.graph r.well_made ds (slice u m) (units-settle m s ds r d u)
 ask-follows m s (taken Collect) ds r keeps d = let t = ended m s ds r d in
     stopped s.graph r.well_made ds m (collect m).machine t (collect-spent s.graph r.well_made ds m t)
 ask-follows m s (taken Gc) ds r keeps d = gc-follows m s ds r d
+ask-follows m s (taken Nothing) ds r keeps d = (refl, d)
+ask-follows m s (taken Census) ds r keeps d = (refl, d)
 ask-follows m s (taken c) ds r keeps d = (refl, mutate-follows m c ds r.sound keeps d)
+ask-follows m s _ ds r keeps d = (refl, d)
 
 -- The ask that begins it
 
@@ -178,11 +177,10 @@ module _ (m : Machine) (s : State) (ds : List Name) (r : IsRunning m s) (none : 
   -- under an ask that begins a collection
   begin-follows : (ask : Ask) → begins_one ask ≡ true → IsFollowed ds (first_units m ask).events (first_units m ask).progress (do_ask m ask).machine
   unfolding do_ask slice
-  begin-follows (taken (Slice zero)) e = absurd (false≢true e)
   begin-follows (taken (Slice (suc n))) e = settled s.graph r.well_made ds (slice (suc n) m) (some-settle (suc n) (omega arith))
   begin-follows (taken Collect) e = let t = some-settle (enough_units m) (omega arith) in
       stopped s.graph r.well_made ds m (collect m).machine t (collect-spent s.graph r.well_made ds m t)
-  begin-follows ask e = absurd (false≢true e)
+  begin-follows _ e = absurd (false≢true e)
 
 -- an ask that begins a collection leaves a machine that runs
 pub begin-runs : (m : Machine) (s : State) (ask : Ask) → IsRunning m s → begins_one ask ≡ true → IsRunning (do_ask m ask).machine (next s ask (do_ask m ask).answer)

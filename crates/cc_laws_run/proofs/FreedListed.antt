@@ -24,8 +24,7 @@ use Rattle.cc_laws_heap.proofs.NameLists.{same_name-sym, is_not_among-from}
 -- the name that an event frees
 abbrev pub freed_name : Event → List Name
 freed_name (Freed x) = x ∷ []
-freed_name (Unlinked x) = []
-freed_name Abandoned = []
+freed_name _ = []
 
 -- the names that events free, in order
 abbrev pub freed_names : List Event → List Name

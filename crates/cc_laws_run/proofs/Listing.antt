@@ -152,12 +152,11 @@ pub has-listed : (names natives scripts : List Name) → AreListed names natives
 has-listed names natives scripts a x e = go (has same_name names x) refl (has same_name scripts x) refl
   where
     go : (b : Bool) → has same_name names x ≡ b → (c : Bool) → has same_name scripts x ≡ c → b ≡ c
-    go true f true g = refl
     go true f false g = absurd (true≢false
         (sym (has-there same_name same_name-exact scripts x (listed-script names natives scripts a x e (has-among same_name same_name-exact names x f))) ∙ g))
     go false f true g = absurd (true≢false
         (sym (has-there same_name same_name-exact names x (script-listed names natives scripts a x (has-among same_name same_name-exact scripts x g))) ∙ f))
-    go false f false g = refl
+    go _ f _ g = refl
 
 -- a census lists as many names as there are
 pub length-census_order : (names : List Name) → length (census_order names) ≡ length names

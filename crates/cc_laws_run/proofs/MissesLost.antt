@@ -50,13 +50,12 @@ module _ (h : Heap) where
 
   -- garbage is lost, or the reflector of a reached native
   garbage-cases : (x : Name) → Among x (garbage h) → Among x (lost h) ⊎ ((k : ℕ) × (x ≡ reflector k) × ReachedIn (view h) (native k))
-  garbage-cases (name.Native k) m = inl (Among-filter has_none_behind (native k.0) (garbage h) m refl)
-  garbage-cases (name.Script k) m = inl (Among-filter has_none_behind (object k.0) (garbage h) m refl)
   garbage-cases (name.Reflector k) m = ⊎_elim
       (λ r. inr (k.0, refl, r))
       (λ out. inl (Among-filter has_none_behind (reflector k.0) (garbage h) m
       (and_from (is_unreached (view h) (native k.0)) true (out-unreached h (native k.0) out) refl)))
       (reached_cases (view h) (native k.0))
+  garbage-cases x m = inl (Among-filter has_none_behind x (garbage h) m refl)
 
   -- A REFLECTOR IS LOST ONLY WITH ITS NATIVE.
   pub lost-keeps : IsSound [] h → KeepsReflectors (lost h)

@@ -174,9 +174,7 @@ hold_script-names h d x w = let s = SameNames-exposed h x w in NamesAfter-same h
 -- the reflector that a native gets, where it has none
 abbrev pub made_reflector : Heap → Option Name → List Name
 made_reflector h (Some (name.Native k)) = elim (has_reflector h k.0) [ true ↦ [] | false ↦ reflector k.0 ∷ [] ]
-made_reflector h (Some (name.Script k)) = []
-made_reflector h (Some (name.Reflector k)) = []
-made_reflector h None = []
+made_reflector h _ = []
 
 -- a native wrapped
 wrapped-names : (h : Heap) (d : ℕ) (x : Option Name) → IsWellFormed h →
@@ -241,8 +239,4 @@ effects-names h (Preserve q) s r t = NamesAfter-same h _ (SameNames-preserve h (
 effects-names h (SetEntry m k v) s r t = NamesAfter-same h _ (SameNames-set_entry h (register h (S m)) (register h (S k)) (source h (option_map S v)))
 effects-names h (GetEntry d m k) s r t = hold_script-names h d (value_at (objects_of h) (register h (S m)) (register h (S k))) s.well_formed
 effects-names h (Expose q i) s r t = NamesAfter-same h _ (SameNames-exposed h (slot_at (objects_of h) (N q) i) s.well_formed)
-effects-names h Nothing s r t = NamesAfter-same h h (SameNames-refl h)
-effects-names h (Slice u) s r t = NamesAfter-same h h (SameNames-refl h)
-effects-names h Collect s r t = NamesAfter-same h h (SameNames-refl h)
-effects-names h Gc s r t = NamesAfter-same h h (SameNames-refl h)
-effects-names h Census s r t = NamesAfter-same h h (SameNames-refl h)
+effects-names h _ s r t = NamesAfter-same h h (SameNames-refl h)

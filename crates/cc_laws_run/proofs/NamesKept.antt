@@ -59,10 +59,8 @@ SameNames-set_slot h (Some (name.Reflector k)) i y = SameNames-change_script h (
 
 -- a reflector preserved
 pub SameNames-preserve : (h : Heap) (x : Option Name) → SameNames h (preserve h x)
-SameNames-preserve h None = SameNames-refl h
-SameNames-preserve h (Some (name.Native k)) = SameNames-refl h
-SameNames-preserve h (Some (name.Script k)) = SameNames-refl h
 SameNames-preserve h (Some (name.Reflector k)) = SameNames-change_native h k.0 (λ n. record n { preserved = true }) (λ n. refl)
+SameNames-preserve h _ = SameNames-refl h
 
 -- a reflector preserved, and a slot of a script object written
 pub SameNames-put_in_script : (h : Heap) (x : Option Name) (i : ℕ) (y : Option Name) → SameNames h (put_in_script h x i y)
@@ -70,10 +68,9 @@ SameNames-put_in_script h x i y = SameNames-trans h (preserve h x) (put_in_scrip
 
 -- an entry set or taken out
 pub SameNames-set_entry : (h : Heap) (m k v : Option Name) → SameNames h (set_entry h m k v)
-SameNames-set_entry h None k v = SameNames-refl h
-SameNames-set_entry h (Some m) None v = SameNames-refl h
 SameNames-set_entry h (Some m) (Some k) None = record { natives = refl; scripts = refl }
 SameNames-set_entry h (Some m) (Some k) (Some v) = let p = SameNames-preserve h (Some k) in record { natives = p.natives; scripts = p.scripts }
+SameNames-set_entry h _ _ v = SameNames-refl h
 
 -- an exposure changes script objects alone
 native_names-exposed : (h : Heap) (x : Option Name) → native_names (exposed h x) ≡ native_names h

@@ -118,24 +118,20 @@ one-in_range {A} P f first p i (t ∷ u ∷ tokens) = tt
 two-in_range : {A B : Type 0} (P : A → Type 0) (Q : B → Type 0) (f : A → B → Command) (first : List ℕ → Option A) (second : List ℕ → Option B) →
     ((t : List ℕ) → Has P (first t)) → ((t : List ℕ) → Has Q (second t)) →
     ((a : A) (b : B) → P a → Q b → InRange (f a b)) → ReadsInRange (of_two f first second)
-two-in_range {A} {B} P Q f first second p q i [] = tt
-two-in_range {A} {B} P Q f first second p q i (t ∷ []) = tt
 two-in_range {A} {B} P Q f first second p q i (t ∷ u ∷ []) = both-in_range (first t) (p t) (second u) (q u)
   where
     both-in_range : (x : Option A) → Has P x → (y : Option B) → Has Q y → Has InRange (both f x y)
     both-in_range None h y k = tt
     both-in_range (Some a) h None k = tt
     both-in_range (Some a) h (Some b) k = i a b h k
-two-in_range {A} {B} P Q f first second p q i (t ∷ u ∷ v ∷ tokens) = tt
+
+two-in_range {A} {B} P Q f first second p q i _ = tt
 
 -- a form of three
 three-in_range : {A B C : Type 0} (P : A → Type 0) (Q : B → Type 0) (R : C → Type 0) (f : A → B → C → Command)
     (first : List ℕ → Option A) (second : List ℕ → Option B) (third : List ℕ → Option C) →
     ((t : List ℕ) → Has P (first t)) → ((t : List ℕ) → Has Q (second t)) → ((t : List ℕ) → Has R (third t)) →
     ((a : A) (b : B) (c : C) → P a → Q b → R c → InRange (f a b c)) → ReadsInRange (of_three f first second third)
-three-in_range {A} {B} {C} P Q R f first second third p q r i [] = tt
-three-in_range {A} {B} {C} P Q R f first second third p q r i (t ∷ []) = tt
-three-in_range {A} {B} {C} P Q R f first second third p q r i (t ∷ u ∷ []) = tt
 three-in_range {A} {B} {C} P Q R f first second third p q r i (t ∷ u ∷ v ∷ []) = go (first t) (p t) (second u) (q u) (third v) (r v)
   where
     go : (x : Option A) → Has P x → (y : Option B) → Has Q y → (z : Option C) → Has R z → Has InRange (all_three f x y z)
@@ -143,7 +139,8 @@ three-in_range {A} {B} {C} P Q R f first second third p q r i (t ∷ u ∷ v ∷
     go (Some a) h None k z l = tt
     go (Some a) h (Some b) k None l = tt
     go (Some a) h (Some b) k (Some c) l = i a b c h k l
-three-in_range {A} {B} {C} P Q R f first second third p q r i (t ∷ u ∷ v ∷ w ∷ tokens) = tt
+
+three-in_range {A} {B} {C} P Q R f first second third p q r i _ = tt
 
 -- a register in range
 abbrev IsRegister : ℕ → Type 0

@@ -153,11 +153,10 @@ step-census g = go (refusal_of (graph.objects_of g) Census)
 pub ask-runs : (m : Machine) (s : State) (ask : Ask) → IsRunning m s → IsTrue (ask_in_range ask) → IsTrue (moves_no_collection ask) →
     IsRunning (do_ask m ask).machine (next s ask (do_ask m ask).answer)
 unfolding do_ask
-ask-runs m s long r i t = r
-ask-runs m s bad r i t = r
-ask-runs m s (taken Nothing) r i t = r
 ask-runs m s (taken Census) r i t = subst (λ g. IsRunning m (record s { graph = g })) (sym (step-census s.graph)) r
 ask-runs m s (taken (Slice u)) r i t = absurd (false≢true t)
 ask-runs m s (taken Collect) r i t = absurd (false≢true t)
 ask-runs m s (taken Gc) r i t = absurd (false≢true t)
+ask-runs m s (taken Nothing) r i t = r
 ask-runs m s (taken c) r i t = mutate-runs m s c r i
+ask-runs m s _ r i t = r

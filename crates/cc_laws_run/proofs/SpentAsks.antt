@@ -84,16 +84,15 @@ mutate-spends m c ds sound i keeps d = mutate-cases m c (λ (u : Turn). IsSpent 
 pub ask-spends : (m : Machine) (s : State) (ask : Ask) (ds : List Name) → IsRunning m s → IsTrue (ask_in_range ask) → KeepsReflectors ds →
     IsSpent m.heap ds → IsSpent (do_ask m ask).machine.heap ds
 unfolding do_ask
-ask-spends m s long ds r i keeps d = d
-ask-spends m s bad ds r i keeps d = d
-ask-spends m s (taken Nothing) ds r i keeps d = d
-ask-spends m s (taken Census) ds r i keeps d = d
 ask-spends m s (taken (Slice u)) ds r i keeps d = spent-on s.graph ds (slice u m)
     (slice-holds s.graph r.well_made (Spending ds) (each-spends s.graph ds) u m (spending-on m s ds r d))
 ask-spends m s (taken Collect) ds r i keeps d = spent-on s.graph ds (collect m)
     (collect-holds s.graph r.well_made (Spending ds) (each-spends s.graph ds) m (spending-on m s ds r d))
 ask-spends m s (taken Gc) ds r i keeps d = gc-spends m s ds r d
+ask-spends m s (taken Nothing) ds r i keeps d = d
+ask-spends m s (taken Census) ds r i keeps d = d
 ask-spends m s (taken c) ds r i keeps d = mutate-spends m c ds r.sound i keeps d
+ask-spends m s _ ds r i keeps d = d
 
 -- so after any asks in a row
 pub asks-spend : (m : Machine) (s : State) (asks : List Ask) (ds : List Name) → IsRunning m s → IsTrue (list_all ask_in_range asks) →

@@ -51,13 +51,11 @@ unlinked-told es k m = let f = Among-flat_map_cases unlinked_in es k m in by_eve
   where
     by_name : (x : Name) → Among k (natives_in x) → x ≡ native k
     by_name (name.Native j) n = ⊎_elim (λ e. ap native e) (λ a. absurd a) n
-    by_name (name.Script j) n = absurd n
-    by_name (name.Reflector j) n = absurd n
+    by_name _ n = absurd n
 
     by_event : (e : Event) → Among e es → Among k (unlinked_in e) → Among (Unlinked (native k)) es
     by_event (Unlinked x) i n = subst (λ y. Among (Unlinked y) es) (by_name x n) i
-    by_event (Freed x) i n = absurd n
-    by_event Abandoned i n = absurd n
+    by_event _ i n = absurd n
 
 -- the end of a collection unlinks each native that it dooms
 end-unlinks : (h : Heap) (s : Snapshot) (ds : List Name) → IsSound [] h → IsFresh h.natives_made (view h) s → IsTraversed s →

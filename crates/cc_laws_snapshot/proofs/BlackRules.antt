@@ -29,10 +29,8 @@ module _ (v : View) (s : Snapshot) where
 
   -- more references are sampled than noted: there was a count, and it is greater
   above-sampled : (x : Name) (state : NodeState) → is_above s x state ≡ true → (n : ℕ) × (state ≡ traversed (Some n)) × (noted_to s x < n)
-  above-sampled x untraversed e = absurd (cc)
-  above-sampled x gone e = absurd (cc)
-  above-sampled x (traversed None) e = absurd (cc)
   above-sampled x (traversed (Some n)) e = (n, refl, ltb-true (noted_to s x) n e)
+  above-sampled x _ e = absurd (cc)
 
   -- a node that is black by itself is black by one of the first three rules
   seed-by : (x : Name) (state : NodeState) → Among (node x state) s.nodes → is_seed v s (node x state) ≡ true → IsBlackByRules v s x
@@ -41,10 +39,8 @@ module _ (v : View) (s : Snapshot) where
       (λ a. let f = above-sampled (native k.0) state a in
       held_from_elsewhere k.0 f.0 (subst (λ t. Among (node (native k.0) t) s.nodes) f.1 m) f.2)
       (or_cases (has same_name v.buffer (native k.0)) (is_above s (native k.0) state) e)
-  seed-by (name.Script k) state m e = black_now (object k.0) (Among-map (λ (n : Node). n.name) (node (object k.0) state) s.nodes m) refl
-      (has-among same_name same_name-exact v.black (object k.0) e)
-  seed-by (name.Reflector k) state m e = black_now (reflector k.0) (Among-map (λ (n : Node). n.name) (node (reflector k.0) state) s.nodes m) refl
-      (has-among same_name same_name-exact v.black (reflector k.0) e)
+  seed-by x state m e = black_now x (Among-map (λ (n : Node). n.name) (node x state) s.nodes m) refl
+      (has-among same_name same_name-exact v.black x e)
 
   -- what is black is black by the rules
   pub black-by_rules : (x : Name) → BlackIn v s x → IsBlackByRules v s x
@@ -80,8 +76,7 @@ module _ (v : View) (s : Snapshot) where
   -- the test of a script node
   script-seed : (x : Name) (state : NodeState) → is_script x ≡ true → Among x v.black → is_seed v s (node x state) ≡ true
   script-seed (name.Native k) state e b = absurd (cc)
-  script-seed (name.Script k) state e b = has-there same_name same_name-exact v.black (object k.0) b
-  script-seed (name.Reflector k) state e b = has-there same_name same_name-exact v.black (reflector k.0) b
+  script-seed x state e b = has-there same_name same_name-exact v.black x b
 
   -- what is black by the rules is black
   pub by_rules-black : (x : Name) → IsBlackByRules v s x → BlackIn v s x

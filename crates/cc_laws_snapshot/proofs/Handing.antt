@@ -93,7 +93,6 @@ LetsGo-nothing y g none = record { loses = loses-same (view g); given = λ i m. 
 
 -- so it is for all that a register or slot may have held, whatever else is owned
 pub let_go-loses : (owned : List ℕ) (y : Option Name) (g : Heap) → IsSound (numbers_of y ++ owned) g → LetsGo y g (let_go g y).heap
-let_go-loses owned None g s = LetsGo-nothing None g (λ i m. m)
 let_go-loses owned (Some (name.Native k)) g s =
     let c = cascade-loses owned g k.0 s in
     record {
@@ -101,8 +100,7 @@ let_go-loses owned (Some (name.Native k)) g s =
       given = λ i m. ⊎_elim (λ e. subst (PurpleOrGone (view (let_go g (Some (name.Native k))).heap)) e c.1) (λ b. absurd b) m;
       reached = cascade-reached owned g k.0 s;
     }
-let_go-loses owned (Some (name.Script k)) g s = LetsGo-nothing (Some (name.Script k)) g (λ i m. m)
-let_go-loses owned (Some (name.Reflector k)) g s = LetsGo-nothing (Some (name.Reflector k)) g (λ i m. m)
+let_go-loses owned x g s = LetsGo-nothing x g (λ i m. m)
 
 -- Both parts
 

@@ -168,15 +168,14 @@ exposed-suspected h candidates x w = still-suspected h (exposed h x) candidates 
 -- A native that is reached is wrapped.
 pub wrapped-suspected : (h : Heap) (candidates : List ℕ) (x : Option Name) → IsWellFormed h → IsReachedNative (view (wrapped h x)) x →
     IsSuspectedIn h candidates → IsSuspectedIn (wrapped h x) candidates
-wrapped-suspected h candidates None w r s = s
-wrapped-suspected h candidates (Some (name.Script k)) w r s = s
-wrapped-suspected h candidates (Some (name.Reflector k)) w r s = s
 wrapped-suspected h candidates (Some (name.Native k)) w r s = go (has_reflector h k.0) (r k.0 (inl refl))
   where
     go : (b : Bool) → ReachedIn (view (elim b [ true ↦ exposed h (Some (reflector k.0)) | false ↦ with_reflector h k.0 ])) (native k.0) →
         IsSuspectedIn (elim b [ true ↦ exposed h (Some (reflector k.0)) | false ↦ with_reflector h k.0 ]) candidates
     go true q = exposed-suspected h candidates (Some (reflector k.0)) w s
     go false q = reflector_made-suspected h candidates k.0 w q s
+
+wrapped-suspected h candidates _ w r s = s
 
 -- Slots of script objects, flags and entries
 
@@ -196,10 +195,9 @@ flag_written-suspected h candidates k on w = still-suspected h (set_preserved h 
 
 -- an entry written leaves script objects
 set_entry-scripts : (h : Heap) (m k : Name) (v : Option Name) → HasScriptNames h → HasScriptNames (set_entry h (Some m) (Some k) v)
-set_entry-scripts h m k None all = all
-set_entry-scripts h m (name.Native k) (Some v) all = all
-set_entry-scripts h m (name.Script k) (Some v) all = all
 set_entry-scripts h m (name.Reflector k) (Some v) all = all
+set_entry-scripts h m k None all = all
+set_entry-scripts h m k (Some v) all = all
 
 -- An entry is written.
 pub entry_written-suspected : (h : Heap) (candidates : List ℕ) (m k : Name) (v : Option Name) → IsWellFormed h →

@@ -124,16 +124,14 @@ module _ (v w : View) (candidates : List ℕ) (before : IsNamed v) (values : Has
   -- along an edge from what is fine
   along-fine : (x y : Name) → Among (x, y) v.edges → Fine x → Fine y
   along-fine x (name.Native i) e f = ⊎_elim (λ kept. along-kept x (native i.0) kept f) (lost_or_reached-fine i.0) (loyal.edge x i.0 e)
-  along-fine x (name.Script i) e f = script-fine (object i.0) refl
-  along-fine x (name.Reflector i) e f = script-fine (reflector i.0) refl
+  along-fine x y e f = script-fine y refl
 
   -- what the registers hold is fine
   register-fine : (x : Name) → Among x v.registers → Fine x
   register-fine (name.Native i) m = ⊎_elim
       (λ kept. inl (derive-root w.registers w.edges (joints w.entries) (native i.0) kept))
       (lost_or_reached-fine i.0) (loyal.register i.0 m)
-  register-fine (name.Script i) m = script-fine (object i.0) refl
-  register-fine (name.Reflector i) m = script-fine (reflector i.0) refl
+  register-fine x m = script-fine x refl
 
   -- the values of entries are fine
   value-fine : (ps : List Name) (y : Name) → Among (ps, y) (joints v.entries) → Fine y
@@ -149,8 +147,7 @@ module _ (v w : View) (candidates : List ℕ) (before : IsNamed v) (values : Has
   -- what was purple is fine
   purple-fine : (x : Name) → Among x v.purple → Fine x
   purple-fine (name.Native i) m = lost_or_reached-fine i.0 (loyal.purple i.0 m)
-  purple-fine (name.Script i) m = script-fine (object i.0) refl
-  purple-fine (name.Reflector i) m = script-fine (reflector i.0) refl
+  purple-fine x m = script-fine x refl
 
   -- what was covered is fine
   covered-fine : (x : Name) → IsCovered v x → Fine x
@@ -169,8 +166,7 @@ module _ (v w : View) (candidates : List ℕ) (before : IsNamed v) (values : Has
   from-along x (name.Native i) e c = ⊎_elim
       (λ kept. inl (derive-along (map native candidates) w.edges [] x (native i.0) kept c))
       (λ l. inr (lost_or_reached-fine i.0 l)) (loyal.edge x i.0 e)
-  from-along x (name.Script i) e c = inr (script-fine (object i.0) refl)
-  from-along x (name.Reflector i) e c = inr (script-fine (reflector i.0) refl)
+  from-along x y e c = inr (script-fine y refl)
 
   -- what was reached from a candidate is so afterwards, or fine
   candidate-fine : (x : Name) → IsFromCandidate v candidates x → FromOrFine x

@@ -145,10 +145,9 @@ flag_written-fresh h s k on pale = fresh-by h.natives_made h.natives_made (view 
 
 -- an entry written keeps the colours
 entry-colours : (h : Heap) (m k : Name) (v : Option Name) → KeepsColours (view h) (view (set_entry h (Some m) (Some k) v))
-entry-colours h m k None = record { black = λ x i. i; white = refl; held = λ x i j. inl i }
-entry-colours h m (name.Native k) (Some v) = record { black = λ x i. i; white = refl; held = λ x i j. inl i }
-entry-colours h m (name.Script k) (Some v) = record { black = λ x i. i; white = refl; held = λ x i j. inl i }
 entry-colours h m (name.Reflector k) (Some v) = record { black = λ x i. i; white = refl; held = λ x i j. inl i }
+entry-colours h m k None = record { black = λ x i. i; white = refl; held = λ x i j. inl i }
+entry-colours h m k (Some v) = record { black = λ x i. i; white = refl; held = λ x i j. inl i }
 
 -- An entry is written.
 pub entry_written-fresh : (h : Heap) (s : Snapshot) (m k : Name) (v : Option Name) → ¬ (Among k (view h).gray) → IsNotGrayIn (view h) v →

@@ -14,8 +14,7 @@ name_cases x y = ⊎_elim (λ e. inl (same_name-true x y e)) (λ e. inr (λ k. t
 -- a script object is no native
 pub native-no_script : (x : Name) → is_native x ≡ true → is_script x ≡ true → ⊥
 native-no_script (name.Native i) e f = false≢true f
-native-no_script (name.Script i) e f = false≢true e
-native-no_script (name.Reflector i) e f = false≢true e
+native-no_script _ e f = false≢true e
 
 -- two names as a pair
 abbrev pair_of : Name → Name → Name × Name

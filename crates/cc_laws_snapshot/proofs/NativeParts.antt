@@ -51,10 +51,8 @@ add_ref-gentle h k = AreGentleBut-one [] h k raise_native (with_mark false k h.b
 
 -- So is a reference to what a register or a slot is to hold.
 pub take_up-gentle : (h : Heap) (x : Option Name) → AreGentle h (take_up h x)
-take_up-gentle h None = AreGentle-refl h
 take_up-gentle h (Some (name.Native k)) = add_ref-gentle h k.0
-take_up-gentle h (Some (name.Script k)) = AreGentle-refl h
-take_up-gentle h (Some (name.Reflector k)) = AreGentle-refl h
+take_up-gentle h _ = AreGentle-refl h
 
 -- the natives among what is to be held are in the buffer
 abbrev pub AreTaken : Heap → Option Name → Type 0
@@ -65,8 +63,7 @@ pub take_up-taken : (h : Heap) (x : Option Name) → AreTaken (take_up h x) x
 take_up-taken h None k m = absurd m
 take_up-taken h (Some (name.Native i)) k m = ⊎_elim
     (λ e. subst (λ y. Among y (names_in (with_mark false i.0 h.buffer))) e (with_mark-there false i.0 h.buffer)) (λ t. absurd t) m
-take_up-taken h (Some (name.Script i)) k m = ⊎_elim (λ e. absurd (cc)) (λ t. absurd t) m
-take_up-taken h (Some (name.Reflector i)) k m = ⊎_elim (λ e. absurd (cc)) (λ t. absurd t) m
+take_up-taken h _ k m = ⊎_elim (λ e. absurd (cc)) (λ t. absurd t) m
 
 -- Slots of natives
 
@@ -193,10 +190,8 @@ flag-gentle h k on pale = AreGentleBut-one [] h k flagged h.buffer (record {
 
 -- So is a reflector preserved, where it is one and not gray.
 pub preserve-gentle : (h : Heap) (x : Option Name) → IsNotGray h x → AreGentle h (preserve h x)
-preserve-gentle h None pale = AreGentle-refl h
-preserve-gentle h (Some (name.Native k)) pale = AreGentle-refl h
-preserve-gentle h (Some (name.Script k)) pale = AreGentle-refl h
 preserve-gentle h (Some (name.Reflector k)) pale = flag-gentle h k.0 true (λ e. pale (reflector k.0) (inl refl))
+preserve-gentle h _ pale = AreGentle-refl h
 
 -- Natives made
 

@@ -104,18 +104,15 @@ Still-flag h k on = record {
 
 -- a reflector preserved
 pub Still-preserve : (h : Heap) (x : Option Name) → Still h (preserve h x)
-Still-preserve h None = Still-refl h
-Still-preserve h (Some (name.Native k)) = Still-refl h
-Still-preserve h (Some (name.Script k)) = Still-refl h
 Still-preserve h (Some (name.Reflector k)) = Still-flag h k.0 true
+Still-preserve h _ = Still-refl h
 
 -- an entry set or taken out
 pub Still-set_entry : (h : Heap) (m k v : Option Name) → Still h (set_entry h m k v)
-Still-set_entry h None k v = Still-refl h
-Still-set_entry h (Some m) None v = Still-refl h
 Still-set_entry h (Some m) (Some k) None = Still-entries h (without_entry h.entries m k)
 Still-set_entry h (Some m) (Some k) (Some v) = Still-trans h (preserve h (Some k)) (set_entry h (Some m) (Some k) (Some v))
     (Still-preserve h (Some k)) (Still-entries (preserve h (Some k)) (with_entry h.entries m k v))
+Still-set_entry h _ _ v = Still-refl h
 
 -- a slot of what a script register holds, which is no native, written
 pub Still-put_in_script : (h : Heap) (x : Option Name) (i : ℕ) (y : Option Name) → ((k : ℕ) → ¬ (Among (native k) (option_to_list x))) →

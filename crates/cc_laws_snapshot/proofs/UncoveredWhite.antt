@@ -55,8 +55,7 @@ module _ (made : ℕ) (v : View) (s : Snapshot) (sound : IsSoundView made v) (fr
     where
       go : (x : Name) → Among (x, u) v.edges → ¬ (ReachedIn v x) → ¬ (IsCovered v x) → IsBare x
       go (name.Native i) e out bare = let l = sound.source_lives i.0 u e in record { count = l.0; lives = l.1; out = out; bare = bare }
-      go (name.Script i) e out bare = absurd (bare (script-covered (object i.0) (source_there (object i.0) u refl e) out))
-      go (name.Reflector i) e out bare = absurd (bare (script-covered (reflector i.0) (source_there (reflector i.0) u refl e) out))
+      go x e out bare = absurd (bare (script-covered x (source_there x u refl e) out))
 
   -- a node's references to it were noted
   bare-noted : (x u : Name) → Among (x, u) v.edges → IsBare u → IsNode s x → count_by (between x u) s.references ≡ count_by (between x u) v.edges
@@ -86,9 +85,6 @@ module _ (made : ℕ) (v : View) (s : Snapshot) (sound : IsSoundView made v) (fr
 
   -- so it has no more references than were noted
   bare-not_above : (i : ℕ) (state : NodeState) → Among (node (native i) state) s.nodes → IsBare (native i) → is_above s (native i) state ≡ true → ⊥
-  bare-not_above i untraversed m b e = false≢true e
-  bare-not_above i gone m b e = false≢true e
-  bare-not_above i (traversed None) m b e = false≢true e
   bare-not_above i (traversed (Some n)) m b e =
       let u : Name = native i in
       let same : Some n ≡ Some b.count = fresh.sampled u b.count (Some n) (b.lives, (bare-far u b).0) m in
@@ -100,6 +96,7 @@ module _ (made : ℕ) (v : View) (s : Snapshot) (sound : IsSoundView made v) (fr
       b.out (derive-root v.registers v.edges (joints v.entries) u (subst (λ x. Among x v.registers) (sym (same_name-true u c.0 c.2)) c.1)))
       (λ none. absurd (omega (arith, counted, counts, bare-all u b, ltb-true (count_by (to u) s.references) n e)))
       (cases_lt 0 (count_by (same_name u) v.registers))
+  bare-not_above i _ m b e = false≢true e
 
   -- no script object is a native
   script-not_bare : (y : Name) → is_script y ≡ true → IsBare y → ⊥
@@ -121,8 +118,7 @@ module _ (made : ℕ) (v : View) (s : Snapshot) (sound : IsSoundView made v) (fr
       by_name : (x : Name) (state : NodeState) → Among (node x state) s.nodes → is_seed v s (node x state) ≡ true → IsBare x → ⊥
       by_name (name.Native i) state m e b = ⊎_elim (λ p. (bare-far (native i.0) b).0 (has-among same_name same_name-exact v.buffer (native i.0) p)) (λ o. bare-not_above i.0 state m b o)
           (or_cases (has same_name v.buffer (native i.0)) (is_above s (native i.0) state) e)
-      by_name (name.Script i) state m e b = script-not_bare (object i.0) refl b
-      by_name (name.Reflector i) state m e b = script-not_bare (reflector i.0) refl b
+      by_name x state m e b = script-not_bare x refl b
 
       seed : (x : Name) → Among x (seeds v s) → IsBare x → ⊥
       seed x i =
