@@ -15,7 +15,7 @@ use Rattle.cc_model.specs.WellMade.{IsWellMade}
 use Rattle.cc_model.specs.StandsFor.{StandsFor}
 use Rattle.cc_model.specs.End.{Progress, went_on, at_end, refused}
 use Rattle.cc_model.specs.Collecting.{Machine, UnitsDone, slice, collect, gc, reply_to_units}
-use Rattle.cc_model.specs.Listed.{census_order, after_events}
+use Rattle.cc_model.specs.Listed.{census_order, after_events, listed}
 use Rattle.cc_model.specs.Run.{do_ask}
 use Rattle.cc_model.specs.Lawful.{State, AnswersAsk, next, AnswersCommand, RepliesWith, EachMayBe, graph_after, may_want_memory, is_refused, is_abandoning, is_without_memory, is_gc, runs_units, runs, runs_allowed, unlinked_numbers, has_none, ends_with_one, has_abandonment_in_place, begins_with_at_most_one}
 use Rattle.cc_laws_run.specs.Running.{IsRunning}
@@ -69,21 +69,18 @@ in_place units without gc es = elim (units && without) [
 module _ (s : State) (c : Command) (t : MovesUnits s c) where
   -- the graph stays as it is
   graph-left : (p : Progress) → graph_after s.graph c (Some (reply_to_units p)) ≡ s.graph
-  graph-left went_on = t.left
-  graph-left at_end = t.left
   graph-left refused = refl
+  graph-left _ = t.left
 
   -- it is done, or refused memory
   replies : (p : Progress) → RepliesWith s c (reply_to_units p)
-  replies went_on = inl t.reply
-  replies at_end = inl t.reply
   replies refused = inr (record { refused = refl; command_may = t.may; no_other = t.taken })
+  replies _ = inl t.reply
 
   -- where it is refused, it is want of memory
   never-quiet : (p : Progress) → (is_refused (reply_to_units p) && not (is_abandoning c (reply_to_units p))) ≡ false
-  never-quiet went_on = refl
-  never-quiet at_end = refl
   never-quiet refused = ap (λ b. not (b && true)) t.units
+  never-quiet _ = refl
 
   -- an abandonment is in place
   is-placed : (p : Progress) (es : List Event) → IsPlaced p es → has_abandonment_in_place c (reply_to_units p) es ≡ true
@@ -93,8 +90,7 @@ module _ (s : State) (c : Command) (t : MovesUnits s c) where
     where
       go : (q : Progress) → IsPlaced q es → in_place true (is_without_memory (reply_to_units q)) false es ≡ true
       go went_on i = i
-      go at_end i = i
-      go refused i = i
+      go _ i = i
 
   -- ALL FIVE CLAUSES
   row-answers : (d : UnitsDone) → IsLawfulRow s.graph s.listed c (runs_allowed c) d → AnswersCommand s c (reply_to_units d.progress) d.events

@@ -17,7 +17,7 @@ use Rattle.cc_model.specs.WellFormed.{names_there}
 use Rattle.cc_model.specs.Heap.{Heap}
 use Rattle.cc_model.specs.View.{view}
 use Rattle.cc_model.specs.Units.{begun, with_empty_buffer}
-use Rattle.cc_model.specs.End.{Progress, went_on, at_end, refused}
+use Rattle.cc_model.specs.End.{Progress, went_on, at_end, refused, abandoned}
 use Rattle.cc_model.specs.Lawful.{State, next}
 use Rattle.cc_model.specs.Collecting.{Machine, UnitsDone, no_units, one_unit, units_done, enough_units, to_the_end, finish_running, slice, starting_anew, unless_stopped, collect, gc}
 use Rattle.cc_model.specs.Run.{Turn, mutate, do_ask, machine_after}
@@ -33,15 +33,15 @@ use Rattle.cc_laws_run.proofs.TouchedCommands.{doomed-effects}
 use Rattle.cc_laws_run.proofs.DoomedBegin.{collected-doomed}
 use Rattle.cc_laws_run.proofs.CollectionsLawful.{running-on, slice-runs, collect-runs, gc-runs}
 use Rattle.cc_laws_run.proofs.PlainLawful.{any-runs}
-use Rattle.cc_laws_run.proofs.QuietUnits.{IsGoing, gc-collects}
+use Rattle.cc_laws_run.proofs.QuietUnits.{IsGoing, gc-collects, running-going}
 use Rattle.cc_laws_run.proofs.MissesLost.{lost-doomed}
 use Rattle.cc_laws_run.proofs.Unabandoned.{TellsNone, none-abandoned}
 use Rattle.cc_laws_run.proofs.SpentViews.{spent-from}
 use Rattle.cc_laws_run.proofs.SpentGone.{collected-gone}
-use Rattle.cc_laws_run.proofs.HoldingUnits.{HoldsOn, units_done-holds}
+use Rattle.cc_laws_run.proofs.HoldingUnits.{HoldsOn, units_done-holds, unless_stopped-cases}
 use Rattle.cc_laws_run.proofs.SpentUnits.{Settles, Spending, each-spends, SettlesOn, units_done-settle, first-settles}
 use Rattle.cc_laws_run.proofs.SpentAsks.{collected-spent, spent-on, asks-spend, gc-gone}
-use Rattle.cc_laws_run.proofs.FirstCollection.{finish-some, collect-first, progress_then, then_later-progress, first_collection-append}
+use Rattle.cc_laws_run.proofs.FirstCollection.{finish-some, progress_then, then_later-progress, first_collection-append, collect-cases}
 
 -- what becomes of names by what a collection told and came to, and by the machine after the asks
 abbrev pub IsFollowed : List Name → List Event → Progress → Machine → Type 0
@@ -83,26 +83,13 @@ module _ (g : Graph) (well : IsWellMade g) (ds : List Name) where
 
   -- `collect` leaves it spent, though it begin a second collection
   collect-spent : (m : Machine) → SettlesOn g ds (to_the_end (no_units m)) → (to_the_end (no_units m)).progress ≡ at_end → IsSpent (collect m).machine.heap ds
-  collect-spent m t e = go (collect-first m)
-    where
-      d : UnitsDone
-      d = to_the_end (no_units m)
-
-      stopped_by : Progress → UnitsDone
-      stopped_by refused = d
-      stopped_by went_on = to_the_end (starting_anew d)
-      stopped_by at_end = to_the_end (starting_anew d)
-
-      first : HoldsOn g (Spending ds) (starting_anew d)
-      first = spent-at_end d t e
-
-      second : HoldsOn g (Spending ds) (to_the_end (starting_anew d))
-      second = units_done-holds g well (Spending ds) (each-spends g ds) (enough_units d.machine) (starting_anew d) first
-
-      go : (collect m ≡ d) ⊎ (collect m ≡ unless_stopped d) → IsSpent (collect m).machine.heap ds
-      go (inl same) = subst (λ (u : UnitsDone). IsSpent u.machine.heap ds) (sym same) (spent-on g ds (starting_anew d) first)
-      go (inr same) = subst (λ (u : UnitsDone). IsSpent u.machine.heap ds) (sym same)
-          (subst (λ p. IsSpent (stopped_by p).machine.heap ds) (sym e) (spent-on g ds (to_the_end (starting_anew d)) second))
+  collect-spent m t e =
+      let d : UnitsDone = to_the_end (no_units m) in
+      let first : HoldsOn g (Spending ds) (starting_anew d) = spent-at_end d t e in
+      collect-cases m (λ u. IsSpent u.machine.heap ds) (spent-on g ds (starting_anew d) first)
+      (unless_stopped-cases d (λ u. IsSpent u.machine.heap ds) (λ r. spent-on g ds (starting_anew d) first)
+      (λ r. spent-on g ds (to_the_end (starting_anew d))
+      (units_done-holds g well (Spending ds) (each-spends g ds) (enough_units d.machine) (starting_anew d) first)))
 
 -- One ask
 
@@ -299,9 +286,7 @@ pub after_gc-follows : (m : Machine) (s : State) (ask : Ask) (asks : List Ask) �
     IsFollowed (lost (gc m).machine.heap) c.events c.progress (machine_after (gc m).machine (ask ∷ asks))
 after_gc-follows m s ask asks r suspected e range keeps =
     let a : Machine = (gc m).machine in
-    let going : IsGoing m.heap m.snapshot went_on =
-    record { sound = r.sound; colours = r.colours; fresh = r.fresh; suspected = suspected; stopped = λ d. absurd (d refl) } in
-    let f = gc-collects m going in
+    let f = gc-collects m (running-going m s r suspected) in
     let all : IsDoomed (view (with_empty_buffer a.heap)) (begun a.heap) (garbage a.heap) =
     subst (λ (h : Heap). IsDoomed (view (with_empty_buffer h)) (begun h) (garbage h)) (sym f.3) (collected-doomed f.0 f.1 f.2) in
     let t = after_gc-runs m s r in

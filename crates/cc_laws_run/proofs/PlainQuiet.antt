@@ -71,10 +71,8 @@ gc-row row m s r suspected t = go row t
         (λ x. row-quiet c.before x c.runs.sound c.runs.colours c.runs.fresh c.suspected c.done)
 
     go : (row : Row) → InRow row m → InRow (row_after_gc row) (gc m).machine
-    go nothing_yet t = now
-    go after_gc t = now
     go after_collect t = (now, exact t)
-    go after_all t = now
+    go _ t = now
 
 -- a collection that is done takes the row on, too
 collect-row : (row : Row) (m : Machine) → InRow row m → InRow (row_after_collect row (Some (reply_to_units (collect m).progress))) (collect m).machine
@@ -92,15 +90,13 @@ collect-row row m t = go row t
 
     by_progress : IsAfterGc m → (p : Progress) → (collect m).progress ≡ p →
         InRow (elim (is_done (Some (reply_to_units p))) [ true ↦ after_collect | false ↦ nothing_yet ]) (collect m).machine
-    by_progress a went_on e = done a (λ f. absurd (cc))
-    by_progress a at_end e = done a (λ f. absurd (cc))
     by_progress a refused e = tt
+    by_progress a _ e = done a (λ f. absurd (cc))
 
     go : (row : Row) → InRow row m → InRow (row_after_collect row (Some (reply_to_units (collect m).progress))) (collect m).machine
-    go nothing_yet t = tt
     go after_gc t = by_progress t (collect m).progress refl
-    go after_collect t = tt
     go after_all t = by_progress t.0 (collect m).progress refl
+    go _ t = tt
 
 -- each ask leaves the row as it says
 ask-row : (row : Row) (m : Machine) (s : State) (ask : Ask) → IsRunning m s → IsSuspectedNow m → InRow row m →

@@ -121,9 +121,8 @@ two-in_range : {A B : Type 0} (P : A → Type 0) (Q : B → Type 0) (f : A → B
 two-in_range {A} {B} P Q f first second p q i (t ∷ u ∷ []) = both-in_range (first t) (p t) (second u) (q u)
   where
     both-in_range : (x : Option A) → Has P x → (y : Option B) → Has Q y → Has InRange (both f x y)
-    both-in_range None h y k = tt
-    both-in_range (Some a) h None k = tt
     both-in_range (Some a) h (Some b) k = i a b h k
+    both-in_range _ h _ k = tt
 
 two-in_range {A} {B} P Q f first second p q i _ = tt
 
@@ -135,10 +134,8 @@ three-in_range : {A B C : Type 0} (P : A → Type 0) (Q : B → Type 0) (R : C �
 three-in_range {A} {B} {C} P Q R f first second third p q r i (t ∷ u ∷ v ∷ []) = go (first t) (p t) (second u) (q u) (third v) (r v)
   where
     go : (x : Option A) → Has P x → (y : Option B) → Has Q y → (z : Option C) → Has R z → Has InRange (all_three f x y z)
-    go None h y k z l = tt
-    go (Some a) h None k z l = tt
-    go (Some a) h (Some b) k None l = tt
     go (Some a) h (Some b) k (Some c) l = i a b c h k l
+    go _ h _ k _ l = tt
 
 three-in_range {A} {B} {C} P Q R f first second third p q r i _ = tt
 

@@ -69,8 +69,7 @@ TellsOnly refused es = es ≡ Abandoned ∷ []
 -- an end and an abandonment drop the snapshot
 abbrev pub DropsAt : Progress → Option Snapshot → Type 0
 DropsAt went_on s = Unit {0}
-DropsAt at_end s = s ≡ None
-DropsAt refused s = s ≡ None
+DropsAt _ s = s ≡ None
 
 pub record UnitIsLawful (g : Graph) (names : List Name) (c : Command) (u : UnitDone) : Type 0 where
   pub still : RunsOn g (after_events names u.events) u.heap u.snapshot

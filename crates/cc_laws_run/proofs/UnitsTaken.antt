@@ -9,6 +9,7 @@ use Rattle.cc_model.specs.Snapshot.{NodeState, gone, traversed, Node, Snapshot}
 use Rattle.cc_model.specs.Units.{first_names, new_node, is_untraversed, first_untraversed, to_note, sample, with_state, with_node, with_nodes, after_node}
 use Rattle.cc_model.specs.End.{went_on, at_end, UnitDone, may_be_refused, abandoned, node_or_end, granted, unit}
 use Rattle.cc_laws_run.specs.UnitsTaken.{is_behind, nodes_behind, units_taken}
+use Rattle.cc_laws_run.proofs.UnitLawful.{unit-cases}
 
 -- the first untraversed node that gets a state is behind then
 behind-with_state : (state : NodeState) → is_untraversed state ≡ false → (ns : List Node) (x : Name) → first_untraversed ns ≡ Some x →
@@ -91,13 +92,4 @@ granted-counts h (Some s) = node_or_end-counts h s (first_untraversed s.nodes) r
 
 -- EACH UNIT
 pub unit-counts : (h : Heap) (s : Option Snapshot) (memory : Bool) → CountsOn s (unit h s memory) × CountsAtEnd s (unit h s memory)
-unfolding unit
-unit-counts h s memory = go (may_be_refused h s && not memory)
-  where
-    by_test : Bool → UnitDone
-    by_test true = abandoned h s
-    by_test false = granted h s
-
-    go : (b : Bool) → CountsOn s (by_test b) × CountsAtEnd s (by_test b)
-    go true = (λ p. absurd (cc), λ p. absurd (cc))
-    go false = granted-counts h s
+unit-counts h s memory = unit-cases h s memory (λ u. CountsOn s u × CountsAtEnd s u) (λ p. absurd (cc), λ p. absurd (cc)) (granted-counts h s)

@@ -19,9 +19,8 @@ done_with d memory = record d { machine = with_memory d.machine memory }
 
 -- how often progress says that memory was refused
 abbrev pub refusals : Progress → ℕ
-refusals went_on = 0
-refusals at_end = 0
 refusals refused = 1
+refusals _ = 0
 
 -- Units lead from d to r, and with other answers of memory as f says: they use a front of these, which says no once for each refusal.
 pub record UnitsUse (f : List Bool → UnitsDone) (d r : UnitsDone) : Type 0 where
@@ -147,13 +146,11 @@ units_from-use : (n : ℕ) (m : Machine) (es : List Event) (p : Progress) →
     UnitsUse (λ memory. units_done n (record { machine = with_memory m memory; events = es; progress = p }))
     (record { machine = m; events = es; progress = p }) (units_done n (record { machine = m; events = es; progress = p }))
 unfolding units_done
-units_from-use zero m es p = uses-nothing (record { machine = m; events = es; progress = p })
 units_from-use (suc n) m es went_on =
     let d = one_unit m es in
     uses-then (λ memory. one_unit (with_memory m memory) es) (units_done n) (record { machine = m; events = es; progress = went_on })
     d (units_done n d) (unit-use m es) (units_from-use n d.machine d.events d.progress)
-units_from-use (suc n) m es at_end = uses-nothing (record { machine = m; events = es; progress = at_end })
-units_from-use (suc n) m es refused = uses-nothing (record { machine = m; events = es; progress = refused })
+units_from-use _ m es x = uses-nothing (record { machine = m; events = es; progress = x })
 
 -- UNITS USE A FRONT OF MEMORY'S ANSWERS.
 pub units-use : (n : ℕ) (d : UnitsDone) → UnitsUse (λ memory. units_done n (done_with d memory)) d (units_done n d)

@@ -28,8 +28,7 @@ is_open n = is_untraversed n.state
 -- the test of untraversed tells
 is_untraversed-true : (state : NodeState) → is_untraversed state ≡ true → state ≡ untraversed
 is_untraversed-true untraversed e = refl
-is_untraversed-true gone e = absurd (false≢true e)
-is_untraversed-true (traversed n) e = absurd (false≢true e)
+is_untraversed-true _ e = absurd (false≢true e)
 
 -- names that are distinct are those of distinct nodes
 names-distinct : (ns : List Node) → ((x : Name) → count_by (same_name x) (names_of ns) ≤ 1) → HasDistinctNodes ns
