@@ -36,11 +36,10 @@ use Rattle.cc_laws_run.proofs.PlainLawful.{any-runs}
 use Rattle.cc_laws_run.proofs.QuietUnits.{IsGoing, gc-collects, running-going}
 use Rattle.cc_laws_run.proofs.MissesLost.{lost-doomed}
 use Rattle.cc_laws_run.proofs.Unabandoned.{TellsNone, none-abandoned}
-use Rattle.cc_laws_run.proofs.SpentViews.{spent-from}
 use Rattle.cc_laws_run.proofs.SpentGone.{collected-gone}
 use Rattle.cc_laws_run.proofs.HoldingUnits.{HoldsOn, units_done-holds, unless_stopped-cases}
 use Rattle.cc_laws_run.proofs.SpentUnits.{Settles, Spending, each-spends, SettlesOn, units_done-settle, first-settles}
-use Rattle.cc_laws_run.proofs.SpentAsks.{collected-spent, spent-on, asks-spend, gc-gone}
+use Rattle.cc_laws_run.proofs.SpentAsks.{collected-spent, asks-spend, gc-gone}
 use Rattle.cc_laws_run.proofs.FirstCollection.{finish-some, progress_then, then_later-progress, first_collection-append, collect-cases}
 
 -- what becomes of names by what a collection told and came to, and by the machine after the asks
@@ -57,9 +56,8 @@ module _ (g : Graph) (well : IsWellMade g) (ds : List Name) where
   settled d t = go d.progress t.holds
     where
       go : (p : Progress) → Settles ds d.machine.heap d.machine.snapshot d.events p → IsFollowed ds d.events p d.machine
-      go went_on k = (k.0, k.1)
-      go at_end k = (k.0, spent-from d.machine.heap ds t.runs.sound.well_formed k.1, k.2)
-      go refused k = k
+      go went_on k = k
+      go _ k = k
 
   -- of a collection that is brought to its end, whatever machine there is later that has spent what was spent
   stopped : (m n : Machine) → SettlesOn g ds (to_the_end (no_units m)) →
@@ -86,10 +84,9 @@ module _ (g : Graph) (well : IsWellMade g) (ds : List Name) where
   collect-spent m t e =
       let d : UnitsDone = to_the_end (no_units m) in
       let first : HoldsOn g (Spending ds) (starting_anew d) = spent-at_end d t e in
-      collect-cases m (λ u. IsSpent u.machine.heap ds) (spent-on g ds (starting_anew d) first)
-      (unless_stopped-cases d (λ u. IsSpent u.machine.heap ds) (λ r. spent-on g ds (starting_anew d) first)
-      (λ r. spent-on g ds (to_the_end (starting_anew d))
-      (units_done-holds g well (Spending ds) (each-spends g ds) (enough_units d.machine) (starting_anew d) first)))
+      collect-cases m (λ u. IsSpent u.machine.heap ds) first.holds
+      (unless_stopped-cases d (λ u. IsSpent u.machine.heap ds) (λ r. first.holds)
+      (λ r. (units_done-holds g well (Spending ds) (each-spends g ds) (enough_units d.machine) (starting_anew d) first).holds))
 
 -- One ask
 

@@ -1,5 +1,5 @@
 -- UNITS ONE AFTER THE OTHER KEEP WHAT EACH OF THEM KEEPS, of a machine that runs beside a graph.
-use Rattle.std.proofs.Common.{◌≡◌, ℕ, zero, suc, Bool, true, false, List, ◌++◌, Option, refl, None, Some, ◌≢◌}
+use Rattle.std.proofs.Common.{◌≡◌, ℕ, zero, suc, Bool, true, false, List, ◌++◌, Option, refl, None, Some, ◌≢◌, subst}
 use Rattle.std.specs.Option.{is_some}
 use Rattle.cc_names.specs.declared.name.Name.{Name}
 use Rattle.cc_model.specs.declared.command.Command.TheVariants.{Collect}
@@ -52,20 +52,20 @@ unless_stopped-cases d P stopped more = go d.progress refl
 
 -- Machines that run
 
--- what a collection is like, by its heaps, its snapshot and what was told
+-- what a collection is like, by its heaps, its snapshot, what was told, and what the last unit came to
 abbrev pub Manner : Type 1
-Manner = Heap → Option Snapshot → List Event → Type 0
+Manner = Heap → Option Snapshot → List Event → Progress → Type 0
 
 -- each unit of machines that run keeps the manner
 abbrev pub EachKeeps : Graph → Manner → Type 0
-EachKeeps g P = (names : List Name) (h : Heap) (o : Option Snapshot) (answer : Bool) (es : List Event) → RunsOn g names h o → P h o es →
-    P (unit h o answer).heap (unit h o answer).snapshot (es ++ (unit h o answer).events)
+EachKeeps g P = (names : List Name) (h : Heap) (o : Option Snapshot) (answer : Bool) (es : List Event) → RunsOn g names h o → P h o es went_on →
+    P (unit h o answer).heap (unit h o answer).snapshot (es ++ (unit h o answer).events) (unit h o answer).progress
 
 -- a machine that runs beside a graph, in this manner
 pub record HoldsOn (g : Graph) (P : Manner) (d : UnitsDone) : Type 0 where
   pub names : List Name
   pub runs : RunsOn g names d.machine.heap d.machine.snapshot
-  pub holds : P d.machine.heap d.machine.snapshot d.events
+  pub holds : P d.machine.heap d.machine.snapshot d.events d.progress
 
 module _ (g : Graph) (well : IsWellMade g) (P : Manner) (step : EachKeeps g P) where
   -- one unit leaves such a machine
@@ -77,7 +77,7 @@ module _ (g : Graph) (well : IsWellMade g) (P : Manner) (step : EachKeeps g P) w
       record {
         names = after_events t.names (unit h d.machine.snapshot answer).events;
         runs = lawful.still;
-        holds = step t.names h d.machine.snapshot answer d.events t.runs t.holds;
+        holds = step t.names h d.machine.snapshot answer d.events t.runs (subst (P h d.machine.snapshot d.events) e t.holds);
       }
 
   -- so do several
@@ -93,11 +93,12 @@ module _ (g : Graph) (well : IsWellMade g) (P : Manner) (step : EachKeeps g P) w
   pub finish-holds : (m : Machine) → HoldsOn g P (no_units m) → HoldsOn g P (finish_running m)
   finish-holds m t = finish-cases m (HoldsOn g P) (units_done-holds (enough_units m) (no_units m) t) (λ e. t)
 
-  -- those of a whole collection
-  pub collect-holds : (m : Machine) → HoldsOn g P (no_units m) → HoldsOn g P (collect m)
+  -- those of a whole collection, where it does not matter what the last unit came to
+  pub collect-holds : ((h : Heap) (o : Option Snapshot) (es : List Event) (p : Progress) → P h o es p → P h o es went_on) →
+      (m : Machine) → HoldsOn g P (no_units m) → HoldsOn g P (collect m)
   unfolding collect
-  collect-holds m t =
+  collect-holds anew m t =
       let d : UnitsDone = finish_running m in
       let first : HoldsOn g P d = finish-holds m t in
       unless_stopped-cases d (HoldsOn g P) (λ e. first)
-      (λ e. units_done-holds (enough_units d.machine) (starting_anew d) (record { names = first.names; runs = first.runs; holds = first.holds }))
+      (λ e. units_done-holds (enough_units d.machine) (starting_anew d) (record { names = first.names; runs = first.runs; holds = anew d.machine.heap d.machine.snapshot d.events d.progress first.holds }))
