@@ -1,6 +1,6 @@
 -- A LOYAL CHANGE OF VIEWS FORGETS NO NATIVE, whatever counts as purple in the buffer: of views whose edges start at what
 -- is there, and whose script objects and values of entries have names of script objects.
-use Rattle.std.proofs.Common.{◌≡◌, ℕ, Bool, true, false, List, [], ◌++◌, map, refl, sym, ◌∙◌, ap, subst, inl, inr, ◌⊎◌, ⊎_elim}
+use Rattle.std.proofs.Common.{arith, ◌≡◌, ℕ, Bool, true, false, List, [], ◌++◌, map, refl, sym, ◌∙◌, ap, subst, inl, inr, ◌⊎◌, ⊎_elim}
 use Rattle.std.proofs.lemmas.Bool.{true≢false, false≢true, not_from_false}
 use Rattle.cc_lists.specs.Members.{Among, has}
 use Rattle.cc_lists.proofs.Members.{Among-map, Among-map_cases, Among-left, Among-right, Among-append, Among-filter, Among-filtered, Among_or_not}
@@ -89,12 +89,7 @@ module _ (v w : View) (candidates : List ℕ) (before : IsNamed v) (values : Has
 
   -- a script object that is there is reached or covered
   there-fine : (y : Name) → IsScriptThere w y → Fine y
-  there-fine y m = go (has same_name (reached_in w) y) refl
-    where
-      go : (b : Bool) → has same_name (reached_in w) y ≡ b → Fine y
-      go true e = inl ((closure-decides same_name same_name-exact (view_rules w) y).0 e)
-      go false e = inr (inl (covered-root y (Among-right y w.purple (unreached_scripts w)
-          (Among-filter (is_unreached w) y (scripts_there w) m (not_from_false (has same_name (reached_in w) y) e)))))
+  there-fine y m = grind (arith, closure-decides, same_name-exact, covered-root, Among-right, Among-filter)
 
   -- a script name is fine
   script-fine : (y : Name) → is_script y ≡ true → Fine y
@@ -135,10 +130,7 @@ module _ (v w : View) (candidates : List ℕ) (before : IsNamed v) (values : Has
 
   -- the values of entries are fine
   value-fine : (ps : List Name) (y : Name) → Among (ps, y) (joints v.entries) → Fine y
-  value-fine ps y m =
-      let f = Among-map_cases joint v.entries (ps, y) m in
-      let value : f.0.value ≡ y = ap (λ (p : List Name × Name). p.1) f.2 in
-      subst Fine value (script-fine f.0.value (values f.0 f.1))
+  value-fine ps y m = grind (arith, Among-map_cases, script-fine)
 
   -- what was reached is fine
   reached-fine : (x : Name) → ReachedIn v x → Fine x

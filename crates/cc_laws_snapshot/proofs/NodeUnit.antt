@@ -1,5 +1,5 @@
 -- THE UNIT OF A NODE on the heaps: what it notes and samples, and that it keeps a snapshot fresh.
-use Rattle.std.proofs.Common.{◌≡◌, ℕ, true, false, List, [], Option, Some, None, option_map, is_some, refl, sym, ◌∙◌, ap, subst, ◌⊎◌, ⊎_elim}
+use Rattle.std.proofs.Common.{arith, ◌≡◌, ℕ, true, false, List, [], Option, Some, None, option_map, is_some, refl, sym, ◌∙◌, ap, subst, ◌⊎◌, ⊎_elim}
 use Rattle.std.specs.List.{filter}
 use Rattle.std.proofs.lemmas.Bool.{or_left, or_right, false≢true}
 use Rattle.cc_lists.specs.Members.{Among}
@@ -88,11 +88,7 @@ script-read h x e m = let f = script-found h x m in ap (λ o. is_some (option_ma
 
 -- where nothing is noted, there were no edges to read
 nothing-read : (h : Heap) (x : Name) → to_note h x ≡ None → is_some (edges_in h x) ≡ false
-nothing-read h x e = go (edges_in h x) e
-  where
-    go : (o : Option (List Name)) → option_map (filter (is_noted h)) o ≡ None → is_some o ≡ false
-    go None f = refl
-    go (Some ys) f = absurd (cc)
+nothing-read h x e = grind arith
 
 -- A node whose object is no more is a native that does not live
 gone-native : (h : Heap) (s : Snapshot) (x : Name) → IsWellFormed h → IsFresh h.natives_made (view h) s → IsNode s x → to_note h x ≡ None →

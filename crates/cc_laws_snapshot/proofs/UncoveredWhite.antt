@@ -96,10 +96,7 @@ module _ (made : ℕ) (v : View) (s : Snapshot) (sound : IsSoundView made v) (fr
 
 -- a script object that holds something is there
 script-source : (h : Heap) → IsSound [] h → (x y : Name) → is_script x ≡ true → Among (x, y) (view h).edges → IsScriptThere (view h) x
-script-source h s x y e m = ⊎_elim
-    (λ a. absurd (native-no_script (native a.0.number) refl (subst (λ z. is_script z ≡ true) (sym a.2) e)))
-    (λ a. subst (IsScriptThere (view h)) a.2 (there-script h a.0 a.1))
-    (edge-of h x y m)
+script-source h s x y e m = grind (arith, native-no_script, there-script, edge-of)
 
 -- An unreached native that nothing covers is among the white natives.
 pub uncovered-white_native : (h : Heap) (s : Snapshot) → IsSound [] h → IsFresh h.natives_made (view h) s → IsTraversed s →
@@ -114,8 +111,4 @@ uncovered-white_native h s sound fresh all suspected u c l out bare =
 -- a white native is there
 pub white_native-there : (h : Heap) (s : Snapshot) (k : ℕ) → Among k (white_natives h s) → Among (native k) (native_names h)
 unfolding white_natives
-white_native-there h s k m =
-    let names : List Name = white_names (view h) s in
-    let f = Among-map_cases (λ (n : HeapNative). n.number) (filter (λ n. has same_name names (native n.number)) h.natives) k m in
-    let there : Among f.0 h.natives = Among-filtered (λ (n : HeapNative). has same_name names (native n.number)) f.0 h.natives f.1 in
-    subst (λ j. Among (native j) (native_names h)) f.2 (Among-map (λ (n : HeapNative). native n.number) f.0 h.natives there)
+white_native-there h s k m = grind (arith, Among-map_cases, Among-filtered, Among-map)

@@ -193,12 +193,4 @@ module _ (made : ℕ) (v : View) (s : Snapshot) (sound : IsSoundView made v) (fr
 
   -- A native that is white is unreached.
   pub white-unreached : (i : ℕ) → IsWhite v s (native i) → ¬ (ReachedIn v (native i))
-  white-unreached i w reached =
-      let test : Name → Bool = is_white v (black_in v s) in
-      let n : IsNode s (native i) = Among-filtered test (native i) (node_names s) w in
-      let passes : test (native i) ≡ true = Among-passes test (native i) (node_names s) w in
-      let off : has same_name (black_in v s) (native i) ≡ false =
-      not-true (has same_name (black_in v s) (native i)) (and_parts (is_there v (native i)) (not (has same_name (black_in v s) (native i))) passes).1 in
-      let on : has same_name (black_in v s) (native i) ≡ true =
-      (closure-decides same_name same_name-exact (black_in_rules v s) (native i)).1 (reached-kept (native i) reached n) in
-      true≢false (sym on ∙ off)
+  white-unreached i w reached = grind (arith, Among-filtered, Among-passes, not-true, closure-decides, same_name-exact, reached-kept)
