@@ -32,6 +32,7 @@ use Rattle.cc_laws_snapshot.proofs.ReachedStays.{native-edge}
 use Rattle.cc_laws_snapshot.proofs.SoundView.{script-place}
 use Rattle.cc_laws_run.proofs.DoomedBegin.{out-unreached, garbage-is_there, garbage-out}
 use Rattle.cc_laws_run.proofs.TouchedViews.{edge-cases}
+use Rattle.cc_laws_snapshot.proofs.Edges.{native_edges-has}
 
 -- Lost and garbage
 
@@ -95,16 +96,10 @@ module _ (h : Heap) (g : Graph) (sound : IsSound [] h) (well : IsWellMade g) (st
   unpreserved : (n : HeapNative) → Among n h.natives → Among (reflector n.number) (garbage h) → ReachedIn (view h) (native n.number) → n.preserved ≡ false
   unpreserved n there b r = go n.preserved refl
     where
-      preserved_by : Bool → List (Name × Name)
-      preserved_by true = from_to (native n.number) (reflector n.number) ∷ []
-      preserved_by false = []
-
       go : (p : Bool) → n.preserved ≡ p → p ≡ false
       go true e =
           let edge : Among (native n.number, reflector n.number) (view h).edges =
-          native-edge h n (native n.number) (reflector n.number) there
-          (Among-right (native n.number, reflector n.number) (slot_edges (native n.number) n.slots) (preserved_edge n)
-          (subst (λ p. Among (native n.number, reflector n.number) (preserved_by p)) (sym e) (inl refl))) in
+          native-edge h n (native n.number) (reflector n.number) there (native_edges-has n (native n.number) (reflector n.number) refl (inr (e, refl))) in
           absurd (garbage-out h (reflector n.number) b
           (derive-along (view h).registers (view h).edges (joints h.entries) (native n.number) (reflector n.number) edge r))
       go false e = refl

@@ -29,8 +29,7 @@ module _ (v : View) (s : Snapshot) where
 
   -- more references are sampled than noted: there was a count, and it is greater
   above-sampled : (x : Name) (state : NodeState) → is_above s x state ≡ true → (n : ℕ) × (state ≡ traversed (Some n)) × (noted_to s x < n)
-  above-sampled x (traversed (Some n)) e = (n, refl, ltb-true (noted_to s x) n e)
-  above-sampled x _ e = absurd (cc)
+  above-sampled x state e = grind (arith, ltb-true)
 
   -- a node that is black by itself is black by one of the first three rules
   seed-by : (x : Name) (state : NodeState) → Among (node x state) s.nodes → is_seed v s (node x state) ≡ true → IsBlackByRules v s x
@@ -75,8 +74,7 @@ module _ (v : View) (s : Snapshot) where
 
   -- the test of a script node
   script-seed : (x : Name) (state : NodeState) → is_script x ≡ true → Among x v.black → is_seed v s (node x state) ≡ true
-  script-seed (name.Native k) state e b = absurd (cc)
-  script-seed x state e b = has-there same_name same_name-exact v.black x b
+  script-seed x state e b = grind (arith, has-there, same_name-exact)
 
   -- what is black by the rules is black
   pub by_rules-black : (x : Name) → IsBlackByRules v s x → BlackIn v s x

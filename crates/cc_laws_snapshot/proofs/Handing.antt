@@ -19,13 +19,13 @@ use Rattle.cc_laws_heap.specs.Sound.{IsSound, numbers_of}
 use Rattle.cc_laws_heap.proofs.Owning.{let_go-sound}
 use Rattle.cc_laws_heap.proofs.ScriptsKept.{native-no_script as script-no_native}
 use Rattle.cc_laws_snapshot.proofs.NamePairs.{native-no_script}
-use Rattle.cc_laws_snapshot.proofs.Edges.{edge-of}
+use Rattle.cc_laws_snapshot.proofs.Edges.{edge-of, script_edges-has, native_edges-has}
 use Rattle.cc_laws_snapshot.specs.Losing.{PurpleOrGone, Loses, IsLoyal}
 use Rattle.cc_laws_snapshot.proofs.BufferMarks.{IsPurple}
 use Rattle.cc_laws_snapshot.proofs.NamesAndEdges.{named-of_living, living-number, living-of_named}
 use Rattle.cc_laws_snapshot.proofs.LoyalSuspected.{loses-same}
 use Rattle.cc_laws_snapshot.proofs.LosesTo.{HasLivingBuffer-view}
-use Rattle.cc_laws_snapshot.proofs.ReachedStays.{cascade-reached}
+use Rattle.cc_laws_snapshot.proofs.ReachedStays.{cascade-reached, native-edge, script-edge}
 use Rattle.cc_laws_snapshot.proofs.CascadeLoses.{cascade-loses}
 
 -- Edges to natives
@@ -47,20 +47,13 @@ edge-to h x i w m = ⊎_elim
 
 -- a native that has it in a slot refers to it
 pub edge-from_slot : (h : Heap) (n : HeapNative) (y : Name) → Among n h.natives → Among y (contents n.slots) → Among (native n.number, y) (view h).edges
-edge-from_slot h n y there m = Among-left (native n.number, y) (flat_map native_edges h.natives) (flat_map script_edges h.scripts)
-    (Among-flat_map native_edges n (native n.number, y) h.natives there
-    (Among-left (native n.number, y) (slot_edges (native n.number) n.slots) (preserved_edge n)
-    (Among-map (from_to (native n.number)) y (contents n.slots) m)))
+edge-from_slot h n y there m = native-edge h n (native n.number) y there (native_edges-has n (native n.number) y refl (inl m))
 
 -- a reflector refers to its native
 pub edge-from_reflector : (h : Heap) (i : ℕ) → Among (reflector i) (script_names h) → Among (reflector i, native i) (view h).edges
 edge-from_reflector h i m =
     let f = Among-map_cases (λ (o : HeapScript). o.name) h.scripts (reflector i) m in
-    let own : Among (reflector i, native i) (map (λ k. from_to f.0.name (native k)) (behind f.0.name)) =
-    subst (λ z. Among (reflector i, native i) (map (λ k. from_to z (native k)) (behind z))) (sym f.2) (inl refl) in
-    Among-right (reflector i, native i) (flat_map native_edges h.natives) (flat_map script_edges h.scripts)
-    (Among-flat_map script_edges f.0 (reflector i, native i) h.scripts f.1
-    (Among-right (reflector i, native i) (script_slot_edges f.0) (map (λ k. from_to f.0.name (native k)) (behind f.0.name)) own))
+    script-edge h f.0 (reflector i) (native i) f.1 (script_edges-has f.0 (reflector i) (native i) f.2 (inr (i, f.2, refl)))
 
 -- The first part of the change
 

@@ -157,9 +157,7 @@ reflector_made-suspected h candidates k w r = taken-suspected h (add_ref h k) (w
 -- an exposure keeps names
 HasScriptNames-exposed : (h : Heap) (x : Option Name) → HasScriptNames h → HasScriptNames (exposed h x)
 unfolding exposed
-HasScriptNames-exposed h None all = all
-HasScriptNames-exposed h (Some x) all = HasScriptNames-map h (changed_where (λ o. has same_name (exposed_names h x) o.name) as_black)
-    (λ o. changed_where-either (λ p. p.name ≡ o.name) (λ o. has same_name (exposed_names h x) o.name) as_black o (λ e. refl) refl) all
+HasScriptNames-exposed h x all = grind (arith, HasScriptNames-map, changed_where-either)
 
 -- Something is exposed.
 pub exposed-suspected : (h : Heap) (candidates : List ℕ) (x : Option Name) → IsWellFormed h → IsSuspectedIn h candidates → IsSuspectedIn (exposed h x) candidates
@@ -195,9 +193,7 @@ flag_written-suspected h candidates k on w = still-suspected h (set_preserved h 
 
 -- an entry written leaves script objects
 set_entry-scripts : (h : Heap) (m k : Name) (v : Option Name) → HasScriptNames h → HasScriptNames (set_entry h (Some m) (Some k) v)
-set_entry-scripts h m (name.Reflector k) (Some v) all = all
-set_entry-scripts h m k None all = all
-set_entry-scripts h m k (Some v) all = all
+set_entry-scripts h m k v all = grind arith
 
 -- An entry is written.
 pub entry_written-suspected : (h : Heap) (candidates : List ℕ) (m k : Name) (v : Option Name) → IsWellFormed h →

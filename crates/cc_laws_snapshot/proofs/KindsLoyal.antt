@@ -123,10 +123,7 @@ module _ (v w : View) (candidates : List ℕ) (before : IsNamed v) (values : Has
 
   -- what the registers hold is fine
   register-fine : (x : Name) → Among x v.registers → Fine x
-  register-fine (name.Native i) m = ⊎_elim
-      (λ kept. inl (derive-root w.registers w.edges (joints w.entries) (native i.0) kept))
-      (lost_or_reached-fine i.0) (loyal.register i.0 m)
-  register-fine x m = script-fine x refl
+  register-fine x m = grind (arith, derive-root, lost_or_reached-fine, script-fine)
 
   -- the values of entries are fine
   value-fine : (ps : List Name) (y : Name) → Among (ps, y) (joints v.entries) → Fine y
@@ -138,8 +135,7 @@ module _ (v w : View) (candidates : List ℕ) (before : IsNamed v) (values : Has
 
   -- what was purple is fine
   purple-fine : (x : Name) → Among x v.purple → Fine x
-  purple-fine (name.Native i) m = lost_or_reached-fine i.0 (loyal.purple i.0 m)
-  purple-fine x m = script-fine x refl
+  purple-fine x m = grind (arith, lost_or_reached-fine, script-fine)
 
   -- what was covered is fine
   covered-fine : (x : Name) → IsCovered v x → Fine x

@@ -83,8 +83,7 @@ script-found h x m =
 
 -- a name of a script object that is there has edges to read
 script-read : (h : Heap) (x : Name) → is_script x ≡ true → Among x (script_names h) → is_some (edges_in h x) ≡ true
-script-read h (name.Native k) e m = absurd (false≢true e)
-script-read h x e m = let f = script-found h x m in ap (λ o. is_some (option_map (λ p. targets (script_edges p)) o)) f.1
+script-read h x e m = grind (arith, script-found)
 
 -- where nothing is noted, there were no edges to read
 nothing-read : (h : Heap) (x : Name) → to_note h x ≡ None → is_some (edges_in h x) ≡ false

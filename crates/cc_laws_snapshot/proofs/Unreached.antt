@@ -36,9 +36,7 @@ module _ (made : ℕ) (v : View) (s : Snapshot) (sound : IsSoundView made v) (fr
 
   -- a script node that is black in the heaps is black
   script-black : (x : Name) → is_script x ≡ true → Among x v.black → IsNode s x → BlackIn v s x
-  script-black (name.Native i) e b n = absurd (false≢true e)
-  script-black x e b n = let k = state-of s x n in
-      seed-black x k.0 k.1 (has-there same_name same_name-exact v.black x b)
+  script-black x e b n = grind (arith, state-of, seed-black, has-there, same_name-exact)
 
   -- what is black is a node
   black-node : (x : Name) → BlackIn v s x → IsNode s x
@@ -123,8 +121,7 @@ module _ (made : ℕ) (v : View) (s : Snapshot) (sound : IsSoundView made v) (fr
 
   -- and a script object is black in the heaps or in the snapshot
   script-kept : (x : Name) → is_script x ≡ true → Among x v.black ⊎ BlackIn v s x → Kept x
-  script-kept (name.Native i) e k = absurd (false≢true e)
-  script-kept _ e k = k
+  script-kept x e k = grind arith
 
   -- what a register holds is kept
   root-kept : (x : Name) → Among x v.registers → Kept x
@@ -161,11 +158,7 @@ module _ (made : ℕ) (v : View) (s : Snapshot) (sound : IsSoundView made v) (fr
 
   -- a premise of an entry's mapping is a node, and kept where the entry's member is
   member-black : (m : Option Name) (x : Name) → MemberOf v m x → MemberIsNode s m → Kept x → (p : Name) → Among p (option_to_list m) → BlackIn v s p
-  member-black None x o n k p i = absurd i
-  member-black (Some y) x o n k p i = ⊎_elim
-      (λ e. let same : y ≡ x = cc in
-      ⊎_elim (λ q. subst (BlackIn v s) q (subst (BlackIn v s) (sym same) (kept-black x k (subst (IsNode s) same n)))) (λ t. absurd t) i)
-      (λ b. let none : Some y ≡ None = b.0 in absurd (cc)) o
+  member-black m x o n k p i = grind (arith, kept-black)
 
   -- the value of an entry is kept where map and key are
   valued-kept : (e : Entry) → Among e v.entries → Kept e.the_map → Kept e.key → Kept e.value
