@@ -94,13 +94,7 @@ each-freed g c (k ∷ ks) names once there unreached = (
 -- a command that the graph refuses
 refused-answers : (s : State) (c : Command) (refusal : Refusal) → refusal_of (graph.objects_of s.graph) c ≡ Some refusal →
     IsTrue (moves_no_collection (taken c)) → AnswersCommand s c (Refused refusal) []
-refused-answers s c refusal e t = record {
-  replies = inl (sym (ap (λ o. refused_or o (reply_if_taken (graph.objects_of s.graph) c)) e));
-  quiet = λ f. refl;
-  each = tt;
-  rising = rising-none c [] refl;
-  abandonment = abandonment-none c (Refused refusal) [] t refl;
-}
+refused-answers s c refusal e t = grind (arith, rising-none, abandonment-none)
 
 -- what takes memory may want it
 takes-may_want : (m : Machine) (s : State) (c : Command) → IsRunning m s → takes_memory m.heap c ≡ true → IsTrue (may_want_memory s c)

@@ -49,12 +49,7 @@ noes_of_refusal (Some refusal) = noes_of_reply (Some (Refused refusal))
 -- No check refuses memory.
 refusal-noes : (o : Objects) (c : Command) → noes_of_refusal (refusal_of o c) ≡ 0
 unfolding refusal_of
-refusal-noes o c = go (lacks_object o c) (has_wrong_object o c) (has_no_slot o c) (has_wrong_content o c) (is_full o c)
-  where
-    go : (empty kind slot content full : Bool) →
-        noes_of_refusal (first_refusal ((empty, Empty) ∷ (kind, Kind) ∷ (slot, Slot) ∷ (content, Kind) ∷ (full, Full) ∷ [])) ≡ 0
-    go false false false false true = refl
-    go _ _ _ _ _ = refl
+refusal-noes o c = grind arith
 
 -- and the reply to a command that is done tells no want of it
 reply-noes : (o : Objects) (c : Command) → noes_of_reply (Some (reply_if_taken o c)) ≡ 0
@@ -116,29 +111,12 @@ reply_to_units-noes _ = refl
 -- what units use, their turn uses
 after_units-use : (f : List Bool → UnitsDone) (m : Machine) (r : UnitsDone) → UnitsUse f (no_units m) r →
     TurnUse (λ memory. after_units (f memory)) in_reply m.memory (after_units r)
-after_units-use f m r u =
-    let no : noes u.used + 0 ≡ refusals r.progress = u.said_no in
-    let told : abandonments r.events + 0 ≡ 0 + refusals r.progress = u.told in
-    record {
-      used = u.used;
-      any = λ more. ap after_units (u.any more);
-      said_no = omega (arith, no, reply_to_units-noes r.progress);
-      ample = λ e. let w = u.ample e refl in
-          record { same = ap after_units w.0; memory = w.1; reply = reply_to_units-noes r.progress ∙ w.2; events = omega (arith, told, w.2) };
-    }
+after_units-use f m r u = grind (arith, reply_to_units-noes)
 
 -- under `gc` the events tell a refusal
 after_gc-use : (f : List Bool → UnitsDone) (m : Machine) (r : UnitsDone) → UnitsUse f (no_units m) r →
     TurnUse (λ memory. after_gc (f memory)) (λ a. abandonments a.events) m.memory (after_gc r)
-after_gc-use f m r u =
-    let no : noes u.used + 0 ≡ refusals r.progress = u.said_no in
-    let told : abandonments r.events + 0 ≡ 0 + refusals r.progress = u.told in
-    record {
-      used = u.used;
-      any = λ more. ap after_gc (u.any more);
-      said_no = omega (arith, no, told);
-      ample = λ e. let w = u.ample e refl in record { same = ap after_gc w.0; memory = w.1; reply = refl; events = omega (arith, told, w.2) };
-    }
+after_gc-use f m r u = grind arith
 
 -- a turn that asks no memory and tells nothing
 silent-use : (m : Machine) (a : Answer) → noes_of_reply a.reply ≡ 0 → TellsNone a.events →

@@ -1,6 +1,6 @@
 -- `slice`, `collect` and `gc` are answered lawfully and leave a machine that runs.
 use Rattle.std.specs.Prelude.{IsTrue}
-use Rattle.std.proofs.Common.{◌≡◌, ℕ, Bool, true, false, not, ◌&&◌, List, Some, None, refl, sym, ◌∙◌, ap, subst, inl, inr}
+use Rattle.std.proofs.Common.{arith, ◌≡◌, ℕ, Bool, true, false, not, ◌&&◌, List, Some, None, refl, sym, ◌∙◌, ap, subst, inl, inr}
 use Rattle.std.proofs.lemmas.Bool.{false≢true, le-leb}
 use Rattle.cc_names.specs.declared.name.Name.{Name}
 use Rattle.cc_model.specs.declared.command.Command.{Command}
@@ -29,14 +29,7 @@ running-on m s r = record { sound = r.sound; colours = r.colours; fresh = r.fres
 
 -- a machine whose heaps run beside a graph runs beside it
 runs-from : (m : Machine) (s : State) (g : Graph) (names : List Name) → IsWellMade g → RunsOn g names m.heap m.snapshot → s.graph ≡ g → s.listed ≡ names → IsRunning m s
-runs-from m s g names well r graph names_are = record {
-  sound = r.sound;
-  colours = r.colours;
-  fresh = r.fresh;
-  well_made = subst IsWellMade (sym graph) well;
-  stands = subst (StandsFor m.heap) (sym graph) r.stands;
-  listed = r.listed ∙ ap census_order (sym names_are);
-}
+runs-from m s g names well r graph names_are = grind arith
 
 -- Slices and collections
 
@@ -84,23 +77,11 @@ module _ (s : State) (c : Command) (t : MovesUnits s c) where
 
   -- an abandonment is in place
   is-placed : (p : Progress) (es : List Event) → IsPlaced p es → has_abandonment_in_place c (reply_to_units p) es ≡ true
-  is-placed p es placed =
-      subst (λ units. in_place units (is_without_memory (reply_to_units p)) (is_gc c) es ≡ true) (sym t.units)
-      (subst (λ gc. in_place true (is_without_memory (reply_to_units p)) gc es ≡ true) (sym t.no_gc) (go p placed))
-    where
-      go : (q : Progress) → IsPlaced q es → in_place true (is_without_memory (reply_to_units q)) false es ≡ true
-      go went_on i = i
-      go _ i = i
+  is-placed p es placed = grind arith
 
   -- ALL FIVE CLAUSES
   row-answers : (d : UnitsDone) → IsLawfulRow s.graph s.listed c (runs_allowed c) d → AnswersCommand s c (reply_to_units d.progress) d.events
-  row-answers d r = record {
-    replies = replies d.progress;
-    quiet = λ q. absurd (false≢true (sym (never-quiet d.progress) ∙ q));
-    each = subst (λ g. EachMayBe g s.listed c d.events) (sym (graph-left d.progress)) r.each;
-    rising = le-leb (runs (unlinked_numbers d.events)) (runs_allowed c) r.few;
-    abandonment = is-placed d.progress d.events r.placed;
-  }
+  row-answers d r = grind (arith, never-quiet, graph-left, le-leb, is-placed)
 
 -- A SLICE is answered lawfully,
 pub slice-answers : (m : Machine) (s : State) (u : ℕ) → IsRunning m s → AnswersAsk s (taken (Slice u)) (do_ask m (taken (Slice u))).answer

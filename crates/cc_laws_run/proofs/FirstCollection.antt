@@ -1,5 +1,5 @@
 -- THE FIRST COLLECTION UNDER ASKS, of any machine: what it tells stands first in an answer, and later asks leave what it came to.
-use Rattle.std.proofs.Common.{◌≡◌, ◌≢◌, ℕ, Bool, true, false, List, [], ◌∷◌, ◌++◌, Option, Some, None, is_some, refl, sym, ◌∙◌, ap, subst, inl, inr, ◌⊎◌}
+use Rattle.std.proofs.Common.{arith, ◌≡◌, ◌≢◌, ℕ, Bool, true, false, List, [], ◌∷◌, ◌++◌, Option, Some, None, is_some, refl, sym, ◌∙◌, ap, subst, inl, inr, ◌⊎◌}
 use Rattle.std.proofs.lemmas.List.{append_assoc, append-nil}
 use Rattle.cc_names.specs.declared.name.Name.{Name}
 use Rattle.cc_model.specs.declared.command.Command.TheVariants.{Slice, Collect, Gc}
@@ -28,11 +28,7 @@ finish-some m s e = ap (λ (b : Bool). elim b [ true ↦ to_the_end (no_units m)
 -- `collect` brings the collection that runs to its end, or the one that it begins; then it may begin a second one
 pub collect-cases : (m : Machine) (P : UnitsDone → Type 0) → P (to_the_end (no_units m)) → P (unless_stopped (to_the_end (no_units m))) → P (collect m)
 unfolding collect
-collect-cases m P first second = go m.snapshot refl
-  where
-    go : (o : Option Snapshot) → m.snapshot ≡ o → P (collect m)
-    go None e = subst P (sym (collect-none m e)) first
-    go (Some s) e = subst P (sym (ap unless_stopped (finish-some m s e))) second
+collect-cases m P first second = grind (arith, collect-none, finish-some)
 
 -- What units tell
 
@@ -138,15 +134,7 @@ progress_then-assoc _ q r = refl
 
 -- units and later ones come to that
 pub then_later-progress : (d later : UnitsDone) → (then_later d later).progress ≡ progress_then d.progress later.progress
-then_later-progress d later = go d.progress refl
-  where
-    followed_by : Progress → UnitsDone
-    followed_by went_on = record later { events = d.events ++ later.events }
-    followed_by _ = d
-
-    go : (p : Progress) → d.progress ≡ p → (followed_by p).progress ≡ progress_then p later.progress
-    go went_on e = refl
-    go _ e = e
+then_later-progress d later = grind arith
 
 -- LATER ASKS LEAVE WHAT THE FIRST COLLECTION CAME TO, where it did not go on.
 pub first_collection-append : (m : Machine) (xs ys : List Ask) →

@@ -53,25 +53,13 @@ IsFollowed ds es refused n = es ≡ Abandoned ∷ []
 module _ (g : Graph) (well : IsWellMade g) (ds : List Name) where
   -- of a slice
   settled : (d : UnitsDone) → SettlesOn g ds d → IsFollowed ds d.events d.progress d.machine
-  settled d t = go d.progress t.holds
-    where
-      go : (p : Progress) → Settles ds d.machine.heap d.machine.snapshot d.events p → IsFollowed ds d.events p d.machine
-      go went_on k = k
-      go _ k = k
+  settled d t = grind arith
 
   -- of a collection that is brought to its end, whatever machine there is later that has spent what was spent
   stopped : (m n : Machine) → SettlesOn g ds (to_the_end (no_units m)) →
       ((to_the_end (no_units m)).progress ≡ at_end → IsSpent n.heap ds) →
       IsFollowed ds (to_the_end (no_units m)).events (to_the_end (no_units m)).progress n
-  stopped m n t spent = go d.progress refl t.holds
-    where
-      d : UnitsDone
-      d = to_the_end (no_units m)
-
-      go : (p : Progress) → d.progress ≡ p → Settles ds d.machine.heap d.machine.snapshot d.events p → IsFollowed ds d.events p n
-      go went_on e k = absurd (to_the_end-stops m e)
-      go at_end e k = (k.0, spent e, k.2)
-      go refused e k = k
+  stopped m n t spent = grind (arith, to_the_end-stops)
 
   -- what units have spent at their end
   spent-at_end : (d : UnitsDone) → SettlesOn g ds d → d.progress ≡ at_end → HoldsOn g (Spending ds) (starting_anew d)
@@ -122,12 +110,7 @@ module _ (m : Machine) (s : State) (ds : List Name) (r : IsRunning m s) (d : IsD
   -- `gc` takes away what the collection that it ends can't miss
   gc-gone_at_once : (finish_running m).progress ≢ refused → (x : Name) → Among x ds → ¬ (Among x (names_there (gc m).machine.heap))
   unfolding gc
-  gc-gone_at_once unrefused x i = go (finish_running m).progress refl
-    where
-      go : (p : Progress) → (finish_running m).progress ≡ p → ¬ (Among x (names_there (gc m).machine.heap))
-      go went_on e = absurd (to_the_end-stops m (sym (ap (λ (u : UnitsDone). u.progress) finished) ∙ e))
-      go at_end e = let t = finish-spends e in collected-gone ds (finish_running m).machine.heap t.runs.sound t.holds x i
-      go refused e = absurd (unrefused e)
+  gc-gone_at_once unrefused x i = grind (arith, to_the_end-stops, finish-spends, collected-gone)
 
 -- a command of the mutator leaves the collection such
 mutate-follows : (m : Machine) (c : Command) (ds : List Name) → IsSound [] m.heap → KeepsReflectors ds → IsDoomedNow m ds → IsDoomedNow (mutate m c).machine ds
@@ -180,29 +163,7 @@ ask-then : (m : Machine) (s : State) (ask : Ask) (asks : List Ask) (ds : List Na
     (IsDoomedNow (do_ask m ask).machine ds → let c = first_collection (do_ask m ask).machine asks in
     IsFollowed ds c.events c.progress (machine_after (do_ask m ask).machine asks)) →
     let c = first_collection m (ask ∷ asks) in IsFollowed ds c.events c.progress (machine_after m (ask ∷ asks))
-ask-then m s ask asks ds r range keeps f more = go d.progress refl f
-  where
-    n : Machine
-    n = (do_ask m ask).machine
-
-    last : Machine
-    last = machine_after n asks
-
-    d : UnitsDone
-    d = first_units m ask
-
-    later : UnitsDone
-    later = first_collection n asks
-
-    followed_by : Progress → UnitsDone
-    followed_by went_on = record later { events = d.events ++ later.events }
-    followed_by at_end = d
-    followed_by refused = d
-
-    go : (p : Progress) → d.progress ≡ p → IsFollowed ds d.events p n → IsFollowed ds (followed_by p).events (followed_by p).progress last
-    go went_on e f = subst (λ es. IsFollowed ds (es ++ later.events) later.progress last) (sym f.0) (more f.1)
-    go at_end e f = subst (λ p. IsFollowed ds d.events p last) (sym e) (f.0, asks-spend n s asks ds r range keeps f.1, f.2)
-    go refused e f = subst (λ p. IsFollowed ds d.events p last) (sym e) f
+ask-then m s ask asks ds r range keeps f more = grind (arith, asks-spend)
 
 -- A COLLECTION THAT CAN'T MISS NAMES, under any asks in a row
 pub asks-follow : (m : Machine) (s : State) (asks : List Ask) (ds : List Name) → IsRunning m s → IsTrue (list_all ask_in_range asks) →
@@ -219,28 +180,7 @@ asks-follow m s (ask ∷ asks) ds r range keeps d =
 -- what becomes of them says that none is missed
 pub followed-misses : (m : Machine) (asks : List Ask) (ds : List Name) →
     (let c = first_collection m asks in IsFollowed ds c.events c.progress (machine_after m asks)) → MissesNone ds m asks
-followed-misses m asks ds f = record {
-  goes_on = λ e. let k : IsFollowed ds c.events went_on n = subst by e f in k.1;
-  unlinks = λ e. let k : IsFollowed ds c.events at_end n = subst by e f in k.0;
-  abandoned = (
-    λ e. let k : IsFollowed ds c.events refused n = subst by e f in subst (λ es. Among Abandoned es) (sym k) (inl refl),
-    λ a. told c.progress f a,
-  );
-}
-  where
-    c : UnitsDone
-    c = first_collection m asks
-
-    n : Machine
-    n = machine_after m asks
-
-    by : Progress → Type 0
-    by p = IsFollowed ds c.events p n
-
-    told : (p : Progress) → by p → Among Abandoned c.events → p ≡ refused
-    told went_on k a = absurd (subst (λ es. Among Abandoned es) k.0 a)
-    told at_end k a = absurd (none-abandoned c.events k.2 a)
-    told refused k a = refl
+followed-misses m asks ds f = grind (arith, none-abandoned)
 
 -- and that they are spent where it ended
 pub followed-spent : (m : Machine) (asks : List Ask) (ds : List Name) →
@@ -255,19 +195,7 @@ pub followed-gone : (m : Machine) (s : State) (asks : List Ask) (ds : List Name)
     (let c = first_collection m asks in IsFollowed ds c.events c.progress (machine_after m asks)) →
     (first_collection m (asks ++ taken Gc ∷ [])).progress ≢ refused → (x : Name) → Among x ds →
     ¬ (Among x (names_there (gc (machine_after m asks)).machine.heap))
-followed-gone m s asks ds r f unrefused x i = go c.progress f (subst (λ p. p ≢ refused) (first_collection-append m asks (taken Gc ∷ [])) unrefused)
-  where
-    c : UnitsDone
-    c = first_collection m asks
-
-    n : Machine
-    n = machine_after m asks
-
-    go : (p : Progress) → IsFollowed ds c.events p n → progress_then p (first_collection n (taken Gc ∷ [])).progress ≢ refused →
-        ¬ (Among x (names_there (gc n).machine.heap))
-    go went_on k u = gc-gone_at_once n s ds r k.1 (λ e. u (then_later-progress (finish_running n) (no_units (do_ask n (taken Gc)).machine) ∙ ap (λ p. progress_then p went_on) e)) x i
-    go at_end k u = gc-gone n s x ds r k.1 i
-    go refused k u = absurd (u refl)
+followed-gone m s asks ds r f unrefused x i = grind (arith, first_collection-append, gc-gone_at_once, then_later-progress, gc-gone)
 
 -- Right after `gc`
 

@@ -1,5 +1,5 @@
 -- A COLLECTION THAT IS REFUSED MEMORY leaves of the heaps what the definitions say, over whole asks.
-use Rattle.std.proofs.Common.{◌≡◌, ℕ, Bool, true, false, List, [], ◌∷◌, ◌++◌, Option, Some, None, is_some, refl, sym, ◌∙◌, ap, subst, inl, inr, ◌⊎◌, ⊎_elim}
+use Rattle.std.proofs.Common.{arith, ◌≡◌, ℕ, Bool, true, false, List, [], ◌∷◌, ◌++◌, Option, Some, None, is_some, refl, sym, ◌∙◌, ap, subst, inl, inr, ◌⊎◌, ⊎_elim}
 use Rattle.std.proofs.lemmas.List.{append-nil}
 use Rattle.std.specs.List.{filter}
 use Rattle.cc_lists.specs.Members.{Among}
@@ -146,7 +146,4 @@ finish-gives_up m = finish-cases m (λ d. d.progress ≡ refused → GivesUp m [
 -- AND `collect`, there or in a collection of its own.
 pub collect-gives_up : (m : Machine) → (collect m).progress ≡ refused → CollectGivesUp m (collect m)
 unfolding collect
-collect-gives_up m =
-    let f : UnitsDone = finish_running m in
-    unless_stopped-cases f (λ d. d.progress ≡ refused → CollectGivesUp m d) (λ q e. inl (finish-gives_up m q))
-    (λ n e. inr (n, units-give_up f.machine f.events (enough_units f.machine) e))
+collect-gives_up m = grind (arith, unless_stopped-cases, finish-gives_up, units-give_up)

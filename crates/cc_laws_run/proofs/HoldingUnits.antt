@@ -1,5 +1,5 @@
 -- UNITS ONE AFTER THE OTHER KEEP WHAT EACH OF THEM KEEPS, of a machine that runs beside a graph.
-use Rattle.std.proofs.Common.{◌≡◌, ℕ, zero, suc, Bool, true, false, List, ◌++◌, Option, refl, None, Some, ◌≢◌, subst}
+use Rattle.std.proofs.Common.{arith, ◌≡◌, ℕ, zero, suc, Bool, true, false, List, ◌++◌, Option, refl, None, Some, ◌≢◌, subst}
 use Rattle.std.specs.Option.{is_some}
 use Rattle.cc_names.specs.declared.name.Name.{Name}
 use Rattle.cc_model.specs.declared.command.Command.TheVariants.{Collect}
@@ -31,24 +31,12 @@ units_done-keep Q step (suc n) d q = go (units_done-keep Q step n (one_unit d.ma
 
 -- Whatever holds of a running collection that is brought to its end, and of no units where none runs, holds of what is finished.
 pub finish-cases : (m : Machine) (P : UnitsDone → Type 0) → P (to_the_end (no_units m)) → (m.snapshot ≡ None → P (no_units m)) → P (finish_running m)
-finish-cases m P ended none = go m.snapshot refl
-  where
-    go : (o : Option Snapshot) → m.snapshot ≡ o → P (elim (is_some o) [ true ↦ to_the_end (no_units m) | false ↦ no_units m ])
-    go None e = none e
-    go (Some s) e = ended
+finish-cases m P ended none = grind arith
 
 -- Whatever holds of units that were refused, and of a collection that begins after others, holds of what `collect` makes of them.
 pub unless_stopped-cases : (d : UnitsDone) (P : UnitsDone → Type 0) → (d.progress ≡ refused → P d) →
     (d.progress ≢ refused → P (to_the_end (starting_anew d))) → P (unless_stopped d)
-unless_stopped-cases d P stopped more = go d.progress refl
-  where
-    stopped_by : Progress → UnitsDone
-    stopped_by refused = d
-    stopped_by _ = to_the_end (starting_anew d)
-
-    go : (p : Progress) → d.progress ≡ p → P (stopped_by p)
-    go refused e = stopped e
-    go _ e = more (λ r. absurd (cc))
+unless_stopped-cases d P stopped more = grind arith
 
 -- Machines that run
 

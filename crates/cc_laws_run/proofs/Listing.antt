@@ -69,18 +69,12 @@ AreListed-from names natives scripts all_native all_script e = record {
 -- a native that goes last is the last native
 pub AreListed-native : (names natives scripts : List Name) (k : ℕ) → AreListed names natives scripts →
     AreListed (names ++ native k ∷ []) (natives ++ native k ∷ []) scripts
-AreListed-native names natives scripts k a = record {
-  natives_are = filter-append is_native names (native k ∷ []) ∙ ap (λ xs. xs ++ native k ∷ []) a.natives_are;
-  scripts_are = filter-append is_script names (native k ∷ []) ∙ (append-nil (filter is_script names) ∙ a.scripts_are);
-}
+AreListed-native names natives scripts k a = grind (arith, filter-append, append-nil)
 
 -- a script object that goes last is the last script object
 pub AreListed-script : (names natives scripts : List Name) (x : Name) → is_native x ≡ false → AreListed names natives scripts →
     AreListed (names ++ x ∷ []) natives (scripts ++ x ∷ [])
-AreListed-script names natives scripts x e a = record {
-  natives_are = filter-append is_native names (x ∷ []) ∙ rw e (append-nil (filter is_native names) ∙ a.natives_are);
-  scripts_are = filter-append is_script names (x ∷ []) ∙ rw e (ap (λ xs. xs ++ x ∷ []) a.scripts_are);
-}
+AreListed-script names natives scripts x e a = grind (arith, filter-append, append-nil)
 
 -- What is freed is taken out
 

@@ -1,5 +1,5 @@
 -- WHAT IS LOST: garbage but for the reflectors of reached natives. A collection that dooms garbage dooms it.
-use Rattle.std.proofs.Common.{◌≡◌, ℕ, Bool, true, false, ◌&&◌, List, [], ◌∷◌, map, Option, Some, None, option_map, refl, sym, ◌∙◌, ap, subst, inl, inr, ◌⊎◌, ⊎_elim}
+use Rattle.std.proofs.Common.{arith, ◌≡◌, ℕ, Bool, true, false, ◌&&◌, List, [], ◌∷◌, map, Option, Some, None, option_map, refl, sym, ◌∙◌, ap, subst, inl, inr, ◌⊎◌, ⊎_elim}
 use Rattle.std.specs.Prelude.{option_and_then}
 use Rattle.std.specs.List.{filter, list_all}
 use Rattle.std.proofs.lemmas.Bool.{true≢false, and_parts, and_from}
@@ -71,15 +71,7 @@ module _ (h : Heap) where
 
 -- a member of a mapping is what the entry names
 if_gray-own : (h : Heap) (x y : Name) → if_gray h x ≡ Some y → x ≡ y
-if_gray-own h x y e = go (is_gray_in h x) e
-  where
-    some_by : Bool → Option Name
-    some_by true = Some x
-    some_by false = None
-
-    go : (b : Bool) → some_by b ≡ Some y → x ≡ y
-    go true f = cc
-    go false f = absurd (cc)
+if_gray-own h x y e = grind arith
 
 -- Reflectors of reached natives
 
@@ -198,12 +190,7 @@ module _ (h : Heap) (g : Graph) (sound : IsSound [] h) (well : IsWellMade g) (st
 
   -- so is one that a mapping names
   mapping-lost : (m : Mapping) → Among m (mappings_of h) → (p : Name) → IsMember p m → Among p (garbage h) → Among p (lost h)
-  mapping-lost m i p a b =
-      let f = Among-map_cases (mapping_of h) (filter (λ (e : Entry). is_gray_in h e.value) h.entries) m i in
-      let there : Among f.0 h.entries = Among-filtered (λ (e : Entry). is_gray_in h e.value) f.0 h.entries f.1 in
-      member-lost f.0 there p (⊎_elim
-      (λ l. inl (if_gray-own h f.0.the_map p (ap (λ (n : Mapping). n.the_map) f.2 ∙ l)))
-      (λ r. inr (if_gray-own h f.0.key p (ap (λ (n : Mapping). n.key) f.2 ∙ r))) a) b
+  mapping-lost m i p a b = grind (arith, Among-map_cases, Among-filtered, member-lost, if_gray-own)
 
   -- WHERE A SNAPSHOT BEGUN DOOMS GARBAGE, IT DOOMS WHAT IS LOST.
   pub lost-doomed : IsDoomed (view (with_empty_buffer h)) (begun h) (garbage h) → IsDoomed (view (with_empty_buffer h)) (begun h) (lost h)

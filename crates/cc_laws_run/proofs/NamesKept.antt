@@ -1,5 +1,5 @@
 -- WHAT LEAVES THE NAMES OF ALL OBJECTS: what changes slots, flags, counts and colours.
-use Rattle.std.proofs.Common.{◌≡◌, ℕ, Bool, true, false, Option, Some, None, refl, ◌∙◌, ap, if◌then◌else◌}
+use Rattle.std.proofs.Common.{arith, ◌≡◌, ℕ, Bool, true, false, Option, Some, None, refl, ◌∙◌, ap, if◌then◌else◌}
 use Rattle.cc_names.specs.declared.name.Name.{Name}
 use Rattle.cc_names.specs.declared.name.Name.TheVariants as name
 use Rattle.cc_names.specs.Names.{native, object, reflector, same_name}
@@ -31,24 +31,11 @@ SameNames-alike h g a = record { natives = native_names-alike h g a; scripts = s
 
 -- a native changed
 pub SameNames-change_native : (h : Heap) (k : ℕ) (f : HeapNative → HeapNative) → KeepsNumber f → SameNames h (change_native h k f)
-SameNames-change_native h k f e = record {
-  natives = map-kept (λ (n : HeapNative). native n.number) (changed_at k f) h.natives (λ n. ap native (changed_at-number k f e n));
-  scripts = refl;
-}
+SameNames-change_native h k f e = grind (arith, map-kept, changed_at-number)
 
 -- a script object changed
 SameNames-change_script : (h : Heap) (x : Name) (f : HeapScript → HeapScript) → ((o : HeapScript) → (f o).name ≡ o.name) → SameNames h (change_script h x f)
-SameNames-change_script h x f e = record {
-  natives = refl;
-  scripts = map-kept (λ (o : HeapScript). o.name) changed h.scripts (λ o. go o (same_name o.name x));
-}
-  where
-    changed : HeapScript → HeapScript
-    changed o = if same_name o.name x then f o else o
-
-    go : (o : HeapScript) (b : Bool) → (if b then f o else o).name ≡ o.name
-    go o true = e o
-    go o false = refl
+SameNames-change_script h x f e = grind (arith, map-kept)
 
 -- a slot written
 SameNames-set_slot : (h : Heap) (x : Option Name) (i : ℕ) (y : Option Name) → SameNames h (set_slot h x i y)

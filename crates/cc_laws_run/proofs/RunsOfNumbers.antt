@@ -21,11 +21,7 @@ runs-rising _ r = omega arith
 
 -- between two numbers there is at most one break
 break-few : (i j : ℕ) → break_between i j ≤ 1
-break-few i j = go (nat_lt i j)
-  where
-    go : (b : Bool) → elim b [ true ↦ 0 | false ↦ 1 ] ≤ 1
-    go true = omega arith
-    go false = omega arith
+break-few i j = grind arith
 
 -- two lists have no more runs together than each
 pub runs-append : (is js : List ℕ) → runs (is ++ js) ≤ runs is + runs js

@@ -50,14 +50,7 @@ collect_scripts-less h s = collecting-keeps (λ o. IsLess h o.heap) (λ o c l. I
 -- what is no member leads to none over an entry
 jointly-out : (ds : List Name) (h : Heap) → IsSpent h ds → (ps : List Name) (y : Name) → Among (ps, y) (joints h.entries) →
     ((p : Name) → Among p ps → ¬ (Among p ds)) → ¬ (Among y ds)
-jointly-out ds h d ps y e out m =
-    let f = Among-map_cases joint h.entries (ps, y) e in
-    let premises : f.0.the_map ∷ f.0.key ∷ [] ≡ ps = ap (λ (p : List Name × Name). p.0) f.2 in
-    let value : f.0.value ≡ y = ap (λ (p : List Name × Name). p.1) f.2 in
-    ⊎_elim
-    (λ l. out f.0.the_map (subst (λ zs. Among f.0.the_map zs) premises (inl refl)) l)
-    (λ r. out f.0.key (subst (λ zs. Among f.0.key zs) premises (inr (inl refl))) r)
-    (d.joint f.0 f.1 (subst (λ z. Among z ds) (sym value) m))
+jointly-out ds h d ps y e out m = grind (arith, Among-map_cases)
 
 -- A SCRIPT COLLECTION LEAVES NOTHING THAT IS SPENT.
 pub collected-gone : (ds : List Name) (h : Heap) → IsSound [] h → IsSpent h ds → (x : Name) → Among x ds → ¬ (Among x (names_there (collect_scripts h).heap))

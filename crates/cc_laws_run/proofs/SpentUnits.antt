@@ -178,15 +178,7 @@ SettlesOn g ds d = HoldsOn g (Settles ds) d
 
 -- which each unit keeps
 each-settles : (g : Graph) (ds : List Name) → EachKeeps g (Settles ds)
-each-settles g ds names h o answer es r k = going k.0 k.1.0 k.1.1 k.1.2
-  where
-    after : Option Snapshot → List Event → Type 0
-    after o es = let u = unit h o answer in Settles ds u.heap u.snapshot (es ++ u.events) u.progress
-
-    going : es ≡ [] → (s : Snapshot) → o ≡ Some s → IsDoomed (view h) s ds → after o es
-    going none s same doomed =
-        let run : RunsOn g names h (Some s) = subst (RunsOn g names h) same r in
-        subst (after o) (sym none) (subst (λ o. after o []) (sym same) (unit-settles h s ds answer run.sound run.fresh doomed))
+each-settles g ds names h o answer es r k = grind (arith, unit-settles)
 
 module _ (g : Graph) (well : IsWellMade g) (ds : List Name) where
   -- units in a row leave such a one

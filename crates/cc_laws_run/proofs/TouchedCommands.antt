@@ -85,19 +85,12 @@ Spares-new_object ds h kind n out = Spares-new_script ds h (blank (object (h.scr
 -- a reflector made, where neither it nor its native is one
 Spares-new_reflector : (ds : List Name) (h : Heap) (k : ℕ) → ¬ (Among (native k) ds) → ¬ (Among (reflector k) ds) →
     Spares ds (view h) (view (with_script h (reflector k) Reflector reflector_slots))
-Spares-new_reflector ds h k out none = Spares-new_script ds h (blank (reflector k) Reflector reflector_slots) none
-    (λ x y i m.
-    let f = blank-edge (reflector k) Reflector reflector_slots x y m in
-    let same : native k ≡ native f.0 = ap (λ z. native (number_of z)) f.1 in
-    out (subst (λ z. Among z ds) (sym same) (subst (λ z. Among z ds) (sym f.2) i)))
+Spares-new_reflector ds h k out none = grind (arith, Spares-new_script, blank-edge)
 
 -- with an entry set to what is no member, each with a member for its value was there
 entry-old : (ds : List Name) (h : Heap) (m k v : Name) → ¬ (Among v ds) →
     (e : Entry) → Among e.value ds → Among e (with_entry h.entries m k v) → Among e (preserve h (Some k)).entries
-entry-old ds h m k v out e i j = ⊎_elim
-    (λ n. absurd (out (subst (λ (f : Entry). Among f.value ds) (sym n) i)))
-    (λ t. subst (λ es. Among e es) (sym (entries-preserve h (Some k))) t)
-    (with_entry-cases h.entries m k v e j)
+entry-old ds h m k v out e i j = grind (arith, entries-preserve, with_entry-cases)
 
 module _ (ds : List Name) (g : Heap) where
   -- heaps that leave these names alone

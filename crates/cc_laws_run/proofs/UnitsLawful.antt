@@ -56,14 +56,7 @@ only-placed refused before later n o = subst (λ l. ends_with_one (before ++ l) 
 -- units after events without an abandonment add at most one rising run
 pub row-lawful : (g : Graph) (names : List Name) (c : Command) (most : ℕ) (before : List Event) (d : UnitsDone) → UnitsAreLawful g names c before d →
     has_none before ≡ true → runs (unlinked_numbers before) ≤ most → IsLawfulRow g names c (most + 1) d
-row-lawful g names c most before d l none few = record {
-  still = l.still;
-  each = l.each;
-  few = subst (λ es. runs (unlinked_numbers es) ≤ most + 1) (sym l.told)
-      (subst (λ ks. runs ks ≤ most + 1) (sym (flat_map-append unlinked_in before l.later))
-      (omega (arith, runs-append (unlinked_numbers before) (unlinked_numbers l.later), only-few d.progress l.later l.only)));
-  placed = subst (IsPlaced d.progress) (sym l.told) (only-placed d.progress before l.later none l.only);
-}
+row-lawful g names c most before d l none few = grind (arith, flat_map-append, runs-append, only-few, only-placed)
 
 module _ (g : Graph) (well : IsWellMade g) (c : Command) (moves : (runs_units c || is_gc c) ≡ true) (names : List Name) where
   -- no units at all

@@ -34,17 +34,7 @@ behind-with_state state closed (n ∷ ns) x e = go (behind-with_state state clos
 
 -- nodes that are added are not
 behind-with_node : (ns : List Node) (y : Name) → nodes_behind (with_node ns y) ≡ nodes_behind ns
-behind-with_node ns y = go (has same_name (map (λ (n : Node). n.name) ns) y)
-  where
-    by_test : Bool → List Node
-    by_test true = ns
-    by_test false = ns ++ new_node y ∷ []
-
-    go : (b : Bool) → nodes_behind (by_test b) ≡ nodes_behind ns
-    go true = refl
-    go false =
-        let more : nodes_behind (ns ++ new_node y ∷ []) ≡ nodes_behind ns + 0 = count_by-append is_behind ns (new_node y ∷ []) in
-        omega (arith, more)
+behind-with_node ns y = grind (arith, count_by-append)
 
 behind-with_nodes : (ns : List Node) (ys : List Name) → nodes_behind (with_nodes ns ys) ≡ nodes_behind ns
 behind-with_nodes ns [] = refl

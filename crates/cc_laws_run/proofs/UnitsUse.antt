@@ -47,13 +47,7 @@ ample-later (b ∷ bs) e = omega (arith, e, count_by-cons (λ c. not c) b bs)
 
 -- where nothing is done, nothing is used
 uses-nothing : (d : UnitsDone) → UnitsUse (done_with d) d d
-uses-nothing d = record {
-  used = [];
-  any = λ more. refl;
-  said_no = omega arith;
-  told = refl;
-  ample = λ e none. (refl, e, none);
-}
+uses-nothing d = grind arith
 
 -- what is done one after the other uses one front, and then the other
 uses-then : (f : List Bool → UnitsDone) (g : UnitsDone → UnitsDone) (d r s : UnitsDone) → UnitsUse f d r → UnitsUse (λ memory. g (done_with r memory)) r s →
