@@ -53,7 +53,7 @@ unfolding hold_native
 drop_native-loyal h d room s = hold_native-loyal h d None room (λ y m. absurd m) s
 
 -- a native is made
-make_native-loyal : {owned : List ℕ} (h : Heap) (d n : ℕ) → d < 256 → n ≤ 64 → h.natives_made < h.limits.natives → IsSound owned h →
+pub make_native-loyal : {owned : List ℕ} (h : Heap) (d n : ℕ) → d < 256 → n ≤ 64 → h.natives_made < h.limits.natives → IsSound owned h →
     IsLoyal (view h) (view (make_native h d n).heap)
 unfolding make_native
 make_native-loyal {owned} h d n room few allowed s =

@@ -1,6 +1,6 @@
 -- A REFERENCE HANDED OVER IS A LOYAL CHANGE: first heaps change so that only what is then given up loses a reference,
 -- and a register holds or reaches who was touched or made; then what was held before is given up.
-use Rattle.std.proofs.Common.{◌≡◌, ℕ, true, List, ◌++◌, map, Option, Some, None, refl, sym, ◌∙◌, ap, subst, inl, inr, ◌⊎◌, ⊎_elim}
+use Rattle.std.proofs.Common.{◌≡◌, ℕ, true, List, ◌++◌, map, Option, Some, None, refl, sym, ◌∙◌, ap, subst, inl, inr, ◌⊎◌, ⊎_elim, []}
 use Rattle.std.specs.List.{flat_map}
 use Rattle.cc_lists.specs.Members.{Among}
 use Rattle.cc_lists.proofs.Members.{Among-map, Among-map_cases, Among-left, Among-right, Among-append, Among-flat_map}
@@ -21,7 +21,7 @@ use Rattle.cc_laws_heap.proofs.ScriptsKept.{native-no_script as script-no_native
 use Rattle.cc_laws_snapshot.proofs.NamePairs.{native-no_script}
 use Rattle.cc_laws_snapshot.proofs.Edges.{edge-of, script_edges-has, native_edges-has}
 use Rattle.cc_laws_snapshot.specs.Losing.{PurpleOrGone, Loses, IsLoyal}
-use Rattle.cc_laws_snapshot.proofs.BufferMarks.{IsPurple}
+use Rattle.cc_laws_snapshot.proofs.BufferMarks.{IsPurple, buffer-place}
 use Rattle.cc_laws_snapshot.proofs.NamesAndEdges.{named-of_living, living-number, living-of_named}
 use Rattle.cc_laws_snapshot.proofs.LoyalSuspected.{loses-same}
 use Rattle.cc_laws_snapshot.proofs.LosesTo.{HasLivingBuffer-view}
@@ -97,7 +97,7 @@ let_go-loses owned x g s = LetsGo-nothing x g (λ i m. m)
 
 -- Both parts
 
-module _ (y : Option Name) (h g f : Heap) (before : IsWellFormed h) (later : IsWellFormed f) (c : Hands (numbers_of y) h g) (l : LetsGo y g f) where
+module _ (y : Option Name) (h g f : Heap) (before : IsWellFormed h) (c : Hands (numbers_of y) h g) (l : LetsGo y g f) where
   -- an edge to a native
   edge-kept : (x : Name) (i : ℕ) → Among (x, native i) (view h).edges → Among (x, native i) (view f).edges ⊎ PurpleOrGone (view f) i
   edge-kept x i m = ⊎_elim
@@ -120,12 +120,13 @@ module _ (y : Option Name) (h g f : Heap) (before : IsWellFormed h) (later : IsW
   -- who stands in the buffer
   buffer-kept : (x : Name) → Among x (view f).buffer → Among x (view h).buffer ⊎ (Among x (view f).purple ⊎ ReachedIn (view f) x)
   buffer-kept x m =
-      let b = HasLivingBuffer-view f later x m in
-      subst (λ z. Among z (view h).buffer ⊎ (Among z (view f).purple ⊎ ReachedIn (view f) z)) (sym b.1)
+      let b = buffer-place f x m in
+      let k : ℕ = b.0.number in
+      subst (λ z. Among z (view h).buffer ⊎ (Among z (view f).purple ⊎ ReachedIn (view f) z)) b.2
       (⊎_elim
-      (λ n. ⊎_elim (λ o. inl o) (λ r. inr (inr (l.reached (native b.0) r))) (c.buffer b.0 n))
+      (λ n. ⊎_elim (λ o. inl o) (λ r. inr (inr (l.reached (native k) r))) (c.buffer k n))
       (λ p. inr (inl p))
-      (l.loses.buffer (native b.0) (subst (λ z. Among z (view f).buffer) b.1 m)))
+      (l.loses.buffer (native k) (subst (λ z. Among z (view f).buffer) (sym b.2) m)))
 
   -- who lives
   living-kept : (x : Name) → IsLiving (view f) x → IsLiving (view h) x ⊎ ReachedIn (view f) x
@@ -150,4 +151,8 @@ module _ (y : Option Name) (h g f : Heap) (before : IsWellFormed h) (later : IsW
 -- What is handed over, and what was held then given up, is a loyal change.
 pub handed-loyal : (owned : List ℕ) (y : Option Name) (h g : Heap) → IsWellFormed h → IsSound (numbers_of y ++ owned) g → Hands (numbers_of y) h g →
     IsLoyal (view h) (view (let_go g y).heap)
-handed-loyal owned y h g w s c = both-loyal y h g (let_go g y).heap w (let_go-sound owned g y s).well_formed c (let_go-loses owned y g s)
+handed-loyal owned y h g w s c = both-loyal y h g (let_go g y).heap w c (let_go-loses owned y g s)
+
+-- And so is one where nothing was held.
+pub hands-loyal : (h g : Heap) → IsWellFormed h → Hands [] h g → IsLoyal (view h) (view g)
+hands-loyal h g w c = both-loyal None h g g w c (LetsGo-nothing None g (λ i m. m))

@@ -140,10 +140,10 @@ Still-make_object h d kind n = Still-trans h (with_script_last h o made) (make_o
 
 -- Natives wrapped
 
--- who was touched, and is in a native register, is reached whatever else changes
-Hands-taken : (h i g : Heap) (x : Option Name) → TakesUp h i x → native_names i ≡ native_names h → Still i g →
-    ((j : ℕ) → Among (native j) (option_to_list x) → Among (native j) (contents i.native_registers)) → Hands [] h g
-Hands-taken h i g x t names s there = record {
+-- who was touched is reached, and beside natives anything may change
+pub Hands-taken : (h i g : Heap) (x : Option Name) → TakesUp h i x → native_names i ≡ native_names h → Still i g →
+    ((j : ℕ) → Among (native j) (option_to_list x) → ReachedIn (view g) (native j)) → Hands [] h g
+Hands-taken h i g x t names s held = record {
   slots = λ n j m c.
       let k = t.natives n m in
       let slots : k.0.slots ≡ n.slots = ap (λ (u : Uncounted). u.slots) k.2 in
@@ -155,9 +155,6 @@ Hands-taken h i g x t names s there = record {
   buffer = λ j m. ⊎_elim (λ q. inl q) (λ n. inr (held j n)) (t.buffer j (subst (λ bs. Among (native j) (map buffered bs)) s.buffer m));
   living = λ j m. inl (subst (λ xs. Among (native j) xs) (s.names ∙ names) m);
 }
-  where
-    held : (j : ℕ) → Among (native j) (option_to_list x) → ReachedIn (view g) (native j)
-    held j m = register-reached g (native j) (subst (λ s. Among (native j) (contents s)) (sym s.registers) (there j m))
 
 -- what a native register holds is wrapped, and a script register holds the reflector
 pub Hands-wrapped : (h : Heap) (d : ℕ) (x : Option Name) → ((j : ℕ) → Among (native j) (option_to_list x) → Among (native j) (contents h.native_registers)) →
@@ -174,4 +171,4 @@ Hands-wrapped h d (Some (name.Native k)) there = go (has_reflector h k.0)
         (Still-trans (add_ref h k.0) (with_reflector h k.0) (set_register (with_reflector h k.0) (S d) (Some (reflector k.0)))
         (Still-script_last (add_ref h k.0) (blank (reflector k.0) Reflector reflector_slots) h.scripts_made)
         (Still-script_register (with_reflector h k.0) d (Some (reflector k.0))))
-        there
+        (λ j m. register-reached (set_register (with_reflector h k.0) (S d) (Some (reflector k.0))) (native j) (there j m))
