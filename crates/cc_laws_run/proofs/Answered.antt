@@ -94,13 +94,7 @@ each-freed g c (k ∷ ks) names once there unreached = (
 -- a command that the graph refuses
 refused-answers : (s : State) (c : Command) (refusal : Refusal) → refusal_of (graph.objects_of s.graph) c ≡ Some refusal →
     IsTrue (moves_no_collection (taken c)) → AnswersCommand s c (Refused refusal) []
-refused-answers s c refusal e t = record {
-  replies = inl (sym (ap (λ o. refused_or o (reply_if_taken (graph.objects_of s.graph) c)) e));
-  quiet = λ f. refl;
-  each = tt;
-  rising = rising-none c [] refl;
-  abandonment = abandonment-none c (Refused refusal) [] t refl;
-}
+refused-answers s c refusal e t = grind (arith, rising-none, abandonment-none)
 
 -- what takes memory may want it
 takes-may_want : (m : Machine) (s : State) (c : Command) → IsRunning m s → takes_memory m.heap c ≡ true → IsTrue (may_want_memory s c)
@@ -115,10 +109,8 @@ takes-may_want m s (Wrap d n) r t =
     (go (heap.register m.heap (N n)) t)
   where
     go : (x : Option Name) → lacks_reflector m.heap x ≡ true → not (is_listed s.listed (reflector_of x)) ≡ true
-    go None e = absurd (false≢true e)
     go (Some (name.Native k)) e = ap not (has-listed_reflector m.heap s.listed (native_names m.heap) k.0 (running-listed m s r)) ∙ e
-    go (Some (name.Script k)) e = absurd (false≢true e)
-    go (Some (name.Reflector k)) e = absurd (false≢true e)
+    go _ e = absurd (false≢true e)
 takes-may_want m s c r t = absurd (false≢true t)
 
 -- a command that wants memory
@@ -180,12 +172,11 @@ mutate-answers m s c r i t = mutate-cases m c (λ (u : Turn). (u.answer.listed �
 pub ask-answers : (m : Machine) (s : State) (ask : Ask) → IsRunning m s → IsTrue (ask_in_range ask) → IsTrue (moves_no_collection ask) →
     AnswersAsk s ask (do_ask m ask).answer
 unfolding do_ask
-ask-answers m s long r i t = refl
-ask-answers m s bad r i t = refl
-ask-answers m s (taken Nothing) r i t = refl
 ask-answers m s (taken Census) r i t = ap (λ (xs : List Name). listing xs (counted (length xs))) r.listed
     ∙ ap (λ k. listing (census_order s.listed) (counted k)) (length-census_order s.listed)
 ask-answers m s (taken (Slice u)) r i t = absurd (false≢true t)
 ask-answers m s (taken Collect) r i t = absurd (false≢true t)
 ask-answers m s (taken Gc) r i t = absurd (false≢true t)
+ask-answers m s (taken Nothing) r i t = refl
 ask-answers m s (taken c) r i t = mutate-answers m s c r i t
+ask-answers m s _ r i t = refl

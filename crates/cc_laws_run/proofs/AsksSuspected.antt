@@ -13,9 +13,9 @@ use Rattle.cc_model.specs.Sweep.{collect_scripts}
 use Rattle.cc_model.specs.Snapshot.{Snapshot}
 use Rattle.cc_model.specs.Units.{first_untraversed, to_note, after_node}
 use Rattle.cc_model.specs.Suspected.{IsSuspected}
-use Rattle.cc_model.specs.End.{abandoned, granted, node_or_end, unit}
+use Rattle.cc_model.specs.End.{abandoned, granted, node_or_end, unit, went_on}
 use Rattle.cc_model.specs.Lawful.{State}
-use Rattle.cc_model.specs.Collecting.{Machine, UnitsDone, no_units, finish_running, slice, collect, gc}
+use Rattle.cc_model.specs.Collecting.{Machine, UnitsDone, no_units, finish_running, slice, collect, gc, enough_units, starting_anew}
 use Rattle.cc_model.specs.Run.{Turn, mutate, do_ask}
 use Rattle.cc_laws_heap.specs.Sound.{IsSound}
 use Rattle.cc_laws_run.specs.Doomed.{candidates_now, IsSuspectedNow}
@@ -28,7 +28,8 @@ use Rattle.cc_laws_run.proofs.CommandCases.{mutate-cases}
 use Rattle.cc_laws_run.proofs.UnitLawful.{unit-cases, traversed-none}
 use Rattle.cc_laws_run.proofs.UnitsLawful.{finish-drops}
 use Rattle.cc_laws_run.proofs.CollectionsLawful.{running-on}
-use Rattle.cc_laws_run.proofs.HoldingUnits.{Manner, EachKeeps, HoldsOn, slice-holds, finish-holds, collect-holds}
+use Rattle.cc_laws_run.proofs.HoldingUnits.{Manner, EachKeeps, HoldsOn, slice-holds, finish-holds, collect-holds, unless_stopped-cases}
+use Rattle.cc_laws_run.proofs.QuietUnits.{IsGoing, units-going, IsGoingOn, gc-collects, finish_running-going, running-going}
 
 -- Commands of the mutator
 
@@ -39,79 +40,41 @@ mutate-suspected m c s i suspected = mutate-cases m c (λ (u : Turn). IsSuspecte
     (λ e f. suspected)
     (λ e memory. effects-suspected m.heap c (candidates_now m.snapshot) s i e suspected)
 
--- One unit
-
--- the unit of a node keeps the candidates
-after_node-suspected : (h : Heap) (s : Snapshot) (x : Name) (o : Option (List Name)) → IsSuspected (view h) s.candidates →
-    IsSuspected (view h) (after_node h s x o).candidates
-after_node-suspected h s x None suspected = suspected
-after_node-suspected h s x (Some ys) suspected = suspected
-
--- a unit that has its memory forgets none
-granted-suspected : (h : Heap) (s : Option Snapshot) → IsSound [] h → IsFreshNow h s → IsSuspected (view h) (candidates_now s) →
-    IsSuspected (view (granted h s).heap) (candidates_now (granted h s).snapshot)
-granted-suspected h None sound fresh suspected = begin-suspected h suspected
-granted-suspected h (Some s) sound fresh suspected = go (first_untraversed s.nodes) refl
-  where
-    go : (o : Option Name) → first_untraversed s.nodes ≡ o → IsSuspected (view (node_or_end h s o).heap) (candidates_now (node_or_end h s o).snapshot)
-    go None e = end-suspected h s sound fresh (λ x. traversed-none s.nodes e x) suspected
-    go (Some x) e = after_node-suspected h s x (to_note h x) suspected
-
--- nor does one that is refused
-abandoned-suspected : (h : Heap) (s : Option Snapshot) → IsSound [] h → IsSuspected (view h) (candidates_now s) →
-    IsSuspected (view (abandoned h s).heap) []
-abandoned-suspected h None sound suspected = suspected
-abandoned-suspected h (Some s) sound suspected = give_back-suspected h s.candidates sound suspected
-
--- A UNIT FORGETS NO UNREACHED NATIVE.
-unit-suspected : (h : Heap) (s : Option Snapshot) (memory : Bool) → IsSound [] h → IsFreshNow h s → IsSuspected (view h) (candidates_now s) →
-    IsSuspected (view (unit h s memory).heap) (candidates_now (unit h s memory).snapshot)
-unit-suspected h s memory sound fresh suspected = unit-cases h s memory (λ u. IsSuspected (view u.heap) (candidates_now u.snapshot))
-    (abandoned-suspected h s sound suspected)
-    (granted-suspected h s sound fresh suspected)
-
--- Units one after the other
-
--- no unreached native is forgotten
-abbrev Suspecting : Manner
-Suspecting h o es = IsSuspected (view h) (candidates_now o)
-
--- which each unit keeps
-each-suspects : (g : Graph) → EachKeeps g Suspecting
-each-suspects g names h o answer es r suspected = unit-suspected h o answer r.sound r.fresh suspected
+-- Units
 
 module _ (m : Machine) (s : State) (r : IsRunning m s) (suspected : IsSuspectedNow m) where
-  -- a machine that runs and forgot none
-  suspecting-on : HoldsOn s.graph Suspecting (no_units m)
-  suspecting-on = record { names = s.listed; runs = running-on m s r; holds = suspected }
+  -- the collection goes on
+  going : IsGoing m.heap m.snapshot went_on
+  going = running-going m s r suspected
 
   -- the units of a slice forget none
   slice-suspected : (n : ℕ) → IsSuspectedNow (slice n m).machine
-  slice-suspected n = (slice-holds s.graph r.well_made Suspecting (each-suspects s.graph) n m suspecting-on).holds
+  unfolding slice
+  slice-suspected n = (units-going n (no_units m) going).suspected
 
   -- nor do those of a whole collection
   collect-suspected : IsSuspectedNow (collect m).machine
-  collect-suspected = (collect-holds s.graph r.well_made Suspecting (each-suspects s.graph) m suspecting-on).holds
+  unfolding collect
+  collect-suspected =
+      let d : UnitsDone = finish_running m in
+      let f : IsGoingOn d = (finish_running-going m going).0 in
+      unless_stopped-cases d (λ u. IsSuspectedNow u.machine) (λ e. f.suspected) (λ e. (units-going (enough_units d.machine) (starting_anew d)
+      (record { sound = f.sound; colours = f.colours; fresh = f.fresh; suspected = f.suspected; stopped = λ n. absurd (n refl) })).suspected)
 
   -- `gc` forgets none: its script collection finds no collection running
   gc-suspected : IsSuspectedNow (gc m).machine
-  unfolding gc
   gc-suspected =
-      let d : UnitsDone = finish_running m in
-      let first : HoldsOn s.graph Suspecting d = finish-holds s.graph r.well_made Suspecting (each-suspects s.graph) m suspecting-on in
-      let none : d.machine.snapshot ≡ None = finish-drops s.graph r.well_made Collect refl s.listed m (running-on m s r) in
-      subst (λ o. IsSuspected (view (collect_scripts d.machine.heap).heap) (candidates_now o)) (sym none)
-      (collect_scripts-suspected d.machine.heap first.runs.sound
-      (subst (λ o. IsSuspected (view d.machine.heap) (candidates_now o)) none first.holds))
+      let f = gc-collects m going in
+      subst (λ o. IsSuspected (view (gc m).machine.heap) (candidates_now o)) (sym f.4)
+      (subst (λ h. IsSuspected (view h) []) (sym f.3) (collect_scripts-suspected f.0 f.1 f.2))
 
 -- NO ASK FORGETS AN UNREACHED NATIVE.
 pub ask-suspected : (m : Machine) (s : State) (ask : Ask) → IsRunning m s → IsTrue (ask_in_range ask) → IsSuspectedNow m → IsSuspectedNow (do_ask m ask).machine
 unfolding do_ask
-ask-suspected m s long r i t = t
-ask-suspected m s bad r i t = t
-ask-suspected m s (taken Nothing) r i t = t
-ask-suspected m s (taken Census) r i t = t
 ask-suspected m s (taken (Slice u)) r i t = slice-suspected m s r t u
 ask-suspected m s (taken Collect) r i t = collect-suspected m s r t
 ask-suspected m s (taken Gc) r i t = gc-suspected m s r t
+ask-suspected m s (taken Nothing) r i t = t
+ask-suspected m s (taken Census) r i t = t
 ask-suspected m s (taken c) r i t = mutate-suspected m c r.sound i t
+ask-suspected m s _ r i t = t

@@ -17,15 +17,16 @@ use Rattle.cc_model.specs.Run.{Turn, answering, with_effects, if_granted, unless
 use Rattle.cc_laws_run.specs.Memory.{with_memory, noes, noes_of_reply, noes_told}
 use Rattle.cc_laws_run.proofs.Unabandoned.{abandonments, TellsNone, effects-none}
 use Rattle.cc_laws_run.proofs.CommandCases.{taken-granted}
-use Rattle.cc_laws_run.proofs.UnitsUse.{refusals, UnitsUse, slice-use, collect-use, gc-use}
+use Rattle.cc_laws_run.proofs.UnitsUse.{refusals, UnitsUse, slice-use, collect-use, gc-use, ample-next, ample-later}
 
 -- the same turn, with other answers of memory to come
 abbrev pub turn_with : Turn → List Bool → Turn
 turn_with t memory = record t { machine = with_memory t.machine memory }
 
--- memory is still at every place, and no want of it was told
-pub record HasAmple (t : Turn) : Type 0 where
-  pub memory : t.machine.memory ≡ []
+-- the first turn has memory at every place, in the second it never says no: they are the same, and no want of it was told
+pub record HasAmple (all t : Turn) : Type 0 where
+  pub same : all ≡ turn_with t []
+  pub memory : noes t.machine.memory ≡ 0
   pub reply : noes_of_reply t.answer.reply ≡ 0
   pub events : TellsNone t.answer.events
 
@@ -34,7 +35,7 @@ pub record TurnUse (f : List Bool → Turn) (told : Answer → ℕ) (memory : Li
   pub used : List Bool
   pub any : (more : List Bool) → f (used ++ more) ≡ turn_with t more
   pub said_no : noes used ≡ told t.answer
-  pub ample : memory ≡ [] → HasAmple t
+  pub ample : noes memory ≡ 0 → HasAmple (f []) t
 
 -- the noes that a reply tells
 abbrev in_reply : Answer → ℕ
@@ -48,16 +49,7 @@ noes_of_refusal (Some refusal) = noes_of_reply (Some (Refused refusal))
 -- No check refuses memory.
 refusal-noes : (o : Objects) (c : Command) → noes_of_refusal (refusal_of o c) ≡ 0
 unfolding refusal_of
-refusal-noes o c = go (lacks_object o c) (has_wrong_object o c) (has_no_slot o c) (has_wrong_content o c) (is_full o c)
-  where
-    go : (empty kind slot content full : Bool) →
-        noes_of_refusal (first_refusal ((empty, Empty) ∷ (kind, Kind) ∷ (slot, Slot) ∷ (content, Kind) ∷ (full, Full) ∷ [])) ≡ 0
-    go true kind slot content full = refl
-    go false true slot content full = refl
-    go false false true content full = refl
-    go false false false true full = refl
-    go false false false false true = refl
-    go false false false false false = refl
+refusal-noes o c = grind arith
 
 -- and the reply to a command that is done tells no want of it
 reply-noes : (o : Objects) (c : Command) → noes_of_reply (Some (reply_if_taken o c)) ≡ 0
@@ -95,68 +87,49 @@ mutate-use m c = go (refusal_of (objects_of m.heap) c) (refusal-noes (objects_of
       used = next_answer m.memory ∷ [];
       any = λ more. any (next_answer m.memory) (later_answers m.memory) more;
       said_no = said_no (next_answer m.memory) (later_answers m.memory);
-      ample = λ e. subst (λ memory. HasAmple (answered (next_answer memory) (later_answers memory))) (sym e)
-          (record { memory = refl; reply = replies; events = effects-none m.heap c });
+      ample = λ e. subst (λ b. HasAmple (answered true []) (answered b (later_answers m.memory))) (sym (ample-next m.memory e))
+          (record { same = refl; memory = ample-later m.memory e; reply = replies; events = effects-none m.heap c });
     }
     by_memory false = record {
       used = [];
       any = λ more. refl;
       said_no = sym replies;
-      ample = λ e. record { memory = e; reply = replies; events = effects-none m.heap c };
+      ample = λ e. record { same = refl; memory = e; reply = replies; events = effects-none m.heap c };
     }
 
     go : (r : Option Refusal) → noes_of_refusal r ≡ 0 → TurnUse (λ memory. unless_refused (with_memory m memory) c r) in_reply m.memory (unless_refused m c r)
     go None none = by_memory (takes_memory m.heap c)
-    go (Some refusal) none = record { used = []; any = λ more. refl; said_no = sym none; ample = λ e. record { memory = e; reply = none; events = refl } }
+    go (Some refusal) none = record { used = []; any = λ more. refl; said_no = sym none; ample = λ e. record { same = refl; memory = e; reply = none; events = refl } }
 
 -- The other commands
 
 -- the reply to units tells a refusal
 reply_to_units-noes : (p : Progress) → noes_of_reply (Some (reply_to_units p)) ≡ refusals p
 reply_to_units-noes went_on = refl
-reply_to_units-noes at_end = refl
-reply_to_units-noes refused = refl
+reply_to_units-noes _ = refl
 
 -- what units use, their turn uses
 after_units-use : (f : List Bool → UnitsDone) (m : Machine) (r : UnitsDone) → UnitsUse f (no_units m) r →
     TurnUse (λ memory. after_units (f memory)) in_reply m.memory (after_units r)
-after_units-use f m r u =
-    let no : noes u.used + 0 ≡ refusals r.progress = u.said_no in
-    let told : abandonments r.events + 0 ≡ 0 + refusals r.progress = u.told in
-    record {
-      used = u.used;
-      any = λ more. ap after_units (u.any more);
-      said_no = omega (arith, no, reply_to_units-noes r.progress);
-      ample = λ e. let w = u.ample e refl in
-          record { memory = w.0; reply = reply_to_units-noes r.progress ∙ w.1; events = omega (arith, told, w.1) };
-    }
+after_units-use f m r u = grind (arith, reply_to_units-noes)
 
 -- under `gc` the events tell a refusal
 after_gc-use : (f : List Bool → UnitsDone) (m : Machine) (r : UnitsDone) → UnitsUse f (no_units m) r →
     TurnUse (λ memory. after_gc (f memory)) (λ a. abandonments a.events) m.memory (after_gc r)
-after_gc-use f m r u =
-    let no : noes u.used + 0 ≡ refusals r.progress = u.said_no in
-    let told : abandonments r.events + 0 ≡ 0 + refusals r.progress = u.told in
-    record {
-      used = u.used;
-      any = λ more. ap after_gc (u.any more);
-      said_no = omega (arith, no, told);
-      ample = λ e. let w = u.ample e refl in record { memory = w.0; reply = refl; events = omega (arith, told, w.1) };
-    }
+after_gc-use f m r u = grind arith
 
 -- a turn that asks no memory and tells nothing
 silent-use : (m : Machine) (a : Answer) → noes_of_reply a.reply ≡ 0 → TellsNone a.events →
     TurnUse (λ memory. record { machine = with_memory m memory; answer = a }) in_reply m.memory (record { machine = m; answer = a })
-silent-use m a reply events = record { used = []; any = λ more. refl; said_no = sym reply; ample = λ e. record { memory = e; reply = reply; events = events } }
+silent-use m a reply events = record { used = []; any = λ more. refl; said_no = sym reply; ample = λ e. record { same = refl; memory = e; reply = reply; events = events } }
 
 -- AN ASK USES A FRONT OF MEMORY'S ANSWERS.
 pub ask-use : (m : Machine) (ask : Ask) → TurnUse (λ memory. do_ask (with_memory m memory) ask) (noes_told ask) m.memory (do_ask m ask)
 unfolding do_ask
-ask-use m long = silent-use m _ refl refl
-ask-use m bad = silent-use m _ refl refl
-ask-use m (taken Nothing) = silent-use m _ refl refl
-ask-use m (taken Census) = silent-use m _ refl refl
 ask-use m (taken (Slice n)) = after_units-use (λ memory. slice n (with_memory m memory)) m (slice n m) (slice-use n m)
 ask-use m (taken Collect) = after_units-use (λ memory. collect (with_memory m memory)) m (collect m) (collect-use m)
 ask-use m (taken Gc) = after_gc-use (λ memory. gc (with_memory m memory)) m (gc m) (gc-use m)
+ask-use m (taken Nothing) = silent-use m _ refl refl
+ask-use m (taken Census) = silent-use m _ refl refl
 ask-use m (taken c) = mutate-use m c
+ask-use m _ = silent-use m _ refl refl

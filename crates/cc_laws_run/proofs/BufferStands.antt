@@ -1,5 +1,5 @@
 -- HEAPS WITH ANOTHER BUFFER stay sound, and stand for the same graph.
-use Rattle.std.proofs.Common.{◌≡◌, List, [], Some}
+use Rattle.std.proofs.Common.{arith, ◌≡◌, List, [], Some}
 use Rattle.cc_names.specs.declared.name.Name.{Name}
 use Rattle.cc_names.specs.declared.name.Name.TheVariants.{Native, Script, Reflector}
 use Rattle.cc_model.specs.Graph.{Graph}
@@ -12,12 +12,7 @@ use Rattle.cc_laws_heap.proofs.Kept.{IsBuffer, with_buffer, IsWellFormed-buffer}
 
 -- counts do not read the buffer
 pub IsSound-buffer : (h : Heap) (bs : List Buffered) → IsSound [] h → IsBuffer h bs → IsSound [] (with_buffer h bs)
-IsSound-buffer h bs s b = record {
-  well_formed = IsWellFormed-buffer h bs s.well_formed b;
-  counts = s.counts;
-  none_zero = s.none_zero;
-  owned_there = s.owned_there;
-}
+IsSound-buffer h bs s b = grind (arith, IsWellFormed-buffer)
 
 -- nor do colours
 pub HasColourInvariant-buffer : (h : Heap) (bs : List Buffered) → HasColourInvariant (view h) → HasColourInvariant (view (with_buffer h bs))
@@ -25,22 +20,4 @@ HasColourInvariant-buffer h bs c = record { black_to_black = c.black_to_black; h
 
 -- The graph has no buffer.
 pub StandsFor-buffer : (h : Heap) (bs : List Buffered) (g : Graph) → StandsFor h g → StandsFor (with_buffer h bs) g
-StandsFor-buffer h bs g s = record {
-  native_registers = s.native_registers;
-  script_registers = s.script_registers;
-  limits = s.limits;
-  natives_made = s.natives_made;
-  scripts_made = s.scripts_made;
-  natives = s.natives;
-  scripts = s.scripts;
-  reached = λ x d. let k = s.reached x d in record { shape = k.shape; made = k.made; there = shape_there x k.shape k.there };
-  values = s.values;
-  entries = s.entries;
-  blank = s.blank;
-  blank_there = s.blank_there;
-}
-  where
-    shape_there : (x : Name) (shape : Shape) → shape_at h x ≡ Some shape → shape_at (with_buffer h bs) x ≡ Some shape
-    shape_there (Native k) shape e = e
-    shape_there (Script k) shape e = e
-    shape_there (Reflector k) shape e = e
+StandsFor-buffer h bs g s = grind arith

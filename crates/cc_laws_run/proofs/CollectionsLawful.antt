@@ -1,6 +1,6 @@
 -- `slice`, `collect` and `gc` are answered lawfully and leave a machine that runs.
 use Rattle.std.specs.Prelude.{IsTrue}
-use Rattle.std.proofs.Common.{◌≡◌, ℕ, Bool, true, false, not, ◌&&◌, List, Some, None, refl, sym, ◌∙◌, ap, subst, inl, inr}
+use Rattle.std.proofs.Common.{arith, ◌≡◌, ℕ, Bool, true, false, not, ◌&&◌, List, Some, None, refl, sym, ◌∙◌, ap, subst, inl, inr}
 use Rattle.std.proofs.lemmas.Bool.{false≢true, le-leb}
 use Rattle.cc_names.specs.declared.name.Name.{Name}
 use Rattle.cc_model.specs.declared.command.Command.{Command}
@@ -15,7 +15,7 @@ use Rattle.cc_model.specs.WellMade.{IsWellMade}
 use Rattle.cc_model.specs.StandsFor.{StandsFor}
 use Rattle.cc_model.specs.End.{Progress, went_on, at_end, refused}
 use Rattle.cc_model.specs.Collecting.{Machine, UnitsDone, slice, collect, gc, reply_to_units}
-use Rattle.cc_model.specs.Listed.{census_order, after_events}
+use Rattle.cc_model.specs.Listed.{census_order, after_events, listed}
 use Rattle.cc_model.specs.Run.{do_ask}
 use Rattle.cc_model.specs.Lawful.{State, AnswersAsk, next, AnswersCommand, RepliesWith, EachMayBe, graph_after, may_want_memory, is_refused, is_abandoning, is_without_memory, is_gc, runs_units, runs, runs_allowed, unlinked_numbers, has_none, ends_with_one, has_abandonment_in_place, begins_with_at_most_one}
 use Rattle.cc_laws_run.specs.Running.{IsRunning}
@@ -29,14 +29,7 @@ running-on m s r = record { sound = r.sound; colours = r.colours; fresh = r.fres
 
 -- a machine whose heaps run beside a graph runs beside it
 runs-from : (m : Machine) (s : State) (g : Graph) (names : List Name) → IsWellMade g → RunsOn g names m.heap m.snapshot → s.graph ≡ g → s.listed ≡ names → IsRunning m s
-runs-from m s g names well r graph names_are = record {
-  sound = r.sound;
-  colours = r.colours;
-  fresh = r.fresh;
-  well_made = subst IsWellMade (sym graph) well;
-  stands = subst (StandsFor m.heap) (sym graph) r.stands;
-  listed = r.listed ∙ ap census_order (sym names_are);
-}
+runs-from m s g names well r graph names_are = grind arith
 
 -- Slices and collections
 
@@ -69,42 +62,26 @@ in_place units without gc es = elim (units && without) [
 module _ (s : State) (c : Command) (t : MovesUnits s c) where
   -- the graph stays as it is
   graph-left : (p : Progress) → graph_after s.graph c (Some (reply_to_units p)) ≡ s.graph
-  graph-left went_on = t.left
-  graph-left at_end = t.left
   graph-left refused = refl
+  graph-left _ = t.left
 
   -- it is done, or refused memory
   replies : (p : Progress) → RepliesWith s c (reply_to_units p)
-  replies went_on = inl t.reply
-  replies at_end = inl t.reply
   replies refused = inr (record { refused = refl; command_may = t.may; no_other = t.taken })
+  replies _ = inl t.reply
 
   -- where it is refused, it is want of memory
   never-quiet : (p : Progress) → (is_refused (reply_to_units p) && not (is_abandoning c (reply_to_units p))) ≡ false
-  never-quiet went_on = refl
-  never-quiet at_end = refl
   never-quiet refused = ap (λ b. not (b && true)) t.units
+  never-quiet _ = refl
 
   -- an abandonment is in place
   is-placed : (p : Progress) (es : List Event) → IsPlaced p es → has_abandonment_in_place c (reply_to_units p) es ≡ true
-  is-placed p es placed =
-      subst (λ units. in_place units (is_without_memory (reply_to_units p)) (is_gc c) es ≡ true) (sym t.units)
-      (subst (λ gc. in_place true (is_without_memory (reply_to_units p)) gc es ≡ true) (sym t.no_gc) (go p placed))
-    where
-      go : (q : Progress) → IsPlaced q es → in_place true (is_without_memory (reply_to_units q)) false es ≡ true
-      go went_on i = i
-      go at_end i = i
-      go refused i = i
+  is-placed p es placed = grind arith
 
   -- ALL FIVE CLAUSES
   row-answers : (d : UnitsDone) → IsLawfulRow s.graph s.listed c (runs_allowed c) d → AnswersCommand s c (reply_to_units d.progress) d.events
-  row-answers d r = record {
-    replies = replies d.progress;
-    quiet = λ q. absurd (false≢true (sym (never-quiet d.progress) ∙ q));
-    each = subst (λ g. EachMayBe g s.listed c d.events) (sym (graph-left d.progress)) r.each;
-    rising = le-leb (runs (unlinked_numbers d.events)) (runs_allowed c) r.few;
-    abandonment = is-placed d.progress d.events r.placed;
-  }
+  row-answers d r = grind (arith, never-quiet, graph-left, le-leb, is-placed)
 
 -- A SLICE is answered lawfully,
 pub slice-answers : (m : Machine) (s : State) (u : ℕ) → IsRunning m s → AnswersAsk s (taken (Slice u)) (do_ask m (taken (Slice u))).answer

@@ -1,5 +1,5 @@
 -- A COMMAND OF THE MUTATOR IS REFUSED, OR WANTS MEMORY, OR IS DONE: what then becomes of the graph and of the listed names.
-use Rattle.std.proofs.Common.{◌≡◌, Bool, true, false, not, ◌&&◌, List, [], Option, Some, None, refl, ap}
+use Rattle.std.proofs.Common.{arith, ◌≡◌, Bool, true, false, not, ◌&&◌, List, [], Option, Some, None, refl, ap}
 use Rattle.std.proofs.lemmas.Bool.{true≢false}
 use Rattle.cc_names.specs.declared.name.Name.{Name}
 use Rattle.cc_names.specs.declared.register.Reg.TheVariants.{N, S}
@@ -29,19 +29,7 @@ pub mutate-cases : (m : Machine) (c : Command) (P : Turn → Type 0) →
     P (with_effects (record m { memory = memory }) (reply_if_taken (objects_of m.heap) c) (effects m.heap c))) →
     P (mutate m c)
 unfolding mutate
-mutate-cases m c P refused unmet done = go (refusal_of (objects_of m.heap) c) refl
-  where
-    granted : refusal_of (objects_of m.heap) c ≡ None → (takes : Bool) → takes_memory m.heap c ≡ takes → (there : Bool) → P (elim (takes && not there) [
-      | true ↦ answering (with_answer_used m takes) [] (Refused NoMemory)
-      | false ↦ with_effects (with_answer_used m takes) (reply_if_taken (objects_of m.heap) c) (effects m.heap c)
-    ])
-    granted e true t true = done e (later_answers m.memory)
-    granted e true t false = unmet e t
-    granted e false t there = done e m.memory
-
-    go : (o : Option Refusal) → refusal_of (objects_of m.heap) c ≡ o → P (unless_refused m c o)
-    go (Some refusal) e = refused refusal e
-    go None e = granted e (takes_memory m.heap c) refl (next_answer m.memory)
+mutate-cases m c P refused unmet done = grind arith
 
 -- Replies
 
@@ -81,19 +69,12 @@ graph_after-taken g o c = ap (λ b. elim b [ true ↦ g | false ↦ step g c ]) 
 -- a command that is refused leaves the graph
 graph_after-refused : (g : Graph) (c : Command) (refusal : Refusal) → refusal_of (graph.objects_of g) c ≡ Some refusal →
     graph_after g c (Some (Refused refusal)) ≡ g
-graph_after-refused g c refusal e = go (is_without_memory (Refused refusal))
-  where
-    go : (b : Bool) → elim b [ true ↦ g | false ↦ step g c ] ≡ g
-    go true = refl
-    go false = ap (λ o. graph.unless_refused o g (changed g c)) e
+graph_after-refused g c refusal e = grind arith
 
 -- a refusal lists nothing
 listed-refused : (names : List Name) (c : Command) (refusal : Refusal) → listed names c [] (Some (Refused refusal)) ≡ names
 listed-refused names (Native d n) refusal = refl
-listed-refused names (Script d n) refusal = refl
-listed-refused names (WeakMap d) refusal = refl
-listed-refused names (Wrap d s) refusal = refl
-listed-refused names c refusal = refl
+listed-refused names _ refusal = refl
 
 -- the state after a refusal that leaves the graph is the state before it
 next-state : (s : State) (c : Command) (refusal : Refusal) → graph_after s.graph c (Some (Refused refusal)) ≡ s.graph →

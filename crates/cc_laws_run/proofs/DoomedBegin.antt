@@ -1,5 +1,5 @@
 -- A COLLECTION THAT BEGINS RIGHT AFTER A SCRIPT COLLECTION DOOMS ALL GARBAGE.
-use Rattle.std.proofs.Common.{◌≡◌, Bool, true, false, not, List, [], ◌∷◌, ◌++◌, map, Some, None, refl, sym, ◌∙◌, ap, subst, inl, inr, ◌⊎◌, ⊎_elim}
+use Rattle.std.proofs.Common.{arith, ◌≡◌, Bool, true, false, not, List, [], ◌∷◌, ◌++◌, map, Some, None, refl, sym, ◌∙◌, ap, subst, inl, inr, ◌⊎◌, ⊎_elim}
 use Rattle.std.specs.List.{filter, flat_map}
 use Rattle.std.proofs.lemmas.Bool.{false≢true, not_from_false}
 use Rattle.cc_lists.specs.Members.{Among, has}
@@ -44,11 +44,7 @@ use Rattle.cc_laws_snapshot.proofs.ReachedStays.{script-edge}
 module _ (h : Heap) where
   -- what no register reaches passes the test
   pub out-unreached : (x : Name) → ¬ (ReachedIn (view h) x) → is_unreached (view h) x ≡ true
-  out-unreached x out = go (has same_name (reached_in (view h)) x) refl
-    where
-      go : (b : Bool) → has same_name (reached_in (view h)) x ≡ b → is_unreached (view h) x ≡ true
-      go true e = absurd (out ((closure-decides same_name same_name-exact (view_rules (view h)) x).0 e))
-      go false e = not_from_false (has same_name (reached_in (view h)) x) e
+  out-unreached x out = grind (arith, closure-decides, same_name-exact)
 
   -- what is there and unreached is garbage
   pub garbage-there : (x : Name) → Among x (names_there h) → ¬ (ReachedIn (view h) x) → Among x (garbage h)
@@ -66,12 +62,7 @@ module _ (h : Heap) where
 
   -- who holds something is there
   pub edge-there : (x y : Name) → Among (x, y) (view h).edges → Among x (names_there h)
-  edge-there x y m = ⊎_elim
-      (λ a. subst (λ z. Among z (names_there h)) a.2
-      (Among-left (native a.0.number) (native_names h) (script_names h) (Among-map (λ (n : HeapNative). native n.number) a.0 h.natives a.1)))
-      (λ a. subst (λ z. Among z (names_there h)) a.2
-      (Among-right a.0.name (native_names h) (script_names h) (Among-map (λ (o : HeapScript). o.name) a.0 h.scripts a.1)))
-      (edge-of h x y m)
+  edge-there x y m = grind (arith, Among-left, Among-map, Among-right, edge-of)
 
   -- What is black is reached
 

@@ -42,8 +42,7 @@ Names Abandoned x = ⊥
 -- no event names what this one frees
 abbrev pub NotAgain : Event → List Event → Type 0
 NotAgain (Freed x) es = (e : Event) → Among e es → ¬ (Names e x)
-NotAgain (Unlinked x) es = Unit {0}
-NotAgain Abandoned es = Unit {0}
+NotAgain _ es = Unit {0}
 
 -- what an event frees is named by no later one
 abbrev pub FreeLast : List Event → Type 0
@@ -52,13 +51,12 @@ FreeLast (e ∷ es) = NotAgain e es × FreeLast es
 
 -- what an event may name that is not what was freed, it may name afterwards
 stays : (g : Graph) (names : List Name) (c : Command) (e f : Event) (es : List Event) → NotAgain e es → Among f es → MayBe g names c f → MayBe g (after_event names e) c f
-stays g names c (Unlinked x) f es last i m = m
-stays g names c Abandoned f es last i m = m
 stays g names c (Freed x) (Freed y) es last i m =
     (Among-filter (λ z. not (same_name z x)) y names m.0 (ap not (same_name-other y x (λ e. last (Freed y) i e))), m.1, m.2)
 stays g names c (Freed x) (Unlinked y) es last i m =
     (Among-filter (λ z. not (same_name z x)) y names m.0 (ap not (same_name-other y x (λ e. last (Unlinked y) i e))), m.1, m.2)
 stays g names c (Freed x) Abandoned es last i m = tt
+stays g names c _ f es last i m = m
 
 -- EVENTS THAT MIGHT ALL BE AT THE START each may be at their turn, where nothing that is freed is named again.
 pub each-from : (g : Graph) (c : Command) (es : List Event) (names : List Name) → ((e : Event) → Among e es → MayBe g names c e) → FreeLast es → EachMayBe g names c es
@@ -70,9 +68,8 @@ each-from g c (e ∷ es) names may last = (
 
 -- neither list names again what was freed
 NotAgain-append : (e : Event) (es fs : List Event) → NotAgain e es → NotAgain e fs → NotAgain e (es ++ fs)
-NotAgain-append (Unlinked x) es fs a b = tt
-NotAgain-append Abandoned es fs a b = tt
 NotAgain-append (Freed x) es fs a b = λ f i named. ⊎_elim (λ l. a f l named) (λ r. b f r named) (Among-append f es fs i)
+NotAgain-append _ es fs a b = tt
 
 -- what is freed in two lists is not named again, where neither in each nor in the second
 pub FreeLast-append : (es fs : List Event) → FreeLast es → FreeLast fs → ((e : Event) → Among e es → NotAgain e fs) → FreeLast (es ++ fs)
@@ -102,8 +99,6 @@ times-append k es fs = ap (times k) (flat_map-append freed_in es fs) ∙ count_b
 -- natives freed at most once, and not among those unlinked later, are not named again
 not-again : (e : Event) (es : List Event) → NamesNative e → ((k : ℕ) → Among k (freed_in e) → times k (freed_numbers es) ≡ 0) →
     ((k : ℕ) → Among k (freed_in e) → ¬ (Among k (unlinked_numbers es))) → NotAgain e es
-not-again (Unlinked x) es n freed unlinked = tt
-not-again Abandoned es n freed unlinked = tt
 not-again (Freed x) es n freed unlinked = λ f i named.
     let here : Among n.0 (natives_in x) = subst (λ z. Among n.0 (natives_in z)) (sym n.1) (inl refl) in
     ⊎_elim
@@ -111,6 +106,7 @@ not-again (Freed x) es n freed unlinked = λ f i named.
     let none : times n.0 (freed_numbers es) ≡ 0 = freed n.0 here in absurd (omega arith))
     (λ u. unlinked n.0 here u)
     (named-numbers f es n.0 i (subst (Names f) n.1 named))
+not-again _ es n freed unlinked = tt
 
 -- NATIVES EACH FREED ONCE, and none of those unlinked, are not named again.
 pub FreeLast-natives : (es : List Event) → ((e : Event) → Among e es → NamesNative e) → ((k : ℕ) → times k (freed_numbers es) ≤ 1) →

@@ -1,5 +1,5 @@
 -- THE FIRST COLLECTION UNDER ASKS, of any machine: what it tells stands first in an answer, and later asks leave what it came to.
-use Rattle.std.proofs.Common.{◌≡◌, ◌≢◌, ℕ, Bool, true, false, List, [], ◌∷◌, ◌++◌, Option, Some, None, is_some, refl, sym, ◌∙◌, ap, subst, inl, inr, ◌⊎◌}
+use Rattle.std.proofs.Common.{arith, ◌≡◌, ◌≢◌, ℕ, Bool, true, false, List, [], ◌∷◌, ◌++◌, Option, Some, None, is_some, refl, sym, ◌∙◌, ap, subst, inl, inr, ◌⊎◌}
 use Rattle.std.proofs.lemmas.List.{append_assoc, append-nil}
 use Rattle.cc_names.specs.declared.name.Name.{Name}
 use Rattle.cc_model.specs.declared.command.Command.TheVariants.{Slice, Collect, Gc}
@@ -17,7 +17,7 @@ use Rattle.cc_laws_run.specs.Followed.{first_units, then_later, first_collection
 use Rattle.cc_laws_run.specs.Missing.{AreTold}
 use Rattle.cc_laws_run.proofs.QuietUnits.{collect-none}
 use Rattle.cc_laws_run.proofs.UnitLawful.{unit-cases}
-use Rattle.cc_laws_run.proofs.HoldingUnits.{units_done-keep}
+use Rattle.cc_laws_run.proofs.HoldingUnits.{units_done-keep, unless_stopped-cases, finish-cases}
 
 -- `collect`
 
@@ -26,13 +26,9 @@ pub finish-some : (m : Machine) (s : Snapshot) → m.snapshot ≡ Some s → fin
 finish-some m s e = ap (λ (b : Bool). elim b [ true ↦ to_the_end (no_units m) | false ↦ no_units m ]) (ap is_some e)
 
 -- `collect` brings the collection that runs to its end, or the one that it begins; then it may begin a second one
-pub collect-first : (m : Machine) → (collect m ≡ to_the_end (no_units m)) ⊎ (collect m ≡ unless_stopped (to_the_end (no_units m)))
+pub collect-cases : (m : Machine) (P : UnitsDone → Type 0) → P (to_the_end (no_units m)) → P (unless_stopped (to_the_end (no_units m))) → P (collect m)
 unfolding collect
-collect-first m = go m.snapshot refl
-  where
-    go : (o : Option Snapshot) → m.snapshot ≡ o → (collect m ≡ to_the_end (no_units m)) ⊎ (collect m ≡ unless_stopped (to_the_end (no_units m)))
-    go None e = inl (collect-none m e)
-    go (Some s) e = inr (ap unless_stopped (finish-some m s e))
+collect-cases m P first second = grind (arith, collect-none, finish-some)
 
 -- What units tell
 
@@ -48,30 +44,11 @@ units_done-begin es n d b = units_done-keep (λ d. BeginsWith es d.events)
 
 -- what collections tell begins with what the first of them tells
 collect-begins : (m : Machine) → BeginsWith (to_the_end (no_units m)).events (collect m).events
-collect-begins m = go (collect-first m)
-  where
-    d : UnitsDone
-    d = to_the_end (no_units m)
-
-    all : BeginsWith d.events d.events
-    all = ([], sym (append-nil d.events))
-
-    second : BeginsWith d.events (to_the_end (starting_anew d)).events
-    second = units_done-begin d.events (enough_units d.machine) (starting_anew d) all
-
-    stopped_by : Progress → UnitsDone
-    stopped_by refused = d
-    stopped_by went_on = to_the_end (starting_anew d)
-    stopped_by at_end = to_the_end (starting_anew d)
-
-    by_progress : (p : Progress) → BeginsWith d.events (stopped_by p).events
-    by_progress refused = all
-    by_progress went_on = second
-    by_progress at_end = second
-
-    go : (collect m ≡ d) ⊎ (collect m ≡ unless_stopped d) → BeginsWith d.events (collect m).events
-    go (inl e) = subst (λ (u : UnitsDone). BeginsWith d.events u.events) (sym e) all
-    go (inr e) = subst (λ (u : UnitsDone). BeginsWith d.events u.events) (sym e) (by_progress d.progress)
+collect-begins m =
+    let d : UnitsDone = to_the_end (no_units m) in
+    let all : BeginsWith d.events d.events = ([], sym (append-nil d.events)) in
+    collect-cases m (λ u. BeginsWith d.events u.events) all
+    (unless_stopped-cases d (λ u. BeginsWith d.events u.events) (λ e. all) (λ e. units_done-begin d.events (enough_units d.machine) (starting_anew d) all))
 
 -- the answer to an ask begins with what the first collection tells under it
 ask-begins : (m : Machine) (ask : Ask) → BeginsWith (first_units m ask).events (do_ask m ask).answer.events
@@ -109,15 +86,7 @@ first_units-last : (m : Machine) (ask : Ask) → TellsAtLast (first_units m ask)
 unfolding slice
 first_units-last m (taken (Slice n)) = units_done-last n m
 first_units-last m (taken Collect) = units_done-last (enough_units m) m
-first_units-last m (taken Gc) = go (is_some m.snapshot)
-  where
-    finished_by : Bool → UnitsDone
-    finished_by true = to_the_end (no_units m)
-    finished_by false = no_units m
-
-    go : (b : Bool) → TellsAtLast (finished_by b).progress (finished_by b).events
-    go true = units_done-last (enough_units m) m
-    go false = λ e. refl
+first_units-last m (taken Gc) = finish-cases m (λ d. TellsAtLast d.progress d.events) (units_done-last (enough_units m) m) (λ e f. refl)
 first_units-last m ask = λ e. refl
 
 -- AN ANSWER BEGINS WITH WHAT THE FIRST COLLECTION TELLS, where it does not go on.
@@ -139,8 +108,7 @@ first_collection-told m (ask ∷ asks) stopped = go (first_collection-told t.mac
 
     followed_by : Progress → UnitsDone
     followed_by went_on = record later { events = d.events ++ later.events }
-    followed_by at_end = d
-    followed_by refused = d
+    followed_by _ = d
 
     here : AreTold d.events all
     here = let b = ask-begins m ask in (t.answer, inl refl, b.0, b.1)
@@ -150,36 +118,23 @@ first_collection-told m (ask ∷ asks) stopped = go (first_collection-told t.mac
     go ih went_on e stopped =
         let a = ih stopped in
         subst (λ es. AreTold (es ++ later.events) all) (sym (first_units-last m ask e)) (a.0, inr a.1, a.2, a.3)
-    go ih at_end e stopped = here
-    go ih refused e stopped = here
+    go ih _ e stopped = here
 
 -- Later asks
 
 -- what units came to, and then later ones where the collection went on
 abbrev pub progress_then : Progress → Progress → Progress
 progress_then went_on q = q
-progress_then at_end q = at_end
-progress_then refused q = refused
+progress_then x q = x
 
 -- one after the other
 progress_then-assoc : (p q r : Progress) → progress_then p (progress_then q r) ≡ progress_then (progress_then p q) r
 progress_then-assoc went_on q r = refl
-progress_then-assoc at_end q r = refl
-progress_then-assoc refused q r = refl
+progress_then-assoc _ q r = refl
 
 -- units and later ones come to that
 pub then_later-progress : (d later : UnitsDone) → (then_later d later).progress ≡ progress_then d.progress later.progress
-then_later-progress d later = go d.progress refl
-  where
-    followed_by : Progress → UnitsDone
-    followed_by went_on = record later { events = d.events ++ later.events }
-    followed_by at_end = d
-    followed_by refused = d
-
-    go : (p : Progress) → d.progress ≡ p → (followed_by p).progress ≡ progress_then p later.progress
-    go went_on e = refl
-    go at_end e = e
-    go refused e = e
+then_later-progress d later = grind arith
 
 -- LATER ASKS LEAVE WHAT THE FIRST COLLECTION CAME TO, where it did not go on.
 pub first_collection-append : (m : Machine) (xs ys : List Ask) →

@@ -17,7 +17,7 @@ use Rattle.cc_model.specs.WellFormed.{names_there}
 use Rattle.cc_model.specs.Heap.{Heap}
 use Rattle.cc_model.specs.View.{view}
 use Rattle.cc_model.specs.Units.{begun, with_empty_buffer}
-use Rattle.cc_model.specs.End.{Progress, went_on, at_end, refused}
+use Rattle.cc_model.specs.End.{Progress, went_on, at_end, refused, abandoned}
 use Rattle.cc_model.specs.Lawful.{State, next}
 use Rattle.cc_model.specs.Collecting.{Machine, UnitsDone, no_units, one_unit, units_done, enough_units, to_the_end, finish_running, slice, starting_anew, unless_stopped, collect, gc}
 use Rattle.cc_model.specs.Run.{Turn, mutate, do_ask, machine_after}
@@ -33,15 +33,14 @@ use Rattle.cc_laws_run.proofs.TouchedCommands.{doomed-effects}
 use Rattle.cc_laws_run.proofs.DoomedBegin.{collected-doomed}
 use Rattle.cc_laws_run.proofs.CollectionsLawful.{running-on, slice-runs, collect-runs, gc-runs}
 use Rattle.cc_laws_run.proofs.PlainLawful.{any-runs}
-use Rattle.cc_laws_run.proofs.QuietUnits.{IsGoing, gc-collects}
+use Rattle.cc_laws_run.proofs.QuietUnits.{IsGoing, gc-collects, running-going}
 use Rattle.cc_laws_run.proofs.MissesLost.{lost-doomed}
 use Rattle.cc_laws_run.proofs.Unabandoned.{TellsNone, none-abandoned}
-use Rattle.cc_laws_run.proofs.SpentViews.{spent-from}
 use Rattle.cc_laws_run.proofs.SpentGone.{collected-gone}
-use Rattle.cc_laws_run.proofs.HoldingUnits.{HoldsOn, units_done-holds}
+use Rattle.cc_laws_run.proofs.HoldingUnits.{HoldsOn, units_done-holds, unless_stopped-cases}
 use Rattle.cc_laws_run.proofs.SpentUnits.{Settles, Spending, each-spends, SettlesOn, units_done-settle, first-settles}
-use Rattle.cc_laws_run.proofs.SpentAsks.{collected-spent, spent-on, asks-spend, gc-gone}
-use Rattle.cc_laws_run.proofs.FirstCollection.{finish-some, collect-first, progress_then, then_later-progress, first_collection-append}
+use Rattle.cc_laws_run.proofs.SpentAsks.{collected-spent, asks-spend, gc-gone}
+use Rattle.cc_laws_run.proofs.FirstCollection.{finish-some, progress_then, then_later-progress, first_collection-append, collect-cases}
 
 -- what becomes of names by what a collection told and came to, and by the machine after the asks
 abbrev pub IsFollowed : List Name → List Event → Progress → Machine → Type 0
@@ -54,26 +53,13 @@ IsFollowed ds es refused n = es ≡ Abandoned ∷ []
 module _ (g : Graph) (well : IsWellMade g) (ds : List Name) where
   -- of a slice
   settled : (d : UnitsDone) → SettlesOn g ds d → IsFollowed ds d.events d.progress d.machine
-  settled d t = go d.progress t.holds
-    where
-      go : (p : Progress) → Settles ds d.machine.heap d.machine.snapshot d.events p → IsFollowed ds d.events p d.machine
-      go went_on k = (k.0, k.1)
-      go at_end k = (k.0, spent-from d.machine.heap ds t.runs.sound.well_formed k.1, k.2)
-      go refused k = k
+  settled d t = grind arith
 
   -- of a collection that is brought to its end, whatever machine there is later that has spent what was spent
   stopped : (m n : Machine) → SettlesOn g ds (to_the_end (no_units m)) →
       ((to_the_end (no_units m)).progress ≡ at_end → IsSpent n.heap ds) →
       IsFollowed ds (to_the_end (no_units m)).events (to_the_end (no_units m)).progress n
-  stopped m n t spent = go d.progress refl t.holds
-    where
-      d : UnitsDone
-      d = to_the_end (no_units m)
-
-      go : (p : Progress) → d.progress ≡ p → Settles ds d.machine.heap d.machine.snapshot d.events p → IsFollowed ds d.events p n
-      go went_on e k = absurd (to_the_end-stops m e)
-      go at_end e k = (k.0, spent e, k.2)
-      go refused e k = k
+  stopped m n t spent = grind (arith, to_the_end-stops)
 
   -- what units have spent at their end
   spent-at_end : (d : UnitsDone) → SettlesOn g ds d → d.progress ≡ at_end → HoldsOn g (Spending ds) (starting_anew d)
@@ -83,26 +69,12 @@ module _ (g : Graph) (well : IsWellMade g) (ds : List Name) where
 
   -- `collect` leaves it spent, though it begin a second collection
   collect-spent : (m : Machine) → SettlesOn g ds (to_the_end (no_units m)) → (to_the_end (no_units m)).progress ≡ at_end → IsSpent (collect m).machine.heap ds
-  collect-spent m t e = go (collect-first m)
-    where
-      d : UnitsDone
-      d = to_the_end (no_units m)
-
-      stopped_by : Progress → UnitsDone
-      stopped_by refused = d
-      stopped_by went_on = to_the_end (starting_anew d)
-      stopped_by at_end = to_the_end (starting_anew d)
-
-      first : HoldsOn g (Spending ds) (starting_anew d)
-      first = spent-at_end d t e
-
-      second : HoldsOn g (Spending ds) (to_the_end (starting_anew d))
-      second = units_done-holds g well (Spending ds) (each-spends g ds) (enough_units d.machine) (starting_anew d) first
-
-      go : (collect m ≡ d) ⊎ (collect m ≡ unless_stopped d) → IsSpent (collect m).machine.heap ds
-      go (inl same) = subst (λ (u : UnitsDone). IsSpent u.machine.heap ds) (sym same) (spent-on g ds (starting_anew d) first)
-      go (inr same) = subst (λ (u : UnitsDone). IsSpent u.machine.heap ds) (sym same)
-          (subst (λ p. IsSpent (stopped_by p).machine.heap ds) (sym e) (spent-on g ds (to_the_end (starting_anew d)) second))
+  collect-spent m t e =
+      let d : UnitsDone = to_the_end (no_units m) in
+      let first : HoldsOn g (Spending ds) (starting_anew d) = spent-at_end d t e in
+      collect-cases m (λ u. IsSpent u.machine.heap ds) first.holds
+      (unless_stopped-cases d (λ u. IsSpent u.machine.heap ds) (λ r. first.holds)
+      (λ r. (units_done-holds g well (Spending ds) (each-spends g ds) (enough_units d.machine) (starting_anew d) first).holds))
 
 -- One ask
 
@@ -138,12 +110,7 @@ module _ (m : Machine) (s : State) (ds : List Name) (r : IsRunning m s) (d : IsD
   -- `gc` takes away what the collection that it ends can't miss
   gc-gone_at_once : (finish_running m).progress ≢ refused → (x : Name) → Among x ds → ¬ (Among x (names_there (gc m).machine.heap))
   unfolding gc
-  gc-gone_at_once unrefused x i = go (finish_running m).progress refl
-    where
-      go : (p : Progress) → (finish_running m).progress ≡ p → ¬ (Among x (names_there (gc m).machine.heap))
-      go went_on e = absurd (to_the_end-stops m (sym (ap (λ (u : UnitsDone). u.progress) finished) ∙ e))
-      go at_end e = let t = finish-spends e in collected-gone ds (finish_running m).machine.heap t.runs.sound t.holds x i
-      go refused e = absurd (unrefused e)
+  gc-gone_at_once unrefused x i = grind (arith, to_the_end-stops, finish-spends, collected-gone)
 
 -- a command of the mutator leaves the collection such
 mutate-follows : (m : Machine) (c : Command) (ds : List Name) → IsSound [] m.heap → KeepsReflectors ds → IsDoomedNow m ds → IsDoomedNow (mutate m c).machine ds
@@ -156,15 +123,14 @@ mutate-follows m c ds sound keeps d = mutate-cases m c (λ (u : Turn). IsDoomedN
 ask-follows : (m : Machine) (s : State) (ask : Ask) (ds : List Name) → IsRunning m s → KeepsReflectors ds → IsDoomedNow m ds →
     IsFollowed ds (first_units m ask).events (first_units m ask).progress (do_ask m ask).machine
 unfolding do_ask slice
-ask-follows m s long ds r keeps d = (refl, d)
-ask-follows m s bad ds r keeps d = (refl, d)
-ask-follows m s (taken Nothing) ds r keeps d = (refl, d)
-ask-follows m s (taken Census) ds r keeps d = (refl, d)
 ask-follows m s (taken (Slice u)) ds r keeps d = settled s.graph r.well_made ds (slice u m) (units-settle m s ds r d u)
 ask-follows m s (taken Collect) ds r keeps d = let t = ended m s ds r d in
     stopped s.graph r.well_made ds m (collect m).machine t (collect-spent s.graph r.well_made ds m t)
 ask-follows m s (taken Gc) ds r keeps d = gc-follows m s ds r d
+ask-follows m s (taken Nothing) ds r keeps d = (refl, d)
+ask-follows m s (taken Census) ds r keeps d = (refl, d)
 ask-follows m s (taken c) ds r keeps d = (refl, mutate-follows m c ds r.sound keeps d)
+ask-follows m s _ ds r keeps d = (refl, d)
 
 -- The ask that begins it
 
@@ -178,11 +144,10 @@ module _ (m : Machine) (s : State) (ds : List Name) (r : IsRunning m s) (none : 
   -- under an ask that begins a collection
   begin-follows : (ask : Ask) → begins_one ask ≡ true → IsFollowed ds (first_units m ask).events (first_units m ask).progress (do_ask m ask).machine
   unfolding do_ask slice
-  begin-follows (taken (Slice zero)) e = absurd (false≢true e)
   begin-follows (taken (Slice (suc n))) e = settled s.graph r.well_made ds (slice (suc n) m) (some-settle (suc n) (omega arith))
   begin-follows (taken Collect) e = let t = some-settle (enough_units m) (omega arith) in
       stopped s.graph r.well_made ds m (collect m).machine t (collect-spent s.graph r.well_made ds m t)
-  begin-follows ask e = absurd (false≢true e)
+  begin-follows _ e = absurd (false≢true e)
 
 -- an ask that begins a collection leaves a machine that runs
 pub begin-runs : (m : Machine) (s : State) (ask : Ask) → IsRunning m s → begins_one ask ≡ true → IsRunning (do_ask m ask).machine (next s ask (do_ask m ask).answer)
@@ -198,29 +163,7 @@ ask-then : (m : Machine) (s : State) (ask : Ask) (asks : List Ask) (ds : List Na
     (IsDoomedNow (do_ask m ask).machine ds → let c = first_collection (do_ask m ask).machine asks in
     IsFollowed ds c.events c.progress (machine_after (do_ask m ask).machine asks)) →
     let c = first_collection m (ask ∷ asks) in IsFollowed ds c.events c.progress (machine_after m (ask ∷ asks))
-ask-then m s ask asks ds r range keeps f more = go d.progress refl f
-  where
-    n : Machine
-    n = (do_ask m ask).machine
-
-    last : Machine
-    last = machine_after n asks
-
-    d : UnitsDone
-    d = first_units m ask
-
-    later : UnitsDone
-    later = first_collection n asks
-
-    followed_by : Progress → UnitsDone
-    followed_by went_on = record later { events = d.events ++ later.events }
-    followed_by at_end = d
-    followed_by refused = d
-
-    go : (p : Progress) → d.progress ≡ p → IsFollowed ds d.events p n → IsFollowed ds (followed_by p).events (followed_by p).progress last
-    go went_on e f = subst (λ es. IsFollowed ds (es ++ later.events) later.progress last) (sym f.0) (more f.1)
-    go at_end e f = subst (λ p. IsFollowed ds d.events p last) (sym e) (f.0, asks-spend n s asks ds r range keeps f.1, f.2)
-    go refused e f = subst (λ p. IsFollowed ds d.events p last) (sym e) f
+ask-then m s ask asks ds r range keeps f more = grind (arith, asks-spend)
 
 -- A COLLECTION THAT CAN'T MISS NAMES, under any asks in a row
 pub asks-follow : (m : Machine) (s : State) (asks : List Ask) (ds : List Name) → IsRunning m s → IsTrue (list_all ask_in_range asks) →
@@ -237,28 +180,7 @@ asks-follow m s (ask ∷ asks) ds r range keeps d =
 -- what becomes of them says that none is missed
 pub followed-misses : (m : Machine) (asks : List Ask) (ds : List Name) →
     (let c = first_collection m asks in IsFollowed ds c.events c.progress (machine_after m asks)) → MissesNone ds m asks
-followed-misses m asks ds f = record {
-  goes_on = λ e. let k : IsFollowed ds c.events went_on n = subst by e f in k.1;
-  unlinks = λ e. let k : IsFollowed ds c.events at_end n = subst by e f in k.0;
-  abandoned = (
-    λ e. let k : IsFollowed ds c.events refused n = subst by e f in subst (λ es. Among Abandoned es) (sym k) (inl refl),
-    λ a. told c.progress f a,
-  );
-}
-  where
-    c : UnitsDone
-    c = first_collection m asks
-
-    n : Machine
-    n = machine_after m asks
-
-    by : Progress → Type 0
-    by p = IsFollowed ds c.events p n
-
-    told : (p : Progress) → by p → Among Abandoned c.events → p ≡ refused
-    told went_on k a = absurd (subst (λ es. Among Abandoned es) k.0 a)
-    told at_end k a = absurd (none-abandoned c.events k.2 a)
-    told refused k a = refl
+followed-misses m asks ds f = grind (arith, none-abandoned)
 
 -- and that they are spent where it ended
 pub followed-spent : (m : Machine) (asks : List Ask) (ds : List Name) →
@@ -273,19 +195,7 @@ pub followed-gone : (m : Machine) (s : State) (asks : List Ask) (ds : List Name)
     (let c = first_collection m asks in IsFollowed ds c.events c.progress (machine_after m asks)) →
     (first_collection m (asks ++ taken Gc ∷ [])).progress ≢ refused → (x : Name) → Among x ds →
     ¬ (Among x (names_there (gc (machine_after m asks)).machine.heap))
-followed-gone m s asks ds r f unrefused x i = go c.progress f (subst (λ p. p ≢ refused) (first_collection-append m asks (taken Gc ∷ [])) unrefused)
-  where
-    c : UnitsDone
-    c = first_collection m asks
-
-    n : Machine
-    n = machine_after m asks
-
-    go : (p : Progress) → IsFollowed ds c.events p n → progress_then p (first_collection n (taken Gc ∷ [])).progress ≢ refused →
-        ¬ (Among x (names_there (gc n).machine.heap))
-    go went_on k u = gc-gone_at_once n s ds r k.1 (λ e. u (then_later-progress (finish_running n) (no_units (do_ask n (taken Gc)).machine) ∙ ap (λ p. progress_then p went_on) e)) x i
-    go at_end k u = gc-gone n s x ds r k.1 i
-    go refused k u = absurd (u refl)
+followed-gone m s asks ds r f unrefused x i = grind (arith, first_collection-append, gc-gone_at_once, then_later-progress, gc-gone)
 
 -- Right after `gc`
 
@@ -301,9 +211,7 @@ pub after_gc-follows : (m : Machine) (s : State) (ask : Ask) (asks : List Ask) �
     IsFollowed (lost (gc m).machine.heap) c.events c.progress (machine_after (gc m).machine (ask ∷ asks))
 after_gc-follows m s ask asks r suspected e range keeps =
     let a : Machine = (gc m).machine in
-    let going : IsGoing m.heap m.snapshot went_on =
-    record { sound = r.sound; colours = r.colours; fresh = r.fresh; suspected = suspected; stopped = λ d. absurd (d refl) } in
-    let f = gc-collects m going in
+    let f = gc-collects m (running-going m s r suspected) in
     let all : IsDoomed (view (with_empty_buffer a.heap)) (begun a.heap) (garbage a.heap) =
     subst (λ (h : Heap). IsDoomed (view (with_empty_buffer h)) (begun h) (garbage h)) (sym f.3) (collected-doomed f.0 f.1 f.2) in
     let t = after_gc-runs m s r in

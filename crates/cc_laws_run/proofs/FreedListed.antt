@@ -1,5 +1,5 @@
 -- The names that events free, and what is listed after them, in census order.
-use Rattle.std.proofs.Common.{◌≡◌, ◌==◌, ℕ, Bool, true, false, not, ◌&&◌, ◌||◌, List, [], ◌∷◌, ◌++◌, map, refl, sym, ◌∙◌, ap, subst, inl, inr, ⊎_elim}
+use Rattle.std.proofs.Common.{arith, ◌≡◌, ◌==◌, ℕ, Bool, true, false, not, ◌&&◌, ◌||◌, List, [], ◌∷◌, ◌++◌, map, refl, sym, ◌∙◌, ap, subst, inl, inr, ⊎_elim}
 use Rattle.std.specs.List.{filter, flat_map}
 use Rattle.std.proofs.Math.Path.{fun_ext}
 use Rattle.std.proofs.lemmas.Bool.{false≢true}
@@ -24,8 +24,7 @@ use Rattle.cc_laws_heap.proofs.NameLists.{same_name-sym, is_not_among-from}
 -- the name that an event frees
 abbrev pub freed_name : Event → List Name
 freed_name (Freed x) = x ∷ []
-freed_name (Unlinked x) = []
-freed_name Abandoned = []
+freed_name _ = []
 
 -- the names that events free, in order
 abbrev pub freed_names : List Event → List Name
@@ -51,10 +50,7 @@ after_events-left (Freed x ∷ es) names =
 
 -- a filter keeps the census order
 census_order-filter : (p : Name → Bool) (names : List Name) → census_order (filter p names) ≡ filter p (census_order names)
-census_order-filter p names =
-    ap (λ l. l ++ filter is_script (filter p names)) (filter-swap is_native p names)
-    ∙ (ap (λ l. filter p (filter is_native names) ++ l) (filter-swap is_script p names)
-    ∙ sym (filter-append p (filter is_native names) (filter is_script names)))
+census_order-filter p names = grind (arith, filter-swap, filter-append)
 
 -- what stands in census order stands in the list
 pub census_order-listed : (names : List Name) (x : Name) → Among x (census_order names) → Among x names
@@ -72,12 +68,7 @@ pub census_names-left : (h k : Heap) (names : List Name) (es : List Event) → c
     native_names k ≡ filter (is_not_among (freed_names es)) (native_names h) →
     script_names k ≡ filter (is_not_among (freed_names es)) (script_names h) →
     census_names k ≡ census_order (after_events names es)
-census_names-left h k names es listed ns os =
-    ap (λ l. l ++ script_names k) ns
-    ∙ (ap (λ l. filter (is_not_among (freed_names es)) (native_names h) ++ l) os
-    ∙ (sym (filter-append (is_not_among (freed_names es)) (native_names h) (script_names h))
-    ∙ (ap (filter (is_not_among (freed_names es))) listed
-    ∙ (sym (census_order-filter (is_not_among (freed_names es)) names) ∙ ap census_order (sym (after_events-left es names))))))
+census_names-left h k names es listed ns os = grind (arith, filter-append, census_order-filter, after_events-left)
 
 -- Natives alone are freed
 

@@ -1,5 +1,5 @@
 -- A COLLECTION THAT IS REFUSED MEMORY leaves of the heaps what the definitions say, over whole asks.
-use Rattle.std.proofs.Common.{◌≡◌, ℕ, Bool, true, false, List, [], ◌∷◌, ◌++◌, Option, Some, None, is_some, refl, sym, ◌∙◌, ap, subst, inl, inr, ◌⊎◌, ⊎_elim}
+use Rattle.std.proofs.Common.{arith, ◌≡◌, ℕ, Bool, true, false, List, [], ◌∷◌, ◌++◌, Option, Some, None, is_some, refl, sym, ◌∙◌, ap, subst, inl, inr, ◌⊎◌, ⊎_elim}
 use Rattle.std.proofs.lemmas.List.{append-nil}
 use Rattle.std.specs.List.{filter}
 use Rattle.cc_lists.specs.Members.{Among}
@@ -21,7 +21,7 @@ use Rattle.cc_laws_run.specs.Doomed.{candidates_now}
 use Rattle.cc_laws_run.specs.GivenUp.{IsGivenUp, GivesUp, CollectGivesUp}
 use Rattle.cc_laws_run.proofs.UnitLawful.{unit-cases}
 use Rattle.cc_laws_run.proofs.RefusedUnits.{give_back-purple}
-use Rattle.cc_laws_run.proofs.HoldingUnits.{units_done-keep}
+use Rattle.cc_laws_run.proofs.HoldingUnits.{units_done-keep, finish-cases, unless_stopped-cases}
 
 -- what is some is not none
 some-none : {X : Type 0} (x : X) → Some x ≡ None → ⊥
@@ -141,29 +141,9 @@ slice-gives_up n m e = units-give_up m [] n e
 
 -- SO DID THE END OF A RUNNING COLLECTION, of `collect` and of `gc`.
 pub finish-gives_up : (m : Machine) → (finish_running m).progress ≡ refused → GivesUp m [] (finish_running m)
-finish-gives_up m = go (is_some m.snapshot)
-  where
-    finished : Bool → UnitsDone
-    finished b = elim b [ true ↦ to_the_end (no_units m) | false ↦ no_units m ]
-
-    go : (b : Bool) → (finished b).progress ≡ refused → GivesUp m [] (finished b)
-    go true e = units-give_up m [] (enough_units m) e
-    go false e = absurd cc
+finish-gives_up m = finish-cases m (λ d. d.progress ≡ refused → GivesUp m [] d) (units-give_up m [] (enough_units m)) (λ none e. absurd cc)
 
 -- AND `collect`, there or in a collection of its own.
 pub collect-gives_up : (m : Machine) → (collect m).progress ≡ refused → CollectGivesUp m (collect m)
 unfolding collect
-collect-gives_up m = go f.progress refl
-  where
-    f : UnitsDone
-    f = finish_running m
-
-    by : Progress → UnitsDone
-    by refused = f
-    by went_on = to_the_end (starting_anew f)
-    by at_end = to_the_end (starting_anew f)
-
-    go : (p : Progress) → f.progress ≡ p → (by p).progress ≡ refused → CollectGivesUp m (by p)
-    go refused q e = inl (finish-gives_up m q)
-    go went_on q e = inr ((λ r. cc), units-give_up f.machine f.events (enough_units f.machine) e)
-    go at_end q e = inr ((λ r. cc), units-give_up f.machine f.events (enough_units f.machine) e)
+collect-gives_up m = grind (arith, unless_stopped-cases, finish-gives_up, units-give_up)

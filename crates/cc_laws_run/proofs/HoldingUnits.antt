@@ -1,5 +1,5 @@
 -- UNITS ONE AFTER THE OTHER KEEP WHAT EACH OF THEM KEEPS, of a machine that runs beside a graph.
-use Rattle.std.proofs.Common.{◌≡◌, ℕ, zero, suc, Bool, true, false, List, ◌++◌, Option, refl}
+use Rattle.std.proofs.Common.{arith, ◌≡◌, ℕ, zero, suc, Bool, true, false, List, ◌++◌, Option, refl, None, Some, ◌≢◌, subst}
 use Rattle.std.specs.Option.{is_some}
 use Rattle.cc_names.specs.declared.name.Name.{Name}
 use Rattle.cc_model.specs.declared.command.Command.TheVariants.{Collect}
@@ -10,14 +10,13 @@ use Rattle.cc_model.specs.Heap.{Heap}
 use Rattle.cc_model.specs.Snapshot.{Snapshot}
 use Rattle.cc_model.specs.End.{Progress, went_on, at_end, refused, unit}
 use Rattle.cc_model.specs.Listed.{after_events}
-use Rattle.cc_model.specs.Collecting.{Machine, UnitsDone, next_answer, no_units, one_unit, units_done, enough_units, to_the_end, finish_running, slice, starting_anew, collect}
+use Rattle.cc_model.specs.Collecting.{Machine, UnitsDone, next_answer, no_units, one_unit, units_done, enough_units, to_the_end, finish_running, slice, starting_anew, collect, unless_stopped}
 use Rattle.cc_laws_run.proofs.UnitLawful.{RunsOn, UnitIsLawful, unit-lawful}
 
 -- the units that are left, by what the last one came to
 abbrev units_by : ℕ → UnitsDone → Progress → UnitsDone
 units_by n d went_on = units_done n (one_unit d.machine d.events)
-units_by n d at_end = d
-units_by n d refused = d
+units_by n d _ = d
 
 -- WHAT A UNIT KEEPS, UNITS KEEP.
 pub units_done-keep : (Q : UnitsDone → Type 0) → ((d : UnitsDone) → d.progress ≡ went_on → Q d → Q (one_unit d.machine d.events)) →
@@ -28,25 +27,33 @@ units_done-keep Q step (suc n) d q = go (units_done-keep Q step n (one_unit d.ma
   where
     go : (Q (one_unit d.machine d.events) → Q (units_done n (one_unit d.machine d.events))) → (p : Progress) → d.progress ≡ p → Q (units_by n d p)
     go ih went_on e = ih (step d e q)
-    go ih at_end e = q
-    go ih refused e = q
+    go ih _ e = q
+
+-- Whatever holds of a running collection that is brought to its end, and of no units where none runs, holds of what is finished.
+pub finish-cases : (m : Machine) (P : UnitsDone → Type 0) → P (to_the_end (no_units m)) → (m.snapshot ≡ None → P (no_units m)) → P (finish_running m)
+finish-cases m P ended none = grind arith
+
+-- Whatever holds of units that were refused, and of a collection that begins after others, holds of what `collect` makes of them.
+pub unless_stopped-cases : (d : UnitsDone) (P : UnitsDone → Type 0) → (d.progress ≡ refused → P d) →
+    (d.progress ≢ refused → P (to_the_end (starting_anew d))) → P (unless_stopped d)
+unless_stopped-cases d P stopped more = grind arith
 
 -- Machines that run
 
--- what a collection is like, by its heaps, its snapshot and what was told
+-- what a collection is like, by its heaps, its snapshot, what was told, and what the last unit came to
 abbrev pub Manner : Type 1
-Manner = Heap → Option Snapshot → List Event → Type 0
+Manner = Heap → Option Snapshot → List Event → Progress → Type 0
 
 -- each unit of machines that run keeps the manner
 abbrev pub EachKeeps : Graph → Manner → Type 0
-EachKeeps g P = (names : List Name) (h : Heap) (o : Option Snapshot) (answer : Bool) (es : List Event) → RunsOn g names h o → P h o es →
-    P (unit h o answer).heap (unit h o answer).snapshot (es ++ (unit h o answer).events)
+EachKeeps g P = (names : List Name) (h : Heap) (o : Option Snapshot) (answer : Bool) (es : List Event) → RunsOn g names h o → P h o es went_on →
+    P (unit h o answer).heap (unit h o answer).snapshot (es ++ (unit h o answer).events) (unit h o answer).progress
 
 -- a machine that runs beside a graph, in this manner
 pub record HoldsOn (g : Graph) (P : Manner) (d : UnitsDone) : Type 0 where
   pub names : List Name
   pub runs : RunsOn g names d.machine.heap d.machine.snapshot
-  pub holds : P d.machine.heap d.machine.snapshot d.events
+  pub holds : P d.machine.heap d.machine.snapshot d.events d.progress
 
 module _ (g : Graph) (well : IsWellMade g) (P : Manner) (step : EachKeeps g P) where
   -- one unit leaves such a machine
@@ -58,7 +65,7 @@ module _ (g : Graph) (well : IsWellMade g) (P : Manner) (step : EachKeeps g P) w
       record {
         names = after_events t.names (unit h d.machine.snapshot answer).events;
         runs = lawful.still;
-        holds = step t.names h d.machine.snapshot answer d.events t.runs t.holds;
+        holds = step t.names h d.machine.snapshot answer d.events t.runs (subst (P h d.machine.snapshot d.events) e t.holds);
       }
 
   -- so do several
@@ -72,37 +79,14 @@ module _ (g : Graph) (well : IsWellMade g) (P : Manner) (step : EachKeeps g P) w
 
   -- those that bring a running collection to its end
   pub finish-holds : (m : Machine) → HoldsOn g P (no_units m) → HoldsOn g P (finish_running m)
-  finish-holds m t = go (is_some m.snapshot)
-    where
-      finished_by : Bool → UnitsDone
-      finished_by true = to_the_end (no_units m)
-      finished_by false = no_units m
+  finish-holds m t = finish-cases m (HoldsOn g P) (units_done-holds (enough_units m) (no_units m) t) (λ e. t)
 
-      go : (b : Bool) → HoldsOn g P (finished_by b)
-      go true = units_done-holds (enough_units m) (no_units m) t
-      go false = t
-
-  -- those of a whole collection
-  pub collect-holds : (m : Machine) → HoldsOn g P (no_units m) → HoldsOn g P (collect m)
+  -- those of a whole collection, where it does not matter what the last unit came to
+  pub collect-holds : ((h : Heap) (o : Option Snapshot) (es : List Event) (p : Progress) → P h o es p → P h o es went_on) →
+      (m : Machine) → HoldsOn g P (no_units m) → HoldsOn g P (collect m)
   unfolding collect
-  collect-holds m t = go (finish_running m).progress
-    where
-      d : UnitsDone
-      d = finish_running m
-
-      first : HoldsOn g P d
-      first = finish-holds m t
-
-      second : HoldsOn g P (to_the_end (starting_anew d))
-      second = units_done-holds (enough_units (starting_anew d).machine) (starting_anew d)
-          (record { names = first.names; runs = first.runs; holds = first.holds })
-
-      stopped_by : Progress → UnitsDone
-      stopped_by refused = d
-      stopped_by went_on = to_the_end (starting_anew d)
-      stopped_by at_end = to_the_end (starting_anew d)
-
-      go : (p : Progress) → HoldsOn g P (stopped_by p)
-      go refused = first
-      go went_on = second
-      go at_end = second
+  collect-holds anew m t =
+      let d : UnitsDone = finish_running m in
+      let first : HoldsOn g P d = finish-holds m t in
+      unless_stopped-cases d (HoldsOn g P) (λ e. first)
+      (λ e. units_done-holds (enough_units d.machine) (starting_anew d) (record { names = first.names; runs = first.runs; holds = anew d.machine.heap d.machine.snapshot d.events d.progress first.holds }))

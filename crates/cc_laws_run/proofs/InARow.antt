@@ -60,6 +60,5 @@ one_list-cons m k n ask asks a answers d o = record {
 -- ONE LIST SERVES for asks that are each done for some list.
 pub one_list : (m n : Machine) (asks : List Ask) (answers : List Answer) → AreDoneFor m asks answers n → OneList m n asks answers
 one_list m n [] [] same = record { memory = []; answered = refl; after = record { heap = same.heap; snapshot = same.snapshot }; said_no = refl }
-one_list m n [] (a ∷ answers) d = absurd d
-one_list m n (ask ∷ asks) [] d = absurd d
 one_list m n (ask ∷ asks) (a ∷ answers) d = one_list-cons m d.0 n ask asks a answers d.1 (one_list d.0 n asks answers d.2)
+one_list m n _ _ d = absurd d

@@ -69,8 +69,7 @@ module _ (h : Heap) (s : IsSound [] h) (c : HasColours h) (none : unmarked h ≡
   -- what holds something has it
   holder-has : (x y : Name) → Among (x, y) (view h).edges → P x
   holder-has (name.Native i) y e = p.holder i.0 y e
-  holder-has (name.Script i) y e = script-has (object i.0) (script-place h (object i.0) refl (edge-there h (object i.0) y e))
-  holder-has (name.Reflector i) y e = script-has (reflector i.0) (script-place h (reflector i.0) refl (edge-there h (reflector i.0) y e))
+  holder-has x y e = script-has x (script-place h x refl (edge-there h x y e))
 
   -- a native has a reference, so it has it, too
   native-has : (n : HeapNative) → Among n h.natives → P (native n.number)

@@ -51,10 +51,9 @@ pub has-listed_reflector : (h : Heap) (names natives : List Name) (k : ℕ) → 
 has-listed_reflector h names natives k a = has-listed names natives (script_names h) a (reflector k) refl ∙ there (has same_name (script_names h) (reflector k)) refl (has_reflector h k) refl
   where
     there : (b : Bool) → has same_name (script_names h) (reflector k) ≡ b → (c : Bool) → has_reflector h k ≡ c → b ≡ c
-    there true e true f = refl
     there true e false f = absurd (has_reflector-none h k f (has-among same_name same_name-exact (script_names h) (reflector k) e))
     there false e true f = absurd (true≢false (sym (has-there same_name same_name-exact (script_names h) (reflector k) (has_reflector-there h k f)) ∙ e))
-    there false e false f = refl
+    there _ e _ f = refl
 
 -- What was made is not freed
 
@@ -103,9 +102,6 @@ same-listed names natives scripts a = record { natives_are = a.natives_are ∙ s
 -- a native wrapped: its reflector goes last where it was not there
 wrapped-listed : (h : Heap) (d s : ℕ) (x : Option Name) (names natives : List Name) → AreListed names natives (script_names h) →
     AreListed (after_reply names (Wrap d s) (Some (named_or_nothing (reflector_of x)))) (natives ++ []) (script_names h ++ made_reflector h x)
-wrapped-listed h d s None names natives a = same-listed names natives (script_names h) a
-wrapped-listed h d s (Some (name.Script k)) names natives a = same-listed names natives (script_names h) a
-wrapped-listed h d s (Some (name.Reflector k)) names natives a = same-listed names natives (script_names h) a
 wrapped-listed h d s (Some (name.Native k)) names natives a =
     subst (λ b. AreListed (elim b [ true ↦ names | false ↦ names ++ reflector k.0 ∷ [] ]) (natives ++ []) (script_names h ++ made_reflector h (Some (name.Native k))))
     (sym (has-listed_reflector h names natives k.0 a)) (go (has_reflector h k.0))
@@ -115,6 +111,8 @@ wrapped-listed h d s (Some (name.Native k)) names natives a =
     go true = same-listed names natives (script_names h) a
     go false = subst (λ xs. AreListed (names ++ reflector k.0 ∷ []) xs (script_names h ++ reflector k.0 ∷ [])) (sym (append-nil natives))
         (AreListed-script names natives (script_names h) (reflector k.0) refl a)
+
+wrapped-listed h d s _ names natives a = same-listed names natives (script_names h) a
 
 -- a script object made goes last
 object-listed : (h : Heap) (names natives : List Name) → AreListed names natives (script_names h) →

@@ -69,18 +69,12 @@ AreListed-from names natives scripts all_native all_script e = record {
 -- a native that goes last is the last native
 pub AreListed-native : (names natives scripts : List Name) (k : ℕ) → AreListed names natives scripts →
     AreListed (names ++ native k ∷ []) (natives ++ native k ∷ []) scripts
-AreListed-native names natives scripts k a = record {
-  natives_are = filter-append is_native names (native k ∷ []) ∙ ap (λ xs. xs ++ native k ∷ []) a.natives_are;
-  scripts_are = filter-append is_script names (native k ∷ []) ∙ (append-nil (filter is_script names) ∙ a.scripts_are);
-}
+AreListed-native names natives scripts k a = grind (arith, filter-append, append-nil)
 
 -- a script object that goes last is the last script object
 pub AreListed-script : (names natives scripts : List Name) (x : Name) → is_native x ≡ false → AreListed names natives scripts →
     AreListed (names ++ x ∷ []) natives (scripts ++ x ∷ [])
-AreListed-script names natives scripts x e a = record {
-  natives_are = filter-append is_native names (x ∷ []) ∙ rw e (append-nil (filter is_native names) ∙ a.natives_are);
-  scripts_are = filter-append is_script names (x ∷ []) ∙ rw e (ap (λ xs. xs ++ x ∷ []) a.scripts_are);
-}
+AreListed-script names natives scripts x e a = grind (arith, filter-append, append-nil)
 
 -- What is freed is taken out
 
@@ -152,12 +146,11 @@ pub has-listed : (names natives scripts : List Name) → AreListed names natives
 has-listed names natives scripts a x e = go (has same_name names x) refl (has same_name scripts x) refl
   where
     go : (b : Bool) → has same_name names x ≡ b → (c : Bool) → has same_name scripts x ≡ c → b ≡ c
-    go true f true g = refl
     go true f false g = absurd (true≢false
         (sym (has-there same_name same_name-exact scripts x (listed-script names natives scripts a x e (has-among same_name same_name-exact names x f))) ∙ g))
     go false f true g = absurd (true≢false
         (sym (has-there same_name same_name-exact names x (script-listed names natives scripts a x (has-among same_name same_name-exact scripts x g))) ∙ f))
-    go false f false g = refl
+    go _ f _ g = refl
 
 -- a census lists as many names as there are
 pub length-census_order : (names : List Name) → length (census_order names) ≡ length names

@@ -1,5 +1,5 @@
 -- WHAT IS LOST: garbage but for the reflectors of reached natives. A collection that dooms garbage dooms it.
-use Rattle.std.proofs.Common.{◌≡◌, ℕ, Bool, true, false, ◌&&◌, List, [], ◌∷◌, map, Option, Some, None, option_map, refl, sym, ◌∙◌, ap, subst, inl, inr, ◌⊎◌, ⊎_elim}
+use Rattle.std.proofs.Common.{arith, ◌≡◌, ℕ, Bool, true, false, ◌&&◌, List, [], ◌∷◌, map, Option, Some, None, option_map, refl, sym, ◌∙◌, ap, subst, inl, inr, ◌⊎◌, ⊎_elim}
 use Rattle.std.specs.Prelude.{option_and_then}
 use Rattle.std.specs.List.{filter, list_all}
 use Rattle.std.proofs.lemmas.Bool.{true≢false, and_parts, and_from}
@@ -32,6 +32,7 @@ use Rattle.cc_laws_snapshot.proofs.ReachedStays.{native-edge}
 use Rattle.cc_laws_snapshot.proofs.SoundView.{script-place}
 use Rattle.cc_laws_run.proofs.DoomedBegin.{out-unreached, garbage-is_there, garbage-out}
 use Rattle.cc_laws_run.proofs.TouchedViews.{edge-cases}
+use Rattle.cc_laws_snapshot.proofs.Edges.{native_edges-has}
 
 -- Lost and garbage
 
@@ -50,13 +51,12 @@ module _ (h : Heap) where
 
   -- garbage is lost, or the reflector of a reached native
   garbage-cases : (x : Name) → Among x (garbage h) → Among x (lost h) ⊎ ((k : ℕ) × (x ≡ reflector k) × ReachedIn (view h) (native k))
-  garbage-cases (name.Native k) m = inl (Among-filter has_none_behind (native k.0) (garbage h) m refl)
-  garbage-cases (name.Script k) m = inl (Among-filter has_none_behind (object k.0) (garbage h) m refl)
   garbage-cases (name.Reflector k) m = ⊎_elim
       (λ r. inr (k.0, refl, r))
       (λ out. inl (Among-filter has_none_behind (reflector k.0) (garbage h) m
       (and_from (is_unreached (view h) (native k.0)) true (out-unreached h (native k.0) out) refl)))
       (reached_cases (view h) (native k.0))
+  garbage-cases x m = inl (Among-filter has_none_behind x (garbage h) m refl)
 
   -- A REFLECTOR IS LOST ONLY WITH ITS NATIVE.
   pub lost-keeps : IsSound [] h → KeepsReflectors (lost h)
@@ -71,15 +71,7 @@ module _ (h : Heap) where
 
 -- a member of a mapping is what the entry names
 if_gray-own : (h : Heap) (x y : Name) → if_gray h x ≡ Some y → x ≡ y
-if_gray-own h x y e = go (is_gray_in h x) e
-  where
-    some_by : Bool → Option Name
-    some_by true = Some x
-    some_by false = None
-
-    go : (b : Bool) → some_by b ≡ Some y → x ≡ y
-    go true f = cc
-    go false f = absurd (cc)
+if_gray-own h x y e = grind arith
 
 -- Reflectors of reached natives
 
@@ -96,16 +88,10 @@ module _ (h : Heap) (g : Graph) (sound : IsSound [] h) (well : IsWellMade g) (st
   unpreserved : (n : HeapNative) → Among n h.natives → Among (reflector n.number) (garbage h) → ReachedIn (view h) (native n.number) → n.preserved ≡ false
   unpreserved n there b r = go n.preserved refl
     where
-      preserved_by : Bool → List (Name × Name)
-      preserved_by true = from_to (native n.number) (reflector n.number) ∷ []
-      preserved_by false = []
-
       go : (p : Bool) → n.preserved ≡ p → p ≡ false
       go true e =
           let edge : Among (native n.number, reflector n.number) (view h).edges =
-          native-edge h n (native n.number) (reflector n.number) there
-          (Among-right (native n.number, reflector n.number) (slot_edges (native n.number) n.slots) (preserved_edge n)
-          (subst (λ p. Among (native n.number, reflector n.number) (preserved_by p)) (sym e) (inl refl))) in
+          native-edge h n (native n.number) (reflector n.number) there (native_edges-has n (native n.number) (reflector n.number) refl (inr (e, refl))) in
           absurd (garbage-out h (reflector n.number) b
           (derive-along (view h).registers (view h).edges (joints h.entries) (native n.number) (reflector n.number) edge r))
       go false e = refl
@@ -204,12 +190,7 @@ module _ (h : Heap) (g : Graph) (sound : IsSound [] h) (well : IsWellMade g) (st
 
   -- so is one that a mapping names
   mapping-lost : (m : Mapping) → Among m (mappings_of h) → (p : Name) → IsMember p m → Among p (garbage h) → Among p (lost h)
-  mapping-lost m i p a b =
-      let f = Among-map_cases (mapping_of h) (filter (λ (e : Entry). is_gray_in h e.value) h.entries) m i in
-      let there : Among f.0 h.entries = Among-filtered (λ (e : Entry). is_gray_in h e.value) f.0 h.entries f.1 in
-      member-lost f.0 there p (⊎_elim
-      (λ l. inl (if_gray-own h f.0.the_map p (ap (λ (n : Mapping). n.the_map) f.2 ∙ l)))
-      (λ r. inr (if_gray-own h f.0.key p (ap (λ (n : Mapping). n.key) f.2 ∙ r))) a) b
+  mapping-lost m i p a b = grind (arith, Among-map_cases, Among-filtered, member-lost, if_gray-own)
 
   -- WHERE A SNAPSHOT BEGUN DOOMS GARBAGE, IT DOOMS WHAT IS LOST.
   pub lost-doomed : IsDoomed (view (with_empty_buffer h)) (begun h) (garbage h) → IsDoomed (view (with_empty_buffer h)) (begun h) (lost h)

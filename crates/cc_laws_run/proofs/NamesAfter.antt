@@ -60,13 +60,7 @@ pub record NamesAfter (h : Heap) (o : Outcome) (ks : List ℕ) (natives scripts 
 -- the same names, and script objects that went last
 NamesAfter-scripts : (h g : Heap) (scripts : List Name) → native_names g ≡ native_names h → script_names g ≡ script_names h ++ scripts →
     NamesAfter h (silently g) [] [] scripts
-NamesAfter-scripts h g scripts e f = record {
-  told = refl;
-  once = λ k. omega arith;
-  were_there = λ k m. absurd m;
-  natives_left = e ∙ sym (append-nil (native_names h));
-  scripts_left = f;
-}
+NamesAfter-scripts h g scripts e f = grind (arith, append-nil)
 
 -- the same names
 NamesAfter-same : (h g : Heap) → SameNames h g → (ks : List ℕ) × NamesAfter h (silently g) ks [] []
@@ -90,13 +84,7 @@ native_names-freed h ks o f =
 -- natives freed after a native went last
 NamesAfter-frees : (h g : Heap) (natives : List Name) (ks : List ℕ) (o : Outcome) → native_names g ≡ native_names h ++ natives → script_names g ≡ script_names h →
     Frees g ks o → NamesAfter h o ks natives []
-NamesAfter-frees h g natives ks o e s f = record {
-  told = f.told;
-  once = f.once;
-  were_there = λ k m. subst (λ xs. Among (native k) xs) e (f.were_there k m);
-  natives_left = native_names-freed g ks o f ∙ ap (λ xs. after_events xs (map freed_event ks)) e;
-  scripts_left = ap (map (λ (p : HeapScript). p.name)) f.beside.scripts ∙ (s ∙ sym (append-nil (script_names h)));
-}
+NamesAfter-frees h g natives ks o e s f = grind (arith, native_names-freed, append-nil)
 
 -- natives freed where the same names were there
 NamesAfter-freed : (h g : Heap) (o : Outcome) → SameNames h g → (ks : List ℕ) × Frees g ks o → (ks : List ℕ) × NamesAfter h o ks [] []
@@ -174,9 +162,7 @@ hold_script-names h d x w = let s = SameNames-exposed h x w in NamesAfter-same h
 -- the reflector that a native gets, where it has none
 abbrev pub made_reflector : Heap → Option Name → List Name
 made_reflector h (Some (name.Native k)) = elim (has_reflector h k.0) [ true ↦ [] | false ↦ reflector k.0 ∷ [] ]
-made_reflector h (Some (name.Script k)) = []
-made_reflector h (Some (name.Reflector k)) = []
-made_reflector h None = []
+made_reflector h _ = []
 
 -- a native wrapped
 wrapped-names : (h : Heap) (d : ℕ) (x : Option Name) → IsWellFormed h →
@@ -241,8 +227,4 @@ effects-names h (Preserve q) s r t = NamesAfter-same h _ (SameNames-preserve h (
 effects-names h (SetEntry m k v) s r t = NamesAfter-same h _ (SameNames-set_entry h (register h (S m)) (register h (S k)) (source h (option_map S v)))
 effects-names h (GetEntry d m k) s r t = hold_script-names h d (value_at (objects_of h) (register h (S m)) (register h (S k))) s.well_formed
 effects-names h (Expose q i) s r t = NamesAfter-same h _ (SameNames-exposed h (slot_at (objects_of h) (N q) i) s.well_formed)
-effects-names h Nothing s r t = NamesAfter-same h h (SameNames-refl h)
-effects-names h (Slice u) s r t = NamesAfter-same h h (SameNames-refl h)
-effects-names h Collect s r t = NamesAfter-same h h (SameNames-refl h)
-effects-names h Gc s r t = NamesAfter-same h h (SameNames-refl h)
-effects-names h Census s r t = NamesAfter-same h h (SameNames-refl h)
+effects-names h _ s r t = NamesAfter-same h h (SameNames-refl h)

@@ -1,5 +1,5 @@
 -- WHAT LEAVES THE NAMES OF ALL OBJECTS: what changes slots, flags, counts and colours.
-use Rattle.std.proofs.Common.{◌≡◌, ℕ, Bool, true, false, Option, Some, None, refl, ◌∙◌, ap, if◌then◌else◌}
+use Rattle.std.proofs.Common.{arith, ◌≡◌, ℕ, Bool, true, false, Option, Some, None, refl, ◌∙◌, ap, if◌then◌else◌}
 use Rattle.cc_names.specs.declared.name.Name.{Name}
 use Rattle.cc_names.specs.declared.name.Name.TheVariants as name
 use Rattle.cc_names.specs.Names.{native, object, reflector, same_name}
@@ -31,24 +31,11 @@ SameNames-alike h g a = record { natives = native_names-alike h g a; scripts = s
 
 -- a native changed
 pub SameNames-change_native : (h : Heap) (k : ℕ) (f : HeapNative → HeapNative) → KeepsNumber f → SameNames h (change_native h k f)
-SameNames-change_native h k f e = record {
-  natives = map-kept (λ (n : HeapNative). native n.number) (changed_at k f) h.natives (λ n. ap native (changed_at-number k f e n));
-  scripts = refl;
-}
+SameNames-change_native h k f e = grind (arith, map-kept, changed_at-number)
 
 -- a script object changed
 SameNames-change_script : (h : Heap) (x : Name) (f : HeapScript → HeapScript) → ((o : HeapScript) → (f o).name ≡ o.name) → SameNames h (change_script h x f)
-SameNames-change_script h x f e = record {
-  natives = refl;
-  scripts = map-kept (λ (o : HeapScript). o.name) changed h.scripts (λ o. go o (same_name o.name x));
-}
-  where
-    changed : HeapScript → HeapScript
-    changed o = if same_name o.name x then f o else o
-
-    go : (o : HeapScript) (b : Bool) → (if b then f o else o).name ≡ o.name
-    go o true = e o
-    go o false = refl
+SameNames-change_script h x f e = grind (arith, map-kept)
 
 -- a slot written
 SameNames-set_slot : (h : Heap) (x : Option Name) (i : ℕ) (y : Option Name) → SameNames h (set_slot h x i y)
@@ -59,10 +46,8 @@ SameNames-set_slot h (Some (name.Reflector k)) i y = SameNames-change_script h (
 
 -- a reflector preserved
 pub SameNames-preserve : (h : Heap) (x : Option Name) → SameNames h (preserve h x)
-SameNames-preserve h None = SameNames-refl h
-SameNames-preserve h (Some (name.Native k)) = SameNames-refl h
-SameNames-preserve h (Some (name.Script k)) = SameNames-refl h
 SameNames-preserve h (Some (name.Reflector k)) = SameNames-change_native h k.0 (λ n. record n { preserved = true }) (λ n. refl)
+SameNames-preserve h _ = SameNames-refl h
 
 -- a reflector preserved, and a slot of a script object written
 pub SameNames-put_in_script : (h : Heap) (x : Option Name) (i : ℕ) (y : Option Name) → SameNames h (put_in_script h x i y)
@@ -70,10 +55,9 @@ SameNames-put_in_script h x i y = SameNames-trans h (preserve h x) (put_in_scrip
 
 -- an entry set or taken out
 pub SameNames-set_entry : (h : Heap) (m k v : Option Name) → SameNames h (set_entry h m k v)
-SameNames-set_entry h None k v = SameNames-refl h
-SameNames-set_entry h (Some m) None v = SameNames-refl h
 SameNames-set_entry h (Some m) (Some k) None = record { natives = refl; scripts = refl }
 SameNames-set_entry h (Some m) (Some k) (Some v) = let p = SameNames-preserve h (Some k) in record { natives = p.natives; scripts = p.scripts }
+SameNames-set_entry h _ _ v = SameNames-refl h
 
 -- an exposure changes script objects alone
 native_names-exposed : (h : Heap) (x : Option Name) → native_names (exposed h x) ≡ native_names h

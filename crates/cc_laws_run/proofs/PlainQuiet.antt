@@ -1,6 +1,6 @@
 -- THE PLAIN RUN IS QUIET: after `gc`, `collect` and `gc` in a row a census lists exactly the reached objects.
 use Rattle.std.specs.Prelude.{IsTrue, ◌↔◌}
-use Rattle.std.proofs.Common.{◌≡◌, Bool, true, false, List, [], ◌∷◌, Some, refl, sym, ap, subst}
+use Rattle.std.proofs.Common.{arith, ◌≡◌, Bool, true, false, List, [], ◌∷◌, Some, refl, sym, ap, subst}
 use Rattle.std.specs.List.{list_all, filter}
 use Rattle.std.proofs.lemmas.Bool.{and_parts}
 use Rattle.cc_lists.specs.Members.{Among}
@@ -61,46 +61,11 @@ InRow after_all m = IsAfterGc m × IsExact m
 
 -- `gc` takes the row on
 gc-row : (row : Row) (m : Machine) (s : State) → IsRunning m s → IsSuspectedNow m → InRow row m → InRow (row_after_gc row) (gc m).machine
-gc-row row m s r suspected t = go row t
-  where
-    now : IsAfterGc (gc m).machine
-    now = record { before = m; state = s; runs = r; suspected = suspected; same = refl }
-
-    exact : IsAfterCollect m → IsExact (gc m).machine
-    exact c = subst (λ k. IsExact (gc k).machine) (sym c.same)
-        (λ x. row-quiet c.before x c.runs.sound c.runs.colours c.runs.fresh c.suspected c.done)
-
-    go : (row : Row) → InRow row m → InRow (row_after_gc row) (gc m).machine
-    go nothing_yet t = now
-    go after_gc t = now
-    go after_collect t = (now, exact t)
-    go after_all t = now
+gc-row row m s r suspected t = grind (arith, row-quiet)
 
 -- a collection that is done takes the row on, too
 collect-row : (row : Row) (m : Machine) → InRow row m → InRow (row_after_collect row (Some (reply_to_units (collect m).progress))) (collect m).machine
-collect-row row m t = go row t
-  where
-    done : IsAfterGc m → ¬ ((collect m).progress ≡ refused) → IsAfterCollect (collect m).machine
-    done a d = record {
-      before = a.before;
-      state = a.state;
-      runs = a.runs;
-      suspected = a.suspected;
-      done = subst (λ k. ¬ ((collect k).progress ≡ refused)) a.same d;
-      same = ap (λ k. (collect k).machine) a.same;
-    }
-
-    by_progress : IsAfterGc m → (p : Progress) → (collect m).progress ≡ p →
-        InRow (elim (is_done (Some (reply_to_units p))) [ true ↦ after_collect | false ↦ nothing_yet ]) (collect m).machine
-    by_progress a went_on e = done a (λ f. absurd (cc))
-    by_progress a at_end e = done a (λ f. absurd (cc))
-    by_progress a refused e = tt
-
-    go : (row : Row) → InRow row m → InRow (row_after_collect row (Some (reply_to_units (collect m).progress))) (collect m).machine
-    go nothing_yet t = tt
-    go after_gc t = by_progress t (collect m).progress refl
-    go after_collect t = tt
-    go after_all t = by_progress t.0 (collect m).progress refl
+collect-row row m t = grind arith
 
 -- each ask leaves the row as it says
 ask-row : (row : Row) (m : Machine) (s : State) (ask : Ask) → IsRunning m s → IsSuspectedNow m → InRow row m →
@@ -115,19 +80,11 @@ ask-row row m s ask r suspected t = tt
 
 -- what is listed stands in census order
 pub listed-census_order : (names : List Name) (x : Name) → Among x names → Among x (census_order names)
-listed-census_order names x m = go (is_native x) refl
-  where
-    go : (b : Bool) → is_native x ≡ b → Among x (census_order names)
-    go true e = Among-left x (filter is_native names) (filter is_script names) (Among-filter is_native x names m e)
-    go false e = Among-right x (filter is_native names) (filter is_script names) (Among-filter is_script x names m (rw e refl))
+listed-census_order names x m = grind (arith, Among-left, Among-filter, Among-right)
 
 -- where exactly what the registers reach is there, exactly the reached names are listed
 lists-reached : (m : Machine) (s : State) → IsRunning m s → IsExact m → ListsReached s
-lists-reached m s r exact x = (
-  λ l. in-reached m.heap s.graph r.sound.well_formed r.well_made r.stands x
-      ((exact x).0 (subst (Among x) (sym r.listed) (listed-census_order s.listed x l))),
-  λ d. there-listed m.heap s.listed x r.listed ((exact x).1 (reached-in m.heap s.graph r.sound.well_formed r.well_made r.stands x d)),
-)
+lists-reached m s r exact x = grind (arith, in-reached, listed-census_order, there-listed, reached-in)
 
 -- a census is quiet where the row is whole
 census-quiet : (row : Row) (m : Machine) (s : State) (ask : Ask) → IsRunning m s → InRow row m → CensusIsQuiet row s ask

@@ -44,11 +44,7 @@ digits-below most n (b ∷ bytes) le = go (digits-below most (n * 10 + (b - 48))
 
 -- a number is at most the most
 number-below : (most : ℕ) (token : List ℕ) → Has (λ k. k ≤ most) (number_within most token)
-number-below most token = go (length token == 0 || has_leading_zero token)
-  where
-    go : (t : Bool) → Has (λ k. k ≤ most) (if t then None else digits_from most 0 token)
-    go true = tt
-    go false = digits-below most 0 token (omega arith)
+number-below most token = grind (arith, digits-below)
 
 -- what is read has a property that follows from another one that it has
 Has-so : {A : Type 0} (P Q : A → Type 0) → ((a : A) → P a → Q a) → (o : Option A) → Has P o → Has Q o
@@ -82,11 +78,7 @@ any-number token = Has-any (number token)
 
 -- the word `none` is nothing
 nothing-none : {A : Type 0} (P : Option A → Type 0) → P None → (token : List ℕ) → Has P (nothing token)
-nothing-none {A} P p token = go (is_none_word token)
-  where
-    go : (t : Bool) → Has P (if t then Some None else None)
-    go true = p
-    go false = tt
+nothing-none {A} P p token = grind arith
 
 -- Forms
 
@@ -118,32 +110,18 @@ one-in_range {A} P f first p i (t ∷ u ∷ tokens) = tt
 two-in_range : {A B : Type 0} (P : A → Type 0) (Q : B → Type 0) (f : A → B → Command) (first : List ℕ → Option A) (second : List ℕ → Option B) →
     ((t : List ℕ) → Has P (first t)) → ((t : List ℕ) → Has Q (second t)) →
     ((a : A) (b : B) → P a → Q b → InRange (f a b)) → ReadsInRange (of_two f first second)
-two-in_range {A} {B} P Q f first second p q i [] = tt
-two-in_range {A} {B} P Q f first second p q i (t ∷ []) = tt
-two-in_range {A} {B} P Q f first second p q i (t ∷ u ∷ []) = both-in_range (first t) (p t) (second u) (q u)
-  where
-    both-in_range : (x : Option A) → Has P x → (y : Option B) → Has Q y → Has InRange (both f x y)
-    both-in_range None h y k = tt
-    both-in_range (Some a) h None k = tt
-    both-in_range (Some a) h (Some b) k = i a b h k
-two-in_range {A} {B} P Q f first second p q i (t ∷ u ∷ v ∷ tokens) = tt
+two-in_range {A} {B} P Q f first second p q i (t ∷ u ∷ []) = grind arith
+
+two-in_range {A} {B} P Q f first second p q i _ = tt
 
 -- a form of three
 three-in_range : {A B C : Type 0} (P : A → Type 0) (Q : B → Type 0) (R : C → Type 0) (f : A → B → C → Command)
     (first : List ℕ → Option A) (second : List ℕ → Option B) (third : List ℕ → Option C) →
     ((t : List ℕ) → Has P (first t)) → ((t : List ℕ) → Has Q (second t)) → ((t : List ℕ) → Has R (third t)) →
     ((a : A) (b : B) (c : C) → P a → Q b → R c → InRange (f a b c)) → ReadsInRange (of_three f first second third)
-three-in_range {A} {B} {C} P Q R f first second third p q r i [] = tt
-three-in_range {A} {B} {C} P Q R f first second third p q r i (t ∷ []) = tt
-three-in_range {A} {B} {C} P Q R f first second third p q r i (t ∷ u ∷ []) = tt
-three-in_range {A} {B} {C} P Q R f first second third p q r i (t ∷ u ∷ v ∷ []) = go (first t) (p t) (second u) (q u) (third v) (r v)
-  where
-    go : (x : Option A) → Has P x → (y : Option B) → Has Q y → (z : Option C) → Has R z → Has InRange (all_three f x y z)
-    go None h y k z l = tt
-    go (Some a) h None k z l = tt
-    go (Some a) h (Some b) k None l = tt
-    go (Some a) h (Some b) k (Some c) l = i a b c h k l
-three-in_range {A} {B} {C} P Q R f first second third p q r i (t ∷ u ∷ v ∷ w ∷ tokens) = tt
+three-in_range {A} {B} {C} P Q R f first second third p q r i (t ∷ u ∷ v ∷ []) = grind arith
+
+three-in_range {A} {B} {C} P Q R f first second third p q r i _ = tt
 
 -- a register in range
 abbrev IsRegister : ℕ → Type 0
@@ -249,15 +227,7 @@ command_of-range forms line each = tokens-in_range forms (tokens_of (without_ret
 
 -- what a line asks is in range
 ask_of-range : (forms : List Form) (line : List ℕ) → EachInRange forms → IsTrue (ask_in_range (ask_of forms line))
-ask_of-range forms line each = go (nat_lt longest_line (length line))
-  where
-    by_command : (o : Option Command) → Has InRange o → IsTrue (ask_in_range (taken_or_bad o))
-    by_command None h = refl
-    by_command (Some c) h = h
-
-    go : (t : Bool) → IsTrue (ask_in_range (elim t [ true ↦ long | false ↦ taken_or_bad (command_of forms line) ]))
-    go true = refl
-    go false = by_command (command_of forms line) (command_of-range forms line each)
+ask_of-range forms line each = grind (arith, command_of-range)
 
 -- what all lines ask is in range
 lines-in_range : (forms : List Form) (lines : List (List ℕ)) → EachInRange forms → IsTrue (list_all ask_in_range (map (ask_of forms) lines))

@@ -1,5 +1,5 @@
 -- A SCRIPT COLLECTION KEEPS WHAT IS REACHED; where each native that holds something is reached, it leaves nothing else.
-use Rattle.std.proofs.Common.{◌≡◌, ℕ, true, List, [], ◌++◌, sym, ◌∙◌, ap, subst, ⊎_elim}
+use Rattle.std.proofs.Common.{arith, ◌≡◌, ℕ, true, List, [], ◌++◌, sym, ◌∙◌, ap, subst, ⊎_elim}
 use Rattle.std.specs.List.{filter, flat_map}
 use Rattle.cc_lists.specs.Members.{Among}
 use Rattle.cc_lists.proofs.Members.{Among-map_cases, Among-append, Among-filter, Among-passes, Among-flat_map_cases}
@@ -42,11 +42,7 @@ module _ {owned : List ℕ} (h : Heap) (s : IsSound owned h) where
 
   -- a script object that is left was marked
   pub left-not_dead : (x : Name) → Among x (script_names next) → ¬ (Among x (unmarked (marked h)))
-  left-not_dead x m =
-      let dead : List Name = unmarked (marked h) in
-      let f = Among-map_cases (λ (o : HeapScript). o.name) next.scripts x m in
-      let i : Among f.0 (filter (is_spared dead) (marked h).scripts) = subst (λ os. Among f.0 os) (scripts-sweep (marked h)) f.1 in
-      subst (λ z. ¬ (Among z dead)) f.2 (is_not_among-apart dead f.0.name (Among-passes (is_spared dead) f.0 (marked h).scripts i))
+  left-not_dead x m = grind (arith, Among-map_cases, scripts-sweep, is_not_among-apart, Among-passes)
 
   -- what a native that is left holds it held
   native-kept : (n : HeapNative) (x y : Name) → Among n h.natives → Among (x, y) (native_edges n) → Among x (names_there next) → Among (x, y) (view next).edges

@@ -1,5 +1,5 @@
 -- THE END OF A COLLECTION THAT MISSED NOTHING: what it took away is empty or gone, so each native that holds something is reached.
-use Rattle.std.proofs.Common.{◌≡◌, ℕ, List, [], ◌++◌, length, sym, ◌∙◌, ap, subst, ⊎_elim}
+use Rattle.std.proofs.Common.{arith, ◌≡◌, ℕ, List, [], ◌++◌, length, sym, ◌∙◌, ap, subst, ⊎_elim}
 use Rattle.std.specs.List.{flat_map}
 use Rattle.std.proofs.lemmas.Bool.{false≢true}
 use Rattle.cc_lists.specs.Members.{Among}
@@ -57,10 +57,7 @@ module _ (h : Heap) (ks : List ℕ) (s : IsSound [] h) (there : (k : ℕ) → Am
 
   -- an empty native has no edges
   pub emptied-none : (n : HeapNative) (x y : Name) → IsEmptied n → ¬ (Among (x, y) (native_edges n))
-  emptied-none n x y e m = ⊎_elim
-      (λ i. contents-empty_none (length n.slots) y (subst (λ xs. Among y (contents xs)) e.slots i))
-      (λ p. false≢true (sym e.preserved ∙ p.0))
-      (native_edges-are n x y m).1
+  emptied-none n x y e m = grind (arith, contents-empty_none, native_edges-are)
 
   module _ (out : (k : ℕ) → Among k ks → ¬ (ReachedIn (view h) (native k))) where
     -- what a reached native holds it goes on holding

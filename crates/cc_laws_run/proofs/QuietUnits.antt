@@ -12,7 +12,7 @@ use Rattle.cc_model.specs.End.{Progress, went_on, at_end, refused, UnitDone, aba
 use Rattle.cc_model.specs.Sweep.{collect_scripts}
 use Rattle.cc_model.specs.Fresh.{IsFresh, IsTraversed}
 use Rattle.cc_model.specs.Suspected.{IsSuspected}
-use Rattle.cc_model.specs.Collecting.{Machine, UnitsDone, no_units, next_answer, one_unit, enough_units, to_the_end, finish_running, unless_stopped, collect, then_scripts, gc}
+use Rattle.cc_model.specs.Collecting.{Machine, UnitsDone, no_units, next_answer, one_unit, enough_units, to_the_end, finish_running, unless_stopped, collect, then_scripts, gc, units_done}
 use Rattle.cc_model.proofs.UnitsEnd.{to_the_end-stops}
 use Rattle.cc_laws_heap.specs.Sound.{IsSound}
 use Rattle.cc_laws_heap.proofs.Kept.{IsBuffer}
@@ -20,8 +20,8 @@ use Rattle.cc_laws_heap.proofs.CollectedColours.{collect_scripts-sound, collect_
 use Rattle.cc_laws_snapshot.proofs.Beginning.{begun-fresh}
 use Rattle.cc_laws_snapshot.proofs.NodeUnit.{after_node-fresh}
 use Rattle.cc_laws_snapshot.proofs.WhiteNatives.{taking_white-sound, taking_white-colours}
-use Rattle.cc_laws_run.specs.Running.{IsFreshNow}
-use Rattle.cc_laws_run.specs.Doomed.{IsDoomed, candidates_now, garbage}
+use Rattle.cc_laws_run.specs.Running.{IsFreshNow, IsRunning}
+use Rattle.cc_laws_run.specs.Doomed.{IsDoomed, candidates_now, garbage, IsSuspectedNow}
 use Rattle.cc_laws_snapshot.proofs.GivingBack.{begin-suspected, given_back, give_back-buffer, given_back-buffer, give_back-suspected}
 use Rattle.cc_laws_snapshot.proofs.EndSuspected.{end-suspected}
 use Rattle.cc_laws_run.proofs.DoomedNode.{after_node-doomed}
@@ -30,7 +30,8 @@ use Rattle.cc_laws_snapshot.proofs.ReachedStays.{IsTidy}
 use Rattle.cc_laws_run.proofs.QuietTaken.{end-tidy}
 use Rattle.cc_laws_run.proofs.BufferStands.{IsSound-buffer, HasColourInvariant-buffer}
 use Rattle.cc_laws_run.proofs.UnitLawful.{unit-cases, traversed-none}
-use Rattle.cc_laws_run.proofs.HoldingUnits.{units_done-keep}
+use Rattle.cc_laws_run.proofs.HoldingUnits.{units_done-keep, finish-cases}
+use Rattle.cc_model.specs.Lawful.{State}
 
 -- Heaps with another buffer
 
@@ -120,26 +121,20 @@ unit-going h s memory g = unit-cases h s memory GoesOn (abandoned-going h s g) (
 abbrev pub IsGoingOn : UnitsDone → Type 0
 IsGoingOn d = IsGoing d.machine.heap d.machine.snapshot d.progress
 
+-- a machine that runs and forgot no unreached native is such
+pub running-going : (m : Machine) (s : State) → IsRunning m s → IsSuspectedNow m → IsGoing m.heap m.snapshot went_on
+running-going m s r suspected = record { sound = r.sound; colours = r.colours; fresh = r.fresh; suspected = suspected; stopped = λ d. absurd (d refl) }
+
+-- units lead from one to another
+pub units-going : (n : ℕ) (d : UnitsDone) → IsGoingOn d → IsGoingOn (units_done n d)
+units-going = units_done-keep IsGoingOn
+    (λ d e k. unit-going d.machine.heap d.machine.snapshot (next_answer d.machine.memory) (subst (IsGoing d.machine.heap d.machine.snapshot) e k))
+
 -- a running collection brought to its end: the heaps are sound, natives are suspected without candidates, and none runs
 pub finish_running-going : (m : Machine) → IsGoing m.heap m.snapshot went_on → IsGoingOn (finish_running m) × ((finish_running m).machine.snapshot ≡ None)
-finish_running-going m g = go (is_some m.snapshot) refl
-  where
-    step : (d : UnitsDone) → d.progress ≡ went_on → IsGoingOn d → IsGoingOn (one_unit d.machine d.events)
-    step d e k = unit-going d.machine.heap d.machine.snapshot (next_answer d.machine.memory) (subst (IsGoing d.machine.heap d.machine.snapshot) e k)
-
-    none : (s : Option Snapshot) → is_some s ≡ false → s ≡ None
-    none None e = refl
-    none (Some s) e = absurd (true≢false e)
-
-    finished : Bool → UnitsDone
-    finished true = to_the_end (no_units m)
-    finished false = no_units m
-
-    go : (b : Bool) → is_some m.snapshot ≡ b → IsGoingOn (finished b) × ((finished b).machine.snapshot ≡ None)
-    go true e =
-        let k : IsGoingOn (to_the_end (no_units m)) = units_done-keep IsGoingOn step (enough_units m) (no_units m) g in
-        (k, k.stopped (to_the_end-stops m))
-    go false e = (g, none m.snapshot e)
+finish_running-going m g = finish-cases m (λ d. IsGoingOn d × (d.machine.snapshot ≡ None))
+    (let k : IsGoingOn (to_the_end (no_units m)) = units-going (enough_units m) (no_units m) g in (k, k.stopped (to_the_end-stops m)))
+    (λ e. (g, e))
 
 -- A collection that misses nothing
 

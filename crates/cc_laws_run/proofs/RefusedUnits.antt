@@ -10,6 +10,7 @@ use Rattle.cc_model.specs.Snapshot.{Snapshot}
 use Rattle.cc_model.specs.End.{give_back, heap_given_back, refused, unit, UnitDone, may_be_refused, abandoned, granted}
 use Rattle.cc_laws_snapshot.proofs.GivingBack.{given_back-there, give_back-buffer}
 use Rattle.cc_laws_run.proofs.UnitsUse.{refusals, granted-refusals}
+use Rattle.cc_laws_run.proofs.UnitLawful.{unit-cases}
 
 -- what a unit that was refused comes to
 abbrev pub IsAbandoned : Heap → Option Snapshot → UnitDone → Type 0
@@ -17,17 +18,9 @@ IsAbandoned h s u = (u.heap ≡ heap_given_back h s) × (u.snapshot ≡ None) ×
 
 -- a unit that is refused is abandoned
 refused-abandoned : (h : Heap) (s : Option Snapshot) (memory : Bool) → (unit h s memory).progress ≡ refused → IsAbandoned h s (unit h s memory)
-unfolding unit
-refused-abandoned h s memory e = go (may_be_refused h s && not memory) e
-  where
-    unit_by : Bool → UnitDone
-    unit_by b = elim b [ true ↦ abandoned h s | false ↦ granted h s ]
-
-    go : (b : Bool) → (unit_by b).progress ≡ refused → IsAbandoned h s (unit_by b)
-    go true e = (refl, refl, refl)
-    go false e =
-        let none : 0 ≡ refusals refused = sym (granted-refusals h s) ∙ ap refusals e in
-        absurd (omega (arith, none))
+refused-abandoned h s memory = unit-cases h s memory (λ u. u.progress ≡ refused → IsAbandoned h s u)
+    (λ e. (refl, refl, refl))
+    (λ e. let none : 0 ≡ refusals refused = sym (granted-refusals h s) ∙ ap refusals e in absurd (omega (arith, none)))
 
 -- A begin that is refused leaves the heaps.
 pub refused_begin-leaves : (h : Heap) (memory : Bool) → (unit h None memory).progress ≡ refused →

@@ -14,26 +14,20 @@ use Rattle.cc_laws_heap.specs.Ending.{NamesNative}
 
 -- numbers that rise are one run, or none
 pub runs-rising : (ks : List ℕ) → IsRising ks → runs ks ≤ 1
-runs-rising [] r = omega arith
-runs-rising (i ∷ []) r = omega arith
 runs-rising (i ∷ j ∷ js) r =
     let none : break_between i j ≡ 0 = ap (λ b. elim b [ true ↦ 0 | false ↦ 1 ]) (lt-ltb i j r.0) in
     omega (arith, none, runs-rising (j ∷ js) r.1)
+runs-rising _ r = omega arith
 
 -- between two numbers there is at most one break
 break-few : (i j : ℕ) → break_between i j ≤ 1
-break-few i j = go (nat_lt i j)
-  where
-    go : (b : Bool) → elim b [ true ↦ 0 | false ↦ 1 ] ≤ 1
-    go true = omega arith
-    go false = omega arith
+break-few i j = grind arith
 
 -- two lists have no more runs together than each
 pub runs-append : (is js : List ℕ) → runs (is ++ js) ≤ runs is + runs js
-runs-append [] js = omega arith
-runs-append (i ∷ []) [] = omega arith
 runs-append (i ∷ []) (j ∷ js) = omega (arith, break-few i j)
 runs-append (i ∷ k ∷ ks) js = omega (arith, runs-append (k ∷ ks) js)
+runs-append _ _ = omega arith
 
 -- Abandonment
 

@@ -42,44 +42,15 @@ use Rattle.cc_laws_run.proofs.Answered.{refusals-agree, running-listed}
 
 -- the empty heaps are well formed
 empty-well_formed : (limits : Allowance) → IsWellFormed (empty_heap limits)
-empty-well_formed limits = record {
-  native_registers = λ x m. absurd m;
-  script_registers = λ x m. absurd m;
-  registers = (refl, refl);
-  rising = tt;
-  native_numbers = λ n m. absurd m;
-  native_slots = λ n m. absurd m;
-  native_contents = λ n x m. absurd m;
-  distinct = λ x. omega arith;
-  object_numbers = λ k m. absurd m;
-  kinds = λ o m. absurd m;
-  script_contents = λ o x m. absurd m;
-  reflected = λ k m. absurd m;
-  preserved = λ n m. absurd m;
-  entries = λ e m. absurd m;
-  one_entry = λ m k. omega arith;
-  buffered = λ b m. absurd m;
-  buffered_once = λ k. omega arith;
-  natives_allowed = omega arith;
-  scripts_allowed = omega arith;
-}
+empty-well_formed limits = grind arith
 
 -- and sound
 empty-sound : (limits : Allowance) → IsSound [] (empty_heap limits)
-empty-sound limits = record {
-  well_formed = empty-well_formed limits;
-  counts = λ n m. absurd m;
-  none_zero = λ n m. absurd m;
-  owned_there = λ k m. absurd m;
-}
+empty-sound limits = grind (arith, empty-well_formed)
 
 -- and keep the colours
 empty-coloured : (limits : Allowance) → HasColourInvariant (view (empty_heap limits))
-empty-coloured limits = record {
-  black_to_black = λ x y m. absurd m;
-  held_black = λ x m. absurd m;
-  none_white = refl;
-}
+empty-coloured limits = grind arith
 
 -- THE EMPTY MACHINE RUNS.
 pub empty-runs : (limits : Allowance) (memory : List Bool) → IsRunning (empty_machine limits memory) (start limits)
@@ -96,14 +67,7 @@ empty-runs limits memory = record {
 
 -- other answers of memory leave a machine that runs
 with_memory-runs : (m : Machine) (s : State) (memory : List Bool) → IsRunning m s → IsRunning (record m { memory = memory }) s
-with_memory-runs m s memory r = record {
-  sound = r.sound;
-  colours = r.colours;
-  fresh = r.fresh;
-  well_made = r.well_made;
-  stands = r.stands;
-  listed = r.listed;
-}
+with_memory-runs m s memory r = grind arith
 
 -- the snapshot of the running collection stays fresh
 effects-fresh_now : (h : Heap) (c : Command) (snapshot : Option Snapshot) → IsSound [] h → IsTrue (in_range c) → IsTaken (objects_of h) c →
@@ -143,21 +107,16 @@ mutate-runs m s c r i = mutate-cases m c (λ (u : Turn). IsRunning u.machine (ne
 -- a census leaves the graph
 step-census : (g : Graph) → step g Census ≡ g
 unfolding changed
-step-census g = go (refusal_of (graph.objects_of g) Census)
-  where
-    go : (o : Option Refusal) → graph.unless_refused o g (changed g Census) ≡ g
-    go None = refl
-    go (Some refusal) = refl
+step-census g = grind arith
 
 -- EACH ASK THAT MOVES NO COLLECTION LEAVES A MACHINE THAT RUNS.
 pub ask-runs : (m : Machine) (s : State) (ask : Ask) → IsRunning m s → IsTrue (ask_in_range ask) → IsTrue (moves_no_collection ask) →
     IsRunning (do_ask m ask).machine (next s ask (do_ask m ask).answer)
 unfolding do_ask
-ask-runs m s long r i t = r
-ask-runs m s bad r i t = r
-ask-runs m s (taken Nothing) r i t = r
 ask-runs m s (taken Census) r i t = subst (λ g. IsRunning m (record s { graph = g })) (sym (step-census s.graph)) r
 ask-runs m s (taken (Slice u)) r i t = absurd (false≢true t)
 ask-runs m s (taken Collect) r i t = absurd (false≢true t)
 ask-runs m s (taken Gc) r i t = absurd (false≢true t)
+ask-runs m s (taken Nothing) r i t = r
 ask-runs m s (taken c) r i t = mutate-runs m s c r i
+ask-runs m s _ r i t = r

@@ -28,7 +28,7 @@ use Rattle.cc_laws_run.proofs.CommandCases.{mutate-cases}
 use Rattle.cc_laws_run.proofs.TouchedCommands.{command-leaves}
 use Rattle.cc_laws_run.proofs.CollectionsLawful.{running-on}
 use Rattle.cc_laws_run.proofs.PlainLawful.{any-runs}
-use Rattle.cc_laws_run.proofs.SpentViews.{Spends, spends-from, spent-from, spends-left, spends-less}
+use Rattle.cc_laws_run.proofs.SpentViews.{spent-less, spent-left}
 use Rattle.cc_laws_run.proofs.SpentGone.{collect_scripts-less, collected-gone}
 use Rattle.cc_laws_run.proofs.HoldingUnits.{HoldsOn, slice-holds, finish-holds, collect-holds}
 use Rattle.cc_laws_run.proofs.SpentUnits.{Spending, each-spends}
@@ -37,20 +37,15 @@ use Rattle.cc_laws_run.proofs.SpentUnits.{Spending, each-spends}
 
 -- where names are spent, a machine that runs spends them
 spending-on : (m : Machine) (s : State) (ds : List Name) → IsRunning m s → IsSpent m.heap ds → HoldsOn s.graph (Spending ds) (no_units m)
-spending-on m s ds r d = record { names = s.listed; runs = running-on m s r; holds = spends-from m.heap ds d }
-
--- after units they are spent
-pub spent-on : (g : Graph) (ds : List Name) (d : UnitsDone) → HoldsOn g (Spending ds) d → IsSpent d.machine.heap ds
-spent-on g ds d t = spent-from d.machine.heap ds t.runs.sound.well_formed t.holds
+spending-on m s ds r d = record { names = s.listed; runs = running-on m s r; holds = d }
 
 -- a running collection ended leaves them spent
 finish-spends : (m : Machine) (s : State) (ds : List Name) → IsRunning m s → IsSpent m.heap ds → HoldsOn s.graph (Spending ds) (finish_running m)
 finish-spends m s ds r d = finish-holds s.graph r.well_made (Spending ds) (each-spends s.graph ds) m (spending-on m s ds r d)
 
 -- and a script collection leaves them so
-pub collected-spent : (h : Heap) (ds : List Name) → IsSound [] h → Spends h ds → IsSpent (collect_scripts h).heap ds
-collected-spent h ds sound d = spent-from (collect_scripts h).heap ds (collect_scripts-sound h sound).well_formed
-    (spends-less ds h (collect_scripts h).heap (collect_scripts-less h sound) d)
+pub collected-spent : (h : Heap) (ds : List Name) → IsSound [] h → IsSpent h ds → IsSpent (collect_scripts h).heap ds
+collected-spent h ds sound d = spent-less ds h (collect_scripts h).heap (collect_scripts-less h sound) d
 
 -- `gc` leaves them spent
 gc-spends : (m : Machine) (s : State) (ds : List Name) → IsRunning m s → IsSpent m.heap ds → IsSpent (gc m).machine.heap ds
@@ -64,8 +59,9 @@ unfolding gc
 gc-gone m s x ds r d i = let t = finish-spends m s ds r d in collected-gone ds (finish_running m).machine.heap t.runs.sound t.holds x i
 
 -- a command that is done leaves them spent
-effects-spend : (h : Heap) (c : Command) (ds : List Name) → IsWellFormed h → KeepsReflectors ds → Spends h ds → Spends (effects h c).heap ds
-effects-spend h c ds w keeps d = spends-left ds h (effects h c).heap
+effects-spend : (h : Heap) (c : Command) (ds : List Name) → IsWellFormed h → IsWellFormed (effects h c).heap → KeepsReflectors ds → IsSpent h ds →
+    IsSpent (effects h c).heap ds
+effects-spend h c ds w v keeps d = spent-left ds h (effects h c).heap v
     (command-leaves ds h c w keeps
     (λ m. absurd (omega (arith, d.natives_made (h.natives_made + 1) m)))
     (λ m. absurd (omega (arith, d.scripts_made (h.scripts_made + 1) m)))
@@ -77,23 +73,20 @@ mutate-spends : (m : Machine) (c : Command) (ds : List Name) → IsSound [] m.he
 mutate-spends m c ds sound i keeps d = mutate-cases m c (λ (u : Turn). IsSpent u.machine.heap ds)
     (λ refusal e. d)
     (λ e f. d)
-    (λ e memory. spent-from (effects m.heap c).heap ds (effects-sound m.heap c sound i (IsTaken-from (objects_of m.heap) c e)).well_formed
-    (effects-spend m.heap c ds sound.well_formed keeps (spends-from m.heap ds d)))
+    (λ e memory. effects-spend m.heap c ds sound.well_formed (effects-sound m.heap c sound i (IsTaken-from (objects_of m.heap) c e)).well_formed keeps d)
 
 -- WHAT IS SPENT STAYS SO under any ask.
 pub ask-spends : (m : Machine) (s : State) (ask : Ask) (ds : List Name) → IsRunning m s → IsTrue (ask_in_range ask) → KeepsReflectors ds →
     IsSpent m.heap ds → IsSpent (do_ask m ask).machine.heap ds
 unfolding do_ask
-ask-spends m s long ds r i keeps d = d
-ask-spends m s bad ds r i keeps d = d
+ask-spends m s (taken (Slice u)) ds r i keeps d = (slice-holds s.graph r.well_made (Spending ds) (each-spends s.graph ds) u m (spending-on m s ds r d)).holds
+ask-spends m s (taken Collect) ds r i keeps d =
+    (collect-holds s.graph r.well_made (Spending ds) (each-spends s.graph ds) (λ h o es p e. e) m (spending-on m s ds r d)).holds
+ask-spends m s (taken Gc) ds r i keeps d = gc-spends m s ds r d
 ask-spends m s (taken Nothing) ds r i keeps d = d
 ask-spends m s (taken Census) ds r i keeps d = d
-ask-spends m s (taken (Slice u)) ds r i keeps d = spent-on s.graph ds (slice u m)
-    (slice-holds s.graph r.well_made (Spending ds) (each-spends s.graph ds) u m (spending-on m s ds r d))
-ask-spends m s (taken Collect) ds r i keeps d = spent-on s.graph ds (collect m)
-    (collect-holds s.graph r.well_made (Spending ds) (each-spends s.graph ds) m (spending-on m s ds r d))
-ask-spends m s (taken Gc) ds r i keeps d = gc-spends m s ds r d
 ask-spends m s (taken c) ds r i keeps d = mutate-spends m c ds r.sound i keeps d
+ask-spends m s _ ds r i keeps d = d
 
 -- so after any asks in a row
 pub asks-spend : (m : Machine) (s : State) (asks : List Ask) (ds : List Name) → IsRunning m s → IsTrue (list_all ask_in_range asks) →

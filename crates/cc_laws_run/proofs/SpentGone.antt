@@ -18,7 +18,9 @@ use Rattle.cc_laws_heap.proofs.RoundParts.{round-natives, round-scripts, round-e
 use Rattle.cc_laws_heap.proofs.CollectedColours.{collecting-keeps, collect_scripts-sound}
 use Rattle.cc_laws_run.specs.Spent.{IsSpent}
 use Rattle.cc_laws_run.proofs.LeftThere.{collected-has}
-use Rattle.cc_laws_run.proofs.SpentViews.{Spends, spent-from, IsLess, IsLess-refl, IsLess-trans, spends-less}
+use Rattle.cc_laws_run.proofs.SpentViews.{IsLess, IsLess-refl, IsLess-trans, spent-less}
+use Rattle.cc_laws_snapshot.proofs.ReachedStays.{native-edge, script-edge, native_edges-alike}
+use Rattle.cc_laws_run.proofs.TouchedViews.{edge-cases}
 
 -- A round only takes away.
 round-less : (h : Heap) → IsSound [] h → IsLess h (sweep (marked h)).heap
@@ -26,8 +28,10 @@ round-less h s = record {
   natives_made = omega (arith, f.natives_made);
   scripts_made = omega (arith, f.scripts_made);
   registers = λ x m. subst (λ xs. Among x xs) same m;
-  natives = λ n m. round-natives h s n m;
-  scripts = λ o x y m e. let p = round-scripts h o m in (p.0, p.1, subst (λ es. Among (x, y) es) (sym (ap script_edges p.2)) e);
+  edges = λ x y e. ⊎_elim
+      (λ f. let p = round-natives h s f.0 f.1 in native-edge h p.0 x y p.1 (subst (λ es. Among (x, y) es) (sym (native_edges-alike p.0 f.0 p.2)) f.2))
+      (λ f. let p = round-scripts h f.0 f.1 in script-edge h p.0 x y p.1 (subst (λ es. Among (x, y) es) (sym (ap script_edges p.2)) f.2))
+      (edge-cases (sweep (marked h)).heap x y e);
   entries = λ e m. Among-filtered (is_spared_entry (unmarked (marked h))) e h.entries (subst (λ es. Among e es) (round-entries h s) m);
 }
   where
@@ -44,26 +48,18 @@ collect_scripts-less h s = collecting-keeps (λ o. IsLess h o.heap) (λ o c l. I
 -- What is left
 
 -- what is no member leads to none over an entry
-jointly-out : (ds : List Name) (h : Heap) → Spends h ds → (ps : List Name) (y : Name) → Among (ps, y) (joints h.entries) →
+jointly-out : (ds : List Name) (h : Heap) → IsSpent h ds → (ps : List Name) (y : Name) → Among (ps, y) (joints h.entries) →
     ((p : Name) → Among p ps → ¬ (Among p ds)) → ¬ (Among y ds)
-jointly-out ds h d ps y e out m =
-    let f = Among-map_cases joint h.entries (ps, y) e in
-    let premises : f.0.the_map ∷ f.0.key ∷ [] ≡ ps = ap (λ (p : List Name × Name). p.0) f.2 in
-    let value : f.0.value ≡ y = ap (λ (p : List Name × Name). p.1) f.2 in
-    ⊎_elim
-    (λ l. out f.0.the_map (subst (λ zs. Among f.0.the_map zs) premises (inl refl)) l)
-    (λ r. out f.0.key (subst (λ zs. Among f.0.key zs) premises (inr (inl refl))) r)
-    (d.joint f.0 f.1 (subst (λ z. Among z ds) (sym value) m))
+jointly-out ds h d ps y e out m = grind (arith, Among-map_cases)
 
 -- A SCRIPT COLLECTION LEAVES NOTHING THAT IS SPENT.
-pub collected-gone : (ds : List Name) (h : Heap) → IsSound [] h → Spends h ds → (x : Name) → Among x ds → ¬ (Among x (names_there (collect_scripts h).heap))
+pub collected-gone : (ds : List Name) (h : Heap) → IsSound [] h → IsSpent h ds → (x : Name) → Among x ds → ¬ (Among x (names_there (collect_scripts h).heap))
 collected-gone ds h s d x i m =
     let k : Heap = (collect_scripts h).heap in
-    let left : Spends k ds = spends-less ds h k (collect_scripts-less h s) d in
-    let spent : IsSpent k ds = spent-from k ds (collect_scripts-sound h s).well_formed left in
+    let spent : IsSpent k ds = spent-less ds h k (collect_scripts-less h s) d in
     collected-has h (λ x. ¬ (Among x ds)) s (record {
       registers = λ x m i. spent.unregistered x i m;
       holder = λ j y e i. spent.empty j y i e;
       edges = λ x y e out i. out (spent.holder x y e i);
-      entries = jointly-out ds k left;
+      entries = jointly-out ds k spent;
     }) x m i

@@ -4,7 +4,7 @@ use Rattle.cc_lists.specs.Members.{Among}
 use Rattle.cc_lists.proofs.Members.{Among-flat_map_cases, Among_or_not}
 use Rattle.cc_names.specs.declared.name.Name.{Name}
 use Rattle.cc_names.specs.declared.name.Name.TheVariants as name
-use Rattle.cc_names.specs.Names.{native, object, natives_in}
+use Rattle.cc_names.specs.Names.{native, object, natives_in, number_of}
 use Rattle.cc_model.specs.declared.command.Command.TheVariants.{Collect}
 use Rattle.cc_model.specs.declared.item.Event.{Event}
 use Rattle.cc_model.specs.declared.item.Event.TheVariants.{Unlinked, Freed, Abandoned}
@@ -27,7 +27,7 @@ use Rattle.cc_laws_heap.specs.Freeing.{Uncounted}
 use Rattle.cc_laws_heap.specs.Ending.{TakesAway}
 use Rattle.cc_lists.proofs.Numbers.{number-exact}
 use Rattle.cc_laws_heap.proofs.Making.{native_names-made}
-use Rattle.cc_laws_heap.proofs.TakingAway.{taken-emptied, others-kept, take_away-takes}
+use Rattle.cc_laws_heap.proofs.TakingAway.{taken-emptied, others-kept, take_away-takes, take_away-sound}
 use Rattle.cc_laws_snapshot.proofs.SoundView.{named-there}
 use Rattle.cc_laws_run.specs.Doomed.{IsDoomed, AreUnlinked}
 use Rattle.cc_laws_snapshot.proofs.NamesAndEdges.{named-of_living}
@@ -36,12 +36,13 @@ use Rattle.cc_laws_run.proofs.DoomedNode.{after_node-doomed}
 use Rattle.cc_laws_run.proofs.DoomedWhite.{doomed-white_native}
 use Rattle.cc_laws_snapshot.proofs.GivingBack.{given_back, give_back-buffer}
 use Rattle.cc_laws_snapshot.proofs.WhiteNatives.{white_natives-there}
-use Rattle.cc_laws_snapshot.proofs.ReachedStays.{native_edges-alike, native-edge, script-edge}
+use Rattle.cc_laws_snapshot.proofs.ReachedStays.{native_edges-alike, native-edge, script-edge, native-edge_of}
 use Rattle.cc_laws_run.proofs.UnitLawful.{unit-cases, RunsOn, UnitIsLawful, unit-lawful, traversed-none}
 use Rattle.cc_laws_run.proofs.QuietTaken.{emptied-none}
-use Rattle.cc_laws_run.proofs.HoldingUnits.{units_done-keep, Manner, EachKeeps}
+use Rattle.cc_laws_run.proofs.HoldingUnits.{units_done-keep, Manner, EachKeeps, units_done-holds, HoldsOn}
 use Rattle.cc_laws_run.proofs.Unabandoned.{TellsNone, take_away-none}
-use Rattle.cc_laws_run.proofs.SpentViews.{Spends, spends-less, IsLess-buffer}
+use Rattle.cc_laws_run.proofs.SpentViews.{IsLess-buffer, spent-less, IsLess}
+use Rattle.cc_laws_run.specs.Spent.{IsSpent}
 
 -- The end
 
@@ -51,13 +52,11 @@ unlinked-told es k m = let f = Among-flat_map_cases unlinked_in es k m in by_eve
   where
     by_name : (x : Name) → Among k (natives_in x) → x ≡ native k
     by_name (name.Native j) n = ⊎_elim (λ e. ap native e) (λ a. absurd a) n
-    by_name (name.Script j) n = absurd n
-    by_name (name.Reflector j) n = absurd n
+    by_name _ n = absurd n
 
     by_event : (e : Event) → Among e es → Among k (unlinked_in e) → Among (Unlinked (native k)) es
     by_event (Unlinked x) i n = subst (λ y. Among (Unlinked y) es) (by_name x n) i
-    by_event (Freed x) i n = absurd n
-    by_event Abandoned i n = absurd n
+    by_event _ i n = absurd n
 
 -- the end of a collection unlinks each native that it dooms
 end-unlinks : (h : Heap) (s : Snapshot) (ds : List Name) → IsSound [] h → IsFresh h.natives_made (view h) s → IsTraversed s →
@@ -66,101 +65,77 @@ end-unlinks h s ds sound fresh all d = λ i b.
     let t = (take_away-takes h (white_natives h s) sound (white_natives-there h s sound).there).1 in
     unlinked-told (take_away (white_natives h s) h).events i (subst (Among i) (sym t.unlinked) (doomed-white_native h s ds i sound fresh all d b))
 
--- names that are spent but for edges of these natives
-record IsNearlySpent (h : Heap) (ks : List ℕ) (ds : List Name) : Type 0 where
-  natives_made : (i : ℕ) → Among (native i) ds → i ≤ h.natives_made
-  scripts_made : (i : ℕ) → Among (object i) ds → i ≤ h.scripts_made
-  unregistered : (x : Name) → Among x ds → ¬ (Among x (view h).registers)
-  holder : (x y : Name) → Among (x, y) (view h).edges → Among y ds → Among x ds
-  joint : (e : Entry) → Among e h.entries → Among e.value ds → Among e.the_map ds ⊎ Among e.key ds
-  empty : (n : HeapNative) (y : Name) → Among n h.natives → Among (native n.number) ds → ¬ (Among n.number ks) → ¬ (Among (native n.number, y) (native_edges n))
+module _ (h : Heap) (ks : List ℕ) (s : IsSound [] h) (there : (k : ℕ) → Among k ks → Among (native k) (native_names h)) where
+  -- what is left once these natives are taken away
+  abbrev end : Heap
+  end = (take_away ks h).heap
 
--- with these natives taken away they are spent
-take_away-spends : (h : Heap) (ks : List ℕ) (ds : List Name) → IsSound [] h → ((k : ℕ) → Among k ks → Among (native k) (native_names h)) →
-    IsNearlySpent h ks ds → Spends (take_away ks h).heap ds
-take_away-spends h ks ds s there d = record {
-  natives_made = λ i m. omega (arith, t.natives_made, d.natives_made i m);
-  scripts_made = λ i m. omega (arith, t.scripts_made, d.scripts_made i m);
-  unregistered = λ x m r. d.unregistered x m (subst (λ xs. Among x xs) registers r);
-  holder = λ x y e m. d.holder x y (before x y e) m;
-  joint = λ e i m. d.joint e (subst (λ es. Among e es) t.entries i) m;
-  empty = none;
-}
-  where
-    k : Heap
-    k = (take_away ks h).heap
+  taken : TakesAway h ks (take_away-takes h ks s there).0 (take_away ks h)
+  taken = (take_away-takes h ks s there).1
 
-    t : TakesAway h ks (take_away-takes h ks s there).0 (take_away ks h)
-    t = (take_away-takes h ks s there).1
+  -- what a native has it had
+  of_native : (n : HeapNative) (x y : Name) → Among n end.natives → Among (x, y) (native_edges n) → Among (x, y) (view h).edges
+  of_native n x y m e = ⊎_elim
+      (λ i. absurd (emptied-none h ks s there n x y (taken-emptied h ks s there n m i) e))
+      (λ out. let p = others-kept h ks s there n m out in native-edge h p.0 x y p.1 (subst (λ es. Among (x, y) es) (sym (native_edges-alike p.0 n p.2)) e))
+      (Among_or_not ◌==◌ number-exact ks n.number)
 
-    registers : (view k).registers ≡ (view h).registers
-    registers = ap (λ xs. contents xs ++ contents k.script_registers) t.native_registers ∙ ap (λ xs. contents h.native_registers ++ contents xs) t.script_registers
+  -- it is less
+  take_away-less : IsLess h end
+  take_away-less = record {
+    natives_made = omega (arith, taken.natives_made);
+    scripts_made = omega (arith, taken.scripts_made);
+    registers = λ x m. subst (λ xs. Among x xs) (ap (λ xs. contents xs ++ contents end.script_registers) taken.native_registers
+        ∙ ap (λ xs. contents h.native_registers ++ contents xs) taken.script_registers) m;
+    edges = λ x y e. ⊎_elim (λ f. of_native f.0 x y f.1 f.2) (λ f. script-edge h f.0 x y (subst (λ os. Among f.0 os) taken.scripts f.1) f.2) (edge-cases end x y e);
+    entries = λ e m. subst (λ es. Among e es) taken.entries m;
+  }
 
-    -- what a native has it had
-    of_native : (n : HeapNative) (x y : Name) → Among n k.natives → Among (x, y) (native_edges n) →
-        (p : HeapNative) × Among p h.natives × (p.number ≡ n.number) × Among (x, y) (native_edges p) × (¬ (Among n.number ks))
-    of_native n x y m e = ⊎_elim
-        (λ i. absurd (emptied-none h ks s there n x y (taken-emptied h ks s there n m i) e))
-        (λ out.
-        let p = others-kept h ks s there n m out in
-        (p.0, p.1, ap (λ (u : Uncounted). u.number) p.2, subst (λ es. Among (x, y) es) (sym (native_edges-alike p.0 n p.2)) e, out))
-        (Among_or_not ◌==◌ number-exact ks n.number)
-
-    before : (x y : Name) → Among (x, y) (view k).edges → Among (x, y) (view h).edges
-    before x y e = ⊎_elim
-        (λ f. let p = of_native f.0 x y f.1 f.2 in native-edge h p.0 x y p.1 p.3)
-        (λ f. script-edge h f.0 x y (subst (λ os. Among f.0 os) t.scripts f.1) f.2)
-        (edge-cases k x y e)
-
-    none : (n : HeapNative) (y : Name) → Among n k.natives → Among (native n.number) ds → ¬ (Among (native n.number, y) (native_edges n))
-    none n y m i e =
-        let p = of_native n (native n.number) y m e in
-        d.empty p.0 y p.1 (subst (λ j. Among (native j) ds) (sym p.2) i) (λ o. p.4 (subst (λ j. Among j ks) p.2 o))
-        (subst (λ j. Among (native j, y) (native_edges p.0)) (sym p.2) p.3)
+  -- and these natives hold nothing
+  taken-empty : (i : ℕ) (y : Name) → Among i ks → ¬ (Among (native i, y) (view end).edges)
+  taken-empty i y m e =
+      let f = native-edge_of end i y (take_away-sound h ks s there).well_formed e in
+      emptied-none h ks s there f.0 (native i) y (taken-emptied h ks s there f.0 f.1 (subst (λ j. Among j ks) (sym (ap number_of f.2)) m)) f.3
 
 -- the end of a collection leaves what it dooms spent
 end-spends : (h : Heap) (s : Snapshot) (ds : List Name) → IsSound [] h → IsFresh h.natives_made (view h) s → IsTraversed s →
-    IsDoomed (view h) s ds → Spends (take_away (white_natives h s) h).heap ds
-end-spends h s ds sound fresh all d = take_away-spends h (white_natives h s) ds sound (white_natives-there h s sound).there (record {
-  natives_made = λ i m. native_names-made h 0 sound.well_formed i (named-of_living h (native i) (d.natives i m));
-  scripts_made = λ i m. (sound.well_formed.object_numbers i (named-there h (object i) (d.scripts (object i) m refl))).1;
-  unregistered = d.unregistered;
-  holder = d.holder;
-  joint = d.joint;
-  empty = λ n y there m out e. out (doomed-white_native h s ds n.number sound fresh all d m);
-})
+    IsDoomed (view h) s ds → IsSpent (take_away (white_natives h s) h).heap ds
+end-spends h s ds sound fresh all d =
+    let there = (white_natives-there h s sound).there in
+    let l = take_away-less h (white_natives h s) sound there in
+    record {
+      natives_made = λ i m. omega (arith, l.natives_made, native_names-made h 0 sound.well_formed i (named-of_living h (native i) (d.natives i m)));
+      scripts_made = λ i m. omega (arith, l.scripts_made, (sound.well_formed.object_numbers i (named-there h (object i) (d.scripts (object i) m refl))).1);
+      unregistered = λ x m r. d.unregistered x m (l.registers x r);
+      holder = λ x y e m. d.holder x y (l.edges x y e) m;
+      joint = λ e i m. d.joint e (l.entries e i) m;
+      empty = λ i y m. taken-empty h (white_natives h s) sound there i y (doomed-white_native h s ds i sound fresh all d m);
+    }
 
 -- One unit
 
 -- a unit keeps what is spent
-unit-spends : (h : Heap) (o : Option Snapshot) (ds : List Name) (memory : Bool) → IsSound [] h → Spends h ds → Spends (unit h o memory).heap ds
-unit-spends h o ds memory sound d = unit-cases h o memory (λ u. Spends u.heap ds) (given o) (by_snapshot o)
+unit-spends : (h : Heap) (o : Option Snapshot) (ds : List Name) (memory : Bool) → IsSound [] h → IsSpent h ds → IsSpent (unit h o memory).heap ds
+unit-spends h o ds memory sound d = unit-cases h o memory (λ u. IsSpent u.heap ds) (given o) (by_snapshot o)
   where
-    given : (o : Option Snapshot) → Spends (heap_given_back h o) ds
+    given : (o : Option Snapshot) → IsSpent (heap_given_back h o) ds
     given None = d
-    given (Some s) = subst (λ k. Spends k ds) (sym (give_back-buffer s.candidates h h.buffer))
-        (spends-less ds h (record h { buffer = given_back s.candidates h h.buffer }) (IsLess-buffer h (given_back s.candidates h h.buffer)) d)
+    given (Some s) = subst (λ k. IsSpent k ds) (sym (give_back-buffer s.candidates h h.buffer))
+        (spent-less ds h (record h { buffer = given_back s.candidates h h.buffer }) (IsLess-buffer h (given_back s.candidates h h.buffer)) d)
 
-    by_node : (s : Snapshot) (x : Option Name) → Spends (node_or_end h s x).heap ds
+    by_node : (s : Snapshot) (x : Option Name) → IsSpent (node_or_end h s x).heap ds
     by_node s (Some x) = d
-    by_node s None = take_away-spends h (white_natives h s) ds sound (white_natives-there h s sound).there (record {
-      natives_made = d.natives_made;
-      scripts_made = d.scripts_made;
-      unregistered = d.unregistered;
-      holder = d.holder;
-      joint = d.joint;
-      empty = λ n y there m out. d.empty n y there m;
-    })
+    by_node s None = spent-less ds h (take_away (white_natives h s) h).heap (take_away-less h (white_natives h s) sound (white_natives-there h s sound).there) d
 
-    by_snapshot : (o : Option Snapshot) → Spends (granted h o).heap ds
-    by_snapshot None = spends-less ds h (with_empty_buffer h) (IsLess-buffer h []) d
+    by_snapshot : (o : Option Snapshot) → IsSpent (granted h o).heap ds
+    by_snapshot None = spent-less ds h (with_empty_buffer h) (IsLess-buffer h []) d
     by_snapshot (Some s) = by_node s (first_untraversed s.nodes)
 
 -- WHAT BECOMES OF NAMES THAT A COLLECTION CAN'T MISS, by what its last unit came to: it has told nothing and can't miss them; or it
 -- has unlinked them all, they are spent, and it tells no abandonment; or it tells that it is abandoned, and no more
 abbrev pub Settles : List Name → Heap → Option Snapshot → List Event → Progress → Type 0
 Settles ds h s es went_on = (es ≡ []) × ((t : Snapshot) × (s ≡ Some t) × IsDoomed (view h) t ds)
-Settles ds h s es at_end = AreUnlinked ds es × Spends h ds × TellsNone es
+Settles ds h s es at_end = AreUnlinked ds es × IsSpent h ds × TellsNone es
 Settles ds h s es refused = es ≡ Abandoned ∷ []
 
 -- the unit of a node, or the end
@@ -191,52 +166,34 @@ begin-settles h ds memory d = unit-cases h None memory (λ u. Settles ds u.heap 
 
 -- names are spent
 abbrev pub Spending : List Name → Manner
-Spending ds h o es = Spends h ds
+Spending ds h o es p = IsSpent h ds
 
 -- which each unit keeps
 pub each-spends : (g : Graph) (ds : List Name) → EachKeeps g (Spending ds)
 each-spends g ds names h o answer es r d = unit-spends h o ds answer r.sound d
 
 -- a machine that runs beside a graph, and a collection of it that settles names
-pub record SettlesOn (g : Graph) (ds : List Name) (d : UnitsDone) : Type 0 where
-  pub names : List Name
-  pub runs : RunsOn g names d.machine.heap d.machine.snapshot
-  pub holds : Settles ds d.machine.heap d.machine.snapshot d.events d.progress
+abbrev pub SettlesOn : Graph → List Name → UnitsDone → Type 0
+SettlesOn g ds d = HoldsOn g (Settles ds) d
+
+-- which each unit keeps
+each-settles : (g : Graph) (ds : List Name) → EachKeeps g (Settles ds)
+each-settles g ds names h o answer es r k = grind (arith, unit-settles)
 
 module _ (g : Graph) (well : IsWellMade g) (ds : List Name) where
-  -- one unit of any machine leaves such a one
-  one_unit-on : (names : List Name) (m : Machine) (es : List Event) → RunsOn g names m.heap m.snapshot →
-      (let u = unit m.heap m.snapshot (next_answer m.memory) in Settles ds u.heap u.snapshot (es ++ u.events) u.progress) → SettlesOn g ds (one_unit m es)
-  one_unit-on names m es r t =
-      let u : UnitDone = unit m.heap m.snapshot (next_answer m.memory) in
-      let lawful : UnitIsLawful g names Collect u = unit-lawful g well Collect refl names m.heap m.snapshot (next_answer m.memory) r in
-      record { names = after_events names u.events; runs = lawful.still; holds = t }
-
-  -- so does one of a collection that goes on
-  next-settles : (d : UnitsDone) → d.progress ≡ went_on → SettlesOn g ds d → SettlesOn g ds (one_unit d.machine d.events)
-  next-settles d e t =
-      let k : Settles ds d.machine.heap d.machine.snapshot d.events went_on = subst (Settles ds d.machine.heap d.machine.snapshot d.events) e t.holds in
-      one_unit-on t.names d.machine d.events t.runs (going k.0 k.1.0 k.1.1 k.1.2)
-    where
-      answer : Bool
-      answer = next_answer d.machine.memory
-
-      after : Option Snapshot → List Event → Type 0
-      after o es = let u = unit d.machine.heap o answer in Settles ds u.heap u.snapshot (es ++ u.events) u.progress
-
-      going : d.events ≡ [] → (s : Snapshot) → d.machine.snapshot ≡ Some s → IsDoomed (view d.machine.heap) s ds → after d.machine.snapshot d.events
-      going none s same doomed =
-          let run : RunsOn g t.names d.machine.heap (Some s) = subst (RunsOn g t.names d.machine.heap) same t.runs in
-          subst (after d.machine.snapshot) (sym none)
-          (subst (λ o. after o []) (sym same) (unit-settles d.machine.heap s ds answer run.sound run.fresh doomed))
-
-  -- and so do units in a row
+  -- units in a row leave such a one
   pub units_done-settle : (n : ℕ) (d : UnitsDone) → SettlesOn g ds d → SettlesOn g ds (units_done n d)
-  units_done-settle n d t = units_done-keep (SettlesOn g ds) next-settles n d t
+  units_done-settle = units_done-holds g well (Settles ds) (each-settles g ds)
 
-  -- and the first unit of a collection, where the snapshot begun dooms them
+  -- and so does the first unit of a collection, where the snapshot begun dooms them
   pub first-settles : (names : List Name) (m : Machine) → RunsOn g names m.heap m.snapshot → m.snapshot ≡ None →
       IsDoomed (view (with_empty_buffer m.heap)) (begun m.heap) ds → SettlesOn g ds (one_unit m [])
-  first-settles names m r none doomed = one_unit-on names m [] r
-      (subst (λ o. let u = unit m.heap o (next_answer m.memory) in Settles ds u.heap u.snapshot u.events u.progress) (sym none)
-      (begin-settles m.heap ds (next_answer m.memory) doomed))
+  first-settles names m r none doomed =
+      let u : UnitDone = unit m.heap m.snapshot (next_answer m.memory) in
+      let lawful : UnitIsLawful g names Collect u = unit-lawful g well Collect refl names m.heap m.snapshot (next_answer m.memory) r in
+      record {
+        names = after_events names u.events;
+        runs = lawful.still;
+        holds = subst (λ o. let u = unit m.heap o (next_answer m.memory) in Settles ds u.heap u.snapshot u.events u.progress) (sym none)
+            (begin-settles m.heap ds (next_answer m.memory) doomed);
+      }

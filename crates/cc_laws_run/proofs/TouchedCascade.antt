@@ -24,8 +24,7 @@ use Rattle.cc_laws_run.proofs.TouchedSteps.{Leaves, leaves-on, leaves-still}
 -- a name in which a native's number stands is that native
 native-in : (y : Name) (i : ℕ) → Among i (natives_in y) → y ≡ native i
 native-in (name.Native k) i m = ⊎_elim (λ e. ap native e) (λ t. absurd t) m
-native-in (name.Script k) i m = absurd m
-native-in (name.Reflector k) i m = absurd m
+native-in _ i m = absurd m
 
 module _ (ds : List Name) (g : Heap) where
   -- a native that is no member marked in the buffer
@@ -52,10 +51,8 @@ module _ (ds : List Name) (g : Heap) where
 
   -- a reference taken to what a place is to hold, which is no member
   pub leaves-take_up : (h : Heap) (x : Option Name) → IsUntouched ds x → Leaves ds g h → Leaves ds g (take_up h x)
-  leaves-take_up h None none d = d
-  leaves-take_up h (Some (name.Script k)) none d = d
-  leaves-take_up h (Some (name.Reflector k)) none d = d
   leaves-take_up h (Some (name.Native k)) none d = leaves-add_ref h k.0 (none (native k.0) (inl refl)) d
+  leaves-take_up h _ none d = d
 
   -- a count that falls
   leaves-lower : (h : Heap) (k : ℕ) → Leaves ds g h → Leaves ds g (lower h k)
@@ -142,7 +139,5 @@ module _ (ds : List Name) (g : Heap) where
 
   -- what a place held, which is no member, is given up
   pub leaves-let_go : (h : Heap) (x : Option Name) → IsUntouched ds x → Leaves ds g h → Leaves ds g (let_go h x).heap
-  leaves-let_go h None none d = d
-  leaves-let_go h (Some (name.Script k)) none d = d
-  leaves-let_go h (Some (name.Reflector k)) none d = d
   leaves-let_go h (Some (name.Native k)) none d = leaves-cascade h k.0 (none (native k.0) (inl refl)) d
+  leaves-let_go h _ none d = d

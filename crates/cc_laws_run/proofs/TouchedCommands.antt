@@ -55,10 +55,8 @@ blank-edge z kind n x y m = ⊎_elim (λ c. absurd (contents-empty_none n y c)) 
 
 -- a reflector preserved leaves entries
 entries-preserve : (h : Heap) (x : Option Name) → (preserve h x).entries ≡ h.entries
-entries-preserve h None = refl
 entries-preserve h (Some (name.Native k)) = refl
-entries-preserve h (Some (name.Script k)) = refl
-entries-preserve h (Some (name.Reflector k)) = refl
+entries-preserve h _ = refl
 
 -- what an exposure of what is no member makes black is none, where only such names hold them
 exposed-untouched : (ds : List Name) (h : Heap) (x : Name) → ((y z : Name) → Among (y, z) (view h).edges → Among z ds → Among y ds) → ¬ (Among x ds) →
@@ -87,19 +85,12 @@ Spares-new_object ds h kind n out = Spares-new_script ds h (blank (object (h.scr
 -- a reflector made, where neither it nor its native is one
 Spares-new_reflector : (ds : List Name) (h : Heap) (k : ℕ) → ¬ (Among (native k) ds) → ¬ (Among (reflector k) ds) →
     Spares ds (view h) (view (with_script h (reflector k) Reflector reflector_slots))
-Spares-new_reflector ds h k out none = Spares-new_script ds h (blank (reflector k) Reflector reflector_slots) none
-    (λ x y i m.
-    let f = blank-edge (reflector k) Reflector reflector_slots x y m in
-    let same : native k ≡ native f.0 = ap (λ z. native (number_of z)) f.1 in
-    out (subst (λ z. Among z ds) (sym same) (subst (λ z. Among z ds) (sym f.2) i)))
+Spares-new_reflector ds h k out none = grind (arith, Spares-new_script, blank-edge)
 
 -- with an entry set to what is no member, each with a member for its value was there
 entry-old : (ds : List Name) (h : Heap) (m k v : Name) → ¬ (Among v ds) →
     (e : Entry) → Among e.value ds → Among e (with_entry h.entries m k v) → Among e (preserve h (Some k)).entries
-entry-old ds h m k v out e i j = ⊎_elim
-    (λ n. absurd (out (subst (λ (f : Entry). Among f.value ds) (sym n) i)))
-    (λ t. subst (λ es. Among e es) (sym (entries-preserve h (Some k))) t)
-    (with_entry-cases h.entries m k v e j)
+entry-old ds h m k v out e i j = grind (arith, entries-preserve, with_entry-cases)
 
 module _ (ds : List Name) (g : Heap) where
   -- heaps that leave these names alone
@@ -170,11 +161,9 @@ module _ (ds : List Name) (g : Heap) where
 
   -- a reflector preserved
   leaves-preserve : (h : Heap) (x : Option Name) → IsUntouched ds x → IsUntouched ds (native_of x) → Left h → Left (preserve h x)
-  leaves-preserve h None none own d = d
-  leaves-preserve h (Some (name.Native k)) none own d = d
-  leaves-preserve h (Some (name.Script k)) none own d = d
   leaves-preserve h (Some (name.Reflector k)) none own d = leaves-changed h k.0 (λ n. record n { preserved = true }) (λ n. refl) (own (native k.0) (inl refl))
       (Spares-preserved ds h k.0 (none (reflector k.0) (inl refl))) d
+  leaves-preserve h _ none own d = d
 
   -- a slot of what a script register holds written
   leaves-put_in_script : (h : Heap) (z : Option Name) (i : ℕ) (x : Option Name) → IsUntouched ds z → IsUntouched ds (native_of z) → IsUntouched ds x →
@@ -187,12 +176,11 @@ module _ (ds : List Name) (g : Heap) where
 
   -- an entry set or taken out
   leaves-set_entry : (h : Heap) (m k v : Option Name) → IsUntouched ds k → IsUntouched ds (native_of k) → IsUntouched ds v → Left h → Left (set_entry h m k v)
-  leaves-set_entry h None k v a o b d = d
-  leaves-set_entry h (Some m) None v a o b d = d
   leaves-set_entry h (Some m) (Some k) None a o b d = leaves-entries h (without_entry h.entries m k) (λ e i j. Among-filtered (λ f. not (is_entry_of m k f)) e h.entries j) d
   leaves-set_entry h (Some m) (Some k) (Some v) a o b d = leaves-entries (preserve h (Some k)) (with_entry h.entries m k v)
       (entry-old ds h m k v (b v (inl refl)))
       (leaves-preserve h (Some k) a o d)
+  leaves-set_entry h _ _ v a o b d = d
 
   -- Objects made
 
@@ -227,9 +215,6 @@ module _ (ds : List Name) (g : Heap) where
 
   -- a native wrapped
   leaves-wrapped : (h : Heap) (x : Option Name) → KeepsReflectors ds → IsUntouched ds x → Left h → Left (wrapped h x)
-  leaves-wrapped h None keeps none d = d
-  leaves-wrapped h (Some (name.Script k)) keeps none d = d
-  leaves-wrapped h (Some (name.Reflector k)) keeps none d = d
   leaves-wrapped h (Some (name.Native k)) keeps none d = go (has_reflector h k.0)
     where
       out : ¬ (Among (native k.0) ds)
@@ -241,6 +226,8 @@ module _ (ds : List Name) (g : Heap) where
       go : (b : Bool) → Left (elim b [ true ↦ exposed h (Some (reflector k.0)) | false ↦ with_reflector h k.0 ])
       go true = leaves-exposed h (Some (reflector k.0)) (one-untouched ds (reflector k.0) hidden) d
       go false = leaves-with_reflector h k.0 out hidden d
+
+  leaves-wrapped h _ keeps none d = d
 
   -- a command, where the next numbers are of no member
   leaves-effects : (h : Heap) (c : Command) → IsWellFormed h → KeepsReflectors ds → ¬ (Among (native (h.natives_made + 1)) ds) →
@@ -269,11 +256,7 @@ module _ (ds : List Name) (g : Heap) where
   leaves-effects h (GetEntry r m k) w keeps a b d = leaves-hold_script h r (value_at (objects_of h) (register h (S m)) (register h (S k)))
       (value_at-untouched ds h d.apart (register h (S m)) (register h (S k)) (register-untouched ds h d.apart (S m)) (register-untouched ds h d.apart (S k))) d
   leaves-effects h (Expose q i) w keeps a b d = leaves-exposed h (slot_at (objects_of h) (N q) i) (slot_at-untouched ds h d.apart (N q) i) d
-  leaves-effects h Nothing w keeps a b d = d
-  leaves-effects h (Slice v) w keeps a b d = d
-  leaves-effects h Collect w keeps a b d = d
-  leaves-effects h Gc w keeps a b d = d
-  leaves-effects h Census w keeps a b d = d
+  leaves-effects h _ w keeps a b d = d
 
 -- COMMANDS LEAVE NAMES ALONE that are apart, where the next numbers are of none of them.
 pub command-leaves : (ds : List Name) (h : Heap) (c : Command) → IsWellFormed h → KeepsReflectors ds → ¬ (Among (native (h.natives_made + 1)) ds) →

@@ -1,5 +1,5 @@
 -- THE PARTS OF COMMANDS SPARE DOOMED NAMES: counts, slots, flags, registers, entries and colours written, objects made.
-use Rattle.std.proofs.Common.{◌≡◌, ℕ, ◌==◌, Bool, true, false, List, [], ◌∷◌, ◌++◌, map, set, Option, refl, sym, ap, subst, ⊎_elim}
+use Rattle.std.proofs.Common.{◌≡◌, ℕ, ◌==◌, Bool, true, false, List, [], ◌∷◌, ◌++◌, map, set, Option, refl, sym, ap, subst, ⊎_elim, inr, inl, ◌∙◌}
 use Rattle.std.specs.List.{filter}
 use Rattle.std.specs.Option.{option_to_list}
 use Rattle.std.proofs.lemmas.Bool.{eqb-true}
@@ -16,6 +16,8 @@ use Rattle.cc_model.specs.View.{view, slot_edges, preserved_edge, native_edges, 
 use Rattle.cc_lists.proofs.ListWrites.{changed_where, changed_where-either, Among-flat_map_set}
 use Rattle.cc_laws_snapshot.proofs.ReachedStays.{native-edge, script-edge}
 use Rattle.cc_laws_run.proofs.TouchedViews.{Spares, Spares-registers, Spares-natives, Spares-scripts}
+use Rattle.cc_laws_heap.proofs.ViewEdges.{script_edges-are, native_edges-are}
+use Rattle.cc_laws_snapshot.proofs.Edges.{script_edges-has, native_edges-has}
 
 -- what a place holds is no member
 abbrev pub IsUntouched : List Name → Option Name → Type 0
@@ -44,7 +46,7 @@ module _ (ds : List Name) (h : Heap) where
 
   -- one native changed, which gets no edge to a member and, where it is a member, loses none
   Spares-change_native : (k : ℕ) (f : HeapNative → HeapNative) → ((n : HeapNative) → (f n).number ≡ n.number) →
-      ((n : HeapNative) (x y : Name) → Among y ds → Among (x, y) (native_edges (f n)) → Among (x, y) (native_edges n)) →
+      ((n : HeapNative) (x y : Name) → n.number ≡ k → Among y ds → Among (x, y) (native_edges (f n)) → Among (x, y) (native_edges n)) →
       ((n : HeapNative) (y : Name) → n.number ≡ k → Among (native n.number) ds → Among y ds → Among (native n.number, y) (native_edges n) →
       Among (native n.number, y) (native_edges (f n))) →
       Spares ds (view h) (view (change_native h k f))
@@ -58,7 +60,7 @@ module _ (ds : List Name) (h : Heap) where
       (λ o x y there i e.
       let a = Among-map_cases changed h.natives o there in
       native-edge h a.0 x y a.1
-      (changed_where-either (λ p. Among (x, y) (native_edges p) → Among (x, y) (native_edges a.0)) is_it f a.0 (λ t. old a.0 x y i) (λ j. j)
+      (changed_where-either (λ p. Among (x, y) (native_edges p) → Among (x, y) (native_edges a.0)) is_it f a.0 (λ t. old a.0 x y (eqb-true a.0.number k t) i) (λ j. j)
       (subst (λ p. Among (x, y) (native_edges p)) (sym a.2) e)))
     where
       is_it : HeapNative → Bool
@@ -69,68 +71,29 @@ module _ (ds : List Name) (h : Heap) where
 
   -- a count changed
   pub Spares-count : (k : ℕ) (f : ℕ → ℕ) → Spares ds (view h) (view (change_native h k (λ n. record n { count = f n.count })))
-  Spares-count k f = Spares-change_native k (λ n. record n { count = f n.count }) (λ n. refl) (λ n x y i e. e) (λ n y t m i e. e)
+  Spares-count k f = Spares-change_native k (λ n. record n { count = f n.count }) (λ n. refl) (λ n x y t i e. e) (λ n y t m i e. e)
 
   -- a slot of a native that is no member written with what is none
   pub Spares-native_slot : (k i : ℕ) (x : Option Name) → ¬ (Among (native k) ds) → IsUntouched ds x →
       Spares ds (view h) (view (change_native h k (with_native_slot i x)))
   Spares-native_slot k i x out none = Spares-change_native k (with_native_slot i x) (λ n. refl)
-      (λ n z y m e. ⊎_elim
-      (λ l.
-      let f = Among-map_cases (from_to (native n.number)) (contents (set n.slots i x)) (z, y) l in
-      let end = ap (λ (p : Name × Name). p.1) f.2 in
-      let was = contents-untouched n.slots i x none y m (subst (λ w. Among w (contents (set n.slots i x))) end f.1) in
-      Among-left (z, y) (slot_edges (native n.number) n.slots) (preserved_edge n)
-      (subst (λ w. Among (w, y) (slot_edges (native n.number) n.slots)) (ap (λ (p : Name × Name). p.0) f.2)
-      (Among-map (from_to (native n.number)) y (contents n.slots) was)))
-      (λ r. Among-right (z, y) (slot_edges (native n.number) n.slots) (preserved_edge n) r)
-      (Among-append (z, y) (slot_edges (native n.number) (set n.slots i x)) (preserved_edge n) e))
+      (λ n z y t m e.
+      let p = native_edges-are (with_native_slot i x n) z y e in
+      native_edges-has n z y p.0 (⊎_elim (λ c. inl (contents-untouched n.slots i x none y m c)) (λ q. inr q) p.1))
       (λ n y t m j e. absurd (out (subst (λ p. Among (native p) ds) t m)))
 
   -- a reflector that is no member preserved
   pub Spares-preserved : (k : ℕ) → ¬ (Among (reflector k) ds) → Spares ds (view h) (view (set_preserved h k true))
-  Spares-preserved k out = Spares-natives ds h (map changed h.natives)
-      (λ n there m. (
-        changed n,
-        Among-map changed n h.natives there,
-        changed_where-either (λ o. o.number ≡ n.number) is_it kept n (λ t. refl) refl,
-        λ y i e. changed_where-either (λ o. Among (native n.number, y) (native_edges o)) is_it kept n
-            (λ t. ⊎_elim
-            (λ l. Among-left (native n.number, y) (slot_edges (native n.number) n.slots) (preserved_edge (kept n)) l)
-            (λ r. absurd (preserved-out n y t i n.preserved r))
-            (Among-append (native n.number, y) (slot_edges (native n.number) n.slots) (preserved_edge n) e)) e,
-      ))
-      (λ o x y there i e.
-      let a = Among-map_cases changed h.natives o there in
-      native-edge h a.0 x y a.1
-      (changed_where-either (λ p. Among (x, y) (native_edges p) → Among (x, y) (native_edges a.0)) is_it kept a.0
-      (λ t j. ⊎_elim
-      (λ l. Among-left (x, y) (slot_edges (native a.0.number) a.0.slots) (preserved_edge a.0) l)
-      (λ r. absurd (one-out a.0 x y t i r))
-      (Among-append (x, y) (slot_edges (native a.0.number) a.0.slots) (preserved_edge (kept a.0)) j))
-      (λ j. j)
-      (subst (λ p. Among (x, y) (native_edges p)) (sym a.2) e)))
+  Spares-preserved k out = Spares-change_native k kept (λ n. refl)
+      (λ n x y t m e.
+      let p = native_edges-are (kept n) x y e in
+      native_edges-has n x y p.0 (⊎_elim (λ c. inl c) (λ q. absurd (out (subst (λ z. Among z ds) (sym (ap reflector (sym t) ∙ q.1)) m))) p.1))
+      (λ n y t m i e.
+      let p = native_edges-are n (native n.number) y e in
+      native_edges-has (kept n) (native n.number) y refl (⊎_elim (λ c. inl c) (λ q. inr (refl, q.1)) p.1))
     where
-      is_it : HeapNative → Bool
-      is_it n = n.number == k
-
       kept : HeapNative → HeapNative
       kept n = record n { preserved = true }
-
-      changed : HeapNative → HeapNative
-      changed n = changed_where is_it kept n
-
-      -- the edge to the reflector leads to no member
-      one-out : (n : HeapNative) (x y : Name) → is_it n ≡ true → Among y ds → ¬ (Among (x, y) (from_to (native n.number) (reflector n.number) ∷ []))
-      one-out n x y t m e = ⊎_elim
-          (λ s. out (subst (λ j. Among (reflector j) ds) (eqb-true n.number k t) (subst (λ z. Among z ds) (sym (ap (λ (p : Name × Name). p.1) s)) m)))
-          (λ b. b) e
-
-      -- whether it was there or not
-      preserved-out : (n : HeapNative) (y : Name) → is_it n ≡ true → Among y ds → (b : Bool) →
-          ¬ (Among (native n.number, y) (elim b [ true ↦ from_to (native n.number) (reflector n.number) ∷ [] | false ↦ [] ]))
-      preserved-out n y t m true e = one-out n (native n.number) y t m e
-      preserved-out n y t m false e = e
 
   -- one native more, without edges
   pub Spares-new_native : (n : HeapNative) → ((x y : Name) → ¬ (Among (x, y) (native_edges n))) →
@@ -185,21 +148,11 @@ module _ (ds : List Name) (h : Heap) where
   pub Spares-script_slot : (z : Name) (i : ℕ) (x : Option Name) → ¬ (Among z ds) → IsUntouched ds x →
       Spares ds (view h) (view (change_script h z (with_script_slot i x)))
   Spares-script_slot z i x out none = Spares-change_scripts (λ o. same_name o.name z) (with_script_slot i x) (λ o. refl)
-      (λ o w y m e. ⊎_elim
-      (λ l.
-      let f = Among-map_cases (from_to o.name) (contents (set o.slots i x)) (w, y) l in
-      let end = ap (λ (p : Name × Name). p.1) f.2 in
-      let was = contents-untouched o.slots i x none y m (subst (λ v. Among v (contents (set o.slots i x))) end f.1) in
-      Among-left (w, y) (script_slot_edges o) (own o)
-      (subst (λ v. Among (v, y) (script_slot_edges o)) (ap (λ (p : Name × Name). p.0) f.2)
-      (Among-map (from_to o.name) y (contents o.slots) was)))
-      (λ r. Among-right (w, y) (script_slot_edges o) (own o) r)
-      (Among-append (w, y) (slot_edges o.name (set o.slots i x)) (own o) e))
+      (λ o w y m e.
+      let p = script_edges-are (with_script_slot i x o) w y e in
+      script_edges-has o w y p.0 (⊎_elim (λ c. inl (contents-untouched o.slots i x none y m c)) (λ q. inr q) p.1))
       (λ o y t m j e. absurd (out (subst (λ v. Among v ds) (same_name-true o.name z t) m)))
       (λ o there t m e. absurd (out (subst (λ v. Among v ds) (same_name-true o.name z t) m)))
-    where
-      own : HeapScript → List (Name × Name)
-      own o = map (λ k. from_to o.name (native k)) (behind o.name)
 
   -- script objects that are no members become black
   pub Spares-blackened : (t : HeapScript → Bool) (f : HeapScript → HeapScript) → ((o : HeapScript) → (f o).name ≡ o.name) →

@@ -77,9 +77,8 @@ module _ (ds : List Name) (h : Heap) (d : IsApart ds h) where
           (d.holder o.name y (edge-from_script_slot h o y (find-among (λ p. same_name p.name x) h.scripts o e) j) m)
 
       go : (kind : Kind) → Among y (contents (slots_or_none (slots_of_kind kind o.slots))) → Among x ds
-      go Plain j = there j
-      go Reflector j = there j
       go Map j = absurd j
+      go _ j = there j
 
   -- and so is any object
   slots_in-holder : (x y : Name) → Among y (contents (slots_or_none (slots_in h x))) → Among y ds → Among x ds
@@ -102,14 +101,13 @@ module _ (ds : List Name) (h : Heap) (d : IsApart ds h) where
 
   -- the value of a map and a key that are no members is none
   pub value_at-untouched : (m k : Option Name) → IsUntouched ds m → IsUntouched ds k → IsUntouched ds (value_at (objects_of h) m k)
-  value_at-untouched None k a b y i j = i
-  value_at-untouched (Some m) None a b y i j = i
   value_at-untouched (Some m) (Some k) a b y i j =
       let f = value_in-entry h.entries m k y i in
       ⊎_elim
       (λ t. a m (inl refl) (subst (λ z. Among z ds) f.2 t))
       (λ t. b k (inl refl) (subst (λ z. Among z ds) f.3 t))
       (d.joint f.0 f.1 (subst (λ z. Among z ds) (sym f.4) j))
+  value_at-untouched _ _ a b y i j = i
 
   -- the native of the reflector that a script register holds is no member
   pub native_of-untouched : (r : ℕ) → IsWellFormed h → IsUntouched ds (native_of (register h (S r)))
@@ -117,19 +115,15 @@ module _ (ds : List Name) (h : Heap) (d : IsApart ds h) where
     where
       go : (o : Option Name) → IsUntouched ds o → ((y : Name) → Among y (option_to_list o) → Among y (map (λ (o : HeapScript). o.name) h.scripts)) →
           IsUntouched ds (native_of o)
-      go None none there y m i = m
-      go (Some (name.Native k)) none there y m i = m
-      go (Some (name.Script k)) none there y m i = m
       go (Some (name.Reflector k)) none there y m i = ⊎_elim
           (λ e. none (reflector k.0) (inl refl) (d.holder (reflector k.0) (native k.0) (edge-from_reflector h k.0 (there (reflector k.0) (inl refl)))
           (subst (λ z. Among z ds) (sym e) i)))
           (λ b. b) m
+      go _ none there y m i = m
 
 -- the reflector of a native that is no member is none
 pub reflector_of-untouched : (ds : List Name) (x : Option Name) → KeepsReflectors ds → IsUntouched ds x → IsUntouched ds (reflector_of x)
-reflector_of-untouched ds None keeps none y m i = m
-reflector_of-untouched ds (Some (name.Script k)) keeps none y m i = m
-reflector_of-untouched ds (Some (name.Reflector k)) keeps none y m i = m
 reflector_of-untouched ds (Some (name.Native k)) keeps none y m i = ⊎_elim
     (λ e. none (native k.0) (inl refl) (keeps k.0 (subst (λ z. Among z ds) (sym e) i)))
     (λ b. b) m
+reflector_of-untouched ds _ keeps none y m i = m

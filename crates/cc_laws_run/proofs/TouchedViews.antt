@@ -1,5 +1,5 @@
 -- CHANGES THAT SPARE DOOMED NAMES: these stay as they are, and nothing new comes to hold one of them.
-use Rattle.std.proofs.Common.{◌≡◌, ℕ, true, List, [], ◌++◌, map, sym, ◌∙◌, ap, subst, inl, inr, ◌⊎◌, ⊎_elim}
+use Rattle.std.proofs.Common.{arith, ◌≡◌, ℕ, true, List, [], ◌++◌, map, sym, ◌∙◌, ap, subst, inl, inr, ◌⊎◌, ⊎_elim}
 use Rattle.std.specs.List.{flat_map}
 use Rattle.cc_lists.specs.Members.{Among}
 use Rattle.cc_lists.specs.Least.{Least, system}
@@ -70,44 +70,17 @@ module _ (ds : List Name) (h : Heap) where
   pub Spares-registers : (ns ss : Slots) →
       ((x : Name) → Among x ds → Among x (contents ns ++ contents ss) → Among x (view h).registers) →
       Spares ds (view h) (view (record h { native_registers = ns; script_registers = ss }))
-  Spares-registers ns ss old = record {
-    natives = λ i m l. l;
-    scripts = λ x m l. l;
-    registers = old;
-    buffer = λ x m r. r;
-    black = λ x m r. r;
-    edges = λ x y m e. e;
-    entries = λ e m i. i;
-    within = λ x y a b e. e;
-  }
+  Spares-registers ns ss old = grind arith
 
   -- the buffer changed, which has no member that it did not have
   pub Spares-buffer : (bs : List Buffered) → ((x : Name) → Among x ds → Among x (map buffered bs) → Among x (view h).buffer) →
       Spares ds (view h) (view (record h { buffer = bs }))
-  Spares-buffer bs old = record {
-    natives = λ i m l. l;
-    scripts = λ x m l. l;
-    registers = λ x m r. r;
-    buffer = old;
-    black = λ x m r. r;
-    edges = λ x y m e. e;
-    entries = λ e m i. i;
-    within = λ x y a b e. e;
-  }
+  Spares-buffer bs old = grind arith
 
   -- entries changed; each with a member for its value was there
   pub Spares-entries : (es : List Entry) → ((e : Entry) → Among e.value ds → Among e es → Among e h.entries) →
       Spares ds (view h) (view (record h { entries = es }))
-  Spares-entries es old = record {
-    natives = λ i m l. l;
-    scripts = λ x m l. l;
-    registers = λ x m r. r;
-    buffer = λ x m r. r;
-    black = λ x m r. r;
-    edges = λ x y m e. e;
-    entries = old;
-    within = λ x y a b e. e;
-  }
+  Spares-entries es old = grind arith
 
   -- natives changed: members among them stay and hold what members they held; no edge to a member is new
   pub Spares-natives : (ns : List HeapNative) →

@@ -95,8 +95,7 @@ take_away-none ks h = unroot_each-none ks (unlink_each ks (silently (root_each k
 -- a reflector that goes tells none
 let_native_go-none : (h : Heap) (x : Name) → TellsNone (let_native_go h x).events
 let_native_go-none h (name.Reflector k) = cascade-none h k.0
-let_native_go-none h (name.Native k) = refl
-let_native_go-none h (name.Script k) = refl
+let_native_go-none h _ = refl
 
 -- nor do objects swept
 sweep_each-none : (xs : List Name) (o : Outcome) → TellsNone o.events → TellsNone (sweep_each xs o).events
@@ -138,25 +137,9 @@ make_native-none h d n = let_go-none (set_register (with_native h n) (N d) (Some
 pub effects-none : (h : Heap) (c : Command) → TellsNone (effects h c).events
 unfolding effects
 effects-none h (Native d n) = make_native-none h d n
-effects-none h (Script d n) = refl
-effects-none h (WeakMap d) = refl
 effects-none h (CopyNative d s) = hold_native-none h d (register h (N s))
-effects-none h (CopyScript d s) = refl
 effects-none h (Drop (N d)) = let_go-none (set_register h (N d) None) (register h (N d))
-effects-none h (Drop (S d)) = refl
 effects-none h (Set d i r) = store_native-none h d i (source h r)
 effects-none h (Get (N d) s i) = hold_native-none h d (slot_at (objects_of h) (N s) i)
-effects-none h (Get (S d) s i) = refl
-effects-none h (Put d i s) = refl
-effects-none h (Take d s i) = refl
-effects-none h (Wrap d s) = refl
 effects-none h (Unwrap d s) = hold_native-none h d (native_of (register h (S s)))
-effects-none h (Preserve s) = refl
-effects-none h (SetEntry m k v) = refl
-effects-none h (GetEntry d m k) = refl
-effects-none h (Expose s i) = refl
-effects-none h Nothing = refl
-effects-none h (Slice u) = refl
-effects-none h Collect = refl
-effects-none h Gc = refl
-effects-none h Census = refl
+effects-none h _ = refl

@@ -40,15 +40,12 @@ use Rattle.cc_laws_run.proofs.BufferStands.{IsSound-buffer, HasColourInvariant-b
 use Rattle.cc_laws_run.proofs.FreedListed.{there-listed, census_names-end}
 use Rattle.cc_laws_run.proofs.EachNamed.{FreeLast, FreeLast-end, each-from}
 use Rattle.cc_laws_run.proofs.RunsOfNumbers.{runs-rising, has_none-natives}
+use Rattle.cc_laws_run.specs.Memory.{with_memory}
 
 -- Whatever holds of a unit that is refused, and of one that has its memory, holds of each unit.
 pub unit-cases : (h : Heap) (s : Option Snapshot) (memory : Bool) (P : UnitDone → Type 0) → P (abandoned h s) → P (granted h s) → P (unit h s memory)
 unfolding unit
-unit-cases h s memory P without with_memory = go (may_be_refused h s && not memory)
-  where
-    go : (b : Bool) → P (elim b [ true ↦ abandoned h s | false ↦ granted h s ])
-    go true = without
-    go false = with_memory
+unit-cases h s memory P without with_memory = grind arith
 
 -- What runs, and what is lawful
 
@@ -69,8 +66,7 @@ TellsOnly refused es = es ≡ Abandoned ∷ []
 -- an end and an abandonment drop the snapshot
 abbrev pub DropsAt : Progress → Option Snapshot → Type 0
 DropsAt went_on s = Unit {0}
-DropsAt at_end s = s ≡ None
-DropsAt refused s = s ≡ None
+DropsAt _ s = s ≡ None
 
 pub record UnitIsLawful (g : Graph) (names : List Name) (c : Command) (u : UnitDone) : Type 0 where
   pub still : RunsOn g (after_events names u.events) u.heap u.snapshot
@@ -159,13 +155,7 @@ module _ (g : Graph) (well : IsWellMade g) (c : Command) (moves : (runs_units c 
 
   -- with another buffer, and no snapshot, the heaps run
   buffer-runs : (h : Heap) (bs : List Buffered) (s : Option Snapshot) → RunsOn g names h s → IsBuffer h bs → RunsOn g names (with_buffer h bs) None
-  buffer-runs h bs s r b = record {
-    sound = IsSound-buffer h bs r.sound b;
-    colours = HasColourInvariant-buffer h bs r.colours;
-    fresh = tt;
-    stands = StandsFor-buffer h bs g r.stands;
-    listed = r.listed;
-  }
+  buffer-runs h bs s r b = grind (arith, IsSound-buffer, HasColourInvariant-buffer, StandsFor-buffer)
 
   -- A UNIT THAT IS REFUSED
   abandoned-lawful : (h : Heap) (s : Option Snapshot) → RunsOn g names h s → UnitIsLawful g names c (abandoned h s)

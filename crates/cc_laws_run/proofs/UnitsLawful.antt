@@ -17,7 +17,7 @@ use Rattle.cc_model.proofs.UnitsEnd.{to_the_end-stops}
 use Rattle.cc_laws_run.proofs.EachNamed.{after_events-append, each-append}
 use Rattle.cc_laws_run.proofs.RunsOfNumbers.{runs-append, has_none-append, ends_with_one-append}
 use Rattle.cc_laws_run.proofs.UnitLawful.{RunsOn, TellsOnly, DropsAt, UnitIsLawful, unit-lawful}
-use Rattle.cc_laws_run.proofs.HoldingUnits.{units_done-keep}
+use Rattle.cc_laws_run.proofs.HoldingUnits.{units_done-keep, finish-cases}
 
 -- Several units
 
@@ -32,9 +32,8 @@ pub record UnitsAreLawful (g : Graph) (names : List Name) (c : Command) (before 
 
 -- where an abandonment stands, by what the last unit came to
 abbrev pub IsPlaced : Progress → List Event → Type 0
-IsPlaced went_on es = has_none es ≡ true
-IsPlaced at_end es = has_none es ≡ true
 IsPlaced refused es = ends_with_one es ≡ true
+IsPlaced _ es = has_none es ≡ true
 
 -- a slice or a collection is lawful, with so many rising runs
 pub record IsLawfulRow (g : Graph) (names : List Name) (c : Command) (most : ℕ) (d : UnitsDone) : Type 0 where
@@ -45,9 +44,8 @@ pub record IsLawfulRow (g : Graph) (names : List Name) (c : Command) (most : ℕ
 
 -- units tell at most one rising run
 only-few : (p : Progress) (es : List Event) → TellsOnly p es → runs (unlinked_numbers es) ≤ 1
-only-few went_on es o = subst (λ l. runs (unlinked_numbers l) ≤ 1) (sym o) (omega arith)
 only-few at_end es o = o.1
-only-few refused es o = subst (λ l. runs (unlinked_numbers l) ≤ 1) (sym o) (omega arith)
+only-few _ es o = subst (λ l. runs (unlinked_numbers l) ≤ 1) (sym o) (omega arith)
 
 -- an abandonment stands last, after events without one
 only-placed : (p : Progress) (before later : List Event) → has_none before ≡ true → TellsOnly p later → IsPlaced p (before ++ later)
@@ -58,14 +56,7 @@ only-placed refused before later n o = subst (λ l. ends_with_one (before ++ l) 
 -- units after events without an abandonment add at most one rising run
 pub row-lawful : (g : Graph) (names : List Name) (c : Command) (most : ℕ) (before : List Event) (d : UnitsDone) → UnitsAreLawful g names c before d →
     has_none before ≡ true → runs (unlinked_numbers before) ≤ most → IsLawfulRow g names c (most + 1) d
-row-lawful g names c most before d l none few = record {
-  still = l.still;
-  each = l.each;
-  few = subst (λ es. runs (unlinked_numbers es) ≤ most + 1) (sym l.told)
-      (subst (λ ks. runs ks ≤ most + 1) (sym (flat_map-append unlinked_in before l.later))
-      (omega (arith, runs-append (unlinked_numbers before) (unlinked_numbers l.later), only-few d.progress l.later l.only)));
-  placed = subst (IsPlaced d.progress) (sym l.told) (only-placed d.progress before l.later none l.only);
-}
+row-lawful g names c most before d l none few = grind (arith, flat_map-append, runs-append, only-few, only-placed)
 
 module _ (g : Graph) (well : IsWellMade g) (c : Command) (moves : (runs_units c || is_gc c) ≡ true) (names : List Name) where
   -- no units at all
@@ -103,35 +94,20 @@ module _ (g : Graph) (well : IsWellMade g) (c : Command) (moves : (runs_units c 
 
   -- a collection that was running is brought to its end
   pub finish-lawful : (m : Machine) → RunsOn g names m.heap m.snapshot → UnitsAreLawful g names c [] (finish_running m)
-  finish-lawful m r = go (is_some m.snapshot)
-    where
-      finished_by : Bool → UnitsDone
-      finished_by true = to_the_end (no_units m)
-      finished_by false = no_units m
-
-      go : (b : Bool) → UnitsAreLawful g names c [] (finished_by b)
-      go true = units_done-lawful (enough_units m) [] (no_units m) (no_units-lawful m r)
-      go false = no_units-lawful m r
+  finish-lawful m r = finish-cases m (UnitsAreLawful g names c [])
+      (units_done-lawful (enough_units m) [] (no_units m) (no_units-lawful m r)) (λ e. no_units-lawful m r)
 
   -- and none runs then
   pub finish-drops : (m : Machine) → RunsOn g names m.heap m.snapshot → (finish_running m).machine.snapshot ≡ None
-  finish-drops m r = go m.snapshot refl
+  finish-drops m r = finish-cases m (λ d. d.machine.snapshot ≡ None)
+      (ended end.progress (to_the_end-stops m) (units_done-lawful (enough_units m) [] (no_units m) (no_units-lawful m r)).drops) (λ e. e)
     where
       end : UnitsDone
       end = to_the_end (no_units m)
 
       ended : (p : Progress) → p ≢ went_on → DropsAt p end.machine.snapshot → end.machine.snapshot ≡ None
       ended went_on stopped d = absurd (stopped refl)
-      ended at_end stopped d = d
-      ended refused stopped d = d
-
-      finished_by : Bool → UnitsDone
-      finished_by true = end
-      finished_by false = no_units m
-
-      go : (o : Option Snapshot) → m.snapshot ≡ o → (finished_by (is_some o)).machine.snapshot ≡ None
-      go None e = e
-      go (Some s) e = ended end.progress (to_the_end-stops m) (units_done-lawful (enough_units m) [] (no_units m) (no_units-lawful m r)).drops
+      ended _ stopped d = d
 
   -- A COLLECTION
   pub collect-lawful : (m : Machine) → RunsOn g names m.heap m.snapshot → IsLawfulRow g names c 2 (collect m)
@@ -153,10 +129,8 @@ module _ (g : Graph) (well : IsWellMade g) (c : Command) (moves : (runs_units c 
 
       stopped_by : Progress → UnitsDone
       stopped_by refused = d
-      stopped_by went_on = to_the_end (starting_anew d)
-      stopped_by at_end = to_the_end (starting_anew d)
+      stopped_by _ = to_the_end (starting_anew d)
 
       go : (p : Progress) → IsPlaced p d.events → IsLawfulRow g names c 2 (stopped_by p)
       go refused placed = record { still = first.still; each = first.each; few = omega (arith, first.few); placed = first.placed }
-      go went_on placed = second placed
-      go at_end placed = second placed
+      go _ placed = second placed

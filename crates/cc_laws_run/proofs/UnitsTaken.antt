@@ -9,6 +9,7 @@ use Rattle.cc_model.specs.Snapshot.{NodeState, gone, traversed, Node, Snapshot}
 use Rattle.cc_model.specs.Units.{first_names, new_node, is_untraversed, first_untraversed, to_note, sample, with_state, with_node, with_nodes, after_node}
 use Rattle.cc_model.specs.End.{went_on, at_end, UnitDone, may_be_refused, abandoned, node_or_end, granted, unit}
 use Rattle.cc_laws_run.specs.UnitsTaken.{is_behind, nodes_behind, units_taken}
+use Rattle.cc_laws_run.proofs.UnitLawful.{unit-cases}
 
 -- the first untraversed node that gets a state is behind then
 behind-with_state : (state : NodeState) → is_untraversed state ≡ false → (ns : List Node) (x : Name) → first_untraversed ns ≡ Some x →
@@ -33,17 +34,7 @@ behind-with_state state closed (n ∷ ns) x e = go (behind-with_state state clos
 
 -- nodes that are added are not
 behind-with_node : (ns : List Node) (y : Name) → nodes_behind (with_node ns y) ≡ nodes_behind ns
-behind-with_node ns y = go (has same_name (map (λ (n : Node). n.name) ns) y)
-  where
-    by_test : Bool → List Node
-    by_test true = ns
-    by_test false = ns ++ new_node y ∷ []
-
-    go : (b : Bool) → nodes_behind (by_test b) ≡ nodes_behind ns
-    go true = refl
-    go false =
-        let more : nodes_behind (ns ++ new_node y ∷ []) ≡ nodes_behind ns + 0 = count_by-append is_behind ns (new_node y ∷ []) in
-        omega (arith, more)
+behind-with_node ns y = grind (arith, count_by-append)
 
 behind-with_nodes : (ns : List Node) (ys : List Name) → nodes_behind (with_nodes ns ys) ≡ nodes_behind ns
 behind-with_nodes ns [] = refl
@@ -91,13 +82,4 @@ granted-counts h (Some s) = node_or_end-counts h s (first_untraversed s.nodes) r
 
 -- EACH UNIT
 pub unit-counts : (h : Heap) (s : Option Snapshot) (memory : Bool) → CountsOn s (unit h s memory) × CountsAtEnd s (unit h s memory)
-unfolding unit
-unit-counts h s memory = go (may_be_refused h s && not memory)
-  where
-    by_test : Bool → UnitDone
-    by_test true = abandoned h s
-    by_test false = granted h s
-
-    go : (b : Bool) → CountsOn s (by_test b) × CountsAtEnd s (by_test b)
-    go true = (λ p. absurd (cc), λ p. absurd (cc))
-    go false = granted-counts h s
+unit-counts h s memory = unit-cases h s memory (λ u. CountsOn s u × CountsAtEnd s u) (λ p. absurd (cc), λ p. absurd (cc)) (granted-counts h s)

@@ -1,7 +1,7 @@
 -- WHAT UNITS USE of memory's answers: a front of them, with one `no` where the last unit is refused; what stands behind it does not matter.
 use Rattle.std.proofs.Common.{◌≡◌, ℕ, zero, suc, ◌+◌, Bool, true, false, not, ◌&&◌, List, [], ◌∷◌, ◌++◌, Option, Some, None, is_some, refl, sym, ◌∙◌, ap, subst, arith}
 use Rattle.std.proofs.lemmas.List.{append_assoc}
-use Rattle.cc_lists.proofs.Counting.{count_by-append}
+use Rattle.cc_lists.proofs.Counting.{count_by-append, count_by-cons}
 use Rattle.cc_names.specs.declared.name.Name.{Name}
 use Rattle.cc_model.specs.declared.item.Event.{Event}
 use Rattle.cc_model.specs.Heap.{Heap}
@@ -19,9 +19,8 @@ done_with d memory = record d { machine = with_memory d.machine memory }
 
 -- how often progress says that memory was refused
 abbrev pub refusals : Progress → ℕ
-refusals went_on = 0
-refusals at_end = 0
 refusals refused = 1
+refusals _ = 0
 
 -- Units lead from d to r, and with other answers of memory as f says: they use a front of these, which says no once for each refusal.
 pub record UnitsUse (f : List Bool → UnitsDone) (d r : UnitsDone) : Type 0 where
@@ -29,21 +28,26 @@ pub record UnitsUse (f : List Bool → UnitsDone) (d r : UnitsDone) : Type 0 whe
   pub any : (more : List Bool) → f (used ++ more) ≡ done_with r more
   pub said_no : noes used + refusals d.progress ≡ refusals r.progress
   pub told : abandonments r.events + refusals d.progress ≡ abandonments d.events + refusals r.progress
-  pub ample : d.machine.memory ≡ [] → refusals d.progress ≡ 0 → (r.machine.memory ≡ []) × (refusals r.progress ≡ 0)
+  -- where memory never says no, it is as good as memory at every place
+  pub ample : noes d.machine.memory ≡ 0 → refusals d.progress ≡ 0 → (f [] ≡ done_with r []) × (noes r.machine.memory ≡ 0) × (refusals r.progress ≡ 0)
 
 -- the noes of two lists add up
 pub noes-append : (xs ys : List Bool) → noes (xs ++ ys) ≡ noes xs + noes ys
 noes-append xs ys = count_by-append (λ b. not b) xs ys
 
+-- memory that never says no says yes first
+pub ample-next : (memory : List Bool) → noes memory ≡ 0 → next_answer memory ≡ true
+ample-next (false ∷ bs) e = absurd (omega (arith, e, count_by-cons (λ b. not b) false bs))
+ample-next _ e = refl
+
+-- and never does so later
+pub ample-later : (memory : List Bool) → noes memory ≡ 0 → noes (later_answers memory) ≡ 0
+ample-later [] e = refl
+ample-later (b ∷ bs) e = omega (arith, e, count_by-cons (λ c. not c) b bs)
+
 -- where nothing is done, nothing is used
 uses-nothing : (d : UnitsDone) → UnitsUse (done_with d) d d
-uses-nothing d = record {
-  used = [];
-  any = λ more. refl;
-  said_no = omega arith;
-  told = refl;
-  ample = λ e none. (e, none);
-}
+uses-nothing d = grind arith
 
 -- what is done one after the other uses one front, and then the other
 uses-then : (f : List Bool → UnitsDone) (g : UnitsDone → UnitsDone) (d r s : UnitsDone) → UnitsUse f d r → UnitsUse (λ memory. g (done_with r memory)) r s →
@@ -53,7 +57,7 @@ uses-then f g d r s u v = record {
   any = λ more. ap (λ memory. g (f memory)) (append_assoc u.used v.used more) ∙ (ap g (u.any (v.used ++ more)) ∙ v.any more);
   said_no = omega (arith, noes-append u.used v.used, u.said_no, v.said_no);
   told = omega (arith, u.told, v.told);
-  ample = λ e none. let w = u.ample e none in v.ample w.0 w.1;
+  ample = λ e none. let w = u.ample e none in let x = v.ample w.1 w.2 in (ap g w.0 ∙ x.0, x.1, x.2);
 }
 
 -- One unit
@@ -115,9 +119,10 @@ unit-use m es = go (may_be_refused m.heap m.snapshot)
       any = λ more. refl;
       said_no = omega (arith, unit_by-refusals m.heap m.snapshot (next_answer m.memory));
       told = told (not (next_answer m.memory));
-      ample = λ e none. (
-        ap later_answers e,
-        subst (λ memory. refusals (unit_by m.heap m.snapshot (not (next_answer memory))).progress ≡ 0) (sym e) (granted-refusals m.heap m.snapshot),
+      ample = λ e none. let yes : true ≡ next_answer m.memory = sym (ample-next m.memory e) in (
+        ap (λ b. done (unit_by m.heap m.snapshot (not b)) []) yes,
+        ample-later m.memory e,
+        subst (λ b. refusals (unit_by m.heap m.snapshot (not b)).progress ≡ 0) yes (granted-refusals m.heap m.snapshot),
       );
     }
     go false = record {
@@ -125,7 +130,7 @@ unit-use m es = go (may_be_refused m.heap m.snapshot)
       any = λ more. refl;
       said_no = sym (granted-refusals m.heap m.snapshot);
       told = told false;
-      ample = λ e none. (e, granted-refusals m.heap m.snapshot);
+      ample = λ e none. (refl, e, granted-refusals m.heap m.snapshot);
     }
 
 -- Units in a row
@@ -135,13 +140,11 @@ units_from-use : (n : ℕ) (m : Machine) (es : List Event) (p : Progress) →
     UnitsUse (λ memory. units_done n (record { machine = with_memory m memory; events = es; progress = p }))
     (record { machine = m; events = es; progress = p }) (units_done n (record { machine = m; events = es; progress = p }))
 unfolding units_done
-units_from-use zero m es p = uses-nothing (record { machine = m; events = es; progress = p })
 units_from-use (suc n) m es went_on =
     let d = one_unit m es in
     uses-then (λ memory. one_unit (with_memory m memory) es) (units_done n) (record { machine = m; events = es; progress = went_on })
     d (units_done n d) (unit-use m es) (units_from-use n d.machine d.events d.progress)
-units_from-use (suc n) m es at_end = uses-nothing (record { machine = m; events = es; progress = at_end })
-units_from-use (suc n) m es refused = uses-nothing (record { machine = m; events = es; progress = refused })
+units_from-use _ m es x = uses-nothing (record { machine = m; events = es; progress = x })
 
 -- UNITS USE A FRONT OF MEMORY'S ANSWERS.
 pub units-use : (n : ℕ) (d : UnitsDone) → UnitsUse (λ memory. units_done n (done_with d memory)) d (units_done n d)
@@ -194,5 +197,5 @@ gc-use m =
       any = λ more. ap then_scripts (u.any more);
       said_no = u.said_no;
       told = omega (arith, u.told, abandonments-append d.events (collect_scripts d.machine.heap).events, collect_scripts-none d.machine.heap);
-      ample = u.ample;
+      ample = λ e none. let w = u.ample e none in (ap then_scripts w.0, w.1, w.2);
     }

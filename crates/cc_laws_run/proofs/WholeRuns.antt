@@ -1,7 +1,7 @@
 -- ASKS IN A ROW, from a machine that runs and from the empty one: it runs on and forgets nothing, and a collection after `gc` misses nothing.
 use Rattle.std.specs.Prelude.{IsTrue}
 use Rattle.std.specs.List.{list_all}
-use Rattle.std.proofs.Common.{◌≡◌, ◌≢◌, Bool, true, List, [], ◌∷◌, ◌++◌, refl, sym, ◌∙◌, subst}
+use Rattle.std.proofs.Common.{arith, ◌≡◌, ◌≢◌, Bool, true, List, [], ◌∷◌, ◌++◌, refl, sym, ◌∙◌, subst}
 use Rattle.std.proofs.lemmas.Bool.{false≢true, and_parts}
 use Rattle.cc_lists.specs.Members.{Among}
 use Rattle.cc_lists.proofs.Members.{Among-right}
@@ -142,13 +142,7 @@ module _ (limits : Allowance) (memory : List Bool) (before blanks : List Ask) (a
 
   -- what it tells is told by the answers of the whole run, behind the earlier ones
   told-later : (es : List Event) → AreTold es (turns start_of (ask ∷ asks)) → AreTold es (plain_run limits memory ((before ++ taken Gc ∷ blanks) ++ ask ∷ asks))
-  told-later es t = (
-    t.0,
-    subst (Among t.0) (sym (turns-append (empty_machine limits memory) (before ++ taken Gc ∷ blanks) (ask ∷ asks)))
-        (Among-right t.0 (plain_run limits memory (before ++ taken Gc ∷ blanks)) (turns start_of (ask ∷ asks)) t.1),
-    t.2,
-    t.3,
-  )
+  told-later es t = grind (arith, turns-append, Among-right)
 
   -- what was lost is gone after the next `gc`
   lost-gone : let all = ask ∷ (asks ++ taken Gc ∷ []) in

@@ -1,6 +1,6 @@
 -- MACHINES THAT SCRIPTS LEAVE and that meet the premises of the laws: a fresh snapshot in which a native is white,
 -- and heaps in which no unreached native is forgotten while there is one.
-use Rattle.std.proofs.Common.{◌≡◌, ℕ, List, [], ◌∷◌, ◌++◌, Option, Some, None, refl, sym, ap, subst, inl, inr, ⊎_elim}
+use Rattle.std.proofs.Common.{arith, ◌≡◌, ℕ, List, [], ◌∷◌, ◌++◌, Option, Some, None, refl, sym, ap, subst, inl, inr, ⊎_elim}
 use Rattle.std.specs.Prelude.{codes}
 use Rattle.std.proofs.lemmas.Bool.{true≢false, iff_false}
 use Rattle.cc_lists.proofs.Closure.{closure-decides}
@@ -88,11 +88,7 @@ traversed-untraversed n e = true≢false (sym (ap is_untraversed e))
 
 -- No node of it is left to traverse.
 pub half_collected-traversed : IsTraversed half_collected_snapshot
-half_collected-traversed x m = ⊎_elim
-    (λ e. traversed-untraversed (Some 1) (ap (λ (n : Node). n.state) e))
-    (λ m. ⊎_elim
-    (λ e. traversed-untraversed None (ap (λ (n : Node). n.state) e))
-    (λ m. ⊎_elim (λ e. traversed-untraversed None (ap (λ (n : Node). n.state) e)) (λ none. none) m) m) m
+half_collected-traversed x m = grind (arith, traversed-untraversed)
 
 -- Its native is white.
 pub half_collected-white : IsWhite (view half_collected.heap) half_collected_snapshot (native 1)

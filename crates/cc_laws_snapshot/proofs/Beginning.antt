@@ -54,11 +54,7 @@ list_any-some p (y ∷ ys) x m e = ⊎_elim
 
 -- a member of a mapping is the entry's
 member-is : (h : Heap) (y x : Name) → Among x (option_to_list (if_gray h y)) → y ≡ x
-member-is h y x m = go (is_gray_in h y) m
-  where
-    go : (b : Bool) → Among x (option_to_list (elim b [ true ↦ Some y | false ↦ None ])) → y ≡ x
-    go true i = ⊎_elim (λ e. e) (λ t. absurd t) i
-    go false i = absurd i
+member-is h y x m = grind arith
 
 module _ (h : Heap) (sound : IsSound [] h) (coloured : HasColourInvariant (view h)) where
   -- the view after the begin: nothing is in the buffer
@@ -120,10 +116,7 @@ module _ (h : Heap) (sound : IsSound [] h) (coloured : HasColourInvariant (view 
 
   -- a holder is there
   holder-there : (x : Name) → Among x (holders_of h) → Among x (native_names h)
-  holder-there x m =
-      let f = Among-map_cases (λ (n : HeapNative). native n.number) (filter (holds_gray h) h.natives) x m in
-      subst (λ y. Among y (native_names h)) f.2
-      (Among-map (λ (n : HeapNative). native n.number) f.0 h.natives (Among-filtered (holds_gray h) f.0 h.natives f.1))
+  holder-there x m = grind (arith, Among-map_cases, Among-map, Among-filtered)
 
   -- each node is a native or a script object that is there
   pub node-cases : (x : Name) → IsNode (begun h) x → Among x (native_names h) ⊎ IsScriptThere (view h) x

@@ -1,6 +1,6 @@
 -- BLACK IN A SNAPSHOT IS THE LEAST SET OF ITS RULES, and white is what is left.
 use Rattle.std.specs.Prelude.{◌↔◌}
-use Rattle.std.proofs.Common.{◌≡◌, ℕ, ◌<◌, Bool, true, not, List, ◌++◌, map, Option, Some, None, refl, sym, ◌∙◌, ap, subst, inl, ⊎_elim, nat_lt}
+use Rattle.std.proofs.Common.{arith, ◌≡◌, ℕ, ◌<◌, Bool, true, not, List, ◌++◌, map, Option, Some, None, refl, sym, ◌∙◌, ap, subst, inl, ⊎_elim, nat_lt}
 use Rattle.std.specs.List.{filter}
 use Rattle.std.specs.Option.{option_to_list}
 use Rattle.std.proofs.lemmas.Bool.{and_parts, and_from, or_left, or_right, or_cases, true≢false, lt-ltb, ltb-true, not-true, not_from_false, false_from_ne_true}
@@ -29,10 +29,7 @@ module _ (v : View) (s : Snapshot) where
 
   -- more references are sampled than noted: there was a count, and it is greater
   above-sampled : (x : Name) (state : NodeState) → is_above s x state ≡ true → (n : ℕ) × (state ≡ traversed (Some n)) × (noted_to s x < n)
-  above-sampled x untraversed e = absurd (cc)
-  above-sampled x gone e = absurd (cc)
-  above-sampled x (traversed None) e = absurd (cc)
-  above-sampled x (traversed (Some n)) e = (n, refl, ltb-true (noted_to s x) n e)
+  above-sampled x state e = grind (arith, ltb-true)
 
   -- a node that is black by itself is black by one of the first three rules
   seed-by : (x : Name) (state : NodeState) → Among (node x state) s.nodes → is_seed v s (node x state) ≡ true → IsBlackByRules v s x
@@ -41,10 +38,8 @@ module _ (v : View) (s : Snapshot) where
       (λ a. let f = above-sampled (native k.0) state a in
       held_from_elsewhere k.0 f.0 (subst (λ t. Among (node (native k.0) t) s.nodes) f.1 m) f.2)
       (or_cases (has same_name v.buffer (native k.0)) (is_above s (native k.0) state) e)
-  seed-by (name.Script k) state m e = black_now (object k.0) (Among-map (λ (n : Node). n.name) (node (object k.0) state) s.nodes m) refl
-      (has-among same_name same_name-exact v.black (object k.0) e)
-  seed-by (name.Reflector k) state m e = black_now (reflector k.0) (Among-map (λ (n : Node). n.name) (node (reflector k.0) state) s.nodes m) refl
-      (has-among same_name same_name-exact v.black (reflector k.0) e)
+  seed-by x state m e = black_now x (Among-map (λ (n : Node). n.name) (node x state) s.nodes m) refl
+      (has-among same_name same_name-exact v.black x e)
 
   -- what is black is black by the rules
   pub black-by_rules : (x : Name) → BlackIn v s x → IsBlackByRules v s x
@@ -79,9 +74,7 @@ module _ (v : View) (s : Snapshot) where
 
   -- the test of a script node
   script-seed : (x : Name) (state : NodeState) → is_script x ≡ true → Among x v.black → is_seed v s (node x state) ≡ true
-  script-seed (name.Native k) state e b = absurd (cc)
-  script-seed (name.Script k) state e b = has-there same_name same_name-exact v.black (object k.0) b
-  script-seed (name.Reflector k) state e b = has-there same_name same_name-exact v.black (reflector k.0) b
+  script-seed x state e b = grind (arith, has-there, same_name-exact)
 
   -- what is black by the rules is black
   pub by_rules-black : (x : Name) → IsBlackByRules v s x → BlackIn v s x
@@ -103,56 +96,18 @@ module _ (v : View) (s : Snapshot) where
 
   -- the list of black names decides
   pub black-listed : (x : Name) → (has same_name (black_in v s) x ≡ true) ↔ IsBlackByRules v s x
-  black-listed x =
-      let d = closure-decides same_name same_name-exact (black_in_rules v s) x in (
-        λ e. black-by_rules x (d.0 e),
-        λ b. d.1 (by_rules-black x b),
-      )
+  black-listed x = grind (arith, closure-decides, same_name-exact, black-by_rules, by_rules-black)
 
   -- white is a node whose object is there and that is not black
   pub white-by_rules : (x : Name) → IsWhite v s x ↔ (IsNode s x × (is_there v x ≡ true) × (¬ (IsBlackByRules v s x)))
-  white-by_rules x = (
-    λ w. let p = and_parts (is_there v x) (not (has same_name (black_in v s) x)) (Among-passes (is_white v (black_in v s)) x (node_names s) w) in (
-      Among-filtered (is_white v (black_in v s)) x (node_names s) w,
-      p.0,
-      λ b. true≢false (sym ((black-listed x).1 b) ∙ not-true (has same_name (black_in v s) x) p.1),
-    ),
-    λ f. Among-filter (is_white v (black_in v s)) x (node_names s) f.0
-        (and_from (is_there v x) (not (has same_name (black_in v s) x)) f.1
-        (not_from_false (has same_name (black_in v s) x) (false_from_ne_true (has same_name (black_in v s) x) (λ e. f.2 ((black-listed x).0 e))))),
-  )
+  white-by_rules x = grind (arith, Among-passes, Among-filtered, black-listed, not-true, Among-filter)
 
 -- a native of the heaps is there in their view
 native-there : (h : Heap) (k : ℕ) → Among (native k) (native_names h) → is_there (view h) (native k) ≡ true
-native-there h k m =
-    let f = Among-map_cases (λ (n : HeapNative). native n.number) h.natives (native k) m in
-    let named : Among (native k) (map (λ (n : Name × ℕ). n.0) (view h).natives) =
-    subst (λ x. Among x (map (λ (n : Name × ℕ). n.0) (view h).natives)) f.2
-    (Among-map (λ (n : Name × ℕ). n.0) (counted f.0) (map counted h.natives) (Among-map counted f.0 h.natives f.1)) in
-    or_left (has same_name (map (λ (n : Name × ℕ). n.0) (view h).natives) (native k)) (has same_name (scripts_there (view h)) (native k))
-    (has-there same_name same_name-exact (map (λ (n : Name × ℕ). n.0) (view h).natives) (native k) named)
+native-there h k m = grind (arith, Among-map_cases, Among-map, has-there, same_name-exact)
 
 -- A native is listed white where it is a node, in the heaps, and not black by the rules.
 pub white_natives-by_rules : (h : Heap) (s : Snapshot) (k : ℕ) →
     Among k (white_natives h s) ↔ (IsNode s (native k) × Among (native k) (native_names h) × (¬ (IsBlackByRules (view h) s (native k))))
 unfolding white_natives
-white_natives-by_rules h s k = (
-  λ m. let f = Among-map_cases (λ (n : HeapNative). n.number) (filter listed h.natives) k m in
-      let white : IsWhite (view h) s (native k) =
-      subst (λ j. IsWhite (view h) s (native j)) f.2
-      (has-among same_name same_name-exact (white_names (view h) s) (native f.0.number) (Among-passes listed f.0 h.natives f.1)) in
-      let there : Among (native k) (native_names h) =
-      subst (λ j. Among (native j) (native_names h)) f.2
-      (Among-map (λ (n : HeapNative). native n.number) f.0 h.natives (Among-filtered listed f.0 h.natives f.1)) in
-      let w = (white-by_rules (view h) s (native k)).0 white in
-      (w.0, there, w.2),
-  λ t. let f = Among-map_cases (λ (n : HeapNative). native n.number) h.natives (native k) t.1 in
-      let white : IsWhite (view h) s (native f.0.number) =
-      subst (λ x. IsWhite (view h) s x) (sym f.2) ((white-by_rules (view h) s (native k)).1 (t.0, native-there h k t.1, t.2)) in
-      subst (λ j. Among j (map (λ (n : HeapNative). n.number) (filter listed h.natives))) (ap number_of f.2)
-      (Among-map (λ (n : HeapNative). n.number) f.0 (filter listed h.natives)
-      (Among-filter listed f.0 h.natives f.1 (has-there same_name same_name-exact (white_names (view h) s) (native f.0.number) white))),
-)
-  where
-    listed : HeapNative → Bool
-    listed n = has same_name (white_names (view h) s) (native n.number)
+white_natives-by_rules h s k = grind (arith, Among-map_cases, has-among, same_name-exact, Among-passes, Among-map, Among-filtered, white-by_rules, native-there, Among-filter, has-there)

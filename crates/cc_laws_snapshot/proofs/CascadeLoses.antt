@@ -1,5 +1,5 @@
 -- A CASCADE ONLY LOSES REFERENCES: so does each kind of change of which it consists.
-use Rattle.std.proofs.Common.{◌≡◌, ℕ, true, false, not, List, [], ◌∷◌, ◌++◌, Some, None, refl, sym, ◌∙◌, ap, subst, inl, inr, ◌⊎◌, ⊎_elim}
+use Rattle.std.proofs.Common.{arith, ◌≡◌, ℕ, true, false, not, List, [], ◌∷◌, ◌++◌, Some, None, refl, sym, ◌∙◌, ap, subst, inl, inr, ◌⊎◌, ⊎_elim}
 use Rattle.std.specs.List.{flat_map}
 use Rattle.std.proofs.lemmas.Bool.{eqb-true, eq-eqb, not-true, true≢false, cases_Bool}
 use Rattle.std.proofs.lemmas.Bool.Decides.{eqb_tells}
@@ -45,13 +45,7 @@ lower-living h k x l = living-same h (lower h k) (native_names-alike h (lower h 
 
 -- who lives where a native was taken out lived before, and is another
 pub removed-living : (h : Heap) (k : ℕ) (x : Name) → IsLiving (view (removed h k)) x → IsLiving (view h) x × (¬ (native k ≡ x))
-removed-living h k x l =
-    let f = Among-map_cases (λ (n : HeapNative). native n.number) (removed h k).natives x (named-of_living (removed h k) x l) in
-    let there : Among f.0 h.natives = Among-filtered (λ n. not (has_number k n)) f.0 h.natives f.1 in
-    let passes : not (has_number k f.0) ≡ true = Among-passes (λ n. not (has_number k n)) f.0 h.natives f.1 in (
-      living-of_named h x (subst (λ z. Among z (native_names h)) f.2 (Among-map (λ (n : HeapNative). native n.number) f.0 h.natives there)),
-      λ e. true≢false (sym (eq-eqb f.0.number k (ap number_of (f.2 ∙ sym e))) ∙ not-true (has_number k f.0) passes),
-    )
+removed-living h k x l = grind (arith, Among-map_cases, named-of_living, Among-filtered, Among-passes, living-of_named, Among-map, eq-eqb, not-true)
 
 -- an edge to a native stays where natives of a number are taken out, or leads to what such a native held
 pub removed-edge : (h : Heap) (k : ℕ) (x : Name) (i : ℕ) → Among (x, native i) (view h).edges →

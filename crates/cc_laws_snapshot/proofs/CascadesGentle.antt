@@ -80,15 +80,12 @@ module _ (owned : List ℕ) (h : Heap) (k : ℕ) (s : IsSound (k ∷ owned) h) w
 
 -- What a register or a slot held given up is gentle,
 pub let_go-gentle : (owned : List ℕ) (h : Heap) (x : Option Name) → IsSound (numbers_of x ++ owned) h → AreGentle h (let_go h x).heap
-let_go-gentle owned h None s = AreGentle-refl h
 let_go-gentle owned h (Some (name.Native k)) s = cascade-gentle owned h k.0 s
-let_go-gentle owned h (Some (name.Script k)) s = AreGentle-refl h
-let_go-gentle owned h (Some (name.Reflector k)) s = AreGentle-refl h
+let_go-gentle owned h _ s = AreGentle-refl h
 
 -- and leaves no native that it held outside the buffer.
 pub let_go-caught : (owned : List ℕ) (h : Heap) (x : Option Name) → IsSound (numbers_of x ++ owned) h → (u : Name) (c : ℕ) →
     Among (u, c) (view (let_go h x).heap).natives → ¬ (Among u (view (let_go h x).heap).buffer) → ¬ (Among u (option_to_list x))
 let_go-caught owned h None s u c m o i = i
 let_go-caught owned h (Some (name.Native k)) s u c m o i = ⊎_elim (λ e. cascade-caught owned h k.0 s u c m o e) (λ t. t) i
-let_go-caught owned h (Some (name.Script k)) s u c m o i = ⊎_elim (λ e. let f = living-native h u c m in absurd (cc)) (λ t. t) i
-let_go-caught owned h (Some (name.Reflector k)) s u c m o i = ⊎_elim (λ e. let f = living-native h u c m in absurd (cc)) (λ t. t) i
+let_go-caught owned h _ s u c m o i = ⊎_elim (λ e. let f = living-native h u c m in absurd (cc)) (λ t. t) i

@@ -81,11 +81,7 @@ effects-gentle {owned} h (SetEntry m k v) s c r t = set_entry-gentle h (register
     (script_register-pale h k c) (script_source-pale h v c)
 effects-gentle {owned} h (GetEntry d m k) s c r t = hold_script-gentle h d (value_at (objects_of h) (register h (S m)) (register h (S k))) s.well_formed
 effects-gentle {owned} h (Expose q i) s c r t = exposed-gentle h (slot_at (objects_of h) (N q) i) s.well_formed
-effects-gentle {owned} h Nothing s c r t = AreGentle-refl h
-effects-gentle {owned} h (Slice u) s c r t = AreGentle-refl h
-effects-gentle {owned} h Collect s c r t = AreGentle-refl h
-effects-gentle {owned} h Gc s c r t = AreGentle-refl h
-effects-gentle {owned} h Census s c r t = AreGentle-refl h
+effects-gentle {owned} h _ s c r t = AreGentle-refl h
 
 -- A command that is not refused keeps a fresh snapshot fresh.
 pub effects-fresh : {owned : List ℕ} (h : Heap) (s : Snapshot) (c : Command) → IsSound owned h → IsFresh h.natives_made (view h) s → IsTrue (in_range c) → IsTaken (objects_of h) c →

@@ -53,7 +53,7 @@ unfolding hold_native
 drop_native-loyal h d room s = hold_native-loyal h d None room (λ y m. absurd m) s
 
 -- a native is made
-make_native-loyal : {owned : List ℕ} (h : Heap) (d n : ℕ) → d < 256 → n ≤ 64 → h.natives_made < h.limits.natives → IsSound owned h →
+pub make_native-loyal : {owned : List ℕ} (h : Heap) (d n : ℕ) → d < 256 → n ≤ 64 → h.natives_made < h.limits.natives → IsSound owned h →
     IsLoyal (view h) (view (make_native h d n).heap)
 unfolding make_native
 make_native-loyal {owned} h d n room few allowed s =
@@ -126,8 +126,4 @@ effects-loyal {owned} h (SetEntry m k v) s r t u = still-loyal h (set_entry h (r
 effects-loyal {owned} h (GetEntry d m k) s r t u = still-loyal h (hold_script h d (value_at (objects_of h) (register h (S m)) (register h (S k)))) s u
     (Still-hold_script h d (value_at (objects_of h) (register h (S m)) (register h (S k))))
 effects-loyal {owned} h (Expose q i) s r t u = still-loyal h (exposed h (slot_at (objects_of h) (N q) i)) s u (Still-exposed h (slot_at (objects_of h) (N q) i))
-effects-loyal {owned} h Nothing s r t u = still-loyal h h s u (Still-refl h)
-effects-loyal {owned} h (Slice v) s r t u = still-loyal h h s u (Still-refl h)
-effects-loyal {owned} h Collect s r t u = still-loyal h h s u (Still-refl h)
-effects-loyal {owned} h Gc s r t u = still-loyal h h s u (Still-refl h)
-effects-loyal {owned} h Census s r t u = still-loyal h h s u (Still-refl h)
+effects-loyal {owned} h _ s r t u = still-loyal h h s u (Still-refl h)

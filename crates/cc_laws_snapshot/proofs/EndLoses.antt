@@ -28,6 +28,8 @@ use Rattle.cc_laws_snapshot.proofs.NamesAndEdges.{living-same, edges-alike}
 use Rattle.cc_laws_snapshot.proofs.GivingBack.{purple-stays, name-was}
 use Rattle.cc_laws_snapshot.proofs.LosesTo.{IsLost, LosesTo, LosesTo-refl}
 use Rattle.cc_laws_snapshot.proofs.CascadeLoses.{LosesIn, losing-kept}
+use Rattle.cc_laws_heap.proofs.ViewEdges.{native_edges-are}
+use Rattle.cc_laws_snapshot.proofs.Edges.{native_edges-has}
 
 -- One native changed
 
@@ -80,34 +82,24 @@ slot-loses hand h k i n d found = change_native-loses (numbers_of (get_or n.slot
     drops m a number x j e =
         let here : Some m ≡ Some n = sym (native_at-member h d m a) ∙ (ap (native_at h) number ∙ found) in
         let same : m ≡ n = cc in
+        let p = native_edges-are m x (native j) e in
         ⊎_elim
-        (λ l.
-        let g = Among-map_cases (from_to (native m.number)) (contents m.slots) (x, native j) l in
-        let held : Among (native j) (contents m.slots) = subst (λ y. Among y (contents m.slots)) (ap (λ (r : Name × Name). r.1) g.2) g.1 in
-        ⊎_elim
-        (λ t. inl (Among-left (x, native j) (slot_edges (native m.number) (set m.slots i None)) (preserved_edge m)
-        (subst (λ y. Among (y, native j) (slot_edges (native m.number) (set m.slots i None))) (ap (λ (r : Name × Name). r.0) g.2)
-        (Among-map (from_to (native m.number)) (native j) (contents (set m.slots i None)) t))))
+        (λ c. ⊎_elim
+        (λ t. inl (native_edges-has (with_native_slot i None m) x (native j) p.0 (inl t)))
         (λ t. inr (numbers_of-there (get_or n.slots i None) j (subst (λ (p : HeapNative). Among (native j) (option_to_list (get_or p.slots i None))) same t)))
-        (contents-written_kept m.slots i None (native j) held))
-        (λ r. inl (Among-right (x, native j) (slot_edges (native m.number) (set m.slots i None)) (preserved_edge m) r))
-        (Among-append (x, native j) (slot_edges (native m.number) m.slots) (preserved_edge m) e)
+        (contents-written_kept m.slots i None (native j) c))
+        (λ q. inl (native_edges-has (with_native_slot i None m) x (native j) p.0 (inr q))) p.1
 
 -- the end of a preservation loses no native
 preservation-loses : (hand : List ℕ) (h : Heap) (k : ℕ) → LosesTo (stage hand [] h) (stage hand [] (set_preserved h k false))
 preservation-loses hand h k = change_native-loses [] hand h k (λ n. record n { preserved = false }) (λ n. refl) drops
   where
     drops : DropsOnly [] h k (λ n. record n { preserved = false })
-    drops n m number x i e = ⊎_elim
-        (λ l. inl (Among-left (x, native i) (slot_edges (native n.number) n.slots) [] l))
-        (λ r. absurd (go n.preserved r))
-        (Among-append (x, native i) (slot_edges (native n.number) n.slots) (preserved_edge n) e)
-      where
-        go : (b : Bool) → Among (x, native i) (elim b [ true ↦ from_to (native n.number) (reflector n.number) ∷ [] | false ↦ [] ]) → ⊥
-        go true j = ⊎_elim
-            (λ s. native-no_script (native i) refl (subst (λ y. is_script y ≡ true) (ap (λ (r : Name × Name). r.1) s) refl))
-            (λ t. absurd t) j
-        go false j = absurd j
+    drops n m number x i e =
+        let p = native_edges-are n x (native i) e in
+        ⊎_elim
+        (λ c. inl (native_edges-has (record n { preserved = false }) x (native i) p.0 (inl c)))
+        (λ q. absurd (native-no_script (native i) refl (subst (λ y. is_script y ≡ true) q.1 refl))) p.1
 
 -- References taken in hand
 

@@ -1,5 +1,5 @@
 -- NATIVES THAT GO BACK TO THE BUFFER with the purple mark, and a buffer that is emptied: what is suspected stays suspected.
-use Rattle.std.proofs.Common.{◌≡◌, ℕ, Bool, true, false, List, [], ◌∷◌, ◌++◌, map, Option, Some, None, refl, sym, ◌∙◌, ap, subst, inl, inr, ◌⊎◌, ⊎_elim}
+use Rattle.std.proofs.Common.{arith, ◌≡◌, ℕ, Bool, true, false, List, [], ◌∷◌, ◌++◌, map, Option, Some, None, refl, sym, ◌∙◌, ap, subst, inl, inr, ◌⊎◌, ⊎_elim}
 use Rattle.std.specs.List.{filter}
 use Rattle.std.specs.Option.{is_some}
 use Rattle.cc_lists.specs.Members.{Among}
@@ -115,30 +115,15 @@ suspected-purple k bs =
 
 -- a purple name stays purple, or it is that of the native that is marked
 pub purple-stays : (m : Bool) (k : ℕ) (bs : List Buffered) (x : Name) → IsPurpleName bs x → (x ≡ native k) ⊎ IsPurpleName (with_mark m k bs) x
-purple-stays m k bs x i =
-    let f = purple-place bs x i in
-    ⊎_elim
-    (λ e. inl (sym f.3 ∙ ap native e))
-    (λ t. inr (subst (IsPurpleName (with_mark m k bs)) f.3 (purple-name (with_mark m k bs) f.0 t f.2)))
-    (with_mark-stays m k bs f.0 f.1)
+purple-stays m k bs x i = grind (arith, purple-place, purple-name, with_mark-stays)
 
 -- a name in the buffer was there, or is that of the native that was marked
 pub name-was : (m : Bool) (k : ℕ) (bs : List Buffered) (x : Name) → IsNameIn (with_mark m k bs) x → (x ≡ native k) ⊎ IsNameIn bs x
-name-was m k bs x i =
-    let f = Among-map_cases buffered (with_mark m k bs) x i in
-    ⊎_elim
-    (λ e. inl (sym f.2 ∙ ap native e))
-    (λ t. inr (subst (IsNameIn bs) f.2 (Among-map buffered f.0 bs t)))
-    (with_mark-cases m k bs f.0 f.1)
+name-was m k bs x i = grind (arith, Among-map_cases, Among-map, with_mark-cases)
 
 -- a purple name was purple, or is that of the native that was marked
 purple-was : (m : Bool) (k : ℕ) (bs : List Buffered) (x : Name) → IsPurpleName (with_mark m k bs) x → (x ≡ native k) ⊎ IsPurpleName bs x
-purple-was m k bs x i =
-    let f = purple-place (with_mark m k bs) x i in
-    ⊎_elim
-    (λ e. inl (sym f.3 ∙ ap native e))
-    (λ t. inr (subst (IsPurpleName bs) f.3 (purple-name bs f.0 t f.2)))
-    (with_mark-cases m k bs f.0 f.1)
+purple-was m k bs x i = grind (arith, purple-place, purple-name, with_mark-cases)
 
 -- Natives given back
 

@@ -70,10 +70,8 @@ TakesUp-add_ref h k = record {
 
 -- a reference to what a place is to hold
 pub TakesUp-take_up : (h : Heap) (x : Option Name) → TakesUp h (take_up h x) x
-TakesUp-take_up h None = TakesUp-nothing h None
 TakesUp-take_up h (Some (name.Native k)) = TakesUp-add_ref h k.0
-TakesUp-take_up h (Some (name.Script k)) = TakesUp-nothing h (Some (name.Script k))
-TakesUp-take_up h (Some (name.Reflector k)) = TakesUp-nothing h (Some (name.Reflector k))
+TakesUp-take_up h x = TakesUp-nothing h x
 
 -- a native made
 pub TakesUp-with_native : (h : Heap) (n : ℕ) → TakesUp h (with_native h n) (Some (native (h.natives_made + 1)))

@@ -1,6 +1,6 @@
 -- A REFERENCE HANDED OVER IS A LOYAL CHANGE: first heaps change so that only what is then given up loses a reference,
 -- and a register holds or reaches who was touched or made; then what was held before is given up.
-use Rattle.std.proofs.Common.{◌≡◌, ℕ, true, List, ◌++◌, map, Option, Some, None, refl, sym, ◌∙◌, ap, subst, inl, inr, ◌⊎◌, ⊎_elim}
+use Rattle.std.proofs.Common.{◌≡◌, ℕ, true, List, ◌++◌, map, Option, Some, None, refl, sym, ◌∙◌, ap, subst, inl, inr, ◌⊎◌, ⊎_elim, []}
 use Rattle.std.specs.List.{flat_map}
 use Rattle.cc_lists.specs.Members.{Among}
 use Rattle.cc_lists.proofs.Members.{Among-map, Among-map_cases, Among-left, Among-right, Among-append, Among-flat_map}
@@ -19,13 +19,13 @@ use Rattle.cc_laws_heap.specs.Sound.{IsSound, numbers_of}
 use Rattle.cc_laws_heap.proofs.Owning.{let_go-sound}
 use Rattle.cc_laws_heap.proofs.ScriptsKept.{native-no_script as script-no_native}
 use Rattle.cc_laws_snapshot.proofs.NamePairs.{native-no_script}
-use Rattle.cc_laws_snapshot.proofs.Edges.{edge-of}
+use Rattle.cc_laws_snapshot.proofs.Edges.{edge-of, script_edges-has, native_edges-has}
 use Rattle.cc_laws_snapshot.specs.Losing.{PurpleOrGone, Loses, IsLoyal}
-use Rattle.cc_laws_snapshot.proofs.BufferMarks.{IsPurple}
+use Rattle.cc_laws_snapshot.proofs.BufferMarks.{IsPurple, buffer-place}
 use Rattle.cc_laws_snapshot.proofs.NamesAndEdges.{named-of_living, living-number, living-of_named}
 use Rattle.cc_laws_snapshot.proofs.LoyalSuspected.{loses-same}
 use Rattle.cc_laws_snapshot.proofs.LosesTo.{HasLivingBuffer-view}
-use Rattle.cc_laws_snapshot.proofs.ReachedStays.{cascade-reached}
+use Rattle.cc_laws_snapshot.proofs.ReachedStays.{cascade-reached, native-edge, script-edge}
 use Rattle.cc_laws_snapshot.proofs.CascadeLoses.{cascade-loses}
 
 -- Edges to natives
@@ -47,20 +47,13 @@ edge-to h x i w m = ⊎_elim
 
 -- a native that has it in a slot refers to it
 pub edge-from_slot : (h : Heap) (n : HeapNative) (y : Name) → Among n h.natives → Among y (contents n.slots) → Among (native n.number, y) (view h).edges
-edge-from_slot h n y there m = Among-left (native n.number, y) (flat_map native_edges h.natives) (flat_map script_edges h.scripts)
-    (Among-flat_map native_edges n (native n.number, y) h.natives there
-    (Among-left (native n.number, y) (slot_edges (native n.number) n.slots) (preserved_edge n)
-    (Among-map (from_to (native n.number)) y (contents n.slots) m)))
+edge-from_slot h n y there m = native-edge h n (native n.number) y there (native_edges-has n (native n.number) y refl (inl m))
 
 -- a reflector refers to its native
 pub edge-from_reflector : (h : Heap) (i : ℕ) → Among (reflector i) (script_names h) → Among (reflector i, native i) (view h).edges
 edge-from_reflector h i m =
     let f = Among-map_cases (λ (o : HeapScript). o.name) h.scripts (reflector i) m in
-    let own : Among (reflector i, native i) (map (λ k. from_to f.0.name (native k)) (behind f.0.name)) =
-    subst (λ z. Among (reflector i, native i) (map (λ k. from_to z (native k)) (behind z))) (sym f.2) (inl refl) in
-    Among-right (reflector i, native i) (flat_map native_edges h.natives) (flat_map script_edges h.scripts)
-    (Among-flat_map script_edges f.0 (reflector i, native i) h.scripts f.1
-    (Among-right (reflector i, native i) (script_slot_edges f.0) (map (λ k. from_to f.0.name (native k)) (behind f.0.name)) own))
+    script-edge h f.0 (reflector i) (native i) f.1 (script_edges-has f.0 (reflector i) (native i) f.2 (inr (i, f.2, refl)))
 
 -- The first part of the change
 
@@ -93,7 +86,6 @@ LetsGo-nothing y g none = record { loses = loses-same (view g); given = λ i m. 
 
 -- so it is for all that a register or slot may have held, whatever else is owned
 pub let_go-loses : (owned : List ℕ) (y : Option Name) (g : Heap) → IsSound (numbers_of y ++ owned) g → LetsGo y g (let_go g y).heap
-let_go-loses owned None g s = LetsGo-nothing None g (λ i m. m)
 let_go-loses owned (Some (name.Native k)) g s =
     let c = cascade-loses owned g k.0 s in
     record {
@@ -101,12 +93,11 @@ let_go-loses owned (Some (name.Native k)) g s =
       given = λ i m. ⊎_elim (λ e. subst (PurpleOrGone (view (let_go g (Some (name.Native k))).heap)) e c.1) (λ b. absurd b) m;
       reached = cascade-reached owned g k.0 s;
     }
-let_go-loses owned (Some (name.Script k)) g s = LetsGo-nothing (Some (name.Script k)) g (λ i m. m)
-let_go-loses owned (Some (name.Reflector k)) g s = LetsGo-nothing (Some (name.Reflector k)) g (λ i m. m)
+let_go-loses owned x g s = LetsGo-nothing x g (λ i m. m)
 
 -- Both parts
 
-module _ (y : Option Name) (h g f : Heap) (before : IsWellFormed h) (later : IsWellFormed f) (c : Hands (numbers_of y) h g) (l : LetsGo y g f) where
+module _ (y : Option Name) (h g f : Heap) (before : IsWellFormed h) (c : Hands (numbers_of y) h g) (l : LetsGo y g f) where
   -- an edge to a native
   edge-kept : (x : Name) (i : ℕ) → Among (x, native i) (view h).edges → Among (x, native i) (view f).edges ⊎ PurpleOrGone (view f) i
   edge-kept x i m = ⊎_elim
@@ -129,12 +120,13 @@ module _ (y : Option Name) (h g f : Heap) (before : IsWellFormed h) (later : IsW
   -- who stands in the buffer
   buffer-kept : (x : Name) → Among x (view f).buffer → Among x (view h).buffer ⊎ (Among x (view f).purple ⊎ ReachedIn (view f) x)
   buffer-kept x m =
-      let b = HasLivingBuffer-view f later x m in
-      subst (λ z. Among z (view h).buffer ⊎ (Among z (view f).purple ⊎ ReachedIn (view f) z)) (sym b.1)
+      let b = buffer-place f x m in
+      let k : ℕ = b.0.number in
+      subst (λ z. Among z (view h).buffer ⊎ (Among z (view f).purple ⊎ ReachedIn (view f) z)) b.2
       (⊎_elim
-      (λ n. ⊎_elim (λ o. inl o) (λ r. inr (inr (l.reached (native b.0) r))) (c.buffer b.0 n))
+      (λ n. ⊎_elim (λ o. inl o) (λ r. inr (inr (l.reached (native k) r))) (c.buffer k n))
       (λ p. inr (inl p))
-      (l.loses.buffer (native b.0) (subst (λ z. Among z (view f).buffer) b.1 m)))
+      (l.loses.buffer (native k) (subst (λ z. Among z (view f).buffer) (sym b.2) m)))
 
   -- who lives
   living-kept : (x : Name) → IsLiving (view f) x → IsLiving (view h) x ⊎ ReachedIn (view f) x
@@ -159,4 +151,8 @@ module _ (y : Option Name) (h g f : Heap) (before : IsWellFormed h) (later : IsW
 -- What is handed over, and what was held then given up, is a loyal change.
 pub handed-loyal : (owned : List ℕ) (y : Option Name) (h g : Heap) → IsWellFormed h → IsSound (numbers_of y ++ owned) g → Hands (numbers_of y) h g →
     IsLoyal (view h) (view (let_go g y).heap)
-handed-loyal owned y h g w s c = both-loyal y h g (let_go g y).heap w (let_go-sound owned g y s).well_formed c (let_go-loses owned y g s)
+handed-loyal owned y h g w s c = both-loyal y h g (let_go g y).heap w c (let_go-loses owned y g s)
+
+-- And so is one where nothing was held.
+pub hands-loyal : (h g : Heap) → IsWellFormed h → Hands [] h g → IsLoyal (view h) (view g)
+hands-loyal h g w c = both-loyal None h g g w c (LetsGo-nothing None g (λ i m. m))

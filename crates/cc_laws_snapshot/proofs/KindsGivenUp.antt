@@ -38,13 +38,7 @@ lower-gentle h k = AreGentleBut-one (native k ∷ []) h k lower_native h.buffer 
 
 -- what leaves the buffer is one native
 forget-cases : (k : ℕ) (bs : List Buffered) (x : Name) → Among x (names_in bs) → Among x (names_in (filter (λ b. not (b.number == k)) bs)) ⊎ (native k ≡ x)
-forget-cases k bs x m =
-    let f = Among-map_cases buffered bs x m in
-    ⊎_elim
-    (λ e. inr (ap native (sym (eqb-true f.0.number k e)) ∙ f.2))
-    (λ e. inl (subst (λ y. Among y (names_in (filter (λ b. not (b.number == k)) bs))) f.2
-    (Among-map buffered f.0 (filter (λ b. not (b.number == k)) bs) (Among-filter (λ b. not (b.number == k)) f.0 bs f.1 (ap not e)))))
-    (cases_Bool (f.0.number == k))
+forget-cases k bs x m = grind (arith, Among-map_cases, eqb-true, Among-map, Among-filter)
 
 -- While some wait
 

@@ -22,7 +22,7 @@ use Rattle.cc_laws_heap.specs.Freeing.{Uncounted}
 use Rattle.cc_laws_heap.proofs.Owning.{let_go-sound}
 use Rattle.cc_laws_heap.proofs.Writes.{native_register-sound}
 use Rattle.cc_laws_heap.proofs.MadeSound.{with_native-sound}
-use Rattle.cc_laws_heap.proofs.NativeCommands.{IsIn-made}
+use Rattle.cc_laws_heap.proofs.NativeCommands.{IsIn-made, make_native-sound}
 use Rattle.cc_laws_heap.proofs.HoldsTheSame.{HoldsTheSame-add_ref, native_names-alike}
 use Rattle.cc_lists.proofs.ListWrites.{changed_where, changed_where-either, map-kept}
 use Rattle.cc_laws_heap.proofs.ScriptCommands.{blank}
@@ -32,41 +32,19 @@ use Rattle.cc_laws_snapshot.specs.KindsSuspected.{IsSuspectedIn, IsReachedNative
 use Rattle.cc_laws_snapshot.proofs.BufferMarks.{IsPurple, buffer-place}
 use Rattle.cc_laws_snapshot.proofs.NamesAndEdges.{living-same}
 use Rattle.cc_laws_snapshot.proofs.LoyalSuspected.{loyal-suspected}
-use Rattle.cc_laws_snapshot.proofs.Handing.{edge-to, edge-from_slot, edge-from_reflector, handed-loyal}
+use Rattle.cc_laws_snapshot.proofs.Handing.{edge-to, edge-from_slot, edge-from_reflector, handed-loyal, hands-loyal}
 use Rattle.cc_laws_snapshot.proofs.Handed.{TakesUp, TakesUp-nothing, TakesUp-add_ref, TakesUp-with_native, made-living, Hands-register, Still}
-use Rattle.cc_laws_snapshot.proofs.StillNatives.{Still-refl, Still-script_last, Still-exposed, Still-change_script, Still-flag, Still-set_entry, Still-make_object}
+use Rattle.cc_laws_snapshot.proofs.StillNatives.{Still-refl, Still-script_last, Still-exposed, Still-change_script, Still-flag, Still-set_entry, Still-make_object, Hands-taken}
 use Rattle.cc_laws_snapshot.proofs.KindsLoyal.{HasScriptNames, HasScriptNames-well_formed, buffers-suspected}
+use Rattle.cc_laws_snapshot.proofs.CommandsLoyal.{make_native-loyal}
 
 -- A native made
 
 -- A native is made, and a register holds it.
 pub native_made-suspected : (owned : List ℕ) (h : Heap) (candidates : List ℕ) (d n : ℕ) → IsSound owned h → d < 256 → n ≤ 64 →
     h.natives_made < h.limits.natives → IsSuspectedIn h candidates → IsSuspectedIn (make_native h d n).heap candidates
-unfolding make_native
-native_made-suspected owned h candidates d n s room few allowed =
-    loyal-suspected h (let_go written old).heap candidates s.well_formed later
-    (handed-loyal owned old h written s.well_formed sound (Hands-register h made d new enough (TakesUp-with_native h n) (made-living h n)))
-  where
-    made : Heap
-    made = with_native h n
-
-    new : Option Name
-    new = Some (native (h.natives_made + 1))
-
-    old : Option Name
-    old = register made (N d)
-
-    written : Heap
-    written = set_register made (N d) new
-
-    enough : d < length made.native_registers
-    enough = omega (arith, s.well_formed.registers.0)
-
-    sound : IsSound (numbers_of old ++ owned) written
-    sound = native_register-sound owned made d new room (IsIn-made h n s.well_formed) (with_native-sound owned h n s few allowed)
-
-    later : IsWellFormed (let_go written old).heap
-    later = (let_go-sound owned written old sound).well_formed
+native_made-suspected owned h candidates d n s room few allowed = loyal-suspected h (make_native h d n).heap candidates s.well_formed
+    (make_native-sound owned h d n room few allowed s).well_formed (make_native-loyal h d n room few allowed s)
 
 -- Natives as they are, or one of them referred to that is reached
 
@@ -74,47 +52,8 @@ native_made-suspected owned h candidates d n s room few allowed =
 taken-suspected : (h i g : Heap) (candidates : List ℕ) (x : Option Name) → IsWellFormed h → HasScriptNames g → TakesUp h i x →
     native_names i ≡ native_names h → Still i g → IsReachedNative (view g) x → IsSuspectedIn h candidates → IsSuspectedIn g candidates
 taken-suspected h i g candidates x w named t names s reached =
-    buffers-suspected h g candidates (view h).buffer (view h).purple (view g).buffer (view g).purple w named loyal
-  where
-    edge : (y : Name) (j : ℕ) → Among (y, native j) (view h).edges → Among (y, native j) (view g).edges
-    edge y j m = ⊎_elim
-        (λ a.
-        let k = t.natives a.0 a.1 in
-        let l = s.natives k.0 k.1 in
-        let slots : l.0.slots ≡ a.0.slots = l.3 ∙ ap (λ (u : Uncounted). u.slots) k.2 in
-        let number : l.0.number ≡ a.0.number = l.2 ∙ ap (λ (u : Uncounted). u.number) k.2 in
-        subst (λ z. Among (z, native j) (view g).edges) (ap native number ∙ a.2)
-        (edge-from_slot g l.0 (native j) l.1 (subst (λ z. Among (native j) (contents z)) (sym slots) a.3)))
-        (λ a. subst (λ z. Among (z, native j) (view g).edges) a.0 (edge-from_reflector g j (s.reflectors j (t.reflectors j a.1))))
-        (edge-to h y j w m)
-
-    held : (j : ℕ) → Among (native j) (view h).registers → Among (native j) (view g).registers
-    held j m = ⊎_elim
-        (λ n. Among-left (native j) (contents g.native_registers) (contents g.script_registers)
-        (subst (λ z. Among (native j) (contents z)) (sym (s.registers ∙ t.registers)) n))
-        (λ n. absurd (native-no_script h j w (w.script_registers (native j) n)))
-        (Among-append (native j) (contents h.native_registers) (contents h.script_registers) m)
-
-    marked : (j : ℕ) → IsPurple h j → PurpleOrGone (view g) j ⊎ ReachedIn (view g) (native j)
-    marked j p = ⊎_elim
-        (λ q. inl (inl (subst (λ bs. Among (native j) (map buffered (filter (λ b. b.purple) bs))) (sym s.buffer) q)))
-        (λ m. inr (reached j m)) (t.purple j p)
-
-    entered : (y : Name) → Among y (view g).buffer → Among y (view h).buffer ⊎ (Among y (view g).purple ⊎ ReachedIn (view g) y)
-    entered y m =
-        let f = buffer-place g y m in
-        subst (λ z. Among z (view h).buffer ⊎ (Among z (view g).purple ⊎ ReachedIn (view g) z)) f.2
-        (⊎_elim (λ q. inl q) (λ n. inr (inr (reached f.0.number n)))
-        (t.buffer f.0.number (subst (λ bs. Among (native f.0.number) (map buffered bs)) s.buffer (subst (λ z. Among z (view g).buffer) (sym f.2) m))))
-
-    loyal : IsLoyal (view h) (view g)
-    loyal = record {
-      edge = λ y j m. inl (edge y j m);
-      register = λ j m. inl (held j m);
-      purple = marked;
-      buffer = entered;
-      living = λ y l. inl (living-same h g (s.names ∙ names) y l);
-    }
+    buffers-suspected h g candidates (view h).buffer (view h).purple (view g).buffer (view g).purple w named
+    (hands-loyal h g w (Hands-taken h i g x t names s reached))
 
 -- natives stay as they are
 still-suspected : (h g : Heap) (candidates : List ℕ) → IsWellFormed h → HasScriptNames g → Still h g → IsSuspectedIn h candidates → IsSuspectedIn g candidates
@@ -157,9 +96,7 @@ reflector_made-suspected h candidates k w r = taken-suspected h (add_ref h k) (w
 -- an exposure keeps names
 HasScriptNames-exposed : (h : Heap) (x : Option Name) → HasScriptNames h → HasScriptNames (exposed h x)
 unfolding exposed
-HasScriptNames-exposed h None all = all
-HasScriptNames-exposed h (Some x) all = HasScriptNames-map h (changed_where (λ o. has same_name (exposed_names h x) o.name) as_black)
-    (λ o. changed_where-either (λ p. p.name ≡ o.name) (λ o. has same_name (exposed_names h x) o.name) as_black o (λ e. refl) refl) all
+HasScriptNames-exposed h x all = grind (arith, HasScriptNames-map, changed_where-either)
 
 -- Something is exposed.
 pub exposed-suspected : (h : Heap) (candidates : List ℕ) (x : Option Name) → IsWellFormed h → IsSuspectedIn h candidates → IsSuspectedIn (exposed h x) candidates
@@ -168,15 +105,14 @@ exposed-suspected h candidates x w = still-suspected h (exposed h x) candidates 
 -- A native that is reached is wrapped.
 pub wrapped-suspected : (h : Heap) (candidates : List ℕ) (x : Option Name) → IsWellFormed h → IsReachedNative (view (wrapped h x)) x →
     IsSuspectedIn h candidates → IsSuspectedIn (wrapped h x) candidates
-wrapped-suspected h candidates None w r s = s
-wrapped-suspected h candidates (Some (name.Script k)) w r s = s
-wrapped-suspected h candidates (Some (name.Reflector k)) w r s = s
 wrapped-suspected h candidates (Some (name.Native k)) w r s = go (has_reflector h k.0) (r k.0 (inl refl))
   where
     go : (b : Bool) → ReachedIn (view (elim b [ true ↦ exposed h (Some (reflector k.0)) | false ↦ with_reflector h k.0 ])) (native k.0) →
         IsSuspectedIn (elim b [ true ↦ exposed h (Some (reflector k.0)) | false ↦ with_reflector h k.0 ]) candidates
     go true q = exposed-suspected h candidates (Some (reflector k.0)) w s
     go false q = reflector_made-suspected h candidates k.0 w q s
+
+wrapped-suspected h candidates _ w r s = s
 
 -- Slots of script objects, flags and entries
 
@@ -196,10 +132,7 @@ flag_written-suspected h candidates k on w = still-suspected h (set_preserved h 
 
 -- an entry written leaves script objects
 set_entry-scripts : (h : Heap) (m k : Name) (v : Option Name) → HasScriptNames h → HasScriptNames (set_entry h (Some m) (Some k) v)
-set_entry-scripts h m k None all = all
-set_entry-scripts h m (name.Native k) (Some v) all = all
-set_entry-scripts h m (name.Script k) (Some v) all = all
-set_entry-scripts h m (name.Reflector k) (Some v) all = all
+set_entry-scripts h m k v all = grind arith
 
 -- An entry is written.
 pub entry_written-suspected : (h : Heap) (candidates : List ℕ) (m k : Name) (v : Option Name) → IsWellFormed h →

@@ -1,6 +1,6 @@
 -- A LOYAL CHANGE OF VIEWS FORGETS NO NATIVE, whatever counts as purple in the buffer: of views whose edges start at what
 -- is there, and whose script objects and values of entries have names of script objects.
-use Rattle.std.proofs.Common.{◌≡◌, ℕ, Bool, true, false, List, [], ◌++◌, map, refl, sym, ◌∙◌, ap, subst, inl, inr, ◌⊎◌, ⊎_elim}
+use Rattle.std.proofs.Common.{arith, ◌≡◌, ℕ, Bool, true, false, List, [], ◌++◌, map, refl, sym, ◌∙◌, ap, subst, inl, inr, ◌⊎◌, ⊎_elim}
 use Rattle.std.proofs.lemmas.Bool.{true≢false, false≢true, not_from_false}
 use Rattle.cc_lists.specs.Members.{Among, has}
 use Rattle.cc_lists.proofs.Members.{Among-map, Among-map_cases, Among-left, Among-right, Among-append, Among-filter, Among-filtered, Among_or_not}
@@ -89,12 +89,7 @@ module _ (v w : View) (candidates : List ℕ) (before : IsNamed v) (values : Has
 
   -- a script object that is there is reached or covered
   there-fine : (y : Name) → IsScriptThere w y → Fine y
-  there-fine y m = go (has same_name (reached_in w) y) refl
-    where
-      go : (b : Bool) → has same_name (reached_in w) y ≡ b → Fine y
-      go true e = inl ((closure-decides same_name same_name-exact (view_rules w) y).0 e)
-      go false e = inr (inl (covered-root y (Among-right y w.purple (unreached_scripts w)
-          (Among-filter (is_unreached w) y (scripts_there w) m (not_from_false (has same_name (reached_in w) y) e)))))
+  there-fine y m = grind (arith, closure-decides, same_name-exact, covered-root, Among-right, Among-filter)
 
   -- a script name is fine
   script-fine : (y : Name) → is_script y ≡ true → Fine y
@@ -124,23 +119,15 @@ module _ (v w : View) (candidates : List ℕ) (before : IsNamed v) (values : Has
   -- along an edge from what is fine
   along-fine : (x y : Name) → Among (x, y) v.edges → Fine x → Fine y
   along-fine x (name.Native i) e f = ⊎_elim (λ kept. along-kept x (native i.0) kept f) (lost_or_reached-fine i.0) (loyal.edge x i.0 e)
-  along-fine x (name.Script i) e f = script-fine (object i.0) refl
-  along-fine x (name.Reflector i) e f = script-fine (reflector i.0) refl
+  along-fine x y e f = script-fine y refl
 
   -- what the registers hold is fine
   register-fine : (x : Name) → Among x v.registers → Fine x
-  register-fine (name.Native i) m = ⊎_elim
-      (λ kept. inl (derive-root w.registers w.edges (joints w.entries) (native i.0) kept))
-      (lost_or_reached-fine i.0) (loyal.register i.0 m)
-  register-fine (name.Script i) m = script-fine (object i.0) refl
-  register-fine (name.Reflector i) m = script-fine (reflector i.0) refl
+  register-fine x m = grind (arith, derive-root, lost_or_reached-fine, script-fine)
 
   -- the values of entries are fine
   value-fine : (ps : List Name) (y : Name) → Among (ps, y) (joints v.entries) → Fine y
-  value-fine ps y m =
-      let f = Among-map_cases joint v.entries (ps, y) m in
-      let value : f.0.value ≡ y = ap (λ (p : List Name × Name). p.1) f.2 in
-      subst Fine value (script-fine f.0.value (values f.0 f.1))
+  value-fine ps y m = grind (arith, Among-map_cases, script-fine)
 
   -- what was reached is fine
   reached-fine : (x : Name) → ReachedIn v x → Fine x
@@ -148,9 +135,7 @@ module _ (v w : View) (candidates : List ℕ) (before : IsNamed v) (values : Has
 
   -- what was purple is fine
   purple-fine : (x : Name) → Among x v.purple → Fine x
-  purple-fine (name.Native i) m = lost_or_reached-fine i.0 (loyal.purple i.0 m)
-  purple-fine (name.Script i) m = script-fine (object i.0) refl
-  purple-fine (name.Reflector i) m = script-fine (reflector i.0) refl
+  purple-fine x m = grind (arith, lost_or_reached-fine, script-fine)
 
   -- what was covered is fine
   covered-fine : (x : Name) → IsCovered v x → Fine x
@@ -169,8 +154,7 @@ module _ (v w : View) (candidates : List ℕ) (before : IsNamed v) (values : Has
   from-along x (name.Native i) e c = ⊎_elim
       (λ kept. inl (derive-along (map native candidates) w.edges [] x (native i.0) kept c))
       (λ l. inr (lost_or_reached-fine i.0 l)) (loyal.edge x i.0 e)
-  from-along x (name.Script i) e c = inr (script-fine (object i.0) refl)
-  from-along x (name.Reflector i) e c = inr (script-fine (reflector i.0) refl)
+  from-along x y e c = inr (script-fine y refl)
 
   -- what was reached from a candidate is so afterwards, or fine
   candidate-fine : (x : Name) → IsFromCandidate v candidates x → FromOrFine x

@@ -1,5 +1,5 @@
 -- WHAT IS WRITTEN keeps every snapshot fresh: a reference, a register, a slot, a flag, an entry.
-use Rattle.std.proofs.Common.{◌≡◌, ℕ, ◌<◌, Bool, true, false, cond, List, [], ◌∷◌, map, length, Option, Some, None, refl, sym, ◌∙◌, ap, subst, inl, inr, ⊎_elim, slice_index_or}
+use Rattle.std.proofs.Common.{arith, ◌≡◌, ℕ, ◌<◌, Bool, true, false, cond, List, [], ◌∷◌, map, length, Option, Some, None, refl, sym, ◌∙◌, ap, subst, inl, inr, ⊎_elim, slice_index_or}
 use Rattle.std.specs.Prelude.{IsTrue}
 use Rattle.std.specs.List.{filter}
 use Rattle.std.specs.Option.{option_to_list}
@@ -145,10 +145,7 @@ flag_written-fresh h s k on pale = fresh-by h.natives_made h.natives_made (view 
 
 -- an entry written keeps the colours
 entry-colours : (h : Heap) (m k : Name) (v : Option Name) → KeepsColours (view h) (view (set_entry h (Some m) (Some k) v))
-entry-colours h m k None = record { black = λ x i. i; white = refl; held = λ x i j. inl i }
-entry-colours h m (name.Native k) (Some v) = record { black = λ x i. i; white = refl; held = λ x i j. inl i }
-entry-colours h m (name.Script k) (Some v) = record { black = λ x i. i; white = refl; held = λ x i j. inl i }
-entry-colours h m (name.Reflector k) (Some v) = record { black = λ x i. i; white = refl; held = λ x i j. inl i }
+entry-colours h m k v = grind arith
 
 -- An entry is written.
 pub entry_written-fresh : (h : Heap) (s : Snapshot) (m k : Name) (v : Option Name) → ¬ (Among k (view h).gray) → IsNotGrayIn (view h) v →

@@ -40,6 +40,7 @@ pub mod CommandsLoyal
 pub mod CommandsSuspected
 pub mod GivingBack
 pub mod SweepLoses
+pub mod ClosedOff
 pub mod UncoveredWhite
 pub mod EndLoses
 pub mod EndSuspected

@@ -1,6 +1,6 @@
 -- A LOYAL CHANGE FORGETS NO NATIVE: what the registers reached, or was covered, is so afterwards, or gone; and changes
 -- that only lose references are loyal.
-use Rattle.std.proofs.Common.{ℕ, List, inl, inr, ⊎_elim}
+use Rattle.std.proofs.Common.{arith, ℕ, List, inl, inr, ⊎_elim}
 use Rattle.cc_model.specs.Heap.{Heap}
 use Rattle.cc_model.specs.View.{View, view}
 use Rattle.cc_model.specs.WellFormed.{IsWellFormed}
@@ -28,10 +28,4 @@ loses-loyal v w l = record {
 
 -- where nothing changes, nothing is lost
 pub loses-same : (v : View) → Loses v v
-loses-same v = record {
-  edge = λ x i m. inl m;
-  register = λ i m. inl m;
-  purple = λ i m. inl m;
-  buffer = λ x m. inl m;
-  living = λ x a. a;
-}
+loses-same v = grind arith

@@ -1,5 +1,5 @@
 -- THE NAMES IN THE BUFFER after a mark was set.
-use Rattle.std.proofs.Common.{◌≡◌, ℕ, Bool, true, false, List, [], ◌∷◌, map, refl, sym, ◌∙◌, ap, subst, inl, inr, ◌⊎◌, ⊎_elim, ◌==◌}
+use Rattle.std.proofs.Common.{arith, ◌≡◌, ℕ, Bool, true, false, List, [], ◌∷◌, map, refl, sym, ◌∙◌, ap, subst, inl, inr, ◌⊎◌, ⊎_elim, ◌==◌}
 use Rattle.std.specs.List.{filter}
 use Rattle.std.proofs.lemmas.Bool.{eqb-true}
 use Rattle.cc_lists.specs.Members.{Among}
@@ -53,9 +53,4 @@ with_mark-stays m k (c ∷ bs) b i = go (with_mark-stays m k bs b) (c.number == 
 
 -- who was there stays there
 pub with_mark-keeps : (m : Bool) (k : ℕ) (bs : List Buffered) (x : Name) → Among x (names_in bs) → Among x (names_in (with_mark m k bs))
-with_mark-keeps m k bs x i =
-    let f = Among-map_cases buffered bs x i in
-    ⊎_elim
-    (λ e. subst (λ y. Among y (names_in (with_mark m k bs))) (ap native (sym e) ∙ f.2) (with_mark-there m k bs))
-    (λ t. subst (λ y. Among y (names_in (with_mark m k bs))) f.2 (Among-map buffered f.0 (with_mark m k bs) t))
-    (with_mark-stays m k bs f.0 f.1)
+with_mark-keeps m k bs x i = grind (arith, Among-map_cases, with_mark-there, Among-map, with_mark-stays)

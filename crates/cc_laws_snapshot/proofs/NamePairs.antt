@@ -1,5 +1,5 @@
 -- Names and pairs of names told apart.
-use Rattle.std.proofs.Common.{◌≡◌, ◌∙◌, true, sym, ap, inl, inr, ◌⊎◌, ⊎_elim}
+use Rattle.std.proofs.Common.{arith, ◌≡◌, ◌∙◌, true, sym, ap, inl, inr, ◌⊎◌, ⊎_elim}
 use Rattle.std.proofs.lemmas.Bool.{cases_Bool, and_parts, and_from, true≢false, false≢true}
 use Rattle.cc_names.specs.declared.name.Name.{Name}
 use Rattle.cc_names.specs.declared.name.Name.TheVariants as name
@@ -13,9 +13,7 @@ name_cases x y = ⊎_elim (λ e. inl (same_name-true x y e)) (λ e. inr (λ k. t
 
 -- a script object is no native
 pub native-no_script : (x : Name) → is_native x ≡ true → is_script x ≡ true → ⊥
-native-no_script (name.Native i) e f = false≢true f
-native-no_script (name.Script i) e f = false≢true e
-native-no_script (name.Reflector i) e f = false≢true e
+native-no_script x e f = grind arith
 
 -- two names as a pair
 abbrev pair_of : Name → Name → Name × Name

@@ -29,6 +29,8 @@ use Rattle.cc_lists.proofs.CountsOf.{false-left, count_by-none}
 use Rattle.cc_laws_snapshot.proofs.Marked.{names_in, with_mark-there, with_mark-keeps}
 use Rattle.cc_laws_snapshot.proofs.GentleBut.{AreGentleBut, AreGentle, IsGentleBut-registers, AreGentle-refl}
 use Rattle.cc_laws_snapshot.proofs.NativesChange.{IsOut, AreGentleBut-natives, AreGentleBut-one}
+use Rattle.cc_laws_heap.proofs.ViewEdges.{native_edges-are}
+use Rattle.cc_laws_snapshot.proofs.Edges.{native_edges-has}
 
 -- Registers
 
@@ -51,10 +53,8 @@ add_ref-gentle h k = AreGentleBut-one [] h k raise_native (with_mark false k h.b
 
 -- So is a reference to what a register or a slot is to hold.
 pub take_up-gentle : (h : Heap) (x : Option Name) → AreGentle h (take_up h x)
-take_up-gentle h None = AreGentle-refl h
 take_up-gentle h (Some (name.Native k)) = add_ref-gentle h k.0
-take_up-gentle h (Some (name.Script k)) = AreGentle-refl h
-take_up-gentle h (Some (name.Reflector k)) = AreGentle-refl h
+take_up-gentle h _ = AreGentle-refl h
 
 -- the natives among what is to be held are in the buffer
 abbrev pub AreTaken : Heap → Option Name → Type 0
@@ -62,11 +62,7 @@ AreTaken h x = (k : ℕ) → Among (native k) (option_to_list x) → Among (nati
 
 -- and are once their reference is taken
 pub take_up-taken : (h : Heap) (x : Option Name) → AreTaken (take_up h x) x
-take_up-taken h None k m = absurd m
-take_up-taken h (Some (name.Native i)) k m = ⊎_elim
-    (λ e. subst (λ y. Among y (names_in (with_mark false i.0 h.buffer))) e (with_mark-there false i.0 h.buffer)) (λ t. absurd t) m
-take_up-taken h (Some (name.Script i)) k m = ⊎_elim (λ e. absurd (cc)) (λ t. absurd t) m
-take_up-taken h (Some (name.Reflector i)) k m = ⊎_elim (λ e. absurd (cc)) (λ t. absurd t) m
+take_up-taken h x k m = grind (arith, with_mark-there)
 
 -- Slots of natives
 
@@ -77,8 +73,7 @@ IsNotGray h x = (y : Name) → Among y (option_to_list x) → ¬ (Among y (view 
 -- the flag of a native makes no edge to a native
 pub between-preserved : (w : Name) (k j : ℕ) (b : Bool) →
     count_by (between w (native k)) (elim b [ true ↦ from_to (native j) (reflector j) ∷ [] | false ↦ [] ]) ≡ 0
-between-preserved w k j true = refl
-between-preserved w k j false = refl
+between-preserved w k j b = grind arith
 
 -- names of which native k is none make no edge to it
 pub none-to : (w x : Name) (k : ℕ) (ys : List Name) → ¬ (Among (native k) ys) → count_by (λ y. between w (native k) (from_to x y)) ys ≡ 0
@@ -125,17 +120,11 @@ module _ (h : Heap) (k i : ℕ) (there : HeapNative) (x : Option Name) (w : IsWe
 
   -- what is held that is gray was held
   slot-gray : IsNotGray h x → (n : HeapNative) (e : Name × Name) → Among e (native_edges (with_native_slot i x n)) → Among e.1 (view h).gray → Among e (native_edges n)
-  slot-gray pale n e m g = ⊎_elim
-      (λ l. let f = Among-map_cases (from_to here) (contents (set n.slots i x)) e l in ⊎_elim
-      (λ new. absurd (pale f.0 new (subst (λ y. Among y (view h).gray) (ap (λ (p : Name × Name). p.1) (sym f.2)) g)))
-      (λ old. Among-left e (slot_edges here n.slots) (preserved_edge n)
-      (subst (λ (p : Name × Name). Among p (slot_edges here n.slots)) f.2 (Among-map (from_to here) f.0 (contents n.slots) old)))
-      (Among-flat_map_set option_to_list n.slots i x f.0 f.1))
-      (λ r. Among-right e (slot_edges here n.slots) (preserved_edge n) r)
-      (Among-append e (slot_edges here (set n.slots i x)) (preserved_edge n) m)
-    where
-      here : Name
-      here = native n.number
+  slot-gray pale n e m g =
+      let p = native_edges-are (with_native_slot i x n) e.0 e.1 m in
+      native_edges-has n e.0 e.1 p.0 (⊎_elim
+      (λ c. ⊎_elim (λ new. absurd (pale e.1 new g)) (λ old. inl old) (Among-flat_map_set option_to_list n.slots i x e.1 c))
+      (λ q. inr q) p.1)
 
   -- A slot of a native written is gentle but for what it held.
   pub native_slot-gentle : i < length there.slots → AreTaken h x → IsNotGray h x →
@@ -174,29 +163,17 @@ flag-gentle h k on pale = AreGentleBut-one [] h k flagged h.buffer (record {
           between-preserved v j n.number n.preserved,
         )
 
-    edge_by : HeapNative → Bool → List (Name × Name)
-    edge_by n b = elim b [ true ↦ (native n.number, reflector n.number) ∷ [] | false ↦ [] ]
-
     -- what a flag that was set leads to is not gray
-    not_new : (n : HeapNative) (e : Name × Name) → has_number k n ≡ true → (b : Bool) → on ≡ b → Among e (edge_by n b) → ¬ (Among e.1 (view h).gray)
-    not_new n e s true q m g = ⊎_elim
-        (λ t. let named : reflector k ≡ e.1 = ap reflector (sym (eqb-true n.number k s)) ∙ ap (λ (p : Name × Name). p.1) t in
-        pale q (subst (λ y. Among y (view h).gray) (sym named) g))
-        (λ t. t) m
-    not_new n e s false q m g = m
-
     gray : (n : HeapNative) (e : Name × Name) → has_number k n ≡ true → Among e (native_edges (flagged n)) → Among e.1 (view h).gray → Among e (native_edges n)
-    gray n e s m g = ⊎_elim
-        (λ l. Among-left e (slot_edges (native n.number) n.slots) (preserved_edge n) l)
-        (λ r. absurd (not_new n e s on refl r g))
-        (Among-append e (slot_edges (native n.number) n.slots) (preserved_edge (flagged n)) m)
+    gray n e s m g =
+        let p = native_edges-are (flagged n) e.0 e.1 m in
+        native_edges-has n e.0 e.1 p.0 (⊎_elim (λ c. inl c)
+        (λ q. absurd (pale q.0 (subst (λ y. Among y (view h).gray) (sym (ap reflector (sym (eqb-true n.number k s)) ∙ q.1)) g))) p.1)
 
 -- So is a reflector preserved, where it is one and not gray.
 pub preserve-gentle : (h : Heap) (x : Option Name) → IsNotGray h x → AreGentle h (preserve h x)
-preserve-gentle h None pale = AreGentle-refl h
-preserve-gentle h (Some (name.Native k)) pale = AreGentle-refl h
-preserve-gentle h (Some (name.Script k)) pale = AreGentle-refl h
 preserve-gentle h (Some (name.Reflector k)) pale = flag-gentle h k.0 true (λ e. pale (reflector k.0) (inl refl))
+preserve-gentle h _ pale = AreGentle-refl h
 
 -- Natives made
 

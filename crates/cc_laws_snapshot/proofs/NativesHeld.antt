@@ -59,10 +59,8 @@ put_in_slot-gentle owned h d i x there f taken pale s = subst (λ (o : Outcome).
 
 -- a reference taken makes nothing gray
 not_gray-take_up : (h : Heap) (x : Option Name) → IsNotGray h x → IsNotGray (take_up h x) x
-not_gray-take_up h None pale = pale
 not_gray-take_up h (Some (name.Native k)) pale = pale
-not_gray-take_up h (Some (name.Script k)) pale = pale
-not_gray-take_up h (Some (name.Reflector k)) pale = pale
+not_gray-take_up h _ pale = pale
 
 -- The same with the reference taken first.
 pub store_native-gentle : (owned : List ℕ) (h : Heap) (d i : ℕ) (x : Option Name) → IsIn (names_there h) x → IsNotGray h x →

@@ -1,5 +1,5 @@
 -- The list of nodes: the first untraversed one gets a state, and new ones go last.
-use Rattle.std.proofs.Common.{◌≡◌, ◌≤◌, Bool, true, false, List, [], ◌∷◌, ◌++◌, map, Option, Some, refl, sym, ◌∙◌, ap, subst, inl, inr, ◌⊎◌, ⊎_elim, count_by}
+use Rattle.std.proofs.Common.{arith, ◌≡◌, ◌≤◌, Bool, true, false, List, [], ◌∷◌, ◌++◌, map, Option, Some, refl, sym, ◌∙◌, ap, subst, inl, inr, ◌⊎◌, ⊎_elim, count_by}
 use Rattle.std.specs.List.{list_all}
 use Rattle.std.proofs.lemmas.Bool.{and_parts, and_from, true≢false, false≢true}
 use Rattle.std.proofs.lemmas.List.{map_push}
@@ -27,9 +27,7 @@ is_open n = is_untraversed n.state
 
 -- the test of untraversed tells
 is_untraversed-true : (state : NodeState) → is_untraversed state ≡ true → state ≡ untraversed
-is_untraversed-true untraversed e = refl
-is_untraversed-true gone e = absurd (false≢true e)
-is_untraversed-true (traversed n) e = absurd (false≢true e)
+is_untraversed-true state e = grind arith
 
 -- names that are distinct are those of distinct nodes
 names-distinct : (ns : List Node) → ((x : Name) → count_by (same_name x) (names_of ns) ≤ 1) → HasDistinctNodes ns

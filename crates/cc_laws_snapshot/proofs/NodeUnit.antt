@@ -1,5 +1,5 @@
 -- THE UNIT OF A NODE on the heaps: what it notes and samples, and that it keeps a snapshot fresh.
-use Rattle.std.proofs.Common.{◌≡◌, ℕ, true, false, List, [], Option, Some, None, option_map, is_some, refl, sym, ◌∙◌, ap, subst, ◌⊎◌, ⊎_elim}
+use Rattle.std.proofs.Common.{arith, ◌≡◌, ℕ, true, false, List, [], Option, Some, None, option_map, is_some, refl, sym, ◌∙◌, ap, subst, ◌⊎◌, ⊎_elim}
 use Rattle.std.specs.List.{filter}
 use Rattle.std.proofs.lemmas.Bool.{or_left, or_right, false≢true}
 use Rattle.cc_lists.specs.Members.{Among}
@@ -65,8 +65,7 @@ sample-count h (name.Native k) c s m =
     let number : f.0.number ≡ k.0 = ap number_of f.2 in
     let found : native_at h k.0 ≡ Some f.0 = subst (λ i. native_at h i ≡ Some f.0) number (native_at-member h (IsWellFormed-distinct h s.well_formed) f.0 f.1) in
     ap (option_map (λ n. n.count)) found ∙ ap (λ n. Some n) f.3
-sample-count h (name.Script k) c s m = absurd (false≢true ((IsSound-view h s).named (object k.0) c m))
-sample-count h (name.Reflector k) c s m = absurd (false≢true ((IsSound-view h s).named (reflector k.0) c m))
+sample-count h x c s m = absurd (false≢true ((IsSound-view h s).named x c m))
 
 -- a native that lives has edges to read
 living-read : (h : Heap) (k : ℕ) → IsWellFormed h → IsLiving (view h) (native k) → is_some (edges_in h (native k)) ≡ true
@@ -84,26 +83,18 @@ script-found h x m =
 
 -- a name of a script object that is there has edges to read
 script-read : (h : Heap) (x : Name) → is_script x ≡ true → Among x (script_names h) → is_some (edges_in h x) ≡ true
-script-read h (name.Native k) e m = absurd (false≢true e)
-script-read h (name.Script k) e m = let f = script-found h (object k.0) m in ap (λ o. is_some (option_map (λ p. targets (script_edges p)) o)) f.1
-script-read h (name.Reflector k) e m = let f = script-found h (reflector k.0) m in ap (λ o. is_some (option_map (λ p. targets (script_edges p)) o)) f.1
+script-read h x e m = grind (arith, script-found)
 
 -- where nothing is noted, there were no edges to read
 nothing-read : (h : Heap) (x : Name) → to_note h x ≡ None → is_some (edges_in h x) ≡ false
-nothing-read h x e = go (edges_in h x) e
-  where
-    go : (o : Option (List Name)) → option_map (filter (is_noted h)) o ≡ None → is_some o ≡ false
-    go None f = refl
-    go (Some ys) f = absurd (cc)
+nothing-read h x e = grind arith
 
 -- A node whose object is no more is a native that does not live
 gone-native : (h : Heap) (s : Snapshot) (x : Name) → IsWellFormed h → IsFresh h.natives_made (view h) s → IsNode s x → to_note h x ≡ None →
     (i : ℕ) × (x ≡ native i) × (¬ (IsLiving (view h) x))
 gone-native h s (name.Native k) w fresh n e = (k.0, refl, λ l. false≢true (sym (nothing-read h (native k.0) e) ∙ living-read h k.0 w l))
-gone-native h s (name.Script k) w fresh n e =
-    absurd (false≢true (sym (nothing-read h (object k.0) e) ∙ script-read h (object k.0) refl (named-there h (object k.0) (fresh.script_nodes (object k.0) n refl))))
-gone-native h s (name.Reflector k) w fresh n e =
-    absurd (false≢true (sym (nothing-read h (reflector k.0) e) ∙ script-read h (reflector k.0) refl (named-there h (reflector k.0) (fresh.script_nodes (reflector k.0) n refl))))
+gone-native h s x w fresh n e =
+    absurd (false≢true (sym (nothing-read h x e) ∙ script-read h x refl (named-there h x (fresh.script_nodes x n refl))))
 
 -- The unit of a node keeps a snapshot fresh.
 pub after_node-fresh : (h : Heap) (s : Snapshot) (x : Name) → IsSound [] h → IsFresh h.natives_made (view h) s → first_untraversed s.nodes ≡ Some x →

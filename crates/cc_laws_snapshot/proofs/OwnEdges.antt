@@ -96,16 +96,12 @@ edges_in-targets h (name.Native k) ys w e = go (native_at h k.0) refl e
     go : (o : Option HeapNative) → native_at h k.0 ≡ o → option_map (λ n. targets (native_edges n)) o ≡ Some ys → HasTargets h (native k.0) ys
     go None f g = absurd (cc)
     go (Some n) f g = let same : targets (native_edges n) ≡ ys = cc in subst (HasTargets h (native k.0)) same (HasTargets-native h k.0 n w f)
-edges_in-targets h (name.Script k) ys w e = go (script_at h (object k.0)) refl e
+
+edges_in-targets h x ys w e = go (script_at h x) refl e
   where
-    go : (o : Option HeapScript) → script_at h (object k.0) ≡ o → option_map (λ o. targets (script_edges o)) o ≡ Some ys → HasTargets h (object k.0) ys
+    go : (o : Option HeapScript) → script_at h x ≡ o → option_map (λ o. targets (script_edges o)) o ≡ Some ys → HasTargets h x ys
     go None f g = absurd (cc)
-    go (Some o) f g = let same : targets (script_edges o) ≡ ys = cc in subst (HasTargets h (object k.0)) same (HasTargets-script h (object k.0) o w f)
-edges_in-targets h (name.Reflector k) ys w e = go (script_at h (reflector k.0)) refl e
-  where
-    go : (o : Option HeapScript) → script_at h (reflector k.0) ≡ o → option_map (λ o. targets (script_edges o)) o ≡ Some ys → HasTargets h (reflector k.0) ys
-    go None f g = absurd (cc)
-    go (Some o) f g = let same : targets (script_edges o) ≡ ys = cc in subst (HasTargets h (reflector k.0)) same (HasTargets-script h (reflector k.0) o w f)
+    go (Some o) f g = let same : targets (script_edges o) ≡ ys = cc in subst (HasTargets h x) same (HasTargets-script h x o w f)
 
 -- what it refers to is what its edges lead to
 pub HasTargets-edge : (h : Heap) (x : Name) (ys : List Name) → HasTargets h x ys → (y : Name) → Among y ys → Among (x, y) (view h).edges

@@ -158,7 +158,6 @@ set_entry-gentle h (Some m) (Some k) (Some v) pale_k pale_v = go k pale_k
     after x = record (preserve h (Some x)) { entries = with_entry h.entries m k v }
 
     go : (x : Name) → IsNotGray h (Some x) → AreGentle h (after x)
-    go (name.Native j) pale = set_first
-    go (name.Script j) pale = set_first
     go (name.Reflector j) pale = AreGentle-then h (with_entries h (with_entry h.entries m k v)) (after (reflector j.0)) set_first
         (preserve-gentle (with_entries h (with_entry h.entries m k v)) (Some (reflector j.0)) pale)
+    go _ pale = set_first

@@ -1,5 +1,5 @@
 -- WHEN A CHANGE OF SCRIPT OBJECTS IS GENTLE.
-use Rattle.std.proofs.Common.{◌≡◌, ℕ, Bool, true, List, [], ◌∷◌, ◌++◌, map, sym, ◌∙◌, ap, subst, inl, ⊎_elim, arith, count_by}
+use Rattle.std.proofs.Common.{◌≡◌, ℕ, Bool, true, List, [], ◌∷◌, ◌++◌, map, sym, ◌∙◌, ap, subst, inl, ⊎_elim, arith, count_by, inr}
 use Rattle.std.specs.List.{flat_map}
 use Rattle.std.proofs.lemmas.Bool.{false≢true}
 use Rattle.std.proofs.lemmas.Grind.{flat_map-append}
@@ -24,6 +24,8 @@ use Rattle.cc_laws_snapshot.proofs.SoundView.{living-native, there-named, named-
 use Rattle.cc_laws_snapshot.proofs.Marked.{names_in}
 use Rattle.cc_laws_snapshot.proofs.NativeParts.{none-to}
 use Rattle.cc_laws_snapshot.proofs.GentleBut.{AreGentle}
+use Rattle.cc_laws_heap.proofs.ViewEdges.{script_edges-are}
+use Rattle.cc_laws_snapshot.proofs.Edges.{script_edges-has}
 
 -- the heaps with other script objects, once so many were made
 abbrev pub with_those_scripts : Heap → List HeapScript → ℕ → Heap
@@ -124,14 +126,10 @@ ScriptsGently-each h f v c = record {
         test = between w (native k)
 
     held : (o : HeapScript) (e : Name × Name) → Among e (script_edges (f o)) → Among e.1 (view h).gray → Among e (script_edges o)
-    held o e m g = ⊎_elim
-        (λ l. let y = Among-map_cases (from_to (f o).name) (contents (f o).slots) e l in
-        let there : Among y.0 (contents o.slots) = c.slots o y.0 y.1 (subst (λ z. Among z (view h).gray) (ap (λ (p : Name × Name). p.1) (sym y.2)) g) in
-        Among-left e (script_slot_edges o) (edges_behind o.name)
-        (subst (λ (p : Name × Name). Among p (script_slot_edges o)) (ap (λ x. from_to x y.0) (sym (c.changes.name o)) ∙ y.2)
-        (Among-map (from_to o.name) y.0 (contents o.slots) there)))
-        (λ r. Among-right e (script_slot_edges o) (edges_behind o.name) (subst (λ x. Among e (edges_behind x)) (c.changes.name o) r))
-        (Among-append e (script_slot_edges (f o)) (edges_behind (f o).name) m)
+    held o e m g =
+        let p = script_edges-are (f o) e.0 e.1 m in
+        script_edges-has o e.0 e.1 (sym (c.changes.name o) ∙ p.0)
+        (⊎_elim (λ y. inl (c.slots o e.1 y g)) (λ q. inr (q.0, sym (c.changes.name o) ∙ q.1, q.2)) p.1)
 
 -- A script object made
 

@@ -67,17 +67,7 @@ living-native h u c m =
 
 -- a script object of any colour is there in the view
 pub there-script : (h : Heap) (o : HeapScript) → Among o h.scripts → IsScriptThere (view h) o.name
-there-script h o m = go o.colour refl
-  where
-    named : (p : HeapScript → Bool) → p o ≡ true → Among o.name (names_with p h.scripts)
-    named p e = Among-map (λ (q : HeapScript). q.name) o (filter p h.scripts) (Among-filter p o h.scripts m e)
-
-    go : (c : Colour) → o.colour ≡ c → IsScriptThere (view h) o.name
-    go Black e = Among-left o.name (view h).black ((view h).gray ++ (view h).white) (named (λ p. is_black_colour p.colour) (ap is_black_colour e))
-    go Gray e = Among-right o.name (view h).black ((view h).gray ++ (view h).white)
-        (Among-left o.name (view h).gray (view h).white (named (λ p. is_gray_colour p.colour) (ap is_gray_colour e)))
-    go White e = Among-right o.name (view h).black ((view h).gray ++ (view h).white)
-        (Among-right o.name (view h).gray (view h).white (named (λ p. is_white_colour p.colour) (ap is_white_colour e)))
+there-script h o m = grind (arith, Among-map, Among-filter, Among-left, Among-right)
 
 -- a script object's name is there in the view
 pub there-named : (h : Heap) (x : Name) → Among x (script_names h) → IsScriptThere (view h) x
@@ -120,10 +110,7 @@ edge-target h x y w m = ⊎_elim
 
 -- an edge from a native starts at one that is there
 edge-source : (h : Heap) (i : ℕ) (y : Name) → IsWellFormed h → Among (native i, y) (view h).edges → Among (native i) (native_names h)
-edge-source h i y w m = ⊎_elim
-    (λ a. subst (λ z. Among z (native_names h)) a.2 (Among-map (λ (n : HeapNative). native n.number) a.0 h.natives a.1))
-    (λ a. absurd (native-no_script (native i) refl (subst (λ z. is_script z ≡ true) a.2 (script-named h w a.0 a.1))))
-    (edge-of h (native i) y m)
+edge-source h i y w m = grind (arith, Among-map, native-no_script, script-named, edge-of)
 
 -- what holds script objects alone holds no native
 none-native : (h : Heap) (k : ℕ) (xs : List Name) → IsWellFormed h → ((x : Name) → Among x xs → Among x (script_names h)) → count_by (same_name (native k)) xs ≡ 0

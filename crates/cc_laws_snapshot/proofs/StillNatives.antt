@@ -104,18 +104,15 @@ Still-flag h k on = record {
 
 -- a reflector preserved
 pub Still-preserve : (h : Heap) (x : Option Name) → Still h (preserve h x)
-Still-preserve h None = Still-refl h
-Still-preserve h (Some (name.Native k)) = Still-refl h
-Still-preserve h (Some (name.Script k)) = Still-refl h
 Still-preserve h (Some (name.Reflector k)) = Still-flag h k.0 true
+Still-preserve h _ = Still-refl h
 
 -- an entry set or taken out
 pub Still-set_entry : (h : Heap) (m k v : Option Name) → Still h (set_entry h m k v)
-Still-set_entry h None k v = Still-refl h
-Still-set_entry h (Some m) None v = Still-refl h
 Still-set_entry h (Some m) (Some k) None = Still-entries h (without_entry h.entries m k)
 Still-set_entry h (Some m) (Some k) (Some v) = Still-trans h (preserve h (Some k)) (set_entry h (Some m) (Some k) (Some v))
     (Still-preserve h (Some k)) (Still-entries (preserve h (Some k)) (with_entry h.entries m k v))
+Still-set_entry h _ _ v = Still-refl h
 
 -- a slot of what a script register holds, which is no native, written
 pub Still-put_in_script : (h : Heap) (x : Option Name) (i : ℕ) (y : Option Name) → ((k : ℕ) → ¬ (Among (native k) (option_to_list x))) →
@@ -143,10 +140,10 @@ Still-make_object h d kind n = Still-trans h (with_script_last h o made) (make_o
 
 -- Natives wrapped
 
--- who was touched, and is in a native register, is reached whatever else changes
-Hands-taken : (h i g : Heap) (x : Option Name) → TakesUp h i x → native_names i ≡ native_names h → Still i g →
-    ((j : ℕ) → Among (native j) (option_to_list x) → Among (native j) (contents i.native_registers)) → Hands [] h g
-Hands-taken h i g x t names s there = record {
+-- who was touched is reached, and beside natives anything may change
+pub Hands-taken : (h i g : Heap) (x : Option Name) → TakesUp h i x → native_names i ≡ native_names h → Still i g →
+    ((j : ℕ) → Among (native j) (option_to_list x) → ReachedIn (view g) (native j)) → Hands [] h g
+Hands-taken h i g x t names s held = record {
   slots = λ n j m c.
       let k = t.natives n m in
       let slots : k.0.slots ≡ n.slots = ap (λ (u : Uncounted). u.slots) k.2 in
@@ -158,9 +155,6 @@ Hands-taken h i g x t names s there = record {
   buffer = λ j m. ⊎_elim (λ q. inl q) (λ n. inr (held j n)) (t.buffer j (subst (λ bs. Among (native j) (map buffered bs)) s.buffer m));
   living = λ j m. inl (subst (λ xs. Among (native j) xs) (s.names ∙ names) m);
 }
-  where
-    held : (j : ℕ) → Among (native j) (option_to_list x) → ReachedIn (view g) (native j)
-    held j m = register-reached g (native j) (subst (λ s. Among (native j) (contents s)) (sym s.registers) (there j m))
 
 -- what a native register holds is wrapped, and a script register holds the reflector
 pub Hands-wrapped : (h : Heap) (d : ℕ) (x : Option Name) → ((j : ℕ) → Among (native j) (option_to_list x) → Among (native j) (contents h.native_registers)) →
@@ -177,4 +171,4 @@ Hands-wrapped h d (Some (name.Native k)) there = go (has_reflector h k.0)
         (Still-trans (add_ref h k.0) (with_reflector h k.0) (set_register (with_reflector h k.0) (S d) (Some (reflector k.0)))
         (Still-script_last (add_ref h k.0) (blank (reflector k.0) Reflector reflector_slots) h.scripts_made)
         (Still-script_register (with_reflector h k.0) d (Some (reflector k.0))))
-        there
+        (λ j m. register-reached (set_register (with_reflector h k.0) (S d) (Some (reflector k.0))) (native j) (there j m))

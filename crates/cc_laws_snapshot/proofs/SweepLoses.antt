@@ -1,5 +1,5 @@
 -- A SCRIPT COLLECTION LOSES: each native that a swept reflector gave up is purple or gone.
-use Rattle.std.proofs.Common.{◌≡◌, ℕ, not, List, [], ◌∷◌, ◌++◌, refl, sym, ◌∙◌, ap, subst, inl, inr, ◌⊎◌, ⊎_elim}
+use Rattle.std.proofs.Common.{arith, ◌≡◌, ℕ, not, List, [], ◌∷◌, ◌++◌, refl, sym, ◌∙◌, ap, subst, inl, inr, ◌⊎◌, ⊎_elim}
 use Rattle.std.specs.List.{flat_map}
 use Rattle.std.proofs.lemmas.Bool.{cases_Bool}
 use Rattle.cc_lists.specs.Members.{Among}
@@ -36,13 +36,7 @@ edges-marked h = ap (λ es. flat_map native_edges h.natives ++ es) (flat_map-kep
 -- marking loses nothing
 marked-loses : (h : Heap) → LosesTo (stage [] [] h) (stage [] [] (marked h))
 unfolding marked
-marked-loses h = record {
-  lost = λ i p. p;
-  edge = λ x i m. inl (subst (λ es. Among (x, native i) es) (sym (edges-marked h)) m);
-  register = λ i m. inl m;
-  buffer = λ i m. inl m;
-  living = λ x l. l;
-}
+marked-loses h = grind (arith, edges-marked)
 
 -- nothing is lost where entries change
 entries-lose : (h : Heap) (es : List Entry) → LosesTo (stage [] [] h) (stage [] [] (record h { entries = es }))

@@ -28,12 +28,7 @@ pub record IsNotedOf (v : View) (x : Name) (ys : List Name) : Type 0 where
 
 -- references from x to each of a list: as many to u as u stands there
 between-from : (x u : Name) (ys : List Name) → count_by (between x u) (map (from_to x) ys) ≡ count_by (λ y. same_name y u) ys
-between-from x u ys = count_by-map (between x u) (from_to x) ys ∙ count_by-agree (λ y. same_name y u && same_name x x) (λ y. same_name y u) ys
-    (λ y m. go (same_name y u) (same_name x x) (same_name-refl x))
-  where
-    go : (a b : Bool) → b ≡ true → (a && b) ≡ a
-    go true b e = e
-    go false b e = refl
+between-from x u ys = grind (arith, count_by-map, count_by-agree, same_name-refl)
 
 -- and none from another name
 between-other : (x w u : Name) (ys : List Name) → ¬ (w ≡ x) → count_by (between w u) (map (from_to x) ys) ≤ 0

@@ -36,11 +36,7 @@ module _ (made : ℕ) (v : View) (s : Snapshot) (sound : IsSoundView made v) (fr
 
   -- a script node that is black in the heaps is black
   script-black : (x : Name) → is_script x ≡ true → Among x v.black → IsNode s x → BlackIn v s x
-  script-black (name.Native i) e b n = absurd (false≢true e)
-  script-black (name.Script i) e b n = let k = state-of s (object i.0) n in
-      seed-black (object i.0) k.0 k.1 (has-there same_name same_name-exact v.black (object i.0) b)
-  script-black (name.Reflector i) e b n = let k = state-of s (reflector i.0) n in
-      seed-black (reflector i.0) k.0 k.1 (has-there same_name same_name-exact v.black (reflector i.0) b)
+  script-black x e b n = grind (arith, state-of, seed-black, has-there, same_name-exact)
 
   -- what is black is a node
   black-node : (x : Name) → BlackIn v s x → IsNode s x
@@ -116,26 +112,21 @@ module _ (made : ℕ) (v : View) (s : Snapshot) (sound : IsSoundView made v) (fr
   -- a native that is a node is black; a script object is black in the heaps or in the snapshot
   abbrev Kept : Name → Type 0
   Kept (name.Native i) = IsNode s (native i.0) → BlackIn v s (native i.0)
-  Kept (name.Script i) = Among (object i.0) v.black ⊎ BlackIn v s (object i.0)
-  Kept (name.Reflector i) = Among (reflector i.0) v.black ⊎ BlackIn v s (reflector i.0)
+  Kept x = Among x v.black ⊎ BlackIn v s x
 
   -- then a node is black
   kept-black : (x : Name) → Kept x → IsNode s x → BlackIn v s x
   kept-black (name.Native i) k n = k n
-  kept-black (name.Script i) k n = ⊎_elim (λ b. script-black (object i.0) refl b n) (λ b. b) k
-  kept-black (name.Reflector i) k n = ⊎_elim (λ b. script-black (reflector i.0) refl b n) (λ b. b) k
+  kept-black x k n = ⊎_elim (λ b. script-black x refl b n) (λ b. b) k
 
   -- and a script object is black in the heaps or in the snapshot
   script-kept : (x : Name) → is_script x ≡ true → Among x v.black ⊎ BlackIn v s x → Kept x
-  script-kept (name.Native i) e k = absurd (false≢true e)
-  script-kept (name.Script i) e k = k
-  script-kept (name.Reflector i) e k = k
+  script-kept x e k = grind arith
 
   -- what a register holds is kept
   root-kept : (x : Name) → Among x v.registers → Kept x
   root-kept (name.Native i) held = register-black i.0 held
-  root-kept (name.Script i) held = inl (fresh.colours.held_black (object i.0) held refl)
-  root-kept (name.Reflector i) held = inl (fresh.colours.held_black (reflector i.0) held refl)
+  root-kept x held = inl (fresh.colours.held_black x held refl)
 
   -- a gray object that a node holds is black in the snapshot, where the node is
   gray-black : (x y : Name) → Among (x, y) v.edges → Among y v.gray → IsNode s x → Kept x → BlackIn v s y
@@ -157,24 +148,17 @@ module _ (made : ℕ) (v : View) (s : Snapshot) (sound : IsSoundView made v) (fr
     where
       from : (x : Name) → Among (x, y) v.edges → Kept x → Among y v.gray → Among y v.black ⊎ BlackIn v s y
       from (name.Native i) m k g = inr (gray-black (native i.0) y m g (fresh.gray_held i.0 y m g) k)
-      from (name.Script i) m k g = ⊎_elim (λ b. absurd (fresh.colours.black_to_black (object i.0) y b m g))
-          (λ b. inr (gray-black (object i.0) y m g (black-node (object i.0) b) k)) k
-      from (name.Reflector i) m k g = ⊎_elim (λ b. absurd (fresh.colours.black_to_black (reflector i.0) y b m g))
-          (λ b. inr (gray-black (reflector i.0) y m g (black-node (reflector i.0) b) k)) k
+      from x m k g = ⊎_elim (λ b. absurd (fresh.colours.black_to_black x y b m g))
+          (λ b. inr (gray-black x y m g (black-node x b) k)) k
 
   -- what an edge leads to is kept
   along-kept : (x y : Name) → Among (x, y) v.edges → Kept x → Kept y
   along-kept x (name.Native i) m k = native-kept x i.0 m k
-  along-kept x (name.Script i) m k = held-kept x (object i.0) refl m k
-  along-kept x (name.Reflector i) m k = held-kept x (reflector i.0) refl m k
+  along-kept x y m k = held-kept x y refl m k
 
   -- a premise of an entry's mapping is a node, and kept where the entry's member is
   member-black : (m : Option Name) (x : Name) → MemberOf v m x → MemberIsNode s m → Kept x → (p : Name) → Among p (option_to_list m) → BlackIn v s p
-  member-black None x o n k p i = absurd i
-  member-black (Some y) x o n k p i = ⊎_elim
-      (λ e. let same : y ≡ x = cc in
-      ⊎_elim (λ q. subst (BlackIn v s) q (subst (BlackIn v s) (sym same) (kept-black x k (subst (IsNode s) same n)))) (λ t. absurd t) i)
-      (λ b. let none : Some y ≡ None = b.0 in absurd (cc)) o
+  member-black m x o n k p i = grind (arith, kept-black)
 
   -- the value of an entry is kept where map and key are
   valued-kept : (e : Entry) → Among e v.entries → Kept e.the_map → Kept e.key → Kept e.value
@@ -202,12 +186,4 @@ module _ (made : ℕ) (v : View) (s : Snapshot) (sound : IsSoundView made v) (fr
 
   -- A native that is white is unreached.
   pub white-unreached : (i : ℕ) → IsWhite v s (native i) → ¬ (ReachedIn v (native i))
-  white-unreached i w reached =
-      let test : Name → Bool = is_white v (black_in v s) in
-      let n : IsNode s (native i) = Among-filtered test (native i) (node_names s) w in
-      let passes : test (native i) ≡ true = Among-passes test (native i) (node_names s) w in
-      let off : has same_name (black_in v s) (native i) ≡ false =
-      not-true (has same_name (black_in v s) (native i)) (and_parts (is_there v (native i)) (not (has same_name (black_in v s) (native i))) passes).1 in
-      let on : has same_name (black_in v s) (native i) ≡ true =
-      (closure-decides same_name same_name-exact (black_in_rules v s) (native i)).1 (reached-kept (native i) reached n) in
-      true≢false (sym on ∙ off)
+  white-unreached i w reached = grind (arith, Among-filtered, Among-passes, not-true, closure-decides, same_name-exact, reached-kept)

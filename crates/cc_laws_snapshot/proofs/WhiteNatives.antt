@@ -1,5 +1,5 @@
 -- THE NATIVES THAT ARE WHITE: they are there, by rising number, and no register reaches them.
-use Rattle.std.proofs.Common.{◌≡◌, ℕ, Bool, List, [], sym, subst, inl, ◌⊎◌, ⊎_elim, refl, ◌∙◌}
+use Rattle.std.proofs.Common.{arith, ◌≡◌, ℕ, Bool, List, [], sym, subst, inl, ◌⊎◌, ⊎_elim, refl, ◌∙◌}
 use Rattle.std.specs.List.{filter}
 use Rattle.cc_lists.specs.Members.{Among, has}
 use Rattle.cc_lists.proofs.Members.{Among-map, Among-map_cases, Among-filtered, Among-passes, Among-flat_map, has-among}
@@ -33,25 +33,12 @@ use Rattle.cc_laws_snapshot.proofs.Unreached.{white-unreached}
 -- the white natives are white
 white_natives-white : (h : Heap) (s : Snapshot) (k : ℕ) → Among k (white_natives h s) → IsWhite (view h) s (native k)
 unfolding white_natives
-white_natives-white h s k m =
-    let names : List Name = white_names (view h) s in
-    let f = Among-map_cases (λ (n : HeapNative). n.number) (filter (λ n. has same_name names (native n.number)) h.natives) k m in
-    let passes = Among-passes (λ (n : HeapNative). has same_name names (native n.number)) f.0 h.natives f.1 in
-    subst (λ j. Among (native j) names) f.2 (has-among same_name same_name-exact names (native f.0.number) passes)
+white_natives-white h s k m = grind (arith, Among-map_cases, Among-passes, has-among, same_name-exact)
 
 -- they are in the heaps, by rising number
 pub white_natives-there : (h : Heap) (s : Snapshot) → IsSound [] h → AreThere (white_natives h s) h
 unfolding white_natives
-white_natives-there h s sound = record {
-  rising = rising-part (λ (n : HeapNative). n.number) passes h.natives sound.well_formed.rising;
-  there = λ k m.
-      let f = Among-map_cases (λ (n : HeapNative). n.number) (filter passes h.natives) k m in
-      subst (λ j. Among (native j) (native_names h)) f.2
-      (Among-map (λ (n : HeapNative). native n.number) f.0 h.natives (Among-filtered passes f.0 h.natives f.1));
-}
-  where
-    passes : HeapNative → Bool
-    passes n = has same_name (white_names (view h) s) (native n.number)
+white_natives-there h s sound = grind (arith, rising-part, Among-map_cases, Among-map, Among-filtered)
 
 module _ (h : Heap) (s : Snapshot) (sound : IsSound [] h) (fresh : IsFresh h.natives_made (view h) s) (all : IsTraversed s) where
   -- No register reaches them over the heaps,
@@ -72,11 +59,7 @@ module _ (h : Heap) (s : Snapshot) (sound : IsSound [] h) (fresh : IsFresh h.nat
 
   -- It keeps the colour invariant,
   pub taking_white-colours : HasColourInvariant (view (take_away (white_natives h s) h).heap)
-  taking_white-colours =
-      let t = taking_white-takes.1 in
-      HasColourInvariant-from (take_away (white_natives h s) h).heap taking_white-sound.well_formed
-      (SameScripts-coloured h (take_away (white_natives h s) h).heap (record { scripts = t.scripts; registers = t.script_registers })
-      (AreColoured-from_view h sound.well_formed fresh.colours))
+  taking_white-colours = grind (arith, taking_white-takes, HasColourInvariant-from, taking_white-sound, SameScripts-coloured, AreColoured-from_view)
 
   module _ (g : Graph) (made : IsWellMade g) (stands : StandsFor h g) where
     -- leaves heaps that stand for the same graph,
