@@ -1,4 +1,5 @@
 -- CLOSURES AND DATA BY THEIR KEYS: of which element one speaks, and which is the data of an element.
+use Rattle.cc_heaps.proofs.ObjectsKept.{named-there}
 use Rattle.std.proofs.Common.{◌≡◌, ℕ, ◌==◌, ◌<◌, [], ◌∷◌, List, length, get_or, Option, Some, None, option_map, IsTrue, IsSome, refl, sym, ◌∙◌, ap, subst, arith}
 use Rattle.std.specs.Option.{option_and_then}
 use Rattle.std.proofs.Math.ListN.{get_or-map}
@@ -22,7 +23,6 @@ use Rattle.cc_script.specs.Objects as objects
 use Rattle.cc_heaps.specs.Keyed.{Keyed, IsInOrder, Reflects, counts_of, named_object, name_held, number_at, the_number, reflector_key}
 use Rattle.cc_heaps.specs.Changes.{native_name}
 use Rattle.cc_heaps.proofs.ContentNames.{object-there, key-of_name}
-use Rattle.cc_heaps.proofs.ScriptsChanged.{named-there}
 use Rattle.cc_mutator.proofs.NativesRead.{native-at}
 use Rattle.cc_mutator.proofs.ScriptsRead.{slots-of_object}
 use Rattle.cc_wrappers.proofs.ReflectorKeys.{object-at, reflector-at, reflector_at-number}

@@ -1,4 +1,5 @@
 -- WHAT THE CALLS OF THE COUNTED HEAP COME TO, with the rest of the parts beside it.
+use Rattle.cc_laws_heap.proofs.GraphParts.{is_some-found}
 use Rattle.std.proofs.Common.{◌≡◌, ℕ, ◌+◌, ◌≤◌, true, List, ◌∷◌, map, Option, Some, None, option_map, refl, sym, ◌∙◌, ap, subst, arith, if◌then◌else◌}
 use Rattle.std.specs.Option.{is_some}
 use Rattle.std.proofs.lemmas.Simd.{map-map}
@@ -32,11 +33,9 @@ pub number-named : (v : Keyed) (owned : List ℕ) (key k : ℕ) → IsInOrder ow
 number-named v owned key k o e = subst (λ xs. Among (native k) xs) (map-map (λ (n : HeapNative). native n.number) (keyed_native v.scripts) v.heap.natives) (o.keyed.there key k e)
 
 pub number-there : (owned : List ℕ) (v : Keyed) (key : ℕ) → IsInOrder owned v → is_some (number_at v key) ≡ true → Among (native (the_number v key)) (native_names v.heap)
-number-there owned v key o live = go (number_at v key) refl live
-  where
-    go : (x : Option ℕ) → number_at v key ≡ x → is_some x ≡ true → Among (native (number_or_none x)) (native_names v.heap)
-    go None e l = absurd (cc)
-    go (Some k) e l = number-named v owned key k o e
+number-there owned v key o live =
+    let f = is_some-found (number_at v key) live in
+    subst (λ x. Among (native (number_or_none x)) (native_names v.heap)) (sym f.1) (number-named v owned key f.0 o f.1)
 
 -- counts fit their type
 pub count-fits : (owned : List ℕ) (p : Inside) (k : ℕ) → IsInOrder owned (keyed_of p) → count_at (native_at (counts.heap_of p.counted) k) ≤ 64000257 + times k owned

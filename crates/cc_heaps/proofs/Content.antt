@@ -1,16 +1,17 @@
 -- WHAT CALLERS HAND IN AND GET BACK: its name, that it is there, and the references in hand.
-use Rattle.std.proofs.Common.{◌≡◌, ◌==◌, ℕ, true, List, [], ◌∷◌, ◌++◌, map, Option, Some, None, option_map, refl, sym, ◌∙◌, ap, subst, ⊎_elim, false}
+use Rattle.cc_laws_heap.proofs.Changing.{option_map-found}
+use Rattle.cc_lists.proofs.Held.{held-is, of-one}
+use Rattle.cc_heaps.proofs.Keys.{name-in}
+use Rattle.std.proofs.Common.{◌≡◌, ℕ, true, List, [], ◌∷◌, ◌++◌, Option, Some, None, option_map, refl, sym, ◌∙◌, ap, subst, false}
 use Rattle.std.specs.Option.{is_some, option_to_list}
 use Rattle.cc_lists.specs.Members.{Among}
 use Rattle.cc_lists.proofs.Members.{Among-left, Among-right, Among-map}
-use Rattle.cc_lists.proofs.Filtering.{find-among}
-use Rattle.std.proofs.lemmas.Simd.{map-map}
 use Rattle.cc_names.specs.declared.name.Name.{Name}
 use Rattle.cc_names.specs.declared.name.Name.TheVariants as name
 use Rattle.cc_names.specs.declared.number.NKey.{NKey}
 use Rattle.cc_names.specs.declared.number.SKey.{SKey}
-use Rattle.cc_names.specs.Names.{native, is_native}
-use Rattle.cc_model.specs.Heap.{Heap, HeapScript, silently}
+use Rattle.cc_names.specs.Names.{native, is_native, object}
+use Rattle.cc_model.specs.Heap.{Heap, silently}
 use Rattle.cc_model.specs.Cascade.{take_up, let_go}
 use Rattle.cc_model.specs.WellFormed.{native_names, script_names, names_there, FitsName}
 use Rattle.cc_laws_heap.proofs.Owning.{IsIn}
@@ -19,7 +20,7 @@ use Rattle.cc_counted.specs.declared.held.Held.{Held}
 use Rattle.cc_counted.specs.declared.held.Held.TheVariants as held
 use Rattle.cc_counted.specs.Counts.{name_of, numbers_held, number_or_none, native_held, held_of_native}
 use Rattle.cc_counted.specs.Owning.{CallersOwn}
-use Rattle.cc_script.specs.Objects.{Object, object_at, name_at}
+use Rattle.cc_script.specs.Objects.{Object}
 use Rattle.cc_heaps.specs.declared.heaps.Heaps.TheInside.{Inside}
 use Rattle.cc_heaps.specs.Keyed.{Keyed, IsInOrder, named_object, number_at, the_number}
 use Rattle.cc_heaps.specs.Changes.{IsThere, native_name, held_name}
@@ -44,12 +45,10 @@ pub native-numbers : (v : Keyed) (key : NKey) → is_some (number_at v key.0) �
 native-numbers v key live = ap (λ o. numbers_of (option_map native o)) (number-some (number_at v key.0) live)
 
 pub native-in : (owned : List ℕ) (v : Keyed) (x : Option NKey) → IsInOrder owned v → IsIn (native_names v.heap) (native_name v x)
-native-in owned v None o = λ y m. absurd m
-native-in owned v (Some key) o = go (number_at v key.0) refl
-  where
-    go : (n : Option ℕ) → number_at v key.0 ≡ n → IsIn (native_names v.heap) (option_map native n)
-    go None e = λ y m. absurd m
-    go (Some k) e = λ y m. ⊎_elim (λ f. subst (λ z. Among z (native_names v.heap)) f (number-named v owned key.0 k o e)) (λ f. absurd f) m
+native-in owned v None o y m = absurd m
+native-in owned v (Some key) o y m =
+    let f = option_map-found native (number_at v key.0) y (held-is (native_name v (Some key)) y m) in
+    subst (λ z. Among z (native_names v.heap)) f.2 (number-named v owned key.0 f.0 o f.1)
 
 -- the same as a slot holds it
 pub held_of_native-name : (v : Keyed) (x : Option NKey) → held_name v (held_of_native x) ≡ native_name v x
@@ -58,23 +57,11 @@ held_of_native-name v (Some key) = refl
 
 -- What slots hold
 
--- an object's name is a script object's
-script-in : (owned : List ℕ) (v : Keyed) (key : ℕ) → IsInOrder owned v → IsIn (script_names v.heap) (name_at v.scripts key)
-script-in owned v key o = go (object_at v.scripts key) refl
-  where
-    names : map (λ (p : Object). p.name) v.scripts ≡ script_names v.heap
-    names = sym (ap (λ ss. map (λ (s : HeapScript). s.name) ss) o.named ∙ map-map (λ (s : HeapScript). s.name) (named_object v.scripts) v.scripts)
-
-    go : (x : Option Object) → object_at v.scripts key ≡ x → IsIn (script_names v.heap) (option_map (λ (p : Object). p.name) x)
-    go None e = λ y m. absurd m
-    go (Some p) e = λ y m. ⊎_elim (λ f. subst (λ z. Among z (script_names v.heap)) f (subst (λ xs. Among p.name xs) names
-        (Among-map (λ (q : Object). q.name) p v.scripts (find-among (λ (q : Object). q.key == key) v.scripts p e)))) (λ f. absurd f) m
-
 -- what is held is there
 pub held-in : (owned : List ℕ) (v : Keyed) (x : Option Held) → IsInOrder owned v → IsIn (names_there v.heap) (held_name v x)
 held-in owned v None o = λ y m. absurd m
 held-in owned v (Some (held.Native key)) o = λ y m. Among-left y (native_names v.heap) (script_names v.heap) (native-in owned v (Some key) o y m)
-held-in owned v (Some (held.Script key)) o = λ y m. Among-right y (native_names v.heap) (script_names v.heap) (script-in owned v key.0 o y m)
+held-in owned v (Some (held.Script key)) o = λ y m. Among-right y (native_names v.heap) (script_names v.heap) (name-in v.heap v.scripts o.named key.0 y m)
 
 module _ (p : Inside) where
   abbrev v : Keyed
@@ -93,12 +80,10 @@ module _ (p : Inside) where
   -- what is put into a slot is there
   pub new-held : (x : Option Held) → IsThere v x → (y : Name) → Among y (option_to_list (name_of p.counted x)) → IsHeldThere p.scripts y
   new-held None there y m = absurd m
-  new-held (Some (held.Native key)) there y m = go (number_at v key.0) m
-    where
-      go : (n : Option ℕ) → Among y (option_to_list (option_map native n)) → IsHeldThere p.scripts y
-      go None a = absurd a
-      go (Some k) a = ⊎_elim (λ e. subst (IsHeldThere p.scripts) e tt) (λ e. absurd e) a
-  new-held (Some (held.Script key)) there y m = ⊎_elim (λ e. subst (IsHeldThere p.scripts) e there) (λ e. absurd e) m
+  new-held (Some (held.Native key)) there y m =
+      let f = option_map-found native (number_at v key.0) y (held-is (native_name v (Some key)) y m) in
+      subst (IsHeldThere p.scripts) f.2 tt
+  new-held (Some (held.Script key)) there y m = of-one (IsHeldThere p.scripts) (object key.0) there y m
 
   module _ (owned : List ℕ) (f : IsFit owned p) where
     -- a script object is no reference

@@ -1,16 +1,20 @@
 -- CONTENTS OF NATIVES BY NAMES: the counted heap shows the key of a script object, and the object at that key has its name.
-use Rattle.std.proofs.Common.{◌≡◌, ℕ, ◌==◌, true, List, Option, Some, None, is_some, option_map, option_and_then, IsTrue, IsSome, refl, sym, ◌∙◌, ap, subst, inl}
+use Rattle.cc_heaps.proofs.Reaching.{name_at-own}
+use Rattle.cc_heaps.proofs.ObjectsKept.{named-there}
+use Rattle.cc_heaps.proofs.Keys.{named-object}
+use Rattle.cc_lists.proofs.Held.{is_some-map}
+use Rattle.cc_laws_heap.proofs.Changing.{option_map-found}
+use Rattle.std.proofs.Common.{◌≡◌, ℕ, ◌==◌, List, Option, Some, None, is_some, option_map, option_and_then, IsTrue, refl, sym, ◌∙◌, ap, subst, inl}
 use Rattle.std.specs.List.{find}
-use Rattle.std.proofs.lemmas.Bool.{false≢true, eq-eqb}
+use Rattle.std.proofs.lemmas.Bool.{false≢true}
 use Rattle.cc_lists.specs.Members.{Among}
-use Rattle.cc_lists.proofs.Members.{Among-map, Among-map_cases}
+use Rattle.cc_lists.proofs.Members.{Among-map}
 use Rattle.cc_lists.proofs.Filtering.{find-among, find-passes}
-use Rattle.cc_lists.proofs.Searching.{find-some, find-only}
+use Rattle.cc_lists.proofs.Searching.{find-some}
 use Rattle.cc_names.specs.declared.name.Name.{Name}
 use Rattle.cc_names.specs.declared.name.Name.TheVariants as name
 use Rattle.cc_names.specs.Names.{native, object, same_name}
 use Rattle.cc_names.proofs.NameTests.{same_name-true, same_name-refl}
-use Rattle.cc_model.specs.Heap.{HeapScript}
 use Rattle.cc_model.specs.WellFormed.{script_names, names_there}
 use Rattle.cc_laws_heap.proofs.Owning.{IsIn}
 use Rattle.cc_laws_heap.proofs.Holding.{IsIn-no_native}
@@ -26,15 +30,6 @@ pub record IsHeldAs (v : Keyed) (x : Option Held) (y : Option Name) : Type 0 whe
   pub name : held_name v x ≡ y
   pub there : IsThere v x
 
-native-some : (o : Option ℕ) → is_some (option_map native o) ≡ true → IsSome o
-native-some None e = absurd (false≢true e)
-native-some (Some k) e = refl
-
--- what has a name is there
-name-there : (o : Option Object) (y : Name) → option_map (λ (o : Object). o.name) o ≡ Some y → is_some o ≡ true
-name-there None y e = absurd (cc)
-name-there (Some o) y e = refl
-
 module _ (owned : List ℕ) (v : Keyed) (order : IsInOrder owned v) where
   -- an object that is there stands in the heaps under its name
   pub object-there : (key : ℕ) (o : Object) → object_at v.scripts key ≡ Some o → Among (named_object v.scripts o) v.heap.scripts
@@ -43,24 +38,17 @@ module _ (owned : List ℕ) (v : Keyed) (order : IsInOrder owned v) where
 
   -- The object at the key of a name has that name.
   pub name-at_key : (y : Name) (q : ℕ) → key_of v.scripts y ≡ Some q → name_at v.scripts q ≡ Some y
-  name-at_key y q = go (find (λ (o : Object). same_name o.name y) v.scripts) refl
-    where
-      go : (f : Option Object) → find (λ (o : Object). same_name o.name y) v.scripts ≡ f → option_map (λ (o : Object). o.key) f ≡ Some q → name_at v.scripts q ≡ Some y
-      go None s e = absurd (cc)
-      go (Some o) s e =
-          let key : o.key ≡ q = cc in
-          let there : Among o v.scripts = find-among (λ (p : Object). same_name p.name y) v.scripts o s in
-          let at : object_at v.scripts q ≡ Some o = find-only (λ (p : Object). p.key == q) v.scripts o (order.one_key q) there (eq-eqb o.key q key) in
-          ap (λ (f : Option Object). option_map (λ (p : Object). p.name) f) at
-          ∙ ap (λ z. Some z) (same_name-true o.name y (find-passes (λ (p : Object). same_name p.name y) v.scripts o s))
+  name-at_key y q e =
+      let f = option_map-found (λ (o : Object). o.key) (find (λ (o : Object). same_name o.name y) v.scripts) q e in
+      let named : f.0.name ≡ y = same_name-true f.0.name y (find-passes (λ (p : Object). same_name p.name y) v.scripts f.0 f.1) in
+      ap (name_at v.scripts) (sym f.2)
+      ∙ (name_at-own v.scripts order.one_key f.0 (find-among (λ (p : Object). same_name p.name y) v.scripts f.0 f.1) ∙ ap (λ z. Some z) named)
 
   -- a name that is there has a key
   pub key-of_name : (y : Name) → Among y (script_names v.heap) → (q : ℕ) × (key_of v.scripts y ≡ Some q)
   key-of_name y m =
-      let s = Among-map_cases (λ (o : HeapScript). o.name) v.heap.scripts y m in
-      let o = Among-map_cases (named_object v.scripts) v.scripts s.0 (subst (Among s.0) order.named s.1) in
-      let same : o.0.name ≡ y = ap (λ (p : HeapScript). p.name) o.2 ∙ s.2 in
-      let f = find-some (λ (p : Object). same_name p.name y) v.scripts o.0 o.1 (ap (λ z. same_name z y) same ∙ same_name-refl y) in
+      let o = named-object v.heap v.scripts order.named y m in
+      let f = find-some (λ (p : Object). same_name p.name y) v.scripts o.0 o.1 (ap (λ z. same_name z y) o.2 ∙ same_name-refl y) in
       (f.0.key, ap (λ (g : Option Object). option_map (λ (p : Object). p.key) g) f.1)
 
   -- what is held by the key of a script object that is there
@@ -74,17 +62,16 @@ module _ (owned : List ℕ) (v : Keyed) (order : IsInOrder owned v) where
       number_in (Some (name.Script k)) = k.0
       number_in (Some (name.Reflector k)) = 0
 
-      no-native : (o : Option ℕ) (q : ℕ) → ¬ (option_map native o ≡ Some (object q))
-      no-native None q e = absurd (cc)
-      no-native (Some k) q e = absurd (cc)
-
       go : (x : Option Held) (q : ℕ) → key_of v.scripts y ≡ Some q → name_of (counts_of v) x ≡ Some (object q) → IsTrue (is_live (counts_of v) x) → IsHeldAs v x (Some y)
       go None q k e live = absurd (cc)
-      go (Some (held.Native key)) q k e live = absurd (no-native (number_at v key.0) q e)
+      go (Some (held.Native key)) q k e live =
+          let f = option_map-found native (number_at v key.0) (object q) e in
+          let apart : native f.0 ≡ object q = f.2 in
+          absurd (cc)
       go (Some (held.Script key)) q k e live =
           let same : key.0 ≡ q = ap number_in e in
           let at : name_at v.scripts key.0 ≡ Some y = ap (name_at v.scripts) same ∙ name-at_key y q k in
-          record { name = at; there = name-there (object_at v.scripts key.0) y at }
+          record { name = at; there = named-there v.scripts key.0 y at }
 
   -- WHAT THE COUNTED HEAP ANSWERS under the key of a name is held under that name, where it is there.
   pub content-named : (y : Option Name) (x : Option Held) → IsIn (names_there v.heap) y → name_of (counts_of v) x ≡ option_and_then (keyed_name v.scripts) y →
@@ -99,7 +86,7 @@ module _ (owned : List ℕ) (v : Keyed) (order : IsInOrder owned v) where
     where
       go : (x : Option Held) → name_of (counts_of v) x ≡ Some (name.Native k) → IsTrue (is_live (counts_of v) x) → IsHeldAs v x (Some (name.Native k))
       go None e live = absurd (cc)
-      go (Some (held.Native key)) e live = record { name = e; there = native-some (number_at v key.0) live }
+      go (Some (held.Native key)) e live = record { name = e; there = sym (is_some-map native (number_at v key.0)) ∙ live }
       go (Some (held.Script key)) e live = absurd (cc)
   content-named (Some (name.Script k)) x m e live =
       script-held (name.Script k) x (IsIn-no_native v.heap (Some (name.Script k)) m refl (name.Script k) (inl refl)) e live

@@ -1,5 +1,8 @@
 -- WHAT FOLLOWS FROM AN ENTRY SET OR TAKEN OUT: the heaps stand for the graph in which it is, the colour invariant stays, every
 -- snapshot that was fresh is fresh where neither key nor value is gray, and no unreached native is forgotten.
+use Rattle.cc_heaps.proofs.ReflectingWritten.{handed-reached}
+use Rattle.cc_lists.proofs.Held.{option_and_then-found}
+use Rattle.cc_laws_heap.proofs.Changing.{option_map-found}
 use Rattle.std.proofs.Common.{◌≡◌, ℕ, not, List, Option, Some, None, refl, sym, ◌∙◌, ap, subst, inl, ⊎_elim, arith, option_map}
 use Rattle.std.specs.Prelude.{IfSome, IsTrue}
 use Rattle.std.specs.Option.{option_and_then}
@@ -10,7 +13,6 @@ use Rattle.cc_names.specs.declared.name.Name.{Name}
 use Rattle.cc_names.specs.declared.name.Name.TheVariants as name
 use Rattle.cc_names.specs.declared.kind.Kind.TheVariants.{Reflector, Map}
 use Rattle.cc_names.specs.Names.{object}
-use Rattle.cc_model.specs.Slots.{Slots}
 use Rattle.cc_model.specs.Entries.{Entry, entry, is_entry_of, with_entry, without_entry}
 use Rattle.cc_model.specs.Graph as graph
 use Rattle.cc_model.specs.Graph.{Graph, GraphNative, GraphScript, plain_object, weak_map, as_preserved, native_in, script_in}
@@ -51,21 +53,15 @@ use Rattle.cc_heaps.proofs.Reflecting.{there-made}
 -- what is of the kind of a weak map is one
 kind-map : (g : Graph) (x : Name) → kind_in g x ≡ Some Map → (j : ℕ) × (x ≡ object j) × (script_in g j ≡ Some weak_map)
 kind-map g (name.Native k) e = absurd (cc)
-kind-map g (name.Script k) e = (k.0, refl, go (script_in g k.0) e)
+kind-map g (name.Script k) e = let f = option_map-found kind_of (script_in g k.0) Map e in (k.0, refl, f.1 ∙ ap (λ o. Some o) (kind f.0 f.2))
   where
-    go : (o : Option GraphScript) → option_map kind_of o ≡ Some Map → o ≡ Some weak_map
-    go None f = absurd (cc)
-    go (Some (plain_object slots)) f = absurd (cc)
-    go (Some weak_map) f = refl
-kind-map g (name.Reflector k) e = absurd (go (native_in g k.0) e)
-  where
-    slots : (n : GraphNative) (r : Option Slots) → option_map (λ slots. Reflector) r ≡ Some Map → ⊥
-    slots n None f = absurd (cc)
-    slots n (Some l) f = absurd (cc)
-
-    go : (o : Option GraphNative) → option_and_then reflector_kind o ≡ Some Map → ⊥
-    go None f = absurd (cc)
-    go (Some n) f = slots n n.reflector f
+    kind : (o : GraphScript) → kind_of o ≡ Map → o ≡ weak_map
+    kind (plain_object slots) f = absurd (cc)
+    kind weak_map f = refl
+kind-map g (name.Reflector k) e =
+    let n = option_and_then-found reflector_kind (native_in g k.0) Map e in
+    let apart : Reflector ≡ Map = (option_map-found (λ slots. Reflector) n.0.reflector Map n.2).2 in
+    absurd (cc)
 
 -- a reflector preserved leaves the graph well made, and weak maps weak maps
 preserved-well : (g : Graph) (x : Name) → MadeScript g x → IsWellMade g → IsWellMade (graph.preserve g (Some x)) × Grows g (graph.preserve g (Some x))
@@ -107,22 +103,16 @@ module _ {owned : List ℕ} (h : Heap) (m k : Name) (s : IsSound owned h) where
           well,
           follows-stands (Reached g) (set_entry h (Some m) (Some k) v) (graph.set_entry g (Some m) (Some k) v) after.well_formed well
               (Follows-set_entry (Reached g) h g (Some m) (Some k) v (in-reached h g s.well_formed w t m a) key
-              (script-behind g (Some k) (there-made h g k s.well_formed t at) key) (reached v c) w.one_entry (stands-follows h g s.well_formed t)),
+              (script-behind g (Some k) (there-made h g k s.well_formed t at) key) (handed-reached h g v s.well_formed w t c) w.one_entry (stands-follows h g s.well_formed t)),
         )
-      where
-        reached : (x : Option Name) → IsReached h x → OfSome (Reached g) x
-        reached None r = tt
-        reached (Some x) r = in-reached h g s.well_formed w t x r
 
     -- script objects and script registers are as they were
     same_scripts : SameScripts h (set_entry h (Some m) (Some k) v)
     same_scripts = go v k
       where
         go : (v : Option Name) (x : Name) → SameScripts h (set_entry h (Some m) (Some x) v)
-        go None x = record { scripts = refl; registers = refl }
         go (Some y) (name.Native j) = record { scripts = refl; registers = refl }
-        go (Some y) (name.Script j) = record { scripts = refl; registers = refl }
-        go (Some y) (name.Reflector j) = record { scripts = refl; registers = refl }
+        go v x = record { scripts = refl; registers = refl }
 
     -- The colour invariant stays.
     set-colours : KeepsColours h (set_entry h (Some m) (Some k) v)

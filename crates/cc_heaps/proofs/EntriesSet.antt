@@ -1,11 +1,13 @@
 -- AN ENTRY SET OR TAKEN OUT BY KEYS, which is set or taken out by names, and its key, preserved where it is a reflector.
-use Rattle.std.proofs.Common.{◌≡◌, ℕ, Bool, true, false, List, Option, Some, None, Result, Ok, Err, OnOk, OnErr, is_some, option_map, refl, sym, ◌∙◌, ap, subst}
+use Rattle.std.proofs.lemmas.Bool.{cases_Bool}
+use Rattle.cc_lists.proofs.Held.{option_and_then-found}
+use Rattle.cc_laws_heap.proofs.Changing.{option_map-found}
+use Rattle.std.proofs.Common.{◌≡◌, ℕ, true, List, Option, Some, None, Result, Ok, Err, OnOk, OnErr, is_some, option_map, refl, sym, ◌∙◌, ap, subst, ⊎_elim}
 use Rattle.std.specs.Prelude.{IsTrue, IsSome}
 use Rattle.std.specs.Option.{option_and_then}
 use Rattle.cc_lists.specs.Members.{Among}
 use Rattle.cc_lists.proofs.Members.{Among-map}
 use Rattle.cc_names.specs.declared.name.Name.{Name}
-use Rattle.cc_names.specs.declared.name.Name.TheVariants as name
 use Rattle.cc_names.specs.declared.number.NKey.{NKey}
 use Rattle.cc_names.specs.declared.kind.Kind.TheVariants.{Map}
 use Rattle.cc_names.specs.Names.{reflector}
@@ -25,8 +27,8 @@ use Rattle.cc_heaps.specs.declared.heaps.Heaps.TheInside.{Inside}
 use Rattle.cc_heaps.specs.Keyed.{Keyed, IsInOrder, Reflects, named_entries, named_object, number_at, the_name_at, the_number}
 use Rattle.cc_heaps.specs.Fields.{heap_of, keyed_of, IsLinked}
 use Rattle.cc_heaps.proofs.EntryNames.{with_entry-named, without_entry-named, entries_there-set, entries_there-without}
-use Rattle.cc_heaps.proofs.Keys.{Reflects-kept, object-name}
-use Rattle.cc_heaps.proofs.Reaching.{name_at-found, object_at-found, the_name-there}
+use Rattle.cc_heaps.proofs.Keys.{Reflects-kept, object-name, Reflects-some, Reflects-cases}
+use Rattle.cc_heaps.proofs.Reaching.{name_at-found, object_at-found, the_name-there, the_name-is}
 use Rattle.cc_heaps.proofs.ScriptCalls.{Becomes}
 
 -- What an entry names by names
@@ -41,16 +43,12 @@ module _ (owned : List ℕ) (v : Keyed) (o : IsInOrder owned v) where
   -- a weak map is one in the heaps
   the_map-among : (key : ℕ) → kind_at v.scripts key ≡ Some Map →
       (s : HeapScript) × Among s v.heap.scripts × (s.name ≡ the_name_at v.scripts key) × (s.kind ≡ Map)
-  the_map-among key is = go (object_at v.scripts key) refl is
-    where
-      go : (f : Option Object) → object_at v.scripts key ≡ f → option_map (λ (q : Object). q.kind) f ≡ Some Map →
-          (s : HeapScript) × Among s v.heap.scripts × (s.name ≡ the_name_at v.scripts key) × (s.kind ≡ Map)
-      go None e k = absurd (cc)
-      go (Some q) e k = (
-        named_object v.scripts q,
-        subst (Among (named_object v.scripts q)) (sym o.named) (Among-map (named_object v.scripts) q v.scripts (object_at-found v.scripts key q e).0),
-        rw (e, the_name_at) refl,
-        (cc),
+  the_map-among key is =
+      let f = option_map-found (λ (q : Object). q.kind) (object_at v.scripts key) Map is in (
+        named_object v.scripts f.0,
+        subst (Among (named_object v.scripts f.0)) (sym o.named) (Among-map (named_object v.scripts) f.0 v.scripts (object_at-found v.scripts key f.0 f.1).0),
+        sym (the_name-is v.scripts key f.0.name (ap (option_map (λ (q : Object). q.name)) f.1)),
+        f.2,
       )
 
   pub entry-members : (m k x : ℕ) → kind_at v.scripts m ≡ Some Map → IsTrue (is_there v.scripts k) → IsTrue (is_there v.scripts x) →
@@ -59,11 +57,7 @@ module _ (owned : List ℕ) (v : Keyed) (o : IsInOrder owned v) where
 
 -- a weak map is there
 pub map-there : (objects : List Object) (key : ℕ) → kind_at objects key ≡ Some Map → IsTrue (is_there objects key)
-map-there objects key is = go (object_at objects key) is
-  where
-    go : (f : Option Object) → option_map (λ (q : Object). q.kind) f ≡ Some Map → is_some f ≡ true
-    go None e = absurd (cc)
-    go (Some q) e = refl
+map-there objects key is = ap is_some (option_map-found (λ (q : Object). q.kind) (object_at objects key) Map is).1
 
 -- The parts with other entries
 
@@ -133,21 +127,10 @@ module _ {owned : List ℕ} (p : Inside) (l : IsLinked p) (o : IsInOrder owned (
 module _ (owned : List ℕ) (v : Keyed) (o : IsInOrder owned v) (key : ℕ) (t : IsTrue (is_there v.scripts key)) where
   -- a script object with a native is its reflector,
   native-reflector : (r : NKey) → Some r.0 ≡ native_at v.scripts key → IsSome (number_at v r.0) × (name_at v.scripts key ≡ Some (reflector (the_number v r.0)))
-  native-reflector r e = go (object_at v.scripts key) refl e
-    where
-      named : (x : Name) (n : Option ℕ) → Reflects v x n → Some r.0 ≡ n → IsSome (number_at v r.0) × (Some x ≡ Some (reflector (the_number v r.0)))
-      named (name.Native k) n d f = absurd d
-      named (name.Script k) n d f = absurd (cc)
-      named (name.Reflector k) None d f = absurd d
-      named (name.Reflector k) (Some j) d f =
-          let same : r.0 ≡ j = cc in
-          let at : number_at v r.0 ≡ Some k.0 = ap (number_at v) same ∙ d in
-          rw at (refl, refl)
-
-      go : (f : Option Object) → object_at v.scripts key ≡ f → Some r.0 ≡ option_and_then (λ (q : Object). q.native) f →
-          IsSome (number_at v r.0) × (option_map (λ (q : Object). q.name) f ≡ Some (reflector (the_number v r.0)))
-      go None f e = absurd (cc)
-      go (Some q) f e = named q.name q.native (o.reflecting q (object_at-found v.scripts key q f).0) e
+  native-reflector r e =
+      let f = option_and_then-found (λ (q : Object). q.native) (object_at v.scripts key) r.0 (sym e) in
+      let k = Reflects-some v f.0.name r.0 (subst (Reflects v f.0.name) f.2 (o.reflecting f.0 (object_at-found v.scripts key f.0 f.1).0)) in
+      rw (f.1, k.1, k.2) (refl, refl)
 
   -- as it is read,
   pub native-read : (p : Inside) → keyed_of p ≡ v → (found : Option NKey) (r : NKey) → found ≡ Some r → option_map (λ (n : NKey). n.0) found ≡ native_at p.scripts key →
@@ -157,14 +140,9 @@ module _ (owned : List ℕ) (v : Keyed) (o : IsInOrder owned v) (key : ℕ) (t :
 
   -- which the heaps have,
   pub reflector-there : (k : ℕ) → name_at v.scripts key ≡ Some (reflector k) → has_reflector v.heap k ≡ true
-  reflector-there k named = go (has_reflector v.heap k) refl
-    where
-      go : (b : Bool) → has_reflector v.heap k ≡ b → b ≡ true
-      go true e = refl
-      go false e = absurd (has_reflector-none v.heap k e (subst (λ x. Among x (script_names v.heap)) is (the_name-among owned v o key t)))
-        where
-          is : the_name_at v.scripts key ≡ reflector k
-          is = let both : Some (the_name_at v.scripts key) ≡ Some (reflector k) = sym (the_name-there v.scripts key t) ∙ named in cc
+  reflector-there k named = ⊎_elim (λ e. e)
+      (λ e. absurd (has_reflector-none v.heap k e (subst (λ x. Among x (script_names v.heap)) (the_name-is v.scripts key (reflector k) named) (the_name-among owned v o key t))))
+      (cases_Bool (has_reflector v.heap k))
 
   -- and one without is none
   pub no_native-preserved : (p : Inside) → keyed_of p ≡ v → (found : Option NKey) → found ≡ None → option_map (λ (n : NKey). n.0) found ≡ native_at p.scripts key →
@@ -173,10 +151,7 @@ module _ (owned : List ℕ) (v : Keyed) (o : IsInOrder owned v) (key : ℕ) (t :
       (sym (ap (option_map (λ (n : NKey). n.0)) (sym none) ∙ subst (λ (w : Keyed). option_map (λ (n : NKey). n.0) found ≡ native_at w.scripts key) is at))
     where
       named : (x : Name) (n : Option ℕ) → Reflects v x n → n ≡ None → preserve h (Some x) ≡ h
-      named (name.Native k) n d f = absurd d
-      named (name.Script k) n d f = refl
-      named (name.Reflector k) None d f = absurd d
-      named (name.Reflector k) (Some j) d f = absurd (cc)
+      named = Reflects-cases v (λ x n. n ≡ None → preserve h (Some x) ≡ h) (λ k e. refl) (λ k q d e. absurd (cc))
 
       go : (f : Option Object) → object_at v.scripts key ≡ f → option_and_then (λ (q : Object). q.native) f ≡ None → preserve h (option_map (λ (q : Object). q.name) f) ≡ h
       go None f e = refl

@@ -1,6 +1,7 @@
 -- ENTRIES OF WEAK MAPS BY KEYS ARE THOSE BY NAMES, where no two script objects have one name: an entry is set, taken out and
 -- looked for alike. A script object is a weak map where the definitions say that it has no slots.
-use Rattle.std.proofs.Common.{◌≡◌, ◌↔◌, ℕ, ◌==◌, Bool, true, false, not, ◌&&◌, List, [], ◌∷◌, Option, Some, None, option_map, refl, sym, ◌∙◌, ap, subst, inl, inr, ⊎_elim}
+use Rattle.cc_lists.proofs.Held.{through-test, of-test, of-one}
+use Rattle.std.proofs.Common.{◌≡◌, ◌↔◌, ℕ, ◌==◌, true, false, not, ◌&&◌, List, [], ◌∷◌, Option, Some, None, option_map, refl, sym, ◌∙◌, ap, subst, inl, inr, ⊎_elim}
 use Rattle.std.specs.Prelude.{IsTrue}
 use Rattle.std.specs.Option.{is_none, is_some, option_and_then}
 use Rattle.std.specs.List.{find}
@@ -59,18 +60,12 @@ module _ (objects : List Object) (one_name : HasOneName objects) where
     pub with_entry-named : (v : ℕ) (es : List KeyedEntry) → AreEntriesThere objects es →
         named_entries objects (with_entry es m k v) ≡ model.with_entry (named_entries objects es) x y (the_name_at objects v)
     with_entry-named v [] t = refl
-    with_entry-named v (e ∷ es) t = go (with_entry-named v es (λ f i. t f (inr i))) (is_entry_of m k e)
-        ∙ ap (λ b. elim b [ true ↦ new ∷ named_entries objects es | false ↦ named_entry objects e ∷ model.with_entry (named_entries objects es) x y (the_name_at objects v) ])
-        (sym (is_entry_of-named e (t e (inl refl))))
-      where
-        new : Entry
-        new = model.entry x y (the_name_at objects v)
-
-        go : named_entries objects (with_entry es m k v) ≡ model.with_entry (named_entries objects es) x y (the_name_at objects v) → (b : Bool) →
-            named_entries objects (elim b [ true ↦ entry m k v ∷ es | false ↦ e ∷ with_entry es m k v ]) ≡
-            elim b [ true ↦ new ∷ named_entries objects es | false ↦ named_entry objects e ∷ model.with_entry (named_entries objects es) x y (the_name_at objects v) ]
-        go ih true = refl
-        go ih false = ap (λ fs. named_entry objects e ∷ fs) ih
+    with_entry-named v (e ∷ es) t =
+        through-test (named_entries objects) (is_entry_of m k e) (entry m k v ∷ es) (e ∷ with_entry es m k v)
+        ∙ (λ i. elim (sym (is_entry_of-named e (t e (inl refl))) i) [
+          | true ↦ model.entry x y (the_name_at objects v) ∷ named_entries objects es
+          | false ↦ named_entry objects e ∷ with_entry-named v es (λ f i. t f (inr i)) i
+        ])
 
     -- OR TAKEN OUT,
     pub without_entry-named : (es : List KeyedEntry) → AreEntriesThere objects es →
@@ -82,15 +77,12 @@ module _ (objects : List Object) (one_name : HasOneName objects) where
     -- AND ITS VALUE IS FOUND alike.
     pub value_in-named : (es : List KeyedEntry) → AreEntriesThere objects es → model.value_in (named_entries objects es) x y ≡ option_map (the_name_at objects) (value_in es m k)
     value_in-named [] t = refl
-    value_in-named (e ∷ es) t =
-        ap (λ b. elim b [ true ↦ Some (the_name_at objects e.value) | false ↦ model.value_in (named_entries objects es) x y ]) (is_entry_of-named e (t e (inl refl)))
-        ∙ go (value_in-named es (λ f i. t f (inr i))) (is_entry_of m k e)
-      where
-        go : model.value_in (named_entries objects es) x y ≡ option_map (the_name_at objects) (value_in es m k) → (b : Bool) →
-            elim b [ true ↦ Some (the_name_at objects e.value) | false ↦ model.value_in (named_entries objects es) x y ] ≡
-            option_map (the_name_at objects) (elim b [ true ↦ Some e.value | false ↦ value_in es m k ])
-        go ih true = refl
-        go ih false = ih
+    value_in-named (e ∷ es) t = sym
+        (through-test (option_map (the_name_at objects)) (is_entry_of m k e) (Some e.value) (value_in es m k)
+        ∙ (λ i. elim (sym (is_entry_of-named e (t e (inl refl))) i) [
+          | true ↦ Some (the_name_at objects e.value)
+          | false ↦ sym (value_in-named es (λ f i. t f (inr i))) i
+        ]))
 
 -- What entries name
 
@@ -100,13 +92,10 @@ module _ (objects : List Object) (es : List KeyedEntry) (there : AreEntriesThere
   entries_there-set v new = each es there
     where
       each : (fs : List KeyedEntry) → AreEntriesThere objects fs → AreEntriesThere objects (with_entry fs m k v)
-      each [] old e i = ⊎_elim (λ s. subst (IsEntryThere objects) s new) (λ n. absurd n) i
-      each (f ∷ fs) old e i = go (each fs (λ d j. old d (inr j)) e) (is_entry_of m k f) i
-        where
-          go : (Among e (with_entry fs m k v) → IsEntryThere objects e) → (b : Bool) →
-              Among e (elim b [ true ↦ entry m k v ∷ fs | false ↦ f ∷ with_entry fs m k v ]) → IsEntryThere objects e
-          go ih true j = ⊎_elim (λ s. subst (IsEntryThere objects) s new) (λ r. old e (inr r)) j
-          go ih false j = ⊎_elim (λ s. old e (inl s)) ih j
+      each [] old = of-one (IsEntryThere objects) (entry m k v) new
+      each (f ∷ fs) old = of-test (AreEntriesThere objects) (is_entry_of m k f) (entry m k v ∷ fs) (f ∷ with_entry fs m k v)
+          (λ e. ⊎_elim (λ s. subst (IsEntryThere objects) s new) (λ r. old e (inr r)))
+          (λ e. ⊎_elim (λ s. old e (inl s)) (each fs (λ d j. old d (inr j)) e))
 
   -- and after one was taken out,
   pub entries_there-without : AreEntriesThere objects (without_entry es m k)
@@ -117,13 +106,10 @@ module _ (objects : List Object) (es : List KeyedEntry) (there : AreEntriesThere
   value_in-there v = each es there
     where
       each : (fs : List KeyedEntry) → AreEntriesThere objects fs → value_in fs m k ≡ Some v → IsTrue (is_there objects v)
-      each [] old e = absurd (cc)
-      each (f ∷ fs) old e = go (each fs (λ d j. old d (inr j))) (is_entry_of m k f) e
-        where
-          go : (value_in fs m k ≡ Some v → IsTrue (is_there objects v)) → (b : Bool) →
-              elim b [ true ↦ Some f.value | false ↦ value_in fs m k ] ≡ Some v → IsTrue (is_there objects v)
-          go ih true d = let same : f.value ≡ v = cc in subst (λ j. IsTrue (is_there objects j)) same (old f (inl refl)).value
-          go ih false d = ih d
+      each [] old = λ e. absurd (cc)
+      each (f ∷ fs) old = of-test (λ (o : Option ℕ). o ≡ Some v → IsTrue (is_there objects v)) (is_entry_of m k f) (Some f.value) (value_in fs m k)
+          (λ d. let same : f.value ≡ v = cc in subst (λ j. IsTrue (is_there objects j)) same (old f (inl refl)).value)
+          (each fs (λ d j. old d (inr j)))
 
 -- The heaps with their keys
 

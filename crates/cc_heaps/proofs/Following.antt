@@ -1,21 +1,21 @@
 -- WHAT FOLLOWS FROM THE CHANGES OF CALLS: the colour invariant stays, every snapshot that was fresh is fresh, and no
 -- unreached native is forgotten.
+use Rattle.cc_heaps.proofs.ObjectsKept.{there-named}
+use Rattle.cc_lists.proofs.Held.{held-is, of-one}
+use Rattle.cc_heaps.proofs.Keys.{name-in, script_name-in}
 use Rattle.std.proofs.Common.{◌≡◌, ℕ, ◌<◌, ◌≤◌, ◌==◌, true, List, ◌++◌, length, get_or, Option, Some, None, option_map, refl, sym, ◌∙◌, ap, subst, inl, inr, ⊎_elim, arith}
 use Rattle.std.specs.Prelude.{IsTrue, IfSome}
 use Rattle.std.specs.Option.{option_and_then, option_to_list}
 use Rattle.std.proofs.lemmas.Bool.{lt-ltb, le-leb, lt-leb}
 use Rattle.std.proofs.lemmas.List.{length-map}
 use Rattle.cc_lists.specs.Members.{Among}
-use Rattle.cc_lists.proofs.Members.{Among-map}
+use Rattle.cc_lists.proofs.Members.{Among-map_cases}
 use Rattle.cc_lists.proofs.Searching.{find-map}
-use Rattle.cc_lists.proofs.Counting.{count_by-map}
-use Rattle.cc_lists.proofs.ListWrites.{only-member}
 use Rattle.cc_names.specs.declared.name.Name.{Name}
 use Rattle.cc_names.specs.declared.name.Name.TheVariants as name
-use Rattle.cc_names.specs.Names.{native, object, reflector, same_name}
+use Rattle.cc_names.specs.Names.{native, object, reflector}
 use Rattle.cc_names.specs.declared.kind.Colour.TheVariants.{Black}
 use Rattle.cc_names.specs.declared.number.SKey.{SKey}
-use Rattle.cc_names.proofs.NameTests.{same_name-refl}
 use Rattle.cc_model.specs.Slots.{Slots}
 use Rattle.cc_model.specs.Ranges.{in_range}
 use Rattle.cc_model.specs.Heap.{Heap, objects_of, HeapNative, HeapScript, native_at, set_slot, change_script, change_native, with_native_slot, with_script_slot, suspect}
@@ -61,13 +61,13 @@ use Rattle.cc_counted.specs.Counts.{slots_of}
 use Rattle.cc_counted.specs.Counts as counts
 use Rattle.cc_counted.specs.declared.held.Held.{Held}
 use Rattle.cc_counted.specs.declared.held.Held.TheVariants as held
-use Rattle.cc_script.specs.Objects.{Object, colour_at, is_there, name_at, object_at}
+use Rattle.cc_script.specs.Objects.{Object, colour_at, is_there, name_at}
 use Rattle.cc_heaps.specs.Keyed.{Keyed, keyed_name, keyed_native, IsInOrder, counts_of, left_with, named_object, the_number}
 use Rattle.cc_heaps.specs.Making.{kind_to_make, command_to_make, slots_to_make}
 use Rattle.cc_heaps.specs.Changes.{IsBlackHeld, held_name, script_name, stored_in}
 use Rattle.cc_heaps.proofs.Content.{held-in, native-in}
-use Rattle.cc_heaps.proofs.Reaching.{name_at-found, object_at-found}
-use Rattle.cc_heaps.proofs.ScriptsChanged.{there-named}
+use Rattle.cc_heaps.proofs.Reaching.{key-named, object_at-own}
+use Rattle.cc_heaps.proofs.ScriptsChanged.{HasOneName-named}
 use Rattle.cc_heaps.proofs.SlotsHeld.{slots-taken}
 
 -- from one heap to the next the colours and every snapshot stay as they should be
@@ -130,9 +130,9 @@ pub script_slot-keeps : {owned : List ℕ} (h : Heap) (x : Name) (i : ℕ) (y : 
     IsSound owned h → Keeps h (set_slot h (Some x) i y)
 script_slot-keeps {owned} h (name.Native k) i y at there black s = absurd (native-no_script h k.0 s.well_formed at)
 script_slot-keeps {owned} h (name.Script k) i y at there black s = script_slot h (object k.0) i y
-    (script_slot-sound owned h (Some (object k.0)) i y (λ z m. ⊎_elim (λ e. subst (λ w. Among w (script_names h)) e at) (λ t. absurd t) m) there s).well_formed there black s
+    (script_slot-sound owned h (Some (object k.0)) i y (of-one (λ w. Among w (script_names h)) (object k.0) at) there s).well_formed there black s
 script_slot-keeps {owned} h (name.Reflector k) i y at there black s = script_slot h (reflector k.0) i y
-    (script_slot-sound owned h (Some (reflector k.0)) i y (λ z m. ⊎_elim (λ e. subst (λ w. Among w (script_names h)) e at) (λ t. absurd t) m) there s).well_formed there black s
+    (script_slot-sound owned h (Some (reflector k.0)) i y (of-one (λ w. Among w (script_names h)) (reflector k.0) at) there s).well_formed there black s
 
 -- the command that makes a script object is in its ranges, and is taken
 pub made-ranges : (d : ℕ) (slots : Option ℕ) → d < 256 → IfSome slots (λ n. n ≤ 64) → IsTrue (in_range (command_to_make d slots))
@@ -294,39 +294,21 @@ stored_in-remembers h k i x within there reached s after = Remembers-from h (sto
 -- The heaps with their keys
 
 module _ (owned : List ℕ) (v : Keyed) (o : IsInOrder owned v) where
-  -- the script object at a key is there
-  named-object : (q : Object) → Among q v.scripts → Among (named_object v.scripts q) v.heap.scripts
-  named-object q m = subst (Among (named_object v.scripts q)) (sym o.named) (Among-map (named_object v.scripts) q v.scripts m)
-
   pub name_at-there : (key : ℕ) → IsIn (script_names v.heap) (name_at v.scripts key)
-  name_at-there key = go (name_at v.scripts key) refl
-    where
-      go : (x : Option Name) → name_at v.scripts key ≡ x → IsIn (script_names v.heap) x
-      go None e y m = absurd m
-      go (Some x) e y m =
-          let f = name_at-found v.scripts key x e in
-          ⊎_elim (λ s. subst (λ z. Among z (script_names v.heap)) (f.3 ∙ s)
-          (Among-map (λ (q : HeapScript). q.name) (named_object v.scripts f.0) v.heap.scripts (named-object f.0 f.1))) (λ t. absurd t) m
+  name_at-there key = name-in v.heap v.scripts o.named key
 
   pub script_name-there : (x : Option SKey) → IsIn (script_names v.heap) (script_name v x)
-  script_name-there None = λ y m. absurd m
-  script_name-there (Some key) = name_at-there key.0
+  script_name-there x = script_name-in v o.named x
 
   -- and black, where its colour is
   name_at-black : (key : ℕ) → colour_at v.scripts key ≡ Some Black → IsHeldBlack v.heap.scripts (name_at v.scripts key)
-  name_at-black key e = go (object_at v.scripts key) refl e
-    where
-      go : (q : Option Object) → object_at v.scripts key ≡ q → option_map (λ (p : Object). p.colour) q ≡ Some Black →
-          IsHeldBlack v.heap.scripts (option_map (λ (p : Object). p.name) q)
-      go None f b = absurd (cc)
-      go (Some q) f b = λ s m i.
-          let m_q = named-object q (object_at-found v.scripts key q f).0 in
-          let named : s.name ≡ q.name = ⊎_elim (λ n. sym n) (λ t. absurd t) i in
-          let same : s ≡ named_object v.scripts q = only-member (λ (p : HeapScript). same_name q.name p.name) v.heap.scripts s (named_object v.scripts q)
-          (subst (λ c. c ≤ 1) (count_by-map (same_name q.name) (λ (p : HeapScript). p.name) v.heap.scripts) (o.sound.well_formed.distinct q.name))
-          m (rw named (same_name-refl q.name)) m_q (same_name-refl q.name) in
-          let colour : q.colour ≡ Black = cc in
-          ap (λ (p : HeapScript). p.colour) same ∙ colour
+  name_at-black key e s m i =
+      let f = Among-map_cases (named_object v.scripts) v.scripts s (subst (Among s) o.named m) in
+      let at : f.0.key ≡ key = key-named v.scripts (HasOneName-named v.heap v.scripts o.named o.sound.well_formed) key s.name (held-is (name_at v.scripts key) s.name i)
+      f.0 f.1 (ap (λ (p : HeapScript). p.name) f.2) in
+      let both : Some f.0.colour ≡ Some Black =
+      sym (ap (option_map (λ (p : Object). p.colour)) (object_at-own v.scripts o.one_key f.0 f.1)) ∙ (ap (colour_at v.scripts) at ∙ e) in
+      sym (ap (λ (p : HeapScript). p.colour) f.2) ∙ (cc)
 
   pub script_name-black : (x : Option SKey) → IfSome x (λ k. colour_at v.scripts k.0 ≡ Some Black) → IsHeldBlack v.heap.scripts (script_name v x)
   script_name-black None b = λ s m i. absurd i

@@ -1,5 +1,6 @@
 -- A NATIVE HAS A REFLECTOR by its name where the counted heap has a key for it.
-use Rattle.std.proofs.Common.{◌≡◌, ℕ, Option, Some, None, option_map, refl, ◌∙◌, ap}
+use Rattle.cc_lists.proofs.Held.{is_some-map}
+use Rattle.std.proofs.Common.{◌≡◌, ℕ, ◌∙◌, ap, sym}
 use Rattle.std.specs.List.{find}
 use Rattle.std.specs.Option.{is_some}
 use Rattle.cc_lists.proofs.Searching.{find-map}
@@ -14,8 +15,5 @@ module _ (v : Keyed) (named : v.heap.scripts ≡ named_objects v.scripts) where
   has_reflector-named k =
       ap (λ os. is_some (find (λ (o : HeapScript). same_name o.name (reflector k)) os)) named
       ∙ (ap is_some (find-map (λ (o : HeapScript). same_name o.name (reflector k)) (named_object v.scripts) v.scripts)
-      ∙ go (find (λ (o : Object). same_name o.name (reflector k)) v.scripts))
-    where
-      go : (f : Option Object) → is_some (option_map (named_object v.scripts) f) ≡ is_some (option_map (λ (o : Object). o.key) f)
-      go None = refl
-      go (Some o) = refl
+      ∙ (is_some-map (named_object v.scripts) (find (λ (o : Object). same_name o.name (reflector k)) v.scripts)
+      ∙ sym (is_some-map (λ (o : Object). o.key) (find (λ (o : Object). same_name o.name (reflector k)) v.scripts))))

@@ -1,15 +1,15 @@
 -- FROM KEYS TO NAMES AND BACK: a counted heap whose slots hold what is there is the same after its script objects got
 -- their names and gave them back for their keys.
-use Rattle.std.proofs.Common.{◌≡◌, ℕ, ◌≤◌, ◌==◌, Bool, true, false, List, [], ◌∷◌, map, count_by, Option, Some, None, IsTrue, option_map, refl, sym, ◌∙◌, ap, inl, inr}
-use Rattle.std.specs.Option.{is_some, option_and_then}
-use Rattle.std.proofs.lemmas.Bool.{false≢true, eqb-true}
+use Rattle.cc_heaps.proofs.Reaching.{object_at-found}
+use Rattle.cc_laws_heap.proofs.GraphParts.{is_some-found}
+use Rattle.std.proofs.Common.{◌≡◌, ℕ, ◌≤◌, List, [], ◌∷◌, map, count_by, Option, Some, None, IsTrue, option_map, refl, sym, ◌∙◌, ap, inl, inr}
+use Rattle.std.specs.Option.{option_and_then}
 use Rattle.cc_lists.specs.Members.{Among}
-use Rattle.cc_lists.proofs.Filtering.{find-among, find-passes}
 use Rattle.cc_lists.proofs.Searching.{find-only}
 use Rattle.cc_names.specs.declared.name.Name.{Name}
 use Rattle.cc_names.specs.declared.name.Name.TheVariants as name
 use Rattle.cc_names.proofs.NameTests.{same_name-refl}
-use Rattle.cc_names.specs.Names.{object, same_name, is_native}
+use Rattle.cc_names.specs.Names.{object, same_name}
 use Rattle.cc_model.specs.Slots.{Slots, contents}
 use Rattle.cc_model.specs.Heap.{HeapNative}
 use Rattle.cc_script.specs.Objects.{Object, object_at, is_there, name_at}
@@ -33,20 +33,13 @@ module _ (objects : List Object) (one_name : (x : Name) → count_by (λ (o : Ob
   key_of-name o m = ap (option_map (λ (p : Object). p.key)) (find-only (λ (p : Object). same_name p.name o.name) objects o (one_name o.name) m (same_name-refl o.name))
 
   keyed-script : (o : Object) → Among o objects → keyed_name objects o.name ≡ Some (object o.key)
-  keyed-script o m = go (is_native o.name) (scripts o m)
-    where
-      go : (b : Bool) → b ≡ false → elim b as (λ _. Option Name) [ true ↦ Some o.name | false ↦ option_map object (key_of objects o.name) ] ≡ Some (object o.key)
-      go true e = absurd (false≢true (sym e))
-      go false e = ap (option_map object) (key_of-name o m)
+  keyed-script o m = rw (scripts o m, keyed_name) (ap (option_map object) (key_of-name o m))
 
   there-and-back : (key : ℕ) → IsTrue (is_there objects key) → key_in (name_at objects key) ≡ Some (object key)
-  there-and-back key there = go (object_at objects key) refl there
-    where
-      go : (o : Option Object) → object_at objects key ≡ o → IsTrue (is_some o) → key_in (option_map (λ (p : Object). p.name) o) ≡ Some (object key)
-      go None e t = absurd (false≢true t)
-      go (Some o) e t =
-          keyed-script o (find-among (λ (p : Object). p.key == key) objects o e)
-          ∙ ap (λ k. Some (object k)) (eqb-true o.key key (find-passes (λ (p : Object). p.key == key) objects o e))
+  there-and-back key there =
+      let f = is_some-found (object_at objects key) there in
+      let m = object_at-found objects key f.0 f.1 in
+      ap (λ (o : Option Object). key_in (option_map (λ (p : Object). p.name) o)) f.1 ∙ (keyed-script f.0 m.0 ∙ ap (λ k. Some (object k)) m.1)
 
   name-back : (x : Name) → IsHeldThere objects x → key_in (name_in objects (Some x)) ≡ Some x
   name-back (name.Native k) there = refl

@@ -1,5 +1,10 @@
 -- KEYS OF NATIVES read numbers alone, and those of natives that are no more hold nothing. Reflectors have the keys of their
 -- natives still where these are there.
+use Rattle.cc_names.specs.declared.number.SKey.{SKey}
+use Rattle.cc_heaps.specs.Changes.{script_name}
+use Rattle.cc_laws_heap.proofs.Owning.{IsIn}
+use Rattle.cc_lists.proofs.Held.{held-is}
+use Rattle.cc_heaps.proofs.Reaching.{name_at-found}
 use Rattle.std.proofs.Common.{◌≡◌, ℕ, List, [], map, Option, Some, None, refl, sym, ◌∙◌, ap, subst, if◌then◌else◌}
 use Rattle.std.specs.Option.{is_some}
 use Rattle.std.specs.List.{find}
@@ -11,7 +16,7 @@ use Rattle.cc_lists.proofs.Filtering.{find-among, find-passes}
 use Rattle.cc_lists.proofs.ListWrites.{map-kept}
 use Rattle.cc_names.specs.declared.name.Name.{Name}
 use Rattle.cc_names.specs.declared.name.Name.TheVariants as name
-use Rattle.cc_names.specs.Names.{native, reflector, same_name}
+use Rattle.cc_names.specs.Names.{native, reflector, same_name, object}
 use Rattle.cc_names.proofs.NameTests.{same_name-true}
 use Rattle.cc_model.specs.Heap.{Heap, HeapNative, HeapScript, Buffered, native_at, change_native}
 use Rattle.cc_model.specs.WellFormed.{IsRising, IsWellFormed, native_names, script_names}
@@ -19,7 +24,7 @@ use Rattle.cc_laws_heap.proofs.Natives.{KeepsNumber, changed_at, changed_at-numb
 use Rattle.cc_counted.specs.Counts.{Counts, key_left, number_at, heap_of}
 use Rattle.cc_counted.specs.Counts as counts
 use Rattle.cc_counted.specs.Owning.{HasKeys}
-use Rattle.cc_script.specs.Objects.{Object}
+use Rattle.cc_script.specs.Objects.{Object, name_at}
 use Rattle.cc_heaps.specs.Keyed.{Keyed, Reflects, keyed_native, counts_of, left_with, named_object, named_objects}
 use Rattle.cc_heaps.specs.Keyed as keyed
 
@@ -66,7 +71,7 @@ key_left-some g (Some j) k e = go (native_at g j) refl e
     go (Some n) f e = let same : j ≡ k = cc in (e, (n, subst (λ i. native_at g i ≡ Some n) same f))
 
 -- the key of a native that is there is left
-key_left-there : (g : Heap) (k : ℕ) (n : HeapNative) → native_at g k ≡ Some n → key_left g (Some k) ≡ Some k
+pub key_left-there : (g : Heap) (k : ℕ) (n : HeapNative) → native_at g k ≡ Some n → key_left g (Some k) ≡ Some k
 key_left-there g k n e = rw e refl
 
 -- the number at a key after natives left
@@ -106,18 +111,45 @@ HasKeys-names v k = HasKeys-numbers (counts_of v) v.heap.natives v.heap.buffer [
 abbrev pub AreReflecting : Keyed → Type 0
 AreReflecting v = (o : Object) → Among o v.scripts → Reflects v o.name o.native
 
+-- whose names and keys reflect each other: a plain object, whose key is that of none, and the reflector of a native at its key
+pub Reflects-cases : (v : Keyed) (P : Name → Option ℕ → Type 0) → ((k : ℕ) → P (object k) None) → ((k q : ℕ) → keyed.number_at v q ≡ Some k → P (reflector k) (Some q)) →
+    (x : Name) (key : Option ℕ) → Reflects v x key → P x key
+Reflects-cases v P plain own (name.Native k) key r = absurd r
+Reflects-cases v P plain own (name.Script k) key r = subst (P (object k.0)) (sym r) (plain k.0)
+Reflects-cases v P plain own (name.Reflector k) None r = absurd r
+Reflects-cases v P plain own (name.Reflector k) (Some q) r = own k.0 q r
+
+-- the object with the key of a native is its reflector
+pub Reflects-some : (v : Keyed) (x : Name) (q : ℕ) → Reflects v x (Some q) → (k : ℕ) × (x ≡ reflector k) × (keyed.number_at v q ≡ Some k)
+Reflects-some v x q r = Reflects-cases v (λ y key. key ≡ Some q → (k : ℕ) × (y ≡ reflector k) × (keyed.number_at v q ≡ Some k)) (λ k e. absurd (cc))
+    (λ k j e f. let same : j ≡ q = cc in (k, refl, subst (λ i. keyed.number_at v i ≡ Some k) same e)) x (Some q) r refl
+
 -- a reflector's native stays at its key
 pub Reflects-kept : (v w : Keyed) (x : Name) (key : Option ℕ) → ((q k : ℕ) → x ≡ reflector k → keyed.number_at v q ≡ Some k → keyed.number_at w q ≡ Some k) →
     Reflects v x key → Reflects w x key
-Reflects-kept v w (name.Native k) key kept r = absurd r
-Reflects-kept v w (name.Script k) key kept r = r
-Reflects-kept v w (name.Reflector k) None kept r = absurd r
-Reflects-kept v w (name.Reflector k) (Some q) kept r = kept q k.0 refl r
+Reflects-kept v w x key kept r = Reflects-cases v (λ y q. x ≡ y → Reflects w y q) (λ k e. refl) (λ k q at e. kept q k e at) x key r refl
 
 -- an object that stands at a key has its name in the heaps
 pub object-name : (h : Heap) (objects : List Object) → h.scripts ≡ named_objects objects → (o : Object) → Among o objects → Among o.name (script_names h)
 object-name h objects e o m = subst (λ (ss : List HeapScript). Among o.name (map (λ s. s.name) ss)) (sym e)
     (Among-map (λ (s : HeapScript). s.name) (named_object objects o) (named_objects objects) (Among-map (named_object objects) o objects m))
+
+-- and each that has a name there stands at a key
+pub named-object : (h : Heap) (objects : List Object) → h.scripts ≡ named_objects objects → (x : Name) → Among x (script_names h) → (o : Object) × Among o objects × (o.name ≡ x)
+named-object h objects e x m =
+    let f = Among-map_cases (λ (s : HeapScript). s.name) h.scripts x m in
+    let g = Among-map_cases (named_object objects) objects f.0 (subst (Among f.0) e f.1) in
+    (g.0, g.1, ap (λ (s : HeapScript). s.name) g.2 ∙ f.2)
+
+-- what stands at a key has its name there
+pub name-in : (h : Heap) (objects : List Object) → h.scripts ≡ named_objects objects → (key : ℕ) → IsIn (script_names h) (name_at objects key)
+name-in h objects e key x m =
+    let f = name_at-found objects key x (held-is (name_at objects key) x m) in
+    subst (λ y. Among y (script_names h)) f.3 (object-name h objects e f.0 f.1)
+
+pub script_name-in : (v : Keyed) → v.heap.scripts ≡ named_objects v.scripts → (x : Option SKey) → IsIn (script_names v.heap) (script_name v x)
+script_name-in v e None x m = absurd m
+script_name-in v e (Some key) x m = name-in v.heap v.scripts e key.0 x m
 
 -- where natives left, those of reflectors did not
 pub AreReflecting-left : (v : Keyed) (g : Heap) → g.scripts ≡ named_objects v.scripts → IsWellFormed g → AreReflecting v → AreReflecting (left_with v g)

@@ -5,6 +5,7 @@ pub mod EachNative
 pub mod Keys
 pub mod Ordered
 pub mod Registers
+pub mod ReflectorLists
 pub mod Owned
 pub mod Linked
 pub mod Calls
@@ -24,6 +25,7 @@ pub mod EntriesSet
 pub mod ReflectorMade
 pub mod Listing
 pub mod Limited
+pub mod GrayNames
 pub mod GrayHolders
 pub mod NextHolder
 pub mod HolderWalk

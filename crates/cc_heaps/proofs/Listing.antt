@@ -1,4 +1,6 @@
 -- NATIVES LISTED one after the other, and then script objects: those listed so far, and those that are left.
+use Rattle.cc_heaps.proofs.Registers.{none-by}
+use Rattle.cc_laws_heap.proofs.GraphParts.{is_some-found}
 use Rattle.std.proofs.Common.{◌≡◌, ℕ, ◌+◌, ◌<◌, ◌≤◌, true, List, [], ◌∷◌, ◌++◌, map, length, Option, Some, None, IfSome, option_map, refl, sym, ◌∙◌, ap, subst, arith, append-nil, length-append, nat_lt}
 use Rattle.std.specs.Prelude.{IsTrue}
 use Rattle.std.specs.List.{filter}
@@ -151,12 +153,10 @@ no_natives-listed c at before first there = record {
 module _ (c : Counts) {at : Option NKey} {count : ℕ} {before after : Telling} where
   -- at a key one is left
   pub natives-few : (key : NKey) → at ≡ Some key → NativesListed c at count before after → count < length c.natives
-  natives-few key e k = go (number_at c key.0) refl (subst (IsLiveKey c) e k.there)
-    where
-      go : (o : Option ℕ) → number_at c key.0 ≡ o → is_some o ≡ true → count < length c.natives
-      go None f s = absurd (cc)
-      go (Some j) f s = told-few (λ (n : HeapNative). native n.number) (λ (n : HeapNative). n.number) c.natives count before after j
-          (subst (λ a. AreNativesTold c a count before after) (ap (number_of c) e ∙ f) k.walk)
+  natives-few key e k =
+      let f = is_some-found (number_at c key.0) (subst (IsLiveKey c) e k.there) in
+      told-few (λ (n : HeapNative). native n.number) (λ (n : HeapNative). n.number) c.natives count before after f.0
+      (subst (λ a. AreNativesTold c a count before after) (ap (number_of c) e ∙ f.1) k.walk)
 
   -- one more listed
   pub natives-next : IsRising (numbers_of_natives c.natives) → (key : NKey) → at ≡ Some key → NativesListed c at count before after → (j : ℕ) → number_at c key.0 ≡ Some j →
@@ -225,8 +225,7 @@ module _ (os : List Object) {at : Option SKey} {count : ℕ} {before after : Tel
 
 -- what is not something is nothing
 pub none-left : {X : Type 0} (o : Option X) → ((x : X) → o ≡ Some x → ⊥) → o ≡ None
-none-left None n = refl
-none-left (Some x) n = absurd (n x refl)
+none-left o n = none-by (λ x. o ≡ x) n o refl
 
 module _ (p : Inside) where
   pub native_names-counted : native_names (heap_of p) ≡ names_of_natives p.counted.natives

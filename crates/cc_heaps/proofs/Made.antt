@@ -1,9 +1,11 @@
 -- A NATIVE MADE at a key that held nothing: it stands last, in the buffer too, and the registers hold what they held.
-use Rattle.std.proofs.Common.{◌≡◌, ◌≢◌, ℕ, zero, suc, ◌+◌, ◌<◌, ◌≤◌, false, List, [], ◌∷◌, ◌++◌, map, length, get_or, Option, Some, None, option_map, refl, sym, ◌∙◌, ap, subst, ⊎_elim, arith}
+use Rattle.cc_heaps.proofs.ReflectorLists.{reflectors-are, reflector_of}
+use Rattle.cc_lists.proofs.Held.{map-replicate}
+use Rattle.std.proofs.Common.{◌≡◌, ◌≢◌, ℕ, ◌+◌, ◌<◌, ◌≤◌, false, List, [], ◌∷◌, ◌++◌, map, length, get_or, Option, Some, None, option_map, refl, sym, ◌∙◌, ap, subst, ⊎_elim, arith}
 use Rattle.std.specs.Option.{option_and_then}
 use Rattle.std.proofs.Math.ListN.{get_or-map}
 use Rattle.std.proofs.lemmas.Bool.Decides.{eqb_tells}
-use Rattle.std.proofs.lemmas.List.{ext_get_or, length-map, map-append}
+use Rattle.std.proofs.lemmas.List.{map-append}
 use Rattle.std.proofs.lemmas.Simd.{map-map}
 use Rattle.cc_lists.specs.Members.{Among}
 use Rattle.cc_lists.proofs.ListWrites.{each-push}
@@ -28,7 +30,7 @@ use Rattle.cc_heaps.proofs.Fit.{IsFit}
 use Rattle.cc_heaps.proofs.Keying.{counts-back}
 use Rattle.cc_heaps.proofs.Keys.{HasKeys-numbers, counts_in, find-unnamed}
 use Rattle.cc_heaps.proofs.LeftWith.{key_left-there}
-use Rattle.cc_heaps.proofs.Naming.{named_slots}
+use Rattle.cc_heaps.proofs.Naming.{name_in}
 use Rattle.cc_heaps.proofs.Ordered.{IsInOrder-made}
 use Rattle.cc_heaps.proofs.Registers.{AreLive-same, made-same, registers-same}
 
@@ -36,12 +38,8 @@ use Rattle.cc_heaps.proofs.Registers.{AreLive-same, made-same, registers-same}
 abbrev pub made_native : ℕ → ℕ → HeapNative
 made_native number slots = record { number = number; slots = empty_slots slots; preserved = false; count = 1 }
 
-empty-named : (objects : List Object) (n : ℕ) → named_slots objects (empty_slots n) ≡ empty_slots n
-empty-named objects zero = refl
-empty-named objects (suc n) = ap (λ ss. None ∷ ss) (empty-named objects n)
-
 made-named : (objects : List Object) (number n : ℕ) → named_native objects (made_native number n) ≡ made_native number n
-made-named objects number n = ap (λ ss. record (made_native number n) { slots = ss }) (empty-named objects n)
+made-named objects number n = ap (λ ss. record (made_native number n) { slots = ss }) (map-replicate (name_in objects) n None)
 
 module _ {owned : List ℕ} (p : Inside) (f : IsFit owned p) (next : Counts) (slots : ℕ) (key : NKey)
     (natives : next.natives ≡ p.counted.natives ++ made_native (p.natives_made + 1) slots ∷ [])
@@ -93,25 +91,17 @@ module _ {owned : List ℕ} (p : Inside) (f : IsFit owned p) (next : Counts) (sl
       (as_many : length next.reflectors ≡ length next.keys) where
     -- each native has its reflector still, and the new one has none
     made-reflectors : next.reflectors ≡ reflectors_by p.scripts next.keys
-    made-reflectors = ext_get_or None next.reflectors (reflectors_by p.scripts next.keys) (as_many ∙ sym (length-map next.keys its))
-        (λ q within. ⊎_elim (λ t. here q t.1) (λ t. there q t.1) (eqb_tells q key.0))
+    made-reflectors = reflectors-are p.scripts next.keys next.reflectors as_many
+        (λ q. ⊎_elim (λ t. subst (λ j. counts.reflector_at next j ≡ reflector_of p.scripts next.keys j) (sym t.1) here) (λ t. there q t.1) (eqb_tells q key.0))
       where
         its : Option ℕ → Option ℕ
         its o = option_and_then (reflector_key p.scripts) o
 
-        read : (keys : List (Option ℕ)) (q : ℕ) → get_or (reflectors_by p.scripts keys) q None ≡ its (get_or keys q None)
-        read keys q = get_or-map its keys q None
+        here : counts.reflector_at next key.0 ≡ reflector_of p.scripts next.keys key.0
+        here = none ∙ sym (ap its at ∙ made-blank)
 
-        here : (q : ℕ) → q ≡ key.0 → get_or next.reflectors q None ≡ get_or (reflectors_by p.scripts next.keys) q None
-        here q e = subst (λ j. get_or next.reflectors j None ≡ get_or (reflectors_by p.scripts next.keys) j None) (sym e)
-            (none ∙ sym (read next.keys key.0 ∙ (ap its at ∙ made-blank)))
-
-        there : (q : ℕ) → q ≢ key.0 → get_or next.reflectors q None ≡ get_or (reflectors_by p.scripts next.keys) q None
-        there q e =
-            other_reflectors q e
-            ∙ (ap (λ rs. get_or rs q None) f.linked.reflectors
-            ∙ (read p.counted.keys q
-            ∙ (ap its (sym (others q e)) ∙ sym (read next.keys q))))
+        there : (q : ℕ) → q ≢ key.0 → counts.reflector_at next q ≡ reflector_of p.scripts next.keys q
+        there q e = other_reflectors q e ∙ (ap (λ rs. get_or rs q None) f.linked.reflectors ∙ (get_or-map its p.counted.keys q None ∙ ap its (sym (others q e))))
 
     pub made-linked : IsLinked made
     made-linked = record {

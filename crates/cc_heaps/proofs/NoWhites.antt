@@ -1,5 +1,6 @@
 -- NO OBJECT IS WHITE: none is swept then, all stay, and nothing is told.
-use Rattle.std.proofs.Common.{◌≡◌, ℕ, Bool, true, false, not, ◌&&◌, List, [], map, ◌↔◌, Option, Some, None, is_some, IsTrue, refl, sym, ◌∙◌, ap, subst}
+use Rattle.cc_laws_heap.proofs.GraphParts.{is_some-found}
+use Rattle.std.proofs.Common.{◌≡◌, ℕ, Bool, true, false, not, ◌&&◌, List, [], map, ◌↔◌, IsTrue, refl, sym, ◌∙◌, ap, subst}
 use Rattle.std.proofs.lemmas.Bool.{true≢false}
 use Rattle.cc_lists.specs.Members.{Among}
 use Rattle.cc_lists.proofs.Filtering.{filter-each, filter-nothing}
@@ -45,11 +46,7 @@ module _ (objects : List Object) (found : Bool) (white : IsTrue found ↔ ((o : 
 
   -- what stands at a key is not white
   marked-each : (key : ℕ) → is_there objects key ≡ true → is_marked objects key ≡ true
-  marked-each key there = go (object_at objects key) refl
-    where
-      go : (found : Option Object) → object_at objects key ≡ found → is_marked objects key ≡ true
-      go None e = absurd (true≢false (sym there ∙ ap is_some e))
-      go (Some o) e = ap (λ (x : Option Object). elim x [ None ↦ false | Some p ↦ not (is_white p) ]) e ∙ ap not (other-each o (object_at-among objects key o e))
+  marked-each key there = let f = is_some-found (object_at objects key) there in rw (f.1, is_marked) (ap not (other-each f.0 (object_at-among objects key f.0 f.1)))
 
   -- and all entries stay
   pub living-all : (es : List KeyedEntry) → AreEntriesThere objects es → es ≡ living (is_marked objects) es

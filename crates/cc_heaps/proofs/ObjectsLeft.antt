@@ -1,10 +1,11 @@
 -- WHAT A SWEEP LEAVES OF THE SCRIPT OBJECTS, where the colours are those of marking: nothing that stays holds what goes,
 -- so what stays keeps its names.
-use Rattle.std.proofs.Common.{◌≡◌, ℕ, ◌==◌, Bool, true, false, not, List, map, Option, Some, None, refl, sym, ◌∙◌, ap, subst, arith}
+use Rattle.std.proofs.Common.{◌≡◌, ℕ, ◌==◌, Bool, true, false, not, List, map, Option, Some, refl, sym, ◌∙◌, ap, subst, arith}
 use Rattle.std.specs.List.{filter}
 use Rattle.std.specs.Option.{option_and_then}
 use Rattle.std.proofs.lemmas.Bool.{true≢false}
 use Rattle.std.proofs.lemmas.Simd.{map-map}
+use Rattle.cc_lists.proofs.Held.{map-held}
 use Rattle.cc_lists.specs.Members.{Among, has}
 use Rattle.cc_lists.proofs.Members.{Among-map, Among-map_cases, Among-filter, Among-filtered, Among-passes, has-there, has-among}
 use Rattle.cc_lists.proofs.Filtering.{count_by-filter-le, filter-agree}
@@ -27,10 +28,9 @@ use Rattle.cc_heaps.specs.Named.{own_name, named_native}
 use Rattle.cc_heaps.specs.Fields.{heap_of, keyed_of, IsLinked}
 use Rattle.cc_heaps.specs.Sweeping.{is_white, not_white, white_names}
 use Rattle.cc_heaps.specs.declared.heaps.Heaps.TheInside.{Inside}
-use Rattle.cc_heaps.proofs.ObjectsKept.{AreObjects, AreObjects-parts, there-kept}
+use Rattle.cc_heaps.proofs.ObjectsKept.{AreObjects, there-kept, there-named}
 use Rattle.cc_heaps.proofs.Reaching.{HasOneKey, same-tests, name_at-own, name_at-found}
 use Rattle.cc_heaps.proofs.RootNames.{register-names, key-register, script-named}
-use Rattle.cc_heaps.proofs.ScriptsChanged.{there-named}
 
 -- whether an object stays
 abbrev pub stays : Object → Bool
@@ -115,25 +115,20 @@ module _ {owned : List ℕ} (p : Inside) (l : IsLinked p) (o : IsInOrder owned (
       (stays-marked q m s))
 
   pub objects-left : AreObjects (left_objects p)
-  objects-left =
-      let a = AreObjects-parts owned p l o in
-      record {
-        one_key = one_key-left;
-        one_name = λ x. omega (arith, l.one_name x, count_by-filter-le (λ (q : Object). same_name q.name x) stays p.scripts);
-        script_names = λ q m. a.script_names q (Among-filtered stays q p.scripts m);
-        whole = λ q k m i.
-            let before : Among q p.scripts = Among-filtered stays q p.scripts m in
-            there-kept p.scripts (left_objects p) k (slot-left q k before (Among-passes stays q p.scripts m) i) (a.whole q k before i);
-      }
+  objects-left = record {
+    one_key = one_key-left;
+    one_name = λ x. omega (arith, l.one_name x, count_by-filter-le (λ (q : Object). same_name q.name x) stays p.scripts);
+    script_names = λ q m. l.script_names q (Among-filtered stays q p.scripts m);
+    whole = λ q k m i.
+        let before : Among q p.scripts = Among-filtered stays q p.scripts m in
+        there-kept p.scripts (left_objects p) k (slot-left q k before (Among-passes stays q p.scripts m) i) (o.whole q k before i);
+  }
 
   -- By names
 
   named-left : (q : Object) → Among q (left_objects p) → named_object (left_objects p) q ≡ named_object p.scripts q
-  named-left q m = ap (λ slots. record { name = q.name; kind = q.kind; slots = slots; colour = q.colour }) (map-agree (name_held (left_objects p)) (name_held p.scripts) q.slots at)
-    where
-      at : (x : Option ℕ) → Among x q.slots → name_held (left_objects p) x ≡ name_held p.scripts x
-      at None i = refl
-      at (Some k) i = slot-left q k (Among-filtered stays q p.scripts m) (Among-passes stays q p.scripts m) i
+  named-left q m = ap (λ slots. record { name = q.name; kind = q.kind; slots = slots; colour = q.colour })
+      (map-held (name_held (left_objects p)) (name_held p.scripts) q.slots refl (λ k. slot-left q k (Among-filtered stays q p.scripts m) (Among-passes stays q p.scripts m)))
 
   pub spared-stays : (q : Object) → Among q p.scripts → is_spared (unmarked (heap_of p)) (named_object p.scripts q) ≡ stays q
   spared-stays q m = ap not (same-tests (has same_name (unmarked (heap_of p)) q.name) (is_white q)

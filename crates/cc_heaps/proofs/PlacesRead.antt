@@ -1,12 +1,21 @@
 -- WHAT AN OBJECT REFERS TO, BY KEYS: each place holds the name of what the heaps answer, which is there.
-use Rattle.std.proofs.Common.{◌≡◌, ℕ, ◌+◌, ◌<◌, ◌≤◌, ◌==◌, Bool, true, false, List, [], ◌∷◌, ◌++◌, map, length, get_or, length-append, Option, Some, None, IsTrue, is_some, option_map, refl, sym, ◌∙◌, ap, subst, ⊎_elim, arith}
+use Rattle.cc_heaps.specs.Roots.{references_in}
+use Rattle.cc_counted.specs.Owning.{HasKeys}
+use Rattle.cc_heaps.proofs.ObjectsKept.{keys-counted}
+use Rattle.cc_heaps.proofs.ReferenceNames as by_number
+use Rattle.cc_heaps.proofs.ReferenceNames.{references-there, few_slots-counted}
+use Rattle.cc_heaps.proofs.References.{native-found, references-found, length-references, few-slots}
+use Rattle.cc_lists.proofs.Held.{is_some-map}
+use Rattle.cc_heaps.proofs.Keys.{Reflects-cases}
+use Rattle.cc_laws_heap.proofs.GraphParts.{is_some-found}
+use Rattle.std.proofs.Common.{◌≡◌, ℕ, ◌+◌, ◌<◌, ◌≤◌, ◌==◌, true, false, List, [], ◌∷◌, ◌++◌, map, length, get_or, length-append, Option, Some, None, IsTrue, is_some, option_map, refl, sym, ◌∙◌, ap, subst, arith}
 use Rattle.std.specs.Option.{option_and_then}
 use Rattle.std.proofs.Math.ListN.{get_or-map}
-use Rattle.std.proofs.lemmas.Bool.{false≢true, true≢false}
-use Rattle.std.proofs.lemmas.List.{get_or_append_left, get_or_push, length-map, map-append}
+use Rattle.std.proofs.lemmas.Bool.{true≢false}
+use Rattle.std.proofs.lemmas.List.{get_or_append_left, get_or_push, length-map}
 use Rattle.cc_lists.specs.Members.{Among}
 use Rattle.cc_lists.proofs.Filtering.{find-among}
-use Rattle.cc_lists.proofs.Members.{Among-append, Among-map}
+use Rattle.cc_lists.proofs.Members.{Among-map}
 use Rattle.cc_lists.proofs.Places.{among-get}
 use Rattle.cc_lists.proofs.Searching.{find-map, find-only}
 use Rattle.cc_names.specs.declared.kind.Kind.{Kind}
@@ -19,9 +28,9 @@ use Rattle.cc_names.specs.Names.{native, object, reflector, same_name, is_native
 use Rattle.cc_names.proofs.NameTests.{same_name-refl}
 use Rattle.cc_model.specs.Slots.{Slots}
 use Rattle.cc_model.specs.Checks.{slots_or_none}
-use Rattle.cc_model.specs.Heap.{Heap, HeapNative, HeapScript, native_at, script_at}
-use Rattle.cc_model.specs.WellFormed.{FitsName}
-use Rattle.cc_laws_heap.proofs.Natives.{named-found, native_at-number, native_at-there}
+use Rattle.cc_model.specs.Heap.{Heap, HeapNative, HeapScript, script_at}
+use Rattle.cc_model.specs.WellFormed.{FitsName, IsWellFormed}
+use Rattle.cc_laws_heap.proofs.Natives.{native_at-member, IsWellFormed-distinct}
 use Rattle.cc_counted.specs.declared.held.Held.{Held}
 use Rattle.cc_counted.specs.declared.held.Held.TheVariants as held
 use Rattle.cc_counted.specs.Counts.{held_of_native, is_live, name_of, preserved_at, preserved_reflector, reflector_at, references_of, slots_at, slots_of}
@@ -30,16 +39,13 @@ use Rattle.cc_script.specs.Objects.{Object, object_at, is_there}
 use Rattle.cc_script.specs.Objects as objects
 use Rattle.cc_script.proofs.Reaching.{among-held}
 use Rattle.cc_heaps.specs.declared.heaps.Heaps.TheInside.{Inside}
-use Rattle.cc_heaps.specs.Keyed.{Keyed, IsInOrder, Reflects, key_of, name_held, named_object, number_at, reflector_key, the_number}
+use Rattle.cc_heaps.specs.Keyed.{Keyed, IsInOrder, name_held, named_object, number_at}
 use Rattle.cc_heaps.specs.Changes.{IsThere, held_name}
 use Rattle.cc_heaps.specs.Named.{named_native}
 use Rattle.cc_heaps.specs.Fields.{keyed_of, IsLinked}
-use Rattle.cc_heaps.specs.Places.{native_of, places_at, places_in, places_of_native, places_of_script, reflector_of}
-use Rattle.cc_heaps.proofs.Calls.{number-there}
-use Rattle.cc_heaps.proofs.Content.{held-named, number-some}
-use Rattle.cc_heaps.proofs.ContentNames.{key-of_name, name-at_key}
-use Rattle.cc_heaps.proofs.Naming.{name_in, named_slots, native_at-shown, native_names-shown}
-use Rattle.cc_heaps.proofs.ScriptsChanged.{named-there}
+use Rattle.cc_heaps.specs.Places.{native_of, places_at, places_in, places_of_native, places_of_script}
+use Rattle.cc_heaps.proofs.Content.{held-named}
+use Rattle.cc_heaps.proofs.Naming.{name_in}
 
 -- what is there stands at its key
 pub native-live : {v w : Keyed} {x : Held} {key : NKey} → w ≡ v → x ≡ held.Native key → IsThere v (Some x) → is_some (number_at w key.0) ≡ true
@@ -62,67 +68,39 @@ module _ (p : Inside) (owned : List ℕ) (l : IsLinked p) (o : IsInOrder owned (
   -- A native
 
   module _ (key : NKey) (live : is_some (number_at v key.0) ≡ true) where
-    abbrev k : ℕ
-    k = the_number v key.0
+    keyed : HasKeys p.counted
+    keyed = keys-counted owned p l o
 
-    numbered : number_at v key.0 ≡ Some k
-    numbered = number-some (number_at v key.0) live
+    w : IsWellFormed v.heap
+    w = o.sound.well_formed
 
-    -- as the counted heap shows it
-    found : (n : HeapNative) × (native_at alone k ≡ Some n)
-    found = named-found alone k (subst (λ xs. Among (native k) xs) (native_names-shown p.scripts v.heap alone) (number-there owned v key.0 o live))
+    found : (n : HeapNative) × Among n p.counted.natives × (number_at v key.0 ≡ Some n.number)
+    found = native-found p.counted keyed key.0 live
 
     abbrev n : HeapNative
     n = found.0
 
-    -- and under its names
-    n-there : Among (named_native p.scripts n) v.heap.natives
-    n-there = Among-map (named_native p.scripts) n p.counted.natives (native_at-there alone k n found.1)
-
     places-are : places_at v (held.Native key) ≡ places_of_native (named_native p.scripts n)
     places-are =
-        ap (λ j. slots_or_none (option_and_then (places_in v.heap) (option_map native j))) numbered
-        ∙ ap (λ m. slots_or_none (option_map places_of_native m)) (native_at-shown p.scripts v.heap alone k ∙ ap (option_map (named_native p.scripts)) found.1)
+        ap (λ j. slots_or_none (option_and_then (places_in v.heap) (option_map native j))) found.2
+        ∙ ap (λ m. slots_or_none (option_map places_of_native m))
+        (native_at-member v.heap (IsWellFormed-distinct v.heap w) (named_native p.scripts n) (Among-map (named_native p.scripts) n p.counted.natives found.1))
+
+    -- its references as the counted heap shows them, and under their names
+    references-are : references_of p.counted key.0 ≡ references_in p.counted n
+    references-are = references-found p.counted keyed key.0 n found.1 found.2
+
+    references-named : map (name_in p.scripts) (references_of p.counted key.0) ≡ places_at v (held.Native key)
+    references-named = ap (map (name_in p.scripts)) references-are ∙ (by_number.references-named p l keyed w n found.1 ∙ sym places-are)
 
     -- there is one more than slots
     pub native_places-length : length (places_at v (held.Native key)) ≡ length (slots_of p.counted key.0) + 1
     native_places-length =
-        ap length places-are
-        ∙ (length-append (named_slots p.scripts n.slots) (reflector_of (named_native p.scripts n) ∷ [])
-        ∙ ap (λ i. i + 1) (length-map n.slots (name_in p.scripts) ∙ sym (ap (λ m. length (slots_at m)) found.1)))
+        ap length (sym references-named) ∙ (length-map (references_of p.counted key.0) (name_in p.scripts) ∙ length-references p.counted key.0)
 
     -- and slots are few
     pub native_slots-few : length (slots_of p.counted key.0) ≤ 64
-    native_slots-few = omega (
-      arith,
-      o.sound.well_formed.native_slots (named_native p.scripts n) n-there,
-      length-map n.slots (name_in p.scripts),
-      ap (λ m. length (slots_at m)) found.1,
-    )
-
-    -- the key of its reflector is that of the reflector's name
-    reflector-at : reflector_at p.counted key.0 ≡ key_of p.scripts (reflector n.number)
-    reflector-at =
-        ap (λ rs. get_or rs key.0 None) l.reflectors
-        ∙ (get_or-map (λ j. option_and_then (reflector_key p.scripts) j) p.counted.keys key.0 None
-        ∙ ap (option_and_then (reflector_key p.scripts)) (numbered ∙ ap (λ j. Some j) (sym (native_at-number alone k n found.1))))
-
-    -- what stands behind the last slot, by name
-    last-named : (b : Bool) → n.preserved ≡ b →
-        name_in p.scripts (preserved_reflector b (reflector_at p.counted key.0)) ≡ elim b as (λ _. Option Name) [ true ↦ Some (reflector n.number) | false ↦ None ]
-    last-named false e = refl
-    last-named true e =
-        let q = key-of_name owned v o (reflector n.number) (o.sound.well_formed.preserved (named_native p.scripts n) n-there e) in
-        ap (λ r. name_in p.scripts (option_map object r)) (reflector-at ∙ q.1) ∙ name-at_key owned v o (reflector n.number) q.0 q.1
-
-    references-are : references_of p.counted key.0 ≡ n.slots ++ preserved_reflector n.preserved (reflector_at p.counted key.0) ∷ []
-    references-are = ap (λ m. slots_at m ++ preserved_reflector (preserved_at m) (reflector_at p.counted key.0) ∷ []) found.1
-
-    references-named : map (name_in p.scripts) (references_of p.counted key.0) ≡ places_at v (held.Native key)
-    references-named =
-        ap (map (name_in p.scripts)) references-are
-        ∙ (map-append (name_in p.scripts) n.slots (preserved_reflector n.preserved (reflector_at p.counted key.0) ∷ [])
-        ∙ (ap (λ x. named_slots p.scripts n.slots ++ x ∷ []) (last-named n.preserved refl) ∙ sym places-are))
+    native_slots-few = few-slots p.counted (few_slots-counted p w) key.0
 
     module _ (i : ℕ) (x : Option Held) (e : name_of p.counted x ≡ get_or (references_of p.counted key.0) i None) where
       -- WHAT THE COUNTED HEAP ANSWERS has the name that stands at this place,
@@ -134,34 +112,19 @@ module _ (p : Inside) (owned : List ℕ) (l : IsLinked p) (o : IsInOrder owned (
 
     -- a script object among the references is there
     script-there : (q : ℕ) → Among (Some (object q)) (references_of p.counted key.0) → IsTrue (is_there p.scripts q)
-    script-there q m = ⊎_elim
-        (λ a. l.held n (object q) (native_at-there alone k n found.1) (among-held n.slots (object q) a))
-        (λ a. ⊎_elim (last n.preserved refl) (λ none. absurd none) a)
-        (Among-append (Some (object q)) n.slots (preserved_reflector n.preserved (reflector_at p.counted key.0) ∷ []) (subst (Among (Some (object q))) references-are m))
-      where
-        last : (b : Bool) → n.preserved ≡ b → preserved_reflector b (reflector_at p.counted key.0) ≡ Some (object q) → IsTrue (is_there p.scripts q)
-        last false f e = absurd (cc)
-        last true f e = named-there p.scripts q (reflector n.number) (sym (ap (name_in p.scripts) e) ∙ last-named true f)
+    script-there q m = references-there p l keyed n (object q) found.1 (among-held (references_in p.counted n) (object q) (subst (Among (Some (object q))) references-are m))
 
     -- and is there.
     pub reference-there : (i : ℕ) (x : Option Held) → name_of p.counted x ≡ get_or (references_of p.counted key.0) i None → IsTrue (is_live p.counted x) → IsThere v x
     reference-there i None e t = tt
-    reference-there i (Some (held.Native q)) e t = go (number_at v q.0) t
-      where
-        go : (m : Option ℕ) → is_some (option_map native m) ≡ true → is_some m ≡ true
-        go None s = s
-        go (Some j) s = refl
+    reference-there i (Some (held.Native q)) e t = sym (is_some-map native (number_at v q.0)) ∙ t
     reference-there i (Some (held.Script q)) e t = script-there q.0 (among-get (references_of p.counted key.0) i (object q.0) (sym e))
 
   -- A script object
 
   module _ (key : SKey) (live : IsTrue (is_there p.scripts key.0)) where
     object-found : (q : Object) × (object_at p.scripts key.0 ≡ Some q)
-    object-found = go (object_at p.scripts key.0) refl live
-      where
-        go : (m : Option Object) → object_at p.scripts key.0 ≡ m → is_some m ≡ true → (q : Object) × (object_at p.scripts key.0 ≡ Some q)
-        go None e t = absurd (false≢true t)
-        go (Some q) e t = (q, e)
+    object-found = is_some-found (object_at p.scripts key.0) live
 
     abbrev q : Object
     q = object-found.0
@@ -234,21 +197,20 @@ module _ (p : Inside) (owned : List ℕ) (l : IsLinked p) (o : IsInOrder owned (
     pub native-named : (r : Option NKey) → option_map (λ (j : NKey). j.0) r ≡ objects.native_at p.scripts key.0 →
         (held_name v (held_of_native r) ≡ get_or (places_at v (held.Script key)) (length own_slots) None) × IsThere v (held_of_native r)
     native-named r e =
-        let f = go q.name q.native r (l.script_names q q-there) (o.reflecting q q-there) (e ∙ ap (option_and_then (λ (s : Object). s.native)) object-found.1) in (
+        let f = Reflects-cases v Read plain own q.name q.native (o.reflecting q q-there) r (e ∙ ap (option_and_then (λ (s : Object). s.native)) object-found.1) in (
           f.0
               ∙ (sym (get_or_push (map (name_held p.scripts) own_slots) (native_of q.name) None (length own_slots) (length-map own_slots (name_held p.scripts)))
               ∙ ap (λ ss. get_or ss (length own_slots) None) (sym script_places)),
           f.1,
         )
       where
-        go : (x : Name) (m : Option ℕ) (r : Option NKey) → is_native x ≡ false → Reflects v x m → option_map (λ (j : NKey). j.0) r ≡ m →
-            (held_name v (held_of_native r) ≡ native_of x) × IsThere v (held_of_native r)
-        go (name.Native j) m r f t e = absurd (true≢false f)
-        go (name.Script j) m None f t e = (refl, tt)
-        go (name.Script j) m (Some r) f t e = absurd (cc)
-        go (name.Reflector j) None r f t e = absurd t
-        go (name.Reflector j) (Some i) None f t e = absurd (cc)
-        go (name.Reflector j) (Some i) (Some r) f t e =
-            let same : r.0 ≡ i = cc in
-            let at : number_at v r.0 ≡ Some j.0 = ap (number_at v) same ∙ t in
-            (ap (option_map native) at, ap is_some at)
+        Read : Name → Option ℕ → Type 0
+        Read x m = (r : Option NKey) → option_map (λ (j : NKey). j.0) r ≡ m → (held_name v (held_of_native r) ≡ native_of x) × IsThere v (held_of_native r)
+
+        plain : (k : ℕ) → Read (object k) None
+        plain k None e = (refl, tt)
+        plain k (Some r) e = absurd (cc)
+
+        own : (k i : ℕ) → number_at v i ≡ Some k → Read (reflector k) (Some i)
+        own k i t None e = absurd (cc)
+        own k i t (Some r) e = let at : number_at v r.0 ≡ Some k = ap (number_at v) (cc) ∙ t in (ap (option_map native) at, ap is_some at)

@@ -3,18 +3,19 @@
 use Rattle.std.proofs.Common.{◌≡◌, ℕ, ◌≤◌, Bool, true, false, List, [], ◌∷◌, map, Option, Some, None, option_map, refl, sym, ◌∙◌, ap, subst, inl, inr, ⊎_elim, count_by, ◌==◌}
 use Rattle.std.specs.Prelude.{IsTrue}
 use Rattle.std.specs.List.{flat_map}
-use Rattle.std.specs.Option.{is_some}
-use Rattle.std.proofs.lemmas.Bool.{eqb-true, eq-eqb, false≢true}
+use Rattle.std.proofs.lemmas.Bool.{eqb-true, eq-eqb}
+use Rattle.cc_lists.proofs.Carried.{Carries, least-carried}
+use Rattle.cc_laws_heap.proofs.GraphParts.{is_some-found}
+use Rattle.cc_laws_heap.proofs.Changing.{option_map-found}
 use Rattle.cc_lists.specs.Members.{Among, has}
-use Rattle.cc_lists.specs.Least.{Least, system, closure}
+use Rattle.cc_lists.specs.Least.{system, closure}
 use Rattle.cc_lists.proofs.Members.{Among-map, Among-map_cases, Among-flat_map, Among-flat_map_cases}
 use Rattle.cc_lists.proofs.Filtering.{find-among, find-passes}
 use Rattle.cc_lists.proofs.Searching.{find-only}
 use Rattle.cc_lists.proofs.ListWrites.{only-member}
-use Rattle.cc_lists.proofs.Least.{derive-root, derive-along, derive-jointly, derived-within}
 use Rattle.cc_lists.proofs.Closure.{closure-decides}
 use Rattle.cc_names.specs.declared.name.Name.{Name}
-use Rattle.cc_names.specs.Names.{object, same_name}
+use Rattle.cc_names.specs.Names.{same_name}
 use Rattle.cc_names.proofs.NameTests.{same_name-refl, same_name-exact}
 use Rattle.cc_model.specs.Slots.{contents, from_to}
 use Rattle.cc_model.specs.View.{script_slot_edges}
@@ -24,7 +25,7 @@ use Rattle.cc_script.specs.Objects.{Object, object_at, is_there, name_at}
 use Rattle.cc_script.specs.Walking.{edges, keys_reached}
 use Rattle.cc_script.proofs.Reaching.{edge-slot, slot-edge, held-among, among-held}
 use Rattle.cc_weakmaps.specs.Entries.{KeyedEntry}
-use Rattle.cc_marking.specs.Marking.{AreEntriesThere, IsMarkedFrom, joint, joints, keys_marked, mark_rules}
+use Rattle.cc_marking.specs.Marking.{AreEntriesThere, joint, joints, keys_marked, mark_rules}
 use Rattle.cc_heaps.specs.Keyed.{name_held, named_entries, named_entry, named_object, named_objects, the_name_at}
 
 -- at most one object stands at a key, and at most one has a name
@@ -58,12 +59,10 @@ name_at-own objects one o m = ap (λ (p : Option Object). option_map (λ q. q.na
 -- and a key's name is that of an object
 pub name_at-found : (objects : List Object) (key : ℕ) (x : Name) → name_at objects key ≡ Some x →
     (o : Object) × Among o objects × (o.key ≡ key) × (o.name ≡ x)
-name_at-found objects key x e = go (object_at objects key) refl e
-  where
-    go : (p : Option Object) → object_at objects key ≡ p → option_map (λ q. q.name) p ≡ Some x →
-        (o : Object) × Among o objects × (o.key ≡ key) × (o.name ≡ x)
-    go None f n = absurd (cc)
-    go (Some o) f n = let k = object_at-found objects key o f in (o, k.0, k.1, (cc))
+name_at-found objects key x e =
+    let f = option_map-found (λ (o : Object). o.name) (object_at objects key) x e in
+    let k = object_at-found objects key f.0 f.1 in
+    (f.0, k.0, k.1, f.2)
 
 -- the key of a name, where it is the name of an object
 pub key-named : (objects : List Object) → HasOneName objects → (key : ℕ) (x : Name) → name_at objects key ≡ Some x →
@@ -109,88 +108,73 @@ pub record AreNamesOf (objects : List Object) (keys : List ℕ) (names : List Na
 
 -- THE NAME OF WHAT IS THERE
 pub the_name-there : (objects : List Object) (key : ℕ) → IsTrue (is_there objects key) → name_at objects key ≡ Some (the_name_at objects key)
-the_name-there objects key t = go (object_at objects key) t
-  where
-    go : (o : Option Object) → is_some o ≡ true → option_map (λ (p : Object). p.name) o ≡ Some (elim (option_map (λ (p : Object). p.name) o) as (λ _. Name) [ None ↦ object 0 | Some x ↦ x ])
-    go None e = absurd (false≢true e)
-    go (Some o) e = refl
+the_name-there objects key t = let f = is_some-found (object_at objects key) t in rw (f.1, the_name_at) refl
+
+pub the_name-is : (objects : List Object) (key : ℕ) (x : Name) → name_at objects key ≡ Some x → the_name_at objects key ≡ x
+the_name-is objects key x e = rw (e, the_name_at) refl
 
 module _ (objects : List Object) (one_key : HasOneKey objects) (one_name : HasOneName objects) where
-  -- an object at a key has that key's name
-  own-name : (o : Object) (key : ℕ) → Among o objects → o.key ≡ key → IsTrue (is_there objects key) → the_name_at objects key ≡ o.name
-  own-name o key m e t =
-      let own : name_at objects key ≡ Some o.name = subst (λ j. name_at objects j ≡ Some o.name) e (name_at-own objects one_key o m) in
-      let both : Some (the_name_at objects key) ≡ Some o.name = sym (the_name-there objects key t) ∙ own in
-      cc
+  -- a name has one key
+  same-key : (a b : ℕ) (x : Name) → name_at objects a ≡ Some x → name_at objects b ≡ Some x → a ≡ b
+  same-key a b x e d = let f = name_at-found objects a x e in sym f.2 ∙ key-named objects one_name b x d f.0 f.1 f.3
 
   module _ (es : List KeyedEntry) (there : AreEntriesThere objects es) (keys : List ℕ) (names : List Name) (roots : AreNamesOf objects keys names) where
-    -- a mark by keys, and by names
-    abbrev by_keys : ℕ → Type 0
-    by_keys key = IsMarkedFrom objects es keys key
+    abbrev named_joints : List (List Name × Name)
+    named_joints = entries.joints (named_entries objects es)
 
-    abbrev by_names : Name → Type 0
-    by_names x = Least (system names (named_edges objects) (entries.joints (named_entries objects es))) x
-
-    -- where each object at the map and at the key of an entry is marked by its name, the object at its value is
-    joint-names : (e : KeyedEntry) → Among e es → ((k : ℕ) → Among k (e.the_map ∷ e.key ∷ []) → (p : Object) → Among p objects → p.key ≡ k → by_names p.name) →
-        (p : Object) → Among p objects → p.key ≡ e.value → by_names p.name
-    joint-names e m before p n v =
-        subst by_names (own-name p e.value n v (there e m).value)
-        (derive-jointly names (named_edges objects) (entries.joints (named_entries objects es))
-        (the_name_at objects e.the_map ∷ the_name_at objects e.key ∷ []) (the_name_at objects e.value)
-        (Among-map entries.joint (named_entry objects e) (named_entries objects es) (Among-map (named_entry objects) e es m))
-        (λ x i. ⊎_elim (λ s. subst by_names s (at e.the_map (there e m).the_map (inl refl)))
-        (λ t. ⊎_elim (λ s. subst by_names s (at e.key (there e m).key (inr (inl refl)))) (λ u. absurd u) t) i))
+    -- what a key gives, its name gives,
+    names-carried : Carries (λ k x. name_at objects k ≡ Some x) keys (edges objects) (joints es) names (named_edges objects) named_joints
+    names-carried = record {
+      root = roots.named;
+      edge = λ k q y m r.
+          let f = edge-slot objects k q m in
+          (f.0.name, ap (name_at objects) (sym f.2) ∙ name_at-own objects one_key f.0 f.1, found-named objects f.0 q y f.1 f.3 r);
+      entry = λ ks v y m r. let f = Among-map_cases joint es (ks, v) m in subst (Gives y) f.2 (at f.0 y f.1) r;
+    }
       where
-        at : (k : ℕ) → IsTrue (is_there objects k) → Among k (e.the_map ∷ e.key ∷ []) → by_names (the_name_at objects k)
-        at k t i = let f = name_at-found objects k (the_name_at objects k) (the_name-there objects k t) in subst by_names f.3 (before k i f.0 f.1 f.2)
+        Gives : Name → List ℕ × ℕ → Type 0
+        Gives y r = name_at objects r.1 ≡ Some y → (xs : List Name) × Among (xs, y) named_joints × ((x : Name) → Among x xs → (k : ℕ) × Among k r.0 × (name_at objects k ≡ Some x))
 
-    -- and the other way round
-    joint-keys : (e : KeyedEntry) → Among e es →
-        ((x : Name) → Among x (the_name_at objects e.the_map ∷ the_name_at objects e.key ∷ []) → (p : Object) → Among p objects → p.name ≡ x → by_keys p.key) →
-        (p : Object) → Among p objects → p.name ≡ the_name_at objects e.value → by_keys p.key
-    joint-keys e m before p n v =
-        subst by_keys (sym (key-named objects one_name e.value (the_name_at objects e.value) (the_name-there objects e.value (there e m).value) p n v))
-        (derive-jointly keys (edges objects) (joints es) (e.the_map ∷ e.key ∷ []) e.value (Among-map joint e es m)
-        (λ k i. ⊎_elim (λ s. subst by_keys s (at e.the_map (there e m).the_map (inl refl)))
-        (λ t. ⊎_elim (λ s. subst by_keys s (at e.key (there e m).key (inr (inl refl)))) (λ u. absurd u) t) i))
+        at : (e : KeyedEntry) (y : Name) → Among e es → Gives y (joint e)
+        at e y m r = (
+          the_name_at objects e.the_map ∷ the_name_at objects e.key ∷ [],
+          subst (λ z. Among (the_name_at objects e.the_map ∷ the_name_at objects e.key ∷ [], z) named_joints) (the_name-is objects e.value y r)
+              (Among-map entries.joint (named_entry objects e) (named_entries objects es) (Among-map (named_entry objects) e es m)),
+          λ x i. ⊎_elim
+              (λ s. (e.the_map, inl refl, the_name-there objects e.the_map (there e m).the_map ∙ ap (λ z. Some z) s))
+              (⊎_elim (λ s. (e.key, inr (inl refl), the_name-there objects e.key (there e m).key ∙ ap (λ z. Some z) s)) (λ n. absurd n)) i,
+        )
+
+    -- and the other way round.
+    keys-carried : Carries (λ x k. name_at objects k ≡ Some x) names (named_edges objects) named_joints keys (edges objects) (joints es)
+    keys-carried = record {
+      root = λ x k m r. let f = roots.keyed x m in subst (λ j. Among j keys) (same-key f.0 k x f.2 r) f.1;
+      edge = λ x y k m r. let f = named-found objects x y m in (
+        f.0.key,
+        name_at-own objects one_key f.0 f.1 ∙ ap (λ z. Some z) f.2,
+        subst (λ j. Among (f.0.key, j) (edges objects)) (same-key f.3.0 k y f.3.2 r) (slot-edge objects f.0 f.3.0 f.1 f.3.1),
+      );
+      entry = λ xs v k m r.
+          let f = Among-map_cases entries.joint (named_entries objects es) (xs, v) m in
+          let g = Among-map_cases (named_entry objects) es f.0 f.1 in
+          subst (Gives k) (ap entries.joint g.2 ∙ f.2) (at g.0 k g.1) r;
+    }
       where
-        at : (k : ℕ) → IsTrue (is_there objects k) → Among (the_name_at objects k) (the_name_at objects e.the_map ∷ the_name_at objects e.key ∷ []) → by_keys k
-        at k t i = let f = name_at-found objects k (the_name_at objects k) (the_name-there objects k t) in
-            subst by_keys f.2 (before (the_name_at objects k) i f.0 f.1 f.3)
+        Gives : ℕ → List Name × Name → Type 0
+        Gives k r = name_at objects k ≡ Some r.1 → (ks : List ℕ) × Among (ks, k) (joints es) × ((j : ℕ) → Among j ks → (x : Name) × Among x r.0 × (name_at objects j ≡ Some x))
 
-    -- whose key is marked, its name is marked
-    marked-names : (o : Object) → Among o objects → by_keys o.key → by_names o.name
-    marked-names o m d = derived-within keys (edges objects) (joints es) (λ k. (p : Object) → Among p objects → p.key ≡ k → by_names p.name)
-        (λ k i p n e. derive-root names (named_edges objects) (entries.joints (named_entries objects es)) p.name
-        (roots.named k p.name i (subst (λ j. name_at objects j ≡ Some p.name) e (name_at-own objects one_key p n))))
-        (λ k q i before p n e.
-        let f = edge-slot objects k q i in
-        derive-along names (named_edges objects) (entries.joints (named_entries objects es)) f.0.name p.name
-        (found-named objects f.0 q p.name f.1 f.3 (subst (λ j. name_at objects j ≡ Some p.name) e (name_at-own objects one_key p n)))
-        (before f.0 f.1 f.2))
-        (λ ks v i.
-        let f = Among-map_cases joint es (ks, v) i in
-        subst (λ (r : List ℕ × ℕ). ((k : ℕ) → Among k r.0 → (p : Object) → Among p objects → p.key ≡ k → by_names p.name) →
-        (p : Object) → Among p objects → p.key ≡ r.1 → by_names p.name) f.2 (joint-names f.0 f.1))
-        o.key d o m refl
+        named : (j i : ℕ) → IsTrue (is_there objects j) → j ≡ i → name_at objects i ≡ Some (the_name_at objects j)
+        named j i t s = ap (name_at objects) (sym s) ∙ the_name-there objects j t
 
-    -- and the other way round
-    marked-keys : (o : Object) → Among o objects → by_names o.name → by_keys o.key
-    marked-keys o m d = derived-within names (named_edges objects) (entries.joints (named_entries objects es)) (λ x. (p : Object) → Among p objects → p.name ≡ x → by_keys p.key)
-        (λ x i p n e.
-        let f = roots.keyed x i in
-        subst by_keys (sym (key-named objects one_name f.0 x f.2 p n e)) (derive-root keys (edges objects) (joints es) f.0 f.1))
-        (λ x y i before p n e.
-        let f = named-found objects x y i in
-        subst by_keys (sym (key-named objects one_name f.3.0 y f.3.2 p n e))
-        (derive-along keys (edges objects) (joints es) f.0.key f.3.0 (slot-edge objects f.0 f.3.0 f.1 f.3.1) (before f.0 f.1 f.2)))
-        (λ xs v i.
-        let f = Among-map_cases entries.joint (named_entries objects es) (xs, v) i in
-        let g = Among-map_cases (named_entry objects) es f.0 f.1 in
-        subst (λ (r : List Name × Name). ((x : Name) → Among x r.0 → (p : Object) → Among p objects → p.name ≡ x → by_keys p.key) →
-        (p : Object) → Among p objects → p.name ≡ r.1 → by_keys p.key) (ap entries.joint g.2 ∙ f.2) (joint-keys g.0 g.1))
-        o.name d o m refl
+        at : (e : KeyedEntry) (k : ℕ) → Among e es → Gives k (entries.joint (named_entry objects e))
+        at e k m r = (
+          e.the_map ∷ e.key ∷ [],
+          subst (λ j. Among (e.the_map ∷ e.key ∷ [], j) (joints es)) (same-key e.value k (the_name_at objects e.value) (the_name-there objects e.value (there e m).value) r)
+              (Among-map joint e es m),
+          λ j i. ⊎_elim
+              (λ s. (the_name_at objects e.the_map, inl refl, named e.the_map j (there e m).the_map s))
+              (⊎_elim (λ s. (the_name_at objects e.key, inr (inl refl), named e.key j (there e m).key s)) (λ n. absurd n)) i,
+        )
 
     -- FROM ROOTS THAT ARE THE NAMES OF THE KEYS as a set, over slots and entries
     pub marked-alike_from : (o : Object) → Among o objects →
@@ -201,8 +185,10 @@ module _ (objects : List Object) (one_key : HasOneKey objects) (one_name : HasOn
         let by_name = closure-decides same_name same_name-exact (system names (named_edges objects) (entries.joints (named_entries objects es))) o.name in
         same-tests (has ◌==◌ (keys_marked objects es keys) o.key)
         (has same_name (closure same_name (system names (named_edges objects) (entries.joints (named_entries objects es)))) o.name)
-        (λ e. by_name.1 (marked-names o m (by_key.0 e)))
-        (λ e. by_key.1 (marked-keys o m (by_name.0 e)))
+        (λ e. by_name.1 (least-carried (λ k x. name_at objects k ≡ Some x) keys (edges objects) (joints es) names (named_edges objects) named_joints names-carried
+        o.key (by_key.0 e) o.name (name_at-own objects one_key o m)))
+        (λ e. by_key.1 (least-carried (λ x k. name_at objects k ≡ Some x) names (named_edges objects) named_joints keys (edges objects) (joints es) keys-carried
+        o.name (by_name.0 e) o.key (name_at-own objects one_key o m)))
 
   -- and over slots alone
   pub reached-alike_from : (keys : List ℕ) (names : List Name) → AreNamesOf objects keys names → (o : Object) → Among o objects →

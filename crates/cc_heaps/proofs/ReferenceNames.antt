@@ -1,8 +1,13 @@
 -- WHAT NATIVES REFER TO by keys and by names: a preserved reflector has its own name in the place of its key.
-use Rattle.std.proofs.Common.{◌≡◌, ℕ, zero, suc, ◌≤◌, ◌==◌, Bool, true, false, List, [], ◌∷◌, ◌++◌, map, get_or, Option, Some, None, option_map, refl, sym, ◌∙◌, ap, subst, ⊎_elim}
+use Rattle.std.proofs.Math.ListN.{get_or-map}
+use Rattle.cc_lists.proofs.Held.{held-is}
+use Rattle.cc_laws_heap.proofs.Changing.{option_map-found}
+use Rattle.cc_heaps.proofs.Keys.{named-object}
+use Rattle.cc_heaps.proofs.References.{reflector_by-key}
+use Rattle.std.proofs.Common.{◌≡◌, ℕ, ◌≤◌, Bool, true, false, [], ◌∷◌, ◌++◌, map, get_or, Option, Some, None, option_map, refl, sym, ◌∙◌, ap, subst, ⊎_elim, option_and_then}
 use Rattle.std.specs.List.{find}
 use Rattle.std.specs.Option.{is_some, option_to_list}
-use Rattle.std.proofs.lemmas.Bool.{eq-eqb, eqb-true, false≢true}
+use Rattle.std.proofs.lemmas.Bool.{false≢true}
 use Rattle.std.proofs.lemmas.List.{map-append, length-map}
 use Rattle.cc_lists.specs.Members.{Among}
 use Rattle.cc_lists.proofs.Members.{Among-append, Among-map, Among-map_cases}
@@ -11,14 +16,14 @@ use Rattle.cc_names.specs.declared.name.Name.{Name}
 use Rattle.cc_names.specs.declared.name.Name.TheVariants as name
 use Rattle.cc_names.specs.Names.{native, object, reflector, same_name, is_script}
 use Rattle.cc_model.specs.Slots.{contents}
-use Rattle.cc_model.specs.Heap.{HeapNative, HeapScript}
+use Rattle.cc_model.specs.Heap.{HeapNative}
 use Rattle.cc_model.specs.View.{native_edges}
 use Rattle.cc_model.specs.WellFormed.{IsWellFormed}
 use Rattle.cc_counted.specs.Counts.{preserved_reflector}
 use Rattle.cc_counted.specs.Owning.{HasKeys}
 use Rattle.cc_script.specs.Objects.{Object, name_at}
 use Rattle.cc_script.proofs.Reaching.{held-among, among-held}
-use Rattle.cc_heaps.specs.Keyed.{key_of, reflector_key, reflectors_by, named_object}
+use Rattle.cc_heaps.specs.Keyed.{key_of, reflector_key}
 use Rattle.cc_heaps.specs.Named.{named_native, IsHeldThere}
 use Rattle.cc_heaps.specs.Fields.{heap_of, IsLinked}
 use Rattle.cc_heaps.specs.Places.{places_of_native}
@@ -28,24 +33,6 @@ use Rattle.cc_heaps.proofs.Keying.{key_of-name}
 use Rattle.cc_heaps.proofs.Naming.{name_in}
 use Rattle.cc_heaps.proofs.PlaceEdges.{contents-last, contents-places}
 use Rattle.cc_heaps.proofs.Reaching.{object_at-own, name_at-own}
-
--- the reflector of a number that stands at a key is that of its name
-reflector_by-name : (objects : List Object) (os : List (Option ℕ)) (key k : ℕ) → get_or os key None ≡ Some k →
-    reflector_by os (reflectors_by objects os) k ≡ reflector_key objects k
-reflector_by-name objects [] key k e = absurd (cc)
-reflector_by-name objects (None ∷ os) zero k e = absurd (cc)
-reflector_by-name objects (None ∷ os) (suc key) k e = reflector_by-name objects os key k e
-reflector_by-name objects (Some j ∷ os) zero k e = go (j == k) (eq-eqb j k (cc)) (cc)
-  where
-    go : (b : Bool) → b ≡ true → j ≡ k → elim b as (λ _. Option ℕ) [ true ↦ reflector_key objects j | false ↦ reflector_by os (reflectors_by objects os) k ] ≡ reflector_key objects k
-    go true f e = ap (reflector_key objects) e
-    go false f e = absurd (false≢true f)
-reflector_by-name objects (Some j ∷ os) (suc key) k e = go (reflector_by-name objects os key k e) (j == k) refl
-  where
-    go : reflector_by os (reflectors_by objects os) k ≡ reflector_key objects k → (b : Bool) → (j == k) ≡ b →
-        elim b as (λ _. Option ℕ) [ true ↦ reflector_key objects j | false ↦ reflector_by os (reflectors_by objects os) k ] ≡ reflector_key objects k
-    go ih true f = ap (reflector_key objects) (eqb-true j k f)
-    go ih false f = ih
 
 abbrev target : Name × Name → Name
 target e = e.1
@@ -59,7 +46,9 @@ module _ (p : Inside) (l : IsLinked p) (k : HasKeys p.counted) where
   reflector-found : (n : HeapNative) → Among n p.counted.natives → reflector_by p.counted.keys p.counted.reflectors n.number ≡ reflector_key p.scripts n.number
   reflector-found n m =
       let f = k.key_of n m in
-      ap (λ rs. reflector_by p.counted.keys rs n.number) l.reflectors ∙ reflector_by-name p.scripts p.counted.keys f.0 n.number f.1
+      reflector_by-key p.counted.keys p.counted.reflectors f.0 n.number f.1 (λ q e. k.one_key q f.0 n.number e f.1)
+      ∙ (ap (λ rs. get_or rs f.0 None) l.reflectors
+      ∙ (get_or-map (option_and_then (reflector_key p.scripts)) p.counted.keys f.0 None ∙ ap (option_and_then (reflector_key p.scripts)) f.1))
 
   -- WHAT A NATIVE REFERS TO IS THERE, as far as it is a script object
   pub references-there : (n : HeapNative) (x : Name) → Among n p.counted.natives → Among x (contents (references_in p.counted n)) → IsHeldThere p.scripts x
@@ -71,29 +60,22 @@ module _ (p : Inside) (l : IsLinked p) (k : HasKeys p.counted) where
       reference : Option Name
       reference = preserved_reflector n.preserved (reflector_by p.counted.keys p.counted.reflectors n.number)
 
-      find_reflector : Option Object
-      find_reflector = find (λ (o : Object). same_name o.name (reflector n.number)) p.scripts
-
-      key : (o : Option Object) → find_reflector ≡ o → Among x (option_to_list (option_map object (option_map (λ (q : Object). q.key) o))) → IsHeldThere p.scripts x
-      key None e j = absurd j
-      key (Some q) e j = ⊎_elim
-          (λ same. subst (IsHeldThere p.scripts) same (ap is_some (object_at-own p.scripts l.one_key q (find-among (λ (o : Object). same_name o.name (reflector n.number)) p.scripts q e))))
-          (λ t. absurd t) j
-
       last : (b : Bool) → Among x (option_to_list (preserved_reflector b (reflector_key p.scripts n.number))) → IsHeldThere p.scripts x
       last false j = absurd j
-      last true j = key find_reflector refl j
+      last true j =
+          let key = option_map-found object (reflector_key p.scripts n.number) x (held-is (option_map object (reflector_key p.scripts n.number)) x j) in
+          let f = option_map-found (λ (q : Object). q.key) (find (λ (q : Object). same_name q.name (reflector n.number)) p.scripts) key.0 key.1 in
+          let there = object_at-own p.scripts l.one_key f.0 (find-among (λ (q : Object). same_name q.name (reflector n.number)) p.scripts f.0 f.1) in
+          subst (IsHeldThere p.scripts) (ap object f.2 ∙ key.2) (ap is_some there)
 
   module _ (w : IsWellFormed (heap_of p)) where
     -- a preserved reflector has its name
     reflector-named : (n : HeapNative) → Among n p.counted.natives → n.preserved ≡ true → name_in p.scripts (option_map object (reflector_key p.scripts n.number)) ≡ Some (reflector n.number)
     reflector-named n m e =
         let there = w.preserved (named_native p.scripts n) (Among-map (named_native p.scripts) n p.counted.natives m) e in
-        let f = Among-map_cases (λ (q : HeapScript). q.name) (heap_of p).scripts (reflector n.number) there in
-        let g = Among-map_cases (named_object p.scripts) p.scripts f.0 f.1 in
-        let named : g.0.name ≡ reflector n.number = ap (λ (q : HeapScript). q.name) g.2 ∙ f.2 in
-        let key : reflector_key p.scripts n.number ≡ Some g.0.key = ap (key_of p.scripts) (sym named) ∙ key_of-name p.scripts l.one_name l.script_names g.0 g.1 in
-        ap (λ o. name_in p.scripts (option_map object o)) key ∙ (name_at-own p.scripts l.one_key g.0 g.1 ∙ ap (λ y. Some y) named)
+        let g = named-object (heap_of p) p.scripts refl (reflector n.number) there in
+        let key : reflector_key p.scripts n.number ≡ Some g.0.key = ap (key_of p.scripts) (sym g.2) ∙ key_of-name p.scripts l.one_name l.script_names g.0 g.1 in
+        ap (λ o. name_in p.scripts (option_map object o)) key ∙ (name_at-own p.scripts l.one_key g.0 g.1 ∙ ap (λ y. Some y) g.2)
 
     -- THE REFERENCES OF A NATIVE by their names are its places
     pub references-named : (n : HeapNative) → Among n p.counted.natives → map (name_in p.scripts) (references_in p.counted n) ≡ places_of_native (named_native p.scripts n)

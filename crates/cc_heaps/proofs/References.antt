@@ -1,6 +1,7 @@
 -- WHAT A NATIVE REFERS TO, by its key and by its number alike: its slots, and its reflector, where that is preserved.
+use Rattle.cc_laws_heap.proofs.GraphParts.{is_some-found}
 use Rattle.std.proofs.Common.{◌≡◌, ℕ, zero, suc, ◌+◌, ◌≤◌, ◌==◌, Bool, true, false, List, [], ◌∷◌, ◌++◌, length, get_or, length-append, Option, Some, None, IsSome, refl, sym, ◌∙◌, ap, arith}
-use Rattle.std.proofs.lemmas.Bool.{eq-eqb, eqb-true, false≢true}
+use Rattle.std.proofs.lemmas.Bool.{eq-eqb, eqb-true}
 use Rattle.cc_lists.specs.Members.{Among}
 use Rattle.cc_lists.proofs.Filtering.{find-among}
 use Rattle.cc_model.specs.Heap.{HeapNative, native_at}
@@ -10,7 +11,7 @@ use Rattle.cc_counted.specs.Owning.{HasKeys}
 use Rattle.cc_heaps.specs.Roots.{reflector_by, references_in, HaveFewSlots}
 
 -- a number that stands at one key alone has the reflector of that key
-reflector_by-key : (os rs : List (Option ℕ)) (key k : ℕ) → get_or os key None ≡ Some k → ((p : ℕ) → get_or os p None ≡ Some k → p ≡ key) →
+pub reflector_by-key : (os rs : List (Option ℕ)) (key k : ℕ) → get_or os key None ≡ Some k → ((p : ℕ) → get_or os p None ≡ Some k → p ≡ key) →
     reflector_by os rs k ≡ get_or rs key None
 reflector_by-key [] rs key k e one = absurd (cc)
 reflector_by-key (o ∷ os) [] key k e one = refl
@@ -39,11 +40,10 @@ references-found c k key n m e = λ i. slots_at (found i) ++ preserved_reflector
 
 -- at a key that is that of a native there is one
 pub native-found : (c : Counts) → HasKeys c → (key : ℕ) → IsSome (number_at c key) → (n : HeapNative) × Among n c.natives × (number_at c key ≡ Some n.number)
-native-found c k key live = go (number_at c key) refl live
-  where
-    go : (o : Option ℕ) → number_at c key ≡ o → IsSome o → (n : HeapNative) × Among n c.natives × (number_at c key ≡ Some n.number)
-    go None e t = absurd (false≢true t)
-    go (Some j) e t = let f = named-member (heap_of c) j (k.there key j e) in (f.0, f.1, e ∙ ap (λ i. Some i) (sym f.2))
+native-found c k key live =
+    let j = is_some-found (number_at c key) live in
+    let f = named-member (heap_of c) j.0 (k.there key j.0 j.1) in
+    (f.0, f.1, j.1 ∙ ap (λ i. Some i) (sym f.2))
 
 -- there is one more than slots
 pub length-references : (c : Counts) (key : ℕ) → length (references_of c key) ≡ length (slots_of c key) + 1

@@ -1,7 +1,8 @@
 -- THE REFLECTOR OF A REACHED NATIVE, as far as it is in the heaps: they follow the graph over what is reached and the
 -- reflector. Preserved it is reached, and else it is blank.
-use Rattle.std.proofs.Common.{◌≡◌, ℕ, true, false, [], ◌∷◌, Option, Some, None, option_map, refl, sym, ◌∙◌, ap, subst, inl, inr, ◌⊎◌, ⊎_elim, is_some}
-use Rattle.std.specs.Option.{option_and_then}
+use Rattle.cc_lists.proofs.Held.{option_and_then-found}
+use Rattle.cc_laws_heap.proofs.Changing.{option_map-found}
+use Rattle.std.proofs.Common.{◌≡◌, ℕ, true, false, [], ◌∷◌, Option, Some, None, refl, sym, ◌∙◌, ap, subst, inl, inr, ◌⊎◌, ⊎_elim, is_some}
 use Rattle.std.proofs.lemmas.Bool.{cases_Bool}
 use Rattle.cc_lists.specs.Members.{Among}
 use Rattle.cc_lists.proofs.Members.{Among-map_cases, Among-right, Among-append}
@@ -10,37 +11,31 @@ use Rattle.cc_names.specs.declared.name.Name.TheVariants as name
 use Rattle.cc_names.specs.Names.{native, object, reflector}
 use Rattle.cc_model.specs.Slots.{Slots, contents, empty_slots, reflector_slots}
 use Rattle.cc_model.specs.Entries.{Entry}
-use Rattle.cc_model.specs.Graph.{Graph, GraphNative, GraphScript, native_in, script_in}
+use Rattle.cc_model.specs.Graph.{Graph, native_in, script_in}
 use Rattle.cc_model.specs.Reached.{Reached}
 use Rattle.cc_model.specs.WellMade.{IsWellMade}
 use Rattle.cc_model.specs.Heap.{Heap, HeapScript}
 use Rattle.cc_model.specs.WellFormed.{IsWellFormed, FitsName, script_names}
-use Rattle.cc_model.specs.StandsFor.{Shape, shape_in, shape_of_object, shape_of_reflector, shape_of_held_script, script_shape, IsKept, StandsFor}
+use Rattle.cc_model.specs.StandsFor.{Shape, shape_in, shape_of_object, shape_of_reflector, shape_of_held_script, script_shape, IsKept, StandsFor, shape_of_native}
 use Rattle.cc_laws_heap.proofs.Holds.{OfSome}
 use Rattle.cc_laws_heap.proofs.Shapes.{further_of}
-use Rattle.cc_laws_heap.proofs.GraphReads.{MadeScript}
+use Rattle.cc_laws_heap.proofs.GraphReads.{MadeScript, Made}
 use Rattle.cc_laws_heap.proofs.Owning.{IsIn}
 use Rattle.cc_laws_heap.proofs.Following.{Follows, stands-follows}
 use Rattle.cc_laws_heap.proofs.MadeAlike.{IsMade, Follows-made}
 use Rattle.cc_laws_heap.proofs.Making.{contents-empty_none}
 
--- what has a script object's name and a shape in the graph was made
-shape-made_script : (g : Graph) (x : Name) (s : Shape) → ¬ ((k : ℕ) × (x ≡ native k)) → shape_in g x ≡ Some s → MadeScript g x
-shape-made_script g (name.Native k) s other = absurd (other (k.0, refl))
-shape-made_script g (name.Script k) s other = go (script_in g k.0)
-  where
-    go : (o : Option GraphScript) → option_map shape_of_object o ≡ Some s → is_some o ≡ true
-    go None e = absurd (cc)
-    go (Some o) e = refl
-shape-made_script g (name.Reflector k) s other = go (native_in g k.0)
-  where
-    slots : (r : Option Slots) → option_map (λ slots. script_shape (Some slots)) r ≡ Some s → is_some r ≡ true
-    slots None e = absurd (cc)
-    slots (Some l) e = refl
+-- what has a shape in the graph was made
+pub shape-made : (g : Graph) (x : Name) (s : Shape) → shape_in g x ≡ Some s → Made g x
+shape-made g (name.Native k) s e = ap is_some (option_map-found shape_of_native (native_in g k.0) s e).1
+shape-made g (name.Script k) s e = ap is_some (option_map-found shape_of_object (script_in g k.0) s e).1
+shape-made g (name.Reflector k) s e =
+    let n = option_and_then-found shape_of_reflector (native_in g k.0) s e in
+    rw (n.1, (option_map-found (λ slots. script_shape (Some slots)) n.0.reflector s n.2).1) refl
 
-    go : (o : Option GraphNative) → option_and_then shape_of_reflector o ≡ Some s → is_some (option_and_then (λ (n : GraphNative). n.reflector) o) ≡ true
-    go None e = absurd (cc)
-    go (Some n) e = slots n.reflector e
+shape-made_script : (g : Graph) (x : Name) (s : Shape) → ¬ ((k : ℕ) × (x ≡ native k)) → shape_in g x ≡ Some s → MadeScript g x
+shape-made_script g (name.Native k) s other e = absurd (other (k.0, refl))
+shape-made_script g x s other e = shape-made g x s e
 
 -- A script object of the heaps was made in the graph.
 pub there-made : (h : Heap) (g : Graph) (x : Name) → IsWellFormed h → StandsFor h g → Among x (script_names h) → MadeScript g x

@@ -1,19 +1,18 @@
 -- A REFLECTOR PRESERVED that is there: the heaps stand for the graph in which it is, the colour invariant stays, every
 -- snapshot that was fresh is fresh where it is not gray, and no unreached native is forgotten.
-use Rattle.std.proofs.Common.{◌≡◌, ℕ, ◌==◌, Bool, true, false, List, [], ◌∷◌, Option, Some, None, option_map, refl, sym, ◌∙◌, ap, is_some, ⊎_elim}
-use Rattle.std.specs.List.{filter, flat_map}
+use Rattle.cc_laws_snapshot.proofs.NodeUnit.{gray-tested}
+use Rattle.std.proofs.Common.{◌≡◌, ℕ, ◌==◌, Bool, true, false, List, [], ◌∷◌, Option, Some, None, option_map, refl, sym, ◌∙◌, ap, ⊎_elim}
+use Rattle.std.specs.List.{flat_map}
 use Rattle.std.proofs.lemmas.Bool.{true≢false}
 use Rattle.cc_lists.specs.Members.{Among}
-use Rattle.cc_lists.proofs.Members.{Among-map, Among-map_cases, Among-left, Among-right, Among-append, Among-flat_map_cases, Among-filter, Among-filtered, Among-passes}
+use Rattle.cc_lists.proofs.Members.{Among-map, Among-left, Among-right, Among-append, Among-flat_map_cases}
 use Rattle.cc_lists.proofs.ListWrites.{changed_where, changed_where-either}
-use Rattle.cc_lists.proofs.Searching.{find-some}
 use Rattle.cc_names.specs.declared.name.Name.{Name}
-use Rattle.cc_names.specs.Names.{native, reflector, same_name}
-use Rattle.cc_names.proofs.NameTests.{same_name-refl}
+use Rattle.cc_names.specs.Names.{native, reflector}
 use Rattle.cc_model.specs.Slots.{from_to}
 use Rattle.cc_model.specs.Graph as graph
 use Rattle.cc_model.specs.Graph.{as_preserved}
-use Rattle.cc_model.specs.Heap.{Heap, HeapNative, HeapScript, native_at, set_preserved, is_gray_in, is_gray_colour}
+use Rattle.cc_model.specs.Heap.{Heap, HeapNative, native_at, set_preserved, is_gray_in}
 use Rattle.cc_model.specs.View.{view, slot_edges, preserved_edge, native_edges, script_edges, ReachedIn}
 use Rattle.cc_model.specs.WellFormed.{script_names}
 use Rattle.cc_model.specs.StandsFor.{StandsFor}
@@ -53,15 +52,7 @@ module _ {owned : List ℕ} (h : Heap) (k : ℕ) (s : IsSound owned h) (there : 
 
   -- what is not gray has no name among the gray ones
   not_gray : is_gray_in h (reflector k) ≡ false → ¬ (Among (reflector k) (view h).gray)
-  not_gray pale m =
-      let f = Among-map_cases (λ (o : HeapScript). o.name) (filter (λ (o : HeapScript). is_gray_colour o.colour) h.scripts) (reflector k) m in
-      let own : Among f.0 (filter (λ (o : HeapScript). same_name o.name (reflector k)) h.scripts) =
-      Among-filter (λ (o : HeapScript). same_name o.name (reflector k)) f.0 h.scripts
-      (Among-filtered (λ (o : HeapScript). is_gray_colour o.colour) f.0 h.scripts f.1)
-      (ap (λ x. same_name x (reflector k)) f.2 ∙ same_name-refl (reflector k)) in
-      let found = find-some (λ (o : HeapScript). is_gray_colour o.colour) (filter (λ (o : HeapScript). same_name o.name (reflector k)) h.scripts) f.0 own
-      (Among-passes (λ (o : HeapScript). is_gray_colour o.colour) f.0 h.scripts f.1) in
-      true≢false (sym (ap is_some found.1) ∙ pale)
+  not_gray pale m = true≢false (sym (gray-tested h (reflector k) m) ∙ pale)
 
   -- Every snapshot that was fresh is fresh, where the reflector is not gray.
   pub preserved-fresh : is_gray_in h (reflector k) ≡ false → KeepsFresh h (set_preserved h k true)

@@ -1,6 +1,7 @@
 -- WHAT COMES INTO A SLOT OF A SCRIPT OBJECT OR A SCRIPT REGISTER, a reflector among them: the heaps stand for the graph in
 -- which it is written.
-use Rattle.std.proofs.Common.{◌≡◌, ℕ, true, List, Option, Some, None, refl, sym, ◌∙◌, ap, subst, inl, ⊎_elim}
+use Rattle.cc_lists.proofs.Held.{of-one}
+use Rattle.std.proofs.Common.{◌≡◌, ℕ, true, List, Option, Some, None, refl, sym, ◌∙◌, ap, inl, ⊎_elim}
 use Rattle.cc_lists.specs.Members.{Among}
 use Rattle.cc_names.specs.declared.name.Name.{Name}
 use Rattle.cc_names.specs.declared.name.Name.TheVariants as name
@@ -31,7 +32,7 @@ use Rattle.cc_heaps.specs.Standing.{IsReached, IsReachedOrReflects, MayHold, Sta
 use Rattle.cc_heaps.proofs.Reflecting.{there-made, held-made, Follows-reflector}
 
 -- what is handed in is reached in the graph
-handed-reached : (h : Heap) (g : Graph) (x : Option Name) → IsWellFormed h → IsWellMade g → StandsFor h g → IsReached h x → OfSome (Reached g) x
+pub handed-reached : (h : Heap) (g : Graph) (x : Option Name) → IsWellFormed h → IsWellMade g → StandsFor h g → IsReached h x → OfSome (Reached g) x
 handed-reached h g None w m s r = tt
 handed-reached h g (Some x) w m s r = in-reached h g w m s x r
 
@@ -89,7 +90,7 @@ preserved-in h g (name.Reflector k) w m s at d may = λ j t e i.
 module _ {owned : List ℕ} (h : Heap) (x : Name) (i : ℕ) (y : Option Name) (s : IsSound owned h) (at : Among x (script_names h)) (there : IsIn (script_names h) y) where
   -- A SLOT OF A SCRIPT OBJECT WRITTEN leaves the heaps sound.
   pub slot_written-sound : IsSound owned (set_slot h (Some x) i y)
-  slot_written-sound = script_slot-sound owned h (Some x) i y (λ z m. ⊎_elim (λ e. subst (λ w. Among w (script_names h)) e at) (λ t. absurd t) m) there s
+  slot_written-sound = script_slot-sound owned h (Some x) i y (of-one (λ w. Among w (script_names h)) x at) there s
 
   -- They stand for the graph in which it is written, where both are reached and the object may hold something.
   pub slot_written-stands : IsReached h (Some x) → IsReached h y → MayHold h (Some x) → StandsAfter h (set_slot h (Some x) i y) (λ g. graph.set_slot g (Some x) i y)

@@ -1,12 +1,10 @@
 -- A REFLECTOR MADE: the script heap has one object more, the native has its key, and one reference more. The parts fit
 -- together once all three are done.
-use Rattle.std.proofs.Common.{◌≡◌, ◌≢◌, ℕ, zero, suc, ◌+◌, ◌<◌, true, false, List, [], ◌∷◌, ◌++◌, length, get_or, set, Option, Some, None, is_some, option_map, refl, sym, ◌∙◌, ap, subst, ⊎_elim, arith}
+use Rattle.cc_heaps.proofs.ReflectorLists.{reflectors-set, within-read}
+use Rattle.std.proofs.Common.{◌≡◌, ◌≢◌, ℕ, ◌+◌, true, false, List, [], ◌∷◌, ◌++◌, set, Option, Some, None, is_some, option_map, refl, sym, ◌∙◌, ap, subst}
 use Rattle.std.specs.Option.{option_and_then, option_or}
 use Rattle.std.specs.List.{find}
-use Rattle.std.proofs.Math.ListN.{get_or-map}
 use Rattle.std.proofs.lemmas.Bool.{eq-eqb, ne_eqb}
-use Rattle.std.proofs.lemmas.Bool.Decides.{eqb_tells}
-use Rattle.std.proofs.lemmas.List.{ext_get_or, get_or-set_same, get_or-set_other, length-map, length-set}
 use Rattle.std.proofs.lemmas.List.Folds.{find-append}
 use Rattle.cc_lists.specs.Members.{Among}
 use Rattle.cc_lists.proofs.ListWrites.{each-push}
@@ -34,12 +32,6 @@ use Rattle.cc_heaps.proofs.Keys.{HasKeys-keyed, HasKeys-names, HasKeys-numbers, 
 use Rattle.cc_heaps.proofs.Linked.{with_counted}
 use Rattle.cc_heaps.proofs.ScriptCalls.{KeepsNames-made, key_of-made, name_at-made, named-made, one_key-made, whole-made}
 use Rattle.cc_heaps.proofs.ScriptsChanged.{KeepsNames, named_entries-kept, entries_there-kept, heap-objects, linked-reflected, with_objects}
-
--- what reads as something is not past the end
-within-read : (keys : List (Option ℕ)) (q k : ℕ) → get_or keys q None ≡ Some k → q < length keys
-within-read [] q k e = absurd (cc)
-within-read (x ∷ xs) zero k e = omega arith
-within-read (x ∷ xs) (suc q) k e = omega (arith, within-read xs q k e)
 
 module _ {owned : List ℕ} (p : Inside) (l : IsLinked p) (o : IsInOrder owned (keyed_of p)) (key : NKey) (live : is_some (number_at (keyed_of p) key.0) ≡ true)
     (lacks : has_reflector (heap_of p) (the_number (keyed_of p) key.0) ≡ false) (at : ℕ) (vacant : is_there p.scripts at ≡ false) where
@@ -95,36 +87,14 @@ module _ {owned : List ℕ} (p : Inside) (l : IsLinked p) (o : IsInOrder owned (
   abbrev with_own : List (Option ℕ)
   with_own = set p.counted.reflectors key.0 (Some at)
 
-  with_own-read : (q : ℕ) → get_or with_own q None ≡ get_or (reflectors_by objects p.counted.keys) q None
-  with_own-read q = ⊎_elim (λ t. here q t.1) (λ t. there q t.1) (eqb_tells q key.0)
+  with_own-is : with_own ≡ reflectors_by objects p.counted.keys
+  with_own-is = ap (λ rs. set rs key.0 (Some at)) l.reflectors
+      ∙ reflectors-set p.scripts objects p.counted.keys key.0 (Some at) (within-read p.counted.keys key.0 k numbered) (ap (option_and_then (reflector_key objects)) numbered ∙ key_of-own)
+      (λ q. step q (number_at v q) refl)
     where
-      read : (os : List Object) (q : ℕ) → get_or (reflectors_by os p.counted.keys) q None ≡ option_and_then (reflector_key os) (number_at v q)
-      read os q = get_or-map (λ j. option_and_then (reflector_key os) j) p.counted.keys q None
-
-      here : (q : ℕ) → q ≡ key.0 → get_or with_own q None ≡ get_or (reflectors_by objects p.counted.keys) q None
-      here q e = subst (λ j. get_or with_own j None ≡ get_or (reflectors_by objects p.counted.keys) j None) (sym e)
-          (get_or-set_same p.counted.reflectors key.0 (Some at) None
-          (subst (λ n. key.0 < n) (sym (ap length l.reflectors ∙ length-map p.counted.keys (λ j. option_and_then (reflector_key p.scripts) j)))
-          (within-read p.counted.keys key.0 k numbered))
-          ∙ sym (read objects key.0 ∙ (ap (option_and_then (reflector_key objects)) numbered ∙ key_of-own)))
-
       step : (q : ℕ) (n : Option ℕ) → number_at v q ≡ n → q ≢ key.0 → option_and_then (reflector_key p.scripts) n ≡ option_and_then (reflector_key objects) n
       step q None e other = refl
       step q (Some j) e other = sym (key_of-other j (λ s. other (o.keyed.one_key q key.0 k (e ∙ ap (λ i. Some i) s) numbered)))
-
-      there : (q : ℕ) → q ≢ key.0 → get_or with_own q None ≡ get_or (reflectors_by objects p.counted.keys) q None
-      there q other =
-          get_or-set_other p.counted.reflectors key.0 q (Some at) None other
-          ∙ (ap (λ rs. get_or rs q None) l.reflectors
-          ∙ (read p.scripts q ∙ (step q (number_at v q) refl other ∙ sym (read objects q))))
-
-  with_own-is : with_own ≡ reflectors_by objects p.counted.keys
-  with_own-is = ext_get_or None with_own (reflectors_by objects p.counted.keys)
-      (length-set p.counted.reflectors key.0 (Some at)
-      ∙ (ap length l.reflectors
-      ∙ (length-map p.counted.keys (λ j. option_and_then (reflector_key p.scripts) j)
-      ∙ sym (length-map p.counted.keys (λ j. option_and_then (reflector_key objects) j)))))
-      (λ q within. with_own-read q)
 
   -- The parts
 

@@ -1,4 +1,7 @@
 -- REGISTERS HOLD KEYS: as long as what they hold is there, they hold the same names.
+use Rattle.cc_heaps.proofs.Keys.{key_left-there}
+use Rattle.cc_lists.proofs.Held.{map-held, map-replicate}
+use Rattle.cc_laws_heap.proofs.GraphParts.{is_some-found}
 use Rattle.std.proofs.Common.{◌≡◌, ◌≢◌, ℕ, zero, suc, List, [], ◌∷◌, map, true, Option, Some, None, option_map, get_or, replicate, length, refl, sym, ◌∙◌, ap, subst, inl, inr, ⊎_elim}
 use Rattle.std.specs.Option.{is_some, option_to_list}
 use Rattle.std.proofs.Math.ListN.{get_or-map}
@@ -10,7 +13,7 @@ use Rattle.cc_names.specs.declared.number.NKey.{NKey}
 use Rattle.cc_names.specs.declared.number.SKey.{SKey}
 use Rattle.cc_names.specs.Names.{native}
 use Rattle.cc_model.specs.Slots.{contents}
-use Rattle.cc_model.specs.Heap.{Heap, HeapNative, native_at}
+use Rattle.cc_model.specs.Heap.{Heap}
 use Rattle.cc_model.specs.WellFormed.{native_names}
 use Rattle.cc_laws_heap.proofs.Natives.{named-found}
 use Rattle.cc_counted.specs.Counts.{key_left}
@@ -25,28 +28,19 @@ AreLive keys registers = (x : Option NKey) → Among x registers → IsLive keys
 
 -- what is there has a number
 pub number-live : (keys : Keys) (key : NKey) → IsLive keys (Some key) → (k : ℕ) × (get_or keys key.0 None ≡ Some k)
-number-live keys key live = go (get_or keys key.0 None) refl live
-  where
-    go : (o : Option ℕ) → get_or keys key.0 None ≡ o → is_some o ≡ true → (k : ℕ) × (get_or keys key.0 None ≡ Some k)
-    go None e l = absurd (cc)
-    go (Some k) e l = (k, e)
+number-live keys key live = is_some-found (get_or keys key.0 None) live
 
 -- other keys that give each register the same number
 module _ (old new : Keys) where
   abbrev Same : Option NKey → Type 0
   Same x = (key : NKey) → x ≡ Some key → get_or new key.0 None ≡ get_or old key.0 None
 
-  named-same : (x : Option NKey) → Same x → named new x ≡ named old x
-  named-same None s = refl
-  named-same (Some key) s = ap (option_map native) (s key refl)
-
   live-same : (x : Option NKey) → Same x → IsLive old x → IsLive new x
   live-same None s l = l
   live-same (Some key) s l = subst (λ o. is_some o ≡ true) (sym (s key refl)) l
 
   pub registers-same : (registers : List (Option NKey)) → ((x : Option NKey) → Among x registers → Same x) → map (named new) registers ≡ map (named old) registers
-  registers-same [] s = refl
-  registers-same (x ∷ xs) s = λ i. named-same x (s x (inl refl)) i ∷ registers-same xs (λ y m. s y (inr m)) i
+  registers-same registers s = map-held (named new) (named old) registers refl (λ key m. ap (option_map native) (s (Some key) m key refl))
 
   pub AreLive-same : (registers : List (Option NKey)) → ((x : Option NKey) → Among x registers → Same x) → AreLive old registers → AreLive new registers
   AreLive-same registers s l x m = live-same x (s x m) (l x m)
@@ -62,10 +56,7 @@ left-same keys g registers live there x m key e =
     Among-flat_map option_to_list (named keys x) (native n.0) (map (named keys) registers) (Among-map (named keys) x registers m)
     (subst (λ o. Among (native n.0) (option_to_list o)) (sym held) (inl refl)) in
     let found = named-found g n.0 (there (native n.0) inside) in
-    get_or-map (key_left g) keys key.0 None ∙ (ap (key_left g) n.1 ∙ (left n.0 found.0 found.1 ∙ sym n.1))
-  where
-    left : (k : ℕ) (n : HeapNative) → native_at g k ≡ Some n → key_left g (Some k) ≡ Some k
-    left k n e = rw e refl
+    get_or-map (key_left g) keys key.0 None ∙ (ap (key_left g) n.1 ∙ (key_left-there g n.0 found.0 found.1 ∙ sym n.1))
 
 -- a key that held nothing is that of no register
 pub made-same : (old new : Keys) (key : ℕ) → get_or old key None ≡ None → ((q : ℕ) → q ≢ key → get_or new q None ≡ get_or old q None) →
@@ -98,11 +89,7 @@ module _ {X : Type 0} (n : ℕ) (registers : List (Option X)) (none : registers 
   none-length = ap length none ∙ length-replicate {A = Option X} n None
 
   pub none-mapped : {Y : Type 0} (f : Option X → Option Y) → f None ≡ None → map f registers ≡ replicate n None
-  none-mapped f e = ap (map f) none ∙ go n
-    where
-      go : (m : ℕ) → map f (replicate m None) ≡ replicate m None
-      go zero = refl
-      go (suc m) = λ i. e i ∷ go m i
+  none-mapped f e = ap (map f) none ∙ (map-replicate f n None ∙ ap (replicate n) e)
 
   pub none-each : (P : Option X → Type 0) → P None → (x : Option X) → Among x registers → P x
   none-each P p x m = go n (subst (λ xs. Among x xs) none m)

@@ -1,4 +1,5 @@
 -- THE ROOTS OF SCRIPT MARKING BY KEYS AND BY NAMES: what registers hold, and what natives hold.
+use Rattle.cc_heaps.proofs.Keys.{named-object}
 use Rattle.std.proofs.Common.{◌≡◌, ℕ, ◌==◌, Bool, true, false, List, ◌++◌, map, Option, Some, None, refl, sym, ◌∙◌, ap, subst, inl, ⊎_elim}
 use Rattle.std.specs.Prelude.{IsTrue}
 use Rattle.std.specs.List.{flat_map}
@@ -14,7 +15,7 @@ use Rattle.cc_names.specs.Names.{object, same_name, is_script}
 use Rattle.cc_names.proofs.NameTests.{same_name-exact}
 use Rattle.cc_model.specs.Slots.{contents, from_to}
 use Rattle.cc_model.specs.Entries.{joint, joints}
-use Rattle.cc_model.specs.Heap.{HeapNative, HeapScript}
+use Rattle.cc_model.specs.Heap.{HeapNative}
 use Rattle.cc_model.specs.View.{native_edges, script_slot_edges}
 use Rattle.cc_model.specs.Exposure.{slots_of_scripts}
 use Rattle.cc_model.specs.Colours.{black_rules, black_names, scripts_held_by, scripts_held, marked_names}
@@ -25,7 +26,7 @@ use Rattle.cc_counted.specs.Owning.{HasKeys}
 use Rattle.cc_script.specs.Objects.{Object, is_there, name_at}
 use Rattle.cc_script.proofs.Reaching.{held-among, among-held}
 use Rattle.cc_marking.specs.Marking.{black_keys, marked_keys}
-use Rattle.cc_heaps.specs.Keyed.{IsInOrder, named_object}
+use Rattle.cc_heaps.specs.Keyed.{IsInOrder}
 use Rattle.cc_heaps.specs.Named.{named_native, script_named}
 use Rattle.cc_heaps.specs.Fields.{heap_of, keyed_of, IsLinked}
 use Rattle.cc_heaps.specs.Roots.{keys_in_registers, key_in, keys_in, references_in, keys_held}
@@ -155,9 +156,7 @@ module _ {owned : List ℕ} (p : Inside) (l : IsLinked p) (o : IsInOrder owned (
       let f = Among-map_cases joint (heap_of p).entries (xs, v) i in
       subst (λ (r : List Name × Name). Among r.1 (script_names (heap_of p))) f.2 (w.entries f.0 f.1).value) x
       (closure-derived same_name same_name-exact (black_rules (heap_of p)) x m) in
-      let f = Among-map_cases (λ (q : HeapScript). q.name) (heap_of p).scripts x there in
-      let g = Among-map_cases (named_object p.scripts) p.scripts f.0 f.1 in
-      (g.0, g.1, ap (λ (q : HeapScript). q.name) g.2 ∙ f.2)
+      named-object (heap_of p) p.scripts refl x there
 
   -- an object is black by its key where it is black by its name
   pub black-alike : (q : Object) → Among q p.scripts → has ◌==◌ (black_keys p.scripts p.weak (black_roots p)) q.key ≡ has same_name (black_names (heap_of p)) q.name

@@ -9,22 +9,10 @@ use Rattle.cc_lists.specs.Walks.{is_above}
 use Rattle.cc_lists.proofs.RisingWalks.{above-first}
 use Rattle.cc_names.specs.declared.number.NKey.{NKey}
 use Rattle.cc_model.specs.Heap.{HeapNative}
-use Rattle.cc_counted.specs.declared.held.Held.{Held}
-use Rattle.cc_counted.specs.declared.held.Held.TheVariants as held
 use Rattle.cc_counted.specs.Counts.{Counts, number_at, the_number, number_or_none, references_of, first_number, number_after}
 use Rattle.cc_counted.specs.Owning.{HasKeys}
 use Rattle.cc_heaps.specs.Roots.{keys_in, references_in, keys_held, natives_behind, keys_from, HaveFewSlots, IsPlace}
 use Rattle.cc_heaps.proofs.References.{references-found}
-
--- Registers
-
--- References of a native
-
--- the key of what is held
-abbrev pub key_of_held : Option Held → List ℕ
-key_of_held None = []
-key_of_held (Some (held.Native key)) = []
-key_of_held (Some (held.Script key)) = key.0 ∷ []
 
 -- Natives by rising number
 

@@ -1,17 +1,18 @@
 -- WHAT CALLS DO TO SCRIPT OBJECTS AND SCRIPT REGISTERS: an exposure, a slot written, a register written, an object made.
-use Rattle.std.proofs.Common.{◌≡◌, ℕ, zero, suc, ◌+◌, ◌<◌, ◌≤◌, Bool, true, false, cond, List, [], ◌∷◌, ◌++◌, map, replicate, Option, Some, None, option_map, is_some, refl, sym, ◌∙◌, ap, subst, ⊎_elim, arith, count_by, ◌==◌}
+use Rattle.cc_heaps.proofs.ObjectsKept.{there-named}
+use Rattle.cc_script.proofs.InOrder.{object_at-left}
+use Rattle.cc_laws_heap.proofs.Changing.{option_map-found}
+use Rattle.cc_lists.proofs.Held.{is_some-none, once-push, map-replicate, map-held}
+use Rattle.std.proofs.Common.{◌≡◌, ℕ, ◌+◌, ◌<◌, ◌≤◌, false, List, [], ◌∷◌, ◌++◌, map, replicate, Option, Some, None, option_map, refl, sym, ◌∙◌, ap, subst, ⊎_elim, ◌==◌}
 use Rattle.std.specs.Prelude.{IfSome, IsTrue, slice_set}
 use Rattle.std.specs.Option.{option_and_then, option_or}
 use Rattle.std.specs.List.{find}
 use Rattle.std.specs.Vec.{with_item}
 use Rattle.std.proofs.Math.Path.{fun_ext}
-use Rattle.std.proofs.lemmas.Bool.{eqb-true, eq-eqb, true≢false}
+use Rattle.std.proofs.lemmas.Bool.{eqb-true, eq-eqb}
 use Rattle.std.proofs.lemmas.List.{length-replicate, length-set, map-set, map_push}
 use Rattle.std.proofs.lemmas.List.Folds.{find-append}
 use Rattle.cc_lists.specs.Members.{Among}
-use Rattle.cc_lists.proofs.Members.{Among-map}
-use Rattle.cc_lists.proofs.Counting.{count_by-append, count_by-cons}
-use Rattle.cc_lists.proofs.CountsOf.{count_by-none}
 use Rattle.cc_lists.proofs.ListWrites.{each-push, Among-set_cases, map-agree}
 use Rattle.cc_names.specs.declared.name.Name.{Name}
 use Rattle.cc_names.specs.declared.number.SKey.{SKey}
@@ -20,17 +21,17 @@ use Rattle.cc_names.specs.declared.kind.Kind.{Kind}
 use Rattle.cc_names.specs.declared.kind.Colour.TheVariants.{Black}
 use Rattle.cc_names.specs.Names.{object, reflector, same_name, is_native}
 use Rattle.cc_model.specs.Slots.{empty_slots}
-use Rattle.cc_model.specs.Heap.{Heap, HeapScript, set_register, set_slot}
+use Rattle.cc_model.specs.Heap.{Heap, set_register, set_slot}
 use Rattle.cc_model.specs.Effects.{with_object}
 use Rattle.cc_model.specs.Exposure.{exposed}
-use Rattle.cc_model.specs.WellFormed.{FitsName, script_names}
+use Rattle.cc_model.specs.WellFormed.{FitsName}
 use Rattle.cc_laws_heap.specs.Sound.{IsSound}
-use Rattle.cc_laws_heap.proofs.Owning.{IsIn}
 use Rattle.cc_laws_heap.proofs.Writes.{script_register-sound}
 use Rattle.cc_laws_heap.proofs.MadeSound.{with_script-sound}
 use Rattle.cc_laws_heap.proofs.ScriptsKept.{exposed-sound, script_slot-sound}
 use Rattle.cc_laws_heap.proofs.ScriptCommands.{blank, IsNewScript-object}
 use Rattle.cc_script.specs.Objects.{Object, AreWhole, change_object, is_there, name_at, object_at, raised_among, with_slot}
+use Rattle.cc_script.proofs.Wholeness as scripts
 use Rattle.cc_script.specs.Walking.{keys_reached}
 use Rattle.cc_heaps.specs.Keyed.{Keyed, IsInOrder, Reflects, key_of, name_held, named_object, named_objects, reflectors_by}
 use Rattle.cc_heaps.specs.Making.{kind_to_make, object_to_make, slots_to_make}
@@ -38,9 +39,9 @@ use Rattle.cc_heaps.specs.Changes.{IsScriptThere, KeepsKeys, script_name}
 use Rattle.cc_heaps.specs.Named.{script_named, IsScriptLive}
 use Rattle.cc_heaps.specs.Fields.{heap_of, keyed_of, IsLinked}
 use Rattle.cc_heaps.specs.declared.heaps.Heaps.TheInside.{Inside}
-use Rattle.cc_heaps.proofs.Keys.{Reflects-kept}
-use Rattle.cc_heaps.proofs.Reaching.{HasOneKey, object_at-own, name_at-found}
-use Rattle.cc_heaps.proofs.ScriptsChanged.{KeepsNames, KeepsNames-there, KeepsNames-same, there-named, with_objects, with_named, heap-objects, keys-objects, linked-objects, order-objects}
+use Rattle.cc_heaps.proofs.Keys.{Reflects-kept, name-in, script_name-in}
+use Rattle.cc_heaps.proofs.Reaching.{HasOneKey, name_at-found}
+use Rattle.cc_heaps.proofs.ScriptsChanged.{KeepsNames, KeepsNames-there, KeepsNames-same, with_objects, with_named, heap-objects, keys-objects, linked-objects, order-objects}
 use Rattle.cc_heaps.proofs.ScriptWrites.{KeepsObjects, KeepsNames-written, one_key-written, reflectors-written, reflecting-written, raise_among, KeepsObjects-raised, whole-raised, exposed-named, write_slot, KeepsObjects-slot, whole-slot, slot-named}
 
 -- the second parts hold these heaps, fit together and are in order, and what is there keeps its key and its name
@@ -50,19 +51,6 @@ pub record Becomes (owned : List ℕ) (p q : Inside) (h : Heap) : Type 0 where
   pub keys : KeepsKeys (keyed_of p) (keyed_of q)
   pub order : IsInOrder owned (keyed_of q)
   pub linked : IsLinked q
-
--- the name of what is there is the name of a script object
-pub name-among : (p : Inside) (key : ℕ) (x : Name) → name_at p.scripts key ≡ Some x → Among x (script_names (heap_of p))
-name-among p key x e =
-    let f = name_at-found p.scripts key x e in
-    subst (λ y. Among y (script_names (heap_of p))) f.3
-    (Among-map (λ (o : HeapScript). o.name) (named_object p.scripts f.0) (named_objects p.scripts) (Among-map (named_object p.scripts) f.0 p.scripts f.1))
-
-content-among : (p : Inside) (x : Option SKey) → IsScriptThere (keyed_of p) x → IsIn (script_names (heap_of p)) (script_name (keyed_of p) x)
-content-among p None t = λ y m. absurd m
-content-among p (Some key) t =
-    let n = there-named p.scripts key.0 t in
-    subst (λ z. IsIn (script_names (heap_of p)) z) (sym n.1) (λ y m. ⊎_elim (λ e. subst (λ z. Among z (script_names (heap_of p))) e (name-among p key.0 n.0 n.1)) (λ t. absurd t) m)
 
 -- what comes in keeps its name, and is there still
 pub content-kept : (p q : Inside) → KeepsNames p.scripts q.scripts → (x : Option SKey) → IsScriptThere (keyed_of p) x →
@@ -92,7 +80,7 @@ module _ {owned : List ℕ} (p : Inside) (l : IsLinked p) (o : IsInOrder owned (
       }
 
   -- each object written
-  becomes-written : (f : Object → Object) → KeepsObjects f → (h : Heap) → with_named (heap_of p) (map f p.scripts) p.scripts_made ≡ h → IsSound owned h →
+  pub becomes-written : (f : Object → Object) → KeepsObjects f → (h : Heap) → with_named (heap_of p) (map f p.scripts) p.scripts_made ≡ h → IsSound owned h →
       AreWhole (map f p.scripts) → Becomes owned p (with_objects p (map f p.scripts) p.scripts_made) h
   becomes-written f keeps h e s whole = becomes (map f p.scripts) p.scripts_made h (KeepsNames-written f keeps p.scripts) e s
       (one_key-written f keeps p.scripts l.one_key) whole
@@ -129,9 +117,8 @@ module _ {owned : List ℕ} (p : Inside) (l : IsLinked p) (o : IsInOrder owned (
       (slot-named p.scripts l.one_key l.one_name key n.0 n.1 (subst (λ x. is_native x ≡ false) f.3 (l.script_names f.0 f.1)) i (option_map (λ k. k.0) item) (heap_of p)
       ∙ (λ j. set_slot (heap_of p) (sym n.1 j) i (content item j)))
       (script_slot-sound owned (heap_of p) (name_at p.scripts key) i (script_name (keyed_of p) item)
-      (subst (λ z. IsIn (script_names (heap_of p)) z) (sym n.1)
-      (λ y m. ⊎_elim (λ e. subst (λ z. Among z (script_names (heap_of p))) e (name-among p key n.0 n.1)) (λ t. absurd t) m))
-      (content-among p item there) o.sound)
+      (name-in (heap_of p) p.scripts refl key)
+      (script_name-in (keyed_of p) refl item) o.sound)
       (whole-slot p.scripts key i (option_map (λ k. k.0) item) o.whole (item-there item there)))
     where
       content : (x : Option SKey) → name_held p.scripts (option_map (λ k. k.0) x) ≡ script_name (keyed_of p) x
@@ -157,7 +144,7 @@ module _ {owned : List ℕ} (p : Inside) (l : IsLinked p) (o : IsInOrder owned (
     names = λ key x e. e;
     keys = record { natives = λ key k e m. e; scripts = λ key x e m. e };
     order = record {
-      sound = subst (IsSound owned) (sym registers) (script_register-sound owned (heap_of p) r (script_name (keyed_of p) content) (content-among p content there) o.sound);
+      sound = subst (IsSound owned) (sym registers) (script_register-sound owned (heap_of p) r (script_name (keyed_of p) content) (script_name-in (keyed_of p) refl content) o.sound);
       keyed = o.keyed;
       named = refl;
       one_key = o.one_key;
@@ -193,19 +180,6 @@ module _ {owned : List ℕ} (p : Inside) (l : IsLinked p) (o : IsInOrder owned (
 
 -- An object made
 
--- empty slots, by keys
-abbrev empty_keys : ℕ → List (Option ℕ)
-empty_keys n = replicate n None
-
--- they hold no key
-none-held : (n q : ℕ) → ¬ (Among (Some q) (empty_keys n))
-none-held zero q = λ m. m
-none-held (suc n) q = λ m. ⊎_elim (λ e. absurd (cc)) (λ t. none-held n q t) m
-
-empty-named : (objects : List Object) (n : ℕ) → map (name_held objects) (replicate n None) ≡ empty_slots n
-empty-named objects zero = refl
-empty-named objects (suc n) = ap (λ slots. None ∷ slots) (empty-named objects n)
-
 -- a new one at a key that held nothing, whose slots are empty
 module _ (objects : List Object) (one : HasOneKey objects) (whole : AreWhole objects) (new : Object) (n : ℕ) (empty : new.slots ≡ replicate n None)
     (vacant : is_there objects new.key ≡ false) where
@@ -217,59 +191,32 @@ module _ (objects : List Object) (one : HasOneKey objects) (whole : AreWhole obj
   found-last k = find-append (λ o. o.key == k) objects (new ∷ [])
 
   pub KeepsNames-made : KeepsNames objects made_last
-  KeepsNames-made k x e = ap (λ (o : Option Object). option_map (λ p. p.name) o) (found-last k) ∙ go (object_at objects k) e
-    where
-      go : (o : Option Object) → option_map (λ p. p.name) o ≡ Some x → option_map (λ p. p.name) (option_or o (object_at (new ∷ []) k)) ≡ Some x
-      go None f = absurd (cc)
-      go (Some o) f = f
+  KeepsNames-made k x e =
+      let f = option_map-found (λ (p : Object). p.name) (object_at objects k) x e in
+      ap (option_map (λ (p : Object). p.name)) (object_at-left objects (new ∷ []) k f.0 f.1) ∙ ap (λ y. Some y) f.2
 
   -- it is what stands at its key
   pub name_at-made : name_at made_last new.key ≡ Some new.name
-  name_at-made = ap (λ (o : Option Object). option_map (λ p. p.name) o) (found-last new.key) ∙ go (object_at objects new.key) vacant
-    where
-      here : object_at (new ∷ []) new.key ≡ Some new
-      here = rw (eq-eqb new.key new.key refl) refl
-
-      go : (o : Option Object) → is_some o ≡ false → option_map (λ p. p.name) (option_or o (object_at (new ∷ []) new.key)) ≡ Some new.name
-      go None f = ap (λ (o : Option Object). option_map (λ p. p.name) o) here
-      go (Some o) f = absurd (true≢false f)
+  name_at-made =
+      ap (λ (o : Option Object). option_map (λ p. p.name) o) (found-last new.key)
+      ∙ rw (is_some-none (object_at objects new.key) vacant, eq-eqb new.key new.key refl) refl
 
   pub one_key-made : HasOneKey made_last
-  one_key-made k = go (new.key == k) refl
-    where
-      last : (b : Bool) → (new.key == k) ≡ b → count_by (λ o. o.key == k) made_last ≡ count_by (λ o. o.key == k) objects + cond b 1 0
-      last b e = rw (count_by-append (λ (o : Object). o.key == k) objects (new ∷ []), count_by-cons (λ (o : Object). o.key == k) new [], e) (omega arith)
-
-      other : (new.key == k) ≡ true → (o : Object) → Among o objects → (o.key == k) ≡ false
-      other e o m = go (o.key == k) refl
-        where
-          go : (b : Bool) → (o.key == k) ≡ b → b ≡ false
-          go false f = refl
-          go true f =
-              let same : o.key ≡ new.key = eqb-true o.key k f ∙ sym (eqb-true new.key k e) in
-              let there : is_there objects new.key ≡ true = subst (λ j. is_there objects j ≡ true) same (ap is_some (object_at-own objects one o m)) in
-              absurd (true≢false (sym there ∙ vacant))
-
-      go : (b : Bool) → (new.key == k) ≡ b → count_by (λ o. o.key == k) made_last ≤ 1
-      go true e = omega (arith, last true e, count_by-none (λ (o : Object). o.key == k) objects (other e))
-      go false e = omega (arith, last false e, one k)
+  one_key-made k = once-push (λ o. o.key == k) objects new (one k)
+      (λ e. subst (λ j. object_at objects j ≡ None) (eqb-true new.key k e) (is_some-none (object_at objects new.key) vacant))
 
   pub whole-made : AreWhole made_last
-  whole-made o q m = each-push (λ o. Among (Some q) o.slots → IsTrue (is_there made_last q)) objects new
-      (λ o i s. KeepsNames-there objects made_last KeepsNames-made q (whole o q i s)) (λ s. absurd (none-held n q (subst (Among (Some q)) empty s))) o m
+  whole-made = scripts.whole-made objects new n empty whole
 
   -- by names it goes last too
   pub named-made : named_objects made_last ≡ named_objects objects ++ record { name = new.name; kind = new.kind; slots = empty_slots n; colour = new.colour } ∷ []
   named-made = map_push (named_object made_last) objects new
       ∙ (λ i. map-agree (named_object made_last) (named_object objects) objects same i
-      ++ record { name = new.name; kind = new.kind; slots = (ap (map (name_held made_last)) empty ∙ empty-named made_last n) i; colour = new.colour } ∷ [])
+      ++ record { name = new.name; kind = new.kind; slots = (ap (map (name_held made_last)) empty ∙ map-replicate (name_held made_last) n None) i; colour = new.colour } ∷ [])
     where
-      at : (o : Object) → Among o objects → (x : Option ℕ) → Among x o.slots → name_held made_last x ≡ name_held objects x
-      at o m None i = refl
-      at o m (Some q) i = KeepsNames-same objects made_last KeepsNames-made q (whole o q m i)
-
       same : (o : Object) → Among o objects → named_object made_last o ≡ named_object objects o
-      same o m = ap (λ slots. record (named_object objects o) { slots = slots }) (map-agree (name_held made_last) (name_held objects) o.slots (at o m))
+      same o m = ap (λ slots. record (named_object objects o) { slots = slots })
+          (map-held (name_held made_last) (name_held objects) o.slots refl (λ q i. KeepsNames-same objects made_last KeepsNames-made q (whole o q m i)))
 
   -- names other than its own have the keys that they had
   pub key_of-made : (x : Name) → same_name new.name x ≡ false → key_of made_last x ≡ key_of objects x

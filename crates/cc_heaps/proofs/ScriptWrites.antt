@@ -1,15 +1,14 @@
 -- SCRIPT OBJECTS WRITTEN: each keeps its key, its name, its kind and its native. An exposure and a slot written, by names.
-use Rattle.std.proofs.Common.{◌≡◌, ℕ, ◌≤◌, Bool, true, false, List, [], ◌∷◌, map, Option, Some, None, option_map, refl, sym, ◌∙◌, ap, subst, inl, ⊎_elim, ◌==◌, if◌then◌else◌}
+use Rattle.cc_lists.proofs.Held.{find-renamed}
+use Rattle.std.proofs.Common.{◌≡◌, ℕ, ◌≤◌, Bool, true, false, List, [], ◌∷◌, map, Option, Some, refl, sym, ◌∙◌, ap, subst, inl, ⊎_elim, ◌==◌, if◌then◌else◌}
 use Rattle.std.specs.Prelude.{IsTrue}
 use Rattle.std.specs.Option.{option_and_then}
-use Rattle.std.specs.List.{find}
 use Rattle.std.proofs.Math.Path.{fun_ext}
 use Rattle.std.proofs.lemmas.Bool.{eqb-true, eq-eqb, true≢false}
 use Rattle.std.proofs.lemmas.List.{map-set}
 use Rattle.std.proofs.lemmas.Simd.{map-map}
 use Rattle.cc_lists.specs.Members.{Among, has}
-use Rattle.cc_lists.proofs.Searching.{find-map}
-use Rattle.cc_lists.proofs.ListWrites.{each-map, count_by-kept_map, Among-set_cases, map-agree}
+use Rattle.cc_lists.proofs.ListWrites.{each-map, count_by-kept_map, Among-set_cases, map-agree, changed_where, changed_where-either}
 use Rattle.cc_names.specs.declared.name.Name.{Name}
 use Rattle.cc_names.specs.declared.name.Name.TheVariants as name
 use Rattle.cc_names.specs.declared.kind.Colour.{Colour}
@@ -34,24 +33,14 @@ pub record KeepsObjects (f : Object → Object) : Type 0 where
 module _ (f : Object → Object) (keeps : KeepsObjects f) (objects : List Object) where
   -- keys have the names that they had
   pub name_at-written : (key : ℕ) → name_at (map f objects) key ≡ name_at objects key
-  name_at-written key = ap (λ (o : Option Object). option_map (λ p. p.name) o) (find-map (λ p. p.key == key) f objects)
-      ∙ (go (find (λ o. (f o).key == key) objects)
-      ∙ ap (λ (t : Object → Bool). option_map (λ p. p.name) (find t objects)) (fun_ext (λ (o : Object). ap (λ k. k == key) (keeps.key o))))
-    where
-      go : (o : Option Object) → option_map (λ p. p.name) (option_map f o) ≡ option_map (λ p. p.name) o
-      go None = refl
-      go (Some o) = ap (λ x. Some x) (keeps.name o)
+  name_at-written key = find-renamed f (λ p. p.key == key) (λ p. p.key == key) (λ p. p.name) (λ p. p.name) (λ o. ap (λ k. k == key) (keeps.key o)) keeps.name objects
 
   pub KeepsNames-written : KeepsNames objects (map f objects)
   KeepsNames-written key x e = name_at-written key ∙ e
 
   -- slots hold the names that they held
   pub name_held-written : name_held (map f objects) ≡ name_held objects
-  name_held-written = fun_ext at
-    where
-      at : (x : Option ℕ) → name_held (map f objects) x ≡ name_held objects x
-      at None = refl
-      at (Some q) = name_at-written q
+  name_held-written = ap option_and_then (fun_ext name_at-written)
 
   -- by names, where each object is written as its names are
   pub named-written : (g : HeapScript → HeapScript) → ((o : Object) → Among o objects → named_object objects (f o) ≡ g (named_object objects o)) →
@@ -66,13 +55,7 @@ module _ (f : Object → Object) (keeps : KeepsObjects f) (objects : List Object
 
   -- names have the keys that they had
   pub key_of-written : (x : Name) → key_of (map f objects) x ≡ key_of objects x
-  key_of-written x = ap (λ (o : Option Object). option_map (λ p. p.key) o) (find-map (λ p. same_name p.name x) f objects)
-      ∙ (go (find (λ o. same_name (f o).name x) objects)
-      ∙ ap (λ (t : Object → Bool). option_map (λ p. p.key) (find t objects)) (fun_ext (λ (o : Object). ap (λ y. same_name y x) (keeps.name o))))
-    where
-      go : (o : Option Object) → option_map (λ p. p.key) (option_map f o) ≡ option_map (λ p. p.key) o
-      go None = refl
-      go (Some o) = ap (λ k. Some k) (keeps.key o)
+  key_of-written x = find-renamed f (λ p. same_name p.name x) (λ p. same_name p.name x) (λ p. p.key) (λ p. p.key) (λ o. ap (λ y. same_name y x) (keeps.name o)) keeps.key objects
 
   -- so natives have the reflectors that they had, and these their natives
   pub reflectors-written : (keys : List (Option ℕ)) → reflectors_by (map f objects) keys ≡ reflectors_by objects keys
@@ -102,23 +85,21 @@ raised-black o = go o.colour refl
 abbrev pub raise_among : List ℕ → Object → Object
 raise_among keys o = if has ◌==◌ keys o.key then raised Black o else o
 
-raised-keeps : (P : Object → Type 0) (o : Object) → P (with_colour Black o) → P o → P (raised Black o)
-raised-keeps P o black same = subst P (sym (raised-black o)) black
-
 raise-either : (P : Object → Type 0) (keys : List ℕ) (o : Object) → P (with_colour Black o) → P o → P (raise_among keys o)
-raise-either P keys o black same = go (has ◌==◌ keys o.key)
-  where
-    go : (b : Bool) → P (if b then raised Black o else o)
-    go true = raised-keeps P o black same
-    go false = same
+raise-either P keys o black same = changed_where-either P (λ p. has ◌==◌ keys p.key) (raised Black) o (λ e. subst P (sym (raised-black o)) black) same
+
+-- what is written to some objects is
+KeepsObjects-where : (t : Object → Bool) (g : Object → Object) → KeepsObjects g → KeepsObjects (changed_where t g)
+KeepsObjects-where t g keeps = record {
+  key = λ o. changed_where-either (λ p. p.key ≡ o.key) t g o (λ e. keeps.key o) refl;
+  name = λ o. changed_where-either (λ p. p.name ≡ o.name) t g o (λ e. keeps.name o) refl;
+  kind = λ o. changed_where-either (λ p. p.kind ≡ o.kind) t g o (λ e. keeps.kind o) refl;
+  native = λ o. changed_where-either (λ p. p.native ≡ o.native) t g o (λ e. keeps.native o) refl;
+}
 
 pub KeepsObjects-raised : (keys : List ℕ) → KeepsObjects (raise_among keys)
-KeepsObjects-raised keys = record {
-  key = λ o. raise-either (λ p. p.key ≡ o.key) keys o refl refl;
-  name = λ o. raise-either (λ p. p.name ≡ o.name) keys o refl refl;
-  kind = λ o. raise-either (λ p. p.kind ≡ o.kind) keys o refl refl;
-  native = λ o. raise-either (λ p. p.native ≡ o.native) keys o refl refl;
-}
+KeepsObjects-raised keys = KeepsObjects-where (λ o. has ◌==◌ keys o.key) (raised Black)
+    (subst KeepsObjects (sym (fun_ext raised-black)) (record { key = λ o. refl; name = λ o. refl; kind = λ o. refl; native = λ o. refl }))
 
 pub whole-raised : (keys : List ℕ) (objects : List Object) → AreWhole objects → AreWhole (map (raise_among keys) objects)
 whole-raised keys objects whole = whole-written (raise_among keys) (KeepsObjects-raised keys) objects
@@ -167,19 +148,10 @@ abbrev pub write_slot : ℕ → ℕ → Option ℕ → Object → Object
 write_slot key i item o = if o.key == key then with_slot i item o else o
 
 write-either : (P : Object → Type 0) (key i : ℕ) (item : Option ℕ) (o : Object) → P (with_slot i item o) → P o → P (write_slot key i item o)
-write-either P key i item o written same = go (o.key == key)
-  where
-    go : (b : Bool) → P (if b then with_slot i item o else o)
-    go true = written
-    go false = same
+write-either P key i item o written same = changed_where-either P (λ p. p.key == key) (with_slot i item) o (λ e. written) same
 
 pub KeepsObjects-slot : (key i : ℕ) (item : Option ℕ) → KeepsObjects (write_slot key i item)
-KeepsObjects-slot key i item = record {
-  key = λ o. write-either (λ p. p.key ≡ o.key) key i item o refl refl;
-  name = λ o. write-either (λ p. p.name ≡ o.name) key i item o refl refl;
-  kind = λ o. write-either (λ p. p.kind ≡ o.kind) key i item o refl refl;
-  native = λ o. write-either (λ p. p.native ≡ o.native) key i item o refl refl;
-}
+KeepsObjects-slot key i item = KeepsObjects-where (λ o. o.key == key) (with_slot i item) (record { key = λ o. refl; name = λ o. refl; kind = λ o. refl; native = λ o. refl })
 
 -- what comes into a slot is there
 pub whole-slot : (objects : List Object) (key i : ℕ) (item : Option ℕ) → AreWhole objects → ((q : ℕ) → item ≡ Some q → IsTrue (is_there objects q)) →

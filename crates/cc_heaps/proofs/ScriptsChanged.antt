@@ -1,10 +1,9 @@
 -- THE SCRIPT OBJECTS ARE CHANGED, or more are made: keys that have names keep them. Then registers and natives hold, and
 -- entries name, what they did.
-use Rattle.std.proofs.Common.{◌≡◌, ℕ, ◌≤◌, true, false, List, map, Option, Some, None, option_map, is_some, refl, sym, ◌∙◌, ap, subst, ⊎_elim, count_by}
+use Rattle.cc_laws_heap.proofs.ScriptNames.{scripts-once}
+use Rattle.std.proofs.Common.{◌≡◌, ℕ, ◌≤◌, false, List, map, Option, Some, None, refl, sym, ◌∙◌, ap, subst, ⊎_elim, count_by}
 use Rattle.std.specs.Prelude.{IsTrue}
 use Rattle.std.specs.Option.{option_and_then}
-use Rattle.std.proofs.Math.Path.{fun_ext}
-use Rattle.std.proofs.lemmas.Bool.{false≢true}
 use Rattle.cc_lists.specs.Members.{Among}
 use Rattle.cc_lists.proofs.Counting.{count_by-map}
 use Rattle.cc_lists.proofs.ListWrites.{map-kept, map-agree}
@@ -16,39 +15,26 @@ use Rattle.cc_model.specs.Heap.{Heap, HeapNative, HeapScript}
 use Rattle.cc_model.specs.WellFormed.{IsWellFormed, script_names}
 use Rattle.cc_laws_heap.specs.Sound.{IsSound}
 use Rattle.cc_laws_heap.proofs.ScriptsKept.{native-no_script}
-use Rattle.cc_laws_heap.proofs.NameLists.{same_name-sym}
-use Rattle.cc_script.specs.Objects.{Object, AreWhole, object_at, is_there, name_at}
+use Rattle.cc_script.specs.Objects.{Object, AreWhole, is_there, name_at}
 use Rattle.cc_script.proofs.Reaching.{among-held}
 use Rattle.cc_weakmaps.specs.Entries.{KeyedEntry}
 use Rattle.cc_marking.specs.Marking.{AreEntriesThere, IsEntryThere}
 use Rattle.cc_heaps.specs.Keyed.{IsInOrder, Reflects, counts_of, keyed_native, named_entry, named_entries, named_object, named_objects, reflectors_by}
 use Rattle.cc_heaps.specs.Changes.{KeepsKeys}
-use Rattle.cc_heaps.specs.Named.{own_name, named_native, script_named, IsHeldThere, IsScriptLive}
+use Rattle.cc_heaps.specs.Named.{own_name, named_native, script_named, IsScriptLive}
 use Rattle.cc_heaps.specs.Fields.{heap_of, keyed_of, IsLinked}
 use Rattle.cc_heaps.specs.declared.heaps.Heaps.TheInside.{Inside}
 use Rattle.cc_heaps.proofs.Keys.{HasKeys-numbers, Reflects-kept, object-name}
-use Rattle.cc_heaps.proofs.ObjectsKept.{members, entry-same, entry-there}
+use Rattle.cc_heaps.proofs.ObjectsKept.{members, entry-same, entry-there, there-named, named-there, there-kept}
+use Rattle.cc_heaps.proofs.Keying.{AreHeldThere}
+use Rattle.cc_lists.proofs.Held.{map-held}
+use Rattle.cc_model.specs.Slots.{contents}
+use Rattle.cc_names.specs.Names.{object}
 use Rattle.cc_heaps.proofs.Reaching.{HasOneKey, HasOneName}
 
 -- keys that have names keep them
 abbrev pub KeepsNames : List Object → List Object → Type 0
 KeepsNames os ps = (key : ℕ) (x : Name) → name_at os key ≡ Some x → name_at ps key ≡ Some x
-
--- what is there has a name
-pub there-named : (objects : List Object) (key : ℕ) → IsTrue (is_there objects key) → (x : Name) × (name_at objects key ≡ Some x)
-there-named objects key t = go (object_at objects key) t
-  where
-    go : (o : Option Object) → is_some o ≡ true → (x : Name) × (option_map (λ (p : Object). p.name) o ≡ Some x)
-    go None e = absurd (false≢true e)
-    go (Some o) e = (o.name, refl)
-
--- and what has a name is there
-pub named-there : (objects : List Object) (key : ℕ) (x : Name) → name_at objects key ≡ Some x → IsTrue (is_there objects key)
-named-there objects key x e = go (object_at objects key) e
-  where
-    go : (o : Option Object) → option_map (λ (p : Object). p.name) o ≡ Some x → is_some o ≡ true
-    go None f = absurd (cc)
-    go (Some o) f = refl
 
 -- what is there stays there
 pub KeepsNames-there : (os ps : List Object) → KeepsNames os ps → (key : ℕ) → IsTrue (is_there os key) → IsTrue (is_there ps key)
@@ -74,13 +60,9 @@ entries_there-kept os ps kept es there e m = entry-there os ps e (members-kept o
 
 -- no two objects have one name, where no two script objects of the heaps have
 pub HasOneName-named : (h : Heap) (objects : List Object) → h.scripts ≡ named_objects objects → IsWellFormed h → HasOneName objects
-HasOneName-named h objects named w x = subst (λ n. n ≤ 1) counted (w.distinct x)
-  where
-    counted : count_by (same_name x) (script_names h) ≡ count_by (λ o. same_name o.name x) objects
-    counted = ap (λ ss. count_by (same_name x) (map (λ (o : HeapScript). o.name) ss)) named
-        ∙ (count_by-map (same_name x) (λ (o : HeapScript). o.name) (named_objects objects)
-        ∙ (count_by-map (λ (o : HeapScript). same_name x o.name) (named_object objects) objects
-        ∙ ap (λ t. count_by t objects) (fun_ext (λ (o : Object). same_name-sym x o.name))))
+HasOneName-named h objects named w x = subst (λ n. n ≤ 1)
+    (ap (count_by (λ (o : HeapScript). same_name o.name x)) named ∙ count_by-map (λ (o : HeapScript). same_name o.name x) (named_object objects) objects)
+    (scripts-once h w x)
 
 -- THE PARTS with other script objects, so many of which were made
 abbrev pub with_objects : Inside → List Object → ℕ → Inside
@@ -90,36 +72,50 @@ with_objects p objects made = record p { scripts = objects; scripts_made = made 
 abbrev pub with_named : Heap → List Object → ℕ → Heap
 with_named h objects made = record h { scripts = named_objects objects; scripts_made = made }
 
-module _ (p : Inside) (objects : List Object) (made : ℕ) (kept : KeepsNames p.scripts objects) (l : IsLinked p) where
-  register-kept : (x : Option SKey) → Among x p.script_registers.items → script_named objects x ≡ script_named p.scripts x
-  register-kept None m = refl
-  register-kept (Some key) m = KeepsNames-same p.scripts objects kept key.0 (l.script_registers (Some key) m)
+-- what registers and natives of the parts hold has the name among other objects that it has
+pub record HoldsSame (p : Inside) (objects : List Object) : Type 0 where
+  pub registers : (key : SKey) → Among (Some key) p.script_registers.items → name_at objects key.0 ≡ name_at p.scripts key.0
+  pub natives : (n : HeapNative) (key : ℕ) → Among n p.counted.natives → Among (object key) (contents n.slots) → name_at objects key ≡ name_at p.scripts key
 
-  held-kept : (x : Name) → IsHeldThere p.scripts x → own_name objects x ≡ own_name p.scripts x
-  held-kept (name.Native k) t = refl
-  held-kept (name.Script k) t = KeepsNames-same p.scripts objects kept k.0 t
-  held-kept (name.Reflector k) t = absurd t
-
-  native-kept : (n : HeapNative) → Among n p.counted.natives → named_native objects n ≡ named_native p.scripts n
-  native-kept n m = ap (λ slots. record n { slots = slots }) (map-agree (option_and_then (own_name objects)) (option_and_then (own_name p.scripts)) n.slots at)
+module _ (p : Inside) (objects : List Object) (held : AreHeldThere p.scripts p.counted.natives) (same : HoldsSame p objects) where
+  -- THE HEAPS are as they were but for script objects and entries.
+  pub heap-held : heap_of (record p { scripts = objects }) ≡ record (heap_of p) { scripts = named_objects objects; entries = named_entries objects p.weak }
+  heap-held = λ i. record (heap_of p) { script_registers = registers i; natives = natives i; scripts = named_objects objects; entries = named_entries objects p.weak }
     where
-      at : (x : Option Name) → Among x n.slots → option_and_then (own_name objects) x ≡ option_and_then (own_name p.scripts) x
-      at None i = refl
-      at (Some x) i = held-kept x (l.held n x m (among-held n.slots x i))
+      registers : map (script_named objects) p.script_registers.items ≡ map (script_named p.scripts) p.script_registers.items
+      registers = map-held (script_named objects) (script_named p.scripts) p.script_registers.items refl same.registers
+
+      own : (n : HeapNative) → Among n p.counted.natives → (x : Name) → Among (Some x) n.slots → own_name objects x ≡ own_name p.scripts x
+      own n m (name.Native k) i = refl
+      own n m (name.Script k) i = same.natives n k.0 m (among-held n.slots (name.Script k) i)
+      own n m (name.Reflector k) i = absurd (held n (name.Reflector k) m (among-held n.slots (name.Reflector k) i))
+
+      natives : map (named_native objects) p.counted.natives ≡ map (named_native p.scripts) p.counted.natives
+      natives = map-agree (named_native objects) (named_native p.scripts) p.counted.natives
+          (λ n m. ap (λ slots. record n { slots = slots }) (map-held (option_and_then (own_name objects)) (option_and_then (own_name p.scripts)) n.slots refl (own n m)))
+
+  -- What they hold stays there.
+  pub registers-held : ((x : Option SKey) → Among x p.script_registers.items → IsScriptLive p.scripts x) → (x : Option SKey) → Among x p.script_registers.items → IsScriptLive objects x
+  registers-held live None m = tt
+  registers-held live (Some key) m = there-kept p.scripts objects key.0 (same.registers key m) (live (Some key) m)
+
+  pub natives-held : AreHeldThere objects p.counted.natives
+  natives-held n (name.Native k) m i = tt
+  natives-held n (name.Script k) m i = there-kept p.scripts objects k.0 (same.natives n k.0 m i) (held n (name.Script k) m i)
+  natives-held n (name.Reflector k) m i = held n (name.Reflector k) m i
+
+module _ (p : Inside) (objects : List Object) (made : ℕ) (kept : KeepsNames p.scripts objects) (l : IsLinked p) where
+  holds-same : HoldsSame p objects
+  holds-same = record {
+    registers = λ key m. KeepsNames-same p.scripts objects kept key.0 (l.script_registers (Some key) m);
+    natives = λ n key m i. KeepsNames-same p.scripts objects kept key (l.held n (object key) m i);
+  }
 
   -- THE HEAPS are as they were but for the script objects.
   pub heap-objects : AreEntriesThere p.scripts p.weak → heap_of (with_objects p objects made) ≡ with_named (heap_of p) objects made
-  heap-objects there = λ i. record (with_named (heap_of p) objects made) {
-    script_registers = registers i;
-    natives = natives i;
-    entries = named_entries-kept p.scripts objects kept p.weak there i;
-  }
-    where
-      registers : map (script_named objects) p.script_registers.items ≡ map (script_named p.scripts) p.script_registers.items
-      registers = map-agree (script_named objects) (script_named p.scripts) p.script_registers.items register-kept
-
-      natives : map (named_native objects) p.counted.natives ≡ map (named_native p.scripts) p.counted.natives
-      natives = map-agree (named_native objects) (named_native p.scripts) p.counted.natives native-kept
+  heap-objects there =
+      ap (λ (h : Heap). record h { scripts_made = made }) (heap-held p objects l.held holds-same)
+      ∙ (λ i. record (with_named (heap_of p) objects made) { entries = named_entries-kept p.scripts objects kept p.weak there i })
 
   -- what is there keeps its key
   pub keys-objects : KeepsKeys (keyed_of p) (keyed_of (with_objects p objects made))
@@ -131,24 +127,15 @@ module _ (p : Inside) (objects : List Object) (made : ℕ) (kept : KeepsNames p.
         IsLinked (record (with_objects p objects made) { counted = record p.counted { reflectors = reflectors } })
     linked-reflected reflectors its = record {
       native_registers = l.native_registers;
-      script_registers = λ x m. register x (l.script_registers x m);
+      script_registers = registers-held p objects l.held holds-same l.script_registers;
       registers = l.registers;
-      held = λ n x m i. held x (l.held n x m i);
+      held = natives-held p objects l.held holds-same;
       one_key = one;
       one_name = HasOneName-named g objects same w;
       reflectors = its;
       script_names = λ o m. no_native o.name (object-name g objects same o m);
     }
       where
-        register : (x : Option SKey) → IsScriptLive p.scripts x → IsScriptLive objects x
-        register None t = t
-        register (Some key) t = KeepsNames-there p.scripts objects kept key.0 t
-
-        held : (x : Name) → IsHeldThere p.scripts x → IsHeldThere objects x
-        held (name.Native k) t = t
-        held (name.Script k) t = KeepsNames-there p.scripts objects kept k.0 t
-        held (name.Reflector k) t = t
-
         no_native : (x : Name) → Among x (script_names g) → is_native x ≡ false
         no_native (name.Native k) m = absurd (native-no_script g k.0 w m)
         no_native (name.Script k) m = refl

@@ -1,6 +1,6 @@
 -- A SLOT OF A NATIVE READ AND WRITTEN, where the rest of the parts stands beside the counted heap.
-use Rattle.std.proofs.Common.{◌≡◌, ℕ, ◌<◌, true, List, [], ◌++◌, length, get_or, Option, Some, None, IsTrue, option_map, refl, sym, ◌∙◌, ap, subst, arith}
-use Rattle.std.specs.Option.{is_some}
+use Rattle.cc_lists.proofs.Held.{is_some-map}
+use Rattle.std.proofs.Common.{◌≡◌, ℕ, ◌<◌, List, [], ◌++◌, length, get_or, Option, Some, None, IsTrue, option_map, refl, sym, ◌∙◌, ap, subst, arith}
 use Rattle.std.proofs.Math.ListN.{get_or-map}
 use Rattle.std.proofs.lemmas.List.{length-map}
 use Rattle.cc_names.specs.declared.name.Name.{Name}
@@ -74,11 +74,7 @@ module _ (p : Inside) (l : IsLinked p) (k : ℕ) where
 
   pub read-there : (i : ℕ) (was : Option Held) → name_of p.counted was ≡ get_or (slots_at (native_at alone k)) i None → IsTrue (is_live p.counted was) → IsThere v was
   read-there i None name live = tt
-  read-there i (Some (held.Native key)) name live = go (number_at v key.0) live
-    where
-      go : (n : Option ℕ) → is_some (option_map native n) ≡ true → is_some n ≡ true
-      go None l = l
-      go (Some j) l = refl
+  read-there i (Some (held.Native key)) name live = sym (is_some-map native (number_at v key.0)) ∙ live
   read-there i (Some (held.Script key)) name live = held-there (native_at alone k) refl i (object key.0) name
 
   -- A slot written

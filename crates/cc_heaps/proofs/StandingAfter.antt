@@ -1,8 +1,9 @@
 -- WHAT A CHANGE MAKES OF THE GRAPHS THAT THE HEAPS STAND FOR. What is handed in is reached, so it was made, and the changed
 -- graph is well made; the changed heaps follow it, and are well formed, so they stand for it.
-use Rattle.std.proofs.Common.{◌≡◌, ℕ, ◌<◌, ◌≤◌, true, List, get_or, Option, Some, None, is_some, option_map, refl, sym, ap, subst, inl}
+use Rattle.cc_heaps.proofs.ObjectsKept.{there-named}
+use Rattle.cc_heaps.proofs.Reflecting.{shape-made}
+use Rattle.std.proofs.Common.{◌≡◌, ℕ, ◌<◌, ◌≤◌, true, List, get_or, Option, Some, None, refl, sym, ap, subst, inl}
 use Rattle.std.specs.Prelude.{IfSome, IsTrue}
-use Rattle.std.specs.Option.{option_and_then}
 use Rattle.std.proofs.lemmas.Bool.{false≢true, le-leb, lt-leb, lt-ltb}
 use Rattle.cc_names.specs.declared.name.Name.{Name}
 use Rattle.cc_names.specs.declared.name.Name.TheVariants as name
@@ -13,7 +14,6 @@ use Rattle.cc_names.specs.Names.{native, is_native}
 use Rattle.cc_model.specs.declared.command.Command.{Command}
 use Rattle.cc_model.specs.declared.command.Command.TheVariants.{Native}
 use Rattle.cc_model.specs.Ranges.{in_range}
-use Rattle.cc_model.specs.Slots.{Slots}
 use Rattle.cc_model.specs.Checks.{refusal_of}
 use Rattle.cc_model.specs.Graph as graph
 use Rattle.cc_model.specs.Graph.{Graph, GraphNative, GraphScript, native_in, script_in, step}
@@ -24,14 +24,13 @@ use Rattle.cc_model.specs.Cascade.{take_up}
 use Rattle.cc_model.specs.End.{slots_now}
 use Rattle.cc_model.specs.Effects.{effects, hold_native, hold_script, make_native, make_object}
 use Rattle.cc_model.specs.WellFormed.{IsWellFormed, native_names, script_names}
-use Rattle.cc_model.specs.StandsFor.{Shape, shape_in, shape_of_native, shape_of_object, shape_of_reflector, script_shape, StandsFor}
+use Rattle.cc_model.specs.StandsFor.{StandsFor}
 use Rattle.cc_laws_heap.specs.Sound.{IsSound}
 use Rattle.cc_laws_heap.proofs.Holds.{OfSome, OfSome-then}
 use Rattle.cc_laws_heap.proofs.Owning.{IsIn}
 use Rattle.cc_laws_heap.proofs.GraphReads.{Made, MadeNative}
 use Rattle.cc_laws_heap.proofs.GraphWrites.{IsWellMade-native_register, IsWellMade-change_native, KeepsNative-slot}
 use Rattle.cc_laws_heap.proofs.GraphCommands.{step-well}
-use Rattle.cc_laws_heap.proofs.ReachedAlike.{in-reached}
 use Rattle.cc_laws_heap.proofs.Following.{Follows, stands-follows}
 use Rattle.cc_laws_heap.proofs.Standing.{follows-stands}
 use Rattle.cc_laws_heap.proofs.Changing.{Follows-left}
@@ -48,42 +47,14 @@ use Rattle.cc_heaps.specs.Changes.{native_name, script_name, held_name, stored_i
 use Rattle.cc_heaps.specs.Standing.{IsReached, IsReachedOrReflects, MayHold, StandsAfter}
 use Rattle.cc_heaps.proofs.Content.{native-in}
 use Rattle.cc_heaps.proofs.Following.{made-ranges, made-effects, name_at-there, script_name-there}
-use Rattle.cc_heaps.proofs.ScriptsChanged.{there-named}
-use Rattle.cc_heaps.proofs.ReflectingWritten.{held_script-stands, slot_written-stands}
+use Rattle.cc_heaps.proofs.ReflectingWritten.{held_script-stands, slot_written-stands, handed-reached}
 
 -- What was made
 
--- what has a shape in the graph was made
-shape-made : (g : Graph) (x : Name) (s : Shape) → shape_in g x ≡ Some s → Made g x
-shape-made g (name.Native k) s = go (native_in g k.0)
-  where
-    go : (o : Option GraphNative) → option_map shape_of_native o ≡ Some s → is_some o ≡ true
-    go None e = absurd (cc)
-    go (Some n) e = refl
-shape-made g (name.Script k) s = go (script_in g k.0)
-  where
-    go : (o : Option GraphScript) → option_map shape_of_object o ≡ Some s → is_some o ≡ true
-    go None e = absurd (cc)
-    go (Some o) e = refl
-shape-made g (name.Reflector k) s = go (native_in g k.0)
-  where
-    slots : (r : Option Slots) → option_map (λ slots. script_shape (Some slots)) r ≡ Some s → is_some r ≡ true
-    slots None e = absurd (cc)
-    slots (Some l) e = refl
-
-    go : (o : Option GraphNative) → option_and_then shape_of_reflector o ≡ Some s → is_some (option_and_then (λ (n : GraphNative). n.reflector) o) ≡ true
-    go None e = absurd (cc)
-    go (Some n) e = slots n.reflector e
-
 module _ (h : Heap) (g : Graph) (w : IsWellFormed h) (m : IsWellMade g) (s : StandsFor h g) where
-  -- what is handed in is reached in the graph
-  handed-reached : (x : Option Name) → IsReached h x → OfSome (Reached g) x
-  handed-reached None r = tt
-  handed-reached (Some x) r = in-reached h g w m s x r
-
-  -- so it was made
+  -- what is handed in was made
   handed-made : (x : Option Name) → IsReached h x → OfSome (Made g) x
-  handed-made x r = OfSome-then (Reached g) (Made g) (λ y d. let k = s.reached y d in shape-made g y k.shape k.made) x (handed-reached x r)
+  handed-made x r = OfSome-then (Reached g) (Made g) (λ y d. let k = s.reached y d in shape-made g y k.shape k.made) x (handed-reached h g x w m s r)
 
   -- a native, where it is that of one that is there
   native-made : (x : Option Name) → IsIn (native_names h) x → IsReached h x → OfSome (MadeNative g) x
@@ -110,7 +81,7 @@ module _ (h : Heap) (w : IsWellFormed h) where
       StandsAfter h (hold_native h d x).heap (λ g. graph.set_register g (N d) x)
   hold_native-stands d x there r late = StandsAfter-from h (hold_native h d x).heap (λ g. graph.set_register g (N d) x) w late
       (λ g m s. IsWellMade-native_register g d x m (native-made h g w m s x there r))
-      (λ g m s t. Follows-hold (Reached g) h g d x x refl (handed-reached h g w m s x r) t)
+      (λ g m s t. Follows-hold (Reached g) h g d x x refl (handed-reached h g x w m s r) t)
 
   -- A slot of a native is written.
   stored_in-stands : (k i : ℕ) (x : Option Name) → IsReached h (Some (native k)) → IsReached h x → IsWellFormed (stored_in h k i x).heap →
@@ -119,7 +90,7 @@ module _ (h : Heap) (w : IsWellFormed h) where
       (λ g m s. IsWellMade-change_native g k (graph.with_slot i x) (λ n e. e) m (KeepsNative-slot g k i x (handed-made h g w m s x r)))
       (λ g m s t. Follows-left (Reached g) (set_slot (take_up h x) (Some (native k)) i x) (stored_in h k i x).heap (graph.set_slot g (Some (native k)) i x)
       (Leaves-let_go (set_slot (take_up h x) (Some (native k)) i x) (get_or (slots_now (native_at (take_up h x) k)) i None))
-      (Follows-slot (Reached g) (take_up h x) g (Some (native k)) i x (handed-reached h g w m s (Some (native k)) held) (handed-reached h g w m s x r)
+      (Follows-slot (Reached g) (take_up h x) g (Some (native k)) i x (handed-reached h g (Some (native k)) w m s held) (handed-reached h g x w m s r)
       (λ j a e. absurd (cc)) (Follows-left (Reached g) h (take_up h x) g (Leaves-take_up h x) t)))
 
 -- A command that is not refused.

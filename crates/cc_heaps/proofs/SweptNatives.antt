@@ -1,14 +1,16 @@
 -- NATIVES IN A SWEEP: what becomes of the counted heap is what the definitions make of natives by their names, whatever the
 -- script objects are meanwhile. Keys are left where their natives are, and swept reflectors are those of no native.
-use Rattle.std.proofs.Common.{◌≡◌, ℕ, zero, suc, ◌==◌, Bool, true, false, not, ◌&&◌, ◌||◌, List, [], ◌∷◌, map, get_or, set, Option, Some, None, option_map, refl, sym, ◌∙◌, ap, subst, arith, inl, inr}
+use Rattle.std.proofs.lemmas.List.{length-map}
+use Rattle.cc_heaps.proofs.ReflectorLists.{reflectors-set, within-read}
+use Rattle.cc_lists.proofs.Held.{map-held}
+use Rattle.std.proofs.Common.{◌≡◌, ℕ, Bool, true, false, not, ◌&&◌, ◌||◌, List, [], ◌∷◌, map, get_or, set, Option, Some, None, option_map, refl, sym, ◌∙◌, ap, subst, inl, inr, length, ◌<◌}
 use Rattle.std.specs.List.{filter}
 use Rattle.std.specs.Option.{option_and_then}
 use Rattle.std.proofs.Math.ListN.{get_or-map}
 use Rattle.std.proofs.Math.Path.{fun_ext}
-use Rattle.std.proofs.lemmas.Bool.{eqb-true}
+use Rattle.std.proofs.lemmas.Bool.{ne_eqb}
 use Rattle.cc_lists.specs.Members.{Among, has}
 use Rattle.cc_lists.proofs.Members.{Among-map}
-use Rattle.cc_lists.proofs.ListWrites.{map-agree}
 use Rattle.cc_lists.proofs.Searching.{find-filter, find-dropped, filter-true, filter-filter}
 use Rattle.cc_names.specs.declared.name.Name.{Name}
 use Rattle.cc_names.specs.declared.name.Name.TheVariants as name
@@ -32,7 +34,7 @@ use Rattle.cc_heaps.specs.Keyed.{Reflects, reflector_key, reflectors_by}
 use Rattle.cc_heaps.specs.Fields.{keyed_of}
 use Rattle.cc_heaps.specs.Sweeping.{Left, forgotten, let_native_go, sweep_each, then_sweep}
 use Rattle.cc_heaps.proofs.EachNative.{IsOfEach, each-cascade}
-use Rattle.cc_heaps.proofs.Keys.{key_left-some}
+use Rattle.cc_heaps.proofs.Keys.{key_left-some, Reflects-cases}
 use Rattle.cc_heaps.proofs.LeftWith.{keys-then}
 use Rattle.cc_heaps.proofs.Linked.{reflectors-left}
 use Rattle.cc_heaps.proofs.Naming.{AreScripts, shown, cascade-shown}
@@ -60,12 +62,10 @@ module _ (p : Inside) (scripts : AreScripts p.scripts) where
   -- a native let go
   let_go-named : (h : Heap) (c : Counts) (x : Name) (key : Option ℕ) → Reflects (keyed_of p) x key →
       model.let_native_go (shown h p.scripts (counts.heap_of c)) x ≡ left_named h (let_native_go p.counted c key)
-  let_go-named h c (name.Native k) key r = absurd r
-  let_go-named h c (name.Script k) key r = ap (λ q. left_named h (let_native_go p.counted c q)) (sym r)
-  let_go-named h c (name.Reflector k) None r = absurd r
-  let_go-named h c (name.Reflector k) (Some q) r =
-      cascade-shown p.scripts scripts h (counts.heap_of c) k.0
-      ∙ ap (λ j. left_named h (record { counts = left_with c (cascade (counts.heap_of c) j).heap; events = (cascade (counts.heap_of c) j).events })) (sym (ap number_or_none r))
+  let_go-named h c = Reflects-cases (keyed_of p) (λ x key. model.let_native_go (shown h p.scripts (counts.heap_of c)) x ≡ left_named h (let_native_go p.counted c key))
+      (λ k. refl)
+      (λ k q r. cascade-shown p.scripts scripts h (counts.heap_of c) k
+      ∙ ap (λ j. left_named h (record { counts = left_with c (cascade (counts.heap_of c) j).heap; events = (cascade (counts.heap_of c) j).events })) (sym (ap number_or_none r)))
 
   -- EACH IN TURN
   pub each-named : (os : List Object) (h : Heap) (l : Left) → ((o : Object) → Among o os → Reflects (keyed_of p) o.name o.native) →
@@ -125,40 +125,22 @@ reflector-gone objects k = ap (λ (o : Option Object). option_map (λ q. q.key) 
 
 -- what is no reflector is that of no native
 reflectors-plain : (objects : List Object) (k : ℕ) (keys : List (Option ℕ)) → reflectors_by (without_name (name.Script (record { 0 = k })) objects) keys ≡ reflectors_by objects keys
-reflectors-plain objects k keys = map-agree (option_and_then (reflector_key (without_name (name.Script (record { 0 = k })) objects))) (option_and_then (reflector_key objects)) keys at
-  where
-    at : (x : Option ℕ) → Among x keys → option_and_then (reflector_key (without_name (name.Script (record { 0 = k })) objects)) x ≡ option_and_then (reflector_key objects) x
-    at None m = refl
-    at (Some j) m = reflector-other objects (name.Script (record { 0 = k })) j refl
+reflectors-plain objects k keys = map-held (option_and_then (reflector_key (without_name (name.Script (record { 0 = k })) objects))) (option_and_then (reflector_key objects)) keys refl
+    (λ j m. reflector-other objects (name.Script (record { 0 = k })) j refl)
 
 -- a reflector that is taken out is that of the native at one key alone
-reflectors-without : (objects : List Object) (k : ℕ) (keys : List (Option ℕ)) (key : ℕ) → ((q : ℕ) → get_or keys q None ≡ Some k → q ≡ key) →
+reflectors-without : (objects : List Object) (k : ℕ) (keys : List (Option ℕ)) (key : ℕ) → key < length keys → ((q : ℕ) → get_or keys q None ≡ Some k → q ≡ key) →
     ((j : ℕ) → get_or keys key None ≡ Some j → j ≡ k) → set (reflectors_by objects keys) key None ≡ reflectors_by (without_name (reflector k) objects) keys
-reflectors-without objects k keys key one same = go keys key one same
+reflectors-without objects k keys key within one same = reflectors-set objects (without_name (reflector k) objects) keys key None within (gone (get_or keys key None) same)
+    (λ q other. kept (get_or keys q None) (λ e. other (one q e)))
   where
-    -- the reflector of another native
-    other : (x : Option ℕ) → ¬ (x ≡ Some k) → option_and_then (reflector_key objects) x ≡ option_and_then (reflector_key (without_name (reflector k) objects)) x
-    other None d = refl
-    other (Some j) d = sym (reflector-other objects (reflector k) j (apart (j == k) refl))
-      where
-        apart : (b : Bool) → (j == k) ≡ b → b ≡ false
-        apart true e = absurd (d (ap Some (eqb-true j k e)))
-        apart false e = refl
+    gone : (x : Option ℕ) → ((j : ℕ) → x ≡ Some j → j ≡ k) → option_and_then (reflector_key (without_name (reflector k) objects)) x ≡ None
+    gone None e = refl
+    gone (Some j) e = ap (reflector_key (without_name (reflector k) objects)) (e j refl) ∙ reflector-gone objects k
 
-    none : (x : Option ℕ) → ((j : ℕ) → x ≡ Some j → j ≡ k) → None ≡ option_and_then (reflector_key (without_name (reflector k) objects)) x
-    none None e = refl
-    none (Some j) e = sym (ap (reflector_key (without_name (reflector k) objects)) (e j refl) ∙ reflector-gone objects k)
-
-    others : (xs : List (Option ℕ)) → ((q : ℕ) → ¬ (get_or xs q None ≡ Some k)) → reflectors_by objects xs ≡ reflectors_by (without_name (reflector k) objects) xs
-    others [] d = refl
-    others (x ∷ xs) d = λ i. other x (d 0) i ∷ others xs (λ q. d (suc q)) i
-
-    go : (xs : List (Option ℕ)) (key : ℕ) → ((q : ℕ) → get_or xs q None ≡ Some k → q ≡ key) → ((j : ℕ) → get_or xs key None ≡ Some j → j ≡ k) →
-        set (reflectors_by objects xs) key None ≡ reflectors_by (without_name (reflector k) objects) xs
-    go [] key one same = refl
-    go (x ∷ xs) zero one same = λ i. none x same i ∷ others xs (λ q e. let bad : suc q ≡ 0 = one (suc q) e in absurd (omega (arith, bad))) i
-    go (x ∷ xs) (suc key) one same =
-        λ i. other x (λ e. let bad : 0 ≡ suc key = one 0 e in absurd (omega (arith, bad))) i ∷ go xs key (λ q e. let up : suc q ≡ suc key = one (suc q) e in omega (arith, up)) same i
+    kept : (x : Option ℕ) → ¬ (x ≡ Some k) → option_and_then (reflector_key objects) x ≡ option_and_then (reflector_key (without_name (reflector k) objects)) x
+    kept None d = refl
+    kept (Some j) d = sym (reflector-other objects (reflector k) j (ne_eqb j k (λ e. d (ap (λ i. Some i) e))))
 
 -- Keys
 
@@ -190,7 +172,7 @@ module _ (p : Inside) (keyed : HasKeys p.counted) where
   IsLeftOf-forgotten c objects key k at l = record {
     keys = ap (map (key_left (g c number))) l.keys ∙ keys-then (counts.heap_of c) (g c number) (were-there c number) first.keys;
     reflectors = ap (λ rs. reflectors_left (map (key_left (g c number)) c.keys) (set rs key None)) l.reflectors
-        ∙ (ap (reflectors_left (map (key_left (g c number)) c.keys)) (reflectors-without objects k c.keys key one same)
+        ∙ (ap (reflectors_left (map (key_left (g c number)) c.keys)) (reflectors-without objects k c.keys key within one same)
         ∙ reflectors-left (without_name (reflector k) objects) (g c number) c.keys);
   }
     where
@@ -202,6 +184,9 @@ module _ (p : Inside) (keyed : HasKeys p.counted) where
       was s j e = (key_left-some (counts.heap_of c) (number_at first s) j
           (sym (ap (λ ks. get_or ks s None) l.keys ∙ get_or-map (key_left (counts.heap_of c)) first.keys s None) ∙ e)).0
 
+      within : key < length c.keys
+      within = subst (λ n. key < n) (sym (ap length l.keys ∙ length-map first.keys (key_left (counts.heap_of c)))) (within-read first.keys key k at)
+
       one : (s : ℕ) → number_at c s ≡ Some k → s ≡ key
       one s e = keyed.one_key s key k (was s k e) at
 
@@ -210,11 +195,9 @@ module _ (p : Inside) (keyed : HasKeys p.counted) where
 
   IsLeftOf-let_go : (c : Counts) (objects : List Object) (x : Name) (key : Option ℕ) → Reflects (keyed_of p) x key → IsLeftOf first c objects →
       IsLeftOf first (let_native_go first c key).counts (without_name x objects)
-  IsLeftOf-let_go c objects (name.Native k) key r l = absurd r
-  IsLeftOf-let_go c objects (name.Script k) key r l = subst (λ q. IsLeftOf first (let_native_go first c q).counts (without_name (name.Script k) objects)) (sym r)
-      (record { keys = l.keys; reflectors = l.reflectors ∙ sym (reflectors-plain objects k.0 c.keys) })
-  IsLeftOf-let_go c objects (name.Reflector k) None r l = absurd r
-  IsLeftOf-let_go c objects (name.Reflector k) (Some q) r l = IsLeftOf-forgotten c objects q k.0 r l
+  IsLeftOf-let_go c objects x key r l = Reflects-cases (keyed_of p) (λ x key. IsLeftOf first (let_native_go first c key).counts (without_name x objects))
+      (λ k. record { keys = l.keys; reflectors = l.reflectors ∙ sym (reflectors-plain objects k c.keys) })
+      (λ k q at. IsLeftOf-forgotten c objects q k at l) x key r
 
   pub IsLeftOf-each : (os objects : List Object) (l : Left) → ((o : Object) → Among o os → Reflects (keyed_of p) o.name o.native) → IsLeftOf first l.counts objects →
       IsLeftOf first (sweep_each first os l).counts (without_names (map (λ o. o.name) os) objects)

@@ -1,20 +1,19 @@
 -- A SWEEP BY KEYS is the sweep of the definitions, where the colours are those of marking: what is left keeps its names.
-use Rattle.std.proofs.Common.{◌≡◌, ℕ, ◌+◌, Bool, true, false, not, List, [], ◌∷◌, ◌++◌, map, Option, Some, None, refl, sym, ◌∙◌, ap, subst, arith, inl, inr, ⊎_elim}
+use Rattle.cc_lists.proofs.Held.{of-one}
+use Rattle.std.proofs.Common.{◌≡◌, ℕ, ◌+◌, Bool, true, false, not, List, [], ◌∷◌, ◌++◌, map, Option, Some, None, refl, sym, ◌∙◌, ap, subst, arith, inl, inr}
 use Rattle.std.specs.List.{flat_map}
-use Rattle.std.specs.Option.{option_and_then, option_to_list}
+use Rattle.std.specs.Option.{option_to_list}
 use Rattle.std.proofs.Math.ListN.{get_or-map}
 use Rattle.std.proofs.lemmas.List.{map-append}
+use Rattle.cc_heaps.proofs.ScriptsChanged.{HoldsSame, heap-held, registers-held, natives-held}
 use Rattle.cc_lists.specs.Members.{Among, has}
 use Rattle.cc_lists.proofs.Members.{Among-map, Among-map_cases, Among-filtered, Among-flat_map_cases}
 use Rattle.cc_lists.proofs.Filtering.{filter-agree}
-use Rattle.cc_lists.proofs.ListWrites.{only-member, map-agree}
+use Rattle.cc_lists.proofs.ListWrites.{map-agree}
 use Rattle.cc_names.specs.declared.name.Name.{Name}
-use Rattle.cc_names.specs.declared.name.Name.TheVariants as name
-use Rattle.cc_names.specs.declared.number.SKey.{SKey}
 use Rattle.cc_names.specs.Names.{native, object, same_name, behind}
-use Rattle.cc_names.proofs.NameTests.{same_name-refl}
 use Rattle.cc_model.specs.Slots.{contents}
-use Rattle.cc_model.specs.Heap.{Heap, HeapNative, HeapScript, Outcome}
+use Rattle.cc_model.specs.Heap.{Heap, HeapNative, Outcome}
 use Rattle.cc_model.specs.Colours.{HasColours}
 use Rattle.cc_model.specs.Counts.{times}
 use Rattle.cc_model.specs.Sweep.{unmarked, without_dead_entries, sweep}
@@ -28,23 +27,22 @@ use Rattle.cc_counted.specs.Counts.{number_at, number_or_none, the_number, key_l
 use Rattle.cc_counted.specs.Counts as counts
 use Rattle.cc_counted.specs.Owning.{AreOwned}
 use Rattle.cc_script.specs.Objects.{Object, name_at}
-use Rattle.cc_script.proofs.Reaching.{among-held}
-use Rattle.cc_heaps.specs.Keyed.{Keyed, IsInOrder, Reflects, left_with, named_entries, named_object, named_objects}
+use Rattle.cc_heaps.specs.Keyed.{Keyed, IsInOrder, Reflects, left_with, named_entries, named_objects}
 use Rattle.cc_heaps.specs.Changes.{KeepsKeys}
-use Rattle.cc_heaps.specs.Named.{own_name, named_native, named, script_named, IsHeldThere, IsScriptLive}
+use Rattle.cc_heaps.specs.Named.{named_native, named, IsHeldThere}
 use Rattle.cc_heaps.specs.Fields.{heap_of, keyed_of, IsLinked}
 use Rattle.cc_heaps.specs.Sweeping.{Left, OwnEach, is_white, native_keys, not_white, swept_counts, untold, white_names, whites}
 use Rattle.cc_heaps.specs.declared.heaps.Heaps.TheInside.{Inside}
 use Rattle.cc_heaps.proofs.Calls.{key_left-shown}
 use Rattle.cc_heaps.proofs.Keying.{AreHeldThere}
-use Rattle.cc_heaps.proofs.Keys.{AreReflecting-left, HasKeys-keyed, HasKeys-left, HasKeys-names, Reflects-kept, counts_in}
+use Rattle.cc_heaps.proofs.Keys.{AreReflecting-left, HasKeys-keyed, HasKeys-left, HasKeys-names, Reflects-kept, counts_in, Reflects-cases, named-object}
 use Rattle.cc_heaps.proofs.LeftWith.{key_left-there, keys-there}
 use Rattle.cc_heaps.proofs.Naming.{native_names-shown, shown}
-use Rattle.cc_heaps.proofs.ObjectsKept.{keys-counted, there-kept}
+use Rattle.cc_heaps.proofs.ObjectsKept.{keys-counted}
 use Rattle.cc_heaps.proofs.Owned.{AreOwned-permuted, all-owned, in_reflectors, in_registers}
 use Rattle.cc_heaps.proofs.EntriesLeft.{entries-left, entries_there-left, left_entries}
 use Rattle.cc_heaps.proofs.ObjectsLeft.{left_objects, native-left, objects-left, one_key-left, register-left, scripts-left, spared-stays, stays, white-unmarked}
-use Rattle.cc_heaps.proofs.Reaching.{name_at-own, name_at-found}
+use Rattle.cc_heaps.proofs.Reaching.{name_at-own, key-named}
 use Rattle.cc_heaps.proofs.Registers.{AreLive, AreLive-same, left-same, registers-same}
 use Rattle.cc_heaps.proofs.SweptNatives.{IsLeftOf, IsLeftOf-each, each-named, each-swept, left_by, without_each, without_each-scripts, without_names, without_names-filter}
 
@@ -77,17 +75,12 @@ numbers-behind p (o ∷ os) all =
     ∙ (λ i. one o.name o.native (all o (inl refl)) i ++ numbers-behind p os (λ q m. all q (inr m)) i)
   where
     one : (x : Name) (key : Option ℕ) → Reflects (keyed_of p) x key → map (the_number p.counted) (option_to_list key) ≡ behind x
-    one (name.Native k) key r = absurd r
-    one (name.Script k) key r = ap (λ q. map (the_number p.counted) (option_to_list q)) r
-    one (name.Reflector k) None r = absurd r
-    one (name.Reflector k) (Some q) r = ap (λ o. number_or_none o ∷ []) r
+    one = Reflects-cases (keyed_of p) (λ x key. map (the_number p.counted) (option_to_list key) ≡ behind x) (λ k. refl) (λ k q r. ap (λ o. number_or_none o ∷ []) r)
 
 -- and the natives are there
 reflecting-there : (p : Inside) (x : Name) (key : Option ℕ) (q : ℕ) → Reflects (keyed_of p) x key → Among q (option_to_list key) → number_at p.counted q ≡ Some (the_number p.counted q)
-reflecting-there p (name.Native k) key q r m = absurd r
-reflecting-there p (name.Script k) key q r m = absurd (subst (λ s. Among q (option_to_list s)) r m)
-reflecting-there p (name.Reflector k) None q r m = absurd m
-reflecting-there p (name.Reflector k) (Some s) q r m = ⊎_elim (λ e. subst (λ t. number_at p.counted t ≡ Some (the_number p.counted t)) e (r ∙ ap (λ o. Some (number_or_none o)) (sym r))) (λ t. absurd t) m
+reflecting-there p x key q r m = Reflects-cases (keyed_of p) (λ x key. Among q (option_to_list key) → number_at p.counted q ≡ Some (the_number p.counted q)) (λ k i. absurd i)
+    (λ k s at. of-one (λ t. number_at p.counted t ≡ Some (the_number p.counted t)) s (at ∙ ap (λ o. Some (number_or_none o)) (sym at)) q) x key r m
 
 module _ {besides : List ℕ} (p : Inside) (l : IsLinked p) (o : IsInOrder besides (keyed_of p)) where
   white-reflecting : (q : Object) → Among q (whites p.scripts) → Reflects (keyed_of p) q.name q.native
@@ -141,17 +134,8 @@ module _ {owned : List ℕ} (p : Inside) (l : IsLinked p) (o : IsInOrder owned (
   final-left n key m i = each-swept (λ u. (k : ℕ) → Among (object k) (contents u.slots) → name_at (left_objects p) k ≡ name_at p.scripts k) p.counted (whites p.scripts)
       (untold p.counted) (λ r j k. native-left p l o c r k j) n m key i
 
-  native-same : (n : HeapNative) → Among n final.counts.natives → named_native (left_objects p) n ≡ named_native p.scripts n
-  native-same n m = ap (λ slots. record n { slots = slots }) (map-agree (option_and_then (own_name (left_objects p))) (option_and_then (own_name p.scripts)) n.slots at)
-    where
-      own : (x : Name) → Among x (contents n.slots) → IsHeldThere p.scripts x → own_name (left_objects p) x ≡ own_name p.scripts x
-      own (name.Native k) i t = refl
-      own (name.Script k) i t = final-left n k.0 m i
-      own (name.Reflector k) i t = absurd t
-
-      at : (x : Option Name) → Among x n.slots → option_and_then (own_name (left_objects p)) x ≡ option_and_then (own_name p.scripts) x
-      at None i = refl
-      at (Some x) i = let j : Among x (contents n.slots) = among-held n.slots x i in own x j (held-final n x m j)
+  same-left : HoldsSame (record p { counted = final.counts; weak = left_entries p }) (left_objects p)
+  same-left = record { registers = register-left p l o c; natives = final-left }
 
   -- stand at the keys at which they stood, and have their reflectors, as far as these are left.
   final-keys : IsLeftOf p.counted final.counts (left_objects p)
@@ -207,22 +191,12 @@ module _ {owned : List ℕ} (p : Inside) (l : IsLinked p) (o : IsInOrder owned (
   registers-there y m = subst (λ xs. Among y xs) (native_names-shown p.scripts (heap_of p) g) (sound.well_formed.native_registers y m)
 
   heap-later : heap_of later ≡ h
-  heap-later = λ i. record h { native_registers = natives i; script_registers = scripts i; natives = held i }
+  heap-later = heap-held (record p { counted = final.counts; weak = left_entries p }) (left_objects p) held-final same-left ∙ (λ i. record h { native_registers = natives i })
     where
       natives : map (named final.counts.keys) p.native_registers.items ≡ map (named p.counted.keys) p.native_registers.items
       natives = ap (λ keys. map (named keys) p.native_registers.items) final-keys.keys
           ∙ registers-same p.counted.keys (map (key_left g) p.counted.keys) p.native_registers.items
           (left-same p.counted.keys g p.native_registers.items l.native_registers registers-there)
-
-      script : (x : Option SKey) → Among x p.script_registers.items → script_named (left_objects p) x ≡ script_named p.scripts x
-      script None m = refl
-      script (Some key) m = register-left p l o c key m
-
-      scripts : map (script_named (left_objects p)) p.script_registers.items ≡ map (script_named p.scripts) p.script_registers.items
-      scripts = map-agree (script_named (left_objects p)) (script_named p.scripts) p.script_registers.items script
-
-      held : map (named_native (left_objects p)) final.counts.natives ≡ map (named_native p.scripts) final.counts.natives
-      held = map-agree (named_native (left_objects p)) (named_native p.scripts) final.counts.natives native-same
 
   -- the natives that are left of heaps with the script objects that are left
   abbrev before : Keyed
@@ -240,23 +214,14 @@ module _ {owned : List ℕ} (p : Inside) (l : IsLinked p) (o : IsInOrder owned (
     native_registers = subst (λ keys. AreLive keys p.native_registers.items) (sym final-keys.keys)
         (AreLive-same p.counted.keys (map (key_left g) p.counted.keys) p.native_registers.items
         (left-same p.counted.keys g p.native_registers.items l.native_registers registers-there) l.native_registers);
-    script_registers = λ x m. register x m (l.script_registers x m);
+    script_registers = registers-held (record p { counted = final.counts; weak = left_entries p }) (left_objects p) held-final same-left l.script_registers;
     registers = l.registers;
-    held = λ n x m i. content n x m i (held-final n x m i);
+    held = natives-held (record p { counted = final.counts; weak = left_entries p }) (left_objects p) held-final same-left;
     one_key = (objects-left p l o c).one_key;
     one_name = (objects-left p l o c).one_name;
     reflectors = final-keys.reflectors;
     script_names = (objects-left p l o c).script_names;
   }
-    where
-      register : (x : Option SKey) → Among x p.script_registers.items → IsScriptLive p.scripts x → IsScriptLive (left_objects p) x
-      register None m t = t
-      register (Some key) m t = there-kept p.scripts (left_objects p) key.0 (register-left p l o c key m) t
-
-      content : (n : HeapNative) (x : Name) → Among n final.counts.natives → Among x (contents n.slots) → IsHeldThere p.scripts x → IsHeldThere (left_objects p) x
-      content n (name.Native k) m i t = t
-      content n (name.Script k) m i t = there-kept p.scripts (left_objects p) k.0 (final-left n k.0 m i) t
-      content n (name.Reflector k) m i t = t
 
   -- natives that are left were there
   natives-before : (k : ℕ) → Among (native k) (native_names h) → Among (native k) (native_names (heap_of p))
@@ -297,13 +262,7 @@ module _ {owned : List ℕ} (p : Inside) (l : IsLinked p) (o : IsInOrder owned (
   keys-swept = subst (KeepsKeys (keyed_of p)) (sym keyed-later) (record {
     natives = λ key k e m. get_or-map (key_left h) p.counted.keys key None ∙ (ap (key_left h) e ∙ key_left-there h k m);
     scripts = λ key x e m.
-        let f = name_at-found p.scripts key x e in
-        let g = Among-map_cases (λ (q : HeapScript). q.name) (named_objects (left_objects p)) x m in
-        let r = Among-map_cases (named_object (left_objects p)) (left_objects p) g.0 g.1 in
-        let named : r.0.name ≡ x = ap (λ (q : HeapScript). q.name) r.2 ∙ g.2 in
-        let same : r.0 ≡ f.0 = only-member (λ q. same_name q.name x) p.scripts r.0 f.0 (l.one_name x)
-        (Among-filtered stays r.0 p.scripts r.1) (subst (λ y. same_name y x ≡ true) (sym named) (same_name-refl x))
-        f.1 (subst (λ y. same_name y x ≡ true) (sym f.3) (same_name-refl x)) in
-        subst (λ j. name_at (left_objects p) j ≡ Some x) (ap (λ (q : Object). q.key) same ∙ f.2)
-        (name_at-own (left_objects p) (one_key-left p l o c) r.0 r.1 ∙ ap (λ y. Some y) named);
+        let r = named-object h (left_objects p) refl x m in
+        let same : r.0.key ≡ key = key-named p.scripts l.one_name key x e r.0 (Among-filtered stays r.0 p.scripts r.1) r.2 in
+        ap (name_at (left_objects p)) (sym same) ∙ (name_at-own (left_objects p) (one_key-left p l o c) r.0 r.1 ∙ ap (λ y. Some y) r.2);
   })

@@ -1,5 +1,6 @@
 -- WHITE OBJECTS ARE SWEPT IN TURN, by keys: of those before the place to which a walk has come the white ones are gone, they
 -- are told, and their natives are let go. Natives whose reflectors come later stay until then, since these own references.
+use Rattle.cc_heaps.proofs.LeftWith.{key_left-there}
 use Rattle.std.proofs.Common.{◌≡◌, ℕ, ◌<◌, ◌≤◌, Bool, true, false, not, ◌||◌, if◌then◌else◌, List, [], ◌∷◌, ◌++◌, length, map, get_or, Option, Some, None, option_map, refl, sym, ◌∙◌, ap, subst, arith, append-nil, inl, inr}
 use Rattle.std.specs.Prelude.{IsTrue}
 use Rattle.std.specs.List.{filter}
@@ -17,11 +18,10 @@ use Rattle.cc_names.specs.declared.number.SKey.{SKey}
 use Rattle.cc_names.specs.Names.{native}
 use Rattle.cc_model.specs.declared.item.Event.{Event}
 use Rattle.cc_model.specs.declared.item.Event.TheVariants.{Freed}
-use Rattle.cc_model.specs.Heap.{Heap, HeapNative, native_at}
+use Rattle.cc_model.specs.Heap.{Heap}
 use Rattle.cc_model.specs.Telling.{Telling, TellsEvents}
 use Rattle.cc_model.specs.WellFormed.{native_names}
 use Rattle.cc_model.proofs.Tellings.{Tells-nil, TellsEvents-trans}
-use Rattle.cc_laws_heap.proofs.Natives.{named-found}
 use Rattle.cc_counted.specs.Counts.{Counts, number_at, number_or_none, the_number, key_left, heap_of, released, with_reflector}
 use Rattle.cc_counted.specs.Owning.{AreOwned, CallersOwn, Transfers}
 use Rattle.cc_script.specs.Objects.{Object, object_at, is_there, first_key, key_after, without_object}
@@ -52,10 +52,7 @@ are_some-append (x ∷ xs) ys = refl
 
 -- a native that is left keeps its key
 key-left : (c : Counts) (g : Heap) (key k : ℕ) → number_at c key ≡ Some k → Among (native k) (native_names g) → get_or (map (key_left g) c.keys) key None ≡ Some k
-key-left c g key k e m = let f = named-found g k m in get_or-map (key_left g) c.keys key None ∙ (ap (key_left g) e ∙ left f.0 f.1)
-  where
-    left : (n : HeapNative) → native_at g k ≡ Some n → key_left g (Some k) ≡ Some k
-    left n f = rw f refl
+key-left c g key k e m = get_or-map (key_left g) c.keys key None ∙ (ap (key_left g) e ∙ key_left-there g k m)
 
 -- numbers are those of the first of the heaps
 same-numbers : (first c : Counts) (n : Option ℕ) (rest : List ℕ) → OwnEach first (option_to_list n ++ rest) c → let_native_go c c n ≡ let_native_go first c n

@@ -10,8 +10,9 @@ pub mod OnceEach
 pub mod ListWrites
 pub mod Numbers
 pub mod Places
-pub mod Together
 pub mod Rising
 pub mod Walks
 pub mod RisingWalks
 pub mod Booleans
+pub mod Held
+pub mod Carried

@@ -1,4 +1,5 @@
 -- COLOURS: below is an order, and raising never lowers.
+use Rattle.cc_lists.proofs.Held.{of-test}
 use Rattle.std.proofs.Common.{◌≡◌, Bool, true, false, refl, sym, ◌∙◌, ap, ◌⊎◌, inl, inr}
 use Rattle.std.proofs.lemmas.Bool.{true≢false}
 use Rattle.cc_names.specs.declared.kind.Colour.{Colour}
@@ -58,18 +59,10 @@ abbrev raised_if : Colour → Object → Bool → Object
 raised_if to o b = elim b [ true ↦ with_colour to o | false ↦ o ]
 
 pub raised-key : (to : Colour) (o : Object) → (raised to o).key ≡ o.key
-raised-key to o = go (is_below o.colour to)
-  where
-    go : (b : Bool) → (raised_if to o b).key ≡ o.key
-    go true = refl
-    go false = refl
+raised-key to o = of-test (λ (z : Object). z.key ≡ o.key) (is_below o.colour to) (with_colour to o) o refl refl
 
 pub raised-slots : (to : Colour) (o : Object) → (raised to o).slots ≡ o.slots
-raised-slots to o = go (is_below o.colour to)
-  where
-    go : (b : Bool) → (raised_if to o b).slots ≡ o.slots
-    go true = refl
-    go false = refl
+raised-slots to o = of-test (λ (z : Object). z.slots ≡ o.slots) (is_below o.colour to) (with_colour to o) o refl refl
 
 -- an object that is below is painted
 pub raised-below : (to : Colour) (o : Object) → is_below o.colour to ≡ true → raised to o ≡ with_colour to o

@@ -1,12 +1,12 @@
 -- THE COLOUR ORDER IS KEPT by each change of the objects.
-use Rattle.std.proofs.Common.{◌≡◌, ◌≢◌, ℕ, zero, suc, Bool, true, false, not, cond, List, [], ◌∷◌, ◌++◌, replicate, Option, Some, None, option_map, refl, sym, ◌∙◌, ap, subst, ⊎_elim, ◌⊎◌, inl, inr, ◌==◌, if◌then◌else◌}
+use Rattle.std.proofs.Common.{◌≡◌, ◌≢◌, ℕ, zero, suc, Bool, true, false, not, cond, List, [], ◌∷◌, ◌++◌, replicate, Option, Some, None, option_map, refl, sym, ◌∙◌, ap, subst, ⊎_elim, ◌⊎◌, inl, inr, ◌==◌}
 use Rattle.std.specs.List.{find}
 use Rattle.std.proofs.Math.ListN.{set}
 use Rattle.std.proofs.lemmas.Bool.{ne_eqb, true≢false, false≢true}
 use Rattle.std.proofs.lemmas.Bool.Decides.{eqb_tells}
 use Rattle.cc_lists.specs.Members.{Among}
 use Rattle.cc_lists.proofs.Members.{Among-append, Among-filtered, Among-map_cases}
-use Rattle.cc_lists.proofs.ListWrites.{Among-set_cases}
+use Rattle.cc_lists.proofs.ListWrites.{Among-set_cases, changed_where-either}
 use Rattle.cc_lists.proofs.Searching.{find-filter}
 use Rattle.cc_names.specs.declared.kind.Colour.{Colour}
 use Rattle.cc_names.specs.declared.kind.Colour.TheVariants.{White}
@@ -62,11 +62,7 @@ module _ (objects : List Object) (h : HasColourOrder objects) (own : (o : Object
   wrote-key = changed_at-key key (with_slot i x) (λ o. refl)
 
   wrote-colour : (o : Object) → (wrote o).colour ≡ o.colour
-  wrote-colour o = go (o.key == key)
-    where
-      go : (b : Bool) → (if b then with_slot i x o else o).colour ≡ o.colour
-      go true = refl
-      go false = refl
+  wrote-colour o = changed_where-either (λ z. z.colour ≡ o.colour) (λ z. z.key == key) (with_slot i x) o (λ e. refl) refl
 
   -- what a slot then holds is what was written, or was held
   wrote-slots : (o : Object) (q : ℕ) → Among (Some q) (wrote o).slots → ((o.key ≡ key) × (x ≡ Some q)) ⊎ Among (Some q) o.slots

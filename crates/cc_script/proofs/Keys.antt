@@ -1,9 +1,12 @@
 -- KEYS AND OBJECTS IN LISTS: what is found at a key, and what a change of the objects leaves where it was.
-use Rattle.std.proofs.Common.{◌≡◌, ℕ, Bool, true, false, cond, List, [], ◌∷◌, map, Option, Some, None, option_map, is_some, refl, ◌∙◌, ap, subst, ◌==◌, if◌then◌else◌}
+use Rattle.cc_lists.proofs.Held.{is_some-map}
+use Rattle.std.proofs.Math.Path.{fun_ext}
+use Rattle.cc_lists.proofs.ListWrites.{changed_where-either}
+use Rattle.std.proofs.Common.{◌≡◌, ℕ, true, List, map, Option, Some, None, option_map, is_some, refl, ◌∙◌, ap, subst, ◌==◌, if◌then◌else◌, sym}
 use Rattle.std.specs.List.{find}
 use Rattle.std.proofs.lemmas.Bool.{eqb-true, eq-eqb}
 use Rattle.cc_lists.specs.Members.{Among}
-use Rattle.cc_lists.proofs.Searching.{find-some}
+use Rattle.cc_lists.proofs.Searching.{find-some, find-map}
 use Rattle.cc_lists.proofs.Filtering.{find-among, find-passes}
 use Rattle.cc_names.specs.declared.kind.Colour.{Colour}
 use Rattle.cc_script.specs.Objects.{Object, object_at, is_there, colour_at}
@@ -30,32 +33,19 @@ object_at-key objects key o e = eqb-true o.key key (find-passes (λ z. z.key == 
 
 -- a change that keeps the keys changes what is found
 pub object_at-map : (g : Object → Object) → ((o : Object) → (g o).key ≡ o.key) → (objects : List Object) (key : ℕ) → object_at (map g objects) key ≡ option_map g (object_at objects key)
-object_at-map g keeps [] key = refl
-object_at-map g keeps (o ∷ os) key = ap (λ k. cond (k == key) (Some (g o)) (object_at (map g os) key)) (keeps o) ∙ go (object_at-map g keeps os key) (o.key == key)
-  where
-    go : object_at (map g os) key ≡ option_map g (object_at os key) → (b : Bool) →
-        cond b (Some (g o)) (object_at (map g os) key) ≡ option_map g (cond b (Some o) (object_at os key))
-    go ih true = refl
-    go ih false = ih
+object_at-map g keeps objects key =
+    find-map (λ z. z.key == key) g objects ∙ ap (λ t. option_map g (find t objects)) (fun_ext (λ (z : Object). ap (λ k. k == key) (keeps z)))
 
 -- of the object at a key alone
 abbrev pub changed_at : ℕ → (Object → Object) → Object → Object
 changed_at key f o = if o.key == key then f o else o
 
 pub changed_at-key : (key : ℕ) (f : Object → Object) → ((o : Object) → (f o).key ≡ o.key) → (o : Object) → (changed_at key f o).key ≡ o.key
-changed_at-key key f keeps o = go (o.key == key)
-  where
-    go : (b : Bool) → (if b then f o else o).key ≡ o.key
-    go true = keeps o
-    go false = refl
+changed_at-key key f keeps o = changed_where-either (λ z. z.key ≡ o.key) (λ z. z.key == key) f o (λ e. keeps o) refl
 
 pub changed_at-same : (key : ℕ) (f : Object → Object) (o : Object) → o.key ≡ key → changed_at key f o ≡ f o
 changed_at-same key f o e = let it : (o.key == key) ≡ true = eq-eqb o.key key e in rw it refl
 
 -- what has a colour is there
 pub coloured-there : (objects : List Object) (key : ℕ) (colour : Colour) → colour_at objects key ≡ Some colour → is_there objects key ≡ true
-coloured-there objects key colour = go (object_at objects key)
-  where
-    go : (o : Option Object) → option_map (λ (z : Object). z.colour) o ≡ Some colour → is_some o ≡ true
-    go None e = absurd (cc)
-    go (Some o) e = refl
+coloured-there objects key colour e = sym (is_some-map (λ (z : Object). z.colour) (object_at objects key)) ∙ ap is_some e

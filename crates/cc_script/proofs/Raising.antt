@@ -1,7 +1,9 @@
 -- ONE OBJECT RAISED: what stays as it is, and what of the walk is spent.
-use Rattle.std.proofs.Common.{◌≡◌, ℕ, ◌+◌, ◌<◌, ◌≤◌, Bool, true, false, List, [], ◌∷◌, ◌++◌, map, length, get_or, drop, drop-cons, add-one, Option, Some, None, option_map, is_some, refl, sym, ◌∙◌, ap, subst, arith, count_by, ⊎_elim, inr, ◌==◌, if◌then◌else◌}
+use Rattle.cc_lists.proofs.ListWrites.{changed_where-either}
+use Rattle.cc_lists.proofs.Held.{is_some-map, of-one}
+use Rattle.std.proofs.Common.{◌≡◌, ℕ, ◌+◌, ◌<◌, ◌≤◌, Bool, true, false, List, [], ◌∷◌, ◌++◌, map, length, get_or, drop, drop-cons, add-one, Option, Some, None, option_map, is_some, refl, sym, ◌∙◌, ap, subst, arith, count_by, ⊎_elim, inr, ◌==◌}
 use Rattle.std.proofs.lemmas.List.{length_push}
-use Rattle.std.proofs.lemmas.Bool.{true≢false, false≢true}
+use Rattle.std.proofs.lemmas.Bool.{true≢false, false≢true, cases_Bool}
 use Rattle.cc_lists.specs.Members.{Among}
 use Rattle.cc_lists.proofs.Members.{Among-append}
 use Rattle.cc_lists.proofs.Counting.{count_by-map}
@@ -15,11 +17,7 @@ use Rattle.cc_script.proofs.Colours.{raised-key, raised-slots, raised-enough, ra
 -- a change that keeps keys and slots keeps what is there, and its slots
 module _ (g : Object → Object) (keeps_key : (o : Object) → (g o).key ≡ o.key) (keeps_slots : (o : Object) → (g o).slots ≡ o.slots) (objects : List Object) (q : ℕ) where
   pub is_there-kept : is_there (map g objects) q ≡ is_there objects q
-  is_there-kept = ap is_some (object_at-map g keeps_key objects q) ∙ go (object_at objects q)
-    where
-      go : (o : Option Object) → is_some (option_map g o) ≡ is_some o
-      go None = refl
-      go (Some o) = refl
+  is_there-kept = ap is_some (object_at-map g keeps_key objects q) ∙ is_some-map g (object_at objects q)
 
   pub slots_at-kept : slots_at (map g objects) q ≡ slots_at objects q
   slots_at-kept = ap slots_or_none (object_at-map g keeps_key objects q) ∙ go (object_at objects q)
@@ -37,6 +35,14 @@ raise_key-lower to key m e = rw (e, raise_key) refl
 pub raise_key-enough : (to : Colour) (key : ℕ) (m : Marking) → is_lower to (object_at m.objects key) ≡ false → raise_key to key m ≡ m
 raise_key-enough to key m e = rw (e, raise_key) refl
 
+pub raise_key-cases : (to : Colour) (key : ℕ) (m : Marking) (P : Marking → Type 0) →
+    (is_lower to (object_at m.objects key) ≡ true → P (record { objects = change_object m.objects key (raised to); waiting = m.waiting ++ key ∷ [] })) →
+    (is_lower to (object_at m.objects key) ≡ false → P m) → P (raise_key to key m)
+raise_key-cases to key m P lower enough = ⊎_elim
+    (λ e. subst P (sym (raise_key-lower to key m e)) (lower e))
+    (λ e. subst P (sym (raise_key-enough to key m e)) (enough e))
+    (cases_Bool (is_lower to (object_at m.objects key)))
+
 -- what is lower is there
 pub lower-some : (to : Colour) (o : Option Object) → is_lower to o ≡ true → (x : Object) × (o ≡ Some x) × (is_below x.colour to ≡ true)
 lower-some to None e = absurd (false≢true e)
@@ -51,26 +57,14 @@ module _ (to : Colour) (key : ℕ) where
   one_raised-key : (o : Object) → (one_raised o).key ≡ o.key
   one_raised-key = changed_at-key key (raised to) (raised-key to)
 
-  one_raised-slots : (o : Object) → (one_raised o).slots ≡ o.slots
-  one_raised-slots o = go (o.key == key)
-    where
-      go : (b : Bool) → (if b then raised to o else o).slots ≡ o.slots
-      go true = raised-slots to o
-      go false = refl
+  pub one_raised-slots : (o : Object) → (one_raised o).slots ≡ o.slots
+  one_raised-slots o = changed_where-either (λ z. z.slots ≡ o.slots) (λ z. z.key == key) (raised to) o (λ e. raised-slots to o) refl
 
   pub raise_key-there : (m : Marking) (q : ℕ) → is_there (raise_key to key m).objects q ≡ is_there m.objects q
-  raise_key-there m q = go (is_lower to (object_at m.objects key)) refl
-    where
-      go : (b : Bool) → is_lower to (object_at m.objects key) ≡ b → is_there (raise_key to key m).objects q ≡ is_there m.objects q
-      go true e = ap (λ (z : Marking). is_there z.objects q) (raise_key-lower to key m e) ∙ is_there-kept one_raised one_raised-key one_raised-slots m.objects q
-      go false e = ap (λ (z : Marking). is_there z.objects q) (raise_key-enough to key m e)
+  raise_key-there m q = raise_key-cases to key m (λ z. is_there z.objects q ≡ is_there m.objects q) (λ e. is_there-kept one_raised one_raised-key one_raised-slots m.objects q) (λ e. refl)
 
   pub raise_key-slots : (m : Marking) (q : ℕ) → slots_at (raise_key to key m).objects q ≡ slots_at m.objects q
-  raise_key-slots m q = go (is_lower to (object_at m.objects key)) refl
-    where
-      go : (b : Bool) → is_lower to (object_at m.objects key) ≡ b → slots_at (raise_key to key m).objects q ≡ slots_at m.objects q
-      go true e = ap (λ (z : Marking). slots_at z.objects q) (raise_key-lower to key m e) ∙ slots_at-kept one_raised one_raised-key one_raised-slots m.objects q
-      go false e = ap (λ (z : Marking). slots_at z.objects q) (raise_key-enough to key m e)
+  raise_key-slots m q = raise_key-cases to key m (λ z. slots_at z.objects q ≡ slots_at m.objects q) (λ e. slots_at-kept one_raised one_raised-key one_raised-slots m.objects q) (λ e. refl)
 
   -- one object less is lower then
   abbrev lower : Object → Bool
@@ -84,16 +78,11 @@ module _ (to : Colour) (key : ℕ) where
       let same : count_lower to (change_object objects key (raised to)) ≡ count_by (λ o. lower (one_raised o)) objects = count_by-map lower one_raised objects in
       omega arith
     where
-      stays : (o : Object) → lower o ≡ false → (b : Bool) → lower (if b then raised to o else o) ≡ false
-      stays o e true = raised-keeps to o to e
-      stays o e false = e
+      stays : (o : Object) → lower o ≡ false → lower (one_raised o) ≡ false
+      stays o e = changed_where-either (λ z. lower z ≡ false) (λ z. z.key == key) (raised to) o (λ k. raised-keeps to o to e) e
 
       was : (o : Object) → lower (one_raised o) ≡ true → lower o ≡ true
-      was o h = go (lower o) refl
-        where
-          go : (b : Bool) → lower o ≡ b → lower o ≡ true
-          go true k = k
-          go false k = absurd (true≢false (sym h ∙ stays o k (o.key == key)))
+      was o h = ⊎_elim (λ k. k) (λ k. absurd (true≢false (sym h ∙ stays o k))) (cases_Bool (lower o))
 
 pub raise_slot-there : (to : Colour) (x : Option ℕ) (m : Marking) (q : ℕ) → is_there (raise_slot to x m).objects q ≡ is_there m.objects q
 raise_slot-there to None m q = refl
@@ -112,11 +101,8 @@ raise_each-more to slots i m within =
 
 -- No more is to be done: an object that is raised waits, and is one less that may be raised
 pub raise_key-spends : (to : Colour) (key : ℕ) (m : Marking) → to_do to (raise_key to key m) ≤ to_do to m
-raise_key-spends to key m = go (is_lower to (object_at m.objects key)) refl
-  where
-    go : (b : Bool) → is_lower to (object_at m.objects key) ≡ b → to_do to (raise_key to key m) ≤ to_do to m
-    go true e = omega (arith, ap (to_do to) (raise_key-lower to key m e), fewer-lower to key m.objects e, length_push m.waiting key)
-    go false e = omega (arith, ap (to_do to) (raise_key-enough to key m e))
+raise_key-spends to key m = raise_key-cases to key m (λ z. to_do to z ≤ to_do to m)
+    (λ e. omega (arith, fewer-lower to key m.objects e, length_push m.waiting key)) (λ e. omega arith)
 
 pub raise_each-spends : (to : Colour) (xs : List (Option ℕ)) (m : Marking) → to_do to (raise_each to xs m) ≤ to_do to m
 raise_each-spends to [] m = omega arith
@@ -134,7 +120,9 @@ raised-front to m key ks front h k n = h k (subst (Among k) (sym front) (inr n))
 
 -- and one that is raised comes
 pub raise_key-raised : (to : Colour) (key : ℕ) (m : Marking) → AreRaised to m → AreRaised to (raise_key to key m)
-raise_key-raised to key m h = go (is_lower to (object_at m.objects key)) refl
+raise_key-raised to key m h = raise_key-cases to key m (AreRaised to)
+    (λ e k n. ⊎_elim (λ t. stays k (h k t)) (of-one (λ j. is_lower to (object_at after j) ≡ false) key here k) (Among-append k m.waiting (key ∷ []) n))
+    (λ e. h)
   where
     after : List Object
     after = change_object m.objects key (raised to)
@@ -147,11 +135,7 @@ raise_key-raised to key m h = go (is_lower to (object_at m.objects key)) refl
       where
         each : (o : Option Object) → is_lower to o ≡ false → is_lower to (option_map (one_raised to key) o) ≡ false
         each None f = refl
-        each (Some o) f = either (o.key == key)
-          where
-            either : (b : Bool) → is_below (if b then raised to o else o).colour to ≡ false
-            either true = raised-enough to o
-            either false = f
+        each (Some o) f = changed_where-either (λ z. is_below z.colour to ≡ false) (λ z. z.key == key) (raised to) o (λ e. raised-enough to o) f
 
     here : is_lower to (object_at after key) ≡ false
     here = ap (is_lower to) (found key) ∙ each (object_at m.objects key) refl
@@ -159,11 +143,6 @@ raise_key-raised to key m h = go (is_lower to (object_at m.objects key)) refl
         each : (o : Option Object) → object_at m.objects key ≡ o → is_lower to (option_map (one_raised to key) o) ≡ false
         each None e = refl
         each (Some o) e = ap (λ (z : Object). is_below z.colour to) (changed_at-same key (raised to) o (object_at-key m.objects key o e)) ∙ raised-enough to o
-
-    go : (b : Bool) → is_lower to (object_at m.objects key) ≡ b → AreRaised to (raise_key to key m)
-    go true e = subst (AreRaised to) (sym (raise_key-lower to key m e))
-        (λ k n. ⊎_elim (λ t. stays k (h k t)) (λ t. ⊎_elim (λ s. subst (λ j. is_lower to (object_at after j) ≡ false) s here) (λ x. absurd x) t) (Among-append k m.waiting (key ∷ []) n))
-    go false e = subst (AreRaised to) (sym (raise_key-enough to key m e)) h
 
 -- one that is lower does not wait
 pub lower-absent : (to : Colour) (key : ℕ) (m : Marking) → AreRaised to m → is_lower to (object_at m.objects key) ≡ true → ¬ (Among key m.waiting)

@@ -1,4 +1,6 @@
 -- MARKING, one object after another: what waits has the colour, and only that may hold what is lower.
+use Rattle.cc_script.proofs.Wholeness.{whole-mapped}
+use Rattle.cc_lists.proofs.Held.{is_some-found}
 use Rattle.std.proofs.Common.{◌≡◌, ℕ, ◌<◌, Bool, true, false, List, [], ◌∷◌, ◌++◌, Option, Some, None, option_map, is_some, refl, sym, ◌∙◌, ap, subst, inl, inr, ◌⊎◌, ⊎_elim, ◌==◌, if◌then◌else◌, arith}
 use Rattle.std.proofs.lemmas.Bool.{true≢false, eqb-true}
 use Rattle.cc_lists.specs.Members.{Among}
@@ -11,8 +13,8 @@ use Rattle.cc_script.specs.ColourOrder.{HasColourOrder}
 use Rattle.cc_script.specs.Marking.{Marking, is_lower, raise_key, raise_each, to_do}
 use Rattle.cc_script.specs.Underway.{IsOrderedBut, IsMarked, with_first_looked_into}
 use Rattle.cc_script.proofs.Keys.{object_at-map, object_at-among, object_at-key, changed_at, changed_at-key, changed_at-same}
-use Rattle.cc_script.proofs.Colours.{raised-key, raised-slots, raised-same, raised-below, raised-enough, raised-keeps, not_below-self}
-use Rattle.cc_script.proofs.Raising.{raise_key-lower, raise_key-enough, raise_key-there, raise_each-spends, lower-some}
+use Rattle.cc_script.proofs.Colours.{raised-key, raised-same, raised-below, raised-enough, raised-keeps, not_below-self}
+use Rattle.cc_script.proofs.Raising.{raise_key-lower, raise_key-enough, raise_key-there, raise_each-spends, lower-some, raise_key-cases, one_raised-slots}
 use Rattle.cc_script.proofs.Popping.{popped-does}
 
 -- an object after some were raised: not below what it was not below, and the same where it had the colour
@@ -28,23 +30,18 @@ module _ (to : Colour) (key : ℕ) where
   one-key = changed_at-key key (raised to) (raised-key to)
 
   pub raise-at : (m : Marking) (q : ℕ) (d : Object) → object_at m.objects q ≡ Some d → (e : Object) × (object_at (raise_key to key m).objects q ≡ Some e) × IsAfter to d e
-  raise-at m q d at = go (is_lower to (object_at m.objects key)) refl
+  raise-at m q d at = raise_key-cases to key m (λ z. (e : Object) × (object_at z.objects q ≡ Some e) × IsAfter to d e)
+      (λ e. (one d, object_at-map one one-key m.objects q ∙ ap (option_map one) at, after (d.key == key))) (λ e. (d, at, after false))
     where
       after : (b : Bool) → IsAfter to d (if b then raised to d else d)
       after true = record { above = λ c h. raised-keeps to d c h; same = raised-same to d }
       after false = record { above = λ c h. h; same = λ h. refl }
 
-      go : (b : Bool) → is_lower to (object_at m.objects key) ≡ b → (e : Object) × (object_at (raise_key to key m).objects q ≡ Some e) × IsAfter to d e
-      go true e = (one d, ap (λ (z : Marking). object_at z.objects q) (raise_key-lower to key m e) ∙ (object_at-map one one-key m.objects q ∙ ap (option_map one) at), after (d.key == key))
-      go false e = (d, ap (λ (z : Marking). object_at z.objects q) (raise_key-enough to key m e) ∙ at, after false)
-
   -- the one that was raised
   pub raise-here : (m : Marking) (d : Object) → object_at m.objects key ≡ Some d → (e : Object) × (object_at (raise_key to key m).objects key ≡ Some e) × (is_below e.colour to ≡ false)
-  raise-here m d at = go (is_lower to (object_at m.objects key)) refl
-    where
-      go : (b : Bool) → is_lower to (object_at m.objects key) ≡ b → (e : Object) × (object_at (raise_key to key m).objects key ≡ Some e) × (is_below e.colour to ≡ false)
-      go true e = (raised to d, ap (λ (z : Marking). object_at z.objects key) (raise_key-lower to key m e) ∙ (object_at-map one one-key m.objects key ∙ (ap (option_map one) at ∙ ap Some (changed_at-same key (raised to) d (object_at-key m.objects key d at)))), raised-enough to d)
-      go false e = (d, ap (λ (z : Marking). object_at z.objects key) (raise_key-enough to key m e) ∙ at, ap (is_lower to) (sym at) ∙ e)
+  raise-here m d at = raise_key-cases to key m (λ z. (e : Object) × (object_at z.objects key ≡ Some e) × (is_below e.colour to ≡ false))
+      (λ e. (raised to d, object_at-map one one-key m.objects key ∙ (ap (option_map one) at ∙ ap Some (changed_at-same key (raised to) d (object_at-key m.objects key d at))), raised-enough to d))
+      (λ e. (d, at, ap (is_lower to) (sym at) ∙ e))
 
   -- what waits has the colour
   pub raise-coloured : (m : Marking) → ((k : ℕ) → Among k m.waiting → colour_at m.objects k ≡ Some to) → (k : ℕ) → Among k (raise_key to key m).waiting → colour_at (raise_key to key m).objects k ≡ Some to
@@ -188,11 +185,7 @@ ordered-marked to m none h = record { coloured = λ k n. absurd (subst (Among k)
 -- What is there
 
 pub there-some : (objects : List Object) (q : ℕ) → is_there objects q ≡ true → (d : Object) × (object_at objects q ≡ Some d)
-there-some objects q h = go (object_at objects q) refl h
-  where
-    go : (o : Option Object) → object_at objects q ≡ o → is_some o ≡ true → (d : Object) × (object_at objects q ≡ Some d)
-    go None e f = absurd (true≢false (sym f))
-    go (Some d) e f = (d, e)
+there-some objects q h = is_some-found (object_at objects q) h
 
 pub slots-there : (objects : List Object) (k q : ℕ) → AreWhole objects → Among (Some q) (slots_at objects k) → is_there objects q ≡ true
 slots-there objects k q whole n = go (object_at objects k) refl n
@@ -210,18 +203,7 @@ first-looked to m key rest front = ap (λ (ks : List ℕ). elim ks [ [] ↦ m | 
 
 module _ (to : Colour) where
   pub whole-raised : (key : ℕ) (m : Marking) → AreWhole m.objects → AreWhole (raise_key to key m).objects
-  whole-raised key m h = go (is_lower to (object_at m.objects key)) refl
-    where
-      slots : (x : Object) (b : Bool) → (if b then raised to x else x).slots ≡ x.slots
-      slots x true = raised-slots to x
-      slots x false = refl
-
-      go : (b : Bool) → is_lower to (object_at m.objects key) ≡ b → AreWhole (raise_key to key m).objects
-      go false e = subst (λ (z : Marking). AreWhole z.objects) (sym (raise_key-enough to key m e)) h
-      go true e = λ o q n held.
-          let found = Among-map_cases (one to key) m.objects o (subst (λ (z : Marking). Among o z.objects) (raise_key-lower to key m e) n) in
-          raise_key-there to key m q
-          ∙ h found.0 q found.1 (subst (λ xs. Among (Some q) xs) (sym (ap (λ (z : Object). z.slots) found.2) ∙ slots found.0 (found.0.key == key)) held)
+  whole-raised key m h = raise_key-cases to key m (λ z. AreWhole z.objects) (λ e. whole-mapped (one to key) (one-key to key) (one_raised-slots to key) m.objects h) (λ e. h)
 
   pub whole-each : (xs : List (Option ℕ)) (m : Marking) → AreWhole m.objects → AreWhole (raise_each to xs m).objects
   whole-each [] m h = h

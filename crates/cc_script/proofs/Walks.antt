@@ -7,7 +7,7 @@ use Rattle.std.proofs.lemmas.Simd.{map-map}
 use Rattle.cc_lists.specs.Members.{Among, has}
 use Rattle.cc_lists.proofs.Members.{Among-append, Among-left, Among-right, has-there, has-among}
 use Rattle.cc_lists.proofs.Closure.{closure-decides}
-use Rattle.cc_lists.proofs.ListWrites.{map-agree}
+use Rattle.cc_lists.proofs.ListWrites.{map-agree, changed_where-either}
 use Rattle.cc_lists.proofs.Numbers.{number-exact}
 use Rattle.cc_names.specs.declared.kind.Colour.{Colour}
 use Rattle.cc_names.specs.declared.kind.Colour.TheVariants.{White}
@@ -19,7 +19,7 @@ use Rattle.cc_script.specs.Underway.{with_first_looked_into}
 use Rattle.cc_script.proofs.Keys.{object_at-among, object_at-key, object_at-map, changed_at, changed_at-same}
 use Rattle.cc_script.proofs.Colours.{not_below-trans, not_below-cases, not_below-white, raised-key, raised-slots, raised-again, raised-same}
 use Rattle.cc_script.proofs.Reaching.{reached-root, reached-slot, reached-within}
-use Rattle.cc_script.proofs.Raising.{raise_key-lower, raise_key-enough, slots_at-kept}
+use Rattle.cc_script.proofs.Raising.{slots_at-kept, raise_key-cases}
 
 -- Objects raised at some keys
 
@@ -27,18 +27,10 @@ abbrev pub risen : List ℕ → Colour → Object → Object
 risen keys to o = if has ◌==◌ keys o.key then raised to o else o
 
 pub risen-key : (keys : List ℕ) (to : Colour) (o : Object) → (risen keys to o).key ≡ o.key
-risen-key keys to o = go (has ◌==◌ keys o.key)
-  where
-    go : (b : Bool) → (if b then raised to o else o).key ≡ o.key
-    go true = raised-key to o
-    go false = refl
+risen-key keys to o = changed_where-either (λ z. z.key ≡ o.key) (λ z. has ◌==◌ keys z.key) (raised to) o (λ e. raised-key to o) refl
 
 pub risen-slots : (keys : List ℕ) (to : Colour) (o : Object) → (risen keys to o).slots ≡ o.slots
-risen-slots keys to o = go (has ◌==◌ keys o.key)
-  where
-    go : (b : Bool) → (if b then raised to o else o).slots ≡ o.slots
-    go true = raised-slots to o
-    go false = refl
+risen-slots keys to o = changed_where-either (λ z. z.slots ≡ o.slots) (λ z. has ◌==◌ keys z.key) (raised to) o (λ e. raised-slots to o) refl
 
 risen-in : (keys : List ℕ) (to : Colour) (o : Object) → has ◌==◌ keys o.key ≡ true → risen keys to o ≡ raised to o
 risen-in keys to o e = rw e refl
@@ -126,7 +118,11 @@ module _ (before : List Object) (root : ℕ) (to : Colour) where
     pub more : (k : ℕ) → Among k keys → Among k after.keys
 
   pub raise_key-marks : (hand : List ℕ) (m : Marking) (h : IsMarking hand m) (q : ℕ) → IsReachedOverSlots before (root ∷ []) q → Raises hand h.keys q (raise_key to q m)
-  raise_key-marks hand m h q r = go (is_lower to (object_at m.objects q)) refl
+  raise_key-marks hand m h q r = raise_key-cases to q m (Raises hand h.keys q) (λ e. lower) (λ e. record {
+    after = h;
+    met = met-enough h.keys q (ap (λ os. is_lower to (object_at os q)) (sym h.objects) ∙ e);
+    more = λ k n. n;
+  })
     where
       mine : (j p : ℕ) → Among j (q ∷ h.keys) → Among (Some p) (slots_at before j) → (Among j hand ⊎ Among j (m.waiting ++ q ∷ [])) ⊎ IsMet (q ∷ h.keys) p
       mine j p w s = ⊎_elim
@@ -136,8 +132,8 @@ module _ (before : List Object) (root : ℕ) (to : Colour) where
           (λ x. inr (met-more h.keys (q ∷ h.keys) (λ k n. inr n) p x))
           (h.followed j p t s)) w
 
-      go : (b : Bool) → is_lower to (object_at m.objects q) ≡ b → Raises hand h.keys q (raise_key to q m)
-      go true e = subst (Raises hand h.keys q) (sym (raise_key-lower to q m e)) (record {
+      lower : Raises hand h.keys q (record { objects = change_object m.objects q (raised to); waiting = m.waiting ++ q ∷ [] })
+      lower = record {
         after = record {
           keys = q ∷ h.keys;
           objects = ap (λ os. change_object os q (raised to)) h.objects ∙ raised-more h.keys to q before;
@@ -147,14 +143,9 @@ module _ (before : List Object) (root : ℕ) (to : Colour) where
         };
         met = inl (inl refl);
         more = λ k n. inr n;
-      })
-      go false e = subst (Raises hand h.keys q) (sym (raise_key-enough to q m e)) (record {
-        after = h;
-        met = met-enough h.keys q (ap (λ os. is_lower to (object_at os q)) (sym h.objects) ∙ e);
-        more = λ k n. n;
-      })
+      }
 
-  -- and what each of some slots holds
+  -- and what each of some slots holds  -- and what each of some slots holds
   pub record RaisesEach (hand keys : List ℕ) (xs : List (Option ℕ)) (new : Marking) : Type 0 where
     pub after : IsMarking hand new
     pub met : (q : ℕ) → Among (Some q) xs → IsMet after.keys q

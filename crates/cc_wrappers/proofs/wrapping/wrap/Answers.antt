@@ -1,4 +1,5 @@
 use Rattle.std.proofs.Common.{◌≡◌, true, false, Some, sym, ◌∙◌, ap}
+use Rattle.cc_heaps.proofs.ObjectsKept.{named-there}
 use Rattle.std.proofs.lemmas.Result.{on_ok_weaker}
 use Rattle.cc_lists.proofs.KnownBytes.{on_err_of}
 use Rattle.cc_names.specs.Names.{native, reflector}
@@ -8,7 +9,6 @@ use Rattle.cc_script.specs.Objects.{name_at}
 use Rattle.cc_heaps.specs.Keyed.{counts_of, the_number}
 use Rattle.cc_heaps.specs.Standing.{IsReached}
 use Rattle.cc_heaps.proofs.Kept.{KeepsAll-if_reached}
-use Rattle.cc_heaps.proofs.ScriptsChanged.{named-there}
 use Rattle.cc_wrappers.proofs.Wrapped.{reflector-name, reflector-none, reflector-has, exposed-wrapped, exposed-name, exposed-colour, exposed-stands, exposed-keeps_reached, made-wrapped, made-colour, made-keeps_reached}
 use Rattle.cc_wrappers.proofs.wrapping.wrap.Goals as goal
 

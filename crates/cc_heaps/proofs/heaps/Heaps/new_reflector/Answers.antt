@@ -1,4 +1,5 @@
 use Rattle.std.proofs.Common.{◌≡◌, ℕ, List, Some, sym, ◌∙◌, ap, subst, arith}
+use Rattle.cc_heaps.proofs.ObjectsKept.{named-there}
 use Rattle.cc_names.specs.Names.{native}
 use Rattle.cc_model.specs.Graph as graph
 use Rattle.cc_heaps.specs.Keyed.{IsInOrder, the_number}
@@ -10,7 +11,7 @@ use Rattle.cc_heaps.proofs.FewCounts.{few-owned}
 use Rattle.cc_heaps.proofs.Owned.{callers-own}
 use Rattle.cc_heaps.proofs.ReflectingMade.{reflector_made-colours, reflector_made-keeps_fresh, reflector_made-keeps_suspected, reflector_made-stands}
 use Rattle.cc_heaps.proofs.ReflectorMade.{IsReflectorMade, reflector-made}
-use Rattle.cc_heaps.proofs.ScriptsChanged.{named-there, with_objects}
+use Rattle.cc_heaps.proofs.ScriptsChanged.{with_objects}
 use Rattle.cc_heaps.proofs.heaps.Heaps.new_reflector.Goals as goal
 
 -- No memory: the objects are as they were
