@@ -124,6 +124,14 @@ impl Graph {
         self.references.reserve(edges)
     }
 
+    /// How many more references there is room for.
+    pub fn spare(&self) -> usize
+        ensures { result ≡ self.now.spare }
+    {
+        let places = self.references.capacity().min(u32::MAX as usize);
+        places.saturating_sub(self.references.len())
+    }
+
     /// The node's count was `count` when it was traversed.
     pub fn sample(&mut self, node: u32, count: u32)
         requires { node < length self.old.nodes }
@@ -147,9 +155,10 @@ impl Graph {
         target.note();
         self.nodes.put(to, target);
         let mut source = self.nodes.at(from);
-        link(&mut self.references, source.references.last, place);
+        let last = source.references.last;
         source.add_reference(place);
         self.nodes.put(from, source);
+        link(&mut self.references, last, place);
         self.references.push(Reference {
             source: from,
             target: to,

@@ -96,20 +96,27 @@ impl Build {
         ensures built { IsBuilt self.new heaps.now }
         ensures held { AreHeld self.new.graph (HasKey heaps.now) }
     {
-        self.reserve(references_of(heaps, object))?;
+        self.reserve(object, heaps)?;
         let node = self.next;
         self.pass_next(sample_of(heaps, object));
         self.note_places(node, object, heaps)
     }
 
-    /// Room for so many references more.
+    /// Room for the references of an object that are noted. They are counted only where there may be too little.
     ///
-    /// `NoMemory`, never where `references` is 0, leaves the build as it was but for its room.
-    fn reserve(&mut self, references: usize) -> Result<(), NoMemory>
+    /// `NoMemory`, never where none of them is noted, leaves the build as it was but for its room.
+    fn reserve(&mut self, object: Held, heaps: &Heaps) -> Result<(), NoMemory>
+        requires order { IsInOrder [] heaps.now }
+        requires there { IsThere heaps.now (Some object) }
         ensures rest { self.new ≡ with_room self.new.graph.spare self.old }
-        ensures room { OnOk result (references ≤ self.new.graph.spare) }
-        ensures refused { OnErr result (1 ≤ references) }
+        ensures room { OnOk result (length (contents_at heaps.now object) ≤ self.new.graph.spare) }
+        ensures refused { OnErr result (contents_at heaps.now object ≢ []) }
     {
+        if heaps.places(object) as usize <= self.graph.spare() {
+            // enough, however many of them are noted
+            return Ok(());
+        }
+        let references = references_of(heaps, object);
         if references == 0 {
             return Ok(());
         }
