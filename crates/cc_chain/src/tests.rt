@@ -137,6 +137,21 @@ fn link_is_printed(rt: HostRuntime) -> Result<(), Fail> {
     Ok(())
 }
 
+/// Whether a link is kept as it is.
+fn is_kept(link: Option<Link>) -> bool {
+    Neighbours::of(link).link() == link
+}
+
+#[test]
+fn neighbours_keep_each_link(rt: HostRuntime) {
+    assert!(rt; is_kept(None));
+    for before in [None, Some(3)] {
+        for after in [None, Some(u32::MAX)] {
+            assert!(rt; is_kept(Some(Link { before, after })));
+        }
+    }
+}
+
 #[test]
 fn laws_can_be_called() {
     a_chain_is_told_by_links::<All>();

@@ -1,3 +1,4 @@
+pub mod Slots
 pub mod Counts
 pub mod Owning
 pub mod Suspects

@@ -18,6 +18,7 @@ ghost use Rattle.cc_counted.specs.Steps.{GivesUp, FreesFront, Drains, ComesTo, E
 use crate::cell::held_reflector;
 use crate::held::{Held, native_held};
 use crate::natives::Natives;
+use crate::slot::Slot;
 use cc_model::{Event, Item, Notices};
 use cc_names::{NKey, Name, NativeNo, NoMemory, SKey};
 use std::alloc::Global;
@@ -40,7 +41,7 @@ impl Natives {
     }
 
     /// Gives up the references in these slots, in rising order. A script object has none to give up.
-    fn give_up_each(&mut self, slots: &[Option<Held>])
+    fn give_up_each(&mut self, slots: &[Slot])
         requires placed { IsPlaced self.old.lists }
         requires live { (x : Option Held) → Among x slots.now → is_live (keyed self.old.lists.cells) x ≡ true }
         requires balanced { (owned : List ℕ) × IsBalanced (numbers_in (keyed self.old.lists.cells) slots.now ++ owned) (draining_of self.old.lists []) }
@@ -48,7 +49,7 @@ impl Natives {
         ensures memory { TakesNoMemory self.old self.new }
     {
         for slot in slots {
-            if let Some(native) = native_held(*slot) {
+            if let Some(native) = native_held(slot.held()) {
                 self.give_up(native);
             }
         }
@@ -160,7 +161,7 @@ impl Natives {
         let cell = self.at(key);
         let place = i as usize;
         if place < cell.slots.len() {
-            cell.slots[place]
+            cell.slots[place].held()
         } else {
             held_reflector(cell)
         }

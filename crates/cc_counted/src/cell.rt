@@ -3,22 +3,23 @@ ghost use Rattle.std.specs.Prelude.{◌≡◌, IsTrue};
 ghost use Rattle.cc_counted.specs.Counts.{Counts, name_of, is_live, preserved_reflector};
 
 use crate::held::Held;
+use crate::slot::Slot;
 use cc_names::{NativeNo, SKey};
 use std::marker::Model;
 
 /// A native as it stands at its key.
 #[derive(Drop)]
 pub(crate) struct Cell {
+    /// As many as it was made with, and no room for more.
+    pub(crate) slots: Vec<Slot>,
     /// The name that it never shares with another.
     pub(crate) number: NativeNo,
-    /// As many as it was made with, and no room for more.
-    pub(crate) slots: Vec<Option<Held>>,
-    /// Whether its reflector is preserved.
-    pub(crate) preserved: bool,
-    /// Where its reflector stands in the script heap, while it has one.
-    pub(crate) reflector: Option<SKey>,
     /// How many slots hold it, and how many references to it callers own.
     pub(crate) count: u32,
+    /// Where its reflector stands in the script heap, while it has one.
+    pub(crate) reflector: Option<SKey>,
+    /// Whether its reflector is preserved.
+    pub(crate) preserved: bool,
 }
 
 impl Model for Cell {

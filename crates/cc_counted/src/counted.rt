@@ -109,7 +109,7 @@ impl Counted {
         ensures name { name_of self.now result ≡ slice_index_or (slots_of self.now key.0) i None }
         ensures live { IsTrue (is_live self.now result) }
     {
-        self.natives.at(key).slots[i as usize]
+        self.natives.at(key).slots[i as usize].held()
     }
 
     /// Puts `item` into slot `i` of a native, counted from 0, and returns what the slot held.

@@ -10,7 +10,8 @@ ghost use Rattle.cc_counted.specs.Stored.{Inserts, with_cell, with_queue, with_m
 use crate::cell::Cell;
 use crate::held::Held;
 use crate::node::{Node, Nodes, Order, Queue};
-use cc_chain::Chain;
+use crate::slot::Slot;
+use cc_chain::{Chain, Neighbours};
 use cc_names::{NKey, NativeNo, NoMemory, SKey, narrow_key};
 use cc_purple::Buffer;
 use slab::Slab;
@@ -104,8 +105,8 @@ impl Natives {
         ensures value { result ≡ slice_index_or (slots_placed (cell_at self.old.lists.cells key.0)) i None }
     {
         let cell = &mut self.nodes.slab[key.0 as usize].cell;
-        let old = cell.slots[i];
-        cell.slots[i] = item;
+        let old = cell.slots[i].held();
+        cell.slots[i] = Slot::of(item);
         old
     }
 
@@ -146,15 +147,15 @@ impl Natives {
         let key = narrow_key(self.nodes.slab.vacant_key())?;
         self.nodes.slab.insert_reserved(Node {
             cell: Cell {
-                number: no,
                 slots: empty,
-                preserved: false,
-                reflector: None,
+                number: no,
                 count: 1,
+                reflector: None,
+                preserved: false,
             },
-            order: None,
-            queue: None,
-            suspects: None,
+            order: Neighbours::of(None),
+            queue: Neighbours::of(None),
+            suspects: Neighbours::of(None),
             purple: false,
         });
         self.order.push_back(&mut self.nodes, key);
@@ -293,13 +294,13 @@ impl Natives {
 }
 
 /// So many empty slots, and no room for more.
-fn empty_slots(alloc: Global, slots: u8) -> Result<Vec<Option<Held>>, AllocError>
+fn empty_slots(alloc: Global, slots: u8) -> Result<Vec<Slot>, AllocError>
     ensures items { IfOk result (λ v. v.items ≡ replicate slots None) }
     ensures room { IfOk result (λ v. vec_capacity v ≡ vec_len v) }
 {
     let mut empty = Vec::with_capacity(alloc, slots as usize)?;
     for _ in 0..slots {
-        empty.push_reserved(None);
+        empty.push_reserved(Slot::of(None));
     }
     Ok(empty)
 }

@@ -1,9 +1,10 @@
 //! A native with its neighbours in each list that goes through the natives.
 
 use crate::cell::Cell;
-use cc_chain::{Link, LinkStore};
+use cc_chain::{Link, LinkStore, Neighbours};
 use cc_purple::{MarkStore, Suspects};
 use slab::Slab;
+use std::mem::size_of;
 
 /// The list of all natives, by rising number.
 pub(crate) struct Order;
@@ -15,12 +16,15 @@ pub(crate) struct Queue;
 #[derive(Drop)]
 pub(crate) struct Node {
     pub(crate) cell: Cell,
-    pub(crate) order: Option<Link>,
-    pub(crate) queue: Option<Link>,
-    pub(crate) suspects: Option<Link>,
+    pub(crate) order: Neighbours,
+    pub(crate) queue: Neighbours,
+    pub(crate) suspects: Neighbours,
     /// The purple mark. It says nothing of a native that is not in the buffer.
     pub(crate) purple: bool,
 }
+
+// the slab adds 8 bytes to each
+const _: () = prove!(size_of::<Node>() == 88);
 
 /// The natives by key, as a store of the links of each list.
 #[derive(Drop)]
@@ -38,11 +42,11 @@ impl LinkStore<Order> for Nodes {
     ghost rest = { λ s. beside_order s.slab };
 
     fn get(&self, key: u32) -> Option<Link> {
-        self.slab[key as usize].order
+        self.slab[key as usize].order.link()
     }
 
     fn set(&mut self, key: u32, link: Option<Link>) {
-        self.slab[key as usize].order = link;
+        self.slab[key as usize].order = Neighbours::of(link);
     }
 }
 
@@ -56,11 +60,11 @@ impl LinkStore<Queue> for Nodes {
     ghost rest = { λ s. beside_queue s.slab };
 
     fn get(&self, key: u32) -> Option<Link> {
-        self.slab[key as usize].queue
+        self.slab[key as usize].queue.link()
     }
 
     fn set(&mut self, key: u32, link: Option<Link>) {
-        self.slab[key as usize].queue = link;
+        self.slab[key as usize].queue = Neighbours::of(link);
     }
 }
 
@@ -74,11 +78,11 @@ impl LinkStore<Suspects> for Nodes {
     ghost rest = { λ s. beside_suspects s.slab };
 
     fn get(&self, key: u32) -> Option<Link> {
-        self.slab[key as usize].suspects
+        self.slab[key as usize].suspects.link()
     }
 
     fn set(&mut self, key: u32, link: Option<Link>) {
-        self.slab[key as usize].suspects = link;
+        self.slab[key as usize].suspects = Neighbours::of(link);
     }
 }
 

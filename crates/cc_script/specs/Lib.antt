@@ -1,9 +1,9 @@
+pub mod Beings
 pub mod Objects
 pub mod Walking
 pub mod Lists
 pub mod ColourOrder
 pub mod Marking
-pub mod Neighbours
 pub mod Paired
 pub mod Cells
 pub mod Parts

@@ -3,33 +3,34 @@ ghost use Rattle.std.specs.Prelude.{◌≡◌};
 ghost use Rattle.cc_script.specs.Cells.{nothing};
 ghost use Rattle.cc_script.specs.Objects.{is_below as is_below_it};
 
-use crate::neighbours::Neighbours;
-use cc_names::{Colour, Kind, NKey, Name, SKey};
+use crate::being::Being;
+use cc_chain::Neighbours;
+use cc_names::{Colour, SKey};
 use std::alloc::Global;
 use std::marker::Model;
+use std::mem::size_of;
 
 /// What an object is, as it stands in the slab.
 #[derive(Drop)]
 pub(crate) struct Cell {
-    /// The name that it never shares with another.
-    pub(crate) name: Name,
-    pub(crate) kind: Kind,
-    /// Where its native stands, of a reflector.
-    pub(crate) native: Option<NKey>,
+    pub(crate) being: Being,
     /// Its neighbours in order of making.
     pub(crate) order: Neighbours,
 }
 
+// the slab adds 8 bytes to each
+const _: () = prove!(size_of::<Cell>() == 24);
+
 impl Model for Cell {
-    ghost use Rattle.std.specs.Prelude.{option_map};
+    ghost use Rattle.cc_script.specs.Beings.{kind_of, name_of, native_key_of};
     ghost use Rattle.cc_script.specs.Cells.{Label};
 
     ghost Value = { Label };
 
     ghost view = { λ c. record {
-      name = c.name;
-      kind = c.kind;
-      native = option_map (λ k. k.0) c.native;
+      name = name_of c.being;
+      kind = kind_of c.being;
+      native = native_key_of c.being;
       order = c.order;
     } };
 }
@@ -42,6 +43,8 @@ pub(crate) struct Body {
     /// Its neighbours among those that a walk has yet to look into, while it is one of them.
     pub(crate) waiting: Neighbours,
 }
+
+const _: () = prove!(size_of::<Body>() == 40);
 
 impl Model for Body {
     ghost use Rattle.std.specs.Prelude.{◌≡◌, length, map, option_map};

@@ -17,12 +17,12 @@
 //! leaves, and the next one is found, by a look at its neighbours alone.
 #![tactic(auto)]
 
+mod being;
 mod cell;
 mod cells;
 mod laws;
 mod links;
 mod marking;
-mod neighbours;
 mod parts;
 mod scripts;
 

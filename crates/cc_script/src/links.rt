@@ -1,8 +1,7 @@
 //! The two lists that go through the objects: each object has its neighbours in both.
 
 use crate::cells::Cells;
-use crate::neighbours::Neighbours;
-use cc_chain::{Link, LinkStore};
+use cc_chain::{Link, LinkStore, Neighbours};
 
 /// The list of all objects, in order of making.
 pub(crate) struct Order;

@@ -3,7 +3,8 @@ ghost use Rattle.std.specs.Prelude.{◌≡◌, ◌↔◌, ℕ, ◌<◌, ◌≤�
 ghost use Rattle.cc_lists.specs.Members.{Among};
 ghost use Rattle.cc_names.specs.declared.kind.Colour.{Colour};
 ghost use Rattle.cc_names.specs.declared.kind.Colour.TheVariants.{White};
-ghost use Rattle.cc_script.specs.Objects.{Object, AreWhole, FitsKind, IsNotBelow, change_object, colour_at, first_key, is_there, key_after, new_object, raised_among, slots_at, whitened, with_slot, without_object};
+ghost use Rattle.cc_script.specs.Beings.{kind_of, name_of, native_key_of};
+ghost use Rattle.cc_script.specs.Objects.{Object, AreWhole, IsNotBelow, change_object, colour_at, first_key, is_there, key_after, new_object, raised_among, slots_at, whitened, with_slot, without_object};
 ghost use Rattle.cc_lists.specs.Walks.{first_of};
 ghost use Rattle.cc_script.specs.Underway.{with_first_looked_into};
 ghost use Rattle.cc_script.specs.Walking.{keys_reached};
@@ -11,12 +12,12 @@ ghost use Rattle.cc_script.specs.Cells.{Content, Label, filled, in_colour};
 ghost use Rattle.cc_script.specs.Lists.{IsPlaced, cell_at};
 ghost use Rattle.cc_script.specs.Marking.{raise_each, raise_key, raise_slot};
 
+use crate::being::Being;
 use crate::cell::{Body, Cell, is_below};
 use crate::cells::Cells;
 use crate::links::{Order, Waiting};
-use crate::neighbours::Neighbours;
-use cc_chain::Chain;
-use cc_names::{Colour, Kind, NKey, Name, NoMemory, SKey};
+use cc_chain::{Chain, Neighbours};
+use cc_names::{Colour, NoMemory, SKey};
 use std::alloc::Global;
 
 /// The objects by key, their list in order of making, and the list of those that a walk raised and has not looked into.
@@ -49,24 +50,19 @@ impl ScriptParts {
     pub(crate) fn create(
         &mut self,
         alloc: Global,
-        name: Name,
-        kind: Kind,
-        native: Option<NKey>,
+        being: Being,
         slots: u8,
     ) -> Result<SKey, NoMemory>
         requires at_rest { IsAtRest self.old }
         requires slots { slots ≤ 64 }
-        requires fits { FitsKind kind (option_map (λ k. k.0) native) }
-        ensures made { IfOk result (λ key. shows self.new ≡ shows self.old ++ new_object key.0 name kind (option_map (λ k. k.0) native) slots ∷ []) }
+        ensures made { IfOk result (λ key. shows self.new ≡ shows self.old ++ new_object key.0 (name_of being) (kind_of being) (native_key_of being) slots ∷ []) }
         ensures vacant { IfOk result (λ key. is_there (shows self.old) key.0 ≡ false) }
         ensures err { OnErr result (shows self.new ≡ shows self.old) }
         ensures at_rest { IsAtRest self.new }
     {
         let empty = empty_slots(alloc, slots)?;
         let cell = Cell {
-            name,
-            kind,
-            native,
+            being,
             order: Neighbours::of(None),
         };
         let body = Body {

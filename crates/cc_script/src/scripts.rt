@@ -6,6 +6,7 @@ ghost use Rattle.cc_names.specs.declared.kind.Kind.TheVariants.{Reflector};
 ghost use Rattle.cc_script.specs.Objects.{Object, AreWhole, HaveOwnKeys, change_object, colour_at, first_key, is_there, key_after, kind_at, map_object, name_at, native_at, plain_object, reflector_object, raised_among, slots_at, whitened, with_slot, without_object, IsNotBelow};
 ghost use Rattle.cc_script.specs.Walking.{keys_reached};
 
+use crate::being::Being;
 use crate::marking::Marking;
 use crate::parts::ScriptParts;
 use cc_names::{Colour, Kind, NKey, Name, NativeNo, NoMemory, SKey, ScriptNo};
@@ -53,8 +54,7 @@ impl Scripts {
         ensures vacant { IfOk result (λ key. is_there self.old key.0 ≡ false) }
         ensures err { OnErr result (self.new ≡ self.old) }
     {
-        self.parts
-            .create(self.alloc, Name::Script(no), Kind::Plain, None, slots)
+        self.parts.create(self.alloc, Being::Plain(no), slots)
     }
 
     /// Makes the reflector of the native with the number `no`, which stands at the key `native` of its own heap. It has
@@ -66,13 +66,8 @@ impl Scripts {
         ensures vacant { IfOk result (λ key. is_there self.old key.0 ≡ false) }
         ensures err { OnErr result (self.new ≡ self.old) }
     {
-        self.parts.create(
-            self.alloc,
-            Name::Reflector(no),
-            Kind::Reflector,
-            Some(native),
-            4,
-        )
+        self.parts
+            .create(self.alloc, Being::Reflector(no, native), 4)
     }
 
     /// Makes a weak map with the number `no`. It has no slots, is black, and goes last.
@@ -83,8 +78,7 @@ impl Scripts {
         ensures vacant { IfOk result (λ key. is_there self.old key.0 ≡ false) }
         ensures err { OnErr result (self.new ≡ self.old) }
     {
-        self.parts
-            .create(self.alloc, Name::Script(no), Kind::Map, None, 0)
+        self.parts.create(self.alloc, Being::Map(no), 0)
     }
 
     /// What an object is.
@@ -92,7 +86,7 @@ impl Scripts {
         requires live { IsTrue (is_there self.now key.0) }
         ensures { kind_at self.now key.0 ≡ Some result }
     {
-        self.parts.cell(key).kind
+        self.parts.cell(key).being.kind()
     }
 
     /// The name of an object.
@@ -100,7 +94,7 @@ impl Scripts {
         requires live { IsTrue (is_there self.now key.0) }
         ensures { name_at self.now key.0 ≡ Some result }
     {
-        self.parts.cell(key).name
+        self.parts.cell(key).being.name()
     }
 
     /// Where the native of a reflector stands in its own heap; none exactly of what is no reflector.
@@ -109,7 +103,7 @@ impl Scripts {
         ensures native { option_map (λ k. k.0) result ≡ native_at self.now key.0 }
         ensures exactly { IsSome result ↔ (kind_at self.now key.0 ≡ Some Reflector) }
     {
-        self.parts.cell(key).native
+        self.parts.cell(key).being.native()
     }
 
     /// The colour of an object.

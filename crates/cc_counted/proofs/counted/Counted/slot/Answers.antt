@@ -31,8 +31,8 @@ returns-clause-name c =
       length-slots_of l c.self.invariant.placed c.args.key.0 c.at.result.now c.at.ensures,
     ) in
     let found = read c.behind-self.inside.slots.items c.at.result.now.slots c.args.i c.index.result.now (ap (λ (p : Placed). p.slots) c.behind-self.view_is) within c.index.ensures in
-    subst (λ (v : Counts). name_of v c.index.result.now ≡ get_or (slots_of v c.args.key.0) c.args.i None) c.self.view_is
-    (ap (name_of (counts_of l)) found ∙ slot-name l c.self.invariant.placed c.args.key.0 c.at.result.now c.at.ensures c.args.i)
+    subst (λ (v : Counts). name_of v c.held.result ≡ get_or (slots_of v c.args.key.0) c.args.i None) c.self.view_is
+    (ap (name_of (counts_of l)) (c.held.ensures ∙ found) ∙ slot-name l c.self.invariant.placed c.args.key.0 c.at.result.now c.at.ensures c.args.i)
 
 pub returns-clause-live : goal.returns-clause-live
 returns-clause-live c =
@@ -44,5 +44,5 @@ returns-clause-live c =
       length-slots_of l c.self.invariant.placed c.args.key.0 c.at.result.now c.at.ensures,
     ) in
     let found = read c.behind-self.inside.slots.items c.at.result.now.slots c.args.i c.index.result.now (ap (λ (p : Placed). p.slots) c.behind-self.view_is) within c.index.ensures in
-    subst (λ (v : Counts). is_live v c.index.result.now ≡ true) c.self.view_is
-    (ap (is_live (counts_of l)) found ∙ slot-live l c.self.invariant.placed c.args.key.0 c.at.result.now c.at.ensures c.args.i within)
+    subst (λ (v : Counts). is_live v c.held.result ≡ true) c.self.view_is
+    (ap (is_live (counts_of l)) (c.held.ensures ∙ found) ∙ slot-live l c.self.invariant.placed c.args.key.0 c.at.result.now c.at.ensures c.args.i within)

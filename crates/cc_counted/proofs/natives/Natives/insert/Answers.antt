@@ -1,7 +1,9 @@
-use Rattle.std.proofs.Common.{◌≡◌, ℕ, List, Option, None, false, ap, sym, ◌∙◌, subst}
+use Rattle.std.proofs.Common.{◌≡◌, ℕ, List, Option, Some, None, option_map, false, refl, ap, sym, ◌∙◌, subst}
 use Rattle.slab.specs.Slab.{Slab, Updates, get}
+use Rattle.cc_chain.specs.declared.link.Link.{Link}
 use Rattle.cc_counted.specs.declared.held.Held.{Held}
 use Rattle.cc_counted.specs.declared.node.Node.{Node}
+use Rattle.cc_counted.specs.Lists.{Placed}
 use Rattle.cc_counted.specs.Stored.{Inserts}
 use Rattle.cc_counted.specs.Natives.{lists_of}
 use Rattle.cc_counted.proofs.Threading.{inserted, chained-reserved, chained-inserted, order-inserted, inserts}
@@ -10,6 +12,11 @@ use Rattle.cc_counted.proofs.natives.Natives.insert.Goals as goal
 -- what is known at the key that the slab answered, at the same key in 32 bits
 vacant-at : (t : Slab Node) (answered key : ℕ) → answered ≡ key → get t answered ≡ None → get t key ≡ None
 vacant-at t answered key same vacant = subst (λ k. get t k ≡ None) same vacant
+
+-- the node that was put there, once each of its links is none
+bare : (cell : Placed) (o q s : Option Link) → o ≡ None → q ≡ None → s ≡ None →
+    ◌≡◌ {A = Node} (record { cell = cell; order = o; queue = q; suspects = s; purple = false }) (record { cell = cell; order = None; queue = None; suspects = None; purple = false })
+bare cell o q s e f g = rw (e, f, g) refl
 
 updates-at : (t u : Slab Node) (answered key : ℕ) (node : Option Node) → answered ≡ key → Updates t u answered node → Updates t u key node
 updates-at t u answered key node same updates = subst (λ k. Updates t u k node) same updates
@@ -24,10 +31,17 @@ pub push_back-requires-clause-chain : goal.push_back-requires-clause-chain
 push_back-requires-clause-chain c =
     let same = c.insert_reserved.ensures.key ∙ (sym c.vacant_key.ensures.value ∙ sym c.in_ok-key.ensures.key) in
     let vacant = vacant-at c.reserve.new.self c.insert_reserved.result c.in_ok-key.key same c.insert_reserved.ensures.was_vacant in
-    let made = updates-at c.reserve.new.self c.insert_reserved.new.self c.insert_reserved.result c.in_ok-key.key _ same c.insert_reserved.ensures.updates in (
+    let made = updates-at c.reserve.new.self c.insert_reserved.new.self c.insert_reserved.result c.in_ok-key.key _ same c.insert_reserved.ensures.updates in
+    let there = made.changed ∙ ap Some (bare _ c.of.result c.of-2.result c.of-3.result c.of.ensures c.of-2.ensures c.of-3.ensures) in (
       (lists_of c.self.inside).order,
-      order-inserted c.self.inside c.self.invariant c.reserve.new.self c.insert_reserved.new.self c.reserve.ensures.rest_kept c.in_ok-key.key _ vacant made.changed made.others,
+      order-inserted c.self.inside c.self.invariant c.reserve.new.self c.insert_reserved.new.self c.reserve.ensures.rest_kept c.in_ok-key.key _ vacant there made.others,
     )
+
+pub push_back-requires-clause-free : goal.push_back-requires-clause-free
+push_back-requires-clause-free c =
+    let same = c.insert_reserved.ensures.key ∙ (sym c.vacant_key.ensures.value ∙ sym c.in_ok-key.ensures.key) in
+    let made = updates-at c.reserve.new.self c.insert_reserved.new.self c.insert_reserved.result c.in_ok-key.key _ same c.insert_reserved.ensures.updates in
+    ap (option_map (λ (n : Node). n.order)) made.changed ∙ ap Some c.of.ensures
 
 pub invariant_of-self-2 : goal.invariant_of-self-2
 invariant_of-self-2 c =
@@ -35,10 +49,11 @@ invariant_of-self-2 c =
     let same = c.insert_reserved.ensures.key ∙ (sym c.vacant_key.ensures.value ∙ sym c.in_ok-key.ensures.key) in
     let vacant = vacant-at c.reserve.new.self c.insert_reserved.result c.in_ok-key.key same c.insert_reserved.ensures.was_vacant in
     let made = updates-at c.reserve.new.self c.insert_reserved.new.self c.insert_reserved.result c.in_ok-key.key _ same c.insert_reserved.ensures.updates in
+    let there = made.changed ∙ ap Some (bare _ c.of.result c.of-2.result c.of-3.result c.of.ensures c.of-2.ensures c.of-3.ensures) in
     chained-inserted n c.self.invariant c.reserve.new.self c.insert_reserved.new.self c.reserve.ensures.rest_kept c.in_ok-key.key _
-    vacant made.changed made.others c.push_back.new.store c.push_back.new.self c.push_back.ensures.rest
+    vacant there made.others c.push_back.new.store c.push_back.new.self c.push_back.ensures.rest
     (c.push_back.ensures.keys (lists_of n).order (order-inserted n c.self.invariant c.reserve.new.self c.insert_reserved.new.self c.reserve.ensures.rest_kept c.in_ok-key.key _
-    vacant made.changed made.others))
+    vacant there made.others))
 
 pub returns-clause-inserts : goal.returns-clause-inserts
 returns-clause-inserts c =
@@ -46,10 +61,11 @@ returns-clause-inserts c =
     let same = c.insert_reserved.ensures.key ∙ (sym c.vacant_key.ensures.value ∙ sym c.in_ok-key.ensures.key) in
     let vacant = vacant-at c.reserve.new.self c.insert_reserved.result c.in_ok-key.key same c.insert_reserved.ensures.was_vacant in
     let made = updates-at c.reserve.new.self c.insert_reserved.new.self c.insert_reserved.result c.in_ok-key.key _ same c.insert_reserved.ensures.updates in
+    let there = made.changed ∙ ap Some (bare _ c.of.result c.of-2.result c.of-3.result c.of.ensures c.of-2.ensures c.of-3.ensures) in
     let P : List (Option Held) → Type 0 = λ slots. Inserts c.args.self.now.lists (lists_of (inserted n c.push_back.new.store c.push_back.new.self)) c.in_ok-key.key
     (record { number = c.args.no.0; slots = slots; preserved = false; reflector = None; count = 1 }) in
     subst P c.in_ok-empty.ensures.items
     (inserts n c.self.invariant c.reserve.new.self c.insert_reserved.new.self c.reserve.ensures.rest_kept c.in_ok-key.key _
-    vacant made.changed made.others c.push_back.new.store c.push_back.new.self c.push_back.ensures.rest
+    vacant there made.others c.push_back.new.store c.push_back.new.self c.push_back.ensures.rest
     (c.push_back.ensures.keys (lists_of n).order (order-inserted n c.self.invariant c.reserve.new.self c.insert_reserved.new.self c.reserve.ensures.rest_kept c.in_ok-key.key _
-    vacant made.changed made.others)) _ c.self.view_is)
+    vacant there made.others)) _ c.self.view_is)

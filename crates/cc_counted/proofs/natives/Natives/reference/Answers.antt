@@ -19,7 +19,7 @@ returns-then-place-len-clause-name c =
     let cell = c.at-cell.result.now in
     let same = ap (λ (p : Placed). p.slots) c.cell.view_is in
     let within : c.args.i < length c.cell.inside.slots.items = omega (arith, c.if-place-len.true, c.len.ensures) in
-    ap (name_of (counts_of l)) (read c.cell.inside.slots.items cell.slots c.args.i c.index.result.now same within c.index.ensures)
+    ap (name_of (counts_of l)) (c.held.ensures ∙ read c.cell.inside.slots.items cell.slots c.args.i c.index.result.now same within c.index.ensures)
     ∙ (slot-name l p c.args.key.0 cell c.at-cell.ensures c.args.i
     ∙ reference-slot l p c.args.key.0 cell c.at-cell.ensures c.args.i
     (omega (arith, within, ap (λ xs. length xs) same, length-slots_of l p c.args.key.0 cell c.at-cell.ensures)))
@@ -31,7 +31,7 @@ returns-then-place-len-clause-live c =
     let cell = c.at-cell.result.now in
     let same = ap (λ (p : Placed). p.slots) c.cell.view_is in
     let within : c.args.i < length c.cell.inside.slots.items = omega (arith, c.if-place-len.true, c.len.ensures) in
-    ap (is_live (counts_of l)) (read c.cell.inside.slots.items cell.slots c.args.i c.index.result.now same within c.index.ensures)
+    ap (is_live (counts_of l)) (c.held.ensures ∙ read c.cell.inside.slots.items cell.slots c.args.i c.index.result.now same within c.index.ensures)
     ∙ slot-live l p c.args.key.0 cell c.at-cell.ensures c.args.i (omega (arith, within, ap (λ xs. length xs) same))
 
 pub returns-else-place-len-clause-name : goal.returns-else-place-len-clause-name

@@ -24,15 +24,15 @@ exactly native kind found fits e = (
 
 pub returns-clause-native : goal.returns-clause-native
 returns-clause-native c =
-    subst (λ (v : List Object). native_key c.behind-self.inside.native ≡ native_at v c.args.key.0) c.self.view_is
-    (ap (λ (p : Label). p.native) c.behind-self.view_is
+    subst (λ (v : List Object). native_key c.native.result ≡ native_at v c.args.key.0) c.self.view_is
+    (ap native_key c.native.ensures ∙ ap (λ (p : Label). p.native) c.behind-self.view_is
     ∙ sym (ap (option_and_then (λ (o : Object). o.native)) (object_at-placed (lists_of c.self.inside.parts) c.self.invariant.placed c.args.key.0 (in_colour c.cell.ensures.0 (filled c.cell.ensures.1.0 c.cell.result.now)).placed c.cell.ensures.1.1)))
 
 pub returns-clause-exactly : goal.returns-clause-exactly
 returns-clause-exactly c =
     let p = (in_colour c.cell.ensures.0 (filled c.cell.ensures.1.0 c.cell.result.now)).placed in
     let fits : FitsKind p.kind p.native = c.self.invariant.placed.reflected c.args.key.0 p c.cell.ensures.1.1 in
-    exactly c.behind-self.inside.native p.kind (kind_at c.args.self.now c.args.key.0)
-    (subst (λ (n : Option ℕ). FitsKind p.kind n) (sym (ap (λ (q : Label). q.native) c.behind-self.view_is)) fits)
+    exactly c.native.result p.kind (kind_at c.args.self.now c.args.key.0)
+    (subst (λ (n : Option ℕ). FitsKind p.kind n) (sym (ap native_key c.native.ensures ∙ ap (λ (q : Label). q.native) c.behind-self.view_is)) fits)
     (subst (λ (v : List Object). kind_at v c.args.key.0 ≡ Some p.kind) c.self.view_is
     (ap (option_map (λ (o : Object). o.kind)) (object_at-placed (lists_of c.self.inside.parts) c.self.invariant.placed c.args.key.0 p c.cell.ensures.1.1)))

@@ -1,7 +1,7 @@
 //! The link of a key, as the element at that key keeps it.
 ghost use Rattle.std.specs.Prelude.{◌≡◌};
 
-use cc_chain::Link;
+use crate::link::Link;
 use std::marker::Model;
 
 /// A key's place in a list, with the keys beside it.
@@ -16,14 +16,14 @@ enum Place {
     Between { before: u32, after: u32 },
 }
 
-/// The neighbours of a key in a list, or that it is in none: an `Option<Link>`, in the room of the two keys at most.
+/// The neighbours of a key in a list, or that it is in none: an `Option<Link>` in 12 bytes, for a store to keep.
 #[derive(Drop)]
-pub(crate) struct Neighbours(Place);
+pub struct Neighbours(Place);
 
 impl Model for Neighbours {
     ghost use Rattle.std.specs.Prelude.{Option};
     ghost use Rattle.cc_chain.specs.declared.link.Link.{Link};
-    ghost use Rattle.cc_script.specs.Neighbours.{link_of};
+    ghost use Rattle.cc_chain.specs.Neighbours.{link_of};
 
     ghost Value = { Option Link };
 
@@ -32,7 +32,7 @@ impl Model for Neighbours {
 
 impl Neighbours {
     /// Of a key with this link.
-    pub(crate) fn of(link: Option<Link>) -> Neighbours
+    pub fn of(link: Option<Link>) -> Neighbours
         ensures { result ≡ link }
     {
         let Some(link) = link else {
@@ -47,7 +47,7 @@ impl Neighbours {
     }
 
     /// The link; none of a key in no list.
-    pub(crate) fn link(&self) -> Option<Link>
+    pub fn link(&self) -> Option<Link>
         ensures { result ≡ self.now }
     {
         let (before, after) = match self.0 {

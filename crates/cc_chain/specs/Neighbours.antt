@@ -1,8 +1,8 @@
 -- THE LINK THAT AN ELEMENT KEEPS, place by place.
 use Rattle.std.specs.Prelude.{Option, Some, None}
 use Rattle.cc_chain.specs.declared.link.Link.{Link}
-use Rattle.cc_script.specs.declared.neighbours.Place.{Place}
-use Rattle.cc_script.specs.declared.neighbours.Place.TheVariants.{Nowhere, Alone, First, Last, Between}
+use Rattle.cc_chain.specs.declared.neighbours.Place.{Place}
+use Rattle.cc_chain.specs.declared.neighbours.Place.TheVariants.{Nowhere, Alone, First, Last, Between}
 
 abbrev pub link_of : Place → Option Link
 link_of Nowhere = None
