@@ -62,10 +62,7 @@ has_none-freed (k ∷ ks) = has_none-freed ks
 -- where no collection moves, an abandonment is out of place
 abandonment-none : (c : Command) (reply : Reply) (events : List Event) → IsTrue (moves_no_collection (taken c)) → has_none events ≡ true →
     IsTrue (has_abandonment_in_place c reply events)
-abandonment-none (Slice u) reply events t e = absurd (false≢true t)
-abandonment-none Collect reply events t e = absurd (false≢true t)
-abandonment-none Gc reply events t e = absurd (false≢true t)
-abandonment-none c reply events t e = e
+abandonment-none c reply events t e = grind arith
 
 -- nothing unlinked makes no run
 rising-none : (c : Command) (events : List Event) → unlinked_numbers events ≡ [] → IsTrue (nat_le (runs (unlinked_numbers events)) (runs_allowed c))
@@ -172,11 +169,4 @@ mutate-answers m s c r i t = mutate-cases m c (λ (u : Turn). (u.answer.listed �
 pub ask-answers : (m : Machine) (s : State) (ask : Ask) → IsRunning m s → IsTrue (ask_in_range ask) → IsTrue (moves_no_collection ask) →
     AnswersAsk s ask (do_ask m ask).answer
 unfolding do_ask
-ask-answers m s (taken Census) r i t = ap (λ (xs : List Name). listing xs (counted (length xs))) r.listed
-    ∙ ap (λ k. listing (census_order s.listed) (counted k)) (length-census_order s.listed)
-ask-answers m s (taken (Slice u)) r i t = absurd (false≢true t)
-ask-answers m s (taken Collect) r i t = absurd (false≢true t)
-ask-answers m s (taken Gc) r i t = absurd (false≢true t)
-ask-answers m s (taken Nothing) r i t = refl
-ask-answers m s (taken c) r i t = mutate-answers m s c r i t
-ask-answers m s _ r i t = refl
+ask-answers m s ask r i t = grind (arith, length-census_order, mutate-answers)

@@ -105,8 +105,7 @@ mutate-use m c = go (refusal_of (objects_of m.heap) c) (refusal-noes (objects_of
 
 -- the reply to units tells a refusal
 reply_to_units-noes : (p : Progress) → noes_of_reply (Some (reply_to_units p)) ≡ refusals p
-reply_to_units-noes went_on = refl
-reply_to_units-noes _ = refl
+reply_to_units-noes p = grind arith
 
 -- what units use, their turn uses
 after_units-use : (f : List Bool → UnitsDone) (m : Machine) (r : UnitsDone) → UnitsUse f (no_units m) r →

@@ -62,18 +62,15 @@ in_place units without gc es = elim (units && without) [
 module _ (s : State) (c : Command) (t : MovesUnits s c) where
   -- the graph stays as it is
   graph-left : (p : Progress) → graph_after s.graph c (Some (reply_to_units p)) ≡ s.graph
-  graph-left refused = refl
-  graph-left _ = t.left
+  graph-left p = grind arith
 
   -- it is done, or refused memory
   replies : (p : Progress) → RepliesWith s c (reply_to_units p)
-  replies refused = inr (record { refused = refl; command_may = t.may; no_other = t.taken })
-  replies _ = inl t.reply
+  replies p = grind arith
 
   -- where it is refused, it is want of memory
   never-quiet : (p : Progress) → (is_refused (reply_to_units p) && not (is_abandoning c (reply_to_units p))) ≡ false
-  never-quiet refused = ap (λ b. not (b && true)) t.units
-  never-quiet _ = refl
+  never-quiet p = grind arith
 
   -- an abandonment is in place
   is-placed : (p : Progress) (es : List Event) → IsPlaced p es → has_abandonment_in_place c (reply_to_units p) es ≡ true

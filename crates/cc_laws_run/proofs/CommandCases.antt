@@ -35,26 +35,16 @@ mutate-cases m c P refused unmet done = grind arith
 
 -- a name, or that nothing is there, is no refusal
 named-not_refused : (x : Option Name) → is_refused (named_or_nothing x) ≡ false
-named-not_refused None = refl
-named-not_refused (Some x) = refl
+named-not_refused x = grind arith
 
 -- the reply to a command that is not refused is no refusal
 pub taken-not_refused : (o : Objects) (c : Command) → is_refused (reply_if_taken o c) ≡ false
 unfolding reply_if_taken
-taken-not_refused o (CopyNative d s) = named-not_refused (o.register (N s))
-taken-not_refused o (CopyScript d s) = named-not_refused (o.register (S s))
-taken-not_refused o (Get r s i) = named-not_refused (slot_at o (N s) i)
-taken-not_refused o (Take d s i) = named-not_refused (slot_at o (S s) i)
-taken-not_refused o (Wrap d s) = named-not_refused (reflector_of (o.register (N s)))
-taken-not_refused o (Unwrap d s) = named-not_refused (native_of (o.register (S s)))
-taken-not_refused o (GetEntry d m k) = named-not_refused (value_at o (o.register (S m)) (o.register (S k)))
-taken-not_refused o (Expose s i) = named-not_refused (slot_at o (N s) i)
-taken-not_refused o c = refl
+taken-not_refused o c = grind (arith, named-not_refused)
 
 -- what is no refusal is no want of memory
 not_refused-granted : (reply : Reply) → is_refused reply ≡ false → is_without_memory reply ≡ false
-not_refused-granted (Refused refusal) e = absurd (true≢false e)
-not_refused-granted reply e = refl
+not_refused-granted reply e = grind arith
 
 -- nor is the reply to a command that is not refused
 pub taken-granted : (o : Objects) (c : Command) → is_without_memory (reply_if_taken o c) ≡ false
@@ -73,8 +63,7 @@ graph_after-refused g c refusal e = grind arith
 
 -- a refusal lists nothing
 listed-refused : (names : List Name) (c : Command) (refusal : Refusal) → listed names c [] (Some (Refused refusal)) ≡ names
-listed-refused names (Native d n) refusal = refl
-listed-refused names _ refusal = refl
+listed-refused names c refusal = grind arith
 
 -- the state after a refusal that leaves the graph is the state before it
 next-state : (s : State) (c : Command) (refusal : Refusal) → graph_after s.graph c (Some (Refused refusal)) ≡ s.graph →

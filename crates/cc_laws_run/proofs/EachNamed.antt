@@ -51,12 +51,7 @@ FreeLast (e ∷ es) = NotAgain e es × FreeLast es
 
 -- what an event may name that is not what was freed, it may name afterwards
 stays : (g : Graph) (names : List Name) (c : Command) (e f : Event) (es : List Event) → NotAgain e es → Among f es → MayBe g names c f → MayBe g (after_event names e) c f
-stays g names c (Freed x) (Freed y) es last i m =
-    (Among-filter (λ z. not (same_name z x)) y names m.0 (ap not (same_name-other y x (λ e. last (Freed y) i e))), m.1, m.2)
-stays g names c (Freed x) (Unlinked y) es last i m =
-    (Among-filter (λ z. not (same_name z x)) y names m.0 (ap not (same_name-other y x (λ e. last (Unlinked y) i e))), m.1, m.2)
-stays g names c (Freed x) Abandoned es last i m = tt
-stays g names c _ f es last i m = m
+stays g names c e f es last i m = grind (arith, Among-filter, same_name-other)
 
 -- EVENTS THAT MIGHT ALL BE AT THE START each may be at their turn, where nothing that is freed is named again.
 pub each-from : (g : Graph) (c : Command) (es : List Event) (names : List Name) → ((e : Event) → Among e es → MayBe g names c e) → FreeLast es → EachMayBe g names c es
@@ -81,9 +76,7 @@ FreeLast-append (e ∷ es) fs a b apart =
 
 -- an event names a native where it frees or unlinks its number
 named-number : (e : Event) (k : ℕ) → Names e (native k) → Among k (freed_in e) ⊎ Among k (unlinked_in e)
-named-number (Freed y) k s = inl (subst (λ z. Among k (natives_in z)) (sym s) (inl refl))
-named-number (Unlinked y) k s = inr (subst (λ z. Among k (natives_in z)) (sym s) (inl refl))
-named-number Abandoned k s = absurd s
+named-number e k s = grind arith
 
 -- what one of several events names is among their numbers
 named-numbers : (e : Event) (es : List Event) (k : ℕ) → Among e es → Names e (native k) → Among k (freed_numbers es) ⊎ Among k (unlinked_numbers es)

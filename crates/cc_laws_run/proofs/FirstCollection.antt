@@ -84,10 +84,7 @@ units_done-last n m = units_done-keep (λ d. TellsAtLast d.progress d.events)
 -- and by those under an ask
 first_units-last : (m : Machine) (ask : Ask) → TellsAtLast (first_units m ask).progress (first_units m ask).events
 unfolding slice
-first_units-last m (taken (Slice n)) = units_done-last n m
-first_units-last m (taken Collect) = units_done-last (enough_units m) m
-first_units-last m (taken Gc) = finish-cases m (λ d. TellsAtLast d.progress d.events) (units_done-last (enough_units m) m) (λ e f. refl)
-first_units-last m ask = λ e. refl
+first_units-last m ask = grind (arith, units_done-last, finish-cases)
 
 -- AN ANSWER BEGINS WITH WHAT THE FIRST COLLECTION TELLS, where it does not go on.
 pub first_collection-told : (m : Machine) (asks : List Ask) → (first_collection m asks).progress ≢ went_on → AreTold (first_collection m asks).events (turns m asks)
@@ -129,8 +126,7 @@ progress_then x q = x
 
 -- one after the other
 progress_then-assoc : (p q r : Progress) → progress_then p (progress_then q r) ≡ progress_then (progress_then p q) r
-progress_then-assoc went_on q r = refl
-progress_then-assoc _ q r = refl
+progress_then-assoc p q r = grind arith
 
 -- units and later ones come to that
 pub then_later-progress : (d later : UnitsDone) → (then_later d later).progress ≡ progress_then d.progress later.progress

@@ -151,9 +151,7 @@ module _ (m : Machine) (s : State) (ds : List Name) (r : IsRunning m s) (none : 
 
 -- an ask that begins a collection leaves a machine that runs
 pub begin-runs : (m : Machine) (s : State) (ask : Ask) → IsRunning m s → begins_one ask ≡ true → IsRunning (do_ask m ask).machine (next s ask (do_ask m ask).answer)
-begin-runs m s (taken (Slice n)) r e = slice-runs m s n r
-begin-runs m s (taken Collect) r e = collect-runs m s r
-begin-runs m s ask r e = absurd (false≢true e)
+begin-runs m s ask r e = grind (arith, slice-runs, collect-runs)
 
 -- Asks in a row
 

@@ -31,8 +31,7 @@ some-none x e = cc
 
 -- giving up at once
 given-now : (h : Heap) (s : Option Snapshot) → IsGivenUp h s (heap_given_back h s)
-given-now h None = inl refl
-given-now h (Some x) = refl
+given-now h s = grind arith
 
 -- they are those from before but for the buffer
 only-buffer : (h k : Heap) (bs : List Buffered) → k ≡ with_buffer h bs → k ≡ with_buffer h k.buffer
@@ -92,23 +91,7 @@ module _ (m : Machine) (es : List Event) where
 
   -- a unit that has its memory
   granted-comes : (h : Heap) (s : Option Snapshot) (fs : List Event) → GoesOn h s fs → UnitComes fs (granted h s)
-  granted-comes h None fs g =
-      let idle = g.idle refl in
-      record {
-        given = subst (λ (t : Option Snapshot). IsGivenUp m.heap t (give_back (candidates_of h) (with_empty_buffer h))) (sym idle.1)
-            (inr (ap (λ (k : Heap). give_back (candidates_of k) (with_empty_buffer k)) idle.0));
-        idle = λ e. absurd (some-none (begun h) e);
-        told = append-nil fs ∙ g.told;
-      }
-  granted-comes h (Some x) fs g = go (first_untraversed x.nodes)
-    where
-      noting : (y : Name) (ys : Option (List Name)) → GoesOn h (Some (after_node h x y ys)) (fs ++ [])
-      noting y None = record { given = g.given; idle = λ e. absurd (some-none (after_node h x y None) e); told = append-nil fs ∙ g.told }
-      noting y (Some ys) = record { given = g.given; idle = λ e. absurd (some-none (after_node h x y (Some ys)) e); told = append-nil fs ∙ g.told }
-
-      go : (o : Option Name) → UnitComes fs (node_or_end h x o)
-      go None = tt
-      go (Some y) = noting y (to_note h y)
+  granted-comes h s fs g = grind (arith, some-none, append-nil)
 
   -- any unit
   unit-comes : (h : Heap) (s : Option Snapshot) (fs : List Event) (answer : Bool) → GoesOn h s fs → UnitComes fs (unit h s answer)

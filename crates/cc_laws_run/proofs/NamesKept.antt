@@ -39,15 +39,11 @@ SameNames-change_script h x f e = grind (arith, map-kept)
 
 -- a slot written
 SameNames-set_slot : (h : Heap) (x : Option Name) (i : ℕ) (y : Option Name) → SameNames h (set_slot h x i y)
-SameNames-set_slot h None i y = SameNames-refl h
-SameNames-set_slot h (Some (name.Native k)) i y = SameNames-change_native h k.0 (with_native_slot i y) (λ n. refl)
-SameNames-set_slot h (Some (name.Script k)) i y = SameNames-change_script h (object k.0) (with_script_slot i y) (λ o. refl)
-SameNames-set_slot h (Some (name.Reflector k)) i y = SameNames-change_script h (reflector k.0) (with_script_slot i y) (λ o. refl)
+SameNames-set_slot h x i y = grind (arith, SameNames-refl, SameNames-change_native, SameNames-change_script)
 
 -- a reflector preserved
 pub SameNames-preserve : (h : Heap) (x : Option Name) → SameNames h (preserve h x)
-SameNames-preserve h (Some (name.Reflector k)) = SameNames-change_native h k.0 (λ n. record n { preserved = true }) (λ n. refl)
-SameNames-preserve h _ = SameNames-refl h
+SameNames-preserve h x = grind (arith, SameNames-change_native, SameNames-refl)
 
 -- a reflector preserved, and a slot of a script object written
 pub SameNames-put_in_script : (h : Heap) (x : Option Name) (i : ℕ) (y : Option Name) → SameNames h (put_in_script h x i y)
@@ -62,8 +58,7 @@ SameNames-set_entry h _ _ v = SameNames-refl h
 -- an exposure changes script objects alone
 native_names-exposed : (h : Heap) (x : Option Name) → native_names (exposed h x) ≡ native_names h
 unfolding exposed
-native_names-exposed h None = refl
-native_names-exposed h (Some x) = refl
+native_names-exposed h x = grind arith
 
 -- an exposure
 pub SameNames-exposed : (h : Heap) (x : Option Name) → IsWellFormed h → SameNames h (exposed h x)

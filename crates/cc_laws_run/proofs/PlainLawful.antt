@@ -1,6 +1,6 @@
 -- THE PLAIN RUN IS LAWFUL: each ask is answered lawfully, and leaves a machine that runs.
 use Rattle.std.specs.Prelude.{IsTrue}
-use Rattle.std.proofs.Common.{Bool, List, [], ◌∷◌, refl}
+use Rattle.std.proofs.Common.{arith, Bool, List, [], ◌∷◌, refl}
 use Rattle.std.specs.List.{list_all}
 use Rattle.std.proofs.lemmas.Bool.{and_parts}
 use Rattle.cc_names.specs.Allowance.{Allowance}
@@ -16,10 +16,7 @@ use Rattle.cc_laws_run.proofs.CollectionsLawful.{slice-answers, slice-runs, coll
 
 -- each ask is answered lawfully
 any-answers : (m : Machine) (s : State) (ask : Ask) → IsRunning m s → IsTrue (ask_in_range ask) → AnswersAsk s ask (do_ask m ask).answer
-any-answers m s (taken (Slice u)) r i = slice-answers m s u r
-any-answers m s (taken Collect) r i = collect-answers m s r
-any-answers m s (taken Gc) r i = gc-answers m s r
-any-answers m s ask r i = ask-answers m s ask r i refl
+any-answers m s ask r i = grind (arith, slice-answers, collect-answers, gc-answers, ask-answers)
 
 -- and leaves a machine that runs
 pub any-runs : (m : Machine) (s : State) (ask : Ask) → IsRunning m s → IsTrue (ask_in_range ask) →

@@ -71,10 +71,7 @@ collect-row row m t = grind arith
 ask-row : (row : Row) (m : Machine) (s : State) (ask : Ask) → IsRunning m s → IsSuspectedNow m → InRow row m →
     InRow (row_after row ask (do_ask m ask).answer) (do_ask m ask).machine
 unfolding do_ask
-ask-row row m s (taken Nothing) r suspected t = t
-ask-row row m s (taken Gc) r suspected t = gc-row row m s r suspected t
-ask-row row m s (taken Collect) r suspected t = collect-row row m t
-ask-row row m s ask r suspected t = tt
+ask-row row m s ask r suspected t = grind (arith, gc-row, collect-row)
 
 -- The census
 
@@ -88,8 +85,7 @@ lists-reached m s r exact x = grind (arith, in-reached, listed-census_order, the
 
 -- a census is quiet where the row is whole
 census-quiet : (row : Row) (m : Machine) (s : State) (ask : Ask) → IsRunning m s → InRow row m → CensusIsQuiet row s ask
-census-quiet after_all m s (taken Census) r t = lists-reached m s r t.1
-census-quiet row m s ask r t = tt
+census-quiet row m s ask r t = grind (arith, lists-reached)
 
 -- Asks in a row
 

@@ -25,8 +25,7 @@ Any a = Unit {0}
 
 -- whatever is read is something
 Has-any : {A : Type 0} (o : Option A) → Has Any o
-Has-any None = tt
-Has-any (Some a) = tt
+Has-any e = grind arith
 
 -- Numbers and registers
 
@@ -48,8 +47,7 @@ number-below most token = grind (arith, digits-below)
 
 -- what is read has a property that follows from another one that it has
 Has-so : {A : Type 0} (P Q : A → Type 0) → ((a : A) → P a → Q a) → (o : Option A) → Has P o → Has Q o
-Has-so P Q so None h = tt
-Has-so P Q so (Some a) h = so a h
+Has-so P Q so e h = grind arith
 
 -- a number of slots is in range
 slots-below : (token : List ℕ) → Has (λ k. IsTrue (is_slots k)) (slots_number token)
@@ -57,12 +55,7 @@ slots-below token = Has-so (λ k. k ≤ 64) (λ k. IsTrue (is_slots k)) (λ k le
 
 -- a register is in range
 register-below : (letter : ℕ) (token : List ℕ) → Has (λ k. IsTrue (is_register k)) (register_with letter token)
-register-below letter [] = tt
-register-below letter (b ∷ token) = go (b == letter)
-  where
-    go : (t : Bool) → Has (λ k. IsTrue (is_register k)) (if t then number_within 255 token else None)
-    go true = Has-so (λ k. k ≤ 255) (λ k. IsTrue (is_register k)) (λ k le. lt-ltb k 256 (omega (arith, le))) (number_within 255 token) (number-below 255 token)
-    go false = tt
+register-below letter token = grind (arith, Has-so, lt-ltb, number-below)
 
 -- a native register is in range
 native-below : (token : List ℕ) → Has (λ k. IsTrue (is_register k)) (native_register token)
@@ -92,19 +85,12 @@ ReadsInRange reads = (tokens : List (List ℕ)) → Has InRange (reads tokens)
 
 -- a form of no token
 alone-in_range : (c : Command) → InRange c → ReadsInRange (alone c)
-alone-in_range c i [] = i
-alone-in_range c i (a ∷ tokens) = tt
+alone-in_range c i e = grind arith
 
 -- a form of one token
 one-in_range : {A : Type 0} (P : A → Type 0) (f : A → Command) (first : List ℕ → Option A) → ((t : List ℕ) → Has P (first t)) →
     ((a : A) → P a → InRange (f a)) → ReadsInRange (of_one f first)
-one-in_range {A} P f first p i [] = tt
-one-in_range {A} P f first p i (t ∷ []) = go (first t) (p t)
-  where
-    go : (o : Option A) → Has P o → Has InRange (elim o [ None ↦ None | Some a ↦ Some (f a) ])
-    go None h = tt
-    go (Some a) h = i a h
-one-in_range {A} P f first p i (t ∷ u ∷ tokens) = tt
+one-in_range {A} P f first p i e = grind arith
 
 -- a form of two
 two-in_range : {A B : Type 0} (P : A → Type 0) (Q : B → Type 0) (f : A → B → Command) (first : List ℕ → Option A) (second : List ℕ → Option B) →
@@ -213,12 +199,7 @@ command_in-range (f ∷ fs) word after each = go (command_in-range fs word after
 
 -- the tokens of a line are read as a command in range
 tokens-in_range : (forms : List Form) (tokens : List (List ℕ)) → EachInRange forms → Has InRange (command_of_tokens forms tokens)
-tokens-in_range forms [] each = refl
-tokens-in_range forms (word ∷ after) each = go (is_comment word)
-  where
-    go : (t : Bool) → Has InRange (elim t [ true ↦ Some command.Nothing | false ↦ command_in forms word after ])
-    go true = refl
-    go false = command_in-range forms word after each
+tokens-in_range forms tokens each = grind (arith, command_in-range)
 
 -- the command of a line is in range
 command_of-range : (forms : List Form) (line : List ℕ) → EachInRange forms → Has InRange (command_of forms line)

@@ -24,7 +24,7 @@ use Rattle.cc_laws_heap.proofs.Swept.{scripts-sweep}
 use Rattle.cc_laws_heap.proofs.ViewEdges.{script_edges-are}
 use Rattle.cc_laws_heap.proofs.Coloured.{one-script}
 use Rattle.cc_laws_heap.proofs.RoundsStand.{spared-from}
-use Rattle.cc_laws_run.proofs.QuietTaken.{edge-stays}
+use Rattle.cc_laws_snapshot.proofs.ReachedStays.{edge-stays}
 use Rattle.cc_laws_run.proofs.LeftThere.{collected-has}
 use Rattle.cc_laws_snapshot.proofs.ReachedStays.{IsTidy, KeepsReached, reached-kept, native_edges-alike, native-edge_of, native-edge, script-edge}
 use Rattle.cc_laws_snapshot.proofs.SoundView.{script-place}

@@ -27,26 +27,11 @@ use Rattle.cc_laws_run.specs.Doomed.{IsDoomed}
 use Rattle.cc_laws_run.proofs.DoomedWhite.{doomed-white_native}
 use Rattle.cc_laws_snapshot.proofs.KindsLoyal.{reached_cases}
 use Rattle.cc_laws_snapshot.proofs.SoundView.{one-native}
-use Rattle.cc_laws_snapshot.proofs.ReachedStays.{IsTidy, KeepsReached, reached-kept, native_edges-alike, native-edge, native-edge_of}
-
--- what a native held it goes on holding in heaps in which natives of its number are as it was
-pub edge-stays : (h k : Heap) → IsWellFormed h → IsWellFormed k → (n : HeapNative) (x y : Name) → Among n h.natives → Among (x, y) (native_edges n) →
-    Among x (names_there k) → ((o : HeapNative) → Among o k.natives → o.number ≡ n.number → IsOf h o) → Among (x, y) (view k).edges
-edge-stays h k w v n x y m e left of =
-    let start : native n.number ≡ x = (native_edges-are n x y e).0 in
-    let o = named-member k n.number (native-there k n.number v (subst (λ z. Among z (names_there k)) (sym start) left)) in
-    let p = of o.0 o.1 o.2 in
-    let same : p.0 ≡ n = one-native h p.0 n w p.1 m (ap (λ (u : Uncounted). u.number) p.2 ∙ o.2) in
-    let edges : native_edges n ≡ native_edges o.0 = native_edges-alike n o.0 (ap uncounted (sym same) ∙ p.2) in
-    native-edge k o.0 x y o.1 (subst (λ es. Among (x, y) es) edges e)
+use Rattle.cc_laws_snapshot.proofs.ReachedStays.{IsTidy, KeepsReached, reached-kept, native_edges-alike, native-edge, native-edge_of, left-keeps}
 
 -- The end
 
 module _ (h : Heap) (ks : List ℕ) (s : IsSound [] h) (there : (k : ℕ) → Among k ks → Among (native k) (native_names h)) where
-  -- beside natives nothing changes
-  taken-beside : SameBeside h (take_away ks h).heap
-  taken-beside = (take_away-leaves h ks s there).beside
-
   -- the heaps after it
   abbrev end : Heap
   end = (take_away ks h).heap
@@ -60,25 +45,10 @@ module _ (h : Heap) (ks : List ℕ) (s : IsSound [] h) (there : (k : ℕ) → Am
   emptied-none n x y e m = grind (arith, contents-empty_none, native_edges-are)
 
   module _ (out : (k : ℕ) → Among k ks → ¬ (ReachedIn (view h) (native k))) where
-    -- what a reached native holds it goes on holding
-    native-kept : (n : HeapNative) (x y : Name) → Among n h.natives → Among (x, y) (native_edges n) → ReachedIn (view h) x → Among x (names_there end) →
-        Among (x, y) (view end).edges
-    native-kept n x y m e r left = edge-stays h end s.well_formed end-sound.well_formed n x y m e left
-        (λ k left same. others-kept h ks s there k left (λ i. out n.number (subst (λ j. Among j ks) same i) (subst (ReachedIn (view h)) (sym (native_edges-are n x y e).0) r)))
-
     -- Taking away what is unreached keeps what is reached.
     pub take_away-keeps : KeepsReached h (take_away ks h).heap
-    take_away-keeps = record {
-      registers = λ x m. subst (λ xs. Among x xs)
-          (ap (λ xs. contents xs ++ contents h.script_registers) (sym taken-beside.native_registers)
-          ∙ ap (λ xs. contents end.native_registers ++ contents xs) (sym taken-beside.script_registers)) m;
-      edges = λ x y r left e. ⊎_elim
-          (λ l. let f = Among-flat_map_cases native_edges h.natives (x, y) l in native-kept f.0 x y f.1 f.2 r left)
-          (λ l. Among-right (x, y) (flat_map native_edges end.natives) (flat_map script_edges end.scripts)
-          (subst (λ os. Among (x, y) (flat_map script_edges os)) (sym taken-beside.scripts) l))
-          (Among-append (x, y) (flat_map native_edges h.natives) (flat_map script_edges h.scripts) e);
-      entries = λ e m a b. subst (λ es. Among e es) (sym taken-beside.entries) m;
-    }
+    take_away-keeps = left-keeps h end s.well_formed end-sound.well_formed (take_away-leaves h ks s there).beside
+        (λ n m r. others-kept h ks s there n m (λ i. out n.number i r))
 
     -- Where all unreached natives are taken away, each native that holds something is reached.
     pub take_away-tidy : ((n : HeapNative) → Among n h.natives → ¬ (ReachedIn (view h) (native n.number)) → Among n.number ks) →

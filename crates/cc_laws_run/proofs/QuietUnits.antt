@@ -80,8 +80,7 @@ abandoned-going h (Some s) g = record {
 
 -- a node traversed keeps the candidates
 after_node-candidates : (h : Heap) (s : Snapshot) (x : Name) (o : Option (List Name)) → (after_node h s x o).candidates ≡ s.candidates
-after_node-candidates h s x None = refl
-after_node-candidates h s x (Some ys) = refl
+after_node-candidates h s x o = grind arith
 
 -- the unit of a node, or the end
 node_or_end-going : (h : Heap) (s : Snapshot) → IsGoing h (Some s) went_on → (o : Option Name) → first_untraversed s.nodes ≡ o → GoesOn (node_or_end h s o)

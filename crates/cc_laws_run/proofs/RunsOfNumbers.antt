@@ -60,8 +60,7 @@ ends_with_one-append (e ∷ f ∷ es) n =
 
 -- events without an abandonment begin with at most one
 pub begins-none : (es : List Event) → has_none es ≡ true → begins_with_at_most_one es ≡ true
-begins-none [] n = refl
-begins-none (e ∷ es) n = (and_parts (not (is_abandonment e)) (has_none es) n).1
+begins-none es n = grind arith
 
 -- free lines unlink nothing
 pub unlinked-freed : (xs : List Name) → unlinked_numbers (map Freed xs) ≡ []

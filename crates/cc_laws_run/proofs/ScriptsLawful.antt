@@ -60,9 +60,7 @@ pub record GcIsLawful (g : Graph) (names : List Name) (d : UnitsDone) : Type 0 w
 
 -- after units, free lines leave an abandonment first
 begins-units : (p : Progress) (es fs : List Event) → TellsOnly p es → has_none fs ≡ true → begins_with_at_most_one (es ++ fs) ≡ true
-begins-units went_on es fs o n = subst (λ l. begins_with_at_most_one (l ++ fs) ≡ true) (sym o) (begins-none fs n)
-begins-units at_end es fs o n = begins-none (es ++ fs) (has_none-append es fs o.0 n)
-begins-units refused es fs o n = subst (λ l. begins_with_at_most_one (l ++ fs) ≡ true) (sym o) n
+begins-units p es fs o n = grind (arith, begins-none, has_none-append)
 
 module _ (g : Graph) (well : IsWellMade g) where
   -- A SCRIPT COLLECTION

@@ -23,8 +23,7 @@ use Rattle.cc_laws_run.proofs.TouchedSteps.{Leaves, leaves-on, leaves-still}
 
 -- a name in which a native's number stands is that native
 native-in : (y : Name) (i : ℕ) → Among i (natives_in y) → y ≡ native i
-native-in (name.Native k) i m = ⊎_elim (λ e. ap native e) (λ t. absurd t) m
-native-in _ i m = absurd m
+native-in y i m = grind arith
 
 module _ (ds : List Name) (g : Heap) where
   -- a native that is no member marked in the buffer

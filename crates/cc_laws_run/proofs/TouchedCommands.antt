@@ -55,8 +55,7 @@ blank-edge z kind n x y m = ⊎_elim (λ c. absurd (contents-empty_none n y c)) 
 
 -- a reflector preserved leaves entries
 entries-preserve : (h : Heap) (x : Option Name) → (preserve h x).entries ≡ h.entries
-entries-preserve h (Some (name.Native k)) = refl
-entries-preserve h _ = refl
+entries-preserve h x = grind arith
 
 -- what an exposure of what is no member makes black is none, where only such names hold them
 exposed-untouched : (ds : List Name) (h : Heap) (x : Name) → ((y z : Name) → Among (y, z) (view h).edges → Among z ds → Among y ds) → ¬ (Among x ds) →

@@ -1,6 +1,6 @@
 -- WHAT COMMANDS READ IS HELD BY REGISTERS: what these hold, what slots of that hold, values of such maps and keys, natives and
 -- reflectors behind it. So it is none of names that no register has and that only such names hold.
-use Rattle.std.proofs.Common.{◌≡◌, ℕ, Bool, true, false, List, [], ◌∷◌, map, Option, Some, None, refl, sym, subst, inl, inr, ◌⊎◌, ⊎_elim, option_map, slice_index_or}
+use Rattle.std.proofs.Common.{arith, ◌≡◌, ℕ, Bool, true, false, List, [], ◌∷◌, map, Option, Some, None, refl, sym, subst, inl, inr, ◌⊎◌, ⊎_elim, option_map, slice_index_or}
 use Rattle.std.specs.Option.{option_to_list, option_and_then}
 use Rattle.std.proofs.lemmas.Bool.{and_parts}
 use Rattle.cc_lists.specs.Members.{Among}
@@ -51,15 +51,11 @@ pub record IsApart (ds : List Name) (h : Heap) : Type 0 where
 module _ (ds : List Name) (h : Heap) (d : IsApart ds h) where
   -- what a register holds is no member
   pub register-untouched : (r : Reg) → IsUntouched ds (register h r)
-  register-untouched (N r) y m i = d.unregistered y i
-      (Among-left y (contents h.native_registers) (contents h.script_registers) (contents-at h.native_registers r y m))
-  register-untouched (S r) y m i = d.unregistered y i
-      (Among-right y (contents h.native_registers) (contents h.script_registers) (contents-at h.script_registers r y m))
+  register-untouched r y m i = grind (arith, Among-left, contents-at, Among-right)
 
   -- nor is a source, where it is none or a register
   pub source-untouched : (r : Option Reg) → IsUntouched ds (source h r)
-  source-untouched None y m i = m
-  source-untouched (Some r) y m i = register-untouched r y m i
+  source-untouched r y m i = grind (arith, register-untouched)
 
   -- or none or a script register
   pub script_source-untouched : (r : Option ℕ) → IsUntouched ds (source h (option_map S r))

@@ -94,8 +94,7 @@ take_away-none ks h = unroot_each-none ks (unlink_each ks (silently (root_each k
 
 -- a reflector that goes tells none
 let_native_go-none : (h : Heap) (x : Name) → TellsNone (let_native_go h x).events
-let_native_go-none h (name.Reflector k) = cascade-none h k.0
-let_native_go-none h _ = refl
+let_native_go-none h x = grind (arith, cascade-none)
 
 -- nor do objects swept
 sweep_each-none : (xs : List Name) (o : Outcome) → TellsNone o.events → TellsNone (sweep_each xs o).events
@@ -136,10 +135,4 @@ make_native-none h d n = let_go-none (set_register (with_native h n) (N d) (Some
 -- A command tells none.
 pub effects-none : (h : Heap) (c : Command) → TellsNone (effects h c).events
 unfolding effects
-effects-none h (Native d n) = make_native-none h d n
-effects-none h (CopyNative d s) = hold_native-none h d (register h (N s))
-effects-none h (Drop (N d)) = let_go-none (set_register h (N d) None) (register h (N d))
-effects-none h (Set d i r) = store_native-none h d i (source h r)
-effects-none h (Get (N d) s i) = hold_native-none h d (slot_at (objects_of h) (N s) i)
-effects-none h (Unwrap d s) = hold_native-none h d (native_of (register h (S s)))
-effects-none h _ = refl
+effects-none h c = grind (arith, make_native-none, hold_native-none, let_go-none, store_native-none)

@@ -44,14 +44,11 @@ pub record IsLawfulRow (g : Graph) (names : List Name) (c : Command) (most : ℕ
 
 -- units tell at most one rising run
 only-few : (p : Progress) (es : List Event) → TellsOnly p es → runs (unlinked_numbers es) ≤ 1
-only-few at_end es o = o.1
-only-few _ es o = subst (λ l. runs (unlinked_numbers l) ≤ 1) (sym o) (omega arith)
+only-few p es o = grind arith
 
 -- an abandonment stands last, after events without one
 only-placed : (p : Progress) (before later : List Event) → has_none before ≡ true → TellsOnly p later → IsPlaced p (before ++ later)
-only-placed went_on before later n o = subst (λ l. has_none (before ++ l) ≡ true) (sym o) (has_none-append before [] n refl)
-only-placed at_end before later n o = has_none-append before later n o.0
-only-placed refused before later n o = subst (λ l. ends_with_one (before ++ l) ≡ true) (sym o) (ends_with_one-append before n)
+only-placed p before later n o = grind (arith, has_none-append, ends_with_one-append)
 
 -- units after events without an abandonment add at most one rising run
 pub row-lawful : (g : Graph) (names : List Name) (c : Command) (most : ℕ) (before : List Event) (d : UnitsDone) → UnitsAreLawful g names c before d →

@@ -61,9 +61,7 @@ behind-all (n ∷ ns) e = go (behind-all ns) (is_untraversed n.state) refl e
 -- the unit of a node
 behind-node : (h : Heap) (s : Snapshot) (x : Name) (o : Option (List Name)) → first_untraversed s.nodes ≡ Some x →
     nodes_behind (after_node h s x o).nodes ≡ suc (nodes_behind s.nodes)
-behind-node h s x None e = behind-with_state gone refl s.nodes x e
-behind-node h s x (Some ys) e =
-    behind-with_nodes (with_state (traversed (sample h x)) s.nodes) ys ∙ behind-with_state (traversed (sample h x)) refl s.nodes x e
+behind-node h s x o e = grind (arith, behind-with_state, behind-with_nodes)
 
 -- what a unit that was granted came to
 abbrev pub CountsOn : Option Snapshot → UnitDone → Type 0
@@ -73,12 +71,10 @@ abbrev pub CountsAtEnd : Option Snapshot → UnitDone → Type 0
 CountsAtEnd s u = u.progress ≡ at_end → (t : Snapshot) × (s ≡ Some t) × (suc (units_taken s) ≡ length t.nodes + 2)
 
 node_or_end-counts : (h : Heap) (s : Snapshot) (o : Option Name) → first_untraversed s.nodes ≡ o → CountsOn (Some s) (node_or_end h s o) × CountsAtEnd (Some s) (node_or_end h s o)
-node_or_end-counts h s None e = (λ p. absurd (cc), λ p. (s, refl, omega (arith, behind-all s.nodes e)))
-node_or_end-counts h s (Some x) e = (λ p. ap suc (behind-node h s x (to_note h x) e), λ p. absurd (cc))
+node_or_end-counts h s o e = grind (arith, behind-all, behind-node)
 
 granted-counts : (h : Heap) (s : Option Snapshot) → CountsOn s (granted h s) × CountsAtEnd s (granted h s)
-granted-counts h None = (λ p. ap suc (behind-new (first_names h)), λ p. absurd (cc))
-granted-counts h (Some s) = node_or_end-counts h s (first_untraversed s.nodes) refl
+granted-counts h s = grind (arith, behind-new, node_or_end-counts)
 
 -- EACH UNIT
 pub unit-counts : (h : Heap) (s : Option Snapshot) (memory : Bool) → CountsOn s (unit h s memory) × CountsAtEnd s (unit h s memory)

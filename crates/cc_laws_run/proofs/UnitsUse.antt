@@ -64,21 +64,11 @@ uses-then f g d r s u v = record {
 
 -- a unit that has its memory is not refused
 pub granted-refusals : (h : Heap) (s : Option Snapshot) → refusals (granted h s).progress ≡ 0
-granted-refusals h None = refl
-granted-refusals h (Some s) = go (first_untraversed s.nodes)
-  where
-    go : (x : Option Name) → refusals (node_or_end h s x).progress ≡ 0
-    go None = refl
-    go (Some x) = refl
+granted-refusals h s = grind arith
 
 -- and tells no abandonment
 granted-none : (h : Heap) (s : Option Snapshot) → TellsNone (granted h s).events
-granted-none h None = refl
-granted-none h (Some s) = go (first_untraversed s.nodes)
-  where
-    go : (x : Option Name) → TellsNone (node_or_end h s x).events
-    go None = take_away-none (white_natives h s) h
-    go (Some x) = refl
+granted-none h s = grind (arith, take_away-none)
 
 -- a unit by whether it is refused
 abbrev unit_by : Heap → Option Snapshot → Bool → UnitDone
@@ -86,13 +76,11 @@ unit_by h s b = elim b [ true ↦ abandoned h s | false ↦ granted h s ]
 
 -- a unit tells an abandonment where it is refused
 unit_by-told : (h : Heap) (s : Option Snapshot) (b : Bool) → abandonments (unit_by h s b).events ≡ refusals (unit_by h s b).progress
-unit_by-told h s true = refl
-unit_by-told h s false = granted-none h s ∙ sym (granted-refusals h s)
+unit_by-told h s b = grind (arith, granted-none, granted-refusals)
 
 -- and is refused where memory says no
 unit_by-refusals : (h : Heap) (s : Option Snapshot) (answer : Bool) → noes (answer ∷ []) ≡ refusals (unit_by h s (not answer)).progress
-unit_by-refusals h s true = sym (granted-refusals h s)
-unit_by-refusals h s false = refl
+unit_by-refusals h s answer = grind (arith, granted-refusals)
 
 -- A unit uses one answer of memory where it may be refused, and none elsewhere.
 unit-use : (m : Machine) (es : List Event) →

@@ -10,6 +10,7 @@ use Rattle.cc_model.specs.View.{view, buffered}
 use Rattle.cc_lists.proofs.Numbers.{at-each}
 use Rattle.cc_laws_snapshot.proofs.Marked.{purple-name, purple-place, with_mark-place, with_mark-stays}
 use Rattle.cc_laws_heap.proofs.Making.{with_mark-cases}
+use Rattle.cc_laws_snapshot.proofs.GivingBack.{name-was, purple-stays}
 
 -- native i is purple in the buffer
 abbrev pub IsPurple : Heap → ℕ → Type 0
@@ -35,13 +36,7 @@ suspect-purple h k = purple-from (suspect h k) (record { number = k; purple = tr
 
 -- who is purple stays so where another is marked
 pub marked-keeps_purple : (h : Heap) (m : Bool) (k i : ℕ) → ¬ (i ≡ k) → IsPurple h i → IsPurple (record h { buffer = with_mark m k h.buffer }) i
-marked-keeps_purple h m k i d p =
-    let f = purple-place h.buffer (native i) p in
-    let number : f.0.number ≡ i = ap number_of f.3 in
-    ⊎_elim
-    (λ e. absurd (d (sym number ∙ e)))
-    (λ t. subst (IsPurple (record h { buffer = with_mark m k h.buffer })) number (purple-from (record h { buffer = with_mark m k h.buffer }) f.0 t f.2))
-    (with_mark-stays m k h.buffer f.0 f.1)
+marked-keeps_purple h m k i d p = ⊎_elim (λ e. absurd (d (ap number_of e))) (λ t. t) (purple-stays m k h.buffer (native i) p)
 
 -- who is purple stays so
 pub suspect-keeps_purple : (h : Heap) (k i : ℕ) → IsPurple h i → IsPurple (suspect h k) i
@@ -52,12 +47,7 @@ suspect-keeps_purple h k = at-each (λ i. IsPurple h i → IsPurple (suspect h k
 -- who stands in the buffer after a mark was set was there, or was marked
 pub marked-buffer : (h : Heap) (m : Bool) (k : ℕ) (x : Name) → Among x (view (record h { buffer = with_mark m k h.buffer })).buffer →
     (native k ≡ x) ⊎ Among x (view h).buffer
-marked-buffer h m k x i =
-    let f = buffer-place (record h { buffer = with_mark m k h.buffer }) x i in
-    ⊎_elim
-    (λ e. inl (ap native (sym e) ∙ f.2))
-    (λ t. inr (buffer-from h f.0 x t f.2))
-    (with_mark-cases m k h.buffer f.0 f.1)
+marked-buffer h m k x i = ⊎_elim (λ e. inl (sym e)) (λ t. inr t) (name-was m k h.buffer x i)
 
 -- Forgotten
 

@@ -120,24 +120,28 @@ module _ (h k : Heap) (w : IsWellFormed k) (t : KeepsReached h k) where
 
 -- Natives that leave
 
--- natives that are left are as they were, but for their counts; nothing else changes but the buffer
-module _ (h k : Heap) (w : IsWellFormed h) (v : IsWellFormed k) (b : SameBeside h k) (of : (n : HeapNative) → Among n k.natives → IsOf h n) where
-  -- what a native that is left holds it held
-  native-left : (n : HeapNative) (x y : Name) → Among n h.natives → Among (x, y) (native_edges n) → Among x (names_there k) → Among (x, y) (view k).edges
-  native-left n x y m e there =
-      let start : native n.number ≡ x = (native_edges-are n x y e).0 in
-      let found = named-member k n.number (native-there k n.number v (subst (λ z. Among z (names_there k)) (sym start) there)) in
-      let p = of found.0 found.1 in
-      let same : p.0 ≡ n = one-native h p.0 n w p.1 m (ap (λ (u : Uncounted). u.number) p.2 ∙ found.2) in
-      let edges : native_edges n ≡ native_edges found.0 = native_edges-alike n found.0 (ap uncounted (sym same) ∙ p.2) in
-      native-edge k found.0 x y found.1 (subst (λ es. Among (x, y) es) edges e)
+-- what a native held it goes on holding in heaps in which natives of its number are as it was
+pub edge-stays : (h k : Heap) → IsWellFormed h → IsWellFormed k → (n : HeapNative) (x y : Name) → Among n h.natives → Among (x, y) (native_edges n) →
+    Among x (names_there k) → ((o : HeapNative) → Among o k.natives → o.number ≡ n.number → IsOf h o) → Among (x, y) (view k).edges
+edge-stays h k w v n x y m e left of =
+    let start : native n.number ≡ x = (native_edges-are n x y e).0 in
+    let o = named-member k n.number (native-there k n.number v (subst (λ z. Among z (names_there k)) (sym start) left)) in
+    let p = of o.0 o.1 o.2 in
+    let same : p.0 ≡ n = one-native h p.0 n w p.1 m (ap (λ (u : Uncounted). u.number) p.2 ∙ o.2) in
+    let edges : native_edges n ≡ native_edges o.0 = native_edges-alike n o.0 (ap uncounted (sym same) ∙ p.2) in
+    native-edge k o.0 x y o.1 (subst (λ es. Among (x, y) es) edges e)
 
+-- natives that are left are as they were where they were reached, but for their counts; nothing else changes but the buffer
+module _ (h k : Heap) (w : IsWellFormed h) (v : IsWellFormed k) (b : SameBeside h k)
+    (of : (n : HeapNative) → Among n k.natives → ReachedIn (view h) (native n.number) → IsOf h n) where
   -- WHAT IS REACHED IS KEPT.
-  left-keeps : KeepsReached h k
+  pub left-keeps : KeepsReached h k
   left-keeps = record {
     registers = λ x m. subst (λ rs. Among x rs) (sym registers) m;
     edges = λ x y r there e. ⊎_elim
-        (λ l. let f = Among-flat_map_cases native_edges h.natives (x, y) l in native-left f.0 x y f.1 f.2 there)
+        (λ l. let f = Among-flat_map_cases native_edges h.natives (x, y) l in
+        edge-stays h k w v f.0 x y f.1 f.2 there
+        (λ o i same. of o i (subst (ReachedIn (view h)) (sym (ap native same ∙ (native_edges-are f.0 x y f.2).0)) r)))
         (λ l. Among-right (x, y) (flat_map native_edges k.natives) (flat_map script_edges k.scripts)
         (subst (λ os. Among (x, y) (flat_map script_edges os)) (sym b.scripts) l))
         (Among-append (x, y) (flat_map native_edges h.natives) (flat_map script_edges h.scripts) e);
@@ -152,7 +156,7 @@ pub cascade-reached : (owned : List ℕ) (h : Heap) (k : ℕ) → IsSound (k ∷
 cascade-reached owned h k s =
     let f = cascade-frees owned h k s in
     let later = (cascade-sound owned h k s).well_formed in
-    reached-kept h (cascade h k).heap later (left-keeps h (cascade h k).heap s.well_formed later f.1.beside (IsOf-frees h f.0 (cascade h k) f.1))
+    reached-kept h (cascade h k).heap later (left-keeps h (cascade h k).heap s.well_formed later f.1.beside (λ n m r. IsOf-frees h f.0 (cascade h k) f.1 n m))
 
 -- Slots written
 
