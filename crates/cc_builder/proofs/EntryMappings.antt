@@ -7,7 +7,8 @@ use Rattle.std.proofs.lemmas.List.Folds.{flat_map-map}
 use Rattle.std.proofs.lemmas.List.{drop_all, get_or-take, length-map, map_push, take-append-drop}
 use Rattle.std.proofs.lemmas.Option.{slice_get-get_or}
 use denote.Enum.Bare.{sameb}
-use Rattle.cc_lists.specs.Members.{with_last, with_all_last}
+use Rattle.cc_lists.specs.Members.{Among, with_last, with_all_last}
+use Rattle.cc_lists.proofs.Members.{has-there}
 use Rattle.cc_lists.proofs.Places.{place-among}
 use Rattle.cc_names.specs.contracts.kind.Colour.{the_type}
 use Rattle.cc_names.specs.declared.kind.Colour.{Colour}
@@ -15,6 +16,7 @@ use Rattle.cc_names.specs.declared.kind.Colour.TheVariants.{Gray}
 use Rattle.cc_names.specs.declared.name.Name.{Name}
 use Rattle.cc_names.specs.declared.number.SKey.{SKey}
 use Rattle.cc_names.specs.Names.{native, same_name}
+use Rattle.cc_names.proofs.NameTests.{same_name-exact}
 use Rattle.cc_model.specs.Entries.{Entry}
 use Rattle.cc_model.specs.Heap.{Heap, is_gray_in}
 use Rattle.cc_model.specs.Snapshot.{Mapping}
@@ -31,7 +33,7 @@ use Rattle.cc_marking.specs.Marking.{IsEntryThere}
 use Rattle.cc_heaps.specs.Keyed.{Keyed, IsInOrder, named_entry, the_name_at}
 use Rattle.cc_heaps.specs.Changes.{IsScriptThere}
 use Rattle.cc_builder.specs.Building.{Built, mapping_of, vertex_name, vertex_names}
-use Rattle.cc_builder.specs.BuildSteps.{mappings_at, mappings_in, the_name, with_vertex_of}
+use Rattle.cc_builder.specs.BuildSteps.{IsMapNode, mappings_at, mappings_in, the_name, with_vertex_of}
 use Rattle.cc_builder.proofs.Begun.{with_all_last-append, with_all_last-first, with_all_last-longer}
 use Rattle.cc_builder.proofs.BuildNodes.{mapping-same, mappings-alike, member-alike, names-with_vertex, number_of-at}
 use Rattle.cc_builder.proofs.BuildPlaces.{left-some, right-some}
@@ -96,6 +98,29 @@ IsMember-some h vs ws x i gray is =
       within = at.0;
     }
 
+-- a map whose node is known is a node already, where it is gray
+last-there : (xs : List Name) (y : Name) → Among y xs → with_last same_name xs y ≡ xs
+last-there xs y among = ap (λ b. elim b [ true ↦ xs | false ↦ xs ++ y ∷ [] ]) (has-there same_name same_name-exact xs y among)
+
+known-among : (vs : List Vertex) (k : ℕ) → k < length vs → Among (vertex_name vs k) (vertex_names vs)
+known-among vs k l =
+    let xs = vertex_names vs in
+    let inside : k < length xs = subst (λ n. k < n) (sym (length-map vs (λ (v : Vertex). v.name))) l in
+    place-among (vertex_name vs k) xs k (slice_get-get_or xs k (native 0) inside)
+
+known-names : (h : Heap) (vs : List Vertex) (x : Name) (i : Option ℕ) → option_map (vertex_name vs) i ≡ if_gray h x → IfSome i (λ k. k < length vs) →
+    vertex_names vs ≡ with_all_last same_name (vertex_names vs) (option_to_list (if_gray h x))
+known-names h vs x None number within = ap (λ o. with_all_last same_name (vertex_names vs) (option_to_list o)) number
+known-names h vs x (Some k) number within =
+    sym (last-there (vertex_names vs) (vertex_name vs k) (known-among vs k within)) ∙ ap (λ o. with_all_last same_name (vertex_names vs) (option_to_list o)) number
+
+pub known-member : (v : Keyed) (vs : List Vertex) (key : ℕ) (i : Option ℕ) → IsMapNode v vs key i → IsMember v.heap vs vs (the_name_at v.scripts key) i
+known-member v vs key i known = record {
+  names = known-names v.heap vs (the_name_at v.scripts key) i known.number known.within;
+  number = known.number;
+  within = known.within;
+}
+
 module _ (h : Heap) (e : Entry) (vs ws us zs : List Vertex) (i j : Option ℕ) (k : ℕ) (m : IsMember h vs ws e.the_map i) (l : IsMember h ws us e.key j) (n : IsValue us zs e.value k) where
   at : (k < length zs) × (vertex_name zs k ≡ e.value)
   at = number_of-at zs e.value k n.number
@@ -151,6 +176,13 @@ module _ (h : Heap) (e : Entry) (vs ws us zs : List Vertex) (i j : Option ℕ) (
     key = member-within (length us) j l.within longer-last;
     value = at.0;
   }
+
+  -- the node of the map is known from now on
+  pub map-number : option_map (vertex_name zs) i ≡ if_gray h e.the_map
+  map-number = member-alike (vertex_name zs) (vertex_name ws) (length ws) i m.within kept ∙ m.number
+
+  pub map-within : IfSome i (λ q. q < length zs)
+  map-within = member-within (length ws) i m.within longer
 
 -- The entries one after the other
 

@@ -1,21 +1,21 @@
 -- The steps by which a snapshot is built.
-use Rattle.std.specs.Prelude.{ℕ, ◌+◌, ◌-◌, true, false, List, [], ◌∷◌, ◌++◌, map, filter, flat_map, Option, Some, None, option_to_list, slice_get, slice_index_or}
+use Rattle.std.specs.Prelude.{◌≡◌, ℕ, ◌+◌, ◌-◌, ◌<◌, length, IfSome, option_map, true, false, List, [], ◌∷◌, ◌++◌, map, filter, flat_map, Option, Some, None, option_to_list, slice_get, slice_index_or}
 use Rattle.cc_names.specs.declared.name.Name.{Name}
 use Rattle.cc_names.specs.Names.{native}
 use Rattle.cc_model.specs.Slots.{from_to}
 use Rattle.cc_model.specs.Entries.{Entry}
 use Rattle.cc_model.specs.Heap.{Heap, is_gray_in}
 use Rattle.cc_model.specs.Snapshot.{Mapping, Snapshot}
-use Rattle.cc_model.specs.Units.{with_nodes, is_noted, mapping_of}
+use Rattle.cc_model.specs.Units.{with_nodes, if_gray, is_noted, mapping_of}
 use Rattle.cc_counted.specs.declared.held.Held.{Held}
 use Rattle.cc_counted.specs.declared.held.Held.TheVariants as held
 use Rattle.cc_counted.specs.Counts as counts
 use Rattle.cc_graph.specs.Shown.{Vertex, Hyperedge, Rooms, with_vertex, with_sample, change_vertex}
-use Rattle.cc_heaps.specs.Keyed.{Keyed, counts_of, named_entry}
+use Rattle.cc_heaps.specs.Keyed.{Keyed, counts_of, named_entry, the_name_at}
 use Rattle.cc_heaps.specs.Changes.{held_name}
 use Rattle.cc_heaps.specs.Places.{places_at}
 use Rattle.cc_counted.specs.Suspects.{is_purple_in}
-use Rattle.cc_builder.specs.Building.{Built}
+use Rattle.cc_builder.specs.Building.{Built, vertex_name}
 
 -- the name of an object that is there
 abbrev pub the_name : Keyed → Held → Name
@@ -80,3 +80,8 @@ mappings_in h e = elim (is_gray_in h e.value) [ true ↦ mapping_of h e ∷ [] |
 -- those of the entry at a place
 abbrev pub mappings_at : Keyed → ℕ → List Mapping
 mappings_at v i = elim (slice_get v.entries i) [ None ↦ [] | Some e ↦ mappings_in v.heap (named_entry v.scripts e) ]
+
+-- the number of the node of a map by its key: none where the map is not gray
+pub record IsMapNode (v : Keyed) (vs : List Vertex) (key : ℕ) (node : Option ℕ) : Type 0 where
+  pub number : option_map (vertex_name vs) node ≡ if_gray v.heap (the_name_at v.scripts key)
+  pub within : IfSome node (λ i. i < length vs)

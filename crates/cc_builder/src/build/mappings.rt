@@ -10,12 +10,19 @@ ghost use Rattle.cc_heaps.specs.Keyed.{IsInOrder, named_entry, the_name_at};
 ghost use Rattle.cc_weakmaps.specs.Entries.{entry};
 ghost use Rattle.cc_heaps.specs.HasKey.{HasKey};
 ghost use Rattle.cc_builder.specs.Building.{IsBuilt, mapping_of, vertex_name, vertex_names};
-ghost use Rattle.cc_builder.specs.BuildSteps.{mappings_at};
+ghost use Rattle.cc_builder.specs.BuildSteps.{IsMapNode, mappings_at};
 
 use crate::build::Build;
 use cc_counted::Held;
 use cc_heaps::Heaps;
 use cc_names::{Colour, NoMemory, SKey};
+
+/// The map of an entry, and the number of its node; none where it is not gray.
+#[derive(Clone, Copy, Drop)]
+struct MapNode {
+    the_map: SKey,
+    node: Option<u32>,
+}
 
 impl Build {
     /// Each entry of a weak map whose value is gray is noted as a mapping, in the order in which entries were first set.
@@ -38,20 +45,29 @@ impl Build {
         ensures built { IsBuilt self.new heaps.now }
         ensures held { AreHeld self.new.graph (HasKey heaps.now) }
     {
+        let mut last = None;
         for i in 0..heaps.weak().len() {
-            self.add_mapping(i, heaps)?;
+            last = self.add_mapping(i, last, heaps)?;
         }
         Ok(())
     }
 
-    /// The entry at place `i`, counted from 0, is noted where its value is gray.
+    /// The entry at place `i`, counted from 0, is noted where its value is gray. The map of the last one that was noted, with
+    /// its node; `last` is that of the one before, whose node is not looked up again.
     ///
     /// `NoMemory` only where it is.
-    fn add_mapping(&mut self, i: usize, heaps: &Heaps) -> Result<(), NoMemory>
+    fn add_mapping(
+        &mut self,
+        i: usize,
+        last: Option<MapNode>,
+        heaps: &Heaps,
+    ) -> Result<Option<MapNode>, NoMemory>
         requires built { IsBuilt self.old heaps.now }
         requires held { AreHeld self.old.graph (HasKey heaps.now) }
         requires order { IsInOrder [] heaps.now }
         requires within { i < length heaps.now.entries }
+        requires last { IfSome last (λ m. IsMapNode heaps.now self.old.graph.nodes m.the_map.0 m.node) }
+        ensures last { IfOk result (λ l. IfSome l (λ m. IsMapNode heaps.now self.new.graph.nodes m.the_map.0 m.node)) }
         ensures names { OnOk result (vertex_names self.new.graph.nodes
             ≡ with_all_last same_name (vertex_names self.old.graph.nodes) (flat_map members_of (mappings_at heaps.now i))) }
         ensures mappings { OnOk result (map (mapping_of self.new.graph.nodes) self.new.graph.hyperedges
@@ -66,13 +82,14 @@ impl Build {
     {
         let (the_map, key, value) = heaps.weak().entry(i);
         if heaps.scripts().colour(value) == Colour::Gray {
-            self.note_entry(the_map, key, value, heaps)?;
+            let node = self.note_entry(the_map, key, value, last, heaps)?;
+            return Ok(Some(MapNode { the_map, node }));
         }
-        Ok(())
+        Ok(last)
     }
 
     /// An entry is noted as a mapping: its map and its key, each where it is gray, and its value become nodes, last, where
-    /// they are none.
+    /// they are none. The number of the map's node.
     ///
     /// `NoMemory` may leave some of them as nodes.
     fn note_entry(
@@ -80,14 +97,17 @@ impl Build {
         the_map: SKey,
         key: SKey,
         value: SKey,
+        last: Option<MapNode>,
         heaps: &Heaps,
-    ) -> Result<(), NoMemory>
+    ) -> Result<Option<u32>, NoMemory>
         requires built { IsBuilt self.old heaps.now }
         requires held { AreHeld self.old.graph (HasKey heaps.now) }
         requires order { IsInOrder [] heaps.now }
         requires the_map { IsTrue (is_there heaps.now.scripts the_map.0) }
         requires key { IsTrue (is_there heaps.now.scripts key.0) }
         requires value { IsTrue (is_there heaps.now.scripts value.0) }
+        requires last { IfSome last (λ m. IsMapNode heaps.now self.old.graph.nodes m.the_map.0 m.node) }
+        ensures node { IfOk result (λ i. IsMapNode heaps.now self.new.graph.nodes the_map.0 i) }
         ensures names { OnOk result (vertex_names self.new.graph.nodes
             ≡ with_all_last same_name (vertex_names self.old.graph.nodes) (members_of (units.mapping_of heaps.now.heap (named_entry heaps.now.scripts (entry the_map.0 key.0 value.0))))) }
         ensures mappings { OnOk result (map (mapping_of self.new.graph.nodes) self.new.graph.hyperedges
@@ -99,11 +119,42 @@ impl Build {
         ensures built { IsBuilt self.new heaps.now }
         ensures held { AreHeld self.new.graph (HasKey heaps.now) }
     {
-        let the_map = self.add_gray(the_map, heaps)?;
+        let the_map = self.map_node(the_map, last, heaps)?;
         let key = self.add_gray(key, heaps)?;
         let value = self.add_object(Held::Script(value), heaps)?;
         self.graph.note_mapping(the_map, key, value)?;
-        Ok(())
+        Ok(the_map)
+    }
+
+    /// The map of an entry becomes a node, as `add_gray` makes it one. Where it is the map of the entry before, its node is
+    /// known.
+    fn map_node(
+        &mut self,
+        the_map: SKey,
+        last: Option<MapNode>,
+        heaps: &Heaps,
+    ) -> Result<Option<u32>, NoMemory>
+        requires built { IsBuilt self.old heaps.now }
+        requires held { AreHeld self.old.graph (HasKey heaps.now) }
+        requires order { IsInOrder [] heaps.now }
+        requires there { IsTrue (is_there heaps.now.scripts the_map.0) }
+        requires last { IfSome last (λ m. IsMapNode heaps.now self.old.graph.nodes m.the_map.0 m.node) }
+        ensures names { OnOk result (vertex_names self.new.graph.nodes
+            ≡ with_all_last same_name (vertex_names self.old.graph.nodes) (option_to_list (if_gray heaps.now.heap (the_name_at heaps.now.scripts the_map.0)))) }
+        ensures number { IfOk result (λ i. option_map (vertex_name self.new.graph.nodes) i ≡ if_gray heaps.now.heap (the_name_at heaps.now.scripts the_map.0)) }
+        ensures within { IfOk result (λ i. IfSome i (λ k. k < length self.new.graph.nodes)) }
+        ensures edges { self.new.graph.edges ≡ self.old.graph.edges }
+        ensures hyperedges { self.new.graph.hyperedges ≡ self.old.graph.hyperedges }
+        ensures next { self.new.next ≡ self.old.next }
+        ensures candidates { self.new.candidates ≡ self.old.candidates }
+        ensures spare { self.new.graph.spare ≡ self.old.graph.spare }
+        ensures built { IsBuilt self.new heaps.now }
+        ensures held { AreHeld self.new.graph (HasKey heaps.now) }
+    {
+        match last {
+            Some(last) if last.the_map.0 == the_map.0 => Ok(last.node),
+            _ => self.add_gray(the_map, heaps),
+        }
     }
 
     /// A script object becomes a node, last, where it is gray and none. The number of its node; none where it is not gray.

@@ -27,27 +27,27 @@ note_entry-requires-clause-key c =
     (entry-there c.args.heaps.now c.weak.result.now c.args.i (entry c.entry.result.0.0 c.entry.result.1.0 c.entry.result.2.0) c.weak.ensures c.entry.ensures c.requires.order).key
 
 -- where the value is gray, the entry is noted
-one : (c : goal.In_ok-note_entry) → mappings_at c.args.heaps.now c.args.i ≡ units.mapping_of c.args.heaps.now.heap (named_entry c.args.heaps.now.scripts (entry c.entry.result.0.0 c.entry.result.1.0 c.entry.result.2.0)) ∷ []
+one : (c : goal.In_ok-node) → mappings_at c.args.heaps.now c.args.i ≡ units.mapping_of c.args.heaps.now.heap (named_entry c.args.heaps.now.scripts (entry c.entry.result.0.0 c.entry.result.1.0 c.entry.result.2.0)) ∷ []
 one c =
     noted-one c.args.heaps.now c.weak.result.now c.args.i (entry c.entry.result.0.0 c.entry.result.1.0 c.entry.result.2.0) c.weak.ensures c.entry.ensures
     c.requires.order c.scripts.result.now c.colour.result c.scripts.ensures c.colour.ensures (sym c.eq.ensures ∙ c.if-eq.true)
 
-pub returns-in_err-note_entry-clause-refused : goal.returns-in_err-note_entry-clause-refused
-returns-in_err-note_entry-clause-refused c =
+pub returns-in_err-node-clause-refused : goal.returns-in_err-node-clause-refused
+returns-in_err-node-clause-refused c =
     let noted = noted-one c.args.heaps.now c.weak.result.now c.args.i (entry c.entry.result.0.0 c.entry.result.1.0 c.entry.result.2.0) c.weak.ensures c.entry.ensures
     c.requires.order c.scripts.result.now c.colour.result c.scripts.ensures c.colour.ensures (sym c.eq.ensures ∙ c.if-eq.true) in
     on_err_of c.from_residual.result (λ none. cc)
 
-pub returns-in_ok-note_entry-clause-names : goal.returns-in_ok-note_entry-clause-names
-returns-in_ok-note_entry-clause-names c =
+pub returns-then-eq-clause-names : goal.returns-then-eq-clause-names
+returns-then-eq-clause-names c =
     let xs = vertex_names c.args.self.now.graph.nodes in
-    c.in_ok-note_entry.ensures.names
+    c.in_ok-node.ensures.names
     ∙ ap (with_all_last same_name xs) (sym (ap (flat_map members_of) (one c) ∙ append-nil _))
 
-pub returns-in_ok-note_entry-clause-mappings : goal.returns-in_ok-note_entry-clause-mappings
-returns-in_ok-note_entry-clause-mappings c =
+pub returns-then-eq-clause-mappings : goal.returns-then-eq-clause-mappings
+returns-then-eq-clause-mappings c =
     let ms = map (mapping_of c.args.self.now.graph.nodes) c.args.self.now.graph.hyperedges in
-    c.in_ok-note_entry.ensures.mappings ∙ ap (λ ns. ms ++ ns) (sym (one c))
+    c.in_ok-node.ensures.mappings ∙ ap (λ ns. ms ++ ns) (sym (one c))
 
 -- where it is not, nothing is
 none : (c : goal.Else-eq) → mappings_at c.args.heaps.now c.args.i ≡ []
@@ -55,10 +55,10 @@ none c =
     noted-none c.args.heaps.now c.weak.result.now c.args.i (entry c.entry.result.0.0 c.entry.result.1.0 c.entry.result.2.0) c.weak.ensures c.entry.ensures
     c.requires.order c.scripts.result.now c.colour.result c.scripts.ensures c.colour.ensures (sym c.eq.ensures ∙ c.if-eq.false)
 
-pub returns-else-eq-clause-names : goal.returns-else-eq-clause-names
-returns-else-eq-clause-names c = sym (ap (λ ms. with_all_last same_name (vertex_names c.args.self.now.graph.nodes) (flat_map members_of ms)) (none c))
+pub returns-clause-names : goal.returns-clause-names
+returns-clause-names c = sym (ap (λ ms. with_all_last same_name (vertex_names c.args.self.now.graph.nodes) (flat_map members_of ms)) (none c))
 
-pub returns-else-eq-clause-mappings : goal.returns-else-eq-clause-mappings
-returns-else-eq-clause-mappings c =
+pub returns-clause-mappings : goal.returns-clause-mappings
+returns-clause-mappings c =
     let ms = map (mapping_of c.args.self.now.graph.nodes) c.args.self.now.graph.hyperedges in
     sym (ap (λ ns. ms ++ ns) (none c) ∙ append-nil ms)

@@ -22,24 +22,25 @@ loop-i-init c =
       spare = refl;
       built = c.requires.built;
       held = c.requires.held;
+      last = tt;
     }
 
 -- the loop stands at an entry
-within : (c : goal.In_ok-add_mapping) → c.loop-i.i < length c.args.heaps.now.entries
+within : (c : goal.In_ok-last) → c.loop-i.i < length c.args.heaps.now.entries
 within c = subst (λ (es : List KeyedEntry). c.loop-i.i < length es) c.weak.ensures (omega (arith, c.loop-i-test.true, c.len-i-end.ensures.count))
 
-pub returns-in_err-add_mapping-clause-refused : goal.returns-in_err-add_mapping-clause-refused
-returns-in_err-add_mapping-clause-refused c =
+pub returns-in_err-last-clause-refused : goal.returns-in_err-last-clause-refused
+returns-in_err-last-clause-refused c =
     let v = c.args.heaps.now in
     let l : c.loop-i.i < length v.entries =
     subst (λ (es : List KeyedEntry). c.loop-i.i < length es) c.weak.ensures (omega (arith, c.loop-i-test.true, c.len-i-end.ensures.count)) in
-    on_err_of c.from_residual.result (mappings-some v c.loop-i.i c.requires.order l c.in_err-add_mapping.ensures.refused)
+    on_err_of c.from_residual.result (mappings-some v c.loop-i.i c.requires.order l c.in_err-last.ensures.refused)
 
 pub loop-i-preserved : goal.loop-i-preserved
 loop-i-preserved c =
     let v = c.args.heaps.now in
     let l = c.loop-i.invariant in
-    let e = c.in_ok-add_mapping.ensures in
+    let e = c.in_ok-last.ensures in
     let b = c.args.self.now in
     let old = c.loop-i.self in
     let new = c.add_mapping.new.self in
@@ -54,6 +55,7 @@ loop-i-preserved c =
       spare = e.spare ∙ l.spare;
       built = e.built;
       held = e.held;
+      last = e.last;
     }
 
 -- no entry is left

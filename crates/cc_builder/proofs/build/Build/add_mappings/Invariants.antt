@@ -1,10 +1,11 @@
-use Rattle.std.proofs.Common.{◌≡◌, ◌++◌, flat_map, map}
+use Rattle.std.proofs.Common.{◌≡◌, ◌++◌, IfSome, flat_map, map}
 use Rattle.cc_lists.specs.Members.{with_all_last}
 use Rattle.cc_names.specs.Names.{same_name}
 use Rattle.cc_model.specs.Units.{mappings_of, members_of}
 use Rattle.cc_graph.specs.Held.{AreHeld}
 use Rattle.cc_heaps.specs.HasKey.{HasKey}
 use Rattle.cc_builder.specs.Building.{IsBuilt, mapping_of, vertex_names}
+use Rattle.cc_builder.specs.BuildSteps.{IsMapNode}
 use Rattle.cc_builder.proofs.EntryMappings.{mappings_from}
 use Rattle.cc_builder.proofs.build.Build.add_mappings.Given as goal
 
@@ -20,4 +21,5 @@ invariant-loop-i l = record {
   spare : l.self.graph.spare ≡ l.fn.self.graph.spare;
   built : IsBuilt l.self l.heaps;
   held : AreHeld l.self.graph (HasKey l.heaps);
+  last : IfSome l.last (λ m. IsMapNode l.heaps l.self.graph.nodes m.the_map.0 m.node);
 }
