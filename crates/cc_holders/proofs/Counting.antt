@@ -1,9 +1,9 @@
 -- HOW MANY ELEMENTS OF A LIST PASS A TEST, where one of them is written.
-use Rattle.std.proofs.Common.{◌≡◌, ℕ, zero, suc, ◌+◌, ◌-◌, ◌<◌, ◌≤◌, Bool, true, false, cond, List, [], ◌∷◌, ◌++◌, length, get_or, set, count_by, refl, sym, ◌∙◌, ap, ⊎_elim, arith}
+use Rattle.std.proofs.Common.{◌≡◌, ℕ, zero, suc, ◌+◌, ◌-◌, ◌<◌, ◌≤◌, Bool, true, false, cond, nat_lt, List, [], ◌∷◌, ◌++◌, length, get_or, set, count_by, refl, sym, ◌∙◌, ap, ⊎_elim, arith}
 use Rattle.std.proofs.lemmas.Bool.{cases_lt}
 use Rattle.std.proofs.lemmas.List.Sums.{sum_by-append, sum_by-cons, sum_by-set}
 use Rattle.cc_holders.specs.declared.entry.Entry.{Entry}
-use Rattle.cc_holders.specs.declared.entry.Entry.TheVariants.{Unknown, Plain, Marked}
+use Rattle.cc_holders.specs.declared.entry.Entry.TheVariants.{Unknown, Known}
 use Rattle.cc_holders.specs.Entries.{AreUnknown, has_marked, is_known, is_marked, one_if}
 
 pub past : {X : Type 0} (xs : List X) (i : ℕ) (d : X) → length xs ≤ i → get_or xs i d ≡ d
@@ -38,8 +38,7 @@ counted-last p xs y fails = sum_by-append (λ x. cond (p x) 1 0) xs (y ∷ []) �
 
 is_known-false : (e : Entry) → is_known e ≡ false → e ≡ Unknown
 is_known-false Unknown h = refl
-is_known-false (Plain key) h = absurd (cc)
-is_known-false (Marked key) h = absurd (cc)
+is_known-false (Known count key) h = absurd (cc)
 
 pub are-unknown : (es : List Entry) → count_by is_known es ≡ 0 → AreUnknown es
 are-unknown es none i = is_known-false (get_or es i Unknown) (none-passes is_known es i Unknown refl none)
@@ -51,8 +50,11 @@ none-known (e ∷ es) unknown = sum_by-cons (λ x. cond (is_known x) 1 0) e es �
 -- what is marked is known
 one-marked : (e : Entry) → cond (is_marked e) 1 0 ≤ cond (is_known e) 1 0
 one-marked Unknown = omega arith
-one-marked (Plain key) = omega arith
-one-marked (Marked key) = omega arith
+one-marked (Known count key) = go (nat_lt 0 count)
+  where
+    go : (b : Bool) → cond b 1 0 ≤ 1
+    go true = omega arith
+    go false = omega arith
 
 pub marked-known : (es : List Entry) → count_by is_marked es ≤ count_by is_known es
 marked-known [] = omega arith

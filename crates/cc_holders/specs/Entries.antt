@@ -1,31 +1,26 @@
 -- WHAT IS KNOWN OF NUMBERS, in pages and in groups of pages.
 use Rattle.std.specs.Prelude.{◌≡◌, ℕ, ◌+◌, ◌<◌, ◌≤◌, ◌/◌, ◌%◌, ◌⊎◌, nat_lt, Bool, true, false, List, [], length, count_by, get_or, Option, Some, None, if◌then◌else◌}
 use Rattle.cc_holders.specs.declared.entry.Entry.{Entry}
-use Rattle.cc_holders.specs.declared.entry.Entry.TheVariants.{Unknown, Plain, Marked}
+use Rattle.cc_holders.specs.declared.entry.Entry.TheVariants.{Unknown, Known}
 
 abbrev pub is_known : Entry → Bool
 is_known Unknown = false
-is_known (Plain key) = true
-is_known (Marked key) = true
+is_known (Known count key) = true
 
+-- a number is marked as long as its count is above zero
 abbrev pub is_marked : Entry → Bool
 is_marked Unknown = false
-is_marked (Plain key) = false
-is_marked (Marked key) = true
+is_marked (Known count key) = nat_lt 0 count
 
 -- the key of a number that is marked
 abbrev pub key_of : Entry → Option ℕ
 key_of Unknown = None
-key_of (Plain key) = None
-key_of (Marked key) = Some key
+key_of (Known count key) = if nat_lt 0 count then Some key else None
 
--- the same with the mark, or without
-abbrev pub with_mark : Bool → Entry → Entry
-with_mark on Unknown = Unknown
-with_mark false (Plain key) = Plain key
-with_mark false (Marked key) = Plain key
-with_mark true (Plain key) = Marked key
-with_mark true (Marked key) = Marked key
+-- the same with another count
+abbrev pub with_count : ℕ → Entry → Entry
+with_count n Unknown = Unknown
+with_count n (Known count key) = Known n key
 
 abbrev pub one_if : Bool → ℕ
 one_if b = if b then 1 else 0

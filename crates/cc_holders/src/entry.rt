@@ -1,16 +1,14 @@
 //! What a table knows of a number.
 ghost use Rattle.std.specs.Prelude.{◌≡◌};
-ghost use Rattle.cc_holders.specs.Entries.{is_known, is_marked, one_if, with_mark};
+ghost use Rattle.cc_holders.specs.Entries.{is_known, is_marked, key_of, one_if, with_count};
 
-/// What a table knows of a number.
+/// What a table knows of a number. It is marked as long as its count is above zero.
 #[derive(Clone, Copy, Debug, PartialEq, Eq, Drop)]
 pub enum Entry {
     /// Nothing.
     Unknown,
-    /// Its key; it is not marked.
-    Plain(u32),
-    /// Its key; it is marked.
-    Marked(u32),
+    /// Its count and its key.
+    Known(u8, u32),
 }
 
 impl Entry {
@@ -20,43 +18,47 @@ impl Entry {
     {
         match self {
             Entry::Unknown => false,
-            Entry::Plain(_) | Entry::Marked(_) => true,
+            Entry::Known(_, _) => true,
         }
     }
 
-    /// One where a number is known, and else none.
+    /// Its key, where the number is marked.
+    pub(crate) fn marked_key(self) -> Option<u32>
+        ensures { result ≡ key_of self }
+    {
+        match self {
+            Entry::Known(count, key) if count > 0 => Some(key),
+            _ => None,
+        }
+    }
+
+    /// One where the number is known, and else none.
     pub(crate) fn count_known(self) -> u32
         ensures { result ≡ one_if (is_known self) }
     {
         match self {
             Entry::Unknown => 0,
-            Entry::Plain(_) | Entry::Marked(_) => 1,
+            Entry::Known(_, _) => 1,
         }
     }
 
-    /// One where a number is marked, and else none.
+    /// One where the number is marked, and else none.
     pub(crate) fn count_marked(self) -> u32
         ensures { result ≡ one_if (is_marked self) }
     {
         match self {
-            Entry::Unknown | Entry::Plain(_) => 0,
-            Entry::Marked(_) => 1,
+            Entry::Known(count, _) if count > 0 => 1,
+            _ => 0,
         }
     }
 
-    /// The same with the mark, or without.
-    pub(crate) fn marked(self, on: bool) -> Entry
-        ensures { result ≡ with_mark on self }
+    /// The same with this count.
+    pub(crate) fn counted(self, count: u8) -> Entry
+        ensures { result ≡ with_count count self }
     {
         match self {
             Entry::Unknown => Entry::Unknown,
-            Entry::Plain(key) | Entry::Marked(key) => {
-                if on {
-                    Entry::Marked(key)
-                } else {
-                    Entry::Plain(key)
-                }
-            }
+            Entry::Known(_, key) => Entry::Known(count, key),
         }
     }
 }

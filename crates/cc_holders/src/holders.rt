@@ -1,7 +1,7 @@
-//! The table: keys by number, and which numbers are marked.
+//! The table: keys and counts by number.
 ghost use Rattle.std.specs.Prelude.{◌≡◌, ℕ, ◌<◌, ◌≤◌, ◌/◌, ◌==◌, ◌^◌, [], None, if◌then◌else◌, vec_capacity, IfNone, IfSome, IsTrue, OnErr, OnOk};
-ghost use Rattle.cc_holders.specs.declared.entry.Entry.TheVariants.{Unknown, Plain};
-ghost use Rattle.cc_holders.specs.Entries.{IsFirst, IsGivenBack, behind, is_known, page_in, with_mark};
+ghost use Rattle.cc_holders.specs.declared.entry.Entry.TheVariants.{Unknown, Known};
+ghost use Rattle.cc_holders.specs.Entries.{IsFirst, IsGivenBack, behind, is_known, page_in, with_count};
 ghost use Rattle.cc_holders.specs.Known.{entry_at, key_at};
 
 use crate::entry::Entry;
@@ -9,7 +9,7 @@ use crate::table::{Table, entry_of, first_marked, put, reach};
 use cc_names::NoMemory;
 use std::alloc::Global;
 
-/// Keys by number, and which numbers are marked.
+/// Keys and counts by number. A number is marked as long as its count is above zero.
 ///
 /// `add` alone takes memory: that of a page, where the number is the first of its page.
 #[derive(Drop)]
@@ -35,15 +35,15 @@ impl Holders {
         entry_of(&self.groups, number as usize)
     }
 
-    /// The number is known from now on, with this key, and is not marked.
+    /// The number is known from now on, with this key and the count zero.
     ///
     /// `NoMemory`, where its page is not there and can't be had, leaves all as it was.
     pub fn add(&mut self, number: u32, key: u32) -> Result<(), NoMemory>
-        ensures entries { OnOk result ((n : ℕ) → entry_at self.new n ≡ (if number == n then Plain key else entry_at self.old n)) }
+        ensures entries { OnOk result ((n : ℕ) → entry_at self.new n ≡ (if number == n then Known 0 key else entry_at self.old n)) }
         ensures err { OnErr result ((n : ℕ) → entry_at self.new n ≡ entry_at self.old n) }
     {
         reach(&mut self.groups, number as usize)?;
-        put(&mut self.groups, number as usize, Entry::Plain(key));
+        put(&mut self.groups, number as usize, Entry::Known(0, key));
         Ok(())
     }
 
@@ -59,14 +59,14 @@ impl Holders {
         }
     }
 
-    /// The number, where it is known, is marked from now on, or is not. Takes no memory.
-    pub fn set_mark(&mut self, number: u32, on: bool)
-        ensures entries { (n : ℕ) → entry_at self.new n ≡ (if number == n then with_mark on (entry_at self.old number) else entry_at self.old n) }
+    /// The number, where it is known, has this count from now on. Takes no memory.
+    pub fn set_count(&mut self, number: u32, count: u8)
+        ensures entries { (n : ℕ) → entry_at self.new n ≡ (if number == n then with_count count (entry_at self.old number) else entry_at self.old n) }
         ensures memory { vec_capacity self.new.groups ≡ vec_capacity self.old.groups }
     {
         let entry = self.get(number);
         if entry.is_known() {
-            put(&mut self.groups, number as usize, entry.marked(on));
+            put(&mut self.groups, number as usize, entry.counted(count));
         }
     }
 

@@ -1,4 +1,4 @@
-//! A table of keys by number, in pages, which knows some numbers as marked.
+//! A table of keys by number, in pages, with a count for each. A number is marked as long as its count is above zero.
 //!
 //! A page has the keys of 32 numbers that follow one another, and 128 pages are a group. A page is taken when the first of its
 //! numbers is added, and given back when the last one goes. It counts its marked numbers, and a group its pages that have

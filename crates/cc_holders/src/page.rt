@@ -98,7 +98,7 @@ impl Page {
             return None;
         }
         for place in start..self.entries.len() {
-            if let Entry::Marked(key) = self.entries[place] {
+            if let Some(key) = self.entries[place].marked_key() {
                 return Some((place, key));
             }
         }

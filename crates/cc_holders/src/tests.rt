@@ -19,10 +19,10 @@ fn numbers_are_known(rt: HostRuntime) {
     let mut holders = Holders::new(rt.alloc());
     assert_eq!(rt; holders.get(0), Entry::Unknown);
     assert_eq!(rt; fill(&mut holders), Ok(()));
-    assert_eq!(rt; holders.get(0), Entry::Plain(1));
-    assert_eq!(rt; holders.get(31), Entry::Plain(2));
-    assert_eq!(rt; holders.get(32), Entry::Plain(3));
-    assert_eq!(rt; holders.get(u32::MAX), Entry::Plain(7));
+    assert_eq!(rt; holders.get(0), Entry::Known(0, 1));
+    assert_eq!(rt; holders.get(31), Entry::Known(0, 2));
+    assert_eq!(rt; holders.get(32), Entry::Known(0, 3));
+    assert_eq!(rt; holders.get(u32::MAX), Entry::Known(0, 7));
     assert_eq!(rt; holders.get(33), Entry::Unknown);
     assert_eq!(rt; holders.next_marked_after(None), None);
 }
@@ -32,7 +32,7 @@ fn marked_numbers_come_in_order(rt: HostRuntime) {
     let mut holders = Holders::new(rt.alloc());
     assert_eq!(rt; fill(&mut holders), Ok(()));
     for number in [u32::MAX, 32, 31, 4096, 4095, 33] {
-        holders.set_mark(number, true);
+        holders.set_count(number, 2);
     }
     assert_eq!(rt; holders.next_marked_after(None), Some((31, 2)));
     assert_eq!(rt; holders.next_marked_after(Some(31)), Some((32, 3)));
@@ -46,15 +46,15 @@ fn marked_numbers_come_in_order(rt: HostRuntime) {
 fn marks_and_numbers_go(rt: HostRuntime) {
     let mut holders = Holders::new(rt.alloc());
     assert_eq!(rt; fill(&mut holders), Ok(()));
-    holders.set_mark(31, true);
-    holders.set_mark(32, true);
-    holders.set_mark(4096, true);
-    holders.set_mark(31, false);
+    holders.set_count(31, 65);
+    holders.set_count(32, 1);
+    holders.set_count(4096, 1);
+    holders.set_count(31, 0);
     holders.remove(32);
-    assert_eq!(rt; holders.get(31), Entry::Plain(2));
+    assert_eq!(rt; holders.get(31), Entry::Known(0, 2));
     assert_eq!(rt; holders.get(32), Entry::Unknown);
     assert_eq!(rt; holders.next_marked_after(None), Some((4096, 5)));
     assert_eq!(rt; holders.add(32, 8), Ok(()));
-    assert_eq!(rt; holders.get(32), Entry::Plain(8));
+    assert_eq!(rt; holders.get(32), Entry::Known(0, 8));
     assert_eq!(rt; holders.next_marked_after(None), Some((4096, 5)));
 }
