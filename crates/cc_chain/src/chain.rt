@@ -15,8 +15,8 @@ use std::marker::PhantomData;
 /// those that the store holds.
 #[derive(Drop)]
 pub struct Chain<R> {
-    first: Option<usize>,
-    last: Option<usize>,
+    first: Option<u32>,
+    last: Option<u32>,
     list: PhantomData<R>,
 }
 
@@ -33,7 +33,7 @@ impl<R> Chain<R> {
     }
 
     /// The key, which is live and in no list, goes last.
-    pub fn push_back<T: LinkStore<R>>(&mut self, store: &mut T, key: usize)
+    pub fn push_back<T: LinkStore<R>>(&mut self, store: &mut T, key: u32)
         requires chain { IsSomeChain (T.links store.old) self.old }
         requires free { IsFree (T.links store.old) key }
         ensures keys { (keys : List ℕ) → IsChain (T.links store.old) self.old keys →
@@ -54,7 +54,7 @@ impl<R> Chain<R> {
     }
 
     /// Takes out the first key; none exactly where the list is empty.
-    pub fn pop_front<T: LinkStore<R>>(&mut self, store: &mut T) -> Option<usize>
+    pub fn pop_front<T: LinkStore<R>>(&mut self, store: &mut T) -> Option<u32>
         requires { IsSomeChain (T.links store.old) self.old }
         ensures first { (keys : List ℕ) → IsChain (T.links store.old) self.old keys → result ≡ first_of keys }
         ensures keys { (keys : List ℕ) → IsChain (T.links store.old) self.old keys →
@@ -68,7 +68,7 @@ impl<R> Chain<R> {
     }
 
     /// Takes out a key, which must be in the list. It looks at the key's neighbours alone.
-    pub fn unlink_at<T: LinkStore<R>>(&mut self, store: &mut T, key: usize)
+    pub fn unlink_at<T: LinkStore<R>>(&mut self, store: &mut T, key: u32)
         requires chain { IsSomeChain (T.links store.old) self.old }
         requires linked { IsTrue (is_linked (T.links store.old) key) }
         ensures keys { (keys : List ℕ) → IsChain (T.links store.old) self.old keys →
@@ -84,14 +84,14 @@ impl<R> Chain<R> {
     }
 
     /// The first key; none exactly where the list is empty.
-    pub fn first<T: LinkStore<R>>(&self, _store: &T) -> Option<usize>
+    pub fn first<T: LinkStore<R>>(&self, _store: &T) -> Option<u32>
         ensures { (keys : List ℕ) → IsChain (T.links _store.now) self.now keys → result ≡ first_of keys }
     {
         self.first
     }
 
     /// The key after `key`, which must be in the list; none exactly where `key` is last.
-    pub fn next<T: LinkStore<R>>(&self, store: &T, key: usize) -> Option<usize>
+    pub fn next<T: LinkStore<R>>(&self, store: &T, key: u32) -> Option<u32>
         requires { IsTrue (is_linked (T.links store.now) key) }
         ensures { (keys : List ℕ) → IsChain (T.links store.now) self.now keys → result ≡ first_of (behind key keys) }
     {
@@ -99,7 +99,7 @@ impl<R> Chain<R> {
     }
 
     /// Whether a live key is in the list.
-    pub fn holds<T: LinkStore<R>>(&self, store: &T, key: usize) -> bool
+    pub fn holds<T: LinkStore<R>>(&self, store: &T, key: u32) -> bool
         requires { IsTrue (is_live (T.links store.now) key) }
         ensures linked { result ≡ is_linked (T.links store.now) key }
         ensures keys { (keys : List ℕ) → IsChain (T.links store.now) self.now keys → result ≡ has ◌==◌ keys key }
@@ -108,12 +108,7 @@ impl<R> Chain<R> {
     }
 
     /// Behind `before` stands `after` now, or none. With none before, `after` is the first of the list.
-    fn set_next<T: LinkStore<R>>(
-        &mut self,
-        store: &mut T,
-        before: Option<usize>,
-        after: Option<usize>,
-    )
+    fn set_next<T: LinkStore<R>>(&mut self, store: &mut T, before: Option<u32>, after: Option<u32>)
         requires { IfSome before (λ key. IsTrue (is_live (T.links store.old) key)) }
         ensures links { T.links store.new ≡ with_changed (T.links store.old) before (with_after after) }
         ensures ends { self.new ≡ with_next self.old before after }
@@ -129,8 +124,8 @@ impl<R> Chain<R> {
     fn set_previous<T: LinkStore<R>>(
         &mut self,
         store: &mut T,
-        after: Option<usize>,
-        before: Option<usize>,
+        after: Option<u32>,
+        before: Option<u32>,
     )
         requires { IfSome after (λ key. IsTrue (is_live (T.links store.old) key)) }
         ensures links { T.links store.new ≡ with_changed (T.links store.old) after (with_before before) }
@@ -145,7 +140,7 @@ impl<R> Chain<R> {
 }
 
 /// Writes what stands behind a live key, if it has a link.
-fn set_after<R, T: LinkStore<R>>(store: &mut T, key: usize, after: Option<usize>)
+fn set_after<R, T: LinkStore<R>>(store: &mut T, key: u32, after: Option<u32>)
     requires { IsTrue (is_live (T.links store.old) key) }
     ensures links { T.links store.new ≡ with_changed (T.links store.old) (Some key) (with_after after) }
     ensures rest { T.rest store.new ≡ T.rest store.old }
@@ -156,7 +151,7 @@ fn set_after<R, T: LinkStore<R>>(store: &mut T, key: usize, after: Option<usize>
 }
 
 /// Writes what stands before a live key, if it has a link.
-fn set_before<R, T: LinkStore<R>>(store: &mut T, key: usize, before: Option<usize>)
+fn set_before<R, T: LinkStore<R>>(store: &mut T, key: u32, before: Option<u32>)
     requires { IsTrue (is_live (T.links store.old) key) }
     ensures links { T.links store.new ≡ with_changed (T.links store.old) (Some key) (with_before before) }
     ensures rest { T.rest store.new ≡ T.rest store.old }

@@ -18,12 +18,12 @@ pub trait LinkStore<R> {
     ghost rest: { Self → Rest };
 
     /// The link of a live key.
-    fn get(&self, key: usize) -> Option<Link>
+    fn get(&self, key: u32) -> Option<Link>
         requires { IsTrue (is_live (links self.now) key) }
         ensures { links self.now key ≡ Some result };
 
     /// Puts a link to a live key, or takes its link away. Every other key has the link that it had.
-    fn set(&mut self, key: usize, link: Option<Link>)
+    fn set(&mut self, key: u32, link: Option<Link>)
         requires { IsTrue (is_live (links self.old) key) }
         ensures links { links self.new ≡ with_link (links self.old) key link }
         ensures rest { rest self.new ≡ rest self.old };

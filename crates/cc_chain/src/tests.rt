@@ -26,12 +26,12 @@ impl LinkStore<All> for Row {
 
     ghost rest = { λ row. row.name };
 
-    fn get(&self, key: usize) -> Option<Link> {
-        self.links[key]
+    fn get(&self, key: u32) -> Option<Link> {
+        self.links[key as usize]
     }
 
-    fn set(&mut self, key: usize, link: Option<Link>) {
-        self.links[key] = link;
+    fn set(&mut self, key: u32, link: Option<Link>) {
+        self.links[key as usize] = link;
     }
 }
 
@@ -62,33 +62,33 @@ impl Kept {
         })
     }
 
-    fn has(&self, key: usize) -> bool
+    fn has(&self, key: u32) -> bool
         ensures { result ≡ true → IsTrue (is_linked (slice_get self.now.row.links.items) key) }
     {
-        key < self.row.links.len() && self.chain.holds(&self.row, key)
+        (key as usize) < self.row.links.len() && self.chain.holds(&self.row, key)
     }
 
-    fn push(&mut self, key: usize)
+    fn push(&mut self, key: u32)
         requires { IsSomeChain (slice_get self.old.row.links.items) self.old.chain }
         ensures { IsSomeChain (slice_get self.new.row.links.items) self.new.chain }
     {
-        if key < self.row.links.len() && self.row.get(key).is_none() {
+        if (key as usize) < self.row.links.len() && self.row.get(key).is_none() {
             self.chain.push_back(&mut self.row, key);
         }
     }
 
-    fn first(&self) -> Option<usize> {
+    fn first(&self) -> Option<u32> {
         self.chain.first(&self.row)
     }
 
-    fn pop(&mut self) -> Option<usize>
+    fn pop(&mut self) -> Option<u32>
         requires { IsSomeChain (slice_get self.old.row.links.items) self.old.chain }
         ensures { IsSomeChain (slice_get self.new.row.links.items) self.new.chain }
     {
         self.chain.pop_front(&mut self.row)
     }
 
-    fn unlink(&mut self, key: usize)
+    fn unlink(&mut self, key: u32)
         requires { IsSomeChain (slice_get self.old.row.links.items) self.old.chain }
         ensures { IsSomeChain (slice_get self.new.row.links.items) self.new.chain }
     {
@@ -97,7 +97,7 @@ impl Kept {
         }
     }
 
-    fn next(&self, key: usize) -> Option<usize> {
+    fn next(&self, key: u32) -> Option<u32> {
         if self.has(key) {
             self.chain.next(&self.row, key)
         } else {

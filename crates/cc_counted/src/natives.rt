@@ -11,7 +11,7 @@ use crate::cell::Cell;
 use crate::held::Held;
 use crate::node::{Node, Nodes, Order, Queue};
 use cc_chain::Chain;
-use cc_names::{NKey, NativeNo, NoMemory, SKey};
+use cc_names::{NKey, NativeNo, NoMemory, SKey, narrow_key};
 use cc_purple::Buffer;
 use slab::Slab;
 use std::alloc::{AllocError, Global};
@@ -62,14 +62,14 @@ impl Natives {
         requires { IsSome (cell_at self.now.lists.cells key.0) }
         ensures { cell_at self.now.lists.cells key.0 ≡ Some result.now }
     {
-        &self.nodes.slab[key.0].cell
+        &self.nodes.slab[key.0 as usize].cell
     }
 
     /// The number of the native at a key; none where the key holds nothing.
     pub(crate) fn number(&self, key: NKey) -> Option<NativeNo>
         ensures { option_map (λ n. n.0) result ≡ option_map (λ c. c.number) (cell_at self.now.lists.cells key.0) }
     {
-        match self.nodes.slab.get(key.0) {
+        match self.nodes.slab.get(key.0 as usize) {
             Some(node) => Some(node.cell.number),
             None => None,
         }
@@ -81,7 +81,7 @@ impl Natives {
         ensures lists { self.new ≡ with_cell key.0 with_one_less self.old }
         ensures count { result + 1 ≡ count_placed (cell_at self.old.lists.cells key.0) }
     {
-        let cell = &mut self.nodes.slab[key.0].cell;
+        let cell = &mut self.nodes.slab[key.0 as usize].cell;
         cell.count -= 1;
         cell.count
     }
@@ -92,7 +92,7 @@ impl Natives {
         requires below { count_placed (cell_at self.old.lists.cells key.0) < 4294967295 }
         ensures { self.new ≡ with_cell key.0 with_one_more self.old }
     {
-        let cell = &mut self.nodes.slab[key.0].cell;
+        let cell = &mut self.nodes.slab[key.0 as usize].cell;
         cell.count += 1;
     }
 
@@ -103,7 +103,7 @@ impl Natives {
         ensures lists { self.new ≡ with_cell key.0 (with_slot i item) self.old }
         ensures value { result ≡ slice_index_or (slots_placed (cell_at self.old.lists.cells key.0)) i None }
     {
-        let cell = &mut self.nodes.slab[key.0].cell;
+        let cell = &mut self.nodes.slab[key.0 as usize].cell;
         let old = cell.slots[i];
         cell.slots[i] = item;
         old
@@ -114,7 +114,7 @@ impl Natives {
         requires { IsSome (cell_at self.old.lists.cells key.0) }
         ensures { self.new ≡ with_cell key.0 (with_flag on) self.old }
     {
-        let cell = &mut self.nodes.slab[key.0].cell;
+        let cell = &mut self.nodes.slab[key.0 as usize].cell;
         cell.preserved = on;
     }
 
@@ -123,13 +123,14 @@ impl Natives {
         requires { IsSome (cell_at self.old.lists.cells key.0) }
         ensures { self.new ≡ with_cell key.0 (reflected_by (option_map (λ k. k.0) to)) self.old }
     {
-        let cell = &mut self.nodes.slab[key.0].cell;
+        let cell = &mut self.nodes.slab[key.0 as usize].cell;
         cell.reflector = to;
     }
 
     // The order
 
-    /// Makes a native with so many empty slots, no reflector and count one, which goes last in the order.
+    /// Makes a native with so many empty slots, no reflector and count one, which goes last in the order. `NoMemory`
+    /// comes also where its key needs more than 32 bits.
     pub(crate) fn insert(
         &mut self,
         alloc: Global,
@@ -142,7 +143,8 @@ impl Natives {
     {
         let empty = empty_slots(alloc, slots)?;
         self.nodes.slab.reserve(1)?;
-        let key = self.nodes.slab.insert_reserved(Node {
+        let key = narrow_key(self.nodes.slab.vacant_key())?;
+        self.nodes.slab.insert_reserved(Node {
             cell: Cell {
                 number: no,
                 slots: empty,
@@ -169,7 +171,7 @@ impl Natives {
         ensures lists { self.new ≡ without_cell key.0 self.old }
     {
         self.order.unlink_at(&mut self.nodes, key.0);
-        let node = self.nodes.slab.remove(key.0);
+        let node = self.nodes.slab.remove(key.0 as usize);
         node.cell
     }
 

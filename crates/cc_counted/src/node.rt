@@ -37,12 +37,12 @@ impl LinkStore<Order> for Nodes {
 
     ghost rest = { λ s. beside_order s.slab };
 
-    fn get(&self, key: usize) -> Option<Link> {
-        self.slab[key].order
+    fn get(&self, key: u32) -> Option<Link> {
+        self.slab[key as usize].order
     }
 
-    fn set(&mut self, key: usize, link: Option<Link>) {
-        self.slab[key].order = link;
+    fn set(&mut self, key: u32, link: Option<Link>) {
+        self.slab[key as usize].order = link;
     }
 }
 
@@ -55,12 +55,12 @@ impl LinkStore<Queue> for Nodes {
 
     ghost rest = { λ s. beside_queue s.slab };
 
-    fn get(&self, key: usize) -> Option<Link> {
-        self.slab[key].queue
+    fn get(&self, key: u32) -> Option<Link> {
+        self.slab[key as usize].queue
     }
 
-    fn set(&mut self, key: usize, link: Option<Link>) {
-        self.slab[key].queue = link;
+    fn set(&mut self, key: u32, link: Option<Link>) {
+        self.slab[key as usize].queue = link;
     }
 }
 
@@ -73,12 +73,12 @@ impl LinkStore<Suspects> for Nodes {
 
     ghost rest = { λ s. beside_suspects s.slab };
 
-    fn get(&self, key: usize) -> Option<Link> {
-        self.slab[key].suspects
+    fn get(&self, key: u32) -> Option<Link> {
+        self.slab[key as usize].suspects
     }
 
-    fn set(&mut self, key: usize, link: Option<Link>) {
-        self.slab[key].suspects = link;
+    fn set(&mut self, key: u32, link: Option<Link>) {
+        self.slab[key as usize].suspects = link;
     }
 }
 
@@ -92,12 +92,12 @@ impl MarkStore for Nodes {
 
     ghost beside = { λ s. without_marks (beside_suspects s.slab) };
 
-    fn mark(&self, key: usize) -> bool {
-        self.slab[key].purple
+    fn mark(&self, key: u32) -> bool {
+        self.slab[key as usize].purple
     }
 
-    fn set_mark(&mut self, key: usize, on: bool) {
-        self.slab[key].purple = on;
+    fn set_mark(&mut self, key: u32, on: bool) {
+        self.slab[key as usize].purple = on;
     }
 
     ghost marks_in_rest = { λ s t e. ap (λ (r : Threads). r.marks) e };

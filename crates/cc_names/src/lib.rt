@@ -22,7 +22,7 @@ pub use limits::Limits;
 pub use line::LineBuf;
 pub use name::{Name, write_name};
 pub use no_memory::NoMemory;
-pub use number::{NKey, NativeNo, SKey, ScriptNo};
+pub use number::{NKey, NativeNo, SKey, ScriptNo, narrow_key};
 pub use register::Reg;
 
 /// The test of the specifications tells names apart: it says yes exactly for equal ones.

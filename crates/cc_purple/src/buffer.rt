@@ -127,7 +127,7 @@ impl Buffer {
     }
 
     /// A live key is in the buffer: it keeps its place, or goes last.
-    fn enter<T: MarkStore>(&mut self, store: &mut T, key: usize)
+    fn enter<T: MarkStore>(&mut self, store: &mut T, key: u32)
         requires chain { IsSomeChain (T.links store.old) self.old.keys }
         requires live { IsTrue (is_live (T.links store.old) key) }
         ensures keys { (keys : List ℕ) → IsChain (T.links store.old) self.old.keys keys →

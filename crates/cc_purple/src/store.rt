@@ -20,12 +20,12 @@ pub trait MarkStore: LinkStore<Suspects> {
     ghost beside: { Self → Beside };
 
     /// Whether a live key has the mark.
-    fn mark(&self, key: usize) -> bool
+    fn mark(&self, key: u32) -> bool
         requires { IsTrue (is_live (Self.links self.now) key) }
         ensures { result ≡ marks self.now key };
 
     /// Gives the mark to a live key, or takes it away. Every other key has the mark or none, as before.
-    fn set_mark(&mut self, key: usize, on: bool)
+    fn set_mark(&mut self, key: u32, on: bool)
         requires { IsTrue (is_live (Self.links self.old) key) }
         ensures marks { marks self.new ≡ with_mark_at (marks self.old) key on }
         ensures links { Self.links self.new ≡ Self.links self.old }

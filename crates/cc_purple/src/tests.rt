@@ -33,12 +33,12 @@ impl LinkStore<Suspects> for Cells {
 
     ghost rest = { λ s. (part_at (λ c. c.purple) s.cells.items, part_at (λ c. c.count) s.cells.items) };
 
-    fn get(&self, key: usize) -> Option<Link> {
-        self.cells[key].link
+    fn get(&self, key: u32) -> Option<Link> {
+        self.cells[key as usize].link
     }
 
-    fn set(&mut self, key: usize, link: Option<Link>) {
-        self.cells[key].link = link;
+    fn set(&mut self, key: u32, link: Option<Link>) {
+        self.cells[key as usize].link = link;
     }
 }
 
@@ -54,12 +54,12 @@ impl MarkStore for Cells {
 
     ghost beside = { λ s. part_at (λ c. c.count) s.cells.items };
 
-    fn mark(&self, key: usize) -> bool {
-        self.cells[key].purple
+    fn mark(&self, key: u32) -> bool {
+        self.cells[key as usize].purple
     }
 
-    fn set_mark(&mut self, key: usize, on: bool) {
-        self.cells[key].purple = on;
+    fn set_mark(&mut self, key: u32, on: bool) {
+        self.cells[key as usize].purple = on;
     }
 
     ghost marks_in_rest = { λ s t e. ap (λ r k. unwrap_or (r.0 k) false) e };
@@ -97,13 +97,13 @@ impl Kept {
         })
     }
 
-    fn has(&self, key: usize) -> bool
+    fn has(&self, key: u32) -> bool
         ensures { result ≡ true → IsTrue (is_live (⟦<Cells as LinkStore<Suspects>>⟧.links self.now.store) key) }
     {
-        key < self.store.cells.len()
+        (key as usize) < self.store.cells.len()
     }
 
-    fn suspect(&mut self, key: usize)
+    fn suspect(&mut self, key: u32)
         requires { IsSomeBuffer (⟦<Cells as LinkStore<Suspects>>⟧.links self.old.store) (⟦<Cells as MarkStore>⟧.marks self.old.store) self.old.buffer }
         ensures { IsSomeBuffer (⟦<Cells as LinkStore<Suspects>>⟧.links self.new.store) (⟦<Cells as MarkStore>⟧.marks self.new.store) self.new.buffer }
     {
@@ -112,7 +112,7 @@ impl Kept {
         }
     }
 
-    fn touch(&mut self, key: usize)
+    fn touch(&mut self, key: u32)
         requires { IsSomeBuffer (⟦<Cells as LinkStore<Suspects>>⟧.links self.old.store) (⟦<Cells as MarkStore>⟧.marks self.old.store) self.old.buffer }
         ensures { IsSomeBuffer (⟦<Cells as LinkStore<Suspects>>⟧.links self.new.store) (⟦<Cells as MarkStore>⟧.marks self.new.store) self.new.buffer }
     {
@@ -121,7 +121,7 @@ impl Kept {
         }
     }
 
-    fn give_back(&mut self, key: usize)
+    fn give_back(&mut self, key: u32)
         requires { IsSomeBuffer (⟦<Cells as LinkStore<Suspects>>⟧.links self.old.store) (⟦<Cells as MarkStore>⟧.marks self.old.store) self.old.buffer }
         ensures { IsSomeBuffer (⟦<Cells as LinkStore<Suspects>>⟧.links self.new.store) (⟦<Cells as MarkStore>⟧.marks self.new.store) self.new.buffer }
     {
@@ -130,7 +130,7 @@ impl Kept {
         }
     }
 
-    fn forget(&mut self, key: usize)
+    fn forget(&mut self, key: u32)
         requires { IsSomeBuffer (⟦<Cells as LinkStore<Suspects>>⟧.links self.old.store) (⟦<Cells as MarkStore>⟧.marks self.old.store) self.old.buffer }
         ensures { IsSomeBuffer (⟦<Cells as LinkStore<Suspects>>⟧.links self.new.store) (⟦<Cells as MarkStore>⟧.marks self.new.store) self.new.buffer }
     {
@@ -146,11 +146,11 @@ impl Kept {
         self.buffer.select_next(&mut self.store)
     }
 
-    fn holds(&self, key: usize) -> bool {
+    fn holds(&self, key: u32) -> bool {
         self.has(key) && self.buffer.holds(&self.store, NKey(key))
     }
 
-    fn purple(&self, key: usize) -> bool {
+    fn purple(&self, key: u32) -> bool {
         self.has(key) && self.buffer.purple(&self.store, NKey(key))
     }
 
@@ -158,7 +158,7 @@ impl Kept {
         self.buffer.first(&self.store)
     }
 
-    fn next(&self, key: usize) -> Option<NKey> {
+    fn next(&self, key: u32) -> Option<NKey> {
         if self.has(key) && self.store.get(key).is_some() {
             self.buffer.next(&self.store, NKey(key))
         } else {

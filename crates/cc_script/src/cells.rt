@@ -10,7 +10,7 @@ ghost use Rattle.cc_script.specs.Lists.{cell_at, painted, slots_placed, written}
 ghost use Rattle.cc_script.specs.Cells.{Changes, Content, HasColourAt, Label, Whitens, cells_of, filled, in_colour, nothing};
 
 use crate::cell::{Body, Cell};
-use cc_names::{Colour, NoMemory, SKey};
+use cc_names::{Colour, NoMemory, SKey, narrow_key};
 use slab::Slab;
 use std::alloc::Global;
 use std::marker::Model;
@@ -65,51 +65,49 @@ impl Cells {
         }
     }
 
-    /// Puts an object at a key that had none. `NoMemory` changes nothing of what stands there.
-    pub(crate) fn insert(
-        &mut self,
-        cell: Cell,
-        body: Body,
-        colour: Colour,
-    ) -> Result<usize, NoMemory>
+    /// Puts an object at a key that had none. `NoMemory` comes also where the key needs more than 32 bits, and changes
+    /// nothing of what stands there.
+    pub(crate) fn insert(&mut self, cell: Cell, body: Body, colour: Colour) -> Result<u32, NoMemory>
         ensures was_vacant { IfOk result (λ key. get self.old key ≡ None) }
         ensures updates { IfOk result (λ key. Updates self.old self.new key (Some (in_colour colour (filled body cell)))) }
         ensures err { OnErr result (self.new.slots ≡ self.old.slots) }
     {
         self.slab.reserve(1)?;
-        let key = self.slab.vacant_key();
-        let count = key.checked_add(1).ok_or(NoMemory)?;
+        let place = self.slab.vacant_key();
+        let key = narrow_key(place)?;
+        let count = place + 1;
         reach(&mut self.bodies, count, self.alloc)?;
-        if key >= self.colours.len() {
+        if place >= self.colours.len() {
             self.colours.resize(count, Colour::White)?;
         }
-        self.bodies[key] = body;
-        self.colours[key] = colour;
-        Ok(self.slab.insert_reserved(cell))
+        self.bodies[place] = body;
+        self.colours[place] = colour;
+        self.slab.insert_reserved(cell);
+        Ok(key)
     }
 
     /// What the object at a key is.
-    pub(crate) fn cell(&self, key: usize) -> &Cell
+    pub(crate) fn cell(&self, key: u32) -> &Cell
         requires { ContainsKey self.now key }
         ensures { (colour : Colour) × ((content : Content) × (get self.now key ≡ Some (in_colour colour (filled content result.now)))) }
     {
-        &self.slab[key]
+        &self.slab[key as usize]
     }
 
     /// What a walk looks at of the object at a key.
-    pub(crate) fn body(&self, key: usize) -> &Body
+    pub(crate) fn body(&self, key: u32) -> &Body
         requires { ContainsKey self.now key }
         ensures { (colour : Colour) × ((label : Label) × (get self.now key ≡ Some (in_colour colour (filled result.now label)))) }
     {
-        &self.bodies[key]
+        &self.bodies[key as usize]
     }
 
     /// The colour of the object at a key.
-    pub(crate) fn colour(&self, key: usize) -> Colour
+    pub(crate) fn colour(&self, key: u32) -> Colour
         requires { ContainsKey self.now key }
         ensures { option_map (λ c. c.placed.colour) (get self.now key) ≡ Some result }
     {
-        self.colours[key]
+        self.colours[key as usize]
     }
 
     /// Gives the object at a key a colour.
@@ -117,7 +115,7 @@ impl Cells {
         requires live { IsSome (cell_at (cells_of self.old.slots) key.0) }
         ensures changes { Changes self.old self.new key.0 (painted colour) }
     {
-        self.colours[key.0] = colour;
+        self.colours[key.0 as usize] = colour;
     }
 
     /// Makes all objects white.
@@ -159,18 +157,18 @@ impl Cells {
         requires within { i < length (slots_placed (cell_at (cells_of self.old.slots) key.0)) }
         ensures changes { Changes self.old self.new key.0 (written i (option_map (λ k. k.0) item)) }
     {
-        let body = &mut self.bodies[key.0];
+        let body = &mut self.bodies[key.0 as usize];
         body.slots[i] = item;
     }
 
     /// Takes out the object at a key.
-    pub(crate) fn remove(&mut self, key: usize)
+    pub(crate) fn remove(&mut self, key: u32)
         requires { ContainsKey self.old key }
         ensures slots { self.new.slots ≡ slice_set self.old.slots key None }
         ensures updates { Updates self.old self.new key None }
         ensures capacity { self.new.capacity ≡ self.old.capacity }
     {
-        let _cell = self.slab.remove(key);
-        self.bodies[key] = Body::nothing(self.alloc);
+        let _cell = self.slab.remove(key as usize);
+        self.bodies[key as usize] = Body::nothing(self.alloc);
     }
 }

@@ -19,12 +19,12 @@ impl LinkStore<Order> for Cells {
 
     ghost rest = { beside_order };
 
-    fn get(&self, key: usize) -> Option<Link> {
-        self.slab[key].order.link()
+    fn get(&self, key: u32) -> Option<Link> {
+        self.slab[key as usize].order.link()
     }
 
-    fn set(&mut self, key: usize, link: Option<Link>) {
-        self.slab[key].order = Neighbours::of(link);
+    fn set(&mut self, key: u32, link: Option<Link>) {
+        self.slab[key as usize].order = Neighbours::of(link);
     }
 }
 
@@ -37,11 +37,11 @@ impl LinkStore<Waiting> for Cells {
 
     ghost rest = { beside_waiting };
 
-    fn get(&self, key: usize) -> Option<Link> {
-        self.bodies[key].waiting.link()
+    fn get(&self, key: u32) -> Option<Link> {
+        self.bodies[key as usize].waiting.link()
     }
 
-    fn set(&mut self, key: usize, link: Option<Link>) {
-        self.bodies[key].waiting = Neighbours::of(link);
+    fn set(&mut self, key: u32, link: Option<Link>) {
+        self.bodies[key as usize].waiting = Neighbours::of(link);
     }
 }

@@ -11,9 +11,9 @@ enum Place {
     Nowhere,
     /// The only key.
     Alone,
-    First { after: usize },
-    Last { before: usize },
-    Between { before: usize, after: usize },
+    First { after: u32 },
+    Last { before: u32 },
+    Between { before: u32, after: u32 },
 }
 
 /// The neighbours of a key in a list, or that it is in none: an `Option<Link>`, in the room of the two keys at most.

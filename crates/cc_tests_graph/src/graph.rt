@@ -15,7 +15,7 @@ fn name(i: u32) -> Name {
 
 /// Where it stands.
 fn held(i: u32) -> Held {
-    Held::Native(NKey(i as usize))
+    Held::Native(NKey(i))
 }
 
 /// Adds the node of an object. Whether it has this number.

@@ -12,7 +12,7 @@ fn make_each(heap: &mut Scripts, count: u32) -> bool {
     let mut made = true;
     for number in 0..count {
         let plain = heap.create_plain(ScriptNo(number), 3);
-        let reflector = heap.create_reflector(NKey(number as usize), NativeNo(number));
+        let reflector = heap.create_reflector(NKey(number), NativeNo(number));
         let the_map = heap.create_map(ScriptNo(number));
         made = made && plain.is_ok() && reflector.is_ok() && the_map.is_ok();
     }

@@ -6,7 +6,7 @@ use std::test::Fail;
 
 /// Sets so many entries, each with a map and a key of its own, then gives each another value; whether there was memory
 /// for all.
-fn set_all(maps: &mut WeakMaps, count: usize) -> bool {
+fn set_all(maps: &mut WeakMaps, count: u32) -> bool {
     let mut set = true;
     for number in 0..count {
         let made = maps.set(SKey(number), SKey(number), SKey(0));
@@ -17,7 +17,7 @@ fn set_all(maps: &mut WeakMaps, count: usize) -> bool {
 }
 
 /// Sets an entry of one map for each of so many keys; whether there was memory for all.
-fn set_each_key(maps: &mut WeakMaps, the_map: SKey, count: usize) -> bool {
+fn set_each_key(maps: &mut WeakMaps, the_map: SKey, count: u32) -> bool {
     let mut set = true;
     for number in 0..count {
         let made = maps.set(the_map, SKey(number), SKey(0));
@@ -45,18 +45,17 @@ fn there_is_memory_for_65537_entries_maps_and_keys(rt: HostRuntime) -> Result<()
     Ok(())
 }
 
-/// Whether a new entry is refused exactly where its map or its key needs more than 32 bits.
-fn refuses_more_than_32_bits(alloc: Global) -> bool {
+/// Whether the greatest key is kept as a value, and is replaced by another.
+fn keeps_the_greatest_key(alloc: Global) -> bool {
     let mut maps = WeakMaps::new(alloc);
-    let of_map = maps.set(SKey(4_294_967_296), SKey(2), SKey(3));
-    let of_key = maps.set(SKey(1), SKey(4_294_967_298), SKey(3));
-    let of_value = maps.set(SKey(1), SKey(2), SKey(4_294_967_299));
-    let again = maps.set(SKey(1), SKey(2), SKey(4_294_967_300));
-    of_map.is_err() && of_key.is_err() && of_value.is_ok() && again.is_ok()
+    let made = maps.set(SKey(1), SKey(2), SKey(u32::MAX)).is_ok();
+    let read = maps.get(SKey(1), SKey(2)) == Some(SKey(u32::MAX));
+    let again = maps.set(SKey(1), SKey(2), SKey(3)).is_ok();
+    made && read && again && maps.get(SKey(1), SKey(2)) == Some(SKey(3))
 }
 
 /// The first entry of map 1, where it is the first of all.
-fn first_key(maps: &WeakMaps) -> Option<usize> {
+fn first_key(maps: &WeakMaps) -> Option<u32> {
     let place = maps.first_with(SKey(1))?;
     match maps.next_with(SKey(1), place) {
         Some(_) => None,
@@ -78,7 +77,7 @@ fn calls_answer(alloc: Global) -> bool {
 
 #[test]
 fn entries_are_set_read_and_taken_out(rt: HostRuntime) -> Result<(), Fail> {
-    assert!(rt; refuses_more_than_32_bits(rt.alloc()));
+    assert!(rt; keeps_the_greatest_key(rt.alloc()));
     assert!(rt; calls_answer(rt.alloc()));
     Ok(())
 }

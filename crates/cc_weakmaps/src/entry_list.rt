@@ -67,7 +67,11 @@ impl EntryList {
     {
         match self.place_of(the_map, key) {
             Some(place) => self.entries[place].value = value,
-            None => self.add(Entry::of(the_map, key, value)?)?,
+            None => self.add(Entry {
+                the_map,
+                key,
+                value,
+            })?,
         }
         Ok(())
     }
@@ -116,7 +120,7 @@ impl EntryList {
         ensures { slice_get self.now.entries i ≡ Some (entry result.0.0 result.1.0 result.2.0) }
     {
         let entry = &self.entries[i];
-        (entry.the_map(), entry.key(), entry.value)
+        (entry.the_map, entry.key, entry.value)
     }
 
     /// The place of an entry that has an object for its map or its key: of the last one; none where there is none. From it
@@ -140,7 +144,7 @@ impl EntryList {
         ensures before { IfSome result (λ i. i < place) }
     {
         let links = self.links[place];
-        if self.entries[place].the_map() == object {
+        if self.entries[place].the_map == object {
             widen(links.by_map)
         } else {
             widen(links.by_key)
@@ -208,7 +212,7 @@ impl EntryList {
         u32::try_from(place).map_err(|_| NoMemory)?;
         self.entries.reserve(1)?;
         self.links.reserve(1)?;
-        self.lasts.know_both(entry.the_map().0, entry.key().0)?;
+        self.lasts.know_both(entry.the_map.0, entry.key.0)?;
         self.entries.push_reserved(entry);
         self.links.push_reserved(Links {
             by_map: None,

@@ -25,7 +25,7 @@ pub(crate) fn put_in(lasts: &mut Lasts, links: &mut Vec<Links>, entries: &[Entry
     ensures links_memory { vec_capacity links.new ≡ vec_capacity links.old }
 {
     let entry = entries[place];
-    let (the_map, key) = (entry.the_map().0, entry.key().0);
+    let (the_map, key) = (entry.the_map.0, entry.key.0);
     links[place] = Links {
         by_map: lasts.last(the_map),
         by_key: lasts.last(key),
@@ -45,7 +45,7 @@ pub(crate) fn take_out(lasts: &mut Lasts, links: &[Links], entries: &[Entry], pl
     ensures memory { KeepsRoom lasts.old lasts.new }
 {
     let entry = entries[place];
-    let (the_map, key) = (entry.the_map().0, entry.key().0);
+    let (the_map, key) = (entry.the_map.0, entry.key.0);
     let before = links[place];
     lasts.keep(the_map, before.by_map);
     lasts.keep(key, before.by_key);

@@ -27,10 +27,10 @@ impl Lasts {
     }
 
     /// The last place of an object; none where it has none.
-    pub(crate) fn last(&self, object: usize) -> Option<u32>
+    pub(crate) fn last(&self, object: u32) -> Option<u32>
         ensures { result ≡ last_kept self.now.places.items object }
     {
-        match self.places.get(object) {
+        match self.places.get(object as usize) {
             Some(place) => *place,
             None => None,
         }
@@ -38,7 +38,7 @@ impl Lasts {
 
     /// Two objects are known from then on, with all of lower keys and no other. `NoMemory` changes nothing, and comes only
     /// where one of them was not known.
-    pub(crate) fn know_both(&mut self, one: usize, other: usize) -> Result<(), NoMemory>
+    pub(crate) fn know_both(&mut self, one: u32, other: u32) -> Result<(), NoMemory>
         ensures one { OnOk result (one < length self.new.places.items) }
         ensures other { OnOk result (other < length self.new.places.items) }
         ensures others { length self.old.places.items ≤ length self.new.places.items }
@@ -46,20 +46,19 @@ impl Lasts {
         ensures places { (k : ℕ) → last_kept self.new.places.items k ≡ last_kept self.old.places.items k }
         ensures known { max one other < length self.old.places.items → IsOk result × KeepsRoom self.old self.new }
     {
-        let greater = one.max(other);
+        let greater = one.max(other) as usize;
         if greater >= self.places.len() {
-            let known = greater.checked_add(1).ok_or(NoMemory)?;
-            self.places.resize(known, None)?;
+            self.places.resize(greater + 1, None)?;
         }
         Ok(())
     }
 
     /// The last place of an object that is known is this from then on.
-    pub(crate) fn keep(&mut self, object: usize, place: Option<u32>)
+    pub(crate) fn keep(&mut self, object: u32, place: Option<u32>)
         requires known { object < length self.old.places.items }
         ensures places { (k : ℕ) → last_kept self.new.places.items k ≡ (if object == k then place else last_kept self.old.places.items k) }
         ensures memory { KeepsRoom self.old self.new }
     {
-        self.places[object] = place;
+        self.places[object as usize] = place;
     }
 }

@@ -8,8 +8,8 @@
 //! An index leads from an object to the entries that have it for their map or their key (`first_with`, `next_with`): who
 //! marks an object looks at these alone.
 //!
-//! `set` takes memory for a new entry; no other call takes any. An entry keeps its map and its key in 32 bits each, and the
-//! index its places: where one of these needs more, `set` answers `NoMemory` for the new entry.
+//! `set` takes memory for a new entry; no other call takes any. The index keeps places in 32 bits: where that of a new entry
+//! needs more, `set` answers `NoMemory`.
 #![tactic(auto)]
 
 mod entry;

@@ -37,9 +37,8 @@ impl WeakMaps {
     /// A key has a value in a map from then on: its entry keeps its place, or goes last where there was none.
     ///
     /// Memory is taken for a new entry, and for the places of all keys up to the greater of its two: keys are those of a slab,
-    /// so they lie close together. Map, key and place of an entry are kept in 32 bits each, so `NoMemory` comes too where a
-    /// new entry has a map or a key, or would have a place, that needs more. `NoMemory` changes nothing, and comes only
-    /// where there was no entry.
+    /// so they lie close together. Places are kept in 32 bits, so `NoMemory` comes too where that of a new entry needs more.
+    /// `NoMemory` changes nothing, and comes only where there was no entry.
     pub fn set(&mut self, the_map: SKey, key: SKey, value: SKey) -> Result<(), NoMemory>
         ensures entries { OnOk result (self.new ≡ with_entry self.old the_map.0 key.0 value.0) }
         ensures err { OnErr result (self.new ≡ self.old) }

@@ -5,31 +5,31 @@ use Rattle.cc_weakmaps.proofs.index.put_in.Goals as goal
 
 pub keep-requires : goal.keep-requires
 keep-requires c =
-    let at_map = c.the_map.ensures ∙ ap (λ (e : KeyedEntry). e.the_map) c.index-entries-place.is in
-    let at_key = c.key.ensures ∙ ap (λ (e : KeyedEntry). e.key) c.index-entries-place.is in
+    let at_map = ap (λ (e : KeyedEntry). e.the_map) (c.entry.view_is ∙ c.index-entries-place.is) in
+    let at_key = ap (λ (e : KeyedEntry). e.key) (c.entry.view_is ∙ c.index-entries-place.is) in
     record {
-      known = (known-at c.args.entries.now c.args.lasts.now.places.items c.args.place c.the_map.result.0 c.key.result.0 c.index-entries-place.result
+      known = (known-at c.args.entries.now c.args.lasts.now.places.items c.args.place c.entry.inside.the_map.0 c.entry.inside.key.0 c.index-entries-place.result
           c.requires.known c.requires.within at_map at_key).0;
     }
 
 pub keep-requires-2 : goal.keep-requires-2
 keep-requires-2 c =
-    let at_map = c.the_map.ensures ∙ ap (λ (e : KeyedEntry). e.the_map) c.index-entries-place.is in
-    let at_key = c.key.ensures ∙ ap (λ (e : KeyedEntry). e.key) c.index-entries-place.is in
+    let at_map = ap (λ (e : KeyedEntry). e.the_map) (c.entry.view_is ∙ c.index-entries-place.is) in
+    let at_key = ap (λ (e : KeyedEntry). e.key) (c.entry.view_is ∙ c.index-entries-place.is) in
     record {
       known = omega (
         arith,
         c.keep.ensures.memory.known,
-        (known-at c.args.entries.now c.args.lasts.now.places.items c.args.place c.the_map.result.0 c.key.result.0 c.index-entries-place.result
+        (known-at c.args.entries.now c.args.lasts.now.places.items c.args.place c.entry.inside.the_map.0 c.entry.inside.key.0 c.index-entries-place.result
             c.requires.known c.requires.within at_map at_key).1,
       );
     }
 
 pub returns-clause-indexed : goal.returns-clause-indexed
 returns-clause-indexed c =
-    let at_map = c.the_map.ensures ∙ ap (λ (e : KeyedEntry). e.the_map) c.index-entries-place.is in
-    let at_key = c.key.ensures ∙ ap (λ (e : KeyedEntry). e.key) c.index-entries-place.is in
-    put-in c.args.entries.now c.args.links.now.items c.args.lasts.now.places.items c.keep.new.self.places.items c.keep-2.new.self.places.items c.args.place c.the_map.result.0 c.key.result.0
+    let at_map = ap (λ (e : KeyedEntry). e.the_map) (c.entry.view_is ∙ c.index-entries-place.is) in
+    let at_key = ap (λ (e : KeyedEntry). e.key) (c.entry.view_is ∙ c.index-entries-place.is) in
+    put-in c.args.entries.now c.args.links.now.items c.args.lasts.now.places.items c.keep.new.self.places.items c.keep-2.new.self.places.items c.args.place c.entry.inside.the_map.0 c.entry.inside.key.0
     c.index-entries-place.result c.requires.within at_map at_key
     (record { by_map = c.last.result; by_key = c.last-2.result }) (omega (arith, c.requires.within, c.requires.room)) c.last.ensures c.last-2.ensures
     c.keep.ensures.places c.keep-2.ensures.places c.requires.indexed

@@ -1,4 +1,4 @@
-use Rattle.std.proofs.Common.{rules, ◌≡◌, ◌≢◌, ℕ, ◌+◌, ◌<◌, List, Option, length, get_or, set, Some, ap, sym, ◌∙◌, arith}
+use Rattle.std.proofs.Common.{rules, ◌≡◌, ◌≢◌, ℕ, ◌+◌, ◌<◌, List, Option, length, get_or, set, Some, None, ap, sym, subst, ◌∙◌, arith}
 use Rattle.std.proofs.lemmas.List.{get_or-set_same, get_or-set_other}
 use Rattle.slab.specs.Slab.{Slab, Updates, get}
 use Rattle.cc_names.specs.declared.kind.Colour.{Colour}
@@ -9,7 +9,7 @@ use Rattle.cc_script.specs.declared.cells.Cells.TheInside.{Inside}
 use Rattle.cc_script.proofs.Paired.{paired-same, updates-made, vacant-at}
 use Rattle.cc_script.proofs.Coloured.{inserted, reaches-filled, vacant-coloured}
 use Rattle.cc_script.proofs.cells.Cells.insert.Goals as goal
-use Rattle.cc_script.proofs.cells.Cells.insert.Goals.{then-key-len+in_ok-resize, else-key-len}
+use Rattle.cc_script.proofs.cells.Cells.insert.Goals.{then-place-len+in_ok-resize, else-place-len}
 
 -- the same stands at each key where room was made alone
 unchanged : (s mid : Slab Label) (contents more : List Content) (colours : List Colour) → mid.slots ≡ s.slots → ((k : ℕ) → get_or more k nothing ≡ get_or contents k nothing) →
@@ -38,55 +38,57 @@ pub returns-clause-was_vacant : goal.returns-clause-was_vacant
 returns-clause-was_vacant c =
     let s = c.self.inside.slab in
     let contents = c.self.inside.bodies.items in
-    let slab : c.if-key-len.self-inside.slab ≡ c.reserve.new.self = elim c.if-key-len.branch [
-      | then-key-len+in_ok-resize w ↦ ap (λ (q : Inside). q.slab) w.self-inside-is
-      | else-key-len w ↦ ap (λ (q : Inside). q.slab) w.self-inside-is
+    let slab : c.if-place-len.self-inside.slab ≡ c.reserve.new.self = elim c.if-place-len.branch [
+      | then-place-len+in_ok-resize w ↦ ap (λ (q : Inside). q.slab) w.self-inside-is
+      | else-place-len w ↦ ap (λ (q : Inside). q.slab) w.self-inside-is
     ] in
-    let key = c.insert_reserved.result in
+    let key = c.in_ok-key.key in
+    let same : c.insert_reserved.result ≡ key = c.insert_reserved.ensures.key ∙ (ap (λ (z : Slab Label). z.vacant_key) slab ∙ (sym c.vacant_key-place.ensures.value ∙ sym c.in_ok-key.ensures.key)) in
+    let was_vacant = subst (λ k. get c.if-place-len.self-inside.slab k ≡ None) same c.insert_reserved.ensures.was_vacant in
     vacant-coloured (filled_slab s contents) c.self.inside.colours.items c.args.self.now c.self.view_is key
-    (vacant-at filled nothing s contents key (sym (ap (λ (z : Slab Label). get z key) (slab ∙ c.reserve.ensures.rest_kept)) ∙ c.insert_reserved.ensures.was_vacant))
+    (vacant-at filled nothing s contents key (sym (ap (λ (z : Slab Label). get z key) (slab ∙ c.reserve.ensures.rest_kept)) ∙ was_vacant))
 
 pub returns-clause-updates : goal.returns-clause-updates
 returns-clause-updates c =
     let s = c.self.inside.slab in
     let contents = c.self.inside.bodies.items in
     let colours = c.self.inside.colours.items in
-    let key = c.insert_reserved.result in
-    let free = c.vacant_key-key.result in
-    let slab : c.if-key-len.self-inside.slab ≡ c.reserve.new.self = elim c.if-key-len.branch [
-      | then-key-len+in_ok-resize w ↦ ap (λ (q : Inside). q.slab) w.self-inside-is
-      | else-key-len w ↦ ap (λ (q : Inside). q.slab) w.self-inside-is
+    let key = c.in_ok-key.key in
+    let free = c.vacant_key-place.result in
+    let slab : c.if-place-len.self-inside.slab ≡ c.reserve.new.self = elim c.if-place-len.branch [
+      | then-place-len+in_ok-resize w ↦ ap (λ (q : Inside). q.slab) w.self-inside-is
+      | else-place-len w ↦ ap (λ (q : Inside). q.slab) w.self-inside-is
     ] in
-    let bodies : c.if-key-len.self-inside.bodies.items ≡ c.reach.new.bodies.items = elim c.if-key-len.branch [
-      | then-key-len+in_ok-resize w ↦ ap (λ (q : Inside). q.bodies.items) w.self-inside-is
-      | else-key-len w ↦ ap (λ (q : Inside). q.bodies.items) w.self-inside-is
+    let bodies : c.if-place-len.self-inside.bodies.items ≡ c.reach.new.bodies.items = elim c.if-place-len.branch [
+      | then-place-len+in_ok-resize w ↦ ap (λ (q : Inside). q.bodies.items) w.self-inside-is
+      | else-place-len w ↦ ap (λ (q : Inside). q.bodies.items) w.self-inside-is
     ] in
-    let is_key : free ≡ key = c.vacant_key-key.ensures.value ∙ (sym (ap (λ (z : Slab Label). z.vacant_key) slab) ∙ sym c.insert_reserved.ensures.key) in
-    let count : c.in_ok-count.count ≡ free + 1 = search rules in
-    let u = c.insert_reserved.ensures.updates in
+    let is_key : free ≡ key = sym c.in_ok-key.ensures.key in
+    let same : c.insert_reserved.result ≡ key = c.insert_reserved.ensures.key ∙ (ap (λ (z : Slab Label). z.vacant_key) slab ∙ (sym c.vacant_key-place.ensures.value ∙ is_key)) in
+    let u = subst (λ k. Updates c.if-place-len.self-inside.slab c.insert_reserved.new.self k (Some c.args.cell)) same c.insert_reserved.ensures.updates in
     let updates : Updates s c.insert_reserved.new.self key (Some c.args.cell) = record { changed = u.changed; others = λ k other. u.others k other ∙ ap (λ (z : Slab Label). get z k) (slab ∙ c.reserve.ensures.rest_kept) } in
-    let list = set c.if-key-len.self-inside.bodies.items free c.args.body in
+    let list = set c.if-place-len.self-inside.bodies.items free c.args.body in
     let here : get_or list key nothing ≡ c.args.body =
-    ap (λ k. get_or (set c.if-key-len.self-inside.bodies.items k c.args.body) key nothing) is_key
-    ∙ get_or-set_same c.if-key-len.self-inside.bodies.items key c.args.body nothing (omega (arith, is_key, count, c.in_ok-reach.ensures.reaches, ap length bodies)) in
+    ap (λ k. get_or (set c.if-place-len.self-inside.bodies.items k c.args.body) key nothing) is_key
+    ∙ get_or-set_same c.if-place-len.self-inside.bodies.items key c.args.body nothing (omega (arith, is_key, c.in_ok-reach.ensures.reaches, ap length bodies)) in
     let others : (k : ℕ) → k ≢ key → k < length contents → get_or list k nothing ≡ get_or contents k nothing = λ k other within.
-    get_or-set_other c.if-key-len.self-inside.bodies.items free k c.args.body nothing (λ e. other (e ∙ is_key))
+    get_or-set_other c.if-place-len.self-inside.bodies.items free k c.args.body nothing (λ e. other (e ∙ is_key))
     ∙ (ap (λ ys. get_or ys k nothing) bodies ∙ c.reach.ensures.same k) in
-    let painted = c.if-key-len.self-inside.colours.items in
-    let long : free < length painted = elim c.if-key-len.branch [
-      | then-key-len+in_ok-resize w ↦
+    let painted = c.if-place-len.self-inside.colours.items in
+    let long : free < length painted = elim c.if-place-len.branch [
+      | then-place-len+in_ok-resize w ↦
           let sized = ap (λ (q : Inside). length q.colours.items) w.self-inside-is in
-          omega (arith, sized, count, w.in_ok-resize.ensures.len, w.resize.new.self.ok.0)
-      | else-key-len w ↦
+          omega (arith, sized, w.in_ok-resize.ensures.len, w.resize.new.self.ok.0)
+      | else-place-len w ↦
           let sized = ap (λ (q : Inside). length q.colours.items) w.self-inside-is in
-          omega (arith, sized, w.if-key-len.false, c.len.ensures, c.self.inside.colours.ok.0)
+          omega (arith, sized, w.if-place-len.false, c.len.ensures, c.self.inside.colours.ok.0)
     ] in
-    let kept : (k : ℕ) → k < length colours → get_or painted k White ≡ get_or colours k White = λ k within. elim c.if-key-len.branch [
-      | then-key-len+in_ok-resize w ↦
-          let below : k < c.in_ok-count.count = omega (arith, within, count, w.if-key-len.true, c.len.ensures, c.self.inside.colours.ok.0) in
+    let kept : (k : ℕ) → k < length colours → get_or painted k White ≡ get_or colours k White = λ k within. elim c.if-place-len.branch [
+      | then-place-len+in_ok-resize w ↦
+          let below : k < free + 1 = omega (arith, within, w.if-place-len.true, c.len.ensures, c.self.inside.colours.ok.0) in
           ap (λ (q : Inside). get_or q.colours.items k White) w.self-inside-is
           ∙ w.resize.ensures.by_index.0 k White below (omega (arith, within, c.self.inside.colours.ok.0))
-      | else-key-len w ↦ ap (λ (q : Inside). get_or q.colours.items k White) w.self-inside-is
+      | else-place-len w ↦ ap (λ (q : Inside). get_or q.colours.items k White) w.self-inside-is
     ] in
     inserted (filled_slab s contents) colours c.args.self.now c.self.view_is key (filled_slab c.insert_reserved.new.self list) (set painted free c.args.colour) (filled c.args.body c.args.cell) c.args.colour
     (reaches-filled s contents colours c.self.invariant.coloured)

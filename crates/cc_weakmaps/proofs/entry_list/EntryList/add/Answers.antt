@@ -16,8 +16,8 @@ put_in-requires-clause-known c =
     let known = c.in_ok-know_both.ensures in
     subst (λ (xs : List KeyedEntry). AreKnown xs c.know_both.new.self.places.items) (sym items)
     (added-known es c.self.inside.links.items c.self.inside.lasts.places.items c.know_both.new.self.places.items c.args.entry link c.self.invariant
-    (omega (arith, c.the_map.ensures, known.one))
-    (omega (arith, c.key.ensures, known.other))
+    (omega (arith, ap (λ (e : KeyedEntry). e.the_map) c.entry.view_is, known.one))
+    (omega (arith, ap (λ (e : KeyedEntry). e.key) c.entry.view_is, known.other))
     c.know_both.ensures.others)
 
 pub put_in-requires-clause-indexed : goal.put_in-requires-clause-indexed

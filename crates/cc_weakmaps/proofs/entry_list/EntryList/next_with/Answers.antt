@@ -13,7 +13,7 @@ returns-then-eq-clause-place c =
     let there = subst (λ (z : Kept). IsPlaceOf z.entries c.args.object.0 c.args.place) (sym c.self.view_is) c.requires in
     c.widen.ensures ∙ (ap (λ l. l.by_map) c.index-links.ensures
     ∙ (next-by_map es c.self.inside.links.items c.self.inside.lasts.places.items c.self.invariant.indexed c.args.object.0 c.args.place there c.index.result.now c.index-links.result.now
-    (ap (λ (e : KeyedEntry). e.the_map) (sym c.index.ensures) ∙ (sym c.the_map.ensures ∙ eqb-true _ _ (sym c.if-eq.ensures)))
+    (ap (λ (e : KeyedEntry). e.the_map) (sym c.index.ensures) ∙ (ap (λ (e : KeyedEntry). e.the_map) (sym c.behind-self.view_is) ∙ eqb-true _ _ (sym c.if-eq.ensures)))
     ∙ ap (λ (z : Kept). place_below z.entries c.args.object.0 c.args.place) c.self.view_is))
 
 pub returns-then-eq-clause-there : goal.returns-then-eq-clause-there
@@ -31,7 +31,7 @@ returns-else-eq-clause-place c =
     let there = subst (λ (z : Kept). IsPlaceOf z.entries c.args.object.0 c.args.place) (sym c.self.view_is) c.requires in
     c.widen-else-eq.ensures ∙ (ap (λ l. l.by_key) c.index-links.ensures
     ∙ (next-by_key es c.self.inside.links.items c.self.inside.lasts.places.items c.self.invariant.indexed c.args.object.0 c.args.place there c.index.result.now c.index-links.result.now
-    (ap (λ (e : KeyedEntry). e.the_map == c.args.object.0) (sym c.index.ensures) ∙ (ap (λ m. m == c.args.object.0) (sym c.the_map.ensures) ∙ sym c.if-eq.ensures))
+    (ap (λ (e : KeyedEntry). e.the_map == c.args.object.0) (sym c.index.ensures) ∙ (ap (λ (e : KeyedEntry). e.the_map == c.args.object.0) (sym c.behind-self.view_is) ∙ sym c.if-eq.ensures))
     ∙ ap (λ (z : Kept). place_below z.entries c.args.object.0 c.args.place) c.self.view_is))
 
 pub returns-else-eq-clause-there : goal.returns-else-eq-clause-there

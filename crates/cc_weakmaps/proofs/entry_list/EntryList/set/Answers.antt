@@ -13,12 +13,12 @@ stands : (c : goal.After-self-1) → StandsAt c.self.inside.entries.items c.args
 stands c = subst (λ (z : Kept). StandsAt z.entries c.args.the_map.0 c.args.key.0 c.in-Some.place) (sym c.self.view_is) c.in-Some.ensures.found
 
 -- the entry with another value is still the one of the map and the key
-same : (c : goal.After-self-1) → entry c.behind-self.inside.the_map c.behind-self.inside.key c.args.value.0 ≡ entry c.args.the_map.0 c.args.key.0 c.args.value.0
+same : (c : goal.After-self-1) → entry c.behind-self.inside.the_map.0 c.behind-self.inside.key.0 c.args.value.0 ≡ entry c.args.the_map.0 c.args.key.0 c.args.value.0
 same c =
     let items = c.self.inside.entries.items in
     let there = c.behind-self.view_is ∙ c.index_mut.ensures.value in
     let both = same-map c.args.the_map.0 c.args.key.0 (get_or items c.in-Some.place c.index_mut.result.now) (stands-entry items c.args.the_map.0 c.args.key.0 c.in-Some.place c.index_mut.result.now (stands c)) in
-    ap (λ m. entry m c.behind-self.inside.key c.args.value.0) (ap (λ (e : KeyedEntry). e.the_map) there ∙ both.0)
+    ap (λ m. entry m c.behind-self.inside.key.0 c.args.value.0) (ap (λ (e : KeyedEntry). e.the_map) there ∙ both.0)
     ∙ ap (λ k. entry c.args.the_map.0 k c.args.value.0) (ap (λ (e : KeyedEntry). e.key) there ∙ both.1)
 
 pub invariant_of-self : goal.invariant_of-self
