@@ -1,5 +1,5 @@
 -- WHAT IS KNOWN OF NUMBERS, in pages and in groups of pages.
-use Rattle.std.specs.Prelude.{◌≡◌, ℕ, ◌+◌, ◌<◌, ◌≤◌, ◌/◌, ◌%◌, ◌⊎◌, nat_lt, Bool, true, false, List, [], length, count_by, get_or, Option, Some, None, if◌then◌else◌}
+use Rattle.std.specs.Prelude.{◌≡◌, ℕ, ◌+◌, ◌-◌, ◌<◌, ◌≤◌, ◌/◌, ◌%◌, ◌⊎◌, nat_lt, Bool, true, false, List, [], length, count_by, get_or, Option, Some, None, if◌then◌else◌}
 use Rattle.cc_holders.specs.declared.entry.Entry.{Entry}
 use Rattle.cc_holders.specs.declared.entry.Entry.TheVariants.{Unknown, Known}
 
@@ -17,10 +17,23 @@ abbrev pub key_of : Entry → Option ℕ
 key_of Unknown = None
 key_of (Known count key) = if nat_lt 0 count then Some key else None
 
--- the same with another count
-abbrev pub with_count : ℕ → Entry → Entry
-with_count n Unknown = Unknown
-with_count n (Known count key) = Known n key
+abbrev pub count_of : Entry → ℕ
+count_of Unknown = 0
+count_of (Known count key) = count
+
+-- the same with a count greater or less by one
+abbrev pub one_more : Entry → Entry
+one_more Unknown = Unknown
+one_more (Known count key) = Known (count + 1) key
+
+abbrev pub one_less : Entry → Entry
+one_less Unknown = Unknown
+one_less (Known count key) = Known (count - 1) key
+
+-- the same with another key
+abbrev pub with_key : ℕ → Entry → Entry
+with_key k Unknown = Unknown
+with_key k (Known count key) = Known count k
 
 abbrev pub one_if : Bool → ℕ
 one_if b = if b then 1 else 0

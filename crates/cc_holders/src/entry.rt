@@ -1,6 +1,6 @@
 //! What a table knows of a number.
-ghost use Rattle.std.specs.Prelude.{◌≡◌};
-ghost use Rattle.cc_holders.specs.Entries.{is_known, is_marked, key_of, one_if, with_count};
+ghost use Rattle.std.specs.Prelude.{◌≡◌, ◌<◌};
+ghost use Rattle.cc_holders.specs.Entries.{count_of, is_known, is_marked, key_of, one_if, one_less, one_more, with_key};
 
 /// What a table knows of a number. It is marked as long as its count is above zero.
 #[derive(Clone, Copy, Debug, PartialEq, Eq, Drop)]
@@ -52,13 +52,34 @@ impl Entry {
         }
     }
 
-    /// The same with this count.
-    pub(crate) fn counted(self, count: u8) -> Entry
-        ensures { result ≡ with_count count self }
+    /// The same with a count greater by one.
+    pub(crate) fn raised(self) -> Entry
+        requires { count_of self < 255 }
+        ensures { result ≡ one_more self }
     {
         match self {
             Entry::Unknown => Entry::Unknown,
-            Entry::Known(_, key) => Entry::Known(count, key),
+            Entry::Known(count, key) => Entry::Known(count + 1, key),
+        }
+    }
+
+    /// The same with a count less by one, where it is above zero.
+    pub(crate) fn lowered(self) -> Entry
+        ensures { result ≡ one_less self }
+    {
+        match self {
+            Entry::Known(count, key) if count > 0 => Entry::Known(count - 1, key),
+            entry => entry,
+        }
+    }
+
+    /// The same with this key.
+    pub(crate) fn keyed(self, key: u32) -> Entry
+        ensures { result ≡ with_key key self }
+    {
+        match self {
+            Entry::Unknown => Entry::Unknown,
+            Entry::Known(count, _) => Entry::Known(count, key),
         }
     }
 }

@@ -32,7 +32,7 @@ fn marked_numbers_come_in_order(rt: HostRuntime) {
     let mut holders = Holders::new(rt.alloc());
     assert_eq!(rt; fill(&mut holders), Ok(()));
     for number in [u32::MAX, 32, 31, 4096, 4095, 33] {
-        holders.set_count(number, 2);
+        holders.raise(number);
     }
     assert_eq!(rt; holders.next_marked_after(None), Some((31, 2)));
     assert_eq!(rt; holders.next_marked_after(Some(31)), Some((32, 3)));
@@ -46,15 +46,16 @@ fn marked_numbers_come_in_order(rt: HostRuntime) {
 fn marks_and_numbers_go(rt: HostRuntime) {
     let mut holders = Holders::new(rt.alloc());
     assert_eq!(rt; fill(&mut holders), Ok(()));
-    holders.set_count(31, 65);
-    holders.set_count(32, 1);
-    holders.set_count(4096, 1);
-    holders.set_count(31, 0);
+    holders.raise(31);
+    holders.raise(32);
+    holders.raise(4096);
+    holders.lower(31);
     holders.remove(32);
     assert_eq!(rt; holders.get(31), Entry::Known(0, 2));
     assert_eq!(rt; holders.get(32), Entry::Unknown);
     assert_eq!(rt; holders.next_marked_after(None), Some((4096, 5)));
     assert_eq!(rt; holders.add(32, 8), Ok(()));
-    assert_eq!(rt; holders.get(32), Entry::Known(0, 8));
+    holders.set_key(32, 9);
+    assert_eq!(rt; holders.get(32), Entry::Known(0, 9));
     assert_eq!(rt; holders.next_marked_after(None), Some((4096, 5)));
 }
