@@ -23,6 +23,7 @@ mod counted;
 mod held;
 mod natives;
 mod node;
+mod population;
 
 pub use counted::Counted;
 pub use held::{Held, native_held};
