@@ -23,3 +23,4 @@ pub mod SlotBalance
 pub mod Owned
 pub mod Emptying
 pub mod Unlinking
+pub mod Scripts

@@ -8,3 +8,4 @@ pub mod Nodes
 pub mod Natives
 pub mod Steps
 pub mod Resting
+pub mod Scripts

@@ -17,13 +17,13 @@ ghost use Rattle.cc_counted.specs.Steps.{GivesUp, FreesFront, Drains, ComesTo, E
 
 use crate::cell::held_reflector;
 use crate::held::{Held, native_held};
-use crate::natives::Natives;
+use crate::population::Population;
 use crate::slot::Slot;
 use cc_model::{Event, Item, Notices};
 use cc_names::{NKey, Name, NativeNo, NoMemory, SKey};
 use std::alloc::Global;
 
-impl Natives {
+impl Population {
     /// Gives up one reference to the native at a key: it is suspected where its count stays above zero; where that falls
     /// to zero it leaves the buffer and waits.
     fn give_up(&mut self, key: NKey)

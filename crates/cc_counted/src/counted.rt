@@ -1,5 +1,5 @@
 //! The counted heap as callers see it.
-ghost use Rattle.std.specs.Prelude.{◌≡◌, ◌≢◌, false, ℕ, ◌+◌, ◌<◌, ◌≤◌, List, [], ◌∷◌, ◌++◌, length, Some, None, option_map, option_and_then, slice_index_or, IsSome, IsTrue, IfSome, MatchOption, OnOk, IfOk, OnErr};
+ghost use Rattle.std.specs.Prelude.{◌≡◌, ◌≢◌, false, ℕ, ◌+◌, ◌<◌, ◌≤◌, List, [], ◌∷◌, ◌++◌, length, Some, None, option_map, option_and_then, slice_index_or, IsSome, IsTrue, IfNone, IfSome, MatchOption, OnOk, IfOk, OnErr};
 ghost use Rattle.cc_names.specs.Names.{native};
 ghost use Rattle.cc_model.specs.Telling.{TellsEvents};
 ghost use Rattle.cc_model.specs.Slots.{empty_slots};
@@ -8,11 +8,12 @@ ghost use Rattle.cc_model.specs.Cascade.{add_ref};
 ghost use Rattle.cc_model.specs.End.{unlink};
 ghost use Rattle.cc_counted.specs.Counts.{no_counts, number_at, reflector_at, the_number, name_of, is_live, numbers_held, heap_of, with_heap, with_reflector, left_with, released, slots_of, count_of, preserved_of, references_of, first_number, number_after};
 ghost use Rattle.cc_counted.specs.Owning.{CallersOwn, AreOwned, Transfers, HasKeys};
+ghost use Rattle.cc_counted.specs.Scripts.{HasNoHolder, IsNextHolder};
 ghost use Rattle.cc_counted.specs.Suspects.{is_in_buffer, is_purple_in, front_number, number_behind};
 ghost use Rattle.cc_lists.specs.Members.{Among};
 
 use crate::held::Held;
-use crate::natives::Natives;
+use crate::population::Population;
 use cc_model::Notices;
 use cc_names::{NKey, NativeNo, NoMemory, SKey};
 use std::alloc::Global;
@@ -29,7 +30,7 @@ use std::marker::Model;
 /// of its key, in the place of a number. Crates above give it its own name, and see to it that it is there.
 #[derive(Drop)]
 pub struct Counted {
-    natives: Natives,
+    natives: Population,
     alloc: Global,
 }
 
@@ -52,7 +53,7 @@ impl Counted {
         ensures owned { AreOwned [] result }
     {
         Counted {
-            natives: Natives::new(alloc),
+            natives: Population::new(alloc),
             alloc,
         }
     }
@@ -216,6 +217,29 @@ impl Counted {
         ensures live { IfSome result (λ k. IsSome (number_at self.now k.0)) }
     {
         self.natives.next(key)
+    }
+
+    /// The native with the least number above that of `after`, of all where there is no `after`, that refers to a script object;
+    /// none exactly where there is none. It looks at such natives alone, and at a number for each 32 and each 4096 others.
+    pub fn next_holder(&self, after: Option<NKey>) -> Option<NKey>
+        requires live { IfSome after (λ k. IsSome (number_at self.now k.0)) }
+        ensures next { IfSome result (λ k. IsNextHolder self.now (option_and_then (λ k. number_at self.now k.0) after) k.0) }
+        ensures last { IfNone result (HasNoHolder self.now (option_and_then (λ k. number_at self.now k.0) after)) }
+    {
+        self.natives.next_holder(self.number_of(after))
+    }
+
+    /// The number of a native, where there is one.
+    fn number_of(&self, at: Option<NKey>) -> Option<u32>
+        ensures { result ≡ option_and_then (λ k. number_at self.now k.0) at }
+    {
+        match at {
+            Some(key) => match self.number(key) {
+                Some(number) => Some(number.0),
+                None => None,
+            },
+            None => None,
+        }
     }
 
     /// Roots a native for a collection: one more reference, which the caller owns, and no purple mark.

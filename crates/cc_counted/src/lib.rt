@@ -23,6 +23,7 @@ mod counted;
 mod held;
 mod natives;
 mod node;
+mod population;
 mod slot;
 
 pub use counted::Counted;
