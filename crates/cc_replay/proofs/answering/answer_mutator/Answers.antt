@@ -17,3 +17,6 @@ returns-clause-answered g c =
 pub returns-clause-runs : goal.returns-clause-runs
 returns-clause-runs g c =
     RunsIn-kept c.args.heaps.now c.apply-reply.new.heaps c.args.collector.now c.requires.runs c.apply-reply.ensures.kept
+
+pub returns-clause-remembers : goal.returns-clause-remembers
+returns-clause-remembers g c = c.apply-reply.ensures.kept.suspected

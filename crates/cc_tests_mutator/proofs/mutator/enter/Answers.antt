@@ -7,3 +7,6 @@ apply-reflector-requires-clause-order c = none-owned c.args.heaps.now c.requires
 
 pub apply-entry-requires-clause-order : goal.apply-entry-requires-clause-order
 apply-entry-requires-clause-order c = none-owned c.apply-reflector.new.heaps (c.apply-reflector.ensures.kept.order [] c.requires.order)
+
+pub apply-entry-requires-clause-colours : goal.apply-entry-requires-clause-colours
+apply-entry-requires-clause-colours c = c.apply-reflector.ensures.kept.colours c.requires.colours
