@@ -1,0 +1,90 @@
+#!/usr/bin/env python3
+"""Counts the instructions of the program on scripts of bench.py, by callgrind, and prints one table in Markdown. Not part of
+the gate. It needs valgrind.
+
+Build the program first (it stays as crates/ccreplay/out/ccreplay), and then name the sizes, or none for 4000 32000:
+
+    (cd crates/ccreplay && rt run -- replay < /dev/null)
+    bench/count.py [SIZE ..]
+
+CCREPLAY names another program. FUNCTIONS=1 also prints what each function took, where it is one instruction an object or
+more. LIVE are the numbers of natives beside which a slice is counted (1000,10000,100000 if left out; none where empty).
+
+A row has the instructions of a script's second part, for each object: those of the whole script less those of its first
+part. A slice is one of 900 in a row, each of one unit, in a collection of so many natives that live.
+"""
+
+import os
+import re
+import subprocess
+import sys
+import tempfile
+
+from bench import PROGRAM, chain, live_chain, mapping_chain, mapping_chain_backwards, ring
+
+SHAPES = [
+    ("a chain of natives that lives, collected", live_chain),
+    ("a ring, collected", ring),
+    ("a chain of entries, scanned", mapping_chain),
+    ("the same, set against its order", mapping_chain_backwards),
+]
+SLICES = 900
+FUNCTIONS = bool(os.environ.get("FUNCTIONS"))
+LIVE = [int(it) for it in os.environ.get("LIVE", "1000,10000,100000").split(",") if it]
+
+
+def count(folder, lines):
+    """The instructions of one run, and those of each function."""
+    script, profile = f"{folder}/script", f"{folder}/profile"
+    with open(script, "w") as it:
+        it.write("".join(f"{line}\n" for line in lines))
+    with open(script, "rb") as it:
+        run = subprocess.run(
+            ["valgrind", "--tool=callgrind", f"--callgrind-out-file={profile}", PROGRAM, "replay"],
+            stdin=it, stdout=subprocess.DEVNULL, stderr=subprocess.PIPE, text=True,
+        )
+    found = re.search(r"Collected : (\d+)", run.stderr)
+    if run.returncode or not found:
+        sys.exit(f"count: the run ended with status {run.returncode}")
+    functions = {}
+    if FUNCTIONS:
+        rows = subprocess.run(
+            ["callgrind_annotate", "--threshold=100", "--show-percs=no", profile], capture_output=True, text=True
+        ).stdout
+        for number, name in re.findall(r"^ *([\d,]+) +(\S.*)$", rows, re.MULTILINE):
+            functions[name] = functions.get(name, 0) + int(number.replace(",", ""))
+    return int(found.group(1)), functions
+
+
+def difference(folder, name, size, first, more, by):
+    """Prints the row of what comes after the first part, divided."""
+    whole, of_whole = count(folder, first + more)
+    part, of_part = count(folder, first)
+    print(f"| {name} | {size} | {(whole - part) / by:.0f} |", flush=True)
+    rows = sorted(((of_whole.get(it, 0) - of_part.get(it, 0)) / by, it) for it in of_whole.keys() | of_part.keys())
+    for took, function in reversed(rows):
+        if abs(took) >= 1:
+            print(f"    {took:8.1f}  {function[:120]}", flush=True)
+
+
+def main():
+    sizes = sorted({int(it) for it in sys.argv[1:]}) or [4000, 32000]
+    if any(it < 4 or it % 2 for it in sizes):
+        sys.exit("count: sizes are even, and at least 4")
+    if not os.access(PROGRAM, os.X_OK):
+        sys.exit(f"count: there is no program {PROGRAM}: build it, or name one in CCREPLAY")
+    print("| script | objects | instructions for each |")
+    print("|---|---:|---:|")
+    with tempfile.TemporaryDirectory(prefix="ccreplay-count-") as folder:
+        for name, made in SHAPES:
+            for size in sizes:
+                shape = made(size)
+                difference(folder, name, size, shape.build, shape.end, shape.times * size)
+        for live in LIVE:
+            # the first slice begins the collection; its end is not reached
+            units = min(SLICES, live - 2)
+            difference(folder, "`slice 1`", live, chain(live)[0] + ["slice 1"], ["slice 1"] * units, units)
+
+
+if __name__ == "__main__":
+    main()
