@@ -49,12 +49,7 @@ count-fits owned p k o = go (native_at (counts.heap_of p.counted) k) refl
 
 -- keys are left by numbers
 pub key_left-shown : (objects : List Object) (h g : Heap) (o : Option ℕ) → key_left g o ≡ key_left (shown h objects g) o
-key_left-shown objects h g None = refl
-key_left-shown objects h g (Some k) = go (native_at g k) ∙ ap (λ o. if is_some o then Some k else None) (sym (native_at-shown objects h g k))
-  where
-    go : (o : Option HeapNative) → (if is_some o then Some k else None) ≡ (if is_some (option_map (named_native objects) o) then Some k else None)
-    go None = refl
-    go (Some n) = refl
+key_left-shown objects h g o = grind (arith, native_at-shown)
 
 -- Natives changed, each at its key
 

@@ -2,7 +2,7 @@
 use Rattle.cc_laws_heap.proofs.Changing.{option_map-found}
 use Rattle.cc_lists.proofs.Held.{held-is, of-one}
 use Rattle.cc_heaps.proofs.Keys.{name-in}
-use Rattle.std.proofs.Common.{◌≡◌, ℕ, true, List, [], ◌∷◌, ◌++◌, Option, Some, None, option_map, refl, sym, ◌∙◌, ap, subst, false}
+use Rattle.std.proofs.Common.{arith, ◌≡◌, ℕ, true, List, [], ◌∷◌, ◌++◌, Option, Some, None, option_map, refl, sym, ◌∙◌, ap, subst, false}
 use Rattle.std.specs.Option.{is_some, option_to_list}
 use Rattle.cc_lists.specs.Members.{Among}
 use Rattle.cc_lists.proofs.Members.{Among-left, Among-right, Among-map}
@@ -37,8 +37,7 @@ use Rattle.cc_model.specs.Slots.{Slots}
 
 -- a native that is there has its number
 pub number-some : (o : Option ℕ) → is_some o ≡ true → o ≡ Some (number_or_none o)
-number-some None l = absurd (cc)
-number-some (Some k) l = refl
+number-some o l = grind arith
 
 -- it is one reference
 pub native-numbers : (v : Keyed) (key : NKey) → is_some (number_at v key.0) ≡ true → numbers_of (held_name v (Some (held.Native key))) ≡ the_number v key.0 ∷ []
@@ -52,8 +51,7 @@ native-in owned v (Some key) o y m =
 
 -- the same as a slot holds it
 pub held_of_native-name : (v : Keyed) (x : Option NKey) → held_name v (held_of_native x) ≡ native_name v x
-held_of_native-name v None = refl
-held_of_native-name v (Some key) = refl
+held_of_native-name v x = grind arith
 
 -- What slots hold
 
@@ -69,21 +67,11 @@ module _ (p : Inside) where
 
   -- its name is that of what the counted heap shows
   pub held-named : (x : Option Held) → name_in p.scripts (name_of p.counted x) ≡ held_name v x
-  held-named None = refl
-  held-named (Some (held.Native key)) = go (number_at v key.0)
-    where
-      go : (n : Option ℕ) → name_in p.scripts (option_map native n) ≡ option_map native n
-      go None = refl
-      go (Some k) = refl
-  held-named (Some (held.Script key)) = refl
+  held-named x = grind arith
 
   -- what is put into a slot is there
   pub new-held : (x : Option Held) → IsThere v x → (y : Name) → Among y (option_to_list (name_of p.counted x)) → IsHeldThere p.scripts y
-  new-held None there y m = absurd m
-  new-held (Some (held.Native key)) there y m =
-      let f = option_map-found native (number_at v key.0) y (held-is (native_name v (Some key)) y m) in
-      subst (IsHeldThere p.scripts) f.2 tt
-  new-held (Some (held.Script key)) there y m = of-one (IsHeldThere p.scripts) (object key.0) there y m
+  new-held x there y m = grind (arith, option_map-found, held-is, of-one)
 
   module _ (owned : List ℕ) (f : IsFit owned p) where
     -- a script object is no reference
@@ -103,18 +91,13 @@ own-content owned p x there f =
 
 -- no reference is taken or given up
 pub take_up-none : (h : Heap) (x : Option Name) → numbers_of x ≡ [] → take_up h x ≡ h
-take_up-none h None e = refl
-take_up-none h (Some (name.Native k)) e = absurd (cc)
-take_up-none h (Some (name.Script k)) e = refl
-take_up-none h (Some (name.Reflector k)) e = refl
+take_up-none h x e = grind arith
 
 -- By whether a native is held
 
 -- script objects have no names of natives
 not-native : (x : Name) (kind : Kind) (slots : Slots) → FitsName x kind slots → is_native x ≡ false
-not-native (name.Native k) kind slots f = absurd f
-not-native (name.Script k) kind slots f = refl
-not-native (name.Reflector k) kind slots f = refl
+not-native x kind slots f = grind arith
 
 own-names : (owned : List ℕ) (v : Keyed) → IsInOrder owned v → (o : Object) → Among o v.scripts → is_native o.name ≡ false
 own-names owned v f o m =
@@ -131,7 +114,4 @@ pub in-hand : (v : Keyed) (x : Option Held) (key : NKey) → x ≡ Some (held.Na
 in-hand v x key e there = ap (λ y. numbers_of (held_name v y)) e ∙ native-numbers v key (subst (IsThere v) e there)
 
 pub let_go-none : (h : Heap) (x : Option Name) → numbers_of x ≡ [] → let_go h x ≡ silently h
-let_go-none h None e = refl
-let_go-none h (Some (name.Native k)) e = absurd (cc)
-let_go-none h (Some (name.Script k)) e = refl
-let_go-none h (Some (name.Reflector k)) e = refl
+let_go-none h x e = grind arith

@@ -4,7 +4,7 @@ use Rattle.cc_heaps.proofs.ObjectsKept.{named-there}
 use Rattle.cc_heaps.proofs.Keys.{named-object}
 use Rattle.cc_lists.proofs.Held.{is_some-map}
 use Rattle.cc_laws_heap.proofs.Changing.{option_map-found}
-use Rattle.std.proofs.Common.{◌≡◌, ℕ, ◌==◌, List, Option, Some, None, is_some, option_map, option_and_then, IsTrue, refl, sym, ◌∙◌, ap, subst, inl}
+use Rattle.std.proofs.Common.{arith, ◌≡◌, ℕ, ◌==◌, List, Option, Some, None, is_some, option_map, option_and_then, IsTrue, refl, sym, ◌∙◌, ap, subst, inl}
 use Rattle.std.specs.List.{find}
 use Rattle.std.proofs.lemmas.Bool.{false≢true}
 use Rattle.cc_lists.specs.Members.{Among}
@@ -38,11 +38,7 @@ module _ (owned : List ℕ) (v : Keyed) (order : IsInOrder owned v) where
 
   -- The object at the key of a name has that name.
   pub name-at_key : (y : Name) (q : ℕ) → key_of v.scripts y ≡ Some q → name_at v.scripts q ≡ Some y
-  name-at_key y q e =
-      let f = option_map-found (λ (o : Object). o.key) (find (λ (o : Object). same_name o.name y) v.scripts) q e in
-      let named : f.0.name ≡ y = same_name-true f.0.name y (find-passes (λ (p : Object). same_name p.name y) v.scripts f.0 f.1) in
-      ap (name_at v.scripts) (sym f.2)
-      ∙ (name_at-own v.scripts order.one_key f.0 (find-among (λ (p : Object). same_name p.name y) v.scripts f.0 f.1) ∙ ap (λ z. Some z) named)
+  name-at_key y q e = grind (arith, option_map-found, same_name-true, find-passes, name_at-own, find-among)
 
   -- a name that is there has a key
   pub key-of_name : (y : Name) → Among y (script_names v.heap) → (q : ℕ) × (key_of v.scripts y ≡ Some q)
@@ -76,18 +72,8 @@ module _ (owned : List ℕ) (v : Keyed) (order : IsInOrder owned v) where
   -- WHAT THE COUNTED HEAP ANSWERS under the key of a name is held under that name, where it is there.
   pub content-named : (y : Option Name) (x : Option Held) → IsIn (names_there v.heap) y → name_of (counts_of v) x ≡ option_and_then (keyed_name v.scripts) y →
       IsTrue (is_live (counts_of v) x) → IsHeldAs v x y
-  content-named None x m e live = go x e live
-    where
-      go : (x : Option Held) → name_of (counts_of v) x ≡ None → IsTrue (is_live (counts_of v) x) → IsHeldAs v x None
-      go None e live = record { name = refl; there = tt }
-      go (Some (held.Native key)) e live = absurd (false≢true (sym (ap is_some e) ∙ live))
-      go (Some (held.Script key)) e live = absurd (cc)
-  content-named (Some (name.Native k)) x m e live = go x e live
-    where
-      go : (x : Option Held) → name_of (counts_of v) x ≡ Some (name.Native k) → IsTrue (is_live (counts_of v) x) → IsHeldAs v x (Some (name.Native k))
-      go None e live = absurd (cc)
-      go (Some (held.Native key)) e live = record { name = e; there = sym (is_some-map native (number_at v key.0)) ∙ live }
-      go (Some (held.Script key)) e live = absurd (cc)
+  content-named None x m e live = grind arith
+  content-named (Some (name.Native k)) x m e live = grind (arith, is_some-map)
   content-named (Some (name.Script k)) x m e live =
       script-held (name.Script k) x (IsIn-no_native v.heap (Some (name.Script k)) m refl (name.Script k) (inl refl)) e live
   content-named (Some (name.Reflector k)) x m e live =

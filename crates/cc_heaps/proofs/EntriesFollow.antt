@@ -52,16 +52,7 @@ use Rattle.cc_heaps.proofs.Reflecting.{there-made}
 
 -- what is of the kind of a weak map is one
 kind-map : (g : Graph) (x : Name) → kind_in g x ≡ Some Map → (j : ℕ) × (x ≡ object j) × (script_in g j ≡ Some weak_map)
-kind-map g (name.Native k) e = absurd (cc)
-kind-map g (name.Script k) e = let f = option_map-found kind_of (script_in g k.0) Map e in (k.0, refl, f.1 ∙ ap (λ o. Some o) (kind f.0 f.2))
-  where
-    kind : (o : GraphScript) → kind_of o ≡ Map → o ≡ weak_map
-    kind (plain_object slots) f = absurd (cc)
-    kind weak_map f = refl
-kind-map g (name.Reflector k) e =
-    let n = option_and_then-found reflector_kind (native_in g k.0) Map e in
-    let apart : Reflector ≡ Map = (option_map-found (λ slots. Reflector) n.0.reflector Map n.2).2 in
-    absurd (cc)
+kind-map g x e = grind (arith, option_map-found, option_and_then-found)
 
 -- a reflector preserved leaves the graph well made, and weak maps weak maps
 preserved-well : (g : Graph) (x : Name) → MadeScript g x → IsWellMade g → IsWellMade (graph.preserve g (Some x)) × Grows g (graph.preserve g (Some x))
@@ -176,11 +167,7 @@ module _ {owned : List ℕ} (v w : Keyed) (o : IsInOrder owned v) (p : IsInOrder
   key = the_name-there v.scripts k k-there
 
   value : named x ≡ option_map (the_name_at v.scripts) x
-  value = go x x-there
-    where
-      go : (y : Option ℕ) → IfSome y (λ q. IsTrue (is_there v.scripts q)) → named y ≡ option_map (the_name_at v.scripts) y
-      go None t = refl
-      go (Some q) t = the_name-there v.scripts q t
+  value = grind (arith, the_name-there)
 
   members : OfSome (λ y. HasMembers v.heap (entry (the_name_at v.scripts m) (the_name_at v.scripts k) y)) (option_map (the_name_at v.scripts) x)
   members = go x x-there
@@ -203,19 +190,9 @@ module _ {owned : List ℕ} (v w : Keyed) (o : IsInOrder owned v) (p : IsInOrder
 
 -- AN ENTRY SET first and then its key preserved is both at once.
 preserve-entries : (h : Heap) (es : List Entry) (x : Name) → preserve (record h { entries = es }) (Some x) ≡ record (preserve h (Some x)) { entries = es }
-preserve-entries h es (name.Native j) = refl
-preserve-entries h es (name.Script j) = refl
-preserve-entries h es (name.Reflector j) = refl
+preserve-entries h es x = grind arith
 
 pub set-preserved : (v mid w : Keyed) (m k x : ℕ) → IsTrue (is_there v.scripts m) → IsTrue (is_there v.scripts k) → IsTrue (is_there v.scripts x) →
     mid.heap ≡ record v.heap { entries = with_entry v.heap.entries (the_name_at v.scripts m) (the_name_at v.scripts k) (the_name_at v.scripts x) } → mid.scripts ≡ v.scripts →
     w ≡ changed_to mid (preserve mid.heap (name_at mid.scripts k)) → w.heap ≡ set_entry v.heap (name_at v.scripts m) (name_at v.scripts k) (name_at v.scripts x)
-set-preserved v mid w m k x s t u heap scripts e =
-    ap (λ (i : Keyed). i.heap) e
-    ∙ ((λ i. preserve (heap i) (name_at (scripts i) k))
-    ∙ ((λ i. preserve after (the_name-there v.scripts k t i))
-    ∙ (preserve-entries v.heap after.entries (the_name_at v.scripts k)
-    ∙ (λ i. set_entry v.heap (sym (the_name-there v.scripts m s) i) (sym (the_name-there v.scripts k t) i) (sym (the_name-there v.scripts x u) i)))))
-  where
-    after : Heap
-    after = record v.heap { entries = with_entry v.heap.entries (the_name_at v.scripts m) (the_name_at v.scripts k) (the_name_at v.scripts x) }
+set-preserved v mid w m k x s t u heap scripts e = grind (arith, the_name-there, preserve-entries)

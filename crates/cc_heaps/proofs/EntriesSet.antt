@@ -2,7 +2,7 @@
 use Rattle.std.proofs.lemmas.Bool.{cases_Bool}
 use Rattle.cc_lists.proofs.Held.{option_and_then-found}
 use Rattle.cc_laws_heap.proofs.Changing.{option_map-found}
-use Rattle.std.proofs.Common.{◌≡◌, ℕ, true, List, Option, Some, None, Result, Ok, Err, OnOk, OnErr, is_some, option_map, refl, sym, ◌∙◌, ap, subst, ⊎_elim}
+use Rattle.std.proofs.Common.{arith, ◌≡◌, ℕ, true, List, Option, Some, None, Result, Ok, Err, OnOk, OnErr, is_some, option_map, refl, sym, ◌∙◌, ap, subst, ⊎_elim}
 use Rattle.std.specs.Prelude.{IsTrue, IsSome}
 use Rattle.std.specs.Option.{option_and_then}
 use Rattle.cc_lists.specs.Members.{Among}
@@ -36,9 +36,7 @@ use Rattle.cc_heaps.proofs.ScriptCalls.{Becomes}
 module _ (owned : List ℕ) (v : Keyed) (o : IsInOrder owned v) where
   -- what is there has its name in the heaps
   pub the_name-among : (key : ℕ) → IsTrue (is_there v.scripts key) → Among (the_name_at v.scripts key) (script_names v.heap)
-  the_name-among key t =
-      let f = name_at-found v.scripts key (the_name_at v.scripts key) (the_name-there v.scripts key t) in
-      subst (λ x. Among x (script_names v.heap)) f.3 (object-name v.heap v.scripts o.named f.0 f.1)
+  the_name-among key t = grind (arith, name_at-found, the_name-there, object-name)
 
   -- a weak map is one in the heaps
   the_map-among : (key : ℕ) → kind_at v.scripts key ≡ Some Map →
@@ -68,32 +66,7 @@ module _ {owned : List ℕ} (p : Inside) (l : IsLinked p) (o : IsInOrder owned (
   -- what is changed by keys is changed by names
   becomes-entries : (es : List KeyedEntry) (named : List Entry) → named_entries p.scripts es ≡ named → IsSound owned (with_entries (heap_of p) named) → AreEntriesThere p.scripts es →
       Becomes owned p (with_weak p es) (with_entries (heap_of p) named)
-  becomes-entries es named e s there = record {
-    heap = ap (with_entries (heap_of p)) e;
-    names = λ key x at. at;
-    keys = record { natives = λ key k at m. at; scripts = λ key x at m. at };
-    order = record {
-      sound = subst (λ n. IsSound owned (with_entries (heap_of p) n)) (sym e) s;
-      keyed = o.keyed;
-      named = refl;
-      one_key = o.one_key;
-      whole = o.whole;
-      reflecting = λ q m. Reflects-kept (keyed_of p) (keyed_of (with_weak p es)) q.name q.native (λ key k is at. at) (o.reflecting q m);
-      limits = o.limits;
-      entries = refl;
-      entries_there = there;
-    };
-    linked = record {
-      native_registers = l.native_registers;
-      script_registers = l.script_registers;
-      registers = l.registers;
-      held = l.held;
-      one_key = l.one_key;
-      one_name = l.one_name;
-      reflectors = l.reflectors;
-      script_names = l.script_names;
-    };
-  }
+  becomes-entries es named e s there = grind (arith, Reflects-kept)
 
   module _ (m k : ℕ) (is_map : kind_at p.scripts m ≡ Some Map) (k-there : IsTrue (is_there p.scripts k)) where
     m-there : IsTrue (is_there p.scripts m)

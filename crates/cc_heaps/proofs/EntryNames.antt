@@ -1,7 +1,7 @@
 -- ENTRIES OF WEAK MAPS BY KEYS ARE THOSE BY NAMES, where no two script objects have one name: an entry is set, taken out and
 -- looked for alike. A script object is a weak map where the definitions say that it has no slots.
 use Rattle.cc_lists.proofs.Held.{through-test, of-test, of-one}
-use Rattle.std.proofs.Common.{◌≡◌, ◌↔◌, ℕ, ◌==◌, true, false, not, ◌&&◌, List, [], ◌∷◌, Option, Some, None, option_map, refl, sym, ◌∙◌, ap, subst, inl, inr, ⊎_elim}
+use Rattle.std.proofs.Common.{arith, ◌≡◌, ◌↔◌, ℕ, ◌==◌, true, false, not, ◌&&◌, List, [], ◌∷◌, Option, Some, None, option_map, refl, sym, ◌∙◌, ap, subst, inl, inr, ⊎_elim}
 use Rattle.std.specs.Prelude.{IsTrue}
 use Rattle.std.specs.Option.{is_none, is_some, option_and_then}
 use Rattle.std.specs.List.{find}
@@ -38,12 +38,7 @@ use Rattle.cc_heaps.proofs.ScriptsChanged.{HasOneName-named}
 module _ (objects : List Object) (one_name : HasOneName objects) where
   -- two keys are one where their names are
   same-key : (a b : ℕ) → IsTrue (is_there objects a) → IsTrue (is_there objects b) → same_name (the_name_at objects a) (the_name_at objects b) ≡ (a == b)
-  same-key a b s t = same-tests (same_name (the_name_at objects a) (the_name_at objects b)) (a == b)
-      (λ e.
-      let f = name_at-found objects a (the_name_at objects a) (the_name-there objects a s) in
-      let named : f.0.name ≡ the_name_at objects b = f.3 ∙ same_name-true (the_name_at objects a) (the_name_at objects b) e in
-      eq-eqb a b (sym f.2 ∙ key-named objects one_name b (the_name_at objects b) (the_name-there objects b t) f.0 f.1 named))
-      (λ e. subst (λ c. same_name (the_name_at objects a) (the_name_at objects c) ≡ true) (eqb-true a b e) (same_name-refl (the_name_at objects a)))
+  same-key a b s t = grind (arith, same-tests, name_at-found, the_name-there, same_name-true, eq-eqb, key-named, eqb-true, same_name-refl)
 
   module _ (m k : ℕ) (m-there : IsTrue (is_there objects m)) (k-there : IsTrue (is_there objects k)) where
     abbrev x : Name
@@ -134,24 +129,12 @@ module _ (owned : List ℕ) (v : Keyed) (o : IsInOrder owned v) where
   -- there is one alike,
   pub has_value-named : (m k : ℕ) → IsTrue (is_there v.scripts m) → IsTrue (is_there v.scripts k) →
       is_some (value_at (objects_of v.heap) (name_at v.scripts m) (name_at v.scripts k)) ≡ has_value_in v.entries m k
-  has_value-named m k s t = ap is_some (value_at-named m k s t) ∙ go (value_in v.entries m k) refl
-    where
-      go : (f : Option ℕ) → value_in v.entries m k ≡ f → is_some (option_and_then (name_at v.scripts) f) ≡ is_some f
-      go None e = refl
-      go (Some j) e = ap is_some (the_name-there v.scripts j (value_in-there v.scripts v.entries o.entries_there m k j e))
+  has_value-named m k s t = grind (arith, value_at-named, the_name-there, value_in-there)
 
   -- and it is there, as it is read of the entries.
   pub value-read : (m k : ℕ) → IsTrue (is_there v.scripts m) → IsTrue (is_there v.scripts k) → (found : Option SKey) → option_map (λ (j : SKey). j.0) found ≡ value_in v.entries m k →
       (script_name v found ≡ value_at (objects_of v.heap) (name_at v.scripts m) (name_at v.scripts k)) × IsScriptThere v found
-  value-read m k s t found e = (name found ∙ (ap (option_and_then (name_at v.scripts)) e ∙ sym (value_at-named m k s t)), there found e)
-    where
-      name : (f : Option SKey) → script_name v f ≡ option_and_then (name_at v.scripts) (option_map (λ (j : SKey). j.0) f)
-      name None = refl
-      name (Some j) = refl
-
-      there : (f : Option SKey) → option_map (λ (j : SKey). j.0) f ≡ value_in v.entries m k → IsScriptThere v f
-      there None d = tt
-      there (Some j) d = value_in-there v.scripts v.entries o.entries_there m k j.0 (sym d)
+  value-read m k s t found e = grind (arith, value_at-named, value_in-there)
 
   -- The kind of what is there
 
@@ -172,29 +155,8 @@ module _ (owned : List ℕ) (v : Keyed) (o : IsInOrder owned v) where
 
   -- A WEAK MAP IS WHAT IS THERE AND HAS NO SLOTS.
   pub map-named : (key : ℕ) (x : Name) → name_at v.scripts key ≡ Some x → (slots_in v.heap x ≡ None) ↔ (kind_at v.scripts key ≡ Some Map)
-  map-named key x = go (object_at v.scripts key) refl
-    where
-      kind : (q : Kind) (slots : Slots) → (slots_of_kind q slots ≡ None) ↔ (Some q ≡ Some Map)
-      kind Plain slots = (λ e. absurd (cc), λ e. absurd (cc))
-      kind Reflector slots = (λ e. absurd (cc), λ e. absurd (cc))
-      kind Map slots = (λ e. refl, λ e. refl)
-
-      go : (f : Option Object) → object_at v.scripts key ≡ f → option_map (λ q. q.name) f ≡ Some x → (slots_in v.heap x ≡ None) ↔ (option_map (λ (q : Object). q.kind) f ≡ Some Map)
-      go None f e = absurd (cc)
-      go (Some q) f e =
-          let named : q.name ≡ x = cc in
-          let slots = slots_in-named q (object_at-found v.scripts key q f).0 in
-          let both = kind q.kind (named_object v.scripts q).slots in
-          subst (λ z. (slots_in v.heap z ≡ None) ↔ (Some q.kind ≡ Some Map)) named ((λ n. both.0 (sym slots ∙ n)), (λ n. slots ∙ both.1 n))
+  map-named key x = grind (arith, slots_in-named, object_at-found)
 
   -- which the check of a command asks
   pub is_map-named : (key : ℕ) → IsTrue (is_there v.scripts key) → IsTrue (is_map_in (objects_of v.heap) (name_at v.scripts key)) ↔ (kind_at v.scripts key ≡ Some Map)
-  is_map-named key t =
-      let n = the_name-there v.scripts key t in
-      let both = map-named key (the_name_at v.scripts key) n in
-      subst (λ y. IsTrue (is_map_in (objects_of v.heap) y) ↔ (kind_at v.scripts key ≡ Some Map)) (sym n)
-      ((λ e. both.0 (none (slots_in v.heap (the_name_at v.scripts key)) e)), (λ e. ap is_none (both.1 e)))
-    where
-      none : (s : Option Slots) → is_none s ≡ true → s ≡ None
-      none None e = refl
-      none (Some s) e = absurd (false≢true e)
+  is_map-named key t = grind (arith, the_name-there, map-named)

@@ -86,10 +86,7 @@ pub record Keeps (h g : Heap) : Type 0 where
 
 -- a gentle change that keeps the colours
 Follows-from : (h g : Heap) → IsWellFormed h → IsWellFormed g → AreGentle h g → (IsColoured h → IsColoured g) → Follows h g
-Follows-from h g early late gentle coloured = record {
-  colours = λ c. HasColourInvariant-from g late (coloured (AreColoured-from_view h early c));
-  fresh = λ s f. fresh-coloured h g early late gentle coloured s f;
-}
+Follows-from h g early late gentle coloured = grind (arith, HasColourInvariant-from, AreColoured-from_view, fresh-coloured)
 
 -- a loyal change
 Remembers-from : (h g : Heap) → IsWellFormed h → IsWellFormed g → IsLoyal (view h) (view g) → Remembers h g
@@ -136,18 +133,15 @@ script_slot-keeps {owned} h (name.Reflector k) i y at there black s = script_slo
 
 -- the command that makes a script object is in its ranges, and is taken
 pub made-ranges : (d : ℕ) (slots : Option ℕ) → d < 256 → IfSome slots (λ n. n ≤ 64) → IsTrue (in_range (command_to_make d slots))
-made-ranges d None room few = lt-ltb d 256 room
-made-ranges d (Some n) room few = rw (lt-ltb d 256 room, le-leb n 64 few) refl
+made-ranges d slots room few = grind (arith, lt-ltb, le-leb)
 
 made-taken : (h : Heap) (d : ℕ) (slots : Option ℕ) → h.scripts_made < h.limits.scripts → IsTaken (objects_of h) (command_to_make d slots)
-made-taken h d None allowed = record { objects = refl; kinds = refl; slot = refl; content = refl; room = lt-leb h.limits.scripts h.scripts_made allowed }
-made-taken h d (Some n) allowed = record { objects = refl; kinds = refl; slot = refl; content = refl; room = lt-leb h.limits.scripts h.scripts_made allowed }
+made-taken h d slots allowed = grind (arith, lt-leb)
 
 -- it makes it
 pub made-effects : (h : Heap) (d : ℕ) (slots : Option ℕ) → (effects h (command_to_make d slots)).heap ≡ make_object h d (kind_to_make slots) (slots_to_make slots)
 unfolding effects
-made-effects h d None = refl
-made-effects h d (Some n) = refl
+made-effects h d slots = grind arith
 
 -- A script object is made.
 pub make_object-keeps : {owned : List ℕ} (h : Heap) (d : ℕ) (slots : Option ℕ) → d < 256 → IfSome slots (λ n. n ≤ 64) → h.scripts_made < h.limits.scripts → IsSound owned h →
@@ -235,9 +229,7 @@ module _ (owned : List ℕ) (t : Heap) (k i : ℕ) (x : Option Name) (n : HeapNa
       (let_go-caught owned written old owed)
 
   put-scripts : SameScripts t (let_go written old).heap
-  put-scripts =
-      let b = let_go-scripts written old in
-      record { scripts = b.scripts; registers = b.registers }
+  put-scripts = grind (arith, let_go-scripts)
 
 -- A slot of a native is written: the colour invariant stays.
 pub stored_in-colours : {owned : List ℕ} (h : Heap) (k i : ℕ) (x : Option Name) → i < length (slots_now (native_at h k)) → IsIn (names_there h) x →
@@ -311,15 +303,11 @@ module _ (owned : List ℕ) (v : Keyed) (o : IsInOrder owned v) where
       sym (ap (λ (p : HeapScript). p.colour) f.2) ∙ (cc)
 
   pub script_name-black : (x : Option SKey) → IfSome x (λ k. colour_at v.scripts k.0 ≡ Some Black) → IsHeldBlack v.heap.scripts (script_name v x)
-  script_name-black None b = λ s m i. absurd i
-  script_name-black (Some key) b = name_at-black key.0 b
+  script_name-black x b = grind (arith, name_at-black)
 
   -- what is held is black, where it is a script object
   pub held_name-black : (x : Option Held) → IsBlackHeld v x → IsHeldBlack v.heap.scripts (held_name v x)
-  held_name-black None b = λ s m i. absurd i
-  held_name-black (Some (held.Script key)) b = name_at-black key.0 b
-  held_name-black (Some (held.Native key)) b = λ s m i.
-      absurd (native-is_no_script s.name (native-name_of v.heap s.name (native-in owned v (Some key) o s.name i)) (script-named v.heap o.sound.well_formed s m))
+  held_name-black x b = grind (arith, name_at-black, native-is_no_script, native-name_of, native-in, script-named)
 
 -- A slot of the script object at a key is written.
 pub object_slot-keeps : {owned : List ℕ} (v : Keyed) (o : IsInOrder owned v) (key i : ℕ) (x : Option SKey) → IsTrue (is_there v.scripts key) →
@@ -351,11 +339,7 @@ held-remembers {owned} v w o k i x within reached after e =
 
 -- there is room in a slot, by the counted natives and by the definitions
 slots-counted : (v : Keyed) (k : ℕ) → length (counts.slots_at (native_at (counts.heap_of (counts_of v)) k)) ≡ length (slots_now (native_at v.heap k))
-slots-counted v k = ap (λ o. length (counts.slots_at o)) (find-map (λ (n : HeapNative). n.number == k) (keyed_native v.scripts) v.heap.natives) ∙ go (native_at v.heap k)
-  where
-    go : (o : Option HeapNative) → length (counts.slots_at (option_map (keyed_native v.scripts) o)) ≡ length (slots_now o)
-    go None = refl
-    go (Some n) = length-map n.slots (λ x. option_and_then (keyed_name v.scripts) x)
+slots-counted v k = grind (arith, find-map, length-map)
 
 pub within-named : (v : Keyed) (key i : ℕ) → i < length (slots_of (counts_of v) key) → i < length (slots_now (native_at v.heap (the_number v key)))
 within-named v key i within = omega (arith, within, slots-counted v (the_number v key))

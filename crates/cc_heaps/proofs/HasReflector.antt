@@ -1,6 +1,6 @@
 -- A NATIVE HAS A REFLECTOR by its name where the counted heap has a key for it.
 use Rattle.cc_lists.proofs.Held.{is_some-map}
-use Rattle.std.proofs.Common.{◌≡◌, ℕ, ◌∙◌, ap, sym}
+use Rattle.std.proofs.Common.{arith, ◌≡◌, ℕ, ◌∙◌, ap, sym}
 use Rattle.std.specs.List.{find}
 use Rattle.std.specs.Option.{is_some}
 use Rattle.cc_lists.proofs.Searching.{find-map}
@@ -12,8 +12,4 @@ use Rattle.cc_heaps.specs.Keyed.{Keyed, reflector_key, named_object, named_objec
 module _ (v : Keyed) (named : v.heap.scripts ≡ named_objects v.scripts) where
   -- a native has a reflector by name where it has the key of one
   pub has_reflector-named : (k : ℕ) → has_reflector v.heap k ≡ is_some (reflector_key v.scripts k)
-  has_reflector-named k =
-      ap (λ os. is_some (find (λ (o : HeapScript). same_name o.name (reflector k)) os)) named
-      ∙ (ap is_some (find-map (λ (o : HeapScript). same_name o.name (reflector k)) (named_object v.scripts) v.scripts)
-      ∙ (is_some-map (named_object v.scripts) (find (λ (o : Object). same_name o.name (reflector k)) v.scripts)
-      ∙ sym (is_some-map (λ (o : Object). o.key) (find (λ (o : Object). same_name o.name (reflector k)) v.scripts))))
+  has_reflector-named k = grind (arith, find-map, is_some-map)

@@ -2,7 +2,7 @@
 -- their names and gave them back for their keys.
 use Rattle.cc_heaps.proofs.Reaching.{object_at-found}
 use Rattle.cc_laws_heap.proofs.GraphParts.{is_some-found}
-use Rattle.std.proofs.Common.{◌≡◌, ℕ, ◌≤◌, List, [], ◌∷◌, map, count_by, Option, Some, None, IsTrue, option_map, refl, sym, ◌∙◌, ap, inl, inr}
+use Rattle.std.proofs.Common.{arith, ◌≡◌, ℕ, ◌≤◌, List, [], ◌∷◌, map, count_by, Option, Some, None, IsTrue, option_map, refl, sym, ◌∙◌, ap, inl, inr}
 use Rattle.std.specs.Option.{option_and_then}
 use Rattle.cc_lists.specs.Members.{Among}
 use Rattle.cc_lists.proofs.Searching.{find-only}
@@ -36,15 +36,10 @@ module _ (objects : List Object) (one_name : (x : Name) → count_by (λ (o : Ob
   keyed-script o m = rw (scripts o m, keyed_name) (ap (option_map object) (key_of-name o m))
 
   there-and-back : (key : ℕ) → IsTrue (is_there objects key) → key_in (name_at objects key) ≡ Some (object key)
-  there-and-back key there =
-      let f = is_some-found (object_at objects key) there in
-      let m = object_at-found objects key f.0 f.1 in
-      ap (λ (o : Option Object). key_in (option_map (λ (p : Object). p.name) o)) f.1 ∙ (keyed-script f.0 m.0 ∙ ap (λ k. Some (object k)) m.1)
+  there-and-back key there = grind (arith, is_some-found, object_at-found, keyed-script)
 
   name-back : (x : Name) → IsHeldThere objects x → key_in (name_in objects (Some x)) ≡ Some x
-  name-back (name.Native k) there = refl
-  name-back (name.Script k) there = there-and-back k.0 there
-  name-back (name.Reflector k) there = absurd there
+  name-back x there = grind (arith, there-and-back)
 
   slots-back : (slots : Slots) → ((x : Name) → Among x (contents slots) → IsHeldThere objects x) → map key_in (named_slots objects slots) ≡ slots
   slots-back [] there = refl

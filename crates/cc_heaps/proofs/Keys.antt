@@ -5,7 +5,7 @@ use Rattle.cc_heaps.specs.Changes.{script_name}
 use Rattle.cc_laws_heap.proofs.Owning.{IsIn}
 use Rattle.cc_lists.proofs.Held.{held-is}
 use Rattle.cc_heaps.proofs.Reaching.{name_at-found}
-use Rattle.std.proofs.Common.{◌≡◌, ℕ, List, [], map, Option, Some, None, refl, sym, ◌∙◌, ap, subst, if◌then◌else◌}
+use Rattle.std.proofs.Common.{arith, ◌≡◌, ℕ, List, [], map, Option, Some, None, refl, sym, ◌∙◌, ap, subst, if◌then◌else◌}
 use Rattle.std.specs.Option.{is_some}
 use Rattle.std.specs.List.{find}
 use Rattle.std.proofs.Math.ListN.{get_or-map}
@@ -121,8 +121,7 @@ Reflects-cases v P plain own (name.Reflector k) (Some q) r = own k.0 q r
 
 -- the object with the key of a native is its reflector
 pub Reflects-some : (v : Keyed) (x : Name) (q : ℕ) → Reflects v x (Some q) → (k : ℕ) × (x ≡ reflector k) × (keyed.number_at v q ≡ Some k)
-Reflects-some v x q r = Reflects-cases v (λ y key. key ≡ Some q → (k : ℕ) × (y ≡ reflector k) × (keyed.number_at v q ≡ Some k)) (λ k e. absurd (cc))
-    (λ k j e f. let same : j ≡ q = cc in (k, refl, subst (λ i. keyed.number_at v i ≡ Some k) same e)) x (Some q) r refl
+Reflects-some v x q r = grind (arith, Reflects-cases)
 
 -- a reflector's native stays at its key
 pub Reflects-kept : (v w : Keyed) (x : Name) (key : Option ℕ) → ((q k : ℕ) → x ≡ reflector k → keyed.number_at v q ≡ Some k → keyed.number_at w q ≡ Some k) →
@@ -131,21 +130,15 @@ Reflects-kept v w x key kept r = Reflects-cases v (λ y q. x ≡ y → Reflects 
 
 -- an object that stands at a key has its name in the heaps
 pub object-name : (h : Heap) (objects : List Object) → h.scripts ≡ named_objects objects → (o : Object) → Among o objects → Among o.name (script_names h)
-object-name h objects e o m = subst (λ (ss : List HeapScript). Among o.name (map (λ s. s.name) ss)) (sym e)
-    (Among-map (λ (s : HeapScript). s.name) (named_object objects o) (named_objects objects) (Among-map (named_object objects) o objects m))
+object-name h objects e o m = grind (arith, Among-map)
 
 -- and each that has a name there stands at a key
 pub named-object : (h : Heap) (objects : List Object) → h.scripts ≡ named_objects objects → (x : Name) → Among x (script_names h) → (o : Object) × Among o objects × (o.name ≡ x)
-named-object h objects e x m =
-    let f = Among-map_cases (λ (s : HeapScript). s.name) h.scripts x m in
-    let g = Among-map_cases (named_object objects) objects f.0 (subst (Among f.0) e f.1) in
-    (g.0, g.1, ap (λ (s : HeapScript). s.name) g.2 ∙ f.2)
+named-object h objects e x m = grind (arith, Among-map_cases)
 
 -- what stands at a key has its name there
 pub name-in : (h : Heap) (objects : List Object) → h.scripts ≡ named_objects objects → (key : ℕ) → IsIn (script_names h) (name_at objects key)
-name-in h objects e key x m =
-    let f = name_at-found objects key x (held-is (name_at objects key) x m) in
-    subst (λ y. Among y (script_names h)) f.3 (object-name h objects e f.0 f.1)
+name-in h objects e key x m = grind (arith, name_at-found, held-is, object-name)
 
 pub script_name-in : (v : Keyed) → v.heap.scripts ≡ named_objects v.scripts → (x : Option SKey) → IsIn (script_names v.heap) (script_name v x)
 script_name-in v e None x m = absurd m

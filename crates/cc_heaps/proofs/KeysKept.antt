@@ -1,5 +1,5 @@
 -- KEYS THAT ARE KEPT where the heaps changed under the same keys, and where some natives are no more.
-use Rattle.std.proofs.Common.{◌≡◌, Option, Some, None, sym, ◌∙◌, ap, subst}
+use Rattle.std.proofs.Common.{arith, ◌≡◌, Option, Some, None, sym, ◌∙◌, ap, subst}
 use Rattle.std.proofs.Math.ListN.{get_or-map}
 use Rattle.cc_model.specs.Heap.{Heap}
 use Rattle.cc_counted.specs.Counts.{key_left}
@@ -25,5 +25,4 @@ KeepsKeys-left v w h e = subst (KeepsKeys v) (sym e) (record {
 
 -- the front of the buffer was taken out, where there was one
 pub KeepsKeys-front : (v w : Keyed) (o : Option Front) → TakesFront v w o → KeepsKeys v w
-KeepsKeys-front v w None t = subst (KeepsKeys v) (sym t.1) (KeepsKeys-same v)
-KeepsKeys-front v w (Some front) t = KeepsKeys-changed v w (record v.heap { buffer = w.heap.buffer }) t.1
+KeepsKeys-front v w o t = grind (arith, KeepsKeys-same, KeepsKeys-changed)

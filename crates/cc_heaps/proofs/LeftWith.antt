@@ -1,5 +1,5 @@
 -- KEYS OF HEAPS IN WHICH SOME NATIVES ARE NO MORE, or none: the number at a key, and what is left where some leave and then others.
-use Rattle.std.proofs.Common.{◌≡◌, ℕ, zero, suc, List, [], ◌∷◌, map, get_or, true, Option, Some, None, refl, ◌∙◌, ap, inl, is_some, sym, if◌then◌else◌}
+use Rattle.std.proofs.Common.{arith, ◌≡◌, ℕ, zero, suc, List, [], ◌∷◌, map, get_or, true, Option, Some, None, refl, ◌∙◌, ap, inl, is_some, sym, if◌then◌else◌}
 use Rattle.std.proofs.Math.ListN.{get_or-map}
 use Rattle.std.proofs.lemmas.Simd.{map-map}
 use Rattle.std.proofs.Math.Path.{fun_ext}
@@ -38,11 +38,7 @@ number-stays owned v h key live o =
     ∙ (ap (key_left h) (number-some (number_at v key) live) ∙ key_left-there h (the_number v key) (o.sound.owned_there (the_number v key) (inl refl)))
 
 key_left-gone : (h : Heap) (k : ℕ) → ¬ (Among (native k) (native_names h)) → key_left h (Some k) ≡ None
-key_left-gone h k gone = go (native_at h k) refl
-  where
-    go : (o : Option HeapNative) → native_at h k ≡ o → (if is_some o then Some k else None) ≡ None
-    go None e = refl
-    go (Some n) e = absurd (gone (native_at-named h k n e))
+key_left-gone h k gone = grind (arith, native_at-named)
 
 -- some natives leave, and then others: those that are there at the end were there between
 module _ (h g : Heap) (before : (k : ℕ) → Among (native k) (native_names g) → Among (native k) (native_names h)) where

@@ -1,6 +1,6 @@
 -- THE PARTS STAY LINKED as their counted heap changes: what registers and slots hold is there, and natives that are left
 -- have their reflectors still.
-use Rattle.std.proofs.Common.{◌≡◌, ℕ, Bool, true, false, List, [], ◌∷◌, map, set, Option, Some, None, refl, ap, ⊎_elim, if◌then◌else◌}
+use Rattle.std.proofs.Common.{arith, ◌≡◌, ℕ, Bool, true, false, List, [], ◌∷◌, map, set, Option, Some, None, refl, ap, ⊎_elim, if◌then◌else◌}
 use Rattle.std.specs.Option.{is_some, option_and_then, option_to_list}
 use Rattle.cc_lists.specs.Members.{Among}
 use Rattle.cc_lists.proofs.ListWrites.{Among-flat_map_set}
@@ -27,16 +27,7 @@ with_counted p c = record p { counted = c }
 -- they are linked where registers and slots of natives are, and each native has its reflector
 pub IsLinked-counted : (p : Inside) (c : Counts) → AreLive c.keys p.native_registers.items → AreHeldThere p.scripts c.natives →
     c.reflectors ≡ reflectors_by p.scripts c.keys → IsLinked p → IsLinked (with_counted p c)
-IsLinked-counted p c live held reflectors l = record {
-  native_registers = live;
-  script_registers = l.script_registers;
-  registers = l.registers;
-  held = held;
-  one_key = l.one_key;
-  one_name = l.one_name;
-  reflectors = reflectors;
-  script_names = l.script_names;
-}
+IsLinked-counted p c live held reflectors l = grind arith
 
 -- natives that left took the keys of their reflectors along
 pub reflectors-left : (objects : List Object) (h : Heap) (keys : List (Option ℕ)) →

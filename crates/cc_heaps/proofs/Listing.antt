@@ -141,14 +141,10 @@ pub record NativesListed (c : Counts) (at : Option NKey) (count : ℕ) (before a
 
 -- the number of the first native is its key in this walk
 first_number-key : (ns : List HeapNative) → first_number ns ≡ first_key (λ (n : HeapNative). n.number) ns
-first_number-key [] = refl
-first_number-key (n ∷ ns) = refl
+first_number-key ns = grind arith
 
 pub no_natives-listed : (c : Counts) (at : Option NKey) (before : Telling) → IsNext c at (first_number c.natives) → IsLiveKey c at → NativesListed c at 0 before before
-no_natives-listed c at before first there = record {
-  walk = none-told (λ (n : HeapNative). native n.number) (λ (n : HeapNative). n.number) c.natives (number_of c at) before (first ∙ first_number-key c.natives);
-  there = there;
-}
+no_natives-listed c at before first there = grind (arith, none-told, first_number-key)
 
 module _ (c : Counts) {at : Option NKey} {count : ℕ} {before after : Telling} where
   -- at a key one is left
@@ -196,10 +192,7 @@ pub record ObjectsListed (os : List Object) (at : Option SKey) (count : ℕ) (be
   pub there : IsObjectThere os at
 
 pub no_objects-listed : (os : List Object) (at : Option SKey) (before : Telling) → IsNextObject at (first_object os) → IsObjectThere os at → ObjectsListed os at 0 before before
-no_objects-listed os at before first there = record {
-  walk = none-told (λ (o : Object). o.name) (λ (o : Object). o.key) os (option_map (λ (key : SKey). key.0) at) before first;
-  there = there;
-}
+no_objects-listed os at before first there = grind (arith, none-told)
 
 module _ (os : List Object) {at : Option SKey} {count : ℕ} {before after : Telling} where
   -- at a key one is left

@@ -75,9 +75,7 @@ module _ {owned : List ℕ} (p : Inside) (f : IsFit owned p) (next : Counts) (sl
 
   -- each native stays at its key
   pub made-kept : (q k : ℕ) → number_at v q ≡ Some k → number_at (keyed_of made) q ≡ Some k
-  made-kept q k e = others q (λ s.
-      let bad : None ≡ Some k = sym vacant ∙ (ap (λ j. get_or old_keys j None) (sym s) ∙ e) in
-      absurd (cc)) ∙ e
+  made-kept q k e = grind arith
 
   -- no reflector has the next number
   made-blank : reflector_key p.scripts (p.natives_made + 1) ≡ None

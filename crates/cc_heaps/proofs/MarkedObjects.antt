@@ -1,5 +1,5 @@
 -- A MARKING BY KEYS is the marking of the definitions: it gives each object the same colour, and changes nothing else.
-use Rattle.std.proofs.Common.{◌≡◌, ℕ, List, ap, refl}
+use Rattle.std.proofs.Common.{arith, ◌≡◌, ℕ, List, ap, refl}
 use Rattle.cc_lists.specs.Members.{Among}
 use Rattle.cc_model.specs.Colours as names
 use Rattle.cc_model.specs.Colours.{black_names, marked_names, marked}
@@ -41,13 +41,11 @@ module _ {owned : List ℕ} (p : Inside) (l : IsLinked p) (o : IsInOrder owned (
   -- an object marked by its key is marked by its name
   marked-named : with_named (heap_of p) (marked_objects p) p.scripts_made ≡ marked (heap_of p)
   unfolding marked
-  marked-named = ap (λ scripts. record (heap_of p) { scripts = scripts })
-      (named-written (recoloured p) keeps p.scripts (as_marked (heap_of p)) (λ q m. ap (λ c. record (named_object p.scripts q) { colour = c }) (same-colour q m)))
+  marked-named = grind (arith, named-written, same-colour)
 
   -- THE MARKING IS THAT OF THE DEFINITIONS
   becomes-marked : Becomes owned p (with_objects p (marked_objects p) p.scripts_made) (marked (heap_of p))
-  becomes-marked = becomes-written p l o (recoloured p) keeps (marked (heap_of p)) marked-named (IsSound-marked owned (heap_of p) o.sound)
-      (whole-written (recoloured p) keeps p.scripts o.whole)
+  becomes-marked = search (becomes-written, marked-named, IsSound-marked, whole-written)
 
   pub heap-marked : heap_of (record p { scripts = marked_objects p }) ≡ marked (heap_of p)
   heap-marked = becomes-marked.heap

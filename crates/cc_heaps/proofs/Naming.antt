@@ -1,6 +1,6 @@
 -- THE COUNTED HEAP UNDER ITS NAMES, with the rest of the heaps beside it: whatever is done to its natives and its buffer
 -- comes to the same before and after script objects get their names, and tells the same.
-use Rattle.std.proofs.Common.{◌≡◌, ℕ, zero, suc, ◌+◌, ◌-◌, ◌==◌, Bool, true, false, not, List, [], ◌∷◌, ◌++◌, map, length, count_by, if◌then◌else◌, Option, Some, None, option_map, refl, sym, ◌∙◌, ap}
+use Rattle.std.proofs.Common.{arith, ◌≡◌, ℕ, zero, suc, ◌+◌, ◌-◌, ◌==◌, Bool, true, false, not, List, [], ◌∷◌, ◌++◌, map, length, count_by, if◌then◌else◌, Option, Some, None, option_map, refl, sym, ◌∙◌, ap}
 use Rattle.std.specs.Option.{option_to_list, option_and_then}
 use Rattle.std.specs.List.{flat_map}
 use Rattle.std.proofs.lemmas.Grind.{flat_map-append}
@@ -54,11 +54,7 @@ map-either f g n e (m ∷ ms) = λ i. e m i ∷ map-either f g n e ms i
 
 changed-either : (k : ℕ) (f g n : HeapNative → HeapNative) → ((m : HeapNative) → (n m).number ≡ m.number) → ((m : HeapNative) → g (n m) ≡ n (f m)) →
     (m : HeapNative) → changed_at k g (n m) ≡ n (changed_at k f m)
-changed-either k f g n number e m = ap (λ j. if j == k then g (n m) else n m) (number m) ∙ go (m.number == k)
-  where
-    go : (b : Bool) → (if b then g (n m) else n m) ≡ n (if b then f m else m)
-    go true = e m
-    go false = refl
+changed-either k f g n number e m = grind arith
 
 module _ (objects : List Object) where
   abbrev named : HeapNative → HeapNative
@@ -67,8 +63,7 @@ module _ (objects : List Object) where
   -- a native changed
   change-named : (h g : Heap) (k : ℕ) (f after : HeapNative → HeapNative) → ((n : HeapNative) → after (named n) ≡ named (f n)) →
       change_native (shown h objects g) k after ≡ shown h objects (change_native g k f)
-  change-named h g k f after e =
-      ap (λ ns. record h { natives = ns; buffer = g.buffer }) (map-either (changed_at k f) (changed_at k after) named (changed-either k f after named (λ m. refl) e) g.natives)
+  change-named h g k f after e = grind (arith, map-either, changed-either)
 
   -- natives keep their numbers and their names
   pub native_at-shown : (h g : Heap) (k : ℕ) → native_at (shown h objects g) k ≡ option_map named (native_at g k)
@@ -79,16 +74,12 @@ module _ (objects : List Object) where
 
   -- A reference taken
   pub add_ref-shown : (h g : Heap) (k : ℕ) → add_ref (shown h objects g) k ≡ shown h objects (add_ref g k)
-  add_ref-shown h g k = ap (λ (f : Heap). touch f k) (change-named h g k raised raised (λ n. refl))
-    where
-      raised : HeapNative → HeapNative
-      raised n = record n { count = n.count + 1 }
+  add_ref-shown h g k = grind (arith, change-named)
 
   -- A slot written
   pub set_slot-shown : (h g : Heap) (k i : ℕ) (x : Option Name) → set_slot (shown h objects g) (Some (native k)) i (name_in objects x) ≡
       shown h objects (set_slot g (Some (native k)) i x)
-  set_slot-shown h g k i x = change-named h g k (with_native_slot i x) (with_native_slot i (name_in objects x))
-      (λ n. ap (λ ss. record n { slots = ss }) (sym (map-set (name_in objects) n.slots i x)))
+  set_slot-shown h g k i x = grind (arith, change-named, map-set)
 
   -- A preservation that began or ended
   pub set_preserved-shown : (h g : Heap) (k : ℕ) (on : Bool) → set_preserved (shown h objects g) k on ≡ shown h objects (set_preserved g k on)
@@ -97,22 +88,10 @@ module _ (objects : List Object) where
   -- A reference given up, by counts and numbers alone
 
   lower-shown : (h g : Heap) (k : ℕ) → lower (shown h objects g) k ≡ shown h objects (lower g k)
-  lower-shown h g k = change-named h g k lowered_native lowered_native (λ n. refl)
-    where
-      lowered_native : HeapNative → HeapNative
-      lowered_native n = record n { count = n.count - 1 }
+  lower-shown h g k = grind (arith, change-named)
 
   give_up-shown : (h : Heap) (d : Draining) (k : ℕ) → give_up (draining_shown h objects d) k ≡ draining_shown h objects (give_up d k)
-  give_up-shown h d k = ap (given_up (draining_shown h objects d) k) (native_at-shown h d.heap k) ∙ go (native_at d.heap k)
-    where
-      fall : (c : ℕ) → fallen (draining_shown h objects d) k c ≡ draining_shown h objects (fallen d k c)
-      fall zero = refl
-      fall (suc zero) = ap (λ (f : Heap). record d { heap = forget f k; queue = d.queue ++ k ∷ [] }) (lower-shown h d.heap k)
-      fall (suc (suc c)) = ap (λ (f : Heap). record d { heap = suspect f k }) (lower-shown h d.heap k)
-
-      go : (o : Option HeapNative) → given_up (draining_shown h objects d) k (option_map named o) ≡ draining_shown h objects (given_up d k o)
-      go None = refl
-      go (Some n) = fall n.count
+  give_up-shown h d k = grind (arith, native_at-shown, lower-shown)
 
   give_up_each-shown : (h : Heap) (d : Draining) (ks : List ℕ) → give_up_each (draining_shown h objects d) ks ≡ draining_shown h objects (give_up_each d ks)
   give_up_each-shown h d [] = refl

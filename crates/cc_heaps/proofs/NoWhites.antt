@@ -1,6 +1,6 @@
 -- NO OBJECT IS WHITE: none is swept then, all stay, and nothing is told.
 use Rattle.cc_laws_heap.proofs.GraphParts.{is_some-found}
-use Rattle.std.proofs.Common.{◌≡◌, ℕ, Bool, true, false, not, ◌&&◌, List, [], map, ◌↔◌, IsTrue, refl, sym, ◌∙◌, ap, subst}
+use Rattle.std.proofs.Common.{arith, ◌≡◌, ℕ, Bool, true, false, not, ◌&&◌, List, [], map, ◌↔◌, IsTrue, refl, sym, ◌∙◌, ap, subst}
 use Rattle.std.proofs.lemmas.Bool.{true≢false}
 use Rattle.cc_lists.specs.Members.{Among}
 use Rattle.cc_lists.proofs.Filtering.{filter-each, filter-nothing}
@@ -19,18 +19,12 @@ use Rattle.cc_heaps.specs.Sweeping.{Left, are_some, is_marked, is_white, not_whi
 
 -- a colour that passes for white is white
 white-exact : (c : Colour) → is_white_colour c ≡ true → c ≡ White
-white-exact White e = refl
-white-exact Gray e = absurd (true≢false (sym e))
-white-exact Black e = absurd (true≢false (sym e))
+white-exact c e = grind arith
 
 module _ (objects : List Object) (found : Bool) (white : IsTrue found ↔ ((o : Object) × (Among o objects × (o.colour ≡ White)))) (none : found ≡ false) where
   -- each object is gray or black
   other-each : (o : Object) → Among o objects → is_white o ≡ false
-  other-each o m = go (is_white o) refl
-    where
-      go : (b : Bool) → is_white o ≡ b → is_white o ≡ false
-      go true e = absurd (true≢false (sym (white.1 (o, (m, white-exact o.colour e))) ∙ none))
-      go false e = e
+  other-each o m = grind (arith, white-exact)
 
   -- no object goes
   whites-none : whites objects ≡ []
@@ -50,8 +44,7 @@ module _ (objects : List Object) (found : Bool) (white : IsTrue found ↔ ((o : 
 
   -- and all entries stay
   pub living-all : (es : List KeyedEntry) → AreEntriesThere objects es → es ≡ living (is_marked objects) es
-  living-all es there = sym (filter-each (λ e. is_marked objects e.the_map && is_marked objects e.key) es
-      (λ e m. ap (λ b. b && is_marked objects e.key) (marked-each e.the_map (there e m).the_map) ∙ marked-each e.key (there e m).key))
+  living-all es there = grind (arith, filter-each, marked-each)
 
   -- the sweep does nothing
   untold-counts : (c : Counts) → swept_counts c objects ≡ untold c

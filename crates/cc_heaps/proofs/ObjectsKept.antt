@@ -1,5 +1,5 @@
 -- OBJECTS BY THEIR KEYS: what keeps its name stays there, and so do the names of entries.
-use Rattle.std.proofs.Common.{◌≡◌, ℕ, false, List, [], ◌∷◌, Option, Some, None, option_map, refl, ◌∙◌, ap, subst, inl, inr}
+use Rattle.std.proofs.Common.{arith, ◌≡◌, ℕ, false, List, [], ◌∷◌, Option, Some, None, option_map, refl, ◌∙◌, ap, subst, inl, inr}
 use Rattle.std.specs.Prelude.{IsTrue}
 use Rattle.std.specs.Option.{is_some}
 use Rattle.cc_laws_heap.proofs.GraphParts.{is_some-found}
@@ -51,20 +51,12 @@ members e = e.the_map ∷ e.key ∷ e.value ∷ []
 -- an entry has the names that it had, where its members do
 pub entry-same : (os ps : List Object) (e : KeyedEntry) → ((key : ℕ) → Among key (members e) → name_at os key ≡ name_at ps key) →
     named_entry os e ≡ named_entry ps e
-entry-same os ps e same =
-    λ i. entry (at e.the_map (same e.the_map (inl refl)) i) (at e.key (same e.key (inr (inl refl))) i) (at e.value (same e.value (inr (inr (inl refl)))) i)
-  where
-    at : (key : ℕ) → name_at os key ≡ name_at ps key → the_name_at os key ≡ the_name_at ps key
-    at key e = ap (λ (o : Option Name). elim o as (λ _. Name) [ None ↦ object 0 | Some x ↦ x ]) e
+entry-same os ps e same = grind arith
 
 -- and what it names is there still
 pub entry-there : (os ps : List Object) (e : KeyedEntry) → ((key : ℕ) → Among key (members e) → name_at ps key ≡ name_at os key) →
     IsEntryThere os e → IsEntryThere ps e
-entry-there os ps e same there = record {
-  the_map = there-kept os ps e.the_map (same e.the_map (inl refl)) there.the_map;
-  key = there-kept os ps e.key (same e.key (inr (inl refl))) there.key;
-  value = there-kept os ps e.value (same e.value (inr (inr (inl refl)))) there.value;
-}
+entry-there os ps e same there = grind (arith, there-kept)
 
 -- the keys of natives are those of the counted heap
 pub keys-counted : (owned : List ℕ) (p : Inside) → IsLinked p → IsInOrder owned (keyed_of p) → HasKeys p.counted

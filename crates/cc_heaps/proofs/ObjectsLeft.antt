@@ -42,8 +42,7 @@ left_objects p = not_white p.scripts
 
 -- THE NAMES OF THE WHITE ONES are those that are not marked
 pub white-unmarked : (p : Inside) → white_names p.scripts ≡ unmarked (heap_of p)
-white-unmarked p = sym (ap (map (λ (o : HeapScript). o.name)) (filter-map (λ (o : HeapScript). is_white_colour o.colour) (named_object p.scripts) p.scripts)
-    ∙ map-map (λ (o : HeapScript). o.name) (named_object p.scripts) (filter is_white p.scripts))
+white-unmarked p = grind (arith, filter-map, map-map)
 
 -- a native's slot holds a key, and by names what stands at it
 named-slot : (p : Inside) (n : HeapNative) (k : ℕ) (x : Name) → Among (object k) (contents n.slots) → name_at p.scripts k ≡ Some x → Among x (contents (named_native p.scripts n).slots)
@@ -127,16 +126,10 @@ module _ {owned : List ℕ} (p : Inside) (l : IsLinked p) (o : IsInOrder owned (
   -- By names
 
   named-left : (q : Object) → Among q (left_objects p) → named_object (left_objects p) q ≡ named_object p.scripts q
-  named-left q m = ap (λ slots. record { name = q.name; kind = q.kind; slots = slots; colour = q.colour })
-      (map-held (name_held (left_objects p)) (name_held p.scripts) q.slots refl (λ k. slot-left q k (Among-filtered stays q p.scripts m) (Among-passes stays q p.scripts m)))
+  named-left q m = grind (arith, map-held, slot-left, Among-filtered, Among-passes)
 
   pub spared-stays : (q : Object) → Among q p.scripts → is_spared (unmarked (heap_of p)) (named_object p.scripts q) ≡ stays q
-  spared-stays q m = ap not (same-tests (has same_name (unmarked (heap_of p)) q.name) (is_white q)
-      (λ e. there-white q m (has-among same_name same_name-exact (unmarked (heap_of p)) q.name e))
-      (λ w. has-there same_name same_name-exact (unmarked (heap_of p)) q.name (white-there q m w)))
+  spared-stays q m = grind (arith, same-tests, there-white, has-among, same_name-exact, has-there, white-there)
 
   pub scripts-left : filter (is_spared (unmarked (heap_of p))) (heap_of p).scripts ≡ named_objects (left_objects p)
-  scripts-left =
-      filter-map (is_spared (unmarked (heap_of p))) (named_object p.scripts) p.scripts
-      ∙ (ap (map (named_object p.scripts)) (filter-agree (λ (q : Object). is_spared (unmarked (heap_of p)) (named_object p.scripts q)) stays p.scripts spared-stays)
-      ∙ sym (map-agree (named_object (left_objects p)) (named_object p.scripts) (left_objects p) named-left))
+  scripts-left = grind (arith, filter-map, filter-agree, spared-stays, map-agree, named-left)

@@ -67,8 +67,7 @@ module _ (owned late : List ℕ) (v : Keyed) (o : IsInOrder owned v) (g : Heap) 
 -- other natives and another buffer alone
 IsInOrder-with : (owned late : List ℕ) (v : Keyed) → IsInOrder owned v → (ns : List HeapNative) (bs : List Buffered) → IsSound late (record v.heap { natives = ns; buffer = bs }) →
     numbers_of_natives ns ≡ numbers_of_natives v.heap.natives → IsInOrder late (changed_to v (record v.heap { natives = ns; buffer = bs }))
-IsInOrder-with owned late v o ns bs s numbers = IsInOrder-changed owned late v o (record v.heap { natives = ns; buffer = bs })
-    (record { limits = refl; scripts = refl; entries = refl }) s numbers
+IsInOrder-with owned late v o ns bs s numbers = search IsInOrder-changed
 
 -- what a step of Leave comes to
 IsInOrder-leave : (owned late freed : List ℕ) (v : Keyed) (g : Heap) → IsInOrder owned v → Leave v.heap freed g → IsSound late g →
@@ -78,10 +77,7 @@ IsInOrder-leave owned late freed v g o l s = IsInOrder-left owned late v o g (Ke
 -- one more reference taken
 pub IsInOrder-add_ref : (owned : List ℕ) (v : Keyed) (k : ℕ) → Among (native k) (native_names v.heap) → IsInOrder owned v →
     IsInOrder (k ∷ owned) (changed_to v (add_ref v.heap k))
-IsInOrder-add_ref owned v k there o =
-    IsInOrder-with owned (k ∷ owned) v o (add_ref v.heap k).natives (add_ref v.heap k).buffer
-    (add_ref-sound owned v.heap k there o.sound)
-    (numbers-changed v.heap k (λ n. record n { count = n.count + 1 }) (λ n. refl))
+IsInOrder-add_ref owned v k there o = search (IsInOrder-with, add_ref-sound, numbers-changed)
 
 -- one given up
 pub IsInOrder-cascade : (owned : List ℕ) (v : Keyed) (k : ℕ) → IsInOrder (k ∷ owned) v → IsInOrder owned (left_with v (cascade v.heap k).heap)
@@ -98,15 +94,7 @@ IsInOrder-unlink owned v k o =
 
 -- counts do not read the buffer
 IsInOrder-buffer : (owned : List ℕ) (v : Keyed) (bs : List Buffered) → IsBuffer v.heap bs → IsInOrder owned v → IsInOrder owned (changed_to v (with_buffer v.heap bs))
-IsInOrder-buffer owned v bs b o =
-    IsInOrder-with owned owned v o v.heap.natives bs
-    (record {
-      well_formed = IsWellFormed-buffer v.heap bs o.sound.well_formed b;
-      counts = o.sound.counts;
-      none_zero = o.sound.none_zero;
-      owned_there = o.sound.owned_there;
-    })
-    refl
+IsInOrder-buffer owned v bs b o = grind (arith, IsInOrder-with, IsWellFormed-buffer)
 
 -- a native that is suspected
 pub IsInOrder-suspect : (owned : List ℕ) (v : Keyed) (k : ℕ) → Among (native k) (native_names v.heap) → IsInOrder owned v →
@@ -135,10 +123,7 @@ IsInOrder-tail owned v b bs e o =
 -- a register written, whose new reference is owned: what it held is owned
 pub IsInOrder-register : (owned : List ℕ) (v : Keyed) (r : ℕ) (x : Option Name) → r < 256 → IsIn (native_names v.heap) x → IsInOrder (numbers_of x ++ owned) v →
     IsInOrder (numbers_of (register v.heap (N r)) ++ owned) (changed_to v (set_register v.heap (N r) x))
-IsInOrder-register owned v r x within there o =
-    IsInOrder-changed (numbers_of x ++ owned) (numbers_of (register v.heap (N r)) ++ owned) v o (set_register v.heap (N r) x)
-    (record { limits = refl; scripts = refl; entries = refl })
-    (native_register-sound owned v.heap r x within there o.sound) refl
+IsInOrder-register owned v r x within there o = search (IsInOrder-changed, native_register-sound)
 
 -- slot i of native k written, whose new reference is owned: what it held is owned
 pub IsInOrder-slot : (owned : List ℕ) (v : Keyed) (k i : ℕ) (n : HeapNative) (x : Option Name) → native_at v.heap k ≡ Some n → i < length n.slots → IsIn (names_there v.heap) x →

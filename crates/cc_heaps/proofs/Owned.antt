@@ -68,10 +68,7 @@ module _ (owned : List ℕ) (p : Inside) (f : IsFit owned p) where
   references k = references-shown p.scripts f.linked.script_names h alone k
 
   times-reflectors : (k : ℕ) → times k (in_reflectors p) ≡ count_by (λ (s : HeapScript). same_name s.name (reflector k)) h.scripts
-  times-reflectors k =
-      times-behind k (map (λ (q : Object). q.name) p.scripts)
-      ∙ (count_by-map (λ x. same_name x (reflector k)) (λ (q : Object). q.name) p.scripts
-      ∙ sym (count_by-map (λ (s : HeapScript). same_name s.name (reflector k)) (named_object p.scripts) p.scripts))
+  times-reflectors k = search (times-behind, count_by-map)
 
   names : native_names h ≡ native_names alone
   names = native_names-shown p.scripts h alone

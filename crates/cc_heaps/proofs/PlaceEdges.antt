@@ -1,5 +1,5 @@
 -- THE PLACES OF AN OBJECT hold what its edges lead to.
-use Rattle.std.proofs.Common.{◌≡◌, Bool, true, false, List, [], ◌∷◌, ◌++◌, map, Option, Some, None, refl, sym, ◌∙◌, ap}
+use Rattle.std.proofs.Common.{arith, ◌≡◌, Bool, true, false, List, [], ◌∷◌, ◌++◌, map, Option, Some, None, refl, sym, ◌∙◌, ap}
 use Rattle.std.specs.Option.{option_to_list}
 use Rattle.std.proofs.lemmas.Grind.{flat_map-append}
 use Rattle.std.proofs.lemmas.List.{map-append}
@@ -21,33 +21,17 @@ targets-from x (y ∷ ys) = ap (λ zs. y ∷ zs) (targets-from x ys)
 
 -- what slots hold, and what one more holds
 pub contents-last : (slots : Slots) (last : Option Name) → contents (slots ++ last ∷ []) ≡ contents slots ++ option_to_list last
-contents-last slots last = flat_map-append option_to_list slots (last ∷ []) ∙ ap (λ ys. contents slots ++ ys) (one last)
-  where
-    one : (o : Option Name) → contents (o ∷ []) ≡ option_to_list o
-    one None = refl
-    one (Some y) = refl
+contents-last slots last = grind (arith, flat_map-append)
 
 -- the edges of slots, and what else leads from there
 targets-last : (x : Name) (slots : Slots) (last : Option Name) (more : List (Name × Name)) → map target more ≡ option_to_list last →
     contents (slots ++ last ∷ []) ≡ map target (slot_edges x slots ++ more)
-targets-last x slots last more e =
-    contents-last slots last
-    ∙ sym (map-append target (slot_edges x slots) more ∙ (λ i. targets-from x (contents slots) i ++ e i))
+targets-last x slots last more e = grind (arith, contents-last, map-append, targets-from)
 
 -- WHAT THE PLACES OF A NATIVE HOLD is what its edges lead to,
 pub contents-places : (n : HeapNative) → contents (places_of_native n) ≡ map (λ (e : Name × Name). e.1) (native_edges n)
-contents-places n = targets-last (native n.number) n.slots (reflector_of n) (preserved_edge n) (go n.preserved)
-  where
-    go : (b : Bool) → map target (elim b as (λ _. List (Name × Name)) [ true ↦ from_to (native n.number) (reflector n.number) ∷ [] | false ↦ [] ])
-        ≡ option_to_list (elim b as (λ _. Option Name) [ true ↦ Some (reflector n.number) | false ↦ None ])
-    go true = refl
-    go false = refl
+contents-places n = grind (arith, targets-last)
 
 -- and so it is with the places of a script object.
 pub contents-places_of_script : (o : HeapScript) → contents (places_of_script o) ≡ map (λ (e : Name × Name). e.1) (script_edges o)
-contents-places_of_script o = targets-last o.name o.slots (native_of o.name) (map (λ k. from_to o.name (native k)) (behind o.name)) (go o.name)
-  where
-    go : (x : Name) → map target (map (λ k. from_to o.name (native k)) (behind x)) ≡ option_to_list (native_of x)
-    go (name.Native k) = refl
-    go (name.Script k) = refl
-    go (name.Reflector k) = refl
+contents-places_of_script o = grind (arith, targets-last)

@@ -1,6 +1,6 @@
 -- WHAT A MARK COMES TO BY KEYS, over slots and the entries of weak maps, is what it comes to by names, where no two script
 -- objects have one key or one name. So is what is reached over slots alone.
-use Rattle.std.proofs.Common.{◌≡◌, ℕ, ◌≤◌, Bool, true, false, List, [], ◌∷◌, map, Option, Some, None, option_map, refl, sym, ◌∙◌, ap, subst, inl, inr, ⊎_elim, count_by, ◌==◌}
+use Rattle.std.proofs.Common.{arith, ◌≡◌, ℕ, ◌≤◌, Bool, true, false, List, [], ◌∷◌, map, Option, Some, None, option_map, refl, sym, ◌∙◌, ap, subst, inl, inr, ⊎_elim, count_by, ◌==◌}
 use Rattle.std.specs.Prelude.{IsTrue}
 use Rattle.std.specs.List.{flat_map}
 use Rattle.std.proofs.lemmas.Bool.{eqb-true, eq-eqb}
@@ -37,9 +37,7 @@ HasOneName objects = (x : Name) → count_by (λ o. same_name o.name x) objects 
 
 -- two tests that follow from each other are the same
 pub same-tests : (a b : Bool) → (a ≡ true → b ≡ true) → (b ≡ true → a ≡ true) → a ≡ b
-same-tests true b f g = sym (f refl)
-same-tests false true f g = g refl
-same-tests false false f g = refl
+same-tests a b f g = grind arith
 
 -- an object is found by its key
 pub object_at-own : (objects : List Object) → HasOneKey objects → (o : Object) → Among o objects → object_at objects o.key ≡ Some o
@@ -47,10 +45,7 @@ object_at-own objects one o m = find-only (λ p. p.key == o.key) objects o (one 
 
 -- and what is found at a key is there
 pub object_at-found : (objects : List Object) (key : ℕ) (o : Object) → object_at objects key ≡ Some o → Among o objects × (o.key ≡ key)
-object_at-found objects key o e = (
-  find-among (λ p. p.key == key) objects o e,
-  eqb-true o.key key (find-passes (λ p. p.key == key) objects o e),
-)
+object_at-found objects key o e = grind (arith, find-among, eqb-true, find-passes)
 
 -- an object's key has its name
 pub name_at-own : (objects : List Object) → HasOneKey objects → (o : Object) → Among o objects → name_at objects o.key ≡ Some o.name
@@ -81,17 +76,7 @@ named_edges objects = flat_map script_slot_edges (named_objects objects)
 -- an edge by names is one from a slot of an object to a key with a name
 named-found : (objects : List Object) (x y : Name) → Among (x, y) (named_edges objects) →
     (o : Object) × Among o objects × (o.name ≡ x) × ((q : ℕ) × Among (Some q) o.slots × (name_at objects q ≡ Some y))
-named-found objects x y m =
-    let f = Among-flat_map_cases script_slot_edges (named_objects objects) (x, y) m in
-    let o = Among-map_cases (named_object objects) objects f.0 f.1 in
-    let i : Among (x, y) (script_slot_edges (named_object objects o.0)) = subst (λ p. Among (x, y) (script_slot_edges p)) (sym o.2) f.2 in
-    let g = Among-map_cases (from_to o.0.name) (contents (map (name_held objects) o.0.slots)) (x, y) i in
-    let s = Among-map_cases (name_held objects) o.0.slots (Some g.0) (held-among (map (name_held objects) o.0.slots) g.0 g.1) in
-    (o.0, o.1, ap (λ (e : Name × Name). e.0) g.2, go o.0 s.0 s.1 (s.2 ∙ ap (λ (e : Name × Name). Some e.1) g.2))
-  where
-    go : (o : Object) (s : Option ℕ) → Among s o.slots → name_held objects s ≡ Some y → (q : ℕ) × Among (Some q) o.slots × (name_at objects q ≡ Some y)
-    go o None j e = absurd (cc)
-    go o (Some q) j e = (q, j, e)
+named-found objects x y m = grind (arith, Among-flat_map_cases, Among-map_cases, held-among)
 
 found-named : (objects : List Object) (o : Object) (q : ℕ) (y : Name) → Among o objects → Among (Some q) o.slots → name_at objects q ≡ Some y →
     Among (o.name, y) (named_edges objects)

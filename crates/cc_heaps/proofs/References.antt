@@ -17,11 +17,7 @@ reflector_by-key [] rs key k e one = absurd (cc)
 reflector_by-key (o ∷ os) [] key k e one = refl
 reflector_by-key (None ∷ os) (r ∷ rs) zero k e one = absurd (cc)
 reflector_by-key (None ∷ os) (r ∷ rs) (suc key) k e one = reflector_by-key os rs key k e (λ p f. omega (arith, one (suc p) f))
-reflector_by-key (Some j ∷ os) (r ∷ rs) zero k e one = go (j == k) (eq-eqb j k (cc))
-  where
-    go : (b : Bool) → b ≡ true → elim b as (λ _. Option ℕ) [ true ↦ r | false ↦ reflector_by os rs k ] ≡ r
-    go true f = refl
-    go false f = absurd (cc)
+reflector_by-key (Some j ∷ os) (r ∷ rs) zero k e one = grind (arith, eq-eqb)
 reflector_by-key (Some j ∷ os) (r ∷ rs) (suc key) k e one = go (reflector_by-key os rs key k e (λ p g. omega (arith, one (suc p) g))) (j == k) refl
   where
     go : reflector_by os rs k ≡ get_or rs key None → (b : Bool) → (j == k) ≡ b → elim b as (λ _. Option ℕ) [ true ↦ r | false ↦ reflector_by os rs k ] ≡ get_or rs key None
@@ -51,8 +47,4 @@ length-references c key = length-append (slots_of c key) (preserved_reflector (p
 
 -- and slots are few
 pub few-slots : (c : Counts) → HaveFewSlots c.natives → (key : ℕ) → length (slots_of c key) ≤ 64
-few-slots c few key = go (native_at (heap_of c) (the_number c key)) refl
-  where
-    go : (o : Option HeapNative) → native_at (heap_of c) (the_number c key) ≡ o → length (slots_at o) ≤ 64
-    go None e = omega arith
-    go (Some n) e = few n (find-among (λ m. m.number == the_number c key) c.natives n e)
+few-slots c few key = grind (arith, find-among)

@@ -2,7 +2,7 @@
 -- reflector. Preserved it is reached, and else it is blank.
 use Rattle.cc_lists.proofs.Held.{option_and_then-found}
 use Rattle.cc_laws_heap.proofs.Changing.{option_map-found}
-use Rattle.std.proofs.Common.{◌≡◌, ℕ, true, false, [], ◌∷◌, Option, Some, None, refl, sym, ◌∙◌, ap, subst, inl, inr, ◌⊎◌, ⊎_elim, is_some}
+use Rattle.std.proofs.Common.{arith, ◌≡◌, ℕ, true, false, [], ◌∷◌, Option, Some, None, refl, sym, ◌∙◌, ap, subst, inl, inr, ◌⊎◌, ⊎_elim, is_some}
 use Rattle.std.proofs.lemmas.Bool.{cases_Bool}
 use Rattle.cc_lists.specs.Members.{Among}
 use Rattle.cc_lists.proofs.Members.{Among-map_cases, Among-right, Among-append}
@@ -27,11 +27,7 @@ use Rattle.cc_laws_heap.proofs.Making.{contents-empty_none}
 
 -- what has a shape in the graph was made
 pub shape-made : (g : Graph) (x : Name) (s : Shape) → shape_in g x ≡ Some s → Made g x
-shape-made g (name.Native k) s e = ap is_some (option_map-found shape_of_native (native_in g k.0) s e).1
-shape-made g (name.Script k) s e = ap is_some (option_map-found shape_of_object (script_in g k.0) s e).1
-shape-made g (name.Reflector k) s e =
-    let n = option_and_then-found shape_of_reflector (native_in g k.0) s e in
-    rw (n.1, (option_map-found (λ slots. script_shape (Some slots)) n.0.reflector s n.2).1) refl
+shape-made g x s e = grind (arith, option_map-found, option_and_then-found)
 
 shape-made_script : (g : Graph) (x : Name) (s : Shape) → ¬ ((k : ℕ) × (x ≡ native k)) → shape_in g x ≡ Some s → MadeScript g x
 shape-made_script g (name.Native k) s other e = absurd (other (k.0, refl))

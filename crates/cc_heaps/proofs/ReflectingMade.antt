@@ -1,6 +1,6 @@
 -- A REFLECTOR MADE, OR EXPOSED WHERE IT IS THERE: the heaps stand for the graph in which the native is wrapped, the colour
 -- invariant stays, every snapshot that was fresh is fresh, and no unreached native is forgotten.
-use Rattle.std.proofs.Common.{◌≡◌, ℕ, Bool, true, false, List, [], ◌∷◌, ◌++◌, Option, Some, None, refl, sym, ap, subst, ⊎_elim}
+use Rattle.std.proofs.Common.{arith, ◌≡◌, ℕ, Bool, true, false, List, [], ◌∷◌, ◌++◌, Option, Some, None, refl, sym, ap, subst, ⊎_elim}
 use Rattle.std.specs.List.{flat_map}
 use Rattle.cc_lists.specs.Members.{Among}
 use Rattle.cc_lists.proofs.Members.{Among-left, Among-append, Among-flat_map_cases}
@@ -57,16 +57,7 @@ made-reached h k w = reached-kept h (with_reflector h k) w (record {
 -- and neither does an exposure.
 pub exposed-reached : {owned : List ℕ} (h : Heap) (x : Option Name) → IsSound owned h → (y : Name) → ReachedIn (view h) y → ReachedIn (view (exposed h x)) y
 unfolding exposed
-exposed-reached {owned} h None s = λ y r. r
-exposed-reached {owned} h (Some x) s = reached-kept h (exposed h (Some x)) (exposed-sound owned h (Some x) s).well_formed (record {
-  registers = λ y i. i;
-  edges = λ y z r i e. subst (λ es. Among (y, z) (flat_map native_edges h.natives ++ es)) (sym edges) e;
-  entries = λ e i a b. i;
-})
-  where
-    edges : flat_map script_edges (exposed h (Some x)).scripts ≡ flat_map script_edges h.scripts
-    edges = flat_map-kept script_edges (changed_where (is_one_of (exposed_names h x)) as_black) h.scripts
-        (λ o. changed_where-either (λ p. script_edges p ≡ script_edges o) (is_one_of (exposed_names h x)) as_black o (λ e. refl) refl)
+exposed-reached {owned} h y s = grind (arith, reached-kept, exposed-sound, flat_map-kept, changed_where-either)
 
 module _ {owned : List ℕ} (h : Heap) (k : ℕ) (s : IsSound owned h) (there : Among (native k) (native_names h)) where
   -- A NATIVE WRAPPED leaves the heaps sound.

@@ -1,7 +1,7 @@
 -- A REFLECTOR PRESERVED that is there: the heaps stand for the graph in which it is, the colour invariant stays, every
 -- snapshot that was fresh is fresh where it is not gray, and no unreached native is forgotten.
 use Rattle.cc_laws_snapshot.proofs.NodeUnit.{gray-tested}
-use Rattle.std.proofs.Common.{◌≡◌, ℕ, ◌==◌, Bool, true, false, List, [], ◌∷◌, Option, Some, None, option_map, refl, sym, ◌∙◌, ap, ⊎_elim}
+use Rattle.std.proofs.Common.{arith, ◌≡◌, ℕ, ◌==◌, Bool, true, false, List, [], ◌∷◌, Option, Some, None, option_map, refl, sym, ◌∙◌, ap, ⊎_elim}
 use Rattle.std.specs.List.{flat_map}
 use Rattle.std.proofs.lemmas.Bool.{true≢false}
 use Rattle.cc_lists.specs.Members.{Among}
@@ -95,11 +95,4 @@ module _ {owned : List ℕ} (h : Heap) (k : ℕ) (s : IsSound owned h) (there : 
 
   -- It may hold something from then on.
   pub preserved-may_hold : MayHold (set_preserved h k true) (Some (reflector k))
-  preserved-may_hold n e =
-      let f = option_map-some (native_at h k) n (sym (native_at-change_same h k (λ m. record m { preserved = true }) (λ m. refl)) ∙ e) in
-      ap (λ (m : HeapNative). m.preserved) (sym f.1)
-    where
-      option_map-some : (o : Option HeapNative) (n : HeapNative) → option_map (λ (m : HeapNative). record m { preserved = true }) o ≡ Some n →
-          (m : HeapNative) × (record m { preserved = true } ≡ n)
-      option_map-some None n e = absurd (cc)
-      option_map-some (Some m) n e = let same : record m { preserved = true } ≡ n = cc in (m, same)
+  preserved-may_hold n e = grind (arith, native_at-change_same)

@@ -1,7 +1,7 @@
 -- WHAT COMES INTO A SLOT OF A SCRIPT OBJECT OR A SCRIPT REGISTER, a reflector among them: the heaps stand for the graph in
 -- which it is written.
 use Rattle.cc_lists.proofs.Held.{of-one}
-use Rattle.std.proofs.Common.{◌≡◌, ℕ, true, List, Option, Some, None, refl, sym, ◌∙◌, ap, inl, ⊎_elim}
+use Rattle.std.proofs.Common.{arith, ◌≡◌, ℕ, true, List, Option, Some, None, refl, sym, ◌∙◌, ap, inl, ⊎_elim}
 use Rattle.cc_lists.specs.Members.{Among}
 use Rattle.cc_names.specs.declared.name.Name.{Name}
 use Rattle.cc_names.specs.declared.name.Name.TheVariants as name
@@ -33,8 +33,7 @@ use Rattle.cc_heaps.proofs.Reflecting.{there-made, held-made, Follows-reflector}
 
 -- what is handed in is reached in the graph
 pub handed-reached : (h : Heap) (g : Graph) (x : Option Name) → IsWellFormed h → IsWellMade g → StandsFor h g → IsReached h x → OfSome (Reached g) x
-handed-reached h g None w m s r = tt
-handed-reached h g (Some x) w m s r = in-reached h g w m s x r
+handed-reached h g x w m s r = grind (arith, in-reached)
 
 -- Script registers
 

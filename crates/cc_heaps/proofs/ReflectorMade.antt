@@ -1,7 +1,7 @@
 -- A REFLECTOR MADE: the script heap has one object more, the native has its key, and one reference more. The parts fit
 -- together once all three are done.
 use Rattle.cc_heaps.proofs.ReflectorLists.{reflectors-set, within-read}
-use Rattle.std.proofs.Common.{◌≡◌, ◌≢◌, ℕ, ◌+◌, true, false, List, [], ◌∷◌, ◌++◌, set, Option, Some, None, is_some, option_map, refl, sym, ◌∙◌, ap, subst}
+use Rattle.std.proofs.Common.{arith, ◌≡◌, ◌≢◌, ℕ, ◌+◌, true, false, List, [], ◌∷◌, ◌++◌, set, Option, Some, None, is_some, option_map, refl, sym, ◌∙◌, ap, subst}
 use Rattle.std.specs.Option.{option_and_then, option_or}
 use Rattle.std.specs.List.{find}
 use Rattle.std.proofs.lemmas.Bool.{eq-eqb, ne_eqb}
@@ -88,13 +88,7 @@ module _ {owned : List ℕ} (p : Inside) (l : IsLinked p) (o : IsInOrder owned (
   with_own = set p.counted.reflectors key.0 (Some at)
 
   with_own-is : with_own ≡ reflectors_by objects p.counted.keys
-  with_own-is = ap (λ rs. set rs key.0 (Some at)) l.reflectors
-      ∙ reflectors-set p.scripts objects p.counted.keys key.0 (Some at) (within-read p.counted.keys key.0 k numbered) (ap (option_and_then (reflector_key objects)) numbered ∙ key_of-own)
-      (λ q. step q (number_at v q) refl)
-    where
-      step : (q : ℕ) (n : Option ℕ) → number_at v q ≡ n → q ≢ key.0 → option_and_then (reflector_key p.scripts) n ≡ option_and_then (reflector_key objects) n
-      step q None e other = refl
-      step q (Some j) e other = sym (key_of-other j (λ s. other (o.keyed.one_key q key.0 k (e ∙ ap (λ i. Some i) s) numbered)))
+  with_own-is = grind (arith, reflectors-set, within-read, key_of-own, key_of-other)
 
   -- The parts
 

@@ -2,7 +2,7 @@
 use Rattle.cc_heaps.proofs.Keys.{key_left-there}
 use Rattle.cc_lists.proofs.Held.{map-held, map-replicate}
 use Rattle.cc_laws_heap.proofs.GraphParts.{is_some-found}
-use Rattle.std.proofs.Common.{◌≡◌, ◌≢◌, ℕ, zero, suc, List, [], ◌∷◌, map, true, Option, Some, None, option_map, get_or, replicate, length, refl, sym, ◌∙◌, ap, subst, inl, inr, ⊎_elim}
+use Rattle.std.proofs.Common.{arith, ◌≡◌, ◌≢◌, ℕ, zero, suc, List, [], ◌∷◌, map, true, Option, Some, None, option_map, get_or, replicate, length, refl, sym, ◌∙◌, ap, subst, inl, inr, ⊎_elim}
 use Rattle.std.specs.Option.{is_some, option_to_list}
 use Rattle.std.proofs.Math.ListN.{get_or-map}
 use Rattle.std.proofs.lemmas.List.{length-replicate}
@@ -36,8 +36,7 @@ module _ (old new : Keys) where
   Same x = (key : NKey) → x ≡ Some key → get_or new key.0 None ≡ get_or old key.0 None
 
   live-same : (x : Option NKey) → Same x → IsLive old x → IsLive new x
-  live-same None s l = l
-  live-same (Some key) s l = subst (λ o. is_some o ≡ true) (sym (s key refl)) l
+  live-same x s l = grind arith
 
   pub registers-same : (registers : List (Option NKey)) → ((x : Option NKey) → Among x registers → Same x) → map (named new) registers ≡ map (named old) registers
   registers-same registers s = map-held (named new) (named old) registers refl (λ key m. ap (option_map native) (s (Some key) m key refl))
@@ -61,10 +60,7 @@ left-same keys g registers live there x m key e =
 -- a key that held nothing is that of no register
 pub made-same : (old new : Keys) (key : ℕ) → get_or old key None ≡ None → ((q : ℕ) → q ≢ key → get_or new q None ≡ get_or old q None) →
     (x : Option NKey) → IsLive old x → Same old new x
-made-same old new key vacant others x live q e = others q.0 (λ f.
-    let n = number-live old q (subst (IsLive old) e live) in
-    let bad : None ≡ Some n.0 = sym vacant ∙ (ap (λ j. get_or old j None) (sym f) ∙ n.1) in
-    absurd (cc))
+made-same old new key vacant others x live q e = grind (arith, number-live)
 
 -- what is so of each register, and of one that holds nothing, is so of what is read
 read-each : {X : Type 0} (P : Option X → Type 0) → P None → (registers : List (Option X)) → ((x : Option X) → Among x registers → P x) → (r : ℕ) → P (get_or registers r None)
@@ -101,22 +97,17 @@ module _ {X : Type 0} (n : ℕ) (registers : List (Option X)) (none : registers 
 -- What callers hold
 
 pub there-live : (v : Keyed) (x : Option NKey) → IsLive v.keys x → IsNativeThere v x
-there-live v None l = tt
-there-live v (Some key) l = l
+there-live v x l = grind arith
 
 pub live-there : (v : Keyed) (x : Option NKey) → IsNativeThere v x → IsLive v.keys x
-live-there v None l = tt
-live-there v (Some key) l = l
+live-there v x l = grind arith
 
 pub script_there-live : (v : Keyed) (x : Option SKey) → IsScriptLive v.scripts x → IsScriptThere v x
-script_there-live v None l = tt
-script_there-live v (Some key) l = l
+script_there-live v x l = grind arith
 
 pub name-named : (v : Keyed) (x : Option NKey) → native_name v x ≡ named v.keys x
-name-named v None = refl
-name-named v (Some key) = refl
+name-named v x = grind arith
 
 -- what cannot be something is nothing
 pub none-by : {X : Type 0} (P : Option X → Type 0) → ((k : X) → P (Some k) → ⊥) → (y : Option X) → P y → y ≡ None
-none-by P n None p = refl
-none-by P n (Some k) p = absurd (n k p)
+none-by P n e p = grind arith

@@ -1,6 +1,6 @@
 -- THE ROOTS OF SCRIPT MARKING BY KEYS AND BY NAMES: what registers hold, and what natives hold.
 use Rattle.cc_heaps.proofs.Keys.{named-object}
-use Rattle.std.proofs.Common.{◌≡◌, ℕ, ◌==◌, Bool, true, false, List, ◌++◌, map, Option, Some, None, refl, sym, ◌∙◌, ap, subst, inl, ⊎_elim}
+use Rattle.std.proofs.Common.{arith, ◌≡◌, ℕ, ◌==◌, Bool, true, false, List, ◌++◌, map, Option, Some, None, refl, sym, ◌∙◌, ap, subst, inl, ⊎_elim}
 use Rattle.std.specs.Prelude.{IsTrue}
 use Rattle.std.specs.List.{flat_map}
 use Rattle.std.specs.Option.{option_to_list}
@@ -39,9 +39,7 @@ use Rattle.cc_heaps.proofs.Reaching.{AreNamesOf, name_at-own, name_at-found, mar
 
 -- a key of registers is that of one
 pub register-key : (xs : List (Option SKey)) (k : ℕ) → Among k (keys_in_registers xs) → (key : SKey) × Among (Some key) xs × (key.0 ≡ k)
-register-key xs k m =
-    let f = Among-map_cases (λ (key : SKey). key.0) (flat_map option_to_list xs) k m in
-    (f.0, held-among xs f.0 f.1, f.2)
+register-key xs k m = grind (arith, Among-map_cases, held-among)
 
 -- and each register gives its key
 pub key-register : (xs : List (Option SKey)) (key : SKey) → Among (Some key) xs → Among key.0 (keys_in_registers xs)
@@ -49,16 +47,11 @@ key-register xs key m = Among-map (λ (key : SKey). key.0) key (flat_map option_
 
 -- the key of a name is that of a script object
 key_in-object : (x : Name) (k : ℕ) → Among k (key_in x) → x ≡ object k
-key_in-object (name.Native j) k m = absurd m
-key_in-object (name.Script j) k m = ⊎_elim (λ e. ap object e) (λ t. absurd t) m
-key_in-object (name.Reflector j) k m = absurd m
+key_in-object x k m = grind arith
 
 -- a key of natives is that of a reference of one
 pub native-key : (c : Counts) (ns : List HeapNative) (k : ℕ) → Among k (keys_held c ns) → (n : HeapNative) × Among n ns × Among (object k) (contents (references_in c n))
-native-key c ns k m =
-    let f = Among-flat_map_cases (λ (n : HeapNative). keys_in (references_in c n)) ns k m in
-    let g = Among-flat_map_cases key_in (contents (references_in c f.0)) k f.2 in
-    (f.0, f.1, subst (λ x. Among x (contents (references_in c f.0))) (key_in-object g.0 k g.2) g.1)
+native-key c ns k m = grind (arith, Among-flat_map_cases, key_in-object)
 
 -- and each reference gives its key
 key-native : (c : Counts) (ns : List HeapNative) (n : HeapNative) (k : ℕ) → Among n ns → Among (object k) (contents (references_in c n)) → Among k (keys_held c ns)
@@ -95,9 +88,7 @@ module _ (p : Inside) (l : IsLinked p) where
 
   -- a name of a script object is that of no native
   pub script-named : (k : ℕ) (x : Name) → name_at p.scripts k ≡ Some x → is_script x ≡ true
-  script-named k x e =
-      let f = name_at-found p.scripts k x e in
-      ap is_script (sym f.3) ∙ ap (λ b. elim b as (λ _. Bool) [ true ↦ false | false ↦ true ]) (l.script_names f.0 f.1)
+  script-named k x e = grind (arith, name_at-found)
 
 -- two lots of keys, and of names
 AreNamesOf-append : (objects : List Object) (ks js : List ℕ) (xs ys : List Name) → AreNamesOf objects ks xs → AreNamesOf objects js ys → AreNamesOf objects (ks ++ js) (xs ++ ys)
@@ -164,25 +155,9 @@ module _ {owned : List ℕ} (p : Inside) (l : IsLinked p) (o : IsInOrder owned (
 
   -- WHAT IS BLACK
   black_names-names : AreNamesOf p.scripts (black_keys p.scripts p.weak (black_roots p)) (black_names (heap_of p))
-  black_names-names = record {
-    named = λ k x m e.
-        let f = name_at-found p.scripts k x e in
-        let by_key : has ◌==◌ (black_keys p.scripts p.weak (black_roots p)) f.0.key ≡ true =
-        has-there ◌==◌ number-exact (black_keys p.scripts p.weak (black_roots p)) f.0.key (subst (λ j. Among j (black_keys p.scripts p.weak (black_roots p))) (sym f.2) m) in
-        subst (λ y. Among y (black_names (heap_of p))) f.3
-        (has-among same_name same_name-exact (black_names (heap_of p)) f.0.name (sym (black-alike f.0 f.1) ∙ by_key));
-    keyed = λ x m.
-        let f = black-there x m in
-        let by_name : has same_name (black_names (heap_of p)) f.0.name ≡ true =
-        has-there same_name same_name-exact (black_names (heap_of p)) f.0.name (subst (λ y. Among y (black_names (heap_of p))) (sym f.2) m) in (
-          f.0.key,
-          has-among ◌==◌ number-exact (black_keys p.scripts p.weak (black_roots p)) f.0.key (black-alike f.0 f.1 ∙ by_name),
-          name_at-own p.scripts l.one_key f.0 f.1 ∙ ap (λ y. Some y) f.2,
-        );
-  }
+  black_names-names = grind (arith, name_at-found, has-there, number-exact, has-among, same_name-exact, black-alike, black-there, name_at-own)
 
   -- and it is marked by its key where it is marked by its name
   pub marked-alike : (q : Object) → Among q p.scripts →
       has ◌==◌ (marked_keys p.scripts p.weak (black_roots p) (gray_roots p)) q.key ≡ has same_name (marked_names (heap_of p)) q.name
-  marked-alike = marked-alike_from p.scripts l.one_key l.one_name p.weak o.entries_there (black_keys p.scripts p.weak (black_roots p) ++ gray_roots p) (black_names (heap_of p) ++ scripts_held (heap_of p))
-      (AreNamesOf-append p.scripts (black_keys p.scripts p.weak (black_roots p)) (gray_roots p) (black_names (heap_of p)) (scripts_held (heap_of p)) black_names-names native-names)
+  marked-alike = grind (arith, marked-alike_from, AreNamesOf-append, black_names-names, native-names)

@@ -73,11 +73,7 @@ goes_on c k key at next there =
 
 -- the front of the references of a native is a place, as long as it is there
 pub IsPlace-front : (c : Counts) → HasKeys c → HaveFewSlots c.natives → (at : Option NKey) → IsLiveKey c at → IsPlace c at 0
-IsPlace-front c k few at there = record { keyed = k; few_slots = few; there = there; within = front at }
-  where
-    front : (at : Option NKey) → IfSome at (λ key. 0 ≤ length (references_of c key.0))
-    front None = tt
-    front (Some key) = omega arith
+IsPlace-front c k few at there = grind arith
 
 -- where no reference holds a key any more, those that are left stand behind the native
 pub keys_from-behind : (c : Counts) (key : NKey) (i : ℕ) → keys_in (drop i (references_of c key.0)) ≡ [] → keys_from c (Some key) i ≡ keys_held c (natives_behind c key.0)

@@ -3,7 +3,7 @@ use Rattle.cc_heaps.proofs.ObjectsKept.{there-named}
 use Rattle.cc_script.proofs.InOrder.{object_at-left}
 use Rattle.cc_laws_heap.proofs.Changing.{option_map-found}
 use Rattle.cc_lists.proofs.Held.{is_some-none, once-push, map-replicate, map-held}
-use Rattle.std.proofs.Common.{◌≡◌, ℕ, ◌+◌, ◌<◌, ◌≤◌, false, List, [], ◌∷◌, ◌++◌, map, replicate, Option, Some, None, option_map, refl, sym, ◌∙◌, ap, subst, ⊎_elim, ◌==◌}
+use Rattle.std.proofs.Common.{arith, ◌≡◌, ℕ, ◌+◌, ◌<◌, ◌≤◌, false, List, [], ◌∷◌, ◌++◌, map, replicate, Option, Some, None, option_map, refl, sym, ◌∙◌, ap, subst, ⊎_elim, ◌==◌}
 use Rattle.std.specs.Prelude.{IfSome, IsTrue, slice_set}
 use Rattle.std.specs.Option.{option_and_then, option_or}
 use Rattle.std.specs.List.{find}
@@ -55,14 +55,12 @@ pub record Becomes (owned : List ℕ) (p q : Inside) (h : Heap) : Type 0 where
 -- what comes in keeps its name, and is there still
 pub content-kept : (p q : Inside) → KeepsNames p.scripts q.scripts → (x : Option SKey) → IsScriptThere (keyed_of p) x →
     (script_name (keyed_of q) x ≡ script_name (keyed_of p) x) × IsScriptThere (keyed_of q) x
-content-kept p q kept None t = (refl, t)
-content-kept p q kept (Some key) t = (KeepsNames-same p.scripts q.scripts kept key.0 t, KeepsNames-there p.scripts q.scripts kept key.0 t)
+content-kept p q kept x t = grind (arith, KeepsNames-same, KeepsNames-there)
 
 -- nothing comes in: nothing is exposed
 pub nothing-exposed : (v : Keyed) (x : Option SKey) → ((key : SKey) → x ≡ Some key → ⊥) → exposed v.heap (script_name v x) ≡ v.heap
 unfolding exposed
-nothing-exposed v None none = refl
-nothing-exposed v (Some key) none = absurd (none key refl)
+nothing-exposed v x none = grind arith
 
 module _ {owned : List ℕ} (p : Inside) (l : IsLinked p) (o : IsInOrder owned (keyed_of p)) where
   -- other script objects, as the definitions change them
@@ -134,8 +132,7 @@ module _ {owned : List ℕ} (p : Inside) (l : IsLinked p) (o : IsInOrder owned (
   with_register r content = record p { script_registers = with_item p.script_registers r content }
 
   register-same : (content : Option SKey) → script_named p.scripts content ≡ script_name (keyed_of p) content
-  register-same None = refl
-  register-same (Some key) = refl
+  register-same content = grind arith
 
   pub becomes-register : (r : ℕ) (content : Option SKey) → IsScriptThere (keyed_of p) content →
       Becomes owned p (with_register r content) (set_register (heap_of p) (s_register r) (script_name (keyed_of p) content))
@@ -191,15 +188,11 @@ module _ (objects : List Object) (one : HasOneKey objects) (whole : AreWhole obj
   found-last k = find-append (λ o. o.key == k) objects (new ∷ [])
 
   pub KeepsNames-made : KeepsNames objects made_last
-  KeepsNames-made k x e =
-      let f = option_map-found (λ (p : Object). p.name) (object_at objects k) x e in
-      ap (option_map (λ (p : Object). p.name)) (object_at-left objects (new ∷ []) k f.0 f.1) ∙ ap (λ y. Some y) f.2
+  KeepsNames-made k x e = grind (arith, option_map-found, object_at-left)
 
   -- it is what stands at its key
   pub name_at-made : name_at made_last new.key ≡ Some new.name
-  name_at-made =
-      ap (λ (o : Option Object). option_map (λ p. p.name) o) (found-last new.key)
-      ∙ rw (is_some-none (object_at objects new.key) vacant, eq-eqb new.key new.key refl) refl
+  name_at-made = grind (arith, found-last, is_some-none, eq-eqb)
 
   pub one_key-made : HasOneKey made_last
   one_key-made k = once-push (λ o. o.key == k) objects new (one k)
@@ -220,21 +213,11 @@ module _ (objects : List Object) (one : HasOneKey objects) (whole : AreWhole obj
 
   -- names other than its own have the keys that they had
   pub key_of-made : (x : Name) → same_name new.name x ≡ false → key_of made_last x ≡ key_of objects x
-  key_of-made x other = ap (λ (o : Option Object). option_map (λ p. p.key) o) (find-append (λ o. same_name o.name x) objects (new ∷ [])
-      ∙ ap (option_or (find (λ o. same_name o.name x) objects)) none)
-      ∙ go (find (λ o. same_name o.name x) objects)
-    where
-      none : find (λ o. same_name o.name x) (new ∷ []) ≡ None
-      none = rw other refl
-
-      go : (o : Option Object) → option_map (λ (p : Object). p.key) (option_or o None) ≡ option_map (λ (p : Object). p.key) o
-      go None = refl
-      go (Some o) = refl
+  key_of-made x other = grind (arith, find-append)
 
 -- what is made fits its name, where it has at most 64 slots
 made-fits : (number : ℕ) (slots : Option ℕ) → IfSome slots (λ n. n ≤ 64) → FitsName (object number) (kind_to_make slots) (empty_slots (slots_to_make slots))
-made-fits number None few = refl
-made-fits number (Some n) few = subst (λ i. i ≤ 64) (sym (length-replicate n None)) few
+made-fits number slots few = grind (arith, length-replicate)
 
 -- AN OBJECT MADE: a plain one or a weak map
 module _ {owned : List ℕ} (p : Inside) (l : IsLinked p) (o : IsInOrder owned (keyed_of p)) (key : ℕ) (slots : Option ℕ) (vacant : is_there p.scripts key ≡ false) where

@@ -1,6 +1,6 @@
 -- SCRIPT OBJECTS WRITTEN: each keeps its key, its name, its kind and its native. An exposure and a slot written, by names.
 use Rattle.cc_lists.proofs.Held.{find-renamed}
-use Rattle.std.proofs.Common.{◌≡◌, ℕ, ◌≤◌, Bool, true, false, List, [], ◌∷◌, map, Option, Some, refl, sym, ◌∙◌, ap, subst, inl, ⊎_elim, ◌==◌, if◌then◌else◌}
+use Rattle.std.proofs.Common.{arith, ◌≡◌, ℕ, ◌≤◌, Bool, true, false, List, [], ◌∷◌, map, Option, Some, refl, sym, ◌∙◌, ap, subst, inl, ⊎_elim, ◌==◌, if◌then◌else◌}
 use Rattle.std.specs.Prelude.{IsTrue}
 use Rattle.std.specs.Option.{option_and_then}
 use Rattle.std.proofs.Math.Path.{fun_ext}
@@ -45,10 +45,7 @@ module _ (f : Object → Object) (keeps : KeepsObjects f) (objects : List Object
   -- by names, where each object is written as its names are
   pub named-written : (g : HeapScript → HeapScript) → ((o : Object) → Among o objects → named_object objects (f o) ≡ g (named_object objects o)) →
       named_objects (map f objects) ≡ map g (named_objects objects)
-  named-written g same = map-map (named_object (map f objects)) f objects
-      ∙ (map-agree (λ o. named_object (map f objects) (f o)) (λ o. g (named_object objects o)) objects
-      (λ o m. ap (λ h. record (named_object objects (f o)) { slots = map h (f o).slots }) name_held-written ∙ same o m)
-      ∙ sym (map-map g (named_object objects) objects))
+  named-written g same = grind (arith, map-map, map-agree, name_held-written)
 
   pub one_key-written : HasOneKey objects → HasOneKey (map f objects)
   one_key-written one key = subst (λ n. n ≤ 1) (sym (count_by-kept_map (λ o. o.key == key) f objects (λ o. ap (λ k. k == key) (keeps.key o)))) (one key)
@@ -74,12 +71,7 @@ module _ (f : Object → Object) (keeps : KeepsObjects f) (objects : List Object
 
 -- raised to black, an object is black
 raised-black : (o : Object) → raised Black o ≡ with_colour Black o
-raised-black o = go o.colour refl
-  where
-    go : (k : Colour) → o.colour ≡ k → elim (is_below k Black) [ true ↦ with_colour Black o | false ↦ o ] ≡ with_colour Black o
-    go White e = refl
-    go Gray e = refl
-    go Black e = ap (λ k. record o { colour = k }) e
+raised-black o = grind arith
 
 -- the objects at these keys made black
 abbrev pub raise_among : List ℕ → Object → Object
@@ -90,16 +82,10 @@ raise-either P keys o black same = changed_where-either P (λ p. has ◌==◌ ke
 
 -- what is written to some objects is
 KeepsObjects-where : (t : Object → Bool) (g : Object → Object) → KeepsObjects g → KeepsObjects (changed_where t g)
-KeepsObjects-where t g keeps = record {
-  key = λ o. changed_where-either (λ p. p.key ≡ o.key) t g o (λ e. keeps.key o) refl;
-  name = λ o. changed_where-either (λ p. p.name ≡ o.name) t g o (λ e. keeps.name o) refl;
-  kind = λ o. changed_where-either (λ p. p.kind ≡ o.kind) t g o (λ e. keeps.kind o) refl;
-  native = λ o. changed_where-either (λ p. p.native ≡ o.native) t g o (λ e. keeps.native o) refl;
-}
+KeepsObjects-where t g keeps = grind (arith, changed_where-either)
 
 pub KeepsObjects-raised : (keys : List ℕ) → KeepsObjects (raise_among keys)
-KeepsObjects-raised keys = KeepsObjects-where (λ o. has ◌==◌ keys o.key) (raised Black)
-    (subst KeepsObjects (sym (fun_ext raised-black)) (record { key = λ o. refl; name = λ o. refl; kind = λ o. refl; native = λ o. refl }))
+KeepsObjects-raised keys = grind (arith, KeepsObjects-where, raised-black)
 
 pub whole-raised : (keys : List ℕ) (objects : List Object) → AreWhole objects → AreWhole (map (raise_among keys) objects)
 whole-raised keys objects whole = whole-written (raise_among keys) (KeepsObjects-raised keys) objects
@@ -107,12 +93,7 @@ whole-raised keys objects whole = whole-written (raise_among keys) (KeepsObjects
 
 module _ (objects : List Object) (one_key : HasOneKey objects) (one_name : HasOneName objects) (key : ℕ) (x : Name) (named : name_at objects key ≡ Some x) where
   names-of : AreNamesOf objects (key ∷ []) (x ∷ [])
-  names-of = record {
-    named = λ k y m e. ⊎_elim
-        (λ i. let both : Some x ≡ Some y = sym named ∙ (ap (name_at objects) i ∙ e) in inl (cc))
-        (λ n. absurd n) m;
-    keyed = λ y m. ⊎_elim (λ e. (key, inl refl, named ∙ ap (λ z. Some z) e)) (λ n. absurd n) m;
-  }
+  names-of = grind arith
 
   -- the heaps with these script objects
   abbrev with : Heap → List HeapScript → Heap
@@ -163,9 +144,7 @@ whole-slot objects key i item whole there = whole-written (write_slot key i item
 
 -- a slot of a script object is written by its name
 set_slot-script : (h : Heap) (x : Name) (i : ℕ) (y : Option Name) → is_native x ≡ false → set_slot h (Some x) i y ≡ change_script h x (with_script_slot i y)
-set_slot-script h (name.Native k) i y e = absurd (true≢false e)
-set_slot-script h (name.Script k) i y e = refl
-set_slot-script h (name.Reflector k) i y e = refl
+set_slot-script h x i y e = grind arith
 
 module _ (objects : List Object) (one_key : HasOneKey objects) (one_name : HasOneName objects) (key : ℕ) (x : Name) (named : name_at objects key ≡ Some x)
     (is_script : is_native x ≡ false) (i : ℕ) (item : Option ℕ) where

@@ -1,7 +1,7 @@
 -- THE SCRIPT OBJECTS ARE CHANGED, or more are made: keys that have names keep them. Then registers and natives hold, and
 -- entries name, what they did.
 use Rattle.cc_laws_heap.proofs.ScriptNames.{scripts-once}
-use Rattle.std.proofs.Common.{◌≡◌, ℕ, ◌≤◌, false, List, map, Option, Some, None, refl, sym, ◌∙◌, ap, subst, ⊎_elim, count_by}
+use Rattle.std.proofs.Common.{arith, ◌≡◌, ℕ, ◌≤◌, false, List, map, Option, Some, None, refl, sym, ◌∙◌, ap, subst, ⊎_elim, count_by}
 use Rattle.std.specs.Prelude.{IsTrue}
 use Rattle.std.specs.Option.{option_and_then}
 use Rattle.cc_lists.specs.Members.{Among}
@@ -46,10 +46,7 @@ KeepsNames-same os ps kept key t = let n = there-named os key t in kept key n.0 
 
 -- an entry has the names that it had
 members-kept : (os ps : List Object) → KeepsNames os ps → (e : KeyedEntry) → IsEntryThere os e → (key : ℕ) → Among key (members e) → name_at ps key ≡ name_at os key
-members-kept os ps kept e t key m = KeepsNames-same os ps kept key (⊎_elim (at t.the_map) (⊎_elim (at t.key) (⊎_elim (at t.value) (λ n. absurd n))) m)
-  where
-    at : {k : ℕ} → IsTrue (is_there os k) → k ≡ key → IsTrue (is_there os key)
-    at u s = subst (λ j. IsTrue (is_there os j)) s u
+members-kept os ps kept e t key m = grind (arith, KeepsNames-same)
 
 pub named_entries-kept : (os ps : List Object) → KeepsNames os ps → (es : List KeyedEntry) → AreEntriesThere os es → named_entries ps es ≡ named_entries os es
 named_entries-kept os ps kept es there = map-agree (named_entry ps) (named_entry os) es (λ e m. entry-same ps os e (members-kept os ps kept e (there e m)))
@@ -113,9 +110,7 @@ module _ (p : Inside) (objects : List Object) (made : ℕ) (kept : KeepsNames p.
 
   -- THE HEAPS are as they were but for the script objects.
   pub heap-objects : AreEntriesThere p.scripts p.weak → heap_of (with_objects p objects made) ≡ with_named (heap_of p) objects made
-  heap-objects there =
-      ap (λ (h : Heap). record h { scripts_made = made }) (heap-held p objects l.held holds-same)
-      ∙ (λ i. record (with_named (heap_of p) objects made) { entries = named_entries-kept p.scripts objects kept p.weak there i })
+  heap-objects there = grind (arith, heap-held, holds-same, named_entries-kept)
 
   -- what is there keeps its key
   pub keys-objects : KeepsKeys (keyed_of p) (keyed_of (with_objects p objects made))

@@ -31,13 +31,11 @@ use Rattle.cc_heaps.proofs.Ordered.{IsInOrder-slot}
 
 -- a native that has a slot is there
 has-slot : (o : Option HeapNative) (i : ℕ) → i < length (slots_now o) → (n : HeapNative) × (o ≡ Some n)
-has-slot None i within = absurd (omega arith)
-has-slot (Some n) i within = (n, refl)
+has-slot o i within = grind arith
 
 -- what slots hold is read alike once a reference is taken
 slots-by : (o : Option HeapNative) (ss : Option Slots) → option_map (λ (n : HeapNative). n.slots) o ≡ ss → slots_now o ≡ slots_or_none ss
-slots-by None ss e = ap slots_or_none e
-slots-by (Some n) ss e = ap slots_or_none e
+slots-by o ss e = grind arith
 
 pub slots-taken : (h : Heap) (x : Option Name) (k : ℕ) → slots_now (native_at (take_up h x) k) ≡ slots_now (native_at h k)
 slots-taken h x k =

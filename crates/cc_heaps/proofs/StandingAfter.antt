@@ -2,7 +2,7 @@
 -- graph is well made; the changed heaps follow it, and are well formed, so they stand for it.
 use Rattle.cc_heaps.proofs.ObjectsKept.{there-named}
 use Rattle.cc_heaps.proofs.Reflecting.{shape-made}
-use Rattle.std.proofs.Common.{◌≡◌, ℕ, ◌<◌, ◌≤◌, true, List, get_or, Option, Some, None, refl, sym, ap, subst, inl}
+use Rattle.std.proofs.Common.{arith, ◌≡◌, ℕ, ◌<◌, ◌≤◌, true, List, get_or, Option, Some, None, refl, sym, ap, subst, inl}
 use Rattle.std.specs.Prelude.{IfSome, IsTrue}
 use Rattle.std.proofs.lemmas.Bool.{false≢true, le-leb, lt-leb, lt-ltb}
 use Rattle.cc_names.specs.declared.name.Name.{Name}
@@ -108,8 +108,7 @@ make_native-stands h d n s room few allowed = command-stands_after h (Native d n
 -- the command that makes a script object is not refused
 made-not_refused : (h : Heap) (d : ℕ) (slots : Option ℕ) → h.scripts_made < h.limits.scripts → refusal_of (objects_of h) (command_to_make d slots) ≡ None
 unfolding refusal_of
-made-not_refused h d None allowed = rw (lt-leb h.limits.scripts h.scripts_made allowed) refl
-made-not_refused h d (Some n) allowed = rw (lt-leb h.limits.scripts h.scripts_made allowed) refl
+made-not_refused h d slots allowed = grind (arith, lt-leb)
 
 -- A script object is made.
 pub make_object-stands : {owned : List ℕ} (h : Heap) (d : ℕ) (slots : Option ℕ) → IsSound owned h → d < 256 → IfSome slots (λ n. n ≤ 64) → h.scripts_made < h.limits.scripts →

@@ -1,6 +1,6 @@
 -- HEAPS GO ON STANDING FOR THE SAME GRAPHS, and the colours stay as they should be: where something changes that no graph
 -- sees, where references are taken and given up, where what no register reaches is unlinked, and in a sweep.
-use Rattle.std.proofs.Common.{◌≡◌, ◌≢◌, ℕ, Bool, List, [], ◌∷◌, Option, Some, None, refl, sym, ◌∙◌, ap, subst, inl, IsSome, MatchOption}
+use Rattle.std.proofs.Common.{arith, ◌≡◌, ◌≢◌, ℕ, Bool, List, [], ◌∷◌, Option, Some, None, refl, sym, ◌∙◌, ap, subst, inl, IsSome, MatchOption}
 use Rattle.std.specs.List.{filter}
 use Rattle.cc_lists.specs.Members.{Among}
 use Rattle.cc_lists.proofs.Members.{Among-map, Among-map_cases, Among-filter, Among-filtered, Among-passes}
@@ -86,29 +86,11 @@ module _ (h : Heap) (buffer : List Buffered) where
   rebuffered = record h { buffer = buffer }
 
   shape_at-buffer : (x : Name) → shape_at rebuffered x ≡ shape_at h x
-  shape_at-buffer (name.Native k) = refl
-  shape_at-buffer (name.Script k) = refl
-  shape_at-buffer (name.Reflector k) = refl
+  shape_at-buffer x = grind arith
 
   -- The buffer changes.
   pub buffer-goes_on : GoesOn h (record h { buffer = buffer })
-  buffer-goes_on = record {
-    stands = λ g m s. record {
-      native_registers = s.native_registers;
-      script_registers = s.script_registers;
-      limits = s.limits;
-      natives_made = s.natives_made;
-      scripts_made = s.scripts_made;
-      natives = s.natives;
-      scripts = s.scripts;
-      reached = λ x d. let k = s.reached x d in record { shape = k.shape; made = k.made; there = shape_at-buffer x ∙ k.there };
-      values = s.values;
-      entries = s.entries;
-      blank = s.blank;
-      blank_there = s.blank_there;
-    };
-    colours = λ c. record { black_to_black = c.black_to_black; held_black = c.held_black; none_white = c.none_white };
-  }
+  buffer-goes_on = grind (arith, shape_at-buffer)
 
 -- a native and its mark
 abbrev pub Front : Type 0
@@ -178,9 +160,7 @@ module _ {owned : List ℕ} (h : Heap) (c : HasColours h) (s : IsSound owned h) 
 
   -- and is not white
   left-not_white : (o : HeapScript) → Among o (sweep h).heap.scripts → o.colour ≢ White
-  left-not_white o m e = is_not_among-apart (unmarked h) o.name (Among-passes (is_spared (unmarked h)) o h.scripts (subst (Among o) (scripts-sweep h) m))
-      (Among-map (λ (p : HeapScript). p.name) o (filter (λ (p : HeapScript). is_white_colour p.colour) h.scripts)
-      (Among-filter (λ (p : HeapScript). is_white_colour p.colour) o h.scripts (left-there o m) (ap is_white_colour e)))
+  left-not_white o m e = grind (arith, is_not_among-apart, Among-passes, scripts-sweep, Among-map, Among-filter, left-there)
 
   -- what is left keeps the colours
   swept-coloured : IsColoured (sweep h).heap

@@ -3,7 +3,7 @@
 use Rattle.std.proofs.lemmas.List.{length-map}
 use Rattle.cc_heaps.proofs.ReflectorLists.{reflectors-set, within-read}
 use Rattle.cc_lists.proofs.Held.{map-held}
-use Rattle.std.proofs.Common.{◌≡◌, ℕ, Bool, true, false, not, ◌&&◌, ◌||◌, List, [], ◌∷◌, map, get_or, set, Option, Some, None, option_map, refl, sym, ◌∙◌, ap, subst, inl, inr, length, ◌<◌}
+use Rattle.std.proofs.Common.{arith, ◌≡◌, ℕ, Bool, true, false, not, ◌&&◌, ◌||◌, List, [], ◌∷◌, map, get_or, set, Option, Some, None, option_map, refl, sym, ◌∙◌, ap, subst, inl, inr, length, ◌<◌}
 use Rattle.std.specs.List.{filter}
 use Rattle.std.specs.Option.{option_and_then}
 use Rattle.std.proofs.Math.ListN.{get_or-map}
@@ -99,8 +99,7 @@ without_names (x ∷ xs) objects = without_names xs (without_name x objects)
 
 -- neither one nor the other
 pub neither : (b c : Bool) → (not b && not c) ≡ not (b || c)
-neither true c = refl
-neither false c = refl
+neither b c = grind arith
 
 pub without_names-filter : (xs : List Name) (objects : List Object) → without_names xs objects ≡ filter (λ o. not (has same_name xs o.name)) objects
 without_names-filter [] objects = sym (filter-true (λ (o : Object). not (has same_name [] o.name)) objects (λ o. refl))
@@ -111,22 +110,14 @@ without_names-filter (x ∷ xs) objects =
 
 -- the reflector of a native is found by its own name alone
 reflector-other : (objects : List Object) (x : Name) (k : ℕ) → same_name (reflector k) x ≡ false → reflector_key (without_name x objects) k ≡ reflector_key objects k
-reflector-other objects x k other = ap (λ (o : Option Object). option_map (λ q. q.key) o)
-    (find-filter (λ (o : Object). same_name o.name (reflector k)) (λ o. not (same_name o.name x)) objects
-    (λ o e. ap not (ap (λ y. same_name y x) ((same_name-exact o.name (reflector k)).0 e) ∙ other)))
+reflector-other objects x k other = grind (arith, find-filter, same_name-exact)
 
 reflector-gone : (objects : List Object) (k : ℕ) → reflector_key (without_name (reflector k) objects) k ≡ None
-reflector-gone objects k = ap (λ (o : Option Object). option_map (λ q. q.key) o)
-    (find-dropped (λ (o : Object). same_name o.name (reflector k)) (λ o. not (same_name o.name (reflector k))) objects (λ o e. negated (same_name o.name (reflector k)) e))
-  where
-    negated : (b : Bool) → not b ≡ true → b ≡ false
-    negated true e = sym e
-    negated false e = refl
+reflector-gone objects k = grind (arith, find-dropped)
 
 -- what is no reflector is that of no native
 reflectors-plain : (objects : List Object) (k : ℕ) (keys : List (Option ℕ)) → reflectors_by (without_name (name.Script (record { 0 = k })) objects) keys ≡ reflectors_by objects keys
-reflectors-plain objects k keys = map-held (option_and_then (reflector_key (without_name (name.Script (record { 0 = k })) objects))) (option_and_then (reflector_key objects)) keys refl
-    (λ j m. reflector-other objects (name.Script (record { 0 = k })) j refl)
+reflectors-plain objects k keys = search (map-held, reflector-other)
 
 -- a reflector that is taken out is that of the native at one key alone
 reflectors-without : (objects : List Object) (k : ℕ) (keys : List (Option ℕ)) (key : ℕ) → key < length keys → ((q : ℕ) → get_or keys q None ≡ Some k → q ≡ key) →

@@ -79,8 +79,7 @@ numbers-behind p (o ∷ os) all =
 
 -- and the natives are there
 reflecting-there : (p : Inside) (x : Name) (key : Option ℕ) (q : ℕ) → Reflects (keyed_of p) x key → Among q (option_to_list key) → number_at p.counted q ≡ Some (the_number p.counted q)
-reflecting-there p x key q r m = Reflects-cases (keyed_of p) (λ x key. Among q (option_to_list key) → number_at p.counted q ≡ Some (the_number p.counted q)) (λ k i. absurd i)
-    (λ k s at. of-one (λ t. number_at p.counted t ≡ Some (the_number p.counted t)) s (at ∙ ap (λ o. Some (number_or_none o)) (sym at)) q) x key r m
+reflecting-there p x key q r m = grind (arith, Reflects-cases, of-one)
 
 module _ {besides : List ℕ} (p : Inside) (l : IsLinked p) (o : IsInOrder besides (keyed_of p)) where
   white-reflecting : (q : Object) → Among q (whites p.scripts) → Reflects (keyed_of p) q.name q.native

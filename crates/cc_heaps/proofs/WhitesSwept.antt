@@ -45,8 +45,7 @@ white_names-append : (xs ys : List Object) → white_names (xs ++ ys) ≡ white_
 white_names-append xs ys = ap (map (λ (o : Object). o.name)) (filter-append is_white xs ys) ∙ map-append (λ (o : Object). o.name) (filter is_white xs) (filter is_white ys)
 
 are_some-append : (xs ys : List Name) → are_some (xs ++ ys) ≡ (are_some xs || are_some ys)
-are_some-append [] ys = refl
-are_some-append (x ∷ xs) ys = refl
+are_some-append xs ys = grind arith
 
 -- Who owns the references
 
