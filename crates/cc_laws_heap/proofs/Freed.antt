@@ -26,12 +26,7 @@ freed_event k = Freed (native k)
 -- to be none of a list and one more is to be none of the list, and not that one
 is_none_of-push : (ks : List ℕ) (k : ℕ) (u : Uncounted) → is_none_of (ks ++ k ∷ []) u ≡ (is_none_of ks u && not (u.number == k))
 is_none_of-push [] k u = grind (arith, eqb-sym)
-is_none_of-push (i ∷ js) k u = go (i == u.number) (is_none_of-push js k u)
-  where
-    go : (b : Bool) → is_none_of (js ++ k ∷ []) u ≡ (is_none_of js u && not (u.number == k)) →
-        not (b || has ◌==◌ (js ++ k ∷ []) u.number) ≡ (not (b || has ◌==◌ js u.number) && not (u.number == k))
-    go true ih = refl
-    go false ih = ih
+is_none_of-push (i ∷ js) k u = grind (arith, is_none_of-push js k u)
 
 -- the natives `ks` are told and taken out, and nothing changes beside them but counts and the buffer
 pub record TakesOut (h : Heap) (ks : List ℕ) (o : Outcome) : Type 0 where

@@ -30,8 +30,7 @@ pub shape_at-script : (h : Heap) → IsWellFormed h → (o : HeapScript) → Amo
 shape_at-script h w o m = go o.name refl (w.kinds o m)
   where
     go : (x : Name) → o.name ≡ x → FitsName x o.kind o.slots → shape_at h x ≡ Some (shape_of_held_script o)
-    go (name.Native k) e f = absurd f
-    go _ e f = ap (option_map shape_of_held_script) (ap (script_at h) (sym e) ∙ script_at-member h w o m)
+    go x e f = grind (arith, script_at-member)
 
 -- so has a native
 pub shape_at-native : (h : Heap) → IsWellFormed h → (n : HeapNative) → Among n h.natives → shape_at h (native n.number) ≡ Some (shape_of_held_native n)

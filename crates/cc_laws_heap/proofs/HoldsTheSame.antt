@@ -63,13 +63,11 @@ module _ (h g : Heap) (a : HoldsTheSame h g) where
   native_slots-alike k = found g ∙ (ap (λ us. option_map (λ (u : Uncounted). u.slots) (find (λ (u : Uncounted). u.number == k) us)) a.natives ∙ sym (found h))
     where
       slots : (o : Option HeapNative) → option_map (λ (n : HeapNative). n.slots) o ≡ option_map (λ (u : Uncounted). u.slots) (option_map uncounted o)
-      slots None = refl
-      slots (Some n) = refl
+      slots o = grind arith
 
       found : (f : Heap) → option_map (λ (n : HeapNative). n.slots) (native_at f k) ≡
           option_map (λ (u : Uncounted). u.slots) (find (λ (u : Uncounted). u.number == k) (map uncounted f.natives))
-      found f = slots (native_at f k) ∙
-          ap (λ o. option_map (λ (u : Uncounted). u.slots) o) (sym (find-map (λ (u : Uncounted). u.number == k) uncounted f.natives))
+      found f = grind (arith, find-map)
 
   -- objects have the same slots
   pub slots_in-alike : (x : Name) → slots_in g x ≡ slots_in h x

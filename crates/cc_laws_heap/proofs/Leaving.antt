@@ -75,12 +75,7 @@ Leave-none h freed g l k m = times-none k freed (Leave-not_freed h freed g l k m
 -- to be left after two lists were freed is to be left after each
 is_left-append : (early late : List ℕ) (k : ℕ) → is_left (early ++ late) k ≡ (is_left early k && is_left late k)
 is_left-append [] late k = refl
-is_left-append (a ∷ early) late k = go (a == k) (is_left-append early late k)
-  where
-    go : (b : Bool) → is_left (early ++ late) k ≡ (is_left early k && is_left late k) →
-        not (b || has ◌==◌ (early ++ late) k) ≡ (not (b || has ◌==◌ early k) && is_left late k)
-    go true ih = refl
-    go false ih = ih
+is_left-append (a ∷ early) late k = grind (arith, is_left-append early late k)
 
 -- Natives leave one after another.
 pub Leave-trans : (h : Heap) (early : List ℕ) (g : Heap) (late : List ℕ) (f : Heap) → Leave h early g → Leave g late f → Leave h (early ++ late) f

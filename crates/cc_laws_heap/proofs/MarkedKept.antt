@@ -69,8 +69,7 @@ module _ (h : Heap) where
       edge = from_to (native n.number) (reflector n.number)
 
       by_flag : (b : Bool) → b ≡ true → Among edge (elim b [ true ↦ edge ∷ [] | false ↦ [] ])
-      by_flag true f = inl refl
-      by_flag false f = absurd (false≢true f)
+      by_flag b f = grind arith
 
 -- What is not marked
 

@@ -55,10 +55,7 @@ IsCounted-add_ref owned h k there c j = ⊎_elim same other (eqb_tells j k)
     alike i = let a = HoldsTheSame-add_ref h k in refs_to-alike h (add_ref h k) a.beside a.natives i
 
     one_more : count_at (add_ref h k) k ≡ count_at h k + 1
-    one_more =
-        let f = named-found h k there in
-        let after : native_at (add_ref h k) k ≡ option_map raise_native (native_at h k) = native_at-change_same h k raise_native (λ n. refl) in
-        ap count_of after ∙ rw f.1 refl
+    one_more = grind (arith, named-found, native_at-change_same)
 
     same : ((j == k) ≡ true) × (j ≡ k) → count_at (add_ref h k) j ≡ refs_to (add_ref h k) j + times j (k ∷ owned)
     same t = subst (λ i. count_at (add_ref h k) i ≡ refs_to (add_ref h k) i + times i (k ∷ owned)) (sym t.1)

@@ -67,8 +67,7 @@ module _ (g : Graph) where
       (subst (λ o. Among (native k) (native_behind k o)) (sym n.1) (some n.0.reflector n.2)))
     where
       some : (r : Option Slots) → is_some r ≡ true → Among (native k) (elim r as (λ _. List Name) [ None ↦ [] | Some slots ↦ native k ∷ [] ])
-      some None e = absurd (false≢true e)
-      some (Some slots) e = inl refl
+      some r e = grind arith
 
   -- the native behind what a script register holds, where that is a reflector
   pub script-behind : (o : Option Name) → OfSome (MadeScript g) o → OfSome (Reached g) o → OfSome (HasBehind (Reached g)) o

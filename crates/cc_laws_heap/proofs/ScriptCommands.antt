@@ -116,8 +116,7 @@ found-map h x m e = go (script_at h x) refl e
     some = find-some (λ (p : HeapScript). same_name p.name x) h.scripts f.0 f.1 (ap (λ y. same_name y x) f.2 ∙ same_name-refl x)
 
     kind : (q : Kind) (o : HeapScript) → is_none (slots_of_kind q o.slots) ≡ true → q ≡ Map
-    kind Map o t = refl
-    kind _ o t = absurd (false≢true t)
+    kind q o t = grind arith
 
     go : (o : Option HeapScript) → script_at h x ≡ o → is_none (option_and_then slots_of_script o) ≡ true →
         (o : HeapScript) × Among o h.scripts × (o.name ≡ x) × (o.kind ≡ Map)

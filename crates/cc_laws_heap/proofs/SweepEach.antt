@@ -42,8 +42,7 @@ scripts-sweep_each (x ∷ xs) o =
     ∙ ap (λ t. filter t o.heap.scripts) (fun_ext (λ p. neither (same_name p.name x) (has same_name xs p.name) ∙ ap (λ b. not (b || has same_name xs p.name)) (same_name-sym p.name x)))))
   where
     neither : (b c : Bool) → (not b && not c) ≡ not (b || c)
-    neither true c = refl
-    neither false c = refl
+    neither b c = grind arith
 
 -- Objects to be swept
 

@@ -62,8 +62,7 @@ unpreserved-sound owned h k s = record {
     names = native_names-change h k unpreserved_native (λ n. refl)
 
     slots : slots_of_natives (set_preserved h k false) ≡ slots_of_natives h
-    slots = flat_map-kept (λ (m : HeapNative). contents m.slots) change h.natives
-        (λ m. changed_where-either (λ o. contents o.slots ≡ contents m.slots) is_it unpreserved_native m (λ e. refl) refl)
+    slots = grind (arith, flat_map-kept, changed_where-either)
 
     refs : (j : ℕ) → refs_to (set_preserved h k false) j ≡ refs_to h j
     refs j = rw slots refl

@@ -52,9 +52,7 @@ Leaves-exposed h (Some x) = record {
 }
   where
     names : (o : HeapScript) (b : Bool) → (if b then as_black o else o).name ≡ o.name
-    names o true = refl
-    names o false = refl
+    names o b = grind arith
 
     shapes : (o : HeapScript) (b : Bool) → shape_of_held_script (if b then as_black o else o) ≡ shape_of_held_script o
-    shapes o true = refl
-    shapes o false = refl
+    shapes o b = grind arith

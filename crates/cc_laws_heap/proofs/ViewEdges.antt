@@ -27,8 +27,7 @@ native_edges-are n x y m = ⊎_elim
   where
     go : (b : Bool) → n.preserved ≡ b → Among (x, y) (elim b [ true ↦ from_to (native n.number) (reflector n.number) ∷ [] | false ↦ [] ]) →
         (native n.number ≡ x) × NativeHas n y
-    go true p i = ⊎_elim (λ e. (ap (λ (z : Name × Name). z.0) e, inr (p, ap (λ (z : Name × Name). z.1) e))) (λ t. absurd t) i
-    go false p i = absurd i
+    go b p i = grind arith
 
 -- a name with a native behind it is that native's reflector
 pub behind-is : (x : Name) (k : ℕ) → Among k (behind x) → x ≡ reflector k

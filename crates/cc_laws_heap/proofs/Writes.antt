@@ -157,12 +157,4 @@ set_preserved-sound owned h k there s = IsSound-from_counted owned (set_preserve
 -- Script objects change, and keep their names.
 pub scripts-sound : (owned : List ℕ) (h : Heap) (f : HeapScript → HeapScript) → ChangesScripts h f → IsSound owned h →
     IsSound owned (with_scripts h f)
-scripts-sound owned h f c s = record {
-  well_formed = IsWellFormed-scripts h f s.well_formed c;
-  counts = λ n m. s.counts n m ∙ ap (λ r. r + times n.number owned) (sym (refs n.number));
-  none_zero = s.none_zero;
-  owned_there = s.owned_there;
-}
-  where
-    refs : (k : ℕ) → refs_to (with_scripts h f) k ≡ refs_to h k
-    refs k = rw (count_by-kept_map (λ (o : HeapScript). same_name o.name (reflector k)) f h.scripts (λ o. ap (λ x. same_name x (reflector k)) (c.name o))) refl
+scripts-sound owned h f c s = search (IsWellFormed-scripts, count_by-kept_map, s.well_formed, s.counts, s.none_zero, s.owned_there, h.scripts, c.name)
