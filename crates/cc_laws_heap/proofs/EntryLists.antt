@@ -1,5 +1,5 @@
 -- LISTS OF ENTRIES: what stands in them after an entry was set, that a map and a key have one, and the value that is found.
-use Rattle.std.proofs.Common.{◌≡◌, ℕ, ◌+◌, ◌≤◌, Bool, true, false, cond, List, [], ◌∷◌, Some, refl, sym, ◌∙◌, ap, subst, inl, inr, ◌⊎◌, ⊎_elim, arith, count_by}
+use Rattle.std.proofs.Common.{◌≡◌, ℕ, ◌+◌, ◌≤◌, Bool, true, false, cond, List, [], ◌∷◌, Some, refl, sym, ◌∙◌, ap, subst, inl, ◌⊎◌, ⊎_elim, arith, count_by}
 use Rattle.std.proofs.lemmas.Bool.{and_from, true≢false, cases_Bool}
 use Rattle.cc_lists.specs.Members.{Among}
 use Rattle.cc_lists.proofs.Counting.{count_by-cons, count_by-some}

@@ -1,8 +1,8 @@
 -- THE FRONT OF THE QUEUE FREED: nothing refers to it, so it is the same whether its slots are given up before or after
 -- it is taken out; taken out first, its slots are references in hand, which are then given up one after another.
-use Rattle.std.proofs.Common.{◌≡◌, ◌≢◌, ℕ, zero, suc, ◌+◌, ◌≤◌, true, false, not, List, [], ◌∷◌, ◌++◌, Some, refl, sym, ◌∙◌, ap, subst, arith, count_by, ◌==◌}
-use Rattle.std.proofs.lemmas.Bool.{eqb-true, ne_eqb, not-true}
-use Rattle.cc_model.specs.Heap.{Heap, HeapNative, native_at, forget, suspect}
+use Rattle.std.proofs.Common.{◌≡◌, ◌≢◌, ℕ, ◌+◌, ◌≤◌, true, not, List, [], ◌∷◌, ◌++◌, Some, refl, sym, ◌∙◌, ap, subst, arith, count_by}
+use Rattle.std.proofs.lemmas.Bool.{eqb-true, not-true}
+use Rattle.cc_model.specs.Heap.{Heap, HeapNative, native_at}
 use Rattle.cc_model.specs.Cascade.{Draining, lower, fallen, give_up, give_up_each, removed, natives_of_slots, told_free, without_native, free_front}
 use Rattle.cc_model.specs.Counts.{times}
 use Rattle.cc_lists.proofs.Searching.{filter-map, count_by-kept, count_by-dropped}

@@ -1,15 +1,12 @@
 -- HEAPS THAT ARE ALIKE: the same but for counts and the buffer. Registers and slots hold the same, and names are there as before.
-use Rattle.std.proofs.Common.{arith, ◌≡◌, ℕ, ◌+◌, map, Option, Some, None, option_map, refl, sym, ◌∙◌, ap, ◌==◌}
+use Rattle.std.proofs.Common.{arith, ◌≡◌, ℕ, ◌+◌, map, Option, option_map, refl, sym, ◌∙◌, ap, ◌==◌}
 use Rattle.std.specs.List.{find}
-use Rattle.std.specs.Option.{option_and_then}
 use Rattle.std.proofs.lemmas.Simd.{map-map}
 use Rattle.cc_names.specs.declared.name.Name.{Name}
-use Rattle.cc_names.specs.declared.name.Name.TheVariants as name
 use Rattle.cc_names.specs.declared.register.Reg.{Reg}
-use Rattle.cc_names.specs.declared.register.Reg.TheVariants.{N, S}
-use Rattle.cc_names.specs.Names.{native, same_name}
+use Rattle.cc_names.specs.Names.{native}
 use Rattle.cc_model.specs.Checks.{slots_at}
-use Rattle.cc_model.specs.Heap.{Heap, HeapNative, HeapScript, native_at, slots_in, slots_of_script, register, objects_of}
+use Rattle.cc_model.specs.Heap.{Heap, HeapNative, HeapScript, native_at, slots_in, register, objects_of}
 use Rattle.cc_model.specs.Cascade.{add_ref, take_up}
 use Rattle.cc_model.specs.WellFormed.{native_names, script_names, names_there}
 use Rattle.cc_laws_heap.specs.Freeing.{Uncounted, uncounted, SameBeside}

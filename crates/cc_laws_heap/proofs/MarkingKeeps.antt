@@ -1,12 +1,12 @@
 -- MARKING KEEPS THE HEAPS SOUND, AND A ROUND DOES: no clause speaks of a colour.
-use Rattle.std.proofs.Common.{◌≡◌, ℕ, ◌+◌, List, refl, sym, ◌∙◌, ap}
+use Rattle.std.proofs.Common.{◌≡◌, ℕ, List, refl}
 use Rattle.cc_names.specs.declared.name.Name.{Name}
 use Rattle.cc_names.specs.Names.{reflector, same_name}
 use Rattle.cc_model.specs.Heap.{Heap, HeapScript}
 use Rattle.cc_model.specs.Colours.{marked}
 use Rattle.cc_model.specs.Sweep.{sweep}
 use Rattle.cc_model.specs.WellFormed.{IsWellFormed, script_names}
-use Rattle.cc_model.specs.Counts.{refs_to, times}
+use Rattle.cc_model.specs.Counts.{refs_to}
 use Rattle.cc_laws_heap.specs.Sound.{IsSound}
 use Rattle.cc_laws_heap.specs.Rounds.{FreesNames}
 use Rattle.cc_lists.proofs.ListWrites.{map-kept, count_by-kept_map}

@@ -1,12 +1,12 @@
 -- REFERENCES TAKEN AND GIVEN UP: what is owned outside the heaps' lists meanwhile.
-use Rattle.std.proofs.Common.{◌≡◌, ◌≢◌, ℕ, ◌+◌, ◌≤◌, true, false, List, ◌∷◌, ◌++◌, Option, Some, option_map, refl, sym, ◌∙◌, ap, subst, inl, ⊎_elim, arith, count_by, ◌==◌}
+use Rattle.std.proofs.Common.{◌≡◌, ◌≢◌, ℕ, ◌+◌, ◌≤◌, true, false, List, ◌∷◌, ◌++◌, Option, Some, refl, sym, ap, subst, inl, ⊎_elim, arith, count_by, ◌==◌}
 use Rattle.std.specs.Option.{option_to_list}
 use Rattle.std.proofs.lemmas.Bool.Decides.{eqb_tells}
 use Rattle.cc_lists.specs.Members.{Among}
 use Rattle.cc_names.specs.declared.name.Name.{Name}
 use Rattle.cc_names.specs.declared.name.Name.TheVariants as name
 use Rattle.cc_names.specs.Names.{native, same_name}
-use Rattle.cc_model.specs.Heap.{Heap, HeapNative, native_at, with_mark}
+use Rattle.cc_model.specs.Heap.{Heap, HeapNative, with_mark}
 use Rattle.cc_model.specs.Cascade.{add_ref, take_up, let_go}
 use Rattle.cc_model.specs.WellFormed.{IsWellFormed, native_names, names_there}
 use Rattle.cc_model.specs.Counts.{refs_to, times}

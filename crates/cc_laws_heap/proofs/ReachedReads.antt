@@ -1,8 +1,7 @@
 -- WHAT A COMMAND READS is reached: what registers, slots and entries of reached objects hold, and natives behind reflectors.
-use Rattle.std.proofs.Common.{arith, ◌≡◌, ℕ, true, List, [], ◌∷◌, get_or, Option, Some, None, is_some, option_map, refl, sym, subst, inl}
+use Rattle.std.proofs.Common.{arith, ◌≡◌, ℕ, true, List, [], ◌∷◌, get_or, Option, Some, None, is_some, option_map, sym, subst}
 use Rattle.std.specs.Prelude.{IsTrue}
 use Rattle.std.specs.Option.{option_and_then}
-use Rattle.std.proofs.lemmas.Bool.{false≢true}
 use Rattle.cc_lists.specs.Members.{Among}
 use Rattle.cc_lists.proofs.Members.{Among-left, Among-right}
 use Rattle.cc_names.specs.declared.name.Name.{Name}

@@ -1,7 +1,6 @@
 -- WHAT A ROUND LEAVES: natives as they were, but for counts, script objects but for colours, and some of the entries.
-use Rattle.std.proofs.Common.{arith, ◌≡◌, Bool, true, false, cond, ℕ, List, [], ◌∷◌, map, Option, Some, refl, sym, ◌∙◌, ap, subst, inl, inr, ⊎_elim}
+use Rattle.std.proofs.Common.{arith, ◌≡◌, Bool, true, cond, ℕ, List, [], ◌∷◌, map, refl, subst, inr, ⊎_elim}
 use Rattle.std.specs.List.{filter}
-use Rattle.std.proofs.lemmas.Bool.{true≢false}
 use Rattle.cc_lists.specs.Members.{Among}
 use Rattle.cc_lists.proofs.Members.{Among-map, Among-map_cases, Among-filtered}
 use Rattle.cc_names.specs.declared.name.Name.{Name}

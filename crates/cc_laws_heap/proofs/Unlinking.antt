@@ -6,7 +6,7 @@ use Rattle.std.proofs.lemmas.List.{append-nil, length-replicate}
 use Rattle.cc_lists.specs.Members.{Among}
 use Rattle.cc_names.specs.Names.{native}
 use Rattle.cc_model.specs.declared.item.Event.TheVariants.{Unlinked}
-use Rattle.cc_model.specs.Slots.{contents, empty_slots}
+use Rattle.cc_model.specs.Slots.{empty_slots}
 use Rattle.cc_model.specs.Heap.{Heap, HeapNative, Outcome, silently, native_at, set_preserved}
 use Rattle.cc_model.specs.End.{empty_each, slots_now, unlink}
 use Rattle.cc_model.specs.Lawful.{unlinked_numbers}

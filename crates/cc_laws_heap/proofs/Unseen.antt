@@ -1,9 +1,8 @@
 -- WHAT THE GRAPH DOES NOT SEE: counts, the buffer, colours, and natives that a cascade takes out.
-use Rattle.std.proofs.Common.{arith, ◌≡◌, ℕ, Bool, true, false, map, Option, Some, None, refl, sym, ◌∙◌, ap, subst, if◌then◌else◌}
+use Rattle.std.proofs.Common.{arith, ◌≡◌, ℕ, Bool, map, Option, Some, None, refl, sym, ◌∙◌, ap, subst, if◌then◌else◌}
 use Rattle.cc_lists.specs.Members.{Among, has}
 use Rattle.cc_lists.proofs.Members.{Among-map_cases, Among-filtered}
 use Rattle.cc_names.specs.declared.name.Name.{Name}
-use Rattle.cc_names.specs.declared.name.Name.TheVariants as name
 use Rattle.cc_names.specs.Names.{same_name}
 use Rattle.cc_model.specs.Heap.{Heap, HeapScript}
 use Rattle.cc_model.specs.Cascade.{add_ref, take_up, let_go}

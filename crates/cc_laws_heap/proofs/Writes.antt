@@ -1,5 +1,5 @@
 -- WHAT A WRITE OF A REGISTER, A SLOT, A FLAG OR A COLOUR DOES TO THE COUNTS: the new content is owned before, the old one after.
-use Rattle.std.proofs.Common.{◌≡◌, ℕ, ◌+◌, ◌<◌, ◌≤◌, Bool, true, List, ◌++◌, length, set, get_or, Option, Some, None, refl, sym, ◌∙◌, ap, subst, ⊎_elim, arith, ◌==◌}
+use Rattle.std.proofs.Common.{◌≡◌, ℕ, ◌<◌, ◌≤◌, Bool, true, List, ◌++◌, length, set, get_or, Option, Some, None, refl, sym, ◌∙◌, subst, ⊎_elim, arith, ◌==◌}
 use Rattle.std.specs.Option.{option_to_list}
 use Rattle.std.proofs.lemmas.Bool.{eqb-true}
 use Rattle.std.proofs.lemmas.List.{length-set}
@@ -10,7 +10,7 @@ use Rattle.cc_names.specs.Names.{native, reflector, same_name}
 use Rattle.cc_model.specs.Slots.{Slots, contents}
 use Rattle.cc_model.specs.Heap.{Heap, HeapNative, HeapScript, native_at, register, set_register, change_native, with_native_slot, set_preserved}
 use Rattle.cc_model.specs.WellFormed.{IsWellFormed, native_names, script_names, names_there}
-use Rattle.cc_model.specs.Counts.{refs_to, slots_of_natives, times}
+use Rattle.cc_model.specs.Counts.{refs_to, slots_of_natives}
 use Rattle.cc_laws_heap.specs.Sound.{IsSound, numbers_of}
 use Rattle.cc_laws_heap.proofs.Natives.{KeepsNumber, IsWellFormed-distinct, native_at-change_same, native_at-change_other}
 use Rattle.cc_laws_heap.proofs.Counted.{IsSound-counted, IsSound-from_counted}
