@@ -1,5 +1,5 @@
 -- A CASCADE LEAVES SOUND HEAPS.
-use Rattle.std.proofs.Common.{◌≡◌, ℕ, zero, suc, ◌<◌, ◌≤◌, not, List, ◌∷◌, Option, Some, None, refl, sym, ◌∙◌, ap, subst, ⊎_elim, arith, ◌==◌, map, Bool}
+use Rattle.std.proofs.Common.{◌≡◌, ℕ, ◌<◌, ◌≤◌, not, List, ◌∷◌, Option, Some, None, refl, sym, ◌∙◌, ap, subst, ⊎_elim, arith, ◌==◌, map, Bool}
 use Rattle.std.proofs.lemmas.Bool.{cases_lt, eqb-true}
 use Rattle.cc_lists.specs.Members.{Among, has}
 use Rattle.cc_lists.proofs.Counting.{counted_is}

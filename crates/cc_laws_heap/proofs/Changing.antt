@@ -1,6 +1,6 @@
 -- HEAPS GO ON FOLLOWING A GRAPH where the shapes of objects change alike in both, where something is left out that nothing
 -- reaches, and where registers are written alike.
-use Rattle.std.proofs.Common.{arith, ◌≡◌, ℕ, false, map, length, Option, Some, None, option_map, refl, sym, ◌∙◌, ap, subst, inl, inr, ◌⊎◌, ⊎_elim}
+use Rattle.std.proofs.Common.{arith, ◌≡◌, ℕ, false, map, length, Option, Some, option_map, refl, sym, ◌∙◌, ap, subst, inl, inr, ◌⊎◌, ⊎_elim}
 use Rattle.std.specs.Prelude.{IsTrue}
 use Rattle.cc_lists.specs.Members.{Among}
 use Rattle.cc_lists.proofs.Members.{Among-map, Among-map_cases}

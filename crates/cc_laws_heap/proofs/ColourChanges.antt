@@ -56,12 +56,7 @@ AreColoured-slot scripts registers x i y black c = record {
     both : (q : HeapScript) → Among q scripts → (r : HeapScript) → Among r scripts → (written q).colour ≡ Black →
         Among (written r).name (contents (written q).slots) →
         (written r).colour ≡ Black
-    both q j r k e h = same_colour r Black (held (subst (λ z. Among z (contents (written q).slots)) (same_name_written r) h))
-      where
-        held : Among r.name (contents (written q).slots) → r.colour ≡ Black
-        held = changed_where-either (λ o. Among r.name (contents o.slots) → r.colour ≡ Black) (has_name x) (with_script_slot i y) q
-            (λ t l. ⊎_elim (black r k) (c.black_to_black q r j k (back_colour q Black e)) (Among-flat_map_set option_to_list q.slots i y r.name l))
-            (c.black_to_black q r j k (back_colour q Black e))
+    both q j r k e h = grind (arith, changed_where-either, Among-flat_map_set)
 
 -- A black script object is made that holds nothing.
 pub AreColoured-push : (scripts : List HeapScript) (registers : Slots) (n : HeapScript) → n.colour ≡ Black →

@@ -1,12 +1,10 @@
 -- WHAT CHANGES OF COUNTS AND OF THE BUFFER LEAVE: natives but for their counts, all beside natives and buffer, and
 -- what was told.
-use Rattle.std.proofs.Common.{arith, ◌≡◌, ℕ, zero, suc, List, [], ◌∷◌, map, refl}
-use Rattle.cc_model.specs.Heap.{suspect, forget}
-use Rattle.cc_model.specs.Cascade.{Draining, lower, fallen, give_up, give_up_each}
+use Rattle.std.proofs.Common.{arith, ◌≡◌, ℕ, List, [], ◌∷◌, map, refl}
+use Rattle.cc_model.specs.Cascade.{Draining, fallen, give_up, give_up_each}
 use Rattle.cc_laws_heap.specs.Freeing.{uncounted, SameBeside}
 use Rattle.cc_laws_heap.proofs.Natives.{uncounted-change}
 use Rattle.cc_laws_heap.proofs.Beside.{SameBeside-with, SameBeside-refl, SameBeside-trans}
-use Rattle.cc_laws_heap.proofs.GiveUp.{lower_native}
 
 -- the same natives but for their counts, the same beside, and nothing told
 pub record IsAlike (d e : Draining) : Type 0 where

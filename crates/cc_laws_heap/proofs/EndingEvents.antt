@@ -6,7 +6,6 @@ use Rattle.cc_model.specs.declared.item.Event.{Event}
 use Rattle.cc_model.specs.Lawful.{unlinked_numbers}
 use Rattle.cc_laws_heap.specs.Ending.{freed_numbers, NamesNative}
 use Rattle.cc_laws_heap.specs.Stages.{Stage, Done, Ending}
-use Rattle.cc_laws_heap.specs.Stages.Ending.{unlinked}
 use Rattle.cc_laws_heap.proofs.Folding.{done-keeps}
 use Rattle.cc_laws_heap.proofs.Freed.{freed_event}
 

@@ -1,5 +1,5 @@
 -- ENTRIES SET AND TAKEN OUT keep the heaps well formed: at most one entry for each map and key, of what is there.
-use Rattle.std.proofs.Common.{◌≡◌, ℕ, Bool, true, false, not, List, [], ◌∷◌, Some, refl, subst, inl, inr, ⊎_elim, arith}
+use Rattle.std.proofs.Common.{◌≡◌, ℕ, Bool, not, List, [], ◌∷◌, subst, ⊎_elim, arith}
 use Rattle.std.specs.Option.{option_to_list}
 use Rattle.cc_lists.specs.Members.{Among}
 use Rattle.cc_lists.proofs.Members.{Among-filtered}
@@ -15,12 +15,7 @@ use Rattle.cc_laws_heap.proofs.Kept.{with_entries, IsWellFormed-entries}
 -- the value of a map and a key is that of one of the entries
 pub value_in-among : (es : List Entry) (m k y : Name) → Among y (option_to_list (value_in es m k)) → (e : Entry) × Among e es × (e.value ≡ y)
 value_in-among [] m k y i = absurd i
-value_in-among (e ∷ es) m k y i = go (value_in-among es m k y) (is_entry_of m k e) i
-  where
-    go : (Among y (option_to_list (value_in es m k)) → (f : Entry) × Among f es × (f.value ≡ y)) → (t : Bool) →
-        Among y (option_to_list (elim t [ true ↦ Some e.value | false ↦ value_in es m k ])) → (f : Entry) × Among f (e ∷ es) × (f.value ≡ y)
-    go ih true j = ⊎_elim (λ s. (e, inl refl, s)) (λ n. absurd n) j
-    go ih false j = let f = ih j in (f.0, inr f.1, f.2)
+value_in-among (e ∷ es) m k y i = grind (arith, value_in-among es m k y)
 
 -- An entry of what is there is set.
 pub with_entry-sound : (owned : List ℕ) (h : Heap) (m k v : Name) → HasMembers h (entry m k v) → IsSound owned h →

@@ -1,5 +1,5 @@
 -- ENTRIES SET AND TAKEN OUT ALIKE in heaps and in the graph that they follow.
-use Rattle.std.proofs.Common.{◌≡◌, ◌+◌, ◌≤◌, Bool, true, false, cond, not, ◌&&◌, List, [], ◌∷◌, Option, Some, None, refl, sym, ◌∙◌, ap, subst, inl, inr, ◌⊎◌, ⊎_elim, arith}
+use Rattle.std.proofs.Common.{◌≡◌, ◌+◌, ◌≤◌, Bool, true, false, cond, ◌&&◌, List, [], ◌∷◌, Option, Some, None, refl, sym, ◌∙◌, ap, subst, inl, inr, ◌⊎◌, ⊎_elim, arith}
 use Rattle.std.specs.List.{filter}
 use Rattle.std.proofs.lemmas.Bool.{true≢false}
 use Rattle.cc_lists.specs.Members.{Among}
@@ -37,35 +37,12 @@ is_pair-other m k a b e f p =
 -- the value after an entry was set
 value_in-set : (es : List Entry) (m k v a b : Name) → value_in (with_entry es m k v) a b ≡ cond (is_pair m k a b) (Some v) (value_in es a b)
 value_in-set [] m k v a b = grind arith
-value_in-set (e ∷ es) m k v a b = go (value_in-set es m k v a b) (is_entry_of m k e) refl (is_pair m k a b) refl
-  where
-    go : value_in (with_entry es m k v) a b ≡ cond (is_pair m k a b) (Some v) (value_in es a b) → (t : Bool) → is_entry_of m k e ≡ t → (p : Bool) → is_pair m k a b ≡ p →
-        value_in (elim t [ true ↦ entry m k v ∷ es | false ↦ e ∷ with_entry es m k v ]) a b
-        ≡ cond p (Some v) (elim (is_entry_of a b e) [ true ↦ Some e.value | false ↦ value_in es a b ])
-    go ih true t true p = rw p refl
-    go ih true t false p = let same : is_entry_of a b e ≡ false = is_pair-entry m k a b e t ∙ p in rw (p, same) refl
-    go ih false t true p = let same : is_entry_of a b e ≡ false = is_pair-other m k a b e t p in
-        ap (λ c. elim c as (λ _. Option Name) [ true ↦ Some e.value | false ↦ value_in (with_entry es m k v) a b ]) same
-        ∙ (ih ∙ ap (λ q. cond q (Some v) (value_in es a b)) p)
-    go ih false t false p = let after : value_in (with_entry es m k v) a b ≡ value_in es a b = ih ∙ ap (λ q. cond q (Some v) (value_in es a b)) p in
-        ap (λ o. elim (is_entry_of a b e) as (λ _. Option Name) [ true ↦ Some e.value | false ↦ o ]) after
+value_in-set (e ∷ es) m k v a b = grind (arith, is_pair-entry, is_pair-other, value_in-set es m k v a b)
 
 -- the value after an entry was taken out
 value_in-without : (es : List Entry) (m k a b : Name) → value_in (without_entry es m k) a b ≡ cond (is_pair m k a b) None (value_in es a b)
 value_in-without [] m k a b = grind arith
-value_in-without (e ∷ es) m k a b = go (value_in-without es m k a b) (is_entry_of m k e) refl (is_pair m k a b) refl
-  where
-    go : value_in (without_entry es m k) a b ≡ cond (is_pair m k a b) None (value_in es a b) → (t : Bool) → is_entry_of m k e ≡ t → (p : Bool) → is_pair m k a b ≡ p →
-        value_in (cond (not t) (e ∷ without_entry es m k) (without_entry es m k)) a b
-        ≡ cond p None (elim (is_entry_of a b e) [ true ↦ Some e.value | false ↦ value_in es a b ])
-    go ih true t true p = ih ∙ ap (λ q. cond q None (value_in es a b)) p
-    go ih true t false p = let same : is_entry_of a b e ≡ false = is_pair-entry m k a b e t ∙ p in
-        ih ∙ (ap (λ q. cond q None (value_in es a b)) p ∙ rw same refl)
-    go ih false t true p = let same : is_entry_of a b e ≡ false = is_pair-other m k a b e t p in
-        ap (λ c. elim c as (λ _. Option Name) [ true ↦ Some e.value | false ↦ value_in (without_entry es m k) a b ]) same
-        ∙ (ih ∙ ap (λ q. cond q None (value_in es a b)) p)
-    go ih false t false p = let after : value_in (without_entry es m k) a b ≡ value_in es a b = ih ∙ ap (λ q. cond q None (value_in es a b)) p in
-        ap (λ o. elim (is_entry_of a b e) as (λ _. Option Name) [ true ↦ Some e.value | false ↦ o ]) after
+value_in-without (e ∷ es) m k a b = grind (arith, is_pair-entry, is_pair-other, value_in-without es m k a b)
 
 -- Parts
 

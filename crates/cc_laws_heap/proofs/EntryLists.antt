@@ -1,5 +1,5 @@
 -- LISTS OF ENTRIES: what stands in them after an entry was set, that a map and a key have one, and the value that is found.
-use Rattle.std.proofs.Common.{◌≡◌, ℕ, ◌+◌, ◌≤◌, Bool, true, false, cond, List, [], ◌∷◌, Some, refl, sym, ◌∙◌, ap, subst, inl, inr, ◌⊎◌, ⊎_elim, arith, count_by}
+use Rattle.std.proofs.Common.{◌≡◌, ℕ, ◌+◌, ◌≤◌, Bool, true, false, cond, List, [], ◌∷◌, Some, refl, sym, ◌∙◌, ap, subst, inl, ◌⊎◌, ⊎_elim, arith, count_by}
 use Rattle.std.proofs.lemmas.Bool.{and_from, true≢false, cases_Bool}
 use Rattle.cc_lists.specs.Members.{Among}
 use Rattle.cc_lists.proofs.Counting.{count_by-cons, count_by-some}
@@ -31,12 +31,7 @@ is_entry_of-alike a b m k e f s t = grind (arith, is_entry_of-parts)
 -- there is that entry, and those before
 pub with_entry-cases : (es : List Entry) (m k v : Name) (e : Entry) → Among e (with_entry es m k v) → (entry m k v ≡ e) ⊎ Among e es
 with_entry-cases [] m k v e i = ⊎_elim (λ s. inl s) (λ n. absurd n) i
-with_entry-cases (f ∷ es) m k v e i = go (with_entry-cases es m k v e) (is_entry_of m k f) i
-  where
-    go : (Among e (with_entry es m k v) → (entry m k v ≡ e) ⊎ Among e es) → (t : Bool) →
-        Among e (elim t [ true ↦ entry m k v ∷ es | false ↦ f ∷ with_entry es m k v ]) → (entry m k v ≡ e) ⊎ Among e (f ∷ es)
-    go ih true j = ⊎_elim (λ s. inl s) (λ r. inr (inr r)) j
-    go ih false j = ⊎_elim (λ s. inr (inl s)) (λ r. ⊎_elim (λ s. inl s) (λ q. inr (inr q)) (ih r)) j
+with_entry-cases (f ∷ es) m k v e i = grind (arith, with_entry-cases es m k v e)
 
 -- the entries of a map and a key
 abbrev pub entries_of : Name → Name → List Entry → ℕ
@@ -59,19 +54,7 @@ entries_of-other (e ∷ es) m k v a b d = go (entries_of-other es m k v a b d) (
 -- and its own map and key have at most one
 entries_of-own : (es : List Entry) (m k v : Name) → entries_of m k es ≤ 1 → entries_of m k (with_entry es m k v) ≤ 1
 entries_of-own [] m k v few = rw (count_by-cons (is_entry_of m k) (entry m k v) [], is_entry_of-own (entry m k v)) (omega arith)
-entries_of-own (e ∷ es) m k v few = go (entries_of-own es m k v) (is_entry_of m k e) refl
-  where
-    before : entries_of m k (e ∷ es) ≡ cond (is_entry_of m k e) 1 0 + entries_of m k es
-    before = count_by-cons (is_entry_of m k) e es
-
-    go : (entries_of m k es ≤ 1 → entries_of m k (with_entry es m k v) ≤ 1) → (t : Bool) → is_entry_of m k e ≡ t →
-        entries_of m k (elim t [ true ↦ entry m k v ∷ es | false ↦ e ∷ with_entry es m k v ]) ≤ 1
-    go ih true t =
-        let here : entries_of m k (e ∷ es) ≡ 1 + entries_of m k es = before ∙ ap (λ b. cond b 1 0 + entries_of m k es) t in
-        rw (count_by-cons (is_entry_of m k) (entry m k v) es, is_entry_of-own (entry m k v)) (omega arith)
-    go ih false t =
-        let here : entries_of m k (e ∷ es) ≡ 0 + entries_of m k es = before ∙ ap (λ b. cond b 1 0 + entries_of m k es) t in
-        rw (count_by-cons (is_entry_of m k) e (with_entry es m k v), t) (omega (arith, ih (omega arith)))
+entries_of-own (e ∷ es) m k v few = grind (arith, count_by-cons, is_entry_of-own, entries_of-own es m k v)
 
 -- so each map and key have at most one
 pub entries_of-set : (es : List Entry) (m k v : Name) → ((a b : Name) → entries_of a b es ≤ 1) → (a b : Name) → entries_of a b (with_entry es m k v) ≤ 1
@@ -85,12 +68,7 @@ entries_of-set es m k v once a b = ⊎_elim
 -- it is that of an entry of this map and this key
 pub found-among : (es : List Entry) (m k y : Name) → value_in es m k ≡ Some y → (e : Entry) × Among e es × (e.the_map ≡ m) × (e.key ≡ k) × (e.value ≡ y)
 found-among [] m k y f = absurd (cc)
-found-among (e ∷ es) m k y f = go (found-among es m k y) (is_entry_of m k e) refl f
-  where
-    go : (value_in es m k ≡ Some y → (d : Entry) × Among d es × (d.the_map ≡ m) × (d.key ≡ k) × (d.value ≡ y)) → (t : Bool) → is_entry_of m k e ≡ t →
-        elim t [ true ↦ Some e.value | false ↦ value_in es m k ] ≡ Some y → (d : Entry) × Among d (e ∷ es) × (d.the_map ≡ m) × (d.key ≡ k) × (d.value ≡ y)
-    go ih true t g = let p = is_entry_of-parts m k e t in let same : e.value ≡ y = cc in (e, inl refl, p.0, p.1, same)
-    go ih false t g = let d = ih g in (d.0, inr d.1, d.2, d.3, d.4)
+found-among (e ∷ es) m k y f = grind (arith, is_entry_of-parts, found-among es m k y)
 
 -- where a map and a key have at most one entry, its value is found
 pub found-only : (es : List Entry) (e : Entry) → entries_of e.the_map e.key es ≤ 1 → Among e es → value_in es e.the_map e.key ≡ Some e.value

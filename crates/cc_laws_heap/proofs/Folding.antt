@@ -1,5 +1,5 @@
 -- WHAT EACH KIND OF CHANGE KEEPS, ALL THAT IS DONE KEEPS: a property of what is done is one lemma for each kind.
-use Rattle.std.proofs.Common.{◌≡◌, ℕ, zero, suc, ◌≤◌, List, [], ◌∷◌, ◌++◌, Some, refl}
+use Rattle.std.proofs.Common.{arith, ◌≡◌, ℕ, zero, suc, ◌≤◌, List, [], ◌∷◌, ◌++◌, Some}
 use Rattle.cc_names.specs.Names.{native}
 use Rattle.cc_model.specs.declared.item.Event.{Event}
 use Rattle.cc_model.specs.declared.item.Event.TheVariants.{Freed}
@@ -36,11 +36,4 @@ pub drain-keeps : (Q : Draining → Type 0) → ((d : Draining) (k : ℕ) (ks : 
     (n : ℕ) (d : Draining) → Q d → Q (drain n d)
 unfolding drain
 drain-keeps Q step zero d q = q
-drain-keeps Q step (suc n) d q = go (drain-keeps Q step n) d.queue refl
-  where
-    next : List ℕ → Draining
-    next xs = elim xs [ [] ↦ d | k ∷ ks ↦ drain n (free_front d k ks) ]
-
-    go : ((e : Draining) → Q e → Q (drain n e)) → (xs : List ℕ) → d.queue ≡ xs → Q (next xs)
-    go ih [] e = q
-    go ih (k ∷ ks) e = ih (free_front d k ks) (step d k ks e q)
+drain-keeps Q step (suc n) d q = grind (arith, drain-keeps Q step n)

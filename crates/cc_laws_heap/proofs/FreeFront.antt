@@ -1,8 +1,8 @@
 -- THE FRONT OF THE QUEUE FREED: nothing refers to it, so it is the same whether its slots are given up before or after
 -- it is taken out; taken out first, its slots are references in hand, which are then given up one after another.
-use Rattle.std.proofs.Common.{◌≡◌, ◌≢◌, ℕ, zero, suc, ◌+◌, ◌≤◌, true, false, not, List, [], ◌∷◌, ◌++◌, Some, refl, sym, ◌∙◌, ap, subst, arith, count_by, ◌==◌}
-use Rattle.std.proofs.lemmas.Bool.{eqb-true, ne_eqb, not-true}
-use Rattle.cc_model.specs.Heap.{Heap, HeapNative, native_at, forget, suspect}
+use Rattle.std.proofs.Common.{◌≡◌, ◌≢◌, ℕ, ◌+◌, ◌≤◌, true, not, List, [], ◌∷◌, ◌++◌, Some, refl, sym, ◌∙◌, ap, subst, arith, count_by}
+use Rattle.std.proofs.lemmas.Bool.{eqb-true, not-true}
+use Rattle.cc_model.specs.Heap.{Heap, HeapNative, native_at}
 use Rattle.cc_model.specs.Cascade.{Draining, lower, fallen, give_up, give_up_each, removed, natives_of_slots, told_free, without_native, free_front}
 use Rattle.cc_model.specs.Counts.{times}
 use Rattle.cc_lists.proofs.Searching.{filter-map, count_by-kept, count_by-dropped}
@@ -23,10 +23,7 @@ HasDistinctNumbers-removed h k d = at-each (λ j. count_by (has_number j) (remov
     (λ j o. omega (arith, d j, count_by-kept (has_number j) (λ n. not (has_number k n)) h.natives (λ n e. each j o n e)))
   where
     each : (j : ℕ) → j ≢ k → (n : HeapNative) → has_number j n ≡ true → not (has_number k n) ≡ true
-    each j o n e =
-        let there : n.number ≡ j = eqb-true n.number j e in
-        let here : (n.number == k) ≡ false = ne_eqb n.number k (λ q. o (sym there ∙ q)) in
-        rw here refl
+    each j o n e = grind (arith, eqb-true)
 
 -- A native with count zero taken out of the queue and of the heap: what its slots hold is in hand.
 pub IsBalanced-removed : (owned : List ℕ) (d : Draining) (k : ℕ) (ks : List ℕ) (n : HeapNative) → IsBalanced owned d → d.queue ≡ k ∷ ks →
@@ -63,9 +60,7 @@ IsBalanced-removed owned d k ks n b q e z = record {
 }
   where
     same_count : (j : ℕ) → count_at (removed d.heap k) j ≡ count_at d.heap j
-    same_count = at-each (λ j. count_at (removed d.heap k) j ≡ count_at d.heap j) k
-        (ap count_of (native_at-removed_same d.heap k) ∙ sym (ap count_of e ∙ z))
-        (λ j o. ap count_of (native_at-removed_other d.heap k j o))
+    same_count = grind (arith, at-each, native_at-removed_same, native_at-removed_other)
 
 -- Taking a native out, and giving up references to others, may change places
 

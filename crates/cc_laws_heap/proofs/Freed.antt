@@ -1,9 +1,8 @@
 -- WHAT A CASCADE HAS TAKEN OUT SO FAR, whatever the counts: each step tells one native more, and takes out that one alone.
-use Rattle.std.proofs.Common.{◌≡◌, ℕ, Bool, true, false, not, ◌&&◌, ◌||◌, List, [], ◌∷◌, ◌++◌, map, refl, sym, ◌∙◌, ap, arith, ◌==◌}
+use Rattle.std.proofs.Common.{◌≡◌, ℕ, Bool, not, ◌&&◌, List, [], ◌∷◌, ◌++◌, map, sym, ◌∙◌, ap, arith, ◌==◌}
 use Rattle.std.specs.List.{filter}
 use Rattle.std.proofs.Math.Path.{fun_ext}
 use Rattle.std.proofs.lemmas.List.{map-append}
-use Rattle.cc_lists.specs.Members.{has}
 use Rattle.cc_names.specs.Names.{native}
 use Rattle.cc_model.specs.declared.item.Event.{Event}
 use Rattle.cc_model.specs.declared.item.Event.TheVariants.{Freed}
@@ -26,12 +25,7 @@ freed_event k = Freed (native k)
 -- to be none of a list and one more is to be none of the list, and not that one
 is_none_of-push : (ks : List ℕ) (k : ℕ) (u : Uncounted) → is_none_of (ks ++ k ∷ []) u ≡ (is_none_of ks u && not (u.number == k))
 is_none_of-push [] k u = grind (arith, eqb-sym)
-is_none_of-push (i ∷ js) k u = go (i == u.number) (is_none_of-push js k u)
-  where
-    go : (b : Bool) → is_none_of (js ++ k ∷ []) u ≡ (is_none_of js u && not (u.number == k)) →
-        not (b || has ◌==◌ (js ++ k ∷ []) u.number) ≡ (not (b || has ◌==◌ js u.number) && not (u.number == k))
-    go true ih = refl
-    go false ih = ih
+is_none_of-push (i ∷ js) k u = grind (arith, is_none_of-push js k u)
 
 -- the natives `ks` are told and taken out, and nothing changes beside them but counts and the buffer
 pub record TakesOut (h : Heap) (ks : List ℕ) (o : Outcome) : Type 0 where

@@ -1,5 +1,5 @@
 -- EACH COMMAND LEAVES A GRAPH WELL MADE: what it puts into a register, a slot or an entry was made.
-use Rattle.std.proofs.Common.{◌≡◌, ℕ, ◌+◌, true, false, not, length, set, Option, Some, None, is_none, is_some, option_map, refl, sym, ◌∙◌, ap, subst, ⊎_elim, arith}
+use Rattle.std.proofs.Common.{◌≡◌, ℕ, ◌+◌, true, false, not, length, set, Option, Some, None, is_none, is_some, option_map, refl, subst, ⊎_elim, arith}
 use Rattle.std.specs.Prelude.{IsTrue}
 use Rattle.std.proofs.lemmas.Bool.{and_parts, false≢true, leb-true, leb-false, not-false}
 use Rattle.cc_lists.proofs.Members.{Among-filtered}
@@ -16,7 +16,7 @@ use Rattle.cc_model.specs.Ranges.{in_range, is_register, is_slots}
 use Rattle.cc_model.specs.Slots.{Slots, empty_slots}
 use Rattle.cc_model.specs.Entries.{entry, is_entry_of, with_entry, without_entry}
 use Rattle.cc_model.specs.Checks.{slot_at, value_at, native_of, reflector_of, is_map_in, refusal_of}
-use Rattle.cc_model.specs.Graph.{Graph, GraphScript, plain_object, weak_map, native_in, script_in, slots_in, objects_of, register, source, set_slot, preserve, wrapped, set_entry, as_preserved, as_wrapped, with_slot, with_reflector_slot, with_native, with_script, empty_graph, changed, unless_refused, step}
+use Rattle.cc_model.specs.Graph.{Graph, plain_object, weak_map, script_in, slots_in, objects_of, register, source, set_slot, preserve, wrapped, set_entry, as_preserved, as_wrapped, with_slot, with_reflector_slot, with_native, with_script, empty_graph, changed, unless_refused, step}
 use Rattle.cc_model.specs.WellMade.{IsWellMade, IsMadeEntry}
 use Rattle.cc_laws_heap.proofs.Taken.{IsTaken, IsTaken-from}
 use Rattle.cc_laws_heap.proofs.Holds.{OfSome, OfSome-then}

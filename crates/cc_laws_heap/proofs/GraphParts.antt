@@ -1,8 +1,8 @@
 -- A GRAPH STAYS WELL MADE where one of its lists changes: registers, natives, script objects, or entries.
-use Rattle.std.proofs.Common.{arith, ◌≡◌, ℕ, ◌≤◌, true, List, length, Option, Some, None, is_some, refl, ◌∙◌, ap, count_by}
+use Rattle.std.proofs.Common.{arith, ◌≡◌, ℕ, ◌≤◌, true, List, length, Option, Some, is_some, refl, ◌∙◌, ap, count_by}
 use Rattle.std.specs.Prelude.{IsTrue}
 use Rattle.std.specs.Option.{option_and_then}
-use Rattle.std.proofs.lemmas.Bool.{and_parts, and_from, false≢true}
+use Rattle.std.proofs.lemmas.Bool.{and_parts, and_from}
 use Rattle.cc_lists.specs.Members.{Among}
 use Rattle.cc_names.specs.declared.name.Name.{Name}
 use Rattle.cc_names.specs.Names.{native, object, reflector, is_native, is_script}

@@ -1,16 +1,14 @@
 -- WHAT A COMMAND READS from the registers, slots and entries of a well made graph was made.
-use Rattle.std.proofs.Common.{arith, ◌≡◌, ℕ, false, get_or, Option, Some, None, option_map, refl, subst}
+use Rattle.std.proofs.Common.{arith, ◌≡◌, ℕ, false, get_or, Option, Some, None, option_map}
 use Rattle.std.specs.Prelude.{IsTrue}
 use Rattle.std.specs.Option.{option_and_then}
-use Rattle.std.proofs.lemmas.Bool.{and_parts, true≢false, false≢true}
+use Rattle.std.proofs.lemmas.Bool.{and_parts}
 use Rattle.cc_lists.specs.Members.{Among}
 use Rattle.cc_names.specs.declared.name.Name.{Name}
-use Rattle.cc_names.specs.declared.name.Name.TheVariants as name
 use Rattle.cc_names.specs.declared.register.Reg.{Reg}
 use Rattle.cc_names.specs.declared.register.Reg.TheVariants.{N, S}
 use Rattle.cc_names.specs.Names.{is_native, is_script}
 use Rattle.cc_model.specs.Slots.{contents}
-use Rattle.cc_model.specs.Entries.{value_in}
 use Rattle.cc_model.specs.Checks.{slots_or_none, slot_at, value_at, native_of, is_native_there, is_script_there}
 use Rattle.cc_model.specs.Graph.{Graph, GraphNative, native_in, script_in, slots_in, slots_of_script, objects_of, register, source}
 use Rattle.cc_model.specs.WellMade.{IsWellMade, was_made, is_made_native, is_made_script}

@@ -115,18 +115,11 @@ KeepsNative-reflector_slot g k i x m n here e more t = record {
   where
     before : (o : Option Slots) → n.reflector ≡ o → (slots : Slots) → option_map (λ (s : Slots). set s i x) o ≡ Some slots →
         (s : Slots) × (n.reflector ≡ Some s) × (slots ≡ set s i x)
-    before None r slots s = absurd (cc)
-    before (Some old) r slots s = let same : set old i x ≡ slots = cc in (old, r, sym same)
+    before o r slots s = grind arith
 
 -- its reflector preserved, which was made
 pub KeepsNative-preserved : (g : Graph) (k : ℕ) → IsTrue (was_made g (reflector k)) → KeepsNative g k as_preserved
-KeepsNative-preserved g k m n here e more t = record {
-  slots = t.slots;
-  held = t.held;
-  preserved = λ p. more.made (reflector k) m;
-  reflector = t.reflector;
-  reflector_held = t.reflector_held;
-}
+KeepsNative-preserved g k m n here e more t = search (t.slots, t.held, more.made, t.reflector, t.reflector_held)
 
 -- a reflector made, where there was none
 pub KeepsNative-wrapped : (g : Graph) (k : ℕ) → KeepsNative g k as_wrapped

@@ -1,15 +1,14 @@
 -- THE SHAPES OF WHAT IS IN THE HEAPS: each object is found under its name, and its edges are those of the flat view.
-use Rattle.std.proofs.Common.{arith, ◌≡◌, map, Option, Some, None, option_map, refl, sym, ◌∙◌, ap, subst, inl, inr, ◌⊎◌, ⊎_elim}
+use Rattle.std.proofs.Common.{arith, ◌≡◌, map, Some, option_map, refl, sym, ◌∙◌, ap, subst, ◌⊎◌, ⊎_elim}
 use Rattle.std.specs.List.{flat_map}
 use Rattle.std.proofs.lemmas.List.{map-append}
 use Rattle.cc_lists.specs.Members.{Among}
 use Rattle.cc_lists.proofs.Members.{Among-map, Among-map_cases, Among-left, Among-right, Among-append, Among-flat_map, Among-flat_map_cases}
 use Rattle.cc_names.specs.declared.name.Name.{Name}
-use Rattle.cc_names.specs.declared.name.Name.TheVariants as name
 use Rattle.cc_names.specs.Names.{native, same_name}
 use Rattle.cc_names.proofs.NameTests.{same_name-true, same_name-refl}
 use Rattle.cc_model.specs.Slots.{from_to}
-use Rattle.cc_model.specs.Heap.{Heap, HeapNative, HeapScript, native_at, script_at}
+use Rattle.cc_model.specs.Heap.{Heap, HeapNative, HeapScript, script_at}
 use Rattle.cc_model.specs.View.{view, native_edges, script_edges}
 use Rattle.cc_model.specs.WellFormed.{IsWellFormed, FitsName, native_names, script_names, names_there}
 use Rattle.cc_model.specs.StandsFor.{Shape, shape_at, shape_of_held_native, shape_of_held_script}
@@ -30,8 +29,7 @@ pub shape_at-script : (h : Heap) → IsWellFormed h → (o : HeapScript) → Amo
 shape_at-script h w o m = go o.name refl (w.kinds o m)
   where
     go : (x : Name) → o.name ≡ x → FitsName x o.kind o.slots → shape_at h x ≡ Some (shape_of_held_script o)
-    go (name.Native k) e f = absurd f
-    go _ e f = ap (option_map shape_of_held_script) (ap (script_at h) (sym e) ∙ script_at-member h w o m)
+    go x e f = grind (arith, script_at-member)
 
 -- so has a native
 pub shape_at-native : (h : Heap) → IsWellFormed h → (n : HeapNative) → Among n h.natives → shape_at h (native n.number) ≡ Some (shape_of_held_native n)

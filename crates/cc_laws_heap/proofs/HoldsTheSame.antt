@@ -1,15 +1,12 @@
 -- HEAPS THAT ARE ALIKE: the same but for counts and the buffer. Registers and slots hold the same, and names are there as before.
-use Rattle.std.proofs.Common.{arith, ◌≡◌, ℕ, ◌+◌, map, Option, Some, None, option_map, refl, sym, ◌∙◌, ap, ◌==◌}
+use Rattle.std.proofs.Common.{arith, ◌≡◌, ℕ, ◌+◌, map, Option, option_map, refl, sym, ◌∙◌, ap, ◌==◌}
 use Rattle.std.specs.List.{find}
-use Rattle.std.specs.Option.{option_and_then}
 use Rattle.std.proofs.lemmas.Simd.{map-map}
 use Rattle.cc_names.specs.declared.name.Name.{Name}
-use Rattle.cc_names.specs.declared.name.Name.TheVariants as name
 use Rattle.cc_names.specs.declared.register.Reg.{Reg}
-use Rattle.cc_names.specs.declared.register.Reg.TheVariants.{N, S}
-use Rattle.cc_names.specs.Names.{native, same_name}
+use Rattle.cc_names.specs.Names.{native}
 use Rattle.cc_model.specs.Checks.{slots_at}
-use Rattle.cc_model.specs.Heap.{Heap, HeapNative, HeapScript, native_at, slots_in, slots_of_script, register, objects_of}
+use Rattle.cc_model.specs.Heap.{Heap, HeapNative, HeapScript, native_at, slots_in, register, objects_of}
 use Rattle.cc_model.specs.Cascade.{add_ref, take_up}
 use Rattle.cc_model.specs.WellFormed.{native_names, script_names, names_there}
 use Rattle.cc_laws_heap.specs.Freeing.{Uncounted, uncounted, SameBeside}
@@ -63,13 +60,11 @@ module _ (h g : Heap) (a : HoldsTheSame h g) where
   native_slots-alike k = found g ∙ (ap (λ us. option_map (λ (u : Uncounted). u.slots) (find (λ (u : Uncounted). u.number == k) us)) a.natives ∙ sym (found h))
     where
       slots : (o : Option HeapNative) → option_map (λ (n : HeapNative). n.slots) o ≡ option_map (λ (u : Uncounted). u.slots) (option_map uncounted o)
-      slots None = refl
-      slots (Some n) = refl
+      slots o = grind arith
 
       found : (f : Heap) → option_map (λ (n : HeapNative). n.slots) (native_at f k) ≡
           option_map (λ (u : Uncounted). u.slots) (find (λ (u : Uncounted). u.number == k) (map uncounted f.natives))
-      found f = slots (native_at f k) ∙
-          ap (λ o. option_map (λ (u : Uncounted). u.slots) o) (sym (find-map (λ (u : Uncounted). u.number == k) uncounted f.natives))
+      found f = grind (arith, find-map)
 
   -- objects have the same slots
   pub slots_in-alike : (x : Name) → slots_in g x ≡ slots_in h x

@@ -1,6 +1,6 @@
 -- NATIVES LEAVE THE HEAPS: those that were freed are there no more, all others are, and nothing changes beside natives
 -- and the buffer.
-use Rattle.std.proofs.Common.{◌≡◌, ℕ, ◌≤◌, Bool, true, false, not, ◌&&◌, ◌||◌, List, [], ◌∷◌, ◌++◌, map, Some, None, refl, sym, ◌∙◌, ap, subst, ⊎_elim, arith, ◌==◌}
+use Rattle.std.proofs.Common.{◌≡◌, ℕ, ◌≤◌, Bool, true, false, not, ◌&&◌, List, [], ◌∷◌, ◌++◌, map, Some, refl, sym, ◌∙◌, ap, subst, ⊎_elim, arith, ◌==◌}
 use Rattle.std.specs.List.{filter}
 use Rattle.std.proofs.Math.Bool.{or-false}
 use Rattle.std.proofs.Math.Path.{fun_ext}
@@ -11,17 +11,16 @@ use Rattle.cc_lists.specs.Members.{Among, has}
 use Rattle.cc_lists.proofs.Members.{Among-map, Among-map_cases, Among-append, Among-filtered, Among-passes, has-there}
 use Rattle.cc_names.specs.Names.{native}
 use Rattle.cc_model.specs.declared.item.Event.{Event}
-use Rattle.cc_model.specs.Heap.{Heap, HeapNative, Buffered, Outcome, native_at, change_native, with_native_slot, with_mark, forget}
+use Rattle.cc_model.specs.Heap.{Heap, HeapNative, Buffered, Outcome, native_at, change_native, with_mark, forget}
 use Rattle.cc_model.specs.Cascade.{add_ref, removed}
 use Rattle.cc_model.specs.WellFormed.{native_names}
 use Rattle.cc_model.specs.Counts.{times}
 use Rattle.cc_laws_heap.specs.Freeing.{Uncounted, uncounted, is_none_of, SameBeside, Frees}
 use Rattle.cc_laws_heap.specs.Ending.{freed_in, freed_numbers}
 use Rattle.cc_laws_heap.specs.Stages.{Stage, Done, Ending}
-use Rattle.cc_laws_heap.specs.Stages.Ending.{reordered, raised, unlinked, emptied, unpreserved}
 use Rattle.cc_lists.proofs.Searching.{filter-true, filter-map, filter-filter}
 use Rattle.cc_lists.proofs.Numbers.{eqb-sym, number-exact, at-each}
-use Rattle.cc_laws_heap.proofs.Natives.{native_at-named, named-member, KeepsNumber, changed_at, changed_at-number}
+use Rattle.cc_laws_heap.proofs.Natives.{native_at-named, named-member, KeepsNumber, changed_at-number}
 use Rattle.cc_laws_heap.proofs.References.{times-append, times-cons_same, times-cons_other, times-among}
 use Rattle.cc_laws_heap.proofs.Beside.{SameBeside-with, SameBeside-refl, SameBeside-trans}
 use Rattle.cc_laws_heap.proofs.GiveUp.{lower_native}
@@ -75,12 +74,7 @@ Leave-none h freed g l k m = times-none k freed (Leave-not_freed h freed g l k m
 -- to be left after two lists were freed is to be left after each
 is_left-append : (early late : List ℕ) (k : ℕ) → is_left (early ++ late) k ≡ (is_left early k && is_left late k)
 is_left-append [] late k = refl
-is_left-append (a ∷ early) late k = go (a == k) (is_left-append early late k)
-  where
-    go : (b : Bool) → is_left (early ++ late) k ≡ (is_left early k && is_left late k) →
-        not (b || has ◌==◌ (early ++ late) k) ≡ (not (b || has ◌==◌ early k) && is_left late k)
-    go true ih = refl
-    go false ih = ih
+is_left-append (a ∷ early) late k = grind (arith, is_left-append early late k)
 
 -- Natives leave one after another.
 pub Leave-trans : (h : Heap) (early : List ℕ) (g : Heap) (late : List ℕ) (f : Heap) → Leave h early g → Leave g late f → Leave h (early ++ late) f

@@ -1,5 +1,5 @@
 -- WHAT IS MADE KEEPS THE HEAPS WELL FORMED: a native with the next number, a script object with a name that is not there.
-use Rattle.std.proofs.Common.{◌≡◌, ℕ, zero, suc, ◌+◌, ◌<◌, ◌≤◌, Bool, true, false, cond, List, [], ◌∷◌, ◌++◌, map, length, refl, sym, ◌∙◌, ap, subst, inl, inr, ◌⊎◌, ⊎_elim, arith, count_by, ◌==◌, None}
+use Rattle.std.proofs.Common.{◌≡◌, ℕ, zero, suc, ◌+◌, ◌<◌, ◌≤◌, Bool, true, false, cond, List, [], ◌∷◌, ◌++◌, map, length, refl, sym, ◌∙◌, ap, subst, inl, inr, ◌⊎◌, ⊎_elim, arith, count_by, None}
 use Rattle.std.proofs.lemmas.Bool.{eqb-true, cases_lt, false≢true}
 use Rattle.std.proofs.lemmas.Bool.Decides.{eqb_tells}
 use Rattle.std.proofs.lemmas.List.{map_push, length-replicate}
@@ -39,14 +39,7 @@ IsRising-push (i ∷ js) k r below = IsRising-cons i (js ++ k ∷ [])
 -- what stands in the buffer after a mark stood there before, or was marked
 pub with_mark-cases : (m : Bool) (k : ℕ) (bs : List Buffered) (b : Buffered) → Among b (with_mark m k bs) → (b.number ≡ k) ⊎ Among b bs
 with_mark-cases m k [] b i = ⊎_elim (λ e. inl (ap (λ (c : Buffered). c.number) (sym e))) (λ n. absurd n) i
-with_mark-cases m k (c ∷ bs) b i = go (with_mark-cases m k bs b) (c.number == k) refl i
-  where
-    go : (Among b (with_mark m k bs) → (b.number ≡ k) ⊎ Among b bs) → (t : Bool) → (c.number == k) ≡ t →
-        Among b (elim t [ true ↦ record c { purple = m } ∷ bs | false ↦ c ∷ with_mark m k bs ]) → (b.number ≡ k) ⊎ Among b (c ∷ bs)
-    go ih true e j = ⊎_elim
-        (λ s. inl (ap (λ (d : Buffered). d.number) (sym s) ∙ eqb-true c.number k e))
-        (λ t. inr (inr t)) j
-    go ih false e j = ⊎_elim (λ s. inr (inl s)) (λ t. ⊎_elim (λ l. inl l) (λ r. inr (inr r)) (ih t)) j
+with_mark-cases m k (c ∷ bs) b i = grind (arith, eqb-true, with_mark-cases m k bs b)
 
 -- a mark leaves each native there at most once
 pub places-with_mark : (m : Bool) (k : ℕ) (bs : List Buffered) → ((j : ℕ) → places j bs ≤ 1) → (j : ℕ) → places j (with_mark m k bs) ≤ 1

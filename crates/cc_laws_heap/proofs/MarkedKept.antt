@@ -1,7 +1,6 @@
 -- WHAT IS MARKED AND WHAT IS NOT, once the colours are those of marking: what registers and natives hold is marked, and
 -- what is marked holds only what is marked.
-use Rattle.std.proofs.Common.{arith, ◌≡◌, Bool, true, false, [], ◌∷◌, ◌++◌, map, refl, inl}
-use Rattle.std.proofs.lemmas.Bool.{false≢true}
+use Rattle.std.proofs.Common.{arith, ◌≡◌, Bool, true, false, [], ◌∷◌, ◌++◌, map, refl}
 use Rattle.cc_lists.specs.Members.{Among, has}
 use Rattle.cc_lists.proofs.Members.{Among-map, Among-map_cases, Among-left, Among-right, Among-filter, Among-filtered, Among-passes, Among-flat_map}
 use Rattle.cc_lists.proofs.Least.{derive-root, derive-along, derive-jointly}
@@ -16,7 +15,7 @@ use Rattle.cc_model.specs.Entries.{Entry, joints}
 use Rattle.cc_model.specs.Heap.{Heap, HeapNative, HeapScript, is_white_colour}
 use Rattle.cc_model.specs.View.{slot_edges, preserved_edge, native_edges, script_slot_edges}
 use Rattle.cc_model.specs.Exposure.{slots_of_scripts}
-use Rattle.cc_model.specs.Colours.{IsBlack, black_rules, black_names, scripts_held_by, scripts_held, IsMarked, marked_names, HasColours}
+use Rattle.cc_model.specs.Colours.{IsBlack, black_names, scripts_held_by, scripts_held, IsMarked, marked_names, HasColours}
 use Rattle.cc_model.specs.Sweep.{unmarked}
 use Rattle.cc_model.specs.WellFormed.{script_names}
 use Rattle.cc_laws_heap.proofs.Marking.{colour_of, colour_of-white, black-decided, marked-decided}
@@ -69,8 +68,7 @@ module _ (h : Heap) where
       edge = from_to (native n.number) (reflector n.number)
 
       by_flag : (b : Bool) → b ≡ true → Among edge (elim b [ true ↦ edge ∷ [] | false ↦ [] ])
-      by_flag true f = inl refl
-      by_flag false f = absurd (false≢true f)
+      by_flag b f = grind arith
 
 -- What is not marked
 

@@ -1,6 +1,6 @@
 -- MARKING GIVES EACH SCRIPT OBJECT THE COLOUR OF ITS LEAST SET: it changes colours alone, and no rule reads a colour.
 use Rattle.std.specs.Prelude.{◌↔◌}
-use Rattle.std.proofs.Common.{arith, ◌≡◌, Bool, true, false, ◌++◌, refl, ◌∙◌, ap}
+use Rattle.std.proofs.Common.{arith, ◌≡◌, Bool, true, false, ◌++◌, refl, ap}
 use Rattle.cc_lists.specs.Members.{Among, has}
 use Rattle.cc_lists.specs.Least.{system, closure}
 use Rattle.cc_lists.proofs.Closure.{closure-decides}

@@ -1,12 +1,12 @@
 -- MARKING KEEPS THE HEAPS SOUND, AND A ROUND DOES: no clause speaks of a colour.
-use Rattle.std.proofs.Common.{◌≡◌, ℕ, ◌+◌, List, refl, sym, ◌∙◌, ap}
+use Rattle.std.proofs.Common.{◌≡◌, ℕ, List, refl}
 use Rattle.cc_names.specs.declared.name.Name.{Name}
 use Rattle.cc_names.specs.Names.{reflector, same_name}
 use Rattle.cc_model.specs.Heap.{Heap, HeapScript}
 use Rattle.cc_model.specs.Colours.{marked}
 use Rattle.cc_model.specs.Sweep.{sweep}
 use Rattle.cc_model.specs.WellFormed.{IsWellFormed, script_names}
-use Rattle.cc_model.specs.Counts.{refs_to, times}
+use Rattle.cc_model.specs.Counts.{refs_to}
 use Rattle.cc_laws_heap.specs.Sound.{IsSound}
 use Rattle.cc_laws_heap.specs.Rounds.{FreesNames}
 use Rattle.cc_lists.proofs.ListWrites.{map-kept, count_by-kept_map}
@@ -22,12 +22,7 @@ script_names-marked h = map-kept (λ (o : HeapScript). o.name) (as_marked h) h.s
 
 -- marking changes neither names nor kinds nor slots
 changes-marked : (h : Heap) → IsWellFormed h → ChangesScripts h (as_marked h)
-changes-marked h w = record {
-  name = λ o. refl;
-  kind = λ o. refl;
-  fits = w.kinds;
-  contents = λ o m x i. w.script_contents o x m i;
-}
+changes-marked h w = search (w.kinds, w.script_contents)
 
 -- marking changes no reference
 refs_to-marked : (h : Heap) (k : ℕ) → refs_to (marked h) k ≡ refs_to h k
@@ -37,12 +32,7 @@ refs_to-marked h k = rw (count_by-kept_map (λ (o : HeapScript). same_name o.nam
 -- MARKING KEEPS THE HEAPS SOUND.
 pub IsSound-marked : (owned : List ℕ) (h : Heap) → IsSound owned h → IsSound owned (marked h)
 unfolding marked
-IsSound-marked owned h s = record {
-  well_formed = IsWellFormed-scripts h (as_marked h) s.well_formed (changes-marked h s.well_formed);
-  counts = λ n m. s.counts n m ∙ ap (λ r. r + times n.number owned) (sym (refs_to-marked h n.number));
-  none_zero = s.none_zero;
-  owned_there = s.owned_there;
-}
+IsSound-marked owned h s = search (IsWellFormed-scripts, changes-marked, refs_to-marked, s.well_formed, s.counts, s.none_zero, s.owned_there)
 
 -- A round leaves sound heaps,
 pub round-sound : {owned : List ℕ} (h : Heap) → IsSound owned h → IsSound owned (sweep (marked h)).heap

@@ -1,5 +1,5 @@
 -- Lists of names: whether a name stands in them, and how often.
-use Rattle.std.proofs.Common.{◌≡◌, ℕ, ◌≤◌, Bool, true, false, not, ◌&&◌, ◌||◌, List, [], ◌∷◌, ◌++◌, map, refl, sym, ◌∙◌, ap, subst, ⊎_elim, arith, count_by, ◌==◌}
+use Rattle.std.proofs.Common.{◌≡◌, ℕ, ◌≤◌, true, false, ◌&&◌, ◌||◌, List, [], ◌∷◌, ◌++◌, map, refl, sym, ◌∙◌, ap, subst, ⊎_elim, arith, count_by, ◌==◌}
 use Rattle.std.specs.List.{filter, flat_map}
 use Rattle.std.proofs.lemmas.Bool.{true≢false, cases_lt, not-true}
 use Rattle.cc_lists.specs.Members.{Among, has}
@@ -57,12 +57,7 @@ is_not_among-apart xs x e m = true≢false (sym (has-there same_name same_name-e
 -- to stand in none of two lists is to stand neither in one nor in the other
 pub is_not_among-append : (xs ys : List Name) (x : Name) → is_not_among (xs ++ ys) x ≡ (is_not_among xs x && is_not_among ys x)
 is_not_among-append [] ys x = refl
-is_not_among-append (z ∷ zs) ys x = go (same_name z x) (is_not_among-append zs ys x)
-  where
-    go : (b : Bool) → is_not_among (zs ++ ys) x ≡ (is_not_among zs x && is_not_among ys x) →
-        not (b || has same_name (zs ++ ys) x) ≡ (not (b || has same_name zs x) && is_not_among ys x)
-    go true ih = refl
-    go false ih = ih
+is_not_among-append (z ∷ zs) ys x = grind (arith, is_not_among-append zs ys x)
 
 -- what is left of a list stands in the list, and is none of those taken out
 pub left-apart : (xs zs : List Name) (x : Name) → Among x (filter (is_not_among xs) zs) → Among x zs × (¬ (Among x xs))

@@ -54,8 +54,7 @@ HasSlot-from h d i w room = go (register h (N d)) refl (native_register-there h 
   where
     at : (k : ℕ) (o : Option HeapNative) → register h (N d) ≡ Some (native k) → native_at h k ≡ o →
         i < length (slots_or_none (option_map (λ n. n.slots) o)) → HasSlot h d i
-    at k None e f l = absurd (omega arith)
-    at k (Some n) e f l = record { number = k; there = n; held = e; found = f; room = l }
+    at k o e f l = grind arith
 
     no_native : (x : Name) → Among x (native_names h) → (k : ℕ) × (native k ≡ x)
     no_native x m = let f = Among-map_cases (λ (n : HeapNative). native n.number) h.natives x m in (f.0.number, f.2)

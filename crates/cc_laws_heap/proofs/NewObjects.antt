@@ -138,8 +138,7 @@ IsMade-script P h g kind n o same empty w b = record {
     apart e = cc
 
     others : (z : Name) → z ≢ next_object g → shape_in (graph.with_script g o) z ≡ shape_in g z
-    others (name.Script k) d = ap (option_map shape_of_object) (numbered-push_other g.scripts o k.0 (λ e. d (ap object e)))
-    others _ d = refl
+    others z d = grind (arith, numbered-push_other)
 
 -- A PLAIN OBJECT MADE, and a weak map.
 pub Follows-plain : (P : Name → Type 0) (h : Heap) (g : Graph) (n : ℕ) → IsWellMade g → Follows P h g →

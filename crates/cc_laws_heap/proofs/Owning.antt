@@ -1,12 +1,12 @@
 -- REFERENCES TAKEN AND GIVEN UP: what is owned outside the heaps' lists meanwhile.
-use Rattle.std.proofs.Common.{◌≡◌, ◌≢◌, ℕ, ◌+◌, ◌≤◌, true, false, List, ◌∷◌, ◌++◌, Option, Some, option_map, refl, sym, ◌∙◌, ap, subst, inl, ⊎_elim, arith, count_by, ◌==◌}
+use Rattle.std.proofs.Common.{◌≡◌, ◌≢◌, ℕ, ◌+◌, ◌≤◌, true, false, List, ◌∷◌, ◌++◌, Option, Some, refl, sym, ap, subst, inl, ⊎_elim, arith, count_by, ◌==◌}
 use Rattle.std.specs.Option.{option_to_list}
 use Rattle.std.proofs.lemmas.Bool.Decides.{eqb_tells}
 use Rattle.cc_lists.specs.Members.{Among}
 use Rattle.cc_names.specs.declared.name.Name.{Name}
 use Rattle.cc_names.specs.declared.name.Name.TheVariants as name
 use Rattle.cc_names.specs.Names.{native, same_name}
-use Rattle.cc_model.specs.Heap.{Heap, HeapNative, native_at, with_mark}
+use Rattle.cc_model.specs.Heap.{Heap, HeapNative, with_mark}
 use Rattle.cc_model.specs.Cascade.{add_ref, take_up, let_go}
 use Rattle.cc_model.specs.WellFormed.{IsWellFormed, native_names, names_there}
 use Rattle.cc_model.specs.Counts.{refs_to, times}
@@ -55,10 +55,7 @@ IsCounted-add_ref owned h k there c j = ⊎_elim same other (eqb_tells j k)
     alike i = let a = HoldsTheSame-add_ref h k in refs_to-alike h (add_ref h k) a.beside a.natives i
 
     one_more : count_at (add_ref h k) k ≡ count_at h k + 1
-    one_more =
-        let f = named-found h k there in
-        let after : native_at (add_ref h k) k ≡ option_map raise_native (native_at h k) = native_at-change_same h k raise_native (λ n. refl) in
-        ap count_of after ∙ rw f.1 refl
+    one_more = grind (arith, named-found, native_at-change_same)
 
     same : ((j == k) ≡ true) × (j ≡ k) → count_at (add_ref h k) j ≡ refs_to (add_ref h k) j + times j (k ∷ owned)
     same t = subst (λ i. count_at (add_ref h k) i ≡ refs_to (add_ref h k) i + times i (k ∷ owned)) (sym t.1)

@@ -1,8 +1,7 @@
 -- WHAT A COMMAND READS is reached: what registers, slots and entries of reached objects hold, and natives behind reflectors.
-use Rattle.std.proofs.Common.{arith, ◌≡◌, ℕ, true, List, [], ◌∷◌, get_or, Option, Some, None, is_some, option_map, refl, sym, subst, inl}
+use Rattle.std.proofs.Common.{arith, ◌≡◌, ℕ, true, List, [], ◌∷◌, get_or, Option, Some, None, is_some, option_map, sym, subst}
 use Rattle.std.specs.Prelude.{IsTrue}
 use Rattle.std.specs.Option.{option_and_then}
-use Rattle.std.proofs.lemmas.Bool.{false≢true}
 use Rattle.cc_lists.specs.Members.{Among}
 use Rattle.cc_lists.proofs.Members.{Among-left, Among-right}
 use Rattle.cc_names.specs.declared.name.Name.{Name}
@@ -67,8 +66,7 @@ module _ (g : Graph) where
       (subst (λ o. Among (native k) (native_behind k o)) (sym n.1) (some n.0.reflector n.2)))
     where
       some : (r : Option Slots) → is_some r ≡ true → Among (native k) (elim r as (λ _. List Name) [ None ↦ [] | Some slots ↦ native k ∷ [] ])
-      some None e = absurd (false≢true e)
-      some (Some slots) e = inl refl
+      some r e = grind arith
 
   -- the native behind what a script register holds, where that is a reflector
   pub script-behind : (o : Option Name) → OfSome (MadeScript g) o → OfSome (Reached g) o → OfSome (HasBehind (Reached g)) o

@@ -7,9 +7,8 @@ use Rattle.cc_names.specs.declared.name.Name.{Name}
 use Rattle.cc_names.specs.declared.register.Reg.{Reg}
 use Rattle.cc_names.specs.declared.register.Reg.TheVariants.{N, S}
 use Rattle.cc_model.specs.declared.command.Command.{Command}
-use Rattle.cc_model.specs.declared.command.Command.TheVariants.{Native, Script, WeakMap, CopyNative, CopyScript, Set, Get, Put, Take, Wrap, Unwrap, Preserve, SetEntry, GetEntry, Expose}
 use Rattle.cc_model.specs.Slots.{Slots}
-use Rattle.cc_model.specs.Checks.{Objects, slots_or_none, slots_at, slot_at, value_at, native_of, reflector_of, needed, lacks_object, is_map_in, has_wrong_object, has_no_slot, is_native_there, is_script_there, has_wrong_content, is_full, refusal_of, reply_if_taken, named_or_nothing}
+use Rattle.cc_model.specs.Checks.{Objects, slots_or_none, slots_at, slot_at, value_at, needed, lacks_object, is_map_in, has_wrong_object, has_no_slot, has_wrong_content, is_full, refusal_of, reply_if_taken}
 use Rattle.cc_model.specs.Graph as graph
 use Rattle.cc_model.specs.Graph.{Graph}
 use Rattle.cc_model.specs.Reached.{Reached, held}

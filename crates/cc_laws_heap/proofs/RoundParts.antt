@@ -1,7 +1,6 @@
 -- WHAT A ROUND LEAVES: natives as they were, but for counts, script objects but for colours, and some of the entries.
-use Rattle.std.proofs.Common.{arith, ◌≡◌, Bool, true, false, cond, ℕ, List, [], ◌∷◌, map, Option, Some, refl, sym, ◌∙◌, ap, subst, inl, inr, ⊎_elim}
+use Rattle.std.proofs.Common.{arith, ◌≡◌, Bool, true, cond, ℕ, List, [], ◌∷◌, map, refl, subst, inr, ⊎_elim}
 use Rattle.std.specs.List.{filter}
-use Rattle.std.proofs.lemmas.Bool.{true≢false}
 use Rattle.cc_lists.specs.Members.{Among}
 use Rattle.cc_lists.proofs.Members.{Among-map, Among-map_cases, Among-filtered}
 use Rattle.cc_names.specs.declared.name.Name.{Name}
@@ -25,16 +24,7 @@ use Rattle.cc_laws_heap.proofs.Swept.{scripts-sweep, taken-sweep, entries-sweep}
 pub value_in-filter : (q : Entry → Bool) (es : List Entry) (m k : Name) → ((e : Entry) → Among e es → is_entry_of m k e ≡ true → q e ≡ true) →
     value_in (filter q es) m k ≡ value_in es m k
 value_in-filter q [] m k h = refl
-value_in-filter q (e ∷ es) m k h = go (value_in-filter q es m k (λ d i. h d (inr i))) (q e) refl (is_entry_of m k e) refl
-  where
-    by_test : Option Name → Bool → Option Name
-    by_test v t = elim t [ true ↦ Some e.value | false ↦ v ]
-
-    go : value_in (filter q es) m k ≡ value_in es m k → (b : Bool) → q e ≡ b → (t : Bool) → is_entry_of m k e ≡ t →
-        value_in (cond b (e ∷ filter q es) (filter q es)) m k ≡ by_test (value_in es m k) (is_entry_of m k e)
-    go ih true s t f = ap (λ v. by_test v (is_entry_of m k e)) ih
-    go ih false s true f = absurd (true≢false (sym (h e (inl refl) f) ∙ s))
-    go ih false s false f = ih ∙ ap (by_test (value_in es m k)) (sym f)
+value_in-filter q (e ∷ es) m k h = grind (arith, value_in-filter q es m k (λ d i. h d (inr i)))
 
 -- a part of a part is a part
 pub ArePart-filter : {X : Type 0} (q : X → Bool) (xs ys : List X) → ArePart xs ys → ArePart (filter q xs) ys
@@ -45,8 +35,7 @@ ArePart-filter {X} q (x ∷ xs) (y ∷ ys) p = ⊎_elim
     (λ t. ArePart-skip (filter q (x ∷ xs)) y ys (ArePart-filter q (x ∷ xs) ys t)) p
   where
     go : (b : Bool) → x ≡ y → ArePart (filter q xs) ys → ArePart (cond b (x ∷ filter q xs) (filter q xs)) (y ∷ ys)
-    go true e r = inl (e, r)
-    go false e r = ArePart-skip (filter q xs) y ys r
+    go b e r = grind (arith, ArePart-skip)
 
 -- Objects that are left
 

@@ -1,7 +1,6 @@
 -- SCRIPT OBJECTS MADE, NATIVES WRAPPED, ENTRIES SET.
 use Rattle.std.proofs.Common.{◌≡◌, ℕ, ◌+◌, ◌<◌, ◌≤◌, Bool, true, false, List, Option, Some, None, is_none, refl, sym, ◌∙◌, ap, subst, inl, ⊎_elim, arith}
 use Rattle.std.specs.Option.{option_and_then}
-use Rattle.std.proofs.lemmas.Bool.{false≢true}
 use Rattle.cc_lists.specs.Members.{Among}
 use Rattle.cc_lists.proofs.Members.{Among-map_cases}
 use Rattle.cc_lists.proofs.Filtering.{find-among, find-passes}
@@ -19,7 +18,7 @@ use Rattle.cc_model.specs.Checks.{is_map_in, reflector_of}
 use Rattle.cc_model.specs.Heap.{Heap, HeapScript, script_at, slots_in, slots_of_script, slots_of_kind, set_register, objects_of, has_reflector, preserve}
 use Rattle.cc_model.specs.Cascade.{add_ref}
 use Rattle.cc_model.specs.Exposure.{exposed}
-use Rattle.cc_model.specs.Effects.{make_object, with_object, with_reflector, wrapped, set_entry}
+use Rattle.cc_model.specs.Effects.{make_object, with_reflector, wrapped, set_entry}
 use Rattle.cc_model.specs.WellFormed.{IsWellFormed, FitsName, HasMembers, native_names, script_names}
 use Rattle.cc_laws_heap.specs.Sound.{IsSound}
 use Rattle.cc_lists.proofs.Searching.{find-some}
@@ -116,8 +115,7 @@ found-map h x m e = go (script_at h x) refl e
     some = find-some (λ (p : HeapScript). same_name p.name x) h.scripts f.0 f.1 (ap (λ y. same_name y x) f.2 ∙ same_name-refl x)
 
     kind : (q : Kind) (o : HeapScript) → is_none (slots_of_kind q o.slots) ≡ true → q ≡ Map
-    kind Map o t = refl
-    kind _ o t = absurd (false≢true t)
+    kind q o t = grind arith
 
     go : (o : Option HeapScript) → script_at h x ≡ o → is_none (option_and_then slots_of_script o) ≡ true →
         (o : HeapScript) × Among o h.scripts × (o.name ≡ x) × (o.kind ≡ Map)

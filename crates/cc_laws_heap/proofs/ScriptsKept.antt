@@ -1,12 +1,11 @@
 -- WHAT CHANGES IN SCRIPT OBJECTS KEEPS THE HEAPS SOUND: a slot written, an exposure, a reflector preserved.
-use Rattle.std.proofs.Common.{arith, ◌≡◌, ℕ, ◌≤◌, Bool, List, [], set, Option, Some, None, refl, sym, ◌∙◌, subst, inl}
+use Rattle.std.proofs.Common.{arith, ◌≡◌, ℕ, Bool, List, set, Option, Some, None, refl, subst, inl}
 use Rattle.std.proofs.lemmas.List.{length-set}
 use Rattle.cc_lists.specs.Members.{Among, has}
 use Rattle.cc_lists.proofs.Members.{Among-map_cases}
 use Rattle.cc_names.specs.declared.name.Name.{Name}
 use Rattle.cc_names.specs.declared.name.Name.TheVariants as name
 use Rattle.cc_names.specs.declared.kind.Kind.{Kind}
-use Rattle.cc_names.specs.declared.kind.Kind.TheVariants.{Plain, Reflector, Map}
 use Rattle.cc_names.specs.Names.{native, object, reflector, same_name}
 use Rattle.cc_model.specs.Slots.{Slots, contents}
 use Rattle.cc_model.specs.Heap.{Heap, HeapScript, set_slot, with_script_slot, preserve}

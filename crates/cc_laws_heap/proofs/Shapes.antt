@@ -1,5 +1,5 @@
 -- WHAT AN OBJECT HOLDS is its shape: slots, edges and kinds of objects are read from it.
-use Rattle.std.proofs.Common.{arith, ◌≡◌, true, false, List, [], ◌∷◌, ◌++◌, Option, Some, None, option_map, refl}
+use Rattle.std.proofs.Common.{arith, ◌≡◌, true, false, List, [], ◌∷◌, ◌++◌, Option, Some, None}
 use Rattle.std.specs.Option.{option_and_then}
 use Rattle.cc_names.specs.declared.name.Name.{Name}
 use Rattle.cc_names.specs.declared.name.Name.TheVariants as name
@@ -10,10 +10,10 @@ use Rattle.cc_model.specs.Slots.{Slots, contents}
 use Rattle.cc_model.specs.Checks.{slots_or_none}
 use Rattle.cc_model.specs.Graph as graph
 use Rattle.cc_model.specs.Graph.{Graph, GraphNative, GraphScript, plain_object, weak_map, native_in, script_in}
-use Rattle.cc_model.specs.Reached.{edges_of, kept_reflector, native_behind}
+use Rattle.cc_model.specs.Reached.{edges_of}
 use Rattle.cc_model.specs.Heap as heap
 use Rattle.cc_model.specs.Heap.{Heap, HeapNative, HeapScript, native_at, script_at}
-use Rattle.cc_model.specs.StandsFor.{Shape, shape_in, shape_at, shape_of_native, shape_of_object, shape_of_reflector, shape_of_held_native, shape_of_held_script, script_shape, kind_in, kind_of, reflector_kind}
+use Rattle.cc_model.specs.StandsFor.{Shape, shape_in, shape_at, kind_in}
 
 -- the slots of what may have a shape
 abbrev pub slots_of_shape : Option Shape → Option Slots

@@ -74,13 +74,11 @@ IsChange-written P x i v h g p new kept t = record {
 }
   where
     still : (s : Shape) (b : Bool) → (if b then with_slot_written i v s else s).preserved ≡ false → s.preserved ≡ false
-    still s true q = q
-    still s false q = q
+    still s b q = grind arith
 
     untouched : (k : ℕ) (s r : Shape) → shape_in g (native k) ≡ Some s → s.preserved ≡ false → (b : Bool) → same_name (reflector k) x ≡ b →
         (if b then with_slot_written i v r else r) ≡ r
-    untouched k s r e q true n = absurd (true≢false (sym (kept k s (sym (same_name-true (reflector k) x n)) e) ∙ q))
-    untouched k s r e q false n = refl
+    untouched k s r e q b n = grind (arith, same_name-true)
 
 -- a script object of the heaps with a slot written
 held_script : (i : ℕ) (v : Option Name) (o : HeapScript) → shape_of_held_script (heap.with_script_slot i v o) ≡ with_slot_written i v (shape_of_held_script o)
@@ -104,8 +102,7 @@ Follows-slot P h g (Some (name.Script k)) i v p new kept t = Follows-changed P (
     (IsChange-written P (object k.0) i v h g p new kept t) t
   where
     made : (o : GraphScript) → shape_of_object (graph.with_script_slot i v o) ≡ with_slot_written i v (shape_of_object o)
-    made (plain_object slots) = refl
-    made weak_map = refl
+    made o = grind arith
 Follows-slot P h g (Some (name.Reflector k)) i v p new kept t = Follows-changed P (changed_at (reflector k.0) (with_slot_written i v)) h _ g _
     (HeapChanges-script h (reflector k.0) (heap.with_script_slot i v) (with_slot_written i v) refl (λ o. refl) (held_script i v))
     (GraphChanges-reflector g k.0 (graph.with_reflector_slot i v) (with_slot_written i v) (λ n. refl) (λ n. made n.reflector))
@@ -115,8 +112,7 @@ Follows-slot P h g (Some (name.Reflector k)) i v p new kept t = Follows-changed 
   where
     made : (r : Option Slots) → option_map (λ slots. script_shape (Some slots)) (option_map (λ slots. set slots i v) r)
         ≡ option_map (with_slot_written i v) (option_map (λ slots. script_shape (Some slots)) r)
-    made None = refl
-    made (Some slots) = refl
+    made r = grind arith
 
 -- A reflector preserved
 

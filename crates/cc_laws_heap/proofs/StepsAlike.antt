@@ -107,8 +107,7 @@ pub Follows-put_script : (P : Name → Type 0) (h : Heap) (g : Graph) (x : Optio
 Follows-put_script P h g x i y p b q t = Follows-slot P (heap.preserve h x) (graph.preserve g x) x i y p q (after x) (Follows-preserve P h g x p b t)
   where
     after : (o : Option Name) → OfSome (IsPreserved (graph.preserve g o)) o
-    after None = tt
-    after (Some z) = preserved-after g z
+    after o = grind (arith, preserved-after)
 
 -- Entries
 

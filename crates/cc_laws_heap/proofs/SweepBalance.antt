@@ -1,6 +1,6 @@
 -- SWEEPING KEEPS THE BALANCE: a reflector that is taken out leaves a reference to its native in hand, and a cascade
 -- gives that up; the slots of script objects hold nothing that is counted.
-use Rattle.std.proofs.Common.{◌≡◌, ℕ, ◌≤◌, not, List, ◌∷◌, sym, ◌∙◌, ap, arith, count_by}
+use Rattle.std.proofs.Common.{◌≡◌, ℕ, ◌≤◌, List, ◌∷◌, sym, ap, arith, count_by}
 use Rattle.std.proofs.lemmas.Bool.{not-true}
 use Rattle.cc_lists.specs.Members.{Among}
 use Rattle.cc_lists.proofs.Members.{Among-map_cases}

@@ -1,5 +1,5 @@
 -- SWEEPING IN TURN: each object is told and taken out with what its native's cascade frees, and the heaps stay steady.
-use Rattle.std.proofs.Common.{◌≡◌, ℕ, ◌+◌, ◌≤◌, cond, true, false, not, ◌&&◌, ◌||◌, Bool, List, [], ◌∷◌, ◌++◌, map, refl, sym, ◌∙◌, ap, subst, inl, inr, arith, count_by}
+use Rattle.std.proofs.Common.{◌≡◌, ℕ, ◌+◌, ◌≤◌, cond, true, not, ◌&&◌, ◌||◌, Bool, List, [], ◌∷◌, ◌++◌, map, refl, sym, ◌∙◌, ap, subst, inl, inr, arith, count_by}
 use Rattle.std.specs.List.{filter}
 use Rattle.std.proofs.Math.Path.{fun_ext}
 use Rattle.std.proofs.lemmas.Bool.{false≢true}
@@ -42,8 +42,7 @@ scripts-sweep_each (x ∷ xs) o =
     ∙ ap (λ t. filter t o.heap.scripts) (fun_ext (λ p. neither (same_name p.name x) (has same_name xs p.name) ∙ ap (λ b. not (b || has same_name xs p.name)) (same_name-sym p.name x)))))
   where
     neither : (b c : Bool) → (not b && not c) ≡ not (b || c)
-    neither true c = refl
-    neither false c = refl
+    neither b c = grind arith
 
 -- Objects to be swept
 

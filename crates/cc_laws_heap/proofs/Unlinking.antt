@@ -6,7 +6,7 @@ use Rattle.std.proofs.lemmas.List.{append-nil, length-replicate}
 use Rattle.cc_lists.specs.Members.{Among}
 use Rattle.cc_names.specs.Names.{native}
 use Rattle.cc_model.specs.declared.item.Event.TheVariants.{Unlinked}
-use Rattle.cc_model.specs.Slots.{contents, empty_slots}
+use Rattle.cc_model.specs.Slots.{empty_slots}
 use Rattle.cc_model.specs.Heap.{Heap, HeapNative, Outcome, silently, native_at, set_preserved}
 use Rattle.cc_model.specs.End.{empty_each, slots_now, unlink}
 use Rattle.cc_model.specs.Lawful.{unlinked_numbers}
@@ -62,8 +62,7 @@ unpreserved-sound owned h k s = record {
     names = native_names-change h k unpreserved_native (λ n. refl)
 
     slots : slots_of_natives (set_preserved h k false) ≡ slots_of_natives h
-    slots = flat_map-kept (λ (m : HeapNative). contents m.slots) change h.natives
-        (λ m. changed_where-either (λ o. contents o.slots ≡ contents m.slots) is_it unpreserved_native m (λ e. refl) refl)
+    slots = grind (arith, flat_map-kept, changed_where-either)
 
     refs : (j : ℕ) → refs_to (set_preserved h k false) j ≡ refs_to h j
     refs j = rw slots refl

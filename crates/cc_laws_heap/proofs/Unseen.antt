@@ -1,9 +1,8 @@
 -- WHAT THE GRAPH DOES NOT SEE: counts, the buffer, colours, and natives that a cascade takes out.
-use Rattle.std.proofs.Common.{arith, ◌≡◌, ℕ, Bool, true, false, map, Option, Some, None, refl, sym, ◌∙◌, ap, subst, if◌then◌else◌}
+use Rattle.std.proofs.Common.{arith, ◌≡◌, ℕ, Bool, map, Option, Some, None, refl, sym, ◌∙◌, ap, subst, if◌then◌else◌}
 use Rattle.cc_lists.specs.Members.{Among, has}
 use Rattle.cc_lists.proofs.Members.{Among-map_cases, Among-filtered}
 use Rattle.cc_names.specs.declared.name.Name.{Name}
-use Rattle.cc_names.specs.declared.name.Name.TheVariants as name
 use Rattle.cc_names.specs.Names.{same_name}
 use Rattle.cc_model.specs.Heap.{Heap, HeapScript}
 use Rattle.cc_model.specs.Cascade.{add_ref, take_up, let_go}
@@ -52,9 +51,7 @@ Leaves-exposed h (Some x) = record {
 }
   where
     names : (o : HeapScript) (b : Bool) → (if b then as_black o else o).name ≡ o.name
-    names o true = refl
-    names o false = refl
+    names o b = grind arith
 
     shapes : (o : HeapScript) (b : Bool) → shape_of_held_script (if b then as_black o else o) ≡ shape_of_held_script o
-    shapes o true = refl
-    shapes o false = refl
+    shapes o b = grind arith

@@ -3,7 +3,6 @@ use Rattle.std.proofs.Common.{arith, ◌≡◌, ℕ, Bool, true, false, [], ◌�
 use Rattle.cc_lists.specs.Members.{Among}
 use Rattle.cc_lists.proofs.Members.{Among-map_cases, Among-append}
 use Rattle.cc_names.specs.declared.name.Name.{Name}
-use Rattle.cc_names.specs.declared.name.Name.TheVariants as name
 use Rattle.cc_names.specs.Names.{native, reflector, behind}
 use Rattle.cc_model.specs.Slots.{contents, from_to}
 use Rattle.cc_model.specs.Heap.{HeapNative, HeapScript}
@@ -27,8 +26,7 @@ native_edges-are n x y m = ⊎_elim
   where
     go : (b : Bool) → n.preserved ≡ b → Among (x, y) (elim b [ true ↦ from_to (native n.number) (reflector n.number) ∷ [] | false ↦ [] ]) →
         (native n.number ≡ x) × NativeHas n y
-    go true p i = ⊎_elim (λ e. (ap (λ (z : Name × Name). z.0) e, inr (p, ap (λ (z : Name × Name). z.1) e))) (λ t. absurd t) i
-    go false p i = absurd i
+    go b p i = grind arith
 
 -- a name with a native behind it is that native's reflector
 pub behind-is : (x : Name) (k : ℕ) → Among k (behind x) → x ≡ reflector k

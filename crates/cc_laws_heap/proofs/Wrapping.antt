@@ -18,7 +18,7 @@ use Rattle.cc_model.specs.Heap.{Heap, HeapScript, has_reflector}
 use Rattle.cc_model.specs.Exposure.{exposed}
 use Rattle.cc_model.specs.Effects as effects
 use Rattle.cc_model.specs.WellFormed.{IsWellFormed}
-use Rattle.cc_model.specs.StandsFor.{Shape, shape_in, shape_at, shape_of_native, shape_of_reflector, shape_of_held_script, script_shape, IsKept, StandsFor}
+use Rattle.cc_model.specs.StandsFor.{Shape, shape_in, shape_at, shape_of_native, shape_of_held_script, script_shape, IsKept, StandsFor}
 use Rattle.cc_laws_heap.proofs.Numbered.{numbered-change, numbered-change_other}
 use Rattle.cc_laws_heap.proofs.Shapes.{further_of}
 use Rattle.cc_laws_heap.proofs.GraphWrites.{set_native-is}

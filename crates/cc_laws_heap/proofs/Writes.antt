@@ -1,5 +1,5 @@
 -- WHAT A WRITE OF A REGISTER, A SLOT, A FLAG OR A COLOUR DOES TO THE COUNTS: the new content is owned before, the old one after.
-use Rattle.std.proofs.Common.{◌≡◌, ℕ, ◌+◌, ◌<◌, ◌≤◌, Bool, true, List, ◌++◌, length, set, get_or, Option, Some, None, refl, sym, ◌∙◌, ap, subst, ⊎_elim, arith, ◌==◌}
+use Rattle.std.proofs.Common.{◌≡◌, ℕ, ◌<◌, ◌≤◌, Bool, true, List, ◌++◌, length, set, get_or, Option, Some, None, refl, sym, ◌∙◌, subst, ⊎_elim, arith, ◌==◌}
 use Rattle.std.specs.Option.{option_to_list}
 use Rattle.std.proofs.lemmas.Bool.{eqb-true}
 use Rattle.std.proofs.lemmas.List.{length-set}
@@ -10,7 +10,7 @@ use Rattle.cc_names.specs.Names.{native, reflector, same_name}
 use Rattle.cc_model.specs.Slots.{Slots, contents}
 use Rattle.cc_model.specs.Heap.{Heap, HeapNative, HeapScript, native_at, register, set_register, change_native, with_native_slot, set_preserved}
 use Rattle.cc_model.specs.WellFormed.{IsWellFormed, native_names, script_names, names_there}
-use Rattle.cc_model.specs.Counts.{refs_to, slots_of_natives, times}
+use Rattle.cc_model.specs.Counts.{refs_to, slots_of_natives}
 use Rattle.cc_laws_heap.specs.Sound.{IsSound, numbers_of}
 use Rattle.cc_laws_heap.proofs.Natives.{KeepsNumber, IsWellFormed-distinct, native_at-change_same, native_at-change_other}
 use Rattle.cc_laws_heap.proofs.Counted.{IsSound-counted, IsSound-from_counted}
@@ -157,12 +157,4 @@ set_preserved-sound owned h k there s = IsSound-from_counted owned (set_preserve
 -- Script objects change, and keep their names.
 pub scripts-sound : (owned : List ℕ) (h : Heap) (f : HeapScript → HeapScript) → ChangesScripts h f → IsSound owned h →
     IsSound owned (with_scripts h f)
-scripts-sound owned h f c s = record {
-  well_formed = IsWellFormed-scripts h f s.well_formed c;
-  counts = λ n m. s.counts n m ∙ ap (λ r. r + times n.number owned) (sym (refs n.number));
-  none_zero = s.none_zero;
-  owned_there = s.owned_there;
-}
-  where
-    refs : (k : ℕ) → refs_to (with_scripts h f) k ≡ refs_to h k
-    refs k = rw (count_by-kept_map (λ (o : HeapScript). same_name o.name (reflector k)) f h.scripts (λ o. ap (λ x. same_name x (reflector k)) (c.name o))) refl
+scripts-sound owned h f c s = search (IsWellFormed-scripts, count_by-kept_map, s.well_formed, s.counts, s.none_zero, s.owned_there, h.scripts, c.name)
