@@ -59,7 +59,7 @@ list_any-map p f [] = refl
 list_any-map p f (x ∷ xs) = ap (λ b. p (f x) || b) (list_any-map p f xs)
 
 -- whether native k of a counted heap holds a gray script object
-abbrev holds_found : List Object → Counts → Option HeapNative → Bool
+abbrev pub holds_found : List Object → Counts → Option HeapNative → Bool
 holds_found objects c None = false
 holds_found objects c (Some n) = list_any (is_gray_held objects) (references_in c n)
 

@@ -2,26 +2,28 @@
 ghost use Rattle.std.specs.Prelude.{◌≡◌, ℕ, List, filter, option_and_then, IsSome, ◌<◌, Some, None};
 ghost use Rattle.cc_counted.specs.Counts as counts;
 ghost use Rattle.cc_counted.specs.Counts.{name_of};
+ghost use Rattle.cc_counted.specs.Owning.{HasKeys};
 ghost use Rattle.cc_heaps.specs.Keyed.{IsInOrder, number_at, counts_of};
 ghost use Rattle.cc_heaps.specs.Changes.{IsNativeThere};
 ghost use Rattle.cc_heaps.specs.Holders.{first_of, holder_after, is_above};
 ghost use Rattle.cc_heaps.specs.Named.{IsLive};
-ghost use Rattle.cc_heaps.specs.GrayHeld.{IsHeldIn, is_gray_held, is_holder, numbers_in};
+ghost use Rattle.cc_heaps.specs.GrayHeld.{IsHeldIn, is_gray_held, is_holder, numbers_referring};
 
 use crate::heaps::Heaps;
 use cc_counted::{Counted, Held};
 use cc_names::{Colour, NKey};
 
-// The native with the least number above that of `after`, of all where there is no `after`.
-fn native_above(counted: &Counted, after: Option<NKey>) -> Option<NKey>
+// The native with the least number above that of `after`, of all where there is no `after`, that refers to a script object.
+fn referring_above(counted: &Counted, after: Option<NKey>) -> Option<NKey>
     requires there { IsLive counted.now.keys after }
+    requires keyed { HasKeys counted.now }
     ensures number { option_and_then (λ k. counts.number_at counted.now k.0) result
-        ≡ first_of (filter (is_above (option_and_then (λ k. counts.number_at counted.now k.0) after)) (numbers_in counted.now)) }
+        ≡ first_of (filter (is_above (option_and_then (λ k. counts.number_at counted.now k.0) after)) (numbers_referring counted.now)) }
     ensures there { IsLive counted.now.keys result }
 {
-    match after {
-        None => counted.first(),
-        Some(key) => counted.next(key),
+    match counted.next_holder(after) {
+        Some(key) => Some(key),
+        None => None,
     }
 }
 
@@ -52,19 +54,20 @@ impl Heaps {
     }
 
     /// The native with the least number above that of `after` that holds a gray script object, in a slot or as its preserved
-    /// reflector, of all where there is no `after`; none exactly where there is no such one.
+    /// reflector, of all where there is no `after`; none exactly where there is no such one. It looks at natives that refer to
+    /// script objects, and at no others.
     pub fn next_holder(&self, after: Option<NKey>) -> Option<NKey>
         requires order { (owned : List ℕ) × IsInOrder owned self.now }
         requires there { IsNativeThere self.now after }
         ensures number { option_and_then (λ k. number_at self.now k.0) result ≡ holder_after self.now.heap (option_and_then (λ k. number_at self.now k.0) after) }
         ensures there { IsNativeThere self.now result }
     {
-        let mut next = native_above(&self.counted, after);
+        let mut next = referring_above(&self.counted, after);
         while let Some(key) = next {
             if self.holds_gray(key) {
                 return Some(key);
             }
-            next = native_above(&self.counted, Some(key));
+            next = referring_above(&self.counted, Some(key));
         }
         None
     }

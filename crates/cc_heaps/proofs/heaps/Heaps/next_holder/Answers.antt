@@ -10,13 +10,15 @@ use Rattle.cc_heaps.proofs.Registers.{live-there}
 use Rattle.cc_heaps.proofs.HolderWalk.{IsLooking-start, IsLooking-next, key-there, numbers_left-less, holder-found, holder-none}
 use Rattle.cc_heaps.proofs.heaps.Heaps.next_holder.Goals as goal
 
-pub native_above-next-requires : goal.native_above-next-requires
-native_above-next-requires c = record { there = live-there (keyed_of c.self.inside) c.args.after (rw (← c.self.view_is) at c.requires.there) }
+pub referring_above-next-requires : goal.referring_above-next-requires
+referring_above-next-requires c =
+    let f = rw (← c.self.view_is) at c.requires.order in
+    record { there = live-there (keyed_of c.self.inside) c.args.after (rw (← c.self.view_is) at c.requires.there); keyed = keys-counted f.0 c.self.inside c.self.invariant f.1 }
 
 pub loop-next-init : goal.loop-next-init
 loop-next-init c =
     let f = rw (← c.self.view_is) at c.requires.order in
-    IsLooking-start c.self.inside f.0 f.1 c.args.after c.native_above-next.result c.native_above-next.ensures.number c.native_above-next.ensures.there
+    IsLooking-start c.self.inside f.0 f.1 c.args.after c.referring_above-next.result c.referring_above-next.ensures.number c.referring_above-next.ensures.there
 
 pub holds_gray-requires : goal.holds_gray-requires
 holds_gray-requires c =
@@ -39,16 +41,16 @@ returns-then-holds_gray-clause-there c =
     let f = rw (← c.self.view_is) at c.requires.order in
     rw (← c.self.view_is) (key-there c.self.inside f.0 f.1 c.args.after c.loop-next.next c.in-Some.key c.in-Some.is c.loop-next.invariant)
 
-pub native_above-next-requires-in-Some : goal.native_above-next-requires-in-Some
-native_above-next-requires-in-Some c =
+pub referring_above-next-requires-in-Some : goal.referring_above-next-requires-in-Some
+referring_above-next-requires-in-Some c =
     let f = rw (← c.self.view_is) at c.requires.order in
-    record { there = key-there c.self.inside f.0 f.1 c.args.after c.loop-next.next c.in-Some.key c.in-Some.is c.loop-next.invariant }
+    record { there = key-there c.self.inside f.0 f.1 c.args.after c.loop-next.next c.in-Some.key c.in-Some.is c.loop-next.invariant; keyed = keys-counted f.0 c.self.inside c.self.invariant f.1 }
 
 pub loop-next-smaller : goal.loop-next-smaller
 loop-next-smaller c =
     let f = rw (← c.self.view_is) at c.requires.order in
     numbers_left-less c.self.inside f.0 f.1 c.args.after c.loop-next.next c.in-Some.key c.in-Some.is c.loop-next.invariant
-    c.native_above-next-in-Some.result c.native_above-next-in-Some.ensures.number
+    c.referring_above-next-in-Some.result c.referring_above-next-in-Some.ensures.number
 
 pub loop-next-preserved : goal.loop-next-preserved
 loop-next-preserved c =
@@ -59,7 +61,7 @@ loop-next-preserved c =
     ∙ holder-numbered p c.self.invariant (keys-counted f.0 p c.self.invariant f.1) c.in-Some.key.0
     (key-there p f.0 f.1 c.args.after c.loop-next.next c.in-Some.key c.in-Some.is c.loop-next.invariant) in
     IsLooking-next p f.0 f.1 c.args.after c.loop-next.next c.in-Some.key c.in-Some.is c.loop-next.invariant
-    (sym tested ∙ c.if-holds_gray.false) c.native_above-next-in-Some.result c.native_above-next-in-Some.ensures.number c.native_above-next-in-Some.ensures.there
+    (sym tested ∙ c.if-holds_gray.false) c.referring_above-next-in-Some.result c.referring_above-next-in-Some.ensures.number c.referring_above-next-in-Some.ensures.there
 
 pub returns-clause-number : goal.returns-clause-number
 returns-clause-number c =
