@@ -111,7 +111,6 @@ wrapped-listed h d s (Some (name.Native k)) names natives a =
     go true = same-listed names natives (script_names h) a
     go false = subst (λ xs. AreListed (names ++ reflector k.0 ∷ []) xs (script_names h ++ reflector k.0 ∷ [])) (sym (append-nil natives))
         (AreListed-script names natives (script_names h) (reflector k.0) refl a)
-
 wrapped-listed h d s _ names natives a = same-listed names natives (script_names h) a
 
 -- a script object made goes last

@@ -97,7 +97,6 @@ two-in_range : {A B : Type 0} (P : A → Type 0) (Q : B → Type 0) (f : A → B
     ((t : List ℕ) → Has P (first t)) → ((t : List ℕ) → Has Q (second t)) →
     ((a : A) (b : B) → P a → Q b → InRange (f a b)) → ReadsInRange (of_two f first second)
 two-in_range {A} {B} P Q f first second p q i (t ∷ u ∷ []) = grind arith
-
 two-in_range {A} {B} P Q f first second p q i _ = tt
 
 -- a form of three
@@ -106,7 +105,6 @@ three-in_range : {A B C : Type 0} (P : A → Type 0) (Q : B → Type 0) (R : C �
     ((t : List ℕ) → Has P (first t)) → ((t : List ℕ) → Has Q (second t)) → ((t : List ℕ) → Has R (third t)) →
     ((a : A) (b : B) (c : C) → P a → Q b → R c → InRange (f a b c)) → ReadsInRange (of_three f first second third)
 three-in_range {A} {B} {C} P Q R f first second third p q r i (t ∷ u ∷ v ∷ []) = grind arith
-
 three-in_range {A} {B} {C} P Q R f first second third p q r i _ = tt
 
 -- a register in range

@@ -225,7 +225,6 @@ module _ (ds : List Name) (g : Heap) where
       go : (b : Bool) → Left (elim b [ true ↦ exposed h (Some (reflector k.0)) | false ↦ with_reflector h k.0 ])
       go true = leaves-exposed h (Some (reflector k.0)) (one-untouched ds (reflector k.0) hidden) d
       go false = leaves-with_reflector h k.0 out hidden d
-
   leaves-wrapped h _ keeps none d = d
 
   -- a command, where the next numbers are of no member

@@ -111,7 +111,6 @@ wrapped-suspected h candidates (Some (name.Native k)) w r s = go (has_reflector 
         IsSuspectedIn (elim b [ true ↦ exposed h (Some (reflector k.0)) | false ↦ with_reflector h k.0 ]) candidates
     go true q = exposed-suspected h candidates (Some (reflector k.0)) w s
     go false q = reflector_made-suspected h candidates k.0 w q s
-
 wrapped-suspected h candidates _ w r s = s
 
 -- Slots of script objects, flags and entries

@@ -78,5 +78,4 @@ wrapped-fresh owned h s (Some (name.Native k)) sound there f = go (has_reflector
     go : (b : Bool) → has_reflector h k.0 ≡ b → IsFreshIn (elim b [ true ↦ exposed h (Some (reflector k.0)) | false ↦ with_reflector h k.0 ]) s
     go true e = exposed-fresh owned h s (Some (reflector k.0)) sound f
     go false e = reflector_made-fresh owned h s k.0 sound (there (native k.0) (inl refl)) e f
-
 wrapped-fresh owned h s _ sound there f = f

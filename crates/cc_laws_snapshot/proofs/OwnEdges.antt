@@ -96,7 +96,6 @@ edges_in-targets h (name.Native k) ys w e = go (native_at h k.0) refl e
     go : (o : Option HeapNative) → native_at h k.0 ≡ o → option_map (λ n. targets (native_edges n)) o ≡ Some ys → HasTargets h (native k.0) ys
     go None f g = absurd (cc)
     go (Some n) f g = let same : targets (native_edges n) ≡ ys = cc in subst (HasTargets h (native k.0)) same (HasTargets-native h k.0 n w f)
-
 edges_in-targets h x ys w e = go (script_at h x) refl e
   where
     go : (o : Option HeapScript) → script_at h x ≡ o → option_map (λ o. targets (script_edges o)) o ≡ Some ys → HasTargets h x ys
