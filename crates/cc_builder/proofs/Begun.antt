@@ -16,7 +16,7 @@ use Rattle.cc_model.specs.Heap.{Heap, Buffered}
 use Rattle.cc_model.specs.Snapshot.{Mapping, untraversed}
 use Rattle.cc_model.specs.Units.{candidates_of, holders_of, mappings_of, members_of, first_names, new_node, begun}
 use Rattle.cc_model.specs.End.{some_are}
-use Rattle.cc_laws_heap.proofs.NameLists.{natives_in-natives}
+use Rattle.cc_laws_heap.proofs.Face.{natives_in-natives}
 use Rattle.cc_graph.specs.Shown.{Vertex}
 use Rattle.cc_heaps.specs.Keyed.{Keyed, IsInOrder}
 use Rattle.cc_builder.specs.Building.{Built, IsBuilt, vertex_names, node_with, nodes_of, reference_of, mapping_of, snapshot_of}

@@ -14,8 +14,7 @@ use Rattle.cc_names.specs.Names.{native, is_native, number_of, same_name}
 use Rattle.cc_names.proofs.NameTests.{same_name-exact}
 use Rattle.cc_model.specs.Heap.{Heap, HeapScript}
 use Rattle.cc_model.specs.WellFormed.{script_names}
-use Rattle.cc_laws_heap.proofs.Natives.{native_at-number}
-use Rattle.cc_laws_heap.proofs.NameLists.{same_name-sym}
+use Rattle.cc_laws_heap.proofs.Face.{native_at-number, same_name-sym}
 use Rattle.cc_counted.specs.declared.held.Held.{Held}
 use Rattle.cc_counted.specs.declared.held.Held.TheVariants as held
 use Rattle.cc_graph.specs.Shown.{Rooms, Shown, Vertex, Edge, Hyperedge, vertex, with_vertex}

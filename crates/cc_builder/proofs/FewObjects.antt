@@ -11,7 +11,7 @@ use Rattle.cc_names.specs.declared.name.Name.TheVariants as name
 use Rattle.cc_names.proofs.NameTests.{same_name-true, same_name-refl, same_name-exact}
 use Rattle.cc_model.specs.Heap.{Heap, HeapNative, HeapScript}
 use Rattle.cc_model.specs.WellFormed.{script_names}
-use Rattle.cc_laws_heap.proofs.ScriptNames.{script_names-named, scripts-once}
+use Rattle.cc_laws_heap.proofs.Face.{script_names-named, scripts-once}
 use Rattle.cc_graph.specs.Shown.{Vertex}
 use Rattle.cc_heaps.specs.Keyed.{Keyed, IsInOrder}
 use Rattle.cc_builder.specs.Building.{Built, IsBuilt, WasMade}

@@ -10,7 +10,7 @@ use Rattle.cc_names.specs.Names.{native, natives_in}
 use Rattle.cc_model.specs.Heap.{Heap, HeapNative, HeapScript, Buffered, native_at, suspect}
 use Rattle.cc_model.specs.WellFormed.{native_names}
 use Rattle.cc_model.specs.End.{give_back}
-use Rattle.cc_laws_heap.proofs.Natives.{named-found, native_at-named}
+use Rattle.cc_laws_heap.proofs.Face.{named-found, native_at-named}
 use Rattle.cc_counted.specs.declared.held.Held.{Held}
 use Rattle.cc_counted.specs.declared.held.Held.TheVariants as held
 use Rattle.cc_counted.specs.Counts.{number_or_none}

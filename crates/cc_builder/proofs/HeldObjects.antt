@@ -21,8 +21,7 @@ use Rattle.cc_model.specs.Checks.{slots_or_none}
 use Rattle.cc_model.specs.Heap.{Heap, HeapNative, HeapScript, native_at, script_at, is_gray_colour, is_gray_in}
 use Rattle.cc_model.specs.WellFormed.{IsWellFormed}
 use Rattle.cc_model.specs.Units.{is_noted}
-use Rattle.cc_laws_heap.proofs.Natives.{named-found, native_at-there}
-use Rattle.cc_laws_heap.proofs.ScriptNames.{script-named, scripts-once}
+use Rattle.cc_laws_heap.proofs.Face.{named-found, native_at-there, script-named, scripts-once}
 use Rattle.cc_counted.specs.declared.held.Held.{Held}
 use Rattle.cc_counted.specs.declared.held.Held.TheVariants as held
 use Rattle.cc_counted.specs.Counts.{heap_of, number_or_none, count_at, count_of}

@@ -14,7 +14,7 @@ use Rattle.cc_model.specs.Heap.{Heap, HeapNative, HeapScript, native_at, script_
 use Rattle.cc_model.specs.View.{native_edges, script_edges}
 use Rattle.cc_model.specs.WellFormed.{native_names}
 use Rattle.cc_model.specs.Units.{is_noted, to_note, targets, sample}
-use Rattle.cc_laws_heap.proofs.Natives.{native_at-named}
+use Rattle.cc_laws_heap.proofs.Face.{native_at-named}
 use Rattle.cc_counted.specs.declared.held.Held.{Held}
 use Rattle.cc_counted.specs.declared.held.Held.TheVariants as held
 use Rattle.cc_script.specs.Objects.{Object, object_at}

@@ -8,9 +8,7 @@ use Rattle.cc_model.specs.Snapshot.{Snapshot}
 use Rattle.cc_model.specs.Units.{begun, with_empty_buffer}
 use Rattle.cc_model.specs.End.{give_back}
 use Rattle.cc_laws_snapshot.specs.Kinds.{IsFreshIn}
-use Rattle.cc_laws_snapshot.proofs.Beginning.{begun-fresh}
-use Rattle.cc_laws_snapshot.proofs.GivingBack.{begin-suspected, give_back-suspected, given_back, give_back-buffer}
-use Rattle.cc_laws_snapshot.proofs.NodeUnit.{after_node-fresh}
+use Rattle.cc_laws_snapshot.proofs.Face.{after_node-fresh, begin-suspected, begun-fresh, give_back-buffer, give_back-suspected, given_back}
 use Rattle.cc_heaps.specs.Keyed.{Keyed, IsInOrder, changed_to}
 use Rattle.cc_heaps.specs.Standing.{StillStands, KeepsColours}
 use Rattle.cc_heaps.proofs.KeysKept.{KeepsKeys-changed}

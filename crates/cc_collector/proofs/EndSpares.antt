@@ -20,11 +20,9 @@ use Rattle.cc_model.specs.End.{take_away}
 use Rattle.cc_model.specs.StandsFor.{shape_at}
 use Rattle.cc_laws_heap.specs.Sound.{IsSound}
 use Rattle.cc_laws_heap.specs.Ending.{TakesAway, freed_in, freed_numbers}
-use Rattle.cc_laws_heap.proofs.Leaving.{Leave, is_left, numbers_there, numbers_there-named, Leave-before, Leave-not_freed}
-use Rattle.cc_laws_heap.proofs.TakingAway.{take_away-sound, taken-emptied, others-kept, take_away-leaves, take_away-takes}
-use Rattle.cc_laws_heap.proofs.References.{native-there}
-use Rattle.cc_laws_snapshot.proofs.ReachedStays.{reached-there, reached-kept, native_edges-alike, native-edge}
-use Rattle.cc_laws_run.proofs.QuietTaken.{emptied-none, take_away-keeps}
+use Rattle.cc_laws_heap.proofs.Face.{Leave, Leave-before, Leave-not_freed, is_left, native-there, numbers_there, numbers_there-named, others-kept, take_away-leaves, take_away-sound, take_away-takes, taken-emptied}
+use Rattle.cc_laws_snapshot.proofs.Face.{native-edge, native_edges-alike, reached-kept, reached-there}
+use Rattle.cc_laws_run.proofs.Face.{emptied-none, take_away-keeps}
 use Rattle.cc_gc.specs.Sparing.{KeepsWhatIsReached, SparesWhatIsReached}
 use Rattle.cc_gc.proofs.Sparing.{HoldsNoMore, no_more-reached, native-shape, script-shape, unreached-before, unreached-after}
 

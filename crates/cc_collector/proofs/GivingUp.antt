@@ -5,7 +5,7 @@ use Rattle.cc_model.specs.End.{refused}
 use Rattle.cc_model.specs.Collecting.{Machine}
 use Rattle.cc_laws_run.specs.Memory.{with_memory}
 use Rattle.cc_laws_run.specs.GivenUp.{IsGivenUp}
-use Rattle.cc_laws_run.proofs.GivingUp.{slice-gives_up, collect-gives_up}
+use Rattle.cc_laws_run.proofs.Face.{collect-gives_up, slice-gives_up}
 use Rattle.cc_collector.specs.Collected.{IsSliced, IsCollected, IsCollectGivenUp}
 
 -- A slice

@@ -8,7 +8,7 @@ use Rattle.cc_names.specs.Names.{native, is_native}
 use Rattle.cc_model.specs.WellFormed.{native_names, script_names}
 use Rattle.cc_model.specs.Fresh.{IsNode}
 use Rattle.cc_laws_snapshot.specs.Kinds.{IsFreshIn}
-use Rattle.cc_laws_snapshot.proofs.SoundView.{named-there}
+use Rattle.cc_laws_snapshot.proofs.Face.{named-there}
 use Rattle.cc_counted.specs.declared.held.Held.{Held}
 use Rattle.cc_counted.specs.declared.held.Held.TheVariants as held
 use Rattle.cc_graph.specs.Shown.{Vertex}

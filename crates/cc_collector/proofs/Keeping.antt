@@ -17,12 +17,10 @@ use Rattle.cc_model.specs.End.{went_on, at_end, refused, UnitDone, unit, may_be_
 use Rattle.cc_model.proofs.Tellings.{Tells-nil}
 use Rattle.cc_laws_heap.specs.Ending.{TakesAway}
 use Rattle.cc_laws_heap.specs.Rounds.{is_not_among, FreesNames}
-use Rattle.cc_laws_heap.proofs.CollectedColours.{collect_scripts-frees}
-use Rattle.cc_laws_heap.proofs.TakingAway.{take_away-takes}
-use Rattle.cc_laws_snapshot.proofs.WhiteNatives.{white_natives-there, white_natives-unreached}
-use Rattle.cc_laws_snapshot.proofs.GivingBack.{give_back-buffer}
+use Rattle.cc_laws_heap.proofs.Face.{collect_scripts-frees, take_away-takes}
+use Rattle.cc_laws_snapshot.proofs.Face.{give_back-buffer, white_natives-there, white_natives-unreached}
 use Rattle.cc_laws_run.specs.Running.{IsFreshNow}
-use Rattle.cc_laws_run.proofs.UnitLawful.{traversed-none}
+use Rattle.cc_laws_run.proofs.Face.{traversed-none}
 use Rattle.cc_graph.specs.Shown.{Shown}
 use Rattle.cc_heaps.specs.Keyed.{Keyed, changed_to, left_with}
 use Rattle.cc_heaps.specs.Changes.{KeepsKeys}

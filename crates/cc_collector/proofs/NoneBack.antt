@@ -17,11 +17,9 @@ use Rattle.cc_model.specs.Snapshot.{NodeState, untraversed, gone, traversed, Nod
 use Rattle.cc_model.specs.Units.{begun, with_empty_buffer}
 use Rattle.cc_model.specs.Fresh.{IsFresh, IsNode, IsLiving, MemberIsNode, node}
 use Rattle.cc_laws_heap.specs.Sound.{IsSound}
-use Rattle.cc_laws_heap.proofs.ScriptNames.{script_names-named}
+use Rattle.cc_laws_heap.proofs.Face.{script_names-named}
 use Rattle.cc_laws_snapshot.specs.Kinds.{IsFreshIn}
-use Rattle.cc_laws_snapshot.proofs.Beginning.{begun-fresh, node-cases}
-use Rattle.cc_laws_snapshot.proofs.SoundView.{living-native, named-there}
-use Rattle.cc_laws_snapshot.proofs.States.{gone-not_traversed}
+use Rattle.cc_laws_snapshot.proofs.Face.{begun-fresh, gone-not_traversed, living-native, named-there, node-cases}
 use Rattle.cc_heaps.specs.Standing.{KeepsFresh}
 
 module _ (h : Heap) (sound : IsSound [] h) (coloured : HasColourInvariant (view h)) (k : ℕ) (least : 1 ≤ k) (made : k ≤ h.natives_made)

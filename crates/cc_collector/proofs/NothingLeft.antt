@@ -11,14 +11,10 @@ use Rattle.cc_model.specs.Snapshot.{Snapshot}
 use Rattle.cc_model.specs.Units.{first_untraversed}
 use Rattle.cc_model.specs.End.{Progress, went_on, at_end, refused, abandoned, node_or_end, granted, unit}
 use Rattle.cc_model.specs.Collecting.{Machine, UnitsDone, no_units, next_answer, one_unit, enough_units, to_the_end, collect, gc}
-use Rattle.cc_laws_heap.proofs.Kept.{with_buffer}
-use Rattle.cc_laws_heap.proofs.Marking.{as_marked}
-use Rattle.cc_laws_heap.proofs.CollectedColours.{collect_scripts-colours, collect_scripts-unmarked}
-use Rattle.cc_laws_snapshot.proofs.GivingBack.{give_back-buffer, given_back}
+use Rattle.cc_laws_heap.proofs.Face.{as_marked, collect_scripts-colours, collect_scripts-unmarked, with_buffer}
+use Rattle.cc_laws_snapshot.proofs.Face.{give_back-buffer, given_back}
 use Rattle.cc_laws_run.specs.Memory.{with_memory}
-use Rattle.cc_laws_run.proofs.UnitLawful.{unit-cases}
-use Rattle.cc_laws_run.proofs.QuietUnits.{collect-none}
-use Rattle.cc_laws_run.proofs.HoldingUnits.{units_done-keep}
+use Rattle.cc_laws_run.proofs.Face.{collect-none, unit-cases, units_done-keep}
 use Rattle.cc_heaps.specs.Keyed.{Keyed}
 use Rattle.cc_builder.specs.Building.{Built}
 use Rattle.cc_collector.specs.Kept.{RunsIn, machine_of}

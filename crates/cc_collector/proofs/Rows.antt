@@ -9,7 +9,7 @@ use Rattle.cc_model.specs.End.{Progress, went_on, at_end, refused, UnitDone, uni
 use Rattle.cc_model.specs.Collecting.{Machine, UnitsDone, no_units, one_unit, units_done, next_answer, later_answers, slice, collect, gc, to_the_end, enough_units, finish_running, unless_stopped, then_scripts}
 use Rattle.cc_model.proofs.UnitsEnd.{units_done-done, units_done-to_the_end}
 use Rattle.cc_laws_run.specs.Memory.{with_memory}
-use Rattle.cc_laws_run.proofs.UnitLawful.{unit-cases}
+use Rattle.cc_laws_run.proofs.Face.{unit-cases}
 use Rattle.cc_collector.specs.Collected.{counted_one, units_counted}
 use Rattle.cc_collector.specs.Units.{units_came, IsUnit, HasGoneOn, HasStopped}
 

@@ -14,15 +14,11 @@ use Rattle.cc_model.specs.End.{at_end, refused}
 use Rattle.cc_model.specs.Collecting.{Machine, collect, gc}
 use Rattle.cc_model.proofs.Tellings.{TellsEvents-trans}
 use Rattle.cc_laws_heap.specs.Sound.{IsSound}
-use Rattle.cc_laws_heap.proofs.CollectedColours.{collect_scripts-sound}
-use Rattle.cc_laws_heap.proofs.ScriptNames.{script_names-named}
-use Rattle.cc_laws_heap.proofs.References.{native-there}
-use Rattle.cc_laws_snapshot.proofs.ReachedStays.{IsTidy, reached-there}
-use Rattle.cc_laws_snapshot.proofs.SoundView.{script-place}
+use Rattle.cc_laws_heap.proofs.Face.{collect_scripts-sound, native-there, script_names-named}
+use Rattle.cc_laws_snapshot.proofs.Face.{IsTidy, reached-there, script-place}
 use Rattle.cc_laws_run.specs.Doomed.{IsSuspectedNow}
 use Rattle.cc_laws_run.specs.Memory.{with_memory}
-use Rattle.cc_laws_run.proofs.QuietRounds.{collected-reached}
-use Rattle.cc_laws_run.proofs.QuietUnits.{gc-collects, gc-none, collect-tidy}
+use Rattle.cc_laws_run.proofs.Face.{collect-tidy, collected-reached, gc-collects, gc-none}
 use Rattle.cc_heaps.specs.Keyed.{Keyed}
 use Rattle.cc_heaps.specs.Changes.{KeepsKeys}
 use Rattle.cc_heaps.specs.Keeping.{KeepsHeaps}

@@ -18,13 +18,10 @@ use Rattle.cc_model.specs.Listed.{census_order, after_event}
 use Rattle.cc_model.specs.Lawful.{MayBe, EachMayBe}
 use Rattle.cc_model.specs.Collecting.{slice, collect, gc}
 use Rattle.cc_model.specs.Run.{census_names}
-use Rattle.cc_laws_heap.proofs.ScriptNames.{script_names-named}
-use Rattle.cc_laws_snapshot.proofs.SoundView.{native-name_of}
+use Rattle.cc_laws_heap.proofs.Face.{script_names-named}
+use Rattle.cc_laws_snapshot.proofs.Face.{native-name_of}
 use Rattle.cc_laws_run.specs.Memory.{with_memory}
-use Rattle.cc_laws_run.proofs.UnitLawful.{RunsOn}
-use Rattle.cc_laws_run.proofs.UnitsLawful.{slice-lawful, collect-lawful}
-use Rattle.cc_laws_run.proofs.ScriptsLawful.{gc-lawful}
-use Rattle.cc_laws_run.proofs.Listing.{filter-first, filter-second}
+use Rattle.cc_laws_run.proofs.Face.{RunsOn, collect-lawful, filter-first, filter-second, gc-lawful, slice-lawful}
 use Rattle.cc_heaps.specs.Keyed.{Keyed}
 use Rattle.cc_builder.specs.Building.{Built}
 use Rattle.cc_collector.specs.Kept.{RunsIn, machine_of}

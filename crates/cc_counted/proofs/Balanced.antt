@@ -10,11 +10,7 @@ use Rattle.cc_model.specs.Cascade.{at_rest}
 use Rattle.cc_model.specs.WellFormed.{native_names}
 use Rattle.cc_model.specs.Counts.{refs_to, slots_of_natives, times}
 use Rattle.cc_laws_heap.specs.Balance.{HasDistinctNumbers, waiting, living, IsBalanced, count_of, has_place, places}
-use Rattle.cc_laws_heap.proofs.Natives.{native_at-there, native_at-number, native_at-named, native_at-member, named-found}
-use Rattle.cc_laws_heap.proofs.References.{times-among, times-some}
-use Rattle.cc_laws_heap.proofs.Counted.{IsCounted-referred, IsCounted-owned}
-use Rattle.cc_laws_heap.proofs.Cascades.{one_at_zero-above, one_above_zero-above, above-one_at_zero}
-use Rattle.cc_laws_heap.proofs.GiveUp.{living-one}
+use Rattle.cc_laws_heap.proofs.Face.{IsCounted-owned, IsCounted-referred, above-one_at_zero, living-one, named-found, native_at-member, native_at-named, native_at-number, native_at-there, one_above_zero-above, one_at_zero-above, times-among, times-some}
 use Rattle.cc_counted.specs.Counts.{Counts, the_number, heap_of}
 use Rattle.cc_counted.specs.Owning.{AreOwned}
 use Rattle.cc_counted.specs.Lists.{Lists, keyed, counts_of, draining_of, IsPlaced}

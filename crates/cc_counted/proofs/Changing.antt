@@ -9,7 +9,7 @@ use Rattle.std.proofs.lemmas.Simd.{map-map}
 use Rattle.cc_lists.specs.Members.{Among}
 use Rattle.cc_model.specs.Heap.{HeapNative}
 use Rattle.cc_lists.proofs.ListWrites.{map-agree}
-use Rattle.cc_laws_heap.proofs.Natives.{changed_at}
+use Rattle.cc_laws_heap.proofs.Face.{changed_at}
 use Rattle.cc_purple.specs.Marks.{Marked}
 use Rattle.cc_counted.specs.declared.held.Held.{Held}
 use Rattle.cc_counted.specs.Counts.{no_counts, the_number, is_live}

@@ -8,8 +8,7 @@ use Rattle.cc_model.specs.Cascade.{Draining, give_up, free_front, drain, at_rest
 use Rattle.cc_model.proofs.Tellings.{Tells-nil, TellsEvents-trans}
 use Rattle.cc_model.proofs.Draining.{drain-done}
 use Rattle.cc_laws_heap.specs.Balance.{IsBalanced}
-use Rattle.cc_laws_heap.proofs.FreeFront.{IsBalanced-free_front}
-use Rattle.cc_laws_heap.proofs.Drain.{free_front-fewer}
+use Rattle.cc_laws_heap.proofs.Face.{IsBalanced-free_front, free_front-fewer}
 use Rattle.cc_counted.specs.Counts.{the_number, heap_of, left_with}
 use Rattle.cc_counted.specs.Lists.{Lists, keyed, counts_of, draining_of, IsPlaced, LeavesCells}
 use Rattle.cc_counted.specs.Steps.{GivesUp, FreesFront, Drains, ComesTo}

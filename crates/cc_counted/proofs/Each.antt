@@ -6,7 +6,7 @@ use Rattle.cc_lists.proofs.Members.{Among-contains}
 use Rattle.cc_names.specs.Names.{native}
 use Rattle.cc_model.specs.declared.item.Event.{Event}
 use Rattle.cc_model.specs.Cascade.{give_up, give_up_each}
-use Rattle.cc_laws_heap.proofs.GiveUp.{IsBalanced-give_up_each}
+use Rattle.cc_laws_heap.proofs.Face.{IsBalanced-give_up_each}
 use Rattle.cc_laws_heap.specs.Balance.{IsBalanced}
 use Rattle.cc_counted.specs.declared.held.Held.{Held}
 use Rattle.cc_counted.specs.declared.held.Held.TheVariants as held

@@ -9,11 +9,8 @@ use Rattle.cc_model.specs.Heap.{Heap, HeapNative, Outcome, silently, change_nati
 use Rattle.cc_model.specs.Cascade.{Draining, give_up, drain, at_rest, drained, cascade}
 use Rattle.cc_model.specs.End.{empty_slot}
 use Rattle.cc_model.proofs.Tellings.{Tells-nil}
-use Rattle.cc_laws_heap.proofs.Natives.{native_at-there, native_at-number}
-use Rattle.cc_laws_heap.proofs.References.{times-cons_same}
-use Rattle.cc_laws_heap.proofs.Counted.{count_at-found}
+use Rattle.cc_laws_heap.proofs.Face.{count_at-found, drained-balanced, native_at-number, native_at-there, times-cons_same}
 use Rattle.cc_laws_heap.specs.Balance.{IsBalanced}
-use Rattle.cc_laws_heap.proofs.Drain.{drained-balanced}
 use Rattle.cc_counted.specs.declared.held.Held.{Held}
 use Rattle.cc_counted.specs.declared.held.Held.TheVariants as held
 use Rattle.cc_counted.specs.Counts.{number_at, number_or_none, the_number, name_of, is_live, numbers_held, native_held, heap_of}

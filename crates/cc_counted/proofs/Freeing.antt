@@ -10,9 +10,8 @@ use Rattle.cc_model.specs.Telling.{Telling, TellsEvents}
 use Rattle.cc_model.specs.Heap.{native_at}
 use Rattle.cc_model.specs.Cascade.{Draining, give_up_each, natives_of_slots, told_free, without_native, free_front}
 use Rattle.cc_model.specs.Counts.{times}
-use Rattle.cc_laws_heap.proofs.References.{refs_to-removed}
+use Rattle.cc_laws_heap.proofs.Face.{IsBalanced-removed, refs_to-removed, without_native-give_up_each}
 use Rattle.cc_laws_heap.specs.Balance.{IsBalanced, count_of}
-use Rattle.cc_laws_heap.proofs.FreeFront.{IsBalanced-removed, without_native-give_up_each}
 use Rattle.cc_counted.specs.declared.held.Held.{Held}
 use Rattle.cc_counted.specs.Counts.{the_number, is_live}
 use Rattle.cc_counted.specs.Lists.{Placed, Lists, cell_at, without_count, keyed, shown, numbers_in, draining_of, IsPlaced, taken_out, LeavesCells}

@@ -5,7 +5,7 @@ use Rattle.cc_lists.proofs.Members.{Among-append}
 use Rattle.cc_model.specs.declared.item.Event.{Event}
 use Rattle.cc_model.specs.Heap.{HeapNative, Buffered, empty_heap}
 use Rattle.cc_model.specs.Cascade.{Draining, fallen, given_up, give_up}
-use Rattle.cc_laws_heap.proofs.GiveUp.{lower_native}
+use Rattle.cc_laws_heap.proofs.Face.{lower_native}
 use Rattle.cc_counted.specs.Counts.{no_limits, the_number}
 use Rattle.cc_counted.specs.Lists.{Placed, Lists, cell_at, with_one_less, keyed, marked_number, draining_of, IsPlaced, suspected, waiting}
 use Rattle.cc_counted.proofs.Places.{native_at-cell, the_number-cell}

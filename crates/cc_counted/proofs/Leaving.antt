@@ -3,7 +3,7 @@ use Rattle.std.proofs.Common.{◌≡◌, ℕ, zero, suc, List, [], ◌∷◌, ma
 use Rattle.std.proofs.Math.ListN.{get_or-map}
 use Rattle.std.proofs.lemmas.List.{ext_get_or, length-map}
 use Rattle.cc_model.specs.Heap.{Heap, HeapNative, native_at}
-use Rattle.cc_laws_heap.proofs.Natives.{native_at-there, native_at-number}
+use Rattle.cc_laws_heap.proofs.Face.{native_at-number, native_at-there}
 use Rattle.cc_counted.specs.Counts.{number_at, heap_of, key_left, reflectors_left, left_with}
 use Rattle.cc_counted.specs.Lists.{Placed, Lists, cell_at, reflector_placed, without_count, keyed, shown, counts_of, IsPlaced, LeavesCells, LeavesKeys}
 use Rattle.cc_counted.proofs.Places.{cell_number, number_at-cells, number_at-cell, number_at-found, one_key, native_at-cell, native-key}

@@ -8,8 +8,7 @@ use Rattle.cc_model.specs.Slots.{empty_slots}
 use Rattle.cc_model.specs.Heap.{HeapNative, Buffered}
 use Rattle.cc_model.specs.Heap as heap
 use Rattle.cc_model.specs.WellFormed.{IsRising}
-use Rattle.cc_laws_heap.proofs.Natives.{native_at-named}
-use Rattle.cc_laws_heap.proofs.Making.{IsRising-push}
+use Rattle.cc_laws_heap.proofs.Face.{IsRising-push, native_at-named}
 use Rattle.cc_counted.specs.declared.held.Held.{Held}
 use Rattle.cc_counted.specs.Counts.{number_at, number_or_none, the_number, name_of, is_live, heap_of}
 use Rattle.cc_counted.specs.Owning.{HasKeys, Makes}

@@ -19,14 +19,7 @@ use Rattle.cc_model.specs.Cascade.{add_ref, at_rest}
 use Rattle.cc_model.specs.WellFormed.{native_names}
 use Rattle.cc_model.specs.Counts.{slots_of_natives, times}
 use Rattle.cc_laws_heap.specs.Balance.{waiting, living, IsBalanced, has_place, places}
-use Rattle.cc_laws_heap.proofs.Natives.{changed_at, native_names-change, native_at-named, native_at-change_same, native_at-change_other, HasDistinctNumbers-change}
-use Rattle.cc_laws_heap.proofs.HoldsTheSame.{raise_native}
-use Rattle.cc_laws_heap.proofs.References.{times-cons_same, times-cons_other, times-among}
-use Rattle.cc_laws_heap.proofs.Owning.{IsCounted-add_ref}
-use Rattle.cc_laws_heap.proofs.Cascades.{one_at_zero-above, one_above_zero-above, above-one_at_zero}
-use Rattle.cc_laws_heap.proofs.Buffer.{places-with_mark_same, places-with_mark_other}
-use Rattle.cc_laws_heap.proofs.GiveUp.{living-one}
-use Rattle.cc_laws_heap.proofs.Making.{with_mark-cases, places-with_mark, contents-empty}
+use Rattle.cc_laws_heap.proofs.Face.{HasDistinctNumbers-change, IsCounted-add_ref, above-one_at_zero, changed_at, contents-empty, living-one, native_at-change_other, native_at-change_same, native_at-named, native_names-change, one_above_zero-above, one_at_zero-above, places-with_mark, places-with_mark_other, places-with_mark_same, raise_native, times-among, times-cons_other, times-cons_same, with_mark-cases}
 use Rattle.cc_counted.specs.declared.held.Held.{Held}
 use Rattle.cc_counted.specs.Counts.{Counts, number_at, the_number, is_live, numbers_held, heap_of, with_heap, with_reflector}
 use Rattle.cc_counted.specs.Owning.{AreOwned, Transfers, Makes}

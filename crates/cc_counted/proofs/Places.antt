@@ -10,8 +10,7 @@ use Rattle.cc_lists.proofs.Counting.{count_by-map}
 use Rattle.cc_lists.proofs.ListWrites.{only-member}
 use Rattle.cc_model.specs.Heap.{HeapNative, native_at}
 use Rattle.cc_model.specs.WellFormed.{IsRising}
-use Rattle.cc_laws_heap.proofs.Rising.{IsRising-once}
-use Rattle.cc_laws_heap.proofs.Natives.{IsRising-distinct, native_at-member}
+use Rattle.cc_laws_heap.proofs.Face.{IsRising-distinct, IsRising-once, native_at-member}
 use Rattle.cc_laws_heap.specs.Balance.{HasDistinctNumbers}
 use Rattle.cc_counted.specs.Counts.{number_at, reflector_at, number_or_none, the_number, heap_of}
 use Rattle.cc_counted.specs.Lists.{Placed, Lists, cell_at, reflector_placed, keyed, shown, shown_at, counts_of, IsPlaced}

@@ -5,7 +5,7 @@ use Rattle.std.proofs.lemmas.Bool.Decides.{eqb_tells}
 use Rattle.std.proofs.lemmas.List.{map-set, get_or_push, get_or_append_left}
 use Rattle.cc_lists.proofs.ListWrites.{map-agree}
 use Rattle.cc_model.specs.Heap.{Heap, HeapNative, native_at, set_preserved}
-use Rattle.cc_laws_heap.proofs.Natives.{native_at-change_same, native_at-change_other}
+use Rattle.cc_laws_heap.proofs.Face.{native_at-change_other, native_at-change_same}
 use Rattle.cc_counted.specs.Counts.{Counts, the_number, heap_of, with_heap, key_left, reflectors_left, left_with, with_reflector, preserved_at, preserved_of, preserved_reflector, reflector_at, references_of, slots_of}
 use Rattle.cc_counted.specs.Lists.{Placed, Lists, cell_at, with_flag, reflected_by, reflector_placed, marked_number, counts_of, IsPlaced}
 use Rattle.cc_counted.proofs.Places.{reflector_at-cells, the_number-cell, native_at-cell}

@@ -11,8 +11,7 @@ use Rattle.cc_model.specs.Heap.{Heap, HeapNative, native_at, change_native, with
 use Rattle.cc_model.specs.Counts.{times}
 use Rattle.cc_laws_heap.specs.Sound.{numbers_of}
 use Rattle.cc_laws_heap.specs.Balance.{waiting, living, IsBalanced, count_of, has_number}
-use Rattle.cc_laws_heap.proofs.Natives.{native_at-change_same, native_at-change_other, HasDistinctNumbers-change}
-use Rattle.cc_laws_heap.proofs.Owning.{times-numbers_of}
+use Rattle.cc_laws_heap.proofs.Face.{HasDistinctNumbers-change, native_at-change_other, native_at-change_same, times-numbers_of}
 use Rattle.cc_counted.specs.declared.held.Held.{Held}
 use Rattle.cc_counted.specs.declared.held.Held.TheVariants as held
 use Rattle.cc_counted.specs.Counts.{Counts, number_at, number_or_none, the_number, name_of, is_live, numbers_held, heap_of}

@@ -7,8 +7,7 @@ use Rattle.cc_model.specs.Heap.{native_at}
 use Rattle.cc_lists.specs.Members.{Among}
 use Rattle.cc_lists.proofs.Members.{Among-map}
 use Rattle.cc_model.specs.Counts.{times}
-use Rattle.cc_laws_heap.proofs.References.{times-cons_same, times-some}
-use Rattle.cc_laws_heap.proofs.Cascades.{one_at_zero-above}
+use Rattle.cc_laws_heap.proofs.Face.{one_at_zero-above, times-cons_same, times-some}
 use Rattle.cc_laws_heap.specs.Balance.{IsBalanced, count_of, waiting as waits}
 use Rattle.cc_purple.specs.Marks.{with_mark, without_key}
 use Rattle.cc_counted.specs.Counts.{the_number, heap_of}

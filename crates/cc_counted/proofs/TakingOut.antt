@@ -15,8 +15,7 @@ use Rattle.cc_model.specs.Heap.{HeapNative, native_at}
 use Rattle.cc_model.specs.Cascade.{Draining, told_free, without_native}
 use Rattle.cc_model.specs.Counts.{times, refs_to}
 use Rattle.cc_model.specs.WellFormed.{IsRising}
-use Rattle.cc_laws_heap.proofs.Rising.{IsRising-filter}
-use Rattle.cc_laws_heap.proofs.References.{times-some, times-cons_same, refs_to-slot}
+use Rattle.cc_laws_heap.proofs.Face.{IsRising-filter, refs_to-slot, times-cons_same, times-some}
 use Rattle.cc_laws_heap.specs.Balance.{one_above_zero, one_at_zero, waiting as waits, living, IsBalanced, count_of, has_place, places}
 use Rattle.cc_purple.specs.Marks.{Marked}
 use Rattle.cc_counted.specs.declared.held.Held.{Held}

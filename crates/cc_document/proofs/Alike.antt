@@ -11,9 +11,7 @@ use Rattle.cc_names.specs.Names.{object}
 use Rattle.cc_model.specs.Slots.{Slots}
 use Rattle.cc_model.specs.Checks.{slots_or_none, native_of}
 use Rattle.cc_model.specs.Graph.{Graph, GraphNative, GraphScript, plain_object, numbered, native_in, script_in, slots_of_script, objects_of, register, set_native, set_slot, with_slot, as_preserved, as_wrapped, with_script_slot, slots_or_blank, with_script, wrapped, preserve}
-use Rattle.cc_laws_heap.proofs.GraphWrites.{set_native-is, set_script-is}
-use Rattle.cc_laws_heap.proofs.GraphParts.{with_natives, with_scripts}
-use Rattle.cc_laws_heap.proofs.Numbered.{change_numbered, numbered-change, numbered-change_other, numbered-push_other, numbered-next, numbered-push}
+use Rattle.cc_laws_heap.proofs.Face.{change_numbered, numbered-change, numbered-change_other, numbered-next, numbered-push, numbered-push_other, set_native-is, set_script-is, with_natives, with_scripts}
 use Rattle.cc_document.specs.Words.{element, element_of, slot_of, spoken_of}
 
 -- TWO GRAPHS READ ALIKE, but for registers, and for the element of which one closure speaks

@@ -8,9 +8,7 @@ use Rattle.cc_model.specs.Entries.{value_in}
 use Rattle.cc_model.specs.Checks.{value_at}
 use Rattle.cc_model.specs.Graph.{Graph, GraphNative, native_in, objects_of, register, source, set_slot}
 use Rattle.cc_model.specs.WellMade.{IsWellMade}
-use Rattle.cc_laws_heap.proofs.Holds.{OfSome}
-use Rattle.cc_laws_heap.proofs.GraphParts.{is_some-found}
-use Rattle.cc_laws_heap.proofs.GraphReads.{MadeNative, native_register-made}
+use Rattle.cc_laws_heap.proofs.Face.{MadeNative, OfSome, is_some-found, native_register-made}
 use Rattle.cc_document.specs.Words.{places, element, element_of, slot_of, spoken_of, parent_of, child_of}
 use Rattle.cc_document.specs.Changes.{IsAppended, IsRemoved, SameData}
 use Rattle.cc_document.specs.Shown.{IsDocument, written, appended, removed}

@@ -11,7 +11,7 @@ use Rattle.cc_model.specs.declared.command.Command.TheVariants.{Native}
 use Rattle.cc_model.specs.Slots.{empty_slots}
 use Rattle.cc_model.specs.Checks.{refusal_of, native_of}
 use Rattle.cc_model.specs.Graph.{Graph, GraphNative, native_in, objects_of, set_register, with_native, changed, unless_refused}
-use Rattle.cc_laws_heap.proofs.Numbered.{numbered-next, numbered-push, numbered-push_other}
+use Rattle.cc_laws_heap.proofs.Face.{numbered-next, numbered-push, numbered-push_other}
 use Rattle.cc_document.specs.Words.{element, element_of, element_slots, slot_of, spoken_of}
 use Rattle.cc_document.specs.Changes.{IsAsBefore, IsAssigned}
 use Rattle.cc_document.specs.Shown.{made_in}

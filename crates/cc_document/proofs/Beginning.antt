@@ -11,8 +11,7 @@ use Rattle.cc_model.specs.View.{view}
 use Rattle.cc_model.specs.Suspected.{IsSuspected}
 use Rattle.cc_model.specs.StandsFor.{StandsFor}
 use Rattle.cc_model.specs.Graph.{weak_map, empty_graph, objects_of, register, set_register, with_script, changed, unless_refused, step}
-use Rattle.cc_laws_heap.proofs.GraphCommands.{empty-well}
-use Rattle.cc_laws_heap.proofs.Numbered.{numbered-nothing}
+use Rattle.cc_laws_heap.proofs.Face.{empty-well, numbered-nothing}
 use Rattle.cc_heaps.specs.Keyed.{Keyed, IsInOrder}
 use Rattle.cc_heaps.specs.Standing.{KeepsColours, KeepsSuspected, StandsAfter}
 use Rattle.cc_builder.specs.Building.{Built}

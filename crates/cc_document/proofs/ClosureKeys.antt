@@ -16,7 +16,7 @@ use Rattle.cc_model.specs.Entries.{value_in}
 use Rattle.cc_model.specs.Checks.{Objects, native_of, reflector_of, value_at}
 use Rattle.cc_model.specs.WellFormed.{script_names}
 use Rattle.cc_model.specs.Heap.{objects_of, register}
-use Rattle.cc_laws_heap.proofs.EntryLists.{found-among}
+use Rattle.cc_laws_heap.proofs.Face.{found-among}
 use Rattle.cc_counted.specs.Counts.{number_or_none, reflector_at}
 use Rattle.cc_script.specs.Objects.{Object, is_there, name_at}
 use Rattle.cc_script.specs.Objects as objects

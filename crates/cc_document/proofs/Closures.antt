@@ -10,9 +10,7 @@ use Rattle.cc_model.specs.Entries.{Entry, value_in, with_entry}
 use Rattle.cc_model.specs.Checks.{refusal_of, native_of, reflector_of, value_at}
 use Rattle.cc_model.specs.Graph.{Graph, GraphNative, plain_object, numbered, native_in, script_in, objects_of, register, set_register, set_slot, set_entry, with_script, wrapped, preserve, changed, unless_refused}
 use Rattle.cc_model.specs.WellMade.{IsWellMade, was_made}
-use Rattle.cc_laws_heap.proofs.Holds.{OfSome, contents-at}
-use Rattle.cc_laws_heap.proofs.EntryLists.{found-among}
-use Rattle.cc_laws_heap.proofs.Numbered.{numbered-next, numbered-push}
+use Rattle.cc_laws_heap.proofs.Face.{OfSome, contents-at, found-among, numbered-next, numbered-push}
 use Rattle.cc_document.specs.Words.{element, element_of, slot_of, spoken_of}
 use Rattle.cc_document.specs.Changes.{IsAsBefore, IsHeard, HasData}
 use Rattle.cc_document.specs.Shown.{IsDocument, HasClosure, HasNewClosure, written, wrapping, without, making_closure, closing, entering, closed_over, entered}

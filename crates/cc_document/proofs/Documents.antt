@@ -12,8 +12,7 @@ use Rattle.cc_model.specs.Slots.{empty_slots}
 use Rattle.cc_model.specs.Entries.{Entry, with_entry, without_entry}
 use Rattle.cc_model.specs.Checks.{refusal_of}
 use Rattle.cc_model.specs.Graph.{Graph, GraphNative, GraphScript, plain_object, weak_map, numbered, native_in, script_in, objects_of, set_register, set_native, set_script, set_slot, with_slot, with_reflector_slot, as_preserved, as_wrapped, with_script_slot, with_native, with_script, wrapped, preserve, set_entry, changed, unless_refused}
-use Rattle.cc_laws_heap.proofs.GraphWrites.{set_native-is, set_script-is}
-use Rattle.cc_laws_heap.proofs.Numbered.{change_numbered, numbered-change, numbered-change_other, numbered-push_old, numbered-push_cases}
+use Rattle.cc_laws_heap.proofs.Face.{change_numbered, numbered-change, numbered-change_other, numbered-push_cases, numbered-push_old, set_native-is, set_script-is}
 use Rattle.cc_document.specs.Words.{element_slots}
 use Rattle.cc_document.specs.Shown.{IsDocument, made_in, without, making_closure}
 

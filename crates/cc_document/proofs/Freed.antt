@@ -12,10 +12,7 @@ use Rattle.cc_model.specs.End.{slots_now}
 use Rattle.cc_model.specs.Effects.{hold_native, make_native, with_native}
 use Rattle.cc_model.specs.WellFormed.{IsWellFormed, native_names, script_names, names_there}
 use Rattle.cc_laws_heap.specs.Sound.{IsSound, numbers_of}
-use Rattle.cc_laws_heap.proofs.Emptying.{let_go-frees}
-use Rattle.cc_laws_heap.proofs.HoldsTheSame.{HoldsTheSame-take_up}
-use Rattle.cc_laws_heap.proofs.Owning.{IsIn}
-use Rattle.cc_laws_heap.proofs.References.{native-there}
+use Rattle.cc_laws_heap.proofs.Face.{HoldsTheSame-take_up, IsIn, let_go-frees, native-there}
 use Rattle.cc_heaps.specs.Keyed.{Keyed, IsInOrder, left_with}
 use Rattle.cc_heaps.specs.Changes.{stored_in}
 use Rattle.cc_heaps.specs.Leaving.{NoneCame, TellsWhatIsFreed}

@@ -14,7 +14,7 @@ use Rattle.cc_model.specs.Heap.{Heap, HeapNative, HeapScript, has_reflector, set
 use Rattle.cc_model.specs.Exposure.{exposed, exposed_names, as_black}
 use Rattle.cc_model.specs.Effects.{hold_script, make_object, set_entry, with_reflector, with_script, wrapped}
 use Rattle.cc_model.specs.WellFormed.{native_names, script_names, names_there}
-use Rattle.cc_laws_heap.proofs.Natives.{native_names-change}
+use Rattle.cc_laws_heap.proofs.Face.{native_names-change}
 use Rattle.cc_heaps.specs.Leaving.{NoneCame, NothingLeft}
 use Rattle.cc_document.specs.Told.{AreMade, Grows}
 

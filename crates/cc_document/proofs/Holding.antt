@@ -10,7 +10,7 @@ use Rattle.cc_model.specs.Checks.{Objects, slots_or_none, refusal_of}
 use Rattle.cc_model.specs.Graph as graph
 use Rattle.cc_model.specs.Graph.{Graph}
 use Rattle.cc_model.specs.Heap as heap
-use Rattle.cc_laws_heap.proofs.Coloured.{AreColoured-from_view}
+use Rattle.cc_laws_heap.proofs.Face.{AreColoured-from_view}
 use Rattle.cc_script.specs.Objects.{colour_at}
 use Rattle.cc_script.specs.Objects as objects
 use Rattle.cc_heaps.specs.Keyed.{Keyed}

@@ -13,11 +13,7 @@ use Rattle.cc_model.specs.Graph as graph
 use Rattle.cc_model.specs.Graph.{Graph, GraphNative, native_in}
 use Rattle.cc_model.specs.Reached.{Reached}
 use Rattle.cc_model.specs.Heap as heap
-use Rattle.cc_laws_heap.proofs.Holds.{OfSome}
-use Rattle.cc_laws_heap.proofs.GraphReads.{MadeNative, native_register-made}
-use Rattle.cc_laws_heap.proofs.ReachedAlike.{reached-in}
-use Rattle.cc_laws_heap.proofs.ReachedReads.{register-reached, slot_at-reached}
-use Rattle.cc_laws_heap.proofs.RepliesAlike.{AreAlike, objects-stand, slot_at-alike}
+use Rattle.cc_laws_heap.proofs.Face.{AreAlike, MadeNative, OfSome, native_register-made, objects-stand, reached-in, register-reached, slot_at-alike, slot_at-reached}
 use Rattle.cc_counted.specs.Counts.{slots_of}
 use Rattle.cc_model.specs.Heap.{native_at}
 use Rattle.cc_model.specs.End.{slots_now}

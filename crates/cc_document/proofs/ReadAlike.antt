@@ -17,14 +17,7 @@ use Rattle.cc_model.specs.Reached.{Reached, held, edge, value, kept_reflector}
 use Rattle.cc_model.specs.WellMade.{was_made}
 use Rattle.cc_model.specs.StandsFor.{IsNoKey}
 use Rattle.cc_model.specs.Heap as heap
-use Rattle.cc_laws_heap.proofs.EntryLists.{found-among}
-use Rattle.cc_laws_heap.proofs.Holds.{OfSome}
-use Rattle.cc_laws_heap.proofs.GraphParts.{is_some-found}
-use Rattle.cc_laws_heap.proofs.GraphReads.{MadeNative, native_register-made}
-use Rattle.cc_laws_heap.proofs.ReachedAlike.{ArePart-among}
-use Rattle.cc_laws_heap.proofs.ReachedReads.{register-reached, slot_at-reached}
-use Rattle.cc_laws_heap.proofs.RepliesAlike.{slot_at-alike}
-use Rattle.cc_laws_heap.proofs.Shapes.{slots_of_shape, slots_in-graph, slots_in-heap}
+use Rattle.cc_laws_heap.proofs.Face.{ArePart-among, MadeNative, OfSome, found-among, is_some-found, native_register-made, register-reached, slot_at-alike, slot_at-reached, slots_in-graph, slots_in-heap, slots_of_shape}
 use Rattle.cc_heaps.specs.Keyed.{Keyed}
 use Rattle.cc_builder.specs.Building.{Built}
 use Rattle.cc_document.specs.Words.{element_of, slot_of, spoken_of, listener_of, data_of}

@@ -3,7 +3,7 @@ use Rattle.std.proofs.Common.{◌≡◌, ◌≢◌, Bool, true, false, List, [],
 use Rattle.std.proofs.lemmas.Bool.{cases_Bool}
 use Rattle.cc_names.specs.declared.name.Name.{Name}
 use Rattle.cc_model.specs.Entries.{Entry, entry, is_entry_of, value_in, with_entry}
-use Rattle.cc_laws_heap.proofs.EntryLists.{is_entry_of-own, is_entry_of-parts, is_entry_of-alike}
+use Rattle.cc_laws_heap.proofs.Face.{is_entry_of-alike, is_entry_of-own, is_entry_of-parts}
 
 -- it is the new value
 pub value-own : (es : List Entry) (m k v : Name) → value_in (with_entry es m k v) m k ≡ Some v

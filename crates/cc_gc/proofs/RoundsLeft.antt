@@ -16,10 +16,8 @@ use Rattle.cc_model.proofs.Rounds.{length-marked, length-sweep-less}
 use Rattle.cc_model.proofs.Tellings.{Tells-nil, TellsEvents-trans}
 use Rattle.cc_laws_heap.specs.Sound.{IsSound}
 use Rattle.cc_laws_heap.specs.Rounds.{is_not_among}
-use Rattle.cc_laws_heap.proofs.MarkingKeeps.{script_names-marked, round-frees}
-use Rattle.cc_laws_heap.proofs.CollectedColours.{collect_scripts-colours, collect_scripts-invariant}
-use Rattle.cc_laws_heap.proofs.RoundsStand.{collect_scripts-stands}
-use Rattle.cc_laws_snapshot.proofs.SweepLoses.{collect_scripts-suspected}
+use Rattle.cc_laws_heap.proofs.Face.{collect_scripts-colours, collect_scripts-invariant, collect_scripts-stands, round-frees, script_names-marked}
+use Rattle.cc_laws_snapshot.proofs.Face.{collect_scripts-suspected}
 use Rattle.cc_heaps.specs.Keyed.{Keyed, IsInOrder}
 use Rattle.cc_heaps.specs.Changes.{KeepsKeys}
 use Rattle.cc_heaps.specs.Few.{AreFewIfOwnedOnce}

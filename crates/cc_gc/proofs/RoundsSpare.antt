@@ -17,18 +17,9 @@ use Rattle.cc_model.specs.Sweep.{unmarked, sweep, collect_scripts}
 use Rattle.cc_model.specs.StandsFor.{shape_at, shape_of_held_script}
 use Rattle.cc_laws_heap.specs.Sound.{IsSound}
 use Rattle.cc_laws_heap.specs.Rounds.{is_not_among, FreesNames}
-use Rattle.cc_laws_heap.proofs.NameLists.{is_not_among-from}
-use Rattle.cc_laws_heap.proofs.EntryLists.{is_entry_of-parts}
-use Rattle.cc_laws_heap.proofs.ScriptNames.{entry-named}
-use Rattle.cc_laws_heap.proofs.FreedNames.{FreesNames-left}
-use Rattle.cc_laws_heap.proofs.MarkedWellFormed.{is_spared_entry}
-use Rattle.cc_laws_heap.proofs.MarkingKeeps.{round-sound, round-frees}
-use Rattle.cc_laws_heap.proofs.RoundParts.{value_in-filter, round-natives, round-scripts, round-entries}
-use Rattle.cc_laws_heap.proofs.RoundsStand.{spared-from}
-use Rattle.cc_laws_heap.proofs.CollectedColours.{collecting-keeps, collect_scripts-sound, collect_scripts-frees}
-use Rattle.cc_laws_snapshot.proofs.ReachedStays.{reached-there, reached-kept, native_edges-alike, native-edge, script-edge}
-use Rattle.cc_laws_snapshot.proofs.SoundView.{script-place}
-use Rattle.cc_laws_run.proofs.QuietRounds.{round-keeps, left-not_dead}
+use Rattle.cc_laws_heap.proofs.Face.{FreesNames-left, collect_scripts-frees, collect_scripts-sound, collecting-keeps, entry-named, is_entry_of-parts, is_not_among-from, is_spared_entry, round-entries, round-frees, round-natives, round-scripts, round-sound, spared-from, value_in-filter}
+use Rattle.cc_laws_snapshot.proofs.Face.{native-edge, native_edges-alike, reached-kept, reached-there, script-edge, script-place}
+use Rattle.cc_laws_run.proofs.Face.{left-not_dead, round-keeps}
 use Rattle.cc_gc.specs.Sparing.{KeepsWhatIsReached, SparesWhatIsReached}
 use Rattle.cc_gc.proofs.Sparing.{HoldsNoMore, no_more-reached, native-shape, script-shape, keeps-same, keeps-then, unreached-after}
 

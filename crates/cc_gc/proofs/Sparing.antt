@@ -13,9 +13,8 @@ use Rattle.cc_model.specs.View.{view, ReachedIn}
 use Rattle.cc_model.specs.WellFormed.{IsWellFormed, names_there}
 use Rattle.cc_model.specs.StandsFor.{Shape, native_shape, shape_at, shape_of_held_script}
 use Rattle.cc_laws_heap.specs.Freeing.{Uncounted}
-use Rattle.cc_laws_heap.proofs.Leaving.{IsOf}
-use Rattle.cc_laws_heap.proofs.HeapShapes.{shape_at-native, shape_at-script}
-use Rattle.cc_laws_snapshot.proofs.ReachedStays.{reached-there}
+use Rattle.cc_laws_heap.proofs.Face.{IsOf, shape_at-native, shape_at-script}
+use Rattle.cc_laws_snapshot.proofs.Face.{reached-there}
 use Rattle.cc_gc.specs.Sparing.{KeepsWhatIsReached, IsUnreached, SparesWhatIsReached}
 
 -- Heaps that hold no more

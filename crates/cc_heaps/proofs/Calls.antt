@@ -1,5 +1,5 @@
 -- WHAT THE CALLS OF THE COUNTED HEAP COME TO, with the rest of the parts beside it.
-use Rattle.cc_laws_heap.proofs.GraphParts.{is_some-found}
+use Rattle.cc_laws_heap.proofs.Face.{count-bound, is_some-found, native_at-number, native_at-there}
 use Rattle.std.proofs.Common.{◌≡◌, ℕ, ◌+◌, ◌≤◌, true, List, ◌∷◌, map, Option, Some, None, option_map, refl, sym, ◌∙◌, ap, subst, arith, if◌then◌else◌}
 use Rattle.std.specs.Option.{is_some}
 use Rattle.std.proofs.lemmas.Simd.{map-map}
@@ -13,8 +13,6 @@ use Rattle.cc_model.specs.Cascade.{add_ref, cascade}
 use Rattle.cc_model.specs.End.{unlink}
 use Rattle.cc_model.specs.WellFormed.{native_names}
 use Rattle.cc_model.specs.Counts.{times}
-use Rattle.cc_laws_heap.proofs.CountBound.{count-bound}
-use Rattle.cc_laws_heap.proofs.Natives.{native_at-there, native_at-number}
 use Rattle.cc_counted.specs.Counts.{Counts, key_left, reflectors_left, number_or_none, count_at, with_heap}
 use Rattle.cc_counted.specs.Counts as counts
 use Rattle.cc_script.specs.Objects.{Object}

@@ -1,5 +1,5 @@
 -- WHAT CALLERS HAND IN AND GET BACK: its name, that it is there, and the references in hand.
-use Rattle.cc_laws_heap.proofs.Changing.{option_map-found}
+use Rattle.cc_laws_heap.proofs.Face.{IsIn, option_map-found}
 use Rattle.cc_lists.proofs.Held.{held-is, of-one}
 use Rattle.cc_heaps.proofs.Keys.{name-in}
 use Rattle.std.proofs.Common.{arith, ◌≡◌, ℕ, true, List, [], ◌∷◌, ◌++◌, Option, Some, None, option_map, refl, sym, ◌∙◌, ap, subst, false}
@@ -14,7 +14,6 @@ use Rattle.cc_names.specs.Names.{native, is_native, object}
 use Rattle.cc_model.specs.Heap.{Heap, silently}
 use Rattle.cc_model.specs.Cascade.{take_up, let_go}
 use Rattle.cc_model.specs.WellFormed.{native_names, script_names, names_there, FitsName}
-use Rattle.cc_laws_heap.proofs.Owning.{IsIn}
 use Rattle.cc_laws_heap.specs.Sound.{numbers_of}
 use Rattle.cc_counted.specs.declared.held.Held.{Held}
 use Rattle.cc_counted.specs.declared.held.Held.TheVariants as held

@@ -3,7 +3,7 @@ use Rattle.cc_heaps.proofs.Reaching.{name_at-own}
 use Rattle.cc_heaps.proofs.ObjectsKept.{named-there}
 use Rattle.cc_heaps.proofs.Keys.{named-object}
 use Rattle.cc_lists.proofs.Held.{is_some-map}
-use Rattle.cc_laws_heap.proofs.Changing.{option_map-found}
+use Rattle.cc_laws_heap.proofs.Face.{IsIn, IsIn-no_native, option_map-found}
 use Rattle.std.proofs.Common.{arith, ◌≡◌, ℕ, ◌==◌, List, Option, Some, None, is_some, option_map, option_and_then, IsTrue, refl, sym, ◌∙◌, ap, subst, inl}
 use Rattle.std.specs.List.{find}
 use Rattle.std.proofs.lemmas.Bool.{false≢true}
@@ -16,8 +16,6 @@ use Rattle.cc_names.specs.declared.name.Name.TheVariants as name
 use Rattle.cc_names.specs.Names.{native, object, same_name}
 use Rattle.cc_names.proofs.NameTests.{same_name-true, same_name-refl}
 use Rattle.cc_model.specs.WellFormed.{script_names, names_there}
-use Rattle.cc_laws_heap.proofs.Owning.{IsIn}
-use Rattle.cc_laws_heap.proofs.Holding.{IsIn-no_native}
 use Rattle.cc_counted.specs.declared.held.Held.{Held}
 use Rattle.cc_counted.specs.declared.held.Held.TheVariants as held
 use Rattle.cc_counted.specs.Counts.{name_of, is_live}

@@ -11,9 +11,7 @@ use Rattle.cc_model.specs.Heap.{Heap, HeapNative, Outcome, native_at, silently, 
 use Rattle.cc_model.specs.Cascade.{add_ref, cascade, let_go}
 use Rattle.cc_model.specs.End.{empty_slot, empty_each, slots_now, unlink}
 use Rattle.cc_laws_heap.specs.Freeing.{Uncounted, uncounted, is_none_of}
-use Rattle.cc_laws_heap.proofs.Freed.{TakesOut}
-use Rattle.cc_laws_heap.proofs.CascadeTakesOut.{TakesOut-cascade, TakesOut-let_go}
-use Rattle.cc_laws_heap.proofs.HoldsTheSame.{HoldsTheSame-add_ref}
+use Rattle.cc_laws_heap.proofs.Face.{HoldsTheSame-add_ref, TakesOut, TakesOut-cascade, TakesOut-let_go}
 
 module _ (Q : Uncounted → Type 0) where
   abbrev pub IsOfEach : List HeapNative → Type 0

@@ -2,7 +2,7 @@
 -- snapshot that was fresh is fresh where neither key nor value is gray, and no unreached native is forgotten.
 use Rattle.cc_heaps.proofs.ReflectingWritten.{handed-reached}
 use Rattle.cc_lists.proofs.Held.{option_and_then-found}
-use Rattle.cc_laws_heap.proofs.Changing.{option_map-found}
+use Rattle.cc_laws_heap.proofs.Face.{AreColoured-from_view, Follows-set_entry, Grows, Grows-change_native, HasColourInvariant-from, IsHeldBlack, IsMadeEntry-grows, IsWellMade-change_native, IsWellMade-entries, KeepsNative-preserved, MadeScript, OfSome, SameScripts, SameScripts-coloured, entries_of-set, follows-stands, in-reached, option_map-found, script-behind, stands-follows, with_entry-cases, without_entry-sound}
 use Rattle.std.proofs.Common.{◌≡◌, ℕ, not, List, Option, Some, None, refl, sym, ◌∙◌, ap, subst, inl, ⊎_elim, arith, option_map}
 use Rattle.std.specs.Prelude.{IfSome, IsTrue}
 use Rattle.std.specs.Option.{option_and_then}
@@ -23,24 +23,7 @@ use Rattle.cc_model.specs.Effects.{set_entry}
 use Rattle.cc_model.specs.WellFormed.{HasMembers, script_names}
 use Rattle.cc_model.specs.StandsFor.{StandsFor, kind_in, kind_of, reflector_kind}
 use Rattle.cc_laws_heap.specs.Sound.{IsSound}
-use Rattle.cc_laws_heap.proofs.Coloured.{AreColoured-from_view, HasColourInvariant-from}
-use Rattle.cc_laws_heap.proofs.ColourChanges.{IsHeldBlack}
-use Rattle.cc_laws_heap.proofs.EntriesKept.{without_entry-sound}
-use Rattle.cc_laws_heap.proofs.EntryLists.{entries_of-set, with_entry-cases}
-use Rattle.cc_laws_heap.proofs.Following.{stands-follows}
-use Rattle.cc_laws_heap.proofs.GraphParts.{Grows, IsMadeEntry-grows, IsWellMade-entries}
-use Rattle.cc_laws_heap.proofs.GraphReads.{MadeScript}
-use Rattle.cc_laws_heap.proofs.GraphWrites.{Grows-change_native, IsWellMade-change_native, KeepsNative-preserved}
-use Rattle.cc_laws_heap.proofs.Holds.{OfSome}
-use Rattle.cc_laws_heap.proofs.NativesKeepScripts.{SameScripts, SameScripts-coloured}
-use Rattle.cc_laws_heap.proofs.ReachedAlike.{in-reached}
-use Rattle.cc_laws_heap.proofs.ReachedReads.{script-behind}
-use Rattle.cc_laws_heap.proofs.Standing.{follows-stands}
-use Rattle.cc_laws_heap.proofs.StepsAlike.{Follows-set_entry}
-use Rattle.cc_laws_snapshot.proofs.GentleBut.{AreGentle}
-use Rattle.cc_laws_snapshot.proofs.KindsFresh.{fresh-coloured}
-use Rattle.cc_laws_snapshot.proofs.KindsHeld.{entry_written-suspected}
-use Rattle.cc_laws_snapshot.proofs.ScriptParts.{not_gray-held, set_entry-gentle}
+use Rattle.cc_laws_snapshot.proofs.Face.{AreGentle, entry_written-suspected, fresh-coloured, not_gray-held, set_entry-gentle}
 use Rattle.cc_script.specs.Objects.{is_there, kind_at, name_at}
 use Rattle.cc_heaps.specs.Keyed.{Keyed, IsInOrder, changed_to, the_name_at}
 use Rattle.cc_heaps.specs.Standing.{IsReached, StandsAfter, KeepsColours, KeepsFresh, KeepsSuspected}

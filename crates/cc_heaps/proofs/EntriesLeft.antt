@@ -12,8 +12,7 @@ use Rattle.cc_lists.proofs.ListWrites.{map-agree}
 use Rattle.cc_names.specs.Names.{same_name}
 use Rattle.cc_model.specs.Colours.{IsMarked, HasColours}
 use Rattle.cc_model.specs.Sweep.{unmarked}
-use Rattle.cc_laws_heap.proofs.MarkedKept.{marked-value}
-use Rattle.cc_laws_heap.proofs.MarkedWellFormed.{is_spared_entry}
+use Rattle.cc_laws_heap.proofs.Face.{is_spared_entry, marked-value}
 use Rattle.cc_script.specs.Objects.{Object, is_there, name_at}
 use Rattle.cc_weakmaps.specs.Entries.{KeyedEntry}
 use Rattle.cc_weakmaps.specs.Living.{living}

@@ -1,7 +1,7 @@
 -- AN ENTRY SET OR TAKEN OUT BY KEYS, which is set or taken out by names, and its key, preserved where it is a reflector.
 use Rattle.std.proofs.lemmas.Bool.{cases_Bool}
 use Rattle.cc_lists.proofs.Held.{option_and_then-found}
-use Rattle.cc_laws_heap.proofs.Changing.{option_map-found}
+use Rattle.cc_laws_heap.proofs.Face.{has_reflector-none, option_map-found, with_entries, with_entry-sound, without_entry-sound}
 use Rattle.std.proofs.Common.{arith, ◌≡◌, ℕ, true, List, Option, Some, None, Result, Ok, Err, OnOk, OnErr, is_some, option_map, refl, sym, ◌∙◌, ap, subst, ⊎_elim}
 use Rattle.std.specs.Prelude.{IsTrue, IsSome}
 use Rattle.std.specs.Option.{option_and_then}
@@ -17,9 +17,6 @@ use Rattle.cc_model.specs.Heap.{Heap, HeapScript, has_reflector, preserve}
 use Rattle.cc_model.specs.Effects.{set_entry}
 use Rattle.cc_model.specs.WellFormed.{HasMembers, script_names}
 use Rattle.cc_laws_heap.specs.Sound.{IsSound}
-use Rattle.cc_laws_heap.proofs.EntriesKept.{with_entry-sound, without_entry-sound}
-use Rattle.cc_laws_heap.proofs.Holding.{has_reflector-none}
-use Rattle.cc_laws_heap.proofs.Kept.{with_entries}
 use Rattle.cc_script.specs.Objects.{Object, is_there, kind_at, name_at, native_at, object_at}
 use Rattle.cc_weakmaps.specs.Entries.{KeyedEntry, with_entry, without_entry}
 use Rattle.cc_marking.specs.Marking.{AreEntriesThere}

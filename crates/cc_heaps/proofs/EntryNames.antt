@@ -23,7 +23,7 @@ use Rattle.cc_model.specs.Slots.{Slots}
 use Rattle.cc_model.specs.Checks.{is_map_in, value_at}
 use Rattle.cc_model.specs.Heap.{HeapScript, objects_of, script_at, slots_in, slots_of_kind, slots_of_script}
 use Rattle.cc_model.specs.WellFormed.{script_names}
-use Rattle.cc_laws_heap.proofs.ScriptsKept.{native-no_script}
+use Rattle.cc_laws_heap.proofs.Face.{native-no_script}
 use Rattle.cc_script.specs.Objects.{Object, is_there, kind_at, name_at, object_at}
 use Rattle.cc_weakmaps.specs.Entries.{KeyedEntry, entry, has_value_in, is_entry_of, value_in, with_entry, without_entry}
 use Rattle.cc_marking.specs.Marking.{IsEntryThere, AreEntriesThere}

@@ -1,6 +1,6 @@
 -- COUNTS ARE FEW in heaps that are in order.
 use Rattle.std.proofs.Common.{ℕ, List, [], arith}
-use Rattle.cc_laws_heap.proofs.CountBound.{count-bound}
+use Rattle.cc_laws_heap.proofs.Face.{count-bound}
 use Rattle.cc_heaps.specs.Keyed.{Keyed, IsInOrder}
 use Rattle.cc_heaps.specs.Few.{AreFew, AreFewIfOwnedOnce, AreOwnedOnce}
 

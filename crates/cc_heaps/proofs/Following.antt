@@ -30,33 +30,9 @@ use Rattle.cc_model.specs.Fresh.{IsFresh}
 use Rattle.cc_model.specs.Suspected.{IsSuspected}
 use Rattle.cc_model.specs.WellFormed.{IsWellFormed, native_names, names_there, script_names}
 use Rattle.cc_laws_heap.specs.Sound.{IsSound, numbers_of}
-use Rattle.cc_laws_heap.proofs.Coloured.{IsColoured, AreColoured-from_view, HasColourInvariant-from}
-use Rattle.cc_laws_heap.proofs.ColourChanges.{IsHeldBlack, AreColoured-register, AreColoured-slot, exposed-coloured, exposed-black}
-use Rattle.cc_laws_heap.proofs.CommandsColours.{effects-coloured}
-use Rattle.cc_laws_heap.proofs.CommandsSound.{effects-sound}
-use Rattle.cc_laws_heap.proofs.Taken.{IsTaken}
-use Rattle.cc_laws_heap.proofs.NativeCommands.{names_there-take_up, hold_native-sound, make_native-sound}
-use Rattle.cc_laws_heap.proofs.NativesKeepScripts.{SameScripts, SameScripts-coloured, hold_native-scripts, let_go-scripts, make_native-scripts, SameScripts-take_up}
-use Rattle.cc_laws_heap.proofs.Owning.{IsIn, let_go-sound, take_up-sound}
-use Rattle.cc_laws_heap.proofs.Writes.{native_slot-sound}
-use Rattle.cc_laws_heap.proofs.ScriptsKept.{exposed-sound, hold_script-sound, native-no_script, script_slot-sound}
-use Rattle.cc_laws_heap.proofs.ScriptNames.{script-named}
+use Rattle.cc_laws_heap.proofs.Face.{AreColoured-from_view, AreColoured-register, AreColoured-slot, HasColourInvariant-from, IsColoured, IsHeldBlack, IsIn, IsTaken, SameScripts, SameScripts-coloured, SameScripts-take_up, effects-coloured, effects-sound, exposed-black, exposed-coloured, exposed-sound, hold_native-scripts, hold_native-sound, hold_script-sound, let_go-scripts, let_go-sound, make_native-scripts, make_native-sound, names_there-take_up, native-no_script, native_slot-sound, script-named, script_slot-sound, take_up-sound}
 use Rattle.cc_laws_snapshot.specs.Losing.{IsLoyal}
-use Rattle.cc_laws_snapshot.proofs.CommandsGentle.{effects-fresh}
-use Rattle.cc_laws_snapshot.proofs.GentleBut.{AreGentle, AreGentle-then, IsGentleBut-then}
-use Rattle.cc_laws_snapshot.proofs.CascadesGentle.{let_go-gentle, let_go-caught}
-use Rattle.cc_laws_snapshot.proofs.NativeParts.{AreTaken, take_up-taken, take_up-gentle, native_slot-gentle}
-use Rattle.cc_laws_snapshot.proofs.NamePairs.{native-no_script as native-is_no_script}
-use Rattle.cc_laws_snapshot.proofs.SoundView.{native-name_of}
-use Rattle.cc_laws_snapshot.proofs.KindsFresh.{fresh-coloured, fresh-more}
-use Rattle.cc_laws_snapshot.proofs.Marked.{with_mark-keeps}
-use Rattle.cc_laws_snapshot.proofs.NativesHeld.{hold_native-gentle, make_native-gentle}
-use Rattle.cc_laws_snapshot.proofs.ScriptParts.{not_gray-held, exposed-gentle, hold_script-gentle, script_slot-gentle}
-use Rattle.cc_laws_snapshot.proofs.LoyalSuspected.{loyal-suspected}
-use Rattle.cc_laws_snapshot.proofs.BufferMarks.{suspect-purple, suspect-keeps_purple, marked-buffer}
-use Rattle.cc_laws_snapshot.proofs.StillNatives.{Still-hold_script}
-use Rattle.cc_laws_snapshot.proofs.CommandsLoyal.{hold_native-loyal, stored-loyal, still-loyal}
-use Rattle.cc_laws_snapshot.proofs.KindsHeld.{native_made-suspected, object_made-suspected, exposed-suspected, script_slot_written-suspected}
+use Rattle.cc_laws_snapshot.proofs.Face.{AreGentle, AreGentle-then, AreTaken, IsGentleBut-then, Still-hold_script, effects-fresh, exposed-gentle, exposed-suspected, fresh-coloured, fresh-more, hold_native-gentle, hold_native-loyal, hold_script-gentle, let_go-caught, let_go-gentle, loyal-suspected, make_native-gentle, marked-buffer, native-name_of, native-no_script as native-is_no_script, native_made-suspected, native_slot-gentle, not_gray-held, object_made-suspected, script_slot-gentle, script_slot_written-suspected, still-loyal, stored-loyal, suspect-keeps_purple, suspect-purple, take_up-gentle, take_up-taken, with_mark-keeps}
 use Rattle.cc_counted.specs.Counts.{slots_of}
 use Rattle.cc_counted.specs.Counts as counts
 use Rattle.cc_counted.specs.declared.held.Held.{Held}

@@ -19,7 +19,7 @@ use Rattle.cc_model.specs.Heap.{Heap, HeapNative, HeapScript, native_at, is_gray
 use Rattle.cc_model.specs.View.{native_edges}
 use Rattle.cc_model.specs.WellFormed.{IsWellFormed}
 use Rattle.cc_model.specs.Units.{holds_gray}
-use Rattle.cc_laws_heap.proofs.Natives.{IsRising-distinct, native_at-member}
+use Rattle.cc_laws_heap.proofs.Face.{IsRising-distinct, native_at-member}
 use Rattle.cc_counted.specs.Counts.{Counts, references_of}
 use Rattle.cc_counted.specs.Counts as counts
 use Rattle.cc_counted.specs.Owning.{HasKeys}

@@ -1,5 +1,5 @@
 -- WHAT IS GRAY BY NAME: the one object of that name is.
-use Rattle.cc_laws_heap.proofs.ScriptNames.{scripts-once}
+use Rattle.cc_laws_heap.proofs.Face.{scripts-once}
 use Rattle.std.proofs.Common.{◌≡◌, Bool, true, List, sym, ◌∙◌, ap}
 use Rattle.std.specs.List.{find, filter}
 use Rattle.cc_lists.specs.Members.{Among}
@@ -11,7 +11,7 @@ use Rattle.cc_names.specs.Names.{same_name}
 use Rattle.cc_names.proofs.NameTests.{same_name-refl}
 use Rattle.cc_model.specs.Heap.{Heap, HeapScript, is_gray_colour, is_gray_in}
 use Rattle.cc_model.specs.WellFormed.{IsWellFormed}
-use Rattle.cc_laws_snapshot.proofs.NodeUnit.{gray-tested}
+use Rattle.cc_laws_snapshot.proofs.Face.{gray-tested}
 use Rattle.cc_heaps.proofs.Reaching.{same-tests}
 
 pub gray-named : (h : Heap) (o : HeapScript) → IsWellFormed h → Among o h.scripts → is_gray_in h o.name ≡ is_gray_colour o.colour

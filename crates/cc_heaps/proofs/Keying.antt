@@ -1,7 +1,7 @@
 -- FROM KEYS TO NAMES AND BACK: a counted heap whose slots hold what is there is the same after its script objects got
 -- their names and gave them back for their keys.
 use Rattle.cc_heaps.proofs.Reaching.{object_at-found}
-use Rattle.cc_laws_heap.proofs.GraphParts.{is_some-found}
+use Rattle.cc_laws_heap.proofs.Face.{is_some-found}
 use Rattle.std.proofs.Common.{arith, ◌≡◌, ℕ, ◌≤◌, List, [], ◌∷◌, map, count_by, Option, Some, None, IsTrue, option_map, refl, sym, ◌∙◌, ap, inl, inr}
 use Rattle.std.specs.Option.{option_and_then}
 use Rattle.cc_lists.specs.Members.{Among}

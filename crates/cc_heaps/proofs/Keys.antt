@@ -2,7 +2,7 @@
 -- natives still where these are there.
 use Rattle.cc_names.specs.declared.number.SKey.{SKey}
 use Rattle.cc_heaps.specs.Changes.{script_name}
-use Rattle.cc_laws_heap.proofs.Owning.{IsIn}
+use Rattle.cc_laws_heap.proofs.Face.{IsIn, IsWellFormed-distinct, KeepsNumber, changed_at, changed_at-number, named-found, named-member, native_at-member, native_at-named}
 use Rattle.cc_lists.proofs.Held.{held-is}
 use Rattle.cc_heaps.proofs.Reaching.{name_at-found}
 use Rattle.std.proofs.Common.{arith, ◌≡◌, ℕ, List, [], map, Option, Some, None, refl, sym, ◌∙◌, ap, subst, if◌then◌else◌}
@@ -20,7 +20,6 @@ use Rattle.cc_names.specs.Names.{native, reflector, same_name, object}
 use Rattle.cc_names.proofs.NameTests.{same_name-true}
 use Rattle.cc_model.specs.Heap.{Heap, HeapNative, HeapScript, Buffered, native_at, change_native}
 use Rattle.cc_model.specs.WellFormed.{IsRising, IsWellFormed, native_names, script_names}
-use Rattle.cc_laws_heap.proofs.Natives.{KeepsNumber, changed_at, changed_at-number, named-found, named-member, native_at-named, native_at-member, IsWellFormed-distinct}
 use Rattle.cc_counted.specs.Counts.{Counts, key_left, number_at, heap_of}
 use Rattle.cc_counted.specs.Counts as counts
 use Rattle.cc_counted.specs.Owning.{HasKeys}

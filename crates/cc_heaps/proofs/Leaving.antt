@@ -21,17 +21,8 @@ use Rattle.cc_model.specs.WellFormed.{IsWellFormed, native_names, script_names, 
 use Rattle.cc_model.proofs.Tellings.{Tells-nil, TellsEvents-trans}
 use Rattle.cc_laws_heap.specs.Sound.{IsSound, numbers_of}
 use Rattle.cc_laws_heap.specs.Freeing.{Uncounted, uncounted, is_none_of, Frees}
-use Rattle.cc_laws_heap.proofs.CascadeTakesOut.{let_go-gone}
-use Rattle.cc_laws_heap.proofs.Emptying.{let_go-frees}
-use Rattle.cc_laws_heap.proofs.Holding.{IsIn-natives}
-use Rattle.cc_laws_heap.proofs.HoldsTheSame.{HoldsTheSame-take_up, names_there-alike}
-use Rattle.cc_laws_heap.proofs.MadeSound.{with_native-sound}
-use Rattle.cc_laws_heap.proofs.NativeCommands.{IsIn-take_up, IsIn-made, names_there-take_up}
-use Rattle.cc_laws_heap.proofs.Natives.{native_names-change}
-use Rattle.cc_laws_heap.proofs.Owning.{IsIn, take_up-sound}
-use Rattle.cc_laws_heap.proofs.References.{times-append, times-among, native-there}
-use Rattle.cc_laws_heap.proofs.Writes.{contents-at, native_register-sound, native_slot-sound}
-use Rattle.cc_laws_snapshot.proofs.ReachedStays.{reached-there}
+use Rattle.cc_laws_heap.proofs.Face.{HoldsTheSame-take_up, IsIn, IsIn-made, IsIn-natives, IsIn-take_up, contents-at-of_writes as contents-at, let_go-frees, let_go-gone, names_there-alike, names_there-take_up, native-there, native_names-change, native_register-sound, native_slot-sound, take_up-sound, times-among, times-append, with_native-sound}
+use Rattle.cc_laws_snapshot.proofs.Face.{reached-there}
 use Rattle.cc_heaps.specs.Keyed.{Keyed, IsInOrder, left_with}
 use Rattle.cc_heaps.specs.Changes.{stored_in}
 use Rattle.cc_heaps.specs.Leaving.{HasLeft, NoneCame, NothingLeft, TellsWhatIsFreed, freed}

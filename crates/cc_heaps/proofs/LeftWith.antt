@@ -7,7 +7,7 @@ use Rattle.cc_lists.specs.Members.{Among}
 use Rattle.cc_names.specs.Names.{native}
 use Rattle.cc_model.specs.Heap.{Heap, HeapNative, native_at}
 use Rattle.cc_model.specs.WellFormed.{native_names}
-use Rattle.cc_laws_heap.proofs.Natives.{named-found, native_at-named}
+use Rattle.cc_laws_heap.proofs.Face.{named-found, native_at-named}
 use Rattle.cc_counted.specs.Counts.{key_left}
 use Rattle.cc_heaps.specs.Keyed.{Keyed, IsInOrder, number_at, the_number, left_with}
 use Rattle.cc_heaps.proofs.Calls.{number-named}

@@ -14,9 +14,7 @@ use Rattle.cc_names.specs.declared.name.Name.TheVariants as name
 use Rattle.cc_names.specs.Names.{object, reflector, same_name, is_reflector}
 use Rattle.cc_names.proofs.NameTests.{same_name-refl}
 use Rattle.cc_model.specs.WellFormed.{script_names}
-use Rattle.cc_laws_heap.proofs.CountBound.{natives-made}
-use Rattle.cc_laws_heap.proofs.Natives.{named-member}
-use Rattle.cc_laws_heap.proofs.ScriptsKept.{native-no_script}
+use Rattle.cc_laws_heap.proofs.Face.{named-member, native-no_script, natives-made}
 use Rattle.cc_heaps.specs.Keyed.{Keyed, IsInOrder}
 
 -- the name of an object of a kind with a number up to the last one that was made

@@ -1,6 +1,6 @@
 -- NATIVES LISTED one after the other, and then script objects: those listed so far, and those that are left.
 use Rattle.cc_heaps.proofs.Registers.{none-by}
-use Rattle.cc_laws_heap.proofs.GraphParts.{is_some-found}
+use Rattle.cc_laws_heap.proofs.Face.{is_some-found}
 use Rattle.std.proofs.Common.{◌≡◌, ℕ, ◌+◌, ◌<◌, ◌≤◌, true, List, [], ◌∷◌, ◌++◌, map, length, Option, Some, None, IfSome, option_map, refl, sym, ◌∙◌, ap, subst, arith, append-nil, length-append, nat_lt}
 use Rattle.std.specs.Prelude.{IsTrue}
 use Rattle.std.specs.List.{filter}

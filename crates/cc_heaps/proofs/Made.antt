@@ -15,8 +15,7 @@ use Rattle.cc_names.specs.Names.{native, reflector}
 use Rattle.cc_model.specs.Slots.{contents, empty_slots}
 use Rattle.cc_model.specs.Heap.{Heap, HeapNative, with_mark}
 use Rattle.cc_model.specs.Effects.{put_in_register, with_native, make_native}
-use Rattle.cc_laws_heap.proofs.Making.{contents-empty_none}
-use Rattle.cc_laws_heap.proofs.Natives.{named-member}
+use Rattle.cc_laws_heap.proofs.Face.{contents-empty_none, named-member}
 use Rattle.cc_counted.specs.Counts.{Counts, key_left}
 use Rattle.cc_counted.specs.Counts as counts
 use Rattle.cc_counted.specs.Owning.{HasKeys}

@@ -3,8 +3,7 @@ use Rattle.std.proofs.Common.{arith, ◌≡◌, ℕ, List, ap, refl}
 use Rattle.cc_lists.specs.Members.{Among}
 use Rattle.cc_model.specs.Colours as names
 use Rattle.cc_model.specs.Colours.{black_names, marked_names, marked}
-use Rattle.cc_laws_heap.proofs.Marking.{colour_of, as_marked}
-use Rattle.cc_laws_heap.proofs.MarkingKeeps.{IsSound-marked}
+use Rattle.cc_laws_heap.proofs.Face.{IsSound-marked, as_marked, colour_of}
 use Rattle.cc_script.specs.Objects.{Object, with_colour, colour_by}
 use Rattle.cc_marking.specs.Marking.{black_keys, marked_keys, marked_from}
 use Rattle.cc_heaps.specs.Keyed.{IsInOrder, named_object}

@@ -19,8 +19,7 @@ use Rattle.cc_model.specs.Cascade.{Draining, add_ref, lower, fallen, given_up, g
 use Rattle.cc_model.specs.Counts.{slots_of_natives, times}
 use Rattle.cc_model.specs.End.{empty_slot, empty_each, slots_now, without_preservation, unlink}
 use Rattle.cc_model.specs.WellFormed.{native_names}
-use Rattle.cc_laws_heap.proofs.Natives.{changed_at}
-use Rattle.cc_laws_heap.proofs.References.{times-natives_in}
+use Rattle.cc_laws_heap.proofs.Face.{changed_at, times-natives_in}
 use Rattle.cc_script.specs.Objects.{Object, object_at, name_at}
 use Rattle.cc_heaps.specs.Named.{own_name, named_native}
 

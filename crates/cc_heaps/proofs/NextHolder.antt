@@ -9,7 +9,7 @@ use Rattle.cc_names.specs.declared.name.Name.{Name}
 use Rattle.cc_names.specs.declared.name.Name.TheVariants as name
 use Rattle.cc_model.specs.Slots.{Slots}
 use Rattle.cc_model.specs.Heap.{HeapNative}
-use Rattle.cc_laws_heap.proofs.Natives.{IsRising-distinct, native_at-member}
+use Rattle.cc_laws_heap.proofs.Face.{IsRising-distinct, native_at-member}
 use Rattle.cc_counted.specs.Counts.{Counts, number_at, heap_of}
 use Rattle.cc_counted.specs.Owning.{HasKeys}
 use Rattle.cc_counted.specs.Scripts.{HasNoHolder, IsNextHolder, is_to_script, refers_to_script}

@@ -1,5 +1,5 @@
 -- NO OBJECT IS WHITE: none is swept then, all stay, and nothing is told.
-use Rattle.cc_laws_heap.proofs.GraphParts.{is_some-found}
+use Rattle.cc_laws_heap.proofs.Face.{is_some-found}
 use Rattle.std.proofs.Common.{arith, ◌≡◌, ℕ, Bool, true, false, not, ◌&&◌, List, [], map, ◌↔◌, IsTrue, refl, sym, ◌∙◌, ap, subst}
 use Rattle.std.proofs.lemmas.Bool.{true≢false}
 use Rattle.cc_lists.specs.Members.{Among}

@@ -19,8 +19,7 @@ use Rattle.cc_model.specs.Slots.{contents}
 use Rattle.cc_model.specs.Heap.{HeapNative, HeapScript, is_white_colour}
 use Rattle.cc_model.specs.Colours.{IsMarked, HasColours}
 use Rattle.cc_model.specs.Sweep.{unmarked}
-use Rattle.cc_laws_heap.proofs.MarkedKept.{marked-black, black-register, marked-slot, marked-native_slot, marked-not_unmarked, marked-other}
-use Rattle.cc_laws_heap.proofs.MarkedWellFormed.{is_spared}
+use Rattle.cc_laws_heap.proofs.Face.{black-register, is_spared, marked-black, marked-native_slot, marked-not_unmarked, marked-other, marked-slot}
 use Rattle.cc_script.specs.Objects.{Object, name_at}
 use Rattle.cc_script.proofs.Reaching.{among-held, held-among}
 use Rattle.cc_heaps.specs.Keyed.{IsInOrder, name_held, named_object, named_objects}

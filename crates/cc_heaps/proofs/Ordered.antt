@@ -13,14 +13,7 @@ use Rattle.cc_model.specs.End.{unlink}
 use Rattle.cc_model.specs.WellFormed.{IsWellFormed, native_names, names_there, script_names}
 use Rattle.cc_laws_heap.specs.Sound.{IsSound, numbers_of}
 use Rattle.cc_laws_heap.specs.Freeing.{SameBeside}
-use Rattle.cc_laws_heap.proofs.Making.{with_mark-cases, places-with_mark}
-use Rattle.cc_laws_heap.proofs.Kept.{IsBuffer, with_buffer, IsWellFormed-buffer}
-use Rattle.cc_laws_heap.proofs.Owning.{IsIn, add_ref-sound}
-use Rattle.cc_laws_heap.proofs.Writes.{native_register-sound, native_slot-sound, set_preserved-sound}
-use Rattle.cc_laws_heap.proofs.MadeSound.{with_native-sound}
-use Rattle.cc_laws_heap.proofs.Cascades.{cascade-sound, cascade-frees}
-use Rattle.cc_laws_heap.proofs.Leaving.{Leave, Leave-before, Leave-frees}
-use Rattle.cc_laws_heap.proofs.Unlinking.{unlink-keeps}
+use Rattle.cc_laws_heap.proofs.Face.{IsBuffer, IsIn, IsWellFormed-buffer, Leave, Leave-before, Leave-frees, add_ref-sound, cascade-frees, cascade-sound, native_register-sound, native_slot-sound, places-with_mark, set_preserved-sound, unlink-keeps, with_buffer, with_mark-cases, with_native-sound}
 use Rattle.cc_counted.specs.Counts.{key_left}
 use Rattle.cc_counted.specs.Owning.{HasKeys}
 use Rattle.cc_heaps.specs.Keyed.{Keyed, IsInOrder, changed_to, left_with, number_at}

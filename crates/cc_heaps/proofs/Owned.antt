@@ -12,7 +12,7 @@ use Rattle.cc_model.specs.Slots.{contents}
 use Rattle.cc_model.specs.Heap.{Heap, HeapScript}
 use Rattle.cc_model.specs.WellFormed.{native_names}
 use Rattle.cc_model.specs.Counts.{refs_to, slots_of_natives, times}
-use Rattle.cc_laws_heap.proofs.References.{times-append, times-cons, times-some, times-among, times-natives_in, refs_to-there}
+use Rattle.cc_laws_heap.proofs.Face.{refs_to-there, times-among, times-append, times-cons, times-natives_in, times-some}
 use Rattle.cc_counted.specs.Counts.{Counts}
 use Rattle.cc_counted.specs.Counts as counts
 use Rattle.cc_counted.specs.Owning.{AreOwned, CallersOwn}

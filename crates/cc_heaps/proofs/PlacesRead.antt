@@ -7,7 +7,7 @@ use Rattle.cc_heaps.proofs.ReferenceNames.{references-there, few_slots-counted}
 use Rattle.cc_heaps.proofs.References.{native-found, references-found, length-references, few-slots}
 use Rattle.cc_lists.proofs.Held.{is_some-map}
 use Rattle.cc_heaps.proofs.Keys.{Reflects-cases}
-use Rattle.cc_laws_heap.proofs.GraphParts.{is_some-found}
+use Rattle.cc_laws_heap.proofs.Face.{IsWellFormed-distinct, is_some-found, native_at-member}
 use Rattle.std.proofs.Common.{◌≡◌, ℕ, ◌+◌, ◌<◌, ◌≤◌, ◌==◌, true, false, List, [], ◌∷◌, ◌++◌, map, length, get_or, length-append, Option, Some, None, IsTrue, is_some, option_map, refl, sym, ◌∙◌, ap, subst, arith}
 use Rattle.std.specs.Option.{option_and_then}
 use Rattle.std.proofs.Math.ListN.{get_or-map}
@@ -30,7 +30,6 @@ use Rattle.cc_model.specs.Slots.{Slots}
 use Rattle.cc_model.specs.Checks.{slots_or_none}
 use Rattle.cc_model.specs.Heap.{Heap, HeapNative, HeapScript, script_at}
 use Rattle.cc_model.specs.WellFormed.{FitsName, IsWellFormed}
-use Rattle.cc_laws_heap.proofs.Natives.{native_at-member, IsWellFormed-distinct}
 use Rattle.cc_counted.specs.declared.held.Held.{Held}
 use Rattle.cc_counted.specs.declared.held.Held.TheVariants as held
 use Rattle.cc_counted.specs.Counts.{held_of_native, is_live, name_of, preserved_at, preserved_reflector, reflector_at, references_of, slots_at, slots_of}

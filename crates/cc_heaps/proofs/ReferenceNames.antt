@@ -1,7 +1,7 @@
 -- WHAT NATIVES REFER TO by keys and by names: a preserved reflector has its own name in the place of its key.
 use Rattle.std.proofs.Math.ListN.{get_or-map}
 use Rattle.cc_lists.proofs.Held.{held-is}
-use Rattle.cc_laws_heap.proofs.Changing.{option_map-found}
+use Rattle.cc_laws_heap.proofs.Face.{option_map-found}
 use Rattle.cc_heaps.proofs.Keys.{named-object}
 use Rattle.cc_heaps.proofs.References.{reflector_by-key}
 use Rattle.std.proofs.Common.{◌≡◌, ℕ, ◌≤◌, Bool, true, false, [], ◌∷◌, ◌++◌, map, get_or, Option, Some, None, option_map, refl, sym, ◌∙◌, ap, subst, ⊎_elim, option_and_then}

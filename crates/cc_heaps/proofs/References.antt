@@ -1,11 +1,10 @@
 -- WHAT A NATIVE REFERS TO, by its key and by its number alike: its slots, and its reflector, where that is preserved.
-use Rattle.cc_laws_heap.proofs.GraphParts.{is_some-found}
+use Rattle.cc_laws_heap.proofs.Face.{IsRising-distinct, is_some-found, named-member, native_at-member}
 use Rattle.std.proofs.Common.{◌≡◌, ℕ, zero, suc, ◌+◌, ◌≤◌, ◌==◌, Bool, true, false, List, [], ◌∷◌, ◌++◌, length, get_or, length-append, Option, Some, None, IsSome, refl, sym, ◌∙◌, ap, arith}
 use Rattle.std.proofs.lemmas.Bool.{eq-eqb, eqb-true}
 use Rattle.cc_lists.specs.Members.{Among}
 use Rattle.cc_lists.proofs.Filtering.{find-among}
 use Rattle.cc_model.specs.Heap.{HeapNative, native_at}
-use Rattle.cc_laws_heap.proofs.Natives.{IsRising-distinct, named-member, native_at-member}
 use Rattle.cc_counted.specs.Counts.{Counts, number_at, number_or_none, the_number, reflector_at, heap_of, slots_at, slots_of, preserved_at, preserved_of, preserved_reflector, references_of}
 use Rattle.cc_counted.specs.Owning.{HasKeys}
 use Rattle.cc_heaps.specs.Roots.{reflector_by, references_in, HaveFewSlots}

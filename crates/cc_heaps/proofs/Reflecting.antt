@@ -1,7 +1,7 @@
 -- THE REFLECTOR OF A REACHED NATIVE, as far as it is in the heaps: they follow the graph over what is reached and the
 -- reflector. Preserved it is reached, and else it is blank.
 use Rattle.cc_lists.proofs.Held.{option_and_then-found}
-use Rattle.cc_laws_heap.proofs.Changing.{option_map-found}
+use Rattle.cc_laws_heap.proofs.Face.{Follows, Follows-made, IsIn, IsMade, Made, MadeScript, OfSome, contents-empty_none, further_of, option_map-found, stands-follows}
 use Rattle.std.proofs.Common.{arith, ◌≡◌, ℕ, true, false, [], ◌∷◌, Option, Some, None, refl, sym, ◌∙◌, ap, subst, inl, inr, ◌⊎◌, ⊎_elim, is_some}
 use Rattle.std.proofs.lemmas.Bool.{cases_Bool}
 use Rattle.cc_lists.specs.Members.{Among}
@@ -17,13 +17,6 @@ use Rattle.cc_model.specs.WellMade.{IsWellMade}
 use Rattle.cc_model.specs.Heap.{Heap, HeapScript}
 use Rattle.cc_model.specs.WellFormed.{IsWellFormed, FitsName, script_names}
 use Rattle.cc_model.specs.StandsFor.{Shape, shape_in, shape_of_object, shape_of_reflector, shape_of_held_script, script_shape, IsKept, StandsFor, shape_of_native}
-use Rattle.cc_laws_heap.proofs.Holds.{OfSome}
-use Rattle.cc_laws_heap.proofs.Shapes.{further_of}
-use Rattle.cc_laws_heap.proofs.GraphReads.{MadeScript, Made}
-use Rattle.cc_laws_heap.proofs.Owning.{IsIn}
-use Rattle.cc_laws_heap.proofs.Following.{Follows, stands-follows}
-use Rattle.cc_laws_heap.proofs.MadeAlike.{IsMade, Follows-made}
-use Rattle.cc_laws_heap.proofs.Making.{contents-empty_none}
 
 -- what has a shape in the graph was made
 pub shape-made : (g : Graph) (x : Name) (s : Shape) → shape_in g x ≡ Some s → Made g x

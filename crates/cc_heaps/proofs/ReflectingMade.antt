@@ -19,20 +19,8 @@ use Rattle.cc_model.specs.Effects.{with_reflector, wrapped}
 use Rattle.cc_model.specs.WellFormed.{IsWellFormed, native_names}
 use Rattle.cc_model.specs.StandsFor.{StandsFor}
 use Rattle.cc_laws_heap.specs.Sound.{IsSound}
-use Rattle.cc_laws_heap.proofs.Coloured.{AreColoured-from_view, HasColourInvariant-from}
-use Rattle.cc_laws_heap.proofs.ColourChanges.{AreColoured-push}
-use Rattle.cc_laws_heap.proofs.GraphWrites.{IsWellMade-change_native, KeepsNative-wrapped}
-use Rattle.cc_laws_heap.proofs.HoldsTheSame.{HoldsTheSame-add_ref}
-use Rattle.cc_laws_heap.proofs.Making.{contents-empty_none}
-use Rattle.cc_laws_heap.proofs.ReachedAlike.{in-reached}
-use Rattle.cc_laws_heap.proofs.ScriptCommands.{blank, with_reflector-sound}
-use Rattle.cc_laws_heap.proofs.ScriptsKept.{is_one_of, exposed-sound}
-use Rattle.cc_laws_heap.proofs.Standing.{follows-stands}
-use Rattle.cc_laws_heap.proofs.Wrapping.{Follows-wrapped}
-use Rattle.cc_laws_snapshot.proofs.KindsHeld.{reflector_made-suspected}
-use Rattle.cc_laws_snapshot.proofs.KindsMade.{reflector_made-fresh}
-use Rattle.cc_laws_snapshot.proofs.NamesAndEdges.{edges-alike}
-use Rattle.cc_laws_snapshot.proofs.ReachedStays.{script-edge, reached-kept}
+use Rattle.cc_laws_heap.proofs.Face.{AreColoured-from_view, AreColoured-push, Follows-wrapped, HasColourInvariant-from, HoldsTheSame-add_ref, IsWellMade-change_native, KeepsNative-wrapped, blank, contents-empty_none, exposed-sound, follows-stands, in-reached, is_one_of, with_reflector-sound}
+use Rattle.cc_laws_snapshot.proofs.Face.{edges-alike, reached-kept, reflector_made-fresh, reflector_made-suspected, script-edge}
 use Rattle.cc_heaps.specs.Standing.{IsReached, StandsAfter, KeepsFresh, KeepsSuspected, KeepsColours}
 
 -- native k is wrapped: its reflector exposed where it has one, or made

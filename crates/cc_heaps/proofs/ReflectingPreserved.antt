@@ -1,6 +1,6 @@
 -- A REFLECTOR PRESERVED that is there: the heaps stand for the graph in which it is, the colour invariant stays, every
 -- snapshot that was fresh is fresh where it is not gray, and no unreached native is forgotten.
-use Rattle.cc_laws_snapshot.proofs.NodeUnit.{gray-tested}
+use Rattle.cc_laws_snapshot.proofs.Face.{flag_written-fresh, flag_written-suspected, gray-tested, native-edge, reached-kept}
 use Rattle.std.proofs.Common.{arith, ◌≡◌, ℕ, ◌==◌, Bool, true, false, List, [], ◌∷◌, Option, Some, None, option_map, refl, sym, ◌∙◌, ap, ⊎_elim}
 use Rattle.std.specs.List.{flat_map}
 use Rattle.std.proofs.lemmas.Bool.{true≢false}
@@ -17,16 +17,7 @@ use Rattle.cc_model.specs.View.{view, slot_edges, preserved_edge, native_edges, 
 use Rattle.cc_model.specs.WellFormed.{script_names}
 use Rattle.cc_model.specs.StandsFor.{StandsFor}
 use Rattle.cc_laws_heap.specs.Sound.{IsSound}
-use Rattle.cc_laws_heap.proofs.Coloured.{AreColoured-from_view, HasColourInvariant-from}
-use Rattle.cc_laws_heap.proofs.GraphWrites.{IsWellMade-change_native, KeepsNative-preserved}
-use Rattle.cc_laws_heap.proofs.Natives.{native_at-change_same}
-use Rattle.cc_laws_heap.proofs.ReachedAlike.{in-reached}
-use Rattle.cc_laws_heap.proofs.SlotsWritten.{Follows-preserved}
-use Rattle.cc_laws_heap.proofs.Standing.{follows-stands}
-use Rattle.cc_laws_heap.proofs.Writes.{set_preserved-sound}
-use Rattle.cc_laws_snapshot.proofs.KindsHeld.{flag_written-suspected}
-use Rattle.cc_laws_snapshot.proofs.KindsWritten.{flag_written-fresh}
-use Rattle.cc_laws_snapshot.proofs.ReachedStays.{native-edge, reached-kept}
+use Rattle.cc_laws_heap.proofs.Face.{AreColoured-from_view, Follows-preserved, HasColourInvariant-from, IsWellMade-change_native, KeepsNative-preserved, follows-stands, in-reached, native_at-change_same, set_preserved-sound}
 use Rattle.cc_heaps.specs.Standing.{IsReached, MayHold, StandsAfter, KeepsFresh, KeepsSuspected, KeepsColours}
 use Rattle.cc_heaps.proofs.Reflecting.{there-made, Follows-reflector}
 

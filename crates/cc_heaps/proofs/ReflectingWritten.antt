@@ -16,18 +16,7 @@ use Rattle.cc_model.specs.Effects.{hold_script}
 use Rattle.cc_model.specs.WellFormed.{IsWellFormed, script_names}
 use Rattle.cc_model.specs.StandsFor.{Shape, shape_in, shape_of_held_native, StandsFor}
 use Rattle.cc_laws_heap.specs.Sound.{IsSound}
-use Rattle.cc_laws_heap.proofs.Changing.{option_map-found}
-use Rattle.cc_laws_heap.proofs.Following.{Follows, stands-follows}
-use Rattle.cc_laws_heap.proofs.GraphWrites.{IsWellMade-script_register, IsWellMade-change_native, IsWellMade-script_slot, KeepsNative-reflector_slot}
-use Rattle.cc_laws_heap.proofs.Holds.{OfSome}
-use Rattle.cc_laws_heap.proofs.Owning.{IsIn}
-use Rattle.cc_laws_heap.proofs.ReachedAlike.{in-reached}
-use Rattle.cc_laws_heap.proofs.ReachedReads.{native_of-reached}
-use Rattle.cc_laws_heap.proofs.ScriptsKept.{native-no_script, script_slot-sound, hold_script-sound}
-use Rattle.cc_laws_heap.proofs.SlotsWritten.{IsPreserved, Follows-slot}
-use Rattle.cc_laws_heap.proofs.Standing.{follows-stands}
-use Rattle.cc_laws_heap.proofs.StepsAlike.{Follows-hold_script}
-use Rattle.cc_laws_heap.proofs.GraphCommands.{KeepsReflector-slot}
+use Rattle.cc_laws_heap.proofs.Face.{Follows, Follows-hold_script, Follows-slot, IsIn, IsPreserved, IsWellMade-change_native, IsWellMade-script_register, IsWellMade-script_slot, KeepsNative-reflector_slot, KeepsReflector-slot, OfSome, follows-stands, hold_script-sound, in-reached, native-no_script, native_of-reached, option_map-found, script_slot-sound, stands-follows}
 use Rattle.cc_heaps.specs.Standing.{IsReached, IsReachedOrReflects, MayHold, StandsAfter}
 use Rattle.cc_heaps.proofs.Reflecting.{there-made, held-made, Follows-reflector}
 

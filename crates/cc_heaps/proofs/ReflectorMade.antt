@@ -17,8 +17,7 @@ use Rattle.cc_model.specs.Cascade.{add_ref}
 use Rattle.cc_model.specs.Effects.{with_reflector, with_script}
 use Rattle.cc_model.specs.WellFormed.{native_names}
 use Rattle.cc_laws_heap.specs.Sound.{IsSound}
-use Rattle.cc_laws_heap.proofs.Holding.{has_reflector-none}
-use Rattle.cc_laws_heap.proofs.ScriptCommands.{with_reflector-sound}
+use Rattle.cc_laws_heap.proofs.Face.{has_reflector-none, with_reflector-sound}
 use Rattle.cc_counted.specs.Counts.{Counts, number_or_none, with_heap}
 use Rattle.cc_counted.specs.Counts as counts
 use Rattle.cc_script.specs.Objects.{Object, is_there, name_at, reflector_object}

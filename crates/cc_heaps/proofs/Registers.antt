@@ -1,7 +1,7 @@
 -- REGISTERS HOLD KEYS: as long as what they hold is there, they hold the same names.
 use Rattle.cc_heaps.proofs.Keys.{key_left-there}
 use Rattle.cc_lists.proofs.Held.{map-held, map-replicate}
-use Rattle.cc_laws_heap.proofs.GraphParts.{is_some-found}
+use Rattle.cc_laws_heap.proofs.Face.{is_some-found, named-found}
 use Rattle.std.proofs.Common.{arith, ◌≡◌, ◌≢◌, ℕ, zero, suc, List, [], ◌∷◌, map, true, Option, Some, None, option_map, get_or, replicate, length, refl, sym, ◌∙◌, ap, subst, inl, inr, ⊎_elim}
 use Rattle.std.specs.Option.{is_some, option_to_list}
 use Rattle.std.proofs.Math.ListN.{get_or-map}
@@ -15,7 +15,6 @@ use Rattle.cc_names.specs.Names.{native}
 use Rattle.cc_model.specs.Slots.{contents}
 use Rattle.cc_model.specs.Heap.{Heap}
 use Rattle.cc_model.specs.WellFormed.{native_names}
-use Rattle.cc_laws_heap.proofs.Natives.{named-found}
 use Rattle.cc_counted.specs.Counts.{key_left}
 use Rattle.cc_script.specs.Objects.{Object}
 use Rattle.cc_heaps.specs.Keyed.{Keyed}

@@ -1,7 +1,7 @@
 -- WHAT CALLS DO TO SCRIPT OBJECTS AND SCRIPT REGISTERS: an exposure, a slot written, a register written, an object made.
 use Rattle.cc_heaps.proofs.ObjectsKept.{there-named}
 use Rattle.cc_script.proofs.InOrder.{object_at-left}
-use Rattle.cc_laws_heap.proofs.Changing.{option_map-found}
+use Rattle.cc_laws_heap.proofs.Face.{IsNewScript-object, blank, exposed-sound, option_map-found, script_register-sound, script_slot-sound, with_script-sound}
 use Rattle.cc_lists.proofs.Held.{is_some-none, once-push, map-replicate, map-held}
 use Rattle.std.proofs.Common.{arith, ◌≡◌, ℕ, ◌+◌, ◌<◌, ◌≤◌, false, List, [], ◌∷◌, ◌++◌, map, replicate, Option, Some, None, option_map, refl, sym, ◌∙◌, ap, subst, ⊎_elim, ◌==◌}
 use Rattle.std.specs.Prelude.{IfSome, IsTrue, slice_set}
@@ -26,10 +26,6 @@ use Rattle.cc_model.specs.Effects.{with_object}
 use Rattle.cc_model.specs.Exposure.{exposed}
 use Rattle.cc_model.specs.WellFormed.{FitsName}
 use Rattle.cc_laws_heap.specs.Sound.{IsSound}
-use Rattle.cc_laws_heap.proofs.Writes.{script_register-sound}
-use Rattle.cc_laws_heap.proofs.MadeSound.{with_script-sound}
-use Rattle.cc_laws_heap.proofs.ScriptsKept.{exposed-sound, script_slot-sound}
-use Rattle.cc_laws_heap.proofs.ScriptCommands.{blank, IsNewScript-object}
 use Rattle.cc_script.specs.Objects.{Object, AreWhole, change_object, is_there, name_at, object_at, raised_among, with_slot}
 use Rattle.cc_script.proofs.Wholeness as scripts
 use Rattle.cc_script.specs.Walking.{keys_reached}

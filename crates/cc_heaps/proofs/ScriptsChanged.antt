@@ -1,6 +1,6 @@
 -- THE SCRIPT OBJECTS ARE CHANGED, or more are made: keys that have names keep them. Then registers and natives hold, and
 -- entries name, what they did.
-use Rattle.cc_laws_heap.proofs.ScriptNames.{scripts-once}
+use Rattle.cc_laws_heap.proofs.Face.{native-no_script, scripts-once}
 use Rattle.std.proofs.Common.{arith, ◌≡◌, ℕ, ◌≤◌, false, List, map, Option, Some, None, refl, sym, ◌∙◌, ap, subst, ⊎_elim, count_by}
 use Rattle.std.specs.Prelude.{IsTrue}
 use Rattle.std.specs.Option.{option_and_then}
@@ -14,7 +14,6 @@ use Rattle.cc_names.specs.Names.{same_name, is_native}
 use Rattle.cc_model.specs.Heap.{Heap, HeapNative, HeapScript}
 use Rattle.cc_model.specs.WellFormed.{IsWellFormed, script_names}
 use Rattle.cc_laws_heap.specs.Sound.{IsSound}
-use Rattle.cc_laws_heap.proofs.ScriptsKept.{native-no_script}
 use Rattle.cc_script.specs.Objects.{Object, AreWhole, is_there, name_at}
 use Rattle.cc_script.proofs.Reaching.{among-held}
 use Rattle.cc_weakmaps.specs.Entries.{KeyedEntry}

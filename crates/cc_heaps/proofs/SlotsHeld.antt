@@ -10,9 +10,7 @@ use Rattle.cc_model.specs.Checks.{slots_or_none}
 use Rattle.cc_model.specs.Heap.{Heap, HeapNative, native_at, set_slot}
 use Rattle.cc_model.specs.Cascade.{take_up}
 use Rattle.cc_model.specs.End.{slots_now}
-use Rattle.cc_laws_heap.proofs.Holds.{contents-get}
-use Rattle.cc_laws_heap.proofs.HoldsTheSame.{HoldsTheSame-take_up, slots_in-alike}
-use Rattle.cc_laws_heap.proofs.Natives.{native_at-there}
+use Rattle.cc_laws_heap.proofs.Face.{HoldsTheSame-take_up, contents-get, native_at-there, slots_in-alike}
 use Rattle.cc_laws_heap.specs.Sound.{numbers_of}
 use Rattle.cc_counted.specs.declared.held.Held.{Held}
 use Rattle.cc_counted.specs.declared.held.Held.TheVariants as held

@@ -26,19 +26,8 @@ use Rattle.cc_model.specs.Effects.{effects, hold_native, hold_script, make_nativ
 use Rattle.cc_model.specs.WellFormed.{IsWellFormed, native_names, script_names}
 use Rattle.cc_model.specs.StandsFor.{StandsFor}
 use Rattle.cc_laws_heap.specs.Sound.{IsSound}
-use Rattle.cc_laws_heap.proofs.Holds.{OfSome, OfSome-then}
-use Rattle.cc_laws_heap.proofs.Owning.{IsIn}
-use Rattle.cc_laws_heap.proofs.GraphReads.{Made, MadeNative}
-use Rattle.cc_laws_heap.proofs.GraphWrites.{IsWellMade-native_register, IsWellMade-change_native, KeepsNative-slot}
-use Rattle.cc_laws_heap.proofs.GraphCommands.{step-well}
-use Rattle.cc_laws_heap.proofs.Following.{Follows, stands-follows}
-use Rattle.cc_laws_heap.proofs.Standing.{follows-stands}
-use Rattle.cc_laws_heap.proofs.Changing.{Follows-left}
-use Rattle.cc_laws_heap.proofs.Unseen.{Leaves-take_up, Leaves-let_go}
-use Rattle.cc_laws_heap.proofs.SlotsWritten.{Follows-slot}
-use Rattle.cc_laws_heap.proofs.StepsAlike.{Follows-hold}
-use Rattle.cc_laws_heap.proofs.CommandsStand.{command-stands}
-use Rattle.cc_laws_snapshot.proofs.SoundView.{native-name_of}
+use Rattle.cc_laws_heap.proofs.Face.{Follows, Follows-hold, Follows-left, Follows-slot, IsIn, IsWellMade-change_native, IsWellMade-native_register, KeepsNative-slot, Leaves-let_go, Leaves-take_up, Made, MadeNative, OfSome, OfSome-then, command-stands, follows-stands, stands-follows, step-well}
+use Rattle.cc_laws_snapshot.proofs.Face.{native-name_of}
 use Rattle.cc_counted.specs.declared.held.Held.{Held}
 use Rattle.cc_script.specs.Objects.{is_there, name_at}
 use Rattle.cc_heaps.specs.Keyed.{Keyed, IsInOrder, left_with}

@@ -23,26 +23,7 @@ use Rattle.cc_model.specs.WellFormed.{IsWellFormed, native_names}
 use Rattle.cc_model.specs.StandsFor.{shape_at, shape_of_held_script, StandsFor}
 use Rattle.cc_laws_heap.specs.Sound.{IsSound}
 use Rattle.cc_laws_heap.specs.Freeing.{SameBeside}
-use Rattle.cc_laws_heap.proofs.Coloured.{IsColoured, AreColoured-from_view, HasColourInvariant-from}
-use Rattle.cc_laws_heap.proofs.Following.{stands-follows}
-use Rattle.cc_laws_heap.proofs.Standing.{follows-stands}
-use Rattle.cc_laws_heap.proofs.Changing.{Leaves, Follows-left}
-use Rattle.cc_laws_heap.proofs.Unseen.{Leaves-exposed}
-use Rattle.cc_laws_heap.proofs.StandingOn.{add_ref-stands, cascade-stands, unlink-stands}
-use Rattle.cc_laws_heap.proofs.ReachedAlike.{reached-in}
-use Rattle.cc_laws_heap.proofs.ScriptsKept.{exposed-sound}
-use Rattle.cc_laws_heap.proofs.HoldsTheSame.{HoldsTheSame-add_ref}
-use Rattle.cc_laws_heap.proofs.Owning.{add_ref-sound}
-use Rattle.cc_laws_heap.proofs.Cascades.{cascade-frees, cascade-sound}
-use Rattle.cc_laws_heap.proofs.Unlinking.{unlink-keeps}
-use Rattle.cc_laws_heap.proofs.Marking.{as_marked}
-use Rattle.cc_laws_heap.proofs.CollectedColours.{black-is, is-black}
-use Rattle.cc_laws_heap.proofs.MarkingKeeps.{IsSound-marked}
-use Rattle.cc_laws_heap.proofs.MarkedKept.{black-register, black-slot}
-use Rattle.cc_laws_heap.proofs.MarkedWellFormed.{is_spared}
-use Rattle.cc_laws_heap.proofs.NameLists.{is_not_among-apart}
-use Rattle.cc_laws_heap.proofs.Swept.{scripts-sweep, beside-sweep, sweep-sound}
-use Rattle.cc_laws_heap.proofs.RoundsStand.{round-stands}
+use Rattle.cc_laws_heap.proofs.Face.{AreColoured-from_view, Follows-left, HasColourInvariant-from, HoldsTheSame-add_ref, IsColoured, IsSound-marked, Leaves, Leaves-exposed, add_ref-sound, add_ref-stands, as_marked, beside-sweep, black-is, black-register, black-slot, cascade-frees, cascade-sound, cascade-stands, exposed-sound, follows-stands, is-black, is_not_among-apart, is_spared, reached-in, round-stands, scripts-sweep, stands-follows, sweep-sound, unlink-keeps, unlink-stands}
 use Rattle.cc_heaps.specs.Keyed.{Keyed, IsInOrder, changed_to, number_at, the_number}
 use Rattle.cc_heaps.specs.Standing.{StillStands}
 use Rattle.cc_heaps.proofs.Calls.{number-there}

@@ -23,8 +23,7 @@ use Rattle.cc_model.specs.Sweep.{without_script}
 use Rattle.cc_model.specs.Sweep as model
 use Rattle.cc_model.specs.WellFormed.{native_names}
 use Rattle.cc_laws_heap.specs.Freeing.{Uncounted}
-use Rattle.cc_laws_heap.proofs.NameLists.{same_name-sym}
-use Rattle.cc_laws_heap.proofs.Natives.{named-member}
+use Rattle.cc_laws_heap.proofs.Face.{named-member, same_name-sym}
 use Rattle.cc_counted.specs.Counts.{Counts, number_at, number_or_none, the_number, key_left, left_with, reflectors_left}
 use Rattle.cc_counted.specs.Counts as counts
 use Rattle.cc_counted.specs.Owning.{HasKeys}

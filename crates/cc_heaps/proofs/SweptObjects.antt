@@ -20,9 +20,7 @@ use Rattle.cc_model.specs.Sweep.{unmarked, without_dead_entries, sweep}
 use Rattle.cc_model.specs.Sweep as model
 use Rattle.cc_model.specs.WellFormed.{native_names}
 use Rattle.cc_laws_heap.specs.Sound.{IsSound}
-use Rattle.cc_laws_heap.proofs.Natives.{named-member}
-use Rattle.cc_laws_heap.proofs.References.{times-append}
-use Rattle.cc_laws_heap.proofs.Swept.{scripts-sweep, sweep-sound}
+use Rattle.cc_laws_heap.proofs.Face.{named-member, scripts-sweep, sweep-sound, times-append}
 use Rattle.cc_counted.specs.Counts.{number_at, number_or_none, the_number, key_left}
 use Rattle.cc_counted.specs.Counts as counts
 use Rattle.cc_counted.specs.Owning.{AreOwned}

@@ -81,3 +81,4 @@ pub mod Wrapping
 pub mod ReachedReads
 pub mod StepsAlike
 pub mod CommandsStand
+pub mod Face

@@ -49,3 +49,4 @@ pub mod FirstCollection
 pub mod FollowedAsks
 pub mod WholeRuns
 pub mod Witnesses
+pub mod Face

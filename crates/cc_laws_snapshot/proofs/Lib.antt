@@ -46,3 +46,4 @@ pub mod EndLoses
 pub mod EndSuspected
 pub mod KindsHeld
 pub mod KindsWaiting
+pub mod Face

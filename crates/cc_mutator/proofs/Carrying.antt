@@ -20,7 +20,7 @@ use Rattle.cc_model.specs.Heap.{Heap, Outcome, register, source, objects_of, set
 use Rattle.cc_model.specs.Effects.{effects, hold_native, hold_script, make_native, make_object, put_in_script, set_entry, store_native, takes_memory, wrapped}
 use Rattle.cc_model.specs.Exposure.{exposed}
 use Rattle.cc_model.proofs.Tellings.{Tells-nil}
-use Rattle.cc_laws_heap.proofs.Taken.{IsTaken-from}
+use Rattle.cc_laws_heap.proofs.Face.{IsTaken-from}
 use Rattle.cc_heaps.specs.Keyed.{Keyed, IsInOrder, left_with}
 use Rattle.cc_heaps.specs.Changes.{KeepsKeys}
 use Rattle.cc_mutator.specs.Applied.{IsCarriedOut}

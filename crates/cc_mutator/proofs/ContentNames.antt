@@ -7,7 +7,7 @@ use Rattle.cc_names.specs.declared.number.NKey.{NKey}
 use Rattle.cc_names.specs.declared.number.SKey.{SKey}
 use Rattle.cc_names.specs.Names.{native, is_script}
 use Rattle.cc_model.specs.Checks.{is_native_there, is_script_there}
-use Rattle.cc_laws_heap.proofs.ScriptNames.{script-named}
+use Rattle.cc_laws_heap.proofs.Face.{script-named}
 use Rattle.cc_counted.specs.declared.held.Held.{Held}
 use Rattle.cc_counted.specs.declared.held.Held.TheVariants as held
 use Rattle.cc_counted.specs.Counts.{held_of_native}

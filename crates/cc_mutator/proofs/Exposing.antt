@@ -14,9 +14,7 @@ use Rattle.cc_model.specs.Slots.{contents, from_to}
 use Rattle.cc_model.specs.Heap.{Heap, HeapScript, register}
 use Rattle.cc_model.specs.View.{script_slot_edges}
 use Rattle.cc_model.specs.Exposure.{as_black, exposed, exposed_names, exposure_rules, slots_of_scripts}
-use Rattle.cc_laws_heap.proofs.Coloured.{IsColoured}
-use Rattle.cc_laws_heap.proofs.ColourChanges.{IsHeldBlack}
-use Rattle.cc_laws_heap.proofs.Writes.{contents-at}
+use Rattle.cc_laws_heap.proofs.Face.{IsColoured, IsHeldBlack, contents-at-of_writes as contents-at}
 
 module _ (h : Heap) (c : IsColoured h) where
   -- script objects of this name are black

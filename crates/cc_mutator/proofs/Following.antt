@@ -36,15 +36,8 @@ use Rattle.cc_model.specs.View.{view}
 use Rattle.cc_model.specs.WellFormed.{native_names, script_names}
 use Rattle.cc_model.specs.WellMade.{IsWellMade}
 use Rattle.cc_model.proofs.Replies.{is_without_memory-true}
-use Rattle.cc_laws_heap.proofs.Taken.{IsTaken-from}
-use Rattle.cc_laws_heap.proofs.Coloured.{AreColoured-from_view, HasColourInvariant-from}
-use Rattle.cc_laws_heap.proofs.CommandsColours.{effects-coloured}
-use Rattle.cc_laws_heap.proofs.CommandsSound.{effects-sound}
-use Rattle.cc_laws_heap.proofs.GraphCommands.{step-well}
-use Rattle.cc_laws_heap.proofs.Holding.{has_reflector-none}
-use Rattle.cc_laws_heap.proofs.CommandsStand.{command-stands}
-use Rattle.cc_laws_heap.proofs.RepliesAlike.{refusal_of-alike, reply_if_taken-alike, objects-stand}
-use Rattle.cc_laws_snapshot.proofs.CommandsGentle.{effects-fresh}
+use Rattle.cc_laws_heap.proofs.Face.{AreColoured-from_view, HasColourInvariant-from, IsTaken-from, command-stands, effects-coloured, effects-sound, has_reflector-none, objects-stand, refusal_of-alike, reply_if_taken-alike, step-well}
+use Rattle.cc_laws_snapshot.proofs.Face.{effects-fresh}
 use Rattle.cc_heaps.specs.Standing.{StandsAfter}
 use Rattle.cc_heaps.specs.Keyed.{Keyed, IsInOrder}
 use Rattle.cc_mutator.specs.Commands.{IsApplied}

@@ -12,8 +12,7 @@ use Rattle.cc_names.specs.Names.{native}
 use Rattle.cc_model.specs.Slots.{Slots}
 use Rattle.cc_model.specs.Checks.{slots_or_none, slot_at, slots_at}
 use Rattle.cc_model.specs.Heap.{HeapNative, native_at, objects_of, register, slots_in}
-use Rattle.cc_laws_heap.proofs.Holding.{native_register-there, slot_at-there}
-use Rattle.cc_laws_heap.proofs.Natives.{named-found, native_at-there}
+use Rattle.cc_laws_heap.proofs.Face.{named-found, native_at-there, native_register-there, slot_at-there}
 use Rattle.cc_counted.specs.declared.held.Held.{Held}
 use Rattle.cc_counted.specs.Counts.{heap_of, is_live, name_of, number_or_none, slots_of}
 use Rattle.cc_counted.specs.Counts as counts

@@ -7,7 +7,7 @@ use Rattle.cc_model.specs.Ranges.{in_range}
 use Rattle.cc_model.specs.Heap.{Heap}
 use Rattle.cc_model.specs.View.{view}
 use Rattle.cc_model.specs.Suspected.{IsSuspected}
-use Rattle.cc_laws_snapshot.proofs.CommandsSuspected.{effects-suspected}
+use Rattle.cc_laws_snapshot.proofs.Face.{effects-suspected}
 use Rattle.cc_heaps.specs.Keyed.{Keyed, IsInOrder}
 use Rattle.cc_mutator.specs.Commands.{IsApplied}
 use Rattle.cc_mutator.proofs.Following.{happened}

@@ -22,10 +22,7 @@ use Rattle.cc_model.specs.Slots.{Slots}
 use Rattle.cc_model.specs.Checks.{is_map_in, slots_or_none, slot_at, slots_at}
 use Rattle.cc_model.specs.Heap.{Heap, HeapScript, objects_of, register, script_at, source, slots_in, slots_of_kind, slots_of_script}
 use Rattle.cc_model.specs.WellFormed.{FitsName}
-use Rattle.cc_laws_heap.proofs.Coloured.{IsColoured}
-use Rattle.cc_laws_heap.proofs.ColourChanges.{IsHeldBlack}
-use Rattle.cc_laws_heap.proofs.ScriptNames.{script-named, scripts-once}
-use Rattle.cc_laws_heap.proofs.Writes.{contents-at}
+use Rattle.cc_laws_heap.proofs.Face.{IsColoured, IsHeldBlack, contents-at-of_writes as contents-at, script-named, scripts-once}
 use Rattle.cc_script.specs.Objects.{Object, object_at, is_there, kind_at, colour_at}
 use Rattle.cc_script.specs.Objects as objects
 use Rattle.cc_heaps.specs.Keyed.{Keyed, IsInOrder, name_held, named_object}

@@ -16,10 +16,7 @@ use Rattle.cc_model.specs.Run.{do_ask, plain_run}
 use Rattle.cc_model.proofs.Tellings.{Tells-nil, Tells-trans}
 use Rattle.cc_laws_run.specs.Memory.{with_memory, noes, all_noes_told, SameMachine, IsDoneFor, AreDoneFor}
 use Rattle.cc_laws_run.specs.Running.{ask_in_range}
-use Rattle.cc_laws_run.proofs.Ample.{turns-ample}
-use Rattle.cc_laws_run.proofs.InARow.{OneList, one_list}
-use Rattle.cc_laws_run.proofs.PlainLawful.{run-lawful}
-use Rattle.cc_laws_run.proofs.PlainQuiet.{run-quiet}
+use Rattle.cc_laws_run.proofs.Face.{OneList, one_list, run-lawful, run-quiet, turns-ample}
 use Rattle.cc_laws_headline.proofs.EachExchange.{tells-of_a_graph}
 use Rattle.cc_model.specs.Forms.{version_one_forms}
 use Rattle.cc_reader.specs.Pending.{Pending}

@@ -11,10 +11,7 @@ use Rattle.cc_model.specs.Heap.{Heap, Outcome, silently, after}
 use Rattle.cc_model.specs.WellFormed.{IsRising, native_names}
 use Rattle.cc_model.specs.Counts.{times}
 use Rattle.cc_lists.proofs.Numbers.{number-exact}
-use Rattle.cc_laws_heap.proofs.References.{times-cons}
-use Rattle.cc_laws_heap.proofs.Rising.{IsRising-filter}
-use Rattle.cc_laws_heap.proofs.TakingAway.{IsSound-permuted}
-use Rattle.cc_laws_heap.proofs.Leaving.{Leave, Leave-before, Leave-not_freed, numbers_there, numbers_there-named, is_left}
+use Rattle.cc_laws_heap.proofs.Face.{IsRising-filter, IsSound-permuted, Leave, Leave-before, Leave-not_freed, is_left, numbers_there, numbers_there-named, times-cons}
 use Rattle.cc_counted.specs.Counts.{key_left, number_or_none}
 use Rattle.cc_graph.specs.Shown.{Shown}
 use Rattle.cc_heaps.specs.Keyed.{Keyed, IsInOrder, the_number, left_with}

@@ -7,12 +7,8 @@ use Rattle.cc_model.specs.WellFormed.{native_names}
 use Rattle.cc_model.specs.Snapshot.{Snapshot}
 use Rattle.cc_model.specs.Suspected.{IsSuspected}
 use Rattle.cc_model.specs.End.{take_away}
-use Rattle.cc_laws_heap.proofs.Coloured.{AreColoured-from_view, HasColourInvariant-from}
-use Rattle.cc_laws_heap.proofs.EndsStand.{take_away-stands}
-use Rattle.cc_laws_heap.proofs.NativesKeepScripts.{SameScripts-coloured}
-use Rattle.cc_laws_heap.proofs.ReachedAlike.{reached-in, reached-there}
-use Rattle.cc_laws_heap.proofs.TakingAway.{take_away-sound, take_away-takes}
-use Rattle.cc_laws_snapshot.proofs.EndSuspected.{end-suspected}
+use Rattle.cc_laws_heap.proofs.Face.{AreColoured-from_view, HasColourInvariant-from, SameScripts-coloured, reached-in, reached-there, take_away-sound, take_away-stands, take_away-takes}
+use Rattle.cc_laws_snapshot.proofs.Face.{end-suspected}
 use Rattle.cc_graph.specs.Shown.{Shown}
 use Rattle.cc_heaps.specs.Keyed.{Keyed, IsInOrder, left_with}
 use Rattle.cc_heaps.specs.Standing.{StillStands, KeepsColours}

@@ -7,10 +7,7 @@ use Rattle.cc_model.specs.Cascade.{add_ref}
 use Rattle.cc_model.specs.Counts.{times}
 use Rattle.cc_model.specs.End.{root_each}
 use Rattle.cc_model.specs.WellFormed.{native_names}
-use Rattle.cc_laws_heap.proofs.HoldsTheSame.{HoldsTheSame-add_ref, native_names-alike}
-use Rattle.cc_laws_heap.proofs.References.{times-append, times-cons, times-cons_same}
-use Rattle.cc_laws_heap.proofs.Rising.{IsRising-once}
-use Rattle.cc_laws_heap.proofs.Leaving.{Leave-add_ref}
+use Rattle.cc_laws_heap.proofs.Face.{HoldsTheSame-add_ref, IsRising-once, Leave-add_ref, native_names-alike, times-append, times-cons, times-cons_same}
 use Rattle.cc_graph.specs.Shown.{Shown}
 use Rattle.cc_heaps.specs.Keyed.{Keyed, IsInOrder, the_number, changed_to}
 use Rattle.cc_heaps.specs.Few.{IsNotOwned}

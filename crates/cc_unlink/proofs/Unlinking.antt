@@ -6,7 +6,7 @@ use Rattle.cc_model.specs.Heap.{Outcome}
 use Rattle.cc_model.specs.End.{unlink, unlink_each}
 use Rattle.cc_model.specs.Counts.{times}
 use Rattle.cc_laws_heap.specs.Sound.{IsSound}
-use Rattle.cc_laws_heap.proofs.Unlinking.{Unlinks, unlink-keeps}
+use Rattle.cc_laws_heap.proofs.Face.{Unlinks, unlink-keeps}
 use Rattle.cc_graph.specs.Shown.{Shown}
 use Rattle.cc_heaps.specs.Keyed.{Keyed, IsInOrder, the_number, left_with}
 use Rattle.cc_unlink.specs.Whites.{whites_of, whites_above}

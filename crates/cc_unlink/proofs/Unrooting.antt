@@ -3,8 +3,7 @@ use Rattle.std.proofs.Common.{◌≡◌, ℕ, ◌<◌, List, ◌∷◌, length, 
 use Rattle.cc_model.specs.Telling.{Telling, TellsEvents}
 use Rattle.cc_model.specs.Cascade.{cascade}
 use Rattle.cc_model.specs.End.{unroot_each}
-use Rattle.cc_laws_heap.proofs.Cascades.{cascade-frees, cascade-sound}
-use Rattle.cc_laws_heap.proofs.Leaving.{Leave-frees}
+use Rattle.cc_laws_heap.proofs.Face.{Leave-frees, cascade-frees, cascade-sound}
 use Rattle.cc_graph.specs.Shown.{Shown}
 use Rattle.cc_heaps.specs.Keyed.{Keyed, IsInOrder, the_number, left_with}
 use Rattle.cc_unlink.specs.Whites.{whites_of, whites_above}

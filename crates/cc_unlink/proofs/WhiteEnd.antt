@@ -13,8 +13,7 @@ use Rattle.cc_laws_heap.specs.Sound.{IsSound}
 use Rattle.cc_laws_heap.specs.Ending.{freed_numbers}
 use Rattle.cc_laws_heap.specs.Stages.{Stage, stage}
 use Rattle.cc_laws_heap.specs.Stages.Done.{nothing}
-use Rattle.cc_laws_heap.proofs.Leaving.{Leave-before, done-leaves}
-use Rattle.cc_laws_heap.proofs.TakingAway.{IsTaking, unroot_each-taking}
+use Rattle.cc_laws_heap.proofs.Face.{IsTaking, Leave-before, done-leaves, unroot_each-taking}
 use Rattle.cc_heaps.specs.Keyed.{Keyed, IsInOrder, changed_to, left_with}
 use Rattle.cc_heaps.proofs.LeftWith.{left_with-then}
 

@@ -17,7 +17,7 @@ use Rattle.cc_names.specs.Names.{reflector, same_name}
 use Rattle.cc_names.proofs.NameTests.{same_name-true, same_name-refl}
 use Rattle.cc_model.specs.Heap.{HeapScript, is_gray_in, is_gray_colour}
 use Rattle.cc_model.specs.WellFormed.{script_names}
-use Rattle.cc_laws_heap.proofs.ColourChanges.{IsHeldBlack}
+use Rattle.cc_laws_heap.proofs.Face.{IsHeldBlack}
 use Rattle.cc_counted.specs.Counts.{reflector_at}
 use Rattle.cc_script.specs.Objects.{Object, object_at, is_there, name_at, colour_at}
 use Rattle.cc_heaps.specs.Keyed.{Keyed, IsInOrder, counts_of, number_at, the_number, named_object, reflector_key}

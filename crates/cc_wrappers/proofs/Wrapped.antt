@@ -25,11 +25,8 @@ use Rattle.cc_model.specs.Graph as graph
 use Rattle.cc_model.specs.Heap.{Heap, HeapScript, has_reflector, set_preserved}
 use Rattle.cc_model.specs.View.{view, ReachedIn}
 use Rattle.cc_model.specs.WellFormed.{IsWellFormed, script_names}
-use Rattle.cc_laws_heap.proofs.ColourChanges.{IsHeldBlack, exposed-black}
-use Rattle.cc_laws_heap.proofs.Holding.{has_reflector-none}
-use Rattle.cc_laws_heap.proofs.ScriptCommands.{blank}
-use Rattle.cc_laws_heap.proofs.ScriptsKept.{script_names-exposed}
-use Rattle.cc_laws_snapshot.proofs.Handing.{edge-from_reflector}
+use Rattle.cc_laws_heap.proofs.Face.{IsHeldBlack, blank, exposed-black, has_reflector-none, script_names-exposed}
+use Rattle.cc_laws_snapshot.proofs.Face.{edge-from_reflector}
 use Rattle.cc_counted.specs.Counts.{reflector_at}
 use Rattle.cc_script.specs.Objects.{Object, is_there, name_at, colour_at, native_at}
 use Rattle.cc_heaps.specs.Keyed.{Keyed, IsInOrder, Reflects, counts_of, number_at, the_number}

@@ -1,6 +1,6 @@
 use Rattle.std.proofs.Common.{sym, subst}
 use Rattle.cc_model.specs.Colours.{HasColours}
-use Rattle.cc_laws_heap.proofs.Marking.{HasColours-marked}
+use Rattle.cc_laws_heap.proofs.Face.{HasColours-marked}
 use Rattle.cc_gc.proofs.RoundsLeft.{KeepsKeys-round}
 use Rattle.cc_gc.proofs.rounds.round.Goals as goal
 

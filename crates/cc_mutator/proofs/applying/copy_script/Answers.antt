@@ -2,7 +2,7 @@ use Rattle.std.proofs.Common.{◌≡◌, sym, subst}
 use Rattle.cc_names.specs.declared.register.Reg.TheVariants.{S}
 use Rattle.cc_model.specs.Exposure.{exposed}
 use Rattle.cc_model.specs.Heap.{objects_of, register}
-use Rattle.cc_laws_heap.proofs.Coloured.{AreColoured-from_view}
+use Rattle.cc_laws_heap.proofs.Face.{AreColoured-from_view}
 use Rattle.cc_heaps.specs.Changes.{script_name}
 use Rattle.cc_mutator.proofs.Carrying.{applied-done, carried-copy_script}
 use Rattle.cc_mutator.proofs.Exposing.{exposed-same, register-black}

@@ -3,7 +3,7 @@ use Rattle.cc_names.specs.declared.register.Reg.TheVariants.{N}
 use Rattle.cc_model.specs.declared.command.Command.TheVariants.{Get}
 use Rattle.cc_model.specs.Effects.{hold_native}
 use Rattle.cc_model.specs.Heap.{objects_of}
-use Rattle.cc_laws_heap.proofs.Taken.{IsTaken-from}
+use Rattle.cc_laws_heap.proofs.Face.{IsTaken-from}
 use Rattle.cc_heaps.specs.Changes.{native_name}
 use Rattle.cc_mutator.proofs.Carrying.{applied-refused, applied-left, carried-get_native, slot-get}
 use Rattle.cc_mutator.proofs.ContentNames.{as_native-named, is_script_held-named}

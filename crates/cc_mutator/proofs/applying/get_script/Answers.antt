@@ -2,7 +2,7 @@ use Rattle.std.proofs.Common.{refl, sym, ◌∙◌}
 use Rattle.cc_names.specs.declared.register.Reg.TheVariants.{S}
 use Rattle.cc_model.specs.declared.command.Command.TheVariants.{Get}
 use Rattle.cc_model.specs.Heap.{objects_of}
-use Rattle.cc_laws_heap.proofs.Taken.{IsTaken-from}
+use Rattle.cc_laws_heap.proofs.Face.{IsTaken-from}
 use Rattle.cc_mutator.proofs.Carrying.{applied-refused, applied-done, carried-get_script, slot-get}
 use Rattle.cc_mutator.proofs.ContentNames.{as_script-named, is_native_held-named}
 use Rattle.cc_mutator.proofs.applying.get_script.Goals as goal

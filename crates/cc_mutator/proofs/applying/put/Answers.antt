@@ -1,5 +1,5 @@
 use Rattle.std.proofs.Common.{refl, sym, ◌∙◌}
-use Rattle.cc_laws_heap.proofs.Coloured.{AreColoured-from_view}
+use Rattle.cc_laws_heap.proofs.Face.{AreColoured-from_view}
 use Rattle.cc_heaps.specs.Changes.{script_name}
 use Rattle.cc_mutator.proofs.Carrying.{applied-refused, applied-done, carried-put, slot-put}
 use Rattle.cc_mutator.proofs.ScriptsRead.{source-black}

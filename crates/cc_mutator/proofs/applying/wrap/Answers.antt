@@ -11,7 +11,7 @@ use Rattle.cc_model.specs.Effects.{lacks_reflector}
 use Rattle.cc_model.specs.Exposure.{exposed}
 use Rattle.cc_model.specs.Heap.{Heap, objects_of, register, set_register}
 use Rattle.cc_model.specs.WellFormed.{native_names, script_names}
-use Rattle.cc_laws_heap.proofs.Coloured.{AreColoured-from_view}
+use Rattle.cc_laws_heap.proofs.Face.{AreColoured-from_view}
 use Rattle.cc_counted.specs.Counts.{number_or_none}
 use Rattle.cc_script.specs.Objects.{Object, name_at}
 use Rattle.cc_heaps.specs.Keyed.{the_number}

@@ -1,6 +1,6 @@
 use Rattle.std.proofs.Common.{[], sym, subst}
 use Rattle.cc_model.specs.Colours.{HasColours}
-use Rattle.cc_laws_heap.proofs.Marking.{HasColours-marked}
+use Rattle.cc_laws_heap.proofs.Face.{HasColours-marked}
 use Rattle.cc_tests_heaps.proofs.heaps.round.Goals as goal
 
 pub sweep-requires-clause-colours : goal.sweep-requires-clause-colours

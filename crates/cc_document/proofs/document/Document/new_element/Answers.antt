@@ -2,7 +2,7 @@ use Rattle.std.proofs.Common.{[], rules, ◌≡◌, ℕ, ◌<◌, ◌≤◌, ◌
 use Rattle.std.proofs.lemmas.Bool.{cases_lt}
 use Rattle.cc_names.specs.Names.{native}
 use Rattle.cc_model.specs.Graph as graph
-use Rattle.cc_laws_heap.proofs.RepliesAlike.{objects-stand}
+use Rattle.cc_laws_heap.proofs.Face.{objects-stand}
 use Rattle.cc_document.specs.Words.{element}
 use Rattle.cc_document.specs.Changes.{IsAssigned}
 use Rattle.cc_document.specs.Shown.{Makes, Parts, Shows, parts, made_in}

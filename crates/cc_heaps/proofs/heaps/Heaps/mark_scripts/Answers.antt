@@ -10,7 +10,7 @@ use Rattle.cc_heaps.proofs.ObjectsKept.{keys-counted, with_objects}
 use Rattle.cc_heaps.proofs.ReferenceNames.{few_slots-counted}
 use Rattle.cc_heaps.proofs.RootNames.{register-there, native-there}
 use Rattle.cc_heaps.proofs.MarkedObjects.{marked_objects, heap-marked, keys-marked, order-marked, linked-marked}
-use Rattle.cc_laws_heap.proofs.Marking.{HasColours-marked}
+use Rattle.cc_laws_heap.proofs.Face.{HasColours-marked}
 use Rattle.cc_heaps.proofs.FewCounts.{few-owned}
 use Rattle.cc_heaps.proofs.StandingStill.{marked-still}
 use Rattle.cc_heaps.proofs.heaps.Heaps.mark_scripts.Goals as goal

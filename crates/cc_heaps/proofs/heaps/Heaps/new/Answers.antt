@@ -19,7 +19,7 @@ use Rattle.cc_heaps.proofs.Keying.{AreHeldThere}
 use Rattle.cc_heaps.proofs.Registers.{none-length, none-mapped, none-each}
 use Rattle.cc_model.specs.Graph.{empty_graph}
 use Rattle.cc_model.specs.StandsFor.{StandsFor}
-use Rattle.cc_laws_heap.proofs.CommandsStand.{empty-stands}
+use Rattle.cc_laws_heap.proofs.Face.{empty-stands}
 use Rattle.cc_heaps.proofs.heaps.Heaps.new.Goals as goal
 
 -- Nothing is there yet

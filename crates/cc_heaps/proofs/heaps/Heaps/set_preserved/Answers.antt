@@ -1,7 +1,7 @@
 use Rattle.std.proofs.Common.{Some, sym, subst}
 use Rattle.cc_names.specs.Names.{reflector}
 use Rattle.cc_model.specs.Graph as graph
-use Rattle.cc_laws_heap.proofs.Holding.{has_reflector-there}
+use Rattle.cc_laws_heap.proofs.Face.{has_reflector-there}
 use Rattle.cc_heaps.specs.Keyed.{IsInOrder, Keyed, the_number}
 use Rattle.cc_heaps.specs.Fields.{keyed_of}
 use Rattle.cc_heaps.specs.Standing.{KeepsColours, KeepsFresh, KeepsSuspected, StandsAfter}
