@@ -1,5 +1,5 @@
 -- EACH ASK THAT MOVES NO COLLECTION IS ANSWERED LAWFULLY.
-use Rattle.std.proofs.Common.{◌≡◌, ℕ, ◌+◌, ◌≤◌, true, not, List, [], ◌∷◌, map, length, Option, Some, None, is_none, refl, sym, ◌∙◌, ap, subst, inl, inr, ⊎_elim, arith}
+use Rattle.std.proofs.Common.{◌≡◌, ℕ, ◌+◌, ◌≤◌, true, not, List, [], ◌∷◌, map, Option, Some, None, is_none, refl, sym, ◌∙◌, ap, subst, inl, inr, ⊎_elim, arith}
 use Rattle.std.specs.Prelude.{IsTrue, nat_le}
 use Rattle.std.proofs.lemmas.Bool.{true≢false, false≢true, and_parts, le-leb}
 use Rattle.cc_lists.specs.Members.{Among, without}
@@ -9,14 +9,13 @@ use Rattle.cc_names.specs.declared.name.Name.TheVariants as name
 use Rattle.cc_names.specs.declared.register.Reg.TheVariants.{N, S}
 use Rattle.cc_names.specs.Names.{native, same_name, number_of}
 use Rattle.cc_model.specs.declared.command.Command.{Command}
-use Rattle.cc_model.specs.declared.command.Command.TheVariants.{Nothing, Native, Script, WeakMap, SetEntry, Wrap, Slice, Collect, Gc, Census}
+use Rattle.cc_model.specs.declared.command.Command.TheVariants.{Native, Script, WeakMap, SetEntry, Wrap, Slice, Collect}
 use Rattle.cc_model.specs.declared.item.Event.{Event}
 use Rattle.cc_model.specs.declared.item.Refusal.{Refusal}
 use Rattle.cc_model.specs.declared.item.Refusal.TheVariants.{NoMemory}
 use Rattle.cc_model.specs.declared.item.Reply.{Reply}
-use Rattle.cc_model.specs.declared.item.Reply.TheVariants.{Refused, Census as counted}
-use Rattle.cc_model.specs.Answers.{listing}
-use Rattle.cc_model.specs.Asks.{Ask, long, bad, taken}
+use Rattle.cc_model.specs.declared.item.Reply.TheVariants.{Refused}
+use Rattle.cc_model.specs.Asks.{Ask, taken}
 use Rattle.cc_model.specs.Ranges.{in_range}
 use Rattle.cc_model.specs.Checks.{refusal_of, reply_if_taken, refused_or, reflector_of}
 use Rattle.cc_model.specs.Graph as graph
@@ -27,7 +26,6 @@ use Rattle.cc_model.specs.Heap.{Heap, objects_of, has_reflector}
 use Rattle.cc_model.specs.Effects.{effects, takes_memory, lacks_reflector}
 use Rattle.cc_model.specs.WellFormed.{native_names, script_names}
 use Rattle.cc_model.specs.Counts.{times}
-use Rattle.cc_model.specs.Listed.{census_order}
 use Rattle.cc_model.specs.Lawful.{State, AnswersAsk, AnswersCommand, ReplyAnswers, EachMayBe, may_want_memory, is_listed, is_refused, is_abandoning, has_none, has_abandonment_in_place, runs, runs_allowed, unlinked_numbers}
 use Rattle.cc_model.specs.Collecting.{Machine}
 use Rattle.cc_model.specs.Run.{Turn, mutate, do_ask}

@@ -1,34 +1,23 @@
 -- NO ASK FORGETS AN UNREACHED NATIVE: commands, units of collections, and `gc`.
 use Rattle.std.specs.Prelude.{IsTrue}
-use Rattle.std.proofs.Common.{◌≡◌, ℕ, Bool, List, [], Option, Some, None, refl, sym, subst}
-use Rattle.cc_names.specs.declared.name.Name.{Name}
+use Rattle.std.proofs.Common.{ℕ, [], refl, sym, subst}
 use Rattle.cc_model.specs.declared.command.Command.{Command}
 use Rattle.cc_model.specs.declared.command.Command.TheVariants.{Nothing, Slice, Collect, Gc, Census}
-use Rattle.cc_model.specs.Asks.{Ask, long, bad, taken}
+use Rattle.cc_model.specs.Asks.{Ask, taken}
 use Rattle.cc_model.specs.Ranges.{in_range}
-use Rattle.cc_model.specs.Graph.{Graph}
-use Rattle.cc_model.specs.Heap.{Heap}
 use Rattle.cc_model.specs.View.{view}
-use Rattle.cc_model.specs.Sweep.{collect_scripts}
-use Rattle.cc_model.specs.Snapshot.{Snapshot}
-use Rattle.cc_model.specs.Units.{first_untraversed, to_note, after_node}
 use Rattle.cc_model.specs.Suspected.{IsSuspected}
-use Rattle.cc_model.specs.End.{abandoned, granted, node_or_end, unit, went_on}
+use Rattle.cc_model.specs.End.{went_on}
 use Rattle.cc_model.specs.Lawful.{State}
 use Rattle.cc_model.specs.Collecting.{Machine, UnitsDone, no_units, finish_running, slice, collect, gc, enough_units, starting_anew}
 use Rattle.cc_model.specs.Run.{Turn, mutate, do_ask}
 use Rattle.cc_laws_heap.specs.Sound.{IsSound}
 use Rattle.cc_laws_run.specs.Doomed.{candidates_now, IsSuspectedNow}
-use Rattle.cc_laws_run.specs.Running.{IsFreshNow, IsRunning, ask_in_range}
+use Rattle.cc_laws_run.specs.Running.{IsRunning, ask_in_range}
 use Rattle.cc_laws_snapshot.proofs.CommandsSuspected.{effects-suspected}
-use Rattle.cc_laws_snapshot.proofs.GivingBack.{begin-suspected, give_back-suspected}
 use Rattle.cc_laws_snapshot.proofs.SweepLoses.{collect_scripts-suspected}
-use Rattle.cc_laws_snapshot.proofs.EndSuspected.{end-suspected}
 use Rattle.cc_laws_run.proofs.CommandCases.{mutate-cases}
-use Rattle.cc_laws_run.proofs.UnitLawful.{unit-cases, traversed-none}
-use Rattle.cc_laws_run.proofs.UnitsLawful.{finish-drops}
-use Rattle.cc_laws_run.proofs.CollectionsLawful.{running-on}
-use Rattle.cc_laws_run.proofs.HoldingUnits.{Manner, EachKeeps, HoldsOn, slice-holds, finish-holds, collect-holds, unless_stopped-cases}
+use Rattle.cc_laws_run.proofs.HoldingUnits.{unless_stopped-cases}
 use Rattle.cc_laws_run.proofs.QuietUnits.{IsGoing, units-going, IsGoingOn, gc-collects, finish_running-going, running-going}
 
 -- Commands of the mutator

@@ -1,17 +1,17 @@
 -- WHAT AN ASK USES of memory's answers: a front of them, with one `no` for each that its answer tells; and where memory is at every place, none is told.
-use Rattle.std.proofs.Common.{◌≡◌, ℕ, ◌+◌, Bool, true, false, not, List, [], ◌∷◌, ◌++◌, Option, Some, None, refl, sym, ◌∙◌, ap, subst, arith}
+use Rattle.std.proofs.Common.{◌≡◌, ℕ, Bool, true, false, not, List, [], ◌∷◌, ◌++◌, Option, Some, None, refl, sym, ap, subst, arith}
 use Rattle.cc_model.specs.declared.command.Command.{Command}
 use Rattle.cc_model.specs.declared.command.Command.TheVariants.{Nothing, Slice, Collect, Gc, Census}
 use Rattle.cc_model.specs.declared.item.Refusal.{Refusal}
-use Rattle.cc_model.specs.declared.item.Refusal.TheVariants.{NoMemory, Empty, Kind, Slot, Full}
+use Rattle.cc_model.specs.declared.item.Refusal.TheVariants.{NoMemory}
 use Rattle.cc_model.specs.declared.item.Reply.{Reply}
 use Rattle.cc_model.specs.declared.item.Reply.TheVariants.{Refused}
 use Rattle.cc_model.specs.Answers.{Answer}
-use Rattle.cc_model.specs.Asks.{Ask, long, bad, taken}
-use Rattle.cc_model.specs.Checks.{Objects, lacks_object, has_wrong_object, has_no_slot, has_wrong_content, is_full, first_refusal, refusal_of, reply_if_taken}
+use Rattle.cc_model.specs.Asks.{Ask, taken}
+use Rattle.cc_model.specs.Checks.{Objects, refusal_of, reply_if_taken}
 use Rattle.cc_model.specs.Heap.{objects_of}
 use Rattle.cc_model.specs.Effects.{effects, takes_memory}
-use Rattle.cc_model.specs.End.{Progress, went_on, at_end, refused}
+use Rattle.cc_model.specs.End.{Progress}
 use Rattle.cc_model.specs.Collecting.{Machine, next_answer, later_answers, UnitsDone, no_units, slice, collect, gc, reply_to_units}
 use Rattle.cc_model.specs.Run.{Turn, answering, with_effects, if_granted, unless_refused, mutate, after_units, after_gc, do_ask}
 use Rattle.cc_laws_run.specs.Memory.{with_memory, noes, noes_of_reply, noes_told}

@@ -1,12 +1,10 @@
 -- HEAPS WITH ANOTHER BUFFER stay sound, and stand for the same graph.
-use Rattle.std.proofs.Common.{arith, ◌≡◌, List, [], Some}
-use Rattle.cc_names.specs.declared.name.Name.{Name}
-use Rattle.cc_names.specs.declared.name.Name.TheVariants.{Native, Script, Reflector}
+use Rattle.std.proofs.Common.{arith, List, []}
 use Rattle.cc_model.specs.Graph.{Graph}
 use Rattle.cc_model.specs.Heap.{Heap, Buffered}
 use Rattle.cc_model.specs.View.{view}
 use Rattle.cc_model.specs.Colours.{HasColourInvariant}
-use Rattle.cc_model.specs.StandsFor.{Shape, shape_at, StandsFor}
+use Rattle.cc_model.specs.StandsFor.{StandsFor}
 use Rattle.cc_laws_heap.specs.Sound.{IsSound}
 use Rattle.cc_laws_heap.proofs.Kept.{IsBuffer, with_buffer, IsWellFormed-buffer}
 

@@ -1,6 +1,6 @@
 -- `slice`, `collect` and `gc` are answered lawfully and leave a machine that runs.
 use Rattle.std.specs.Prelude.{IsTrue}
-use Rattle.std.proofs.Common.{arith, ◌≡◌, ℕ, Bool, true, false, not, ◌&&◌, List, Some, None, refl, sym, ◌∙◌, ap, subst, inl, inr}
+use Rattle.std.proofs.Common.{arith, ◌≡◌, ℕ, Bool, true, false, not, ◌&&◌, List, Some, None, refl, sym, subst, inl}
 use Rattle.std.proofs.lemmas.Bool.{false≢true, le-leb}
 use Rattle.cc_names.specs.declared.name.Name.{Name}
 use Rattle.cc_model.specs.declared.command.Command.{Command}
@@ -12,12 +12,11 @@ use Rattle.cc_model.specs.Asks.{taken}
 use Rattle.cc_model.specs.Checks.{refusal_of, reply_if_taken}
 use Rattle.cc_model.specs.Graph.{Graph, objects_of, changed, step, reply_to}
 use Rattle.cc_model.specs.WellMade.{IsWellMade}
-use Rattle.cc_model.specs.StandsFor.{StandsFor}
-use Rattle.cc_model.specs.End.{Progress, went_on, at_end, refused}
+use Rattle.cc_model.specs.End.{Progress}
 use Rattle.cc_model.specs.Collecting.{Machine, UnitsDone, slice, collect, gc, reply_to_units}
-use Rattle.cc_model.specs.Listed.{census_order, after_events, listed}
+use Rattle.cc_model.specs.Listed.{after_events}
 use Rattle.cc_model.specs.Run.{do_ask}
-use Rattle.cc_model.specs.Lawful.{State, AnswersAsk, next, AnswersCommand, RepliesWith, EachMayBe, graph_after, may_want_memory, is_refused, is_abandoning, is_without_memory, is_gc, runs_units, runs, runs_allowed, unlinked_numbers, has_none, ends_with_one, has_abandonment_in_place, begins_with_at_most_one}
+use Rattle.cc_model.specs.Lawful.{State, AnswersAsk, next, AnswersCommand, RepliesWith, EachMayBe, graph_after, may_want_memory, is_refused, is_abandoning, is_gc, runs_units, runs, runs_allowed, unlinked_numbers, has_none, ends_with_one, has_abandonment_in_place, begins_with_at_most_one}
 use Rattle.cc_laws_run.specs.Running.{IsRunning}
 use Rattle.cc_laws_run.proofs.UnitLawful.{RunsOn}
 use Rattle.cc_laws_run.proofs.UnitsLawful.{IsPlaced, IsLawfulRow, slice-lawful, collect-lawful}

@@ -1,25 +1,22 @@
 -- A COMMAND OF THE MUTATOR IS REFUSED, OR WANTS MEMORY, OR IS DONE: what then becomes of the graph and of the listed names.
-use Rattle.std.proofs.Common.{arith, ◌≡◌, Bool, true, false, not, ◌&&◌, List, [], Option, Some, None, refl, ap}
-use Rattle.std.proofs.lemmas.Bool.{true≢false}
+use Rattle.std.proofs.Common.{arith, ◌≡◌, Bool, true, false, List, [], Option, Some, None, refl, ap}
 use Rattle.cc_names.specs.declared.name.Name.{Name}
-use Rattle.cc_names.specs.declared.register.Reg.TheVariants.{N, S}
 use Rattle.cc_model.specs.declared.command.Command.{Command}
-use Rattle.cc_model.specs.declared.command.Command.TheVariants.{Native, Script, WeakMap, CopyNative, CopyScript, Get, Take, Wrap, Unwrap, GetEntry, Expose}
 use Rattle.cc_model.specs.declared.item.Refusal.{Refusal}
 use Rattle.cc_model.specs.declared.item.Refusal.TheVariants.{NoMemory}
 use Rattle.cc_model.specs.declared.item.Reply.{Reply}
 use Rattle.cc_model.specs.declared.item.Reply.TheVariants.{Refused}
 use Rattle.cc_model.specs.Asks.{taken}
 use Rattle.cc_model.specs.Answers.{replying}
-use Rattle.cc_model.specs.Checks.{Objects, refusal_of, reply_if_taken, named_or_nothing, slot_at, value_at, reflector_of, native_of}
+use Rattle.cc_model.specs.Checks.{Objects, refusal_of, reply_if_taken, named_or_nothing}
 use Rattle.cc_model.specs.Graph as graph
 use Rattle.cc_model.specs.Graph.{Graph, changed, step}
 use Rattle.cc_model.specs.Heap.{objects_of}
 use Rattle.cc_model.specs.Effects.{effects, takes_memory}
 use Rattle.cc_model.specs.Listed.{listed}
 use Rattle.cc_model.specs.Lawful.{State, next, graph_after, is_refused, is_without_memory}
-use Rattle.cc_model.specs.Collecting.{Machine, next_answer, later_answers}
-use Rattle.cc_model.specs.Run.{Turn, answering, with_effects, with_answer_used, unless_refused, mutate}
+use Rattle.cc_model.specs.Collecting.{Machine, later_answers}
+use Rattle.cc_model.specs.Run.{Turn, answering, with_effects, mutate}
 
 -- Whatever holds where the command is refused, where it wants memory and where it is done, holds of the turn.
 pub mutate-cases : (m : Machine) (c : Command) (P : Turn → Type 0) →

@@ -1,24 +1,20 @@
 -- WHAT IS DOOMED IS WHITE: at the end of a collection, names that only such names hold or noted are white.
-use Rattle.std.proofs.Common.{◌≡◌, ℕ, ◌<◌, ◌≤◌, true, not, List, [], ◌++◌, map, Option, Some, None, refl, sym, ap, subst, inl, arith, ⊎_elim, count_by}
-use Rattle.std.specs.List.{filter}
+use Rattle.std.proofs.Common.{◌≡◌, ℕ, ◌<◌, List, [], ◌++◌, Option, Some, refl, sym, subst, inl, arith, ⊎_elim, count_by}
 use Rattle.std.specs.Option.{option_to_list}
-use Rattle.std.proofs.lemmas.Bool.{cases_Bool, cases_lt, and_from, or_cases, or_left, false≢true, ltb-true}
-use Rattle.cc_lists.specs.Members.{Among, has}
-use Rattle.cc_lists.proofs.Members.{Among-map, Among-map_cases, Among-left, Among-right, Among-filter, Among-filtered, Among-passes, has-there, has-among}
-use Rattle.cc_lists.proofs.Counting.{count_by-some, counted_is, count_by-below}
+use Rattle.cc_lists.specs.Members.{Among}
+use Rattle.cc_lists.proofs.Members.{Among-left, Among-right}
+use Rattle.cc_lists.proofs.Counting.{count_by-some, counted_is}
 use Rattle.cc_lists.proofs.Least.{derived-within}
-use Rattle.cc_lists.proofs.Closure.{closure-decides}
 use Rattle.cc_names.specs.declared.name.Name.{Name}
 use Rattle.cc_names.specs.declared.name.Name.TheVariants as name
-use Rattle.cc_names.specs.Names.{native, object, reflector, same_name, number_of}
-use Rattle.cc_names.proofs.NameTests.{same_name-true, same_name-exact}
-use Rattle.cc_model.specs.Heap.{Heap, HeapNative}
-use Rattle.cc_model.specs.View.{View, view, scripts_there, to, between}
-use Rattle.cc_model.specs.Snapshot.{NodeState, untraversed, gone, traversed, Node, Mapping, Snapshot, mapping_joint, is_above, is_seed, seeds, black_in_rules, BlackIn, black_in, is_white, node_names, white_names, IsWhite, white_natives}
-use Rattle.cc_model.specs.Fresh.{node, IsNode, IsTraversedNode, IsFresh, IsTraversed}
+use Rattle.cc_names.specs.Names.{native}
+use Rattle.cc_model.specs.Heap.{Heap}
+use Rattle.cc_model.specs.View.{View, view, between}
+use Rattle.cc_model.specs.Snapshot.{Mapping, Snapshot, node_names, white_natives}
+use Rattle.cc_model.specs.Fresh.{IsNode, IsTraversedNode, IsFresh, IsTraversed}
 use Rattle.cc_laws_heap.specs.Sound.{IsSound}
 use Rattle.cc_laws_snapshot.proofs.NamePairs.{between-true, between-refl}
-use Rattle.cc_laws_snapshot.proofs.SoundView.{IsSoundView, IsSound-view, living-native, black-or_gray}
+use Rattle.cc_laws_snapshot.proofs.SoundView.{IsSoundView, IsSound-view, black-or_gray}
 use Rattle.cc_laws_snapshot.proofs.Unreached.{holder-traversed}
 use Rattle.cc_laws_run.specs.Doomed.{IsMember, IsDoomed}
 use Rattle.cc_laws_snapshot.proofs.ClosedOff.{closed_off-white_native}

@@ -1,5 +1,5 @@
 -- THE FIRST COLLECTION UNDER ASKS, of any machine: what it tells stands first in an answer, and later asks leave what it came to.
-use Rattle.std.proofs.Common.{arith, ◌≡◌, ◌≢◌, ℕ, Bool, true, false, List, [], ◌∷◌, ◌++◌, Option, Some, None, is_some, refl, sym, ◌∙◌, ap, subst, inl, inr, ◌⊎◌}
+use Rattle.std.proofs.Common.{arith, ◌≡◌, ◌≢◌, ℕ, Bool, true, false, List, [], ◌∷◌, ◌++◌, Option, Some, None, is_some, refl, sym, ◌∙◌, ap, subst, inl, inr}
 use Rattle.std.proofs.lemmas.List.{append_assoc, append-nil}
 use Rattle.cc_names.specs.declared.name.Name.{Name}
 use Rattle.cc_model.specs.declared.command.Command.TheVariants.{Slice, Collect, Gc}
@@ -10,7 +10,7 @@ use Rattle.cc_model.specs.Heap.{Heap}
 use Rattle.cc_model.specs.Snapshot.{Snapshot}
 use Rattle.cc_model.specs.Sweep.{collect_scripts}
 use Rattle.cc_model.specs.Units.{first_untraversed}
-use Rattle.cc_model.specs.End.{Progress, went_on, at_end, refused, UnitDone, granted, node_or_end, unit}
+use Rattle.cc_model.specs.End.{Progress, went_on, UnitDone, granted, node_or_end, unit}
 use Rattle.cc_model.specs.Collecting.{Machine, UnitsDone, no_units, next_answer, units_done, enough_units, to_the_end, finish_running, slice, starting_anew, unless_stopped, collect, gc}
 use Rattle.cc_model.specs.Run.{Turn, do_ask, turns, machine_after}
 use Rattle.cc_laws_run.specs.Followed.{first_units, then_later, first_collection}

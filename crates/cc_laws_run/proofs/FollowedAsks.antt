@@ -2,7 +2,7 @@
 -- abandoned itself. One that begins right after `gc` can't miss what was lost.
 use Rattle.std.specs.Prelude.{IsTrue}
 use Rattle.std.specs.List.{list_all}
-use Rattle.std.proofs.Common.{◌≡◌, ◌≢◌, ℕ, zero, suc, ◌<◌, true, List, [], ◌∷◌, ◌++◌, None, refl, sym, ◌∙◌, ap, subst, inl, inr, ◌⊎◌, arith}
+use Rattle.std.proofs.Common.{◌≡◌, ◌≢◌, ℕ, zero, suc, ◌<◌, true, List, [], ◌∷◌, ◌++◌, None, refl, sym, ◌∙◌, ap, subst, arith}
 use Rattle.std.proofs.lemmas.Bool.{false≢true, and_parts}
 use Rattle.cc_lists.specs.Members.{Among}
 use Rattle.cc_names.specs.declared.name.Name.{Name}
@@ -10,16 +10,16 @@ use Rattle.cc_model.specs.declared.command.Command.{Command}
 use Rattle.cc_model.specs.declared.command.Command.TheVariants.{Nothing, Slice, Collect, Gc, Census}
 use Rattle.cc_model.specs.declared.item.Event.{Event}
 use Rattle.cc_model.specs.declared.item.Event.TheVariants.{Abandoned}
-use Rattle.cc_model.specs.Asks.{Ask, long, bad, taken}
+use Rattle.cc_model.specs.Asks.{Ask, taken}
 use Rattle.cc_model.specs.Graph.{Graph}
 use Rattle.cc_model.specs.WellMade.{IsWellMade}
 use Rattle.cc_model.specs.WellFormed.{names_there}
 use Rattle.cc_model.specs.Heap.{Heap}
 use Rattle.cc_model.specs.View.{view}
 use Rattle.cc_model.specs.Units.{begun, with_empty_buffer}
-use Rattle.cc_model.specs.End.{Progress, went_on, at_end, refused, abandoned}
+use Rattle.cc_model.specs.End.{Progress, went_on, at_end, refused}
 use Rattle.cc_model.specs.Lawful.{State, next}
-use Rattle.cc_model.specs.Collecting.{Machine, UnitsDone, no_units, one_unit, units_done, enough_units, to_the_end, finish_running, slice, starting_anew, unless_stopped, collect, gc}
+use Rattle.cc_model.specs.Collecting.{Machine, UnitsDone, no_units, one_unit, units_done, enough_units, to_the_end, finish_running, slice, starting_anew, collect, gc}
 use Rattle.cc_model.specs.Run.{Turn, mutate, do_ask, machine_after}
 use Rattle.cc_model.proofs.UnitsEnd.{to_the_end-stops}
 use Rattle.cc_laws_heap.specs.Sound.{IsSound}
@@ -33,14 +33,14 @@ use Rattle.cc_laws_run.proofs.TouchedCommands.{doomed-effects}
 use Rattle.cc_laws_run.proofs.DoomedBegin.{collected-doomed}
 use Rattle.cc_laws_run.proofs.CollectionsLawful.{running-on, slice-runs, collect-runs, gc-runs}
 use Rattle.cc_laws_run.proofs.PlainLawful.{any-runs}
-use Rattle.cc_laws_run.proofs.QuietUnits.{IsGoing, gc-collects, running-going}
+use Rattle.cc_laws_run.proofs.QuietUnits.{gc-collects, running-going}
 use Rattle.cc_laws_run.proofs.MissesLost.{lost-doomed}
 use Rattle.cc_laws_run.proofs.Unabandoned.{TellsNone, none-abandoned}
 use Rattle.cc_laws_run.proofs.SpentGone.{collected-gone}
 use Rattle.cc_laws_run.proofs.HoldingUnits.{HoldsOn, units_done-holds, unless_stopped-cases}
 use Rattle.cc_laws_run.proofs.SpentUnits.{Settles, Spending, each-spends, SettlesOn, units_done-settle, first-settles}
 use Rattle.cc_laws_run.proofs.SpentAsks.{collected-spent, asks-spend, gc-gone}
-use Rattle.cc_laws_run.proofs.FirstCollection.{finish-some, progress_then, then_later-progress, first_collection-append, collect-cases}
+use Rattle.cc_laws_run.proofs.FirstCollection.{finish-some, then_later-progress, first_collection-append, collect-cases}
 
 -- what becomes of names by what a collection told and came to, and by the machine after the asks
 abbrev pub IsFollowed : List Name → List Event → Progress → Machine → Type 0

@@ -1,5 +1,5 @@
 -- A COLLECTION THAT IS REFUSED MEMORY leaves of the heaps what the definitions say, over whole asks.
-use Rattle.std.proofs.Common.{arith, ◌≡◌, ℕ, Bool, true, false, List, [], ◌∷◌, ◌++◌, Option, Some, None, is_some, refl, sym, ◌∙◌, ap, subst, inl, inr, ◌⊎◌, ⊎_elim}
+use Rattle.std.proofs.Common.{arith, ◌≡◌, ℕ, Bool, List, [], ◌∷◌, ◌++◌, Option, Some, None, refl, sym, ◌∙◌, ap, subst, ◌⊎◌, ⊎_elim}
 use Rattle.std.proofs.lemmas.List.{append-nil}
 use Rattle.std.specs.List.{filter}
 use Rattle.cc_lists.specs.Members.{Among}
@@ -12,9 +12,9 @@ use Rattle.cc_model.specs.Heap.{Heap, Buffered}
 use Rattle.cc_model.specs.View.{view, buffered}
 use Rattle.cc_model.specs.WellFormed.{native_names}
 use Rattle.cc_model.specs.Snapshot.{Snapshot}
-use Rattle.cc_model.specs.Units.{begun, candidates_of, with_empty_buffer, first_untraversed, to_note, after_node}
-use Rattle.cc_model.specs.End.{Progress, went_on, at_end, refused, UnitDone, give_back, heap_given_back, node_or_end, granted, unit}
-use Rattle.cc_model.specs.Collecting.{Machine, UnitsDone, no_units, next_answer, one_unit, units_done, enough_units, to_the_end, finish_running, slice, starting_anew, collect}
+use Rattle.cc_model.specs.Units.{candidates_of, with_empty_buffer}
+use Rattle.cc_model.specs.End.{Progress, went_on, at_end, refused, UnitDone, give_back, heap_given_back, granted, unit}
+use Rattle.cc_model.specs.Collecting.{Machine, UnitsDone, next_answer, one_unit, units_done, enough_units, finish_running, slice, collect}
 use Rattle.cc_laws_heap.proofs.Kept.{with_buffer}
 use Rattle.cc_laws_snapshot.proofs.GivingBack.{given_back, given_back-purple, give_back-buffer}
 use Rattle.cc_laws_run.specs.Doomed.{candidates_now}

@@ -1,6 +1,5 @@
 -- UNITS ONE AFTER THE OTHER KEEP WHAT EACH OF THEM KEEPS, of a machine that runs beside a graph.
-use Rattle.std.proofs.Common.{arith, ◌≡◌, ℕ, zero, suc, Bool, true, false, List, ◌++◌, Option, refl, None, Some, ◌≢◌, subst}
-use Rattle.std.specs.Option.{is_some}
+use Rattle.std.proofs.Common.{arith, ◌≡◌, ℕ, zero, suc, Bool, List, ◌++◌, Option, refl, None, ◌≢◌, subst}
 use Rattle.cc_names.specs.declared.name.Name.{Name}
 use Rattle.cc_model.specs.declared.command.Command.TheVariants.{Collect}
 use Rattle.cc_model.specs.declared.item.Event.{Event}
@@ -8,7 +7,7 @@ use Rattle.cc_model.specs.Graph.{Graph}
 use Rattle.cc_model.specs.WellMade.{IsWellMade}
 use Rattle.cc_model.specs.Heap.{Heap}
 use Rattle.cc_model.specs.Snapshot.{Snapshot}
-use Rattle.cc_model.specs.End.{Progress, went_on, at_end, refused, unit}
+use Rattle.cc_model.specs.End.{Progress, went_on, refused, unit}
 use Rattle.cc_model.specs.Listed.{after_events}
 use Rattle.cc_model.specs.Collecting.{Machine, UnitsDone, next_answer, no_units, one_unit, units_done, enough_units, to_the_end, finish_running, slice, starting_anew, collect, unless_stopped}
 use Rattle.cc_laws_run.proofs.UnitLawful.{RunsOn, UnitIsLawful, unit-lawful}

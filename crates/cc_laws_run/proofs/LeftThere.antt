@@ -8,7 +8,7 @@ use Rattle.cc_lists.proofs.Least.{derived-within}
 use Rattle.cc_lists.proofs.Closure.{closure-derived}
 use Rattle.cc_names.specs.declared.name.Name.{Name}
 use Rattle.cc_names.specs.declared.name.Name.TheVariants as name
-use Rattle.cc_names.specs.Names.{native, object, reflector, same_name, is_script}
+use Rattle.cc_names.specs.Names.{native, same_name, is_script}
 use Rattle.cc_names.proofs.NameTests.{same_name-true, same_name-exact}
 use Rattle.cc_model.specs.Slots.{contents}
 use Rattle.cc_model.specs.Entries.{joints}

@@ -1,25 +1,25 @@
 -- WHAT IS LOST: garbage but for the reflectors of reached natives. A collection that dooms garbage dooms it.
-use Rattle.std.proofs.Common.{arith, ◌≡◌, ℕ, Bool, true, false, ◌&&◌, List, [], ◌∷◌, map, Option, Some, None, option_map, refl, sym, ◌∙◌, ap, subst, inl, inr, ◌⊎◌, ⊎_elim}
+use Rattle.std.proofs.Common.{arith, ◌≡◌, ℕ, Bool, true, false, ◌&&◌, [], ◌∷◌, map, Option, Some, None, option_map, refl, sym, ◌∙◌, ap, subst, inl, inr, ◌⊎◌, ⊎_elim}
 use Rattle.std.specs.Prelude.{option_and_then}
-use Rattle.std.specs.List.{filter, list_all}
+use Rattle.std.specs.List.{list_all}
 use Rattle.std.proofs.lemmas.Bool.{true≢false, and_parts, and_from}
 use Rattle.cc_lists.specs.Members.{Among}
-use Rattle.cc_lists.proofs.Members.{Among-map_cases, Among-left, Among-right, Among-append, Among-filter, Among-filtered, Among-passes}
+use Rattle.cc_lists.proofs.Members.{Among-map_cases, Among-left, Among-append, Among-filter, Among-filtered, Among-passes}
 use Rattle.cc_lists.proofs.Least.{derive-along}
 use Rattle.cc_names.specs.declared.name.Name.{Name}
 use Rattle.cc_names.specs.declared.name.Name.TheVariants as name
 use Rattle.cc_names.specs.declared.kind.Kind.TheVariants.{Reflector}
-use Rattle.cc_names.specs.Names.{native, object, reflector, is_native, behind}
+use Rattle.cc_names.specs.Names.{native, reflector, is_native, behind}
 use Rattle.cc_model.specs.Slots.{Slots, contents, from_to, empty_slots, reflector_slots}
 use Rattle.cc_model.specs.Entries.{Entry, joints}
 use Rattle.cc_model.specs.Graph.{Graph, GraphNative, native_in}
 use Rattle.cc_model.specs.WellMade.{IsWellMade}
-use Rattle.cc_model.specs.Heap.{Heap, HeapNative, HeapScript, is_gray_in}
-use Rattle.cc_model.specs.View.{view, slot_edges, preserved_edge, script_slot_edges, ReachedIn}
+use Rattle.cc_model.specs.Heap.{Heap, HeapNative, HeapScript}
+use Rattle.cc_model.specs.View.{view, script_slot_edges, ReachedIn}
 use Rattle.cc_model.specs.WellFormed.{FitsName, native_names, script_names, names_there}
 use Rattle.cc_model.specs.StandsFor.{Shape, shape_of_native, shape_of_held_native, kind_in, reflector_kind, IsNoKey, IsKept, StandsFor}
 use Rattle.cc_model.specs.Snapshot.{Mapping}
-use Rattle.cc_model.specs.Units.{if_gray, mapping_of, mappings_of, begun, with_empty_buffer}
+use Rattle.cc_model.specs.Units.{if_gray, mappings_of, begun, with_empty_buffer}
 use Rattle.cc_model.specs.Suspected.{is_unreached}
 use Rattle.cc_laws_heap.specs.Sound.{IsSound}
 use Rattle.cc_laws_heap.proofs.Natives.{IsWellFormed-distinct, native_at-member, named-member}

@@ -1,14 +1,12 @@
 -- WHAT LEAVES THE NAMES OF ALL OBJECTS: what changes slots, flags, counts and colours.
-use Rattle.std.proofs.Common.{arith, ◌≡◌, ℕ, Bool, true, false, Option, Some, None, refl, ◌∙◌, ap, if◌then◌else◌}
+use Rattle.std.proofs.Common.{arith, ◌≡◌, ℕ, Option, Some, None, refl, ◌∙◌}
 use Rattle.cc_names.specs.declared.name.Name.{Name}
-use Rattle.cc_names.specs.declared.name.Name.TheVariants as name
-use Rattle.cc_names.specs.Names.{native, object, reflector, same_name}
-use Rattle.cc_model.specs.Heap.{Heap, HeapNative, HeapScript, change_native, change_script, with_native_slot, with_script_slot, set_slot, preserve}
+use Rattle.cc_model.specs.Heap.{Heap, HeapNative, HeapScript, change_native, change_script, set_slot, preserve}
 use Rattle.cc_model.specs.Exposure.{exposed}
 use Rattle.cc_model.specs.Effects.{put_in_script, set_entry}
 use Rattle.cc_model.specs.WellFormed.{IsWellFormed, native_names, script_names}
 use Rattle.cc_lists.proofs.ListWrites.{map-kept}
-use Rattle.cc_laws_heap.proofs.Natives.{KeepsNumber, changed_at, changed_at-number}
+use Rattle.cc_laws_heap.proofs.Natives.{KeepsNumber, changed_at-number}
 use Rattle.cc_laws_heap.proofs.HoldsTheSame.{HoldsTheSame, native_names-alike, script_names-alike}
 use Rattle.cc_laws_heap.proofs.ScriptsKept.{script_names-exposed}
 

@@ -1,23 +1,21 @@
 -- THE PLAIN RUN IS QUIET: after `gc`, `collect` and `gc` in a row a census lists exactly the reached objects.
 use Rattle.std.specs.Prelude.{IsTrue, ◌↔◌}
-use Rattle.std.proofs.Common.{arith, ◌≡◌, Bool, true, false, List, [], ◌∷◌, Some, refl, sym, ap, subst}
-use Rattle.std.specs.List.{list_all, filter}
+use Rattle.std.proofs.Common.{arith, ◌≡◌, Bool, List, [], ◌∷◌, Some}
+use Rattle.std.specs.List.{list_all}
 use Rattle.std.proofs.lemmas.Bool.{and_parts}
 use Rattle.cc_lists.specs.Members.{Among}
 use Rattle.cc_lists.proofs.Members.{Among-filter, Among-left, Among-right}
 use Rattle.cc_names.specs.Allowance.{Allowance}
 use Rattle.cc_names.specs.declared.name.Name.{Name}
-use Rattle.cc_names.specs.Names.{is_native, is_script}
-use Rattle.cc_model.specs.declared.command.Command.TheVariants.{Nothing, Collect, Gc, Census}
-use Rattle.cc_model.specs.Asks.{Ask, taken}
+use Rattle.cc_model.specs.Asks.{Ask}
 use Rattle.cc_model.specs.Heap.{empty_heap}
 use Rattle.cc_model.specs.View.{view, ReachedIn}
 use Rattle.cc_model.specs.WellFormed.{names_there}
 use Rattle.cc_model.specs.Suspected.{IsSuspected}
-use Rattle.cc_model.specs.End.{Progress, went_on, at_end, refused}
+use Rattle.cc_model.specs.End.{refused}
 use Rattle.cc_model.specs.Listed.{census_order}
 use Rattle.cc_model.specs.Lawful.{State, start, next}
-use Rattle.cc_model.specs.Quiet.{Row, nothing_yet, after_gc, after_collect, after_all, is_done, row_after_gc, row_after_collect, row_after, ListsReached, CensusIsQuiet, IsQuietFrom, IsQuiet}
+use Rattle.cc_model.specs.Quiet.{Row, nothing_yet, after_gc, after_collect, after_all, row_after_gc, row_after_collect, row_after, ListsReached, CensusIsQuiet, IsQuietFrom, IsQuiet}
 use Rattle.cc_model.specs.Collecting.{Machine, empty_machine, collect, gc, reply_to_units}
 use Rattle.cc_model.specs.Run.{do_ask, turns, plain_run}
 use Rattle.cc_laws_heap.proofs.ReachedAlike.{reached-in, in-reached}

@@ -1,6 +1,6 @@
 -- EACH ASK OF AN INPUT IS IN RANGE: what the forms read are registers below 256 and at most 64 slots.
-use Rattle.std.specs.Prelude.{IsTrue, nat_lt, nat_le, bytes_eq, if◌then◌else◌}
-use Rattle.std.proofs.Common.{◌≡◌, ℕ, ◌+◌, ◌-◌, ◌*◌, ◌≤◌, ◌==◌, Bool, true, false, ◌&&◌, ◌||◌, List, [], ◌∷◌, map, length, Option, Some, None, refl, arith}
+use Rattle.std.specs.Prelude.{IsTrue, nat_le, bytes_eq, if◌then◌else◌}
+use Rattle.std.proofs.Common.{◌≡◌, ℕ, ◌+◌, ◌-◌, ◌*◌, ◌≤◌, Bool, true, false, ◌&&◌, List, [], ◌∷◌, map, Option, Some, None, refl, arith}
 use Rattle.std.specs.List.{list_all}
 use Rattle.std.proofs.lemmas.Bool.{and_from, and_parts, lt-ltb, le-leb, leb-true}
 use Rattle.cc_names.specs.declared.register.Reg.{Reg}
@@ -9,9 +9,9 @@ use Rattle.cc_model.specs.declared.command.Command.{Command}
 use Rattle.cc_model.specs.declared.command.Command.TheVariants as command
 use Rattle.cc_model.specs.Ranges.{is_register, are_registers, is_source, is_script_source, is_slots, in_range}
 use Rattle.cc_model.specs.Lines.{lines_of, without_return}
-use Rattle.cc_model.specs.Tokens.{tokens_of, is_digit_within, digits_from, has_leading_zero, number_within, number, slots_number, units_number, register_with, native_register, script_register, is_none_word}
-use Rattle.cc_model.specs.Forms.{Form, both, all_three, nothing, of_one, of_two, of_three, alone, version_one_forms}
-use Rattle.cc_model.specs.Asks.{long, read_by, command_in, is_comment, command_of_tokens, command_of, taken_or_bad, longest_line, ask_of, asks_of}
+use Rattle.cc_model.specs.Tokens.{tokens_of, is_digit_within, digits_from, number_within, number, slots_number, units_number, register_with, native_register, script_register}
+use Rattle.cc_model.specs.Forms.{Form, nothing, of_one, of_two, of_three, alone, version_one_forms}
+use Rattle.cc_model.specs.Asks.{read_by, command_in, command_of_tokens, command_of, ask_of, asks_of}
 use Rattle.cc_laws_run.specs.Running.{ask_in_range}
 
 -- what is read has the property

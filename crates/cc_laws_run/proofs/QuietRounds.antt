@@ -1,6 +1,6 @@
 -- A SCRIPT COLLECTION KEEPS WHAT IS REACHED; where each native that holds something is reached, it leaves nothing else.
 use Rattle.std.proofs.Common.{arith, ◌≡◌, ℕ, true, List, [], ◌++◌, sym, ◌∙◌, ap, subst, ⊎_elim}
-use Rattle.std.specs.List.{filter, flat_map}
+use Rattle.std.specs.List.{flat_map}
 use Rattle.cc_lists.specs.Members.{Among}
 use Rattle.cc_lists.proofs.Members.{Among-map_cases, Among-append, Among-filter, Among-passes, Among-flat_map_cases}
 use Rattle.cc_lists.proofs.Least.{derive-root, derive-along, derive-jointly}
@@ -16,7 +16,7 @@ use Rattle.cc_model.specs.Sweep.{unmarked, sweep, collect_scripts}
 use Rattle.cc_laws_heap.specs.Sound.{IsSound}
 use Rattle.cc_laws_heap.proofs.NameLists.{is_not_among-apart}
 use Rattle.cc_laws_heap.proofs.ScriptNames.{entry-named, script-named}
-use Rattle.cc_laws_heap.proofs.MarkedWellFormed.{is_spared, is_spared_entry}
+use Rattle.cc_laws_heap.proofs.MarkedWellFormed.{is_spared_entry}
 use Rattle.cc_laws_heap.proofs.MarkingKeeps.{round-sound, round-frees}
 use Rattle.cc_laws_heap.proofs.RoundParts.{round-natives, round-scripts, round-entries}
 use Rattle.cc_laws_heap.proofs.CollectedColours.{collecting-keeps}

@@ -1,33 +1,26 @@
 -- THE END OF A COLLECTION THAT MISSED NOTHING: what it took away is empty or gone, so each native that holds something is reached.
-use Rattle.std.proofs.Common.{arith, ◌≡◌, ℕ, List, [], ◌++◌, length, sym, ◌∙◌, ap, subst, ⊎_elim}
-use Rattle.std.specs.List.{flat_map}
-use Rattle.std.proofs.lemmas.Bool.{false≢true}
+use Rattle.std.proofs.Common.{arith, ◌≡◌, ℕ, List, [], ◌∙◌, ap, subst, ⊎_elim}
 use Rattle.cc_lists.specs.Members.{Among}
-use Rattle.cc_lists.proofs.Members.{Among-map, Among-left, Among-right, Among-append, Among-flat_map_cases}
+use Rattle.cc_lists.proofs.Members.{Among-map, Among-left}
 use Rattle.cc_names.specs.declared.name.Name.{Name}
 use Rattle.cc_names.specs.Names.{native, number_of}
-use Rattle.cc_model.specs.Slots.{contents}
 use Rattle.cc_model.specs.Heap.{Heap, HeapNative}
-use Rattle.cc_model.specs.View.{view, native_edges, script_edges, ReachedIn}
-use Rattle.cc_model.specs.WellFormed.{IsWellFormed, native_names, script_names, names_there}
+use Rattle.cc_model.specs.View.{view, native_edges, ReachedIn}
+use Rattle.cc_model.specs.WellFormed.{native_names, script_names, names_there}
 use Rattle.cc_model.specs.StandsFor.{IsEmptied}
 use Rattle.cc_model.specs.Snapshot.{Snapshot, white_natives}
 use Rattle.cc_model.specs.Fresh.{IsFresh, IsTraversed}
 use Rattle.cc_model.specs.End.{take_away}
 use Rattle.cc_laws_heap.specs.Sound.{IsSound}
-use Rattle.cc_laws_heap.specs.Freeing.{Uncounted, uncounted, SameBeside}
-use Rattle.cc_laws_heap.proofs.Natives.{named-member}
-use Rattle.cc_laws_heap.proofs.Leaving.{IsOf}
+use Rattle.cc_laws_heap.specs.Freeing.{Uncounted}
 use Rattle.cc_laws_heap.proofs.TakingAway.{take_away-sound, taken-emptied, others-kept, take_away-leaves}
 use Rattle.cc_laws_heap.proofs.ViewEdges.{native_edges-are}
-use Rattle.cc_laws_heap.proofs.References.{native-there}
 use Rattle.cc_laws_heap.proofs.Making.{contents-empty_none}
 use Rattle.cc_laws_snapshot.proofs.WhiteNatives.{white_natives-there, white_natives-unreached}
 use Rattle.cc_laws_run.specs.Doomed.{IsDoomed}
 use Rattle.cc_laws_run.proofs.DoomedWhite.{doomed-white_native}
 use Rattle.cc_laws_snapshot.proofs.KindsLoyal.{reached_cases}
-use Rattle.cc_laws_snapshot.proofs.SoundView.{one-native}
-use Rattle.cc_laws_snapshot.proofs.ReachedStays.{IsTidy, KeepsReached, reached-kept, native_edges-alike, native-edge, native-edge_of, left-keeps}
+use Rattle.cc_laws_snapshot.proofs.ReachedStays.{IsTidy, KeepsReached, reached-kept, native-edge_of, left-keeps}
 
 -- The end
 

@@ -1,5 +1,5 @@
 -- UNITS THAT ARE REFUSED drop the snapshot, and give the candidates back.
-use Rattle.std.proofs.Common.{◌≡◌, ℕ, Bool, true, false, not, ◌&&◌, List, [], ◌∷◌, Option, Some, None, refl, sym, ◌∙◌, ap, subst, arith}
+use Rattle.std.proofs.Common.{◌≡◌, ℕ, Bool, List, [], ◌∷◌, Option, Some, None, refl, sym, ◌∙◌, ap, subst, arith}
 use Rattle.cc_lists.specs.Members.{Among}
 use Rattle.cc_names.specs.Names.{native}
 use Rattle.cc_model.specs.declared.item.Event.TheVariants.{Abandoned}
@@ -7,7 +7,7 @@ use Rattle.cc_model.specs.Heap.{Heap}
 use Rattle.cc_model.specs.View.{view}
 use Rattle.cc_model.specs.WellFormed.{native_names}
 use Rattle.cc_model.specs.Snapshot.{Snapshot}
-use Rattle.cc_model.specs.End.{give_back, heap_given_back, refused, unit, UnitDone, may_be_refused, abandoned, granted}
+use Rattle.cc_model.specs.End.{give_back, heap_given_back, refused, unit, UnitDone}
 use Rattle.cc_laws_snapshot.proofs.GivingBack.{given_back-there, give_back-buffer}
 use Rattle.cc_laws_run.proofs.UnitsUse.{refusals, granted-refusals}
 use Rattle.cc_laws_run.proofs.UnitLawful.{unit-cases}

@@ -19,7 +19,7 @@ use Rattle.cc_model.specs.Heap.{Heap, Outcome}
 use Rattle.cc_model.specs.Snapshot.{Snapshot}
 use Rattle.cc_model.specs.WellFormed.{native_names, script_names}
 use Rattle.cc_model.specs.Sweep.{collect_scripts}
-use Rattle.cc_model.specs.End.{Progress, went_on, at_end, refused}
+use Rattle.cc_model.specs.End.{Progress}
 use Rattle.cc_model.specs.Collecting.{Machine, UnitsDone, finish_running, gc}
 use Rattle.cc_model.specs.Listed.{after_events}
 use Rattle.cc_model.specs.Lawful.{MayBe, EachMayBe, has_none, begins_with_at_most_one, runs, unlinked_in, unlinked_numbers}

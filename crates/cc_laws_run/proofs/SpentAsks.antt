@@ -7,20 +7,18 @@ use Rattle.cc_lists.specs.Members.{Among}
 use Rattle.cc_names.specs.declared.name.Name.{Name}
 use Rattle.cc_model.specs.declared.command.Command.{Command}
 use Rattle.cc_model.specs.declared.command.Command.TheVariants.{Nothing, Slice, Collect, Gc, Census}
-use Rattle.cc_model.specs.Asks.{Ask, long, bad, taken}
-use Rattle.cc_model.specs.Graph.{Graph}
+use Rattle.cc_model.specs.Asks.{Ask, taken}
 use Rattle.cc_model.specs.Ranges.{in_range}
 use Rattle.cc_model.specs.WellFormed.{IsWellFormed, names_there}
 use Rattle.cc_model.specs.Heap.{Heap, objects_of}
 use Rattle.cc_model.specs.Effects.{effects}
 use Rattle.cc_model.specs.Sweep.{collect_scripts}
 use Rattle.cc_model.specs.Lawful.{State, next}
-use Rattle.cc_model.specs.Collecting.{Machine, UnitsDone, no_units, finish_running, slice, collect, gc}
+use Rattle.cc_model.specs.Collecting.{Machine, no_units, finish_running, gc}
 use Rattle.cc_model.specs.Run.{Turn, mutate, do_ask, machine_after}
 use Rattle.cc_laws_heap.specs.Sound.{IsSound}
 use Rattle.cc_laws_heap.proofs.Taken.{IsTaken-from}
 use Rattle.cc_laws_heap.proofs.CommandsSound.{effects-sound}
-use Rattle.cc_laws_heap.proofs.CollectedColours.{collect_scripts-sound}
 use Rattle.cc_laws_run.specs.Doomed.{KeepsReflectors}
 use Rattle.cc_laws_run.specs.Spent.{IsSpent}
 use Rattle.cc_laws_run.specs.Running.{IsRunning, ask_in_range}

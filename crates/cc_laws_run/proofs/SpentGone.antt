@@ -1,10 +1,10 @@
 -- A SCRIPT COLLECTION TAKES AWAY WHAT IS SPENT.
-use Rattle.std.proofs.Common.{◌≡◌, List, [], ◌∷◌, ◌++◌, refl, sym, ◌∙◌, ap, subst, arith, inl, inr, ⊎_elim}
+use Rattle.std.proofs.Common.{◌≡◌, List, [], ◌++◌, sym, ◌∙◌, ap, subst, arith, ⊎_elim}
 use Rattle.cc_lists.specs.Members.{Among}
 use Rattle.cc_lists.proofs.Members.{Among-map_cases, Among-filtered}
 use Rattle.cc_names.specs.declared.name.Name.{Name}
 use Rattle.cc_model.specs.Slots.{contents}
-use Rattle.cc_model.specs.Entries.{joint, joints}
+use Rattle.cc_model.specs.Entries.{joints}
 use Rattle.cc_model.specs.Heap.{Heap}
 use Rattle.cc_model.specs.View.{view, script_edges}
 use Rattle.cc_model.specs.WellFormed.{names_there}
@@ -15,7 +15,7 @@ use Rattle.cc_laws_heap.specs.Rounds.{FreesNames}
 use Rattle.cc_laws_heap.proofs.MarkedWellFormed.{is_spared_entry}
 use Rattle.cc_laws_heap.proofs.MarkingKeeps.{round-frees}
 use Rattle.cc_laws_heap.proofs.RoundParts.{round-natives, round-scripts, round-entries}
-use Rattle.cc_laws_heap.proofs.CollectedColours.{collecting-keeps, collect_scripts-sound}
+use Rattle.cc_laws_heap.proofs.CollectedColours.{collecting-keeps}
 use Rattle.cc_laws_run.specs.Spent.{IsSpent}
 use Rattle.cc_laws_run.proofs.LeftThere.{collected-has}
 use Rattle.cc_laws_run.proofs.SpentViews.{IsLess, IsLess-refl, IsLess-trans, spent-less}

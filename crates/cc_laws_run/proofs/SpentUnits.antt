@@ -1,5 +1,5 @@
 -- UNITS KEEP WHAT IS SPENT, and the end of a collection that can't miss names leaves them spent.
-use Rattle.std.proofs.Common.{◌≡◌, ◌==◌, ℕ, ◌≤◌, Bool, List, [], ◌∷◌, ◌++◌, Option, Some, None, refl, sym, ◌∙◌, ap, subst, ◌⊎◌, ⊎_elim, arith}
+use Rattle.std.proofs.Common.{◌≡◌, ◌==◌, ℕ, Bool, List, [], ◌∷◌, ◌++◌, Option, Some, None, refl, sym, ◌∙◌, ap, subst, ⊎_elim, arith}
 use Rattle.cc_lists.specs.Members.{Among}
 use Rattle.cc_lists.proofs.Members.{Among-flat_map_cases, Among_or_not}
 use Rattle.cc_names.specs.declared.name.Name.{Name}
@@ -7,9 +7,8 @@ use Rattle.cc_names.specs.declared.name.Name.TheVariants as name
 use Rattle.cc_names.specs.Names.{native, object, natives_in, number_of}
 use Rattle.cc_model.specs.declared.command.Command.TheVariants.{Collect}
 use Rattle.cc_model.specs.declared.item.Event.{Event}
-use Rattle.cc_model.specs.declared.item.Event.TheVariants.{Unlinked, Freed, Abandoned}
+use Rattle.cc_model.specs.declared.item.Event.TheVariants.{Unlinked, Abandoned}
 use Rattle.cc_model.specs.Slots.{contents}
-use Rattle.cc_model.specs.Entries.{Entry}
 use Rattle.cc_model.specs.Graph.{Graph}
 use Rattle.cc_model.specs.WellMade.{IsWellMade}
 use Rattle.cc_model.specs.WellFormed.{native_names}
@@ -23,7 +22,6 @@ use Rattle.cc_model.specs.Listed.{after_events}
 use Rattle.cc_model.specs.Lawful.{unlinked_in, unlinked_numbers}
 use Rattle.cc_model.specs.Collecting.{Machine, UnitsDone, next_answer, one_unit, units_done}
 use Rattle.cc_laws_heap.specs.Sound.{IsSound}
-use Rattle.cc_laws_heap.specs.Freeing.{Uncounted}
 use Rattle.cc_laws_heap.specs.Ending.{TakesAway}
 use Rattle.cc_lists.proofs.Numbers.{number-exact}
 use Rattle.cc_laws_heap.proofs.Making.{native_names-made}
@@ -39,7 +37,7 @@ use Rattle.cc_laws_snapshot.proofs.WhiteNatives.{white_natives-there}
 use Rattle.cc_laws_snapshot.proofs.ReachedStays.{native_edges-alike, native-edge, script-edge, native-edge_of}
 use Rattle.cc_laws_run.proofs.UnitLawful.{unit-cases, RunsOn, UnitIsLawful, unit-lawful, traversed-none}
 use Rattle.cc_laws_run.proofs.QuietTaken.{emptied-none}
-use Rattle.cc_laws_run.proofs.HoldingUnits.{units_done-keep, Manner, EachKeeps, units_done-holds, HoldsOn}
+use Rattle.cc_laws_run.proofs.HoldingUnits.{Manner, EachKeeps, units_done-holds, HoldsOn}
 use Rattle.cc_laws_run.proofs.Unabandoned.{TellsNone, take_away-none}
 use Rattle.cc_laws_run.proofs.SpentViews.{IsLess-buffer, spent-less, IsLess}
 use Rattle.cc_laws_run.specs.Spent.{IsSpent}

@@ -1,18 +1,15 @@
 -- NAMES THAT ARE SPENT STAY SO where they are left alone, and where something is taken away.
-use Rattle.std.proofs.Common.{◌≡◌, ℕ, ◌≤◌, List, refl, sym, ◌∙◌, ap, subst, ◌⊎◌, ⊎_elim, arith}
+use Rattle.std.proofs.Common.{◌≤◌, List, sym, subst, arith}
 use Rattle.cc_lists.specs.Members.{Among}
 use Rattle.cc_names.specs.declared.name.Name.{Name}
-use Rattle.cc_names.specs.Names.{native, object}
+use Rattle.cc_names.specs.Names.{native}
 use Rattle.cc_model.specs.Entries.{Entry}
-use Rattle.cc_model.specs.Heap.{Heap, HeapNative, HeapScript, Buffered}
-use Rattle.cc_model.specs.View.{view, native_edges, script_edges}
+use Rattle.cc_model.specs.Heap.{Heap, Buffered}
+use Rattle.cc_model.specs.View.{view}
 use Rattle.cc_model.specs.WellFormed.{IsWellFormed}
-use Rattle.cc_laws_heap.specs.Freeing.{Uncounted}
-use Rattle.cc_laws_heap.proofs.Leaving.{IsOf}
 use Rattle.cc_laws_run.specs.Spent.{IsSpent}
-use Rattle.cc_laws_run.proofs.TouchedViews.{edge-cases}
 use Rattle.cc_laws_run.proofs.TouchedSteps.{Leaves}
-use Rattle.cc_laws_snapshot.proofs.ReachedStays.{native_edges-alike, native-edge_of, native-edge, script-edge}
+use Rattle.cc_laws_snapshot.proofs.ReachedStays.{native_edges-alike, native-edge_of, native-edge}
 
 -- What is spent stays so where it is left alone.
 pub spent-left : (ds : List Name) (h k : Heap) → IsWellFormed k → Leaves ds h k → IsSpent h ds → IsSpent k ds

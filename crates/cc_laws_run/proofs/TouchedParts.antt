@@ -1,5 +1,5 @@
 -- THE PARTS OF COMMANDS SPARE DOOMED NAMES: counts, slots, flags, registers, entries and colours written, objects made.
-use Rattle.std.proofs.Common.{◌≡◌, ℕ, ◌==◌, Bool, true, false, List, [], ◌∷◌, ◌++◌, map, set, Option, refl, sym, ap, subst, ⊎_elim, inr, inl, ◌∙◌}
+use Rattle.std.proofs.Common.{◌≡◌, ℕ, ◌==◌, Bool, true, List, [], ◌∷◌, ◌++◌, map, set, Option, refl, sym, ap, subst, ⊎_elim, inr, inl, ◌∙◌}
 use Rattle.std.specs.List.{filter}
 use Rattle.std.specs.Option.{option_to_list}
 use Rattle.std.proofs.lemmas.Bool.{eqb-true}
@@ -8,11 +8,11 @@ use Rattle.cc_lists.proofs.Members.{Among-map, Among-map_cases, Among-left, Amon
 use Rattle.cc_names.specs.declared.name.Name.{Name}
 use Rattle.cc_names.specs.declared.register.Reg.{Reg}
 use Rattle.cc_names.specs.declared.register.Reg.TheVariants.{N, S}
-use Rattle.cc_names.specs.Names.{native, reflector, behind, same_name}
+use Rattle.cc_names.specs.Names.{native, reflector, same_name}
 use Rattle.cc_names.proofs.NameTests.{same_name-true}
-use Rattle.cc_model.specs.Slots.{Slots, contents, from_to}
+use Rattle.cc_model.specs.Slots.{Slots, contents}
 use Rattle.cc_model.specs.Heap.{Heap, HeapNative, HeapScript, is_black_colour, set_register, change_native, change_script, with_native_slot, with_script_slot, set_preserved}
-use Rattle.cc_model.specs.View.{view, slot_edges, preserved_edge, native_edges, script_slot_edges, script_edges}
+use Rattle.cc_model.specs.View.{view, native_edges, script_edges}
 use Rattle.cc_lists.proofs.ListWrites.{changed_where, changed_where-either, Among-flat_map_set}
 use Rattle.cc_laws_snapshot.proofs.ReachedStays.{native-edge, script-edge}
 use Rattle.cc_laws_run.proofs.TouchedViews.{Spares, Spares-registers, Spares-natives, Spares-scripts}

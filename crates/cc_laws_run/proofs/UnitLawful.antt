@@ -1,5 +1,5 @@
 -- ONE UNIT OF A COLLECTION IS LAWFUL: the heaps go on running, and what it tells may be told.
-use Rattle.std.proofs.Common.{◌≡◌, ℕ, ◌≤◌, Bool, true, false, not, ◌&&◌, ◌||◌, List, [], ◌∷◌, Option, Some, None, refl, sym, ◌∙◌, ap, subst, inl, ⊎_elim, arith}
+use Rattle.std.proofs.Common.{◌≡◌, ℕ, ◌≤◌, Bool, true, false, ◌&&◌, ◌||◌, List, [], ◌∷◌, Option, Some, None, refl, sym, ◌∙◌, ap, subst, inl, ⊎_elim, arith}
 use Rattle.std.proofs.lemmas.Bool.{true≢false}
 use Rattle.cc_lists.specs.Members.{Among}
 use Rattle.cc_lists.proofs.Members.{Among-left, Among-flat_map}
@@ -20,7 +20,7 @@ use Rattle.cc_model.specs.StandsFor.{StandsFor}
 use Rattle.cc_model.specs.Snapshot.{untraversed, Node, Snapshot, white_natives}
 use Rattle.cc_model.specs.Units.{is_untraversed, first_untraversed}
 use Rattle.cc_model.specs.Fresh.{node}
-use Rattle.cc_model.specs.End.{Progress, went_on, at_end, refused, UnitDone, take_away, may_be_refused, heap_given_back, abandoned, ending, node_or_end, granted, unit}
+use Rattle.cc_model.specs.End.{Progress, went_on, at_end, refused, UnitDone, take_away, heap_given_back, abandoned, ending, node_or_end, granted, unit}
 use Rattle.cc_model.specs.Listed.{census_order, after_events}
 use Rattle.cc_model.specs.Lawful.{MayBe, EachMayBe, runs_units, is_gc, has_none, runs, unlinked_in, unlinked_numbers}
 use Rattle.cc_model.specs.Run.{census_names}

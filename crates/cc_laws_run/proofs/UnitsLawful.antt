@@ -1,6 +1,5 @@
 -- UNITS ONE AFTER THE OTHER ARE LAWFUL: a slice, a whole collection, and what is left to finish before `gc`.
-use Rattle.std.proofs.Common.{◌≡◌, ◌≢◌, ℕ, ◌+◌, ◌≤◌, Bool, true, false, ◌||◌, List, [], ◌++◌, Option, Some, None, refl, sym, ◌∙◌, ap, subst, arith}
-use Rattle.std.specs.Option.{is_some}
+use Rattle.std.proofs.Common.{◌≡◌, ◌≢◌, ℕ, ◌+◌, ◌≤◌, true, ◌||◌, List, [], ◌++◌, None, refl, sym, ◌∙◌, ap, subst, arith}
 use Rattle.std.proofs.lemmas.List.{append-nil}
 use Rattle.std.proofs.lemmas.Grind.{flat_map-append}
 use Rattle.cc_names.specs.declared.name.Name.{Name}
@@ -8,11 +7,10 @@ use Rattle.cc_model.specs.declared.command.Command.{Command}
 use Rattle.cc_model.specs.declared.item.Event.{Event}
 use Rattle.cc_model.specs.Graph.{Graph}
 use Rattle.cc_model.specs.WellMade.{IsWellMade}
-use Rattle.cc_model.specs.Snapshot.{Snapshot}
-use Rattle.cc_model.specs.End.{Progress, went_on, at_end, refused, UnitDone, unit}
+use Rattle.cc_model.specs.End.{Progress, went_on, refused, UnitDone, unit}
 use Rattle.cc_model.specs.Collecting.{Machine, UnitsDone, next_answer, no_units, one_unit, units_done, enough_units, to_the_end, finish_running, slice, starting_anew, collect}
 use Rattle.cc_model.specs.Listed.{after_events}
-use Rattle.cc_model.specs.Lawful.{EachMayBe, runs_units, is_gc, has_none, ends_with_one, runs, unlinked_in, unlinked_numbers}
+use Rattle.cc_model.specs.Lawful.{EachMayBe, runs_units, is_gc, has_none, ends_with_one, runs, unlinked_numbers}
 use Rattle.cc_model.proofs.UnitsEnd.{to_the_end-stops}
 use Rattle.cc_laws_run.proofs.EachNamed.{after_events-append, each-append}
 use Rattle.cc_laws_run.proofs.RunsOfNumbers.{runs-append, has_none-append, ends_with_one-append}

@@ -1,13 +1,11 @@
 -- EACH UNIT IS COUNTED by the nodes that are behind.
-use Rattle.std.proofs.Common.{◌≡◌, suc, ◌+◌, Bool, true, false, not, ◌&&◌, List, [], ◌∷◌, ◌++◌, length, map, Option, Some, None, refl, ◌∙◌, ap, arith}
-use Rattle.cc_lists.specs.Members.{has}
+use Rattle.std.proofs.Common.{◌≡◌, suc, ◌+◌, Bool, true, false, List, [], ◌∷◌, length, map, Option, Some, None, refl, ◌∙◌, arith}
 use Rattle.cc_lists.proofs.Counting.{count_by-cons, count_by-append}
 use Rattle.cc_names.specs.declared.name.Name.{Name}
-use Rattle.cc_names.specs.Names.{same_name}
 use Rattle.cc_model.specs.Heap.{Heap}
-use Rattle.cc_model.specs.Snapshot.{NodeState, gone, traversed, Node, Snapshot}
-use Rattle.cc_model.specs.Units.{first_names, new_node, is_untraversed, first_untraversed, to_note, sample, with_state, with_node, with_nodes, after_node}
-use Rattle.cc_model.specs.End.{went_on, at_end, UnitDone, may_be_refused, abandoned, node_or_end, granted, unit}
+use Rattle.cc_model.specs.Snapshot.{NodeState, Node, Snapshot}
+use Rattle.cc_model.specs.Units.{new_node, is_untraversed, first_untraversed, with_state, with_node, with_nodes, after_node}
+use Rattle.cc_model.specs.End.{went_on, at_end, UnitDone, node_or_end, granted, unit}
 use Rattle.cc_laws_run.specs.UnitsTaken.{is_behind, nodes_behind, units_taken}
 use Rattle.cc_laws_run.proofs.UnitLawful.{unit-cases}
 

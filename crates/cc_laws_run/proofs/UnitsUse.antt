@@ -1,14 +1,12 @@
 -- WHAT UNITS USE of memory's answers: a front of them, with one `no` where the last unit is refused; what stands behind it does not matter.
-use Rattle.std.proofs.Common.{◌≡◌, ℕ, zero, suc, ◌+◌, Bool, true, false, not, ◌&&◌, List, [], ◌∷◌, ◌++◌, Option, Some, None, is_some, refl, sym, ◌∙◌, ap, subst, arith}
+use Rattle.std.proofs.Common.{◌≡◌, ℕ, suc, ◌+◌, Bool, true, false, not, ◌&&◌, List, [], ◌∷◌, ◌++◌, Option, is_some, refl, sym, ◌∙◌, ap, subst, arith}
 use Rattle.std.proofs.lemmas.List.{append_assoc}
 use Rattle.cc_lists.proofs.Counting.{count_by-append, count_by-cons}
-use Rattle.cc_names.specs.declared.name.Name.{Name}
 use Rattle.cc_model.specs.declared.item.Event.{Event}
 use Rattle.cc_model.specs.Heap.{Heap}
 use Rattle.cc_model.specs.Sweep.{collect_scripts}
-use Rattle.cc_model.specs.Snapshot.{Snapshot, white_natives}
-use Rattle.cc_model.specs.Units.{first_untraversed}
-use Rattle.cc_model.specs.End.{Progress, went_on, at_end, refused, UnitDone, unit, may_be_refused, abandoned, granted, node_or_end}
+use Rattle.cc_model.specs.Snapshot.{Snapshot}
+use Rattle.cc_model.specs.End.{Progress, went_on, at_end, refused, UnitDone, unit, may_be_refused, abandoned, granted}
 use Rattle.cc_model.specs.Collecting.{Machine, next_answer, later_answers, UnitsDone, no_units, one_unit, units_done, enough_units, to_the_end, finish_running, slice, unless_stopped, collect, then_scripts, gc}
 use Rattle.cc_laws_run.specs.Memory.{with_memory, noes}
 use Rattle.cc_laws_run.proofs.Unabandoned.{abandonments, TellsNone, abandonments-append, take_away-none, collect_scripts-none}

@@ -1,6 +1,6 @@
 -- MACHINES THAT SCRIPTS LEAVE and that meet the premises of the laws: a fresh snapshot in which a native is white,
 -- and heaps in which no unreached native is forgotten while there is one.
-use Rattle.std.proofs.Common.{arith, ◌≡◌, ℕ, List, [], ◌∷◌, ◌++◌, Option, Some, None, refl, sym, ap, subst, inl, inr, ⊎_elim}
+use Rattle.std.proofs.Common.{arith, ◌≡◌, ℕ, List, [], ◌∷◌, ◌++◌, Option, Some, None, refl, sym, ap, subst, inl, inr}
 use Rattle.std.specs.Prelude.{codes}
 use Rattle.std.proofs.lemmas.Bool.{true≢false, iff_false}
 use Rattle.cc_lists.proofs.Closure.{closure-decides}
@@ -11,7 +11,7 @@ use Rattle.cc_names.proofs.NameTests.{same_name-exact}
 use Rattle.cc_model.specs.Forms.{version_one_forms}
 use Rattle.cc_model.specs.Asks.{asks_of}
 use Rattle.cc_model.specs.View.{View, ReachedIn, view, view_rules}
-use Rattle.cc_model.specs.Snapshot.{Snapshot, Node, untraversed, traversed, IsWhite}
+use Rattle.cc_model.specs.Snapshot.{Snapshot, untraversed, traversed, IsWhite}
 use Rattle.cc_model.specs.Units.{is_untraversed}
 use Rattle.cc_model.specs.Fresh.{node, IsLiving, IsTraversed, IsFresh}
 use Rattle.cc_model.specs.Suspected.{IsCovered, unreached_scripts}
