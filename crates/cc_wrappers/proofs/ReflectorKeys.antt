@@ -1,7 +1,7 @@
 -- REFLECTORS BY KEYS: a native has the key of its reflector, and a reflector that of its native, as they have by names.
 use Rattle.cc_heaps.proofs.GrayNames.{gray-named}
 use Rattle.cc_heaps.proofs.Keys.{name-in}
-use Rattle.cc_laws_heap.proofs.Changing.{option_map-found}
+use Rattle.cc_laws_heap.proofs.Face.{option_map-found}
 use Rattle.cc_lists.proofs.Held.{is_some-found}
 use Rattle.std.proofs.Common.{◌≡◌, ℕ, ◌==◌, ◌≤◌, true, false, List, Option, Some, None, is_some, option_map, refl, sym, ◌∙◌, ap, subst, inl, IsSome, option_to_list}
 use Rattle.std.specs.Prelude.{IsTrue}
