@@ -1,24 +1,24 @@
 -- WHAT STANDS AT A KEY, label, content and colour: what is read there, and what a write of each changes.
-use Rattle.std.proofs.Common.{◌≡◌, ◌≢◌, ℕ, ◌<◌, zero, suc, List, [], ◌∷◌, map, length, drop, get_or, replicate, Option, Some, None, option_map, is_some, ⊎_elim, refl, sym, ◌∙◌, ap, subst}
+use Rattle.std.proofs.Common.{◌≡◌, ◌≢◌, ◌≤◌, Bool, false, ℕ, ◌<◌, zero, suc, List, [], ◌∷◌, map, length, drop, get_or, replicate, Option, Some, None, option_map, is_some, ⊎_elim, refl, sym, ◌∙◌, ap, subst}
 use Rattle.std.proofs.Math.ListN.{set, get_or-map, length-set}
 use Rattle.std.proofs.Math.Path.{fun_ext}
-use Rattle.std.proofs.lemmas.Bool.{false≢true}
+use Rattle.std.proofs.lemmas.Bool.{cases_lt, false≢true}
 use Rattle.std.proofs.lemmas.Bool.Decides.{eqb_tells}
-use Rattle.std.proofs.lemmas.List.{get_or-set_other}
+use Rattle.std.proofs.lemmas.List.{get_or-set_other, get_or-set_same, get_or_past}
 use Rattle.std.proofs.lemmas.Simd.{map-map}
 use Rattle.slab.specs.Slab.{Slab, ContainsKey, Updates, get}
 use Rattle.cc_lists.proofs.ListWrites.{map-agree}
 use Rattle.cc_names.specs.declared.kind.Colour.{Colour}
-use Rattle.cc_names.specs.declared.kind.Colour.TheVariants.{White}
+use Rattle.cc_names.specs.declared.kind.Colour.TheVariants.{White, Gray}
 use Rattle.cc_chain.specs.declared.link.Link.{Link}
 use Rattle.cc_chain.specs.Stores.{slot_at, with_value}
 use Rattle.cc_chain.proofs.Stores.{slot_at-kept, slot_at-live, slot_at-set}
 use Rattle.cc_chain.proofs.Slots.{parts-kept, some-map}
 use Rattle.cc_script.specs.Lists.{Placed, cell_at, painted}
 use Rattle.cc_script.specs.Paired.{Reaches, paired}
-use Rattle.cc_script.specs.Cells.{Bare, Changes, Content, HaveAll, Label, Linked, Whitens, cells_of, coloured_slab, filled, filled_slab, in_colour, nothing}
+use Rattle.cc_script.specs.Cells.{AreGrayNoted, Bare, Changes, Content, HasColourAt, HaveAll, Label, Linked, Whitens, cells_of, coloured_slab, filled, filled_slab, in_colour, nothing}
 use Rattle.cc_script.proofs.Linking.{cell-held, cell-read, changes-written}
-use Rattle.cc_script.proofs.Paired.{held-in, paired-at, paired-same, paired-set, paired-written, read-at, updates-made, updates-taken, vacant-at}
+use Rattle.cc_script.proofs.Paired.{held-in, paired-at, paired-same, paired-set, paired-written, read-at, some-of, updates-made, updates-taken, vacant-at}
 
 -- the labels and contents with their colours
 abbrev coloured : List (Option Bare) → List Colour → List (Option Linked)
@@ -175,9 +175,41 @@ module _ (s : Slab Label) (contents : List Content) (key : ℕ) where
 pub reaches-filled : (s : Slab Label) (contents : List Content) (colours : List Colour) → Reaches s colours → Reaches (filled_slab s contents) colours
 reaches-filled s contents colours reaches key held = reaches key (held-label s contents key held)
 
+-- no object is gray where none may be
+pub gray-nowhere : {room : ℕ} {may_be_gray : Bool} (s : Slab Bare) (colours : List Colour) (now : Slab Linked) (same : coloured_slab room s colours ≡ now) (colour : Colour) → colour ≡ Gray →
+    may_be_gray ≡ false → AreGrayNoted may_be_gray colours → (key : ℕ) → ¬ (HasColourAt now colour key)
+gray-nowhere s colours now same colour gray none noted key is =
+    let there = some-of (get s key) (held-coloured s colours now same key is) in
+    let read : Some colour ≡ Some (get_or colours key White) = sym is ∙ colour-coloured s colours now same key there.0 there.1 in
+    let here : colour ≡ get_or colours key White = cc in
+    noted none key (sym here ∙ gray)
+
+-- more colours, which are white
+pub more-white : (old more : List Colour) → ((k : ℕ) → k < length old → get_or more k White ≡ get_or old k White) → ((k : ℕ) → length old ≤ k → k < length more → get_or more k White ≡ White) →
+    (k : ℕ) → get_or more k White ≡ get_or old k White
+more-white old more below above k = ⊎_elim
+    (λ l. below k l)
+    (λ past. ⊎_elim
+    (λ l. above k past l)
+    (λ beyond. get_or_past more k White beyond) (cases_lt k (length more)) ∙ sym (get_or_past old k White past))
+    (cases_lt k (length old))
+
+-- a colour written, which is noted where it is gray
+pub noted-written : {before after : Bool} (old colours : List Colour) (key : ℕ) (colour : Colour) → key < length colours →
+    ((k : ℕ) → get_or colours k White ≡ get_or old k White) →
+    (after ≡ false → (before ≡ false) × (colour ≢ Gray)) → AreGrayNoted before old → AreGrayNoted after (set colours key colour)
+noted-written old colours key colour within kept tells noted none k gray =
+    let f = tells none in
+    ⊎_elim
+    (λ t. f.1 (sym (get_or-set_same colours key colour White within) ∙ (ap (λ i. get_or (set colours key colour) i White) (sym t.1) ∙ gray)))
+    (λ t.
+    let other : k ≢ key = t.1 in
+    noted f.0 k (sym (kept k) ∙ (sym (get_or-set_other colours key k colour White other) ∙ gray)))
+    (eqb_tells k key)
+
 -- a content written where an object stands
-pub HaveAll-written : (s : Slab Label) (contents : List Content) (colours : List Colour) (key : ℕ) (content : Content) → ContainsKey s key →
-    HaveAll s contents colours → HaveAll s (set contents key content) colours
+pub HaveAll-written : (s : Slab Label) (contents : List Content) (colours : List Colour) (key : ℕ) (content : Content) {may_be_gray : Bool} → ContainsKey s key →
+    HaveAll s contents colours may_be_gray → HaveAll s (set contents key content) colours may_be_gray
 HaveAll-written s contents colours key content held all = record {
   filled = λ k there. subst (λ n. k < n) (sym (length-set contents key content)) (all.filled k there);
   coloured = all.coloured;
@@ -185,4 +217,5 @@ HaveAll-written s contents colours key content held all = record {
       (λ t. absurd (false≢true (ap is_some (sym none) ∙ (ap (λ i. is_some (get s i)) t.1 ∙ held))))
       (λ t. let other : k ≢ key = t.1 in get_or-set_other contents key k content nothing other ∙ all.emptied k none)
       (eqb_tells k key);
+  gray = all.gray;
 }

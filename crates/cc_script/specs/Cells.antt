@@ -1,11 +1,11 @@
 -- AN OBJECT AT ITS KEY, with its neighbours in two lists: all objects in order of making, and those that a walk has yet to
 -- look into. What a walk looks at, and the colour, stand apart, at the same key.
-use Rattle.std.specs.Prelude.{◌≡◌, ℕ, List, [], get_or, map, Option, Some, None, option_map, slice_set}
+use Rattle.std.specs.Prelude.{◌≡◌, ◌≢◌, Bool, false, ℕ, List, [], get_or, map, Option, Some, None, option_map, slice_set}
 use Rattle.slab.specs.Slab.{Slab, get}
 use Rattle.cc_names.specs.declared.name.Name.{Name}
 use Rattle.cc_names.specs.declared.kind.Kind.{Kind}
 use Rattle.cc_names.specs.declared.kind.Colour.{Colour}
-use Rattle.cc_names.specs.declared.kind.Colour.TheVariants.{White}
+use Rattle.cc_names.specs.declared.kind.Colour.TheVariants.{White, Gray}
 use Rattle.cc_chain.specs.declared.link.Link.{Link}
 use Rattle.cc_chain.specs.Links.{Links}
 use Rattle.cc_chain.specs.Stores.{slot_at}
@@ -65,11 +65,16 @@ filled_slab s contents = paired_slab filled nothing s contents
 abbrev pub coloured_slab : ℕ → Slab Bare → List Colour → Slab Linked
 coloured_slab room s colours = record (paired_slab in_colour White s colours) { capacity = room }
 
--- each object has both, and where none stands no content is kept
-pub record HaveAll (s : Slab Label) (contents : List Content) (colours : List Colour) : Type 0 where
+-- none of these colours is gray, where none may be
+abbrev pub AreGrayNoted : Bool → List Colour → Type 0
+AreGrayNoted may_be_gray colours = may_be_gray ≡ false → (key : ℕ) → get_or colours key White ≢ Gray
+
+-- each object has both, where none stands no content is kept, and gray ones are noted
+pub record HaveAll (s : Slab Label) (contents : List Content) (colours : List Colour) (may_be_gray : Bool) : Type 0 where
   pub filled : Reaches s contents
   pub coloured : Reaches s colours
   pub emptied : (key : ℕ) → get s key ≡ None → get_or contents key nothing ≡ nothing
+  pub gray : AreGrayNoted may_be_gray colours
 
 -- the objects by key
 abbrev pub cells_of : List (Option Linked) → List (Option Placed)

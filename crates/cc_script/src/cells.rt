@@ -3,9 +3,10 @@
 //! A marking reads and writes bodies and colours alone, at 41 bytes an object, and what else is known of it, at 32, stays
 //! where it is. Making all white, and the look for objects of a colour, go over the colours alone, which stand
 //! together, a byte each: so a heap that lives is marked without a walk over its objects before and after.
-ghost use Rattle.std.specs.Prelude.{◌≡◌, ◌↔◌, ◌<◌, ◌≤◌, ℕ, [], Some, get_or, length, option_map, slice_set, IfOk, IsSome, IsTrue, OnErr, OnOk};
+ghost use Rattle.std.specs.Prelude.{◌≡◌, ◌≢◌, ◌↔◌, ◌<◌, ◌≤◌, ℕ, [], Some, get_or, length, option_map, slice_set, IfOk, IsSome, IsTrue, false, OnErr, OnOk};
 ghost use Rattle.slab.specs.Slab.{ContainsKey, Updates, get};
 ghost use Rattle.cc_names.specs.declared.kind.Colour.{Colour};
+ghost use Rattle.cc_names.specs.declared.kind.Colour.TheVariants.{Gray};
 ghost use Rattle.cc_script.specs.Lists.{cell_at, painted, slots_placed, written};
 ghost use Rattle.cc_script.specs.Cells.{Changes, Content, HasColourAt, Label, Whitens, cells_of, filled, in_colour, nothing};
 
@@ -22,6 +23,9 @@ pub(crate) struct Cells {
     // both by key; where no object stands, what is left there says nothing, and holds no memory
     pub(crate) bodies: Vec<Body>,
     colours: Vec<Colour>,
+    // set where one is painted gray, and cleared where all are made white. Not set, none is gray; set, one may be, and all
+    // those that were may be black by now
+    may_be_gray: bool,
     alloc: Global,
 }
 
@@ -35,7 +39,7 @@ impl Model for Cells {
 
     ghost view = { λ c. coloured_slab (c.slab.capacity + vec_capacity c.bodies + vec_capacity c.colours) (filled_slab c.slab c.bodies.items) c.colours.items };
 
-    ghost invariant = { λ c. HaveAll c.slab c.bodies.items c.colours.items };
+    ghost invariant = { λ c. HaveAll c.slab c.bodies.items c.colours.items c.may_be_gray };
 }
 
 /// Lengthens the bodies to so many at least, by those of no object. `NoMemory` leaves them at some length between.
@@ -51,6 +55,16 @@ fn reach(bodies: &mut Vec<Body>, count: usize, alloc: Global) -> Result<(), NoMe
     Ok(())
 }
 
+/// Whether one may be gray among those before and one of this colour.
+fn may_be_gray_with(before: bool, colour: Colour) -> bool
+    ensures { result ≡ false → (before ≡ false) × (colour ≢ Gray) }
+{
+    if before {
+        return true;
+    }
+    colour == Colour::Gray
+}
+
 impl Cells {
     /// No objects, and no memory taken.
     pub(crate) fn new(alloc: Global) -> Cells
@@ -61,6 +75,7 @@ impl Cells {
             slab: Slab::new(alloc),
             bodies: Vec::new(alloc),
             colours: Vec::new(alloc),
+            may_be_gray: false,
             alloc,
         }
     }
@@ -82,6 +97,7 @@ impl Cells {
         }
         self.bodies[place] = body;
         self.colours[place] = colour;
+        self.may_be_gray = may_be_gray_with(self.may_be_gray, colour);
         self.slab.insert_reserved(cell);
         Ok(key)
     }
@@ -116,6 +132,7 @@ impl Cells {
         ensures changes { Changes self.old self.new key.0 (painted colour) }
     {
         self.colours[key.0 as usize] = colour;
+        self.may_be_gray = may_be_gray_with(self.may_be_gray, colour);
     }
 
     /// Makes all objects white.
@@ -123,6 +140,7 @@ impl Cells {
         ensures { Whitens self.old self.new }
     {
         self.colours.fill(Colour::White);
+        self.may_be_gray = false;
     }
 
     /// Whether there is an object at a key, and it is of this colour.
@@ -139,10 +157,16 @@ impl Cells {
     }
 
     /// Whether the object at some key is of this colour.
+    // goes over no colours for gray where none was painted gray since all were made white
     pub(crate) fn has_colour(&self, colour: Colour) -> bool
         ensures some { IsTrue result → (key : ℕ) × HasColourAt self.now colour key }
         ensures none { (key : ℕ) → HasColourAt self.now colour key → IsTrue result }
     {
+        if colour == Colour::Gray {
+            if !self.may_be_gray {
+                return false;
+            }
+        }
         for key in 0..self.colours.len() {
             if self.has_colour_at(key, colour) {
                 return true;

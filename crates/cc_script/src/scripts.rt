@@ -115,7 +115,7 @@ impl Scripts {
     }
 
     /// Whether there is an object of this colour.
-    // O(keys), a byte each, until one is found
+    // O(keys), a byte each, until one is found; O(1) for gray where none was made gray since all were made white
     pub fn has_colour(&self, colour: Colour) -> bool
         ensures { IsTrue result ↔ ((o : Object) × (Among o self.now × (o.colour ≡ colour))) }
     {

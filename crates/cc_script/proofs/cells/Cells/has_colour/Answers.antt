@@ -1,9 +1,17 @@
-use Rattle.std.proofs.Common.{◌≡◌, ⊎_elim, arith, sym, subst, ◌∙◌}
+use Rattle.std.proofs.Common.{rules, ◌≡◌, ⊎_elim, arith, sym, subst, ◌∙◌}
 use Rattle.std.proofs.lemmas.Bool.{false≢true}
 use Rattle.std.proofs.lemmas.Bool.Decides.{eqb_tells}
+use denote.Enum.Bare.{same_true}
+use Rattle.cc_names.specs.contracts.kind.Colour.{the_type}
+use Rattle.cc_names.specs.declared.kind.Colour.TheVariants.{Gray}
 use Rattle.cc_script.specs.Cells.{HasColourAt, filled_slab}
-use Rattle.cc_script.proofs.Coloured.{held-coloured, reaches-filled}
+use Rattle.cc_script.proofs.Coloured.{gray-nowhere, held-coloured, reaches-filled}
 use Rattle.cc_script.proofs.cells.Cells.has_colour.Goals as goal
+
+pub returns-then-not-self-clause-none : goal.returns-then-not-self-clause-none
+returns-then-not-self-clause-none c key is =
+    absurd (gray-nowhere (filled_slab c.self.inside.slab c.self.inside.bodies.items) c.self.inside.colours.items c.args.self.now c.self.view_is c.args.colour
+    (same_true the_type (search rules) c.args.colour Gray (sym c.if-eq.ensures)) c.if-not-self.true c.self.invariant.gray key is)
 
 pub returns-then-has_colour_at-clause-some : goal.returns-then-has_colour_at-clause-some
 returns-then-has_colour_at-clause-some c t = (c.loop-key.key, c.has_colour_at.ensures.0 c.if-has_colour_at.true)

@@ -7,7 +7,7 @@ use Rattle.cc_script.specs.Paired.{paired}
 use Rattle.cc_script.specs.Cells.{Bare, Content, Label, Linked, filled, filled_slab, in_colour, nothing}
 use Rattle.cc_script.specs.declared.cells.Cells.TheInside.{Inside}
 use Rattle.cc_script.proofs.Paired.{paired-same, updates-made, vacant-at}
-use Rattle.cc_script.proofs.Coloured.{inserted, reaches-filled, vacant-coloured}
+use Rattle.cc_script.proofs.Coloured.{inserted, more-white, noted-written, reaches-filled, vacant-coloured}
 use Rattle.cc_script.proofs.cells.Cells.insert.Goals as goal
 use Rattle.cc_script.proofs.cells.Cells.insert.Goals.{then-place-len+in_ok-resize, else-place-len}
 
@@ -95,3 +95,38 @@ returns-clause-updates c =
     (updates-made filled nothing s contents key c.insert_reserved.new.self list c.args.cell c.args.body c.self.invariant.filled updates here others)
     (ap (λ k. get_or (set painted k c.args.colour) key White) is_key ∙ get_or-set_same painted key c.args.colour White (omega (arith, is_key, long)))
     (λ k other within. get_or-set_other painted free k c.args.colour White (λ e. other (e ∙ is_key)) ∙ kept k within)
+
+pub invariant_of-self-2 : goal.invariant_of-self-2
+invariant_of-self-2 c =
+    let free = c.vacant_key-place.result in
+    let colours = c.self.inside.colours.items in
+    let painted = c.if-place-len.self-inside.colours.items in
+    let noted : c.if-place-len.self-inside.may_be_gray ≡ c.self.inside.may_be_gray = elim c.if-place-len.branch [
+      | then-place-len+in_ok-resize w ↦ ap (λ (q : Inside). q.may_be_gray) w.self-inside-is
+      | else-place-len w ↦ ap (λ (q : Inside). q.may_be_gray) w.self-inside-is
+    ] in
+    let long : free < length painted = elim c.if-place-len.branch [
+      | then-place-len+in_ok-resize w ↦
+          let sized = ap (λ (q : Inside). length q.colours.items) w.self-inside-is in
+          omega (arith, sized, w.in_ok-resize.ensures.len, w.resize.new.self.ok.0)
+      | else-place-len w ↦
+          let sized = ap (λ (q : Inside). length q.colours.items) w.self-inside-is in
+          omega (arith, sized, w.if-place-len.false, c.len.ensures, c.self.inside.colours.ok.0)
+    ] in
+    let kept : (k : ℕ) → get_or painted k White ≡ get_or colours k White = λ k. elim c.if-place-len.branch [
+      | then-place-len+in_ok-resize w ↦
+          let old = c.self.inside.colours.ok.0 in
+          let more = w.resize.new.self.ok.0 in
+          let len = w.in_ok-resize.ensures.len in
+          ap (λ (q : Inside). get_or q.colours.items k White) w.self-inside-is
+          ∙ more-white colours w.resize.new.self.items
+          (λ i within. w.resize.ensures.by_index.0 i White (omega (arith, within, w.if-place-len.true, c.len.ensures, old)) (omega (arith, within, old)))
+          (λ i past within. w.resize.ensures.by_index.1 i White (search rules) (omega (arith, past, old)) (omega (arith, within, len, more))) k
+      | else-place-len w ↦ ap (λ (q : Inside). get_or q.colours.items k White) w.self-inside-is
+    ] in
+    record {
+      filled = search rules;
+      coloured = search rules;
+      emptied = search rules;
+      gray = noted-written colours painted free c.args.colour long kept (λ none. let f = c.may_be_gray_with-self-inside.ensures none in (sym noted ∙ f.0, f.1)) c.self.invariant.gray;
+    }

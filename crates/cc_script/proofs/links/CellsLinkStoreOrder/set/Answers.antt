@@ -1,4 +1,4 @@
-use Rattle.std.proofs.Common.{◌+◌, ◌≡◌, List, Option, Some, get_or, option_map, refl, ap, sym, subst, ◌∙◌}
+use Rattle.std.proofs.Common.{◌+◌, ◌≡◌, List, Option, Some, get_or, refl, ap, sym, subst, ◌∙◌}
 use Rattle.std.specs.Prelude.{vec_capacity}
 use Rattle.std.proofs.Math.ListN.{set}
 use Rattle.slab.specs.Slab.{Slab, get}

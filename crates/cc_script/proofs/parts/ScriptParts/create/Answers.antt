@@ -3,7 +3,6 @@ use Rattle.std.proofs.lemmas.List.{length-replicate}
 use Rattle.cc_names.specs.declared.name.Name.{Name}
 use Rattle.cc_names.specs.declared.kind.Kind.{Kind}
 use Rattle.cc_names.specs.declared.kind.Colour.TheVariants.{Black}
-use Rattle.cc_names.specs.declared.kind.Kind.TheVariants.{Reflector}
 use Rattle.cc_script.specs.declared.being.Being.{Being}
 use Rattle.cc_script.specs.declared.being.Being.TheVariants as being
 use Rattle.cc_script.specs.Beings.{kind_of, name_of, native_key_of}
