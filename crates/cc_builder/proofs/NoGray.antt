@@ -1,7 +1,8 @@
--- NO SCRIPT OBJECT IS GRAY: no native holds a gray one then.
-use Rattle.std.proofs.Common.{◌≡◌, Bool, true, false, ◌||◌, ◌↔◌, List, [], ◌∷◌, map, Option, Some, None, is_some, IsTrue, find, refl, sym, ◌∙◌, ap, subst}
+-- NO SCRIPT OBJECT IS GRAY: no native holds a gray one then, and no entry has a gray value.
+use Rattle.std.proofs.Common.{◌≡◌, Bool, true, false, ◌||◌, ◌↔◌, List, [], ◌∷◌, ◌++◌, flat_map, map, Option, Some, None, is_some, IsTrue, find, refl, sym, ◌∙◌, ap, subst}
 use Rattle.std.specs.List.{filter, list_any}
 use Rattle.std.proofs.lemmas.Bool.{true≢false}
+use Rattle.std.proofs.lemmas.List.{append-nil}
 use Rattle.cc_lists.specs.Members.{Among, with_all_last}
 use Rattle.cc_lists.proofs.Members.{Among-filtered}
 use Rattle.cc_lists.proofs.Filtering.{filter-nothing, find-among, find-passes}
@@ -11,8 +12,10 @@ use Rattle.cc_names.specs.declared.kind.Colour.{Colour}
 use Rattle.cc_names.specs.declared.kind.Colour.TheVariants.{White, Gray, Black}
 use Rattle.cc_names.specs.Names.{native, same_name}
 use Rattle.cc_model.specs.Heap.{HeapNative, HeapScript, is_gray_colour, is_gray_in}
+use Rattle.cc_model.specs.Entries.{Entry}
+use Rattle.cc_model.specs.Snapshot.{Mapping}
 use Rattle.cc_model.specs.View.{native_edges}
-use Rattle.cc_model.specs.Units.{holds_gray, holders_of}
+use Rattle.cc_model.specs.Units.{holds_gray, holders_of, mapping_of, mappings_of, members_of}
 use Rattle.cc_script.specs.Objects.{Object}
 use Rattle.cc_heaps.specs.Keyed.{Keyed, IsInOrder, named_object}
 
@@ -61,3 +64,14 @@ module _ (v : Keyed) (scripts : List Object) (found : Bool) (order : IsInOrder [
   -- and none becomes a node
   pub holders-passed : (xs : List Name) → xs ≡ with_all_last same_name xs (holders_of v.heap)
   holders-passed xs = ap (with_all_last same_name xs) (sym holders-none)
+
+  -- and there are no mappings
+  mappings-none : mappings_of v.heap ≡ []
+  mappings-none = ap (map (mapping_of v.heap)) (filter-nothing (λ (e : Entry). is_gray_in v.heap e.value) v.heap.entries (λ e m. names-none e.value))
+
+  pub mappings-passed : (ms : List Mapping) → ms ≡ ms ++ mappings_of v.heap
+  mappings-passed ms = sym (ap (λ more. ms ++ more) mappings-none ∙ append-nil ms)
+
+  -- no member becomes a node
+  pub members-passed : (xs : List Name) → xs ≡ with_all_last same_name xs (flat_map members_of (mappings_of v.heap))
+  members-passed xs = ap (λ ms. with_all_last same_name xs (flat_map members_of ms)) (sym mappings-none)

@@ -45,6 +45,10 @@ impl Build {
         ensures built { IsBuilt self.new heaps.now }
         ensures held { AreHeld self.new.graph (HasKey heaps.now) }
     {
+        if !heaps.scripts().has_colour(Colour::Gray) {
+            // nothing is gray, so no entry has a gray value
+            return Ok(());
+        }
         let mut last = None;
         for i in 0..heaps.weak().len() {
             last = self.add_mapping(i, last, heaps)?;

@@ -7,7 +7,18 @@ use Rattle.cc_model.specs.Units.{mappings_of, members_of}
 use Rattle.cc_weakmaps.specs.Entries.{KeyedEntry}
 use Rattle.cc_builder.specs.Building.{mapping_of, vertex_names}
 use Rattle.cc_builder.proofs.EntryMappings.{mappings-all, mappings-end, mappings-some, turn-mappings, turn-members}
+use Rattle.cc_builder.proofs.NoGray.{mappings-passed, members-passed}
 use Rattle.cc_builder.proofs.build.Build.add_mappings.Goals as goal
+
+pub returns-then-not-has_colour-clause-names : goal.returns-then-not-has_colour-clause-names
+returns-then-not-has_colour-clause-names c =
+    members-passed c.args.heaps.now c.scripts.result.now c.has_colour.result c.requires.order c.scripts.ensures c.has_colour.ensures c.if-not-has_colour.true
+    (vertex_names c.args.self.now.graph.nodes)
+
+pub returns-then-not-has_colour-clause-mappings : goal.returns-then-not-has_colour-clause-mappings
+returns-then-not-has_colour-clause-mappings c =
+    mappings-passed c.args.heaps.now c.scripts.result.now c.has_colour.result c.requires.order c.scripts.ensures c.has_colour.ensures c.if-not-has_colour.true
+    (map (mapping_of c.args.self.now.graph.nodes) c.args.self.now.graph.hyperedges)
 
 pub loop-i-init : goal.loop-i-init
 loop-i-init c =
