@@ -9,6 +9,7 @@ use Rattle.std.proofs.lemmas.Simd.{map-map}
 use Rattle.cc_lists.specs.Members.{Among}
 use Rattle.cc_model.specs.Heap.{HeapNative}
 use Rattle.cc_lists.proofs.ListWrites.{map-agree}
+use Rattle.cc_names.specs.Sizes.{most_slots}
 use Rattle.cc_laws_heap.proofs.Face.{changed_at}
 use Rattle.cc_purple.specs.Marks.{Marked}
 use Rattle.cc_counted.specs.declared.held.Held.{Held}
@@ -64,14 +65,14 @@ module _ (l : Lists) (p : IsPlaced l) (key : ℕ) (c d : Placed) (at : cell_at l
       (λ t. inr (sym (changed-other k t.1) ∙ e)) (eqb_tells k key)
 
   -- the lists fit together where the new slots hold what is there, and so do the queue and the buffer
-  pub IsPlaced-changed : length d.slots ≤ 64 → ((x : Option Held) → Among x d.slots → is_live (keyed l.cells) x ≡ true) → (queue : List ℕ) (marks : List Marked) →
+  pub IsPlaced-changed : length d.slots ≤ most_slots → ((x : Option Held) → Among x d.slots → is_live (keyed l.cells) x ≡ true) → (queue : List ℕ) (marks : List Marked) →
       ((k : ℕ) → Among k queue → (b : Placed) × (cell_at l.cells k ≡ Some b)) → ((m : Marked) → Among m marks → (b : Placed) × (cell_at l.cells m.key ≡ Some b)) →
       IsPlaced (record { cells = changed_cells; order = l.order; queue = queue; marks = marks })
   IsPlaced-changed few live queue marks q ms = record {
     in_order = λ k m. changed-there k (p.in_order k m);
     ordered = λ k b e. ⊎_elim (λ t. p.ordered k c (ap (cell_at l.cells) t.0 ∙ at)) (λ t. p.ordered k b t) (changed-cases k b e);
     rising = subst (λ n. IsRising (map (the_number n) l.order)) (sym keyed-changed) p.rising;
-    small = λ k b e. ⊎_elim (λ t. subst (λ a. length a.slots ≤ 64) (sym t.1) few) (λ t. p.small k b t) (changed-cases k b e);
+    small = λ k b e. ⊎_elim (λ t. subst (λ a. length a.slots ≤ most_slots) (sym t.1) few) (λ t. p.small k b t) (changed-cases k b e);
     held = λ k b x e m. subst (λ n. is_live n x ≡ true) (sym keyed-changed) (⊎_elim
         (λ t. live x (subst (λ a. Among x a.slots) t.1 m))
         (λ t. p.held k b x t m) (changed-cases k b e));

@@ -15,6 +15,7 @@ use Rattle.cc_counted.specs.Owning.{HasKeys, Makes}
 use Rattle.cc_counted.specs.Lists.{Placed, Lists, cell_at, reflector_placed, keyed, names_in, shown, shown_at, marked_number, counts_of, IsPlaced, made}
 use Rattle.cc_counted.proofs.Places.{cell_number, number_at-cells, reflector_at-cells, number_at-cell, number_at-found, the_number-cell, natives-numbers, natives-rising, native_at-cell, native-key, one_key}
 use Rattle.cc_lists.proofs.ListWrites.{map-agree}
+use Rattle.cc_names.specs.Sizes.{most_slots}
 use Rattle.cc_counted.proofs.Marking.{buffer-with_mark, with_mark-there}
 use Rattle.cc_counted.proofs.Each.{live-cell}
 use Rattle.cc_counted.proofs.Holding.{held-same, names-same}
@@ -90,7 +91,7 @@ module _ (l : Lists) (p : IsPlaced l) (key : ℕ) (d : Placed) (cells : List (Op
       let f = Among-map_cases (λ (n : HeapNative). n.number) (counts_of l).natives k (subst (λ ks. Among k ks) (sym (natives-numbers l)) m) in
       subst (λ j. j < d.number) f.2 (above f.0 f.1)
 
-  placed-unmarked : size ≤ 64 → IsPlaced unmarked
+  placed-unmarked : size ≤ most_slots → IsPlaced unmarked
   placed-unmarked few = record {
     in_order = λ k m. ⊎_elim (λ t. there k (p.in_order k t)) (λ t. ⊎_elim (λ e. (d, ap (cell_at cells) (sym e) ∙ at)) (λ x. absurd x) t) (Among-append k l.order (key ∷ []) m);
     ordered = λ k c e. ⊎_elim
@@ -98,7 +99,7 @@ module _ (l : Lists) (p : IsPlaced l) (key : ℕ) (d : Placed) (cells : List (Op
         (λ t. Among-left k l.order (key ∷ []) (p.ordered k c t)) (cell-cases k c e);
     rising = subst IsRising (sym numbers-made) (IsRising-push (map (the_number (keyed l.cells)) l.order) d.number p.rising below);
     small = λ k c e. ⊎_elim
-        (λ t. let long : length d.slots ≡ size = ap length empty ∙ length-replicate size None in subst (λ (c : Placed). length c.slots ≤ 64) (sym t.1) (omega arith))
+        (λ t. let long : length d.slots ≡ size = ap length empty ∙ length-replicate size None in subst (λ (c : Placed). length c.slots ≤ most_slots) (sym t.1) (omega arith))
         (λ t. p.small k c t) (cell-cases k c e);
     held = λ k c x e m. ⊎_elim
         (λ t. ap (is_live (keyed cells)) (no-slots x (subst (λ (c : Placed). Among x c.slots) t.1 m)))
@@ -107,7 +108,7 @@ module _ (l : Lists) (p : IsPlaced l) (key : ℕ) (d : Placed) (cells : List (Op
     marked = λ m n. there m.key (p.marked m n);
   }
 
-  pub placed-made : size ≤ 64 → IsPlaced (made l cells key)
+  pub placed-made : size ≤ most_slots → IsPlaced (made l cells key)
   placed-made few = let q = placed-unmarked few in record {
     in_order = q.in_order;
     ordered = q.ordered;
@@ -138,7 +139,7 @@ module _ (l : Lists) (p : IsPlaced l) (key : ℕ) (d : Placed) (cells : List (Op
       last : shown_at cells key ≡ record { number = d.number; slots = empty_slots size; preserved = d.preserved; count = d.count }
       last = ap (shown (keyed cells)) at ∙ ap (λ ys. record { number = d.number; slots = ys; preserved = d.preserved; count = d.count }) names
 
-  pub buffer-made : size ≤ 64 → (counts_of (made l cells key)).buffer ≡ heap.with_mark false d.number (counts_of l).buffer
+  pub buffer-made : size ≤ most_slots → (counts_of (made l cells key)).buffer ≡ heap.with_mark false d.number (counts_of l).buffer
   buffer-made few =
       let q = placed-unmarked few in
       buffer-with_mark unmarked q key d at false l.marks q.marked
@@ -155,7 +156,7 @@ module _ (l : Lists) (p : IsPlaced l) (key : ℕ) (d : Placed) (cells : List (Op
   pub vacant-before : number_at (counts_of l) key ≡ None
   vacant-before = number_at-cells l.cells key ∙ ap cell_number vacant
 
-  pub Makes-made : size ≤ 64 → d.preserved ≡ false → d.reflector ≡ None → d.count ≡ 1 → Makes (counts_of l) (counts_of (made l cells key)) key d.number size
+  pub Makes-made : size ≤ most_slots → d.preserved ≡ false → d.reflector ≡ None → d.count ≡ 1 → Makes (counts_of l) (counts_of (made l cells key)) key d.number size
   Makes-made few off bare one = record {
     natives = natives-made
         ∙ (ap (λ on. (counts_of l).natives ++ record { number = d.number; slots = empty_slots size; preserved = on; count = d.count } ∷ []) off

@@ -12,6 +12,7 @@ use Rattle.cc_lists.proofs.Members.{Among-map}
 use Rattle.cc_model.specs.Heap.{HeapNative}
 use Rattle.cc_names.specs.declared.number.NKey.{NKey}
 use Rattle.cc_names.specs.declared.name.Name.{Name}
+use Rattle.cc_names.specs.Sizes.{most_slots}
 use Rattle.cc_holders.specs.declared.entry.Entry.{Entry}
 use Rattle.cc_holders.specs.declared.entry.Entry.TheVariants.{Unknown, Known}
 use Rattle.cc_holders.specs.declared.holders.Holders.{Holders}
@@ -42,7 +43,7 @@ one-small true = omega arith
 one-small false = omega arith
 
 -- scripts that a native refers to are few
-scripts-few : (c : Placed) → length c.slots ≤ 64 → scripts_of c ≤ 65
+scripts-few : (c : Placed) → length c.slots ≤ most_slots → scripts_of c ≤ most_slots + 1
 scripts-few c few = let slots = count_by-le-length is_script c.slots in let last = one-small (refers_by_reflector c) in omega (arith, slots, last, few)
 
 module _ (cells : List (Option Placed)) (h : Holders) (k : AreKnown cells h) where
@@ -64,7 +65,7 @@ module _ (cells : List (Option Placed)) (h : Holders) (k : AreKnown cells h) whe
   }
 
   -- A native is another, of the same number.
-  pub known-changed : (key : ℕ) (c d : Placed) → cell_at cells key ≡ Some c → d.number ≡ c.number → length d.slots ≤ 64 → (j : Holders) →
+  pub known-changed : (key : ℕ) (c d : Placed) → cell_at cells key ≡ Some c → d.number ≡ c.number → length d.slots ≤ most_slots → (j : Holders) →
       ((n : ℕ) → entry_at j n ≡ (if c.number == n then Known (scripts_of d) key else entry_at h n)) → AreKnown (set cells key (Some d)) j
   known-changed key c d at same few j entries = record {
     known = λ q e f. ⊎_elim
@@ -88,7 +89,7 @@ module _ (cells : List (Option Placed)) (h : Holders) (k : AreKnown cells h) whe
         ))
         (eqb_tells c.number n);
     few = λ q e f. ⊎_elim
-        (λ t. let is : Some d ≡ Some e = sym (here q t.1) ∙ f in let there : d ≡ e = cc in subst (λ (x : Placed). length x.slots ≤ 64) there few)
+        (λ t. let is : Some d ≡ Some e = sym (here q t.1) ∙ f in let there : d ≡ e = cc in subst (λ (x : Placed). length x.slots ≤ most_slots) there few)
         (λ o. k.few q e (sym (get_or-set_other cells key q (Some d) None o.1) ∙ f))
         (eqb_tells q key);
   }
@@ -97,7 +98,7 @@ module _ (cells : List (Option Placed)) (h : Holders) (k : AreKnown cells h) whe
       here q t = ap (cell_at (set cells key (Some d))) t ∙ get_or-set_same cells key (Some d) None (cell-inside cells key c at)
 
   -- and refers to as many
-  pub known-counted : (key : ℕ) (c d : Placed) → cell_at cells key ≡ Some c → d.number ≡ c.number → length d.slots ≤ 64 → scripts_of d ≡ scripts_of c → AreKnown (set cells key (Some d)) h
+  pub known-counted : (key : ℕ) (c d : Placed) → cell_at cells key ≡ Some c → d.number ≡ c.number → length d.slots ≤ most_slots → scripts_of d ≡ scripts_of c → AreKnown (set cells key (Some d)) h
   known-counted key c d at same few alike =
       known-changed key c d at same few h (entries-kept h c.number (Known (scripts_of d) key) (k.known key c at ∙ ap (λ n. Known n key) (sym alike)))
 
@@ -108,7 +109,7 @@ module _ (cells : List (Option Placed)) (h : Holders) (k : AreKnown cells h) whe
   recounted-known key n m true true e = ap (λ i. Known i key) (omega (arith, e))
 
   -- or to one more or less
-  pub known-recounted : (key : ℕ) (c d : Placed) → cell_at cells key ≡ Some c → d.number ≡ c.number → length d.slots ≤ 64 → (before after : Bool) →
+  pub known-recounted : (key : ℕ) (c d : Placed) → cell_at cells key ≡ Some c → d.number ≡ c.number → length d.slots ≤ most_slots → (before after : Bool) →
       scripts_of d + one_if before ≡ scripts_of c + one_if after → (j : Holders) →
       ((n : ℕ) → entry_at j n ≡ (if d.number == n then recounted before after (entry_at h d.number) else entry_at h n)) → AreKnown (set cells key (Some d)) j
   known-recounted key c d at same few before after counts j entries = known-changed key c d at same few j
@@ -165,7 +166,7 @@ module _ (cells : List (Option Placed)) (h : Holders) (k : AreKnown cells h) whe
   -- A native came to stand at a key.
   pub known-inserted : (new : List (Option Placed)) (key : ℕ) (d : Placed) → cell_at cells key ≡ None → cell_at new key ≡ Some d →
       ((q : ℕ) → q ≢ key → cell_at new q ≡ cell_at cells q) → ((q : ℕ) (c : Placed) → cell_at cells q ≡ Some c → c.number ≢ d.number) →
-      scripts_of d ≡ 0 → length d.slots ≤ 64 → (i j : Holders) (x : ℕ) →
+      scripts_of d ≡ 0 → length d.slots ≤ most_slots → (i j : Holders) (x : ℕ) →
       ((n : ℕ) → entry_at i n ≡ (if d.number == n then Known 0 x else entry_at h n)) →
       ((n : ℕ) → entry_at j n ≡ (if d.number == n then with_key key (entry_at i d.number) else entry_at i n)) → AreKnown new j
   known-inserted new key d vacant placed others fresh none few i j x added named = record {
@@ -186,7 +187,7 @@ module _ (cells : List (Option Placed)) (h : Holders) (k : AreKnown cells h) whe
         (f.0, others p (λ s. let is : None ≡ Some f.0 = sym (ap (cell_at cells) s ∙ vacant) ∙ f.1 in absurd (cc)) ∙ f.1, f.2))
         (eqb_tells d.number n);
     few = λ q e f. ⊎_elim
-        (λ t. let is : Some d ≡ Some e = sym (ap (cell_at new) t.1 ∙ placed) ∙ f in let there : d ≡ e = cc in subst (λ (y : Placed). length y.slots ≤ 64) there few)
+        (λ t. let is : Some d ≡ Some e = sym (ap (cell_at new) t.1 ∙ placed) ∙ f in let there : d ≡ e = cc in subst (λ (y : Placed). length y.slots ≤ most_slots) there few)
         (λ o. k.few q e (sym (others q o.1) ∙ f))
         (eqb_tells q key);
   }
@@ -266,10 +267,10 @@ module _ (s t : Stored) (h : Holders) (k : AreKnown s.lists.cells h) (key : ℕ)
   room-then d g = let is : Some (f c) ≡ Some d = sym there-then ∙ g in let one : f c ≡ d = cc in
       subst (λ m. count_of (entry_at h m) < 255) (sym same ∙ ap (λ (x : Placed). x.number) one) (known-room s.lists.cells h k key c at)
 
-  pub counted-then : length (f c).slots ≤ 64 → scripts_of (f c) ≡ scripts_of c → AreKnown t.lists.cells h
+  pub counted-then : length (f c).slots ≤ most_slots → scripts_of (f c) ≡ scripts_of c → AreKnown t.lists.cells h
   counted-then few alike = subst (λ cs. AreKnown cs h) (sym cells-then) (known-counted s.lists.cells h k key c (f c) at same few alike)
 
-  pub recounted-then : length (f c).slots ≤ 64 → (before after : Bool) → scripts_of (f c) + one_if before ≡ scripts_of c + one_if after → (j : Holders) →
+  pub recounted-then : length (f c).slots ≤ most_slots → (before after : Bool) → scripts_of (f c) + one_if before ≡ scripts_of c + one_if after → (j : Holders) →
       ((d : Placed) → cell_at t.lists.cells key ≡ Some d → (n : ℕ) → entry_at j n ≡ (if d.number == n then recounted before after (entry_at h d.number) else entry_at h n)) → AreKnown t.lists.cells j
   recounted-then few before after counts j entries =
       subst (λ cs. AreKnown cs j) (sym cells-then) (known-recounted s.lists.cells h k key c (f c) at same few before after counts j (entries (f c) there-then))

@@ -6,6 +6,7 @@ use Rattle.std.proofs.lemmas.List.Elements.{Contains-get_or}
 use Rattle.cc_lists.proofs.Members.{Among-contains}
 use Rattle.cc_lists.proofs.ListWrites.{Among-set_cases}
 use Rattle.cc_names.specs.Names.{native}
+use Rattle.cc_names.specs.Sizes.{most_slots}
 use Rattle.cc_model.specs.Heap.{with_native_slot, set_slot}
 use Rattle.cc_counted.specs.declared.held.Held.{Held}
 use Rattle.cc_counted.specs.Counts.{Counts, the_number, name_of, is_live, heap_of, with_heap}
@@ -37,7 +38,7 @@ module _ (l : Lists) (p : IsPlaced l) (key : ℕ) (c : Placed) (at : cell_at l.c
     placed-written live =
         subst (λ cs. IsPlaced (record l { cells = cs })) (sym e)
         (IsPlaced-changed l p key c (with_slot i x c) at refl
-        (subst (λ n. n ≤ 64) (sym (length-set c.slots i x)) (p.small key c at))
+        (subst (λ n. n ≤ most_slots) (sym (length-set c.slots i x)) (p.small key c at))
         (λ y m. ⊎_elim
         (λ s. subst (λ z. is_live (keyed l.cells) z ≡ true) s (sym (is_live-keyed l x) ∙ live))
         (λ t. p.held key c y at t) (Among-set_cases c.slots i x y m))

@@ -1,6 +1,7 @@
 -- THE PARTS OF A COUNTED HEAP AS LISTS, by keys, and what they show by numbers.
 use Rattle.std.specs.Prelude.{◌≡◌, ◌⊎◌, ℕ, ◌+◌, ◌-◌, ◌≤◌, ◌==◌, Bool, true, false, not, List, [], ◌++◌, length, filter, ◌∷◌, map, flat_map, Option, Some, None, option_map, option_and_then, slice_index_or, slice_set}
 use Rattle.cc_lists.specs.Members.{Among}
+use Rattle.cc_names.specs.Sizes.{most_slots}
 use Rattle.cc_model.specs.declared.item.Event.{Event}
 use Rattle.cc_model.specs.Slots.{Slots}
 use Rattle.cc_model.specs.Heap.{HeapNative, Buffered}
@@ -107,7 +108,7 @@ pub record IsPlaced (l : Lists) : Type 0 where
   pub in_order : (key : ℕ) → Among key l.order → (c : Placed) × (cell_at l.cells key ≡ Some c)
   pub ordered : (key : ℕ) (c : Placed) → cell_at l.cells key ≡ Some c → Among key l.order
   pub rising : IsRising (map (the_number (keyed l.cells)) l.order)
-  pub small : (key : ℕ) (c : Placed) → cell_at l.cells key ≡ Some c → length c.slots ≤ 64
+  pub small : (key : ℕ) (c : Placed) → cell_at l.cells key ≡ Some c → length c.slots ≤ most_slots
   pub held : (key : ℕ) (c : Placed) (x : Option Held) → cell_at l.cells key ≡ Some c → Among x c.slots → is_live (keyed l.cells) x ≡ true
   pub queued : (key : ℕ) → Among key l.queue → (c : Placed) × (cell_at l.cells key ≡ Some c)
   pub marked : (m : Marked) → Among m l.marks → (c : Placed) × (cell_at l.cells m.key ≡ Some c)

@@ -4,6 +4,7 @@ use Rattle.std.specs.List.{list_any}
 use Rattle.cc_lists.specs.Walks.{is_above}
 use Rattle.cc_names.specs.declared.name.Name.{Name}
 use Rattle.cc_names.specs.declared.name.Name.TheVariants as name
+use Rattle.cc_names.specs.Sizes.{most_slots}
 use Rattle.cc_holders.specs.declared.entry.Entry.{Entry}
 use Rattle.cc_holders.specs.declared.entry.Entry.TheVariants.{Known}
 use Rattle.cc_holders.specs.declared.holders.Holders.{Holders}
@@ -70,7 +71,7 @@ HasNonePlaced cells after = (q : ℕ) (c : Placed) → cell_at cells q ≡ Some 
 pub record AreKnown (cells : List (Option Placed)) (holders : Holders) : Type 0 where
   pub known : (key : ℕ) (c : Placed) → cell_at cells key ≡ Some c → entry_at holders c.number ≡ Known (scripts_of c) key
   pub there : (n count key : ℕ) → entry_at holders n ≡ Known count key → (c : Placed) × (cell_at cells key ≡ Some c) × (c.number ≡ n)
-  pub few : (key : ℕ) (c : Placed) → cell_at cells key ≡ Some c → length c.slots ≤ 64
+  pub few : (key : ℕ) (c : Placed) → cell_at cells key ≡ Some c → length c.slots ≤ most_slots
 
 -- where one place of a native referred to a script object before, or does after
 abbrev pub recounted : Bool → Bool → Entry → Entry

@@ -2,6 +2,7 @@
 ghost use Rattle.std.specs.Prelude.{◌≡◌, ℕ, ◌<◌, ◌≤◌, true, List, [], ◌∷◌, ◌++◌, length, Option, Some, None, option_map, IsSome, IsTrue, IfOk, OnOk, OnErr, slice_index_or};
 ghost use Rattle.cc_lists.specs.Members.{Among};
 ghost use Rattle.cc_names.specs.Names.{native};
+ghost use Rattle.cc_names.specs.Sizes.{most_slots};
 ghost use Rattle.cc_model.specs.Telling.{TellsEvents};
 ghost use Rattle.cc_model.specs.Heap.{HeapNative, set_preserved, set_slot, suspect};
 ghost use Rattle.cc_model.specs.Cascade.{cascade, add_ref};
@@ -20,7 +21,7 @@ use crate::held::{Held, native_held};
 use crate::population::Population;
 use crate::slot::Slot;
 use cc_model::{Event, Item, Notices};
-use cc_names::{NKey, Name, NativeNo, NoMemory, SKey};
+use cc_names::{NKey, Name, NativeNo, NoMemory, SKey, SlotNo};
 use std::alloc::Global;
 
 impl Population {
@@ -111,7 +112,7 @@ impl Population {
     }
 
     /// Writes slot `i` of the native at a key, and returns what it held.
-    pub(crate) fn set_slot(&mut self, key: NKey, i: u8, item: Option<Held>) -> Option<Held>
+    pub(crate) fn set_slot(&mut self, key: NKey, i: SlotNo, item: Option<Held>) -> Option<Held>
         requires at_rest { IsAtRest self.old }
         requires live { IsSome (number_at (shows self.old) key.0) }
         requires within { i < length (slots_of (shows self.old) key.0) }
@@ -151,7 +152,7 @@ impl Population {
     }
 
     /// What slot `i` of the native at a key holds; behind the last slot its reflector, where that is preserved.
-    pub(crate) fn reference(&self, key: NKey, i: u8) -> Option<Held>
+    pub(crate) fn reference(&self, key: NKey, i: SlotNo) -> Option<Held>
         requires at_rest { IsAtRest self.now }
         requires live { IsSome (number_at (shows self.now) key.0) }
         requires within { i ≤ length (slots_of (shows self.now) key.0) }
@@ -172,10 +173,10 @@ impl Population {
         &mut self,
         alloc: Global,
         no: NativeNo,
-        slots: u8,
+        slots: SlotNo,
     ) -> Result<NKey, NoMemory>
         requires at_rest { IsAtRest self.old }
-        requires slots { slots ≤ 64 }
+        requires slots { slots ≤ most_slots }
         requires above { (n : HeapNative) → Among n (shows self.old).natives → n.number < no.0 }
         requires owned { CallersOwn [] (shows self.old) }
         ensures makes { IfOk result (λ key. Makes (shows self.old) (shows self.new) key.0 no.0 slots) }
@@ -189,7 +190,7 @@ impl Population {
     }
 
     /// Empties slot `i` of a native that is owned, and gives up what was in it, with all that it deletes.
-    fn empty_slot<N: Notices>(&mut self, key: NKey, i: u8, out: &mut N)
+    fn empty_slot<N: Notices>(&mut self, key: NKey, i: SlotNo, out: &mut N)
         requires at_rest { IsAtRest self.old }
         requires within { i < length (slots_placed (cell_at self.old.lists.cells key.0)) }
         requires owned { (others : List ℕ) × (c : Placed) × (cell_at self.old.lists.cells key.0 ≡ Some c) × IsBalanced (c.number ∷ others) (draining_of self.old.lists []) }
@@ -204,7 +205,7 @@ impl Population {
     }
 
     /// Empties the slots of a native that is owned, in rising order, each content given up before the next slot.
-    fn empty_each<N: Notices>(&mut self, key: NKey, slots: u8, out: &mut N)
+    fn empty_each<N: Notices>(&mut self, key: NKey, slots: SlotNo, out: &mut N)
         requires at_rest { IsAtRest self.old }
         requires slots { slots ≡ length (slots_placed (cell_at self.old.lists.cells key.0)) }
         requires owned { (others : List ℕ) × (c : Placed) × (cell_at self.old.lists.cells key.0 ≡ Some c) × IsBalanced (c.number ∷ others) (draining_of self.old.lists []) }
@@ -230,7 +231,7 @@ impl Population {
     {
         let cell = self.at(key);
         let number = cell.number;
-        let slots = cell.slots.len() as u8;
+        let slots = cell.slots.len() as SlotNo;
         out.tell(Item::Event(Event::Unlinked(Name::Native(number))));
         self.empty_each(key, slots, out);
         self.set_preserved(key, false);

@@ -1,6 +1,7 @@
 //! The counted heap as callers see it.
 ghost use Rattle.std.specs.Prelude.{◌≡◌, ◌≢◌, false, ℕ, ◌+◌, ◌<◌, ◌≤◌, List, [], ◌∷◌, ◌++◌, length, Some, None, option_map, option_and_then, slice_index_or, IsSome, IsTrue, IfNone, IfSome, MatchOption, OnOk, IfOk, OnErr};
 ghost use Rattle.cc_names.specs.Names.{native};
+ghost use Rattle.cc_names.specs.Sizes.{most_slots};
 ghost use Rattle.cc_model.specs.Telling.{TellsEvents};
 ghost use Rattle.cc_model.specs.Slots.{empty_slots};
 ghost use Rattle.cc_model.specs.Heap.{HeapNative, set_preserved, set_slot, suspect, with_mark};
@@ -15,7 +16,7 @@ ghost use Rattle.cc_lists.specs.Members.{Among};
 use crate::held::Held;
 use crate::population::Population;
 use cc_model::Notices;
-use cc_names::{NKey, NativeNo, NoMemory, SKey};
+use cc_names::{NKey, NativeNo, NoMemory, SKey, SlotNo};
 use std::alloc::Global;
 use std::marker::Model;
 
@@ -62,8 +63,8 @@ impl Counted {
     ///
     /// Its count is 1: the caller owns that reference. It stands in the buffer without the purple mark.
     /// `NoMemory` changes nothing. No other call takes memory, at any depth of what it deletes.
-    pub fn create(&mut self, no: NativeNo, slots: u8) -> Result<NKey, NoMemory>
-        requires slots { slots ≤ 64 }
+    pub fn create(&mut self, no: NativeNo, slots: SlotNo) -> Result<NKey, NoMemory>
+        requires slots { slots ≤ most_slots }
         requires above { (n : HeapNative) → Among n self.old.natives → n.number < no.0 }
         requires owned { CallersOwn [] self.old }
         ensures natives { OnOk result (self.new.natives ≡ self.old.natives ++ record { number = no.0; slots = empty_slots slots; preserved = false; count = 1 } ∷ []) }
@@ -104,7 +105,7 @@ impl Counted {
     }
 
     /// What slot `i` of a native holds, counted from 0. The reference stays the slot's.
-    pub fn slot(&self, key: NKey, i: u8) -> Option<Held>
+    pub fn slot(&self, key: NKey, i: SlotNo) -> Option<Held>
         requires live { IsSome (number_at self.now key.0) }
         requires within { i < length (slots_of self.now key.0) }
         ensures name { name_of self.now result ≡ slice_index_or (slots_of self.now key.0) i None }
@@ -117,7 +118,7 @@ impl Counted {
     ///
     /// The reference to `item` goes from the caller to the slot, that to the old content from the slot to the caller.
     /// To a script object there is none: it needs no owner, neither before nor after.
-    pub fn set_slot(&mut self, key: NKey, i: u8, item: Option<Held>) -> Option<Held>
+    pub fn set_slot(&mut self, key: NKey, i: SlotNo, item: Option<Held>) -> Option<Held>
         requires live { IsSome (number_at self.old key.0) }
         requires within { i < length (slots_of self.old key.0) }
         requires item_live { IsTrue (is_live self.old item) }
@@ -131,11 +132,11 @@ impl Counted {
     }
 
     /// How many slots a native has: 0 to 64.
-    pub fn slots(&self, key: NKey) -> u8
+    pub fn slots(&self, key: NKey) -> SlotNo
         requires live { IsSome (number_at self.now key.0) }
         ensures { result ≡ length (slots_of self.now key.0) }
     {
-        self.natives.at(key).slots.len() as u8
+        self.natives.at(key).slots.len() as SlotNo
     }
 
     /// Whether a native's reflector is preserved.
@@ -176,7 +177,7 @@ impl Counted {
 
     /// What a native refers to, counted from 0: what each slot holds, in their order, and behind the last slot its
     /// reflector, where that is preserved.
-    pub fn reference(&self, key: NKey, i: u8) -> Option<Held>
+    pub fn reference(&self, key: NKey, i: SlotNo) -> Option<Held>
         requires live { IsSome (number_at self.now key.0) }
         requires within { i ≤ length (slots_of self.now key.0) }
         ensures name { name_of self.now result ≡ slice_index_or (references_of self.now key.0) i None }

@@ -12,7 +12,7 @@ use crate::held::Held;
 use crate::node::{Node, Nodes, Order, Queue};
 use crate::slot::Slot;
 use cc_chain::{Chain, Neighbours};
-use cc_names::{NKey, NativeNo, NoMemory, SKey, narrow_key};
+use cc_names::{NKey, NativeNo, NoMemory, SKey, SlotNo, narrow_key};
 use cc_purple::Buffer;
 use slab::Slab;
 use std::alloc::{AllocError, Global};
@@ -136,7 +136,7 @@ impl Natives {
         &mut self,
         alloc: Global,
         no: NativeNo,
-        slots: u8,
+        slots: SlotNo,
     ) -> Result<NKey, NoMemory>
         ensures inserts { IfOk result (λ key. Inserts self.old.lists self.new.lists key.0
             (record { number = no.0; slots = replicate slots None; preserved = false; reflector = None; count = 1 })) }
@@ -294,7 +294,7 @@ impl Natives {
 }
 
 /// So many empty slots, and no room for more.
-fn empty_slots(alloc: Global, slots: u8) -> Result<Vec<Slot>, AllocError>
+fn empty_slots(alloc: Global, slots: SlotNo) -> Result<Vec<Slot>, AllocError>
     ensures items { IfOk result (λ v. v.items ≡ replicate slots None) }
     ensures room { IfOk result (λ v. vec_capacity v ≡ vec_len v) }
 {

@@ -2,6 +2,7 @@
 ghost use Rattle.std.specs.Prelude.{◌≡◌, ◌≢◌, true, false, ℕ, ◌+◌, ◌<◌, ◌≤◌, ◌==◌, ◌&&◌, [], ◌∷◌, ◌++◌, length, drop, Some, None, is_some, option_map, if◌then◌else◌, IsSome, IsTrue, IfNone, IfOk, IfSome, OnErr, replicate, slice_index_or};
 ghost use Rattle.cc_lists.specs.Members.{Among};
 ghost use Rattle.cc_lists.specs.Walks.{first_of};
+ghost use Rattle.cc_names.specs.Sizes.{most_slots};
 ghost use Rattle.cc_chain.specs.Chains.{behind};
 ghost use Rattle.cc_holders.specs.Entries.{count_of};
 ghost use Rattle.cc_holders.specs.Known.{entry_at};
@@ -14,7 +15,7 @@ use crate::cell::Cell;
 use crate::held::Held;
 use crate::natives::Natives;
 use cc_holders::Holders;
-use cc_names::{NKey, NativeNo, NoMemory, SKey};
+use cc_names::{NKey, NativeNo, NoMemory, SKey, SlotNo};
 use std::alloc::Global;
 use std::marker::Model;
 
@@ -143,9 +144,9 @@ impl Population {
         &mut self,
         alloc: Global,
         no: NativeNo,
-        slots: u8,
+        slots: SlotNo,
     ) -> Result<NKey, NoMemory>
-        requires slots { slots ≤ 64 }
+        requires slots { slots ≤ most_slots }
         requires fresh { (key : ℕ) (c : Placed) → cell_at self.old.lists.cells key ≡ Some c → c.number ≢ no.0 }
         ensures inserts { IfOk result (λ key. Inserts self.old.lists self.new.lists key.0
             (record { number = no.0; slots = replicate slots None; preserved = false; reflector = None; count = 1 })) }

@@ -5,6 +5,7 @@ use Rattle.cc_model.specs.Slots.{empty_slots}
 use Rattle.cc_names.specs.Allowance.{Allowance}
 use Rattle.cc_names.specs.declared.register.Reg.TheVariants.{S}
 use Rattle.cc_names.specs.Names.{object}
+use Rattle.cc_names.specs.Sizes.{bank_length}
 use Rattle.cc_model.specs.declared.command.Command.TheVariants.{WeakMap}
 use Rattle.cc_model.specs.Colours.{HasColourInvariant}
 use Rattle.cc_model.specs.View.{view}
@@ -51,4 +52,4 @@ module _ (limits : Allowance) (room : ¬ (limits.scripts ≤ 0)) where
   pub empty-idle : (w : Keyed) (c : Option Built) → Shows (parts w c) (empty_document limits) → IsIdle w
   empty-idle w c s r ne =
       (alike w c (empty_document limits) s).register (S r)
-      ∙ (ap (λ g. register g (S r)) empty-is ∙ (get_or-set_other (empty_slots 256) 0 r (Some (object 1)) None ne ∙ empty-slot 256 r))
+      ∙ (ap (λ g. register g (S r)) empty-is ∙ (get_or-set_other (empty_slots bank_length) 0 r (Some (object 1)) None ne ∙ empty-slot bank_length r))

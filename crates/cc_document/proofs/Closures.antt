@@ -5,6 +5,7 @@ use Rattle.std.proofs.lemmas.List.{length-set, get_or-set_same, get_or-set_other
 use Rattle.cc_names.specs.declared.name.Name.{Name}
 use Rattle.cc_names.specs.declared.register.Reg.TheVariants.{N, S}
 use Rattle.cc_names.specs.Names.{object, reflector, is_script}
+use Rattle.cc_names.specs.Sizes.{bank_length}
 use Rattle.cc_model.specs.declared.command.Command.TheVariants.{Script}
 use Rattle.cc_model.specs.Entries.{Entry, value_in, with_entry}
 use Rattle.cc_model.specs.Checks.{refusal_of, native_of, reflector_of, value_at}
@@ -30,16 +31,16 @@ pub record IsWrapped (g k : Graph) (x : Option Name) : Type 0 where
   pub variables : (v : ℕ) → register k (N v) ≡ register g (N v)
   pub others : (r : ℕ) → r ≢ 2 → register k (S r) ≡ register g (S r)
   pub wrapper : register k (S 2) ≡ reflector_of x
-  pub script_registers : length k.script_registers ≡ 256
+  pub script_registers : length k.script_registers ≡ bank_length
   pub scripts : k.scripts ≡ g.scripts
   pub limits : k.limits ≡ g.limits
 
-pub wrapping-reads : (g : Graph) (v : ℕ) → length g.script_registers ≡ 256 → IsWrapped g (wrapping v g) (register g (N v))
+pub wrapping-reads : (g : Graph) (v : ℕ) → length g.script_registers ≡ bank_length → IsWrapped g (wrapping v g) (register g (N v))
 wrapping-reads g v enough =
     let x = register g (N v) in
     let h = wrapped g x in
     let t = wrapped-alike g x in
-    let many : length h.script_registers ≡ 256 = ap length t.script_registers ∙ enough in
+    let many : length h.script_registers ≡ bank_length = ap length t.script_registers ∙ enough in
     record {
       slots = t.slots;
       spoken = t.spoken;
@@ -53,13 +54,13 @@ wrapping-reads g v enough =
     }
 
 -- and it is as new as it was
-pub new_closure-wrapped : (g : Graph) (v : ℕ) → length g.script_registers ≡ 256 → HasNewClosure g → HasNewClosure (wrapping v g)
+pub new_closure-wrapped : (g : Graph) (v : ℕ) → length g.script_registers ≡ bank_length → HasNewClosure g → HasNewClosure (wrapping v g)
 new_closure-wrapped g v enough n =
     let t = wrapping-reads g v enough in
     record { number = n.number; held = t.others 1 (λ e. cc) ∙ n.held; made = ap (λ os. numbered os n.number) t.scripts ∙ n.made }
 
 -- and where the register of the reflector is emptied, a document reads as before
-pub unwrapped-reads : (g : Graph) (v : ℕ) → length g.script_registers ≡ 256 → IsAsBefore (objects_of g) (objects_of (without 2 (wrapping v g)))
+pub unwrapped-reads : (g : Graph) (v : ℕ) → length g.script_registers ≡ bank_length → IsAsBefore (objects_of g) (objects_of (without 2 (wrapping v g)))
 unwrapped-reads g v enough =
     let t = wrapping-reads g v enough in
     let k = without 2 (wrapping v g) in
@@ -86,7 +87,7 @@ making-is : (g : Graph) → refusal_of (objects_of g) (Script 1 1) ≡ None →
 unfolding changed
 making-is g e = ap (λ o. unless_refused o g (changed g (Script 1 1))) e
 
-pub new_closure-made : (g : Graph) → length g.script_registers ≡ 256 → refusal_of (objects_of g) (Script 1 1) ≡ None → HasNewClosure (making_closure g)
+pub new_closure-made : (g : Graph) → length g.script_registers ≡ bank_length → refusal_of (objects_of g) (Script 1 1) ≡ None → HasNewClosure (making_closure g)
 new_closure-made g enough e = subst HasNewClosure (sym (making-is g e)) (record {
   number = length g.scripts + 1;
   held = get_or-set_same g.script_registers 1 (next_closure g) None (omega (arith, enough));
@@ -106,14 +107,14 @@ closure-closed g n = record {
   held = get_or-set_other (closing g).script_registers 2 1 None None (λ e. cc) ∙ ((closing-reads g n.number (register g (S 2)) n.held refl).registers (S 1) ∙ n.held);
 }
 
-pub closed_over-reads : (g : Graph) (about b : ℕ) → length g.script_registers ≡ 256 → register g (N about) ≡ element b →
+pub closed_over-reads : (g : Graph) (about b : ℕ) → length g.script_registers ≡ bank_length → register g (N about) ≡ element b →
     refusal_of (objects_of g) (Script 1 1) ≡ None → IsClosedOver g (closed_over about g) b
 closed_over-reads g about b enough in-about taken =
     let a = length g.scripts + 1 in
     let next = next_closure g in
     let m = set_register (with_script g (plain_object (None ∷ []))) (S 1) next in
     let is : making_closure g ≡ m = making-is g taken in
-    let many : length m.script_registers ≡ 256 = length-set g.script_registers 1 next ∙ enough in
+    let many : length m.script_registers ≡ bank_length = length-set g.script_registers 1 next ∙ enough in
     let h = wrapping about m in
     let t = wrapping-reads m about many in
     let held : register h (S 1) ≡ Some (object a) = t.others 1 (λ e. cc) ∙ get_or-set_same g.script_registers 1 next None (omega (arith, enough)) in

@@ -5,6 +5,7 @@ use Rattle.cc_lists.proofs.Members.{Among-left, Among-right, Among-append}
 use Rattle.cc_names.specs.declared.name.Name.{Name}
 use Rattle.cc_names.specs.declared.register.Reg.TheVariants.{N}
 use Rattle.cc_names.specs.Names.{native}
+use Rattle.cc_names.specs.Sizes.{bank_length, most_slots}
 use Rattle.cc_model.specs.Telling.{Telling}
 use Rattle.cc_model.specs.Heap.{Heap, native_at, register, set_register, set_slot}
 use Rattle.cc_model.specs.Cascade.{take_up}
@@ -39,7 +40,7 @@ tells-after h g k before after w grows o = record {
 }
 
 -- a native register written uses no number
-module _ (v w : Keyed) (r : ℕ) (x : Option Name) (room : r < 256) (there : IsIn (native_names v.heap) x) (order : IsInOrder [] v) where
+module _ (v w : Keyed) (r : ℕ) (x : Option Name) (room : r < bank_length) (there : IsIn (native_names v.heap) x) (order : IsInOrder [] v) where
   pub hold_native-made : w ≡ left_with v (hold_native v.heap r x).heap → AreMade 0 0 v.heap w.heap
   unfolding hold_native
   hold_native-made is =
@@ -53,7 +54,7 @@ module _ (v w : Keyed) (r : ℕ) (x : Option Name) (room : r < 256) (there : IsI
       })
 
 -- a native made uses one
-module _ (h k : Heap) (r slots : ℕ) (room : r < 256) (few : slots ≤ 64) (allowed : h.natives_made < h.limits.natives) (sound : IsSound [] h) where
+module _ (h k : Heap) (r slots : ℕ) (room : r < bank_length) (few : slots ≤ most_slots) (allowed : h.natives_made < h.limits.natives) (sound : IsSound [] h) where
   pub make_native-made : k ≡ (make_native h r slots).heap → AreMade 1 0 h k
   unfolding make_native
   make_native-made is =

@@ -7,6 +7,7 @@ use Rattle.cc_names.specs.declared.name.Name.TheVariants as name
 use Rattle.cc_names.specs.declared.register.Reg.{Reg}
 use Rattle.cc_names.specs.declared.register.Reg.TheVariants.{N, S}
 use Rattle.cc_names.specs.Names.{object}
+use Rattle.cc_names.specs.Sizes.{bank_length}
 use Rattle.cc_model.specs.declared.command.Command.TheVariants.{Native, Script}
 use Rattle.cc_model.specs.declared.item.Refusal.{Refusal}
 use Rattle.cc_model.specs.Checks.{refusal_of}
@@ -91,18 +92,18 @@ making-others g r ne = go (refusal_of (objects_of g) (Script 1 1))
     go (Some refusal) = refl
 
 -- a reflector that was in its register meanwhile is not there any more
-pub unwrapped-left : (g : Graph) (v : ℕ) → length g.script_registers ≡ 256 → LetsScripts (objects_of g) (objects_of (without 2 (wrapping v g)))
+pub unwrapped-left : (g : Graph) (v : ℕ) → length g.script_registers ≡ bank_length → LetsScripts (objects_of g) (objects_of (without 2 (wrapping v g)))
 unwrapped-left g v enough r = ⊎_elim (λ t. inr t.1) (λ t. inl (t.1 ∙ (wrapping-reads g v enough).others r t.0)) (without-lets (wrapping v g) 2 r)
 
-making-enough : (g : Graph) → length g.script_registers ≡ 256 → length (making_closure g).script_registers ≡ 256
+making-enough : (g : Graph) → length g.script_registers ≡ bank_length → length (making_closure g).script_registers ≡ bank_length
 unfolding changed
 making-enough g enough = go (refusal_of (objects_of g) (Script 1 1))
   where
-    go : (o : Option Refusal) → length (unless_refused o g (changed g (Script 1 1))).script_registers ≡ 256
+    go : (o : Option Refusal) → length (unless_refused o g (changed g (Script 1 1))).script_registers ≡ bank_length
     go None = length-set g.script_registers 1 (Some (object (length g.scripts + 1))) ∙ enough
     go (Some refusal) = enough
 
-closed_over-others : (g : Graph) (about r : ℕ) → length g.script_registers ≡ 256 → r ≢ 1 →
+closed_over-others : (g : Graph) (about r : ℕ) → length g.script_registers ≡ bank_length → r ≢ 1 →
     (register (closed_over about g) (S r) ≡ register g (S r)) ⊎ (register (closed_over about g) (S r) ≡ None)
 closed_over-others g about r enough ne =
     let m = making_closure g in
@@ -116,7 +117,7 @@ closed_over-others g about r enough ne =
 pub made-left : (g : Graph) → LetsScripts (objects_of g) (objects_of (without 1 (making_closure g)))
 made-left g r = ⊎_elim (λ t. inr t.1) (λ t. inl (t.1 ∙ making-others g r t.0)) (without-lets (making_closure g) 1 r)
 
-pub listened-left : (g : Graph) (to about : ℕ) → length g.script_registers ≡ 256 → LetsScripts (objects_of g) (objects_of (listened to about g))
+pub listened-left : (g : Graph) (to about : ℕ) → length g.script_registers ≡ bank_length → LetsScripts (objects_of g) (objects_of (listened to about g))
 listened-left g to about enough r =
     let h = closed_over about g in
     let l = written to 1 (Some (S 1)) h in
@@ -127,7 +128,7 @@ listened-left g to about enough r =
     ⊎_elim (λ s. inl (same ∙ s)) (λ n. inr (same ∙ n)) (closed_over-others g about r enough t.0))
     (without-lets l 1 r)
 
-pub with_data-left : (g : Graph) (of about : ℕ) → length g.script_registers ≡ 256 → length (closed_over about g).script_registers ≡ 256 →
+pub with_data-left : (g : Graph) (of about : ℕ) → length g.script_registers ≡ bank_length → length (closed_over about g).script_registers ≡ bank_length →
     LetsScripts (objects_of g) (objects_of (with_data of about g))
 with_data-left g of about enough many r =
     let h = closed_over about g in
@@ -143,7 +144,7 @@ with_data-left g of about enough many r =
     (without-lets (entered of h) 1 r)
 
 -- where a closure was made and let go
-pub left-closed : (g k : Graph) (about : ℕ) → length g.script_registers ≡ 256 → LetsScripts (objects_of (closed_over about g)) (objects_of k) → LetsScripts (objects_of g) (objects_of (without 1 k))
+pub left-closed : (g k : Graph) (about : ℕ) → length g.script_registers ≡ bank_length → LetsScripts (objects_of (closed_over about g)) (objects_of k) → LetsScripts (objects_of g) (objects_of (without 1 k))
 left-closed g k about enough p r = ⊎_elim
     (λ t. inr t.1)
     (λ t. ⊎_elim

@@ -26,7 +26,7 @@ use crate::writing::{close_over, empty, enter, hand_over, visit, write};
 use cc_collector::{Collector, Ended, Steps};
 use cc_heaps::Heaps;
 use cc_model::Notices;
-use cc_names::{Limits, Name, NativeNo, NoMemory};
+use cc_names::{Limits, Name, NativeNo, NoMemory, SlotNo};
 use std::alloc::Global;
 use std::marker::{Brand, Model};
 use std::sync::ledger::{Blank, Ledger};
@@ -84,7 +84,7 @@ impl Document {
     }
 
     /// The child at a place, 0 to 7, of the element in a variable.
-    pub fn child(&self, of: Variable, place: u8) -> Option<NativeNo>
+    pub fn child(&self, of: Variable, place: SlotNo) -> Option<NativeNo>
         requires within { place < places }
         ensures { (g : Graph) → Shows self.now g → option_map (λ n. n.0) result ≡ child_of (objects_of g) (in_variable (objects_of g) of.0) place }
     {
@@ -252,7 +252,7 @@ impl Document {
     }
 
     /// A variable holds the child at a place, 0 to 7, of the element in another, or nothing where there is none.
-    pub fn visit_child<N: Notices>(&mut self, into: Variable, of: Variable, place: u8, out: &mut N)
+    pub fn visit_child<N: Notices>(&mut self, into: Variable, of: Variable, place: SlotNo, out: &mut N)
         requires within { place < places }
         ensures assigned { ShowsChanged self.old self.new (λ o p. IsAssigned o p into.0 (elements (child_of o (in_variable o of.0) place))) }
         ensures makes { Makes 0 0 self.old self.new }
@@ -344,7 +344,7 @@ impl Document {
     }
 
     /// The lowest place of the element in a variable that has this child, or none.
-    fn place(&self, parent: Variable, child: Option<NativeNo>) -> Option<u8>
+    fn place(&self, parent: Variable, child: Option<NativeNo>) -> Option<SlotNo>
         ensures within { IfSome result (λ place. place < places) }
         ensures found { IfSome result (λ place. (g : Graph) → Shows self.now g →
             child_of (objects_of g) (in_variable (objects_of g) parent.0) place ≡ option_map (λ n. n.0) child) }

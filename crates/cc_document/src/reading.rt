@@ -12,7 +12,7 @@ use crate::variable::{CHILDREN, CLOSED, DATA, LISTENER, PLACES, SPOKEN, Variable
 use cc_collector::Collector;
 use cc_counted::{Held, native_held};
 use cc_heaps::Heaps;
-use cc_names::{NKey, NativeNo, SKey};
+use cc_names::{NKey, NativeNo, SKey, SlotNo};
 use cc_wrappers::unwrap_of;
 
 /// The number of an element, where there is one.
@@ -39,7 +39,7 @@ pub(crate) fn element_in(heaps: &Heaps, variable: Variable) -> Option<NativeNo>
 }
 
 /// What slot `i` of the element in a variable holds.
-fn content_at(heaps: &Heaps, collector: &Collector, of: Variable, i: u8) -> Option<Held>
+fn content_at(heaps: &Heaps, collector: &Collector, of: Variable, i: SlotNo) -> Option<Held>
     requires shown { IsShown (parts heaps.now collector.now) }
     requires within { i < element_slots }
     ensures name { held_name heaps.now result ≡ slot_of (objects_of heaps.now.heap) (register heaps.now.heap (n_register of.0)) i }
@@ -49,7 +49,7 @@ fn content_at(heaps: &Heaps, collector: &Collector, of: Variable, i: u8) -> Opti
 }
 
 /// Where the element in slot `i` of the element in a variable stands.
-pub(crate) fn key_at(heaps: &Heaps, collector: &Collector, of: Variable, i: u8) -> Option<NKey>
+pub(crate) fn key_at(heaps: &Heaps, collector: &Collector, of: Variable, i: SlotNo) -> Option<NKey>
     requires shown { IsShown (parts heaps.now collector.now) }
     requires within { i < element_slots }
     ensures name { native_name heaps.now result ≡ elements (element_of (slot_of (objects_of heaps.now.heap) (register heaps.now.heap (n_register of.0)) i)) }
@@ -63,7 +63,7 @@ pub(crate) fn element_at(
     heaps: &Heaps,
     collector: &Collector,
     of: Variable,
-    i: u8,
+    i: SlotNo,
 ) -> Option<NativeNo>
     requires shown { IsShown (parts heaps.now collector.now) }
     requires within { i < element_slots }
@@ -78,7 +78,7 @@ pub(crate) fn place_of(
     collector: &Collector,
     parent: Variable,
     child: Option<NativeNo>,
-) -> Option<u8>
+) -> Option<SlotNo>
     requires shown { IsShown (parts heaps.now collector.now) }
     ensures within { IfSome result (λ place. place < places) }
     ensures found { IfSome result (λ place. child_of (objects_of heaps.now.heap) (register heaps.now.heap (n_register parent.0)) place ≡ option_map (λ n. n.0) child) }

@@ -23,7 +23,7 @@ use cc_collector::Collector;
 use cc_counted::Held;
 use cc_heaps::Heaps;
 use cc_model::Notices;
-use cc_names::NoMemory;
+use cc_names::{NoMemory, RegNo, SlotNo};
 use cc_wrappers::wrap;
 
 /// Slot `i` of the element in a variable holds what another variable holds, or nothing.
@@ -31,7 +31,7 @@ pub(crate) fn write<N: Notices>(
     heaps: &mut Heaps,
     collector: &Collector,
     of: Variable,
-    i: u8,
+    i: SlotNo,
     from: Option<Variable>,
     out: &mut N,
 )
@@ -54,7 +54,7 @@ pub(crate) fn visit<N: Notices>(
     collector: &Collector,
     into: Variable,
     of: Variable,
-    i: u8,
+    i: SlotNo,
     out: &mut N,
 )
     requires shown { IsShown (parts heaps.old collector.now) }
@@ -86,7 +86,7 @@ pub(crate) fn hand_over<N: Notices>(
 }
 
 /// A script register is empty from then on.
-pub(crate) fn empty(heaps: &mut Heaps, collector: &Collector, r: u8)
+pub(crate) fn empty(heaps: &mut Heaps, collector: &Collector, r: RegNo)
     requires shown { IsShown (parts heaps.old collector.now) }
     requires r { r ≢ data_register }
     ensures shows { ShowsAfter (parts heaps.old collector.now) (parts heaps.new collector.now) (without r) }

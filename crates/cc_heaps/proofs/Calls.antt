@@ -6,6 +6,7 @@ use Rattle.std.proofs.lemmas.Simd.{map-map}
 use Rattle.cc_lists.specs.Members.{Among}
 use Rattle.cc_names.specs.declared.name.Name.{Name}
 use Rattle.cc_names.specs.Names.{native}
+use Rattle.cc_names.specs.Sizes.{most_references}
 use Rattle.cc_model.specs.Telling.{Telling, TellsEvents}
 use Rattle.cc_model.specs.Slots.{contents}
 use Rattle.cc_model.specs.Heap.{Heap, HeapNative, Outcome, native_at, set_preserved, suspect}
@@ -36,12 +37,12 @@ number-there owned v key o live =
     subst (λ x. Among (native (number_or_none x)) (native_names v.heap)) (sym f.1) (number-named v owned key f.0 o f.1)
 
 -- counts fit their type
-pub count-fits : (owned : List ℕ) (p : Inside) (k : ℕ) → IsInOrder owned (keyed_of p) → count_at (native_at (counts.heap_of p.counted) k) ≤ 64000257 + times k owned
+pub count-fits : (owned : List ℕ) (p : Inside) (k : ℕ) → IsInOrder owned (keyed_of p) → count_at (native_at (counts.heap_of p.counted) k) ≤ most_references + times k owned
 count-fits owned p k o = go (native_at (counts.heap_of p.counted) k) refl
   where
-    go : (x : Option HeapNative) → native_at (counts.heap_of p.counted) k ≡ x → count_at x ≤ 64000257 + times k owned
+    go : (x : Option HeapNative) → native_at (counts.heap_of p.counted) k ≡ x → count_at x ≤ most_references + times k owned
     go None e = omega arith
-    go (Some n) e = subst (λ j. n.count ≤ 64000257 + times j owned) (native_at-number (counts.heap_of p.counted) k n e)
+    go (Some n) e = subst (λ j. n.count ≤ most_references + times j owned) (native_at-number (counts.heap_of p.counted) k n e)
         (count-bound owned (heap_of p) (named_native p.scripts n) o.sound o.limits.0
         (native_at-there (heap_of p) k (named_native p.scripts n) (native_at-shown p.scripts (heap_of p) (counts.heap_of p.counted) k ∙ ap (option_map (named_native p.scripts)) e)))
 

@@ -16,6 +16,7 @@ use Rattle.cc_names.specs.declared.name.Name.TheVariants as name
 use Rattle.cc_names.specs.Names.{native, object, reflector}
 use Rattle.cc_names.specs.declared.kind.Colour.TheVariants.{Black}
 use Rattle.cc_names.specs.declared.number.SKey.{SKey}
+use Rattle.cc_names.specs.Sizes.{bank_length, most_slots}
 use Rattle.cc_model.specs.Slots.{Slots}
 use Rattle.cc_model.specs.Ranges.{in_range}
 use Rattle.cc_model.specs.Heap.{Heap, objects_of, HeapNative, HeapScript, native_at, set_slot, change_script, change_native, with_native_slot, with_script_slot, suspect}
@@ -108,7 +109,7 @@ script_slot-keeps {owned} h (name.Reflector k) i y at there black s = script_slo
     (script_slot-sound owned h (Some (reflector k.0)) i y (of-one (λ w. Among w (script_names h)) (reflector k.0) at) there s).well_formed there black s
 
 -- the command that makes a script object is in its ranges, and is taken
-pub made-ranges : (d : ℕ) (slots : Option ℕ) → d < 256 → IfSome slots (λ n. n ≤ 64) → IsTrue (in_range (command_to_make d slots))
+pub made-ranges : (d : ℕ) (slots : Option ℕ) → d < bank_length → IfSome slots (λ n. n ≤ most_slots) → IsTrue (in_range (command_to_make d slots))
 made-ranges d slots room few = grind (arith, lt-ltb, le-leb)
 
 made-taken : (h : Heap) (d : ℕ) (slots : Option ℕ) → h.scripts_made < h.limits.scripts → IsTaken (objects_of h) (command_to_make d slots)
@@ -120,7 +121,7 @@ unfolding effects
 made-effects h d slots = grind arith
 
 -- A script object is made.
-pub make_object-keeps : {owned : List ℕ} (h : Heap) (d : ℕ) (slots : Option ℕ) → d < 256 → IfSome slots (λ n. n ≤ 64) → h.scripts_made < h.limits.scripts → IsSound owned h →
+pub make_object-keeps : {owned : List ℕ} (h : Heap) (d : ℕ) (slots : Option ℕ) → d < bank_length → IfSome slots (λ n. n ≤ most_slots) → h.scripts_made < h.limits.scripts → IsSound owned h →
     Keeps h (make_object h d (kind_to_make slots) (slots_to_make slots))
 make_object-keeps h d slots room few allowed s = record {
   follows = subst (Follows h) (made-effects h d slots) (record {
@@ -140,7 +141,7 @@ make_object-keeps h d slots room few allowed s = record {
 -- Natives
 
 -- A native is made.
-pub make_native-keeps : {owned : List ℕ} (h : Heap) (d n : ℕ) → d < 256 → n ≤ 64 → h.natives_made < h.limits.natives → IsSound owned h → Keeps h (make_native h d n).heap
+pub make_native-keeps : {owned : List ℕ} (h : Heap) (d n : ℕ) → d < bank_length → n ≤ most_slots → h.natives_made < h.limits.natives → IsSound owned h → Keeps h (make_native h d n).heap
 make_native-keeps {owned} h d n room few allowed s = record {
   follows = Follows-from h (make_native h d n).heap s.well_formed (make_native-sound owned h d n room few allowed s).well_formed
       (make_native-gentle owned h d n room few allowed s)
@@ -149,7 +150,7 @@ make_native-keeps {owned} h d n room few allowed s = record {
 }
 
 -- A native register is written.
-pub hold_native-keeps : {owned : List ℕ} (h : Heap) (d : ℕ) (x : Option Name) → d < 256 → IsIn (native_names h) x → IsSound owned h → Keeps h (hold_native h d x).heap
+pub hold_native-keeps : {owned : List ℕ} (h : Heap) (d : ℕ) (x : Option Name) → d < bank_length → IsIn (native_names h) x → IsSound owned h → Keeps h (hold_native h d x).heap
 hold_native-keeps {owned} h d x room there s = record {
   follows = Follows-from h (hold_native h d x).heap s.well_formed after (hold_native-gentle owned h d x room there s)
       (SameScripts-coloured h (hold_native h d x).heap (hold_native-scripts h d x));

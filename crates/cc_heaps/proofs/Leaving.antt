@@ -9,6 +9,7 @@ use Rattle.cc_lists.proofs.Numbers.{number-exact}
 use Rattle.cc_names.specs.declared.name.Name.{Name}
 use Rattle.cc_names.specs.declared.register.Reg.TheVariants.{N}
 use Rattle.cc_names.specs.Names.{native}
+use Rattle.cc_names.specs.Sizes.{bank_length, most_slots}
 use Rattle.cc_model.specs.declared.item.Event.TheVariants.{Freed}
 use Rattle.cc_model.specs.Telling.{Telling, TellsEvents}
 use Rattle.cc_model.specs.Counts.{times}
@@ -176,7 +177,7 @@ given_up-tells owned v w k before after s is well told =
     given-up owned v.heap v.heap w.heap (Some (native k)) before after s (ap (λ (u : Keyed). u.heap) is) well (λ x i. i) (λ j i out. i) told
 
 -- a native register written: what is there before the old content is given up
-module _ (owned : List ℕ) (v w : Keyed) (r : ℕ) (x : Option Name) (room : r < 256) (there : IsIn (native_names v.heap) x) (order : IsInOrder owned v) where
+module _ (owned : List ℕ) (v w : Keyed) (r : ℕ) (x : Option Name) (room : r < bank_length) (there : IsIn (native_names v.heap) x) (order : IsInOrder owned v) where
   -- the reference to the new content is owned
   pub register-sound : IsSound (numbers_of (register (take_up v.heap x) (N r)) ++ owned) (set_register (take_up v.heap x) (N r) x)
   register-sound = native_register-sound owned (take_up v.heap x) r x room (IsIn-take_up v.heap x x there)
@@ -193,7 +194,7 @@ module _ (owned : List ℕ) (v w : Keyed) (r : ℕ) (x : Option Name) (room : r 
       told
 
 -- a native made
-module _ (owned : List ℕ) (h k : Heap) (r slots : ℕ) (room : r < 256) (few : slots ≤ 64) (allowed : h.natives_made < h.limits.natives) (sound : IsSound owned h) where
+module _ (owned : List ℕ) (h k : Heap) (r slots : ℕ) (room : r < bank_length) (few : slots ≤ most_slots) (allowed : h.natives_made < h.limits.natives) (sound : IsSound owned h) where
   abbrev pub made : Option Name
   made = Some (native (h.natives_made + 1))
 

@@ -12,6 +12,7 @@ use Rattle.cc_lists.proofs.ListWrites.{each-push}
 use Rattle.cc_names.specs.declared.name.Name.{Name}
 use Rattle.cc_names.specs.declared.number.NKey.{NKey}
 use Rattle.cc_names.specs.Names.{native, reflector}
+use Rattle.cc_names.specs.Sizes.{most_slots}
 use Rattle.cc_model.specs.Slots.{contents, empty_slots}
 use Rattle.cc_model.specs.Heap.{Heap, HeapNative, with_mark}
 use Rattle.cc_model.specs.Effects.{put_in_register, with_native, make_native}
@@ -122,7 +123,7 @@ module _ {owned : List ℕ} (p : Inside) (f : IsFit owned p) (next : Counts) (sl
         (HasKeys-numbers next (map (named_native p.scripts) next.natives) (with_native v.heap slots).buffer []
         (map-map (λ (n : HeapNative). n.number) (named_native p.scripts) next.natives) (keyed (subst HasKeys (counts-back p f.linked) f.order.keyed)))
 
-    pub made-fit : slots ≤ 64 → p.natives_made < p.limits.natives → (HasKeys p.counted → HasKeys next) → IsFit ((p.natives_made + 1) ∷ owned) made
+    pub made-fit : slots ≤ most_slots → p.natives_made < p.limits.natives → (HasKeys p.counted → HasKeys next) → IsFit ((p.natives_made + 1) ∷ owned) made
     made-fit few room keyed = record {
       order = subst (IsInOrder ((p.natives_made + 1) ∷ owned)) (sym made-keyed) (IsInOrder-made v slots next.keys few room (made-keys keyed) made-kept f.order);
       linked = made-linked;

@@ -6,6 +6,7 @@ use Rattle.cc_lists.proofs.Counting.{count_by-cons}
 use Rattle.cc_names.specs.declared.name.Name.{Name}
 use Rattle.cc_names.specs.declared.register.Reg.TheVariants.{N}
 use Rattle.cc_names.specs.Names.{native, reflector}
+use Rattle.cc_names.specs.Sizes.{bank_length, most_slots}
 use Rattle.cc_model.specs.Heap.{Heap, HeapNative, Buffered, native_at, register, set_register, set_preserved, set_slot, change_native, with_native_slot, with_mark, suspect}
 use Rattle.cc_model.specs.Cascade.{add_ref, cascade}
 use Rattle.cc_model.specs.Effects.{with_native}
@@ -114,7 +115,7 @@ IsInOrder-tail owned v b bs e o =
     o
 
 -- a register written, whose new reference is owned: what it held is owned
-pub IsInOrder-register : (owned : List ℕ) (v : Keyed) (r : ℕ) (x : Option Name) → r < 256 → IsIn (native_names v.heap) x → IsInOrder (numbers_of x ++ owned) v →
+pub IsInOrder-register : (owned : List ℕ) (v : Keyed) (r : ℕ) (x : Option Name) → r < bank_length → IsIn (native_names v.heap) x → IsInOrder (numbers_of x ++ owned) v →
     IsInOrder (numbers_of (register v.heap (N r)) ++ owned) (changed_to v (set_register v.heap (N r) x))
 IsInOrder-register owned v r x within there o = search (IsInOrder-changed, native_register-sound)
 
@@ -135,7 +136,7 @@ IsInOrder-preserved owned v k there o =
     (numbers-changed v.heap k (λ n. record n { preserved = true }) (λ n. refl))
 
 -- a native made, with a key of its own: it is owned
-pub IsInOrder-made : {owned : List ℕ} (v : Keyed) (n : ℕ) (keys : List (Option ℕ)) → n ≤ 64 → v.heap.natives_made < v.heap.limits.natives →
+pub IsInOrder-made : {owned : List ℕ} (v : Keyed) (n : ℕ) (keys : List (Option ℕ)) → n ≤ most_slots → v.heap.natives_made < v.heap.limits.natives →
     HasKeys (counts_in (with_native v.heap n) keys) → ((q k : ℕ) → number_at v q ≡ Some k → get_or keys q None ≡ Some k) → IsInOrder owned v →
     IsInOrder ((v.heap.natives_made + 1) ∷ owned) (record v { heap = with_native v.heap n; keys = keys })
 IsInOrder-made {owned} v n keys few room k kept o =

@@ -26,6 +26,7 @@ use Rattle.cc_names.specs.declared.number.NKey.{NKey}
 use Rattle.cc_names.specs.declared.number.SKey.{SKey}
 use Rattle.cc_names.specs.Names.{native, object, reflector, same_name, is_native}
 use Rattle.cc_names.proofs.NameTests.{same_name-refl}
+use Rattle.cc_names.specs.Sizes.{most_slots}
 use Rattle.cc_model.specs.Slots.{Slots}
 use Rattle.cc_model.specs.Checks.{slots_or_none}
 use Rattle.cc_model.specs.Heap.{Heap, HeapNative, HeapScript, script_at}
@@ -98,7 +99,7 @@ module _ (p : Inside) (owned : List ℕ) (l : IsLinked p) (o : IsInOrder owned (
         ap length (sym references-named) ∙ (length-map (references_of p.counted key.0) (name_in p.scripts) ∙ length-references p.counted key.0)
 
     -- and slots are few
-    pub native_slots-few : length (slots_of p.counted key.0) ≤ 64
+    pub native_slots-few : length (slots_of p.counted key.0) ≤ most_slots
     native_slots-few = few-slots p.counted (few_slots-counted p w) key.0
 
     module _ (i : ℕ) (x : Option Held) (e : name_of p.counted x ≡ get_or (references_of p.counted key.0) i None) where
@@ -162,7 +163,7 @@ module _ (p : Inside) (owned : List ℕ) (l : IsLinked p) (o : IsInOrder owned (
         ∙ (length-append (map (name_held p.scripts) own_slots) (native_of q.name ∷ [])
         ∙ ap (λ i. i + 1) (length-map own_slots (name_held p.scripts)))
 
-    pub script_slots-few : length own_slots ≤ 64
+    pub script_slots-few : length own_slots ≤ most_slots
     script_slots-few = omega (
       arith,
       fit q.name q.kind (map (name_held p.scripts) q.slots) (o.sound.well_formed.kinds (named_object p.scripts q) (Among-map (named_object p.scripts) q p.scripts q-there)),
@@ -170,10 +171,10 @@ module _ (p : Inside) (owned : List ℕ) (l : IsLinked p) (o : IsInOrder owned (
       ap length slots-are,
     )
       where
-        fit : (x : Name) (kind : Kind) (slots : Slots) → FitsName x kind slots → length slots ≤ 64
+        fit : (x : Name) (kind : Kind) (slots : Slots) → FitsName x kind slots → length slots ≤ most_slots
         fit (name.Native j) kind slots f = absurd f
         fit (name.Script j) Plain slots f = f
-        fit (name.Script j) Map slots f = subst (λ ss. length ss ≤ 64) (sym f) (omega arith)
+        fit (name.Script j) Map slots f = subst (λ ss. length ss ≤ most_slots) (sym f) (omega arith)
         fit (name.Script j) Reflector slots f = absurd f
         fit (name.Reflector j) Reflector slots f = omega (arith, f)
         fit (name.Reflector j) Plain slots f = absurd f

@@ -15,6 +15,7 @@ use Rattle.cc_lists.proofs.Filtering.{find-among}
 use Rattle.cc_names.specs.declared.name.Name.{Name}
 use Rattle.cc_names.specs.declared.name.Name.TheVariants as name
 use Rattle.cc_names.specs.Names.{native, object, reflector, same_name, is_script}
+use Rattle.cc_names.specs.Sizes.{most_slots}
 use Rattle.cc_model.specs.Slots.{contents}
 use Rattle.cc_model.specs.Heap.{HeapNative}
 use Rattle.cc_model.specs.View.{native_edges}
@@ -40,7 +41,7 @@ target e = e.1
 -- natives have few slots by keys as by names
 pub few_slots-counted : (p : Inside) → IsWellFormed (heap_of p) → HaveFewSlots p.counted.natives
 few_slots-counted p w n m =
-    subst (λ j. j ≤ 64) (length-map n.slots (name_in p.scripts)) (w.native_slots (named_native p.scripts n) (Among-map (named_native p.scripts) n p.counted.natives m))
+    subst (λ j. j ≤ most_slots) (length-map n.slots (name_in p.scripts)) (w.native_slots (named_native p.scripts n) (Among-map (named_native p.scripts) n p.counted.natives m))
 
 module _ (p : Inside) (l : IsLinked p) (k : HasKeys p.counted) where
   reflector-found : (n : HeapNative) → Among n p.counted.natives → reflector_by p.counted.keys p.counted.reflectors n.number ≡ reflector_key p.scripts n.number

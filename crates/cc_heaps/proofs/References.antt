@@ -4,6 +4,7 @@ use Rattle.std.proofs.Common.{◌≡◌, ℕ, zero, suc, ◌+◌, ◌≤◌, ◌
 use Rattle.std.proofs.lemmas.Bool.{eq-eqb, eqb-true}
 use Rattle.cc_lists.specs.Members.{Among}
 use Rattle.cc_lists.proofs.Filtering.{find-among}
+use Rattle.cc_names.specs.Sizes.{most_slots}
 use Rattle.cc_model.specs.Heap.{HeapNative, native_at}
 use Rattle.cc_counted.specs.Counts.{Counts, number_at, number_or_none, the_number, reflector_at, heap_of, slots_at, slots_of, preserved_at, preserved_of, preserved_reflector, references_of}
 use Rattle.cc_counted.specs.Owning.{HasKeys}
@@ -45,5 +46,5 @@ pub length-references : (c : Counts) (key : ℕ) → length (references_of c key
 length-references c key = length-append (slots_of c key) (preserved_reflector (preserved_of c key) (reflector_at c key) ∷ [])
 
 -- and slots are few
-pub few-slots : (c : Counts) → HaveFewSlots c.natives → (key : ℕ) → length (slots_of c key) ≤ 64
+pub few-slots : (c : Counts) → HaveFewSlots c.natives → (key : ℕ) → length (slots_of c key) ≤ most_slots
 few-slots c few key = grind (arith, find-among)

@@ -20,6 +20,7 @@ use Rattle.cc_names.specs.declared.register.Reg.TheVariants.{S as s_register}
 use Rattle.cc_names.specs.declared.kind.Kind.{Kind}
 use Rattle.cc_names.specs.declared.kind.Colour.TheVariants.{Black}
 use Rattle.cc_names.specs.Names.{object, reflector, same_name, is_native}
+use Rattle.cc_names.specs.Sizes.{most_slots}
 use Rattle.cc_model.specs.Slots.{empty_slots}
 use Rattle.cc_model.specs.Heap.{Heap, set_register, set_slot}
 use Rattle.cc_model.specs.Effects.{with_object}
@@ -211,8 +212,8 @@ module _ (objects : List Object) (one : HasOneKey objects) (whole : AreWhole obj
   pub key_of-made : (x : Name) → same_name new.name x ≡ false → key_of made_last x ≡ key_of objects x
   key_of-made x other = grind (arith, find-append)
 
--- what is made fits its name, where it has at most 64 slots
-made-fits : (number : ℕ) (slots : Option ℕ) → IfSome slots (λ n. n ≤ 64) → FitsName (object number) (kind_to_make slots) (empty_slots (slots_to_make slots))
+-- what is made fits its name, where it has no more slots than are allowed
+made-fits : (number : ℕ) (slots : Option ℕ) → IfSome slots (λ n. n ≤ most_slots) → FitsName (object number) (kind_to_make slots) (empty_slots (slots_to_make slots))
 made-fits number slots few = grind (arith, length-replicate)
 
 -- AN OBJECT MADE: a plain one or a weak map
@@ -240,7 +241,7 @@ module _ {owned : List ℕ} (p : Inside) (l : IsLinked p) (o : IsInOrder owned (
   reflectors : reflectors_by objects p.counted.keys ≡ reflectors_by p.scripts p.counted.keys
   reflectors = ap (λ its. map (λ j. option_and_then its j) p.counted.keys) (fun_ext (λ k. key_of-made p.scripts l.one_key o.whole new n refl vacant (reflector k) refl))
 
-  pub becomes-made : IfSome slots (λ n. n ≤ 64) → p.scripts_made < p.limits.scripts → (os : List Object) → os ≡ objects →
+  pub becomes-made : IfSome slots (λ n. n ≤ most_slots) → p.scripts_made < p.limits.scripts → (os : List Object) → os ≡ objects →
       Becomes owned p (with_objects p os (p.scripts_made + 1)) (with_object (heap_of p) kind n)
   becomes-made few room os e =
       subst (λ os. Becomes owned p (with_objects p os (p.scripts_made + 1)) (with_object (heap_of p) kind n)) (sym e)

@@ -11,6 +11,7 @@ use Rattle.cc_names.specs.declared.number.NKey.{NKey}
 use Rattle.cc_names.specs.declared.number.SKey.{SKey}
 use Rattle.cc_names.specs.declared.register.Reg.TheVariants.{N, S}
 use Rattle.cc_names.specs.Names.{native, is_native}
+use Rattle.cc_names.specs.Sizes.{bank_length, most_slots}
 use Rattle.cc_model.specs.declared.command.Command.{Command}
 use Rattle.cc_model.specs.declared.command.Command.TheVariants.{Native}
 use Rattle.cc_model.specs.Ranges.{in_range}
@@ -88,10 +89,10 @@ command-stands_after : {owned : List ℕ} (h : Heap) (c : Command) → IsSound o
 command-stands_after h c s range taken g m t = (step-well g m c range, command-stands h g c s m t range taken)
 
 -- A native is made.
-pub make_native-stands : {owned : List ℕ} (h : Heap) (d n : ℕ) → IsSound owned h → d < 256 → n ≤ 64 → h.natives_made < h.limits.natives →
+pub make_native-stands : {owned : List ℕ} (h : Heap) (d n : ℕ) → IsSound owned h → d < bank_length → n ≤ most_slots → h.natives_made < h.limits.natives →
     StandsAfter h (make_native h d n).heap (λ g. step g (Native d n))
 unfolding effects refusal_of
-make_native-stands h d n s room few allowed = command-stands_after h (Native d n) s (rw (lt-ltb d 256 room, le-leb n 64 few) refl)
+make_native-stands h d n s room few allowed = command-stands_after h (Native d n) s (rw (lt-ltb d bank_length room, le-leb n most_slots few) refl)
     (rw (lt-leb h.limits.natives h.natives_made allowed) refl)
 
 -- the command that makes a script object is not refused
@@ -100,7 +101,7 @@ unfolding refusal_of
 made-not_refused h d slots allowed = grind (arith, lt-leb)
 
 -- A script object is made.
-pub make_object-stands : {owned : List ℕ} (h : Heap) (d : ℕ) (slots : Option ℕ) → IsSound owned h → d < 256 → IfSome slots (λ n. n ≤ 64) → h.scripts_made < h.limits.scripts →
+pub make_object-stands : {owned : List ℕ} (h : Heap) (d : ℕ) (slots : Option ℕ) → IsSound owned h → d < bank_length → IfSome slots (λ n. n ≤ most_slots) → h.scripts_made < h.limits.scripts →
     StandsAfter h (make_object h d (kind_to_make slots) (slots_to_make slots)) (λ g. step g (command_to_make d slots))
 make_object-stands h d slots s room few allowed = subst (λ k. StandsAfter h k (λ g. step g (command_to_make d slots))) (made-effects h d slots)
     (command-stands_after h (command_to_make d slots) s (made-ranges d slots room few) (made-not_refused h d slots allowed))

@@ -1,13 +1,14 @@
 -- HOW GREAT A COUNT MAY BE.
-use Rattle.std.specs.Prelude.{◌≡◌, ℕ, ◌≤◌, List}
+use Rattle.std.specs.Prelude.{◌≡◌, ℕ, ◌+◌, ◌≤◌, List}
 use Rattle.cc_lists.specs.Members.{Among}
+use Rattle.cc_names.specs.Sizes.{most_references}
 use Rattle.cc_model.specs.Heap.{Heap, HeapNative}
 use Rattle.cc_model.specs.Counts.{times}
 use Rattle.cc_heaps.specs.Keyed.{Keyed, IsInOrder}
 
--- no count is greater than all references there can be: 64 slots of each of 1000000 natives, 256 registers, and two
+-- no count is greater than all references there can be, and one that is owned
 abbrev pub AreFew : Heap → Type 0
-AreFew h = (n : HeapNative) → Among n h.natives → n.count ≤ 64000258
+AreFew h = (n : HeapNative) → Among n h.natives → n.count ≤ most_references + 1
 
 -- a native is not among those that are owned
 abbrev pub IsNotOwned : ℕ → List ℕ → Type 0

@@ -6,6 +6,7 @@ use Rattle.cc_names.specs.declared.name.Name.{Name}
 use Rattle.cc_names.specs.declared.name.Name.TheVariants as name
 use Rattle.cc_names.specs.declared.number.NKey.{NKey}
 use Rattle.cc_names.specs.declared.number.SKey.{SKey}
+use Rattle.cc_names.specs.Sizes.{most_slots}
 use Rattle.cc_model.specs.Slots.{Slots, contents}
 use Rattle.cc_model.specs.Heap.{HeapNative}
 use Rattle.cc_counted.specs.Counts.{Counts, number_at, the_number, preserved_reflector, references_of}
@@ -49,9 +50,9 @@ abbrev pub keys_from : Counts → Option NKey → ℕ → List ℕ
 keys_from c None i = []
 keys_from c (Some key) i = keys_in (drop i (references_of c key.0)) ++ keys_held c (natives_behind c key.0)
 
--- natives have at most 64 slots
+-- natives have no more slots than are allowed
 abbrev pub HaveFewSlots : List HeapNative → Type 0
-HaveFewSlots natives = (n : HeapNative) → Among n natives → length n.slots ≤ 64
+HaveFewSlots natives = (n : HeapNative) → Among n natives → length n.slots ≤ most_slots
 
 -- a native that is there, and a place among its references or behind the last
 pub record IsPlace (c : Counts) (at : Option NKey) (i : ℕ) : Type 0 where

@@ -2,6 +2,7 @@
 ghost use Rattle.std.specs.Prelude.{◌≡◌, ◌<◌, ℕ, List, [], ◌∷◌, IsSome, IfOk, MatchOption, replicate, None};
 ghost use Rattle.cc_names.specs.declared.register.Reg.TheVariants.{N as n_register, S as s_register};
 ghost use Rattle.cc_names.specs.Names.{native};
+ghost use Rattle.cc_names.specs.Sizes.{bank_length};
 ghost use Rattle.cc_model.specs.Heap.{empty_heap, register, suspect};
 ghost use Rattle.cc_model.specs.Cascade.{add_ref, cascade};
 ghost use Rattle.cc_model.specs.Colours.{HasColourInvariant};
@@ -32,13 +33,13 @@ mod sweeping;
 
 use cc_counted::Counted;
 use cc_model::Notices;
-use cc_names::{Limits, NKey, Name, NoMemory, SKey};
+use cc_names::{BANK_LENGTH, Limits, NKey, Name, NoMemory, RegNo, SKey};
 use cc_script::Scripts;
 use cc_weakmaps::WeakMaps;
 use std::alloc::Global;
 use std::marker::Model;
 
-/// Both heaps by key, the entries of weak maps, the 256 native registers and the 256 script registers, and how many objects
+/// Both heaps by key, the entries of weak maps, the native registers and the script registers, and how many objects
 /// were ever made. What registers and slots of natives hold is there at each step.
 #[derive(Drop)]
 pub struct Heaps {
@@ -64,18 +65,18 @@ impl Model for Heaps {
     ghost invariant = { IsLinked };
 }
 
-// 256 native registers that hold nothing.
+// Native registers that hold nothing.
 fn no_natives(alloc: Global) -> Result<Vec<Option<NKey>>, NoMemory>
-    ensures { IfOk result (λ registers. registers.items ≡ replicate 256 None) }
+    ensures { IfOk result (λ registers. registers.items ≡ replicate bank_length None) }
 {
-    Ok(vec![in alloc; None; 256]?)
+    Ok(vec![in alloc; None; BANK_LENGTH]?)
 }
 
-// 256 script registers that hold nothing.
+// Script registers that hold nothing.
 fn no_scripts(alloc: Global) -> Result<Vec<Option<SKey>>, NoMemory>
-    ensures { IfOk result (λ registers. registers.items ≡ replicate 256 None) }
+    ensures { IfOk result (λ registers. registers.items ≡ replicate bank_length None) }
 {
-    Ok(vec![in alloc; None; 256]?)
+    Ok(vec![in alloc; None; BANK_LENGTH]?)
 }
 
 impl Heaps {
@@ -124,7 +125,7 @@ impl Heaps {
     }
 
     /// What a native register holds; none exactly where it is empty.
-    pub fn native_reg(&self, r: u8) -> Option<NKey>
+    pub fn native_reg(&self, r: RegNo) -> Option<NKey>
         ensures name { native_name self.now result ≡ register self.now.heap (n_register r) }
         ensures there { IsNativeThere self.now result }
     {
@@ -132,7 +133,7 @@ impl Heaps {
     }
 
     /// What a script register holds; none exactly where it is empty.
-    pub fn script_reg(&self, r: u8) -> Option<SKey>
+    pub fn script_reg(&self, r: RegNo) -> Option<SKey>
         ensures name { script_name self.now result ≡ register self.now.heap (s_register r) }
         ensures there { IsScriptThere self.now result }
     {

@@ -6,6 +6,7 @@ use Rattle.std.proofs.lemmas.List.{length-replicate}
 use Rattle.cc_names.specs.declared.name.Name.{Name}
 use Rattle.cc_names.specs.declared.register.Reg.TheVariants.{N, S}
 use Rattle.cc_names.specs.declared.kind.Kind.TheVariants.{Plain, Map}
+use Rattle.cc_names.specs.Sizes.{bank_length, most_slots}
 use Rattle.cc_model.specs.declared.command.Command.{Command}
 use Rattle.cc_model.specs.declared.command.Command.TheVariants.{Native, Script, WeakMap, CopyNative, CopyScript, Drop, Set, Get, Put, Take, Wrap, Unwrap, Preserve, SetEntry, GetEntry, Expose}
 use Rattle.cc_model.specs.Ranges.{in_range, is_register, is_slots}
@@ -20,13 +21,13 @@ use Rattle.cc_laws_heap.proofs.NativeCommands.{put_in_register-sound, hold_nativ
 use Rattle.cc_laws_heap.proofs.ScriptCommands.{make_object-sound, wrapped-sound, set_entry-sound}
 use Rattle.cc_laws_heap.proofs.Taken.{IsTaken}
 
--- a register in range is one of 256
-pub below-first : (d : ℕ) (b : Bool) → (is_register d && b) ≡ true → d < 256
-below-first d b e = ltb-true d 256 (and_parts (is_register d) b e).0
+-- a register in range is one of its bank
+pub below-first : (d : ℕ) (b : Bool) → (is_register d && b) ≡ true → d < bank_length
+below-first d b e = ltb-true d bank_length (and_parts (is_register d) b e).0
 
--- so many slots are at most 64
-pub few-slots : (n : ℕ) (b : Bool) → (b && is_slots n) ≡ true → n ≤ 64
-few-slots n b e = leb-true n 64 (and_parts b (is_slots n) e).1
+-- so many slots are allowed
+pub few-slots : (n : ℕ) (b : Bool) → (b && is_slots n) ≡ true → n ≤ most_slots
+few-slots n b e = leb-true n most_slots (and_parts b (is_slots n) e).1
 
 -- A command that is not refused leaves the heaps sound.
 pub effects-sound : {owned : List ℕ} (h : Heap) (c : Command) → IsSound owned h → IsTrue (in_range c) → IsTaken (objects_of h) c → IsSound owned (effects h c).heap
@@ -34,13 +35,13 @@ unfolding effects
 effects-sound {owned} h (Native d n) s r t = make_native-sound owned h d n (below-first d (is_slots n) r) (few-slots n (is_register d) r)
     (leb-false h.limits.natives h.natives_made t.room) s
 effects-sound {owned} h (Script d n) s r t = make_object-sound owned h d Plain n
-    (subst (λ l. l ≤ 64) (sym (length-replicate {A = Option Name} n None)) (few-slots n (is_register d) r))
+    (subst (λ l. l ≤ most_slots) (sym (length-replicate {A = Option Name} n None)) (few-slots n (is_register d) r))
     (leb-false h.limits.scripts h.scripts_made t.room) s
 effects-sound {owned} h (WeakMap d) s r t = make_object-sound owned h d Map 0 refl (leb-false h.limits.scripts h.scripts_made t.room) s
 effects-sound {owned} h (CopyNative d q) s r t = hold_native-sound owned h d (register h (N q))
     (below-first d (is_register q) r) (native_register-there h q s.well_formed) s
 effects-sound {owned} h (CopyScript d q) s r t = script_register-sound owned h d (register h (S q)) (script_register-there h q s.well_formed) s
-effects-sound {owned} h (Drop (N d)) s r t = put_in_register-sound owned h d None (ltb-true d 256 r) (λ y m. absurd m) s
+effects-sound {owned} h (Drop (N d)) s r t = put_in_register-sound owned h d None (ltb-true d bank_length r) (λ y m. absurd m) s
 effects-sound {owned} h (Drop (S d)) s r t = script_register-sound owned h d None (λ y m. absurd m) s
 effects-sound {owned} h (Set d i q) s r t = store_native-sound owned h d i (source h q) (source-there h q s.well_formed)
     (leb-false (length (slots_at (objects_of h) (N d))) i t.slot) s

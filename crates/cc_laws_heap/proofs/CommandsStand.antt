@@ -11,6 +11,7 @@ use Rattle.cc_names.specs.declared.register.Reg.{Reg}
 use Rattle.cc_names.specs.declared.register.Reg.TheVariants.{N, S}
 use Rattle.cc_names.specs.declared.kind.Kind.TheVariants.{Plain, Map}
 use Rattle.cc_names.specs.Names.{native, object, reflector}
+use Rattle.cc_names.specs.Sizes.{bank_length}
 use Rattle.cc_model.specs.declared.command.Command.{Command}
 use Rattle.cc_model.specs.declared.command.Command.TheVariants.{Native, Script, WeakMap, CopyNative, CopyScript, Drop, Set, Get, Put, Take, Wrap, Unwrap, Preserve, SetEntry, GetEntry, Expose}
 use Rattle.cc_model.specs.declared.item.Event.TheVariants.{Freed}
@@ -165,8 +166,8 @@ freed-unreached h g c x sound m s r t told d =
 
 -- nothing is reached in the empty graph
 empty-unreached : (limits : Allowance) (x : Name) → Reached (empty_graph limits) x → ⊥
-empty-unreached limits _ (held (N r) x e) = contents-empty_none 256 x (contents-get (empty_slots 256) r x e)
-empty-unreached limits _ (held (S r) x e) = contents-empty_none 256 x (contents-get (empty_slots 256) r x e)
+empty-unreached limits _ (held (N r) x e) = contents-empty_none bank_length x (contents-get (empty_slots bank_length) r x e)
+empty-unreached limits _ (held (S r) x e) = contents-empty_none bank_length x (contents-get (empty_slots bank_length) r x e)
 empty-unreached limits _ (edge x y d i) = empty-unreached limits x d
 empty-unreached limits _ (value e i a b) = i
 

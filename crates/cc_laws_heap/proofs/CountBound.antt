@@ -1,10 +1,11 @@
--- NO COUNT IS GREAT: 256 registers, a million natives with 64 slots each, one reflector, and what is owned.
+-- NO COUNT IS GREAT: registers, a million natives with their slots, one reflector, and what is owned.
 use Rattle.std.proofs.Common.{ℕ, ◌+◌, ◌*◌, ◌<◌, ◌≤◌, List, [], ◌∷◌, map, length, Some, None, refl, subst, inl, inr, arith, count_by}
 use Rattle.std.proofs.lemmas.List.{length-map}
 use Rattle.std.proofs.lemmas.List.Sums.{count_by-le-length}
 use Rattle.cc_lists.specs.Members.{Among}
 use Rattle.cc_lists.proofs.Members.{Among-map_cases}
 use Rattle.cc_names.specs.Names.{native, reflector, same_name}
+use Rattle.cc_names.specs.Sizes.{bank_length, most_references, most_slots}
 use Rattle.cc_model.specs.Slots.{Slots, contents}
 use Rattle.cc_model.specs.Heap.{Heap, HeapNative}
 use Rattle.cc_model.specs.WellFormed.{IsWellFormed, IsRising}
@@ -38,18 +39,18 @@ contents-length [] = omega arith
 contents-length (None ∷ slots) = omega (arith, contents-length slots)
 contents-length (Some x ∷ slots) = omega (arith, contents-length slots)
 
--- Of a million natives none has more than 64000257 references in the heaps' lists; the others are owned.
+-- Of a million natives none has more than most_references in the heaps' lists; the others are owned.
 pub count-bound : (owned : List ℕ) (h : Heap) (n : HeapNative) → IsSound owned h → h.limits.natives ≤ 1000000 → Among n h.natives →
-    n.count ≤ 64000257 + times n.number owned
+    n.count ≤ most_references + times n.number owned
 count-bound owned h n s few m =
     let w : IsWellFormed h = s.well_formed in
-    let registers : count_by (same_name (native n.number)) (contents h.native_registers) ≤ 256 =
+    let registers : count_by (same_name (native n.number)) (contents h.native_registers) ≤ bank_length =
     omega (arith, count_by-le-length (same_name (native n.number)) (contents h.native_registers), contents-length h.native_registers, w.registers.0) in
-    let slots : count_by (same_name (native n.number)) (slots_of_natives h) ≤ 64 * length h.natives =
+    let slots : count_by (same_name (native n.number)) (slots_of_natives h) ≤ most_slots * length h.natives =
     omega (
       arith,
       count_by-le-length (same_name (native n.number)) (slots_of_natives h),
-      length-flat_map_le (λ (o : HeapNative). contents o.slots) 64 h.natives (λ o i. omega (arith, contents-length o.slots, w.native_slots o i)),
+      length-flat_map_le (λ (o : HeapNative). contents o.slots) most_slots h.natives (λ o i. omega (arith, contents-length o.slots, w.native_slots o i)),
     ) in
     let many : length h.natives ≤ 1000000 = omega (arith, natives-made h w, w.natives_allowed) in
     omega (arith, s.counts n m, scripts-once h w (reflector n.number))

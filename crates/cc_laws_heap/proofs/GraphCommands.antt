@@ -9,6 +9,7 @@ use Rattle.cc_names.specs.declared.name.Name.{Name}
 use Rattle.cc_names.specs.declared.name.Name.TheVariants as name
 use Rattle.cc_names.specs.declared.register.Reg.TheVariants.{N, S}
 use Rattle.cc_names.specs.Names.{native, object}
+use Rattle.cc_names.specs.Sizes.{most_slots}
 use Rattle.cc_model.specs.declared.command.Command.{Command}
 use Rattle.cc_model.specs.declared.command.Command.TheVariants.{Native, Script, WeakMap, CopyNative, CopyScript, Drop, Set, Get, Put, Take, Wrap, Unwrap, Preserve, SetEntry, GetEntry}
 use Rattle.cc_model.specs.declared.item.Refusal.{Refusal}
@@ -100,10 +101,10 @@ module _ (g : Graph) (w : IsWellMade g) where
   changed-well : (c : Command) → IsTrue (in_range c) → IsTaken (objects_of g) c → IsWellMade (changed g c)
   unfolding changed
   changed-well (Native d n) r t = IsWellMade-native_register (with_native g n) d (Some (native (length g.natives + 1)))
-      (IsWellMade-with_native g n w (leb-true n 64 (and_parts (is_register d) (is_slots n) r).1) (leb-false g.limits.natives (length g.natives) t.room))
+      (IsWellMade-with_native g n w (leb-true n most_slots (and_parts (is_register d) (is_slots n) r).1) (leb-false g.limits.natives (length g.natives) t.room))
       (was_made-native (with_native g n) (length g.natives + 1) _ (numbered-push g.natives _))
   changed-well (Script d n) r t = IsWellMade-script_register (with_script g (plain_object (empty_slots n))) d (Some (object (length g.scripts + 1)))
-      (IsWellMade-with_script g (plain_object (empty_slots n)) w (ScriptFits-plain n (leb-true n 64 (and_parts (is_register d) (is_slots n) r).1)) (leb-false g.limits.scripts (length g.scripts) t.room))
+      (IsWellMade-with_script g (plain_object (empty_slots n)) w (ScriptFits-plain n (leb-true n most_slots (and_parts (is_register d) (is_slots n) r).1)) (leb-false g.limits.scripts (length g.scripts) t.room))
       (was_made-script (with_script g (plain_object (empty_slots n))) (length g.scripts + 1) (plain_object (empty_slots n)) (numbered-push g.scripts (plain_object (empty_slots n))))
   changed-well (WeakMap d) r t = IsWellMade-script_register (with_script g weak_map) d (Some (object (length g.scripts + 1)))
       (IsWellMade-with_script g weak_map w ScriptFits-map (leb-false g.limits.scripts (length g.scripts) t.room))

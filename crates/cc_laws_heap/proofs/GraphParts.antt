@@ -6,6 +6,7 @@ use Rattle.std.proofs.lemmas.Bool.{and_parts, and_from}
 use Rattle.cc_lists.specs.Members.{Among}
 use Rattle.cc_names.specs.declared.name.Name.{Name}
 use Rattle.cc_names.specs.Names.{native, object, reflector, is_native, is_script}
+use Rattle.cc_names.specs.Sizes.{bank_length, most_slots}
 use Rattle.cc_model.specs.Slots.{Slots, contents, reflector_slots}
 use Rattle.cc_model.specs.Entries.{Entry, is_entry_of}
 use Rattle.cc_model.specs.Graph.{Graph, GraphNative, GraphScript, plain_object, weak_map, numbered, native_in, script_in}
@@ -37,7 +38,7 @@ reflector-made g k m = grind arith
 
 -- a native as it may be in a well made graph
 pub record NativeFits (g : Graph) (k : ℕ) (n : GraphNative) : Type 0 where
-  pub slots : length n.slots ≤ 64
+  pub slots : length n.slots ≤ most_slots
   pub held : (x : Name) → Among x (contents n.slots) → IsTrue (was_made g x)
   pub preserved : n.preserved ≡ true → IsTrue (was_made g (reflector k))
   pub reflector : (slots : Slots) → n.reflector ≡ Some slots → length slots ≡ reflector_slots
@@ -45,7 +46,7 @@ pub record NativeFits (g : Graph) (k : ℕ) (n : GraphNative) : Type 0 where
 
 -- a script object as it may be in a well made graph
 pub record ScriptFits (g : Graph) (o : GraphScript) : Type 0 where
-  pub slots : (slots : Slots) → o ≡ plain_object slots → length slots ≤ 64
+  pub slots : (slots : Slots) → o ≡ plain_object slots → length slots ≤ most_slots
   pub held : (slots : Slots) (x : Name) → o ≡ plain_object slots → Among x (contents slots) → IsTrue (is_made_script g x)
 
 -- each native of a well made graph fits
@@ -100,7 +101,7 @@ with_registers g ns ss = record g { native_registers = ns; script_registers = ss
 pub record AreRegisters (g : Graph) (ns ss : Slots) : Type 0 where
   pub natives : (x : Name) → Among x (contents ns) → IsTrue (is_made_native g x)
   pub scripts : (x : Name) → Among x (contents ss) → IsTrue (is_made_script g x)
-  pub enough : (length ns ≡ 256) × (length ss ≡ 256)
+  pub enough : (length ns ≡ bank_length) × (length ss ≡ bank_length)
 
 -- WITH OTHER REGISTERS a graph is well made.
 pub IsWellMade-registers : (g : Graph) (ns ss : Slots) → IsWellMade g → AreRegisters g ns ss → IsWellMade (with_registers g ns ss)

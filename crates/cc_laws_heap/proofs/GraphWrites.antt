@@ -8,6 +8,7 @@ use Rattle.cc_lists.specs.Members.{Among}
 use Rattle.cc_names.specs.declared.name.Name.{Name}
 use Rattle.cc_names.specs.declared.register.Reg.TheVariants.{N, S}
 use Rattle.cc_names.specs.Names.{reflector}
+use Rattle.cc_names.specs.Sizes.{most_slots}
 use Rattle.cc_model.specs.Slots.{Slots, contents, empty_slots}
 use Rattle.cc_model.specs.Graph.{Graph, GraphNative, GraphScript, plain_object, weak_map, numbered, native_in, script_in, set_register, set_native, set_script, with_slot, with_reflector_slot, as_preserved, as_wrapped, with_script_slot, with_native, with_script}
 use Rattle.cc_model.specs.WellMade.{IsWellMade, was_made, is_made_native, is_made_script}
@@ -93,7 +94,7 @@ module _ (g : Graph) (k : ℕ) (f : GraphNative → GraphNative) (reflected : Ke
 -- slot i of a native written with what was made
 pub KeepsNative-slot : (g : Graph) (k i : ℕ) (x : Option Name) → OfSome (λ y. IsTrue (was_made g y)) x → KeepsNative g k (with_slot i x)
 KeepsNative-slot g k i x m n here e more t = record {
-  slots = subst (λ l. l ≤ 64) (sym (length-set n.slots i x)) t.slots;
+  slots = subst (λ l. l ≤ most_slots) (sym (length-set n.slots i x)) t.slots;
   held = contents-set (λ y. IsTrue (was_made e y)) n.slots i x t.held (OfSome-then (λ y. IsTrue (was_made g y)) (λ y. IsTrue (was_made e y)) more.made x m);
   preserved = t.preserved;
   reflector = t.reflector;
@@ -160,7 +161,7 @@ IsWellMade-script_slot g k i x w m = subst IsWellMade (sym (set_script-is g k (o
 
     fits : (o : GraphScript) → ScriptFits (with_scripts g os) o → ScriptFits (with_scripts g os) (f o)
     fits (plain_object old) t = record {
-      slots = λ slots s. let same : set old i x ≡ slots = cc in subst (λ l. length l ≤ 64) same (subst (λ l. l ≤ 64) (sym (length-set old i x)) (t.slots old refl));
+      slots = λ slots s. let same : set old i x ≡ slots = cc in subst (λ l. length l ≤ most_slots) same (subst (λ l. l ≤ most_slots) (sym (length-set old i x)) (t.slots old refl));
       held = λ slots y s j. let same : set old i x ≡ slots = cc in
           contents-set (λ z. IsTrue (is_made_script (with_scripts g os) z)) old i x (λ z l. t.held old z refl l)
           (OfSome-then (λ z. IsTrue (is_made_script g z)) (λ z. IsTrue (is_made_script (with_scripts g os) z)) (is_made_script-grows g (with_scripts g os) more) x m) y
@@ -177,7 +178,7 @@ IsWellMade-script_slot g k i x w m = subst IsWellMade (sym (set_script-is g k (o
 -- An object made
 
 -- A NATIVE MADE leaves the graph well made.
-pub IsWellMade-with_native : (g : Graph) (n : ℕ) → IsWellMade g → n ≤ 64 → length g.natives < g.limits.natives → IsWellMade (with_native g n)
+pub IsWellMade-with_native : (g : Graph) (n : ℕ) → IsWellMade g → n ≤ most_slots → length g.natives < g.limits.natives → IsWellMade (with_native g n)
 IsWellMade-with_native g n w few room = IsWellMade-natives g ns w (record {
   stay = stay;
   fit = λ k m e. ⊎_elim (λ old. NativeFits-grows g (with_natives g ns) more k m (IsWellMade-native g w k m old))
@@ -199,7 +200,7 @@ IsWellMade-with_native g n w few room = IsWellMade-natives g ns w (record {
 
     fits : (k : ℕ) → NativeFits (with_natives g ns) k made
     fits k = record {
-      slots = subst (λ l. l ≤ 64) (sym (length-replicate n None)) few;
+      slots = subst (λ l. l ≤ most_slots) (sym (length-replicate n None)) few;
       held = λ x m. absurd (contents-empty_none n x m);
       preserved = λ e. absurd (false≢true e);
       reflector = λ slots e. absurd (cc);
@@ -225,9 +226,9 @@ IsWellMade-with_script g o w fits room = IsWellMade-scripts g os w (record {
     more = Grows-scripts g os stay
 
 -- a plain object with empty slots fits, and so does a weak map
-pub ScriptFits-plain : (n : ℕ) → n ≤ 64 → (e : Graph) → ScriptFits e (plain_object (empty_slots n))
+pub ScriptFits-plain : (n : ℕ) → n ≤ most_slots → (e : Graph) → ScriptFits e (plain_object (empty_slots n))
 ScriptFits-plain n few e = record {
-  slots = λ slots s. let same : empty_slots n ≡ slots = cc in subst (λ l. length l ≤ 64) same (subst (λ l. l ≤ 64) (sym (length-replicate n None)) few);
+  slots = λ slots s. let same : empty_slots n ≡ slots = cc in subst (λ l. length l ≤ most_slots) same (subst (λ l. l ≤ most_slots) (sym (length-replicate n None)) few);
   held = λ slots x s m. let same : empty_slots n ≡ slots = cc in absurd (contents-empty_none n x (subst (λ l. Among x (contents l)) (sym same) m));
 }
 

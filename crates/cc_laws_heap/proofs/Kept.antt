@@ -4,6 +4,7 @@ use Rattle.cc_lists.specs.Members.{Among}
 use Rattle.cc_lists.proofs.Members.{Among-map}
 use Rattle.cc_names.specs.declared.name.Name.{Name}
 use Rattle.cc_names.specs.Names.{native, object, reflector, same_name}
+use Rattle.cc_names.specs.Sizes.{bank_length, most_slots}
 use Rattle.cc_model.specs.Slots.{Slots, contents}
 use Rattle.cc_model.specs.Entries.{Entry, is_entry_of}
 use Rattle.cc_model.specs.Heap.{Heap, HeapNative, HeapScript, Buffered}
@@ -22,7 +23,7 @@ with_registers h ns ss = record h { native_registers = ns; script_registers = ss
 pub record AreRegisters (h : Heap) (ns ss : Slots) : Type 0 where
   pub natives : (x : Name) → Among x (contents ns) → Among x (native_names h)
   pub scripts : (x : Name) → Among x (contents ss) → Among x (script_names h)
-  pub enough : (length ns ≡ 256) × (length ss ≡ 256)
+  pub enough : (length ns ≡ bank_length) × (length ss ≡ bank_length)
 
 -- the registers of well formed heaps are such
 AreRegisters-own : (h : Heap) → IsWellFormed h → AreRegisters h h.native_registers h.script_registers
@@ -80,7 +81,7 @@ with_natives h f bs = record h { natives = map f h.natives; buffer = bs }
 
 -- a native as it may be: it holds no more slots than it may, in them what is there; its reflector is there where it is preserved
 pub record NativeFits (h : Heap) (u : Uncounted) : Type 0 where
-  pub slots : length u.slots ≤ 64
+  pub slots : length u.slots ≤ most_slots
   pub contents : (x : Name) → Among x (contents u.slots) → Among x (names_there h)
   pub preserved : u.preserved ≡ true → Among (reflector u.number) (script_names h)
 
@@ -116,7 +117,7 @@ IsWellFormed-natives h f bs w c b = record {
   rising = subst IsRising (sym (map-kept (λ (n : HeapNative). n.number) f h.natives c.number)) w.rising;
   native_numbers = each-map (λ n. (1 ≤ n.number) × (n.number ≤ h.natives_made)) f h.natives
       (λ n m. subst (λ k. (1 ≤ k) × (k ≤ h.natives_made)) (sym (c.number n)) (w.native_numbers n m));
-  native_slots = each-map (λ n. length n.slots ≤ 64) f h.natives (λ n m. (c.fits n m).slots);
+  native_slots = each-map (λ n. length n.slots ≤ most_slots) f h.natives (λ n m. (c.fits n m).slots);
   native_contents = λ n x m. each-map (λ n. (y : Name) → Among y (contents n.slots) → Among y (names_there (with_natives h f bs)))
       f h.natives (λ o i y j. there y ((c.fits o i).contents y j)) n m x;
   distinct = w.distinct;

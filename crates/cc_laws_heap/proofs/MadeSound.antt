@@ -9,6 +9,7 @@ use Rattle.std.proofs.lemmas.List.Folds.{find-append}
 use Rattle.cc_lists.proofs.Counting.{count_by-cons, count_by-append}
 use Rattle.cc_names.specs.declared.name.Name.{Name}
 use Rattle.cc_names.specs.Names.{reflector, same_name, behind}
+use Rattle.cc_names.specs.Sizes.{most_slots}
 use Rattle.cc_model.specs.Heap.{Heap, HeapNative, HeapScript, native_at}
 use Rattle.cc_model.specs.Effects.{with_native}
 use Rattle.cc_model.specs.Counts.{refs_to, times}
@@ -49,7 +50,7 @@ module _ (owned : List ℕ) (h : Heap) (n : ℕ) (s : IsSound owned h) where
   refs_to-with_native j = grind (arith, flat_map-append, count_by-append, contents-empty)
 
   -- A native is made: the reference to it is owned.
-  pub with_native-sound : n ≤ 64 → h.natives_made < h.limits.natives → IsSound ((h.natives_made + 1) ∷ owned) (with_native h n)
+  pub with_native-sound : n ≤ most_slots → h.natives_made < h.limits.natives → IsSound ((h.natives_made + 1) ∷ owned) (with_native h n)
   with_native-sound few room = IsSound-from_counted ((h.natives_made + 1) ∷ owned) (with_native h n)
       (IsWellFormed-with_native h n s.well_formed few room)
       (λ j. ⊎_elim (same j) (other j) (eqb_tells j (h.natives_made + 1)))

@@ -9,6 +9,7 @@ use Rattle.cc_lists.proofs.Counting.{count_by-cons, count_by-append, counted_is}
 use Rattle.cc_names.specs.declared.name.Name.{Name}
 use Rattle.cc_names.specs.Names.{native, object, reflector, same_name, number_of}
 use Rattle.cc_names.proofs.NameTests.{same_name-true}
+use Rattle.cc_names.specs.Sizes.{most_slots}
 use Rattle.cc_model.specs.Slots.{contents, empty_slots}
 use Rattle.cc_model.specs.Entries.{Entry}
 use Rattle.cc_model.specs.Heap.{Heap, HeapNative, HeapScript, Buffered, with_mark}
@@ -88,7 +89,7 @@ module _ (h : Heap) (n : ℕ) (w : IsWellFormed h) where
       omega (arith, f.2)
 
   -- A native made keeps the heaps well formed.
-  pub IsWellFormed-with_native : n ≤ 64 → h.natives_made < h.limits.natives → IsWellFormed (with_native h n)
+  pub IsWellFormed-with_native : n ≤ most_slots → h.natives_made < h.limits.natives → IsWellFormed (with_native h n)
   IsWellFormed-with_native few room = record {
     native_registers = λ x m. native_names-with_native x (w.native_registers x m);
     script_registers = w.script_registers;
@@ -97,7 +98,7 @@ module _ (h : Heap) (n : ℕ) (w : IsWellFormed h) where
         (IsRising-push (map (λ m. m.number) h.natives) (h.natives_made + 1) w.rising numbers-below);
     native_numbers = each-push (λ m. (1 ≤ m.number) × (m.number ≤ h.natives_made + 1)) h.natives (new_native h n)
         (λ m i. let k = w.native_numbers m i in (k.0, omega (arith, k.1))) (omega arith, omega arith);
-    native_slots = each-push (λ m. length m.slots ≤ 64) h.natives (new_native h n) w.native_slots (subst (λ l. l ≤ 64) (sym (length-replicate n None)) few);
+    native_slots = each-push (λ m. length m.slots ≤ most_slots) h.natives (new_native h n) w.native_slots (subst (λ l. l ≤ most_slots) (sym (length-replicate n None)) few);
     native_contents = λ m x i. each-push (λ m. (y : Name) → Among y (contents m.slots) → Among y (names_there (with_native h n))) h.natives (new_native h n)
         (λ o i y j. names_there-with_native y (w.native_contents o y i j)) (λ y j. absurd (contents-empty_none n y j)) m i x;
     distinct = w.distinct;

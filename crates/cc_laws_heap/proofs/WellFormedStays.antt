@@ -9,6 +9,7 @@ use Rattle.cc_lists.proofs.Members.{Among-map, Among-map_cases, Among-left, Amon
 use Rattle.cc_lists.proofs.Counting.{count_by-some}
 use Rattle.cc_names.specs.declared.name.Name.{Name}
 use Rattle.cc_names.specs.Names.{native, reflector}
+use Rattle.cc_names.specs.Sizes.{most_slots}
 use Rattle.cc_model.specs.Slots.{contents}
 use Rattle.cc_model.specs.Heap.{Heap, HeapNative, Buffered}
 use Rattle.cc_model.specs.WellFormed.{IsRising, IsWellFormed, native_names, script_names, names_there}
@@ -77,7 +78,7 @@ module _ (h : Heap) (p : ℕ → Bool) (ns : List HeapNative) (bs : List Buffere
     registers = w.registers;
     rising = part-rises w.rising;
     native_numbers = each (λ u. (1 ≤ u.number) × (u.number ≤ h.natives_made)) w.native_numbers;
-    native_slots = each (λ u. length u.slots ≤ 64) w.native_slots;
+    native_slots = each (λ u. length u.slots ≤ most_slots) w.native_slots;
     native_contents = λ n x there m. content-stays n x there m
         (each (λ u. Among x (contents u.slots) → Among x (names_there h)) (λ o t. w.native_contents o x t) n there m);
     distinct = w.distinct;

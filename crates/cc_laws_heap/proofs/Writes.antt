@@ -7,6 +7,7 @@ use Rattle.cc_lists.specs.Members.{Among}
 use Rattle.cc_names.specs.declared.name.Name.{Name}
 use Rattle.cc_names.specs.declared.register.Reg.TheVariants.{N, S}
 use Rattle.cc_names.specs.Names.{native, reflector, same_name}
+use Rattle.cc_names.specs.Sizes.{bank_length, most_slots}
 use Rattle.cc_model.specs.Slots.{Slots, contents}
 use Rattle.cc_model.specs.Heap.{Heap, HeapNative, HeapScript, native_at, register, set_register, change_native, with_native_slot, set_preserved}
 use Rattle.cc_model.specs.WellFormed.{IsWellFormed, native_names, script_names, names_there}
@@ -34,7 +35,7 @@ contents-written names slots i x new old y m = ⊎_elim (new y) (old y) (Among-f
 -- Registers
 
 -- A native register is written.
-pub native_register-sound : (owned : List ℕ) (h : Heap) (d : ℕ) (x : Option Name) → d < 256 → IsIn (native_names h) x →
+pub native_register-sound : (owned : List ℕ) (h : Heap) (d : ℕ) (x : Option Name) → d < bank_length → IsIn (native_names h) x →
     IsSound (numbers_of x ++ owned) h → IsSound (numbers_of (register h (N d)) ++ owned) (set_register h (N d) x)
 native_register-sound owned h d x room there s = IsSound-from_counted (numbers_of (register h (N d)) ++ owned) (set_register h (N d) x)
     (IsWellFormed-registers h (set h.native_registers d x) h.script_registers w (record {
@@ -119,7 +120,7 @@ native_slot-sound owned h k i n x found room there s = IsSound-from_counted (num
 
     changes : ChangesNatives h (changed_where is_it written)
     changes = ChangesNatives-where h w is_it written (λ m. refl) (λ m a e. record {
-      slots = subst (λ l. l ≤ 64) (sym (length-set m.slots i x)) (w.native_slots m a);
+      slots = subst (λ l. l ≤ most_slots) (sym (length-set m.slots i x)) (w.native_slots m a);
       contents = contents-written (names_there h) m.slots i x there (λ y z. w.native_contents m y a z);
       preserved = w.preserved m a;
     })

@@ -12,6 +12,7 @@ use Rattle.cc_names.specs.declared.name.Name.TheVariants as name
 use Rattle.cc_names.specs.declared.register.Reg.TheVariants.{N}
 use Rattle.cc_names.specs.Names.{native, object, reflector, same_name, is_native}
 use Rattle.cc_names.proofs.NameTests.{same_name-exact}
+use Rattle.cc_names.specs.Sizes.{bank_length}
 use Rattle.cc_model.specs.declared.command.Command.{Command}
 use Rattle.cc_model.specs.declared.command.Command.TheVariants.{Native, Script, WeakMap, Wrap}
 use Rattle.cc_model.specs.Ranges.{in_range, is_slots}
@@ -62,7 +63,7 @@ step-taken : (g : Graph) (c : Command) → refusal_of (graph.objects_of g) c ≡
 step-taken g c t = ap (λ o. unless_refused o g (changed g c)) t
 
 -- a native that was made is reached
-made-reached : (h : Heap) (g : Graph) (d n : ℕ) → IsWellMade g → StandsFor h g → d < 256 → Reached (changed g (Native d n)) (native (h.natives_made + 1))
+made-reached : (h : Heap) (g : Graph) (d n : ℕ) → IsWellMade g → StandsFor h g → d < bank_length → Reached (changed g (Native d n)) (native (h.natives_made + 1))
 unfolding changed
 made-reached h g d n w s room = held (N d) (native (h.natives_made + 1))
     (get_or-set_same g.native_registers d (Some (native (length g.natives + 1))) None (subst (λ l. d < l) (sym w.registers.0) room)

@@ -13,6 +13,7 @@ use Rattle.cc_names.specs.declared.register.Reg.TheVariants.{N, S}
 use Rattle.cc_names.specs.declared.kind.Kind.{Kind}
 use Rattle.cc_names.specs.declared.kind.Kind.TheVariants.{Plain, Reflector, Map}
 use Rattle.cc_names.specs.Names.{native, object, reflector}
+use Rattle.cc_names.specs.Sizes.{bank_length, most_slots}
 use Rattle.cc_model.specs.declared.command.Command.{Command}
 use Rattle.cc_model.specs.declared.command.Command.TheVariants.{Native, Script, WeakMap, CopyNative, CopyScript, Drop, Set, Get, Put, Take, Wrap, Unwrap, Preserve, SetEntry, GetEntry, Expose}
 use Rattle.cc_model.specs.Slots.{reflector_slots}
@@ -93,18 +94,18 @@ NamesAfter-freed h g o s f = (f.0, NamesAfter-frees h g [] f.0 o (s.natives ∙ 
 -- Commands that give up natives
 
 -- a native register written
-put_in_register-frees : (h : Heap) (d : ℕ) (x : Option Name) → d < 256 → IsIn (native_names h) x → IsSound (numbers_of x ++ []) h →
+put_in_register-frees : (h : Heap) (d : ℕ) (x : Option Name) → d < bank_length → IsIn (native_names h) x → IsSound (numbers_of x ++ []) h →
     (ks : List ℕ) × Frees (set_register h (N d) x) ks (put_in_register h d x)
 put_in_register-frees h d x room there s = let_go-frees [] (set_register h (N d) x) (register h (N d)) (native_register-sound [] h d x room there s)
 
 -- a native register written with what is there
-put_in_register-names : (h g : Heap) (d : ℕ) (x : Option Name) → SameNames h g → d < 256 → IsIn (native_names g) x → IsSound (numbers_of x ++ []) g →
+put_in_register-names : (h g : Heap) (d : ℕ) (x : Option Name) → SameNames h g → d < bank_length → IsIn (native_names g) x → IsSound (numbers_of x ++ []) g →
     (ks : List ℕ) × NamesAfter h (put_in_register g d x) ks [] []
 put_in_register-names h g d x a room there s =
     NamesAfter-freed h (set_register g (N d) x) (put_in_register g d x) (record { natives = a.natives; scripts = a.scripts }) (put_in_register-frees g d x room there s)
 
 -- with the reference taken first
-hold_native-names : (h : Heap) (d : ℕ) (x : Option Name) → d < 256 → IsIn (native_names h) x → IsSound [] h →
+hold_native-names : (h : Heap) (d : ℕ) (x : Option Name) → d < bank_length → IsIn (native_names h) x → IsSound [] h →
     (ks : List ℕ) × NamesAfter h (hold_native h d x) ks [] []
 unfolding hold_native
 hold_native-names h d x room there s = put_in_register-names h (take_up h x) d x (SameNames-alike h (take_up h x) (HoldsTheSame-take_up h x)) room
@@ -133,7 +134,7 @@ store_native-names h d i x there room s =
     (HasSlot-take_up (numbers_of x ++ []) h d i x taken room) taken
 
 -- a native made
-make_native-names : (h : Heap) (d n : ℕ) → d < 256 → n ≤ 64 → h.natives_made < h.limits.natives → IsSound [] h →
+make_native-names : (h : Heap) (d n : ℕ) → d < bank_length → n ≤ most_slots → h.natives_made < h.limits.natives → IsSound [] h →
     (ks : List ℕ) × NamesAfter h (make_native h d n) ks (native (h.natives_made + 1) ∷ []) []
 unfolding make_native
 make_native-names h d n room few allowed s =
@@ -210,7 +211,7 @@ effects-names h (Script d n) s r t = make_object-names h d Plain n
 effects-names h (WeakMap d) s r t = make_object-names h d Map 0
 effects-names h (CopyNative d q) s r t = hold_native-names h d (register h (N q)) (below-first d (is_register q) r) (native_register-there h q s.well_formed) s
 effects-names h (CopyScript d q) s r t = NamesAfter-same h (set_register h (S d) (register h (S q))) (record { natives = refl; scripts = refl })
-effects-names h (Drop (N d)) s r t = put_in_register-names h h d None (SameNames-refl h) (ltb-true d 256 r) (λ y m. absurd m) s
+effects-names h (Drop (N d)) s r t = put_in_register-names h h d None (SameNames-refl h) (ltb-true d bank_length r) (λ y m. absurd m) s
 effects-names h (Drop (S d)) s r t = NamesAfter-same h (set_register h (S d) None) (record { natives = refl; scripts = refl })
 effects-names h (Set d i q) s r t = store_native-names h d i (source h q) (source-there h q s.well_formed)
     (leb-false (length (slots_at (objects_of h) (N d))) i t.slot) s

@@ -1,10 +1,11 @@
--- EACH ASK OF AN INPUT IS IN RANGE: what the forms read are registers below 256 and at most 64 slots.
+-- EACH ASK OF AN INPUT IS IN RANGE: what the forms read are registers of a bank and so many slots as are allowed.
 use Rattle.std.specs.Prelude.{IsTrue, nat_le, bytes_eq, if◌then◌else◌}
 use Rattle.std.proofs.Common.{◌≡◌, ℕ, ◌+◌, ◌-◌, ◌*◌, ◌≤◌, Bool, true, false, ◌&&◌, List, [], ◌∷◌, map, Option, Some, None, refl, arith}
 use Rattle.std.specs.List.{list_all}
 use Rattle.std.proofs.lemmas.Bool.{and_from, and_parts, lt-ltb, le-leb, leb-true}
 use Rattle.cc_names.specs.declared.register.Reg.{Reg}
 use Rattle.cc_names.specs.declared.register.Reg.TheVariants.{N, S}
+use Rattle.cc_names.specs.Sizes.{most_slots}
 use Rattle.cc_model.specs.declared.command.Command.{Command}
 use Rattle.cc_model.specs.declared.command.Command.TheVariants as command
 use Rattle.cc_model.specs.Ranges.{is_register, are_registers, is_source, is_script_source, is_slots, in_range}
@@ -51,7 +52,7 @@ Has-so P Q so e h = grind arith
 
 -- a number of slots is in range
 slots-below : (token : List ℕ) → Has (λ k. IsTrue (is_slots k)) (slots_number token)
-slots-below token = Has-so (λ k. k ≤ 64) (λ k. IsTrue (is_slots k)) (λ k le. le-leb k 64 le) (number_within 64 token) (number-below 64 token)
+slots-below token = Has-so (λ k. k ≤ most_slots) (λ k. IsTrue (is_slots k)) (λ k le. le-leb k most_slots le) (number_within most_slots token) (number-below most_slots token)
 
 -- a register is in range
 register-below : (letter : ℕ) (token : List ℕ) → Has (λ k. IsTrue (is_register k)) (register_with letter token)

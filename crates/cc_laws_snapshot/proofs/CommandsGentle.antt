@@ -5,6 +5,7 @@ use Rattle.std.proofs.lemmas.Bool.{ltb-true, leb-false}
 use Rattle.cc_names.specs.declared.register.Reg.{Reg}
 use Rattle.cc_names.specs.declared.register.Reg.TheVariants.{N, S}
 use Rattle.cc_names.specs.declared.kind.Kind.TheVariants.{Plain, Map}
+use Rattle.cc_names.specs.Sizes.{bank_length}
 use Rattle.cc_model.specs.declared.command.Command.{Command}
 use Rattle.cc_model.specs.declared.command.Command.TheVariants.{Nothing, Native, Script, WeakMap, CopyNative, CopyScript, Drop, Set, Get, Put, Take, Wrap, Unwrap, Preserve, SetEntry, GetEntry, Expose, Slice, Collect, Gc, Census}
 use Rattle.cc_model.specs.Ranges.{in_range, is_register, is_slots}
@@ -63,7 +64,7 @@ effects-gentle {owned} h (Script d n) s c r t = make_object-gentle h d Plain n s
 effects-gentle {owned} h (WeakMap d) s c r t = make_object-gentle h d Map 0 s.well_formed
 effects-gentle {owned} h (CopyNative d q) s c r t = hold_native-gentle owned h d (register h (N q)) (below-first d (is_register q) r) (native_register-there h q s.well_formed) s
 effects-gentle {owned} h (CopyScript d q) s c r t = register-gentle h (S d) (register h (S q))
-effects-gentle {owned} h (Drop (N d)) s c r t = put_in_register-gentle owned h d None (ltb-true d 256 r) (λ y m. absurd m) s
+effects-gentle {owned} h (Drop (N d)) s c r t = put_in_register-gentle owned h d None (ltb-true d bank_length r) (λ y m. absurd m) s
 effects-gentle {owned} h (Drop (S d)) s c r t = register-gentle h (S d) None
 effects-gentle {owned} h (Set d i q) s c r t = store_native-gentle owned h d i (source h q) (source-there h q s.well_formed) (source-pale h q s.well_formed c)
     (leb-false (length (slots_at (objects_of h) (N d))) i t.slot) s

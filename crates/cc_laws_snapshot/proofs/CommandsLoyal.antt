@@ -8,6 +8,7 @@ use Rattle.cc_names.specs.declared.name.Name.{Name}
 use Rattle.cc_names.specs.declared.register.Reg.TheVariants.{N, S}
 use Rattle.cc_names.specs.declared.kind.Kind.TheVariants.{Plain, Map}
 use Rattle.cc_names.specs.Names.{native}
+use Rattle.cc_names.specs.Sizes.{bank_length, most_slots}
 use Rattle.cc_model.specs.declared.command.Command.{Command}
 use Rattle.cc_model.specs.declared.command.Command.TheVariants.{Nothing, Native, Script, WeakMap, CopyNative, CopyScript, Drop, Set, Get, Put, Take, Wrap, Unwrap, Preserve, SetEntry, GetEntry, Expose, Slice, Collect, Gc, Census}
 use Rattle.cc_model.specs.Slots.{contents}
@@ -37,7 +38,7 @@ use Rattle.cc_laws_snapshot.proofs.Handed.{TakesUp-take_up, TakesUp-with_native,
 use Rattle.cc_laws_snapshot.proofs.StillNatives.{Still-refl, Still-script_register, Still-exposed, Still-hold_script, Still-preserve, Still-set_entry, Still-put_in_script, Still-make_object, Hands-wrapped}
 
 -- a native comes into a native register
-pub hold_native-loyal : {owned : List ℕ} (h : Heap) (d : ℕ) (x : Option Name) → d < 256 → IsIn (native_names h) x → IsSound owned h → IsLoyal (view h) (view (hold_native h d x).heap)
+pub hold_native-loyal : {owned : List ℕ} (h : Heap) (d : ℕ) (x : Option Name) → d < bank_length → IsIn (native_names h) x → IsSound owned h → IsLoyal (view h) (view (hold_native h d x).heap)
 unfolding hold_native
 hold_native-loyal {owned} h d x room there s =
     let taken = take_up-sound owned h x (IsIn-natives h x there) s in
@@ -48,12 +49,12 @@ hold_native-loyal {owned} h d x room there s =
     (Hands-register h (take_up h x) d x enough (TakesUp-take_up h x) (λ i m. inl (subst (λ xs. Among (native i) xs) names m)))
 
 -- a native register is emptied
-drop_native-loyal : {owned : List ℕ} (h : Heap) (d : ℕ) → d < 256 → IsSound owned h → IsLoyal (view h) (view (put_in_register h d None).heap)
+drop_native-loyal : {owned : List ℕ} (h : Heap) (d : ℕ) → d < bank_length → IsSound owned h → IsLoyal (view h) (view (put_in_register h d None).heap)
 unfolding hold_native
 drop_native-loyal h d room s = hold_native-loyal h d None room (λ y m. absurd m) s
 
 -- a native is made
-pub make_native-loyal : {owned : List ℕ} (h : Heap) (d n : ℕ) → d < 256 → n ≤ 64 → h.natives_made < h.limits.natives → IsSound owned h →
+pub make_native-loyal : {owned : List ℕ} (h : Heap) (d n : ℕ) → d < bank_length → n ≤ most_slots → h.natives_made < h.limits.natives → IsSound owned h →
     IsLoyal (view h) (view (make_native h d n).heap)
 unfolding make_native
 make_native-loyal {owned} h d n room few allowed s =
@@ -103,7 +104,7 @@ effects-loyal {owned} h (Script d n) s r t u = still-loyal h (make_object h d Pl
 effects-loyal {owned} h (WeakMap d) s r t u = still-loyal h (make_object h d Map 0) s u (Still-make_object h d Map 0)
 effects-loyal {owned} h (CopyNative d q) s r t u = hold_native-loyal h d (register h (N q)) (below-first d (is_register q) r) (native_register-there h q s.well_formed) s
 effects-loyal {owned} h (CopyScript d q) s r t u = still-loyal h (set_register h (S d) (register h (S q))) s u (Still-script_register h d (register h (S q)))
-effects-loyal {owned} h (Drop (N d)) s r t u = drop_native-loyal h d (ltb-true d 256 r) s
+effects-loyal {owned} h (Drop (N d)) s r t u = drop_native-loyal h d (ltb-true d bank_length r) s
 effects-loyal {owned} h (Drop (S d)) s r t u = still-loyal h (set_register h (S d) None) s u (Still-script_register h d None)
 effects-loyal {owned} h (Set d i q) s r t u = store_native-loyal h d i (source h q) (source-there h q s.well_formed)
     (leb-false (length (slots_at (objects_of h) (N d))) i t.slot) s

@@ -10,6 +10,7 @@ use Rattle.cc_names.specs.declared.register.Reg.TheVariants.{N}
 use Rattle.cc_names.specs.declared.kind.Kind.{Kind}
 use Rattle.cc_names.specs.declared.kind.Kind.TheVariants.{Reflector}
 use Rattle.cc_names.specs.Names.{native, object, reflector, same_name, is_script}
+use Rattle.cc_names.specs.Sizes.{bank_length, most_slots}
 use Rattle.cc_model.specs.Slots.{contents, reflector_slots}
 use Rattle.cc_model.specs.Heap.{Heap, HeapScript, has_reflector, register, set_register, change_script, with_script_slot, set_preserved}
 use Rattle.cc_model.specs.View.{view, buffered, ReachedIn}
@@ -41,7 +42,7 @@ use Rattle.cc_laws_snapshot.proofs.CommandsLoyal.{make_native-loyal}
 -- A native made
 
 -- A native is made, and a register holds it.
-pub native_made-suspected : (owned : List ℕ) (h : Heap) (candidates : List ℕ) (d n : ℕ) → IsSound owned h → d < 256 → n ≤ 64 →
+pub native_made-suspected : (owned : List ℕ) (h : Heap) (candidates : List ℕ) (d n : ℕ) → IsSound owned h → d < bank_length → n ≤ most_slots →
     h.natives_made < h.limits.natives → IsSuspectedIn h candidates → IsSuspectedIn (make_native h d n).heap candidates
 native_made-suspected owned h candidates d n s room few allowed = loyal-suspected h (make_native h d n).heap candidates s.well_formed
     (make_native-sound owned h d n room few allowed s).well_formed (make_native-loyal h d n room few allowed s)

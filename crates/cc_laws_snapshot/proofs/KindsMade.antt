@@ -8,6 +8,7 @@ use Rattle.cc_names.specs.declared.kind.Kind.{Kind}
 use Rattle.cc_names.specs.declared.kind.Kind.TheVariants.{Reflector}
 use Rattle.cc_names.specs.declared.kind.Colour.TheVariants.{Black}
 use Rattle.cc_names.specs.Names.{native, object, reflector}
+use Rattle.cc_names.specs.Sizes.{bank_length, most_slots}
 use Rattle.cc_model.specs.Slots.{empty_slots, reflector_slots}
 use Rattle.cc_model.specs.Heap.{Heap, HeapScript, has_reflector}
 use Rattle.cc_model.specs.Effects.{make_native, make_object, with_reflector, wrapped}
@@ -29,7 +30,7 @@ use Rattle.cc_laws_snapshot.proofs.ScriptParts.{exposed-gentle, make_object-gent
 use Rattle.cc_laws_snapshot.proofs.KindsFresh.{fresh-coloured}
 
 -- A native is made, and a register holds it.
-pub native_made-fresh : (owned : List ℕ) (h : Heap) (s : Snapshot) (d n : ℕ) → IsSound owned h → d < 256 → n ≤ 64 → h.natives_made < h.limits.natives →
+pub native_made-fresh : (owned : List ℕ) (h : Heap) (s : Snapshot) (d n : ℕ) → IsSound owned h → d < bank_length → n ≤ most_slots → h.natives_made < h.limits.natives →
     IsFreshIn h s → IsFreshIn (make_native h d n).heap s
 native_made-fresh owned h s d n sound room few allowed =
     fresh-coloured h (make_native h d n).heap sound.well_formed (make_native-sound owned h d n room few allowed sound).well_formed

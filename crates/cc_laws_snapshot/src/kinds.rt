@@ -5,6 +5,7 @@ ghost use Rattle.cc_names.specs.declared.name.Name.{Name};
 ghost use Rattle.cc_names.specs.declared.register.Reg.{Reg};
 ghost use Rattle.cc_names.specs.declared.kind.Kind.{Kind};
 ghost use Rattle.cc_names.specs.Names.{native, object, reflector};
+ghost use Rattle.cc_names.specs.Sizes.{bank_length, most_slots};
 ghost use Rattle.cc_model.specs.Slots.{contents, empty_slots};
 ghost use Rattle.cc_model.specs.Heap.{Heap, HeapNative, native_at, has_reflector, set_register, change_native, change_script, with_native_slot, with_script_slot, set_preserved, register};
 ghost use Rattle.cc_model.specs.Cascade.{Draining, add_ref, give_up, natives_of_slots, without_native};
@@ -25,7 +26,7 @@ ghost use Rattle.cc_laws_snapshot.specs.KindsSuspected.{IsSuspectedIn, IsSuspect
 /// a native that is put into a slot stands in the buffer; something is exposed; a reference is given up; the front of
 /// the queue leaves.
 pub fn kinds_of_change_keep_fresh()
-    ensures native_made { (owned : List ℕ) (h : Heap) (s : Snapshot) (d n : ℕ) → IsSound owned h → d < 256 → n ≤ 64 →
+    ensures native_made { (owned : List ℕ) (h : Heap) (s : Snapshot) (d n : ℕ) → IsSound owned h → d < bank_length → n ≤ most_slots →
         h.natives_made < h.limits.natives → IsFreshIn h s → IsFreshIn (make_native h d n).heap s }
     ensures object_made { (owned : List ℕ) (h : Heap) (s : Snapshot) (d : ℕ) (kind : Kind) (n : ℕ) → IsSound owned h →
         FitsName (object (h.scripts_made + 1)) kind (empty_slots n) → h.scripts_made < h.limits.scripts →
@@ -74,7 +75,7 @@ pub fn waiting_asks_less()
 /// reflector; a register, a slot, a flag or an entry is written, whatever it then holds; something is exposed; a
 /// reference is given up; the front of the queue leaves.
 pub fn kinds_of_change_keep_suspected()
-    ensures native_made { (owned : List ℕ) (h : Heap) (candidates : List ℕ) (d n : ℕ) → IsSound owned h → d < 256 → n ≤ 64 →
+    ensures native_made { (owned : List ℕ) (h : Heap) (candidates : List ℕ) (d n : ℕ) → IsSound owned h → d < bank_length → n ≤ most_slots →
         h.natives_made < h.limits.natives → IsSuspectedIn h candidates → IsSuspectedIn (make_native h d n).heap candidates }
     ensures object_made { (h : Heap) (candidates : List ℕ) (d : ℕ) (kind : Kind) (n : ℕ) → IsWellFormed h →
         IsSuspectedIn h candidates → IsSuspectedIn (make_object h d kind n) candidates }

@@ -6,6 +6,7 @@ use Rattle.cc_names.specs.declared.name.Name.TheVariants as name
 use Rattle.cc_names.specs.declared.register.Reg.{Reg}
 use Rattle.cc_names.specs.declared.register.Reg.TheVariants.{N, S}
 use Rattle.cc_names.specs.Names.{native, object}
+use Rattle.cc_names.specs.Sizes.{bank_length}
 use Rattle.cc_model.specs.declared.command.Command.{Command}
 use Rattle.cc_model.specs.declared.command.Command.TheVariants.{Nothing, Native, Script, WeakMap, CopyNative, CopyScript, Drop, Set, Get, Put, Take, Wrap, Unwrap, Preserve, SetEntry, GetEntry, Expose, Slice, Collect, Gc, Census}
 use Rattle.cc_model.specs.declared.item.Refusal.{Refusal}
@@ -25,7 +26,7 @@ pub data GraphScript : Type 0 where
   plain_object : Slots → GraphScript
   weak_map : GraphScript
 
--- THE GRAPH. Native k, and script object k, stand at place k - 1. There are 256 registers of each kind.
+-- THE GRAPH. Native k, and script object k, stand at place k - 1. There is a bank of registers of each kind.
 pub record Graph : Type 0 where
   pub native_registers : Slots
   pub script_registers : Slots
@@ -36,8 +37,8 @@ pub record Graph : Type 0 where
 
 abbrev pub empty_graph : Allowance → Graph
 empty_graph limits = record {
-  native_registers = empty_slots 256;
-  script_registers = empty_slots 256;
+  native_registers = empty_slots bank_length;
+  script_registers = empty_slots bank_length;
   natives = [];
   scripts = [];
   entries = [];

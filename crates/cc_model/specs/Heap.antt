@@ -10,6 +10,7 @@ use Rattle.cc_names.specs.declared.kind.Kind.TheVariants.{Plain, Reflector, Map}
 use Rattle.cc_names.specs.declared.kind.Colour.{Colour}
 use Rattle.cc_names.specs.declared.kind.Colour.TheVariants.{White, Gray, Black}
 use Rattle.cc_names.specs.Names.{object, reflector, same_name}
+use Rattle.cc_names.specs.Sizes.{bank_length}
 use Rattle.cc_model.specs.declared.item.Event.{Event}
 use Rattle.cc_model.specs.Slots.{Slots, empty_slots}
 use Rattle.cc_model.specs.Entries.{Entry, value_in}
@@ -47,8 +48,8 @@ pub record Heap : Type 0 where
 
 abbrev pub empty_heap : Allowance → Heap
 empty_heap limits = record {
-  native_registers = empty_slots 256;
-  script_registers = empty_slots 256;
+  native_registers = empty_slots bank_length;
+  script_registers = empty_slots bank_length;
   natives = [];
   scripts = [];
   entries = [];

@@ -2,12 +2,13 @@
 use Rattle.std.specs.Prelude.{ℕ, Bool, true, ◌&&◌, Option, Some, None, nat_lt, nat_le}
 use Rattle.cc_names.specs.declared.register.Reg.{Reg}
 use Rattle.cc_names.specs.declared.register.Reg.TheVariants.{N, S}
+use Rattle.cc_names.specs.Sizes.{bank_length, most_slots}
 use Rattle.cc_model.specs.declared.command.Command.{Command}
 use Rattle.cc_model.specs.declared.command.Command.TheVariants.{Nothing, Native, Script, WeakMap, CopyNative, CopyScript, Drop, Set, Get, Put, Take, Wrap, Unwrap, Preserve, SetEntry, GetEntry, Expose, Slice, Collect, Gc, Census}
 
--- there are 256 registers of each kind
+-- a register is one of its bank
 abbrev pub is_register : ℕ → Bool
-is_register r = nat_lt r 256
+is_register r = nat_lt r bank_length
 
 abbrev pub are_registers : ℕ → ℕ → Bool
 are_registers r s = is_register r && is_register s
@@ -24,9 +25,9 @@ abbrev pub is_script_source : Option ℕ → Bool
 is_script_source None = true
 is_script_source (Some r) = is_register r
 
--- an object has at most 64 slots
+-- an object has only so many slots
 abbrev pub is_slots : ℕ → Bool
-is_slots n = nat_le n 64
+is_slots n = nat_le n most_slots
 
 -- whether a command's registers and its number of slots are in range, as those of every line are
 abbrev pub in_range : Command → Bool

@@ -1,5 +1,6 @@
 -- The tokens of a line, and the numbers and registers among them.
 use Rattle.std.specs.Prelude.{ℕ, ◌+◌, ◌-◌, ◌*◌, ◌^◌, Bool, true, false, List, [], ◌∷◌, ◌++◌, ◌==◌, ◌&&◌, ◌||◌, Option, Some, None, if◌then◌else◌, nat_le, nat_lt, length, slice_index, filter, bytes_eq, codes, option_and_then}
+use Rattle.cc_names.specs.Sizes.{bank_length, most_slots}
 
 -- the token that a byte ends: a space ends one; a tab is no space
 abbrev pub token_ended : List ℕ → ℕ → List (List ℕ)
@@ -49,16 +50,16 @@ number token = number_within greatest_number token
 
 -- a number of slots
 abbrev pub slots_number : List ℕ → Option ℕ
-slots_number token = number_within 64 token
+slots_number token = number_within most_slots token
 
 -- a number of units, 1 to 1000000
 abbrev pub units_number : List ℕ → Option ℕ
 units_number token = option_and_then (λ n. if nat_lt 0 n then Some n else None) (number_within 1000000 token)
 
--- A REGISTER: a letter, and at once a number of at most 255
+-- A REGISTER: a letter, and at once its number in its bank
 abbrev pub register_with : ℕ → List ℕ → Option ℕ
 register_with letter [] = None
-register_with letter (b ∷ token) = if b == letter then number_within 255 token else None
+register_with letter (b ∷ token) = if b == letter then number_within (bank_length - 1) token else None
 
 abbrev pub native_register : List ℕ → Option ℕ
 native_register token = register_with 110 token

@@ -7,6 +7,7 @@ use Rattle.cc_names.specs.declared.name.Name.TheVariants as name
 use Rattle.cc_names.specs.declared.kind.Kind.{Kind}
 use Rattle.cc_names.specs.declared.kind.Kind.TheVariants.{Plain, Reflector, Map}
 use Rattle.cc_names.specs.Names.{native, object, reflector, same_name}
+use Rattle.cc_names.specs.Sizes.{bank_length, most_slots}
 use Rattle.cc_model.specs.Slots.{Slots, contents, reflector_slots}
 use Rattle.cc_model.specs.Entries.{Entry, is_entry_of}
 use Rattle.cc_model.specs.Heap.{Heap, HeapNative, HeapScript, Buffered}
@@ -24,7 +25,7 @@ names_there h = native_names h ++ script_names h
 -- a script object's kind is that of its name, and has as many slots as it may
 abbrev pub FitsName : Name → Kind → Slots → Type 0
 FitsName (name.Native k) kind slots = ⊥
-FitsName (name.Script k) Plain slots = length slots ≤ 64
+FitsName (name.Script k) Plain slots = length slots ≤ most_slots
 FitsName (name.Script k) Map slots = slots ≡ []
 FitsName (name.Script k) Reflector slots = ⊥
 FitsName (name.Reflector k) Reflector slots = length slots ≡ reflector_slots
@@ -41,11 +42,11 @@ pub record IsWellFormed (h : Heap) : Type 0 where
   -- native registers hold natives, script registers script objects
   pub native_registers : (x : Name) → Among x (contents h.native_registers) → Among x (native_names h)
   pub script_registers : (x : Name) → Among x (contents h.script_registers) → Among x (script_names h)
-  pub registers : (length h.native_registers ≡ 256) × (length h.script_registers ≡ 256)
-  -- natives by rising number, numbers that were made, at most 64 slots, which hold what is there
+  pub registers : (length h.native_registers ≡ bank_length) × (length h.script_registers ≡ bank_length)
+  -- natives by rising number, numbers that were made, no more slots than are allowed, which hold what is there
   pub rising : IsRising (map (λ n. n.number) h.natives)
   pub native_numbers : (n : HeapNative) → Among n h.natives → (1 ≤ n.number) × (n.number ≤ h.natives_made)
-  pub native_slots : (n : HeapNative) → Among n h.natives → length n.slots ≤ 64
+  pub native_slots : (n : HeapNative) → Among n h.natives → length n.slots ≤ most_slots
   pub native_contents : (n : HeapNative) (x : Name) → Among n h.natives → Among x (contents n.slots) → Among x (names_there h)
   -- script objects with distinct names, numbers that were made, kinds that fit; slots hold script objects that are there
   pub distinct : (x : Name) → count_by (same_name x) (script_names h) ≤ 1

@@ -4,6 +4,7 @@ use Rattle.cc_lists.specs.Members.{Among}
 use Rattle.cc_names.specs.declared.name.Name.{Name}
 use Rattle.cc_names.specs.declared.name.Name.TheVariants as name
 use Rattle.cc_names.specs.Names.{object, reflector, is_native, is_script}
+use Rattle.cc_names.specs.Sizes.{bank_length, most_slots}
 use Rattle.cc_model.specs.Slots.{Slots, contents, reflector_slots}
 use Rattle.cc_model.specs.Entries.{Entry, is_entry_of}
 use Rattle.cc_model.specs.Graph.{Graph, GraphNative, plain_object, weak_map, native_in, script_in}
@@ -29,18 +30,18 @@ pub record IsMadeEntry (g : Graph) (e : Entry) : Type 0 where
 
 pub record IsWellMade (g : Graph) : Type 0 where
   -- native registers hold natives, script registers script objects
-  pub registers : (length g.native_registers ≡ 256) × (length g.script_registers ≡ 256)
+  pub registers : (length g.native_registers ≡ bank_length) × (length g.script_registers ≡ bank_length)
   pub native_registers : (x : Name) → Among x (contents g.native_registers) → IsTrue (is_made_native g x)
   pub script_registers : (x : Name) → Among x (contents g.script_registers) → IsTrue (is_made_script g x)
-  -- a native has at most 64 slots, which hold what was made; where its reflector is preserved, it was wrapped
-  pub native_slots : (k : ℕ) (n : GraphNative) → native_in g k ≡ Some n → length n.slots ≤ 64
+  -- a native has no more slots than are allowed, which hold what was made; where its reflector is preserved, it was wrapped
+  pub native_slots : (k : ℕ) (n : GraphNative) → native_in g k ≡ Some n → length n.slots ≤ most_slots
   pub native_contents : (k : ℕ) (n : GraphNative) (x : Name) → native_in g k ≡ Some n → Among x (contents n.slots) → IsTrue (was_made g x)
   pub preserved : (k : ℕ) (n : GraphNative) → native_in g k ≡ Some n → n.preserved ≡ true → IsTrue (was_made g (reflector k))
   -- a reflector and a plain object hold script objects that were made
   pub reflectors : (k : ℕ) (n : GraphNative) (slots : Slots) → native_in g k ≡ Some n → n.reflector ≡ Some slots → length slots ≡ reflector_slots
   pub reflector_contents : (k : ℕ) (n : GraphNative) (slots : Slots) (x : Name) → native_in g k ≡ Some n → n.reflector ≡ Some slots →
       Among x (contents slots) → IsTrue (is_made_script g x)
-  pub script_slots : (k : ℕ) (slots : Slots) → script_in g k ≡ Some (plain_object slots) → length slots ≤ 64
+  pub script_slots : (k : ℕ) (slots : Slots) → script_in g k ≡ Some (plain_object slots) → length slots ≤ most_slots
   pub script_contents : (k : ℕ) (slots : Slots) (x : Name) → script_in g k ≡ Some (plain_object slots) → Among x (contents slots) → IsTrue (is_made_script g x)
   -- at most one entry for each map and key
   pub entries : (e : Entry) → Among e g.entries → IsMadeEntry g e

@@ -1,6 +1,6 @@
 //! What one line of the input asks.
 
-use cc_names::Reg;
+use cc_names::{Reg, RegNo, SlotNo};
 
 /// What one line of the input asks, by its word and its tokens in their order.
 ///
@@ -11,37 +11,37 @@ pub enum Command {
     /// A blank line or a comment.
     Nothing,
     /// `native nD K`: makes a native with K empty slots.
-    Native(u8, u8),
+    Native(RegNo, SlotNo),
     /// `script sD K`: makes a plain script object with K empty slots.
-    Script(u8, u8),
+    Script(RegNo, SlotNo),
     /// `weakmap sD`: makes an empty weak map.
-    WeakMap(u8),
+    WeakMap(RegNo),
     /// `copy nD nS`: the destination holds what the source holds.
-    CopyNative(u8, u8),
+    CopyNative(RegNo, SlotNo),
     /// `copy sD sS`: the same for script registers.
-    CopyScript(u8, u8),
+    CopyScript(RegNo, SlotNo),
     /// `drop R`: empties a register.
     Drop(Reg),
     /// `set nD i R`, or `set nD i none`: writes slot i of a native.
-    Set(u8, u32, Option<Reg>),
+    Set(RegNo, u32, Option<Reg>),
     /// `get R nS i`: reads slot i of a native.
-    Get(Reg, u8, u32),
+    Get(Reg, RegNo, u32),
     /// `put sD i sS`, or `put sD i none`: writes slot i of a plain object or a reflector.
-    Put(u8, u32, Option<u8>),
+    Put(RegNo, u32, Option<RegNo>),
     /// `take sD sS i`: reads slot i of a plain object or a reflector.
-    Take(u8, u8, u32),
+    Take(RegNo, RegNo, u32),
     /// `wrap sD nS`: the reflector of a native, made where there is none.
-    Wrap(u8, u8),
+    Wrap(RegNo, RegNo),
     /// `unwrap nD sS`: the native of a reflector.
-    Unwrap(u8, u8),
+    Unwrap(RegNo, RegNo),
     /// `preserve sS`: a reflector is traced from its native from now on.
-    Preserve(u8),
+    Preserve(RegNo),
     /// `wset sM sK sV`, or `wset sM sK none`: sets or takes out an entry of a weak map.
-    SetEntry(u8, u8, Option<u8>),
+    SetEntry(RegNo, RegNo, Option<RegNo>),
     /// `wget sD sM sK`: the value of a key in a weak map.
-    GetEntry(u8, u8, u8),
+    GetEntry(RegNo, RegNo, RegNo),
     /// `expose nS i`: script touches what slot i of a native holds.
-    Expose(u8, u32),
+    Expose(RegNo, u32),
     /// `slice U`: up to U units of a collection.
     Slice(u32),
     /// `collect`: a whole collection.

@@ -9,6 +9,7 @@ use Rattle.cc_lists.proofs.Searching.{find-map}
 use Rattle.cc_names.specs.declared.number.NKey.{NKey}
 use Rattle.cc_names.specs.declared.register.Reg.TheVariants.{N}
 use Rattle.cc_names.specs.Names.{native}
+use Rattle.cc_names.specs.Sizes.{most_slots}
 use Rattle.cc_model.specs.Slots.{Slots}
 use Rattle.cc_model.specs.Checks.{slots_or_none, slot_at, slots_at}
 use Rattle.cc_model.specs.Heap.{HeapNative, native_at, objects_of, register, slots_in}
@@ -62,8 +63,8 @@ module _ (owned : List ℕ) (v : Keyed) (order : IsInOrder owned v) (r : ℕ) (k
   slots-as_many = ap length slots-keyed ∙ (length-map native-at.native.slots (λ x. option_and_then (keyed_name v.scripts) x) ∙ sym (ap length slots-named))
 
   -- and few
-  pub slots-few : length (slots_at (objects_of v.heap) (N r)) ≤ 64
-  slots-few = subst (λ ss. length ss ≤ 64) (sym slots-named)
+  pub slots-few : length (slots_at (objects_of v.heap) (N r)) ≤ most_slots
+  slots-few = subst (λ ss. length ss ≤ most_slots) (sym slots-named)
       (order.sound.well_formed.native_slots native-at.native (native_at-there v.heap native-at.number native-at.native native-at.found))
 
   -- WHAT A SLOT HOLDS, as the counted heap answers it, by name

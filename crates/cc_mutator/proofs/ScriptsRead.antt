@@ -18,6 +18,7 @@ use Rattle.cc_names.specs.declared.kind.Colour.TheVariants.{Black}
 use Rattle.cc_names.specs.declared.register.Reg.TheVariants.{S}
 use Rattle.cc_names.specs.Names.{is_script, same_name}
 use Rattle.cc_names.proofs.NameTests.{same_name-refl}
+use Rattle.cc_names.specs.Sizes.{most_slots}
 use Rattle.cc_model.specs.Slots.{Slots}
 use Rattle.cc_model.specs.Checks.{is_map_in, slots_or_none, slot_at, slots_at}
 use Rattle.cc_model.specs.Heap.{Heap, HeapScript, objects_of, register, script_at, source, slots_in, slots_of_kind, slots_of_script}
@@ -66,8 +67,8 @@ kind-slots (name.Script k) Map slots f = sym f
 kind-slots (name.Native k) Map slots f = absurd f
 kind-slots (name.Reflector k) Map slots f = absurd f
 
--- at most 64 of them: a reflector has four
-fits-few : (x : Name) (kind : Kind) (slots : Slots) → FitsName x kind slots → length slots ≤ 64
+-- so many of them as are allowed: a reflector has four
+fits-few : (x : Name) (kind : Kind) (slots : Slots) → FitsName x kind slots → length slots ≤ most_slots
 fits-few (name.Native k) kind slots f = absurd f
 fits-few (name.Script k) Plain slots f = f
 fits-few (name.Script k) Map slots f = omega (arith, ap length f)
@@ -87,7 +88,7 @@ module _ (owned : List ℕ) (v : Keyed) (order : IsInOrder owned v) where
       ∙ kind-slots o.name o.kind o.slots (well.kinds o m)
 
   -- and they are few
-  slots-of_object-few : (o : HeapScript) → Among o v.heap.scripts → length o.slots ≤ 64
+  slots-of_object-few : (o : HeapScript) → Among o v.heap.scripts → length o.slots ≤ most_slots
   slots-of_object-few o m = fits-few o.name o.kind o.slots (order.sound.well_formed.kinds o m)
 
   module _ (r : ℕ) (key : SKey) (name : script_name v (Some key) ≡ register v.heap (S r)) (there : IsTrue (is_there v.scripts key.0)) where
@@ -125,8 +126,8 @@ module _ (owned : List ℕ) (v : Keyed) (order : IsInOrder owned v) where
     script_slots-as_many = ap length script_slots-keyed ∙ (sym (length-map object-at.object.slots (name_held v.scripts)) ∙ sym (ap length script_slots-named))
 
     -- and few
-    pub script_slots-few : length (slots_at (objects_of v.heap) (S r)) ≤ 64
-    script_slots-few = subst (λ ss. length ss ≤ 64) (sym script_slots-named) (slots-of_object-few (named_object v.scripts object-at.object) stands)
+    pub script_slots-few : length (slots_at (objects_of v.heap) (S r)) ≤ most_slots
+    script_slots-few = subst (λ ss. length ss ≤ most_slots) (sym script_slots-named) (slots-of_object-few (named_object v.scripts object-at.object) stands)
 
     -- WHAT A SLOT HOLDS by name
     pub script_slot-named : (i : ℕ) (x : Option SKey) → option_map (λ (k : SKey). k.0) x ≡ get_or (objects.slots_at v.scripts key.0) i None →

@@ -2,6 +2,7 @@
 ghost use Rattle.std.specs.Prelude.{◌≡◌, ◌≢◌, ◌<◌, ◌≤◌, IsTrue, IsSome, IfSome, OnErr, OnOk, is_none, false, true, ℕ, List, length, Some, None};
 ghost use Rattle.cc_names.specs.declared.kind.Colour.TheVariants.{Black};
 ghost use Rattle.cc_names.specs.declared.register.Reg.TheVariants.{N as n_register, S as s_register};
+ghost use Rattle.cc_names.specs.Sizes.{most_slots};
 ghost use Rattle.cc_model.specs.declared.command.Command.TheVariants.{Native, Script, WeakMap, CopyNative, CopyScript, Drop, Set, Get, Put, Take, Wrap, Unwrap, Preserve, SetEntry, GetEntry, Expose};
 ghost use Rattle.cc_model.specs.declared.item.Refusal.{Refusal};
 ghost use Rattle.cc_model.specs.declared.item.Refusal.TheVariants.{NoMemory as no_memory};
@@ -38,12 +39,12 @@ use crate::reads::{
 use cc_counted::Held;
 use cc_heaps::{Heaps, MakeStop};
 use cc_model::{Command, Notices, Refusal, Reply};
-use cc_names::{NoMemory, Reg, SKey};
+use cc_names::{NoMemory, Reg, RegNo, SKey, SlotNo};
 
 /// Makes a native.
-fn make_native<N: Notices>(heaps: &mut Heaps, d: u8, slots: u8, out: &mut N) -> Reply
+fn make_native<N: Notices>(heaps: &mut Heaps, d: RegNo, slots: SlotNo, out: &mut N) -> Reply
     requires order { (owned : List ℕ) × IsInOrder owned heaps.old }
-    requires slots { slots ≤ 64 }
+    requires slots { slots ≤ most_slots }
     ensures { IsApplied (Native d slots) heaps.old heaps.new result (N.telling out.old) (N.telling out.new) }
 {
     match heaps.new_native(d, slots, out) {
@@ -54,9 +55,9 @@ fn make_native<N: Notices>(heaps: &mut Heaps, d: u8, slots: u8, out: &mut N) -> 
 }
 
 /// Makes a plain script object.
-fn make_plain(heaps: &mut Heaps, d: u8, slots: u8) -> Reply
+fn make_plain(heaps: &mut Heaps, d: RegNo, slots: SlotNo) -> Reply
     requires order { (owned : List ℕ) × IsInOrder owned heaps.old }
-    requires slots { slots ≤ 64 }
+    requires slots { slots ≤ most_slots }
     ensures { (t : Telling) → IsApplied (Script d slots) heaps.old heaps.new result t t }
 {
     match heaps.new_plain(d, slots) {
@@ -67,7 +68,7 @@ fn make_plain(heaps: &mut Heaps, d: u8, slots: u8) -> Reply
 }
 
 /// Makes a weak map.
-fn make_map(heaps: &mut Heaps, d: u8) -> Reply
+fn make_map(heaps: &mut Heaps, d: RegNo) -> Reply
     requires order { (owned : List ℕ) × IsInOrder owned heaps.old }
     ensures { (t : Telling) → IsApplied (WeakMap d) heaps.old heaps.new result t t }
 {
@@ -79,7 +80,7 @@ fn make_map(heaps: &mut Heaps, d: u8) -> Reply
 }
 
 /// Copies a native register.
-fn copy_native<N: Notices>(heaps: &mut Heaps, d: u8, s: u8, out: &mut N) -> Reply
+fn copy_native<N: Notices>(heaps: &mut Heaps, d: RegNo, s: RegNo, out: &mut N) -> Reply
     requires order { (owned : List ℕ) × IsInOrder owned heaps.old × AreOwnedOnce owned }
     ensures { IsApplied (CopyNative d s) heaps.old heaps.new result (N.telling out.old) (N.telling out.new) }
 {
@@ -90,7 +91,7 @@ fn copy_native<N: Notices>(heaps: &mut Heaps, d: u8, s: u8, out: &mut N) -> Repl
 }
 
 /// Copies a script register.
-fn copy_script(heaps: &mut Heaps, d: u8, s: u8) -> Reply
+fn copy_script(heaps: &mut Heaps, d: RegNo, s: RegNo) -> Reply
     requires order { (owned : List ℕ) × IsInOrder owned heaps.old }
     requires colours { HasColourInvariant (view heaps.old.heap) }
     ensures { (t : Telling) → IsApplied (CopyScript d s) heaps.old heaps.new result t t }
@@ -102,7 +103,7 @@ fn copy_script(heaps: &mut Heaps, d: u8, s: u8) -> Reply
 }
 
 /// Empties a native register.
-fn drop_native<N: Notices>(heaps: &mut Heaps, r: u8, out: &mut N) -> Reply
+fn drop_native<N: Notices>(heaps: &mut Heaps, r: RegNo, out: &mut N) -> Reply
     requires order { (owned : List ℕ) × IsInOrder owned heaps.old × AreOwnedOnce owned }
     ensures { IsApplied (Drop (n_register r)) heaps.old heaps.new result (N.telling out.old) (N.telling out.new) }
 {
@@ -111,7 +112,7 @@ fn drop_native<N: Notices>(heaps: &mut Heaps, r: u8, out: &mut N) -> Reply
 }
 
 /// Empties a script register.
-fn drop_script(heaps: &mut Heaps, r: u8) -> Reply
+fn drop_script(heaps: &mut Heaps, r: RegNo) -> Reply
     requires order { (owned : List ℕ) × IsInOrder owned heaps.old }
     ensures { (t : Telling) → IsApplied (Drop (s_register r)) heaps.old heaps.new result t t }
 {
@@ -131,7 +132,7 @@ fn empty<N: Notices>(heaps: &mut Heaps, r: Reg, out: &mut N) -> Reply
 }
 
 /// Writes slot `i` of the native in a register.
-fn store<N: Notices>(heaps: &mut Heaps, d: u8, i: u32, content: Option<Held>, out: &mut N)
+fn store<N: Notices>(heaps: &mut Heaps, d: RegNo, i: u32, content: Option<Held>, out: &mut N)
     requires order { (owned : List ℕ) × IsInOrder owned heaps.old × AreOwnedOnce owned }
     requires slot { i < length (slots_at (objects_of heaps.old.heap) (n_register d)) }
     requires there { IsThere heaps.old content }
@@ -140,13 +141,13 @@ fn store<N: Notices>(heaps: &mut Heaps, d: u8, i: u32, content: Option<Held>, ou
     ensures order { (owned : List ℕ) → IsInOrder owned heaps.old → IsInOrder owned heaps.new }
 {
     match heaps.native_reg(d) {
-        Some(key) => heaps.store_native(key, i as u8, content, out),
+        Some(key) => heaps.store_native(key, i as SlotNo, content, out),
         None => unreachable!(),
     }
 }
 
 /// Writes what a source gives into slot `i` of the native in a register.
-fn set<N: Notices>(heaps: &mut Heaps, d: u8, i: u32, from: Option<Reg>, out: &mut N) -> Reply
+fn set<N: Notices>(heaps: &mut Heaps, d: RegNo, i: u32, from: Option<Reg>, out: &mut N) -> Reply
     requires order { (owned : List ℕ) × IsInOrder owned heaps.old × AreOwnedOnce owned }
     ensures { IsApplied (Set d i from) heaps.old heaps.new result (N.telling out.old) (N.telling out.new) }
 {
@@ -159,7 +160,7 @@ fn set<N: Notices>(heaps: &mut Heaps, d: u8, i: u32, from: Option<Reg>, out: &mu
 }
 
 /// Reads slot `i` of the native in a register into a native register.
-fn get_native<N: Notices>(heaps: &mut Heaps, d: u8, s: u8, i: u32, out: &mut N) -> Reply
+fn get_native<N: Notices>(heaps: &mut Heaps, d: RegNo, s: RegNo, i: u32, out: &mut N) -> Reply
     requires order { (owned : List ℕ) × IsInOrder owned heaps.old × AreOwnedOnce owned }
     ensures { IsApplied (Get (n_register d) s i) heaps.old heaps.new result (N.telling out.old) (N.telling out.new) }
 {
@@ -173,7 +174,7 @@ fn get_native<N: Notices>(heaps: &mut Heaps, d: u8, s: u8, i: u32, out: &mut N) 
 }
 
 /// Reads slot `i` of the native in a register into a script register.
-fn get_script(heaps: &mut Heaps, d: u8, s: u8, i: u32) -> Reply
+fn get_script(heaps: &mut Heaps, d: RegNo, s: RegNo, i: u32) -> Reply
     requires order { (owned : List ℕ) × IsInOrder owned heaps.old }
     ensures { (t : Telling) → IsApplied (Get (s_register d) s i) heaps.old heaps.new result t t }
 {
@@ -187,7 +188,7 @@ fn get_script(heaps: &mut Heaps, d: u8, s: u8, i: u32) -> Reply
 }
 
 /// Reads slot `i` of the native in a register into a register of either kind.
-fn get<N: Notices>(heaps: &mut Heaps, d: Reg, s: u8, i: u32, out: &mut N) -> Reply
+fn get<N: Notices>(heaps: &mut Heaps, d: Reg, s: RegNo, i: u32, out: &mut N) -> Reply
     requires order { (owned : List ℕ) × IsInOrder owned heaps.old × AreOwnedOnce owned }
     ensures { IsApplied (Get d s i) heaps.old heaps.new result (N.telling out.old) (N.telling out.new) }
 {
@@ -198,7 +199,7 @@ fn get<N: Notices>(heaps: &mut Heaps, d: Reg, s: u8, i: u32, out: &mut N) -> Rep
 }
 
 /// Writes slot `i` of the script object in a register; a reflector is preserved before, also where its slot is emptied.
-fn store_script(heaps: &mut Heaps, d: u8, i: u32, content: Option<SKey>)
+fn store_script(heaps: &mut Heaps, d: RegNo, i: u32, content: Option<SKey>)
     requires order { (owned : List ℕ) × IsInOrder owned heaps.old }
     requires slot { i < length (slots_at (objects_of heaps.old.heap) (s_register d)) }
     requires there { IsScriptThere heaps.old content }
@@ -210,14 +211,14 @@ fn store_script(heaps: &mut Heaps, d: u8, i: u32, content: Option<SKey>)
     match heaps.script_reg(d) {
         Some(key) => {
             let _is_reflector = cc_wrappers::preserve(heaps, key);
-            heaps.store_script(key, i as u8, content);
+            heaps.store_script(key, i as SlotNo, content);
         }
         None => unreachable!(),
     }
 }
 
 /// Writes what a source gives into slot `i` of the script object in a register.
-fn put(heaps: &mut Heaps, d: u8, i: u32, from: Option<u8>) -> Reply
+fn put(heaps: &mut Heaps, d: RegNo, i: u32, from: Option<RegNo>) -> Reply
     requires order { (owned : List ℕ) × IsInOrder owned heaps.old }
     requires colours { HasColourInvariant (view heaps.old.heap) }
     ensures { (t : Telling) → IsApplied (Put d i from) heaps.old heaps.new result t t }
@@ -231,7 +232,7 @@ fn put(heaps: &mut Heaps, d: u8, i: u32, from: Option<u8>) -> Reply
 }
 
 /// Reads slot `i` of the script object in a register into a script register.
-fn take(heaps: &mut Heaps, d: u8, s: u8, i: u32) -> Reply
+fn take(heaps: &mut Heaps, d: RegNo, s: RegNo, i: u32) -> Reply
     requires order { (owned : List ℕ) × IsInOrder owned heaps.old }
     ensures { (t : Telling) → IsApplied (Take d s i) heaps.old heaps.new result t t }
 {
@@ -245,7 +246,7 @@ fn take(heaps: &mut Heaps, d: u8, s: u8, i: u32) -> Reply
 }
 
 /// Puts the reflector of the native in a register into a script register; it is made where there is none.
-fn wrap(heaps: &mut Heaps, d: u8, s: u8) -> Reply
+fn wrap(heaps: &mut Heaps, d: RegNo, s: RegNo) -> Reply
     requires order { (owned : List ℕ) × IsInOrder owned heaps.old × AreOwnedOnce owned }
     requires colours { HasColourInvariant (view heaps.old.heap) }
     ensures { (t : Telling) → IsApplied (Wrap d s) heaps.old heaps.new result t t }
@@ -264,7 +265,7 @@ fn wrap(heaps: &mut Heaps, d: u8, s: u8) -> Reply
 }
 
 /// Puts the native of the reflector in a script register into a native register.
-fn unwrap<N: Notices>(heaps: &mut Heaps, d: u8, s: u8, out: &mut N) -> Reply
+fn unwrap<N: Notices>(heaps: &mut Heaps, d: RegNo, s: RegNo, out: &mut N) -> Reply
     requires order { (owned : List ℕ) × IsInOrder owned heaps.old × AreOwnedOnce owned }
     ensures { IsApplied (Unwrap d s) heaps.old heaps.new result (N.telling out.old) (N.telling out.new) }
 {
@@ -281,7 +282,7 @@ fn unwrap<N: Notices>(heaps: &mut Heaps, d: u8, s: u8, out: &mut N) -> Reply
 }
 
 /// Preserves the reflector in a register.
-fn preserve(heaps: &mut Heaps, s: u8) -> Reply
+fn preserve(heaps: &mut Heaps, s: RegNo) -> Reply
     requires order { (owned : List ℕ) × IsInOrder owned heaps.old }
     ensures { (t : Telling) → IsApplied (Preserve s) heaps.old heaps.new result t t }
 {
@@ -298,7 +299,7 @@ fn preserve(heaps: &mut Heaps, s: u8) -> Reply
 /// Gives the key in a register a value in the weak map in another; without one it has no value from then on.
 ///
 /// `NoMemory` changes nothing, and comes only where a value is given to a key that had none.
-fn write_entry(heaps: &mut Heaps, m: u8, k: u8, value: Option<SKey>) -> Result<(), NoMemory>
+fn write_entry(heaps: &mut Heaps, m: RegNo, k: RegNo, value: Option<SKey>) -> Result<(), NoMemory>
     requires order { (owned : List ℕ) × IsInOrder owned heaps.old }
     requires the_map { IsTrue (is_map_in (objects_of heaps.old.heap) (register heaps.old.heap (s_register m))) }
     requires key { is_none (register heaps.old.heap (s_register k)) ≡ false }
@@ -326,7 +327,7 @@ fn write_entry(heaps: &mut Heaps, m: u8, k: u8, value: Option<SKey>) -> Result<(
 }
 
 /// Writes what a source gives as the value of the key in a register in the weak map in another.
-fn set_entry(heaps: &mut Heaps, m: u8, k: u8, from: Option<u8>) -> Reply
+fn set_entry(heaps: &mut Heaps, m: RegNo, k: RegNo, from: Option<RegNo>) -> Reply
     requires order { (owned : List ℕ) × IsInOrder owned heaps.old }
     ensures { (t : Telling) → IsApplied (SetEntry m k from) heaps.old heaps.new result t t }
 {
@@ -341,7 +342,7 @@ fn set_entry(heaps: &mut Heaps, m: u8, k: u8, from: Option<u8>) -> Reply
 }
 
 /// Reads the value of the key in a register in the weak map in another into a script register.
-fn get_entry(heaps: &mut Heaps, d: u8, m: u8, k: u8) -> Reply
+fn get_entry(heaps: &mut Heaps, d: RegNo, m: RegNo, k: RegNo) -> Reply
     requires order { (owned : List ℕ) × IsInOrder owned heaps.old }
     ensures { (t : Telling) → IsApplied (GetEntry d m k) heaps.old heaps.new result t t }
 {
@@ -368,7 +369,7 @@ fn touch(heaps: &mut Heaps, content: Option<SKey>)
 }
 
 /// Script touches the object in slot `i` of the native in a register.
-fn expose(heaps: &mut Heaps, s: u8, i: u32) -> Reply
+fn expose(heaps: &mut Heaps, s: RegNo, i: u32) -> Reply
     requires order { (owned : List ℕ) × IsInOrder owned heaps.old }
     ensures { (t : Telling) → IsApplied (Expose s i) heaps.old heaps.new result t t }
 {

@@ -13,7 +13,7 @@ use crate::reads::{is_empty, native_content, slots};
 use cc_counted::Held;
 use cc_heaps::Heaps;
 use cc_model::Refusal;
-use cc_names::{Kind, Reg};
+use cc_names::{Kind, Reg, RegNo};
 
 /// Whether a source is a register that is empty.
 fn is_source_empty(heaps: &Heaps, from: Option<Reg>) -> bool
@@ -27,7 +27,7 @@ fn is_source_empty(heaps: &Heaps, from: Option<Reg>) -> bool
 }
 
 /// Whether a source is a script register that is empty.
-fn is_script_source_empty(heaps: &Heaps, from: Option<u8>) -> bool
+fn is_script_source_empty(heaps: &Heaps, from: Option<RegNo>) -> bool
     requires { (owned : List ℕ) × IsInOrder owned heaps.now }
     ensures { result ≡ list_any (λ r. is_none (register heaps.now.heap r)) (map s_register (option_to_list from)) }
 {
@@ -60,7 +60,7 @@ fn is_script(content: Option<Held>) -> bool
 }
 
 /// Whether slot `i` of the native in a register holds a native.
-fn holds_native(heaps: &Heaps, s: u8, i: u32) -> bool
+fn holds_native(heaps: &Heaps, s: RegNo, i: u32) -> bool
     requires order { (owned : List ℕ) × IsInOrder owned heaps.now }
     requires slot { i < length (slots_at (objects_of heaps.now.heap) (n_register s)) }
     ensures { result ≡ is_native_there (slot_at (objects_of heaps.now.heap) (n_register s) i) }
@@ -69,7 +69,7 @@ fn holds_native(heaps: &Heaps, s: u8, i: u32) -> bool
 }
 
 /// Whether slot `i` of the native in a register holds a script object.
-fn holds_script(heaps: &Heaps, s: u8, i: u32) -> bool
+fn holds_script(heaps: &Heaps, s: RegNo, i: u32) -> bool
     requires order { (owned : List ℕ) × IsInOrder owned heaps.now }
     requires slot { i < length (slots_at (objects_of heaps.now.heap) (n_register s)) }
     ensures { result ≡ is_script_there (slot_at (objects_of heaps.now.heap) (n_register s) i) }
@@ -92,7 +92,7 @@ fn refusal_of_slot(heaps: &Heaps, r: Reg, i: u32) -> Option<Refusal>
 }
 
 /// Whether a script register holds a weak map.
-fn holds_map(heaps: &Heaps, r: u8) -> bool
+fn holds_map(heaps: &Heaps, r: RegNo) -> bool
     requires { (owned : List ℕ) × IsInOrder owned heaps.now }
     ensures { result ≡ is_map_in (objects_of heaps.now.heap) (register heaps.now.heap (s_register r)) }
 {
@@ -103,7 +103,7 @@ fn holds_map(heaps: &Heaps, r: u8) -> bool
 }
 
 /// Why slot `i` of the script object in a register is neither read nor written: a weak map has no slots.
-fn refusal_of_script_slot(heaps: &Heaps, r: u8, i: u32) -> Option<Refusal>
+fn refusal_of_script_slot(heaps: &Heaps, r: RegNo, i: u32) -> Option<Refusal>
     requires { (owned : List ℕ) × IsInOrder owned heaps.now }
     ensures { result ≡ first_refusal ((is_none (register heaps.now.heap (s_register r)), empty)
         ∷ (is_map_in (objects_of heaps.now.heap) (register heaps.now.heap (s_register r)), wrong_kind)
@@ -117,7 +117,7 @@ fn refusal_of_script_slot(heaps: &Heaps, r: u8, i: u32) -> Option<Refusal>
 }
 
 /// Why an entry is neither set nor read, whatever its value is: a register is empty, or the first holds no weak map.
-fn refusal_of_entry(heaps: &Heaps, m: u8, k: u8) -> Option<Refusal>
+fn refusal_of_entry(heaps: &Heaps, m: RegNo, k: RegNo) -> Option<Refusal>
     requires { (owned : List ℕ) × IsInOrder owned heaps.now }
     ensures { result ≡ first_refusal ((is_none (register heaps.now.heap (s_register m)) || is_none (register heaps.now.heap (s_register k)), empty)
         ∷ (not (is_map_in (objects_of heaps.now.heap) (register heaps.now.heap (s_register m))), wrong_kind) ∷ []) }
@@ -132,7 +132,7 @@ fn refusal_of_entry(heaps: &Heaps, m: u8, k: u8) -> Option<Refusal>
 }
 
 /// Why `set` is refused.
-pub(crate) fn refusal_of_set(heaps: &Heaps, d: u8, i: u32, from: Option<Reg>) -> Option<Refusal>
+pub(crate) fn refusal_of_set(heaps: &Heaps, d: RegNo, i: u32, from: Option<Reg>) -> Option<Refusal>
     requires { (owned : List ℕ) × IsInOrder owned heaps.now }
     ensures { result ≡ refusal_of (objects_of heaps.now.heap) (Set d i from) }
 {
@@ -143,7 +143,7 @@ pub(crate) fn refusal_of_set(heaps: &Heaps, d: u8, i: u32, from: Option<Reg>) ->
 }
 
 /// Why `get` into a native register is refused.
-pub(crate) fn refusal_of_get_native(heaps: &Heaps, d: u8, s: u8, i: u32) -> Option<Refusal>
+pub(crate) fn refusal_of_get_native(heaps: &Heaps, d: RegNo, s: RegNo, i: u32) -> Option<Refusal>
     requires { (owned : List ℕ) × IsInOrder owned heaps.now }
     ensures { result ≡ refusal_of (objects_of heaps.now.heap) (Get (n_register d) s i) }
 {
@@ -157,7 +157,7 @@ pub(crate) fn refusal_of_get_native(heaps: &Heaps, d: u8, s: u8, i: u32) -> Opti
 }
 
 /// Why `get` into a script register is refused: for the same causes as `expose`.
-pub(crate) fn refusal_of_get_script(heaps: &Heaps, d: u8, s: u8, i: u32) -> Option<Refusal>
+pub(crate) fn refusal_of_get_script(heaps: &Heaps, d: RegNo, s: RegNo, i: u32) -> Option<Refusal>
     requires { (owned : List ℕ) × IsInOrder owned heaps.now }
     ensures { result ≡ refusal_of (objects_of heaps.now.heap) (Get (s_register d) s i) }
 {
@@ -165,7 +165,7 @@ pub(crate) fn refusal_of_get_script(heaps: &Heaps, d: u8, s: u8, i: u32) -> Opti
 }
 
 /// Why `expose` is refused.
-pub(crate) fn refusal_of_expose(heaps: &Heaps, s: u8, i: u32) -> Option<Refusal>
+pub(crate) fn refusal_of_expose(heaps: &Heaps, s: RegNo, i: u32) -> Option<Refusal>
     requires { (owned : List ℕ) × IsInOrder owned heaps.now }
     ensures { result ≡ refusal_of (objects_of heaps.now.heap) (Expose s i) }
 {
@@ -179,7 +179,7 @@ pub(crate) fn refusal_of_expose(heaps: &Heaps, s: u8, i: u32) -> Option<Refusal>
 }
 
 /// Why `put` is refused.
-pub(crate) fn refusal_of_put(heaps: &Heaps, d: u8, i: u32, from: Option<u8>) -> Option<Refusal>
+pub(crate) fn refusal_of_put(heaps: &Heaps, d: RegNo, i: u32, from: Option<RegNo>) -> Option<Refusal>
     requires { (owned : List ℕ) × IsInOrder owned heaps.now }
     ensures { result ≡ refusal_of (objects_of heaps.now.heap) (Put d i from) }
 {
@@ -190,7 +190,7 @@ pub(crate) fn refusal_of_put(heaps: &Heaps, d: u8, i: u32, from: Option<u8>) -> 
 }
 
 /// Why `take` is refused.
-pub(crate) fn refusal_of_take(heaps: &Heaps, d: u8, s: u8, i: u32) -> Option<Refusal>
+pub(crate) fn refusal_of_take(heaps: &Heaps, d: RegNo, s: RegNo, i: u32) -> Option<Refusal>
     requires { (owned : List ℕ) × IsInOrder owned heaps.now }
     ensures { result ≡ refusal_of (objects_of heaps.now.heap) (Take d s i) }
 {
@@ -198,7 +198,7 @@ pub(crate) fn refusal_of_take(heaps: &Heaps, d: u8, s: u8, i: u32) -> Option<Ref
 }
 
 /// Why `wset` is refused.
-pub(crate) fn refusal_of_set_entry(heaps: &Heaps, m: u8, k: u8, from: Option<u8>) -> Option<Refusal>
+pub(crate) fn refusal_of_set_entry(heaps: &Heaps, m: RegNo, k: RegNo, from: Option<RegNo>) -> Option<Refusal>
     requires { (owned : List ℕ) × IsInOrder owned heaps.now }
     ensures { result ≡ refusal_of (objects_of heaps.now.heap) (SetEntry m k from) }
 {
@@ -209,7 +209,7 @@ pub(crate) fn refusal_of_set_entry(heaps: &Heaps, m: u8, k: u8, from: Option<u8>
 }
 
 /// Why `wget` is refused.
-pub(crate) fn refusal_of_get_entry(heaps: &Heaps, d: u8, m: u8, k: u8) -> Option<Refusal>
+pub(crate) fn refusal_of_get_entry(heaps: &Heaps, d: RegNo, m: RegNo, k: RegNo) -> Option<Refusal>
     requires { (owned : List ℕ) × IsInOrder owned heaps.now }
     ensures { result ≡ refusal_of (objects_of heaps.now.heap) (GetEntry d m k) }
 {

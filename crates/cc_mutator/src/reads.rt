@@ -11,10 +11,10 @@ ghost use Rattle.cc_mutator.specs.Commands.{held_of_script, is_native_held, is_s
 use cc_counted::Held;
 use cc_heaps::Heaps;
 use cc_model::Reply;
-use cc_names::{NKey, Name, Reg, SKey};
+use cc_names::{NKey, Name, Reg, RegNo, SKey, SlotNo};
 
 /// How many slots the native in a register has; 0 where the register is empty.
-fn native_slots(heaps: &Heaps, r: u8) -> u8
+fn native_slots(heaps: &Heaps, r: RegNo) -> SlotNo
     requires { (owned : List ℕ) × IsInOrder owned heaps.now }
     ensures { result ≡ length (slots_at (objects_of heaps.now.heap) (n_register r)) }
 {
@@ -25,7 +25,7 @@ fn native_slots(heaps: &Heaps, r: u8) -> u8
 }
 
 /// How many slots the script object in a register has; 0 where the register is empty.
-fn script_slots(heaps: &Heaps, r: u8) -> u8
+fn script_slots(heaps: &Heaps, r: RegNo) -> SlotNo
     requires { (owned : List ℕ) × IsInOrder owned heaps.now }
     ensures { result ≡ length (slots_at (objects_of heaps.now.heap) (s_register r)) }
 {
@@ -36,7 +36,7 @@ fn script_slots(heaps: &Heaps, r: u8) -> u8
 }
 
 /// How many slots the object in a register of either kind has; 0 where the register is empty.
-pub(crate) fn slots(heaps: &Heaps, r: Reg) -> u8
+pub(crate) fn slots(heaps: &Heaps, r: Reg) -> SlotNo
     requires { (owned : List ℕ) × IsInOrder owned heaps.now }
     ensures { result ≡ length (slots_at (objects_of heaps.now.heap) r) }
 {
@@ -47,33 +47,33 @@ pub(crate) fn slots(heaps: &Heaps, r: Reg) -> u8
 }
 
 /// The content of slot `i` of the native in a register.
-pub(crate) fn native_content(heaps: &Heaps, r: u8, i: u32) -> Option<Held>
+pub(crate) fn native_content(heaps: &Heaps, r: RegNo, i: u32) -> Option<Held>
     requires order { (owned : List ℕ) × IsInOrder owned heaps.now }
     requires slot { i < length (slots_at (objects_of heaps.now.heap) (n_register r)) }
     ensures name { held_name heaps.now result ≡ slot_at (objects_of heaps.now.heap) (n_register r) i }
     ensures there { IsThere heaps.now result }
 {
     match heaps.native_reg(r) {
-        Some(key) => heaps.counted().slot(key, i as u8),
+        Some(key) => heaps.counted().slot(key, i as SlotNo),
         None => unreachable!(),
     }
 }
 
 /// The content of slot `i` of the script object in a register.
-pub(crate) fn script_content(heaps: &Heaps, r: u8, i: u32) -> Option<SKey>
+pub(crate) fn script_content(heaps: &Heaps, r: RegNo, i: u32) -> Option<SKey>
     requires order { (owned : List ℕ) × IsInOrder owned heaps.now }
     requires slot { i < length (slots_at (objects_of heaps.now.heap) (s_register r)) }
     ensures name { script_name heaps.now result ≡ slot_at (objects_of heaps.now.heap) (s_register r) i }
     ensures there { IsScriptThere heaps.now result }
 {
     match heaps.script_reg(r) {
-        Some(key) => heaps.scripts().slot(key, i as u8),
+        Some(key) => heaps.scripts().slot(key, i as SlotNo),
         None => unreachable!(),
     }
 }
 
 /// The value that the key in a register has in the weak map in another. None exactly where it has none.
-pub(crate) fn entry_value(heaps: &Heaps, m: u8, k: u8) -> Option<SKey>
+pub(crate) fn entry_value(heaps: &Heaps, m: RegNo, k: RegNo) -> Option<SKey>
     requires { (owned : List ℕ) × IsInOrder owned heaps.now }
     ensures name { script_name heaps.now result ≡ value_at (objects_of heaps.now.heap) (register heaps.now.heap (s_register m)) (register heaps.now.heap (s_register k)) }
     ensures there { IsScriptThere heaps.now result }
@@ -140,7 +140,7 @@ pub(crate) fn source_content(heaps: &Heaps, from: Option<Reg>) -> Option<Held>
 }
 
 /// What a source gives to a slot of a script object.
-pub(crate) fn script_source(heaps: &Heaps, from: Option<u8>) -> Option<SKey>
+pub(crate) fn script_source(heaps: &Heaps, from: Option<RegNo>) -> Option<SKey>
     ensures name { script_name heaps.now result ≡ source heaps.now.heap (option_map s_register from) }
     ensures there { IsScriptThere heaps.now result }
 {

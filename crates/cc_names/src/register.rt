@@ -1,10 +1,12 @@
 //! The registers.
 
+use crate::sizes::RegNo;
+
 /// A register: `n0` to `n255` hold natives, `s0` to `s255` hold script objects. The registers are the roots.
 #[derive(Clone, Copy, Debug, PartialEq, Eq, Drop)]
 pub enum Reg {
     /// A native register.
-    N(u8),
+    N(RegNo),
     /// A script register.
-    S(u8),
+    S(RegNo),
 }

@@ -1,11 +1,12 @@
 //! The tokens of a line, and the numbers and registers that they name.
 
 ghost use Rattle.std.specs.Prelude.{◌≡◌, ◌≢◌, ◌<◌, ◌≤◌, [], ◌∷◌, length, slice_index, false, IsTrue, IfNone, IfSome};
+ghost use Rattle.cc_names.specs.Sizes.{most_slots};
 ghost use Rattle.cc_model.specs.Tokens.{digits_from, native_register, number_within, register_with, script_register, slots_number, tokens_of, units_number};
 ghost use Rattle.cc_model.specs.Ranges.{is_reg};
 ghost use Rattle.cc_reader.specs.Words.{register_of};
 
-use cc_names::Reg;
+use cc_names::{BANK_LENGTH, MOST_SLOTS, Reg, RegNo, SlotNo};
 
 /// A line from its first byte on that is no space.
 fn without_spaces(line: &[u8]) -> &[u8]
@@ -78,13 +79,13 @@ pub(crate) fn number(token: &[u8], most: u32) -> Option<u32>
     digits(token, most)
 }
 
-/// The number of slots that a token spells, at most 64.
-pub(crate) fn slots_number(token: &[u8]) -> Option<u8>
+/// The number of slots that a token spells, where there are so many at most.
+pub(crate) fn slots_number(token: &[u8]) -> Option<SlotNo>
     ensures value { result ≡ slots_number token.now }
-    ensures within { IfSome result (λ n. n ≤ 64) }
+    ensures within { IfSome result (λ n. n ≤ most_slots) }
 {
-    let slots = number(token, 64)?;
-    Some(slots as u8)
+    let slots = number(token, MOST_SLOTS as u32)?;
+    Some(slots as SlotNo)
 }
 
 /// The number of units that a token spells, 1 to 1000000.
@@ -98,7 +99,7 @@ pub(crate) fn units_number(token: &[u8]) -> Option<u32>
 }
 
 /// The number of the register that a token names, where registers of its kind begin with this letter.
-fn register_with(letter: u8, token: &[u8]) -> Option<u8>
+fn register_with(letter: u8, token: &[u8]) -> Option<RegNo>
     ensures { result ≡ register_with letter token.now }
 {
     match token {
@@ -106,22 +107,22 @@ fn register_with(letter: u8, token: &[u8]) -> Option<u8>
             if *first != letter {
                 return None;
             }
-            let value = number(digits, 255)?;
-            Some(value as u8)
+            let value = number(digits, BANK_LENGTH as u32 - 1)?;
+            Some(value as RegNo)
         }
         [] => None,
     }
 }
 
 /// The number of the native register that a token names.
-pub(crate) fn native(token: &[u8]) -> Option<u8>
+pub(crate) fn native(token: &[u8]) -> Option<RegNo>
     ensures { result ≡ native_register token.now }
 {
     register_with(b'n', token)
 }
 
 /// The number of the script register that a token names.
-pub(crate) fn script(token: &[u8]) -> Option<u8>
+pub(crate) fn script(token: &[u8]) -> Option<RegNo>
     ensures { result ≡ script_register token.now }
 {
     register_with(b's', token)

@@ -6,6 +6,7 @@ use Rattle.std.proofs.lemmas.List.{get_or-set_same, get_or-set_other, get_or_pas
 use Rattle.std.proofs.lemmas.Simd.{map-map}
 use Rattle.cc_lists.specs.Members.{Among}
 use Rattle.cc_lists.proofs.ListWrites.{map-agree}
+use Rattle.cc_names.specs.Sizes.{most_slots}
 use Rattle.cc_script.specs.Objects.{Object, FitsKind, change_object}
 use Rattle.cc_script.specs.Lists.{Placed, Lists, cell_at, placed_or_nothing, with_key, shown_at, objects_of, with_cell, IsPlaced}
 use Rattle.cc_script.proofs.Keys.{changed_at}
@@ -28,14 +29,14 @@ module _ (l : Lists) (p : IsPlaced l) (key : ℕ) (c d : Placed) (at : cell_at l
       (λ t. let both : Some d ≡ Some b = sym (ap (cell_at after.cells) t.1 ∙ same) ∙ e in inl (t.1, cc))
       (λ t. inr (sym (other k t.1) ∙ e)) (eqb_tells k key)
 
-  pub IsPlaced-changed : length d.slots ≤ 64 → FitsKind d.kind d.native → IsPlaced (with_cell l key (Some d))
+  pub IsPlaced-changed : length d.slots ≤ most_slots → FitsKind d.kind d.native → IsPlaced (with_cell l key (Some d))
   IsPlaced-changed few fits = record {
     in_order = λ k m. ⊎_elim
         (λ t. (d, ap (cell_at after.cells) t.1 ∙ same))
         (λ t. let f = p.in_order k m in (f.0, other k t.1 ∙ f.1)) (eqb_tells k key);
     ordered = λ k b e. ⊎_elim (λ t. p.ordered k c (ap (cell_at l.cells) t.0 ∙ at)) (λ t. p.ordered k b t) (cases k b e);
     once = p.once;
-    small = λ k b e. ⊎_elim (λ t. subst (λ (a : Placed). length a.slots ≤ 64) (sym t.1) few) (λ t. p.small k b t) (cases k b e);
+    small = λ k b e. ⊎_elim (λ t. subst (λ (a : Placed). length a.slots ≤ most_slots) (sym t.1) few) (λ t. p.small k b t) (cases k b e);
     reflected = λ k b e. ⊎_elim (λ t. subst (λ (a : Placed). FitsKind a.kind a.native) (sym t.1) fits) (λ t. p.reflected k b t) (cases k b e);
   }
 

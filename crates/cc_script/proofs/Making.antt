@@ -8,6 +8,7 @@ use Rattle.cc_lists.proofs.Members.{Among-append, Among-left, Among-right}
 use Rattle.cc_lists.proofs.Counting.{count_by-append, count_by-cons}
 use Rattle.cc_lists.proofs.CountsOf.{count_by-none}
 use Rattle.cc_lists.proofs.ListWrites.{map-agree}
+use Rattle.cc_names.specs.Sizes.{most_slots}
 use Rattle.cc_script.specs.Objects.{FitsKind}
 use Rattle.cc_script.specs.Lists.{Placed, Lists, cell_at, placed_or_nothing, with_key, shown_at, objects_of, made, IsPlaced}
 
@@ -47,7 +48,7 @@ module _ (l : Lists) (p : IsPlaced l) (key : ℕ) (d : Placed) (cells : List (Op
       omega (arith, count_by-append (λ k. k == j) l.order (key ∷ []), p.once j))
       (eqb_tells key j)
 
-  pub IsPlaced-made : length d.slots ≤ 64 → FitsKind d.kind d.native → IsPlaced (made l cells key)
+  pub IsPlaced-made : length d.slots ≤ most_slots → FitsKind d.kind d.native → IsPlaced (made l cells key)
   IsPlaced-made few fits = record {
     in_order = λ k m. ⊎_elim
         (λ t. let f = p.in_order k t in (f.0, others k (other k t) ∙ f.1))
@@ -57,7 +58,7 @@ module _ (l : Lists) (p : IsPlaced l) (key : ℕ) (d : Placed) (cells : List (Op
         (λ t. Among-right k l.order (key ∷ []) (inl (sym t.0)))
         (λ t. Among-left k l.order (key ∷ []) (p.ordered k c t)) (cases k c e);
     once = once;
-    small = λ k c e. ⊎_elim (λ t. subst (λ (b : Placed). length b.slots ≤ 64) (sym t.1) few) (λ t. p.small k c t) (cases k c e);
+    small = λ k c e. ⊎_elim (λ t. subst (λ (b : Placed). length b.slots ≤ most_slots) (sym t.1) few) (λ t. p.small k c t) (cases k c e);
     reflected = λ k c e. ⊎_elim (λ t. subst (λ (b : Placed). FitsKind b.kind b.native) (sym t.1) fits) (λ t. p.reflected k c t) (cases k c e);
   }
 

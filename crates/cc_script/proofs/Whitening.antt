@@ -4,6 +4,7 @@ use Rattle.std.proofs.Math.ListN.{get_or-map}
 use Rattle.std.proofs.lemmas.Simd.{map-map}
 use Rattle.cc_lists.proofs.ListWrites.{map-agree}
 use Rattle.cc_names.specs.declared.kind.Colour.TheVariants.{White}
+use Rattle.cc_names.specs.Sizes.{most_slots}
 use Rattle.cc_script.specs.Objects.{FitsKind, with_colour, whitened}
 use Rattle.cc_script.specs.Lists.{Placed, Lists, cell_at, painted, placed_or_nothing, with_key, shown_at, objects_of, IsPlaced}
 
@@ -36,6 +37,6 @@ module _ (l : Lists) (cells : List (Option Placed)) (e : cells ≡ all_white l.c
     in_order = λ key m. let f = p.in_order key m in (painted White f.0, at key ∙ ap (option_map (painted White)) f.1);
     ordered = λ key c f. let w = was key c f in p.ordered key w.0 w.1.0;
     once = p.once;
-    small = λ key c f. let w = was key c f in subst (λ (d : Placed). length d.slots ≤ 64) (sym w.1.1) (p.small key w.0 w.1.0);
+    small = λ key c f. let w = was key c f in subst (λ (d : Placed). length d.slots ≤ most_slots) (sym w.1.1) (p.small key w.0 w.1.0);
     reflected = λ key c f. let w = was key c f in subst (λ (d : Placed). FitsKind d.kind d.native) (sym w.1.1) (p.reflected key w.0 w.1.0);
   }

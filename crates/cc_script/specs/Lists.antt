@@ -7,6 +7,7 @@ use Rattle.cc_names.specs.declared.kind.Kind.TheVariants.{Plain}
 use Rattle.cc_names.specs.declared.kind.Colour.{Colour}
 use Rattle.cc_names.specs.declared.kind.Colour.TheVariants.{White}
 use Rattle.cc_names.specs.Names.{object}
+use Rattle.cc_names.specs.Sizes.{most_slots}
 use Rattle.cc_script.specs.Objects.{Object, FitsKind}
 
 -- an object as it stands at its key: what its slots hold by keys
@@ -57,13 +58,13 @@ shown_at cells key = with_key key (placed_or_nothing (cell_at cells key))
 abbrev pub objects_of : Lists → List Object
 objects_of l = map (shown_at l.cells) l.order
 
--- THE LISTS FIT TOGETHER: the order has the keys of the objects, each once, no object has more than 64 slots, and exactly
+-- THE LISTS FIT TOGETHER: the order has the keys of the objects, each once, no object has more slots than are allowed, and exactly
 -- reflectors have a native
 pub record IsPlaced (l : Lists) : Type 0 where
   pub in_order : (key : ℕ) → Among key l.order → (c : Placed) × (cell_at l.cells key ≡ Some c)
   pub ordered : (key : ℕ) (c : Placed) → cell_at l.cells key ≡ Some c → Among key l.order
   pub once : (key : ℕ) → count_by (λ k. k == key) l.order ≤ 1
-  pub small : (key : ℕ) (c : Placed) → cell_at l.cells key ≡ Some c → length c.slots ≤ 64
+  pub small : (key : ℕ) (c : Placed) → cell_at l.cells key ≡ Some c → length c.slots ≤ most_slots
   pub reflected : (key : ℕ) (c : Placed) → cell_at l.cells key ≡ Some c → FitsKind c.kind c.native
 
 -- the keys but for one

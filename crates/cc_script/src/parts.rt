@@ -3,6 +3,7 @@ ghost use Rattle.std.specs.Prelude.{◌≡◌, ◌↔◌, ℕ, ◌<◌, ◌≤�
 ghost use Rattle.cc_lists.specs.Members.{Among};
 ghost use Rattle.cc_names.specs.declared.kind.Colour.{Colour};
 ghost use Rattle.cc_names.specs.declared.kind.Colour.TheVariants.{White};
+ghost use Rattle.cc_names.specs.Sizes.{most_slots};
 ghost use Rattle.cc_script.specs.Beings.{kind_of, name_of, native_key_of};
 ghost use Rattle.cc_script.specs.Objects.{Object, AreWhole, IsNotBelow, change_object, colour_at, first_key, is_there, key_after, new_object, raised_among, slots_at, whitened, with_slot, without_object};
 ghost use Rattle.cc_lists.specs.Walks.{first_of};
@@ -17,7 +18,7 @@ use crate::cell::{Body, Cell, is_below};
 use crate::cells::Cells;
 use crate::links::{Order, Waiting};
 use cc_chain::{Chain, Neighbours};
-use cc_names::{Colour, NoMemory, SKey};
+use cc_names::{Colour, NoMemory, SKey, SlotNo};
 use std::alloc::Global;
 
 /// The objects by key, their list in order of making, and the list of those that a walk raised and has not looked into.
@@ -51,10 +52,10 @@ impl ScriptParts {
         &mut self,
         alloc: Global,
         being: Being,
-        slots: u8,
+        slots: SlotNo,
     ) -> Result<SKey, NoMemory>
         requires at_rest { IsAtRest self.old }
-        requires slots { slots ≤ 64 }
+        requires slots { slots ≤ most_slots }
         ensures made { IfOk result (λ key. shows self.new ≡ shows self.old ++ new_object key.0 (name_of being) (kind_of being) (native_key_of being) slots ∷ []) }
         ensures vacant { IfOk result (λ key. is_there (shows self.old) key.0 ≡ false) }
         ensures err { OnErr result (shows self.new ≡ shows self.old) }
@@ -131,7 +132,7 @@ impl ScriptParts {
     }
 
     /// Writes slot `i` of the object at a key.
-    pub(crate) fn set_slot(&mut self, key: SKey, i: u8, item: Option<SKey>)
+    pub(crate) fn set_slot(&mut self, key: SKey, i: SlotNo, item: Option<SKey>)
         requires at_rest { IsAtRest self.old }
         requires live { IsTrue (is_there (shows self.old) key.0) }
         requires within { i < length (slots_at (shows self.old) key.0) }
@@ -239,7 +240,7 @@ impl ScriptParts {
 }
 
 /// The slots of a new object: so many, nothing in them, and no room for more.
-fn empty_slots(alloc: Global, slots: u8) -> Result<Vec<Option<SKey>>, NoMemory>
+fn empty_slots(alloc: Global, slots: SlotNo) -> Result<Vec<Option<SKey>>, NoMemory>
     ensures items { IfOk result (λ v. v.items ≡ replicate slots None) }
     ensures room { IfOk result (λ v. vec_capacity v ≡ slots) }
 {

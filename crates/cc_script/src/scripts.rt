@@ -3,13 +3,14 @@ ghost use Rattle.std.specs.Prelude.{◌≡◌, ◌↔◌, ◌<◌, ◌≤◌, fa
 ghost use Rattle.cc_lists.specs.Members.{Among};
 ghost use Rattle.cc_names.specs.declared.kind.Colour.TheVariants.{White, Black};
 ghost use Rattle.cc_names.specs.declared.kind.Kind.TheVariants.{Reflector};
+ghost use Rattle.cc_names.specs.Sizes.{most_slots};
 ghost use Rattle.cc_script.specs.Objects.{Object, AreWhole, HaveOwnKeys, change_object, colour_at, first_key, is_there, key_after, kind_at, map_object, name_at, native_at, plain_object, reflector_object, raised_among, slots_at, whitened, with_slot, without_object, IsNotBelow};
 ghost use Rattle.cc_script.specs.Walking.{keys_reached};
 
 use crate::being::Being;
 use crate::marking::Marking;
 use crate::parts::ScriptParts;
-use cc_names::{Colour, Kind, NKey, Name, NativeNo, NoMemory, SKey, ScriptNo};
+use cc_names::{Colour, Kind, NKey, Name, NativeNo, NoMemory, SKey, ScriptNo, SlotNo};
 use std::alloc::Global;
 use std::marker::Model;
 use std::mem;
@@ -48,8 +49,8 @@ impl Scripts {
     /// Makes a plain object with `slots` empty slots (0 to 64) and the number `no`. It is black, and goes last.
     ///
     /// `NoMemory` changes nothing. Beside the three calls that make an object none takes memory.
-    pub fn create_plain(&mut self, no: ScriptNo, slots: u8) -> Result<SKey, NoMemory>
-        requires slots { slots ≤ 64 }
+    pub fn create_plain(&mut self, no: ScriptNo, slots: SlotNo) -> Result<SKey, NoMemory>
+        requires slots { slots ≤ most_slots }
         ensures made { IfOk result (λ key. self.new ≡ self.old ++ plain_object key.0 no.0 slots ∷ []) }
         ensures vacant { IfOk result (λ key. is_there self.old key.0 ≡ false) }
         ensures err { OnErr result (self.new ≡ self.old) }
@@ -123,15 +124,15 @@ impl Scripts {
     }
 
     /// How many slots an object has: 0 to 64.
-    pub fn slots(&self, key: SKey) -> u8
+    pub fn slots(&self, key: SKey) -> SlotNo
         requires live { IsTrue (is_there self.now key.0) }
         ensures { result ≡ length (slots_at self.now key.0) }
     {
-        self.parts.body(key).slots.len() as u8
+        self.parts.body(key).slots.len() as SlotNo
     }
 
     /// What slot `i` of an object holds, counted from 0.
-    pub fn slot(&self, key: SKey, i: u8) -> Option<SKey>
+    pub fn slot(&self, key: SKey, i: SlotNo) -> Option<SKey>
         requires live { IsTrue (is_there self.now key.0) }
         requires within { i < length (slots_at self.now key.0) }
         ensures { option_map (λ k. k.0) result ≡ slice_index_or (slots_at self.now key.0) i None }
@@ -140,7 +141,7 @@ impl Scripts {
     }
 
     /// Puts `item`, or nothing, into slot `i` of an object, counted from 0. Its colour isn't lower than the object's.
-    pub fn set_slot(&mut self, key: SKey, i: u8, item: Option<SKey>)
+    pub fn set_slot(&mut self, key: SKey, i: SlotNo, item: Option<SKey>)
         requires live { IsTrue (is_there self.old key.0) }
         requires within { i < length (slots_at self.old key.0) }
         requires item_live { IfSome item (λ k. IsTrue (is_there self.old k.0)) }

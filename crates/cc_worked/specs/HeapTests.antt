@@ -9,6 +9,7 @@ use Rattle.cc_names.specs.declared.kind.Kind.TheVariants.{Plain, Reflector, Map}
 use Rattle.cc_names.specs.declared.kind.Colour.{Colour}
 use Rattle.cc_names.specs.declared.kind.Colour.TheVariants.{White, Gray, Black}
 use Rattle.cc_names.specs.Names.{native, reflector, same_name, is_native}
+use Rattle.cc_names.specs.Sizes.{bank_length, most_slots}
 use Rattle.cc_model.specs.Slots.{Slots, contents, reflector_slots}
 use Rattle.cc_model.specs.Entries.{Entry, is_entry_of}
 use Rattle.cc_model.specs.Heap.{Heap, HeapNative, HeapScript, Buffered}
@@ -24,7 +25,7 @@ all_among xs ys = list_all (has same_name ys) xs
 -- Well formed: a test for each fact
 
 abbrev pub registers_hold : Slots → List Name → Bool
-registers_hold slots names = length slots == 256 && all_among (contents slots) names
+registers_hold slots names = length slots == bank_length && all_among (contents slots) names
 
 abbrev pub is_rising : List ℕ → Bool
 is_rising [] = true
@@ -38,12 +39,12 @@ is_made made k = nat_le 1 k && nat_le k made
 abbrev pub native_fits : Heap → HeapNative → Bool
 native_fits h n =
     is_made h.natives_made n.number
-    && (nat_le (length n.slots) 64
+    && (nat_le (length n.slots) most_slots
     && (all_among (contents n.slots) (names_there h)
     && (not n.preserved || has same_name (script_names h) (reflector n.number))))
 
 abbrev pub fits_name : Name → Kind → Slots → Bool
-fits_name (name.Script k) Plain slots = nat_le (length slots) 64
+fits_name (name.Script k) Plain slots = nat_le (length slots) most_slots
 fits_name (name.Script k) Map slots = length slots == 0
 fits_name (name.Reflector k) Reflector slots = length slots == reflector_slots
 fits_name _ kind slots = false

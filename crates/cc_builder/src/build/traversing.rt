@@ -15,7 +15,7 @@ ghost use Rattle.cc_builder.specs.BuildSteps.{contents_at, noting, noting_one, s
 use crate::build::{Build, Step};
 use cc_counted::Held;
 use cc_heaps::Heaps;
-use cc_names::{Colour, NoMemory};
+use cc_names::{Colour, NoMemory, SlotNo};
 
 impl Build {
     /// One node: the first that is not traversed. The count of a native is sampled, and its references are noted: to
@@ -162,7 +162,7 @@ impl Build {
     /// nothing where the place is empty or has a black script object.
     ///
     /// `NoMemory` leaves the build as it was.
-    fn note_place(&mut self, node: u32, object: Held, i: u8, heaps: &Heaps) -> Result<(), NoMemory>
+    fn note_place(&mut self, node: u32, object: Held, i: SlotNo, heaps: &Heaps) -> Result<(), NoMemory>
         requires built { IsBuilt self.old heaps.now }
         requires held { AreHeld self.old.graph (HasKey heaps.now) }
         requires order { IsInOrder [] heaps.now }
@@ -233,7 +233,7 @@ fn is_noted(heaps: &Heaps, object: Held) -> bool
 }
 
 /// What an object refers to at place `i`, where the reference is noted.
-fn noted_at(heaps: &Heaps, object: Held, i: u8) -> Option<Held>
+fn noted_at(heaps: &Heaps, object: Held, i: SlotNo) -> Option<Held>
     requires order { IsInOrder [] heaps.now }
     requires there { IsThere heaps.now (Some object) }
     requires place { i < length (places_at heaps.now object) }
@@ -261,7 +261,7 @@ fn references_of(heaps: &Heaps, object: Held) -> usize
 }
 
 /// How many references of a place are noted: 1 or none.
-fn references_at(heaps: &Heaps, object: Held, i: u8) -> usize
+fn references_at(heaps: &Heaps, object: Held, i: SlotNo) -> usize
     requires order { IsInOrder [] heaps.now }
     requires there { IsThere heaps.now (Some object) }
     requires place { i < length (places_at heaps.now object) }

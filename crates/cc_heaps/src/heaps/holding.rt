@@ -21,7 +21,7 @@ ghost use Rattle.cc_heaps.specs.Leaving.{TellsWhatIsFreed};
 use crate::heaps::Heaps;
 use cc_counted::{Held, native_held};
 use cc_model::Notices;
-use cc_names::NKey;
+use cc_names::{NKey, RegNo, SlotNo};
 
 impl Heaps {
     // One more reference to a native, which the caller owns; it owns one at most so far.
@@ -62,7 +62,7 @@ impl Heaps {
     }
 
     // A register written, whose new reference was taken before; what it held.
-    fn replace_register(&mut self, r: u8, content: Option<NKey>) -> Option<NKey>
+    fn replace_register(&mut self, r: RegNo, content: Option<NKey>) -> Option<NKey>
         requires order { (owned : List ℕ) × IsInOrder (numbers_of (native_name self.old content) ++ owned) self.old }
         requires there { IsNativeThere self.old content }
         ensures heap { self.new ≡ changed_to self.old (set_register self.old.heap (n_register r) (native_name self.old content)) }
@@ -76,7 +76,7 @@ impl Heaps {
     }
 
     // A register written, whose new reference was taken before: what it held is given up.
-    pub(super) fn put_in_register<N: Notices>(&mut self, r: u8, content: Option<NKey>, out: &mut N)
+    pub(super) fn put_in_register<N: Notices>(&mut self, r: RegNo, content: Option<NKey>, out: &mut N)
         requires order { (owned : List ℕ) × IsInOrder (numbers_of (native_name self.old content) ++ owned) self.old }
         requires there { IsNativeThere self.old content }
         ensures heap { self.new ≡ left_with self.old (put_in_register self.old.heap r (native_name self.old content)).heap }
@@ -88,7 +88,7 @@ impl Heaps {
     }
 
     // Slot i of a native written, whose new reference was taken before; what it held.
-    fn replace_slot(&mut self, key: NKey, i: u8, content: Option<Held>) -> Option<Held>
+    fn replace_slot(&mut self, key: NKey, i: SlotNo, content: Option<Held>) -> Option<Held>
         requires order { (owned : List ℕ) × IsInOrder (numbers_of (held_name self.old content) ++ owned) self.old }
         requires live { IsSome (number_at self.old key.0) }
         requires within { i < length (slots_now (native_at self.old.heap (the_number self.old key.0))) }
@@ -105,7 +105,7 @@ impl Heaps {
     ///
     /// The new reference is taken first, then the register is written, then what it held is given up with all that it
     /// deletes. Takes no memory.
-    pub fn set_native_reg<N: Notices>(&mut self, r: u8, content: Option<NKey>, out: &mut N)
+    pub fn set_native_reg<N: Notices>(&mut self, r: RegNo, content: Option<NKey>, out: &mut N)
         requires order { (owned : List ℕ) × IsInOrder owned self.old × AreOwnedOnce owned }
         requires there { IsNativeThere self.old content }
         ensures heap { self.new ≡ left_with self.old (hold_native self.old.heap r (native_name self.old content)).heap }
@@ -126,7 +126,7 @@ impl Heaps {
     /// deletes. Takes no memory. A gray script object that came in would have a holder of which a snapshot knows nothing:
     /// snapshots stay fresh where a script object that comes in is black. A native that is not reached could lose its mark
     /// by coming into the slot of another such one: none is forgotten where the native whose slot is written is reached.
-    pub fn store_native<N: Notices>(&mut self, key: NKey, i: u8, content: Option<Held>, out: &mut N)
+    pub fn store_native<N: Notices>(&mut self, key: NKey, i: SlotNo, content: Option<Held>, out: &mut N)
         requires order { (owned : List ℕ) × IsInOrder owned self.old × AreOwnedOnce owned }
         requires live { IsSome (number_at self.old key.0) }
         requires within { i < length (slots_of (counts_of self.old) key.0) }

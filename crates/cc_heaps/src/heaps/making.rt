@@ -1,6 +1,7 @@
 //! Natives made.
 ghost use Rattle.std.specs.Prelude.{◌≡◌, ◌+◌, ◌<◌, ◌≤◌, ℕ, List, ◌∷◌, Some, Err, IfOk, OnOk, OnErr};
 ghost use Rattle.cc_names.specs.Names.{native};
+ghost use Rattle.cc_names.specs.Sizes.{most_slots};
 ghost use Rattle.cc_model.specs.Effects.{make_native, with_native};
 ghost use Rattle.cc_model.specs.Telling.{TellsEvents};
 ghost use Rattle.cc_model.specs.declared.command.Command.TheVariants as command;
@@ -14,13 +15,13 @@ ghost use Rattle.cc_heaps.specs.Leaving.{TellsWhatIsFreed};
 use crate::heaps::Heaps;
 use crate::make_stop::MakeStop;
 use cc_model::Notices;
-use cc_names::{NKey, Name, NativeNo, NoMemory};
+use cc_names::{NKey, Name, NativeNo, NoMemory, RegNo, SlotNo};
 
 impl Heaps {
     // A native with the next number and so many empty slots, in the buffer too; the caller owns the reference to it.
-    fn put(&mut self, slots: u8) -> Result<NKey, NoMemory>
+    fn put(&mut self, slots: SlotNo) -> Result<NKey, NoMemory>
         requires order { (owned : List ℕ) × IsInOrder owned self.old }
-        requires slots { slots ≤ 64 }
+        requires slots { slots ≤ most_slots }
         requires allowed { self.old.heap.natives_made < self.old.heap.limits.natives }
         ensures made { OnOk result (self.new.heap.natives_made ≡ self.old.heap.natives_made + 1) }
         ensures heap { OnOk result (self.new.heap ≡ with_native self.old.heap slots) }
@@ -43,12 +44,12 @@ impl Heaps {
     /// many natives as the limit were ever made; `NoMemory` at any other time. Neither changes anything.
     pub fn new_native<N: Notices>(
         &mut self,
-        r: u8,
-        slots: u8,
+        r: RegNo,
+        slots: SlotNo,
         out: &mut N,
     ) -> Result<Name, MakeStop>
         requires order { (owned : List ℕ) × IsInOrder owned self.old }
-        requires slots { slots ≤ 64 }
+        requires slots { slots ≤ most_slots }
         ensures full { result ≡ Err MakeStop.Full → self.old.heap.limits.natives ≤ self.old.heap.natives_made }
         ensures full_always { self.old.heap.limits.natives ≤ self.old.heap.natives_made → result ≡ Err MakeStop.Full }
         ensures name { IfOk result (λ x. x ≡ native (self.old.heap.natives_made + 1)) }

@@ -7,11 +7,11 @@ ghost use Rattle.cc_heaps.specs.Places.{places_at};
 
 use crate::heaps::Heaps;
 use cc_counted::Held;
-use cc_names::SKey;
+use cc_names::{SKey, SlotNo};
 
 impl Heaps {
     /// How many places an object has in which it may refer to another: its slots and one more, 1 to 65.
-    pub fn places(&self, object: Held) -> u8
+    pub fn places(&self, object: Held) -> SlotNo
         requires order { (owned : List ℕ) × IsInOrder owned self.now }
         requires there { IsThere self.now (Some object) }
         ensures { result ≡ length (places_at self.now object) }
@@ -24,7 +24,7 @@ impl Heaps {
 
     /// What an object refers to at place `i`, counted from 0: what each slot holds, in their order, and behind the last
     /// slot the reflector of a native, where it is preserved, or the native of a reflector.
-    pub fn place(&self, object: Held, i: u8) -> Option<Held>
+    pub fn place(&self, object: Held, i: SlotNo) -> Option<Held>
         requires order { (owned : List ℕ) × IsInOrder owned self.now }
         requires there { IsThere self.now (Some object) }
         requires within { i < length (places_at self.now object) }
@@ -38,7 +38,7 @@ impl Heaps {
     }
 
     // The same of a script object.
-    fn script_place(&self, key: SKey, i: u8) -> Option<Held>
+    fn script_place(&self, key: SKey, i: SlotNo) -> Option<Held>
         requires order { (owned : List ℕ) × IsInOrder owned self.now }
         requires there { IsThere self.now (Some (held.Script key)) }
         requires within { i < length (places_at self.now (held.Script key)) }

@@ -6,7 +6,7 @@ ghost use Rattle.cc_heaps.specs.Roots.{keys_from, keys_held, keys_in, keys_in_re
 
 use cc_counted::{Counted, Held};
 use cc_marking::Roots;
-use cc_names::{NKey, SKey};
+use cc_names::{NKey, SKey, SlotNo};
 use std::marker::Model;
 
 /// The script objects that script registers hold, from a register on. They are seen as their keys.
@@ -70,7 +70,7 @@ impl<'a> Roots for RegisterRoots<'a> {
 pub(crate) struct HeldRoots<'a> {
     counted: &'a Counted,
     native: Option<NKey>,
-    next: u8,
+    next: SlotNo,
 }
 
 impl<'a> Model for HeldRoots<'a> {
@@ -100,7 +100,7 @@ impl<'a> HeldRoots<'a> {
 }
 
 // The first script object among the references of a native from place `next` on, and the place behind it.
-fn reference_from(counted: &Counted, native: NKey, next: u8) -> Option<(SKey, u8)>
+fn reference_from(counted: &Counted, native: NKey, next: SlotNo) -> Option<(SKey, SlotNo)>
     requires live { IsSome (number_at counted.now native.0) }
     requires few_slots { HaveFewSlots counted.now.natives }
     ensures place { IfSome result (λ found. found.1 ≤ length (references_of counted.now native.0)) }
@@ -116,7 +116,7 @@ fn reference_from(counted: &Counted, native: NKey, next: u8) -> Option<(SKey, u8
 }
 
 // The first script object among the references of natives from a place on, and the place behind it.
-fn held_from(counted: &Counted, native: Option<NKey>, next: u8) -> Option<(SKey, NKey, u8)>
+fn held_from(counted: &Counted, native: Option<NKey>, next: SlotNo) -> Option<(SKey, NKey, SlotNo)>
     requires { IsPlace counted.now native next }
     ensures place { IfSome result (λ found. IsPlace counted.now (Some found.1) found.2) }
     ensures left { MatchOption result (keys_from counted.now native next ≡ [])

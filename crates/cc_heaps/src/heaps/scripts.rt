@@ -4,6 +4,7 @@ ghost use Rattle.cc_names.specs.declared.kind.Colour.TheVariants.{Black};
 ghost use Rattle.cc_names.specs.declared.kind.Kind.TheVariants.{Map, Plain};
 ghost use Rattle.cc_names.specs.declared.register.Reg.TheVariants.{S as s_register};
 ghost use Rattle.cc_names.specs.Names.{object};
+ghost use Rattle.cc_names.specs.Sizes.{most_slots};
 ghost use Rattle.cc_model.specs.Heap.{set_register, set_slot};
 ghost use Rattle.cc_model.specs.Effects.{hold_script, make_object, with_object};
 ghost use Rattle.cc_model.specs.Exposure.{exposed};
@@ -18,12 +19,12 @@ ghost use Rattle.cc_heaps.specs.Keeping.{KeepsAll};
 
 use crate::heaps::Heaps;
 use crate::make_stop::MakeStop;
-use cc_names::{Name, NoMemory, SKey, ScriptNo};
+use cc_names::{Name, NoMemory, RegNo, SKey, ScriptNo, SlotNo};
 use cc_script::Scripts;
 
 // Makes a plain object with so many empty slots, or, where no number is given, a weak map; its key.
-fn create(scripts: &mut Scripts, number: ScriptNo, slots: Option<u8>) -> Result<SKey, NoMemory>
-    requires { IfSome slots (λ n. n ≤ 64) }
+fn create(scripts: &mut Scripts, number: ScriptNo, slots: Option<SlotNo>) -> Result<SKey, NoMemory>
+    requires { IfSome slots (λ n. n ≤ most_slots) }
     ensures made { IfOk result (λ key. scripts.new ≡ scripts.old ++ object_to_make key.0 number.0 slots ∷ []) }
     ensures vacant { IfOk result (λ key. is_there scripts.old key.0 ≡ false) }
     ensures err { OnErr result (scripts.new ≡ scripts.old) }
@@ -36,7 +37,7 @@ fn create(scripts: &mut Scripts, number: ScriptNo, slots: Option<u8>) -> Result<
 
 impl Heaps {
     // A script register written. What it holds is exposed before.
-    fn write_script_reg(&mut self, r: u8, content: Option<SKey>)
+    fn write_script_reg(&mut self, r: RegNo, content: Option<SKey>)
         requires order { (owned : List ℕ) × IsInOrder owned self.old }
         requires there { IsScriptThere self.old content }
         ensures heap { self.new.heap ≡ set_register self.old.heap (s_register r) (script_name self.old content) }
@@ -64,9 +65,9 @@ impl Heaps {
     }
 
     // A plain object with the next number and so many empty slots, or a weak map; its key.
-    fn add_object(&mut self, slots: Option<u8>) -> Result<SKey, NoMemory>
+    fn add_object(&mut self, slots: Option<SlotNo>) -> Result<SKey, NoMemory>
         requires order { (owned : List ℕ) × IsInOrder owned self.old }
-        requires slots { IfSome slots (λ n. n ≤ 64) }
+        requires slots { IfSome slots (λ n. n ≤ most_slots) }
         requires room { self.old.heap.scripts_made < self.old.heap.limits.scripts }
         ensures made { OnOk result (self.new.heap.scripts_made ≡ self.old.heap.scripts_made + 1) }
         ensures heap { OnOk result (self.new.heap ≡ with_object self.old.heap (kind_to_make slots) (slots_to_make slots)) }
@@ -83,9 +84,9 @@ impl Heaps {
     }
 
     // A plain object with so many empty slots, or a weak map, made and held by a register. Its name.
-    fn new_object(&mut self, r: u8, slots: Option<u8>) -> Result<Name, MakeStop>
+    fn new_object(&mut self, r: RegNo, slots: Option<SlotNo>) -> Result<Name, MakeStop>
         requires order { (owned : List ℕ) × IsInOrder owned self.old }
-        requires slots { IfSome slots (λ n. n ≤ 64) }
+        requires slots { IfSome slots (λ n. n ≤ most_slots) }
         ensures full { result ≡ Err MakeStop.Full → self.old.heap.limits.scripts ≤ self.old.heap.scripts_made }
         ensures full_always { self.old.heap.limits.scripts ≤ self.old.heap.scripts_made → result ≡ Err MakeStop.Full }
         ensures name { IfOk result (λ x. x ≡ object (self.old.heap.scripts_made + 1)) }
@@ -112,9 +113,9 @@ impl Heaps {
     ///
     /// `Full` exactly where as many plain objects and weak maps as the limit were ever made; `NoMemory` at any other
     /// time. Neither changes anything.
-    pub fn new_plain(&mut self, r: u8, slots: u8) -> Result<Name, MakeStop>
+    pub fn new_plain(&mut self, r: RegNo, slots: SlotNo) -> Result<Name, MakeStop>
         requires order { (owned : List ℕ) × IsInOrder owned self.old }
-        requires slots { slots ≤ 64 }
+        requires slots { slots ≤ most_slots }
         ensures full { result ≡ Err MakeStop.Full → self.old.heap.limits.scripts ≤ self.old.heap.scripts_made }
         ensures full_always { self.old.heap.limits.scripts ≤ self.old.heap.scripts_made → result ≡ Err MakeStop.Full }
         ensures name { IfOk result (λ x. x ≡ object (self.old.heap.scripts_made + 1)) }
@@ -131,7 +132,7 @@ impl Heaps {
     ///
     /// `Full` exactly where as many plain objects and weak maps as the limit were ever made; `NoMemory` at any other
     /// time. Neither changes anything.
-    pub fn new_map(&mut self, r: u8) -> Result<Name, MakeStop>
+    pub fn new_map(&mut self, r: RegNo) -> Result<Name, MakeStop>
         requires order { (owned : List ℕ) × IsInOrder owned self.old }
         ensures full { result ≡ Err MakeStop.Full → self.old.heap.limits.scripts ≤ self.old.heap.scripts_made }
         ensures full_always { self.old.heap.limits.scripts ≤ self.old.heap.scripts_made → result ≡ Err MakeStop.Full }
@@ -147,7 +148,7 @@ impl Heaps {
 
     /// Register `r` holds a script object from then on, or nothing. What comes into it is exposed: it is black, with all
     /// that it reaches over slots. Takes no memory.
-    pub fn set_script_reg(&mut self, r: u8, content: Option<SKey>)
+    pub fn set_script_reg(&mut self, r: RegNo, content: Option<SKey>)
         requires order { (owned : List ℕ) × IsInOrder owned self.old }
         requires there { IsScriptThere self.old content }
         ensures heap { self.new.heap ≡ hold_script self.old.heap r (script_name self.old content) }
@@ -164,7 +165,7 @@ impl Heaps {
     ///
     /// A reflector that is given contents is preserved before (`set_preserved`): one that is not is blank, so that it
     /// can be made again. The heaps stand for the graph with the slot written where that is so.
-    pub fn store_script(&mut self, key: SKey, i: u8, content: Option<SKey>)
+    pub fn store_script(&mut self, key: SKey, i: SlotNo, content: Option<SKey>)
         requires order { (owned : List ℕ) × IsInOrder owned self.old }
         requires live { IsTrue (is_there self.old.scripts key.0) }
         requires within { i < length (slots_at self.old.scripts key.0) }

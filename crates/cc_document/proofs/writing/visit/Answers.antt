@@ -1,5 +1,6 @@
 use Rattle.std.proofs.Common.{rules, ◌<◌, [], ◌∙◌, sym, ap, subst}
 use Rattle.cc_names.specs.declared.register.Reg.TheVariants.{N}
+use Rattle.cc_names.specs.Sizes.{bank_length}
 use Rattle.cc_model.specs.Checks.{slot_at}
 use Rattle.cc_model.specs.Graph.{set_register}
 use Rattle.cc_model.specs.Heap.{objects_of}
@@ -42,6 +43,6 @@ pub returns-clause-made : goal.returns-clause-made
 returns-clause-made g c =
     let v = c.args.heaps.now in
     let order = c.requires.shown.1.runs.order in
-    let within : c.args.into.0 < 256 = search rules in
+    let within : c.args.into.0 < bank_length = search rules in
     hold_native-made v c.set_native_reg.new.self c.args.into.0 (native_name v c.key_at-element.result)
     within (native-in [] v c.key_at-element.result order) order c.set_native_reg.ensures.heap

@@ -1,4 +1,5 @@
 use Rattle.std.proofs.Common.{◌≡◌, ◌≤◌, length, ap, sym, subst, ◌∙◌, arith}
+use Rattle.cc_names.specs.Sizes.{most_slots}
 use Rattle.cc_counted.specs.Counts.{Counts, slots_of}
 use Rattle.cc_counted.specs.Lists.{Placed}
 use Rattle.cc_counted.proofs.Reading.{length-slots_of}
@@ -6,7 +7,7 @@ use Rattle.cc_counted.proofs.counted.Counted.slots.Goals as goal
 
 pub overflow_cast-result : goal.overflow_cast-result
 overflow_cast-result c =
-    let few : length c.at.result.now.slots ≤ 64 = c.self.invariant.placed.small c.args.key.0 c.at.result.now c.at.ensures in
+    let few : length c.at.result.now.slots ≤ most_slots = c.self.invariant.placed.small c.args.key.0 c.at.result.now c.at.ensures in
     omega (arith, c.len.ensures, ap (λ (p : Placed). length p.slots) c.behind-self.view_is)
 
 pub returns : goal.returns

@@ -1,6 +1,7 @@
 use Rattle.cc_counted.specs.Owning.{AreOwned}
 use Rattle.std.proofs.Common.{◌≡◌, ◌≤◌, ℕ, [], ◌∷◌, length, Option, Some, is_some, ap, arith, sym, subst, ◌∙◌}
 use Rattle.cc_names.specs.Names.{native}
+use Rattle.cc_names.specs.Sizes.{most_slots}
 use Rattle.cc_model.specs.declared.item.Event.TheVariants.{Unlinked}
 use Rattle.cc_model.specs.declared.item.Item.TheVariants.{Event as of_event}
 use Rattle.cc_model.specs.Telling.{Tells, TellsEvents}
@@ -17,7 +18,7 @@ use Rattle.cc_counted.proofs.population.Population.unlink.Goals as goal
 
 pub overflow_cast-slots : goal.overflow_cast-slots
 overflow_cast-slots g c =
-    let few : length c.at-cell.result.now.slots ≤ 64 = c.requires.at_rest.placed.small c.args.key.0 c.at-cell.result.now c.at-cell.ensures in
+    let few : length c.at-cell.result.now.slots ≤ most_slots = c.requires.at_rest.placed.small c.args.key.0 c.at-cell.result.now c.at-cell.ensures in
     omega (arith, c.len-slots.ensures, ap (λ (p : Placed). length p.slots) c.cell.view_is)
 
 pub empty_each-requires-clause-owned : goal.empty_each-requires-clause-owned

@@ -1,5 +1,6 @@
 use Rattle.std.proofs.Common.{◌≡◌, ◌<◌, ◌≤◌, None, is_some, true, length, get_or, refl, sym, ◌∙◌, ap, subst}
 use Rattle.std.proofs.Math.ListN.{length-set}
+use Rattle.cc_names.specs.Sizes.{most_slots}
 use Rattle.cc_counted.specs.Lists.{cell_at, slots_placed, with_slot}
 use Rattle.cc_counted.specs.Stored.{Stored}
 use Rattle.cc_counted.proofs.Scripts.{live-then, placed-there, recounted-then, room-then, scripts-written}
@@ -25,7 +26,7 @@ invariant_of-self c =
     let within : c.args.i < length f.0.slots = subst (λ o. c.args.i < length (slots_placed o)) f.1
     (subst (λ (v : Stored). c.args.i < length (slots_placed (cell_at v.lists.cells c.args.key.0))) (sym c.self.view_is) c.requires.within) in
     recounted-then s c.write-old.new.self c.self.inside.holders c.self.invariant c.args.key.0 (with_slot c.args.i c.args.item) c.write-old.ensures.lists f.0 f.1 refl
-    (subst (λ n. n ≤ 64) (sym (length-set f.0.slots c.args.i c.args.item)) (c.self.invariant.few c.args.key.0 f.0 f.1))
+    (subst (λ n. n ≤ most_slots) (sym (length-set f.0.slots c.args.i c.args.item)) (c.self.invariant.few c.args.key.0 f.0 f.1))
     c.holds_script.result c.holds_script-2.result
     (rw (c.holds_script.ensures, c.holds_script-2.ensures) (scripts-written f.0 c.args.i c.args.item c.write-old.result within held))
     c.recount.new.holders c.recount.ensures

@@ -1,5 +1,6 @@
 use Rattle.std.proofs.Common.{rules, ◌<◌, None, refl, inl, sym, subst, arith}
 use Rattle.cc_names.specs.declared.register.Reg.TheVariants.{N}
+use Rattle.cc_names.specs.Sizes.{bank_length}
 use Rattle.cc_model.specs.Graph.{set_register}
 use Rattle.cc_heaps.proofs.FewCounts.{none-owned}
 use Rattle.cc_document.specs.Shown.{Makes, Parts, Shows, parts}
@@ -30,7 +31,7 @@ pub returns-clause-assigned : goal.returns-clause-assigned
 returns-clause-assigned g c = λ k s.
     let t = subst (λ p. Shows p k) (sym c.self.view_is) s in
     let e = c.set_native_reg.ensures in
-    let within : c.args.variable.0 < 256 = search rules in (
+    let within : c.args.variable.0 < bank_length = search rules in (
       set_register k (N c.args.variable.0) None,
       Shows-step c.self.inside.heaps c.set_native_reg.new.self c.self.inside.collector (λ h. set_register h (N c.args.variable.0) None)
           (record { kept = e.kept; stands = e.stands tt }) k t (native_register-document k t.document c.args.variable.0 None),
@@ -46,7 +47,7 @@ returns-clause-tells g c =
 pub returns-clause-makes : goal.returns-clause-makes
 returns-clause-makes g c =
     let w = c.set_native_reg.new.self in
-    let within : c.args.variable.0 < 256 = search rules in
+    let within : c.args.variable.0 < bank_length = search rules in
     subst (λ (p : Parts). Makes 0 0 p (parts w c.self.inside.collector)) c.self.view_is
     (record {
       running = refl;

@@ -1,6 +1,7 @@
 use Rattle.std.proofs.Common.{[], rules, ◌≡◌, ℕ, ◌<◌, ◌≤◌, ◌+◌, length, Some, refl, sym, ◌∙◌, ap, subst, ⊎_elim, arith}
 use Rattle.std.proofs.lemmas.Bool.{cases_lt}
 use Rattle.cc_names.specs.Names.{native}
+use Rattle.cc_names.specs.Sizes.{bank_length}
 use Rattle.cc_model.specs.Graph as graph
 use Rattle.cc_laws_heap.proofs.Face.{objects-stand}
 use Rattle.cc_document.specs.Words.{element}
@@ -36,7 +37,7 @@ returns-clause-made g c = λ k s.
     let r = c.args.into.0 in
     let t = subst (λ p. Shows p k) (sym c.self.view_is) s in
     let e = c.in_ok-number.ensures in
-    let within : r < 256 = search rules in
+    let within : r < bank_length = search rules in
     let a = objects-stand v.heap k t.stands in
     let room : ¬ ((graph.objects_of k).limits.natives ≤ (graph.objects_of k).natives_made) = λ h.
     let full = c.new_native.ensures.full_always (rw (a.limits, a.natives_made) h) in
@@ -70,7 +71,7 @@ pub returns-clause-makes : goal.returns-clause-makes
 returns-clause-makes g c =
     let h = c.self.inside.heaps.heap in
     let k = c.new_native.new.self.heap in
-    let within : c.args.into.0 < 256 = search rules in
+    let within : c.args.into.0 < bank_length = search rules in
     let full = c.new_native.ensures.full_always in
     let made = c.in_ok-number.was in
     let room : h.natives_made < h.limits.natives = below h.limits.natives h.natives_made (λ few. let stop = full few in cc) in

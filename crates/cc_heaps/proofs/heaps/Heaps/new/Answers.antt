@@ -6,6 +6,7 @@ use Rattle.cc_names.specs.declared.name.Name.{Name}
 use Rattle.cc_names.specs.declared.number.NKey.{NKey}
 use Rattle.cc_names.specs.declared.number.SKey.{SKey}
 use Rattle.cc_names.specs.Names.{same_name, is_native}
+use Rattle.cc_names.specs.Sizes.{bank_length}
 use Rattle.cc_model.specs.Heap.{Heap, empty_heap}
 use Rattle.cc_laws_heap.specs.Sound.{IsSound}
 use Rattle.cc_counted.specs.Counts.{Counts, no_counts}
@@ -44,7 +45,7 @@ empty-order l few = record {
 }
 
 module _ (natives : Vec (Option NKey)) (scripts : Vec (Option SKey)) (limits : Allowance) {counted : Counts} {objects : List Object} {weak : List KeyedEntry}
-    (no_natives : natives.items ≡ replicate 256 None) (no_scripts : scripts.items ≡ replicate 256 None) (none_counted : counted ≡ no_counts) (none_made : objects ≡ []) (none_set : weak ≡ []) where
+    (no_natives : natives.items ≡ replicate bank_length None) (no_scripts : scripts.items ≡ replicate bank_length None) (none_counted : counted ≡ no_counts) (none_made : objects ≡ []) (none_set : weak ≡ []) where
   abbrev p : Inside
   p = record { native_registers = natives; script_registers = scripts; counted = counted; scripts = objects; weak = weak; natives_made = 0; scripts_made = 0; limits = limits }
 
@@ -68,8 +69,8 @@ module _ (natives : Vec (Option NKey)) (scripts : Vec (Option SKey)) (limits : A
       })
       ∙ (λ i. record {
         heap = record (empty_heap limits) {
-          native_registers = none-mapped 256 natives.items no_natives (named []) refl i;
-          script_registers = none-mapped 256 scripts.items no_scripts (script_named []) refl i;
+          native_registers = none-mapped bank_length natives.items no_natives (named []) refl i;
+          script_registers = none-mapped bank_length scripts.items no_scripts (script_named []) refl i;
         };
         keys = [];
         scripts = [];
@@ -78,9 +79,9 @@ module _ (natives : Vec (Option NKey)) (scripts : Vec (Option SKey)) (limits : A
 
   empty-linked : IsLinked p
   empty-linked = record {
-    native_registers = none-each 256 natives.items no_natives (IsLive counted.keys) tt;
-    script_registers = none-each 256 scripts.items no_scripts (IsScriptLive objects) tt;
-    registers = (none-length 256 natives.items no_natives, none-length 256 scripts.items no_scripts);
+    native_registers = none-each bank_length natives.items no_natives (IsLive counted.keys) tt;
+    script_registers = none-each bank_length scripts.items no_scripts (IsScriptLive objects) tt;
+    registers = (none-length bank_length natives.items no_natives, none-length bank_length scripts.items no_scripts);
     held = subst (λ (c : Counts). AreHeldThere objects c.natives) (sym none_counted) (λ n x m. absurd m);
     one_key = subst (λ os. (key : ℕ) → count_by (λ (o : Object). o.key == key) os ≤ 1) (sym none_made) (λ key. omega arith);
     one_name = subst (λ os. (x : Name) → count_by (λ (o : Object). same_name o.name x) os ≤ 1) (sym none_made) (λ x. omega arith);

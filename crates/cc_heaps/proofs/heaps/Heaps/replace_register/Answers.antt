@@ -5,6 +5,7 @@ use Rattle.std.proofs.lemmas.List.{map-set}
 use Rattle.cc_lists.proofs.ListWrites.{Among-set_cases}
 use Rattle.cc_names.specs.declared.number.NKey.{NKey}
 use Rattle.cc_names.specs.declared.register.Reg.TheVariants.{N}
+use Rattle.cc_names.specs.Sizes.{bank_length}
 use Rattle.cc_model.specs.Heap.{register, set_register}
 use Rattle.cc_laws_heap.specs.Sound.{numbers_of}
 use Rattle.cc_heaps.specs.declared.heaps.Heaps.TheInside.{Inside}
@@ -44,7 +45,7 @@ module _ (p : Inside) (r : ℕ) (x : Option NKey) where
     script_names = l.script_names;
   }
 
-  written-fit : (owned : List ℕ) → r < 256 → IsNativeThere v x → (was : Option NKey) → native_name v was ≡ register v.heap (N r) →
+  written-fit : (owned : List ℕ) → r < bank_length → IsNativeThere v x → (was : Option NKey) → native_name v was ≡ register v.heap (N r) →
       IsFit (numbers_of (native_name v x) ++ owned) p → IsFit (numbers_of (native_name (keyed_of (written p r x)) was) ++ owned) (written p r x)
   written-fit owned within there was held f = record {
     order = subst (IsInOrder (numbers_of (native_name v was) ++ owned)) (sym written-keyed)

@@ -3,6 +3,7 @@ use Rattle.std.proofs.lemmas.List.{length-replicate}
 use Rattle.cc_names.specs.declared.name.Name.{Name}
 use Rattle.cc_names.specs.declared.kind.Kind.{Kind}
 use Rattle.cc_names.specs.declared.kind.Colour.TheVariants.{Black}
+use Rattle.cc_names.specs.Sizes.{most_slots}
 use Rattle.cc_script.specs.declared.being.Being.{Being}
 use Rattle.cc_script.specs.declared.being.Being.TheVariants as being
 use Rattle.cc_script.specs.Beings.{kind_of, name_of, native_key_of}
@@ -69,7 +70,7 @@ returns-clause-at_rest c =
     let pushed = c.push_back.ensures.keys l.order (order-joined p h _ _ _ j) in
     let being = c.args.being in
     let empty : map held_key c.in_ok-empty.empty.items ≡ replicate c.args.slots None = ap (map held_key) c.in_ok-empty.ensures.items ∙ empty-slots c.args.slots in
-    let few : length (map held_key c.in_ok-empty.empty.items) ≤ 64 = omega (arith, ap length empty, length-replicate c.args.slots nothing, c.requires.slots) in
+    let few : length (map held_key c.in_ok-empty.empty.items) ≤ most_slots = omega (arith, ap length empty, length-replicate c.args.slots nothing, c.requires.slots) in
     let a = lists-joined p h _ _ _ j c.push_back.new.store c.push_back.new.self _ pushed c.push_back.ensures.rest in
     record {
       placed = subst IsPlaced (sym a.lists)

@@ -1,5 +1,6 @@
 use Rattle.std.proofs.Common.{◌≡◌, ◌≤◌, List, length, ap, sym, subst, ◌∙◌, arith}
 use Rattle.std.proofs.lemmas.List.{length-map}
+use Rattle.cc_names.specs.Sizes.{most_slots}
 use Rattle.cc_script.specs.Objects.{Object, slots_at}
 use Rattle.cc_script.specs.Cells.{Content, filled, in_colour}
 use Rattle.cc_script.specs.Parts.{lists_of}
@@ -9,7 +10,7 @@ use Rattle.cc_script.proofs.scripts.Scripts.slots.Goals as goal
 
 pub overflow_cast-result : goal.overflow_cast-result
 overflow_cast-result c =
-    let few : length c.body.result.now.slots ≤ 64 = c.self.invariant.placed.small c.args.key.0 (in_colour c.body.ensures.0 (filled c.body.result.now c.body.ensures.1.0)).placed c.body.ensures.1.1 in
+    let few : length c.body.result.now.slots ≤ most_slots = c.self.invariant.placed.small c.args.key.0 (in_colour c.body.ensures.0 (filled c.body.result.now c.body.ensures.1.0)).placed c.body.ensures.1.1 in
     omega (
       arith,
       c.len.ensures,

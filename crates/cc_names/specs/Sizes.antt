@@ -1,0 +1,16 @@
+-- The sizes of the language by their names in specifications. The figures stand in the code alone.
+use Rattle.std.specs.Prelude.{ℕ, ◌+◌, ◌*◌}
+use Rattle.cc_names.specs.declared.sizes.TheConstants.{BANK_LENGTH, MOST_SLOTS}
+
+-- there are so many registers of each kind
+abbrev pub bank_length : ℕ
+bank_length = BANK_LENGTH
+
+-- no object has more slots
+abbrev pub most_slots : ℕ
+most_slots = MOST_SLOTS
+
+-- so many references may lead to one native: from each register of its kind, from each slot of a million natives, and from
+-- its reflector
+abbrev pub most_references : ℕ
+most_references = bank_length + most_slots * 1000000 + 1

@@ -1,0 +1,13 @@
+//! Two sizes of the language, each once. Whatever else needs one of them has it by its name.
+
+/// The number of a register in its bank.
+pub type RegNo = u8;
+
+/// The number of a slot of an object, counted from 0, and a number of slots.
+pub type SlotNo = u8;
+
+/// How many native registers there are, and how many script registers.
+pub const BANK_LENGTH: usize = 256;
+
+/// The most slots that a native or a plain object has.
+pub const MOST_SLOTS: SlotNo = 64;
