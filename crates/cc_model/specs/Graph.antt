@@ -11,6 +11,7 @@ use Rattle.cc_model.specs.declared.command.Command.{Command}
 use Rattle.cc_model.specs.declared.command.Command.TheVariants.{Nothing, Native, Script, WeakMap, CopyNative, CopyScript, Drop, Set, Get, Put, Take, Wrap, Unwrap, Preserve, SetEntry, GetEntry, Expose, Slice, Collect, Gc, Census}
 use Rattle.cc_model.specs.declared.item.Refusal.{Refusal}
 use Rattle.cc_model.specs.declared.item.Reply.{Reply}
+use Rattle.cc_model.specs.Banks.{Bank, of_natives, of_scripts, bank_of, place_in_bank}
 use Rattle.cc_model.specs.Slots.{Slots, empty_slots, reflector_slots}
 use Rattle.cc_model.specs.Entries.{Entry, value_in, with_entry, without_entry}
 use Rattle.cc_model.specs.Checks.{Objects, slot_at, value_at, reflector_of, native_of, refusal_of, reply_of}
@@ -47,9 +48,12 @@ empty_graph limits = record {
 
 -- Reading
 
+abbrev pub bank : Graph → Bank → Slots
+bank g of_natives = g.native_registers
+bank g of_scripts = g.script_registers
+
 abbrev pub register : Graph → Reg → Option Name
-register g (N r) = slice_index_or g.native_registers r None
-register g (S r) = slice_index_or g.script_registers r None
+register g r = slice_index_or (bank g (bank_of r)) (place_in_bank r) None
 
 -- the member with a number, counted from one
 abbrev pub numbered : {X : Type 0} → List X → ℕ → Option X
@@ -89,9 +93,12 @@ source g r = option_and_then (register g) r
 
 -- Writing
 
+abbrev pub with_bank : Graph → Bank → Slots → Graph
+with_bank g of_natives slots = record g { native_registers = slots }
+with_bank g of_scripts slots = record g { script_registers = slots }
+
 abbrev pub set_register : Graph → Reg → Option Name → Graph
-set_register g (N r) x = record g { native_registers = slice_set g.native_registers r x }
-set_register g (S r) x = record g { script_registers = slice_set g.script_registers r x }
+set_register g r x = with_bank g (bank_of r) (slice_set (bank g (bank_of r)) (place_in_bank r) x)
 
 -- native k changed
 abbrev pub set_native : Graph → ℕ → Option GraphNative → Graph

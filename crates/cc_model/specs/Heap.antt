@@ -4,7 +4,6 @@ use Rattle.cc_names.specs.Allowance.{Allowance}
 use Rattle.cc_names.specs.declared.name.Name.{Name}
 use Rattle.cc_names.specs.declared.name.Name.TheVariants as name
 use Rattle.cc_names.specs.declared.register.Reg.{Reg}
-use Rattle.cc_names.specs.declared.register.Reg.TheVariants.{N, S}
 use Rattle.cc_names.specs.declared.kind.Kind.{Kind}
 use Rattle.cc_names.specs.declared.kind.Kind.TheVariants.{Plain, Reflector, Map}
 use Rattle.cc_names.specs.declared.kind.Colour.{Colour}
@@ -12,6 +11,7 @@ use Rattle.cc_names.specs.declared.kind.Colour.TheVariants.{White, Gray, Black}
 use Rattle.cc_names.specs.Names.{object, reflector, same_name}
 use Rattle.cc_names.specs.Sizes.{bank_length}
 use Rattle.cc_model.specs.declared.item.Event.{Event}
+use Rattle.cc_model.specs.Banks.{Bank, of_natives, of_scripts, bank_of, place_in_bank}
 use Rattle.cc_model.specs.Slots.{Slots, empty_slots}
 use Rattle.cc_model.specs.Entries.{Entry, value_in}
 use Rattle.cc_model.specs.Checks.{Objects}
@@ -73,9 +73,12 @@ after events o = record o { events = events ++ o.events }
 
 -- Reading
 
+abbrev pub bank : Heap → Bank → Slots
+bank h of_natives = h.native_registers
+bank h of_scripts = h.script_registers
+
 abbrev pub register : Heap → Reg → Option Name
-register h (N r) = slice_index_or h.native_registers r None
-register h (S r) = slice_index_or h.script_registers r None
+register h r = slice_index_or (bank h (bank_of r)) (place_in_bank r) None
 
 abbrev pub native_at : Heap → ℕ → Option HeapNative
 native_at h k = find (λ n. n.number == k) h.natives
@@ -137,9 +140,12 @@ source h r = option_and_then (register h) r
 
 -- Writing
 
+abbrev pub with_bank : Heap → Bank → Slots → Heap
+with_bank h of_natives slots = record h { native_registers = slots }
+with_bank h of_scripts slots = record h { script_registers = slots }
+
 abbrev pub set_register : Heap → Reg → Option Name → Heap
-set_register h (N r) x = record h { native_registers = slice_set h.native_registers r x }
-set_register h (S r) x = record h { script_registers = slice_set h.script_registers r x }
+set_register h r x = with_bank h (bank_of r) (slice_set (bank h (bank_of r)) (place_in_bank r) x)
 
 -- native k changed
 abbrev pub change_native : Heap → ℕ → (HeapNative → HeapNative) → Heap

@@ -21,6 +21,7 @@ pub mod Heap
 pub mod View
 pub mod WellFormed
 pub mod Counts
+pub mod Banks
 pub mod Cascade
 pub mod Exposure
 pub mod Effects

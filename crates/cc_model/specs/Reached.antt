@@ -6,10 +6,11 @@ use Rattle.cc_names.specs.declared.name.Name.{Name}
 use Rattle.cc_names.specs.declared.name.Name.TheVariants as name
 use Rattle.cc_names.specs.declared.register.Reg.{Reg}
 use Rattle.cc_names.specs.Names.{native, object, reflector, same_name}
+use Rattle.cc_model.specs.Banks.{over_banks}
 use Rattle.cc_model.specs.Slots.{contents, from_to}
 use Rattle.cc_model.specs.Entries.{Entry, joints}
 use Rattle.cc_model.specs.Checks.{slots_or_none}
-use Rattle.cc_model.specs.Graph.{Graph, GraphNative, register, native_in, slots_in}
+use Rattle.cc_model.specs.Graph.{Graph, GraphNative, bank, register, native_in, slots_in}
 
 -- a native refers to its reflector where that is preserved
 abbrev pub kept_reflector : ℕ → Option GraphNative → List Name
@@ -59,7 +60,7 @@ abbrev pub all_edges : Graph → List (Name × Name)
 all_edges g = flat_map (edges_from g) (names_of g)
 
 abbrev pub roots_of : Graph → List Name
-roots_of g = contents g.native_registers ++ contents g.script_registers
+roots_of g = over_banks (λ b. contents (bank g b))
 
 abbrev pub reach_rules : Graph → List (Rule Name)
 reach_rules g = system (roots_of g) (all_edges g) (joints g.entries)

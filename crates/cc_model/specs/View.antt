@@ -4,12 +4,13 @@ use Rattle.cc_lists.specs.Members.{has}
 use Rattle.cc_lists.specs.Least.{Rule, Least, system, closure}
 use Rattle.cc_names.specs.declared.name.Name.{Name}
 use Rattle.cc_names.specs.Names.{native, reflector, same_name, behind}
+use Rattle.cc_model.specs.Banks.{over_banks}
 use Rattle.cc_model.specs.Slots.{Slots, contents, from_to}
 use Rattle.cc_model.specs.Entries.{Entry, joints}
-use Rattle.cc_model.specs.Heap.{Heap, HeapNative, HeapScript, Buffered, is_white_colour, is_gray_colour, is_black_colour}
+use Rattle.cc_model.specs.Heap.{Heap, HeapNative, HeapScript, Buffered, bank, is_white_colour, is_gray_colour, is_black_colour}
 
 pub record View : Type 0 where
-  -- what both kinds of registers hold, empty ones left out
+  -- what the registers of all banks hold, empty ones left out
   pub registers : List Name
   -- slots of natives and of script objects, a native to its preserved reflector, a reflector to its native
   pub edges : List (Name × Name)
@@ -53,7 +54,7 @@ names_with p scripts = map (λ o. o.name) (filter p scripts)
 -- THE FLAT VIEW of the heaps
 abbrev pub view : Heap → View
 view h = record {
-  registers = contents h.native_registers ++ contents h.script_registers;
+  registers = over_banks (λ b. contents (bank h b));
   edges = flat_map native_edges h.natives ++ flat_map script_edges h.scripts;
   entries = h.entries;
   natives = map counted h.natives;
