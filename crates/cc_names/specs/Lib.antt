@@ -1,2 +1,3 @@
 pub mod Allowance
 pub mod Names
+pub mod Places
