@@ -6,7 +6,7 @@ use Rattle.cc_names.specs.Allowance.{Allowance}
 use Rattle.cc_names.specs.declared.register.Reg.TheVariants.{S}
 use Rattle.cc_names.specs.Names.{object}
 use Rattle.cc_names.specs.Sizes.{bank_length}
-use Rattle.cc_model.specs.declared.command.Command.TheVariants.{WeakMap}
+use Rattle.cc_model.specs.declared.command.Command.TheVariants.{WeakMap, Proxy}
 use Rattle.cc_model.specs.Colours.{HasColourInvariant}
 use Rattle.cc_model.specs.View.{view}
 use Rattle.cc_model.specs.Suspected.{IsSuspected}

@@ -5,7 +5,7 @@ use Rattle.std.proofs.lemmas.Bool.{leb-true}
 use Rattle.cc_names.specs.declared.number.SKey.{SKey}
 use Rattle.cc_names.specs.declared.kind.Colour.TheVariants.{Black}
 use Rattle.cc_names.specs.declared.register.Reg.TheVariants.{S}
-use Rattle.cc_model.specs.declared.command.Command.TheVariants.{Native, Script, WeakMap}
+use Rattle.cc_model.specs.declared.command.Command.TheVariants.{Native, Script, WeakMap, Proxy}
 use Rattle.cc_model.specs.Checks.{Objects, slots_or_none, refusal_of}
 use Rattle.cc_model.specs.Graph as graph
 use Rattle.cc_model.specs.Graph.{Graph}

@@ -4,7 +4,7 @@ use Rattle.cc_names.specs.Allowance.{Allowance}
 use Rattle.cc_names.specs.declared.register.Reg.{Reg}
 use Rattle.cc_names.specs.declared.register.Reg.TheVariants.{N, S}
 use Rattle.cc_names.specs.Names.{object}
-use Rattle.cc_model.specs.declared.command.Command.TheVariants.{Native, Script, WeakMap}
+use Rattle.cc_model.specs.declared.command.Command.TheVariants.{Native, Script, WeakMap, Proxy}
 use Rattle.cc_model.specs.Checks.{Objects, reflector_of}
 use Rattle.cc_model.specs.Graph.{Graph, GraphNative, weak_map, plain_object, empty_graph, objects_of, register, native_in, script_in, source, set_register, set_slot, wrapped, set_entry, step}
 use Rattle.cc_model.specs.WellMade.{IsWellMade}

@@ -4,7 +4,7 @@ use Rattle.cc_names.specs.declared.kind.Kind.{Kind}
 use Rattle.cc_names.specs.declared.kind.Kind.TheVariants.{Plain, Map}
 use Rattle.cc_names.specs.Names.{object}
 use Rattle.cc_model.specs.declared.command.Command.{Command}
-use Rattle.cc_model.specs.declared.command.Command.TheVariants.{Script, WeakMap}
+use Rattle.cc_model.specs.declared.command.Command.TheVariants.{Script, WeakMap, Proxy}
 use Rattle.cc_script.specs.Objects.{Object, new_object}
 
 abbrev pub kind_to_make : Option ℕ → Kind

@@ -12,7 +12,7 @@ use Rattle.cc_names.specs.declared.kind.Kind.TheVariants.{Plain, Reflector, Map}
 use Rattle.cc_names.specs.declared.kind.Colour.TheVariants.{Black}
 use Rattle.cc_names.specs.Names.{object, reflector}
 use Rattle.cc_model.specs.declared.command.Command.{Command}
-use Rattle.cc_model.specs.declared.command.Command.TheVariants.{Native, Script, WeakMap, CopyNative, CopyScript, Drop, Set, Get, Put, Take, Wrap, Unwrap, Preserve, SetEntry, GetEntry, Expose}
+use Rattle.cc_model.specs.declared.command.Command.TheVariants.{Native, Script, WeakMap, Proxy, CopyNative, CopyScript, Drop, Set, Get, Put, Take, Wrap, Unwrap, Preserve, SetEntry, GetEntry, Expose}
 use Rattle.cc_model.specs.Slots.{reflector_slots}
 use Rattle.cc_model.specs.Ranges.{in_range}
 use Rattle.cc_model.specs.Checks.{slot_at, slots_at, value_at, reflector_of}

@@ -14,7 +14,7 @@ use Rattle.cc_names.specs.Names.{native, object, reflector, same_name, is_native
 use Rattle.cc_names.proofs.NameTests.{same_name-exact}
 use Rattle.cc_names.specs.Sizes.{bank_length}
 use Rattle.cc_model.specs.declared.command.Command.{Command}
-use Rattle.cc_model.specs.declared.command.Command.TheVariants.{Native, Script, WeakMap, Wrap}
+use Rattle.cc_model.specs.declared.command.Command.TheVariants.{Native, Script, WeakMap, Proxy, Wrap}
 use Rattle.cc_model.specs.Ranges.{in_range, is_slots}
 use Rattle.cc_model.specs.Checks.{refusal_of, reply_if_taken, reflector_of, named_or_nothing}
 use Rattle.cc_model.specs.Graph as graph

@@ -1,5 +1,6 @@
 pub mod Tellings
 pub mod Places
+pub mod Joints
 pub mod Reaching
 pub mod Draining
 pub mod Rounds

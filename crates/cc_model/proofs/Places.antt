@@ -10,7 +10,7 @@ use Rattle.cc_names.specs.Places.{where_set}
 use Rattle.cc_model.specs.Slots.{Slots, contents, from_to}
 use Rattle.cc_model.specs.Checks.{native_of}
 use Rattle.cc_model.specs.Heap.{HeapNative, HeapScript}
-use Rattle.cc_model.specs.Places.{places_of_native, places_of_script}
+use Rattle.cc_model.specs.Places.{places_of_native, places_of_script, script_places_of}
 use Rattle.cc_model.specs.View.{slot_edges, native_edges, script_slot_edges, script_edges}
 
 -- where edges lead to
@@ -60,9 +60,17 @@ behind_edges x = map (λ k. from_to x (native k)) (behind x)
 
 -- THE EDGES OF A SCRIPT OBJECT are those over which script and marking go, and that of a reflector to its native.
 pub script_edges-split : (o : HeapScript) → script_edges o ≡ script_slot_edges o ++ behind_edges o.name
-script_edges-split o = slot_edges-last o.name o.slots (native_of (Some o.name)) ∙ ap (λ es. script_slot_edges o ++ es) (by_name o.name o.name)
+script_edges-split o = slot_edges-last o.name (script_places_of o) (native_of (Some o.name)) ∙ ap (λ es. script_slot_edges o ++ es) (by_name o.name o.name)
   where
     by_name : (x y : Name) → map (from_to x) (option_to_list (native_of (Some y))) ≡ map (λ k. from_to x (native k)) (behind y)
     by_name x (name.Native k) = refl
     by_name x (name.Script k) = refl
     by_name x (name.Reflector k) = refl
+
+-- the edge of a proxy to its delegate
+abbrev pub delegate_edges : HeapScript → List (Name × Name)
+delegate_edges o = map (from_to o.name) (option_to_list o.delegate)
+
+-- THE FORMER are those of its slots, and that of a proxy to its delegate.
+pub script_slot_edges-split : (o : HeapScript) → script_slot_edges o ≡ slot_edges o.name o.slots ++ delegate_edges o
+script_slot_edges-split o = slot_edges-last o.name o.slots o.delegate

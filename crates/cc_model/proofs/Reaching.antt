@@ -15,11 +15,12 @@ use Rattle.cc_names.specs.declared.register.Reg.TheVariants.{N, S}
 use Rattle.cc_names.specs.Names.{native, object, reflector, same_name}
 use Rattle.cc_names.proofs.NameTests.{same_name-exact}
 use Rattle.cc_model.specs.Slots.{Slots, contents, from_to}
-use Rattle.cc_model.specs.Entries.{Entry, joint, joints}
+use Rattle.cc_model.specs.Entries.{Entry, Joint, joint, joints, rules_of}
+use Rattle.cc_model.proofs.Joints.{Gives, its_value, its_key, value-joint, delegate-joint, joint-cases, derive-joint, derived-by_joints}
 use Rattle.cc_model.specs.Checks.{slots_or_none}
 use Rattle.cc_model.specs.Graph.{Graph, GraphNative, GraphScript, numbered, native_in, script_in, register}
 use Rattle.cc_model.specs.Places.{places_of_made_native, places_of_made_script, places_of_made_reflector}
-use Rattle.cc_model.specs.Reached.{Reached, held, edge, value, edges_of, edges_from, all_edges, names_of, numbers_from, with_reflector, roots_of, reach_rules, reached_names}
+use Rattle.cc_model.specs.Reached.{Reached, held, edge, value, key, edges_of, edges_from, all_edges, names_of, numbers_from, with_reflector, roots_of, reach_rules, reached_names}
 
 -- what stands at a place of the registers is among their contents
 pub content-at : (x : Name) (slots : Slots) (r : ℕ) → slice_index_or slots r None ≡ Some x → Among x (contents slots)
@@ -79,15 +80,14 @@ root-among g (S r) x e = Among-right x (contents g.native_registers) (contents g
 
 -- what is reached is derived
 pub reached-derived : (g : Graph) (x : Name) → Reached g x → Least (reach_rules g) x
-reached-derived g _ (held r x e) = derive-root (roots_of g) (all_edges g) (joints g.entries) x (root-among g r x e)
-reached-derived g _ (edge x y d m) = derive-along (roots_of g) (all_edges g) (joints g.entries) x y
+reached-derived g _ (held r x e) = derive-root (roots_of g) (all_edges g) (rules_of (joints g.entries)) x (root-among g r x e)
+reached-derived g _ (edge x y d m) = derive-along (roots_of g) (all_edges g) (rules_of (joints g.entries)) x y
     (Among-flat_map (edges_from g) x (from_to x y) (names_of g) (with-edge-named g x y m) (Among-map (from_to x) y (edges_of g x) m))
     (reached-derived g x d)
-reached-derived g _ (value e m a b) = derive-jointly (roots_of g) (all_edges g) (joints g.entries) (e.the_map ∷ e.key ∷ []) e.value
-    (Among-map joint e g.entries m)
-    (λ z i. ⊎_elim
-    (λ p. subst (Least (reach_rules g)) p (reached-derived g e.the_map a))
-    (λ t. ⊎_elim (λ p. subst (Least (reach_rules g)) p (reached-derived g e.key b)) (λ n. absurd n) t) i)
+reached-derived g _ (value e m a b) = derive-joint (roots_of g) (all_edges g) (joints g.entries) (joint e.the_map e.key e.value)
+    (value-joint g.entries e m) (reached-derived g e.the_map a) (reached-derived g e.key b)
+reached-derived g _ (key e d m is a b) = derive-joint (roots_of g) (all_edges g) (joints g.entries) (joint e.the_map d e.key)
+    (delegate-joint g.entries e d m is) (reached-derived g e.the_map a) (reached-derived g d b)
 
 -- what the registers hold is reached
 pub root-reached : (g : Graph) (x : Name) → Among x (roots_of g) → Reached g x
@@ -105,20 +105,17 @@ edge-reached g x y m d =
     let target : l.0 ≡ y = ap (λ (p : Name × Name). p.1) l.2 in
     subst (Reached g) target (edge k.0 l.0 (subst (Reached g) (sym source) d) l.1)
 
--- the value of an entry whose map and key are reached is reached
-pub entry-reached : (g : Graph) (ps : List Name) (y : Name) → Among (ps, y) (joints g.entries) → ((x : Name) → Among x ps → Reached g x) → Reached g y
-entry-reached g ps y m f =
-    let k = Among-map_cases joint g.entries (ps, y) m in
-    let e : Entry = k.0 in
-    let premises : (e.the_map ∷ e.key ∷ []) ≡ ps = ap (λ (p : List Name × Name). p.0) k.2 in
-    let target : e.value ≡ y = ap (λ (p : List Name × Name). p.1) k.2 in
-    subst (Reached g) target (value e k.1
-    (f e.the_map (subst (Among e.the_map) premises (inl refl)))
-    (f e.key (subst (Among e.key) premises (inr (inl refl)))))
+-- what an entry gives whose members are reached is reached
+pub joint-reached : (g : Graph) (j : Joint) → Among j (joints g.entries) → Reached g j.the_map → Reached g j.key → Reached g j.value
+joint-reached g j m = let f = joint-cases g.entries j m in given f.0 f.1 j f.2
+  where
+    given : (e : Entry) → Among e g.entries → (i : Joint) → Gives e i → Reached g i.the_map → Reached g i.key → Reached g i.value
+    given e at _ its_value a b = value e at a b
+    given e at _ (its_key d is) a b = key e d at is a b
 
 -- what is derived is reached
 pub derived-reached : (g : Graph) (x : Name) → Least (reach_rules g) x → Reached g x
-derived-reached g = derived-within (roots_of g) (all_edges g) (joints g.entries) (Reached g) (root-reached g) (edge-reached g) (entry-reached g)
+derived-reached g = derived-by_joints (roots_of g) (all_edges g) (joints g.entries) (Reached g) (root-reached g) (edge-reached g) (joint-reached g)
 
 -- what is reached is decided by the list of reached names
 pub reached-decided : (g : Graph) (x : Name) → IsTrue (has same_name (reached_names g) x) ↔ Reached g x

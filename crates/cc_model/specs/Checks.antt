@@ -8,7 +8,7 @@ use Rattle.cc_names.specs.declared.register.Reg.{Reg}
 use Rattle.cc_names.specs.declared.register.Reg.TheVariants.{N, S}
 use Rattle.cc_names.specs.Names.{native, object, reflector, is_native, is_script, is_reflector}
 use Rattle.cc_model.specs.declared.command.Command.{Command}
-use Rattle.cc_model.specs.declared.command.Command.TheVariants.{Nothing, Native, Script, WeakMap, CopyNative, CopyScript, Drop, Set, Get, Put, Take, Wrap, Unwrap, Preserve, SetEntry, GetEntry, Expose, Slice, Collect, Gc, Census}
+use Rattle.cc_model.specs.declared.command.Command.TheVariants.{Nothing, Native, Script, WeakMap, Proxy, CopyNative, CopyScript, Drop, Set, Get, Put, Take, Wrap, Unwrap, Preserve, SetEntry, GetEntry, Expose, Slice, Collect, Gc, Census}
 use Rattle.cc_model.specs.declared.item.Refusal.{Refusal}
 use Rattle.cc_model.specs.declared.item.Refusal.TheVariants.{Empty, Kind, Slot, Full}
 use Rattle.cc_model.specs.declared.item.Reply.{Reply}
@@ -68,6 +68,7 @@ needed Nothing = []
 needed (Native d n) = []
 needed (Script d n) = []
 needed (WeakMap d) = []
+needed (Proxy d s) = S s ∷ []
 needed (CopyNative d s) = []
 needed (CopyScript d s) = []
 needed (Drop r) = []
@@ -137,6 +138,7 @@ abbrev pub is_full : Objects → Command → Bool
 is_full o (Native d n) = nat_le o.limits.natives o.natives_made
 is_full o (Script d n) = nat_le o.limits.scripts o.scripts_made
 is_full o (WeakMap d) = nat_le o.limits.scripts o.scripts_made
+is_full o (Proxy d s) = nat_le o.limits.scripts o.scripts_made
 is_full o _ = false
 
 abbrev pub checks : Objects → Command → List (Bool × Refusal)
@@ -168,6 +170,7 @@ unfoldable pub reply_if_taken : Objects → Command → Reply
 reply_if_taken o (Native d n) = Named (native (o.natives_made + 1))
 reply_if_taken o (Script d n) = Named (object (o.scripts_made + 1))
 reply_if_taken o (WeakMap d) = Named (object (o.scripts_made + 1))
+reply_if_taken o (Proxy d s) = Named (object (o.scripts_made + 1))
 reply_if_taken o (CopyNative d s) = named_or_nothing (o.register (N s))
 reply_if_taken o (CopyScript d s) = named_or_nothing (o.register (S s))
 reply_if_taken o (Get r s i) = named_or_nothing (slot_at o (N s) i)

@@ -7,15 +7,16 @@ use Rattle.cc_names.specs.declared.kind.Colour.{Colour}
 use Rattle.cc_names.specs.declared.kind.Colour.TheVariants.{White, Gray, Black}
 use Rattle.cc_names.specs.Names.{same_name, is_script}
 use Rattle.cc_model.specs.Slots.{contents}
-use Rattle.cc_model.specs.Entries.{joints}
+use Rattle.cc_model.specs.Entries.{joints, rules_of}
 use Rattle.cc_model.specs.Heap.{Heap, HeapNative, HeapScript}
 use Rattle.cc_model.specs.Places.{places_of_native}
 use Rattle.cc_model.specs.View.{View}
 use Rattle.cc_model.specs.Exposure.{slots_of_scripts}
 
--- BLACK: from the script registers, over script slots, and: map and key black make the value black
+-- BLACK: from the script registers, over the places of script objects, and: map and key black make the value black, map and
+-- delegate of a proxy black make the proxy black, where that is a key of the map
 abbrev pub black_rules : Heap → List (Rule Name)
-black_rules h = system (contents h.script_registers) (slots_of_scripts h) (joints h.entries)
+black_rules h = system (contents h.script_registers) (slots_of_scripts h) (rules_of (joints h.entries))
 
 abbrev pub IsBlack : Heap → Name → Type 0
 IsBlack h = Least (black_rules h)
@@ -32,7 +33,7 @@ scripts_held h = flat_map scripts_held_by h.natives
 
 -- MARKED: from the black ones and from what natives hold, by the same rules
 abbrev pub mark_rules : Heap → List (Rule Name)
-mark_rules h = system (black_names h ++ scripts_held h) (slots_of_scripts h) (joints h.entries)
+mark_rules h = system (black_names h ++ scripts_held h) (slots_of_scripts h) (rules_of (joints h.entries))
 
 abbrev pub IsMarked : Heap → Name → Type 0
 IsMarked h = Least (mark_rules h)
@@ -62,7 +63,7 @@ marked h = coloured_by (black_names h) (marked_names h) h
 abbrev pub HasColours : Heap → Type 0
 HasColours h = (o : HeapScript) → Among o h.scripts → o.colour ≡ colour_by (black_names h) (marked_names h) o.name
 
--- THE COLOUR INVARIANT between two commands: no black script object has a gray one in a slot,
+-- THE COLOUR INVARIANT between two commands: no black script object has a gray one in a slot or as its delegate,
 -- script registers hold black ones, none is white
 pub record HasColourInvariant (v : View) : Type 0 where
   pub black_to_black : (x y : Name) → Among x v.black → Among (x, y) v.edges → ¬ (Among y v.gray)

@@ -4,15 +4,15 @@ use Rattle.cc_names.specs.declared.name.Name.{Name}
 use Rattle.cc_names.specs.declared.name.Name.TheVariants as name
 use Rattle.cc_names.specs.declared.register.Reg.TheVariants.{N, S}
 use Rattle.cc_names.specs.declared.kind.Kind.{Kind}
-use Rattle.cc_names.specs.declared.kind.Kind.TheVariants.{Plain, Reflector, Map}
+use Rattle.cc_names.specs.declared.kind.Kind.TheVariants.{Plain, Reflector, Map, Proxy as proxy_kind}
 use Rattle.cc_names.specs.declared.kind.Colour.TheVariants.{Black}
 use Rattle.cc_names.specs.Names.{native, object, reflector}
 use Rattle.cc_model.specs.declared.command.Command.{Command}
-use Rattle.cc_model.specs.declared.command.Command.TheVariants.{Nothing, Native, Script, WeakMap, CopyNative, CopyScript, Drop, Set, Get, Put, Take, Wrap, Unwrap, Preserve, SetEntry, GetEntry, Expose, Slice, Collect, Gc, Census}
+use Rattle.cc_model.specs.declared.command.Command.TheVariants.{Nothing, Native, Script, WeakMap, Proxy, CopyNative, CopyScript, Drop, Set, Get, Put, Take, Wrap, Unwrap, Preserve, SetEntry, GetEntry, Expose, Slice, Collect, Gc, Census}
 use Rattle.cc_model.specs.Slots.{empty_slots, reflector_slots}
 use Rattle.cc_model.specs.Entries.{with_entry, without_entry}
 use Rattle.cc_model.specs.Checks.{slot_at, value_at, reflector_of, native_of}
-use Rattle.cc_model.specs.Heap.{Heap, Outcome, silently, register, objects_of, source, has_reflector, set_register, set_slot, preserve, touch}
+use Rattle.cc_model.specs.Heap.{Heap, Outcome, silently, register, objects_of, source, delegate_at, has_reflector, set_register, set_slot, preserve, touch}
 use Rattle.cc_model.specs.Cascade.{add_ref, take_up, let_go}
 use Rattle.cc_model.specs.Exposure.{exposed}
 
@@ -47,20 +47,25 @@ unfoldable pub make_native : Heap → ℕ → ℕ → Outcome
 make_native h d n = put_in_register (with_native h n) d (Some (native (h.natives_made + 1)))
 
 -- a black script object
-abbrev pub with_script : Heap → Name → Kind → ℕ → Heap
-with_script h x kind n = record h { scripts = h.scripts ++ record { name = x; kind = kind; slots = empty_slots n; colour = Black } ∷ [] }
+abbrev pub with_script : Heap → Name → Kind → ℕ → Option Name → Heap
+with_script h x kind n d = record h { scripts = h.scripts ++ record { name = x; kind = kind; slots = empty_slots n; delegate = d; colour = Black } ∷ [] }
 
 -- one with the next number
-abbrev pub with_object : Heap → Kind → ℕ → Heap
-with_object h kind n = record (with_script h (object (h.scripts_made + 1)) kind n) { scripts_made = h.scripts_made + 1 }
+abbrev pub with_object : Heap → Kind → ℕ → Option Name → Heap
+with_object h kind n d = record (with_script h (object (h.scripts_made + 1)) kind n d) { scripts_made = h.scripts_made + 1 }
 
 -- a script object made, and register d holds it
-abbrev pub make_object : Heap → ℕ → Kind → ℕ → Heap
-make_object h d kind n = set_register (with_object h kind n) (S d) (Some (object (h.scripts_made + 1)))
+abbrev pub make_object : Heap → ℕ → Kind → ℕ → Option Name → Heap
+make_object h d kind n its_delegate = set_register (with_object h kind n its_delegate) (S d) (Some (object (h.scripts_made + 1)))
+
+-- a proxy of an object made, which is preserved first where it is a reflector
+abbrev pub make_proxy : Heap → ℕ → Option Name → Heap
+make_proxy h d None = h
+make_proxy h d (Some x) = make_object (preserve h (Some x)) d proxy_kind 0 (Some x)
 
 -- a black blank reflector, and its reference to its native
 abbrev pub with_reflector : Heap → ℕ → Heap
-with_reflector h k = add_ref (with_script h (reflector k) Reflector reflector_slots) k
+with_reflector h k = add_ref (with_script h (reflector k) Reflector reflector_slots None) k
 
 -- a reflector that is there is exposed; else one is made
 abbrev pub wrapped : Heap → Option Name → Heap
@@ -71,7 +76,7 @@ wrapped h None = h
 
 -- an entry set, its key preserved where it is a reflector; or taken out, nothing preserved
 abbrev pub set_entry : Heap → Option Name → Option Name → Option Name → Heap
-set_entry h (Some m) (Some k) (Some v) = record (preserve h (Some k)) { entries = with_entry h.entries m k v }
+set_entry h (Some m) (Some k) (Some v) = record (preserve h (Some k)) { entries = with_entry h.entries m k (delegate_at h k) v }
 set_entry h (Some m) (Some k) None = record h { entries = without_entry h.entries m k }
 set_entry h (Some m) None v = h
 set_entry h None k v = h
@@ -83,8 +88,9 @@ put_in_script h x i y = set_slot (preserve h x) x i y
 -- THE EFFECTS of a command that passes its checks and has its memory
 unfoldable pub effects : Heap → Command → Outcome
 effects h (Native d n) = make_native h d n
-effects h (Script d n) = silently (make_object h d Plain n)
-effects h (WeakMap d) = silently (make_object h d Map 0)
+effects h (Script d n) = silently (make_object h d Plain n None)
+effects h (WeakMap d) = silently (make_object h d Map 0 None)
+effects h (Proxy d s) = silently (make_proxy h d (register h (S s)))
 effects h (CopyNative d s) = hold_native h d (register h (N s))
 effects h (CopyScript d s) = silently (set_register h (S d) (register h (S s)))
 effects h (Drop (N d)) = put_in_register h d None
@@ -117,6 +123,7 @@ abbrev pub takes_memory : Heap → Command → Bool
 takes_memory h (Native d n) = true
 takes_memory h (Script d n) = true
 takes_memory h (WeakMap d) = true
+takes_memory h (Proxy d s) = true
 takes_memory h (SetEntry m k (Some v)) = is_none (value_at (objects_of h) (register h (S m)) (register h (S k)))
 takes_memory h (Wrap d s) = lacks_reflector h (register h (N s))
 takes_memory h _ = false

@@ -73,6 +73,9 @@ script_form = form (codes "script") (of_two command.Script script_register slots
 abbrev pub weak_map_form : Form
 weak_map_form = form (codes "weakmap") (of_one command.WeakMap script_register)
 
+abbrev pub proxy_form : Form
+proxy_form = form (codes "proxy") (of_two command.Proxy script_register script_register)
+
 abbrev pub copy_script_form : Form
 copy_script_form = form (codes "copy") (of_two command.CopyScript script_register script_register)
 
@@ -134,6 +137,7 @@ version_one_forms =
     native_form
     ∷ script_form
     ∷ weak_map_form
+    ∷ proxy_form
     ∷ copy_native_form
     ∷ copy_script_form
     ∷ drop_native_form

@@ -4,7 +4,7 @@ use Rattle.std.specs.List.{list_all}
 use Rattle.cc_lists.specs.Members.{Among}
 use Rattle.cc_names.specs.declared.name.Name.{Name}
 use Rattle.cc_names.specs.Names.{native, same_name, is_script}
-use Rattle.cc_model.specs.Entries.{Entry}
+use Rattle.cc_model.specs.Entries.{Joint}
 use Rattle.cc_model.specs.View.{View, between, scripts_there}
 use Rattle.cc_model.specs.Colours.{HasColourInvariant}
 use Rattle.cc_model.specs.Snapshot.{Snapshot, Node, NodeState, Mapping, untraversed, gone, traversed, node_names}
@@ -32,12 +32,12 @@ IsLiving v u = (c : ℕ) × Among (u, c) v.natives
 abbrev pub IsScriptThere : View → Name → Type 0
 IsScriptThere v x = Among x (scripts_there v)
 
--- a mapping's member is that of the entry, or there is none and the entry's is black
+-- a mapping's member is that of the joint, or there is none and the joint's is black
 abbrev pub MemberOf : View → Option Name → Name → Type 0
 MemberOf v member x = (member ≡ Some x) ⊎ ((member ≡ None) × Among x v.black)
 
--- the mapping of an entry
-pub record IsMappingOf (v : View) (e : Entry) (m : Mapping) : Type 0 where
+-- the mapping of a joint
+pub record IsMappingOf (v : View) (e : Joint) (m : Mapping) : Type 0 where
   pub value : m.value ≡ e.value
   pub the_map : MemberOf v m.the_map e.the_map
   pub key : MemberOf v m.key e.key
@@ -68,9 +68,9 @@ pub record IsFresh (made : ℕ) (v : View) (s : Snapshot) : Type 0 where
   pub gray_noted : (w y : Name) → IsTraversedNode s w → Among (w, y) v.edges → Among y v.gray → Among (w, y) s.references
   -- each native that holds a gray object is a node
   pub gray_held : (i : ℕ) (y : Name) → Among (native i, y) v.edges → Among y v.gray → IsNode s (native i)
-  -- each entry with a gray value has a mapping
-  pub gray_value : (e : Entry) → Among e v.entries → Among e.value v.gray → (m : Mapping) × Among m s.mappings × IsMappingOf v e m
-  -- no black script object has a gray one in a slot; script registers hold black ones; none is white
+  -- each joint that gives a gray object has a mapping: an entry with a gray value, and one whose key is a gray proxy
+  pub gray_value : (e : Joint) → Among e v.joints → Among e.value v.gray → (m : Mapping) × Among m s.mappings × IsMappingOf v e m
+  -- no black script object has a gray one in a slot or as its delegate; script registers hold black ones; none is white
   pub colours : HasColourInvariant v
   -- members of references and mappings and all candidates are nodes
   pub from_node : (x y : Name) → Among (x, y) s.references → IsNode s x

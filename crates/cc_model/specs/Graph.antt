@@ -8,7 +8,7 @@ use Rattle.cc_names.specs.declared.register.Reg.TheVariants.{N, S}
 use Rattle.cc_names.specs.Names.{native, object}
 use Rattle.cc_names.specs.Sizes.{bank_length}
 use Rattle.cc_model.specs.declared.command.Command.{Command}
-use Rattle.cc_model.specs.declared.command.Command.TheVariants.{Nothing, Native, Script, WeakMap, CopyNative, CopyScript, Drop, Set, Get, Put, Take, Wrap, Unwrap, Preserve, SetEntry, GetEntry, Expose, Slice, Collect, Gc, Census}
+use Rattle.cc_model.specs.declared.command.Command.TheVariants.{Nothing, Native, Script, WeakMap, Proxy, CopyNative, CopyScript, Drop, Set, Get, Put, Take, Wrap, Unwrap, Preserve, SetEntry, GetEntry, Expose, Slice, Collect, Gc, Census}
 use Rattle.cc_model.specs.declared.item.Refusal.{Refusal}
 use Rattle.cc_model.specs.declared.item.Reply.{Reply}
 use Rattle.cc_model.specs.Banks.{Bank, of_natives, of_scripts, bank_of, place_in_bank}
@@ -26,6 +26,8 @@ pub record GraphNative : Type 0 where
 pub data GraphScript : Type 0 where
   plain_object : Slots → GraphScript
   weak_map : GraphScript
+  -- with its delegate
+  proxy : Name → GraphScript
 
 -- THE GRAPH. Native k, and script object k, stand at place k - 1. There is a bank of registers of each kind.
 pub record Graph : Type 0 where
@@ -69,6 +71,18 @@ script_in g k = numbered g.scripts k
 abbrev pub slots_of_script : GraphScript → Option Slots
 slots_of_script (plain_object slots) = Some slots
 slots_of_script weak_map = None
+slots_of_script (proxy d) = Some []
+
+-- the delegate of a proxy
+abbrev pub delegate_of_script : GraphScript → Option Name
+delegate_of_script (plain_object slots) = None
+delegate_of_script weak_map = None
+delegate_of_script (proxy d) = Some d
+
+abbrev pub delegate_in : Graph → Name → Option Name
+delegate_in g (name.Native k) = None
+delegate_in g (name.Script k) = option_and_then delegate_of_script (script_in g k.0)
+delegate_in g (name.Reflector k) = None
 
 -- the slots of an object; none of a weak map, and of what was never made
 abbrev pub slots_in : Graph → Name → Option Slots
@@ -131,6 +145,7 @@ as_wrapped n = record n { reflector = Some (slots_or_blank n.reflector) }
 abbrev pub with_script_slot : ℕ → Option Name → GraphScript → GraphScript
 with_script_slot i x (plain_object slots) = plain_object (slice_set slots i x)
 with_script_slot i x weak_map = weak_map
+with_script_slot i x (proxy d) = proxy d
 
 -- slot i of an object written
 abbrev pub set_slot : Graph → Option Name → ℕ → Option Name → Graph
@@ -155,7 +170,7 @@ wrapped g None = g
 
 -- an entry set, its key preserved; or taken out where there is no value, nothing preserved
 abbrev pub set_entry : Graph → Option Name → Option Name → Option Name → Graph
-set_entry g (Some m) (Some k) (Some v) = record (preserve g (Some k)) { entries = with_entry g.entries m k v }
+set_entry g (Some m) (Some k) (Some v) = record (preserve g (Some k)) { entries = with_entry g.entries m k (delegate_in g k) v }
 set_entry g (Some m) (Some k) None = record g { entries = without_entry g.entries m k }
 set_entry g (Some m) None v = g
 set_entry g None k v = g
@@ -168,11 +183,17 @@ with_native g n = record g { natives = g.natives ++ record { slots = empty_slots
 abbrev pub with_script : Graph → GraphScript → Graph
 with_script g o = record g { scripts = g.scripts ++ o ∷ [] }
 
+-- a proxy of an object made, which script register d holds
+abbrev pub with_proxy : Graph → ℕ → Option Name → Graph
+with_proxy g d None = g
+with_proxy g d (Some x) = set_register (with_script (preserve g (Some x)) (proxy x)) (S d) (Some (object (length g.scripts + 1)))
+
 -- what a command that is not refused makes of the graph; a collection, `gc`, a census and `expose` leave it
 unfoldable pub changed : Graph → Command → Graph
 changed g (Native d n) = set_register (with_native g n) (N d) (Some (native (length g.natives + 1)))
 changed g (Script d n) = set_register (with_script g (plain_object (empty_slots n))) (S d) (Some (object (length g.scripts + 1)))
 changed g (WeakMap d) = set_register (with_script g weak_map) (S d) (Some (object (length g.scripts + 1)))
+changed g (Proxy d s) = with_proxy g d (register g (S s))
 changed g (CopyNative d s) = set_register g (N d) (register g (N s))
 changed g (CopyScript d s) = set_register g (S d) (register g (S s))
 changed g (Drop r) = set_register g r None

@@ -5,7 +5,7 @@ use Rattle.cc_names.specs.declared.name.Name.{Name}
 use Rattle.cc_names.specs.declared.name.Name.TheVariants as name
 use Rattle.cc_names.specs.declared.register.Reg.{Reg}
 use Rattle.cc_names.specs.declared.kind.Kind.{Kind}
-use Rattle.cc_names.specs.declared.kind.Kind.TheVariants.{Plain, Reflector, Map}
+use Rattle.cc_names.specs.declared.kind.Kind.TheVariants.{Plain, Reflector, Map, Proxy}
 use Rattle.cc_names.specs.declared.kind.Colour.{Colour}
 use Rattle.cc_names.specs.declared.kind.Colour.TheVariants.{White, Gray, Black}
 use Rattle.cc_names.specs.Names.{object, reflector, same_name}
@@ -26,6 +26,8 @@ pub record HeapScript : Type 0 where
   pub name : Name
   pub kind : Kind
   pub slots : Slots
+  -- of a proxy, for good
+  pub delegate : Option Name
   pub colour : Colour
 
 -- a native in the buffer, with the purple mark or without
@@ -91,6 +93,7 @@ abbrev pub slots_of_kind : Kind → Slots → Option Slots
 slots_of_kind Plain slots = Some slots
 slots_of_kind Reflector slots = Some slots
 slots_of_kind Map slots = None
+slots_of_kind Proxy slots = Some slots
 
 abbrev pub slots_of_script : HeapScript → Option Slots
 slots_of_script o = slots_of_kind o.kind o.slots
@@ -100,6 +103,10 @@ abbrev pub slots_in : Heap → Name → Option Slots
 slots_in h (name.Native k) = option_map (λ n. n.slots) (native_at h k.0)
 slots_in h (name.Script k) = option_and_then slots_of_script (script_at h (object k.0))
 slots_in h (name.Reflector k) = option_and_then slots_of_script (script_at h (reflector k.0))
+
+-- the delegate of a proxy that is there
+abbrev pub delegate_at : Heap → Name → Option Name
+delegate_at h x = option_and_then (λ o. o.delegate) (script_at h x)
 
 abbrev pub has_reflector : Heap → ℕ → Bool
 has_reflector h k = is_some (script_at h (reflector k))

@@ -6,7 +6,7 @@ use Rattle.cc_names.specs.declared.name.Name.{Name}
 use Rattle.cc_names.specs.declared.register.Reg.TheVariants.{N, S}
 use Rattle.cc_names.specs.Names.{same_name, is_native, natives_in}
 use Rattle.cc_model.specs.declared.command.Command.{Command}
-use Rattle.cc_model.specs.declared.command.Command.TheVariants.{Nothing, Native, Script, WeakMap, SetEntry, Wrap, Slice, Collect, Gc, Census}
+use Rattle.cc_model.specs.declared.command.Command.TheVariants.{Nothing, Native, Script, WeakMap, Proxy, SetEntry, Wrap, Slice, Collect, Gc, Census}
 use Rattle.cc_model.specs.declared.item.Refusal.TheVariants.{NoMemory, Long, Line}
 use Rattle.cc_model.specs.declared.item.Reply.{Reply}
 use Rattle.cc_model.specs.declared.item.Reply.TheVariants.{Refused, Census as counted}
@@ -52,6 +52,7 @@ abbrev pub may_want_memory : State → Command → Bool
 may_want_memory s (Native d n) = true
 may_want_memory s (Script d n) = true
 may_want_memory s (WeakMap d) = true
+may_want_memory s (Proxy d r) = true
 may_want_memory s (Slice u) = true
 may_want_memory s Collect = true
 may_want_memory s (SetEntry m k (Some v)) = is_none (value_at (objects_of s.graph) (register s.graph (S m)) (register s.graph (S k)))

@@ -4,7 +4,7 @@ use Rattle.cc_lists.specs.Members.{without, with_last}
 use Rattle.cc_names.specs.declared.name.Name.{Name}
 use Rattle.cc_names.specs.Names.{same_name, is_native, is_script}
 use Rattle.cc_model.specs.declared.command.Command.{Command}
-use Rattle.cc_model.specs.declared.command.Command.TheVariants.{Native, Script, WeakMap, Wrap}
+use Rattle.cc_model.specs.declared.command.Command.TheVariants.{Native, Script, WeakMap, Proxy, Wrap}
 use Rattle.cc_model.specs.declared.item.Reply.{Reply}
 use Rattle.cc_model.specs.declared.item.Reply.TheVariants.{Named}
 use Rattle.cc_model.specs.declared.item.Event.{Event}
@@ -29,6 +29,7 @@ abbrev pub after_reply : List Name → Command → Option Reply → List Name
 after_reply names (Native d n) (Some (Named x)) = names ++ x ∷ []
 after_reply names (Script d n) (Some (Named x)) = names ++ x ∷ []
 after_reply names (WeakMap d) (Some (Named x)) = names ++ x ∷ []
+after_reply names (Proxy d s) (Some (Named x)) = names ++ x ∷ []
 after_reply names (Wrap d s) (Some (Named x)) = with_last same_name names x
 after_reply names c reply = names
 

@@ -1,13 +1,14 @@
 -- Which commands are the mutator's.
 use Rattle.std.specs.Prelude.{Bool, true, false}
 use Rattle.cc_model.specs.declared.command.Command.{Command}
-use Rattle.cc_model.specs.declared.command.Command.TheVariants.{Nothing, Native, Script, WeakMap, CopyNative, CopyScript, Drop, Set, Get, Put, Take, Wrap, Unwrap, Preserve, SetEntry, GetEntry, Expose, Slice, Collect, Gc, Census}
+use Rattle.cc_model.specs.declared.command.Command.TheVariants.{Nothing, Native, Script, WeakMap, Proxy, CopyNative, CopyScript, Drop, Set, Get, Put, Take, Wrap, Unwrap, Preserve, SetEntry, GetEntry, Expose, Slice, Collect, Gc, Census}
 
 -- THE COMMANDS OF THE MUTATOR: all but a blank line, a collection, whole or in slices, a script collection and a census
 abbrev pub is_applied : Command → Bool
 is_applied (Native d n) = true
 is_applied (Script d n) = true
 is_applied (WeakMap d) = true
+is_applied (Proxy d s) = true
 is_applied (CopyNative d s) = true
 is_applied (CopyScript d s) = true
 is_applied (Drop r) = true

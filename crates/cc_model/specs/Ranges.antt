@@ -4,7 +4,7 @@ use Rattle.cc_names.specs.declared.register.Reg.{Reg}
 use Rattle.cc_names.specs.declared.register.Reg.TheVariants.{N, S}
 use Rattle.cc_names.specs.Sizes.{bank_length, most_slots}
 use Rattle.cc_model.specs.declared.command.Command.{Command}
-use Rattle.cc_model.specs.declared.command.Command.TheVariants.{Nothing, Native, Script, WeakMap, CopyNative, CopyScript, Drop, Set, Get, Put, Take, Wrap, Unwrap, Preserve, SetEntry, GetEntry, Expose, Slice, Collect, Gc, Census}
+use Rattle.cc_model.specs.declared.command.Command.TheVariants.{Nothing, Native, Script, WeakMap, Proxy, CopyNative, CopyScript, Drop, Set, Get, Put, Take, Wrap, Unwrap, Preserve, SetEntry, GetEntry, Expose, Slice, Collect, Gc, Census}
 
 -- a register is one of its bank
 abbrev pub is_register : ℕ → Bool
@@ -34,6 +34,7 @@ abbrev pub in_range : Command → Bool
 in_range (Native d n) = is_register d && is_slots n
 in_range (Script d n) = is_register d && is_slots n
 in_range (WeakMap d) = is_register d
+in_range (Proxy d s) = are_registers d s
 in_range (CopyNative d s) = are_registers d s
 in_range (CopyScript d s) = are_registers d s
 in_range (Drop r) = is_reg r

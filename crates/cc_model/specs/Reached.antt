@@ -7,7 +7,7 @@ use Rattle.cc_names.specs.declared.register.Reg.{Reg}
 use Rattle.cc_names.specs.Names.{native, object, reflector, same_name}
 use Rattle.cc_model.specs.Banks.{over_banks}
 use Rattle.cc_model.specs.Slots.{contents, from_to}
-use Rattle.cc_model.specs.Entries.{Entry, joints}
+use Rattle.cc_model.specs.Entries.{Entry, joints, rules_of}
 use Rattle.cc_model.specs.Checks.{slots_or_none}
 use Rattle.cc_model.specs.Graph.{Graph, GraphNative, bank, register, native_in, slots_in}
 use Rattle.cc_model.specs.Places.{places_made}
@@ -17,11 +17,13 @@ abbrev pub edges_of : Graph → Name → List Name
 edges_of g x = contents (slots_or_none (places_made g x))
 
 -- THE REACHED NAMES: the least set that has the names in the registers, is closed under edges,
--- and has the value of each entry whose map and key it has
+-- has the value of each entry whose map and key it has, and the key of each entry whose key is a proxy and whose map and
+-- delegate it has
 pub data Reached (g : Graph) : Name → Type 0 where
   held : (r : Reg) (x : Name) → register g r ≡ Some x → Reached g x
   edge : (x y : Name) → Reached g x → Among y (edges_of g x) → Reached g y
   value : (e : Entry) → Among e g.entries → Reached g e.the_map → Reached g e.key → Reached g e.value
+  key : (e : Entry) (d : Name) → Among e g.entries → e.delegate ≡ Some d → Reached g e.the_map → Reached g d → Reached g e.key
 
 -- The same set as a list
 
@@ -48,7 +50,7 @@ abbrev pub roots_of : Graph → List Name
 roots_of g = over_banks (λ b. contents (bank g b))
 
 abbrev pub reach_rules : Graph → List (Rule Name)
-reach_rules g = system (roots_of g) (all_edges g) (joints g.entries)
+reach_rules g = system (roots_of g) (all_edges g) (rules_of (joints g.entries))
 
 -- a name stands in the list once for each rule that gives it
 abbrev pub reached_names : Graph → List Name

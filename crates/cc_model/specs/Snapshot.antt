@@ -17,7 +17,7 @@ pub record Node : Type 0 where
   pub name : Name
   pub state : NodeState
 
--- of an entry with a gray value: its map and its key where these were gray, and the value
+-- of a joint that gives a gray object: its map and its key (or its delegate) where these were gray, and what it gives
 pub record Mapping : Type 0 where
   pub the_map : Option Name
   pub key : Option Name

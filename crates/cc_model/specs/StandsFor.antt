@@ -4,12 +4,12 @@ use Rattle.cc_lists.specs.Members.{Among}
 use Rattle.cc_names.specs.declared.name.Name.{Name}
 use Rattle.cc_names.specs.declared.name.Name.TheVariants as name
 use Rattle.cc_names.specs.declared.kind.Kind.{Kind}
-use Rattle.cc_names.specs.declared.kind.Kind.TheVariants.{Plain, Reflector, Map}
+use Rattle.cc_names.specs.declared.kind.Kind.TheVariants.{Plain, Reflector, Map, Proxy}
 use Rattle.cc_names.specs.Names.{native, reflector}
 use Rattle.cc_model.specs.Slots.{Slots, empty_slots, reflector_slots}
 use Rattle.cc_model.specs.Entries.{Entry, value_in}
 use Rattle.cc_model.specs.Graph as graph
-use Rattle.cc_model.specs.Graph.{Graph, GraphNative, GraphScript, plain_object, weak_map, native_in, script_in}
+use Rattle.cc_model.specs.Graph.{Graph, GraphNative, GraphScript, plain_object, weak_map, proxy, native_in, script_in, delegate_of_script}
 use Rattle.cc_model.specs.Reached.{Reached}
 use Rattle.cc_model.specs.Heap.{Heap, HeapNative, HeapScript, native_at, script_at, slots_of_script}
 
@@ -17,6 +17,7 @@ use Rattle.cc_model.specs.Heap.{Heap, HeapNative, HeapScript, native_at, script_
 abbrev pub kind_of : GraphScript → Kind
 kind_of (plain_object slots) = Plain
 kind_of weak_map = Map
+kind_of (proxy d) = Proxy
 
 -- a reflector is there where the native was wrapped
 abbrev pub reflector_kind : GraphNative → Option Kind
@@ -27,26 +28,28 @@ kind_in g (name.Native k) = None
 kind_in g (name.Script k) = option_map kind_of (script_in g k.0)
 kind_in g (name.Reflector k) = option_and_then reflector_kind (native_in g k.0)
 
--- what an object holds: its slots (none of a weak map), and whether its reflector is preserved (not for script objects)
+-- what an object holds: its slots (none of a weak map), its delegate (of a proxy alone), and whether its reflector is
+-- preserved (not for script objects)
 pub record Shape : Type 0 where
   pub slots : Option Slots
+  pub delegate : Option Name
   pub preserved : Bool
 
 abbrev pub native_shape : Slots → Bool → Shape
-native_shape slots preserved = record { slots = Some slots; preserved = preserved }
+native_shape slots preserved = record { slots = Some slots; delegate = None; preserved = preserved }
 
-abbrev pub script_shape : Option Slots → Shape
-script_shape slots = record { slots = slots; preserved = false }
+abbrev pub script_shape : Option Slots → Option Name → Shape
+script_shape slots its_delegate = record { slots = slots; delegate = its_delegate; preserved = false }
 
 -- the shape of an object in the graph; none of what was never made
 abbrev pub shape_of_native : GraphNative → Shape
 shape_of_native n = native_shape n.slots n.preserved
 
 abbrev pub shape_of_object : GraphScript → Shape
-shape_of_object o = script_shape (graph.slots_of_script o)
+shape_of_object o = script_shape (graph.slots_of_script o) (delegate_of_script o)
 
 abbrev pub shape_of_reflector : GraphNative → Option Shape
-shape_of_reflector n = option_map (λ slots. script_shape (Some slots)) n.reflector
+shape_of_reflector n = option_map (λ slots. script_shape (Some slots) None) n.reflector
 
 abbrev pub shape_in : Graph → Name → Option Shape
 shape_in g (name.Native k) = option_map shape_of_native (native_in g k.0)
@@ -58,7 +61,7 @@ abbrev pub shape_of_held_native : HeapNative → Shape
 shape_of_held_native n = native_shape n.slots n.preserved
 
 abbrev pub shape_of_held_script : HeapScript → Shape
-shape_of_held_script o = script_shape (slots_of_script o)
+shape_of_held_script o = script_shape (slots_of_script o) o.delegate
 
 abbrev pub shape_at : Heap → Name → Option Shape
 shape_at h (name.Native k) = option_map shape_of_held_native (native_at h k.0)
@@ -97,6 +100,10 @@ pub record IsKept (h : Heap) (g : Graph) (x : Name) : Type 0 where
 abbrev pub IsNoKey : Graph → Name → Type 0
 IsNoKey g x = (e : Entry) → Among e g.entries → ¬ (e.key ≡ x)
 
+-- no proxy of the graph has this delegate
+abbrev pub IsNoDelegate : Graph → Name → Type 0
+IsNoDelegate g x = (k : ℕ) (d : Name) → script_in g k ≡ Some (proxy d) → ¬ (d ≡ x)
+
 pub record StandsFor (h : Heap) (g : Graph) : Type 0 where
   -- registers, limits and numbers made agree
   pub native_registers : h.native_registers ≡ g.native_registers
@@ -115,6 +122,6 @@ pub record StandsFor (h : Heap) (g : Graph) : Type 0 where
   pub entries : ArePart h.entries g.entries
   -- a reflector that is not preserved is blank: in the graph, and in the heaps that of a reached native
   pub blank : (k : ℕ) (n : GraphNative) (slots : Slots) → native_in g k ≡ Some n → n.preserved ≡ false →
-      n.reflector ≡ Some slots → (slots ≡ empty_slots reflector_slots) × IsNoKey g (reflector k)
+      n.reflector ≡ Some slots → (slots ≡ empty_slots reflector_slots) × IsNoKey g (reflector k) × IsNoDelegate g (reflector k)
   pub blank_there : (n : HeapNative) (o : HeapScript) → Among n h.natives → n.preserved ≡ false → Reached g (native n.number) →
       Among o h.scripts → o.name ≡ reflector n.number → o.slots ≡ empty_slots reflector_slots

@@ -6,7 +6,7 @@ use Rattle.cc_names.specs.declared.name.Name.{Name}
 use Rattle.cc_names.specs.declared.name.Name.TheVariants as name
 use Rattle.cc_names.specs.Names.{native, same_name, is_native}
 use Rattle.cc_model.specs.Slots.{contents, from_to}
-use Rattle.cc_model.specs.Entries.{Entry}
+use Rattle.cc_model.specs.Entries.{Joint, joints}
 use Rattle.cc_model.specs.Heap.{Heap, HeapNative, native_at, is_gray_in}
 use Rattle.cc_model.specs.Places.{places_of_native, places_in}
 use Rattle.cc_model.specs.Snapshot.{NodeState, untraversed, gone, traversed, Node, Mapping, Snapshot}
@@ -27,12 +27,12 @@ holders_of h = map (λ n. native n.number) (filter (holds_gray h) h.natives)
 abbrev pub if_gray : Heap → Name → Option Name
 if_gray h x = elim (is_gray_in h x) [ true ↦ Some x | false ↦ None ]
 
-abbrev pub mapping_of : Heap → Entry → Mapping
+abbrev pub mapping_of : Heap → Joint → Mapping
 mapping_of h e = record { the_map = if_gray h e.the_map; key = if_gray h e.key; value = e.value }
 
--- one for each entry with a gray value, in their order
+-- one for each joint that gives a gray object, in their order: of an entry first that of a key that is a gray proxy
 abbrev pub mappings_of : Heap → List Mapping
-mappings_of h = map (mapping_of h) (filter (λ e. is_gray_in h e.value) h.entries)
+mappings_of h = map (mapping_of h) (filter (λ e. is_gray_in h e.value) (joints h.entries))
 
 -- the members that become nodes: map, key, value
 abbrev pub members_of : Mapping → List Name

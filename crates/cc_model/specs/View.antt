@@ -6,16 +6,17 @@ use Rattle.cc_names.specs.declared.name.Name.{Name}
 use Rattle.cc_names.specs.Names.{native, reflector, same_name, behind}
 use Rattle.cc_model.specs.Banks.{over_banks}
 use Rattle.cc_model.specs.Slots.{Slots, contents, from_to}
-use Rattle.cc_model.specs.Entries.{Entry, joints}
+use Rattle.cc_model.specs.Entries.{Joint, joints, rules_of}
 use Rattle.cc_model.specs.Heap.{Heap, HeapNative, HeapScript, Buffered, bank, is_white_colour, is_gray_colour, is_black_colour}
 use Rattle.cc_model.specs.Places.{places_of_native, places_of_script, script_places_of}
 
 pub record View : Type 0 where
   -- what the registers of all banks hold, empty ones left out
   pub registers : List Name
-  -- slots of natives and of script objects, a native to its preserved reflector, a reflector to its native
+  -- to what the places of natives and of script objects hold
   pub edges : List (Name × Name)
-  pub entries : List Entry
+  -- what the entries of weak maps give
+  pub joints : List Joint
   -- each with its count
   pub natives : List (Name × ℕ)
   pub buffer : List Name
@@ -56,7 +57,7 @@ abbrev pub view : Heap → View
 view h = record {
   registers = over_banks (λ b. contents (bank h b));
   edges = flat_map native_edges h.natives ++ flat_map script_edges h.scripts;
-  entries = h.entries;
+  joints = joints h.entries;
   natives = map counted h.natives;
   buffer = map buffered h.buffer;
   purple = map buffered (filter (λ b. b.purple) h.buffer);
@@ -67,7 +68,7 @@ view h = record {
 
 -- WHAT THE REGISTERS REACH in the heaps: a set by rules, and the same as a list
 abbrev pub view_rules : View → List (Rule Name)
-view_rules v = system v.registers v.edges (joints v.entries)
+view_rules v = system v.registers v.edges (rules_of v.joints)
 
 abbrev pub ReachedIn : View → Name → Type 0
 ReachedIn v = Least (view_rules v)

@@ -7,7 +7,7 @@ use Rattle.cc_names.specs.Names.{object, reflector, is_native, is_script}
 use Rattle.cc_names.specs.Sizes.{bank_length, most_slots}
 use Rattle.cc_model.specs.Slots.{Slots, contents, reflector_slots}
 use Rattle.cc_model.specs.Entries.{Entry, is_entry_of}
-use Rattle.cc_model.specs.Graph.{Graph, GraphNative, plain_object, weak_map, native_in, script_in}
+use Rattle.cc_model.specs.Graph.{Graph, GraphNative, plain_object, weak_map, proxy, native_in, script_in, delegate_in}
 
 -- whether an object of this name was made
 abbrev pub was_made : Graph → Name → Bool
@@ -27,6 +27,8 @@ pub record IsMadeEntry (g : Graph) (e : Entry) : Type 0 where
   pub the_map : (k : ℕ) × (e.the_map ≡ object k) × (script_in g k ≡ Some weak_map)
   pub key : IsTrue (is_made_script g e.key)
   pub value : IsTrue (is_made_script g e.value)
+  -- and its delegate that of its key
+  pub delegate : e.delegate ≡ delegate_in g e.key
 
 pub record IsWellMade (g : Graph) : Type 0 where
   -- native registers hold natives, script registers script objects
@@ -43,6 +45,8 @@ pub record IsWellMade (g : Graph) : Type 0 where
       Among x (contents slots) → IsTrue (is_made_script g x)
   pub script_slots : (k : ℕ) (slots : Slots) → script_in g k ≡ Some (plain_object slots) → length slots ≤ most_slots
   pub script_contents : (k : ℕ) (slots : Slots) (x : Name) → script_in g k ≡ Some (plain_object slots) → Among x (contents slots) → IsTrue (is_made_script g x)
+  -- the delegate of a proxy is a script object that was made
+  pub delegates : (k : ℕ) (d : Name) → script_in g k ≡ Some (proxy d) → IsTrue (is_made_script g d)
   -- at most one entry for each map and key
   pub entries : (e : Entry) → Among e g.entries → IsMadeEntry g e
   pub one_entry : (m k : Name) → count_by (is_entry_of m k) g.entries ≤ 1

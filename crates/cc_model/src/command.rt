@@ -16,6 +16,8 @@ pub enum Command {
     Script(RegNo, SlotNo),
     /// `weakmap sD`: makes an empty weak map.
     WeakMap(RegNo),
+    /// `proxy sD sS`: makes a proxy of what the source holds.
+    Proxy(RegNo, RegNo),
     /// `copy nD nS`: the destination holds what the source holds.
     CopyNative(RegNo, SlotNo),
     /// `copy sD sS`: the same for script registers.

@@ -12,7 +12,7 @@ use Rattle.cc_names.specs.declared.register.Reg.TheVariants.{N, S}
 use Rattle.cc_names.specs.Names.{native, reflector, same_name, is_native, is_script}
 use Rattle.cc_names.proofs.NameTests.{same_name-exact}
 use Rattle.cc_model.specs.declared.command.Command.{Command}
-use Rattle.cc_model.specs.declared.command.Command.TheVariants.{Native, Script, WeakMap, CopyNative, CopyScript, Drop, Set, Get, Put, Take, Wrap, Unwrap, Preserve, SetEntry, GetEntry, Expose}
+use Rattle.cc_model.specs.declared.command.Command.TheVariants.{Native, Script, WeakMap, Proxy, CopyNative, CopyScript, Drop, Set, Get, Put, Take, Wrap, Unwrap, Preserve, SetEntry, GetEntry, Expose}
 use Rattle.cc_model.specs.declared.item.Refusal.{Refusal}
 use Rattle.cc_model.specs.declared.item.Refusal.TheVariants.{NoMemory}
 use Rattle.cc_model.specs.declared.item.Reply.{Reply}

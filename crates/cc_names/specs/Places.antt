@@ -11,14 +11,15 @@ where_set set x = elim set [ true ↦ x | false ↦ None ]
 abbrev pub native_places : {X : Type 0} → List (Option X) → Bool → Option X → List (Option X)
 native_places slots preserved its_reflector = slots ++ where_set preserved its_reflector ∷ []
 
--- THE PLACES OF A SCRIPT OBJECT that lead to script objects, over which script and marking go: its slots
-abbrev pub script_places : {X : Type 0} → List (Option X) → List (Option X)
-script_places slots = slots
+-- THE PLACES OF A SCRIPT OBJECT that lead to script objects, over which script and marking go: its slots, and one for its
+-- delegate, where it is a proxy
+abbrev pub script_places : {X : Type 0} → List (Option X) → Option X → List (Option X)
+script_places slots its_delegate = slots ++ its_delegate ∷ []
 
 -- ALL PLACES OF A SCRIPT OBJECT: these, and one for its native, where it is a reflector
-abbrev pub all_script_places : {X : Type 0} → List (Option X) → Option X → List (Option X)
-all_script_places slots its_native = script_places slots ++ its_native ∷ []
+abbrev pub all_script_places : {X : Type 0} → List (Option X) → Option X → Option X → List (Option X)
+all_script_places slots its_delegate its_native = script_places slots its_delegate ++ its_native ∷ []
 
--- THE MEMBERS OF AN ENTRY as a rule: its map and its key together lead to its value
-abbrev pub entry_joint : {X : Type 0} → X → X → X → List X × X
-entry_joint the_map key value = (the_map ∷ key ∷ [], value)
+-- THE MEMBERS OF A JOINT as a rule: a map and what joins it together lead to what they give
+abbrev pub joint_rule : {X : Type 0} → X → X → X → List X × X
+joint_rule the_map with_it gives = (the_map ∷ with_it ∷ [], gives)

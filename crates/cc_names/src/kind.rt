@@ -9,6 +9,8 @@ pub enum Kind {
     Reflector,
     /// A weak map: no slots; its entries stand in a list of their own.
     Map,
+    /// No slots, and a delegate for good: the script object that it stands for.
+    Proxy,
 }
 
 /// The colour that script marking gives a script object.
