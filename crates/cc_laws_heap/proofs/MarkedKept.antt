@@ -11,7 +11,7 @@ use Rattle.cc_names.specs.declared.kind.Colour.TheVariants.{White}
 use Rattle.cc_names.specs.Names.{native, reflector, same_name, is_script}
 use Rattle.cc_names.proofs.NameTests.{same_name-exact}
 use Rattle.cc_model.specs.Slots.{contents, from_to}
-use Rattle.cc_model.specs.Entries.{Entry, joints}
+use Rattle.cc_model.specs.Entries.{Entry, joints, rules_of}
 use Rattle.cc_model.specs.Heap.{Heap, HeapNative, HeapScript, is_white_colour}
 use Rattle.cc_model.specs.Places.{places_of_native}
 use Rattle.cc_model.specs.View.{slot_edges, native_edges, script_slot_edges}
@@ -31,7 +31,7 @@ module _ (h : Heap) where
 
   -- what a script register holds is black
   pub black-register : (x : Name) → Among x (contents h.script_registers) → IsBlack h x
-  black-register x m = derive-root (contents h.script_registers) (slots_of_scripts h) (joints h.entries) x m
+  black-register x m = derive-root (contents h.script_registers) (slots_of_scripts h) (rules_of (joints h.entries)) x m
 
   -- what a script object has in a slot is an edge
   slot-edge : (o : HeapScript) (x : Name) → Among o h.scripts → Among x (contents o.slots) → Among (o.name, x) (slots_of_scripts h)
@@ -39,11 +39,11 @@ module _ (h : Heap) where
 
   -- what a black script object has in a slot is black
   pub black-slot : (o : HeapScript) (x : Name) → Among o h.scripts → Among x (contents o.slots) → IsBlack h o.name → IsBlack h x
-  black-slot o x m i d = derive-along (contents h.script_registers) (slots_of_scripts h) (joints h.entries) o.name x (slot-edge o x m i) d
+  black-slot o x m i d = derive-along (contents h.script_registers) (slots_of_scripts h) (rules_of (joints h.entries)) o.name x (slot-edge o x m i) d
 
   -- what a marked script object has in a slot is marked
   pub marked-slot : (o : HeapScript) (x : Name) → Among o h.scripts → Among x (contents o.slots) → IsMarked h o.name → IsMarked h x
-  marked-slot o x m i d = derive-along (black_names h ++ scripts_held h) (slots_of_scripts h) (joints h.entries) o.name x (slot-edge o x m i) d
+  marked-slot o x m i d = derive-along (black_names h ++ scripts_held h) (slots_of_scripts h) (rules_of (joints h.entries)) o.name x (slot-edge o x m i) d
 
   -- the value of an entry whose map and key are marked is marked
   pub marked-value : (e : Entry) → Among e h.entries → IsMarked h e.the_map → IsMarked h e.key → IsMarked h e.value
@@ -51,7 +51,7 @@ module _ (h : Heap) where
 
   -- what a native refers to and is a script object is marked
   pub marked-held : (n : HeapNative) (x : Name) → Among n h.natives → Among (native n.number, x) (native_edges n) → is_script x ≡ true → IsMarked h x
-  marked-held n x m i s = derive-root (black_names h ++ scripts_held h) (slots_of_scripts h) (joints h.entries) x
+  marked-held n x m i s = derive-root (black_names h ++ scripts_held h) (slots_of_scripts h) (rules_of (joints h.entries)) x
       (Among-right x (black_names h) (scripts_held h)
       (Among-flat_map scripts_held_by n x h.natives m
       (Among-filter is_script x (contents (places_of_native n))

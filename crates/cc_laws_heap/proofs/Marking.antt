@@ -10,7 +10,7 @@ use Rattle.cc_names.specs.declared.kind.Colour.TheVariants.{White, Gray, Black}
 use Rattle.cc_names.specs.Names.{same_name}
 use Rattle.cc_names.proofs.NameTests.{same_name-exact}
 use Rattle.cc_model.specs.Slots.{contents}
-use Rattle.cc_model.specs.Entries.{joints}
+use Rattle.cc_model.specs.Entries.{joints, rules_of}
 use Rattle.cc_model.specs.Heap.{Heap, HeapScript}
 use Rattle.cc_model.specs.View.{script_slot_edges}
 use Rattle.cc_model.specs.Exposure.{slots_of_scripts}
@@ -39,11 +39,11 @@ colour_of-white b m e = grind arith
 
 -- a name is black where it stands in the list of black names
 pub black-decided : (h : Heap) (x : Name) → (has same_name (black_names h) x ≡ true) ↔ IsBlack h x
-black-decided h x = closure-decides same_name same_name-exact (system (contents h.script_registers) (slots_of_scripts h) (joints h.entries)) x
+black-decided h x = closure-decides same_name same_name-exact (system (contents h.script_registers) (slots_of_scripts h) (rules_of (joints h.entries))) x
 
 -- and marked where it stands in the list of marked names
 pub marked-decided : (h : Heap) (x : Name) → (has same_name (marked_names h) x ≡ true) ↔ IsMarked h x
-marked-decided h x = closure-decides same_name same_name-exact (system (black_names h ++ scripts_held h) (slots_of_scripts h) (joints h.entries)) x
+marked-decided h x = closure-decides same_name same_name-exact (system (black_names h ++ scripts_held h) (slots_of_scripts h) (rules_of (joints h.entries))) x
 
 -- Marking changes colours alone
 
@@ -59,7 +59,7 @@ slots_of_scripts-marked h = flat_map-kept script_slot_edges (as_marked h) h.scri
 -- the black names stay
 black_names-marked : (h : Heap) → black_names (marked h) ≡ black_names h
 unfolding marked
-black_names-marked h = ap (λ edges. closure same_name (system (contents h.script_registers) edges (joints h.entries))) (slots_of_scripts-marked h)
+black_names-marked h = ap (λ edges. closure same_name (system (contents h.script_registers) edges (rules_of (joints h.entries)))) (slots_of_scripts-marked h)
 
 -- and so do the marked names
 pub marked_names-marked : (h : Heap) → marked_names (marked h) ≡ marked_names h

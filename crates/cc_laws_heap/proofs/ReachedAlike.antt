@@ -7,7 +7,7 @@ use Rattle.cc_names.specs.declared.name.Name.{Name}
 use Rattle.cc_names.specs.declared.register.Reg.{Reg}
 use Rattle.cc_names.specs.declared.register.Reg.TheVariants.{N, S}
 use Rattle.cc_model.specs.Slots.{Slots, contents}
-use Rattle.cc_model.specs.Entries.{Entry, joint, joints}
+use Rattle.cc_model.specs.Entries.{Entry, joint, joints, rules_of}
 use Rattle.cc_model.specs.Graph.{Graph, register}
 use Rattle.cc_model.specs.Reached.{Reached, held, edge, value, edges_of}
 use Rattle.cc_model.specs.WellMade.{IsWellMade}
@@ -52,22 +52,22 @@ reached-there h g x s d = let k = s.reached x d in shape_at-there h x k.shape k.
 module _ (h : Heap) (g : Graph) (w : IsWellFormed h) (m : IsWellMade g) (s : StandsFor h g) where
   -- it is reached there
   pub reached-in : (x : Name) → Reached g x → ReachedIn (view h) x
-  reached-in _ (held r x e) = derive-root (view h).registers (view h).edges (joints h.entries) x (register-root h g s r x e)
+  reached-in _ (held r x e) = derive-root (view h).registers (view h).edges (rules_of (joints h.entries)) x (register-root h g s r x e)
   reached-in _ (edge x y d i) =
       let k = s.reached x d in
-      derive-along (view h).registers (view h).edges (joints h.entries) x y
+      derive-along (view h).registers (view h).edges (rules_of (joints h.entries)) x y
       (held-edge h w x y k.shape k.there (subst (Among y) (edges_of-made g x k.shape k.made) i)) (reached-in x d)
   reached-in _ (value e i a b) =
       let f = found-among h.entries e.the_map e.key e.value (s.values e.the_map e.key a b ∙ found-only g.entries e (m.one_entry e.the_map e.key) i) in
       subst (ReachedIn (view h)) f.4
-      (derive-jointly (view h).registers (view h).edges (joints h.entries) (f.0.the_map ∷ f.0.key ∷ []) f.0.value (Among-map joint f.0 h.entries f.1)
+      (derive-jointly (view h).registers (view h).edges (rules_of (joints h.entries)) (f.0.the_map ∷ f.0.key ∷ []) f.0.value (Among-map joint f.0 h.entries f.1)
       (λ y j. ⊎_elim
       (λ p. subst (ReachedIn (view h)) (sym f.2 ∙ p) (reached-in e.the_map a))
       (λ t. ⊎_elim (λ p. subst (ReachedIn (view h)) (sym f.3 ∙ p) (reached-in e.key b)) (λ n. absurd n) t) j))
 
   -- And what is reached there is reached in the graph.
   pub in-reached : (x : Name) → ReachedIn (view h) x → Reached g x
-  in-reached = derived-within (view h).registers (view h).edges (joints h.entries) (Reached g) root along jointly
+  in-reached = derived-within (view h).registers (view h).edges (rules_of (joints h.entries)) (Reached g) root along jointly
     where
       root : (x : Name) → Among x (view h).registers → Reached g x
       root x i = ⊎_elim
@@ -83,7 +83,7 @@ module _ (h : Heap) (g : Graph) (w : IsWellFormed h) (m : IsWellMade g) (s : Sta
           let same : k.shape ≡ f.0 = cc in
           edge x y d (subst (Among y) (sym (edges_of-made g x k.shape k.made)) (subst (λ t. Among y (edges_of_shape x t)) (sym same) f.2))
 
-      jointly : (ps : List Name) (y : Name) → Among (ps, y) (joints h.entries) → ((x : Name) → Among x ps → Reached g x) → Reached g y
+      jointly : (ps : List Name) (y : Name) → Among (ps, y) (rules_of (joints h.entries)) → ((x : Name) → Among x ps → Reached g x) → Reached g y
       jointly ps y i f =
           let k = Among-map_cases joint h.entries (ps, y) i in
           let e : Entry = k.0 in

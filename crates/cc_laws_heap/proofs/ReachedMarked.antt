@@ -8,7 +8,7 @@ use Rattle.cc_lists.proofs.Least.{derived-within}
 use Rattle.cc_names.specs.declared.name.Name.{Name}
 use Rattle.cc_names.specs.Names.{native, same_name, is_script}
 use Rattle.cc_model.specs.Slots.{contents}
-use Rattle.cc_model.specs.Entries.{joints}
+use Rattle.cc_model.specs.Entries.{joints, rules_of}
 use Rattle.cc_model.specs.Graph.{Graph}
 use Rattle.cc_model.specs.Reached.{Reached}
 use Rattle.cc_model.specs.WellMade.{IsWellMade}
@@ -50,12 +50,12 @@ module _ (h : Heap) (w : IsWellFormed h) where
       (Among-append (x, y) (flat_map native_edges h.natives) (flat_map script_edges h.scripts) m)
 
   -- the value of an entry whose map and key are marked
-  entry-marked : (ps : List Name) (y : Name) → Among (ps, y) (joints h.entries) → ((x : Name) → Among x ps → IsMarkedScript h x) → IsMarkedScript h y
+  entry-marked : (ps : List Name) (y : Name) → Among (ps, y) (rules_of (joints h.entries)) → ((x : Name) → Among x ps → IsMarkedScript h x) → IsMarkedScript h y
   entry-marked ps y m d s = grind (arith, Among-map_cases, entry-named, marked-value)
 
   -- What the registers reach and is a script object is marked.
   reached-marked : (x : Name) → ReachedIn (view h) x → IsMarkedScript h x
-  reached-marked = derived-within (view h).registers (view h).edges (joints h.entries) (IsMarkedScript h) register-marked edge-marked entry-marked
+  reached-marked = derived-within (view h).registers (view h).edges (rules_of (joints h.entries)) (IsMarkedScript h) register-marked edge-marked entry-marked
 
 -- what is marked is marked after marking
 marked-marked : (h : Heap) (x : Name) → IsMarked h x → IsMarked (marked h) x

@@ -12,7 +12,7 @@ use Rattle.cc_names.specs.declared.kind.Colour.TheVariants.{Black}
 use Rattle.cc_names.specs.Names.{native, same_name, is_script}
 use Rattle.cc_names.proofs.NameTests.{same_name-exact}
 use Rattle.cc_model.specs.Slots.{contents, from_to}
-use Rattle.cc_model.specs.Entries.{Entry, joint, joints}
+use Rattle.cc_model.specs.Entries.{Entry, joint, joints, rules_of}
 use Rattle.cc_model.specs.Heap.{Heap, HeapNative, HeapScript, Buffered, is_black_colour, is_gray_in}
 use Rattle.cc_model.specs.View.{view, buffered, native_edges, script_edges, script_slot_edges, view_rules, ReachedIn, reached_in, scripts_there}
 use Rattle.cc_model.specs.WellFormed.{HasMembers, native_names, script_names, names_there}
@@ -74,10 +74,10 @@ module _ (h : Heap) where
 
   -- what is black by the rules is reached
   pub black-reached : (x : Name) → IsBlack h x → ReachedIn (view h) x
-  black-reached = derived-within (contents h.script_registers) (slots_of_scripts h) (joints h.entries) (ReachedIn (view h))
-      (λ x m. derive-root (view h).registers (view h).edges (joints h.entries) x (Among-right x (contents h.native_registers) (contents h.script_registers) m))
-      (λ x y e d. derive-along (view h).registers (view h).edges (joints h.entries) x y (slot-edge x y e) d)
-      (λ ps y e d. derive-jointly (view h).registers (view h).edges (joints h.entries) ps y e d)
+  black-reached = derived-within (contents h.script_registers) (slots_of_scripts h) (rules_of (joints h.entries)) (ReachedIn (view h))
+      (λ x m. derive-root (view h).registers (view h).edges (rules_of (joints h.entries)) x (Among-right x (contents h.native_registers) (contents h.script_registers) m))
+      (λ x y e d. derive-along (view h).registers (view h).edges (rules_of (joints h.entries)) x y (slot-edge x y e) d)
+      (λ ps y e d. derive-jointly (view h).registers (view h).edges (rules_of (joints h.entries)) ps y e d)
 
   -- where the colours are those of marking, a black script object is reached
   pub coloured_black-reached : HasColours h → (x : Name) → Among x (view h).black → ReachedIn (view h) x
@@ -121,7 +121,7 @@ module _ (h : Heap) (sound : IsSound [] h) (c : HasColours h) (none : unmarked h
 
   -- who holds what is unreached is unreached
   out-back : (x y : Name) → Among (x, y) (view h).edges → ¬ (ReachedIn (view h) y) → ¬ (ReachedIn (view h) x)
-  out-back x y e out r = out (derive-along (view h).registers (view h).edges (joints h.entries) x y e r)
+  out-back x y e out r = out (derive-along (view h).registers (view h).edges (rules_of (joints h.entries)) x y e r)
 
   -- the value of an entry is there
   value-there : (e : Entry) → Among e h.entries → Among e.value (script_names h)
@@ -150,7 +150,7 @@ module _ (h : Heap) (sound : IsSound [] h) (c : HasColours h) (none : unmarked h
 
   -- so is one that is marked
   marked-from : (x : Name) → IsMarked h x → Among x (script_names h) → ¬ (ReachedIn (view h) x) → FromNode x
-  marked-from = derived-within (black_names h ++ scripts_held h) (slots_of_scripts h) (joints h.entries)
+  marked-from = derived-within (black_names h ++ scripts_held h) (slots_of_scripts h) (rules_of (joints h.entries))
       (λ x. Among x (script_names h) → ¬ (ReachedIn (view h) x) → FromNode x)
       (λ x m there out. ⊎_elim
       (λ b. absurd (out (black-reached h x (closure-derived same_name same_name-exact (black_rules h) x b))))
@@ -215,7 +215,7 @@ module _ (h : Heap) (sound : IsSound [] h) (c : HasColours h) (none : unmarked h
   garbage-joint : (e : Entry) → Among e h.entries → Among e.value (garbage h) → Among e.the_map (garbage h) ⊎ Among e.key (garbage h)
   garbage-joint e m b = ⊎_elim
       (λ r. ⊎_elim
-      (λ t. absurd (garbage-out h e.value b (derive-jointly (view h).registers (view h).edges (joints h.entries) (e.the_map ∷ e.key ∷ []) e.value
+      (λ t. absurd (garbage-out h e.value b (derive-jointly (view h).registers (view h).edges (rules_of (joints h.entries)) (e.the_map ∷ e.key ∷ []) e.value
       (Among-map joint e h.entries m)
       (λ y i. ⊎_elim (λ s. subst (ReachedIn (view h)) s r) (λ l. ⊎_elim (λ s. subst (ReachedIn (view h)) s t) (λ n. absurd n) l) i))))
       (λ out. inr (garbage-there h e.key (Among-right e.key (native_names h) (script_names h) members.key) out))
@@ -259,7 +259,7 @@ module _ (h : Heap) (sound : IsSound [] h) (c : HasColours h) (none : unmarked h
   begun-doomed = record {
     natives = λ i b. living-named h i (native-there h i sound.well_formed (garbage-is_there h (native i) b));
     scripts = λ x b e. there-named h x (script-place h x e (garbage-is_there h x b));
-    unregistered = λ x b m. garbage-out h x b (derive-root (view h).registers (view h).edges (joints h.entries) x m);
+    unregistered = λ x b m. garbage-out h x b (derive-root (view h).registers (view h).edges (rules_of (joints h.entries)) x m);
     unbuffered = λ x b m. m;
     unmarked = λ x b m. garbage-out h x b (coloured_black-reached h c x m);
     holder = λ x y e b. garbage-there h x (edge-there h x y e) (out-back x y e (garbage-out h y b));

@@ -11,7 +11,7 @@ use Rattle.cc_names.specs.declared.name.Name.TheVariants as name
 use Rattle.cc_names.specs.Names.{native, same_name, is_script}
 use Rattle.cc_names.proofs.NameTests.{same_name-true, same_name-exact}
 use Rattle.cc_model.specs.Slots.{contents}
-use Rattle.cc_model.specs.Entries.{joints}
+use Rattle.cc_model.specs.Entries.{joints, rules_of}
 use Rattle.cc_model.specs.Heap.{Heap, HeapNative}
 use Rattle.cc_model.specs.View.{view, counted, to, native_edges}
 use Rattle.cc_model.specs.WellFormed.{native_names, script_names, names_there}
@@ -31,12 +31,12 @@ pub record PassesOn (h : Heap) (P : Name → Type 0) : Type 0 where
   pub registers : (x : Name) → Among x (view h).registers → P x
   pub holder : (k : ℕ) (y : Name) → Among (native k, y) (view h).edges → P (native k)
   pub edges : (x y : Name) → Among (x, y) (view h).edges → P x → P y
-  pub entries : (ps : List Name) (y : Name) → Among (ps, y) (joints h.entries) → ((p : Name) → Among p ps → P p) → P y
+  pub entries : (ps : List Name) (y : Name) → Among (ps, y) (rules_of (joints h.entries)) → ((p : Name) → Among p ps → P p) → P y
 
 module _ (h : Heap) (s : IsSound [] h) (c : HasColours h) (none : unmarked h ≡ []) (P : Name → Type 0) (p : PassesOn h P) where
   -- what is black has it
   black-has : (x : Name) → IsBlack h x → P x
-  black-has = derived-within (contents h.script_registers) (slots_of_scripts h) (joints h.entries) P
+  black-has = derived-within (contents h.script_registers) (slots_of_scripts h) (rules_of (joints h.entries)) P
       (λ x m. p.registers x (Among-right x (contents h.native_registers) (contents h.script_registers) m))
       (λ x y e k. p.edges x y (slot-edge h x y e) k)
       p.entries
@@ -54,7 +54,7 @@ module _ (h : Heap) (s : IsSound [] h) (c : HasColours h) (none : unmarked h ≡
 
   -- what is marked has it
   marked-has : (x : Name) → IsMarked h x → P x
-  marked-has = derived-within (black_names h ++ scripts_held h) (slots_of_scripts h) (joints h.entries) P
+  marked-has = derived-within (black_names h ++ scripts_held h) (slots_of_scripts h) (rules_of (joints h.entries)) P
       (λ x m. ⊎_elim
       (λ b. black-has x (closure-derived same_name same_name-exact (black_rules h) x b))
       (λ l. held-has x l)

@@ -11,7 +11,7 @@ use Rattle.cc_names.specs.declared.name.Name.TheVariants as name
 use Rattle.cc_names.specs.declared.kind.Kind.TheVariants.{Reflector}
 use Rattle.cc_names.specs.Names.{native, reflector, is_native, behind}
 use Rattle.cc_model.specs.Slots.{Slots, contents, from_to, empty_slots, reflector_slots}
-use Rattle.cc_model.specs.Entries.{Entry, joints}
+use Rattle.cc_model.specs.Entries.{Entry, joints, rules_of}
 use Rattle.cc_model.specs.Graph.{Graph, GraphNative, native_in}
 use Rattle.cc_model.specs.WellMade.{IsWellMade}
 use Rattle.cc_model.specs.Heap.{Heap, HeapNative, HeapScript}
@@ -93,7 +93,7 @@ module _ (h : Heap) (g : Graph) (sound : IsSound [] h) (well : IsWellMade g) (st
           let edge : Among (native n.number, reflector n.number) (view h).edges =
           native-edge h n (native n.number) (reflector n.number) there (native_edges-has n (native n.number) (reflector n.number) refl (inr (e, refl))) in
           absurd (garbage-out h (reflector n.number) b
-          (derive-along (view h).registers (view h).edges (joints h.entries) (native n.number) (reflector n.number) edge r))
+          (derive-along (view h).registers (view h).edges (rules_of (joints h.entries)) (native n.number) (reflector n.number) edge r))
       go false e = refl
 
   -- garbage is lost, or such a reflector

@@ -7,7 +7,7 @@ use Rattle.cc_lists.proofs.Least.{derive-root, derive-along, derive-jointly}
 use Rattle.cc_names.specs.declared.name.Name.{Name}
 use Rattle.cc_names.specs.Names.{native, is_script}
 use Rattle.cc_model.specs.Slots.{contents}
-use Rattle.cc_model.specs.Entries.{joints}
+use Rattle.cc_model.specs.Entries.{joints, rules_of}
 use Rattle.cc_model.specs.Heap.{Heap, HeapNative, HeapScript}
 use Rattle.cc_model.specs.View.{View, view, native_edges, script_edges, ReachedIn}
 use Rattle.cc_model.specs.WellFormed.{script_names, names_there}
@@ -103,8 +103,8 @@ pub collected-reached : (h : Heap) → IsSound [] h → IsTidy h → (x : Name) 
 collected-reached h s t x m =
     let v : View = view (collect_scripts h).heap in
     collected-has h (ReachedIn v) s (record {
-      registers = λ x m. derive-root v.registers v.edges (joints v.entries) x m;
+      registers = λ x m. derive-root v.registers v.edges (rules_of v.joints) x m;
       holder = collect_scripts-tidy h s t;
-      edges = λ x y e r. derive-along v.registers v.edges (joints v.entries) x y e r;
-      entries = λ ps y e d. derive-jointly v.registers v.edges (joints v.entries) ps y e d;
+      edges = λ x y e r. derive-along v.registers v.edges (rules_of v.joints) x y e r;
+      entries = λ ps y e d. derive-jointly v.registers v.edges (rules_of v.joints) ps y e d;
     }) x m

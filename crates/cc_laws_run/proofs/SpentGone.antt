@@ -4,7 +4,7 @@ use Rattle.cc_lists.specs.Members.{Among}
 use Rattle.cc_lists.proofs.Members.{Among-map_cases, Among-filtered}
 use Rattle.cc_names.specs.declared.name.Name.{Name}
 use Rattle.cc_model.specs.Slots.{contents}
-use Rattle.cc_model.specs.Entries.{joints}
+use Rattle.cc_model.specs.Entries.{joints, rules_of}
 use Rattle.cc_model.specs.Heap.{Heap}
 use Rattle.cc_model.specs.View.{view, script_edges}
 use Rattle.cc_model.specs.WellFormed.{names_there}
@@ -48,7 +48,7 @@ collect_scripts-less h s = collecting-keeps (λ o. IsLess h o.heap) (λ o c l. I
 -- What is left
 
 -- what is no member leads to none over an entry
-jointly-out : (ds : List Name) (h : Heap) → IsSpent h ds → (ps : List Name) (y : Name) → Among (ps, y) (joints h.entries) →
+jointly-out : (ds : List Name) (h : Heap) → IsSpent h ds → (ps : List Name) (y : Name) → Among (ps, y) (rules_of (joints h.entries)) →
     ((p : Name) → Among p ps → ¬ (Among p ds)) → ¬ (Among y ds)
 jointly-out ds h d ps y e out m = grind (arith, Among-map_cases)
 

@@ -232,8 +232,8 @@ module _ (ds : List Name) (g : Heap) where
       ¬ (Among (object (h.scripts_made + 1)) ds) → Left h → Left (effects h c).heap
   unfolding effects
   leaves-effects h (Native r n) w keeps a b d = leaves-make_native h r n a d
-  leaves-effects h (Script r n) w keeps a b d = leaves-make_object h r Plain n b d
-  leaves-effects h (WeakMap r) w keeps a b d = leaves-make_object h r Map 0 b d
+  leaves-effects h (Script r n) w keeps a b d = leaves-make_object h r Plain n None b d
+  leaves-effects h (WeakMap r) w keeps a b d = leaves-make_object h r Map 0 None b d
   leaves-effects h (CopyNative r q) w keeps a b d = leaves-hold_native h r (register h (N q)) (register-untouched ds h d.apart (N q)) d
   leaves-effects h (CopyScript r q) w keeps a b d = leaves-register h (S r) (register h (S q)) (register-untouched ds h d.apart (S q)) d
   leaves-effects h (Drop (N r)) w keeps a b d = leaves-put_in_register h r None (λ y m i. m) d

@@ -100,8 +100,8 @@ pub effects-loyal : {owned : List ℕ} (h : Heap) (c : Command) → IsSound owne
 unfolding effects
 effects-loyal {owned} h (Native d n) s r t u = make_native-loyal h d n (below-first d (is_slots n) r) (few-slots n (is_register d) r)
     (leb-false h.limits.natives h.natives_made t.room) s
-effects-loyal {owned} h (Script d n) s r t u = still-loyal h (make_object h d Plain n) s u (Still-make_object h d Plain n)
-effects-loyal {owned} h (WeakMap d) s r t u = still-loyal h (make_object h d Map 0) s u (Still-make_object h d Map 0)
+effects-loyal {owned} h (Script d n) s r t u = still-loyal h (make_object h d Plain n None) s u (Still-make_object h d Plain n None)
+effects-loyal {owned} h (WeakMap d) s r t u = still-loyal h (make_object h d Map 0 None) s u (Still-make_object h d Map 0 None)
 effects-loyal {owned} h (CopyNative d q) s r t u = hold_native-loyal h d (register h (N q)) (below-first d (is_register q) r) (native_register-there h q s.well_formed) s
 effects-loyal {owned} h (CopyScript d q) s r t u = still-loyal h (set_register h (S d) (register h (S q))) s u (Still-script_register h d (register h (S q)))
 effects-loyal {owned} h (Drop (N d)) s r t u = drop_native-loyal h d (ltb-true d bank_length r) s

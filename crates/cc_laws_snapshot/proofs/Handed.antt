@@ -12,7 +12,7 @@ use Rattle.cc_names.specs.declared.name.Name.TheVariants as name
 use Rattle.cc_names.specs.declared.register.Reg.TheVariants.{N}
 use Rattle.cc_names.specs.Names.{native, reflector}
 use Rattle.cc_model.specs.Slots.{contents}
-use Rattle.cc_model.specs.Entries.{joints}
+use Rattle.cc_model.specs.Entries.{joints, rules_of}
 use Rattle.cc_model.specs.Heap.{Heap, HeapNative, native_at, register, set_register, change_native, with_native_slot, with_mark}
 use Rattle.cc_model.specs.View.{view, buffered, ReachedIn}
 use Rattle.cc_model.specs.Cascade.{add_ref, take_up}
@@ -138,7 +138,7 @@ Hands-slot h g number i holder x distinct t found room reached living = record {
     after = change_native g number (with_native_slot i x)
 
     held : (j : ℕ) → Among (native j) (option_to_list x) → ReachedIn (view after) (native j)
-    held j m = derive-along (view after).registers (view after).edges (joints (view after).entries) (native number) (native j)
+    held j m = derive-along (view after).registers (view after).edges (rules_of (view after).joints) (native number) (native j)
         (subst (λ k. Among (native k, native j) (view after).edges) (native_at-number g number holder found)
         (edge-from_slot after (with_native_slot i x holder) (native j) (slot_written-there g number i holder x found)
         (contents-written_there holder.slots i x (native j) room m)))

@@ -9,7 +9,7 @@ use Rattle.cc_names.specs.declared.name.Name.{Name}
 use Rattle.cc_names.specs.declared.name.Name.TheVariants as name
 use Rattle.cc_names.specs.Names.{native, reflector, number_of, is_script, behind}
 use Rattle.cc_model.specs.Slots.{contents, from_to}
-use Rattle.cc_model.specs.Entries.{joints}
+use Rattle.cc_model.specs.Entries.{joints, rules_of}
 use Rattle.cc_model.specs.Heap.{Heap, HeapNative, HeapScript}
 use Rattle.cc_model.specs.View.{view, ReachedIn, slot_edges, preserved_edge, native_edges, script_slot_edges, script_edges}
 use Rattle.cc_model.specs.Cascade.{let_go}
@@ -59,7 +59,7 @@ edge-from_reflector h i m =
 
 -- what a native register holds is reached
 pub register-reached : (h : Heap) (x : Name) → Among x (contents h.native_registers) → ReachedIn (view h) x
-register-reached h x m = derive-root (view h).registers (view h).edges (joints h.entries) x (Among-left x (contents h.native_registers) (contents h.script_registers) m)
+register-reached h x m = derive-root (view h).registers (view h).edges (rules_of (joints h.entries)) x (Among-left x (contents h.native_registers) (contents h.script_registers) m)
 
 -- only the natives `owned` lose references; who loses his mark, enters the buffer or is made is reached
 pub record Hands (owned : List ℕ) (h g : Heap) : Type 0 where

@@ -10,7 +10,7 @@ use Rattle.cc_names.specs.declared.name.Name.{Name}
 use Rattle.cc_names.specs.declared.name.Name.TheVariants as name
 use Rattle.cc_names.specs.Names.{native, object, reflector, same_name, is_native, is_script}
 use Rattle.cc_names.proofs.NameTests.{same_name-exact}
-use Rattle.cc_model.specs.Entries.{Entry, joint, joints}
+use Rattle.cc_model.specs.Entries.{Entry, joint, joints, rules_of}
 use Rattle.cc_model.specs.Heap.{Heap}
 use Rattle.cc_model.specs.View.{View, view, counted, ReachedIn, reached_in, view_rules, scripts_there}
 use Rattle.cc_model.specs.WellFormed.{IsWellFormed, script_names}
@@ -110,7 +110,7 @@ module _ (v w : View) (candidates : List ℕ) (before : IsNamed v) (values : Has
   -- along an edge that stays
   along-kept : (x y : Name) → Among (x, y) w.edges → Fine x → Fine y
   along-kept x y e f = ⊎_elim
-      (λ r. inl (derive-along w.registers w.edges (joints w.entries) x y e r))
+      (λ r. inl (derive-along w.registers w.edges (rules_of w.joints) x y e r))
       (λ g. ⊎_elim
       (λ c. inr (inl (derive-along (w.purple ++ unreached_scripts w) w.edges [] x y e c)))
       (λ l. absurd (⊎_elim (λ a. l.0 a) (λ a. l.1 a) (later.starts x y e)))
@@ -126,12 +126,12 @@ module _ (v w : View) (candidates : List ℕ) (before : IsNamed v) (values : Has
   register-fine x m = grind (arith, derive-root, lost_or_reached-fine, script-fine)
 
   -- the values of entries are fine
-  value-fine : (ps : List Name) (y : Name) → Among (ps, y) (joints v.entries) → Fine y
+  value-fine : (ps : List Name) (y : Name) → Among (ps, y) (rules_of v.joints) → Fine y
   value-fine ps y m = grind (arith, Among-map_cases, script-fine)
 
   -- what was reached is fine
   reached-fine : (x : Name) → ReachedIn v x → Fine x
-  reached-fine = derived-within v.registers v.edges (joints v.entries) Fine register-fine along-fine (λ ps y m f. value-fine ps y m)
+  reached-fine = derived-within v.registers v.edges (rules_of v.joints) Fine register-fine along-fine (λ ps y m f. value-fine ps y m)
 
   -- what was purple is fine
   purple-fine : (x : Name) → Among x v.purple → Fine x

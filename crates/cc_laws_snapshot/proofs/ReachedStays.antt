@@ -9,7 +9,7 @@ use Rattle.cc_lists.proofs.ListWrites.{changed_where}
 use Rattle.cc_names.specs.declared.name.Name.{Name}
 use Rattle.cc_names.specs.Names.{native, is_script}
 use Rattle.cc_model.specs.Slots.{contents}
-use Rattle.cc_model.specs.Entries.{Entry, joint, joints}
+use Rattle.cc_model.specs.Entries.{Entry, joint, joints, rules_of}
 use Rattle.cc_model.specs.Heap.{Heap, HeapNative, HeapScript, change_native, with_native_slot}
 use Rattle.cc_model.specs.View.{view, native_edges, script_edges, ReachedIn}
 use Rattle.cc_model.specs.Cascade.{cascade, take_up}
@@ -80,7 +80,7 @@ module _ (h : Heap) (w : IsWellFormed h) where
 
   -- What is reached is there.
   pub reached-there : (x : Name) → ReachedIn (view h) x → Among x (names_there h)
-  reached-there = derived-within (view h).registers (view h).edges (joints h.entries) (λ x. Among x (names_there h))
+  reached-there = derived-within (view h).registers (view h).edges (rules_of (joints h.entries)) (λ x. Among x (names_there h))
       register-there
       (λ x y e d. edge-target h x y w e)
       (λ ps y e d.
@@ -98,14 +98,14 @@ module _ (h k : Heap) (w : IsWellFormed k) (t : KeepsReached h k) where
   reached-kept x r = (both x r).1
     where
       both : (x : Name) → ReachedIn (view h) x → InBoth x
-      both = derived-within (view h).registers (view h).edges (joints h.entries) InBoth
+      both = derived-within (view h).registers (view h).edges (rules_of (joints h.entries)) InBoth
           (λ x m. (
-            derive-root (view h).registers (view h).edges (joints h.entries) x m,
-            derive-root (view k).registers (view k).edges (joints k.entries) x (t.registers x m),
+            derive-root (view h).registers (view h).edges (rules_of (joints h.entries)) x m,
+            derive-root (view k).registers (view k).edges (rules_of (joints k.entries)) x (t.registers x m),
           ))
           (λ x y e d. (
-            derive-along (view h).registers (view h).edges (joints h.entries) x y e d.0,
-            derive-along (view k).registers (view k).edges (joints k.entries) x y (t.edges x y d.0 (reached-there k w x d.1) e) d.1,
+            derive-along (view h).registers (view h).edges (rules_of (joints h.entries)) x y e d.0,
+            derive-along (view k).registers (view k).edges (rules_of (joints k.entries)) x y (t.edges x y d.0 (reached-there k w x d.1) e) d.1,
           ))
           (λ ps y e d.
           let f = Among-map_cases joint h.entries (ps, y) e in
@@ -113,9 +113,9 @@ module _ (h k : Heap) (w : IsWellFormed k) (t : KeepsReached h k) where
           let map_in : InBoth f.0.the_map = d f.0.the_map (subst (λ zs. Among f.0.the_map zs) premises (inl refl)) in
           let key_in : InBoth f.0.key = d f.0.key (subst (λ zs. Among f.0.key zs) premises (inr (inl refl))) in
           let left : Among f.0 k.entries = t.entries f.0 f.1 (reached-there k w f.0.the_map map_in.1) (reached-there k w f.0.key key_in.1) in (
-            derive-jointly (view h).registers (view h).edges (joints h.entries) ps y e (λ z m. (d z m).0),
-            derive-jointly (view k).registers (view k).edges (joints k.entries) ps y
-                (subst (λ p. Among p (joints k.entries)) f.2 (Among-map joint f.0 k.entries left)) (λ z m. (d z m).1),
+            derive-jointly (view h).registers (view h).edges (rules_of (joints h.entries)) ps y e (λ z m. (d z m).0),
+            derive-jointly (view k).registers (view k).edges (rules_of (joints k.entries)) ps y
+                (subst (λ p. Among p (rules_of (joints k.entries))) f.2 (Among-map joint f.0 k.entries left)) (λ z m. (d z m).1),
           ))
 
 -- Natives that leave
@@ -208,11 +208,11 @@ module _ (k : ℕ) (h g : Heap) (t : KeepsBut k h g) where
 
   -- what was reached is so, or that native is
   either : (x : Name) → ReachedIn (view h) x → Either x
-  either = derived-within (view h).registers (view h).edges (joints h.entries) Either
-      (λ x m. inl (derive-root (view g).registers (view g).edges (joints g.entries) x (subst (λ rs. Among x rs) (sym t.registers) m)))
+  either = derived-within (view h).registers (view h).edges (rules_of (joints h.entries)) Either
+      (λ x m. inl (derive-root (view g).registers (view g).edges (rules_of (joints g.entries)) x (subst (λ rs. Among x rs) (sym t.registers) m)))
       (λ x y e d. ⊎_elim
       (λ a. ⊎_elim
-      (λ i. inl (derive-along (view g).registers (view g).edges (joints g.entries) x y i a))
+      (λ i. inl (derive-along (view g).registers (view g).edges (rules_of (joints g.entries)) x y i a))
       (λ s. inr (subst (ReachedIn (view g)) (sym s) a))
       (t.edges x y e))
       (λ a. inr a) d)
@@ -224,7 +224,7 @@ module _ (k : ℕ) (h g : Heap) (t : KeepsBut k h g) where
       ⊎_elim
       (λ a. ⊎_elim
       (λ b. inl (subst (ReachedIn (view g)) target
-      (derive-jointly (view g).registers (view g).edges (joints g.entries) (f.0.the_map ∷ f.0.key ∷ []) f.0.value (Among-map joint f.0 g.entries here)
+      (derive-jointly (view g).registers (view g).edges (rules_of (joints g.entries)) (f.0.the_map ∷ f.0.key ∷ []) f.0.value (Among-map joint f.0 g.entries here)
       (λ z m. ⊎_elim (λ q. subst (ReachedIn (view g)) q a) (λ n. ⊎_elim (λ q. subst (ReachedIn (view g)) q b) (λ u. absurd u) n) m))))
       (λ b. inr b) (d f.0.key (subst (λ zs. Among f.0.key zs) premises (inr (inl refl)))))
       (λ a. inr a) (d f.0.the_map (subst (λ zs. Among f.0.the_map zs) premises (inl refl))))

@@ -11,7 +11,7 @@ use Rattle.cc_names.specs.declared.name.Name.{Name}
 use Rattle.cc_names.specs.declared.name.Name.TheVariants as name
 use Rattle.cc_names.specs.Names.{native, object, reflector, same_name, is_script}
 use Rattle.cc_names.proofs.NameTests.{same_name-true, same_name-exact}
-use Rattle.cc_model.specs.Entries.{joints}
+use Rattle.cc_model.specs.Entries.{joints, rules_of}
 use Rattle.cc_model.specs.Heap.{Heap, HeapNative}
 use Rattle.cc_model.specs.View.{View, view, view_rules, ReachedIn, reached_in, scripts_there, to, between}
 use Rattle.cc_model.specs.Snapshot.{NodeState, untraversed, gone, traversed, Node, Snapshot, mapping_joint, is_above, is_seed, seeds, black_in_rules, BlackIn, black_in, is_white, node_names, white_names, IsWhite, white_natives}
@@ -51,7 +51,7 @@ module _ (made : ℕ) (v : View) (s : Snapshot) (sound : IsSoundView made v) (fr
   -- so each holder of a bare native is one
   bare-back : (x u : Name) → Among (x, u) v.edges → IsBare v u → IsBare v x
   bare-back x u e b = go x e
-      (λ r. b.out (derive-along v.registers v.edges (joints v.entries) x u e r))
+      (λ r. b.out (derive-along v.registers v.edges (rules_of v.joints) x u e r))
       (λ c. b.bare (derive-along (v.purple ++ unreached_scripts v) v.edges [] x u e c))
     where
       go : (x : Name) → Among (x, u) v.edges → ¬ (ReachedIn v x) → ¬ (IsCovered v x) → IsBare v x
@@ -77,7 +77,7 @@ module _ (made : ℕ) (v : View) (s : Snapshot) (sound : IsSoundView made v) (fr
   bare-closed : IsClosedOff v s (IsBare v)
   bare-closed = record {
     living = λ i b. (b.count, b.lives);
-    unregistered = λ x b m. b.out (derive-root v.registers v.edges (joints v.entries) x m);
+    unregistered = λ x b m. b.out (derive-root v.registers v.edges (rules_of v.joints) x m);
     unbuffered = λ x b. (bare-far x b).0;
     unmarked = λ x b e. absurd (script-not_bare x e b);
     holder = bare-back;

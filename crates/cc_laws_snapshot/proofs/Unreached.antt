@@ -12,7 +12,7 @@ use Rattle.cc_names.specs.declared.name.Name.{Name}
 use Rattle.cc_names.specs.declared.name.Name.TheVariants as name
 use Rattle.cc_names.specs.Names.{native, object, reflector, same_name, is_script}
 use Rattle.cc_names.proofs.NameTests.{same_name-refl, same_name-exact}
-use Rattle.cc_model.specs.Entries.{Entry, joint, joints}
+use Rattle.cc_model.specs.Entries.{Entry, joint, joints, rules_of}
 use Rattle.cc_model.specs.View.{View, ReachedIn, to, between, is_there}
 use Rattle.cc_model.specs.Snapshot.{NodeState, gone, traversed, Node, Snapshot, mapping_joint, noted_to, is_above, is_seed, seeds, black_in_rules, BlackIn, black_in, is_white, node_names, IsWhite}
 use Rattle.cc_model.specs.Fresh.{node, IsNode, IsTraversedNode, IsOutside, IsLiving, MemberOf, MemberIsNode, IsFresh, IsTraversed}
@@ -177,7 +177,7 @@ module _ (made : ℕ) (v : View) (s : Snapshot) (sound : IsSoundView made v) (fr
 
   -- what is reached is kept
   reached-kept : (x : Name) → ReachedIn v x → Kept x
-  reached-kept = derived-within v.registers v.edges (joints v.entries) Kept root-kept along-kept
+  reached-kept = derived-within v.registers v.edges (rules_of v.joints) Kept root-kept along-kept
       (λ qs y i f.
       let k = Among-map_cases joint v.entries (qs, y) i in
       let first : Among k.0.the_map qs = subst (Among k.0.the_map) (ap (λ (e : List Name × Name). e.0) k.2) (inl refl) in
