@@ -1,5 +1,5 @@
 -- EACH COMMAND THAT IS NOT REFUSED KEEPS THE COLOURS.
-use Rattle.std.proofs.Common.{◌≡◌, ℕ, ◌+◌, Bool, true, false, ◌≤◌, List, [], ◌∷◌, ◌++◌, length, Option, Some, None, refl, sym, subst, ⊎_elim, arith, option_map, slice_set, option_to_list}
+use Rattle.std.proofs.Common.{◌≡◌, ℕ, ◌+◌, Bool, true, false, ◌≤◌, List, [], ◌∷◌, ◌++◌, length, Option, Some, None, refl, sym, subst, ⊎_elim, arith, option_map, slice_set, option_to_list, inl}
 use Rattle.std.specs.Prelude.{IsTrue}
 use Rattle.std.proofs.lemmas.Bool.{leb-false}
 use Rattle.cc_lists.specs.Members.{Among}
@@ -18,8 +18,9 @@ use Rattle.cc_model.specs.Ranges.{in_range}
 use Rattle.cc_model.specs.Checks.{slot_at, slots_at, value_at, reflector_of}
 use Rattle.cc_model.specs.Heap.{Heap, HeapScript, register, set_register, source, objects_of, preserve, has_reflector}
 use Rattle.cc_model.specs.Exposure.{exposed}
-use Rattle.cc_model.specs.Effects.{effects, put_in_register, hold_native, store_native, make_native, make_object, with_reflector, wrapped, put_in_script, set_entry}
+use Rattle.cc_model.specs.Effects.{effects, put_in_register, hold_native, store_native, make_native, make_object, with_reflector, wrapped, put_in_script, set_entry, make_proxy}
 use Rattle.cc_model.specs.WellFormed.{IsWellFormed, script_names}
+use Rattle.cc_model.specs.Places.{script_places_of}
 use Rattle.cc_laws_heap.specs.Sound.{IsSound}
 use Rattle.cc_lists.proofs.ListWrites.{each-push}
 use Rattle.cc_laws_heap.proofs.Making.{contents-empty_none}

@@ -1,5 +1,5 @@
 -- WHAT KEEPS THE HEAPS WELL FORMED: one list of the heaps changed at a time.
-use Rattle.std.proofs.Common.{arith, ◌≡◌, ℕ, ◌≤◌, Bool, true, refl, List, ◌++◌, map, length, sym, ◌∙◌, ap, subst, count_by, is_some}
+use Rattle.std.proofs.Common.{arith, ◌≡◌, ℕ, ◌≤◌, Bool, true, refl, List, ◌++◌, map, length, sym, ◌∙◌, ap, subst, count_by, is_some, Some}
 use Rattle.cc_lists.specs.Members.{Among}
 use Rattle.cc_lists.proofs.Members.{Among-map}
 use Rattle.cc_names.specs.declared.name.Name.{Name}
@@ -8,7 +8,7 @@ use Rattle.cc_names.specs.Sizes.{bank_length, most_slots}
 use Rattle.cc_model.specs.Slots.{Slots, contents}
 use Rattle.cc_model.specs.Entries.{Entry, is_entry_of}
 use Rattle.cc_model.specs.Heap.{Heap, HeapNative, HeapScript, Buffered}
-use Rattle.cc_model.specs.WellFormed.{IsWellFormed, IsRising, HasMembers, FitsName, native_names, script_names, names_there}
+use Rattle.cc_model.specs.WellFormed.{IsWellFormed, IsRising, HasMembers, FitsName, native_names, script_names, names_there, is_proxy_kind}
 use Rattle.cc_laws_heap.specs.Freeing.{Uncounted, uncounted}
 use Rattle.cc_laws_heap.specs.Balance.{places}
 use Rattle.cc_lists.proofs.ListWrites.{changed_where, changed_where-either, each-map, map-kept}

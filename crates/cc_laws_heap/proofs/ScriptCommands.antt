@@ -8,7 +8,7 @@ use Rattle.cc_names.specs.declared.name.Name.{Name}
 use Rattle.cc_names.specs.declared.name.Name.TheVariants as name
 use Rattle.cc_names.specs.declared.register.Reg.TheVariants.{S}
 use Rattle.cc_names.specs.declared.kind.Kind.{Kind}
-use Rattle.cc_names.specs.declared.kind.Kind.TheVariants.{Reflector, Map}
+use Rattle.cc_names.specs.declared.kind.Kind.TheVariants.{Reflector, Map, Proxy as proxy_kind}
 use Rattle.cc_names.specs.declared.kind.Colour.TheVariants.{Black}
 use Rattle.cc_names.specs.Names.{native, object, reflector, same_name, number_of}
 use Rattle.cc_names.proofs.NameTests.{same_name-true, same_name-refl}
@@ -19,7 +19,7 @@ use Rattle.cc_model.specs.Heap.{Heap, HeapScript, script_at, slots_in, slots_of_
 use Rattle.cc_model.specs.Cascade.{add_ref}
 use Rattle.cc_model.specs.Exposure.{exposed}
 use Rattle.cc_model.specs.Effects.{make_object, with_reflector, wrapped, set_entry, make_proxy}
-use Rattle.cc_model.specs.WellFormed.{IsWellFormed, FitsName, HasMembers, native_names, script_names}
+use Rattle.cc_model.specs.WellFormed.{IsWellFormed, FitsName, HasMembers, native_names, script_names, is_proxy_kind}
 use Rattle.cc_laws_heap.specs.Sound.{IsSound}
 use Rattle.cc_lists.proofs.Searching.{find-some}
 use Rattle.cc_laws_heap.proofs.Kept.{with_entries}
@@ -31,6 +31,7 @@ use Rattle.cc_laws_heap.proofs.MadeSound.{with_script-sound}
 use Rattle.cc_laws_heap.proofs.EntriesKept.{with_entry-sound, without_entry-sound}
 use Rattle.cc_laws_heap.proofs.ScriptsKept.{native-no_script, script_names-exposed, exposed-sound}
 use Rattle.cc_laws_heap.proofs.Holding.{has_reflector-there, has_reflector-none}
+use Rattle.cc_laws_heap.proofs.ScriptNames.{delegate_at-found}
 
 -- a black script object with empty slots
 abbrev pub blank : Name → Kind → ℕ → Option Name → HeapScript

@@ -1,9 +1,10 @@
 -- Names of script objects are none of natives'.
-use Rattle.std.proofs.Common.{arith, ◌≡◌, ℕ, true, false, subst, ◌≤◌, ◌∙◌, ap, count_by, Some}
+use Rattle.std.proofs.Common.{arith, ◌≡◌, ℕ, true, false, subst, ◌≤◌, ◌∙◌, ap, count_by, Some, option_and_then}
 use Rattle.std.proofs.Math.Path.{fun_ext}
 use Rattle.cc_lists.specs.Members.{Among}
 use Rattle.cc_lists.proofs.Members.{Among-map_cases}
 use Rattle.cc_lists.proofs.Counting.{count_by-map}
+use Rattle.cc_lists.proofs.Searching.{find-only}
 use Rattle.cc_names.specs.declared.name.Name.{Name}
 use Rattle.cc_names.specs.declared.kind.Kind.{Kind}
 use Rattle.cc_names.specs.Names.{native, same_name, is_script}
