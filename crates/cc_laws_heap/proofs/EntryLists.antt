@@ -1,5 +1,5 @@
 -- LISTS OF ENTRIES: what stands in them after an entry was set, that a map and a key have one, and the value that is found.
-use Rattle.std.proofs.Common.{◌≡◌, ℕ, ◌+◌, ◌≤◌, Bool, true, false, cond, List, [], ◌∷◌, Some, refl, sym, ◌∙◌, ap, subst, inl, ◌⊎◌, ⊎_elim, arith, count_by}
+use Rattle.std.proofs.Common.{◌≡◌, ℕ, ◌+◌, ◌≤◌, Bool, true, false, cond, List, [], ◌∷◌, Option, Some, refl, sym, ◌∙◌, ap, subst, inl, ◌⊎◌, ⊎_elim, arith, count_by}
 use Rattle.std.proofs.lemmas.Bool.{and_from, true≢false, cases_Bool}
 use Rattle.cc_lists.specs.Members.{Among}
 use Rattle.cc_lists.proofs.Counting.{count_by-cons, count_by-some}
@@ -29,39 +29,39 @@ is_entry_of-alike a b m k e f s t = grind (arith, is_entry_of-parts)
 -- An entry set
 
 -- there is that entry, and those before
-pub with_entry-cases : (es : List Entry) (m k v : Name) (e : Entry) → Among e (with_entry es m k v) → (entry m k v ≡ e) ⊎ Among e es
-with_entry-cases [] m k v e i = ⊎_elim (λ s. inl s) (λ n. absurd n) i
-with_entry-cases (f ∷ es) m k v e i = grind (arith, with_entry-cases es m k v e)
+pub with_entry-cases : (es : List Entry) (m k : Name) (its_delegate : Option Name) (v : Name) (e : Entry) → Among e (with_entry es m k its_delegate v) → (entry m k its_delegate v ≡ e) ⊎ Among e es
+with_entry-cases [] m k its_delegate v e i = ⊎_elim (λ s. inl s) (λ n. absurd n) i
+with_entry-cases (f ∷ es) m k its_delegate v e i = grind (arith, with_entry-cases es m k its_delegate v e)
 
 -- the entries of a map and a key
 abbrev pub entries_of : Name → Name → List Entry → ℕ
 entries_of a b es = count_by (is_entry_of a b) es
 
 -- any other map and key have as many entries as before
-entries_of-other : (es : List Entry) (m k v a b : Name) → is_entry_of a b (entry m k v) ≡ false → entries_of a b (with_entry es m k v) ≡ entries_of a b es
-entries_of-other [] m k v a b d = rw (count_by-cons (is_entry_of a b) (entry m k v) [], d) refl
-entries_of-other (e ∷ es) m k v a b d = go (entries_of-other es m k v a b d) (is_entry_of m k e) refl
+entries_of-other : (es : List Entry) (m k : Name) (its_delegate : Option Name) (v a b : Name) → is_entry_of a b (entry m k its_delegate v) ≡ false → entries_of a b (with_entry es m k its_delegate v) ≡ entries_of a b es
+entries_of-other [] m k its_delegate v a b d = rw (count_by-cons (is_entry_of a b) (entry m k its_delegate v) [], d) refl
+entries_of-other (e ∷ es) m k its_delegate v a b d = go (entries_of-other es m k its_delegate v a b d) (is_entry_of m k e) refl
   where
-    go : entries_of a b (with_entry es m k v) ≡ entries_of a b es → (t : Bool) → is_entry_of m k e ≡ t →
-        entries_of a b (elim t [ true ↦ entry m k v ∷ es | false ↦ e ∷ with_entry es m k v ]) ≡ entries_of a b (e ∷ es)
+    go : entries_of a b (with_entry es m k its_delegate v) ≡ entries_of a b es → (t : Bool) → is_entry_of m k e ≡ t →
+        entries_of a b (elim t [ true ↦ entry m k its_delegate v ∷ es | false ↦ e ∷ with_entry es m k its_delegate v ]) ≡ entries_of a b (e ∷ es)
     go ih true t = rw (
-      count_by-cons (is_entry_of a b) (entry m k v) es,
+      count_by-cons (is_entry_of a b) (entry m k its_delegate v) es,
       count_by-cons (is_entry_of a b) e es,
-      is_entry_of-alike a b m k (entry m k v) e (is_entry_of-own (entry m k v)) t,
+      is_entry_of-alike a b m k (entry m k its_delegate v) e (is_entry_of-own (entry m k its_delegate v)) t,
     ) refl
-    go ih false t = rw (count_by-cons (is_entry_of a b) e (with_entry es m k v), count_by-cons (is_entry_of a b) e es, ih) refl
+    go ih false t = rw (count_by-cons (is_entry_of a b) e (with_entry es m k its_delegate v), count_by-cons (is_entry_of a b) e es, ih) refl
 
 -- and its own map and key have at most one
-entries_of-own : (es : List Entry) (m k v : Name) → entries_of m k es ≤ 1 → entries_of m k (with_entry es m k v) ≤ 1
-entries_of-own [] m k v few = rw (count_by-cons (is_entry_of m k) (entry m k v) [], is_entry_of-own (entry m k v)) (omega arith)
-entries_of-own (e ∷ es) m k v few = grind (arith, count_by-cons, is_entry_of-own, entries_of-own es m k v)
+entries_of-own : (es : List Entry) (m k : Name) (its_delegate : Option Name) (v : Name) → entries_of m k es ≤ 1 → entries_of m k (with_entry es m k its_delegate v) ≤ 1
+entries_of-own [] m k its_delegate v few = rw (count_by-cons (is_entry_of m k) (entry m k its_delegate v) [], is_entry_of-own (entry m k its_delegate v)) (omega arith)
+entries_of-own (e ∷ es) m k its_delegate v few = grind (arith, count_by-cons, is_entry_of-own, entries_of-own es m k its_delegate v)
 
 -- so each map and key have at most one
-pub entries_of-set : (es : List Entry) (m k v : Name) → ((a b : Name) → entries_of a b es ≤ 1) → (a b : Name) → entries_of a b (with_entry es m k v) ≤ 1
-entries_of-set es m k v once a b = ⊎_elim
-    (λ s. let p = is_entry_of-parts a b (entry m k v) s in rw (sym p.0, sym p.1) (entries_of-own es m k v (once m k)))
-    (λ d. omega (arith, entries_of-other es m k v a b d, once a b))
-    (cases_Bool (is_entry_of a b (entry m k v)))
+pub entries_of-set : (es : List Entry) (m k : Name) (its_delegate : Option Name) (v : Name) → ((a b : Name) → entries_of a b es ≤ 1) → (a b : Name) → entries_of a b (with_entry es m k its_delegate v) ≤ 1
+entries_of-set es m k its_delegate v once a b = ⊎_elim
+    (λ s. let p = is_entry_of-parts a b (entry m k its_delegate v) s in rw (sym p.0, sym p.1) (entries_of-own es m k its_delegate v (once m k)))
+    (λ d. omega (arith, entries_of-other es m k its_delegate v a b d, once a b))
+    (cases_Bool (is_entry_of a b (entry m k its_delegate v)))
 
 -- The value that is found
 

@@ -1,5 +1,5 @@
 -- EACH COMMAND LEAVES A GRAPH WELL MADE: what it puts into a register, a slot or an entry was made.
-use Rattle.std.proofs.Common.{◌≡◌, ℕ, ◌+◌, true, false, not, length, set, Option, Some, None, is_none, is_some, option_map, refl, subst, ⊎_elim, arith}
+use Rattle.std.proofs.Common.{◌≡◌, ℕ, ◌+◌, ◌<◌, true, false, not, [], ◌∷◌, ◌++◌, length, set, Option, Some, None, is_none, is_some, option_map, refl, sym, subst, ⊎_elim, arith}
 use Rattle.std.specs.Prelude.{IsTrue}
 use Rattle.std.proofs.lemmas.Bool.{and_parts, false≢true, leb-true, leb-false, not-false}
 use Rattle.cc_lists.proofs.Members.{Among-filtered}
@@ -17,14 +17,14 @@ use Rattle.cc_model.specs.Ranges.{in_range, is_register, is_slots}
 use Rattle.cc_model.specs.Slots.{Slots, empty_slots}
 use Rattle.cc_model.specs.Entries.{entry, is_entry_of, with_entry, without_entry}
 use Rattle.cc_model.specs.Checks.{slot_at, value_at, native_of, reflector_of, is_map_in, refusal_of}
-use Rattle.cc_model.specs.Graph.{Graph, plain_object, weak_map, script_in, slots_in, objects_of, register, source, set_slot, preserve, wrapped, set_entry, as_preserved, as_wrapped, with_slot, with_reflector_slot, with_native, with_script, empty_graph, changed, unless_refused, step}
+use Rattle.cc_model.specs.Graph.{Graph, plain_object, weak_map, proxy, numbered, script_in, delegate_in, slots_in, objects_of, register, source, set_slot, preserve, wrapped, set_entry, as_preserved, as_wrapped, with_slot, with_reflector_slot, with_native, with_script, with_proxy, empty_graph, changed, unless_refused, step}
 use Rattle.cc_model.specs.WellMade.{IsWellMade, IsMadeEntry}
 use Rattle.cc_laws_heap.proofs.Taken.{IsTaken, IsTaken-from}
 use Rattle.cc_laws_heap.proofs.Holds.{OfSome, OfSome-then}
 use Rattle.cc_laws_heap.proofs.Numbered.{numbered-nothing, numbered-push, numbered-change}
 use Rattle.cc_laws_heap.proofs.EntryLists.{with_entry-cases, entries_of-set}
 use Rattle.cc_laws_heap.proofs.GraphParts.{is_some-found, was_made-native, was_made-script, was_made-reflector, reflector-made, Grows, is_made_script-grows, IsMadeEntry-grows, IsWellMade-entries}
-use Rattle.cc_laws_heap.proofs.GraphWrites.{IsWellMade-native_register, IsWellMade-script_register, set_native-is, Grows-change_native, IsWellMade-change_native, KeepsNative-slot, KeepsNative-reflector_slot, KeepsNative-preserved, KeepsNative-wrapped, IsWellMade-script_slot, IsWellMade-with_native, IsWellMade-with_script, ScriptFits-plain, ScriptFits-map}
+use Rattle.cc_laws_heap.proofs.GraphWrites.{IsWellMade-native_register, IsWellMade-script_register, set_native-is, Grows-change_native, IsWellMade-change_native, KeepsNative-slot, KeepsNative-reflector_slot, KeepsNative-preserved, KeepsNative-wrapped, IsWellMade-script_slot, IsWellMade-with_native, IsWellMade-with_script, ScriptFits-plain, ScriptFits-map, ScriptFits-proxy}
 use Rattle.cc_laws_heap.proofs.GraphReads.{Made, MadeNative, MadeScript, MadeScript-made, native_register-made, script_register-made, register-made, source-made, script_source-made, slot_at-made, script_slot_at-made, no_script-made, no_native-made, native_of-made, value_at-made}
 use Rattle.cc_laws_heap.proofs.Making.{contents-empty_none}
 
@@ -34,9 +34,9 @@ KeepsReflector-slot i x o e = grind arith
 
 -- a reflector preserved changes nothing else
 Grows-preserve : (g : Graph) (o : Option Name) → Grows g (preserve g o)
-Grows-preserve g None = record { made = λ x m. m; maps = λ k s. s }
-Grows-preserve g (Some (name.Native k)) = record { made = λ x m. m; maps = λ k s. s }
-Grows-preserve g (Some (name.Script k)) = record { made = λ x m. m; maps = λ k s. s }
+Grows-preserve g None = record { made = λ x m. m; maps = λ k s. s; delegates = λ x m. refl }
+Grows-preserve g (Some (name.Native k)) = record { made = λ x m. m; maps = λ k s. s; delegates = λ x m. refl }
+Grows-preserve g (Some (name.Script k)) = record { made = λ x m. m; maps = λ k s. s; delegates = λ x m. refl }
 Grows-preserve g (Some (name.Reflector k)) = Grows-change_native g k.0 as_preserved (λ n r. r)
 
 -- what has no slots and was made is a weak map
@@ -81,12 +81,12 @@ module _ (g : Graph) (w : IsWellMade g) where
   set_entry-well (Some m) (Some k) None s t u = IsWellMade-entries g (without_entry g.entries m k) w
       (λ e i. w.entries e (Among-filtered (λ e. not (is_entry_of m k e)) e g.entries i))
       (λ a b. omega (arith, count_by-filter-le (is_entry_of a b) (λ e. not (is_entry_of m k e)) g.entries, w.one_entry a b))
-  set_entry-well (Some m) (Some k) (Some v) s t u = IsWellMade-entries (preserve g (Some k)) (with_entry g.entries m k v) (preserve-well (Some k) (MadeScript-made g k t))
-      (λ e i. IsMadeEntry-grows g (preserve g (Some k)) (Grows-preserve g (Some k)) e (⊎_elim (λ same. subst (IsMadeEntry g) same made) (w.entries e) (with_entry-cases g.entries m k v e i)))
-      (entries_of-set g.entries m k v w.one_entry)
+  set_entry-well (Some m) (Some k) (Some v) s t u = IsWellMade-entries (preserve g (Some k)) (with_entry g.entries m k (delegate_in g k) v) (preserve-well (Some k) (MadeScript-made g k t))
+      (λ e i. IsMadeEntry-grows g (preserve g (Some k)) (Grows-preserve g (Some k)) e (⊎_elim (λ same. subst (IsMadeEntry g) same made) (w.entries e) (with_entry-cases g.entries m k (delegate_in g k) v e i)))
+      (entries_of-set g.entries m k (delegate_in g k) v w.one_entry)
     where
-      made : IsMadeEntry g (entry m k v)
-      made = record { the_map = map-made g m s.0 s.1; key = t; value = u }
+      made : IsMadeEntry g (entry m k (delegate_in g k) v)
+      made = record { the_map = map-made g m s.0 s.1; key = t; value = u; delegate = refl }
 
   -- what a map's register holds was made, and has no slots
   map_register-made : (r : ℕ) → not (is_map_in (objects_of g) (register g (S r))) ≡ false → OfSome (λ x. MadeScript g x × (is_none (slots_in g x) ≡ true)) (register g (S r))
@@ -96,6 +96,29 @@ module _ (g : Graph) (w : IsWellMade g) where
 put-well : (g : Graph) → IsWellMade g → (o : Option Name) (i : ℕ) (x : Option Name) → OfSome (MadeScript g) o → OfSome (MadeScript g) x → IsWellMade (set_slot (preserve g o) o i x)
 put-well g w o i x t m = search (script_slot-well, preserve-well, OfSome-then, MadeScript-made, is_made_script-grows, Grows-preserve)
 
+-- it leaves the number of script objects
+pub scripts-preserve : (g : Graph) (o : Option Name) → (preserve g o).scripts ≡ g.scripts
+scripts-preserve g o = grind (arith, set_native-is)
+
+-- and the limits
+limits-preserve : (g : Graph) (o : Option Name) → (preserve g o).limits ≡ g.limits
+limits-preserve g o = grind (arith, set_native-is)
+
+-- a proxy made of an object that was made, which is preserved first where it is a reflector
+proxy-well : (g : Graph) → IsWellMade g → (d : ℕ) (o : Option Name) → OfSome (MadeScript g) o → length g.scripts < g.limits.scripts → IsWellMade (with_proxy g d o)
+proxy-well g w d None m room = w
+proxy-well g w d (Some x) m room = IsWellMade-script_register f d (Some (object (length g.scripts + 1)))
+    (IsWellMade-with_script e (proxy x) (preserve-well g w (Some x) (MadeScript-made g x m)) (ScriptFits-proxy e x (is_made_script-grows g e (Grows-preserve g (Some x)) x m))
+    (subst (λ os. length os < e.limits.scripts) (sym (scripts-preserve g (Some x))) (subst (λ l. length g.scripts < l.scripts) (sym (limits-preserve g (Some x))) room)))
+    (was_made-script f (length g.scripts + 1) (proxy x)
+    (subst (λ os. numbered (os ++ proxy x ∷ []) (length g.scripts + 1) ≡ Some (proxy x)) (sym (scripts-preserve g (Some x))) (numbered-push g.scripts (proxy x))))
+  where
+    e : Graph
+    e = preserve g (Some x)
+
+    f : Graph
+    f = with_script e (proxy x)
+
 module _ (g : Graph) (w : IsWellMade g) where
   -- EACH COMMAND that is not refused leaves the graph well made.
   changed-well : (c : Command) → IsTrue (in_range c) → IsTaken (objects_of g) c → IsWellMade (changed g c)
@@ -104,11 +127,12 @@ module _ (g : Graph) (w : IsWellMade g) where
       (IsWellMade-with_native g n w (leb-true n most_slots (and_parts (is_register d) (is_slots n) r).1) (leb-false g.limits.natives (length g.natives) t.room))
       (was_made-native (with_native g n) (length g.natives + 1) _ (numbered-push g.natives _))
   changed-well (Script d n) r t = IsWellMade-script_register (with_script g (plain_object (empty_slots n))) d (Some (object (length g.scripts + 1)))
-      (IsWellMade-with_script g (plain_object (empty_slots n)) w (ScriptFits-plain n (leb-true n most_slots (and_parts (is_register d) (is_slots n) r).1)) (leb-false g.limits.scripts (length g.scripts) t.room))
+      (IsWellMade-with_script g (plain_object (empty_slots n)) w (ScriptFits-plain n (leb-true n most_slots (and_parts (is_register d) (is_slots n) r).1) g) (leb-false g.limits.scripts (length g.scripts) t.room))
       (was_made-script (with_script g (plain_object (empty_slots n))) (length g.scripts + 1) (plain_object (empty_slots n)) (numbered-push g.scripts (plain_object (empty_slots n))))
   changed-well (WeakMap d) r t = IsWellMade-script_register (with_script g weak_map) d (Some (object (length g.scripts + 1)))
-      (IsWellMade-with_script g weak_map w ScriptFits-map (leb-false g.limits.scripts (length g.scripts) t.room))
+      (IsWellMade-with_script g weak_map w (ScriptFits-map g) (leb-false g.limits.scripts (length g.scripts) t.room))
       (was_made-script (with_script g weak_map) (length g.scripts + 1) weak_map (numbered-push g.scripts weak_map))
+  changed-well (Proxy d s) r t = proxy-well g w d (register g (S s)) (script_register-made g w s) (leb-false g.limits.scripts (length g.scripts) t.room)
   changed-well (CopyNative d s) r t = IsWellMade-native_register g d (register g (N s)) w (native_register-made g w s)
   changed-well (CopyScript d s) r t = IsWellMade-script_register g d (register g (S s)) w (script_register-made g w s)
   changed-well (Drop (N d)) r t = IsWellMade-native_register g d None w tt

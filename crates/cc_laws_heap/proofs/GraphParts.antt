@@ -1,15 +1,16 @@
 -- A GRAPH STAYS WELL MADE where one of its lists changes: registers, natives, script objects, or entries.
-use Rattle.std.proofs.Common.{arith, ◌≡◌, ℕ, ◌≤◌, true, List, length, Option, Some, is_some, refl, ◌∙◌, ap, count_by}
+use Rattle.std.proofs.Common.{arith, ◌≡◌, ℕ, ◌≤◌, true, List, length, Option, Some, is_some, refl, sym, ◌∙◌, ap, count_by}
 use Rattle.std.specs.Prelude.{IsTrue}
 use Rattle.std.specs.Option.{option_and_then}
 use Rattle.std.proofs.lemmas.Bool.{and_parts, and_from}
 use Rattle.cc_lists.specs.Members.{Among}
 use Rattle.cc_names.specs.declared.name.Name.{Name}
+use Rattle.cc_names.specs.declared.name.Name.TheVariants as name
 use Rattle.cc_names.specs.Names.{native, object, reflector, is_native, is_script}
 use Rattle.cc_names.specs.Sizes.{bank_length, most_slots}
 use Rattle.cc_model.specs.Slots.{Slots, contents, reflector_slots}
 use Rattle.cc_model.specs.Entries.{Entry, is_entry_of}
-use Rattle.cc_model.specs.Graph.{Graph, GraphNative, GraphScript, plain_object, weak_map, numbered, native_in, script_in}
+use Rattle.cc_model.specs.Graph.{Graph, GraphNative, GraphScript, plain_object, weak_map, proxy, delegate_of_script, delegate_in, numbered, native_in, script_in}
 use Rattle.cc_model.specs.WellMade.{IsWellMade, IsMadeEntry, was_made, is_made_native, is_made_script}
 
 -- What is some
@@ -48,6 +49,7 @@ pub record NativeFits (g : Graph) (k : ℕ) (n : GraphNative) : Type 0 where
 pub record ScriptFits (g : Graph) (o : GraphScript) : Type 0 where
   pub slots : (slots : Slots) → o ≡ plain_object slots → length slots ≤ most_slots
   pub held : (slots : Slots) (x : Name) → o ≡ plain_object slots → Among x (contents slots) → IsTrue (is_made_script g x)
+  pub delegate : (d : Name) → o ≡ proxy d → IsTrue (is_made_script g d)
 
 -- each native of a well made graph fits
 pub IsWellMade-native : (g : Graph) → IsWellMade g → (k : ℕ) (n : GraphNative) → native_in g k ≡ Some n → NativeFits g k n
@@ -59,10 +61,11 @@ IsWellMade-script g w k o e = grind arith
 
 -- More was made
 
--- all that was made is, and weak maps are weak maps
+-- all that was made is, weak maps are weak maps, and what was made keeps its delegate
 pub record Grows (g f : Graph) : Type 0 where
   pub made : (x : Name) → IsTrue (was_made g x) → IsTrue (was_made f x)
   pub maps : (k : ℕ) → script_in g k ≡ Some weak_map → script_in f k ≡ Some weak_map
+  pub delegates : (x : Name) → IsTrue (was_made g x) → delegate_in f x ≡ delegate_in g x
 
 module _ (g f : Graph) (more : Grows g f) where
   -- a native that was made is one still
@@ -89,7 +92,12 @@ module _ (g f : Graph) (more : Grows g f) where
 
   -- an entry of what was made is one still
   pub IsMadeEntry-grows : (e : Entry) → IsMadeEntry g e → IsMadeEntry f e
-  IsMadeEntry-grows e t = grind (arith, is_made_script-grows)
+  IsMadeEntry-grows e t = record {
+    the_map = (t.the_map.0, t.the_map.1, more.maps t.the_map.0 t.the_map.2);
+    key = is_made_script-grows e.key t.key;
+    value = is_made_script-grows e.value t.value;
+    delegate = t.delegate ∙ sym (more.delegates e.key (and_parts (is_script e.key) (was_made g e.key) t.key).1);
+  }
 
 -- One list changed
 
@@ -116,11 +124,16 @@ IsWellMade-registers g ns ss w r = record {
   reflector_contents = w.reflector_contents;
   script_slots = w.script_slots;
   script_contents = w.script_contents;
-  entries = λ e m. IsMadeEntry-grows g (with_registers g ns ss) (record { made = λ x i. i; maps = λ k s. s }) e (w.entries e m);
+  delegates = w.delegates;
+  entries = λ e m. IsMadeEntry-grows g (with_registers g ns ss) (record { made = λ x i. i; maps = λ k s. s; delegates = λ x i. same x }) e (w.entries e m);
   one_entry = w.one_entry;
   natives_allowed = w.natives_allowed;
   scripts_allowed = w.scripts_allowed;
 }
+  where
+    same : (x : Name) → delegate_in (with_registers g ns ss) x ≡ delegate_in g x
+    same (name.Native k) = refl
+    same _ = refl
 
 -- natives
 abbrev pub with_natives : Graph → List GraphNative → Graph
@@ -152,6 +165,7 @@ IsWellMade-natives g ns w a = record {
   reflector_contents = λ k n slots x e r m. (a.fit k n e).reflector_held slots x r m;
   script_slots = w.script_slots;
   script_contents = λ k slots x e m. is_made_script-grows g f more x (w.script_contents k slots x e m);
+  delegates = λ k d e. is_made_script-grows g f more d (w.delegates k d e);
   entries = λ e m. IsMadeEntry-grows g f more e (w.entries e m);
   one_entry = w.one_entry;
   natives_allowed = a.allowed;
@@ -168,16 +182,20 @@ IsWellMade-natives g ns w a = record {
 abbrev pub with_scripts : Graph → List GraphScript → Graph
 with_scripts g os = record g { scripts = os }
 
+-- a script object that is a weak map where it was one, and has the delegate that it had
+abbrev pub IsSameScript : GraphScript → GraphScript → Type 0
+IsSameScript o p = (o ≡ weak_map → p ≡ weak_map) × (delegate_of_script p ≡ delegate_of_script o)
+
 -- script objects that may take the place of the graph's
 pub record AreScripts (g : Graph) (os : List GraphScript) : Type 0 where
-  -- none is taken out, and weak maps are weak maps
-  pub stay : (k : ℕ) (o : GraphScript) → script_in g k ≡ Some o → (p : GraphScript) × (numbered os k ≡ Some p) × (o ≡ weak_map → p ≡ weak_map)
+  -- none is taken out, weak maps are weak maps, and each keeps its delegate
+  pub stay : (k : ℕ) (o : GraphScript) → script_in g k ≡ Some o → (p : GraphScript) × (numbered os k ≡ Some p) × IsSameScript o p
   pub fit : (k : ℕ) (p : GraphScript) → numbered os k ≡ Some p → ScriptFits (with_scripts g os) p
   pub allowed : length os ≤ g.limits.scripts
 
 -- where script objects stay, all that was made is
 pub Grows-scripts : (g : Graph) (os : List GraphScript) →
-    ((k : ℕ) (o : GraphScript) → script_in g k ≡ Some o → (p : GraphScript) × (numbered os k ≡ Some p) × (o ≡ weak_map → p ≡ weak_map)) →
+    ((k : ℕ) (o : GraphScript) → script_in g k ≡ Some o → (p : GraphScript) × (numbered os k ≡ Some p) × IsSameScript o p) →
     Grows g (with_scripts g os)
 Grows-scripts g os stay = grind (arith, is_some-found, was_made-script)
 
@@ -194,6 +212,7 @@ IsWellMade-scripts g os w a = record {
   reflector_contents = λ k n slots x e r m. is_made_script-grows g f more x (w.reflector_contents k n slots x e r m);
   script_slots = λ k slots e. (a.fit k (plain_object slots) e).slots slots refl;
   script_contents = λ k slots x e m. (a.fit k (plain_object slots) e).held slots x refl m;
+  delegates = λ k d e. (a.fit k (proxy d) e).delegate d refl;
   entries = λ e m. IsMadeEntry-grows g f more e (w.entries e m);
   one_entry = w.one_entry;
   natives_allowed = w.natives_allowed;

@@ -10,11 +10,11 @@ use Rattle.cc_names.specs.declared.register.Reg.TheVariants.{N, S}
 use Rattle.cc_names.specs.Names.{reflector}
 use Rattle.cc_names.specs.Sizes.{most_slots}
 use Rattle.cc_model.specs.Slots.{Slots, contents, empty_slots}
-use Rattle.cc_model.specs.Graph.{Graph, GraphNative, GraphScript, plain_object, weak_map, numbered, native_in, script_in, set_register, set_native, set_script, with_slot, with_reflector_slot, as_preserved, as_wrapped, with_script_slot, with_native, with_script}
+use Rattle.cc_model.specs.Graph.{Graph, GraphNative, GraphScript, plain_object, weak_map, proxy, delegate_of_script, numbered, native_in, script_in, set_register, set_native, set_script, with_slot, with_reflector_slot, as_preserved, as_wrapped, with_script_slot, with_native, with_script}
 use Rattle.cc_model.specs.WellMade.{IsWellMade, was_made, is_made_native, is_made_script}
 use Rattle.cc_laws_heap.proofs.Holds.{OfSome, OfSome-then, contents-set}
 use Rattle.cc_laws_heap.proofs.Numbered.{set_numbered, change_numbered, numbered-change, numbered-change_other, length-change, numbered-push_old, numbered-push_cases}
-use Rattle.cc_laws_heap.proofs.GraphParts.{NativeFits, ScriptFits, IsWellMade-native, IsWellMade-script, Grows, is_made_script-grows, NativeFits-grows, ScriptFits-grows, IsWellMade-registers, with_natives, Grows-natives, IsWellMade-natives, with_scripts, Grows-scripts, IsWellMade-scripts}
+use Rattle.cc_laws_heap.proofs.GraphParts.{NativeFits, ScriptFits, IsWellMade-native, IsWellMade-script, Grows, is_made_script-grows, NativeFits-grows, ScriptFits-grows, IsWellMade-registers, with_natives, Grows-natives, IsWellMade-natives, with_scripts, IsSameScript, Grows-scripts, IsWellMade-scripts}
 use Rattle.cc_laws_heap.proofs.Making.{contents-empty_none}
 
 -- Registers
@@ -149,11 +149,14 @@ IsWellMade-script_slot g k i x w m = subst IsWellMade (sym (set_script-is g k (o
     os : List GraphScript
     os = change_numbered g.scripts k f
 
-    stay : (j : ℕ) (o : GraphScript) → script_in g j ≡ Some o → (p : GraphScript) × (numbered os j ≡ Some p) × (o ≡ weak_map → p ≡ weak_map)
+    same_delegate : (o : GraphScript) → delegate_of_script (f o) ≡ delegate_of_script o
+    same_delegate o = grind arith
+
+    stay : (j : ℕ) (o : GraphScript) → script_in g j ≡ Some o → (p : GraphScript) × (numbered os j ≡ Some p) × IsSameScript o p
     stay j o e = ⊎_elim
         (λ t. let here : script_in g k ≡ Some o = ap (script_in g) (sym t.1) ∙ e in
-        (f o, ap (numbered os) t.1 ∙ (numbered-change g.scripts k f ∙ ap (option_map f) here), λ s. ap f s))
-        (λ t. (o, numbered-change_other g.scripts k f j t.1 ∙ e, λ s. s))
+        (f o, ap (numbered os) t.1 ∙ (numbered-change g.scripts k f ∙ ap (option_map f) here), (λ s. ap f s, same_delegate o)))
+        (λ t. (o, numbered-change_other g.scripts k f j t.1 ∙ e, (λ s. s, refl)))
         (eqb_tells j k)
 
     more : Grows g (with_scripts g os)
@@ -166,8 +169,10 @@ IsWellMade-script_slot g k i x w m = subst IsWellMade (sym (set_script-is g k (o
           contents-set (λ z. IsTrue (is_made_script (with_scripts g os) z)) old i x (λ z l. t.held old z refl l)
           (OfSome-then (λ z. IsTrue (is_made_script g z)) (λ z. IsTrue (is_made_script (with_scripts g os) z)) (is_made_script-grows g (with_scripts g os) more) x m) y
           (subst (λ l. Among y (contents l)) (sym same) j);
+      delegate = λ d s. absurd (cc);
     }
     fits weak_map t = t
+    fits (proxy d) t = t
 
     changed : (o : Option GraphScript) → script_in g k ≡ o → (p : GraphScript) → option_map f o ≡ Some p → ScriptFits (with_scripts g os) p
     changed None e p s = absurd (cc)
@@ -208,19 +213,19 @@ IsWellMade-with_native g n w few room = IsWellMade-natives g ns w (record {
     }
 
 -- A SCRIPT OBJECT MADE leaves the graph well made.
-pub IsWellMade-with_script : (g : Graph) (o : GraphScript) → IsWellMade g → ((e : Graph) → ScriptFits e o) → length g.scripts < g.limits.scripts → IsWellMade (with_script g o)
+pub IsWellMade-with_script : (g : Graph) (o : GraphScript) → IsWellMade g → ScriptFits g o → length g.scripts < g.limits.scripts → IsWellMade (with_script g o)
 IsWellMade-with_script g o w fits room = IsWellMade-scripts g os w (record {
   stay = stay;
   fit = λ k p e. ⊎_elim (λ old. ScriptFits-grows g (with_scripts g os) more p (IsWellMade-script g w k p old))
-      (λ t. subst (ScriptFits (with_scripts g os)) t.1 (fits (with_scripts g os))) (numbered-push_cases g.scripts o k p e);
+      (λ t. subst (ScriptFits (with_scripts g os)) t.1 (ScriptFits-grows g (with_scripts g os) more o fits)) (numbered-push_cases g.scripts o k p e);
   allowed = omega (arith, length-append g.scripts (o ∷ []));
 })
   where
     os : List GraphScript
     os = g.scripts ++ o ∷ []
 
-    stay : (k : ℕ) (p : GraphScript) → script_in g k ≡ Some p → (q : GraphScript) × (numbered os k ≡ Some q) × (p ≡ weak_map → q ≡ weak_map)
-    stay k p e = (p, numbered-push_old g.scripts o k p e, λ s. s)
+    stay : (k : ℕ) (p : GraphScript) → script_in g k ≡ Some p → (q : GraphScript) × (numbered os k ≡ Some q) × IsSameScript p q
+    stay k p e = (p, numbered-push_old g.scripts o k p e, (λ s. s, refl))
 
     more : Grows g (with_scripts g os)
     more = Grows-scripts g os stay
@@ -230,8 +235,13 @@ pub ScriptFits-plain : (n : ℕ) → n ≤ most_slots → (e : Graph) → Script
 ScriptFits-plain n few e = record {
   slots = λ slots s. let same : empty_slots n ≡ slots = cc in subst (λ l. length l ≤ most_slots) same (subst (λ l. l ≤ most_slots) (sym (length-replicate n None)) few);
   held = λ slots x s m. let same : empty_slots n ≡ slots = cc in absurd (contents-empty_none n x (subst (λ l. Among x (contents l)) (sym same) m));
+  delegate = λ d s. absurd (cc);
 }
 
 -- and so does a weak map
 pub ScriptFits-map : (e : Graph) → ScriptFits e weak_map
-ScriptFits-map e = record { slots = λ slots s. absurd (cc); held = λ slots x s m. absurd (cc) }
+ScriptFits-map e = record { slots = λ slots s. absurd (cc); held = λ slots x s m. absurd (cc); delegate = λ d s. absurd (cc) }
+
+-- and a proxy of a script object that was made
+pub ScriptFits-proxy : (e : Graph) (x : Name) → IsTrue (is_made_script e x) → ScriptFits e (proxy x)
+ScriptFits-proxy e x made = record { slots = λ slots s. absurd (cc); held = λ slots y s m. absurd (cc); delegate = λ d s. let same : x ≡ d = cc in subst (λ y. IsTrue (is_made_script e y)) same made }
