@@ -14,7 +14,7 @@ use Rattle.cc_laws_heap.specs.Rounds.{FreesNames}
 use Rattle.cc_laws_heap.proofs.Coloured.{IsColoured, HasColourInvariant-from}
 use Rattle.cc_laws_heap.proofs.FreedNames.{FreesNames-silently, FreesNames-then}
 use Rattle.cc_laws_heap.proofs.Marking.{colour_of, colour_of-black, black-decided, HasColours-marked}
-use Rattle.cc_laws_heap.proofs.MarkedKept.{black-register, black-slot}
+use Rattle.cc_laws_heap.proofs.MarkedKept.{black-register, black-place}
 use Rattle.cc_laws_heap.proofs.MarkingKeeps.{round-sound, round-frees}
 use Rattle.cc_laws_heap.proofs.RoundsEnd.{next_round, rounds-keep, collect_scripts-marked}
 
@@ -62,7 +62,7 @@ module _ (h : Heap) (c : HasColours h) (none : unmarked h ≡ []) where
 
   -- Colours of marking, none of them white, keep the colour invariant.
   IsColoured-colours : IsColoured h
-  IsColoured-colours = search (is-black, black-slot, black-is, black-register, none-white)
+  IsColoured-colours = search (is-black, black-place, black-is, black-register, none-white)
 
 -- A SCRIPT COLLECTION LEAVES THE COLOUR INVARIANT.
 pub collect_scripts-invariant : {owned : List ℕ} (h : Heap) → IsSound owned h → HasColourInvariant (view (collect_scripts h).heap)

@@ -14,6 +14,8 @@ use Rattle.cc_model.specs.Slots.{Slots, contents, from_to}
 use Rattle.cc_model.specs.Heap.{Heap, HeapScript, with_script_slot}
 use Rattle.cc_model.specs.View.{script_slot_edges}
 use Rattle.cc_model.specs.Exposure.{slots_of_scripts, exposure_rules, exposed, exposed_names, as_black}
+use Rattle.cc_model.specs.Places.{script_places_of}
+use Rattle.cc_model.proofs.Places.{slot-place}
 use Rattle.cc_lists.proofs.ListWrites.{Among-flat_map_set, changed_where, changed_where-either, each-map, each-push}
 use Rattle.cc_laws_heap.proofs.ScriptsKept.{has_name, is_one_of}
 use Rattle.cc_laws_heap.proofs.Coloured.{AreColoured, IsColoured}
@@ -31,8 +33,8 @@ AreColoured-register scripts registers d x black c = grind (arith, Among-flat_ma
 pub AreColoured-slot : (scripts : List HeapScript) (registers : Slots) (x : Name) (i : ℕ) (y : Option Name) → IsHeldBlack scripts y →
     AreColoured scripts registers → AreColoured (map (changed_where (has_name x) (with_script_slot i y)) scripts) registers
 AreColoured-slot scripts registers x i y black c = record {
-  black_to_black = λ o p m n. each-map (λ o. o.colour ≡ Black → Among p.name (contents o.slots) → p.colour ≡ Black) written scripts
-      (λ q j. each-map (λ p. (written q).colour ≡ Black → Among p.name (contents (written q).slots) → p.colour ≡ Black) written scripts (both q j) p n) o m;
+  black_to_black = λ o p m n. each-map (λ o. o.colour ≡ Black → Among p.name (contents (script_places_of o)) → p.colour ≡ Black) written scripts
+      (λ q j. each-map (λ p. (written q).colour ≡ Black → Among p.name (contents (script_places_of (written q))) → p.colour ≡ Black) written scripts (both q j) p n) o m;
   held_black = each-map (λ o. Among o.name (contents registers) → o.colour ≡ Black) written scripts
       (λ o m k. same_colour o Black (c.held_black o m (subst (λ z. Among z (contents registers)) (same_name_written o) k)));
   none_white = each-map (λ o. o.colour ≢ White) written scripts (λ o m e. c.none_white o m (back_colour o White e));
@@ -54,18 +56,18 @@ AreColoured-slot scripts registers x i y black c = record {
     back_colour o k e = sym (same_colour_written o) ∙ e
 
     both : (q : HeapScript) → Among q scripts → (r : HeapScript) → Among r scripts → (written q).colour ≡ Black →
-        Among (written r).name (contents (written q).slots) →
+        Among (written r).name (contents (script_places_of (written q))) →
         (written r).colour ≡ Black
-    both q j r k e h = grind (arith, changed_where-either, Among-flat_map_set)
+    both q j r k e h = grind (arith, changed_where-either, Among-flat_map_set, slot-place, delegate-place, script_place-cases)
 
--- A black script object is made that holds nothing.
+-- A black script object is made that holds black ones alone.
 pub AreColoured-push : (scripts : List HeapScript) (registers : Slots) (n : HeapScript) → n.colour ≡ Black →
-    ((x : Name) → ¬ (Among x (contents n.slots))) →
+    ((o : HeapScript) → Among o scripts → Among o.name (contents (script_places_of n)) → o.colour ≡ Black) →
     AreColoured scripts registers → AreColoured (scripts ++ n ∷ []) registers
-AreColoured-push scripts registers n black empty c = record {
-  black_to_black = λ o p m k. each-push (λ p. o.colour ≡ Black → Among p.name (contents o.slots) → p.colour ≡ Black) scripts n
-      (λ p i. each-push (λ o. o.colour ≡ Black → Among p.name (contents o.slots) → p.colour ≡ Black) scripts n
-      (λ o j. c.black_to_black o p j i) (λ e h. absurd (empty p.name h)) o m)
+AreColoured-push scripts registers n black holds c = record {
+  black_to_black = λ o p m k. each-push (λ p. o.colour ≡ Black → Among p.name (contents (script_places_of o)) → p.colour ≡ Black) scripts n
+      (λ p i. each-push (λ o. o.colour ≡ Black → Among p.name (contents (script_places_of o)) → p.colour ≡ Black) scripts n
+      (λ o j. c.black_to_black o p j i) (λ e h. holds p i h) o m)
       (λ e h. black) p k;
   held_black = each-push (λ o. Among o.name (contents registers) → o.colour ≡ Black) scripts n c.held_black (λ i. black);
   none_white = each-push (λ o. o.colour ≢ White) scripts n c.none_white (λ e. let both : Black ≡ White = sym black ∙ e in cc);
@@ -86,9 +88,9 @@ module _ (h : Heap) (x : Name) where
   blacken-name : (o : HeapScript) → (blacken o).name ≡ o.name
   blacken-name o = changed_where-either (λ p. p.name ≡ o.name) (is_one_of (exposed_names h x)) as_black o (λ e. refl) refl
 
-  -- an exposure keeps slots
-  blacken-slots : (o : HeapScript) → (blacken o).slots ≡ o.slots
-  blacken-slots o = changed_where-either (λ p. p.slots ≡ o.slots) (is_one_of (exposed_names h x)) as_black o (λ e. refl) refl
+  -- an exposure keeps places
+  blacken-places : (o : HeapScript) → script_places_of (blacken o) ≡ script_places_of o
+  blacken-places o = changed_where-either (λ p. script_places_of p ≡ script_places_of o) (is_one_of (exposed_names h x)) as_black o (λ e. refl) refl
 
   -- what was black is black
   blacken-black : (o : HeapScript) → o.colour ≡ Black → (blacken o).colour ≡ Black
@@ -102,34 +104,34 @@ module _ (h : Heap) (x : Name) where
   blacken-cases : (o : HeapScript) → (blacken o).colour ≡ Black → Among o.name (exposed_names h x) ⊎ (o.colour ≡ Black)
   blacken-cases o = grind (arith, changed_where-either, has-among, same_name-exact)
 
-  -- what is exposed exposes what it has in slots
-  exposed-along : (o : HeapScript) (y : Name) → Among o h.scripts → Among o.name (exposed_names h x) → Among y (contents o.slots) →
+  -- what is exposed exposes what it has in slots and as its delegate
+  exposed-along : (o : HeapScript) (y : Name) → Among o h.scripts → Among o.name (exposed_names h x) → Among y (contents (script_places_of o)) →
       Among y (exposed_names h x)
   exposed-along o y m e i = derived-closure same_name same_name-exact (exposure_rules h x) y
       (derive-along (x ∷ []) (slots_of_scripts h) [] o.name y
-      (Among-flat_map script_slot_edges o (from_to o.name y) h.scripts m (Among-map (from_to o.name) y (contents o.slots) i))
+      (Among-flat_map script_slot_edges o (from_to o.name y) h.scripts m (Among-map (from_to o.name) y (contents (script_places_of o)) i))
       (closure-derived same_name same_name-exact (exposure_rules h x) o.name e))
 
   -- and it is exposed itself
   exposed-itself : Among x (exposed_names h x)
   exposed-itself = derived-closure same_name same_name-exact (exposure_rules h x) x (derive-root (x ∷ []) (slots_of_scripts h) [] x (inl refl))
 
-  -- what is black after an exposure has black ones in its slots
+  -- what is black after an exposure holds black ones alone
   AreColoured-blacken : IsColoured h → AreColoured (map blacken h.scripts) h.script_registers
   AreColoured-blacken c = record {
-    black_to_black = λ o p m n. each-map (λ o. o.colour ≡ Black → Among p.name (contents o.slots) → p.colour ≡ Black) blacken h.scripts
-        (λ q j. each-map (λ p. (blacken q).colour ≡ Black → Among p.name (contents (blacken q).slots) → p.colour ≡ Black) blacken h.scripts (both q j) p n) o m;
+    black_to_black = λ o p m n. each-map (λ o. o.colour ≡ Black → Among p.name (contents (script_places_of o)) → p.colour ≡ Black) blacken h.scripts
+        (λ q j. each-map (λ p. (blacken q).colour ≡ Black → Among p.name (contents (script_places_of (blacken q))) → p.colour ≡ Black) blacken h.scripts (both q j) p n) o m;
     held_black = each-map (λ o. Among o.name (contents h.script_registers) → o.colour ≡ Black) blacken h.scripts
         (λ o m i. blacken-black o (c.held_black o m (subst (λ z. Among z (contents h.script_registers)) (blacken-name o) i)));
     none_white = each-map (λ o. o.colour ≢ White) blacken h.scripts (λ o m. blacken-not_white o (c.none_white o m));
   }
     where
       both : (q : HeapScript) → Among q h.scripts → (r : HeapScript) → Among r h.scripts → (blacken q).colour ≡ Black →
-          Among (blacken r).name (contents (blacken q).slots) →
+          Among (blacken r).name (contents (script_places_of (blacken q))) →
           (blacken r).colour ≡ Black
       both q j r k e i =
-          let held : Among r.name (contents q.slots) =
-          subst (λ z. Among z (contents q.slots)) (blacken-name r) (subst (λ (s : Slots). Among (blacken r).name (contents s)) (blacken-slots q) i) in
+          let held : Among r.name (contents (script_places_of q)) =
+          subst (λ z. Among z (contents (script_places_of q))) (blacken-name r) (subst (λ (s : Slots). Among (blacken r).name (contents s)) (blacken-places q) i) in
           ⊎_elim
           (λ t. blacken-exposed r (exposed-along q r.name j t held))
           (λ t. blacken-black r (c.black_to_black q r j k t held))

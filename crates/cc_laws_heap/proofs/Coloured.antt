@@ -17,13 +17,14 @@ use Rattle.cc_model.specs.View.{view, names_with, native_edges, script_slot_edge
 use Rattle.cc_model.specs.Colours.{HasColourInvariant}
 use Rattle.cc_model.specs.WellFormed.{IsWellFormed}
 use Rattle.cc_model.proofs.Places.{behind_edges, script_edges-split}
+use Rattle.cc_model.specs.Places.{script_places_of}
 use Rattle.cc_lists.proofs.ListWrites.{only-member}
 use Rattle.cc_laws_heap.proofs.ViewEdges.{native_edges-are, script_edges-are}
 use Rattle.cc_laws_heap.proofs.ScriptNames.{script-named}
 
--- what black ones have in slots is black, script registers hold black ones, none is white
+-- what black ones have in slots, or as their delegates, is black, script registers hold black ones, none is white
 pub record AreColoured (scripts : List HeapScript) (registers : Slots) : Type 0 where
-  pub black_to_black : (o p : HeapScript) → Among o scripts → Among p scripts → o.colour ≡ Black → Among p.name (contents o.slots) → p.colour ≡ Black
+  pub black_to_black : (o p : HeapScript) → Among o scripts → Among p scripts → o.colour ≡ Black → Among p.name (contents (script_places_of o)) → p.colour ≡ Black
   pub held_black : (o : HeapScript) → Among o scripts → Among o.name (contents registers) → o.colour ≡ Black
   pub none_white : (o : HeapScript) → Among o scripts → o.colour ≢ White
 
@@ -81,12 +82,12 @@ one-script h o p w m n e = only-member (λ (q : HeapScript). same_name o.name q.
 
 -- From the view
 
--- what a script object has in a slot is an edge of the view
-pub edge-from_script_slot : (h : Heap) (o : HeapScript) (x : Name) → Among o h.scripts → Among x (contents o.slots) → Among (o.name, x) (view h).edges
-edge-from_script_slot h o x m i = Among-right (from_to o.name x) (flat_map native_edges h.natives) (flat_map script_edges h.scripts)
+-- what a script object has in a slot or as its delegate is an edge of the view
+pub edge-from_script_place : (h : Heap) (o : HeapScript) (x : Name) → Among o h.scripts → Among x (contents (script_places_of o)) → Among (o.name, x) (view h).edges
+edge-from_script_place h o x m i = Among-right (from_to o.name x) (flat_map native_edges h.natives) (flat_map script_edges h.scripts)
     (Among-flat_map script_edges o (from_to o.name x) h.scripts m
     (subst (Among (from_to o.name x)) (sym (script_edges-split o)) (Among-left (from_to o.name x) (script_slot_edges o) (behind_edges o.name)
-    (Among-map (from_to o.name) x (contents o.slots) i))))
+    (Among-map (from_to o.name) x (contents (script_places_of o)) i))))
 
 module _ (h : Heap) (w : IsWellFormed h) (c : HasColourInvariant (view h)) where
   -- no script object is white
@@ -97,7 +98,7 @@ module _ (h : Heap) (w : IsWellFormed h) (c : HasColourInvariant (view h)) where
   pub AreColoured-from_view : IsColoured h
   AreColoured-from_view = record {
     black_to_black = λ o p m n e i. black-left p.colour (none-white p n)
-        (λ g. c.black_to_black o.name p.name (names_with-there is_black h.scripts o m (rw e refl)) (edge-from_script_slot h o p.name m i)
+        (λ g. c.black_to_black o.name p.name (names_with-there is_black h.scripts o m (rw e refl)) (edge-from_script_place h o p.name m i)
         (names_with-there is_gray h.scripts p n (rw g refl)));
     held_black = λ o m i.
         let black : Among o.name (view h).black =
@@ -123,8 +124,8 @@ module _ (h : Heap) (w : IsWellFormed h) (c : IsColoured h) where
       let f = script_edges-are q.0 x y q.2 in
       let same : q.0 ≡ o.0 = one-script h o.0 q.0 w o.1 q.1 (f.0 ∙ sym o.3) in
       ⊎_elim
-      (λ i. let here : Among p.0.name (contents o.0.slots) =
-      subst (λ z. Among z (contents o.0.slots)) (sym p.3) (subst (λ (z : HeapScript). Among y (contents z.slots)) same i) in
+      (λ i. let here : Among p.0.name (contents (script_places_of o.0)) =
+      subst (λ z. Among z (contents (script_places_of o.0))) (sym p.3) (subst (λ (z : HeapScript). Among y (contents (script_places_of z))) same i) in
       is_gray-not_black p.0.colour p.2 (c.black_to_black o.0 p.0 o.1 p.1 (is_black-true o.0.colour o.2) here))
       (λ e. false≢true (subst (λ z. is_script z ≡ true) (p.3 ∙ sym e.2) (script-named h w p.0 p.1)))
       f.1)

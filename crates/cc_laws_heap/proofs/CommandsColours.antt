@@ -1,5 +1,5 @@
 -- EACH COMMAND THAT IS NOT REFUSED KEEPS THE COLOURS.
-use Rattle.std.proofs.Common.{◌≡◌, ℕ, ◌+◌, Bool, true, false, ◌≤◌, List, [], ◌∷◌, ◌++◌, length, Option, Some, None, refl, sym, subst, ⊎_elim, arith, option_map, slice_set}
+use Rattle.std.proofs.Common.{◌≡◌, ℕ, ◌+◌, Bool, true, false, ◌≤◌, List, [], ◌∷◌, ◌++◌, length, Option, Some, None, refl, sym, subst, ⊎_elim, arith, option_map, slice_set, option_to_list, inl}
 use Rattle.std.specs.Prelude.{IsTrue}
 use Rattle.std.proofs.lemmas.Bool.{leb-false}
 use Rattle.cc_lists.specs.Members.{Among}
@@ -13,23 +13,25 @@ use Rattle.cc_names.specs.declared.kind.Colour.TheVariants.{Black}
 use Rattle.cc_names.specs.Names.{object, reflector}
 use Rattle.cc_model.specs.declared.command.Command.{Command}
 use Rattle.cc_model.specs.declared.command.Command.TheVariants.{Native, Script, WeakMap, Proxy, CopyNative, CopyScript, Drop, Set, Get, Put, Take, Wrap, Unwrap, Preserve, SetEntry, GetEntry, Expose}
-use Rattle.cc_model.specs.Slots.{reflector_slots}
+use Rattle.cc_model.specs.Slots.{reflector_slots, contents}
 use Rattle.cc_model.specs.Ranges.{in_range}
 use Rattle.cc_model.specs.Checks.{slot_at, slots_at, value_at, reflector_of}
 use Rattle.cc_model.specs.Heap.{Heap, HeapScript, register, set_register, source, objects_of, preserve, has_reflector}
 use Rattle.cc_model.specs.Exposure.{exposed}
-use Rattle.cc_model.specs.Effects.{effects, put_in_register, hold_native, store_native, make_native, make_object, with_reflector, wrapped, put_in_script, set_entry}
+use Rattle.cc_model.specs.Effects.{effects, put_in_register, hold_native, store_native, make_native, make_object, with_reflector, wrapped, put_in_script, set_entry, make_proxy}
 use Rattle.cc_model.specs.WellFormed.{IsWellFormed, script_names}
+use Rattle.cc_model.specs.Places.{script_places_of}
 use Rattle.cc_laws_heap.specs.Sound.{IsSound}
 use Rattle.cc_lists.proofs.ListWrites.{each-push}
 use Rattle.cc_laws_heap.proofs.Making.{contents-empty_none}
 use Rattle.cc_laws_heap.proofs.Writes.{contents-at}
-use Rattle.cc_laws_heap.proofs.Holding.{has_reflector-none, source-there}
+use Rattle.cc_laws_heap.proofs.Holding.{has_reflector-none, source-there, script_register-there}
 use Rattle.cc_laws_heap.proofs.ScriptCommands.{blank}
 use Rattle.cc_laws_heap.proofs.Taken.{IsTaken}
 use Rattle.cc_laws_heap.proofs.Coloured.{AreColoured, IsColoured}
 use Rattle.cc_laws_heap.proofs.ColourChanges.{IsHeldBlack, AreColoured-register, AreColoured-slot, AreColoured-push, exposed-coloured, exposed-black}
 use Rattle.cc_laws_heap.proofs.NativesKeepScripts.{SameScripts-coloured, put_in_register-scripts, hold_native-scripts, store_native-scripts, make_native-scripts}
+use Rattle.cc_laws_heap.proofs.Owning.{IsIn}
 
 -- Script registers
 
@@ -48,20 +50,27 @@ exposed_register-coloured h d x c = AreColoured-register (exposed h x).scripts (
 
 -- Script objects
 
--- a black script object with a new name goes last, and a script register holds it
-blank-coloured : (h : Heap) (d : ℕ) (x : Name) (kind : Kind) (n : ℕ) → ¬ (Among x (script_names h)) → IsColoured h →
-    AreColoured (h.scripts ++ blank x kind n ∷ []) (slice_set h.script_registers d (Some x))
-blank-coloured h d x kind n unknown c = AreColoured-register (h.scripts ++ blank x kind n ∷ []) h.script_registers d (Some x)
-    (each-push (λ o. Among o.name (x ∷ []) → o.colour ≡ Black) h.scripts (blank x kind n)
+-- a blank object holds its delegate alone
+pub blank-holds : (x : Name) (kind : Kind) (n : ℕ) (d : Option Name) (y : Name) → Among y (contents (script_places_of (blank x kind n d))) → d ≡ Some y
+blank-holds x kind n d y m = ⊎_elim (λ s. absurd (contents-empty_none n y s)) (λ e. e) (script_place-cases (blank x kind n d) y m)
+
+-- a black script object with a new name and a black delegate goes last, and a script register holds it
+blank-coloured : (h : Heap) (d : ℕ) (x : Name) (kind : Kind) (n : ℕ) (its_delegate : Option Name) → ¬ (Among x (script_names h)) →
+    IsHeldBlack h.scripts its_delegate → IsColoured h →
+    AreColoured (h.scripts ++ blank x kind n its_delegate ∷ []) (slice_set h.script_registers d (Some x))
+blank-coloured h d x kind n its_delegate unknown black c = AreColoured-register (h.scripts ++ blank x kind n its_delegate ∷ []) h.script_registers d (Some x)
+    (each-push (λ o. Among o.name (x ∷ []) → o.colour ≡ Black) h.scripts (blank x kind n its_delegate)
     (λ o m i. absurd (unknown (⊎_elim (λ e. subst (λ z. Among z (script_names h)) (sym e)
     (Among-map (λ (p : HeapScript). p.name) o h.scripts m)) (λ t. absurd t) i)))
     (λ i. refl))
-    (AreColoured-push h.scripts h.script_registers (blank x kind n) refl (contents-empty_none n) c)
+    (AreColoured-push h.scripts h.script_registers (blank x kind n its_delegate) refl
+    (λ o m i. black o m (subst (λ y. Among o.name (option_to_list y)) (sym (blank-holds x kind n its_delegate o.name i)) (inl refl))) c)
 
--- a plain object or a weak map is made black
-make_object-coloured : (h : Heap) (d : ℕ) (kind : Kind) (n : ℕ) → IsWellFormed h → IsColoured h → IsColoured (make_object h d kind n)
-make_object-coloured h d kind n w c = blank-coloured h d (object (h.scripts_made + 1)) kind n
-    (λ m. let made : h.scripts_made + 1 ≤ h.scripts_made = (w.object_numbers (h.scripts_made + 1) m).1 in absurd (omega arith)) c
+-- a plain object, a weak map or a proxy is made black
+make_object-coloured : (h : Heap) (d : ℕ) (kind : Kind) (n : ℕ) (its_delegate : Option Name) → IsWellFormed h → IsHeldBlack h.scripts its_delegate → IsColoured h →
+    IsColoured (make_object h d kind n its_delegate)
+make_object-coloured h d kind n its_delegate w black c = blank-coloured h d (object (h.scripts_made + 1)) kind n its_delegate
+    (λ m. let made : h.scripts_made + 1 ≤ h.scripts_made = (w.object_numbers (h.scripts_made + 1) m).1 in absurd (omega arith)) black c
 
 -- a reflector is exposed, or made black
 wrapped-coloured : (h : Heap) (d : ℕ) (x : Option Name) → IsColoured h → IsColoured (set_register (wrapped h x) (S d) (reflector_of x))
@@ -73,7 +82,7 @@ wrapped-coloured h d (Some (name.Native k)) c = go (has_reflector h k.0) refl
     go : (b : Bool) → has_reflector h k.0 ≡ b →
         IsColoured (set_register (elim b [ true ↦ exposed h (Some (reflector k.0)) | false ↦ with_reflector h k.0 ]) (S d) (Some (reflector k.0)))
     go true e = exposed_register-coloured h d (Some (reflector k.0)) c
-    go false e = blank-coloured h d (reflector k.0) Reflector reflector_slots (has_reflector-none h k.0 e) c
+    go false e = blank-coloured h d (reflector k.0) Reflector reflector_slots None (has_reflector-none h k.0 e) (λ o m i. absurd i) c
 
 -- a slot of a script object takes what is black
 put_in_script-coloured : (h : Heap) (x : Option Name) (i : ℕ) (y : Option Name) → IsHeldBlack h.scripts y → IsColoured h →
@@ -92,13 +101,22 @@ preserve-coloured h x c = grind arith
 set_entry-coloured : (h : Heap) (m k v : Option Name) → IsColoured h → IsColoured (set_entry h m k v)
 set_entry-coloured h m k v c = grind (arith, preserve-coloured)
 
+-- a proxy of what is black is made black
+make_proxy-coloured : {owned : List ℕ} (h : Heap) (d : ℕ) (x : Option Name) → IsSound owned h → IsIn (script_names h) x → IsHeldBlack h.scripts x → IsColoured h →
+    IsColoured (make_proxy h d x)
+make_proxy-coloured h d None s there black c = c
+make_proxy-coloured {owned} h d (Some x) s there black c = make_object-coloured (preserve h (Some x)) d proxy_kind 0 (Some x)
+    (preserve-sound owned h (Some x) there s).well_formed
+    (subst (λ os. IsHeldBlack os (Some x)) (sym (preserve-scripts h (Some x))) black) (preserve-coloured h (Some x) c)
+
 -- A command that is not refused keeps the colours.
 pub effects-coloured : {owned : List ℕ} (h : Heap) (c : Command) → IsSound owned h → IsColoured h → IsTrue (in_range c) → IsTaken (objects_of h) c →
     IsColoured (effects h c).heap
 unfolding effects
 effects-coloured {owned} h (Native d n) s c r t = SameScripts-coloured h (make_native h d n).heap (make_native-scripts h d n) c
-effects-coloured {owned} h (Script d n) s c r t = make_object-coloured h d Plain n s.well_formed c
-effects-coloured {owned} h (WeakMap d) s c r t = make_object-coloured h d Map 0 s.well_formed c
+effects-coloured {owned} h (Script d n) s c r t = make_object-coloured h d Plain n None s.well_formed (λ o m i. absurd i) c
+effects-coloured {owned} h (WeakMap d) s c r t = make_object-coloured h d Map 0 None s.well_formed (λ o m i. absurd i) c
+effects-coloured {owned} h (Proxy d q) s c r t = make_proxy-coloured h d (register h (S q)) s (script_register-there h q s.well_formed) (script_register-black h q c) c
 effects-coloured {owned} h (CopyNative d q) s c r t = SameScripts-coloured h (hold_native h d (register h (N q))).heap (hold_native-scripts h d (register h (N q))) c
 effects-coloured {owned} h (CopyScript d q) s c r t = AreColoured-register h.scripts h.script_registers d (register h (S q)) (script_register-black h q c) c
 effects-coloured {owned} h (Drop (N d)) s c r t = SameScripts-coloured h (put_in_register h d None).heap (put_in_register-scripts h d None) c

@@ -18,7 +18,7 @@ use Rattle.cc_laws_heap.proofs.Writes.{script_register-sound}
 use Rattle.cc_laws_heap.proofs.ScriptsKept.{preserve-sound, put_in_script-sound, exposed-sound, hold_script-sound}
 use Rattle.cc_laws_heap.proofs.Holding.{IsIn-no_script, IsIn-no_native, native_register-there, script_register-there, source-there, script_source-there, slot_at-there, script_slot-there, value_at-there, native_of-there}
 use Rattle.cc_laws_heap.proofs.NativeCommands.{put_in_register-sound, hold_native-sound, store_native-sound, make_native-sound}
-use Rattle.cc_laws_heap.proofs.ScriptCommands.{make_object-sound, wrapped-sound, set_entry-sound}
+use Rattle.cc_laws_heap.proofs.ScriptCommands.{make_object-sound, wrapped-sound, set_entry-sound, IsDelegate, no_delegate}
 use Rattle.cc_laws_heap.proofs.Taken.{IsTaken}
 
 -- a register in range is one of its bank
@@ -34,10 +34,12 @@ pub effects-sound : {owned : List ℕ} (h : Heap) (c : Command) → IsSound owne
 unfolding effects
 effects-sound {owned} h (Native d n) s r t = make_native-sound owned h d n (below-first d (is_slots n) r) (few-slots n (is_register d) r)
     (leb-false h.limits.natives h.natives_made t.room) s
-effects-sound {owned} h (Script d n) s r t = make_object-sound owned h d Plain n
+effects-sound {owned} h (Script d n) s r t = make_object-sound owned h d Plain n None
     (subst (λ l. l ≤ most_slots) (sym (length-replicate {A = Option Name} n None)) (few-slots n (is_register d) r))
+    (no_delegate h Plain refl) (leb-false h.limits.scripts h.scripts_made t.room) s
+effects-sound {owned} h (WeakMap d) s r t = make_object-sound owned h d Map 0 None refl (no_delegate h Map refl) (leb-false h.limits.scripts h.scripts_made t.room) s
+effects-sound {owned} h (Proxy d q) s r t = make_proxy-sound owned h d (register h (S q)) (script_register-there h q s.well_formed)
     (leb-false h.limits.scripts h.scripts_made t.room) s
-effects-sound {owned} h (WeakMap d) s r t = make_object-sound owned h d Map 0 refl (leb-false h.limits.scripts h.scripts_made t.room) s
 effects-sound {owned} h (CopyNative d q) s r t = hold_native-sound owned h d (register h (N q))
     (below-first d (is_register q) r) (native_register-there h q s.well_formed) s
 effects-sound {owned} h (CopyScript d q) s r t = script_register-sound owned h d (register h (S q)) (script_register-there h q s.well_formed) s

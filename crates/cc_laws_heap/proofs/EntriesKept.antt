@@ -1,5 +1,5 @@
 -- ENTRIES SET AND TAKEN OUT keep the heaps well formed: at most one entry for each map and key, of what is there.
-use Rattle.std.proofs.Common.{◌≡◌, ℕ, Bool, not, List, [], ◌∷◌, subst, ⊎_elim, arith}
+use Rattle.std.proofs.Common.{◌≡◌, ℕ, Bool, not, List, [], ◌∷◌, subst, ⊎_elim, arith, Option}
 use Rattle.std.specs.Option.{option_to_list}
 use Rattle.cc_lists.specs.Members.{Among}
 use Rattle.cc_lists.proofs.Members.{Among-filtered}
@@ -18,12 +18,12 @@ value_in-among [] m k y i = absurd i
 value_in-among (e ∷ es) m k y i = grind (arith, value_in-among es m k y)
 
 -- An entry of what is there is set.
-pub with_entry-sound : (owned : List ℕ) (h : Heap) (m k v : Name) → HasMembers h (entry m k v) → IsSound owned h →
-    IsSound owned (with_entries h (with_entry h.entries m k v))
-with_entry-sound owned h m k v members s = record {
-  well_formed = IsWellFormed-entries h (with_entry h.entries m k v) s.well_formed
-      (λ e i. ⊎_elim (λ same. subst (HasMembers h) same members) (s.well_formed.entries e) (with_entry-cases h.entries m k v e i))
-      (entries_of-set h.entries m k v s.well_formed.one_entry);
+pub with_entry-sound : (owned : List ℕ) (h : Heap) (m k : Name) (d : Option Name) (v : Name) → HasMembers h (entry m k d v) → IsSound owned h →
+    IsSound owned (with_entries h (with_entry h.entries m k d v))
+with_entry-sound owned h m k d v members s = record {
+  well_formed = IsWellFormed-entries h (with_entry h.entries m k d v) s.well_formed
+      (λ e i. ⊎_elim (λ same. subst (HasMembers h) same members) (s.well_formed.entries e) (with_entry-cases h.entries m k d v e i))
+      (entries_of-set h.entries m k d v s.well_formed.one_entry);
   counts = s.counts;
   none_zero = s.none_zero;
   owned_there = s.owned_there;

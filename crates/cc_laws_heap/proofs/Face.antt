@@ -34,7 +34,7 @@ pub use Rattle.cc_laws_heap.proofs.Leaving.{IsOf, Leave, Leave-add_ref, Leave-be
 pub use Rattle.cc_laws_heap.proofs.MadeAlike.{Follows-made, IsMade}
 pub use Rattle.cc_laws_heap.proofs.MadeSound.{with_native-sound, with_script-sound}
 pub use Rattle.cc_laws_heap.proofs.Making.{IsRising-push, contents-empty, contents-empty_none, places-with_mark, with_mark-cases}
-pub use Rattle.cc_laws_heap.proofs.MarkedKept.{black-register, black-slot, marked-black, marked-native_slot, marked-not_unmarked, marked-other, marked-slot, marked-value}
+pub use Rattle.cc_laws_heap.proofs.MarkedKept.{black-place, black-register, marked-black, marked-native_slot, marked-not_unmarked, marked-other, marked-place, marked-slot, marked-value}
 pub use Rattle.cc_laws_heap.proofs.MarkedWellFormed.{is_spared, is_spared_entry}
 pub use Rattle.cc_laws_heap.proofs.Marking.{HasColours-marked, as_marked, colour_of}
 pub use Rattle.cc_laws_heap.proofs.MarkingKeeps.{IsSound-marked, round-frees, round-sound, script_names-marked}

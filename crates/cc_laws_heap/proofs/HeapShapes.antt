@@ -17,17 +17,13 @@ use Rattle.cc_model.specs.WellFormed.{IsWellFormed, FitsName, native_names, scri
 use Rattle.cc_model.specs.StandsFor.{Shape, script_shape, shape_at, shape_of_held_native, shape_of_held_script}
 use Rattle.cc_lists.proofs.Filtering.{find-among, find-passes}
 use Rattle.cc_lists.proofs.Searching.{find-only}
-use Rattle.cc_laws_heap.proofs.ScriptNames.{scripts-once}
+use Rattle.cc_laws_heap.proofs.ScriptNames.{scripts-once, script_at-member}
 use Rattle.cc_laws_heap.proofs.Natives.{native_at-there, native_at-number, native_at-member, IsWellFormed-distinct}
 use Rattle.cc_laws_heap.proofs.Shapes.{edges_of_shape, contents-script}
 
 -- Objects under their names
 
--- a script object is found under its name
-script_at-member : (h : Heap) → IsWellFormed h → (o : HeapScript) → Among o h.scripts → script_at h o.name ≡ Some o
-script_at-member h w o m = find-only (λ (p : HeapScript). same_name p.name o.name) h.scripts o (scripts-once h w o.name) m (same_name-refl o.name)
-
--- and has its shape there
+-- a script object has its shape under its name
 pub shape_at-script : (h : Heap) → IsWellFormed h → (o : HeapScript) → Among o h.scripts → shape_at h o.name ≡ Some (shape_of_held_script o)
 shape_at-script h w o m = go o.name refl (w.kinds o m)
   where

@@ -1,5 +1,5 @@
 -- WHAT KEEPS THE HEAPS WELL FORMED: one list of the heaps changed at a time.
-use Rattle.std.proofs.Common.{arith, ◌≡◌, ℕ, ◌≤◌, Bool, true, refl, List, ◌++◌, map, length, sym, ◌∙◌, ap, subst, count_by}
+use Rattle.std.proofs.Common.{arith, ◌≡◌, ℕ, ◌≤◌, Bool, true, refl, List, ◌++◌, map, length, sym, ◌∙◌, ap, subst, count_by, is_some, Some}
 use Rattle.cc_lists.specs.Members.{Among}
 use Rattle.cc_lists.proofs.Members.{Among-map}
 use Rattle.cc_names.specs.declared.name.Name.{Name}
@@ -8,7 +8,7 @@ use Rattle.cc_names.specs.Sizes.{bank_length, most_slots}
 use Rattle.cc_model.specs.Slots.{Slots, contents}
 use Rattle.cc_model.specs.Entries.{Entry, is_entry_of}
 use Rattle.cc_model.specs.Heap.{Heap, HeapNative, HeapScript, Buffered}
-use Rattle.cc_model.specs.WellFormed.{IsWellFormed, IsRising, HasMembers, FitsName, native_names, script_names, names_there}
+use Rattle.cc_model.specs.WellFormed.{IsWellFormed, IsRising, HasMembers, FitsName, native_names, script_names, names_there, is_proxy_kind}
 use Rattle.cc_laws_heap.specs.Freeing.{Uncounted, uncounted}
 use Rattle.cc_laws_heap.specs.Balance.{places}
 use Rattle.cc_lists.proofs.ListWrites.{changed_where, changed_where-either, each-map, map-kept}
@@ -58,7 +58,29 @@ IsBuffer-own h w = record { there = w.buffered; once = w.buffered_once }
 -- other registers, other entries and another buffer, each of what is there, keep the heaps well formed
 IsWellFormed-beside : (h : Heap) (ns ss : Slots) (es : List Entry) (bs : List Buffered) → IsWellFormed h → AreRegisters h ns ss → AreEntries h es → IsBuffer h bs →
     IsWellFormed (record h { native_registers = ns; script_registers = ss; entries = es; buffer = bs })
-IsWellFormed-beside h ns ss es bs w r t b = grind arith
+IsWellFormed-beside h ns ss es bs w r t b = record {
+  native_registers = r.natives;
+  script_registers = r.scripts;
+  registers = r.enough;
+  rising = w.rising;
+  native_numbers = w.native_numbers;
+  native_slots = w.native_slots;
+  native_contents = w.native_contents;
+  distinct = w.distinct;
+  object_numbers = w.object_numbers;
+  kinds = w.kinds;
+  script_contents = w.script_contents;
+  delegates = w.delegates;
+  delegate_there = w.delegate_there;
+  reflected = w.reflected;
+  preserved = w.preserved;
+  entries = λ e m. let k = t.members e m in record { the_map = k.the_map; key = k.key; value = k.value; delegate = k.delegate };
+  one_entry = t.once;
+  buffered = b.there;
+  buffered_once = b.once;
+  natives_allowed = w.natives_allowed;
+  scripts_allowed = w.scripts_allowed;
+}
 
 -- so do other registers alone,
 pub IsWellFormed-registers : (h : Heap) (ns ss : Slots) → IsWellFormed h → AreRegisters h ns ss → IsWellFormed (with_registers h ns ss)
@@ -67,7 +89,8 @@ IsWellFormed-registers h ns ss w r = IsWellFormed-beside h ns ss h.entries h.buf
 -- other entries alone,
 pub IsWellFormed-entries : (h : Heap) (es : List Entry) → IsWellFormed h → ((e : Entry) → Among e es → HasMembers h e) →
     ((m k : Name) → count_by (is_entry_of m k) es ≤ 1) → IsWellFormed (with_entries h es)
-IsWellFormed-entries h es w members once = grind (arith, IsWellFormed-beside, AreRegisters-own, IsBuffer-own)
+IsWellFormed-entries h es w members once = IsWellFormed-beside h h.native_registers h.script_registers es h.buffer w (AreRegisters-own h w)
+    (record { members = members; once = once }) (IsBuffer-own h w)
 
 -- and another buffer alone
 pub IsWellFormed-buffer : (h : Heap) (bs : List Buffered) → IsWellFormed h → IsBuffer h bs → IsWellFormed (with_buffer h bs)
@@ -124,9 +147,11 @@ IsWellFormed-natives h f bs w c b = record {
   object_numbers = w.object_numbers;
   kinds = w.kinds;
   script_contents = w.script_contents;
+  delegates = w.delegates;
+  delegate_there = w.delegate_there;
   reflected = λ k m. moved (native k) (w.reflected k m);
   preserved = each-map (λ n. n.preserved ≡ true → Among (reflector n.number) (script_names h)) f h.natives (λ n m. (c.fits n m).preserved);
-  entries = λ e m. let k = w.entries e m in record { the_map = k.the_map; key = k.key; value = k.value };
+  entries = λ e m. let k = w.entries e m in record { the_map = k.the_map; key = k.key; value = k.value; delegate = k.delegate };
   one_entry = w.one_entry;
   buffered = λ k m. moved (native k.number) (b.there k m);
   buffered_once = b.once;
@@ -146,10 +171,11 @@ IsWellFormed-natives h f bs w c b = record {
 abbrev pub with_scripts : Heap → (HeapScript → HeapScript) → Heap
 with_scripts h f = record h { scripts = map f h.scripts }
 
--- script objects keep their names and kinds, and hold as many slots as they may, in them script objects that are there
+-- script objects keep their names, kinds and delegates, and hold as many slots as they may, in them script objects that are there
 pub record ChangesScripts (h : Heap) (f : HeapScript → HeapScript) : Type 0 where
   pub name : (o : HeapScript) → (f o).name ≡ o.name
   pub kind : (o : HeapScript) → (f o).kind ≡ o.kind
+  pub delegate : (o : HeapScript) → (f o).delegate ≡ o.delegate
   pub fits : (o : HeapScript) → Among o h.scripts → FitsName o.name o.kind (f o).slots
   pub contents : (o : HeapScript) → Among o h.scripts → (x : Name) → Among x (contents (f o).slots) → Among x (script_names h)
 
@@ -174,6 +200,10 @@ IsWellFormed-scripts h f w c = record {
       (subst (λ k. FitsName o.name k (f o).slots) (sym (c.kind o)) (c.fits o m)));
   script_contents = λ o x m. each-map (λ p. (y : Name) → Among y (contents p.slots) → Among y (script_names (with_scripts h f)))
       f h.scripts (λ p i y j. moved y (c.contents p i y j)) o m x;
+  delegates = each-map (λ o. is_some o.delegate ≡ is_proxy_kind o.kind) f h.scripts
+      (λ o m. ap is_some (c.delegate o) ∙ (w.delegates o m ∙ ap is_proxy_kind (sym (c.kind o))));
+  delegate_there = λ o d m. each-map (λ p. (y : Name) → p.delegate ≡ Some y → Among y (script_names (with_scripts h f)))
+      f h.scripts (λ p i y e. moved y (w.delegate_there p y i (sym (c.delegate p) ∙ e))) o m d;
   reflected = λ k m. w.reflected k (back (reflector k) m);
   preserved = λ n m e. moved (reflector n.number) (w.preserved n m e);
   entries = λ e m. members e (w.entries e m);
@@ -198,4 +228,6 @@ IsWellFormed-scripts h f w c = record {
       the_map = (f k.the_map.0, Among-map f k.the_map.0 h.scripts k.the_map.1, c.name k.the_map.0 ∙ k.the_map.2, c.kind k.the_map.0 ∙ k.the_map.3);
       key = moved e.key k.key;
       value = moved e.value k.value;
+      delegate = each-map (λ o. o.name ≡ e.key → o.delegate ≡ e.delegate) f h.scripts
+          (λ o m is. c.delegate o ∙ k.delegate o m (sym (c.name o) ∙ is));
     }

@@ -1,5 +1,5 @@
 -- WHAT IS MADE KEEPS THE HEAPS WELL FORMED: a native with the next number, a script object with a name that is not there.
-use Rattle.std.proofs.Common.{◌≡◌, ℕ, zero, suc, ◌+◌, ◌<◌, ◌≤◌, Bool, true, false, cond, List, [], ◌∷◌, ◌++◌, map, length, refl, sym, ◌∙◌, ap, subst, inl, inr, ◌⊎◌, ⊎_elim, arith, count_by, None}
+use Rattle.std.proofs.Common.{◌≡◌, ℕ, zero, suc, ◌+◌, ◌<◌, ◌≤◌, Bool, true, false, cond, List, [], ◌∷◌, ◌++◌, map, length, refl, sym, ◌∙◌, ap, subst, inl, inr, ◌⊎◌, ⊎_elim, arith, count_by, None, is_some, Some}
 use Rattle.std.proofs.lemmas.Bool.{eqb-true, cases_lt, false≢true}
 use Rattle.std.proofs.lemmas.Bool.Decides.{eqb_tells}
 use Rattle.std.proofs.lemmas.List.{map_push, length-replicate}
@@ -14,7 +14,7 @@ use Rattle.cc_model.specs.Slots.{contents, empty_slots}
 use Rattle.cc_model.specs.Entries.{Entry}
 use Rattle.cc_model.specs.Heap.{Heap, HeapNative, HeapScript, Buffered, with_mark}
 use Rattle.cc_model.specs.Effects.{with_native}
-use Rattle.cc_model.specs.WellFormed.{IsWellFormed, IsRising, HasMembers, FitsName, native_names, script_names, names_there}
+use Rattle.cc_model.specs.WellFormed.{IsWellFormed, IsRising, HasMembers, FitsName, native_names, script_names, names_there, is_proxy_kind}
 use Rattle.cc_laws_heap.proofs.Rising.{IsRising-tail, IsRising-first, IsRising-cons}
 use Rattle.cc_laws_heap.proofs.Buffer.{places-with_mark_same, places-with_mark_other}
 use Rattle.cc_laws_heap.specs.Balance.{places}
@@ -105,10 +105,12 @@ module _ (h : Heap) (n : ℕ) (w : IsWellFormed h) where
     object_numbers = w.object_numbers;
     kinds = w.kinds;
     script_contents = w.script_contents;
+    delegates = w.delegates;
+    delegate_there = w.delegate_there;
     reflected = λ k m. native_names-with_native (native k) (w.reflected k m);
     preserved = each-push (λ m. m.preserved ≡ true → Among (reflector m.number) (script_names h))
         h.natives (new_native h n) w.preserved (λ e. absurd (false≢true e));
-    entries = λ e m. let k = w.entries e m in record { the_map = k.the_map; key = k.key; value = k.value };
+    entries = λ e m. let k = w.entries e m in record { the_map = k.the_map; key = k.key; value = k.value; delegate = k.delegate };
     one_entry = w.one_entry;
     buffered = λ b m. ⊎_elim
         (λ e. subst (λ k. Among (native k) (native_names (with_native h n))) (sym e) native_names-new_native)
@@ -130,6 +132,8 @@ pub record IsNewScript (h : Heap) (o : HeapScript) (made : ℕ) : Type 0 where
   pub unknown : ¬ (Among o.name (script_names h))
   pub fits : FitsName o.name o.kind o.slots
   pub empty : (x : Name) → ¬ (Among x (contents o.slots))
+  pub delegate : is_some o.delegate ≡ is_proxy_kind o.kind
+  pub delegate_there : (x : Name) → o.delegate ≡ Some x → Among x (script_names h)
   pub number : (k : ℕ) → o.name ≡ object k → (1 ≤ k) × (k ≤ made)
   pub behind : (k : ℕ) → o.name ≡ reflector k → Among (native k) (native_names h)
   pub more : h.scripts_made ≤ made
@@ -193,6 +197,9 @@ module _ (h : Heap) (o : HeapScript) (made : ℕ) where
     kinds = each-push (λ p. FitsName p.name p.kind p.slots) h.scripts o w.kinds s.fits;
     script_contents = λ p x m. each-push (λ p. (y : Name) → Among y (contents p.slots) → Among y (script_names (with_script_last h o made))) h.scripts o
         (λ p i y j. script_names-with_script y (w.script_contents p y i j)) (λ y j. absurd (s.empty y j)) p m x;
+    delegates = each-push (λ p. is_some p.delegate ≡ is_proxy_kind p.kind) h.scripts o w.delegates s.delegate;
+    delegate_there = λ p x m. each-push (λ p. (y : Name) → p.delegate ≡ Some y → Among y (script_names (with_script_last h o made))) h.scripts o
+        (λ p i y e. script_names-with_script y (w.delegate_there p y i e)) (λ y e. script_names-with_script y (s.delegate_there y e)) p m x;
     reflected = λ k m. ⊎_elim (λ i. w.reflected k i) (λ e. s.behind k e) (script_names-with_script_cases (reflector k) m);
     preserved = λ n m e. script_names-with_script (reflector n.number) (w.preserved n m e);
     entries = λ e m. members e (w.entries e m);
@@ -208,4 +215,6 @@ module _ (h : Heap) (o : HeapScript) (made : ℕ) where
         the_map = (k.the_map.0, Among-left k.the_map.0 h.scripts (o ∷ []) k.the_map.1, k.the_map.2, k.the_map.3);
         key = script_names-with_script e.key k.key;
         value = script_names-with_script e.value k.value;
+        delegate = each-push (λ p. p.name ≡ e.key → p.delegate ≡ e.delegate) h.scripts o k.delegate
+            (λ is. absurd (s.unknown (subst (λ x. Among x (script_names h)) (sym is) k.key)));
       }

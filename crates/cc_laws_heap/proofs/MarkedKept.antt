@@ -1,9 +1,9 @@
 -- WHAT IS MARKED AND WHAT IS NOT, once the colours are those of marking: what registers and natives hold is marked, and
 -- what is marked holds only what is marked.
-use Rattle.std.proofs.Common.{arith, ◌≡◌, Bool, true, false, [], ◌∷◌, ◌++◌, refl, sym, subst}
+use Rattle.std.proofs.Common.{arith, ◌≡◌, Bool, true, false, [], ◌∷◌, ◌++◌, Some, refl, sym, subst}
 use Rattle.cc_lists.specs.Members.{Among, has}
 use Rattle.cc_lists.proofs.Members.{Among-map, Among-map_cases, Among-left, Among-right, Among-filter, Among-filtered, Among-passes, Among-flat_map}
-use Rattle.cc_lists.proofs.Least.{derive-root, derive-along, derive-jointly}
+use Rattle.cc_lists.proofs.Least.{derive-root, derive-along}
 use Rattle.cc_lists.proofs.Closure.{derived-closure}
 use Rattle.cc_names.specs.declared.name.Name.{Name}
 use Rattle.cc_names.specs.declared.kind.Colour.{Colour}
@@ -11,11 +11,12 @@ use Rattle.cc_names.specs.declared.kind.Colour.TheVariants.{White}
 use Rattle.cc_names.specs.Names.{native, reflector, same_name, is_script}
 use Rattle.cc_names.proofs.NameTests.{same_name-exact}
 use Rattle.cc_model.specs.Slots.{contents, from_to}
-use Rattle.cc_model.specs.Entries.{Entry, joints, rules_of}
+use Rattle.cc_model.specs.Entries.{Entry, joint, joints, rules_of}
+use Rattle.cc_model.proofs.Joints.{value-joint, delegate-joint, derive-joint}
 use Rattle.cc_model.specs.Heap.{Heap, HeapNative, HeapScript, is_white_colour}
-use Rattle.cc_model.specs.Places.{places_of_native}
+use Rattle.cc_model.specs.Places.{places_of_native, script_places_of}
 use Rattle.cc_model.specs.View.{slot_edges, native_edges, script_slot_edges}
-use Rattle.cc_model.proofs.Places.{preserved_edge, native_edges-split, targets-native}
+use Rattle.cc_model.proofs.Places.{preserved_edge, native_edges-split, slot-place, delegate-place, targets-native}
 use Rattle.cc_model.specs.Exposure.{slots_of_scripts}
 use Rattle.cc_model.specs.Colours.{IsBlack, black_names, scripts_held_by, scripts_held, IsMarked, marked_names, HasColours}
 use Rattle.cc_model.specs.Sweep.{unmarked}
@@ -33,21 +34,34 @@ module _ (h : Heap) where
   pub black-register : (x : Name) → Among x (contents h.script_registers) → IsBlack h x
   black-register x m = derive-root (contents h.script_registers) (slots_of_scripts h) (rules_of (joints h.entries)) x m
 
-  -- what a script object has in a slot is an edge
-  slot-edge : (o : HeapScript) (x : Name) → Among o h.scripts → Among x (contents o.slots) → Among (o.name, x) (slots_of_scripts h)
-  slot-edge o x m i = Among-flat_map script_slot_edges o (from_to o.name x) h.scripts m (Among-map (from_to o.name) x (contents o.slots) i)
+  -- what a script object has in a place over which marking goes is an edge
+  place-edge : (o : HeapScript) (x : Name) → Among o h.scripts → Among x (contents (script_places_of o)) → Among (o.name, x) (slots_of_scripts h)
+  place-edge o x m i = Among-flat_map script_slot_edges o (from_to o.name x) h.scripts m (Among-map (from_to o.name) x (contents (script_places_of o)) i)
 
-  -- what a black script object has in a slot is black
-  pub black-slot : (o : HeapScript) (x : Name) → Among o h.scripts → Among x (contents o.slots) → IsBlack h o.name → IsBlack h x
-  black-slot o x m i d = derive-along (contents h.script_registers) (slots_of_scripts h) (rules_of (joints h.entries)) o.name x (slot-edge o x m i) d
+  -- what a black script object has there is black
+  pub black-place : (o : HeapScript) (x : Name) → Among o h.scripts → Among x (contents (script_places_of o)) → IsBlack h o.name → IsBlack h x
+  black-place o x m i d = derive-along (contents h.script_registers) (slots_of_scripts h) (rules_of (joints h.entries)) o.name x (place-edge o x m i) d
 
-  -- what a marked script object has in a slot is marked
+  -- what a marked script object has there is marked
+  pub marked-place : (o : HeapScript) (x : Name) → Among o h.scripts → Among x (contents (script_places_of o)) → IsMarked h o.name → IsMarked h x
+  marked-place o x m i d = derive-along (black_names h ++ scripts_held h) (slots_of_scripts h) (rules_of (joints h.entries)) o.name x (place-edge o x m i) d
+
+  -- so is what it has in a slot, and its delegate
   pub marked-slot : (o : HeapScript) (x : Name) → Among o h.scripts → Among x (contents o.slots) → IsMarked h o.name → IsMarked h x
-  marked-slot o x m i d = derive-along (black_names h ++ scripts_held h) (slots_of_scripts h) (rules_of (joints h.entries)) o.name x (slot-edge o x m i) d
+  marked-slot o x m i = marked-place o x m (slot-place o x i)
+
+  pub marked-delegate : (o : HeapScript) (x : Name) → Among o h.scripts → o.delegate ≡ Some x → IsMarked h o.name → IsMarked h x
+  marked-delegate o x m e = marked-place o x m (delegate-place o x e)
 
   -- the value of an entry whose map and key are marked is marked
   pub marked-value : (e : Entry) → Among e h.entries → IsMarked h e.the_map → IsMarked h e.key → IsMarked h e.value
-  marked-value e m a b = grind (arith, derive-jointly, Among-map)
+  marked-value e m a b = derive-joint (black_names h ++ scripts_held h) (slots_of_scripts h) (joints h.entries) (joint e.the_map e.key e.value)
+      (value-joint h.entries e m) a b
+
+  -- a proxy whose delegate is marked is marked, where it is the key of an entry of a marked map
+  pub marked-key : (e : Entry) (d : Name) → Among e h.entries → e.delegate ≡ Some d → IsMarked h e.the_map → IsMarked h d → IsMarked h e.key
+  marked-key e d m is a b = derive-joint (black_names h ++ scripts_held h) (slots_of_scripts h) (joints h.entries) (joint e.the_map d e.key)
+      (delegate-joint h.entries e d m is) a b
 
   -- what a native refers to and is a script object is marked
   pub marked-held : (n : HeapNative) (x : Name) → Among n h.natives → Among (native n.number, x) (native_edges n) → is_script x ≡ true → IsMarked h x

@@ -16,7 +16,7 @@ use Rattle.cc_model.specs.Sweep.{unmarked, is_dead_entry}
 use Rattle.cc_model.specs.WellFormed.{IsWellFormed, HasMembers, native_names, script_names, names_there}
 use Rattle.cc_laws_heap.proofs.ScriptNames.{script_names-named}
 use Rattle.cc_laws_heap.proofs.NameLists.{is_not_among-from, is_not_among-apart}
-use Rattle.cc_laws_heap.proofs.MarkedKept.{marked-black, black-register, marked-slot, marked-value, marked-native_slot, marked-preserved, marked-not_unmarked, marked-other}
+use Rattle.cc_laws_heap.proofs.MarkedKept.{marked-black, black-register, marked-slot, marked-value, marked-native_slot, marked-preserved, marked-not_unmarked, marked-other, marked-delegate}
 
 -- whether a script object is none of the dead
 abbrev pub is_spared : List Name → HeapScript → Bool
@@ -62,6 +62,7 @@ module _ (h : Heap) (c : HasColours h) (w : IsWellFormed h) where
         );
         key = marked-spared e.key k.key key_marked;
         value = marked-spared e.value k.value (marked-value h e s.0 map_marked key_marked);
+        delegate = λ o m is. k.delegate o (Among-filtered (is_spared (unmarked h)) o h.scripts m) is;
       }
 
   -- what a native has in a slot stays
@@ -99,6 +100,11 @@ module _ (h : Heap) (c : HasColours h) (w : IsWellFormed h) where
         let there : Among o h.scripts = Among-filtered (is_spared (unmarked h)) o h.scripts m in
         let marked : IsMarked h o.name = (spared-marked o.name (Among-map (λ (p : HeapScript). p.name) o (filter (is_spared (unmarked h)) h.scripts) m)).1 in
         marked-spared x (w.script_contents o x there i) (marked-slot h o x there i marked);
+    delegates = λ o m. w.delegates o (Among-filtered (is_spared (unmarked h)) o h.scripts m);
+    delegate_there = λ o d m e.
+        let there : Among o h.scripts = Among-filtered (is_spared (unmarked h)) o h.scripts m in
+        let marked : IsMarked h o.name = (spared-marked o.name (Among-map (λ (p : HeapScript). p.name) o (filter (is_spared (unmarked h)) h.scripts) m)).1 in
+        marked-spared d (w.delegate_there o d there e) (marked-delegate h o d there e marked);
     reflected = λ k m. w.reflected k (spared-marked (reflector k) m).0;
     preserved = λ n m e. marked-spared (reflector n.number) (w.preserved n m e) (marked-preserved h n m e);
     entries = spared-members;

@@ -1,5 +1,5 @@
 -- SCRIPT OBJECTS MADE, NATIVES WRAPPED, ENTRIES SET.
-use Rattle.std.proofs.Common.{◌≡◌, ℕ, ◌+◌, ◌<◌, ◌≤◌, Bool, true, false, List, Option, Some, None, is_none, refl, sym, ◌∙◌, ap, subst, inl, ⊎_elim, arith}
+use Rattle.std.proofs.Common.{◌≡◌, ℕ, ◌+◌, ◌<◌, ◌≤◌, Bool, true, false, List, Option, Some, None, is_none, refl, sym, ◌∙◌, ap, subst, inl, ⊎_elim, arith, is_some, option_to_list}
 use Rattle.std.specs.Option.{option_and_then}
 use Rattle.cc_lists.specs.Members.{Among}
 use Rattle.cc_lists.proofs.Members.{Among-map_cases}
@@ -8,18 +8,18 @@ use Rattle.cc_names.specs.declared.name.Name.{Name}
 use Rattle.cc_names.specs.declared.name.Name.TheVariants as name
 use Rattle.cc_names.specs.declared.register.Reg.TheVariants.{S}
 use Rattle.cc_names.specs.declared.kind.Kind.{Kind}
-use Rattle.cc_names.specs.declared.kind.Kind.TheVariants.{Reflector, Map}
+use Rattle.cc_names.specs.declared.kind.Kind.TheVariants.{Reflector, Map, Proxy as proxy_kind}
 use Rattle.cc_names.specs.declared.kind.Colour.TheVariants.{Black}
 use Rattle.cc_names.specs.Names.{native, object, reflector, same_name, number_of}
 use Rattle.cc_names.proofs.NameTests.{same_name-true, same_name-refl}
 use Rattle.cc_model.specs.Slots.{empty_slots, reflector_slots}
 use Rattle.cc_model.specs.Entries.{entry, with_entry}
 use Rattle.cc_model.specs.Checks.{is_map_in, reflector_of}
-use Rattle.cc_model.specs.Heap.{Heap, HeapScript, script_at, slots_in, slots_of_script, slots_of_kind, set_register, objects_of, has_reflector, preserve}
+use Rattle.cc_model.specs.Heap.{Heap, HeapScript, script_at, slots_in, slots_of_script, slots_of_kind, set_register, objects_of, has_reflector, preserve, delegate_at}
 use Rattle.cc_model.specs.Cascade.{add_ref}
 use Rattle.cc_model.specs.Exposure.{exposed}
-use Rattle.cc_model.specs.Effects.{make_object, with_reflector, wrapped, set_entry}
-use Rattle.cc_model.specs.WellFormed.{IsWellFormed, FitsName, HasMembers, native_names, script_names}
+use Rattle.cc_model.specs.Effects.{make_object, with_reflector, wrapped, set_entry, make_proxy}
+use Rattle.cc_model.specs.WellFormed.{IsWellFormed, FitsName, HasMembers, native_names, script_names, is_proxy_kind}
 use Rattle.cc_laws_heap.specs.Sound.{IsSound}
 use Rattle.cc_lists.proofs.Searching.{find-some}
 use Rattle.cc_laws_heap.proofs.Kept.{with_entries}
@@ -31,44 +31,68 @@ use Rattle.cc_laws_heap.proofs.MadeSound.{with_script-sound}
 use Rattle.cc_laws_heap.proofs.EntriesKept.{with_entry-sound, without_entry-sound}
 use Rattle.cc_laws_heap.proofs.ScriptsKept.{native-no_script, script_names-exposed, exposed-sound}
 use Rattle.cc_laws_heap.proofs.Holding.{has_reflector-there, has_reflector-none}
+use Rattle.cc_laws_heap.proofs.ScriptNames.{delegate_at-found}
 
 -- a black script object with empty slots
-abbrev pub blank : Name → Kind → ℕ → HeapScript
-blank x kind n = record { name = x; kind = kind; slots = empty_slots n; colour = Black }
+abbrev pub blank : Name → Kind → ℕ → Option Name → HeapScript
+blank x kind n d = record { name = x; kind = kind; slots = empty_slots n; delegate = d; colour = Black }
 
 -- one name stands in a list where it is there
 IsIn-one : (names : List Name) (x : Name) → Among x names → IsIn names (Some x)
 IsIn-one names x m = λ y i. ⊎_elim (λ e. subst (λ z. Among z names) e m) (λ n. absurd n) i
 
--- Plain objects and weak maps
+-- Plain objects, weak maps and proxies
 
-module _ (h : Heap) (kind : Kind) (n : ℕ) (w : IsWellFormed h) (fits : FitsName (object (h.scripts_made + 1)) kind (empty_slots n)) where
+-- a delegate that an object of a kind may have: a script object that is there, where it is a proxy
+pub record IsDelegate (h : Heap) (kind : Kind) (d : Option Name) : Type 0 where
+  pub of_kind : is_some d ≡ is_proxy_kind kind
+  pub there : IsIn (script_names h) d
+
+-- no delegate, of all but proxies
+pub no_delegate : (h : Heap) (kind : Kind) → is_proxy_kind kind ≡ false → IsDelegate h kind None
+no_delegate h kind e = record { of_kind = sym e; there = λ y m. absurd m }
+
+module _ (h : Heap) (kind : Kind) (n : ℕ) (d : Option Name) (w : IsWellFormed h) (fits : FitsName (object (h.scripts_made + 1)) kind (empty_slots n))
+    (its_delegate : IsDelegate h kind d) where
   -- an object with the next number may go last
-  pub IsNewScript-object : h.scripts_made < h.limits.scripts → IsNewScript h (blank (object (h.scripts_made + 1)) kind n) (h.scripts_made + 1)
+  pub IsNewScript-object : h.scripts_made < h.limits.scripts → IsNewScript h (blank (object (h.scripts_made + 1)) kind n d) (h.scripts_made + 1)
   IsNewScript-object room = record {
     unknown = λ m. let made : h.scripts_made + 1 ≤ h.scripts_made = (w.object_numbers (h.scripts_made + 1) m).1 in absurd (omega arith);
     fits = fits;
     empty = contents-empty_none n;
+    delegate = its_delegate.of_kind;
+    delegate_there = λ x e. its_delegate.there x (subst (λ y. Among x (option_to_list y)) (sym e) (inl refl));
     number = λ k e. let same : h.scripts_made + 1 ≡ k = ap number_of e in (omega arith, omega arith);
     behind = λ k e. absurd (cc);
     more = omega arith;
     allowed = omega arith;
   }
 
--- A plain object or a weak map is made, and a script register holds it.
-pub make_object-sound : (owned : List ℕ) (h : Heap) (d : ℕ) (kind : Kind) (n : ℕ) → FitsName (object (h.scripts_made + 1)) kind (empty_slots n) →
-    h.scripts_made < h.limits.scripts → IsSound owned h → IsSound owned (make_object h d kind n)
-make_object-sound owned h d kind n fits room s = search (script_register-sound, IsIn-one, script_names-new_script, with_script-sound, IsNewScript-object)
+-- A script object with a number is made, and a script register holds it.
+pub make_object-sound : (owned : List ℕ) (h : Heap) (d : ℕ) (kind : Kind) (n : ℕ) (its_delegate : Option Name) →
+    FitsName (object (h.scripts_made + 1)) kind (empty_slots n) → IsDelegate h kind its_delegate →
+    h.scripts_made < h.limits.scripts → IsSound owned h → IsSound owned (make_object h d kind n its_delegate)
+make_object-sound owned h d kind n its_delegate fits is_one room s = search (script_register-sound, IsIn-one, script_names-new_script, with_script-sound, IsNewScript-object)
+
+-- A proxy of a script object that is there is made, which is preserved first where it is a reflector.
+pub make_proxy-sound : (owned : List ℕ) (h : Heap) (d : ℕ) (x : Option Name) → IsIn (script_names h) x → h.scripts_made < h.limits.scripts → IsSound owned h →
+    IsSound owned (make_proxy h d x)
+make_proxy-sound owned h d None there room s = s
+make_proxy-sound owned h d (Some x) there room s = make_object-sound owned (preserve h (Some x)) d proxy_kind 0 (Some x) refl
+    (record { of_kind = refl; there = subst (λ xs. IsIn xs (Some x)) (sym (script_names-preserve h (Some x))) there })
+    (preserve-room h (Some x) room) (preserve-sound owned h (Some x) there s)
 
 -- Reflectors
 
 -- a native that is there, and has none, may get a reflector
 IsNewScript-reflector : (h : Heap) (k : ℕ) → IsWellFormed h → Among (native k) (native_names h) → has_reflector h k ≡ false →
-    IsNewScript (add_ref h k) (blank (reflector k) Reflector reflector_slots) h.scripts_made
+    IsNewScript (add_ref h k) (blank (reflector k) Reflector reflector_slots None) h.scripts_made
 IsNewScript-reflector h k w there none = record {
   unknown = has_reflector-none h k none;
   fits = refl;
   empty = contents-empty_none reflector_slots;
+  delegate = refl;
+  delegate_there = λ x e. absurd (cc);
   number = λ j e. absurd (cc);
   behind = λ j e. subst (λ i. Among (native i) (native_names (add_ref h k))) (ap number_of e)
       (subst (λ xs. Among (native k) xs) (sym (native_names-alike h (add_ref h k) (HoldsTheSame-add_ref h k))) there);
@@ -79,7 +103,7 @@ IsNewScript-reflector h k w there none = record {
 -- A native gets a reflector, which refers to it.
 pub with_reflector-sound : (owned : List ℕ) (h : Heap) (k : ℕ) → Among (native k) (native_names h) → has_reflector h k ≡ false → IsSound owned h →
     IsSound owned (with_reflector h k)
-with_reflector-sound owned h k there none s = with_script-sound owned (add_ref h k) (blank (reflector k) Reflector reflector_slots) h.scripts_made
+with_reflector-sound owned h k there none s = with_script-sound owned (add_ref h k) (blank (reflector k) Reflector reflector_slots None) h.scripts_made
     (IsNewScript-reflector h k s.well_formed there none) (add_ref-sound owned h k there s)
 
 -- A native is wrapped, and a script register holds its reflector.
@@ -98,7 +122,7 @@ wrapped-sound owned h d (Some (name.Native k)) there s = go (has_reflector h k.0
         (exposed-sound owned h (Some (reflector k.0)) s)
     go false e = script_register-sound owned (with_reflector h k.0) d (Some (reflector k.0))
         (IsIn-one (script_names (with_reflector h k.0)) (reflector k.0)
-        (script_names-new_script h (blank (reflector k.0) Reflector reflector_slots) h.scripts_made))
+        (script_names-new_script h (blank (reflector k.0) Reflector reflector_slots None) h.scripts_made))
         (with_reflector-sound owned h k.0 (there (native k.0) (inl refl)) e s)
 
 -- Entries
@@ -142,13 +166,20 @@ set_entry-sound owned h (Some m) None v a b c is_map s = s
 set_entry-sound owned h (Some m) (Some k) None a b c is_map s = without_entry-sound owned h m k s
 set_entry-sound owned h (Some m) (Some k) (Some v) a b c is_map s = go k (b k (inl refl)) set_first
   where
-    members : HasMembers h (entry m k v)
-    members = record { the_map = map-there h m s.well_formed (a m (inl refl)) is_map; key = b k (inl refl); value = c v (inl refl) }
+    members : HasMembers h (entry m k (delegate_at h k) v)
+    members = record {
+      the_map = map-there h m s.well_formed (a m (inl refl)) is_map;
+      key = b k (inl refl);
+      value = c v (inl refl);
+      delegate = λ o i is. sym (delegate_at-found h s.well_formed o i) ∙ ap (delegate_at h) is;
+    }
 
-    set_first : IsSound owned (with_entries h (with_entry h.entries m k v))
-    set_first = with_entry-sound owned h m k v members s
+    entries : List Entry
+    entries = with_entry h.entries m k (delegate_at h k) v
 
-    go : (x : Name) → Among x (script_names h) → IsSound owned (with_entries h (with_entry h.entries m k v)) →
-        IsSound owned (record (preserve h (Some x)) { entries = with_entry h.entries m k v })
-    go (name.Reflector j) t u = set_preserved-sound owned (with_entries h (with_entry h.entries m k v)) j.0 t u
+    set_first : IsSound owned (with_entries h entries)
+    set_first = with_entry-sound owned h m k (delegate_at h k) v members s
+
+    go : (x : Name) → Among x (script_names h) → IsSound owned (with_entries h entries) → IsSound owned (record (preserve h (Some x)) { entries = entries })
+    go (name.Reflector j) t u = set_preserved-sound owned (with_entries h entries) j.0 t u
     go _ t u = u

@@ -1,15 +1,16 @@
 -- Names of script objects are none of natives'.
-use Rattle.std.proofs.Common.{arith, ◌≡◌, ℕ, true, false, subst, ◌≤◌, ◌∙◌, ap, count_by}
+use Rattle.std.proofs.Common.{arith, ◌≡◌, ℕ, true, false, subst, ◌≤◌, ◌∙◌, ap, count_by, Some, option_and_then}
 use Rattle.std.proofs.Math.Path.{fun_ext}
 use Rattle.cc_lists.specs.Members.{Among}
 use Rattle.cc_lists.proofs.Members.{Among-map_cases}
 use Rattle.cc_lists.proofs.Counting.{count_by-map}
+use Rattle.cc_lists.proofs.Searching.{find-only}
 use Rattle.cc_names.specs.declared.name.Name.{Name}
 use Rattle.cc_names.specs.declared.kind.Kind.{Kind}
 use Rattle.cc_names.specs.Names.{native, same_name, is_script}
 use Rattle.cc_model.specs.Slots.{Slots}
 use Rattle.cc_model.specs.Entries.{Entry}
-use Rattle.cc_model.specs.Heap.{Heap, HeapScript}
+use Rattle.cc_model.specs.Heap.{Heap, HeapScript, delegate_at, script_at}
 use Rattle.cc_model.specs.WellFormed.{IsWellFormed, FitsName, script_names}
 use Rattle.cc_laws_heap.proofs.NameLists.{same_name-sym}
 
@@ -31,6 +32,17 @@ entry-named h w e m =
     let k = w.entries e m in
     (subst (λ x. is_script x ≡ true) k.the_map.2 (script-named h w k.the_map.0 k.the_map.1), script_names-named h w e.key k.key)
 
+-- the delegate of an entry is there,
+pub delegate-there : (h : Heap) → IsWellFormed h → (e : Entry) (d : Name) → Among e h.entries → e.delegate ≡ Some d → Among d (script_names h)
+delegate-there h w e d m is =
+    let k = w.entries e m in
+    let f = Among-map_cases (λ (o : HeapScript). o.name) h.scripts e.key k.key in
+    w.delegate_there f.0 d f.1 (k.delegate f.0 f.1 f.2 ∙ is)
+
+-- so it is none of a native
+pub delegate-named : (h : Heap) → IsWellFormed h → (e : Entry) (d : Name) → Among e h.entries → e.delegate ≡ Some d → is_script d ≡ true
+delegate-named h w e d m is = script_names-named h w d (delegate-there h w e d m is)
+
 -- and they are told apart from those of natives
 pub script-other : (x : Name) (k : ℕ) → is_script x ≡ true → same_name x (native k) ≡ false
 script-other x k e = grind arith
@@ -40,3 +52,11 @@ pub scripts-once : (h : Heap) → IsWellFormed h → (x : Name) → count_by (λ
 scripts-once h w x = subst (λ n. n ≤ 1)
     (count_by-map (same_name x) (λ (o : HeapScript). o.name) h.scripts ∙ ap (λ p. count_by p h.scripts) (fun_ext (λ o. same_name-sym x o.name)))
     (w.distinct x)
+
+-- a script object is found under its name,
+pub script_at-member : (h : Heap) → IsWellFormed h → (o : HeapScript) → Among o h.scripts → script_at h o.name ≡ Some o
+script_at-member h w o m = find-only (λ (p : HeapScript). same_name p.name o.name) h.scripts o (scripts-once h w o.name) m (same_name-refl o.name)
+
+-- and its delegate with it
+pub delegate_at-found : (h : Heap) → IsWellFormed h → (o : HeapScript) → Among o h.scripts → delegate_at h o.name ≡ o.delegate
+delegate_at-found h w o m = ap (λ p. option_and_then (λ (q : HeapScript). q.delegate) p) (script_at-member h w o m)

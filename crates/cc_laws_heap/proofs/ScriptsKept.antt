@@ -1,5 +1,5 @@
 -- WHAT CHANGES IN SCRIPT OBJECTS KEEPS THE HEAPS SOUND: a slot written, an exposure, a reflector preserved.
-use Rattle.std.proofs.Common.{arith, ◌≡◌, ℕ, Bool, List, set, Option, Some, None, refl, subst, inl}
+use Rattle.std.proofs.Common.{arith, ◌≡◌, ℕ, Bool, List, set, Option, Some, None, refl, subst, inl, ◌<◌}
 use Rattle.std.proofs.lemmas.List.{length-set}
 use Rattle.cc_lists.specs.Members.{Among, has}
 use Rattle.cc_lists.proofs.Members.{Among-map_cases}
@@ -34,6 +34,7 @@ pub ChangesScripts-slot : (h : Heap) (x : Name) (i : ℕ) (y : Option Name) → 
 ChangesScripts-slot h x i y w there = record {
   name = λ o. changed_where-either (λ p. p.name ≡ o.name) (has_name x) written o (λ e. refl) refl;
   kind = λ o. changed_where-either (λ p. p.kind ≡ o.kind) (has_name x) written o (λ e. refl) refl;
+  delegate = λ o. changed_where-either (λ p. p.delegate ≡ o.delegate) (has_name x) written o (λ e. refl) refl;
   fits = λ o m. changed_where-either (λ p. FitsName o.name o.kind p.slots) (has_name x) written o
       (λ e. FitsName-set o.name o.kind o.slots i y (w.kinds o m)) (w.kinds o m);
   contents = λ o m z. changed_where-either (λ p. Among z (contents p.slots) → Among z (script_names h)) (has_name x) written o
@@ -55,8 +56,15 @@ preserve-sound owned h (Some (name.Reflector k)) there s = set_preserved-sound o
 preserve-sound owned h _ there s = s
 
 -- script objects stay
-script_names-preserve : (h : Heap) (x : Option Name) → script_names (preserve h x) ≡ script_names h
+pub preserve-scripts : (h : Heap) (x : Option Name) → (preserve h x).scripts ≡ h.scripts
+preserve-scripts h x = grind arith
+
+pub script_names-preserve : (h : Heap) (x : Option Name) → script_names (preserve h x) ≡ script_names h
 script_names-preserve h x = grind arith
+
+-- and numbers made
+pub preserve-room : (h : Heap) (x : Option Name) → h.scripts_made < h.limits.scripts → (preserve h x).scripts_made < (preserve h x).limits.scripts
+preserve-room h x room = grind arith
 
 -- Slot i of a script object that is there is written.
 pub script_slot-sound : (owned : List ℕ) (h : Heap) (x : Option Name) (i : ℕ) (y : Option Name) → IsIn (script_names h) x → IsIn (script_names h) y →
@@ -85,6 +93,7 @@ pub ChangesScripts-black : (h : Heap) (names : List Name) → IsWellFormed h →
 ChangesScripts-black h names w = record {
   name = λ o. changed_where-either (λ p. p.name ≡ o.name) (is_one_of names) as_black o (λ e. refl) refl;
   kind = λ o. changed_where-either (λ p. p.kind ≡ o.kind) (is_one_of names) as_black o (λ e. refl) refl;
+  delegate = λ o. changed_where-either (λ p. p.delegate ≡ o.delegate) (is_one_of names) as_black o (λ e. refl) refl;
   fits = λ o m. changed_where-either (λ p. FitsName o.name o.kind p.slots) (is_one_of names) as_black o (λ e. w.kinds o m) (w.kinds o m);
   contents = λ o m z. changed_where-either (λ p. Among z (contents p.slots) → Among z (script_names h)) (is_one_of names) as_black o
       (λ e. w.script_contents o z m) (w.script_contents o z m);

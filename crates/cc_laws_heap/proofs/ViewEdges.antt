@@ -8,6 +8,7 @@ use Rattle.cc_model.specs.Slots.{contents, from_to}
 use Rattle.cc_model.specs.Heap.{HeapNative, HeapScript}
 use Rattle.cc_model.specs.View.{slot_edges, native_edges, script_slot_edges, script_edges}
 use Rattle.cc_model.proofs.Places.{preserved_edge, native_edges-split, behind_edges, script_edges-split}
+use Rattle.cc_model.specs.Places.{script_places_of}
 
 -- what a native has in a slot, or as its preserved reflector
 abbrev pub NativeHas : HeapNative → Name → Type 0
@@ -15,7 +16,7 @@ NativeHas n y = Among y (contents n.slots) ⊎ ((n.preserved ≡ true) × (refle
 
 -- what a script object has in a slot, or as the native of a reflector
 abbrev pub ScriptHas : HeapScript → Name → Type 0
-ScriptHas o y = Among y (contents o.slots) ⊎ ((k : ℕ) × (o.name ≡ reflector k) × (native k ≡ y))
+ScriptHas o y = Among y (contents (script_places_of o)) ⊎ ((k : ℕ) × (o.name ≡ reflector k) × (native k ≡ y))
 
 -- the edges of a native start at its name, and lead to what it has
 pub native_edges-are : (n : HeapNative) (x y : Name) → Among (x, y) (native_edges n) → (native n.number ≡ x) × NativeHas n y
@@ -36,8 +37,8 @@ behind-is x k m = grind arith
 -- the edges of a script object start at its name, and lead to what it has
 pub script_edges-are : (o : HeapScript) (x y : Name) → Among (x, y) (script_edges o) → (o.name ≡ x) × ScriptHas o y
 script_edges-are o x y m = ⊎_elim
-    (λ l. let f = Among-map_cases (from_to o.name) (contents o.slots) (x, y) l in
-    (ap (λ (e : Name × Name). e.0) f.2, inl (subst (λ z. Among z (contents o.slots)) (ap (λ (e : Name × Name). e.1) f.2) f.1)))
+    (λ l. let f = Among-map_cases (from_to o.name) (contents (script_places_of o)) (x, y) l in
+    (ap (λ (e : Name × Name). e.0) f.2, inl (subst (λ z. Among z (contents (script_places_of o))) (ap (λ (e : Name × Name). e.1) f.2) f.1)))
     (λ r. let f = Among-map_cases (λ k. from_to o.name (native k)) (behind o.name) (x, y) r in
     (ap (λ (e : Name × Name). e.0) f.2, inr (f.0, behind-is o.name f.0 f.1, ap (λ (e : Name × Name). e.1) f.2)))
     (Among-append (x, y) (script_slot_edges o) (behind_edges o.name) (subst (Among (x, y)) (script_edges-split o) m))

@@ -85,9 +85,11 @@ module _ (h : Heap) (p : ℕ → Bool) (ns : List HeapNative) (bs : List Buffere
     object_numbers = w.object_numbers;
     kinds = w.kinds;
     script_contents = w.script_contents;
+    delegates = w.delegates;
+    delegate_there = w.delegate_there;
     reflected = λ k m. part.referred k (refs_to-reflector (record h { natives = ns; buffer = bs }) k m);
     preserved = each (λ u. u.preserved ≡ true → Among (reflector u.number) (script_names h)) w.preserved;
-    entries = λ e m. let t = w.entries e m in record { the_map = t.the_map; key = t.key; value = t.value };
+    entries = λ e m. let t = w.entries e m in record { the_map = t.the_map; key = t.key; value = t.value; delegate = t.delegate };
     one_entry = w.one_entry;
     buffered = λ b m. part.buffered b.number (count_by-some (has_place b.number) b bs m (eq-eqb b.number b.number refl));
     buffered_once = part.buffered_once;

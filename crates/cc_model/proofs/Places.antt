@@ -1,8 +1,10 @@
 -- THE EDGES OF AN OBJECT, place by place: those of its slots, and behind them those of its further places.
-use Rattle.std.proofs.Common.{arith, ◌≡◌, Bool, true, false, List, [], ◌∷◌, ◌++◌, map, Option, Some, None, refl, sym, ◌∙◌, ap}
+use Rattle.std.proofs.Common.{arith, ◌≡◌, Bool, true, false, List, [], ◌∷◌, ◌++◌, map, Option, Some, None, refl, sym, ◌∙◌, ap, subst, inl, inr, ◌⊎◌, ⊎_elim}
 use Rattle.std.specs.Option.{option_to_list}
 use Rattle.std.proofs.lemmas.Grind.{flat_map-append}
 use Rattle.std.proofs.lemmas.List.{map-append}
+use Rattle.cc_lists.specs.Members.{Among}
+use Rattle.cc_lists.proofs.Members.{Among-left, Among-right, Among-append}
 use Rattle.cc_names.specs.declared.name.Name.{Name}
 use Rattle.cc_names.specs.declared.name.Name.TheVariants as name
 use Rattle.cc_names.specs.Names.{native, reflector, behind}
@@ -74,3 +76,21 @@ delegate_edges o = map (from_to o.name) (option_to_list o.delegate)
 -- THE FORMER are those of its slots, and that of a proxy to its delegate.
 pub script_slot_edges-split : (o : HeapScript) → script_slot_edges o ≡ slot_edges o.name o.slots ++ delegate_edges o
 script_slot_edges-split o = slot_edges-last o.name o.slots o.delegate
+
+-- The places over which script and marking go, one by one: what a slot holds stands in one,
+pub slot-place : (o : HeapScript) (x : Name) → Among x (contents o.slots) → Among x (contents (script_places_of o))
+slot-place o x m = subst (Among x) (sym (contents-last o.slots o.delegate)) (Among-left x (contents o.slots) (option_to_list o.delegate) m)
+
+-- and so does the delegate,
+pub delegate-place : (o : HeapScript) (d : Name) → o.delegate ≡ Some d → Among d (contents (script_places_of o))
+delegate-place o d e = subst (Among d) (sym (contents-last o.slots o.delegate))
+    (Among-right d (contents o.slots) (option_to_list o.delegate) (subst (λ x. Among d (option_to_list x)) (sym e) (inl refl)))
+
+-- and nothing else.
+pub script_place-cases : (o : HeapScript) (x : Name) → Among x (contents (script_places_of o)) → Among x (contents o.slots) ⊎ (o.delegate ≡ Some x)
+script_place-cases o x m = ⊎_elim (λ l. inl l) (λ r. inr (only o.delegate r))
+    (Among-append x (contents o.slots) (option_to_list o.delegate) (subst (Among x) (contents-last o.slots o.delegate) m))
+  where
+    only : (d : Option Name) → Among x (option_to_list d) → d ≡ Some x
+    only None n = absurd n
+    only (Some y) n = ⊎_elim (λ e. ap Some e) (λ k. absurd k) n
