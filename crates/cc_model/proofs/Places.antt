@@ -1,8 +1,9 @@
 -- THE EDGES OF AN OBJECT, place by place: those of its slots, and behind them those of its further places.
-use Rattle.std.proofs.Common.{arith, ◌≡◌, Bool, true, false, List, [], ◌∷◌, ◌++◌, map, Option, Some, None, refl, sym, ◌∙◌, ap}
+use Rattle.std.proofs.Common.{arith, ◌≡◌, ◌+◌, Bool, true, false, List, [], ◌∷◌, ◌++◌, map, count_by, Option, Some, None, refl, sym, ◌∙◌, ap}
 use Rattle.std.specs.Option.{option_to_list}
 use Rattle.std.proofs.lemmas.Grind.{flat_map-append}
 use Rattle.std.proofs.lemmas.List.{map-append}
+use Rattle.cc_lists.proofs.Counting.{count_by-append}
 use Rattle.cc_names.specs.declared.name.Name.{Name}
 use Rattle.cc_names.specs.declared.name.Name.TheVariants as name
 use Rattle.cc_names.specs.Names.{native, reflector, behind}
@@ -54,6 +55,10 @@ native_edges-split n = slot_edges-last (native n.number) n.slots (where_set n.pr
     by_flag true = refl
     by_flag false = refl
 
+pub native_edges-count : (p : Name × Name → Bool) (n : HeapNative) →
+    count_by p (native_edges n) ≡ count_by p (slot_edges (native n.number) n.slots) + count_by p (preserved_edge n)
+native_edges-count p n = ap (count_by p) (native_edges-split n) ∙ count_by-append p (slot_edges (native n.number) n.slots) (preserved_edge n)
+
 -- the edge of a reflector to its native
 abbrev pub behind_edges : Name → List (Name × Name)
 behind_edges x = map (λ k. from_to x (native k)) (behind x)
@@ -66,3 +71,7 @@ script_edges-split o = slot_edges-last o.name o.slots (native_of (Some o.name)) 
     by_name x (name.Native k) = refl
     by_name x (name.Script k) = refl
     by_name x (name.Reflector k) = refl
+
+pub script_edges-count : (p : Name × Name → Bool) (o : HeapScript) →
+    count_by p (script_edges o) ≡ count_by p (script_slot_edges o) + count_by p (behind_edges o.name)
+script_edges-count p o = ap (count_by p) (script_edges-split o) ∙ count_by-append p (script_slot_edges o) (behind_edges o.name)
