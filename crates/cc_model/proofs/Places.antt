@@ -1,8 +1,10 @@
 -- THE EDGES OF AN OBJECT, place by place: those of its slots, and behind them those of its further places.
-use Rattle.std.proofs.Common.{arith, ◌≡◌, ◌+◌, Bool, true, false, List, [], ◌∷◌, ◌++◌, map, count_by, Option, Some, None, refl, sym, ◌∙◌, ap}
+use Rattle.std.proofs.Common.{arith, ◌≡◌, ℕ, ◌+◌, Bool, true, false, List, [], ◌∷◌, ◌++◌, map, count_by, Option, Some, None, refl, sym, ◌∙◌, ap, subst, inl}
 use Rattle.std.specs.Option.{option_to_list}
 use Rattle.std.proofs.lemmas.Grind.{flat_map-append}
 use Rattle.std.proofs.lemmas.List.{map-append}
+use Rattle.cc_lists.specs.Members.{Among}
+use Rattle.cc_lists.proofs.Members.{Among-right}
 use Rattle.cc_lists.proofs.Counting.{count_by-append}
 use Rattle.cc_names.specs.declared.name.Name.{Name}
 use Rattle.cc_names.specs.declared.name.Name.TheVariants as name
@@ -11,7 +13,7 @@ use Rattle.cc_names.specs.Places.{where_set}
 use Rattle.cc_model.specs.Slots.{Slots, contents, from_to}
 use Rattle.cc_model.specs.Checks.{native_of}
 use Rattle.cc_model.specs.Heap.{HeapNative, HeapScript}
-use Rattle.cc_model.specs.Places.{places_of_native, places_of_script}
+use Rattle.cc_model.specs.Places.{places_of_numbered, places_of_native, places_of_script}
 use Rattle.cc_model.specs.View.{slot_edges, native_edges, script_slot_edges, script_edges}
 
 -- where edges lead to
@@ -34,6 +36,15 @@ targets-script o = targets-from o.name (contents (places_of_script o))
 -- what slots hold, and what one more place holds
 pub contents-last : (slots : Slots) (last : Option Name) → contents (slots ++ last ∷ []) ≡ contents slots ++ option_to_list last
 contents-last slots last = grind (arith, flat_map-append)
+
+-- a preserved reflector is what the places of its native hold
+pub preserved-held : (k : ℕ) (slots : Slots) (preserved : Bool) → preserved ≡ true → Among (reflector k) (contents (places_of_numbered k slots preserved))
+preserved-held k slots preserved e = subst (Among (reflector k)) (sym (contents-last slots (where_set preserved (Some (reflector k)))))
+    (Among-right (reflector k) (contents slots) (option_to_list (where_set preserved (Some (reflector k)))) (by_flag preserved e))
+  where
+    by_flag : (b : Bool) → b ≡ true → Among (reflector k) (option_to_list (where_set b (Some (reflector k))))
+    by_flag true f = inl refl
+    by_flag false f = absurd (cc)
 
 -- the edges of slots, and that of one more place
 slot_edges-last : (x : Name) (slots : Slots) (last : Option Name) → slot_edges x (slots ++ last ∷ []) ≡ slot_edges x slots ++ map (from_to x) (option_to_list last)
