@@ -5,8 +5,10 @@ use Rattle.cc_lists.specs.Members.{Among}
 use Rattle.cc_lists.proofs.Members.{Among-append, Among-flat_map_cases, Among-right, Among-left, Among-map}
 use Rattle.cc_names.specs.declared.name.Name.{Name}
 use Rattle.cc_names.specs.Names.{native, reflector, behind}
-use Rattle.cc_model.proofs.Places.{preserved_edge, native_edges-split, behind_edges, script_edges-split}
+use Rattle.cc_model.proofs.Places.{preserved_edge, native_edges-split, behind_edges, script_edges-split, script_place-cases}
 use Rattle.cc_model.specs.Heap.{Heap, HeapNative, HeapScript}
+use Rattle.cc_model.specs.Places.{script_places_of}
+use Rattle.cc_model.specs.WellFormed.{IsWellFormed, script_names}
 use Rattle.cc_model.specs.View.{view, native_edges, script_edges, slot_edges, script_slot_edges}
 use Rattle.cc_laws_heap.proofs.ViewEdges.{NativeHas, ScriptHas, native_edges-are, script_edges-are}
 use Rattle.cc_model.specs.Slots.{from_to, contents}
@@ -33,11 +35,15 @@ native_edges-has n x y start held = subst (λ z. Among (z, y) (native_edges n)) 
     go true e same = inl (ap (from_to (native n.number)) same)
     go false e same = absurd (false≢true e)
 
+-- what a place of a script object holds is there
+pub place-there : (h : Heap) → IsWellFormed h → (o : HeapScript) → Among o h.scripts → (x : Name) → Among x (contents (script_places_of o)) → Among x (script_names h)
+place-there h w o m x i = ⊎_elim (λ s. w.script_contents o x m s) (λ e. w.delegate_there o x m e) (script_place-cases o x i)
+
 -- what a script object has is an edge of it
 pub script_edges-has : (o : HeapScript) (x y : Name) → o.name ≡ x → ScriptHas o y → Among (x, y) (script_edges o)
 script_edges-has o x y start held = subst (λ z. Among (z, y) (script_edges o)) start (⊎_elim
     (λ c. subst (Among (o.name, y)) (sym (script_edges-split o))
-    (Among-left (o.name, y) (script_slot_edges o) own (Among-map (from_to o.name) y (contents o.slots) c)))
+    (Among-left (o.name, y) (script_slot_edges o) own (Among-map (from_to o.name) y (contents (script_places_of o)) c)))
     (λ p. subst (Among (o.name, y)) (sym (script_edges-split o)) (Among-right (o.name, y) (script_slot_edges o) own (subst (λ z. Among (o.name, z) own) p.2
     (Among-map (λ k. from_to o.name (native k)) p.0 (behind o.name) (subst (λ z. Among p.0 (behind z)) (sym p.1) (inl refl)))))) held)
   where
