@@ -72,11 +72,11 @@ HasScriptNames-map : (h : Heap) (f : HeapScript → HeapScript) → ((o : HeapSc
 HasScriptNames-map h f e all x m = all x (subst (Among x) (map-kept (λ (o : HeapScript). o.name) f h.scripts e) m)
 
 -- A script object is made, and a register holds it.
-pub object_made-suspected : (h : Heap) (candidates : List ℕ) (d : ℕ) (kind : Kind) (n : ℕ) → IsWellFormed h →
-    IsSuspectedIn h candidates → IsSuspectedIn (make_object h d kind n) candidates
-object_made-suspected h candidates d kind n w = still-suspected h (make_object h d kind n) candidates w
-    (HasScriptNames-push h (make_object h d kind n) (blank (object (h.scripts_made + 1)) kind n) refl refl (HasScriptNames-well_formed h w))
-    (Still-make_object h d kind n)
+pub object_made-suspected : (h : Heap) (candidates : List ℕ) (d : ℕ) (kind : Kind) (n : ℕ) (its_delegate : Option Name) → IsWellFormed h →
+    IsSuspectedIn h candidates → IsSuspectedIn (make_object h d kind n its_delegate) candidates
+object_made-suspected h candidates d kind n its_delegate w = still-suspected h (make_object h d kind n its_delegate) candidates w
+    (HasScriptNames-push h (make_object h d kind n its_delegate) (blank (object (h.scripts_made + 1)) kind n its_delegate) refl refl (HasScriptNames-well_formed h w))
+    (Still-make_object h d kind n its_delegate)
 
 -- A native gets a reference that is reached.
 pub reference_added-suspected : (h : Heap) (candidates : List ℕ) (k : ℕ) → IsWellFormed h → ReachedIn (view (add_ref h k)) (native k) →
@@ -89,9 +89,9 @@ reference_added-suspected h candidates k w r = taken-suspected h (add_ref h k) (
 pub reflector_made-suspected : (h : Heap) (candidates : List ℕ) (k : ℕ) → IsWellFormed h → ReachedIn (view (with_reflector h k)) (native k) →
     IsSuspectedIn h candidates → IsSuspectedIn (with_reflector h k) candidates
 reflector_made-suspected h candidates k w r = taken-suspected h (add_ref h k) (with_reflector h k) candidates (Some (native k)) w
-    (HasScriptNames-push h (with_reflector h k) (blank (reflector k) Reflector reflector_slots) refl refl (HasScriptNames-well_formed h w))
+    (HasScriptNames-push h (with_reflector h k) (blank (reflector k) Reflector reflector_slots None) refl refl (HasScriptNames-well_formed h w))
     (TakesUp-add_ref h k) (native_names-alike h (add_ref h k) (HoldsTheSame-add_ref h k))
-    (Still-script_last (add_ref h k) (blank (reflector k) Reflector reflector_slots) h.scripts_made)
+    (Still-script_last (add_ref h k) (blank (reflector k) Reflector reflector_slots None) h.scripts_made)
     (λ j m. ⊎_elim (λ e. subst (ReachedIn (view (with_reflector h k))) e r) (λ b. absurd b) m)
 
 -- an exposure keeps names

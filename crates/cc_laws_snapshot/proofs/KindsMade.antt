@@ -37,27 +37,19 @@ native_made-fresh owned h s d n sound room few allowed =
     (make_native-gentle owned h d n room few allowed sound)
     (SameScripts-coloured h (make_native h d n).heap (make_native-scripts h d n)) s
 
--- A script object is made, and a register holds it.
-pub object_made-fresh : (owned : List ℕ) (h : Heap) (s : Snapshot) (d : ℕ) (kind : Kind) (n : ℕ) → IsSound owned h →
-    FitsName (object (h.scripts_made + 1)) kind (empty_slots n) → h.scripts_made < h.limits.scripts →
-    IsFreshIn h s → IsFreshIn (make_object h d kind n) s
-object_made-fresh owned h s d kind n sound fits room =
-    fresh-coloured h (make_object h d kind n) sound.well_formed (make_object-sound owned h d kind n fits room sound).well_formed
-    (make_object-gentle h d kind n sound.well_formed) coloured s
+-- A script object is made, and a register holds it; a delegate that it has is a script object that is there and not gray.
+pub object_made-fresh : (owned : List ℕ) (h : Heap) (s : Snapshot) (d : ℕ) (kind : Kind) (n : ℕ) (its_delegate : Option Name) → IsSound owned h →
+    FitsName (object (h.scripts_made + 1)) kind (empty_slots n) → is_some its_delegate ≡ is_proxy_kind kind →
+    IsScriptObject its_delegate → IsThereIn (view h) its_delegate → IsNotGrayIn (view h) its_delegate →
+    h.scripts_made < h.limits.scripts → IsFreshIn h s → IsFreshIn (make_object h d kind n its_delegate) s
+object_made-fresh owned h s d kind n its_delegate sound fits of_kind script there pale room =
+    fresh-coloured h (make_object h d kind n its_delegate) sound.well_formed
+    (make_object-sound owned h d kind n its_delegate fits (record { of_kind = of_kind; there = is_there }) room sound).well_formed
+    (make_object-gentle h d kind n its_delegate sound.well_formed is_there pale)
+    (λ c. make_object-coloured h d kind n its_delegate sound.well_formed (not_gray-black h its_delegate c pale) c) s
   where
-    x : Name
-    x = object (h.scripts_made + 1)
-
-    unknown : ¬ (Among x (script_names h))
-    unknown = (IsNewScript-object h kind n sound.well_formed fits room).unknown
-
-    coloured : IsColoured h → IsColoured (make_object h d kind n)
-    coloured c = AreColoured-register (h.scripts ++ blank x kind n ∷ []) h.script_registers d (Some x)
-        (each-push (λ o. Among o.name (x ∷ []) → o.colour ≡ Black) h.scripts (blank x kind n)
-        (λ o m i. absurd (unknown (⊎_elim (λ e. subst (λ z. Among z (script_names h)) (sym e)
-        (Among-map (λ (p : HeapScript). p.name) o h.scripts m)) (λ t. absurd t) i)))
-        (λ i. refl))
-        (AreColoured-push h.scripts h.script_registers (blank x kind n) refl (contents-empty_none n) c)
+    is_there : IsIn (script_names h) its_delegate
+    is_there y m = named-there h y (there y m (script y m))
 
 -- A reflector is made for a native that has none.
 pub reflector_made-fresh : (owned : List ℕ) (h : Heap) (s : Snapshot) (k : ℕ) → IsSound owned h → Among (native k) (native_names h) →
@@ -65,7 +57,11 @@ pub reflector_made-fresh : (owned : List ℕ) (h : Heap) (s : Snapshot) (k : ℕ
 reflector_made-fresh owned h s k sound there none =
     fresh-coloured h (with_reflector h k) sound.well_formed (with_reflector-sound owned h k there none sound).well_formed
     (with_reflector-gentle owned h k there sound)
-    (λ c. AreColoured-push h.scripts h.script_registers (blank (reflector k) Reflector reflector_slots) refl (contents-empty_none reflector_slots) c) s
+    (λ c. AreColoured-push h.scripts h.script_registers (blank (reflector k) Reflector reflector_slots None) refl
+    (λ o m i. absurd (no_delegate (blank-holds (reflector k) Reflector reflector_slots None o.name i))) c) s
+  where
+    no_delegate : {x : Name} → None ≡ Some x → ⊥
+    no_delegate e = cc
 
 -- Something is exposed.
 pub exposed-fresh : (owned : List ℕ) (h : Heap) (s : Snapshot) (x : Option Name) → IsSound owned h → IsFreshIn h s → IsFreshIn (exposed h x) s

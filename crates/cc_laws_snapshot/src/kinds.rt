@@ -1,5 +1,5 @@
 //! Laws of each kind of change that commands are made of.
-ghost use Rattle.std.specs.Prelude.{◌≡◌, ◌+◌, ◌<◌, ◌≤◌, ℕ, Bool, true, false, List, [], ◌∷◌, ◌++◌, length, map, Option, Some, None, slice_index_or};
+ghost use Rattle.std.specs.Prelude.{◌≡◌, ◌+◌, ◌<◌, ◌≤◌, ℕ, Bool, true, false, List, [], ◌∷◌, ◌++◌, length, map, Option, Some, None, is_some, slice_index_or};
 ghost use Rattle.cc_lists.specs.Members.{Among};
 ghost use Rattle.cc_names.specs.declared.name.Name.{Name};
 ghost use Rattle.cc_names.specs.declared.register.Reg.{Reg};
@@ -12,7 +12,7 @@ ghost use Rattle.cc_model.specs.Cascade.{Draining, add_ref, give_up, natives_of_
 ghost use Rattle.cc_model.specs.Effects.{make_native, make_object, with_reflector, wrapped, set_entry};
 ghost use Rattle.cc_model.specs.Exposure.{exposed};
 ghost use Rattle.cc_model.specs.View.{view, ReachedIn};
-ghost use Rattle.cc_model.specs.WellFormed.{IsWellFormed, IsRising, FitsName, native_names};
+ghost use Rattle.cc_model.specs.WellFormed.{IsWellFormed, IsRising, FitsName, is_proxy_kind, native_names};
 ghost use Rattle.cc_model.specs.Snapshot.{Snapshot};
 ghost use Rattle.cc_laws_heap.specs.Sound.{IsSound, numbers_of};
 ghost use Rattle.cc_laws_snapshot.specs.Kinds.{IsFreshIn, IsFreshCounting, IsNativeThere, IsInBuffer, IsNotGrayIn, IsThereIn, IsScriptObject};
@@ -28,9 +28,10 @@ ghost use Rattle.cc_laws_snapshot.specs.KindsSuspected.{IsSuspectedIn, IsSuspect
 pub fn kinds_of_change_keep_fresh()
     ensures native_made { (owned : List ℕ) (h : Heap) (s : Snapshot) (d n : ℕ) → IsSound owned h → d < bank_length → n ≤ most_slots →
         h.natives_made < h.limits.natives → IsFreshIn h s → IsFreshIn (make_native h d n).heap s }
-    ensures object_made { (owned : List ℕ) (h : Heap) (s : Snapshot) (d : ℕ) (kind : Kind) (n : ℕ) → IsSound owned h →
-        FitsName (object (h.scripts_made + 1)) kind (empty_slots n) → h.scripts_made < h.limits.scripts →
-        IsFreshIn h s → IsFreshIn (make_object h d kind n) s }
+    ensures object_made { (owned : List ℕ) (h : Heap) (s : Snapshot) (d : ℕ) (kind : Kind) (n : ℕ) (its_delegate : Option Name) → IsSound owned h →
+        FitsName (object (h.scripts_made + 1)) kind (empty_slots n) → is_some its_delegate ≡ is_proxy_kind kind →
+        IsScriptObject its_delegate → IsThereIn (view h) its_delegate → IsNotGrayIn (view h) its_delegate →
+        h.scripts_made < h.limits.scripts → IsFreshIn h s → IsFreshIn (make_object h d kind n its_delegate) s }
     ensures reflector_made { (owned : List ℕ) (h : Heap) (s : Snapshot) (k : ℕ) → IsSound owned h → Among (native k) (native_names h) →
         has_reflector h k ≡ false → IsFreshIn h s → IsFreshIn (with_reflector h k) s }
     ensures wrapped { (owned : List ℕ) (h : Heap) (s : Snapshot) (x : Option Name) → IsSound owned h → IsNativeThere h x →
@@ -77,8 +78,8 @@ pub fn waiting_asks_less()
 pub fn kinds_of_change_keep_suspected()
     ensures native_made { (owned : List ℕ) (h : Heap) (candidates : List ℕ) (d n : ℕ) → IsSound owned h → d < bank_length → n ≤ most_slots →
         h.natives_made < h.limits.natives → IsSuspectedIn h candidates → IsSuspectedIn (make_native h d n).heap candidates }
-    ensures object_made { (h : Heap) (candidates : List ℕ) (d : ℕ) (kind : Kind) (n : ℕ) → IsWellFormed h →
-        IsSuspectedIn h candidates → IsSuspectedIn (make_object h d kind n) candidates }
+    ensures object_made { (h : Heap) (candidates : List ℕ) (d : ℕ) (kind : Kind) (n : ℕ) (its_delegate : Option Name) → IsWellFormed h →
+        IsSuspectedIn h candidates → IsSuspectedIn (make_object h d kind n its_delegate) candidates }
     ensures reflector_made { (h : Heap) (candidates : List ℕ) (k : ℕ) → IsWellFormed h → ReachedIn (view (with_reflector h k)) (native k) →
         IsSuspectedIn h candidates → IsSuspectedIn (with_reflector h k) candidates }
     ensures wrapped { (h : Heap) (candidates : List ℕ) (x : Option Name) → IsWellFormed h → IsReachedNative (view (wrapped h x)) x →
