@@ -6,12 +6,14 @@ use Rattle.cc_lists.proofs.Members.{Among-map, Among-map_cases, Among-left, Amon
 use Rattle.cc_names.specs.declared.name.Name.{Name}
 use Rattle.cc_names.specs.Names.{native, same_name}
 use Rattle.cc_names.proofs.NameTests.{same_name-true, same_name-refl}
-use Rattle.cc_model.specs.Slots.{from_to}
-use Rattle.cc_model.specs.Heap.{Heap, HeapNative, HeapScript, script_at}
+use Rattle.cc_names.specs.declared.kind.Kind.{Kind}
+use Rattle.cc_model.specs.Slots.{from_to, Slots, contents}
+use Rattle.cc_model.specs.Heap.{Heap, HeapNative, HeapScript, script_at, slots_of_kind}
 use Rattle.cc_model.specs.View.{view, native_edges, script_edges}
 use Rattle.cc_model.proofs.Places.{contents-last}
 use Rattle.cc_model.specs.WellFormed.{IsWellFormed, FitsName, native_names, script_names, names_there}
-use Rattle.cc_model.specs.StandsFor.{Shape, shape_at, shape_of_held_native, shape_of_held_script}
+use Rattle.cc_model.specs.StandsFor.{Shape, shape_at, shape_of_held_native, shape_of_held_script, script_shape}
+use Rattle.cc_model.specs.Places.{places_of_named}
 use Rattle.cc_lists.proofs.Filtering.{find-among, find-passes}
 use Rattle.cc_lists.proofs.Searching.{find-only}
 use Rattle.cc_laws_heap.proofs.ScriptNames.{scripts-once, script_at-member}
@@ -63,7 +65,25 @@ native_edges-shape n = grind (arith, contents-last)
 
 -- and so are those of a script object
 script_edges-shape : (o : HeapScript) → FitsName o.name o.kind o.slots → script_edges o ≡ map (from_to o.name) (edges_of_shape o.name (shape_of_held_script o))
-script_edges-shape o fits = grind (arith, contents-last)
+script_edges-shape o fits = ap (map (from_to o.name)) (by_name o.name o.kind o.slots fits)
+  where
+    -- the places of a script object hold what its shape leads to
+    by_name : (x : Name) (kind : Kind) (slots : Slots) → FitsName x kind slots →
+        contents (places_of_named x slots o.delegate) ≡ edges_of_shape x (script_shape (slots_of_kind kind slots) o.delegate)
+    by_name (name.Native k) kind slots f = absurd f
+    by_name (name.Script k) kind slots f = contents-last (script_places slots o.delegate) None
+        ∙ (append-nil (contents (script_places slots o.delegate)) ∙ (contents-last slots o.delegate ∙ ap (λ xs. xs ++ option_to_list o.delegate) (by_kind kind slots f)))
+      where
+        by_kind : (q : Kind) (ss : Slots) → FitsName (name.Script k) q ss → contents ss ≡ contents (slots_or_none (slots_of_kind q ss))
+        by_kind Plain ss t = refl
+        by_kind Map ss t = ap contents t
+        by_kind Proxy ss t = refl
+        by_kind Reflector ss t = absurd t
+    by_name (name.Reflector k) Reflector slots f = contents-last (script_places slots o.delegate) (Some (native k.0))
+        ∙ (ap (λ xs. xs ++ native k.0 ∷ []) (contents-last slots o.delegate) ∙ append_assoc (contents slots) (option_to_list o.delegate) (native k.0 ∷ []))
+    by_name (name.Reflector k) Plain slots f = absurd f
+    by_name (name.Reflector k) Map slots f = absurd f
+    by_name (name.Reflector k) Proxy slots f = absurd f
 
 -- AN EDGE OF THE FLAT VIEW is one of an object that is there.
 pub edge-held : (h : Heap) → IsWellFormed h → (x y : Name) → Among (x, y) (view h).edges → (s : Shape) × (shape_at h x ≡ Some s) × Among y (edges_of_shape x s)
